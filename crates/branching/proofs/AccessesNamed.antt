@@ -1,10 +1,5 @@
+use Rattle.branching.proofs.Vocabulary.{Event, Initial, At, IsAccess, given_to, ProgramSketch, mode_in, AccessId}
 -- Events of threads, and the accesses that name them.
-use Rattle.cover_judge.specs.Event.{Event}
-use Rattle.cover_judge.specs.Event.TheVariants.{Initial, Access as At}
-use Rattle.cover_judge.specs.Candidates.{IsAccess}
-use Rattle.cover_judge.specs.Sketches.{given_to}
-use Rattle.sketches.specs.ProgramSketches.{ProgramSketch, mode_in}
-use Rattle.cert_forest.specs.declared.tree.AccessId.{AccessId}
 use Rattle.branching.specs.Accesses.{IsOfThread}
 
 -- an access is no initial write

@@ -1,3 +1,5 @@
+-- what many proofs speak of
+mod Vocabulary
 pub mod NothingLeft
 pub mod TakenIn
 pub mod Rounds

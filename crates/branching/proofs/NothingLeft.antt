@@ -1,28 +1,17 @@
 -- What it says of a sketch that nothing is left to be chosen.
 use Rattle.std.proofs.Common.{◌≡◌, ◌↔◌, ℕ, Bool, true, false, not, IsTrue, zero, suc, ◌<◌, ◌≤◌, List, [], ◌∷◌, Option, None, Some, All, get_or, length, sym, ap, ◌∙◌, subst, inl, inr, arith}
-use Rattle.std.specs.Prelude.{IfSome}
-use Rattle.std.proofs.lemmas.Bool.{cases_lt}
+use Rattle.branching.proofs.Vocabulary.{IfSome, cases_lt, Event, Initial, At, IsAccess, Writes, ProgramSketch, mode_in, trace_in, access_in, with_chosen, Choice, sketch_with, MayChoose, MayChooseEach}
+use Rattle.branching.proofs.Vocabulary.{AccessId, event_of, ReadValue, WrittenValue, WholeAccesses}
 use Rattle.tso_program.specs.declared.listing.Thread.{Thread}
-use Rattle.cover_judge.specs.Event.{Event}
-use Rattle.cover_judge.specs.Event.TheVariants.{Initial, Access as At}
-use Rattle.cover_judge.specs.Candidates.{IsAccess, Writes}
 use Rattle.cover_judge.specs.Sketches as sketches
 use Rattle.cover_judge.specs.Sketches.{given_to, IsPair, IsWhole}
-use Rattle.sketches.specs.ProgramSketches.{ProgramSketch, mode_in, trace_in, access_in, with_chosen}
 use Rattle.sketches.specs.Choices.{IsOrdered, MayFollow}
-use Rattle.cover_judge.specs.declared.choice.Choice.{Choice}
 use Rattle.cover_judge.specs.declared.choice.Choice.TheVariants as choice
-use Rattle.cover_judge.specs.Choices.{sketch_with, MayChoose, MayChooseEach}
 use Rattle.cover_judge.proofs.ChoicesJudged.{other_way, turned}
 use Rattle.sketches.proofs.TracesKept.{no_action}
 use Rattle.sketches.proofs.Lookups.{same_default}
 use Rattle.sketches.specs.Complete.{IsComplete, HasItsSource, IsOrderedWith}
 use Rattle.sketches.proofs.Completeness.{read_there, first_there, second_there}
-use Rattle.cert_forest.specs.declared.tree.AccessId.{AccessId}
-use Rattle.cover_judge.specs.CoverTrees.{event_of}
-use Rattle.branching.specs.declared.reads_writes.ReadValue.{ReadValue}
-use Rattle.branching.specs.declared.reads_writes.WrittenValue.{WrittenValue}
-use Rattle.branching.specs.declared.reads_writes.WholeAccesses.{WholeAccesses}
 use Rattle.branching.specs.Accesses.{IsReadValue, IsWrittenValue, NamesWrite, AreAccessesOf}
 use Rattle.branching.specs.ChoicesLeft.{HasEachSource, AreWritesInOrder, IsEachInOrder}
 use Rattle.branching.proofs.AccessesNamed.{id_of}

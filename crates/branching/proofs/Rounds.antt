@@ -1,14 +1,11 @@
 -- How many steps a search has left: a choice is one more of those that a sketch can have.
 use Rattle.std.proofs.Common.{◌≡◌, ℕ, ◌+◌, ◌-◌, ◌*◌, ◌<◌, ◌≤◌, ap, ◌∙◌, arith}
+use Rattle.branching.proofs.Vocabulary.{ProgramSketch, mode_in, with_chosen, event_of, Choice, sketch_with, MayChoose}
 use Rattle.cover_judge.proofs.GivenValues.{reads_there}
-use Rattle.sketches.specs.ProgramSketches.{ProgramSketch, mode_in, with_chosen}
 use Rattle.sketches.specs.Kept.{IsLawful}
 use Rattle.sketches.specs.Sizes.{choice_count, most_choices}
 use Rattle.sketches.proofs.ChoicesCounted.{value_counted, source_counted, pair_counted}
-use Rattle.cover_judge.specs.CoverTrees.{event_of}
-use Rattle.cover_judge.specs.declared.choice.Choice.{Choice}
 use Rattle.cover_judge.specs.declared.choice.Choice.TheVariants as choice
-use Rattle.cover_judge.specs.Choices.{sketch_with, MayChoose}
 
 -- a choice is one more
 pub counted_after : (s : ProgramSketch) (c : Choice) → IsLawful s → MayChoose s c → choice_count (with_chosen s (sketch_with s.chosen c)) ≡ choice_count s + 1

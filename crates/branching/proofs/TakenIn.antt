@@ -1,18 +1,11 @@
 -- What a sketch reads and writes, taken in access by access.
 use Rattle.std.proofs.Common.{◌≡◌, ◌⊎◌, ℕ, List, [], ◌∷◌, ◌++◌, None, Some, IsSome, All, refl, sym, ap, ◌∙◌, subst, ◌<◌, length, inl, inr, arith}
 use Rattle.std.proofs.lemmas.List.Elements.{All-push, Contains-append_left, Contains-push}
-use Rattle.std.proofs.lemmas.Bool.{cases_lt}
 use Rattle.std.proofs.lemmas.Option.{same_Some}
+use Rattle.branching.proofs.Vocabulary.{cases_lt, ProgramSketch, access_in, trace_in, IsRead, AccessId, event_of, ReadValue, WrittenValue, WholeAccesses, IsReadValue, NamesRead, IsWrittenValue}
+use Rattle.branching.proofs.Vocabulary.{IsWrite, NamesWrite, IsItself, TakesIn}
 use Rattle.cover_judge.specs.Access.{Access}
-use Rattle.sketches.specs.ProgramSketches.{ProgramSketch, access_in, trace_in}
-use Rattle.sketches.specs.Choices.{IsRead}
 use Rattle.sketches.proofs.Accesses.{none_past}
-use Rattle.cert_forest.specs.declared.tree.AccessId.{AccessId}
-use Rattle.cover_judge.specs.CoverTrees.{event_of}
-use Rattle.branching.specs.declared.reads_writes.ReadValue.{ReadValue}
-use Rattle.branching.specs.declared.reads_writes.WrittenValue.{WrittenValue}
-use Rattle.branching.specs.declared.reads_writes.WholeAccesses.{WholeAccesses}
-use Rattle.branching.specs.Accesses.{IsReadValue, NamesRead, IsWrittenValue, IsWrite, NamesWrite, IsItself, TakesIn}
 
 -- what an access reads is taken in, and the writes stay the same
 pub record TakesRead (s : ProgramSketch) (a : AccessId) (old new : WholeAccesses) : Type 0 where

@@ -1,11 +1,7 @@
 -- Tallies, thread by thread.
 use Rattle.std.proofs.Common.{◌≡◌, ◌⊎◌, ℕ, ◌%◌, List, [], Contains, sym, subst, inl, inr}
-use Rattle.bit_rows.specs.declared.row.TheConstants.{ROW_BITS}
-use Rattle.cover_judge.specs.Event.TheVariants.{Access as At}
-use Rattle.cover_judge.specs.Candidates.{Writes}
-use Rattle.sketches.specs.ProgramSketches.{ProgramSketch, access_in}
+use Rattle.branching.proofs.Vocabulary.{ROW_BITS, At, Writes, ProgramSketch, access_in, ReadValue}
 use Rattle.sketches.proofs.Lawful.{none_in}
-use Rattle.branching.specs.declared.reads_writes.ReadValue.{ReadValue}
 use Rattle.branching.specs.declared.tally.Tally.{Tally}
 use Rattle.branching.specs.Tallies.{IsTallyOf, IsTalliedRead, TakesThread, IsOldOrOf}
 

@@ -1,9 +1,7 @@
 -- Trees of a thread's traces, child by child.
 use Rattle.std.proofs.Common.{◌≡◌, ℕ, zero, suc, ◌+◌, ◌<◌, List, [], ◌∷◌, ◌++◌, get_or, length, map, take, refl, sym, ap, ◌∙◌, subst, arith}
 use Rattle.std.proofs.lemmas.List.{length-map, map-append, take_more}
-use Rattle.sketches.specs.ProgramSketches.{ProgramSketch, with_chosen}
-use Rattle.cover_judge.specs.declared.choice.Choice.{Choice}
-use Rattle.cover_judge.specs.Choices.{sketch_with}
+use Rattle.branching.proofs.Vocabulary.{ProgramSketch, with_chosen, Choice, sketch_with}
 use Rattle.branching.specs.declared.traces.TraceTree.{TraceTree}
 use Rattle.branching.specs.Traces.{Traces, traces, trace_trees, root, IsTraceTree, AreTraceTrees}
 

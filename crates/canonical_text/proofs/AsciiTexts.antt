@@ -1,19 +1,15 @@
 -- Printed texts are ASCII, so they are UTF-8.
 use Rattle.std.proofs.Common.{◌≡◌, ℕ, ◌<◌, ◌^◌, Bool, true, List, [], ◌∷◌, ◌++◌, codes, arith}
-use Rattle.std.specs.List.{list_all}
 use Rattle.std.specs.Str.{IsAscii}
-use Rattle.std.proofs.lemmas.Str.{IsAscii-append}
 use Rattle.std.proofs.lemmas.Str.Ascii.{IsAscii-nil, IsAscii-cons}
 use Rattle.std.proofs.lemmas.Fmt.{IsAscii-decimal}
 use Rattle.std.proofs.lemmas.Bool.Decides.{nat_tests}
-use Rattle.litmus_reader.specs.Mark.{Mark}
+use Rattle.canonical_text.proofs.Vocabulary.{list_all, IsAscii-append, Mark, Tok, Word, Number, Sign, NoToken, heading}
 use Rattle.litmus_reader.specs.Mark.TheVariants.{OpenBrace, CloseBrace, OpenBracket, CloseBracket, OpenParen, CloseParen, Semicolon, Bar, Colon, Equals, Comma, Dollar, Tilde, And, Or}
 use Rattle.litmus_reader.specs.Bytes.{is_white_space, is_word_byte}
 use Rattle.litmus_reader.specs.Marks.{mark_text}
-use Rattle.litmus_reader.specs.Tokens.{Tok, Word, Number, Sign, NoToken}
 use Rattle.litmus_reader.specs.Pieces.{Piece, Space, Part, token_text, text_of, CanStand, AreApartBefore}
 use Rattle.litmus_reader.specs.FirstLine.{is_visible}
-use Rattle.canonical_text.specs.Spelling.{heading}
 use Rattle.canonical_text.proofs.WordsWritten.{and_first, and_second}
 
 small_word_byte : (b : ℕ) → is_word_byte b ≡ true → b < 128

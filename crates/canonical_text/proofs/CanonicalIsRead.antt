@@ -1,41 +1,22 @@
 -- The canonical text of a program, fenced at any gaps, stands for that program.
 use Rattle.std.proofs.Common.{◌≡◌, ℕ, ◌+◌, ◌*◌, ◌<◌, ◌≤◌, suc, Bool, true, List, [], ◌∷◌, ◌++◌, length, map, get_or, Option, refl, sym, ap, ◌∙◌, subst, inl, inr, arith}
-use Rattle.std.specs.List.{AllByRecursion, IsDistinct, list_all, list_any, flat_map, filter_map, cons_option, range_with_len}
-use Rattle.std.specs.Option.{option_map_or}
-use Rattle.std.specs.Str.{bytes_eq}
-use Rattle.std.proofs.lemmas.Bool.{cases_Bool, cases_lt}
-use Rattle.std.proofs.lemmas.Option.{slice_get-get_or, slice_get_past}
-use Rattle.std.proofs.lemmas.List.FromFn.{fill_by_all, length-map-range_with_len}
-use Rattle.std.proofs.lemmas.Slice.Eq.{bytes_eq-Decides}
+use Rattle.canonical_text.proofs.Vocabulary.{AllByRecursion, IsDistinct, list_all, list_any, flat_map, filter_map, cons_option, range_with_len, option_map_or, bytes_eq, cases_Bool, cases_lt}
+use Rattle.canonical_text.proofs.Vocabulary.{slice_get-get_or, slice_get_past, fill_by_all, length-map-range_with_len, bytes_eq-Decides, Tok, Reg, Thread, Listing, code_of, Tree, tree_map, Spells}
+use Rattle.canonical_text.proofs.Vocabulary.{Sum, enclosed_signs_of, PlaceView, Location, Register, EntryView, CellView, BodyView, SignView, EndingView, NoneTwice, all_names, same_place, AreVisible}
+use Rattle.canonical_text.proofs.Vocabulary.{TextNames, all_registers, number_in, entry_place, row_places, sign_places, places, location_name, is_register, names_of, names_among, is_named, Label}
+use Rattle.canonical_text.proofs.Vocabulary.{column, labels_behind, thread_labels, all_labels, position_in, are_found, JumpsAreFound, entries_of, own_labels, moved_labels, body_of, place_named}
+use Rattle.canonical_text.proofs.Vocabulary.{signs_named, ending_of, litmus_fenced_at, canonical_text, IsTextNumber, IsLocationName, IsPrintablePlace, IsPrintableEntry, IsPrintableRow, IsPrintable}
+use Rattle.canonical_text.proofs.Vocabulary.{IsPrintableSign, ArePrintable, IsPrintableEnding}
 use Rattle.gap_sets.specs.Gaps.{SetOfGaps}
-use Rattle.litmus_reader.specs.Tokens.{Tok}
-use Rattle.tso_program.specs.declared.instruction.Reg.{Reg}
-use Rattle.tso_program.specs.declared.listing.Thread.{Thread}
-use Rattle.tso_program.specs.declared.listing.Listing.{Listing}
-use Rattle.tso_program.specs.Listings.{code_of}
 use Rattle.tso_program.specs.Limits.{IsWithinLimits}
 use Rattle.tso_program.specs.Fences.{Gaps, gaps_in, fence, fenced_threads}
 use Rattle.tso_program.proofs.FencedPlaces.{same_count}
 use Rattle.tso_program.proofs.FencedLimits.{fencing_stays_within_limits}
-use Rattle.tso_program.specs.Tree.{Tree, tree_map}
-use Rattle.conditions.specs.Grammar.{Spells, Sum}
-use Rattle.conditions.specs.Canonical.{enclosed_signs_of}
-use Rattle.litmus_syntax.specs.Views.{PlaceView, Location, Register, EntryView, CellView, BodyView, SignView, EndingView}
-use Rattle.litmus_syntax.specs.Grammar.{NoneTwice, labels_in_rows as all_names}
-use Rattle.litmus_syntax.specs.Places.{same_place}
 use Rattle.litmus_reader.specs.declared.litmus.Litmus.{Litmus}
-use Rattle.litmus_reader.specs.FirstLine.{AreVisible}
-use Rattle.litmus_reader.specs.Names.{TextNames, all_registers, number_in}
-use Rattle.litmus_reader.specs.Places.{entry_place, row_places, sign_places, places, location_name, is_register, names_of, names_among}
-use Rattle.litmus_reader.specs.Names.{is_named}
-use Rattle.litmus_reader.specs.declared.label.Label.{Label}
-use Rattle.litmus_reader.specs.Labels.{column, labels_behind, thread_labels, all_labels, position_in, are_found, JumpsAreFound}
 use Rattle.litmus_reader.specs.Meaning.{first_value, memory_of, registers_of, thread_read, listing_of, observed_of, numbered_atom, condition_of}
 use Rattle.litmus_reader.specs.Meaning as meaning
 use Rattle.litmus_reader.specs.Texts.{AreParts, Means, StandsFor, IsFencedLitmus}
 use Rattle.litmus_reader.proofs.NamesOnce.{in_order_once}
-use Rattle.canonical_text.specs.Canonical.{entries_of, own_labels, moved_labels, body_of, place_named, signs_named, ending_of, litmus_fenced_at, canonical_text}
-use Rattle.canonical_text.specs.Printable.{IsTextNumber, IsLocationName, IsPrintablePlace, IsPrintableEntry, IsPrintableRow, IsPrintable, IsPrintableSign, ArePrintable, IsPrintableEnding}
 use Rattle.canonical_text.specs.Laws.{HasParts, CanonicalTextIsRead}
 use Rattle.canonical_text.proofs.PrintedIsRead.{printed_is_read}
 use Rattle.canonical_text.proofs.Lists.{both_of_all, all_of_both, all_more_so, map_same, each_among}

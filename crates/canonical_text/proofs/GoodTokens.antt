@@ -1,19 +1,13 @@
 -- What the tokens of a text say can be printed.
 use Rattle.std.proofs.Common.{◌≡◌, ℕ, ◌+◌, true, false, List, [], ◌∷◌, map, Option, Some, None, inl, inr, sym, subst}
-use Rattle.std.specs.List.{AllByRecursion}
 use Rattle.std.proofs.lemmas.List.Elements.{recursion_from_All}
-use Rattle.litmus_reader.specs.Mark.{Mark}
+use Rattle.canonical_text.proofs.Vocabulary.{AllByRecursion, Mark, Tok, Word, Number, Sign, NoToken, Reg, Quantifier, Exists, NotExists, Forall, column_name, PlaceView, Location, Register, EntryView}
+use Rattle.canonical_text.proofs.Vocabulary.{CodeView, LoadImm, Copy, Load, StoreImm, Store, Xchg, Fence, CmpImm, CmpReg, Je, Jne, Jmp, CellView, BodyView, SignView, Atom, Const, Not, And, Or, Open}
+use Rattle.canonical_text.proofs.Vocabulary.{Close, EndingView, ◌▸◌, mark, number, Items, end, item, IsTextNumber, IsLocationName, IsLabelName, IsPrintablePlace, IsPrintableEntry, IsPrintableCode}
+use Rattle.canonical_text.proofs.Vocabulary.{IsPrintableContent, IsPrintableCell, IsPrintableRow, IsPrintableSign}
 use Rattle.litmus_reader.specs.Mark.TheVariants as the
-use Rattle.litmus_reader.specs.Tokens.{Tok, Word, Number, Sign, NoToken}
 use Rattle.litmus_reader.specs.Lexing.{IsWord, BeginsWith, BeginsWithAll, none, white_space, comment, token}
-use Rattle.tso_program.specs.declared.instruction.Reg.{Reg}
-use Rattle.conditions.specs.declared.condition.Quantifier.{Quantifier}
-use Rattle.conditions.specs.declared.condition.Quantifier.TheVariants.{Exists, NotExists, Forall}
-use Rattle.litmus_syntax.specs.Words.{column_name}
-use Rattle.litmus_syntax.specs.Views.{PlaceView, Location, Register, EntryView, CodeView, LoadImm, Copy, Load, StoreImm, Store, Xchg, Fence, CmpImm, CmpReg, Je, Jne, Jmp, CellView, BodyView, SignView, Atom, Const, Not, And, Or, Open, Close, EndingView}
-use Rattle.litmus_syntax.specs.Phrases.{◌▸◌, mark, number, Items, end, item}
 use Rattle.litmus_syntax.specs.Grammar.{register, name, memory, IsPlace, separator, IsEntryItem, NoneTwice, labels_in_rows, place_of_entry, HasThread, MoreColumns, last, column, IsHeader, immediate, IsCode, IsLabelMark, IsContent, IsCell, IsNextCell, IsRow, IsRowList, IsBody, IsObservedItem, IsObserved, IsQuantifier, IsSign, the_end, IsEnding}
-use Rattle.canonical_text.specs.Printable.{IsTextNumber, IsLocationName, IsLabelName, IsPrintablePlace, IsPrintableEntry, IsPrintableCode, IsPrintableContent, IsPrintableCell, IsPrintableRow, IsPrintableSign}
 
 -- a token as texts have them
 abbrev pub IsGood : Tok → Type 0

@@ -1,11 +1,8 @@
 -- A loop's step where pieces are put together.
 use Rattle.std.proofs.Common.{◌≡◌, ℕ, ◌+◌, ◌<◌, ◌≤◌, List, [], ◌∷◌, ◌++◌, length, take, get_or, map, refl, sym, ap, ◌∙◌, arith, append_assoc}
-use Rattle.std.specs.List.{flat_map, range_with_len, join_with_byte}
-use Rattle.std.specs.Global.{Vec}
 use Rattle.std.proofs.lemmas.List.{take_more, map_more, map_push, flat_map_more, length-map, length-take}
 use Rattle.std.proofs.lemmas.List.Folds.{flat_map-map}
-use Rattle.std.proofs.lemmas.List.FromFn.{map-range_with_len_more}
-use Rattle.litmus_reader.specs.Internal.Filling.{texts}
+use Rattle.canonical_text.proofs.Vocabulary.{flat_map, range_with_len, join_with_byte, Vec, map-range_with_len_more, texts}
 
 -- one more element
 pub flat_more : {X A : Type 0} (f : X → List A) (bs : List A) (xs : List X) (i : ℕ) (d : X) → i < length xs → (bs ++ flat_map f (take i xs)) ++ f (get_or xs i d) ≡ bs ++ flat_map f (take (i + 1) xs)

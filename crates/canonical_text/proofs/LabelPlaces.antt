@@ -1,17 +1,9 @@
 -- Labels of a position, and where they lie among fenced instructions.
 use Rattle.std.proofs.Common.{◌≡◌, ◌≢◌, ℕ, zero, suc, ◌+◌, ◌<◌, ◌≤◌, ◌==◌, Bool, true, false, List, [], ◌∷◌, ◌++◌, length, take, drop, get_or, map, Option, Some, None, refl, sym, ap, ◌∙◌, inl, inr, arith}
-use Rattle.std.specs.Prelude.{if◌then◌else◌}
-use Rattle.std.specs.List.{cons_option}
-use Rattle.std.specs.Option.{option_to_list}
 use Rattle.std.specs.Bool.{Decides}
-use Rattle.std.proofs.lemmas.Bool.{cases_lt}
 use Rattle.std.proofs.lemmas.Bool.Decides.{Decides-eqb, same_from_decides}
-use Rattle.std.proofs.lemmas.List.{append-nil, take_more, drop_more}
-use Rattle.std.proofs.lemmas.List.Elements.{filter_map-append}
-use Rattle.tso_program.specs.Fences.{Gaps, place_of}
-use Rattle.tso_program.proofs.FencedLimits.{rises}
-use Rattle.litmus_reader.specs.declared.label.Label.{Label}
-use Rattle.canonical_text.specs.Canonical.{named_at, label_names_at, own_labels, moved_label, moved_labels}
+use Rattle.canonical_text.proofs.Vocabulary.{if◌then◌else◌, cons_option, option_to_list, cases_lt, append-nil, take_more, drop_more, filter_map-append, Gaps, place_of, rises, Label, named_at}
+use Rattle.canonical_text.proofs.Vocabulary.{label_names_at, own_labels, moved_label, moved_labels}
 
 -- ---- places of a fenced thread
 

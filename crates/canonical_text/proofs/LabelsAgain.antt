@@ -1,23 +1,11 @@
 -- The labels of the canonical rows are the labels.
 use Rattle.std.proofs.Common.{◌≡◌, ℕ, ◌+◌, ◌<◌, ◌≤◌, zero, suc, Bool, true, false, List, [], ◌∷◌, ◌++◌, length, map, Option, Some, None, refl, sym, ap, ◌∙◌, subst, inl, inr, arith}
-use Rattle.std.specs.Prelude.{slice_get, nat_lt, option_map, option_and_then, if◌then◌else◌}
-use Rattle.std.specs.List.{AllByRecursion, flat_map, cons_option, range_with_len}
-use Rattle.std.specs.Option.{option_map_or}
-use Rattle.std.proofs.lemmas.Bool.{cases_lt}
-use Rattle.std.proofs.lemmas.Option.{slice_get-get_or, slice_get_past}
-use Rattle.tso_program.specs.declared.instruction.Instr.{Instr}
+use Rattle.canonical_text.proofs.Vocabulary.{slice_get, nat_lt, option_map, option_and_then, if◌then◌else◌, AllByRecursion, flat_map, cons_option, range_with_len, option_map_or, cases_lt}
+use Rattle.canonical_text.proofs.Vocabulary.{slice_get-get_or, slice_get_past, Instr, Thread, code_of, place_of, rises, CodeView, CellView, Label, column, size, labels_behind, thread_labels}
+use Rattle.canonical_text.proofs.Vocabulary.{instruction_of, instruction_in, label_names_at, own_labels, moved_label, code_named, cell_of, row_of, most_cells, rows_of, IsLabelName, IsPrintableCell}
+use Rattle.canonical_text.proofs.Vocabulary.{IsPrintableRow}
 use Rattle.tso_program.specs.declared.instruction.Instr.TheVariants as instr
-use Rattle.tso_program.specs.declared.listing.Thread.{Thread}
-use Rattle.tso_program.specs.Listings.{code_of}
-use Rattle.tso_program.specs.Fences.{place_of}
-use Rattle.tso_program.proofs.FencedLimits.{rises}
-use Rattle.litmus_syntax.specs.Views.{CodeView, CellView}
-use Rattle.litmus_reader.specs.declared.label.Label.{Label}
-use Rattle.litmus_reader.specs.Labels.{column, size, labels_behind, thread_labels}
-use Rattle.litmus_reader.specs.Meaning.{instruction_of, instruction_in}
 use Rattle.litmus_reader.specs.Meaning as meaning
-use Rattle.canonical_text.specs.Canonical.{label_names_at, own_labels, moved_label, code_named, cell_of, row_of, most_cells, rows_of}
-use Rattle.canonical_text.specs.Printable.{IsLabelName, IsPrintableCell, IsPrintableRow}
 use Rattle.canonical_text.proofs.LabelsNamed.{AreGoodLabels, Ascending, ascending_from, Before, none_at_end, before_more, none_past, standing, all_standing}
 use Rattle.canonical_text.proofs.ToldCode.{within_most}
 use Rattle.canonical_text.proofs.NamedPlaces.{Named}

@@ -1,17 +1,7 @@
 -- A thread's labels: the first of a position names it, and in text order they are those of its places one after another.
 use Rattle.std.proofs.Common.{◌≡◌, ◌≢◌, ℕ, zero, suc, ◌+◌, ◌<◌, ◌≤◌, ◌==◌, Bool, true, false, cond, List, [], ◌∷◌, ◌++◌, length, map, Option, Some, None, refl, sym, ap, ◌∙◌, subst, inl, inr, arith}
-use Rattle.std.specs.Prelude.{nat_lt, is_some, slice_index_or}
-use Rattle.std.specs.List.{AllByRecursion, cons_option, flat_map, range_with_len}
-use Rattle.std.specs.Option.{option_map_or}
-use Rattle.std.specs.Str.{bytes_eq}
-use Rattle.std.proofs.lemmas.Bool.{cases_Bool, lt-ltb}
-use Rattle.std.proofs.lemmas.Bool.Decides.{Decides-eqb}
-use Rattle.std.proofs.lemmas.Slice.Eq.{bytes_eq-Decides}
-use Rattle.litmus_syntax.specs.Grammar.{IsNoneOf, NoneTwice}
-use Rattle.litmus_reader.specs.declared.label.Label.{Label}
-use Rattle.litmus_reader.specs.Labels.{label_in, position_in}
-use Rattle.canonical_text.specs.Printable.{IsLabelName}
-use Rattle.canonical_text.specs.Canonical.{named_at, label_names_at, label_name_at}
+use Rattle.canonical_text.proofs.Vocabulary.{nat_lt, is_some, slice_index_or, AllByRecursion, cons_option, flat_map, range_with_len, option_map_or, bytes_eq, cases_Bool, lt-ltb, Decides-eqb}
+use Rattle.canonical_text.proofs.Vocabulary.{bytes_eq-Decides, IsNoneOf, NoneTwice, Label, label_in, position_in, IsLabelName, named_at, label_names_at, label_name_at}
 use Rattle.canonical_text.proofs.LabelPlaces.{here, elsewhere}
 
 abbrev pub label_name : Label → List ℕ

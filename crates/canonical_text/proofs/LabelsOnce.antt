@@ -1,15 +1,8 @@
 -- No label stands twice in a thread: told of all rows at once, and of each thread.
 use Rattle.std.proofs.Common.{◌≡◌, ◌≢◌, ℕ, zero, suc, ◌+◌, ◌<◌, ◌==◌, Bool, true, false, List, [], ◌∷◌, ◌++◌, map, Option, Some, None, refl, sym, ap, ◌∙◌, subst, inl, inr, arith}
-use Rattle.std.specs.Prelude.{slice_get, if◌then◌else◌}
-use Rattle.std.specs.List.{cons_option, filter_map, flat_map}
-use Rattle.std.proofs.Math.Nat.{add-zero}
-use Rattle.std.proofs.lemmas.Bool.{cases_Bool}
-use Rattle.std.proofs.lemmas.Bool.Decides.{Decides-eqb}
-use Rattle.std.proofs.lemmas.List.{append-nil, map-append}
-use Rattle.std.proofs.lemmas.List.Elements.{filter_map-append}
-use Rattle.litmus_syntax.specs.Views.{CellView}
+use Rattle.canonical_text.proofs.Vocabulary.{slice_get, if◌then◌else◌, cons_option, filter_map, flat_map, add-zero, cases_Bool, Decides-eqb, append-nil, map-append, filter_map-append, CellView}
+use Rattle.canonical_text.proofs.Vocabulary.{column, size, labels_behind, thread_labels}
 use Rattle.litmus_syntax.specs.Grammar.{IsNoneOf, NoneTwice, labels_from, row_labels, labels_in_rows}
-use Rattle.litmus_reader.specs.Labels.{column, size, labels_behind, thread_labels}
 use Rattle.canonical_text.proofs.LabelsNamed.{label_name}
 
 -- a label with its thread

@@ -1,3 +1,5 @@
+-- what many proofs speak of
+mod Vocabulary
 pub mod LabelPlaces
 pub mod LabelsNamed
 pub mod LabelsOnce

@@ -1,24 +1,13 @@
 -- What a text names: each name can be printed, and each place that it names is named.
 use Rattle.std.proofs.Common.{◌≡◌, ℕ, ◌+◌, ◌<◌, ◌≤◌, Bool, true, false, cond, ◌||◌, List, [], ◌∷◌, ◌++◌, length, map, fold, get_or, Option, Some, None, refl, sym, ap, ◌∙◌, subst, inl, inr, arith}
-use Rattle.std.specs.Prelude.{if◌then◌else◌, slice_index_or}
-use Rattle.std.specs.List.{AllByRecursion, list_any, find, flat_map, filter_map}
-use Rattle.std.specs.Option.{option_map_or}
-use Rattle.std.specs.Str.{bytes_eq}
-use Rattle.std.proofs.lemmas.Bool.{cases_Bool}
-use Rattle.std.proofs.lemmas.Slice.Eq.{bytes_eq-Decides}
-use Rattle.std.proofs.lemmas.List.Folds.{list_any-append}
-use Rattle.std.proofs.lemmas.List.FromFn.{get_or-map-range_with_len}
-use Rattle.tso_program.specs.declared.instruction.Reg.{Reg}
-use Rattle.tso_program.specs.declared.instruction.Reg.TheVariants.{Eax, Ebx, Ecx, Edx, Esi, Edi}
+use Rattle.canonical_text.proofs.Vocabulary.{if◌then◌else◌, slice_index_or, AllByRecursion, list_any, find, flat_map, filter_map, option_map_or, bytes_eq, cases_Bool, bytes_eq-Decides}
+use Rattle.canonical_text.proofs.Vocabulary.{list_any-append, get_or-map-range_with_len, Reg, Eax, Ebx, Ecx, Edx, Esi, Edi, PlaceView, Location, Register, EntryView, CodeView, LoadImm, Copy, Load}
+use Rattle.canonical_text.proofs.Vocabulary.{StoreImm, Store, Xchg, Fence, CmpImm, CmpReg, Je, Jne, Jmp, CellView, BodyView, SignView, Atom, Const, Not, And, Or, Open, Close, EndingView, same_place}
+use Rattle.canonical_text.proofs.Vocabulary.{all_registers, with_name, code_places, cell_places, cells_places, row_places, sign_places, entry_place, places, location_name, is_register, names_of}
+use Rattle.canonical_text.proofs.Vocabulary.{is_named, first_value, IsTextNumber, IsLocationName, IsPrintablePlace, IsPrintableEntry, IsPrintableCode, IsPrintableContent, IsPrintableCell}
+use Rattle.canonical_text.proofs.Vocabulary.{IsPrintableRow, IsPrintableSign}
 use Rattle.tso_program.specs.Instructions.{number}
-use Rattle.litmus_syntax.specs.Views.{PlaceView, Location, Register, EntryView, CodeView, LoadImm, Copy, Load, StoreImm, Store, Xchg, Fence, CmpImm, CmpReg, Je, Jne, Jmp, CellView, BodyView, SignView, Atom, Const, Not, And, Or, Open, Close, EndingView}
-use Rattle.litmus_syntax.specs.Places.{same_place}
 use Rattle.litmus_syntax.proofs.SeenLaws.{same_place_itself}
-use Rattle.litmus_reader.specs.Names.{all_registers, with_name}
-use Rattle.litmus_reader.specs.Places.{code_places, cell_places, cells_places, row_places, sign_places, entry_place, places, location_name, is_register, names_of}
-use Rattle.litmus_reader.specs.Names.{is_named}
-use Rattle.litmus_reader.specs.Meaning.{first_value}
-use Rattle.canonical_text.specs.Printable.{IsTextNumber, IsLocationName, IsPrintablePlace, IsPrintableEntry, IsPrintableCode, IsPrintableContent, IsPrintableCell, IsPrintableRow, IsPrintableSign}
 use Rattle.canonical_text.proofs.ToldCode.{IsKnown}
 use Rattle.canonical_text.proofs.Lists.{all_of_both, each_among}
 

@@ -1,29 +1,12 @@
 -- The entries of the canonical text: the places that they name stand once, in order, and hold what they held.
 use Rattle.std.proofs.Common.{◌≡◌, ◌≢◌, ℕ, ◌+◌, ◌*◌, ◌<◌, ◌≤◌, ◌==◌, zero, suc, Bool, true, false, cond, ◌&&◌, ◌||◌, List, [], ◌∷◌, ◌++◌, length, map, get_or, Some, refl, sym, ap, ◌∙◌, inl, inr, arith}
 use Rattle.std.specs.Prelude.{if◌then◌else◌, slice_index}
-use Rattle.std.specs.List.{AllByRecursion, IsDistinct, flat_map, filter_map, find, list_any}
-use Rattle.std.specs.Option.{option_map_or}
-use Rattle.std.specs.Str.{bytes_eq}
-use Rattle.std.proofs.lemmas.Bool.{cases_Bool}
-use Rattle.std.proofs.lemmas.Bool.Decides.{Decides-eqb}
-use Rattle.std.proofs.lemmas.Slice.Eq.{bytes_eq-Decides}
 use Rattle.std.proofs.lemmas.List.{length-map, get_or-map, map-append}
-use Rattle.std.proofs.lemmas.List.Folds.{list_any-append}
-use Rattle.std.proofs.lemmas.List.FromFn.{fill_by_all}
-use Rattle.tso_program.specs.declared.instruction.Reg.{Reg}
-use Rattle.tso_program.specs.declared.instruction.Reg.TheVariants.{Eax, Ebx, Ecx, Edx, Esi, Edi}
-use Rattle.tso_program.specs.declared.listing.Thread.{Thread}
+use Rattle.canonical_text.proofs.Vocabulary.{AllByRecursion, IsDistinct, flat_map, filter_map, find, list_any, option_map_or, bytes_eq, cases_Bool, Decides-eqb, bytes_eq-Decides, list_any-append}
+use Rattle.canonical_text.proofs.Vocabulary.{fill_by_all, Reg, Eax, Ebx, Ecx, Edx, Esi, Edi, Thread, PlaceView, Location, Register, EntryView, IsNoneOf, NoneTwice, place_of_entry, same_place}
+use Rattle.canonical_text.proofs.Vocabulary.{same_place_is, TextNames, all_registers, location_name, is_register, is_named, first_value, location_name_at, location_entry, location_entries}
+use Rattle.canonical_text.proofs.Vocabulary.{named_entry, register_entries, IsTextNumber, IsLocationName, IsPrintableEntry}
 use Rattle.tso_program.specs.Instructions.{number}
-use Rattle.litmus_syntax.specs.Views.{PlaceView, Location, Register, EntryView}
-use Rattle.litmus_syntax.specs.Grammar.{IsNoneOf, NoneTwice, place_of_entry}
-use Rattle.litmus_syntax.specs.Places.{same_place}
-use Rattle.litmus_syntax.proofs.SeenLaws.{same_place_is}
-use Rattle.litmus_reader.specs.Names.{TextNames, all_registers}
-use Rattle.litmus_reader.specs.Places.{location_name, is_register}
-use Rattle.litmus_reader.specs.Names.{is_named}
-use Rattle.litmus_reader.specs.Meaning.{first_value}
-use Rattle.canonical_text.specs.Canonical.{location_name_at, location_entry, location_entries, named_entry, register_entries}
-use Rattle.canonical_text.specs.Printable.{IsTextNumber, IsLocationName, IsPrintableEntry}
 
 -- ---- the places
 

@@ -1,19 +1,10 @@
 -- The names of the canonical text are those of the text.
 use Rattle.std.proofs.Common.{◌≡◌, ℕ, ◌+◌, ◌*◌, ◌<◌, Bool, true, false, ◌||◌, List, [], ◌∷◌, ◌++◌, map, fold, refl, sym, ap, ◌∙◌, subst, inl, inr, arith, append_assoc}
-use Rattle.std.specs.Prelude.{if◌then◌else◌}
-use Rattle.std.specs.List.{AllByRecursion, IsDistinct, list_any, filter_map}
-use Rattle.std.specs.Str.{bytes_eq}
-use Rattle.std.proofs.lemmas.Bool.{cases_Bool}
 use Rattle.std.proofs.lemmas.Cmp.{nat_list_eq_equiv}
-use Rattle.std.proofs.lemmas.List.Elements.{filter_map-append}
-use Rattle.std.proofs.lemmas.List.Folds.{list_any-append}
 use Rattle.std.proofs.lemmas.Grind.{fold-append}
-use Rattle.tso_program.specs.declared.instruction.Reg.{Reg}
-use Rattle.litmus_syntax.specs.Views.{PlaceView, Location, Register}
-use Rattle.litmus_syntax.specs.Places.{same_place}
-use Rattle.litmus_syntax.proofs.SeenLaws.{same_place_is}
+use Rattle.canonical_text.proofs.Vocabulary.{if◌then◌else◌, AllByRecursion, IsDistinct, list_any, filter_map, bytes_eq, cases_Bool, filter_map-append, list_any-append, Reg, PlaceView, Location}
+use Rattle.canonical_text.proofs.Vocabulary.{Register, same_place, same_place_is, location_name, is_register, names_among}
 use Rattle.litmus_reader.specs.Names.{all_registers, with_name, in_order}
-use Rattle.litmus_reader.specs.Places.{location_name, is_register, names_among}
 use Rattle.canonical_text.proofs.NamedPlaces.{Named, named_places, threads_places, rising_threads, named_locations, register_among}
 use Rattle.canonical_text.proofs.ToldCode.{IsKnown}
 use Rattle.canonical_text.proofs.Lists.{range_same}

@@ -1,24 +1,16 @@
 -- The pieces of parts that can be printed can be written one after the other.
 use Rattle.std.proofs.Common.{◌≡◌, ℕ, ◌+◌, ◌^◌, ◌<◌, ◌≤◌, ◌==◌, zero, suc, ◌&&◌, Bool, true, false, List, [], ◌∷◌, ◌++◌, length, map, Option, Some, None, refl, sym, ap, ◌∙◌, inl, inr, arith, append_assoc}
-use Rattle.std.specs.List.{flat_map, list_all, range_with_len, AllByRecursion}
-use Rattle.std.specs.Option.{option_to_list}
-use Rattle.std.specs.Char.{is_ascii_digit}
-use Rattle.std.specs.Fmt.{decimal}
 use Rattle.std.proofs.lemmas.Fmt.{digits_decimal, decimal_nonempty}
-use Rattle.std.proofs.lemmas.Bool.{cases_Bool}
-use Rattle.std.proofs.lemmas.Bool.Decides.{Decides-eqb}
-use Rattle.litmus_reader.specs.Bytes.{is_letter}
+use Rattle.canonical_text.proofs.Vocabulary.{flat_map, list_all, range_with_len, AllByRecursion, option_to_list, is_ascii_digit, decimal, cases_Bool, Decides-eqb, is_letter, own, Piece, text_of}
+use Rattle.canonical_text.proofs.Vocabulary.{AreApartBefore, AreApart, Quantifier, Exists, NotExists, Forall, PlaceView, Location, Register, EntryView, CodeView, LoadImm, Copy, Load, StoreImm, Store}
+use Rattle.canonical_text.proofs.Vocabulary.{Xchg, Fence, CmpImm, CmpReg, Je, Jne, Jmp, CellView, BodyView, SignView, Atom, Const, Not, And, Or, Open, Close, EndingView, IsTextNumber, IsLabelName}
+use Rattle.canonical_text.proofs.Vocabulary.{IsPrintablePlace, IsPrintableEntry, IsPrintableCode, IsPrintableContent, IsPrintableCell, IsPrintableRow, IsPrintable, IsPrintableSign, begins_with_a_word}
+use Rattle.canonical_text.proofs.Vocabulary.{SignsAreApart, ArePrintable, IsPrintableEnding}
 use Rattle.litmus_reader.specs.Comments.{opens}
 use Rattle.litmus_reader.specs.Lexing.{IsWord, NoWordGoesOn}
-use Rattle.litmus_reader.proofs.NumberLaws.{own}
-use Rattle.litmus_reader.specs.Pieces.{Piece, text_of, AreApartBefore, AreApart}
 use Rattle.litmus_reader.proofs.PieceLaws.{AreApartBefore-append}
-use Rattle.conditions.specs.declared.condition.Quantifier.{Quantifier}
-use Rattle.conditions.specs.declared.condition.Quantifier.TheVariants.{Exists, NotExists, Forall}
-use Rattle.litmus_syntax.specs.Views.{PlaceView, Location, Register, EntryView, CodeView, LoadImm, Copy, Load, StoreImm, Store, Xchg, Fence, CmpImm, CmpReg, Je, Jne, Jmp, CellView, BodyView, SignView, Atom, Const, Not, And, Or, Open, Close, EndingView}
 use Rattle.canonical_text.specs.Spelling.{line_end, next, joined_by, bar, gap, valued_pieces, entry_pieces, initial_pieces, row_end, line_of, column_pieces, header_pieces, code_pieces, label_pieces, cell_pieces, row_pieces, body_pieces, observed_place_pieces, observed_pieces, sign_pieces, condition_pieces, ending_pieces, lines_pieces, sign, space}
 use Rattle.litmus_reader.specs.Mark.TheVariants as the
-use Rattle.canonical_text.specs.Printable.{IsTextNumber, IsLabelName, IsPrintablePlace, IsPrintableEntry, IsPrintableCode, IsPrintableContent, IsPrintableCell, IsPrintableRow, IsPrintable, IsPrintableSign, begins_with_a_word, SignsAreApart, ArePrintable, IsPrintableEnding}
 use Rattle.canonical_text.proofs.WordsWritten.{mov_word, xchg_word, mfence_word, cmp_word, je_word, jne_word, jmp_word, locations_word, exists_word, forall_word, true_word, false_word, not_word, register_word, column_word}
 
 -- pieces that can be written before whatever does not go on with a word

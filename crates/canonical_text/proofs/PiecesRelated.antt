@@ -1,21 +1,15 @@
 -- The tokens of printed parts are related to those parts by the grammar.
 use Rattle.std.proofs.Common.{◌≡◌, ℕ, ◌+◌, ◌<◌, zero, suc, true, false, List, [], ◌∷◌, ◌++◌, map, codes, Option, Some, None, inl, inr, refl, sym, ap, ◌∙◌, subst, arith, append_assoc}
-use Rattle.std.specs.Option.{option_to_list}
-use Rattle.std.proofs.lemmas.List.{append-nil}
-use Rattle.std.specs.List.{AllByRecursion, flat_map, range_with_len}
 use Rattle.std.proofs.lemmas.List.Elements.{All-from_recursion}
+use Rattle.canonical_text.proofs.Vocabulary.{option_to_list, append-nil, AllByRecursion, flat_map, range_with_len, Tok, Sign, Piece, tokens_of, Quantifier, Exists, NotExists, Forall, PlaceView}
+use Rattle.canonical_text.proofs.Vocabulary.{Location, Register, EntryView, CodeView, LoadImm, Copy, Load, StoreImm, Store, Xchg, Fence, CmpImm, CmpReg, Je, Jne, Jmp, CellView, BodyView, SignView}
+use Rattle.canonical_text.proofs.Vocabulary.{Atom, Const, Not, And, Or, Open, Close, EndingView, register_name, IsLabelName, IsPrintablePlace, IsPrintableEntry, IsPrintableCode, IsPrintableContent}
+use Rattle.canonical_text.proofs.Vocabulary.{IsPrintableCell, IsPrintableRow, IsPrintable, IsPrintableSign, ArePrintable, IsPrintableEnding}
 use Rattle.litmus_reader.specs.Mark.TheVariants as the
-use Rattle.litmus_reader.specs.Tokens.{Tok, Sign}
-use Rattle.litmus_reader.specs.Pieces.{Piece, tokens_of}
-use Rattle.conditions.specs.declared.condition.Quantifier.{Quantifier}
-use Rattle.conditions.specs.declared.condition.Quantifier.TheVariants.{Exists, NotExists, Forall}
-use Rattle.litmus_syntax.specs.Views.{PlaceView, Location, Register, EntryView, CodeView, LoadImm, Copy, Load, StoreImm, Store, Xchg, Fence, CmpImm, CmpReg, Je, Jne, Jmp, CellView, BodyView, SignView, Atom, Const, Not, And, Or, Open, Close, EndingView}
 use Rattle.litmus_syntax.specs.Words.{mnemonic_of}
 use Rattle.litmus_syntax.specs.Phrases.{Phrase, ◌▸◌, mark, number, begins_with_word, Items, end, item}
 use Rattle.litmus_syntax.specs.Grammar.{IsPlace, IsEntryItem, NoneTwice, place_of_entry, IsInitial, HasThread, MoreColumns, last, column, IsHeader, IsCode, IsLabelMark, IsContent, ends_cell, IsCell, IsNextCell, IsRow, ends_rows, before_ending, IsRows, IsBody, IsObservedItem, IsObserved, IsQuantifier, IsSign, the_end, IsSigns, IsEnding}
-use Rattle.litmus_reader.specs.Names.{register_name}
 use Rattle.canonical_text.specs.Spelling.{space, line_end, sign, next, joined_by, bar, gap, place_pieces, valued_pieces, entry_pieces, initial_pieces, row_end, column_pieces, header_pieces, code_pieces, label_pieces, cell_pieces, row_pieces, observed_place_pieces, observed_pieces, sign_pieces, condition_pieces, ending_pieces, lines_pieces}
-use Rattle.canonical_text.specs.Printable.{IsLabelName, IsPrintablePlace, IsPrintableEntry, IsPrintableCode, IsPrintableContent, IsPrintableCell, IsPrintableRow, IsPrintable, IsPrintableSign, ArePrintable, IsPrintableEnding}
 use Rattle.canonical_text.proofs.WordsWritten.{opens, opens_all, opens_locations, register_named}
 
 -- items one after another

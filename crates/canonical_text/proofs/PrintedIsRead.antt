@@ -1,13 +1,11 @@
 -- Parts that can be printed are the parts of their canonical text.
 use Rattle.std.proofs.Common.{◌≡◌, ℕ, List, [], ◌∷◌, ◌++◌, codes, refl, ap, append_assoc, lit<}
 use Rattle.std.proofs.lemmas.Str.{IsUtf8-from_ascii, IsAscii-append}
-use Rattle.std.proofs.lemmas.List.{append-nil}
-use Rattle.litmus_reader.specs.Pieces.{text_of, tokens_of, AreApart}
+use Rattle.canonical_text.proofs.Vocabulary.{append-nil, text_of, tokens_of, AreApart, lines_pieces, ending_pieces, heading}
 use Rattle.litmus_reader.proofs.PieceLaws.{pieces_lex}
 use Rattle.litmus_reader.specs.Space.{nothing}
 use Rattle.litmus_reader.specs.FirstLine.{AreVisible, IsFirstLine}
 use Rattle.litmus_reader.specs.SkippedLines.{brace}
-use Rattle.canonical_text.specs.Spelling.{lines_pieces, ending_pieces, heading}
 use Rattle.canonical_text.specs.Laws.{PrintedPartsAreRead}
 use Rattle.canonical_text.proofs.PiecesApart.{lines_apart}
 use Rattle.canonical_text.proofs.PiecesRelated.{body_related, ending_related}

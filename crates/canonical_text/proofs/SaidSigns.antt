@@ -1,22 +1,16 @@
 -- The condition: its canonical signs, named again, spell the same formula.
 use Rattle.std.proofs.Common.{◌≡◌, ℕ, false, List, [], ◌∷◌, ◌++◌, map, refl, sym, ap, ◌∙◌, subst, append_assoc}
-use Rattle.std.specs.List.{AllByRecursion, IsDistinct, flat_map}
-use Rattle.std.specs.Str.{bytes_eq}
-use Rattle.std.proofs.lemmas.List.{append-nil}
-use Rattle.tso_program.specs.Tree.{Tree, tree_map}
+use Rattle.canonical_text.proofs.Vocabulary.{AllByRecursion, IsDistinct, flat_map, bytes_eq, append-nil, Tree, tree_map, PlaceView, Location, Register, SignView, number_in, sign_places, IsTextNumber}
+use Rattle.canonical_text.proofs.Vocabulary.{IsPrintablePlace, IsPrintableSign, begins_with_a_word, SignsAreApart}
 use Rattle.tso_program.specs.Tree as tree
 use Rattle.conditions.specs.Grammar.{Sign, sign_map, Class, Sum, Spells, atom, const, negation, parens, operand, conjunction, term, disjunction}
 use Rattle.conditions.specs.Grammar as sign
 use Rattle.conditions.specs.Canonical.{signs_of, enclosed_signs_of}
 use Rattle.conditions.proofs.CanonicalSigns.{canonical_spell, canonical_mapped}
-use Rattle.litmus_syntax.specs.Views.{PlaceView, Location, Register, SignView}
 use Rattle.litmus_syntax.specs.Views as view
-use Rattle.litmus_reader.specs.Names.{number_in}
-use Rattle.litmus_reader.specs.Places.{sign_places}
 use Rattle.litmus_reader.specs.Meaning.{atom_of, numbered_atom}
 use Rattle.litmus_reader.specs.Meaning as meaning
 use Rattle.canonical_text.specs.Canonical.{atom_named, sign_named, signs_named}
-use Rattle.canonical_text.specs.Printable.{IsTextNumber, IsPrintablePlace, IsPrintableSign, begins_with_a_word, SignsAreApart}
 use Rattle.canonical_text.proofs.NamedPlaces.{Named}
 use Rattle.canonical_text.proofs.ToldCode.{IsKnown, name_back}
 

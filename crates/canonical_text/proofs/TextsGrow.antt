@@ -1,20 +1,12 @@
 -- The text of pieces, one more part after the others.
 use Rattle.std.proofs.Common.{◌≡◌, ℕ, ◌+◌, ◌<◌, ◌==◌, zero, suc, false, List, [], ◌∷◌, ◌++◌, length, map, take, drop, get_or, codes, Some, None, refl, sym, ap, ◌∙◌, arith, append_assoc}
-use Rattle.std.specs.Prelude.{nat_lt, if◌then◌else◌}
-use Rattle.std.specs.List.{flat_map, range_with_len}
 use Rattle.std.proofs.lemmas.List.{append-nil, take_more, map_push, drop_more, length-map, length-take-le}
-use Rattle.std.proofs.lemmas.List.FromFn.{map-range_with_len_more, length-range_with_len}
 use Rattle.std.proofs.lemmas.Grind.{flat_map-append}
-use Rattle.std.proofs.lemmas.Bool.{lt-ltb}
+use Rattle.canonical_text.proofs.Vocabulary.{nat_lt, if◌then◌else◌, flat_map, range_with_len, map-range_with_len_more, length-range_with_len, lt-ltb, Piece, text_of, Quantifier, PlaceView, EntryView}
+use Rattle.canonical_text.proofs.Vocabulary.{CodeView, SignView, Thread, TextNames, space, line_end, sign, next, joined_by, gap, code_pieces, label_pieces, cell_pieces, observed_place_pieces}
+use Rattle.canonical_text.proofs.Vocabulary.{observed_pieces, entry_pieces, initial_pieces, sign_pieces, quantifier_pieces, condition_pieces, thread_entries, register_entries}
 use Rattle.litmus_reader.specs.Mark.TheVariants as the
-use Rattle.litmus_reader.specs.Pieces.{Piece, text_of}
-use Rattle.conditions.specs.declared.condition.Quantifier.{Quantifier}
-use Rattle.litmus_syntax.specs.Views.{PlaceView, EntryView, CodeView, SignView}
 use Rattle.litmus_reader.proofs.PieceLaws.{text_of-append}
-use Rattle.tso_program.specs.declared.listing.Thread.{Thread}
-use Rattle.litmus_reader.specs.Names.{TextNames}
-use Rattle.canonical_text.specs.Spelling.{space, line_end, sign, next, joined_by, gap, code_pieces, label_pieces, cell_pieces, observed_place_pieces, observed_pieces, entry_pieces, initial_pieces, sign_pieces, quantifier_pieces, condition_pieces}
-use Rattle.canonical_text.specs.Canonical.{thread_entries, register_entries}
 
 -- the texts of two lists of parts
 pub text_of_all : {X : Type 0} (g : X → List Piece) (xs ys : List X) → text_of (flat_map g (xs ++ ys)) ≡ text_of (flat_map g xs) ++ text_of (flat_map g ys)

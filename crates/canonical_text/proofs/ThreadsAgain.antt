@@ -1,30 +1,13 @@
 -- The threads of the fenced program, told by the canonical text.
 use Rattle.std.proofs.Common.{◌≡◌, ℕ, ◌+◌, ◌<◌, ◌≤◌, zero, suc, Bool, List, [], ◌∷◌, length, map, get_or, Option, refl, sym, ap, ◌∙◌, subst, inl, inr, arith}
-use Rattle.std.specs.Prelude.{slice_index_or}
-use Rattle.std.specs.List.{AllByRecursion, IsDistinct, flat_map, range_with_len}
-use Rattle.std.specs.Option.{option_map_or}
-use Rattle.std.specs.Str.{bytes_eq}
-use Rattle.std.proofs.Math.Nat.{add-zero}
-use Rattle.std.proofs.lemmas.Bool.{cases_lt}
-use Rattle.std.proofs.lemmas.Option.{slice_get_past}
 use Rattle.std.proofs.lemmas.List.{get_or_past}
-use Rattle.std.proofs.lemmas.List.FromFn.{length-map-range_with_len, get_or-map-range_with_len}
-use Rattle.tso_program.specs.declared.instruction.Instr.{Instr}
-use Rattle.tso_program.specs.declared.listing.Thread.{Thread}
-use Rattle.tso_program.specs.Listings.{code_of}
-use Rattle.tso_program.specs.Fences.{Gaps, place_of, fenced_code, fenced_threads}
+use Rattle.canonical_text.proofs.Vocabulary.{slice_index_or, AllByRecursion, IsDistinct, flat_map, range_with_len, option_map_or, bytes_eq, add-zero, cases_lt, slice_get_past}
+use Rattle.canonical_text.proofs.Vocabulary.{length-map-range_with_len, get_or-map-range_with_len, Instr, Thread, code_of, Gaps, place_of, fenced_code, fenced_threads, PlaceView, Register, BodyView}
+use Rattle.canonical_text.proofs.Vocabulary.{NoneTwice, all_names, all_registers, number_in, row_places, Label, thread_labels, all_labels, position_in, JumpsAreFound, first_value, thread_read}
+use Rattle.canonical_text.proofs.Vocabulary.{own_labels, moved_label, moved_labels, IsPrintableRow}
 use Rattle.tso_program.proofs.FencedPlaces.{fenced_code_of}
 use Rattle.tso_program.proofs.FencedLimits.{ends}
-use Rattle.litmus_syntax.specs.Views.{PlaceView, Register, BodyView}
-use Rattle.litmus_syntax.specs.Grammar.{NoneTwice, labels_in_rows as all_names}
-use Rattle.litmus_reader.specs.Names.{all_registers, number_in}
-use Rattle.litmus_reader.specs.Places.{row_places}
-use Rattle.litmus_reader.specs.declared.label.Label.{Label}
-use Rattle.litmus_reader.specs.Labels.{thread_labels, all_labels, position_in, JumpsAreFound}
-use Rattle.litmus_reader.specs.Meaning.{first_value, thread_read}
 use Rattle.litmus_reader.specs.Meaning as meaning
-use Rattle.canonical_text.specs.Canonical.{own_labels, moved_label, moved_labels}
-use Rattle.canonical_text.specs.Printable.{IsPrintableRow}
 use Rattle.canonical_text.proofs.LabelPlaces.{moved_of}
 use Rattle.canonical_text.proofs.LabelsNamed.{label_name, AreGoodLabels, Ascending}
 use Rattle.canonical_text.proofs.LabelsOnce.{once_of_rows}

@@ -1,28 +1,15 @@
 -- Code that a text tells: with names of locations and labels it can be printed, and stands for the same code again. Fences too.
 use Rattle.std.proofs.Common.{◌≡◌, ℕ, ◌+◌, ◌<◌, ◌≤◌, zero, suc, Bool, true, false, ◌&&◌, List, [], ◌∷◌, ◌++◌, length, map, Option, Some, None, refl, sym, ap, ◌∙◌, subst, arith}
-use Rattle.std.specs.Prelude.{slice_get, slice_index_or, nat_lt, is_some, option_map, option_and_then, if◌then◌else◌}
-use Rattle.std.specs.List.{AllByRecursion, IsDistinct, list_all, list_any, flat_map, filter_map, cons_option, range_with_len}
-use Rattle.std.specs.Option.{option_map_or}
-use Rattle.std.specs.Str.{bytes_eq}
-use Rattle.std.proofs.Math.Nat.{add-zero}
-use Rattle.std.proofs.lemmas.List.{length-map}
-use Rattle.std.proofs.lemmas.List.FromFn.{length-range_with_len}
-use Rattle.tso_program.specs.declared.instruction.Instr.{Instr}
+use Rattle.canonical_text.proofs.Vocabulary.{slice_get, slice_index_or, nat_lt, is_some, option_map, option_and_then, if◌then◌else◌, AllByRecursion, IsDistinct, list_all, list_any, flat_map}
+use Rattle.canonical_text.proofs.Vocabulary.{filter_map, cons_option, range_with_len, option_map_or, bytes_eq, add-zero, length-map, length-range_with_len, Instr, Thread, code_of, instr_at, PlaceView}
+use Rattle.canonical_text.proofs.Vocabulary.{Location, Register, CodeView, LoadImm, Copy, Load, StoreImm, Store, Xchg, Fence, CmpImm, CmpReg, Je, Jne, Jmp, CellView, NoneTwice, number_in, code_places}
+use Rattle.canonical_text.proofs.Vocabulary.{cell_places, cells_places, row_places, Label, instruction_of, instruction_in, location_name_at, label_names_at, label_name_at, own_labels, moved_label}
+use Rattle.canonical_text.proofs.Vocabulary.{code_named, cell_of, row_of, most_cells, rows_of, IsLabelName, IsPrintableCode, IsPrintableContent, IsPrintableCell, IsPrintableRow}
 use Rattle.tso_program.specs.declared.instruction.Instr.TheVariants as instr
-use Rattle.tso_program.specs.declared.listing.Thread.{Thread}
-use Rattle.tso_program.specs.Listings.{code_of, instr_at}
 use Rattle.tso_program.specs.Fences.{place_of, moved, fenced_code}
-use Rattle.litmus_syntax.specs.Views.{PlaceView, Location, Register, CodeView, LoadImm, Copy, Load, StoreImm, Store, Xchg, Fence, CmpImm, CmpReg, Je, Jne, Jmp, CellView}
-use Rattle.litmus_syntax.specs.Grammar.{NoneTwice}
-use Rattle.litmus_reader.specs.Names.{number_in}
-use Rattle.litmus_reader.specs.Places.{code_places, cell_places, cells_places, row_places}
-use Rattle.litmus_reader.specs.declared.label.Label.{Label}
 use Rattle.litmus_reader.specs.Labels.{label_in, position_in, jump_of, is_found, are_found}
-use Rattle.litmus_reader.specs.Meaning.{instruction_of, instruction_in}
 use Rattle.litmus_reader.specs.Meaning as meaning
 use Rattle.litmus_reader.proofs.NamesOnce.{place_among, number_at}
-use Rattle.canonical_text.specs.Canonical.{location_name_at, label_names_at, label_name_at, own_labels, moved_label, code_named, cell_of, row_of, most_cells, rows_of}
-use Rattle.canonical_text.specs.Printable.{IsLabelName, IsPrintableCode, IsPrintableContent, IsPrintableCell, IsPrintableRow}
 use Rattle.canonical_text.proofs.NamedPlaces.{Named}
 use Rattle.canonical_text.proofs.LabelPlaces.{labels_moved}
 use Rattle.canonical_text.proofs.LabelsNamed.{label_name, SomeAt, AreGoodLabels, position_again, label_found, label_good, labels_good, found_stands}

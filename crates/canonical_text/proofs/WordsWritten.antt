@@ -1,16 +1,7 @@
 -- The words that are written are words, and are read as what they stand for.
 use Rattle.std.proofs.Common.{◌≡◌, ℕ, ◌≤◌, Bool, true, false, ◌||◌, ◌&&◌, List, [], ◌∷◌, codes, Some, refl, arith}
-use Rattle.std.specs.List.{list_all}
-use Rattle.std.specs.Char.{is_ascii_digit}
-use Rattle.std.specs.Fmt.{decimal}
-use Rattle.std.proofs.lemmas.Fmt.{digits_decimal}
-use Rattle.litmus_reader.specs.Bytes.{is_letter, is_word_byte}
-use Rattle.litmus_reader.specs.Lexing.{IsWord}
-use Rattle.litmus_reader.proofs.NumberLaws.{own}
-use Rattle.tso_program.specs.declared.instruction.Reg.{Reg}
-use Rattle.tso_program.specs.declared.instruction.Reg.TheVariants.{Eax, Ebx, Ecx, Edx, Esi, Edi}
+use Rattle.canonical_text.proofs.Vocabulary.{list_all, is_ascii_digit, decimal, digits_decimal, is_letter, is_word_byte, IsWord, own, Reg, Eax, Ebx, Ecx, Edx, Esi, Edi, register_name}
 use Rattle.litmus_syntax.specs.Words.{reg_of, opens_condition, column_name}
-use Rattle.litmus_reader.specs.Names.{register_name}
 
 -- ---- words
 

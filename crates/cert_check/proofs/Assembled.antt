@@ -1,17 +1,7 @@
 -- A certificate's parts put together.
 use Rattle.std.proofs.Common.{ℕ, zero, suc, List, [], ◌∷◌, All, Contains, take, subst, arith}
-use Rattle.std.specs.List.{AllZip}
-use Rattle.gap_sets.specs.Regions.{all_sets}
-use Rattle.tso_program.specs.Shown.{Question}
-use Rattle.tso_program.specs.declared.outcome.Outcome.{Outcome}
-use Rattle.tso_machine.specs.declared.label.Label.{Label}
-use Rattle.tso_machine.specs.Machine.{StoreBufferMachine, no_gaps}
-use Rattle.tso_machine.specs.Outcomes.{IsShownRun}
-use Rattle.tree_laws.specs.GapTrees.{IsValidGap}
-use Rattle.cert_forest.specs.Certificates.{Certificate}
-use Rattle.tree_laws.specs.Certificates.{IsRunOutside, IsValidCertificate}
-use Rattle.cert_check.specs.Faults.{IsFirstWithout, HasServingSet}
-use Rattle.cert_check.specs.Internal.Replays.{IsOutside}
+use Rattle.cert_check.proofs.Vocabulary.{AllZip, all_sets, Question, Outcome, Label, StoreBufferMachine, no_gaps, IsShownRun, IsValidGap, Certificate, IsRunOutside, IsValidCertificate, IsFirstWithout}
+use Rattle.cert_check.proofs.Vocabulary.{HasServingSet, IsOutside}
 use Rattle.cert_check.proofs.GapNodes.{labels_at}
 use Rattle.cert_check.proofs.FirstFaults.{one_outcome}
 

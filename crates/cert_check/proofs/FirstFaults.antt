@@ -1,28 +1,14 @@
 -- A certificate that has a fault is not valid.
 use Rattle.std.proofs.Common.{◌≡◌, ℕ, zero, suc, List, [], ◌∷◌, length, All, refl, sym, ap, ◌∙◌, subst}
-use Rattle.std.proofs.lemmas.Option.{same_Some}
-use Rattle.gap_sets.specs.Gaps.{SetOfGaps}
-use Rattle.gap_sets.specs.Regions.{without_gap, child_regions}
-use Rattle.gap_sets.specs.declared.region.Region.{Region}
-use Rattle.tso_program.specs.declared.listing.Listing.{Listing}
-use Rattle.tso_program.specs.declared.outcome.Outcome.{Outcome}
+use Rattle.cert_check.proofs.Vocabulary.{same_Some, SetOfGaps, without_gap, child_regions, Region, Listing, Outcome, Label, IsShownRun, Gap, Split, Bound, GapTrees, NoGap, MoreGaps, IsValidCover}
+use Rattle.cert_check.proofs.Vocabulary.{Certificate, AreSequentialRuns, IsRunOutside, IsValidCertificate, one_list_of_gaps, CheckFault, valid_is_not_wrong, IsRunOf, IsFirstWithout, CheckFaultIs}
 use Rattle.tso_program.specs.Shown.{Question, show}
-use Rattle.tso_machine.specs.declared.label.Label.{Label}
 use Rattle.tso_machine.specs.Machine.{Machine, SequentialMachine, StoreBufferMachine, no_gaps, outcome_at}
-use Rattle.tso_machine.specs.Outcomes.{IsShownRun}
-use Rattle.cert_forest.specs.Trees.{Gap, Split, Bound, GapTrees, NoGap, MoreGaps}
 use Rattle.cert_forest.specs.Texts.{count_gaps}
-use Rattle.tree_laws.specs.CoverTrees.{IsValidCover}
 use Rattle.tree_laws.specs.GapTrees.{IsValidGap, AreValidGaps}
-use Rattle.cert_forest.specs.Certificates.{Certificate}
-use Rattle.tree_laws.specs.Certificates.{AreSequentialRuns, IsRunOutside, IsValidCertificate}
 use Rattle.tree_laws.proofs.Lists.{found_has}
-use Rattle.tree_laws.proofs.OneList.{one_list_of_gaps}
-use Rattle.cert_check.specs.declared.fault.CheckFault.{CheckFault}
 use Rattle.cert_check.specs.declared.fault.CheckFault.TheVariants as fault
-use Rattle.cover_judge.proofs.WrongNodes.{valid_is_not_wrong}
 use Rattle.cert_check.specs.GapDefects as gaps
-use Rattle.cert_check.specs.Faults.{IsRunOf, IsFirstWithout, CheckFaultIs}
 use Rattle.cert_check.specs.Laws.{ValidCertificatesHaveNoFault}
 use Rattle.cert_check.proofs.Replayed.{zip_left, of_shown}
 

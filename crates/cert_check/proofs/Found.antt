@@ -1,9 +1,8 @@
 -- The first value that has not a property, by a loop.
 use Rattle.std.proofs.Common.{◌≡◌, ℕ, ◌<◌, ◌≤◌, List, Some, All, get_or, take, length, sym, ap, ◌∙◌, subst, arith}
-use Rattle.std.proofs.lemmas.List.{get_or-take, length-take-le}
 use Rattle.std.proofs.lemmas.Option.{slice_get-get_or}
+use Rattle.cert_check.proofs.Vocabulary.{get_or-take, length-take-le, IsFirstWithout}
 use Rattle.sketches.proofs.Lookups.{same_default}
-use Rattle.cert_check.specs.Faults.{IsFirstWithout}
 
 module _ {A : Type 0} (P : A → Type 0) (xs : List A) (n : ℕ) where
   -- each before place n has it

@@ -1,24 +1,11 @@
 -- What a split says, and the gaps by which it splits a region.
 use Rattle.std.proofs.Common.{◌≡◌, ◌↔◌, ℕ, zero, suc, true, false, List, [], ◌∷◌, Some, None, length, Contains, slice_get, refl, sym, ap, ◌∙◌, subst}
-use Rattle.std.specs.List.{AllZip}
 use Rattle.std.specs.List.Sorted.{IsStrictlyIncreasing}
 use Rattle.std.specs.FinSet as set
-use Rattle.std.proofs.lemmas.Option.{same_Some}
-use Rattle.gap_sets.specs.Gaps.{SetOfGaps}
-use Rattle.gap_sets.specs.Order.{Better}
-use Rattle.gap_sets.specs.declared.region.Region.{Region}
-use Rattle.tso_program.specs.declared.listing.Listing.{Listing}
-use Rattle.tso_machine.specs.declared.label.Label.{Label}
-use Rattle.tso_machine.specs.Machine.{StoreBufferMachine, no_gaps}
-use Rattle.tso_machine.specs.Modes.{ArePassed}
-use Rattle.cert_forest.specs.Trees.{Gap, Split, Bound, gap_trees_of}
+use Rattle.cert_check.proofs.Vocabulary.{AllZip, same_Some, SetOfGaps, Better, Region, Listing, Label, StoreBufferMachine, no_gaps, ArePassed, Gap, Split, Bound, gap_trees_of, one_list_of_gaps}
+use Rattle.cert_check.proofs.Vocabulary.{HasNoSplit, FirstWrongGap, AreValidIn, IsWrongChildIn, HavePassed, IsAtRoot, IsBelow}
 use Rattle.cert_forest.proofs.TreeTexts.{gaps_count}
 use Rattle.tree_laws.specs.GapTrees.{PassesGap, IsSplitBy, IsValidGap}
-use Rattle.tree_laws.proofs.OneList.{one_list_of_gaps}
-use Rattle.cert_check.specs.GapDefects.{HasNoSplit, FirstWrongGap}
-use Rattle.cert_check.specs.Internal.Children.{AreValidIn, IsWrongChildIn}
-use Rattle.cert_check.specs.Internal.Replays.{HavePassed}
-use Rattle.cover_judge.specs.Judged.{IsAtRoot, IsBelow}
 
 -- what is found at a number goes with the labels of this number
 pub labels_at : {B : Type 0} (R : List Label → B → Type 0) (runs : List (List Label)) (xs : List B) (n : ℕ) (x : B) → AllZip R runs xs → slice_get xs n ≡ Some x →

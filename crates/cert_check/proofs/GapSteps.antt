@@ -1,16 +1,7 @@
 -- The children of a split, judged in order: what is left to be judged decides.
 use Rattle.std.proofs.Common.{◌≡◌, ℕ, suc, ◌+◌, ◌<◌, List, [], ◌∷◌, length, take, drop, refl, sym, subst, arith}
-use Rattle.gap_sets.specs.Gaps.{SetOfGaps}
+use Rattle.cert_check.proofs.Vocabulary.{SetOfGaps, Region, Listing, Label, first_gap, Gap, IsValidGap, FirstWrongGap, AreValidIn, IsWrongChildIn, IsBelow}
 use Rattle.gap_sets.specs.Regions.{with_gap, without_gap}
-use Rattle.gap_sets.specs.declared.region.Region.{Region}
-use Rattle.tso_program.specs.declared.listing.Listing.{Listing}
-use Rattle.tso_machine.specs.declared.label.Label.{Label}
-use Rattle.cert_forest.specs.GapNodes.{first_gap}
-use Rattle.cert_forest.specs.Trees.{Gap}
-use Rattle.tree_laws.specs.GapTrees.{IsValidGap}
-use Rattle.cert_check.specs.GapDefects.{FirstWrongGap}
-use Rattle.cert_check.specs.Internal.Children.{AreValidIn, IsWrongChildIn}
-use Rattle.cover_judge.specs.Judged.{IsBelow}
 
 module _ (p : Listing) (costs : List ℕ) (answer : SetOfGaps) (runs : List (List Label)) (trees : List Gap) (region : Region) (gaps : List ℕ) where
   -- the children that are left decide of all, where so many were judged

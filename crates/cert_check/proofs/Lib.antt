@@ -1,3 +1,5 @@
+-- what many proofs speak of
+mod Vocabulary
 -- gap trees
 pub mod OpenGaps
 pub mod GapNodes

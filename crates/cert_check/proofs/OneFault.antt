@@ -3,26 +3,12 @@ use Rattle.std.proofs.Common.{◌≡◌, ◌≢◌, ◌⊎◌, ℕ, zero, suc, �
 use Rattle.std.proofs.lemmas.Bool.{cases_lt}
 use Rattle.std.proofs.lemmas.List.{get_or-take, length-take}
 use Rattle.std.proofs.lemmas.Option.{slice_get_within, get_or_from_slice_get}
-use Rattle.gap_sets.specs.Gaps.{SetOfGaps}
-use Rattle.gap_sets.specs.Regions.{all_sets, child_regions}
-use Rattle.gap_sets.specs.declared.region.Region.{Region}
-use Rattle.tso_program.specs.declared.listing.Listing.{Listing}
-use Rattle.tso_program.specs.declared.outcome.Outcome.{Outcome}
-use Rattle.tso_program.specs.Fences.{gaps_in}
-use Rattle.tso_program.specs.Shown.{Question}
-use Rattle.tso_machine.specs.declared.label.Label.{Label}
-use Rattle.tso_machine.specs.Machine.{Machine, SequentialMachine, StoreBufferMachine, no_gaps}
+use Rattle.cert_check.proofs.Vocabulary.{SetOfGaps, all_sets, child_regions, Region, Listing, Outcome, gaps_in, Question, Label, Machine, SequentialMachine, StoreBufferMachine, no_gaps, empty_sketch}
+use Rattle.cert_check.proofs.Vocabulary.{IsValidCover, Certificate, AreSequentialRuns, IsRunOutside, one_list_of_gaps, CheckFault, FirstWrongCover}
 use Rattle.tso_machine.specs.Outcomes.{IsShownRun, AreGapsOf}
-use Rattle.cover_judge.specs.Sketches.{empty_sketch}
 use Rattle.cert_forest.specs.Trees.{Cover, Gap, Split, Bound, GapTrees, NoGap, MoreGaps}
-use Rattle.tree_laws.specs.CoverTrees.{IsValidCover}
-use Rattle.cert_forest.specs.Certificates.{Certificate}
 use Rattle.cert_forest.specs.Shows.{shows_of}
-use Rattle.tree_laws.specs.Certificates.{AreSequentialRuns, IsRunOutside}
-use Rattle.tree_laws.proofs.OneList.{one_list_of_gaps}
-use Rattle.cert_check.specs.declared.fault.CheckFault.{CheckFault}
 use Rattle.cert_check.specs.declared.fault.CheckFault.TheVariants as fault
-use Rattle.cover_judge.specs.CoverDefects.{FirstWrongCover}
 use Rattle.cover_judge.proofs.WrongNodes.{next_sibling, valid_is_not_wrong, one_wrong_node}
 use Rattle.cert_check.specs.GapDefects as gaps
 use Rattle.cert_check.specs.Faults.{IsRunOf, IsFirstWithout, HasRightCost, HasHead, HasOutcomes, HasEachOutcome, HasRuns, HasForeignRuns, HasServingSet, CheckFaultIs}

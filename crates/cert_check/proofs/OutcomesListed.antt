@@ -1,14 +1,12 @@
 -- The set of a list's outcomes.
 use Rattle.std.proofs.Common.{◌≡◌, ◌↔◌, ℕ, ◌+◌, ◌<◌, Bool, true, false, List, [], ◌∷◌, ◌++◌, Contains, IsTrue, take, get_or, length, refl, sym, ◌∙◌, subst, inl, inr, ◌⊎◌, cond}
 use Rattle.std.proofs.lemmas.List.{take_more}
-use Rattle.std.specs.Borrow.{Bor}
 use Rattle.std.specs.Ordering.{is_eq}
 use Rattle.std.proofs.lemmas.List.Elements.{Contains-append_left, Contains-push, Contains-push_cases}
 use Rattle.std.specs.BTreeSet.{BTreeSet, UpdatesBy, contains}
-use Rattle.tso_program.specs.declared.outcome.Outcome.{Outcome}
+use Rattle.cert_check.proofs.Vocabulary.{Bor, Outcome, borrowed_cmp}
 use Rattle.tso_program.specs.Ordered.{outcome_cmp}
 use Rattle.tso_program.proofs.OutcomesOrdered.{same_by_order}
-use Rattle.cert_check.specs.Internal.Replays.{borrowed_cmp}
 
 -- what a set has after one more, where this says whether it is that one
 one_more : (b new old : Bool) {Same Before : Type 0} → new ≡ cond b true old → (b ≡ true) ↔ Same → IsTrue old ↔ Before → IsTrue new ↔ (Before ⊎ Same)

@@ -4,23 +4,16 @@ use Rattle.std.specs.List.{AllZip, slice_get}
 use Rattle.std.proofs.Math.Seq.{take-append_seam}
 use Rattle.std.proofs.lemmas.List.{append_assoc, append-nil}
 use Rattle.std.proofs.lemmas.Slice.Zip.{AllZip-long}
-use Rattle.tso_program.specs.declared.listing.Listing.{Listing}
-use Rattle.tso_program.specs.declared.outcome.Outcome.{Outcome}
-use Rattle.tso_program.specs.Shown.{Question}
-use Rattle.tso_machine.specs.declared.label.Label.{Label}
+use Rattle.cert_check.proofs.Vocabulary.{Listing, Outcome, Question, Label, SetOfGaps, Machine, unfenced, ArePassed, IsRunOf, IsFirstWithout}
 use Rattle.tso_machine.specs.declared.label.Model.{Model}
 use Rattle.tso_machine.specs.declared.replaying.Ended.{Ended}
 use Rattle.tso_machine.specs.declared.replaying.ReplayFault.{ReplayFault}
 use Rattle.tso_machine.specs.declared.replaying.ReplayFault.TheVariants as replays
-use Rattle.gap_sets.specs.Gaps.{SetOfGaps}
 use Rattle.cert_check.specs.declared.fault.RunsFault.{RunsFault}
 use Rattle.cert_check.specs.declared.fault.RunsFault.TheVariants as runs
-use Rattle.tso_machine.specs.Machine.{Machine}
-use Rattle.tso_machine.specs.Modes.{unfenced, ArePassed}
 use Rattle.tso_machine.specs.Outcomes.{IsShownRun, IsReplayOf}
 use Rattle.tso_machine.specs.Faults.{ReplayFaultIs}
 use Rattle.tso_machine.proofs.Refused.{no_fault}
-use Rattle.cert_check.specs.Faults.{IsRunOf, IsFirstWithout}
 use Rattle.cert_check.specs.Internal.Replays.{AreReplaysOf, IsNoRunAt, IsFaultFrom, RunsFaultIs}
 
 -- a fault of a replay says that the labels are no run

@@ -1,9 +1,7 @@
 -- Sets of a program's gaps.
 use Rattle.std.proofs.Common.{◌≡◌, ℕ, ◌<◌, true, false, nat_lt, sym, ◌∙◌, arith}
-use Rattle.std.specs.Cmp.{nat_cmp_total}
 use Rattle.std.specs.FinSet as set
-use Rattle.std.proofs.lemmas.Bool.Decides.{nat_tests}
-use Rattle.gap_sets.specs.Gaps.{SetOfGaps}
+use Rattle.cert_check.proofs.Vocabulary.{nat_cmp_total, nat_tests, SetOfGaps}
 
 module _ (gaps every : SetOfGaps) (n : ℕ) (is_every : (gap : ℕ) → set.contains every gap ≡ nat_lt gap n) where
   below : (gap : ℕ) → nat_lt gap n ≡ true → gap < n

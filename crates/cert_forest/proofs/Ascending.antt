@@ -4,12 +4,8 @@ use Rattle.std.specs.Prelude.{nat_eq}
 use Rattle.std.specs.List.{filter, range_with_len, list_any}
 use Rattle.std.specs.FinSet as set
 use Rattle.std.specs.FinSet.{contains-from_list_nat}
-use Rattle.std.proofs.lemmas.Bool.{cases_lt}
-use Rattle.std.proofs.lemmas.Bool.Decides.{nat_tests}
-use Rattle.std.proofs.lemmas.List.{append-nil}
 use Rattle.std.specs.Cmp.{nat_cmp_total}
-use Rattle.gap_sets.specs.declared.gap_set.TheConstants.{MAX_GAPS}
-use Rattle.gap_sets.specs.Gaps.{SetOfGaps, numbers_of_set}
+use Rattle.cert_forest.proofs.Vocabulary.{cases_lt, nat_tests, append-nil, MAX_GAPS, SetOfGaps, numbers_of_set}
 
 -- numbers from the least on, below the limit, each greater than the one before
 abbrev pub Ascend : ℕ → ℕ → List ℕ → Type 0

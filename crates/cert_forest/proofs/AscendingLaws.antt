@@ -1,17 +1,9 @@
 -- Ascending numbers are read exactly, as a set.
 use Rattle.std.proofs.Common.{◌≡◌, ℕ, zero, suc, ◌+◌, ◌<◌, ◌≤◌, false, cond, List, [], ◌∷◌, ◌++◌, length, Option, Some, None, refl, sym, ap, subst, ◌∙◌, append_assoc, arith, inl, inr}
-use Rattle.std.specs.Prelude.{nat_lt}
 use Rattle.std.specs.FinSet as set
 use Rattle.std.proofs.lemmas.Bool.{ltb-false, le-ltb}
-use Rattle.gap_sets.specs.declared.gap_set.TheConstants.{MAX_GAPS}
-use Rattle.gap_sets.specs.Gaps.{SetOfGaps, numbers_of_set}
-use Rattle.cert_words.specs.Lines.{texts_of, spaced}
-use Rattle.text_tokens.specs.Steps.{◌>>=◌}
-use Rattle.cert_words.specs.Words.{begins_word}
-use Rattle.text_tokens.proofs.StepLaws.{bind_some, kept_out, by_test}
-use Rattle.std.proofs.lemmas.Option.{same_Some}
-use Rattle.cert_words.proofs.Steps.{Starts, done_with, IsExact}
-use Rattle.cert_forest.specs.Internal.Reading.{ascending_at}
+use Rattle.cert_forest.proofs.Vocabulary.{nat_lt, MAX_GAPS, SetOfGaps, numbers_of_set, texts_of, spaced, ◌>>=◌, begins_word, bind_some, kept_out, by_test, same_Some, Starts, done_with, IsExact}
+use Rattle.cert_forest.proofs.Vocabulary.{ascending_at}
 use Rattle.cert_forest.proofs.Ascending.{Ascend, IsBelow, numbers_back, ascending_are_below, numbers_ascend, set_back, with_all, all_from_none}
 
 module _ (read : List ℕ → Option (ℕ × List ℕ)) (word : ℕ → List ℕ) (limit : ℕ) (exact : IsExact read (λ n. spaced (word n)) (λ n. n < limit)) where

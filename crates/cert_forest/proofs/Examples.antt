@@ -1,14 +1,8 @@
 -- The three certificates have their texts, and are within the limits.
 use Rattle.std.proofs.Common.{◌≡◌, [], ◌∷◌, lit<, lit≤}
-use Rattle.std.specs.Fmt.{decimal}
-use Rattle.std.proofs.lemmas.Fmt.{decimal_digit}
-use Rattle.candidate_executions.specs.declared.event.Kind.{Kind}
+use Rattle.cert_forest.proofs.Vocabulary.{decimal, decimal_digit, Kind, MAX_GAPS, numbers_of_set, PLACES, MAX_COVER_DEPTH}
 use Rattle.candidate_executions.specs.declared.event.Kind.TheVariants as kinds
-use Rattle.gap_sets.specs.declared.gap_set.TheConstants.{MAX_GAPS}
-use Rattle.gap_sets.specs.Gaps.{numbers_of_set}
 use Rattle.gap_sets.specs.Laws.{these}
-use Rattle.tso_program.specs.declared.shown.TheConstants.{PLACES}
-use Rattle.cert_forest.specs.declared.tree.TheConstants.{MAX_COVER_DEPTH}
 use Rattle.cert_forest.specs.Limits.{IsCoverTo, HasNumbers}
 use Rattle.cert_forest.specs.StoreBuffering.{cover_of}
 use Rattle.cert_forest.specs.Laws.{TheExamplesAreCertificates, either, observed_tree}

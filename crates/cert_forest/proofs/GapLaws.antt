@@ -1,19 +1,8 @@
 -- Gap trees are read exactly.
 use Rattle.std.proofs.Common.{◌≡◌, ℕ, zero, suc, ◌<◌, ◌≤◌, ◌==◌, ◌^◌, cond, List, [], ◌∷◌, ◌++◌, length, Some, None, refl, sym, ap, subst, ◌∙◌, append_assoc, arith, inl, inr}
-use Rattle.std.specs.Prelude.{codes}
-use Rattle.std.proofs.lemmas.Bool.{eqb-true}
-use Rattle.cert_words.specs.declared.numbers.TheConstants.{MAX_COUNT}
-use Rattle.cert_forest.specs.Trees.{Gap, Split, Bound, GapTrees, gap_trees_of, gap_list}
-use Rattle.cert_words.specs.Lines.{texts_of, spaced}
-use Rattle.cert_forest.specs.Texts.{count_gaps}
-use Rattle.cert_forest.specs.Limits.{gaps_depth, IsGapTo}
-use Rattle.text_tokens.specs.Steps.{◌>>=◌}
-use Rattle.cert_words.specs.Words.{number_within_at, count_at, letter_at, repeat_at}
-use Rattle.cert_forest.specs.Internal.Reading.{split_at, gap_by, gap_at}
-use Rattle.text_tokens.proofs.StepLaws.{bind_some, by_test}
-use Rattle.std.proofs.lemmas.Option.{cond_some, same_Some}
-use Rattle.cert_words.proofs.Steps.{Starts, IsExact, takes_two, again_two, repeat_takes, repeat_again, starts_all}
-use Rattle.cert_words.proofs.WordLaws.{number_text, number_exact, below64, count_exact, letter_takes, letter_again}
+use Rattle.cert_forest.proofs.Vocabulary.{codes, eqb-true, MAX_COUNT, Gap, Split, Bound, GapTrees, gap_trees_of, gap_list, texts_of, spaced, count_gaps, gaps_depth, IsGapTo, ◌>>=◌, number_within_at}
+use Rattle.cert_forest.proofs.Vocabulary.{count_at, letter_at, repeat_at, split_at, gap_by, gap_at, bind_some, by_test, cond_some, same_Some, Starts, IsExact, takes_two, again_two, repeat_takes}
+use Rattle.cert_forest.proofs.Vocabulary.{repeat_again, starts_all, number_text, number_exact, below64, count_exact, letter_takes, letter_again}
 use Rattle.cert_forest.proofs.TreeTexts.{gap_text, gaps_again, gaps_text, gaps_count, gaps_to, gaps_from, gap_deep, regroup}
 
 abbrev both : ℕ → ℕ → ℕ × ℕ

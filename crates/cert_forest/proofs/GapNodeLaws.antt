@@ -1,12 +1,8 @@
 -- Nodes give back the gap trees that they spell.
 use Rattle.std.proofs.Common.{◌≡◌, ℕ, zero, suc, ◌<◌, ◌≤◌, List, [], ◌∷◌, ◌++◌, length, take, drop, refl, ap, sym, ◌∙◌, subst, append_assoc, arith}
-use Rattle.std.proofs.lemmas.List.{length-append}
-use Rattle.cert_forest.specs.declared.node.GapNode.{GapNode}
+use Rattle.cert_forest.proofs.Vocabulary.{length-append, GapNode, Gap, Split, Bound, GapTrees, NoGap, MoreGaps, gap_trees_of, gap_list, count_gaps, gap_root_of, gap_children_of, IsNextGap}
 use Rattle.cert_forest.specs.declared.node.GapNode.TheVariants as node
-use Rattle.cert_forest.specs.Trees.{Gap, Split, Bound, GapTrees, NoGap, MoreGaps, gap_trees_of, gap_list}
-use Rattle.cert_forest.specs.Texts.{count_gaps}
 use Rattle.cert_forest.specs.GapNodes.{spell_gap, spell_gap_row, spell_gaps, gap_before, gap_trees_in, first_gap, gap_tree_of, IsGapTree, AreGapTrees}
-use Rattle.cert_forest.specs.Walks.{gap_root_of, gap_children_of, IsNextGap}
 use Rattle.cert_forest.proofs.Spelled.{each_alone, each_append, GivesBack, each_again, are_spelled}
 
 -- ---- as many as a count says

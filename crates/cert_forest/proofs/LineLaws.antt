@@ -1,27 +1,12 @@
 -- Lines are read exactly.
 use Rattle.std.proofs.Common.{◌≡◌, ℕ, zero, suc, ◌-◌, ◌<◌, ◌≤◌, ◌^◌, true, List, [], ◌∷◌, ◌++◌, length, map, Option, Some, refl, sym, ap, subst, ◌∙◌, append_assoc, arith, inl, inr}
-use Rattle.std.specs.Prelude.{codes}
-use Rattle.std.specs.List.{AllByRecursion, list_all}
-use Rattle.std.specs.Fmt.{decimal}
-use Rattle.std.proofs.lemmas.List.{append-nil}
-use Rattle.tso_machine.specs.declared.label.Label.{Label}
-use Rattle.tso_machine.specs.RunTexts.{spelling, IsLabel}
 use Rattle.std.specs.FinSet as set
-use Rattle.gap_sets.specs.declared.gap_set.TheConstants.{MAX_GAPS}
-use Rattle.gap_sets.specs.Gaps.{SetOfGaps, IsGapSet, numbers_of_set}
-use Rattle.cert_words.specs.declared.numbers.TheConstants.{MAX_COUNT}
-use Rattle.cert_forest.specs.declared.tree.TheConstants.{MAX_COVER_DEPTH, MAX_GAP_DEPTH}
-use Rattle.cert_forest.specs.Trees.{Cover, Gap}
-use Rattle.cert_words.specs.Lines.{texts_of, line}
-use Rattle.cert_forest.specs.Texts.{cover_words, gap_words, labels_line, runs_lines}
+use Rattle.cert_forest.proofs.Vocabulary.{codes, AllByRecursion, list_all, decimal, append-nil, Label, spelling, IsLabel, MAX_GAPS, SetOfGaps, IsGapSet, numbers_of_set, MAX_COUNT, MAX_COVER_DEPTH}
+use Rattle.cert_forest.proofs.Vocabulary.{MAX_GAP_DEPTH, Cover, Gap, texts_of, line, cover_words, gap_words, labels_line, runs_lines, ◌>>=◌, is_inner, line_name_at, end_at, begins_word}
+use Rattle.cert_forest.proofs.Vocabulary.{number_within_at, repeat_at, label_word_at, run_labels_at, gap_number_at, ascending_at, run_at, runs_at, set_at, cost_at, cover_at, gap_at, cover_line_at}
+use Rattle.cert_forest.proofs.Vocabulary.{gap_line_at, bind_some, kept_out, by_test, same_Some, name_takes, name_again, end_takes, end_again, number_text, number_exact, below64}
 use Rattle.cert_forest.specs.Limits.{IsWrittenRun, AreRuns, IsCoverTo, IsGapTo}
-use Rattle.text_tokens.specs.Steps.{◌>>=◌}
-use Rattle.cert_words.specs.Words.{is_inner, line_name_at, end_at, begins_word, number_within_at, repeat_at}
-use Rattle.cert_forest.specs.Internal.Reading.{label_word_at, run_labels_at, gap_number_at, ascending_at, run_at, runs_at, set_at, cost_at, cover_at, gap_at, cover_line_at, gap_line_at}
-use Rattle.text_tokens.proofs.StepLaws.{bind_some, kept_out, by_test}
-use Rattle.std.proofs.lemmas.Option.{same_Some}
 use Rattle.cert_words.proofs.Steps.{Starts, done_with, IsExact, repeat_takes, repeat_free}
-use Rattle.cert_words.proofs.WordLaws.{name_takes, name_again, end_takes, end_again, number_text, number_exact, below64}
 use Rattle.cert_forest.proofs.AscendingLaws.{numbers_start, numbers_take, numbers_again}
 use Rattle.cert_forest.proofs.NameLaws.{label_text, label_exact}
 use Rattle.cert_forest.proofs.TreeTexts.{texts_map, cover_text, gap_text}

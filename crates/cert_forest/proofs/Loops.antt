@@ -1,15 +1,8 @@
 -- Lists, read by a loop.
 use Rattle.std.proofs.Common.{◌≡◌, ℕ, zero, suc, ◌+◌, ◌-◌, ◌<◌, ◌≤◌, true, false, List, [], ◌∷◌, ◌++◌, Option, Some, None, refl, sym, ap, ◌∙◌, arith}
-use Rattle.std.specs.Prelude.{nat_lt}
-use Rattle.std.proofs.lemmas.Bool.{lt-ltb, le-ltb}
 use Rattle.std.specs.FinSet as set
-use Rattle.gap_sets.specs.Gaps.{SetOfGaps}
-use Rattle.tso_machine.specs.declared.label.Label.{Label}
-use Rattle.cert_words.specs.declared.refusal.Stop.{Stop}
-use Rattle.cert_words.specs.declared.refusal.Stop.TheVariants.{Refused, OutOfMemory}
-use Rattle.text_tokens.specs.Steps.{Fails}
-use Rattle.cert_words.specs.Words.{begins_word, repeat_at, stops_for_memory}
-use Rattle.cert_forest.specs.Internal.Reading.{label_word_at, run_labels_at, ascending_at}
+use Rattle.cert_forest.proofs.Vocabulary.{nat_lt, lt-ltb, le-ltb, SetOfGaps, Label, Stop, Refused, OutOfMemory, Fails, begins_word, repeat_at, stops_for_memory, label_word_at, run_labels_at}
+use Rattle.cert_forest.proofs.Vocabulary.{ascending_at}
 
 one_less : (n k : ℕ) → k < n → n - k ≡ suc (n - (k + 1))
 one_less n k lt = omega arith

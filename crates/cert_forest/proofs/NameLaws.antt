@@ -2,29 +2,18 @@
 use Rattle.std.proofs.Common.{◌≡◌, ℕ, ◌<◌, ◌==◌, Bool, true, false, cond, List, [], ◌∷◌, ◌++◌, length, take, drop, Some, None, refl, sym, ap, subst, ◌∙◌, arith, inl, inr}
 use Rattle.std.specs.List.{list_all, prefix_len}
 use Rattle.std.specs.Char.{is_ascii_digit}
-use Rattle.std.specs.Fmt.{decimal}
 use Rattle.std.proofs.lemmas.Bool.{and_parts, and_from, eqb-true}
-use Rattle.std.proofs.lemmas.Bool.Decides.{nat_tests}
 use Rattle.std.proofs.lemmas.List.{take_at, drop_at, take-append-drop}
 use Rattle.std.proofs.lemmas.Fmt.{digits_decimal}
+use Rattle.cert_forest.proofs.Vocabulary.{decimal, nat_tests, Kind, Label, spaced, ◌>>=◌, is_inner, letter_at, bind_some, by_test, cond_some, same_Some, Starts, IsExact, AccessId, IsAccessId}
 use Rattle.text_tokens.proofs.NumberLaws.{own, plain_number_takes, plain_number_again}
 use Rattle.text_tokens.specs.Numbers.{plain_number_at}
-use Rattle.candidate_executions.specs.declared.event.Kind.{Kind}
 use Rattle.candidate_executions.specs.declared.event.Kind.TheVariants as kinds
-use Rattle.tso_machine.specs.declared.label.Label.{Label}
 use Rattle.tso_machine.specs.declared.label.Label.TheVariants.{Exec, Flush}
 use Rattle.tso_machine.specs.RunTexts.{spelling, IsLabel, label_at}
 use Rattle.tso_machine.proofs.RunLabels.{label_takes, label_again}
-use Rattle.cert_words.specs.Lines.{spaced}
-use Rattle.text_tokens.specs.Steps.{◌>>=◌}
-use Rattle.cert_words.specs.Words.{is_inner, letter_at}
-use Rattle.text_tokens.proofs.StepLaws.{bind_some, by_test}
-use Rattle.std.proofs.lemmas.Option.{cond_some, same_Some}
-use Rattle.cert_words.proofs.Steps.{Starts, IsExact}
 use Rattle.cert_words.proofs.WordLaws.{prefix_is, after_prefix, decimal_inner, letter_takes, letter_again, spaced_exact}
-use Rattle.cert_forest.specs.declared.tree.AccessId.{AccessId}
 use Rattle.cert_forest.specs.Texts.{access_word, kind_word}
-use Rattle.cert_forest.specs.Limits.{IsAccessId}
 use Rattle.cert_forest.specs.Internal.Reading.{is_no_stop, access_tail, access_of, access_at, kind_of, kind_at, label_word_at}
 
 -- ---- accesses

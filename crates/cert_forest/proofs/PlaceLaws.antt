@@ -1,18 +1,9 @@
 -- The words of registers and locations: what the reader takes of each, and that it takes each again.
 use Rattle.std.proofs.Common.{◌≡◌, ℕ, ◌+◌, ◌-◌, ◌/◌, ◌%◌, ◌<◌, ◌≤◌, ◌==◌, ◌&&◌, Bool, true, false, cond, List, [], ◌∷◌, ◌++◌, Some, None, refl, sym, ap, subst, ◌∙◌, arith, inl, inr}
 use Rattle.std.specs.Prelude.{nat_lt, nat_le}
-use Rattle.std.specs.List.{list_all}
-use Rattle.std.specs.Fmt.{decimal}
 use Rattle.std.proofs.lemmas.Bool.{and_parts, eqb-true, leb-true, le-leb, lt-ltb, le-ltb, cases_lt}
-use Rattle.std.proofs.lemmas.Fmt.{decimal_digit}
+use Rattle.cert_forest.proofs.Vocabulary.{list_all, decimal, decimal_digit, spaced, ◌>>=◌, is_inner, bind_some, cond_some, same_Some, IsExact, spaced_exact}
 use Rattle.tso_program.specs.Names.{register_place, location_place}
-use Rattle.cert_words.specs.Lines.{spaced}
-use Rattle.text_tokens.specs.Steps.{◌>>=◌}
-use Rattle.cert_words.specs.Words.{is_inner}
-use Rattle.text_tokens.proofs.StepLaws.{bind_some}
-use Rattle.std.proofs.lemmas.Option.{cond_some, same_Some}
-use Rattle.cert_words.proofs.Steps.{IsExact}
-use Rattle.cert_words.proofs.WordLaws.{spaced_exact}
 use Rattle.tso_program.specs.declared.instruction.TheConstants.{REGISTERS}
 use Rattle.tso_program.specs.declared.limits.TheConstants.{MAX_THREADS, MAX_LOCATIONS}
 use Rattle.tso_program.specs.declared.shown.TheConstants.{REGISTER_PLACES, PLACES}

@@ -1,12 +1,7 @@
 -- Nodes of trees, as the code reads them.
 use Rattle.std.proofs.Common.{◌≡◌, ℕ, suc, ◌-◌, ◌<◌, ◌==◌, false, List, [], Some, None, refl, ap, ◌∙◌, arith, inl, inr}
-use Rattle.std.proofs.lemmas.Bool.{cases_Bool, eqb-true}
-use Rattle.cert_words.specs.declared.refusal.Stop.{Stop}
-use Rattle.cert_words.specs.declared.refusal.Stop.TheVariants.{Refused, OutOfMemory}
-use Rattle.cert_forest.specs.Trees.{Gap, Split, Bound, gap_trees_of}
-use Rattle.text_tokens.specs.Steps.{Fails}
-use Rattle.cert_words.specs.Words.{letter_at, repeat_at, stops_for_memory}
-use Rattle.cert_forest.specs.Internal.Reading.{Head, head_at, below_at, cover_at, split_at, gap_by, gap_at}
+use Rattle.cert_forest.proofs.Vocabulary.{cases_Bool, eqb-true, Stop, Refused, OutOfMemory, Gap, Split, Bound, gap_trees_of, Fails, letter_at, repeat_at, stops_for_memory, Head, head_at, below_at}
+use Rattle.cert_forest.proofs.Vocabulary.{cover_at, split_at, gap_by, gap_at}
 
 less : (d : ℕ) → 0 < d → d ≡ suc (d - 1)
 less d lt = omega arith

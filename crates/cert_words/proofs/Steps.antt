@@ -1,11 +1,8 @@
 -- Readers and the texts that they read, in both directions.
 use Rattle.std.proofs.Common.{◌≡◌, ℕ, zero, suc, Bool, false, List, [], ◌∷◌, ◌++◌, length, Option, Some, refl, sym, ap, ◌∙◌, append_assoc}
 use Rattle.std.specs.List.{AllByRecursion}
-use Rattle.std.proofs.lemmas.List.{append-nil}
+use Rattle.cert_words.proofs.Vocabulary.{append-nil, same_Some, ◌>>=◌, bind_some}
 use Rattle.cert_words.specs.Lines.{texts_of}
-use Rattle.std.proofs.lemmas.Option.{same_Some}
-use Rattle.text_tokens.specs.Steps.{◌>>=◌}
-use Rattle.text_tokens.proofs.StepLaws.{bind_some}
 use Rattle.cert_words.specs.Words.{is_inner, repeat_at}
 
 -- at the end, or at a byte that fails a test

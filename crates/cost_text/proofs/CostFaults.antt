@@ -2,17 +2,12 @@
 use Rattle.std.proofs.Common.{◌≡◌, ◌≢◌, ◌==◌, ℕ, ◌<◌, Bool, true, false, List, [], ◌∷◌, ◌++◌, length, get_or, Some, None, Result, Ok, Err, refl, sym, ap, ◌∙◌, arith, inl, inr, nat_lt, nat_le, position}
 use Rattle.std.specs.Prelude.{not}
 use Rattle.std.specs.List.{position_or_len}
-use Rattle.std.proofs.lemmas.Bool.{cases_Bool, cases_eq, lt-ltb}
-use Rattle.std.proofs.lemmas.Bool.Decides.{nat_tests}
 use Rattle.std.proofs.lemmas.List.Sums.{prefix_len_is}
-use Rattle.gap_sets.specs.declared.costs.CostFault.{CostFault}
+use Rattle.cost_text.proofs.Vocabulary.{cases_Bool, cases_eq, lt-ltb, nat_tests, CostFault, Entry, said_of, costs_of, cost_or_fault, MAX_GAPS}
 use Rattle.gap_sets.specs.declared.costs.CostFault.TheVariants.{Zero, TooLarge}
 use Rattle.gap_sets.specs.CostLists.{IsCostList, first_free, first_cost_fault}
 use Rattle.gap_sets.proofs.CostLimits.{none_found, not_free, not_too_large, not_too_many}
-use Rattle.cost_text.specs.CostTexts.{Entry, said_of, costs_of}
-use Rattle.cost_text.specs.Internal.TextReading.{cost_or_fault}
 use Rattle.cost_text.proofs.EntryLaws.{IsCost, cost_there, others_within, same_length, few_gaps}
-use Rattle.gap_sets.specs.declared.gap_set.TheConstants.{MAX_GAPS}
 
 -- the first element that passes a test
 position_is : (p : ℕ → Bool) (xs : List ℕ) (i : ℕ) → i < length xs → p (get_or xs i 0) ≡ true → ((k : ℕ) → k < i → p (get_or xs k 0) ≡ false) → position p xs ≡ Some i

@@ -1,14 +1,9 @@
 -- Entries, and the table and the costs that they give.
 use Rattle.std.proofs.Common.{◌≡◌, ◌≢◌, ◌==◌, ℕ, ◌<◌, ◌≤◌, true, false, List, [], ◌∷◌, ◌++◌, length, get_or, map, set, Option, Some, None, refl, sym, ap, ◌∙◌, subst, arith, inl, inr, unwrap_or}
 use Rattle.std.specs.List.{range_with_len}
-use Rattle.std.proofs.lemmas.Bool.{cases_Bool, cases_eq}
-use Rattle.std.proofs.lemmas.Bool.Decides.{nat_tests}
 use Rattle.std.proofs.lemmas.List.{length-set, get_or-set_same, get_or-set_other}
 use Rattle.std.proofs.lemmas.List.FromFn.{fill_by_all, length-map-range_with_len, get_or-map-range_with_len}
-use Rattle.gap_sets.specs.CostLists.{IsCostList}
-use Rattle.cost_text.specs.CostTexts.{Entry, said_of, NoGapTwice, costs_of}
-use Rattle.cost_text.specs.Internal.TextReading.{table_of}
-use Rattle.gap_sets.specs.declared.gap_set.TheConstants.{MAX_GAPS}
+use Rattle.cost_text.proofs.Vocabulary.{cases_Bool, cases_eq, nat_tests, IsCostList, Entry, said_of, NoGapTwice, costs_of, table_of, MAX_GAPS}
 
 -- ---- what entries say
 

@@ -1,15 +1,8 @@
 -- What is found of a line after others.
 use Rattle.std.proofs.Common.{◌≡◌, ◌==◌, ℕ, ◌<◌, ◌≤◌, true, false, List, get_or, Option, Some, None, Result, Ok, Err, refl, sym, ap, ◌∙◌, arith, inl, inr}
 use Rattle.std.specs.Prelude.{is_some, nat_le}
-use Rattle.std.proofs.lemmas.Bool.{cases_Bool}
-use Rattle.std.proofs.lemmas.Bool.Decides.{nat_tests}
-use Rattle.gap_sets.specs.declared.costs.CostFault.{CostFault}
-use Rattle.tso_program.specs.declared.listing.Thread.{Thread}
-use Rattle.tso_program.specs.Listings.{gap_count, gap_number}
-use Rattle.tso_program.proofs.Gaps.{gap_below}
-use Rattle.cost_text.specs.CostTexts.{Entry, IsCostEntry, said_of, IsOfNoGap, IsRepeated, IsOfNoCost}
-use Rattle.cost_text.specs.Internal.LineReading.{Digits, digits_in, said_by}
-use Rattle.cost_text.specs.Internal.TextReading.{cost_or_fault, IsCostTable, IsNewEntry}
+use Rattle.cost_text.proofs.Vocabulary.{cases_Bool, nat_tests, CostFault, Thread, gap_count, gap_number, gap_below, Entry, IsCostEntry, said_of, IsOfNoGap, IsRepeated, IsOfNoCost, Digits, digits_in}
+use Rattle.cost_text.proofs.Vocabulary.{said_by, cost_or_fault, IsCostTable, IsNewEntry}
 use Rattle.cost_text.proofs.LineLaws.{line_read}
 use Rattle.cost_text.proofs.EntryLaws.{table_at}
 use Rattle.cost_text.proofs.CostFaults.{first_fault}

@@ -1,3 +1,5 @@
+-- what many proofs speak of
+mod Vocabulary
 pub mod LineLaws
 pub mod EntryLaws
 pub mod CostFaults

@@ -2,21 +2,13 @@
 use Rattle.std.proofs.Common.{◌≡◌, ℕ, ◌+◌, ◌<◌, ◌≤◌, List, [], ◌∷◌, ◌++◌, length, get_or, map, set, take, drop, Option, Some, None, refl, sym, ap, ◌∙◌, subst, arith}
 use Rattle.std.specs.Prelude.{unwrap_or, IfSome}
 use Rattle.std.proofs.lemmas.List.{append-nil, take-append-drop, take_more, drop_more, length-take}
-use Rattle.gap_sets.specs.declared.costs.CostFault.{CostFault}
-use Rattle.gap_sets.specs.CostLists.{IsCostList, first_cost_fault}
-use Rattle.tso_program.specs.declared.listing.Thread.{Thread}
-use Rattle.tso_program.specs.Listings.{gap_count, gap_number}
-use Rattle.tso_program.proofs.Gaps.{gap_below}
-use Rattle.cost_text.specs.declared.fault.CostTextFault.{CostTextFault}
+use Rattle.cost_text.proofs.Vocabulary.{CostFault, IsCostList, first_cost_fault, Thread, gap_count, gap_number, gap_below, CostTextFault, AreLineSpaces, Said, table_of, IsCostTable, IsNewEntry}
+use Rattle.cost_text.proofs.Vocabulary.{IsTableOf, MAX_GAPS}
 use Rattle.cost_text.specs.declared.fault.CostTextFault.TheVariants as fault
-use Rattle.text_tokens.specs.Bytes.{AreLineSpaces}
-use Rattle.cost_text.specs.CostLines.{Said}
 use Rattle.cost_text.specs.CostTexts.{Entry, IsCostEntry, ListsEntries, none, blank, entry, said_of, NoGapTwice, costs_of, GiveCosts, IsCostText, StandsAt, IsLineFault, IsRefusedAt, AreRefused, RefusesCosts, lines_of, IsOfNoCost, IsOfNoGap, IsRepeated, SaysNothing}
-use Rattle.cost_text.specs.Internal.TextReading.{table_of, IsCostTable, IsNewEntry, IsTableOf}
 use Rattle.cost_text.proofs.LineLaws.{said_once, blank_says_nothing}
 use Rattle.cost_text.proofs.EntryLaws.{IsCost, said_there, once_more, not_twice, table_more, length-table_of, costs_at, length-costs_of, no_costs, within_more, costs_from_table}
 use Rattle.gap_sets.proofs.CostLimits.{no_fault-from_IsCostList}
-use Rattle.gap_sets.specs.declared.gap_set.TheConstants.{MAX_GAPS}
 
 -- ---- one more line
 

@@ -3,27 +3,15 @@ use Rattle.std.proofs.Common.{◌≡◌, ◌↔◌, ℕ, true, false, Bool, not,
 use Rattle.std.specs.Global.{Vec}
 use Rattle.std.specs.List.{AllPairs}
 use Rattle.std.specs.Option.{is_some}
-use Rattle.std.proofs.lemmas.List.{length-map}
 use Rattle.std.proofs.lemmas.List.Elements.{All-map, All-contains_itself, All-weaker}
-use Rattle.std.proofs.lemmas.Option.{same_Some}
-use Rattle.tso_program.specs.declared.listing.Listing.{Listing}
-use Rattle.tso_program.specs.declared.outcome.Outcome.{Outcome}
-use Rattle.tso_program.specs.declared.shown.Shown.{Shown}
-use Rattle.tso_program.specs.Shown.{asked}
+use Rattle.cover_judge.proofs.Vocabulary.{length-map, same_Some, Listing, Outcome, Shown, asked, Event, ProgramSketch, mode_in, AccessId, one_list_of_values, one_list_of_sources, TreeFault, Wrong}
+use Rattle.cover_judge.proofs.Vocabulary.{OutOfMemory, Choice, HasNoValues, HasNoSources}
 use Rattle.cert_forest.specs.Machine as machine
-use Rattle.candidate_executions.specs.declared.event.Event.{Event}
 use Rattle.candidate_executions.specs.Events.{ComesBefore}
 use Rattle.candidate_executions.specs.Sketches.{Sketch, IsSourceOf, IsPair, IsWhole, MustEndAs}
-use Rattle.sketches.specs.ProgramSketches.{ProgramSketch, mode_in}
 use Rattle.sketches.specs.Choices as choices
-use Rattle.cert_forest.specs.declared.tree.AccessId.{AccessId}
 use Rattle.tree_laws.specs.CoverTrees.{event_of, HasNextValues, HasSources, HasNoOrder, MustEndAsNumber}
-use Rattle.tree_laws.proofs.OneList.{one_list_of_values, one_list_of_sources}
-use Rattle.cover_judge.specs.declared.fault.TreeFault.{TreeFault}
-use Rattle.cover_judge.specs.declared.fault.TreeFault.TheVariants.{Wrong, OutOfMemory}
-use Rattle.cover_judge.specs.declared.choice.Choice.{Choice}
 use Rattle.cover_judge.specs.declared.choice.Choice.TheVariants as choice
-use Rattle.cover_judge.specs.CoverDefects.{HasNoValues, HasNoSources}
 use Rattle.cover_judge.specs.Choices.{MayChoose, MayChooseEach, IsValueOpen, IsSourceOpen, AreValueChoices, AreSourceChoices}
 use Rattle.cover_judge.specs.Judged.{IfWrong, IsAtRoot, IsBelow, IsFrom, AreSoMany, AreNotSoMany}
 

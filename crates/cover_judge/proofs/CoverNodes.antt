@@ -1,20 +1,11 @@
 -- What a node of a cover tree says, and what its children are judged for.
 use Rattle.std.proofs.Common.{◌≡◌, ℕ, zero, suc, List, [], ◌∷◌, length, map, sym, ap, ◌∙◌, subst, arith}
-use Rattle.std.proofs.lemmas.List.{length-map}
-use Rattle.tso_program.specs.declared.outcome.Outcome.{Outcome}
-use Rattle.tso_program.specs.declared.shown.Shown.{Shown}
-use Rattle.tso_program.specs.Shown.{asked}
+use Rattle.cover_judge.proofs.Vocabulary.{length-map, Outcome, Shown, asked, ProgramSketch, mode_in, AccessId, Cover, Value, Source, Order, covers_of, event_of, HasNoOrder, AreValidCovers, Choice}
+use Rattle.cover_judge.proofs.Vocabulary.{FirstWrongCoverChild, HasNoValues, HasNoSources, sketch_with, MayChoose, AreValueChoices, AreSourceChoices, IsAtRoot, IsBelow, IsValidAfter, IsWrongAt}
+use Rattle.cover_judge.proofs.Vocabulary.{AreValidAfter, IsWrongChild}
 use Rattle.candidate_executions.specs.Sketches as sketches
-use Rattle.sketches.specs.ProgramSketches.{ProgramSketch, mode_in}
-use Rattle.cert_forest.specs.declared.tree.AccessId.{AccessId}
-use Rattle.cert_forest.specs.Trees.{Cover, Value, Source, Order, covers_of}
 use Rattle.cert_forest.proofs.TreeTexts.{covers_count}
-use Rattle.tree_laws.specs.CoverTrees.{event_of, HasNoOrder, AreValidCovers}
-use Rattle.cover_judge.specs.declared.choice.Choice.{Choice}
 use Rattle.cover_judge.specs.declared.choice.Choice.TheVariants as choice
-use Rattle.cover_judge.specs.CoverDefects.{FirstWrongCoverChild, HasNoValues, HasNoSources}
-use Rattle.cover_judge.specs.Choices.{sketch_with, MayChoose, AreValueChoices, AreSourceChoices}
-use Rattle.cover_judge.specs.Judged.{IsAtRoot, IsBelow, IsValidAfter, IsWrongAt, AreValidAfter, IsWrongChild}
 use Rattle.cover_judge.proofs.Mapped.{map_map}
 use Rattle.cover_judge.proofs.ChoicesJudged.{no_order}
 

@@ -1,13 +1,6 @@
 -- A leaf for a read that has no source is valid.
 use Rattle.std.proofs.Common.{[], List, Contains, arith}
-use Rattle.tso_program.specs.declared.outcome.Outcome.{Outcome}
-use Rattle.tso_program.specs.declared.shown.Shown.{Shown}
-use Rattle.sketches.specs.ProgramSketches.{ProgramSketch}
-use Rattle.sketches.specs.ValueSketches.{LacksSource}
-use Rattle.cert_forest.specs.declared.tree.AccessId.{AccessId}
-use Rattle.cert_forest.specs.Trees.{Source, NoCover}
-use Rattle.tree_laws.specs.CoverTrees.{event_of}
-use Rattle.cover_judge.specs.Judged.{IsValidAfter}
+use Rattle.cover_judge.proofs.Vocabulary.{Outcome, Shown, ProgramSketch, LacksSource, AccessId, Source, NoCover, event_of, IsValidAfter}
 
 none_in : {A : Type 0} (x : A) → Contains [] x → ⊥
 none_in x h = let n = h.1 in omega arith

@@ -1,15 +1,9 @@
 -- What holds of the sketch that a choice makes holds of the sketch with the choice.
 use Rattle.std.proofs.Common.{◌≡◌, [], ◌∷◌, refl, sym, subst}
 use Rattle.std.proofs.lemmas.List.{append-nil}
-use Rattle.tso_program.specs.declared.listing.Listing.{Listing}
-use Rattle.cert_forest.specs.Machine.{Machine}
-use Rattle.candidate_executions.specs.Sketches.{Sketch}
-use Rattle.sketches.specs.ProgramSketches.{ProgramSketch, mode_in, with_chosen}
+use Rattle.cover_judge.proofs.Vocabulary.{Listing, Machine, Sketch, ProgramSketch, mode_in, with_chosen, event_of, Choice, sketch_with}
 use Rattle.sketches.specs.Marks.{ComesAfter}
-use Rattle.tree_laws.specs.CoverTrees.{event_of}
-use Rattle.cover_judge.specs.declared.choice.Choice.{Choice}
 use Rattle.cover_judge.specs.declared.choice.Choice.TheVariants as choice
-use Rattle.cover_judge.specs.Choices.{sketch_with}
 
 pub moved : (F : Listing → Machine → Sketch → Type 0) (s next : ProgramSketch) (c : Choice) → next ≡ with_chosen s (sketch_with s.chosen c) →
     F next.program (mode_in next) next.chosen → F s.program (mode_in s) (sketch_with s.chosen c)

@@ -1,18 +1,11 @@
 -- A valid cover tree has no wrong node, and any other has one first wrong node.
 use Rattle.std.proofs.Common.{◌≡◌, ℕ, zero, suc, List, [], ◌∷◌, length, map, refl, ap, ◌∙◌, subst}
-use Rattle.std.proofs.lemmas.List.{length-map}
-use Rattle.tso_program.specs.declared.outcome.Outcome.{Outcome}
+use Rattle.cover_judge.proofs.Vocabulary.{length-map, Outcome, Machine, event_of, IsValidCover, AreValidCovers, one_list_of_values, one_list_of_sources, TreeFault, Wrong, OutOfMemory, FirstWrongCover}
+use Rattle.cover_judge.proofs.Vocabulary.{FirstWrongCoverChild, IfWrong}
 use Rattle.tso_program.specs.Shown.{Question}
-use Rattle.cert_forest.specs.Machine.{Machine}
 use Rattle.candidate_executions.specs.Sketches.{Sketch, with_value, with_source, with_pair}
 use Rattle.cert_forest.specs.Trees.{Cover, Value, Source, Order, Cycle, Known, Covers, NoCover, MoreCovers}
 use Rattle.cert_forest.specs.Texts.{count_covers}
-use Rattle.tree_laws.specs.CoverTrees.{event_of, IsValidCover, AreValidCovers}
-use Rattle.tree_laws.proofs.OneList.{one_list_of_values, one_list_of_sources}
-use Rattle.cover_judge.specs.declared.fault.TreeFault.{TreeFault}
-use Rattle.cover_judge.specs.declared.fault.TreeFault.TheVariants.{Wrong, OutOfMemory}
-use Rattle.cover_judge.specs.CoverDefects.{FirstWrongCover, FirstWrongCoverChild}
-use Rattle.cover_judge.specs.Judged.{IfWrong}
 
 -- the path to the next sibling
 abbrev pub next_sibling : List ℕ → List ℕ

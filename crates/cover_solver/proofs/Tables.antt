@@ -4,37 +4,27 @@ use Rattle.std.specs.Prelude.{Result, Ok, Err, IfOk, IfErr, is_ok, ◌^◌}
 use Rattle.std.specs.FinSet as set
 use Rattle.std.proofs.lemmas.Option.{same_Some}
 use Rattle.gap_sets.specs.Gaps.{SetOfGaps}
-use Rattle.tso_program.specs.declared.listing.Listing.{Listing}
-use Rattle.tso_program.specs.declared.outcome.Outcome.{Outcome}
-use Rattle.tso_program.specs.declared.shown.Shown.{Shown}
 use Rattle.tso_program.specs.Shown.{Question, show, asked}
-use Rattle.tso_program.specs.Limits.{JumpForward}
 use Rattle.tso_program.specs.Fences.{gaps_in}
-use Rattle.tso_machine.specs.declared.label.Label.{Label}
 use Rattle.tso_machine.specs.declared.replaying.ReplayFault.{ReplayFault}
 use Rattle.tso_machine.specs.declared.replaying.ReplayFault.TheVariants as replays
-use Rattle.tso_machine.specs.Faults.{ReplayFaultIs}
 use Rattle.tso_machine.proofs.Refused.{no_fault}
 use Rattle.tree_laws.proofs.Lists.{found_is_here}
 use Rattle.cover_solver.specs.declared.fault.ForeignFault.TheVariants as foreign
 use Rattle.cover_solver.specs.ForeignFaults.{ForeignFaultIs, of_replay}
 use Rattle.tso_machine.specs.Machine.{Machine, SequentialMachine, StoreBufferMachine, no_gaps, outcome_at, IsRun}
-use Rattle.tso_machine.specs.Modes.{ArePassed}
-use Rattle.tso_machine.specs.Outcomes.{IsShownRun, IsForeignRun}
 use Rattle.fence_laws.proofs.GapsAvoided.{fenced_runs_avoid}
 use Rattle.cert_forest.specs.Trees.{Cover}
 use Rattle.tree_laws.proofs.ListedOutcomes.{fenced_tree_serves}
 use Rattle.sketch_covers.specs.Covers.{IsWholeCover}
 use Rattle.cover_solver.specs.Facts.{IsSequentialTable, IsListOf, IsServing}
 use Rattle.sketch_covers.specs.OutcomeNumbers.{AreRunsOf, place_in, ArePlacesOf}
-use Rattle.partial_covers.proofs.OtherNumbers.{renumbered}
 use Rattle.tso_program.specs.Ordered.{outcome_cmp}
-use Rattle.sketch_covers.specs.Ascending.{BelongsAt}
 use Rattle.tree_laws.proofs.OneList.{one_list}
-use Rattle.sketch_covers.proofs.Inserted.{not_there}
 use Rattle.partial_covers.proofs.RenumberedTrees.{whole_renumbered}
 use Rattle.tso_program.proofs.OutcomesOrdered.{one_way}
 use Rattle.std.specs.declared.cmp.Ordering.TheVariants.{Less}
+use Rattle.cover_solver.proofs.Vocabulary.{Listing, Outcome, Shown, JumpForward, Label, ReplayFaultIs, ArePassed, IsShownRun, IsForeignRun, renumbered, BelongsAt, not_there}
 
 -- a question by its parts
 pub same_question : (q : Question) (p : Listing) (shown : Shown) → p ≡ q.program → shown ≡ q.shown → asked p shown ≡ q

@@ -2,18 +2,13 @@
 use Rattle.std.proofs.Common.{◌≡◌, ◌↔◌, ℕ, Bool, List, Option, Some, None, Contains, slice_get, sym, ap, subst, ◌∙◌}
 use Rattle.std.specs.Prelude.{MatchOption}
 use Rattle.std.specs.Global.{Vec}
+use Rattle.cover_solver.proofs.Vocabulary.{Listing, Outcome, Label, Machine, IsShownRun, AllowsShown, AreRunsOf}
 use Rattle.tso_program.specs.declared.atom.Atom.{Atom}
-use Rattle.tso_program.specs.declared.listing.Listing.{Listing}
-use Rattle.tso_program.specs.declared.outcome.Outcome.{Outcome}
 use Rattle.tso_program.specs.declared.shown.Shown.TheVariants.{Truth}
 use Rattle.tso_program.specs.Tree.{Tree}
 use Rattle.tso_program.specs.Truth.{truth}
 use Rattle.tso_program.specs.Shown.{told, asked, Question}
 use Rattle.tso_program.proofs.ReadOff.{told_apart}
-use Rattle.tso_machine.specs.declared.label.Label.{Label}
-use Rattle.tso_machine.specs.Machine.{Machine}
-use Rattle.tso_machine.specs.Outcomes.{IsShownRun, AllowsShown}
-use Rattle.sketch_covers.specs.OutcomeNumbers.{AreRunsOf}
 use Rattle.cover_solver.specs.Witnesses.{IsWitness, HasNoWitness}
 
 -- a run that shows a truth

@@ -1,12 +1,8 @@
 -- Steps, one more; and the labels of the steps of a run.
 use Rattle.std.proofs.Common.{◌≡◌, List, [], ◌∷◌, ◌++◌, map, refl}
-use Rattle.tso_program.specs.declared.listing.Listing.{Listing}
-use Rattle.tso_machine.specs.declared.label.Label.{Label}
-use Rattle.tso_machine.specs.declared.stepping.Step.{Step}
+use Rattle.documents.proofs.Vocabulary.{Listing, Label, Step, StepPart, HasLabel, HaveLabels}
 use Rattle.tso_machine.specs.Machine.{Machine, State}
 use Rattle.tso_machine.specs.Steps.{AreSteps}
-use Rattle.documents.specs.declared.step.StepPart.{StepPart}
-use Rattle.documents.specs.Runs.{HasLabel, HaveLabels}
 
 pub one_more_step : (labels : List Label) (parts : List StepPart) (label : Label) (part : StepPart) → HaveLabels labels parts → HasLabel label part → HaveLabels (labels ++ label ∷ []) (parts ++ part ∷ [])
 one_more_step [] [] label part have has = (has, tt)

@@ -1,14 +1,7 @@
 -- With every gap fenced a run passes none, so its outcome is sequential.
 use Rattle.std.proofs.Common.{List}
-use Rattle.gap_sets.specs.Gaps.{SetOfGaps}
-use Rattle.tso_program.specs.declared.listing.Listing.{Listing}
-use Rattle.tso_program.specs.declared.outcome.Outcome.{Outcome}
-use Rattle.tso_program.specs.Shown.{Question}
-use Rattle.tso_program.specs.Fences.{gaps_in}
+use Rattle.fence_laws.proofs.Vocabulary.{SetOfGaps, Listing, Outcome, Question, gaps_in, JumpForward, Label, start}
 use Rattle.tso_program.proofs.Gaps.{gap_below}
-use Rattle.tso_program.specs.Limits.{JumpForward}
-use Rattle.tso_machine.specs.declared.label.Label.{Label}
-use Rattle.tso_machine.specs.Machine.{start}
 use Rattle.tso_machine.specs.Outcomes.{IsStoreBufferOutcome, IsSequentialOutcome}
 use Rattle.fence_laws.specs.Laws.{PassesNoGap, PassesNoGapOf, HasEveryGapOf, AllGapsServe}
 use Rattle.fence_laws.proofs.SequentialIsBuffered.{sequential_is_allowed}

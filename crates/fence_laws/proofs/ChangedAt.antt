@@ -1,8 +1,6 @@
 -- A function changed at one place.
 use Rattle.std.proofs.Common.{◌≡◌, ℕ, refl, sym, ◌∙◌, subst, inl, inr, eq-eqb, ne_eqb}
-use mathlib.Core.Path.{fun_ext}
-use Rattle.std.proofs.lemmas.Bool.{cases_eq}
-use Rattle.tso_machine.specs.Machine.{put}
+use Rattle.fence_laws.proofs.Vocabulary.{fun_ext, cases_eq, put}
 
 -- there it has the new value
 pub put_same : {A : Type 0} (f : ℕ → A) (n : ℕ) (x : A) → put f n x n ≡ x

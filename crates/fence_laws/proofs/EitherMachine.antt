@@ -1,17 +1,7 @@
 -- The steps of either machine, in one form.
 use Rattle.std.proofs.Common.{◌≡◌, ℕ, Bool, true, false, List, [], ◌∷◌, Option, Some, None, option_and_then, refl, sym, ap, ◌∙◌}
-use Rattle.std.proofs.lemmas.Option.{same_Some}
-use Rattle.tso_program.specs.declared.instruction.Instr.{Instr}
-use Rattle.tso_program.specs.declared.listing.Listing.{Listing}
-use Rattle.tso_program.specs.declared.action.Local.{Local}
-use Rattle.tso_program.specs.declared.action.Action.{Action}
-use Rattle.tso_program.specs.declared.action.Action.TheVariants.{Stop, Go, Wait, Read, Write, Swap}
-use Rattle.tso_program.specs.Actions.{act, loaded}
-use Rattle.tso_program.specs.Listings.{action, instr_at}
-use Rattle.tso_program.specs.Fences.{Gaps}
-use Rattle.tso_machine.specs.declared.label.Label.TheVariants.{Exec, Flush}
-use Rattle.tso_machine.specs.declared.label.Pending.{Pending}
-use Rattle.tso_machine.specs.Machine.{Machine, SequentialMachine, StoreBufferMachine, State, put, when_empty, past_gap, buffered, direct, flushed, step}
+use Rattle.fence_laws.proofs.Vocabulary.{same_Some, Instr, Listing, Local, Action, Stop, Go, Wait, Read, Write, Swap, act, loaded, action, instr_at, Gaps, Exec, Flush, Pending, Machine}
+use Rattle.fence_laws.proofs.Vocabulary.{SequentialMachine, StoreBufferMachine, State, put, when_empty, past_gap, buffered, direct, flushed, step}
 use Rattle.fence_laws.proofs.ChangedAt.{put_other}
 
 -- the store buffer machine with these gaps fenced, or the sequential machine

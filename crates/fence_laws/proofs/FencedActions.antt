@@ -1,12 +1,7 @@
 -- What a moved instruction does is what the instruction does, at the places of the fenced thread.
 use Rattle.std.proofs.Common.{◌≡◌, ℕ, ◌+◌, Bool, true, false, not, Option, Some, None, refl, ap}
-use Rattle.tso_program.specs.declared.instruction.Instr.{Instr}
-use Rattle.tso_program.specs.declared.instruction.Instr.TheVariants.{LoadImm, Copy, Load, StoreImm, Store, Xchg, Fence, CmpImm, CmpReg, Je, Jne, Jmp}
-use Rattle.tso_program.specs.declared.action.Local.{Local}
-use Rattle.tso_program.specs.declared.action.Action.{Action}
-use Rattle.tso_program.specs.declared.action.Action.TheVariants.{Stop, Go, Wait, Read, Write, Swap}
+use Rattle.fence_laws.proofs.Vocabulary.{Instr, LoadImm, Copy, Load, StoreImm, Store, Xchg, Fence, CmpImm, CmpReg, Je, Jne, Jmp, Local, Action, Stop, Go, Wait, Read, Write, Swap, place_of, moved}
 use Rattle.tso_program.specs.Actions.{act, loaded, compared, jumped, value_in}
-use Rattle.tso_program.specs.Fences.{place_of, moved}
 
 -- the state at the same instruction of the fenced thread, before its fence
 abbrev pub placed : (ℕ → Bool) → Local → Local

@@ -1,18 +1,7 @@
 -- A step of the fenced program: its fence, or the step of the instruction.
 use Rattle.std.proofs.Common.{◌≡◌, ℕ, ◌+◌, Bool, true, false, List, [], ◌∷◌, ◌++◌, Option, Some, refl, sym, ap, ◌∙◌}
-use Rattle.std.specs.Option.{option_map}
-use Rattle.tso_program.specs.declared.instruction.Instr.{Instr}
-use Rattle.tso_program.specs.declared.instruction.Instr.TheVariants.{Fence}
-use Rattle.tso_program.specs.declared.listing.Listing.{Listing}
-use Rattle.tso_program.specs.declared.action.Local.{Local}
-use Rattle.tso_program.specs.declared.action.Action.{Action}
-use Rattle.tso_program.specs.declared.action.Action.TheVariants.{Stop, Go, Wait, Read, Write, Swap}
-use Rattle.tso_program.specs.Actions.{act, loaded, onward}
-use Rattle.tso_program.specs.Listings.{action, instr_at}
-use Rattle.tso_program.specs.Fences.{Gaps, place_of, moved, fence}
-use Rattle.tso_machine.specs.declared.label.Label.TheVariants.{Exec}
-use Rattle.tso_machine.specs.declared.label.Pending.{Pending}
-use Rattle.tso_machine.specs.Machine.{no_gaps, State, put, newest, found, when_empty, step}
+use Rattle.fence_laws.proofs.Vocabulary.{option_map, Instr, Fence, Listing, Local, Action, Stop, Go, Wait, Read, Write, Swap, act, loaded, onward, action, instr_at, Gaps, place_of, moved, fence, Exec}
+use Rattle.fence_laws.proofs.Vocabulary.{Pending, no_gaps, State, put, newest, found, when_empty, step}
 use Rattle.fence_laws.proofs.ChangedAt.{put_same}
 use Rattle.fence_laws.proofs.EitherMachine.{mode_with, effect}
 use Rattle.fence_laws.proofs.FencedActions.{placed, fenced_action, act_moved}

@@ -1,22 +1,9 @@
 -- A run with gaps fenced is a run of the fenced program: its fences are executed just before their instructions.
 use Rattle.std.proofs.Common.{◌≡◌, ℕ, suc, ◌+◌, Bool, true, false, List, [], ◌∷◌, ◌++◌, Some, option_and_then, refl, sym, ap, ◌∙◌, subst, inl, inr, arith}
-use Rattle.std.specs.Option.{option_map}
 use Rattle.std.specs.Prelude.{if◌then◌else◌}
-use Rattle.std.proofs.lemmas.Bool.{cases_eq}
-use Rattle.std.proofs.lemmas.Option.{option_and_then_some}
-use Rattle.tso_program.specs.declared.instruction.Instr.{Instr}
-use Rattle.tso_program.specs.declared.instruction.Instr.TheVariants.{Fence}
-use Rattle.tso_program.specs.declared.listing.Listing.{Listing}
-use Rattle.tso_program.specs.declared.action.Local.{Local}
-use Rattle.tso_program.specs.declared.action.Action.TheVariants.{Wait}
-use Rattle.tso_program.specs.Actions.{onward}
-use Rattle.tso_program.specs.Listings.{action, instr_at}
-use Rattle.tso_program.specs.Fences.{Gaps, place_of, moved, fence}
-use Rattle.tso_machine.specs.declared.label.Label.{Label}
-use Rattle.tso_machine.specs.declared.label.Label.TheVariants.{Exec, Flush}
-use Rattle.tso_machine.specs.Machine.{no_gaps, State, put, when_empty, step, run}
+use Rattle.fence_laws.proofs.Vocabulary.{option_map, cases_eq, option_and_then_some, Instr, Fence, Listing, Local, Wait, onward, action, instr_at, Gaps, place_of, moved, fence, Label, Exec, Flush}
+use Rattle.fence_laws.proofs.Vocabulary.{no_gaps, State, put, when_empty, step, run, first_of, instr_at_place, instr_after_fence}
 use Rattle.fence_laws.proofs.ChangedAt.{put_same, put_other}
-use Rattle.tso_program.proofs.FencedPlaces.{first_of, instr_at_place, instr_after_fence}
 use Rattle.fence_laws.proofs.FencedActions.{placed}
 use Rattle.fence_laws.proofs.EitherMachine.{mode_with, effect, NothingWaits, made, others_keep, stands_at, flush_made, flush_makes}
 use Rattle.fence_laws.proofs.FencedSteps.{with_locals, follow, fence_step, instruction_step}

@@ -1,17 +1,7 @@
 -- The outcomes of a fenced program are those of the machine with the gaps fenced.
 use Rattle.std.proofs.Common.{◌≡◌, ◌↔◌, ℕ, ◌+◌, Bool, true, false, List, [], Option, Some, None, refl, sym, ap, ◌∙◌, subst, inl, inr, map, length}
-use Rattle.std.specs.List.{range_with_len}
-use mathlib.Core.Path.{fun_ext}
-use Rattle.tso_program.specs.declared.instruction.Instr.{Instr}
-use Rattle.tso_program.specs.declared.listing.Listing.{Listing}
-use Rattle.tso_program.specs.declared.action.Local.{Local}
-use Rattle.tso_program.specs.declared.action.Action.TheVariants.{Stop}
-use Rattle.tso_program.specs.declared.outcome.Outcome.{Outcome}
-use Rattle.tso_program.specs.Actions.{act}
+use Rattle.fence_laws.proofs.Vocabulary.{range_with_len, fun_ext, Instr, Listing, Local, Stop, Outcome, act, Gaps, place_of, moved, fence, Shown, Question, asked}
 use Rattle.tso_program.specs.Listings.{action, instr_at, start_of}
-use Rattle.tso_program.specs.Fences.{Gaps, place_of, moved, fence}
-use Rattle.tso_program.specs.declared.shown.Shown.{Shown}
-use Rattle.tso_program.specs.Shown.{Question, asked}
 use Rattle.tso_machine.specs.Machine.{Machine, no_gaps, State, start, outcome_at, HasEnded, Allows}
 use Rattle.tso_machine.specs.Outcomes.{AllowsShown, fenced_at}
 use Rattle.fence_laws.specs.Laws.{FencingIsTheMachineWithGaps, FencingKeepsSequentialOutcomes}

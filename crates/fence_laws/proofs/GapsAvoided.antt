@@ -2,12 +2,8 @@
 use Rattle.std.proofs.Common.{◌≡◌, ℕ, Bool, true, false, List, Option, Some, None, refl, sym, ap, ◌∙◌}
 use Rattle.std.specs.Option.{option_map_or}
 use Rattle.std.specs.FinSet as set
-use Rattle.gap_sets.specs.Gaps.{SetOfGaps}
-use Rattle.tso_program.specs.declared.listing.Listing.{Listing}
+use Rattle.fence_laws.proofs.Vocabulary.{SetOfGaps, Listing, gaps_in, Label, StoreBufferMachine, no_gaps, State, start, run, passes}
 use Rattle.tso_program.specs.Listings.{gap_number}
-use Rattle.tso_program.specs.Fences.{gaps_in}
-use Rattle.tso_machine.specs.declared.label.Label.{Label}
-use Rattle.tso_machine.specs.Machine.{StoreBufferMachine, no_gaps, State, start, run, passes}
 use Rattle.tso_machine.proofs.Avoided.{run_fenced, run_avoids}
 use Rattle.fence_laws.specs.Laws.{PassesNoGapOf, FencedRunsPassNoGapOfTheSet, PassedGapsTellTheFencedRuns}
 use Rattle.fence_laws.proofs.Unfenced.{unfenced}

@@ -1,8 +1,6 @@
 -- What the headline says of fenced programs, the answer says of sets of fenced gaps.
 use Rattle.std.proofs.Common.{ℕ, List}
-use Rattle.gap_sets.specs.Gaps.{SetOfGaps}
-use Rattle.tso_program.specs.Shown.{Question}
-use Rattle.tso_program.specs.Fences.{gaps_in}
+use Rattle.fence_laws.proofs.Vocabulary.{SetOfGaps, Question, gaps_in}
 use Rattle.tso_machine.specs.Outcomes.{IsTheAnswer, Headline}
 use Rattle.fence_laws.specs.Laws.{TheHeadlineIsTheAnswer}
 use Rattle.fence_laws.proofs.FencingIsTheMachine.{fencing_is_the_machine}

@@ -1,3 +1,5 @@
+-- what many proofs speak of
+mod Vocabulary
 -- functions changed at a place, and the steps of the machine by cases
 pub mod ChangedAt
 pub mod StepCases

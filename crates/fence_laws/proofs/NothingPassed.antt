@@ -2,13 +2,8 @@
 use Rattle.std.proofs.Common.{◌≡◌, ℕ, ◌+◌, ◌-◌, Bool, true, false, List, Some, refl, sym, ◌∙◌, take}
 use Rattle.std.specs.Ordering.{nat_cmp}
 use Rattle.std.specs.FinSet as set
-use Rattle.tso_program.specs.declared.listing.Listing.{Listing}
-use Rattle.tso_program.specs.Listings.{gap_count}
+use Rattle.fence_laws.proofs.Vocabulary.{Listing, gap_count, JumpForward, Label, no_gaps, StoreBufferMachine, State, run, start, passes, run_fenced}
 use Rattle.tso_program.proofs.Gaps.{gap_is}
-use Rattle.tso_program.specs.Limits.{JumpForward}
-use Rattle.tso_machine.specs.declared.label.Label.{Label}
-use Rattle.tso_machine.specs.Machine.{no_gaps, StoreBufferMachine, State, run, start, passes}
-use Rattle.tso_machine.proofs.Avoided.{run_fenced}
 use Rattle.fence_laws.specs.Laws.{PassesNoGap, ARunThatPassesNothingIsSequential, ARunWithNothingPassedIsSequential}
 use Rattle.fence_laws.proofs.WaitingEverywhere.{all, to_sequential}
 use Rattle.fence_laws.proofs.PassedPlaces.{passed_inside}

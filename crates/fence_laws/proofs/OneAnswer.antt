@@ -1,11 +1,9 @@
 -- No two sets are both the answer.
 use Rattle.std.proofs.Common.{ℕ, ◌≤◌, List, inl, inr, arith}
+use Rattle.fence_laws.proofs.Vocabulary.{Listing, Question, gap_count}
 use Rattle.gap_sets.specs.Gaps.{SetOfGaps, IsGapSet}
 use Rattle.gap_sets.specs.Order.{Better}
 use Rattle.gap_sets.proofs.Orders.{decided}
-use Rattle.tso_program.specs.declared.listing.Listing.{Listing}
-use Rattle.tso_program.specs.Shown.{Question}
-use Rattle.tso_program.specs.Listings.{gap_count}
 use Rattle.tso_machine.specs.Outcomes.{AreGapsOf, LeavesOutcome, IsTheAnswer}
 use Rattle.fence_laws.specs.Laws.{TheAnswerIsTheOnlyOne}
 use Rattle.gap_sets.specs.declared.gap_set.TheConstants.{MAX_GAPS}

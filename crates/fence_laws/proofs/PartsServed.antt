@@ -1,21 +1,16 @@
 -- What holds where more is shown holds where a part of it is.
 use Rattle.std.proofs.Common.{◌≡◌, ◌↔◌, Bool, refl, sym, ap, ◌∙◌, inl, inr}
 use Rattle.std.proofs.lemmas.Bool.{cases_lt}
+use Rattle.fence_laws.proofs.Vocabulary.{Listing, Outcome, Shown, gaps_in, Machine, SequentialMachine, StoreBufferMachine, AllowsShown, LeavesOutcome}
 use Rattle.gap_sets.specs.Order.{total}
-use Rattle.tso_program.specs.declared.listing.Listing.{Listing}
-use Rattle.tso_program.specs.declared.outcome.Outcome.{Outcome}
-use Rattle.tso_program.specs.declared.shown.Shown.{Shown}
 use Rattle.tso_program.specs.declared.shown.Shown.TheVariants.{All, Truth}
 use Rattle.tso_program.specs.Shown.{show, told, asked}
 use Rattle.tso_program.specs.declared.atom.Atom.{Atom}
 use Rattle.tso_program.specs.Tree.{Tree}
 use Rattle.tso_program.specs.Truth.{truth}
-use Rattle.tso_program.specs.Fences.{gaps_in}
 use Rattle.tso_program.specs.Laws.{IsReadOff}
 use Rattle.tso_program.proofs.Kept.{off_all}
 use Rattle.tso_program.proofs.ReadOff.{truth_read_off, told_apart}
-use Rattle.tso_machine.specs.Machine.{Machine, SequentialMachine, StoreBufferMachine}
-use Rattle.tso_machine.specs.Outcomes.{AllowsShown, LeavesOutcome}
 use Rattle.fence_laws.specs.Laws.{WhatServesServesEachPart, WhatServesForAllServes, WhatServesServesTheTruth, AnObservedAnswerCostsNoMore, ATruthsAnswerCostsNoMore, LeavesTruth, AServedTruthIsKept}
 
 module _ (p : Listing) (small large : Shown) (part : IsReadOff small large) where

@@ -1,17 +1,8 @@
 -- A sequential run is a run of the store buffer machine, each store flushed at once, whatever the gaps.
 use Rattle.std.proofs.Common.{◌≡◌, ℕ, Bool, true, false, List, [], ◌∷◌, ◌++◌, Option, Some, None, option_and_then, refl, sym, ap, ◌∙◌}
-use Rattle.std.proofs.lemmas.Option.{same_Some}
-use Rattle.tso_program.specs.declared.listing.Listing.{Listing}
-use Rattle.tso_program.specs.declared.action.Local.{Local}
-use Rattle.tso_program.specs.declared.action.Action.{Action}
-use Rattle.tso_program.specs.declared.action.Action.TheVariants.{Stop, Go, Wait, Read, Write, Swap}
-use Rattle.tso_program.specs.Listings.{action}
-use Rattle.tso_program.specs.Fences.{Gaps}
-use Rattle.tso_machine.specs.Machine.{put, SequentialMachine, StoreBufferMachine, State, past_gap, buffered, flushed, direct, run, start}
+use Rattle.fence_laws.proofs.Vocabulary.{same_Some, Listing, Local, Action, Stop, Go, Wait, Read, Write, Swap, action, Gaps, put, SequentialMachine, StoreBufferMachine, State, past_gap, buffered}
+use Rattle.fence_laws.proofs.Vocabulary.{flushed, direct, run, start, Label, Exec, Flush, Pending}
 use Rattle.fence_laws.specs.Laws.{SequentialRunsAreAllowed}
-use Rattle.tso_machine.specs.declared.label.Label.{Label}
-use Rattle.tso_machine.specs.declared.label.Label.TheVariants.{Exec, Flush}
-use Rattle.tso_machine.specs.declared.label.Pending.{Pending}
 use Rattle.fence_laws.proofs.ChangedAt.{put_same, put_back}
 
 module _ (p : Listing) (gaps : Gaps) where

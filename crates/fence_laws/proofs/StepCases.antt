@@ -1,16 +1,8 @@
 -- The steps of the store buffer machine, by cases.
 use Rattle.std.proofs.Common.{◌≡◌, ℕ, Bool, true, false, List, [], ◌∷◌, ◌++◌, Option, Some, option_and_then, refl}
+use Rattle.fence_laws.proofs.Vocabulary.{Listing, Local, Action, Stop, Go, Wait, Read, Write, Swap, action, loaded, Gaps, put, StoreBufferMachine, State, newest, found, when_empty, past_gap, buffered}
+use Rattle.fence_laws.proofs.Vocabulary.{flushed, step, Exec, Flush, Pending}
 use Rattle.tso_program.specs.declared.instruction.Reg.{Reg}
-use Rattle.tso_program.specs.declared.listing.Listing.{Listing}
-use Rattle.tso_program.specs.declared.action.Local.{Local}
-use Rattle.tso_program.specs.declared.action.Action.{Action}
-use Rattle.tso_program.specs.declared.action.Action.TheVariants.{Stop, Go, Wait, Read, Write, Swap}
-use Rattle.tso_program.specs.Listings.{action}
-use Rattle.tso_program.specs.Actions.{loaded}
-use Rattle.tso_program.specs.Fences.{Gaps}
-use Rattle.tso_machine.specs.Machine.{put, StoreBufferMachine, State, newest, found, when_empty, past_gap, buffered, flushed, step}
-use Rattle.tso_machine.specs.declared.label.Label.TheVariants.{Exec, Flush}
-use Rattle.tso_machine.specs.declared.label.Pending.{Pending}
 
 module _ (last : State) (K : State → Option State) where
   -- a gap was passed with nothing waiting, or was not fenced

@@ -1,13 +1,6 @@
 -- A run with gaps fenced is a run with none fenced.
 use Rattle.std.proofs.Common.{◌≡◌, Bool, true, false, List, [], ◌∷◌, Option, Some, option_and_then, ap, ◌∙◌}
-use Rattle.std.proofs.lemmas.Option.{option_and_then_some}
-use Rattle.tso_program.specs.declared.listing.Listing.{Listing}
-use Rattle.tso_program.specs.Fences.{Gaps}
-use Rattle.tso_program.specs.Listings.{action}
-use Rattle.tso_machine.specs.declared.label.Label.{Label}
-use Rattle.tso_machine.specs.declared.label.Label.TheVariants.{Exec, Flush}
-use Rattle.tso_machine.specs.declared.label.Pending.{Pending}
-use Rattle.tso_machine.specs.Machine.{no_gaps, StoreBufferMachine, State, past_gap, buffered, step, run}
+use Rattle.fence_laws.proofs.Vocabulary.{option_and_then_some, Listing, Gaps, action, Label, Exec, Flush, Pending, no_gaps, StoreBufferMachine, State, past_gap, buffered, step, run}
 
 module _ (p : Listing) (gaps : Gaps) where
   -- what a gap let through can be done

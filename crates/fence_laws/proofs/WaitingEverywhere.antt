@@ -1,19 +1,7 @@
 -- A run of the store buffer machine that executes each instruction with an empty buffer is as good as a sequential one.
 use Rattle.std.proofs.Common.{◌≡◌, ℕ, true, List, [], ◌∷◌, ◌++◌, ◌⊎◌, Some, option_and_then, refl, sym, ap, ◌∙◌, subst, inl, inr, map, length}
-use mathlib.Core.Path.{fun_ext}
-use Rattle.std.proofs.lemmas.Bool.{cases_eq}
-use Rattle.std.specs.List.{range_with_len}
-use Rattle.tso_program.specs.declared.listing.Listing.{Listing}
-use Rattle.tso_program.specs.declared.action.Local.{Local}
-use Rattle.tso_program.specs.declared.action.Action.TheVariants.{Write}
-use Rattle.tso_program.specs.Listings.{action}
-use Rattle.tso_program.specs.Actions.{loaded}
-use Rattle.tso_program.specs.Fences.{Gaps}
-use Rattle.tso_program.specs.declared.outcome.Outcome.{Outcome}
+use Rattle.fence_laws.proofs.Vocabulary.{fun_ext, cases_eq, range_with_len, Listing, Local, Write, action, loaded, Gaps, Outcome, Label, Exec, Flush, Pending}
 use Rattle.tso_machine.specs.Machine.{put, SequentialMachine, StoreBufferMachine, State, newest, found, direct, run, start, IsRun, outcome_at}
-use Rattle.tso_machine.specs.declared.label.Label.{Label}
-use Rattle.tso_machine.specs.declared.label.Label.TheVariants.{Exec, Flush}
-use Rattle.tso_machine.specs.declared.label.Pending.{Pending}
 use Rattle.fence_laws.proofs.ChangedAt.{put_same, put_other}
 use Rattle.fence_laws.proofs.StepCases.{exec_by, flush_by}
 

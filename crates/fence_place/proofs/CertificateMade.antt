@@ -1,38 +1,22 @@
 -- The certificate of a search that is done is valid, and within the limits of a text.
 use Rattle.std.proofs.Common.{◌≡◌, ℕ, ◌+◌, ◌*◌, ◌<◌, ◌≤◌, ◌^◌, suc, List, [], ◌∷◌, All, Some, length, sym, ap, ◌∙◌, subst, arith, get_or}
-use Rattle.std.specs.Prelude.{slice_get}
-use Rattle.std.specs.List.{AllByRecursion}
-use Rattle.std.proofs.lemmas.Option.{slice_get-get_or}
 use Rattle.std.proofs.lemmas.List.Elements.{recursion_from_All}
-use Rattle.gap_sets.specs.Gaps.{SetOfGaps, IsGapSet}
-use Rattle.gap_sets.specs.Order.{total}
+use Rattle.fence_place.proofs.Vocabulary.{slice_get, AllByRecursion, slice_get-get_or, SetOfGaps, IsGapSet, total, all_sets, MAX_GAPS, Question, IsWithinLimits, Label, Certificate, shows_of}
+use Rattle.fence_place.proofs.Vocabulary.{IsValidGap, undecided, Outcome, finished_state, IsOutcome, Facts, facts_of, AreNumbersOf, AreSplitRuns, IsRecorded, IsProof}
 use Rattle.gap_sets.specs.declared.costs.TheConstants.{MAX_COST}
-use Rattle.gap_sets.specs.Regions.{all_sets}
-use Rattle.gap_sets.specs.declared.gap_set.TheConstants.{MAX_GAPS}
-use Rattle.tso_program.specs.Shown.{Question}
 use Rattle.tso_program.specs.declared.outcome.Outcome as machine
-use Rattle.tso_program.specs.Limits.{IsWithinLimits}
-use Rattle.cover_solver.specs.Label.{Label}
 use Rattle.cover_solver.specs.Machine.{Machine, SequentialMachine, StoreBufferMachine, no_gaps}
 use Rattle.tso_program.specs.Fences.{gaps_in as gaps_of_set}
 use Rattle.cover_solver.specs.Outcomes.{IsTheAnswer, IsShownRun, IsSequentialOutcome, AreGapsOf}
 use Rattle.known_edges.specs.Sizes.{most_choices}
 use Rattle.cert_forest.specs.Trees.{Cover}
 use Rattle.cert_forest.specs.declared.tree.TheConstants.{MAX_COVER_DEPTH, MAX_GAP_DEPTH}
-use Rattle.cert_forest.specs.Certificates.{Certificate}
-use Rattle.cert_forest.specs.Shows.{shows_of}
 use Rattle.cert_forest.specs.Limits as limits
 use Rattle.cert_forest.specs.Limits.{IsGapTo, gap_depth}
-use Rattle.cover_solver.specs.GapTrees.{IsValidGap}
 use Rattle.cover_solver.specs.Certificates.{IsRunOutside, IsValidCertificate, AreSequentialRuns}
 use Rattle.cover_solver.specs.Facts.{Table, Foreign, IsSequentialTable, IsListOf, IsServing, IsForeignValue}
 use Rattle.cover_solver.specs.Covers.{IsWholeCover}
-use Rattle.search_core.specs.Work.{undecided}
-use Rattle.search_core.specs.Records.{Outcome, finished_state, IsOutcome}
-use Rattle.search_core.proofs.Kept.{Facts, facts_of}
 use Rattle.search_core.proofs.Working.{few_undecided}
-use Rattle.fence_place.specs.Recorded.{AreNumbersOf, AreSplitRuns, IsRecorded}
-use Rattle.fence_place.specs.Proofs.{IsProof}
 use Rattle.fence_place.proofs.GapTreeValid.{valid}
 use Rattle.fence_place.proofs.GapTreeSmall.{small}
 use Rattle.fence_place.proofs.ShortRuns.{short_run}

@@ -1,25 +1,11 @@
 -- The gap tree of the record is within the limits of a text.
 use Rattle.std.proofs.Common.{◌≡◌, ℕ, suc, ◌+◌, ◌<◌, ◌≤◌, ◌^◌, List, [], ◌∷◌, Some, length, max, refl, sym, ap, ◌∙◌, subst, arith}
-use Rattle.std.specs.Prelude.{slice_get}
-use Rattle.std.proofs.lemmas.Option.{same_Some, slice_get_within}
 use Rattle.std.proofs.lemmas.List.Kept.{AllPairs-from_increasing}
-use Rattle.gap_sets.specs.Regions.{child_regions, open_gaps}
-use Rattle.gap_sets.specs.declared.region.Region.{Region}
-use Rattle.gap_sets.specs.declared.gap_set.TheConstants.{MAX_GAPS}
-use Rattle.cover_solver.specs.Label.{Label}
-use Rattle.cert_forest.specs.Trees.{Gap, Split, Bound, GapTrees, NoGap, MoreGaps}
-use Rattle.cert_forest.specs.Texts.{count_gaps}
+use Rattle.fence_place.proofs.Vocabulary.{slice_get, same_Some, slice_get_within, child_regions, open_gaps, Region, MAX_GAPS, Label, Gap, Split, Bound, GapTrees, NoGap, MoreGaps, count_gaps, Entry}
+use Rattle.fence_place.proofs.Vocabulary.{SearchState, undecided, Each, open_ascending, few_open, HasNode, Facts, AreNumbersOf, IsRecorded, AreRecorded}
 use Rattle.cert_forest.specs.Limits.{gap_depth, gaps_depth, HasGapNumbers, HaveGapNumbers}
-use Rattle.search_core.specs.declared.entry.Entry.{Entry}
-use Rattle.search_core.specs.States.{SearchState}
-use Rattle.search_core.specs.Work.{undecided}
-use Rattle.search_core.proofs.Places.{Each}
-use Rattle.cover_solver.proofs.OpenGaps.{open_ascending, few_open}
-use Rattle.search_core.proofs.Changes.{HasNode}
-use Rattle.search_core.proofs.Kept.{Facts}
 use Rattle.search_core.proofs.Working.{kids_less, open_undecided}
 use Rattle.fence_place.proofs.PassedGaps.{small_set}
-use Rattle.fence_place.specs.Recorded.{AreNumbersOf, IsRecorded, AreRecorded}
 use Rattle.fence_place.proofs.GapTreeValid.{as_many}
 
 -- no deeper than this, with numbers that a text can hold

@@ -1,24 +1,12 @@
 -- The gap tree of the record of a search that is done is valid for its answer, and within the limits of a text.
 use Rattle.std.proofs.Common.{◌≡◌, ℕ, suc, ◌+◌, List, [], ◌∷◌, Some, length, refl, sym, ap, ◌∙◌, subst, arith}
-use Rattle.std.specs.Prelude.{slice_get}
-use Rattle.std.proofs.lemmas.Option.{same_Some}
-use Rattle.gap_sets.specs.Gaps.{SetOfGaps}
-use Rattle.gap_sets.specs.Order.{Better}
+use Rattle.fence_place.proofs.Vocabulary.{slice_get, same_Some, SetOfGaps, Better, Region, Question, Label, IsTheAnswer, Gap, Split, Bound, GapTrees, NoGap, MoreGaps, Foreign, Entry, SearchState}
+use Rattle.fence_place.proofs.Vocabulary.{Facts, AreNumbersOf, IsRecorded, AreRecorded}
 use Rattle.gap_sets.specs.Regions.{without_gap, child_regions, open_gaps}
-use Rattle.gap_sets.specs.declared.region.Region.{Region}
-use Rattle.tso_program.specs.Shown.{Question}
-use Rattle.cover_solver.specs.Label.{Label}
-use Rattle.cover_solver.specs.Outcomes.{IsTheAnswer}
-use Rattle.cert_forest.specs.Trees.{Gap, Split, Bound, GapTrees, NoGap, MoreGaps}
 use Rattle.cover_solver.specs.GapTrees.{PassesGap, IsSplitBy, IsValidGap, AreValidGaps}
-use Rattle.cover_solver.specs.Facts.{Foreign}
-use Rattle.search_core.specs.declared.entry.Entry.{Entry}
-use Rattle.search_core.specs.States.{SearchState}
 use Rattle.cover_solver.proofs.OpenGaps.{open_exact, open_ascending}
 use Rattle.search_core.proofs.Changes.{HasNode, IsSplitAt}
-use Rattle.search_core.proofs.Kept.{Facts}
 use Rattle.fence_place.proofs.PassedGaps.{small_set}
-use Rattle.fence_place.specs.Recorded.{AreNumbersOf, IsRecorded, AreRecorded}
 use Rattle.fence_place.proofs.Bounds.{bounded}
 
 -- as many children as gaps

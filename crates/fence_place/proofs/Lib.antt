@@ -1,3 +1,5 @@
+-- what many proofs speak of
+mod Vocabulary
 pub mod PassedGaps
 pub mod Bounds
 pub mod GapTreeValid

@@ -1,10 +1,6 @@
 -- What a foreign run passes are gap numbers.
 use Rattle.std.proofs.Common.{◌≡◌, subst}
-use Rattle.gap_sets.specs.Gaps.{IsGapSet}
-use Rattle.tso_program.specs.Shown.{Question}
-use Rattle.tso_program.specs.Limits.{IsWithinLimits}
-use Rattle.cover_solver.specs.Outcomes.{AreGapsOf}
-use Rattle.cover_solver.specs.Facts.{Foreign, IsForeignValue}
+use Rattle.fence_place.proofs.Vocabulary.{IsGapSet, Question, IsWithinLimits, AreGapsOf, Foreign, IsForeignValue}
 use Rattle.search_core.proofs.Sets.{gap_set, passed_gaps}
 
 pub small_set : (q : Question) → IsWithinLimits q.program.threads q.program.memory → (f : Foreign) → f.question ≡ q → IsForeignValue f → IsGapSet f.passed

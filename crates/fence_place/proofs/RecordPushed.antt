@@ -1,19 +1,12 @@
 -- The nodes of the record's gap tree, put after the others one by one.
 use Rattle.std.proofs.Common.{◌≡◌, ℕ, zero, suc, ◌+◌, true, List, [], ◌∷◌, ◌++◌, Some, length, refl, sym, ap, ◌∙◌, subst, append_assoc}
-use Rattle.std.specs.Prelude.{slice_get}
 use Rattle.std.proofs.lemmas.List.{append-nil}
-use Rattle.gap_sets.specs.Regions.{open_gaps}
-use Rattle.cert_forest.specs.declared.node.GapNode.{GapNode}
+use Rattle.fence_place.proofs.Vocabulary.{slice_get, open_gaps, GapNode, Split, Bound, GapTrees, NoGap, MoreGaps, gap_trees_of, count_gaps, Foreign, Entry, is_closed}
 use Rattle.cert_forest.specs.declared.node.GapNode.TheVariants as node
-use Rattle.cert_forest.specs.Trees.{Split, Bound, GapTrees, NoGap, MoreGaps, gap_trees_of}
-use Rattle.cert_forest.specs.Texts.{count_gaps}
 use Rattle.cert_forest.specs.GapNodes.{spell_gap, spell_gaps}
 use Rattle.cert_forest.proofs.Spelled.{each_append}
 use Rattle.cert_forest.proofs.GapNodeLaws.{listed_gaps}
-use Rattle.cover_solver.specs.Facts.{Foreign}
-use Rattle.search_core.specs.declared.entry.Entry.{Entry}
 use Rattle.search_core.specs.declared.entry.Status.TheVariants as status
-use Rattle.search_core.specs.Entries.{is_closed}
 use Rattle.fence_place.specs.Recorded.{AreRecorded, PushesRecorded, PushesRecords}
 use Rattle.fence_place.proofs.Recording.{recorded_more}
 

@@ -1,24 +1,14 @@
 -- What the record says of each node, and the runs of its splits.
 use Rattle.std.proofs.Common.{◌≡◌, ◌≢◌, ◌⊎◌, Contains, ℕ, zero, suc, ◌+◌, ◌<◌, true, List, [], ◌∷◌, ◌++◌, Some, length, refl, sym, ap, ◌∙◌, subst, inl, inr, arith}
-use Rattle.std.specs.Prelude.{slice_get}
-use Rattle.std.proofs.lemmas.Option.{same_Some, none-some, slice_get_within}
 use Rattle.std.proofs.lemmas.List.Elements.{Contains-get_or}
 use Rattle.std.proofs.lemmas.List.Quantifiers.{all_pairs_push}
-use Rattle.gap_sets.specs.Regions.{open_gaps}
-use Rattle.cover_solver.specs.Label.{Label}
-use Rattle.cert_forest.specs.Trees.{Gap, gap_trees_of}
-use Rattle.cover_solver.specs.Facts.{Foreign}
-use Rattle.search_core.specs.declared.entry.Entry.{Entry}
-use Rattle.search_core.specs.declared.entry.Status.{Status}
+use Rattle.fence_place.proofs.Vocabulary.{slice_get, same_Some, none-some, slice_get_within, open_gaps, Label, Gap, gap_trees_of, Foreign, Entry, Status, Event, children, facts_of}
 use Rattle.search_core.specs.declared.entry.Status.TheVariants as status
-use Rattle.search_core.specs.declared.finished.Event.{Event}
 use Rattle.search_core.specs.declared.finished.Event.TheVariants as event
 use Rattle.search_core.specs.declared.finished.Settled.{Settled}
-use Rattle.search_core.specs.Children.{children}
 use Rattle.search_core.specs.Entries.{is_closed_status}
 use Rattle.search_core.specs.Records.{Outcome, finished_state, IsOutcome, IsEventOf, IsSettledAs, IsFirstChild}
 use Rattle.search_core.proofs.Places.{get_longer, get_behind}
-use Rattle.search_core.proofs.Kept.{facts_of}
 use Rattle.fence_place.specs.Recorded.{AreNumbersOf, AreSplitRuns, AreDistinct, ListsRun, is_there, is_new, ListsEvent, IsRecorded, AreRecorded}
 use Rattle.fence_place.proofs.GapTreeValid.{as_many}
 

@@ -1,13 +1,7 @@
 -- A node that is taken and settled: no seat holds one then.
 use Rattle.std.proofs.Common.{◌≡◌, ℕ, zero, suc, true, false, true≢false, List, [], ◌∷◌, length, Some, refl, sym, ap, ◌∙◌, subst, inl, inr, set as set_at}
-use Rattle.std.specs.Prelude.{slice_get}
-use Rattle.std.proofs.lemmas.Option.{same_Some, none-some}
-use Rattle.gap_sets.specs.Regions.{all_sets}
-use Rattle.gap_sets.specs.declared.region.Region.{Region}
-use Rattle.search_core.specs.declared.entry.Entry.{Entry}
-use Rattle.search_core.specs.declared.entry.Status.{Status}
+use Rattle.fence_place.proofs.Vocabulary.{slice_get, same_Some, none-some, all_sets, Region, Entry, Status, children}
 use Rattle.search_core.specs.declared.entry.Status.TheVariants.{Open, Held, Split, Cut, Confirmed}
-use Rattle.search_core.specs.Children.{children}
 use Rattle.search_core.specs.Entries.{entry, is_live_status, is_held_status, is_open_status}
 use Rattle.search_core.specs.States.{SearchState, IsHeldAt, IsDone, HasNoOpen, IsStart}
 use Rattle.search_core.specs.Events.{open_entries, TakesNode, IsSettling, by_cut, by_split, by_confirm}

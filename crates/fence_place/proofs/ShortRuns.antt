@@ -1,16 +1,12 @@
 -- A run of a program within the limits has no more labels than a text can hold, and each of them is of a thread that is there.
 use Rattle.std.proofs.Common.{◌≡◌, ℕ, ◌+◌, ◌*◌, ◌<◌, ◌≤◌, List, [], ◌∷◌, ◌++◌, Option, Some, None, option_and_then, length, refl, sym, ap, ◌∙◌, subst, inl, inr, arith}
-use Rattle.std.specs.List.{AllByRecursion}
 use Rattle.std.proofs.lemmas.Bool.{cases_lt}
-use Rattle.std.proofs.lemmas.Option.{same_Some}
-use Rattle.tso_program.specs.declared.listing.Listing.{Listing}
+use Rattle.fence_place.proofs.Vocabulary.{AllByRecursion, same_Some, Listing, IsWithinLimits, Label}
 use Rattle.tso_program.specs.declared.outcome.Outcome.{Outcome}
 use Rattle.tso_program.specs.declared.action.Action.TheVariants.{Stop}
 use Rattle.tso_program.specs.declared.limits.TheConstants.{MAX_THREADS, MAX_INSTRUCTIONS}
 use Rattle.tso_program.specs.Fences.{Gaps}
 use Rattle.tso_program.specs.Listings.{action}
-use Rattle.tso_program.specs.Limits.{IsWithinLimits}
-use Rattle.cover_solver.specs.Label.{Label}
 use Rattle.cover_solver.specs.Label.TheVariants.{Exec, Flush}
 use Rattle.cover_solver.specs.RunTexts.{IsLabel}
 use Rattle.cover_solver.specs.Machine.{Machine, SequentialMachine, StoreBufferMachine, State, put, direct, buffered, past_gap, step, run, start, IsRun}

@@ -3,17 +3,12 @@ use Rattle.std.proofs.Common.{◌≡◌, ◌∙◌, Bool, true, false, ℕ, List
 use Rattle.std.specs.Prelude.{All, IfSome, MatchOption, slice_get, slice_index_or}
 use Rattle.std.proofs.lemmas.List.Elements.{All-get_or}
 use Rattle.std.proofs.lemmas.Option.{slice_get_within, get_or_from_slice_get, same_Some, none-some}
-use Rattle.gap_sets.specs.Gaps.{SetOfGaps}
-use Rattle.gap_sets.specs.Order.{Better}
-use Rattle.cover_solver.specs.Facts.{Serving, IsServing}
-use Rattle.search_core.specs.Events.{IsBeatenBy}
+use Rattle.fence_place.proofs.Vocabulary.{SetOfGaps, Better, Serving, IsServing, IsBeatenBy, Worker, PlaceFault}
 use Rattle.hunt_board.specs.Seats.{HuntView}
 use Rattle.fence_place.specs.declared.worker.Stop.{Stop}
 use Rattle.fence_place.specs.declared.worker.Stop.TheVariants.{Later, Beaten, NoRun, OutOfMemory}
-use Rattle.fence_place.specs.declared.worker.Worker.{Worker}
 use Rattle.fence_place.specs.Internal.Workers.{HasStopped, MayStop, NoneLacksRun, FaultIsAfter, lacks_run_for}
 use Rattle.fence_place.specs.Faults.{MayHuntFail}
-use Rattle.fence_place.specs.declared.fault.PlaceFault.{PlaceFault}
 use Rattle.fence_place.specs.declared.fault.PlaceFault.TheVariants as fault
 
 -- what holds of each element holds of the one at a place

@@ -1,3 +1,5 @@
+-- what many proofs speak of
+mod Vocabulary
 pub mod Served
 pub mod Told
 pub mod Delivered

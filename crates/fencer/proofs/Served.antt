@@ -8,14 +8,13 @@ use Rattle.std.proofs.lemmas.Str.Ascii.{IsAscii-cons, IsAscii-nil}
 use Rattle.std.proofs.lemmas.Bool.{ltb-true}
 use Rattle.std.proofs.lemmas.Slice.Eq.{bytes_eq-Decides}
 use Rattle.std.proofs.lemmas.Bool.Decides.{nat_tests}
+use Rattle.fencer.proofs.Vocabulary.{TEXT_LIMIT, IsUtf8Refusal}
 use Rattle.clap.specs.Words.{Text}
 use Rattle.program_streams.specs.declared.fault.FileFault.{FileFault}
 use Rattle.program_streams.specs.declared.fault.FileFault.TheVariants as file
-use Rattle.program_streams.specs.declared.files.TheConstants.{TEXT_LIMIT}
 use Rattle.program_streams.specs.Versions.{asks_version}
 use Rattle.fencer_words.specs.CommandLines.{IsNoCommand}
 use Rattle.program_streams.specs.Streams.{IsReadFault, TakesOfLine}
-use Rattle.program_streams.specs.Words.{IsUtf8Refusal}
 use Rattle.fencer.specs.Answers.{HasTooLongLine, IsReply, IsReplyToInput, IsOutput, KeepFilesOf, KeepOtherFiles, LineAsksToWrite, ReadsForWords, ReadsForInput, ReadsFor, no_command}
 
 not_zero : (n : ℕ) → (suc n == 0) ≡ true → ⊥

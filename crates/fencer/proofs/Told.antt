@@ -1,10 +1,9 @@
 -- What is printed of an answer.
 use Rattle.std.proofs.Common.{ℕ, Bool, List, Option, Result, Ok, Err, IfOk, IfErr, sym, subst}
-use Rattle.program_streams.specs.declared.files.TheConstants.{TEXT_LIMIT}
+use Rattle.fencer.proofs.Vocabulary.{TEXT_LIMIT, IsTold}
 use Rattle.program_streams.specs.Files.{AreOfFile}
 use Rattle.fencer.specs.declared.refusals.Refusal.{Refusal}
 use Rattle.fencer.specs.declared.refusals.Reply.{Reply}
-use Rattle.fencer.specs.Refusals.{IsTold}
 use Rattle.fencer.specs.TextAnswers.{IsAnswerTo, answered, refused}
 
 -- of an answer to the text of a file

@@ -1,3 +1,5 @@
+-- what many proofs speak of
+mod Vocabulary
 pub mod Rules
 pub mod PlaceTexts
 pub mod Faultless

@@ -3,12 +3,10 @@ use Rattle.std.proofs.Common.{◌≡◌, ℕ, ◌<◌, ◌≤◌, ◌==◌, Bool
 use Rattle.std.specs.Prelude.{not}
 use Rattle.std.specs.Option.{option_map, option_or}
 use Rattle.std.specs.List.{position_or_len}
-use Rattle.std.proofs.lemmas.Bool.Decides.{nat_tests}
 use Rattle.std.proofs.lemmas.List.Sums.{fails_before_first, prefix_len_is}
+use Rattle.gap_sets.proofs.Vocabulary.{nat_tests, MAX_GAPS, MAX_COST}
 use Rattle.gap_sets.specs.declared.costs.CostFault.TheVariants.{Zero, TooLarge, TooMany}
 use Rattle.gap_sets.specs.CostLists.{IsCostList, first_free, first_too_large, first_cost_fault, CostLimitsAreTheRefusals}
-use Rattle.gap_sets.specs.declared.gap_set.TheConstants.{MAX_GAPS}
-use Rattle.gap_sets.specs.declared.costs.TheConstants.{MAX_COST}
 
 -- where no place below the end is found, the place is the end
 past_the_end : (place len : ℕ) → cond (nat_lt place len) (Some place) None ≡ None → len ≤ place

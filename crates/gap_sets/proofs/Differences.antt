@@ -1,16 +1,9 @@
 -- The least gap that is in exactly one of two sets is the lowest bit in which their words differ.
 use Rattle.std.proofs.Common.{◌≡◌, ◌≢◌, ℕ, ◌+◌, ◌%◌, ◌^◌, ◌<◌, ◌==◌, inl, inr, false, sym, ap, ◌∙◌, arith, eqb-true, eq-eqb}
-use Rattle.std.specs.Int.{bit_at, w128, trailing_zeros}
-use Rattle.std.specs.Int.RustNames.{bit_xor}
-use Rattle.std.proofs.lemmas.Bool.{cases_lt}
-use Rattle.std.proofs.lemmas.Bool.Decides.{nat_tests}
 use Rattle.std.proofs.lemmas.Nat.{xor_lt}
 use Rattle.std.proofs.lemmas.Nat.Bits.{bit_at-lt, bit_at_xor, bit_at-zero, bit_at-trailing_zeros}
-use Rattle.gap_sets.specs.Internal.Bits.{gaps_of_bits}
+use Rattle.gap_sets.proofs.Vocabulary.{bit_at, w128, trailing_zeros, bit_xor, cases_lt, nat_tests, gaps_of_bits, SetOfGaps, HasLeastDifference, MAX_GAPS}
 use Rattle.gap_sets.proofs.WordSets.{contains-word}
-use Rattle.gap_sets.specs.Gaps.{SetOfGaps}
-use Rattle.gap_sets.specs.Order.{HasLeastDifference}
-use Rattle.gap_sets.specs.declared.gap_set.TheConstants.{MAX_GAPS}
 
 -- the words differ at this bit and at none below
 pub record DiffersFirstAt (a b place : ℕ) : Type 0 where

@@ -1,3 +1,5 @@
+-- what many proofs speak of
+mod Vocabulary
 pub mod CostLimits
 pub mod Counted
 pub mod Differences

@@ -1,13 +1,9 @@
 -- The order on sets of gaps is strict and total.
 use Rattle.std.proofs.Common.{◌≡◌, ◌≢◌, ℕ, ◌⊎◌, inl, inr, Bool, true, false, refl, sym, ◌∙◌, arith}
-use Rattle.std.specs.Cmp.{nat_cmp_total}
 use Rattle.std.specs.FinSet as set
-use Rattle.std.proofs.lemmas.Bool.{cases_lt}
+use Rattle.gap_sets.proofs.Vocabulary.{nat_cmp_total, cases_lt, SetOfGaps, IsGapSet, total, HasLeastDifference, MAX_GAPS}
 use Rattle.gap_sets.proofs.Tests.{AlikeBelow, first_difference, alike_beyond}
-use Rattle.gap_sets.specs.Gaps.{SetOfGaps, IsGapSet}
-use Rattle.gap_sets.specs.Order.{total, HasLeastDifference}
 use Rattle.gap_sets.specs.Laws.{NoSetIsBetterThanItself, BetterIsTransitive, BetterIsTotal}
-use Rattle.gap_sets.specs.declared.gap_set.TheConstants.{MAX_GAPS}
 
 -- a set does not differ from itself
 differs_not : (a : SetOfGaps) → HasLeastDifference a a → ⊥

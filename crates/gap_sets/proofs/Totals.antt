@@ -1,15 +1,9 @@
 -- What the gaps of a set cost together at most.
 use Rattle.std.proofs.Common.{◌≡◌, ℕ, ◌+◌, ◌*◌, ◌≤◌, inl, inr, List, [], ◌∷◌, length, get_or, sum_by, unwrap_or, ap, ◌∙◌, arith}
-use Rattle.std.specs.List.{range_with_len}
 use Rattle.std.specs.FinSet as set
 use Rattle.std.proofs.lemmas.Option.{slice_get_cases}
 use Rattle.std.proofs.lemmas.List.Sums.{sum_by-cons, sum_by-le, length-filter, count_by-le-length}
-use Rattle.std.proofs.lemmas.List.FromFn.{length-range_with_len}
-use Rattle.gap_sets.specs.CostLists.{IsCostList}
-use Rattle.gap_sets.specs.Gaps.{SetOfGaps, numbers_of_set}
-use Rattle.gap_sets.specs.Order.{cost_of, total}
-use Rattle.gap_sets.specs.declared.gap_set.TheConstants.{MAX_GAPS}
-use Rattle.gap_sets.specs.declared.costs.TheConstants.{MAX_COST}
+use Rattle.gap_sets.proofs.Vocabulary.{range_with_len, length-range_with_len, IsCostList, SetOfGaps, numbers_of_set, cost_of, total, MAX_GAPS, MAX_COST}
 
 -- no gap costs more than a million
 cost_of-limit : (costs : List ℕ) (gap : ℕ) → IsCostList costs → cost_of costs gap ≤ MAX_COST

@@ -1,13 +1,9 @@
 -- Faults of receipts against the record of a hunt that is done.
 use Rattle.std.proofs.Common.{◌≡◌, List, Result, Ok, Err, sym, subst}
 use Rattle.std.specs.Prelude.{IfErr, IsErrAnd}
-use Rattle.search_core.specs.Records.{Outcome, IsOutcome}
-use Rattle.hunt_board.specs.declared.settling.Receipt.{Receipt}
+use Rattle.hunt_board.proofs.Vocabulary.{Outcome, IsOutcome, Receipt, HuntView, CloseFaultIs, RecordFaultIs}
 use Rattle.hunt_board.specs.declared.fault.CloseFault.{CloseFault}
 use Rattle.hunt_board.specs.declared.fault.CloseFault.TheVariants as fault
-use Rattle.hunt_board.specs.Seats.{HuntView}
-use Rattle.hunt_board.specs.Receipts.{CloseFaultIs}
-use Rattle.hunt_board.specs.Internal.Marks.{RecordFaultIs}
 
 -- against the record that the hunt has left
 pub of_record : (h : HuntView) (o : Outcome) (receipts : List Receipt) (why : CloseFault) → IsOutcome o → o.question ≡ h.question → o.costs ≡ h.costs → RecordFaultIs o.entries receipts why → CloseFaultIs h receipts why

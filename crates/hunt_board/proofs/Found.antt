@@ -1,27 +1,19 @@
 -- Each node of the record of a search that is done stands where the walk for its region ends.
 use Rattle.std.proofs.Common.{◌≡◌, ◌≢◌, ℕ, zero, suc, ◌+◌, ◌<◌, Bool, true, false, true≢false, ◌||◌, List, [], ◌∷◌, Option, Some, None, Contains, cond, refl, sym, ap, ◌∙◌, subst, inl, inr, arith, get_or}
-use Rattle.std.specs.Prelude.{slice_get}
 use Rattle.std.specs.Option.{option_map}
 use Rattle.std.specs.List.{position_from, AllPairs}
 use Rattle.std.specs.FinSet as set
 use Rattle.std.specs.Ordering.{nat_cmp, eq_by_cmp}
 use Rattle.std.specs.Cmp.{nat_cmp_total}
 use Rattle.std.proofs.lemmas.Bool.Decides.{nat_tests}
-use Rattle.std.proofs.lemmas.Option.{same_Some, none-some}
 use Rattle.std.proofs.lemmas.List.Kept.{AllPairs-from_increasing}
+use Rattle.hunt_board.proofs.Vocabulary.{slice_get, same_Some, none-some, Region, Question, IsWithinLimits, Foreign, Entry, Status, Open, Held, Split, Cut, Confirmed, Outcome, IsOutcome}
+use Rattle.hunt_board.proofs.Vocabulary.{finished_state}
 use Rattle.gap_sets.specs.Gaps.{SetOfGaps, IsGapSet}
 use Rattle.gap_sets.specs.Regions.{all_sets, with_gap, without_gap, IsInRegion, child_regions, HasNoneOf, open_gaps}
-use Rattle.gap_sets.specs.declared.region.Region.{Region}
-use Rattle.tso_program.specs.Shown.{Question}
-use Rattle.tso_program.specs.Limits.{IsWithinLimits}
 use Rattle.cover_solver.proofs.Lists.{first_is_here, later_is_here}
 use Rattle.cover_solver.proofs.OpenGaps.{open_exact, open_ascending}
 use Rattle.cover_solver.proofs.Regions.{new_or_old, true_or_false, in_root}
-use Rattle.cover_solver.specs.Facts.{Foreign}
-use Rattle.search_core.specs.declared.entry.Entry.{Entry}
-use Rattle.search_core.specs.declared.entry.Status.{Status}
-use Rattle.search_core.specs.declared.entry.Status.TheVariants.{Open, Held, Split, Cut, Confirmed}
-use Rattle.search_core.specs.Records.{Outcome, IsOutcome, finished_state}
 use Rattle.search_core.proofs.Kept.{Facts, facts_of}
 use Rattle.search_core.proofs.Sets.{gap_set, passed_gaps}
 use Rattle.hunt_board.specs.Internal.Places.{WalkLeads, StandsOnlyAt, ends, goes, child_by, child_in, child_of}

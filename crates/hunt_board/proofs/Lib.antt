@@ -1,3 +1,5 @@
+-- what many proofs speak of
+mod Vocabulary
 pub mod Fresh
 pub mod Refusals
 pub mod Parents

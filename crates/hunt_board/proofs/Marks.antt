@@ -1,26 +1,17 @@
 -- Receipts that are marked off against the record, one after the other.
 use Rattle.std.proofs.Common.{◌≡◌, ◌≢◌, ℕ, zero, suc, ◌+◌, ◌<◌, ◌≤◌, Bool, true, false, true≢false, List, [], ◌∷◌, Some, None, refl, sym, ap, ◌∙◌, subst, inl, inr, arith, length, length-set, set, cond, get_or, replicate, take}
-use Rattle.std.specs.Prelude.{slice_get}
 use Rattle.std.proofs.lemmas.Option.{same_Some, none-some, slice_get_within, slice_get_read, get_or_from_slice_get}
 use Rattle.std.proofs.lemmas.Bool.{cases_lt}
 use Rattle.std.proofs.lemmas.List.{get_or-replicate, length-replicate}
-use native.Mathlib.Decide.{ℕ_discrete}
-use Rattle.search_core.specs.declared.entry.Entry.{Entry}
-use Rattle.cover_solver.specs.Facts.{Foreign}
-use Rattle.search_core.specs.declared.entry.Status.{Status}
-use Rattle.search_core.specs.declared.entry.Status.TheVariants.{Open, Held, Split, Cut, Confirmed}
+use Rattle.hunt_board.proofs.Vocabulary.{slice_get, ℕ_discrete, Entry, Foreign, Status, Open, Held, Split, Cut, Confirmed, Settled, IsEventOf, IsSettledAs, Receipt, WalkLeads, StandsOnlyAt}
 use Rattle.search_core.specs.declared.finished.Event.{Event as Recorded}
 use Rattle.search_core.specs.declared.finished.Event.TheVariants as recorded
-use Rattle.search_core.specs.declared.finished.Settled.{Settled}
-use Rattle.search_core.specs.Records.{IsEventOf, IsSettledAs}
 use Rattle.search_core.proofs.Places.{get_here, get_else, get_old}
 use Rattle.hunt_board.specs.declared.settling.Event.{Event}
 use Rattle.hunt_board.specs.declared.settling.Event.TheVariants as event
-use Rattle.hunt_board.specs.declared.settling.Receipt.{Receipt}
 use Rattle.hunt_board.specs.Receipts.{IsReceiptEvent as IsEventTold, IsReceiptOf, Stands, StandApart, NameAll, IsFirstWrong}
 use Rattle.hunt_board.specs.Internal.Settled.{IsSameEvent, SaysSame}
 use Rattle.hunt_board.specs.Internal.Marks.{HasMark, IsMarked, IsNotMarked}
-use Rattle.hunt_board.specs.Internal.Places.{WalkLeads, StandsOnlyAt}
 use Rattle.hunt_board.proofs.Found.{same_end}
 
 -- what is at a place of a list's front

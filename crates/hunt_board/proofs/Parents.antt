@@ -1,14 +1,6 @@
 -- Each node of the record but the first is a child of one that was split.
 use Rattle.std.proofs.Common.{◌≡◌, ◌⊎◌, ℕ, zero, suc, ◌+◌, Bool, true, true≢false, ◌&&◌, List, [], ◌∷◌, ◌++◌, Some, refl, sym, ap, ◌∙◌, subst, inl, inr, arith, set, length, length-set, append-nil}
-use Rattle.std.specs.Prelude.{slice_get}
-use Rattle.std.proofs.lemmas.Option.{same_Some, none-some}
-use native.Mathlib.Decide.{ℕ_discrete}
-use Rattle.gap_sets.specs.Regions.{all_sets}
-use Rattle.gap_sets.specs.declared.region.Region.{Region}
-use Rattle.cover_solver.specs.Facts.{Foreign, Serving}
-use Rattle.search_core.specs.declared.entry.Entry.{Entry}
-use Rattle.search_core.specs.declared.entry.Status.{Status}
-use Rattle.search_core.specs.declared.entry.Status.TheVariants.{Open, Held, Split, Cut, Confirmed}
+use Rattle.hunt_board.proofs.Vocabulary.{slice_get, same_Some, none-some, ℕ_discrete, all_sets, Region, Foreign, Serving, Entry, Status, Open, Held, Split, Cut, Confirmed}
 use Rattle.search_core.specs.Children.{children}
 use Rattle.search_core.specs.Entries.{entry, is_live, is_live_status, is_open_status, is_held_status}
 use Rattle.search_core.specs.States.{SearchState, IsStart}

@@ -1,13 +1,12 @@
 -- What a cut by the best set does to the node that a seat has in hand, and when workers wait.
 use Rattle.std.proofs.Common.{◌≡◌, ◌⊎◌, ℕ, Bool, not, true, false, true≢false, IsTrue, Result, Ok, Err, refl, sym, inl, inr}
 use Rattle.std.specs.Prelude.{◌↔◌, OnOk, OnErr, IfErr}
-use Rattle.gap_sets.specs.declared.region.Region.{Region}
+use Rattle.hunt_board.proofs.Vocabulary.{Region, not_cut}
 use Rattle.search_core.specs.declared.ceiling.Reason.TheVariants as reason
 use Rattle.search_core.specs.declared.fault.TreeFault.{TreeFault}
 use Rattle.search_core.specs.States.{SearchState, HasInHand}
 use Rattle.search_core.specs.Events.{Cuts, IsBeaten}
 use Rattle.search_core.specs.Faults.{CutFaultIs}
-use Rattle.search_core.proofs.Refusals.{not_cut}
 
 -- a cut by the best set is one, or nothing where that does not cut the node
 pub cut_or_not : (s after : SearchState) (seat : ℕ) (n : Region) (r : Result (Unit {0}) TreeFault) → HasInHand s seat n → OnOk r (Cuts s after seat) → OnErr r (after ≡ s) → IfErr r (CutFaultIs s seat reason.Best) →

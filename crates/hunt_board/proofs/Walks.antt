@@ -1,19 +1,10 @@
 -- The walk through the record of a search.
 use Rattle.std.proofs.Common.{◌≡◌, ℕ, zero, suc, ◌+◌, ◌<◌, List, [], ◌∷◌, Option, Some, None, refl, sym, ap, ◌∙◌, subst, arith, length}
-use Rattle.std.specs.Prelude.{slice_get}
-use Rattle.std.proofs.lemmas.Option.{same_Some, slice_get_within}
-use Rattle.gap_sets.specs.Gaps.{SetOfGaps}
-use Rattle.gap_sets.specs.Regions.{open_gaps, child_regions, with_gap, without_gap}
-use Rattle.gap_sets.specs.declared.region.Region.{Region}
-use Rattle.cover_solver.specs.Facts.{Foreign}
-use Rattle.search_core.specs.declared.entry.Entry.{Entry}
+use Rattle.hunt_board.proofs.Vocabulary.{slice_get, same_Some, slice_get_within, SetOfGaps, open_gaps, child_regions, with_gap, without_gap, Region, Foreign, Entry, Status, Settled, facts_of}
 use Rattle.search_core.specs.declared.entry.Status.TheVariants as status
-use Rattle.search_core.specs.declared.entry.Status.{Status}
 use Rattle.search_core.specs.declared.finished.Event.{Event}
 use Rattle.search_core.specs.declared.finished.Event.TheVariants as event
-use Rattle.search_core.specs.declared.finished.Settled.{Settled}
 use Rattle.search_core.specs.Records.{Outcome, finished_state, IsOutcome, IsEventOf, IsSettledAs, IsFirstChild}
-use Rattle.search_core.proofs.Kept.{facts_of}
 
 -- where no number is found
 pub none_there : (found : Option ℕ) → ((x : ℕ) → found ≡ Some x → ⊥) → found ≡ None

@@ -1,19 +1,8 @@
 -- All accesses of a sketch, listed by thread and index.
 use Rattle.std.proofs.Common.{◌≡◌, ◌↔◌, ◌⊎◌, ℕ, ◌+◌, ◌<◌, ◌≤◌, List, [], ◌∷◌, ◌++◌, get_or, length, Contains, refl, sym, ap, subst, inl, inr, arith}
-use Rattle.std.specs.List.{AllPairs}
-use Rattle.std.specs.Option.{option_map_or}
-use Rattle.std.proofs.lemmas.Bool.{cases_lt}
-use Rattle.std.proofs.lemmas.List.Elements.{Contains-get_or, Contains-append_left, Contains-push, Contains-push_cases}
-use Rattle.std.proofs.lemmas.List.Quantifiers.{all_pairs_push}
 use Rattle.std.proofs.lemmas.Option.{slice_get_past, slice_get_read}
-use Rattle.candidate_executions.specs.declared.event.Event.{Event}
-use Rattle.candidate_executions.specs.declared.event.Event.TheVariants.{Initial, Access as At}
-use Rattle.candidate_executions.specs.Events.{ComesBefore}
-use Rattle.candidate_executions.specs.Sketches.{given_to}
-use Rattle.thread_traces.specs.declared.thread_trace.ThreadTrace.{ThreadTrace}
-use Rattle.known_edges.specs.ProgramSketches.{ProgramSketch, mode_in, trace_in}
-use Rattle.known_edges.specs.Known.{IsInitialWrite}
-use Rattle.known_edges.specs.Rows.{accesses_at, IsEarly, IsOfThreads, AreAccesses}
+use Rattle.known_edges.proofs.Vocabulary.{AllPairs, option_map_or, cases_lt, Contains-get_or, Contains-append_left, Contains-push, Contains-push_cases, all_pairs_push, Event, Initial, At, ComesBefore}
+use Rattle.known_edges.proofs.Vocabulary.{given_to, ThreadTrace, ProgramSketch, mode_in, trace_in, IsInitialWrite, accesses_at, IsEarly, IsOfThreads, AreAccesses}
 use Rattle.thread_traces.proofs.Accesses.{IsGrown, later, none_past_by}
 
 -- an access of one of the first n threads

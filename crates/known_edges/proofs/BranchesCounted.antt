@@ -1,31 +1,19 @@
 -- A location has few values, and a read few sources.
 use Rattle.std.proofs.Common.{◌≡◌, ℕ, zero, suc, ◌+◌, ◌-◌, ◌*◌, ◌<◌, ◌≤◌, List, [], ◌∷◌, ◌++◌, Some, map, length, slice_get, get_or, Contains, sym, ap, ◌∙◌, subst, inl, inr, arith}
-use Rattle.std.specs.Prelude.{unwrap_or}
-use Rattle.std.specs.List.{AllPairs}
 use Rattle.std.specs.List.Sorted.{IsStrictlyIncreasing}
-use Rattle.std.proofs.lemmas.List.{length-map, length-append}
-use Rattle.std.proofs.lemmas.List.Elements.{Contains-append_left, Contains-append_right}
 use Rattle.std.proofs.lemmas.List.Kept.{AllPairs-from_increasing}
 use Rattle.std.proofs.lemmas.List.Sums.{sum_by-cons}
-use Rattle.std.proofs.lemmas.Option.{slice_get_within, get_or_from_slice_get, same_Some}
-use Rattle.tso_program.specs.declared.instruction.Instr.{Instr}
-use Rattle.tso_program.specs.declared.listing.Thread.{Thread}
-use Rattle.tso_program.specs.declared.listing.Listing.{Listing}
-use Rattle.tso_program.specs.Limits.{IsWithinLimits}
+use Rattle.known_edges.proofs.Vocabulary.{unwrap_or, AllPairs, length-map, length-append, Contains-append_left, Contains-append_right, slice_get_within, get_or_from_slice_get, same_Some, Instr}
+use Rattle.known_edges.proofs.Vocabulary.{Thread, Listing, IsWithinLimits, Access, Event, Initial, At, ComesBefore, first_is_here, later_is_here, mapped, few_of, all_events, all_events_few}
+use Rattle.known_edges.proofs.Vocabulary.{all_events_has}
 use Rattle.tso_program.specs.Listings.{gaps_of_thread, gap_count, instr_at, start_of}
 use Rattle.tso_machine.specs.Machine.{Machine}
-use Rattle.candidate_executions.specs.declared.access.Access.{Access}
-use Rattle.candidate_executions.specs.declared.event.Event.{Event}
-use Rattle.candidate_executions.specs.declared.event.Event.TheVariants.{Initial, Access as At}
 use Rattle.candidate_executions.specs.Candidates.{access_by}
-use Rattle.candidate_executions.specs.Events.{ComesBefore}
 use Rattle.candidate_executions.specs.Sketches.{Sketch, given_to, IsSourceOf}
 use Rattle.candidate_executions.specs.Values.{IsKnown, IsValueOf}
-use Rattle.candidate_executions.proofs.Orders.Lists.{first_is_here, later_is_here, mapped}
 use Rattle.thread_traces.specs.Immediates.{any_number}
 use Rattle.known_edges.specs.Sizes.{HaveAllRegisters, most_values, most_sources}
 use Rattle.thread_traces.proofs.KnownValues.{known_all}
-use Rattle.thread_traces.proofs.EventsCounted.{few_of, all_events, all_events_few, all_events_has}
 use Rattle.tso_program.specs.declared.instruction.TheConstants.{REGISTERS}
 
 -- an instruction's number, 0 where it has none

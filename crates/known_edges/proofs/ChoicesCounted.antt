@@ -1,26 +1,20 @@
 -- How many choices a sketch has, and how many it has at most.
 use Rattle.std.proofs.Common.{◌≡◌, ◌≢◌, ℕ, ◌+◌, ◌*◌, ◌<◌, ◌≤◌, List, [], ◌∷◌, ◌++◌, Some, None, map, length, Contains, sum_by, ap, ◌∙◌, subst, inl, inr, arith}
 use Rattle.std.specs.List.{AllPairs, remove}
-use Rattle.std.proofs.lemmas.Bool.{cases_lt}
 use Rattle.std.proofs.lemmas.List.{length-map, length-append, take_all}
 use Rattle.std.proofs.lemmas.List.Edits.{length-remove}
-use Rattle.std.proofs.lemmas.List.Elements.{Contains-append_left, Contains-append_right}
 use Rattle.std.proofs.lemmas.List.Sums.{get_or-le-sum_by, sum_by-set}
 use Rattle.std.proofs.lemmas.Option.{same_Some, slice_get_within, get_or_from_slice_get, unwrap_or-slice_get}
+use Rattle.known_edges.proofs.Vocabulary.{cases_lt, Contains-append_left, Contains-append_right, Access, Event, Initial, At, ProgramSketch, mode_in, trace_in, access_in, with_chosen, IsLawful}
+use Rattle.known_edges.proofs.Vocabulary.{AreOtherTwo, IsAccess}
 use Rattle.tso_program.specs.Listings.{accesses_of}
-use Rattle.candidate_executions.specs.declared.access.Access.{Access}
-use Rattle.candidate_executions.specs.declared.event.Event.{Event}
-use Rattle.candidate_executions.specs.declared.event.Event.TheVariants.{Initial, Access as At}
 use Rattle.candidate_executions.proofs.Orders.Lists.{get_some, first_or_later, first_is_here, later_is_here, mapped}
-use Rattle.known_edges.specs.ProgramSketches.{ProgramSketch, mode_in, trace_in, access_in, with_chosen}
-use Rattle.known_edges.specs.Kept.{IsLawful, AreOtherTwo}
 use Rattle.known_edges.specs.FewAccesses.{HasSmallNumbers, AreFewAccesses}
 use Rattle.known_edges.specs.Sizes.{choice_count, most_choices}
 use Rattle.known_edges.proofs.Accesses.{none_past}
 use Rattle.thread_traces.proofs.AccessesCounted.{given_few}
 use Rattle.thread_traces.proofs.EventsCounted.{stays, first_pairs, later_pairs, few_of, rows, rows_many, code_there, all_events, all_events_few, all_events_has}
 use Rattle.tso_program.specs.declared.limits.TheConstants.{MAX_ACCESSES}
-use Rattle.candidate_executions.specs.Candidates.{IsAccess}
 use Rattle.candidate_executions.specs.Sketches.{given_to, with_value, with_source, with_pair}
 
 abbrev Two : Type 0

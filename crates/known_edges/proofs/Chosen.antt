@@ -1,19 +1,9 @@
 -- Chosen pairs, looked up.
 use Rattle.std.proofs.Common.{◌≡◌, ◌≢◌, ◌↔◌, ℕ, ◌<◌, Bool, true, false, IsTrue, List, [], ◌∷◌, ◌++◌, Option, Some, None, Contains, get_or, length, refl, sym, ap, ◌∙◌, subst, inl, inr, arith}
-use Rattle.std.specs.List.{AllPairs}
-use Rattle.std.specs.Option.{is_some}
-use Rattle.std.proofs.lemmas.Bool.{cases_lt}
-use Rattle.std.proofs.lemmas.List.Elements.{Contains-get_or}
-use Rattle.std.proofs.lemmas.List.Quantifiers.{all_pairs_push}
 use Rattle.std.proofs.lemmas.Option.{same_Some, none-some}
-use Rattle.tso_program.specs.declared.listing.Listing.{Listing}
-use Rattle.candidate_executions.specs.declared.event.Event.{Event}
+use Rattle.known_edges.proofs.Vocabulary.{AllPairs, is_some, cases_lt, Contains-get_or, all_pairs_push, Listing, Event, Mode, ThreadTrace, machine_of_mode, ProgramSketch, view_of, KeepsTraces}
+use Rattle.known_edges.proofs.Vocabulary.{AreOtherTwo}
 use Rattle.candidate_executions.proofs.Sketches.Choices.{a_source_keeps_a_sketch, a_pair_keeps_a_sketch}
-use Rattle.tso_machine.specs.declared.mode.Mode.{Mode}
-use Rattle.thread_traces.specs.declared.thread_trace.ThreadTrace.{ThreadTrace}
-use Rattle.tso_machine.specs.Modes.{machine_of_mode}
-use Rattle.known_edges.specs.ProgramSketches.{ProgramSketch}
-use Rattle.known_edges.specs.Kept.{view_of, KeepsTraces, AreOtherTwo}
 use Rattle.known_edges.specs.Choices.{HasSource, MayRead, MayFollow}
 use Rattle.known_edges.proofs.Lookups.{same_default}
 

@@ -1,23 +1,8 @@
 -- Whether known edges make a cycle, seen in the rows.
 use Rattle.std.proofs.Common.{◌≡◌, ◌↔◌, ◌⊎◌, ℕ, List, [], ◌∷◌, ◌++◌, Bool, IsTrue, refl, sym, ◌∙◌, inl, inr}
-use Rattle.bit_rows.specs.Rows.{IsIn, AreConnected, HasRound}
-use Rattle.bit_rows.proofs.Bits.{none_in_zero}
-use Rattle.tso_program.specs.declared.listing.Listing.{Listing}
-use Rattle.candidate_executions.specs.declared.event.Event.{Event}
-use Rattle.candidate_executions.specs.declared.event.Kind.{Kind}
+use Rattle.known_edges.proofs.Vocabulary.{IsIn, AreConnected, HasRound, none_in_zero, Listing, Event, Kind, SameThread, KnownEdgeOfMode, IsWhole, Mode, Sequential, Fenced, machine_of_mode, SourceRows}
+use Rattle.known_edges.proofs.Vocabulary.{OrderRows, ThreadTrace, ProgramSketch, mode_in, view_of, HasCycle, MayRead, MayFollow}
 use Rattle.candidate_executions.specs.declared.event.Kind.TheVariants as union
-use Rattle.candidate_executions.specs.Consistency.{SameThread}
-use Rattle.candidate_executions.specs.Sketches.{KnownEdgeOfMode, IsWhole}
-use Rattle.tso_machine.specs.declared.mode.Mode.{Mode}
-use Rattle.tso_machine.specs.declared.mode.Mode.TheVariants.{Sequential, Fenced}
-use Rattle.tso_machine.specs.Modes.{machine_of_mode}
-use Rattle.known_edges.specs.declared.edge_rows.SourceRows.{SourceRows}
-use Rattle.known_edges.specs.declared.edge_rows.OrderRows.{OrderRows}
-use Rattle.thread_traces.specs.declared.thread_trace.ThreadTrace.{ThreadTrace}
-use Rattle.known_edges.specs.ProgramSketches.{ProgramSketch, mode_in}
-use Rattle.known_edges.specs.Kept.{view_of}
-use Rattle.known_edges.specs.Known.{HasCycle}
-use Rattle.known_edges.specs.Choices.{MayRead, MayFollow}
 use Rattle.known_edges.specs.Rows.{AreRowsOf, AreSourceRows, AreOrderRows, ClosesOnce, ClosesTwice, IsRepresented, main_kind, union_rows}
 use Rattle.known_edges.proofs.Found.{cycle_of_accesses, kind_of}
 use Rattle.known_edges.proofs.Numbered.{access_number, rows_of_kind}

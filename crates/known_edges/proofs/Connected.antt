@@ -1,21 +1,9 @@
 -- What a choice adds to the known edges, and that the rows are brought up to date with it.
 use Rattle.std.proofs.Common.{◌≡◌, ◌≢◌, ◌↔◌, ◌⊎◌, ℕ, List, [], ◌∷◌, ◌++◌, Some, Contains, slice_get, refl, sym, ap, ◌∙◌, subst, inl, inr}
-use Rattle.std.proofs.lemmas.List.Elements.{Contains-append_left, Contains-push, Contains-push_cases}
-use Rattle.bit_rows.specs.Rows.{IsIn, RowHas}
-use Rattle.tso_program.specs.declared.listing.Listing.{Listing}
-use Rattle.candidate_executions.specs.declared.access.Access.{Access}
-use Rattle.candidate_executions.specs.declared.event.Event.{Event}
-use Rattle.candidate_executions.specs.declared.event.Kind.{Kind}
+use Rattle.known_edges.proofs.Vocabulary.{Contains-append_left, Contains-push, Contains-push_cases, IsIn, RowHas, Listing, Access, Event, Kind, IsOfMode, SameThread, Precedes, IsBefore, with_source}
+use Rattle.known_edges.proofs.Vocabulary.{with_pair, KnownEdgeOfMode, Mode, Sequential, Fenced, machine_of_mode, ProgramSketch, mode_in, access_in, with_chosen, IsLawful, OrderPart, SourcePart}
+use Rattle.known_edges.proofs.Vocabulary.{MayRead, MayFollow}
 use Rattle.candidate_executions.specs.declared.event.Kind.TheVariants as union
-use Rattle.candidate_executions.specs.Consistency.{IsOfMode, SameThread, Precedes}
-use Rattle.candidate_executions.specs.Sketches.{IsBefore, with_source, with_pair, KnownEdgeOfMode}
-use Rattle.tso_machine.specs.declared.mode.Mode.{Mode}
-use Rattle.tso_machine.specs.declared.mode.Mode.TheVariants.{Sequential, Fenced}
-use Rattle.tso_machine.specs.Modes.{machine_of_mode}
-use Rattle.known_edges.specs.ProgramSketches.{ProgramSketch, mode_in, access_in, with_chosen}
-use Rattle.known_edges.specs.Kept.{IsLawful}
-use Rattle.known_edges.specs.Known.{OrderPart, SourcePart}
-use Rattle.known_edges.specs.Choices.{MayRead, MayFollow}
 use Rattle.known_edges.specs.Rows.{IsRowOf, AreRowsOf, IsAlike, ReadsBut, main_kind}
 use Rattle.known_edges.proofs.KnownParts.{Parts4, to_relates, of_relates}
 

@@ -1,21 +1,10 @@
 -- Where a search for cycles begins and ends.
 use Rattle.std.proofs.Common.{◌≡◌, List, [], ◌∷◌, Contains, refl, subst, arith}
-use Rattle.std.proofs.lemmas.Option.{slice_get_within}
+use Rattle.known_edges.proofs.Vocabulary.{slice_get_within, Event, Initial, At, Kind, IsOfMode, IsAccess, IsKnownCycle, KnownEdgeOfMode, given_to, Mode, Sequential, Fenced, machine_of_mode}
+use Rattle.known_edges.proofs.Vocabulary.{ProgramSketch, mode_in, IsLawful, HasNoCycle}
 use Rattle.gap_sets.specs.Gaps.{SetOfGaps}
-use Rattle.candidate_executions.specs.declared.event.Event.{Event}
-use Rattle.candidate_executions.specs.declared.event.Event.TheVariants.{Initial, Access as At}
-use Rattle.candidate_executions.specs.declared.event.Kind.{Kind}
 use Rattle.candidate_executions.specs.declared.event.Kind.TheVariants as union
-use Rattle.candidate_executions.specs.Consistency.{IsOfMode}
 use Rattle.candidate_executions.proofs.Candidates.NothingIntoInitial.{not_in_cycle, no_known_edge_into_initial}
-use Rattle.candidate_executions.specs.Candidates.{IsAccess}
-use Rattle.candidate_executions.specs.Sketches.{IsKnownCycle, KnownEdgeOfMode, given_to}
-use Rattle.tso_machine.specs.declared.mode.Mode.{Mode}
-use Rattle.tso_machine.specs.declared.mode.Mode.TheVariants.{Sequential, Fenced}
-use Rattle.tso_machine.specs.Modes.{machine_of_mode}
-use Rattle.known_edges.specs.ProgramSketches.{ProgramSketch, mode_in}
-use Rattle.known_edges.specs.Kept.{IsLawful}
-use Rattle.known_edges.specs.Known.{HasNoCycle}
 use Rattle.known_edges.proofs.Cycles.{next_in_cycle}
 
 -- every cycle is one of accesses

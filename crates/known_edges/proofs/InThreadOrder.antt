@@ -1,15 +1,6 @@
 -- Accesses listed by thread and index.
 use Rattle.std.proofs.Common.{◌≡◌, ℕ, ◌<◌, List, [], Some, slice_get, get_or, sym, ◌∙◌, subst, arith}
-use Rattle.std.specs.List.{AllPairs}
-use Rattle.std.proofs.lemmas.Option.{slice_get_within, get_or_from_slice_get, same_Some}
-use Rattle.bit_rows.specs.Rows.{RowHas}
-use Rattle.candidate_executions.specs.declared.event.Event.{Event}
-use Rattle.candidate_executions.specs.declared.event.Event.TheVariants.{Initial, Access as At}
-use Rattle.candidate_executions.specs.declared.event.Kind.{Kind}
-use Rattle.candidate_executions.specs.Consistency.{Precedes}
-use Rattle.candidate_executions.specs.Events.{ComesBefore}
-use Rattle.thread_traces.specs.declared.thread_trace.ThreadTrace.{ThreadTrace}
-use Rattle.known_edges.specs.Rows.{InOrder, AreRowsOf}
+use Rattle.known_edges.proofs.Vocabulary.{AllPairs, slice_get_within, get_or_from_slice_get, same_Some, RowHas, Event, Initial, At, Kind, Precedes, ComesBefore, ThreadTrace, InOrder, AreRowsOf}
 use Rattle.known_edges.proofs.Connected.{order_precedes}
 
 -- nothing is listed

@@ -1,17 +1,9 @@
 -- Known edges by their parts.
 use Rattle.std.proofs.Common.{◌≡◌, ◌↔◌, ◌⊎◌, Bool, IsTrue, Some, IsSome, refl, sym, ap, ◌∙◌, subst, inl, inr}
-use Rattle.candidate_executions.specs.declared.access.Access.{Access}
-use Rattle.candidate_executions.specs.declared.event.Event.{Event}
-use Rattle.candidate_executions.specs.declared.event.Kind.{Kind}
+use Rattle.known_edges.proofs.Vocabulary.{Access, Event, Kind, same_Some, some_value, ProgramSketch, access_in, mode_in, Precedes, OrderPart, SourcePart, IsInitialWrite, of_some}
 use Rattle.candidate_executions.specs.declared.event.Kind.TheVariants as union
 use Rattle.candidate_executions.specs.Sketches.{Sketch, IsBefore, KnownFromReads, KnownRelates, IsPair}
-use Rattle.std.proofs.lemmas.Option.{same_Some}
-use Rattle.candidate_executions.proofs.Orders.Lists.{some_value}
-use Rattle.known_edges.specs.ProgramSketches.{ProgramSketch, access_in, mode_in}
-use Rattle.candidate_executions.specs.Consistency.{Precedes}
-use Rattle.known_edges.specs.Known.{OrderPart, SourcePart, IsInitialWrite}
 use Rattle.thread_traces.specs.ThreadOrder.{IsKeptBy}
-use Rattle.thread_traces.proofs.KnownParts.{of_some}
 
 -- program order is that of the accesses' thread, where the union keeps it
 pub order_part : (kind : Kind) (d : Event) (x : Access) (e : Event) (y : Access) → OrderPart kind d x e y ↔ (Precedes d e × IsKeptBy kind x y)

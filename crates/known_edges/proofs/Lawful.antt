@@ -1,23 +1,9 @@
 -- What a sketch keeps holds at the start, and after each value that is given.
 use Rattle.std.proofs.Common.{◌≡◌, ◌≢◌, ◌⊎◌, ℕ, zero, suc, ◌<◌, List, [], ◌∷◌, ◌++◌, Some, None, IsSome, Contains, slice_get, set, map, length, refl, sym, ap, ◌∙◌, subst, inl, inr, arith, length-set}
-use Rattle.std.proofs.lemmas.Bool.{cases_eq}
-use Rattle.std.proofs.lemmas.List.{length-map}
-use Rattle.std.proofs.lemmas.Option.{slice_get_within, same_Some}
-use Rattle.tso_program.specs.declared.listing.Thread.{Thread}
-use Rattle.tso_program.specs.declared.listing.Listing.{Listing}
-use Rattle.tso_program.specs.Limits.{IsWithinLimits}
-use Rattle.tso_program.specs.Listings.{action, code_of, start_of}
-use Rattle.candidate_executions.specs.declared.access.Access.{Access}
-use Rattle.candidate_executions.specs.declared.event.Event.{Event}
-use Rattle.candidate_executions.specs.declared.event.Event.TheVariants.{Initial, Access as At}
-use Rattle.candidate_executions.specs.Values.{IsValueOf}
-use Rattle.candidate_executions.specs.Traces.{trace, fenced_gaps}
+use Rattle.known_edges.proofs.Vocabulary.{cases_eq, length-map, slice_get_within, same_Some, Thread, Listing, IsWithinLimits, action, code_of, start_of, Access, Event, Initial, At, IsValueOf, trace}
+use Rattle.known_edges.proofs.Vocabulary.{fenced_gaps, get_cases, get_set_same, get_set_other, Mode, ThreadTrace, machine_of_mode}
 use Rattle.candidate_executions.specs.Sketches as sketches
 use Rattle.candidate_executions.proofs.FromRuns.StepsSuffice.{advance}
-use Rattle.candidate_executions.proofs.Orders.Lists.{get_cases, get_set_same, get_set_other}
-use Rattle.tso_machine.specs.declared.mode.Mode.{Mode}
-use Rattle.thread_traces.specs.declared.thread_trace.ThreadTrace.{ThreadTrace}
-use Rattle.tso_machine.specs.Modes.{machine_of_mode}
 use Rattle.known_edges.specs.ProgramSketches.{ProgramSketch, trace_in, access_in, nothing_chosen, with_chosen}
 use Rattle.thread_traces.specs.ThreadTraces.{IsThreadTraceOf}
 use Rattle.known_edges.specs.Kept.{given_lists, given_in, view_of, KeepsTraces, IsLawful}

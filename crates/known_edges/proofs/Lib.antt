@@ -1,3 +1,5 @@
+-- what many proofs speak of
+mod Vocabulary
 pub mod Lookups
 pub mod TracesKept
 pub mod Chosen

@@ -1,25 +1,10 @@
 -- The location of each access is one of the program's.
 use Rattle.std.proofs.Common.{◌≡◌, ℕ, zero, suc, ◌<◌, Bool, List, [], ◌∷◌, Option, Some, None, slice_get, length, refl, sym, ap, ◌∙◌, subst, arith}
-use Rattle.std.proofs.lemmas.Option.{slice_get_within, same_Some}
-use Rattle.tso_program.specs.declared.action.Action.{Action}
-use Rattle.tso_program.specs.declared.action.Action.TheVariants.{Stop, Go, Wait, Read, Write, Swap}
-use Rattle.tso_program.specs.declared.action.Local.{Local}
-use Rattle.tso_program.specs.declared.instruction.Instr.{Instr}
-use Rattle.tso_program.specs.declared.listing.Listing.{Listing}
+use Rattle.known_edges.proofs.Vocabulary.{slice_get_within, same_Some, Action, Stop, Go, Wait, Read, Write, Swap, Local, Instr, Listing, IsWithinLimits, action, instr_at, code_of, start_of, Access}
+use Rattle.known_edges.proofs.Vocabulary.{Event, Initial, At, given_to, Trace, trace, traced, entered, fenced_gaps, load_of, store_of, exchange_of, Mode, ThreadTrace, ProgramSketch, mode_in, view_of}
+use Rattle.known_edges.proofs.Vocabulary.{KeepsTraces, HaveLocations}
 use Rattle.tso_program.specs.Actions.{act, loaded, IsLocated}
-use Rattle.tso_program.specs.Limits.{IsWithinLimits}
-use Rattle.tso_program.specs.Listings.{action, instr_at, code_of, start_of}
 use Rattle.tso_program.proofs.Located.{act_located}
-use Rattle.candidate_executions.specs.declared.access.Access.{Access}
-use Rattle.candidate_executions.specs.declared.event.Event.{Event}
-use Rattle.candidate_executions.specs.declared.event.Event.TheVariants.{Initial, Access as At}
-use Rattle.candidate_executions.specs.Sketches.{given_to}
-use Rattle.candidate_executions.specs.Traces.{Trace, trace, traced, entered, fenced_gaps, load_of, store_of, exchange_of}
-use Rattle.tso_machine.specs.declared.mode.Mode.{Mode}
-use Rattle.thread_traces.specs.declared.thread_trace.ThreadTrace.{ThreadTrace}
-use Rattle.known_edges.specs.ProgramSketches.{ProgramSketch, mode_in}
-use Rattle.known_edges.specs.Kept.{view_of, KeepsTraces}
-use Rattle.known_edges.specs.Rows.{HaveLocations}
 use Rattle.known_edges.proofs.Numbered.{accesses_same}
 
 -- each of the accesses is of one of so many locations

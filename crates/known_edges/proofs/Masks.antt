@@ -1,13 +1,8 @@
 -- Rows of events, gathered event by event.
 use Rattle.std.proofs.Common.{◌≡◌, ◌≢◌, ◌↔◌, ◌⊎◌, ℕ, ◌+◌, ◌<◌, ◌≤◌, List, Some, slice_get, get_or, set, length, sym, ap, ◌∙◌, subst, inl, inr, arith}
-use Rattle.std.proofs.lemmas.Bool.{cases_lt, cases_eq}
 use Rattle.std.proofs.lemmas.List.{get_or-set_same, get_or-set_other}
-use Rattle.std.proofs.lemmas.Option.{slice_get_within, slice_get-get_or, get_or_from_slice_get, same_Some}
+use Rattle.known_edges.proofs.Vocabulary.{cases_lt, cases_eq, slice_get_within, slice_get-get_or, get_or_from_slice_get, same_Some, none_in_zero, Event, Initial, IsRowOf, AreRowsOf, ReadsBut}
 use Rattle.bit_rows.specs.Rows.{IsIn, RowHas, IsTransitive}
-use Rattle.bit_rows.proofs.Bits.{none_in_zero}
-use Rattle.candidate_executions.specs.declared.event.Event.{Event}
-use Rattle.candidate_executions.specs.declared.event.Event.TheVariants.{Initial}
-use Rattle.known_edges.specs.Rows.{IsRowOf, AreRowsOf, ReadsBut}
 
 -- the event of this number, of which P holds
 abbrev pub Holds : List Event → (Event → Type 0) → ℕ → Type 0

@@ -1,34 +1,16 @@
 -- Accesses by number: what the rows of a sketch say of its events.
 use Rattle.std.proofs.Common.{◌≡◌, ◌↔◌, ℕ, Bool, IsTrue, List, [], Option, Some, None, Contains, slice_get, get_or, length, refl, sym, ap, ◌∙◌, subst, inl, inr, ◌≤◌, arith}
 use Rattle.std.specs.Prelude.{slice_index}
-use Rattle.std.specs.Option.{option_map_or}
-use Rattle.std.proofs.lemmas.Option.{slice_get_within, slice_get-get_or, get_or_from_slice_get, same_Some}
-use Rattle.bit_rows.specs.Rows.{IsIn, RowHas}
-use Rattle.bit_rows.specs.declared.row.TheConstants.{ROW_BITS}
-use Rattle.tso_program.specs.declared.limits.TheConstants.{MAX_THREADS, MAX_INSTRUCTIONS}
-use Rattle.tso_program.specs.declared.listing.Listing.{Listing}
-use Rattle.candidate_executions.specs.declared.access.Access.{Access}
-use Rattle.candidate_executions.specs.declared.event.Event.{Event}
-use Rattle.candidate_executions.specs.declared.event.Event.TheVariants.{Initial, Access as At}
-use Rattle.candidate_executions.specs.declared.event.Kind.{Kind}
+use Rattle.known_edges.proofs.Vocabulary.{option_map_or, slice_get_within, slice_get-get_or, get_or_from_slice_get, same_Some, IsIn, RowHas, ROW_BITS, MAX_THREADS, MAX_INSTRUCTIONS, Listing, Access}
+use Rattle.known_edges.proofs.Vocabulary.{Event, Initial, At, Kind, ComesBefore, IsOfMode, Mode, Sequential, Fenced, ThreadTrace, machine_of_mode, ProgramSketch, mode_in, trace_in, access_in, view_of}
+use Rattle.known_edges.proofs.Vocabulary.{KeepsTraces, IsInitialWrite, accesses_at, traced_access, IsOfThreads, AreAccesses, EachEnds, FitRow, AreRowsOf, HasWrites, IsRowOf, IsWriteAt, main_kind}
+use Rattle.known_edges.proofs.Vocabulary.{union_rows, some_value, of_some}
 use Rattle.candidate_executions.specs.declared.event.Kind.TheVariants as union
 use Rattle.candidate_executions.specs.Candidates.{Writes, IsAccess}
-use Rattle.candidate_executions.specs.Events.{ComesBefore}
-use Rattle.candidate_executions.specs.Consistency.{IsOfMode}
 use Rattle.candidate_executions.specs.Sketches.{IsWhole, IsPair, given_to, next_read}
-use Rattle.tso_machine.specs.declared.mode.Mode.{Mode}
-use Rattle.tso_machine.specs.declared.mode.Mode.TheVariants.{Sequential, Fenced}
-use Rattle.thread_traces.specs.declared.thread_trace.ThreadTrace.{ThreadTrace}
-use Rattle.tso_machine.specs.Modes.{machine_of_mode}
-use Rattle.known_edges.specs.ProgramSketches.{ProgramSketch, mode_in, trace_in, access_in}
-use Rattle.known_edges.specs.Kept.{view_of, KeepsTraces}
-use Rattle.known_edges.specs.Known.{IsInitialWrite}
 use Rattle.known_edges.specs.Choices.{IsOrdered}
 use Rattle.known_edges.specs.Writes.{HasLater, IsLastWith, IsWritten}
-use Rattle.known_edges.specs.Rows.{accesses_at, traced_access, IsOfThreads, AreAccesses, EachEnds, FitRow, AreRowsOf, HasWrites, IsRowOf, IsWriteAt, main_kind, union_rows}
 use Rattle.known_edges.proofs.TracesKept.{trace_accesses, no_accesses, no_trace, trace_next, past_next}
-use Rattle.candidate_executions.proofs.Orders.Lists.{some_value}
-use Rattle.thread_traces.proofs.KnownParts.{of_some}
 use Rattle.known_edges.proofs.Connected.{HasNumber}
 use Rattle.known_edges.proofs.ChoicesCounted.{few_accesses}
 use Rattle.known_edges.proofs.BranchesCounted.{not_before_itself}

@@ -1,25 +1,10 @@
 -- Program order of each union is transitive.
 use Rattle.std.proofs.Common.{◌≡◌, ℕ, zero, suc, ◌<◌, ◌≤◌, Bool, true, false, List, [], ◌∷◌, Some, IsSome, slice_get, sym, ap, ◌∙◌, subst, inl, inr, arith}
-use Rattle.std.proofs.lemmas.Option.{same_Some}
-use Rattle.tso_program.specs.Actions.{loaded}
-use Rattle.tso_program.specs.declared.action.Action.{Action}
-use Rattle.tso_program.specs.declared.action.Action.TheVariants.{Stop, Go, Wait, Read, Write, Swap}
-use Rattle.tso_program.specs.declared.action.Local.{Local}
-use Rattle.tso_program.specs.declared.listing.Listing.{Listing}
-use Rattle.tso_program.specs.Listings.{action, start_of}
-use Rattle.tso_machine.specs.declared.mode.Mode.{Mode}
-use Rattle.tso_machine.specs.Modes.{machine_of_mode}
-use Rattle.candidate_executions.specs.declared.access.Access.{Access}
-use Rattle.candidate_executions.specs.declared.event.Event.{Event}
-use Rattle.candidate_executions.specs.declared.event.Event.TheVariants.{Initial, Access as At}
-use Rattle.candidate_executions.specs.declared.event.Kind.{Kind}
+use Rattle.known_edges.proofs.Vocabulary.{same_Some, loaded, Action, Stop, Go, Wait, Read, Write, Swap, Local, Listing, action, start_of, Mode, machine_of_mode, Access, Event, Initial, At, Kind}
+use Rattle.known_edges.proofs.Vocabulary.{Trace, trace, traced, with_access, entered, store_of, load_of, exchange_of, fenced_gaps, ThreadTrace, OrderPart, KeepsTraces}
 use Rattle.candidate_executions.specs.declared.event.Kind.TheVariants as union
 use Rattle.candidate_executions.specs.Consistency.{Precedes, KeepsOrder}
-use Rattle.candidate_executions.specs.Traces.{Trace, trace, traced, with_access, entered, store_of, load_of, exchange_of, fenced_gaps}
 use Rattle.candidate_executions.proofs.Sections.SectionsRise.{from_section}
-use Rattle.thread_traces.specs.declared.thread_trace.ThreadTrace.{ThreadTrace}
-use Rattle.known_edges.specs.Known.{OrderPart}
-use Rattle.known_edges.specs.Kept.{KeepsTraces}
 use Rattle.known_edges.specs.Rows.{traced_access, InOrder, AreOfSketch}
 use Rattle.known_edges.proofs.Numbered.{accesses_same}
 use Rattle.known_edges.proofs.Unchosen.{precedes_then}

@@ -1,20 +1,10 @@
 -- Cycles of known edges, seen in the rows.
 use Rattle.std.proofs.Common.{◌≡◌, ◌↔◌, ℕ, suc, List, [], ◌∷◌, Some, Contains, slice_get, refl, sym, ◌∙◌, subst, arith}
-use Rattle.std.proofs.lemmas.Option.{same_Some, slice_get_within}
+use Rattle.known_edges.proofs.Vocabulary.{same_Some, slice_get_within, Listing, Mode, Event, Kind, IsAccess, Leads, IsCycle, IsOfMode, KnownEdgeOfMode, IsKnownCycle, IsWhole, given_to, ThreadTrace}
+use Rattle.known_edges.proofs.Vocabulary.{ProgramSketch, mode_in, view_of, IsLawful, AreRowsOf, IsRepresented, union_rows}
 use Rattle.bit_rows.specs.Rows.{IsIn, RowHas, Reaches, HasRound, RowsLead as Path}
 use Rattle.bit_rows.proofs.Paths.{reaches_then}
-use Rattle.tso_program.specs.declared.listing.Listing.{Listing}
-use Rattle.tso_machine.specs.declared.mode.Mode.{Mode}
-use Rattle.candidate_executions.specs.declared.event.Event.{Event}
-use Rattle.candidate_executions.specs.declared.event.Kind.{Kind}
-use Rattle.candidate_executions.specs.Candidates.{IsAccess}
-use Rattle.candidate_executions.specs.Consistency.{Leads, IsCycle, IsOfMode}
-use Rattle.candidate_executions.specs.Sketches.{KnownEdgeOfMode, IsKnownCycle, IsWhole, given_to}
-use Rattle.thread_traces.specs.declared.thread_trace.ThreadTrace.{ThreadTrace}
-use Rattle.known_edges.specs.ProgramSketches.{ProgramSketch, mode_in}
-use Rattle.known_edges.specs.Kept.{view_of, IsLawful}
 use Rattle.known_edges.specs.Rounds.{AreRelated, HaveEvents, GoesOnIn}
-use Rattle.known_edges.specs.Rows.{AreRowsOf, IsRepresented, union_rows}
 use Rattle.known_edges.proofs.Connected.{HasNumber}
 use Rattle.known_edges.proofs.Numbered.{at_numbers, rows_of_kind, access_number}
 use Rattle.known_edges.proofs.Found.{cycle_of_accesses}

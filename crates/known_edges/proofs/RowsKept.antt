@@ -1,23 +1,9 @@
 -- The rows of a sketch at its start, and after each choice.
 use Rattle.std.proofs.Common.{◌≡◌, ◌↔◌, ◌⊎◌, ℕ, ◌<◌, List, [], ◌∷◌, ◌++◌, Some, None, Contains, slice_get, get_or, length, refl, sym, ap, ◌∙◌, subst, inl, inr}
-use Rattle.std.proofs.lemmas.Option.{slice_get-get_or, same_Some}
-use Rattle.bit_rows.specs.Rows.{IsIn, RowHas, AreConnected}
-use Rattle.tso_program.specs.declared.listing.Listing.{Listing}
-use Rattle.candidate_executions.specs.declared.access.Access.{Access}
-use Rattle.candidate_executions.specs.declared.event.Event.{Event}
-use Rattle.candidate_executions.specs.declared.event.Event.TheVariants.{Initial, Access as At}
-use Rattle.candidate_executions.specs.declared.event.Kind.{Kind}
+use Rattle.known_edges.proofs.Vocabulary.{slice_get-get_or, same_Some, IsIn, RowHas, AreConnected, Listing, Access, Event, Initial, At, Kind, IsOfMode, SameThread, with_source, with_pair}
+use Rattle.known_edges.proofs.Vocabulary.{KnownEdgeOfMode, Mode, Sequential, Fenced, SourceRows, OrderRows, ThreadTrace, ProgramSketch, mode_in, access_in, with_chosen, view_of, KeepsTraces, MayRead}
+use Rattle.known_edges.proofs.Vocabulary.{MayFollow}
 use Rattle.candidate_executions.specs.declared.event.Kind.TheVariants as union
-use Rattle.candidate_executions.specs.Consistency.{IsOfMode, SameThread}
-use Rattle.candidate_executions.specs.Sketches.{with_source, with_pair, KnownEdgeOfMode}
-use Rattle.tso_machine.specs.declared.mode.Mode.{Mode}
-use Rattle.tso_machine.specs.declared.mode.Mode.TheVariants.{Sequential, Fenced}
-use Rattle.known_edges.specs.declared.edge_rows.SourceRows.{SourceRows}
-use Rattle.known_edges.specs.declared.edge_rows.OrderRows.{OrderRows}
-use Rattle.thread_traces.specs.declared.thread_trace.ThreadTrace.{ThreadTrace}
-use Rattle.known_edges.specs.ProgramSketches.{ProgramSketch, mode_in, access_in, with_chosen}
-use Rattle.known_edges.specs.Kept.{view_of, KeepsTraces}
-use Rattle.known_edges.specs.Choices.{MayRead, MayFollow}
 use Rattle.known_edges.specs.Rows.{accesses_at, traced_access, IsOfThreads, IsRowOf, AreRowsOf, InOrder, IsWriteAt, ReadsBut, IsAfter, HasOrder, AreSourceRows, AreOrderRows, IsRepresented, main_kind}
 use Rattle.known_edges.proofs.KnownParts.{to_relates}
 use Rattle.known_edges.proofs.Chosen.{source_kept, pair_kept}

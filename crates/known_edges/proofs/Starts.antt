@@ -1,16 +1,7 @@
 -- The numbers of accesses: the start of a thread, and an index in it.
 use Rattle.std.proofs.Common.{◌≡◌, ◌↔◌, ◌⊎◌, ℕ, zero, suc, ◌+◌, ◌<◌, ◌≤◌, List, [], ◌∷◌, ◌++◌, Some, Contains, slice_get, set, length, refl, sym, ap, ◌∙◌, subst, inl, inr, arith}
-use Rattle.std.specs.List.{AllPairs}
-use Rattle.std.proofs.lemmas.Bool.{cases_lt, cases_eq}
-use Rattle.std.proofs.lemmas.Option.{slice_get_within, same_Some}
-use Rattle.bit_rows.specs.Rows.{IsIn}
-use Rattle.bit_rows.proofs.Bits.{none_in_zero}
-use Rattle.bit_rows.proofs.Written.{zeros}
-use Rattle.candidate_executions.specs.declared.event.Event.{Event}
-use Rattle.candidate_executions.specs.declared.event.Event.TheVariants.{Initial, Access as At}
-use Rattle.candidate_executions.proofs.Orders.Lists.{get_cases, get_set_same, get_set_other}
-use Rattle.candidate_executions.specs.Events.{ComesBefore}
-use Rattle.thread_traces.specs.declared.thread_trace.ThreadTrace.{ThreadTrace}
+use Rattle.known_edges.proofs.Vocabulary.{AllPairs, cases_lt, cases_eq, slice_get_within, same_Some, IsIn, none_in_zero, zeros, Event, Initial, At, get_cases, get_set_same, get_set_other, ComesBefore}
+use Rattle.known_edges.proofs.Vocabulary.{ThreadTrace}
 use Rattle.known_edges.specs.Rows.{IsRowOf, AreAccesses, AreBeyond, AreCounts, AreNumbered, AreStarts, EachEnds, FitRow, IsEarly, IsOfThreads}
 use Rattle.known_edges.proofs.Accesses.{IsBelow}
 use Rattle.known_edges.proofs.BranchesCounted.{not_before_itself}

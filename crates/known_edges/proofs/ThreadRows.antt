@@ -1,15 +1,7 @@
 -- The rows of one thread's accesses, moved up to the numbers of all accesses.
 use Rattle.std.proofs.Common.{◌≡◌, ◌↔◌, ℕ, ◌+◌, ◌<◌, ◌≤◌, List, Some, slice_get, Bool, length, refl, sym, ap, ◌∙◌, subst, inl, inr, arith}
-use Rattle.std.proofs.lemmas.Bool.{cases_lt}
-use Rattle.std.proofs.lemmas.Option.{slice_get_within, same_Some}
-use Rattle.bit_rows.specs.Rows.{IsIn}
-use Rattle.bit_rows.specs.declared.row.TheConstants.{ROW_BITS}
-use Rattle.candidate_executions.specs.declared.event.Event.{Event}
-use Rattle.candidate_executions.specs.declared.event.Event.TheVariants.{Initial, Access as At}
-use Rattle.candidate_executions.specs.declared.event.Kind.{Kind}
-use Rattle.thread_traces.specs.declared.thread_trace.ThreadTrace.{ThreadTrace}
+use Rattle.known_edges.proofs.Vocabulary.{cases_lt, slice_get_within, same_Some, IsIn, ROW_BITS, Event, Initial, At, Kind, ThreadTrace, IsLaterIn}
 use Rattle.known_edges.specs.Rows.{accesses_at, traced_access, AreAccesses, AreStarts, InOrder, IsRowOf, KeepsTraceNumbers, NumberedTraces}
-use Rattle.thread_traces.specs.ThreadOrder.{IsLaterIn}
 use Rattle.known_edges.proofs.Accesses.{no_trace}
 use Rattle.known_edges.proofs.KnownParts.{order_part}
 use Rattle.known_edges.proofs.Numbered.{number_of, contained}

@@ -1,20 +1,10 @@
 -- The trace that is kept of each thread is the trace under its given values.
 use Rattle.std.proofs.Common.{◌≡◌, ℕ, ◌<◌, ◌≤◌, List, [], Some, None, slice_get, length, ap, ◌∙◌, subst, inl, inr, IsSome, arith}
 use Rattle.std.specs.Prelude.{unwrap_or, option_map}
-use Rattle.std.proofs.lemmas.Bool.{cases_lt}
 use Rattle.std.proofs.lemmas.Option.{slice_get-map}
-use Rattle.tso_program.specs.declared.listing.Listing.{Listing}
-use Rattle.tso_program.specs.Listings.{action, code_of, start_of}
-use Rattle.candidate_executions.specs.declared.event.Event.{Event}
-use Rattle.candidate_executions.specs.Traces.{trace, fenced_gaps}
+use Rattle.known_edges.proofs.Vocabulary.{cases_lt, Listing, action, code_of, start_of, Event, trace, fenced_gaps, get_some, Mode, ThreadTrace, machine_of_mode, ProgramSketch, trace_in, given_in}
+use Rattle.known_edges.proofs.Vocabulary.{view_of, KeepsTraces, HaveAllRegisters}
 use Rattle.candidate_executions.specs.Sketches as sketches
-use Rattle.candidate_executions.proofs.Orders.Lists.{get_some}
-use Rattle.tso_machine.specs.declared.mode.Mode.{Mode}
-use Rattle.thread_traces.specs.declared.thread_trace.ThreadTrace.{ThreadTrace}
-use Rattle.tso_machine.specs.Modes.{machine_of_mode}
-use Rattle.known_edges.specs.ProgramSketches.{ProgramSketch, trace_in}
-use Rattle.known_edges.specs.Kept.{given_in, view_of, KeepsTraces}
-use Rattle.known_edges.specs.Sizes.{HaveAllRegisters}
 use Rattle.thread_traces.proofs.TracesKept.{past_end, no_code, no_action}
 
 module _ (p : Listing) (mode : Mode) (thread_traces : List ThreadTrace) (sources pairs : List (Event × Event)) (kept : KeepsTraces p mode thread_traces sources pairs) where

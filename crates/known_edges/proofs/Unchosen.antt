@@ -1,16 +1,8 @@
 -- What is known where neither a source nor an order is chosen: program order, which has no cycle.
 use Rattle.std.proofs.Common.{◌⊎◌, suc, List, [], ◌∷◌, Contains, refl, ◌∙◌, subst, inl, inr, arith}
-use Rattle.candidate_executions.specs.declared.access.Access.{Access}
-use Rattle.candidate_executions.specs.declared.event.Event.{Event}
-use Rattle.candidate_executions.specs.declared.event.Event.TheVariants.{Initial, Access as At}
-use Rattle.candidate_executions.specs.declared.event.Kind.{Kind}
+use Rattle.known_edges.proofs.Vocabulary.{Access, Event, Initial, At, Kind, Leads, Precedes, IsBefore, KnownRelates, KnownEdgeOfMode, IsKnownCycle, IsWhole, given_to, IsAccess, ProgramSketch, mode_in}
+use Rattle.known_edges.proofs.Vocabulary.{IsLawful, HasNoCycle, OrderPart, SourcePart}
 use Rattle.candidate_executions.specs.declared.event.Kind.TheVariants as union
-use Rattle.candidate_executions.specs.Consistency.{Leads, Precedes}
-use Rattle.candidate_executions.specs.Sketches.{IsBefore, KnownRelates, KnownEdgeOfMode, IsKnownCycle, IsWhole, given_to}
-use Rattle.candidate_executions.specs.Candidates.{IsAccess}
-use Rattle.known_edges.specs.ProgramSketches.{ProgramSketch, mode_in}
-use Rattle.known_edges.specs.Kept.{IsLawful}
-use Rattle.known_edges.specs.Known.{HasNoCycle, OrderPart, SourcePart}
 use Rattle.known_edges.proofs.KnownParts.{of_relates}
 use Rattle.known_edges.proofs.Found.{cycle_of_accesses}
 

@@ -1,15 +1,7 @@
 -- The rows of the writes to each location.
 use Rattle.std.proofs.Common.{◌≡◌, ◌↔◌, ◌⊎◌, ℕ, ◌+◌, ◌<◌, ◌≤◌, List, Option, Some, IfSome, slice_get, slice_index, get_or, length, sym, ap, ◌∙◌, subst, inl, inr, refl, None, arith}
-use Rattle.std.proofs.lemmas.Bool.{cases_lt}
-use Rattle.std.proofs.lemmas.Option.{slice_get-get_or, same_Some}
-use Rattle.std.proofs.lemmas.List.{get_or_past}
-use Rattle.bit_rows.specs.Rows.{IsIn, RowHas}
-use Rattle.bit_rows.proofs.Bits.{none_in_zero}
+use Rattle.known_edges.proofs.Vocabulary.{cases_lt, slice_get-get_or, same_Some, get_or_past, IsIn, RowHas, none_in_zero, Event, Initial, ThreadTrace, IsWriteAt, HaveLocations}
 use Rattle.tso_program.specs.declared.limits.TheConstants.{MAX_LOCATIONS}
-use Rattle.candidate_executions.specs.declared.event.Event.{Event}
-use Rattle.candidate_executions.specs.declared.event.Event.TheVariants.{Initial}
-use Rattle.thread_traces.specs.declared.thread_trace.ThreadTrace.{ThreadTrace}
-use Rattle.known_edges.specs.Rows.{IsWriteAt, HaveLocations}
 use Rattle.known_edges.proofs.Masks.{IsRowBelow}
 
 -- the next event is put in where F holds

@@ -1,11 +1,8 @@
 -- The lines before the initial values: where they end.
 use Rattle.std.proofs.Common.{◌≡◌, ℕ, ◌<◌, true, false, List, [], ◌∷◌, ◌++◌, length, Some, None, sym, ap, ◌∙◌, subst, arith}
 use Rattle.std.specs.Prelude.{◌==◌, slice_index}
-use Rattle.std.proofs.lemmas.Bool.Decides.{nat_tests}
-use Rattle.std.proofs.lemmas.List.{length-append}
-use Rattle.text_tokens.specs.Space.{IsAfterSpace}
+use Rattle.litmus_lines.proofs.Vocabulary.{nat_tests, length-append, IsAfterSpace, line_at}
 use Rattle.text_tokens.proofs.SpaceLaws.{space_length, empty_back}
-use Rattle.litmus_lines.specs.Internal.FirstLineReading.{line_at}
 use Rattle.litmus_lines.specs.SkippedLines.{is_skipped, IsSkippedLine, AreSkipped, brace, line}
 use Rattle.litmus_lines.proofs.FirstLineLaws.{line_takes, line_inside, line_again, same_line, none_or}
 

@@ -3,16 +3,12 @@ use Rattle.std.proofs.Common.{◌≡◌, ℕ, true, List, [], ◌∷◌, ◌++�
 use Rattle.std.specs.Prelude.{codes, Some}
 use Rattle.std.proofs.lemmas.Fmt.{decimal_digit}
 use Rattle.std.proofs.lemmas.List.Elements.{All-cons, All-nil}
+use Rattle.litmus_reader.proofs.Vocabulary.{Tok, Word, Number, Sign, Eax, Ebx, Exists, Location, Register, EntryView, CodeView, StoreImm, Load, CellView, BodyView, EndingView, end, item}
 use Rattle.tso_program.specs.Tree as tree
 use Rattle.conditions.specs.Grammar.{atom, parens, operand, conjunction, term}
 use Rattle.text_tokens.specs.declared.token.Mark.TheVariants as the
-use Rattle.text_tokens.specs.Tokens.{Tok, Word, Number, Sign}
-use Rattle.tso_program.specs.declared.instruction.Reg.TheVariants.{Eax, Ebx}
-use Rattle.conditions.specs.declared.condition.Quantifier.TheVariants.{Exists}
 use Rattle.litmus_syntax.specs.Words.{reg_of, opens_condition, joins_formula, is_name, mnemonic_of, column_name}
-use Rattle.litmus_syntax.specs.Views.{Location, Register, EntryView, CodeView, StoreImm, Load, CellView, BodyView, EndingView}
 use Rattle.litmus_syntax.specs.Views as view
-use Rattle.litmus_syntax.specs.Phrases.{end, item}
 use Rattle.litmus_syntax.specs.Grammar.{IsCode, HasThread, last, column, IsHeader, IsInitial, IsRow, IsBody, IsEnding}
 use Rattle.litmus_reader.specs.Example.{StoreBuffering, NamesStoreBuffering}
 

@@ -1,13 +1,9 @@
 -- What is said of a fault, case by case.
 use Rattle.std.proofs.Common.{◌≡◌, ◌≢◌, ◌∙◌, Option, Some, None, refl, sym, ap}
-use Rattle.std.specs.Prelude.{⊤}
+use Rattle.litmus_reader.proofs.Vocabulary.{⊤, ProgramFault, LineFault, ReadFault, MatchFault, of_lines}
 use Rattle.tso_program.specs.declared.limits.ProgramFault.TheVariants.{OutOfMemory as NoMemory}
-use Rattle.tso_program.specs.declared.limits.ProgramFault.{ProgramFault}
-use Rattle.litmus_lines.specs.declared.fault.LineFault.{LineFault}
 use Rattle.litmus_lines.specs.declared.fault.LineFault.TheVariants as line_fault
-use Rattle.litmus_reader.specs.declared.fault.ReadFault.{ReadFault}
 use Rattle.litmus_reader.specs.declared.fault.ReadFault.TheVariants.{NotUtf8, Header, Initial, Row, Instruction, Operand, Label, Condition, Number, Ended, Program, OutOfMemory}
-use Rattle.litmus_reader.specs.Faults.{MatchFault, of_lines}
 
 -- what follows from it, case by case
 pub match_map : (fault : ReadFault) (U V : Type 0) (L K : ProgramFault → Type 0) (M N O P : Type 0) → (U → V) → ((limit : ProgramFault) → L limit → K limit) → (M → N) → (O → P)

@@ -1,23 +1,13 @@
 -- The reader's tables hold what they should after each entry.
 use Rattle.std.proofs.Common.{◌≡◌, ℕ, ◌<◌, Bool, true, false, List, [], ◌∷◌, ◌++◌, length, get_or, set, map, replicate, fold, refl, sym, ap, ◌∙◌, arith, inl, inr}
-use Rattle.std.specs.Prelude.{◌==◌, ◌&&◌, ◌||◌, min, if◌then◌else◌}
-use Rattle.std.specs.Option.{option_map_or}
-use Rattle.std.specs.List.{range_with_len, filter_map, list_any}
 use Rattle.std.proofs.lemmas.Bool.{cases_Bool, eqb-true, eqb-false}
 use Rattle.std.proofs.lemmas.List.{length-replicate, get_or-replicate, length-set, get_or-set_same, get_or-set_other}
-use Rattle.std.proofs.lemmas.List.Sums.{fold-append}
-use Rattle.std.proofs.lemmas.List.FromFn.{fill_by_all, length-map-range_with_len, get_or-map-range_with_len}
-use Rattle.tso_program.specs.declared.instruction.Reg.{Reg}
+use Rattle.litmus_reader.proofs.Vocabulary.{◌==◌, ◌&&◌, ◌||◌, min, if◌then◌else◌, option_map_or, range_with_len, filter_map, list_any, fold-append, fill_by_all, length-map-range_with_len}
+use Rattle.litmus_reader.proofs.Vocabulary.{get_or-map-range_with_len, Reg, number, Atom, PlaceView, Location, Register, BodyView, TextNames, all_registers, with_name, code_in, Label, thread_labels}
+use Rattle.litmus_reader.proofs.Vocabulary.{all_labels}
 use Rattle.tso_program.specs.declared.instruction.Reg.TheVariants.{Eax, Ebx, Ecx, Edx, Esi, Edi}
-use Rattle.tso_program.specs.Instructions.{number}
-use Rattle.tso_program.specs.declared.atom.Atom.{Atom}
 use Rattle.tso_program.specs.declared.atom.Atom.TheVariants as atom
-use Rattle.litmus_syntax.specs.Views.{PlaceView, Location, Register, BodyView}
-use Rattle.litmus_reader.specs.Names.{TextNames, all_registers, with_name}
 use Rattle.litmus_reader.specs.Places.{location_name, is_register, names_among}
-use Rattle.litmus_reader.specs.Meaning.{code_in}
-use Rattle.litmus_reader.specs.declared.label.Label.{Label}
-use Rattle.litmus_reader.specs.Labels.{thread_labels, all_labels}
 use Rattle.litmus_reader.specs.Internal.Filling.{byte_at, FindsAs, FindAllAs, with_put, no_names, noted, stored, with_initial, value_of, is_of_location, is_of_register, entry_atoms, memory_from, registers_from, thread_in, thread_by}
 
 -- ---- lists of numbers' values

@@ -1,22 +1,13 @@
 -- Entry by entry the tables are filled with what each place holds at first, since no place stands twice.
 use Rattle.std.proofs.Common.{◌≡◌, ℕ, ◌<◌, Bool, true, false, cond, List, [], ◌∷◌, length, get_or, map, fold, Some, refl, sym, ap, ◌∙◌, inl, inr}
-use Rattle.std.specs.Prelude.{if◌then◌else◌}
-use Rattle.std.specs.List.{IsDistinct, AllByRecursion, range_with_len, find}
-use Rattle.std.specs.Option.{option_map_or}
-use Rattle.std.specs.Str.{bytes_eq}
-use Rattle.std.proofs.lemmas.Bool.{cases_Bool}
 use Rattle.std.proofs.lemmas.List.{length-map, get_or-map}
-use Rattle.std.proofs.lemmas.List.FromFn.{fill_by_all}
-use Rattle.tso_program.specs.declared.instruction.Reg.{Reg}
-use Rattle.tso_program.specs.declared.atom.Atom.{Atom}
-use Rattle.litmus_syntax.specs.Views.{PlaceView, Location, Register, EntryView, BodyView}
+use Rattle.litmus_reader.proofs.Vocabulary.{if◌then◌else◌, IsDistinct, AllByRecursion, range_with_len, find, option_map_or, bytes_eq, cases_Bool, fill_by_all, Reg, Atom, PlaceView, Location, Register}
+use Rattle.litmus_reader.proofs.Vocabulary.{EntryView, BodyView, all_registers, number_in, thread_labels, position_in, value_of, is_of_location, is_of_register, entry_atoms, last_said, memory_from}
+use Rattle.litmus_reader.proofs.Vocabulary.{registers_from, listing_by}
 use Rattle.litmus_syntax.specs.Grammar.{IsNoneOf, NoneTwice, place_of_entry}
 use Rattle.litmus_syntax.specs.Places.{same_place}
 use Rattle.litmus_syntax.proofs.SeenLaws.{same_place_is}
-use Rattle.litmus_reader.specs.Names.{all_registers, number_in}
 use Rattle.litmus_reader.specs.Meaning.{atom_of, first_value, memory_of, registers_of, code_in, listing_of}
-use Rattle.litmus_reader.specs.Labels.{thread_labels, position_in}
-use Rattle.litmus_reader.specs.Internal.Filling.{value_of, is_of_location, is_of_register, entry_atoms, last_said, memory_from, registers_from, listing_by}
 use Rattle.litmus_reader.proofs.NamesOnce.{Stands, same_number}
 
 -- what is said of p is said of q exactly where they are one

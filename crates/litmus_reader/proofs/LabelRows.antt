@@ -1,13 +1,7 @@
 -- Labels of a thread, one row after another.
 use Rattle.std.proofs.Common.{◌≡◌, ℕ, ◌+◌, ◌<◌, List, [], ◌∷◌, ◌++◌, length, drop, get_or, map, Option, Some, None, refl, sym, ap, ◌∙◌, append_assoc}
-use Rattle.std.specs.Prelude.{slice_get}
-use Rattle.std.specs.List.{cons_option}
-use Rattle.std.specs.Global.{Vec}
 use Rattle.std.proofs.lemmas.List.{at_drop_more}
-use Rattle.litmus_syntax.specs.declared.cell.Cell.{Cell}
-use Rattle.litmus_syntax.specs.Views.{CellView, row_view}
-use Rattle.litmus_reader.specs.declared.label.Label.{Label}
-use Rattle.litmus_reader.specs.Labels.{column, size, labels_behind}
+use Rattle.litmus_reader.proofs.Vocabulary.{slice_get, cons_option, Vec, Cell, CellView, row_view, Label, column, size, labels_behind}
 
 -- the labels of the rows from the i-th on, behind k instructions
 abbrev pub behind : List (Vec Cell) → ℕ → ℕ → ℕ → List Label

@@ -1,3 +1,5 @@
+-- what many proofs speak of
+mod Vocabulary
 pub mod NameLaws
 pub mod Rows
 pub mod Filled

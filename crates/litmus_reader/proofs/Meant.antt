@@ -1,32 +1,14 @@
 -- From what was read of a text to what the text stands for.
 use Rattle.std.proofs.Common.{◌≡◌, ℕ, ◌≤◌, false, List, length, Option, Some, None, refl, sym, ap, ◌∙◌, subst, arith, inl, inr}
 use Rattle.std.specs.Prelude.{⊤, is_some, map}
-use Rattle.std.specs.List.{filter_map}
-use Rattle.std.specs.Str.{IsUtf8}
-use Rattle.std.proofs.lemmas.Bool.{cases_lt, cases_Bool}
-use Rattle.tso_program.specs.declared.listing.Thread.{Thread}
-use Rattle.tso_program.specs.declared.listing.Listing.{Listing}
-use Rattle.tso_program.specs.declared.limits.ProgramFault.{ProgramFault}
-use Rattle.text_tokens.specs.Tokens.{Tok}
-use Rattle.text_tokens.specs.Lexing.{Lexes}
-use Rattle.litmus_reader.specs.declared.litmus.Litmus.{Litmus}
-use Rattle.litmus_reader.specs.declared.fault.ReadFault.{ReadFault}
-use Rattle.litmus_reader.specs.declared.fault.ReadFault.TheVariants.{OutOfMemory}
-use Rattle.litmus_reader.specs.Faults.{MatchFault}
-use Rattle.litmus_reader.specs.Names.{TextNames, number_in}
+use Rattle.litmus_reader.proofs.Vocabulary.{filter_map, IsUtf8, cases_lt, cases_Bool, Thread, Listing, ProgramFault, Tok, Lexes, Litmus, ReadFault, OutOfMemory, MatchFault, TextNames, number_in}
+use Rattle.litmus_reader.proofs.Vocabulary.{byte_in, byte_at, listing_by, position_in, all_labels, first_long, AreSkipped, Means, StandsFor, StandsForNothing, IsReadOf, MAX_LOCATIONS}
 use Rattle.litmus_reader.specs.Places.{location_name, places, names_of}
 use Rattle.litmus_reader.specs.Meaning.{listing_of, condition_of, observed_of}
-use Rattle.litmus_reader.specs.Internal.Filling.{byte_in, byte_at, listing_by}
-use Rattle.litmus_reader.specs.Labels.{position_in, all_labels}
-use Rattle.tso_program.specs.Limits.{first_long}
-use Rattle.litmus_lines.specs.SkippedLines.{AreSkipped}
-use Rattle.litmus_reader.specs.Texts.{Means, StandsFor, StandsForNothing}
-use Rattle.litmus_reader.specs.Internal.Reading.{IsReadOf}
 use Rattle.litmus_reader.proofs.NamesOnce.{in_order_once, entries_stand}
 use Rattle.litmus_reader.proofs.FirstValues.{listing_filled}
 use Rattle.litmus_reader.proofs.Faults.{match_map, match_memory}
 use Rattle.litmus_reader.proofs.Numbered.{AreLimits, IsOver, byte_same, listing_same, memory_len, over_same, none_long}
-use Rattle.tso_program.specs.declared.limits.TheConstants.{MAX_LOCATIONS}
 
 module _ (text : List ℕ) (read : Litmus Listing) (is : IsReadOf text read) where
   -- what the text stands for: what was read, with the locations' own numbers

@@ -3,13 +3,8 @@ use Rattle.std.proofs.Common.{◌||◌, ◌≡◌, ℕ, ◌<◌, ◌≤◌, Bool
 use Rattle.std.specs.Prelude.{not, ◌+◌, position, min, Result, Ok, Err}
 use Rattle.std.proofs.Common.{inl, inr}
 use Rattle.std.specs.Result.{OkIff, result_unwrap_or}
-use Rattle.std.specs.List.{list_any, prefix_len}
-use Rattle.std.proofs.lemmas.Bool.{cases_lt}
-use Rattle.std.specs.Str.{bytes_eq}
-use Rattle.std.specs.Global.{Vec}
 use Rattle.std.proofs.lemmas.List.{map_push, length-map}
-use Rattle.litmus_reader.specs.Names.{with_name}
-use Rattle.litmus_reader.specs.Internal.Filling.{texts}
+use Rattle.litmus_reader.proofs.Vocabulary.{list_any, prefix_len, cases_lt, bytes_eq, Vec, with_name, texts}
 
 any_text : (ks : List (Vec ℕ)) (name : List ℕ) → list_any (λ k. bytes_eq name k.items) ks ≡ list_any (bytes_eq name) (texts ks)
 any_text [] name = refl

@@ -1,21 +1,14 @@
 -- A text's names: each stands once, the number of one is its place, and what the entries name stands among them.
 use Rattle.std.proofs.Common.{◌≡◌, ℕ, ◌<◌, Bool, true, false, cond, List, [], ◌∷◌, ◌++◌, length, get_or, map, fold, Some, None, refl, sym, ap, ◌∙◌, arith}
-use Rattle.std.specs.Prelude.{◌==◌, ◌||◌, ⊤, nat_lt, unwrap_or, if◌then◌else◌}
 use Rattle.std.specs.List.{IsDistinct, AllByRecursion, list_any, filter_map, position_or_len}
-use Rattle.std.specs.Str.{bytes_eq}
 use Rattle.std.specs.Bool.{Decides}
-use Rattle.std.proofs.lemmas.Bool.{lt-ltb}
 use Rattle.std.proofs.lemmas.Bool.Decides.{Decides-eqb, same_from_decides}
-use Rattle.std.proofs.lemmas.Cmp.{nat_list_eq_equiv}
-use Rattle.std.proofs.lemmas.List.{get_or_default}
 use Rattle.std.proofs.lemmas.List.Folds.{list_any-append, Any-from_list_any}
 use Rattle.std.proofs.lemmas.List.Sums.{position_or_len_is}
 use Rattle.std.proofs.lemmas.Map.Keys.{IsDistinct-push, apart_from_distinct}
-use Rattle.std.proofs.lemmas.Slice.Eq.{bytes_eq-Decides}
-use Rattle.litmus_syntax.specs.Views.{PlaceView, Location, Register, BodyView, EndingView}
+use Rattle.litmus_reader.proofs.Vocabulary.{◌==◌, ◌||◌, ⊤, nat_lt, unwrap_or, if◌then◌else◌, bytes_eq, lt-ltb, nat_list_eq_equiv, get_or_default, bytes_eq-Decides, PlaceView, Location, Register}
+use Rattle.litmus_reader.proofs.Vocabulary.{BodyView, EndingView, location_name, entry_place, row_places, sign_places, names_of, flat_map}
 use Rattle.litmus_reader.specs.Names.{with_name, in_order, number_in}
-use Rattle.litmus_reader.specs.Places.{location_name, entry_place, row_places, sign_places, names_of}
-use Rattle.std.specs.List.{flat_map}
 
 -- ---- each name stands once
 

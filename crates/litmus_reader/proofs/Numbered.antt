@@ -1,26 +1,13 @@
 -- Locations' numbers as bytes serve as well: they are the numbers where there are few, and with many the same limit is broken.
 use Rattle.std.proofs.Common.{◌≡◌, ℕ, ◌+◌, ◌<◌, ◌≤◌, Bool, true, false, cond, List, [], ◌∷◌, length, map, Option, Some, None, refl, sym, ap, ◌∙◌, arith, get_or, inl, inr, ◌⊎◌}
-use Rattle.std.specs.Prelude.{◌==◌, min, nat_lt, not, is_some, unwrap_or, if◌then◌else◌}
-use Rattle.std.specs.List.{range_with_len, prefix_len}
-use Rattle.std.specs.Str.{bytes_eq}
-use Rattle.std.proofs.lemmas.Bool.{lt-ltb}
 use Rattle.std.proofs.lemmas.List.Sums.{prefix_len-le-length}
-use Rattle.std.proofs.lemmas.List.FromFn.{length-map-range_with_len}
-use Rattle.tso_program.specs.declared.listing.Thread.{Thread}
-use Rattle.tso_program.specs.declared.limits.ProgramFault.{ProgramFault}
 use Rattle.tso_program.specs.declared.limits.ProgramFault.TheVariants.{NoThreads, TooManyThreads, TooLong, Locations}
-use Rattle.tso_program.specs.Limits.{IsWithinLimits, IsWithinFencedLimits, first_long, first_fault, first_fenced_fault}
 use Rattle.tso_program.proofs.WithinLimits.{limits_are_the_refusals, fenced_limits_are_the_refusals}
-use Rattle.litmus_syntax.specs.Views.{BodyView, CellView}
-use Rattle.litmus_reader.specs.Names.{number_in}
-use Rattle.std.proofs.lemmas.Bool.{cases_Bool}
-use Rattle.std.proofs.lemmas.Bool.Decides.{nat_tests}
 use Rattle.std.proofs.lemmas.List.Sums.{prefix_len_passes}
-use Rattle.std.proofs.lemmas.List.FromFn.{get_or-map-range_with_len}
-use Rattle.litmus_reader.specs.declared.label.Label.{Label}
-use Rattle.litmus_reader.specs.Labels.{thread_labels, position_in}
-use Rattle.litmus_reader.specs.Meaning.{code_in}
-use Rattle.litmus_reader.specs.Internal.Filling.{byte_in, byte_at, is_of_location, entry_atoms, last_said, registers_from, memory_from, thread_by, listing_by}
+use Rattle.litmus_reader.proofs.Vocabulary.{◌==◌, min, nat_lt, not, is_some, unwrap_or, if◌then◌else◌, range_with_len, prefix_len, bytes_eq, lt-ltb, length-map-range_with_len, Thread, ProgramFault}
+use Rattle.litmus_reader.proofs.Vocabulary.{IsWithinLimits, IsWithinFencedLimits, first_long, first_fault, first_fenced_fault, BodyView, CellView, number_in, cases_Bool, nat_tests}
+use Rattle.litmus_reader.proofs.Vocabulary.{get_or-map-range_with_len, Label, thread_labels, position_in, code_in, byte_in, byte_at, is_of_location, entry_atoms, last_said, registers_from}
+use Rattle.litmus_reader.proofs.Vocabulary.{memory_from, thread_by, listing_by}
 use Rattle.litmus_reader.proofs.Filled.{range_same}
 use Rattle.litmus_reader.proofs.Positions.{code_count, position_same}
 use Rattle.tso_program.specs.declared.limits.TheConstants.{MAX_THREADS, MAX_LOCATIONS, MAX_INSTRUCTIONS, MAX_FENCED_INSTRUCTIONS}

@@ -1,9 +1,7 @@
 -- The parts that are read are those of the tokens, and no others.
 use Rattle.std.proofs.Common.{◌≡◌, ℕ, List, [], length, map, Option, Some, None, refl, sym, subst}
-use Rattle.std.specs.Prelude.{⊤, Err}
-use Rattle.text_tokens.specs.Tokens.{Tok}
-use Rattle.tso_program.specs.declared.listing.Listing.{Listing}
-use Rattle.tso_program.specs.declared.atom.Atom.{Atom}
+use Rattle.litmus_reader.proofs.Vocabulary.{⊤, Err, Tok, Listing, Atom, PlaceView, BodyView, EndingView, IsBody, IsEnding, Litmus, ReadFault, MatchFault, names_of, all_labels, JumpsAreFound, byte_in}
+use Rattle.litmus_reader.proofs.Vocabulary.{byte_at, listing_by, AreParts}
 use Rattle.tso_program.specs.Tree.{Tree, tree_map}
 use Rattle.conditions.proofs.Mapped.{spells_mapped, spells_unmapped}
 use Rattle.conditions.proofs.SpelledIsRead.{spells_one}
@@ -13,17 +11,8 @@ use Rattle.litmus_syntax.specs.declared.fault.Refusal.{Refusal}
 use Rattle.litmus_syntax.specs.declared.fault.SyntaxFault.{SyntaxFault}
 use Rattle.litmus_syntax.specs.declared.fault.SyntaxFault.TheVariants.{Refused, OutOfMemory as NoMemory}
 use Rattle.litmus_syntax.specs.Exact.{ReadsNone, ReadsEnding, NoEnding}
-use Rattle.litmus_syntax.specs.Views.{PlaceView, BodyView, EndingView}
-use Rattle.litmus_syntax.specs.Grammar.{IsBody, IsEnding}
-use Rattle.litmus_reader.specs.declared.litmus.Litmus.{Litmus}
-use Rattle.litmus_reader.specs.declared.fault.ReadFault.{ReadFault}
-use Rattle.litmus_reader.specs.Faults.{MatchFault}
-use Rattle.litmus_reader.specs.Places.{names_of}
-use Rattle.litmus_reader.specs.Labels.{all_labels, JumpsAreFound}
 use Rattle.litmus_reader.specs.Meaning.{sign_of, numbered_atom, observed_of}
-use Rattle.litmus_reader.specs.Internal.Filling.{byte_in, byte_at, listing_by}
 use Rattle.litmus_reader.specs.Internal.Reading.{numbered_signs, ReadsOne, Found, AreReadTokens, IsSyntaxFault, HasNoParts}
-use Rattle.litmus_reader.specs.Texts.{AreParts}
 use Rattle.litmus_reader.proofs.Faults.{match_map}
 
 ending_is : (refusal : Option Refusal) (threads : ℕ) (ending e : EndingView) (others : List Tok) → ReadsOne refusal threads ending others → IsEnding threads e others → (e ≡ ending) × (refusal ≡ None)

@@ -1,15 +1,8 @@
 -- Positions of labels as bytes: they are the positions where threads are short.
 use Rattle.std.proofs.Common.{◌≡◌, ℕ, ◌+◌, ◌≤◌, Bool, true, false, cond, List, [], ◌∷◌, ◌++◌, length, map, Option, Some, None, refl, arith}
 use Rattle.std.specs.Prelude.{⊤, min, option_map, option_and_then, slice_get}
-use Rattle.std.specs.List.{find, cons_option}
-use Rattle.std.specs.Option.{option_map_or}
-use Rattle.std.specs.Str.{bytes_eq}
-use Rattle.tso_program.specs.declared.instruction.Instr.{Instr}
-use Rattle.litmus_syntax.specs.Views.{CodeView, CellView}
-use Rattle.litmus_reader.specs.declared.label.Label.{Label}
-use Rattle.litmus_reader.specs.Labels.{column, size, labels_behind, thread_labels, position_in}
+use Rattle.litmus_reader.proofs.Vocabulary.{find, cons_option, option_map_or, bytes_eq, Instr, CodeView, CellView, Label, column, size, labels_behind, thread_labels, position_in, byte_at}
 use Rattle.litmus_reader.specs.Meaning.{instruction_of, code_in}
-use Rattle.litmus_reader.specs.Internal.Filling.{byte_at}
 
 -- how many instructions cells have
 abbrev count : List CellView → ℕ

@@ -1,21 +1,15 @@
 -- What a litmus text asks to be shown is what its condition mentions and its observed places.
 use Rattle.std.proofs.Common.{◌≡◌, ◌⊎◌, ◌↔◌, ◌&&◌, ℕ, ◌<◌, Bool, true, false, List, [], ◌∷◌, Contains, sym, ap, ◌∙◌, subst, inl, inr, arith}
-use Rattle.std.specs.Prelude.{nat_lt}
 use Rattle.std.specs.Ordering.{nat_cmp}
 use Rattle.std.specs.FinSet as set
-use Rattle.std.proofs.lemmas.Bool.Decides.{nat_tests}
 use Rattle.std.proofs.lemmas.List.Elements.{Contains-append_cases, Contains-append_left, Contains-append_right, Contains-push, Contains-push_cases}
-use Rattle.tso_program.specs.declared.instruction.Reg.{Reg}
-use Rattle.tso_program.specs.Instructions.{number}
+use Rattle.litmus_reader.proofs.Vocabulary.{nat_lt, nat_tests, Reg, number, Atom, Tree, MAX_THREADS, MAX_LOCATIONS}
 use Rattle.tso_program.specs.Names.{register_place, location_place}
-use Rattle.tso_program.specs.declared.atom.Atom.{Atom}
-use Rattle.tso_program.specs.Tree.{Tree}
 use Rattle.tso_program.specs.Named.{with_named, MentionsRegister, MentionsLocation}
 use Rattle.conditions.proofs.Mentioned.{Has, IsWith, then_more, register_with_register, register_with_location, location_with_location, location_with_register, register_mentioned, location_mentioned}
 use Rattle.litmus_reader.specs.declared.observed.Observed.{Observed}
 use Rattle.litmus_reader.specs.declared.observed.Observed.TheVariants.{Location, Register}
 use Rattle.litmus_reader.specs.Shown.{with_place, with_places, shown_by, ShowsNamedRegisters, ShowsNamedLocations}
-use Rattle.tso_program.specs.declared.limits.TheConstants.{MAX_THREADS, MAX_LOCATIONS}
 
 -- the same said in another way
 said : (One Other : Type 0) (place : ℕ) (names more : set.FinSet nat_cmp) → (One → Other) → (Other → One) → IsWith One place names more → IsWith Other place names more

@@ -1,23 +1,14 @@
 -- Labels by their names: a table of positions gives what the labels give.
 use Rattle.std.proofs.Common.{◌≡◌, ℕ, zero, suc, ◌+◌, arith, length, length-append, get_or, Bool, true, false, cond, List, [], ◌∷◌, ◌++◌, map, fold, Option, Some, None, refl, sym, ap, ◌∙◌, append_assoc}
-use Rattle.std.specs.Prelude.{⊤, ◌&&◌, is_some, option_map, unwrap_or, if◌then◌else◌}
 use Rattle.std.specs.Option.{option_or, option_map_or}
-use Rattle.std.specs.List.{list_all}
 use Rattle.std.specs.Map.{lookup}
-use Rattle.std.specs.Str.{bytes_eq}
-use Rattle.std.specs.Global.{Vec}
-use Rattle.std.proofs.lemmas.Cmp.{nat_list_eq_equiv}
-use Rattle.std.proofs.lemmas.List.{append-nil}
 use Rattle.std.proofs.lemmas.List.Folds.{find-append}
-use Rattle.std.proofs.lemmas.Slice.Eq.{bytes_eq-Decides}
+use Rattle.litmus_reader.proofs.Vocabulary.{⊤, ◌&&◌, is_some, option_map, unwrap_or, if◌then◌else◌, list_all, bytes_eq, Vec, nat_list_eq_equiv, append-nil, bytes_eq-Decides, CellView, BodyView, Label}
+use Rattle.litmus_reader.proofs.Vocabulary.{ReadFault, labels_in, with_label, FindsAs, FindAllAs}
 use Rattle.indexmap.specs.IndexMap.{insert_entry}
-use Rattle.litmus_syntax.specs.Views.{CellView, BodyView}
-use Rattle.litmus_reader.specs.declared.label.Label.{Label}
 use Rattle.litmus_reader.specs.Labels.{label_in, all_labels, cell_jump, are_found, JumpsAreFound}
-use Rattle.litmus_reader.specs.declared.fault.ReadFault.{ReadFault}
 use Rattle.litmus_reader.specs.Faults.{MatchFault, IsOfAToken}
 use Rattle.litmus_reader.proofs.Faults.{match_map}
-use Rattle.litmus_reader.specs.Internal.Filling.{labels_in, with_label, FindsAs, FindAllAs}
 
 abbrev named : List ℕ → Label → Bool
 named name l = bytes_eq l.name name

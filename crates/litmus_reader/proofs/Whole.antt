@@ -2,15 +2,11 @@
 use Rattle.std.proofs.Common.{◌≡◌, ℕ, ◌+◌, List, [], ◌∷◌, inl, inr, Some, None, sym, subst}
 use Rattle.text_tokens.specs.declared.token.Mark.{Mark}
 use Rattle.text_tokens.specs.declared.token.Mark.TheVariants as the
-use Rattle.text_tokens.specs.Tokens.{Tok, Word, Number, Sign, AreAllTokens}
-use Rattle.tso_program.specs.declared.instruction.Reg.{Reg}
 use Rattle.conditions.specs.declared.condition.Quantifier.{Quantifier}
 use Rattle.conditions.specs.declared.condition.Quantifier.TheVariants.{Exists, NotExists, Forall}
-use Rattle.tso_program.specs.Tree.{Tree}
-use Rattle.litmus_reader.specs.Texts.{AreParts}
 use Rattle.litmus_syntax.specs.Views.{PlaceView, Location, Register, EntryView, CodeView, LoadImm, Copy, Load, StoreImm, Store, Xchg, Fence, CmpImm, CmpReg, Je, Jne, Jmp, CellView, BodyView, SignView, Atom, Const, Not, And, Or, Open, Close, EndingView}
-use Rattle.litmus_syntax.specs.Words.{column_name}
 use Rattle.std.specs.Prelude.{codes, true, false, Option}
+use Rattle.litmus_reader.proofs.Vocabulary.{Tok, Word, Number, Sign, AreAllTokens, Reg, Tree, AreParts, column_name}
 use Rattle.litmus_syntax.specs.Phrases.{Phrase, ◌▸◌, ◌or◌, mark, word, number, before, no_word, Items, end, item}
 use Rattle.litmus_syntax.specs.Grammar.{register, name, memory, IsPlace, IsEntry, separator, IsEntryItem, IsInitial, MoreColumns, last, column, IsHeader, immediate, comma, IsCode, IsLabelMark, IsContent, IsCell, IsNextCell, IsCells, IsRow, before_ending, IsRowList, IsRows, IsBody, IsObservedItem, IsObserved, IsQuantifier, IsSign, the_end, IsSigns, IsEnding}
 

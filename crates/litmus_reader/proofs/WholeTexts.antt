@@ -1,20 +1,9 @@
 -- What the first line, the skipped lines and the tokens of a text say of the whole text.
 use Rattle.std.proofs.Common.{◌≡◌, ℕ, List, sym, ◌∙◌, subst, inl}
-use Rattle.std.specs.Prelude.{⊤}
-use Rattle.std.specs.Str.{IsUtf8}
-use Rattle.text_tokens.specs.Tokens.{Tok, AreAllTokens}
+use Rattle.litmus_reader.proofs.Vocabulary.{⊤, IsUtf8, Tok, AreAllTokens, Listing, ProgramFault, Litmus, ReadFault, OutOfMemory, MatchFault, of_lines, LineFault, AreSkipped, Means, StandsFor}
+use Rattle.litmus_reader.proofs.Vocabulary.{StandsForNothing, AreReadTokens, IsReadOf, HasNoParts}
 use Rattle.text_tokens.specs.Lexing.{Lexes, LexesTo}
-use Rattle.tso_program.specs.declared.listing.Listing.{Listing}
-use Rattle.tso_program.specs.declared.limits.ProgramFault.{ProgramFault}
-use Rattle.litmus_reader.specs.declared.litmus.Litmus.{Litmus}
-use Rattle.litmus_reader.specs.declared.fault.ReadFault.{ReadFault}
-use Rattle.litmus_reader.specs.declared.fault.ReadFault.TheVariants.{OutOfMemory}
-use Rattle.litmus_reader.specs.Faults.{MatchFault, of_lines}
-use Rattle.litmus_lines.specs.declared.fault.LineFault.{LineFault}
 use Rattle.litmus_lines.specs.FirstLine.{IsFirstLine}
-use Rattle.litmus_lines.specs.SkippedLines.{AreSkipped}
-use Rattle.litmus_reader.specs.Texts.{Means, StandsFor, StandsForNothing}
-use Rattle.litmus_reader.specs.Internal.Reading.{AreReadTokens, IsReadOf, HasNoParts}
 use Rattle.litmus_reader.proofs.Faults.{match_map, match_memory, match_lines}
 use Rattle.litmus_reader.proofs.Whole.{parts_whole}
 

@@ -1,16 +1,11 @@
 -- The body as a whole.
 use Rattle.std.proofs.Common.{◌≡◌, ◌∙◌, ◌+◌, ◌<◌, ◌≤◌, arith, ℕ, List, [], ◌∷◌, ◌++◌, map, length, take, get_or, sym, ap, subst}
-use Rattle.std.specs.List.{All}
 use Rattle.std.proofs.lemmas.List.{take_more, take_all, map_push, length-map}
 use Rattle.std.proofs.Math.ListN.{get_or-map}
 use Rattle.std.proofs.lemmas.List.Elements.{All-append, All-cons, All-nil}
-use Rattle.text_tokens.specs.Tokens.{Tok}
+use Rattle.litmus_syntax.proofs.Vocabulary.{All, Tok, SyntaxFault, Refused, OutOfMemory, PlaceView, EntryView, CellView, BodyView, place_view, entry_view, ReadsNone}
 use Rattle.litmus_syntax.specs.declared.entry.Entry.{Entry}
-use Rattle.litmus_syntax.specs.declared.fault.SyntaxFault.{SyntaxFault}
-use Rattle.litmus_syntax.specs.declared.fault.SyntaxFault.TheVariants.{Refused, OutOfMemory}
-use Rattle.litmus_syntax.specs.Views.{PlaceView, EntryView, CellView, BodyView, place_view, entry_view}
 use Rattle.litmus_syntax.specs.Grammar.{HasThread, place_of_entry, IsInitial, IsHeader, IsRows, IsBody}
-use Rattle.litmus_syntax.specs.Exact.{ReadsNone}
 use Rattle.litmus_syntax.proofs.ItemLaws.{Only}
 
 abbrev places : List Entry → List PlaceView

@@ -1,19 +1,9 @@
 -- What the readers of labels and cells read is what the grammar says.
 use Rattle.std.proofs.Common.{◌≡◌, ◌∙◌, ℕ, Bool, true, false, cond, List, [], ◌∷◌, ◌++◌, map, append_assoc, refl, sym, ap, subst, inl, inr, Option, Some, None}
-use Rattle.std.proofs.lemmas.Bool.{or_cases}
-use Rattle.std.proofs.lemmas.Option.{cond_some, same_Some}
-use Rattle.std.proofs.lemmas.List.{append-nil, map_push}
+use Rattle.litmus_syntax.proofs.Vocabulary.{or_cases, cond_some, same_Some, append-nil, map_push, Tok, Word, word_at, mark_at, begins_with, word_takes, mark_takes, begins_takes, begins_again}
+use Rattle.litmus_syntax.proofs.Vocabulary.{is_label, CodeView, CellView, Items, end, item, IsCode, IsLabelMark, ends_cell, IsContent, IsCell, ◌>>=◌, bind_some, by_test}
 use Rattle.text_tokens.specs.declared.token.Mark.TheVariants as the
-use Rattle.text_tokens.specs.Tokens.{Tok, Word}
-use Rattle.text_tokens.specs.Parts.{word_at, mark_at, begins_with}
-use Rattle.text_tokens.proofs.PartLaws.{word_takes, mark_takes, begins_takes, begins_again}
-use Rattle.litmus_syntax.specs.Words.{is_label}
-use Rattle.litmus_syntax.specs.Views.{CodeView, CellView}
-use Rattle.litmus_syntax.specs.Phrases.{Items, end, item}
-use Rattle.litmus_syntax.specs.Grammar.{IsCode, IsLabelMark, ends_cell, IsContent, IsCell}
-use Rattle.text_tokens.specs.Steps.{◌>>=◌}
 use Rattle.litmus_syntax.specs.Reading.{code_at, begins_label, label_tokens_at, content_at}
-use Rattle.text_tokens.proofs.StepLaws.{bind_some, by_test}
 use Rattle.litmus_syntax.proofs.ItemLaws.{IsRead, Only, SoFar, only_read, none_read, none_yet, one_more, refused}
 use Rattle.litmus_syntax.proofs.CodeLaws.{code_takes, code_again, code_begins}
 

@@ -1,22 +1,13 @@
 -- What the reader of instructions reads is what the grammar says.
 use Rattle.std.proofs.Common.{◌≡◌, ◌∙◌, ℕ, true, false, cond, List, ◌∷◌, refl, sym, ap, subst, inl, inr, Some}
-use Rattle.std.specs.Prelude.{is_some}
-use Rattle.std.proofs.lemmas.Bool.{or_cases}
+use Rattle.litmus_syntax.proofs.Vocabulary.{is_some, or_cases, Tok, Word, word_at, number_at, mark_at, begins_with, word_takes, number_takes, mark_takes, mark_again, begins_takes, begins_again, Reg}
+use Rattle.litmus_syntax.proofs.Vocabulary.{Mnemonic, mnemonic_of, ◌>>=◌, bind_some, by_test, same_Some}
 use Rattle.text_tokens.specs.declared.token.Mark.TheVariants as the
-use Rattle.text_tokens.specs.Tokens.{Tok, Word}
-use Rattle.text_tokens.specs.Parts.{word_at, number_at, mark_at, begins_with}
-use Rattle.text_tokens.proofs.PartLaws.{word_takes, number_takes, mark_takes, mark_again, begins_takes, begins_again}
-use Rattle.tso_program.specs.declared.instruction.Reg.{Reg}
-use Rattle.litmus_syntax.specs.declared.mnemonic.Mnemonic.{Mnemonic}
 use Rattle.litmus_syntax.specs.declared.mnemonic.Mnemonic.TheVariants as op
-use Rattle.litmus_syntax.specs.Words.{mnemonic_of}
 use Rattle.litmus_syntax.specs.Views.{CodeView, LoadImm, Copy, Load, StoreImm, Store, Xchg, Fence, CmpImm, CmpReg, Je, Jne, Jmp}
 use Rattle.litmus_syntax.specs.Phrases.{◌▸◌, ◌or◌, word}
 use Rattle.litmus_syntax.specs.Grammar.{register, memory, immediate, mnemonic, comma, IsCode, ends_cell}
-use Rattle.text_tokens.specs.Steps.{◌>>=◌}
 use Rattle.litmus_syntax.specs.Reading.{register_at, memory_at, immediate_at, into_register_at, into_location_at, register_move_at, location_move_at, move_at, register_exchange_at, location_exchange_at, exchange_at, compared_with_at, compare_at, operands_at, code_at}
-use Rattle.text_tokens.proofs.StepLaws.{bind_some, by_test}
-use Rattle.std.proofs.lemmas.Option.{same_Some}
 use Rattle.litmus_syntax.proofs.Options.{given}
 use Rattle.litmus_syntax.proofs.PlaceLaws.{register_takes, register_again, memory_takes, memory_again}
 

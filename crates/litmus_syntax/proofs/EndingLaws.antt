@@ -1,23 +1,15 @@
 -- What the reader of endings reads is what the grammar says.
 use Rattle.std.proofs.Common.{◌≡◌, ◌∙◌, ℕ, cond, List, [], codes, refl, ap, subst, inl, inr, Option, Some, None}
 use Rattle.std.specs.Prelude.{Err, MatchOption}
+use Rattle.litmus_syntax.proofs.Vocabulary.{Tok, mark_at, begins_with, mark_takes, SyntaxFault, Refused, OutOfMemory, PlaceView, SignView, EndingView, begins_with_word, ◌>>=◌, bind_some, by_test}
+use Rattle.litmus_syntax.proofs.Vocabulary.{same_Some}
 use Rattle.text_tokens.specs.declared.token.Mark.TheVariants as the
-use Rattle.text_tokens.specs.Tokens.{Tok}
-use Rattle.text_tokens.specs.Parts.{mark_at, begins_with}
-use Rattle.text_tokens.proofs.PartLaws.{mark_takes}
 use Rattle.conditions.specs.declared.condition.Quantifier.{Quantifier}
 use Rattle.conditions.specs.declared.condition.Quantifier.TheVariants.{Exists, NotExists, Forall}
 use Rattle.litmus_syntax.specs.declared.fault.Refusal.{Refusal}
-use Rattle.litmus_syntax.specs.declared.fault.SyntaxFault.{SyntaxFault}
-use Rattle.litmus_syntax.specs.declared.fault.SyntaxFault.TheVariants.{Refused, OutOfMemory}
-use Rattle.litmus_syntax.specs.Views.{PlaceView, SignView, EndingView}
-use Rattle.litmus_syntax.specs.Phrases.{begins_with_word}
 use Rattle.litmus_syntax.specs.Grammar.{IsObserved, IsQuantifier, IsSigns, IsEnding}
 use Rattle.litmus_syntax.specs.Exact.{ReadsNone, NoEnding, ReadsEnding}
-use Rattle.text_tokens.specs.Steps.{◌>>=◌}
 use Rattle.litmus_syntax.specs.Reading.{keyword_at, not_exists_at, forall_at, exists_at, quantifier_at}
-use Rattle.text_tokens.proofs.StepLaws.{bind_some, by_test}
-use Rattle.std.proofs.lemmas.Option.{same_Some}
 use Rattle.litmus_syntax.proofs.ItemLaws.{IsRead, Only, only_read, none_read}
 use Rattle.litmus_syntax.proofs.WordLaws.{keyword_takes}
 

@@ -1,21 +1,10 @@
 -- What the reader of initial values reads is what the grammar says.
 use Rattle.std.proofs.Common.{◌≡◌, ◌∙◌, ◌||◌, ◌++◌, ap, map, not, Bool, ℕ, true, false, List, [], ◌∷◌, refl, sym, subst, Some, None}
-use Rattle.std.specs.List.{list_any}
-use Rattle.std.proofs.lemmas.List.{map_push, map-append}
-use Rattle.std.proofs.lemmas.List.Folds.{list_any-append}
+use Rattle.litmus_syntax.proofs.Vocabulary.{list_any, map_push, map-append, list_any-append, Tok, mark_at, begins_with, rest_of, mark_takes, mark_again, begins_again, PlaceView, EntryView, ◌▸◌, mark}
+use Rattle.litmus_syntax.proofs.Vocabulary.{number, Items, end, item, Seen, same_place, has, ◌>>=◌, bind_some, same_Some}
 use Rattle.text_tokens.specs.declared.token.Mark.TheVariants as the
-use Rattle.text_tokens.specs.Tokens.{Tok}
-use Rattle.text_tokens.specs.Parts.{mark_at, begins_with, rest_of}
-use Rattle.text_tokens.proofs.PartLaws.{mark_takes, mark_again, begins_again}
-use Rattle.litmus_syntax.specs.Views.{PlaceView, EntryView}
-use Rattle.litmus_syntax.specs.Phrases.{◌▸◌, mark, number, Items, end, item}
 use Rattle.litmus_syntax.specs.Grammar.{IsEntryItem, separator, place_of_entry, NoneTwice, IsInitial}
-use Rattle.litmus_syntax.specs.declared.seen.Seen.{Seen}
-use Rattle.litmus_syntax.specs.Places.{same_place, has}
-use Rattle.text_tokens.specs.Steps.{◌>>=◌}
 use Rattle.litmus_syntax.specs.Reading.{separator_at, place_at, equals_value_at, entry_value_at, entry_at}
-use Rattle.text_tokens.proofs.StepLaws.{bind_some}
-use Rattle.std.proofs.lemmas.Option.{same_Some}
 use Rattle.litmus_syntax.proofs.ItemLaws.{IsRead, Only, SoFar, only_read, none_read, none_behind, one_more, refused, closed}
 use Rattle.litmus_syntax.proofs.Repetitions.{fresh, twice}
 use Rattle.litmus_syntax.proofs.SeenLaws.{same_place_is, same_place_itself}

@@ -1,16 +1,12 @@
 -- The grammar at a small text with labels, jumps and all kinds of operands: its tokens are related to what they say.
 use Rattle.std.proofs.Common.{◌≡◌, ℕ, true, List, [], ◌∷◌, ◌++◌, codes, refl, sym, ap, inl, inr, Some, None, lit<}
 use Rattle.std.proofs.lemmas.Fmt.{decimal_digit}
-use Rattle.std.proofs.lemmas.List.Elements.{All-cons, All-nil}
+use Rattle.litmus_syntax.proofs.Vocabulary.{All-cons, All-nil, Tok, Word, Number, Sign, NotExists, reg_of, opens_condition, joins_formula, is_label, is_name, mnemonic_of, column_name, Location}
+use Rattle.litmus_syntax.proofs.Vocabulary.{Register, EntryView, CodeView, StoreImm, Load, Xchg, CmpImm, Jne, CellView, BodyView, SignView, Atom, Const, Not, And, Or, Open, Close, EndingView, end}
+use Rattle.litmus_syntax.proofs.Vocabulary.{item, IsCode, HasThread, last, column, IsHeader, IsInitial, IsRow, IsBody, IsEnding}
 use Rattle.text_tokens.specs.declared.token.Mark.TheVariants as the
-use Rattle.text_tokens.specs.Tokens.{Tok, Word, Number, Sign}
 use Rattle.tso_program.specs.declared.instruction.Reg.TheVariants.{Eax, Ebx}
-use Rattle.conditions.specs.declared.condition.Quantifier.TheVariants.{NotExists}
 use Rattle.litmus_syntax.specs.declared.mnemonic.Mnemonic.TheVariants as op
-use Rattle.litmus_syntax.specs.Words.{reg_of, opens_condition, joins_formula, is_label, is_name, mnemonic_of, column_name}
-use Rattle.litmus_syntax.specs.Views.{Location, Register, EntryView, CodeView, StoreImm, Load, Xchg, CmpImm, Jne, CellView, BodyView, SignView, Atom, Const, Not, And, Or, Open, Close, EndingView}
-use Rattle.litmus_syntax.specs.Phrases.{end, item}
-use Rattle.litmus_syntax.specs.Grammar.{IsCode, HasThread, last, column, IsHeader, IsInitial, IsRow, IsBody, IsEnding}
 
 -- ---- words
 

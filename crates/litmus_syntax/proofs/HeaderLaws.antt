@@ -1,20 +1,11 @@
 -- What the reader of the header row reads is what the grammar says.
 use Rattle.std.proofs.Common.{◌≡◌, ◌∙◌, ◌+◌, ℕ, true, false, cond, List, ◌∷◌, refl, sym, ap, subst, Some, None}
-use Rattle.std.specs.Str.{bytes_eq}
-use Rattle.std.proofs.lemmas.Option.{cond_some}
-use Rattle.std.proofs.lemmas.Slice.Eq.{bytes_eq-Decides}
+use Rattle.litmus_syntax.proofs.Vocabulary.{bytes_eq, cond_some, bytes_eq-Decides, Tok, Word, Sign, word_at, mark_at, begins_with, rest_of, word_takes, mark_takes, mark_again, begins_again}
+use Rattle.litmus_syntax.proofs.Vocabulary.{column_name, ReadsNone, SyntaxFault, Refused, OutOfMemory, bind_some}
 use Rattle.text_tokens.specs.declared.token.Mark.TheVariants as the
-use Rattle.text_tokens.specs.Tokens.{Tok, Word, Sign}
-use Rattle.text_tokens.specs.Parts.{word_at, mark_at, begins_with, rest_of}
-use Rattle.text_tokens.proofs.PartLaws.{word_takes, mark_takes, mark_again, begins_again}
-use Rattle.litmus_syntax.specs.Words.{column_name}
 use Rattle.litmus_syntax.specs.Grammar.{MoreColumns, last, column, IsHeader}
-use Rattle.litmus_syntax.specs.Exact.{ReadsNone}
 use Rattle.text_tokens.specs.Steps.{◌>>=◌, Fails}
 use Rattle.litmus_syntax.specs.Reading.{column_at, fails_for_memory}
-use Rattle.litmus_syntax.specs.declared.fault.SyntaxFault.{SyntaxFault}
-use Rattle.litmus_syntax.specs.declared.fault.SyntaxFault.TheVariants.{Refused, OutOfMemory}
-use Rattle.text_tokens.proofs.StepLaws.{bind_some}
 use Rattle.litmus_syntax.proofs.ItemLaws.{Only}
 
 column_takes : (k : ℕ) (ts rest : List Tok) → column_at k ts ≡ Some rest → ts ≡ Word (column_name k) ∷ rest

@@ -1,15 +1,8 @@
 -- Labels that stand in their thread already.
 use Rattle.std.proofs.Common.{◌≡◌, ◌∙◌, ◌+◌, ◌<◌, ◌==◌, ◌&&◌, ℕ, Bool, true, false, not, cond, append_assoc, List, [], ◌∷◌, ◌++◌, map, length, take, drop, get_or, refl, sym, ap, subst, arith}
-use Rattle.std.specs.List.{list_any}
-use Rattle.std.specs.Str.{bytes_eq}
-use Rattle.std.specs.Global.{Vec}
-use Rattle.std.proofs.lemmas.Bool.{eqb-true}
-use Rattle.std.proofs.lemmas.Bool.Decides.{nat_tests}
 use Rattle.std.proofs.lemmas.List.{take_more, map_push, map-append, take-append-drop}
-use Rattle.std.proofs.lemmas.Slice.Eq.{bytes_eq-Decides}
+use Rattle.litmus_syntax.proofs.Vocabulary.{list_any, bytes_eq, Vec, eqb-true, nat_tests, bytes_eq-Decides, label_view, NoneTwice}
 use Rattle.litmus_syntax.specs.declared.label.LabelAt.{LabelAt}
-use Rattle.litmus_syntax.specs.Views.{label_view}
-use Rattle.litmus_syntax.specs.Grammar.{NoneTwice}
 use Rattle.litmus_syntax.proofs.Repetitions.{fresh, twice}
 
 abbrev same_label : ℕ × List ℕ → ℕ × List ℕ → Bool

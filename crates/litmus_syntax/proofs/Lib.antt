@@ -1,3 +1,5 @@
+-- what many proofs speak of
+mod Vocabulary
 pub mod Options
 pub mod ItemLaws
 pub mod WordLaws

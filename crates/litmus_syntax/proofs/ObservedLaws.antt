@@ -1,16 +1,10 @@
 -- What the reader of observed places reads is what the grammar says.
 use Rattle.std.proofs.Common.{◌≡◌, ◌∙◌, ℕ, true, false, List, [], ◌∷◌, ◌++◌, codes, refl, sym, ap, subst, inl, inr, Some, None}
+use Rattle.litmus_syntax.proofs.Vocabulary.{Tok, mark_at, begins_with, rest_of, mark_takes, mark_again, begins_again, PlaceView, Location, Register, ◌▸◌, mark, word, begins_with_word, Items, ◌>>=◌}
+use Rattle.litmus_syntax.proofs.Vocabulary.{bind_some, same_Some}
 use Rattle.text_tokens.specs.declared.token.Mark.TheVariants as the
-use Rattle.text_tokens.specs.Tokens.{Tok}
-use Rattle.text_tokens.specs.Parts.{mark_at, begins_with, rest_of}
-use Rattle.text_tokens.proofs.PartLaws.{mark_takes, mark_again, begins_again}
-use Rattle.litmus_syntax.specs.Views.{PlaceView, Location, Register}
-use Rattle.litmus_syntax.specs.Phrases.{◌▸◌, mark, word, begins_with_word, Items}
 use Rattle.litmus_syntax.specs.Grammar.{IsPlace, IsObservedItem, IsObserved}
-use Rattle.text_tokens.specs.Steps.{◌>>=◌}
 use Rattle.litmus_syntax.specs.Reading.{place_among_at, keyword_at, separator_at, observed_begin_at, observed_item_at}
-use Rattle.text_tokens.proofs.StepLaws.{bind_some}
-use Rattle.std.proofs.lemmas.Option.{same_Some}
 use Rattle.litmus_syntax.proofs.ItemLaws.{IsRead, Only, SoFar, only_read, none_read, one_more, refused, closed}
 use Rattle.litmus_syntax.proofs.WordLaws.{begins_word_again, keyword_takes, keyword_again, separator_takes, separator_again}
 use Rattle.litmus_syntax.proofs.PlaceLaws.{place_among_takes, place_among_again}

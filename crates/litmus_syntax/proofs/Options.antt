@@ -1,9 +1,6 @@
 -- Steps that may fail.
 use Rattle.std.proofs.Common.{◌≡◌, true, sym, ◌∙◌, List, Option, Some, None}
-use Rattle.text_tokens.specs.declared.token.Mark.{Mark}
-use Rattle.text_tokens.specs.Tokens.{Tok}
-use Rattle.text_tokens.specs.Parts.{mark_at, begins_with, rest_of}
-use Rattle.text_tokens.proofs.PartLaws.{mark_again, begins_takes}
+use Rattle.litmus_syntax.proofs.Vocabulary.{Mark, Tok, mark_at, begins_with, rest_of, mark_again, begins_takes}
 
 -- what is there
 abbrev pub given : {A : Type 0} → A → Option A

@@ -1,20 +1,12 @@
 -- What the readers of names, places and values read is what the grammar says.
 use Rattle.std.proofs.Common.{◌≡◌, ◌∙◌, ◌<◌, ℕ, false, cond, not, List, refl, sym, ap, subst, inl, inr, arith, Option, Some, None}
 use Rattle.std.specs.Prelude.{is_some, nat_lt}
-use Rattle.std.proofs.lemmas.Bool.Decides.{nat_tests}
-use Rattle.std.proofs.lemmas.Option.{cond_some, same_Some}
+use Rattle.litmus_syntax.proofs.Vocabulary.{nat_tests, cond_some, same_Some, Tok, word_at, number_at, mark_at, begins_with, Reg, reg_of, is_name, PlaceView, Location, Register, ◌▸◌, mark, number}
+use Rattle.litmus_syntax.proofs.Vocabulary.{◌>>=◌, bind_some, by_test}
 use Rattle.text_tokens.specs.declared.token.Mark.TheVariants as the
-use Rattle.text_tokens.specs.Tokens.{Tok}
-use Rattle.text_tokens.specs.Parts.{word_at, number_at, mark_at, begins_with}
 use Rattle.text_tokens.proofs.PartLaws.{word_takes, number_takes, mark_takes, number_again, mark_again, begins_again}
-use Rattle.tso_program.specs.declared.instruction.Reg.{Reg}
-use Rattle.litmus_syntax.specs.Words.{reg_of, is_name}
-use Rattle.litmus_syntax.specs.Views.{PlaceView, Location, Register}
-use Rattle.litmus_syntax.specs.Phrases.{◌▸◌, mark, number}
 use Rattle.litmus_syntax.specs.Grammar.{register, name, memory, IsPlace, HasThread}
-use Rattle.text_tokens.specs.Steps.{◌>>=◌}
 use Rattle.litmus_syntax.specs.Reading.{name_at, register_at, memory_at, thread_register_at, as_location, place_at, names_missing, place_among_at, equals_value_at}
-use Rattle.text_tokens.proofs.StepLaws.{bind_some, by_test}
 
 -- ---- names
 

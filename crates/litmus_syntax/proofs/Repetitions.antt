@@ -1,7 +1,6 @@
 -- Lists in which nothing stands twice, by a test for being the same.
 use Rattle.std.proofs.Common.{◌≡◌, ◌≢◌, ◌∙◌, ◌||◌, Bool, true, false, List, [], ◌∷◌, ◌++◌, refl, sym, ap, subst, inl, inr}
-use Rattle.std.specs.List.{list_any}
-use Rattle.std.proofs.lemmas.Bool.{or_cases}
+use Rattle.litmus_syntax.proofs.Vocabulary.{list_any, or_cases}
 use Rattle.litmus_syntax.specs.Grammar.{IsNoneOf, NoneTwice}
 
 neither : (a b : Bool) → (a || b) ≡ false → (a ≡ false) × (b ≡ false)

@@ -1,24 +1,13 @@
 -- What the readers of rows read is what the grammar says.
 use Rattle.std.proofs.Common.{◌≡◌, ◌≢◌, ◌∙◌, ◌||◌, ◌+◌, suc, ℕ, codes, true, false, List, [], ◌∷◌, ◌++◌, length, refl, sym, ap, subst, inl, inr, arith, append_assoc, Option, Some, None}
 use Rattle.std.specs.Prelude.{Result, Ok, Err}
-use Rattle.std.specs.Str.{bytes_eq}
-use Rattle.std.proofs.lemmas.Bool.{or_cases}
-use Rattle.std.proofs.lemmas.List.{append-nil}
-use Rattle.std.proofs.lemmas.Slice.Eq.{bytes_eq-Decides}
-use Rattle.text_tokens.specs.declared.token.Mark.{Mark}
+use Rattle.litmus_syntax.proofs.Vocabulary.{bytes_eq, or_cases, append-nil, bytes_eq-Decides, Mark, Tok, Word, Number, Sign, NoToken, mark_at, begins_with, rest_of, Mnemonic, opens_condition}
+use Rattle.litmus_syntax.proofs.Vocabulary.{is_label, mnemonic_of, CodeView, CellView, mark, Items, end, item, SyntaxFault, Refused, OutOfMemory}
 use Rattle.text_tokens.specs.declared.token.Mark.TheVariants as the
 use Rattle.text_tokens.specs.Marks.{same_mark}
-use Rattle.text_tokens.specs.Tokens.{Tok, Word, Number, Sign, NoToken}
-use Rattle.text_tokens.specs.Parts.{mark_at, begins_with, rest_of}
 use Rattle.text_tokens.proofs.PartLaws.{mark_takes, mark_again, begins_takes, begins_again, same_mark_is}
-use Rattle.litmus_syntax.specs.declared.mnemonic.Mnemonic.{Mnemonic}
-use Rattle.litmus_syntax.specs.Words.{opens_condition, is_label, mnemonic_of}
-use Rattle.litmus_syntax.specs.Views.{CodeView, CellView}
-use Rattle.litmus_syntax.specs.Phrases.{mark, Items, end, item}
 use Rattle.litmus_syntax.specs.Grammar.{IsLabelMark, ends_cell, IsContent, IsCell, IsNextCell, IsCells, IsRow, IsRowList, ends_rows, before_ending, cell_labels, labels_from, row_labels, labels_in_rows}
 use Rattle.litmus_syntax.specs.Exact.{ReadsNone, Reads}
-use Rattle.litmus_syntax.specs.declared.fault.SyntaxFault.{SyntaxFault}
-use Rattle.litmus_syntax.specs.declared.fault.SyntaxFault.TheVariants.{Refused, OutOfMemory}
 use Rattle.litmus_syntax.proofs.ItemLaws.{Only, SoFar, none_yet, one_more, closed, refused}
 use Rattle.litmus_syntax.proofs.CodeLaws.{mnemonic_for, code_begins}
 

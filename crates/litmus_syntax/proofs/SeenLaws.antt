@@ -1,17 +1,8 @@
 -- Places that stand already.
 use Rattle.std.proofs.Common.{◌≡◌, ◌∙◌, ◌==◌, ◌||◌, ◌&&◌, ℕ, Bool, true, false, cond, List, [], ◌∷◌, ◌++◌, refl, sym, ap, subst, arith}
-use Rattle.std.specs.List.{list_any}
-use Rattle.std.specs.Str.{bytes_eq}
-use Rattle.std.specs.Global.{Vec}
-use Rattle.std.proofs.lemmas.List.Folds.{list_any-append}
-use Rattle.litmus_syntax.specs.declared.seen.Seen.{Seen}
-use Rattle.std.proofs.lemmas.Bool.{eqb-true}
-use Rattle.std.proofs.lemmas.Bool.Decides.{nat_tests}
-use Rattle.std.proofs.lemmas.Slice.Eq.{bytes_eq-Decides}
+use Rattle.litmus_syntax.proofs.Vocabulary.{list_any, bytes_eq, Vec, list_any-append, Seen, eqb-true, nat_tests, bytes_eq-Decides, PlaceView, Location, Register, same_place, has}
 use Rattle.tso_program.specs.Instructions as instructions
 use Rattle.tso_program.proofs.Registers.{same_register}
-use Rattle.litmus_syntax.specs.Views.{PlaceView, Location, Register}
-use Rattle.litmus_syntax.specs.Places.{same_place, has}
 
 -- ---- whether two places are one
 

@@ -1,20 +1,11 @@
 -- What the reader of signs reads is what the grammar says.
 use Rattle.std.proofs.Common.{◌≡◌, ◌∙◌, ◌==◌, length, suc, ℕ, Bool, true, false, cond, List, [], ◌∷◌, ◌++◌, codes, refl, sym, ap, subst, inl, inr, arith, Option, Some, None}
-use Rattle.std.specs.Prelude.{is_some}
-use Rattle.std.specs.Str.{bytes_eq}
-use Rattle.std.proofs.lemmas.Bool.{eqb-true}
-use Rattle.std.proofs.lemmas.Slice.Eq.{bytes_eq-Decides}
-use Rattle.text_tokens.specs.declared.token.Mark.{Mark}
+use Rattle.litmus_syntax.proofs.Vocabulary.{is_some, bytes_eq, eqb-true, bytes_eq-Decides, Mark, Tok, Word, Number, Sign, NoToken, toks, reg_of, opens_condition, joins_formula, is_name, PlaceView}
+use Rattle.litmus_syntax.proofs.Vocabulary.{Location, Register, SignView, Atom, Const, Not, And, Or, Open, Close, ◌>>=◌, bind_some, by_test, same_Some}
 use Rattle.text_tokens.specs.declared.token.Mark.TheVariants as the
 use Rattle.text_tokens.specs.declared.token.Token.{Token}
-use Rattle.text_tokens.specs.Tokens.{Tok, Word, Number, Sign, NoToken, toks}
-use Rattle.litmus_syntax.specs.Words.{reg_of, opens_condition, joins_formula, is_name}
-use Rattle.litmus_syntax.specs.Views.{PlaceView, Location, Register, SignView, Atom, Const, Not, And, Or, Open, Close}
 use Rattle.litmus_syntax.specs.Grammar.{IsPlace, IsSign, the_end, IsSigns}
-use Rattle.text_tokens.specs.Steps.{◌>>=◌}
 use Rattle.litmus_syntax.specs.Reading.{place_among_at, equals_value_at, word_sign, mark_sign, short_sign_at, atom_at, sign_at}
-use Rattle.text_tokens.proofs.StepLaws.{bind_some, by_test}
-use Rattle.std.proofs.lemmas.Option.{same_Some}
 use Rattle.litmus_syntax.proofs.Options.{given}
 use Rattle.litmus_syntax.proofs.ItemLaws.{IsRead, SoFar, closed, refused, none_yet, none_read, only_read, one_more}
 use Rattle.litmus_syntax.proofs.PlaceLaws.{place_among_takes, place_among_again, value_takes, value_again}

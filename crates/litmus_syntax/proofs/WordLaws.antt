@@ -1,16 +1,9 @@
 -- What the readers of keywords and separators read is what the grammar says.
 use Rattle.std.proofs.Common.{◌≡◌, ◌≢◌, ◌∙◌, ℕ, true, List, [], ◌∷◌, refl, ap, inl, inr, Some}
-use Rattle.std.proofs.lemmas.Option.{cond_some, same_Some}
-use Rattle.std.proofs.lemmas.Slice.Eq.{bytes_eq-Decides}
-use Rattle.text_tokens.specs.declared.token.Mark.{Mark}
+use Rattle.litmus_syntax.proofs.Vocabulary.{cond_some, same_Some, bytes_eq-Decides, Mark, Tok, Word, Number, Sign, NoToken, mark_at, begins_with, rest_of, word, begins_with_word, separator}
+use Rattle.litmus_syntax.proofs.Vocabulary.{keyword_at, separator_at, by_test}
 use Rattle.text_tokens.specs.declared.token.Mark.TheVariants as the
-use Rattle.text_tokens.specs.Tokens.{Tok, Word, Number, Sign, NoToken}
-use Rattle.text_tokens.specs.Parts.{mark_at, begins_with, rest_of}
 use Rattle.text_tokens.proofs.PartLaws.{mark_takes, mark_again, begins_takes, begins_again, begins_other}
-use Rattle.litmus_syntax.specs.Phrases.{word, begins_with_word}
-use Rattle.litmus_syntax.specs.Grammar.{separator}
-use Rattle.litmus_syntax.specs.Reading.{keyword_at, separator_at}
-use Rattle.text_tokens.proofs.StepLaws.{by_test}
 
 -- ---- keywords
 

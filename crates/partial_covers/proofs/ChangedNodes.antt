@@ -3,15 +3,11 @@ use Rattle.std.proofs.Common.{◌≡◌, ℕ, zero, suc, ◌+◌, ◌<◌, ◌�
 use Rattle.std.proofs.Math.ListN.{set}
 use Rattle.std.specs.Prelude.{nat_lt}
 use Rattle.std.proofs.lemmas.Bool.{cases_Bool, lt-ltb}
+use Rattle.partial_covers.proofs.Vocabulary.{AccessId, NEAR_RUNS, count_covers, in_sequence, each_in_sequence, sequential_node, renumbered_node}
 use Rattle.candidate_executions.specs.declared.event.Kind.TheVariants as union
-use Rattle.cert_forest.specs.declared.tree.AccessId.{AccessId}
-use Rattle.cert_forest.specs.declared.node.TheConstants.{NEAR_RUNS}
 use Rattle.cert_forest.specs.declared.node.Node.TheVariants as node
 use Rattle.cert_forest.specs.Trees.{Cover, Value, Source, Order, Cycle, Known, Covers, NoCover, MoreCovers}
-use Rattle.cert_forest.specs.Texts.{count_covers}
 use Rattle.cert_forest.specs.Nodes.{spell, spell_row, known_nodes}
-use Rattle.cover_judge.specs.TighterModes.{in_sequence, each_in_sequence}
-use Rattle.partial_covers.specs.NodeChanges.{sequential_node, renumbered_node}
 use Rattle.partial_covers.proofs.OtherNumbers.{IsNear, AreNear, renumbered, renumbered_each}
 
 map_append : {A B : Type 0} (f : A → B) (xs ys : List A) → map f (xs ++ ys) ≡ map f xs ++ map f ys

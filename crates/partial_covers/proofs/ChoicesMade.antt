@@ -1,10 +1,6 @@
 -- Choices that are made one after another.
 use Rattle.std.proofs.Common.{◌≡◌, ℕ, zero, suc, ◌+◌, ◌<◌, ◌≤◌, List, [], ◌∷◌, ◌++◌, get_or, length, take, refl, ap, ◌∙◌, arith}
-use Rattle.std.proofs.lemmas.List.{take_more, take_all}
-use Rattle.sketches.specs.ProgramSketches.{ProgramSketch, mode_in, with_chosen}
-use Rattle.cover_judge.specs.declared.choice.Choice.{Choice}
-use Rattle.cover_judge.specs.Choices.{MayChoose, sketch_with}
-use Rattle.partial_covers.specs.PartialCovers.{after, unfenced, MayChooseAll}
+use Rattle.partial_covers.proofs.Vocabulary.{take_more, take_all, ProgramSketch, mode_in, with_chosen, Choice, MayChoose, sketch_with, after, unfenced, MayChooseAll}
 use Rattle.partial_covers.proofs.PartialRows.{after_more}
 
 -- the program and the mode stay

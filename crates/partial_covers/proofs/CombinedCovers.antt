@@ -1,31 +1,14 @@
 -- Cover trees over the values of one thread after those of the others.
 use Rattle.std.proofs.Common.{◌≡◌, ◌≢◌, ℕ, zero, suc, ◌<◌, List, [], ◌∷◌, ◌++◌, get_or, Option, Some, None, slice_get, unwrap_or, set, length, sym, ap, ◌∙◌, subst, arith}
-use Rattle.std.specs.Prelude.{IfSome}
-use Rattle.std.proofs.lemmas.List.{length-map}
-use Rattle.tso_program.specs.declared.listing.Listing.{Listing}
-use Rattle.tso_program.specs.declared.outcome.Outcome.{Outcome}
-use Rattle.tso_program.specs.declared.shown.Shown.{Shown}
-use Rattle.tso_machine.specs.declared.mode.Mode.{Mode}
-use Rattle.candidate_executions.specs.Sketches.{Sketch, given_to}
+use Rattle.partial_covers.proofs.Vocabulary.{IfSome, length-map, Listing, Outcome, Shown, Mode, Sketch, given_to, ProgramSketch, nothing_chosen, with_chosen, IsLawful, with_values, HasValuesAlone}
+use Rattle.partial_covers.proofs.Vocabulary.{values_elsewhere, Cover, Choice, AreValueChoices, sketch_with, LastThread, Tally, AreAlike, IsBase, IsRest, with_root, IsCoverAt, IsCoverAfter, Traces}
+use Rattle.partial_covers.proofs.Vocabulary.{traces, root, cover_next}
 use Rattle.candidate_executions.proofs.Sketches.GivenValues.{none_given}
-use Rattle.sketches.specs.ProgramSketches.{ProgramSketch, nothing_chosen, with_chosen}
-use Rattle.sketches.specs.Kept.{IsLawful}
-use Rattle.sketches.specs.ThreadValues.{with_values, HasValuesAlone}
-use Rattle.sketches.proofs.ThreadValues.{values_elsewhere}
-use Rattle.cert_forest.specs.Trees.{Cover}
-use Rattle.cover_judge.specs.declared.choice.Choice.{Choice}
 use Rattle.cover_judge.specs.declared.choice.Choice.TheVariants as choice
-use Rattle.cover_judge.specs.Choices.{AreValueChoices, sketch_with}
 use Rattle.cover_judge.proofs.ChoicesJudged.{values_may}
-use Rattle.branching.specs.declared.plan.LastThread.{LastThread}
 use Rattle.branching.specs.declared.plan.ThreadTraces.{ThreadTraces}
-use Rattle.branching.specs.declared.tally.Tally.{Tally}
-use Rattle.branching.specs.Combinations.{AreAlike, IsBase, IsRest, with_root}
-use Rattle.sketch_covers.specs.Covers.{IsCoverAt, IsCoverAfter}
 use Rattle.branching.specs.Plans.{AreTracesOf, AreTracesFor, IsLast, IsBeforeLast, IsBeforeNext, AreOthersFull, IsOfOther, AreOfOthers}
 use Rattle.branching.specs.Tallies.{IsTallyOf, IsOther, IsNeither}
-use Rattle.branching.specs.Traces.{Traces, traces, root}
-use Rattle.sketch_covers.proofs.Nodes.{cover_next}
 use Rattle.branching.proofs.TraceTrees.{get_mapped}
 use Rattle.partial_covers.proofs.CombinedSketches.{lawful_merged, values_merged, one_more_value}
 

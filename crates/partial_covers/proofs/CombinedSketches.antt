@@ -1,40 +1,18 @@
 -- Sketches in which one thread takes its values from another sketch: what they are, and which read of them has no source.
 use Rattle.std.proofs.Common.{◌≡◌, ◌≢◌, ◌⊎◌, ◌↔◌, ℕ, zero, suc, ◌<◌, List, [], ◌∷◌, ◌++◌, Option, Some, None, IsSome, Contains, slice_get, slice_index, set, length, refl, sym, ap, ◌∙◌, subst, inl, inr, arith}
-use Rattle.std.proofs.lemmas.Bool.{cases_eq}
-use Rattle.std.proofs.lemmas.Option.{same_Some}
-use Rattle.tso_program.specs.declared.listing.Listing.{Listing}
-use Rattle.tso_program.specs.declared.outcome.Outcome.{Outcome}
-use Rattle.tso_program.specs.declared.shown.Shown.{Shown}
-use Rattle.tso_program.specs.Listings.{action, code_of, start_of}
+use Rattle.partial_covers.proofs.Vocabulary.{cases_eq, same_Some, Listing, Outcome, Shown, action, code_of, start_of, Event, Writes, IsValueOf, machine_of_mode, Mode, ProgramSketch, mode_in, trace_in}
+use Rattle.partial_covers.proofs.Vocabulary.{access_in, with_chosen, IsLawful, HaveAllRegisters, with_values, HasValuesAlone, choices_few, AccessId, Source, NoCover, event_of, Choice, ReadValue}
+use Rattle.partial_covers.proofs.Vocabulary.{Tally, AreAlike, IsCoverAt, node_cover, covers_none}
 use Rattle.candidate_executions.specs.declared.access.Access.{Access}
-use Rattle.candidate_executions.specs.declared.event.Event.{Event}
 use Rattle.candidate_executions.specs.declared.event.Event.TheVariants.{Initial, Access as At}
-use Rattle.candidate_executions.specs.Candidates.{Writes}
-use Rattle.candidate_executions.specs.Values.{IsValueOf}
 use Rattle.candidate_executions.specs.Traces.{Trace, trace, fenced_gaps}
 use Rattle.candidate_executions.specs.Sketches.{given_to, with_value, read_by, next_read, IsSourceOf, IsWhole}
-use Rattle.tso_machine.specs.Modes.{machine_of_mode}
-use Rattle.tso_machine.specs.declared.mode.Mode.{Mode}
-use Rattle.sketches.specs.ProgramSketches.{ProgramSketch, mode_in, trace_in, access_in, with_chosen}
-use Rattle.sketches.specs.Kept.{IsLawful}
-use Rattle.sketches.specs.Sizes.{HaveAllRegisters}
-use Rattle.sketches.specs.ThreadValues.{with_values, HasValuesAlone}
-use Rattle.sketches.proofs.ChoicesCounted.{choices_few}
 use Rattle.sketches.proofs.Lawful.{none_in}
 use Rattle.sketches.proofs.ThreadValues.{values_here, values_elsewhere, merged_lawful, values_alone}
-use Rattle.cert_forest.specs.declared.tree.AccessId.{AccessId}
-use Rattle.cert_forest.specs.Trees.{Source, NoCover}
-use Rattle.cover_judge.specs.CoverTrees.{event_of}
-use Rattle.cover_judge.specs.declared.choice.Choice.{Choice}
 use Rattle.cover_judge.specs.Choices.{IsValueOpen, AreValueChoices, AreSourceChoices}
 use Rattle.cover_judge.proofs.ChoicesJudged.{source_is_open}
 use Rattle.branching.specs.declared.open_choice.OpenChoice.TheVariants as left
-use Rattle.branching.specs.declared.reads_writes.ReadValue.{ReadValue}
-use Rattle.branching.specs.declared.tally.Tally.{Tally}
-use Rattle.branching.specs.Combinations.{AreAlike}
-use Rattle.sketch_covers.specs.Covers.{IsCoverAt}
 use Rattle.branching.specs.Tallies.{HasBit, IsTallyOf, IsTalliedRead, IsThisThread, IsOther, LacksWriteOfBoth}
-use Rattle.sketch_covers.proofs.Nodes.{node_cover, covers_none}
 
 none_when : (o : Option ℕ) → (IsSome o → ⊥) → o ≡ None
 none_when None closed = refl

@@ -1,16 +1,10 @@
 -- What several steps of a search for outcomes do together to what it has so far.
 use Rattle.std.proofs.Common.{◌≡◌, ◌<◌, ℕ, Bool, true, List, [], ◌∷◌, ◌++◌, ◌+◌, ◌∙◌, Vec, Global, get_or, length, take, sym, ap, subst}
-use Rattle.tso_program.specs.declared.shown.Shown.{Shown}
-use Rattle.tso_program.specs.Shown.{asked}
-use Rattle.sketches.specs.ProgramSketches.{ProgramSketch, with_chosen}
+use Rattle.partial_covers.proofs.Vocabulary.{Shown, asked, ProgramSketch, with_chosen, Choice, AreValueChoices, sketch_with, by_number, Grows, Covering, Item, Has, items_of, after, PushesPartial}
+use Rattle.partial_covers.proofs.Vocabulary.{PushesPartialRow, PushesPartialAt}
 use Rattle.cert_forest.specs.declared.node.Node.TheVariants as node
-use Rattle.cover_judge.specs.declared.choice.Choice.{Choice}
-use Rattle.cover_judge.specs.Choices.{AreValueChoices, sketch_with}
-use Rattle.sketch_covers.specs.KnownOutcomes.{by_number, Grows}
 use Rattle.sketch_covers.proofs.Growing.{grows_twice, grows_after}
-use Rattle.partial_covers.specs.declared.covering.Covering.{Covering}
 use Rattle.partial_covers.specs.Coverings.{Covers, CoversEach, CoversIf}
-use Rattle.partial_covers.specs.PartialCovers.{Item, Has, items_of, after, PushesPartial, PushesPartialRow, PushesPartialAt}
 use Rattle.partial_covers.proofs.PartialRows.{after_more, one_partial, values_partial}
 use Rattle.partial_covers.proofs.PartsJoined.{was_joined}
 

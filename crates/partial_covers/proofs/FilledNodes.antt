@@ -1,45 +1,25 @@
 -- Nodes that stand for a partial cover: copies of nodes, and the nodes of other trees in place of the holes.
 use Rattle.std.proofs.Common.{◌≡◌, ℕ, suc, ◌+◌, ◌<◌, List, [], ◌∷◌, ◌++◌, get_or, length, map, take, Contains, refl, sym, ap, ◌∙◌, subst, arith, append_assoc}
-use Rattle.std.proofs.lemmas.List.{append-nil, take_more}
-use Rattle.tso_program.specs.declared.listing.Listing.{Listing}
-use Rattle.tso_program.specs.declared.outcome.Outcome.{Outcome}
-use Rattle.tso_program.specs.declared.shown.Shown.{Shown}
-use Rattle.tso_machine.specs.declared.mode.Mode.{Mode}
+use Rattle.partial_covers.proofs.Vocabulary.{append-nil, take_more, Listing, Outcome, Shown, Mode, machine_of_mode, ProgramSketch, mode_in, nothing_chosen, IsLawful, HaveAllRegisters, choices_few}
+use Rattle.partial_covers.proofs.Vocabulary.{Node, count_covers, in_mode, first_is_here, later_is_here, Choice, AreValueChoices, MayChoose, next_is_open, PartialCover, Piece, sequential_node}
+use Rattle.partial_covers.proofs.Vocabulary.{copied_in, KeepsNumbers, Item, Has, Lacks, PartialTree, Closed, Values, Hole, PartialTrees, NoPartial, MorePartial, count_partial, spell_partial}
+use Rattle.partial_covers.proofs.Vocabulary.{spell_partial_row, items_before, items_of, after, IsPartialAfter, ArePartialAfter, IsPartialCover, unfenced, Pushes, still_valid, cover_next, covers_none}
+use Rattle.partial_covers.proofs.Vocabulary.{node_cover}
 use Rattle.tso_machine.specs.declared.mode.Mode.TheVariants as modes
-use Rattle.tso_machine.specs.Modes.{machine_of_mode}
-use Rattle.sketches.specs.ProgramSketches.{ProgramSketch, mode_in, nothing_chosen}
-use Rattle.sketches.specs.Kept.{IsLawful}
-use Rattle.sketches.specs.Sizes.{HaveAllRegisters}
-use Rattle.sketches.proofs.ChoicesCounted.{choices_few}
-use Rattle.cert_forest.specs.declared.node.Node.{Node}
 use Rattle.cert_forest.specs.declared.node.Node.TheVariants as node
 use Rattle.cert_forest.specs.Trees.{Cover, Value, covers_of}
 use Rattle.cert_forest.specs.Nodes.{spell, spell_all}
-use Rattle.cert_forest.specs.Texts.{count_covers}
 use Rattle.cert_forest.proofs.TreeTexts.{covers_count}
 use Rattle.cert_forest.proofs.PushedTrees.{listed}
-use Rattle.cover_judge.specs.TighterModes.{in_mode}
-use Rattle.cover_judge.proofs.Lists.{first_is_here, later_is_here}
-use Rattle.cover_judge.specs.declared.choice.Choice.{Choice}
 use Rattle.cover_judge.specs.declared.choice.Choice.TheVariants as choice
-use Rattle.cover_judge.specs.Choices.{AreValueChoices, MayChoose}
-use Rattle.cover_judge.proofs.ChoicesJudged.{next_is_open}
 use Rattle.branching.specs.declared.open_choice.OpenChoice.TheVariants as left
-use Rattle.partial_covers.specs.declared.partial_cover.PartialCover.{PartialCover}
-use Rattle.partial_covers.specs.declared.partial_cover.Piece.{Piece}
-use Rattle.partial_covers.specs.NodeChanges.{sequential_node, copied_in}
 use Rattle.sketch_covers.specs.Covers.{IsCoverAt, AreCoversAfter}
-use Rattle.sketch_covers.specs.OutcomeNumbers.{KeepsNumbers}
-use Rattle.partial_covers.specs.PartialCovers.{Item, Has, Lacks, PartialTree, Closed, Values, Hole, PartialTrees, NoPartial, MorePartial, count_partial, spell_partial, spell_partial_row, items_before, items_of, after, IsPartialAfter, ArePartialAfter, IsPartialCover, unfenced}
-use Rattle.sketch_covers.specs.Pushing.{Pushes}
 use Rattle.partial_covers.proofs.ChangedNodes.{spelled_in_sequence}
 use Rattle.partial_covers.proofs.ChoicesMade.{same_program, same_mode, after_unfenced}
 use Rattle.partial_covers.proofs.FilledTrees.{cover_in_mode, choices_in_mode}
-use Rattle.sketch_covers.proofs.Growing.{still_valid}
 use Rattle.partial_covers.proofs.PartialNodes.{pieces_pushed}
 use Rattle.partial_covers.proofs.PartialRows.{after_more, partial_still}
 use Rattle.partial_covers.proofs.LawfulValues.{lawful_value}
-use Rattle.sketch_covers.proofs.Nodes.{cover_next, covers_none, node_cover}
 
 -- ---- copies of nodes
 

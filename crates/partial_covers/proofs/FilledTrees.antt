@@ -3,27 +3,15 @@ use Rattle.std.proofs.Common.{◌≡◌, ℕ, true, false, List, Option, Some, N
 use Rattle.std.specs.FinSet as set
 use Rattle.std.specs.Ordering.{nat_cmp}
 use Rattle.std.specs.Option.{option_map_or}
-use Rattle.gap_sets.specs.Gaps.{SetOfGaps}
-use Rattle.tso_program.specs.declared.listing.Listing.{Listing}
-use Rattle.tso_program.specs.declared.outcome.Outcome.{Outcome}
-use Rattle.tso_program.specs.declared.shown.Shown.{Shown}
-use Rattle.tso_program.specs.Shown.{asked}
 use Rattle.tso_program.specs.Listings.{gap_number}
 use Rattle.tso_machine.specs.declared.mode.Mode as own
 use Rattle.tso_machine.specs.declared.mode.Mode.TheVariants as modes
-use Rattle.tso_machine.specs.Modes.{machine_of_mode}
-use Rattle.candidate_executions.specs.Sketches.{IsWhole}
-use Rattle.sketches.specs.ProgramSketches.{ProgramSketch, mode_in}
-use Rattle.cert_forest.specs.Trees.{Cover}
-use Rattle.cover_judge.specs.TighterModes.{IsNoLooser, in_mode}
 use Rattle.cover_judge.proofs.TighterModes.{tighter_keeps_cover, tighter_keeps_values, tighter_keeps_whole}
-use Rattle.cover_judge.specs.declared.choice.Choice.{Choice}
 use Rattle.cover_judge.specs.declared.choice.Choice.TheVariants as choice
-use Rattle.cover_judge.specs.Choices.{AreValueChoices}
 use Rattle.cover_judge.proofs.OneList.{one_list_of_values}
 use Rattle.std.proofs.Common.{map}
-use Rattle.sketch_covers.specs.Covers.{IsCoverAt}
-use Rattle.partial_covers.specs.PartialCovers.{unfenced}
+use Rattle.partial_covers.proofs.Vocabulary.{SetOfGaps, Listing, Outcome, Shown, asked, machine_of_mode, IsWhole, ProgramSketch, mode_in, Cover, IsNoLooser, in_mode, Choice, AreValueChoices}
+use Rattle.partial_covers.proofs.Vocabulary.{IsCoverAt, unfenced}
 use Rattle.partial_covers.proofs.TighterTrees.{neat_in_mode, depth_in_mode}
 
 -- the empty set has no gap

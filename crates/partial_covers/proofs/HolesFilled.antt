@@ -1,22 +1,10 @@
 -- What is known of the holes of a partial cover: the choices of each lead to a sketch in which each read has its value.
 use Rattle.std.proofs.Common.{ℕ, zero, suc, ◌<◌, List, [], ◌∷◌, ◌++◌, get_or, length, map, sym, ◌∙◌, subst, arith, append_assoc}
-use Rattle.std.proofs.lemmas.List.{append-nil}
-use Rattle.tso_program.specs.declared.listing.Listing.{Listing}
-use Rattle.tso_program.specs.declared.outcome.Outcome.{Outcome}
-use Rattle.tso_program.specs.declared.shown.Shown.{Shown}
-use Rattle.tso_machine.specs.declared.mode.Mode.{Mode}
-use Rattle.candidate_executions.specs.Sketches.{IsWhole}
-use Rattle.sketches.specs.ProgramSketches.{ProgramSketch, mode_in, nothing_chosen}
-use Rattle.cert_forest.specs.declared.node.Node.{Node}
-use Rattle.cert_forest.specs.Nodes.{spell}
-use Rattle.cover_judge.specs.declared.choice.Choice.{Choice}
 use Rattle.cover_judge.specs.declared.choice.Choice.TheVariants as choice
-use Rattle.cover_judge.specs.Choices.{AreValueChoices, MayChoose}
-use Rattle.cover_judge.proofs.Lists.{first_is_here, later_is_here}
 use Rattle.std.proofs.Common.{Contains}
-use Rattle.partial_covers.specs.declared.partial_cover.PartialCover.{PartialCover}
-use Rattle.partial_covers.specs.declared.partial_cover.Piece.{Piece}
-use Rattle.partial_covers.specs.PartialCovers.{Item, Has, Lacks, PartialTree, Closed, Values, Hole, PartialTrees, NoPartial, MorePartial, spell_partial, spell_partial_row, items_before, after, IsPartialAfter, ArePartialAfter, IsPartialCover, MayChooseAll, unfenced}
+use Rattle.partial_covers.proofs.Vocabulary.{append-nil, Listing, Outcome, Shown, Mode, IsWhole, ProgramSketch, mode_in, nothing_chosen, Node, spell, Choice, AreValueChoices, MayChoose, first_is_here}
+use Rattle.partial_covers.proofs.Vocabulary.{later_is_here, PartialCover, Piece, Item, Has, Lacks, PartialTree, Closed, Values, Hole, PartialTrees, NoPartial, MorePartial, spell_partial}
+use Rattle.partial_covers.proofs.Vocabulary.{spell_partial_row, items_before, after, IsPartialAfter, ArePartialAfter, IsPartialCover, MayChooseAll, unfenced}
 use Rattle.partial_covers.proofs.ChoicesMade.{after_unfenced, may_more}
 use Rattle.partial_covers.proofs.FilledTrees.{whole_sketch_in_mode, choices_in_mode}
 

@@ -1,17 +1,10 @@
 -- A lawful sketch stays so when it takes a value.
 use Rattle.std.proofs.Common.{◌≡◌, ◌⊎◌, ℕ, ◌<◌, ◌++◌, List, [], ◌∷◌, Option, Some, None, IsSome, Contains, length, refl, sym, ◌∙◌, subst, inl, inr, arith}
-use Rattle.std.proofs.lemmas.Bool.{cases_eq}
-use Rattle.std.proofs.lemmas.Option.{same_Some}
-use Rattle.tso_program.specs.Listings.{action, code_of, start_of}
-use Rattle.candidate_executions.specs.declared.event.Event.{Event}
-use Rattle.candidate_executions.specs.Traces.{trace, fenced_gaps}
-use Rattle.candidate_executions.specs.Values.{IsValueOf}
-use Rattle.candidate_executions.specs.Sketches.{given_to, with_value, next_read}
+use Rattle.partial_covers.proofs.Vocabulary.{cases_eq, same_Some, action, code_of, start_of, Event, trace, fenced_gaps, IsValueOf, given_to, with_value, next_read, IsLawful, ProgramSketch, mode_in}
+use Rattle.partial_covers.proofs.Vocabulary.{trace_in, with_chosen}
 use Rattle.candidate_executions.proofs.FromRuns.StepsSuffice.{advance}
 use Rattle.candidate_executions.proofs.Sketches.Choices.{a_value_keeps_a_sketch}
 use Rattle.candidate_executions.proofs.Sketches.GivenValues.{given_same, given_other, reads_there}
-use Rattle.sketches.specs.Kept.{IsLawful}
-use Rattle.sketches.specs.ProgramSketches.{ProgramSketch, mode_in, trace_in, with_chosen}
 use Rattle.sketches.proofs.GivenUsed.{Good, good_more}
 use Rattle.sketches.proofs.Lawful.{good_of, values_from}
 

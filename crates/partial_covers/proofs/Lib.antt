@@ -1,3 +1,5 @@
+-- what many proofs speak of
+mod Vocabulary
 pub mod ChangedNodes
 pub mod PartialNodes
 pub mod PartialRows

@@ -1,13 +1,7 @@
 -- The numbers of a valid tree over a list with a node for each number.
 use Rattle.std.proofs.Common.{◌≤◌, List, [], ◌∷◌, length, map, arith}
-use Rattle.std.proofs.lemmas.Option.{slice_get_within}
-use Rattle.tso_program.specs.declared.outcome.Outcome.{Outcome}
-use Rattle.tso_program.specs.Shown.{Question}
-use Rattle.tso_machine.specs.Machine.{Machine}
-use Rattle.candidate_executions.specs.Sketches.{Sketch, with_value, with_source, with_pair}
+use Rattle.partial_covers.proofs.Vocabulary.{slice_get_within, Outcome, Question, Machine, Sketch, with_value, with_source, with_pair, NEAR_RUNS, event_of, IsValidCover, AreValidCovers}
 use Rattle.cert_forest.specs.Trees.{Cover, Value, Source, Order, Cycle, Known, Covers, NoCover, MoreCovers}
-use Rattle.cert_forest.specs.declared.node.TheConstants.{NEAR_RUNS}
-use Rattle.cover_judge.specs.CoverTrees.{event_of, IsValidCover, AreValidCovers}
 use Rattle.partial_covers.proofs.OtherNumbers.{IsNear, AreNear}
 
 module _ (q : Question) (mode : Machine) (outcomes : List Outcome) (few : length outcomes ≤ NEAR_RUNS) where

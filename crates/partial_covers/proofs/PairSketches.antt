@@ -1,21 +1,8 @@
 -- Sketches in which the thread before the last takes its values from another sketch.
 use Rattle.std.proofs.Common.{◌≢◌, ◌⊎◌, ℕ, Option, IsSome, Contains, slice_index, sym, ◌∙◌, subst, inl, inr}
-use Rattle.std.proofs.lemmas.Bool.{cases_eq}
-use Rattle.tso_program.specs.declared.listing.Listing.{Listing}
-use Rattle.candidate_executions.specs.declared.event.Event.TheVariants.{Access as At}
-use Rattle.candidate_executions.specs.Candidates.{Writes}
-use Rattle.candidate_executions.specs.Sketches.{given_to}
-use Rattle.sketches.specs.ProgramSketches.{ProgramSketch, access_in}
-use Rattle.sketches.specs.Kept.{IsLawful}
-use Rattle.sketches.specs.ThreadValues.{with_values}
-use Rattle.sketches.proofs.ThreadValues.{values_elsewhere}
-use Rattle.cover_judge.specs.Choices.{IsValueOpen}
-use Rattle.branching.specs.declared.plan.LastThread.{LastThread}
-use Rattle.branching.specs.declared.reads_writes.ReadValue.{ReadValue}
-use Rattle.branching.specs.declared.tally.Tally.{Tally}
+use Rattle.partial_covers.proofs.Vocabulary.{cases_eq, Listing, At, Writes, given_to, ProgramSketch, access_in, IsLawful, with_values, values_elsewhere, IsValueOpen, LastThread, ReadValue, Tally}
+use Rattle.partial_covers.proofs.Vocabulary.{AreAlike, IsBase, IsRest, with_trace, IsBeforeLast}
 use Rattle.branching.specs.declared.traces.FullTrace.{FullTrace}
-use Rattle.branching.specs.Combinations.{AreAlike, IsBase, IsRest, with_trace}
-use Rattle.branching.specs.Plans.{IsBeforeLast}
 use Rattle.branching.specs.Tallies.{HasBit, IsTalliedRead, IsOther, Joins}
 use Rattle.branching.specs.Traces.{IsFullTrace}
 use Rattle.partial_covers.proofs.CombinedCovers.{traces_still}

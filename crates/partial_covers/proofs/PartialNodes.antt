@@ -1,24 +1,14 @@
 -- Partial covers, node by node.
 use Rattle.std.proofs.Common.{◌≡◌, ◌≤◌, Bool, true, false, ℕ, List, [], ◌∷◌, ◌++◌, length, map, take, refl, sym, ap, ◌∙◌, subst, append_assoc}
 use Rattle.std.specs.Prelude.{Result, Ok, Err, OnOk}
-use Rattle.std.proofs.lemmas.List.{map-append, append-nil}
-use Rattle.tso_program.specs.declared.outcome.Outcome.{Outcome}
-use Rattle.tso_program.specs.declared.shown.Shown.{Shown}
-use Rattle.candidate_executions.specs.Sketches.{IsWhole}
-use Rattle.sketches.specs.ProgramSketches.{ProgramSketch, mode_in}
-use Rattle.sketches.specs.Kept.{IsLawful}
+use Rattle.partial_covers.proofs.Vocabulary.{map-append, append-nil, Outcome, Shown, IsWhole, ProgramSketch, mode_in, IsLawful, Node, spell, Choice, Piece, IsCoverAt, Item, Has, Lacks, Closed, Hole}
+use Rattle.partial_covers.proofs.Vocabulary.{items_before, PushesPartialAt}
 use Rattle.sketches.specs.Sizes.{choice_count, most_choices}
-use Rattle.cert_forest.specs.declared.node.Node.{Node}
-use Rattle.cert_forest.specs.Nodes.{spell}
-use Rattle.cover_judge.specs.declared.choice.Choice.{Choice}
-use Rattle.partial_covers.specs.declared.partial_cover.Piece.{Piece}
 use Rattle.sketch_covers.specs.declared.stop.Stop.{Stop}
-use Rattle.sketch_covers.specs.Covers.{IsCoverAt}
 use Rattle.sketch_covers.specs.KnownOutcomes.{OnTold}
 use Rattle.sketch_covers.specs.Pushing.{Pushes, IfKnown}
 use Rattle.sketch_covers.proofs.Leaves.{known_pushed, unknown_same}
 use Rattle.sketch_covers.proofs.Nodes.{leaf_cover}
-use Rattle.partial_covers.specs.PartialCovers.{Item, Has, Lacks, Closed, Hole, items_before, PushesPartialAt}
 
 -- nodes after the last piece
 pub items_pushed : (pieces : List Piece) (old new more : List Node) → new ≡ old ++ more → items_before pieces ++ map Has new ≡ (items_before pieces ++ map Has old) ++ map Has more

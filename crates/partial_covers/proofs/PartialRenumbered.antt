@@ -1,30 +1,13 @@
 -- Partial covers with other numbers for their outcomes.
 use Rattle.std.proofs.Common.{◌≡◌, ℕ, suc, ◌<◌, ◌≤◌, List, [], ◌∷◌, ◌++◌, ◌+◌, map, length, get_or, set, refl, sym, ap, ◌∙◌, subst, inl, inr, arith}
-use Rattle.std.specs.Prelude.{◌^◌}
 use Rattle.std.specs.FinSet as set
-use Rattle.std.proofs.lemmas.Bool.{cases_eq}
-use Rattle.std.proofs.lemmas.List.{map-append, get_or-set_same, get_or-set_other}
-use Rattle.tso_program.specs.declared.listing.Listing.{Listing}
-use Rattle.tso_program.specs.declared.outcome.Outcome.{Outcome}
-use Rattle.tso_program.specs.declared.shown.Shown.{Shown}
-use Rattle.tso_program.specs.Shown.{asked}
+use Rattle.partial_covers.proofs.Vocabulary.{◌^◌, cases_eq, map-append, get_or-set_same, get_or-set_other, Listing, Outcome, Shown, asked, SequentialMachine, empty_sketch, ProgramSketch, mode_in}
+use Rattle.partial_covers.proofs.Vocabulary.{nothing_chosen, same_default, Node, NEAR_RUNS, spell, Cover, Choice, PartialCover, Piece, renumbered_node, IsWholeCover, Item, Has, Lacks, renumbered_item}
+use Rattle.partial_covers.proofs.Vocabulary.{IsPieceRenumbered, PartialTree, Closed, Values, Hole, PartialTrees, NoPartial, MorePartial, count_partial, spell_partial, spell_partial_row, items_before}
+use Rattle.partial_covers.proofs.Vocabulary.{items_of, after, IsPartialAfter, ArePartialAfter, IsPartialCover}
 use Rattle.tso_machine.specs.declared.mode.Mode.TheVariants as modes
-use Rattle.tso_machine.specs.Machine.{SequentialMachine}
-use Rattle.candidate_executions.specs.Sketches.{empty_sketch}
-use Rattle.sketches.specs.ProgramSketches.{ProgramSketch, mode_in, nothing_chosen}
-use Rattle.sketches.proofs.Lookups.{same_default}
-use Rattle.cert_forest.specs.declared.node.Node.{Node}
 use Rattle.cert_forest.specs.declared.node.Node.TheVariants as node
-use Rattle.cert_forest.specs.declared.node.TheConstants.{NEAR_RUNS}
-use Rattle.cert_forest.specs.Nodes.{spell}
-use Rattle.cert_forest.specs.Trees.{Cover}
-use Rattle.cover_judge.specs.declared.choice.Choice.{Choice}
-use Rattle.partial_covers.specs.declared.partial_cover.PartialCover.{PartialCover}
-use Rattle.partial_covers.specs.declared.partial_cover.Piece.{Piece}
-use Rattle.partial_covers.specs.NodeChanges.{renumbered_node}
-use Rattle.sketch_covers.specs.Covers.{IsWholeCover}
 use Rattle.sketch_covers.specs.OutcomeNumbers.{HasNumber, place_in, ArePlacesOf}
-use Rattle.partial_covers.specs.PartialCovers.{Item, Has, Lacks, renumbered_item, IsPieceRenumbered, PartialTree, Closed, Values, Hole, PartialTrees, NoPartial, MorePartial, count_partial, spell_partial, spell_partial_row, items_before, items_of, after, IsPartialAfter, ArePartialAfter, IsPartialCover}
 use Rattle.partial_covers.proofs.OtherNumbers.{renumbered}
 use Rattle.partial_covers.proofs.ChangedNodes.{spelled_renumbered}
 use Rattle.partial_covers.proofs.NearNumbers.{valid_near}

@@ -1,19 +1,11 @@
 -- Partial covers for each value of a read, put after the rest one by one.
 use Rattle.std.proofs.Common.{◌≡◌, ℕ, suc, ◌+◌, ◌<◌, List, [], ◌∷◌, ◌++◌, get_or, length, take, refl, sym, ap, ◌∙◌, subst, append_assoc}
-use Rattle.std.proofs.lemmas.List.{take_more, append-nil}
 use Rattle.std.specs.FinSet as set
-use Rattle.tso_program.specs.declared.listing.Listing.{Listing}
-use Rattle.tso_program.specs.declared.outcome.Outcome.{Outcome}
-use Rattle.tso_program.specs.declared.shown.Shown.{Shown}
+use Rattle.partial_covers.proofs.Vocabulary.{take_more, append-nil, Listing, Outcome, Shown, ProgramSketch, mode_in, nothing_chosen, with_chosen, Choice, AreValueChoices, sketch_with, PartialCover}
+use Rattle.partial_covers.proofs.Vocabulary.{KeepsNumbers, still_valid}
 use Rattle.tso_machine.specs.declared.mode.Mode.TheVariants as modes
-use Rattle.sketches.specs.ProgramSketches.{ProgramSketch, mode_in, nothing_chosen, with_chosen}
 use Rattle.cert_forest.specs.declared.node.Node.TheVariants as node
-use Rattle.cover_judge.specs.declared.choice.Choice.{Choice}
-use Rattle.cover_judge.specs.Choices.{AreValueChoices, sketch_with}
-use Rattle.partial_covers.specs.declared.partial_cover.PartialCover.{PartialCover}
-use Rattle.sketch_covers.specs.OutcomeNumbers.{KeepsNumbers}
 use Rattle.partial_covers.specs.PartialCovers.{Item, Has, PartialTree, Closed, Values, Hole, PartialTrees, NoPartial, MorePartial, partial_of, count_partial, spell_partial, spell_partial_row, after, IsPartialAfter, ArePartialAfter, PushesPartial, PushesPartialRow, IsPartialCover}
-use Rattle.sketch_covers.proofs.Growing.{still_valid}
 
 -- one choice more
 pub after_more : (s : ProgramSketch) (path : List Choice) (c : Choice) → after s (path ++ c ∷ []) ≡ with_chosen (after s path) (sketch_with (after s path).chosen c)

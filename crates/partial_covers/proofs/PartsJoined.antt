@@ -1,32 +1,14 @@
 -- Parts of a search, while the list of outcomes grows and choices are made, and the cover of one beside the rest.
 use Rattle.std.proofs.Common.{◌≡◌, Bool, true, false, ℕ, ◌+◌, ◌<◌, ◌≤◌, List, [], ◌∷◌, ◌++◌, Option, Some, None, get_or, set, take, drop, length, map, inl, inr, arith, refl, sym, ap, ◌∙◌, subst}
 use Rattle.std.specs.Prelude.{◌^◌, All, IfSome, MatchOption}
-use Rattle.std.proofs.lemmas.Bool.{cases_eq}
 use Rattle.std.proofs.lemmas.List.{get_or-set_same, get_or-set_other, append-nil, take_all, drop_all}
-use Rattle.sketches.proofs.Lookups.{same_default}
-use Rattle.tso_machine.specs.declared.mode.Mode.{Mode}
-use Rattle.candidate_executions.specs.Sketches.{IsWhole}
-use Rattle.tso_program.specs.declared.outcome.Outcome.{Outcome}
-use Rattle.tso_program.specs.declared.shown.Shown.{Shown}
-use Rattle.tso_program.specs.Shown.{Question, asked}
-use Rattle.sketches.specs.ProgramSketches.{ProgramSketch, mode_in, with_chosen}
-use Rattle.cert_forest.specs.declared.node.TheConstants.{NEAR_RUNS}
-use Rattle.cover_judge.specs.declared.choice.Choice.{Choice}
-use Rattle.cover_judge.specs.Choices.{sketch_with}
+use Rattle.partial_covers.proofs.Vocabulary.{cases_eq, same_default, Mode, IsWhole, Outcome, Shown, Question, asked, ProgramSketch, mode_in, with_chosen, NEAR_RUNS, Choice, sketch_with, KnownOutcomes}
+use Rattle.partial_covers.proofs.Vocabulary.{PartCover, Part, HasNumber, Item, renumbered_item, after, PushesPartialAt, StaysOf, LastThread, Plan, IsOfOther, IsLast, IsBeforeLast, IsPartOf}
+use Rattle.partial_covers.proofs.Vocabulary.{IsSearched, AreSearched, IsPlanned}
 use Rattle.sketch_covers.specs.declared.outcome_index.OutcomeIndex.{OutcomeIndex}
-use Rattle.sketch_covers.specs.declared.known_outcomes.KnownOutcomes.{KnownOutcomes}
 use Rattle.sketch_covers.specs.declared.known_outcomes.KnownOutcomes.TheVariants.{Closed, Open}
-use Rattle.partial_covers.specs.declared.part.PartCover.{PartCover}
-use Rattle.partial_covers.specs.declared.part.Part.{Part}
-use Rattle.sketch_covers.specs.OutcomeNumbers.{HasNumber}
-use Rattle.partial_covers.specs.PartialCovers.{Item, renumbered_item, after, PushesPartialAt}
-use Rattle.sketch_covers.specs.KnownOutcomes.{StaysOf}
 use Rattle.partial_covers.specs.Parts.{AreRunsFor, IsMadeAt, IsPartFor, ArePartsFor, IfJoined, IsMadeIn}
 use Rattle.partial_covers.proofs.PartialRenumbered.{partial_renumbered}
-use Rattle.branching.specs.declared.plan.LastThread.{LastThread}
-use Rattle.branching.specs.declared.plan.Plan.{Plan}
-use Rattle.branching.specs.Plans.{IsOfOther, IsLast, IsBeforeLast}
-use Rattle.partial_covers.specs.Parts.{IsPartOf, IsSearched, AreSearched, IsPlanned}
 use Rattle.partial_covers.proofs.CombinedCovers.{before_next}
 use Rattle.partial_covers.proofs.PartialRows.{after_more}
 

@@ -1,19 +1,8 @@
 -- A valid tree stays valid over another list when its numbers are put for those of the same outcomes there.
 use Rattle.std.proofs.Common.{◌≡◌, ℕ, suc, ◌<◌, List, [], ◌∷◌, map, length, refl, ap, arith}
-use Rattle.std.specs.Prelude.{◌^◌, max}
-use Rattle.std.proofs.lemmas.Option.{slice_get_within}
-use Rattle.tso_program.specs.declared.outcome.Outcome.{Outcome}
-use Rattle.tso_program.specs.declared.shown.Shown.{Shown}
-use Rattle.tso_program.specs.Shown.{Question, asked}
-use Rattle.tso_machine.specs.Machine.{Machine}
-use Rattle.candidate_executions.specs.Sketches.{Sketch, empty_sketch, with_value, with_source, with_pair}
-use Rattle.sketches.specs.ProgramSketches.{ProgramSketch, mode_in}
+use Rattle.partial_covers.proofs.Vocabulary.{◌^◌, max, slice_get_within, Outcome, Shown, Question, asked, Machine, Sketch, empty_sketch, with_value, with_source, with_pair, ProgramSketch, mode_in}
+use Rattle.partial_covers.proofs.Vocabulary.{count_covers, cover_depth, covers_depth, event_of, IsValidCover, AreValidCovers, IsNeat, AreNeat, IsCoverAt, IsWholeCover, HasNumber}
 use Rattle.cert_forest.specs.Trees.{Cover, Value, Source, Order, Cycle, Known, Covers, NoCover, MoreCovers}
-use Rattle.cert_forest.specs.Texts.{count_covers}
-use Rattle.cert_forest.specs.Limits.{cover_depth, covers_depth}
-use Rattle.cover_judge.specs.CoverTrees.{event_of, IsValidCover, AreValidCovers}
-use Rattle.sketch_covers.specs.Covers.{IsNeat, AreNeat, IsCoverAt, IsWholeCover}
-use Rattle.sketch_covers.specs.OutcomeNumbers.{HasNumber}
 use Rattle.partial_covers.proofs.OtherNumbers.{renumbered, renumbered_each}
 
 module _ (q : Question) (mode : Machine) (old new : List Outcome) (place : ℕ → ℕ) (few : length new < 2 ^ 64) (moves : (n : ℕ) (o : Outcome) → HasNumber old n o → HasNumber new (place n) o) where

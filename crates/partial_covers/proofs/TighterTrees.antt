@@ -1,16 +1,9 @@
 -- A whole cover tree in a mode is one in each mode that is no looser: its numbers, its events and its depth stay the same.
 use Rattle.std.proofs.Common.{◌≡◌, suc, List, refl, ap, arith}
-use Rattle.std.specs.Prelude.{max}
-use Rattle.tso_program.specs.declared.outcome.Outcome.{Outcome}
-use Rattle.tso_program.specs.Shown.{Question}
+use Rattle.partial_covers.proofs.Vocabulary.{max, Outcome, Question, empty_sketch, count_covers, cover_depth, covers_depth, IsNoLooser, in_sequence, each_in_sequence, in_mode, tighter_keeps_cover}
+use Rattle.partial_covers.proofs.Vocabulary.{IsNeat, AreNeat, IsWholeCover}
 use Rattle.tso_machine.specs.Machine.{Machine, SequentialMachine, StoreBufferMachine}
-use Rattle.candidate_executions.specs.Sketches.{empty_sketch}
 use Rattle.cert_forest.specs.Trees.{Cover, Value, Source, Order, Cycle, Known, Covers, NoCover, MoreCovers}
-use Rattle.cert_forest.specs.Texts.{count_covers}
-use Rattle.cert_forest.specs.Limits.{cover_depth, covers_depth}
-use Rattle.cover_judge.specs.TighterModes.{IsNoLooser, in_sequence, each_in_sequence, in_mode}
-use Rattle.cover_judge.proofs.TighterModes.{tighter_keeps_cover}
-use Rattle.sketch_covers.specs.Covers.{IsNeat, AreNeat, IsWholeCover}
 
 -- how many trees there are, and how deep they are
 each_counted : (trees : Covers) → count_covers (each_in_sequence trees) ≡ count_covers trees

@@ -1,26 +1,12 @@
 -- The nodes of a thread's traces, at a sketch in which the other threads have their values.
 use Rattle.std.proofs.Common.{◌≡◌, ℕ, ◌<◌, List, get_or, length, map, sym, ap, subst, arith}
-use Rattle.std.specs.Prelude.{◌^◌}
-use Rattle.std.proofs.lemmas.List.{length-map}
-use Rattle.tso_program.specs.declared.outcome.Outcome.{Outcome}
-use Rattle.tso_program.specs.declared.shown.Shown.{Shown}
-use Rattle.sketches.specs.ProgramSketches.{ProgramSketch, with_chosen}
-use Rattle.sketches.specs.Kept.{IsLawful}
-use Rattle.sketches.specs.Sizes.{HaveAllRegisters}
-use Rattle.sketches.specs.ThreadValues.{HasValuesAlone}
-use Rattle.cert_forest.specs.Trees.{Cover}
-use Rattle.cover_judge.specs.declared.choice.Choice.{Choice}
+use Rattle.partial_covers.proofs.Vocabulary.{◌^◌, length-map, Outcome, Shown, ProgramSketch, with_chosen, IsLawful, HaveAllRegisters, HasValuesAlone, Cover, Choice, IsValueOpen, AreValueChoices}
+use Rattle.partial_covers.proofs.Vocabulary.{sketch_with, TraceTree, AreAlike, with_root, IsCoverAt, IsCoverAfter, Traces, Read, traces, trace_trees, root, first_choices, IsTraceTree, next_is_open}
+use Rattle.partial_covers.proofs.Vocabulary.{few_choices}
 use Rattle.cover_judge.specs.declared.choice.Choice.TheVariants as choice
-use Rattle.cover_judge.specs.Choices.{IsValueOpen, AreValueChoices, sketch_with}
-use Rattle.branching.specs.declared.traces.TraceTree.{TraceTree}
-use Rattle.branching.specs.Combinations.{AreAlike, with_root}
-use Rattle.sketch_covers.specs.Covers.{IsCoverAt, IsCoverAfter}
-use Rattle.branching.specs.Traces.{Traces, Read, traces, trace_trees, root, first_choices, IsTraceTree}
 use Rattle.partial_covers.proofs.CombinedCovers.{child_alike, child_cover, child_parts}
 use Rattle.partial_covers.proofs.CombinedSketches.{lawful_merged, values_merged}
-use Rattle.cover_judge.proofs.ChoicesJudged.{next_is_open}
 use Rattle.branching.specs.declared.open_choice.OpenChoice.TheVariants as left
-use Rattle.sketch_covers.proofs.Nodes.{few_choices}
 use Rattle.branching.proofs.TraceTrees.{as_many_trees, child_tree}
 
 module _ (s : ProgramSketch) (t : ℕ) (alone : HasValuesAlone s.chosen) (there : t < length s.program.threads) (lawful : IsLawful s) (u : ProgramSketch) (own : IsLawful u) (choices : List Choice) (after : List TraceTree)

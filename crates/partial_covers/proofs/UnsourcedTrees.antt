@@ -1,29 +1,13 @@
 -- Trees in which a read without a source closes each full trace of a thread, node by node.
 use Rattle.std.proofs.Common.{◌≡◌, ℕ, ◌+◌, ◌<◌, ◌≤◌, List, [], ◌∷◌, ◌++◌, get_or, length, map, refl, ap, ◌∙◌, subst, append_assoc}
-use Rattle.std.specs.Prelude.{◌^◌}
-use Rattle.tso_program.specs.declared.outcome.Outcome.{Outcome}
-use Rattle.tso_program.specs.declared.shown.Shown.{Shown}
+use Rattle.partial_covers.proofs.Vocabulary.{◌^◌, Outcome, Shown, ProgramSketch, IsLawful, HaveAllRegisters, choices_few, Node, Choice, AreValueChoices, next_is_open, Tally, TraceTree, with_root}
+use Rattle.partial_covers.proofs.Vocabulary.{IsCoverAt, IsCoverAfter, Begins, Traces, Read, traces, trace_trees, root, first_choices, IsTraceTree, few_choices}
 use Rattle.tso_program.specs.declared.shown.Shown.TheVariants.{All}
-use Rattle.sketches.specs.ProgramSketches.{ProgramSketch}
-use Rattle.sketches.specs.Kept.{IsLawful}
-use Rattle.sketches.specs.Sizes.{HaveAllRegisters}
-use Rattle.sketches.proofs.ChoicesCounted.{choices_few}
-use Rattle.cert_forest.specs.declared.node.Node.{Node}
 use Rattle.cert_forest.specs.declared.node.Node.TheVariants as node
-use Rattle.cover_judge.specs.declared.choice.Choice.{Choice}
 use Rattle.cover_judge.specs.declared.choice.Choice.TheVariants as choice
-use Rattle.cover_judge.specs.Choices.{AreValueChoices}
-use Rattle.cover_judge.proofs.ChoicesJudged.{next_is_open}
 use Rattle.branching.specs.declared.open_choice.OpenChoice.TheVariants as left
-use Rattle.branching.specs.declared.tally.Tally.{Tally}
-use Rattle.branching.specs.declared.traces.TraceTree.{TraceTree}
-use Rattle.branching.specs.Combinations.{with_root}
-use Rattle.sketch_covers.specs.Covers.{IsCoverAt, IsCoverAfter}
-use Rattle.sketch_covers.specs.Pushing.{Begins}
-use Rattle.branching.specs.Traces.{Traces, Read, traces, trace_trees, root, first_choices, IsTraceTree}
 use Rattle.partial_covers.specs.UnsourcedTraces.{Takes, Closes}
 use Rattle.sketch_covers.proofs.Covering.{Covering, none_covered, one_covered, all_covered, pushes_as}
-use Rattle.sketch_covers.proofs.Nodes.{few_choices}
 use Rattle.partial_covers.proofs.TraceNodes.{as_many_here, are_here, child_meets, cover_at, lawful_at, open_here}
 
 -- the values of a read are few

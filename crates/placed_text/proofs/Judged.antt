@@ -3,16 +3,14 @@ use Rattle.std.proofs.Common.{◌≡◌, ◌∙◌, ℕ, List, Option, Some, Non
 use Rattle.std.specs.Prelude.{unwrap_or}
 use Rattle.std.proofs.lemmas.List.{length-replicate}
 use Rattle.std.proofs.lemmas.List.FromFn.{length-map-range_with_len}
-use Rattle.tso_program.specs.declared.listing.Listing.{Listing}
+use Rattle.placed_text.proofs.Vocabulary.{Listing, gap_count, IsPlacement}
 use Rattle.tso_program.specs.declared.shown.ShownKind.{ShownKind}
-use Rattle.tso_program.specs.Listings.{gap_count}
 use Rattle.litmus_text.specs.Litmus.{Litmus}
 use Rattle.litmus_text.specs.Texts.{IsLitmus}
 use Rattle.litmus_text.specs.CostTexts.{said_of}
 use Rattle.litmus_text.specs.GivenCosts.{AreGiven}
 use Rattle.report.specs.Answers.{answer_line}
 use Rattle.fence_place.specs.declared.placing.Placed.{Placed}
-use Rattle.fence_place.specs.Placements.{IsPlacement}
 use Rattle.placed_text.specs.declared.fault.TextFault.{TextFault}
 use Rattle.placed_text.specs.declared.fault.TextFault.TheVariants as fault
 use Rattle.placed_text.specs.declared.writing.PlacedText.{PlacedText}

@@ -1,3 +1,5 @@
+-- what many proofs speak of
+mod Vocabulary
 pub mod GapsThere
 pub mod Judged
 -- words of the crates below, passed on

@@ -3,10 +3,9 @@
 use Rattle.std.proofs.Common.{◌≡◌, ◌≢◌, ℕ, suc, ◌<◌, ◌≤◌, List, [], Option, Some, IsSome, Contains, map, length, refl, sym, ap, ◌∙◌, subst, append-nil, inl, inr, arith}
 use Rattle.std.specs.Prelude.{◌==◌, slice_index, slice_get}
 use Rattle.std.specs.List.{range_with_len}
-use Rattle.std.proofs.lemmas.Bool.{cases_lt}
 use Rattle.std.proofs.lemmas.List.FromFn.{length-map-range_with_len, get_or-map-range_with_len}
 use Rattle.std.proofs.lemmas.Option.{same_Some, slice_get_within, slice_get-get_or, slice_get_past}
-use Rattle.tso_program.specs.declared.listing.Listing.{Listing}
+use Rattle.run_maker.proofs.Vocabulary.{cases_lt, Listing, action, start_of, code_of, Access, Event, Initial, At, Kind, In, HasNoCycle, IsMadeRun, IsKnownOrder}
 use Rattle.tso_program.specs.declared.outcome.Outcome.{Outcome}
 use Rattle.tso_program.specs.declared.shown.Shown.{Shown}
 use Rattle.tso_program.specs.declared.shown.Shown.TheVariants.{All, Only, Truth}
@@ -16,12 +15,7 @@ use Rattle.tso_program.specs.declared.atom.Atom.TheVariants as atom
 use Rattle.tso_program.specs.Truth.{truth, is_true_at, is_value}
 use Rattle.tso_program.proofs.Kept.{memory_long, value_at as kept_value}
 use Rattle.tso_program.proofs.KnownTruths.{all_known}
-use Rattle.tso_program.specs.Listings.{action, start_of, code_of}
 use Rattle.tso_machine.specs.Machine.{Machine, SequentialMachine, StoreBufferMachine, IsRun}
-use Rattle.candidate_executions.specs.declared.access.Access.{Access}
-use Rattle.candidate_executions.specs.declared.event.Event.{Event}
-use Rattle.candidate_executions.specs.declared.event.Event.TheVariants.{Initial, Access as At}
-use Rattle.candidate_executions.specs.declared.event.Kind.{Kind}
 use Rattle.candidate_executions.specs.declared.event.Kind.TheVariants as union
 use Rattle.candidate_executions.specs.Traces.{fenced_gaps}
 use Rattle.candidate_executions.specs.Candidates.{Candidate, Writes, IsCandidate, EndsWith, HasOutcome, IsAccess}
@@ -29,7 +23,6 @@ use Rattle.candidate_executions.specs.Consistency.{IsOfMode, Relates, Edge, IsAc
 use Rattle.candidate_executions.specs.Sketches.{Completes, IsBefore, KnownRelates, KnownFromReads, MayBeLast, EndsInValues, KnownAtom, EndsAs, IsPair, KnownEdgeOfMode, MustEndAs, given_to}
 use Rattle.candidate_executions.specs.Orders.{followed_union, labels_along, IsOrder}
 use Rattle.candidate_executions.specs.RunCandidates.{IsCandidateOf}
-use Rattle.candidate_executions.proofs.Orders.AcyclicIsOrdered.{In}
 use Rattle.candidate_executions.proofs.ToRuns.CandidatesAreRuns.{every_order}
 use Rattle.candidate_executions.proofs.Candidates.LastWrites.{one_end, ends_with}
 use Rattle.candidate_executions.proofs.ToRuns.Linear.{contains_in, pairs_ordered}
@@ -39,14 +32,11 @@ use Rattle.candidate_executions.proofs.FromRuns.StepsSuffice.{advance}
 use Rattle.candidate_executions.proofs.Orders.WiderRelations.{acyclic_narrower}
 use Rattle.sketches.specs.ProgramSketches.{ProgramSketch, mode_in, trace_in, access_in}
 use Rattle.sketches.specs.Kept.{IsLawful}
-use Rattle.sketches.specs.Known.{HasNoCycle}
 use Rattle.sketches.specs.Completions.{MustEndSo}
 use Rattle.sketches.proofs.Chosen.{once}
 use Rattle.sketches.proofs.Ends.{ends_only}
 use Rattle.sketches.proofs.LastWrites.{of_followed, pair_edge}
 use Rattle.sketches.specs.Complete.{IsComplete}
-use Rattle.run_maker.specs.MadeRuns.{IsMadeRun}
-use Rattle.run_maker.specs.Internal.Orders.{IsKnownOrder}
 use Rattle.sketches.proofs.Completeness.{first_there, second_there}
 use Rattle.run_maker.proofs.PlacesInOrder.{place, place_before, place_same, chosen, chosen_is}
 

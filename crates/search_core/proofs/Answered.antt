@@ -1,22 +1,12 @@
 -- The answer is never lost, and the best set of a state that is done is the answer.
 use Rattle.std.proofs.Common.{◌≡◌, ◌⊎◌, ℕ, zero, suc, ◌<◌, true, false, true≢false, Option, Some, None, refl, sym, ◌∙◌, subst, inl, inr, arith}
-use Rattle.std.specs.Prelude.{IfSome}
 use Rattle.std.specs.FinSet as set
-use Rattle.std.proofs.lemmas.Option.{same_Some}
-use Rattle.gap_sets.specs.Gaps.{SetOfGaps}
-use Rattle.gap_sets.specs.Order.{total, Better}
 use Rattle.gap_sets.proofs.Orders.{decided}
-use Rattle.tso_program.specs.Listings.{gap_count}
-use Rattle.cover_solver.specs.Outcomes.{Serves, LeavesOutcome, AreGapsOf, IsTheAnswer}
-use Rattle.cover_solver.specs.Facts.{Serving}
-use Rattle.search_core.specs.States.{SearchState, IsDone}
-use Rattle.search_core.specs.Histories.{IsReached}
 use Rattle.search_core.specs.Laws.{IsLive, IsBestSet, IsUndercut, TheAnswerIsNeverLost, NoBetterSetIsLost, ADoneStateHasTheAnswer}
-use Rattle.std.specs.List.{range_with_len}
 use Rattle.std.proofs.Common.{zero-add, ◌+◌}
-use Rattle.std.proofs.lemmas.List.FromFn.{length-range_with_len, get_or-range_with_len}
+use Rattle.search_core.proofs.Vocabulary.{IfSome, same_Some, SetOfGaps, total, Better, gap_count, Serves, LeavesOutcome, AreGapsOf, IsTheAnswer, Serving, SearchState, IsDone, IsReached}
+use Rattle.search_core.proofs.Vocabulary.{range_with_len, length-range_with_len, get_or-range_with_len, has_any, any_has}
 use Rattle.cover_solver.proofs.AllGapsFenced.{all_serve}
-use Rattle.cover_solver.proofs.Filtered.{has_any, any_has}
 use Rattle.search_core.proofs.Sets.{unserved, gap_set}
 use Rattle.search_core.proofs.Kept.{Facts, facts_of}
 

@@ -1,12 +1,9 @@
 -- Which costs are ceilings.
 use Rattle.std.proofs.Common.{ℕ, ◌≤◌, List, le_trans}
-use Rattle.gap_sets.specs.Order.{total}
-use Rattle.tso_program.specs.Shown.{Question}
+use Rattle.search_core.proofs.Vocabulary.{total, Question, Serving, IsServing, IsCeiling}
 use Rattle.tso_program.specs.Limits.{JumpForward}
 use Rattle.the_answer.specs.Answers.{the_answer, least_cost}
 use Rattle.the_answer.proofs.AnswerExists.{answer_exists, none_costs_less}
-use Rattle.cover_solver.specs.Facts.{Serving, IsServing}
-use Rattle.search_core.specs.Ceilings.{IsCeiling}
 use Rattle.search_core.specs.Laws.{TheLeastCostIsTheLeastCeiling}
 use Rattle.search_core.proofs.OfProgram.{part, part_of_program, part_serves, part_costs_less}
 

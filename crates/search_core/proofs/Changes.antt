@@ -1,22 +1,8 @@
 -- What stays where one live node changes its status and nodes are opened behind.
 use Rattle.std.proofs.Common.{◌≡◌, ℕ, ◌+◌, ◌<◌, true, false, true≢false, List, [], ◌++◌, Some, refl, sym, ap, ◌∙◌, subst, inl, inr, length, set}
-use Rattle.std.specs.Prelude.{slice_get}
-use Rattle.std.proofs.lemmas.Option.{same_Some, none-some}
+use Rattle.search_core.proofs.Vocabulary.{slice_get, same_Some, none-some, length-set, SetOfGaps, IsInRegion, Region, Question, Foreign, IsForeignValue, PassesNoneOf, Entry, Status, Open, Split}
+use Rattle.search_core.proofs.Vocabulary.{children, entry, is_live, is_live_status, open_entries, IsLive}
 use native.Mathlib.Decide.{ℕ_discrete}
-use Rattle.std.proofs.lemmas.List.{length-set}
-use Rattle.gap_sets.specs.Gaps.{SetOfGaps}
-use Rattle.gap_sets.specs.Regions.{IsInRegion}
-use Rattle.gap_sets.specs.declared.region.Region.{Region}
-use Rattle.tso_program.specs.Shown.{Question}
-use Rattle.cover_solver.specs.Facts.{Foreign, IsForeignValue}
-use Rattle.cover_solver.specs.Verdicts.{PassesNoneOf}
-use Rattle.search_core.specs.declared.entry.Entry.{Entry}
-use Rattle.search_core.specs.declared.entry.Status.{Status}
-use Rattle.search_core.specs.declared.entry.Status.TheVariants.{Open, Split}
-use Rattle.search_core.specs.Children.{children}
-use Rattle.search_core.specs.Entries.{entry, is_live, is_live_status}
-use Rattle.search_core.specs.Events.{open_entries}
-use Rattle.search_core.specs.Laws.{IsLive}
 use Rattle.search_core.proofs.Places.{get_here, get_else, get_longer, get_behind, get_either, get_old, get_mapped, Each, each_mapped}
 
 -- at the place stands the node

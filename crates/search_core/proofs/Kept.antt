@@ -1,35 +1,13 @@
 -- What holds of each state that a history reaches.
 use Rattle.std.proofs.Common.{◌≡◌, ◌⊎◌, ℕ, zero, suc, ◌<◌, ◌≤◌, true, false, List, [], ◌∷◌, ◌++◌, Option, Some, Contains, refl, sym, ap, ◌∙◌, subst, inl, inr, arith, set as set_at, length, append-nil}
-use Rattle.std.specs.Prelude.{slice_get}
 use Rattle.std.specs.FinSet as set
-use Rattle.std.specs.Ordering.{nat_cmp}
-use Rattle.std.proofs.lemmas.Option.{same_Some, none-some, slice_get_within}
-use Rattle.gap_sets.specs.Gaps.{SetOfGaps}
-use Rattle.gap_sets.specs.Order.{total, Better}
-use Rattle.gap_sets.specs.Regions.{all_sets, with_gap, without_gap, child_regions, open_gaps}
-use Rattle.gap_sets.specs.declared.region.Region.{Region}
-use Rattle.gap_sets.proofs.Orders.{not_itself}
-use Rattle.tso_program.specs.declared.listing.Listing.{Listing}
-use Rattle.tso_program.specs.Shown.{Question}
-use Rattle.tso_program.specs.Listings.{gap_count}
-use Rattle.tso_program.specs.Limits.{IsWithinLimits}
-use Rattle.cover_solver.specs.Outcomes.{Serves, AreGapsOf}
-use Rattle.cover_solver.specs.GapTrees.{HaveCosts}
+use Rattle.search_core.proofs.Vocabulary.{slice_get, nat_cmp, same_Some, none-some, slice_get_within, SetOfGaps, total, Better, all_sets, with_gap, without_gap, child_regions, open_gaps, Region}
+use Rattle.search_core.proofs.Vocabulary.{not_itself, Listing, Question, gap_count, IsWithinLimits, Serves, AreGapsOf, HaveCosts, first_is_here, later_is_here, Foreign, Serving, IsForeignValue}
+use Rattle.search_core.proofs.Vocabulary.{IsServing, PassesNoneOf, Entry, Status, Open, Held, Split, Cut, Confirmed, children, IsCeiling, SearchState, IsStart, open_entries, IsBeatenBy, IsBestAfter}
+use Rattle.search_core.proofs.Vocabulary.{TakesNode, GivesBack, Splits, Cuts, Confirms, IsEvent, takes, gives_back, splits, cuts, confirms, IsReached, starts, goes_on, open_exact}
 use Rattle.cover_solver.proofs.Regions.{new_or_old, in_root}
-use Rattle.cover_solver.proofs.Lists.{first_is_here, later_is_here}
-use Rattle.cover_solver.specs.Facts.{Foreign, Serving, IsForeignValue, IsServing}
-use Rattle.cover_solver.specs.Verdicts.{PassesNoneOf}
-use Rattle.search_core.specs.declared.entry.Entry.{Entry}
-use Rattle.search_core.specs.declared.entry.Status.{Status}
-use Rattle.search_core.specs.declared.entry.Status.TheVariants.{Open, Held, Split, Cut, Confirmed}
-use Rattle.search_core.specs.Children.{children}
 use Rattle.search_core.specs.Entries.{entry, is_live, is_closed, is_closed_status, is_live_status}
-use Rattle.search_core.specs.Ceilings.{IsCeiling}
-use Rattle.search_core.specs.States.{SearchState, IsStart}
-use Rattle.search_core.specs.Events.{open_entries, IsBeatenBy, IsBestAfter, TakesNode, GivesBack, Splits, Cuts, Confirms, IsEvent, takes, gives_back, splits, cuts, confirms}
-use Rattle.search_core.specs.Histories.{IsReached, starts, goes_on}
 use Rattle.search_core.proofs.Places.{Each, each_behind, each_set, each_mapped}
-use Rattle.cover_solver.proofs.OpenGaps.{open_exact}
 use Rattle.search_core.proofs.Sets.{gap_set, passed_gaps, not_better}
 use Rattle.search_core.proofs.Changes.{HasNode, IsSplitAt, SplitsHold, changed, node_stays, splits_stay, opened_live, none_live, kids_behind}
 use Rattle.search_core.proofs.NoneLost.{NoneLost, lost_by_none, lost_by_no_cut, lost_by_no_confirming, lost_by_no_split}

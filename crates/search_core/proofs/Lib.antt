@@ -1,3 +1,5 @@
+-- what many proofs speak of
+mod Vocabulary
 pub mod Places
 pub mod Sets
 pub mod OfProgram

@@ -1,24 +1,12 @@
 -- The events of the calls.
 use Rattle.std.proofs.Common.{◌≡◌, ◌⊎◌, ℕ, zero, suc, ◌<◌, List, [], ◌∷◌, ◌++◌, Option, Some, None, refl, sym, ap, ◌∙◌, subst, inl, inr, arith, length, set as set_at}
-use Rattle.std.specs.Prelude.{slice_get, slice_set, IfSome, MatchOption}
-use Rattle.std.proofs.lemmas.Option.{slice_get_within}
-use Rattle.gap_sets.specs.Order.{total}
-use Rattle.gap_sets.specs.declared.region.Region.{Region}
-use Rattle.tso_program.specs.Shown.{Question}
-use Rattle.cover_solver.specs.Outcomes.{AreGapsOf}
-use Rattle.cover_solver.specs.Facts.{Foreign, Serving, IsForeignValue, IsServing}
-use Rattle.cover_solver.specs.Verdicts.{PassesNoneOf}
-use Rattle.search_core.specs.declared.entry.Entry.{Entry}
-use Rattle.search_core.specs.declared.entry.Status.TheVariants.{Open, Held, Split, Cut, Confirmed}
-use Rattle.search_core.specs.declared.ceiling.Reason.{Reason}
+use Rattle.search_core.proofs.Vocabulary.{slice_get, slice_set, IfSome, MatchOption, slice_get_within, total, Region, Question, AreGapsOf, Foreign, Serving, IsForeignValue, IsServing, PassesNoneOf}
+use Rattle.search_core.proofs.Vocabulary.{Entry, Open, Held, Split, Cut, Confirmed, Reason, children, entry, IsReached}
 use Rattle.search_core.specs.declared.ceiling.Reason.TheVariants as reason
-use Rattle.search_core.specs.Children.{children}
-use Rattle.search_core.specs.Entries.{entry}
 use Rattle.search_core.specs.Ceilings.{Bound, IsCeiling, IsBound, IsCeilingOf}
 use Rattle.search_core.specs.States.{SearchState, IsOpenAt, IsHeldAt, HoldsNode, HoldsNothing, HoldsOnly, HasNoOpen, IsSameSearch}
 use Rattle.search_core.specs.Events.{open_entries, IsBeaten, IsTooDear, IsBestAfter, TakesNode, GivesBack, Splits, Cuts, Confirms}
 use Rattle.search_core.specs.Faults.{IsReasonOf, HasBound, CutsMust}
-use Rattle.search_core.specs.Histories.{IsReached}
 use Rattle.search_core.proofs.Kept.{facts_of}
 use Rattle.search_core.proofs.OneNode.{only_node}
 

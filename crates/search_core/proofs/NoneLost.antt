@@ -1,31 +1,15 @@
 -- No set that is better than the best is lost: what each event does to one.
 use Rattle.std.proofs.Common.{◌≡◌, ◌⊎◌, ℕ, ◌<◌, ◌≤◌, true, false, List, ◌++◌, Option, Some, None, Contains, refl, sym, ap, ◌∙◌, subst, inl, inr, arith, set as set_at, length, ◌+◌}
-use Rattle.std.specs.Prelude.{slice_get, IfSome}
-use Rattle.std.proofs.lemmas.Option.{slice_get-get_or}
-use Rattle.std.proofs.lemmas.List.{length-set}
 use Rattle.std.specs.FinSet as set
-use Rattle.gap_sets.specs.Gaps.{SetOfGaps, IsGapSet}
-use Rattle.gap_sets.specs.Order.{total, Better}
+use Rattle.search_core.proofs.Vocabulary.{slice_get, IfSome, slice_get-get_or, length-set, SetOfGaps, IsGapSet, total, Better, Region, Question, IsWithinLimits, LeavesOutcome, AreGapsOf, Foreign}
+use Rattle.search_core.proofs.Vocabulary.{Serving, IsForeignValue, Entry, Open, children, entry, is_live, IsCeiling, open_entries, IsBeatenBy, IsBestAfter, IsLive, IsUndercut, open_exact}
 use Rattle.gap_sets.specs.Regions.{IsInRegion, child_regions, HasNoneOf, open_gaps}
-use Rattle.gap_sets.specs.declared.region.Region.{Region}
 use Rattle.gap_sets.proofs.Orders.{not_itself, chained}
-use Rattle.tso_program.specs.Shown.{Question}
-use Rattle.tso_program.specs.Limits.{IsWithinLimits}
-use Rattle.cover_solver.specs.Outcomes.{LeavesOutcome, AreGapsOf}
 use Rattle.cover_solver.specs.GapTrees.{HaveCosts, PassesGap}
 use Rattle.cover_solver.proofs.BetterSets.{still_better}
 use Rattle.cover_solver.proofs.Regions.{split_loses_no_set, true_or_false}
 use Rattle.cover_solver.proofs.AvoidedGaps.{Avoids, leaves_outcome}
-use Rattle.cover_solver.specs.Facts.{Foreign, Serving, IsForeignValue}
-use Rattle.search_core.specs.declared.entry.Entry.{Entry}
-use Rattle.search_core.specs.declared.entry.Status.TheVariants.{Open}
-use Rattle.search_core.specs.Children.{children}
-use Rattle.search_core.specs.Entries.{entry, is_live}
-use Rattle.search_core.specs.Ceilings.{IsCeiling}
-use Rattle.search_core.specs.Events.{open_entries, IsBeatenBy, IsBestAfter}
-use Rattle.search_core.specs.Laws.{IsLive, IsUndercut}
 use Rattle.search_core.proofs.Places.{get_behind, get_mapped}
-use Rattle.cover_solver.proofs.OpenGaps.{open_exact}
 use Rattle.search_core.proofs.Sets.{no_dearer, gap_set, passed_gaps}
 use Rattle.search_core.proofs.Changes.{changed, moved, still_live}
 

@@ -1,20 +1,14 @@
 -- The gaps of a set that are a program's: they serve where the set does, and cost no more.
 use Rattle.std.proofs.Common.{◌≡◌, ◌↔◌, ℕ, ◌+◌, ◌<◌, ◌≤◌, Bool, true, false, List, [], ◌∷◌, Option, Some, None, Contains, cond, sum_by, refl, sym, ◌∙◌, subst, arith, zero-add}
 use mathlib.Core.Path.{fun_ext}
-use Rattle.std.specs.List.{filter, range_with_len}
 use Rattle.std.specs.Option.{option_map_or}
 use Rattle.std.specs.FinSet as set
-use Rattle.std.proofs.lemmas.List.Sums.{sum_by-cons}
-use Rattle.std.proofs.lemmas.List.FromFn.{length-range_with_len, get_or-range_with_len}
+use Rattle.search_core.proofs.Vocabulary.{filter, range_with_len, sum_by-cons, length-range_with_len, get_or-range_with_len, MAX_GAPS, Listing, Question, gap_below}
 use Rattle.gap_sets.specs.Gaps.{SetOfGaps, numbers_of_set}
 use Rattle.gap_sets.specs.Order.{total, cost_of}
 use Rattle.gap_sets.specs.SameGaps.{alike}
-use Rattle.gap_sets.specs.declared.gap_set.TheConstants.{MAX_GAPS}
-use Rattle.tso_program.specs.declared.listing.Listing.{Listing}
 use Rattle.tso_program.specs.Listings.{gap_count, gap_number}
-use Rattle.tso_program.specs.Shown.{Question}
 use Rattle.tso_program.specs.Fences as fences
-use Rattle.tso_program.proofs.Gaps.{gap_below}
 use Rattle.cover_solver.specs.Outcomes.{Serves, AreGapsOf, IsStoreBufferOutcome, IsSequentialOutcome}
 use Rattle.cover_solver.proofs.Filtered.{has_any, any_has, of_filter, to_filter}
 

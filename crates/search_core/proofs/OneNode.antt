@@ -1,17 +1,7 @@
 -- A seat holds one node at most.
 use Rattle.std.proofs.Common.{◌≡◌, ◌⊎◌, ℕ, zero, suc, ◌==◌, true, List, [], ◌∷◌, ◌++◌, sym, ◌∙◌, subst, inl, inr, arith, refl, ap, set as set_at, append-nil}
-use Rattle.std.specs.Prelude.{slice_get}
-use Rattle.std.proofs.lemmas.Option.{same_Some, none-some}
-use Rattle.std.proofs.lemmas.Bool.Decides.{nat_tests}
-use Rattle.gap_sets.specs.Regions.{all_sets}
-use Rattle.gap_sets.specs.declared.region.Region.{Region}
-use Rattle.search_core.specs.declared.entry.Entry.{Entry}
-use Rattle.search_core.specs.declared.entry.Status.TheVariants.{Open, Held, Cut, Confirmed}
-use Rattle.search_core.specs.Children.{children}
-use Rattle.search_core.specs.Entries.{entry, is_held_by}
-use Rattle.search_core.specs.States.{SearchState, IsHeldAt, HoldsNothing, HoldsOnly}
-use Rattle.search_core.specs.Events.{open_entries, TakesNode, IsEvent, takes, gives_back, splits, cuts, confirms}
-use Rattle.search_core.specs.Histories.{IsReached, starts, goes_on}
+use Rattle.search_core.proofs.Vocabulary.{slice_get, same_Some, none-some, nat_tests, all_sets, Region, Entry, Open, Held, Cut, Confirmed, children, entry, is_held_by, SearchState, IsHeldAt}
+use Rattle.search_core.proofs.Vocabulary.{HoldsNothing, HoldsOnly, open_entries, TakesNode, IsEvent, takes, gives_back, splits, cuts, confirms, IsReached, starts, goes_on}
 use Rattle.search_core.specs.Laws.{ASeatHoldsOneNode}
 use Rattle.search_core.proofs.Places.{get_here, Each, each_mapped, get_either, get_old}
 

@@ -1,9 +1,7 @@
 -- Why a call for the node that a seat has in hand is refused.
 use Rattle.std.proofs.Common.{◌≡◌, ℕ, true, refl, subst}
 use Rattle.std.specs.FinSet as set
-use Rattle.gap_sets.specs.declared.region.Region.{Region}
-use Rattle.cover_solver.specs.Facts.{Foreign}
-use Rattle.search_core.specs.declared.ceiling.Reason.{Reason}
+use Rattle.search_core.proofs.Vocabulary.{Region, Foreign, Reason}
 use Rattle.search_core.specs.declared.fault.TreeFault.{TreeFault}
 use Rattle.search_core.specs.declared.fault.TreeFault.TheVariants.{NothingOpen, SeatHolds, SeatHoldsNothing, Hit, StillBetter, OutOfMemory}
 use Rattle.search_core.specs.States.{SearchState, HasInHand}

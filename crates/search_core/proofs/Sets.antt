@@ -1,20 +1,11 @@
 -- Sets of a program's gaps: their totals, and what serves.
 use Rattle.std.proofs.Common.{◌≡◌, ℕ, ◌<◌, ◌≤◌, Bool, true, false, List, length, refl, sym, ap, ◌∙◌, inl, inr, arith}
-use Rattle.std.specs.Cmp.{nat_cmp_total}
 use Rattle.std.specs.FinSet as set
+use Rattle.search_core.proofs.Vocabulary.{nat_cmp_total, total, Better, MAX_GAPS, Listing, Question, gap_count, IsWithinLimits, gap_below, Serves, LeavesOutcome, AreGapsOf, HaveCosts, Foreign}
+use Rattle.search_core.proofs.Vocabulary.{IsForeignValue}
 use Rattle.gap_sets.specs.Gaps.{SetOfGaps, IsGapSet, have_same_gaps}
-use Rattle.gap_sets.specs.Order.{total, Better}
 use Rattle.gap_sets.specs.SameGaps.{have_same_gaps-same}
-use Rattle.gap_sets.specs.declared.gap_set.TheConstants.{MAX_GAPS}
 use Rattle.gap_sets.proofs.Subsets.{cheaper}
-use Rattle.tso_program.specs.declared.listing.Listing.{Listing}
-use Rattle.tso_program.specs.Shown.{Question}
-use Rattle.tso_program.specs.Listings.{gap_count}
-use Rattle.tso_program.specs.Limits.{IsWithinLimits}
-use Rattle.tso_program.proofs.Gaps.{gap_below}
-use Rattle.cover_solver.specs.Outcomes.{Serves, LeavesOutcome, AreGapsOf}
-use Rattle.cover_solver.specs.GapTrees.{HaveCosts}
-use Rattle.cover_solver.specs.Facts.{Foreign, IsForeignValue}
 
 -- a set that serves leaves no outcome
 pub unserved : (q : Question) (gaps : SetOfGaps) → LeavesOutcome q gaps → Serves q gaps → ⊥

@@ -1,18 +1,10 @@
 -- What each event leaves of the work.
 use Rattle.std.proofs.Common.{◌≡◌, ℕ, ◌<◌, Bool, true, false, List, [], ◌++◌, ◌&&◌, ◌==◌, length, refl, sym, ap, ◌∙◌, subst, arith, set as set_at, append-nil}
-use Rattle.std.proofs.Math.Nat.{one-le-pow}
-use Rattle.gap_sets.specs.declared.region.Region.{Region}
-use Rattle.tso_program.specs.Shown.{Question}
-use Rattle.tso_program.specs.Limits.{IsWithinLimits}
-use Rattle.search_core.specs.declared.entry.Entry.{Entry}
-use Rattle.search_core.specs.declared.entry.Status.{Status}
-use Rattle.search_core.specs.declared.entry.Status.TheVariants.{Open, Held, Split, Cut, Confirmed}
-use Rattle.search_core.specs.Children.{children}
+use Rattle.search_core.proofs.Vocabulary.{one-le-pow, Region, Question, IsWithinLimits, Entry, Status, Open, Held, Split, Cut, Confirmed, children, SearchState, IsHeldAt, work_left, work_of}
+use Rattle.search_core.proofs.Vocabulary.{undecided}
 use Rattle.search_core.specs.Entries.{entry, is_live, is_live_status, is_open_status, is_held_status, is_held_by}
-use Rattle.search_core.specs.States.{SearchState, IsHeldAt}
 use Rattle.search_core.specs.Events.{open_entries, by_split, by_cut, by_confirm}
 use Rattle.search_core.specs.Laws.{SettlingLessensTheWork, TakingLeavesTheWork, GivingBackLeavesTheWork}
-use Rattle.search_core.specs.Work.{work_left, work_of, undecided}
 use Rattle.search_core.proofs.Kept.{facts_of}
 use Rattle.search_core.proofs.Sets.{gap_set, passed_gaps}
 use Rattle.search_core.proofs.Working.{settled_work, moved_work, split_work}

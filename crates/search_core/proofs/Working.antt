@@ -1,30 +1,16 @@
 -- The children of a node decide more gaps, and all their sets together are fewer.
 use Rattle.std.proofs.Common.{◌≡◌, ◌≢◌, ℕ, zero, suc, ◌+◌, ◌*◌, ◌^◌, ◌<◌, ◌≤◌, Bool, true, false, ◌&&◌, ◌||◌, not, List, [], ◌∷◌, ◌++◌, Some, Contains, sum_by, refl, sym, ap, ◌∙◌, if◌then◌else◌, subst, inl, inr, arith, length, get_or, set as set_at}
-use Rattle.std.specs.Prelude.{slice_get}
-use Rattle.std.specs.List.{filter, range_with_len}
 use Rattle.std.specs.FinSet as set
 use Rattle.std.specs.Ordering.{nat_cmp, eq_by_cmp}
-use Rattle.std.specs.Cmp.{nat_cmp_total}
-use Rattle.std.proofs.lemmas.Bool.Decides.{nat_tests}
 use Rattle.std.proofs.lemmas.Option.{same_Some, none-some, slice_get_within, get_or_from_slice_get}
 use Rattle.std.proofs.lemmas.List.Kept.{AllPairs-from_increasing}
 use Rattle.std.specs.List.{AllPairs}
 use Rattle.std.proofs.Math.Pow.{pow_mono}
 use Rattle.std.proofs.Math.Nat.{one-le-pow, two-pow-succ}
-use Rattle.std.proofs.lemmas.List.FromFn.{length-range_with_len}
 use Rattle.std.proofs.lemmas.List.Sums.{sum_by-cons, sum_by-le, length-filter, count_by-le-length, sum_by-set, sum_by-append}
-use Rattle.gap_sets.specs.Gaps.{SetOfGaps, IsGapSet}
-use Rattle.gap_sets.specs.Regions.{with_gap, without_gap, child_regions, open_gaps}
-use Rattle.gap_sets.specs.declared.region.Region.{Region}
-use Rattle.gap_sets.specs.declared.gap_set.TheConstants.{MAX_GAPS}
+use Rattle.search_core.proofs.Vocabulary.{slice_get, filter, range_with_len, nat_cmp_total, nat_tests, length-range_with_len, SetOfGaps, IsGapSet, with_gap, without_gap, child_regions, open_gaps}
+use Rattle.search_core.proofs.Vocabulary.{Region, MAX_GAPS, new_or_old, true_or_false, first_is_here, later_is_here, Entry, Open, children, entry, is_live, open_entries}
 use Rattle.gap_sets.proofs.Ranges.{sum-lt}
-use Rattle.cover_solver.proofs.Regions.{new_or_old, true_or_false}
-use Rattle.cover_solver.proofs.Lists.{first_is_here, later_is_here}
-use Rattle.search_core.specs.declared.entry.Entry.{Entry}
-use Rattle.search_core.specs.declared.entry.Status.TheVariants.{Open}
-use Rattle.search_core.specs.Children.{children}
-use Rattle.search_core.specs.Entries.{entry, is_live}
-use Rattle.search_core.specs.Events.{open_entries}
 use Rattle.search_core.specs.Work.{is_undecided, undecided, work_of, live_work, work_left}
 use Rattle.search_core.proofs.Places.{Each}
 use Rattle.cover_solver.proofs.OpenGaps.{open_exact, open_ascending}

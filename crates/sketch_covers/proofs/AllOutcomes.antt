@@ -1,18 +1,8 @@
 -- The outcomes that a search has found are all in one mode.
 use Rattle.std.proofs.Common.{◌≡◌, List, Contains, Bor, Box, Global, refl, sym, ◌∙◌, subst}
-use Rattle.tso_program.specs.declared.outcome.Outcome.{Outcome}
+use Rattle.sketch_covers.proofs.Vocabulary.{Outcome, Machine, machine_of_mode, Question, Sketch, MadeRun, Stop, OutcomeIndex, KnownOutcomes, Closed, Open, AreRunsOf}
 use Rattle.tso_machine.specs.declared.mode.Mode as own
-use Rattle.tso_machine.specs.Machine.{Machine}
-use Rattle.tso_machine.specs.Modes.{machine_of_mode}
-use Rattle.tso_program.specs.Shown.{Question}
-use Rattle.sketches.specs.declared.sketch.Sketch.{Sketch}
-use Rattle.run_maker.specs.declared.run.MadeRun.{MadeRun}
-use Rattle.sketch_covers.specs.declared.stop.Stop.{Stop}
 use Rattle.sketch_covers.specs.declared.stop.Stop.TheVariants as stop
-use Rattle.sketch_covers.specs.declared.outcome_index.OutcomeIndex.{OutcomeIndex}
-use Rattle.sketch_covers.specs.declared.known_outcomes.KnownOutcomes.{KnownOutcomes}
-use Rattle.sketch_covers.specs.declared.known_outcomes.KnownOutcomes.TheVariants.{Closed, Open}
-use Rattle.sketch_covers.specs.OutcomeNumbers.{AreRunsOf}
 use Rattle.sketch_covers.specs.KnownOutcomes.{HasRunOfEach, StaysOf, StopIs}
 
 -- the list is open, and each of its outcomes is what is shown of that of its run in this mode

@@ -1,32 +1,17 @@
 -- Trees for the choices at a node, put after other nodes one by one.
 use Rattle.std.proofs.Common.{◌≡◌, ℕ, suc, ◌+◌, ◌<◌, ◌≤◌, List, [], ◌∷◌, ◌++◌, length, map, take, drop, get_or, refl, ap, sym, ◌∙◌, subst, arith, append_assoc}
-use Rattle.std.specs.Prelude.{Result, Ok, Err, IfErr}
-use Rattle.std.specs.Result.{IsErrAnd}
-use Rattle.std.specs.List.{remove_range}
 use Rattle.std.proofs.lemmas.List.{append-nil, length-append, take_all}
-use Rattle.tso_program.specs.declared.outcome.Outcome.{Outcome}
-use Rattle.tso_program.specs.declared.shown.Shown.{Shown}
-use Rattle.sketches.specs.ProgramSketches.{ProgramSketch}
-use Rattle.sketches.specs.Kept.{IsLawful}
-use Rattle.sketches.specs.Sizes.{HaveAllRegisters, choice_count, most_choices}
-use Rattle.cert_forest.specs.declared.tree.AccessId.{AccessId}
-use Rattle.cert_forest.specs.declared.node.Node.{Node}
+use Rattle.sketch_covers.proofs.Vocabulary.{Result, Ok, Err, IfErr, IsErrAnd, remove_range, Outcome, Shown, ProgramSketch, IsLawful, HaveAllRegisters, choice_count, most_choices, AccessId, Node}
+use Rattle.sketch_covers.proofs.Vocabulary.{Cover, Value, Source, Order, Cycle, Known, covers_of, count_covers, Choice, OpenChoice, Stop, AreChoicesOf, IsOpen, IsCoverAt, IsCoverAfter, IsValidAt}
+use Rattle.sketch_covers.proofs.Vocabulary.{AreCoversAfter, tree_over, node_over, KeepsNumbers}
 use Rattle.cert_forest.specs.declared.node.Node.TheVariants as node
-use Rattle.cert_forest.specs.Trees.{Cover, Value, Source, Order, Cycle, Known, covers_of}
 use Rattle.cert_forest.specs.Nodes.{spell, spell_all, spell_row, tree_of, IsTree}
-use Rattle.cert_forest.specs.Texts.{count_covers}
 use Rattle.cert_forest.proofs.TreeTexts.{covers_count}
 use Rattle.cert_forest.proofs.NodeLaws.{known_some, is_tree, tree_again, spelled_append, child_instead}
 use Rattle.cert_forest.proofs.PushedTrees.{listed}
-use Rattle.cover_judge.specs.declared.choice.Choice.{Choice}
 use Rattle.branching.specs.declared.branch.Branch.{Branch}
-use Rattle.branching.specs.declared.open_choice.OpenChoice.{OpenChoice}
 use Rattle.branching.specs.declared.open_choice.OpenChoice.TheVariants as left
-use Rattle.sketch_covers.specs.declared.stop.Stop.{Stop}
 use Rattle.sketch_covers.specs.declared.stop.Stop.TheVariants as stop
-use Rattle.branching.specs.OpenChoices.{AreChoicesOf, IsOpen}
-use Rattle.sketch_covers.specs.Covers.{IsCoverAt, IsCoverAfter, IsValidAt, AreCoversAfter, tree_over, node_over}
-use Rattle.sketch_covers.specs.OutcomeNumbers.{KeepsNumbers}
 use Rattle.sketch_covers.specs.Pushing.{Pushes, Begins, BeginsIfNew}
 use Rattle.sketch_covers.proofs.Growing.{covers_still}
 use Rattle.sketch_covers.proofs.Nodes.{as_many_choices, covers_more, covers_none, node_cover}

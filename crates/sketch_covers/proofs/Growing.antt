@@ -1,27 +1,11 @@
 -- Lists of outcomes that grow, and the trees over them.
 use Rattle.std.proofs.Common.{◌≡◌, List, [], ◌∷◌, map, refl, sym, subst}
-use Rattle.std.specs.Prelude.{Result, Ok, Err, IfErr}
-use Rattle.std.specs.Result.{IsErrAnd}
-use Rattle.tso_program.specs.declared.outcome.Outcome.{Outcome}
-use Rattle.tso_program.specs.declared.shown.Shown.{Shown}
-use Rattle.tso_program.specs.Shown.{Question, asked}
+use Rattle.sketch_covers.proofs.Vocabulary.{Result, Ok, Err, IfErr, IsErrAnd, Outcome, Shown, Question, asked, Machine, machine_of_mode, ProgramSketch, mode_in, with_chosen, event_of, IsValidCover}
+use Rattle.sketch_covers.proofs.Vocabulary.{AreValidCovers, Choice, sketch_with, moved, Stop, OutcomeIndex, KnownOutcomes, Closed, Open, AreCoversAfter, KeepsNumbers, IsInOrder, AreRunsOf}
 use Rattle.tso_machine.specs.declared.mode.Mode as own
-use Rattle.tso_machine.specs.Machine.{Machine}
-use Rattle.tso_machine.specs.Modes.{machine_of_mode}
 use Rattle.candidate_executions.specs.Sketches.{Sketch, with_value, with_source, with_pair}
-use Rattle.sketches.specs.ProgramSketches.{ProgramSketch, mode_in, with_chosen}
 use Rattle.cert_forest.specs.Trees.{Cover, Value, Source, Order, Cycle, Known, Covers, NoCover, MoreCovers, covers_of}
-use Rattle.cover_judge.specs.CoverTrees.{event_of, IsValidCover, AreValidCovers}
-use Rattle.cover_judge.specs.declared.choice.Choice.{Choice}
-use Rattle.cover_judge.specs.Choices.{sketch_with}
-use Rattle.cover_judge.proofs.SketchesAfter.{moved}
-use Rattle.sketch_covers.specs.declared.stop.Stop.{Stop}
 use Rattle.sketch_covers.specs.declared.stop.Stop.TheVariants as stop
-use Rattle.sketch_covers.specs.declared.outcome_index.OutcomeIndex.{OutcomeIndex}
-use Rattle.sketch_covers.specs.declared.known_outcomes.KnownOutcomes.{KnownOutcomes}
-use Rattle.sketch_covers.specs.declared.known_outcomes.KnownOutcomes.TheVariants.{Closed, Open}
-use Rattle.sketch_covers.specs.Covers.{AreCoversAfter}
-use Rattle.sketch_covers.specs.OutcomeNumbers.{KeepsNumbers, IsInOrder, AreRunsOf}
 use Rattle.sketch_covers.specs.KnownOutcomes.{AreInOrder, StaysOf, StopIs, Grows, OnTold}
 
 stays : (outcomes : KnownOutcomes) → StaysOf outcomes outcomes

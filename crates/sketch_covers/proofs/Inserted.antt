@@ -1,18 +1,13 @@
 -- What is put into a list at its place.
 use Rattle.std.proofs.Common.{◌≡◌, ℕ, zero, suc, ◌+◌, ◌-◌, ◌<◌, List, [], ◌∷◌, Some, Result, Ok, Err, IfOk, IfErr, Contains, slice_get, get_or, length, sym, ap, ◌∙◌, subst, inl, inr, arith}
-use Rattle.std.specs.List.{AllZip, insert}
 use Rattle.std.specs.List.Sorted.{IsSorted, IsSearchInRange, IsBinarySearchResult, IsNonDecreasingBy}
 use Rattle.std.specs.Ordering.{ordering_index, ordering_reverse, is_lt}
 use Rattle.std.specs.declared.cmp.Ordering.TheVariants.{Less, Equal, Greater}
-use Rattle.std.proofs.lemmas.Bool.{cases_lt}
 use Rattle.std.proofs.lemmas.List.Sorted.{searchable_from_sorted}
 use Rattle.std.proofs.lemmas.List.Edits.{length-insert, get_or-insert_below, get_or-insert_at, get_or-insert_above}
-use Rattle.std.proofs.lemmas.Option.{slice_get-get_or}
-use Rattle.tso_program.specs.declared.outcome.Outcome.{Outcome}
+use Rattle.sketch_covers.proofs.Vocabulary.{AllZip, insert, cases_lt, slice_get-get_or, Outcome, Ascend, BelongsAt, Keeps}
 use Rattle.tso_program.specs.Ordered.{outcome_cmp}
 use Rattle.tso_program.proofs.OutcomesOrdered.{outcomes_ordered, exact_outcomes, equal_itself}
-use Rattle.sketch_covers.specs.Ascending.{Ascend, BelongsAt}
-use Rattle.sketch_covers.specs.OutcomeNumbers.{Keeps}
 
 -- a list that ascends is sorted
 sorted_of : (os : List Outcome) → Ascend os → IsSorted outcome_cmp os

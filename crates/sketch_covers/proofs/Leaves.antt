@@ -1,22 +1,8 @@
 -- Leaves: a sketch that must end as an outcome of the list, or has a cycle.
 use Rattle.std.proofs.Common.{◌≡◌, ℕ, Bool, true, false, List, Option, Some, None, Contains, map, refl, sym, subst}
-use Rattle.std.specs.Prelude.{MatchOption}
-use Rattle.tso_program.specs.declared.outcome.Outcome.{Outcome}
-use Rattle.tso_program.specs.declared.shown.Shown.{Shown}
-use Rattle.tso_program.specs.Shown.{asked}
-use Rattle.candidate_executions.specs.declared.event.Event.{Event}
-use Rattle.candidate_executions.specs.declared.event.Kind.{Kind}
+use Rattle.sketch_covers.proofs.Vocabulary.{MatchOption, Outcome, Shown, asked, Event, Kind, ProgramSketch, mode_in, MustEndSo, IsSimpleCycle, AreFewAccesses, AccessId, Node, Cycle, event_of}
+use Rattle.sketch_covers.proofs.Vocabulary.{MustEndAsNumber, IsEndNotListed, IsLeafAt, HasNumber}
 use Rattle.candidate_executions.specs.Sketches.{IsKnownCycle}
-use Rattle.sketches.specs.ProgramSketches.{ProgramSketch, mode_in}
-use Rattle.sketches.specs.Completions.{MustEndSo}
-use Rattle.sketches.specs.Cycles.{IsSimpleCycle}
-use Rattle.sketches.specs.FewAccesses.{AreFewAccesses}
-use Rattle.cert_forest.specs.declared.tree.AccessId.{AccessId}
-use Rattle.cert_forest.specs.declared.node.Node.{Node}
-use Rattle.cert_forest.specs.Trees.{Cycle}
-use Rattle.cover_judge.specs.CoverTrees.{event_of, MustEndAsNumber}
-use Rattle.sketch_covers.specs.Covers.{IsEndNotListed, IsLeafAt}
-use Rattle.sketch_covers.specs.OutcomeNumbers.{HasNumber}
 use Rattle.sketch_covers.specs.Pushing.{Pushes, IfKnown}
 use Rattle.sketch_covers.proofs.Neat.{neat_cycle}
 

@@ -1,3 +1,5 @@
+-- what many proofs speak of
+mod Vocabulary
 pub mod Inserted
 pub mod Numbered
 pub mod Growing

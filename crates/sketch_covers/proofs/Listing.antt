@@ -1,20 +1,13 @@
 -- Lists of outcomes that are all that a machine allows.
 use Rattle.std.proofs.Common.{◌≡◌, ◌↔◌, ℕ, zero, suc, List, [], ◌∷◌, Some, Contains, slice_get, refl, ap, ◌∙◌, subst}
-use Rattle.std.specs.List.{AllZip}
-use Rattle.std.proofs.lemmas.Option.{same_Some, slice_get-get_or}
-use Rattle.tso_program.specs.declared.outcome.Outcome.{Outcome}
-use Rattle.tso_program.specs.Shown.{Question}
+use Rattle.sketch_covers.proofs.Vocabulary.{AllZip, same_Some, slice_get-get_or, Outcome, Question, Label, Machine, Cover, AreRunsOf, Keeps}
 use Rattle.tso_program.specs.Limits.{JumpForward}
-use Rattle.tso_machine.specs.declared.label.Label.{Label}
-use Rattle.tso_machine.specs.Machine.{Machine}
 use Rattle.tso_machine.specs.Outcomes.{IsShownRun, AllowsShown}
 use Rattle.candidate_executions.specs.Sketches.{empty_sketch}
 use Rattle.candidate_executions.proofs.Sketches.Choices.{empty_is_a_sketch}
-use Rattle.cert_forest.specs.Trees.{Cover}
 use Rattle.cover_judge.specs.CoverTrees.{IsValidCover, IsCovered}
 use Rattle.cover_judge.proofs.CoveredSketches.{valid_covers}
 use Rattle.cover_judge.proofs.ListedOutcomes.{listed}
-use Rattle.sketch_covers.specs.OutcomeNumbers.{AreRunsOf, Keeps}
 
 -- what stands beside a value of the second list
 pub zip_at_right : {A B : Type 0} (R : A → B → Type 0) (xs : List A) (ys : List B) (n : ℕ) (y : B) → AllZip R xs ys → slice_get ys n ≡ Some y → (x : A) × (slice_get xs n ≡ Some x) × R x y

@@ -1,19 +1,10 @@
 -- Leaves within the limits of a certificate.
 use Rattle.std.proofs.Common.{◌≡◌, ◌≢◌, ℕ, zero, suc, ◌<◌, List, [], ◌∷◌, Contains, get_or, length, map, refl, sym, ap, ◌∙◌, subst, arith}
 use Rattle.std.specs.List.{AllPairs, AllByRecursion}
-use Rattle.std.specs.Prelude.{◌^◌}
-use Rattle.std.proofs.lemmas.List.{length-map}
-use Rattle.candidate_executions.specs.declared.event.Event.{Event}
-use Rattle.candidate_executions.specs.declared.event.Kind.{Kind}
-use Rattle.sketches.specs.ProgramSketches.{ProgramSketch}
+use Rattle.sketch_covers.proofs.Vocabulary.{◌^◌, length-map, Event, Kind, ProgramSketch, IsSimpleCycle, AccessId, Cycle, Known, event_of, IsNeat}
 use Rattle.sketches.specs.FewAccesses.{HasSmallNumbers, AreFewAccesses}
-use Rattle.sketches.specs.Cycles.{IsSimpleCycle}
-use Rattle.cert_forest.specs.declared.tree.AccessId.{AccessId}
-use Rattle.cert_forest.specs.Trees.{Cycle, Known}
 use Rattle.cert_forest.specs.Limits as limits
-use Rattle.cover_judge.specs.CoverTrees.{event_of}
 use Rattle.cover_judge.proofs.Lists.{first_is_here, later_is_here}
-use Rattle.sketch_covers.specs.Covers.{IsNeat}
 
 small_one : (a : AccessId) → HasSmallNumbers (event_of a) → limits.IsAccessId a
 small_one a small = ((let h = small.0 in omega arith), (let h = small.1 in omega arith))

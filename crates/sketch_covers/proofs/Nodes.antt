@@ -1,37 +1,23 @@
 -- Trees made of the trees of children.
 use Rattle.std.proofs.Common.{◌≡◌, ℕ, suc, ◌+◌, ◌<◌, ◌≤◌, List, [], ◌∷◌, ◌++◌, get_or, length, map, take, refl, sym, ap, ◌∙◌, subst, arith}
-use Rattle.std.specs.Prelude.{◌^◌}
 use Rattle.std.proofs.lemmas.List.{take_more, map-append, length-map}
-use Rattle.tso_program.specs.declared.listing.Listing.{Listing}
-use Rattle.tso_program.specs.declared.outcome.Outcome.{Outcome}
-use Rattle.tso_program.specs.declared.shown.Shown.{Shown}
-use Rattle.tso_program.specs.Shown.{asked}
+use Rattle.sketch_covers.proofs.Vocabulary.{◌^◌, Listing, Outcome, Shown, asked, machine_of_mode, IsLawful, choice_count, most_choices, HaveAllRegisters, AccessId, Cover, Value, Source, Order}
+use Rattle.sketch_covers.proofs.Vocabulary.{covers_of, count_covers, event_of, IsValidCover, AreValidCovers, Choice, moved, OpenChoice, IsOpen, AreChoicesOf}
 use Rattle.candidate_executions.specs.Sketches.{Sketch, given_to}
 use Rattle.candidate_executions.specs.Candidates.{IsAccess}
 use Rattle.candidate_executions.proofs.Sketches.GivenValues.{reads_there}
 use Rattle.tso_machine.specs.declared.mode.Mode as own
-use Rattle.tso_machine.specs.Modes.{machine_of_mode}
 use Rattle.sketches.specs.ProgramSketches.{ProgramSketch, mode_in, nothing_chosen, with_chosen}
 use Rattle.sketches.specs.Choices.{MayFollow}
-use Rattle.sketches.specs.Kept.{IsLawful}
-use Rattle.sketches.specs.Sizes.{choice_count, most_choices, HaveAllRegisters}
 use Rattle.sketches.proofs.ChoicesCounted.{event_small}
 use Rattle.sketches.proofs.BranchesCounted.{few_values, few_sources}
 use Rattle.sketches.proofs.Completeness.{read_there, first_there, second_there}
-use Rattle.cert_forest.specs.declared.tree.AccessId.{AccessId}
-use Rattle.cert_forest.specs.Trees.{Cover, Value, Source, Order, covers_of}
-use Rattle.cert_forest.specs.Texts.{count_covers}
 use Rattle.cert_forest.specs.Limits as limits
 use Rattle.cert_forest.specs.Limits.{cover_depth, covers_depth}
-use Rattle.cover_judge.specs.CoverTrees.{event_of, IsValidCover, AreValidCovers}
-use Rattle.cover_judge.specs.declared.choice.Choice.{Choice}
 use Rattle.cover_judge.specs.declared.choice.Choice.TheVariants as choice
 use Rattle.cover_judge.specs.Choices.{sketch_with, MayChoose, IsValueOpen, AreValueChoices, AreSourceChoices}
 use Rattle.cover_judge.proofs.ChoicesJudged.{no_order}
-use Rattle.cover_judge.proofs.SketchesAfter.{moved}
-use Rattle.branching.specs.declared.open_choice.OpenChoice.{OpenChoice}
 use Rattle.branching.specs.declared.open_choice.OpenChoice.TheVariants as left
-use Rattle.branching.specs.OpenChoices.{IsOpen, AreChoicesOf}
 use Rattle.sketch_covers.specs.Covers.{IsNeat, AreNeat, IsValidAt, IsLeafAt, IsCoverAt, IsCoverAfter, AreCoversAfter, IsWholeCover, tree_over}
 use Rattle.branching.proofs.Rounds.{counted_after}
 

@@ -1,24 +1,11 @@
 -- A list that is open for a sketch's own mode has the outcome as which the sketch must end.
 use Rattle.std.proofs.Common.{Box, Global, ◌≡◌, ℕ, List, Option, None, Some, IfSome, Contains, subst}
-use Rattle.std.proofs.lemmas.Option.{slice_get_within, get_or_from_slice_get}
-use Rattle.tso_program.specs.declared.outcome.Outcome.{Outcome}
-use Rattle.tso_program.specs.declared.shown.Shown.{Shown}
-use Rattle.tso_program.specs.Shown.{asked}
-use Rattle.tso_program.specs.declared.listing.Listing.{Listing}
+use Rattle.sketch_covers.proofs.Vocabulary.{slice_get_within, get_or_from_slice_get, Outcome, Shown, asked, Listing, machine_of_mode, IsShownRun, ProgramSketch, mode_in, Sketch, MadeRun}
+use Rattle.sketch_covers.proofs.Vocabulary.{KnownOutcomes, Closed, Open, IsEndNotListed, HasNumber, IsShownRunOf}
 use Rattle.tso_machine.specs.declared.mode.Mode as own
-use Rattle.tso_machine.specs.Modes.{machine_of_mode}
-use Rattle.tso_machine.specs.Outcomes.{IsShownRun}
-use Rattle.sketches.specs.ProgramSketches.{ProgramSketch, mode_in}
-use Rattle.sketches.specs.declared.sketch.Sketch.{Sketch}
 use Rattle.sketches.specs.Known.{HasNoCycle}
-use Rattle.run_maker.specs.declared.run.MadeRun.{MadeRun}
 use Rattle.sketch_covers.specs.declared.stop.Stop.TheVariants as stop
-use Rattle.sketch_covers.specs.declared.known_outcomes.KnownOutcomes.{KnownOutcomes}
-use Rattle.sketch_covers.specs.declared.known_outcomes.KnownOutcomes.TheVariants.{Closed, Open}
-use Rattle.sketch_covers.specs.Covers.{IsEndNotListed}
-use Rattle.sketch_covers.specs.OutcomeNumbers.{HasNumber}
 use Rattle.sketch_covers.specs.KnownOutcomes.{by_number, StopIs, HasOwnEnd}
-use Rattle.sketch_covers.specs.ShownRuns.{IsShownRunOf}
 
 -- an outcome with a number is in the list
 pub numbered_is_listed : (outcomes : List Outcome) (n : ℕ) (o : Outcome) → HasNumber outcomes n o → Contains outcomes o

@@ -1,12 +1,6 @@
 -- Runs that stand beside their outcomes.
 use Rattle.std.proofs.Common.{◌≡◌, ℕ, List, Some, slice_get, sym, subst, ◌∙◌}
-use Rattle.std.proofs.lemmas.Option.{same_Some}
-use Rattle.tso_program.specs.declared.outcome.Outcome.{Outcome}
-use Rattle.tso_program.specs.Shown.{Question}
-use Rattle.tso_machine.specs.declared.label.Label.{Label}
-use Rattle.tso_machine.specs.Machine.{Machine}
-use Rattle.tso_machine.specs.Outcomes.{IsShownRun}
-use Rattle.sketch_covers.specs.OutcomeNumbers.{AreRunsOf}
+use Rattle.sketch_covers.proofs.Vocabulary.{same_Some, Outcome, Question, Label, Machine, IsShownRun, AreRunsOf}
 use Rattle.sketch_covers.proofs.Listing.{zip_at_right}
 
 -- the run beside an outcome

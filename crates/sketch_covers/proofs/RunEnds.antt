@@ -1,11 +1,8 @@
 -- How sketches end, as far as it is shown.
 use Rattle.std.proofs.Common.{◌≡◌, refl, sym, subst}
-use Rattle.tso_program.specs.declared.shown.Shown.{Shown}
+use Rattle.sketch_covers.proofs.Vocabulary.{Shown, ProgramSketch, MadeRun, IsShownRunOf}
 use Rattle.tso_program.specs.Shown.{show}
-use Rattle.sketches.specs.ProgramSketches.{ProgramSketch}
-use Rattle.run_maker.specs.declared.run.MadeRun.{MadeRun}
 use Rattle.run_maker.specs.MadeRuns.{IsMadeRun}
-use Rattle.sketch_covers.specs.ShownRuns.{IsShownRunOf}
 
 -- the run of a sketch, with what is shown of its outcome
 pub shown_run_of : (s : ProgramSketch) (shown : Shown) (run made : MadeRun) → IsMadeRun s run.labels.items run.outcome → made ≡ record run { outcome = show shown run.outcome } → IsShownRunOf s shown made

@@ -1,14 +1,7 @@
 -- A sketch is complete by its accesses.
 use Rattle.std.proofs.Common.{◌≡◌, ℕ, ◌<◌, ◌≤◌, List, None, IsSome, Contains, get_or, length, sym, ap, ◌∙◌, subst, arith}
-use Rattle.std.proofs.lemmas.Option.{same_Some, slice_get_within}
-use Rattle.candidate_executions.specs.declared.access.Access.{Access}
-use Rattle.candidate_executions.specs.declared.event.Event.{Event}
-use Rattle.candidate_executions.specs.declared.event.Event.TheVariants.{Initial, Access as At}
-use Rattle.candidate_executions.specs.Candidates.{IsAccess}
+use Rattle.sketches.proofs.Vocabulary.{same_Some, slice_get_within, Access, Event, Initial, At, IsAccess, ProgramSketch, mode_in, IsRead, HasItsSource, IsOrderedWith, IsComplete}
 use Rattle.candidate_executions.specs.Sketches.{IsPair, IsWhole, given_to}
-use Rattle.known_edges.specs.ProgramSketches.{ProgramSketch, mode_in}
-use Rattle.known_edges.specs.Choices.{IsRead}
-use Rattle.sketches.specs.Complete.{HasItsSource, IsOrderedWith, IsComplete}
 
 -- reads and pairs are of accesses
 pub read_there : (s : ProgramSketch) (e : Event) → IsRead s e → IsAccess s.program (mode_in s) (given_to s.chosen) e

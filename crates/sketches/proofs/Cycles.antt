@@ -1,12 +1,9 @@
 -- Ways along edges, and what a cycle of known edges refutes.
 use Rattle.std.proofs.Common.{List}
-use Rattle.candidate_executions.specs.declared.event.Event.{Event}
-use Rattle.candidate_executions.specs.declared.event.Kind.{Kind}
+use Rattle.sketches.proofs.Vocabulary.{Event, Kind, ProgramSketch, mode_in, IsLawful}
 use Rattle.candidate_executions.specs.Sketches.{IsKnownCycle, KnownEdgeOfMode}
 use Rattle.candidate_executions.proofs.Sketches.KnownEdges.{known_edge}
 use Rattle.candidate_executions.proofs.Sketches.KnownCycles.{known_cycle_refutes}
-use Rattle.known_edges.specs.ProgramSketches.{ProgramSketch, mode_in}
-use Rattle.known_edges.specs.Kept.{IsLawful}
 use Rattle.sketches.specs.Completions.{IsEdgeOfEach, IsRefuted}
 
 -- a known edge is one of each completion

@@ -1,13 +1,9 @@
 -- Where a search for cycles begins and ends.
 use Rattle.std.proofs.Common.{List, Option, Some, None, IfSome, MatchOption, Vec, Global}
-use Rattle.candidate_executions.specs.declared.event.Event.{Event}
-use Rattle.candidate_executions.specs.declared.event.Kind.{Kind}
-use Rattle.known_edges.specs.ProgramSketches.{ProgramSketch}
-use Rattle.known_edges.specs.Kept.{IsLawful}
+use Rattle.sketches.proofs.Vocabulary.{Event, Kind, ProgramSketch, IsLawful, cycle_of_accesses}
 use Rattle.sketches.specs.Cycles.{IsSimpleCycle}
 use Rattle.known_edges.specs.FewAccesses.{AreFewAccesses}
 use Rattle.known_edges.proofs.ChoicesCounted.{few_accesses}
-use Rattle.known_edges.proofs.Found.{cycle_of_accesses}
 
 -- a cycle with no event twice is short
 pub simple_few : (s : ProgramSketch) (kind : Kind) (es : List Event) → IsLawful s → IsSimpleCycle s kind es → AreFewAccesses s es

@@ -5,35 +5,25 @@ use Rattle.std.proofs.lemmas.Option.{slice_get-get_or, slice_get_past}
 use Rattle.std.proofs.lemmas.List.{drop_all}
 use Rattle.tso_program.specs.declared.instruction.Reg.{Reg}
 use Rattle.tso_program.specs.Instructions.{number}
-use Rattle.tso_program.specs.declared.outcome.Outcome.{Outcome}
-use Rattle.tso_program.specs.declared.shown.Shown.TheVariants.{Truth}
-use Rattle.tso_program.specs.declared.atom.Atom.{Atom}
 use Rattle.tso_program.specs.declared.atom.Atom.TheVariants as atom
 use Rattle.tso_program.specs.declared.node.Node.{Node}
 use Rattle.tso_program.specs.declared.node.Node.TheVariants as node
-use Rattle.tso_program.specs.Tree.{Tree}
 use Rattle.tso_program.specs.Tree as tree
 use Rattle.tso_program.specs.Truth.{is_true_at, is_value}
 use Rattle.tso_program.specs.Nodes.{Half, AndOf, OrOf, build}
 use Rattle.tso_program.specs.Shown.{told}
-use Rattle.known_edges.specs.declared.known_truth.Knowledge.{Knowledge}
 use Rattle.known_edges.specs.declared.known_truth.Left.{Left}
 use Rattle.known_edges.specs.declared.known_truth.Left.TheVariants.{OfAnd, OfOr}
 use Rattle.std.specs.List.{range_with_len}
-use Rattle.std.proofs.lemmas.Bool.{cases_lt}
-use Rattle.std.proofs.lemmas.List.FromFn.{get_or-map-range_with_len, length-map-range_with_len}
+use Rattle.sketches.proofs.Vocabulary.{Outcome, Truth, Atom, Tree, Knowledge, cases_lt, get_or-map-range_with_len, length-map-range_with_len, IsLawful, HasNoCycle, MustEndSo, ProgramSketch, mode_in}
+use Rattle.sketches.proofs.Vocabulary.{trace_in, final_registers, MayBe}
 use Rattle.tso_program.proofs.KnownTruths.{known_is_true}
 use Rattle.candidate_executions.specs.Sketches as sketches
 use Rattle.candidate_executions.specs.Sketches.{IsWhole, KnownAtom, next_read}
-use Rattle.known_edges.specs.Kept.{IsLawful}
-use Rattle.known_edges.specs.Known.{HasNoCycle}
-use Rattle.sketches.specs.Completions.{MustEndSo}
 use Rattle.sketches.proofs.LastWrites.{some_last}
-use Rattle.known_edges.specs.ProgramSketches.{ProgramSketch, mode_in, trace_in}
 use Rattle.sketches.specs.Knowledge.{IsKnownTruth, Knows}
 use Rattle.sketches.specs.Internal.KnownWalk.{after_node, KnowsLeft}
 use Rattle.known_edges.specs.KnownTruths.{joined}
-use Rattle.sketches.specs.Endings.{final_registers, MayBe}
 use Rattle.sketches.proofs.Ends.{final_at, final_long}
 
 -- ---- tests of two truths

@@ -1,24 +1,11 @@
 -- What is shown of the writes that may be the last of a location.
 use Rattle.std.proofs.Common.{◌≡◌, ◌↔◌, ◌⊎◌, ℕ, ◌<◌, Bool, true, false, IsTrue, List, [], ◌∷◌, ◌++◌, Option, Some, None, Contains, length, refl, sym, ap, ◌∙◌, subst, inl, inr, arith}
-use Rattle.std.specs.Prelude.{◌==◌, slice_index, slice_index_or, slice_set, IfSome}
-use Rattle.std.proofs.lemmas.Bool.{cases_eq}
 use Rattle.std.proofs.lemmas.List.{get_or-set_same, get_or-set_other, length-set}
 use Rattle.std.proofs.lemmas.List.Elements.{Contains-push, Contains-push_cases, Contains-append_left}
-use Rattle.std.proofs.lemmas.Option.{same_Some, slice_get_within}
-use Rattle.candidate_executions.proofs.Orders.Lists.{none_here}
+use Rattle.sketches.proofs.Vocabulary.{◌==◌, slice_index, slice_index_or, slice_set, IfSome, cases_eq, same_Some, slice_get_within, none_here, Shown, shown_value, Access, Event, Initial, At, Writes}
+use Rattle.sketches.proofs.Vocabulary.{ProgramSketch, mode_in, access_in, MayBeLast, IsLawful, IsLastWith, HasLater, IsWritten, yes, no}
 use Rattle.tso_program.specs.declared.limits.TheConstants.{MAX_LOCATIONS}
-use Rattle.tso_program.specs.declared.shown.Shown.{Shown}
-use Rattle.tso_program.specs.Shown.{shown_value}
-use Rattle.candidate_executions.specs.declared.access.Access.{Access}
-use Rattle.candidate_executions.specs.declared.event.Event.{Event}
-use Rattle.candidate_executions.specs.declared.event.Event.TheVariants.{Initial, Access as At}
-use Rattle.candidate_executions.specs.Candidates.{Writes}
-use Rattle.known_edges.specs.ProgramSketches.{ProgramSketch, mode_in, access_in}
-use Rattle.candidate_executions.specs.Sketches.{MayBeLast}
-use Rattle.known_edges.specs.Kept.{IsLawful}
-use Rattle.known_edges.specs.Writes.{IsLastWith, HasLater, IsWritten}
 use Rattle.sketches.specs.Endings.{MayEndBy, IsOwn, EndsSo, MayBe, MayBeBy, Differ, IsLastValue, AreLastValues}
-use Rattle.thread_traces.proofs.KnownParts.{yes, no}
 use Rattle.sketches.proofs.Ends.{last_by}
 
 -- one event writes one value to one location

@@ -1,25 +1,11 @@
 -- Where no known edges make a cycle, each location has a write that may be its last.
 use Rattle.std.proofs.Common.{◌≡◌, ◌↔◌, ◌⊎◌, ℕ, ◌<◌, List, [], ◌∷◌, Option, Some, None, length, Contains, refl, sym, ap, ◌∙◌, subst, inl, inr, arith}
-use Rattle.std.specs.Prelude.{slice_index}
-use Rattle.std.proofs.lemmas.Bool.{cases_eq}
-use Rattle.std.proofs.lemmas.Option.{same_Some}
+use Rattle.sketches.proofs.Vocabulary.{slice_index, cases_eq, same_Some, Access, Event, Initial, At, Kind, Writes, IsOfMode, IsBefore, KnownRelates, KnownEdgeOfMode, same_event, ProgramSketch}
+use Rattle.sketches.proofs.Vocabulary.{mode_in, access_in, IsLawful, HasNoCycle, IsSuccessor, WritesTo}
 use Rattle.tso_machine.specs.Machine.{Machine, SequentialMachine, StoreBufferMachine}
-use Rattle.candidate_executions.specs.declared.access.Access.{Access}
-use Rattle.candidate_executions.specs.declared.event.Event.{Event}
-use Rattle.candidate_executions.specs.declared.event.Event.TheVariants.{Initial, Access as At}
-use Rattle.candidate_executions.specs.declared.event.Kind.{Kind}
 use Rattle.candidate_executions.specs.declared.event.Kind.TheVariants as union
-use Rattle.candidate_executions.specs.Candidates.{Writes}
-use Rattle.candidate_executions.specs.Consistency.{IsOfMode}
 use Rattle.candidate_executions.specs.Orders.{followed_union}
-use Rattle.candidate_executions.specs.Sketches.{IsBefore, KnownRelates, KnownEdgeOfMode}
-use Rattle.candidate_executions.proofs.Candidates.EdgesAreDecidable.{same_event}
 use Rattle.candidate_executions.proofs.Orders.Lists.{none_here, first_or_later, first_is_here, later_is_here}
-use Rattle.known_edges.specs.ProgramSketches.{ProgramSketch, mode_in, access_in}
-use Rattle.known_edges.specs.Kept.{IsLawful}
-use Rattle.known_edges.specs.Known.{HasNoCycle}
-use Rattle.sketches.specs.Cycles.{IsSuccessor}
-use Rattle.known_edges.specs.Writes.{WritesTo}
 use Rattle.sketches.specs.Endings.{SketchMayEndWith}
 use Rattle.known_edges.proofs.ChoicesCounted.{events, events_has}
 use Rattle.sketches.proofs.RoundTrips.{round_trip}

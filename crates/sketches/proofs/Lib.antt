@@ -1,3 +1,5 @@
+-- what many proofs speak of
+mod Vocabulary
 pub mod ThreadValues
 pub mod Completed
 pub mod Cycles

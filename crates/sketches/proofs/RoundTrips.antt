@@ -1,12 +1,7 @@
 -- Where an edge leads from each event to another, there is a cycle.
 use Rattle.std.proofs.Common.{◌≡◌, ◌⊎◌, ℕ, zero, suc, ◌<◌, ◌≤◌, List, [], ◌∷◌, ◌++◌, Some, slice_get, get_or, drop, length, Contains, refl, subst, inl, inr, arith}
-use Rattle.std.specs.List.{remove}
 use Rattle.std.proofs.lemmas.List.Edits.{length-remove}
-use Rattle.std.proofs.lemmas.Option.{slice_get-get_or}
-use Rattle.candidate_executions.specs.declared.event.Event.{Event}
-use Rattle.candidate_executions.specs.declared.event.Event.TheVariants.{Initial}
-use Rattle.candidate_executions.specs.Consistency.{IsCycle}
-use Rattle.candidate_executions.proofs.Candidates.EdgesAreDecidable.{same_event}
+use Rattle.sketches.proofs.Vocabulary.{remove, slice_get-get_or, Event, Initial, IsCycle, same_event}
 use Rattle.sketches.specs.Cycles.{EachGoesOn}
 use Rattle.thread_traces.proofs.Walks.{IsWalk, walk_begins}
 use Rattle.sketches.proofs.Walks.{comes_back, is_open, goes_on}

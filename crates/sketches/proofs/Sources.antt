@@ -1,25 +1,10 @@
 -- The sources of a read, listed in order.
 use Rattle.std.proofs.Common.{◌≡◌, ◌≢◌, ◌↔◌, ◌⊎◌, ℕ, ◌<◌, ◌≤◌, Some, None, List, [], get_or, slice_get, Contains, refl, sym, ap, ◌∙◌, subst, inl, inr, arith}
-use Rattle.std.specs.List.{AllPairs}
-use Rattle.std.proofs.lemmas.Bool.{cases_eq}
 use Rattle.std.proofs.lemmas.Option.{slice_get_within, get_or_from_slice_get, same_Some}
+use Rattle.sketches.proofs.Vocabulary.{AllPairs, cases_eq, Listing, Mode, Access, Event, Initial, At, ComesBefore, IsAccess, IsSourceOf, given_to, ThreadTrace, ProgramSketch, mode_in, access_in}
+use Rattle.sketches.proofs.Vocabulary.{view_of, KeepsTraces, ReadsThisValue, IsValueWritten, HasNumberIn, FollowInOrder, of_some, none_in}
 use Rattle.bit_rows.specs.Rows.{IsIn}
-use Rattle.tso_program.specs.declared.listing.Listing.{Listing}
-use Rattle.tso_machine.specs.declared.mode.Mode.{Mode}
-use Rattle.candidate_executions.specs.declared.access.Access.{Access}
-use Rattle.candidate_executions.specs.declared.event.Event.{Event}
-use Rattle.candidate_executions.specs.declared.event.Event.TheVariants.{Initial, Access as At}
-use Rattle.candidate_executions.specs.Events.{ComesBefore}
-use Rattle.candidate_executions.specs.Candidates.{IsAccess}
-use Rattle.candidate_executions.specs.Sketches.{IsSourceOf, given_to}
-use Rattle.thread_traces.specs.declared.thread_trace.ThreadTrace.{ThreadTrace}
-use Rattle.known_edges.specs.ProgramSketches.{ProgramSketch, mode_in, access_in}
-use Rattle.known_edges.specs.Kept.{view_of, KeepsTraces}
-use Rattle.known_edges.specs.Choices.{ReadsThisValue, IsValueWritten}
 use Rattle.known_edges.specs.Rows.{traced_access, IsRowOf, IsWriteAt, AreAccesses}
-use Rattle.sketches.specs.Internal.Listed.{HasNumberIn, FollowInOrder}
-use Rattle.thread_traces.proofs.KnownParts.{of_some}
-use Rattle.known_edges.proofs.Lawful.{none_in}
 use Rattle.known_edges.proofs.Numbered.{access_same, is_access, access_number, number_access}
 
 -- the old events, and those of which P holds among the numbers of the row that are no longer left; they are less than those that are

@@ -1,22 +1,13 @@
 -- A sketch with the values of one thread from another sketch is lawful.
 use Rattle.std.proofs.Common.{◌≡◌, ◌≢◌, ◌⊎◌, ℕ, ◌<◌, List, [], Some, Contains, slice_get, set, length, sym, ap, ◌∙◌, subst, inl, inr, arith, length-set}
-use Rattle.std.proofs.lemmas.Bool.{cases_eq}
-use Rattle.std.proofs.lemmas.List.{get_or-set_same, get_or-set_other}
 use Rattle.std.proofs.lemmas.Option.{same_Some, unwrap_or-slice_get}
-use Rattle.tso_program.specs.declared.listing.Listing.{Listing}
+use Rattle.sketches.proofs.Vocabulary.{cases_eq, get_or-set_same, get_or-set_other, Listing, Mode, machine_of_mode, Event, IsValueOf, ThreadTrace, ProgramSketch, trace_in, with_chosen}
+use Rattle.sketches.proofs.Vocabulary.{IsThreadTraceOf, with_values, HasValuesAlone}
 use Rattle.tso_program.specs.Listings.{action, code_of, start_of}
-use Rattle.tso_machine.specs.declared.mode.Mode.{Mode}
-use Rattle.tso_machine.specs.Modes.{machine_of_mode}
-use Rattle.candidate_executions.specs.declared.event.Event.{Event}
-use Rattle.candidate_executions.specs.Values.{IsValueOf}
 use Rattle.candidate_executions.specs.Traces.{trace, fenced_gaps}
 use Rattle.candidate_executions.specs.Sketches.{Sketch, given_to}
 use Rattle.candidate_executions.proofs.Orders.Lists.{get_set_same, get_set_other}
-use Rattle.thread_traces.specs.declared.thread_trace.ThreadTrace.{ThreadTrace}
-use Rattle.known_edges.specs.ProgramSketches.{ProgramSketch, trace_in, with_chosen}
-use Rattle.thread_traces.specs.ThreadTraces.{IsThreadTraceOf}
 use Rattle.known_edges.specs.Kept.{given_lists, view_of, KeepsTraces, IsLawful}
-use Rattle.sketches.specs.ThreadValues.{with_values, HasValuesAlone}
 use Rattle.known_edges.proofs.GivenUsed.{Good}
 use Rattle.known_edges.proofs.Lawful.{good_of, values_from, none_chosen, new_kept_by, given_set, given_at}
 

@@ -1,22 +1,10 @@
 -- Sketches in which values alone are chosen: a value that is given and taken back, and reads that lack a source.
 use Rattle.std.proofs.Common.{◌≡◌, ℕ, ◌<◌, List, [], ◌∷◌, ◌++◌, Option, Some, None, IsSome, slice_get, slice_index, set, length, refl, sym, ap, ◌∙◌, subst, arith}
-use Rattle.std.proofs.lemmas.Option.{same_Some, slice_get_within}
-use Rattle.tso_program.specs.declared.listing.Listing.{Listing}
-use Rattle.tso_machine.specs.declared.mode.Mode.{Mode}
-use Rattle.candidate_executions.specs.declared.access.Access.{Access}
-use Rattle.candidate_executions.specs.declared.event.Event.{Event}
-use Rattle.candidate_executions.specs.declared.event.Event.TheVariants.{Initial, Access as At}
+use Rattle.sketches.proofs.Vocabulary.{same_Some, slice_get_within, Listing, Mode, Access, Event, Initial, At, ThreadTrace, ProgramSketch, mode_in, with_chosen, access_in, with_values, view_of}
+use Rattle.sketches.proofs.Vocabulary.{KeepsTraces, MarkedThread, IsValueMarkOf, LacksSource, EachEnds, traced_access, trace_accesses, no_accesses, none_in}
 use Rattle.candidate_executions.specs.Sketches.{given_to, with_value, IsSourceOf}
-use Rattle.thread_traces.specs.declared.thread_trace.ThreadTrace.{ThreadTrace}
-use Rattle.known_edges.specs.ProgramSketches.{ProgramSketch, mode_in, with_chosen, access_in}
-use Rattle.sketches.specs.ThreadValues.{with_values}
-use Rattle.known_edges.specs.Kept.{view_of, KeepsTraces}
-use Rattle.sketches.specs.ValueSketches.{MarkedThread, IsValueMarkOf, LacksSource}
-use Rattle.known_edges.specs.Rows.{EachEnds, traced_access}
 use Rattle.sketches.proofs.ThreadValues.{merged_kept, merged_parts}
 use Rattle.known_edges.proofs.Numbered.{ends_whole, accesses_same}
-use Rattle.known_edges.proofs.TracesKept.{trace_accesses, no_accesses}
-use Rattle.known_edges.proofs.Lawful.{none_in}
 use Rattle.thread_traces.proofs.ValuesGiven.{given_back}
 
 module _ (p : Listing) (mode : Mode) (thread_traces : List ThreadTrace) (kept : KeepsTraces p mode thread_traces [] []) (mark : MarkedThread) (earlier : ProgramSketch) (value : ℕ)

@@ -1,3 +1,5 @@
+-- what many proofs speak of
+mod Vocabulary
 -- phrases of the grammar, from the smallest on
 pub mod OneOfEach
 pub mod OneBody

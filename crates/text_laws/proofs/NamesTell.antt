@@ -4,17 +4,16 @@ use Rattle.std.specs.Prelude.{◌&&◌, ◌||◌, option_and_then, slice_get}
 use Rattle.std.proofs.lemmas.Bool.{cases_lt}
 use Rattle.std.proofs.lemmas.List.FromFn.{length-map-range_with_len}
 use Rattle.std.proofs.lemmas.Option.{slice_get_past}
+use Rattle.text_laws.proofs.Vocabulary.{Listing, Tree}
 use Rattle.gap_sets.specs.Gaps.{SetOfGaps}
 use Rattle.gap_sets.specs.Order.{total}
 use Rattle.tso_program.specs.declared.instruction.Reg.{Reg}
-use Rattle.tso_program.specs.declared.listing.Listing.{Listing}
 use Rattle.tso_program.specs.declared.outcome.Outcome.{Outcome}
 use Rattle.tso_program.specs.declared.shown.Shown.{Shown}
 use Rattle.tso_program.specs.declared.shown.Shown.TheVariants.{Truth}
 use Rattle.tso_program.specs.declared.atom.Atom.{Atom}
 use Rattle.tso_program.specs.declared.atom.Atom.TheVariants as atom
 use Rattle.tso_program.specs.Instructions.{number}
-use Rattle.tso_program.specs.Tree.{Tree}
 use Rattle.tso_program.specs.Tree as tree
 use Rattle.tso_program.specs.Truth.{truth, is_value}
 use Rattle.tso_program.specs.Named.{MentionsRegister, MentionsLocation}

@@ -1,11 +1,10 @@
 -- Initial values, the header row and the rows are spelled in one way.
 use Rattle.std.proofs.Common.{◌≡◌, ◌∙◌, ◌+◌, ℕ, true, List, [], ◌∷◌, sym, ap, subst, refl, Option, Some, None}
+use Rattle.text_laws.proofs.Vocabulary.{Tok, mark, Items, end, item}
 use Rattle.text_tokens.specs.declared.token.Mark.TheVariants as the
-use Rattle.text_tokens.specs.Tokens.{Tok}
 use Rattle.text_tokens.specs.Parts.{begins_with, rest_of}
 use Rattle.text_tokens.proofs.PartLaws.{begins_again}
 use Rattle.litmus_syntax.specs.Views.{CodeView, CellView}
-use Rattle.litmus_syntax.specs.Phrases.{mark, Items, end, item}
 use Rattle.litmus_syntax.specs.Grammar.{IsEntryItem, IsInitial, MoreColumns, last, column, IsHeader, IsCode, IsLabelMark, ends_cell, IsContent, IsCell, IsNextCell, IsCells, IsRow, IsRowList, IsRows, IsBody}
 use Rattle.litmus_syntax.specs.Reading.{entry_at, code_at, label_tokens_at}
 use Rattle.litmus_syntax.proofs.EntryLaws.{entries_are_read, no_entry}

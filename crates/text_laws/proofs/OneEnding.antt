@@ -1,13 +1,10 @@
 -- What is observed, the quantifier and the signs of a condition are spelled in one way.
 use Rattle.std.proofs.Common.{◌≡◌, ◌∙◌, ℕ, List, [], codes, sym, ap, subst, inl, inr, refl, Some, None}
-use Rattle.std.proofs.lemmas.Option.{same_Some}
+use Rattle.text_laws.proofs.Vocabulary.{same_Some, Tok, rest_of, mark, Items}
 use Rattle.text_tokens.specs.declared.token.Mark.TheVariants as the
-use Rattle.text_tokens.specs.Tokens.{Tok}
-use Rattle.text_tokens.specs.Parts.{rest_of}
 use Rattle.conditions.specs.declared.condition.Quantifier.{Quantifier}
 use Rattle.conditions.specs.declared.condition.Quantifier.TheVariants.{Exists, NotExists, Forall}
 use Rattle.litmus_syntax.specs.Views.{PlaceView, Location, Register, SignView, EndingView}
-use Rattle.litmus_syntax.specs.Phrases.{mark, Items}
 use Rattle.litmus_syntax.specs.Grammar.{IsPlace, separator, IsObservedItem, IsObserved, IsQuantifier, IsSign, IsSigns, the_end, IsEnding}
 use Rattle.litmus_syntax.specs.Reading.{place_at, place_among_at, quantifier_at, atom_at, sign_at}
 use Rattle.litmus_syntax.proofs.WordLaws.{begins_word_again, separator_again}

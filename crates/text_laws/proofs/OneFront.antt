@@ -3,8 +3,7 @@ use Rattle.std.proofs.Common.{◌≡◌, ◌==◌, ℕ, true, false, List, ◌�
 use Rattle.std.specs.Prelude.{slice_index}
 use Rattle.std.proofs.lemmas.Bool.{cases_Bool}
 use Rattle.std.proofs.lemmas.Bool.Decides.{nat_tests}
-use Rattle.text_tokens.specs.Tokens.{Tok}
-use Rattle.text_tokens.specs.Lexing.{Lexes}
+use Rattle.text_laws.proofs.Vocabulary.{Tok, Lexes}
 use Rattle.text_tokens.specs.Space.{IsAfterSpace, nothing, white_space, comment}
 use Rattle.text_tokens.proofs.OneReading.{only_whole}
 use Rattle.text_tokens.proofs.SpaceLaws.{white_space_back, comment_back, other_back}

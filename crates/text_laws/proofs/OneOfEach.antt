@@ -1,10 +1,7 @@
 -- Phrases that tokens begin with in one way, and lists of them.
 use Rattle.std.proofs.Common.{◌≡◌, ◌∙◌, sym, ap, subst, refl, List, ◌∷◌, Option, Some}
-use Rattle.std.proofs.lemmas.Option.{same_Some}
+use Rattle.text_laws.proofs.Vocabulary.{same_Some, Tok, rest_of, mark, Items, end, item}
 use Rattle.text_tokens.specs.declared.token.Mark.{Mark}
-use Rattle.text_tokens.specs.Tokens.{Tok}
-use Rattle.text_tokens.specs.Parts.{rest_of}
-use Rattle.litmus_syntax.specs.Phrases.{mark, Items, end, item}
 use Rattle.litmus_syntax.proofs.ItemLaws.{Only}
 
 -- tokens begin with one value, and the same tokens follow it

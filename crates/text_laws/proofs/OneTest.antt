@@ -1,14 +1,9 @@
 -- A litmus text stands for one test.
 use Rattle.std.proofs.Common.{◌≡◌, ℕ, List, [], map, sym, ap, ◌∙◌, subst}
-use Rattle.text_tokens.specs.Tokens.{Tok}
-use Rattle.text_tokens.specs.Lexing.{Lexes}
-use Rattle.tso_program.specs.Tree.{Tree}
+use Rattle.text_laws.proofs.Vocabulary.{Tok, Lexes, Tree, Listing, AreSkipped, IsEnding}
 use Rattle.conditions.specs.Grammar.{Spells, Sum}
 use Rattle.conditions.proofs.SpelledIsRead.{spells_one}
-use Rattle.tso_program.specs.declared.listing.Listing.{Listing}
-use Rattle.litmus_lines.specs.SkippedLines.{AreSkipped}
 use Rattle.litmus_syntax.specs.Views.{PlaceView, BodyView, EndingView}
-use Rattle.litmus_syntax.specs.Grammar.{IsEnding}
 use Rattle.litmus_reader.specs.declared.litmus.Litmus.{Litmus}
 use Rattle.litmus_reader.specs.Names.{TextNames, number_in}
 use Rattle.litmus_reader.specs.Places.{names_of}

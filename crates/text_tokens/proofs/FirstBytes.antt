@@ -1,19 +1,9 @@
 -- What the first byte of a text tells.
 use Rattle.std.proofs.Common.{◌≡◌, ◌≢◌, ℕ, ◌<◌, ◌≤◌, ◌==◌, Bool, true, false, List, [], ◌∷◌, ◌++◌, length, drop, Option, Some, None, cond, refl, sym, ap, ◌∙◌, arith, inl, inr}
-use Rattle.std.specs.Prelude.{slice_index, if◌then◌else◌}
-use Rattle.std.specs.List.{list_all}
-use Rattle.std.specs.Char.{is_ascii_digit}
-use Rattle.std.proofs.lemmas.Bool.{cases_Bool, and_parts, eqb-true}
-use Rattle.std.proofs.lemmas.List.{length-append}
-use Rattle.std.proofs.lemmas.Bool.Decides.{nat_tests}
-use Rattle.text_tokens.specs.declared.token.Mark.{Mark}
-use Rattle.text_tokens.specs.declared.token.Mark.TheVariants.{OpenBrace, CloseBrace, OpenBracket, CloseBracket, OpenParen, CloseParen, Semicolon, Bar, Colon, Equals, Comma, Dollar, Tilde, And, Or}
-use Rattle.text_tokens.specs.declared.token.Bad.{Bad}
+use Rattle.text_tokens.proofs.Vocabulary.{slice_index, if◌then◌else◌, list_all, is_ascii_digit, cases_Bool, and_parts, eqb-true, length-append, nat_tests, Mark, OpenBrace, CloseBrace, OpenBracket}
+use Rattle.text_tokens.proofs.Vocabulary.{CloseBracket, OpenParen, CloseParen, Semicolon, Bar, Colon, Equals, Comma, Dollar, Tilde, And, Or, Bad, is_white_space, is_letter, is_word_byte, mark_text}
+use Rattle.text_tokens.proofs.Vocabulary.{mark_from, opens, Tok, Word, Number, Sign, NoToken}
 use Rattle.text_tokens.specs.declared.token.Bad.TheVariants as bad
-use Rattle.text_tokens.specs.Bytes.{is_white_space, is_letter, is_word_byte}
-use Rattle.text_tokens.specs.Marks.{mark_text, mark_from}
-use Rattle.text_tokens.specs.Comments.{opens}
-use Rattle.text_tokens.specs.Tokens.{Tok, Word, Number, Sign, NoToken}
 use Rattle.text_tokens.specs.Lexing.{BeginsWith, IsWord, AreDigits, IsBad}
 
 -- ---- classes of bytes, of which no two meet

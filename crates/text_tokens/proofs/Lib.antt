@@ -1,3 +1,5 @@
+-- what many proofs speak of
+mod Vocabulary
 pub mod Prefixes
 pub mod NumberLaws
 pub mod CommentLaws

@@ -1,16 +1,8 @@
 -- A text has its tokens in one way.
 use Rattle.std.proofs.Common.{◌≡◌, ◌<◌, ℕ, true, false, List, [], ◌∷◌, ◌++◌, length, drop, refl, sym, ap, ◌∙◌, arith, inl, inr, append_assoc}
-use Rattle.std.specs.Prelude.{slice_index}
-use Rattle.std.specs.Char.{is_ascii_digit}
-use Rattle.std.specs.Str.Parse.{digits_value}
-use Rattle.std.proofs.lemmas.List.{append-nil, length-append, drop_at}
-use Rattle.text_tokens.specs.declared.token.Mark.{Mark}
-use Rattle.text_tokens.specs.declared.token.Bad.{Bad}
+use Rattle.text_tokens.proofs.Vocabulary.{slice_index, is_ascii_digit, digits_value, append-nil, length-append, drop_at, Mark, Bad, is_white_space, is_letter, is_word_byte, OpenParen, mark_text}
+use Rattle.text_tokens.proofs.Vocabulary.{opens, IsComment}
 use Rattle.text_tokens.specs.declared.token.Bad.TheVariants as bad
-use Rattle.text_tokens.specs.Bytes.{is_white_space, is_letter, is_word_byte}
-use Rattle.text_tokens.specs.declared.token.Mark.TheVariants.{OpenParen}
-use Rattle.text_tokens.specs.Marks.{mark_text}
-use Rattle.text_tokens.specs.Comments.{opens, IsComment}
 use Rattle.text_tokens.proofs.CommentLaws.{short_opens, Inside-one}
 use Rattle.text_tokens.specs.Tokens.{Tok, Word, Number, Sign, NoToken, AreAllTokens}
 use Rattle.text_tokens.specs.Lexing.{BeginsWith, BeginsWithAll, none, white_space, comment, token, Lexes, IsBad, IsBadNumber, IsHalf, IsStray, LexesTo}

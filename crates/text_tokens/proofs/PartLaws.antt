@@ -1,13 +1,8 @@
 -- What the single tokens at the front of a list take, and that they take it again.
 use Rattle.std.proofs.Common.{◌≡◌, ◌≢◌, ℕ, ◌==◌, Bool, true, false, List, [], ◌∷◌, refl, sym, ap, ◌∙◌, arith, Option, Some}
-use Rattle.std.specs.Prelude.{if◌then◌else◌}
-use Rattle.std.proofs.lemmas.Bool.{eqb-true}
-use Rattle.std.proofs.lemmas.Bool.Decides.{nat_tests}
-use Rattle.std.proofs.lemmas.Option.{cond_some}
-use Rattle.text_tokens.specs.declared.token.Mark.{Mark}
-use Rattle.text_tokens.specs.declared.token.Mark.TheVariants.{OpenBrace, CloseBrace, OpenBracket, CloseBracket, OpenParen, CloseParen, Semicolon, Bar, Colon, Equals, Comma, Dollar, Tilde, And, Or}
+use Rattle.text_tokens.proofs.Vocabulary.{if◌then◌else◌, eqb-true, nat_tests, cond_some, Mark, OpenBrace, CloseBrace, OpenBracket, CloseBracket, OpenParen, CloseParen, Semicolon, Bar, Colon, Equals}
+use Rattle.text_tokens.proofs.Vocabulary.{Comma, Dollar, Tilde, And, Or, Tok, Word, Number, Sign, NoToken}
 use Rattle.text_tokens.specs.Marks.{mark_code, same_mark}
-use Rattle.text_tokens.specs.Tokens.{Tok, Word, Number, Sign, NoToken}
 use Rattle.text_tokens.specs.Parts.{word_at, number_at, begins_with, rest_of, mark_at}
 
 abbrev given : {A : Type 0} → A → Option A

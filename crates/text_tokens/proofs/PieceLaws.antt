@@ -1,10 +1,7 @@
 -- A text in pieces has their tokens.
 use Rattle.std.proofs.Common.{◌≡◌, ℕ, ◌<◌, ◌^◌, List, [], ◌∷◌, ◌++◌, refl, sym, ap, ◌∙◌, subst, arith, append_assoc}
-use Rattle.std.specs.Fmt.{decimal}
-use Rattle.std.proofs.lemmas.List.{append-nil}
-use Rattle.std.proofs.lemmas.Fmt.{digits_decimal, digits_value-decimal, decimal_nonempty}
-use Rattle.text_tokens.specs.Tokens.{Tok, Word, Number, Sign, NoToken}
-use Rattle.text_tokens.specs.Lexing.{BeginsWith, BeginsWithAll, none, white_space, token, Lexes}
+use Rattle.text_tokens.proofs.Vocabulary.{decimal, append-nil, digits_decimal, digits_value-decimal, decimal_nonempty, Tok, Word, Number, Sign, NoToken, BeginsWith, BeginsWithAll, none, white_space}
+use Rattle.text_tokens.proofs.Vocabulary.{token, Lexes}
 use Rattle.text_tokens.specs.Pieces.{Piece, Space, Part, token_text, text_of, tokens_of, CanStand, AreApartBefore, AreApart}
 use Rattle.text_tokens.proofs.NumberLaws.{own}
 

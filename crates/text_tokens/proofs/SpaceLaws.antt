@@ -1,9 +1,6 @@
 -- What follows white space and comments.
 use Rattle.std.proofs.Common.{◌≡◌, ℕ, ◌<◌, ◌≤◌, true, false, List, [], ◌∷◌, length, drop, refl, sym, ap, ◌∙◌, subst, arith}
-use Rattle.std.specs.Prelude.{slice_index}
-use Rattle.std.proofs.lemmas.Bool.Decides.{nat_tests}
-use Rattle.text_tokens.specs.Bytes.{is_white_space}
-use Rattle.text_tokens.specs.Comments.{opens, Inside, IsComment}
+use Rattle.text_tokens.proofs.Vocabulary.{slice_index, nat_tests, is_white_space, opens, Inside, IsComment}
 use Rattle.text_tokens.specs.Space.{IsAfterSpace, nothing, white_space, comment}
 use Rattle.text_tokens.proofs.CommentLaws.{Inside-one, comment_shorter}
 

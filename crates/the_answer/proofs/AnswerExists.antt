@@ -1,20 +1,13 @@
 -- There is an answer.
 use Rattle.std.proofs.Common.{◌≡◌, ℕ, zero, suc, ◌+◌, true, false, List, Option, Some, None, refl, sym, ap, ◌∙◌, subst, inl, inr, arith}
-use Rattle.std.specs.Prelude.{nat_lt, unwrap_or, MatchOption}
 use Rattle.std.specs.FinSet as set
-use Rattle.std.proofs.lemmas.Bool.{cases_lt, ltb-true, lt-ltb}
-use Rattle.gap_sets.specs.Gaps.{SetOfGaps}
-use Rattle.gap_sets.specs.Order.{total}
+use Rattle.the_answer.proofs.Vocabulary.{nat_lt, unwrap_or, MatchOption, cases_lt, ltb-true, lt-ltb, SetOfGaps, total, Question, gap_count, JumpForward, does_serve, best_of, the_answer}
 use Rattle.gap_sets.proofs.Totals.{total-limit}
-use Rattle.tso_program.specs.Shown.{Question}
-use Rattle.tso_program.specs.Listings.{gap_count}
-use Rattle.tso_program.specs.Limits.{JumpForward}
 use Rattle.tso_program.proofs.Gaps.{none_below, one_more}
 use Rattle.tso_machine.specs.Outcomes.{IsTheAnswer}
 use Rattle.fence_laws.proofs.AllGapsFenced.{all_serve}
 use Rattle.fence_laws.proofs.OneAnswer.{one_answer}
 use Rattle.fence_laws.proofs.HeadlineIsTheAnswer.{headline_is_the_answer}
-use Rattle.the_answer.specs.Answers.{does_serve, best_of, the_answer}
 use Rattle.the_answer.specs.Laws.{NonePasses, IsBest, TheAnswerExists, TheAnswerIsThatSet, TheHeadlineIsOfThatSet, NoServingSetCostsLess, TheLeastCostIsLimited, TheHeadlineTellsTheAnswer}
 use Rattle.the_answer.proofs.Served.{test_tells}
 use Rattle.the_answer.proofs.Best.{best_is_found}

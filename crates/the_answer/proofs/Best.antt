@@ -1,13 +1,11 @@
 -- Of the sets of gaps that pass a test the best is found.
 use Rattle.std.proofs.Common.{◌≡◌, ◌≢◌, ℕ, zero, suc, ◌+◌, ◌<◌, ◌≤◌, Bool, true, false, ◌||◌, List, Option, Some, None, cond, refl, sym, ap, ◌∙◌, subst, inl, inr, arith, eq-eqb, ne_eqb}
-use Rattle.std.specs.Prelude.{nat_lt, MatchOption}
 use Rattle.std.specs.Ordering.{nat_cmp}
 use Rattle.std.specs.Cmp.{nat_cmp_total, unsigned_tied}
 use Rattle.std.specs.FinSet as set
 use Rattle.std.proofs.lemmas.Bool.{cases_lt, cases_eq, cases_Bool, ltb-true, lt-ltb}
-use Rattle.gap_sets.specs.Gaps.{SetOfGaps}
+use Rattle.the_answer.proofs.Vocabulary.{nat_lt, MatchOption, SetOfGaps, cheaper, best_of}
 use Rattle.gap_sets.specs.Order.{total, HasLeastDifference, Better}
-use Rattle.the_answer.specs.Answers.{cheaper, best_of}
 use Rattle.the_answer.specs.Laws.{AreBelow, NonePasses, IsBest, TheBestSetIsFound}
 
 -- the set has below gap what the chosen set has, and nothing from the end on

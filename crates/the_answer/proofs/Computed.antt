@@ -5,18 +5,12 @@ use Rattle.std.specs.Prelude.{nat_lt, unwrap_or, slice_index, slice_index_or, if
 use Rattle.std.specs.List.{list_any, filter, range_with_len}
 use Rattle.std.specs.Option.{option_map, option_map_or}
 use Rattle.std.specs.FinSet as set
-use Rattle.gap_sets.specs.Gaps.{SetOfGaps}
+use Rattle.the_answer.proofs.Vocabulary.{SetOfGaps, these, total-these, Listing, Outcome, Machine, SequentialMachine, StoreBufferMachine, start, outcomes_within, most_labels, outcomes_of}
 use Rattle.gap_sets.specs.Order.{cost_of}
-use Rattle.gap_sets.specs.Laws.{these}
-use Rattle.gap_sets.proofs.Examples.{total-these}
-use Rattle.tso_program.specs.declared.listing.Listing.{Listing}
-use Rattle.tso_program.specs.declared.outcome.Outcome.{Outcome}
 use Rattle.tso_program.specs.declared.shown.Shown.TheVariants.{Only}
 use Rattle.tso_program.specs.Names.{register_place, location_place}
 use Rattle.tso_program.specs.Shown.{Question, show, value_if}
 use Rattle.tso_program.specs.Listings.{gap_count, gap_number}
-use Rattle.tso_machine.specs.Machine.{Machine, SequentialMachine, StoreBufferMachine, start}
-use Rattle.the_answer.specs.OutcomeLists.{outcomes_within, most_labels, outcomes_of}
 use Rattle.the_answer.specs.Answers.{are_among, does_serve, cheaper, best_of, the_answer}
 use Rattle.gap_sets.specs.declared.gap_set.TheConstants.{MAX_GAPS}
 use Rattle.tso_program.specs.declared.limits.TheConstants.{MAX_THREADS}

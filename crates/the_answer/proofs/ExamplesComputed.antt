@@ -1,12 +1,8 @@
 -- The answers of the examples, computed.
 use Rattle.std.proofs.Common.{◌≡◌, ℕ, List, [], ◌∷◌, ◌||◌, Bool, true, false, nat_eq, refl, sym, ap, ◌∙◌}
-use Rattle.std.specs.Cmp.{nat_cmp_total}
 use Rattle.std.specs.FinSet as set
-use Rattle.gap_sets.specs.Order.{total}
-use Rattle.gap_sets.specs.Laws.{these}
-use Rattle.gap_sets.proofs.Examples.{total-these}
+use Rattle.the_answer.proofs.Vocabulary.{nat_cmp_total, total, these, total-these, the_answer}
 use Rattle.tso_machine.specs.Examples.{store_buffering, r, n6, locked_exchange}
-use Rattle.the_answer.specs.Answers.{the_answer}
 use Rattle.the_answer.specs.Examples.{asked_whole, observed_n6, StoreBufferingIsAnswered, RIsAnswered, N6IsAnswered, ObservedN6IsAnswered, LockedExchangeIsAnswered}
 use Rattle.the_answer.proofs.Computed.{show_listed, shown_by_list, serve_by, answer_is_list}
 

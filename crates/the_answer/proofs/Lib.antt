@@ -1,3 +1,5 @@
+-- what many proofs speak of
+mod Vocabulary
 -- elements of lists
 pub mod Lists
 -- the outcomes, listed

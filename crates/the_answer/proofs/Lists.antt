@@ -1,9 +1,7 @@
 -- Elements of lists.
 use Rattle.std.proofs.Common.{◌≡◌, ℕ, ◌+◌, ◌<◌, Bool, true, false, ◌&&◌, List, [], ◌∷◌, map, Contains, flat_map, refl, sym, ◌∙◌, subst, inl, inr, arith}
-use Rattle.std.specs.List.{list_all, range_with_len}
-use Rattle.std.proofs.lemmas.List.Elements.{Contains-append_left, Contains-append_right, Contains-append_cases}
 use Rattle.std.proofs.lemmas.List.FromFn.{length-range_with_len, get_or-range_with_len}
-use Rattle.candidate_executions.proofs.Orders.Lists.{none_here, first_or_later, first_is_here, later_is_here}
+use Rattle.the_answer.proofs.Vocabulary.{list_all, range_with_len, Contains-append_left, Contains-append_right, Contains-append_cases, none_here, first_or_later, first_is_here, later_is_here}
 
 -- what is in one of the joined lists is in the whole
 pub in_flat_map : {A B : Type 0} (f : A → List B) (xs : List A) (x : A) (y : B) → Contains xs x → Contains (f x) y → Contains (flat_map f xs) y

@@ -1,22 +1,14 @@
 -- The test of a set of gaps tells whether it serves.
 use Rattle.std.proofs.Common.{◌≡◌, Bool, true, false, List, Contains, sym, ◌∙◌, inl, inr}
-use Rattle.std.specs.List.{list_any}
 use Rattle.std.specs.Ordering.{eq_by_cmp}
-use Rattle.std.proofs.lemmas.Bool.{cases_Bool}
 use Rattle.std.proofs.lemmas.Cmp.{eq_by_cmp_equiv}
 use Rattle.std.proofs.lemmas.Map.Views.{Contains-from_any, list_any-from_Contains}
-use Rattle.gap_sets.specs.Gaps.{SetOfGaps}
-use Rattle.tso_program.specs.declared.outcome.Outcome.{Outcome}
+use Rattle.the_answer.proofs.Vocabulary.{list_any, cases_Bool, SetOfGaps, Outcome, Question, JumpForward, SequentialMachine, StoreBufferMachine, outcomes_of, does_serve}
 use Rattle.tso_program.specs.Ordered.{outcome_cmp}
-use Rattle.tso_program.specs.Shown.{Question}
-use Rattle.tso_program.specs.Limits.{JumpForward}
 use Rattle.tso_program.specs.Fences.{gaps_in}
 use Rattle.tso_program.proofs.OutcomesOrdered.{outcomes_ordered, same_by_order}
-use Rattle.tso_machine.specs.Machine.{SequentialMachine, StoreBufferMachine}
 use Rattle.tso_machine.specs.Outcomes.{Serves, LeavesOutcome}
 use Rattle.fence_laws.proofs.SequentialIsBuffered.{sequential_is_allowed}
-use Rattle.the_answer.specs.OutcomeLists.{outcomes_of}
-use Rattle.the_answer.specs.Answers.{does_serve}
 use Rattle.the_answer.specs.Laws.{EachOutcomeIsAllowedOrNot, TheTestTellsWhatServes, EachSetServesOrLeavesAnOutcome}
 use Rattle.the_answer.proofs.Lists.{each_passes, all_pass, one_fails}
 use Rattle.the_answer.proofs.RunsListed.{outcomes_listed}

@@ -1,15 +1,11 @@
 -- Each step is one of the program's threads, and no run is longer than what is listed.
 use Rattle.std.proofs.Common.{◌≡◌, ℕ, zero, suc, ◌<◌, ◌≤◌, Bool, true, false, List, [], ◌∷◌, length, Some, None, slice_get, sym, ap, ◌∙◌, subst, inl, inr, arith}
 use Rattle.std.proofs.Math.Nat.{le-max_left, le-max_right}
-use Rattle.std.proofs.lemmas.Bool.{cases_lt}
+use Rattle.the_answer.proofs.Vocabulary.{cases_lt, Listing, Label, Exec, Flush, Pending}
 use Rattle.tso_program.specs.declared.instruction.Instr.{Instr}
 use Rattle.tso_program.specs.declared.listing.Thread.{Thread}
-use Rattle.tso_program.specs.declared.listing.Listing.{Listing}
 use Rattle.tso_program.specs.Listings.{action, code_of, instr_at}
 use Rattle.tso_program.specs.Fences.{Gaps}
-use Rattle.tso_machine.specs.declared.label.Label.{Label}
-use Rattle.tso_machine.specs.declared.label.Label.TheVariants.{Exec, Flush}
-use Rattle.tso_machine.specs.declared.label.Pending.{Pending}
 use Rattle.tso_machine.specs.Machine.{Machine, SequentialMachine, StoreBufferMachine, no_gaps, State, step}
 use Rattle.candidate_executions.proofs.Candidates.AllEvents.{no_code}
 use Rattle.candidate_executions.proofs.FromRuns.RunsAreShort.{run_bound}

@@ -1,13 +1,8 @@
 -- A thread that is not there has no accesses.
 use Rattle.std.proofs.Common.{◌≡◌, ◌↔◌, ◌⊎◌, ℕ, ◌<◌, ◌≤◌, List, [], length, Contains, ap, inl, inr, arith}
-use Rattle.std.specs.List.{AllPairs}
-use Rattle.tso_program.specs.declared.listing.Listing.{Listing}
-use Rattle.tso_program.specs.Listings.{action, start_of}
-use Rattle.tso_machine.specs.Machine.{Machine}
-use Rattle.candidate_executions.specs.declared.event.Event.{Event}
+use Rattle.thread_traces.proofs.Vocabulary.{AllPairs, Listing, action, start_of, Machine, Event, trace, trace_by, fenced_gaps}
 use Rattle.candidate_executions.specs.declared.event.Event.TheVariants.{Initial, Access as At}
 use Rattle.candidate_executions.specs.Events.{ComesBefore}
-use Rattle.candidate_executions.specs.Traces.{trace, trace_by, fenced_gaps}
 use Rattle.thread_traces.proofs.TracesKept.{no_code}
 
 -- these events have come to the old ones, in order

@@ -1,15 +1,8 @@
 -- The values of a location, gathered from the instructions and the initial values.
 use Rattle.std.proofs.Common.{◌≡◌, ◌↔◌, ◌⊎◌, ℕ, ◌+◌, ◌<◌, ◌≤◌, List, [], ◌∷◌, ◌++◌, Option, Some, None, slice_get, get_or, length, Contains, refl, sym, ap, ◌∙◌, subst, inl, inr, eq-eqb, ne_eqb, arith}
-use Rattle.std.specs.Prelude.{slice_index}
-use Rattle.std.proofs.lemmas.Bool.{cases_lt, cases_eq}
 use Rattle.std.proofs.lemmas.List.Elements.{Contains-append_left, Contains-append_right, Contains-append_cases, Contains-push, Contains-push_cases}
-use Rattle.std.proofs.lemmas.Option.{slice_get_within, slice_get-get_or, slice_get_read, same_Some}
-use Rattle.tso_program.specs.declared.instruction.Instr.{Instr}
-use Rattle.tso_program.specs.declared.instruction.Instr.TheVariants.{LoadImm, Copy, Load, StoreImm, Store, Xchg, Fence, CmpImm, CmpReg, Je, Jne, Jmp}
-use Rattle.tso_program.specs.declared.listing.Thread.{Thread}
-use Rattle.tso_program.specs.declared.listing.Listing.{Listing}
-use Rattle.tso_program.specs.Listings.{instr_at, code_of}
-use Rattle.tso_program.proofs.Found.{code_found}
+use Rattle.thread_traces.proofs.Vocabulary.{slice_index, cases_lt, cases_eq, slice_get_within, slice_get-get_or, slice_get_read, same_Some, Instr, LoadImm, Copy, Load, StoreImm, Store, Xchg, Fence}
+use Rattle.thread_traces.proofs.Vocabulary.{CmpImm, CmpReg, Je, Jne, Jmp, Thread, Listing, instr_at, code_of, code_found}
 use Rattle.candidate_executions.specs.Values.{Occurs, IsImmediate, IsKnown, TakesRegister, IsValueOf}
 use Rattle.thread_traces.specs.Immediates.{number_stored, any_number, stored_number, HasImmediate}
 use Rattle.thread_traces.proofs.TracesKept.{no_code}

@@ -1,17 +1,8 @@
 -- What a register may hold, and which locations take a register.
 use Rattle.std.proofs.Common.{◌≡◌, ◌↔◌, ◌⊎◌, ℕ, zero, suc, ◌+◌, ◌<◌, ◌≤◌, List, [], ◌∷◌, ◌++◌, Some, None, get_or, length, Contains, refl, sym, ap, ◌∙◌, subst, inl, inr, arith}
-use Rattle.std.specs.Prelude.{slice_index}
-use Rattle.std.proofs.lemmas.Bool.{cases_lt}
 use Rattle.std.proofs.lemmas.List.{get_or_past}
-use Rattle.std.proofs.lemmas.List.Elements.{Contains-get_or}
-use Rattle.tso_machine.proofs.Link.{read_is}
-use Rattle.tso_program.specs.declared.instruction.Instr.{Instr}
-use Rattle.tso_program.specs.declared.instruction.Instr.TheVariants.{LoadImm, Copy, Load, StoreImm, Store, Xchg, Fence, CmpImm, CmpReg, Je, Jne, Jmp}
-use Rattle.tso_program.specs.declared.listing.Thread.{Thread}
-use Rattle.tso_program.specs.declared.listing.Listing.{Listing}
-use Rattle.tso_program.specs.Listings.{instr_at, start_of}
-use Rattle.candidate_executions.specs.Values.{IsKnown, TakesRegister}
-use Rattle.thread_traces.specs.Immediates.{HasImmediate, StoresRegister, TakesRegisterOf}
+use Rattle.thread_traces.proofs.Vocabulary.{slice_index, cases_lt, Contains-get_or, read_is, Instr, LoadImm, Copy, Load, StoreImm, Store, Xchg, Fence, CmpImm, CmpReg, Je, Jne, Jmp, Thread, Listing}
+use Rattle.thread_traces.proofs.Vocabulary.{instr_at, start_of, IsKnown, TakesRegister, HasImmediate, StoresRegister, TakesRegisterOf}
 use Rattle.thread_traces.proofs.Gathered.{HasCome, come_by, come_more, come_append, IsNumberBelow, thread_more, immediate_all}
 
 -- an initial value of a register of the first n threads

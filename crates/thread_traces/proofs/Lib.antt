@@ -1,3 +1,5 @@
+-- what many proofs speak of
+mod Vocabulary
 pub mod TraceSteps
 pub mod TracesKept
 pub mod KnownParts

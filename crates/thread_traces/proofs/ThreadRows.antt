@@ -1,12 +1,8 @@
 -- Program order between the accesses of one thread, a row at a time.
 use Rattle.std.proofs.Common.{◌≡◌, ◌↔◌, ◌⊎◌, ℕ, ◌+◌, ◌<◌, ◌≤◌, List, set, length, sym, subst, inl, inr, arith}
-use Rattle.std.proofs.lemmas.Bool.{cases_lt}
-use Rattle.std.proofs.lemmas.Option.{slice_get_within}
-use Rattle.bit_rows.specs.Rows.{IsIn}
-use Rattle.bit_rows.specs.declared.row.TheConstants.{ROW_BITS}
+use Rattle.thread_traces.proofs.Vocabulary.{cases_lt, slice_get_within, IsIn, ROW_BITS, Access}
 use Rattle.bit_rows.proofs.Bits.{none_in_zero}
 use Rattle.bit_rows.proofs.Written.{IsGrown, grown_more, grown_all, zeros, zeros_are_empty}
-use Rattle.candidate_executions.specs.declared.access.Access.{Access}
 use Rattle.candidate_executions.specs.declared.event.Kind.{Kind}
 use Rattle.thread_traces.specs.ThreadOrder.{AreOrderOf, IsLaterIn}
 

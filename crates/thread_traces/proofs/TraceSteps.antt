@@ -1,16 +1,7 @@
 -- A trace is made an instruction at a time.
 use Rattle.std.proofs.Common.{◌≡◌, ℕ, zero, suc, ◌+◌, ◌-◌, ◌<◌, ◌≤◌, Bool, true, false, List, [], ◌∷◌, ◌++◌, Some, None, slice_get, get_or, drop, length, refl, sym, ap, ◌∙◌, subst, append_assoc, arith}
 use Rattle.std.proofs.lemmas.List.{append-nil}
-use Rattle.std.proofs.lemmas.Option.{slice_get_read}
-use Rattle.tso_program.proofs.Found.{code_found}
-use Rattle.tso_program.specs.declared.action.Action.{Action}
-use Rattle.tso_program.specs.declared.listing.Thread.{Thread}
-use Rattle.tso_program.specs.declared.listing.Listing.{Listing}
-use Rattle.tso_program.specs.Listings.{action, code_of, start_of}
-use Rattle.tso_machine.specs.Machine.{Machine}
-use Rattle.tso_machine.proofs.Link.{read_is}
-use Rattle.tso_program.specs.declared.action.Local.{Local}
-use Rattle.candidate_executions.specs.declared.access.Access.{Access}
+use Rattle.thread_traces.proofs.Vocabulary.{slice_get_read, code_found, Action, Thread, Listing, action, code_of, start_of, Machine, read_is, Local, Access}
 use Rattle.candidate_executions.specs.Traces.{Trace, trace, entered, with_access, stopped, trace_by, fenced_gaps}
 use Rattle.thread_traces.specs.declared.walk.TraceSoFar.{TraceSoFar}
 use Rattle.thread_traces.specs.ThreadTraces.{with_accesses, GoesOn, first_local}

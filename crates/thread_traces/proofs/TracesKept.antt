@@ -1,12 +1,7 @@
 -- A thread that is not there has no code.
 use Rattle.std.proofs.Common.{◌≡◌, ℕ, zero, suc, ◌≤◌, List, [], ◌∷◌, None, slice_get, length, ap, arith}
-use Rattle.std.specs.Option.{option_map_or}
 use Rattle.std.proofs.lemmas.Option.{slice_get_past}
-use Rattle.tso_program.specs.declared.listing.Thread.{Thread}
-use Rattle.tso_program.specs.declared.action.Local.{Local}
-use Rattle.tso_program.specs.declared.action.Action.TheVariants.{Stop}
-use Rattle.tso_program.specs.Listings.{action, code_of}
-use Rattle.tso_program.specs.Actions.{act}
+use Rattle.thread_traces.proofs.Vocabulary.{option_map_or, Thread, Local, Stop, action, code_of, act}
 
 -- nothing stands past the end
 pub past_end : {A : Type 0} (xs : List A) (i : ℕ) → slice_get xs i ≡ None → length xs ≤ i

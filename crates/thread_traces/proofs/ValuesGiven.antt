@@ -1,13 +1,8 @@
 -- What is known of traces, as they are put in their places.
 use Rattle.std.proofs.Common.{◌≡◌, ℕ, zero, suc, ◌<◌, List, [], ◌∷◌, Option, Some, None, slice_get, set, length, All, refl, sym, ap, ◌∙◌, subst, inl, inr, arith}
-use Rattle.std.specs.Prelude.{unwrap_or}
-use Rattle.std.proofs.lemmas.Bool.{cases_eq}
-use Rattle.std.proofs.lemmas.Option.{same_Some}
-use Rattle.tso_program.specs.declared.listing.Listing.{Listing}
+use Rattle.thread_traces.proofs.Vocabulary.{unwrap_or, cases_eq, same_Some, Listing, machine_of_mode, ThreadTrace}
 use Rattle.tso_machine.specs.declared.mode.Mode.{Mode}
-use Rattle.tso_machine.specs.Modes.{machine_of_mode}
 use Rattle.candidate_executions.proofs.Orders.Lists.{get_set_same, get_set_other}
-use Rattle.thread_traces.specs.declared.thread_trace.ThreadTrace.{ThreadTrace}
 use Rattle.thread_traces.specs.declared.known_traces.KnownTrace.{KnownTrace}
 use Rattle.thread_traces.specs.ThreadTraces.{IsThreadTraceOf}
 use Rattle.thread_traces.specs.KnownTraces.{AreAmong, AreFrom, AreKnown, IsAmong, IsKnownAfter}

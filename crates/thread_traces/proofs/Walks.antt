@@ -1,11 +1,8 @@
 -- Walks along edges: a walk that comes back holds a cycle.
 use Rattle.std.proofs.Common.{◌≡◌, ◌≢◌, ◌⊎◌, ℕ, zero, suc, List, [], ◌∷◌, ◌++◌, Some, slice_get, drop, Contains, sym, subst, inl, inr, arith}
-use Rattle.std.specs.List.{AllPairs, remove}
-use Rattle.std.proofs.lemmas.List.Elements.{Contains-get_or}
 use Rattle.std.proofs.lemmas.List.Quantifiers.{all_pairs_push}
 use Rattle.std.proofs.lemmas.List.Sorted.{IsPermutation-remove, Contains-permutation}
-use Rattle.std.proofs.lemmas.Option.{slice_get_within, get_or_from_slice_get}
-use Rattle.candidate_executions.specs.declared.event.Event.{Event}
+use Rattle.thread_traces.proofs.Vocabulary.{AllPairs, remove, Contains-get_or, slice_get_within, get_or_from_slice_get, Event}
 use Rattle.candidate_executions.specs.Consistency.{Leads, IsCycle}
 
 -- each event of a path leads to the next, and the last to z

@@ -1,12 +1,10 @@
 -- The values of the first locations.
 use Rattle.std.proofs.Common.{◌≡◌, ◌∙◌, ◌<◌, ◌≤◌, ◌+◌, ◌↔◌, ◌⊎◌, ℕ, List, [], ◌∷◌, ◌++◌, Contains, ap, arith, get_or, inl, inr, length, map, subst, sym}
-use Rattle.std.specs.Global.{Vec}
 use Rattle.std.specs.List.Sorted.{IsStrictlyIncreasing}
 use Rattle.std.proofs.Math.Nat.{eq-or-lt_of_le}
 use Rattle.std.proofs.Math.Seq.{get_or-append_seam}
 use Rattle.std.proofs.lemmas.List.{get_or_append_left, length-map, map_push}
-use Rattle.tso_program.specs.declared.listing.Listing.{Listing}
-use Rattle.sketches.specs.Values.{IsValueOf}
+use Rattle.trace_combinations.proofs.Vocabulary.{Vec, Listing, IsValueOf}
 use Rattle.trace_combinations.specs.TraceCounts.{Values, values_at}
 
 -- the first so many locations have their values

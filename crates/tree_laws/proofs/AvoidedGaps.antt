@@ -2,17 +2,9 @@
 use Rattle.std.proofs.Common.{◌≡◌, ℕ, Bool, true, false, List, Option, Some, None, refl}
 use Rattle.std.specs.Option.{option_map_or}
 use Rattle.std.specs.FinSet as set
-use Rattle.gap_sets.specs.Gaps.{SetOfGaps}
-use Rattle.tso_program.specs.declared.listing.Listing.{Listing}
-use Rattle.tso_program.specs.declared.outcome.Outcome.{Outcome}
-use Rattle.tso_program.specs.Shown.{Question}
-use Rattle.tso_program.specs.Listings.{gap_number}
-use Rattle.tso_program.specs.Fences.{gaps_in}
-use Rattle.tso_machine.specs.declared.label.Label.{Label}
-use Rattle.tso_machine.specs.Machine.{StoreBufferMachine, no_gaps, start, passes}
+use Rattle.tree_laws.proofs.Vocabulary.{SetOfGaps, Listing, Outcome, Question, gap_number, gaps_in, Label, StoreBufferMachine, no_gaps, start, passes, PassesGap}
 use Rattle.tso_machine.specs.Outcomes.{IsForeignRun, LeavesOutcome}
 use Rattle.tso_machine.proofs.Avoided.{run_fenced}
-use Rattle.tree_laws.specs.GapTrees.{PassesGap}
 
 module _ (p : Listing) (gaps : SetOfGaps) (labels : List Label) where
   -- the labels pass no gap of the set

@@ -1,18 +1,12 @@
 -- Where a set is not better than the answer, no set that holds it is.
 use Rattle.std.proofs.Common.{◌≡◌, ◌≢◌, ◌⊎◌, ℕ, ◌<◌, ◌≤◌, Bool, true, false, List, length, refl, sym, ◌∙◌, subst, inl, inr, arith}
-use Rattle.std.specs.Cmp.{nat_cmp_total}
 use Rattle.std.specs.FinSet as set
+use Rattle.tree_laws.proofs.Vocabulary.{nat_cmp_total, Better, MAX_GAPS, Listing, IsWithinLimits, AreGapsOf, HaveCosts}
 use Rattle.gap_sets.specs.Gaps.{SetOfGaps, have_same_gaps}
-use Rattle.gap_sets.specs.Order.{Better}
 use Rattle.gap_sets.specs.SameGaps.{have_same_gaps-same}
-use Rattle.gap_sets.specs.declared.gap_set.TheConstants.{MAX_GAPS}
 use Rattle.gap_sets.proofs.Subsets.{cheaper}
 use Rattle.gap_sets.proofs.Orders.{chained}
-use Rattle.tso_program.specs.declared.listing.Listing.{Listing}
 use Rattle.tso_program.specs.Listings.{gap_count}
-use Rattle.tso_program.specs.Limits.{IsWithinLimits}
-use Rattle.tso_machine.specs.Outcomes.{AreGapsOf}
-use Rattle.tree_laws.specs.GapTrees.{HaveCosts}
 
 -- two sets are the same or not
 same_or_not : (a b : SetOfGaps) → (a ≡ b) ⊎ (a ≢ b)

@@ -1,15 +1,10 @@
 -- The headline holds of the set of a valid certificate.
 use Rattle.std.proofs.Common.{ℕ, ◌≤◌, List, All}
 use Rattle.std.proofs.lemmas.List.Elements.{All-weaker}
-use Rattle.gap_sets.specs.Regions.{all_sets}
-use Rattle.tso_program.specs.Shown.{Question}
-use Rattle.tso_program.specs.declared.outcome.Outcome.{Outcome}
-use Rattle.tso_program.specs.Limits.{IsWithinLimits}
-use Rattle.tso_machine.specs.declared.label.Label.{Label}
+use Rattle.tree_laws.proofs.Vocabulary.{all_sets, Question, Outcome, IsWithinLimits, Label, IsRunOutside, IsValidCertificate}
 use Rattle.tso_machine.specs.Outcomes.{IsTheAnswer}
 use Rattle.fence_laws.proofs.HeadlineIsTheAnswer.{headline_is_the_answer}
 use Rattle.cert_forest.specs.Certificates.{Certificate}
-use Rattle.tree_laws.specs.Certificates.{IsRunOutside, IsValidCertificate}
 use Rattle.tree_laws.specs.Laws.{IsSequentialList, IsForeign, AValidCertificateProves}
 use Rattle.tree_laws.proofs.ListedOutcomes.{sequential_list, fenced_tree_serves}
 use Rattle.tree_laws.proofs.NoBetterLeft.{no_better_left, root_has_every_set}

@@ -1,20 +1,13 @@
 -- A valid cover tree at a sketch covers it: each completion has made the choice of one of the children, or is closed by a cycle, or ends as its leaf says.
 use Rattle.std.proofs.Common.{ℕ, List, [], ◌∷◌, Contains, map, sym, subst, inl, inr}
-use Rattle.tso_program.specs.declared.listing.Listing.{Listing}
-use Rattle.tso_program.specs.declared.outcome.Outcome.{Outcome}
-use Rattle.tso_program.specs.Shown.{Question}
-use Rattle.tso_program.specs.Limits.{JumpForward}
-use Rattle.tso_machine.specs.Machine.{Machine}
-use Rattle.candidate_executions.specs.declared.event.Event.{Event}
-use Rattle.candidate_executions.specs.declared.event.Kind.{Kind}
+use Rattle.tree_laws.proofs.Vocabulary.{Listing, Outcome, Question, JumpForward, Machine, Event, Kind, Cover, Value, Source, Order, Cycle, Known, Covers, NoCover, MoreCovers, event_of, HasNextValues}
+use Rattle.tree_laws.proofs.Vocabulary.{HasSources, HasNoOrder, MustEndAsNumber, IsValidCover, AreValidCovers, IsCovered}
 use Rattle.candidate_executions.specs.Candidates.{Candidate}
 use Rattle.candidate_executions.specs.Sketches.{Sketch, Completes, IsConsistentCompletion, IsSketch, IsPair, with_value, with_source, with_pair, IsKnownCycle}
 use Rattle.candidate_executions.proofs.Orders.Lists.{some_value}
 use Rattle.candidate_executions.proofs.Sketches.Choices.{a_value_keeps_a_sketch, a_source_keeps_a_sketch, a_pair_keeps_a_sketch, each_has_a_value, each_has_a_source, each_has_an_order}
 use Rattle.candidate_executions.proofs.Sketches.KnownCycles.{known_cycle_refutes}
 use Rattle.candidate_executions.proofs.Sketches.MustEnd.{each_ends_so}
-use Rattle.cert_forest.specs.Trees.{Cover, Value, Source, Order, Cycle, Known, Covers, NoCover, MoreCovers}
-use Rattle.tree_laws.specs.CoverTrees.{event_of, HasNextValues, HasSources, HasNoOrder, MustEndAsNumber, IsValidCover, AreValidCovers, IsCovered}
 use Rattle.tree_laws.specs.Laws.{AValidCoverCovers}
 use Rattle.tree_laws.proofs.Lists.{none_here, first_or_later, mapped, found_is_here}
 

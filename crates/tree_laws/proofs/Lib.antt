@@ -1,3 +1,5 @@
+-- what many proofs speak of
+mod Vocabulary
 pub mod Lists
 pub mod Filtered
 pub mod OneList

@@ -1,20 +1,12 @@
 -- Where the empty sketch is covered the list has every outcome of the machine.
 use Rattle.std.proofs.Common.{List, [], ◌∷◌, Contains, sym, ap, ◌∙◌, subst, inl, inr, ◌≡◌}
-use Rattle.tso_program.specs.declared.outcome.Outcome.{Outcome}
+use Rattle.tree_laws.proofs.Vocabulary.{Outcome, gaps_in, JumpForward, Label, Machine, SequentialMachine, StoreBufferMachine, empty_sketch, Cover, IsValidCover, IsCovered, AreSequentialRuns}
 use Rattle.tso_program.specs.Shown.{Question, show}
-use Rattle.tso_program.specs.Fences.{gaps_in}
-use Rattle.tso_program.specs.Limits.{JumpForward}
-use Rattle.tso_machine.specs.declared.label.Label.{Label}
-use Rattle.tso_machine.specs.Machine.{Machine, SequentialMachine, StoreBufferMachine}
 use Rattle.tso_machine.specs.Outcomes.{IsShownRun, IsSequentialOutcome}
-use Rattle.candidate_executions.specs.Sketches.{empty_sketch}
 use Rattle.candidate_executions.proofs.Sketches.Choices.{empty_is_a_sketch}
 use Rattle.candidate_executions.proofs.FromRuns.RunsAreCandidates.{every_run_is_a_completion}
 use Rattle.candidate_executions.proofs.Candidates.LastWrites.{outcomes_are_one}
 use Rattle.fence_laws.proofs.SequentialIsBuffered.{sequential_is_allowed}
-use Rattle.cert_forest.specs.Trees.{Cover}
-use Rattle.tree_laws.specs.CoverTrees.{IsValidCover, IsCovered}
-use Rattle.tree_laws.specs.Certificates.{AreSequentialRuns}
 use Rattle.tree_laws.specs.Laws.{ACoveredListHasEachOutcome, AValidTreeMakesTheSequentialList, AValidFencedTreeServes}
 use Rattle.tree_laws.proofs.Lists.{none_here, first_or_later}
 use Rattle.tree_laws.proofs.CoveredSketches.{valid_covers}

@@ -1,13 +1,7 @@
 -- A valid gap tree over foreign runs leaves no better serving set in its region.
 use Rattle.std.proofs.Common.{◌≡◌, ℕ, true, false, List, [], ◌∷◌, Contains, All, sym, ◌∙◌, subst, inl, inr}
 use Rattle.std.specs.FinSet as set
-use Rattle.gap_sets.specs.Gaps.{SetOfGaps}
-use Rattle.gap_sets.specs.Regions.{IsInRegion, child_regions, HasNoneOf}
-use Rattle.gap_sets.specs.declared.region.Region.{Region}
-use Rattle.tso_program.specs.declared.listing.Listing.{Listing}
-use Rattle.tso_program.specs.Shown.{Question}
-use Rattle.tso_program.specs.Limits.{IsWithinLimits}
-use Rattle.tso_machine.specs.declared.label.Label.{Label}
+use Rattle.tree_laws.proofs.Vocabulary.{SetOfGaps, IsInRegion, child_regions, HasNoneOf, Region, Listing, Question, IsWithinLimits, Label}
 use Rattle.cert_forest.specs.Trees.{Gap, Split, Bound, GapTrees, NoGap, MoreGaps}
 use Rattle.tree_laws.specs.GapTrees.{IsSplitBy, IsValidGap, AreValidGaps, EachBetterOfRegionLeavesOutcome, HaveCosts}
 use Rattle.tree_laws.specs.Laws.{IsForeign, AValidGapTreeLeavesNoBetter, SoNoServingSetIsBetter, TheRootHasEverySet}

@@ -1,12 +1,7 @@
 -- What a node's children are for is determined: two lists in order with the same elements are the same.
 use Rattle.std.proofs.Common.{◌≡◌, ℕ, suc, ◌<◌, List, [], ◌∷◌, Contains, refl, sym, ◌∙◌, subst, inl, inr, arith}
-use Rattle.std.specs.List.{AllPairs}
 use Rattle.std.proofs.lemmas.List.Kept.{AllPairs-from_increasing}
-use Rattle.std.proofs.lemmas.Option.{same_Some}
-use Rattle.candidate_executions.specs.declared.event.Event.{Event}
-use Rattle.candidate_executions.specs.declared.event.Event.TheVariants.{Initial, Access as At}
-use Rattle.candidate_executions.specs.Values.{IsValueOf}
-use Rattle.candidate_executions.specs.Events.{ComesBefore}
+use Rattle.tree_laws.proofs.Vocabulary.{AllPairs, same_Some, Event, Initial, At, IsValueOf, ComesBefore}
 use Rattle.tree_laws.specs.GapTrees.{IsOpenGap}
 use Rattle.tree_laws.specs.Laws.{TheValuesAreOneList, TheSourcesAreOneList, TheGapsAreOneList}
 use Rattle.tree_laws.proofs.Lists.{none_here, first_or_later, first_is_here, later_is_here}

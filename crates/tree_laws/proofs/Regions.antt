@@ -1,12 +1,7 @@
 -- The children of a region: a set of the region is in the child for the first of the gaps that it has.
 use Rattle.std.proofs.Common.{◌≡◌, ◌⊎◌, ◌||◌, ℕ, Bool, true, false, List, [], ◌∷◌, refl, sym, ◌∙◌, subst, inl, inr, arith}
-use Rattle.std.specs.Ordering.{nat_cmp, eq_by_cmp}
-use Rattle.std.specs.Cmp.{nat_cmp_total}
 use Rattle.std.specs.FinSet as set
-use Rattle.std.proofs.lemmas.Bool.Decides.{nat_tests}
-use Rattle.gap_sets.specs.Gaps.{SetOfGaps}
-use Rattle.gap_sets.specs.Regions.{all_sets, with_gap, without_gap, IsInRegion, child_regions, HasNoneOf}
-use Rattle.gap_sets.specs.declared.region.Region.{Region}
+use Rattle.tree_laws.proofs.Vocabulary.{nat_cmp, eq_by_cmp, nat_cmp_total, nat_tests, SetOfGaps, all_sets, with_gap, without_gap, IsInRegion, child_regions, HasNoneOf, Region}
 use Rattle.tree_laws.specs.Laws.{ASplitLosesNoSet}
 use Rattle.tree_laws.proofs.Lists.{none_here, first_or_later, first_is_here, later_is_here}
 

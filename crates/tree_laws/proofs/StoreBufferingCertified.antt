@@ -1,15 +1,10 @@
 -- Store buffering: its certificate is valid, so both gaps are the answer.
 use Rattle.std.proofs.Common.{◌≤◌, [], ◌∷◌, All, refl, sym, inl, inr, arith}
-use Rattle.std.proofs.lemmas.List.Elements.{All-nil, All-cons}
 use Rattle.std.specs.FinSet as set
+use Rattle.tree_laws.proofs.Vocabulary.{All-nil, All-cons, IsWithinLimits, SequentialMachine, AreGapsOf, store_buffering, IsValidCertificate}
 use Rattle.gap_sets.proofs.Examples.{total-these}
-use Rattle.tso_program.specs.Limits.{IsWithinLimits}
 use Rattle.tso_program.proofs.WithinLimits.{limits_are_the_refusals}
-use Rattle.tso_machine.specs.Machine.{SequentialMachine}
-use Rattle.tso_machine.specs.Outcomes.{AreGapsOf}
-use Rattle.tso_machine.specs.Examples.{store_buffering}
 use Rattle.candidate_executions.specs.declared.event.Kind.TheVariants as union
-use Rattle.tree_laws.specs.Certificates.{IsValidCertificate}
 use Rattle.cert_forest.specs.StoreBuffering.{certificate}
 use Rattle.tree_laws.specs.StoreBuffering.{costs, StoreBufferingIsCertified}
 use Rattle.tree_laws.proofs.Regions.{new_or_old}

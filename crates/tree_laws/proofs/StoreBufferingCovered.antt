@@ -1,21 +1,9 @@
 -- Store buffering: its cover tree is valid in each mode, given the cycle of the mode.
 use Rattle.std.proofs.Common.{◌≢◌, is_some, ◌≡◌, ℕ, zero, suc, ◌<◌, List, [], ◌∷◌, Some, Contains, slice_get, slice_index, map, refl, sym, ap, ◌∙◌, subst, inl, inr, arith, lit<}
-use Rattle.std.specs.List.{AllPairs}
-use Rattle.std.specs.List.Sorted.{IsStrictlyIncreasing}
-use Rattle.std.proofs.lemmas.Option.{same_Some}
-use Rattle.tso_program.specs.declared.outcome.Outcome.{Outcome}
-use Rattle.tso_program.specs.declared.shown.Shown.TheVariants.{All}
+use Rattle.tree_laws.proofs.Vocabulary.{AllPairs, IsStrictlyIncreasing, same_Some, Outcome, All, Machine, Access, Event, Initial, At, Kind, access_by, Writes, Sketch, empty_sketch, given_to}
+use Rattle.tree_laws.proofs.Vocabulary.{IsKnownCycle, with_value, with_source, IsSourceOf, MayBeLast, MustEndAs, ComesBefore, event_of, MustEndAsNumber, HasNextValues, HasSources, IsValidCover}
 use Rattle.tso_program.specs.Shown.{Question, asked}
-use Rattle.tso_machine.specs.Machine.{Machine}
 use Rattle.tso_machine.specs.Examples.{store_buffering, ends_with}
-use Rattle.candidate_executions.specs.declared.access.Access.{Access}
-use Rattle.candidate_executions.specs.declared.event.Event.{Event}
-use Rattle.candidate_executions.specs.declared.event.Event.TheVariants.{Initial, Access as At}
-use Rattle.candidate_executions.specs.declared.event.Kind.{Kind}
-use Rattle.candidate_executions.specs.Candidates.{access_by, Writes}
-use Rattle.candidate_executions.specs.Sketches.{Sketch, empty_sketch, given_to, IsKnownCycle, with_value, with_source, IsSourceOf, MayBeLast, MustEndAs}
-use Rattle.candidate_executions.specs.Events.{ComesBefore}
-use Rattle.tree_laws.specs.CoverTrees.{event_of, MustEndAsNumber, HasNextValues, HasSources, IsValidCover}
 use Rattle.cert_forest.specs.StoreBuffering.{around, cover_of}
 use Rattle.tree_laws.proofs.Lists.{none_here, first_or_later, first_is_here}
 use Rattle.tree_laws.proofs.StoreBufferingValues.{zero_one, values, both, whole, writes_one, writes_initial}

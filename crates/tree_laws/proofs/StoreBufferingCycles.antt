@@ -1,16 +1,8 @@
 -- Store buffering: where both loads give 0 the accesses are a cycle, sequentially and with both gaps fenced.
 use Rattle.std.proofs.Common.{◌≡◌, ◌≢◌, ℕ, Bool, true, false, [], ◌∷◌, map, refl, inl, inr, arith, lit<}
 use Rattle.std.specs.FinSet as set
-use Rattle.gap_sets.specs.Laws.{these}
-use Rattle.tso_program.specs.Fences.{gaps_in}
-use Rattle.tso_machine.specs.Machine.{Machine, SequentialMachine, StoreBufferMachine}
-use Rattle.tso_machine.specs.Examples.{store_buffering}
-use Rattle.candidate_executions.specs.declared.event.Event.TheVariants.{Initial}
+use Rattle.tree_laws.proofs.Vocabulary.{these, gaps_in, Machine, SequentialMachine, StoreBufferMachine, store_buffering, Initial, entered, IsKnownCycle, event_of, around}
 use Rattle.candidate_executions.specs.declared.event.Kind.TheVariants as union
-use Rattle.candidate_executions.specs.Traces.{entered}
-use Rattle.candidate_executions.specs.Sketches.{IsKnownCycle}
-use Rattle.tree_laws.specs.CoverTrees.{event_of}
-use Rattle.cert_forest.specs.StoreBuffering.{around}
 use Rattle.tree_laws.proofs.StoreBufferingCovered.{read_twice}
 
 -- the gaps 0:1 and 1:1

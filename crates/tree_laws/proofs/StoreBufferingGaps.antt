@@ -1,20 +1,10 @@
 -- Store buffering: its gap tree is valid.
 use Rattle.std.proofs.Common.{◌≡◌, ◌||◌, ℕ, zero, suc, ◌<◌, Bool, true, false, [], ◌∷◌, Contains, refl, sym, ap, ◌∙◌, subst, inl, inr, arith, lit<}
-use Rattle.std.specs.List.Sorted.{IsStrictlyIncreasing}
-use Rattle.std.specs.Ordering.{nat_cmp, eq_by_cmp}
-use Rattle.std.specs.Cmp.{nat_cmp_total}
 use Rattle.std.specs.FinSet as set
-use Rattle.std.proofs.lemmas.Bool.Decides.{nat_tests}
-use Rattle.gap_sets.specs.Gaps.{SetOfGaps}
-use Rattle.gap_sets.specs.Order.{Better}
-use Rattle.gap_sets.specs.Regions.{all_sets, with_gap, without_gap}
-use Rattle.gap_sets.specs.declared.region.Region.{Region}
-use Rattle.gap_sets.specs.Laws.{these}
+use Rattle.tree_laws.proofs.Vocabulary.{IsStrictlyIncreasing, nat_cmp, eq_by_cmp, nat_cmp_total, nat_tests, SetOfGaps, Better, all_sets, with_gap, without_gap, Region, these, store_buffering}
+use Rattle.tree_laws.proofs.Vocabulary.{waiting_stores, PassesGap, IsSplitBy, IsValidGap, costs}
 use Rattle.gap_sets.proofs.Orders.{not_itself}
-use Rattle.tso_machine.specs.Examples.{store_buffering, waiting_stores}
-use Rattle.tree_laws.specs.GapTrees.{PassesGap, IsSplitBy, IsValidGap}
 use Rattle.cert_forest.specs.StoreBuffering.{second_waits, first_waits, gap_tree}
-use Rattle.tree_laws.specs.StoreBuffering.{costs}
 use Rattle.tree_laws.proofs.Lists.{none_here, first_or_later, first_is_here}
 use Rattle.tree_laws.proofs.Regions.{new_or_old}
 use Rattle.tree_laws.proofs.StoreBufferingValues.{zero_one, in_zero_one, of_zero_one}

@@ -1,18 +1,11 @@
 -- Store buffering: the runs of its certificate, and what they pass.
 use Rattle.std.proofs.Common.{◌≡◌, ℕ, zero, suc, ◌<◌, ◌≤◌, true, false, List, [], ◌∷◌, Some, Contains, All, length, slice_index, slice_index_or, ◌+◌, refl, sym, ap, ◌∙◌, inl, inr, arith, lit<}
-use Rattle.std.proofs.lemmas.List.Elements.{All-nil, All-cons}
-use Rattle.tso_program.specs.declared.action.Action.TheVariants.{Stop}
-use Rattle.tso_program.specs.declared.outcome.Outcome.{Outcome}
-use Rattle.tso_program.specs.Listings.{action, gap_number}
+use Rattle.tree_laws.proofs.Vocabulary.{All-nil, All-cons, Stop, Outcome, action, gap_number, Label, store_buffering, waiting_stores, PassesGap, AreSequentialRuns, IsRunOutside}
 use Rattle.tso_program.proofs.Gaps.{gap_below, gap_same}
-use Rattle.tso_machine.specs.declared.label.Label.{Label}
 use Rattle.tso_machine.specs.declared.label.Pending.{Pending}
 use Rattle.tso_machine.specs.Machine.{SequentialMachine, StoreBufferMachine, no_gaps, State, start, run, HasEnded, passes}
-use Rattle.tso_machine.specs.Examples.{store_buffering, waiting_stores}
 use Rattle.tso_machine.proofs.Runs.{no_action, no_stores}
 use Rattle.tso_machine.proofs.Refused.{run_keeps}
-use Rattle.tree_laws.specs.GapTrees.{PassesGap}
-use Rattle.tree_laws.specs.Certificates.{AreSequentialRuns, IsRunOutside}
 use Rattle.cert_forest.specs.StoreBuffering.{first_first, second_first, stores_first, sequential_runs, second_waits, first_waits}
 use Rattle.tree_laws.proofs.Lists.{none_here, first_or_later}
 use Rattle.tree_laws.proofs.StoreBufferingCovered.{question, end_of, outcomes}

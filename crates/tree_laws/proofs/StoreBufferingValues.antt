@@ -1,18 +1,12 @@
 -- Store buffering: its instructions, the values of its locations, and its accesses under given values.
 use Rattle.std.proofs.Common.{◌≡◌, ◌↔◌, ◌⊎◌, ℕ, zero, suc, ◌<◌, List, [], ◌∷◌, Some, None, Contains, slice_index, refl, sym, ap, ◌∙◌, subst, inl, inr, arith}
-use Rattle.std.proofs.lemmas.Option.{same_Some}
+use Rattle.tree_laws.proofs.Vocabulary.{same_Some, Machine, store_buffering, Access, Initial, At, access_by, Writes, Sketch, empty_sketch, given_to, with_value, IsWhole}
 use Rattle.tso_program.specs.declared.instruction.Reg.{Reg}
 use Rattle.tso_program.specs.declared.instruction.Reg.TheVariants.{Eax}
 use Rattle.tso_program.specs.declared.instruction.Instr.{Instr}
 use Rattle.tso_program.specs.declared.instruction.Instr.TheVariants.{Load, StoreImm, Store, Xchg}
 use Rattle.tso_program.specs.Listings.{instr_at}
-use Rattle.tso_machine.specs.Machine.{Machine}
-use Rattle.tso_machine.specs.Examples.{store_buffering}
-use Rattle.candidate_executions.specs.declared.access.Access.{Access}
-use Rattle.candidate_executions.specs.declared.event.Event.TheVariants.{Initial, Access as At}
 use Rattle.candidate_executions.specs.Values.{Occurs, IsValueOf}
-use Rattle.candidate_executions.specs.Candidates.{access_by, Writes}
-use Rattle.candidate_executions.specs.Sketches.{Sketch, empty_sketch, given_to, with_value, IsWhole}
 use Rattle.tree_laws.proofs.Lists.{none_here, first_or_later, first_is_here, later_is_here}
 
 -- one of the four instructions

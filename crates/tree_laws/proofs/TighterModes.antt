@@ -1,10 +1,8 @@
 -- A cover tree that is valid in a mode is valid in each tighter one: of what is known of a sketch only sections change, and of two modes with gaps fenced they come no closer.
 use Rattle.std.proofs.Common.{◌≡◌, ◌⊎◌, ℕ, Bool, List, [], ◌∷◌, Some, IsSome, map, length, refl, sym, ap, ◌∙◌, subst, inl, inr}
+use Rattle.tree_laws.proofs.Vocabulary.{range_with_len, Local, Listing, Outcome, Machine, SequentialMachine, StoreBufferMachine, no_gaps, Access, Event, Initial, At, Kind, access_by, Writes, Cover}
+use Rattle.tree_laws.proofs.Vocabulary.{Value, Source, Order, Cycle, Known, Covers, NoCover, MoreCovers, event_of, HasNextValues, HasSources, HasNoOrder, MustEndAsNumber, IsValidCover, AreValidCovers}
 use mathlib.Core.Path.{fun_ext}
-use Rattle.std.specs.List.{range_with_len}
-use Rattle.tso_program.specs.declared.action.Local.{Local}
-use Rattle.tso_program.specs.declared.listing.Listing.{Listing}
-use Rattle.tso_program.specs.declared.outcome.Outcome.{Outcome}
 use Rattle.tso_program.specs.declared.shown.Shown.{Shown}
 use Rattle.tso_program.specs.declared.shown.Shown.TheVariants.{All, Only, Truth}
 use Rattle.tso_program.specs.declared.atom.Atom.{Atom}
@@ -14,19 +12,11 @@ use Rattle.tso_program.proofs.KnownTruths.{known_more}
 use Rattle.tso_program.specs.Shown.{Question, show_registers}
 use Rattle.tso_program.specs.Listings.{action, start_of, code_of}
 use Rattle.tso_program.specs.Fences.{Gaps}
-use Rattle.tso_machine.specs.Machine.{Machine, SequentialMachine, StoreBufferMachine, no_gaps}
-use Rattle.candidate_executions.specs.declared.access.Access.{Access}
-use Rattle.candidate_executions.specs.declared.event.Event.{Event}
-use Rattle.candidate_executions.specs.declared.event.Event.TheVariants.{Initial, Access as At}
-use Rattle.candidate_executions.specs.declared.event.Kind.{Kind}
 use Rattle.candidate_executions.specs.declared.event.Kind.TheVariants as union
 use Rattle.candidate_executions.specs.Traces.{fenced_gaps, trace_by}
-use Rattle.candidate_executions.specs.Candidates.{access_by, Writes}
 use Rattle.candidate_executions.specs.Consistency.{Precedes, KeepsOrder, IsOfMode}
 use Rattle.candidate_executions.specs.Sketches.{Sketch, given_to, IsSourceOf, IsPair, with_value, with_source, with_pair, read_by, next_read, IsWhole, MayBeLast, stopped, EndsInValues, KnownAtom, EndsAs, MustEndAs, IsBefore, KnownFromReads, KnownRelates, KnownEdgeOfMode, IsKnownCycle}
 use Rattle.candidate_executions.proofs.Orders.WiderRelations.{cycle_wider}
-use Rattle.cert_forest.specs.Trees.{Cover, Value, Source, Order, Cycle, Known, Covers, NoCover, MoreCovers}
-use Rattle.tree_laws.specs.CoverTrees.{event_of, HasNextValues, HasSources, HasNoOrder, MustEndAsNumber, IsValidCover, AreValidCovers}
 use Rattle.tree_laws.specs.TighterModes.{AreGapsAmong, IsNoLooser, in_sequence, each_in_sequence, in_mode}
 use Rattle.tree_laws.specs.Laws.{ATighterModeKeepsACover, ATighterModeKeepsTheValues, ATighterModeKeepsAWholeSketch}
 use Rattle.tree_laws.proofs.WiderTraces.{bare, IsWiderTrace, also, also_back, still_apart, wider_trace}

@@ -1,11 +1,9 @@
 -- With more gaps fenced a trace is the same but for its sections, and no two of them come closer.
 use Rattle.std.proofs.Common.{◌≡◌, ◌≢◌, ℕ, zero, suc, ◌+◌, ◌<◌, ◌≤◌, Bool, true, false, List, [], ◌∷◌, Some, slice_get, refl, sym, ◌∙◌, subst, arith}
-use Rattle.std.proofs.lemmas.Option.{same_Some}
-use Rattle.tso_program.specs.declared.action.Local.{Local}
+use Rattle.tree_laws.proofs.Vocabulary.{same_Some, Local, Access}
 use Rattle.tso_program.specs.declared.action.Action.{Action}
 use Rattle.tso_program.specs.declared.action.Action.TheVariants.{Stop, Go, Wait, Read, Write, Swap}
 use Rattle.tso_program.specs.Actions.{loaded}
-use Rattle.candidate_executions.specs.declared.access.Access.{Access}
 use Rattle.candidate_executions.specs.Traces.{Trace, stopped, load_of, store_of, exchange_of, with_access, entered, traced, trace}
 
 -- the access without its section

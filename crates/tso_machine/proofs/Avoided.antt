@@ -1,14 +1,9 @@
 -- A run with no gap fenced is a run with others fenced exactly where it passes none of them.
 use Rattle.std.proofs.Common.{◌≡◌, ℕ, Bool, true, false, ◌&&◌, ◌==◌, not, List, [], ◌∷◌, Option, Some, None, option_and_then, refl, sym, ap, ◌∙◌, subst, eq-eqb, arith}
 use Rattle.std.proofs.lemmas.Bool.{or_parts, or_from}
-use Rattle.std.proofs.lemmas.Bool.Decides.{nat_tests}
-use Rattle.tso_machine.specs.declared.label.Label.{Label}
-use Rattle.tso_machine.specs.declared.label.Label.TheVariants.{Exec, Flush}
-use Rattle.tso_machine.specs.declared.label.Pending.{Pending}
-use Rattle.tso_program.specs.declared.listing.Listing.{Listing}
-use Rattle.tso_program.specs.Listings.{action}
+use Rattle.tso_machine.proofs.Vocabulary.{nat_tests, Label, Exec, Flush, Pending, Listing, action, no_gaps, StoreBufferMachine, State, past_gap, buffered, step, run, is_empty, from_some, passes_at}
+use Rattle.tso_machine.proofs.Vocabulary.{passes}
 use Rattle.tso_program.specs.Fences.{Gaps}
-use Rattle.tso_machine.specs.Machine.{no_gaps, StoreBufferMachine, State, past_gap, buffered, step, run, is_empty, from_some, passes_at, passes}
 
 module _ (p : Listing) (gaps : Gaps) where
   -- no gap of the set is passed

@@ -2,23 +2,11 @@
 use Rattle.std.proofs.Common.{◌≡◌, ◌≢◌, ℕ, ◌<◌, Bool, true, false, ◌&&◌, ◌||◌, not, List, [], ◌∷◌, ◌++◌, Option, Some, None, option_and_then, Result, Ok, Err, length, length-set, refl, sym, ap, ◌∙◌, subst, inl, inr, ◌⊎◌}
 use Rattle.std.specs.Prelude.{slice_index, slice_set, OnOk, if◌then◌else◌}
 use Rattle.std.specs.FinSet as set
-use Rattle.std.specs.Ordering.{nat_cmp}
-use Rattle.tso_machine.specs.declared.label.Label.TheVariants.{Exec}
-use Rattle.tso_machine.specs.declared.label.Pending.{Pending}
-use Rattle.tso_machine.specs.declared.label.Model.{Model}
+use Rattle.tso_machine.proofs.Vocabulary.{nat_cmp, Exec, Pending, Model, NoSuchThread, AtEnd, BufferEmpty, FenceWaits, StepFault, Refused, OutOfMemory, Listing, Action, Stop, Go, Wait, Read, Write}
+use Rattle.tso_machine.proofs.Vocabulary.{Swap, action, machine_of_model, gaps_in, waits, StepFaultIs}
 use Rattle.tso_machine.specs.declared.label.Model.TheVariants as models
-use Rattle.tso_machine.specs.declared.label.Cause.TheVariants.{NoSuchThread, AtEnd, BufferEmpty, FenceWaits}
-use Rattle.tso_machine.specs.declared.label.StepFault.{StepFault}
-use Rattle.tso_machine.specs.declared.label.StepFault.TheVariants.{Refused, OutOfMemory}
-use Rattle.tso_program.specs.declared.listing.Listing.{Listing}
-use Rattle.tso_program.specs.declared.action.Action.{Action}
-use Rattle.tso_program.specs.declared.action.Action.TheVariants.{Stop, Go, Wait, Read, Write, Swap}
 use Rattle.tso_program.specs.Actions.{loaded, IsLocated}
-use Rattle.tso_program.specs.Listings.{action}
 use Rattle.tso_machine.specs.Machine.{put, State, newest, found, is_empty, when_empty, past_gap, buffered, direct, step}
-use Rattle.tso_machine.specs.Modes.{machine_of_model}
-use Rattle.tso_program.specs.Fences.{gaps_in}
-use Rattle.tso_machine.specs.Faults.{waits, StepFaultIs}
 use Rattle.tso_machine.specs.Internal.Cores.{Core, Cores, core_at, state_of, AreLocated, FitsProgram, after_buffered, after_direct, after_action, ExecFaultIs}
 use Rattle.tso_machine.proofs.Link.{state_set, state_moved, memory_set, located_front, fits_set}
 

@@ -1,11 +1,6 @@
 -- The runs of the examples, computed.
 use Rattle.std.proofs.Common.{◌≡◌, ℕ, zero, suc, ◌≤◌, List, [], length, Some, refl, ap, arith}
-use Rattle.tso_program.specs.declared.action.Action.TheVariants.{Stop}
-use Rattle.tso_program.specs.declared.listing.Listing.{Listing}
-use Rattle.tso_program.specs.Listings.{action}
-use Rattle.tso_machine.specs.declared.label.Label.{Label}
-use Rattle.tso_machine.specs.declared.label.Pending.{Pending}
-use Rattle.tso_machine.specs.Machine.{SequentialMachine, StoreBufferMachine, no_gaps, State, start, run, HasEnded}
+use Rattle.tso_machine.proofs.Vocabulary.{Stop, Listing, action, Label, Pending, SequentialMachine, StoreBufferMachine, no_gaps, State, start, run, HasEnded}
 use Rattle.tso_machine.specs.Examples.{StoreBufferingIsTold, store_buffering, waiting_stores, in_turn, RIsTold, r, r_run, N6IsTold, n6, n6_run, LockedExchangeIsTold, locked_exchange, locked_run}
 use Rattle.tso_machine.proofs.Runs.{no_action, no_stores}
 use Rattle.tso_machine.proofs.Refused.{run_keeps}

@@ -1,3 +1,5 @@
+-- what many proofs speak of
+mod Vocabulary
 pub mod Link
 pub mod Effects
 pub mod Runs

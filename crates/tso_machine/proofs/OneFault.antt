@@ -1,33 +1,14 @@
 -- Two faults that both fit a replay are the same.
 use Rattle.std.proofs.Common.{◌≡◌, ◌≢◌, ℕ, zero, suc, ◌+◌, ◌-◌, ◌<◌, ◌≤◌, take, length, get_or, Bool, true, false, ◌&&◌, List, [], ◌∷◌, Option, Some, None, option_and_then, refl, ap, sym, ◌∙◌, subst, inl, inr, arith}
 use Rattle.std.specs.Prelude.{slice_get, nat_lt, nat_le, if◌then◌else◌}
-use Rattle.std.specs.Option.{option_map_or}
 use Rattle.std.specs.FinSet as set
-use Rattle.std.proofs.lemmas.Bool.{cases_lt}
-use Rattle.std.proofs.lemmas.Bool.Decides.{nat_tests}
-use Rattle.std.proofs.lemmas.Option.{slice_get-get_or}
-use Rattle.gap_sets.specs.Gaps.{SetOfGaps}
+use Rattle.tso_machine.proofs.Vocabulary.{option_map_or, cases_lt, nat_tests, slice_get-get_or, SetOfGaps, Thread, Listing, Local, Stop, act, gaps_in, Label, Exec, Flush, Pending, Model, Cause}
+use Rattle.tso_machine.proofs.Vocabulary.{NoSuchThread, AtEnd, BufferEmpty, FenceWaits, Refused, ReplayFault, Machine, State, start, step, run, machine_of_model}
 use Rattle.tso_program.specs.declared.instruction.Instr.{Instr}
 use Rattle.tso_program.specs.declared.instruction.Instr.TheVariants.{LoadImm, Copy, Load, StoreImm, Store, Xchg, Fence, CmpImm, CmpReg, Je, Jne, Jmp}
-use Rattle.tso_program.specs.declared.listing.Thread.{Thread}
-use Rattle.tso_program.specs.declared.listing.Listing.{Listing}
-use Rattle.tso_program.specs.declared.action.Local.{Local}
-use Rattle.tso_program.specs.declared.action.Action.TheVariants.{Stop}
-use Rattle.tso_program.specs.Actions.{act}
 use Rattle.tso_program.specs.Listings.{code_of, action, gap_count, gap_number}
-use Rattle.tso_program.specs.Fences.{gaps_in}
-use Rattle.tso_machine.specs.declared.label.Label.{Label}
-use Rattle.tso_machine.specs.declared.label.Label.TheVariants.{Exec, Flush}
-use Rattle.tso_machine.specs.declared.label.Pending.{Pending}
-use Rattle.tso_machine.specs.declared.label.Model.{Model}
 use Rattle.tso_machine.specs.declared.label.Model.TheVariants as models
-use Rattle.tso_machine.specs.declared.label.Cause.{Cause}
-use Rattle.tso_machine.specs.declared.label.Cause.TheVariants.{NoSuchThread, AtEnd, BufferEmpty, FenceWaits}
-use Rattle.tso_machine.specs.declared.label.StepFault.TheVariants.{Refused}
-use Rattle.tso_machine.specs.declared.replaying.ReplayFault.{ReplayFault}
 use Rattle.tso_machine.specs.declared.replaying.ReplayFault.TheVariants as fault
-use Rattle.tso_machine.specs.Machine.{Machine, State, start, step, run}
-use Rattle.tso_machine.specs.Modes.{machine_of_model}
 use Rattle.tso_machine.specs.Faults.{waits, IsFenced, Applies, Stops, EndsEarly, ReplayFaultIs, fault_of}
 use Rattle.tso_machine.proofs.Runs.{no_stores}
 use Rattle.tso_machine.proofs.Refused.{run_keeps, applies_none, stops_none}

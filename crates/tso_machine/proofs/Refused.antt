@@ -1,21 +1,9 @@
 -- No fault but out of memory fits a run, and labels have one outcome.
 use Rattle.std.proofs.Common.{◌≡◌, ◌≢◌, ◌⊎◌, ℕ, zero, suc, ◌≤◌, take, length, Bool, true, false, List, [], ◌∷◌, ◌++◌, Option, Some, None, option_and_then, refl, ap, sym, ◌∙◌, subst, inl, inr}
-use Rattle.std.specs.Prelude.{slice_get}
-use Rattle.std.proofs.lemmas.Bool.{cases_eq}
-use Rattle.tso_program.specs.declared.outcome.Outcome.{Outcome}
-use Rattle.tso_machine.specs.declared.label.Label.{Label}
-use Rattle.tso_machine.specs.declared.label.Label.TheVariants.{Exec, Flush}
-use Rattle.tso_machine.specs.declared.label.Pending.{Pending}
-use Rattle.tso_machine.specs.declared.label.Cause.{Cause}
-use Rattle.tso_machine.specs.declared.label.Cause.TheVariants.{NoSuchThread, AtEnd, BufferEmpty, FenceWaits}
-use Rattle.tso_machine.specs.declared.replaying.ReplayFault.{ReplayFault}
+use Rattle.tso_machine.proofs.Vocabulary.{slice_get, cases_eq, Outcome, Label, Exec, Flush, Pending, Cause, NoSuchThread, AtEnd, BufferEmpty, FenceWaits, ReplayFault, Listing, Action, Stop, Go, Wait}
+use Rattle.tso_machine.proofs.Vocabulary.{Read, Write, Swap, action, waits, Applies, Stops, EndsEarly, ReplayFaultIs}
 use Rattle.tso_machine.specs.declared.replaying.ReplayFault.TheVariants as fault
-use Rattle.tso_program.specs.declared.listing.Listing.{Listing}
-use Rattle.tso_program.specs.declared.action.Action.{Action}
-use Rattle.tso_program.specs.declared.action.Action.TheVariants.{Stop, Go, Wait, Read, Write, Swap}
-use Rattle.tso_program.specs.Listings.{action}
 use Rattle.tso_machine.specs.Machine.{put, Machine, SequentialMachine, StoreBufferMachine, State, start, step, run, buffered, direct, flushed, past_gap, when_empty, HasEnded, outcome_at, IsRun}
-use Rattle.tso_machine.specs.Faults.{waits, Applies, Stops, EndsEarly, ReplayFaultIs}
 use Rattle.tso_machine.proofs.Link.{put_other}
 use Rattle.tso_machine.proofs.Runs.{no_stores, no_action}
 

@@ -5,10 +5,8 @@ use Rattle.std.proofs.lemmas.List.{map_more, map_push}
 use Rattle.std.proofs.lemmas.List.Elements.{filter-append}
 use Rattle.std.proofs.lemmas.Bool.{lt-ltb, eqb-true, cases_Bool}
 use Rattle.std.specs.Borrow.{Bor}
-use Rattle.std.specs.List.{AllByRecursion}
 use Rattle.std.proofs.lemmas.Fmt.{decimal_injective}
-use Rattle.tso_machine.specs.declared.label.Label.{Label}
-use Rattle.tso_machine.specs.declared.label.Label.TheVariants.{Exec, Flush}
+use Rattle.tso_machine.proofs.Vocabulary.{AllByRecursion, Label, Exec, Flush}
 use Rattle.tso_machine.specs.RunTexts.{label_at}
 use Rattle.text_tokens.specs.Numbers.{plain_number_at}
 use Rattle.text_tokens.proofs.NumberLaws.{plain_number_takes, plain_number_again}

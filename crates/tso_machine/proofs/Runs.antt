@@ -1,34 +1,16 @@
 -- How a run goes on by one step, and what it passes.
 use Rattle.std.proofs.Common.{◌≡◌, ℕ, ◌+◌, ◌<◌, ◌≤◌, take, length, get_or, Bool, true, false, ◌||◌, ◌&&◌, ◌==◌, not, List, [], ◌∷◌, ◌++◌, Option, Some, None, option_and_then, refl, ap, sym, ◌∙◌, subst, inl, inr, ◌⊎◌, arith, eq-eqb}
 use Rattle.std.specs.Prelude.{slice_get, MatchOption, is_some, if◌then◌else◌}
-use Rattle.std.specs.Option.{option_map_or}
 use Rattle.std.specs.Ordering.{nat_cmp, eq_by_cmp}
 use Rattle.std.specs.Cmp.{nat_cmp_total}
 use Rattle.std.specs.FinSet as set
-use Rattle.std.proofs.lemmas.Bool.Decides.{nat_tests}
-use Rattle.std.proofs.lemmas.Bool.{cases_lt, or_from}
 use Rattle.std.proofs.lemmas.List.{take_more, get_or_past}
 use Rattle.std.proofs.lemmas.Option.{slice_get-get_or, slice_get_past}
-use Rattle.tso_program.specs.Listings.{gap_number}
-use Rattle.tso_machine.specs.declared.label.Label.{Label}
-use Rattle.tso_machine.specs.declared.label.Label.TheVariants.{Exec, Flush}
-use Rattle.tso_machine.specs.declared.label.Model.{Model}
+use Rattle.tso_machine.proofs.Vocabulary.{option_map_or, nat_tests, cases_lt, or_from, gap_number, Label, Exec, Flush, Model, Pending, Cause, NoSuchThread, AtEnd, BufferEmpty, FenceWaits, StepFault}
+use Rattle.tso_machine.proofs.Vocabulary.{Refused, OutOfMemory, Thread, Listing, Local, Action, Stop, Go, Wait, Read, Write, Swap, act, action, Machine, SequentialMachine, State, start, step, run}
+use Rattle.tso_machine.proofs.Vocabulary.{direct, is_empty, from_some, passes_at, passes, HasEnded, Applies, StepFaultIs, Stops, ReplayFaultIs, fault_of}
 use Rattle.tso_machine.specs.declared.label.Model.TheVariants as models
-use Rattle.tso_machine.specs.declared.label.Pending.{Pending}
-use Rattle.tso_machine.specs.declared.label.Cause.{Cause}
-use Rattle.tso_machine.specs.declared.label.Cause.TheVariants.{NoSuchThread, AtEnd, BufferEmpty, FenceWaits}
-use Rattle.tso_machine.specs.declared.label.StepFault.{StepFault}
-use Rattle.tso_machine.specs.declared.label.StepFault.TheVariants.{Refused, OutOfMemory}
-use Rattle.tso_program.specs.declared.listing.Thread.{Thread}
-use Rattle.tso_program.specs.declared.listing.Listing.{Listing}
-use Rattle.tso_program.specs.declared.action.Local.{Local}
-use Rattle.tso_program.specs.declared.action.Action.{Action}
-use Rattle.tso_program.specs.declared.action.Action.TheVariants.{Stop, Go, Wait, Read, Write, Swap}
-use Rattle.tso_program.specs.Actions.{act}
-use Rattle.tso_program.specs.Listings.{action}
-use Rattle.tso_machine.specs.Machine.{Machine, SequentialMachine, State, start, step, run, direct, is_empty, from_some, passes_at, passes, HasEnded}
 use Rattle.tso_machine.specs.Modes.{machine_of_model, Passes, ArePassed}
-use Rattle.tso_machine.specs.Faults.{Applies, StepFaultIs, Stops, ReplayFaultIs, fault_of}
 use Rattle.tso_machine.specs.Internal.Cores.{Core, Cores, no_core, core_at, state_of, FitsProgram, Finished, passed_gap, gap_passed_by}
 
 and_then_alike : (o : Option State) (f g : State → Option State) → ((s : State) → f s ≡ g s) → option_and_then f o ≡ option_and_then g o

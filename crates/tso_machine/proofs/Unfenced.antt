@@ -1,19 +1,10 @@
 -- Replays with no gap fenced.
 use Rattle.std.proofs.Common.{◌≡◌, ℕ, List, Option, None, Some, false, nat_cmp, refl, ap, ◌∙◌, subst}
-use mathlib.Core.Path.{fun_ext}
-use Rattle.std.specs.Option.{option_map_or}
 use Rattle.std.specs.FinSet as set
-use Rattle.gap_sets.specs.Gaps.{SetOfGaps}
-use Rattle.tso_program.specs.declared.listing.Listing.{Listing}
-use Rattle.tso_program.specs.declared.outcome.Outcome.{Outcome}
+use Rattle.tso_machine.proofs.Vocabulary.{fun_ext, option_map_or, SetOfGaps, Listing, Outcome, gap_number, gaps_in, Label, Model, StoreBufferMachine, no_gaps, IsRun}
 use Rattle.tso_program.specs.declared.shown.Shown.{Shown}
-use Rattle.tso_program.specs.Listings.{gap_number}
-use Rattle.tso_program.specs.Fences.{gaps_in}
 use Rattle.tso_program.specs.Shown.{show, asked}
-use Rattle.tso_machine.specs.declared.label.Label.{Label}
-use Rattle.tso_machine.specs.declared.label.Model.{Model}
 use Rattle.tso_machine.specs.declared.label.Model.TheVariants as models
-use Rattle.tso_machine.specs.Machine.{StoreBufferMachine, no_gaps, IsRun}
 use Rattle.tso_machine.specs.Modes.{machine_of_model, unfenced, ArePassed}
 use Rattle.tso_machine.specs.Outcomes.{IsReplayOf}
 

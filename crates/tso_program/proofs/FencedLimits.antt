@@ -1,17 +1,10 @@
 -- A program within its limits is, with its fences, within those of a fenced program.
 use Rattle.std.proofs.Common.{◌≡◌, ℕ, zero, suc, ◌+◌, ◌-◌, ◌*◌, ◌<◌, ◌≤◌, Bool, true, false, List, [], ◌∷◌, ◌++◌, ◌⊎◌, inl, inr, length, Option, Some, refl, sym, ap, ◌∙◌, arith, cond}
 use Rattle.std.specs.Prelude.{slice_get, is_some, sum_by, count_by, if◌then◌else◌}
-use Rattle.std.proofs.lemmas.List.Sums.{sum_by-cons}
-use Rattle.tso_program.specs.declared.instruction.Instr.{Instr}
-use Rattle.tso_program.specs.declared.instruction.Instr.TheVariants.{LoadImm, Copy, Load, StoreImm, Store, Xchg, Fence, CmpImm, CmpReg, Je, Jne, Jmp}
-use Rattle.tso_program.specs.declared.listing.Thread.{Thread}
-use Rattle.tso_program.specs.declared.listing.Listing.{Listing}
-use Rattle.tso_program.specs.Instructions.{location_of, target_of}
-use Rattle.tso_program.specs.Listings.{code_of, instr_at, accesses_of}
-use Rattle.tso_program.specs.Limits.{IsWithinLimits, IsWithinFencedLimits}
+use Rattle.tso_program.proofs.Vocabulary.{sum_by-cons, Instr, LoadImm, Copy, Load, StoreImm, Store, Xchg, Fence, CmpImm, CmpReg, Je, Jne, Jmp, Thread, Listing, location_of, target_of, code_of}
+use Rattle.tso_program.proofs.Vocabulary.{instr_at, accesses_of, IsWithinLimits, IsWithinFencedLimits, MAX_INSTRUCTIONS, MAX_FENCED_INSTRUCTIONS}
 use Rattle.tso_program.specs.Fences.{Gaps, gaps_in, place_of, moved, fenced_code, fenced_threads, fence, FencingStaysWithinLimits}
 use Rattle.tso_program.proofs.FencedPlaces.{fenced_code_of, same_count}
-use Rattle.tso_program.specs.declared.limits.TheConstants.{MAX_INSTRUCTIONS, MAX_FENCED_INSTRUCTIONS}
 
 module _ (gap : ℕ → Bool) where
   -- the place of the next instruction

@@ -1,11 +1,7 @@
 -- What stands at each place of a fenced thread.
 use Rattle.std.proofs.Common.{◌≡◌, ℕ, zero, suc, ◌+◌, Bool, true, false, List, [], ◌∷◌, ◌++◌, Option, Some, None, refl, sym, ap, ◌∙◌, length, arith}
 use Rattle.std.specs.Prelude.{slice_get, slice_index_or, if◌then◌else◌}
-use Rattle.tso_program.specs.declared.instruction.Instr.{Instr}
-use Rattle.tso_program.specs.declared.instruction.Instr.TheVariants.{Fence}
-use Rattle.tso_program.specs.declared.listing.Thread.{Thread}
-use Rattle.tso_program.specs.Listings.{code_of, instr_at}
-use Rattle.tso_program.specs.Fences.{Gaps, place_of, moved, fenced_code, fenced_threads}
+use Rattle.tso_program.proofs.Vocabulary.{Instr, Fence, Thread, code_of, instr_at, Gaps, place_of, moved, fenced_code, fenced_threads}
 
 module _ (gap : ℕ → Bool) where
   -- how far place k of the instructions from n on lies from place n

@@ -2,12 +2,7 @@
 use Rattle.std.proofs.Common.{◌≡◌, ℕ, zero, suc, ◌+◌, ◌<◌, Bool, true, false, ◌||◌, List, [], ◌∷◌, length, Option, Some, None, refl, sym, ap, ◌∙◌, arith}
 use Rattle.std.specs.Prelude.{not, nat_lt, slice_get, is_some, position, if◌then◌else◌}
 use Rattle.std.specs.List.{position_or_len, list_any, enumerate_from}
-use Rattle.std.specs.Option.{option_map_or}
-use Rattle.std.proofs.lemmas.Bool.Decides.{nat_tests}
-use Rattle.tso_program.specs.declared.instruction.Instr.{Instr}
-use Rattle.tso_program.specs.declared.listing.Thread.{Thread}
-use Rattle.tso_program.specs.Listings.{code_of, instr_at}
-use Rattle.tso_program.specs.Limits.{first_found}
+use Rattle.tso_program.proofs.Vocabulary.{option_map_or, nat_tests, Instr, Thread, code_of, instr_at, first_found}
 
 -- an instruction that is there stands in a thread that is there
 pub instr_found : (threads : List Thread) (t k : ℕ) (x : Instr) → instr_at threads t k ≡ Some x → (thread : Thread) × (slice_get threads t ≡ Some thread) × (slice_get thread.code k ≡ Some x)

@@ -1,14 +1,7 @@
 -- Gaps and their numbers.
 use Rattle.std.proofs.Common.{◌≡◌, ℕ, zero, suc, ◌+◌, ◌-◌, ◌<◌, ◌≤◌, Bool, true, false, ◌&&◌, List, [], ◌∷◌, length, take, Some, None, refl, sym, ap, ◌∙◌, arith, inl, inr}
-use Rattle.std.specs.Prelude.{nat_lt, nat_le, if◌then◌else◌}
-use Rattle.std.specs.Ordering.{nat_cmp}
-use Rattle.std.specs.Cmp.{nat_cmp_total}
 use Rattle.std.specs.FinSet as set
-use Rattle.std.proofs.lemmas.Bool.{cases_lt}
-use Rattle.std.proofs.lemmas.Bool.Decides.{nat_tests}
-use Rattle.tso_program.specs.declared.listing.Thread.{Thread}
-use Rattle.std.proofs.lemmas.List.Sums.{sum_by-cons}
-use Rattle.tso_program.specs.Listings.{code_of, gap_count, gap_number, gaps_of_thread}
+use Rattle.tso_program.proofs.Vocabulary.{nat_lt, nat_le, if◌then◌else◌, nat_cmp, nat_cmp_total, cases_lt, nat_tests, Thread, sum_by-cons, code_of, gap_count, gap_number, gaps_of_thread}
 
 -- the gaps of a thread that may not be there
 abbrev gaps_at : List Thread → ℕ → ℕ

@@ -1,12 +1,8 @@
 -- The location that an action names is one of the program's.
 use Rattle.std.proofs.Common.{◌≡◌, ℕ, List, length, Some, refl}
-use Rattle.tso_program.specs.declared.instruction.Instr.{Instr}
-use Rattle.tso_program.specs.declared.instruction.Instr.TheVariants.{LoadImm, Copy, Load, StoreImm, Store, Xchg, Fence, CmpImm, CmpReg, Je, Jne, Jmp}
-use Rattle.tso_program.specs.declared.listing.Thread.{Thread}
+use Rattle.tso_program.proofs.Vocabulary.{Instr, LoadImm, Copy, Load, StoreImm, Store, Xchg, Fence, CmpImm, CmpReg, Je, Jne, Jmp, Thread, instr_at, IsWithinLimits}
 use Rattle.tso_program.specs.declared.action.Local.{Local}
 use Rattle.tso_program.specs.Actions.{act, IsLocated}
-use Rattle.tso_program.specs.Listings.{instr_at}
-use Rattle.tso_program.specs.Limits.{IsWithinLimits}
 
 pub act_located : (threads : List Thread) (memory : List ℕ) (t k : ℕ) (x : Instr) (s : Local) → IsWithinLimits threads memory → instr_at threads t k ≡ Some x → IsLocated (length memory) (act (Some x) s)
 act_located threads memory t k (LoadImm r v) s w e = tt

@@ -1,16 +1,11 @@
 -- The places of named registers and locations.
 use Rattle.std.proofs.Common.{◌≡◌, ◌⊎◌, ◌||◌, ℕ, ◌-◌, ◌/◌, ◌%◌, ◌<◌, Bool, true, false, refl, sym, ◌∙◌, inl, inr, arith}
 use Rattle.std.specs.Ordering.{nat_cmp, eq_by_cmp}
-use Rattle.std.specs.Cmp.{nat_cmp_total}
 use Rattle.std.specs.FinSet as set
 use Rattle.std.proofs.Math.Nat.{div-add-mod, mod-lt}
-use Rattle.std.proofs.lemmas.Bool.{cases_lt}
-use Rattle.std.proofs.lemmas.Bool.Decides.{nat_tests}
-use Rattle.tso_program.specs.Names.{register_place, ArePlaces}
+use Rattle.tso_program.proofs.Vocabulary.{nat_cmp_total, cases_lt, nat_tests, register_place, ArePlaces, REGISTERS, MAX_THREADS}
 use Rattle.tso_program.specs.Laws.{RegisterPlacesAreDistinct, LocationPlacesAreDistinct, RegistersLieApartFromLocations, IsRegisterPlace, EachPlaceIsNamed}
-use Rattle.tso_program.specs.declared.instruction.TheConstants.{REGISTERS}
 use Rattle.tso_program.specs.declared.shown.TheConstants.{REGISTER_PLACES, PLACES}
-use Rattle.tso_program.specs.declared.limits.TheConstants.{MAX_THREADS}
 
 pub none_placed : ArePlaces set.empty
 none_placed place h = let no : true ≡ false = sym h ∙ set.contains-empty nat_cmp place in absurd cc

@@ -1,18 +1,11 @@
 -- A formula's truth is read off what shows all that the formula speaks of.
 use Rattle.std.proofs.Common.{◌≡◌, ◌↔◌, ℕ, ◌<◌, Bool, true, false, not, List, [], ◌∷◌, Option, Some, None, get_or, length, inl, inr, refl, sym, ap, ◌∙◌, arith}
 use Rattle.std.specs.Prelude.{◌&&◌, ◌||◌, slice_get, option_and_then}
-use Rattle.std.proofs.lemmas.Bool.{cases_lt}
 use Rattle.std.proofs.lemmas.Option.{slice_get-get_or, slice_get_past}
-use Rattle.tso_program.specs.declared.instruction.Reg.{Reg}
-use Rattle.tso_program.specs.declared.outcome.Outcome.{Outcome}
-use Rattle.tso_program.specs.declared.shown.Shown.{Shown}
-use Rattle.tso_program.specs.declared.shown.Shown.TheVariants.{All, Only, Truth}
-use Rattle.tso_program.specs.declared.atom.Atom.{Atom}
+use Rattle.tso_program.proofs.Vocabulary.{cases_lt, Reg, Outcome, Shown, All, Only, Truth, Atom, Tree, number}
 use Rattle.tso_program.specs.declared.atom.Atom.TheVariants as atom
-use Rattle.tso_program.specs.Tree.{Tree}
 use Rattle.tso_program.specs.Tree as tree
 use Rattle.tso_program.specs.Truth.{truth, is_true_at, is_value, final_register, location_at}
-use Rattle.tso_program.specs.Instructions.{number}
 use Rattle.tso_program.specs.Shown.{shows_register, shows_location, value_if, shown_registers, shown_value, show_registers, show_memory, shown_values, show, told, ShowsValues}
 use Rattle.tso_program.specs.Laws.{ShowsAtom, ShowsAtoms, ATruthIsReadOffItsAtoms, TruthsAreTold}
 use Rattle.tso_program.proofs.Kept.{by_values, registers_long, register_at, memory_long, value_at, threads_long, thread_at}

@@ -1,10 +1,6 @@
 -- The numbers of registers.
 use Rattle.std.proofs.Common.{◌≡◌, ◌==◌, ℕ, ◌<◌, refl, sym, ap, ◌∙◌, arith}
-use Rattle.std.specs.Prelude.{if◌then◌else◌}
-use Rattle.tso_program.specs.declared.instruction.Reg.{Reg}
-use Rattle.tso_program.specs.declared.instruction.Reg.TheVariants.{Eax, Ebx, Ecx, Edx, Esi, Edi}
-use Rattle.tso_program.specs.Instructions.{number}
-use Rattle.tso_program.specs.declared.instruction.TheConstants.{REGISTERS}
+use Rattle.tso_program.proofs.Vocabulary.{if◌then◌else◌, Reg, Eax, Ebx, Ecx, Edx, Esi, Edi, number, REGISTERS}
 
 pub small_number : (r : Reg) → number r < REGISTERS
 small_number Eax = omega arith

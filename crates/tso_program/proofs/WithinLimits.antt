@@ -1,16 +1,9 @@
 -- No refusal applies exactly within the limits.
 use Rattle.std.proofs.Common.{◌≡◌, ℕ, ◌+◌, ◌<◌, ◌≤◌, ◌==◌, Bool, true, false, ◌||◌, List, [], ◌∷◌, ◌++◌, length, get_or, Option, Some, None, refl, sym, ap, ◌∙◌, arith}
 use Rattle.std.specs.Prelude.{nat_lt, nat_le, slice_get, is_some, unwrap_or, sum_by, if◌then◌else◌, All}
-use Rattle.std.specs.List.{list_any, enumerate_from}
-use Rattle.std.specs.Option.{option_map_or}
-use Rattle.std.proofs.lemmas.Bool.Decides.{nat_tests}
-use Rattle.std.proofs.lemmas.Option.{slice_get-get_or}
-use Rattle.tso_program.specs.declared.instruction.Instr.{Instr}
-use Rattle.tso_program.specs.declared.listing.Thread.{Thread}
+use Rattle.tso_program.proofs.Vocabulary.{list_any, enumerate_from, option_map_or, nat_tests, slice_get-get_or, Instr, Thread, location_of, target_of, code_of, instr_at, accesses_of, gap_count}
 use Rattle.tso_program.specs.declared.limits.ProgramFault.{ProgramFault}
 use Rattle.tso_program.specs.declared.limits.ProgramFault.TheVariants.{NoThreads, TooManyThreads, TooLong, Locations, TooManyAccesses, BackwardJump, JumpPastEnd, TooManyGaps}
-use Rattle.tso_program.specs.Instructions.{location_of, target_of}
-use Rattle.tso_program.specs.Listings.{code_of, instr_at, accesses_of, gap_count}
 use Rattle.tso_program.specs.Limits.{IsWithinSharedLimits, IsWithinLimits, IsWithinFencedLimits, first_long, is_astray, some_astray, is_backward, is_past_end, first_backward_in, first_past_end_in, first_found, first_true, at_place, shared_refusals, first_fault, first_fenced_fault, ProgramLimitsAreTheRefusals, FencedLimitsAreTheRefusals}
 use Rattle.tso_program.proofs.Found.{instr_found, code_found, enumerated, enumerated_back, not_found, none_found, neither, not_any, none_any, found_nowhere, nowhere_found}
 use Rattle.tso_program.specs.declared.limits.TheConstants.{MAX_THREADS, MAX_LOCATIONS, MAX_INSTRUCTIONS, MAX_FENCED_INSTRUCTIONS, MAX_ACCESSES}

@@ -2,11 +2,10 @@
 use Rattle.std.proofs.Common.{◌≡◌, ◌≢◌, ◌<◌, ◌≤◌, ◌&&◌, ℕ, Bool, true, false, All, List, length, refl, sym, ap, subst, ◌∙◌, eq-eqb}
 use Rattle.std.specs.Cmp.{nat_cmp_total, unsigned_tied}
 use Rattle.std.specs.FinSet as set
-use Rattle.gap_sets.specs.Gaps.{SetOfGaps, IsGapSet}
+use Rattle.why_text.proofs.Vocabulary.{SetOfGaps, IsGapSet, Question}
 use Rattle.gap_sets.specs.CostLists.{IsCostList}
 use Rattle.gap_sets.proofs.Subsets.{cheaper}
 use Rattle.tso_program.specs.Listings.{gap_count}
-use Rattle.tso_program.specs.Shown.{Question}
 use Rattle.tso_machine.specs.Outcomes.{Serves, IsTheAnswer}
 
 second : (v w : Bool) → (v && w) ≡ true → w ≡ true

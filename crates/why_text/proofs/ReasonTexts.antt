@@ -6,15 +6,14 @@ use Rattle.std.proofs.lemmas.Bool.Decides.{nat_tests}
 use Rattle.std.proofs.lemmas.List.{append-nil, map-append}
 use Rattle.std.proofs.lemmas.List.Folds.{concat-append}
 use Rattle.std.specs.FinSet as set
+use Rattle.why_text.proofs.Vocabulary.{Shown, Label, Without, TellsRun}
 use Rattle.gap_sets.specs.Gaps.{SetOfGaps, IsGapSet, numbers_of_set}
 use Rattle.gap_sets.specs.declared.gap_set.TheConstants.{MAX_GAPS}
 use Rattle.tso_program.specs.declared.listing.Listing.{Listing}
 use Rattle.tso_program.specs.declared.outcome.Outcome.{Outcome}
-use Rattle.tso_program.specs.declared.shown.Shown.{Shown}
 use Rattle.tso_program.specs.declared.shown.Shown.TheVariants.{All}
 use Rattle.tso_program.specs.Fences.{gaps_in}
 use Rattle.tso_program.specs.Shown.{asked, show, Question}
-use Rattle.tso_machine.specs.declared.label.Label.{Label}
 use Rattle.tso_machine.specs.declared.label.Model.TheVariants.{Buffered}
 use Rattle.tso_machine.specs.declared.replaying.Ended.{Ended}
 use Rattle.tso_machine.specs.Machine.{StoreBufferMachine, no_gaps, IsRun}
@@ -24,9 +23,7 @@ use Rattle.litmus_text.specs.Litmus.{Litmus}
 use Rattle.cover_solver.proofs.GapsAvoided.{passed_gaps_tell}
 use Rattle.cover_solver.specs.Facts as facts
 use Rattle.cover_solver.specs.Verdicts.{PassesNoneOf}
-use Rattle.documents.specs.declared.run.Setting.TheVariants.{Without}
 use Rattle.documents.specs.Documents.{IsWhyDocument}
-use Rattle.documents.specs.Runs.{TellsRun}
 use Rattle.why_text.specs.WhyTexts.{Told, IsReason, AreReasons, told_lines, TellsReasons, TellsWhy, none_line, printed_of, reasons_or_none, IsReasonText}
 
 -- a foreign run that passes none of some gaps is a run with these gaps fenced

@@ -1,26 +1,18 @@
 -- The runs that are found, with no gap fenced.
 use Rattle.std.proofs.Common.{◌≡◌, ℕ, true, false, List, sym, subst, refl, ◌∙◌}
 use Rattle.std.specs.FinSet as set
-use Rattle.gap_sets.specs.Gaps.{SetOfGaps}
-use Rattle.tso_program.specs.declared.listing.Listing.{Listing}
-use Rattle.tso_program.specs.declared.outcome.Outcome.{Outcome}
-use Rattle.tso_program.specs.declared.shown.Shown.TheVariants.{All}
+use Rattle.witness_text.proofs.Vocabulary.{SetOfGaps, Listing, Outcome, All, truth, Label, one_outcome, IsWitness, TellsRun}
 use Rattle.tso_program.specs.Fences.{Gaps}
-use Rattle.tso_program.specs.Truth.{truth}
-use Rattle.tso_machine.specs.declared.label.Label.{Label}
 use Rattle.tso_machine.specs.declared.label.Model.{Model}
 use Rattle.tso_machine.specs.declared.label.Model.TheVariants as models
 use Rattle.tso_machine.specs.declared.replaying.Ended.{Ended}
 use Rattle.tso_machine.specs.Machine.{StoreBufferMachine, IsRun}
 use Rattle.tso_machine.specs.Modes.{machine_of_model, ArePassed}
-use Rattle.tso_machine.proofs.Refused.{one_outcome}
 use Rattle.tso_machine.proofs.Unfenced.{empty_fences_nothing}
 use Rattle.cover_solver.proofs.GapsAvoided.{fenced_runs_avoid}
 use Rattle.litmus_text.specs.Litmus.{Litmus}
-use Rattle.cover_solver.specs.Witnesses.{IsWitness}
 use Rattle.documents.specs.declared.run.Setting.TheVariants.{Machine as OfMachine}
 use Rattle.documents.specs.declared.witness.Sought.{Sought}
-use Rattle.documents.specs.Runs.{TellsRun}
 use Rattle.witness_text.specs.Internal.Replays.{IsReplayed}
 use Rattle.witness_text.specs.WitnessTexts.{machine_of, unfenced_machine, IsShownRunText, TellsWitness}
 

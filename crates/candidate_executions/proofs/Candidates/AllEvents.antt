@@ -1,13 +1,6 @@
 -- The events of a candidate can be listed.
 use Rattle.std.proofs.Common.{◌≡◌, ◌≤◌, ℕ, length, ap, suc, zero, ◌<◌, List, [], ◌∷◌, ◌++◌, ◌⊎◌, refl, sym, ◌∙◌, subst, inl, inr, arith}
-use Rattle.std.specs.Option.{option_map_or}
-use Rattle.std.proofs.lemmas.Option.{slice_get_past}
-use Rattle.tso_program.specs.declared.listing.Listing.{Listing}
-use Rattle.tso_program.specs.declared.listing.Thread.{Thread}
-use Rattle.tso_program.specs.Listings.{code_of}
-use Rattle.std.proofs.lemmas.Bool.{cases_eq}
-use Rattle.candidate_executions.specs.declared.event.Event.{Event}
-use Rattle.candidate_executions.specs.declared.event.Event.TheVariants.{Access as At}
+use Rattle.candidate_executions.proofs.Vocabulary.{option_map_or, slice_get_past, Listing, Thread, code_of, cases_eq, Event, At}
 use Rattle.candidate_executions.proofs.Orders.AcyclicIsOrdered.{In, Distinct}
 
 -- the events of thread t below i, and of the threads below n

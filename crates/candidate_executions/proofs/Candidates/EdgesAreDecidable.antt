@@ -1,16 +1,8 @@
 -- Whether an edge leads from one event to another can be decided.
 use Rattle.std.proofs.Common.{◌≡◌, ℕ, ◌<◌, ◌⊎◌, Option, Some, None, IsSome, refl, sym, ap, ap₂, ◌∙◌, subst, inl, inr, arith}
-use Rattle.std.proofs.lemmas.Bool.{cases_lt, cases_eq}
-use Rattle.std.proofs.lemmas.Option.{same_Some}
-use Rattle.tso_program.specs.declared.listing.Listing.{Listing}
-use Rattle.tso_machine.specs.Machine.{Machine}
-use Rattle.candidate_executions.specs.declared.access.Access.{Access}
-use Rattle.candidate_executions.specs.declared.event.Event.{Event}
-use Rattle.candidate_executions.specs.declared.event.Event.TheVariants.{Initial, Access as At}
-use Rattle.candidate_executions.specs.declared.event.Kind.{Kind}
+use Rattle.candidate_executions.proofs.Vocabulary.{cases_lt, cases_eq, same_Some, Listing, Machine, Access, Event, Initial, At, Kind, Candidate, access, Precedes, SameThread, KeepsOrder, ReadsFrom}
+use Rattle.candidate_executions.proofs.Vocabulary.{Relates, Edge, WriteOrder, FromReads}
 use Rattle.candidate_executions.specs.declared.event.Kind.TheVariants as union
-use Rattle.candidate_executions.specs.Candidates.{Candidate, access}
-use Rattle.candidate_executions.specs.Consistency.{Precedes, SameThread, KeepsOrder, ReadsFrom, Relates, Edge, WriteOrder, FromReads}
 use Rattle.candidate_executions.proofs.Orders.AcyclicIsOrdered.{Decidable}
 
 abbrev pub Dec₁ : Type 0 → Type 0

@@ -1,16 +1,7 @@
 -- Each location of a candidate has a last write, and a candidate has one outcome.
 use Rattle.std.proofs.Common.{◌≡◌, ◌⊎◌, ℕ, ◌<◌, ◌≤◌, List, [], ◌∷◌, Option, Some, None, slice_get, slice_index, length, refl, sym, ap, ◌∙◌, subst, inl, inr, arith}
-use Rattle.std.proofs.lemmas.Bool.{cases_eq, cases_lt}
-use Rattle.std.proofs.lemmas.Option.{same_Some, slice_get_within}
-use Rattle.std.proofs.lemmas.Grind.{same_number_lists}
-use Rattle.tso_program.specs.declared.listing.Listing.{Listing}
-use Rattle.tso_program.specs.Listings.{action, start_of}
-use Rattle.tso_machine.specs.Machine.{Machine}
-use Rattle.candidate_executions.specs.declared.access.Access.{Access}
-use Rattle.candidate_executions.specs.declared.event.Event.{Event}
-use Rattle.candidate_executions.specs.declared.event.Event.TheVariants.{Initial, Access as At}
-use Rattle.candidate_executions.specs.Traces.{trace, fenced_gaps}
-use Rattle.candidate_executions.specs.Candidates.{Candidate, trace_of, access, Writes, IsCandidate, EndsWith}
+use Rattle.candidate_executions.proofs.Vocabulary.{cases_eq, cases_lt, same_Some, slice_get_within, same_number_lists, Listing, action, start_of, Machine, Access, Event, Initial, At, trace}
+use Rattle.candidate_executions.proofs.Vocabulary.{fenced_gaps, Candidate, trace_of, access, Writes, IsCandidate, EndsWith}
 use Rattle.candidate_executions.specs.Laws.{OutcomesAreOne}
 use Rattle.candidate_executions.proofs.Orders.AcyclicIsOrdered.{In}
 use Rattle.candidate_executions.proofs.Candidates.AllEvents.{no_code, of_all, all_in}

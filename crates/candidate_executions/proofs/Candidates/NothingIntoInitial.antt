@@ -1,16 +1,8 @@
 -- No edge leads into an initial write, so no cycle passes through one.
 use Rattle.std.proofs.Common.{◌≡◌, ℕ, zero, suc, ◌<◌, List, [], ◌∷◌, Option, Some, None, IsSome, Contains, refl, sym, ap, ◌∙◌, subst, inl, inr, arith}
-use Rattle.std.proofs.lemmas.Option.{same_Some}
-use Rattle.tso_program.specs.declared.listing.Listing.{Listing}
-use Rattle.tso_machine.specs.Machine.{Machine}
-use Rattle.candidate_executions.specs.declared.access.Access.{Access}
-use Rattle.candidate_executions.specs.declared.event.Event.{Event}
-use Rattle.candidate_executions.specs.declared.event.Event.TheVariants.{Initial, Access as At}
-use Rattle.candidate_executions.specs.declared.event.Kind.{Kind}
+use Rattle.candidate_executions.proofs.Vocabulary.{same_Some, Listing, Machine, Access, Event, Initial, At, Kind, Candidate, access, access_by, IsCandidate, Precedes, WriteOrder, FromReads, Edge}
+use Rattle.candidate_executions.proofs.Vocabulary.{Leads, IsCycle, Sketch, given_to, IsSketch, IsBefore, KnownEdge}
 use Rattle.candidate_executions.specs.declared.event.Kind.TheVariants as union
-use Rattle.candidate_executions.specs.Candidates.{Candidate, access, access_by, IsCandidate}
-use Rattle.candidate_executions.specs.Consistency.{Precedes, WriteOrder, FromReads, Edge, Leads, IsCycle}
-use Rattle.candidate_executions.specs.Sketches.{Sketch, given_to, IsSketch, IsBefore, KnownEdge}
 use Rattle.candidate_executions.specs.Laws.{NoEdgeLeadsIntoInitial, CyclesAreOfAccesses, NoKnownEdgeLeadsIntoInitial, KnownCyclesAreOfAccesses}
 use Rattle.candidate_executions.proofs.Candidates.WrittenValues.{stored_as, some_written}
 

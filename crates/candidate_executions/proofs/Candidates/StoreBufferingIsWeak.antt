@@ -1,16 +1,9 @@
 -- Store buffering: both reads give 0 with no gap fenced, and neither sequentially nor with both gaps fenced.
 use Rattle.std.proofs.Common.{◌≡◌, ◌≢◌, ℕ, zero, suc, ◌-◌, ◌<◌, ◌≤◌, ◌⊎◌, List, [], ◌∷◌, Some, None, IsSome, slice_index, refl, sym, ap, ◌∙◌, subst, inl, inr, arith, lit<}
-use Rattle.std.proofs.lemmas.Option.{same_Some}
-use Rattle.tso_program.specs.declared.action.Action.TheVariants.{Stop}
-use Rattle.tso_program.specs.Listings.{action}
-use Rattle.tso_machine.specs.Machine.{SequentialMachine, StoreBufferMachine, no_gaps}
+use Rattle.candidate_executions.proofs.Vocabulary.{same_Some, Stop, action, SequentialMachine, StoreBufferMachine, no_gaps, Access, Event, Initial, At, trace_of, access, Writes, EndsWith, IsCandidate}
+use Rattle.candidate_executions.proofs.Vocabulary.{HasOutcome, Precedes, KeepsOrder, ReadsFrom, WriteOrder, FromReads, IsCycle, Edge, IsConsistent}
 use Rattle.tso_machine.specs.Examples.{store_buffering}
-use Rattle.candidate_executions.specs.declared.access.Access.{Access}
-use Rattle.candidate_executions.specs.declared.event.Event.{Event}
-use Rattle.candidate_executions.specs.declared.event.Event.TheVariants.{Initial, Access as At}
 use Rattle.candidate_executions.specs.declared.event.Kind.TheVariants as union
-use Rattle.candidate_executions.specs.Candidates.{trace_of, access, Writes, EndsWith, IsCandidate, HasOutcome}
-use Rattle.candidate_executions.specs.Consistency.{Precedes, KeepsOrder, ReadsFrom, WriteOrder, FromReads, IsCycle, Edge, IsConsistent}
 use Rattle.candidate_executions.specs.StoreBuffering.{both_zero, initial_source, both_gaps, zeros_read, StoreBufferingCandidates}
 use Rattle.candidate_executions.proofs.Orders.ForwardIsAcyclic.{Pair, Less, acyclic_by}
 

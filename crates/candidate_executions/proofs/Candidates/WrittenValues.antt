@@ -1,9 +1,6 @@
 -- What an access writes.
 use Rattle.std.proofs.Common.{◌≡◌, ℕ, List, [], ◌∷◌, ◌⊎◌, Option, Some, None, IsSome, option_map, slice_get, map, refl, sym, ◌∙◌, inl, inr}
-use Rattle.std.proofs.lemmas.Option.{slice_get-map}
-use Rattle.tso_machine.specs.declared.label.Pending.{Pending}
-use Rattle.candidate_executions.specs.declared.access.Access.{Access}
-use Rattle.candidate_executions.specs.declared.event.Event.{Event}
+use Rattle.candidate_executions.proofs.Vocabulary.{slice_get-map, Pending, Access, Event}
 use Rattle.candidate_executions.proofs.Orders.AcyclicIsOrdered.{In}
 use Rattle.candidate_executions.proofs.Candidates.EdgesAreDecidable.{same_event}
 

@@ -1,9 +1,6 @@
 -- The candidate that a history tells of.
 use Rattle.std.proofs.Common.{◌≡◌, ℕ, suc, List, Option, Some, None, slice_get, option_map, refl}
-use Rattle.candidate_executions.specs.declared.access.Access.{Access}
-use Rattle.candidate_executions.specs.declared.event.Event.{Event}
-use Rattle.candidate_executions.specs.declared.event.Event.TheVariants.{Initial, Access as At}
-use Rattle.candidate_executions.specs.Candidates.{Candidate}
+use Rattle.candidate_executions.proofs.Vocabulary.{Access, Event, Initial, At, Candidate}
 use Rattle.candidate_executions.proofs.FromRuns.Histories.{Entry, History}
 use Rattle.candidate_executions.proofs.Orders.ForwardIsAcyclic.{Pair}
 

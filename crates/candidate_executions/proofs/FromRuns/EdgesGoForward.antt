@@ -1,11 +1,7 @@
 -- Edges go forward in moments, so a good history has no cycle.
 use Rattle.std.proofs.Common.{◌≡◌, ◌≢◌, ℕ, suc, ◌<◌, ◌≤◌, List, ◌⊎◌, Option, Some, None, IsSome, slice_get, refl, sym, ap, ◌∙◌, subst, inl, inr, arith}
-use Rattle.std.proofs.lemmas.Bool.{cases_order}
-use Rattle.candidate_executions.specs.declared.access.Access.{Access}
-use Rattle.candidate_executions.specs.declared.event.Event.{Event}
-use Rattle.candidate_executions.specs.declared.event.Event.TheVariants.{Initial, Access as At}
+use Rattle.candidate_executions.proofs.Vocabulary.{cases_order, Access, Event, Initial, At, KeepsOrder, Precedes, SameThread, Relates, IsAcyclic, WriteOrder, FromReads}
 use Rattle.candidate_executions.specs.declared.event.Kind.TheVariants as union
-use Rattle.candidate_executions.specs.Consistency.{KeepsOrder, Precedes, SameThread, Relates, IsAcyclic, WriteOrder, FromReads}
 use Rattle.candidate_executions.proofs.Orders.Lists.{some_value}
 use Rattle.candidate_executions.proofs.FromRuns.Histories.{Entry, History, Holds, Visible, Good}
 use Rattle.candidate_executions.proofs.Orders.ForwardIsAcyclic.{Pair, Less, near, nearer, acyclic_by}

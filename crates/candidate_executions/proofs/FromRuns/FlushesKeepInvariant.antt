@@ -1,14 +1,6 @@
 -- A flush keeps the invariant of a run.
 use Rattle.std.proofs.Common.{◌≡◌, ℕ, suc, zero, ◌≤◌, List, [], ◌∷◌, ◌⊎◌, Some, slice_get, refl, sym, ap, ◌∙◌, subst, inl, inr, arith, length, eq-eqb, ne_eqb}
-use Rattle.std.proofs.lemmas.Bool.{cases_lt, cases_eq}
-use Rattle.std.proofs.lemmas.Option.{same_Some}
-use Rattle.tso_machine.specs.Machine.{put}
-use Rattle.tso_machine.specs.declared.label.Label.{Label}
-use Rattle.tso_machine.specs.declared.label.Label.TheVariants.{Flush}
-use Rattle.tso_machine.specs.declared.label.Pending.{Pending}
-use Rattle.candidate_executions.specs.declared.event.Event.{Event}
-use Rattle.candidate_executions.specs.declared.event.Event.TheVariants.{Access as At}
-use Rattle.candidate_executions.specs.RunCandidates.{Origins, with_waiting, with_memory}
+use Rattle.candidate_executions.proofs.Vocabulary.{cases_lt, cases_eq, same_Some, put, Label, Flush, Pending, Event, At, Origins, with_waiting, with_memory}
 use Rattle.candidate_executions.proofs.FromRuns.Histories.{Entry, History, Holds}
 use Rattle.candidate_executions.proofs.Orders.Lists.{put_same, put_other}
 use Rattle.candidate_executions.proofs.FromRuns.FlushesDue.{due, due_late}

@@ -1,10 +1,6 @@
 -- The write that a load finds.
 use Rattle.std.proofs.Common.{◌≡◌, ℕ, suc, zero, ◌≤◌, Bool, true, false, List, [], ◌∷◌, ◌⊎◌, ◌==◌, if◌then◌else◌, Some, slice_get, map, length, refl, sym, ap, ◌∙◌, inl, inr, arith, eqb-true, eq-eqb, ne_eqb}
-use Rattle.std.proofs.lemmas.Bool.{eqb-false}
-use Rattle.std.proofs.lemmas.Option.{same_Some}
-use Rattle.tso_machine.specs.declared.label.Pending.{Pending}
-use Rattle.candidate_executions.specs.declared.event.Event.{Event}
-use Rattle.candidate_executions.specs.RunCandidates.{found_write}
+use Rattle.candidate_executions.proofs.Vocabulary.{eqb-false, same_Some, Pending, Event, found_write}
 
 module _ (location_of : ℕ → ℕ) (event_of : ℕ → Event) (l : ℕ) where
   abbrev pub tagged : ℕ → ℕ × Event

@@ -1,9 +1,6 @@
 -- A good history stays good with one more entry that fits.
 use Rattle.std.proofs.Common.{◌≡◌, ◌≢◌, ℕ, ◌<◌, ◌≤◌, [], ◌∷◌, ◌++◌, ◌⊎◌, Some, IsSome, slice_get, sym, ◌∙◌, subst, inl, inr, arith, length}
-use Rattle.std.proofs.lemmas.Bool.{cases_eq}
-use Rattle.std.proofs.lemmas.Option.{slice_get_within}
-use Rattle.tso_machine.specs.Machine.{put}
-use Rattle.candidate_executions.specs.Consistency.{KeepsOrder}
+use Rattle.candidate_executions.proofs.Vocabulary.{cases_eq, slice_get_within, put, KeepsOrder}
 use Rattle.candidate_executions.proofs.FromRuns.Histories.{Entry, History, Holds, Visible, Source, First, Good}
 use Rattle.candidate_executions.proofs.Orders.Lists.{put_same, put_other, get_end, get_front, get_cases}
 

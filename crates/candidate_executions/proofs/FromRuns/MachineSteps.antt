@@ -1,19 +1,7 @@
 -- The steps of the store buffer machine, by cases.
 use Rattle.std.proofs.Common.{◌≡◌, ℕ, suc, ◌<◌, ◌≤◌, Bool, true, false, List, [], ◌∷◌, ◌++◌, ◌==◌, Option, Some, option_and_then, refl, sym, ap, ◌∙◌, subst, inl, inr, arith, length, length-append, eq-eqb, ne_eqb, if◌then◌else◌}
-use Rattle.std.proofs.lemmas.Bool.{cases_eq}
-use Rattle.tso_program.specs.declared.instruction.Reg.{Reg}
-use Rattle.tso_program.specs.declared.listing.Listing.{Listing}
-use Rattle.tso_program.specs.declared.action.Local.{Local}
-use Rattle.tso_program.specs.declared.action.Action.{Action}
-use Rattle.tso_program.specs.declared.action.Action.TheVariants.{Stop, Go, Wait, Read, Write, Swap}
-use Rattle.tso_program.specs.Listings.{action}
-use Rattle.tso_program.specs.Actions.{loaded}
-use Rattle.tso_program.specs.Fences.{Gaps}
-use Rattle.tso_machine.specs.Machine.{put, StoreBufferMachine, State, newest, found, when_empty, past_gap, buffered, flushed, step, run}
-use Rattle.tso_machine.specs.declared.label.Label.{Label}
-use Rattle.tso_machine.specs.declared.label.Label.TheVariants.{Exec, Flush}
-use Rattle.tso_machine.specs.declared.label.Pending.{Pending}
-use Rattle.fence_laws.proofs.StepCases.{exec_by, flush_by}
+use Rattle.candidate_executions.proofs.Vocabulary.{cases_eq, Reg, Listing, Local, Action, Stop, Go, Wait, Read, Write, Swap, action, loaded, Gaps, put, StoreBufferMachine, State, newest, found}
+use Rattle.candidate_executions.proofs.Vocabulary.{when_empty, past_gap, buffered, flushed, step, run, Label, Exec, Flush, Pending, exec_by, flush_by}
 use Rattle.candidate_executions.proofs.Orders.Lists.{put_same, put_other}
 use Rattle.candidate_executions.proofs.FromRuns.FlushesDue.{due}
 

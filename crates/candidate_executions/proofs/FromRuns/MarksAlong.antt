@@ -1,13 +1,6 @@
 -- What the events of an order show: each read takes its value from its source, and each write reaches memory.
 use Rattle.std.proofs.Common.{◌≡◌, ℕ, List, [], ◌∷◌, ◌++◌, Option, Some, None, sym, ap, ◌∙◌}
-use Rattle.candidate_executions.specs.declared.access.Access.{Access}
-use Rattle.candidate_executions.specs.declared.event.Event.{Event}
-use Rattle.candidate_executions.specs.Candidates.{Candidate}
-use Rattle.std.specs.Option.{option_map_or}
-use Rattle.tso_program.specs.declared.listing.Listing.{Listing}
-use Rattle.tso_machine.specs.declared.label.Label.{Label}
-use Rattle.tso_machine.specs.Machine.{Machine, State, step}
-use Rattle.candidate_executions.specs.RunCandidates.{Origins, Mark, Takes, Arrives, origins_after, marks_at, marks}
+use Rattle.candidate_executions.proofs.Vocabulary.{Access, Event, Candidate, option_map_or, Listing, Label, Machine, State, step, Origins, Mark, Takes, Arrives, origins_after, marks_at, marks}
 
 -- one step, and then the rest
 pub marks_step : (p : Listing) (mode : Machine) (l : Label) (labels : List Label) (s s' : State) (o o' : Origins) (ms : List Mark) → step p mode s l ≡ Some s' →

@@ -1,13 +1,6 @@
 -- What a run shows of the history that it leaves.
 use Rattle.std.proofs.Common.{◌≡◌, ◌↔◌, ℕ, suc, zero, ◌+◌, ◌<◌, ◌≤◌, List, [], ◌∷◌, ◌++◌, ◌⊎◌, Some, None, IsSome, Contains, slice_get, refl, sym, ap, ◌∙◌, subst, inl, inr, arith, length, length-append, append_assoc}
-use mathlib.Core.Path.{fun_ext}
-use Rattle.std.proofs.lemmas.Bool.{cases_eq}
-use Rattle.std.proofs.lemmas.Option.{same_Some}
-use Rattle.std.proofs.lemmas.List.Elements.{Contains-append_left, Contains-append_right, Contains-append_cases}
-use Rattle.tso_machine.specs.Machine.{put}
-use Rattle.candidate_executions.specs.declared.event.Event.{Event}
-use Rattle.candidate_executions.specs.declared.event.Event.TheVariants.{Access as At}
-use Rattle.candidate_executions.specs.RunCandidates.{Mark, Takes, Arrives}
+use Rattle.candidate_executions.proofs.Vocabulary.{fun_ext, cases_eq, same_Some, Contains-append_left, Contains-append_right, Contains-append_cases, put, Event, At, Mark, Takes, Arrives}
 use Rattle.candidate_executions.proofs.Orders.Lists.{put_same, put_other, get_end, get_front, get_cases}
 use Rattle.candidate_executions.proofs.FromRuns.Histories.{Entry, History, Holds}
 use Rattle.candidate_executions.proofs.FromRuns.HistoriesGrow.{with_entry}

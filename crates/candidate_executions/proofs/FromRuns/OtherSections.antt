@@ -1,25 +1,10 @@
 -- Which gaps are fenced changes the sections of accesses and nothing else of a trace. So where sections don't count, a candidate of one mode is one of another.
 use Rattle.std.proofs.Common.{◌≡◌, ℕ, zero, suc, Bool, List, [], ◌∷◌, Option, Some, None, IsSome, slice_get, option_map, map, refl, sym, ap, ap₂, ◌∙◌, subst, length}
-use mathlib.Core.Path.{fun_ext}
-use Rattle.std.specs.List.{range_with_len}
-use Rattle.std.proofs.lemmas.Option.{same_Some, slice_get-map}
-use Rattle.tso_program.specs.declared.listing.Listing.{Listing}
-use Rattle.tso_program.specs.declared.action.Local.{Local}
-use Rattle.tso_program.specs.declared.action.Action.{Action}
-use Rattle.tso_program.specs.declared.action.Action.TheVariants.{Stop, Go, Wait, Read, Write, Swap}
-use Rattle.tso_program.specs.declared.outcome.Outcome.{Outcome}
-use Rattle.tso_program.specs.Actions.{loaded}
-use Rattle.tso_program.specs.Listings.{action, start_of, code_of}
-use Rattle.tso_machine.specs.Machine.{Machine}
-use Rattle.candidate_executions.specs.declared.access.Access.{Access}
-use Rattle.candidate_executions.specs.declared.event.Event.{Event}
-use Rattle.candidate_executions.specs.declared.event.Event.TheVariants.{Initial, Access as At}
+use Rattle.candidate_executions.proofs.Vocabulary.{fun_ext, range_with_len, same_Some, slice_get-map, Listing, Local, Action, Stop, Go, Wait, Read, Write, Swap, Outcome, loaded, action, start_of}
+use Rattle.candidate_executions.proofs.Vocabulary.{code_of, Machine, Access, Event, Initial, At, Candidate, trace_of, access, Writes, IsCandidate, HasOutcome, Relates, Edge, IsAcyclic, Mark, Takes}
+use Rattle.candidate_executions.proofs.Vocabulary.{Arrives, ReadsValue, IsStored, ArriveInOrder, IsValueOf}
 use Rattle.candidate_executions.specs.declared.event.Kind.TheVariants as union
 use Rattle.candidate_executions.specs.Traces.{Trace, load_of, store_of, exchange_of, with_access, entered, traced, trace, fenced_gaps}
-use Rattle.candidate_executions.specs.Candidates.{Candidate, trace_of, access, Writes, IsCandidate, HasOutcome}
-use Rattle.candidate_executions.specs.Consistency.{Relates, Edge, IsAcyclic}
-use Rattle.candidate_executions.specs.RunCandidates.{Mark, Takes, Arrives, ReadsValue, IsStored, ArriveInOrder}
-use Rattle.candidate_executions.specs.Values.{IsValueOf}
 use Rattle.candidate_executions.proofs.Orders.WiderRelations.{acyclic_narrower}
 
 -- the access without its section

@@ -1,8 +1,7 @@
 -- Relations that hold of each mark and each later one.
 use Rattle.std.proofs.Common.{suc, zero, List, [], ◌∷◌, ◌++◌, Contains, get_or, refl, inl, inr, arith}
-use Rattle.std.specs.List.{AllPairs}
 use Rattle.std.proofs.lemmas.List.Elements.{Contains-get_or, Contains-append_cases}
-use Rattle.candidate_executions.specs.RunCandidates.{Mark}
+use Rattle.candidate_executions.proofs.Vocabulary.{AllPairs, Mark}
 
 -- the relation holds of each mark and each later one
 abbrev pub PairsOf : (Mark → Mark → Type 0) → List Mark → Type 0

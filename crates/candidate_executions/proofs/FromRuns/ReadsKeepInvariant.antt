@@ -1,14 +1,6 @@
 -- An access that reads keeps the invariant of a run.
 use Rattle.std.proofs.Common.{◌≡◌, ℕ, suc, ◌≤◌, List, [], ◌∷◌, ◌⊎◌, Option, Some, None, IsSome, refl, sym, ap, ◌∙◌, subst, inl, inr, arith, length}
-use Rattle.std.proofs.lemmas.Bool.{cases_eq}
-use Rattle.std.proofs.lemmas.Option.{same_Some}
-use Rattle.tso_machine.specs.Machine.{put}
-use Rattle.tso_machine.specs.declared.label.Label.{Label}
-use Rattle.tso_machine.specs.declared.label.Label.TheVariants.{Exec}
-use Rattle.tso_machine.specs.declared.label.Pending.{Pending}
-use Rattle.candidate_executions.specs.declared.event.Event.TheVariants.{Access as At}
-use Rattle.candidate_executions.specs.declared.event.Event.{Event}
-use Rattle.candidate_executions.specs.RunCandidates.{Origins, with_made, with_memory}
+use Rattle.candidate_executions.proofs.Vocabulary.{cases_eq, same_Some, put, Label, Exec, Pending, At, Event, Origins, with_made, with_memory}
 use Rattle.candidate_executions.proofs.FromRuns.Histories.{Entry, History}
 use Rattle.candidate_executions.proofs.Orders.Lists.{put_same, put_other}
 use Rattle.candidate_executions.proofs.FromRuns.HistoriesGrow.{with_entry, held_new, held_cases, Fits, good_more}

@@ -1,30 +1,14 @@
 -- Each run is a consistent candidate.
 use Rattle.std.proofs.Common.{◌≡◌, ◌≢◌, ℕ, ◌<◌, ◌≤◌, true, List, [], ◌∷◌, Some, None, IsSome, Contains, slice_get, slice_index, option_map, map, refl, sym, ap, ap₂, ◌∙◌, subst, inl, inr, arith, length, lit<}
-use mathlib.Core.Path.{fun_ext}
-use Rattle.std.proofs.lemmas.List.FromFn.{length-map-range_with_len, get_or-map-range_with_len}
-use Rattle.std.specs.List.{range_with_len, AllPairs}
-use Rattle.std.proofs.lemmas.Option.{same_Some, slice_get-map}
-use Rattle.tso_program.specs.declared.listing.Listing.{Listing}
-use Rattle.tso_program.specs.declared.action.Action.TheVariants.{Stop}
-use Rattle.tso_program.specs.Listings.{action, start_of, code_of}
-use Rattle.tso_program.specs.Fences.{Gaps}
-use Rattle.tso_program.specs.declared.outcome.Outcome.{Outcome}
-use Rattle.tso_program.specs.Limits.{JumpForward}
+use Rattle.candidate_executions.proofs.Vocabulary.{fun_ext, length-map-range_with_len, get_or-map-range_with_len, range_with_len, AllPairs, same_Some, slice_get-map, Listing, Stop, action, start_of}
+use Rattle.candidate_executions.proofs.Vocabulary.{code_of, Gaps, Outcome, JumpForward, Label, Access, Event, Initial, At, Candidate, trace_of, access, Writes, IsCandidate, EndsWith, HasOutcome}
+use Rattle.candidate_executions.proofs.Vocabulary.{Trace, IsConsistent, IsValueOf, first_origins, Mark, Takes, Arrives, marks_of, ReadsValue, IsStored, ArriveInOrder, IsCandidateOf}
 use Rattle.tso_machine.specs.Machine.{Machine, SequentialMachine, StoreBufferMachine, State, run, start, outcome_at, HasEnded, IsRun}
-use Rattle.tso_machine.specs.declared.label.Label.{Label}
-use Rattle.candidate_executions.specs.declared.access.Access.{Access}
-use Rattle.candidate_executions.specs.declared.event.Event.{Event}
-use Rattle.candidate_executions.specs.declared.event.Event.TheVariants.{Initial, Access as At}
 use Rattle.candidate_executions.specs.Laws.{EveryRunIsACandidate, EveryRunIsACompletion, HasItsCandidate}
-use Rattle.candidate_executions.specs.Candidates.{Candidate, trace_of, access, Writes, IsCandidate, EndsWith, HasOutcome}
-use Rattle.candidate_executions.specs.Traces.{Trace}
-use Rattle.candidate_executions.specs.Consistency.{IsConsistent}
-use Rattle.candidate_executions.specs.Values.{IsValueOf}
 use Rattle.candidate_executions.proofs.Sketches.KnownEdges.{completes_empty}
 use Rattle.candidate_executions.proofs.FromRuns.Histories.{Entry, History, Holds, Good, Source}
 use Rattle.candidate_executions.proofs.FromRuns.CandidateOfHistory.{candidate_with, Shows, source_of_entry, moment_of_entry, moment_of}
 use Rattle.candidate_executions.proofs.FromRuns.EdgesGoForward.{at_thread, global_acyclic, location_acyclic, whole_acyclic}
-use Rattle.candidate_executions.specs.RunCandidates.{first_origins, Mark, Takes, Arrives, marks_of, ReadsValue, IsStored, ArriveInOrder, IsCandidateOf}
 use Rattle.candidate_executions.proofs.FromRuns.PairsOfMarks.{PairsOf, pairs_all}
 use Rattle.candidate_executions.proofs.FromRuns.MarksOfHistories.{NewRead, NewWrite, Waits, Sooner}
 use Rattle.candidate_executions.proofs.FromRuns.RunInvariant.{Inv}

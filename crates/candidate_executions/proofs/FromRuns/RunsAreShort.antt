@@ -1,18 +1,7 @@
 -- Jumps lead forward, so a run has at most two labels for each instruction: one that executes it, and a flush.
 use Rattle.std.proofs.Common.{◌≡◌, ℕ, suc, zero, ◌+◌, ◌*◌, ◌-◌, ◌<◌, ◌≤◌, Bool, true, false, List, [], ◌∷◌, ◌++◌, Option, Some, None, option_and_then, refl, sym, ap, ◌∙◌, subst, inl, inr, arith, length}
-use Rattle.std.proofs.lemmas.Bool.{cases_eq, cases_lt}
-use Rattle.std.proofs.lemmas.Option.{same_Some}
-use Rattle.tso_program.specs.declared.listing.Listing.{Listing}
-use Rattle.tso_program.specs.declared.action.Local.{Local}
-use Rattle.tso_program.specs.declared.action.Action.{Action}
-use Rattle.tso_program.specs.declared.action.Action.TheVariants.{Stop, Go, Wait, Read, Write, Swap}
-use Rattle.tso_program.specs.Actions.{loaded}
-use Rattle.tso_program.specs.Listings.{action, code_of}
-use Rattle.tso_program.specs.Limits.{JumpForward}
-use Rattle.tso_machine.specs.Machine.{Machine, SequentialMachine, StoreBufferMachine, State, put, when_empty, past_gap, buffered, flushed, direct, step, run, start}
-use Rattle.tso_machine.specs.declared.label.Label.{Label}
-use Rattle.tso_machine.specs.declared.label.Label.TheVariants.{Exec, Flush}
-use Rattle.tso_machine.specs.declared.label.Pending.{Pending}
+use Rattle.candidate_executions.proofs.Vocabulary.{cases_eq, cases_lt, same_Some, Listing, Local, Action, Stop, Go, Wait, Read, Write, Swap, loaded, action, code_of, JumpForward, Machine}
+use Rattle.candidate_executions.proofs.Vocabulary.{SequentialMachine, StoreBufferMachine, State, put, when_empty, past_gap, buffered, flushed, direct, step, run, start, Label, Exec, Flush, Pending}
 use Rattle.candidate_executions.specs.Laws.{EveryRunIsShort}
 use Rattle.candidate_executions.proofs.Orders.Lists.{put_same, put_other}
 use Rattle.candidate_executions.proofs.FromRuns.StepsSuffice.{Further, Advances, advance}

@@ -1,29 +1,12 @@
 -- Each run leaves a good history, and its traces.
 use Rattle.std.proofs.Common.{◌≡◌, ℕ, suc, ◌≤◌, Bool, true, false, List, [], ◌∷◌, ◌++◌, ◌⊎◌, ◌↔◌, Option, Some, None, IsSome, get_or, map, refl, sym, ap, ◌∙◌, subst, inl, inr, length, append-nil, slice_get, zero, arith}
-use mathlib.Core.Path.{fun_ext}
-use Rattle.std.proofs.lemmas.Bool.{cases_eq, cases_lt}
-use Rattle.std.proofs.lemmas.Option.{slice_get-get_or, slice_get_within, same_Some}
-use Rattle.tso_program.specs.declared.instruction.Reg.{Reg}
-use Rattle.tso_program.specs.declared.listing.Listing.{Listing}
-use Rattle.tso_program.specs.declared.action.Local.{Local}
-use Rattle.tso_program.specs.declared.action.Action.{Action}
-use Rattle.tso_program.specs.declared.action.Action.TheVariants.{Go, Wait, Read, Write, Swap}
-use Rattle.tso_program.specs.Listings.{action}
-use Rattle.tso_program.specs.Actions.{loaded}
-use Rattle.tso_program.specs.Fences.{Gaps}
-use Rattle.tso_machine.specs.Machine.{put, StoreBufferMachine, State, newest, found, when_empty, flushed, run}
-use Rattle.tso_machine.specs.declared.label.Label.{Label}
-use Rattle.tso_machine.specs.declared.label.Label.TheVariants.{Exec, Flush}
-use Rattle.tso_machine.specs.declared.label.Pending.{Pending}
-use Rattle.candidate_executions.specs.declared.access.Access.{Access}
-use Rattle.candidate_executions.specs.declared.event.Event.{Event}
-use Rattle.candidate_executions.specs.declared.event.Event.TheVariants.{Access as At}
-use Rattle.candidate_executions.specs.RunCandidates.{Origins, Mark, Takes, Arrives, found_write, with_made, with_waiting, with_memory, buffered_origins, buffered_marks, flushed_origins, flushed_marks, marks}
+use Rattle.candidate_executions.proofs.Vocabulary.{fun_ext, cases_eq, cases_lt, slice_get-get_or, slice_get_within, same_Some, Reg, Listing, Local, Action, Go, Wait, Read, Write, Swap, action, loaded}
+use Rattle.candidate_executions.proofs.Vocabulary.{Gaps, put, StoreBufferMachine, State, newest, found, when_empty, flushed, run, Label, Exec, Flush, Pending, Access, Event, At, Origins, Mark, Takes}
+use Rattle.candidate_executions.proofs.Vocabulary.{Arrives, found_write, with_made, with_waiting, with_memory, buffered_origins, buffered_marks, flushed_origins, flushed_marks, marks, Trace, trace}
+use Rattle.candidate_executions.proofs.Vocabulary.{with_access, entered, IsValueOf, exec_by, flush_by}
 use Rattle.candidate_executions.proofs.FromRuns.CandidateOfHistory.{moment_of}
 use Rattle.candidate_executions.proofs.FromRuns.MarksAlong.{marks_step}
 use Rattle.candidate_executions.proofs.FromRuns.MarksOfHistories.{joined, Waits, Tells, IsShownAs, tells_end, tells_quiet, tells_flush, tells_entry, moment_old, same_joined, shown_load, shown_exchange, shown_store, waits_flush}
-use Rattle.candidate_executions.specs.Traces.{Trace, trace, with_access, entered}
-use Rattle.candidate_executions.specs.Values.{IsValueOf}
 use Rattle.candidate_executions.proofs.FromRuns.Histories.{Entry, History, Holds, Good}
 use Rattle.candidate_executions.proofs.Orders.Lists.{put_same, put_other}
 use Rattle.candidate_executions.proofs.FromRuns.HistoriesGrow.{with_entry}
@@ -34,7 +17,6 @@ use Rattle.candidate_executions.proofs.FromRuns.ReadsKeepInvariant.{read_entry, 
 use Rattle.candidate_executions.proofs.FromRuns.StoresKeepInvariant.{write_entry, inv_write}
 use Rattle.candidate_executions.proofs.FromRuns.FlushesKeepInvariant.{head, others_wait, after_it, inv_flush}
 use Rattle.candidate_executions.proofs.FromRuns.StoredValues.{Valued, Fair, fair_at, found_value, valued_local, valued_loaded, valued_memory, valued_write, valued_flush}
-use Rattle.fence_laws.proofs.StepCases.{exec_by, flush_by}
 use Rattle.candidate_executions.proofs.FromRuns.MachineSteps.{exec_ok, enough, grown_here}
 
 -- the values that a list of entries reads

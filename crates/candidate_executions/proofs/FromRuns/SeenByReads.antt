@@ -1,13 +1,6 @@
 -- What a load or an exchange finds is the newest write that it may see.
 use Rattle.std.proofs.Common.{◌≡◌, ℕ, suc, ◌≤◌, List, ◌∷◌, Option, Some, None, slice_get, refl, sym, ap, ◌∙◌, subst, inl, inr, arith}
-use Rattle.std.proofs.lemmas.Bool.{cases_lt, cases_eq}
-use Rattle.std.proofs.lemmas.Option.{same_Some, slice_get_within}
-use Rattle.tso_machine.specs.Machine.{newest, found}
-use Rattle.tso_machine.specs.declared.label.Label.{Label}
-use Rattle.tso_machine.specs.declared.label.Label.TheVariants.{Exec}
-use Rattle.tso_machine.specs.declared.label.Pending.{Pending}
-use Rattle.candidate_executions.specs.declared.event.Event.TheVariants.{Access as At}
-use Rattle.candidate_executions.specs.RunCandidates.{Origins, found_write}
+use Rattle.candidate_executions.proofs.Vocabulary.{cases_lt, cases_eq, same_Some, slice_get_within, newest, found, Label, Exec, Pending, At, Origins, found_write}
 use Rattle.candidate_executions.proofs.FromRuns.Histories.{History}
 use Rattle.candidate_executions.proofs.FromRuns.FoundWrites.{AreTagged, none_found, newest_found}
 use Rattle.candidate_executions.proofs.FromRuns.FlushesDue.{due, due_late, due_sorted}

@@ -1,21 +1,8 @@
 -- A sequential run is a run of the store buffer machine, each store flushed at once, whatever the gaps.
 use Rattle.std.proofs.Common.{◌≡◌, ℕ, suc, Bool, true, false, List, [], ◌∷◌, ◌++◌, Option, Some, None, option_and_then, refl, sym, ap, ◌∙◌, subst, inl, inr}
-use mathlib.Core.Path.{fun_ext}
-use Rattle.std.proofs.lemmas.Bool.{cases_eq}
-use Rattle.std.proofs.lemmas.Option.{same_Some}
-use Rattle.tso_program.specs.declared.listing.Listing.{Listing}
-use Rattle.tso_program.specs.declared.action.Local.{Local}
-use Rattle.tso_program.specs.declared.action.Action.{Action}
-use Rattle.tso_program.specs.declared.action.Action.TheVariants.{Stop, Go, Wait, Read, Write, Swap}
-use Rattle.tso_program.specs.Listings.{action}
-use Rattle.tso_program.specs.Fences.{Gaps}
-use Rattle.tso_machine.specs.Machine.{put, SequentialMachine, StoreBufferMachine, State, newest, found, past_gap, buffered, flushed, direct, run}
-use Rattle.tso_machine.specs.declared.label.Label.{Label}
-use Rattle.tso_machine.specs.declared.label.Label.TheVariants.{Exec, Flush}
-use Rattle.tso_machine.specs.declared.label.Pending.{Pending}
-use Rattle.candidate_executions.specs.declared.event.Event.{Event}
-use Rattle.candidate_executions.specs.declared.event.Event.TheVariants.{Access as At}
-use Rattle.candidate_executions.specs.RunCandidates.{Origins, Mark, Takes, Arrives, found_write, with_made, with_waiting, with_memory, buffered_origins, buffered_marks, flushed_origins, flushed_marks, direct_origins, direct_marks, marks}
+use Rattle.candidate_executions.proofs.Vocabulary.{fun_ext, cases_eq, same_Some, Listing, Local, Action, Stop, Go, Wait, Read, Write, Swap, action, Gaps, put, SequentialMachine, StoreBufferMachine}
+use Rattle.candidate_executions.proofs.Vocabulary.{State, newest, found, past_gap, buffered, flushed, direct, run, Label, Exec, Flush, Pending, Event, At, Origins, Mark, Takes, Arrives, found_write}
+use Rattle.candidate_executions.proofs.Vocabulary.{with_made, with_waiting, with_memory, buffered_origins, buffered_marks, flushed_origins, flushed_marks, direct_origins, direct_marks, marks}
 use Rattle.fence_laws.proofs.ChangedAt.{put_same, put_back}
 use Rattle.fence_laws.proofs.SequentialIsBuffered.{exec_step, stored, stored_flushed, same_buffers}
 use Rattle.candidate_executions.proofs.FromRuns.MachineSteps.{exec_ok}

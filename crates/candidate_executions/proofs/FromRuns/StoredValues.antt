@@ -1,18 +1,7 @@
 -- Each value that a run stores to a location is one of the location's values.
 use Rattle.std.proofs.Common.{◌≡◌, ℕ, suc, zero, Bool, true, false, not, List, [], ◌∷◌, ◌++◌, ◌⊎◌, Option, Some, None, slice_get, slice_index, get_or, set, refl, sym, subst, inl, inr}
-use Rattle.std.proofs.lemmas.Bool.{cases_eq}
-use Rattle.tso_program.specs.declared.instruction.Reg.{Reg}
-use Rattle.tso_program.specs.declared.instruction.Instr.{Instr}
-use Rattle.tso_program.specs.declared.instruction.Instr.TheVariants.{LoadImm, Copy, Load, StoreImm, Store, Xchg, Fence, CmpImm, CmpReg, Je, Jne, Jmp}
-use Rattle.tso_program.specs.declared.listing.Listing.{Listing}
-use Rattle.tso_program.specs.declared.action.Local.{Local}
-use Rattle.tso_program.specs.declared.action.Action.{Action}
-use Rattle.tso_program.specs.declared.action.Action.TheVariants.{Stop, Go, Wait, Read, Write, Swap}
-use Rattle.tso_program.specs.Listings.{action, code_of, start_of}
-use Rattle.tso_program.specs.Actions.{act, loaded, jumped}
-use Rattle.tso_program.specs.Instructions.{number}
-use Rattle.tso_machine.specs.Machine.{put, State, newest, found}
-use Rattle.tso_machine.specs.declared.label.Pending.{Pending}
+use Rattle.candidate_executions.proofs.Vocabulary.{cases_eq, Reg, Instr, LoadImm, Copy, Load, StoreImm, Store, Xchg, Fence, CmpImm, CmpReg, Je, Jne, Jmp, Listing, Local, Action, Stop, Go, Wait, Read}
+use Rattle.candidate_executions.proofs.Vocabulary.{Write, Swap, action, code_of, start_of, act, loaded, jumped, number, put, State, newest, found, Pending}
 use Rattle.candidate_executions.specs.Values.{IsKnown, IsValueOf}
 use Rattle.candidate_executions.proofs.Orders.Lists.{put_same, put_other, get_cases}
 use Rattle.candidate_executions.proofs.FromRuns.NewestStore.{newest_some}

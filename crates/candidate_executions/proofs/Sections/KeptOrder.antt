@@ -1,7 +1,6 @@
 -- Kept program order in words of what lies between two accesses.
 use Rattle.std.proofs.Common.{◌≡◌, ◌⊎◌, ◌↔◌, ℕ, Option, Some, None, IsSome, refl, inl, inr, length}
-use Rattle.tso_program.specs.Listings.{action, start_of, code_of}
-use Rattle.candidate_executions.specs.Consistency.{KeepsOrder}
+use Rattle.candidate_executions.proofs.Vocabulary.{action, start_of, code_of, KeepsOrder}
 use Rattle.candidate_executions.specs.Paths.{path_of, LiesBetween}
 use Rattle.candidate_executions.specs.Laws.{SectionsTellFences, KeptOrderIsTold}
 use Rattle.candidate_executions.proofs.Sections.SectionsTellFences.{sections_differ}

@@ -2,13 +2,7 @@
 use Rattle.std.proofs.Common.{◌≡◌, ◌≢◌, ◌⊎◌, ◌↔◌, ℕ, zero, suc, ◌+◌, ◌<◌, Bool, true, false, cond, List, [], ◌∷◌, Some, None, slice_get, take, refl, sym, ap, ◌∙◌, subst, inl, inr, arith}
 use Rattle.std.specs.List.{count_by}
 use Rattle.std.proofs.lemmas.List.Sums.{sum_by-cons}
-use Rattle.std.proofs.lemmas.Option.{same_Some}
-use Rattle.tso_program.specs.declared.action.Local.{Local}
-use Rattle.tso_program.specs.declared.action.Action.{Action}
-use Rattle.tso_program.specs.declared.action.Action.TheVariants.{Stop, Go, Wait, Read, Write, Swap}
-use Rattle.tso_program.specs.Actions.{loaded}
-use Rattle.candidate_executions.specs.declared.access.Access.{Access}
-use Rattle.candidate_executions.specs.Traces.{trace, traced, entered}
+use Rattle.candidate_executions.proofs.Vocabulary.{same_Some, Local, Action, Stop, Go, Wait, Read, Write, Swap, loaded, Access, trace, traced, entered}
 use Rattle.candidate_executions.specs.Paths.{executed, path, is_access, IsFenceOrExchange, IsStepOf, LiesBetween}
 use Rattle.candidate_executions.proofs.Sections.SectionsOfSteps.{left, section_at, parted_or_same, parted_more}
 

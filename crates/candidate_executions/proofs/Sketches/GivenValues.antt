@@ -1,12 +1,8 @@
 -- The values given to the threads: none at first, and one more for one thread.
 use Rattle.std.proofs.Common.{◌≡◌, ◌≢◌, ℕ, zero, suc, ◌<◌, List, [], ◌∷◌, ◌++◌, Some, None, length, map, refl, sym, ap, ◌∙◌, inl, inr, append-nil}
 use Rattle.std.specs.Prelude.{slice_get, unwrap_or}
-use Rattle.std.proofs.lemmas.Bool.{cases_eq, cases_lt}
-use Rattle.tso_program.specs.declared.listing.Thread.{Thread}
-use Rattle.tso_program.specs.declared.listing.Listing.{Listing}
-use Rattle.tso_machine.specs.Machine.{Machine}
+use Rattle.candidate_executions.proofs.Vocabulary.{cases_eq, cases_lt, Thread, Listing, Machine, trace_by}
 use Rattle.tso_machine.proofs.Runs.{no_action}
-use Rattle.candidate_executions.specs.Traces.{trace_by}
 use Rattle.candidate_executions.specs.Sketches.{Sketch, empty_sketch, given_to, IsPrefixOf, with_value, read_by, next_read}
 use Rattle.candidate_executions.proofs.Orders.Lists.{get_set_same, get_set_other}
 

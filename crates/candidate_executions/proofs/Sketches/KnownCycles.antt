@@ -1,11 +1,7 @@
 -- A cycle of known edges, of a union of the mode, leaves a sketch no consistent completion.
 use Rattle.std.proofs.Common.{List, [], ◌∷◌}
-use Rattle.tso_program.specs.declared.listing.Listing.{Listing}
-use Rattle.tso_machine.specs.Machine.{Machine, SequentialMachine, StoreBufferMachine}
-use Rattle.candidate_executions.specs.declared.event.Event.{Event}
-use Rattle.candidate_executions.specs.declared.event.Kind.{Kind}
+use Rattle.candidate_executions.proofs.Vocabulary.{Listing, Machine, SequentialMachine, StoreBufferMachine, Event, Kind, Candidate}
 use Rattle.candidate_executions.specs.declared.event.Kind.TheVariants as union
-use Rattle.candidate_executions.specs.Candidates.{Candidate}
 use Rattle.candidate_executions.specs.Consistency.{IsOfMode, Edge, Leads, IsCycle, IsAcyclic, IsConsistent}
 use Rattle.candidate_executions.specs.Sketches.{Sketch, IsConsistentCompletion, IsSketch, KnownEdge, KnownEdgeOfMode, IsKnownCycle}
 use Rattle.candidate_executions.proofs.Orders.WiderRelations.{cycle_wider}

@@ -1,17 +1,8 @@
 -- What is known of a sketch holds of each completion.
 use Rattle.std.proofs.Common.{◌≡◌, ◌≢◌, ℕ, ◌<◌, List, ◌++◌, Some, IsSome, Contains, slice_get, refl, sym, ap, ◌∙◌, subst, inl, inr, arith, length, slice_index}
-use Rattle.std.proofs.lemmas.Option.{same_Some}
-use Rattle.tso_program.specs.declared.listing.Listing.{Listing}
-use Rattle.tso_program.specs.Listings.{action, start_of, code_of}
-use Rattle.tso_machine.specs.Machine.{Machine}
-use Rattle.candidate_executions.specs.declared.access.Access.{Access}
-use Rattle.candidate_executions.specs.declared.event.Event.{Event}
-use Rattle.candidate_executions.specs.declared.event.Event.TheVariants.{Initial, Access as At}
-use Rattle.candidate_executions.specs.declared.event.Kind.{Kind}
+use Rattle.candidate_executions.proofs.Vocabulary.{same_Some, Listing, action, start_of, code_of, Machine, Access, Event, Initial, At, Kind, Candidate, access, access_by, Writes, IsCandidate, trace}
+use Rattle.candidate_executions.proofs.Vocabulary.{fenced_gaps, Relates, Edge, IsCycle, WriteOrder, FromReads}
 use Rattle.candidate_executions.specs.declared.event.Kind.TheVariants as union
-use Rattle.candidate_executions.specs.Candidates.{Candidate, access, access_by, Writes, IsCandidate}
-use Rattle.candidate_executions.specs.Traces.{trace, fenced_gaps}
-use Rattle.candidate_executions.specs.Consistency.{Relates, Edge, IsCycle, WriteOrder, FromReads}
 use Rattle.candidate_executions.specs.Sketches.{Sketch, given_to, Completes, IsSketch, IsBefore, KnownRelates, KnownEdge, KnownFromReads}
 use Rattle.candidate_executions.specs.Laws.{EveryCandidateCompletesEmpty, AKnownEdgeIsAnEdge, AKnownCycleIsACycle}
 use Rattle.candidate_executions.proofs.Orders.WiderRelations.{cycle_wider}

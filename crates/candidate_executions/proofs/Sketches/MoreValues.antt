@@ -1,12 +1,6 @@
 -- What more given values do to a trace: it keeps its accesses, a read at which it stopped takes the next value, and at its end it takes none.
 use Rattle.std.proofs.Common.{◌≡◌, ℕ, zero, suc, ◌+◌, ◌≤◌, Bool, List, [], ◌∷◌, ◌++◌, Some, None, slice_get, length, refl, sym, ap, ◌∙◌, arith}
-use Rattle.tso_program.specs.declared.action.Local.{Local}
-use Rattle.tso_program.specs.declared.action.Action.{Action}
-use Rattle.tso_program.specs.declared.action.Action.TheVariants.{Stop, Go, Wait, Read, Write, Swap}
-use Rattle.tso_program.specs.Actions.{loaded}
-use Rattle.candidate_executions.specs.declared.access.Access.{Access}
-use Rattle.candidate_executions.specs.Traces.{Trace, trace, traced, entered, with_access}
-use Rattle.candidate_executions.specs.Sketches.{read_by}
+use Rattle.candidate_executions.proofs.Vocabulary.{Local, Action, Stop, Go, Wait, Read, Write, Swap, loaded, Access, Trace, trace, traced, entered, with_access, read_by}
 use Rattle.candidate_executions.proofs.FromRuns.StepsSuffice.{Advances}
 
 -- the trace with more values left over

@@ -1,12 +1,8 @@
 -- Where a sketch must end as an outcome, the same is shown of each completion's.
 use Rattle.std.proofs.Common.{◌≡◌, ℕ, ◌<◌, ◌≤◌, Bool, List, [], Option, Some, None, slice_index, length, map, refl, sym, ap, ◌∙◌, subst, inl, inr, arith}
-use Rattle.std.specs.List.{range_with_len}
-use Rattle.std.proofs.lemmas.List.FromFn.{get_or-map-range_with_len, length-map-range_with_len}
-use Rattle.std.proofs.lemmas.Option.{same_Some, slice_get-get_or, slice_get_past}
 use Rattle.std.specs.Prelude.{option_and_then, slice_get}
-use Rattle.std.proofs.lemmas.Bool.{cases_lt}
-use Rattle.tso_program.specs.declared.listing.Listing.{Listing}
-use Rattle.tso_program.specs.declared.outcome.Outcome.{Outcome}
+use Rattle.candidate_executions.proofs.Vocabulary.{range_with_len, get_or-map-range_with_len, length-map-range_with_len, same_Some, slice_get-get_or, slice_get_past, cases_lt, Listing, Outcome}
+use Rattle.candidate_executions.proofs.Vocabulary.{number, action, start_of, code_of, JumpForward, Machine, Access, Event, Initial, Trace, trace, trace_by, fenced_gaps}
 use Rattle.tso_program.specs.declared.shown.Shown.{Shown}
 use Rattle.tso_program.specs.declared.shown.Shown.TheVariants.{All, Only, Truth}
 use Rattle.tso_program.specs.declared.atom.Atom.{Atom}
@@ -16,14 +12,6 @@ use Rattle.tso_program.specs.Truth.{truth, is_true_at, is_value}
 use Rattle.tso_program.proofs.KnownTruths.{known_is_true}
 use Rattle.tso_program.specs.Shown.{Question, shown_value, show_registers, show_memory, shown_values, show, told}
 use Rattle.tso_program.proofs.Kept.{memory_by}
-use Rattle.tso_program.specs.Instructions.{number}
-use Rattle.tso_program.specs.Listings.{action, start_of, code_of}
-use Rattle.tso_program.specs.Limits.{JumpForward}
-use Rattle.tso_machine.specs.Machine.{Machine}
-use Rattle.candidate_executions.specs.declared.access.Access.{Access}
-use Rattle.candidate_executions.specs.declared.event.Event.{Event}
-use Rattle.candidate_executions.specs.declared.event.Event.TheVariants.{Initial}
-use Rattle.candidate_executions.specs.Traces.{Trace, trace, trace_by, fenced_gaps}
 use Rattle.candidate_executions.specs.Candidates.{Candidate, access, access_by, Writes, IsCandidate, EndsWith, HasOutcome, HasShownOutcome}
 use Rattle.candidate_executions.specs.Sketches.{Sketch, given_to, Completes, IsSketch, MayBeLast, stopped, MayEndWith, EndsInValues, KnownAtom, EndsInTruth, EndsAs, IsWhole, MustEndAs, next_read}
 use Rattle.candidate_executions.specs.Laws.{EachCompletionEndsSo}

@@ -1,15 +1,8 @@
 -- A consistent candidate has a run along each order of its accesses, and so every one is the candidate of a run.
 use Rattle.std.proofs.Common.{List}
-use Rattle.tso_program.specs.declared.listing.Listing.{Listing}
-use Rattle.tso_program.specs.declared.outcome.Outcome.{Outcome}
-use Rattle.tso_machine.specs.declared.label.Label.{Label}
-use Rattle.tso_machine.specs.Machine.{Machine, SequentialMachine, StoreBufferMachine, IsRun}
-use Rattle.candidate_executions.specs.declared.event.Event.{Event}
+use Rattle.candidate_executions.proofs.Vocabulary.{Listing, Outcome, Label, Machine, SequentialMachine, StoreBufferMachine, IsRun, Event, Candidate, access, IsCandidate, HasOutcome, Edge}
+use Rattle.candidate_executions.proofs.Vocabulary.{IsConsistent, labels_along, followed_union, IsCandidateOf}
 use Rattle.candidate_executions.specs.declared.event.Kind.TheVariants as union
-use Rattle.candidate_executions.specs.Candidates.{Candidate, access, IsCandidate, HasOutcome}
-use Rattle.candidate_executions.specs.Consistency.{Edge, IsConsistent}
-use Rattle.candidate_executions.specs.Orders.{labels_along, followed_union}
-use Rattle.candidate_executions.specs.RunCandidates.{IsCandidateOf}
 use Rattle.candidate_executions.specs.Laws.{EveryCandidateIsARun, EveryOrderIsARun}
 use Rattle.candidate_executions.proofs.ToRuns.Linear.{IsLinear, order_is_linear, linear}
 use Rattle.candidate_executions.proofs.ToRuns.CandidatesHaveRuns.{IsRunAlong, runs_along}

@@ -1,25 +1,9 @@
 -- A consistent candidate with fenced gaps has a run of the store buffer machine along each order that the union Global allows.
 use Rattle.std.proofs.Common.{◌≡◌, ℕ, ◌<◌, ◌≤◌, List, [], slice_index, map, refl, sym, ap, ◌∙◌, subst, arith, length}
-use Rattle.std.proofs.lemmas.Option.{same_Some}
-use mathlib.Core.Path.{fun_ext}
-use Rattle.std.specs.List.{range_with_len}
-use Rattle.std.proofs.lemmas.List.FromFn.{length-map-range_with_len, get_or-map-range_with_len}
-use Rattle.std.proofs.lemmas.Grind.{same_number_lists}
-use Rattle.tso_program.specs.declared.listing.Listing.{Listing}
-use Rattle.tso_program.specs.declared.action.Local.{Local}
-use Rattle.tso_program.specs.Listings.{code_of}
-use Rattle.tso_program.specs.Fences.{Gaps}
-use Rattle.tso_program.specs.declared.outcome.Outcome.{Outcome}
-use Rattle.tso_machine.specs.Machine.{Machine, StoreBufferMachine, State, start, IsRun, outcome_at}
-use Rattle.tso_machine.specs.declared.label.Label.{Label}
-use Rattle.candidate_executions.specs.declared.access.Access.{Access}
-use Rattle.candidate_executions.specs.declared.event.Event.{Event}
-use Rattle.candidate_executions.specs.declared.event.Event.TheVariants.{Initial, Access as At}
+use Rattle.candidate_executions.proofs.Vocabulary.{same_Some, fun_ext, range_with_len, length-map-range_with_len, get_or-map-range_with_len, same_number_lists, Listing, Local, code_of, Gaps, Outcome}
+use Rattle.candidate_executions.proofs.Vocabulary.{Machine, StoreBufferMachine, State, start, IsRun, outcome_at, Label, Access, Event, Initial, At, Candidate, trace_of, access, IsCandidate, EndsWith}
+use Rattle.candidate_executions.proofs.Vocabulary.{HasOutcome, Edge, IsAcyclic, labels_along, first_origins, marks_of}
 use Rattle.candidate_executions.specs.declared.event.Kind.TheVariants as union
-use Rattle.candidate_executions.specs.Candidates.{Candidate, trace_of, access, IsCandidate, EndsWith, HasOutcome}
-use Rattle.candidate_executions.specs.Consistency.{Edge, IsAcyclic}
-use Rattle.candidate_executions.specs.Orders.{labels_along}
-use Rattle.candidate_executions.specs.RunCandidates.{first_origins, marks_of}
 use Rattle.candidate_executions.proofs.FromRuns.MarksAlong.{shown_along}
 use Rattle.candidate_executions.proofs.Orders.AcyclicIsOrdered.{In}
 use Rattle.candidate_executions.proofs.Candidates.LastWrites.{one_end}

@@ -1,26 +1,11 @@
 -- A run of the store buffer machine comes to the next event of the order.
 use Rattle.std.proofs.Common.{◌≡◌, ℕ, suc, zero, ◌+◌, ◌-◌, ◌<◌, ◌≤◌, Bool, true, false, List, [], ◌∷◌, ◌++◌, Some, None, IsSome, option_and_then, slice_get, drop, refl, sym, ap, ◌∙◌, subst, inl, inr, arith}
-use Rattle.std.proofs.lemmas.Bool.{cases_lt, cases_eq}
-use Rattle.std.proofs.lemmas.Option.{same_Some}
-use Rattle.tso_program.specs.declared.listing.Listing.{Listing}
-use Rattle.tso_program.specs.Actions.{loaded}
-use Rattle.tso_program.specs.declared.action.Local.{Local}
-use Rattle.tso_program.specs.declared.action.Action.{Action}
-use Rattle.tso_program.specs.declared.action.Action.TheVariants.{Stop, Go, Wait, Read, Write, Swap}
-use Rattle.tso_program.specs.Listings.{action}
-use Rattle.tso_program.specs.Fences.{Gaps}
-use Rattle.tso_machine.specs.Machine.{Machine, put, StoreBufferMachine, State, newest, found, when_empty, flushed, step, run}
-use Rattle.tso_machine.specs.declared.label.Label.{Label}
-use Rattle.tso_machine.specs.declared.label.Label.TheVariants.{Exec, Flush}
-use Rattle.tso_machine.specs.declared.label.Pending.{Pending}
-use Rattle.candidate_executions.specs.declared.access.Access.{Access}
-use Rattle.candidate_executions.specs.declared.event.Event.{Event}
-use Rattle.candidate_executions.specs.declared.event.Event.TheVariants.{Access as At}
+use Rattle.candidate_executions.proofs.Vocabulary.{cases_lt, cases_eq, same_Some, Listing, loaded, Local, Action, Stop, Go, Wait, Read, Write, Swap, action, Gaps, Machine, put, StoreBufferMachine}
+use Rattle.candidate_executions.proofs.Vocabulary.{State, newest, found, when_empty, flushed, step, run, Label, Exec, Flush, Pending, Access, Event, At, Candidate, IsCandidate, EndsWith, Trace, trace}
+use Rattle.candidate_executions.proofs.Vocabulary.{traced, stopped, with_access, entered, KeepsOrder, Edge, IsAcyclic, Origins, Mark, Takes, Arrives, found_write, with_made, with_waiting, with_memory}
+use Rattle.candidate_executions.proofs.Vocabulary.{buffered_origins, buffered_marks, flushed_origins, flushed_marks, origins_after, marks_at, marks}
 use Rattle.candidate_executions.specs.declared.event.Kind.TheVariants as union
-use Rattle.candidate_executions.specs.Candidates.{Candidate, IsCandidate, EndsWith}
-use Rattle.candidate_executions.specs.Traces.{Trace, trace, traced, stopped, with_access, entered}
 use Rattle.candidate_executions.specs.Orders.{Steps, steps, steps_by, counted, execs, flush_of}
-use Rattle.candidate_executions.specs.Consistency.{KeepsOrder, Edge, IsAcyclic}
 use Rattle.candidate_executions.proofs.Orders.Lists.{put_same, put_other}
 use Rattle.candidate_executions.proofs.FromRuns.MachineSteps.{exec_ok}
 use Rattle.candidate_executions.proofs.Orders.Dropped.{drop_none, drop_head, get_drop}
@@ -28,7 +13,6 @@ use Rattle.candidate_executions.proofs.Sections.SectionsRise.{from_section}
 use Rattle.candidate_executions.proofs.Candidates.WrittenValues.{stored_as, store_of, some_written}
 use Rattle.candidate_executions.proofs.ToRuns.StepsCounted.{later, tail_counts}
 use Rattle.candidate_executions.proofs.ToRuns.Standing.{at, acc, W, store, Has, steps_from}
-use Rattle.candidate_executions.specs.RunCandidates.{Origins, Mark, Takes, Arrives, found_write, with_made, with_waiting, with_memory, buffered_origins, buffered_marks, flushed_origins, flushed_marks, origins_after, marks_at, marks}
 use Rattle.candidate_executions.proofs.FromRuns.MarksAlong.{marks_step, shown_along, shown_first}
 use Rattle.candidate_executions.proofs.ToRuns.ReadsTheRightValue.{not_kept, clear, no_waits, right_write, right_value}
 use Rattle.candidate_executions.proofs.ToRuns.StandingOn.{mode, final, left, Stand, Share, MadeNext, quiet_stands, write_stands, other_stands, read_stands, shared_next, has_still, has_new, flush_stands}

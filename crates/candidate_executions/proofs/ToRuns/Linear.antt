@@ -1,18 +1,7 @@
 -- An order of a candidate's accesses.
 use Rattle.std.proofs.Common.{◌≡◌, ◌≢◌, ℕ, suc, zero, ◌<◌, ◌≤◌, List, [], ◌∷◌, Option, Some, Contains, slice_get, length, refl, sym, ap, subst, inl, inr, arith}
-use Rattle.std.specs.List.{AllPairs}
-use Rattle.std.proofs.lemmas.Bool.{cases_lt}
-use Rattle.std.proofs.lemmas.Option.{slice_get_within}
-use Rattle.tso_program.specs.declared.listing.Listing.{Listing}
-use Rattle.tso_program.specs.Listings.{action, start_of}
-use Rattle.tso_machine.specs.Machine.{Machine}
-use Rattle.candidate_executions.specs.declared.access.Access.{Access}
-use Rattle.candidate_executions.specs.declared.event.Event.{Event}
-use Rattle.candidate_executions.specs.declared.event.Event.TheVariants.{Initial, Access as At}
-use Rattle.candidate_executions.specs.declared.event.Kind.{Kind}
-use Rattle.candidate_executions.specs.Traces.{trace, fenced_gaps}
-use Rattle.candidate_executions.specs.Candidates.{Candidate, trace_of, access}
-use Rattle.candidate_executions.specs.Consistency.{Edge, IsAcyclic}
+use Rattle.candidate_executions.proofs.Vocabulary.{AllPairs, cases_lt, slice_get_within, Listing, action, start_of, Machine, Access, Event, Initial, At, Kind, trace, fenced_gaps, Candidate, trace_of}
+use Rattle.candidate_executions.proofs.Vocabulary.{access, Edge, IsAcyclic}
 use Rattle.candidate_executions.specs.Orders.{followed_union, IsOrder}
 use Rattle.candidate_executions.proofs.Orders.AcyclicIsOrdered.{In, Distinct, Ordered, Listed, listed}
 use Rattle.candidate_executions.proofs.Orders.Lists.{get_some}

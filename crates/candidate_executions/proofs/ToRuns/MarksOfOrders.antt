@@ -1,20 +1,9 @@
 -- A run that shows what the events of an order show has their candidate.
 use Rattle.std.proofs.Common.{◌≡◌, ℕ, suc, zero, ◌<◌, List, [], ◌∷◌, ◌⊎◌, Option, Some, None, IsSome, Contains, refl, sym, ap, ◌∙◌, subst, inl, inr, arith}
-use Rattle.std.specs.List.{AllPairs}
-use Rattle.std.proofs.lemmas.Bool.{cases_order}
-use Rattle.std.proofs.lemmas.Option.{same_Some}
-use Rattle.std.proofs.lemmas.List.Elements.{Contains-append_left, Contains-append_right, Contains-append_cases}
-use Rattle.tso_program.specs.declared.listing.Listing.{Listing}
-use Rattle.tso_machine.specs.declared.label.Label.{Label}
-use Rattle.tso_machine.specs.Machine.{Machine}
-use Rattle.candidate_executions.specs.declared.access.Access.{Access}
-use Rattle.candidate_executions.specs.declared.event.Event.{Event}
-use Rattle.candidate_executions.specs.declared.event.Event.TheVariants.{Initial, Access as At}
-use Rattle.candidate_executions.specs.declared.event.Kind.{Kind}
+use Rattle.candidate_executions.proofs.Vocabulary.{AllPairs, cases_order, same_Some, Contains-append_left, Contains-append_right, Contains-append_cases, Listing, Label, Machine, Access, Event}
+use Rattle.candidate_executions.proofs.Vocabulary.{Initial, At, Kind, Candidate, access, Writes, IsCandidate, Relates, WriteOrder, Edge, Mark, Takes, Arrives, marks_of, ReadsValue, IsStored}
+use Rattle.candidate_executions.proofs.Vocabulary.{ArriveInOrder, IsCandidateOf}
 use Rattle.candidate_executions.specs.declared.event.Kind.TheVariants as union
-use Rattle.candidate_executions.specs.Candidates.{Candidate, access, Writes, IsCandidate}
-use Rattle.candidate_executions.specs.Consistency.{Relates, WriteOrder, Edge}
-use Rattle.candidate_executions.specs.RunCandidates.{Mark, Takes, Arrives, marks_of, ReadsValue, IsStored, ArriveInOrder, IsCandidateOf}
 use Rattle.candidate_executions.proofs.Orders.AcyclicIsOrdered.{In, Distinct, Ordered}
 use Rattle.candidate_executions.proofs.ToRuns.Linear.{IsLinear}
 use Rattle.candidate_executions.proofs.Orders.Lists.{some_value}

@@ -1,19 +1,8 @@
 -- A read finds its source's value in memory or in its thread's buffer.
 use Rattle.std.proofs.Common.{◌≡◌, ◌≢◌, ℕ, ◌<◌, ◌≤◌, List, [], ◌∷◌, ◌⊎◌, Option, Some, None, option_map, slice_get, map, refl, sym, ap, ap₂, ◌∙◌, subst, inl, inr, arith}
-use Rattle.std.proofs.lemmas.Bool.{cases_eq, cases_order}
-use Rattle.std.proofs.lemmas.Option.{same_Some, slice_get-map}
-use Rattle.tso_program.specs.declared.listing.Listing.{Listing}
-use Rattle.tso_program.specs.declared.action.Local.{Local}
-use Rattle.tso_program.specs.Fences.{Gaps}
-use Rattle.tso_machine.specs.Machine.{StoreBufferMachine, newest, found}
-use Rattle.tso_machine.specs.declared.label.Pending.{Pending}
-use Rattle.candidate_executions.specs.declared.access.Access.{Access}
-use Rattle.candidate_executions.specs.declared.event.Event.{Event}
-use Rattle.candidate_executions.specs.declared.event.Event.TheVariants.{Initial, Access as At}
+use Rattle.candidate_executions.proofs.Vocabulary.{cases_eq, cases_order, same_Some, slice_get-map, Listing, Local, Gaps, StoreBufferMachine, newest, found, Pending, Access, Event, Initial, At}
+use Rattle.candidate_executions.proofs.Vocabulary.{Candidate, IsCandidate, SameThread, KeepsOrder, Edge, IsAcyclic, found_write}
 use Rattle.candidate_executions.specs.declared.event.Kind.TheVariants as union
-use Rattle.candidate_executions.specs.Candidates.{Candidate, IsCandidate}
-use Rattle.candidate_executions.specs.Consistency.{SameThread, KeepsOrder, Edge, IsAcyclic}
-use Rattle.candidate_executions.specs.RunCandidates.{found_write}
 use Rattle.candidate_executions.proofs.FromRuns.FoundWrites.{NoneFound, NewestFound, found_cases}
 use Rattle.candidate_executions.proofs.FromRuns.NewestStore.{Found, newest_none, newest_some}
 use Rattle.candidate_executions.proofs.Orders.AcyclicIsOrdered.{In}

@@ -1,26 +1,11 @@
 -- After the last event each thread comes to its end, and so the run follows the whole order.
 use Rattle.std.proofs.Common.{◌≡◌, ℕ, suc, zero, ◌+◌, ◌-◌, ◌<◌, ◌≤◌, ◌⊎◌, List, [], ◌∷◌, ◌++◌, Some, slice_get, slice_index, map, drop, refl, sym, ap, ◌∙◌, subst, inl, inr, arith, length}
-use Rattle.std.proofs.lemmas.Bool.{cases_eq}
 use Rattle.std.proofs.lemmas.Option.{slice_get_within, get_or_from_slice_get}
-use Rattle.candidate_executions.specs.declared.access.Access.{Access}
-use Rattle.tso_program.specs.declared.listing.Listing.{Listing}
-use Rattle.tso_program.specs.Actions.{act}
-use Rattle.tso_program.specs.declared.action.Local.{Local}
-use Rattle.tso_program.specs.declared.action.Action.{Action}
-use Rattle.tso_program.specs.declared.action.Action.TheVariants.{Stop, Go, Wait, Read, Write, Swap}
-use Rattle.tso_program.specs.Listings.{action, start_of, code_of}
-use Rattle.tso_program.specs.Fences.{Gaps}
-use Rattle.tso_machine.specs.Machine.{Machine, put, StoreBufferMachine, State, when_empty, step}
-use Rattle.tso_machine.specs.declared.label.Label.{Label}
-use Rattle.tso_machine.specs.declared.label.Label.TheVariants.{Exec}
-use Rattle.candidate_executions.specs.declared.event.Event.{Event}
-use Rattle.candidate_executions.specs.declared.event.Event.TheVariants.{Initial, Access as At}
+use Rattle.candidate_executions.proofs.Vocabulary.{cases_eq, Access, Listing, act, Local, Action, Stop, Go, Wait, Read, Write, Swap, action, start_of, code_of, Gaps, Machine, put, StoreBufferMachine}
+use Rattle.candidate_executions.proofs.Vocabulary.{State, when_empty, step, Label, Exec, Event, Initial, At, Candidate, IsCandidate, EndsWith, Trace, trace, traced, entered, Edge, IsAcyclic, Origins}
+use Rattle.candidate_executions.proofs.Vocabulary.{buffered_origins, buffered_marks, origins_after, marks_at}
 use Rattle.candidate_executions.specs.declared.event.Kind.TheVariants as union
-use Rattle.candidate_executions.specs.Candidates.{Candidate, IsCandidate, EndsWith}
-use Rattle.candidate_executions.specs.Traces.{Trace, trace, traced, entered}
 use Rattle.candidate_executions.specs.Orders.{Steps, steps, steps_by, counted, execs, flushes, to_ends, labels_along}
-use Rattle.candidate_executions.specs.Consistency.{Edge, IsAcyclic}
-use Rattle.candidate_executions.specs.RunCandidates.{Origins, buffered_origins, buffered_marks, origins_after, marks_at}
 use Rattle.candidate_executions.proofs.Orders.Lists.{put_same, put_other, get_some}
 use Rattle.candidate_executions.proofs.FromRuns.MachineSteps.{exec_ok}
 use Rattle.candidate_executions.proofs.ToRuns.StepsCounted.{all_above, same_length}

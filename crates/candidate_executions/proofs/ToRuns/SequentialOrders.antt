@@ -1,26 +1,11 @@
 -- A consistent candidate of sequential consistency has a run along each order that the union Sequential allows: the states of the run
 -- are those of a store buffer machine with no gap fenced, each store flushed at once.
 use Rattle.std.proofs.Common.{◌≡◌, ℕ, suc, zero, ◌+◌, ◌-◌, ◌<◌, ◌≤◌, List, [], ◌∷◌, ◌++◌, Some, None, slice_get, map, refl, sym, ap, ◌∙◌, subst, inl, inr, arith}
-use Rattle.std.proofs.lemmas.Bool.{cases_lt, cases_eq}
-use Rattle.std.proofs.lemmas.Option.{same_Some}
-use Rattle.tso_program.specs.declared.listing.Listing.{Listing}
-use Rattle.tso_program.specs.Actions.{loaded}
-use Rattle.tso_program.specs.declared.action.Local.{Local}
-use Rattle.tso_program.specs.declared.action.Action.{Action}
-use Rattle.tso_program.specs.declared.action.Action.TheVariants.{Stop, Go, Wait, Read, Write, Swap}
-use Rattle.tso_program.specs.Listings.{action}
-use Rattle.tso_program.specs.declared.outcome.Outcome.{Outcome}
-use Rattle.tso_machine.specs.Machine.{put, SequentialMachine, StoreBufferMachine, no_gaps, State, newest, found, step, start}
-use Rattle.tso_machine.specs.declared.label.Label.{Label}
-use Rattle.tso_machine.specs.declared.label.Label.TheVariants.{Exec}
-use Rattle.candidate_executions.specs.declared.access.Access.{Access}
-use Rattle.candidate_executions.specs.declared.event.Event.{Event}
-use Rattle.candidate_executions.specs.declared.event.Event.TheVariants.{Initial, Access as At}
+use Rattle.candidate_executions.proofs.Vocabulary.{cases_lt, cases_eq, same_Some, Listing, loaded, Local, Action, Stop, Go, Wait, Read, Write, Swap, action, Outcome, put, SequentialMachine}
+use Rattle.candidate_executions.proofs.Vocabulary.{StoreBufferMachine, no_gaps, State, newest, found, step, start, Label, Exec, Access, Event, Initial, At, Candidate, access, IsCandidate, HasOutcome}
+use Rattle.candidate_executions.proofs.Vocabulary.{Trace, trace, traced, stopped, Edge, IsAcyclic, Steps, steps, steps_by, counted, execs, labels_along, Origins, first_origins, Mark, Takes, Arrives}
+use Rattle.candidate_executions.proofs.Vocabulary.{found_write, with_made, with_memory, direct_origins, direct_marks, origins_after, marks_at}
 use Rattle.candidate_executions.specs.declared.event.Kind.TheVariants as union
-use Rattle.candidate_executions.specs.Candidates.{Candidate, access, IsCandidate, HasOutcome}
-use Rattle.candidate_executions.specs.Traces.{Trace, trace, traced, stopped}
-use Rattle.candidate_executions.specs.Consistency.{Edge, IsAcyclic}
-use Rattle.candidate_executions.specs.Orders.{Steps, steps, steps_by, counted, execs, labels_along}
 use Rattle.candidate_executions.proofs.Orders.Lists.{put_same, put_other}
 use Rattle.candidate_executions.proofs.Orders.Dropped.{drop_none, get_drop}
 use Rattle.candidate_executions.proofs.Orders.AcyclicIsOrdered.{In, Ordered}
@@ -28,7 +13,6 @@ use Rattle.candidate_executions.proofs.Orders.WiderRelations.{acyclic_narrower, 
 use Rattle.candidate_executions.proofs.ToRuns.Linear.{IsLinear}
 use Rattle.candidate_executions.proofs.ToRuns.StepsCounted.{later, tail_counts}
 use Rattle.candidate_executions.proofs.ToRuns.Standing.{at, acc, G, store, Has, steps_from}
-use Rattle.candidate_executions.specs.RunCandidates.{Origins, first_origins, Mark, Takes, Arrives, found_write, with_made, with_memory, direct_origins, direct_marks, origins_after, marks_at}
 use Rattle.candidate_executions.proofs.FromRuns.MarksAlong.{shown_first}
 use Rattle.candidate_executions.proofs.ToRuns.ReadsTheRightValue.{no_waits, right_write, right_value}
 use Rattle.candidate_executions.proofs.ToRuns.StandingOn.{left, Stand, Share, MadeNext, quiet_stands, other_stands, read_stands, shared_next, has_still, has_new}

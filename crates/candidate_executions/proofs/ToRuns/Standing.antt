@@ -1,20 +1,8 @@
 -- Where the threads stand in a run that follows the order of a candidate's events.
 use Rattle.std.proofs.Common.{◌≡◌, ◌≢◌, ℕ, ◌<◌, ◌≤◌, List, [], ◌∷◌, Option, Some, None, IsSome, slice_get, map, drop, refl, sym, ap, ◌∙◌, inl, inr}
-use Rattle.std.proofs.lemmas.Option.{same_Some}
-use Rattle.tso_program.specs.declared.listing.Listing.{Listing}
-use Rattle.tso_program.specs.declared.action.Local.{Local}
-use Rattle.tso_program.specs.Listings.{action}
-use Rattle.tso_program.specs.Fences.{Gaps}
-use Rattle.tso_machine.specs.Machine.{Machine, StoreBufferMachine}
-use Rattle.tso_machine.specs.declared.label.Pending.{Pending}
-use Rattle.candidate_executions.specs.declared.access.Access.{Access}
-use Rattle.candidate_executions.specs.declared.event.Event.{Event}
-use Rattle.candidate_executions.specs.declared.event.Event.TheVariants.{Initial, Access as At}
+use Rattle.candidate_executions.proofs.Vocabulary.{same_Some, Listing, Local, action, Gaps, Machine, StoreBufferMachine, Pending, Access, Event, Initial, At, Candidate, trace_of, access, Writes}
+use Rattle.candidate_executions.proofs.Vocabulary.{IsCandidate, trace, Steps, steps, steps_by, SameThread, KeepsOrder, Edge, IsAcyclic}
 use Rattle.candidate_executions.specs.declared.event.Kind.TheVariants as union
-use Rattle.candidate_executions.specs.Candidates.{Candidate, trace_of, access, Writes, IsCandidate}
-use Rattle.candidate_executions.specs.Traces.{trace}
-use Rattle.candidate_executions.specs.Orders.{Steps, steps, steps_by}
-use Rattle.candidate_executions.specs.Consistency.{SameThread, KeepsOrder, Edge, IsAcyclic}
 use Rattle.candidate_executions.proofs.Orders.AcyclicIsOrdered.{In, Distinct, Ordered}
 use Rattle.candidate_executions.proofs.Candidates.WrittenValues.{store_of}
 

@@ -1,22 +1,9 @@
 -- How the threads stand after a step of the run.
 use Rattle.std.proofs.Common.{◌≡◌, ℕ, suc, zero, ◌<◌, ◌≤◌, List, [], ◌∷◌, ◌++◌, Some, None, IsSome, slice_get, map, drop, refl, sym, ap, ap₂, ◌∙◌, subst, inl, inr, arith, length}
-use Rattle.std.proofs.lemmas.Bool.{cases_lt, cases_eq}
-use Rattle.std.proofs.lemmas.Option.{same_Some, slice_get_within}
 use Rattle.std.proofs.lemmas.List.{map_push}
-use Rattle.tso_program.specs.declared.listing.Listing.{Listing}
-use Rattle.tso_program.specs.declared.action.Local.{Local}
-use Rattle.tso_program.specs.Listings.{action}
-use Rattle.tso_program.specs.Fences.{Gaps}
-use Rattle.tso_machine.specs.Machine.{Machine, StoreBufferMachine}
-use Rattle.tso_machine.specs.declared.label.Pending.{Pending}
-use Rattle.candidate_executions.specs.declared.access.Access.{Access}
-use Rattle.candidate_executions.specs.declared.event.Event.{Event}
-use Rattle.candidate_executions.specs.declared.event.Event.TheVariants.{Access as At}
+use Rattle.candidate_executions.proofs.Vocabulary.{cases_lt, cases_eq, same_Some, slice_get_within, Listing, Local, action, Gaps, Machine, StoreBufferMachine, Pending, Access, Event, At, Candidate}
+use Rattle.candidate_executions.proofs.Vocabulary.{trace_of, IsCandidate, Trace, trace, steps, steps_by, Edge, IsAcyclic}
 use Rattle.candidate_executions.specs.declared.event.Kind.TheVariants as union
-use Rattle.candidate_executions.specs.Candidates.{Candidate, trace_of, IsCandidate}
-use Rattle.candidate_executions.specs.Traces.{Trace, trace}
-use Rattle.candidate_executions.specs.Orders.{steps, steps_by}
-use Rattle.candidate_executions.specs.Consistency.{Edge, IsAcyclic}
 use Rattle.candidate_executions.proofs.Orders.Lists.{get_end, get_front, get_cases}
 use Rattle.candidate_executions.proofs.Orders.AcyclicIsOrdered.{In}
 use Rattle.candidate_executions.proofs.Candidates.EdgesAreDecidable.{same_event}

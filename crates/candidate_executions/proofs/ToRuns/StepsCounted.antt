@@ -1,11 +1,6 @@
 -- The steps of a thread are one for each access of its trace, and rise.
 use Rattle.std.proofs.Common.{◌≡◌, ℕ, suc, zero, ◌<◌, ◌≤◌, List, [], ◌∷◌, Bool, Some, slice_get, drop, refl, ap, length, arith}
-use Rattle.std.proofs.lemmas.Option.{same_Some}
-use Rattle.tso_program.specs.Actions.{loaded}
-use Rattle.tso_program.specs.declared.action.Action.TheVariants.{Stop, Go, Wait, Read, Write, Swap}
-use Rattle.tso_program.specs.declared.action.Action.{Action}
-use Rattle.tso_program.specs.declared.action.Local.{Local}
-use Rattle.candidate_executions.specs.Traces.{trace, traced, entered}
+use Rattle.candidate_executions.proofs.Vocabulary.{same_Some, loaded, Stop, Go, Wait, Read, Write, Swap, Action, Local, trace, traced, entered}
 use Rattle.candidate_executions.specs.Orders.{Steps, steps, counted, made_at}
 use Rattle.candidate_executions.proofs.Orders.Dropped.{drop_head}
 

@@ -1,6 +1,5 @@
 use Rattle.std.proofs.Common.{subst}
-use Rattle.cover_judge.specs.Choices.{MayChooseEach}
-use Rattle.branching.specs.OpenChoices.{IsOpen}
+use Rattle.branching.proofs.Vocabulary.{MayChooseEach, IsOpen}
 use Rattle.cover_judge.proofs.Answered.{if_ok}
 use Rattle.branching.proofs.NothingLeft.{both_may}
 use Rattle.branching.proofs.branch.choices_of.Goals as goal

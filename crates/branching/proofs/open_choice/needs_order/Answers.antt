@@ -1,7 +1,5 @@
 use Rattle.std.proofs.Common.{◌↔◌, IsTrue, subst}
-use Rattle.sketches.specs.Choices.{IsOrdered}
-use Rattle.sketches.proofs.KnownParts.{not_by}
-use Rattle.cover_judge.specs.CoverTrees.{event_of}
+use Rattle.branching.proofs.Vocabulary.{IsOrdered, not_by, event_of}
 use Rattle.branching.proofs.NothingLeft.{pair_of, unless}
 use Rattle.branching.proofs.open_choice.needs_order.Goals as goal
 

@@ -1,8 +1,7 @@
 use Rattle.std.proofs.Common.{◌≡◌, ◌↔◌, ℕ, Option, Some, Contains, true, false, not, IsSome, refl, sym, subst, ap, ◌∙◌}
 use Rattle.std.specs.Option.{is_some}
-use Rattle.cover_judge.specs.Event.{Event}
+use Rattle.branching.proofs.Vocabulary.{Event, event_of}
 use Rattle.sketches.proofs.Chosen.{has_source_by}
-use Rattle.cover_judge.specs.CoverTrees.{event_of}
 use Rattle.branching.proofs.open_choice.needs_source.Goals as goal
 
 pub returns-clause-needs : goal.returns-clause-needs

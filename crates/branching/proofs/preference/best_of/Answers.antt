@@ -1,6 +1,5 @@
 use Rattle.std.proofs.Common.{List, subst}
-use Rattle.branching.specs.declared.reads_writes.ReadValue.{ReadValue}
-use Rattle.branching.specs.ChoicesLeft.{HasEachSource}
+use Rattle.branching.proofs.Vocabulary.{ReadValue, HasEachSource}
 use Rattle.branching.proofs.NothingLeft.{complete_of}
 use Rattle.branching.proofs.preference.best_of.Goals as goal
 

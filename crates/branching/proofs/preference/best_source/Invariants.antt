@@ -1,10 +1,5 @@
 use Rattle.std.proofs.Common.{◌≡◌, ℕ, ◌<◌, None, get_or}
-use Rattle.std.specs.Prelude.{IfSome}
-use Rattle.cover_judge.specs.CoverTrees.{event_of}
-use Rattle.sketches.specs.Complete.{HasItsSource}
-use Rattle.branching.specs.declared.reads_writes.ReadValue.{ReadValue}
-use Rattle.branching.specs.declared.preference.RatedChoice.{RatedChoice}
-use Rattle.branching.specs.OpenChoices.{IsOpen}
+use Rattle.branching.proofs.Vocabulary.{IfSome, event_of, HasItsSource, ReadValue, RatedChoice, IsOpen}
 use Rattle.branching.proofs.preference.best_source.Given as goal
 
 -- the best is open; if there is none, the reads so far have their sources

@@ -1,8 +1,6 @@
 use Rattle.std.proofs.Common.{sym, subst}
+use Rattle.branching.proofs.Vocabulary.{mode_in, event_of, WrittenValue}
 use Rattle.cover_judge.specs.Sketches.{IsSourceOf}
-use Rattle.sketches.specs.ProgramSketches.{mode_in}
-use Rattle.cover_judge.specs.CoverTrees.{event_of}
-use Rattle.branching.specs.declared.reads_writes.WrittenValue.{WrittenValue}
 use Rattle.branching.proofs.preference.merit_of_sources.Goals as goal
 
 pub with_source-merit-requires : goal.with_source-merit-requires

@@ -1,10 +1,5 @@
 use Rattle.std.proofs.Common.{All, length, ap, sym, subst, ◌∙◌, inl, inr, arith}
-use Rattle.std.proofs.lemmas.Bool.{cases_lt}
-use Rattle.tso_program.specs.declared.listing.Listing.{Listing}
-use Rattle.sketches.proofs.Completeness.{read_there}
-use Rattle.sketches.proofs.Ends.{thread_within}
-use Rattle.cover_judge.specs.CoverTrees.{event_of}
-use Rattle.branching.specs.Accesses.{IsReadValue, IsWrittenValue}
+use Rattle.branching.proofs.Vocabulary.{cases_lt, Listing, read_there, thread_within, event_of, IsReadValue, IsWrittenValue}
 use Rattle.branching.proofs.TakenIn.{thread_there}
 use Rattle.branching.proofs.reads_writes.whole_accesses.Goals as goal
 

@@ -1,9 +1,6 @@
 use Rattle.std.proofs.Common.{◌<◌}
 use Rattle.std.specs.Prelude.{All}
-use Rattle.sketches.specs.Choices.{IsRead}
-use Rattle.cert_forest.specs.declared.tree.AccessId.{AccessId}
-use Rattle.cover_judge.specs.CoverTrees.{event_of}
-use Rattle.branching.specs.Accesses.{IsReadValue, NamesRead, IsWrittenValue, IsWrite, NamesWrite}
+use Rattle.branching.proofs.Vocabulary.{IsRead, AccessId, event_of, IsReadValue, NamesRead, IsWrittenValue, IsWrite, NamesWrite}
 use Rattle.branching.proofs.reads_writes.whole_accesses.Given as goal
 
 -- what the first threads read and write is taken in, and nothing else

@@ -1,8 +1,5 @@
 use Rattle.std.proofs.Common.{ℕ, List, ◌++◌, codes, ap, ◌∙◌}
-use Rattle.std.specs.List.{flat_map}
-use Rattle.litmus_reader.specs.Pieces.{text_of}
-use Rattle.canonical_text.specs.Spelling.{entry_pieces}
-use Rattle.canonical_text.specs.Canonical.{location_entries, register_entries}
+use Rattle.canonical_text.proofs.Vocabulary.{flat_map, text_of, entry_pieces, location_entries, register_entries}
 use Rattle.canonical_text.proofs.TextsGrow.{braces}
 use Rattle.canonical_text.proofs.entries.push_initial.Goals as goal
 

@@ -1,7 +1,5 @@
 use Rattle.std.proofs.Common.{ℕ, List, ◌++◌, ap, ◌∙◌}
-use Rattle.litmus_reader.specs.Pieces.{text_of}
-use Rattle.canonical_text.specs.Spelling.{entry_pieces}
-use Rattle.canonical_text.specs.Canonical.{location_entry}
+use Rattle.canonical_text.proofs.Vocabulary.{text_of, entry_pieces, location_entry}
 use Rattle.canonical_text.proofs.TextsGrow.{number_more}
 use Rattle.canonical_text.proofs.entries.push_locations.Goals as goal
 

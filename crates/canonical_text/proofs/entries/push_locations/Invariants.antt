@@ -1,8 +1,5 @@
 use Rattle.std.proofs.Common.{◌≡◌, ◌++◌, map}
-use Rattle.std.specs.List.{flat_map, range_with_len}
-use Rattle.litmus_reader.specs.Pieces.{text_of}
-use Rattle.canonical_text.specs.Spelling.{entry_pieces}
-use Rattle.canonical_text.specs.Canonical.{location_entry}
+use Rattle.canonical_text.proofs.Vocabulary.{flat_map, range_with_len, text_of, entry_pieces, location_entry}
 use Rattle.canonical_text.proofs.entries.push_locations.Given as goal
 
 -- the locations so far

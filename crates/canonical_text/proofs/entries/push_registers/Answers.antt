@@ -1,9 +1,5 @@
 use Rattle.std.proofs.Common.{ℕ, List, ◌++◌, ◌+◌, drop, get_or, ap, ◌∙◌, append_assoc}
-use Rattle.std.specs.List.{flat_map}
-use Rattle.litmus_reader.specs.Pieces.{text_of}
-use Rattle.tso_program.specs.declared.listing.Thread.{Thread}
-use Rattle.canonical_text.specs.Spelling.{entry_pieces}
-use Rattle.canonical_text.specs.Canonical.{thread_entries, register_entries}
+use Rattle.canonical_text.proofs.Vocabulary.{flat_map, text_of, Thread, entry_pieces, thread_entries, register_entries}
 use Rattle.canonical_text.proofs.TextsGrow.{thread_more}
 use Rattle.canonical_text.proofs.entries.push_registers.Goals as goal
 

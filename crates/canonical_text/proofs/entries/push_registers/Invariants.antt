@@ -1,8 +1,5 @@
 use Rattle.std.proofs.Common.{◌≡◌, ◌++◌, drop}
-use Rattle.std.specs.List.{flat_map}
-use Rattle.litmus_reader.specs.Pieces.{text_of}
-use Rattle.canonical_text.specs.Spelling.{entry_pieces}
-use Rattle.canonical_text.specs.Canonical.{register_entries}
+use Rattle.canonical_text.proofs.Vocabulary.{flat_map, text_of, entry_pieces, register_entries}
 use Rattle.canonical_text.proofs.entries.push_registers.Given as goal
 
 -- what is written and what is left are the whole

@@ -1,10 +1,5 @@
 use Rattle.std.proofs.Common.{ℕ, List, ◌++◌, get_or, ap, ◌∙◌}
-use Rattle.std.specs.List.{flat_map}
-use Rattle.tso_program.specs.declared.instruction.Reg.TheVariants.{Eax}
-use Rattle.litmus_reader.specs.Pieces.{text_of}
-use Rattle.litmus_reader.specs.Names.{all_registers}
-use Rattle.canonical_text.specs.Spelling.{entry_pieces}
-use Rattle.canonical_text.specs.Canonical.{named_entry}
+use Rattle.canonical_text.proofs.Vocabulary.{flat_map, Eax, text_of, all_registers, entry_pieces, named_entry}
 use Rattle.canonical_text.proofs.TextsGrow.{element_more}
 use Rattle.canonical_text.proofs.entries.push_thread.Goals as goal
 

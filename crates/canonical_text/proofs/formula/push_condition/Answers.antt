@@ -1,12 +1,7 @@
 use Rattle.std.proofs.Common.{ℕ, List, ◌++◌, ◌∷◌, [], map, ap, ◌∙◌}
-use Rattle.std.specs.List.{flat_map}
-use Rattle.litmus_reader.specs.Pieces.{text_of}
+use Rattle.canonical_text.proofs.Vocabulary.{flat_map, text_of, Token, sign_of_token, quantifier_pieces, sign_pieces, sign_named, signs_named}
 use Rattle.tso_program.specs.declared.atom.Atom.{Atom}
-use Rattle.conditions.specs.declared.token.Token.{Token}
 use Rattle.conditions.specs.Grammar.{Sign}
-use Rattle.conditions.specs.Tokens.{sign_of_token}
-use Rattle.canonical_text.specs.Spelling.{quantifier_pieces, sign_pieces}
-use Rattle.canonical_text.specs.Canonical.{sign_named, signs_named}
 use Rattle.canonical_text.proofs.TextsGrow.{condition_grown}
 use Rattle.canonical_text.proofs.formula.push_condition.Goals as goal
 

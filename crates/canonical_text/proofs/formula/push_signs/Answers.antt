@@ -1,12 +1,7 @@
 use Rattle.std.proofs.Common.{ℕ, List, ◌++◌, get_or, ap, ◌∙◌}
-use Rattle.litmus_reader.specs.Pieces.{text_of}
-use Rattle.tso_program.specs.declared.instruction.Reg.TheVariants.{Eax}
+use Rattle.canonical_text.proofs.Vocabulary.{text_of, Eax, Token, sign_of_token, sign_pieces, sign_named}
 use Rattle.tso_program.specs.declared.atom.Atom.TheVariants as atom
-use Rattle.conditions.specs.declared.token.Token.{Token}
 use Rattle.conditions.specs.declared.token.Token.TheVariants as token
-use Rattle.conditions.specs.Tokens.{sign_of_token}
-use Rattle.canonical_text.specs.Spelling.{sign_pieces}
-use Rattle.canonical_text.specs.Canonical.{sign_named}
 use Rattle.canonical_text.proofs.TextsGrow.{given_more}
 use Rattle.canonical_text.proofs.formula.push_signs.Goals as goal
 

@@ -1,9 +1,5 @@
 use Rattle.std.proofs.Common.{◌≡◌, ◌++◌, take, map}
-use Rattle.std.specs.List.{flat_map}
-use Rattle.litmus_reader.specs.Pieces.{text_of}
-use Rattle.conditions.specs.Tokens.{sign_of_token}
-use Rattle.canonical_text.specs.Spelling.{sign_pieces}
-use Rattle.canonical_text.specs.Canonical.{sign_named}
+use Rattle.canonical_text.proofs.Vocabulary.{flat_map, text_of, sign_of_token, sign_pieces, sign_named}
 use Rattle.canonical_text.proofs.formula.push_signs.Given as goal
 
 -- the signs so far

@@ -1,8 +1,5 @@
 use Rattle.std.proofs.Common.{◌≡◌, ℕ, List, length, sym, ap, ◌∙◌}
-use Rattle.std.specs.Prelude.{nat_lt}
-use Rattle.tso_program.specs.Fences.{gaps_in}
-use Rattle.litmus_reader.specs.declared.label.Label.{Label}
-use Rattle.canonical_text.specs.Canonical.{label_names_at, own_labels, moved_labels}
+use Rattle.canonical_text.proofs.Vocabulary.{nat_lt, gaps_in, Label, label_names_at, own_labels, moved_labels}
 use Rattle.canonical_text.proofs.LabelPlaces.{moved_at, moved_nowhere}
 use Rattle.canonical_text.proofs.labels.has_label.Goals as goal
 

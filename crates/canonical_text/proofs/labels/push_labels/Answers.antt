@@ -1,11 +1,6 @@
 use Rattle.std.proofs.Common.{◌≡◌, ℕ, List, ◌++◌, length, map, sym, ap, ◌∙◌, subst}
 use Rattle.std.specs.Prelude.{IfOk}
-use Rattle.std.proofs.lemmas.List.{append-nil}
-use Rattle.litmus_reader.specs.Pieces.{text_of}
-use Rattle.canonical_text.specs.Spelling.{gap, joined_by, label_pieces}
-use Rattle.tso_program.specs.Fences.{gaps_in}
-use Rattle.litmus_reader.specs.declared.label.Label.{Label}
-use Rattle.canonical_text.specs.Canonical.{label_names_at, own_labels, moved_labels}
+use Rattle.canonical_text.proofs.Vocabulary.{append-nil, text_of, gap, joined_by, label_pieces, gaps_in, Label, label_names_at, own_labels, moved_labels}
 use Rattle.canonical_text.proofs.LabelPlaces.{moved_at, moved_nowhere}
 use Rattle.canonical_text.proofs.labels.push_labels.Goals as goal
 

@@ -1,7 +1,5 @@
 use Rattle.std.proofs.Common.{◌≡◌, ℕ, ◌+◌, List, [], ◌∷◌, ◌++◌, length, map, take, length-append, sym, ap, ◌∙◌, arith}
-use Rattle.litmus_reader.specs.Pieces.{text_of}
-use Rattle.canonical_text.specs.Spelling.{gap, joined_by, label_pieces}
-use Rattle.canonical_text.specs.Canonical.{label_names_at}
+use Rattle.canonical_text.proofs.Vocabulary.{text_of, gap, joined_by, label_pieces, label_names_at}
 use Rattle.canonical_text.proofs.LabelPlaces.{label_here, label_elsewhere}
 use Rattle.canonical_text.proofs.TextsGrow.{between_at, label_more}
 use Rattle.canonical_text.proofs.labels.push_own.Goals as goal

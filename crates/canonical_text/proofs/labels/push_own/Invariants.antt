@@ -1,7 +1,5 @@
 use Rattle.std.proofs.Common.{◌≡◌, ◌≤◌, ◌++◌, length, map, take}
-use Rattle.litmus_reader.specs.Pieces.{text_of}
-use Rattle.canonical_text.specs.Spelling.{gap, joined_by, label_pieces}
-use Rattle.canonical_text.specs.Canonical.{label_names_at}
+use Rattle.canonical_text.proofs.Vocabulary.{text_of, gap, joined_by, label_pieces, label_names_at}
 use Rattle.canonical_text.proofs.labels.push_own.Given as goal
 
 -- the labels of the position so far, and how many they are

@@ -1,11 +1,7 @@
 use Rattle.std.proofs.Common.{◌≡◌, ◌<◌, ℕ, List, ◌++◌, length, map, take, get_or, codes, sym, ap, ◌∙◌, arith}
-use Rattle.std.proofs.lemmas.List.{length-map}
 use Rattle.std.proofs.Math.Seq.{take-length}
-use Rattle.litmus_reader.specs.Pieces.{text_of}
-use Rattle.litmus_reader.specs.declared.observed.Observed.{Observed}
+use Rattle.canonical_text.proofs.Vocabulary.{length-map, text_of, Observed, gap, joined_by, observed_place_pieces, place_named}
 use Rattle.litmus_reader.specs.declared.observed.Observed.TheVariants as observed
-use Rattle.canonical_text.specs.Spelling.{gap, joined_by, observed_place_pieces}
-use Rattle.canonical_text.specs.Canonical.{place_named}
 use Rattle.canonical_text.proofs.TextsGrow.{between_at, element_column_more, not_none, brackets}
 use Rattle.canonical_text.proofs.observed.push_observed.Goals as goal
 

@@ -1,7 +1,5 @@
 use Rattle.std.proofs.Common.{◌≡◌, ◌++◌, map, take}
-use Rattle.litmus_reader.specs.Pieces.{text_of}
-use Rattle.canonical_text.specs.Spelling.{gap, joined_by, observed_place_pieces}
-use Rattle.canonical_text.specs.Canonical.{place_named}
+use Rattle.canonical_text.proofs.Vocabulary.{text_of, gap, joined_by, observed_place_pieces, place_named}
 use Rattle.canonical_text.proofs.observed.push_observed.Given as goal
 
 -- the places so far

@@ -1,6 +1,5 @@
 use Rattle.std.proofs.Common.{◌≡◌, take}
-use Rattle.std.specs.List.{join_with_byte}
-use Rattle.litmus_reader.specs.Internal.Filling.{texts}
+use Rattle.canonical_text.proofs.Vocabulary.{join_with_byte, texts}
 use Rattle.canonical_text.proofs.outcome.join.Given as goal
 
 -- the items so far, joined

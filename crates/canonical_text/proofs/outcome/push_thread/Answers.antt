@@ -1,8 +1,5 @@
 use Rattle.std.proofs.Common.{List, ◌++◌, get_or, ap, ◌∙◌, ℕ}
-use Rattle.tso_program.specs.declared.instruction.Reg.TheVariants.{Eax}
-use Rattle.litmus_reader.specs.Internal.Filling.{texts}
-use Rattle.canonical_text.specs.Outcomes.{named_item}
-use Rattle.litmus_reader.specs.Names.{all_registers}
+use Rattle.canonical_text.proofs.Vocabulary.{Eax, texts, named_item, all_registers}
 use Rattle.canonical_text.proofs.Joined.{flat_more}
 use Rattle.canonical_text.proofs.outcome.push_thread.Goals as goal
 

@@ -1,8 +1,5 @@
 use Rattle.std.proofs.Common.{◌≡◌, ◌++◌, take}
-use Rattle.std.specs.List.{flat_map}
-use Rattle.litmus_reader.specs.Internal.Filling.{texts}
-use Rattle.canonical_text.specs.Outcomes.{named_item}
-use Rattle.litmus_reader.specs.Names.{all_registers}
+use Rattle.canonical_text.proofs.Vocabulary.{flat_map, texts, named_item, all_registers}
 use Rattle.canonical_text.proofs.outcome.push_thread.Given as goal
 
 -- the items of the registers so far

@@ -1,6 +1,5 @@
 use Rattle.std.proofs.Common.{◌≡◌, ◌+◌, ◌≤◌, drop, max}
-use Rattle.tso_program.specs.Fences.{gaps_in}
-use Rattle.canonical_text.specs.Canonical.{moved_labels, most_cells}
+use Rattle.canonical_text.proofs.Vocabulary.{gaps_in, moved_labels, most_cells}
 use Rattle.canonical_text.proofs.rows.most_cells.Given as goal
 use Rattle.tso_program.specs.declared.limits.TheConstants.{MAX_FENCED_INSTRUCTIONS}
 

@@ -1,11 +1,6 @@
 use Rattle.std.proofs.Common.{◌≡◌, ℕ, List, ◌++◌, Option, ap, ◌∙◌, subst}
 use Rattle.std.specs.Prelude.{OnOk, option_map}
-use Rattle.litmus_reader.specs.Pieces.{text_of}
-use Rattle.tso_program.specs.declared.instruction.Instr.{Instr}
-use Rattle.tso_program.specs.Listings.{instr_at}
-use Rattle.tso_program.specs.Fences.{gaps_in}
-use Rattle.canonical_text.specs.Spelling.{gap, code_pieces, cell_pieces}
-use Rattle.canonical_text.specs.Canonical.{label_names_at, own_labels, moved_labels, code_named}
+use Rattle.canonical_text.proofs.Vocabulary.{text_of, Instr, instr_at, gaps_in, gap, code_pieces, cell_pieces, label_names_at, own_labels, moved_labels, code_named}
 use Rattle.canonical_text.proofs.TextsGrow.{between_at, code_more, labels_alone}
 use Rattle.canonical_text.proofs.rows.push_cell.Goals as goal
 

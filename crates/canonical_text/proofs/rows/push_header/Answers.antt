@@ -1,7 +1,5 @@
 use Rattle.std.proofs.Common.{◌≡◌, arith, ℕ, List, ◌++◌, map, codes, ap, ◌∙◌}
-use Rattle.std.specs.List.{range_with_len}
-use Rattle.litmus_reader.specs.Pieces.{text_of}
-use Rattle.canonical_text.specs.Spelling.{bar, column_pieces, header_pieces, joined_by, row_end}
+use Rattle.canonical_text.proofs.Vocabulary.{range_with_len, text_of, bar, column_pieces, header_pieces, joined_by, row_end}
 use Rattle.canonical_text.proofs.TextsGrow.{between_at, number_column_more, grown}
 use Rattle.canonical_text.proofs.rows.push_header.Goals as goal
 

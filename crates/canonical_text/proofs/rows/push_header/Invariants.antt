@@ -1,7 +1,5 @@
 use Rattle.std.proofs.Common.{◌≡◌, ◌++◌, map}
-use Rattle.std.specs.List.{range_with_len}
-use Rattle.litmus_reader.specs.Pieces.{text_of}
-use Rattle.canonical_text.specs.Spelling.{bar, column_pieces, joined_by}
+use Rattle.canonical_text.proofs.Vocabulary.{range_with_len, text_of, bar, column_pieces, joined_by}
 use Rattle.canonical_text.proofs.rows.push_header.Given as goal
 
 -- the columns so far

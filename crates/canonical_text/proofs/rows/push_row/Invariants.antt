@@ -1,9 +1,5 @@
 use Rattle.std.proofs.Common.{◌≡◌, ◌++◌, map}
-use Rattle.std.specs.List.{range_with_len}
-use Rattle.litmus_reader.specs.Pieces.{text_of}
-use Rattle.tso_program.specs.Fences.{gaps_in}
-use Rattle.canonical_text.specs.Spelling.{bar, cell_pieces, joined_by}
-use Rattle.canonical_text.specs.Canonical.{moved_labels, cell_of}
+use Rattle.canonical_text.proofs.Vocabulary.{range_with_len, text_of, gaps_in, bar, cell_pieces, joined_by, moved_labels, cell_of}
 use Rattle.canonical_text.proofs.rows.push_row.Given as goal
 
 -- the cells so far

@@ -1,9 +1,5 @@
 use Rattle.std.proofs.Common.{ℕ, List, ◌++◌, ap, ◌∙◌}
-use Rattle.litmus_reader.specs.Pieces.{text_of}
-use Rattle.tso_program.specs.Fences.{gaps_in}
-use Rattle.tso_program.specs.declared.listing.Thread.{Thread}
-use Rattle.canonical_text.specs.Spelling.{row_pieces}
-use Rattle.canonical_text.specs.Canonical.{moved_labels, row_of}
+use Rattle.canonical_text.proofs.Vocabulary.{text_of, gaps_in, Thread, row_pieces, moved_labels, row_of}
 use Rattle.canonical_text.proofs.TextsGrow.{number_more}
 use Rattle.canonical_text.proofs.rows.push_rows.Goals as goal
 

@@ -1,9 +1,5 @@
 use Rattle.std.proofs.Common.{◌≡◌, ◌++◌, map}
-use Rattle.std.specs.List.{flat_map, range_with_len}
-use Rattle.litmus_reader.specs.Pieces.{text_of}
-use Rattle.tso_program.specs.Fences.{gaps_in}
-use Rattle.canonical_text.specs.Spelling.{row_pieces}
-use Rattle.canonical_text.specs.Canonical.{moved_labels, row_of}
+use Rattle.canonical_text.proofs.Vocabulary.{flat_map, range_with_len, text_of, gaps_in, row_pieces, moved_labels, row_of}
 use Rattle.canonical_text.proofs.rows.push_rows.Given as goal
 
 -- the rows so far

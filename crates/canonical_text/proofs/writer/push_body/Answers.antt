@@ -1,11 +1,5 @@
 use Rattle.std.proofs.Common.{◌≡◌, ℕ, List, ◌++◌, length, ap, ◌∙◌}
-use Rattle.std.specs.List.{flat_map}
-use Rattle.litmus_reader.specs.Pieces.{Piece, text_of}
-use Rattle.tso_program.specs.Fences.{gaps_in}
-use Rattle.tso_program.specs.declared.listing.Listing.{Listing}
-use Rattle.tso_program.specs.declared.listing.Thread.{Thread}
-use Rattle.canonical_text.specs.Spelling.{initial_pieces, header_pieces, row_pieces}
-use Rattle.canonical_text.specs.Canonical.{entries_of, moved_labels, rows_of}
+use Rattle.canonical_text.proofs.Vocabulary.{flat_map, Piece, text_of, gaps_in, Listing, Thread, initial_pieces, header_pieces, row_pieces, entries_of, moved_labels, rows_of}
 use Rattle.canonical_text.proofs.TextsGrow.{body_grown}
 use Rattle.canonical_text.proofs.writer.push_body.Goals as goal
 

@@ -1,8 +1,5 @@
 use Rattle.std.proofs.Common.{ℕ, List, ◌++◌, map, ap, ◌∙◌}
-use Rattle.litmus_reader.specs.Pieces.{Piece, text_of}
-use Rattle.litmus_reader.specs.declared.observed.Observed.{Observed}
-use Rattle.canonical_text.specs.Spelling.{observed_pieces, condition_pieces}
-use Rattle.canonical_text.specs.Canonical.{place_named, signs_named}
+use Rattle.canonical_text.proofs.Vocabulary.{Piece, text_of, Observed, observed_pieces, condition_pieces, place_named, signs_named}
 use Rattle.canonical_text.proofs.TextsGrow.{grown}
 use Rattle.canonical_text.proofs.writer.push_ending.Goals as goal
 

@@ -1,8 +1,5 @@
 use Rattle.std.proofs.Common.{ℕ, List, ◌++◌, ap, ◌∙◌}
-use Rattle.litmus_reader.specs.Pieces.{Piece, text_of}
-use Rattle.tso_program.specs.Fences.{gaps_in}
-use Rattle.canonical_text.specs.Spelling.{heading, body_pieces, ending_pieces}
-use Rattle.canonical_text.specs.Canonical.{moved_labels, body_of, ending_of}
+use Rattle.canonical_text.proofs.Vocabulary.{Piece, text_of, gaps_in, heading, body_pieces, ending_pieces, moved_labels, body_of, ending_of}
 use Rattle.canonical_text.proofs.TextsGrow.{grown}
 use Rattle.canonical_text.proofs.writer.write_parts.Goals as goal
 

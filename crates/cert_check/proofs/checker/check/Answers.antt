@@ -1,6 +1,5 @@
 use Rattle.std.proofs.Common.{sym, subst}
-use Rattle.tso_program.specs.Shown.{asked}
-use Rattle.tree_laws.specs.Certificates.{IsValidCertificate}
+use Rattle.cert_check.proofs.Vocabulary.{asked, IsValidCertificate}
 use Rattle.cert_check.proofs.FirstFaults.{valid_certificates_have_no_fault}
 use Rattle.cert_check.proofs.checker.check.Goals as goal
 

@@ -1,15 +1,6 @@
 use Rattle.std.proofs.Common.{All, sym, subst}
-use Rattle.gap_sets.specs.Regions.{all_sets}
-use Rattle.tso_program.specs.Shown.{asked}
-use Rattle.tso_program.specs.Fences.{gaps_in}
-use Rattle.tso_machine.specs.Machine.{StoreBufferMachine}
-use Rattle.cover_judge.specs.Sketches.{empty_sketch}
-use Rattle.tree_laws.specs.CoverTrees.{IsValidCover}
-use Rattle.tree_laws.specs.GapTrees.{IsValidGap}
-use Rattle.tree_laws.specs.Certificates.{IsRunOutside, IsValidCertificate}
-use Rattle.cert_check.specs.Faults.{CheckFaultIs, HasServingSet, HasForeignRuns, HasEachOutcome}
-use Rattle.cert_check.specs.Internal.Replays.{HavePassed}
-use Rattle.cover_judge.proofs.Answered.{err_up, on_ok}
+use Rattle.cert_check.proofs.Vocabulary.{all_sets, asked, gaps_in, StoreBufferMachine, empty_sketch, IsValidCover, IsValidGap, IsRunOutside, IsValidCertificate, CheckFaultIs, HasServingSet}
+use Rattle.cert_check.proofs.Vocabulary.{HasForeignRuns, HasEachOutcome, HavePassed, err_up, on_ok}
 use Rattle.cert_check.proofs.Assembled.{assembled}
 use Rattle.cert_check.proofs.FirstFaults.{foreign_are_runs}
 use Rattle.cert_check.proofs.checker.check_all.Goals as goal

@@ -1,9 +1,6 @@
-use Rattle.tso_program.specs.Shown.{asked}
+use Rattle.cert_check.proofs.Vocabulary.{asked, StoreBufferMachine, no_gaps, IsShownRun, IsRunOf}
 use Rattle.cert_check.proofs.Assembled.{each_outside, first_not_foreign}
 use Rattle.cert_check.proofs.Replayed.{zip_left, of_shown}
-use Rattle.tso_machine.specs.Machine.{StoreBufferMachine, no_gaps}
-use Rattle.tso_machine.specs.Outcomes.{IsShownRun}
-use Rattle.cert_check.specs.Faults.{IsRunOf}
 use Rattle.cert_check.proofs.checker.foreign_runs.Goals as goal
 
 pub returns-in-Some-clause-fault : goal.returns-in-Some-clause-fault

@@ -1,10 +1,5 @@
 use Rattle.std.proofs.Common.{◌≡◌, ◌+◌, ◌*◌, ◌≤◌, ◌<◌, List, All, length, take, drop}
-use Rattle.gap_sets.specs.Gaps.{numbers_of_set}
-use Rattle.gap_sets.specs.declared.gap_set.TheConstants.{MAX_GAPS}
-use Rattle.tso_program.specs.declared.listing.Listing.{Listing}
-use Rattle.tso_machine.specs.declared.label.Label.{Label}
-use Rattle.cert_forest.specs.GapNodes.{spell_gaps}
-use Rattle.cert_check.specs.Internal.Replays.{HavePassed}
+use Rattle.cert_check.proofs.Vocabulary.{numbers_of_set, MAX_GAPS, Listing, Label, spell_gaps, HavePassed}
 use Rattle.cert_check.proofs.GapSteps.{IsLeft}
 use Rattle.cert_check.proofs.gap.+judge_gap.Given as goal
 

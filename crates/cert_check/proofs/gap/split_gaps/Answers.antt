@@ -1,7 +1,6 @@
 use Rattle.std.proofs.Common.{◌≡◌, true, false, sym, ◌∙◌}
-use Rattle.gap_sets.specs.Gaps.{numbers_of_set}
+use Rattle.cert_check.proofs.Vocabulary.{numbers_of_set, HasNoSplit}
 use Rattle.tree_laws.proofs.OpenGaps.{rising}
-use Rattle.cert_check.specs.GapDefects.{HasNoSplit}
 use Rattle.cover_judge.proofs.ChoicesJudged.{here}
 use Rattle.cert_check.proofs.OpenGaps.{as_many_listed, listed_exact}
 use Rattle.cert_check.proofs.GapNodes.{not_there, must_pass, splits, not_as_many}

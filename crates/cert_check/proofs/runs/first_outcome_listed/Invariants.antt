@@ -1,6 +1,5 @@
 use Rattle.std.proofs.Common.{◌≡◌, ℕ, ◌<◌, get_or}
-use Rattle.tso_program.specs.declared.outcome.Outcome.{Outcome}
-use Rattle.cert_check.specs.Internal.Replays.{IsOutside}
+use Rattle.cert_check.proofs.Vocabulary.{Outcome, IsOutside}
 use Rattle.cert_check.proofs.runs.first_outcome_listed.Given as goal
 
 -- the outcomes so far are not in the list

@@ -1,8 +1,5 @@
 use Rattle.std.proofs.Common.{◌↔◌, Contains, IsTrue, take}
-use Rattle.std.specs.Borrow.{Bor}
-use Rattle.std.specs.BTreeSet.{contains}
-use Rattle.tso_program.specs.declared.outcome.Outcome.{Outcome}
-use Rattle.cert_check.specs.Internal.Replays.{borrowed_cmp}
+use Rattle.cert_check.proofs.Vocabulary.{Bor, contains, Outcome, borrowed_cmp}
 use Rattle.cert_check.proofs.runs.in_order.Given as goal
 
 -- the set has the outcomes so far

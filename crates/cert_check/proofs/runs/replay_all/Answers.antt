@@ -1,7 +1,5 @@
 use Rattle.std.proofs.Common.{arith}
-use Rattle.tso_program.specs.Shown.{asked}
-use Rattle.cert_check.specs.Internal.Replays.{RunsFaultIs}
-use Rattle.cover_judge.proofs.Answered.{err_up}
+use Rattle.cert_check.proofs.Vocabulary.{asked, RunsFaultIs, err_up}
 use Rattle.cert_check.proofs.Replayed.{replays_more, first_fault}
 use Rattle.cert_check.proofs.runs.replay_all.Goals as goal
 

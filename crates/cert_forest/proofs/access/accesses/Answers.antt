@@ -1,6 +1,4 @@
-use Rattle.std.proofs.lemmas.Result.{err_from_is_err_and}
-use Rattle.cert_words.specs.declared.refusal.Stop.TheVariants.{Refused}
-use Rattle.cert_forest.specs.Internal.Reading.{access_at}
+use Rattle.cert_forest.proofs.Vocabulary.{err_from_is_err_and, Refused, access_at}
 use Rattle.cert_forest.proofs.Loops.{repeat_more, repeat_stops}
 use Rattle.cert_forest.proofs.access.accesses.Goals as goal
 

@@ -1,6 +1,5 @@
 use Rattle.std.proofs.Common.{◌≡◌, ◌-◌, []}
-use Rattle.cert_words.specs.Words.{repeat_at}
-use Rattle.cert_forest.specs.Internal.Reading.{access_at}
+use Rattle.cert_forest.proofs.Vocabulary.{repeat_at, access_at}
 use Rattle.cert_forest.proofs.access.accesses.Given as goal
 
 abbrev pub invariant-loop : goal.invariant-loop

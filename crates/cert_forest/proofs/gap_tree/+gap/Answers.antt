@@ -1,11 +1,5 @@
 use Rattle.std.proofs.Common.{◌-◌, [], arith}
-use Rattle.std.proofs.lemmas.Result.{err_from_is_err_and}
-use Rattle.cert_words.specs.Words.{repeat_at, stops_for_memory}
-use Rattle.text_tokens.specs.Steps.{Fails}
-use Rattle.cert_forest.specs.Trees.{Split, Bound, gap_trees_of}
-use Rattle.cert_forest.specs.GapNodes.{spell_gap}
-use Rattle.cert_forest.specs.Internal.Pushing.{PushesTree, PushesTrees}
-use Rattle.cert_forest.specs.Internal.Reading.{gap_at}
+use Rattle.cert_forest.proofs.Vocabulary.{err_from_is_err_and, repeat_at, stops_for_memory, Fails, Split, Bound, gap_trees_of, spell_gap, PushesTree, PushesTrees, gap_at}
 use Rattle.cert_forest.proofs.PushedTrees.{one_pushed, split_pushed, if_ok, if_err}
 use Rattle.cert_forest.proofs.TreeSteps.{gap_none, gap_no_letter, gap_no_split, gap_no_children, gap_split, gap_bound, gap_other}
 use Rattle.cert_forest.proofs.gap_tree.+gap.Goals as goal

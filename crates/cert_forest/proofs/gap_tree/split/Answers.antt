@@ -1,6 +1,5 @@
 use Rattle.std.proofs.Common.{◌≤◌, arith}
-use Rattle.cert_words.specs.declared.numbers.TheConstants.{MAX_COUNT}
-use Rattle.cert_words.proofs.WordLaws.{count_exact}
+use Rattle.cert_forest.proofs.Vocabulary.{MAX_COUNT, count_exact}
 use Rattle.cert_forest.proofs.gap_tree.split.Goals as goal
 
 pub overflow_cast-result : goal.overflow_cast-result

@@ -1,7 +1,5 @@
 use Rattle.std.proofs.Common.{◌-◌, arith}
-use Rattle.std.proofs.lemmas.Result.{err_from_is_err_and}
-use Rattle.gap_sets.specs.declared.gap_set.TheConstants.{MAX_GAPS}
-use Rattle.cert_forest.specs.Internal.Reading.{gap_number_at}
+use Rattle.cert_forest.proofs.Vocabulary.{err_from_is_err_and, MAX_GAPS, gap_number_at}
 use Rattle.cert_forest.proofs.Loops.{ascending_more, ascending_low, ascending_stop, ascending_end, ascending_past}
 use Rattle.cert_forest.proofs.reader.gaps.Goals as goal
 

@@ -1,7 +1,6 @@
 use Rattle.std.proofs.Common.{◌≡◌, ◌-◌, ◌≤◌}
 use Rattle.std.specs.FinSet as set
-use Rattle.gap_sets.specs.declared.gap_set.TheConstants.{MAX_GAPS}
-use Rattle.cert_forest.specs.Internal.Reading.{gap_number_at, ascending_at}
+use Rattle.cert_forest.proofs.Vocabulary.{MAX_GAPS, gap_number_at, ascending_at}
 use Rattle.cert_forest.proofs.reader.gaps.Given as goal
 
 abbrev pub invariant-loop : goal.invariant-loop

@@ -1,8 +1,5 @@
 use Rattle.std.proofs.Common.{Contains, List, sym, ◌∙◌, subst}
-use Rattle.std.specs.Global.{Vec}
-use Rattle.std.proofs.lemmas.List.{take_all}
-use Rattle.tso_machine.specs.declared.label.Label.{Label}
-use Rattle.cert_forest.specs.Certificates.{labels_of}
+use Rattle.cert_forest.proofs.Vocabulary.{Vec, take_all, Label, labels_of}
 use Rattle.cert_forest.proofs.RunPlaces.{none_more, there_as}
 use Rattle.cert_forest.proofs.run_list.place_of.Goals as goal
 

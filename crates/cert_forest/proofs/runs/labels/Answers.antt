@@ -1,7 +1,5 @@
 use Rattle.std.proofs.Common.{◌-◌}
-use Rattle.std.proofs.lemmas.Result.{err_from_is_err_and}
-use Rattle.cert_words.specs.declared.refusal.Stop.TheVariants.{Refused}
-use Rattle.cert_words.specs.declared.numbers.TheConstants.{MAX_COUNT}
+use Rattle.cert_forest.proofs.Vocabulary.{err_from_is_err_and, Refused, MAX_COUNT}
 use Rattle.cert_forest.proofs.Loops.{labels_more, labels_stop, labels_end, labels_past}
 use Rattle.cert_forest.proofs.runs.labels.Goals as goal
 

@@ -1,6 +1,5 @@
 use Rattle.std.proofs.Common.{◌≡◌, ◌-◌, []}
-use Rattle.cert_words.specs.declared.numbers.TheConstants.{MAX_COUNT}
-use Rattle.cert_forest.specs.Internal.Reading.{run_labels_at}
+use Rattle.cert_forest.proofs.Vocabulary.{MAX_COUNT, run_labels_at}
 use Rattle.cert_forest.proofs.runs.labels.Given as goal
 
 abbrev pub invariant-loop : goal.invariant-loop

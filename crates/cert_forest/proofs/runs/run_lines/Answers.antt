@@ -1,5 +1,4 @@
-use Rattle.std.proofs.lemmas.Result.{err_from_is_err_and}
-use Rattle.cert_forest.specs.Internal.Reading.{run_at}
+use Rattle.cert_forest.proofs.Vocabulary.{err_from_is_err_and, run_at}
 use Rattle.cert_forest.proofs.Loops.{repeat_more, repeat_stops}
 use Rattle.cert_forest.proofs.runs.run_lines.Goals as goal
 

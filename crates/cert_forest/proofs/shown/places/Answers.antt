@@ -1,7 +1,5 @@
 use Rattle.std.proofs.Common.{◌-◌, arith}
-use Rattle.std.proofs.lemmas.Result.{err_from_is_err_and}
-use Rattle.tso_program.specs.declared.shown.TheConstants.{PLACES}
-use Rattle.cert_forest.specs.Internal.Reading.{place_word_at}
+use Rattle.cert_forest.proofs.Vocabulary.{err_from_is_err_and, PLACES, place_word_at}
 use Rattle.cert_forest.proofs.Loops.{ascending_more, ascending_low, ascending_stop, ascending_end, ascending_past}
 use Rattle.cert_forest.proofs.shown.places.Goals as goal
 

@@ -1,7 +1,6 @@
 use Rattle.std.proofs.Common.{◌≡◌, ◌-◌, ◌≤◌}
 use Rattle.std.specs.FinSet as set
-use Rattle.tso_program.specs.declared.shown.TheConstants.{PLACES}
-use Rattle.cert_forest.specs.Internal.Reading.{place_word_at, ascending_at}
+use Rattle.cert_forest.proofs.Vocabulary.{PLACES, place_word_at, ascending_at}
 use Rattle.cert_forest.proofs.shown.places.Given as goal
 
 abbrev pub invariant-loop : goal.invariant-loop

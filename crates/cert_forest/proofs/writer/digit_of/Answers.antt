@@ -1,6 +1,5 @@
 use Rattle.std.proofs.Common.{sym, ap, ◌∙◌, arith}
-use Rattle.std.specs.Fmt.{decimal}
-use Rattle.std.proofs.lemmas.Fmt.{decimal_digit}
+use Rattle.cert_forest.proofs.Vocabulary.{decimal, decimal_digit}
 use Rattle.cert_forest.proofs.writer.digit_of.Goals as goal
 
 pub returns-in-0 : goal.returns-in-0

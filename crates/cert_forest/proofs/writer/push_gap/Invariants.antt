@@ -1,7 +1,5 @@
 use Rattle.std.proofs.Common.{◌≡◌, ◌++◌, length}
-use Rattle.std.specs.Prelude.{string_bytes}
-use Rattle.cert_words.specs.Lines.{texts_of}
-use Rattle.cert_forest.specs.GapNodes.{spell_gaps}
+use Rattle.cert_forest.proofs.Vocabulary.{string_bytes, texts_of, spell_gaps}
 use Rattle.cert_forest.proofs.TreeTexts.{gap_text}
 use Rattle.cert_forest.proofs.writer.push_gap.Given as goal
 

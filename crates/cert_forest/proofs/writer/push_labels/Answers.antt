@@ -1,6 +1,4 @@
-use Rattle.std.specs.Prelude.{string_bytes}
-use Rattle.tso_machine.specs.RunTexts.{spelling}
-use Rattle.cert_words.specs.Lines.{spaced}
+use Rattle.cert_forest.proofs.Vocabulary.{string_bytes, spelling, spaced}
 use Rattle.cert_forest.proofs.Writing.{pushed}
 use Rattle.cert_forest.proofs.writer.push_labels.Goals as goal
 

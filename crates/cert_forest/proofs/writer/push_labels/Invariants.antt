@@ -1,7 +1,5 @@
 use Rattle.std.proofs.Common.{◌≡◌, ◌++◌, map, take}
-use Rattle.std.specs.Prelude.{string_bytes}
-use Rattle.tso_machine.specs.RunTexts.{spelling}
-use Rattle.cert_words.specs.Lines.{texts_of, spaced}
+use Rattle.cert_forest.proofs.Vocabulary.{string_bytes, spelling, texts_of, spaced}
 use Rattle.cert_forest.proofs.writer.push_labels.Given as goal
 
 abbrev pub invariant-loop-label : goal.invariant-loop-label

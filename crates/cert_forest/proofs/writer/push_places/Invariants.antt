@@ -1,8 +1,5 @@
 use Rattle.std.proofs.Common.{◌≡◌, ◌++◌, map}
-use Rattle.std.specs.Prelude.{string_bytes}
-use Rattle.gap_sets.specs.Gaps.{numbers_of_set}
-use Rattle.cert_words.specs.Lines.{texts_of, spaced}
-use Rattle.cert_forest.specs.Texts.{place_word}
+use Rattle.cert_forest.proofs.Vocabulary.{string_bytes, numbers_of_set, texts_of, spaced, place_word}
 use Rattle.cert_forest.proofs.writer.push_places.Given as goal
 
 -- the text so far, and that of the places to come

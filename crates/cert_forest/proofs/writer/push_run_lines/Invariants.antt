@@ -1,7 +1,5 @@
 use Rattle.std.proofs.Common.{◌≡◌, ◌++◌}
-use Rattle.std.specs.Prelude.{string_bytes}
-use Rattle.cert_words.specs.Lines.{texts_of}
-use Rattle.cert_forest.specs.Texts.{labels_line}
+use Rattle.cert_forest.proofs.Vocabulary.{string_bytes, texts_of, labels_line}
 use Rattle.cert_forest.proofs.writer.push_run_lines.Given as goal
 
 -- the text so far, and that of the runs to come

@@ -1,8 +1,5 @@
 use Rattle.std.proofs.Common.{List, ℕ, [], ◌∷◌, ◌++◌, map, ap, ◌∙◌, append_assoc}
-use Rattle.std.specs.Prelude.{string_bytes, codes}
-use Rattle.gap_sets.specs.Gaps.{numbers_of_set}
-use Rattle.cert_words.specs.Lines.{line}
-use Rattle.cert_forest.specs.Texts.{place_word}
+use Rattle.cert_forest.proofs.Vocabulary.{string_bytes, codes, numbers_of_set, line, place_word}
 use Rattle.cert_forest.proofs.Writing.{on_ok}
 use Rattle.cert_forest.proofs.writer.push_second.Goals as goal
 

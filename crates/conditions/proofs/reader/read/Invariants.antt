@@ -1,6 +1,5 @@
 use Rattle.std.proofs.Common.{drop, map, take}
-use Rattle.conditions.specs.Tokens.{sign_of_token}
-use Rattle.conditions.specs.Stack.{tree_read}
+use Rattle.conditions.proofs.Vocabulary.{sign_of_token, tree_read}
 use Rattle.conditions.proofs.Steps.{Left}
 use Rattle.conditions.proofs.reader.read.Given as goal
 

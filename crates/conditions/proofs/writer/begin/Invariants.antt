@@ -1,6 +1,5 @@
 use Rattle.std.proofs.Common.{◌≡◌, length}
-use mathlib.Core.List.{reverse}
-use Rattle.conditions.specs.Internal.Unwind.{opened, left}
+use Rattle.conditions.proofs.Vocabulary.{reverse, opened, left}
 use Rattle.conditions.proofs.writer.begin.Given as goal
 
 -- the tokens and what waits give what they gave at first

@@ -1,9 +1,6 @@
 use Rattle.std.proofs.Common.{◌≡◌, List, [], ◌∷◌, ap, sym, ◌∙◌, map}
-use mathlib.Core.List.{reverse}
-use Rattle.conditions.specs.declared.token.Token.{Token}
+use Rattle.conditions.proofs.Vocabulary.{reverse, Token, sign_of_token, formula_tokens}
 use Rattle.conditions.specs.declared.token.Token.TheVariants.{Open, Close}
-use Rattle.conditions.specs.Tokens.{sign_of_token}
-use Rattle.conditions.specs.Internal.Unwind.{formula_tokens}
 use Rattle.conditions.proofs.Unwound.{reverse_push}
 use Rattle.conditions.proofs.CanonicalSigns.{tokens_enclosed}
 use Rattle.conditions.proofs.writer.enclosed_tokens.Goals as goal

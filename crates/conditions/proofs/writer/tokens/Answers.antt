@@ -1,8 +1,5 @@
 use Rattle.std.proofs.Common.{List, ap, ◌∙◌, map}
-use mathlib.Core.List.{reverse}
-use Rattle.conditions.specs.declared.token.Token.{Token}
-use Rattle.conditions.specs.Tokens.{sign_of_token}
-use Rattle.conditions.specs.Internal.Unwind.{formula_tokens}
+use Rattle.conditions.proofs.Vocabulary.{reverse, Token, sign_of_token, formula_tokens}
 use Rattle.conditions.proofs.CanonicalSigns.{tokens_whole}
 use Rattle.conditions.proofs.writer.tokens.Goals as goal
 

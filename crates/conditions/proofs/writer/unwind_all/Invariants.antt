@@ -1,6 +1,5 @@
 use Rattle.std.proofs.Common.{◌≡◌, ◌≤◌, [], length, take}
-use mathlib.Core.List.{reverse}
-use Rattle.conditions.specs.Internal.Unwind.{unwound}
+use Rattle.conditions.proofs.Vocabulary.{reverse, unwound}
 use Rattle.conditions.proofs.writer.unwind_all.Given as goal
 
 -- the nodes that are left give what all nodes give

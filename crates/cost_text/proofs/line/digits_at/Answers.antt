@@ -1,5 +1,4 @@
-use Rattle.std.specs.Char.{is_ascii_digit}
-use Rattle.text_tokens.proofs.Prefixes.{all_pass}
+use Rattle.cost_text.proofs.Vocabulary.{is_ascii_digit, all_pass}
 use Rattle.cost_text.proofs.line.digits_at.Goals as goal
 
 pub returns-then-len-gt0-clause-digits : goal.returns-then-len-gt0-clause-digits

@@ -1,24 +1,13 @@
 use Rattle.std.proofs.Common.{◌≡◌, ℕ, ◌+◌, ◌<◌, List, length, map, take, drop, get_or, refl, sym, subst, ap, ◌∙◌, arith}
-use Rattle.std.specs.Prelude.{IfErr, OnOk}
 use Rattle.std.proofs.lemmas.List.{length-take-le, length-map, get_or-map}
-use Rattle.cert_forest.specs.Trees.{Cover, Value, Source, NoCover, covers_of}
+use Rattle.cover_judge.proofs.Vocabulary.{IfErr, OnOk, Cover, Value, Source, NoCover, covers_of, first_tree, spell_all, AccessId, next_is_shorter, asked, IsValueOf, ProgramSketch, mode_in}
+use Rattle.cover_judge.proofs.Vocabulary.{with_chosen, LacksSource, IsValidCover, HasNextValues, same_Some, FirstWrongCover, HasNoValues, sketch_with, MayChoose, AreValueChoices, IfWrong, IsAtRoot}
+use Rattle.cover_judge.proofs.Vocabulary.{IsBelow, IsValidAfter, IsWrongAt, AreValidAfter, IsWrongChild}
 use Rattle.cert_forest.specs.Walks.{IsNext}
 use Rattle.cert_forest.specs.declared.walk.CoverNode.TheVariants as n
-use Rattle.cert_forest.specs.Nodes.{first_tree, spell_all}
-use Rattle.cert_forest.specs.declared.tree.AccessId.{AccessId}
 use Rattle.cert_forest.proofs.NextNodes.{IsFirstOf, value_next, source_next, rest_no_longer}
-use Rattle.cert_forest.proofs.WrittenNodes.{next_is_shorter}
-use Rattle.tso_program.specs.Shown.{asked}
-use Rattle.candidate_executions.specs.Values.{IsValueOf}
 use Rattle.candidate_executions.specs.Sketches as sketches
-use Rattle.sketches.specs.ProgramSketches.{ProgramSketch, mode_in, with_chosen}
-use Rattle.sketches.specs.ValueSketches.{LacksSource}
-use Rattle.tree_laws.specs.CoverTrees.{IsValidCover, HasNextValues}
-use Rattle.std.proofs.lemmas.Option.{same_Some}
 use Rattle.cover_judge.specs.declared.choice.Choice.TheVariants as choice
-use Rattle.cover_judge.specs.CoverDefects.{FirstWrongCover, HasNoValues}
-use Rattle.cover_judge.specs.Choices.{sketch_with, MayChoose, AreValueChoices}
-use Rattle.cover_judge.specs.Judged.{IfWrong, IsAtRoot, IsBelow, IsValidAfter, IsWrongAt, AreValidAfter, IsWrongChild}
 use Rattle.cover_judge.proofs.Answered.{err_up, if_err, on_ok}
 use Rattle.cover_judge.proofs.ChoicesJudged.{if_wrong, from_child, values_may}
 use Rattle.cover_judge.proofs.SketchesAfter.{moved}

@@ -1,8 +1,5 @@
 use Rattle.std.proofs.Common.{◌≡◌, length, sym, ap, ◌∙◌, arith}
-use Rattle.sketches.specs.ProgramSketches.{mode_in}
-use Rattle.tree_laws.specs.CoverTrees.{HasNextValues}
-use Rattle.tree_laws.proofs.OneList.{one_list_of_values}
-use Rattle.cover_judge.specs.CoverDefects.{HasNoValues}
+use Rattle.cover_judge.proofs.Vocabulary.{mode_in, HasNextValues, one_list_of_values, HasNoValues}
 use Rattle.cover_judge.proofs.ChoicesJudged.{here}
 use Rattle.cover_judge.proofs.by_values.next_values.Goals as goal
 

@@ -1,7 +1,5 @@
 use Rattle.std.proofs.Common.{sym, ◌∙◌, subst}
-use Rattle.std.proofs.lemmas.Option.{same_Some}
-use Rattle.candidate_executions.specs.Values.{IsValueOf}
-use Rattle.cover_judge.specs.Choices.{MayChoose}
+use Rattle.cover_judge.proofs.Vocabulary.{same_Some, IsValueOf, MayChoose}
 use Rattle.cover_judge.proofs.choice.choose.Goals as goal
 
 pub give_value-chosen-requires-clause-value : goal.give_value-chosen-requires-clause-value

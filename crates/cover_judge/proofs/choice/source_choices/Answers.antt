@@ -1,10 +1,7 @@
 use Rattle.std.proofs.Common.{◌↔◌, ◌≡◌, Some, Contains, sym, ap, ◌∙◌, map, subst}
-use Rattle.candidate_executions.specs.declared.event.Event.{Event}
+use Rattle.cover_judge.proofs.Vocabulary.{Event, IsSourceOf, IsWhole, mode_in, event_of}
 use Rattle.candidate_executions.proofs.Orders.Lists.{some_value}
-use Rattle.candidate_executions.specs.Sketches.{IsSourceOf, IsWhole}
 use Rattle.sketches.specs.Choices.{IsRead}
-use Rattle.sketches.specs.ProgramSketches.{mode_in}
-use Rattle.tree_laws.specs.CoverTrees.{event_of}
 use Rattle.cover_judge.specs.declared.choice.Choice.TheVariants as choice
 use Rattle.cover_judge.proofs.ChoicesJudged.{sources_are, sources_may, no_source}
 use Rattle.cover_judge.proofs.choice.source_choices.Goals as goal

@@ -1,7 +1,5 @@
 use Rattle.std.proofs.Common.{◌↔◌, Contains, subst}
-use Rattle.tso_program.specs.Shown.{asked}
-use Rattle.tso_machine.specs.Machine.{Machine}
-use Rattle.tso_machine.specs.Outcomes.{AllowsShown}
+use Rattle.cover_solver.proofs.Vocabulary.{asked, Machine, AllowsShown}
 use Rattle.cover_solver.proofs.outcome_list.outcomes.Goals as goal
 
 pub returns-clause-exact : goal.returns-clause-exact

@@ -1,8 +1,5 @@
 use Rattle.std.proofs.Common.{◌↔◌, Contains, subst}
-use Rattle.tso_program.specs.Shown.{asked}
-use Rattle.tso_machine.specs.Machine.{Machine}
-use Rattle.tso_machine.specs.Outcomes.{AllowsShown}
-use Rattle.sketch_covers.specs.OutcomeNumbers.{AreRunsOf}
+use Rattle.cover_solver.proofs.Vocabulary.{asked, Machine, AllowsShown, AreRunsOf}
 use Rattle.cover_solver.proofs.outcome_list.outcomes_with_runs.Goals as goal
 
 pub returns-clause-runs : goal.returns-clause-runs

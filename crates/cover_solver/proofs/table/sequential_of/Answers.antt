@@ -1,11 +1,8 @@
 use Rattle.std.proofs.Common.{◌<◌, List, ℕ, map, length, ◌∙◌, ap, arith}
-use Rattle.std.specs.Prelude.{◌^◌}
-use Rattle.std.specs.Arc.{arc_value}
+use Rattle.cover_solver.proofs.Vocabulary.{◌^◌, arc_value, place_in, renumbered}
 use Rattle.cert_forest.proofs.NodeLaws.{is_tree, same_tree}
 use Rattle.partial_covers.specs.NodeChanges.{renumbered_node}
-use Rattle.sketch_covers.specs.OutcomeNumbers.{place_in}
 use Rattle.partial_covers.specs.PartialCovers.{items_of, renumbered_item}
-use Rattle.partial_covers.proofs.OtherNumbers.{renumbered}
 use Rattle.partial_covers.proofs.PartialRenumbered.{table_renumbered, tree_renumbered}
 use Rattle.cover_solver.proofs.Tables.{table_of}
 use Rattle.cover_solver.proofs.table.sequential_of.Goals as goal

@@ -1,9 +1,5 @@
 use Rattle.std.proofs.Common.{◌≡◌, List, Some, slice_get, sym, subst}
-use Rattle.tso_program.specs.declared.outcome.Outcome.{Outcome}
-use Rattle.tso_machine.specs.declared.label.Label.{Label}
-use Rattle.tso_machine.specs.Outcomes.{IsShownRun}
-use Rattle.sketch_covers.specs.Ascending.{BelongsAt}
-use Rattle.sketch_covers.proofs.Inserted.{not_there}
+use Rattle.cover_solver.proofs.Vocabulary.{Outcome, Label, IsShownRun, BelongsAt, not_there}
 use Rattle.sketch_covers.proofs.RunAt.{run_at}
 use Rattle.cover_solver.proofs.witnesses.run_of.Goals as goal
 

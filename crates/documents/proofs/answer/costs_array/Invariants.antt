@@ -1,7 +1,6 @@
 use Rattle.std.proofs.Common.{◌≡◌, map}
-use Rattle.std.specs.Prelude.{slice_index}
 use Rattle.std.specs.List.{range_with_len}
-use Rattle.documents.specs.Parts.{gap_value}
+use Rattle.documents.proofs.Vocabulary.{slice_index, gap_value}
 use Rattle.documents.proofs.answer.costs_array.Given as goal
 
 -- the gaps so far

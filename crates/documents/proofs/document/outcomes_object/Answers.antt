@@ -1,9 +1,7 @@
 use Rattle.std.proofs.Common.{ℕ, List, [], ◌∷◌, codes}
-use Rattle.json_text.specs.Texts.{quoted, member, truth_text}
+use Rattle.documents.proofs.Vocabulary.{quoted, member, truth_text, Machine, setting_member}
 use Rattle.report.specs.Observations.{frequency, is_true_of}
-use Rattle.documents.specs.declared.run.Setting.TheVariants.{Machine}
 use Rattle.documents.specs.Parts.{is_observed, outcomes_array}
-use Rattle.documents.specs.Runs.{setting_member}
 use Rattle.documents.proofs.Told.{added}
 use Rattle.documents.proofs.document.outcomes_object.Goals as goal
 

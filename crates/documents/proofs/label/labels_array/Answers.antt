@@ -1,9 +1,6 @@
 use Rattle.std.proofs.Common.{◌∙◌, ℕ, List, [], ◌∷◌, ◌++◌, get_or, ap, sym}
-use Rattle.std.proofs.lemmas.List.{map_more}
-use Rattle.tso_machine.specs.declared.label.Label.{Label}
+use Rattle.documents.proofs.Vocabulary.{map_more, Label, spelling, quoted}
 use Rattle.tso_machine.specs.declared.label.Label.TheVariants.{Exec}
-use Rattle.tso_machine.specs.RunTexts.{spelling}
-use Rattle.json_text.specs.Texts.{quoted}
 use Rattle.documents.proofs.label.labels_array.Goals as goal
 
 pub loop-label-preserved : goal.loop-label-preserved

@@ -1,6 +1,5 @@
 use Rattle.std.proofs.Common.{◌≡◌, map, take}
-use Rattle.json_text.specs.Texts.{quoted}
-use Rattle.tso_machine.specs.RunTexts.{spelling}
+use Rattle.documents.proofs.Vocabulary.{quoted, spelling}
 use Rattle.documents.proofs.label.labels_array.Given as goal
 
 -- the labels so far

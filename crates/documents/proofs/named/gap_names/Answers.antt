@@ -1,6 +1,5 @@
 use Rattle.std.proofs.Common.{◌∙◌, ℕ, List, [], ◌∷◌, ◌++◌, ap, sym}
-use Rattle.std.proofs.lemmas.List.{map-append}
-use Rattle.documents.specs.Parts.{quoted_gap}
+use Rattle.documents.proofs.Vocabulary.{map-append, quoted_gap}
 use Rattle.documents.proofs.named.gap_names.Goals as goal
 
 pub loop-gap-preserved : goal.loop-gap-preserved

@@ -1,8 +1,7 @@
 use Rattle.std.proofs.Common.{List, ◌++◌, get_or, ap, ◌∙◌, ℕ}
+use Rattle.documents.proofs.Vocabulary.{all_registers, register_value}
 use Rattle.tso_program.specs.declared.instruction.Reg.TheVariants.{Eax}
-use Rattle.report.specs.Names.{all_registers}
 use Rattle.report.proofs.Joined.{flat_more}
-use Rattle.documents.specs.Parts.{register_value}
 use Rattle.documents.proofs.outcome.add_thread.Goals as goal
 
 pub loop-register-preserved : goal.loop-register-preserved

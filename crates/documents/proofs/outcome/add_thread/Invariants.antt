@@ -1,7 +1,6 @@
 use Rattle.std.proofs.Common.{◌≡◌, ◌++◌, take}
 use Rattle.std.specs.List.{flat_map}
-use Rattle.report.specs.Names.{all_registers}
-use Rattle.documents.specs.Parts.{register_value}
+use Rattle.documents.proofs.Vocabulary.{all_registers, register_value}
 use Rattle.documents.proofs.outcome.add_thread.Given as goal
 
 -- the items of the registers so far

@@ -1,6 +1,5 @@
 use Rattle.std.proofs.Common.{◌∙◌, ℕ, List, [], ◌∷◌, ◌++◌, get_or, ap, sym}
-use Rattle.std.proofs.lemmas.List.{map_more}
-use Rattle.documents.specs.Parts.{outcome_array}
+use Rattle.documents.proofs.Vocabulary.{map_more, outcome_array}
 use Rattle.documents.proofs.outcome.outcomes_array.Goals as goal
 
 pub loop-outcome-preserved : goal.loop-outcome-preserved

@@ -1,6 +1,5 @@
 use Rattle.std.proofs.Common.{◌∙◌, ℕ, List, [], ◌∷◌, ◌++◌, get_or, ap, sym, arith}
-use Rattle.std.proofs.lemmas.List.{map_more}
-use Rattle.json_text.specs.Texts.{quoted}
+use Rattle.documents.proofs.Vocabulary.{map_more, quoted}
 use Rattle.documents.proofs.program.location_names.Goals as goal
 
 pub loop-number-preserved : goal.loop-number-preserved

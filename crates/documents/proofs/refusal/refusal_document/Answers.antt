@@ -1,6 +1,5 @@
 use Rattle.std.proofs.Common.{◌∙◌, ap}
-use Rattle.std.proofs.lemmas.Result.{IfOk-weaker}
-use Rattle.documents.specs.Documents.{document_of}
+use Rattle.documents.proofs.Vocabulary.{IfOk-weaker, document_of}
 use Rattle.documents.proofs.refusal.refusal_document.Goals as goal
 
 pub returns-clause-told : goal.returns-clause-told

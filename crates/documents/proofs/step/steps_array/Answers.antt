@@ -1,11 +1,7 @@
 use Rattle.std.proofs.Common.{◌∙◌, ◌≡◌, ℕ, List, [], ◌∷◌, ◌++◌, map, take, get_or, ap, sym, subst, arith}
 use Rattle.std.proofs.Math.Seq.{take-length}
-use Rattle.std.proofs.lemmas.List.{map_more, map-append}
-use Rattle.std.proofs.lemmas.Result.{IfOk-weaker}
-use Rattle.tso_machine.specs.declared.label.Label.{Label}
-use Rattle.tso_machine.specs.declared.stepping.Step.{Step}
+use Rattle.documents.proofs.Vocabulary.{map_more, map-append, IfOk-weaker, Label, Step, step_text, HasLabel, HaveLabels}
 use Rattle.json_text.specs.Texts.{array_text}
-use Rattle.documents.specs.Runs.{step_text, HasLabel, HaveLabels}
 use Rattle.documents.proofs.Steps.{one_more_step}
 use Rattle.documents.proofs.step.steps_array.Goals as goal
 

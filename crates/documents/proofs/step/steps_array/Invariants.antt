@@ -1,6 +1,5 @@
 use Rattle.std.proofs.Common.{◌≡◌, List, map, take}
-use Rattle.documents.specs.declared.step.StepPart.{StepPart}
-use Rattle.documents.specs.Runs.{step_text, HaveLabels}
+use Rattle.documents.proofs.Vocabulary.{StepPart, step_text, HaveLabels}
 use Rattle.documents.proofs.step.steps_array.Given as goal
 
 -- the steps so far

@@ -1,9 +1,6 @@
 use Rattle.std.proofs.Common.{ℕ, List, [], ◌∷◌, codes}
-use Rattle.std.proofs.lemmas.Result.{IfOk-weaker}
-use Rattle.json_text.specs.Texts.{member, truth_text}
-use Rattle.documents.specs.declared.run.Setting.TheVariants.{Machine}
+use Rattle.documents.proofs.Vocabulary.{IfOk-weaker, member, truth_text, Machine, setting_member}
 use Rattle.documents.specs.Parts.{gaps_array}
-use Rattle.documents.specs.Runs.{setting_member}
 use Rattle.documents.specs.Witnesses.{run_or_null}
 use Rattle.documents.proofs.Told.{added, document_with}
 use Rattle.documents.proofs.witness.witness_document.Goals as goal

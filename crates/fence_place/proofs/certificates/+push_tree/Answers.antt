@@ -1,10 +1,5 @@
 use Rattle.std.proofs.Common.{◌≡◌, ◌∙◌, ℕ, ◌<◌, ◌≤◌, ◌+◌, ◌-◌, ◌*◌, List, [], ◌∷◌, length, sym, subst, arith, true, get_or}
-use Rattle.std.proofs.lemmas.Option.{slice_get-get_or}
-use Rattle.gap_sets.specs.Regions.{open_gaps}
-use Rattle.gap_sets.specs.declared.gap_set.TheConstants.{MAX_GAPS}
-use Rattle.cover_solver.proofs.OpenGaps.{few_open}
-use Rattle.cert_forest.specs.Trees.{Bound}
-use Rattle.search_core.specs.Entries.{is_closed}
+use Rattle.fence_place.proofs.Vocabulary.{slice_get-get_or, open_gaps, MAX_GAPS, few_open, Bound, is_closed}
 use Rattle.cert_check.proofs.Answered.{on_ok}
 use Rattle.fence_place.proofs.Recording.{split_event, other_event, kids_there, split_facts}
 use Rattle.fence_place.proofs.RecordPushed.{bound_pushed, split_pushed, none_pushed, one_pushed}

@@ -1,12 +1,5 @@
 use Rattle.std.proofs.Common.{◌≡◌, ◌∙◌, ℕ, List, sym, ap, subst}
-use Rattle.gap_sets.specs.Order.{total}
-use Rattle.cover_solver.specs.Label.{Label}
-use Rattle.cert_forest.specs.Certificates.{Certificate}
-use Rattle.cert_forest.specs.Limits.{AreShownPlaces}
-use Rattle.cert_forest.specs.Shows.{shows_of}
-use Rattle.cover_solver.specs.Facts.{Serving, IsServing}
-use Rattle.fence_place.specs.Recorded.{IsRecorded}
-use Rattle.fence_place.specs.Proofs.{IsProof}
+use Rattle.fence_place.proofs.Vocabulary.{total, Label, Certificate, AreShownPlaces, shows_of, Serving, IsServing, IsRecorded, IsProof}
 use Rattle.fence_place.proofs.CertificateMade.{is_proof}
 use Rattle.fence_place.proofs.certificates.certify.Goals as goal
 

@@ -1,10 +1,7 @@
 use Rattle.std.proofs.Common.{◌≡◌, ◌++◌, List, sym, ap, ◌∙◌, subst}
-use Rattle.cert_forest.specs.Trees.{Gap}
-use Rattle.cert_forest.specs.declared.node.GapNode.{GapNode}
-use Rattle.cert_forest.specs.GapNodes.{spell_gap}
+use Rattle.fence_place.proofs.Vocabulary.{Gap, GapNode, spell_gap, IsRecorded}
 use Rattle.cert_forest.proofs.GapNodeLaws.{is_gap_tree, same_gap}
 use Rattle.cert_check.proofs.Answered.{if_ok}
-use Rattle.fence_place.specs.Recorded.{IsRecorded}
 use Rattle.fence_place.proofs.certificates.gap_tree.Goals as goal
 
 pub of_nodes-requires : goal.of_nodes-requires

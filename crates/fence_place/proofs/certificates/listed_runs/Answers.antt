@@ -1,7 +1,5 @@
 use Rattle.std.proofs.Common.{◌≡◌, ◌∙◌, ◌<◌, ◌≤◌, ℕ, zero, suc, List, [], ◌∷◌, ◌++◌, Some, None, length, length-append, sym, ap, subst, arith}
-use Rattle.std.specs.Prelude.{slice_get}
-use Rattle.std.proofs.lemmas.Option.{slice_get_within}
-use Rattle.fence_place.specs.Recorded.{AreNumbersOf}
+use Rattle.fence_place.proofs.Vocabulary.{slice_get, slice_get_within, AreNumbersOf}
 use Rattle.fence_place.proofs.Recording.{numbered_more, of_nodes_more, still_distinct}
 use Rattle.fence_place.proofs.certificates.listed_runs.Goals as goal
 

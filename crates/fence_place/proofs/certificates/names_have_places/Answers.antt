@@ -1,7 +1,5 @@
 use Rattle.std.proofs.Common.{sym, subst}
-use Rattle.tso_program.specs.declared.shown.Shown.{Shown}
-use Rattle.cert_forest.specs.Limits.{AreShownPlaces}
-use Rattle.cert_forest.specs.Shows.{shows_of}
+use Rattle.fence_place.proofs.Vocabulary.{Shown, AreShownPlaces, shows_of}
 use Rattle.fence_place.proofs.certificates.names_have_places.Goals as goal
 
 pub returns-in-Only : goal.returns-in-Only

@@ -1,6 +1,5 @@
 use Rattle.std.proofs.Common.{◌≡◌, ◌+◌, length}
-use Rattle.std.specs.List.{filter}
-use Rattle.gap_sets.specs.Regions.{is_free, open_gaps}
+use Rattle.fence_place.proofs.Vocabulary.{filter, is_free, open_gaps}
 use Rattle.fence_place.proofs.gaps.count_open.Given as goal
 
 -- those so far, and those to come

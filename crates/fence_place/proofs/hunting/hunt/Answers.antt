@@ -1,7 +1,6 @@
 use Rattle.std.proofs.Common.{Ok, Err}
 use Rattle.std.specs.Prelude.{IfErr}
-use Rattle.std.specs.declared.result.Result.{Result}
-use Rattle.fence_place.specs.declared.fault.PlaceFault.{PlaceFault}
+use Rattle.fence_place.proofs.Vocabulary.{Result, PlaceFault}
 use Rattle.fence_place.proofs.Workers.{hunt_fails}
 use Rattle.fence_place.proofs.hunting.hunt.Goals as goal
 

@@ -1,7 +1,5 @@
 use Rattle.std.proofs.Common.{vec_len}
-use Rattle.std.specs.Prelude.{All}
-use Rattle.hunt_board.specs.Seats.{IsOf}
-use Rattle.fence_place.specs.declared.worker.Worker.{Worker}
+use Rattle.fence_place.proofs.Vocabulary.{All, IsOf, Worker}
 use Rattle.fence_place.proofs.hunting.left_by.Given as goal
 
 -- all seats are of the hunt

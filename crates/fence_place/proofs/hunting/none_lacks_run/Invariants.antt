@@ -1,6 +1,5 @@
 use Rattle.std.proofs.Common.{◌≡◌, ℕ, ◌<◌, Some, false}
-use Rattle.std.specs.Prelude.{slice_get}
-use Rattle.fence_place.specs.declared.worker.Worker.{Worker}
+use Rattle.fence_place.proofs.Vocabulary.{slice_get, Worker}
 use Rattle.fence_place.specs.Internal.Workers.{lacks_run}
 use Rattle.fence_place.proofs.hunting.none_lacks_run.Given as goal
 

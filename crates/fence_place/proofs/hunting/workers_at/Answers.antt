@@ -1,9 +1,7 @@
 use Rattle.std.proofs.Common.{[], Option, arith, ap, sym, ◌∙◌, subst}
-use Rattle.std.specs.Prelude.{All, IfSome}
 use Rattle.std.proofs.lemmas.List.Elements.{All-pop, All-push}
+use Rattle.fence_place.proofs.Vocabulary.{All, IfSome, AreOf, IsReadyWorker}
 use Rattle.hunt_board.specs.Seats.{SeatView, IsOf, IsFresh}
-use Rattle.cover_solver.specs.Facts.{AreOf}
-use Rattle.fence_place.specs.Internal.Workers.{IsReadyWorker}
 use Rattle.fence_place.proofs.hunting.workers_at.Goals as goal
 
 pub loop-seat-preserved : goal.loop-seat-preserved

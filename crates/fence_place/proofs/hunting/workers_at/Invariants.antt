@@ -1,7 +1,5 @@
 use Rattle.std.proofs.Common.{vec_len}
-use Rattle.std.specs.Prelude.{All}
-use Rattle.hunt_board.specs.Seats.{IsFresh}
-use Rattle.fence_place.specs.Internal.Workers.{IsReadyWorker}
+use Rattle.fence_place.proofs.Vocabulary.{All, IsFresh, IsReadyWorker}
 use Rattle.fence_place.proofs.hunting.workers_at.Given as goal
 
 -- the seats that are left are as they were, and those before them have workers

@@ -1,8 +1,6 @@
 use Rattle.std.proofs.Common.{◌≡◌, ℕ, Option, Some, sym, subst, refl}
-use Rattle.std.specs.Prelude.{slice_get, IfSome}
 use Rattle.std.proofs.lemmas.Option.{slice_get_read}
-use Rattle.cover_solver.specs.Facts.{Foreign}
-use Rattle.cover_solver.specs.Verdicts.{PassesNoneOf}
+use Rattle.fence_place.proofs.Vocabulary.{slice_get, IfSome, Foreign, PassesNoneOf}
 use Rattle.fence_place.proofs.known.known_run.Goals as goal
 use Rattle.fence_place.proofs.known.known_run.Goals.{then-count-fewest+then-may_split, else-count-fewest}
 

@@ -1,7 +1,5 @@
 use Rattle.std.proofs.Common.{◌≡◌, Some}
-use Rattle.std.specs.Prelude.{slice_get, IfSome}
-use Rattle.cover_solver.specs.Facts.{Foreign}
-use Rattle.cover_solver.specs.Verdicts.{PassesNoneOf}
+use Rattle.fence_place.proofs.Vocabulary.{slice_get, IfSome, Foreign, PassesNoneOf}
 use Rattle.fence_place.proofs.known.known_run.Given as goal
 
 -- the best so far is one of them, and passes none of these gaps

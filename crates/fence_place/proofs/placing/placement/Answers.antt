@@ -1,7 +1,5 @@
 use Rattle.std.proofs.Common.{ℕ, List, sym, ap, subst}
-use Rattle.tso_program.specs.Shown.{Question}
-use Rattle.cert_forest.specs.Certificates.{Certificate}
-use Rattle.fence_place.specs.Proofs.{IsProof}
+use Rattle.fence_place.proofs.Vocabulary.{Question, Certificate, IsProof}
 use Rattle.fence_place.proofs.PlacementMade.{is_placement}
 use Rattle.fence_place.proofs.placing.placement.Goals as goal
 

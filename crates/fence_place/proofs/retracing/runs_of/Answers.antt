@@ -1,11 +1,6 @@
 use Rattle.std.proofs.Common.{◌≡◌, ◌∙◌, ℕ, Some, refl, sym, ap, subst}
-use Rattle.std.specs.Prelude.{slice_get}
-use Rattle.cover_solver.specs.Facts.{AreOf, Foreign}
-use Rattle.search_core.specs.declared.entry.Entry.{Entry}
-use Rattle.search_core.specs.declared.finished.Event.{Event}
+use Rattle.fence_place.proofs.Vocabulary.{slice_get, AreOf, Foreign, Entry, Event, Outcome, finished_state, IsOutcome, IsEventOf, facts_of}
 use Rattle.search_core.specs.declared.finished.Event.TheVariants as event
-use Rattle.search_core.specs.Records.{Outcome, finished_state, IsOutcome, IsEventOf}
-use Rattle.search_core.proofs.Kept.{facts_of}
 use Rattle.fence_place.specs.Internal.Searches.{IsOfQuestion}
 use Rattle.fence_place.proofs.Recording.{split_event}
 use Rattle.fence_place.proofs.retracing.runs_of.Goals as goal

@@ -1,9 +1,6 @@
 use Rattle.std.proofs.Common.{sym, subst, ◌<◌, ◌≡◌, ◌∙◌, ℕ, arith}
-use Rattle.tso_program.specs.Shown.{Question}
-use Rattle.cover_solver.specs.Outcomes.{AreGapsOf}
-use Rattle.search_core.specs.States.{IsDone}
+use Rattle.fence_place.proofs.Vocabulary.{Question, AreGapsOf, IsDone, work_left}
 use Rattle.search_core.specs.Faults.{TakeFaultIs}
-use Rattle.search_core.specs.Work.{work_left}
 use Rattle.fence_place.proofs.Settling.{all_done, none_after}
 use Rattle.fence_place.proofs.searching.go_on.Goals as goal
 

@@ -1,6 +1,5 @@
 use Rattle.std.proofs.Common.{◌≡◌, ◌∙◌, arith, subst, sym}
-use Rattle.tso_program.specs.Shown.{Question}
-use Rattle.cover_solver.specs.Facts.{AreOf}
+use Rattle.fence_place.proofs.Vocabulary.{Question, AreOf}
 use Rattle.fence_place.proofs.Settling.{start_unheld}
 use Rattle.fence_place.proofs.searching.search.Goals as goal
 

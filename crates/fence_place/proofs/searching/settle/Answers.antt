@@ -1,8 +1,5 @@
 use Rattle.std.proofs.Common.{◌≡◌, ◌∙◌, List, Some, sym, subst}
-use Rattle.std.specs.Prelude.{slice_get}
-use Rattle.cover_solver.specs.Facts.{Foreign}
-use Rattle.cover_solver.specs.Verdicts.{PassesNoneOf}
-use Rattle.search_core.specs.States.{SearchState}
+use Rattle.fence_place.proofs.Vocabulary.{slice_get, Foreign, PassesNoneOf, SearchState}
 use Rattle.search_core.specs.Events.{MaySplit, by_split}
 use Rattle.fence_place.specs.Internal.Searches.{HasSettled}
 use Rattle.fence_place.proofs.Workers.{element, read_at}

@@ -1,8 +1,6 @@
 use Rattle.std.proofs.Common.{◌≡◌, ◌∙◌, sym, subst}
-use Rattle.std.proofs.lemmas.List.Elements.{All-push}
-use Rattle.cover_solver.specs.Facts.{Foreign, AreOf}
+use Rattle.fence_place.proofs.Vocabulary.{All-push, Foreign, AreOf, by_confirm, by_split}
 use Rattle.cover_solver.specs.Verdicts.{IsVerdictOf}
-use Rattle.search_core.specs.Events.{by_confirm, by_split}
 use Rattle.fence_place.proofs.searching.settle_by_oracle.Goals as goal
 
 pub split_held-requires : goal.split_held-requires

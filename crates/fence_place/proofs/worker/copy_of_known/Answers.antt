@@ -1,9 +1,7 @@
 use Rattle.std.proofs.Common.{◌≡◌, ℕ, Some, Ok, Err, sym, ap, subst, ◌∙◌}
 use Rattle.std.specs.Prelude.{IfOk, IfSome, slice_get}
 use Rattle.std.specs.Result.{result_ok}
-use Rattle.std.specs.declared.result.Result.{Result}
-use Rattle.cover_solver.specs.Facts.{Foreign}
-use Rattle.cover_solver.specs.Verdicts.{PassesNoneOf}
+use Rattle.fence_place.proofs.Vocabulary.{Result, Foreign, PassesNoneOf}
 use Rattle.fence_place.proofs.Workers.{read_at}
 use Rattle.fence_place.proofs.worker.copy_of_known.Goals as goal
 

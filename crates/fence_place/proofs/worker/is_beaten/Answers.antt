@@ -1,7 +1,6 @@
 use Rattle.std.proofs.Common.{◌≡◌, Bool, true, false, true≢false, Option, Some, None, sym, subst}
 use Rattle.std.specs.Prelude.{IsTrue, MatchOption, not}
-use Rattle.gap_sets.specs.Gaps.{SetOfGaps}
-use Rattle.cover_solver.specs.Facts.{IsServing}
+use Rattle.fence_place.proofs.Vocabulary.{SetOfGaps, IsServing}
 use Rattle.fence_place.proofs.Workers.{beaten}
 use Rattle.fence_place.proofs.worker.is_beaten.Goals as goal
 

@@ -1,8 +1,7 @@
 use Rattle.std.proofs.Common.{◌∙◌, map, refl, sym}
 use Rattle.std.specs.Prelude.{codes, string_bytes}
-use Rattle.program_streams.proofs.Printed.{prints_more, prints_line}
+use Rattle.fencecheck.proofs.Vocabulary.{prints_more, prints_line, version_line}
 use Rattle.fencecheck.specs.Replies.{IsCheckOutput, IsUsage, usage_text}
-use Rattle.program_streams.specs.Versions.{version_line}
 use Rattle.fencecheck.proofs.Usage.{usage_output, usage_reads, version_output, version_reads}
 use Rattle.fencecheck.proofs.command.run_command.Goals as goal
 

@@ -1,9 +1,6 @@
 use Rattle.std.specs.Prelude.{option_map}
-use Rattle.program_streams.proofs.Printed.{prints_more, prints_line}
-use Rattle.program_streams.specs.FileLines.{file_line}
-use Rattle.fencecheck.specs.Verdicts.{IsVerdict}
+use Rattle.fencecheck.proofs.Vocabulary.{prints_more, prints_line, file_line, IsVerdict, file_names_of}
 use Rattle.fencecheck.specs.Replies.{IsReplyToFiles, judged, no_file}
-use Rattle.fencecheck.specs.Internal.Names.{file_names_of}
 use Rattle.fencecheck.proofs.command.run_files.Goals as goal
 
 pub returns-in-Ok-clause-printed : goal.returns-in-Ok-clause-printed

@@ -1,8 +1,5 @@
 use Rattle.std.proofs.Common.{None}
-use Rattle.program_streams.proofs.Printed.{prints_more, prints_line}
-use Rattle.program_streams.specs.FileLines.{file_line}
-use Rattle.fencecheck.specs.Verdicts.{IsVerdict}
-use Rattle.fencecheck.specs.Replies.{IsVerdictOnInput, judged, no_input}
+use Rattle.fencecheck.proofs.Vocabulary.{prints_more, prints_line, file_line, IsVerdict, IsVerdictOnInput, judged, no_input}
 use Rattle.fencecheck.proofs.Joined.{parts_seen}
 use Rattle.fencecheck.proofs.command.run_input.Goals as goal
 

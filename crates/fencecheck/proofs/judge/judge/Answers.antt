@@ -1,14 +1,13 @@
 use Rattle.std.proofs.Common.{◌≡◌, inr, refl, sym, ap, ◌∙◌, subst}
+use Rattle.fencecheck.proofs.Vocabulary.{asked, handed_in}
 use Rattle.tso_program.specs.declared.listing.Listing.{Listing}
 use Rattle.tso_program.specs.declared.shown.Shown.{Shown}
-use Rattle.tso_program.specs.Shown.{asked}
 use Rattle.litmus_reader.specs.declared.litmus.Litmus.{Litmus}
 use Rattle.cert_forest.specs.declared.shows.Shows.{Shows}
 use Rattle.cert_forest.specs.declared.shows.Shows.TheVariants.{All, Only, Condition}
 use Rattle.cert_forest.specs.Shows.{shows_of}
 use Rattle.cert_forest.specs.Certificates.{Certificate}
 use Rattle.cert_check.specs.Faults.{CheckFaultIs}
-use Rattle.fencecheck.specs.Verdicts.{handed_in}
 use Rattle.fencecheck.proofs.judge.judge.Goals as goal
 
 -- what is handed in is what is asked

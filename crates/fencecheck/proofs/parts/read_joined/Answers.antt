@@ -1,8 +1,6 @@
 use Rattle.std.proofs.Common.{◌+◌, ◌-◌, ◌≤◌, length, subst, arith, vec_len}
+use Rattle.fencecheck.proofs.Vocabulary.{IsReadFault, CERTIFICATE_LIMIT, IsCertificateStart, IsTooLongInput}
 use Rattle.cert_check.proofs.Answered.{err_up}
-use Rattle.program_streams.specs.Streams.{IsReadFault}
-use Rattle.fencecheck.specs.declared.parts.TheConstants.{CERTIFICATE_LIMIT}
-use Rattle.fencecheck.specs.Inputs.{IsCertificateStart, IsTooLongInput}
 use Rattle.fencecheck.proofs.Joined.{end_or_full, long_litmus, parts_read, reads_rest, rest_fault}
 use Rattle.fencecheck.proofs.parts.read_joined.Goals as goal
 

@@ -1,7 +1,6 @@
 use Rattle.std.proofs.Common.{◌∙◌, inl, inr, refl, sym}
-use Rattle.std.specs.Prelude.{codes}
+use Rattle.fencer.proofs.Vocabulary.{codes, IfOk-weaker}
 use Rattle.program_streams.specs.Versions.{version_line}
-use Rattle.std.proofs.lemmas.Result.{IfOk-weaker}
 use Rattle.fencer.specs.Answers.{answer, no_command, of_job, nothing, version}
 use Rattle.program_streams.proofs.Printed.{prints_line, prints_made, prints_more, prints_nothing}
 use Rattle.fencer.proofs.Served.{other}

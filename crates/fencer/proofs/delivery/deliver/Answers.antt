@@ -1,9 +1,7 @@
 use Rattle.std.proofs.Common.{Ok}
-use Rattle.std.specs.declared.alloc.AllocError.{AllocError}
+use Rattle.fencer.proofs.Vocabulary.{AllocError, prints_made, file_line}
 use Rattle.program_streams.specs.declared.fault.FileFault.TheVariants as file
-use Rattle.program_streams.proofs.Printed.{prints_made}
 use Rattle.fencer.proofs.PrintedRefusals.{prints_refusal}
-use Rattle.program_streams.specs.FileLines.{file_line}
 use Rattle.fencer.specs.Deliveries.{kept, not_kept}
 use Rattle.fencer.proofs.delivery.deliver.Goals as goal
 

@@ -1,9 +1,7 @@
 use Rattle.std.proofs.Common.{Ok}
-use Rattle.std.specs.declared.alloc.AllocError.{AllocError}
-use Rattle.program_streams.proofs.Printed.{prints_made}
+use Rattle.fencer.proofs.Vocabulary.{AllocError, prints_made, text_fault_line}
 use Rattle.fencer.proofs.PrintedRefusals.{prints_refused_line}
 use Rattle.fencer.specs.GapTexts.{listed, refused_for}
-use Rattle.fencer.specs.Placements.{text_fault_line}
 use Rattle.fencer.proofs.gaps.gaps_of_texts.Goals as goal
 
 pub returns-in-Ok : goal.returns-in-Ok

@@ -1,7 +1,5 @@
-use Rattle.std.specs.Prelude.{option_map}
-use Rattle.program_streams.proofs.Printed.{prints_more}
+use Rattle.fencer.proofs.Vocabulary.{option_map, prints_more, file_line}
 use Rattle.fencer.proofs.PrintedRefusals.{prints_refused_line}
-use Rattle.program_streams.specs.FileLines.{file_line}
 use Rattle.fencer.specs.GapTexts.{of_texts, no_texts}
 use Rattle.fencer.proofs.gaps.run_gaps.Goals as goal
 

@@ -1,6 +1,5 @@
 use Rattle.std.proofs.Common.{◌∙◌, ℕ, List, ◌++◌, ap, ap₂}
-use Rattle.report.specs.Answers.{outcome_line}
-use Rattle.fencer.specs.Outcomes.{run_line_at}
+use Rattle.fencer.proofs.Vocabulary.{outcome_line, run_line_at}
 use Rattle.fencer.proofs.OutcomeLines.{one_more_outcome}
 use Rattle.fencer.proofs.outcomes.list_lines.Goals as goal
 

@@ -1,8 +1,7 @@
 use Rattle.std.proofs.Common.{subst}
 use Rattle.std.specs.FinSet as set
-use Rattle.tso_program.specs.declared.shown.Shown.{Shown}
+use Rattle.fencer.proofs.Vocabulary.{Shown, machine_of_model}
 use Rattle.tso_program.specs.Shown.{asked}
-use Rattle.tso_machine.specs.Modes.{machine_of_model}
 use Rattle.fencer.specs.Outcomes.{ListsOutcomes, ListsRuns, TellsOutcomes}
 use Rattle.fencer.proofs.outcomes.outcomes_reply.Goals as goal
 

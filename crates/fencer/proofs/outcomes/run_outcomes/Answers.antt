@@ -1,10 +1,6 @@
-use Rattle.std.specs.Prelude.{string_bytes}
-use Rattle.program_streams.specs.FileLines.{file_line}
-use Rattle.program_streams.proofs.Printed.{prints_more}
+use Rattle.fencer.proofs.Vocabulary.{string_bytes, file_line, prints_more, IsTold, no_file}
 use Rattle.fencer.proofs.PrintedRefusals.{prints_refusal}
 use Rattle.fencer.specs.Outcomes.{AreOutcomes, HasNoList, PrintsOutcomes}
-use Rattle.fencer.specs.Refusals.{IsTold}
-use Rattle.fencer.specs.TextAnswers.{no_file}
 use Rattle.fencer.proofs.Told.{told_answer}
 use Rattle.fencer.proofs.outcomes.run_outcomes.Goals as goal
 

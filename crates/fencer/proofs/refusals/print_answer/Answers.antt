@@ -1,8 +1,6 @@
 use Rattle.std.proofs.Common.{Ok, refl}
-use Rattle.std.specs.declared.alloc.AllocError.{AllocError}
-use Rattle.program_streams.proofs.Printed.{prints_made}
+use Rattle.fencer.proofs.Vocabulary.{AllocError, prints_made, refusal_line, IsTold}
 use Rattle.fencer.proofs.PrintedRefusals.{prints_refusal}
-use Rattle.fencer.specs.Refusals.{refusal_line, IsTold}
 use Rattle.fencer.proofs.refusals.print_answer.Goals as goal
 
 pub returns-in-Ok : goal.returns-in-Ok

@@ -1,7 +1,5 @@
 use Rattle.std.proofs.Common.{refl}
-use Rattle.std.proofs.lemmas.Result.{IfOk-weaker}
-use Rattle.program_streams.proofs.Printed.{prints_made}
-use Rattle.fencer.specs.Refused.{PrintsRefusal}
+use Rattle.fencer.proofs.Vocabulary.{IfOk-weaker, prints_made, PrintsRefusal}
 use Rattle.fencer.proofs.refused.tell_refusal.Goals as goal
 
 pub returns : goal.returns

@@ -1,8 +1,7 @@
 use Rattle.std.proofs.Common.{List, subst}
 use Rattle.std.specs.FinSet as set
-use Rattle.tso_machine.specs.declared.label.Label.{Label}
+use Rattle.fencer.proofs.Vocabulary.{Label, machine_of_model}
 use Rattle.tso_machine.specs.Machine as machine
-use Rattle.tso_machine.specs.Modes.{machine_of_model}
 use Rattle.documents.specs.Documents.{IsTraceDocument}
 use Rattle.documents.proofs.Steps.{labels_of_steps}
 use Rattle.fencer.proofs.traces.drawings_of.Goals as goal

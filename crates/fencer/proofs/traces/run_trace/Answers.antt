@@ -1,7 +1,6 @@
 use Rattle.std.proofs.Common.{refl}
-use Rattle.program_streams.proofs.Printed.{prints_more}
+use Rattle.fencer.proofs.Vocabulary.{prints_more, file_line}
 use Rattle.fencer.proofs.PrintedRefusals.{prints_refusal}
-use Rattle.program_streams.specs.FileLines.{file_line}
 use Rattle.fencer.specs.Traces.{of_text, no_text}
 use Rattle.fencer.proofs.traces.run_trace.Goals as goal
 

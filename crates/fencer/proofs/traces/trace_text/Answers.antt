@@ -1,7 +1,6 @@
 use Rattle.std.proofs.Common.{refl}
-use Rattle.program_streams.proofs.Printed.{prints_more}
+use Rattle.fencer.proofs.Vocabulary.{prints_more, refusal_line}
 use Rattle.fencer.proofs.PrintedRefusals.{prints_refusal}
-use Rattle.fencer.specs.Refusals.{refusal_line}
 use Rattle.fencer.specs.Traces.{traced, refused_for}
 use Rattle.fencer.proofs.traces.trace_text.Goals as goal
 

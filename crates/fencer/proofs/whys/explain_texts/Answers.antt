@@ -1,7 +1,6 @@
 use Rattle.std.proofs.Common.{refl}
-use Rattle.program_streams.proofs.Printed.{prints_more}
+use Rattle.fencer.proofs.Vocabulary.{prints_more, text_fault_line}
 use Rattle.fencer.proofs.PrintedRefusals.{prints_refusal}
-use Rattle.fencer.specs.Placements.{text_fault_line}
 use Rattle.fencer.specs.Whys.{explained, refused_for}
 use Rattle.fencer.proofs.whys.explain_texts.Goals as goal
 

@@ -1,8 +1,6 @@
 use Rattle.std.proofs.Common.{refl}
-use Rattle.std.specs.Prelude.{option_map}
-use Rattle.program_streams.proofs.Printed.{prints_more}
+use Rattle.fencer.proofs.Vocabulary.{option_map, prints_more, file_line}
 use Rattle.fencer.proofs.PrintedRefusals.{prints_refusal}
-use Rattle.program_streams.specs.FileLines.{file_line}
 use Rattle.fencer.specs.Whys.{of_texts, no_texts}
 use Rattle.fencer.proofs.whys.run_why.Goals as goal
 

@@ -1,7 +1,5 @@
 use Rattle.std.proofs.Common.{ap, ◌∙◌}
-use Rattle.clap.specs.Simple.{app_of_fields}
-use Rattle.clap.specs.declared.builder.command.Command.{Command}
-use Rattle.clap.specs.declared.builder.command.Command.TheOpen.{Command-F}
+use Rattle.fencer_words.proofs.Vocabulary.{app_of_fields, Command, Command-F}
 use Rattle.fencer_words.proofs.arguments.described_command.Goals as goal
 
 pub returns-clause-app : goal.returns-clause-app

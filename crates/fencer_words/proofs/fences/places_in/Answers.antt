@@ -1,8 +1,7 @@
 use Rattle.std.proofs.Common.{◌≡◌, ◌∙◌, ◌++◌, List, [], ◌∷◌, ℕ, Bor, map, take, drop, suc, subst, sym, true, false}
-use Rattle.std.specs.List.{list_any}
 use Rattle.std.proofs.lemmas.List.{map_more}
 use Rattle.std.proofs.lemmas.Map.Keys.{IsDistinct-push}
-use Rattle.fencer_words.specs.Places.{is_same_place, ArePlaceTexts}
+use Rattle.fencer_words.proofs.Vocabulary.{list_any, is_same_place, ArePlaceTexts}
 use Rattle.fencer_words.proofs.PlaceTexts.{at_index, no_place_there, none_twice, one_more, places_are_compared, there_twice}
 use Rattle.fencer_words.proofs.fences.places_in.Goals as goal
 

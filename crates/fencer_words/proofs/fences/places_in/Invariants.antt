@@ -1,6 +1,5 @@
 use Rattle.std.proofs.Common.{map, take}
-use Rattle.std.specs.List.{IsDistinct}
-use Rattle.fencer_words.specs.Places.{is_same_place, ArePlaceTexts}
+use Rattle.fencer_words.proofs.Vocabulary.{IsDistinct, is_same_place, ArePlaceTexts}
 use Rattle.fencer_words.proofs.fences.places_in.Given as goal
 
 -- the places of the texts so far

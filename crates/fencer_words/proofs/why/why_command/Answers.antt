@@ -1,6 +1,5 @@
 use Rattle.std.proofs.Common.{ap₂, ◌∙◌}
-use Rattle.std.proofs.lemmas.Result.{IfOk-weaker}
-use Rattle.clap.specs.Words.{with_rule}
+use Rattle.fencer_words.proofs.Vocabulary.{IfOk-weaker, with_rule}
 use Rattle.fencer_words.proofs.Rules.{neither}
 use Rattle.fencer_words.proofs.why.why_command.Goals as goal
 

@@ -1,9 +1,6 @@
 use Rattle.std.proofs.Common.{◌≡◌, ap, ap₂, ◌∙◌}
-use Rattle.std.proofs.lemmas.Result.{IfOk-weaker}
-use Rattle.clap.specs.Simple.{app_of_fields}
+use Rattle.fencer_words.proofs.Vocabulary.{IfOk-weaker, app_of_fields, Command, Command-F}
 use Rattle.clap.specs.Words.{App, with_subcommand}
-use Rattle.clap.specs.declared.builder.command.Command.{Command}
-use Rattle.clap.specs.declared.builder.command.Command.TheOpen.{Command-F}
 use Rattle.fencer_words.proofs.Rules.{IsFencer, fencer_shape, fencer_globals, neither}
 use Rattle.fencer_words.proofs.words.command.Goals as goal
 

@@ -1,10 +1,6 @@
 use Rattle.std.proofs.Common.{◌≡◌, ◌⊎◌, IfNone, IfSome, Option, inr, map, subst}
-use Rattle.std.specs.Prelude.{string_bytes}
-use Rattle.clap.specs.Words.{app_of, kind_of}
-use Rattle.clap.specs.declared.error.Error.{Error}
-use Rattle.clap.specs.declared.error.kind.ErrorKind.TheVariants.{OutOfMemory}
+use Rattle.fencer_words.proofs.Vocabulary.{string_bytes, app_of, kind_of, Error, OutOfMemory, IsNoCommand}
 use Rattle.clap.proofs.TakesLemmas.{passed_up}
-use Rattle.fencer_words.specs.CommandLines.{IsNoCommand}
 use Rattle.fencer_words.specs.Commands.{IsJobMet, MeetsNoJob}
 use Rattle.fencer_words.specs.declared.job.Job.{Job}
 use Rattle.fencer_words.proofs.Faultless.{no_command, no_fault, reads, met_nothing}

@@ -1,6 +1,5 @@
 use Rattle.std.proofs.Common.{◌≡◌}
-use Rattle.std.specs.List.{flat_map, range_with_len}
-use Rattle.gap_list.specs.CostFiles.{entry_text}
+use Rattle.gap_list.proofs.Vocabulary.{flat_map, range_with_len, entry_text}
 use Rattle.gap_list.proofs.cost_lines.entries.Given as goal
 
 -- the gaps so far have their lines

@@ -1,6 +1,5 @@
 use Rattle.std.proofs.Common.{List, ◌++◌, ap, ◌∙◌, ℕ}
-use Rattle.std.specs.Prelude.{option_map, slice_index}
-use Rattle.gap_list.specs.Lists.{gap_line}
+use Rattle.gap_list.proofs.Vocabulary.{option_map, slice_index, gap_line}
 use Rattle.gap_list.proofs.Ranges.{one_more}
 use Rattle.gap_list.proofs.list.gap_list.Goals as goal
 

@@ -1,7 +1,5 @@
 use Rattle.std.proofs.Common.{◌≡◌}
-use Rattle.std.specs.Prelude.{option_map, slice_index}
-use Rattle.std.specs.List.{flat_map, range_with_len}
-use Rattle.gap_list.specs.Lists.{gap_line}
+use Rattle.gap_list.proofs.Vocabulary.{option_map, slice_index, flat_map, range_with_len, gap_line}
 use Rattle.gap_list.proofs.list.gap_list.Given as goal
 
 -- the gaps so far have their lines

@@ -1,6 +1,5 @@
 use Rattle.std.proofs.Common.{◌≡◌, ◌+◌, ◌++◌, ◌∷◌, [], ℕ, List, sym, ap, ◌∙◌, subst, arith}
-use Rattle.hunt_board.specs.Seats.{SeatView, AreFresh}
-use Rattle.hunt_board.specs.Word.{Known, IsSeatOf, word_with}
+use Rattle.hunt_board.proofs.Vocabulary.{SeatView, AreFresh, Known, IsSeatOf, word_with}
 use Rattle.hunt_board.proofs.Fresh.{one_more_fresh}
 use Rattle.hunt_board.proofs.hunt.seats_of.Goals as goal
 

@@ -1,7 +1,6 @@
 use Rattle.std.proofs.Common.{refl, sym, ◌∙◌}
 use Rattle.std.proofs.lemmas.Bool.{MatchBool-at_true, MatchBool-at_false}
-use Rattle.std.proofs.lemmas.Option.{slice_get_read}
-use Rattle.hunt_board.specs.Internal.Marks.{IsMarked, IsNotMarked}
+use Rattle.hunt_board.proofs.Vocabulary.{slice_get_read, IsMarked, IsNotMarked}
 use Rattle.hunt_board.proofs.Marks.{fresh_marks, one_more_marked, all_named, too_few, first_wrong}
 use Rattle.hunt_board.proofs.record.check_receipts.Goals as goal
 

@@ -1,6 +1,5 @@
 use Rattle.std.proofs.Common.{◌≡◌, ◌+◌, ◌≤◌, ◌<◌, ◌^◌, ℕ, Bool, true, List, ◌∷◌, cond, length, not, sym, ap, ◌∙◌, arith}
-use Rattle.std.specs.List.{filter}
-use Rattle.gap_sets.specs.Regions.{is_free, open_gaps}
+use Rattle.hunt_board.proofs.Vocabulary.{filter, is_free, open_gaps}
 use Rattle.cover_solver.proofs.OpenGaps.{few_open}
 use Rattle.hunt_board.proofs.record.number_of_child.Goals as goal
 

@@ -1,7 +1,6 @@
 use Rattle.std.proofs.Common.{◌≡◌, ◌+◌, length}
-use Rattle.std.specs.List.{filter, position_from}
 use Rattle.std.specs.FinSet as set
-use Rattle.gap_sets.specs.Regions.{is_free, open_gaps}
+use Rattle.hunt_board.proofs.Vocabulary.{filter, position_from, is_free, open_gaps}
 use Rattle.hunt_board.specs.Internal.Places.{number_of_child}
 use Rattle.hunt_board.proofs.record.number_of_child.Given as goal
 

@@ -1,10 +1,9 @@
 use Rattle.std.proofs.Common.{◌≡◌, Bool, true, false, true≢false, ℕ, List, Option, Some, None, refl, sym, subst}
 use Rattle.std.specs.Prelude.{IsTrue, MatchOption, not}
 use Rattle.std.proofs.lemmas.Option.{same_Some, none-some}
-use Rattle.gap_sets.specs.Gaps.{SetOfGaps}
+use Rattle.hunt_calls.proofs.Vocabulary.{SetOfGaps, IsBeatenBy}
 use Rattle.gap_sets.specs.Order.{Better}
 use Rattle.cover_solver.specs.Facts.{Serving, IsServing}
-use Rattle.search_core.specs.Events.{IsBeatenBy}
 use Rattle.hunt_calls.proofs.hunts.is_beaten.Goals as goal
 
 not_both : (b : Bool) → IsTrue (not b) → IsTrue b → ⊥

@@ -1,10 +1,8 @@
 use Rattle.std.proofs.Common.{◌≡◌, ◌∙◌, ap, sym, subst}
-use Rattle.gap_sets.specs.Gaps.{SetOfGaps}
+use Rattle.hunt_calls.proofs.Vocabulary.{SetOfGaps, Question, Serving}
 use Rattle.gap_sets.specs.declared.region.Region.{Region}
-use Rattle.tso_program.specs.Shown.{Question}
 use Rattle.cover_solver.specs.declared.oracle.Verdict.{Verdict}
 use Rattle.cover_solver.specs.declared.oracle.Verdict.TheVariants as verdict
-use Rattle.cover_solver.specs.Facts.{Serving}
 use Rattle.cover_solver.specs.Verdicts.{IsVerdictOf}
 use Rattle.hunt_calls.proofs.search.confirm.Goals as goal
 

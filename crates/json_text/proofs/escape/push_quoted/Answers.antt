@@ -1,7 +1,5 @@
 use Rattle.std.proofs.Common.{◌≡◌, ◌∙◌, ℕ, List, [], ◌∷◌, ◌++◌, length, take, get_or, ap, append_assoc, arith}
-use Rattle.std.specs.List.{flat_map}
-use Rattle.std.proofs.Math.Seq.{take-length}
-use Rattle.json_text.specs.Texts.{escaped}
+use Rattle.json_text.proofs.Vocabulary.{flat_map, take-length, escaped}
 use Rattle.json_text.proofs.Lists.{flat_more}
 use Rattle.json_text.proofs.escape.push_quoted.Goals as goal
 

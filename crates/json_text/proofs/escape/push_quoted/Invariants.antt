@@ -1,6 +1,5 @@
 use Rattle.std.proofs.Common.{◌≡◌, ◌++◌, ◌∷◌, [], take}
-use Rattle.std.specs.List.{flat_map}
-use Rattle.json_text.specs.Texts.{escaped}
+use Rattle.json_text.proofs.Vocabulary.{flat_map, escaped}
 use Rattle.json_text.proofs.escape.push_quoted.Given as goal
 
 -- the bytes so far

@@ -1,9 +1,6 @@
 use Rattle.std.proofs.Common.{◌≡◌, ◌<◌, ◌∙◌, ℕ, List, [], ◌∷◌, ◌++◌, length, take, get_or, ap, sym, arith}
-use Rattle.std.specs.Global.{Vec}
-use Rattle.std.proofs.Math.Seq.{take-length}
 use Rattle.std.proofs.lemmas.List.{get_or-map, length-map}
-use Rattle.json_text.specs.Internal.Lists.{bytes_of_each}
-use Rattle.json_text.specs.Texts.{with_commas}
+use Rattle.json_text.proofs.Vocabulary.{Vec, take-length, bytes_of_each, with_commas}
 use Rattle.json_text.proofs.Lists.{added_at}
 use Rattle.json_text.proofs.listed.enclosed.Goals as goal
 

@@ -1,6 +1,5 @@
 use Rattle.std.proofs.Common.{◌≡◌, ◌∷◌, take}
-use Rattle.json_text.specs.Internal.Lists.{bytes_of_each}
-use Rattle.json_text.specs.Texts.{with_commas}
+use Rattle.json_text.proofs.Vocabulary.{bytes_of_each, with_commas}
 use Rattle.json_text.proofs.listed.enclosed.Given as goal
 
 -- the texts so far

@@ -1,6 +1,5 @@
 use Rattle.std.proofs.Common.{ℕ, ◌+◌, sym, subst}
-use Rattle.known_edges.specs.Rows.{IsRowOf}
-use Rattle.thread_traces.proofs.KnownParts.{not_by}
+use Rattle.known_edges.proofs.Vocabulary.{IsRowOf, not_by}
 use Rattle.known_edges.proofs.Masks.{IsReaderBelow, readers_more, readers_skip, readers_all}
 use Rattle.known_edges.proofs.access_rows.readers_of.Goals as goal
 use Rattle.known_edges.proofs.access_rows.readers_of.Goals.{then-is_same+then-not-is_same, else-is_same, else-is_same-via-then-is_same+else-not-is_same, else-is_same-via-else-is_same}

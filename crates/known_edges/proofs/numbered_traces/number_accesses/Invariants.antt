@@ -1,7 +1,5 @@
 use Rattle.std.proofs.Common.{◌≡◌, [], length}
-use Rattle.tso_program.specs.declared.limits.TheConstants.{MAX_THREADS}
-use Rattle.known_edges.specs.Rows.{AreStarts, AreCounts}
-use Rattle.thread_traces.proofs.Accesses.{IsGrown}
+use Rattle.known_edges.proofs.Vocabulary.{MAX_THREADS, AreStarts, AreCounts, IsGrown}
 use Rattle.known_edges.proofs.Accesses.{IsBelow}
 use Rattle.known_edges.proofs.numbered_traces.number_accesses.Given as goal
 

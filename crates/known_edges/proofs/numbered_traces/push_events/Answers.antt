@@ -1,7 +1,6 @@
 use Rattle.std.proofs.Common.{◌∙◌, length, sym, ap}
-use Rattle.thread_traces.specs.declared.thread_trace.ThreadTrace.{ThreadTrace}
+use Rattle.known_edges.proofs.Vocabulary.{ThreadTrace, grown_none}
 use Rattle.known_edges.proofs.Accesses.{IsBelow, grown_threads, grown_all, before_thread, below_none, accesses_read}
-use Rattle.thread_traces.proofs.Accesses.{grown_none}
 use Rattle.known_edges.proofs.numbered_traces.push_events.Goals as goal
 
 pub loop-t-init : goal.loop-t-init

@@ -1,8 +1,6 @@
 use Rattle.std.proofs.Common.{◌≡◌, ◌∙◌, ◌+◌, ap, length, sym, subst, arith}
 use Rattle.std.proofs.lemmas.List.{length_push}
-use Rattle.candidate_executions.specs.declared.event.Event.TheVariants.{Access as At}
-use Rattle.known_edges.specs.Rows.{IsEarly, AreBeyond}
-use Rattle.thread_traces.proofs.Accesses.{IsGrown, grown_none}
+use Rattle.known_edges.proofs.Vocabulary.{At, IsEarly, AreBeyond, IsGrown, grown_none}
 use Rattle.known_edges.proofs.Accesses.{grown_more, early_none}
 use Rattle.known_edges.proofs.Starts.{beyond_none, beyond_more}
 use Rattle.known_edges.proofs.numbered_traces.push_thread.Goals as goal

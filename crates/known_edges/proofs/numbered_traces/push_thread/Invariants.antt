@@ -1,6 +1,5 @@
 use Rattle.std.proofs.Common.{◌≡◌, ◌+◌, length}
-use Rattle.known_edges.specs.Rows.{IsEarly, AreBeyond}
-use Rattle.thread_traces.proofs.Accesses.{IsGrown}
+use Rattle.known_edges.proofs.Vocabulary.{IsEarly, AreBeyond, IsGrown}
 use Rattle.known_edges.proofs.numbered_traces.push_thread.Given as goal
 
 -- the thread's accesses so far have come

@@ -1,10 +1,6 @@
 use Rattle.std.proofs.Common.{◌≡◌, List, ap, sym, subst}
-use Rattle.candidate_executions.specs.declared.event.Event.{Event}
-use Rattle.candidate_executions.specs.declared.event.Kind.{Kind}
+use Rattle.known_edges.proofs.Vocabulary.{Event, Kind, Sequential, ThreadTrace, NumberedTraces, AreRowsOf, InOrder, HasOrder}
 use Rattle.candidate_executions.specs.declared.event.Kind.TheVariants as union
-use Rattle.tso_machine.specs.declared.mode.Mode.TheVariants.{Sequential}
-use Rattle.thread_traces.specs.declared.thread_trace.ThreadTrace.{ThreadTrace}
-use Rattle.known_edges.specs.Rows.{NumberedTraces, AreRowsOf, InOrder, HasOrder}
 use Rattle.known_edges.proofs.OrderJoins.{order_joins}
 use Rattle.known_edges.proofs.order_rows.in_order.Goals as goal
 

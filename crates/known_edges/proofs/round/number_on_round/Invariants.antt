@@ -1,6 +1,5 @@
 use Rattle.std.proofs.Common.{◌<◌}
-use Rattle.bit_rows.specs.Rows.{IsIn}
-use Rattle.bit_rows.specs.declared.row.TheConstants.{ROW_BITS}
+use Rattle.known_edges.proofs.Vocabulary.{IsIn, ROW_BITS}
 use Rattle.known_edges.proofs.round.number_on_round.Given as goal
 
 abbrev pub invariant-loop-open : goal.invariant-loop-open

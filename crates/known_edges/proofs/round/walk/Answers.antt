@@ -1,7 +1,6 @@
 use Rattle.std.proofs.Common.{◌≡◌, ◌∙◌, ◌∷◌, ◌++◌, [], List, Some, Contains, slice_get, drop, ap, sym, subst}
 use Rattle.std.proofs.lemmas.Result.{IfOk-weaker}
-use Rattle.candidate_executions.specs.declared.event.Event.{Event}
-use Rattle.known_edges.specs.Rounds.{IsRound}
+use Rattle.known_edges.proofs.Vocabulary.{Event, IsRound}
 use Rattle.known_edges.proofs.NumberWalks.{IsWalk, event_at, comes_back, goes_on}
 use Rattle.known_edges.proofs.round.walk.Goals as goal
 

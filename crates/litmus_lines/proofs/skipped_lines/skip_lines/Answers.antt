@@ -1,8 +1,7 @@
 use Rattle.std.proofs.Common.{ℕ, List, [], ◌≡◌, ◌∙◌, sym, subst, inl, inr, arith}
 use Rattle.std.proofs.lemmas.List.{nil_from_length}
-use Rattle.text_tokens.specs.Space.{IsAfterSpace}
+use Rattle.litmus_lines.proofs.Vocabulary.{IsAfterSpace, AreSkipped, line}
 use Rattle.text_tokens.proofs.SpaceLaws.{empty_is}
-use Rattle.litmus_lines.specs.SkippedLines.{AreSkipped, line}
 use Rattle.litmus_lines.specs.Faults.{nothing, line as begins}
 use Rattle.litmus_lines.proofs.SkippedLaws.{shorter, line_back, brace_back, brace_is, no_space_back, no_line_back, no_line_in_nothing, nothing_back}
 use Rattle.litmus_lines.proofs.skipped_lines.skip_lines.Goals as goal

@@ -1,6 +1,5 @@
 use Rattle.std.proofs.Common.{ℕ, List, length}
-use Rattle.litmus_lines.specs.SkippedLines.{AreSkipped}
-use Rattle.litmus_lines.specs.Faults.{BeginsSkipped}
+use Rattle.litmus_lines.proofs.Vocabulary.{AreSkipped, BeginsSkipped}
 use Rattle.litmus_lines.proofs.skipped_lines.skip_lines.Given as goal
 
 -- where the lines end after the rest, they end after the whole, and the other way round

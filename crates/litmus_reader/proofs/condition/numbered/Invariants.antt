@@ -1,8 +1,6 @@
 use Rattle.std.proofs.Common.{◌≡◌, map, take}
+use Rattle.litmus_reader.proofs.Vocabulary.{sign_at_view, byte_in, numbered_signs}
 use Rattle.conditions.specs.Tokens.{sign_of_token as token_sign}
-use Rattle.litmus_syntax.specs.Views.{sign_at_view}
-use Rattle.litmus_reader.specs.Internal.Filling.{byte_in}
-use Rattle.litmus_reader.specs.Internal.Reading.{numbered_signs}
 use Rattle.litmus_reader.proofs.condition.numbered.Given as goal
 
 -- the signs so far are numbered

@@ -1,6 +1,5 @@
 use Rattle.std.proofs.Common.{◌≡◌, map, drop}
-use Rattle.litmus_syntax.specs.Views.{cell_view}
-use Rattle.litmus_reader.specs.Labels.{are_found}
+use Rattle.litmus_reader.proofs.Vocabulary.{cell_view, are_found}
 use Rattle.litmus_reader.proofs.jumps.lost_in_row.Given as goal
 
 -- the jumps so far are found

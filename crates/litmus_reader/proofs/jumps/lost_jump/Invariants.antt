@@ -1,7 +1,5 @@
 use Rattle.std.proofs.Common.{◌≡◌, map, drop}
-use Rattle.std.specs.List.{list_all}
-use Rattle.litmus_syntax.specs.Views.{row_view}
-use Rattle.litmus_reader.specs.Labels.{are_found}
+use Rattle.litmus_reader.proofs.Vocabulary.{list_all, row_view, are_found}
 use Rattle.litmus_reader.proofs.jumps.lost_jump.Given as goal
 
 -- the jumps so far are found

@@ -1,11 +1,5 @@
 use Rattle.std.proofs.Common.{List, [], ◌∷◌, ◌++◌, map, sym, ap, ◌∙◌, arith}
-use Rattle.std.specs.List.{range_with_len}
-use Rattle.std.specs.Global.{Vec}
-use Rattle.std.proofs.lemmas.List.FromFn.{map-range_with_len_more}
-use Rattle.litmus_syntax.specs.declared.cell.Cell.{Cell}
-use Rattle.litmus_syntax.specs.Views.{row_view}
-use Rattle.litmus_reader.specs.declared.label.Label.{Label}
-use Rattle.litmus_reader.specs.Labels.{thread_labels}
+use Rattle.litmus_reader.proofs.Vocabulary.{range_with_len, Vec, map-range_with_len_more, Cell, row_view, Label, thread_labels}
 use Rattle.litmus_reader.proofs.label.all_labels.Goals as goal
 
 pub loop-thread-preserved : goal.loop-thread-preserved

@@ -1,7 +1,5 @@
 use Rattle.std.proofs.Common.{◌≡◌, map}
-use Rattle.std.specs.List.{range_with_len}
-use Rattle.litmus_syntax.specs.Views.{row_view}
-use Rattle.litmus_reader.specs.Labels.{thread_labels}
+use Rattle.litmus_reader.proofs.Vocabulary.{range_with_len, row_view, thread_labels}
 use Rattle.litmus_reader.proofs.label.all_labels.Given as goal
 
 -- the labels of the threads so far

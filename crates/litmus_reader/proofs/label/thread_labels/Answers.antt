@@ -1,10 +1,5 @@
 use Rattle.std.proofs.Common.{◌≡◌, ℕ, ◌+◌, List, ◌++◌, map, get_or, Option, Some, None, sym, ap, ◌∙◌, arith}
-use Rattle.std.specs.Prelude.{slice_get}
-use Rattle.std.specs.Global.{Vec}
-use Rattle.litmus_syntax.specs.declared.cell.Cell.{Cell}
-use Rattle.litmus_syntax.specs.Views.{cell_view, row_view}
-use Rattle.litmus_reader.specs.declared.label.Label.{Label}
-use Rattle.litmus_reader.specs.Labels.{size}
+use Rattle.litmus_reader.proofs.Vocabulary.{slice_get, Vec, Cell, cell_view, row_view, Label, size}
 use Rattle.litmus_reader.proofs.LabelRows.{behind, one_cell, no_cell, named_labels}
 use Rattle.litmus_reader.proofs.label.thread_labels.Goals as goal
 use Rattle.litmus_reader.proofs.label.thread_labels.Goals.{in-Some+in_ok-push_labels, in_default}

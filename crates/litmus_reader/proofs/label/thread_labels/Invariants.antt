@@ -1,6 +1,5 @@
 use Rattle.std.proofs.Common.{◌≡◌, ◌≤◌, ◌++◌, map, drop}
-use Rattle.litmus_syntax.specs.Views.{row_view}
-use Rattle.litmus_reader.specs.Labels.{column, labels_behind, thread_labels}
+use Rattle.litmus_reader.proofs.Vocabulary.{row_view, column, labels_behind, thread_labels}
 use Rattle.litmus_reader.proofs.label.thread_labels.Given as goal
 
 -- the labels of the rows so far are there, and those of the others follow the instructions so far

@@ -1,8 +1,5 @@
 use Rattle.std.proofs.Common.{◌≡◌, ℕ, List, length, ap, ◌∙◌, arith}
-use Rattle.std.proofs.lemmas.List.{length-map}
-use Rattle.tso_program.specs.declared.listing.Listing.{Listing}
-use Rattle.litmus_syntax.specs.Views.{Location}
-use Rattle.litmus_reader.specs.Meaning.{first_value}
+use Rattle.litmus_reader.proofs.Vocabulary.{length-map, Listing, Location, first_value}
 use Rattle.litmus_reader.proofs.laws.texts_name_few_locations.Goals as goal
 
 pub returns : goal.returns

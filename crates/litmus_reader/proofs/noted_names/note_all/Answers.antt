@@ -1,13 +1,6 @@
 use Rattle.std.proofs.Common.{List, map, fold, ap, ◌∙◌}
-use Rattle.std.specs.List.{flat_map}
-use Rattle.std.specs.Global.{Vec}
-use Rattle.litmus_syntax.specs.declared.entry.Entry.{Entry}
-use Rattle.litmus_syntax.specs.declared.cell.Cell.{Cell}
-use Rattle.litmus_syntax.specs.declared.place.Place.{Place}
+use Rattle.litmus_reader.proofs.Vocabulary.{flat_map, Vec, Entry, Cell, Place, place_view, entry_view, row_view, sign_at_view, noted, entry_place, row_places, sign_places}
 use Rattle.litmus_syntax.specs.declared.formula.SignAt.{SignAt}
-use Rattle.litmus_syntax.specs.Views.{place_view, entry_view, row_view, sign_at_view}
-use Rattle.litmus_reader.specs.Internal.Filling.{noted}
-use Rattle.litmus_reader.specs.Places.{entry_place, row_places, sign_places}
 use Rattle.litmus_reader.proofs.Filled.{noted_parts}
 use Rattle.litmus_reader.proofs.noted_names.note_all.Goals as goal
 

@@ -1,7 +1,5 @@
 use Rattle.std.proofs.Common.{◌≡◌, map, take, fold}
-use Rattle.litmus_syntax.specs.Views.{entry_view}
-use Rattle.litmus_reader.specs.Internal.Filling.{noted}
-use Rattle.litmus_reader.specs.Places.{entry_place}
+use Rattle.litmus_reader.proofs.Vocabulary.{entry_view, noted, entry_place}
 use Rattle.litmus_reader.proofs.noted_names.note_entries.Given as goal
 
 -- the places of the entries so far are noted

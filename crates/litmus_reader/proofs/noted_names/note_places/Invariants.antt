@@ -1,6 +1,5 @@
 use Rattle.std.proofs.Common.{◌≡◌, map, take, fold}
-use Rattle.litmus_syntax.specs.Views.{place_view}
-use Rattle.litmus_reader.specs.Internal.Filling.{noted}
+use Rattle.litmus_reader.proofs.Vocabulary.{place_view, noted}
 use Rattle.litmus_reader.proofs.noted_names.note_places.Given as goal
 
 -- the places so far are noted

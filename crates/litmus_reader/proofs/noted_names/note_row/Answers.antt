@@ -1,9 +1,5 @@
 use Rattle.std.proofs.Common.{sym, ap, ◌∙◌, fold, take, map}
-use Rattle.litmus_syntax.specs.declared.cell.Cell.{Cell}
-use Rattle.litmus_syntax.specs.Views.{cell_view}
-use Rattle.litmus_reader.specs.Names.{TextNames}
-use Rattle.litmus_reader.specs.Internal.Filling.{noted}
-use Rattle.litmus_reader.specs.Places.{cell_places, row_places}
+use Rattle.litmus_reader.proofs.Vocabulary.{Cell, cell_view, TextNames, noted, cell_places, row_places}
 use Rattle.litmus_reader.proofs.Rows.{noted_more}
 use Rattle.litmus_reader.proofs.noted_names.note_row.Goals as goal
 

@@ -1,7 +1,5 @@
 use Rattle.std.proofs.Common.{◌≡◌, map, take, fold}
-use Rattle.litmus_syntax.specs.Views.{cell_view}
-use Rattle.litmus_reader.specs.Internal.Filling.{noted}
-use Rattle.litmus_reader.specs.Places.{row_places}
+use Rattle.litmus_reader.proofs.Vocabulary.{cell_view, noted, row_places}
 use Rattle.litmus_reader.proofs.noted_names.note_row.Given as goal
 
 -- what the cells so far name is noted

@@ -1,8 +1,5 @@
 use Rattle.std.proofs.Common.{◌≡◌, map, take, fold}
-use Rattle.std.specs.List.{flat_map}
-use Rattle.litmus_syntax.specs.Views.{row_view}
-use Rattle.litmus_reader.specs.Internal.Filling.{noted}
-use Rattle.litmus_reader.specs.Places.{row_places}
+use Rattle.litmus_reader.proofs.Vocabulary.{flat_map, row_view, noted, row_places}
 use Rattle.litmus_reader.proofs.noted_names.note_rows.Given as goal
 
 -- what the rows so far name is noted

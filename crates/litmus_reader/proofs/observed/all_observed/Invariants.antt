@@ -1,7 +1,5 @@
 use Rattle.std.proofs.Common.{◌≡◌, map, take}
-use Rattle.litmus_syntax.specs.Views.{place_view}
-use Rattle.litmus_reader.specs.Meaning.{observed_of}
-use Rattle.litmus_reader.specs.Internal.Filling.{byte_in}
+use Rattle.litmus_reader.proofs.Vocabulary.{place_view, observed_of, byte_in}
 use Rattle.litmus_reader.proofs.observed.all_observed.Given as goal
 
 -- the places so far

@@ -1,9 +1,5 @@
 use Rattle.std.proofs.Common.{◌≡◌, List, [], ◌∷◌, ◌++◌, map, get_or, Option, sym, ap, ◌∙◌}
-use Rattle.std.specs.Global.{Vec}
-use Rattle.tso_program.specs.declared.instruction.Instr.{Instr}
-use Rattle.litmus_syntax.specs.declared.cell.Cell.{Cell}
-use Rattle.litmus_syntax.specs.Views.{row_view, cell_view}
-use Rattle.litmus_reader.specs.Internal.Filling.{byte_in, byte_at}
+use Rattle.litmus_reader.proofs.Vocabulary.{Vec, Instr, Cell, row_view, cell_view, byte_in, byte_at}
 use Rattle.litmus_reader.specs.Meaning.{instruction_in}
 use Rattle.litmus_reader.proofs.Rows.{kept_more, kept_same}
 use Rattle.litmus_reader.proofs.program.code_of.Goals as goal

@@ -1,7 +1,5 @@
 use Rattle.std.proofs.Common.{◌≡◌, map, take}
-use Rattle.litmus_syntax.specs.Views.{row_view}
-use Rattle.litmus_reader.specs.Internal.Filling.{byte_in, byte_at}
-use Rattle.litmus_reader.specs.Meaning.{code_in}
+use Rattle.litmus_reader.proofs.Vocabulary.{row_view, byte_in, byte_at, code_in}
 use Rattle.litmus_reader.proofs.program.code_of.Given as goal
 
 -- the instructions of the rows so far

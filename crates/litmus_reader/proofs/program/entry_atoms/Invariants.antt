@@ -1,6 +1,5 @@
 use Rattle.std.proofs.Common.{◌≡◌, map, take}
-use Rattle.litmus_syntax.specs.Views.{entry_view}
-use Rattle.litmus_reader.specs.Internal.Filling.{byte_in, entry_atoms}
+use Rattle.litmus_reader.proofs.Vocabulary.{entry_view, byte_in, entry_atoms}
 use Rattle.litmus_reader.proofs.program.entry_atoms.Given as goal
 
 -- what the entries so far say

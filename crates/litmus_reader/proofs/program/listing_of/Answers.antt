@@ -1,9 +1,5 @@
 use Rattle.std.proofs.Common.{◌≡◌, List, map, ap, ◌∙◌}
-use Rattle.std.specs.List.{range_with_len}
-use Rattle.tso_program.specs.declared.atom.Atom.{Atom}
-use Rattle.litmus_syntax.specs.declared.entry.Entry.{Entry}
-use Rattle.litmus_syntax.specs.Views.{entry_view, body_view}
-use Rattle.litmus_reader.specs.Internal.Filling.{byte_in, entry_atoms, memory_from, registers_from}
+use Rattle.litmus_reader.proofs.Vocabulary.{range_with_len, Atom, Entry, entry_view, body_view, byte_in, entry_atoms, memory_from, registers_from}
 use Rattle.litmus_reader.proofs.Filled.{threads_filled}
 use Rattle.litmus_reader.proofs.program.listing_of.Goals as goal
 

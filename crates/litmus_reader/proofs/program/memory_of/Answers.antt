@@ -1,7 +1,5 @@
 use Rattle.std.proofs.Common.{◌≡◌, arith, List, fold, replicate, take, ap, ◌∙◌}
-use Rattle.tso_program.specs.declared.atom.Atom.{Atom}
-use Rattle.std.proofs.lemmas.Grind.{common_steps}
-use Rattle.litmus_reader.specs.Internal.Filling.{stored}
+use Rattle.litmus_reader.proofs.Vocabulary.{Atom, common_steps, stored}
 use Rattle.litmus_reader.proofs.Filled.{stored_all}
 use Rattle.litmus_reader.proofs.program.memory_of.Goals as goal
 

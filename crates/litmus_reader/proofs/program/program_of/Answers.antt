@@ -1,7 +1,5 @@
 use Rattle.std.proofs.Common.{◌≡◌, ◌∙◌, Option, ap, subst}
-use Rattle.tso_program.specs.declared.listing.Listing.{Listing}
-use Rattle.tso_program.specs.declared.limits.ProgramFault.{ProgramFault}
-use Rattle.tso_program.specs.Limits.{IsWithinLimits, first_fault}
+use Rattle.litmus_reader.proofs.Vocabulary.{Listing, ProgramFault, IsWithinLimits, first_fault}
 use Rattle.litmus_reader.proofs.Faults.{first_refused}
 use Rattle.litmus_reader.proofs.program.program_of.Goals as goal
 

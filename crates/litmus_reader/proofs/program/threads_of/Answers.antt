@@ -1,15 +1,5 @@
 use Rattle.std.proofs.Common.{◌≡◌, ℕ, ◌∷◌, ◌++◌, [], List, map, get_or, replicate, sym, ap, ◌∙◌, arith}
-use Rattle.std.specs.Prelude.{Option, unwrap_or}
-use Rattle.std.specs.List.{range_with_len}
-use Rattle.std.specs.Global.{Vec}
-use Rattle.std.proofs.lemmas.List.{get_or_default}
-use Rattle.std.proofs.lemmas.List.FromFn.{map-range_with_len_more}
-use Rattle.tso_program.specs.declared.instruction.Instr.{Instr}
-use Rattle.tso_program.specs.declared.listing.Thread.{Thread}
-use Rattle.litmus_syntax.specs.declared.cell.Cell.{Cell}
-use Rattle.litmus_syntax.specs.Views.{row_view}
-use Rattle.litmus_reader.specs.Internal.Filling.{byte_in, byte_at, thread_in}
-use Rattle.litmus_reader.specs.Meaning.{code_in}
+use Rattle.litmus_reader.proofs.Vocabulary.{Option, unwrap_or, range_with_len, Vec, get_or_default, map-range_with_len_more, Instr, Thread, Cell, row_view, byte_in, byte_at, thread_in, code_in}
 use Rattle.litmus_reader.proofs.program.threads_of.Goals as goal
 
 made : (c d : List Instr) (r s : List ℕ) → c ≡ d → r ≡ s → ◌≡◌ {A = Thread} (record { code = c; registers = r }) (record { code = d; registers = s })

@@ -1,7 +1,5 @@
 use Rattle.std.proofs.Common.{◌≡◌, map}
-use Rattle.std.specs.List.{range_with_len}
-use Rattle.litmus_syntax.specs.Views.{row_view}
-use Rattle.litmus_reader.specs.Internal.Filling.{byte_in, thread_in}
+use Rattle.litmus_reader.proofs.Vocabulary.{range_with_len, row_view, byte_in, thread_in}
 use Rattle.litmus_reader.proofs.program.threads_of.Given as goal
 
 -- the threads so far

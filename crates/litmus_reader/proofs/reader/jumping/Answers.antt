@@ -1,9 +1,5 @@
 use Rattle.std.proofs.Common.{◌≡◌, true, List, map, sym, subst, ◌∙◌}
-use Rattle.std.specs.List.{list_all}
-use Rattle.litmus_syntax.specs.Views.{row_view, body_view}
-use Rattle.litmus_reader.specs.declared.label.Label.{Label}
-use Rattle.litmus_reader.specs.Labels.{all_labels, are_found}
-use Rattle.litmus_reader.specs.Internal.Filling.{FindAllAs}
+use Rattle.litmus_reader.proofs.Vocabulary.{list_all, row_view, body_view, Label, all_labels, are_found, FindAllAs}
 use Rattle.litmus_reader.proofs.Targets.{lost_is, all_found_same}
 use Rattle.litmus_reader.proofs.reader.jumping.Goals as goal
 

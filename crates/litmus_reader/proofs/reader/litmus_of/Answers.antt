@@ -1,9 +1,5 @@
 use Rattle.std.proofs.Common.{map, refl, ap, ◌∙◌, List}
-use Rattle.std.proofs.lemmas.Result.{err_from_is_err_and}
-use Rattle.litmus_syntax.specs.declared.place.Place.{Place}
-use Rattle.litmus_syntax.specs.Views.{place_view, body_view, ending_view}
-use Rattle.litmus_reader.specs.Meaning.{observed_of}
-use Rattle.litmus_reader.specs.Internal.Filling.{byte_in}
+use Rattle.litmus_reader.proofs.Vocabulary.{err_from_is_err_and, Place, place_view, body_view, ending_view, observed_of, byte_in}
 use Rattle.litmus_reader.proofs.Parts.{refused_formula, refused_jump, parts_read}
 use Rattle.litmus_reader.proofs.reader.litmus_of.Goals as goal
 

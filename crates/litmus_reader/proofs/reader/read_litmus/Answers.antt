@@ -1,9 +1,6 @@
 use Rattle.std.proofs.Common.{ℕ, List}
-use Rattle.std.proofs.lemmas.Result.{err_from_is_err_and}
-use Rattle.tso_program.specs.declared.listing.Thread.{Thread}
-use Rattle.tso_program.specs.Limits.{IsWithinLimits, first_fault}
+use Rattle.litmus_reader.proofs.Vocabulary.{err_from_is_err_and, Thread, IsWithinLimits, first_fault, BreaksFirst}
 use Rattle.litmus_reader.proofs.Numbered.{program_limits}
-use Rattle.litmus_reader.specs.Texts.{BreaksFirst}
 use Rattle.litmus_reader.proofs.WholeTexts.{nothing_only, nothing_refused}
 use Rattle.litmus_reader.proofs.Meant.{found, found_only, broken, broken_only}
 use Rattle.litmus_reader.proofs.reader.read_litmus.Goals as goal

@@ -1,7 +1,5 @@
 use Rattle.std.proofs.Common.{map, take}
-use Rattle.std.specs.List.{All}
-use Rattle.litmus_syntax.specs.Grammar.{HasThread, place_of_entry}
-use Rattle.litmus_syntax.specs.Views.{entry_view}
+use Rattle.litmus_syntax.proofs.Vocabulary.{All, HasThread, place_of_entry, entry_view}
 use Rattle.litmus_syntax.proofs.body.missing_thread.Given as goal
 
 -- the threads of the entries so far are there

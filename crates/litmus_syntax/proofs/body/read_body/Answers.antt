@@ -1,7 +1,5 @@
 use Rattle.std.proofs.Common.{map}
-use Rattle.std.proofs.lemmas.Result.{err_from_is_err_and}
-use Rattle.text_tokens.specs.Tokens.{toks}
-use Rattle.litmus_syntax.specs.Views.{entry_view, row_view}
+use Rattle.litmus_syntax.proofs.Vocabulary.{err_from_is_err_and, toks, entry_view, row_view}
 use Rattle.litmus_syntax.proofs.BodyLaws.{body_is_read, no_entries, no_header, one_missing, no_rows}
 use Rattle.litmus_syntax.proofs.body.read_body.Goals as goal
 

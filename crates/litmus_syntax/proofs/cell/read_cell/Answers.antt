@@ -1,7 +1,5 @@
 use Rattle.std.proofs.Common.{◌∙◌, sym, arith, map, option_map}
-use Rattle.std.proofs.lemmas.Result.{err_from_is_err_and}
-use Rattle.std.proofs.lemmas.List.{map_push}
-use Rattle.text_tokens.specs.Tokens.{toks}
+use Rattle.litmus_syntax.proofs.Vocabulary.{err_from_is_err_and, map_push, toks}
 use Rattle.litmus_syntax.specs.Views.{code_view, label_view}
 use Rattle.litmus_syntax.proofs.CellLaws.{one_more_label, one_more_own, label_stops, content_stops, cell_is_read}
 use Rattle.litmus_syntax.proofs.cell.read_cell.Goals as goal

@@ -1,6 +1,5 @@
 use Rattle.std.proofs.Common.{◌≡◌, ◌≤◌, ◌++◌, map, length}
-use Rattle.text_tokens.specs.Tokens.{toks}
-use Rattle.litmus_syntax.specs.Views.{label_view}
+use Rattle.litmus_syntax.proofs.Vocabulary.{toks, label_view}
 use Rattle.litmus_syntax.proofs.CellLaws.{LabelsSoFar}
 use Rattle.litmus_syntax.proofs.cell.read_cell.Given as goal
 

@@ -1,6 +1,4 @@
-use Rattle.std.proofs.lemmas.Result.{err_from_is_err_and}
-use Rattle.text_tokens.specs.Tokens.{toks}
-use Rattle.litmus_syntax.specs.Views.{cell_view}
+use Rattle.litmus_syntax.proofs.Vocabulary.{err_from_is_err_and, toks, cell_view}
 use Rattle.litmus_syntax.proofs.RowLaws.{cell_behind, no_bar}
 use Rattle.litmus_syntax.proofs.cell.read_next_cell.Goals as goal
 

@@ -1,7 +1,5 @@
 use Rattle.std.proofs.Common.{map}
-use Rattle.std.proofs.lemmas.Result.{err_from_is_err_and}
-use Rattle.text_tokens.specs.Tokens.{toks}
-use Rattle.litmus_syntax.specs.Views.{place_view, sign_at_view}
+use Rattle.litmus_syntax.proofs.Vocabulary.{err_from_is_err_and, toks, place_view, sign_at_view}
 use Rattle.litmus_syntax.proofs.EndingLaws.{ending_is_read, no_observed, no_quantifier, no_signs, carried}
 use Rattle.litmus_syntax.proofs.ending.read_ending.Goals as goal
 

@@ -1,9 +1,6 @@
 use Rattle.std.proofs.Common.{◌∙◌, sym, map}
-use Rattle.std.proofs.lemmas.Result.{err_from_is_err_and}
-use Rattle.std.proofs.lemmas.List.{map_push}
+use Rattle.litmus_syntax.proofs.Vocabulary.{err_from_is_err_and, map_push, toks, place_view, entry_view}
 use Rattle.text_tokens.specs.declared.token.Mark.TheVariants as the
-use Rattle.text_tokens.specs.Tokens.{toks}
-use Rattle.litmus_syntax.specs.Views.{place_view, entry_view}
 use Rattle.litmus_syntax.proofs.Options.{mark_is_there}
 use Rattle.litmus_syntax.proofs.EntryLaws.{no_entry_yet, no_brace, one_more_entry, place_again_stands, no_place_stands, no_value_stands, entries_end}
 use Rattle.litmus_syntax.proofs.entry.read_entries.Goals as goal

@@ -1,6 +1,5 @@
 use Rattle.std.proofs.Common.{map, length}
-use Rattle.text_tokens.specs.Tokens.{toks}
-use Rattle.litmus_syntax.specs.Views.{entry_view}
+use Rattle.litmus_syntax.proofs.Vocabulary.{toks, entry_view}
 use Rattle.litmus_syntax.proofs.EntryLaws.{EntriesSoFar}
 use Rattle.litmus_syntax.proofs.entry.read_entries.Given as goal
 

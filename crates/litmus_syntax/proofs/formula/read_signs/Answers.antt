@@ -1,6 +1,5 @@
 use Rattle.std.proofs.Common.{◌∙◌, sym, map}
-use Rattle.std.proofs.lemmas.List.{map_push}
-use Rattle.text_tokens.specs.Tokens.{toks}
+use Rattle.litmus_syntax.proofs.Vocabulary.{map_push, toks}
 use Rattle.litmus_syntax.specs.Views.{sign_view, sign_at_view}
 use Rattle.litmus_syntax.proofs.SignLaws.{no_sign_yet, next_sign, signs_end, signs_stop, some_left, none_left}
 use Rattle.litmus_syntax.proofs.formula.read_signs.Goals as goal

@@ -1,6 +1,5 @@
 use Rattle.std.proofs.Common.{map, length}
-use Rattle.text_tokens.specs.Tokens.{toks}
-use Rattle.litmus_syntax.specs.Views.{sign_at_view}
+use Rattle.litmus_syntax.proofs.Vocabulary.{toks, sign_at_view}
 use Rattle.litmus_syntax.proofs.SignLaws.{SignsSoFar}
 use Rattle.litmus_syntax.proofs.formula.read_signs.Given as goal
 

@@ -1,7 +1,6 @@
 use Rattle.std.proofs.Common.{◌∙◌, sym, arith}
-use Rattle.std.proofs.lemmas.Result.{err_from_is_err_and}
+use Rattle.litmus_syntax.proofs.Vocabulary.{err_from_is_err_and, toks}
 use Rattle.text_tokens.specs.declared.token.Mark.TheVariants as the
-use Rattle.text_tokens.specs.Tokens.{toks}
 use Rattle.litmus_syntax.proofs.Options.{mark_is_there}
 use Rattle.litmus_syntax.proofs.HeaderLaws.{first_column, first_stops, next_column, next_stops, header_stops, header_ends}
 use Rattle.litmus_syntax.proofs.header.read_header.Goals as goal

@@ -1,6 +1,5 @@
 use Rattle.std.proofs.Common.{map, length}
-use Rattle.text_tokens.specs.Tokens.{toks}
-use Rattle.litmus_syntax.specs.Views.{place_view}
+use Rattle.litmus_syntax.proofs.Vocabulary.{toks, place_view}
 use Rattle.litmus_syntax.proofs.ObservedLaws.{ObservedSoFar}
 use Rattle.litmus_syntax.proofs.observed.read_observed.Given as goal
 

@@ -1,8 +1,5 @@
 use Rattle.std.proofs.Common.{◌∙◌, sym, arith, map}
-use Rattle.std.proofs.lemmas.Result.{err_from_is_err_and}
-use Rattle.std.proofs.lemmas.List.{map_push, length-map}
-use Rattle.text_tokens.specs.Tokens.{toks}
-use Rattle.litmus_syntax.specs.Views.{cell_view, label_view}
+use Rattle.litmus_syntax.proofs.Vocabulary.{err_from_is_err_and, map_push, length-map, toks, cell_view, label_view}
 use Rattle.litmus_syntax.proofs.RowLaws.{first_cell, one_cell, no_first_cell, next_read, one_more_cell, no_next_read, row_ends, row_stops, row_of_another_length}
 use Rattle.litmus_syntax.proofs.rows.read_row.Goals as goal
 

@@ -1,7 +1,5 @@
 use Rattle.std.proofs.Common.{◌≡◌, ◌≤◌, ◌++◌, map, length}
-use Rattle.text_tokens.specs.Tokens.{toks}
-use Rattle.litmus_syntax.specs.Views.{cell_view, label_view}
-use Rattle.litmus_syntax.specs.Grammar.{row_labels}
+use Rattle.litmus_syntax.proofs.Vocabulary.{toks, cell_view, label_view, row_labels}
 use Rattle.litmus_syntax.proofs.RowLaws.{CellsSoFar}
 use Rattle.litmus_syntax.proofs.rows.read_row.Given as goal
 

@@ -1,8 +1,5 @@
 use Rattle.std.proofs.Common.{◌∙◌, sym, map}
-use Rattle.std.proofs.lemmas.Result.{err_from_is_err_and}
-use Rattle.std.proofs.lemmas.List.{map_push}
-use Rattle.text_tokens.specs.Tokens.{toks}
-use Rattle.litmus_syntax.specs.Views.{row_view, label_view}
+use Rattle.litmus_syntax.proofs.Vocabulary.{err_from_is_err_and, map_push, toks, row_view, label_view}
 use Rattle.litmus_syntax.proofs.RowLaws.{no_row_yet, no_labels_yet, next_row, one_more_row, rows_end, rows_stop}
 use Rattle.litmus_syntax.proofs.rows.read_row_list.Goals as goal
 

@@ -1,7 +1,5 @@
 use Rattle.std.proofs.Common.{◌≡◌, ◌++◌, map, length}
-use Rattle.text_tokens.specs.Tokens.{toks}
-use Rattle.litmus_syntax.specs.Views.{row_view, label_view}
-use Rattle.litmus_syntax.specs.Grammar.{labels_in_rows}
+use Rattle.litmus_syntax.proofs.Vocabulary.{toks, row_view, label_view, labels_in_rows}
 use Rattle.litmus_syntax.proofs.RowLaws.{RowsSoFar}
 use Rattle.litmus_syntax.proofs.rows.read_row_list.Given as goal
 

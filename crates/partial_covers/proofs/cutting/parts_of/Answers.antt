@@ -1,6 +1,5 @@
 use Rattle.std.proofs.Common.{sym, subst}
-use Rattle.std.specs.Prelude.{All}
-use Rattle.partial_covers.specs.Parts.{IsPartOf}
+use Rattle.partial_covers.proofs.Vocabulary.{All, IsPartOf}
 use Rattle.partial_covers.proofs.cutting.parts_of.Goals as goal
 
 pub loop-preserved : goal.loop-preserved

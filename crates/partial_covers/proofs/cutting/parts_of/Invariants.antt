@@ -1,5 +1,4 @@
-use Rattle.std.specs.Prelude.{All}
-use Rattle.partial_covers.specs.Parts.{IsPartOf}
+use Rattle.partial_covers.proofs.Vocabulary.{All, IsPartOf}
 use Rattle.partial_covers.proofs.cutting.parts_of.Given as goal
 
 -- these are parts of the sketch's search

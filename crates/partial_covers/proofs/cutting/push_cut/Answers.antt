@@ -1,9 +1,7 @@
 use Rattle.std.proofs.Common.{get_or, sym, subst}
-use Rattle.std.specs.Prelude.{All}
 use Rattle.std.proofs.lemmas.List.Elements.{All-push}
+use Rattle.partial_covers.proofs.Vocabulary.{All, IsPartOf, AreOfOthers}
 use Rattle.cover_judge.specs.declared.choice.Choice.TheVariants as choice
-use Rattle.partial_covers.specs.Parts.{IsPartOf}
-use Rattle.branching.specs.Plans.{AreOfOthers}
 use Rattle.partial_covers.proofs.CombinedCovers.{of_others}
 use Rattle.partial_covers.proofs.PartsJoined.{part_next}
 use Rattle.partial_covers.proofs.cutting.push_cut.Goals as goal

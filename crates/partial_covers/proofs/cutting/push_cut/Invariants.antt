@@ -1,6 +1,4 @@
-use Rattle.std.specs.Prelude.{All}
-use Rattle.sketches.specs.ProgramSketches.{ProgramSketch}
-use Rattle.partial_covers.specs.Parts.{IsPartOf}
+use Rattle.partial_covers.proofs.Vocabulary.{All, ProgramSketch, IsPartOf}
 use Rattle.partial_covers.proofs.cutting.push_cut.Given as goal
 
 -- those so far are parts of each search of which the old ones and the part are

@@ -1,7 +1,6 @@
 use Rattle.std.proofs.Common.{get_or, sym, ap, ◌∙◌, subst}
-use Rattle.sketches.specs.ProgramSketches.{ProgramSketch, with_chosen}
+use Rattle.partial_covers.proofs.Vocabulary.{ProgramSketch, with_chosen, MayChoose, sketch_with}
 use Rattle.cover_judge.specs.declared.choice.Choice.TheVariants as choice
-use Rattle.cover_judge.specs.Choices.{MayChoose, sketch_with}
 use Rattle.partial_covers.proofs.ChoicesMade.{may_at, one_made, all_made}
 use Rattle.partial_covers.proofs.filling.choose_all.Goals as goal
 

@@ -1,18 +1,6 @@
 use Rattle.std.proofs.Common.{◌≡◌, ◌<◌, ◌≤◌, List, ◌++◌, get_or, length, sym, ap, ◌∙◌, subst, rules}
-use Rattle.std.proofs.lemmas.List.{take_all}
-use Rattle.tso_program.specs.Shown.{asked}
-use Rattle.tso_program.specs.declared.listing.Listing.{Listing}
-use Rattle.candidate_executions.specs.Sketches.{IsWhole}
-use Rattle.tso_machine.specs.Machine.{Machine}
-use Rattle.sketches.specs.Kept.{IsLawful}
-use Rattle.sketches.specs.ProgramSketches.{ProgramSketch, mode_in, nothing_chosen}
-use Rattle.sketches.specs.Sizes.{HaveAllRegisters}
-use Rattle.partial_covers.specs.declared.partial_cover.Piece.{Piece}
-use Rattle.partial_covers.specs.NodeChanges.{copied_in}
-use Rattle.sketch_covers.specs.Covers.{IsCoverAt}
-use Rattle.partial_covers.specs.PartialCovers.{items_before, after, MayChooseAll}
-use Rattle.sketch_covers.specs.KnownOutcomes.{by_number, Grows, StopIs}
-use Rattle.sketch_covers.specs.Pushing.{Pushes}
+use Rattle.partial_covers.proofs.Vocabulary.{take_all, asked, Listing, IsWhole, Machine, IsLawful, ProgramSketch, mode_in, nothing_chosen, HaveAllRegisters, Piece, copied_in, IsCoverAt, items_before}
+use Rattle.partial_covers.proofs.Vocabulary.{after, MayChooseAll, by_number, Grows, StopIs, Pushes}
 use Rattle.partial_covers.proofs.ChoicesMade.{same_program, same_machine}
 use Rattle.partial_covers.proofs.FilledNodes.{Filled, more_copies, more_pieces, whole_filled}
 use Rattle.sketch_covers.proofs.Growing.{grows_none, grows_twice, stops_for, memory_stops}

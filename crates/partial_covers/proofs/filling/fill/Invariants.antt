@@ -1,8 +1,5 @@
 use Rattle.std.proofs.Common.{take}
-use Rattle.tso_program.specs.Shown.{asked}
-use Rattle.sketches.specs.ProgramSketches.{nothing_chosen}
-use Rattle.partial_covers.specs.PartialCovers.{items_before}
-use Rattle.sketch_covers.specs.KnownOutcomes.{by_number, Grows}
+use Rattle.partial_covers.proofs.Vocabulary.{asked, nothing_chosen, items_before, by_number, Grows}
 use Rattle.partial_covers.proofs.FilledNodes.{Filled}
 use Rattle.partial_covers.proofs.filling.fill.Given as goal
 

@@ -1,7 +1,5 @@
 use Rattle.std.proofs.Common.{◌<◌, List, ℕ, ◌++◌, length, map, ap, ◌∙◌, arith}
-use Rattle.std.specs.Prelude.{◌^◌}
-use Rattle.sketch_covers.specs.OutcomeNumbers.{place_in}
-use Rattle.partial_covers.specs.PartialCovers.{Item, items_of, renumbered_item}
+use Rattle.partial_covers.proofs.Vocabulary.{◌^◌, place_in, Item, items_of, renumbered_item}
 use Rattle.partial_covers.proofs.PartialNodes.{on_ok}
 use Rattle.partial_covers.proofs.PartsJoined.{part_renumbered}
 use Rattle.partial_covers.proofs.joining.join.Goals as goal

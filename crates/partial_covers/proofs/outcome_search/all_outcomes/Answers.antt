@@ -1,13 +1,7 @@
 use Rattle.std.proofs.Common.{subst}
-use Rattle.tso_program.specs.Shown.{asked}
-use Rattle.tso_machine.specs.Modes.{machine_of_mode}
-use Rattle.sketch_covers.specs.declared.known_outcomes.KnownOutcomes.{KnownOutcomes}
-use Rattle.sketch_covers.specs.Covers.{IsWholeCover}
-use Rattle.sketch_covers.specs.KnownOutcomes.{by_number, AreInOrder, StopIs}
+use Rattle.partial_covers.proofs.Vocabulary.{asked, machine_of_mode, KnownOutcomes, IsWholeCover, by_number, AreInOrder, StopIs, grows_none, IsPartialCover}
 use Rattle.sketch_covers.proofs.AllOutcomes.{runs_found, never_new}
-use Rattle.sketch_covers.proofs.Growing.{grows_none}
 use Rattle.sketch_covers.proofs.Listing.{exactly_allowed}
-use Rattle.partial_covers.specs.PartialCovers.{IsPartialCover}
 use Rattle.partial_covers.proofs.PartialRows.{partial_grown}
 use Rattle.partial_covers.proofs.outcome_search.all_outcomes.Goals as goal
 

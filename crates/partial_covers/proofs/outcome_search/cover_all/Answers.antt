@@ -1,10 +1,6 @@
 use Rattle.std.proofs.Common.{refl, sym, subst, ◌∙◌}
-use Rattle.tso_program.specs.Shown.{asked}
-use Rattle.tso_machine.specs.Modes.{machine_of_mode}
-use Rattle.sketches.specs.ProgramSketches.{nothing_chosen}
+use Rattle.partial_covers.proofs.Vocabulary.{asked, machine_of_mode, nothing_chosen, IsWholeCover, by_number}
 use Rattle.cert_forest.proofs.NodeLaws.{is_tree, same_tree}
-use Rattle.sketch_covers.specs.Covers.{IsWholeCover}
-use Rattle.sketch_covers.specs.KnownOutcomes.{by_number}
 use Rattle.sketch_covers.proofs.Nodes.{cover_first}
 use Rattle.partial_covers.proofs.outcome_search.cover_all.Goals as goal
 

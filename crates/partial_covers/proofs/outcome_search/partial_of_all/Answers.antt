@@ -1,14 +1,8 @@
 use Rattle.std.proofs.Common.{◌≡◌, [], ◌∙◌, List, refl, sym, subst}
 use Rattle.std.specs.FinSet as set
-use Rattle.tso_program.specs.declared.shown.Shown.{Shown}
-use Rattle.tso_program.specs.Shown.{asked}
+use Rattle.partial_covers.proofs.Vocabulary.{Shown, asked, ProgramSketch, nothing_chosen, Choice, KnownOutcomes, PushesPartial, ArePartsFor}
 use Rattle.tso_machine.specs.declared.mode.Mode.TheVariants as modes
-use Rattle.sketches.specs.ProgramSketches.{ProgramSketch, nothing_chosen}
-use Rattle.cover_judge.specs.declared.choice.Choice.{Choice}
-use Rattle.sketch_covers.specs.declared.known_outcomes.KnownOutcomes.{KnownOutcomes}
 use Rattle.sketch_covers.specs.KnownOutcomes.{by_number, HasRunOfEach, StaysOf}
-use Rattle.partial_covers.specs.PartialCovers.{PushesPartial}
-use Rattle.partial_covers.specs.Parts.{ArePartsFor}
 use Rattle.partial_covers.proofs.CoveringSteps.{grows_from, tree_from}
 use Rattle.partial_covers.proofs.outcome_search.partial_of_all.Goals as goal
 

@@ -1,6 +1,5 @@
 use Rattle.std.proofs.Common.{◌≡◌, ◌++◌, map, take, drop}
-use Rattle.partial_covers.specs.NodeChanges.{renumbered_node}
-use Rattle.sketch_covers.specs.OutcomeNumbers.{place_in}
+use Rattle.partial_covers.proofs.Vocabulary.{renumbered_node, place_in}
 use Rattle.partial_covers.proofs.renumbering.renumber.Given as goal
 
 -- the nodes so far are changed

@@ -1,7 +1,5 @@
 use Rattle.std.proofs.Common.{◌≡◌, ℕ, ◌<◌, ◌≤◌, get_or, length}
-use Rattle.partial_covers.specs.declared.partial_cover.Piece.{Piece}
-use Rattle.sketch_covers.specs.OutcomeNumbers.{place_in}
-use Rattle.partial_covers.specs.PartialCovers.{IsPieceRenumbered}
+use Rattle.partial_covers.proofs.Vocabulary.{Piece, place_in, IsPieceRenumbered}
 use Rattle.partial_covers.proofs.renumbering.renumber_pieces.Given as goal
 
 -- the pieces before this one have their other numbers, and the later ones are as they were

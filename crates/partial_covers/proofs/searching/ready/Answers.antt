@@ -1,14 +1,6 @@
 use Rattle.std.proofs.Common.{Option, Vec, Global, sym, ap, ◌∙◌, subst}
-use Rattle.std.specs.Prelude.{All}
-use Rattle.std.specs.Option.{MatchOption}
-use Rattle.gap_sets.specs.Gaps.{SetOfGaps}
+use Rattle.partial_covers.proofs.Vocabulary.{All, MatchOption, SetOfGaps, IsWhole, nothing_chosen, mode_in, Part, Plan, IsLast, IsPartOf, IsPlanned}
 use Rattle.tso_machine.specs.declared.mode.Mode.TheVariants as modes
-use Rattle.candidate_executions.specs.Sketches.{IsWhole}
-use Rattle.sketches.specs.ProgramSketches.{nothing_chosen, mode_in}
-use Rattle.partial_covers.specs.declared.part.Part.{Part}
-use Rattle.branching.specs.declared.plan.Plan.{Plan}
-use Rattle.branching.specs.Plans.{IsLast}
-use Rattle.partial_covers.specs.Parts.{IsPartOf, IsPlanned}
 use Rattle.partial_covers.proofs.searching.ready.Goals as goal
 use Rattle.partial_covers.proofs.searching.ready.Goals.{in-Some+in_ok-parts-in-Some, in-None}
 

@@ -1,6 +1,5 @@
 use Rattle.std.proofs.Common.{◌<◌, length, refl, sym, ◌∙◌, arith, subst, length-set}
-use Rattle.partial_covers.specs.declared.part.Part.{Part}
-use Rattle.branching.specs.Plans.{IsBeforeLast}
+use Rattle.partial_covers.proofs.Vocabulary.{Part, IsBeforeLast}
 use Rattle.partial_covers.proofs.PartsJoined.{searched_made, searched_left}
 use Rattle.partial_covers.proofs.searching.search_each.Goals as goal
 

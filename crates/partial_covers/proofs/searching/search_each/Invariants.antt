@@ -1,6 +1,5 @@
 use Rattle.std.proofs.Common.{◌≡◌, ℕ, ◌<◌, ◌≤◌, get_or, length}
-use Rattle.partial_covers.specs.declared.part.Part.{Part}
-use Rattle.partial_covers.specs.Parts.{IsSearched}
+use Rattle.partial_covers.proofs.Vocabulary.{Part, IsSearched}
 use Rattle.partial_covers.proofs.searching.search_each.Given as goal
 
 -- the parts before this one are searched, and the later ones are as they were

@@ -1,7 +1,5 @@
 use Rattle.std.proofs.Common.{[], Vec, Global, sym, subst}
-use Rattle.sketch_covers.specs.declared.known_outcomes.KnownOutcomes.TheVariants.{Open}
-use Rattle.partial_covers.specs.declared.part.Part.{Part}
-use Rattle.partial_covers.specs.Parts.{ArePartsFor}
+use Rattle.partial_covers.proofs.Vocabulary.{Open, Part, ArePartsFor}
 use Rattle.partial_covers.proofs.PartsJoined.{parts_begun, none_begun, planned_last}
 use Rattle.partial_covers.proofs.searching.start_alone.Goals as goal
 use Rattle.partial_covers.proofs.searching.start_alone.Goals.{in-Some, in_default}

@@ -1,9 +1,5 @@
 use Rattle.std.proofs.Common.{◌≡◌, List, [], Vec, Global, length, sym, subst, arith}
-use Rattle.std.specs.Prelude.{All}
-use Rattle.sketch_covers.specs.declared.known_outcomes.KnownOutcomes.TheVariants.{Open}
-use Rattle.partial_covers.specs.declared.part.Part.{Part}
-use Rattle.partial_covers.specs.Parts.{ArePartsFor, AreSearched}
-use Rattle.branching.specs.Plans.{IsBeforeLast}
+use Rattle.partial_covers.proofs.Vocabulary.{All, Open, Part, ArePartsFor, AreSearched, IsBeforeLast}
 use Rattle.partial_covers.proofs.PartsJoined.{parts_ready, parts_begun, none_begun, planned_last, written_back}
 use Rattle.partial_covers.proofs.searching.start_by.Goals as goal
 use Rattle.partial_covers.proofs.searching.start_by.Goals.{in-Some, in_default}

@@ -1,11 +1,8 @@
 use Rattle.std.proofs.Common.{◌≡◌, ◌∙◌, ◌<◌, ◌≤◌, ◌++◌, List, ◌∷◌, [], ℕ, get_or, length, map, ap, subst, arith, rules}
+use Rattle.partial_covers.proofs.Vocabulary.{TraceTree, fold-roll-TraceTree, fold_out-TraceTree, Traces, Read, traces, trace_node, trace_trees, first_choices, IsTraceTree, child_tree}
 use Rattle.cert_forest.specs.declared.node.Node.TheVariants as node
 use Rattle.cover_judge.specs.declared.choice.Choice.TheVariants as choice
-use Rattle.branching.specs.declared.traces.TraceTree.{TraceTree}
 use Rattle.branching.specs.declared.traces.TraceTree.TheViews as views
-use Rattle.branching.specs.declared.traces.TraceTree.TheFolds.{fold-roll-TraceTree, fold_out-TraceTree}
-use Rattle.branching.specs.Traces.{Traces, Read, traces, trace_node, trace_trees, first_choices, IsTraceTree}
-use Rattle.branching.proofs.TraceTrees.{child_tree}
 use Rattle.partial_covers.proofs.UnsourcedTrees.{root_over, few_own, begins_after, closes_none, closes_more, closes_all}
 use Rattle.partial_covers.proofs.unsourced_trees.+push_unsourced.Goals as goal
 

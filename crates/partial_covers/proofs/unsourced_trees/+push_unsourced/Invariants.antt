@@ -1,5 +1,4 @@
-use Rattle.sketch_covers.specs.Pushing.{Begins}
-use Rattle.branching.specs.Traces.{traces}
+use Rattle.partial_covers.proofs.Vocabulary.{Begins, traces}
 use Rattle.partial_covers.proofs.UnsourcedTrees.{ClosesSome}
 use Rattle.partial_covers.proofs.unsourced_trees.+push_unsourced.Given as goal
 

@@ -1,12 +1,8 @@
 use Rattle.std.proofs.Common.{rules, ◌≡◌, length, subst, sym}
-use Rattle.tso_program.specs.Listings.{gap_count}
-use Rattle.std.specs.Prelude.{option_map}
+use Rattle.placed_text.proofs.Vocabulary.{gap_count, option_map, IsPlacement, AreWrittenTexts, HasNoPlacedText}
 use Rattle.tso_program.specs.declared.shown.Shown.{Shown}
 use Rattle.tso_program.specs.Shown.{asked}
 use Rattle.cover_judge.proofs.Answered.{err_up}
-use Rattle.fence_place.specs.Placements.{IsPlacement}
-use Rattle.placed_text.specs.PlacedTexts.{AreWrittenTexts}
-use Rattle.placed_text.specs.TextFaults.{HasNoPlacedText}
 use Rattle.placed_text.proofs.GapsThere.{none_missing}
 use Rattle.placed_text.proofs.Judged.{one_each, placed_text, no_program, no_costs, no_placement}
 use Rattle.placed_text.proofs.placing.place_text.Goals as goal

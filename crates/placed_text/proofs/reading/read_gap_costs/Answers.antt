@@ -1,6 +1,5 @@
 use Rattle.std.proofs.Common.{◌≡◌, ℕ, List, Option, Some, None, refl}
-use Rattle.std.specs.Prelude.{option_map}
-use Rattle.tso_program.specs.declared.listing.Listing.{Listing}
+use Rattle.placed_text.proofs.Vocabulary.{option_map, Listing}
 use Rattle.litmus_text.specs.CostTextFault.{CostTextFault}
 use Rattle.litmus_text.specs.CostTextFault.TheVariants as cost_fault
 use Rattle.litmus_text.specs.GivenCosts.{AreNotGiven}

@@ -1,11 +1,5 @@
 use Rattle.std.proofs.Common.{◌∙◌, true, false, Bool, not, IsTrue, ◌↔◌, sym, subst, refl}
-use Rattle.std.proofs.lemmas.Option.{same_Some}
-use Rattle.gap_sets.specs.Gaps.{SetOfGaps}
-use Rattle.gap_sets.specs.Order.{Better}
-use Rattle.cover_solver.specs.Facts.{Serving}
-use Rattle.search_core.specs.declared.ceiling.Reason.{Reason}
-use Rattle.search_core.specs.Events.{IsBeatenBy}
-use Rattle.search_core.specs.Faults.{CutsMust}
+use Rattle.search_core.proofs.Vocabulary.{same_Some, SetOfGaps, Better, Serving, Reason, IsBeatenBy, CutsMust}
 use Rattle.search_core.proofs.best.cuts.Goals as goal
 
 -- a test that fails

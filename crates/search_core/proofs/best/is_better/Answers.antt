@@ -1,6 +1,5 @@
 use Rattle.std.proofs.Common.{◌≡◌, ◌∙◌, true, false, sym, subst}
-use Rattle.gap_sets.specs.Gaps.{SetOfGaps}
-use Rattle.gap_sets.specs.Order.{Better}
+use Rattle.search_core.proofs.Vocabulary.{SetOfGaps, Better}
 use Rattle.search_core.proofs.best.is_better.Goals as goal
 
 pub returns-in-Some-clause-no : goal.returns-in-Some-clause-no

@@ -1,7 +1,5 @@
 use Rattle.std.proofs.Common.{◌≡◌, ℕ, ◌<◌, Some, false}
-use Rattle.std.specs.Prelude.{slice_get}
-use Rattle.search_core.specs.declared.entry.Entry.{Entry}
-use Rattle.search_core.specs.Entries.{is_live}
+use Rattle.search_core.proofs.Vocabulary.{slice_get, Entry, is_live}
 use Rattle.search_core.proofs.entries.all_settled.Given as goal
 
 -- each so far is settled

@@ -1,8 +1,5 @@
 use Rattle.std.proofs.Common.{◌≡◌, ℕ, ◌<◌, Some, true}
-use Rattle.std.specs.Prelude.{MatchOption, slice_get}
-use Rattle.search_core.specs.declared.entry.Entry.{Entry}
-use Rattle.search_core.specs.Entries.{is_open}
-use Rattle.search_core.specs.States.{IsOpenAt}
+use Rattle.search_core.proofs.Vocabulary.{MatchOption, slice_get, Entry, is_open, IsOpenAt}
 use Rattle.search_core.proofs.entries.best_open.Given as goal
 
 -- none is open so far, or an open one is found

@@ -1,7 +1,5 @@
 use Rattle.std.proofs.Common.{◌≡◌, ℕ, ◌<◌, Some, true}
-use Rattle.std.specs.Prelude.{slice_get}
-use Rattle.search_core.specs.declared.entry.Entry.{Entry}
-use Rattle.search_core.specs.Entries.{is_held_by}
+use Rattle.search_core.proofs.Vocabulary.{slice_get, Entry, is_held_by}
 use Rattle.search_core.proofs.entries.find_held.Given as goal
 
 -- the seat holds none so far

@@ -1,7 +1,5 @@
 use Rattle.std.proofs.Common.{◌≡◌, ℕ, ◌<◌, Some, false}
-use Rattle.std.specs.Prelude.{slice_get}
-use Rattle.search_core.specs.declared.entry.Entry.{Entry}
-use Rattle.search_core.specs.Entries.{is_open}
+use Rattle.search_core.proofs.Vocabulary.{slice_get, Entry, is_open}
 use Rattle.search_core.proofs.entries.none_open.Given as goal
 
 -- none is open so far

@@ -1,8 +1,6 @@
 use Rattle.std.proofs.Common.{◌≡◌, ◌++◌}
-use Rattle.std.specs.List.{filter}
+use Rattle.search_core.proofs.Vocabulary.{filter, children, open_entries}
 use Rattle.gap_sets.specs.Regions.{is_free}
-use Rattle.search_core.specs.Children.{children}
-use Rattle.search_core.specs.Events.{open_entries}
 use Rattle.search_core.proofs.Opening.{kids}
 use Rattle.search_core.proofs.entries.open_children.Given as goal
 

@@ -1,20 +1,11 @@
 use Rattle.std.proofs.Common.{◌≡◌, ◌∙◌, ◌+◌, ◌<◌, ◌≤◌, ◌++◌, ◌∷◌, [], Bool, List, true, false, Err, get_or, drop, length, refl, sym, ap, subst, arith}
 use Rattle.std.specs.Option.{MatchOption}
-use Rattle.std.specs.List.{remove_range}
-use Rattle.tso_program.specs.declared.outcome.Outcome.{Outcome}
-use Rattle.tso_program.specs.Shown.{asked}
+use Rattle.sketch_covers.proofs.Vocabulary.{remove_range, Outcome, asked, ProgramSketch, with_chosen, Node, Cover, tree_of, Choice, sketch_with, MayChoose, IsValidAt, IsLeafAt, IsCoverAt}
+use Rattle.sketch_covers.proofs.Vocabulary.{IsCoverAfter, node_over, by_number, Grows, OnTold}
 use Rattle.sketches.specs.Complete.{IsComplete}
-use Rattle.sketches.specs.ProgramSketches.{ProgramSketch, with_chosen}
-use Rattle.cert_forest.specs.declared.node.Node.{Node}
-use Rattle.cert_forest.specs.Trees.{Cover}
-use Rattle.cert_forest.specs.Nodes.{tree_of}
-use Rattle.cover_judge.specs.declared.choice.Choice.{Choice}
 use Rattle.cover_judge.specs.declared.choice.Choice.TheVariants as choice
-use Rattle.cover_judge.specs.Choices.{sketch_with, MayChoose}
 use Rattle.cover_judge.proofs.SketchesAfter.{comes_after}
 use Rattle.branching.specs.OpenChoices.{IsBranch}
-use Rattle.sketch_covers.specs.Covers.{IsValidAt, IsLeafAt, IsCoverAt, IsCoverAfter, node_over}
-use Rattle.sketch_covers.specs.KnownOutcomes.{by_number, Grows, OnTold}
 use Rattle.sketch_covers.specs.Pushing.{Pushes, IfLeaf, IsTaken}
 use Rattle.branching.specs.Accesses.{AreAccessesOf}
 use Rattle.sketch_covers.proofs.Growing.{grows_none, grows_twice, stops_as}

@@ -1,9 +1,6 @@
 use Rattle.std.proofs.Common.{◌≡◌, ◌+◌, length}
-use Rattle.tso_program.specs.Shown.{asked}
-use Rattle.sketch_covers.specs.Covers.{node_over}
-use Rattle.sketch_covers.specs.KnownOutcomes.{by_number, Grows}
+use Rattle.sketch_covers.proofs.Vocabulary.{asked, node_over, by_number, Grows, rounds}
 use Rattle.sketch_covers.proofs.Covering.{Covering}
-use Rattle.branching.proofs.Rounds.{rounds}
 use Rattle.sketch_covers.proofs.cover.+cover.Given as goal
 
 abbrev pub decreases-cover_from : goal.decreases-cover_from

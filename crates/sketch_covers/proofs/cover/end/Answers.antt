@@ -1,14 +1,9 @@
 use Rattle.std.proofs.Common.{subst, refl, arith}
-use Rattle.cert_forest.specs.Trees.{Known}
 use Rattle.sketch_covers.proofs.Neat.{neat_known}
 use Rattle.sketch_covers.proofs.Nodes.{leaf_cover}
 use Rattle.std.specs.Option.{MatchOption}
-use Rattle.tso_program.specs.Shown.{asked}
-use Rattle.sketches.specs.ProgramSketches.{mode_in}
-use Rattle.cover_judge.specs.CoverTrees.{MustEndAsNumber}
+use Rattle.sketch_covers.proofs.Vocabulary.{Known, asked, mode_in, MustEndAsNumber, IsEndNotListed, by_number}
 use Rattle.sketch_covers.specs.declared.stop.Stop.TheVariants as stop
-use Rattle.sketch_covers.specs.Covers.{IsEndNotListed}
-use Rattle.sketch_covers.specs.KnownOutcomes.{by_number}
 use Rattle.sketch_covers.proofs.OwnEnds.{stops_new}
 use Rattle.sketch_covers.proofs.cover.end.Goals as goal
 

@@ -1,7 +1,6 @@
 use Rattle.std.proofs.Common.{◌≡◌, ◌≤◌, ◌-◌, List, length, take, drop, ap, sym, ◌∙◌, arith}
 use Rattle.std.proofs.lemmas.List.{length-drop, take_all}
-use Rattle.cert_forest.specs.declared.node.Node.{Node}
-use Rattle.cert_forest.specs.Nodes.{tree_of}
+use Rattle.sketch_covers.proofs.Vocabulary.{Node, tree_of}
 use Rattle.cert_forest.proofs.NodeLaws.{alone}
 use Rattle.sketch_covers.proofs.cover.take_place.Goals as goal
 

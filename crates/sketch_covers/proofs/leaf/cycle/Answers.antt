@@ -1,8 +1,5 @@
 use Rattle.std.proofs.Common.{◌≡◌, ◌++◌, ◌∙◌, List, ap}
-use Rattle.cert_forest.specs.declared.node.Node.{Node}
-use Rattle.cert_forest.specs.declared.tree.AccessId.{AccessId}
-use Rattle.cert_forest.specs.Nodes.{spell}
-use Rattle.cert_forest.specs.Trees.{Cycle}
+use Rattle.sketch_covers.proofs.Vocabulary.{Node, AccessId, spell, Cycle}
 use Rattle.branching.proofs.AccessesNamed.{of_thread}
 use Rattle.sketch_covers.proofs.Leaves.{cycle_leaf}
 use Rattle.sketch_covers.proofs.leaf.cycle.Goals as goal

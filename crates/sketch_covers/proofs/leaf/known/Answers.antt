@@ -1,8 +1,6 @@
 use Rattle.std.proofs.Common.{Option, subst}
-use Rattle.std.specs.Prelude.{MatchOption}
-use Rattle.tso_program.specs.declared.outcome.Outcome.{Outcome}
+use Rattle.sketch_covers.proofs.Vocabulary.{MatchOption, Outcome, by_number}
 use Rattle.sketches.specs.Completions.{MustEndSo, NeedNotEnd}
-use Rattle.sketch_covers.specs.KnownOutcomes.{by_number}
 use Rattle.sketch_covers.proofs.Leaves.{known_number}
 use Rattle.sketch_covers.proofs.leaf.known.Goals as goal
 

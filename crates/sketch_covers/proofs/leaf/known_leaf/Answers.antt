@@ -1,11 +1,5 @@
 use Rattle.std.proofs.Common.{◌≡◌, refl, subst, arith}
-use Rattle.std.specs.Prelude.{MatchOption}
-use Rattle.tso_program.specs.Shown.{asked}
-use Rattle.sketches.specs.ProgramSketches.{mode_in}
-use Rattle.cert_forest.specs.Trees.{Known}
-use Rattle.cover_judge.specs.CoverTrees.{MustEndAsNumber}
-use Rattle.sketch_covers.specs.Covers.{IsEndNotListed}
-use Rattle.sketch_covers.specs.KnownOutcomes.{by_number}
+use Rattle.sketch_covers.proofs.Vocabulary.{MatchOption, asked, mode_in, Known, MustEndAsNumber, IsEndNotListed, by_number}
 use Rattle.sketch_covers.proofs.Neat.{neat_known}
 use Rattle.sketch_covers.proofs.leaf.known_leaf.Goals as goal
 

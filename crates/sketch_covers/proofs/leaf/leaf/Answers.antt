@@ -1,8 +1,5 @@
 use Rattle.std.proofs.Common.{List, subst, rules}
-use Rattle.cert_forest.specs.declared.node.Node.{Node}
-use Rattle.sketch_covers.specs.Covers.{IsLeafAt}
-use Rattle.sketch_covers.specs.KnownOutcomes.{by_number}
-use Rattle.sketch_covers.specs.Pushing.{Pushes}
+use Rattle.sketch_covers.proofs.Vocabulary.{Node, IsLeafAt, by_number, Pushes}
 use Rattle.sketch_covers.proofs.Leaves.{known_pushed, unknown_same}
 use Rattle.sketch_covers.proofs.leaf.leaf.Goals as goal
 

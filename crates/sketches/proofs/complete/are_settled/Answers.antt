@@ -1,9 +1,5 @@
 use Rattle.std.proofs.Common.{Contains}
-use Rattle.candidate_executions.specs.declared.event.Event.{Event}
-use Rattle.candidate_executions.specs.declared.event.Event.TheVariants.{Initial}
-use Rattle.thread_traces.proofs.KnownParts.{yes, no, not_by}
-use Rattle.known_edges.proofs.Lookups.{each_more}
-use Rattle.sketches.specs.Complete.{HasItsSource, IsOrderedWith, IsComplete}
+use Rattle.sketches.proofs.Vocabulary.{Event, Initial, yes, no, not_by, each_more, HasItsSource, IsOrderedWith, IsComplete}
 use Rattle.sketches.proofs.Completeness.{complete_by}
 use Rattle.sketches.proofs.complete.are_settled.Goals as goal
 

@@ -1,6 +1,5 @@
 use Rattle.std.proofs.Common.{◌≡◌, ℕ, ◌<◌, get_or, Contains}
-use Rattle.candidate_executions.specs.declared.event.Event.{Event}
-use Rattle.sketches.specs.Complete.{HasItsSource, IsOrderedWith}
+use Rattle.sketches.proofs.Vocabulary.{Event, HasItsSource, IsOrderedWith}
 use Rattle.sketches.proofs.complete.are_settled.Given as goal
 
 -- the events so far have their sources, and are in order with all

@@ -1,6 +1,5 @@
 use Rattle.std.proofs.Common.{◌∙◌, sym, ap, not}
-use Rattle.known_edges.specs.Choices.{IsRead}
-use Rattle.known_edges.proofs.Chosen.{has_source_by}
+use Rattle.sketches.proofs.Vocabulary.{IsRead, has_source_by}
 use Rattle.sketches.proofs.complete.has_its_source.Goals as goal
 
 pub returns-else-is_none : goal.returns-else-is_none

@@ -1,8 +1,5 @@
 use Rattle.std.proofs.lemmas.List.Elements.{Contains-get_or}
-use Rattle.candidate_executions.specs.declared.event.Event.TheVariants.{Initial}
-use Rattle.thread_traces.proofs.KnownParts.{no, not_by}
-use Rattle.known_edges.proofs.Lookups.{each_more}
-use Rattle.sketches.specs.Complete.{IsOrderedWith}
+use Rattle.sketches.proofs.Vocabulary.{Initial, no, not_by, each_more, IsOrderedWith}
 use Rattle.sketches.proofs.complete.is_ordered_with_all.Goals as goal
 
 pub returns-then-not-is_ordered_with : goal.returns-then-not-is_ordered_with

@@ -1,6 +1,5 @@
 use Rattle.std.proofs.Common.{◌≡◌, ℕ, ◌<◌, get_or}
-use Rattle.candidate_executions.specs.declared.event.Event.{Event}
-use Rattle.sketches.specs.Complete.{IsOrderedWith}
+use Rattle.sketches.proofs.Vocabulary.{Event, IsOrderedWith}
 use Rattle.sketches.proofs.complete.is_ordered_with_all.Given as goal
 
 -- the event is in order with each of those so far

@@ -1,6 +1,5 @@
 use Rattle.std.proofs.Common.{◌++◌, ◌∷◌, [], arith}
-use Rattle.tso_machine.specs.Modes.{machine_of_mode}
-use Rattle.thread_traces.specs.ThreadTraces.{IsThreadTraceOf}
+use Rattle.sketches.proofs.Vocabulary.{machine_of_mode, IsThreadTraceOf}
 use Rattle.thread_traces.proofs.ValuesGiven.{known_is, kept_known}
 use Rattle.sketches.proofs.next_trace.trace_after.Goals as goal
 

@@ -1,6 +1,5 @@
 use Rattle.std.proofs.Common.{◌≡◌, ◌+◌, take}
-use Rattle.std.specs.Prelude.{min}
-use Rattle.std.specs.Str.Parse.{digits_value}
+use Rattle.text_tokens.proofs.Vocabulary.{min, digits_value}
 use Rattle.text_tokens.proofs.numbers.value_up_to.Given as goal
 
 -- the value of the digits so far, or one more than the limit

@@ -1,6 +1,5 @@
 use Rattle.std.proofs.Common.{◌<◌, length, ◌∙◌, sym, arith}
-use Rattle.std.proofs.lemmas.List.{nil_from_length}
-use Rattle.text_tokens.specs.Space.{nothing, comment}
+use Rattle.text_tokens.proofs.Vocabulary.{nil_from_length, nothing, comment}
 use Rattle.text_tokens.proofs.CommentLaws.{comment_shorter}
 use Rattle.text_tokens.proofs.SpaceLaws.{white_space_forth, white_space_back, comment_back, other_back, empty_is}
 use Rattle.text_tokens.proofs.space.after_space.Goals as goal

@@ -1,6 +1,5 @@
 use Rattle.std.proofs.Common.{◌≡◌, ℕ, ◌<◌, Some, slice_get}
-use Rattle.tso_program.specs.declared.instruction.Instr.{Instr}
-use Rattle.thread_traces.specs.Immediates.{StoresRegister}
+use Rattle.thread_traces.proofs.Vocabulary.{Instr, StoresRegister}
 use Rattle.thread_traces.proofs.location_values.has_register_store.Given as goal
 
 -- none of the instructions so far stores a register there

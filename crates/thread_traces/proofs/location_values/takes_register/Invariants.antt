@@ -1,7 +1,5 @@
 use Rattle.std.proofs.Common.{◌≡◌, ℕ, ◌<◌, Some}
-use Rattle.tso_program.specs.declared.instruction.Instr.{Instr}
-use Rattle.tso_program.specs.Listings.{instr_at}
-use Rattle.thread_traces.specs.Immediates.{StoresRegister}
+use Rattle.thread_traces.proofs.Vocabulary.{Instr, instr_at, StoresRegister}
 use Rattle.thread_traces.proofs.location_values.takes_register.Given as goal
 
 -- none of the threads so far stores a register there

@@ -1,7 +1,6 @@
 use Rattle.std.proofs.Common.{◌≡◌, ◌∙◌, ◌+◌, ◌++◌, ◌∷◌, [], ℕ, List, Some, slice_get, length, ap, sym, subst, inl, inr}
 use Rattle.std.proofs.lemmas.List.{length_push}
-use Rattle.tso_program.specs.declared.listing.Listing.{Listing}
-use Rattle.thread_traces.specs.ValueLists.{IsValueList}
+use Rattle.thread_traces.proofs.Vocabulary.{Listing, IsValueList}
 use Rattle.candidate_executions.proofs.Orders.Lists.{get_cases}
 use Rattle.thread_traces.proofs.shared_values.value_lists.Goals as goal
 

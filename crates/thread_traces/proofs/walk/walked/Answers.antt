@@ -1,8 +1,5 @@
 use Rattle.std.proofs.Common.{◌∙◌, ap, subst, length, arith}
-use Rattle.tso_program.specs.Listings.{action, code_of}
-use Rattle.candidate_executions.specs.Traces.{fenced_gaps, trace_by, entered}
-use Rattle.tso_machine.specs.Modes.{machine_of_mode}
-use Rattle.thread_traces.specs.ThreadTraces.{GoesOn}
+use Rattle.thread_traces.proofs.Vocabulary.{action, code_of, fenced_gaps, trace_by, entered, machine_of_mode, GoesOn}
 use Rattle.thread_traces.proofs.EventsCounted.{thread_few}
 use Rattle.thread_traces.proofs.TraceSteps.{begun, stepped, halted, finished, code_there, registers_there, entered_by}
 use Rattle.thread_traces.proofs.walk.walked.Goals as goal

@@ -1,8 +1,5 @@
 use Rattle.std.proofs.Common.{◌≡◌, ◌≤◌, ◌-◌, ◌*◌, drop, length}
-use Rattle.tso_program.specs.Listings.{action, code_of}
-use Rattle.candidate_executions.specs.Traces.{trace, trace_by, fenced_gaps}
-use Rattle.tso_machine.specs.Modes.{machine_of_mode}
-use Rattle.thread_traces.specs.ThreadTraces.{with_accesses}
+use Rattle.thread_traces.proofs.Vocabulary.{action, code_of, trace, trace_by, fenced_gaps, machine_of_mode, with_accesses}
 use Rattle.thread_traces.proofs.walk.walked.Given as goal
 
 -- the accesses so far, and then the trace from here, make the whole trace

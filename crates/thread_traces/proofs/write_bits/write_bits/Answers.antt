@@ -1,8 +1,5 @@
 use Rattle.std.proofs.Common.{◌≡◌, ℕ, Some, slice_get, subst, arith, below_more}
-use Rattle.std.proofs.lemmas.Option.{slice_get_within, get_or_from_slice_get}
-use Rattle.bit_rows.specs.Rows.{IsIn}
-use Rattle.candidate_executions.specs.declared.access.Access.{Access}
-use Rattle.thread_traces.specs.WriteBits.{write_bit}
+use Rattle.thread_traces.proofs.Vocabulary.{slice_get_within, get_or_from_slice_get, IsIn, Access, write_bit}
 use Rattle.thread_traces.proofs.write_bits.write_bits.Goals as goal
 
 pub loop-access-preserved : goal.loop-access-preserved

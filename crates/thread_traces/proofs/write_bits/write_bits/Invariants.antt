@@ -1,7 +1,5 @@
 use Rattle.std.proofs.Common.{◌≡◌, ◌<◌, ℕ, Some, slice_get}
-use Rattle.bit_rows.specs.Rows.{IsIn}
-use Rattle.candidate_executions.specs.declared.access.Access.{Access}
-use Rattle.thread_traces.specs.WriteBits.{write_bit}
+use Rattle.thread_traces.proofs.Vocabulary.{IsIn, Access, write_bit}
 use Rattle.thread_traces.proofs.write_bits.write_bits.Given as goal
 
 -- the bits of what the accesses so far write are there

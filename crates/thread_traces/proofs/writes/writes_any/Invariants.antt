@@ -1,6 +1,5 @@
 use Rattle.std.proofs.Common.{◌≡◌, ◌<◌, ℕ, Some, slice_get}
-use Rattle.candidate_executions.specs.declared.access.Access.{Access}
-use Rattle.thread_traces.specs.declared.thread_trace.ThreadTrace.{ThreadTrace}
+use Rattle.thread_traces.proofs.Vocabulary.{Access, ThreadTrace}
 use Rattle.thread_traces.proofs.writes.writes_any.Given as goal
 
 -- none of the threads so far writes the value to the location

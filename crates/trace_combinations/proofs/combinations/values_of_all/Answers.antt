@@ -1,10 +1,7 @@
 use Rattle.std.proofs.Common.{rules, ◌≡◌, ◌<◌, ◌∙◌, ◌+◌, ◌∷◌, ◌++◌, ◌↔◌, ℕ, List, [], Contains, ap, length, subst, sym}
-use Rattle.std.specs.Global.{Vec}
 use Rattle.std.proofs.lemmas.List.{length-append}
-use Rattle.tso_program.specs.declared.listing.Listing.{Listing}
-use Rattle.sketches.specs.Values.{IsValueOf}
+use Rattle.trace_combinations.proofs.Vocabulary.{Vec, Listing, IsValueOf, values_at}
 use Rattle.sketches.specs.ProgramSketches.{ProgramSketch}
-use Rattle.trace_combinations.specs.TraceCounts.{values_at}
 use Rattle.trace_combinations.proofs.ValuesSoFar.{AreFirstValues, one_more}
 use Rattle.trace_combinations.proofs.combinations.values_of_all.Goals as goal
 

@@ -1,7 +1,5 @@
 use Rattle.std.proofs.Common.{◌≡◌, take, Some}
-use Rattle.tso_machine.specs.Machine.{run, start}
-use Rattle.tso_machine.specs.Modes.{machine_of_model, ArePassed}
-use Rattle.tso_machine.specs.Internal.Cores.{state_of, FitsProgram}
+use Rattle.tso_machine.proofs.Vocabulary.{run, start, machine_of_model, ArePassed, state_of, FitsProgram}
 use Rattle.tso_machine.proofs.replaying.replay.Given as goal
 
 -- the steps so far lead to the state, and pass the gaps passed

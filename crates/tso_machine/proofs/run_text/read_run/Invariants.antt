@@ -1,6 +1,5 @@
 use Rattle.std.proofs.Common.{◌≡◌, take, map, All}
-use Rattle.std.specs.Prelude.{filter}
-use Rattle.tso_machine.specs.RunTexts.{spelling, IsLabel}
+use Rattle.tso_machine.proofs.Vocabulary.{filter, spelling, IsLabel}
 use Rattle.tso_machine.proofs.RunLabels.{word_of}
 use Rattle.tso_machine.proofs.run_text.read_run.Given as goal
 

@@ -1,6 +1,5 @@
 use Rattle.std.proofs.Common.{◌≡◌, take, All}
-use Rattle.std.specs.Prelude.{string_bytes}
-use Rattle.tso_machine.specs.RunTexts.{run_text, IsLabel}
+use Rattle.tso_machine.proofs.Vocabulary.{string_bytes, run_text, IsLabel}
 use Rattle.tso_machine.proofs.run_text.write_run.Given as goal
 
 -- the text so far is that of the labels so far

@@ -1,5 +1,4 @@
-use Rattle.tso_machine.specs.Modes.{machine_of_model}
-use Rattle.tso_machine.specs.Internal.Cores.{state_of}
+use Rattle.tso_machine.proofs.Vocabulary.{machine_of_model, state_of}
 use Rattle.tso_machine.proofs.stepping.make_step.Goals as goal
 
 pub returns-in-Err-clause-err : goal.returns-in-Err-clause-err

@@ -1,9 +1,5 @@
 use Rattle.std.proofs.Common.{◌∙◌, take, Some, sym, ap, subst, arith}
-use Rattle.tso_machine.specs.declared.label.Label.TheVariants.{Exec}
-use Rattle.tso_program.specs.declared.listing.Listing.{Listing}
-use Rattle.tso_machine.specs.Machine.{Machine, start}
-use Rattle.tso_machine.specs.Modes.{machine_of_model}
-use Rattle.tso_machine.specs.Internal.Cores.{Cores, state_of, FitsProgram}
+use Rattle.tso_machine.proofs.Vocabulary.{Exec, Listing, Machine, start, machine_of_model, Cores, state_of, FitsProgram}
 use Rattle.tso_machine.proofs.Link.{state_of_first, first_fits}
 use Rattle.tso_machine.proofs.Runs.{run_on, faulted, no_stores_by}
 use Rattle.tso_machine.proofs.Stepped.{steps_on}

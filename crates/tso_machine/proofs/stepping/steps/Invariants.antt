@@ -1,8 +1,5 @@
 use Rattle.std.proofs.Common.{◌≡◌, take, Some}
-use Rattle.tso_machine.specs.Machine.{run, start}
-use Rattle.tso_machine.specs.Modes.{machine_of_model}
-use Rattle.tso_machine.specs.Steps.{AreSteps}
-use Rattle.tso_machine.specs.Internal.Cores.{state_of, FitsProgram}
+use Rattle.tso_machine.proofs.Vocabulary.{run, start, machine_of_model, AreSteps, state_of, FitsProgram}
 use Rattle.tso_machine.proofs.stepping.steps.Given as goal
 
 -- the labels so far lead to the state, by these steps

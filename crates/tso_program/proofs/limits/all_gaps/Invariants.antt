@@ -1,8 +1,6 @@
 use Rattle.std.proofs.Common.{◌≡◌, ◌≤◌, ◌*◌, take}
-use Rattle.std.specs.Prelude.{sum_by}
-use Rattle.tso_program.specs.Listings.{gaps_of_thread}
+use Rattle.tso_program.proofs.Vocabulary.{sum_by, gaps_of_thread, MAX_INSTRUCTIONS}
 use Rattle.tso_program.proofs.limits.all_gaps.Given as goal
-use Rattle.tso_program.specs.declared.limits.TheConstants.{MAX_INSTRUCTIONS}
 
 -- the total so far, at most 64 for each thread
 abbrev pub invariant-loop-thread : goal.invariant-loop-thread

@@ -1,8 +1,7 @@
 use Rattle.std.proofs.Common.{◌∙◌, sym, ap}
-use Rattle.std.specs.Prelude.{is_some}
+use Rattle.tso_program.proofs.Vocabulary.{is_some, MAX_FENCED_INSTRUCTIONS}
 use Rattle.tso_program.proofs.WithinLimits.{all_short}
 use Rattle.tso_program.proofs.limits.broken_shared_limit.Goals as goal
-use Rattle.tso_program.specs.declared.limits.TheConstants.{MAX_FENCED_INSTRUCTIONS}
 
 pub all_accesses-requires-clause-short : goal.all_accesses-requires-clause-short
 all_accesses-requires-clause-short c = all_short c.args.longest MAX_FENCED_INSTRUCTIONS c.args.threads.now c.requires (ap is_some (sym c.first_long.ensures ∙ c.in_default.is))

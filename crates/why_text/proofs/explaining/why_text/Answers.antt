@@ -1,14 +1,11 @@
 use Rattle.std.proofs.Common.{ℕ, subst, sym}
 use Rattle.std.specs.Prelude.{option_map}
-use Rattle.tso_program.specs.declared.shown.Shown.{Shown}
-use Rattle.tso_program.specs.Shown.{asked}
+use Rattle.why_text.proofs.Vocabulary.{Shown, asked, answer_line, TellsWhy}
 use Rattle.litmus_text.specs.Shown.{shown_as, question_of}
-use Rattle.report.specs.Answers.{answer_line}
 use Rattle.placed_text.specs.Placements.{IsPlacement}
 use Rattle.placed_text.specs.TextFaults.{HasNoPlacedText}
 use Rattle.placed_text.proofs.Judged.{one_each, no_program, no_costs, no_placement}
 use Rattle.placed_text.proofs.Answered.{err_up}
-use Rattle.why_text.specs.WhyTexts.{TellsWhy}
 use Rattle.why_text.proofs.explaining.why_text.Goals as goal
 
 pub place_gaps-requires-after_bounds : goal.place_gaps-requires-after_bounds

@@ -1,9 +1,6 @@
 use Rattle.std.proofs.Common.{◌≡◌, ◌∙◌, List, map, ap, subst}
-use Rattle.tso_machine.specs.declared.label.Label.{Label}
+use Rattle.why_text.proofs.Vocabulary.{Label, Without, TellsRun, printed_of}
 use Rattle.tso_machine.specs.declared.stepping.Step.{Step}
-use Rattle.documents.specs.declared.run.Setting.TheVariants.{Without}
-use Rattle.documents.specs.Runs.{TellsRun}
-use Rattle.why_text.specs.WhyTexts.{printed_of}
 use Rattle.why_text.proofs.ReasonTexts as texts
 use Rattle.why_text.proofs.reasons.reason_of.Goals as goal
 

@@ -1,12 +1,10 @@
 use Rattle.std.proofs.Common.{◌≡◌, subst}
-use Rattle.gap_sets.specs.Gaps.{SetOfGaps}
 use Rattle.std.specs.FinSet as set
+use Rattle.why_text.proofs.Vocabulary.{SetOfGaps, Question, Serves}
 use Rattle.cover_solver.specs.declared.oracle.Verdict.{Verdict}
 use Rattle.cover_solver.specs.declared.oracle.Verdict.TheVariants as verdict
 use Rattle.cover_solver.specs.Facts.{Serving}
 use Rattle.cover_solver.specs.Verdicts.{IsVerdictOf}
-use Rattle.tso_program.specs.Shown.{Question}
-use Rattle.tso_machine.specs.Outcomes.{Serves}
 use Rattle.why_text.proofs.Needed.{each_is_needed, kept}
 use Rattle.why_text.proofs.reasons.run_without.Goals as goal
 

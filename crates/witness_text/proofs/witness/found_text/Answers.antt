@@ -1,8 +1,6 @@
 use Rattle.std.proofs.Common.{List, subst}
-use Rattle.tso_program.specs.declared.shown.Shown.TheVariants.{All}
-use Rattle.tso_machine.specs.declared.label.Label.{Label}
+use Rattle.witness_text.proofs.Vocabulary.{All, Label, TellsRun}
 use Rattle.documents.specs.declared.run.Setting.TheVariants.{Machine}
-use Rattle.documents.specs.Runs.{TellsRun}
 use Rattle.witness_text.specs.WitnessTexts.{found}
 use Rattle.witness_text.proofs.FencedRuns.{told_run}
 use Rattle.witness_text.proofs.witness.found_text.Goals as goal

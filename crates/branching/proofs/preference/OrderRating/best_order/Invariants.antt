@@ -1,8 +1,5 @@
 use Rattle.std.proofs.Common.{◌≡◌, ℕ, ◌<◌, None}
-use Rattle.std.specs.Prelude.{IfSome}
-use Rattle.branching.specs.declared.preference.RatedChoice.{RatedChoice}
-use Rattle.branching.specs.OpenChoices.{IsOpen}
-use Rattle.branching.specs.ChoicesLeft.{IsInOrderWithLater}
+use Rattle.branching.proofs.Vocabulary.{IfSome, RatedChoice, IsOpen, IsInOrderWithLater}
 use Rattle.branching.proofs.preference.OrderRating.best_order.Given as goal
 
 -- the best is open; if there is none, the writes so far are in order with all later ones

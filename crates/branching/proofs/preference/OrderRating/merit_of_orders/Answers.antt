@@ -1,5 +1,4 @@
-use Rattle.cover_judge.specs.CoverTrees.{event_of}
-use Rattle.cover_judge.proofs.ChoicesJudged.{other_way}
+use Rattle.branching.proofs.Vocabulary.{event_of, other_way}
 use Rattle.branching.proofs.preference.OrderRating.merit_of_orders.Goals as goal
 
 pub stays_open-requires-2 : goal.stays_open-requires-2

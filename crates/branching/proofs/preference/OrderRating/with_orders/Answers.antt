@@ -1,11 +1,5 @@
 use Rattle.std.proofs.Common.{◌≡◌, ◌∙◌, ◌<◌, length, get_or, List, None, Some, Option, sym, subst, inl, inr, arith}
-use Rattle.std.specs.Prelude.{IfSome}
-use Rattle.std.proofs.lemmas.Bool.{cases_lt}
-use Rattle.branching.specs.declared.preference.RatedChoice.{RatedChoice}
-use Rattle.branching.specs.declared.reads_writes.WrittenValue.{WrittenValue}
-use Rattle.branching.specs.OpenChoices.{IsOpen}
-use Rattle.branching.specs.Accesses.{IsWrittenValue}
-use Rattle.branching.specs.ChoicesLeft.{AreWritesInOrder}
+use Rattle.branching.proofs.Vocabulary.{IfSome, cases_lt, RatedChoice, WrittenValue, IsOpen, IsWrittenValue, AreWritesInOrder}
 use Rattle.branching.proofs.NothingLeft.{in_order_at}
 use Rattle.branching.proofs.preference.OrderRating.with_orders.Goals as goal
 use Rattle.branching.proofs.preference.OrderRating.with_orders.Goals.{then-needs_order, else-needs_order}

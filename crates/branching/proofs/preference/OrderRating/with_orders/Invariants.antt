@@ -1,9 +1,5 @@
 use Rattle.std.proofs.Common.{◌≡◌, ℕ, ◌<◌, None, get_or}
-use Rattle.std.specs.Prelude.{IfSome}
-use Rattle.branching.specs.declared.preference.RatedChoice.{RatedChoice}
-use Rattle.branching.specs.declared.reads_writes.WrittenValue.{WrittenValue}
-use Rattle.branching.specs.OpenChoices.{IsOpen}
-use Rattle.branching.specs.ChoicesLeft.{AreWritesInOrder}
+use Rattle.branching.proofs.Vocabulary.{IfSome, RatedChoice, WrittenValue, IsOpen, AreWritesInOrder}
 use Rattle.branching.proofs.preference.OrderRating.with_orders.Given as goal
 
 -- the best is open; if there is none, the write is in order with the later ones so far

@@ -1,7 +1,5 @@
 use Rattle.std.proofs.Common.{◌≡◌, Some, refl, sym, ap, ◌∙◌, subst}
-use Rattle.sketches.specs.ProgramSketches.{access_in}
-use Rattle.cover_judge.specs.CoverTrees.{event_of}
-use Rattle.branching.specs.declared.reads_writes.WholeAccesses.{WholeAccesses}
+use Rattle.branching.proofs.Vocabulary.{access_in, event_of, WholeAccesses}
 use Rattle.branching.proofs.TakenIn.{TakesRead, read_put, read_left, write_put, write_left}
 use Rattle.branching.proofs.reads_writes.WholeAccesses.add_access.Goals as goal
 use Rattle.branching.proofs.reads_writes.WholeAccesses.add_access.Goals.{in-Some-read+in_ok-push, in_default-read}

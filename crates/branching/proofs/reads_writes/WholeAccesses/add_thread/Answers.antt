@@ -1,11 +1,6 @@
 use Rattle.std.proofs.Common.{◌≡◌, ◌<◌, ◌+◌, length, ap, inl, inr, arith}
-use Rattle.std.proofs.lemmas.Bool.{cases_lt}
 use Rattle.std.proofs.lemmas.Option.{slice_get_within}
-use Rattle.sketches.specs.ProgramSketches.{trace_in}
-use Rattle.sketches.proofs.Completeness.{read_there}
-use Rattle.cert_forest.specs.declared.tree.AccessId.{AccessId}
-use Rattle.cover_judge.specs.CoverTrees.{event_of}
-use Rattle.branching.specs.Accesses.{IsItself}
+use Rattle.branching.proofs.Vocabulary.{cases_lt, trace_in, read_there, AccessId, event_of, IsItself}
 use Rattle.branching.proofs.TakenIn.{none_taken, taken_after, same_access}
 use Rattle.branching.proofs.reads_writes.WholeAccesses.add_thread.Goals as goal
 

@@ -1,6 +1,5 @@
 use Rattle.std.proofs.Common.{◌≡◌, ◌<◌}
-use Rattle.cert_forest.specs.declared.tree.AccessId.{AccessId}
-use Rattle.branching.specs.Accesses.{TakesIn}
+use Rattle.branching.proofs.Vocabulary.{AccessId, TakesIn}
 use Rattle.branching.proofs.reads_writes.WholeAccesses.add_thread.Given as goal
 
 -- the thread's first accesses are taken in

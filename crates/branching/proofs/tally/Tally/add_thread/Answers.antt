@@ -1,9 +1,5 @@
 use Rattle.std.proofs.Common.{◌≡◌, ◌%◌, ℕ, subst, inl, inr, arith}
-use Rattle.std.proofs.lemmas.Bool.{cases_lt}
-use Rattle.bit_rows.specs.declared.row.TheConstants.{ROW_BITS}
-use Rattle.cover_judge.specs.Event.TheVariants.{Access as At}
-use Rattle.cover_judge.specs.Candidates.{Writes}
-use Rattle.sketches.specs.ProgramSketches.{access_in}
+use Rattle.branching.proofs.Vocabulary.{cases_lt, ROW_BITS, At, Writes, access_in}
 use Rattle.sketches.proofs.Ends.{write_within}
 use Rattle.branching.proofs.tally.Tally.add_thread.Goals as goal
 

@@ -1,8 +1,5 @@
 use Rattle.std.proofs.Common.{ℕ, ◌<◌, Contains}
-use Rattle.cover_judge.specs.Event.TheVariants.{Access as At}
-use Rattle.cover_judge.specs.Candidates.{Writes}
-use Rattle.sketches.specs.ProgramSketches.{access_in}
-use Rattle.branching.specs.declared.reads_writes.ReadValue.{ReadValue}
+use Rattle.branching.proofs.Vocabulary.{At, Writes, access_in, ReadValue}
 use Rattle.branching.specs.Tallies.{HasBit, IsOldOrOf, KeepsBits}
 use Rattle.branching.proofs.tally.Tally.add_thread.Given as goal
 

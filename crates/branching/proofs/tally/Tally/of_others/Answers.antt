@@ -1,7 +1,5 @@
 use Rattle.std.proofs.Common.{◌≡◌, ◌≢◌, ◌<◌, ◌+◌, ℕ, length, sym, subst, ap, ◌∙◌, inl, inr, arith}
-use Rattle.std.proofs.lemmas.Bool.{cases_lt}
-use Rattle.tso_program.specs.declared.listing.Listing.{Listing}
-use Rattle.sketches.proofs.Ends.{thread_within}
+use Rattle.branching.proofs.Vocabulary.{cases_lt, Listing, thread_within}
 use Rattle.branching.specs.Tallies.{IsTallyOf, IsOther}
 use Rattle.branching.proofs.Tallied.{tally_more, tally_same}
 use Rattle.branching.proofs.tally.Tally.of_others.Goals as goal

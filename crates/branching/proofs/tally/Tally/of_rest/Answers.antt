@@ -1,9 +1,5 @@
 use Rattle.std.proofs.Common.{◌≡◌, ◌<◌, ◌+◌, ℕ, length, sym, subst, ap, ◌∙◌, inl, inr, arith}
-use Rattle.std.proofs.lemmas.Bool.{cases_lt}
-use Rattle.tso_program.specs.declared.listing.Listing.{Listing}
-use Rattle.sketches.proofs.Ends.{thread_within}
-use Rattle.sketches.proofs.KnownParts.{not_by}
-use Rattle.branching.specs.Tallies.{IsTallyOf, IsNeither}
+use Rattle.branching.proofs.Vocabulary.{cases_lt, Listing, thread_within, not_by, IsTallyOf, IsNeither}
 use Rattle.branching.proofs.Tallied.{tally_more, tally_same}
 use Rattle.branching.proofs.tally.Tally.of_rest.Goals as goal
 use Rattle.branching.proofs.tally.Tally.of_rest.Goals.{then-is_neither+in_ok-add_thread, else-is_neither}

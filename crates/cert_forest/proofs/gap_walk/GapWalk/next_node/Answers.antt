@@ -1,7 +1,5 @@
 use Rattle.std.proofs.Common.{◌≡◌, ◌∷◌, List, sym, subst}
-use Rattle.cert_forest.specs.Trees.{Gap}
-use Rattle.cert_forest.specs.GapNodes.{gap_trees_in, AreGapTrees}
-use Rattle.cert_forest.specs.Walks.{IsNextGap}
+use Rattle.cert_forest.proofs.Vocabulary.{Gap, gap_trees_in, AreGapTrees, IsNextGap}
 use Rattle.cert_forest.proofs.GapNodeLaws.{gap_shown}
 use Rattle.cert_forest.proofs.gap_walk.GapWalk.next_node.Goals as goal
 

@@ -1,9 +1,6 @@
 use Rattle.std.proofs.Common.{◌≡◌, ℕ, zero, suc, List, [], ◌∷◌, length, map, refl, sym, ap, ◌∙◌, arith}
 use Rattle.std.specs.List.{insert}
-use Rattle.std.specs.Global.{Vec}
-use Rattle.std.proofs.lemmas.List.{length-map}
-use Rattle.tso_machine.specs.declared.label.Label.{Label}
-use Rattle.cert_forest.specs.Certificates.{labels_of}
+use Rattle.cert_forest.proofs.Vocabulary.{Vec, length-map, Label, labels_of}
 use Rattle.cert_forest.proofs.run_list.Runs.insert.Goals as goal
 
 map_insert : {A B : Type 0} (f : A → B) (xs : List A) (i : ℕ) (x : A) → map f (insert xs i x) ≡ insert (map f xs) i (f x)

@@ -1,6 +1,5 @@
 use Rattle.std.proofs.Common.{List, Contains, MatchOption, Some, slice_get, ap, ◌≡◌, ◌∙◌, subst}
-use Rattle.tso_machine.specs.declared.label.Label.{Label}
-use Rattle.cert_forest.specs.Certificates.{labels_of}
+use Rattle.cert_forest.proofs.Vocabulary.{Label, labels_of}
 use Rattle.cert_forest.proofs.run_list.Runs.position.Goals as goal
 
 pub returns : goal.returns

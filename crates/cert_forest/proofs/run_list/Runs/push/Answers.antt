@@ -1,7 +1,6 @@
 use Rattle.std.proofs.Common.{List, [], ◌∷◌, ◌++◌, ap, ◌∙◌}
 use Rattle.std.proofs.lemmas.List.{map_push}
-use Rattle.tso_machine.specs.declared.label.Label.{Label}
-use Rattle.cert_forest.specs.Certificates.{labels_of}
+use Rattle.cert_forest.proofs.Vocabulary.{Label, labels_of}
 use Rattle.cert_forest.proofs.run_list.Runs.push.Goals as goal
 
 pub returns : goal.returns

@@ -1,10 +1,5 @@
 use Rattle.std.proofs.Common.{◌≡◌, true, false, sym, subst, ◌∙◌}
-use Rattle.tso_program.specs.Shown.{Question, asked}
-use Rattle.tso_machine.specs.Machine.{StoreBufferMachine, no_gaps}
-use Rattle.tso_machine.specs.Modes.{ArePassed}
-use Rattle.tso_machine.specs.Outcomes.{IsShownRun, IsForeignRun, IsSequentialOutcome}
-use Rattle.tso_machine.specs.Faults.{ReplayFaultIs}
-use Rattle.cover_solver.specs.ForeignFaults.{ForeignFaultIs}
+use Rattle.cover_solver.proofs.Vocabulary.{Question, asked, StoreBufferMachine, no_gaps, ArePassed, IsShownRun, IsForeignRun, IsSequentialOutcome, ReplayFaultIs, ForeignFaultIs}
 use Rattle.cover_solver.proofs.Tables.{same_question, fault_of_foreign, no_fault_of_foreign, one_outcome}
 use Rattle.cover_solver.proofs.foreign_run.ForeignRun.new.Goals as goal
 

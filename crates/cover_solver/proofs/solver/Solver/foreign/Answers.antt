@@ -1,11 +1,6 @@
 use Rattle.std.proofs.Common.{◌≡◌, true, sym, subst, ap, ◌∙◌}
 use Rattle.std.specs.FinSet as set
-use Rattle.tso_program.specs.Shown.{Question, asked}
-use Rattle.tso_machine.specs.Machine.{StoreBufferMachine, no_gaps}
-use Rattle.tso_machine.specs.Faults.{ReplayFaultIs}
-use Rattle.tso_machine.specs.Modes.{ArePassed}
-use Rattle.tso_machine.specs.Outcomes.{IsShownRun, IsForeignRun}
-use Rattle.cover_solver.specs.Facts.{Asked, IsListOf}
+use Rattle.cover_solver.proofs.Vocabulary.{Question, asked, StoreBufferMachine, no_gaps, ReplayFaultIs, ArePassed, IsShownRun, IsForeignRun, Asked, IsListOf}
 use Rattle.cover_solver.proofs.Tables.{foreign_again, passes_none, replays_unfenced, same_question}
 use Rattle.cover_solver.proofs.solver.Solver.foreign.Goals as goal
 

@@ -1,11 +1,6 @@
 use Rattle.std.proofs.Common.{List, Contains, sym, ap, subst, ◌∙◌}
-use Rattle.tso_program.specs.declared.outcome.Outcome.{Outcome}
-use Rattle.partial_covers.specs.declared.partial_cover.PartialCover.{PartialCover}
-use Rattle.tso_program.specs.Shown.{asked}
+use Rattle.cover_solver.proofs.Vocabulary.{Outcome, PartialCover, asked, machine_of_mode, Asked, IsPartialCover}
 use Rattle.tso_machine.specs.declared.mode.Mode.TheVariants as own
-use Rattle.tso_machine.specs.Modes.{machine_of_mode}
-use Rattle.cover_solver.specs.Facts.{Asked}
-use Rattle.partial_covers.specs.PartialCovers.{IsPartialCover}
 use Rattle.sketch_covers.proofs.AllOutcomes.{not_listed}
 use Rattle.cover_solver.proofs.solver.Solver.searched.Goals as goal
 

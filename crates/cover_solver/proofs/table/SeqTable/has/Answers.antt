@@ -1,9 +1,5 @@
 use Rattle.std.proofs.Common.{◌↔◌, IsTrue, List, Some, slice_get, ◌≡◌, ap, subst}
-use Rattle.std.specs.Prelude.{IfOk, IfErr}
-use Rattle.tso_program.specs.declared.outcome.Outcome.{Outcome}
-use Rattle.tso_machine.specs.Outcomes.{IsSequentialOutcome}
-use Rattle.cover_solver.specs.Facts.{Table}
-use Rattle.sketch_covers.specs.Ascending.{BelongsAt}
+use Rattle.cover_solver.proofs.Vocabulary.{IfOk, IfErr, Outcome, IsSequentialOutcome, Table, BelongsAt}
 use Rattle.cover_solver.proofs.Tables.{found_by}
 use Rattle.cover_solver.proofs.table.SeqTable.has.Goals as goal
 

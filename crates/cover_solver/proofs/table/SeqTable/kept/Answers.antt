@@ -1,9 +1,6 @@
 use Rattle.std.proofs.Common.{◌≡◌, sym, subst}
-use Rattle.std.specs.Arc.{arc_value}
+use Rattle.cover_solver.proofs.Vocabulary.{arc_value, PartialCover, Table, IsPartialCover}
 use Rattle.partial_covers.proofs.Answered.{if_ok}
-use Rattle.partial_covers.specs.declared.partial_cover.PartialCover.{PartialCover}
-use Rattle.cover_solver.specs.Facts.{Table}
-use Rattle.partial_covers.specs.PartialCovers.{IsPartialCover}
 use Rattle.cover_solver.proofs.table.SeqTable.kept.Goals as goal
 
 pub returns : goal.returns

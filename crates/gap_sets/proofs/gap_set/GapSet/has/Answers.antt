@@ -1,10 +1,7 @@
 use Rattle.std.proofs.Common.{◌≡◌, sym, arith}
-use Rattle.std.specs.Int.{bit_at}
-use Rattle.std.proofs.lemmas.Nat.Bits.{shr_and_one, bit_at_above}
-use Rattle.std.proofs.lemmas.Bool.Decides.{nat_tests}
+use Rattle.gap_sets.proofs.Vocabulary.{bit_at, shr_and_one, bit_at_above, nat_tests, MAX_GAPS}
 use Rattle.gap_sets.proofs.WordSets.{contains-word}
 use Rattle.gap_sets.proofs.gap_set.GapSet.has.Goals as goal
-use Rattle.gap_sets.specs.declared.gap_set.TheConstants.{MAX_GAPS}
 
 pub returns-then-gap-lt-MAX_GAPS-clause-value : goal.returns-then-gap-lt-MAX_GAPS-clause-value
 returns-then-gap-lt-MAX_GAPS-clause-value c = rw shr_and_one (sym (contains-word c.self.inside.bits c.args.gap _ c.self.view_is c.self.invariant))

@@ -1,8 +1,5 @@
 use Rattle.std.proofs.Common.{◌≢◌, ℕ, IsTrue, not, nat_eq, sym, ◌∙◌, arith, eqb-true, eq-eqb}
-use Rattle.std.specs.Int.{w128, trailing_zeros}
-use Rattle.std.specs.Int.RustNames.{bit_xor}
-use Rattle.std.proofs.lemmas.Bool.Decides.{nat_tests}
-use Rattle.std.proofs.lemmas.Nat.Bits.{shr_and_one}
+use Rattle.gap_sets.proofs.Vocabulary.{w128, trailing_zeros, bit_xor, nat_tests, shr_and_one}
 use Rattle.gap_sets.proofs.Differences.{lowest_bit-lt, differs_at_lowest, least_from_bit, bit_from_least, words_differ}
 use Rattle.gap_sets.proofs.gap_set.GapSet.has_least_difference.Goals as goal
 

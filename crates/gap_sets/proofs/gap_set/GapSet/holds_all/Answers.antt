@@ -1,10 +1,7 @@
 use Rattle.std.proofs.Common.{◌≡◌, ℕ, ◌∙◌, inl, inr, sym, refl, true, false, Bool}
 use mathlib.Core.Bool.{true≢false}
-use Rattle.std.specs.Int.{bit_not, w128}
-use Rattle.std.specs.Int.RustNames.{bit_and}
 use Rattle.std.specs.FinSet as set
-use Rattle.std.specs.Cmp.{nat_cmp_total}
-use Rattle.std.proofs.lemmas.Bool.Decides.{eqb_tells}
+use Rattle.gap_sets.proofs.Vocabulary.{bit_not, w128, bit_and, nat_cmp_total, eqb_tells}
 use Rattle.gap_sets.proofs.WordSets.{contains-word}
 use Rattle.gap_sets.proofs.Words.{within, not_within}
 use Rattle.gap_sets.proofs.gap_set.GapSet.holds_all.Goals as goal

@@ -1,10 +1,8 @@
-use Rattle.gap_sets.specs.Internal.Bits.{list_of, gaps_of_bits}
 use Rattle.gap_sets.proofs.Listed.{list_of-rises, list_of-gaps_in}
-use Rattle.gap_sets.specs.Internal.Bits.{has_bit}
 use Rattle.gap_sets.proofs.Ranges.{below_end}
 use Rattle.std.proofs.Common.{refl}
+use Rattle.gap_sets.proofs.Vocabulary.{list_of, gaps_of_bits, has_bit, MAX_GAPS}
 use Rattle.gap_sets.proofs.gap_set.GapSet.iter.Goals as goal
-use Rattle.gap_sets.specs.declared.gap_set.TheConstants.{MAX_GAPS}
 
 pub returns-clause-value : goal.returns-clause-value
 returns-clause-value c = list_of-gaps_in c.self.inside.bits c.args.self.now c.self.view_is c.self.invariant

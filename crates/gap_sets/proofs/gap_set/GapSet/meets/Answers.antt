@@ -1,6 +1,5 @@
 use Rattle.std.proofs.Common.{◌≢◌, ℕ, ◌∙◌, sym, arith, IsTrue, not, nat_eq}
-use Rattle.std.proofs.lemmas.Bool.Decides.{nat_tests}
-use Rattle.std.proofs.lemmas.Nat.{and_le_l}
+use Rattle.gap_sets.proofs.Vocabulary.{nat_tests, and_le_l}
 use Rattle.gap_sets.proofs.WordSets.{contains-word}
 use Rattle.gap_sets.proofs.Words.{common, no_common}
 use Rattle.gap_sets.proofs.gap_set.GapSet.meets.Goals as goal

@@ -1,9 +1,5 @@
 use Rattle.std.proofs.Common.{List, ap, ◌∙◌, subst}
-use Rattle.search_core.specs.States.{SearchState}
-use Rattle.hunt_board.specs.declared.settling.Receipt.{Receipt}
-use Rattle.hunt_board.specs.Seats.{HuntView}
-use Rattle.hunt_board.specs.Receipts.{CloseFaultIs}
-use Rattle.hunt_board.specs.Internal.Marks.{RecordFaultIs}
+use Rattle.hunt_board.proofs.Vocabulary.{SearchState, Receipt, HuntView, CloseFaultIs, RecordFaultIs}
 use Rattle.hunt_board.proofs.CloseFaults.{of_record, passed_on}
 use Rattle.hunt_board.proofs.hunt.Hunt.close.Goals as goal
 

@@ -1,9 +1,6 @@
 use Rattle.std.proofs.Common.{map, refl, sym, ◌∙◌}
+use Rattle.hunt_board.proofs.Vocabulary.{asked, problem, HuntView, word_with}
 use Rattle.once_cell.specs.Once.{cell_name}
-use Rattle.tso_program.specs.Shown.{asked}
-use Rattle.search_core.specs.Ceilings.{problem}
-use Rattle.hunt_board.specs.Seats.{HuntView}
-use Rattle.hunt_board.specs.Word.{word_with}
 use Rattle.hunt_board.proofs.Fresh.{word_by_parts}
 use Rattle.hunt_board.proofs.hunt.Hunt.new.Goals as goal
 

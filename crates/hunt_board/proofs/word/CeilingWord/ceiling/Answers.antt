@@ -1,9 +1,7 @@
 use Rattle.std.proofs.Common.{◌≤◌, ℕ, List, Option, Some, None, IfSome, subst}
-use Rattle.tso_program.specs.Shown.{Question, asked}
+use Rattle.hunt_board.proofs.Vocabulary.{Question, asked, least_ceiling, goal_of}
 use Rattle.tso_program.specs.Limits.{JumpForward}
 use Rattle.search_core.specs.Ceilings.{IsCeiling, problem}
-use Rattle.search_core.proofs.Bounds.{least_ceiling}
-use Rattle.hunt_board.specs.Word.{goal_of}
 use Rattle.hunt_board.proofs.word.CeilingWord.ceiling.Goals as goal
 
 -- what isn't below the answer's cost is a ceiling

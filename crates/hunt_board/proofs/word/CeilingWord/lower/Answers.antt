@@ -1,10 +1,7 @@
 use Rattle.std.proofs.Common.{◌≡◌, ◌≤◌, ◌∙◌, ap, sym, subst}
+use Rattle.hunt_board.proofs.Vocabulary.{IsWithinLimits, Serving, problem, goal_of}
 use Rattle.gap_sets.specs.Order.{total}
-use Rattle.tso_program.specs.Limits.{IsWithinLimits}
-use Rattle.cover_solver.specs.Facts.{Serving}
-use Rattle.search_core.specs.Ceilings.{problem}
 use Rattle.search_core.proofs.Bounds.{costs_so, least_ceiling}
-use Rattle.hunt_board.specs.Word.{goal_of}
 use Rattle.hunt_board.proofs.word.CeilingWord.lower.Goals as goal
 
 pub lower_to-requires-clause-goal : goal.lower_to-requires-clause-goal

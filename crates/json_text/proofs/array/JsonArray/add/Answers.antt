@@ -1,8 +1,5 @@
 use Rattle.std.proofs.Common.{ℕ, List, [], ◌∷◌, sym, subst}
-use Rattle.std.specs.Global.{Vec}
-use Rattle.std.proofs.lemmas.List.{map-append}
-use Rattle.json_text.specs.Internal.Lists.{bytes_of_each}
-use Rattle.json_text.specs.Values.{IsJson, AreJson}
+use Rattle.json_text.proofs.Vocabulary.{Vec, map-append, bytes_of_each, IsJson, AreJson}
 use Rattle.json_text.proofs.Values.{one_more_item}
 use Rattle.json_text.proofs.array.JsonArray.add.Goals as goal
 

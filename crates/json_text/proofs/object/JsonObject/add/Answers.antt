@@ -1,9 +1,5 @@
 use Rattle.std.proofs.Common.{◌≡◌, ◌∙◌, ℕ, List, [], ◌∷◌, ◌++◌, ap, sym, subst}
-use Rattle.std.specs.Global.{Vec}
-use Rattle.std.proofs.lemmas.List.{map-append}
-use Rattle.json_text.specs.Internal.Lists.{bytes_of_each}
-use Rattle.json_text.specs.Texts.{member}
-use Rattle.json_text.specs.Values.{AreMembers}
+use Rattle.json_text.proofs.Vocabulary.{Vec, map-append, bytes_of_each, member, AreMembers}
 use Rattle.json_text.proofs.Values.{one_more_member}
 use Rattle.json_text.proofs.object.JsonObject.add.Goals as goal
 

@@ -1,6 +1,5 @@
 use Rattle.std.proofs.Common.{ap}
-use Rattle.json_text.specs.Internal.Lists.{bytes_of_each}
-use Rattle.json_text.specs.Values.{NoField}
+use Rattle.json_text.proofs.Vocabulary.{bytes_of_each, NoField}
 use Rattle.json_text.proofs.object.JsonObject.new.Goals as goal
 
 pub invariant_of-result : goal.invariant_of-result

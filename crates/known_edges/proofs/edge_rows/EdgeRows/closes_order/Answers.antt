@@ -1,8 +1,6 @@
 use Rattle.std.proofs.Common.{[], ◌∷◌, ◌++◌, arith}
+use Rattle.known_edges.proofs.Vocabulary.{view_of, HasCycle, yes, not_by}
 use Rattle.bit_rows.proofs.Written.{connected, are_connected}
-use Rattle.known_edges.specs.Kept.{view_of}
-use Rattle.known_edges.specs.Known.{HasCycle}
-use Rattle.thread_traces.proofs.KnownParts.{yes, not_by}
 use Rattle.known_edges.proofs.Closed.{main_cycle, pair_closes}
 use Rattle.known_edges.proofs.RowsKept.{pair_main}
 use Rattle.known_edges.proofs.edge_rows.EdgeRows.closes_order.Goals as goal

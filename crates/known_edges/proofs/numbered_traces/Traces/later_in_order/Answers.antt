@@ -1,12 +1,5 @@
 use Rattle.std.proofs.Common.{◌≡◌, ◌↔◌, ◌+◌, ◌<◌, ℕ, List, get_or, length, ap, sym, subst, arith}
-use Rattle.bit_rows.specs.Rows.{IsIn}
-use Rattle.bit_rows.specs.declared.row.TheConstants.{ROW_BITS}
-use Rattle.candidate_executions.specs.declared.access.Access.{Access}
-use Rattle.candidate_executions.specs.declared.event.Event.{Event}
-use Rattle.candidate_executions.specs.declared.event.Event.TheVariants.{Access as At}
-use Rattle.thread_traces.specs.declared.thread_trace.ThreadTrace.{ThreadTrace}
-use Rattle.known_edges.specs.Rows.{NumberedTraces, InOrder, IsRowOf}
-use Rattle.thread_traces.specs.ThreadOrder.{IsLaterIn}
+use Rattle.known_edges.proofs.Vocabulary.{IsIn, ROW_BITS, Access, Event, At, ThreadTrace, NumberedTraces, InOrder, IsRowOf, IsLaterIn}
 use Rattle.known_edges.proofs.Accesses.{accesses_read}
 use Rattle.known_edges.proofs.ThreadRows.{placed, moved_up}
 use Rattle.known_edges.proofs.numbered_traces.Traces.later_in_order.Goals as goal

@@ -1,7 +1,5 @@
 use Rattle.std.proofs.Common.{◌≤◌, ℕ, List, length, sym, ap, subst, refl, arith}
-use Rattle.tso_program.specs.declared.limits.TheConstants.{MAX_INSTRUCTIONS}
-use Rattle.candidate_executions.specs.declared.event.Event.{Event}
-use Rattle.thread_traces.specs.declared.thread_trace.ThreadTrace.{ThreadTrace}
+use Rattle.known_edges.proofs.Vocabulary.{MAX_INSTRUCTIONS, Event, ThreadTrace}
 use Rattle.known_edges.specs.Rows.{accesses_at, AreAccesses, HaveLocations, AreWriteRows, EachEnds, FitRow}
 use Rattle.known_edges.proofs.Located.{are_located}
 use Rattle.known_edges.proofs.Numbered.{courses_short, fit_row}

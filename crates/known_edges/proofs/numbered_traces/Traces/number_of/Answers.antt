@@ -1,8 +1,5 @@
 use Rattle.std.proofs.Common.{◌≡◌, ◌∙◌, ◌+◌, ◌<◌, Contains, Some, length, slice_get, ap, sym, subst}
-use Rattle.std.proofs.lemmas.Option.{slice_get-get_or}
-use Rattle.candidate_executions.specs.declared.event.Event.{Event}
-use Rattle.candidate_executions.specs.declared.event.Event.TheVariants.{Initial, Access as At}
-use Rattle.known_edges.specs.Rows.{NumberedTraces}
+use Rattle.known_edges.proofs.Vocabulary.{slice_get-get_or, Event, Initial, At, NumberedTraces}
 use Rattle.known_edges.proofs.Starts.{no_initial, number_at, past_count}
 use Rattle.known_edges.proofs.numbered_traces.Traces.number_of.Goals as goal
 

@@ -1,10 +1,7 @@
 use Rattle.std.proofs.Common.{◌∙◌, ◌<◌, ◌≤◌, ℕ, List, get_or, length, refl, ap, sym, subst, arith}
 use Rattle.std.proofs.lemmas.List.{length-set}
-use Rattle.bit_rows.specs.declared.row.TheConstants.{ROW_BITS}
+use Rattle.known_edges.proofs.Vocabulary.{ROW_BITS, Event, Initial, NumberedTraces, InOrder, IsRowOf, AreRowsOf}
 use Rattle.bit_rows.proofs.Written.{zeros, zeros_are_empty}
-use Rattle.candidate_executions.specs.declared.event.Event.{Event}
-use Rattle.candidate_executions.specs.declared.event.Event.TheVariants.{Initial}
-use Rattle.known_edges.specs.Rows.{NumberedTraces, InOrder, IsRowOf, AreRowsOf}
 use Rattle.known_edges.proofs.Masks.{rows_begin, rows_more, rows_all, rows_join}
 use Rattle.known_edges.proofs.InThreadOrder.{order_never_round}
 use Rattle.known_edges.proofs.numbered_traces.Traces.order_rows.Goals as goal

@@ -1,6 +1,5 @@
 use Rattle.std.proofs.Common.{◌≡◌, length}
-use Rattle.bit_rows.specs.declared.row.TheConstants.{ROW_BITS}
-use Rattle.known_edges.specs.Rows.{InOrder}
+use Rattle.known_edges.proofs.Vocabulary.{ROW_BITS, InOrder}
 use Rattle.known_edges.proofs.Masks.{AreRowsBelow}
 use Rattle.known_edges.proofs.numbered_traces.Traces.order_rows.Given as goal
 

@@ -1,7 +1,5 @@
 use Rattle.std.proofs.Common.{length, ap, subst, arith}
-use Rattle.std.specs.List.{AllPairs}
-use Rattle.candidate_executions.specs.Events.{ComesBefore}
-use Rattle.known_edges.specs.Rows.{NumberedTraces}
+use Rattle.known_edges.proofs.Vocabulary.{AllPairs, ComesBefore, NumberedTraces}
 use Rattle.known_edges.proofs.Starts.{row_of_number, row_of_none, same_number}
 use Rattle.known_edges.proofs.numbered_traces.Traces.row_of.Goals as goal
 

@@ -1,6 +1,5 @@
 use Rattle.std.proofs.Common.{ℕ, subst}
-use Rattle.std.proofs.lemmas.List.{get_or_past}
-use Rattle.known_edges.specs.Rows.{NumberedTraces, IsRowOf, IsWriteAt}
+use Rattle.known_edges.proofs.Vocabulary.{get_or_past, NumberedTraces, IsRowOf, IsWriteAt}
 use Rattle.known_edges.proofs.numbered_traces.Traces.writes_to.Goals as goal
 
 pub returns-in-None : goal.returns-in-None

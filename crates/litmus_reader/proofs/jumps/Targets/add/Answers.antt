@@ -1,8 +1,5 @@
 use Rattle.std.proofs.Common.{◌≡◌, ℕ, false, List, sym, ap, ◌∙◌}
-use Rattle.std.specs.Prelude.{is_some, not}
-use Rattle.litmus_reader.specs.declared.label.Label.{Label}
-use Rattle.litmus_reader.specs.Labels.{label_in}
-use Rattle.litmus_reader.specs.Internal.Filling.{labels_in, with_label}
+use Rattle.litmus_reader.proofs.Vocabulary.{is_some, not, Label, label_in, labels_in, with_label}
 use Rattle.litmus_reader.proofs.Targets.{labels_insert, mapped_some}
 use Rattle.litmus_reader.proofs.jumps.Targets.add.Goals as goal
 

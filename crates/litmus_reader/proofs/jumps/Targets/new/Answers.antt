@@ -1,8 +1,5 @@
 use Rattle.std.proofs.Common.{◌≡◌, [], List, take, fold, ap, ◌∙◌, arith}
-use Rattle.std.proofs.lemmas.Grind.{common_steps}
-use Rattle.litmus_reader.specs.declared.label.Label.{Label}
-use Rattle.litmus_reader.specs.Labels.{label_in}
-use Rattle.litmus_reader.specs.Internal.Filling.{with_label}
+use Rattle.litmus_reader.proofs.Vocabulary.{common_steps, Label, label_in, with_label}
 use Rattle.litmus_reader.proofs.Targets.{finds_all}
 use Rattle.litmus_reader.proofs.jumps.Targets.new.Goals as goal
 

@@ -1,6 +1,5 @@
 use Rattle.std.proofs.Common.{ℕ, ap, ◌∙◌}
-use Rattle.std.specs.Prelude.{min, unwrap_or, Option}
-use Rattle.litmus_reader.specs.Labels.{label_in}
+use Rattle.litmus_reader.proofs.Vocabulary.{min, unwrap_or, Option, label_in}
 use Rattle.litmus_reader.proofs.NameLaws.{byte_of}
 use Rattle.litmus_reader.proofs.Targets.{mapped_or}
 use Rattle.litmus_reader.proofs.jumps.Targets.position.Goals as goal

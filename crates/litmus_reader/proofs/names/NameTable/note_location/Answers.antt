@@ -1,6 +1,5 @@
 use Rattle.std.proofs.Common.{◌≡◌, refl, sym, ◌∙◌}
-use Rattle.litmus_reader.specs.Names.{with_name}
-use Rattle.litmus_reader.specs.Internal.Filling.{texts}
+use Rattle.litmus_reader.proofs.Vocabulary.{with_name, texts}
 use Rattle.litmus_reader.proofs.NameLaws.{texts_insert, with_known}
 use Rattle.litmus_reader.proofs.names.NameTable.note_location.Goals as goal
 

@@ -1,20 +1,9 @@
 use Rattle.std.proofs.Common.{◌≡◌, ◌∙◌, ◌<◌, ◌≤◌, ◌++◌, List, [], ◌∷◌, ℕ, get_or, length, map, refl, sym, ap, subst, arith, rules}
-use Rattle.std.proofs.lemmas.List.{length-append, take_all}
-use Rattle.tso_program.specs.Shown.{asked}
-use Rattle.sketches.proofs.Lookups.{same_default}
+use Rattle.partial_covers.proofs.Vocabulary.{length-append, take_all, asked, same_default, Choice, TraceTree, fold-roll-TraceTree, fold_out-TraceTree, with_root, Traces, Read, traces, trace_node}
+use Rattle.partial_covers.proofs.Vocabulary.{trace_trees, first_choices, by_number, grows_none, Covering, CoversEach, Has, items_of}
 use Rattle.cert_forest.specs.declared.node.Node.TheVariants as node
-use Rattle.cover_judge.specs.declared.choice.Choice.{Choice}
 use Rattle.cover_judge.specs.declared.choice.Choice.TheVariants as choice
-use Rattle.branching.specs.declared.traces.TraceTree.{TraceTree}
 use Rattle.branching.specs.declared.traces.TraceTree.TheViews as views
-use Rattle.branching.specs.declared.traces.TraceTree.TheFolds.{fold-roll-TraceTree, fold_out-TraceTree}
-use Rattle.branching.specs.Combinations.{with_root}
-use Rattle.branching.specs.Traces.{Traces, Read, traces, trace_node, trace_trees, first_choices}
-use Rattle.sketch_covers.specs.KnownOutcomes.{by_number}
-use Rattle.sketch_covers.proofs.Growing.{grows_none}
-use Rattle.partial_covers.specs.declared.covering.Covering.{Covering}
-use Rattle.partial_covers.specs.Coverings.{CoversEach}
-use Rattle.partial_covers.specs.PartialCovers.{Has, items_of}
 use Rattle.partial_covers.proofs.CoveringSteps.{covers_values, each_more}
 use Rattle.partial_covers.proofs.PartialNodes.{taken_back}
 use Rattle.partial_covers.proofs.PartialRows.{none_partial}

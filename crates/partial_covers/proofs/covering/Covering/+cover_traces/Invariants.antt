@@ -1,7 +1,5 @@
 use Rattle.std.proofs.Common.{take}
-use Rattle.branching.specs.Combinations.{with_root}
-use Rattle.branching.specs.Traces.{traces, first_choices}
-use Rattle.partial_covers.specs.Coverings.{CoversEach}
+use Rattle.partial_covers.proofs.Vocabulary.{with_root, traces, first_choices, CoversEach}
 use Rattle.partial_covers.proofs.covering.Covering.+cover_traces.Given as goal
 
 -- after the node, the choices so far have their covers

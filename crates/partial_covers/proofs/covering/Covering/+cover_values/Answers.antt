@@ -1,26 +1,15 @@
 use Rattle.std.proofs.Common.{◌≡◌, ℕ, List, [], ◌∷◌, ◌++◌, ◌∙◌, get_or, length, refl, sym, ap, subst, arith}
-use Rattle.tso_program.specs.declared.shown.Shown.{Shown}
-use Rattle.tso_program.specs.Shown.{asked}
+use Rattle.partial_covers.proofs.Vocabulary.{Shown, asked, Choice, AreOfOthers, by_number, grows_none, few_choices, Covering, Covers, CoversEach, Has, items_of, ArePartsFor, length-append}
 use Rattle.cert_forest.specs.declared.node.Node.TheVariants as node
-use Rattle.cover_judge.specs.declared.choice.Choice.{Choice}
 use Rattle.cover_judge.specs.declared.choice.Choice.TheVariants as choice
 use Rattle.cover_judge.specs.Choices.{MayChooseEach}
 use Rattle.branching.specs.declared.open_choice.OpenChoice.TheVariants as left
-use Rattle.branching.specs.Plans.{AreOfOthers}
 use Rattle.branching.proofs.Rounds.{fewer_rounds}
-use Rattle.sketch_covers.specs.KnownOutcomes.{by_number}
-use Rattle.sketch_covers.proofs.Growing.{grows_none}
-use Rattle.sketch_covers.proofs.Nodes.{few_choices}
-use Rattle.partial_covers.specs.declared.covering.Covering.{Covering}
-use Rattle.partial_covers.specs.Coverings.{Covers, CoversEach}
-use Rattle.partial_covers.specs.PartialCovers.{Has, items_of}
-use Rattle.partial_covers.specs.Parts.{ArePartsFor}
 use Rattle.partial_covers.proofs.CombinedCovers.{before_next, of_others}
 use Rattle.partial_covers.proofs.CoveringSteps.{covers_next, covers_values, covers_joined, each_more}
 use Rattle.partial_covers.proofs.PartialNodes.{taken_back, on_ok, pushes_closed, nodes_same, leaf_pushed}
 use Rattle.partial_covers.proofs.PartialRows.{none_partial}
 use Rattle.partial_covers.proofs.PartsJoined.{parts_still, parts_after, not_joined}
-use Rattle.std.proofs.lemmas.List.{length-append}
 use Rattle.partial_covers.proofs.covering.Covering.+cover_values.Goals as goal
 
 pub cover_each_value-cover_values-requires : goal.cover_each_value-cover_values-requires

@@ -1,18 +1,6 @@
 use Rattle.std.proofs.Common.{◌≡◌, ◌∙◌, ◌++◌, List, map, refl, sym, ap, subst, arith}
-use Rattle.tso_program.specs.Shown.{asked}
-use Rattle.sketches.specs.Kept.{IsLawful}
-use Rattle.sketches.specs.ProgramSketches.{ProgramSketch}
-use Rattle.cert_forest.specs.declared.node.Node.{Node}
-use Rattle.branching.specs.Combinations.{AreAlike, IsBase, with_root, with_trace}
-use Rattle.branching.specs.Traces.{traces, root}
-use Rattle.sketch_covers.specs.Covers.{IsCoverAt}
-use Rattle.sketch_covers.specs.KnownOutcomes.{by_number}
-use Rattle.sketch_covers.specs.Pushing.{Pushes}
-use Rattle.sketch_covers.proofs.Growing.{grows_none}
-use Rattle.partial_covers.specs.declared.covering.Covering.{Covering}
-use Rattle.partial_covers.specs.Coverings.{Covers}
-use Rattle.partial_covers.specs.PartialCovers.{Has, items_before}
-use Rattle.partial_covers.specs.UnsourcedTraces.{Takes}
+use Rattle.partial_covers.proofs.Vocabulary.{asked, IsLawful, ProgramSketch, Node, AreAlike, IsBase, with_root, with_trace, traces, root, IsCoverAt, by_number, Pushes, grows_none, Covering, Covers}
+use Rattle.partial_covers.proofs.Vocabulary.{Has, items_before, Takes}
 use Rattle.partial_covers.proofs.CombinedCovers.{at_start}
 use Rattle.partial_covers.proofs.CombinedSketches.{lawful_merged}
 use Rattle.partial_covers.proofs.CoveringSteps.{covers_next}

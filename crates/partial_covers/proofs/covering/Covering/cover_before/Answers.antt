@@ -1,8 +1,5 @@
 use Rattle.std.proofs.Common.{subst}
-use Rattle.sketches.specs.ProgramSketches.{ProgramSketch}
-use Rattle.branching.specs.Combinations.{with_root}
-use Rattle.branching.specs.Traces.{traces}
-use Rattle.partial_covers.specs.Coverings.{Covers}
+use Rattle.partial_covers.proofs.Vocabulary.{ProgramSketch, with_root, traces, Covers}
 use Rattle.partial_covers.proofs.CombinedCovers.{at_its_start, rest_of}
 use Rattle.partial_covers.proofs.PartialNodes.{on_ok}
 use Rattle.partial_covers.proofs.covering.Covering.cover_before.Goals as goal

@@ -1,9 +1,5 @@
 use Rattle.std.proofs.Common.{Option, subst}
-use Rattle.std.specs.Option.{MatchOption}
-use Rattle.candidate_executions.specs.Sketches.{IsWhole}
-use Rattle.sketches.specs.ProgramSketches.{mode_in}
-use Rattle.branching.specs.declared.plan.Plan.{Plan}
-use Rattle.branching.specs.Plans.{IsLast}
+use Rattle.partial_covers.proofs.Vocabulary.{MatchOption, IsWhole, mode_in, Plan, IsLast}
 use Rattle.partial_covers.proofs.CombinedCovers.{before_first}
 use Rattle.partial_covers.proofs.covering.Covering.cover_first.Goals as goal
 

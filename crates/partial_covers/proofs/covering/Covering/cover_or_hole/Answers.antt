@@ -1,9 +1,6 @@
 use Rattle.std.proofs.Common.{◌≡◌, ◌∷◌, [], ◌++◌, ◌∙◌, List, map, refl, subst, arith}
-use Rattle.tso_program.specs.Shown.{asked}
-use Rattle.sketch_covers.specs.KnownOutcomes.{by_number, Grows}
+use Rattle.partial_covers.proofs.Vocabulary.{asked, by_number, Grows, Covers, Item, Has, Lacks, items_before, items_of}
 use Rattle.sketch_covers.specs.Pushing.{BeginsIfNew}
-use Rattle.partial_covers.specs.Coverings.{Covers}
-use Rattle.partial_covers.specs.PartialCovers.{Item, Has, Lacks, items_before, items_of}
 use Rattle.partial_covers.proofs.PartialNodes.{pushes_closed, pushes_hole, taken_back, on_ok, told_as}
 use Rattle.partial_covers.proofs.covering.Covering.cover_or_hole.Goals as goal
 

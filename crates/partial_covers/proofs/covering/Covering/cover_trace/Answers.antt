@@ -1,13 +1,6 @@
 use Rattle.std.proofs.Common.{refl, sym, subst}
-use Rattle.tso_program.specs.Shown.{asked}
-use Rattle.candidate_executions.specs.Sketches.{IsWhole}
-use Rattle.sketches.specs.ProgramSketches.{ProgramSketch, mode_in}
-use Rattle.cert_forest.specs.Trees.{Source, NoCover}
-use Rattle.branching.specs.Combinations.{with_trace}
-use Rattle.sketch_covers.specs.KnownOutcomes.{by_number}
-use Rattle.partial_covers.specs.Coverings.{Covers}
+use Rattle.partial_covers.proofs.Vocabulary.{asked, IsWhole, ProgramSketch, mode_in, Source, NoCover, with_trace, by_number, Covers, grows_none}
 use Rattle.partial_covers.proofs.CombinedSketches.{whole_merged, unsourced_cover}
-use Rattle.sketch_covers.proofs.Growing.{grows_none}
 use Rattle.partial_covers.proofs.PartialNodes.{pushes_closed, on_ok}
 use Rattle.partial_covers.proofs.covering.Covering.cover_trace.Goals as goal
 

@@ -1,11 +1,5 @@
 use Rattle.std.proofs.Common.{List, refl, sym, subst}
-use Rattle.tso_program.specs.Shown.{asked}
-use Rattle.tso_machine.specs.Modes.{machine_of_mode}
-use Rattle.cover_judge.specs.declared.choice.Choice.{Choice}
-use Rattle.sketch_covers.specs.declared.known_outcomes.KnownOutcomes.{KnownOutcomes}
-use Rattle.sketch_covers.specs.declared.known_outcomes.KnownOutcomes.TheVariants.{Open}
-use Rattle.sketch_covers.specs.KnownOutcomes.{Grows}
-use Rattle.partial_covers.specs.Parts.{AreRunsFor, ArePartsFor, IsMadeAt}
+use Rattle.partial_covers.proofs.Vocabulary.{asked, machine_of_mode, Choice, KnownOutcomes, Open, Grows, AreRunsFor, ArePartsFor, IsMadeAt}
 use Rattle.sketch_covers.proofs.Growing.{grows_none, grows_open}
 use Rattle.partial_covers.proofs.covering.Covering.join_part.Goals as goal
 

@@ -1,9 +1,5 @@
 use Rattle.std.proofs.Common.{[], ◌∙◌, sym, subst}
-use Rattle.tso_program.specs.Shown.{asked}
-use Rattle.sketch_covers.specs.declared.known_outcomes.KnownOutcomes.{KnownOutcomes}
-use Rattle.sketch_covers.specs.KnownOutcomes.{by_number, AreInOrder}
-use Rattle.sketch_covers.proofs.AllOutcomes.{runs_found}
-use Rattle.partial_covers.specs.PartialCovers.{items_of, PushesPartialAt}
+use Rattle.partial_covers.proofs.Vocabulary.{asked, KnownOutcomes, by_number, AreInOrder, runs_found, items_of, PushesPartialAt}
 use Rattle.partial_covers.proofs.CoveringSteps.{grows_from, tree_from}
 use Rattle.partial_covers.proofs.part.Part.cover.Goals as goal
 

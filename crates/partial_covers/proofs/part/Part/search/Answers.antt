@@ -1,8 +1,6 @@
 use Rattle.std.proofs.Common.{Option, Result, Ok, Err, IfOk, refl, sym, subst}
-use Rattle.std.specs.Prelude.{IfSome}
 use Rattle.std.specs.Result.{result_ok}
-use Rattle.partial_covers.specs.declared.part.PartCover.{PartCover}
-use Rattle.partial_covers.specs.Parts.{IsMadeIn}
+use Rattle.partial_covers.proofs.Vocabulary.{IfSome, PartCover, IsMadeIn}
 use Rattle.partial_covers.proofs.part.Part.search.Goals as goal
 
 some_of : {T E : Type 0} (r : Result T E) (P : T → Type 0) → IfOk r P → IfSome (result_ok r) P

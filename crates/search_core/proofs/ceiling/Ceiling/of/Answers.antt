@@ -1,7 +1,5 @@
 use Rattle.std.proofs.Common.{◌≡◌, ◌∙◌, ap, sym, subst}
-use Rattle.gap_sets.specs.Order.{total}
-use Rattle.tso_program.specs.Shown.{Question, asked}
-use Rattle.search_core.specs.Ceilings.{IsCeiling}
+use Rattle.search_core.proofs.Vocabulary.{total, Question, asked, IsCeiling}
 use Rattle.search_core.proofs.Bounds.{costs_so}
 use Rattle.search_core.proofs.ceiling.Ceiling.of.Goals as goal
 

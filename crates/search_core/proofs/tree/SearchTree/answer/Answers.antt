@@ -1,12 +1,8 @@
 use Rattle.std.proofs.Common.{◌≡◌, Option, Some, None, sym, ◌∙◌, subst}
-use Rattle.search_core.specs.contracts.tree.SearchTree.{the_view}
-use Rattle.search_core.specs.States.{SearchState, IsDone}
 use Rattle.std.specs.Prelude.{IfSome, IfNone}
 use Rattle.std.specs.Option.{option_copied}
 use Rattle.std.specs.Borrow.{Bor}
-use Rattle.std.proofs.lemmas.Option.{none-some}
-use Rattle.cover_solver.specs.Outcomes.{IsTheAnswer}
-use Rattle.cover_solver.specs.Facts.{Serving}
+use Rattle.search_core.proofs.Vocabulary.{the_view, SearchState, IsDone, none-some, IsTheAnswer, Serving}
 use Rattle.search_core.proofs.Answered.{best_is_answer, found_is_answer}
 use Rattle.search_core.proofs.tree.SearchTree.answer.Goals as goal
 

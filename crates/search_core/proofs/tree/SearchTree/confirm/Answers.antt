@@ -1,8 +1,5 @@
 use Rattle.std.proofs.Common.{Some, refl, subst, inl, inr}
-use Rattle.search_core.specs.contracts.tree.SearchTree.{the_view}
-use Rattle.search_core.specs.States.{SearchState}
-use Rattle.search_core.specs.Events.{Confirms, confirms}
-use Rattle.search_core.specs.Histories.{goes_on}
+use Rattle.search_core.proofs.Vocabulary.{the_view, SearchState, Confirms, confirms, goes_on}
 use Rattle.search_core.proofs.Moves.{seated, holds_nothing, held_within, confirm_event}
 use Rattle.search_core.proofs.tree.SearchTree.confirm.Goals as goal
 

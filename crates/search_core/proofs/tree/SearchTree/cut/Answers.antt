@@ -1,9 +1,5 @@
 use Rattle.std.proofs.Common.{◌≡◌, true, false, sym, ◌∙◌, subst}
-use Rattle.search_core.specs.contracts.tree.SearchTree.{the_view}
-use Rattle.search_core.specs.States.{SearchState}
-use Rattle.search_core.specs.Events.{Cuts, cuts}
-use Rattle.search_core.specs.Faults.{IsReasonOf, CutsNode}
-use Rattle.search_core.specs.Histories.{goes_on}
+use Rattle.search_core.proofs.Vocabulary.{the_view, SearchState, Cuts, cuts, IsReasonOf, CutsNode, goes_on}
 use Rattle.search_core.proofs.Moves.{seated, holds_nothing, does_hold, held_within, cut_event, why_cut}
 use Rattle.search_core.proofs.tree.SearchTree.cut.Goals as goal
 

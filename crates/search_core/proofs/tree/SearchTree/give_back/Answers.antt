@@ -1,8 +1,5 @@
 use Rattle.std.proofs.Common.{refl, subst}
-use Rattle.search_core.specs.contracts.tree.SearchTree.{the_view}
-use Rattle.search_core.specs.States.{SearchState}
-use Rattle.search_core.specs.Events.{GivesBack, gives_back}
-use Rattle.search_core.specs.Histories.{goes_on}
+use Rattle.search_core.proofs.Vocabulary.{the_view, SearchState, GivesBack, gives_back, goes_on}
 use Rattle.search_core.proofs.Moves.{seated, holds_nothing, held_within, give_event}
 use Rattle.search_core.proofs.tree.SearchTree.give_back.Goals as goal
 

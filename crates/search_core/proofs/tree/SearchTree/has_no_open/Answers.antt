@@ -1,9 +1,5 @@
 use Rattle.std.proofs.Common.{◌≡◌, ℕ, true, false, true≢false, List, Some, IsTrue, refl, sym, ap, ◌∙◌, subst}
-use Rattle.std.specs.Prelude.{◌↔◌, slice_get}
-use Rattle.gap_sets.specs.declared.region.Region.{Region}
-use Rattle.search_core.specs.declared.entry.Entry.{Entry}
-use Rattle.search_core.specs.Entries.{is_open}
-use Rattle.search_core.specs.States.{IsOpenAt}
+use Rattle.search_core.proofs.Vocabulary.{◌↔◌, slice_get, Region, Entry, is_open, IsOpenAt}
 use Rattle.search_core.proofs.tree.SearchTree.has_no_open.Goals as goal
 
 -- no entry is open, so no node is

@@ -1,8 +1,5 @@
 use Rattle.std.proofs.Common.{Option, sym, subst}
-use Rattle.search_core.specs.contracts.tree.SearchTree.{the_view}
-use Rattle.search_core.specs.States.{HoldsNothing, HoldsOnly}
-use Rattle.std.specs.Prelude.{MatchOption}
-use Rattle.gap_sets.specs.declared.region.Region.{Region}
+use Rattle.search_core.proofs.Vocabulary.{the_view, HoldsNothing, HoldsOnly, MatchOption, Region}
 use Rattle.search_core.proofs.Moves.{holds_nothing, holds_only, held_gaps}
 use Rattle.search_core.proofs.tree.SearchTree.held.Goals as goal
 

@@ -1,17 +1,7 @@
 use Rattle.std.proofs.Common.{◌≡◌, ◌∙◌, ℕ, List, [], ◌∷◌, ◌++◌, length, None, sym, ap, subst, refl}
+use Rattle.search_core.proofs.Vocabulary.{all_sets, Region, Listing, Question, asked, IsWithinLimits, gap_count, HaveCosts, Entry, Open, entry, starts}
 use Rattle.gap_sets.specs.CostLists.{IsCostList}
-use Rattle.gap_sets.specs.Regions.{all_sets}
-use Rattle.gap_sets.specs.declared.region.Region.{Region}
-use Rattle.tso_program.specs.declared.listing.Listing.{Listing}
-use Rattle.tso_program.specs.Shown.{Question, asked}
-use Rattle.tso_program.specs.Limits.{IsWithinLimits}
-use Rattle.tso_program.specs.Listings.{gap_count}
-use Rattle.cover_solver.specs.GapTrees.{HaveCosts}
-use Rattle.search_core.specs.declared.entry.Entry.{Entry}
-use Rattle.search_core.specs.declared.entry.Status.TheVariants.{Open}
-use Rattle.search_core.specs.Entries.{entry}
 use Rattle.search_core.specs.States.{IsStart, IsSeatCount}
-use Rattle.search_core.specs.Histories.{starts}
 use Rattle.search_core.proofs.tree.SearchTree.new.Goals as goal
 
 have : (p : Listing) (costs : List ℕ) → length costs ≡ gap_count p.threads → IsCostList costs → HaveCosts p costs

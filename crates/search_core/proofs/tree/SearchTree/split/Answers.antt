@@ -1,18 +1,7 @@
 use Rattle.std.proofs.Common.{◌≡◌, ℕ, ◌<◌, ◌↔◌, IsTrue, Bool, true, false, List, ◌++◌, sym, ap, ◌∙◌, subst, arith, length, length-append}
-use Rattle.search_core.specs.declared.entry.Entry.{Entry}
-use Rattle.search_core.specs.contracts.tree.SearchTree.{the_view}
-use Rattle.search_core.specs.States.{SearchState}
-use Rattle.std.specs.Prelude.{slice_set}
 use Rattle.std.specs.FinSet as set
-use Rattle.gap_sets.specs.Gaps.{SetOfGaps}
-use Rattle.gap_sets.specs.declared.region.Region.{Region}
-use Rattle.cover_solver.specs.Facts.{Foreign}
-use Rattle.search_core.specs.declared.entry.Status.TheVariants.{Split}
-use Rattle.search_core.specs.Children.{children}
-use Rattle.search_core.specs.Entries.{entry}
-use Rattle.search_core.specs.Events.{open_entries, Splits, splits}
+use Rattle.search_core.proofs.Vocabulary.{Entry, the_view, SearchState, slice_set, SetOfGaps, Region, Foreign, Split, children, entry, open_entries, Splits, splits, goes_on}
 use Rattle.search_core.specs.Faults.{DoMeet}
-use Rattle.search_core.specs.Histories.{goes_on}
 use Rattle.search_core.proofs.Moves.{seated, holds_nothing, does_hold, held_within, split_event, set_front}
 use Rattle.search_core.proofs.tree.SearchTree.split.Goals as goal
 

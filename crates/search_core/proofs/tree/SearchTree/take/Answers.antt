@@ -1,11 +1,6 @@
 use Rattle.std.proofs.Common.{◌≡◌, ℕ, true, false, Option, Some, None, sym, ◌∙◌, subst}
-use Rattle.search_core.specs.contracts.tree.SearchTree.{the_view}
-use Rattle.search_core.specs.States.{SearchState, HoldsNode, HoldsNothing, HoldsOnly}
-use Rattle.std.specs.Prelude.{MatchOption}
 use Rattle.std.specs.Option.{is_some}
-use Rattle.gap_sets.specs.declared.region.Region.{Region}
-use Rattle.search_core.specs.Events.{TakesNode, takes}
-use Rattle.search_core.specs.Histories.{IsReached, goes_on}
+use Rattle.search_core.proofs.Vocabulary.{the_view, SearchState, HoldsNode, HoldsNothing, HoldsOnly, MatchOption, Region, TakesNode, takes, IsReached, goes_on}
 use Rattle.search_core.proofs.OneNode.{taken_only}
 use Rattle.search_core.proofs.Moves.{seated, open_within, open_gaps, no_open, take_event}
 use Rattle.search_core.proofs.tree.SearchTree.take.Goals as goal

@@ -1,12 +1,6 @@
 use Rattle.std.proofs.Common.{IfSome, sym, subst}
 use Rattle.std.specs.Option.{IsSomeAnd}
-use Rattle.tso_program.specs.Shown.{asked}
-use Rattle.tso_machine.specs.Modes.{machine_of_mode}
-use Rattle.tso_machine.specs.Outcomes.{IsShownRun}
-use Rattle.sketch_covers.specs.declared.known_outcomes.KnownOutcomes.{KnownOutcomes}
-use Rattle.sketch_covers.specs.declared.known_outcomes.KnownOutcomes.TheVariants.{Open}
-use Rattle.sketch_covers.specs.KnownOutcomes.{Grows}
-use Rattle.sketch_covers.specs.ShownRuns.{IsShownRunOf}
+use Rattle.sketch_covers.proofs.Vocabulary.{asked, machine_of_mode, IsShownRun, KnownOutcomes, Open, Grows, IsShownRunOf}
 use Rattle.sketch_covers.proofs.Growing.{grows_none, grows_open}
 use Rattle.sketch_covers.proofs.OwnEnds.{numbered_is_listed}
 use Rattle.sketch_covers.proofs.known_outcomes.KnownOutcomes.add.Goals as goal

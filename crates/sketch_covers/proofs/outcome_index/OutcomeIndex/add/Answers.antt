@@ -1,10 +1,5 @@
 use Rattle.std.proofs.Common.{◌≡◌, List, [], ◌∷◌, ◌++◌, Some, slice_get, length, sym, ap, ◌∙◌, subst, arith}
-use Rattle.std.specs.List.{insert}
-use Rattle.tso_program.specs.declared.outcome.Outcome.{Outcome}
-use Rattle.tso_machine.specs.declared.label.Label.{Label}
-use Rattle.tso_machine.specs.Outcomes.{IsShownRun}
-use Rattle.sketch_covers.specs.OutcomeNumbers.{HasNumber, KeepsNumbers, AreRunsOf}
-use Rattle.sketch_covers.specs.Ascending.{BelongsAt}
+use Rattle.sketch_covers.proofs.Vocabulary.{insert, Outcome, Label, IsShownRun, HasNumber, KeepsNumbers, AreRunsOf, BelongsAt}
 use Rattle.sketch_covers.proofs.Inserted.{zip_insert}
 use Rattle.sketch_covers.proofs.Numbered.{keeps_push, number_push, number_within, number_is, place_within, in_order_added}
 use Rattle.sketch_covers.proofs.outcome_index.OutcomeIndex.add.Goals as goal

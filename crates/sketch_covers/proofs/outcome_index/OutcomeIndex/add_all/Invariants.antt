@@ -1,9 +1,5 @@
 use Rattle.std.proofs.Common.{◌≡◌, ℕ, ◌<◌, get_or, length}
-use Rattle.std.specs.Prelude.{◌^◌}
-use Rattle.tso_program.specs.declared.outcome.Outcome.{Outcome}
-use Rattle.tso_program.specs.Shown.{Question}
-use Rattle.tso_machine.specs.Machine.{Machine}
-use Rattle.sketch_covers.specs.OutcomeNumbers.{HasNumber, IsInOrder, KeepsNumbers, AreRunsOf, place_in}
+use Rattle.sketch_covers.proofs.Vocabulary.{◌^◌, Outcome, Question, Machine, HasNumber, IsInOrder, KeepsNumbers, AreRunsOf, place_in}
 use Rattle.sketch_covers.proofs.outcome_index.OutcomeIndex.add_all.Given as goal
 
 -- the list has grown, and each outcome of the other so far has its number in it

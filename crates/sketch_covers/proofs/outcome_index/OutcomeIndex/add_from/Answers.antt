@@ -1,9 +1,5 @@
 use Rattle.std.proofs.Common.{◌≡◌, List, Some, slice_get, sym, subst, arith}
-use Rattle.std.proofs.lemmas.Option.{slice_get_within}
-use Rattle.tso_program.specs.declared.outcome.Outcome.{Outcome}
-use Rattle.tso_machine.specs.declared.label.Label.{Label}
-use Rattle.tso_machine.specs.Outcomes.{IsShownRun}
-use Rattle.sketch_covers.specs.Ascending.{BelongsAt}
+use Rattle.sketch_covers.proofs.Vocabulary.{slice_get_within, Outcome, Label, IsShownRun, BelongsAt}
 use Rattle.sketch_covers.proofs.Inserted.{not_there}
 use Rattle.sketch_covers.proofs.RunAt.{run_at}
 use Rattle.sketch_covers.proofs.outcome_index.OutcomeIndex.add_from.Goals as goal

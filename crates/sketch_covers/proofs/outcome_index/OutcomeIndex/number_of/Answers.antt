@@ -1,6 +1,5 @@
 use Rattle.std.proofs.Common.{◌≡◌, List, Some, slice_get, subst, arith}
-use Rattle.tso_program.specs.declared.outcome.Outcome.{Outcome}
-use Rattle.sketch_covers.specs.Ascending.{BelongsAt}
+use Rattle.sketch_covers.proofs.Vocabulary.{Outcome, BelongsAt}
 use Rattle.sketch_covers.proofs.Numbered.{number_within, number_is, not_listed}
 use Rattle.sketch_covers.proofs.outcome_index.OutcomeIndex.number_of.Goals as goal
 

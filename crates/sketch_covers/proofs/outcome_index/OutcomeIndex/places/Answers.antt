@@ -1,7 +1,6 @@
 use Rattle.std.proofs.Common.{◌≡◌, ℕ, ◌+◌, ◌<◌, ◌≤◌, List, Some, slice_get, get_or, length, refl, sym, ap, ◌∙◌, subst, arith}
 use Rattle.std.proofs.lemmas.Option.{slice_get_read, slice_get_within}
-use Rattle.tso_program.specs.declared.outcome.Outcome.{Outcome}
-use Rattle.sketch_covers.specs.Ascending.{BelongsAt}
+use Rattle.sketch_covers.proofs.Vocabulary.{Outcome, BelongsAt}
 use Rattle.sketch_covers.proofs.Numbered.{push_long, not_listed, places_more}
 use Rattle.sketch_covers.proofs.Numbered.{small_places, small_push}
 use Rattle.sketch_covers.proofs.outcome_index.OutcomeIndex.places.Goals as goal

@@ -1,7 +1,5 @@
 use Rattle.std.proofs.Common.{◌≡◌, ℕ, ◌<◌, get_or, length}
-use Rattle.std.specs.Prelude.{◌^◌}
-use Rattle.tso_program.specs.declared.outcome.Outcome.{Outcome}
-use Rattle.sketch_covers.specs.OutcomeNumbers.{HasNumber, place_in}
+use Rattle.sketch_covers.proofs.Vocabulary.{◌^◌, Outcome, HasNumber, place_in}
 use Rattle.sketch_covers.proofs.outcome_index.OutcomeIndex.places.Given as goal
 
 -- each outcome so far has its place

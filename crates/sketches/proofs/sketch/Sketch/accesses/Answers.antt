@@ -1,8 +1,5 @@
-use Rattle.std.specs.Arc.{arc_value}
 use Rattle.std.proofs.Common.{◌≡◌, ◌∙◌, Some, None, slice_get, sym, ap, length, arith}
-use Rattle.known_edges.specs.Rows.{NumberedTraces}
-use Rattle.known_edges.specs.ProgramSketches.{trace_in}
-use Rattle.known_edges.proofs.TracesKept.{trace_accesses, no_accesses}
+use Rattle.sketches.proofs.Vocabulary.{arc_value, NumberedTraces, trace_in, trace_accesses, no_accesses}
 use Rattle.sketches.proofs.sketch.Sketch.accesses.Goals as goal
 
 pub overflow_cast-result : goal.overflow_cast-result

@@ -1,6 +1,5 @@
 use Rattle.std.proofs.Common.{ℕ, ◌<◌}
-use Rattle.std.specs.Prelude.{slice_index}
-use Rattle.sketches.specs.Endings.{EndsSo}
+use Rattle.sketches.proofs.Vocabulary.{slice_index, EndsSo}
 use Rattle.sketches.proofs.sketch.Sketch.are_ends.Given as goal
 
 -- the locations so far end so

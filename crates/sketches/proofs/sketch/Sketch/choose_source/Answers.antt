@@ -1,11 +1,5 @@
 use Rattle.std.proofs.Common.{List, [], ◌∷◌, ◌++◌, sym, subst}
-use Rattle.std.specs.Arc.{arc_value}
-use Rattle.tso_program.specs.declared.listing.Listing.{Listing}
-use Rattle.candidate_executions.specs.declared.event.Event.{Event}
-use Rattle.known_edges.specs.ProgramSketches.{ProgramSketch}
-use Rattle.known_edges.specs.Kept.{view_of}
-use Rattle.known_edges.specs.Choices.{MayRead}
-use Rattle.known_edges.specs.Rows.{NumberedTraces, IsRepresented}
+use Rattle.sketches.proofs.Vocabulary.{arc_value, Listing, Event, ProgramSketch, view_of, MayRead, NumberedTraces, IsRepresented}
 use Rattle.sketches.proofs.sketch.Sketch.choose_source.Goals as goal
 
 pub invariant_of-self-in-None : goal.invariant_of-self-in-None

@@ -1,13 +1,6 @@
 use Rattle.std.proofs.Common.{IsTrue, ◌↔◌, List, [], ◌∷◌, ◌++◌, sym, subst}
-use Rattle.std.specs.Arc.{arc_value}
-use Rattle.tso_program.specs.declared.listing.Listing.{Listing}
-use Rattle.candidate_executions.specs.declared.event.Event.{Event}
+use Rattle.sketches.proofs.Vocabulary.{arc_value, Listing, Event, ProgramSketch, with_chosen, view_of, MayFollow, NumberedTraces, IsRepresented, HasCycle}
 use Rattle.candidate_executions.specs.Sketches.{with_pair}
-use Rattle.known_edges.specs.ProgramSketches.{ProgramSketch, with_chosen}
-use Rattle.known_edges.specs.Kept.{view_of}
-use Rattle.known_edges.specs.Choices.{MayFollow}
-use Rattle.known_edges.specs.Rows.{NumberedTraces, IsRepresented}
-use Rattle.known_edges.specs.Known.{HasCycle}
 use Rattle.sketches.proofs.sketch.Sketch.closes_order.Goals as goal
 
 pub returns : goal.returns

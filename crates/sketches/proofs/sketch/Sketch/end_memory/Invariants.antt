@@ -1,6 +1,5 @@
 use Rattle.std.proofs.Common.{◌≡◌, ℕ, ◌<◌, length}
-use Rattle.std.specs.Prelude.{slice_index}
-use Rattle.sketches.specs.Endings.{EndsSo}
+use Rattle.sketches.proofs.Vocabulary.{slice_index, EndsSo}
 use Rattle.sketches.proofs.sketch.Sketch.end_memory.Given as goal
 
 -- the ends of the locations so far

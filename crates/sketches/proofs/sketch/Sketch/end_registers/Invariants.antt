@@ -1,6 +1,5 @@
 use Rattle.std.proofs.Common.{◌≡◌, ℕ, ◌<◌, [], get_or, length}
-use Rattle.tso_program.specs.Shown.{shown_registers}
-use Rattle.known_edges.specs.ProgramSketches.{trace_in}
+use Rattle.sketches.proofs.Vocabulary.{shown_registers, trace_in}
 use Rattle.sketches.proofs.sketch.Sketch.end_registers.Given as goal
 
 -- what is shown of the registers of the threads so far

@@ -1,7 +1,5 @@
 use Rattle.std.proofs.Common.{◌≡◌, ℕ}
-use Rattle.std.specs.Prelude.{◌==◌}
-use Rattle.known_edges.specs.Writes.{IsLastWith}
-use Rattle.thread_traces.proofs.KnownParts.{no}
+use Rattle.sketches.proofs.Vocabulary.{◌==◌, IsLastWith, no}
 use Rattle.sketches.proofs.sketch.Sketch.ends_so.Goals as goal
 
 pub returns-in-None : goal.returns-in-None

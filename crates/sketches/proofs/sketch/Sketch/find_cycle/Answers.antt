@@ -1,7 +1,5 @@
 use Rattle.std.proofs.Common.{subst}
-use Rattle.std.proofs.lemmas.Result.{IfOk-weaker}
-use Rattle.known_edges.specs.ProgramSketches.{ProgramSketch}
-use Rattle.known_edges.specs.Kept.{IsLawful}
+use Rattle.sketches.proofs.Vocabulary.{IfOk-weaker, ProgramSketch, IsLawful}
 use Rattle.sketches.proofs.Found.{some_few}
 use Rattle.sketches.proofs.sketch.Sketch.find_cycle.Goals as goal
 

@@ -1,12 +1,6 @@
 use Rattle.std.proofs.Common.{◌∙◌, List, ap, sym, subst}
-use Rattle.std.specs.Arc.{arc_value}
-use Rattle.candidate_executions.specs.declared.event.Event.{Event}
-use Rattle.candidate_executions.specs.Sketches.{KnownEdgeOfMode}
-use Rattle.known_edges.specs.Rows.{NumberedTraces}
-use Rattle.known_edges.specs.ProgramSketches.{mode_in}
-use Rattle.known_edges.specs.Known.{HasCycle}
+use Rattle.sketches.proofs.Vocabulary.{arc_value, Event, KnownEdgeOfMode, NumberedTraces, mode_in, HasCycle, not_by}
 use Rattle.known_edges.specs.Rounds.{HaveEvents, IsRound}
-use Rattle.thread_traces.proofs.KnownParts.{not_by}
 use Rattle.known_edges.proofs.Lookups.{on_err_by}
 use Rattle.known_edges.proofs.Rounds.{cycle_up, have_events, round_cycle, known_rows, no_round_no_cycle}
 use Rattle.sketches.proofs.sketch.Sketch.find_cycle_of.Goals as goal

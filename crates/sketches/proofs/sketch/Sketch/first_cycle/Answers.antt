@@ -1,7 +1,5 @@
 use Rattle.std.proofs.Common.{◌∙◌, sym, ap}
-use Rattle.std.proofs.lemmas.Option.{MatchOption-at_none}
-use Rattle.std.proofs.lemmas.Result.{IfOk-weaker}
-use Rattle.known_edges.specs.ProgramSketches.{ProgramSketch}
+use Rattle.sketches.proofs.Vocabulary.{MatchOption-at_none, IfOk-weaker, ProgramSketch}
 use Rattle.known_edges.proofs.Lookups.{none_by}
 use Rattle.known_edges.proofs.Found.{none_sequential, none_fenced}
 use Rattle.sketches.proofs.sketch.Sketch.first_cycle.Goals as goal

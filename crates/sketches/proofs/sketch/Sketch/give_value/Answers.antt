@@ -1,15 +1,7 @@
 use Rattle.std.proofs.Common.{◌≡◌, ◌∙◌, ap, sym, subst, length, List, Some, IsSome, get_or, set, refl, ℕ, inr}
-use Rattle.std.specs.Arc.{arc_value}
-use Rattle.std.proofs.lemmas.Option.{slice_get_read}
+use Rattle.sketches.proofs.Vocabulary.{arc_value, slice_get_read, IsValueOf, ThreadTrace, machine_of_mode, ProgramSketch, mode_in, with_chosen, view_of, KeepsTraces, IsThreadTraceOf, NumberedTraces}
+use Rattle.sketches.proofs.Vocabulary.{IsRepresented, reads_there}
 use Rattle.candidate_executions.specs.Sketches as sketches
-use Rattle.candidate_executions.specs.Values.{IsValueOf}
-use Rattle.thread_traces.specs.declared.thread_trace.ThreadTrace.{ThreadTrace}
-use Rattle.tso_machine.specs.Modes.{machine_of_mode}
-use Rattle.known_edges.specs.ProgramSketches.{ProgramSketch, mode_in, with_chosen}
-use Rattle.known_edges.specs.Kept.{view_of, KeepsTraces}
-use Rattle.thread_traces.specs.ThreadTraces.{IsThreadTraceOf}
-use Rattle.known_edges.specs.Rows.{NumberedTraces, IsRepresented}
-use Rattle.known_edges.proofs.TracesKept.{reads_there}
 use Rattle.known_edges.proofs.Lawful.{more_kept, more_parts, unchosen}
 use Rattle.known_edges.proofs.RowsKept.{begun, later_empty}
 use Rattle.sketches.proofs.sketch.Sketch.give_value.Goals as goal

@@ -1,12 +1,6 @@
 use Rattle.std.proofs.Common.{◌≡◌, List, ℕ, Some, slice_get, ap, sym, subst}
-use Rattle.std.specs.Arc.{arc_value}
+use Rattle.sketches.proofs.Vocabulary.{arc_value, Event, Kind, IsOfMode, KnownEdgeOfMode, ProgramSketch, mode_in, view_of}
 use Rattle.bit_rows.specs.Rows.{RowHas}
-use Rattle.candidate_executions.specs.declared.event.Event.{Event}
-use Rattle.candidate_executions.specs.declared.event.Kind.{Kind}
-use Rattle.candidate_executions.specs.Consistency.{IsOfMode}
-use Rattle.candidate_executions.specs.Sketches.{KnownEdgeOfMode}
-use Rattle.known_edges.specs.ProgramSketches.{ProgramSketch, mode_in}
-use Rattle.known_edges.specs.Kept.{view_of}
 use Rattle.known_edges.specs.Rows.{NumberedTraces, union_rows}
 use Rattle.known_edges.proofs.Numbered.{at_numbers, rows_of_kind}
 use Rattle.sketches.proofs.sketch.Sketch.has_edge.Goals as goal

@@ -1,11 +1,5 @@
 use Rattle.std.proofs.Common.{◌≡◌, ◌↔◌, IsTrue, List, Contains, Some, slice_get, ap, sym, subst}
-use Rattle.std.specs.Arc.{arc_value}
-use Rattle.candidate_executions.specs.declared.event.Event.{Event}
-use Rattle.known_edges.specs.Rows.{NumberedTraces}
-use Rattle.known_edges.specs.ProgramSketches.{ProgramSketch}
-use Rattle.known_edges.specs.Writes.{HasLater}
-use Rattle.thread_traces.proofs.KnownParts.{no}
-use Rattle.known_edges.proofs.Numbered.{chosen_numbers, contained, later_test}
+use Rattle.sketches.proofs.Vocabulary.{arc_value, Event, NumberedTraces, ProgramSketch, HasLater, no, chosen_numbers, contained, later_test}
 use Rattle.sketches.proofs.sketch.Sketch.has_later.Goals as goal
 
 pub returns-in-Some : goal.returns-in-Some

@@ -1,7 +1,5 @@
 use Rattle.std.proofs.Common.{◌≡◌, ◌∙◌, ap, length, sym, arith}
-use Rattle.tso_program.specs.Shown.{shown_registers, show_registers}
-use Rattle.sketches.specs.Endings.{final_registers}
-use Rattle.thread_traces.proofs.KnownParts.{yes, no, not_by}
+use Rattle.sketches.proofs.Vocabulary.{shown_registers, show_registers, final_registers, yes, no, not_by}
 use Rattle.sketches.proofs.Ends.{registers_shown, registers_at, registers_long}
 use Rattle.sketches.proofs.sketch.Sketch.has_registers.Goals as goal
 

@@ -1,6 +1,5 @@
 use Rattle.std.proofs.Common.{◌≡◌, ℕ, ◌<◌, [], get_or}
-use Rattle.tso_program.specs.Shown.{shown_registers}
-use Rattle.known_edges.specs.ProgramSketches.{trace_in}
+use Rattle.sketches.proofs.Vocabulary.{shown_registers, trace_in}
 use Rattle.sketches.proofs.sketch.Sketch.has_registers.Given as goal
 
 -- the registers of the threads so far are shown of those where they stop

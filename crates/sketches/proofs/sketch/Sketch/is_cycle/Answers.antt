@@ -1,8 +1,6 @@
 use Rattle.std.proofs.Common.{subst}
-use Rattle.known_edges.specs.ProgramSketches.{ProgramSketch}
-use Rattle.known_edges.specs.Kept.{IsLawful}
+use Rattle.sketches.proofs.Vocabulary.{ProgramSketch, IsLawful, cycle_of_accesses}
 use Rattle.sketches.proofs.Cycles.{cycle_refutes}
-use Rattle.known_edges.proofs.Found.{cycle_of_accesses}
 use Rattle.sketches.proofs.sketch.Sketch.is_cycle.Goals as goal
 
 pub returns-clause-accesses : goal.returns-clause-accesses

@@ -1,6 +1,5 @@
 use Rattle.std.proofs.Common.{subst}
-use Rattle.known_edges.specs.ProgramSketches.{ProgramSketch}
-use Rattle.known_edges.specs.Kept.{IsLawful}
+use Rattle.sketches.proofs.Vocabulary.{ProgramSketch, IsLawful}
 use Rattle.sketches.proofs.Cycles.{edge_of_each}
 use Rattle.sketches.proofs.sketch.Sketch.is_edge.Goals as goal
 

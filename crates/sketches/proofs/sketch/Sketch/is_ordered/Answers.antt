@@ -1,11 +1,6 @@
 use Rattle.std.proofs.Common.{◌≡◌, List, Contains, Some, slice_get, ap, sym, subst, inl, inr}
-use Rattle.std.specs.Arc.{arc_value}
-use Rattle.std.proofs.lemmas.Option.{MatchOption-at_none}
-use Rattle.candidate_executions.specs.declared.event.Event.{Event}
-use Rattle.known_edges.specs.Rows.{NumberedTraces}
-use Rattle.known_edges.specs.ProgramSketches.{ProgramSketch}
+use Rattle.sketches.proofs.Vocabulary.{arc_value, MatchOption-at_none, Event, NumberedTraces, ProgramSketch, no}
 use Rattle.known_edges.specs.Choices.{IsOrdered}
-use Rattle.thread_traces.proofs.KnownParts.{no}
 use Rattle.known_edges.proofs.Numbered.{at_numbers, ordered_numbers, contained}
 use Rattle.sketches.proofs.sketch.Sketch.is_ordered.Goals as goal
 

@@ -1,10 +1,7 @@
 use Rattle.std.proofs.Common.{◌≡◌, ◌↔◌, ◌∙◌, ℕ, Bool, false, Option, Some, None, IsSome, refl, IsTrue, slice_get, ap, sym, subst}
 use Rattle.std.specs.Prelude.{is_some}
-use Rattle.std.specs.Arc.{arc_value}
+use Rattle.sketches.proofs.Vocabulary.{arc_value, ProgramSketch, mode_in, NumberedTraces, trace_next, past_next, no_trace}
 use Rattle.candidate_executions.specs.Sketches as sketches
-use Rattle.known_edges.specs.ProgramSketches.{ProgramSketch, mode_in}
-use Rattle.known_edges.specs.Rows.{NumberedTraces}
-use Rattle.known_edges.proofs.TracesKept.{trace_next, past_next, no_trace}
 use Rattle.sketches.proofs.sketch.Sketch.is_reading.Goals as goal
 
 tested : (o next : Option ℕ) (b : Bool) → b ≡ is_some o → o ≡ next → IsTrue b ↔ IsSome next

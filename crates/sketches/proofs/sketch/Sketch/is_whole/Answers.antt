@@ -1,8 +1,6 @@
 use Rattle.std.proofs.Common.{sym, subst}
-use Rattle.std.specs.Arc.{arc_value}
+use Rattle.sketches.proofs.Vocabulary.{arc_value, ProgramSketch, mode_in, NumberedTraces, EachEnds}
 use Rattle.candidate_executions.specs.Sketches as sketches
-use Rattle.known_edges.specs.ProgramSketches.{ProgramSketch, mode_in}
-use Rattle.known_edges.specs.Rows.{NumberedTraces, EachEnds}
 use Rattle.known_edges.proofs.Numbered.{whole_ends, ends_whole}
 use Rattle.sketches.proofs.sketch.Sketch.is_whole.Goals as goal
 

@@ -1,9 +1,5 @@
 use Rattle.std.proofs.Common.{◌↔◌, IsTrue, sym, subst}
-use Rattle.std.specs.Arc.{arc_value}
-use Rattle.candidate_executions.specs.Sketches.{IsWhole}
-use Rattle.known_edges.specs.ProgramSketches.{ProgramSketch, mode_in}
-use Rattle.known_edges.specs.Writes.{IsWritten}
-use Rattle.known_edges.specs.Rows.{NumberedTraces, IsRowOf, IsWriteAt}
+use Rattle.sketches.proofs.Vocabulary.{arc_value, IsWhole, ProgramSketch, mode_in, IsWritten, NumberedTraces, IsRowOf, IsWriteAt}
 use Rattle.known_edges.proofs.Numbered.{written_test}
 use Rattle.sketches.proofs.sketch.Sketch.is_written.Goals as goal
 

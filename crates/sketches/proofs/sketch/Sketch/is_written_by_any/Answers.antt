@@ -1,7 +1,5 @@
 use Rattle.std.proofs.Common.{ap, length, arith}
-use Rattle.known_edges.specs.Writes.{IsWritten, IsWrittenBy}
-use Rattle.known_edges.proofs.Lookups.{each_index}
-use Rattle.thread_traces.proofs.KnownParts.{no, not_by}
+use Rattle.sketches.proofs.Vocabulary.{IsWritten, IsWrittenBy, each_index, no, not_by}
 use Rattle.sketches.proofs.Ends.{thread_within}
 use Rattle.sketches.proofs.sketch.Sketch.is_written_by_any.Goals as goal
 

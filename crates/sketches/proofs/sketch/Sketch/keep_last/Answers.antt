@@ -1,6 +1,5 @@
 use Rattle.std.proofs.Common.{◌≡◌, ◌∙◌, ℕ, true, false, ◌++◌, ◌∷◌, [], None, Some, Contains, ap, sym, subst}
-use Rattle.std.specs.Prelude.{IfSome, slice_index_or, slice_set}
-use Rattle.sketches.specs.Endings.{AreLastValues}
+use Rattle.sketches.proofs.Vocabulary.{IfSome, slice_index_or, slice_set, AreLastValues}
 use Rattle.sketches.proofs.LastValues.{values_same, values_more, values_differ}
 use Rattle.sketches.proofs.sketch.Sketch.keep_last.Goals as goal
 

@@ -1,7 +1,5 @@
 use Rattle.std.proofs.Common.{◌≡◌, List, drop}
-use Rattle.tso_program.specs.declared.atom.Atom.{Atom}
-use Rattle.tso_program.specs.Tree.{Tree}
-use Rattle.tso_program.specs.Nodes.{Half, build, formula_tree}
+use Rattle.sketches.proofs.Vocabulary.{Atom, Tree, Half, build, formula_tree}
 use Rattle.sketches.specs.Internal.KnownWalk.{KnowsAll}
 use Rattle.sketches.proofs.sketch.Sketch.knows.Given as goal
 

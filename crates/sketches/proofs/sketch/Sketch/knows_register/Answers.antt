@@ -1,8 +1,7 @@
 use Rattle.std.proofs.Common.{◌≡◌, ◌∙◌, sym, subst, true, false}
+use Rattle.sketches.proofs.Vocabulary.{Knowledge, Knows}
 use Rattle.tso_program.specs.declared.atom.Atom.TheVariants as atom
 use Rattle.tso_program.specs.Tree as tree
-use Rattle.known_edges.specs.declared.known_truth.Knowledge.{Knowledge}
-use Rattle.sketches.specs.Knowledge.{Knows}
 use Rattle.sketches.proofs.Known.{knows_reading, knows_stopped}
 use Rattle.sketches.proofs.sketch.Sketch.knows_register.Goals as goal
 

@@ -1,10 +1,6 @@
-use Rattle.known_edges.specs.Rows.{NumberedTraces}
-use Rattle.thread_traces.specs.declared.thread_trace.ThreadTrace.{ThreadTrace}
-use Rattle.std.specs.Arc.{arc_value}
 use Rattle.std.proofs.Common.{◌≡◌, ◌<◌, ◌∙◌, List, get_or, ap, sym, subst, refl, length, arith}
-use Rattle.std.proofs.lemmas.Option.{slice_get_read}
+use Rattle.sketches.proofs.Vocabulary.{NumberedTraces, ThreadTrace, arc_value, slice_get_read, ProgramSketch, trace_in}
 use Rattle.tso_program.specs.declared.action.Local.{Local}
-use Rattle.known_edges.specs.ProgramSketches.{ProgramSketch, trace_in}
 use Rattle.known_edges.proofs.TracesKept.{trace_last}
 use Rattle.sketches.proofs.sketch.Sketch.last_registers.Goals as goal
 

@@ -1,17 +1,7 @@
 use Rattle.std.proofs.Common.{◌≡◌, ◌↔◌, ◌∙◌, true, false, IsTrue, List, Contains, Some, get_or, slice_get, take, ap, sym, subst}
-use Rattle.std.specs.Arc.{arc_value}
-use Rattle.std.proofs.lemmas.List.{take_more, take_all}
-use Rattle.std.proofs.lemmas.Option.{slice_get-get_or}
-use Rattle.candidate_executions.specs.declared.event.Event.{Event}
-use Rattle.candidate_executions.specs.declared.event.Event.TheVariants.{Initial}
-use Rattle.candidate_executions.specs.Candidates.{IsAccess}
-use Rattle.candidate_executions.specs.Sketches.{IsWhole, given_to}
-use Rattle.tso_machine.specs.Modes.{machine_of_mode}
+use Rattle.sketches.proofs.Vocabulary.{arc_value, take_more, take_all, slice_get-get_or, Event, Initial, IsAccess, IsWhole, given_to, machine_of_mode, ProgramSketch, mode_in, view_of, IsOwn}
+use Rattle.sketches.proofs.Vocabulary.{AreLastValues, IsLastWith, HasLater}
 use Rattle.known_edges.specs.Rows.{NumberedTraces, HasWrites}
-use Rattle.known_edges.specs.ProgramSketches.{ProgramSketch, mode_in}
-use Rattle.known_edges.specs.Kept.{view_of}
-use Rattle.sketches.specs.Endings.{IsOwn, AreLastValues}
-use Rattle.known_edges.specs.Writes.{IsLastWith, HasLater}
 use Rattle.known_edges.proofs.Numbered.{contained, later_test, never_last, number_exact, number_own}
 use Rattle.sketches.proofs.LastValues.{values_all}
 use Rattle.sketches.proofs.sketch.Sketch.last_values.Goals as goal

@@ -1,9 +1,6 @@
-use Rattle.candidate_executions.specs.declared.event.Event.TheVariants.{Initial}
-use Rattle.candidate_executions.specs.Sketches.{KnownEdgeOfMode}
-use Rattle.thread_traces.proofs.KnownParts.{no, not_by}
+use Rattle.sketches.proofs.Vocabulary.{Initial, KnownEdgeOfMode, no, not_by, mode_in}
 use Rattle.known_edges.proofs.Cycles.{next_leads, last_leads}
 use Rattle.sketches.proofs.sketch.Sketch.leads.Goals as goal
-use Rattle.known_edges.specs.ProgramSketches.{mode_in}
 
 pub loop-event-init : goal.loop-event-init
 loop-event-init c = (λ h. h, λ h. h)

@@ -1,8 +1,7 @@
 use Rattle.std.proofs.Common.{◌↔◌, drop}
+use Rattle.sketches.proofs.Vocabulary.{KnownEdgeOfMode, mode_in}
 use Rattle.candidate_executions.specs.Consistency.{Leads}
-use Rattle.candidate_executions.specs.Sketches.{KnownEdgeOfMode}
 use Rattle.sketches.proofs.sketch.Sketch.leads.Given as goal
-use Rattle.known_edges.specs.ProgramSketches.{mode_in}
 
 -- the events so far lead from each to the next, so the rest decides
 abbrev pub invariant-loop-event : goal.invariant-loop-event

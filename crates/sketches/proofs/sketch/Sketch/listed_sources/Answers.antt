@@ -1,15 +1,6 @@
 use Rattle.std.proofs.Common.{◌≡◌, ◌↔◌, ◌⊎◌, List, Contains, ap, sym, ◌∙◌, subst}
-use Rattle.std.specs.Arc.{arc_value}
-use Rattle.std.specs.List.{AllPairs}
-use Rattle.candidate_executions.specs.declared.event.Event.{Event}
-use Rattle.candidate_executions.specs.declared.event.Event.TheVariants.{Initial}
-use Rattle.candidate_executions.specs.Events.{ComesBefore}
-use Rattle.candidate_executions.specs.Sketches.{IsSourceOf, IsWhole}
-use Rattle.known_edges.specs.ProgramSketches.{ProgramSketch, mode_in}
-use Rattle.known_edges.specs.Kept.{IsLawful}
-use Rattle.known_edges.specs.Choices.{ReadsThisValue, IsValueWritten}
-use Rattle.known_edges.specs.Rows.{NumberedTraces, IsRowOf, IsWriteAt}
-use Rattle.sketches.specs.Internal.Listed.{HasNumberIn, FollowInOrder}
+use Rattle.sketches.proofs.Vocabulary.{arc_value, AllPairs, Event, Initial, ComesBefore, IsSourceOf, IsWhole, ProgramSketch, mode_in, IsLawful, ReadsThisValue, IsValueWritten, NumberedTraces, IsRowOf}
+use Rattle.sketches.proofs.Vocabulary.{IsWriteAt, HasNumberIn, FollowInOrder}
 use Rattle.known_edges.proofs.BranchesCounted.{few_sources}
 use Rattle.sketches.proofs.Sources.{listed_in_order, first_in_order, first_after}
 use Rattle.sketches.proofs.sketch.Sketch.listed_sources.Goals as goal

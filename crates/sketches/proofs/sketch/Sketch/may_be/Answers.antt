@@ -1,21 +1,7 @@
 use Rattle.std.proofs.Common.{◌≡◌, ◌↔◌, ◌∙◌, ℕ, true, false, IsTrue, List, Contains, Some, get_or, slice_get, take, ap, sym, subst}
-use Rattle.std.specs.Arc.{arc_value}
-use Rattle.std.specs.Prelude.{◌==◌, slice_index}
-use Rattle.std.proofs.lemmas.List.{take_more, take_all}
-use Rattle.std.proofs.lemmas.Option.{slice_get-get_or}
-use Rattle.candidate_executions.specs.declared.event.Event.{Event}
-use Rattle.candidate_executions.specs.declared.event.Event.TheVariants.{Initial}
-use Rattle.candidate_executions.specs.Candidates.{IsAccess}
-use Rattle.candidate_executions.specs.Sketches.{IsWhole, given_to}
-use Rattle.tso_machine.specs.Modes.{machine_of_mode}
-use Rattle.known_edges.specs.Rows.{NumberedTraces}
-use Rattle.known_edges.specs.ProgramSketches.{ProgramSketch, mode_in}
-use Rattle.known_edges.specs.Kept.{view_of}
-use Rattle.sketches.specs.Endings.{IsOwn, MayBeBy}
-use Rattle.known_edges.specs.Writes.{HasLater}
-use Rattle.known_edges.proofs.Numbered.{contained, later_test, number_exact, number_own}
+use Rattle.sketches.proofs.Vocabulary.{arc_value, ◌==◌, slice_index, take_more, take_all, slice_get-get_or, Event, Initial, IsAccess, IsWhole, given_to, machine_of_mode, NumberedTraces, ProgramSketch}
+use Rattle.sketches.proofs.Vocabulary.{mode_in, view_of, IsOwn, MayBeBy, HasLater, contained, later_test, number_exact, number_own, not_by}
 use Rattle.sketches.proofs.LastValues.{none_does, no_more_does, initial_does}
-use Rattle.thread_traces.proofs.KnownParts.{not_by}
 use Rattle.sketches.proofs.sketch.Sketch.may_be.Goals as goal
 
 pub ends_so-requires-clause-access : goal.ends_so-requires-clause-access

@@ -1,8 +1,6 @@
-use Rattle.thread_traces.proofs.KnownParts.{no, not_by}
-use Rattle.candidate_executions.specs.Sketches.{MayBeLast}
+use Rattle.sketches.proofs.Vocabulary.{no, not_by, MayBeLast, mode_in}
 use Rattle.sketches.proofs.Ends.{last_by}
 use Rattle.sketches.proofs.sketch.Sketch.may_be_last.Goals as goal
-use Rattle.known_edges.specs.ProgramSketches.{mode_in}
 
 pub returns-then-has_later : goal.returns-then-has_later
 returns-then-has_later c = no (MayBeLast c.args.self.now.program (mode_in c.args.self.now) c.args.self.now.chosen c.args.location c.args.event)

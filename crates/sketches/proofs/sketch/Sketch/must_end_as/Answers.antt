@@ -1,12 +1,7 @@
 use Rattle.std.proofs.Common.{◌↔◌, Bool, Result, Ok, Err, IfOk, IsTrue, sym, subst}
 use Rattle.std.specs.Prelude.{OnErr}
-use Rattle.tso_program.specs.declared.shown.Shown.{Shown}
-use Rattle.tso_program.specs.declared.shown.Shown.TheVariants.{Truth}
-use Rattle.tso_program.specs.Shown.{ShowsValues}
+use Rattle.sketches.proofs.Vocabulary.{Shown, Truth, ShowsValues, ProgramSketch, mode_in, EndsOnlyAs, IsLawful}
 use Rattle.candidate_executions.specs.Sketches.{EndsAs, EndsInTruth}
-use Rattle.known_edges.specs.ProgramSketches.{ProgramSketch, mode_in}
-use Rattle.sketches.specs.Completions.{EndsOnlyAs}
-use Rattle.known_edges.specs.Kept.{IsLawful}
 use Rattle.sketches.proofs.Ends.{of_values, values_test, ends_only}
 use Rattle.sketches.proofs.Known.{only_if}
 use Rattle.sketches.proofs.sketch.Sketch.must_end_as.Goals as goal

@@ -1,7 +1,5 @@
 use Rattle.std.proofs.Common.{true, false, subst}
-use Rattle.tso_program.specs.declared.shown.Shown.TheVariants.{Truth}
-use Rattle.known_edges.specs.ProgramSketches.{ProgramSketch}
-use Rattle.known_edges.specs.Kept.{IsLawful}
+use Rattle.sketches.proofs.Vocabulary.{Truth, ProgramSketch, IsLawful}
 use Rattle.sketches.proofs.Ends.{ends_only}
 use Rattle.sketches.proofs.Known.{must_tell}
 use Rattle.sketches.proofs.sketch.Sketch.must_tell.Goals as goal

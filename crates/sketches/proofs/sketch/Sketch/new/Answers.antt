@@ -1,11 +1,6 @@
 use Rattle.std.proofs.Common.{◌≡◌, ◌∙◌, ◌+◌, ap, sym, subst, length, arith, [], Some, slice_get, ℕ}
 use Rattle.std.proofs.lemmas.List.{length_push}
-use Rattle.std.proofs.lemmas.Result.{IfOk-weaker}
-use Rattle.thread_traces.specs.declared.thread_trace.ThreadTrace.{ThreadTrace}
-use Rattle.tso_machine.specs.Modes.{machine_of_mode}
-use Rattle.known_edges.specs.ProgramSketches.{ProgramSketch}
-use Rattle.thread_traces.specs.ThreadTraces.{IsThreadTraceOf}
-use Rattle.sketches.specs.Completions.{EachRunCompletes}
+use Rattle.sketches.proofs.Vocabulary.{IfOk-weaker, ThreadTrace, machine_of_mode, ProgramSketch, IsThreadTraceOf, EachRunCompletes}
 use Rattle.known_edges.proofs.Lawful.{new_kept, new_parts, made_more}
 use Rattle.sketches.proofs.Completed.{each_run_completes}
 use Rattle.sketches.proofs.sketch.Sketch.new.Goals as goal

@@ -1,7 +1,5 @@
 use Rattle.std.proofs.Common.{◌≡◌, ℕ, [], Some, slice_get, length}
-use Rattle.thread_traces.specs.declared.thread_trace.ThreadTrace.{ThreadTrace}
-use Rattle.tso_machine.specs.Modes.{machine_of_mode}
-use Rattle.thread_traces.specs.ThreadTraces.{IsThreadTraceOf}
+use Rattle.sketches.proofs.Vocabulary.{ThreadTrace, machine_of_mode, IsThreadTraceOf}
 use Rattle.sketches.proofs.sketch.Sketch.new.Given as goal
 
 -- the threads so far, with no value given

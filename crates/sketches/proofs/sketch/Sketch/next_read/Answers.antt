@@ -1,9 +1,6 @@
 use Rattle.std.proofs.Common.{◌≡◌, ◌∙◌, ◌<◌, Some, None, IfSome, slice_get, ap, sym, subst, length}
-use Rattle.std.specs.Arc.{arc_value}
+use Rattle.sketches.proofs.Vocabulary.{arc_value, ProgramSketch, mode_in, NumberedTraces, trace_next, past_next, no_trace}
 use Rattle.candidate_executions.specs.Sketches as sketches
-use Rattle.known_edges.specs.ProgramSketches.{ProgramSketch, mode_in}
-use Rattle.known_edges.specs.Rows.{NumberedTraces}
-use Rattle.known_edges.proofs.TracesKept.{trace_next, past_next, no_trace}
 use Rattle.sketches.proofs.sketch.Sketch.next_read.Goals as goal
 
 pub returns-in-Some-clause-value : goal.returns-in-Some-clause-value

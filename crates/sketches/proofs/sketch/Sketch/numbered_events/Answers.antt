@@ -1,14 +1,6 @@
 use Rattle.std.proofs.Common.{◌∙◌, List, ap, sym, subst}
-use Rattle.std.specs.List.{AllPairs}
 use Rattle.std.specs.Prelude.{Contains}
-use Rattle.std.specs.Arc.{arc_value}
-use Rattle.candidate_executions.specs.declared.event.Event.{Event}
-use Rattle.candidate_executions.specs.Candidates.{IsAccess}
-use Rattle.candidate_executions.specs.Events.{ComesBefore}
-use Rattle.candidate_executions.specs.Sketches.{IsWhole, given_to}
-use Rattle.known_edges.specs.Rows.{NumberedTraces}
-use Rattle.known_edges.specs.ProgramSketches.{ProgramSketch, mode_in}
-use Rattle.known_edges.proofs.Numbered.{access_number, contained, is_access}
+use Rattle.sketches.proofs.Vocabulary.{AllPairs, arc_value, Event, IsAccess, ComesBefore, IsWhole, given_to, NumberedTraces, ProgramSketch, mode_in, access_number, contained, is_access}
 use Rattle.sketches.proofs.sketch.Sketch.numbered_events.Goals as goal
 
 pub returns-clause-all : goal.returns-clause-all

@@ -1,12 +1,7 @@
 use Rattle.std.proofs.Common.{◌∙◌, ap, sym, subst, List, []}
-use Rattle.std.specs.Arc.{arc_value}
+use Rattle.sketches.proofs.Vocabulary.{arc_value, ThreadTrace, view_of, IsRepresented, none_chosen, new_kept_by, begun}
 use Rattle.bit_rows.proofs.Written.{zeros, zeros_are_empty}
 use Rattle.bit_rows.specs.declared.row.TheConstants.{ROW_BITS}
-use Rattle.thread_traces.specs.declared.thread_trace.ThreadTrace.{ThreadTrace}
-use Rattle.known_edges.specs.Kept.{view_of}
-use Rattle.known_edges.specs.Rows.{IsRepresented}
-use Rattle.known_edges.proofs.Lawful.{none_chosen, new_kept_by}
-use Rattle.known_edges.proofs.RowsKept.{begun}
 use Rattle.sketches.proofs.sketch.Sketch.of_traces.Goals as goal
 
 pub in_order-requires : goal.in_order-requires

@@ -1,9 +1,5 @@
 use Rattle.std.proofs.Common.{subst}
-use Rattle.std.specs.Arc.{arc_value}
-use Rattle.known_edges.specs.ProgramSketches.{ProgramSketch}
-use Rattle.known_edges.specs.Kept.{IsLawful}
-use Rattle.known_edges.specs.Sizes.{HaveAllRegisters}
-use Rattle.known_edges.proofs.TracesKept.{six_registers}
+use Rattle.sketches.proofs.Vocabulary.{arc_value, ProgramSketch, IsLawful, HaveAllRegisters, six_registers}
 use Rattle.known_edges.proofs.ChoicesCounted.{choices_few}
 use Rattle.sketches.proofs.sketch.Sketch.program.Goals as goal
 

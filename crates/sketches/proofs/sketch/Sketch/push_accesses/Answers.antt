@@ -1,13 +1,9 @@
 use Rattle.std.proofs.Common.{◌≤◌, ◌∙◌, ℕ, List, ap, sym, subst, length, inl, inr, arith}
-use Rattle.std.specs.Arc.{arc_value}
+use Rattle.sketches.proofs.Vocabulary.{arc_value, ThreadTrace, ProgramSketch, mode_in, IsAccess, given_to}
 use Rattle.tso_program.specs.declared.limits.TheConstants.{MAX_INSTRUCTIONS}
-use Rattle.thread_traces.specs.declared.thread_trace.ThreadTrace.{ThreadTrace}
-use Rattle.known_edges.specs.ProgramSketches.{ProgramSketch, mode_in}
 use Rattle.known_edges.specs.Rows.{NumberedTraces, accesses_at, IsOfThreads}
 use Rattle.known_edges.proofs.Numbered.{is_access, courses_few, courses_short}
 use Rattle.sketches.proofs.sketch.Sketch.push_accesses.Goals as goal
-use Rattle.candidate_executions.specs.Candidates.{IsAccess}
-use Rattle.candidate_executions.specs.Sketches.{given_to}
 
 pub push_events-requires-clause-few : goal.push_events-requires-clause-few
 push_events-requires-clause-few c =

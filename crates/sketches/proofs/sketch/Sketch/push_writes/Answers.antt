@@ -1,7 +1,5 @@
 use Rattle.std.proofs.Common.{get_or}
-use Rattle.std.proofs.lemmas.Option.{slice_get-get_or}
-use Rattle.candidate_executions.specs.declared.event.Event.TheVariants.{Initial}
-use Rattle.known_edges.specs.Choices.{IsValueWritten}
+use Rattle.sketches.proofs.Vocabulary.{slice_get-get_or, Initial, IsValueWritten}
 use Rattle.sketches.proofs.Sources.{one_listed, all_listed}
 use Rattle.sketches.proofs.sketch.Sketch.push_writes.Goals as goal
 

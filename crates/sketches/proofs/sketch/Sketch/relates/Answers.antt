@@ -1,6 +1,5 @@
 use Rattle.std.proofs.Common.{inl, inr}
-use Rattle.candidate_executions.specs.Sketches.{KnownRelates}
-use Rattle.thread_traces.proofs.KnownParts.{yes, not_by}
+use Rattle.sketches.proofs.Vocabulary.{KnownRelates, yes, not_by}
 use Rattle.known_edges.proofs.KnownParts.{to_relates, last_part}
 use Rattle.sketches.proofs.sketch.Sketch.relates.Goals as goal
 

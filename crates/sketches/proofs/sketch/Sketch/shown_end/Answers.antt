@@ -1,7 +1,5 @@
 use Rattle.std.proofs.Common.{◌∙◌, List, ℕ, ap, sym, subst}
-use Rattle.std.specs.Prelude.{slice_index}
-use Rattle.tso_program.specs.Shown.{shown_value}
-use Rattle.sketches.specs.Endings.{EndsSo}
+use Rattle.sketches.proofs.Vocabulary.{slice_index, shown_value, EndsSo}
 use Rattle.sketches.proofs.LastValues.{kept_end, initial_end}
 use Rattle.sketches.proofs.sketch.Sketch.shown_end.Goals as goal
 

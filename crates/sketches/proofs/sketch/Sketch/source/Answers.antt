@@ -1,6 +1,5 @@
 use Rattle.std.proofs.Common.{◌≡◌, ◌↔◌, ◌∙◌, Some, Contains, get_or, sym, ap, subst}
-use Rattle.candidate_executions.specs.declared.event.Event.{Event}
-use Rattle.candidate_executions.specs.declared.event.Event.TheVariants.{Initial}
+use Rattle.sketches.proofs.Vocabulary.{Event, Initial}
 use Rattle.known_edges.proofs.Chosen.{once, found_source}
 use Rattle.sketches.proofs.sketch.Sketch.source.Goals as goal
 

@@ -1,8 +1,5 @@
 use Rattle.std.proofs.Common.{arith}
-use Rattle.candidate_executions.specs.declared.event.Event.TheVariants.{Access as At}
-use Rattle.known_edges.specs.Writes.{WritesTo, IsWrittenBy}
-use Rattle.known_edges.proofs.Lookups.{each_index}
-use Rattle.thread_traces.proofs.KnownParts.{yes, no, not_by}
+use Rattle.sketches.proofs.Vocabulary.{At, WritesTo, IsWrittenBy, each_index, yes, no, not_by}
 use Rattle.sketches.proofs.Ends.{write_within}
 use Rattle.sketches.proofs.sketch.Sketch.thread_writes.Goals as goal
 

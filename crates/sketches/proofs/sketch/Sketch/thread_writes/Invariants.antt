@@ -1,6 +1,5 @@
 use Rattle.std.proofs.Common.{ℕ, ◌<◌}
-use Rattle.candidate_executions.specs.declared.event.Event.TheVariants.{Access as At}
-use Rattle.known_edges.specs.Writes.{WritesTo}
+use Rattle.sketches.proofs.Vocabulary.{At, WritesTo}
 use Rattle.sketches.proofs.sketch.Sketch.thread_writes.Given as goal
 
 -- none of the accesses so far writes the location

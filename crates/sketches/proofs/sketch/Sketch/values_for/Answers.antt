@@ -1,10 +1,5 @@
 use Rattle.std.proofs.Common.{◌↔◌, ℕ, Contains, subst}
-use Rattle.std.specs.Arc.{arc_value}
-use Rattle.candidate_executions.specs.Values.{IsValueOf}
-use Rattle.known_edges.specs.ProgramSketches.{ProgramSketch}
-use Rattle.known_edges.specs.Kept.{IsLawful}
-use Rattle.known_edges.specs.Sizes.{HaveAllRegisters}
-use Rattle.known_edges.proofs.TracesKept.{six_registers}
+use Rattle.sketches.proofs.Vocabulary.{arc_value, IsValueOf, ProgramSketch, IsLawful, HaveAllRegisters, six_registers}
 use Rattle.known_edges.proofs.BranchesCounted.{few_values}
 use Rattle.sketches.proofs.sketch.Sketch.values_for.Goals as goal
 

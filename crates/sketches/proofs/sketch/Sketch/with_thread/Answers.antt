@@ -1,14 +1,6 @@
 use Rattle.std.proofs.Common.{◌≡◌, ◌∙◌, ◌<◌, ap, sym, subst, length, List, [], Some, get_or, set, refl, arith}
-use Rattle.std.specs.Arc.{arc_value}
-use Rattle.std.proofs.lemmas.Option.{slice_get_read}
-use Rattle.std.proofs.lemmas.Result.{IfOk-weaker}
-use Rattle.tso_program.specs.declared.listing.Listing.{Listing}
-use Rattle.thread_traces.specs.declared.thread_trace.ThreadTrace.{ThreadTrace}
-use Rattle.candidate_executions.specs.Sketches.{given_to}
-use Rattle.known_edges.specs.ProgramSketches.{ProgramSketch, with_chosen}
-use Rattle.known_edges.specs.Kept.{view_of, KeepsTraces}
-use Rattle.known_edges.specs.Rows.{NumberedTraces}
-use Rattle.sketches.specs.ThreadValues.{with_values, HasValuesAlone}
+use Rattle.sketches.proofs.Vocabulary.{arc_value, slice_get_read, IfOk-weaker, Listing, ThreadTrace, given_to, ProgramSketch, with_chosen, view_of, KeepsTraces, NumberedTraces, with_values}
+use Rattle.sketches.proofs.Vocabulary.{HasValuesAlone}
 use Rattle.sketches.proofs.ThreadValues.{merged_kept, merged_parts, merged_anew}
 use Rattle.sketches.proofs.sketch.Sketch.with_thread.Goals as goal
 

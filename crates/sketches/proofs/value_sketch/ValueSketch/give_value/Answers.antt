@@ -1,13 +1,7 @@
 use Rattle.std.proofs.Common.{◌≡◌, ◌∙◌, ap, sym, subst, length, List, [], Some, IsSome, get_or, set, refl, ℕ}
-use Rattle.std.proofs.lemmas.Option.{slice_get_read}
+use Rattle.sketches.proofs.Vocabulary.{slice_get_read, IsValueOf, ThreadTrace, ProgramSketch, mode_in, with_chosen, view_of, KeepsTraces, MarkedThread, IsValueMarkOf, reads_there, more_kept}
+use Rattle.sketches.proofs.Vocabulary.{more_parts}
 use Rattle.candidate_executions.specs.Sketches as sketches
-use Rattle.candidate_executions.specs.Values.{IsValueOf}
-use Rattle.thread_traces.specs.declared.thread_trace.ThreadTrace.{ThreadTrace}
-use Rattle.known_edges.specs.ProgramSketches.{ProgramSketch, mode_in, with_chosen}
-use Rattle.known_edges.specs.Kept.{view_of, KeepsTraces}
-use Rattle.sketches.specs.ValueSketches.{MarkedThread, IsValueMarkOf}
-use Rattle.known_edges.proofs.TracesKept.{reads_there}
-use Rattle.known_edges.proofs.Lawful.{more_kept, more_parts}
 use Rattle.sketches.proofs.value_sketch.ValueSketch.give_value.Goals as goal
 
 pub invariant_of-self-2 : goal.invariant_of-self-2

@@ -1,8 +1,5 @@
 use Rattle.std.proofs.Common.{◌≡◌, ◌∙◌, ℕ, Bool, true, false, not, IsTrue, List, Some, slice_get, slice_index, ap, sym, subst}
-use Rattle.thread_traces.specs.declared.thread_trace.ThreadTrace.{ThreadTrace}
-use Rattle.known_edges.specs.ProgramSketches.{ProgramSketch}
-use Rattle.known_edges.specs.Rows.{EachEnds, traced_access}
-use Rattle.sketches.specs.ValueSketches.{LacksSource}
+use Rattle.sketches.proofs.Vocabulary.{ThreadTrace, ProgramSketch, EachEnds, traced_access, LacksSource}
 use Rattle.sketches.proofs.ValuesGiven.{lacks}
 use Rattle.sketches.proofs.value_sketch.ValueSketch.lacks_source.Goals as goal
 

@@ -1,7 +1,6 @@
 use Rattle.std.proofs.Common.{◌≡◌, ◌∙◌, ◌<◌, Some, None, IfSome, slice_get, ap, sym, subst, length}
+use Rattle.sketches.proofs.Vocabulary.{ProgramSketch, mode_in, trace_next, past_next, no_trace}
 use Rattle.candidate_executions.specs.Sketches as sketches
-use Rattle.known_edges.specs.ProgramSketches.{ProgramSketch, mode_in}
-use Rattle.known_edges.proofs.TracesKept.{trace_next, past_next, no_trace}
 use Rattle.sketches.proofs.value_sketch.ValueSketch.next_read.Goals as goal
 
 pub returns-in-Some-clause-value : goal.returns-in-Some-clause-value

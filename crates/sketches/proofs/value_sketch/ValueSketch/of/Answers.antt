@@ -1,12 +1,5 @@
 use Rattle.std.proofs.Common.{◌∙◌, ap, sym, subst, List, [], refl, arith}
-use Rattle.std.specs.Arc.{arc_value}
-use Rattle.tso_program.specs.declared.listing.Listing.{Listing}
-use Rattle.tso_machine.specs.declared.mode.Mode.{Mode}
-use Rattle.thread_traces.specs.declared.thread_trace.ThreadTrace.{ThreadTrace}
-use Rattle.known_edges.specs.ProgramSketches.{ProgramSketch}
-use Rattle.known_edges.specs.Rows.{NumberedTraces}
-use Rattle.known_edges.specs.Kept.{view_of, KeepsTraces}
-use Rattle.thread_traces.specs.ValueLists.{AreValueLists}
+use Rattle.sketches.proofs.Vocabulary.{arc_value, Listing, Mode, ThreadTrace, ProgramSketch, NumberedTraces, view_of, KeepsTraces, AreValueLists}
 use Rattle.known_edges.proofs.Lookups.{empty_list}
 use Rattle.sketches.proofs.ThreadValues.{merged_anew}
 use Rattle.thread_traces.proofs.ValuesGiven.{none_known}

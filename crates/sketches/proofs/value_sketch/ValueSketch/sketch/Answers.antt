@@ -1,8 +1,5 @@
 use Rattle.std.proofs.Common.{◌∙◌, sym, subst, List, []}
-use Rattle.tso_program.specs.declared.listing.Listing.{Listing}
-use Rattle.tso_machine.specs.declared.mode.Mode.{Mode}
-use Rattle.thread_traces.specs.declared.thread_trace.ThreadTrace.{ThreadTrace}
-use Rattle.known_edges.specs.Kept.{KeepsTraces}
+use Rattle.sketches.proofs.Vocabulary.{Listing, Mode, ThreadTrace, KeepsTraces}
 use Rattle.sketches.proofs.value_sketch.ValueSketch.sketch.Goals as goal
 
 pub of_traces-requires : goal.of_traces-requires

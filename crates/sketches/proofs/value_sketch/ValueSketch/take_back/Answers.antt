@@ -1,7 +1,6 @@
 use Rattle.std.proofs.Common.{◌≡◌, ◌∙◌, sym, subst}
+use Rattle.sketches.proofs.Vocabulary.{with_chosen, MarkedThread, IsValueMarkOf}
 use Rattle.candidate_executions.specs.Sketches as sketches
-use Rattle.known_edges.specs.ProgramSketches.{with_chosen}
-use Rattle.sketches.specs.ValueSketches.{MarkedThread, IsValueMarkOf}
 use Rattle.sketches.proofs.ValuesGiven.{back_kept, back_parts}
 use Rattle.sketches.proofs.value_sketch.ValueSketch.take_back.Goals as goal
 

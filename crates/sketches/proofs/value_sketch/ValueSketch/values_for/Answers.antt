@@ -1,10 +1,7 @@
 use Rattle.std.proofs.Common.{◌≡◌, ◌∙◌, ◌↔◌, ◌<◌, ℕ, List, Contains, length, get_or, refl, sym, ap, subst, arith}
-use Rattle.std.proofs.lemmas.Option.{slice_get_read}
 use Rattle.std.specs.Prelude.{Result, Ok, Err, IfOk}
 use Rattle.std.specs.List.Sorted.{IsStrictlyIncreasing}
-use Rattle.tso_program.specs.declared.listing.Listing.{Listing}
-use Rattle.candidate_executions.specs.Values.{IsValueOf}
-use Rattle.known_edges.specs.ProgramSketches.{ProgramSketch}
+use Rattle.sketches.proofs.Vocabulary.{slice_get_read, Listing, IsValueOf, ProgramSketch}
 use Rattle.thread_traces.specs.ValueLists.{AreValueLists, IsValueList}
 use Rattle.sketches.proofs.value_sketch.ValueSketch.values_for.Goals as goal
 

@@ -1,10 +1,7 @@
 use Rattle.std.proofs.Common.{◌≡◌, ◌∙◌, ◌<◌, sym, ap, ℕ, length, arith}
 use Rattle.std.specs.Vec.{with_items}
 use Rattle.std.proofs.lemmas.List.{with_items_is}
-use Rattle.tso_program.specs.declared.listing.Listing.{Listing}
-use Rattle.tso_program.specs.Fences.{gaps_in}
-use Rattle.tso_program.specs.Listings.{action}
-use Rattle.tso_machine.specs.Internal.Cores.{Core, Cores, FitsProgram, no_core}
+use Rattle.tso_machine.proofs.Vocabulary.{Listing, gaps_in, action, Core, Cores, FitsProgram, no_core}
 use Rattle.tso_machine.proofs.Link.{read_is}
 use Rattle.tso_machine.proofs.Effects.{IsNext, exec_done, on_ok}
 use Rattle.tso_machine.proofs.state.State.exec.Goals as goal

@@ -1,7 +1,6 @@
 use Rattle.std.proofs.Common.{◌≡◌, Some, ◌∙◌, sym, ap, length, subst}
+use Rattle.tso_program.proofs.Vocabulary.{IsLocated, instr_at}
 use Rattle.tso_program.specs.declared.action.Action.{Action}
-use Rattle.tso_program.specs.Actions.{IsLocated}
-use Rattle.tso_program.specs.Listings.{instr_at}
 use Rattle.tso_program.proofs.Located.{act_located}
 use Rattle.tso_program.proofs.program.Program.action.Goals as goal
 

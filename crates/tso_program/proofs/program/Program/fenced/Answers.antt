@@ -1,7 +1,5 @@
 use Rattle.std.proofs.Common.{◌≡◌, List, ℕ, ◌∙◌, sym, subst}
-use Rattle.tso_program.specs.declared.listing.Listing.{Listing}
-use Rattle.tso_program.specs.Limits.{IsWithinFencedLimits}
-use Rattle.tso_program.specs.Fences.{gaps_in, fenced_threads}
+use Rattle.tso_program.proofs.Vocabulary.{Listing, IsWithinFencedLimits, gaps_in, fenced_threads}
 use Rattle.tso_program.proofs.FencedLimits.{fencing_stays_within_limits}
 use Rattle.tso_program.proofs.program.Program.fenced.Goals as goal
 

@@ -1,8 +1,6 @@
 use Rattle.std.proofs.Common.{◌≡◌, ◌≤◌, ◌<◌, ◌+◌, ℕ, List, arith, length, take, get_or, ap, sym, ◌∙◌, Option, Some, subst}
 use Rattle.std.proofs.lemmas.List.{take_all}
-use Rattle.std.proofs.lemmas.Option.{slice_get-get_or}
-use Rattle.tso_program.specs.declared.listing.Thread.{Thread}
-use Rattle.tso_program.specs.Listings.{code_of, gap_count, gap_number, gaps_of_thread}
+use Rattle.tso_program.proofs.Vocabulary.{slice_get-get_or, Thread, code_of, gap_count, gap_number, gaps_of_thread}
 use Rattle.tso_program.proofs.Found.{code_found}
 use Rattle.tso_program.proofs.Gaps.{gap_same, gap_below, gap_is}
 use Rattle.tso_program.proofs.GapPlaces.{no_place, places_are_numbered}

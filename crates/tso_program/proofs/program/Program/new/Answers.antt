@@ -1,6 +1,5 @@
 use Rattle.std.proofs.Common.{◌≡◌, List, ℕ, None, ◌∙◌, sym, subst}
-use Rattle.tso_program.specs.declared.listing.Listing.{Listing}
-use Rattle.tso_program.specs.Limits.{IsWithinLimits, first_fault}
+use Rattle.tso_program.proofs.Vocabulary.{Listing, IsWithinLimits, first_fault}
 use Rattle.tso_program.proofs.WithinLimits.{within}
 use Rattle.tso_program.proofs.program.Program.new.Goals as goal
 

@@ -1,7 +1,5 @@
 use Rattle.std.proofs.Common.{◌≡◌, ap, sym, ◌∙◌, Decides}
-use Rattle.std.proofs.lemmas.Bool.Decides.{Decides-eqb}
-use Rattle.std.proofs.lemmas.Slice.Eq.{slice_eq-Decides}
-use Rattle.tso_program.specs.declared.listing.Listing.{Listing}
+use Rattle.tso_program.proofs.Vocabulary.{Decides-eqb, slice_eq-Decides, Listing}
 use Rattle.tso_program.proofs.SamePrograms.{thread_decides}
 use Rattle.tso_program.proofs.program.Program.same.Goals as goal
 
