@@ -45,7 +45,8 @@ pub(crate) fn parts_of(
         }
         parts = cut_each(alloc, plan, &parts)?;
     }
-    deal(alloc, &parts)
+    let dealt = deal(alloc, &parts)?;
+    Ok(dealt)
 }
 
 /// Whether a search is cut. One for the truth of a formula is not: it closes most branches once both truths are found, and
@@ -110,9 +111,23 @@ fn push_turn(
     ensures { OnOk result ((root : ProgramSketch) (last : LastThread) → All (IsPartOf root last) parts.now → All (IsPartOf root last) dealt.old.items → All (IsPartOf root last) dealt.new.items) }
 {
     for (place, part) in parts.iter().enumerate() {
-        if place % TURNS.len() == turn {
-            dealt.push(part.copy(alloc)?)?;
-        }
+        push_if(alloc, part, place % TURNS.len() == turn, dealt)?;
     }
+    Ok(())
+}
+
+/// Puts the part after the others, if it is its turn.
+fn push_if(
+    alloc: Global,
+    part: &Part,
+    is_turn: bool,
+    dealt: &mut Vec<Part>,
+) -> Result<(), AllocError>
+    ensures { OnOk result ((root : ProgramSketch) (last : LastThread) → IsPartOf root last part.now → All (IsPartOf root last) dealt.old.items → All (IsPartOf root last) dealt.new.items) }
+{
+    if !is_turn {
+        return Ok(());
+    }
+    dealt.push(part.copy(alloc)?)?;
     Ok(())
 }
