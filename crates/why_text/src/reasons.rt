@@ -213,6 +213,10 @@ pub(crate) fn reason_of(
     let lines = lines_with(alloc, &litmus.program, gap, run.labels(), &table, &ending)?;
     let printed = printed_of(shown);
     let setting = Setting::Without(gap);
-    let run = run_value(alloc, litmus, &printed, setting, &steps, &ended)?;
-    Ok(Reason { lines, run, steps })
+    let said = run_value(alloc, litmus, &printed, setting, &steps, &ended)?;
+    Ok(Reason {
+        lines,
+        run: said,
+        steps,
+    })
 }

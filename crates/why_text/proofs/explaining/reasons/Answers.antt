@@ -16,7 +16,7 @@ run_without-requires-clause-held c = (first_held c.args.set.now c.loop-gap.gap-i
 
 pub loop-gap-preserved : goal.loop-gap-preserved
 loop-gap-preserved c = record {
-  told = rw (c.in_ok-add.ensures, c.in_ok-extend_from_slice.ensures.items, c.deref.ensures.value)
+  told = rw (c.in_ok-add.ensures, c.in_ok-extend_from_slice.ensures.items, c.deref-in-loop-gap.ensures.value)
       (tells_more c.args.litmus.now c.args.shown.now c.args.set.now c.loop-gap.yielded c.loop-gap.lines.items c.loop-gap.runs c.in-Some.gap (c.in_ok-reason.reason.lines.items, c.in_ok-reason.reason.run) c.loop-gap.invariant.told c.in_ok-reason.ensures);
   to_come = (first_held c.args.set.now c.loop-gap.gap-iterator c.in-Some.gap c.next.new.self c.in-Some.ensures.steps c.loop-gap.invariant.to_come).1;
 }
