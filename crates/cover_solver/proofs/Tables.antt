@@ -24,6 +24,15 @@ use Rattle.tree_laws.proofs.OneList.{one_list}
 use Rattle.partial_covers.proofs.RenumberedTrees.{whole_renumbered}
 use Rattle.tso_program.proofs.OutcomesOrdered.{one_way}
 use Rattle.std.specs.declared.cmp.Ordering.TheVariants.{Less}
+use Rattle.std.proofs.Common.{Bor}
+use Rattle.tso_machine.specs.Modes.{machine_of_mode}
+use Rattle.tso_machine.specs.declared.mode.Mode.{Mode}
+use Rattle.tso_machine.specs.declared.mode.Mode.TheVariants as modes
+use Rattle.sketch_covers.specs.KnownOutcomes.{StopIs}
+use Rattle.sketch_covers.specs.declared.known_outcomes.KnownOutcomes.TheVariants.{Closed}
+use Rattle.sketch_covers.specs.declared.stop.Stop.{Stop}
+use Rattle.partial_covers.specs.HoleTrees.{StopLacks}
+use Rattle.partial_covers.proofs.HoleTrees.{stop_lacks}
 use Rattle.cover_solver.proofs.Vocabulary.{Listing, Outcome, Shown, JumpForward, Label, ReplayFaultIs, ArePassed, IsShownRun, IsForeignRun, renumbered, BelongsAt, not_there}
 
 -- a question by its parts
@@ -101,3 +110,14 @@ pub replays_unfenced : (q : Question) (gaps : SetOfGaps) (labels : List Label) (
     ReplayFaultIs q.program (StoreBufferMachine no_gaps) labels why → why ≡ replays.OutOfMemory
 replays_unfenced q gaps labels o why is_run fault =
     let again = unfenced_run q gaps labels o is_run in no_fault q.program (StoreBufferMachine no_gaps) labels again.0 why again.1 fault
+
+-- why a search stops, said of the question, the set and the list
+pub lacks_moved : {T : Type 0} → (found : Result T Stop) (q other : Question) (mode : Mode) (gaps : SetOfGaps) (os outcomes : List Outcome) → q ≡ other → mode ≡ modes.Fenced gaps → os ≡ outcomes →
+    IfErr found (StopLacks q (machine_of_mode q.program mode) os) → IfErr found (StopLacks other (StoreBufferMachine (gaps_in other.program gaps)) outcomes)
+lacks_moved found q other mode gaps os outcomes same is listed stop =
+    subst (λ (xs : List Outcome). IfErr found (StopLacks other (StoreBufferMachine (gaps_in other.program gaps)) xs)) listed
+    (subst (λ (m : Mode). IfErr found (StopLacks other (machine_of_mode other.program m) os)) is (subst (λ (r : Question). IfErr found (StopLacks r (machine_of_mode r.program mode) os)) same stop))
+
+pub stop_lacks_if : {T : Type 0} → (found : Result T Stop) (q : Question) (machine : Machine) (outcomes : Bor (List Outcome)) → IfErr found (StopIs q machine (Closed outcomes)) → IfErr found (StopLacks q machine outcomes.now)
+stop_lacks_if (Ok tree) q machine outcomes is = tt
+stop_lacks_if (Err why) q machine outcomes is = stop_lacks q machine outcomes why is

@@ -9,7 +9,7 @@ use crate::fault::ForeignFault;
 use crate::foreign_run::ForeignRun;
 use crate::table::SeqTable;
 use gap_sets::GapSet;
-use partial_covers::PartialCover;
+use partial_covers::{HoleRun, PartialCover};
 use run_maker::{MakeFault, make_run_for};
 use sketches::Sketch;
 use std::alloc::{AllocError, Global};
@@ -27,11 +27,27 @@ pub(crate) fn hole_runs(
 {
     let mut runs = Vec::new(alloc);
     for piece in &tree.pieces {
-        if add_run(alloc, table, &piece.labels, &mut runs)? {
-            add_others(alloc, table, &piece.sketch, &mut runs)?;
+        if let Some(run) = &piece.run {
+            add_runs(alloc, table, run, &mut runs)?;
         }
     }
     Ok(runs)
+}
+
+/// Adds the run of a hole, and others of its candidate execution.
+fn add_runs(
+    alloc: Global,
+    table: &SeqTable,
+    run: &HoleRun,
+    runs: &mut Vec<ForeignRun>,
+) -> Result<(), AllocError>
+    requires { AreOf table.now.question runs.old.items }
+    ensures { OnOk result (AreOf table.now.question runs.new.items) }
+{
+    if add_run(alloc, table, &run.labels, runs)? {
+        add_others(alloc, table, &run.sketch, runs)?;
+    }
+    Ok(())
 }
 
 /// Tries one more run of a candidate execution for each thread. It may pass other gaps.

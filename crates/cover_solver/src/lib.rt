@@ -23,7 +23,7 @@ mod witnesses;
 pub use fault::{ForeignFault, SolveFault};
 pub use foreign_run::ForeignRun;
 pub use oracle::{Oracle, Verdict};
-pub use outcome_list::{OutcomeList, outcomes, outcomes_with_runs};
+pub use outcome_list::{OutcomeList, SoughtOutcomes, outcomes, outcomes_with_runs};
 pub use partial_covers::Watch;
 pub use served::Served;
 pub use solver::Solver;

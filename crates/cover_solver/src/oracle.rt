@@ -26,8 +26,12 @@ pub trait Oracle: Sync {
     /// Whether it may answer `NoRun`.
     ghost may_lack_runs: { Self → Bool };
 
+    /// What must hold of it to be asked. Of one that shares a search among threads: that they may share what starts them.
+    ghost may_be_asked: { Self → Type 0 };
+
     fn ask(&self, set: &GapSet) -> Result<Verdict, SolveFault>
-        requires { AreGapsOf (question self.now).program set.now }
+        requires gaps { AreGapsOf (question self.now).program set.now }
+        requires may { may_be_asked self.now }
         ensures verdict { IfOk result (IsVerdictOf (question self.now) set.now) }
         ensures fault { IfErr result (λ fault. fault ≡ SolveFault.NoRun → may_lack_runs self.now ≡ true) };
 }

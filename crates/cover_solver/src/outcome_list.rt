@@ -10,7 +10,7 @@ ghost use Rattle.sketch_covers.specs.Ascending.{Ascend};
 
 use crate::fault::SolveFault;
 use cert_forest::Runs;
-use partial_covers::{Unwatched, Watch, all_outcomes, start_alone, start_by};
+use partial_covers::{Search, Unwatched, Watch, all_outcomes, start_alone, start_by};
 use sketches::Mode;
 use std::alloc::Global;
 use std::thread::Threads;
@@ -26,26 +26,38 @@ pub struct OutcomeList {
     pub runs: Runs,
 }
 
-/// What is shown of the outcomes of a program under sequential consistency, or under x86-TSO with no
-/// gap fenced, ascending, each of them once and with a run that leaves it. A long search is in at most so many threads. A
-/// watch follows it.
+/// Which outcomes are sought: those of a program under sequential consistency, or under x86-TSO with no gap fenced, as
+/// far as they are shown.
+#[derive(Drop)]
+pub struct SoughtOutcomes<'a> {
+    pub alloc: Global,
+    pub program: &'a Program,
+    pub model: Model,
+    pub shown: &'a Shown,
+}
+
+/// What is shown of the outcomes, ascending, each of them once and with a run that leaves it. A long search is in at most
+/// so many threads. A watch follows it.
 pub fn outcomes_with_runs<R: Threads + Sync, W: Watch + Sync>(
     rt: &R,
-    alloc: Global,
-    program: &Program,
-    model: Model,
-    shown: &Shown,
     workers: u8,
+    sought: &SoughtOutcomes,
     watch: &W,
 ) -> Result<OutcomeList, SolveFault>
     ensures ascend { IfOk result (λ list. Ascend list.outcomes.items) }
-    ensures runs { IfOk result (λ list. AreRunsOf (asked program.now shown.now) (machine_of_model program.now set.empty model) list.runs list.outcomes.items) }
+    ensures runs { IfOk result (λ list. AreRunsOf (asked sought.now.program.now sought.now.shown.now) (machine_of_model sought.now.program.now set.empty sought.now.model) list.runs list.outcomes.items) }
     ensures fault { IfErr result (λ fault. fault ≡ SolveFault.OutOfMemory) }
-    ensures exact { IfOk result (λ list. (o : Outcome) → Contains list.outcomes.items o ↔ AllowsShown (asked program.now shown.now) (machine_of_model program.now set.empty model) o) }
+    ensures exact { IfOk result (λ list. (o : Outcome) → Contains list.outcomes.items o ↔ AllowsShown (asked sought.now.program.now sought.now.shown.now) (machine_of_model sought.now.program.now set.empty sought.now.model) o) }
 {
-    let mode = Mode::unfenced(model);
-    let start = start_by(rt, workers, alloc, program, shown, &mode, watch)?;
-    let all = all_outcomes(alloc, start, program, shown, mode, watch)?;
+    let mode = Mode::unfenced(sought.model);
+    let search = Search {
+        alloc: sought.alloc,
+        program: sought.program,
+        shown: sought.shown,
+        mode,
+    };
+    let start = start_by(rt, workers, &search, watch)?;
+    let all = all_outcomes(&search, start, watch)?;
     let found = all.found;
     Ok(OutcomeList {
         outcomes: found.outcomes,
@@ -66,7 +78,13 @@ pub fn outcomes(
     ensures exact { IfOk result (λ outcomes. (o : Outcome) → Contains outcomes.items o ↔ AllowsShown (asked program.now shown.now) (machine_of_model program.now set.empty model) o) }
 {
     let mode = Mode::unfenced(model);
-    let start = start_alone(alloc, program, shown, &mode)?;
-    let all = all_outcomes(alloc, start, program, shown, mode, &Unwatched)?;
+    let search = Search {
+        alloc,
+        program,
+        shown,
+        mode,
+    };
+    let start = start_alone(&search)?;
+    let all = all_outcomes(&search, start, &Unwatched)?;
     Ok(all.found.outcomes)
 }

@@ -8,7 +8,7 @@ ghost use Rattle.sketch_covers.specs.OutcomeNumbers.{IsInOrder, AreRunsOf};
 ghost use Rattle.cover_solver.specs.Witnesses.{IsWitness, HasNoWitness};
 
 use crate::fault::SolveFault;
-use partial_covers::{Unwatched, all_outcomes, start_alone};
+use partial_covers::{Search, Unwatched, all_outcomes, start_alone};
 use sketch_covers::{OutcomeIndex, place_of};
 use sketches::Mode;
 use std::alloc::{AllocError, Global};
@@ -27,8 +27,14 @@ pub fn witness(
     ensures fault { IfErr result (λ fault. fault ≡ SolveFault.OutOfMemory) }
 {
     let shown = Shown::Truth(formula.copy()?);
-    let start = start_alone(alloc, program, &shown, &mode)?;
-    let all = all_outcomes(alloc, start, program, &shown, mode, &Unwatched)?;
+    let search = Search {
+        alloc,
+        program,
+        shown: &shown,
+        mode,
+    };
+    let start = start_alone(&search)?;
+    let all = all_outcomes(&search, start, &Unwatched)?;
     let told = Outcome::told(alloc, truth)?;
     Ok(run_of(alloc, &all.found, &told)?)
 }

@@ -32,7 +32,8 @@ pub fn hunt_with<R: Threads + Wait + Sync, O: Oracle>(
     costs: &Costs,
     workers: u8,
 ) -> Result<Finished, PlaceFault>
-    requires { O.question oracle.now ≡ table.now.question }
+    requires question { O.question oracle.now ≡ table.now.question }
+    requires may { O.may_be_asked oracle.now }
     ensures question { IfOk result (λ finished. finished.question ≡ table.now.question) }
     ensures costs { IfOk result (λ finished. finished.costs ≡ costs.now) }
     ensures answer { IfOk result (λ finished. IsTheAnswer table.now.question costs.now finished.served.gaps) }
@@ -57,6 +58,7 @@ pub(crate) fn hunt<R: Threads + Wait + Sync, O: Oracle>(
 ) -> Result<Finished, PlaceFault>
     requires start { IsStart tree }
     requires of_question { O.question oracle.now ≡ tree.question }
+    requires may { O.may_be_asked oracle.now }
     ensures search { IfOk result (IsSearchFor tree.question tree.costs) }
     ensures fault { IfErr result (MayHuntFail (O.may_lack_runs oracle.now)) }
 {
@@ -78,6 +80,7 @@ fn work_all<R: Threads + Wait + Sync, O: Oracle>(
 ) -> Vec<Worker>
     requires ready { All (IsReadyWorker shared.now.hunt) row.items }
     requires oracle { O.question oracle.now ≡ shared.now.hunt.question }
+    requires may { O.may_be_asked oracle.now }
     ensures { All (HasStopped shared.now.hunt (O.may_lack_runs oracle.now)) result.items }
 {
     let threads = row.len().max(1);
@@ -86,7 +89,7 @@ fn work_all<R: Threads + Wait + Sync, O: Oracle>(
         row.as_mut_slice(),
         threads,
         &|_, worker|
-            requires { IsReadyWorker shared.now.hunt worker.now × (O.question oracle.now ≡ shared.now.hunt.question) }
+            requires { IsReadyWorker shared.now.hunt worker.now × (O.question oracle.now ≡ shared.now.hunt.question) × O.may_be_asked oracle.now }
             ensures { HasStopped shared.entry.now.hunt (O.may_lack_runs oracle.entry.now) worker.exit.now }
         { work(rt, shared, oracle, worker) },
     );

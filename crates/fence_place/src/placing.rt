@@ -52,7 +52,8 @@ pub fn place<R: Threads + Wait + Sync, O: Oracle>(
     costs: &Costs,
     workers: u8,
 ) -> Result<Placed, PlaceFault>
-    requires { O.question oracle.now ≡ table.now.question }
+    requires question { O.question oracle.now ≡ table.now.question }
+    requires may { O.may_be_asked oracle.now }
     ensures headline { IfOk result (λ placed. Headline table.now.question costs.now placed.set) }
     ensures cost { IfOk result (λ placed. placed.cost ≡ total costs.now placed.set) }
 

@@ -26,6 +26,8 @@ impl Oracle for Answered<'_> {
 
     ghost may_lack_runs = { λ answered. true };
 
+    ghost may_be_asked = { λ answered. Unit {0} };
+
     fn ask(&self, set: &GapSet) -> Result<Verdict, SolveFault> {
         if !self.served.set().same(set) {
             return Err(SolveFault::NoRun);

@@ -27,6 +27,7 @@ pub(crate) fn search<O: Oracle>(
     mut known: Vec<ForeignRun>,
 ) -> Result<Finished, SolveFault>
     requires of_question { O.question oracle.now ≡ table.now.question }
+    requires may { O.may_be_asked oracle.now }
     requires one_each { length costs.now ≡ gap_count table.now.question.program.threads }
     requires known { AreOf table.now.question known.items }
     ensures search { IfOk result (IsSearchFor table.now.question costs.now) }
@@ -51,7 +52,8 @@ fn go_on<O: Oracle>(
     known: &mut Vec<ForeignRun>,
     oracle: &O,
 ) -> Result<bool, SolveFault>
-    requires { IsAtRest (O.question oracle.now) tree.old known.old.items }
+    requires rest { IsAtRest (O.question oracle.now) tree.old known.old.items }
+    requires may { O.may_be_asked oracle.now }
     ensures rest { OnOk result (IsAtRest (O.question oracle.now) tree.new known.new.items) }
     ensures same { IsSameSearch tree.old tree.new }
     ensures less { IfOk result (λ more. more ≡ true → work_left tree.new.entries < work_left tree.old.entries) }
@@ -78,7 +80,8 @@ fn settle<O: Oracle>(
     oracle: &O,
     node: &Region,
 ) -> Result<(), SolveFault>
-    requires { IsReadyToSettle (O.question oracle.now) tree.old known.old.items node.now }
+    requires ready { IsReadyToSettle (O.question oracle.now) tree.old known.old.items node.now }
+    requires may { O.may_be_asked oracle.now }
     ensures { HasSettled (O.question oracle.now) (O.may_lack_runs oracle.now) tree.old tree.new known.new.items result }
 {
     if let Ok(()) = tree.cut(0, Reason::Best) {
@@ -97,7 +100,8 @@ fn settle_by_oracle<O: Oracle>(
     oracle: &O,
     node: &Region,
 ) -> Result<(), SolveFault>
-    requires { IsReadyToSettle (O.question oracle.now) tree.old known.old.items node.now }
+    requires ready { IsReadyToSettle (O.question oracle.now) tree.old known.old.items node.now }
+    requires may { O.may_be_asked oracle.now }
     ensures { HasSettled (O.question oracle.now) (O.may_lack_runs oracle.now) tree.old tree.new known.new.items result }
 {
     match oracle.ask(&node.must)? {

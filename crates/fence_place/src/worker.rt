@@ -90,6 +90,7 @@ pub(crate) fn work<W: Wait, O: Oracle>(
 )
     requires ready { IsReadyWorker shared.now.hunt worker.old }
     requires oracle { O.question oracle.now ≡ shared.now.hunt.question }
+    requires may { O.may_be_asked oracle.now }
     ensures { HasStopped shared.now.hunt (O.may_lack_runs oracle.now) worker.new }
 {
     for _ in wait.forever() {
@@ -114,7 +115,8 @@ fn settle<W: Wait, O: Oracle>(
     worker: &mut Worker,
     node: &Region,
 ) -> Result<(), Stop>
-    requires { IsToSettle (O.question oracle.now) shared.now.hunt worker.old node.now }
+    requires node { IsToSettle (O.question oracle.now) shared.now.hunt worker.old node.now }
+    requires may { O.may_be_asked oracle.now }
     ensures { HasDealtWith shared.now.hunt (O.may_lack_runs oracle.now) worker.old worker.new node.now result }
 {
     match known_settling(shared.alloc, &shared.hunt, worker, node) {
@@ -217,7 +219,8 @@ fn settle_in_turn<W: Wait, O: Oracle>(
     worker: &mut Worker,
     node: &Region,
 ) -> Result<(), Stop>
-    requires { IsToSettle (O.question oracle.now) shared.now.hunt worker.old node.now }
+    requires node { IsToSettle (O.question oracle.now) shared.now.hunt worker.old node.now }
+    requires may { O.may_be_asked oracle.now }
     ensures { HasDealtWith shared.now.hunt (O.may_lack_runs oracle.now) worker.old worker.new node.now result }
 {
     let seat = worker.seat.number();
@@ -240,7 +243,8 @@ fn settle_by_oracle<W: Wait, O: Oracle>(
     worker: &mut Worker,
     node: &Region,
 ) -> Result<(), Stop>
-    requires { IsToSettle (O.question oracle.now) shared.now.hunt worker.old node.now }
+    requires node { IsToSettle (O.question oracle.now) shared.now.hunt worker.old node.now }
+    requires may { O.may_be_asked oracle.now }
     ensures { HasDealtWith shared.now.hunt (O.may_lack_runs oracle.now) worker.old worker.new node.now result }
 {
     let verdict = ask(oracle, &node.must)?;
@@ -268,7 +272,8 @@ fn keep(known: &mut Vec<ForeignRun>, run: ForeignRun)
 
 /// What the oracle says of a set, or why the worker stops.
 fn ask<O: Oracle>(oracle: &O, set: &GapSet) -> Result<Verdict, Stop>
-    requires { AreGapsOf (O.question oracle.now).program set.now }
+    requires gaps { AreGapsOf (O.question oracle.now).program set.now }
+    requires may { O.may_be_asked oracle.now }
     ensures verdict { IfOk result (IsVerdictOf (O.question oracle.now) set.now) }
     ensures fault { IfErr result (MayStop (O.may_lack_runs oracle.now)) }
 {

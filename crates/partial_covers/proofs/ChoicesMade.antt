@@ -1,6 +1,6 @@
 -- Choices that are made one after another.
 use Rattle.std.proofs.Common.{◌≡◌, ℕ, zero, suc, ◌+◌, ◌<◌, ◌≤◌, List, [], ◌∷◌, ◌++◌, get_or, length, take, refl, ap, ◌∙◌, arith}
-use Rattle.partial_covers.proofs.Vocabulary.{take_more, take_all, ProgramSketch, mode_in, with_chosen, Choice, MayChoose, sketch_with, after, unfenced, MayChooseAll}
+use Rattle.partial_covers.proofs.Vocabulary.{take_more, take_all, ProgramSketch, mode_in, with_chosen, Choice, MayChoose, sketch_with, after, sequential, unfenced, MayChooseAll}
 use Rattle.partial_covers.proofs.PartialRows.{after_more}
 
 -- the program and the mode stay
@@ -20,6 +20,11 @@ same_machine s (c ∷ cs) = same_machine (with_chosen s (sketch_with s.chosen c)
 pub after_unfenced : (s : ProgramSketch) (path : List Choice) → after (unfenced s) path ≡ unfenced (after s path)
 after_unfenced s [] = refl
 after_unfenced s (c ∷ cs) = after_unfenced (with_chosen s (sketch_with s.chosen c)) cs
+
+-- and in the sequential machine
+pub after_sequential : (s : ProgramSketch) (path : List Choice) → after (sequential s) path ≡ sequential (after s path)
+after_sequential s [] = refl
+after_sequential s (c ∷ cs) = after_sequential (with_chosen s (sketch_with s.chosen c)) cs
 
 -- one more
 pub may_more : (s : ProgramSketch) (path : List Choice) (c : Choice) → MayChooseAll s path → MayChoose (after s path) c → MayChooseAll s (path ++ c ∷ [])

@@ -1,7 +1,7 @@
 -- Nodes that stand for a partial cover: copies of nodes, and the nodes of other trees in place of the holes.
 use Rattle.std.proofs.Common.{◌≡◌, ℕ, suc, ◌+◌, ◌<◌, List, [], ◌∷◌, ◌++◌, get_or, length, map, take, Contains, refl, sym, ap, ◌∙◌, subst, arith, append_assoc}
 use Rattle.partial_covers.proofs.Vocabulary.{append-nil, take_more, Listing, Outcome, Shown, Mode, machine_of_mode, ProgramSketch, mode_in, nothing_chosen, IsLawful, HaveAllRegisters, choices_few}
-use Rattle.partial_covers.proofs.Vocabulary.{Node, count_covers, in_mode, first_is_here, later_is_here, Choice, AreValueChoices, MayChoose, next_is_open, PartialCover, Piece, sequential_node}
+use Rattle.partial_covers.proofs.Vocabulary.{Node, count_covers, in_mode, first_is_here, later_is_here, Choice, AreValueChoices, MayChoose, next_is_open, PartialCover, Piece}
 use Rattle.partial_covers.proofs.Vocabulary.{copied_in, KeepsNumbers, Item, Has, Lacks, PartialTree, Closed, Values, Hole, PartialTrees, NoPartial, MorePartial, count_partial, spell_partial}
 use Rattle.partial_covers.proofs.Vocabulary.{spell_partial_row, items_before, items_of, after, IsPartialAfter, ArePartialAfter, IsPartialCover, unfenced, Pushes, still_valid, cover_next, covers_none}
 use Rattle.partial_covers.proofs.Vocabulary.{node_cover}
@@ -14,6 +14,7 @@ use Rattle.cert_forest.proofs.PushedTrees.{listed}
 use Rattle.cover_judge.specs.declared.choice.Choice.TheVariants as choice
 use Rattle.branching.specs.declared.open_choice.OpenChoice.TheVariants as left
 use Rattle.sketch_covers.specs.Covers.{IsCoverAt, AreCoversAfter}
+use Rattle.partial_covers.specs.HoleTrees.{copied, Filled}
 use Rattle.partial_covers.proofs.ChangedNodes.{spelled_in_sequence}
 use Rattle.partial_covers.proofs.ChoicesMade.{same_program, same_mode, after_unfenced}
 use Rattle.partial_covers.proofs.FilledTrees.{cover_in_mode, choices_in_mode}
@@ -22,10 +23,6 @@ use Rattle.partial_covers.proofs.PartialRows.{after_more, partial_still}
 use Rattle.partial_covers.proofs.LawfulValues.{lawful_value}
 
 -- ---- copies of nodes
-
-abbrev copied : Mode → Node → Node
-copied modes.Sequential x = sequential_node x
-copied (modes.Fenced gaps) x = x
 
 all_copied : (mode : Mode) (xs : List Node) → copied_in mode xs ≡ map (copied mode) xs
 all_copied modes.Sequential xs = refl
@@ -44,32 +41,27 @@ value_copied (modes.Fenced gaps) t n = refl
 -- ---- what stands for a partial cover
 
 module _ (s : ProgramSketch) (shown : Shown) where
-  abbrev pub Filled : List Outcome → List Item → List Node → Type 0
-  Filled outcomes [] nodes = nodes ≡ []
-  Filled outcomes (Has x ∷ items) nodes = (more : List Node) × (nodes ≡ copied s.mode x ∷ more) × Filled outcomes items more
-  Filled outcomes (Lacks path ∷ items) nodes = (tree : Cover) × (more : List Node) × IsCoverAt (after s path) shown outcomes tree × (nodes ≡ spell tree ++ more) × Filled outcomes items more
-
   -- one after another
-  filled_append : (outcomes : List Outcome) (items others : List Item) (nodes more : List Node) → Filled outcomes items nodes → Filled outcomes others more → Filled outcomes (items ++ others) (nodes ++ more)
-  filled_append outcomes [] others nodes more none next = subst (λ (xs : List Node). Filled outcomes others (xs ++ more)) (sym none) next
+  filled_append : (outcomes : List Outcome) (items others : List Item) (nodes more : List Node) → Filled s shown outcomes items nodes → Filled s shown outcomes others more → Filled s shown outcomes (items ++ others) (nodes ++ more)
+  filled_append outcomes [] others nodes more none next = subst (λ (xs : List Node). Filled s shown outcomes others (xs ++ more)) (sym none) next
   filled_append outcomes (Has x ∷ items) others nodes more (rest, is, so) next = (rest ++ more, ap (λ (xs : List Node). xs ++ more) is, filled_append outcomes items others rest more so next)
-  filled_append outcomes (Lacks path ∷ items) others nodes more (tree, rest, at, is, so) next =
+  filled_append outcomes (Lacks path filling ∷ items) others nodes more (tree, rest, at, is, so) next =
       (tree, rest ++ more, at, ap (λ (xs : List Node). xs ++ more) is ∙ append_assoc (spell tree) rest more, filled_append outcomes items others rest more so next)
 
   -- nodes that are copied
-  filled_copies : (outcomes : List Outcome) (xs : List Node) → Filled outcomes (map Has xs) (map (copied s.mode) xs)
+  filled_copies : (outcomes : List Outcome) (xs : List Node) → Filled s shown outcomes (map Has xs) (map (copied s.mode) xs)
   filled_copies outcomes [] = refl
   filled_copies outcomes (x ∷ xs) = (map (copied s.mode) xs, refl, filled_copies outcomes xs)
 
   -- a tree in place of a hole
-  filled_hole : (outcomes : List Outcome) (path : List Choice) (tree : Cover) → IsCoverAt (after s path) shown outcomes tree → Filled outcomes (Lacks path ∷ []) (spell tree)
-  filled_hole outcomes path tree at = (tree, [], at, sym (append-nil (spell tree)), refl)
+  filled_hole : (outcomes : List Outcome) (path : List Choice) (filling : List Node) (tree : Cover) → IsCoverAt (after s path) shown outcomes tree → Filled s shown outcomes (Lacks path filling ∷ []) (spell tree)
+  filled_hole outcomes path filling tree at = (tree, [], at, sym (append-nil (spell tree)), refl)
 
   -- it stays where each outcome keeps its number
-  pub filled_still : (old new : List Outcome) → KeepsNumbers old new → (items : List Item) (nodes : List Node) → Filled old items nodes → Filled new items nodes
+  pub filled_still : (old new : List Outcome) → KeepsNumbers old new → (items : List Item) (nodes : List Node) → Filled s shown old items nodes → Filled s shown new items nodes
   filled_still old new keeps [] nodes none = none
   filled_still old new keeps (Has x ∷ items) nodes (more, is, so) = (more, is, filled_still old new keeps items more so)
-  filled_still old new keeps (Lacks path ∷ items) nodes (tree, more, at, is, so) = (
+  filled_still old new keeps (Lacks path filling ∷ items) nodes (tree, more, at, is, so) = (
     tree,
     more,
     record {
@@ -82,21 +74,21 @@ module _ (s : ProgramSketch) (shown : Shown) where
   )
 
   -- copies after what was there
-  pub more_copies : (outcomes : List Outcome) (items : List Item) (old new xs : List Node) → Filled outcomes items old → new ≡ old ++ copied_in s.mode xs → Filled outcomes (items ++ map Has xs) new
+  pub more_copies : (outcomes : List Outcome) (items : List Item) (old new xs : List Node) → Filled s shown outcomes items old → new ≡ old ++ copied_in s.mode xs → Filled s shown outcomes (items ++ map Has xs) new
   more_copies outcomes items old new xs so is =
-      subst (Filled outcomes (items ++ map Has xs)) (sym (is ∙ ap (λ (ys : List Node). old ++ ys) (all_copied s.mode xs))) (filled_append outcomes items (map Has xs) old (map (copied s.mode) xs) so (filled_copies outcomes xs))
+      subst (Filled s shown outcomes (items ++ map Has xs)) (sym (is ∙ ap (λ (ys : List Node). old ++ ys) (all_copied s.mode xs))) (filled_append outcomes items (map Has xs) old (map (copied s.mode) xs) so (filled_copies outcomes xs))
 
   -- a piece more: copies, and a tree in place of its hole
   pub more_pieces : (before outcomes : List Outcome) (pieces : List Piece) (i : ℕ) (d : Piece) (old mid new : List Node) → i < length pieces → KeepsNumbers before outcomes
-      → Filled before (items_before (take i pieces)) old → mid ≡ old ++ copied_in s.mode (get_or pieces i d).nodes.items → Pushes (IsCoverAt (after s (get_or pieces i d).path.items) shown outcomes) mid new
-      → Filled outcomes (items_before (take (i + 1) pieces)) new
+      → Filled s shown before (items_before (take i pieces)) old → mid ≡ old ++ copied_in s.mode (get_or pieces i d).nodes.items → Pushes (IsCoverAt (after s (get_or pieces i d).path.items) shown outcomes) mid new
+      → Filled s shown outcomes (items_before (take (i + 1) pieces)) new
   more_pieces before outcomes pieces i d old mid new here keeps so copies tree =
       let p = get_or pieces i d in
       let items = items_before (take i pieces) in
       let copied_too = more_copies outcomes items old mid p.nodes.items (filled_still before outcomes keeps items old so) copies in
-      let all = filled_append outcomes (items ++ map Has p.nodes.items) (Lacks p.path.items ∷ []) mid (spell tree.tree) copied_too (filled_hole outcomes p.path.items tree.tree tree.is) in
-      subst (λ (xs : List Item). Filled outcomes xs new) (sym (ap items_before (take_more pieces i d here) ∙ pieces_pushed (take i pieces) p))
-      (subst (Filled outcomes ((items ++ map Has p.nodes.items) ++ Lacks p.path.items ∷ [])) (sym tree.pushed) all)
+      let all = filled_append outcomes (items ++ map Has p.nodes.items) (Lacks p.path.items p.filling.items ∷ []) mid (spell tree.tree) copied_too (filled_hole outcomes p.path.items p.filling.items tree.tree tree.is) in
+      subst (λ (xs : List Item). Filled s shown outcomes xs new) (sym (ap items_before (take_more pieces i d here) ∙ pieces_pushed (take i pieces) p))
+      (subst (Filled s shown outcomes ((items ++ map Has p.nodes.items) ++ Lacks p.path.items p.filling.items ∷ [])) (sym tree.pushed) all)
 
   -- ---- it is a tree
 
@@ -106,7 +98,7 @@ module _ (s : ProgramSketch) (shown : Shown) where
       tree : Cover
       is : IsCoverAt (after s path) shown outcomes tree
       others : List Node
-      so : Filled outcomes items others
+      so : Filled s shown outcomes items others
       pushed : nodes ≡ spell tree ++ others
 
     record FilledRow (path : List Choice) (choices : List Choice) (many : ℕ) (items : List Item) (nodes : List Node) : Type 0 where
@@ -114,16 +106,16 @@ module _ (s : ProgramSketch) (shown : Shown) where
       are : AreCoversAfter (after s path) shown outcomes choices trees
       count : many ≡ length trees
       others : List Node
-      so : Filled outcomes items others
+      so : Filled s shown outcomes items others
       pushed : nodes ≡ spell_all trees ++ others
 
-    copies_first : (xs : List Node) (items : List Item) (nodes : List Node) → Filled outcomes (map Has xs ++ items) nodes → (others : List Node) × (nodes ≡ map (copied s.mode) xs ++ others) × Filled outcomes items others
+    copies_first : (xs : List Node) (items : List Item) (nodes : List Node) → Filled s shown outcomes (map Has xs ++ items) nodes → (others : List Node) × (nodes ≡ map (copied s.mode) xs ++ others) × Filled s shown outcomes items others
     copies_first [] items nodes so = (nodes, refl, so)
     copies_first (x ∷ xs) items nodes (more, is, so) =
         let (others, rest, later) = copies_first xs items more so in
         (others, is ∙ ap (λ (ys : List Node). copied s.mode x ∷ ys) rest, later)
 
-    closed_filled : (path : List Choice) (tree : Cover) (items : List Item) (nodes : List Node) → IsCoverAt (after (unfenced s) path) shown outcomes tree → Filled outcomes (map Has (spell tree) ++ items) nodes → FilledTree path items nodes
+    closed_filled : (path : List Choice) (tree : Cover) (items : List Item) (nodes : List Node) → IsCoverAt (after (unfenced s) path) shown outcomes tree → Filled s shown outcomes (map Has (spell tree) ++ items) nodes → FilledTree path items nodes
     closed_filled path tree items nodes is so =
         let n = after s path in
         let (others, copies, later) = copies_first (spell tree) items nodes so in
@@ -151,7 +143,7 @@ module _ (s : ProgramSketch) (shown : Shown) where
               ∙ (λ i. node.Value t (count i) ∷ ((sym (listed row.trees)) i ++ row.others));
         }
 
-    none_filled : (path : List Choice) (items : List Item) (nodes : List Node) → IsLawful (after s path) → Filled outcomes items nodes → FilledRow path [] 0 items nodes
+    none_filled : (path : List Choice) (items : List Item) (nodes : List Node) → IsLawful (after s path) → Filled s shown outcomes items nodes → FilledRow path [] 0 items nodes
     none_filled path items nodes lawful so = record {
       trees = [];
       are = covers_none (after s path) shown outcomes lawful (choices_few (after s path) lawful);
@@ -185,14 +177,14 @@ module _ (s : ProgramSketch) (shown : Shown) where
       registers path = subst (λ (p : Listing). HaveAllRegisters p.threads) (sym (same_program s path)) six
 
       mutual
-        tree_filled : (path : List Choice) (tree : PartialTree) (items : List Item) (nodes : List Node) → IsLawful (after s path) → IsPartialAfter (unfenced s) shown outcomes path tree → Filled outcomes (spell_partial tree ++ items) nodes
+        tree_filled : (path : List Choice) (tree : PartialTree) (items : List Item) (nodes : List Node) → IsLawful (after s path) → IsPartialAfter (unfenced s) shown outcomes path tree → Filled s shown outcomes (spell_partial tree ++ items) nodes
             → FilledTree path items nodes
         tree_filled path (Closed tree) items nodes lawful is so = closed_filled path tree items nodes is so
         tree_filled path (Values t children) items nodes lawful (choices, are, each) (more, root, so) =
             let own = choices_in_mode (after s path) t choices (subst (λ (k : ProgramSketch). AreValueChoices k t choices) (after_unfenced s path) are) in
             let row = row_filled path t children own.values items more lawful (λ v here. (own.next.location, own.next.next, (own.next.exact v).0 here)) (subst (ArePartialAfter (unfenced s) shown outcomes path children) own.each each) so in
             values_filled path t choices (count_partial children) items nodes more (registers path) lawful own root (subst (λ (cs : List Choice). FilledRow path cs (count_partial children) items more) (sym own.each) row)
-        tree_filled path (Hole to) items nodes lawful (same, whole) (tree, more, at, is, so) = record {
+        tree_filled path (Hole to filling) items nodes lawful (same, whole, filled) (tree, more, at, is, so) = record {
           tree = tree;
           is = subst (λ (cs : List Choice). IsCoverAt (after s cs) shown outcomes tree) same at;
           others = more;
@@ -201,7 +193,7 @@ module _ (s : ProgramSketch) (shown : Shown) where
         }
 
         row_filled : (path : List Choice) (t : ℕ) (children : PartialTrees) (values : List ℕ) (items : List Item) (nodes : List Node) → IsLawful (after s path) → ((v : ℕ) → Contains values v → MayChoose (after s path) (choice.Value t v))
-            → ArePartialAfter (unfenced s) shown outcomes path children (map (choice.Value t) values) → Filled outcomes (spell_partial_row children ++ items) nodes → FilledRow path (map (choice.Value t) values) (count_partial children) items nodes
+            → ArePartialAfter (unfenced s) shown outcomes path children (map (choice.Value t) values) → Filled s shown outcomes (spell_partial_row children ++ items) nodes → FilledRow path (map (choice.Value t) values) (count_partial children) items nodes
         row_filled path t NoPartial [] items nodes lawful may are so = none_filled path items nodes lawful so
         row_filled path t NoPartial (v ∷ vs) items nodes lawful may are so = absurd are
         row_filled path t (MorePartial child children) [] items nodes lawful may are so = absurd are
@@ -210,7 +202,7 @@ module _ (s : ProgramSketch) (shown : Shown) where
             let one = may v (first_is_here v vs) in
             let next = lawful_value (after s path) t v one.0 lawful one.1 one.2 in
             let first = tree_filled (path ++ c ∷ []) child (spell_partial_row children ++ items) nodes (subst IsLawful (sym (after_more s path c)) next) are.0
-            (subst (λ (xs : List Item). Filled outcomes xs nodes) (append_assoc (spell_partial child) (spell_partial_row children) items) so) in
+            (subst (λ (xs : List Item). Filled s shown outcomes xs nodes) (append_assoc (spell_partial child) (spell_partial_row children) items) so) in
             let rest = row_filled path t children vs items first.others lawful (λ w here. may w (later_is_here v vs w here)) are.1 first.so in
             one_filled path c (map (choice.Value t) vs) (count_partial children) (spell_partial_row children ++ items) items nodes lawful one first rest
 

@@ -11,7 +11,9 @@ use Rattle.cover_judge.specs.declared.choice.Choice.TheVariants as choice
 use Rattle.cover_judge.proofs.OneList.{one_list_of_values}
 use Rattle.std.proofs.Common.{map}
 use Rattle.partial_covers.proofs.Vocabulary.{SetOfGaps, Listing, Outcome, Shown, asked, machine_of_mode, IsWhole, ProgramSketch, mode_in, Cover, IsNoLooser, in_mode, Choice, AreValueChoices}
-use Rattle.partial_covers.proofs.Vocabulary.{IsCoverAt, unfenced}
+use Rattle.partial_covers.proofs.Vocabulary.{IsCoverAt, SequentialMachine, sequential, unfenced}
+use Rattle.cover_judge.specs.Choices.{MayChooseEach}
+use Rattle.cover_judge.proofs.ChoicesJudged.{values_may}
 use Rattle.partial_covers.proofs.TighterTrees.{neat_in_mode, depth_in_mode}
 
 -- the empty set has no gap
@@ -23,6 +25,19 @@ no_gap more (Some gap) here = absurd (let no = set.contains-empty nat_cmp gap in
 pub no_looser : (p : Listing) (mode : own.Mode) → IsNoLooser (machine_of_mode p (modes.Fenced set.empty)) (machine_of_mode p mode)
 no_looser p modes.Sequential = tt
 no_looser p (modes.Fenced gaps) = λ t i. no_gap gaps (gap_number p.threads t i)
+
+-- none is tighter than the sequential one
+tightest : (p : Listing) (mode : own.Mode) → IsNoLooser (machine_of_mode p mode) SequentialMachine
+tightest p modes.Sequential = tt
+tightest p (modes.Fenced gaps) = tt
+
+-- so the values of a read may be chosen in the sequential machine too
+pub values_in_sequence : (s : ProgramSketch) (t : ℕ) (choices : List Choice) → AreValueChoices s t choices → MayChooseEach (sequential s) choices
+values_in_sequence s t choices are = values_may (sequential s) t choices (record {
+  values = are.values;
+  next = tighter_keeps_values s.program (mode_in s) SequentialMachine s.chosen t are.values (tightest s.program s.mode) are.next;
+  each = are.each;
+})
 
 module _ (s : ProgramSketch) where
   -- a tree of a partial cover, in the mode of the sketch

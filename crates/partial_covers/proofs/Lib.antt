@@ -16,6 +16,8 @@ pub mod ChoicesMade
 pub mod FilledTrees
 pub mod FilledNodes
 pub mod HolesFilled
+pub mod HoleTrees
+pub mod FilledParts
 pub mod NearNumbers
 pub mod PartialRenumbered
 pub mod PartsJoined

@@ -34,10 +34,10 @@ module _ (s : ProgramSketch) (shown : Shown) (outcomes : List Outcome) (path : L
   }
 
   -- a hole
-  pub pushes_hole : (old new : List Item) → IsWhole s.program (mode_in s) s.chosen → new ≡ old ++ Lacks path ∷ [] → PushesPartialAt s shown outcomes path old new
+  pub pushes_hole : (old new : List Item) → IsWhole s.program (mode_in s) s.chosen → new ≡ old ++ Lacks path [] ∷ [] → PushesPartialAt s shown outcomes path old new
   pushes_hole old new whole is root leads = record {
-    tree = Hole path;
-    is = (refl, subst (λ (k : ProgramSketch). IsWhole k.program (mode_in k) k.chosen) (sym leads) whole);
+    tree = Hole path [];
+    is = (refl, subst (λ (k : ProgramSketch). IsWhole k.program (mode_in k) k.chosen) (sym leads) whole, tt);
     pushed = is;
   }
 
@@ -53,22 +53,26 @@ module _ (s : ProgramSketch) (shown : Shown) (outcomes : List Outcome) where
       record { tree = more.tree; is = leaf_cover s shown outcomes lawful more.tree few more.is; pushed = more.pushed }
 
 -- a piece after the others
-pub pieces_pushed : (pieces : List Piece) (piece : Piece) → items_before (pieces ++ piece ∷ []) ≡ (items_before pieces ++ map Has piece.nodes.items) ++ Lacks piece.path.items ∷ []
+pub pieces_pushed : (pieces : List Piece) (piece : Piece) → items_before (pieces ++ piece ∷ []) ≡ (items_before pieces ++ map Has piece.nodes.items) ++ Lacks piece.path.items piece.filling.items ∷ []
 pieces_pushed [] piece = refl
 pieces_pushed (p ∷ ps) piece =
-    ap (λ (xs : List Item). map Has p.nodes.items ++ Lacks p.path.items ∷ xs) (pieces_pushed ps piece)
-    ∙ sym (append_assoc (map Has p.nodes.items) ((Lacks p.path.items ∷ items_before ps) ++ map Has piece.nodes.items) (Lacks piece.path.items ∷ []))
-    ∙ ap (λ (xs : List Item). xs ++ Lacks piece.path.items ∷ []) (sym (append_assoc (map Has p.nodes.items) (Lacks p.path.items ∷ items_before ps) (map Has piece.nodes.items)))
+    ap (λ (xs : List Item). map Has p.nodes.items ++ Lacks p.path.items p.filling.items ∷ xs) (pieces_pushed ps piece)
+    ∙ sym (append_assoc (map Has p.nodes.items) ((Lacks p.path.items p.filling.items ∷ items_before ps) ++ map Has piece.nodes.items) (Lacks piece.path.items piece.filling.items ∷ []))
+    ∙ ap (λ (xs : List Item). xs ++ Lacks piece.path.items piece.filling.items ∷ []) (sym (append_assoc (map Has p.nodes.items) (Lacks p.path.items p.filling.items ∷ items_before ps) (map Has piece.nodes.items)))
 
 pub piece_pushed : (old new : List Piece) (piece : Piece) (nodes none : List Node) (path : List Choice) → new ≡ old ++ piece ∷ [] → piece.nodes.items ≡ nodes → none ≡ [] → piece.path.items ≡ path →
-    items_before new ++ map Has none ≡ (items_before old ++ map Has nodes) ++ Lacks path ∷ []
+    items_before new ++ map Has none ≡ (items_before old ++ map Has nodes) ++ Lacks path piece.filling.items ∷ []
 piece_pushed old new piece nodes none path pushed here empty leads =
     (λ i. items_before (pushed i) ++ map Has (empty i)) ∙ append-nil (items_before (old ++ piece ∷ [])) ∙ pieces_pushed old piece
-    ∙ (λ i. (items_before old ++ map Has (here i)) ++ Lacks (leads i) ∷ [])
+    ∙ (λ i. (items_before old ++ map Has (here i)) ++ Lacks (leads i) piece.filling.items ∷ [])
 
 pub on_ok : {T E : Type 0} (r : Result T E) (P Q : Type 0) → (P → Q) → OnOk r P → OnOk r Q
 on_ok (Ok v) P Q follows is = follows is
 on_ok (Err e) P Q follows is = tt
+
+pub on_both : {T E : Type 0} (r : Result T E) (P Q R : Type 0) → (P → Q → R) → OnOk r P → OnOk r Q → OnOk r R
+on_both (Ok v) P Q R follows one other = follows one other
+on_both (Err e) P Q R follows one other = tt
 
 -- what is said of a search that stops, by why it stops
 pub told_as : (why other : Stop) (P : Type 0) → why ≡ other → OnTold {T = ℕ} (Err why) P → OnTold {T = ℕ} (Err other) P

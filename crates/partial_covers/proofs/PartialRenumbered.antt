@@ -4,7 +4,7 @@ use Rattle.std.specs.FinSet as set
 use Rattle.partial_covers.proofs.Vocabulary.{◌^◌, cases_eq, map-append, get_or-set_same, get_or-set_other, Listing, Outcome, Shown, asked, SequentialMachine, empty_sketch, ProgramSketch, mode_in}
 use Rattle.partial_covers.proofs.Vocabulary.{nothing_chosen, same_default, Node, NEAR_RUNS, spell, Cover, Choice, PartialCover, Piece, renumbered_node, IsWholeCover, Item, Has, Lacks, renumbered_item}
 use Rattle.partial_covers.proofs.Vocabulary.{IsPieceRenumbered, PartialTree, Closed, Values, Hole, PartialTrees, NoPartial, MorePartial, count_partial, spell_partial, spell_partial_row, items_before}
-use Rattle.partial_covers.proofs.Vocabulary.{items_of, after, IsPartialAfter, ArePartialAfter, IsPartialCover}
+use Rattle.partial_covers.proofs.Vocabulary.{items_of, after, sequential, IsFilling, IsPartialAfter, ArePartialAfter, IsPartialCover}
 use Rattle.tso_machine.specs.declared.mode.Mode.TheVariants as modes
 use Rattle.cert_forest.specs.declared.node.Node.TheVariants as node
 use Rattle.sketch_covers.specs.OutcomeNumbers.{HasNumber, place_in, ArePlacesOf}
@@ -28,9 +28,9 @@ pieces_renumbered place (p ∷ ps) [] same each = absurd (omega arith)
 pieces_renumbered place (p ∷ ps) (q ∷ qs) same each =
     let first = each 0 p (omega arith) in
     let rest = pieces_renumbered place ps qs (omega arith) (λ k d h. each (suc k) d (omega arith)) in
-    (λ i. map Has (first.nodes i) ++ Lacks (first.path i) ∷ rest i)
-    ∙ ap (λ (xs : List Item). xs ++ Lacks p.path.items ∷ map (renumbered_item place) (items_before ps)) (sym (map_has place p.nodes.items))
-    ∙ sym (map-append (renumbered_item place) (map Has p.nodes.items) (Lacks p.path.items ∷ items_before ps))
+    (λ i. map Has (first.nodes i) ++ Lacks (first.path i) (first.filling i) ∷ rest i)
+    ∙ ap (λ (xs : List Item). xs ++ Lacks p.path.items (map (renumbered_node place) p.filling.items) ∷ map (renumbered_item place) (items_before ps)) (sym (map_has place p.nodes.items))
+    ∙ sym (map-append (renumbered_item place) (map Has p.nodes.items) (Lacks p.path.items p.filling.items ∷ items_before ps))
 
 -- one piece more has other numbers
 module _ (place : ℕ → ℕ) (old now : List Piece) (i : ℕ) (piece new : Piece) (here : i < length old) (long : length now ≡ length old) (left : (k : ℕ) (d : Piece) → i ≤ k → get_or now k d ≡ get_or old k d)
@@ -74,6 +74,17 @@ module _ (s : ProgramSketch) (shown : Shown) (old new : List Outcome) (place : �
     count : count_partial made ≡ count_partial children
     spelled : spell_partial_row made ≡ map (renumbered_item place) (spell_partial_row children)
 
+  -- and so is a filling
+  filling_renumbered : (k : ProgramSketch) (nodes : List Node) → IsFilling k shown old nodes → IsFilling k shown new (map (renumbered_node place) nodes)
+  filling_renumbered k [] none = tt
+  filling_renumbered k (x ∷ xs) filled =
+      let n = sequential k in
+      record {
+        tree = renumbered place filled.tree;
+        is = cover_renumbered n shown old new place few moves filled.tree filled.is;
+        pushed = ap (map (renumbered_node place)) filled.pushed ∙ sym (spelled_renumbered place small filled.tree (valid_near (asked n.program shown) (mode_in n) old near filled.tree n.chosen filled.is.valid));
+      }
+
   mutual
     pub partial_renumbered : (path : List Choice) (tree : PartialTree) → IsPartialAfter s shown old path tree → Renumbers path tree
     partial_renumbered path (Closed tree) is =
@@ -90,7 +101,11 @@ module _ (s : ProgramSketch) (shown : Shown) (old new : List Outcome) (place : �
           is = (choices, are, below.are);
           spelled = λ i. Has (node.Value t (below.count i)) ∷ below.spelled i;
         }
-    partial_renumbered path (Hole to) is = record { made = Hole to; is = is; spelled = refl }
+    partial_renumbered path (Hole to filling) (leads, whole, filled) = record {
+      made = Hole to (map (renumbered_node place) filling);
+      is = (leads, whole, filling_renumbered (after s path) filling filled);
+      spelled = refl;
+    }
 
     each_renumbered : (path choices : List Choice) (children : PartialTrees) → ArePartialAfter s shown old path children choices → RenumberEach path choices children
     each_renumbered path [] NoPartial are = record { made = NoPartial; are = tt; count = refl; spelled = refl }

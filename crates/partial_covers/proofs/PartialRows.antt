@@ -2,7 +2,7 @@
 use Rattle.std.proofs.Common.{◌≡◌, ℕ, suc, ◌+◌, ◌<◌, List, [], ◌∷◌, ◌++◌, get_or, length, take, refl, sym, ap, ◌∙◌, subst, append_assoc}
 use Rattle.std.specs.FinSet as set
 use Rattle.partial_covers.proofs.Vocabulary.{take_more, append-nil, Listing, Outcome, Shown, ProgramSketch, mode_in, nothing_chosen, with_chosen, Choice, AreValueChoices, sketch_with, PartialCover}
-use Rattle.partial_covers.proofs.Vocabulary.{KeepsNumbers, still_valid}
+use Rattle.partial_covers.proofs.Vocabulary.{KeepsNumbers, Cover, IsCoverAt, IsFilling, Node, sequential, still_valid}
 use Rattle.tso_machine.specs.declared.mode.Mode.TheVariants as modes
 use Rattle.cert_forest.specs.declared.node.Node.TheVariants as node
 use Rattle.partial_covers.specs.PartialCovers.{Item, Has, PartialTree, Closed, Values, Hole, PartialTrees, NoPartial, MorePartial, partial_of, count_partial, spell_partial, spell_partial_row, after, IsPartialAfter, ArePartialAfter, PushesPartial, PushesPartialRow, IsPartialCover}
@@ -12,17 +12,25 @@ pub after_more : (s : ProgramSketch) (path : List Choice) (c : Choice) → after
 after_more s [] c = refl
 after_more s (d ∷ path) c = after_more (with_chosen s (sketch_with s.chosen d)) path c
 
+-- a tree stays valid where each outcome keeps its number
+pub cover_still : (s : ProgramSketch) (shown : Shown) (old new : List Outcome) → KeepsNumbers old new → (tree : Cover) → IsCoverAt s shown old tree → IsCoverAt s shown new tree
+cover_still s shown old new keeps tree is = record {
+  valid = still_valid (record { program = s.program; shown = shown }) (mode_in s) old new keeps tree s.chosen is.valid;
+  neat = is.neat;
+  shallow = is.shallow;
+}
+
+pub filling_still : (s : ProgramSketch) (shown : Shown) (old new : List Outcome) → KeepsNumbers old new → (nodes : List Node) → IsFilling s shown old nodes → IsFilling s shown new nodes
+filling_still s shown old new keeps [] none = tt
+filling_still s shown old new keeps (x ∷ xs) filled = record { tree = filled.tree; is = cover_still (sequential s) shown old new keeps filled.tree filled.is; pushed = filled.pushed }
+
 module _ (s : ProgramSketch) (shown : Shown) where
-  -- a partial cover stays one where each outcome keeps its number
+  -- so does a partial cover
   mutual
     pub partial_still : (old new : List Outcome) → KeepsNumbers old new → (path : List Choice) (tree : PartialTree) → IsPartialAfter s shown old path tree → IsPartialAfter s shown new path tree
-    partial_still old new keeps path (Closed tree) is = record {
-      valid = still_valid (record { program = (after s path).program; shown = shown }) (mode_in (after s path)) old new keeps tree (after s path).chosen is.valid;
-      neat = is.neat;
-      shallow = is.shallow;
-    }
+    partial_still old new keeps path (Closed tree) is = cover_still (after s path) shown old new keeps tree is
     partial_still old new keeps path (Values t children) (choices, are, each) = (choices, are, each_still old new keeps path children choices each)
-    partial_still old new keeps path (Hole to) is = is
+    partial_still old new keeps path (Hole to filling) (leads, whole, filled) = (leads, whole, filling_still (after s path) shown old new keeps filling filled)
 
     pub each_still : (old new : List Outcome) → KeepsNumbers old new → (path : List Choice) (children : PartialTrees) (choices : List Choice) → ArePartialAfter s shown old path children choices → ArePartialAfter s shown new path children choices
     each_still old new keeps path NoPartial [] are = tt

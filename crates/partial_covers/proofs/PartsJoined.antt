@@ -11,6 +11,11 @@ use Rattle.partial_covers.specs.Parts.{AreRunsFor, IsMadeAt, IsPartFor, AreParts
 use Rattle.partial_covers.proofs.PartialRenumbered.{partial_renumbered}
 use Rattle.partial_covers.proofs.CombinedCovers.{before_next}
 use Rattle.partial_covers.proofs.PartialRows.{after_more}
+use Rattle.partial_covers.proofs.ChoicesMade.{after_sequential, may_more, same_program}
+use Rattle.partial_covers.proofs.Vocabulary.{MayChoose, MayChooseAll, nothing_chosen, sequential, Listing}
+use Rattle.partial_covers.specs.Parts.{IsOwnPart}
+use Rattle.std.specs.FinSet as fin
+use Rattle.tso_machine.specs.declared.mode.Mode.TheVariants as modes
 
 runs_stay : (q : Question) (old new : KnownOutcomes) (found : OutcomeIndex) → StaysOf old new → AreRunsFor q old found → AreRunsFor q new found
 runs_stay q (Closed outcomes) new found stays runs = subst (λ (o : KnownOutcomes). AreRunsFor q o found) (sym stays) runs
@@ -51,11 +56,17 @@ module _ (s : ProgramSketch) (shown : Shown) (outcomes : List Outcome) (path : L
 -- the same part, and the part after a choice of another thread
 module _ (root : ProgramSketch) (last : LastThread) (part new : Part) (is : IsPartOf root last part) where
   pub part_copied : new.path.items ≡ part.path.items → new.sketch ≡ part.sketch → IsPartOf root last new
-  part_copied path sketch = record { leads = ap (after root) path ∙ is.leads ∙ sym sketch; before = subst (λ (s : ProgramSketch). IsBeforeLast s last) (sym sketch) is.before }
+  part_copied path sketch = record {
+    leads = ap (after root) path ∙ is.leads ∙ sym sketch;
+    may = subst (MayChooseAll (sequential root)) (sym path) is.may;
+    before = subst (λ (s : ProgramSketch). IsBeforeLast s last) (sym sketch) is.before;
+  }
 
-  pub part_next : (c : Choice) → IsOfOther last.thread c → new.path.items ≡ part.path.items ++ c ∷ [] → new.sketch ≡ with_chosen part.sketch (sketch_with part.sketch.chosen c) → IsPartOf root last new
-  part_next c other path sketch = record {
+  pub part_next : (c : Choice) → IsOfOther last.thread c → MayChoose (sequential part.sketch) c → new.path.items ≡ part.path.items ++ c ∷ [] → new.sketch ≡ with_chosen part.sketch (sketch_with part.sketch.chosen c) → IsPartOf root last new
+  part_next c other one path sketch = record {
     leads = ap (after root) path ∙ after_more root part.path.items c ∙ ap (λ (k : ProgramSketch). with_chosen k (sketch_with k.chosen c)) is.leads ∙ sym sketch;
+    may = subst (MayChooseAll (sequential root)) (sym path)
+        (may_more (sequential root) part.path.items c is.may (subst (λ (k : ProgramSketch). MayChoose k c) (sym (after_sequential root part.path.items ∙ ap sequential is.leads)) one));
     before = before_next part.sketch new.sketch last c other sketch is.before;
   }
 
@@ -91,8 +102,11 @@ module _ (shown : Shown) (mode : Mode) (old now : List Part) (i : ℕ) (part new
   searched_left k d above = get_or-set_other now i k new d (omega arith) ∙ left k d (omega arith)
 
 -- each part of a search that is ready is as it must be, and their covers once they are searched are so
-pub parts_ready : (s : ProgramSketch) (plan : Option Plan) (one : Plan) (parts : List Part) → plan ≡ Some one → IsPlanned s plan parts → All (λ part. IsBeforeLast part.sketch one.last) parts
-parts_ready s plan one parts is planned i d h = ((subst (λ (p : Option Plan). IsPlanned s p parts) is planned).1 i d h).before
+pub parts_ready : (p : Listing) (s : ProgramSketch) (plan : Option Plan) (one : Plan) (parts : List Part) → s ≡ nothing_chosen p (modes.Fenced fin.empty) → plan ≡ Some one → IsPlanned s plan parts → All (IsOwnPart one.last) parts
+parts_ready p s plan one parts begins is planned i d h =
+    let part = get_or parts i d in
+    let own : IsPartOf (nothing_chosen p (modes.Fenced fin.empty)) one.last part = subst (λ (r : ProgramSketch). IsPartOf r one.last part) begins ((subst (λ (o : Option Plan). IsPlanned s o parts) is planned).1 i d h) in
+    subst (λ (l : Listing). IsPartOf (nothing_chosen l (modes.Fenced fin.empty)) one.last part) (sym (same_program (nothing_chosen p (modes.Fenced fin.empty)) part.path.items) ∙ ap (λ (k : ProgramSketch). k.program) own.leads) own
 
 pub parts_begun : (s : ProgramSketch) (shown : Shown) (none : OutcomeIndex) (mode : Mode) (plan : Option Plan) (one : Plan) (old new : List Part) → plan ≡ Some one → IsPlanned s plan old → AreSearched shown mode old new → ArePartsFor s shown (Open none mode) [] new
 parts_begun s shown none mode plan one old new is planned searched i d h =
@@ -107,5 +121,5 @@ planned_last s (Some plan) parts planned = planned.0
 planned_last s None parts planned = planned.0
 
 -- as many are written back as there were
-pub written_back : (old new : List Part) (n : ℕ) → n ≡ length old → length new ≡ length old → take n (new ++ drop (length new) old) ≡ new
-written_back old new n same many = ap (λ (xs : List Part). take n (new ++ xs)) (drop_all (length new) old (omega arith)) ∙ ap (take n) (append-nil new) ∙ take_all n new (omega arith)
+pub written_back : {T : Type 0} → (old new : List T) (n : ℕ) → n ≡ length old → length new ≡ length old → take n (new ++ drop (length new) old) ≡ new
+written_back old new n same many = ap (λ xs. take n (new ++ xs)) (drop_all (length new) old (omega arith)) ∙ ap (take n) (append-nil new) ∙ take_all n new (omega arith)

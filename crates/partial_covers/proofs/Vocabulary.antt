@@ -63,7 +63,8 @@ pub use Rattle.partial_covers.specs.Coverings.{Covers, CoversEach}
 pub use Rattle.partial_covers.specs.NodeChanges.{copied_in, renumbered_node, sequential_node}
 pub use Rattle.partial_covers.specs.PartialCovers.{ArePartialAfter, Closed, Has, Hole, IsPartialAfter, IsPartialCover, IsPieceRenumbered, Item, Lacks, MayChooseAll, MorePartial, NoPartial}
 pub use Rattle.partial_covers.specs.PartialCovers.{PartialTree, PartialTrees, PushesPartial, PushesPartialAt, PushesPartialRow, Values, after, count_partial, items_before, items_of, renumbered_item}
-pub use Rattle.partial_covers.specs.PartialCovers.{spell_partial, spell_partial_row, unfenced}
+pub use Rattle.partial_covers.specs.PartialCovers.{spell_partial, spell_partial_row, unfenced, AreFilled, IsFilled, LeadsToWhole}
+pub use Rattle.partial_covers.specs.Fillings.{IsFilling, sequential}
 pub use Rattle.partial_covers.specs.Parts.{ArePartsFor, AreRunsFor, AreSearched, IsMadeAt, IsMadeIn, IsPartOf, IsPlanned, IsSearched}
 pub use Rattle.partial_covers.specs.UnsourcedTraces.{Takes}
 pub use Rattle.partial_covers.specs.declared.covering.Covering.{Covering}

@@ -1,5 +1,5 @@
 -- Cover trees with holes, of a search with no gap fenced.
-use Rattle.std.specs.Prelude.{◌≡◌, ℕ, suc, List, [], ◌∷◌, ◌++◌, map}
+use Rattle.std.specs.Prelude.{◌≡◌, ◌<◌, ℕ, suc, List, [], ◌∷◌, ◌++◌, length, map, slice_index_or}
 use Rattle.std.specs.FinSet as set
 use Rattle.tso_program.specs.declared.listing.Listing.{Listing}
 use Rattle.tso_program.specs.declared.outcome.Outcome.{Outcome}
@@ -14,16 +14,17 @@ use Rattle.cert_forest.specs.Nodes.{spell}
 use Rattle.cover_judge.specs.declared.choice.Choice.{Choice}
 use Rattle.cover_judge.specs.Choices.{AreValueChoices, MayChoose, sketch_with}
 use Rattle.partial_covers.specs.NodeChanges.{renumbered_node}
+use Rattle.partial_covers.specs.Fillings.{IsFilling}
 use Rattle.sketch_covers.specs.Covers.{IsCoverAt}
 use Rattle.partial_covers.specs.declared.partial_cover.PartialCover.{PartialCover}
 use Rattle.partial_covers.specs.declared.partial_cover.Piece.{Piece}
 
--- a cover tree with holes, and several in order; each hole has the choices that lead to it
+-- a cover tree with holes, and several in order; each hole has the choices that lead to it, and the nodes of its filling
 mutual
   pub data PartialTree : Type 0 where
     Closed : Cover → PartialTree
     Values : ℕ → PartialTrees → PartialTree
-    Hole : List Choice → PartialTree
+    Hole : List Choice → List Node → PartialTree
 
   pub data PartialTrees : Type 0 where
     NoPartial : PartialTrees
@@ -39,16 +40,16 @@ count_partial (MorePartial child children) = suc (count_partial children)
 
 -- ---- how it is spelled
 
--- a node, or a place where a tree lacks
+-- a node, or a place where a tree lacks, and the nodes of its filling
 pub data Item : Type 0 where
   Has : Node → Item
-  Lacks : List Choice → Item
+  Lacks : List Choice → List Node → Item
 
 abbrev mutual
   pub spell_partial : PartialTree → List Item
   spell_partial (Closed tree) = map Has (spell tree)
   spell_partial (Values t children) = Has (node.Value t (count_partial children)) ∷ spell_partial_row children
-  spell_partial (Hole path) = Lacks path ∷ []
+  spell_partial (Hole path filling) = Lacks path filling ∷ []
 
   pub spell_partial_row : PartialTrees → List Item
   spell_partial_row NoPartial = []
@@ -57,7 +58,7 @@ abbrev mutual
 -- how it lies in memory
 abbrev pub items_before : List Piece → List Item
 items_before [] = []
-items_before (p ∷ ps) = map Has p.nodes.items ++ Lacks p.path.items ∷ items_before ps
+items_before (p ∷ ps) = map Has p.nodes.items ++ Lacks p.path.items p.filling.items ∷ items_before ps
 
 abbrev pub items_of : PartialCover → List Item
 items_of kept = items_before kept.pieces.items ++ map Has kept.nodes.items
@@ -65,12 +66,13 @@ items_of kept = items_before kept.pieces.items ++ map Has kept.nodes.items
 -- a run gets another number
 abbrev pub renumbered_item : (ℕ → ℕ) → Item → Item
 renumbered_item place (Has x) = Has (renumbered_node place x)
-renumbered_item place (Lacks path) = Lacks path
+renumbered_item place (Lacks path filling) = Lacks path (map (renumbered_node place) filling)
 
 -- a piece has other numbers, and its path stays
 pub record IsPieceRenumbered (place : ℕ → ℕ) (old new : Piece) : Type 0 where
   pub nodes : new.nodes.items ≡ map (renumbered_node place) old.nodes.items
   pub path : new.path.items ≡ old.path.items
+  pub filling : new.filling.items ≡ map (renumbered_node place) old.filling.items
 
 -- ---- what holds of it
 
@@ -80,11 +82,12 @@ after s [] = s
 after s (c ∷ cs) = after (with_chosen s (sketch_with s.chosen c)) cs
 
 abbrev mutual
-  -- after the choices of a path: a valid tree; or a partial cover for each value of a read; or nothing, where each read has its value
+  -- after the choices of a path: a valid tree; or a partial cover for each value of a read; or a filling, where each read has its value
   pub IsPartialAfter : ProgramSketch → Shown → List Outcome → List Choice → PartialTree → Type 0
   IsPartialAfter s shown outcomes path (Closed tree) = IsCoverAt (after s path) shown outcomes tree
   IsPartialAfter s shown outcomes path (Values t children) = (choices : List Choice) × AreValueChoices (after s path) t choices × ArePartialAfter s shown outcomes path children choices
-  IsPartialAfter s shown outcomes path (Hole to) = (to ≡ path) × IsWhole (after s path).program (mode_in (after s path)) (after s path).chosen
+  IsPartialAfter s shown outcomes path (Hole to filling) =
+      (to ≡ path) × IsWhole (after s path).program (mode_in (after s path)) (after s path).chosen × IsFilling (after s path) shown outcomes filling
 
   -- as many as choices, each after its choice
   pub ArePartialAfter : ProgramSketch → Shown → List Outcome → List Choice → PartialTrees → List Choice → Type 0
@@ -117,6 +120,22 @@ PushesPartialRowAt s shown outcomes path choices old new = (root : ProgramSketch
 abbrev pub MayChooseAll : ProgramSketch → List Choice → Type 0
 MayChooseAll s [] = Unit {0}
 MayChooseAll s (c ∷ cs) = MayChoose s c × MayChooseAll (with_chosen s (sketch_with s.chosen c)) cs
+
+-- the choices lead to a sketch in which each read has its value
+pub record LeadsToWhole (s : ProgramSketch) (path : List Choice) : Type 0 where
+  pub may : MayChooseAll s path
+  pub whole : IsWhole (after s path).program (mode_in (after s path)) (after s path).chosen
+
+-- the piece is as it was, but for its filling
+pub record IsFilled (s : ProgramSketch) (shown : Shown) (outcomes : List Outcome) (old new : Piece) : Type 0 where
+  pub nodes : new.nodes.items ≡ old.nodes.items
+  pub path : new.path.items ≡ old.path.items
+  pub filling : IsFilling (after s old.path.items) shown outcomes new.filling.items
+
+-- so is each of several
+pub record AreFilled (s : ProgramSketch) (shown : Shown) (outcomes : List Outcome) (old new : List Piece) : Type 0 where
+  pub as_many : length new ≡ length old
+  pub each : (i : ℕ) (d : Piece) → i < length old → IsFilled s shown outcomes (slice_index_or old i d) (slice_index_or new i d)
 
 -- the sketch with no gap fenced
 abbrev pub unfenced : ProgramSketch → ProgramSketch

@@ -20,7 +20,8 @@ use Rattle.branching.specs.declared.plan.LastThread.{LastThread}
 use Rattle.branching.specs.declared.plan.Plan.{Plan}
 use Rattle.partial_covers.specs.declared.searching.SearchStart.{SearchStart}
 use Rattle.sketch_covers.specs.OutcomeNumbers.{IsInOrder, AreRunsOf}
-use Rattle.partial_covers.specs.PartialCovers.{Item, items_of, after, PushesPartialAt}
+use Rattle.partial_covers.specs.PartialCovers.{Item, items_of, after, MayChooseAll, PushesPartialAt}
+use Rattle.partial_covers.specs.Fillings.{sequential}
 use Rattle.branching.specs.Plans.{IsLast, IsBeforeLast}
 
 -- if the list is open, each of these outcomes is what is shown of that of its run in the list's mode
@@ -56,10 +57,15 @@ abbrev pub IfJoined : ProgramSketch → Shown → List Outcome → List Choice �
 IfJoined s shown outcomes path old new true = PushesPartialAt s shown outcomes path old new
 IfJoined s shown outcomes path old new false = new ≡ old
 
--- the part's path leads to its sketch, in which the last thread has no value yet
+-- the part's path leads to its sketch, in which the last thread has no value yet; its choices may be made in the sequential machine
 pub record IsPartOf (root : ProgramSketch) (last : LastThread) (part : Part) : Type 0 where
   pub leads : after root part.path.items ≡ part.sketch
+  pub may : MayChooseAll (sequential root) part.path.items
   pub before : IsBeforeLast part.sketch last
+
+-- it is a part of a search of its program with no gap fenced
+abbrev pub IsOwnPart : LastThread → Part → Type 0
+IsOwnPart last part = IsPartOf (nothing_chosen part.sketch.program (modes.Fenced set.empty)) last part
 
 -- the part at this place has the path
 abbrev pub IsPathAt : List Part → List Choice → ℕ → Type 0

@@ -15,6 +15,7 @@ ghost use Rattle.partial_covers.specs.Coverings.{Covers, CoversEach, CoversIf};
 ghost use Rattle.partial_covers.specs.PartialCovers.{items_of};
 ghost use Rattle.partial_covers.specs.Parts.{ArePartsFor, AreLeftOf};
 
+use crate::hole_run::PassedGaps;
 use crate::joining::{join, take_made};
 use crate::part::Part;
 use crate::partial_cover::PartialCover;
@@ -35,6 +36,8 @@ pub(crate) struct Covering<'a> {
     pub(crate) outcomes: KnownOutcomes<'a>,
     pub(crate) kept: PartialCover,
     pub(crate) path: Vec<Choice>,
+    /// What the runs of holes pass.
+    pub(crate) passed: PassedGaps,
 }
 
 impl<'a> Covering<'a> {
@@ -59,6 +62,7 @@ impl<'a> Covering<'a> {
             outcomes: KnownOutcomes::Open { found, mode },
             kept: PartialCover::none(alloc),
             path,
+            passed: PassedGaps::none(alloc),
         }
     }
 }
@@ -99,8 +103,7 @@ impl Covering<'_> {
         ensures left { OnOk result (AreLeftOf parts.old.items parts.new.items) }
         ensures covers { OnOk result (Covers sketch.now self.old self.new) }
     {
-        // For the proof alone: what holds of every sketch is known where its program is read.
-        let _ = sketch.program();
+        sketch.recall_facts();
         if known_leaf(sketch, self.shown, &self.outcomes, &mut self.kept.nodes)? {
             watch.done(plan.combinations(sketch), self.outcomes.count());
             return Ok(());
@@ -131,8 +134,7 @@ impl Covering<'_> {
         ensures left { OnOk result (AreLeftOf parts.old.items parts.new.items) }
         ensures covers { OnOk result (Covers sketch.now self.old self.new) }
     {
-        // For the proof alone: what holds of every sketch is known where its program is read.
-        let _ = sketch.program();
+        sketch.recall_facts();
         if parts.is_empty() && needs_values(self.shown) {
             if let Some(before) = plan.before_last(sketch, t) {
                 return self.cover_before(sketch, before, &plan.last, watch);
@@ -161,8 +163,7 @@ impl Covering<'_> {
         ensures left { OnOk result (AreLeftOf parts.old.items parts.new.items) }
         ensures covers { OnOk result (CoversEach sketch.now choices.now self.old self.new) }
     {
-        // For the proof alone: what holds of every sketch is known where its program is read.
-        let _ = sketch.program();
+        sketch.recall_facts();
         for choice in choices {
             let next = sketch_with(sketch, *choice)?;
             self.path.push(*choice)?;
@@ -203,8 +204,7 @@ impl Covering<'_> {
         requires full { AreOthersFull sketch.now plan.now.last.thread }
         ensures { OnOk result (Covers sketch.now self.old self.new) }
     {
-        // For the proof alone: what holds of every sketch is known where its program is read.
-        let _ = sketch.program();
+        sketch.recall_facts();
         let t = plan.last.thread;
         let others = Tally::of_others(self.alloc, sketch, t)?;
         self.cover_traces(sketch, &others, t, &plan.last.tree, watch)
@@ -227,8 +227,7 @@ impl Covering<'_> {
         requires alike { AreAlike (root (traces tree.now)) sketch.now }
         ensures { OnOk result (Covers (with_root t sketch.now (traces tree.now)) self.old self.new) }
     {
-        // For the proof alone: what holds of every sketch is known where its program is read.
-        let _ = sketch.program();
+        sketch.recall_facts();
         match tree {
             TraceTree::Read {
                 sketch: own,
@@ -236,7 +235,7 @@ impl Covering<'_> {
                 after,
             } => {
                 // For the proof alone, as above.
-                let _ = own.program();
+                own.recall_facts();
                 self.kept.push_values(t, choices.len())?;
                 for (i, next) in after.iter().enumerate() {
                     self.path.push(choices[i])?;
@@ -264,9 +263,8 @@ impl Covering<'_> {
         requires alike { AreAlike trace.now.sketch sketch.now }
         ensures { OnOk result (Covers (with_trace t sketch.now trace.now) self.old self.new) }
     {
-        // For the proof alone: what holds of every sketch is known where its program is read.
-        let _ = sketch.program();
-        let _ = trace.sketch.program();
+        sketch.recall_facts();
+        trace.sketch.recall_facts();
         match trace.tally.lacking(others) {
             Some(read) => {
                 watch.done(1, self.outcomes.count());
@@ -302,8 +300,9 @@ impl Covering<'_> {
             }
             Err(Stop::New { run, sketch }) => {
                 self.kept.nodes.truncate(start);
-                self.kept
-                    .push_hole(self.alloc, &self.path, run.labels, sketch)
+                let run = self.passed.keep(self.alloc, run.labels, sketch)?;
+                let none = Vec::new(self.alloc);
+                self.kept.push_hole(self.alloc, &self.path, run, none)
             }
             Err(Stop::OutOfMemory) => Err(AllocError),
         }

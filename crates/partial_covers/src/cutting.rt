@@ -78,8 +78,7 @@ fn push_cut(
 ) -> Result<(), AllocError>
     ensures { OnOk result ((root : ProgramSketch) → IsPartOf root plan.now.last part.now → All (IsPartOf root plan.now.last) smaller.old.items → All (IsPartOf root plan.now.last) smaller.new.items) }
 {
-    // For the proof alone: what holds of every sketch is known where its program is read.
-    let _ = part.sketch.program();
+    part.sketch.recall_facts();
     let Some(t) = plan.next_thread(&part.sketch) else {
         smaller.push(part.copy(alloc)?)?;
         return Ok(());

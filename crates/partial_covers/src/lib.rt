@@ -3,19 +3,23 @@
 //! A long search is cut into parts, which threads may search. Each part has outcomes and a partial cover of
 //! its own, and the parts are joined in their order.
 //!
-//! Begin with `start_by`, `all_outcomes` and `cover_all`. Free to change: where a search is cut
-//! (`cutting.rt`), who searches the parts (`searching.rt`), and what a watch is given (`watch.rt`). Relied on:
-//! a partial cover holds in each machine but for its holes, each read has its value at a hole, a filled tree
-//! is valid, and a search that stops has a run whose outcome the list lacks.
+//! Begin with `start_by`, `all_outcomes` and `cover_closed_by`. Free to change: where a search is cut
+//! (`cutting.rt`), who searches the parts and the holes (`searching.rt`, `hole_trees.rt`), which runs holes keep
+//! (`hole_run.rt`), and what a watch is given (`watch.rt`). Relied on: a partial cover holds in each machine but
+//! for its holes, each read has its value at a hole, a filled tree is valid, and a search that stops has a run
+//! whose outcome the list lacks.
 #![tactic(auto)]
 
 mod covering;
 mod cutting;
 mod filling;
+mod hole_run;
+mod hole_trees;
 mod joining;
 mod outcome_search;
 mod pair_covers;
 mod part;
+mod part_holes;
 mod partial_cover;
 mod renumbering;
 mod searching;
@@ -23,9 +27,10 @@ mod sequential_nodes;
 mod unsourced_trees;
 mod watch;
 
-pub use outcome_search::{OutcomeCover, all_outcomes, cover_all};
+pub use hole_run::HoleRun;
+pub use outcome_search::{OutcomeCover, all_outcomes, cover_all, cover_closed_by};
 pub use part::{Part, PartCover};
 pub use partial_cover::{PartialCover, Piece};
 pub use renumbering::{renumber, renumber_partial};
-pub use searching::{SearchStart, start_alone, start_by};
+pub use searching::{Search, SearchStart, start_alone, start_by};
 pub use watch::{Unwatched, Watch};

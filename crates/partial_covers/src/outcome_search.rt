@@ -8,20 +8,23 @@ ghost use Rattle.sketch_covers.specs.Covers.{IsWholeCover};
 ghost use Rattle.sketch_covers.specs.OutcomeNumbers.{IsInOrder, AreRunsOf};
 ghost use Rattle.partial_covers.specs.PartialCovers.{IsPartialCover};
 ghost use Rattle.sketch_covers.specs.declared.outcome_index.OutcomeIndex.{OutcomeIndex as IndexValue};
+ghost use Rattle.partial_covers.specs.HoleTrees.{StopLacks};
 ghost use Rattle.partial_covers.specs.Parts.{IsCoveredStart};
+ghost use Rattle.sketch_covers.specs.Ascending.{Ascend};
 ghost use Rattle.sketch_covers.specs.KnownOutcomes.{by_number, AreInOrder, HasRunOfEach, Grows, StopIs};
 ghost use Rattle.sketch_covers.specs.declared.known_outcomes.KnownOutcomes.TheVariants.{Open};
 
 use crate::covering::Covering;
 use crate::filling::fill;
-use crate::partial_cover::PartialCover;
-use crate::searching::SearchStart;
+use crate::hole_trees::fill_by;
+use crate::partial_cover::{PartialCover, forget_fillings};
+use crate::searching::{Search, SearchStart};
 use crate::watch::{JoinWatch, Watch};
 use cert_forest::CoverTree;
 use sketch_covers::{KnownOutcomes, OutcomeIndex, Stop};
-use sketches::Mode;
-use std::alloc::{AllocError, Global};
-use tso_program::{Outcome, Program, Shown};
+use std::alloc::AllocError;
+use std::thread::Threads;
+use tso_program::Outcome;
 
 /// Outcomes, with a cover tree over them.
 #[derive(Drop)]
@@ -36,33 +39,31 @@ pub struct OutcomeCover {
 /// All outcomes of the machine of a mode, as far as they are shown, each with a run, and a cover tree that
 /// shows that there are no others.
 pub fn all_outcomes<W: Watch>(
-    alloc: Global,
+    sought: &Search,
     start: SearchStart,
-    program: &Program,
-    shown: &Shown,
-    mode: Mode,
     watch: &W,
 ) -> Result<OutcomeCover, AllocError>
-    requires { (none : IndexValue) → IsCoveredStart program.now shown.now (Open none mode) start }
+    requires { (none : IndexValue) → IsCoveredStart sought.now.program.now sought.now.shown.now (Open none sought.now.mode) start }
     ensures in_order { IfOk result (λ all. IsInOrder all.found) }
-    ensures runs { IfOk result (λ all. AreRunsOf (asked program.now shown.now) (machine_of_mode program.now mode) all.found.runs all.found.outcomes.items) }
-    ensures kept { IfOk result (λ all. IsPartialCover program.now shown.now all.found.by_number.items all.kept) }
-    ensures tree { IfOk result (λ all. IsWholeCover (asked program.now shown.now) (machine_of_mode program.now mode) all.found.by_number.items all.tree) }
-    ensures exact { IfOk result (λ all. (o : Outcome) → Contains all.found.outcomes.items o ↔ AllowsShown (asked program.now shown.now) (machine_of_mode program.now mode) o) }
+    ensures runs { IfOk result (λ all. AreRunsOf (asked sought.now.program.now sought.now.shown.now) (machine_of_mode sought.now.program.now sought.now.mode) all.found.runs all.found.outcomes.items) }
+    ensures kept { IfOk result (λ all. IsPartialCover sought.now.program.now sought.now.shown.now all.found.by_number.items all.kept) }
+    ensures tree { IfOk result (λ all. IsWholeCover (asked sought.now.program.now sought.now.shown.now) (machine_of_mode sought.now.program.now sought.now.mode) all.found.by_number.items all.tree) }
+    ensures exact { IfOk result (λ all. (o : Outcome) → Contains all.found.outcomes.items o ↔ AllowsShown (asked sought.now.program.now sought.now.shown.now) (machine_of_mode sought.now.program.now sought.now.mode) o) }
 {
     // For the proof alone: what holds of every program is known where its threads are read.
-    let _ = program.threads();
-    let found = partial_of_all(alloc, start, program, shown, &mode, watch)?;
+    let _ = sought.program.threads();
+    let found = partial_of_all(sought, start, watch)?;
     let Covering {
         mut outcomes,
-        kept,
+        mut kept,
         ..
     } = found;
-    let tree = match cover_all(alloc, program, mode, &kept, shown, &mut outcomes, watch) {
+    let tree = match cover_all(sought, &kept, &mut outcomes, watch) {
         Ok(tree) => tree,
         Err(Stop::OutOfMemory) => return Err(AllocError),
         Err(Stop::New { .. }) => unreachable!(),
     };
+    forget_fillings(sought.alloc, &mut kept.pieces);
     watch.finished(outcomes.count());
     match outcomes {
         KnownOutcomes::Open { found, .. } => Ok(OutcomeCover { found, kept, tree }),
@@ -72,21 +73,19 @@ pub fn all_outcomes<W: Watch>(
 
 /// The partial cover of the sketch with no choice, and the outcomes over which it is.
 fn partial_of_all<'a, W: Watch>(
-    alloc: Global,
+    sought: &Search<'a>,
     start: SearchStart,
-    program: &Program,
-    shown: &'a Shown,
-    mode: &Mode,
     watch: &W,
 ) -> Result<Covering<'a>, AllocError>
-    requires { (none : IndexValue) → IsCoveredStart program.now shown.now (Open none mode.now) start }
+    requires { (none : IndexValue) → IsCoveredStart sought.now.program.now sought.now.shown.now (Open none sought.now.mode) start }
     ensures in_order { IfOk result (λ all. AreInOrder all.outcomes) }
-    ensures runs { IfOk result (λ all. HasRunOfEach (asked program.now shown.now) all.outcomes) }
-    ensures open { IfOk result (λ all. (found : IndexValue) × (all.outcomes ≡ Open found mode.now)) }
-    ensures kept { IfOk result (λ all. IsPartialCover program.now shown.now (by_number all.outcomes) all.kept) }
+    ensures runs { IfOk result (λ all. HasRunOfEach (asked sought.now.program.now sought.now.shown.now) all.outcomes) }
+    ensures open { IfOk result (λ all. (found : IndexValue) × (all.outcomes ≡ Open found sought.now.mode)) }
+    ensures kept { IfOk result (λ all. IsPartialCover sought.now.program.now sought.now.shown.now (by_number all.outcomes) all.kept) }
 {
     // For the proof alone: what holds of every program is known where its threads are read.
-    let _ = program.threads();
+    let _ = sought.program.threads();
+    let alloc = sought.alloc;
     let SearchStart {
         mut sketch,
         plan,
@@ -96,7 +95,7 @@ fn partial_of_all<'a, W: Watch>(
         whole: watch,
         has_parts: !parts.is_empty(),
     };
-    let mut all = Covering::none(alloc, shown, *mode, Vec::new(alloc));
+    let mut all = Covering::none(alloc, sought.shown, sought.mode, Vec::new(alloc));
     all.cover_first(&mut sketch, &plan, &mut parts, &joins)?;
     all.kept.shrink();
     Ok(all)
@@ -104,20 +103,35 @@ fn partial_of_all<'a, W: Watch>(
 
 /// A tree for the sketch with no choice in a mode, made of a partial cover.
 pub fn cover_all<W: Watch>(
-    alloc: Global,
-    program: &Program,
-    mode: Mode,
+    sought: &Search,
     tree: &PartialCover,
-    shown: &Shown,
     outcomes: &mut KnownOutcomes,
     watch: &W,
 ) -> Result<CoverTree, Stop>
     requires in_order { AreInOrder outcomes.old }
-    requires kept { IsPartialCover program.now shown.now (by_number outcomes.old) tree.now }
-    ensures grows { OnOk result (Grows (asked program.now shown.now) outcomes.old outcomes.new) }
-    ensures tree { IfOk result (λ tree. IsWholeCover (asked program.now shown.now) (machine_of_mode program.now mode) (by_number outcomes.new) tree) }
-    ensures stop { IfErr result (StopIs (asked program.now shown.now) (machine_of_mode program.now mode) outcomes.old) }
+    requires kept { IsPartialCover sought.now.program.now sought.now.shown.now (by_number outcomes.old) tree.now }
+    ensures grows { OnOk result (Grows (asked sought.now.program.now sought.now.shown.now) outcomes.old outcomes.new) }
+    ensures tree { IfOk result (λ tree. IsWholeCover (asked sought.now.program.now sought.now.shown.now) (machine_of_mode sought.now.program.now sought.now.mode) (by_number outcomes.new) tree) }
+    ensures stop { IfErr result (StopIs (asked sought.now.program.now sought.now.shown.now) (machine_of_mode sought.now.program.now sought.now.mode) outcomes.old) }
 {
-    let nodes = fill(alloc, program, mode, tree, shown, outcomes, watch)?;
-    Ok(CoverTree::of_nodes(alloc, nodes)?)
+    let nodes = fill(sought, tree, outcomes, watch)?;
+    Ok(CoverTree::of_nodes(sought.alloc, nodes)?)
+}
+
+/// The same over a closed list, where at most so many threads search for the trees in place of the holes.
+pub fn cover_closed_by<R: Threads + Sync>(
+    rt: &R,
+    workers: u8,
+    sought: &Search,
+    tree: &PartialCover,
+    outcomes: &[Outcome],
+) -> Result<CoverTree, Stop>
+    requires ascend { Ascend outcomes.now }
+    requires kept { IsPartialCover sought.now.program.now sought.now.shown.now outcomes.now tree.now }
+    ensures tree { IfOk result (λ tree. IsWholeCover (asked sought.now.program.now sought.now.shown.now) (machine_of_mode sought.now.program.now sought.now.mode) outcomes.now tree) }
+    ensures stop { IfErr result (StopLacks (asked sought.now.program.now sought.now.shown.now) (machine_of_mode sought.now.program.now sought.now.mode) outcomes.now) }
+{
+    let threads = usize::from(workers).max(1);
+    let nodes = fill_by(rt, threads, sought, tree, outcomes)?;
+    Ok(CoverTree::of_nodes(sought.alloc, nodes)?)
 }

@@ -40,8 +40,7 @@ impl Covering<'_> {
         requires before { IsBeforeNext sketch.now last.now.thread before.now }
         ensures { OnOk result (Covers sketch.now self.old self.new) }
     {
-        // For the proof alone: what holds of every sketch is known where its program is read.
-        let _ = sketch.program();
+        sketch.recall_facts();
         let thread = before.thread;
         let pair = OpenPair {
             sketch,
@@ -66,8 +65,7 @@ impl Covering<'_> {
         requires alike { AreAlike (root (traces tree.now)) pair.now.sketch.now }
         ensures { OnOk result (Covers (with_root pair.now.thread pair.now.sketch.now (traces tree.now)) self.old self.new) }
     {
-        // For the proof alone: what holds of every sketch is known where its program is read.
-        let _ = pair.sketch.program();
+        pair.sketch.recall_facts();
         match tree {
             TraceTree::Read {
                 sketch: own,
@@ -75,7 +73,7 @@ impl Covering<'_> {
                 after,
             } => {
                 // For the proof alone, as above.
-                let _ = own.program();
+                own.recall_facts();
                 self.kept.push_values(pair.thread, choices.len())?;
                 for (i, next) in after.iter().enumerate() {
                     self.path.push(choices[i])?;
@@ -101,9 +99,8 @@ impl Covering<'_> {
         requires alike { AreAlike trace.now.sketch pair.now.sketch.now }
         ensures { OnOk result (Covers (with_trace pair.now.thread pair.now.sketch.now trace.now) self.old self.new) }
     {
-        // For the proof alone: what holds of every sketch is known where its program is read.
-        let _ = pair.sketch.program();
-        let _ = trace.sketch.program();
+        pair.sketch.recall_facts();
+        trace.sketch.recall_facts();
         let last = pair.last;
         let others = pair
             .rest

@@ -1,11 +1,16 @@
 //! Parts of a search. Each has a list of outcomes and a partial cover of its own, so the parts need nothing of one another.
-ghost use Rattle.std.specs.Prelude.{◌≡◌, ◌∷◌, ◌++◌, [], None, IfOk, IfSome};
-ghost use Rattle.sketches.specs.ProgramSketches.{with_chosen};
+ghost use Rattle.std.specs.Prelude.{◌≡◌, ◌∷◌, ◌++◌, [], None, IfOk, IfSome, OnOk};
+ghost use Rattle.std.specs.FinSet as set;
+ghost use Rattle.tso_program.specs.Shown.{asked};
+ghost use Rattle.tso_machine.specs.declared.mode.Mode.TheVariants as modes;
+ghost use Rattle.sketches.specs.ProgramSketches.{nothing_chosen, with_chosen};
 ghost use Rattle.cover_judge.specs.Choices as choices;
-ghost use Rattle.partial_covers.specs.Parts.{IsMadeIn, IsSearched};
-ghost use Rattle.branching.specs.Plans.{IsBeforeLast};
+ghost use Rattle.sketch_covers.specs.KnownOutcomes.{by_number, AreInOrder, Grows};
+ghost use Rattle.partial_covers.specs.PartialCovers.{items_of, after, MayChooseAll, PushesPartialAt};
+ghost use Rattle.partial_covers.specs.Parts.{IsMadeIn, IsOwnPart, IsSearched};
 
 use crate::covering::Covering;
+use crate::part_holes::fill_holes;
 use crate::partial_cover::PartialCover;
 use crate::watch::{PartWatch, Watch};
 use branching::Plan;
@@ -80,7 +85,7 @@ impl Part {
         mode: Mode,
         watch: &W,
     )
-        requires { IsBeforeLast self.old.sketch plan.now.last }
+        requires { IsOwnPart plan.now.last self.old }
         ensures { IsSearched shown.now mode self.old self.new }
     {
         let own = PartWatch::new(watch);
@@ -96,23 +101,53 @@ impl Part {
         mode: Mode,
         watch: &W,
     ) -> Result<PartCover, AllocError>
-        requires { IsBeforeLast self.now.sketch plan.now.last }
+        requires { IsOwnPart plan.now.last self.now }
         ensures { IfOk result (IsMadeIn self.now.sketch shown.now mode self.now.path.items) }
     {
         let path = Vec::from_slice(alloc, &self.path)?;
         let mut no_parts = Vec::new(alloc);
         let mut covering = Covering::none(alloc, shown, mode, path);
         covering.cover_values(&self.sketch, plan, &mut no_parts, watch)?;
-        let Covering {
-            outcomes,
-            mut kept,
-            ..
-        } = covering;
+        covering.kept.shrink();
+        self.fill(&mut covering, watch)?;
+        let Covering { outcomes, kept, .. } = covering;
         watch.finished(outcomes.count());
-        kept.shrink();
         match outcomes {
             KnownOutcomes::Open { found, .. } => Ok(PartCover { found, kept }),
             KnownOutcomes::Closed(_) => unreachable!(),
         }
     }
+
+    /// Fills the holes of the part's cover where the search is for the sequential machine.
+    fn fill<W: Watch>(&self, covering: &mut Covering, watch: &W) -> Result<(), AllocError>
+        requires leads { after (nothing_chosen self.now.sketch.program (modes.Fenced set.empty)) self.now.path.items ≡ self.now.sketch }
+        requires may { MayChooseAll (nothing_chosen self.now.sketch.program modes.Sequential) self.now.path.items }
+        requires in_order { AreInOrder covering.old.outcomes }
+        requires kept { PushesPartialAt self.now.sketch covering.old.shown.now (by_number covering.old.outcomes) self.now.path.items [] (items_of covering.old.kept) }
+        ensures grows { OnOk result (Grows (asked self.now.sketch.program covering.old.shown.now) covering.old.outcomes covering.new.outcomes) }
+        ensures kept { OnOk result (PushesPartialAt self.now.sketch covering.old.shown.now (by_number covering.new.outcomes) self.now.path.items [] (items_of covering.new.kept)) }
+    {
+        if !are_sequential(&covering.outcomes) {
+            return Ok(());
+        }
+        fill_holes(
+            covering.alloc,
+            self.sketch.program(),
+            covering.shown,
+            &mut covering.outcomes,
+            &mut covering.kept.pieces,
+            watch,
+        )
+    }
+}
+
+/// Whether the list is open for the sequential machine.
+fn are_sequential(outcomes: &KnownOutcomes) -> bool {
+    matches!(
+        outcomes,
+        KnownOutcomes::Open {
+            mode: Mode::Sequential,
+            ..
+        }
+    )
 }

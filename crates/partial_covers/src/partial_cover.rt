@@ -1,14 +1,16 @@
 //! Partial covers: cover trees with holes, that are made with no gap fenced. They hold with any gaps fenced, and in the sequential machine, since a tighter machine only has more known edges.
-ghost use Rattle.std.specs.Prelude.{◌≡◌, [], ◌∷◌, ◌++◌, ◌<◌, ◌^◌, OnOk, map};
+ghost use Rattle.std.specs.Prelude.{◌≡◌, List, [], ◌∷◌, ◌++◌, ◌<◌, ◌^◌, OnOk, map};
 ghost use Rattle.cert_forest.specs.declared.node.Node.TheVariants as node;
-ghost use Rattle.partial_covers.specs.PartialCovers.{items_of, Has, Lacks};
+ghost use Rattle.tso_program.specs.declared.outcome.Outcome.{Outcome as OutcomeValue};
+ghost use Rattle.tso_program.specs.declared.shown.Shown.{Shown as ShownValue};
+ghost use Rattle.sketches.specs.ProgramSketches.{ProgramSketch};
+ghost use Rattle.partial_covers.specs.PartialCovers.{items_of, AreFilled, Has, IsFilled, Lacks};
 
+use crate::hole_run::HoleRun;
 use cert_forest::Node;
 use cover_judge::Choice;
-use sketches::Sketch;
 use std::alloc::{AllocError, Global};
 use std::mem;
-use tso_machine::Label;
 
 /// A cover tree over the values of all reads with no gap fenced, but for its holes.
 #[derive(Drop)]
@@ -25,10 +27,10 @@ pub struct Piece {
     pub nodes: Vec<Node>,
     /// The values that lead to the hole.
     pub path: Vec<Choice>,
-    /// A run with no gap fenced whose outcome was not in the list. The sketch is complete, and the run is one of it. The
-    /// piece says neither, and whoever reads them judges them.
-    pub labels: Vec<Label>,
-    pub sketch: Box<Sketch>,
+    /// None where the run of a hole before passes only gaps that this hole's run passes too.
+    pub run: Option<HoleRun>,
+    /// The nodes of a tree in place of the hole in the sequential machine. None where it is not filled yet.
+    pub filling: Vec<Node>,
 }
 
 impl PartialCover {
@@ -52,15 +54,15 @@ impl PartialCover {
         Ok(())
     }
 
-    /// Puts a hole after the nodes.
+    /// Puts a hole with its filling after the nodes.
     pub(crate) fn push_hole(
         &mut self,
         alloc: Global,
         path: &[Choice],
-        labels: Vec<Label>,
-        sketch: Box<Sketch>,
+        run: Option<HoleRun>,
+        filling: Vec<Node>,
     ) -> Result<(), AllocError>
-        ensures { OnOk result (items_of self.new ≡ items_of self.old ++ Lacks path.now ∷ []) }
+        ensures { OnOk result (items_of self.new ≡ items_of self.old ++ Lacks path.now filling.items ∷ []) }
     {
         let path = Vec::from_slice(alloc, path)?;
         self.nodes.shrink_to_fit();
@@ -68,8 +70,8 @@ impl PartialCover {
         self.pieces.push(Piece {
             nodes,
             path,
-            labels,
-            sketch,
+            run,
+            filling,
         })?;
         Ok(())
     }
@@ -87,16 +89,16 @@ impl PartialCover {
 
     /// Puts a piece after the nodes.
     fn push_piece(&mut self, alloc: Global, piece: Piece) -> Result<(), AllocError>
-        ensures { OnOk result (items_of self.new ≡ items_of self.old ++ map Has piece.nodes.items ++ Lacks piece.path.items ∷ []) }
+        ensures { OnOk result (items_of self.new ≡ items_of self.old ++ map Has piece.nodes.items ++ Lacks piece.path.items piece.filling.items ∷ []) }
     {
         let Piece {
             nodes,
             path,
-            labels,
-            sketch,
+            run,
+            filling,
         } = piece;
         self.nodes.extend_from_slice(&nodes)?;
-        self.push_hole(alloc, &path, labels, sketch)
+        self.push_hole(alloc, &path, run, filling)
     }
 
     /// Gives back the memory that the last nodes do not need.
@@ -106,12 +108,28 @@ impl PartialCover {
         self.nodes.shrink_to_fit();
     }
 
-    /// How many nodes there are, holes aside.
+    /// How many nodes there are, with those of the fillings.
     pub(crate) fn count(&self) -> usize {
         let mut count = self.nodes.len();
         for piece in &self.pieces {
             count = count.saturating_add(piece.nodes.len());
+            count = count.saturating_add(piece.filling.len());
         }
         count
     }
+}
+
+/// Leaves no hole filled.
+pub(crate) fn forget_fillings(alloc: Global, pieces: &mut Vec<Piece>)
+    ensures { (s : ProgramSketch) (shown : ShownValue) (outcomes : List OutcomeValue) → AreFilled s shown outcomes pieces.old.items pieces.new.items }
+{
+    for i in 0..pieces.len() {
+        forget_filling(alloc, &mut pieces[i]);
+    }
+}
+
+fn forget_filling(alloc: Global, piece: &mut Piece)
+    ensures { (s : ProgramSketch) (shown : ShownValue) (outcomes : List OutcomeValue) → IsFilled s shown outcomes piece.old piece.new }
+{
+    piece.filling = Vec::new(alloc);
 }

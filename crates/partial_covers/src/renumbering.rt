@@ -55,4 +55,5 @@ fn renumber_piece(piece: &mut Piece, places: &[u32])
     ensures { IsPieceRenumbered (place_in places.now) piece.old piece.new }
 {
     renumber(&mut piece.nodes, places);
+    renumber(&mut piece.filling, places);
 }

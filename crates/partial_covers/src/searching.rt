@@ -2,8 +2,7 @@
 ghost use Rattle.std.specs.Prelude.{◌<◌, IfOk, All};
 ghost use Rattle.sketch_covers.specs.declared.outcome_index.OutcomeIndex.{OutcomeIndex};
 ghost use Rattle.sketch_covers.specs.declared.known_outcomes.KnownOutcomes.TheVariants.{Open};
-ghost use Rattle.partial_covers.specs.Parts.{IsSearched, AreSearched, IsReady, IsCoveredStart};
-ghost use Rattle.branching.specs.Plans.{IsBeforeLast};
+ghost use Rattle.partial_covers.specs.Parts.{IsOwnPart, IsSearched, AreSearched, IsReady, IsCoveredStart};
 
 use crate::cutting::parts_of;
 use crate::part::Part;
@@ -26,22 +25,26 @@ pub struct SearchStart {
     pub parts: Vec<Part>,
 }
 
+/// What is searched: all outcomes of a program in a mode, as far as they are shown.
+#[derive(Drop)]
+pub struct Search<'a> {
+    pub alloc: Global,
+    pub program: &'a Program,
+    pub shown: &'a Shown,
+    pub mode: Mode,
+}
+
 /// A search whose parts are searched one after another.
-pub fn start_alone(
-    alloc: Global,
-    program: &Program,
-    shown: &Shown,
-    mode: &Mode,
-) -> Result<SearchStart, AllocError>
-    ensures { IfOk result (λ start. (none : OutcomeIndex) → IsCoveredStart program.now shown.now (Open none mode.now) start) }
+pub fn start_alone(sought: &Search) -> Result<SearchStart, AllocError>
+    ensures { IfOk result (λ start. (none : OutcomeIndex) → IsCoveredStart sought.now.program.now sought.now.shown.now (Open none sought.now.mode) start) }
 {
     let SearchStart {
         sketch,
         plan,
         mut parts,
-    } = ready(alloc, program, shown)?;
+    } = ready(sought.alloc, sought.program, sought.shown)?;
     if let Some(plan) = &plan {
-        search_each(alloc, &mut parts, plan, shown, mode);
+        search_each(sought.alloc, &mut parts, plan, sought.shown, &sought.mode);
     }
     Ok(SearchStart {
         sketch,
@@ -55,31 +58,19 @@ pub fn start_alone(
 pub fn start_by<R: Threads + Sync, W: Watch + Sync>(
     rt: &R,
     workers: u8,
-    alloc: Global,
-    program: &Program,
-    shown: &Shown,
-    mode: &Mode,
+    sought: &Search,
     watch: &W,
 ) -> Result<SearchStart, AllocError>
-    ensures { IfOk result (λ start. (none : OutcomeIndex) → IsCoveredStart program.now shown.now (Open none mode.now) start) }
+    ensures { IfOk result (λ start. (none : OutcomeIndex) → IsCoveredStart sought.now.program.now sought.now.shown.now (Open none sought.now.mode) start) }
 {
     let SearchStart {
         sketch,
         plan,
         mut parts,
-    } = ready(alloc, program, shown)?;
+    } = ready(sought.alloc, sought.program, sought.shown)?;
     if let Some(plan) = &plan {
         let threads = usize::from(workers).max(1);
-        search_by(
-            rt,
-            threads,
-            alloc,
-            parts.as_mut_slice(),
-            plan,
-            shown,
-            mode,
-            watch,
-        );
+        search_by(rt, threads, parts.as_mut_slice(), plan, sought, watch);
     }
     Ok(SearchStart {
         sketch,
@@ -107,7 +98,7 @@ fn ready(alloc: Global, program: &Program, shown: &Shown) -> Result<SearchStart,
 
 /// Searches each of the parts, one after another.
 fn search_each(alloc: Global, parts: &mut Vec<Part>, plan: &Plan, shown: &Shown, mode: &Mode)
-    requires { All (λ part. IsBeforeLast part.sketch plan.now.last) parts.old.items }
+    requires { All (IsOwnPart plan.now.last) parts.old.items }
     ensures { AreSearched shown.now mode.now parts.old.items parts.new.items }
 {
     for i in 0..parts.len() {
@@ -119,23 +110,24 @@ fn search_each(alloc: Global, parts: &mut Vec<Part>, plan: &Plan, shown: &Shown,
 fn search_by<R: Threads + Sync, W: Watch + Sync>(
     rt: &R,
     threads: usize,
-    alloc: Global,
     parts: &mut [Part],
     plan: &Plan,
-    shown: &Shown,
-    mode: &Mode,
+    sought: &Search,
     watch: &W,
 )
     requires threads { 0 < threads }
-    requires before { All (λ part. IsBeforeLast part.sketch plan.now.last) parts.old }
-    ensures { AreSearched shown.now mode.now parts.old parts.new }
+    requires parts { All (IsOwnPart plan.now.last) parts.old }
+    ensures { AreSearched sought.now.shown.now sought.now.mode parts.old parts.new }
 {
+    let alloc = sought.alloc;
+    let shown = sought.shown;
+    let mode = &sought.mode;
     thread::for_each_mut(
         rt,
         parts,
         threads,
         &|_, part|
-            requires { IsBeforeLast part.now.sketch plan.now.last }
+            requires { IsOwnPart plan.now.last part.now }
             ensures { IsSearched shown.entry.now mode.entry.now part.entry.now part.exit.now }
         { part.search(alloc, plan, shown, *mode, watch) },
     );

@@ -27,8 +27,7 @@ pub(crate) fn push_unsourced(
             choices,
             after,
         } => {
-            // For the proof alone: what holds of every sketch is known where its program is read.
-            let _ = sketch.program();
+            sketch.recall_facts();
             let count = choices.len() as u32;
             nodes.push(Node::Value { thread: t, count })?;
             for next in after {
@@ -54,7 +53,7 @@ fn push_leaf(
     ensures begins { OnOk result (Begins nodes.old.items nodes.new.items) }
 {
     // For the proof alone, as above.
-    let _ = trace.sketch.program();
+    trace.sketch.recall_facts();
     match trace.tally.lacking(others) {
         Some(read) => {
             nodes.push(Node::Source { read, count: 0 })?;

@@ -47,6 +47,8 @@ impl Oracle for Gate {
 
     ghost may_lack_runs = { λ gate. false };
 
+    ghost may_be_asked = { λ gate. Unit {0} };
+
     fn ask(&self, set: &GapSet) -> Result<Verdict, SolveFault> {
         match self.asked.fetch_add(1, Ordering::SeqCst) {
             0 if !self.first.passed().meets(set) => {

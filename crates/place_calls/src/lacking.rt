@@ -31,6 +31,8 @@ impl Oracle for Lacking {
 
     ghost may_lack_runs = { λ lacking. true };
 
+    ghost may_be_asked = { λ lacking. Unit {0} };
+
     fn ask(&self, set: &GapSet) -> Result<Verdict, SolveFault> {
         let number = self.asked.fetch_add(1, Ordering::SeqCst);
         match self.faults.get(number) {

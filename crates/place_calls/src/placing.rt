@@ -25,6 +25,8 @@ impl Oracle for Counting {
 
     ghost may_lack_runs = { λ c. false };
 
+    ghost may_be_asked = { λ c. Unit {0} };
+
     fn ask(&self, set: &GapSet) -> Result<Verdict, SolveFault> {
         self.asked.fetch_add(1, Ordering::SeqCst);
         let verdict = self.solver.ask(set)?;
@@ -51,7 +53,8 @@ pub fn set_by<R: Threads + Wait + Sync, O: Oracle>(
     oracle: &O,
     workers: u8,
 ) -> Result<GapSet, PlaceRefusal>
-    requires { O.question oracle.now ≡ table.now.question }
+    requires question { O.question oracle.now ≡ table.now.question }
+    requires may { O.may_be_asked oracle.now }
 {
     let costs = equal_costs(alloc, table)?;
     match call {

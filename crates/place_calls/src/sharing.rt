@@ -47,6 +47,8 @@ impl Oracle for TwoRuns {
 
     ghost may_lack_runs = { λ runs. false };
 
+    ghost may_be_asked = { λ runs. Unit {0} };
+
     fn ask(&self, set: &GapSet) -> Result<Verdict, SolveFault> {
         if let Some(verdict) = verdict_by(self.alloc, &self.first, set)? {
             self.by_first.fetch_add(1, Ordering::SeqCst);

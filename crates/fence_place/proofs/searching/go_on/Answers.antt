@@ -7,16 +7,16 @@ use Rattle.fence_place.proofs.searching.go_on.Goals as goal
 pub returns-in-Err-NothingOpen-clause-done : goal.returns-in-Err-NothingOpen-clause-done
 returns-in-Err-NothingOpen-clause-done g c = λ _.
     let fault = subst (TakeFaultIs c.args.tree.now 0) c.in-Err-NothingOpen.field-0-is c.in-Err-NothingOpen.ensures.fault in
-    subst IsDone (sym c.in-Err-NothingOpen.ensures.unchanged) (all_done c.args.tree.now c.requires.none_held fault.1)
+    subst IsDone (sym c.in-Err-NothingOpen.ensures.unchanged) (all_done c.args.tree.now c.requires.rest.none_held fault.1)
 
-pub settle-requires-after_bounds : goal.settle-requires-after_bounds
-settle-requires-after_bounds g c κs within =
+pub settle-requires-clause-ready : goal.settle-requires-clause-ready
+settle-requires-clause-ready g c κs within =
     let same = c.in-Ok.ensures.same in
     record {
-      of_question = same.question ∙ c.requires.of_question;
-      known = c.requires.known;
-      in_hand = record { is_seat = subst (λ (n : ℕ). 0 < n) (sym same.seats) c.requires.seats; holds = c.in-Ok.ensures.holds };
-      gaps = subst (λ (q : Question). AreGapsOf q.program c.in-Ok.node.must) c.requires.of_question c.in-Ok.ensures.of_program;
+      of_question = same.question ∙ c.requires.rest.of_question;
+      known = c.requires.rest.known;
+      in_hand = record { is_seat = subst (λ (n : ℕ). 0 < n) (sym same.seats) c.requires.rest.seats; holds = c.in-Ok.ensures.holds };
+      gaps = subst (λ (q : Question). AreGapsOf q.program c.in-Ok.node.must) c.requires.rest.of_question c.in-Ok.ensures.of_program;
     }
 
 pub returns-clause-rest : goal.returns-clause-rest
@@ -24,10 +24,10 @@ returns-clause-rest g c =
     let same = c.in-Ok.ensures.same in
     let settled = c.in_ok-settle.ensures in
     record {
-      of_question = settled.same.question ∙ same.question ∙ c.requires.of_question;
-      seats = subst (λ (n : ℕ). 0 < n) (sym (settled.same.seats ∙ same.seats)) c.requires.seats;
+      of_question = settled.same.question ∙ same.question ∙ c.requires.rest.of_question;
+      seats = subst (λ (n : ℕ). 0 < n) (sym (settled.same.seats ∙ same.seats)) c.requires.rest.seats;
       known = settled.known;
-      none_held = none_after c.args.tree.now c.take.new.self c.in-Ok.node c.requires.none_held c.in-Ok.ensures.taken c.settle.new.tree settled.settled;
+      none_held = none_after c.args.tree.now c.take.new.self c.in-Ok.node c.requires.rest.none_held c.in-Ok.ensures.taken c.settle.new.tree settled.settled;
     }
 
 pub returns-clause-less : goal.returns-clause-less

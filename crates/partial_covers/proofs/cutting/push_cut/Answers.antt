@@ -1,6 +1,8 @@
 use Rattle.std.proofs.Common.{get_or, sym, subst}
 use Rattle.std.proofs.lemmas.List.Elements.{All-push}
-use Rattle.partial_covers.proofs.Vocabulary.{All, IsPartOf, AreOfOthers}
+use Rattle.partial_covers.proofs.Vocabulary.{All, IsPartOf, AreOfOthers, sequential}
+use Rattle.cover_judge.specs.Choices.{MayChooseEach}
+use Rattle.partial_covers.proofs.FilledTrees.{values_in_sequence}
 use Rattle.cover_judge.specs.declared.choice.Choice.TheVariants as choice
 use Rattle.partial_covers.proofs.CombinedCovers.{of_others}
 use Rattle.partial_covers.proofs.PartsJoined.{part_next}
@@ -14,5 +16,7 @@ loop-choice-preserved c root is old =
     let i = c.loop-choice.choice-index in
     let d = choice.Value 0 0 in
     let others = subst (AreOfOthers last.thread) (sym c.deref-choice-items.ensures.value) (of_others part.sketch c.in-Some.t last.thread choices c.in_ok-choices_of.ensures.choices c.in-Some.ensures.0) in
-    let next = part_next root last part c.in_ok-after.field-0 is (get_or c.deref-choice-items.result.now i d) (others i d c.loop-choice-test.true) c.in_ok-after.ensures.path c.in_ok-after.ensures.sketch in
+    let each = subst (MayChooseEach (sequential part.sketch)) (sym c.deref-choice-items.ensures.value) (values_in_sequence part.sketch c.in-Some.t choices c.in_ok-choices_of.ensures.choices) in
+    let may = each.each i d c.loop-choice-test.true in
+    let next = part_next root last part c.in_ok-after.field-0 is (get_or c.deref-choice-items.result.now i d) (others i d c.loop-choice-test.true) may c.in_ok-after.ensures.path c.in_ok-after.ensures.sketch in
     subst (All (IsPartOf root last)) (sym c.in_ok-push-2.ensures.items) (All-push (IsPartOf root last) c.loop-choice.smaller.items c.in_ok-after.field-0 (c.loop-choice.invariant root is old) next)

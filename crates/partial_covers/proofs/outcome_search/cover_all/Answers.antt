@@ -9,9 +9,9 @@ of_nodes-requires g c = (let made = c.in_ok-nodes.ensures.tree in is_tree made.t
 
 pub returns-clause-tree : goal.returns-clause-tree
 returns-clause-tree g c =
-    let p = c.args.program.now in
-    let shown = c.args.shown.now in
+    let p = c.args.sought.now.program.now in
+    let shown = c.args.sought.now.shown.now in
     let outcomes = by_number c.fill.new.outcomes in
     let made = c.in_ok-nodes.ensures.tree in
-    subst (IsWholeCover (asked p shown) (machine_of_mode p c.args.mode) outcomes) (sym (same_tree c.in_ok-of_nodes.field-0 made.tree (c.in_ok-of_nodes.ensures ∙ made.pushed)))
-    (cover_first p c.args.mode (nothing_chosen p c.args.mode) shown outcomes made.tree refl made.is)
+    subst (IsWholeCover (asked p shown) (machine_of_mode p c.args.sought.now.mode) outcomes) (sym (same_tree c.in_ok-of_nodes.field-0 made.tree (c.in_ok-of_nodes.ensures ∙ made.pushed)))
+    (cover_first p c.args.sought.now.mode (nothing_chosen p c.args.sought.now.mode) shown outcomes made.tree refl made.is)

@@ -20,8 +20,8 @@ cover_first-requires-clause-parts g c =
     let none = c.none-all.result in
     let begins = c.none-all.ensures in
     subst (λ (sh : Shown). ArePartsFor s sh none.outcomes none.path.items parts) (sym begins.shown)
-    (subst (λ (cs : List Choice). ArePartsFor s c.args.shown.now none.outcomes cs parts) (sym (begins.path ∙ c.new.ensures.items))
-    (subst (λ (o : KnownOutcomes). ArePartsFor s c.args.shown.now o [] parts) (sym begins.open.1) (c.requires begins.open.0).parts))
+    (subst (λ (cs : List Choice). ArePartsFor s c.args.sought.now.shown.now none.outcomes cs parts) (sym (begins.path ∙ c.new.ensures.items))
+    (subst (λ (o : KnownOutcomes). ArePartsFor s c.args.sought.now.shown.now o [] parts) (sym begins.open.1) (c.requires begins.open.0).parts))
 
 pub returns-clause-in_order : goal.returns-clause-in_order
 returns-clause-in_order g c = c.in_ok-cover_first.ensures.grows.in_order
@@ -29,7 +29,7 @@ returns-clause-in_order g c = c.in_ok-cover_first.ensures.grows.in_order
 pub returns-clause-runs : goal.returns-clause-runs
 returns-clause-runs g c =
     let s = c.args.start.sketch in
-    let shown = c.args.shown.now in
+    let shown = c.args.sought.now.shown.now in
     let begins = c.none-all.ensures in
     let grows = grows_from s shown c.none-all.result c.cover_first.new.self begins.shown c.in_ok-cover_first.ensures in
     subst (λ (k : ProgramSketch). HasRunOfEach (asked k.program shown) c.cover_first.new.self.outcomes) (c.requires begins.open.0).sketch (grows.runs (begins.runs (asked s.program shown)))
@@ -41,7 +41,7 @@ pub returns-clause-kept : goal.returns-clause-kept
 returns-clause-kept g c =
     let begins = c.none-all.ensures in
     let new = c.cover_first.new.self in
-    let shown = c.args.shown.now in
-    let root = nothing_chosen c.args.program.now (modes.Fenced set.empty) in
+    let shown = c.args.sought.now.shown.now in
+    let root = nothing_chosen c.args.sought.now.program.now (modes.Fenced set.empty) in
     let tree = tree_from c.args.start.sketch shown c.none-all.result new begins.shown c.in_ok-cover_first.ensures [] (begins.path ∙ c.new.ensures.items) begins.kept in
     subst (PushesPartial root shown (by_number new.outcomes) [] []) (sym c.shrink.ensures) (tree root (sym (c.requires begins.open.0).sketch))

@@ -1,5 +1,5 @@
 use Rattle.std.proofs.Common.{◌<◌, length, refl, sym, ◌∙◌, arith, subst, length-set}
-use Rattle.partial_covers.proofs.Vocabulary.{Part, IsBeforeLast}
+use Rattle.partial_covers.specs.Parts.{IsOwnPart}
 use Rattle.partial_covers.proofs.PartsJoined.{searched_made, searched_left}
 use Rattle.partial_covers.proofs.searching.search_each.Goals as goal
 
@@ -33,4 +33,4 @@ search-requires c =
     let i = c.loop-i.i in
     let old = c.args.parts.now.items in
     let here : i < length old = omega (arith, c.loop-i-test.true, c.len-i-end.ensures, c.args.parts.now.ok.0) in
-    subst (λ (p : Part). IsBeforeLast p.sketch c.args.plan.now.last) (sym (c.index_mut.ensures.value ∙ c.loop-i.invariant.left i c.index_mut.result.now (omega arith))) (c.requires i c.index_mut.result.now here)
+    subst (IsOwnPart c.args.plan.now.last) (sym (c.index_mut.ensures.value ∙ c.loop-i.invariant.left i c.index_mut.result.now (omega arith))) (c.requires i c.index_mut.result.now here)

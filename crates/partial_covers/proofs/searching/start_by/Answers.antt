@@ -1,20 +1,21 @@
 use Rattle.std.proofs.Common.{◌≡◌, List, [], Vec, Global, length, sym, subst, arith}
-use Rattle.partial_covers.proofs.Vocabulary.{All, Open, Part, ArePartsFor, AreSearched, IsBeforeLast}
+use Rattle.partial_covers.proofs.Vocabulary.{All, Open, Part, ArePartsFor, AreSearched}
+use Rattle.partial_covers.specs.Parts.{IsOwnPart}
 use Rattle.partial_covers.proofs.PartsJoined.{parts_ready, parts_begun, none_begun, planned_last, written_back}
 use Rattle.partial_covers.proofs.searching.start_by.Goals as goal
 use Rattle.partial_covers.proofs.searching.start_by.Goals.{in-Some, in_default}
 
-pub search_by-requires-clause-before : goal.search_by-requires-clause-before
-search_by-requires-clause-before g c κs within =
+pub search_by-requires-clause-parts : goal.search_by-requires-clause-parts
+search_by-requires-clause-parts g c κs within =
     let first = c.in_ok-sketch.field-0 in
-    subst (All (λ part. IsBeforeLast part.sketch c.in-Some.plan.last)) (sym c.as_mut_slice.ensures.value) (parts_ready first.sketch first.plan c.in-Some.plan first.parts.items c.in-Some.is c.in_ok-sketch.ensures.planned)
+    subst (All (IsOwnPart c.in-Some.plan.last)) (sym c.as_mut_slice.ensures.value) (parts_ready c.args.sought.now.program.now first.sketch first.plan c.in-Some.plan first.parts.items c.in_ok-sketch.ensures.sketch c.in-Some.is c.in_ok-sketch.ensures.planned)
 
 pub returns : goal.returns
 returns g c none =
     let first = c.in_ok-sketch.field-0 in
     let ready = c.in_ok-sketch.ensures in
-    let shown = c.args.shown.now in
-    let mode = c.args.mode.now in
+    let shown = c.args.sought.now.shown.now in
+    let mode = c.args.sought.now.mode in
     record {
       sketch = ready.sketch;
       plan = planned_last first.sketch first.plan first.parts.items ready.planned;

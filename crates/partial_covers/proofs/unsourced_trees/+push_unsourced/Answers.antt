@@ -12,7 +12,7 @@ overflow_cast-count t c =
     let x = traces c.args.tree.now in
     let is : traces c.args.tree.now ≡ Read c.in-Read.sketch c.in-Read.choices.items (trace_trees (map traces c.in-Read.after.items)) = search (rules, views.the_lemmas, fold-roll-TraceTree Traces trace_node, fold_out-TraceTree Traces trace_node) in
     let tree = subst (IsTraceTree c.args.t) is c.requires in
-    let few = few_own c.in-Read.sketch c.args.t choices.items c.program.ensures.lawful c.program.ensures.registers tree.0 in
+    let few = few_own c.in-Read.sketch c.args.t choices.items c.recall_facts.ensures.lawful c.recall_facts.ensures.registers tree.0 in
     omega (arith, few, c.len-count.ensures, choices.ok.0)
 
 pub loop-next-init : goal.loop-next-init
@@ -25,7 +25,7 @@ loop-next-init t c =
     let long : c.len-count.result ≡ length (first_choices x) = omega (arith, c.len-count.ensures, choices.ok.0, ap length all) in
     let pushed : c.push.new.self.items ≡ old ++ root_over c.args.t x ∷ [] = c.in_ok-push-in-Read.ensures.items ∙ ap (λ (n : ℕ). old ++ node.Value c.args.t n ∷ []) long in
     record {
-      closes = closes_none c.args.t c.args.others.now c.in-Read.sketch c.program.ensures.lawful choices.items c.in-Read.after.items x is c.requires old c.push.new.self.items pushed;
+      closes = closes_none c.args.t c.args.others.now c.in-Read.sketch c.recall_facts.ensures.lawful choices.items c.in-Read.after.items x is c.requires old c.push.new.self.items pushed;
       begins = (root_over c.args.t x ∷ [], pushed);
     }
 
@@ -55,7 +55,7 @@ loop-next-preserved t c =
     let here = subst (λ (xs : List TraceTree). i < length xs) c.deref-next-items.ensures.value c.loop-next-test.true in
     let at_item = subst (λ (xs : List TraceTree). item ≡ get_or xs i item) c.deref-next-items.ensures.value c.next-item.is in
     record {
-      closes = closes_more c.args.t c.args.others.now c.in-Read.sketch c.program.ensures.lawful c.in-Read.choices.items c.in-Read.after.items x is c.requires i item old now new here at_item c.loop-next.invariant.closes
+      closes = closes_more c.args.t c.args.others.now c.in-Read.sketch c.recall_facts.ensures.lawful c.in-Read.choices.items c.in-Read.after.items x is c.requires i item old now new here at_item c.loop-next.invariant.closes
           (c.in_ok-push_unsourced-in-Read.ensures.closes c.if-not-branch.false);
       begins = begins_after old now new c.loop-next.invariant.begins c.in_ok-push_unsourced-in-Read.ensures.begins;
     }
@@ -65,5 +65,5 @@ returns-after-loop-next-clause-closes t c does =
     let i = c.loop-next.next-index in
     let is : traces c.args.tree.now ≡ Read c.in-Read.sketch c.in-Read.choices.items (trace_trees (map traces c.in-Read.after.items)) = search (rules, views.the_lemmas, fold-roll-TraceTree Traces trace_node, fold_out-TraceTree Traces trace_node) in
     let past = subst (λ (xs : List TraceTree). length xs ≤ i) c.deref-next-items.ensures.value c.loop-next-test.false in
-    closes_all c.args.t c.args.others.now c.in-Read.sketch c.program.ensures.lawful c.in-Read.choices.items c.in-Read.after.items (traces c.args.tree.now) is c.requires i c.args.nodes.now.items c.loop-next.nodes.items past
+    closes_all c.args.t c.args.others.now c.in-Read.sketch c.recall_facts.ensures.lawful c.in-Read.choices.items c.in-Read.after.items (traces c.args.tree.now) is c.requires i c.args.nodes.now.items c.loop-next.nodes.items past
     c.loop-next.invariant.closes

@@ -5,7 +5,7 @@ use Rattle.partial_covers.proofs.unsourced_trees.push_leaf.Goals as goal
 pub returns-in_ok-push-in-Some-clause-closes : goal.returns-in_ok-push-in-Some-clause-closes
 returns-in_ok-push-in-Some-clause-closes c does s shown outcomes takes =
     let u = c.args.trace.now.sketch in
-    let own = c.program.ensures.lawful in
+    let own = c.recall_facts.ensures.lawful in
     let base = takes.base in
     let whole = whole_merged s u c.args._t takes.lawful base.alone base.there own takes.alike c.requires.full base.full in
     record {

@@ -16,8 +16,8 @@ push_values-requires g t c =
     let choices = c.in-Read.choices in
     let after = c.in-Read.after.items in
     let is : traces c.args.tree.now ≡ Read c.in-Read.own c.in-Read.choices.items (trace_trees (map traces c.in-Read.after.items)) = search (rules, views.the_lemmas, fold-roll-TraceTree Traces trace_node, fold_out-TraceTree Traces trace_node) in
-    let few = few_here c.args.sketch.now c.args.t c.requires.base.alone c.requires.base.there c.program.ensures.lawful c.in-Read.own c.program-in-Read.ensures.lawful choices.items after (traces c.args.tree.now) is c.requires.tree c.requires.alike old.shown.now
-    (by_number old.outcomes) c.program.ensures.registers in
+    let few = few_here c.args.sketch.now c.args.t c.requires.base.alone c.requires.base.there c.recall_facts.ensures.lawful c.in-Read.own c.recall_facts-in-Read.ensures.lawful choices.items after (traces c.args.tree.now) is c.requires.tree c.requires.alike old.shown.now
+    (by_number old.outcomes) c.recall_facts.ensures.registers in
     omega (arith, few, c.len.ensures, choices.ok.0)
 
 pub loop-i-init : goal.loop-i-init
@@ -38,8 +38,8 @@ index-requires g t c =
     let below = c.in-Read.after in
     let x = traces c.args.tree.now in
     let is : traces c.args.tree.now ≡ Read c.in-Read.own c.in-Read.choices.items (trace_trees (map traces c.in-Read.after.items)) = search (rules, views.the_lemmas, fold-roll-TraceTree Traces trace_node, fold_out-TraceTree Traces trace_node) in
-    let many = as_many_here c.args.sketch.now c.args.t c.requires.base.alone c.requires.base.there c.program.ensures.lawful c.in-Read.own c.program-in-Read.ensures.lawful choices.items below.items x is c.requires.tree c.requires.alike shown in
-    let all = choices_here c.args.sketch.now c.args.t c.requires.base.alone c.requires.base.there c.program.ensures.lawful c.in-Read.own c.program-in-Read.ensures.lawful choices.items below.items x is c.requires.tree c.requires.alike shown in
+    let many = as_many_here c.args.sketch.now c.args.t c.requires.base.alone c.requires.base.there c.recall_facts.ensures.lawful c.in-Read.own c.recall_facts-in-Read.ensures.lawful choices.items below.items x is c.requires.tree c.requires.alike shown in
+    let all = choices_here c.args.sketch.now c.args.t c.requires.base.alone c.requires.base.there c.recall_facts.ensures.lawful c.in-Read.own c.recall_facts-in-Read.ensures.lawful choices.items below.items x is c.requires.tree c.requires.alike shown in
     let here = subst (λ (xs : List TraceTree). c.loop-i.i < length xs) c.deref-next-items.ensures.value c.loop-i-test.true in
     omega (arith, many, ap length all, here, choices.ok.0)
 
@@ -59,7 +59,7 @@ cover_traces-requires g t c κs within = (
           c.loop-i.invariant.grows.in_order,
           (
             c.requires.base,
-            child_meets c.args.sketch.now c.args.t c.requires.base.alone c.requires.base.there c.program.ensures.lawful c.in-Read.own c.program-in-Read.ensures.lawful choices.items below.items x is c.requires.tree c.requires.alike
+            child_meets c.args.sketch.now c.args.t c.requires.base.alone c.requires.base.there c.recall_facts.ensures.lawful c.in-Read.own c.recall_facts-in-Read.ensures.lawful choices.items below.items x is c.requires.tree c.requires.alike
                 c.args.self.now.shown.now i item here at_item,
           ),
         ),
@@ -78,8 +78,8 @@ loop-i-preserved g t c =
     let item = c.next-item.result in
     let x = traces c.args.tree.now in
     let is : traces c.args.tree.now ≡ Read c.in-Read.own c.in-Read.choices.items (trace_trees (map traces c.in-Read.after.items)) = search (rules, views.the_lemmas, fold-roll-TraceTree Traces trace_node, fold_out-TraceTree Traces trace_node) in
-    let many = as_many_here s c.args.t c.requires.base.alone c.requires.base.there c.program.ensures.lawful c.in-Read.own c.program-in-Read.ensures.lawful choices.items below.items x is c.requires.tree c.requires.alike shown in
-    let all = choices_here s c.args.t c.requires.base.alone c.requires.base.there c.program.ensures.lawful c.in-Read.own c.program-in-Read.ensures.lawful choices.items below.items x is c.requires.tree c.requires.alike shown in
+    let many = as_many_here s c.args.t c.requires.base.alone c.requires.base.there c.recall_facts.ensures.lawful c.in-Read.own c.recall_facts-in-Read.ensures.lawful choices.items below.items x is c.requires.tree c.requires.alike shown in
+    let all = choices_here s c.args.t c.requires.base.alone c.requires.base.there c.recall_facts.ensures.lawful c.in-Read.own c.recall_facts-in-Read.ensures.lawful choices.items below.items x is c.requires.tree c.requires.alike shown in
     let here = subst (λ (xs : List TraceTree). i < length xs) c.deref-next-items.ensures.value c.loop-i-test.true in
     let at_item = subst (λ (xs : List TraceTree). item ≡ get_or xs i item) c.deref-next-items.ensures.value c.next-item.is in
     let within : i < length (first_choices x) = omega (arith, many, here) in
@@ -93,7 +93,7 @@ loop-i-preserved g t c =
     let longer : c.push.new.self.items ≡ now.path.items ++ ch ∷ [] = c.in_ok-push-in-Read.ensures.items ∙ ap (λ (k : Choice). now.path.items ++ k ∷ []) chosen in
     let still : new.path.items ≡ old.path.items ++ ch ∷ [] = made.path ∙ longer ∙ ap (λ (cs : List Choice). cs ++ ch ∷ []) inv.path in
     let back = c.pop.ensures.rest ∙ taken_back old.path.items new.path.items _ (ch ∷ [], still) (omega (arith, new.path.ok.0, ap length still, length-append old.path.items (ch ∷ []))) in
-    let at = child_at s c.args.t c.requires.base.alone c.requires.base.there c.program.ensures.lawful c.in-Read.own c.program-in-Read.ensures.lawful choices.items below.items x is c.requires.tree c.requires.alike shown i item here at_item in
+    let at = child_at s c.args.t c.requires.base.alone c.requires.base.there c.recall_facts.ensures.lawful c.in-Read.own c.recall_facts-in-Read.ensures.lawful choices.items below.items x is c.requires.tree c.requires.alike shown i item here at_item in
     each_more (with_root c.args.t s x) (with_root c.args.t s (traces item)) (first_choices x) i d (record old { kept = c.push_values.new.self }) now new c.push.new.self c.pop.new.self within at longer back inv made
 
 pub returns-after-loop-i : goal.returns-after-loop-i
@@ -107,9 +107,9 @@ returns-after-loop-i g t c =
     let i = c.loop-i.i in
     let x = traces c.args.tree.now in
     let is : traces c.args.tree.now ≡ Read c.in-Read.own c.in-Read.choices.items (trace_trees (map traces c.in-Read.after.items)) = search (rules, views.the_lemmas, fold-roll-TraceTree Traces trace_node, fold_out-TraceTree Traces trace_node) in
-    let all = choices_here s c.args.t c.requires.base.alone c.requires.base.there c.program.ensures.lawful c.in-Read.own c.program-in-Read.ensures.lawful choices.items below.items x is c.requires.tree c.requires.alike shown in
-    let are = are_here s c.args.t c.requires.base.alone c.requires.base.there c.program.ensures.lawful c.in-Read.own c.program-in-Read.ensures.lawful choices.items below.items x is c.requires.tree c.requires.alike shown in
-    let many = as_many_here s c.args.t c.requires.base.alone c.requires.base.there c.program.ensures.lawful c.in-Read.own c.program-in-Read.ensures.lawful choices.items below.items x is c.requires.tree c.requires.alike shown in
+    let all = choices_here s c.args.t c.requires.base.alone c.requires.base.there c.recall_facts.ensures.lawful c.in-Read.own c.recall_facts-in-Read.ensures.lawful choices.items below.items x is c.requires.tree c.requires.alike shown in
+    let are = are_here s c.args.t c.requires.base.alone c.requires.base.there c.recall_facts.ensures.lawful c.in-Read.own c.recall_facts-in-Read.ensures.lawful choices.items below.items x is c.requires.tree c.requires.alike shown in
+    let many = as_many_here s c.args.t c.requires.base.alone c.requires.base.there c.recall_facts.ensures.lawful c.in-Read.own c.recall_facts-in-Read.ensures.lawful choices.items below.items x is c.requires.tree c.requires.alike shown in
     let over = subst (λ (xs : List TraceTree). length xs ≤ i) c.deref-next-items.ensures.value c.loop-i-test.false in
     let past : length (first_choices x) ≤ i = omega (arith, many, over) in
     let long : c.len.result ≡ length (first_choices x) = omega (arith, c.len.ensures, choices.ok.0, ap length all) in

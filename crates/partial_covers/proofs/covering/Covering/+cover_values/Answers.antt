@@ -26,7 +26,7 @@ cover_each_value-cover_values-requires g t c κs within =
     let parts = c.loop-choice.parts.items in
     let longer : c.push.new.self.items ≡ path ++ ch ∷ [] = c.in_ok-push.ensures.items ∙ ap (λ (cs : List Choice). cs ++ ch ∷ []) inv.covers.path in
     let still = parts_still old.shown.now old.outcomes now.outcomes inv.covers.grows.stays s path parts (inv.left s old.shown.now old.outcomes path c.requires.parts) in (
-      omega (arith, fewer_rounds s next ch c.program.ensures.lawful c.program.ensures.few (c.requires.may.each i d c.loop-choice-test.true) c.in_ok-next.ensures),
+      omega (arith, fewer_rounds s next ch c.recall_facts.ensures.lawful c.recall_facts.ensures.few (c.requires.may.each i d c.loop-choice-test.true) c.in_ok-next.ensures),
       (
         within,
         (
@@ -120,7 +120,7 @@ pub cover_next-push_values-requires : goal.cover_next-push_values-requires
 cover_next-push_values-requires g t c =
     let s = c.args.sketch.now in
     let choices = c.in_ok-choices.choices in
-    let few = few_choices s c.args.self.now.shown.now (by_number c.args.self.now.outcomes) c.program.ensures.lawful (left.Value c.args.t) choices.items c.program.ensures.registers c.requires.open.1 c.in_ok-choices.ensures.choices in
+    let few = few_choices s c.args.self.now.shown.now (by_number c.args.self.now.outcomes) c.recall_facts.ensures.lawful (left.Value c.args.t) choices.items c.recall_facts.ensures.registers c.requires.open.1 c.in_ok-choices.ensures.choices in
     omega (arith, few, c.len.ensures, choices.ok.0)
 
 pub cover_next-returns-clause-covers : goal.cover_next-returns-clause-covers
@@ -173,7 +173,7 @@ cover_values-returns-then-branch-clause-covers g t c =
       path = refl;
       grows = grows_none (asked s.program old.shown.now) old.outcomes c.requires.in_order;
       tree = pushes_closed s old.shown.now (by_number old.outcomes) old.path.items old.kept.pieces.items old.kept.nodes.items nodes
-          (leaf_pushed s old.shown.now (by_number old.outcomes) c.program.ensures.lawful c.program.ensures.few old.kept.nodes.items nodes c.in_ok-known_leaf.field-0 c.if-branch.true c.in_ok-known_leaf.ensures);
+          (leaf_pushed s old.shown.now (by_number old.outcomes) c.recall_facts.ensures.lawful c.recall_facts.ensures.few old.kept.nodes.items nodes c.in_ok-known_leaf.field-0 c.if-branch.true c.in_ok-known_leaf.ensures);
     }
 
 pub cover_values-returns-then-branch-2-clause-covers : goal.cover_values-returns-then-branch-2-clause-covers

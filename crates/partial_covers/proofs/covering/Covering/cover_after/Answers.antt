@@ -13,14 +13,14 @@ cover_traces-requires-clause-base g c =
     let pair = c.args.pair.now in
     let last = pair.last.now in
     subst (λ (n : ProgramSketch). IsBase last.thread n c.in_ok-others.others) (sym c.in_ok-merged.ensures)
-    (base_after pair.sketch.now pair.thread last pair.rest c.args.trace.now c.program.ensures.lawful c.program-2.ensures.lawful c.requires.pair.last c.requires.pair.rest c.requires.trace c.requires.alike c.in_ok-others.others c.in_ok-others.ensures)
+    (base_after pair.sketch.now pair.thread last pair.rest c.args.trace.now c.recall_facts.ensures.lawful c.recall_facts-2.ensures.lawful c.requires.pair.last c.requires.pair.rest c.requires.trace c.requires.alike c.in_ok-others.others c.in_ok-others.ensures)
 
 pub cover_traces-requires-clause-alike : goal.cover_traces-requires-clause-alike
 cover_traces-requires-clause-alike g c =
     let pair = c.args.pair.now in
     let last = pair.last.now in
     subst (λ (n : ProgramSketch). AreAlike (root (traces last.tree)) n) (sym c.in_ok-merged.ensures)
-    (last_after pair.sketch.now pair.thread last pair.rest c.args.trace.now c.program.ensures.lawful c.program-2.ensures.lawful c.requires.pair.last c.requires.pair.rest c.requires.trace c.requires.alike).alike
+    (last_after pair.sketch.now pair.thread last pair.rest c.args.trace.now c.recall_facts.ensures.lawful c.recall_facts-2.ensures.lawful c.requires.pair.last c.requires.pair.rest c.requires.trace c.requires.alike).alike
 
 pub returns-then-branch : goal.returns-then-branch
 returns-then-branch g c =
@@ -29,8 +29,8 @@ returns-then-branch g c =
     let trace = c.args.trace.now in
     let last = pair.last.now in
     let others = c.in_ok-others.others in
-    let lawful = c.program.ensures.lawful in
-    let own = c.program-2.ensures.lawful in
+    let lawful = c.recall_facts.ensures.lawful in
+    let own = c.recall_facts-2.ensures.lawful in
     let old = c.args.self.now in
     let shown = old.shown.now in
     let outs = by_number old.outcomes in
@@ -38,7 +38,7 @@ returns-then-branch g c =
     let lawful_here : IsLawful merged = lawful_merged s trace.sketch pair.thread lawful c.requires.pair.last.alone c.requires.pair.rest.there own c.requires.alike in
     let after = last_after s pair.thread last pair.rest trace lawful own c.requires.pair.last c.requires.pair.rest c.requires.trace c.requires.alike in
     let base = base_after s pair.thread last pair.rest trace lawful own c.requires.pair.last c.requires.pair.rest c.requires.trace c.requires.alike others c.in_ok-others.ensures in
-    let takes : Takes last.thread others (root (traces last.tree)) merged = record { lawful = lawful_here; registers = c.program.ensures.registers; base = base; alike = after.alike } in
+    let takes : Takes last.thread others (root (traces last.tree)) merged = record { lawful = lawful_here; registers = c.recall_facts.ensures.registers; base = base; alike = after.alike } in
     let nodes = old.kept.nodes.items in
     let put = c.push_unsourced.new.nodes.items in
     let closes = c.in_ok-push_unsourced.ensures.closes c.if-branch.true in
@@ -56,8 +56,8 @@ returns g c =
     let s = pair.sketch.now in
     let trace = c.args.trace.now in
     let last = pair.last.now in
-    let lawful = c.program.ensures.lawful in
-    let own = c.program-2.ensures.lawful in
+    let lawful = c.recall_facts.ensures.lawful in
+    let own = c.recall_facts-2.ensures.lawful in
     let old = c.args.self.now in
     let merged : ProgramSketch = with_trace pair.thread s trace in
     let lawful_here : IsLawful merged = lawful_merged s trace.sketch pair.thread lawful c.requires.pair.last.alone c.requires.pair.rest.there own c.requires.alike in

@@ -15,4 +15,4 @@ returns g c =
     let s = c.args.sketch.now in
     let before = c.args.before.now in
     let P : ProgramSketch → Type 0 = λ n. Covers n c.args.self.now c.cover_pair.new.self in
-    on_ok c.cover_pair.result (P (with_root before.thread s (traces before.tree))) (P s) (subst P (at_its_start s c.args.last.now.thread before c.program.ensures.lawful c.requires.before)) c.cover_pair.ensures
+    on_ok c.cover_pair.result (P (with_root before.thread s (traces before.tree))) (P s) (subst P (at_its_start s c.args.last.now.thread before c.recall_facts.ensures.lawful c.requires.before)) c.cover_pair.ensures

@@ -9,4 +9,4 @@ returns g c =
     let s = c.args.sketch.now in
     let last = c.args.plan.now.last in
     let P : ProgramSketch → Type 0 = λ n. Covers n c.args.self.now c.cover_traces.new.self in
-    on_ok c.cover_traces.result (P (with_root last.thread s (traces last.tree))) (P s) (subst P (at_start s last c.program.ensures.lawful c.requires.before)) c.cover_traces.ensures
+    on_ok c.cover_traces.result (P (with_root last.thread s (traces last.tree))) (P s) (subst P (at_start s last c.recall_facts.ensures.lawful c.requires.before)) c.cover_traces.ensures

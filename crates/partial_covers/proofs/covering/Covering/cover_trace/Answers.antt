@@ -8,15 +8,15 @@ pub cover_or_hole-requires-clause-whole : goal.cover_or_hole-requires-clause-who
 cover_or_hole-requires-clause-whole g c =
     let base = c.requires.base in
     subst (λ (n : ProgramSketch). IsWhole n.program (mode_in n) n.chosen) (sym c.in_ok-whole-in-None.ensures)
-    (whole_merged c.args.sketch.now c.args.trace.now.sketch c.args.t c.program.ensures.lawful base.alone base.there c.program-2.ensures.lawful c.requires.alike c.requires.trace.full base.full)
+    (whole_merged c.args.sketch.now c.args.trace.now.sketch c.args.t c.recall_facts.ensures.lawful base.alone base.there c.recall_facts-2.ensures.lawful c.requires.alike c.requires.trace.full base.full)
 
 pub returns-in_ok-push-in-Some : goal.returns-in_ok-push-in-Some
 returns-in_ok-push-in-Some g c =
     let s = c.args.sketch.now in
     let u = c.args.trace.now.sketch in
     let base = c.requires.base in
-    let lawful = c.program.ensures.lawful in
-    let own = c.program-2.ensures.lawful in
+    let lawful = c.recall_facts.ensures.lawful in
+    let own = c.recall_facts-2.ensures.lawful in
     let old = c.args.self.now in
     let outs = by_number old.outcomes in
     let whole = whole_merged s u c.args.t lawful base.alone base.there own c.requires.alike c.requires.trace.full base.full in
@@ -27,7 +27,7 @@ returns-in_ok-push-in-Some g c =
       tree = pushes_closed (with_trace c.args.t s c.args.trace.now) old.shown.now outs old.path.items old.kept.pieces.items old.kept.nodes.items c.push.new.self.items (record {
         tree = Source c.in-Some.read NoCover;
         is = unsourced_cover s u c.args.t lawful base.alone base.there own c.requires.alike c.args.trace.now.tally c.args.others.now c.requires.trace.tally base.tally
-            old.shown.now outs c.program.ensures.registers whole c.in-Some.read c.in-Some.ensures;
+            old.shown.now outs c.recall_facts.ensures.registers whole c.in-Some.read c.in-Some.ensures;
         pushed = c.in_ok-push-in-Some.ensures.items;
       });
     }

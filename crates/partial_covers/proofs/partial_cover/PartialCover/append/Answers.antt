@@ -9,6 +9,6 @@ loop-piece-preserved c =
     let p = c.in-Some.piece in
     let old = items_of c.args.self.now in
     let nodes = map Has p.nodes.items in
-    let hole = Lacks p.path.items ∷ [] in
+    let hole = Lacks p.path.items p.filling.items ∷ [] in
     c.in_ok-push_piece.ensures ∙ ap (λ (xs : List Item). (xs ++ nodes) ++ hole) c.loop-piece.invariant ∙ ap (λ (xs : List Item). xs ++ hole) (append_assoc old (items_before ys) nodes)
     ∙ append_assoc old (items_before ys ++ nodes) hole ∙ ap (λ (xs : List Item). old ++ xs) (sym (pieces_pushed ys p))

@@ -1,0 +1,10 @@
+use Rattle.std.proofs.Common.{ap, ◌∙◌}
+use Rattle.cover_solver.specs.Facts.{Asked}
+use Rattle.cover_solver.proofs.Tables.{lacks_moved}
+use Rattle.cover_solver.proofs.solver.Solver.ask_by.Goals as goal
+
+pub verdict-requires-clause-stop : goal.verdict-requires-clause-stop
+verdict-requires-clause-stop g c =
+    let s = c.args.self.now in
+    let listed = c.deref-2.ensures.value ∙ ap (λ (a : Asked). a.outcomes) c.self.view_is in
+    lacks_moved c.cover_closed_by-found.result _ s.question _ c.args.set.now _ s.outcomes c.search-search.ensures.question c.search-search.ensures.mode listed c.cover_closed_by-found.ensures.stop

@@ -1,0 +1,20 @@
+use Rattle.std.proofs.Common.{◌≡◌, ◌∙◌, subst}
+use Rattle.partial_covers.proofs.Vocabulary.{asked, Listing, Machine, ProgramSketch, mode_in, after}
+use Rattle.sketch_covers.proofs.Growing.{stops_for}
+use Rattle.partial_covers.specs.HoleTrees.{StopLacks}
+use Rattle.partial_covers.proofs.ChoicesMade.{same_program, same_machine}
+use Rattle.partial_covers.proofs.HoleTrees.{stop_lacks}
+use Rattle.partial_covers.proofs.hole_trees.HoleTree.tree.Goals as goal
+
+pub returns-in_err-cover_whole-clause-stop : goal.returns-in_err-cover_whole-clause-stop
+returns-in_err-cover_whole-clause-stop c =
+    let empty = c.args.empty.now in
+    let shown = c.args.shown.now in
+    let path = c.args.self.now.path.items in
+    let outcomes = c.args.outcomes.now in
+    let reached : c.choose_all.new.sketch ≡ after empty path = c.in_ok-choose_all.ensures ∙ (λ k. after (c.in_ok-sketch.ensures k) (c.deref.ensures.value k)) in
+    let why = c.in_err-cover_whole.field-0.0 in
+    let lacks = stop_lacks (asked c.choose_all.new.sketch.program shown) (mode_in c.choose_all.new.sketch) c.args.outcomes why c.in_err-cover_whole.ensures.stop in
+    let there = subst (λ (n : ProgramSketch). StopLacks (asked n.program shown) (mode_in n) outcomes why) reached lacks in
+    let here = subst (λ (l : Listing). StopLacks (asked l shown) (mode_in empty) outcomes why) (same_program empty path) (subst (λ (m : Machine). StopLacks (asked (after empty path).program shown) m outcomes why) (same_machine empty path) there) in
+    stops_for why c.from_residual-in_err-cover_whole.result (StopLacks (asked empty.program shown) (mode_in empty) outcomes) c.from_residual-in_err-cover_whole.ensures.1 here
