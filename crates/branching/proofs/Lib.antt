@@ -2,6 +2,7 @@
 mod Vocabulary
 pub mod NothingLeft
 pub mod TakenIn
+pub mod OneMoreChoice
 pub mod Rounds
 pub mod AccessesNamed
 pub mod Tallied

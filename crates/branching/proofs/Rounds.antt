@@ -4,7 +4,7 @@ use Rattle.branching.proofs.Vocabulary.{ProgramSketch, mode_in, with_chosen, eve
 use Rattle.cover_judge.proofs.GivenValues.{reads_there}
 use Rattle.sketches.specs.Kept.{IsLawful}
 use Rattle.sketches.specs.Sizes.{choice_count, most_choices}
-use Rattle.sketches.proofs.ChoicesCounted.{value_counted, source_counted, pair_counted}
+use Rattle.branching.proofs.OneMoreChoice.{value_counted, source_counted, pair_counted}
 use Rattle.cover_judge.specs.declared.choice.Choice.TheVariants as choice
 
 -- a choice is one more

@@ -91,10 +91,7 @@ taken_after s T U V old middle new first second either = record {
 
 -- a thread that has an access is there
 pub thread_there : (s : ProgramSketch) (t i : ℕ) → i < length (trace_in s t).accesses → t < length s.program.threads
-thread_there s t i h = elim (cases_lt t (length s.program.threads)) [
-  | inl low ↦ low
-  | inr high ↦ absurd (none_past s t i (omega arith) h)
-]
+thread_there s t i h = elim (cases_lt t (length s.program.threads)) [ inl low ↦ low | inr high ↦ absurd (none_past s t i (omega arith) h) ]
 
 -- the access of a thread with a number
 pub same_access : (a : AccessId) (t i : ℕ) → a.thread ≡ t → a.access ≡ i → a ≡ record { thread = t; access = i }

@@ -35,8 +35,7 @@ pub(crate) fn trace_tree(alloc: Global, sketch: &Sketch, t: u8) -> Result<TraceT
     ensures tree { IfOk result (λ tree. IsTraceTree t (traces tree)) }
     ensures root { IfOk result (λ tree. root (traces tree) ≡ sketch.now) }
 {
-    // For the proof alone: what holds of every sketch is known where its program is read.
-    let _ = sketch.program();
+    sketch.recall_facts();
     match value_choices(alloc, sketch, t)? {
         Some(choices) => {
             let after = trees_after(alloc, sketch, t, &choices)?;
@@ -61,8 +60,7 @@ fn trees_after(
     requires { MayChooseEach sketch.now choices.now }
     ensures { IfOk result (λ after. AreTraceTrees t sketch.now (trace_trees (map traces after.items)) choices.now) }
 {
-    // For the proof alone: what holds of every sketch is known where its program is read.
-    let _ = sketch.program();
+    sketch.recall_facts();
     let mut after = Vec::new(alloc);
     for choice in choices {
         let next = sketch_with(sketch, *choice)?;

@@ -34,6 +34,10 @@ IsFrom number (Wrong path) (Wrong other) = other ≡ number ∷ path
 IsFrom number OutOfMemory (Wrong other) = ⊥
 IsFrom number fault OutOfMemory = Unit {0}
 
+-- the tree is valid at the sketch
+abbrev pub IsValidAt : ProgramSketch → Shown → List Outcome → Cover → Type 0
+IsValidAt s shown outcomes tree = IsValidCover (asked s.program shown) (mode_in s) outcomes tree s.chosen
+
 module _ (shown : Shown) (outcomes : List Outcome) (s : ProgramSketch) where
   -- the tree is valid at the sketch after a choice
   abbrev pub IsValidAfter : Cover → Sketch → Type 0

@@ -11,90 +11,120 @@ ghost use Rattle.cover_judge.specs.CoverDefects.{HasNoValues};
 ghost use Rattle.cover_judge.specs.Judged.{IfWrong, IsAtRoot, IsBelow, IsValidAfter, IsWrongAt, AreValidAfter, IsWrongChild};
 
 use crate::choice::{Choice, event_of};
-use crate::cover::judge;
+use crate::cover::CoverJudge;
 use crate::fault::TreeFault;
 use cert_forest::{CoverNode, Walk};
 use sketches::{SharedValues, ValueSketch};
 use std::alloc::Global;
-use tso_program::{Outcome, Shown};
 
-/// Judges the first tree of a walk at a sketch in which values alone are chosen. It makes no rows down to the
-/// first node that is for no value.
-#[cycle(judge_by_values)]
-pub(crate) fn judge_by_values(
-    alloc: Global,
-    walk: &mut Walk<'_>,
-    sketch: &mut ValueSketch,
-    shown: &Shown,
-    outcomes: &[Outcome],
-) -> Result<(), TreeFault>
-    requires { 0 < length walk.old }
-    ensures kept { sketch.new ≡ sketch.old }
-    ensures after { OnOk result (walk.new ≡ drop 1 walk.old) }
-    ensures valid { OnOk result (IsValidAfter shown.now outcomes.now sketch.old (first_tree walk.old) sketch.old.chosen) }
-    ensures wrong { IfErr result (IfWrong (IsWrongAt shown.now outcomes.now sketch.old (first_tree walk.old) sketch.old.chosen)) }
-{
-    let mut ahead = walk.ahead();
-    match ahead.next_node() {
-        CoverNode::Value { thread, count } => {
-            *walk = ahead;
-            judge_next_read(alloc, thread, count, walk, sketch, shown, outcomes)
-        }
-        CoverNode::Source { read, count } => {
-            if count == 0 && sketch.lacks_source(event_of(read)) {
+impl CoverJudge<'_> {
+    /// Judges the first tree of a walk at a sketch in which values alone are chosen. It makes no rows down to the
+    /// first node that is for no value.
+    #[cycle(judge_by_values)]
+    pub(crate) fn judge_by_values(
+        &self,
+        walk: &mut Walk<'_>,
+        sketch: &mut ValueSketch,
+    ) -> Result<(), TreeFault>
+        requires { 0 < length walk.old }
+        ensures kept { sketch.new ≡ sketch.old }
+        ensures after { OnOk result (walk.new ≡ drop 1 walk.old) }
+        ensures valid { OnOk result (IsValidAfter self.now.shown.now self.now.outcomes.now sketch.old (first_tree walk.old) sketch.old.chosen) }
+        ensures wrong { IfErr result (IfWrong (IsWrongAt self.now.shown.now self.now.outcomes.now sketch.old (first_tree walk.old) sketch.old.chosen)) }
+    {
+        let mut ahead = walk.ahead();
+        match ahead.next_node() {
+            CoverNode::Value { thread, count } => {
                 *walk = ahead;
-                return Ok(());
+                self.judge_next_read(thread, count, walk, sketch)
             }
-            judge_whole(alloc, walk, sketch, shown, outcomes)
+            CoverNode::Source { read, count } => {
+                if count == 0 && sketch.lacks_source(event_of(read)) {
+                    *walk = ahead;
+                    return Ok(());
+                }
+                self.judge_whole(walk, sketch)
+            }
+            _ => self.judge_whole(walk, sketch),
         }
-        _ => judge_whole(alloc, walk, sketch, shown, outcomes),
     }
-}
 
-/// Judges the first tree of a walk in a whole sketch.
-fn judge_whole(
-    alloc: Global,
-    walk: &mut Walk<'_>,
-    sketch: &ValueSketch,
-    shown: &Shown,
-    outcomes: &[Outcome],
-) -> Result<(), TreeFault>
-    requires { 0 < length walk.old }
-    ensures after { OnOk result (walk.new ≡ drop 1 walk.old) }
-    ensures valid { OnOk result (IsValidAfter shown.now outcomes.now sketch.now (first_tree walk.old) sketch.now.chosen) }
-    ensures wrong { IfErr result (IfWrong (IsWrongAt shown.now outcomes.now sketch.now (first_tree walk.old) sketch.now.chosen)) }
-{
-    let mut whole = sketch.sketch()?;
-    judge(alloc, walk, &mut whole, shown, outcomes)
-}
+    /// Judges the first tree of a walk in a whole sketch.
+    fn judge_whole(&self, walk: &mut Walk<'_>, sketch: &ValueSketch) -> Result<(), TreeFault>
+        requires { 0 < length walk.old }
+        ensures after { OnOk result (walk.new ≡ drop 1 walk.old) }
+        ensures valid { OnOk result (IsValidAfter self.now.shown.now self.now.outcomes.now sketch.now (first_tree walk.old) sketch.now.chosen) }
+        ensures wrong { IfErr result (IfWrong (IsWrongAt self.now.shown.now self.now.outcomes.now sketch.now (first_tree walk.old) sketch.now.chosen)) }
+    {
+        let mut whole = sketch.sketch()?;
+        self.judge(walk, &mut whole)
+    }
 
-/// Judges a node whose children come first in the walk and are for the values of a thread's next read.
-#[cycle(judge_by_values)]
-fn judge_next_read(
-    alloc: Global,
-    thread: u8,
-    count: u32,
-    walk: &mut Walk<'_>,
-    sketch: &mut ValueSketch,
-    shown: &Shown,
-    outcomes: &[Outcome],
-) -> Result<(), TreeFault>
-    requires { count ≤ length walk.old }
-    ensures kept { sketch.new ≡ sketch.old }
-    ensures after { OnOk result (walk.new ≡ drop count walk.old) }
-    ensures valid { OnOk result (IsValidAfter shown.now outcomes.now sketch.old (Value thread (covers_of (take count walk.old))) sketch.old.chosen) }
-    ensures wrong { IfErr result (IfWrong (IsWrongAt shown.now outcomes.now sketch.old (Value thread (covers_of (take count walk.old))) sketch.old.chosen)) }
-{
-    let values = next_values(alloc, thread, count, sketch)?;
-    judge_each_value(
-        alloc,
-        thread,
-        values.as_slice(),
-        walk,
-        sketch,
-        shown,
-        outcomes,
-    )
+    /// Judges a node whose children come first in the walk and are for the values of a thread's next read.
+    #[cycle(judge_by_values)]
+    fn judge_next_read(
+        &self,
+        thread: u8,
+        count: u32,
+        walk: &mut Walk<'_>,
+        sketch: &mut ValueSketch,
+    ) -> Result<(), TreeFault>
+        requires { count ≤ length walk.old }
+        ensures kept { sketch.new ≡ sketch.old }
+        ensures after { OnOk result (walk.new ≡ drop count walk.old) }
+        ensures valid { OnOk result (IsValidAfter self.now.shown.now self.now.outcomes.now sketch.old (Value thread (covers_of (take count walk.old))) sketch.old.chosen) }
+        ensures wrong { IfErr result (IfWrong (IsWrongAt self.now.shown.now self.now.outcomes.now sketch.old (Value thread (covers_of (take count walk.old))) sketch.old.chosen)) }
+    {
+        let values = next_values(self.alloc, thread, count, sketch)?;
+        self.judge_each_value(thread, values.as_slice(), walk, sketch)
+    }
+
+    /// Judges the children of a node in order, each at the sketch after its value: they come first in the walk.
+    #[cycle(judge_by_values)]
+    fn judge_each_value(
+        &self,
+        thread: u8,
+        values: &[u32],
+        walk: &mut Walk<'_>,
+        sketch: &mut ValueSketch,
+    ) -> Result<(), TreeFault>
+        requires next { HasNextValues sketch.old.program (mode_in sketch.old) sketch.old.chosen thread values.now }
+        requires as_many { length values.now ≤ length walk.old }
+        ensures kept { sketch.new ≡ sketch.old }
+        ensures after { OnOk result (walk.new ≡ drop (length values.now) walk.old) }
+        ensures valid { OnOk result (AreValidAfter self.now.shown.now self.now.outcomes.now sketch.old (take (length values.now) walk.old) (map (Choice.Value thread) values.now)) }
+        ensures wrong { IfErr result (IfWrong (IsBelow (IsWrongChild self.now.shown.now self.now.outcomes.now sketch.old (take (length values.now) walk.old) (map (Choice.Value thread) values.now)))) }
+    {
+        for (number, value) in values.iter().enumerate() {
+            match self.judge_value(thread, *value, walk, sketch) {
+                Ok(()) => {}
+                Err(fault) => return Err(fault.from_parent(number)),
+            }
+        }
+        Ok(())
+    }
+
+    /// Judges the first tree of a walk at the sketch after a value, which is taken back.
+    #[cycle(judge_by_values)]
+    fn judge_value(
+        &self,
+        thread: u8,
+        value: u32,
+        walk: &mut Walk<'_>,
+        sketch: &mut ValueSketch,
+    ) -> Result<(), TreeFault>
+        requires may { MayChoose sketch.old (Choice.Value thread value) }
+        requires some { 0 < length walk.old }
+        ensures kept { sketch.new ≡ sketch.old }
+        ensures after { OnOk result (walk.new ≡ drop 1 walk.old) }
+        ensures valid { OnOk result (IsValidAfter self.now.shown.now self.now.outcomes.now sketch.old (first_tree walk.old) (with_value sketch.old.chosen thread value)) }
+        ensures wrong { IfErr result (IfWrong (IsWrongAt self.now.shown.now self.now.outcomes.now sketch.old (first_tree walk.old) (with_value sketch.old.chosen thread value))) }
+    {
+        let mark = sketch.give_value(thread, value)?;
+        let judged = self.judge_by_values(walk, sketch);
+        sketch.take_back(mark);
+        judged
+    }
 }
 
 /// The values of a thread's next read, ascending, where there are as many as this: the root is wrong where
@@ -117,55 +147,4 @@ fn next_values(
         return Err(TreeFault::at_root(alloc));
     }
     Ok(values)
-}
-
-/// Judges the children of a node in order, each at the sketch after its value: they come first in the walk.
-#[cycle(judge_by_values)]
-fn judge_each_value(
-    alloc: Global,
-    thread: u8,
-    values: &[u32],
-    walk: &mut Walk<'_>,
-    sketch: &mut ValueSketch,
-    shown: &Shown,
-    outcomes: &[Outcome],
-) -> Result<(), TreeFault>
-    requires next { HasNextValues sketch.old.program (mode_in sketch.old) sketch.old.chosen thread values.now }
-    requires as_many { length values.now ≤ length walk.old }
-    ensures kept { sketch.new ≡ sketch.old }
-    ensures after { OnOk result (walk.new ≡ drop (length values.now) walk.old) }
-    ensures valid { OnOk result (AreValidAfter shown.now outcomes.now sketch.old (take (length values.now) walk.old) (map (Choice.Value thread) values.now)) }
-    ensures wrong { IfErr result (IfWrong (IsBelow (IsWrongChild shown.now outcomes.now sketch.old (take (length values.now) walk.old) (map (Choice.Value thread) values.now)))) }
-{
-    for (number, value) in values.iter().enumerate() {
-        match judge_value(alloc, thread, *value, walk, sketch, shown, outcomes) {
-            Ok(()) => {}
-            Err(fault) => return Err(fault.from_parent(number)),
-        }
-    }
-    Ok(())
-}
-
-/// Judges the first tree of a walk at the sketch after a value, which is taken back.
-#[cycle(judge_by_values)]
-fn judge_value(
-    alloc: Global,
-    thread: u8,
-    value: u32,
-    walk: &mut Walk<'_>,
-    sketch: &mut ValueSketch,
-    shown: &Shown,
-    outcomes: &[Outcome],
-) -> Result<(), TreeFault>
-    requires may { MayChoose sketch.old (Choice.Value thread value) }
-    requires some { 0 < length walk.old }
-    ensures kept { sketch.new ≡ sketch.old }
-    ensures after { OnOk result (walk.new ≡ drop 1 walk.old) }
-    ensures valid { OnOk result (IsValidAfter shown.now outcomes.now sketch.old (first_tree walk.old) (with_value sketch.old.chosen thread value)) }
-    ensures wrong { IfErr result (IfWrong (IsWrongAt shown.now outcomes.now sketch.old (first_tree walk.old) (with_value sketch.old.chosen thread value))) }
-{
-    let mark = sketch.give_value(thread, value)?;
-    let judged = judge_by_values(alloc, walk, sketch, shown, outcomes);
-    sketch.take_back(mark);
-    judged
 }

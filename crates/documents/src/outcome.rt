@@ -25,87 +25,81 @@ fn register_name_at(alloc: Global, thread: usize, register: Reg) -> Result<Vec<u
     Ok(format!(in alloc; "{thread}:{name}")?.into_bytes())
 }
 
-/// The register with its value, if it is shown and named.
-fn add_register(
+/// What outcomes are written by: the names, and what is shown.
+#[derive(Clone, Copy)]
+struct Legend<'a> {
     alloc: Global,
-    array: &mut JsonArray,
-    names: &NameTable,
-    shown: &Shown,
-    thread: usize,
-    values: [u32; 6],
-    register: Reg,
-) -> Result<(), AllocError>
-    ensures { OnOk result (array.new ≡ array.old ++ register_value names.now shown.now thread values register) }
-{
-    if shown.shows_register(thread, register.index()) && names.is_named(thread, register) {
-        let name = register_name_at(alloc, thread, register)?;
-        array.add(named_value(alloc, &name, values[register.index()])?)?;
-    }
-    Ok(())
+    names: &'a NameTable,
+    shown: &'a Shown,
 }
 
-/// The thread's named registers with their values.
-fn add_thread(
-    alloc: Global,
-    array: &mut JsonArray,
-    names: &NameTable,
-    shown: &Shown,
-    thread: usize,
-    values: [u32; 6],
-) -> Result<(), AllocError>
-    ensures { OnOk result (array.new ≡ array.old ++ thread_values names.now shown.now thread values) }
-{
-    for register in Reg::ALL {
-        add_register(alloc, array, names, shown, thread, values, register)?;
+impl Legend<'_> {
+    /// The register with its value, if it is shown and named.
+    fn add_register(
+        &self,
+        array: &mut JsonArray,
+        thread: usize,
+        values: [u32; 6],
+        register: Reg,
+    ) -> Result<(), AllocError>
+        ensures { OnOk result (array.new ≡ array.old ++ register_value self.now.names.now self.now.shown.now thread values register) }
+    {
+        if self.shown.shows_register(thread, register.index())
+            && self.names.is_named(thread, register)
+        {
+            let name = register_name_at(self.alloc, thread, register)?;
+            array.add(named_value(self.alloc, &name, values[register.index()])?)?;
+        }
+        Ok(())
     }
-    Ok(())
-}
 
-fn add_threads(
-    alloc: Global,
-    array: &mut JsonArray,
-    names: &NameTable,
-    shown: &Shown,
-    registers: &[[u32; 6]],
-) -> Result<(), AllocError>
-    ensures { OnOk result (array.new ≡ array.old ++ register_values names.now shown.now registers.now (length registers.now)) }
-{
-    for (thread, values) in registers.iter().enumerate() {
-        add_thread(alloc, array, names, shown, thread, *values)?;
+    /// The thread's named registers with their values.
+    fn add_thread(
+        &self,
+        array: &mut JsonArray,
+        thread: usize,
+        values: [u32; 6],
+    ) -> Result<(), AllocError>
+        ensures { OnOk result (array.new ≡ array.old ++ thread_values self.now.names.now self.now.shown.now thread values) }
+    {
+        for register in Reg::ALL {
+            self.add_register(array, thread, values, register)?;
+        }
+        Ok(())
     }
-    Ok(())
-}
 
-/// The location with its value, if it is shown.
-fn add_location(
-    alloc: Global,
-    array: &mut JsonArray,
-    names: &NameTable,
-    shown: &Shown,
-    location: usize,
-    value: u32,
-) -> Result<(), AllocError>
-    ensures { OnOk result (array.new ≡ array.old ++ location_value names.now shown.now location value) }
-{
-    if shown.shows_location(location) {
-        array.add(named_value(alloc, location_name(names, location), value)?)?;
+    fn add_threads(&self, array: &mut JsonArray, registers: &[[u32; 6]]) -> Result<(), AllocError>
+        ensures { OnOk result (array.new ≡ array.old ++ register_values self.now.names.now self.now.shown.now registers.now (length registers.now)) }
+    {
+        for (thread, values) in registers.iter().enumerate() {
+            self.add_thread(array, thread, *values)?;
+        }
+        Ok(())
     }
-    Ok(())
-}
 
-fn add_locations(
-    alloc: Global,
-    array: &mut JsonArray,
-    names: &NameTable,
-    shown: &Shown,
-    memory: &[u32],
-) -> Result<(), AllocError>
-    ensures { OnOk result (array.new ≡ array.old ++ location_values names.now shown.now memory.now (length memory.now)) }
-{
-    for (location, value) in memory.iter().enumerate() {
-        add_location(alloc, array, names, shown, location, *value)?;
+    /// The location with its value, if it is shown.
+    fn add_location(
+        &self,
+        array: &mut JsonArray,
+        location: usize,
+        value: u32,
+    ) -> Result<(), AllocError>
+        ensures { OnOk result (array.new ≡ array.old ++ location_value self.now.names.now self.now.shown.now location value) }
+    {
+        if self.shown.shows_location(location) {
+            array.add(named_value(self.alloc, location_name(self.names, location), value)?)?;
+        }
+        Ok(())
     }
-    Ok(())
+
+    fn add_locations(&self, array: &mut JsonArray, memory: &[u32]) -> Result<(), AllocError>
+        ensures { OnOk result (array.new ≡ array.old ++ location_values self.now.names.now self.now.shown.now memory.now (length memory.now)) }
+    {
+        for (location, value) in memory.iter().enumerate() {
+            self.add_location(array, location, *value)?;
+        }
+        Ok(())
+    }
 }
 
 /// What is shown of an outcome: each named register by thread and register order, then each location by number.
@@ -117,15 +111,14 @@ pub(crate) fn outcome_array(
 ) -> Result<JsonText, AllocError>
     ensures { IfOk result (λ json. json ≡ outcome_array names.now shown.now outcome.now) }
 {
-    let mut array = JsonArray::new(alloc);
-    add_threads(
+    let legend = Legend {
         alloc,
-        &mut array,
         names,
         shown,
-        outcome.registers.as_slice(),
-    )?;
-    add_locations(alloc, &mut array, names, shown, outcome.memory.as_slice())?;
+    };
+    let mut array = JsonArray::new(alloc);
+    legend.add_threads(&mut array, outcome.registers.as_slice())?;
+    legend.add_locations(&mut array, outcome.memory.as_slice())?;
     array.into_json()
 }
 

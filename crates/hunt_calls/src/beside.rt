@@ -4,6 +4,7 @@ ghost use Rattle.hunt_calls.specs.Hunts.{IsSound};
 
 use crate::hunts::Hand;
 use crate::refusal::HuntRefusal;
+use crate::scene::Scene;
 use crate::search::labels_of;
 use cover_solver::{ForeignRun, Oracle, SeqTable, Served, Solver, Verdict};
 use hunt_board::{Hunt, PostFault, ROW_CELLS};
@@ -32,23 +33,6 @@ pub fn served_by(alloc: Global, table: &SeqTable, gaps: &[u8]) -> Result<Served,
         Verdict::Serves(served) => Ok(served),
         Verdict::Foreign(_) => Err(HuntRefusal::Call),
     }
-}
-
-/// Lowers the ceiling to what the set of these gaps costs, where it serves.
-pub fn lower(
-    alloc: Global,
-    table: &SeqTable,
-    hunt: &Hunt,
-    hand: &mut Hand,
-    gaps: &[u8],
-) -> Result<(), HuntRefusal>
-    requires of_table { hunt.now.question ≡ table.now.question }
-    requires sound { IsSound hunt.now hand.old }
-    ensures { IsSound hunt.now hand.new }
-{
-    let served = served_by(alloc, table, gaps)?;
-    hunt.lower(&mut hand.seat, &served);
-    Ok(())
 }
 
 /// The run of these labels.
@@ -98,46 +82,48 @@ fn is_posted_again(
     }
 }
 
-/// Posts the run of these labels.
-pub fn post(
-    alloc: Global,
-    table: &SeqTable,
-    hunt: &Hunt,
-    hand: &mut Hand,
-    labels: &[u8],
-    printed: &mut String,
-) -> Result<(), HuntRefusal>
-    requires of_table { hunt.now.question ≡ table.now.question }
-    requires sound { IsSound hunt.now hand.old }
-    ensures { IsSound hunt.now hand.new }
-{
-    let run = run_by(alloc, table, labels)?;
-    if is_posted_again(hunt, hand, run, printed)? {
-        Ok(printed.push_str("posted\n")?)
-    } else {
-        Ok(printed.push_str("row full\n")?)
+impl Scene<'_> {
+    /// Lowers the ceiling to what the set of these gaps costs, where it serves.
+    pub fn lower(&self, hand: &mut Hand, gaps: &[u8]) -> Result<(), HuntRefusal>
+        requires { IsSound self.now.hunt.now hand.old }
+        ensures { IsSound self.now.hunt.now hand.new }
+    {
+        let served = served_by(self.alloc, self.table, gaps)?;
+        self.hunt.lower(&mut hand.seat, &served);
+        Ok(())
     }
-}
 
-/// Posts copies of the run of these labels, as many as a row has cells.
-pub fn fill(
-    alloc: Global,
-    table: &SeqTable,
-    hunt: &Hunt,
-    hand: &mut Hand,
-    labels: &[u8],
-) -> Result<(), HuntRefusal>
-    requires of_table { hunt.now.question ≡ table.now.question }
-    requires sound { IsSound hunt.now hand.old }
-    ensures { IsSound hunt.now hand.new }
-{
-    let run = run_by(alloc, table, labels)?;
-    for _ in 0..ROW_CELLS {
-        if is_posted(hunt, hand, run.copy(alloc)?).is_err() {
-            return Err(HuntRefusal::Memory(AllocError));
+    /// Posts the run of these labels.
+    pub fn post(
+        &self,
+        hand: &mut Hand,
+        labels: &[u8],
+        printed: &mut String,
+    ) -> Result<(), HuntRefusal>
+        requires { IsSound self.now.hunt.now hand.old }
+        ensures { IsSound self.now.hunt.now hand.new }
+    {
+        let run = run_by(self.alloc, self.table, labels)?;
+        if is_posted_again(self.hunt, hand, run, printed)? {
+            Ok(printed.push_str("posted\n")?)
+        } else {
+            Ok(printed.push_str("row full\n")?)
         }
     }
-    Ok(())
+
+    /// Posts copies of the run of these labels, as many as a row has cells.
+    pub fn fill(&self, hand: &mut Hand, labels: &[u8]) -> Result<(), HuntRefusal>
+        requires { IsSound self.now.hunt.now hand.old }
+        ensures { IsSound self.now.hunt.now hand.new }
+    {
+        let run = run_by(self.alloc, self.table, labels)?;
+        for _ in 0..ROW_CELLS {
+            if is_posted(self.hunt, hand, run.copy(self.alloc)?).is_err() {
+                return Err(HuntRefusal::Memory(AllocError));
+            }
+        }
+        Ok(())
+    }
 }
 
 /// The gaps that a run passes, and its steps.

@@ -8,10 +8,11 @@ ghost use Rattle.hunt_board.specs.Seats.{IsOf};
 ghost use Rattle.hunt_board.specs.Settlings.{IsLawfulSettling};
 ghost use Rattle.hunt_calls.specs.Hunts.{IsSound};
 
-use crate::beside::{fill, lower, post, push_ceiling, push_look, push_posted};
+use crate::beside::{push_ceiling, push_look, push_posted};
 use crate::refusal::HuntRefusal;
+use crate::scene::Scene;
 use crate::search::{labels_of, push_region};
-use crate::settlings::{cut, settle_again};
+use crate::settlings::cut;
 use cover_solver::{ForeignRun, Oracle, SeqTable, Solver, Verdict};
 use gap_sets::{Costs, GapSet, Region};
 use hunt_board::{Event, Hunt, HuntSeat, Next, Posted, Receipt, Settling};
@@ -112,33 +113,6 @@ fn is_beaten(costs: &Costs, seat: &HuntSeat, node: &Region) -> bool
     }
 }
 
-/// How a word settles the node: by the run of the labels, by what the solver says, or by the best set that the seat has confirmed.
-fn settling_of(
-    alloc: Global,
-    table: &SeqTable,
-    hunt: &Hunt,
-    seat: &HuntSeat,
-    node: &Region,
-    word: &[u8],
-) -> Result<Settling, HuntRefusal>
-    requires of_table { hunt.now.question ≡ table.now.question }
-    requires gaps { AreGapsOf hunt.now.question.program node.now.must }
-    ensures { IfOk result (IsLawfulSettling hunt.now seat.now.best node.now) }
-{
-    let (name, labels) = split_at_byte(word, b':');
-    if name == b"split".as_slice() {
-        let run = run_past(alloc, table, node, labels)?;
-        return Ok(Settling::Asked(Verdict::Foreign(run)));
-    }
-    if name == b"ask".as_slice() {
-        return Ok(Settling::Asked(by_solver(alloc, table, node)?));
-    }
-    if name == b"best".as_slice() && is_beaten(hunt.costs(), seat, node) {
-        return Ok(Settling::Best);
-    }
-    Err(HuntRefusal::Call)
-}
-
 pub fn push_receipt(receipt: &Receipt, printed: &mut String) -> Result<(), AllocError> {
     write!(printed, "seat {} ", receipt.seat)?;
     match receipt.event {
@@ -183,84 +157,101 @@ fn give_back<W: Wait>(
     Ok(printed.push_str("given back\n")?)
 }
 
-/// Settles the seat's node, and keeps the receipt.
-fn settle<W: Wait>(
-    wait: &W,
-    alloc: Global,
-    table: &SeqTable,
-    hunt: &Hunt,
-    hand: &mut Hand,
-    word: &[u8],
-    printed: &mut String,
-) -> Result<(), HuntRefusal>
-    requires of_table { hunt.now.question ≡ table.now.question }
-    requires sound { IsSound hunt.now hand.old }
-    ensures { IsSound hunt.now hand.new }
-{
-    let node = held(&hand.seat)?;
-    let settling = settling_of(alloc, table, hunt, &hand.seat, &node, word)?;
-    let receipt = hunt.settle(wait, &mut hand.seat, settling)?;
-    hand.receipts.push(receipt)?;
-    Ok(push_receipt(&receipt, printed)?)
-}
-
-/// Does what a word names.
-fn push_step<W: Wait>(
-    wait: &W,
-    alloc: Global,
-    table: &SeqTable,
-    hunt: &Hunt,
-    hand: &mut Hand,
-    word: &[u8],
-    printed: &mut String,
-) -> Result<(), HuntRefusal>
-    requires of_table { hunt.now.question ≡ table.now.question }
-    requires sound { IsSound hunt.now hand.old }
-    ensures { IsSound hunt.now hand.new }
-{
-    let (name, rest) = split_at_byte(word, b':');
-    let Ok(step) = named(&STEPS, name) else {
-        return settle(wait, alloc, table, hunt, hand, word, printed);
-    };
-    match step {
-        Step::Next => push_next(wait, hunt, hand, printed),
-        Step::GiveBack => give_back(wait, hunt, hand, printed),
-        Step::Drop => {
-            let _ = hand.receipts.pop();
-            Ok(())
+impl Scene<'_> {
+    /// How a word settles the node: by the run of the labels, by what the solver says, or by the best set that the seat has confirmed.
+    fn settling_of(
+        &self,
+        seat: &HuntSeat,
+        node: &Region,
+        word: &[u8],
+    ) -> Result<Settling, HuntRefusal>
+        requires { AreGapsOf self.now.hunt.now.question.program node.now.must }
+        ensures { IfOk result (IsLawfulSettling self.now.hunt.now seat.now.best node.now) }
+    {
+        let (name, labels) = split_at_byte(word, b':');
+        if name == b"split".as_slice() {
+            let run = run_past(self.alloc, self.table, node, labels)?;
+            return Ok(Settling::Asked(Verdict::Foreign(run)));
         }
-        Step::Again => settle_again(wait, alloc, table, hunt, hand, rest, printed),
-        Step::Cut => cut(wait, hunt, hand, printed),
-        Step::Ceiling => Ok(push_ceiling(hunt, hand, printed)?),
-        Step::Lower => lower(alloc, table, hunt, hand, rest),
-        Step::Post => post(alloc, table, hunt, hand, rest, printed),
-        Step::Fill => fill(alloc, table, hunt, hand, rest),
-        Step::Posted => push_posted(alloc, hunt, hand, printed),
-        Step::Look => push_look(alloc, hunt, rest, printed),
+        if name == b"ask".as_slice() {
+            return Ok(Settling::Asked(by_solver(self.alloc, self.table, node)?));
+        }
+        if name == b"best".as_slice() && is_beaten(self.hunt.costs(), seat, node) {
+            return Ok(Settling::Best);
+        }
+        Err(HuntRefusal::Call)
     }
-}
 
-/// The lines of a script: what each word did, or why it did nothing.
-fn push_script<W: Wait>(
-    wait: &W,
-    alloc: Global,
-    table: &SeqTable,
-    hunt: &Hunt,
-    hand: &mut Hand,
-    script: &[&[u8]],
-    printed: &mut String,
-) -> Result<(), AllocError>
-    requires of_table { hunt.now.question ≡ table.now.question }
-    requires sound { IsSound hunt.now hand.old }
-    ensures { IsSound hunt.now hand.new }
-{
-    for word in script {
-        match push_step(wait, alloc, table, hunt, hand, word, printed) {
-            Ok(()) => {}
-            Err(refusal) => write!(printed, "refused {refusal}\n")?,
+    /// Settles the seat's node, and keeps the receipt.
+    fn settle<W: Wait>(
+        &self,
+        wait: &W,
+        hand: &mut Hand,
+        word: &[u8],
+        printed: &mut String,
+    ) -> Result<(), HuntRefusal>
+        requires { IsSound self.now.hunt.now hand.old }
+        ensures { IsSound self.now.hunt.now hand.new }
+    {
+        let node = held(&hand.seat)?;
+        let settling = self.settling_of(&hand.seat, &node, word)?;
+        let receipt = self.hunt.settle(wait, &mut hand.seat, settling)?;
+        hand.receipts.push(receipt)?;
+        Ok(push_receipt(&receipt, printed)?)
+    }
+
+    /// Does what a word names.
+    fn push_step<W: Wait>(
+        &self,
+        wait: &W,
+        hand: &mut Hand,
+        word: &[u8],
+        printed: &mut String,
+    ) -> Result<(), HuntRefusal>
+        requires { IsSound self.now.hunt.now hand.old }
+        ensures { IsSound self.now.hunt.now hand.new }
+    {
+        let (name, rest) = split_at_byte(word, b':');
+        let Ok(step) = named(&STEPS, name) else {
+            return self.settle(wait, hand, word, printed);
+        };
+        match step {
+            Step::Next => push_next(wait, self.hunt, hand, printed),
+            Step::GiveBack => give_back(wait, self.hunt, hand, printed),
+            Step::Drop => {
+                let _ = hand.receipts.pop();
+                Ok(())
+            }
+            Step::Again => self.settle_again(wait, hand, rest, printed),
+            Step::Cut => cut(wait, self.hunt, hand, printed),
+            Step::Ceiling => Ok(push_ceiling(self.hunt, hand, printed)?),
+            Step::Lower => self.lower(hand, rest),
+            Step::Post => self.post(hand, rest, printed),
+            Step::Fill => self.fill(hand, rest),
+            Step::Posted => push_posted(self.alloc, self.hunt, hand, printed),
+            Step::Look => push_look(self.alloc, self.hunt, rest, printed),
         }
     }
-    Ok(())
+
+    /// The lines of a script: what each word did, or why it did nothing.
+    fn push_script<W: Wait>(
+        &self,
+        wait: &W,
+        hand: &mut Hand,
+        script: &[&[u8]],
+        printed: &mut String,
+    ) -> Result<(), AllocError>
+        requires { IsSound self.now.hunt.now hand.old }
+        ensures { IsSound self.now.hunt.now hand.new }
+    {
+        for word in script {
+            match self.push_step(wait, hand, word, printed) {
+                Ok(()) => {}
+                Err(refusal) => write!(printed, "refused {refusal}\n")?,
+            }
+        }
+        Ok(())
+    }
 }
 
 /// The set that the hunt ends with.
@@ -301,7 +292,12 @@ pub fn hunt_by<W: Wait>(
         receipts: Vec::with_capacity(alloc, FEW)?,
         posted: None,
     };
-    push_script(wait, alloc, table, &hunt, &mut hand, script, printed)?;
+    let scene = Scene {
+        alloc,
+        table,
+        hunt: &hunt,
+    };
+    scene.push_script(wait, &mut hand, script, printed)?;
     Ok((hunt, hand))
 }
 

@@ -14,6 +14,7 @@ mod exchanges;
 mod hunts;
 mod records;
 mod refusal;
+mod scene;
 mod search;
 mod settlings;
 

@@ -27,6 +27,14 @@ enum Event {
     GiveBack,
 }
 
+/// What a word names: what a seat does, and the labels or gaps that it does it by.
+#[derive(Clone, Copy)]
+struct Act<'a> {
+    event: Event,
+    seat: u8,
+    labels: &'a [u8],
+}
+
 const EVENTS: [(&[u8], Event); 8] = [
     (b"take", Event::Take),
     (b"split", Event::Split),
@@ -97,42 +105,40 @@ fn confirm(
     Ok(tree.confirm(seat, served)?)
 }
 
-/// The event, by this seat, and what it prints.
+/// Does what a word names, and prints what became of it.
 fn push_event(
     alloc: Global,
     table: &SeqTable,
     tree: &mut SearchTree,
-    event: Event,
-    seat: u8,
-    labels: &[u8],
+    act: &Act<'_>,
     printed: &mut String,
 ) -> Result<(), HuntRefusal>
-    requires seat { seat < tree.old.seats }
+    requires seat { act.now.seat < tree.old.seats }
     requires of_table { tree.old.question ≡ table.now.question }
     ensures { IsSameSearch tree.old tree.new }
 {
-    let done = match event {
-        Event::Take => return take(tree, seat, printed),
+    let done = match act.event {
+        Event::Take => return take(tree, act.seat, printed),
         Event::Split => {
-            split(alloc, table, tree, seat, labels)?;
+            split(alloc, table, tree, act.seat, act.labels)?;
             "split\n"
         }
         Event::Cut => {
-            tree.cut(seat, Reason::Best)?;
+            tree.cut(act.seat, Reason::Best)?;
             "cut\n"
         }
         Event::CutBy(making) => {
-            let ceiling = made(alloc, table, tree, making, labels)?;
+            let ceiling = made(alloc, table, tree, making, act.labels)?;
             write!(printed, "ceiling {:?}\n", ceiling.cost())?;
-            tree.cut(seat, Reason::Ceiling(ceiling))?;
+            tree.cut(act.seat, Reason::Ceiling(ceiling))?;
             "cut\n"
         }
         Event::Confirm => {
-            confirm(alloc, table, tree, seat)?;
+            confirm(alloc, table, tree, act.seat)?;
             "confirmed\n"
         }
         Event::GiveBack => {
-            tree.give_back(seat)?;
+            tree.give_back(act.seat)?;
             "given back\n"
         }
     };
@@ -159,15 +165,12 @@ fn push_step(
     if seat >= SEATS {
         return Err(HuntRefusal::Call);
     }
-    push_event(
-        alloc,
-        table,
-        tree,
-        named(&EVENTS, name)?,
+    let act = Act {
+        event: named(&EVENTS, name)?,
         seat,
         labels,
-        printed,
-    )
+    };
+    push_event(alloc, table, tree, &act, printed)
 }
 
 /// The answer, if the search is done.

@@ -8,11 +8,12 @@ ghost use Rattle.hunt_calls.specs.Hunts.{IsSound};
 
 use crate::hunts::{Hand, held, push_receipt, run_past};
 use crate::refusal::HuntRefusal;
-use cover_solver::{SeqTable, Verdict};
+use crate::scene::Scene;
+use cover_solver::Verdict;
 use gap_sets::Region;
 use hunt_board::{Hunt, HuntSeat, Settling};
 use search_core::Ceiling;
-use std::alloc::{AllocError, Global};
+use std::alloc::AllocError;
 use std::sync::Wait;
 
 /// The hunt's ceiling, where what the node's sets must have costs more.
@@ -70,32 +71,31 @@ pub fn cut<W: Wait>(
     Ok(push_receipt(&receipt, printed)?)
 }
 
-/// Settles the seat's node by the run of these labels. Where memory is refused, it prints so and settles the node by a copy
-/// of the run that was made before.
-pub fn settle_again<W: Wait>(
-    wait: &W,
-    alloc: Global,
-    table: &SeqTable,
-    hunt: &Hunt,
-    hand: &mut Hand,
-    labels: &[u8],
-    printed: &mut String,
-) -> Result<(), HuntRefusal>
-    requires of_table { hunt.now.question ≡ table.now.question }
-    requires sound { IsSound hunt.now hand.old }
-    ensures { IsSound hunt.now hand.new }
-{
-    let node = held(&hand.seat)?;
-    let run = run_past(alloc, table, &node, labels)?;
-    let copy = Settling::Asked(Verdict::Foreign(run.copy(alloc)?));
-    let settling = Settling::Asked(Verdict::Foreign(run));
-    if is_settled(wait, hunt, hand, settling, printed)? {
-        return Ok(());
-    }
-    printed.push_str("refused settle\n")?;
-    if is_settled(wait, hunt, hand, copy, printed)? {
-        Ok(())
-    } else {
-        Err(HuntRefusal::Memory(AllocError))
+impl Scene<'_> {
+    /// Settles the seat's node by the run of these labels. Where memory is refused, it prints so and settles the node by a copy
+    /// of the run that was made before.
+    pub fn settle_again<W: Wait>(
+        &self,
+        wait: &W,
+        hand: &mut Hand,
+        labels: &[u8],
+        printed: &mut String,
+    ) -> Result<(), HuntRefusal>
+        requires { IsSound self.now.hunt.now hand.old }
+        ensures { IsSound self.now.hunt.now hand.new }
+    {
+        let node = held(&hand.seat)?;
+        let run = run_past(self.alloc, self.table, &node, labels)?;
+        let copy = Settling::Asked(Verdict::Foreign(run.copy(self.alloc)?));
+        let settling = Settling::Asked(Verdict::Foreign(run));
+        if is_settled(wait, self.hunt, hand, settling, printed)? {
+            return Ok(());
+        }
+        printed.push_str("refused settle\n")?;
+        if is_settled(wait, self.hunt, hand, copy, printed)? {
+            Ok(())
+        } else {
+            Err(HuntRefusal::Memory(AllocError))
+        }
     }
 }

@@ -8,7 +8,7 @@ use Rattle.std.proofs.lemmas.Option.{same_Some, slice_get_within, slice_get-get_
 use Rattle.run_maker.proofs.Vocabulary.{cases_lt, Listing, action, start_of, code_of, Access, Event, Initial, At, Kind, In, HasNoCycle, IsMadeRun, IsKnownOrder}
 use Rattle.tso_program.specs.declared.outcome.Outcome.{Outcome}
 use Rattle.tso_program.specs.declared.shown.Shown.{Shown}
-use Rattle.tso_program.specs.declared.shown.Shown.TheVariants.{All, Only, Truth}
+use Rattle.tso_program.specs.declared.shown.Shown.TheVariants.{All, Truth}
 use Rattle.tso_program.specs.Shown.{shown_value, show_memory, shown_values, show, asked}
 use Rattle.tso_program.specs.declared.atom.Atom.{Atom}
 use Rattle.tso_program.specs.declared.atom.Atom.TheVariants as atom
@@ -92,10 +92,7 @@ module _ (s : ProgramSketch) (lawful : IsLawful s) (whole : IsComplete s) (acycl
       let (n, f) = some_value x.written w in
       let (m, g) = some_value y.written v in
       let pair : IsPair s.program (mode_in s) s.chosen (At t i) (At u j) = ((λ r. let z : rank (At t i) ≡ rank (At u j) = ap rank r in omega arith), (y.location, n, m, (x, a, q, f), (y, b, refl, g), (λ r. cc), (λ r. cc))) in
-      elim (whole.pairs (At t i) (At u j) pair) [
-        | inl k ↦ inl k
-        | inr k ↦ absurd (let z = pair_rises (At u j) (At t i) k in omega arith)
-      ]
+      elim (whole.pairs (At t i) (At u j) pair) [ inl k ↦ inl k | inr k ↦ absurd (let z = pair_rises (At u j) (At t i) k in omega arith) ]
 
   -- a read has its chosen source
   has_source : (e : Event) (x : Access) → access_in s e ≡ Some x → IsSome x.read → Contains s.chosen.sources (e, chosen s.chosen.sources e)
@@ -114,9 +111,8 @@ module _ (s : ProgramSketch) (lawful : IsLawful s) (whole : IsComplete s) (acycl
   different : (d e : Event) (l v w : ℕ) → W d l v → W e l w → rank d ≡ rank e → d ≡ e
   different (Initial m) (Initial n) l v w a b q =
       ap Initial (ap (λ (z : Access). z.location) (same_Some _ a.0 a.1) ∙ a.2 ∙ sym b.2 ∙ sym (ap (λ (z : Access). z.location) (same_Some _ b.0 b.1)))
-  different (Initial m) (At u j) l v w a b q = absurd (omega arith)
-  different (At t i) (Initial n) l v w a b q = absurd (omega arith)
   different (At t i) (At u j) l v w a b q = place_same order (At t i) (At u j) (in_order (At t i) (write_there t i l v a)) (in_order (At u j) (write_there u j l w b)) (omega arith)
+  different d e l v w a b q = absurd (omega arith)
 
   pub is_candidate : IsCandidate p mode become
   is_candidate = record {
@@ -238,9 +234,8 @@ module _ (s : ProgramSketch) (lawful : IsLawful s) (whole : IsComplete s) (acycl
   )
 
   ends_as : (shown : Shown) → EndsAs p mode s.chosen shown (show shown end)
-  ends_as All = (whole.whole, values_end All)
-  ends_as (Only names) = (whole.whole, values_end (Only names))
   ends_as (Truth f) = record { truth = truth end f; known = all_known (KnownAtom p mode s.chosen) (is_true_at end) atom_known f; is_told = refl }
+  ends_as shown = (whole.whole, values_end shown)
 
   pub must_end : (shown : Shown) → MustEndAs (asked s.program shown) (mode_in s) s.chosen (show shown end)
   must_end shown = ends_as shown

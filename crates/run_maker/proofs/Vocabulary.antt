@@ -11,7 +11,8 @@ pub use Rattle.candidate_executions.specs.declared.access.Access.{Access}
 pub use Rattle.candidate_executions.specs.declared.event.Event.{Event}
 pub use Rattle.candidate_executions.specs.declared.event.Event.TheVariants.{Access as At, Initial}
 pub use Rattle.candidate_executions.specs.declared.event.Kind.{Kind}
-pub use Rattle.sketches.proofs.Lookups.{each_more, when_none}
+pub use Rattle.sketches.proofs.Lookups.{each_more}
+pub use Rattle.run_maker.proofs.Options.{when_none}
 pub use Rattle.sketches.specs.Cycles.{IsEnd, IsSuccessor}
 pub use Rattle.sketches.specs.Known.{HasNoCycle}
 pub use Rattle.sketches.specs.ProgramSketches.{ProgramSketch, access_in, mode_in}

@@ -18,7 +18,8 @@ use Rattle.cover_judge.specs.declared.choice.Choice.TheVariants as choice
 use Rattle.cover_judge.specs.Choices.{sketch_with, MayChoose, IsValueOpen, AreValueChoices, AreSourceChoices}
 use Rattle.cover_judge.proofs.ChoicesJudged.{no_order}
 use Rattle.branching.specs.declared.open_choice.OpenChoice.TheVariants as left
-use Rattle.sketch_covers.specs.Covers.{IsNeat, AreNeat, IsValidAt, IsLeafAt, IsCoverAt, IsCoverAfter, AreCoversAfter, IsWholeCover, tree_over}
+use Rattle.cover_judge.specs.Judged.{IsValidAt}
+use Rattle.sketch_covers.specs.Covers.{IsNeat, AreNeat, IsLeafAt, IsCoverAt, IsCoverAfter, AreCoversAfter, IsWholeCover, tree_over}
 use Rattle.branching.proofs.Rounds.{counted_after}
 
 map_map : {A B C : Type 0} (f : B → C) (g : A → B) (xs : List A) → map f (map g xs) ≡ map (λ x. f (g x)) xs

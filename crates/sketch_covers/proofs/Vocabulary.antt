@@ -37,7 +37,8 @@ pub use Rattle.tso_program.specs.declared.listing.Listing.{Listing}
 pub use Rattle.tso_program.specs.declared.outcome.Outcome.{Outcome}
 pub use Rattle.tso_program.specs.declared.shown.Shown.{Shown}
 pub use Rattle.sketch_covers.specs.Ascending.{Ascend, BelongsAt}
-pub use Rattle.sketch_covers.specs.Covers.{AreCoversAfter, IsCoverAfter, IsCoverAt, IsEndNotListed, IsLeafAt, IsNeat, IsValidAt, node_over, tree_over}
+pub use Rattle.cover_judge.specs.Judged.{IsValidAt}
+pub use Rattle.sketch_covers.specs.Covers.{AreCoversAfter, IsCoverAfter, IsCoverAt, IsEndNotListed, IsLeafAt, IsNeat, node_over, tree_over}
 pub use Rattle.sketch_covers.specs.KnownOutcomes.{Grows, OnTold, by_number}
 pub use Rattle.sketch_covers.specs.OutcomeNumbers.{AreRunsOf, HasNumber, IsInOrder, Keeps, KeepsNumbers, place_in}
 pub use Rattle.sketch_covers.specs.Pushing.{Pushes}

@@ -16,6 +16,7 @@ use Rattle.cert_forest.specs.declared.node.Node.TheVariants as node
 use Rattle.cover_judge.specs.CoverTrees.{IsValidCover, AreValidCovers}
 use Rattle.cover_judge.specs.declared.choice.Choice.{Choice}
 use Rattle.cover_judge.specs.Choices.{sketch_with}
+use Rattle.cover_judge.specs.Judged.{IsValidAt}
 use Rattle.branching.specs.declared.open_choice.OpenChoice.{OpenChoice}
 use Rattle.branching.specs.declared.open_choice.OpenChoice.TheVariants as left
 
@@ -50,10 +51,6 @@ IsEndNotListed s shown outcomes = HasNoCycle s → (o : Outcome) → MustEndAs (
 pub record IsUnsettled (s : ProgramSketch) (shown : Shown) (outcomes : List Outcome) : Type 0 where
   pub not_listed : IsEndNotListed s shown outcomes
   pub acyclic : HasNoCycle s
-
--- the tree is valid at the sketch
-abbrev pub IsValidAt : ProgramSketch → Shown → List Outcome → Cover → Type 0
-IsValidAt s shown outcomes tree = IsValidCover (asked s.program shown) (mode_in s) outcomes tree s.chosen
 
 -- a valid leaf at the sketch
 pub record IsLeafAt (s : ProgramSketch) (shown : Shown) (outcomes : List Outcome) (tree : Cover) : Type 0 where

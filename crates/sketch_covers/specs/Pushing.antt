@@ -6,9 +6,10 @@ use Rattle.sketches.specs.ProgramSketches.{ProgramSketch}
 use Rattle.cert_forest.specs.declared.node.Node.{Node}
 use Rattle.cert_forest.specs.Trees.{Cover}
 use Rattle.cert_forest.specs.Nodes.{spell}
+use Rattle.cover_judge.specs.Judged.{IsValidAt}
 use Rattle.sketch_covers.specs.declared.stop.Stop.{Stop}
 use Rattle.sketch_covers.specs.declared.stop.Stop.TheVariants as stop
-use Rattle.sketch_covers.specs.Covers.{IsEndNotListed, IsValidAt, IsLeafAt, IsUnsettled}
+use Rattle.sketch_covers.specs.Covers.{IsEndNotListed, IsLeafAt, IsUnsettled}
 
 -- the nodes of a tree with the property come after the old ones
 pub record Pushes (P : Cover → Type 0) (old new : List Node) : Type 0 where

@@ -42,113 +42,179 @@ pub fn cover_whole(
     ensures stop { IfErr result (StopIs (asked sketch.old.program shown.now) (mode_in sketch.old) outcomes.old) }
     ensures stays { IfErr result (BeginsIfNew nodes.old.items nodes.new.items) }
 {
-    let accesses = whole_accesses(alloc, sketch)?;
-    cover_from(alloc, sketch, &accesses, shown, outcomes, nodes)
+    let search = TreeSearch {
+        alloc,
+        shown,
+        accesses: whole_accesses(alloc, sketch)?,
+    };
+    search.cover_from(sketch, outcomes, nodes)
 }
 
-/// The same, by what the sketch reads and writes.
-#[cycle(cover)]
-fn cover_from(
+/// A search for a tree of a sketch in which each read has its value: what is shown of a run, and what the sketch reads
+/// and writes.
+#[derive(Drop)]
+struct TreeSearch<'a> {
     alloc: Global,
-    sketch: &mut Sketch,
-    accesses: &WholeAccesses,
-    shown: &Shown,
-    outcomes: &mut KnownOutcomes,
-    nodes: &mut Vec<Node>,
-) -> Result<(), Stop>
-    requires in_order { AreInOrder outcomes.old }
-    requires accesses { AreAccessesOf sketch.old accesses.now }
-    ensures kept { sketch.new ≡ sketch.old }
-    ensures grows { OnTold result (Grows (asked sketch.old.program shown.now) outcomes.old outcomes.new) }
-    ensures tree { OnOk result (Pushes (IsCoverAt sketch.old shown.now (by_number outcomes.new)) nodes.old.items nodes.new.items) }
-    ensures stop { IfErr result (StopIs (asked sketch.old.program shown.now) (mode_in sketch.old) outcomes.old) }
-    ensures stays { IfErr result (BeginsIfNew nodes.old.items nodes.new.items) }
-{
-    // For the proof alone: what holds of every sketch is known where its program is read.
-    let _ = sketch.program();
-    if leaf(alloc, sketch, shown, outcomes, nodes)? {
-        return Ok(());
-    }
-    match next_branch(alloc, sketch, accesses, shown, outcomes.ascending())? {
-        Some(branch) => cover_over(alloc, sketch, accesses, shown, &branch, outcomes, nodes),
-        None => end(alloc, sketch, accesses, shown, outcomes, nodes),
-    }
+    shown: &'a Shown,
+    accesses: WholeAccesses,
 }
 
-/// Puts the leaf of a complete sketch that nothing closes after the other nodes: its outcome is new. The search stops
-/// with its run if the list does not take the outcome. A list that is open for the sketch's mode takes it.
-fn end(
-    alloc: Global,
-    sketch: &Sketch,
-    accesses: &WholeAccesses,
-    shown: &Shown,
-    outcomes: &mut KnownOutcomes,
-    nodes: &mut Vec<Node>,
-) -> Result<(), Stop>
-    requires in_order { AreInOrder outcomes.old }
-    requires complete { IsComplete sketch.now }
-    requires unsettled { IsUnsettled sketch.now shown.now (by_number outcomes.old) }
-    ensures grows { OnTold result (Grows (asked sketch.now.program shown.now) outcomes.old outcomes.new) }
-    ensures tree { OnOk result (Pushes (IsCoverAt sketch.now shown.now (by_number outcomes.new)) nodes.old.items nodes.new.items) }
-    ensures stop { IfErr result (StopIs (asked sketch.now.program shown.now) (mode_in sketch.now) outcomes.old) }
-    ensures stays { IfErr result (BeginsIfNew nodes.old.items nodes.new.items) }
-{
-    // For the proof alone: what holds of every sketch is known where its program is read.
-    let _ = sketch.program();
-    outcomes.add(alloc, sketch, accesses, shown)?;
-    match known(sketch, shown, outcomes)? {
-        Some(number) => {
-            push_known(nodes, number as u64)?;
-            Ok(())
-        }
-        None => Err(Stop::New {
-            run: shown_run(alloc, sketch, shown)?,
-            sketch: Box::new(alloc, sketch.copy()?)?,
-        }),
-    }
-}
-
-/// Puts the node over the choices and a tree for the sketch after each of them after the other nodes, up to one that is
-/// valid without its choice: then no other is needed, and it takes the place of the node.
-#[cycle(cover)]
-fn cover_over(
-    alloc: Global,
-    sketch: &mut Sketch,
-    accesses: &WholeAccesses,
-    shown: &Shown,
-    branch: &Branch,
-    outcomes: &mut KnownOutcomes,
-    nodes: &mut Vec<Node>,
-) -> Result<(), Stop>
-    requires in_order { AreInOrder outcomes.old }
-    requires accesses { AreAccessesOf sketch.old accesses.now }
-    requires branch { IsBranch sketch.old branch.now }
-    ensures kept { sketch.new ≡ sketch.old }
-    ensures grows { OnTold result (Grows (asked sketch.old.program shown.now) outcomes.old outcomes.new) }
-    ensures tree { OnOk result (Pushes (IsCoverAt sketch.old shown.now (by_number outcomes.new)) nodes.old.items nodes.new.items) }
-    ensures stop { IfErr result (StopIs (asked sketch.old.program shown.now) (mode_in sketch.old) outcomes.old) }
-    ensures stays { IfErr result (BeginsIfNew nodes.old.items nodes.new.items) }
-{
-    // For the proof alone: what holds of every sketch is known where its program is read.
-    let _ = sketch.program();
-    let root = nodes.len();
-    nodes.push(node_of(branch))?;
-    for choice in &branch.choices {
-        let child = nodes.len();
-        cover_after(alloc, sketch, accesses, shown, *choice, outcomes, nodes)?;
-        if take_place(
-            alloc,
-            nodes,
-            root,
-            child,
-            sketch,
-            shown,
-            outcomes.as_slice(),
-        )? {
+impl TreeSearch<'_> {
+    /// Puts a tree for the sketch after the other nodes: its threads read and write what the search has.
+    #[cycle(cover)]
+    fn cover_from(
+        &self,
+        sketch: &mut Sketch,
+        outcomes: &mut KnownOutcomes,
+        nodes: &mut Vec<Node>,
+    ) -> Result<(), Stop>
+        requires in_order { AreInOrder outcomes.old }
+        requires accesses { AreAccessesOf sketch.old self.now.accesses }
+        ensures kept { sketch.new ≡ sketch.old }
+        ensures grows { OnTold result (Grows (asked sketch.old.program self.now.shown.now) outcomes.old outcomes.new) }
+        ensures tree { OnOk result (Pushes (IsCoverAt sketch.old self.now.shown.now (by_number outcomes.new)) nodes.old.items nodes.new.items) }
+        ensures stop { IfErr result (StopIs (asked sketch.old.program self.now.shown.now) (mode_in sketch.old) outcomes.old) }
+        ensures stays { IfErr result (BeginsIfNew nodes.old.items nodes.new.items) }
+    {
+        sketch.recall_facts();
+        if leaf(self.alloc, sketch, self.shown, outcomes, nodes)? {
             return Ok(());
         }
+        match next_branch(
+            self.alloc,
+            sketch,
+            &self.accesses,
+            self.shown,
+            outcomes.ascending(),
+        )? {
+            Some(branch) => self.cover_over(sketch, &branch, outcomes, nodes),
+            None => self.end(sketch, outcomes, nodes),
+        }
     }
-    Ok(())
+
+    /// Puts the leaf of a complete sketch that nothing closes after the other nodes: its outcome is new. The search stops
+    /// with its run if the list does not take the outcome. A list that is open for the sketch's mode takes it.
+    fn end(
+        &self,
+        sketch: &Sketch,
+        outcomes: &mut KnownOutcomes,
+        nodes: &mut Vec<Node>,
+    ) -> Result<(), Stop>
+        requires in_order { AreInOrder outcomes.old }
+        requires complete { IsComplete sketch.now }
+        requires unsettled { IsUnsettled sketch.now self.now.shown.now (by_number outcomes.old) }
+        ensures grows { OnTold result (Grows (asked sketch.now.program self.now.shown.now) outcomes.old outcomes.new) }
+        ensures tree { OnOk result (Pushes (IsCoverAt sketch.now self.now.shown.now (by_number outcomes.new)) nodes.old.items nodes.new.items) }
+        ensures stop { IfErr result (StopIs (asked sketch.now.program self.now.shown.now) (mode_in sketch.now) outcomes.old) }
+        ensures stays { IfErr result (BeginsIfNew nodes.old.items nodes.new.items) }
+    {
+        sketch.recall_facts();
+        outcomes.add(self.alloc, sketch, &self.accesses, self.shown)?;
+        match known(sketch, self.shown, outcomes)? {
+            Some(number) => {
+                push_known(nodes, number as u64)?;
+                Ok(())
+            }
+            None => Err(Stop::New {
+                run: shown_run(self.alloc, sketch, self.shown)?,
+                sketch: Box::new(self.alloc, sketch.copy()?)?,
+            }),
+        }
+    }
+
+    /// Puts the node over the choices and a tree for the sketch after each of them after the other nodes, up to one that is
+    /// valid without its choice: then no other is needed, and it takes the place of the node.
+    #[cycle(cover)]
+    fn cover_over(
+        &self,
+        sketch: &mut Sketch,
+        branch: &Branch,
+        outcomes: &mut KnownOutcomes,
+        nodes: &mut Vec<Node>,
+    ) -> Result<(), Stop>
+        requires in_order { AreInOrder outcomes.old }
+        requires accesses { AreAccessesOf sketch.old self.now.accesses }
+        requires branch { IsBranch sketch.old branch.now }
+        ensures kept { sketch.new ≡ sketch.old }
+        ensures grows { OnTold result (Grows (asked sketch.old.program self.now.shown.now) outcomes.old outcomes.new) }
+        ensures tree { OnOk result (Pushes (IsCoverAt sketch.old self.now.shown.now (by_number outcomes.new)) nodes.old.items nodes.new.items) }
+        ensures stop { IfErr result (StopIs (asked sketch.old.program self.now.shown.now) (mode_in sketch.old) outcomes.old) }
+        ensures stays { IfErr result (BeginsIfNew nodes.old.items nodes.new.items) }
+    {
+        sketch.recall_facts();
+        let root = nodes.len();
+        nodes.push(node_of(branch))?;
+        for choice in &branch.choices {
+            let child = nodes.len();
+            self.cover_after(sketch, *choice, outcomes, nodes)?;
+            if self.take_place(nodes, root, child, sketch, outcomes.as_slice())? {
+                return Ok(());
+            }
+        }
+        Ok(())
+    }
+
+    /// Puts a tree for the sketch after a choice, which is taken back, after the other nodes.
+    #[cycle(cover)]
+    fn cover_after(
+        &self,
+        sketch: &mut Sketch,
+        choice: Choice,
+        outcomes: &mut KnownOutcomes,
+        nodes: &mut Vec<Node>,
+    ) -> Result<(), Stop>
+        requires in_order { AreInOrder outcomes.old }
+        requires accesses { AreAccessesOf sketch.old self.now.accesses }
+        requires may { MayChoose sketch.old choice }
+        ensures kept { sketch.new ≡ sketch.old }
+        ensures grows { OnTold result (Grows (asked sketch.old.program self.now.shown.now) outcomes.old outcomes.new) }
+        ensures tree { OnOk result (Pushes (IsCoverAt (with_chosen sketch.old (sketch_with sketch.old.chosen choice)) self.now.shown.now (by_number outcomes.new)) nodes.old.items nodes.new.items) }
+        ensures stop { IfErr result (StopIs (asked sketch.old.program self.now.shown.now) (mode_in sketch.old) outcomes.old) }
+        ensures stays { IfErr result (BeginsIfNew nodes.old.items nodes.new.items) }
+    {
+        sketch.recall_facts();
+        let mark = sketch.mark()?;
+        choose(sketch, choice)?;
+        let covered = self.cover_from(sketch, outcomes, nodes);
+        sketch.go_back(mark);
+        covered
+    }
+
+    /// Whether the last tree, that of a child, is valid at the open sketch of its parent, whose node is the root. If it is, it
+    /// takes the root's place, and the earlier children are gone. A cycle is not: it would have closed the sketch.
+    fn take_place(
+        &self,
+        nodes: &mut Vec<Node>,
+        root: usize,
+        child: usize,
+        sketch: &mut Sketch,
+        outcomes: &[Outcome],
+    ) -> Result<bool, AllocError>
+        requires order { root ≤ child }
+        requires within { child < length nodes.old.items }
+        requires tree { IsTree (drop child nodes.old.items) }
+        ensures kept { sketch.new ≡ sketch.old }
+        ensures taken { IfOk result (IsTaken sketch.old self.now.shown.now outcomes.now (tree_of (drop child nodes.old.items)) nodes.old.items (remove_range nodes.old.items root child) nodes.new.items) }
+    {
+        if is_cycle(&nodes[child]) {
+            return Ok(false);
+        }
+        let judged = judge(
+            self.alloc,
+            &mut Walk::over(&nodes[child..]),
+            sketch,
+            self.shown,
+            outcomes,
+        );
+        match judged {
+            Ok(()) => {
+                take_out(nodes, root, child);
+                Ok(true)
+            }
+            Err(TreeFault::Wrong(_)) => Ok(false),
+            Err(TreeFault::OutOfMemory) => Err(AllocError),
+        }
+    }
 }
 
 /// The node of a branch.
@@ -161,72 +227,6 @@ fn node_of(branch: &Branch) -> Node
         OpenChoice::Value(thread) => Node::Value { thread, count },
         OpenChoice::Source(read) => Node::Source { read, count },
         OpenChoice::Order(first, second) => Node::Order { first, second },
-    }
-}
-
-/// Puts a tree for the sketch after a choice, which is taken back, after the other nodes.
-#[cycle(cover)]
-fn cover_after(
-    alloc: Global,
-    sketch: &mut Sketch,
-    accesses: &WholeAccesses,
-    shown: &Shown,
-    choice: Choice,
-    outcomes: &mut KnownOutcomes,
-    nodes: &mut Vec<Node>,
-) -> Result<(), Stop>
-    requires in_order { AreInOrder outcomes.old }
-    requires accesses { AreAccessesOf sketch.old accesses.now }
-    requires may { MayChoose sketch.old choice }
-    ensures kept { sketch.new ≡ sketch.old }
-    ensures grows { OnTold result (Grows (asked sketch.old.program shown.now) outcomes.old outcomes.new) }
-    ensures tree { OnOk result (Pushes (IsCoverAt (with_chosen sketch.old (sketch_with sketch.old.chosen choice)) shown.now (by_number outcomes.new)) nodes.old.items nodes.new.items) }
-    ensures stop { IfErr result (StopIs (asked sketch.old.program shown.now) (mode_in sketch.old) outcomes.old) }
-    ensures stays { IfErr result (BeginsIfNew nodes.old.items nodes.new.items) }
-{
-    // For the proof alone: what holds of every sketch is known where its program is read.
-    let _ = sketch.program();
-    let mark = sketch.mark()?;
-    choose(sketch, choice)?;
-    let covered = cover_from(alloc, sketch, accesses, shown, outcomes, nodes);
-    sketch.go_back(mark);
-    covered
-}
-
-/// Whether the last tree, that of a child, is valid at the open sketch of its parent, whose node is the root. If it is, it
-/// takes the root's place, and the earlier children are gone. A cycle is not: it would have closed the sketch.
-fn take_place(
-    alloc: Global,
-    nodes: &mut Vec<Node>,
-    root: usize,
-    child: usize,
-    sketch: &mut Sketch,
-    shown: &Shown,
-    outcomes: &[Outcome],
-) -> Result<bool, AllocError>
-    requires order { root ≤ child }
-    requires within { child < length nodes.old.items }
-    requires tree { IsTree (drop child nodes.old.items) }
-    ensures kept { sketch.new ≡ sketch.old }
-    ensures taken { IfOk result (IsTaken sketch.old shown.now outcomes.now (tree_of (drop child nodes.old.items)) nodes.old.items (remove_range nodes.old.items root child) nodes.new.items) }
-{
-    if is_cycle(&nodes[child]) {
-        return Ok(false);
-    }
-    let judged = judge(
-        alloc,
-        &mut Walk::over(&nodes[child..]),
-        sketch,
-        shown,
-        outcomes,
-    );
-    match judged {
-        Ok(()) => {
-            take_out(nodes, root, child);
-            Ok(true)
-        }
-        Err(TreeFault::Wrong(_)) => Ok(false),
-        Err(TreeFault::OutOfMemory) => Err(AllocError),
     }
 }
 

@@ -90,8 +90,7 @@ fn cycle(
     requires accesses { AreFewAccesses sketch.now events.now }
     ensures { OnOk result ((shown : Shown) (outcomes : List Outcome) → Pushes (IsLeafAt sketch.now shown outcomes) nodes.old.items nodes.new.items) }
 {
-    // For the proof alone: what holds of every sketch is known where its program is read.
-    let _ = sketch.program();
+    sketch.recall_facts();
     push_cycle(nodes, kind, &accesses_of(alloc, events)?)?;
     Ok(())
 }

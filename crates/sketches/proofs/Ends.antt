@@ -1,7 +1,7 @@
 -- How a sketch must end, by the ends of its locations and of its threads.
 use Rattle.std.proofs.Common.{◌≡◌, ◌↔◌, ℕ, ◌<◌, Bool, true, false, not, List, [], ◌∷◌, ◌++◌, ◌+◌, subst, Some, None, IsSome, IsTrue, get_or, length, refl, sym, ap, ◌∙◌, inl, inr, arith}
 use Rattle.std.proofs.lemmas.List.{get_or_append_left, get_or_push}
-use Rattle.tso_program.specs.declared.shown.Shown.TheVariants.{All, Only, Truth}
+use Rattle.tso_program.specs.declared.shown.Shown.TheVariants.{Truth}
 use Rattle.std.proofs.lemmas.Grind.{same_number_lists}
 use Rattle.sketches.proofs.Vocabulary.{slice_index, cases_lt, get_or-map-range_with_len, length-map-range_with_len, same_Some, slice_get_within, Outcome, Shown, Access, Event, Initial, At, Writes}
 use Rattle.sketches.proofs.Vocabulary.{ProgramSketch, mode_in, trace_in, access_in, IsLawful, HasNoCycle, HasLater, WritesTo, IsWritten, IsWrittenBy, yes, no, of_some}
@@ -31,23 +31,17 @@ values_by s shown o registers ends = record {
   memory = λ l v e h w last. ends.each l (let long = ends.long in omega arith) v (e, (w, last));
 }
 
--- and the whole has the parts
-pub ends_by : (s : ProgramSketch) (shown : Shown) (o : Outcome) → EndsInValues s.program (mode_in s) s.chosen shown o → HasEnds s shown o.memory
-ends_by s shown o values = record { long = values.long; each = λ l h v (e, (w, last)). values.memory l v e (let long = values.long in omega arith) w last }
-
 -- where values are shown, a sketch ends in values, once each read has its value
 abbrev pub EndsWhole : ProgramSketch → Shown → Outcome → Type 0
 EndsWhole s shown o = IsWhole s.program (mode_in s) s.chosen × EndsInValues s.program (mode_in s) s.chosen shown o
 
 pub of_values : (s : ProgramSketch) (shown : Shown) (o : Outcome) → ShowsValues shown → EndsWhole s shown o → EndsAs s.program (mode_in s) s.chosen shown o
-of_values s All o of ends = ends
-of_values s (Only names) o of ends = ends
 of_values s (Truth f) o of ends = absurd of
+of_values s shown o of ends = ends
 
 pub in_values : (s : ProgramSketch) (shown : Shown) (o : Outcome) → ShowsValues shown → EndsAs s.program (mode_in s) s.chosen shown o → EndsWhole s shown o
-in_values s All o of ends = ends
-in_values s (Only names) o of ends = ends
 in_values s (Truth f) o of ends = absurd of
+in_values s shown o of ends = ends
 
 pub values_test : (s : ProgramSketch) (shown : Shown) (o : Outcome) (b : Bool) → ShowsValues shown → IsTrue b ↔ EndsWhole s shown o → IsTrue b ↔ EndsAs s.program (mode_in s) s.chosen shown o
 values_test s shown o b of test = (λ t. of_values s shown o of (test.0 t), λ ends. test.1 (in_values s shown o of ends))

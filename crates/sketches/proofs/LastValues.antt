@@ -34,10 +34,7 @@ module _ (s : ProgramSketch) (shown : Shown) (l : ℕ) where
   last_same es x other o before = by o before
     where
       old : (v : ℕ) → MayEndBy s (Contains (es ++ x ∷ [])) l v → MayEndBy s (Contains es) l v
-      old v (e, has, last) = elim (Contains-push_cases es x e has) [
-        | inl h ↦ (e, h, last)
-        | inr q ↦ absurd (other v (subst (IsLastWith s l v) (sym q) last))
-      ]
+      old v (e, has, last) = elim (Contains-push_cases es x e has) [ inl h ↦ (e, h, last) | inr q ↦ absurd (other v (subst (IsLastWith s l v) (sym q) last)) ]
 
       by : (o : Option ℕ) → IsLastValue s shown (Contains es) l o → IsLastValue s shown (Contains (es ++ x ∷ [])) l o
       by None none = λ v may. none v (old v may)

@@ -16,8 +16,7 @@ of_followed (StoreBufferMachine gaps) = tt
 
 pub known_before : (s : ProgramSketch) (kind : Kind) (d e : Event) (x y : Access) → IsBefore s.chosen d e y → KnownRelates s.chosen kind d x e y
 known_before s union.Sequential d e x y h = inr (inr (inl h))
-known_before s union.Location d e x y h = inr (inr (inl h))
-known_before s union.Global d e x y h = inr (inr (inl h))
+known_before s kind d e x y h = inr (inr (inl h))
 
 -- a chosen pair is a known edge
 pub pair_edge : (s : ProgramSketch) (d e : Event) → IsLawful s → Contains s.chosen.pairs (d, e) → KnownEdgeOfMode s.program (mode_in s) s.chosen (followed_union (mode_in s)) d e

@@ -11,10 +11,7 @@ place_of : (es : List Event) (e : Event) → ((i : ℕ) × (slice_get es i ≡ S
 place_of [] e = inr (λ h. let n = h.1 in omega arith)
 place_of (x ∷ es) e = elim (same_event x e) [
   | inl q ↦ inl (0, subst (λ z. slice_get (x ∷ es) 0 ≡ Some z) q refl)
-  | inr n ↦ elim (place_of es e) [
-    | inl h ↦ inl (suc h.0, h.1)
-    | inr none ↦ inr (λ h. not_here x es e n none h)
-  ]
+  | inr n ↦ elim (place_of es e) [ inl h ↦ inl (suc h.0, h.1) | inr none ↦ inr (λ h. not_here x es e n none h) ]
 ]
   where
     not_here : (x : Event) (es : List Event) (e : Event) → (x ≡ e → ⊥) → (Contains es e → ⊥) → Contains (x ∷ es) e → ⊥

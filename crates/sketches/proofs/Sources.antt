@@ -14,14 +14,6 @@ pub record IsListed (P : Event → Type 0) (events : List Event) (row left : ℕ
   pub exact : (e : Event) → Contains listed e ↔ (Contains old e ⊎ ((j : ℕ) × IsIn row j × (IsIn left j → ⊥) × (slice_get events j ≡ Some e) × P e))
   pub ordered : FollowInOrder old events row → AllPairs ComesBefore listed
 
-pub none_listed : (P : Event → Type 0) (events : List Event) (row : ℕ) (old : List Event) → IsListed P events row row old old
-none_listed P events row old = record {
-  part = λ k h. h;
-  less = λ j k h other l. absurd (other h);
-  exact = λ e. (λ h. inl h, λ h. elim h [ inl a ↦ a | inr (j, here, other, at, p) ↦ absurd (other here) ]);
-  ordered = λ o. o.ordered;
-}
-
 -- the event with the least number that is left
 pub one_listed : (P : Event → Type 0) (events : List Event) (row left d rest : ℕ) (old listed next : List Event) (x : Event) → IsListed P events row left old listed →
     slice_get events d ≡ Some x → IsIn left d → ((k : ℕ) → IsIn left k → d ≤ k) → ((k : ℕ) → IsIn rest k ↔ (IsIn left k × (k ≢ d))) →
@@ -37,10 +29,7 @@ one_listed P events row left d rest old listed next x is at here least without p
       ];
   exact = λ e. (
     λ h. elim ((put e).0 h) [
-      | inl a ↦ elim ((is.exact e).0 a) [
-        | inl b ↦ inl b
-        | inr (j, in_row, other, at_j, p) ↦ inr (j, in_row, (λ q. other ((without j).0 q).0), at_j, p)
-      ]
+      | inl a ↦ elim ((is.exact e).0 a) [ inl b ↦ inl b | inr (j, in_row, other, at_j, p) ↦ inr (j, in_row, (λ q. other ((without j).0 q).0), at_j, p) ]
       | inr q ↦ inr (d, is.part d here, (λ r. ((without d).0 r).1 refl), at ∙ ap Some q.0, q.1)
     ],
     λ h. (put e).1 (elim h [

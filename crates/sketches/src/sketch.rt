@@ -118,6 +118,15 @@ impl Sketch {
         &self.program
     }
 
+    /// For a proof alone: recalls what holds of every sketch.
+    pub fn recall_facts(&self)
+        ensures lawful { IsLawful self.now }
+        ensures few { choice_count self.now ≤ most_choices }
+        ensures registers { HaveAllRegisters self.now.program.threads }
+    {
+        let _ = self.program();
+    }
+
     /// The memory model.
     pub fn mode(&self) -> Mode
         ensures { result ≡ self.now.mode }

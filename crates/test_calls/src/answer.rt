@@ -2,9 +2,8 @@
 
 use crate::calls::{CALLS, Call, TableCall};
 use crate::refusal::Refusal;
-use cover_solver::SeqTable;
 use hunt_calls::{push_exchanged, push_of_hunt};
-use litmus_text::{Litmus, NameTable, read_litmus};
+use litmus_text::{Litmus, read_litmus};
 use place_calls::push_of_place;
 use solver_calls::{options, push_of_solver, table_of};
 use std::alloc::{AllocError, Global};
@@ -16,23 +15,6 @@ use tso_program::Program;
 /// So many bytes are printed without another allocation.
 const ROOM: usize = 4_096;
 
-/// The answer to a call with the sequential outcomes.
-fn push_of_outcomes<R: Threads + Wait + Sync>(
-    rt: &R,
-    alloc: Global,
-    call: TableCall,
-    words: &[&[u8]],
-    names: &NameTable,
-    table: &SeqTable,
-    printed: &mut String,
-) -> Result<(), Refusal> {
-    match call {
-        TableCall::Solver(call) => Ok(push_of_solver(alloc, call, words, names, table, printed)?),
-        TableCall::Hunt(call) => Ok(push_of_hunt(rt, alloc, call, words, table, printed)?),
-        TableCall::Place(call) => Ok(push_of_place(rt, alloc, call, words, table, printed)?),
-    }
-}
-
 /// The answer to a call with the sequential outcomes of a test.
 fn push_of_test<R: Threads + Wait + Sync>(
     rt: &R,
@@ -43,8 +25,12 @@ fn push_of_test<R: Threads + Wait + Sync>(
     printed: &mut String,
 ) -> Result<(), Refusal> {
     let (kind, words) = options(words);
-    let table = table_of(alloc, litmus, kind)?;
-    push_of_outcomes(rt, alloc, call, words, &litmus.names, &table, printed)
+    let (names, table) = (&litmus.names, table_of(alloc, litmus, kind)?);
+    match call {
+        TableCall::Solver(call) => Ok(push_of_solver(alloc, call, words, names, &table, printed)?),
+        TableCall::Hunt(call) => Ok(push_of_hunt(rt, alloc, call, words, &table, printed)?),
+        TableCall::Place(call) => Ok(push_of_place(rt, alloc, call, words, &table, printed)?),
+    }
 }
 
 /// The answer to a call with the sequential outcomes of a litmus text.

@@ -9,7 +9,7 @@ trees_after-trace_tree-requires t c =
     let i = c.loop-choice.choice-index in
     let d = choice.Value 0 0 in
     let ch = get_or c.args.choices.now i d in
-    (omega (arith, fewer_rounds c.args.sketch.now c.in_ok-next.next ch c.program.ensures.lawful c.program.ensures.few (c.requires.each i d c.loop-choice-test.true) c.in_ok-next.ensures), tt)
+    (omega (arith, fewer_rounds c.args.sketch.now c.in_ok-next.next ch c.recall_facts.ensures.lawful c.recall_facts.ensures.few (c.requires.each i d c.loop-choice-test.true) c.in_ok-next.ensures), tt)
 
 pub trees_after-loop-choice-preserved : goal.trees_after-loop-choice-preserved
 trees_after-loop-choice-preserved t c =

@@ -15,10 +15,7 @@ loop-access-preserved c =
     let After : AccessId → Type 0 = λ a. (a.thread ≡ t) × (a.access < n + 1) in
     let id : AccessId = record { thread = t; access = n } in
     taken_after c.args.sketch.now Before (IsItself id) After c.args.self.now c.loop-access.self c.add_access.new.self c.loop-access.invariant c.in_ok-add_access.ensures
-    (λ a is. elim (cases_lt a.access n) [
-      | inl low ↦ inl (is.0, low)
-      | inr high ↦ inr (let low = is.1 in same_access a t n is.0 (omega arith))
-    ])
+    (λ a is. elim (cases_lt a.access n) [ inl low ↦ inl (is.0, low) | inr high ↦ inr (let low = is.1 in same_access a t n is.0 (omega arith)) ])
 
 pub returns : goal.returns
 returns c =

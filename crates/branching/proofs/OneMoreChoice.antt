@@ -1,0 +1,21 @@
+-- Each choice is one more.
+use Rattle.std.proofs.Common.{◌≡◌, ℕ, ◌+◌, ◌<◌, [], ◌∷◌, ◌++◌, length, ap, arith}
+use Rattle.std.proofs.lemmas.List.{length-append}
+use Rattle.std.proofs.lemmas.List.Sums.{sum_by-set}
+use Rattle.std.proofs.lemmas.Option.{unwrap_or-slice_get}
+use Rattle.cover_judge.specs.Sketches.{given_to, with_value, with_source, with_pair}
+use Rattle.sketches.specs.ProgramSketches.{ProgramSketch, with_chosen}
+use Rattle.sketches.specs.Sizes.{choice_count}
+
+pub value_counted : (s : ProgramSketch) (t v : ℕ) → t < length s.chosen.given → choice_count (with_chosen s (with_value s.chosen t v)) ≡ choice_count s + 1
+value_counted s t v h =
+    let sum = sum_by-set length s.chosen.given t (given_to s.chosen t ++ v ∷ []) [] h in
+    let is = ap length (unwrap_or-slice_get s.chosen.given t []) in
+    let long = length-append (given_to s.chosen t) (v ∷ []) in
+    omega arith
+
+pub source_counted : (s : ProgramSketch) (read source : _) → choice_count (with_chosen s (with_source s.chosen read source)) ≡ choice_count s + 1
+source_counted s read source = (let long = length-append s.chosen.sources ((read, source) ∷ []) in omega arith)
+
+pub pair_counted : (s : ProgramSketch) (first second : _) → choice_count (with_chosen s (with_pair s.chosen first second)) ≡ choice_count s + 1
+pair_counted s first second = (let long = length-append s.chosen.pairs ((first, second) ∷ []) in omega arith)

@@ -1,0 +1,31 @@
+use Rattle.std.proofs.Common.{◌≡◌, ◌+◌, ◌*◌, length, take, drop}
+use Rattle.cert_forest.specs.Nodes.{spell_all}
+use Rattle.cover_judge.proofs.CoverSteps.{IsLeft}
+use Rattle.cover_judge.proofs.cover.CoverJudge.+judge.Given as goal
+
+-- the nodes that are left, and the calls before the next one is taken
+abbrev pub decreases-judge : goal.decreases-judge
+decreases-judge l = 5 * length (spell_all l.walk.now)
+
+abbrev pub decreases-judge_after : goal.decreases-judge_after
+decreases-judge_after l = 5 * length (spell_all l.walk.now) + 1
+
+abbrev pub decreases-judge_child : goal.decreases-judge_child
+decreases-judge_child l = 5 * length (spell_all l.walk.now) + 2
+
+abbrev pub decreases-judge_children : goal.decreases-judge_children
+decreases-judge_children l = 5 * length (spell_all l.walk.now) + 3
+
+abbrev pub decreases-judge_values : goal.decreases-judge_values
+decreases-judge_values l = 5 * length (spell_all l.walk.now) + 4
+
+abbrev pub decreases-judge_sources : goal.decreases-judge_sources
+decreases-judge_sources l = 5 * length (spell_all l.walk.now) + 4
+
+-- the sketch is as before, the walk is behind the children that were judged, and those that are left decide
+abbrev pub invariant-judge_children-loop-number : goal.invariant-judge_children-loop-number
+invariant-judge_children-loop-number l = record {
+  kept : l.sketch ≡ l.fn.sketch;
+  walked : l.walk ≡ drop l.number l.fn.walk;
+  left : IsLeft l.self.shown.now l.self.outcomes.now l.fn.sketch (take (length l.choices) l.fn.walk) l.choices l.number (take (length (drop l.number l.choices)) l.walk) (drop l.number l.choices);
+}

@@ -1,0 +1,12 @@
+use Rattle.std.proofs.Common.{List, ◌++◌, get_or, ap, ◌∙◌, ℕ}
+use Rattle.documents.proofs.Vocabulary.{all_registers, register_value}
+use Rattle.tso_program.specs.declared.instruction.Reg.TheVariants.{Eax}
+use Rattle.report.proofs.Joined.{flat_more}
+use Rattle.documents.proofs.outcome.Legend.add_thread.Goals as goal
+
+pub loop-register-preserved : goal.loop-register-preserved
+loop-register-preserved c =
+    let item = register_value c.args.self.now.names.now c.args.self.now.shown.now c.args.thread c.args.values in
+    c.in_ok-add_register.ensures
+    ∙ ap (λ (ts : List (List ℕ)). ts ++ item (get_or all_registers c.loop-register.register-index Eax)) c.loop-register.invariant
+    ∙ flat_more item c.args.array.now all_registers c.loop-register.register-index Eax c.loop-register-test.true

@@ -1,0 +1,8 @@
+use Rattle.std.proofs.Common.{◌≡◌, ◌++◌, take}
+use Rattle.std.specs.List.{flat_map}
+use Rattle.documents.proofs.Vocabulary.{all_registers, register_value}
+use Rattle.documents.proofs.outcome.Legend.add_thread.Given as goal
+
+-- the items of the registers so far
+abbrev pub invariant-loop-register : goal.invariant-loop-register
+invariant-loop-register l = l.array ≡ l.initial.array ++ flat_map (register_value l.self.names.now l.self.shown.now l.thread l.values) (take l.register-index all_registers)
