@@ -6,7 +6,7 @@ use Rattle.fencer_words.specs.declared.job.WhyQuery.{WhyQuery}
 use Rattle.fencer_words.specs.CommandFiles.{name_of}
 use Rattle.placed_text.specs.declared.fault.TextFault.{TextFault}
 use Rattle.placed_text.specs.TextFaults.{HasNoPlacedText}
-use Rattle.why_text.specs.WhyTexts.{IsWhyText}
+use Rattle.placed_text.specs.WhyTexts.{IsWhyText}
 use Rattle.fencer.specs.declared.delivery.Answer.{Answer}
 use Rattle.fencer.specs.Deliveries.{IsDelivered, KeepAllFiles}
 use Rattle.fencer.specs.Documented.{DeliversDocument}

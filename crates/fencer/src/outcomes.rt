@@ -15,7 +15,7 @@ use crate::refusals::{Refusal, Reply, print_answer};
 use crate::refused::tell_refusal;
 use crate::status::check_status;
 use cert_forest::Runs;
-use cover_solver::{OutcomeList, SolveFault, outcomes_with_runs};
+use cover_solver::{OutcomeList, SolveFault, SoughtOutcomes, outcomes_with_runs};
 use documents::{outcomes_document, outcomes_with_runs_document};
 use fencer_words::OutcomeQuery;
 use litmus_text::{Litmus, read_litmus};
@@ -99,8 +99,13 @@ fn listed<T: Threads + Sync>(
     ensures runs { IfOk result (λ list. ListsRuns asked.now.runs (question program.now shown.now) (machine_of_model program.now set.empty asked.now.model) list.runs list.outcomes.items) }
     ensures fault { IfErr result (λ fault. fault ≡ solve.OutOfMemory) }
 {
-    let workers = asked.workers;
-    let list = outcomes_with_runs(rt, alloc, program, asked.model, shown, workers, ahead)?;
+    let sought = SoughtOutcomes {
+        alloc,
+        program,
+        model: asked.model,
+        shown,
+    };
+    let list = outcomes_with_runs(rt, asked.workers, &sought, ahead)?;
     if asked.runs {
         Ok(list)
     } else {

@@ -15,13 +15,12 @@ use crate::place::text_fault_line;
 use crate::refused::tell_refusal;
 use crate::texts::{Texts, read_texts};
 use fencer_words::{Placement, WhyQuery};
-use placed_text::{Effort, TextFault};
+use placed_text::{Effort, TextFault, WhyText, why_text};
 use program_streams::{Console, Progress, TEXT_LIMIT, WritableFileStore, file_line};
 use std::alloc::Global;
 use std::io::Read;
 use std::sync::Wait;
 use std::thread::Threads;
-use why_text::{WhyText, why_text};
 
 /// What is delivered of the reasons why the fences of an answer are needed.
 fn explained<T: Threads + Wait + Sync>(

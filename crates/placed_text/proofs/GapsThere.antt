@@ -4,8 +4,8 @@ use Rattle.std.specs.Prelude.{filter}
 use Rattle.std.specs.List.{range_with_len}
 use Rattle.std.specs.FinSet as set
 use Rattle.std.proofs.lemmas.Bool.Decides.{nat_tests}
-use Rattle.placed_text.proofs.Vocabulary.{Listing, gap_count}
-use Rattle.gap_sets.specs.Gaps.{SetOfGaps, numbers_of_set}
+use Rattle.placed_text.proofs.Vocabulary.{Listing, SetOfGaps, gap_count}
+use Rattle.gap_sets.specs.Gaps.{numbers_of_set}
 use Rattle.tso_program.specs.Fences.{first_missing}
 use Rattle.cover_solver.specs.Outcomes.{AreGapsOf}
 use Rattle.gap_sets.specs.declared.gap_set.TheConstants.{MAX_GAPS}

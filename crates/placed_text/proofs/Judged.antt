@@ -1,22 +1,21 @@
--- What is reported of a text, from what its parts are.
+-- What is reported of texts, from what their parts are.
 use Rattle.std.proofs.Common.{◌≡◌, ◌∙◌, ℕ, List, Option, Some, None, ap, length, subst}
 use Rattle.std.specs.Prelude.{unwrap_or}
 use Rattle.std.proofs.lemmas.List.{length-replicate}
 use Rattle.std.proofs.lemmas.List.FromFn.{length-map-range_with_len}
-use Rattle.placed_text.proofs.Vocabulary.{Listing, gap_count, IsPlacement}
+use Rattle.placed_text.proofs.Vocabulary.{Listing, Shown, asked, shown_as, question_of, gap_count, answer_line, IsPlacement, AreWrittenTexts, HasNoPlacedText, TellsWhy}
 use Rattle.tso_program.specs.declared.shown.ShownKind.{ShownKind}
 use Rattle.litmus_text.specs.Litmus.{Litmus}
 use Rattle.litmus_text.specs.Texts.{IsLitmus}
 use Rattle.litmus_text.specs.CostTexts.{said_of}
 use Rattle.litmus_text.specs.GivenCosts.{AreGiven}
-use Rattle.report.specs.Answers.{answer_line}
-use Rattle.fence_place.specs.declared.placing.Placed.{Placed}
 use Rattle.placed_text.specs.declared.fault.TextFault.{TextFault}
 use Rattle.placed_text.specs.declared.fault.TextFault.TheVariants as fault
+use Rattle.placed_text.specs.declared.placing.PlacedSource.{PlacedSource}
 use Rattle.placed_text.specs.declared.writing.PlacedText.{PlacedText}
-use Rattle.litmus_text.specs.Shown.{shown_as, question_of}
-use Rattle.placed_text.specs.PlacedTexts.{IsPlacedText, AreWrittenTexts}
-use Rattle.placed_text.specs.TextFaults.{HasNoProgram, HasNoCosts, HasNoPlacement, HasNoPlacedText}
+use Rattle.placed_text.specs.PlacedTexts.{IsPlacedSource, IsPlacedText}
+use Rattle.placed_text.specs.TextFaults.{HasNoProgram, HasNoCosts, HasNoPlacement}
+use Rattle.placed_text.specs.WhyTexts.{IsWhyText}
 
 -- each gap has a cost
 pub one_each : (p : Listing) (text : Option (List ℕ)) (costs : List ℕ) → AreGiven p text costs → length costs ≡ gap_count p.threads
@@ -24,28 +23,57 @@ one_each p None costs is = ap length is ∙ length-replicate (gap_count p.thread
 one_each p (Some text) costs is = ap length is.costs_are ∙ length-map-range_with_len (λ gap. unwrap_or (said_of is.entries gap) 1) 0 (gap_count p.threads)
 
 module _ (litmus : List ℕ) (costs : Option (List ℕ)) where
-  pub placed_text : (kind : ShownKind) (texts : PlacedText) (source : Litmus Listing) (gap_costs : List ℕ) (placed : Placed) → IsLitmus litmus source → AreGiven source.program costs gap_costs
-      → IsPlacement (question_of source kind) gap_costs placed → AreWrittenTexts source (shown_as source kind) gap_costs placed texts → IsPlacedText litmus costs kind texts
-  placed_text kind texts source gap_costs placed of_text given is written = record {
-    source = source;
-    of_text = of_text;
-    gap_costs = gap_costs;
-    given = given;
-    gaps = placed.set;
-    answer = is.answer;
-    headline = is.headline;
-    program = written.program;
-    again = written.again litmus of_text;
-    line = subst (λ (cost : ℕ). texts.answer.items ≡ answer_line source.program (shown_as source kind) placed.set cost) is.cost written.line;
-    certificate = record {
-      claimed = placed.certificate;
-      of_text = record { spelled = written.certificate; within = is.proof.within };
-      claims = is.same_set;
-      valid = is.proof.valid;
-    };
-    document = written.document;
-    set = written.set;
-  }
+  -- what is placed is the answer to what the kind asks
+  placement_of : (kind : ShownKind) (from : PlacedSource) → IsPlacedSource litmus costs kind from → IsPlacement (question_of from.source kind) from.costs from.found.placed
+  placement_of kind from is = subst (λ (shown : Shown). IsPlacement (asked from.source.program shown) from.costs from.found.placed) is.shown is.placement
+
+  -- from what is written of it
+  pub placed_text : (kind : ShownKind) (from : PlacedSource) (texts : PlacedText) → IsPlacedSource litmus costs kind from
+      → AreWrittenTexts from.source from.shown from.costs from.found.placed texts → IsPlacedText litmus costs kind texts
+  placed_text kind from texts of_texts are_written =
+      let source = from.source in
+      let placed = from.found.placed in
+      let is = placement_of kind from of_texts in
+      let written = subst (λ (shown : Shown). AreWrittenTexts source shown from.costs placed texts) of_texts.shown are_written in
+      record {
+        source = source;
+        of_text = of_texts.of_text;
+        gap_costs = from.costs;
+        given = of_texts.given;
+        gaps = placed.set;
+        answer = is.answer;
+        headline = is.headline;
+        program = written.program;
+        again = written.again litmus of_texts.of_text;
+        line = subst (λ (cost : ℕ). texts.answer.items ≡ answer_line source.program (shown_as source kind) placed.set cost) is.cost written.line;
+        certificate = record {
+          claimed = placed.certificate;
+          of_text = record { spelled = written.certificate; within = is.proof.within };
+          claims = is.same_set;
+          valid = is.proof.valid;
+        };
+        document = written.document;
+        set = written.set;
+      }
+
+  -- from the reasons that are given for it
+  pub why_text : (kind : ShownKind) (from : PlacedSource) (text document : List ℕ) → IsPlacedSource litmus costs kind from
+      → TellsWhy from.source from.shown from.costs from.found.placed.set (answer_line from.source.program from.shown from.found.placed.set from.found.placed.cost) text document → IsWhyText litmus costs kind text document
+  why_text kind from text document of_texts tells =
+      let source = from.source in
+      let shown = shown_as source kind in
+      let placed = from.found.placed in
+      let is = placement_of kind from of_texts in
+      record {
+        source = source;
+        of_text = of_texts.of_text;
+        gap_costs = from.costs;
+        given = of_texts.given;
+        gaps = placed.set;
+        answer = is.answer;
+        told = subst (λ (cost : ℕ). TellsWhy source shown from.costs placed.set (answer_line source.program shown placed.set cost) text document) is.cost
+            (subst (λ (s : Shown). TellsWhy source s from.costs placed.set (answer_line source.program s placed.set placed.cost) text document) of_texts.shown tells);
+      }
 
   module _ (workers : ℕ) where
     -- the litmus text is no such text

@@ -2,5 +2,5 @@
 mod Vocabulary
 pub mod GapsThere
 pub mod Judged
--- words of the crates below, passed on
-pub use Rattle.cover_judge.proofs.Answered
+pub mod Needed
+pub mod ReasonTexts

@@ -5,7 +5,7 @@ use Rattle.gap_sets.specs.Order.{total}
 use Rattle.tso_program.specs.declared.listing.Listing.{Listing}
 use Rattle.tso_program.specs.declared.shown.Shown.{Shown}
 use Rattle.tso_program.specs.declared.shown.ShownKind.{ShownKind}
-use Rattle.tso_program.specs.Shown.{Question}
+use Rattle.tso_program.specs.Shown.{Question, asked}
 use Rattle.cover_solver.specs.Outcomes.{Headline, IsTheAnswer}
 use Rattle.litmus_text.specs.Litmus.{Litmus}
 use Rattle.litmus_text.specs.Texts.{IsLitmus, IsFencedLitmus}
@@ -17,7 +17,9 @@ use Rattle.cert_forest.specs.Limits.{IsCertificate}
 use Rattle.cert_forest.specs.Texts.{certificate_text}
 use Rattle.cover_solver.specs.Certificates.{IsValidCertificate}
 use Rattle.report.specs.Answers.{answer_line}
+use Rattle.fence_place.specs.Placements.{IsPlacement}
 use Rattle.fence_place.specs.declared.placing.Placed.{Placed}
+use Rattle.placed_text.specs.declared.placing.PlacedSource.{PlacedSource}
 use Rattle.placed_text.specs.declared.writing.PlacedText.{PlacedText}
 use Rattle.litmus_text.specs.Shown.{shown_as, question_of}
 
@@ -46,6 +48,14 @@ pub record IsPlacedText (litmus : List ℕ) (costs : Option (List ℕ)) (kind : 
   pub certificate : IsCertificateOf (question_of source kind) gap_costs gaps texts.certificate.items
   pub document : IsPlacedDocument source (shown_as source kind) gap_costs gaps texts.program.items texts.document.items
   pub set : texts.gaps ≡ gaps
+
+-- what the texts stand for, what is shown of outcomes, and what is placed in the program, by a solver of its question
+pub record IsPlacedSource (litmus : List ℕ) (costs : Option (List ℕ)) (kind : ShownKind) (placed : PlacedSource) : Type 0 where
+  pub of_text : IsLitmus litmus placed.source
+  pub given : AreGiven placed.source.program costs placed.costs
+  pub shown : placed.shown ≡ shown_as placed.source kind
+  pub solver : placed.found.solver.question ≡ asked placed.source.program placed.shown
+  pub placement : IsPlacement (asked placed.source.program placed.shown) placed.costs placed.found.placed
 
 -- the texts of what is placed
 pub record AreWrittenTexts (source : Litmus Listing) (shown : Shown) (costs : List ℕ) (placed : Placed) (texts : PlacedText) : Type 0 where

@@ -4,7 +4,7 @@ use cover_solver::Watch;
 use program_streams::Progress;
 use std::alloc::{AllocError, Global};
 use std::sync::atomic::{AtomicBool, AtomicU64, AtomicUsize, Ordering};
-use trace_combinations::{Combinations, trace_combinations};
+use thread_traces::{Combinations, trace_combinations};
 use tso_program::Program;
 
 /// From so many combinations of traces on a search is long.

@@ -4,7 +4,7 @@ ghost use Rattle.tso_program.specs.Listings.{gap_count};
 ghost use Rattle.tso_program.specs.Shown.{asked};
 ghost use Rattle.fence_place.specs.Faults.{AreTooFewOrMany};
 ghost use Rattle.fence_place.specs.Placements.{IsPlacement};
-ghost use Rattle.placed_text.specs.PlacedTexts.{IsPlacedText};
+ghost use Rattle.placed_text.specs.PlacedTexts.{IsPlacedSource, IsPlacedText};
 ghost use Rattle.placed_text.specs.TextFaults.{HasNoPlacement, HasNoPlacedText};
 
 use crate::TextFault;
@@ -15,6 +15,7 @@ use crate::writing::{PlacedText, write_placed};
 use cover_solver::{SolveFault, Solver, sequential_watched};
 use fence_place::{PlaceFault, Placed, place};
 use gap_sets::Costs;
+use litmus_text::Litmus;
 use std::alloc::Global;
 use std::sync::Wait;
 use std::sync::atomic::AtomicU64;
@@ -23,13 +24,22 @@ use tso_program::{Program, Shown, ShownKind};
 
 /// What is placed in a program, and the solver that was asked.
 #[derive(Drop)]
-pub struct Found {
-    pub placed: Placed,
-    pub solver: Solver,
+pub(crate) struct Found {
+    pub(crate) placed: Placed,
+    pub(crate) solver: Solver,
+}
+
+/// What the texts stand for, what is shown of outcomes, and what is placed in the program.
+#[derive(Drop)]
+pub(crate) struct PlacedSource {
+    pub(crate) source: Litmus<Program>,
+    pub(crate) costs: Costs,
+    pub(crate) shown: Shown,
+    pub(crate) found: Found,
 }
 
 /// Finds the best set of a program's gaps that serves, by a solver of its own, and reports how far it is.
-pub fn place_gaps<R: Threads + Wait + Sync>(
+fn place_gaps<R: Threads + Wait + Sync>(
     rt: &R,
     alloc: Global,
     program: &Program,
@@ -57,6 +67,7 @@ pub fn place_gaps<R: Threads + Wait + Sync>(
     let workers = effort.workers;
     let placed = {
         let watched = Watched {
+            rt,
             solver: &solver,
             costs,
             alloc,
@@ -71,6 +82,31 @@ pub fn place_gaps<R: Threads + Wait + Sync>(
         Err(PlaceFault::Workers) => Err(TextFault::Workers),
         Err(PlaceFault::Costs | PlaceFault::NotCertified | PlaceFault::Board) => unreachable!(),
     }
+}
+
+/// Reads a litmus text and costs, and finds what [`place_text`] writes and [`crate::why_text`] explains.
+pub(crate) fn placed_source<R: Threads + Wait + Sync>(
+    rt: &R,
+    alloc: Global,
+    litmus: &[u8],
+    costs: Option<&[u8]>,
+    kind: ShownKind,
+    effort: Effort,
+) -> Result<PlacedSource, TextFault>
+    ensures placed { IfOk result (IsPlacedSource litmus.now (option_map (λ text. text.now) costs.entry) kind) }
+    ensures workers { OnOk result (¬ AreTooFewOrMany effort.workers) }
+    ensures fault { IfErr result (HasNoPlacedText litmus.now (option_map (λ text. text.now) costs.entry) effort.workers) }
+{
+    let source = read_program(alloc, litmus)?;
+    let costs = read_gap_costs(alloc, costs, &source.program)?;
+    let shown = shown_of(&source, kind)?;
+    let found = place_gaps(rt, alloc, &source.program, &shown, &costs, effort)?;
+    Ok(PlacedSource {
+        source,
+        costs,
+        shown,
+        found,
+    })
 }
 
 /// Places fences in the program of a litmus text, where its gaps cost what a text of costs says, and 1
@@ -91,10 +127,13 @@ pub fn place_text<R: Threads + Wait + Sync>(
     ensures workers { OnOk result (¬ AreTooFewOrMany effort.workers) }
     ensures fault { IfErr result (HasNoPlacedText litmus.now (option_map (λ text. text.now) costs.entry) effort.workers) }
 {
-    let source = read_program(alloc, litmus)?;
-    let costs = read_gap_costs(alloc, costs, &source.program)?;
-    let shown = shown_of(&source, kind)?;
-    let found = place_gaps(rt, alloc, &source.program, &shown, &costs, effort)?;
+    let placed = placed_source(rt, alloc, litmus, costs, kind, effort)?;
+    let PlacedSource {
+        source,
+        costs,
+        shown,
+        found,
+    } = placed;
     // What the solver keeps is as large as a tree of the certificate: it goes before the text is made.
     let Found { placed, solver } = found;
     drop(solver);

@@ -24,7 +24,7 @@ pub fn read_program(alloc: Global, text: &[u8]) -> Result<Litmus<Program>, TextF
 }
 
 /// What is shown of outcomes.
-pub fn shown_of(litmus: &Litmus<Program>, kind: ShownKind) -> Result<Shown, TextFault>
+pub(crate) fn shown_of(litmus: &Litmus<Program>, kind: ShownKind) -> Result<Shown, TextFault>
     ensures shown { IfOk result (λ shown. shown ≡ shown_as litmus.now kind) }
     ensures refused { IfErr result (λ fault. fault ≡ TextFault.OutOfMemory) }
 {

@@ -6,6 +6,7 @@ use gap_sets::{Costs, GapSet};
 use program_streams::Progress;
 use std::alloc::{AllocError, Global};
 use std::sync::atomic::{AtomicU64, Ordering};
+use std::thread::Threads;
 
 /// How fences are searched for.
 #[derive(Clone, Copy)]
@@ -15,9 +16,10 @@ pub struct Effort {
     pub progress: Progress,
 }
 
-/// A solver that reports how many sets it is asked about.
+/// A solver that reports how many sets it is asked about. Threads share its searches.
 #[derive(Drop)]
-pub(crate) struct Watched<'a> {
+pub(crate) struct Watched<'a, R> {
+    pub(crate) rt: &'a R,
     pub(crate) solver: &'a Solver,
     pub(crate) costs: &'a Costs,
     pub(crate) alloc: Global,
@@ -25,7 +27,7 @@ pub(crate) struct Watched<'a> {
     pub(crate) asked: AtomicU64,
 }
 
-impl Watched<'_> {
+impl<R> Watched<'_, R> {
     /// Reports that a set is asked about, if so many sets were asked about that their number is a power of two. One worker
     /// asks about the sets in ascending order of their costs.
     fn report(&self, set: &GapSet) {
@@ -40,16 +42,20 @@ impl Watched<'_> {
     }
 }
 
-impl Oracle for Watched<'_> {
+impl<R: Threads + Sync> Oracle for Watched<'_, R> {
+    ghost use denote.Param.Send.{IsSync};
+
     ghost question = { λ watched. watched.solver.now.question };
 
     ghost may_lack_runs = { λ watched. false };
+
+    ghost may_be_asked = { λ watched. IsSync R.row };
 
     fn ask(&self, set: &GapSet) -> Result<Verdict, SolveFault> {
         if self.effort.progress.is_shown() {
             self.report(set);
         }
-        self.solver.ask(set)
+        self.solver.ask_by(self.rt, self.effort.workers, set)
     }
 }
 

@@ -126,10 +126,7 @@ module _ (p : Listing) (mode : Machine) (given : ℕ → List ℕ) (within : IsW
       omega arith
 
   thread_there : (t i : ℕ) → i < counts t → t < length p.threads
-  thread_there t i h = elim (cases_lt t (length p.threads)) [
-    | inl less ↦ less
-    | inr past ↦ absurd (none_past_by p mode given t i past h)
-  ]
+  thread_there t i h = elim (cases_lt t (length p.threads)) [ inl less ↦ less | inr past ↦ absurd (none_past_by p mode given t i past h) ]
 
   -- an access of a thread is one of them
   pub all_events_has : (t i : ℕ) → i < counts t → Contains all_events (At t i)

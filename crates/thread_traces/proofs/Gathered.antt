@@ -1,8 +1,8 @@
 -- The values of a location, gathered from the instructions and the initial values.
 use Rattle.std.proofs.Common.{◌≡◌, ◌↔◌, ◌⊎◌, ℕ, ◌+◌, ◌<◌, ◌≤◌, List, [], ◌∷◌, ◌++◌, Option, Some, None, slice_get, get_or, length, Contains, refl, sym, ap, ◌∙◌, subst, inl, inr, eq-eqb, ne_eqb, arith}
 use Rattle.std.proofs.lemmas.List.Elements.{Contains-append_left, Contains-append_right, Contains-append_cases, Contains-push, Contains-push_cases}
-use Rattle.thread_traces.proofs.Vocabulary.{slice_index, cases_lt, cases_eq, slice_get_within, slice_get-get_or, slice_get_read, same_Some, Instr, LoadImm, Copy, Load, StoreImm, Store, Xchg, Fence}
-use Rattle.thread_traces.proofs.Vocabulary.{CmpImm, CmpReg, Je, Jne, Jmp, Thread, Listing, instr_at, code_of, code_found}
+use Rattle.thread_traces.proofs.Vocabulary.{slice_index, cases_lt, cases_eq, slice_get_within, slice_get-get_or, slice_get_read, same_Some, Instr, LoadImm, StoreImm}
+use Rattle.thread_traces.proofs.Vocabulary.{CmpImm, Thread, Listing, instr_at, code_of, code_found}
 use Rattle.candidate_executions.specs.Values.{Occurs, IsImmediate, IsKnown, TakesRegister, IsValueOf}
 use Rattle.thread_traces.specs.Immediates.{number_stored, any_number, stored_number, HasImmediate}
 use Rattle.thread_traces.proofs.TracesKept.{no_code}
@@ -18,9 +18,6 @@ HasNumberBelow code location n v = (k : ℕ) × (x : Instr) × (k < n) × (slice
 -- these values have come to the old ones
 abbrev pub HasCome : (ℕ → Type 0) → List ℕ → List ℕ → Type 0
 HasCome P old new = (v : ℕ) → Contains new v ↔ (Contains old v ⊎ P v)
-
-pub come_none : (P : ℕ → Type 0) (old : List ℕ) → ((v : ℕ) → P v → ⊥) → HasCome P old old
-come_none P old none v = (λ h. inl h, λ h. elim h [ inl a ↦ a | inr p ↦ absurd (none v p) ])
 
 -- the same values, told in other words
 pub come_by : (P Q : ℕ → Type 0) (old new : List ℕ) → ((v : ℕ) → P v ↔ Q v) → HasCome P old new → HasCome Q old new
@@ -64,9 +61,6 @@ number_more code location i v x at = (
         inr (ap (stored_number location) (sym is) ∙ h.4))
   ],
 )
-
-pub number_none : (code : List Instr) (location : Option ℕ) (v : ℕ) → HasNumberBelow code location 0 v → ⊥
-number_none code location v h = let n = h.2 in omega arith
 
 pub number_all : (code : List Instr) (location : Option ℕ) (n v : ℕ) → length code ≤ n → HasNumberBelow code location n v ↔ HasImmediate code location v
 number_all code location n v h = (
@@ -114,25 +108,12 @@ thread_more threads location i v thread h is =
       ],
     )
 
-pub threads_none : (threads : List Thread) (location : Option ℕ) (v : ℕ) → IsNumberBelow threads location 0 v → ⊥
-threads_none threads location v h = let n = h.1 in omega arith
-
 stored_as : (l v : ℕ) (x : Instr) → number_stored l x ≡ Some v → x ≡ StoreImm l v
 stored_as l v (StoreImm m w) e = elim (cases_eq m l) [
   | inl q ↦ (let same : w ≡ v = (let h : Some w ≡ Some v = rw (eq-eqb m l q) at e in cc) in λ i. StoreImm (q i) (same i))
   | inr n ↦ absurd (let h : None ≡ Some v = rw (ne_eqb m l n) at e in cc)
 ]
-stored_as l v (LoadImm r w) e = absurd cc
-stored_as l v (Copy r s) e = absurd cc
-stored_as l v (Load r m) e = absurd cc
-stored_as l v (Store m r) e = absurd cc
-stored_as l v (Xchg m r) e = absurd cc
-stored_as l v Fence e = absurd cc
-stored_as l v (CmpImm r w) e = absurd cc
-stored_as l v (CmpReg r s) e = absurd cc
-stored_as l v (Je k) e = absurd cc
-stored_as l v (Jne k) e = absurd cc
-stored_as l v (Jmp k) e = absurd cc
+stored_as l v x e = absurd cc
 
 stores : (l v : ℕ) → number_stored l (StoreImm l v) ≡ Some v
 stores l v = rw (eq-eqb l l refl) refl
@@ -192,11 +173,7 @@ pub values_with : (p : Listing) (l n : ℕ) (now next : List ℕ) → length p.t
     (v : ℕ) → Contains next v ↔ IsValueOf p l v
 values_with p l n now next h takes come known v = (
   λ a. elim ((known v).0 a) [
-    | inl b ↦ elim ((come v).0 b) [
-      | inl c ↦ absurd (let k = c.1 in omega arith)
-      | inr (inl q) ↦ inl q
-      | inr (inr s) ↦ inr (inl ((stored_all p l n v h).0 s))
-    ]
+    | inl b ↦ elim ((come v).0 b) [ inl c ↦ absurd (let k = c.1 in omega arith) | inr (inl q) ↦ inl q | inr (inr s) ↦ inr (inl ((stored_all p l n v h).0 s)) ]
     | inr k ↦ inr (inr (takes, k))
   ],
   λ a. (known v).1 (elim a [
@@ -210,15 +187,7 @@ immediate_from : (p : Listing) (v t k : ℕ) (x : Instr) → instr_at p.threads 
 immediate_from p v t k (LoadImm r w) at e = inl (r, (t, k, let q : w ≡ v = cc in at ∙ ap (λ z. Some (LoadImm r z)) q))
 immediate_from p v t k (StoreImm m w) at e = inr (inl (m, (t, k, let q : w ≡ v = cc in at ∙ ap (λ z. Some (StoreImm m z)) q)))
 immediate_from p v t k (CmpImm r w) at e = inr (inr (r, (t, k, let q : w ≡ v = cc in at ∙ ap (λ z. Some (CmpImm r z)) q)))
-immediate_from p v t k (Copy r s) at e = absurd cc
-immediate_from p v t k (Load r m) at e = absurd cc
-immediate_from p v t k (Store m r) at e = absurd cc
-immediate_from p v t k (Xchg m r) at e = absurd cc
-immediate_from p v t k Fence at e = absurd cc
-immediate_from p v t k (CmpReg r s) at e = absurd cc
-immediate_from p v t k (Je j) at e = absurd cc
-immediate_from p v t k (Jne j) at e = absurd cc
-immediate_from p v t k (Jmp j) at e = absurd cc
+immediate_from p v t k x at e = absurd cc
 
 -- the immediates of all threads
 pub immediate_all : (p : Listing) (n v : ℕ) → length p.threads ≤ n → IsNumberBelow p.threads None n v ↔ IsImmediate p v

@@ -1,16 +1,13 @@
 -- What a register may hold, and which locations take a register.
 use Rattle.std.proofs.Common.{◌≡◌, ◌↔◌, ◌⊎◌, ℕ, zero, suc, ◌+◌, ◌<◌, ◌≤◌, List, [], ◌∷◌, ◌++◌, Some, None, get_or, length, Contains, refl, sym, ap, ◌∙◌, subst, inl, inr, arith}
 use Rattle.std.proofs.lemmas.List.{get_or_past}
-use Rattle.thread_traces.proofs.Vocabulary.{slice_index, cases_lt, Contains-get_or, read_is, Instr, LoadImm, Copy, Load, StoreImm, Store, Xchg, Fence, CmpImm, CmpReg, Je, Jne, Jmp, Thread, Listing}
+use Rattle.thread_traces.proofs.Vocabulary.{slice_index, cases_lt, Contains-get_or, read_is, Instr, Store, Xchg, Thread, Listing}
 use Rattle.thread_traces.proofs.Vocabulary.{instr_at, start_of, IsKnown, TakesRegister, HasImmediate, StoresRegister, TakesRegisterOf}
 use Rattle.thread_traces.proofs.Gathered.{HasCome, come_by, come_more, come_append, IsNumberBelow, thread_more, immediate_all}
 
 -- an initial value of a register of the first n threads
 abbrev pub IsRegisterBelow : List Thread → ℕ → ℕ → Type 0
 IsRegisterBelow threads n v = (t : ℕ) × (t < n) × Contains (start_of threads t).registers v
-
-pub registers_none : (threads : List Thread) (v : ℕ) → IsRegisterBelow threads 0 v → ⊥
-registers_none threads v h = let n = h.1 in omega arith
 
 pub registers_more : (threads : List Thread) (i v : ℕ) (thread : Thread) → i < length threads → thread ≡ get_or threads i thread →
     (IsRegisterBelow threads i v ⊎ Contains thread.registers v) ↔ IsRegisterBelow threads (i + 1) v
@@ -109,16 +106,7 @@ known_come p n memory old now next h same first append =
 stores_from : (p : Listing) (l t k : ℕ) (x : Instr) → instr_at p.threads t k ≡ Some x → StoresRegister l x → TakesRegister p l
 stores_from p l t k (Store m r) at e = (r, inl (t, k, at ∙ ap (λ z. Some (Store z r)) e))
 stores_from p l t k (Xchg m r) at e = (r, inr (t, k, at ∙ ap (λ z. Some (Xchg z r)) e))
-stores_from p l t k (StoreImm m v) at e = absurd e
-stores_from p l t k (LoadImm r v) at e = absurd e
-stores_from p l t k (Copy r s) at e = absurd e
-stores_from p l t k (Load r m) at e = absurd e
-stores_from p l t k Fence at e = absurd e
-stores_from p l t k (CmpImm r v) at e = absurd e
-stores_from p l t k (CmpReg r s) at e = absurd e
-stores_from p l t k (Je j) at e = absurd e
-stores_from p l t k (Jne j) at e = absurd e
-stores_from p l t k (Jmp j) at e = absurd e
+stores_from p l t k x at e = absurd e
 
 pub takes_same : (p : Listing) (l : ℕ) → TakesRegisterOf p.threads l ↔ TakesRegister p l
 takes_same p l = (

@@ -1,27 +1,10 @@
 -- A trace is made an instruction at a time.
-use Rattle.std.proofs.Common.{◌≡◌, ℕ, zero, suc, ◌+◌, ◌-◌, ◌<◌, ◌≤◌, Bool, true, false, List, [], ◌∷◌, ◌++◌, Some, None, slice_get, get_or, drop, length, refl, sym, ap, ◌∙◌, subst, append_assoc, arith}
+use Rattle.std.proofs.Common.{◌≡◌, ℕ, zero, suc, ◌+◌, ◌-◌, ◌<◌, ◌≤◌, Bool, true, false, List, [], get_or, drop, length, refl, sym, ap, ◌∙◌, subst, arith}
 use Rattle.std.proofs.lemmas.List.{append-nil}
-use Rattle.thread_traces.proofs.Vocabulary.{slice_get_read, code_found, Action, Thread, Listing, action, code_of, start_of, Machine, read_is, Local, Access}
-use Rattle.candidate_executions.specs.Traces.{Trace, trace, entered, with_access, stopped, trace_by, fenced_gaps}
+use Rattle.thread_traces.proofs.Vocabulary.{slice_get_read, code_found, Action, Thread, Listing, action, code_of, start_of, Machine, read_is, Local}
+use Rattle.candidate_executions.specs.Traces.{Trace, trace, entered, stopped, trace_by, fenced_gaps}
 use Rattle.thread_traces.specs.declared.walk.TraceSoFar.{TraceSoFar}
 use Rattle.thread_traces.specs.ThreadTraces.{with_accesses, GoesOn, first_local}
-
--- the next value is the first of those that are left
-pub drop_some : (xs : List ℕ) (n v : ℕ) → slice_get xs n ≡ Some v → drop n xs ≡ v ∷ drop (suc n) xs
-drop_some [] n v e = absurd cc
-drop_some (x ∷ xs) zero v e = let q : x ≡ v = cc in ap (λ y. y ∷ xs) q
-drop_some (x ∷ xs) (suc n) v e = drop_some xs n v e
-
--- no next value, so none is left
-pub drop_none : (xs : List ℕ) (n : ℕ) → slice_get xs n ≡ None → drop n xs ≡ []
-drop_none [] zero e = refl
-drop_none [] (suc n) e = refl
-drop_none (x ∷ xs) zero e = absurd cc
-drop_none (x ∷ xs) (suc n) e = drop_none xs n e
-
--- an access moves from the rest to the front
-pub behind_after : (xs : List Access) (a : Access) (rest : Trace) → with_accesses xs (with_access a rest) ≡ with_accesses (xs ++ a ∷ []) rest
-behind_after xs a rest = λ i. record rest { accesses = (sym (append_assoc xs (a ∷ []) rest.accesses)) i }
 
 -- one step less is left
 one_less : (n i : ℕ) → i < n → n - i ≡ suc (n - (i + 1))

@@ -52,10 +52,9 @@ pairs_drop (e ∷ es) (suc i) h = pairs_drop es i (λ j k d p q. h (suc j) (suc 
 
 -- a path that leads to its own event is a cycle from there on
 pub round : (R : Event → Event → Type 0) (es : List Event) (i : ℕ) (z : Event) → slice_get es i ≡ Some z → LeadsTo R (drop i es) z → IsCycle R (drop i es)
-round R [] zero z at h = absurd cc
-round R [] (suc i) z at h = absurd cc
 round R (e ∷ es) zero z at h = let same : e ≡ z = cc in subst (λ y. Leads R e es y) (sym same) h
 round R (e ∷ es) (suc i) z at h = round R es i z at h
+round R [] i z at h = absurd cc
 
 pub distinct_more : (es : List Event) (now : Event) → AllPairs (λ d e. d ≢ e) es → (Contains es now → ⊥) → AllPairs (λ d e. d ≢ e) (es ++ now ∷ [])
 distinct_more es now h n = all_pairs_push (λ d e. d ≢ e) es now h (λ k d l q. n (subst (Contains es) q (Contains-get_or es k d l)))

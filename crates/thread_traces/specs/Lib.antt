@@ -3,4 +3,5 @@ pub mod ThreadOrder
 pub mod WriteBits
 pub mod Immediates
 pub mod ValueLists
+pub mod TraceCounts
 pub mod KnownTraces

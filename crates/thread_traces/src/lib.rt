@@ -2,24 +2,29 @@
 //!
 //! A thread is walked until a read lacks a value. Its trace has its accesses with their sections, its state where
 //! it stops, and in rows of bits the program order that each union keeps. Also here: which values a location may
-//! hold.
+//! hold, and how many combinations of traces lie ahead of a search for outcomes.
 //!
-//! Begin with `thread_trace_of` and `SharedTrace`. Free to change: what is kept beside a trace, which bits stand
-//! for what a thread writes (`write_bits.rt`), and which traces are known again and where (`known_traces.rt`).
-//! Relied on: a trace is that of the definitions, its rows have just the kept program order, a value that is
-//! written has its bit, and the values of a location are all that it may hold, ascending.
+//! Begin with `thread_trace_of`, `SharedTrace` and `trace_combinations`. Free to change: what is kept beside a
+//! trace, which bits stand for what a thread writes (`write_bits.rt`), which traces are known again and where
+//! (`known_traces.rt`), and where the counting of a thread gives up. Relied on: a trace is that of the definitions,
+//! its rows have just the kept program order, a value that is written has its bit, and the values of a location are
+//! all that it may hold, ascending. On the number of combinations no proof above rests; `fencer place --progress`
+//! prints it.
 #![tactic(auto)]
 
+mod combinations;
 mod known_traces;
 mod location_values;
 mod sections;
 mod shared_values;
 mod thread_order;
 mod thread_trace;
+mod trace_count;
 mod walk;
 mod write_bits;
 mod writes;
 
+pub use combinations::{Combinations, trace_combinations};
 pub use known_traces::{KnownTrace, keep_trace, known_after, values_number};
 pub use location_values::values_of;
 pub use shared_values::{SharedValues, value_lists};

@@ -1,0 +1,131 @@
+-- Reasons one after the other.
+use Rattle.std.proofs.Common.{◌≡◌, ◌∙◌, ◌==◌, ◌<◌, ℕ, suc, Bool, List, [], ◌∷◌, ◌++◌, true, false, arith, length, ap, refl, sym, subst}
+use Rattle.std.specs.Prelude.{map}
+use Rattle.std.specs.List.{concat, filter, range_with_len}
+use Rattle.std.proofs.lemmas.Bool.Decides.{nat_tests}
+use Rattle.std.proofs.lemmas.List.{append-nil, map-append}
+use Rattle.std.proofs.lemmas.List.Folds.{concat-append}
+use Rattle.std.specs.FinSet as set
+use Rattle.placed_text.proofs.Vocabulary.{SetOfGaps, IsGapSet, Question, asked, Listing, Shown, Label, Without, TellsRun, TellsWhy, printed_of}
+use Rattle.gap_sets.specs.Gaps.{numbers_of_set}
+use Rattle.gap_sets.specs.declared.gap_set.TheConstants.{MAX_GAPS}
+use Rattle.tso_program.specs.declared.outcome.Outcome.{Outcome}
+use Rattle.tso_program.specs.declared.shown.Shown.TheVariants.{All}
+use Rattle.tso_program.specs.Fences.{gaps_in}
+use Rattle.tso_program.specs.Shown.{show}
+use Rattle.tso_machine.specs.declared.label.Model.TheVariants.{Buffered}
+use Rattle.tso_machine.specs.declared.replaying.Ended.{Ended}
+use Rattle.tso_machine.specs.Machine.{StoreBufferMachine, no_gaps, IsRun}
+use Rattle.tso_machine.specs.Outcomes.{IsForeignRun, IsReplayOf, IsShownRun}
+use Rattle.tso_machine.proofs.Refused.{one_outcome}
+use Rattle.litmus_text.specs.Litmus.{Litmus}
+use Rattle.cover_solver.proofs.GapsAvoided.{passed_gaps_tell}
+use Rattle.cover_solver.specs.Facts as facts
+use Rattle.cover_solver.specs.Verdicts.{PassesNoneOf}
+use Rattle.documents.specs.Documents.{IsWhyDocument}
+use Rattle.placed_text.specs.WhyTexts.{Told, IsReason, AreReasons, told_lines, TellsReasons, none_line, reasons_or_none, IsReasonText}
+
+-- a foreign run that passes none of some gaps is a run with these gaps fenced
+pub runs_fenced : (run : facts.Foreign) (gaps : SetOfGaps) → facts.IsForeignValue run → PassesNoneOf gaps run → IsShownRun run.question (StoreBufferMachine (gaps_in run.question.program gaps)) run.labels run.outcome
+runs_fenced run gaps is none =
+    let (whole, is_run, shows) = is.foreign.is_run in
+    (whole, (passed_gaps_tell run.question.program gaps run.passed run.labels whole is_run is.passed).1 none, shows)
+
+-- a replay of which all is shown ends in its outcome
+ends_in : (p : Listing) (labels : List Label) (ended : Ended) → IsReplayOf (asked p All) Buffered labels ended → IsRun p (StoreBufferMachine no_gaps) labels ended.outcome
+ends_in p labels ended replay = (let (whole, is_run, same) = replay.is_run in subst (λ (o : Outcome). IsRun p (StoreBufferMachine no_gaps) labels o) (sym same) is_run)
+
+-- of the outcome of a run is shown what a run with these labels shows
+shown_of_run : (q : Question) (labels : List Label) (o whole : Outcome) → IsShownRun q (StoreBufferMachine no_gaps) labels o → IsRun q.program (StoreBufferMachine no_gaps) labels whole → o ≡ show q.shown whole
+shown_of_run q labels o whole (ended, is_run, shows) ends = shows ∙ ap (λ (x : Outcome). show q.shown x) (one_outcome q.program (StoreBufferMachine no_gaps) labels ended whole is_run ends)
+
+-- so its lines are a reason
+pub reason_of : (source : Litmus Listing) (shown : Shown) (gaps : SetOfGaps) (gap : ℕ) (run : facts.Foreign) (ended : Ended) (told : Told) → run.question ≡ asked source.program shown → facts.IsForeignValue run
+    → PassesNoneOf (set.remove gaps gap) run → IsReplayOf (asked run.question.program All) Buffered run.labels ended
+    → IsReasonText source shown gap run.labels ended.outcome ended.passed told.0
+    → TellsRun source (printed_of shown) (Without gap) run.labels ended.outcome ended.passed told.1 → IsReason source shown gaps gap told
+reason_of source shown gaps gap run ended told of_question is none replay printed document =
+    let q = asked source.program shown in
+    let others = set.remove gaps gap in
+    let fenced = subst (λ (r : Question). IsShownRun r (StoreBufferMachine (gaps_in r.program others)) run.labels run.outcome) of_question (runs_fenced run others is none) in
+    let foreign = subst (λ (r : Question). IsForeignRun r run.labels run.outcome) of_question is.foreign in
+    let replayed = subst (λ (r : Question). IsReplayOf (asked r.program All) Buffered run.labels ended) of_question replay in
+    let ends = ends_in source.program run.labels ended replayed in
+    let same = shown_of_run q run.labels run.outcome ended.outcome foreign.is_run ends in
+    record {
+      labels = run.labels;
+      outcome = ended.outcome;
+      ends = ends;
+      foreign = subst (λ (o : Outcome). IsForeignRun q run.labels o) same foreign;
+      fenced = subst (λ (o : Outcome). IsShownRun q (StoreBufferMachine (gaps_in source.program others)) run.labels o) same fenced;
+      passed = ended.passed;
+      passes = replayed.passed;
+      printed = printed;
+      document = document;
+    }
+
+-- the gaps are in the set, and gap numbers
+abbrev pub AreHeld : SetOfGaps → List ℕ → Type 0
+AreHeld gaps [] = Unit {0}
+AreHeld gaps (gap ∷ more) = ((set.contains gaps gap ≡ true) × (gap < MAX_GAPS)) × AreHeld gaps more
+
+held_next : (gaps : SetOfGaps) → IsGapSet gaps → (gap : ℕ) (more : List ℕ) → AreHeld gaps (filter (set.contains gaps) more) → (b : Bool) → set.contains gaps gap ≡ b → AreHeld gaps (filter (set.contains gaps) (gap ∷ more))
+held_next gaps small gap more rest true e = rw e ((e, small gap e), rest)
+held_next gaps small gap more rest false e = rw e rest
+
+held_of : (gaps : SetOfGaps) → IsGapSet gaps → (numbers : List ℕ) → AreHeld gaps (filter (set.contains gaps) numbers)
+held_of gaps small [] = tt
+held_of gaps small (gap ∷ more) = held_next gaps small gap more (held_of gaps small more) (set.contains gaps gap) refl
+
+-- as those of the set are
+pub numbers_are_held : (gaps : SetOfGaps) → IsGapSet gaps → AreHeld gaps (numbers_of_set gaps)
+unfolding numbers_of_set
+numbers_are_held gaps small = held_of gaps small (range_with_len 0 MAX_GAPS)
+
+-- the first is, and those after it are
+pub first_held : (gaps : SetOfGaps) (left : List ℕ) (gap : ℕ) (more : List ℕ) → left ≡ gap ∷ more → AreHeld gaps left → ((set.contains gaps gap ≡ true) × (gap < MAX_GAPS)) × AreHeld gaps more
+first_held gaps left gap more is held = subst (AreHeld gaps) is held
+
+-- the line of the answer and what follows it, and the document
+pub says_why : (source : Litmus Listing) (shown : Shown) (costs : List ℕ) (gaps : SetOfGaps) (line all text document : List ℕ) (runs : List (List ℕ)) → TellsReasons source shown gaps (numbers_of_set gaps) all runs
+    → text ≡ line ++ reasons_or_none shown all → IsWhyDocument source shown costs gaps runs document → TellsWhy source shown costs gaps line text document
+says_why source shown costs gaps line all text document runs (reasons, each, lines, are) printed told = record {
+  reasons = reasons;
+  each = each;
+  printed = printed ∙ ap (λ (t : List ℕ). line ++ reasons_or_none shown t) lines;
+  told = subst (λ (rs : List (List ℕ)). IsWhyDocument source shown costs gaps rs document) are told;
+}
+
+not_zero : (n : ℕ) → (suc n == 0) ≡ true → ⊥
+not_zero n e = grind (arith, nat_tests)
+
+-- of a text without a byte, and of one with some
+pub none_said : (shown : Shown) (text : List ℕ) → (length text == 0) ≡ true → none_line shown ≡ reasons_or_none shown text
+none_said shown [] none = refl
+none_said shown (byte ∷ bytes) none = absurd (not_zero (length bytes) none)
+
+pub some_said : (shown : Shown) (text : List ℕ) → (length text == 0) ≡ false → text ≡ reasons_or_none shown text
+some_said shown [] some = absurd cc
+some_said shown (byte ∷ bytes) some = refl
+
+-- one more
+pub one_more_reason : (source : Litmus Listing) (shown : Shown) (gaps : SetOfGaps) (so_far : List ℕ) (reasons : List Told) (gap : ℕ) (told : Told) → AreReasons source shown gaps so_far reasons
+    → IsReason source shown gaps gap told → AreReasons source shown gaps (so_far ++ gap ∷ []) (reasons ++ told ∷ [])
+one_more_reason source shown gaps [] [] gap told are is = (is, tt)
+one_more_reason source shown gaps (g ∷ so_far) (r ∷ reasons) gap told are is = (are.0, one_more_reason source shown gaps so_far reasons gap told are.1 is)
+one_more_reason source shown gaps so_far reasons gap told are is = absurd are
+
+lines_more : (reasons : List Told) (told : Told) → told_lines (reasons ++ told ∷ []) ≡ told_lines reasons ++ told.0
+lines_more reasons told =
+    ap (λ (ts : List (List ℕ)). concat ts) (map-append (λ (r : Told). r.0) reasons (told ∷ [])) ∙ concat-append (map (λ (r : Told). r.0) reasons) (told.0 ∷ [])
+    ∙ ap (λ (t : List ℕ). told_lines reasons ++ t) (append-nil told.0)
+
+-- the texts with one more
+pub tells_more : (source : Litmus Listing) (shown : Shown) (gaps : SetOfGaps) (so_far : List ℕ) (all : List ℕ) (runs : List (List ℕ)) (gap : ℕ) (told : Told) → TellsReasons source shown gaps so_far all runs
+    → IsReason source shown gaps gap told → TellsReasons source shown gaps (so_far ++ gap ∷ []) (all ++ told.0) (runs ++ told.1 ∷ [])
+tells_more source shown gaps so_far all runs gap told (reasons, are, lines, runs_are) reason = (
+  reasons ++ told ∷ [],
+  one_more_reason source shown gaps so_far reasons gap told are reason,
+  ap (λ (t : List ℕ). t ++ told.0) lines ∙ sym (lines_more reasons told),
+  ap (λ (rs : List (List ℕ)). rs ++ told.1 ∷ []) runs_are ∙ sym (map-append (λ (r : Told). r.1) reasons (told ∷ [])),
+)

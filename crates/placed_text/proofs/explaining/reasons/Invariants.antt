@@ -1,0 +1,10 @@
+use Rattle.placed_text.specs.WhyTexts.{TellsReasons}
+use Rattle.placed_text.proofs.ReasonTexts.{AreHeld}
+use Rattle.placed_text.proofs.explaining.reasons.Given as goal
+
+-- the lines and the runs so far are reasons of the gaps so far, and those to come are in the set
+abbrev pub invariant-loop-gap : goal.invariant-loop-gap
+invariant-loop-gap l = record {
+  told : TellsReasons l.litmus l.shown l.set l.yielded l.lines.items l.runs;
+  to_come : AreHeld l.set l.gap-iterator;
+}

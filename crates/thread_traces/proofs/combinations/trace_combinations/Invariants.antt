@@ -1,0 +1,6 @@
+use Rattle.thread_traces.specs.TraceCounts.{combination_count, values_at, CountSays}
+use Rattle.thread_traces.proofs.combinations.trace_combinations.Given as goal
+
+-- the threads so far
+abbrev pub invariant-loop-t : goal.invariant-loop-t
+invariant-loop-t l = CountSays l.combinations (combination_count l.program (values_at l.values.items) l.t)

@@ -1,3 +1,0 @@
--- what many proofs speak of
-mod Vocabulary
-pub mod ValuesSoFar

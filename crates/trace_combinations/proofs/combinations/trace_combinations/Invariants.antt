@@ -1,6 +1,0 @@
-use Rattle.trace_combinations.specs.TraceCounts.{combination_count, values_at, CountSays}
-use Rattle.trace_combinations.proofs.combinations.trace_combinations.Given as goal
-
--- the threads so far
-abbrev pub invariant-loop-t : goal.invariant-loop-t
-invariant-loop-t l = CountSays l.combinations (combination_count l.program (values_at l.values.items) l.t)

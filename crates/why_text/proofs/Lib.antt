@@ -1,4 +1,0 @@
--- what many proofs speak of
-mod Vocabulary
-pub mod Needed
-pub mod ReasonTexts
