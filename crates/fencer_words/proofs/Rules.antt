@@ -2,8 +2,8 @@
 use Rattle.std.proofs.Common.{◌≡◌, ◌∙◌, Bool, true, false, ◌||◌, [], ◌∷◌, Option, Some, ap, ap₂}
 use Rattle.std.specs.Prelude.{codes}
 use Rattle.std.specs.Borrow.{Bor}
-use Rattle.fencer_words.proofs.Vocabulary.{usize_max, Command, Command-F}
-use Rattle.clap.specs.Words.{Rule, Text, app_of, new_app, new_rule, rule_of}
+use Rattle.fencer_words.proofs.Vocabulary.{usize_max, Command, Command-F, with_rule}
+use Rattle.clap.specs.Words.{App, Rule, Text, AddsArg, AddsSubcommand, app_of, new_app, new_rule, rule_of, with_subcommand}
 use Rattle.clap.specs.Simple.{app_of_fields, on_top}
 use Rattle.clap.specs.declared.builder.command.Command.TheViews.{out-Command}
 use Rattle.clap.specs.declared.builder.action.ArgAction.TheVariants.{Append, SetTrue}
@@ -12,6 +12,7 @@ use Rattle.clap.specs.declared.builder.range.ValueRange.{ValueRange}
 use Rattle.clap.specs.declared.builder.texts.Texts.TheVariants.{One}
 use Rattle.clap.specs.declared.builder.value_parser.ValueParser.{ValueParser}
 use Rattle.clap.specs.declared.builder.value_parser.ValueParser.TheVariants as parser
+use Rattle.fencer_words.specs.Commands.{IsBuiltAs}
 use Rattle.fencer_words.specs.CommandLines.{ModelNames, named_rule, model_rule, label_rule, flag_rule}
 
 -- an argument with a long name, a parser and a default value
@@ -54,8 +55,22 @@ flag_rule_of new long done name id new_is long_is name_is done_is =
     (ap (λ (a : Arg). rule_of a) long_is
     ∙ ap₂ (λ (r : Rule) (t : Text). let s : Rule = record r { long = Some t } in s) new_is name_is)
 
-pub neither : (a b c : Bool) → c ≡ (a || b) → a ≡ false → b ≡ false → c ≡ false
+neither : (a b c : Bool) → c ≡ (a || b) → a ≡ false → b ≡ false → c ≡ false
 neither a b c is no_a no_b = is ∙ ap₂ (λ (x y : Bool). x || y) no_a no_b
+
+-- a command with one argument more
+pub one_argument_more : (old new : Command) (argument : Arg) (app : App) (rule : Rule) → IsBuiltAs app old → rule_of argument ≡ rule → argument.global ≡ false → AddsArg old argument new → IsBuiltAs (with_rule app rule) new
+one_argument_more old new argument app rule built is own adds = record {
+  shape = adds.shape own ∙ ap₂ with_rule built.shape is;
+  no_globals = neither _ _ _ adds.globals built.no_globals own;
+}
+
+-- and with one command more
+pub one_command_more : (old new sub : Command) (app below : App) → IsBuiltAs app old → IsBuiltAs below sub → AddsSubcommand old sub new → IsBuiltAs (with_subcommand app below.top) new
+one_command_more old new sub app below built is adds = record {
+  shape = adds.shape is.no_globals ∙ ap₂ with_subcommand built.shape (ap (λ (a : App). a.top) is.shape);
+  no_globals = neither _ _ _ adds.globals built.no_globals is.no_globals;
+}
 
 -- a command that takes no program's name, wants a subcommand and has none for help
 pub record IsFencer (new unnamed wanted done : Command) : Type 0 where

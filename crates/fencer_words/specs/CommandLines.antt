@@ -1,6 +1,6 @@
 -- What command lines ask for. `clap` reads them: its `subcommand_of` gives the subcommand that words name, with the rows
 -- of its values.
-use Rattle.std.specs.Prelude.{◌≡◌, ◌≢◌, ◌⊎◌, ℕ, ◌≤◌, Bool, true, false, List, [], ◌∷◌, Some, None, Contains, codes, map, not, option_map, string_bytes, unwrap_or, if◌then◌else◌, ◌&&◌}
+use Rattle.std.specs.Prelude.{◌≡◌, ◌≢◌, ◌⊎◌, ℕ, ◌≤◌, Bool, true, false, List, [], ◌∷◌, Some, None, Contains, codes, map, not, option_map, string_bytes, unwrap_or, fold, if◌then◌else◌, ◌&&◌}
 use Rattle.std.specs.Option.{option_map_or}
 use Rattle.std.specs.Str.{IsUtf8, bytes_eq}
 use Rattle.std.specs.Str.Parse.{digits_value, without_leading_plus}
@@ -10,10 +10,14 @@ use Rattle.clap.specs.Words.{App, Row, Rule, Text, IsUnsignedIn, all_of, fault_o
 use Rattle.clap.specs.Simple.{on_top}
 use Rattle.clap.specs.declared.builder.action.ArgAction.TheVariants.{Append, SetTrue}
 use Rattle.clap.specs.declared.builder.value_parser.ValueParser.TheVariants as parser
-use Rattle.tso_machine.specs.declared.label.Model.{Model}
+use Rattle.tso_machine.specs.declared.label.Model as machine
 use Rattle.tso_machine.specs.declared.label.Model.TheVariants.{Buffered, Sequential}
 use Rattle.tso_program.specs.declared.shown.ShownKind.{ShownKind}
-use Rattle.tso_program.specs.declared.shown.ShownKind.TheVariants.{Whole, Observed, Condition}
+use Rattle.tso_program.specs.declared.shown.ShownKind.TheVariants as kind
+use Rattle.fencer_words.specs.declared.form.Form.{Form}
+use Rattle.fencer_words.specs.declared.form.Form.TheVariants as form
+use Rattle.fencer_words.specs.declared.parameter.Parameter.{Parameter}
+use Rattle.fencer_words.specs.declared.parameter.Parameter.TheVariants.{Certificate, CheckAnswer, CheckList, Condition, Costs, Fences, Graph, Graphs, Json, Labels, Litmus, Model, Not, Observed, Output, Page, Progress, Runs, Template, Workers}
 use Rattle.fencer_words.specs.declared.job.Job.{Job}
 use Rattle.fencer_words.specs.declared.job.Run.{Run}
 use Rattle.fencer_words.specs.declared.job.Job.TheVariants.{Replay, Trace, Outcomes, Place, Why, Gaps, Witness}
@@ -35,10 +39,13 @@ AreModels names = map (λ (name : Bor Text). name.now) names.now ≡ codes "buff
 abbrev pub named_rule : Text → Rule
 named_rule id = record (new_rule id) { value_names = 1 }
 
+-- `--NAME VALUE`
+abbrev pub value_rule : Text → Rule
+value_rule name = record (named_rule name) { long = Some name }
+
 -- `--model MODEL`
 abbrev pub model_rule : ModelNames → Rule
-model_rule models = record (named_rule (codes "model")) {
-  long = Some (codes "model");
+model_rule models = record (value_rule (codes "model")) {
   parser = Some (parser.Names models);
   defaults = codes "buffered" ∷ [];
 }
@@ -58,51 +65,73 @@ label_rule = record (named_rule (codes "label")) {
 abbrev pub flag_rule : Text → Rule
 flag_rule name = record (new_rule name) { long = Some name; action = Some SetTrue }
 
--- `--NAME FILE`
-abbrev pub file_rule : Text → Rule
-file_rule name = record (named_rule name) { long = Some name }
-
--- `--fences T:K,..`
-abbrev pub fences_rule : Rule
-fences_rule = record (named_rule (codes "fences")) { long = Some (codes "fences") }
-
 -- `--workers N`
 abbrev pub workers_rule : Rule
-workers_rule = record (named_rule (codes "workers")) {
-  long = Some (codes "workers");
+workers_rule = record (value_rule (codes "workers")) {
   parser = Some (parser.Unsigned 1 MAX_WORKERS);
   defaults = codes "1" ∷ [];
 }
 
+-- as what `clap` reads each parameter
+abbrev pub rule_of_parameter : ModelNames → Parameter → Rule
+rule_of_parameter models Certificate = value_rule (codes "certificate")
+rule_of_parameter models CheckAnswer = flag_rule (codes "check")
+rule_of_parameter models CheckList = flag_rule (codes "check")
+rule_of_parameter models Condition = flag_rule (codes "condition")
+rule_of_parameter models Costs = value_rule (codes "costs")
+rule_of_parameter models Fences = value_rule (codes "fences")
+rule_of_parameter models Graph = value_rule (codes "dot")
+rule_of_parameter models Graphs = value_rule (codes "dot")
+rule_of_parameter models Json = flag_rule (codes "json")
+rule_of_parameter models Labels = label_rule
+rule_of_parameter models Litmus = litmus_rule
+rule_of_parameter models Model = model_rule models
+rule_of_parameter models Not = flag_rule (codes "not")
+rule_of_parameter models Observed = flag_rule (codes "observed")
+rule_of_parameter models Output = value_rule (codes "output")
+rule_of_parameter models Page = value_rule (codes "html")
+rule_of_parameter models Progress = flag_rule (codes "progress")
+rule_of_parameter models Runs = flag_rule (codes "runs")
+rule_of_parameter models Template = flag_rule (codes "template")
+rule_of_parameter models Workers = workers_rule
+
 -- ---- commands
 
--- `replay [--model MODEL] LITMUS [LABEL..]`
-abbrev pub replay_app : ModelNames → App
-replay_app models = with_rule (with_rule (with_rule (new_app (codes "replay")) (model_rule models)) litmus_rule) label_rule
+-- the commands
+abbrev pub forms : List Form
+forms = form.Replay ∷ form.Outcomes ∷ form.Place ∷ form.Trace ∷ form.Why ∷ form.Gaps ∷ form.Witness ∷ []
 
--- `outcomes [--model MODEL] [--workers N] [--runs] [--observed] [--check] [--json] [--progress] LITMUS`
-abbrev pub outcomes_app : ModelNames → App
-outcomes_app models = with_rule (with_rule (with_rule (with_rule (with_rule (with_rule (with_rule (with_rule (new_app (codes "outcomes")) (model_rule models)) workers_rule) (flag_rule (codes "runs"))) (flag_rule (codes "observed"))) (flag_rule (codes "check"))) (flag_rule (codes "json"))) (flag_rule (codes "progress"))) litmus_rule
+-- the name of each
+abbrev pub name_of_form : Form → Text
+name_of_form form.Replay = codes "replay"
+name_of_form form.Outcomes = codes "outcomes"
+name_of_form form.Place = codes "place"
+name_of_form form.Trace = codes "trace"
+name_of_form form.Why = codes "why"
+name_of_form form.Gaps = codes "gaps"
+name_of_form form.Witness = codes "witness"
 
--- `place [--costs FILE] [--workers N] [--certificate FILE] [--output FILE] [--observed | --condition] [--check] [--json] [--progress] LITMUS`
-abbrev pub place_app : App
-place_app = with_rule (with_rule (with_rule (with_rule (with_rule (with_rule (with_rule (with_rule (with_rule (with_rule (new_app (codes "place")) (file_rule (codes "costs"))) workers_rule) (file_rule (codes "certificate"))) (file_rule (codes "output"))) (flag_rule (codes "observed"))) (flag_rule (codes "condition"))) (flag_rule (codes "check"))) (flag_rule (codes "json"))) (flag_rule (codes "progress"))) litmus_rule
+-- and the parameters that it takes
+abbrev pub parameters_of : Form → List Parameter
+parameters_of form.Replay = Model ∷ Litmus ∷ Labels ∷ []
+parameters_of form.Outcomes = Model ∷ Workers ∷ Runs ∷ Observed ∷ CheckList ∷ Json ∷ Progress ∷ Litmus ∷ []
+parameters_of form.Place = Costs ∷ Workers ∷ Certificate ∷ Output ∷ Observed ∷ Condition ∷ CheckAnswer ∷ Json ∷ Progress ∷ Litmus ∷ []
+parameters_of form.Trace = Model ∷ Graph ∷ Page ∷ Json ∷ Litmus ∷ Labels ∷ []
+parameters_of form.Why = Costs ∷ Workers ∷ Graphs ∷ Page ∷ Observed ∷ Condition ∷ Json ∷ Progress ∷ Litmus ∷ []
+parameters_of form.Gaps = Costs ∷ Template ∷ Litmus ∷ []
+parameters_of form.Witness = Model ∷ Not ∷ Fences ∷ Graph ∷ Page ∷ Json ∷ Litmus ∷ []
 
--- `trace [--model MODEL] [--dot FILE] [--html FILE] [--json] LITMUS [LABEL..]`
-abbrev pub trace_app : ModelNames → App
-trace_app models = with_rule (with_rule (with_rule (with_rule (with_rule (with_rule (new_app (codes "trace")) (model_rule models)) (file_rule (codes "dot"))) (file_rule (codes "html"))) (flag_rule (codes "json"))) litmus_rule) label_rule
+-- a command with one parameter more
+abbrev pub with_parameter : ModelNames → App → Parameter → App
+with_parameter models app parameter = with_rule app (rule_of_parameter models parameter)
 
--- `why [--costs FILE] [--workers N] [--dot FILE] [--html FILE] [--observed | --condition] [--json] [--progress] LITMUS`
-abbrev pub why_app : App
-why_app = with_rule (with_rule (with_rule (with_rule (with_rule (with_rule (with_rule (with_rule (with_rule (new_app (codes "why")) (file_rule (codes "costs"))) workers_rule) (file_rule (codes "dot"))) (file_rule (codes "html"))) (flag_rule (codes "observed"))) (flag_rule (codes "condition"))) (flag_rule (codes "json"))) (flag_rule (codes "progress"))) litmus_rule
+-- the command of a form
+abbrev pub app_of_form : ModelNames → Form → App
+app_of_form models form = fold (with_parameter models) (new_app (name_of_form form)) (parameters_of form)
 
--- `gaps [--costs FILE] [--template] LITMUS`
-abbrev pub gaps_app : App
-gaps_app = with_rule (with_rule (with_rule (new_app (codes "gaps")) (file_rule (codes "costs"))) (flag_rule (codes "template"))) litmus_rule
-
--- `witness [--model MODEL] [--not] [--fences T:K,..] [--dot FILE] [--html FILE] [--json] LITMUS`
-abbrev pub witness_app : ModelNames → App
-witness_app models = with_rule (with_rule (with_rule (with_rule (with_rule (with_rule (with_rule (new_app (codes "witness")) (model_rule models)) (flag_rule (codes "not"))) fences_rule) (file_rule (codes "dot"))) (file_rule (codes "html"))) (flag_rule (codes "json"))) litmus_rule
+-- a command line with one command more
+abbrev pub with_form : ModelNames → App → Form → App
+with_form models app form = with_subcommand app (app_of_form models form).top
 
 -- a command line is one of these commands, and nothing before it
 abbrev pub commands_app : App
@@ -110,11 +139,11 @@ commands_app = on_top (λ s. record s { no_binary_name = true; subcommand_requir
 
 -- the program's whole command line, after its name
 abbrev pub fencer_app : ModelNames → App
-fencer_app models = with_subcommand (with_subcommand (with_subcommand (with_subcommand (with_subcommand (with_subcommand (with_subcommand commands_app (replay_app models).top) (outcomes_app models).top) place_app.top) (trace_app models).top) why_app.top) gaps_app.top) (witness_app models).top
+fencer_app models = fold (with_form models) commands_app forms
 
 -- the names of the commands
 abbrev pub command_names : List Text
-command_names = codes "replay" ∷ codes "outcomes" ∷ codes "place" ∷ codes "trace" ∷ codes "why" ∷ codes "gaps" ∷ codes "witness" ∷ []
+command_names = map name_of_form forms
 
 -- ---- values
 
@@ -135,12 +164,12 @@ abbrev pub is_flagged : Text → List Row → Bool
 is_flagged flag rows = has_value flag (codes "true") rows
 
 -- the model that is named
-abbrev pub model_in : List Row → Model
+abbrev pub model_in : List Row → machine.Model
 model_in rows = if has_value (codes "model") (codes "sequential") rows then Sequential else Buffered
 
 -- what is compared of outcomes: whether the condition's formula is true, what is observed, or all
 abbrev pub kind_in : List Row → ShownKind
-kind_in rows = if is_flagged (codes "condition") rows then Condition else (if is_flagged (codes "observed") rows then Observed else Whole)
+kind_in rows = if is_flagged (codes "condition") rows then kind.Condition else (if is_flagged (codes "observed") rows then kind.Observed else kind.Whole)
 
 -- both are asked for
 abbrev pub asks_twice : List Row → Bool

@@ -1,95 +1,13 @@
-//! Commands and arguments with what help says of them, the arguments of several commands, and their values.
+//! The values of parameters, as `clap` has read them.
 
 ghost use Rattle.std.specs.Prelude.{◌≡◌, false, IfOk, codes, map, option_map, string_bytes, unwrap_or};
-ghost use Rattle.clap.specs.Words.{all_of, app_of, first_of, found_of, new_app, rows_of, rule_of};
-ghost use Rattle.clap.specs.declared.builder.command.Command.TheViews.{out-Command};
-ghost use Rattle.fencer_words.specs.CommandLines.{named_rule, model_rule, litmus_rule, flag_rule, has_value, is_flagged, kind_in, model_in, text_in};
+ghost use Rattle.clap.specs.Words.{all_of, first_of, found_of, rows_of};
+ghost use Rattle.fencer_words.specs.CommandLines.{has_value, is_flagged, kind_in, model_in, text_in, AreWorkers};
 
-use clap::{Arg, ArgAction, ArgMatches, Command};
+use clap::ArgMatches;
 use std::alloc::{AllocError, Global};
 use tso_machine::Model;
-use tso_program::ShownKind;
-
-/// A command, with what help says of it first and last.
-pub fn described_command<'a>(
-    alloc: Global,
-    name: &'a str,
-    first: &'a str,
-    last: &'a str,
-) -> Command<'a>
-    ensures app { app_of result ≡ new_app name.entry.now }
-    ensures local { (out-Command result).has_globals ≡ false }
-{
-    Command::new(alloc, name).about(first).after_help(last)
-}
-
-/// An argument, with what help calls its value and says of it.
-pub fn named_arg<'a>(alloc: Global, id: &'a str, value: &'a str, help: &'a str) -> Arg<'a>
-    ensures rule { rule_of result ≡ named_rule id.entry.now }
-    ensures own { result.global ≡ false }
-{
-    Arg::new(alloc, id).value_name(value).help(help)
-}
-
-/// `--model MODEL`, of models with these names.
-pub fn model_arg<'a>(alloc: Global, names: &'a [&'a str]) -> Arg<'a>
-    ensures rule { rule_of result ≡ model_rule names.entry }
-    ensures own { result.global ≡ false }
-{
-    named_arg(alloc, "model", "MODEL", "The machine")
-        .long("model")
-        .value_parser(names)
-        .default_value("buffered")
-}
-
-/// `LITMUS`
-pub fn litmus_arg<'a>(alloc: Global) -> Arg<'a>
-    ensures rule { rule_of result ≡ litmus_rule }
-    ensures own { result.global ≡ false }
-{
-    named_arg(
-        alloc,
-        "litmus",
-        "LITMUS",
-        "The litmus file, or - for standard input",
-    )
-    .required(true)
-}
-
-/// `--NAME`
-pub fn flag_arg<'a>(alloc: Global, name: &'a str, help: &'a str) -> Arg<'a>
-    ensures rule { rule_of result ≡ flag_rule name.entry.now }
-    ensures own { result.global ≡ false }
-{
-    Arg::new(alloc, name)
-        .help(help)
-        .long(name)
-        .action(ArgAction::SetTrue)
-}
-
-/// `--observed`
-pub fn observed_arg<'a>(alloc: Global) -> Arg<'a>
-    ensures rule { rule_of result ≡ flag_rule (codes "observed") }
-    ensures own { result.global ≡ false }
-{
-    flag_arg(
-        alloc,
-        "observed",
-        "Compare outcomes by what the condition and `locations` name alone",
-    )
-}
-
-/// `--condition`
-pub fn condition_arg<'a>(alloc: Global) -> Arg<'a>
-    ensures rule { rule_of result ≡ flag_rule (codes "condition") }
-    ensures own { result.global ≡ false }
-{
-    flag_arg(
-        alloc,
-        "condition",
-        "Compare only whether an outcome meets the condition's formula",
-    )
-}
+use tso_program::{MAX_WORKERS, ShownKind};
 
 /// The first value of an argument.
 pub fn value_of<'a>(matches: &ArgMatches<'a>, id: &str) -> Option<&'a str>
@@ -174,22 +92,12 @@ pub fn model_in(matches: &ArgMatches<'_>) -> Model
     }
 }
 
-/// `--progress`
-pub fn progress_arg<'a>(alloc: Global) -> Arg<'a>
-    ensures rule { rule_of result ≡ flag_rule (codes "progress") }
-    ensures own { result.global ≡ false }
+/// The number that a text names, among those of workers.
+pub fn workers_of(text: &str) -> u8
+    ensures { AreWorkers text.now result }
 {
-    flag_arg(
-        alloc,
-        "progress",
-        "Report progress on standard error, as long searches do on a terminal",
-    )
-}
-
-/// `--json`
-pub fn json_arg<'a>(alloc: Global) -> Arg<'a>
-    ensures rule { rule_of result ≡ flag_rule (codes "json") }
-    ensures own { result.global ≡ false }
-{
-    flag_arg(alloc, "json", "Print a JSON document in place of the text")
+    match text.parse::<u8>() {
+        Ok(workers) => workers.clamp(1, MAX_WORKERS),
+        Err(_) => 1,
+    }
 }

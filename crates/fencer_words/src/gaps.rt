@@ -2,18 +2,16 @@
 
 ghost use Rattle.std.specs.Prelude.{IfOk, codes};
 ghost use Rattle.clap.specs.Words.{found_of, rows_of};
-ghost use Rattle.fencer_words.specs.CommandLines.{gaps_app, IsJobOf};
-ghost use Rattle.fencer_words.specs.Commands.{IsBuiltAs};
+ghost use Rattle.fencer_words.specs.CommandLines.{IsJobOf};
 
-use crate::arguments::{described_command, flag_arg, is_flagged, litmus_arg, text_given, text_in};
+use crate::arguments::{is_flagged, text_given, text_in};
 use crate::job::{GapQuery, Job};
-use crate::place::{COSTS_HELP, file_arg};
-use clap::{ArgMatches, Command};
+use clap::ArgMatches;
 use std::alloc::{AllocError, Global};
 
-const FIRST: &str = "Lists the gaps of a program: the places where a fence can stand";
+pub const FIRST: &str = "Lists the gaps of a program: the places where a fence can stand";
 
-const LAST: &str = "\
+pub const LAST: &str = "\
 Prints `T:K line L INSTRUCTION` for each gap. It lies before this instruction, which is number K
 of thread T, both counted from 0, and begins in line L of the text. With --costs the gap's cost
 follows.
@@ -24,15 +22,6 @@ command line or this help.
 Example: fencer gaps examples/SB.litmus";
 
 const TEMPLATE_HELP: &str = "Print a cost file of all gaps instead; a gap costs 1 without --costs";
-
-pub fn gaps_command<'a>(alloc: Global) -> Result<Command<'a>, AllocError>
-    ensures { IfOk result (IsBuiltAs gaps_app) }
-{
-    described_command(alloc, "gaps", FIRST, LAST)
-        .arg(file_arg(alloc, "costs", COSTS_HELP))?
-        .arg(flag_arg(alloc, "template", TEMPLATE_HELP))?
-        .arg(litmus_arg(alloc))
-}
 
 pub fn gaps_job(alloc: Global, matches: &ArgMatches<'_>) -> Result<Job, AllocError>
     ensures { IfOk result (IsJobOf (codes "gaps") (rows_of (found_of matches.now))) }

@@ -1,6 +1,6 @@
 //! The command lines of `fencer`: from arguments to a job.
 //!
-//! Each command is a module with its arguments and its job.
+//! Each command is a module with its help and its job; its parameters stand in a table (`form.rt`).
 //!
 //! Begin with `read_words`, `Job` and `Placement`. Free to change: the sentences of the help, which tests
 //! alone show. Relied on: a job is given exactly as `clap` reads the arguments by the definitions of
@@ -10,9 +10,11 @@
 mod arguments;
 mod fences;
 mod files;
+mod form;
 mod gaps;
 mod job;
 mod outcomes;
+mod parameter;
 mod place;
 mod replay;
 mod trace;

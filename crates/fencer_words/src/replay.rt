@@ -1,50 +1,23 @@
 //! `replay [--model MODEL] LITMUS [LABEL..]`
 
-ghost use Rattle.std.specs.Prelude.{◌≡◌, false, IfOk, codes, map, string_bytes};
-ghost use Rattle.clap.specs.Words.{found_of, rows_of, rule_of};
-ghost use Rattle.fencer_words.specs.CommandLines.{label_rule, replay_app, texts_in, IsJobOf, IsRunAsked};
-ghost use Rattle.fencer_words.specs.Commands.{IsBuiltAs};
+ghost use Rattle.std.specs.Prelude.{◌≡◌, IfOk, codes, map, string_bytes};
+ghost use Rattle.clap.specs.Words.{found_of, rows_of};
+ghost use Rattle.fencer_words.specs.CommandLines.{texts_in, IsJobOf, IsRunAsked};
 
-use crate::arguments::{
-    described_command, litmus_arg, model_arg, model_in, named_arg, text_in, values_of,
-};
+use crate::arguments::{model_in, text_in, values_of};
 use crate::job::{Job, Run};
-use clap::{Arg, ArgAction, ArgMatches, Command};
+use clap::ArgMatches;
 use std::alloc::{AllocError, Global};
 
-const FIRST: &str = "Replays a run of a program: its outcome, and the gaps that it passes";
+pub const FIRST: &str = "Replays a run of a program: its outcome, and the gaps that it passes";
 
-const LAST: &str = "\
+pub const LAST: &str = "\
 Prints `outcome: ..` and `passed T:K ..`: the run passes the gaps where a fence would wait.
 
 The status is 0 for an answer, 1 for a refusal (docs/formats.md explains each), 2 for a bad
 command line or this help.
 
 Example: fencer replay examples/SB.litmus e0 e1 e0 e1 f0 f1";
-
-/// `[LABEL..]`
-pub fn label_arg<'a>(alloc: Global) -> Arg<'a>
-    ensures rule { rule_of result ≡ label_rule }
-    ensures own { result.global ≡ false }
-{
-    named_arg(
-        alloc,
-        "label",
-        "LABEL",
-        "e0: thread 0 executes an instruction; f0: its oldest waiting store reaches memory",
-    )
-    .num_args(0..)
-    .action(ArgAction::Append)
-}
-
-pub fn replay_command<'a>(alloc: Global, models: &'a [&'a str]) -> Result<Command<'a>, AllocError>
-    ensures { IfOk result (IsBuiltAs (replay_app models.entry)) }
-{
-    described_command(alloc, "replay", FIRST, LAST)
-        .arg(model_arg(alloc, models))?
-        .arg(litmus_arg(alloc))?
-        .arg(label_arg(alloc))
-}
 
 fn owned(alloc: Global, words: &[&str]) -> Result<Vec<String>, AllocError>
     ensures { IfOk result (λ all. map string_bytes all.items ≡ map (λ word. word.now) words.now) }

@@ -2,22 +2,17 @@
 
 ghost use Rattle.std.specs.Prelude.{IfOk, codes};
 ghost use Rattle.clap.specs.Words.{found_of, rows_of};
-ghost use Rattle.fencer_words.specs.CommandLines.{trace_app, IsJobOf};
-ghost use Rattle.fencer_words.specs.Commands.{IsBuiltAs};
+ghost use Rattle.fencer_words.specs.CommandLines.{IsJobOf};
 
-use crate::arguments::{
-    described_command, is_flagged, json_arg, litmus_arg, model_arg, text_given,
-};
+use crate::arguments::{is_flagged, text_given};
 use crate::job::{Job, TraceQuery};
-use crate::place::file_arg;
-use crate::replay::{label_arg, run_in};
-use crate::why::HTML_HELP;
-use clap::{ArgMatches, Command};
+use crate::replay::run_in;
+use clap::ArgMatches;
 use std::alloc::{AllocError, Global};
 
-const FIRST: &str = "Shows a run of a program as a table, a line a step";
+pub const FIRST: &str = "Shows a run of a program as a table, a line a step";
 
-const LAST: &str = "\
+pub const LAST: &str = "\
 Prints for each step its thread, its instruction, what it reads and from where, what it stores,
 which stores then wait in the thread's buffer, and what reaches memory; then the two lines of
 `fencer replay`.
@@ -26,20 +21,6 @@ The status is 0 for an answer, 1 for a refusal (docs/formats.md explains each), 
 command line or this help.
 
 Example: fencer trace examples/SB.litmus e0 e1 e0 e1 f0 f1";
-
-pub const DOT_HELP: &str = "Write the run's candidate execution there, as a graph for Graphviz";
-
-pub fn trace_command<'a>(alloc: Global, models: &'a [&'a str]) -> Result<Command<'a>, AllocError>
-    ensures { IfOk result (IsBuiltAs (trace_app models.entry)) }
-{
-    described_command(alloc, "trace", FIRST, LAST)
-        .arg(model_arg(alloc, models))?
-        .arg(file_arg(alloc, "dot", DOT_HELP))?
-        .arg(file_arg(alloc, "html", HTML_HELP))?
-        .arg(json_arg(alloc))?
-        .arg(litmus_arg(alloc))?
-        .arg(label_arg(alloc))
-}
 
 pub fn trace_job(alloc: Global, matches: &ArgMatches<'_>) -> Result<Job, AllocError>
     ensures { IfOk result (IsJobOf (codes "trace") (rows_of (found_of matches.now))) }

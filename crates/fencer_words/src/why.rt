@@ -2,21 +2,16 @@
 
 ghost use Rattle.std.specs.Prelude.{IfOk, codes};
 ghost use Rattle.clap.specs.Words.{found_of, rows_of};
-ghost use Rattle.fencer_words.specs.CommandLines.{why_app, IsJobOf};
-ghost use Rattle.fencer_words.specs.Commands.{IsBuiltAs};
+ghost use Rattle.fencer_words.specs.CommandLines.{IsJobOf};
 
-use crate::arguments::{
-    condition_arg, described_command, is_flagged, json_arg, kind_in, litmus_arg, observed_arg,
-    progress_arg, text_given, text_in, value_in,
-};
+use crate::arguments::{is_flagged, kind_in, text_given, text_in, value_in, workers_of};
 use crate::job::{Job, Placement, WhyQuery};
-use crate::place::{COSTS_HELP, file_arg, workers_arg, workers_of};
-use clap::{ArgMatches, Command};
+use clap::ArgMatches;
 use std::alloc::{AllocError, Global};
 
-const FIRST: &str = "Shows for each fence of the answer a run that it prevents";
+pub const FIRST: &str = "Shows for each fence of the answer a run that it prevents";
 
-const LAST: &str = "\
+pub const LAST: &str = "\
 Prints the answer line of `fencer place`, and for each of its gaps a run with the other gaps
 fenced: `without T:K`, `run LABEL ..`, the run as a table, `outcome: ..`, `passed T:K ..`, and
 that no sequential run has this outcome. Without a gap it prints that every store buffer outcome
@@ -29,25 +24,6 @@ The status is 0 for an answer, 1 for a refusal (docs/formats.md explains each), 
 command line or this help.
 
 Example: fencer why --html SB.html examples/SB.litmus";
-
-const DOT_HELP: &str = "Write the candidate execution of each run there, as graphs for Graphviz";
-
-pub const HTML_HELP: &str = "Write a page there, to step through the runs in a browser";
-
-pub fn why_command<'a>(alloc: Global) -> Result<Command<'a>, AllocError>
-    ensures { IfOk result (IsBuiltAs why_app) }
-{
-    described_command(alloc, "why", FIRST, LAST)
-        .arg(file_arg(alloc, "costs", COSTS_HELP))?
-        .arg(workers_arg(alloc))?
-        .arg(file_arg(alloc, "dot", DOT_HELP))?
-        .arg(file_arg(alloc, "html", HTML_HELP))?
-        .arg(observed_arg(alloc))?
-        .arg(condition_arg(alloc))?
-        .arg(json_arg(alloc))?
-        .arg(progress_arg(alloc))?
-        .arg(litmus_arg(alloc))
-}
 
 pub fn why_job(alloc: Global, matches: &ArgMatches<'_>) -> Result<Job, AllocError>
     ensures { IfOk result (IsJobOf (codes "why") (rows_of (found_of matches.now))) }

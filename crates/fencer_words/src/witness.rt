@@ -1,27 +1,20 @@
 //! `witness [--model MODEL] [--not] [--fences T:K,..] [--dot FILE] [--html FILE] [--json] LITMUS`
 
-ghost use Rattle.std.specs.Prelude.{◌≡◌, false, IfNone, IfOk, IfSome, codes};
-ghost use Rattle.clap.specs.Words.{first_of, found_of, rows_of, rule_of};
-ghost use Rattle.fencer_words.specs.CommandLines.{fences_rule, witness_app, IsJobOf, LacksPlaces};
-ghost use Rattle.fencer_words.specs.Commands.{IsBuiltAs};
+ghost use Rattle.std.specs.Prelude.{IfNone, IfOk, IfSome, codes};
+ghost use Rattle.clap.specs.Words.{first_of, found_of, rows_of};
+ghost use Rattle.fencer_words.specs.CommandLines.{IsJobOf, LacksPlaces};
 ghost use Rattle.fencer_words.specs.Places.{AreGivenPlaces};
 
-use crate::arguments::{
-    described_command, flag_arg, is_flagged, json_arg, litmus_arg, model_arg, model_in, named_arg,
-    text_given, text_in, value_of,
-};
+use crate::arguments::{is_flagged, model_in, text_given, text_in, value_of};
 use crate::fences::places_of;
 use crate::job::{Job, WitnessQuery};
-use crate::place::file_arg;
-use crate::trace::DOT_HELP;
-use crate::why::HTML_HELP;
-use clap::{Arg, ArgMatches, Command};
+use clap::ArgMatches;
 use std::alloc::{AllocError, Global};
 
-const FIRST: &str =
+pub const FIRST: &str =
     "Shows a run whose outcome meets the condition's formula, or that there is none";
 
-const LAST: &str = "\
+pub const LAST: &str = "\
 Prints `run LABEL ..`, the run as a table, `outcome: ..` and `passed T:K ..`, as `fencer trace`
 does of these labels; or `No run meets the condition.`, with --not `Every run meets the condition.`
 The formula alone counts: for `~exists` the run is what must not happen.
@@ -30,32 +23,6 @@ The status is 0 for an answer, 1 for a refusal (docs/formats.md explains each), 
 command line or this help.
 
 Example: fencer witness --fences 0:1 examples/SB.litmus";
-
-const NOT_HELP: &str = "Show a run whose outcome does not meet the formula";
-
-const FENCES_HELP: &str =
-    "Put an MFENCE in each of these gaps, as 0:1,1:1; `fencer gaps` lists them";
-
-/// `--fences T:K,..`
-fn fences_arg<'a>(alloc: Global) -> Arg<'a>
-    ensures rule { rule_of result ≡ fences_rule }
-    ensures own { result.global ≡ false }
-{
-    named_arg(alloc, "fences", "T:K,..", FENCES_HELP).long("fences")
-}
-
-pub fn witness_command<'a>(alloc: Global, models: &'a [&'a str]) -> Result<Command<'a>, AllocError>
-    ensures { IfOk result (IsBuiltAs (witness_app models.entry)) }
-{
-    described_command(alloc, "witness", FIRST, LAST)
-        .arg(model_arg(alloc, models))?
-        .arg(flag_arg(alloc, "not", NOT_HELP))?
-        .arg(fences_arg(alloc))?
-        .arg(file_arg(alloc, "dot", DOT_HELP))?
-        .arg(file_arg(alloc, "html", HTML_HELP))?
-        .arg(json_arg(alloc))?
-        .arg(litmus_arg(alloc))
-}
 
 /// The places of the gaps to be fenced. `None` where the value is no list of places.
 fn fences_in(alloc: Global, matches: &ArgMatches<'_>) -> Result<Option<Vec<(u8, u8)>>, AllocError>

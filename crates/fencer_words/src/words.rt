@@ -3,19 +3,21 @@
 ghost use Rattle.std.specs.Prelude.{◌≡◌, ◌⊎◌, true, false, Contains, IfErr, IfOk, IfNone, IfSome, OnOk, map, string_bytes};
 ghost use Rattle.clap.specs.Words.{found_of, kind_of, rows_of};
 ghost use Rattle.fencer_words.specs.CommandFiles.{files_of, has_clash};
-ghost use Rattle.fencer_words.specs.CommandLines.{asks_twice, command_names, AreModels, AsksFor, IsJobOf, IsNoCommand, LacksPlaces, Names};
-ghost use Rattle.fencer_words.specs.Commands.{IsFencerCommand, IsJobMet, MeetsNoJob};
+ghost use Rattle.fencer_words.specs.CommandLines.{asks_twice, command_names, commands_app, AreModels, AsksFor, IsJobOf, IsNoCommand, LacksPlaces, Names};
+ghost use Rattle.fencer_words.specs.Commands.{IsBuiltAs, IsFencerCommand, IsJobMet, MeetsNoJob};
 
-use crate::arguments::{described_command, is_flagged};
+use crate::arguments::is_flagged;
 use crate::files::{files_of, has_clash};
-use crate::gaps::{gaps_command, gaps_job};
+use crate::form::{Form, described_command};
+use crate::gaps::gaps_job;
 use crate::job::Job;
-use crate::outcomes::{outcomes_command, outcomes_job};
-use crate::place::{place_command, place_job};
-use crate::replay::{replay_command, replay_job};
-use crate::trace::{trace_command, trace_job};
-use crate::why::{why_command, why_job};
-use crate::witness::{witness_command, witness_job};
+use crate::outcomes::outcomes_job;
+use crate::parameter::Models;
+use crate::place::place_job;
+use crate::replay::replay_job;
+use crate::trace::trace_job;
+use crate::why::why_job;
+use crate::witness::witness_job;
 use clap::error::ErrorKind;
 use clap::{ArgMatches, Command, Error};
 use std::alloc::{AllocError, Global};
@@ -51,23 +53,29 @@ fn model_names<'a>() -> &'a [&'a str]
     MODELS.as_slice()
 }
 
-/// The command line.
-fn command<'a>(alloc: Global) -> Result<Command<'a>, AllocError>
-    ensures { IfOk result IsFencerCommand }
+/// The command line without a command.
+fn commands<'a>(alloc: Global) -> Result<Command<'a>, AllocError>
+    ensures { IfOk result (IsBuiltAs commands_app) }
 {
-    let models = model_names();
     described_command(alloc, "fencer", FIRST, LAST)
         .no_binary_name(true)
         .subcommand_required(true)
         .disable_help_subcommand(true)
-        .bin_name("fencer")?
-        .subcommand(replay_command(alloc, models)?)?
-        .subcommand(outcomes_command(alloc, models)?)?
-        .subcommand(place_command(alloc)?)?
-        .subcommand(trace_command(alloc, models)?)?
-        .subcommand(why_command(alloc)?)?
-        .subcommand(gaps_command(alloc)?)?
-        .subcommand(witness_command(alloc, models)?)
+        .bin_name("fencer")
+}
+
+/// The command line.
+fn command<'a>(alloc: Global) -> Result<Command<'a>, AllocError>
+    ensures { IfOk result IsFencerCommand }
+{
+    let models = Models {
+        names: model_names(),
+    };
+    let mut command = commands(alloc)?;
+    for form in Form::all() {
+        command = command.subcommand(form.command(alloc, models)?)?;
+    }
+    Ok(command)
 }
 
 /// The job of the command of this name, where there is such a command and its fences are at places.

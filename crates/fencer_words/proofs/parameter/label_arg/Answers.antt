@@ -1,7 +1,7 @@
 use Rattle.std.proofs.Common.{rules, ◌≡◌, Some}
 use Rattle.clap.specs.Lexer.{usize_max}
 use Rattle.fencer_words.proofs.Rules.{label_rule_of}
-use Rattle.fencer_words.proofs.replay.label_arg.Goals as goal
+use Rattle.fencer_words.proofs.parameter.label_arg.Goals as goal
 
 pub returns-clause-rule : goal.returns-clause-rule
 returns-clause-rule c =

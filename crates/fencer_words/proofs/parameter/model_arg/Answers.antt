@@ -1,7 +1,7 @@
 use Rattle.std.proofs.Common.{rules, ◌≡◌, Some}
 use Rattle.clap.specs.declared.builder.value_parser.ValueParser.TheVariants.{Names}
 use Rattle.fencer_words.proofs.Rules.{model_rule_of}
-use Rattle.fencer_words.proofs.arguments.model_arg.Goals as goal
+use Rattle.fencer_words.proofs.parameter.model_arg.Goals as goal
 
 pub returns-clause-rule : goal.returns-clause-rule
 returns-clause-rule c =

@@ -1,6 +1,6 @@
 use Rattle.std.proofs.Common.{ap, ◌∙◌}
 use Rattle.fencer_words.proofs.Vocabulary.{app_of_fields, Command, Command-F}
-use Rattle.fencer_words.proofs.arguments.described_command.Goals as goal
+use Rattle.fencer_words.proofs.form.described_command.Goals as goal
 
 pub returns-clause-app : goal.returns-clause-app
 returns-clause-app c = ap app_of_fields c.after_help.ensures ∙ ap app_of_fields c.about.ensures ∙ c.new.ensures.app

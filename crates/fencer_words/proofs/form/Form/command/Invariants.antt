@@ -1,0 +1,10 @@
+use Rattle.std.proofs.Common.{take}
+use Rattle.std.specs.Prelude.{fold}
+use Rattle.clap.specs.Words.{new_app}
+use Rattle.fencer_words.specs.CommandLines.{name_of_form, with_parameter}
+use Rattle.fencer_words.specs.Commands.{IsBuiltAs}
+use Rattle.fencer_words.proofs.form.Form.command.Given as goal
+
+-- the command has the parameters so far
+abbrev pub invariant-loop-parameter : goal.invariant-loop-parameter
+invariant-loop-parameter l = IsBuiltAs (fold (with_parameter l.models.names) (new_app (name_of_form l.fn.self)) (take l.parameter-index l.parameter-items)) l.command

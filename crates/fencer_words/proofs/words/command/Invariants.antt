@@ -1,0 +1,9 @@
+use Rattle.std.proofs.Common.{take}
+use Rattle.std.specs.Prelude.{fold}
+use Rattle.fencer_words.specs.CommandLines.{commands_app, with_form}
+use Rattle.fencer_words.specs.Commands.{IsBuiltAs}
+use Rattle.fencer_words.proofs.words.command.Given as goal
+
+-- the command line has the commands so far
+abbrev pub invariant-loop-form : goal.invariant-loop-form
+invariant-loop-form l = IsBuiltAs (fold (with_form l.models.names) commands_app (take l.form-index l.form-items)) l.command

@@ -1,0 +1,189 @@
+//! The parameters of commands: as what `clap` reads each of them, and what help says of it.
+
+ghost use Rattle.std.specs.Prelude.{◌≡◌, false};
+ghost use Rattle.clap.specs.Words.{rule_of};
+ghost use Rattle.fencer_words.specs.CommandLines.{flag_rule, label_rule, litmus_rule, model_rule, named_rule, rule_of_parameter, value_rule, workers_rule};
+
+use clap::builder::ValueParser;
+use clap::{Arg, ArgAction};
+use std::alloc::Global;
+use tso_program::MAX_WORKERS;
+
+const CERTIFICATE_HELP: &str = "Write the certificate there, for fencecheck";
+
+const CHECK_ANSWER_HELP: &str = "Return status 3 where the program needs a fence";
+
+const CHECK_LIST_HELP: &str = "Return status 3 where the condition fails";
+
+const CONDITION_HELP: &str = "Compare only whether an outcome meets the condition's formula";
+
+const COSTS_HELP: &str = "Read what gaps cost, in lines like `0:1 5`; without a line a gap costs 1";
+
+const FENCES_HELP: &str =
+    "Put an MFENCE in each of these gaps, as 0:1,1:1; `fencer gaps` lists them";
+
+const GRAPH_HELP: &str = "Write the run's candidate execution there, as a graph for Graphviz";
+
+const GRAPHS_HELP: &str = "Write the candidate execution of each run there, as graphs for Graphviz";
+
+const JSON_HELP: &str = "Print a JSON document in place of the text";
+
+const LABEL_HELP: &str =
+    "e0: thread 0 executes an instruction; f0: its oldest waiting store reaches memory";
+
+const LITMUS_HELP: &str = "The litmus file, or - for standard input";
+
+const NOT_HELP: &str = "Show a run whose outcome does not meet the formula";
+
+const OBSERVED_HELP: &str = "Compare outcomes by what the condition and `locations` name alone";
+
+const OUTPUT_HELP: &str = "Write the program with its fences there, as a litmus file";
+
+const PAGE_HELP: &str = "Write a page there, to step through the runs in a browser";
+
+const PROGRESS_HELP: &str = "Report progress on standard error, as long searches do on a terminal";
+
+const RUNS_HELP: &str = "Print after each outcome a run that leaves it";
+
+const TEMPLATE_HELP: &str = "Print a cost file of all gaps instead; a gap costs 1 without --costs";
+
+/// The names of the models.
+#[derive(Clone, Copy)]
+pub struct Models<'a> {
+    pub names: &'a [&'a str],
+}
+
+/// A parameter of a command.
+#[derive(Clone, Copy, Debug)]
+pub enum Parameter {
+    Certificate,
+    /// `--check` of a placement.
+    CheckAnswer,
+    /// `--check` of a list of outcomes.
+    CheckList,
+    Condition,
+    Costs,
+    Fences,
+    /// `--dot` of one run.
+    Graph,
+    /// `--dot` of several runs.
+    Graphs,
+    Json,
+    Labels,
+    Litmus,
+    Model,
+    Not,
+    Observed,
+    Output,
+    /// `--html`
+    Page,
+    Progress,
+    Runs,
+    Template,
+    Workers,
+}
+
+impl Parameter {
+    /// As what `clap` reads it, where the models have these names.
+    pub fn argument<'a>(self, alloc: Global, models: Models<'a>) -> Arg<'a>
+        ensures rule { rule_of result ≡ rule_of_parameter models.entry.names self }
+        ensures own { result.global ≡ false }
+    {
+        match self {
+            Parameter::Certificate => file_arg(alloc, "certificate", CERTIFICATE_HELP),
+            Parameter::CheckAnswer => flag_arg(alloc, "check", CHECK_ANSWER_HELP),
+            Parameter::CheckList => flag_arg(alloc, "check", CHECK_LIST_HELP),
+            Parameter::Condition => flag_arg(alloc, "condition", CONDITION_HELP),
+            Parameter::Costs => file_arg(alloc, "costs", COSTS_HELP),
+            Parameter::Fences => value_arg(alloc, "fences", "T:K,..", FENCES_HELP),
+            Parameter::Graph => file_arg(alloc, "dot", GRAPH_HELP),
+            Parameter::Graphs => file_arg(alloc, "dot", GRAPHS_HELP),
+            Parameter::Json => flag_arg(alloc, "json", JSON_HELP),
+            Parameter::Labels => label_arg(alloc),
+            Parameter::Litmus => litmus_arg(alloc),
+            Parameter::Model => model_arg(alloc, models.names),
+            Parameter::Not => flag_arg(alloc, "not", NOT_HELP),
+            Parameter::Observed => flag_arg(alloc, "observed", OBSERVED_HELP),
+            Parameter::Output => file_arg(alloc, "output", OUTPUT_HELP),
+            Parameter::Page => file_arg(alloc, "html", PAGE_HELP),
+            Parameter::Progress => flag_arg(alloc, "progress", PROGRESS_HELP),
+            Parameter::Runs => flag_arg(alloc, "runs", RUNS_HELP),
+            Parameter::Template => flag_arg(alloc, "template", TEMPLATE_HELP),
+            Parameter::Workers => workers_arg(alloc),
+        }
+    }
+}
+
+/// An argument, with what help calls its value and says of it.
+fn named_arg<'a>(alloc: Global, id: &'a str, value: &'a str, help: &'a str) -> Arg<'a>
+    ensures rule { rule_of result ≡ named_rule id.entry.now }
+    ensures own { result.global ≡ false }
+{
+    Arg::new(alloc, id).value_name(value).help(help)
+}
+
+/// `--NAME VALUE`
+fn value_arg<'a>(alloc: Global, name: &'a str, value: &'a str, help: &'a str) -> Arg<'a>
+    ensures rule { rule_of result ≡ value_rule name.entry.now }
+    ensures own { result.global ≡ false }
+{
+    named_arg(alloc, name, value, help).long(name)
+}
+
+/// `--NAME FILE`
+fn file_arg<'a>(alloc: Global, name: &'a str, help: &'a str) -> Arg<'a>
+    ensures rule { rule_of result ≡ value_rule name.entry.now }
+    ensures own { result.global ≡ false }
+{
+    value_arg(alloc, name, "FILE", help)
+}
+
+/// `--NAME`
+fn flag_arg<'a>(alloc: Global, name: &'a str, help: &'a str) -> Arg<'a>
+    ensures rule { rule_of result ≡ flag_rule name.entry.now }
+    ensures own { result.global ≡ false }
+{
+    Arg::new(alloc, name)
+        .help(help)
+        .long(name)
+        .action(ArgAction::SetTrue)
+}
+
+/// `--model MODEL`, of models with these names.
+fn model_arg<'a>(alloc: Global, names: &'a [&'a str]) -> Arg<'a>
+    ensures rule { rule_of result ≡ model_rule names.entry }
+    ensures own { result.global ≡ false }
+{
+    named_arg(alloc, "model", "MODEL", "The machine")
+        .long("model")
+        .value_parser(names)
+        .default_value("buffered")
+}
+
+/// `--workers N`
+fn workers_arg<'a>(alloc: Global) -> Arg<'a>
+    ensures rule { rule_of result ≡ workers_rule }
+    ensures own { result.global ≡ false }
+{
+    value_arg(alloc, "workers", "N", "How many workers search, 1 to 32")
+        .value_parser(ValueParser::unsigned(1, MAX_WORKERS as u64))
+        .default_value("1")
+}
+
+/// `LITMUS`
+fn litmus_arg<'a>(alloc: Global) -> Arg<'a>
+    ensures rule { rule_of result ≡ litmus_rule }
+    ensures own { result.global ≡ false }
+{
+    named_arg(alloc, "litmus", "LITMUS", LITMUS_HELP).required(true)
+}
+
+/// `[LABEL..]`
+fn label_arg<'a>(alloc: Global) -> Arg<'a>
+    ensures rule { rule_of result ≡ label_rule }
+    ensures own { result.global ≡ false }
+{
+    named_arg(alloc, "label", "LABEL", LABEL_HELP)
+        .num_args(0..)
+        .action(ArgAction::Append)
+}
