@@ -5,7 +5,7 @@ use Rattle.std.proofs.lemmas.Str.Ascii.{IsAscii-nil, IsAscii-cons}
 use Rattle.std.proofs.lemmas.Fmt.{IsAscii-decimal}
 use Rattle.std.proofs.lemmas.Bool.Decides.{nat_tests}
 use Rattle.canonical_text.proofs.Vocabulary.{list_all, IsAscii-append, Mark, Tok, Word, Number, Sign, NoToken, heading}
-use Rattle.litmus_reader.specs.Mark.TheVariants.{OpenBrace, CloseBrace, OpenBracket, CloseBracket, OpenParen, CloseParen, Semicolon, Bar, Colon, Equals, Comma, Dollar, Tilde, And, Or}
+use Rattle.litmus_reader.specs.Mark.TheVariants.{And, Or}
 use Rattle.litmus_reader.specs.Bytes.{is_white_space, is_word_byte}
 use Rattle.litmus_reader.specs.Marks.{mark_text}
 use Rattle.litmus_reader.specs.Pieces.{Piece, Space, Part, token_text, text_of, CanStand, AreApartBefore}
@@ -34,21 +34,9 @@ two : (b c : ℕ) → b < 128 → c < 128 → IsAscii (b ∷ c ∷ [])
 two b c h g = IsAscii-cons b (c ∷ []) h (one c g)
 
 ascii_mark : (m : Mark) → IsAscii (mark_text m)
-ascii_mark OpenBrace = one 123 (omega arith)
-ascii_mark CloseBrace = one 125 (omega arith)
-ascii_mark OpenBracket = one 91 (omega arith)
-ascii_mark CloseBracket = one 93 (omega arith)
-ascii_mark OpenParen = one 40 (omega arith)
-ascii_mark CloseParen = one 41 (omega arith)
-ascii_mark Semicolon = one 59 (omega arith)
-ascii_mark Bar = one 124 (omega arith)
-ascii_mark Colon = one 58 (omega arith)
-ascii_mark Equals = one 61 (omega arith)
-ascii_mark Comma = one 44 (omega arith)
-ascii_mark Dollar = one 36 (omega arith)
-ascii_mark Tilde = one 126 (omega arith)
 ascii_mark And = two 47 92 (omega arith) (omega arith)
 ascii_mark Or = two 92 47 (omega arith) (omega arith)
+ascii_mark m = one _ (omega arith)
 
 ascii_token : (t : Tok) (rest : List ℕ) → CanStand t rest → IsAscii (token_text t)
 ascii_token (Word w) rest h = ascii_by is_word_byte small_word_byte w h.0.1

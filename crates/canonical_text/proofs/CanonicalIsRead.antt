@@ -151,8 +151,7 @@ module _ (b : BodyView) (e : EndingView) (f : Tree Said) (text : IsGoodText b e 
   label_count = same_labels_count gaps 0 (all_labels b) ∙ length-map-range_with_len (thread_labels b.rows) 0 b.threads ∙ sym count
 
   same_labels : labels ≡ all_labels body
-  same_labels =
-      fill_by_all (thread_labels body.rows) labels (length threads) [] label_count (λ t lt. sym (own_again t lt))
+  same_labels = fill_by_all (thread_labels body.rows) labels (length threads) [] label_count (λ t lt. sym (own_again t lt))
 
   no_cell : (rows : List (List CellView)) (t : ℕ) → AllByRecursion (IsPrintableRow (length threads)) rows → length threads ≤ t → column rows t ≡ []
   no_cell [] t h le = refl

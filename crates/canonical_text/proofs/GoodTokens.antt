@@ -1,7 +1,7 @@
 -- What the tokens of a text say can be printed.
-use Rattle.std.proofs.Common.{◌≡◌, ℕ, ◌+◌, true, false, List, [], ◌∷◌, map, Option, Some, None, inl, inr, sym, subst}
+use Rattle.std.proofs.Common.{◌≡◌, ℕ, ◌+◌, true, List, [], ◌∷◌, map, Option, Some, None, inl, inr, sym, subst}
 use Rattle.std.proofs.lemmas.List.Elements.{recursion_from_All}
-use Rattle.canonical_text.proofs.Vocabulary.{AllByRecursion, Mark, Tok, Word, Number, Sign, NoToken, Reg, Quantifier, Exists, NotExists, Forall, column_name, PlaceView, Location, Register, EntryView}
+use Rattle.canonical_text.proofs.Vocabulary.{AllByRecursion, Mark, Tok, Word, Number, Sign, NoToken, Reg, Quantifier, NotExists, column_name, PlaceView, Location, Register, EntryView}
 use Rattle.canonical_text.proofs.Vocabulary.{CodeView, LoadImm, Copy, Load, StoreImm, Store, Xchg, Fence, CmpImm, CmpReg, Je, Jne, Jmp, CellView, BodyView, SignView, Atom, Const, Not, And, Or, Open}
 use Rattle.canonical_text.proofs.Vocabulary.{Close, EndingView, ◌▸◌, mark, number, Items, end, item, IsTextNumber, IsLocationName, IsLabelName, IsPrintablePlace, IsPrintableEntry, IsPrintableCode}
 use Rattle.canonical_text.proofs.Vocabulary.{IsPrintableContent, IsPrintableCell, IsPrintableRow, IsPrintableSign}
@@ -139,8 +139,7 @@ after_content None ts rest h good = (tt, subst AreGood h.0 good)
 after_content (Some c) ts rest h good = after_code c ts rest h.0 good
 
 after_label : (l : List ℕ) (ts rest : List Tok) → IsLabelMark l ts rest → AreGood ts → IsLabelName l × AreGood rest
-after_label l ts rest (may, (us, named, colon)) good =
-    let first = after_word l ts us named good in ((first.0, may), after_mark the.Colon us rest colon first.1)
+after_label l ts rest (may, (us, named, colon)) good = let first = after_word l ts us named good in ((first.0, may), after_mark the.Colon us rest colon first.1)
 
 after_labels : (ls : List (List ℕ)) (c : Option CodeView) (ts rest : List Tok) → Items IsLabelMark (IsContent c) ls ts rest → AreGood ts → (AllByRecursion IsLabelName ls × IsPrintableContent c) × AreGood rest
 after_labels [] c ts rest (end h) good = let last' = after_content c ts rest h good in ((tt, last'.0), last'.1)
@@ -204,9 +203,8 @@ after_observed threads ps ts rest (inl (us, locations, (vs, open', places))) goo
 after_observed threads ps ts rest (inr (none', there)) good = (subst (λ (qs : List PlaceView). AllByRecursion (IsPrintablePlace threads) qs) (sym none') tt, subst AreGood there.0 good)
 
 after_quantifier : (q : Quantifier) (ts rest : List Tok) → IsQuantifier q ts rest → AreGood ts → AreGood rest
-after_quantifier Exists ts rest h good = (after_word _ ts rest h good).1
 after_quantifier NotExists ts rest (us, tilde, exists') good = (after_word _ us rest exists' (after_mark the.Tilde ts us tilde good)).1
-after_quantifier Forall ts rest h good = (after_word _ ts rest h good).1
+after_quantifier q ts rest h good = (after_word _ ts rest h good).1
 
 after_not : (ts rest : List Tok) → IsSign 0 Not ts rest → AreGood ts → AreGood rest
 after_not ts rest (inl h) good = (after_word _ ts rest h good).1
@@ -214,13 +212,13 @@ after_not ts rest (inr h) good = after_mark the.Tilde ts rest h good
 
 after_sign : (threads : ℕ) (s : SignView) (ts rest : List Tok) → IsSign threads s ts rest → AreGood ts → IsPrintableSign threads s × AreGood rest
 after_sign threads (Atom p n) ts rest h good = after_valued threads p n ts rest h.1 h.0 good
-after_sign threads (Const true) ts rest h good = (tt, (after_word _ ts rest h good).1)
-after_sign threads (Const false) ts rest h good = (tt, (after_word _ ts rest h good).1)
 after_sign threads Not ts rest h good = (tt, after_not ts rest h good)
 after_sign threads And ts rest h good = (tt, after_mark the.And ts rest h good)
 after_sign threads Or ts rest h good = (tt, after_mark the.Or ts rest h good)
 after_sign threads Open ts rest h good = (tt, after_mark the.OpenParen ts rest h good)
 after_sign threads Close ts rest h good = (tt, after_mark the.CloseParen ts rest h good)
+after_sign threads (Const true) ts rest h good = (tt, (after_word _ ts rest h good).1)
+after_sign threads s ts rest h good = (tt, (after_word _ ts rest h good).1)
 
 after_signs : (threads : ℕ) (ss : List SignView) (ts rest : List Tok) → Items (IsSign threads) the_end ss ts rest → AreGood ts → AllByRecursion (IsPrintableSign threads) ss
 after_signs threads [] ts rest (end h) good = tt

@@ -1,6 +1,6 @@
 -- A loop's step where pieces are put together.
 use Rattle.std.proofs.Common.{◌≡◌, ℕ, ◌+◌, ◌<◌, ◌≤◌, List, [], ◌∷◌, ◌++◌, length, take, get_or, map, refl, sym, ap, ◌∙◌, arith, append_assoc}
-use Rattle.std.proofs.lemmas.List.{take_more, map_more, map_push, flat_map_more, length-map, length-take}
+use Rattle.std.proofs.lemmas.List.{take_more, map_more, flat_map_more, length-map, length-take}
 use Rattle.std.proofs.lemmas.List.Folds.{flat_map-map}
 use Rattle.canonical_text.proofs.Vocabulary.{flat_map, range_with_len, join_with_byte, Vec, map-range_with_len_more, texts}
 
@@ -33,12 +33,3 @@ join_first items i d lt none =
     let text : Vec ℕ → List ℕ = λ k. k.items in
     let first : i ≡ 0 = omega arith in
     ap (join_with_byte 32) (map_more text items i d lt) ∙ rw first refl
-
--- one more text of a number
-pub texts_more : (olds : List (Vec ℕ)) (k : Vec ℕ) (bs : List (List ℕ)) (f : ℕ → List ℕ) (n : ℕ) → texts olds ≡ bs ++ map f (range_with_len 0 n) → k.items ≡ f n → texts (olds ++ k ∷ []) ≡ bs ++ map f (range_with_len 0 (n + 1))
-texts_more olds k bs f n so_far same =
-    map_push (λ (v : Vec ℕ). v.items) olds k
-    ∙ ap (λ (ts : List (List ℕ)). ts ++ k.items ∷ []) so_far
-    ∙ ap (λ (t : List ℕ). (bs ++ map f (range_with_len 0 n)) ++ t ∷ []) same
-    ∙ append_assoc bs (map f (range_with_len 0 n)) (f n ∷ [])
-    ∙ ap (λ (ts : List (List ℕ)). bs ++ ts) (sym (map-range_with_len_more f 0 n n (omega arith)))

@@ -1,9 +1,10 @@
 -- Labels of a position, and where they lie among fenced instructions.
-use Rattle.std.proofs.Common.{◌≡◌, ◌≢◌, ℕ, zero, suc, ◌+◌, ◌<◌, ◌≤◌, ◌==◌, Bool, true, false, List, [], ◌∷◌, ◌++◌, length, take, drop, get_or, map, Option, Some, None, refl, sym, ap, ◌∙◌, inl, inr, arith}
+use Rattle.std.proofs.Common.{◌≡◌, ◌≢◌, ℕ, zero, suc, ◌+◌, ◌<◌, ◌≤◌, ◌==◌, Bool, true, false, List, [], ◌∷◌, ◌++◌, length, take, get_or, map, Option, Some, None, refl, sym, ap, ◌∙◌, inl, inr, arith}
 use Rattle.std.specs.Bool.{Decides}
 use Rattle.std.proofs.lemmas.Bool.Decides.{Decides-eqb, same_from_decides}
-use Rattle.canonical_text.proofs.Vocabulary.{if◌then◌else◌, cons_option, option_to_list, cases_lt, append-nil, take_more, drop_more, filter_map-append, Gaps, place_of, rises, Label, named_at}
+use Rattle.canonical_text.proofs.Vocabulary.{if◌then◌else◌, cons_option, option_to_list, cases_lt, append-nil, take_more, filter_map-append, Gaps, place_of, rises, Label, named_at}
 use Rattle.canonical_text.proofs.Vocabulary.{label_names_at, own_labels, moved_label, moved_labels}
+use Rattle.std.proofs.lemmas.Bool.{false_from_ne_true as not_true}
 
 -- ---- places of a fenced thread
 
@@ -46,15 +47,8 @@ labels_more labels i k d lt =
     alone (Some x) = refl
     alone None = refl
 
-pub labels_left : (labels : List Label) (i k : ℕ) (d : Label) → i < length labels → label_names_at (drop i labels) k ≡ cons_option (named_at k (get_or labels i d)) (label_names_at (drop (i + 1) labels) k)
-labels_left labels i k d lt = ap (λ (ls : List Label). label_names_at ls k) (drop_more labels i d lt)
-
 pub here : (k : ℕ) (l : Label) → l.position ≡ k → named_at k l ≡ Some l.name
 here k l e = ap (λ (b : Bool). if b then Some l.name else None) ((Decides-eqb l.position k).1 e)
-
-not_true : (b : Bool) → (b ≡ true → ⊥) → b ≡ false
-not_true true h = absurd (h refl)
-not_true false h = refl
 
 pub elsewhere : (k : ℕ) (l : Label) → (l.position ≡ k → ⊥) → named_at k l ≡ None
 elsewhere k l other = ap (λ (b : Bool). if b then Some l.name else None) (not_true (l.position == k) (λ t. other ((Decides-eqb l.position k).0 t)))
@@ -69,17 +63,6 @@ pub label_elsewhere : (labels : List Label) (i k : ℕ) (l : Label) → i < leng
 label_elsewhere labels i k l lt is other =
     labels_more labels i k l lt ∙ ap (λ (m : Label). label_names_at (take i labels) k ++ option_to_list (named_at k m)) (sym is)
     ∙ ap (λ (o : Option (List ℕ)). label_names_at (take i labels) k ++ option_to_list o) (elsewhere k l other) ∙ append-nil (label_names_at (take i labels) k)
-
--- the label that comes first of those that are left
-pub left_here : (labels : List Label) (i k : ℕ) (l : Label) → i < length labels → l ≡ get_or labels i l → l.position ≡ k → label_names_at (drop i labels) k ≡ l.name ∷ label_names_at (drop (i + 1) labels) k
-left_here labels i k l lt is e =
-    labels_left labels i k l lt ∙ ap (λ (m : Label). cons_option (named_at k m) (label_names_at (drop (i + 1) labels) k)) (sym is)
-    ∙ ap (λ (o : Option (List ℕ)). cons_option o (label_names_at (drop (i + 1) labels) k)) (here k l e)
-
-pub left_elsewhere : (labels : List Label) (i k : ℕ) (l : Label) → i < length labels → l ≡ get_or labels i l → (l.position ≡ k → ⊥) → label_names_at (drop i labels) k ≡ label_names_at (drop (i + 1) labels) k
-left_elsewhere labels i k l lt is other =
-    labels_left labels i k l lt ∙ ap (λ (m : Label). cons_option (named_at k m) (label_names_at (drop (i + 1) labels) k)) (sym is)
-    ∙ ap (λ (o : Option (List ℕ)). cons_option o (label_names_at (drop (i + 1) labels) k)) (elsewhere k l other)
 
 -- ---- labels that are moved
 

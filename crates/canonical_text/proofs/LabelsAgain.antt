@@ -1,8 +1,8 @@
 -- The labels of the canonical rows are the labels.
 use Rattle.std.proofs.Common.{◌≡◌, ℕ, ◌+◌, ◌<◌, ◌≤◌, zero, suc, Bool, true, false, List, [], ◌∷◌, ◌++◌, length, map, Option, Some, None, refl, sym, ap, ◌∙◌, subst, inl, inr, arith}
 use Rattle.canonical_text.proofs.Vocabulary.{slice_get, nat_lt, option_map, option_and_then, if◌then◌else◌, AllByRecursion, flat_map, cons_option, range_with_len, option_map_or, cases_lt}
-use Rattle.canonical_text.proofs.Vocabulary.{slice_get-get_or, slice_get_past, Instr, Thread, code_of, place_of, rises, CodeView, CellView, Label, column, size, labels_behind, thread_labels}
-use Rattle.canonical_text.proofs.Vocabulary.{instruction_of, instruction_in, label_names_at, own_labels, moved_label, code_named, cell_of, row_of, most_cells, rows_of, IsLabelName, IsPrintableCell}
+use Rattle.canonical_text.proofs.Vocabulary.{slice_get-get_or, Instr, Thread, code_of, place_of, rises, CodeView, CellView, Label, column, size, labels_behind, thread_labels}
+use Rattle.canonical_text.proofs.Vocabulary.{instruction_of, label_names_at, own_labels, moved_label, code_named, cell_of, row_of, most_cells, rows_of, IsLabelName, IsPrintableCell}
 use Rattle.canonical_text.proofs.Vocabulary.{IsPrintableRow}
 use Rattle.tso_program.specs.declared.instruction.Instr.TheVariants as instr
 use Rattle.litmus_reader.specs.Meaning as meaning
@@ -110,14 +110,8 @@ module _ (labels : List Label) (code : List Instr) (named : Instr → CodeView) 
       ap (λ (ns : List (List ℕ)). map (λ (l : List ℕ). record { name = l; position = a }) ns ++ flat_map (standing labels) (range_with_len (a + 1) m)) (none_past 0 (length code) a labels order lt)
       ∙ nothing_standing (a + 1) m (omega (arith, lt))
 
-  size_of : Option Instr → ℕ
-  size_of o = option_map_or (λ c. 1) (option_map named o) 0
-
   size_within : (a : ℕ) → a < length code → size (cell a) ≡ 1
   size_within a lt = ap (λ (o : Option Instr). option_map_or (λ c. 1) (option_map named o) 0) (slice_get-get_or code a instr.Fence lt)
-
-  size_past : (a : ℕ) → length code ≤ a → size (cell a) ≡ 0
-  size_past a le = ap (λ (o : Option Instr). option_map_or (λ c. 1) (option_map named o) 0) (slice_get_past code a le)
 
   behind_standing : (a m : ℕ) → a ≤ length code → labels_behind a (map cell (range_with_len a m)) ≡ flat_map (standing labels) (range_with_len a m)
   behind_standing a zero le = refl

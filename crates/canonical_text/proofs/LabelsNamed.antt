@@ -3,6 +3,7 @@ use Rattle.std.proofs.Common.{◌≡◌, ◌≢◌, ℕ, zero, suc, ◌+◌, ◌
 use Rattle.canonical_text.proofs.Vocabulary.{nat_lt, is_some, slice_index_or, AllByRecursion, cons_option, flat_map, range_with_len, option_map_or, bytes_eq, cases_Bool, lt-ltb, Decides-eqb}
 use Rattle.canonical_text.proofs.Vocabulary.{bytes_eq-Decides, IsNoneOf, NoneTwice, Label, label_in, position_in, IsLabelName, named_at, label_names_at, label_name_at}
 use Rattle.canonical_text.proofs.LabelPlaces.{here, elsewhere}
+use Rattle.std.proofs.lemmas.Bool.{both_ways as false_not_true}
 
 abbrev pub label_name : Label → List ℕ
 label_name l = l.name
@@ -12,9 +13,6 @@ abbrev pub SomeAt : List Label → ℕ → Type 0
 SomeAt labels k = 0 < length (label_names_at labels k)
 
 -- ---- the first label of a position
-
-false_not_true : (b : Bool) → b ≡ false → b ≡ true → ⊥
-false_not_true b f t = let e : false ≡ true = sym f ∙ t in cc
 
 -- whether a label stands there, by cases
 at_or_not : (C : Type 0) (k : ℕ) (l : Label) → (l.position ≡ k → C) → ((l.position ≡ k → ⊥) → C) → C
@@ -42,11 +40,7 @@ not_among x (l ∷ labels) k h some =
     (λ other e. not_among x labels k h.1 (subst (λ (ns : List (List ℕ)). 0 < length ns) (at_others l labels k other) some) (e ∙ ap first (at_others l labels k other)))
 
 different : (x y : List ℕ) → x ≢ y → bytes_eq x y ≡ false
-different x y ne =
-    elim (cases_Bool (bytes_eq x y)) [
-      | inl t ↦ absurd (ne ((bytes_eq-Decides x y).0 t))
-      | inr f ↦ f
-    ]
+different x y ne = elim (cases_Bool (bytes_eq x y)) [ inl t ↦ absurd (ne ((bytes_eq-Decides x y).0 t)) | inr f ↦ f ]
 
 -- a label of the position
 abbrev StandsAt : ℕ → Option Label → Type 0
@@ -162,8 +156,7 @@ before_more k n m (l ∷ labels) h lt = (omega (arith, h.1), before_more l.posit
 -- none stands past all
 pub none_past : (k n r : ℕ) (labels : List Label) → Ascending k n labels → n < r → label_names_at labels r ≡ []
 none_past k n r [] h lt = refl
-none_past k n r (l ∷ labels) h lt =
-    at_others l labels r (λ e. absurd (omega (arith, e, h.1, lt))) ∙ none_past l.position n r labels h.2 lt
+none_past k n r (l ∷ labels) h lt = at_others l labels r (λ e. absurd (omega (arith, e, h.1, lt))) ∙ none_past l.position n r labels h.2 lt
 
 none_before : (k n r : ℕ) (labels : List Label) → Ascending k n labels → r < k → label_names_at labels r ≡ []
 none_before k n r [] h lt = refl
@@ -178,8 +171,7 @@ abbrev pub standing : List Label → ℕ → List Label
 standing labels r = map (stood r) (label_names_at labels r)
 
 standing_here : (l : Label) (labels : List Label) (r : ℕ) → l.position ≡ r → standing (l ∷ labels) r ≡ l ∷ standing labels r
-standing_here l labels r e =
-    ap (map (stood r)) (at_here l labels r e) ∙ (λ i. record { name = l.name; position = sym e i } ∷ standing labels r)
+standing_here l labels r e = ap (map (stood r)) (at_here l labels r e) ∙ (λ i. record { name = l.name; position = sym e i } ∷ standing labels r)
 
 standing_others : (l : Label) (labels : List Label) (r : ℕ) → (l.position ≡ r → ⊥) → standing (l ∷ labels) r ≡ standing labels r
 standing_others l labels r other = ap (map (stood r)) (at_others l labels r other)

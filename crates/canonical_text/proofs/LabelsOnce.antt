@@ -1,9 +1,11 @@
 -- No label stands twice in a thread: told of all rows at once, and of each thread.
-use Rattle.std.proofs.Common.{◌≡◌, ◌≢◌, ℕ, zero, suc, ◌+◌, ◌<◌, ◌==◌, Bool, true, false, List, [], ◌∷◌, ◌++◌, map, Option, Some, None, refl, sym, ap, ◌∙◌, subst, inl, inr, arith}
+use Rattle.std.proofs.Common.{◌≡◌, ◌≢◌, ℕ, zero, suc, ◌+◌, ◌<◌, ◌==◌, Bool, List, [], ◌∷◌, ◌++◌, map, Option, Some, None, refl, sym, ap, ◌∙◌, subst, inl, inr, arith}
 use Rattle.canonical_text.proofs.Vocabulary.{slice_get, if◌then◌else◌, cons_option, filter_map, flat_map, add-zero, cases_Bool, Decides-eqb, append-nil, map-append, filter_map-append, CellView}
 use Rattle.canonical_text.proofs.Vocabulary.{column, size, labels_behind, thread_labels}
 use Rattle.litmus_syntax.specs.Grammar.{IsNoneOf, NoneTwice, labels_from, row_labels, labels_in_rows}
 use Rattle.canonical_text.proofs.LabelsNamed.{label_name}
+use Rattle.std.proofs.lemmas.Bool.{false_from_ne_true as not_true}
+use Rattle.std.proofs.lemmas.Bool.{both_ways as false_not_true}
 
 -- a label with its thread
 abbrev Owned : Type 0
@@ -17,19 +19,9 @@ own_name t p = if p.0 == t then Some p.1 else None
 abbrev own_names : ℕ → List Owned → List (List ℕ)
 own_names t ps = filter_map (own_name t) ps
 
-false_not_true : (b : Bool) → b ≡ false → b ≡ true → ⊥
-false_not_true b f t = let e : false ≡ true = sym f ∙ t in cc
-
 own_or_not : (C : Type 0) (t : ℕ) (p : Owned) → (p.0 ≡ t → C) → ((p.0 ≡ t → ⊥) → C) → C
 own_or_not C t p same other =
-    elim (cases_Bool (p.0 == t)) [
-      | inl h ↦ same ((Decides-eqb p.0 t).0 h)
-      | inr f ↦ other (λ e. false_not_true (p.0 == t) f ((Decides-eqb p.0 t).1 e))
-    ]
-
-not_true : (b : Bool) → (b ≡ true → ⊥) → b ≡ false
-not_true true h = absurd (h refl)
-not_true false h = refl
+    elim (cases_Bool (p.0 == t)) [ inl h ↦ same ((Decides-eqb p.0 t).0 h) | inr f ↦ other (λ e. false_not_true (p.0 == t) f ((Decides-eqb p.0 t).1 e)) ]
 
 own_here : (t : ℕ) (p : Owned) (ps : List Owned) → p.0 ≡ t → own_names t (p ∷ ps) ≡ p.1 ∷ own_names t ps
 own_here t p ps e = ap (λ (b : Bool). cons_option (if b then Some p.1 else None) (own_names t ps)) ((Decides-eqb p.0 t).1 e)

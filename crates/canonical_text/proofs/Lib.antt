@@ -6,6 +6,7 @@ pub mod LabelsOnce
 pub mod LabelsAgain
 pub mod StoreBuffering
 pub mod WordsWritten
+pub mod PiecesAppended
 pub mod PiecesApart
 pub mod PiecesRelated
 pub mod AsciiTexts

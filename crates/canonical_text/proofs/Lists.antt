@@ -15,10 +15,6 @@ pub all_more_so : {X : Type 0} (P Q : X → Type 0) → ((x : X) → P x → Q x
 all_more_so P Q so [] h = tt
 all_more_so P Q so (x ∷ xs) h = (so x h.0, all_more_so P Q so xs h.1)
 
-pub all_of_map : {X Y : Type 0} (P : Y → Type 0) (f : X → Y) (xs : List X) → AllByRecursion P (map f xs) → AllByRecursion (λ x. P (f x)) xs
-all_of_map P f [] h = tt
-all_of_map P f (x ∷ xs) h = (h.0, all_of_map P f xs h.1)
-
 pub all_of_range : {X : Type 0} (P : X → Type 0) (f : ℕ → X) → ((k : ℕ) → P (f k)) → (a n : ℕ) → AllByRecursion P (map f (range_with_len a n))
 all_of_range P f each a zero = tt
 all_of_range P f each a (suc n) = (each a, all_of_range P f each (a + 1) n)

@@ -1,8 +1,8 @@
 -- What a text names: each name can be printed, and each place that it names is named.
 use Rattle.std.proofs.Common.{◌≡◌, ℕ, ◌+◌, ◌<◌, ◌≤◌, Bool, true, false, cond, ◌||◌, List, [], ◌∷◌, ◌++◌, length, map, fold, get_or, Option, Some, None, refl, sym, ap, ◌∙◌, subst, inl, inr, arith}
 use Rattle.canonical_text.proofs.Vocabulary.{if◌then◌else◌, slice_index_or, AllByRecursion, list_any, find, flat_map, filter_map, option_map_or, bytes_eq, cases_Bool, bytes_eq-Decides}
-use Rattle.canonical_text.proofs.Vocabulary.{list_any-append, get_or-map-range_with_len, Reg, Eax, Ebx, Ecx, Edx, Esi, Edi, PlaceView, Location, Register, EntryView, CodeView, LoadImm, Copy, Load}
-use Rattle.canonical_text.proofs.Vocabulary.{StoreImm, Store, Xchg, Fence, CmpImm, CmpReg, Je, Jne, Jmp, CellView, BodyView, SignView, Atom, Const, Not, And, Or, Open, Close, EndingView, same_place}
+use Rattle.canonical_text.proofs.Vocabulary.{list_any-append, get_or-map-range_with_len, Reg, Eax, PlaceView, Location, Register, EntryView, CodeView, LoadImm, Copy, Load}
+use Rattle.canonical_text.proofs.Vocabulary.{StoreImm, Store, Xchg, CmpImm, CmpReg, CellView, BodyView, SignView, Atom, Const, Not, And, Or, Open, Close, EndingView, same_place}
 use Rattle.canonical_text.proofs.Vocabulary.{all_registers, with_name, code_places, cell_places, cells_places, row_places, sign_places, entry_place, places, location_name, is_register, names_of}
 use Rattle.canonical_text.proofs.Vocabulary.{is_named, first_value, IsTextNumber, IsLocationName, IsPrintablePlace, IsPrintableEntry, IsPrintableCode, IsPrintableContent, IsPrintableCell}
 use Rattle.canonical_text.proofs.Vocabulary.{IsPrintableRow, IsPrintableSign}
@@ -24,12 +24,9 @@ code_places_printable threads t (Load r x) lt h = (lt, (h, tt))
 code_places_printable threads t (StoreImm x n) lt h = (h.0, tt)
 code_places_printable threads t (Store x r) lt h = (h, (lt, tt))
 code_places_printable threads t (Xchg x r) lt h = (h, (lt, tt))
-code_places_printable threads t Fence lt h = tt
 code_places_printable threads t (CmpImm r n) lt h = (lt, tt)
 code_places_printable threads t (CmpReg r s) lt h = (lt, (lt, tt))
-code_places_printable threads t (Je l) lt h = tt
-code_places_printable threads t (Jne l) lt h = tt
-code_places_printable threads t (Jmp l) lt h = tt
+code_places_printable threads t c lt h = tt
 
 content_places_printable : (threads t : ℕ) (c : Option CodeView) → t < threads → IsPrintableContent c → AllByRecursion (IsPrintablePlace threads) (option_map_or (code_places t) c [])
 content_places_printable threads t None lt h = tt
@@ -83,11 +80,7 @@ names_good threads names (Register t r ∷ ps) h g = names_good threads names ps
 
 at_register : (f : Reg → Bool) (r : Reg) → get_or (map f all_registers) (number r) false ≡ f r
 at_register f Eax = refl
-at_register f Ebx = refl
-at_register f Ecx = refl
-at_register f Edx = refl
-at_register f Esi = refl
-at_register f Edi = refl
+at_register f r = refl
 
 -- those that stand among the places
 pub named_is : (b : BodyView) (e : EndingView) (t : ℕ) (r : Reg) → t < b.threads → is_named (names_of b e) t r ≡ list_any (is_register t r) (places b e)

@@ -61,11 +61,7 @@ location_entries_are held names =
 
 value_of_register : (v : Reg → ℕ) (r : Reg) → slice_index (map v all_registers) (number r) ≡ v r
 value_of_register v Eax = refl
-value_of_register v Ebx = refl
-value_of_register v Ecx = refl
-value_of_register v Edx = refl
-value_of_register v Esi = refl
-value_of_register v Edi = refl
+value_of_register v r = refl
 
 one_entry : (held : PlaceView → ℕ) (p : PlaceView) (n : ℕ) (b : Bool) → n ≡ held p
     → (if b then record { place = p; value = n } ∷ [] else []) ≡ map (entry_at held) (if b then p ∷ [] else [])
@@ -185,7 +181,7 @@ other_names x (y ∷ names) h = (
   other_names x names h.1,
 )
 
-distinct_head : (x : List ℕ) (names : List (List ℕ)) → IsDistinct bytes_eq (x ∷ names) → AllByRecursion (λ y. bytes_eq x y ≡ false) names × IsDistinct bytes_eq names
+pub distinct_head : (x : List ℕ) (names : List (List ℕ)) → IsDistinct bytes_eq (x ∷ names) → AllByRecursion (λ y. bytes_eq x y ≡ false) names × IsDistinct bytes_eq names
 unfolding IsDistinct
 distinct_head x names h = h
 
@@ -289,11 +285,7 @@ among_picked named t r (s ∷ rs) =
 
 each_register : (r : Reg) → list_any (λ s. number s == number r) all_registers ≡ true
 each_register Eax = refl
-each_register Ebx = refl
-each_register Ecx = refl
-each_register Edx = refl
-each_register Esi = refl
-each_register Edi = refl
+each_register r = refl
 
 and_true : (a : Bool) → (a && true) ≡ a
 and_true true = refl
@@ -316,11 +308,7 @@ among_later t r k m (Register u s ∷ ps) lt h =
 
 small_register : (r : Reg) → number r < 6
 small_register Eax = omega arith
-small_register Ebx = omega arith
-small_register Ecx = omega arith
-small_register Edx = omega arith
-small_register Esi = omega arith
-small_register Edi = omega arith
+small_register r = omega arith
 
 -- nor of a later one
 among_earlier : (t : ℕ) (r : Reg) (k m : ℕ) (ps : List PlaceView) → m ≤ 6 * t + number r → Rising k m ps → (k ≤ m) × (list_any (is_register t r) ps ≡ false)

@@ -5,15 +5,11 @@ use Rattle.std.proofs.lemmas.Grind.{fold-append}
 use Rattle.canonical_text.proofs.Vocabulary.{if◌then◌else◌, AllByRecursion, IsDistinct, list_any, filter_map, bytes_eq, cases_Bool, filter_map-append, list_any-append, Reg, PlaceView, Location}
 use Rattle.canonical_text.proofs.Vocabulary.{Register, same_place, same_place_is, location_name, is_register, names_among}
 use Rattle.litmus_reader.specs.Names.{all_registers, with_name, in_order}
-use Rattle.canonical_text.proofs.NamedPlaces.{Named, named_places, threads_places, rising_threads, named_locations, register_among}
+use Rattle.canonical_text.proofs.NamedPlaces.{distinct_head as distinct_parts, Named, named_places, threads_places, rising_threads, named_locations, register_among}
 use Rattle.canonical_text.proofs.ToldCode.{IsKnown}
 use Rattle.canonical_text.proofs.Lists.{range_same}
 
 -- ---- locations
-
-distinct_parts : (x : List ℕ) (names : List (List ℕ)) → IsDistinct bytes_eq (x ∷ names) → AllByRecursion (λ y. bytes_eq x y ≡ false) names × IsDistinct bytes_eq names
-unfolding IsDistinct
-distinct_parts x names h = h
 
 at_middle : (P : List ℕ → Type 0) (xs : List (List ℕ)) (y : List ℕ) (ys : List (List ℕ)) → AllByRecursion P (xs ++ y ∷ ys) → P y
 at_middle P [] y ys h = h.0

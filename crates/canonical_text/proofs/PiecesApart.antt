@@ -8,7 +8,7 @@ use Rattle.canonical_text.proofs.Vocabulary.{IsPrintablePlace, IsPrintableEntry,
 use Rattle.canonical_text.proofs.Vocabulary.{SignsAreApart, ArePrintable, IsPrintableEnding}
 use Rattle.litmus_reader.specs.Comments.{opens}
 use Rattle.litmus_reader.specs.Lexing.{IsWord, NoWordGoesOn}
-use Rattle.litmus_reader.proofs.PieceLaws.{AreApartBefore-append}
+use Rattle.canonical_text.proofs.PiecesAppended.{AreApartBefore-append}
 use Rattle.canonical_text.specs.Spelling.{line_end, next, joined_by, bar, gap, valued_pieces, entry_pieces, initial_pieces, row_end, line_of, column_pieces, header_pieces, code_pieces, label_pieces, cell_pieces, row_pieces, body_pieces, observed_place_pieces, observed_pieces, sign_pieces, condition_pieces, ending_pieces, lines_pieces, sign, space}
 use Rattle.litmus_reader.specs.Mark.TheVariants as the
 use Rattle.canonical_text.proofs.WordsWritten.{mov_word, xchg_word, mfence_word, cmp_word, je_word, jne_word, jmp_word, locations_word, exists_word, forall_word, true_word, false_word, not_word, register_word, column_word}
@@ -161,10 +161,7 @@ NoStar rest = opens (40 ∷ rest) ≡ false
 
 other_byte : (test : ℕ → Bool) → test 42 ≡ false → (b : ℕ) → test b ≡ true → (b == 42) ≡ false
 other_byte test star b h =
-    elim (cases_Bool (b == 42)) [
-      | inl t ↦ let clash : false ≡ true = sym star ∙ ap test (sym ((Decides-eqb b 42).0 t)) ∙ h in cc
-      | inr f ↦ f
-    ]
+    elim (cases_Bool (b == 42)) [ inl t ↦ let clash : false ≡ true = sym star ∙ ap test (sym ((Decides-eqb b 42).0 t)) ∙ h in cc | inr f ↦ f ]
 
 word_first : (w more : List ℕ) → IsWord w → NoStar (w ++ more)
 word_first [] more h = absurd (let clash : is_letter 0 ≡ true = h.0 in cc)
@@ -188,22 +185,14 @@ signs_free threads few (Atom (Register t r) n ∷ ss) rest h free =
     let small : t ≤ 4294967295 = omega (arith, h.0.0, few) in
     rw append_assoc (number_first t _ small)
 signs_free threads few (Const true ∷ ss) rest h free = refl
-signs_free threads few (Const false ∷ ss) rest h free = refl
-signs_free threads few (Not ∷ ss) rest h free = refl
-signs_free threads few (And ∷ ss) rest h free = refl
-signs_free threads few (Or ∷ ss) rest h free = refl
-signs_free threads few (Open ∷ ss) rest h free = refl
-signs_free threads few (Close ∷ ss) rest h free = refl
+signs_free threads few ss rest h free = refl
 
 signs_end : (ss : List SignView) (rest : List ℕ) → begins_with_a_word ss ≡ false → NoWordGoesOn rest → NoWordGoesOn (text_of (flat_map sign_pieces ss) ++ rest)
 signs_end [] rest e free = free
 signs_end (Atom p n ∷ ss) rest e free = cc
 signs_end (Const b ∷ ss) rest e free = cc
 signs_end (Not ∷ ss) rest e free = cc
-signs_end (And ∷ ss) rest e free = refl
-signs_end (Or ∷ ss) rest e free = refl
-signs_end (Open ∷ ss) rest e free = refl
-signs_end (Close ∷ ss) rest e free = refl
+signs_end ss rest e free = refl
 
 signs_apart : (threads : ℕ) → IsTextNumber threads → (ss : List SignView) → AllByRecursion (IsPrintableSign threads) ss → SignsAreApart ss → (rest : List ℕ) → NoWordGoesOn rest → NoStar rest
     → AreApartBefore (flat_map sign_pieces ss) rest

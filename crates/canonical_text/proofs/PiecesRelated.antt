@@ -3,7 +3,7 @@ use Rattle.std.proofs.Common.{◌≡◌, ℕ, ◌+◌, ◌<◌, zero, suc, true,
 use Rattle.std.proofs.lemmas.List.Elements.{All-from_recursion}
 use Rattle.canonical_text.proofs.Vocabulary.{option_to_list, append-nil, AllByRecursion, flat_map, range_with_len, Tok, Sign, Piece, tokens_of, Quantifier, Exists, NotExists, Forall, PlaceView}
 use Rattle.canonical_text.proofs.Vocabulary.{Location, Register, EntryView, CodeView, LoadImm, Copy, Load, StoreImm, Store, Xchg, Fence, CmpImm, CmpReg, Je, Jne, Jmp, CellView, BodyView, SignView}
-use Rattle.canonical_text.proofs.Vocabulary.{Atom, Const, Not, And, Or, Open, Close, EndingView, register_name, IsLabelName, IsPrintablePlace, IsPrintableEntry, IsPrintableCode, IsPrintableContent}
+use Rattle.canonical_text.proofs.Vocabulary.{Atom, Const, Not, EndingView, register_name, IsLabelName, IsPrintablePlace, IsPrintableEntry, IsPrintableCode, IsPrintableContent}
 use Rattle.canonical_text.proofs.Vocabulary.{IsPrintableCell, IsPrintableRow, IsPrintable, IsPrintableSign, ArePrintable, IsPrintableEnding}
 use Rattle.litmus_reader.specs.Mark.TheVariants as the
 use Rattle.litmus_syntax.specs.Words.{mnemonic_of}
@@ -147,8 +147,7 @@ observed_item_related threads p ps h =
 
 no_locations : (q : Quantifier) (ss : List SignView) → begins_with_word (codes "locations") (tokens_of (condition_pieces q ss)) ≡ false
 no_locations Exists ss = refl
-no_locations NotExists ss = refl
-no_locations Forall ss = refl
+no_locations q ss = refl
 
 observed_related : (threads : ℕ) (places : List PlaceView) (q : Quantifier) (ss : List SignView) → AllByRecursion (IsPrintablePlace threads) places
     → IsObserved threads places (tokens_of (observed_pieces places ++ condition_pieces q ss)) (tokens_of (condition_pieces q ss))
@@ -171,21 +170,16 @@ observed_related threads (p ∷ places) q ss h =
 
 sign_related : (threads : ℕ) (s : SignView) (ps : List Piece) → IsPrintableSign threads s → IsSign threads s (tokens_of (sign_pieces s ++ ps)) (tokens_of ps)
 sign_related threads (Atom p n) ps h = (has_thread threads p h.0, valued_related threads p n ps h.0)
-sign_related threads (Const true) ps h = refl
-sign_related threads (Const false) ps h = refl
 sign_related threads Not ps h = inl refl
-sign_related threads And ps h = refl
-sign_related threads Or ps h = refl
-sign_related threads Open ps h = refl
-sign_related threads Close ps h = refl
+sign_related threads (Const true) ps h = refl
+sign_related threads s ps h = refl
 
 signs_related : (threads : ℕ) (ss : List SignView) → ArePrintable threads ss → IsSigns threads ss (tokens_of (flat_map sign_pieces ss ++ line_end ∷ [])) []
 signs_related threads ss h = items_related sign_pieces (IsSign threads) the_end (IsPrintableSign threads) (sign_related threads) ss h.0 (line_end ∷ []) [] (refl, refl)
 
 condition_related : (threads : ℕ) (q : Quantifier) (ss : List SignView) → ArePrintable threads ss → (IsQuantifier q ▸ IsSigns threads ss) (tokens_of (condition_pieces q ss)) []
-condition_related threads Exists ss h = (_, refl, signs_related threads ss h)
 condition_related threads NotExists ss h = (_, (_, refl, refl), signs_related threads ss h)
-condition_related threads Forall ss h = (_, refl, signs_related threads ss h)
+condition_related threads q ss h = (_, refl, signs_related threads ss h)
 
 pub ending_related : (threads : ℕ) (e : EndingView) → IsPrintableEnding threads e → IsEnding threads e (tokens_of (ending_pieces e))
 ending_related threads e h =

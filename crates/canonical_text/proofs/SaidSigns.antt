@@ -30,12 +30,7 @@ view_of sign.Close = view.Close
 
 pub sign_again : (s : Sign Said) → meaning.sign_of (view_of s) ≡ s
 sign_again (sign.Atom a) = refl
-sign_again (sign.Const b) = refl
-sign_again sign.Not = refl
-sign_again sign.And = refl
-sign_again sign.Or = refl
-sign_again sign.Open = refl
-sign_again sign.Close = refl
+sign_again s = refl
 
 signs_again : (ss : List (Sign Said)) → map meaning.sign_of (map view_of ss) ≡ ss
 signs_again [] = refl
@@ -56,8 +51,6 @@ regroup_or : (f g : Tree Said) (rest : List (Sign Said))
 regroup_or f g rest = simp append_assoc
 
 apart_before : (f : Tree Said) (rest : List (Sign Said)) → begins_with_a_word (map view_of rest) ≡ false → SignsAreApart (map view_of rest) → SignsAreApart (map view_of (signs_of f ++ rest))
-apart_before (tree.Atom a) rest e free = (e, free)
-apart_before (tree.Const b) rest e free = (e, free)
 apart_before (tree.Not f) rest e free = apart_before f rest e free
 apart_before (tree.And f g) rest e free =
     let inner = apart_before f (sign.And ∷ (signs_of g ++ (sign.Close ∷ rest))) refl (apart_before g (sign.Close ∷ rest) refl free) in
@@ -65,16 +58,16 @@ apart_before (tree.And f g) rest e free =
 apart_before (tree.Or f g) rest e free =
     let inner = apart_before f (sign.Or ∷ (signs_of g ++ (sign.Close ∷ rest))) refl (apart_before g (sign.Close ∷ rest) refl free) in
     subst (λ (ss : List (Sign Said)). SignsAreApart (map view_of ss)) (regroup_or f g rest) inner
+apart_before f rest e free = (e, free)
 
 apart_alone : (f : Tree Said) → SignsAreApart (map view_of (signs_of f))
 apart_alone f = subst (λ (ss : List (Sign Said)). SignsAreApart (map view_of ss)) (append-nil (signs_of f)) (apart_before f [] refl tt)
 
 pub enclosed_apart : (f : Tree Said) → SignsAreApart (map view_of (enclosed_signs_of f))
-enclosed_apart (tree.Atom a) = apart_before (tree.Atom a) (sign.Close ∷ []) refl tt
-enclosed_apart (tree.Const b) = apart_before (tree.Const b) (sign.Close ∷ []) refl tt
 enclosed_apart (tree.Not f) = apart_before (tree.Not f) (sign.Close ∷ []) refl tt
 enclosed_apart (tree.And f g) = apart_alone (tree.And f g)
 enclosed_apart (tree.Or f g) = apart_alone (tree.Or f g)
+enclosed_apart f = apart_before f (sign.Close ∷ []) refl tt
 
 module _ (names : List (List ℕ)) (named : Named) (threads : ℕ) where
   -- a place that is named, and that can be printed with its value
@@ -84,12 +77,7 @@ module _ (names : List (List ℕ)) (named : Named) (threads : ℕ) where
   -- a sign whose place is so
   abbrev pub IsSaid : Sign Said → Type 0
   IsSaid (sign.Atom a) = IsSaidOf a
-  IsSaid (sign.Const b) = Unit {0}
-  IsSaid sign.Not = Unit {0}
-  IsSaid sign.And = Unit {0}
-  IsSaid sign.Or = Unit {0}
-  IsSaid sign.Open = Unit {0}
-  IsSaid sign.Close = Unit {0}
+  IsSaid h = Unit {0}
 
   -- a formula of such signs
   abbrev pub IsSayable : Tree Said → Type 0
@@ -150,12 +138,7 @@ module _ (names : List (List ℕ)) (named : Named) (threads : ℕ) where
 
   sign_back : IsDistinct bytes_eq names → (s : Sign Said) → IsSaid s → sign_named names (sign_map (numbered_atom (number_in names)) s) ≡ view_of s
   sign_back once (sign.Atom a) h = atom_back once a.0 a.1 h.0
-  sign_back once (sign.Const b) h = refl
-  sign_back once sign.Not h = refl
-  sign_back once sign.And h = refl
-  sign_back once sign.Or h = refl
-  sign_back once sign.Open h = refl
-  sign_back once sign.Close h = refl
+  sign_back once s h = refl
 
   signs_back : IsDistinct bytes_eq names → (ss : List (Sign Said)) → AllByRecursion IsSaid ss → map (sign_named names) (map (sign_map (numbered_atom (number_in names))) ss) ≡ map view_of ss
   signs_back once [] h = refl
@@ -172,12 +155,7 @@ module _ (names : List (List ℕ)) (named : Named) (threads : ℕ) where
 
   sign_printable : (s : Sign Said) → IsSaid s → IsPrintableSign threads (view_of s)
   sign_printable (sign.Atom a) h = (h.1, h.2)
-  sign_printable (sign.Const b) h = tt
-  sign_printable sign.Not h = tt
-  sign_printable sign.And h = tt
-  sign_printable sign.Or h = tt
-  sign_printable sign.Open h = tt
-  sign_printable sign.Close h = tt
+  sign_printable s h = tt
 
   pub signs_printable : (ss : List (Sign Said)) → AllByRecursion IsSaid ss → AllByRecursion (IsPrintableSign threads) (map view_of ss)
   signs_printable [] h = tt

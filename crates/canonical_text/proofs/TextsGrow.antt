@@ -6,7 +6,7 @@ use Rattle.canonical_text.proofs.Vocabulary.{nat_lt, if◌then◌else◌, flat_m
 use Rattle.canonical_text.proofs.Vocabulary.{CodeView, SignView, Thread, TextNames, space, line_end, sign, next, joined_by, gap, code_pieces, label_pieces, cell_pieces, observed_place_pieces}
 use Rattle.canonical_text.proofs.Vocabulary.{observed_pieces, entry_pieces, initial_pieces, sign_pieces, quantifier_pieces, condition_pieces, thread_entries, register_entries}
 use Rattle.litmus_reader.specs.Mark.TheVariants as the
-use Rattle.litmus_reader.proofs.PieceLaws.{text_of-append}
+use Rattle.canonical_text.proofs.PiecesAppended.{text_of-append}
 
 -- the texts of two lists of parts
 pub text_of_all : {X : Type 0} (g : X → List Piece) (xs ys : List X) → text_of (flat_map g (xs ++ ys)) ≡ text_of (flat_map g xs) ++ text_of (flat_map g ys)
@@ -18,8 +18,7 @@ all_more g bs xs ys = append_assoc bs (text_of (flat_map g xs)) (text_of (flat_m
 
 -- one part more
 pub one_more : {X : Type 0} (g : X → List Piece) (bs : List ℕ) (xs : List X) (x : X) → (bs ++ text_of (flat_map g xs)) ++ text_of (g x) ≡ bs ++ text_of (flat_map g (xs ++ x ∷ []))
-one_more g bs xs x =
-    ap (λ (ps : List Piece). (bs ++ text_of (flat_map g xs)) ++ text_of ps) (sym (append-nil (g x))) ∙ all_more g bs xs (x ∷ [])
+one_more g bs xs x = ap (λ (ps : List Piece). (bs ++ text_of (flat_map g xs)) ++ text_of ps) (sym (append-nil (g x))) ∙ all_more g bs xs (x ∷ [])
 
 -- the part of one more number
 pub number_more : {X : Type 0} (g : X → List Piece) (f : ℕ → X) (bs : List ℕ) (n : ℕ)

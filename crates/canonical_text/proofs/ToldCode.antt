@@ -1,8 +1,8 @@
 -- Code that a text tells: with names of locations and labels it can be printed, and stands for the same code again. Fences too.
-use Rattle.std.proofs.Common.{◌≡◌, ℕ, ◌+◌, ◌<◌, ◌≤◌, zero, suc, Bool, true, false, ◌&&◌, List, [], ◌∷◌, ◌++◌, length, map, Option, Some, None, refl, sym, ap, ◌∙◌, subst, arith}
+use Rattle.std.proofs.Common.{◌≡◌, ℕ, ◌+◌, ◌<◌, ◌≤◌, zero, suc, Bool, true, false, List, [], ◌∷◌, ◌++◌, length, map, Option, Some, None, refl, sym, ap, ◌∙◌, subst, arith}
 use Rattle.canonical_text.proofs.Vocabulary.{slice_get, slice_index_or, nat_lt, is_some, option_map, option_and_then, if◌then◌else◌, AllByRecursion, IsDistinct, list_all, list_any, flat_map}
 use Rattle.canonical_text.proofs.Vocabulary.{filter_map, cons_option, range_with_len, option_map_or, bytes_eq, add-zero, length-map, length-range_with_len, Instr, Thread, code_of, instr_at, PlaceView}
-use Rattle.canonical_text.proofs.Vocabulary.{Location, Register, CodeView, LoadImm, Copy, Load, StoreImm, Store, Xchg, Fence, CmpImm, CmpReg, Je, Jne, Jmp, CellView, NoneTwice, number_in, code_places}
+use Rattle.canonical_text.proofs.Vocabulary.{Location, Register, CodeView, Load, StoreImm, Store, Xchg, Fence, Je, Jne, Jmp, CellView, NoneTwice, number_in, code_places}
 use Rattle.canonical_text.proofs.Vocabulary.{cell_places, cells_places, row_places, Label, instruction_of, instruction_in, location_name_at, label_names_at, label_name_at, own_labels, moved_label}
 use Rattle.canonical_text.proofs.Vocabulary.{code_named, cell_of, row_of, most_cells, rows_of, IsLabelName, IsPrintableCode, IsPrintableContent, IsPrintableCell, IsPrintableRow}
 use Rattle.tso_program.specs.declared.instruction.Instr.TheVariants as instr
@@ -15,6 +15,7 @@ use Rattle.canonical_text.proofs.LabelPlaces.{labels_moved}
 use Rattle.canonical_text.proofs.LabelsNamed.{label_name, SomeAt, AreGoodLabels, position_again, label_found, label_good, labels_good, found_stands}
 use Rattle.canonical_text.proofs.WordsWritten.{and_first, and_second}
 use Rattle.canonical_text.proofs.Lists.{all_of_both, both_of_all, all_of_range, made_at, by_places}
+use Rattle.std.proofs.lemmas.Bool.{and_from as both_true}
 
 -- a place that is named
 abbrev pub IsKnown : List (List ℕ) → Named → PlaceView → Type 0
@@ -31,10 +32,6 @@ name_back names x once h =
 -- an instruction that jumps nowhere or to one of these labels
 abbrev pub JumpsAmong : List Label → Option CodeView → Type 0
 JumpsAmong labels o = option_map_or (λ l. is_some (label_in labels l)) (option_and_then jump_of o) true ≡ true
-
-both_true : (a b : Bool) → a ≡ true → b ≡ true → (a && b) ≡ true
-both_true true b h g = g
-both_true false b h g = h
 
 module _ (names : List (List ℕ)) (named : Named) (labels : List (List Label)) where
   abbrev own : ℕ → List Label
@@ -53,9 +50,6 @@ module _ (names : List (List ℕ)) (named : Named) (labels : List (List Label)) 
 
   module _ (once : IsDistinct bytes_eq names) (t : ℕ) (gap : ℕ → Bool) (source : List Label) (same : own t ≡ map (moved_label gap) source)
       (good : AreGoodLabels (own t)) (labels_once : NoneTwice (map label_name (own t))) where
-    aim : List ℕ → ℕ
-    aim l = place_of gap (position_in source l)
-
     stands : (l : List ℕ) → is_some (label_in source l) ≡ true → SomeAt (own t) (place_of gap (position_in source l))
     stands l h =
         let place : ℕ = place_of gap (position_in source l) in
@@ -74,18 +68,14 @@ module _ (names : List (List ℕ)) (named : Named) (labels : List (List Label)) 
 
     pub code_told : (c : CodeView) → IsPrintableCode c → AllByRecursion (IsKnown names named) (code_places t c) → JumpsAmong source (Some c)
         → IsTold t (moved gap (instruction_of (number_in names) (position_in source) c))
-    code_told (LoadImm r n) h k j = (LoadImm r n, refl, refl, h, k, refl)
-    code_told (Copy r s) h k j = (Copy r s, refl, refl, h, k, refl)
     code_told (Load r x) h k j = (Load r x, ap (λ (y : List ℕ). Load r y) (name_back names x once k.1.0), refl, h, k, refl)
     code_told (StoreImm x n) h k j = (StoreImm x n, ap (λ (y : List ℕ). StoreImm y n) (name_back names x once k.0), refl, h, k, refl)
     code_told (Store x r) h k j = (Store x r, ap (λ (y : List ℕ). Store y r) (name_back names x once k.0), refl, h, k, refl)
     code_told (Xchg x r) h k j = (Xchg x r, ap (λ (y : List ℕ). Xchg y r) (name_back names x once k.0), refl, h, k, refl)
-    code_told Fence h k j = (Fence, refl, refl, h, k, refl)
-    code_told (CmpImm r n) h k j = (CmpImm r n, refl, refl, h, k, refl)
-    code_told (CmpReg r s) h k j = (CmpReg r s, refl, refl, h, k, refl)
     code_told (Je l) h k j = (Je (label_name_at (own t) (place_of gap (position_in source l))), refl, ap (λ (p : ℕ). instr.Je p) (again l j), (may_stand l j).0, tt, found l j)
     code_told (Jne l) h k j = (Jne (label_name_at (own t) (place_of gap (position_in source l))), refl, ap (λ (p : ℕ). instr.Jne p) (again l j), (may_stand l j).0, tt, found l j)
     code_told (Jmp l) h k j = (Jmp (label_name_at (own t) (place_of gap (position_in source l))), refl, ap (λ (p : ℕ). instr.Jmp p) (again l j), (may_stand l j).0, tt, found l j)
+    code_told c h k j = (c, refl, refl, h, k, refl)
 
     -- ---- the rows of a text
 

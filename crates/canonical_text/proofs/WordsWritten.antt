@@ -1,7 +1,9 @@
 -- The words that are written are words, and are read as what they stand for.
-use Rattle.std.proofs.Common.{◌≡◌, ℕ, ◌≤◌, Bool, true, false, ◌||◌, ◌&&◌, List, [], ◌∷◌, codes, Some, refl, arith}
-use Rattle.canonical_text.proofs.Vocabulary.{list_all, is_ascii_digit, decimal, digits_decimal, is_letter, is_word_byte, IsWord, own, Reg, Eax, Ebx, Ecx, Edx, Esi, Edi, register_name}
+use Rattle.std.proofs.Common.{◌≡◌, ℕ, ◌≤◌, Bool, true, false, ◌&&◌, List, [], ◌∷◌, codes, Some, refl, arith}
+use Rattle.canonical_text.proofs.Vocabulary.{list_all, is_ascii_digit, decimal, digits_decimal, is_letter, is_word_byte, IsWord, own, Reg, Eax, register_name}
 use Rattle.litmus_syntax.specs.Words.{reg_of, opens_condition, column_name}
+use Rattle.std.proofs.lemmas.Bool.{and_from as both_true}
+use Rattle.std.proofs.lemmas.Bool.{or_right as or_true}
 
 -- ---- words
 
@@ -46,15 +48,7 @@ true_word = (refl, refl)
 
 pub register_word : (r : Reg) → IsWord (register_name r)
 register_word Eax = (refl, refl)
-register_word Ebx = (refl, refl)
-register_word Ecx = (refl, refl)
-register_word Edx = (refl, refl)
-register_word Esi = (refl, refl)
-register_word Edi = (refl, refl)
-
-or_true : (a b : Bool) → b ≡ true → (a || b) ≡ true
-or_true true b h = refl
-or_true false b h = h
+register_word r = (refl, refl)
 
 pub and_first : (a b : Bool) → (a && b) ≡ true → a ≡ true
 and_first true b h = refl
@@ -63,10 +57,6 @@ and_first false b h = cc
 pub and_second : (a b : Bool) → (a && b) ≡ true → b ≡ true
 and_second true b h = h
 and_second false b h = cc
-
-both_true : (a b : Bool) → a ≡ true → b ≡ true → (a && b) ≡ true
-both_true true b h g = g
-both_true false b h g = h
 
 -- digits may stand in a word
 digits_in_word : (ds : List ℕ) → list_all is_ascii_digit ds ≡ true → list_all is_word_byte ds ≡ true
@@ -95,8 +85,4 @@ opens_locations = refl
 pub register_named : (r : Reg) → reg_of (register_name r) ≡ Some r
 unfolding reg_of
 register_named Eax = refl
-register_named Ebx = refl
-register_named Ecx = refl
-register_named Edx = refl
-register_named Esi = refl
-register_named Edi = refl
+register_named r = refl

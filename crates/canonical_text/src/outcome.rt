@@ -32,87 +32,85 @@ fn location_item(alloc: Global, name: &[u8], value: u32) -> Result<Vec<u8>, Allo
     Ok(item)
 }
 
-/// The register with its value, if it is shown and named.
-fn push_named(
+/// What outcomes are printed by: the names, and what is shown.
+#[derive(Clone, Copy)]
+struct Legend<'a> {
     alloc: Global,
-    items: &mut Vec<Vec<u8>>,
-    names: &NameTable,
-    shown: &Shown,
-    thread: usize,
-    values: [u32; 6],
-    register: Reg,
-) -> Result<(), AllocError>
-    ensures { OnOk result (texts items.new.items ≡ texts items.old.items ++ named_item names.now shown.now thread values register) }
-{
-    if shown.shows_register(thread, register.index()) && names.is_named(thread, register) {
-        let value = values[register.index()];
-        items.push(register_item(alloc, thread, register, value)?)?;
-    }
-    Ok(())
+    names: &'a NameTable,
+    shown: &'a Shown,
 }
 
-/// The thread's named registers with their values.
-fn push_thread(
-    alloc: Global,
-    items: &mut Vec<Vec<u8>>,
-    names: &NameTable,
-    shown: &Shown,
-    thread: usize,
-    values: [u32; 6],
-) -> Result<(), AllocError>
-    ensures { OnOk result (texts items.new.items ≡ texts items.old.items ++ thread_items names.now shown.now thread values) }
-{
-    for register in Reg::ALL {
-        push_named(alloc, items, names, shown, thread, values, register)?;
+impl Legend<'_> {
+    /// The register with its value, if it is shown and named.
+    fn push_named(
+        &self,
+        items: &mut Vec<Vec<u8>>,
+        thread: usize,
+        values: [u32; 6],
+        register: Reg,
+    ) -> Result<(), AllocError>
+        ensures { OnOk result (texts items.new.items ≡ texts items.old.items ++ named_item self.now.names.now self.now.shown.now thread values register) }
+    {
+        if self.shown.shows_register(thread, register.index())
+            && self.names.is_named(thread, register)
+        {
+            let value = values[register.index()];
+            items.push(register_item(self.alloc, thread, register, value)?)?;
+        }
+        Ok(())
     }
-    Ok(())
-}
 
-fn push_threads(
-    alloc: Global,
-    items: &mut Vec<Vec<u8>>,
-    names: &NameTable,
-    shown: &Shown,
-    registers: &[[u32; 6]],
-) -> Result<(), AllocError>
-    ensures { OnOk result (texts items.new.items ≡ texts items.old.items ++ register_items names.now shown.now registers.now (length registers.now)) }
-{
-    for (thread, values) in registers.iter().enumerate() {
-        push_thread(alloc, items, names, shown, thread, *values)?;
+    /// The thread's named registers with their values.
+    fn push_thread(
+        &self,
+        items: &mut Vec<Vec<u8>>,
+        thread: usize,
+        values: [u32; 6],
+    ) -> Result<(), AllocError>
+        ensures { OnOk result (texts items.new.items ≡ texts items.old.items ++ thread_items self.now.names.now self.now.shown.now thread values) }
+    {
+        for register in Reg::ALL {
+            self.push_named(items, thread, values, register)?;
+        }
+        Ok(())
     }
-    Ok(())
-}
 
-/// The location with its value, if it is shown.
-fn push_location(
-    alloc: Global,
-    items: &mut Vec<Vec<u8>>,
-    names: &NameTable,
-    shown: &Shown,
-    location: usize,
-    value: u32,
-) -> Result<(), AllocError>
-    ensures { OnOk result (texts items.new.items ≡ texts items.old.items ++ shown_item names.now shown.now location value) }
-{
-    if shown.shows_location(location) {
-        items.push(location_item(alloc, location_name(names, location), value)?)?;
+    fn push_threads(
+        &self,
+        items: &mut Vec<Vec<u8>>,
+        registers: &[[u32; 6]],
+    ) -> Result<(), AllocError>
+        ensures { OnOk result (texts items.new.items ≡ texts items.old.items ++ register_items self.now.names.now self.now.shown.now registers.now (length registers.now)) }
+    {
+        for (thread, values) in registers.iter().enumerate() {
+            self.push_thread(items, thread, *values)?;
+        }
+        Ok(())
     }
-    Ok(())
-}
 
-fn push_locations(
-    alloc: Global,
-    items: &mut Vec<Vec<u8>>,
-    names: &NameTable,
-    shown: &Shown,
-    memory: &[u32],
-) -> Result<(), AllocError>
-    ensures { OnOk result (texts items.new.items ≡ texts items.old.items ++ location_items names.now shown.now memory.now (length memory.now)) }
-{
-    for (location, value) in memory.iter().enumerate() {
-        push_location(alloc, items, names, shown, location, *value)?;
+    /// The location with its value, if it is shown.
+    fn push_location(
+        &self,
+        items: &mut Vec<Vec<u8>>,
+        location: usize,
+        value: u32,
+    ) -> Result<(), AllocError>
+        ensures { OnOk result (texts items.new.items ≡ texts items.old.items ++ shown_item self.now.names.now self.now.shown.now location value) }
+    {
+        if self.shown.shows_location(location) {
+            items.push(location_item(self.alloc, location_name(self.names, location), value)?)?;
+        }
+        Ok(())
     }
-    Ok(())
+
+    fn push_locations(&self, items: &mut Vec<Vec<u8>>, memory: &[u32]) -> Result<(), AllocError>
+        ensures { OnOk result (texts items.new.items ≡ texts items.old.items ++ location_items self.now.names.now self.now.shown.now memory.now (length memory.now)) }
+    {
+        for (location, value) in memory.iter().enumerate() {
+            self.push_location(items, location, *value)?;
+        }
+        Ok(())
+    }
 }
 
 /// The items with one space between two of them.
@@ -139,14 +137,13 @@ pub fn write_outcome(
 ) -> Result<Vec<u8>, AllocError>
     ensures { IfOk result (λ text. text.items ≡ outcome_text names.now shown.now outcome.now) }
 {
-    let mut items = Vec::new(alloc);
-    push_threads(
+    let legend = Legend {
         alloc,
-        &mut items,
         names,
         shown,
-        outcome.registers.as_slice(),
-    )?;
-    push_locations(alloc, &mut items, names, shown, outcome.memory.as_slice())?;
+    };
+    let mut items = Vec::new(alloc);
+    legend.push_threads(&mut items, outcome.registers.as_slice())?;
+    legend.push_locations(&mut items, outcome.memory.as_slice())?;
     join(alloc, items.as_slice())
 }

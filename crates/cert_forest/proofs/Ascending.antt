@@ -65,10 +65,7 @@ numbers_back limit ns le up = picks limit (set.contains (set.from_list ns)) 0 MA
 
 pub ascending_are_below : (limit : ℕ) (ns : List ℕ) → Ascend limit 0 ns → IsBelow limit (set.from_list ns)
 ascending_are_below limit ns up q there =
-    elim (cases_lt q limit) [
-      | inl lt ↦ lt
-      | inr ge ↦ let bad = sym there ∙ contains-from_list_nat ns q ∙ none_past limit 0 q ns (omega arith) up in absurd cc
-    ]
+    elim (cases_lt q limit) [ inl lt ↦ lt | inr ge ↦ let bad = sym there ∙ contains-from_list_nat ns q ∙ none_past limit 0 q ns (omega arith) up in absurd cc ]
 
 -- ---- the numbers of a set
 

@@ -1,5 +1,5 @@
 -- Nodes give back the gap trees that they spell.
-use Rattle.std.proofs.Common.{◌≡◌, ℕ, zero, suc, ◌<◌, ◌≤◌, List, [], ◌∷◌, ◌++◌, length, take, drop, refl, ap, sym, ◌∙◌, subst, append_assoc, arith}
+use Rattle.std.proofs.Common.{◌≡◌, ℕ, suc, ◌<◌, ◌≤◌, List, [], ◌∷◌, ◌++◌, length, take, drop, refl, ap, sym, ◌∙◌, subst, append_assoc, arith}
 use Rattle.cert_forest.proofs.Vocabulary.{length-append, GapNode, Gap, Split, Bound, GapTrees, NoGap, MoreGaps, gap_trees_of, gap_list, count_gaps, gap_root_of, gap_children_of, IsNextGap}
 use Rattle.cert_forest.specs.declared.node.GapNode.TheVariants as node
 use Rattle.cert_forest.specs.GapNodes.{spell_gap, spell_gap_row, spell_gaps, gap_before, gap_trees_in, first_gap, gap_tree_of, IsGapTree, AreGapTrees}
@@ -111,6 +111,5 @@ bound_next (Bound ∷ us) after (is, e) = (refl, e)
 
 -- trees that were walked over
 pub gaps_no_longer : (k : ℕ) (ts : List Gap) → length (spell_gaps (drop k ts)) ≤ length (spell_gaps ts)
-gaps_no_longer zero ts = omega arith
-gaps_no_longer (suc k) [] = omega arith
 gaps_no_longer (suc k) (t ∷ ts) = omega (arith, gaps_no_longer k ts, length-append (spell_gap t) (spell_gaps ts))
+gaps_no_longer k ts = omega arith

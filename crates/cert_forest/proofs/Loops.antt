@@ -22,12 +22,6 @@ repeat_stops r n k found bytes (Refused refusal) all lt e so =
     let step : repeat_at r (suc (n - (k + 1))) found bytes ≡ None = rw e refl in
     sym so ∙ ap (λ (m : ℕ). repeat_at r m found bytes) (one_less n k lt) ∙ step
 
-pub repeat_ends : {A : Type 0} (r : List ℕ → Option (A × List ℕ)) (n k : ℕ) (found : List A) (bytes : List ℕ) (all : Option (List A × List ℕ)) → n ≤ k
-    → repeat_at r (n - k) found bytes ≡ all → all ≡ Some (found, bytes)
-repeat_ends r n k found bytes all le so =
-    let none : n - k ≡ 0 = omega arith in
-    sym so ∙ ap (λ (m : ℕ). repeat_at r m found bytes) none
-
 -- ---- labels
 
 pub labels_more : (n k : ℕ) (found : List Label) (bytes : List ℕ) (x : Label) (rest : List ℕ) (all : Option (List Label × List ℕ)) → k < n → begins_word bytes ≡ true → label_word_at bytes ≡ Some (x, rest)

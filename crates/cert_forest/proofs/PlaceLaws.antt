@@ -79,12 +79,9 @@ register_takes a b c d p e = by_test (a == 114 && c == 46) refl e
         subst (IsOf (a ∷ (b ∷ (c ∷ (d ∷ []))))) (same_Some (register_place u.0 v.0) p v.2) (word ∙ sym (register_at u.0 v.0 (omega (arith, t.1)) (omega (arith, r.1))), small)
 
 place_takes : (word : List ℕ) (p : ℕ) → shown_place word ≡ Some p → IsOf word p
-place_takes [] p e = absurd cc
-place_takes (a ∷ []) p e = absurd cc
 place_takes (a ∷ (b ∷ [])) p e = location_takes a b p e
-place_takes (a ∷ (b ∷ (c ∷ []))) p e = absurd cc
 place_takes (a ∷ (b ∷ (c ∷ (d ∷ [])))) p e = register_takes a b c d p e
-place_takes (a ∷ (b ∷ (c ∷ (d ∷ (x ∷ word))))) p e = absurd cc
+place_takes word p e = absurd cc
 
 -- what holds of the word of a register, and of that of a location, holds of that of a place
 by_place : (P : ℕ → Type 0) → ((t r : ℕ) → t < MAX_THREADS → r < REGISTERS → P (register_place t r)) → ((l : ℕ) → l < MAX_LOCATIONS → P (location_place l)) → (p : ℕ) → p < PLACES → P p

@@ -108,8 +108,7 @@ no_zero n more fits e longer =
 -- ---- what the function compares
 
 pub zero_ends : (number least greatest : ℕ) → greatest < 2 ^ 64 → number ≡ 0 → CanBecome number least greatest → ⊥
-zero_ends number least greatest fits is c =
-    no_zero c.whole c.more (omega (arith, c.high)) (c.spelled ∙ ap (λ (d : ℕ). decimal d ++ c.more) is) c.longer
+zero_ends number least greatest fits is c = no_zero c.whole c.more (omega (arith, c.high)) (c.spelled ∙ ap (λ (d : ℕ). decimal d ++ c.more) is) c.longer
 
 pub none_between : (number least greatest : ℕ) → greatest < least → CanBecome number least greatest → ⊥
 none_between number least greatest lt c = omega (arith, c.low, c.high)
@@ -129,9 +128,6 @@ from_between number least greatest pos le fits b =
     let n = one_between (suc b.digits) number least greatest le b.above b.below in
     let text = spelled_with (suc b.digits) n.0 number pos (omega (arith, n.2)) n.3 in
     record { whole = n.0; more = text.0; spelled = text.1; longer = omega (arith, text.2); low = n.1; high = n.2 }
-
-pub between_here : (number low high : ℕ) → low ≤ number → number ≤ high → IsBetween number low high
-between_here number low high above below = record { digits = 0; above = above; below = below }
 
 pub between_past : (number low high : ℕ) → high < number → IsBetween number low high → ⊥
 between_past number low high lt b = omega (arith, b.below, shorter_small b.digits high)

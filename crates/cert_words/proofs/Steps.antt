@@ -42,8 +42,7 @@ takes_two r s ta tb P Q er es f bytes x e =
 pub again_two : {A B C : Type 0} (r : List ℕ → Option (A × List ℕ)) (s : List ℕ → Option (B × List ℕ)) (ta : A → List ℕ) (tb : B → List ℕ) (P : A → Type 0) (Q : B → Type 0) → IsExact r ta P → IsExact s tb Q
     → (f : A → B → C) (a : A) (b : B) (rest : List ℕ) → P a → Q b → Starts rest
     → two_at r s f (ta a ++ (tb b ++ rest)) ≡ Some (f a b, rest)
-again_two r s ta tb P Q er es f a b rest pa qb st =
-    rw (er.again a (tb b ++ rest) pa (es.starts b rest qb st), es.again b rest qb st) refl
+again_two r s ta tb P Q er es f a b rest pa qb st = rw (er.again a (tb b ++ rest) pa (es.starts b rest qb st), es.again b rest qb st) refl
 
 -- so many values, one after the other
 pub repeat_takes : {A : Type 0} (r : List ℕ → Option (A × List ℕ)) (t : A → List ℕ) (P : A → Type 0) → ((bytes : List ℕ) (x : A × List ℕ) → r bytes ≡ Some x → (bytes ≡ t x.0 ++ x.1) × P x.0)

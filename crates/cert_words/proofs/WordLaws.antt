@@ -147,9 +147,8 @@ count_exact = record { takes = taken; again = λ n rest le st. again n rest le s
 -- ---- letters
 
 letter_of_takes : (word : List ℕ) (b : ℕ) → letter_of word ≡ Some b → word ≡ b ∷ []
-letter_of_takes [] b e = absurd cc
 letter_of_takes (c ∷ []) b e = let same : c ≡ b = same_Some c b e in λ i. same i ∷ []
-letter_of_takes (c ∷ (d ∷ word)) b e = absurd cc
+letter_of_takes word b e = absurd cc
 
 pub letter_takes : (bytes : List ℕ) (x : ℕ × List ℕ) → letter_at bytes ≡ Some x → bytes ≡ spaced (x.0 ∷ []) ++ x.1
 unfolding letter_at

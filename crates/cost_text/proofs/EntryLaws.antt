@@ -21,11 +21,7 @@ some_none n e = cc
 
 -- of two entries the first does not speak of a gap of which nothing is said
 first_is_other : (x : Entry) (xs : List Entry) (gap : ℕ) → said_of (x ∷ xs) gap ≡ None → (x.gap == gap) ≡ false
-first_is_other x xs gap none =
-    elim (cases_Bool (x.gap == gap)) [
-      | inl y ↦ absurd (some_none x.cost (rw y at none))
-      | inr n ↦ n
-    ]
+first_is_other x xs gap none = elim (cases_Bool (x.gap == gap)) [ inl y ↦ absurd (some_none x.cost (rw y at none)) | inr n ↦ n ]
 
 rest_says : (x : Entry) (xs : List Entry) (gap : ℕ) → said_of (x ∷ xs) gap ≡ None → said_of xs gap ≡ None
 rest_says x xs gap none = rw (first_is_other x xs gap none) at none
@@ -37,11 +33,7 @@ said_there (x ∷ xs) more e none = rw (first_is_other x xs e.gap none) (said_th
 
 said_elsewhere : (entries : List Entry) (e : Entry) (gap : ℕ) → e.gap ≢ gap → said_of (entries ++ e ∷ []) gap ≡ said_of entries gap
 said_elsewhere [] e gap other = rw (others e.gap gap other) refl
-said_elsewhere (x ∷ xs) e gap other =
-    elim (cases_Bool (x.gap == gap)) [
-      | inl y ↦ rw (y) refl
-      | inr n ↦ rw (n) (said_elsewhere xs e gap other)
-    ]
+said_elsewhere (x ∷ xs) e gap other = elim (cases_Bool (x.gap == gap)) [ inl y ↦ rw (y) refl | inr n ↦ rw (n) (said_elsewhere xs e gap other) ]
 
 pub once_more : (entries : List Entry) (e : Entry) → NoGapTwice entries → said_of entries e.gap ≡ None → NoGapTwice (entries ++ e ∷ [])
 once_more [] e once none = (refl, tt)
@@ -59,10 +51,7 @@ found_again (y ∷ ys) more e x same none = found_again ys more e x same (rest_s
 pub not_twice : (entries more : List Entry) (e : Entry) (earlier : ℕ) → NoGapTwice (entries ++ e ∷ more) → said_of entries e.gap ≡ Some earlier → ⊥
 not_twice [] more e earlier once there = absurd cc
 not_twice (x ∷ xs) more e earlier once there =
-    elim (cases_Bool (x.gap == e.gap)) [
-      | inl y ↦ found_again xs more e x y once.0
-      | inr n ↦ not_twice xs more e earlier once.1 (rw n at there)
-    ]
+    elim (cases_Bool (x.gap == e.gap)) [ inl y ↦ found_again xs more e x y once.0 | inr n ↦ not_twice xs more e earlier once.1 (rw n at there) ]
 
 -- ---- the table
 

@@ -67,11 +67,8 @@ stands_at threads lines i line table lt is t = record {
 
 pub refused_there : (threads : List Thread) (lines : List (List ℕ)) (i : ℕ) (line : List ℕ) (table : List (Option ℕ)) (why : CostTextFault) → i < length lines → line ≡ get_or lines i [] → (t : IsTableOf threads (take i lines) table)
     → IsLineFault threads t.entries line (i + 1) why → AreRefused lines threads why
-refused_there threads lines i line table (fault.Line n) lt is t f = record { number = i + 1; line = line; entries = t.entries; stands = stands_at threads lines i line table lt is t; fault = f }
-refused_there threads lines i line table (fault.NoSuchGap n) lt is t f = record { number = i + 1; line = line; entries = t.entries; stands = stands_at threads lines i line table lt is t; fault = f }
-refused_there threads lines i line table (fault.Repeated n) lt is t f = record { number = i + 1; line = line; entries = t.entries; stands = stands_at threads lines i line table lt is t; fault = f }
-refused_there threads lines i line table (fault.Cost n why) lt is t f = record { number = i + 1; line = line; entries = t.entries; stands = stands_at threads lines i line table lt is t; fault = f }
 refused_there threads lines i line table fault.OutOfMemory lt is t f = tt
+refused_there threads lines i line table why lt is t f = record { number = i + 1; line = line; entries = t.entries; stands = stands_at threads lines i line table lt is t; fault = f }
 
 -- ---- lines say their entries in one way
 
@@ -181,11 +178,8 @@ cannot_stand threads lines all why given r = by_fault why r.fault
 
 -- what is refused for another reason than being out of memory gives no costs
 pub refuted : (text : List ℕ) (threads : List Thread) (costs : List ℕ) (why : CostTextFault) → IsCostText text threads costs → RefusesCosts text threads why → why ≡ fault.OutOfMemory
-refuted text threads costs (fault.Line n) is r = absurd (cannot_stand threads (lines_of text) is.entries (fault.Line n) is.given r)
-refuted text threads costs (fault.NoSuchGap n) is r = absurd (cannot_stand threads (lines_of text) is.entries (fault.NoSuchGap n) is.given r)
-refuted text threads costs (fault.Repeated n) is r = absurd (cannot_stand threads (lines_of text) is.entries (fault.Repeated n) is.given r)
-refuted text threads costs (fault.Cost n cost) is r = absurd (cannot_stand threads (lines_of text) is.entries (fault.Cost n cost) is.given r)
 refuted text threads costs fault.OutOfMemory is r = refl
+refuted text threads costs why is r = absurd (cannot_stand threads (lines_of text) is.entries why is.given r)
 
 -- a text gives one list of costs
 pub costs_once : (text : List ℕ) (threads : List Thread) (a b : List ℕ) → IsCostText text threads a → IsCostText text threads b → a ≡ b

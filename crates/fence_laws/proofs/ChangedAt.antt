@@ -1,14 +1,8 @@
 -- A function changed at one place.
-use Rattle.std.proofs.Common.{◌≡◌, ℕ, refl, sym, ◌∙◌, subst, inl, inr, eq-eqb, ne_eqb}
+use Rattle.std.proofs.Common.{◌≡◌, ℕ, sym, ◌∙◌, subst, inl, inr}
 use Rattle.fence_laws.proofs.Vocabulary.{fun_ext, cases_eq, put}
-
--- there it has the new value
-pub put_same : {A : Type 0} (f : ℕ → A) (n : ℕ) (x : A) → put f n x n ≡ x
-put_same f n x = rw (eq-eqb n n refl) refl
-
--- elsewhere what it had
-pub put_other : {A : Type 0} (f : ℕ → A) (n : ℕ) (x : A) (k : ℕ) → (k ≡ n → ⊥) → put f n x k ≡ f k
-put_other f n x k h = rw (ne_eqb k n h) refl
+pub use Rattle.tso_machine.proofs.Link.{put_same}
+pub use Rattle.tso_machine.proofs.Link.{put_other}
 
 -- changed back it is as before
 pub put_back : {A : Type 0} (f : ℕ → A) (t : ℕ) (x y : A) → f t ≡ y → put (put f t x) t y ≡ f

@@ -40,17 +40,7 @@ module _ (gap : ℕ → Bool) (s : Local) (q : ℕ) (e : q + 1 ≡ place_of gap 
 -- an instruction does something
 pub never_stops : (x : Instr) (s : Local) → act (Some x) s ≡ Stop → ⊥
 never_stops (LoadImm r v) s e = cc
-never_stops (Copy r from) s e = cc
-never_stops (Load r l) s e = cc
-never_stops (StoreImm l v) s e = cc
-never_stops (Store l r) s e = cc
-never_stops (Xchg l r) s e = cc
-never_stops Fence s e = cc
-never_stops (CmpImm r v) s e = cc
-never_stops (CmpReg r from) s e = cc
-never_stops (Je k) s e = cc
-never_stops (Jne k) s e = cc
-never_stops (Jmp k) s e = cc
+never_stops x s e = cc
 
 -- where a thread stops there is no instruction
 pub stops_at_none : (o : Option Instr) (s : Local) → act o s ≡ Stop → o ≡ None

@@ -1,14 +1,15 @@
 -- What a run passes are gaps: never a thread's first instruction, since nothing leads back to it, nor its end.
-use Rattle.std.proofs.Common.{◌≡◌, ℕ, ◌<◌, ◌≤◌, Bool, true, false, ◌&&◌, ◌||◌, ◌==◌, not, List, [], ◌∷◌, ◌⊎◌, length, Option, Some, None, option_and_then, refl, sym, ap, ◌∙◌, subst, inl, inr, arith}
+use Rattle.std.proofs.Common.{◌≡◌, ℕ, ◌<◌, ◌≤◌, Bool, true, false, ◌&&◌, ◌||◌, ◌==◌, not, List, [], ◌∷◌, length, Option, Some, None, option_and_then, refl, sym, ap, ◌∙◌, subst, inl, inr, arith}
 use Rattle.std.proofs.lemmas.Bool.Decides.{nat_tests}
 use Rattle.std.proofs.lemmas.Option.{same_Some, slice_get_within}
-use Rattle.fence_laws.proofs.Vocabulary.{cases_eq, Instr, LoadImm, Copy, Load, StoreImm, Store, Xchg, Fence, CmpImm, CmpReg, Je, Jne, Jmp, Listing, Local, Action, Stop, Go, Wait, Read, Write, Swap}
+use Rattle.fence_laws.proofs.Vocabulary.{cases_eq, Instr, Je, Jne, Jmp, Listing, Local, Action, Stop, Go, Wait, Read, Write, Swap}
 use Rattle.fence_laws.proofs.Vocabulary.{act, jumped, JumpForward, Label, Exec, Flush, Pending}
 use Rattle.tso_program.specs.Instructions.{target_of}
 use Rattle.tso_program.specs.Listings.{action, instr_at, code_of}
 use Rattle.tso_machine.specs.Machine.{no_gaps, put, StoreBufferMachine, State, buffered, step, run, is_empty, from_some, passes_at, passes}
 use Rattle.fence_laws.proofs.ChangedAt.{put_same, put_other}
 use Rattle.fence_laws.proofs.StepCases.{exec_by, flush_by}
+use Rattle.std.proofs.lemmas.Bool.{or_cases as either}
 
 -- where an action leads is not the first instruction
 abbrev LeadsOn : Action → Type 0
@@ -26,28 +27,15 @@ jump_on false k s h = omega arith
 
 -- an instruction whose jump leads forward
 instruction_on : (x : Instr) (s : Local) → ((target : ℕ) → target_of x ≡ Some target → 0 < target) → LeadsOn (act (Some x) s)
-instruction_on (LoadImm r v) s h = omega arith
-instruction_on (Copy r from) s h = omega arith
-instruction_on (Load r l) s h = omega arith
-instruction_on (StoreImm l v) s h = omega arith
-instruction_on (Store l r) s h = omega arith
-instruction_on (Xchg l r) s h = omega arith
-instruction_on Fence s h = omega arith
-instruction_on (CmpImm r v) s h = omega arith
-instruction_on (CmpReg r from) s h = omega arith
 instruction_on (Je k) s h = jump_on s.flag k s (h k refl)
 instruction_on (Jne k) s h = jump_on (not s.flag) k s (h k refl)
 instruction_on (Jmp k) s h = h k refl
+instruction_on x s h = omega arith
 
 -- a thread that does something stands at an instruction
 stands_at : (o : Option Instr) (s : Local) → (act o s ≡ Stop → ⊥) → (x : Instr) × (o ≡ Some x)
 stands_at None s h = absurd (h refl)
 stands_at (Some x) s h = (x, refl)
-
--- one of two tests is true
-either : (a b : Bool) → (a || b) ≡ true → (a ≡ true) ⊎ (b ≡ true)
-either true b e = inl refl
-either false b e = inr e
 
 module _ (p : Listing) (forward : JumpForward p.threads) where
   -- what a thread does leads on

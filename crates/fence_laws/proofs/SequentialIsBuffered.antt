@@ -1,6 +1,6 @@
 -- A sequential run is a run of the store buffer machine, each store flushed at once, whatever the gaps.
 use Rattle.std.proofs.Common.{◌≡◌, ℕ, Bool, true, false, List, [], ◌∷◌, ◌++◌, Option, Some, None, option_and_then, refl, sym, ap, ◌∙◌}
-use Rattle.fence_laws.proofs.Vocabulary.{same_Some, Listing, Local, Action, Stop, Go, Wait, Read, Write, Swap, action, Gaps, put, SequentialMachine, StoreBufferMachine, State, past_gap, buffered}
+use Rattle.fence_laws.proofs.Vocabulary.{same_Some, Listing, Local, Action, Stop, Go, Write, action, Gaps, put, SequentialMachine, StoreBufferMachine, State, past_gap, buffered}
 use Rattle.fence_laws.proofs.Vocabulary.{flushed, direct, run, start, Label, Exec, Flush, Pending}
 use Rattle.fence_laws.specs.Laws.{SequentialRunsAreAllowed}
 use Rattle.fence_laws.proofs.ChangedAt.{put_same, put_back}
@@ -42,23 +42,17 @@ module _ (p : Listing) (gaps : Gaps) where
   one_step : (s s' : State) (t : ℕ) → s.buffers t ≡ [] → (a : Action) → action p.threads t (s.locals t) ≡ a → direct s t a ≡ Some s' → Leads s s'
   one_step s s' t empty Stop e h = absurd cc
   one_step s s' t empty (Go next) e h = by_step s s' t empty (rw e h)
-  one_step s s' t empty (Wait next) e h = by_step s s' t empty (rw e (rw empty h))
-  one_step s s' t empty (Read l to next) e h = by_step s s' t empty (rw e (rw empty h))
   one_step s s' t empty (Write l v next) e h = (
     Exec t ∷ Flush t ∷ [],
     λ ls.
         exec_step s (stored s t l v next) t empty (rw e refl) (Flush t ∷ ls) ∙ ap (option_and_then (λ next. run p (StoreBufferMachine gaps) next ls)) (stored_flushed s s' t l v next empty h),
   )
-  one_step s s' t empty (Swap l v to next) e h = by_step s s' t empty (rw e (rw empty h))
+  one_step s s' t empty a e h = by_step s s' t empty (rw e (rw empty h))
 
   -- a sequential step leaves the buffers
   pub same_buffers : (s s' : State) (t : ℕ) (a : Action) → direct s t a ≡ Some s' → s'.buffers ≡ s.buffers
   same_buffers s s' t Stop h = absurd cc
-  same_buffers s s' t (Go next) h = sym (ap (λ (z : State). z.buffers) (same_Some _ s' h))
-  same_buffers s s' t (Wait next) h = sym (ap (λ (z : State). z.buffers) (same_Some _ s' h))
-  same_buffers s s' t (Read l to next) h = sym (ap (λ (z : State). z.buffers) (same_Some _ s' h))
-  same_buffers s s' t (Write l v next) h = sym (ap (λ (z : State). z.buffers) (same_Some _ s' h))
-  same_buffers s s' t (Swap l v to next) h = sym (ap (λ (z : State). z.buffers) (same_Some _ s' h))
+  same_buffers s s' t a h = sym (ap (λ (z : State). z.buffers) (same_Some _ s' h))
 
   -- by each step in turn
   pub embed : (last : State) (ls : List Label) (s : State) → ((t : ℕ) → s.buffers t ≡ []) → run p SequentialMachine s ls ≡ Some last →

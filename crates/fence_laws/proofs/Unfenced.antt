@@ -1,13 +1,12 @@
 -- A run with gaps fenced is a run with none fenced.
-use Rattle.std.proofs.Common.{◌≡◌, Bool, true, false, List, [], ◌∷◌, Option, Some, option_and_then, ap, ◌∙◌}
+use Rattle.std.proofs.Common.{◌≡◌, Bool, true, List, [], ◌∷◌, Option, Some, option_and_then, ap, ◌∙◌}
 use Rattle.fence_laws.proofs.Vocabulary.{option_and_then_some, Listing, Gaps, action, Label, Exec, Flush, Pending, no_gaps, StoreBufferMachine, State, past_gap, buffered, step, run}
 
 module _ (p : Listing) (gaps : Gaps) where
   -- what a gap let through can be done
   let_by : (b : Bool) (ws : List Pending) (s z : State) (f : State → Option State) → option_and_then f (past_gap b ws s) ≡ Some z → f s ≡ Some z
-  let_by true [] s z f e = e
   let_by true (w ∷ ws) s z f e = absurd cc
-  let_by false ws s z f e = e
+  let_by b ws s z f e = e
 
   -- a step
   unfenced_step : (s z : State) (l : Label) → step p (StoreBufferMachine gaps) s l ≡ Some z → step p (StoreBufferMachine no_gaps) s l ≡ Some z

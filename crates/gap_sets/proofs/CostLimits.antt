@@ -24,10 +24,8 @@ none_passes p xs k d none h = fails_before_first p xs k d (omega (arith, past_th
 no_fault : (many : Bool) (free too_large : Option ℕ)
     → cond many (Some TooMany) (option_or (option_map Zero free) (option_map TooLarge too_large)) ≡ None
     → (many ≡ false) × (free ≡ None) × (too_large ≡ None)
-no_fault true free too_large e = cc
-no_fault false (Some gap) too_large e = cc
-no_fault false None (Some gap) e = cc
 no_fault false None None e = (refl, refl, refl)
+no_fault many free too_large e = cc
 
 few : (n : ℕ) → nat_lt MAX_GAPS n ≡ false → n ≤ MAX_GAPS
 few n h = grind (arith, nat_tests)

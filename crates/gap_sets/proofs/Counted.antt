@@ -33,9 +33,8 @@ shifted n a (suc k) =
 
 -- a bit is 1 or 0
 bit_value : (b : ℕ) → b < 2 → b ≡ cond (b == 1) 1 0
-bit_value zero h = refl
-bit_value (suc zero) h = refl
 bit_value (suc (suc b)) h = absurd (omega arith)
+bit_value b h = refl
 
 -- half of a word has one bit less
 halved : (k n : ℕ) → n < 2 ^ suc k → n / 2 < 2 ^ k

@@ -35,10 +35,9 @@ chained costs a b c (inr d) (inr e) = inr (d.0 ∙ e.0, chain a b c d.1 e.1)
 
 -- the set that has the first gap at which two sets differ
 least : (a b : SetOfGaps) (g : ℕ) (v w : Bool) → set.contains a g ≡ v → set.contains b g ≡ w → v ≢ w → AlikeBelow (set.contains a) (set.contains b) g → HasLeastDifference a b ⊎ HasLeastDifference b a
-least a b g true true e f differ alike = absurd (differ refl)
-least a b g false false e f differ alike = absurd (differ refl)
 least a b g true false e f differ alike = inl (record { gap = g; in_first = e; not_in_second = f; alike_below = alike })
 least a b g false true e f differ alike = inr (record { gap = g; in_first = f; not_in_second = e; alike_below = λ k h. sym (alike k h) })
+least a b g v w e f differ alike = absurd (differ refl)
 
 -- two sets of gaps are equal, or one of them has the least gap of the difference
 pub compared : (a b : SetOfGaps) → IsGapSet a → IsGapSet b → (a ≡ b) ⊎ (HasLeastDifference a b ⊎ HasLeastDifference b a)

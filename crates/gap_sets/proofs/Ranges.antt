@@ -22,9 +22,8 @@ sum-cond f false x xs = omega arith
 
 -- a term that is counted by a test is counted by a weaker test
 counted_once : (v w : Bool) (x : ℕ) → (v ≡ true → w ≡ true) → cond v x 0 ≤ cond w x 0
-counted_once true true x h = omega arith
 counted_once true false x h = let no = h refl in cc
-counted_once false w x h = omega arith
+counted_once v w x h = omega arith
 
 -- fewer terms come to no more
 sum-le : (f : ℕ → ℕ) (p r : ℕ → Bool) (a n : ℕ) → ((q : ℕ) → p q ≡ true → r q ≡ true) → sum_by f (filter p (range_with_len a n)) ≤ sum_by f (filter r (range_with_len a n))

@@ -9,10 +9,9 @@ use Rattle.gap_sets.specs.Laws.{ProperSubsetIsBetter}
 
 -- of two tests of which one passes only with the other, that differ
 left_out : (v w : Bool) → (v ≡ true → w ≡ true) → v ≢ w → (v ≡ false) × (w ≡ true)
-left_out true true within differ = absurd (differ refl)
-left_out false false within differ = absurd (differ refl)
 left_out true false within differ = let no = within refl in cc
 left_out false true within differ = (refl, refl)
+left_out v w within differ = absurd (differ refl)
 
 -- a set that is not equal to one that holds it leaves a gap of it out
 missed : (a b : SetOfGaps) → IsGapSet b → ((gap : ℕ) → set.contains a gap ≡ true → set.contains b gap ≡ true) → a ≢ b

@@ -8,18 +8,13 @@ AlikeBelow p q n = (k : ℕ) → k < n → p k ≡ q k
 
 -- two answers are equal or differ
 same_or_not : (v w : Bool) → (v ≡ w) ⊎ (v ≢ w)
-same_or_not true true = inl refl
-same_or_not false false = inl refl
 same_or_not true false = inr (λ e. cc)
 same_or_not false true = inr (λ e. cc)
+same_or_not v w = inl refl
 
 -- alike below n and at n
 more_alike : (p q : ℕ → Bool) (n : ℕ) → AlikeBelow p q n → p n ≡ q n → AlikeBelow p q (suc n)
-more_alike p q n alike here k h =
-    elim (cases_lt k n) [
-      | inl below ↦ alike k below
-      | inr last ↦ let same : k ≡ n = omega arith in rw same here
-    ]
+more_alike p q n alike here k h = elim (cases_lt k n) [ inl below ↦ alike k below | inr last ↦ let same : k ≡ n = omega arith in rw same here ]
 
 -- alike below n, or a first number at which they differ
 pub first_difference : (p q : ℕ → Bool) (n : ℕ) → AlikeBelow p q n ⊎ ((g : ℕ) × (p g ≢ q g) × AlikeBelow p q g)
@@ -38,7 +33,4 @@ fails_beyond false k n h only = refl
 -- alike below n and both failing from n on
 pub alike_beyond : (p q : ℕ → Bool) (n : ℕ) → AlikeBelow p q n → ((k : ℕ) → p k ≡ true → k < n) → ((k : ℕ) → q k ≡ true → k < n) → (k : ℕ) → p k ≡ q k
 alike_beyond p q n alike only_p only_q k =
-    elim (cases_lt k n) [
-      | inl below ↦ alike k below
-      | inr beyond ↦ fails_beyond (p k) k n beyond (only_p k) ∙ sym (fails_beyond (q k) k n beyond (only_q k))
-    ]
+    elim (cases_lt k n) [ inl below ↦ alike k below | inr beyond ↦ fails_beyond (p k) k n beyond (only_p k) ∙ sym (fails_beyond (q k) k n beyond (only_q k)) ]

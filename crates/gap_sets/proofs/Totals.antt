@@ -25,8 +25,7 @@ length-gaps_in s =
 
 -- at most MAX_GAPS gaps of a million each
 sum-limit : (costs : List ℕ) (s : SetOfGaps) → IsCostList costs → sum_by (cost_of costs) (numbers_of_set s) ≤ MAX_GAPS * MAX_COST
-sum-limit costs s list =
-    omega (arith, sum_by-le (cost_of costs) MAX_COST (numbers_of_set s) (λ k d _. cost_of-limit costs _ list), length-gaps_in s)
+sum-limit costs s list = omega (arith, sum_by-le (cost_of costs) MAX_COST (numbers_of_set s) (λ k d _. cost_of-limit costs _ list), length-gaps_in s)
 
 -- what is added up so far and the next gap's cost are within the limit
 pub next-limit : (costs : List ℕ) (s : SetOfGaps) (left rest : List ℕ) (gap sum : ℕ) → IsCostList costs

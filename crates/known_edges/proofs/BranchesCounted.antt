@@ -81,11 +81,7 @@ module _ (p : Listing) where
 
   -- a location's values are among what a register may hold
   value_known : (l v : ℕ) → IsValueOf p l v → IsKnown p v
-  value_known l v is = elim is [
-    | inl q ↦ inr (inr (inr (l, q)))
-    | inr (inl o) ↦ inr (inl (inr (inl (l, o))))
-    | inr (inr k) ↦ k.1
-  ]
+  value_known l v is = elim is [ inl q ↦ inr (inr (inr (l, q))) | inr (inl o) ↦ inr (inl (inr (inl (l, o)))) | inr (inr k) ↦ k.1 ]
 
   -- so different values of a location are few
   pub few_values : (l : ℕ) (values : List ℕ) → IsWithinLimits p.threads p.memory → HaveAllRegisters p.threads → IsStrictlyIncreasing values → ((v : ℕ) → Contains values v → IsValueOf p l v) →
@@ -102,9 +98,8 @@ module _ (p : Listing) where
 
 -- no event comes before itself
 pub not_before_itself : (e : Event) → ComesBefore e e → ⊥
-not_before_itself (Initial l) h = omega arith
-not_before_itself (At t i) (inl h) = omega arith
 not_before_itself (At t i) (inr h) = let less = h.1 in omega arith
+not_before_itself e g = omega arith
 
 module _ (p : Listing) (mode : Machine) (k : Sketch) (read : Event) (within : IsWithinLimits p.threads p.memory) where
   -- a source is the initial write of the read's location, or an access

@@ -1,11 +1,11 @@
 -- How many choices a sketch has, and how many it has at most.
-use Rattle.std.proofs.Common.{◌≡◌, ◌≢◌, ℕ, ◌+◌, ◌*◌, ◌<◌, ◌≤◌, List, [], ◌∷◌, ◌++◌, Some, None, map, length, Contains, sum_by, ap, ◌∙◌, subst, inl, inr, arith}
+use Rattle.std.proofs.Common.{◌≡◌, ◌≢◌, ℕ, ◌+◌, ◌*◌, ◌≤◌, List, [], ◌∷◌, ◌++◌, Some, None, map, length, Contains, sum_by, ap, ◌∙◌, subst, inl, inr, arith}
 use Rattle.std.specs.List.{AllPairs, remove}
 use Rattle.std.proofs.lemmas.List.{length-map, length-append, take_all}
 use Rattle.std.proofs.lemmas.List.Edits.{length-remove}
-use Rattle.std.proofs.lemmas.List.Sums.{get_or-le-sum_by, sum_by-set}
-use Rattle.std.proofs.lemmas.Option.{same_Some, slice_get_within, get_or_from_slice_get, unwrap_or-slice_get}
-use Rattle.known_edges.proofs.Vocabulary.{cases_lt, Contains-append_left, Contains-append_right, Access, Event, Initial, At, ProgramSketch, mode_in, trace_in, access_in, with_chosen, IsLawful}
+use Rattle.std.proofs.lemmas.List.Sums.{get_or-le-sum_by}
+use Rattle.std.proofs.lemmas.Option.{same_Some, slice_get_within, get_or_from_slice_get}
+use Rattle.known_edges.proofs.Vocabulary.{cases_lt, Contains-append_left, Contains-append_right, Access, Event, Initial, At, ProgramSketch, mode_in, trace_in, access_in, IsLawful}
 use Rattle.known_edges.proofs.Vocabulary.{AreOtherTwo, IsAccess}
 use Rattle.tso_program.specs.Listings.{accesses_of}
 use Rattle.candidate_executions.proofs.Orders.Lists.{get_some, first_or_later, first_is_here, later_is_here, mapped}
@@ -15,7 +15,7 @@ use Rattle.known_edges.proofs.Accesses.{none_past}
 use Rattle.thread_traces.proofs.AccessesCounted.{given_few}
 use Rattle.thread_traces.proofs.EventsCounted.{stays, first_pairs, later_pairs, few_of, rows, rows_many, code_there, all_events, all_events_few, all_events_has}
 use Rattle.tso_program.specs.declared.limits.TheConstants.{MAX_ACCESSES}
-use Rattle.candidate_executions.specs.Sketches.{given_to, with_value, with_source, with_pair}
+use Rattle.candidate_executions.specs.Sketches.{given_to}
 
 abbrev Two : Type 0
 Two = Event × Event
@@ -151,17 +151,3 @@ module _ (s : ProgramSketch) (lawful : IsLawful s) where
       let b = sources_few in
       let c = pairs_few in
       omega arith
-
--- each choice is one more
-pub value_counted : (s : ProgramSketch) (t v : ℕ) → t < length s.chosen.given → choice_count (with_chosen s (with_value s.chosen t v)) ≡ choice_count s + 1
-value_counted s t v h =
-    let sum = sum_by-set length s.chosen.given t (given_to s.chosen t ++ v ∷ []) [] h in
-    let is = ap length (unwrap_or-slice_get s.chosen.given t []) in
-    let long = length-append (given_to s.chosen t) (v ∷ []) in
-    omega arith
-
-pub source_counted : (s : ProgramSketch) (read source : Event) → choice_count (with_chosen s (with_source s.chosen read source)) ≡ choice_count s + 1
-source_counted s read source = (let long = length-append s.chosen.sources ((read, source) ∷ []) in omega arith)
-
-pub pair_counted : (s : ProgramSketch) (first second : Event) → choice_count (with_chosen s (with_pair s.chosen first second)) ≡ choice_count s + 1
-pair_counted s first second = (let long = length-append s.chosen.pairs ((first, second) ∷ []) in omega arith)

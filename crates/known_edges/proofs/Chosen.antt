@@ -39,10 +39,6 @@ pub has_source_by : (s : ProgramSketch) (read : Event) (found : Option Event) (b
 has_source_by s read None b e each = (λ t. absurd (let no : false ≡ true = sym e ∙ t in cc), λ h. absurd (none-some h.0 ((each h.0).1 h.1)))
 has_source_by s read (Some source) b e each = (λ t. (source, (each source).0 refl), λ h. e)
 
--- a pair that is found puts its second event after its first
-pub later_found : (pairs : List (Event × Event)) (i : ℕ) (d : Event × Event) (event : Event) → i < length pairs → (get_or pairs i d).0 ≡ event → (e : Event) × Contains pairs (event, e)
-later_found pairs i d event h is = ((get_or pairs i d).1, subst (λ e. Contains pairs (e, (get_or pairs i d).1)) is (Contains-get_or pairs i d h))
-
 module _ (p : Listing) (mode : Mode) (thread_traces : List ThreadTrace) (sources pairs : List (Event × Event)) (kept : KeepsTraces p mode thread_traces sources pairs) where
   abbrev s : ProgramSketch
   s = view_of p mode thread_traces sources pairs

@@ -10,9 +10,8 @@ use Rattle.known_edges.proofs.Rounds.{cycle_down, cycle_up}
 use Rattle.known_edges.proofs.RowsKept.{source_represented, pair_represented}
 
 side : (kind : Kind) (main global : List ℕ) → HasRound (union_rows kind main global) → HasRound main ⊎ HasRound global
-side union.Sequential main global h = inl h
-side union.Location main global h = inl h
 side union.Global main global h = inr h
+side kind main global h = inl h
 
 module _ (p : Listing) (mode : Mode) (thread_traces : List ThreadTrace) (events : List Event) (sources pairs : List (Event × Event)) (later main global : List ℕ)
     (is : IsRepresented p mode thread_traces events sources pairs later main global) (whole : IsWhole p (machine_of_mode p mode) (view_of p mode thread_traces sources pairs).chosen) where

@@ -1,11 +1,12 @@
 -- What a choice adds to the known edges, and that the rows are brought up to date with it.
 use Rattle.std.proofs.Common.{◌≡◌, ◌≢◌, ◌↔◌, ◌⊎◌, ℕ, List, [], ◌∷◌, ◌++◌, Some, Contains, slice_get, refl, sym, ap, ◌∙◌, subst, inl, inr}
-use Rattle.known_edges.proofs.Vocabulary.{Contains-append_left, Contains-push, Contains-push_cases, IsIn, RowHas, Listing, Access, Event, Kind, IsOfMode, SameThread, Precedes, IsBefore, with_source}
-use Rattle.known_edges.proofs.Vocabulary.{with_pair, KnownEdgeOfMode, Mode, Sequential, Fenced, machine_of_mode, ProgramSketch, mode_in, access_in, with_chosen, IsLawful, OrderPart, SourcePart}
+use Rattle.known_edges.proofs.Vocabulary.{Contains-append_left, Contains-push, Contains-push_cases, IsIn, RowHas, Listing, Access, Event, Kind, IsOfMode, SameThread, IsBefore, with_source}
+use Rattle.known_edges.proofs.Vocabulary.{with_pair, KnownEdgeOfMode, Mode, Sequential, Fenced, machine_of_mode, ProgramSketch, mode_in, access_in, with_chosen, IsLawful, SourcePart}
 use Rattle.known_edges.proofs.Vocabulary.{MayRead, MayFollow}
 use Rattle.candidate_executions.specs.declared.event.Kind.TheVariants as union
-use Rattle.known_edges.specs.Rows.{IsRowOf, AreRowsOf, IsAlike, ReadsBut, main_kind}
+use Rattle.known_edges.specs.Rows.{IsRowOf, AreRowsOf, ReadsBut, main_kind}
 use Rattle.known_edges.proofs.KnownParts.{Parts4, to_relates, of_relates}
+pub use Rattle.known_edges.proofs.Unchosen.{order_precedes}
 
 -- the event has a number
 abbrev pub HasNumber : List Event → Event → Type 0
@@ -28,10 +29,6 @@ connected events R S A B from to old new rows of_from of_to each same d e = (
   ]),
 )
 
--- the rows of one event are one
-pub rows_alike : (events : List Event) (R : Event → Event → Type 0) (rows : List ℕ) → AreRowsOf events R rows → IsAlike events rows
-rows_alike events R rows are j k d same h = let (x, y, at, to_at, r) = (are j d).0 h in (are k d).1 (x, y, sym same ∙ at, to_at, r)
-
 -- the main union is one of the mode's
 pub main_of_mode : (p : Listing) (mode : Mode) → IsOfMode (machine_of_mode p mode) (main_kind mode)
 main_of_mode p Sequential = tt
@@ -52,13 +49,11 @@ module _ (s : ProgramSketch) (lawful : IsLawful s) (first second : Event) (may :
 
   same_source : (kind : Kind) (d e : Event) → SourcePart t.chosen kind d e → SourcePart s.chosen kind d e
   same_source union.Sequential d e h = h
-  same_source union.Location d e h = h
-  same_source union.Global d e h = h
+  same_source kind d e h = h
 
   source_same : (kind : Kind) (d e : Event) → SourcePart s.chosen kind d e → SourcePart t.chosen kind d e
   source_same union.Sequential d e h = h
-  source_same union.Location d e h = h
-  source_same union.Global d e h = h
+  source_same kind d e h = h
 
   before_of : (d e : Event) (y : Access) → IsBefore t.chosen d e y → IsBefore s.chosen d e y ⊎ ((d ≡ first) × (e ≡ second))
   before_of d e y (inl h) = elim (Contains-push_cases s.chosen.pairs (first, second) (d, e) h) [
@@ -74,10 +69,7 @@ module _ (s : ProgramSketch) (lawful : IsLawful s) (first second : Event) (may :
   parts_of_pair : (kind : Kind) (d : Event) (x : Access) (e : Event) (y : Access) → Parts4 t.chosen kind d x e y → Parts4 s.chosen kind d x e y ⊎ (Earlier d × (e ≡ second))
   parts_of_pair kind d x e y (inl o) = inl (inl o)
   parts_of_pair kind d x e y (inr (inl h)) = inl (inr (inl (same_source kind d e h)))
-  parts_of_pair kind d x e y (inr (inr (inl h))) = elim (before_of d e y h) [
-    | inl b ↦ inl (inr (inr (inl b)))
-    | inr q ↦ inr (inl q.0, q.1)
-  ]
+  parts_of_pair kind d x e y (inr (inr (inl h))) = elim (before_of d e y h) [ inl b ↦ inl (inr (inr (inl b))) | inr q ↦ inr (inl q.0, q.1) ]
   parts_of_pair kind d x e y (inr (inr (inr (source, has, b, other)))) = elim (before_of source e y b) [
     | inl c ↦ inl (inr (inr (inr (source, has, c, other))))
     | inr q ↦ inr (inr (subst (λ z. Contains s.chosen.sources (d, z)) q.0 has, λ same. other (same ∙ sym q.1)), q.1)
@@ -156,32 +148,27 @@ module _ (s : ProgramSketch) (lawful : IsLawful s) (read source : Event) (may : 
 
   -- the new edge of a union from the source to its read
   abbrev pub Step : Kind → Event → Event → Type 0
-  Step union.Sequential d e = (d ≡ source) × (e ≡ read)
-  Step union.Location d e = (d ≡ source) × (e ≡ read)
   Step union.Global d e = ((SameThread source read → ⊥) × (d ≡ source)) × (e ≡ read)
+  Step h d e = (d ≡ source) × (e ≡ read)
 
   step_of : (kind : Kind) (d e : Event) → SourcePart u.chosen kind d e → SourcePart s.chosen kind d e ⊎ Step kind d e
-  step_of union.Sequential d e h = sources_of d e h
-  step_of union.Location d e h = sources_of d e h
   step_of union.Global d e h = elim (sources_of d e h.0) [
     | inl a ↦ inl (a, h.1)
     | inr q ↦ inr ((λ same. h.1 (subst (λ z. SameThread z e) (sym q.0) (subst (λ z. SameThread source z) (sym q.1) same)), q.0), q.1)
   ]
+  step_of kind d e h = sources_of d e h
 
   step_kept : (kind : Kind) (d e : Event) → SourcePart s.chosen kind d e → SourcePart u.chosen kind d e
-  step_kept union.Sequential d e h = sources_kept d e h
-  step_kept union.Location d e h = sources_kept d e h
   step_kept union.Global d e h = (sources_kept d e h.0, h.1)
+  step_kept kind d e h = sources_kept d e h
 
   step_new : (kind : Kind) (d e : Event) → Step kind d e → SourcePart u.chosen kind d e
-  step_new union.Sequential d e h = sources_new d e h.0 h.1
-  step_new union.Location d e h = sources_new d e h.0 h.1
   step_new union.Global d e h = (sources_new d e h.0.1 h.1, λ same. h.0.0 (subst (λ z. SameThread z read) h.0.1 (subst (λ z. SameThread d z) h.1 same)))
+  step_new kind d e h = sources_new d e h.0 h.1
 
   step_ends : (kind : Kind) (d e : Event) → Step kind d e → (d ≡ source) × (e ≡ read)
-  step_ends union.Sequential d e h = h
-  step_ends union.Location d e h = h
   step_ends union.Global d e h = (h.0.1, h.1)
+  step_ends kind d e h = h
 
   parts_of_source : (kind : Kind) (d : Event) (x : Access) (e : Event) (y : Access) → access_in s e ≡ Some y → Parts4 u.chosen kind d x e y →
       Parts4 s.chosen kind d x e y ⊎ (Step kind d e ⊎ ((d ≡ read) × After e))
@@ -226,9 +213,3 @@ module _ (s : ProgramSketch) (lawful : IsLawful s) (read source : Event) (may : 
           (m, (x, y, ad, ae, to_relates u.chosen kind d x e y (inr (inr (inr (source, sources_new source d refl q, b, λ same. other (sym q ∙ same))))))))
     ],
   )
-
--- program order of each union is program order
-pub order_precedes : (kind : Kind) (d : Event) (x : Access) (e : Event) (y : Access) → OrderPart kind d x e y → Precedes d e
-order_precedes union.Sequential d x e y h = h
-order_precedes union.Location d x e y h = h.0
-order_precedes union.Global d x e y h = h.0

@@ -26,8 +26,7 @@ kind_of s kind (e ∷ es) h = (next_in_cycle (KnownEdgeOfMode s.program (mode_in
 -- if a mode's unions have no cycle, no cycle exists at all
 pub none_sequential : (s : ProgramSketch) → s.mode ≡ Sequential → ((es : List Event) → IsKnownCycle s.program (mode_in s) s.chosen union.Sequential es → ⊥) → HasNoCycle s
 none_sequential s e none union.Sequential es h = none es h
-none_sequential s e none union.Location es h = not_of s Sequential union.Location e (kind_of s union.Location es h)
-none_sequential s e none union.Global es h = not_of s Sequential union.Global e (kind_of s union.Global es h)
+none_sequential s e none g es h = not_of s Sequential g e (kind_of s g es h)
 
 pub none_fenced : (s : ProgramSketch) (gaps : SetOfGaps) → s.mode ≡ Fenced gaps → ((es : List Event) → IsKnownCycle s.program (mode_in s) s.chosen union.Location es → ⊥) →
     ((es : List Event) → IsKnownCycle s.program (mode_in s) s.chosen union.Global es → ⊥) → HasNoCycle s

@@ -1,7 +1,8 @@
 -- Accesses listed by thread and index.
 use Rattle.std.proofs.Common.{◌≡◌, ℕ, ◌<◌, List, [], Some, slice_get, get_or, sym, ◌∙◌, subst, arith}
-use Rattle.known_edges.proofs.Vocabulary.{AllPairs, slice_get_within, get_or_from_slice_get, same_Some, RowHas, Event, Initial, At, Kind, Precedes, ComesBefore, ThreadTrace, InOrder, AreRowsOf}
+use Rattle.known_edges.proofs.Vocabulary.{AllPairs, slice_get_within, get_or_from_slice_get, same_Some, RowHas, Event, Kind, Precedes, ComesBefore, ThreadTrace, InOrder, AreRowsOf}
 use Rattle.known_edges.proofs.Connected.{order_precedes}
+use Rattle.known_edges.proofs.Unchosen.{not_itself}
 
 -- nothing is listed
 pub none_ordered : AllPairs ComesBefore []
@@ -11,10 +12,6 @@ none_ordered i j d h l = absurd (omega arith)
 pub before_in : (events : List Event) → AllPairs ComesBefore events → (i j : ℕ) (a b : Event) → i < j → slice_get events i ≡ Some a → slice_get events j ≡ Some b → ComesBefore a b
 before_in events ordered i j a b less here there = subst (λ x. ComesBefore x b) (get_or_from_slice_get events i a a here)
     (subst (ComesBefore (get_or events i a)) (get_or_from_slice_get events j b a there) (ordered i j a less (slice_get_within events j b there)))
-
-not_itself : (a : Event) → Precedes a a → ⊥
-not_itself (Initial l) p = p
-not_itself (At t i) p = (let q = p.1 in omega arith)
 
 -- no access comes after itself
 pub order_never_round : (thread_traces : List ThreadTrace) (kind : Kind) (events : List Event) (rows : List ℕ) → AreRowsOf events (InOrder thread_traces kind) rows → (d : ℕ) → RowHas rows d d → ⊥

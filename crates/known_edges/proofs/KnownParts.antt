@@ -8,21 +8,18 @@ use Rattle.thread_traces.specs.ThreadOrder.{IsKeptBy}
 -- program order is that of the accesses' thread, where the union keeps it
 pub order_part : (kind : Kind) (d : Event) (x : Access) (e : Event) (y : Access) → OrderPart kind d x e y ↔ (Precedes d e × IsKeptBy kind x y)
 order_part union.Sequential d x e y = (λ h. (h, tt), λ h. h.0)
-order_part union.Location d x e y = (λ h. h, λ h. h)
-order_part union.Global d x e y = (λ h. h, λ h. h)
+order_part kind d x e y = (λ h. h, λ h. h)
 
 abbrev pub Parts4 : Sketch → Kind → Event → Access → Event → Access → Type 0
 Parts4 k kind d x e y = OrderPart kind d x e y ⊎ (SourcePart k kind d e ⊎ (IsBefore k d e y ⊎ KnownFromReads k d e y))
 
 pub to_relates : (k : Sketch) (kind : Kind) (d : Event) (x : Access) (e : Event) (y : Access) → Parts4 k kind d x e y → KnownRelates k kind d x e y
 to_relates k union.Sequential d x e y h = h
-to_relates k union.Location d x e y h = h
-to_relates k union.Global d x e y h = h
+to_relates k kind d x e y h = h
 
 pub of_relates : (k : Sketch) (kind : Kind) (d : Event) (x : Access) (e : Event) (y : Access) → KnownRelates k kind d x e y → Parts4 k kind d x e y
 of_relates k union.Sequential d x e y h = h
-of_relates k union.Location d x e y h = h
-of_relates k union.Global d x e y h = h
+of_relates k kind d x e y h = h
 
 -- the last part decides where the others do not hold
 pub last_part : (k : Sketch) (kind : Kind) (d : Event) (x : Access) (e : Event) (y : Access) (b : Bool) → (OrderPart kind d x e y → ⊥) → (SourcePart k kind d e → ⊥) → (IsBefore k d e y → ⊥) →

@@ -59,12 +59,11 @@ module _ (p : Listing) (mode : Mode) (thread_traces : List ThreadTrace) (within 
 all_none : (cs : List ThreadTrace) (threads : List Thread) → length cs ≡ length threads → ((k : ℕ) (c : ThreadTrace) → slice_get cs k ≡ Some c → c.given ≡ []) →
     given_lists cs ≡ map (λ thread. []) threads
 all_none [] [] e f = refl
-all_none [] (x ∷ xs) e f = absurd (omega arith)
-all_none (c ∷ cs) [] e f = absurd (omega arith)
 all_none (c ∷ cs) (x ∷ xs) e f =
     let here : c.given ≡ [] = f 0 c refl in
     let rest = all_none cs xs (omega arith) (λ k d h. f (suc k) d h) in
     (λ i. here i ∷ rest i)
+all_none cs threads e f = absurd (omega arith)
 
 -- is the sketch with nothing chosen
 pub new_parts : (p : Listing) (mode : Mode) (thread_traces : List ThreadTrace) → length thread_traces ≡ length p.threads →
@@ -73,9 +72,8 @@ new_parts p mode thread_traces many made = ap (λ given. record { program = p; m
     (all_none thread_traces p.threads many (λ k c e. (made k c e).given_is))
 
 pub given_set : (cs : List ThreadTrace) (t : ℕ) (c : ThreadTrace) → given_lists (set cs t c) ≡ set (given_lists cs) t c.given
-given_set [] t c = refl
-given_set (d ∷ cs) zero c = refl
 given_set (d ∷ cs) (suc t) c = ap (λ xs. d.given ∷ xs) (given_set cs t c)
+given_set cs t c = refl
 
 pub given_at : (cs : List ThreadTrace) (t : ℕ) (c : ThreadTrace) → slice_get cs t ≡ Some c → given_in cs t ≡ c.given
 given_at [] t c e = absurd cc
@@ -102,11 +100,9 @@ module _ (p : Listing) (mode : Mode) (thread_traces : List ThreadTrace) (sources
   given_other u ne = go thread_traces t u ne
     where
       go : (cs : List ThreadTrace) (t u : ℕ) → u ≢ t → given_in (set cs t new) u ≡ given_in cs u
-      go [] t u h = refl
       go (d ∷ cs) zero zero h = absurd (h refl)
-      go (d ∷ cs) zero (suc u) h = refl
-      go (d ∷ cs) (suc t) zero h = refl
       go (d ∷ cs) (suc t) (suc u) h = go cs t u (λ e. h (ap suc e))
+      go cs t u h = refl
 
   abbrev traced_with : ℕ → List ℕ → Type 0
   traced_with u given = Good (IsValueOf p) (trace (action p.threads u) (fenced_gaps (machine_of_mode p mode) u) (length (code_of p.threads u)) 0 (start_of p.threads u) given)
@@ -173,10 +169,6 @@ pub new_kept_by : (p q : Listing) (mode : Mode) (thread_traces : List ThreadTrac
     KeepsTraces p mode thread_traces [] [] → KeepsTraces q mode thread_traces sources pairs
 new_kept_by p q mode thread_traces sources pairs e f g kept =
     subst (λ r. KeepsTraces r mode thread_traces sources pairs) (sym e) (subst (λ xs. KeepsTraces p mode thread_traces xs pairs) (sym f) (subst (λ xs. KeepsTraces p mode thread_traces [] xs) (sym g) kept))
-
-pub new_parts_by : (p q : Listing) (mode : Mode) (thread_traces : List ThreadTrace) (sources pairs : List (Event × Event)) → q ≡ p → sources ≡ [] → pairs ≡ [] →
-    view_of p mode thread_traces [] [] ≡ nothing_chosen p mode → view_of q mode thread_traces sources pairs ≡ nothing_chosen p mode
-new_parts_by p q mode thread_traces sources pairs e f g same = (λ i. view_of (e i) mode thread_traces (f i) (g i)) ∙ same
 
 -- nothing is chosen in empty lists
 pub none_chosen : (sources pairs : List (Event × Event)) → sources ≡ [] → pairs ≡ [] → (d e : Event) → Contains sources (d, e) ⊎ Contains pairs (d, e) → ⊥

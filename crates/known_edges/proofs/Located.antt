@@ -1,6 +1,6 @@
 -- The location of each access is one of the program's.
 use Rattle.std.proofs.Common.{◌≡◌, ℕ, zero, suc, ◌<◌, Bool, List, [], ◌∷◌, Option, Some, None, slice_get, length, refl, sym, ap, ◌∙◌, subst, arith}
-use Rattle.known_edges.proofs.Vocabulary.{slice_get_within, same_Some, Action, Stop, Go, Wait, Read, Write, Swap, Local, Instr, Listing, IsWithinLimits, action, instr_at, code_of, start_of, Access}
+use Rattle.known_edges.proofs.Vocabulary.{slice_get_within, same_Some, Action, Go, Wait, Read, Write, Swap, Local, Instr, Listing, IsWithinLimits, action, instr_at, code_of, start_of, Access}
 use Rattle.known_edges.proofs.Vocabulary.{Event, Initial, At, given_to, Trace, trace, traced, entered, fenced_gaps, load_of, store_of, exchange_of, Mode, ThreadTrace, ProgramSketch, mode_in, view_of}
 use Rattle.known_edges.proofs.Vocabulary.{KeepsTraces, HaveLocations}
 use Rattle.tso_program.specs.Actions.{act, loaded, IsLocated}
@@ -21,14 +21,12 @@ more_within n a accesses h each (suc i) x at = each i x at
 -- one instruction, and the rest
 traced_within : (n : ℕ) (rest : ℕ → Local → List ℕ → Trace) → ((section : ℕ) (s : Local) (given : List ℕ) → StayWithin n (rest section s given).accesses) →
     (section : ℕ) (s : Local) (a : Action) → IsLocated n a → (given : List ℕ) → StayWithin n (traced rest section s a given).accesses
-traced_within n rest each section s Stop h given = none_within n
 traced_within n rest each section s (Go next) h given = each section next given
 traced_within n rest each section s (Wait next) h given = each (suc section) next given
 traced_within n rest each section s (Write l v next) h given = more_within n (store_of section l v) (rest section next given).accesses h (each section next given)
-traced_within n rest each section s (Read l to next) h [] = none_within n
 traced_within n rest each section s (Read l to next) h (v ∷ given) = more_within n (load_of section l v) (rest section (loaded to v next) given).accesses h (each section (loaded to v next) given)
-traced_within n rest each section s (Swap l w to next) h [] = none_within n
 traced_within n rest each section s (Swap l w to next) h (v ∷ given) = more_within n (exchange_of section l v w) (rest (suc section) (loaded to v next) given).accesses h (each (suc section) (loaded to v next) given)
+traced_within n rest each section s a h given = none_within n
 
 trace_within : (n : ℕ) (does : Local → Action) (gap : ℕ → Bool) → ((s : Local) → IsLocated n (does s)) → (k section : ℕ) (s : Local) (given : List ℕ) → StayWithin n (trace does gap k section s given).accesses
 trace_within n does gap each zero section s given = none_within n

@@ -1,7 +1,7 @@
 -- Rows of events, gathered event by event.
 use Rattle.std.proofs.Common.{◌≡◌, ◌≢◌, ◌↔◌, ◌⊎◌, ℕ, ◌+◌, ◌<◌, ◌≤◌, List, Some, slice_get, get_or, set, length, sym, ap, ◌∙◌, subst, inl, inr, arith}
 use Rattle.std.proofs.lemmas.List.{get_or-set_same, get_or-set_other}
-use Rattle.known_edges.proofs.Vocabulary.{cases_lt, cases_eq, slice_get_within, slice_get-get_or, get_or_from_slice_get, same_Some, none_in_zero, Event, Initial, IsRowOf, AreRowsOf, ReadsBut}
+use Rattle.known_edges.proofs.Vocabulary.{cases_lt, cases_eq, slice_get_within, slice_get-get_or, get_or_from_slice_get, same_Some, Event, Initial, IsRowOf, AreRowsOf, ReadsBut}
 use Rattle.bit_rows.specs.Rows.{IsIn, RowHas, IsTransitive}
 
 -- the event of this number, of which P holds
@@ -11,9 +11,6 @@ Holds events P d = (x : Event) × (slice_get events d ≡ Some x) × P x
 -- the row has the first n events of which P holds
 abbrev pub IsRowBelow : List Event → (Event → Type 0) → ℕ → ℕ → Type 0
 IsRowBelow events P n row = (d : ℕ) → IsIn row d ↔ ((d < n) × Holds events P d)
-
-pub row_begins : (events : List Event) (P : Event → Type 0) → IsRowBelow events P 0 0
-row_begins events P d = (λ h. absurd (none_in_zero d h), λ h. absurd (let l = h.0 in omega arith))
 
 -- all events
 pub row_all : (events : List Event) (P : Event → Type 0) (n row : ℕ) → length events ≤ n → IsRowBelow events P n row → IsRowOf events P row
@@ -43,9 +40,6 @@ row_by events P Q row same is d = (
 -- a reader among the first n sources
 abbrev pub IsReaderBelow : List (Event × Event) → ℕ → Event → Event → Event → Type 0
 IsReaderBelow sources n source except read = (k : ℕ) × (k < n) × (slice_get sources k ≡ Some (read, source)) × (read ≢ except)
-
-pub readers_begin : (events : List Event) (sources : List (Event × Event)) (source except : Event) → IsRowOf events (IsReaderBelow sources 0 source except) 0
-readers_begin events sources source except d = (λ h. absurd (none_in_zero d h), λ h. absurd (let l = h.2.1 in omega arith))
 
 module _ (events : List Event) (sources : List (Event × Event)) (source except : Event) (n row : ℕ) (within : n < length sources)
     (below : IsRowOf events (IsReaderBelow sources n source except) row) where
@@ -94,8 +88,7 @@ readers_all events sources source except n row all = row_by events (IsReaderBelo
 
 -- the rows of the first n events
 abbrev pub AreRowsBelow : List Event → (Event → Event → Type 0) → ℕ → List ℕ → Type 0
-AreRowsBelow events R n rows =
-    (d e : ℕ) → RowHas rows d e ↔ ((d < n) × ((x : Event) × (slice_get events d ≡ Some x) × Holds events (R x) e))
+AreRowsBelow events R n rows = (d e : ℕ) → RowHas rows d e ↔ ((d < n) × ((x : Event) × (slice_get events d ≡ Some x) × Holds events (R x) e))
 
 -- the next row is written
 pub rows_more : (events : List Event) (R : Event → Event → Type 0) (n row : ℕ) (rows : List ℕ) → n < length events → n < length rows → AreRowsBelow events R n rows →

@@ -1,7 +1,7 @@
 -- Accesses by number: what the rows of a sketch say of its events.
 use Rattle.std.proofs.Common.{◌≡◌, ◌↔◌, ℕ, Bool, IsTrue, List, [], Option, Some, None, Contains, slice_get, get_or, length, refl, sym, ap, ◌∙◌, subst, inl, inr, ◌≤◌, arith}
 use Rattle.std.specs.Prelude.{slice_index}
-use Rattle.known_edges.proofs.Vocabulary.{option_map_or, slice_get_within, slice_get-get_or, get_or_from_slice_get, same_Some, IsIn, RowHas, ROW_BITS, MAX_THREADS, MAX_INSTRUCTIONS, Listing, Access}
+use Rattle.known_edges.proofs.Vocabulary.{option_map_or, slice_get_within, slice_get-get_or, get_or_from_slice_get, same_Some, IsIn, RowHas, MAX_THREADS, MAX_INSTRUCTIONS, Listing, Access}
 use Rattle.known_edges.proofs.Vocabulary.{Event, Initial, At, Kind, ComesBefore, IsOfMode, Mode, Sequential, Fenced, ThreadTrace, machine_of_mode, ProgramSketch, mode_in, trace_in, access_in, view_of}
 use Rattle.known_edges.proofs.Vocabulary.{KeepsTraces, IsInitialWrite, accesses_at, traced_access, IsOfThreads, AreAccesses, EachEnds, FitRow, AreRowsOf, HasWrites, IsRowOf, IsWriteAt, main_kind}
 use Rattle.known_edges.proofs.Vocabulary.{union_rows, some_value, of_some}
@@ -34,12 +34,10 @@ contained events x (k, at) = (k, slice_get_within events k x at, get_or_from_sli
 -- the rows of a union of the mode
 pub rows_of_kind : (p : Listing) (mode : Mode) (kind : Kind) (events : List Event) (R : Kind → Event → Event → Type 0) (main global : List ℕ) → IsOfMode (machine_of_mode p mode) kind →
     AreRowsOf events (R (main_kind mode)) main → AreRowsOf events (R union.Global) global → AreRowsOf events (R kind) (union_rows kind main global)
-rows_of_kind p Sequential union.Sequential events R main global of_mode a b = a
 rows_of_kind p Sequential union.Location events R main global of_mode a b = absurd of_mode
-rows_of_kind p Sequential union.Global events R main global of_mode a b = b
 rows_of_kind p (Fenced gaps) union.Sequential events R main global of_mode a b = absurd of_mode
-rows_of_kind p (Fenced gaps) union.Location events R main global of_mode a b = a
-rows_of_kind p (Fenced gaps) union.Global events R main global of_mode a b = b
+rows_of_kind p mode union.Global events R main global of_mode a b = b
+rows_of_kind p mode kind events R main global of_mode a b = a
 
 module _ (p : Listing) (mode : Mode) (thread_traces : List ThreadTrace) (sources pairs : List (Event × Event)) (kept : KeepsTraces p mode thread_traces sources pairs) where
   abbrev s : ProgramSketch
@@ -100,10 +98,6 @@ module _ (p : Listing) (mode : Mode) (thread_traces : List ThreadTrace) (sources
       omega arith
 
   module _ (events : List Event) (accesses : AreAccesses thread_traces events) where
-    -- all accesses have numbers in a row
-    pub accesses_few : length events ≤ ROW_BITS
-    accesses_few = fit_row events accesses.ordered (λ e has. (accesses.exact e).0 has)
-
     pub access_number : (e : Event) → IsAccess s.program (mode_in s) (given_to s.chosen) e → HasNumber events e
     access_number e h = number_of events e ((accesses.exact e).1 ((is_access e).0 h))
 

@@ -1,6 +1,6 @@
 -- Program order of each union is transitive.
-use Rattle.std.proofs.Common.{◌≡◌, ℕ, zero, suc, ◌<◌, ◌≤◌, Bool, true, false, List, [], ◌∷◌, Some, IsSome, slice_get, sym, ap, ◌∙◌, subst, inl, inr, arith}
-use Rattle.known_edges.proofs.Vocabulary.{same_Some, loaded, Action, Stop, Go, Wait, Read, Write, Swap, Local, Listing, action, start_of, Mode, machine_of_mode, Access, Event, Initial, At, Kind}
+use Rattle.std.proofs.Common.{◌≡◌, ℕ, zero, suc, ◌<◌, ◌≤◌, Bool, true, false, List, ◌∷◌, Some, IsSome, slice_get, sym, ap, ◌∙◌, subst, inl, inr, arith}
+use Rattle.known_edges.proofs.Vocabulary.{same_Some, loaded, Action, Go, Wait, Read, Write, Swap, Local, Listing, action, start_of, Mode, machine_of_mode, Access, Event, At, Kind}
 use Rattle.known_edges.proofs.Vocabulary.{Trace, trace, traced, with_access, entered, store_of, load_of, exchange_of, fenced_gaps, ThreadTrace, OrderPart, KeepsTraces}
 use Rattle.candidate_executions.specs.declared.event.Kind.TheVariants as union
 use Rattle.candidate_executions.specs.Consistency.{Precedes, KeepsOrder}
@@ -21,10 +21,9 @@ not_entered false n m h = h
 one_before : (a : Access) (T : Trace) (i j : ℕ) (x y : Access) → ((j : ℕ) (y : Access) → slice_get T.accesses j ≡ Some y → Rises a y) →
     ((i j : ℕ) → i < j → slice_get T.accesses i ≡ Some x → slice_get T.accesses j ≡ Some y → Rises x y) →
     i < j → slice_get (with_access a T).accesses i ≡ Some x → slice_get (with_access a T).accesses j ≡ Some y → Rises x y
-one_before a T zero zero x y first rest o p q = absurd (omega arith)
 one_before a T zero (suc j) x y first rest o p q = subst (λ (z : Access). Rises z y) (same_Some a x p) (first j y q)
-one_before a T (suc i) zero x y first rest o p q = absurd (omega arith)
 one_before a T (suc i) (suc j) x y first rest o p q = rest i j (omega arith) p q
+one_before a T i zero x y first rest o p q = absurd (omega arith)
 
 module _ (does : Local → Action) (gap : ℕ → Bool) where
   -- sections rise along a trace
@@ -40,17 +39,15 @@ module _ (does : Local → Action) (gap : ℕ → Bool) where
           slice_get (traced (trace does gap k) m s c given).accesses j ≡ Some y →
           ((n : ℕ) (s : Local) (given : List ℕ) (i j : ℕ) → i < j → slice_get (trace does gap k n s given).accesses i ≡ Some x →
           slice_get (trace does gap k n s given).accesses j ≡ Some y → Rises x y) → Rises x y
-      go Stop given i j o a b ih = absurd cc
       go (Go next) given i j o a b ih = ih m next given i j o a b
       go (Wait next) given i j o a b ih = ih (suc m) next given i j o a b
       go (Write l v next) given i j o a b ih = one_before (store_of m l v) (trace does gap k m next given) i j x y
           (λ j z e. (not_entered (gap next.place) m z.section (from_section does gap k m next given j z e), λ r w. absurd (let f : false ≡ true = r in cc))) (ih m next given) o a b
-      go (Read l to next) [] i j o a b ih = absurd cc
       go (Read l to next) (v ∷ given) i j o a b ih = one_before (load_of m l v) (trace does gap k m (loaded to v next) given) i j x y
           (λ j z e. (not_entered _ m z.section (from_section does gap k m (loaded to v next) given j z e), λ r w. absurd (let f : false ≡ true = w in cc))) (ih m (loaded to v next) given) o a b
-      go (Swap l w to next) [] i j o a b ih = absurd cc
       go (Swap l w to next) (v ∷ given) i j o a b ih = one_before (exchange_of m l v w) (trace does gap k (suc m) (loaded to v next) given) i j x y
           (λ j z e. let above = not_entered _ (suc m) z.section (from_section does gap k (suc m) (loaded to v next) given j z e) in (omega arith, λ r w. omega arith)) (ih (suc m) (loaded to v next) given) o a b
+      go c given i j o a b ih = absurd cc
 
 -- order that is kept twice is kept
 kept_then : (x y z : Access) → Rises x y → Rises y z → KeepsOrder x y → KeepsOrder y z → KeepsOrder x z
@@ -63,12 +60,11 @@ kept_then x y z first second (inr (inr n)) k = inr (inr (λ e. n (let low = firs
 module _ (p : Listing) (mode : Mode) (thread_traces : List ThreadTrace) (sources pairs : List (Event × Event)) (kept : KeepsTraces p mode thread_traces sources pairs) where
   -- sections rise from an access to a later one of its thread
   rise_in : (d e : Event) (x y : Access) → Precedes d e → traced_access thread_traces d ≡ Some x → traced_access thread_traces e ≡ Some y → Rises x y
-  rise_in (Initial l) e x y h a b = absurd h
-  rise_in (At t i) (Initial l) x y h a b = absurd h
   rise_in (At t i) (At u j) x y h a b =
       let same = accesses_same p mode thread_traces sources pairs kept t in
       sections_rise (action p.threads t) (fenced_gaps (machine_of_mode p mode) t) _ 0 (start_of p.threads t) _ i j x y h.1
       (sym (ap (λ xs. slice_get xs i) same) ∙ a) (sym (ap (λ xs. slice_get xs j) same) ∙ subst (λ v. traced_access thread_traces (At v j) ≡ Some y) (sym h.0) b)
+  rise_in d e x y h a b = absurd h
 
   parts_then : (kind : Kind) (d e f : Event) (x y z : Access) → traced_access thread_traces d ≡ Some x → traced_access thread_traces e ≡ Some y → traced_access thread_traces f ≡ Some z →
       OrderPart kind d x e y → OrderPart kind e y f z → OrderPart kind d x f z

@@ -1,28 +1,17 @@
 -- The numbers of accesses: the start of a thread, and an index in it.
-use Rattle.std.proofs.Common.{◌≡◌, ◌↔◌, ◌⊎◌, ℕ, zero, suc, ◌+◌, ◌<◌, ◌≤◌, List, [], ◌∷◌, ◌++◌, Some, Contains, slice_get, set, length, refl, sym, ap, ◌∙◌, subst, inl, inr, arith}
-use Rattle.known_edges.proofs.Vocabulary.{AllPairs, cases_lt, cases_eq, slice_get_within, same_Some, IsIn, none_in_zero, zeros, Event, Initial, At, get_cases, get_set_same, get_set_other, ComesBefore}
+use Rattle.std.proofs.Common.{◌≡◌, ◌↔◌, ◌⊎◌, ℕ, ◌+◌, ◌<◌, ◌≤◌, List, [], ◌∷◌, ◌++◌, Some, Contains, slice_get, set, length, refl, sym, ap, ◌∙◌, inl, inr, arith}
+use Rattle.known_edges.proofs.Vocabulary.{AllPairs, cases_lt, cases_eq, slice_get_within, same_Some, IsIn, none_in_zero, Event, Initial, At, get_cases, get_set_same, get_set_other, ComesBefore}
 use Rattle.known_edges.proofs.Vocabulary.{ThreadTrace}
-use Rattle.known_edges.specs.Rows.{IsRowOf, AreAccesses, AreBeyond, AreCounts, AreNumbered, AreStarts, EachEnds, FitRow, IsEarly, IsOfThreads}
+use Rattle.known_edges.specs.Rows.{IsRowOf, AreAccesses, AreBeyond, AreCounts, AreNumbered, AreStarts, FitRow, IsEarly, IsOfThreads}
 use Rattle.known_edges.proofs.Accesses.{IsBelow}
 use Rattle.known_edges.proofs.BranchesCounted.{not_before_itself}
-use Rattle.known_edges.proofs.InThreadOrder.{none_ordered, before_in}
-use Rattle.known_edges.proofs.Lawful.{none_in}
+use Rattle.known_edges.proofs.InThreadOrder.{before_in}
 use Rattle.known_edges.proofs.Numbered.{number_of, contained}
 
 pub beyond_none : (old : List Event) (t : ℕ) → AreBeyond old t old
 beyond_none old t d u i at = inl at
 
--- traces of which some read has no value get no numbers
-pub numbered_none : (thread_traces : List ThreadTrace) (events : List Event) → events ≡ [] → (EachEnds thread_traces → ⊥) → AreNumbered thread_traces events
-numbered_none thread_traces events none goes_on = record {
-  all = λ ends. absurd (goes_on ends);
-  not_some = λ e h. absurd (none_in e (subst (λ (es : List Event). Contains es e) none h));
-  of_threads = λ e h. absurd (none_in e (subst (λ (es : List Event). Contains es e) none h));
-  ordered = subst (AllPairs ComesBefore) (sym none) none_ordered;
-  few = (let empty = ap length none in omega arith);
-}
-
--- and the others all
+-- traces of which each read has a value get all numbers
 pub numbered_all : (thread_traces : List ThreadTrace) (events : List Event) → FitRow thread_traces → AreAccesses thread_traces events → AreNumbered thread_traces events
 numbered_all thread_traces events fit accesses = record {
   all = λ ends. accesses;
@@ -59,18 +48,6 @@ starts_more thread_traces old next t start starts below inside here are beyond d
       (first, get_set_other starts t start u (λ same. absurd (omega arith)) ∙ there, sum))
   | inr (same, sum) ↦ (start, ap (slice_get (set starts t start)) same ∙ get_set_same starts t start inside, omega arith)
 ]
-
--- threads with no accesses
-no_count : (n t count : ℕ) → slice_get (zeros n) t ≡ Some count → count ≡ 0
-no_count zero t count h = absurd cc
-no_count (suc n) zero count h = sym (same_Some 0 count h)
-no_count (suc n) (suc t) count h = no_count n t count h
-
-pub counts_none : (events : List Event) (n : ℕ) → events ≡ [] → AreCounts events (zeros n)
-counts_none events n none t i = (
-  λ h. absurd (none_in (At t i) (subst (λ (es : List Event). Contains es (At t i)) none h)),
-  λ (count, at, less). absurd (let no = no_count n t count at in omega arith),
-)
 
 -- one thread more
 pub counts_more : (thread_traces : List ThreadTrace) (old next : List Event) (t count : ℕ) (counts : List ℕ) → ((e : Event) → Contains old e → IsBelow thread_traces t e) → t < length counts →
@@ -133,8 +110,5 @@ no_initial thread_traces events l of_threads has = of_threads (Initial l) has
 pub same_number : (events : List Event) (ordered : AllPairs ComesBefore events) (d k : ℕ) (e : Event) → slice_get events d ≡ Some e → slice_get events k ≡ Some e → d ≡ k
 same_number events ordered d k e at to_at = elim (cases_lt d k) [
   | inl l ↦ absurd (not_before_itself e (before_in events ordered d k e e l at to_at))
-  | inr g ↦ elim (cases_lt k d) [
-    | inl l ↦ absurd (not_before_itself e (before_in events ordered k d e e l to_at at))
-    | inr h ↦ omega arith
-  ]
+  | inr g ↦ elim (cases_lt k d) [ inl l ↦ absurd (not_before_itself e (before_in events ordered k d e e l to_at at)) | inr h ↦ omega arith ]
 ]

@@ -7,26 +7,23 @@ use Rattle.known_edges.proofs.KnownParts.{of_relates}
 use Rattle.known_edges.proofs.Found.{cycle_of_accesses}
 
 -- the program order of a union is program order
-order_precedes : (kind : Kind) (d : Event) (x : Access) (e : Event) (y : Access) → OrderPart kind d x e y → Precedes d e
+pub order_precedes : (kind : Kind) (d : Event) (x : Access) (e : Event) (y : Access) → OrderPart kind d x e y → Precedes d e
 order_precedes union.Sequential d x e y h = h
-order_precedes union.Location d x e y h = h.0
-order_precedes union.Global d x e y h = h.0
+order_precedes kind d x e y h = h.0
 
 pub precedes_then : (d e f : Event) → Precedes d e → Precedes e f → Precedes d f
-precedes_then (Initial l) e f h k = absurd h
-precedes_then (At t i) (Initial l) f h k = absurd h
 precedes_then (At t i) (At u j) (Initial l) h k = absurd k
 precedes_then (At t i) (At u j) (At v n) h k = (h.0 ∙ k.0, (let a = h.1 in let b = k.1 in omega arith))
+precedes_then d e f h k = absurd h
 
-not_itself : (e : Event) → Precedes e e → ⊥
+pub not_itself : (e : Event) → Precedes e e → ⊥
 not_itself (Initial l) h = h
 not_itself (At t i) h = let n = h.1 in omega arith
 
 module _ (s : ProgramSketch) (none : (d e : Event) → Contains s.chosen.sources (d, e) ⊎ Contains s.chosen.pairs (d, e) → ⊥) where
   no_source : (kind : Kind) (d e : Event) → SourcePart s.chosen kind d e → ⊥
-  no_source union.Sequential d e h = none e d (inl h)
-  no_source union.Location d e h = none e d (inl h)
   no_source union.Global d e h = none e d (inl h.0)
+  no_source kind d e h = none e d (inl h)
 
   no_before : (d e : Event) (y : Access) → IsAccess s.program (mode_in s) (given_to s.chosen) d → IsBefore s.chosen d e y → ⊥
   no_before d e y there (inl h) = none d e (inr h)
@@ -55,5 +52,4 @@ module _ (s : ProgramSketch) (none : (d e : Event) → Contains s.chosen.sources
 
 -- before each read has its value no known edges make a cycle
 pub no_cycle_yet : (s : ProgramSketch) → IsLawful s → (IsWhole s.program (mode_in s) s.chosen → ⊥) → HasNoCycle s
-no_cycle_yet s lawful not_whole kind es cycle =
-    never_round s (λ d e h. not_whole (lawful.whole d e h)) kind es (cycle_of_accesses s kind es lawful cycle) cycle
+no_cycle_yet s lawful not_whole kind es cycle = never_round s (λ d e h. not_whole (lawful.whole d e h)) kind es (cycle_of_accesses s kind es lawful cycle) cycle

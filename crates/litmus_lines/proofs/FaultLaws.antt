@@ -34,8 +34,7 @@ record Next (text rest : List ℕ) : Type 0 where
 first_then : (text rest front others : List ℕ) → (text ≡ rest) ⊎ Next text rest → IsAfterSpace rest front → IsSkippedLine front others → Next text others
 first_then text rest front others (inl e) s h =
     record { front = front; others = others; space = subst (λ (x : List ℕ). IsAfterSpace x front) (sym e) s; skipped = h; more = none }
-first_then text rest front others (inr n) s h =
-    record { front = n.front; others = n.others; space = n.space; skipped = n.skipped; more = line n.more s h }
+first_then text rest front others (inr n) s h = record { front = n.front; others = n.others; space = n.space; skipped = n.skipped; more = line n.more s h }
 
 first_or : (text rest : List ℕ) → BeginsSkipped text rest → (text ≡ rest) ⊎ Next text rest
 first_or text rest none = inl refl

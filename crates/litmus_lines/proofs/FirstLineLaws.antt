@@ -17,8 +17,7 @@ use Rattle.litmus_lines.specs.Internal.FirstLineReading.{name_after, heading_nam
 
 weaker : (p q : ℕ → Bool) → ((b : ℕ) → p b ≡ true → q b ≡ true) → (xs : List ℕ) → list_all p xs ≡ true → list_all q xs ≡ true
 weaker p q h [] all = refl
-weaker p q h (x ∷ xs) all =
-    let a = and_parts (p x) (list_all p xs) all in and_from (q x) (list_all q xs) (h x a.0) (weaker p q h xs a.1)
+weaker p q h (x ∷ xs) all = let a = and_parts (p x) (list_all p xs) all in and_from (q x) (list_all q xs) (h x a.0) (weaker p q h xs a.1)
 
 one_more : (n : ℕ) → 1 + n ≡ suc n
 one_more n = omega arith

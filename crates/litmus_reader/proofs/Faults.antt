@@ -3,7 +3,7 @@ use Rattle.std.proofs.Common.{◌≡◌, ◌≢◌, ◌∙◌, Option, Some, Non
 use Rattle.litmus_reader.proofs.Vocabulary.{⊤, ProgramFault, LineFault, ReadFault, MatchFault, of_lines}
 use Rattle.tso_program.specs.declared.limits.ProgramFault.TheVariants.{OutOfMemory as NoMemory}
 use Rattle.litmus_lines.specs.declared.fault.LineFault.TheVariants as line_fault
-use Rattle.litmus_reader.specs.declared.fault.ReadFault.TheVariants.{NotUtf8, Header, Initial, Row, Instruction, Operand, Label, Condition, Number, Ended, Program, OutOfMemory}
+use Rattle.litmus_reader.specs.declared.fault.ReadFault.TheVariants.{NotUtf8, Header, Ended, Program, OutOfMemory}
 
 -- what follows from it, case by case
 pub match_map : (fault : ReadFault) (U V : Type 0) (L K : ProgramFault → Type 0) (M N O P : Type 0) → (U → V) → ((limit : ProgramFault) → L limit → K limit) → (M → N) → (O → P)
@@ -11,30 +11,14 @@ pub match_map : (fault : ReadFault) (U V : Type 0) (L K : ProgramFault → Type 
 match_map (NotUtf8 line) U V L K M N O P u l m o h = u h
 match_map (Program line limit) U V L K M N O P u l m o h = l limit h
 match_map OutOfMemory U V L K M N O P u l m o h = m h
-match_map (Header line) U V L K M N O P u l m o h = o h
-match_map (Initial line) U V L K M N O P u l m o h = o h
-match_map (Row line) U V L K M N O P u l m o h = o h
-match_map (Instruction line) U V L K M N O P u l m o h = o h
-match_map (Operand line) U V L K M N O P u l m o h = o h
-match_map (Label line) U V L K M N O P u l m o h = o h
-match_map (Condition line) U V L K M N O P u l m o h = o h
-match_map (Number line) U V L K M N O P u l m o h = o h
-match_map (Ended line) U V L K M N O P u l m o h = o h
+match_map fault U V L K M N O P u l m o h = o h
 
 -- memory ran out, where no other case can be
 pub match_memory : (fault : ReadFault) (U : Type 0) (L : ProgramFault → Type 0) (M O : Type 0) → (U → ⊥) → ((limit : ProgramFault) → L limit → ⊥) → (O → ⊥) → MatchFault fault U L M O → fault ≡ OutOfMemory
 match_memory (NotUtf8 line) U L M O u l o h = absurd (u h)
 match_memory (Program line limit) U L M O u l o h = absurd (l limit h)
 match_memory OutOfMemory U L M O u l o h = refl
-match_memory (Header line) U L M O u l o h = absurd (o h)
-match_memory (Initial line) U L M O u l o h = absurd (o h)
-match_memory (Row line) U L M O u l o h = absurd (o h)
-match_memory (Instruction line) U L M O u l o h = absurd (o h)
-match_memory (Operand line) U L M O u l o h = absurd (o h)
-match_memory (Label line) U L M O u l o h = absurd (o h)
-match_memory (Condition line) U L M O u l o h = absurd (o h)
-match_memory (Number line) U L M O u l o h = absurd (o h)
-match_memory (Ended line) U L M O u l o h = absurd (o h)
+match_memory fault U L M O u l o h = absurd (o h)
 
 -- a line before the initial values is a case of its own
 pub match_lines : (fault : LineFault) (U : Type 0) (L : ProgramFault → Type 0) (M O : Type 0) → O → MatchFault (of_lines fault) U L M O

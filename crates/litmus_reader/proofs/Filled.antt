@@ -5,15 +5,12 @@ use Rattle.std.proofs.lemmas.List.{length-replicate, get_or-replicate, length-se
 use Rattle.litmus_reader.proofs.Vocabulary.{◌==◌, ◌&&◌, ◌||◌, min, if◌then◌else◌, option_map_or, range_with_len, filter_map, list_any, fold-append, fill_by_all, length-map-range_with_len}
 use Rattle.litmus_reader.proofs.Vocabulary.{get_or-map-range_with_len, Reg, number, Atom, PlaceView, Location, Register, BodyView, TextNames, all_registers, with_name, code_in, Label, thread_labels}
 use Rattle.litmus_reader.proofs.Vocabulary.{all_labels}
-use Rattle.tso_program.specs.declared.instruction.Reg.TheVariants.{Eax, Ebx, Ecx, Edx, Esi, Edi}
+use Rattle.tso_program.specs.declared.instruction.Reg.TheVariants.{Eax}
 use Rattle.tso_program.specs.declared.atom.Atom.TheVariants as atom
 use Rattle.litmus_reader.specs.Places.{location_name, is_register, names_among}
 use Rattle.litmus_reader.specs.Internal.Filling.{byte_at, FindsAs, FindAllAs, with_put, no_names, noted, stored, with_initial, value_of, is_of_location, is_of_register, entry_atoms, memory_from, registers_from, thread_in, thread_by}
 
 -- ---- lists of numbers' values
-
-same_map : {X Y : Type 0} (f g : X → Y) (xs : List X) → ((x : X) → f x ≡ g x) → map f xs ≡ map g xs
-same_map f g xs h = λ i. map (λ x. h x i) xs
 
 pub range_same : {X : Type 0} (f g : ℕ → X) (n : ℕ) → ((k : ℕ) → k < n → f k ≡ g k) → map f (range_with_len 0 n) ≡ map g (range_with_len 0 n)
 range_same f g n h =
@@ -39,8 +36,7 @@ set_range {X} f n k x =
     fill_by_all (λ l. if k == l then x else f l) (set (map f (range_with_len 0 n)) k x) n x (length-set (map f (range_with_len 0 n)) k x ∙ length-map-range_with_len f 0 n) (set_at f n k x)
 
 all_same : {X : Type 0} (n : ℕ) (x : X) → replicate n x ≡ map (λ _. x) (range_with_len 0 n)
-all_same {X} n x =
-    let f : ℕ → X = λ _. x in fill_by_all f (replicate n x) n x (length-replicate n x) (λ k lt. get_or-replicate n k x x lt)
+all_same {X} n x = let f : ℕ → X = λ _. x in fill_by_all f (replicate n x) n x (length-replicate n x) (λ k lt. get_or-replicate n k x x lt)
 
 -- ---- tables: a value for each register of each of so many threads
 
@@ -49,11 +45,7 @@ grid f n = map (λ t. map (f t) all_registers) (range_with_len 0 n)
 
 row_set : {X : Type 0} (g : Reg → X) (r : Reg) (x : X) → set (map g all_registers) (number r) x ≡ map (λ s. if number r == number s then x else g s) all_registers
 row_set g Eax x = refl
-row_set g Ebx x = refl
-row_set g Ecx x = refl
-row_set g Edx x = refl
-row_set g Esi x = refl
-row_set g Edi x = refl
+row_set g r x = refl
 
 abbrev changed : {X : Type 0} → (ℕ → Reg → X) → ℕ → Reg → X → ℕ → Reg → X
 changed f t r x u s = if t == u && number r == number s then x else f u s

@@ -73,10 +73,7 @@ from_none : (Spoken : Type 0) (place : ℕ) (more : set.FinSet nat_cmp) → IsWi
 from_none Spoken place more with_it = (to, λ spoken. with_it.1 (inr spoken))
   where
     to : Has more place → Spoken
-    to h = elim (with_it.0 h) [
-      | inl none ↦ let no : true ≡ false = sym none ∙ set.contains-empty nat_cmp place in absurd cc
-      | inr spoken ↦ spoken
-    ]
+    to h = elim (with_it.0 h) [ inl none ↦ let no : true ≡ false = sym none ∙ set.contains-empty nat_cmp place in absurd cc | inr spoken ↦ spoken ]
 
 in_range : (t : ℕ) (b : Bool) → t < MAX_THREADS → (nat_lt t MAX_THREADS && b) ≡ b
 in_range t b h = grind (arith, nat_tests)

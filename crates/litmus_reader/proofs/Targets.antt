@@ -1,5 +1,5 @@
 -- Labels by their names: a table of positions gives what the labels give.
-use Rattle.std.proofs.Common.{◌≡◌, ℕ, zero, suc, ◌+◌, arith, length, length-append, get_or, Bool, true, false, cond, List, [], ◌∷◌, ◌++◌, map, fold, Option, Some, None, refl, sym, ap, ◌∙◌, append_assoc}
+use Rattle.std.proofs.Common.{◌≡◌, ℕ, zero, suc, ◌+◌, arith, length, length-append, get_or, Bool, true, false, cond, List, [], ◌∷◌, ◌++◌, fold, Option, Some, None, refl, sym, ap, ◌∙◌, append_assoc}
 use Rattle.std.specs.Option.{option_or, option_map_or}
 use Rattle.std.specs.Map.{lookup}
 use Rattle.std.proofs.lemmas.List.Folds.{find-append}
@@ -18,8 +18,7 @@ named name l = bytes_eq l.name name
 looked_up : (a b : Bool) (l : Label) (r : Option ℕ) (s : Option Label) → a ≡ b → r ≡ option_map (λ x. x.position) s → cond a (Some l.position) r ≡ option_map (λ x. x.position) (cond b (Some l) s)
 looked_up true true l r s e h = refl
 looked_up false false l r s e h = h
-looked_up true false l r s e h = absurd cc
-looked_up false true l r s e h = absurd cc
+looked_up a b l r s e h = absurd cc
 
 -- the position that the table has for a name
 pub lookup_label : (es : List (Vec ℕ × ℕ)) (name : List ℕ) → lookup (λ (k : Vec ℕ). bytes_eq name k.items) es ≡ option_map (λ l. l.position) (label_in (labels_in es) name)
@@ -30,9 +29,8 @@ lookup_label (e ∷ es) name =
 
 pushed_by : (a b : Bool) (e : Vec ℕ × ℕ) (es new : List (Vec ℕ × ℕ)) (n : ℕ) (l : Label) (rest : Option Label) (ls : List Label) → a ≡ b → is_some (cond a (Some l) rest) ≡ false
     → (is_some rest ≡ false → labels_in new ≡ ls) → labels_in (if b then (e.0, n) ∷ es else e ∷ new) ≡ record { name = e.0.items; position = e.1 } ∷ ls
-pushed_by true b e es new n l rest ls same absent h = absurd cc
-pushed_by false true e es new n l rest ls same absent h = absurd cc
 pushed_by false false e es new n l rest ls same absent h = ap (λ (xs : List Label). record { name = e.0.items; position = e.1 } ∷ xs) (h absent)
+pushed_by a b e es new n l rest ls same absent h = absurd cc
 
 pushed : (es : List (Vec ℕ × ℕ)) (k : Vec ℕ) (n : ℕ) → is_some (label_in (labels_in es) k.items) ≡ false
     → labels_in (insert_entry (λ (a b : Vec ℕ). bytes_eq a.items b.items) es k n) ≡ labels_in es ++ record { name = k.items; position = n } ∷ []
@@ -50,10 +48,6 @@ labels_insert es k l same absent =
     ∙ (λ i. labels_in es ++ record { name = same i; position = l.position } ∷ [])
     ∙ sym (ap (λ (b : Bool). if b then labels_in es else labels_in es ++ l ∷ []) absent)
 
--- a name that is there is not added
-pub label_known : (labels : List Label) (l : Label) → is_some (label_in labels l.name) ≡ true → with_label labels l ≡ labels
-label_known labels l there = ap (λ (b : Bool). if b then labels else labels ++ l ∷ []) there
-
 pub mapped_some : (o : Option Label) → is_some (option_map (λ l. l.position) o) ≡ is_some o
 mapped_some None = refl
 mapped_some (Some l) = refl
@@ -65,9 +59,8 @@ mapped_or (Some l) = refl
 -- ---- each name's first label is found
 
 first_stays : (o : Option Label) (b : Bool) (l : Label) → (b ≡ true → is_some o ≡ true) → o ≡ option_or o (cond b (Some l) None)
-first_stays (Some x) b l h = refl
 first_stays None true l h = let e : false ≡ true = h refl in absurd cc
-first_stays None false l h = refl
+first_stays o b l h = refl
 
 finds_by : (b : Bool) (found seen : List Label) (l : Label) → is_some (label_in found l.name) ≡ b → FindsAs found seen → FindsAs (if b then found else found ++ l ∷ []) (seen ++ l ∷ [])
 finds_by false found seen l e h name =
@@ -92,10 +85,9 @@ at_push : (found ls : List (List Label)) (own l : List Label) → length found �
     → (t : ℕ) → FindsAs (get_or (found ++ own ∷ []) t []) (get_or (ls ++ l ∷ []) t [])
 at_push [] [] own l e h g zero = g
 at_push [] [] own l e h g (suc t) = h t
-at_push [] (y ∷ ls) own l e h g t = absurd (omega arith)
-at_push (x ∷ found) [] own l e h g t = absurd (omega arith)
 at_push (x ∷ found) (y ∷ ls) own l e h g zero = h zero
 at_push (x ∷ found) (y ∷ ls) own l e h g (suc t) = at_push found ls own l (omega (arith, e)) (λ k. h (suc k)) g t
+at_push found ls own l e h g t = absurd (omega arith)
 
 -- one more thread's labels
 pub find_push : (found ls : List (List Label)) (own l : List Label) → FindAllAs found ls → FindsAs own l → FindAllAs (found ++ own ∷ []) (ls ++ l ∷ [])

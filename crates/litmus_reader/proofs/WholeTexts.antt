@@ -58,10 +58,6 @@ skipped_lines_refused text name lines fault utf8 first_only none =
     match_lines fault (IsUtf8 text → ⊥) (λ _. ⊥) ⊤ (StandsForNothing text)
     (utf8, λ litmus st. none st.others (subst (λ (l : List ℕ). AreSkipped l st.others) (sym (first_only litmus.name st.lines st.first_line).1) st.skipped))
 
-pub bytes_refused : (text : List ℕ) (fault : ReadFault) → MatchFault fault (IsUtf8 text → ⊥) (λ _. ⊥) ⊥ ⊥ → MatchFault fault (IsUtf8 text → ⊥) (λ _. ⊥) ⊤ (StandsForNothing text)
-bytes_refused text fault h =
-    match_map fault (IsUtf8 text → ⊥) (IsUtf8 text → ⊥) (λ _. ⊥) (λ _. ⊥) ⊥ ⊤ ⊥ (StandsForNothing text) (λ x. x) (λ _ x. x) (λ x. absurd x) (λ x. absurd x) h
-
 -- ---- a reader of texts within limits, where nothing is read
 
 pub nothing_only : (text : List ℕ) (fault : ReadFault) (other : Litmus Listing) → MatchFault fault (IsUtf8 text → ⊥) (λ _. ⊥) ⊤ (StandsForNothing text) → StandsFor text other → fault ≡ OutOfMemory

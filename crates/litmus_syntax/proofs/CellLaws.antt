@@ -1,17 +1,14 @@
 -- What the readers of labels and cells read is what the grammar says.
-use Rattle.std.proofs.Common.{◌≡◌, ◌∙◌, ℕ, Bool, true, false, cond, List, [], ◌∷◌, ◌++◌, map, append_assoc, refl, sym, ap, subst, inl, inr, Option, Some, None}
+use Rattle.std.proofs.Common.{◌≡◌, ◌∙◌, ℕ, true, false, cond, List, [], ◌∷◌, ◌++◌, map, append_assoc, refl, sym, ap, subst, inl, inr, Option, Some, None}
 use Rattle.litmus_syntax.proofs.Vocabulary.{or_cases, cond_some, same_Some, append-nil, map_push, Tok, Word, word_at, mark_at, begins_with, word_takes, mark_takes, begins_takes, begins_again}
 use Rattle.litmus_syntax.proofs.Vocabulary.{is_label, CodeView, CellView, Items, end, item, IsCode, IsLabelMark, ends_cell, IsContent, IsCell, ◌>>=◌, bind_some, by_test}
 use Rattle.text_tokens.specs.declared.token.Mark.TheVariants as the
 use Rattle.litmus_syntax.specs.Reading.{code_at, begins_label, label_tokens_at, content_at}
-use Rattle.litmus_syntax.proofs.ItemLaws.{IsRead, Only, SoFar, only_read, none_read, none_yet, one_more, refused}
+use Rattle.litmus_syntax.proofs.ItemLaws.{IsRead, Only, SoFar, only_read, none_read, one_more, refused}
 use Rattle.litmus_syntax.proofs.CodeLaws.{code_takes, code_again, code_begins}
+use Rattle.text_tokens.proofs.StepLaws.{let_through as cond_parts}
 
 -- ---- labels
-
-cond_parts : {A : Type 0} (b : Bool) (x : Option A) (y : A) → cond b x None ≡ Some y → (b ≡ true) × (x ≡ Some y)
-cond_parts true x y e = (refl, e)
-cond_parts false x y e = absurd cc
 
 label_takes : (ts : List Tok) (x : List ℕ × List Tok) → label_tokens_at ts ≡ Some x → IsLabelMark x.0 ts x.1
 unfolding label_tokens_at
@@ -90,9 +87,6 @@ more_labels c ts e last h = let bad = sym e ∙ content_no_label c ts last h in 
 -- the labels of a cell so far, whatever follows
 abbrev pub LabelsSoFar : List Tok → List (List ℕ) → List Tok → Type 0
 LabelsSoFar ts ls rest = (c : Option CodeView) → SoFar IsLabelMark (IsContent c) (λ ks last. Items IsLabelMark (IsContent c) ks ts last) ls rest
-
-pub no_label_yet : (ts : List Tok) → LabelsSoFar ts [] ts
-no_label_yet ts = λ c. none_yet IsLabelMark (IsContent c) ts
 
 pub one_more_label : (ts : List Tok) (ls : List (List ℕ)) (rest : List Tok) (l : List ℕ) (others : List Tok) → LabelsSoFar ts ls rest → begins_label rest ≡ true → label_tokens_at rest ≡ Some (l, others)
     → LabelsSoFar ts (ls ++ l ∷ []) others

@@ -17,11 +17,6 @@ CodeAndRest = CodeView × List Tok
 -- ---- mnemonic and operands
 
 abbrev pub mnemonic_for : CodeView → Mnemonic
-mnemonic_for (LoadImm r n) = op.Mov
-mnemonic_for (Copy r s) = op.Mov
-mnemonic_for (Load r x) = op.Mov
-mnemonic_for (StoreImm x n) = op.Mov
-mnemonic_for (Store x r) = op.Mov
 mnemonic_for (Xchg x r) = op.Xchg
 mnemonic_for Fence = op.Mfence
 mnemonic_for (CmpImm r n) = op.Cmp
@@ -29,6 +24,7 @@ mnemonic_for (CmpReg r s) = op.Cmp
 mnemonic_for (Je l) = op.Je
 mnemonic_for (Jne l) = op.Jne
 mnemonic_for (Jmp l) = op.Jmp
+mnemonic_for h = op.Mov
 
 abbrev Operands : CodeView → List Tok → List Tok → Type 0
 Operands (LoadImm r n) = register r ▸ comma ▸ immediate n
@@ -45,32 +41,12 @@ Operands (Jne l) = word l
 Operands (Jmp l) = word l
 
 joined : (c : CodeView) (ts us rest : List Tok) → mnemonic (mnemonic_for c) ts us → Operands c us rest → IsCode c ts rest
-joined (LoadImm r n) ts us rest m h = (us, m, h)
-joined (Copy r s) ts us rest m h = (us, m, h)
-joined (Load r x) ts us rest m h = (us, m, h)
-joined (StoreImm x n) ts us rest m h = (us, m, h)
-joined (Store x r) ts us rest m h = (us, m, h)
-joined (Xchg x r) ts us rest m h = (us, m, h)
 joined Fence ts us rest m h = subst (λ (z : List Tok). mnemonic op.Mfence ts z) h m
-joined (CmpImm r n) ts us rest m h = (us, m, h)
-joined (CmpReg r s) ts us rest m h = (us, m, h)
-joined (Je l) ts us rest m h = (us, m, h)
-joined (Jne l) ts us rest m h = (us, m, h)
-joined (Jmp l) ts us rest m h = (us, m, h)
+joined c ts us rest m h = (us, m, h)
 
 parts : (c : CodeView) (ts rest : List Tok) → IsCode c ts rest → (us : List Tok) × mnemonic (mnemonic_for c) ts us × Operands c us rest
-parts (LoadImm r n) ts rest h = h
-parts (Copy r s) ts rest h = h
-parts (Load r x) ts rest h = h
-parts (StoreImm x n) ts rest h = h
-parts (Store x r) ts rest h = h
-parts (Xchg x r) ts rest h = h
 parts Fence ts rest h = (rest, h, refl)
-parts (CmpImm r n) ts rest h = h
-parts (CmpReg r s) ts rest h = h
-parts (Je l) ts rest h = h
-parts (Jne l) ts rest h = h
-parts (Jmp l) ts rest h = h
+parts c ts rest h = h
 
 -- what follows this mnemonic
 abbrev Has : Mnemonic → List Tok → CodeAndRest → Type 0
@@ -245,12 +221,9 @@ operands_again (Load r x) ts rest h = register_move r ts h.0 h.2.0 (Load r x, re
 operands_again (StoreImm x n) ts rest h = location_move x ts h.0 h.2.0 (StoreImm x n, rest) h.1 h.2.1 (store_imm_again x n h.2.0 rest h.2.2)
 operands_again (Store x r) ts rest h = location_move x ts h.0 h.2.0 (Store x r, rest) h.1 h.2.1 (store_again x r h.2.0 rest h.2.2)
 operands_again (Xchg x r) ts rest h = exchange_again x r ts rest h
-operands_again Fence ts rest h = rw h refl
 operands_again (CmpImm r n) ts rest h = compare_again r ts h.0 h.2.0 (CmpImm r n, rest) h.1 h.2.1 (with_number_again r n h.2.0 rest h.2.2)
 operands_again (CmpReg r s) ts rest h = compare_again r ts h.0 h.2.0 (CmpReg r s, rest) h.1 h.2.1 (with_register_again r s h.2.0 rest h.2.2)
-operands_again (Je l) ts rest h = rw h refl
-operands_again (Jne l) ts rest h = rw h refl
-operands_again (Jmp l) ts rest h = rw h refl
+operands_again c ts rest h = rw h refl
 
 -- ---- instructions
 
@@ -281,19 +254,15 @@ ending_no_colon ts h =
     ]
 
 no_colon : (c : CodeView) (ts rest : List Tok) → Operands c ts rest → ends_cell rest ≡ true → begins_with the.Colon ts ≡ false
-no_colon (LoadImm r n) ts rest h e = ap (begins_with the.Colon) h.1.2
-no_colon (Copy r s) ts rest h e = ap (begins_with the.Colon) h.1.2
-no_colon (Load r x) ts rest h e = ap (begins_with the.Colon) h.1.2
 no_colon (StoreImm x n) ts rest h e = ap (begins_with the.Colon) h.1.1
 no_colon (Store x r) ts rest h e = ap (begins_with the.Colon) h.1.1
 no_colon (Xchg x r) ts rest (inl h) e = ap (begins_with the.Colon) h.1.1
 no_colon (Xchg x r) ts rest (inr h) e = ap (begins_with the.Colon) h.1.2
 no_colon Fence ts rest h e = ap (begins_with the.Colon) h ∙ ending_no_colon rest e
-no_colon (CmpImm r n) ts rest h e = ap (begins_with the.Colon) h.1.2
-no_colon (CmpReg r s) ts rest h e = ap (begins_with the.Colon) h.1.2
 no_colon (Je l) ts rest h e = ap (begins_with the.Colon) h
 no_colon (Jne l) ts rest h e = ap (begins_with the.Colon) h
 no_colon (Jmp l) ts rest h e = ap (begins_with the.Colon) h
+no_colon c ts rest h e = ap (begins_with the.Colon) h.1.2
 
 -- a mnemonic, and no `:` after it
 pub record BeginsWithMnemonic (c : CodeView) (ts : List Tok) : Type 0 where

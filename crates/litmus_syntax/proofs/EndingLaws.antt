@@ -41,9 +41,8 @@ quantifier_takes ts x e =
 
 quantifier_again : (q : Quantifier) (ts rest : List Tok) → IsQuantifier q ts rest → quantifier_at ts ≡ Some (q, rest)
 unfolding quantifier_at
-quantifier_again Exists ts rest h = rw h refl
 quantifier_again NotExists ts rest h = rw (h.1, h.2) refl
-quantifier_again Forall ts rest h = rw h refl
+quantifier_again q ts rest h = rw h refl
 
 quantifiers_are_read : IsRead IsQuantifier quantifier_at
 quantifiers_are_read = record { takes = quantifier_takes; again = quantifier_again }

@@ -37,8 +37,7 @@ item_takes ts x e =
 
 item_again : (e : EntryView) (ts rest : List Tok) → IsEntryItem e ts rest → entry_at ts ≡ Some (e, rest)
 unfolding entry_at
-item_again e ts rest h =
-    rw (place_again e.place ts h.1.0 h.1.1, entry_value_again e.value h.1.0 rest (h.0, h.1.2, h.2)) refl
+item_again e ts rest h = rw (place_again e.place ts h.1.0 h.1.1, entry_value_again e.value h.1.0 rest (h.0, h.1.2, h.2)) refl
 
 pub entries_are_read : IsRead IsEntryItem entry_at
 entries_are_read = record { takes = item_takes; again = item_again }
@@ -92,11 +91,11 @@ no_value : (ts after : List Tok) (p : PlaceView) → place_at ts ≡ Some (p, af
 unfolding entry_at
 no_value ts after p e f = rw (e, f) refl
 
-not_back : (b : Bool) → true ≡ not b → b ≡ false
+pub not_back : (b : Bool) → true ≡ not b → b ≡ false
 not_back true e = absurd cc
 not_back false e = refl
 
-not_true_back : (b : Bool) → false ≡ not b → b ≡ true
+pub not_true_back : (b : Bool) → false ≡ not b → b ≡ true
 not_true_back true e = refl
 not_true_back false e = absurd cc
 

@@ -1,16 +1,15 @@
 -- Labels that stand in their thread already.
-use Rattle.std.proofs.Common.{◌≡◌, ◌∙◌, ◌+◌, ◌<◌, ◌==◌, ◌&&◌, ℕ, Bool, true, false, not, cond, append_assoc, List, [], ◌∷◌, ◌++◌, map, length, take, drop, get_or, refl, sym, ap, subst, arith}
+use Rattle.std.proofs.Common.{◌≡◌, ◌∙◌, ◌+◌, ◌<◌, ◌==◌, ◌&&◌, ℕ, Bool, true, false, cond, append_assoc, List, [], ◌∷◌, ◌++◌, map, length, take, drop, get_or, refl, sym, ap, subst, arith}
 use Rattle.std.proofs.lemmas.List.{take_more, map_push, map-append, take-append-drop}
 use Rattle.litmus_syntax.proofs.Vocabulary.{list_any, bytes_eq, Vec, eqb-true, nat_tests, bytes_eq-Decides, label_view, NoneTwice}
 use Rattle.litmus_syntax.specs.declared.label.LabelAt.{LabelAt}
 use Rattle.litmus_syntax.proofs.Repetitions.{fresh, twice}
+use Rattle.std.proofs.lemmas.Bool.{and_parts as both}
+pub use Rattle.litmus_syntax.proofs.EntryLaws.{not_true_back as not_false}
+pub use Rattle.litmus_syntax.proofs.EntryLaws.{not_back as not_true}
 
 abbrev same_label : ℕ × List ℕ → ℕ × List ℕ → Bool
 same_label a b = a.0 == b.0 && bytes_eq a.1 b.1
-
-both : (a b : Bool) → (a && b) ≡ true → (a ≡ true) × (b ≡ true)
-both true b e = (refl, e)
-both false b e = absurd cc
 
 label_of : ℕ → List ℕ → ℕ × List ℕ
 label_of t l = (t, l)
@@ -71,14 +70,6 @@ next_label labels i d own keys new s lt is apart added =
       known = ap (map key_view) added ∙ map_push key_view keys key ∙ ap (λ (z : List (ℕ × List ℕ)). z ++ (l.thread, own.items) ∷ []) s.known ∙ ap (λ (z : List ℕ). views (take i labels) ++ (l.thread, z) ∷ []) is ∙ sym (views_more labels i d lt);
       once = subst NoneTwice (sym (views_more labels i d lt)) (fresh same_label same_label_is same_label_itself (views (take i labels)) (label_view l) s.once (label_known labels i l.thread own.items l.name.now keys s is ∙ apart));
     }
-
-pub not_false : (b : Bool) → false ≡ not b → b ≡ true
-not_false true e = refl
-not_false false e = absurd cc
-
-pub not_true : (b : Bool) → true ≡ not b → b ≡ false
-not_true true e = absurd cc
-not_true false e = refl
 
 pub chosen_second : {A : Type 0} (b : Bool) (x y z : A) → b ≡ false → z ≡ cond b x y → z ≡ y
 chosen_second true x y z e h = absurd cc

@@ -16,4 +16,3 @@ pub mod BodyLaws
 pub mod ObservedLaws
 pub mod SignLaws
 pub mod EndingLaws
-pub mod Example

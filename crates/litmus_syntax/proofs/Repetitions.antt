@@ -1,11 +1,8 @@
 -- Lists in which nothing stands twice, by a test for being the same.
-use Rattle.std.proofs.Common.{◌≡◌, ◌≢◌, ◌∙◌, ◌||◌, Bool, true, false, List, [], ◌∷◌, ◌++◌, refl, sym, ap, subst, inl, inr}
+use Rattle.std.proofs.Common.{◌≡◌, ◌≢◌, ◌∙◌, Bool, true, false, List, [], ◌∷◌, ◌++◌, refl, sym, ap, subst, inl, inr}
 use Rattle.litmus_syntax.proofs.Vocabulary.{list_any, or_cases}
 use Rattle.litmus_syntax.specs.Grammar.{IsNoneOf, NoneTwice}
-
-neither : (a b : Bool) → (a || b) ≡ false → (a ≡ false) × (b ≡ false)
-neither true b e = absurd cc
-neither false b e = (refl, e)
+use Rattle.std.proofs.lemmas.Bool.{or_parts as neither}
 
 none_more : {X : Type 0} (y : X) (ys : List X) (x : X) → IsNoneOf y ys → y ≢ x → IsNoneOf y (ys ++ x ∷ [])
 none_more y [] x h other = (other, tt)

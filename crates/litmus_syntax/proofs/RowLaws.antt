@@ -1,7 +1,7 @@
 -- What the readers of rows read is what the grammar says.
 use Rattle.std.proofs.Common.{◌≡◌, ◌≢◌, ◌∙◌, ◌||◌, ◌+◌, suc, ℕ, codes, true, false, List, [], ◌∷◌, ◌++◌, length, refl, sym, ap, subst, inl, inr, arith, append_assoc, Option, Some, None}
 use Rattle.std.specs.Prelude.{Result, Ok, Err}
-use Rattle.litmus_syntax.proofs.Vocabulary.{bytes_eq, or_cases, append-nil, bytes_eq-Decides, Mark, Tok, Word, Number, Sign, NoToken, mark_at, begins_with, rest_of, Mnemonic, opens_condition}
+use Rattle.litmus_syntax.proofs.Vocabulary.{bytes_eq, or_cases, append-nil, bytes_eq-Decides, Mark, Tok, Sign, mark_at, begins_with, rest_of, Mnemonic, opens_condition}
 use Rattle.litmus_syntax.proofs.Vocabulary.{is_label, mnemonic_of, CodeView, CellView, mark, Items, end, item, SyntaxFault, Refused, OutOfMemory}
 use Rattle.text_tokens.specs.declared.token.Mark.TheVariants as the
 use Rattle.text_tokens.specs.Marks.{same_mark}
@@ -126,11 +126,8 @@ label_apart l h e = let bad : false ≡ true = rw e at h in cc
 
 -- no cell begins where the rows end
 no_empty_cell : (ts : List Tok) → ends_rows ts ≡ true → ends_cell ts ≡ true → ⊥
-no_empty_cell [] e h = cc
-no_empty_cell (Word w ∷ ts) e h = cc
-no_empty_cell (Number n ∷ ts) e h = cc
 no_empty_cell (Sign m ∷ ts) e h = let bad = sym (ap (λ (k : Mark). same_mark k the.Bar || same_mark k the.Semicolon) (same_mark_is m the.Tilde e)) ∙ h in cc
-no_empty_cell (NoToken b ∷ ts) e h = cc
+no_empty_cell ts e h = cc
 
 no_content : (c : Option CodeView) (ts rest : List Tok) → ends_rows ts ≡ true → IsContent c ts rest → ⊥
 no_content None ts rest e h = no_empty_cell ts e (ap ends_cell h.0 ∙ h.1)

@@ -3,22 +3,18 @@ use Rattle.std.proofs.Common.{◌≡◌, ◌∙◌, ◌==◌, ◌||◌, ◌&&◌
 use Rattle.litmus_syntax.proofs.Vocabulary.{list_any, bytes_eq, Vec, list_any-append, Seen, eqb-true, nat_tests, bytes_eq-Decides, PlaceView, Location, Register, same_place, has}
 use Rattle.tso_program.specs.Instructions as instructions
 use Rattle.tso_program.proofs.Registers.{same_register}
+use Rattle.std.proofs.lemmas.Bool.{and_parts as both}
 
 -- ---- whether two places are one
 
-both : (a b : Bool) → (a && b) ≡ true → (a ≡ true) × (b ≡ true)
-both true b e = (refl, e)
-both false b e = absurd cc
-
 pub same_place_is : (p q : PlaceView) → same_place p q ≡ true → p ≡ q
 same_place_is (Location x) (Location y) e = ap Location ((bytes_eq-Decides x y).0 e)
-same_place_is (Location x) (Register u s) e = absurd cc
-same_place_is (Register t r) (Location y) e = absurd cc
 same_place_is (Register t r) (Register u s) e =
     let h = both (t == u) (instructions.number r == instructions.number s) e in
     let thread : t ≡ u = eqb-true t u h.0 in
     let reg : r ≡ s = same_register r s (eqb-true (instructions.number r) (instructions.number s) h.1) in
     ap (λ (n : ℕ). Register n r) thread ∙ ap (Register u) reg
+same_place_is p q e = absurd cc
 
 itself : (n : ℕ) → (n == n) ≡ true
 itself n = grind (arith, nat_tests)
@@ -36,9 +32,8 @@ nothing_seen seen names registers (Register t r) = rw registers refl
 -- ---- adding a place to the set
 
 absorbed : (a b : Bool) → (b ≡ true → a ≡ true) → a ≡ (a || b)
-absorbed true b h = refl
 absorbed false true h = absurd (let bad : false ≡ true = h refl in cc)
-absorbed false false h = refl
+absorbed a b h = refl
 
 or_none : (a b : Bool) → (a || (b || false)) ≡ (a || b)
 or_none a true = refl
@@ -62,6 +57,3 @@ name_added old new own name is kept keys (Location y) =
     name_among old.names.keys new.names.keys own (list_any (λ q. bytes_eq own.items q.items) old.names.keys) refl keys y ∙ ap (λ (z : List ℕ). list_any (λ k. bytes_eq y k.items) old.names.keys || bytes_eq y z) is
 name_added old new own name is kept keys (Register t r) =
     ap (list_any (λ k. t == k.0 && instructions.number r == k.1)) kept ∙ or_false (list_any (λ k. t == k.0 && instructions.number r == k.1) old.registers.keys)
-
-name_known : (keys : List (Vec ℕ)) (x y : List ℕ) → x ≡ y → list_any (λ k. bytes_eq x k.items) keys ≡ list_any (λ k. bytes_eq y k.items) keys
-name_known keys x y e = ap (λ (z : List ℕ). list_any (λ k. bytes_eq z k.items) keys) e

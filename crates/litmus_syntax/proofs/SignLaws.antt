@@ -1,6 +1,6 @@
 -- What the reader of signs reads is what the grammar says.
-use Rattle.std.proofs.Common.{◌≡◌, ◌∙◌, ◌==◌, length, suc, ℕ, Bool, true, false, cond, List, [], ◌∷◌, ◌++◌, codes, refl, sym, ap, subst, inl, inr, arith, Option, Some, None}
-use Rattle.litmus_syntax.proofs.Vocabulary.{is_some, bytes_eq, eqb-true, bytes_eq-Decides, Mark, Tok, Word, Number, Sign, NoToken, toks, reg_of, opens_condition, joins_formula, is_name, PlaceView}
+use Rattle.std.proofs.Common.{◌≡◌, ◌∙◌, ◌==◌, length, suc, ℕ, true, false, cond, List, [], ◌∷◌, ◌++◌, codes, refl, sym, ap, subst, inl, inr, arith, Option, Some, None}
+use Rattle.litmus_syntax.proofs.Vocabulary.{is_some, bytes_eq, eqb-true, bytes_eq-Decides, Mark, Tok, Word, Sign, toks, reg_of, opens_condition, joins_formula, is_name, PlaceView}
 use Rattle.litmus_syntax.proofs.Vocabulary.{Location, Register, SignView, Atom, Const, Not, And, Or, Open, Close, ◌>>=◌, bind_some, by_test, same_Some}
 use Rattle.text_tokens.specs.declared.token.Mark.TheVariants as the
 use Rattle.text_tokens.specs.declared.token.Token.{Token}
@@ -9,6 +9,7 @@ use Rattle.litmus_syntax.specs.Reading.{place_among_at, equals_value_at, word_si
 use Rattle.litmus_syntax.proofs.Options.{given}
 use Rattle.litmus_syntax.proofs.ItemLaws.{IsRead, SoFar, closed, refused, none_yet, none_read, only_read, one_more}
 use Rattle.litmus_syntax.proofs.PlaceLaws.{place_among_takes, place_among_again, value_takes, value_again}
+use Rattle.std.proofs.lemmas.Bool.{false_from_ne_true as false_from}
 
 abbrev SignAndRest : Type 0
 SignAndRest = SignView × List Tok
@@ -58,27 +59,16 @@ mark_takes threads the.And s ts e = this_mark threads the.And And s ts e refl
 mark_takes threads the.Or s ts e = this_mark threads the.Or Or s ts e refl
 mark_takes threads the.OpenParen s ts e = this_mark threads the.OpenParen Open s ts e refl
 mark_takes threads the.CloseParen s ts e = this_mark threads the.CloseParen Close s ts e refl
-mark_takes threads the.OpenBrace s ts e = absurd cc
-mark_takes threads the.CloseBrace s ts e = absurd cc
-mark_takes threads the.OpenBracket s ts e = absurd cc
-mark_takes threads the.CloseBracket s ts e = absurd cc
-mark_takes threads the.Semicolon s ts e = absurd cc
-mark_takes threads the.Bar s ts e = absurd cc
-mark_takes threads the.Colon s ts e = absurd cc
-mark_takes threads the.Equals s ts e = absurd cc
-mark_takes threads the.Comma s ts e = absurd cc
-mark_takes threads the.Dollar s ts e = absurd cc
+mark_takes threads m s ts e = absurd cc
 
 short_takes : (threads : ℕ) (ts : List Tok) (x : SignAndRest) → short_sign_at ts ≡ Some x → IsSign threads x.0 ts x.1
-short_takes threads [] x e = absurd cc
 short_takes threads (Word w ∷ ts) x e =
     let a = bind_some (word_sign w) (λ s. Some (s, ts)) x e in
     subst (λ (z : SignAndRest). IsSign threads z.0 (Word w ∷ ts) z.1) (same_Some (a.0, ts) x a.2) (word_takes threads w a.0 ts a.1)
-short_takes threads (Number n ∷ ts) x e = absurd cc
 short_takes threads (Sign m ∷ ts) x e =
     let a = bind_some (mark_sign m) (λ s. Some (s, ts)) x e in
     subst (λ (z : SignAndRest). IsSign threads z.0 (Sign m ∷ ts) z.1) (same_Some (a.0, ts) x a.2) (mark_takes threads m a.0 ts a.1)
-short_takes threads (NoToken b ∷ ts) x e = absurd cc
+short_takes threads ts x e = absurd cc
 
 -- ---- signs
 
@@ -89,10 +79,6 @@ sign_takes threads ts x e =
       | inl h ↦ short_takes threads ts x h.1
       | inr h ↦ atom_takes threads ts x h.1
     ]
-
-false_from : (t : Bool) → (t ≡ true → ⊥) → t ≡ false
-false_from true h = absurd (h refl)
-false_from false h = refl
 
 -- a location is called by no word of formulas
 not_called : (x w : List ℕ) → is_name x ≡ true → is_name w ≡ false → bytes_eq x w ≡ false
@@ -115,13 +101,9 @@ sign_again : (threads : ℕ) (s : SignView) (ts rest : List Tok) → IsSign thre
 unfolding sign_at word_sign
 sign_again threads (Atom p n) ts rest h = only_atom threads ts (no_short_sign p ts h.1.0 h.1.1) ∙ atom_again threads p n ts rest h
 sign_again threads (Const true) ts rest h = rw h refl
-sign_again threads (Const false) ts rest h = rw h refl
 sign_again threads Not ts rest (inl h) = rw h refl
 sign_again threads Not ts rest (inr h) = rw h refl
-sign_again threads And ts rest h = rw h refl
-sign_again threads Or ts rest h = rw h refl
-sign_again threads Open ts rest h = rw h refl
-sign_again threads Close ts rest h = rw h refl
+sign_again threads s ts rest h = rw h refl
 
 pub signs_are_read : (threads : ℕ) → IsRead (IsSign threads) (sign_at threads)
 signs_are_read threads = record { takes = sign_takes threads; again = sign_again threads }
@@ -143,13 +125,9 @@ place_at_end (Register t r) rest h = let bad = h.1 in cc
 no_sign_in_none : (threads : ℕ) (s : SignView) (rest : List Tok) → IsSign threads s [] rest → ⊥
 no_sign_in_none threads (Atom p n) rest h = place_at_end p h.1.0 h.1.1
 no_sign_in_none threads (Const true) rest h = cc
-no_sign_in_none threads (Const false) rest h = cc
 no_sign_in_none threads Not rest (inl h) = cc
 no_sign_in_none threads Not rest (inr h) = cc
-no_sign_in_none threads And rest h = cc
-no_sign_in_none threads Or rest h = cc
-no_sign_in_none threads Open rest h = cc
-no_sign_in_none threads Close rest h = cc
+no_sign_in_none threads s rest h = cc
 
 no_sign_at_end : (threads : ℕ) (ts : List Tok) → ts ≡ [] → (s : SignView) (rest : List Tok) → IsSign threads s ts rest → ⊥
 no_sign_at_end threads ts e s rest h = no_sign_in_none threads s rest (subst (λ (z : List Tok). IsSign threads s z rest) e h)

@@ -1,6 +1,6 @@
 -- What the readers of keywords and separators read is what the grammar says.
-use Rattle.std.proofs.Common.{◌≡◌, ◌≢◌, ◌∙◌, ℕ, true, List, [], ◌∷◌, refl, ap, inl, inr, Some}
-use Rattle.litmus_syntax.proofs.Vocabulary.{cond_some, same_Some, bytes_eq-Decides, Mark, Tok, Word, Number, Sign, NoToken, mark_at, begins_with, rest_of, word, begins_with_word, separator}
+use Rattle.std.proofs.Common.{◌≡◌, ◌≢◌, ◌∙◌, ℕ, true, List, ◌∷◌, refl, ap, inl, inr, Some}
+use Rattle.litmus_syntax.proofs.Vocabulary.{cond_some, same_Some, bytes_eq-Decides, Mark, Tok, Word, mark_at, begins_with, rest_of, word, begins_with_word, separator}
 use Rattle.litmus_syntax.proofs.Vocabulary.{keyword_at, separator_at, by_test}
 use Rattle.text_tokens.specs.declared.token.Mark.TheVariants as the
 use Rattle.text_tokens.proofs.PartLaws.{mark_takes, mark_again, begins_takes, begins_again, begins_other}
@@ -8,11 +8,8 @@ use Rattle.text_tokens.proofs.PartLaws.{mark_takes, mark_again, begins_takes, be
 -- ---- keywords
 
 begins_word_takes : (w : List ℕ) (ts : List Tok) → begins_with_word w ts ≡ true → ts ≡ Word w ∷ rest_of ts
-begins_word_takes w [] e = absurd cc
 begins_word_takes w (Word v ∷ ts) e = ap (λ (z : List ℕ). Word z ∷ ts) ((bytes_eq-Decides v w).0 e)
-begins_word_takes w (Number n ∷ ts) e = absurd cc
-begins_word_takes w (Sign m ∷ ts) e = absurd cc
-begins_word_takes w (NoToken b ∷ ts) e = absurd cc
+begins_word_takes w ts e = absurd cc
 
 pub begins_word_again : (w : List ℕ) (ts rest : List Tok) → word w ts rest → begins_with_word w ts ≡ true
 begins_word_again w ts rest h = ap (begins_with_word w) h ∙ (bytes_eq-Decides w w).1 refl

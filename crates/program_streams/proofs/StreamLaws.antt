@@ -1,14 +1,9 @@
 -- What several reads or writes do to known bytes.
-use Rattle.std.proofs.Common.{◌≡◌, ℕ, ◌+◌, ◌-◌, ◌≤◌, List, [], ◌++◌, Option, Some, None, take, drop, length, refl, sym, ap, ◌∙◌, append_assoc, arith}
-use Rattle.std.specs.Io.KnownBytes.{Appends, Consumes, IsAtEnd, Keeps}
+use Rattle.std.proofs.Common.{◌≡◌, ℕ, ◌+◌, ◌-◌, ◌≤◌, List, [], ◌++◌, Option, Some, None, take, drop, length, sym, ap, ◌∙◌, append_assoc, arith}
+use Rattle.std.specs.Io.KnownBytes.{Appends, Consumes}
 use Rattle.std.proofs.lemmas.List.{append-nil, length-append}
 use Rattle.std.proofs.Math.Seq.{take-add}
-use Rattle.program_streams.specs.Streams.{HoldsBytes, TakesBytes, TakesUpTo, ReadsOn, AppendsRest}
-
--- no read gives no byte
-pub none_read : (a : Option (List ℕ)) → Consumes a a []
-none_read None = tt
-none_read (Some xs) = refl
+use Rattle.program_streams.specs.Streams.{TakesBytes, TakesUpTo, ReadsOn}
 
 -- two reads, one after the other
 pub reads_more : (a b c : Option (List ℕ)) (xs ys : List ℕ) → Consumes a b xs → Consumes b c ys → Consumes a c (xs ++ ys)
@@ -22,10 +17,6 @@ pub takes_more : (a b c : Option (List ℕ)) (before after part : List ℕ) (mos
 takes_more a b c before after part most room (bytes, taken, is) next within at =
     (bytes ++ part, reads_more a b c bytes part taken next, omega (arith, ap length is, length-append before bytes, length-append bytes part, within, at))
 
--- no more than some is no more than more
-pub takes_fewer : (a b : Option (List ℕ)) (n m : ℕ) → TakesUpTo a b n → n ≤ m → TakesUpTo a b m
-takes_fewer a b n m (bytes, taken, few) more = (bytes, taken, omega (arith, few, more))
-
 -- the same of two reads
 pub takes_both : (a b c : Option (List ℕ)) (n m k : ℕ) → TakesUpTo a b n → TakesUpTo b c m → n + m ≤ k → TakesUpTo a c k
 takes_both a b c n m k (bytes, taken, few) (more, next, few_too) within =
@@ -35,16 +26,6 @@ takes_both a b c n m k (bytes, taken, few) (more, next, few_too) within =
 pub takes_past : (a b c : Option (List ℕ)) (before after : List ℕ) (m n : ℕ) → ReadsOn a b before after → TakesBytes b c m → length after + m ≡ length before + n → TakesBytes a c n
 takes_past a b c before after m n (bytes, taken, is) (more, next, count) at =
     (bytes ++ more, reads_more a b c bytes more taken next, omega (arith, ap length is, length-append before bytes, length-append bytes more, count, at))
-
--- a reader that is at its end has given all that it had
-pub read_all : (a b : Option (List ℕ)) (xs : List ℕ) → Consumes a b xs → IsAtEnd b → HoldsBytes a xs
-read_all None b xs p q = tt
-read_all (Some x) None xs p q = absurd p
-read_all (Some x) (Some y) xs p q = p ∙ ap (λ (w : List ℕ). xs ++ w) q ∙ append-nil xs
-
--- so what was read on is all of it
-pub rest_read : (a b : Option (List ℕ)) (before after : List ℕ) → ReadsOn a b before after → IsAtEnd b → AppendsRest a before after
-rest_read a b before after (bytes, taken, is) end = (bytes, read_all a b bytes taken end, is)
 
 -- no write takes no byte
 pub none_written : (a : Option (List ℕ)) → Appends a a []
@@ -57,13 +38,6 @@ writes_more None b c xs ys p q = tt
 writes_more (Some x) None c xs ys p q = absurd p
 writes_more (Some x) (Some y) None xs ys p q = absurd q
 writes_more (Some x) (Some y) (Some z) xs ys p q = q ∙ ap (λ (w : List ℕ). w ++ ys) p ∙ append_assoc x xs ys
-
--- a write that fails keeps what was written
-pub writes_nothing : (a b c : Option (List ℕ)) (xs : List ℕ) → Appends a b xs → Keeps b c → Appends a c xs
-writes_nothing None b c xs p q = tt
-writes_nothing (Some x) None c xs p q = absurd p
-writes_nothing (Some x) (Some y) None xs p q = absurd q
-writes_nothing (Some x) (Some y) (Some z) xs p q = q ∙ p
 
 -- one more write of what is left
 pub sends_more : (a b c : Option (List ℕ)) (bytes : List ℕ) (sent count : ℕ) → Appends a b (take sent bytes) → Appends b c (take count (drop sent bytes)) → Appends a c (take (sent + count) bytes)

@@ -3,7 +3,7 @@ use Rattle.std.proofs.Common.{◌≡◌, ◌∙◌, ℕ, List, [], codes, sym, a
 use Rattle.text_laws.proofs.Vocabulary.{same_Some, Tok, rest_of, mark, Items}
 use Rattle.text_tokens.specs.declared.token.Mark.TheVariants as the
 use Rattle.conditions.specs.declared.condition.Quantifier.{Quantifier}
-use Rattle.conditions.specs.declared.condition.Quantifier.TheVariants.{Exists, NotExists, Forall}
+use Rattle.conditions.specs.declared.condition.Quantifier.TheVariants.{NotExists}
 use Rattle.litmus_syntax.specs.Views.{PlaceView, Location, Register, SignView, EndingView}
 use Rattle.litmus_syntax.specs.Grammar.{IsPlace, separator, IsObservedItem, IsObserved, IsQuantifier, IsSign, IsSigns, the_end, IsEnding}
 use Rattle.litmus_syntax.specs.Reading.{place_at, place_among_at, quantifier_at, atom_at, sign_at}
@@ -47,9 +47,8 @@ observed_once threads ts ps qs rest other (inr h) (inr g) = (h.0 ∙ sym g.0, sy
 
 quantifier_is_read : (q : Quantifier) (ts rest : List Tok) → IsQuantifier q ts rest → quantifier_at ts ≡ Some (q, rest)
 unfolding quantifier_at
-quantifier_is_read Exists ts rest h = rw h refl
 quantifier_is_read NotExists ts rest h = rw (h.1, h.2) refl
-quantifier_is_read Forall ts rest h = rw h refl
+quantifier_is_read q ts rest h = rw h refl
 
 -- ---- the signs
 

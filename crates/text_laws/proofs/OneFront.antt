@@ -39,10 +39,7 @@ is_brace n e = grind (arith, nat_tests)
 -- no line that is skipped begins with `{`
 no_brace_first : (text rest : List ℕ) → IsSkippedLine text rest → (slice_index text 0 == 123) ≡ false
 no_brace_first text rest h =
-    elim (cases_Bool (slice_index text 0 == 123)) [
-      | inl is ↦ absurd (no_brace_line text rest (is_brace (slice_index text 0) is) h)
-      | inr other ↦ other
-    ]
+    elim (cases_Bool (slice_index text 0 == 123)) [ inl is ↦ absurd (no_brace_line text rest (is_brace (slice_index text 0) is) h) | inr other ↦ other ]
 
 pub skipped_once : (text a b : List ℕ) → AreSkipped text a → AreSkipped text b → a ≡ b
 skipped_once text a b (brace s e) g = brace_back text a b (λ r t. space_once text a r s t) (brace_first (slice_index a 0) e) g

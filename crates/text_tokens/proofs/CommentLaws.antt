@@ -74,24 +74,16 @@ open_back text end (suc d) h low o =
 
 -- as many are open
 pub other_forth : (text end : List ℕ) (d : ℕ) → 0 < length text → opens text ≡ false → closes text ≡ false → 0 < d → Open d (drop 1 text) end → Open d text end
-other_forth [] end d some h g low o = absurd (omega arith)
-other_forth (x ∷ text) end zero some h g low o = absurd (omega arith)
 other_forth (x ∷ text) end (suc d) some h g low o = (o.0, other h g o.1, o.2)
+other_forth text end d some h g low o = absurd (omega arith)
 
 pub other_back : (text end : List ℕ) (d : ℕ) → 0 < length text → opens text ≡ false → closes text ≡ false → 0 < d → Open d text end → Open d (drop 1 text) end
-other_back [] end d some h g low o = absurd (omega arith)
-other_back (x ∷ text) end zero some h g low o = absurd (omega arith)
 other_back (x ∷ text) end (suc d) some h g low o = (o.0, other_is x text o.0 h g o.1, o.2)
+other_back text end d some h g low o = absurd (omega arith)
 
 pub short_back : (text end : List ℕ) (d : ℕ) → length text < 2 → 0 < d → Open d text end → ⊥
 short_back text end zero short low o = omega arith
 short_back text end (suc d) short low o = short_is text o.0 short o.1
-
-pub one_open : (text end : List ℕ) → Open 1 text end → Inside text end
-one_open text end o = rw o.2 at o.1
-
-pub open_one : (text end : List ℕ) → Inside text end → Open 1 text end
-open_one text end i = (end, i, refl)
 
 -- a comment ends in one place
 pub Inside-one : (text a b : List ℕ) → Inside text a → Inside text b → a ≡ b
@@ -116,8 +108,4 @@ pub comment_shorter : (text rest : List ℕ) → IsComment text rest → length 
 comment_shorter text rest h = omega (arith, Inside-shorter (drop 2 text) rest h.1, length-drop 2 text)
 
 pub space_shorter : (text rest : List ℕ) → ((b : ℕ) × (is_white_space b ≡ true) × (text ≡ b ∷ rest)) ⊎ IsComment text rest → length rest < length text
-space_shorter text rest h =
-    elim h [
-      | inl one ↦ omega (arith, ap length one.2)
-      | inr k ↦ comment_shorter text rest k
-    ]
+space_shorter text rest h = elim h [ inl one ↦ omega (arith, ap length one.2) | inr k ↦ comment_shorter text rest k ]

@@ -1,10 +1,11 @@
 -- What the first byte of a text tells.
-use Rattle.std.proofs.Common.{◌≡◌, ◌≢◌, ℕ, ◌<◌, ◌≤◌, ◌==◌, Bool, true, false, List, [], ◌∷◌, ◌++◌, length, drop, Option, Some, None, cond, refl, sym, ap, ◌∙◌, arith, inl, inr}
+use Rattle.std.proofs.Common.{◌≡◌, ◌≢◌, ℕ, ◌<◌, ◌≤◌, ◌==◌, true, false, List, [], ◌∷◌, ◌++◌, length, drop, Option, Some, None, cond, refl, sym, ap, ◌∙◌, arith, inl, inr}
 use Rattle.text_tokens.proofs.Vocabulary.{slice_index, if◌then◌else◌, list_all, is_ascii_digit, cases_Bool, and_parts, eqb-true, length-append, nat_tests, Mark, OpenBrace, CloseBrace, OpenBracket}
 use Rattle.text_tokens.proofs.Vocabulary.{CloseBracket, OpenParen, CloseParen, Semicolon, Bar, Colon, Equals, Comma, Dollar, Tilde, And, Or, Bad, is_white_space, is_letter, is_word_byte, mark_text}
 use Rattle.text_tokens.proofs.Vocabulary.{mark_from, opens, Tok, Word, Number, Sign, NoToken}
 use Rattle.text_tokens.specs.declared.token.Bad.TheVariants as bad
 use Rattle.text_tokens.specs.Lexing.{BeginsWith, IsWord, AreDigits, IsBad}
+use Rattle.std.proofs.lemmas.Bool.{false_from_ne_true as false_from}
 
 -- ---- classes of bytes, of which no two meet
 
@@ -45,9 +46,6 @@ not_minus b h = grind (arith, nat_tests)
 pub letter_goes_on : (b : ℕ) → is_letter b ≡ true → is_word_byte b ≡ true
 letter_goes_on b h = rw h refl
 
-pub digit_goes_on : (b : ℕ) → is_ascii_digit b ≡ true → is_word_byte b ≡ true
-digit_goes_on b h = grind (arith, nat_tests)
-
 pub no_letter : (b : ℕ) → is_word_byte b ≡ false → is_letter b ≡ false
 no_letter b h = grind (arith, nat_tests)
 
@@ -66,10 +64,6 @@ word_class b h w =
       | inl y ↦ let bad : Letter ≡ Other = sym (letter_class b y) ∙ h in absurd cc
       | inr n ↦ let digit : is_ascii_digit b ≡ true = rw n at w in let bad : Digit ≡ Other = sym (digit_class b digit) ∙ h in absurd cc
     ]
-
-false_from : (t : Bool) → (t ≡ true → ⊥) → t ≡ false
-false_from true h = absurd (h refl)
-false_from false h = refl
 
 pub other_parts : (b : ℕ) → class_of b ≡ Other → (is_white_space b ≡ false) × (is_word_byte b ≡ false) × (b ≢ 45)
 other_parts b h = (
@@ -96,73 +90,21 @@ first_digit (x ∷ ds) h = (and_parts (is_ascii_digit x) (list_all is_ascii_digi
 
 pub mark_some : (m : Mark) → 0 < length (mark_text m)
 mark_some OpenBrace = omega arith
-mark_some CloseBrace = omega arith
-mark_some OpenBracket = omega arith
-mark_some CloseBracket = omega arith
-mark_some OpenParen = omega arith
-mark_some CloseParen = omega arith
-mark_some Semicolon = omega arith
-mark_some Bar = omega arith
-mark_some Colon = omega arith
-mark_some Equals = omega arith
-mark_some Comma = omega arith
-mark_some Dollar = omega arith
-mark_some Tilde = omega arith
-mark_some And = omega arith
-mark_some Or = omega arith
+mark_some m = omega arith
 
 pub mark_short : (m : Mark) → length (mark_text m) ≤ 2
 mark_short OpenBrace = omega arith
-mark_short CloseBrace = omega arith
-mark_short OpenBracket = omega arith
-mark_short CloseBracket = omega arith
-mark_short OpenParen = omega arith
-mark_short CloseParen = omega arith
-mark_short Semicolon = omega arith
-mark_short Bar = omega arith
-mark_short Colon = omega arith
-mark_short Equals = omega arith
-mark_short Comma = omega arith
-mark_short Dollar = omega arith
-mark_short Tilde = omega arith
-mark_short And = omega arith
-mark_short Or = omega arith
+mark_short m = omega arith
 
 pub mark_class : (m : Mark) → class_of (slice_index (mark_text m) 0) ≡ Other
 mark_class OpenBrace = refl
-mark_class CloseBrace = refl
-mark_class OpenBracket = refl
-mark_class CloseBracket = refl
-mark_class OpenParen = refl
-mark_class CloseParen = refl
-mark_class Semicolon = refl
-mark_class Bar = refl
-mark_class Colon = refl
-mark_class Equals = refl
-mark_class Comma = refl
-mark_class Dollar = refl
-mark_class Tilde = refl
-mark_class And = refl
-mark_class Or = refl
+mark_class m = refl
 
 -- a mark is the one that begins with its first byte
 pub mark_from_text : (m : Mark) → mark_from (slice_index (mark_text m) 0) ≡ Some m
 unfolding mark_from
 mark_from_text OpenBrace = refl
-mark_from_text CloseBrace = refl
-mark_from_text OpenBracket = refl
-mark_from_text CloseBracket = refl
-mark_from_text OpenParen = refl
-mark_from_text CloseParen = refl
-mark_from_text Semicolon = refl
-mark_from_text Bar = refl
-mark_from_text Colon = refl
-mark_from_text Equals = refl
-mark_from_text Comma = refl
-mark_from_text Dollar = refl
-mark_from_text Tilde = refl
-mark_from_text And = refl
-mark_from_text Or = refl
+mark_from_text m = refl
 
 abbrev pub some_mark : Mark → Option Mark
 some_mark m = Some m
@@ -245,8 +187,7 @@ begins_some (NoToken b) text rest h = absurd h
 abbrev pub bad_class : Bad → Class
 bad_class bad.Number = Digit
 bad_class bad.Minus = Minus
-bad_class bad.Unfinished = Other
-bad_class bad.Stray = Other
+bad_class h = Other
 
 pub bad_begins : (b : Bad) (text : List ℕ) → IsBad b text → class_of (slice_index text 0) ≡ bad_class b
 bad_begins bad.Number text h = digit_class (slice_index text 0) (ap (λ (x : List ℕ). is_ascii_digit (slice_index x 0)) h.2 ∙ ap is_ascii_digit (first_of h.0 h.1 h.3.0) ∙ first_digit h.0 h.3)

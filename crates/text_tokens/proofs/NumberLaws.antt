@@ -31,8 +31,7 @@ one_or_other : (ds : List ℕ) → (get_or ds 0 0 ≡ 48 → length ds ≡ 1) �
 one_or_other ds h = grind (arith, nat_tests)
 
 plain_whole : (ds : List ℕ) → Plain ds → is_plain ds ≡ true
-plain_whole ds p =
-    and_from _ _ (and_from _ _ p.digits (grind (arith, nat_tests))) (one_or_other ds p.first)
+plain_whole ds p = and_from _ _ (and_from _ _ p.digits (grind (arith, nat_tests))) (one_or_other ds p.first)
 
 plain_decimal : (n : ℕ) → n < 2 ^ 64 → Plain (decimal n)
 plain_decimal n lt = record {
@@ -107,9 +106,7 @@ pub found_plain : (limit : ℕ) (ds : List ℕ) (o : Option ℕ) → limit < 2 ^
 found_plain limit ds o fits plain e = found_one limit ds o fits (plain_then limit ds plain ∙ sym e)
 
 pub only_plain : (limit n : ℕ) (ds : List ℕ) (o : Option ℕ) → limit < 2 ^ 64 → is_plain ds ≡ true → o ≡ value_at limit ds → n ≤ limit → ds ≡ decimal n → o ≡ Some n
-only_plain limit n ds o fits plain e le is =
-    e ∙ sym (plain_then limit ds plain) ∙ ap (plain_number_at limit) is ∙ plain_number_again limit n fits le
+only_plain limit n ds o fits plain e le is = e ∙ sym (plain_then limit ds plain) ∙ ap (plain_number_at limit) is ∙ plain_number_again limit n fits le
 
 pub never_plain : (limit n : ℕ) (ds : List ℕ) → limit < 2 ^ 64 → is_plain ds ≡ false → n ≤ limit → ds ≡ decimal n → none_of ≡ Some n
-never_plain limit n ds fits plain le is =
-    sym (plain_else limit ds plain) ∙ ap (plain_number_at limit) is ∙ plain_number_again limit n fits le
+never_plain limit n ds fits plain le is = sym (plain_else limit ds plain) ∙ ap (plain_number_at limit) is ∙ plain_number_again limit n fits le

@@ -20,17 +20,9 @@ pub same_token : (t u : Tok) (text rest others : List ℕ) → BeginsWith t text
 same_token (Word w) (Word v) text rest others h g =
     let same = same_prefix is_word_byte w rest v others h.1.1 h.2 g.1.1 g.2 (sym h.0 ∙ g.0) in
     (ap Word same.0, same.1)
-same_token (Word w) (Number n) text rest others h g = absurd (let e : Letter ≡ Digit = alike (Word w) (Number n) text rest others h g in cc)
-same_token (Word w) (Sign m) text rest others h g = absurd (let e : Letter ≡ Other = alike (Word w) (Sign m) text rest others h g in cc)
-same_token (Word w) (NoToken b) text rest others h g = absurd g
-same_token (Number n) (Word v) text rest others h g = absurd (let e : Digit ≡ Letter = alike (Number n) (Word v) text rest others h g in cc)
 same_token (Number n) (Number k) text rest others h g =
     let same = same_prefix is_ascii_digit h.0 rest g.0 others h.2.1 (no_digit (slice_index rest 0) h.5) g.2.1 (no_digit (slice_index others 0) g.5) (sym h.1 ∙ g.1) in
     (ap Number (h.3 ∙ ap (digits_value 10) same.0 ∙ sym g.3), same.1)
-same_token (Number n) (Sign m) text rest others h g = absurd (let e : Digit ≡ Other = alike (Number n) (Sign m) text rest others h g in cc)
-same_token (Number n) (NoToken b) text rest others h g = absurd g
-same_token (Sign m) (Word v) text rest others h g = absurd (let e : Other ≡ Letter = alike (Sign m) (Word v) text rest others h g in cc)
-same_token (Sign m) (Number k) text rest others h g = absurd (let e : Other ≡ Digit = alike (Sign m) (Number k) text rest others h g in cc)
 same_token (Sign m) (Sign n) text rest others h g =
     let same : m ≡ n = one_mark m n rest others (sym h.0 ∙ g.0) in
     (ap Sign same, after_mark m n rest others same (sym h.0 ∙ g.0))
@@ -39,24 +31,21 @@ same_token (Sign m) (Sign n) text rest others h g =
     after_mark m n rest others same e =
         sym (drop_at (mark_text m) rest (length (mark_text m)) refl) ∙ ap (drop (length (mark_text m))) e
         ∙ drop_at (mark_text n) others (length (mark_text m)) (ap (λ (k : Mark). length (mark_text k)) (sym same))
-same_token (Sign m) (NoToken b) text rest others h g = absurd g
 same_token (NoToken b) u text rest others h g = absurd h
+same_token t (NoToken b) text rest others h g = absurd g
+same_token t u text rest others h g = absurd (let e : token_class t ≡ token_class u = alike t u text rest others h g in cc)
 
 -- no token begins with white space
 not_white_space : (t : Tok) (b : ℕ) (text rest : List ℕ) → is_white_space b ≡ true → BeginsWith t (b ∷ text) rest → ⊥
-not_white_space (Word w) b text rest h k = let e : WhiteSpace ≡ Letter = sym (white_space_class b h) ∙ begins_class (Word w) (b ∷ text) rest k in cc
-not_white_space (Number n) b text rest h k = let e : WhiteSpace ≡ Digit = sym (white_space_class b h) ∙ begins_class (Number n) (b ∷ text) rest k in cc
-not_white_space (Sign m) b text rest h k = let e : WhiteSpace ≡ Other = sym (white_space_class b h) ∙ begins_class (Sign m) (b ∷ text) rest k in cc
 not_white_space (NoToken c) b text rest h k = k
+not_white_space t b text rest h k = let e : WhiteSpace ≡ token_class t = sym (white_space_class b h) ∙ begins_class t (b ∷ text) rest k in cc
 
 -- ---- what is bad
 
 -- nothing bad is white space
 bad_not_white_space : (k : Bad) (b : ℕ) (text : List ℕ) → is_white_space b ≡ true → IsBad k (b ∷ text) → ⊥
 bad_not_white_space bad.Number b text h k = let e : WhiteSpace ≡ Digit = sym (white_space_class b h) ∙ bad_begins bad.Number (b ∷ text) k in cc
-bad_not_white_space bad.Minus b text h k = let e : WhiteSpace ≡ Minus = sym (white_space_class b h) ∙ bad_begins bad.Minus (b ∷ text) k in cc
-bad_not_white_space bad.Unfinished b text h k = let e : WhiteSpace ≡ Other = sym (white_space_class b h) ∙ bad_begins bad.Unfinished (b ∷ text) k in cc
-bad_not_white_space bad.Stray b text h k = let e : WhiteSpace ≡ Other = sym (white_space_class b h) ∙ bad_begins bad.Stray (b ∷ text) k in cc
+bad_not_white_space k b text h i = let e : WhiteSpace ≡ bad_class k = sym (white_space_class b h) ∙ bad_begins k (b ∷ text) i in cc
 
 bads_alike : (b c : Bad) (text : List ℕ) → IsBad b text → IsBad c text → bad_class b ≡ bad_class c
 bads_alike b c text h g = sym (bad_begins b text h) ∙ bad_begins c text g
@@ -82,36 +71,19 @@ no_mark m text rest h g =
     omega (arith, ap length whole, ap (λ (k : Mark). length (mark_text k)) same, length-append (mark_text m) (rest ++ h.1), length-append rest h.1, h.4)
 
 bad_not_token : (k : Bad) (t : Tok) (text rest : List ℕ) → IsBad k text → BeginsWith t text rest → ⊥
-bad_not_token bad.Number (Word w) text rest h g = let e : Digit ≡ Letter = bad_alike bad.Number (Word w) text rest h g in cc
-bad_not_token bad.Number (Number n) text rest h g = no_number n text rest h g
-bad_not_token bad.Number (Sign m) text rest h g = let e : Digit ≡ Other = bad_alike bad.Number (Sign m) text rest h g in cc
-bad_not_token bad.Number (NoToken b) text rest h g = g
+bad_not_token k (NoToken b) text rest h g = g
 bad_not_token bad.Minus (Word w) text rest h g = let e : Minus ≡ Letter = bad_alike bad.Minus (Word w) text rest h g in cc
-bad_not_token bad.Minus (Number n) text rest h g = let e : Minus ≡ Digit = bad_alike bad.Minus (Number n) text rest h g in cc
-bad_not_token bad.Minus (Sign m) text rest h g = let e : Minus ≡ Other = bad_alike bad.Minus (Sign m) text rest h g in cc
-bad_not_token bad.Minus (NoToken b) text rest h g = g
-bad_not_token bad.Unfinished (Word w) text rest h g = let e : Other ≡ Letter = bad_alike bad.Unfinished (Word w) text rest h g in cc
-bad_not_token bad.Unfinished (Number n) text rest h g = let e : Other ≡ Digit = bad_alike bad.Unfinished (Number n) text rest h g in cc
+bad_not_token bad.Number (Number n) text rest h g = no_number n text rest h g
 bad_not_token bad.Unfinished (Sign m) text rest h g =
-    elim h [
-      | inl half ↦ no_mark m text rest half g
-      | inr open_one ↦ let e : true ≡ false = sym open_one.0 ∙ g.1 in cc
-    ]
-bad_not_token bad.Unfinished (NoToken b) text rest h g = g
-bad_not_token bad.Stray (Word w) text rest h g = let e : Other ≡ Letter = bad_alike bad.Stray (Word w) text rest h g in cc
-bad_not_token bad.Stray (Number n) text rest h g = let e : Other ≡ Digit = bad_alike bad.Stray (Number n) text rest h g in cc
+    elim h [ inl half ↦ no_mark m text rest half g | inr open_one ↦ let e : true ≡ false = sym open_one.0 ∙ g.1 in cc ]
 bad_not_token bad.Stray (Sign m) text rest h g = h.no_mark m rest g.0
-bad_not_token bad.Stray (NoToken b) text rest h g = g
+bad_not_token k t text rest h g = let e : bad_class k ≡ token_class t = bad_alike k t text rest h g in cc
 
 stray_not_opens : (text : List ℕ) → IsStray text → opens text ≡ true → ⊥
 stray_not_opens text h k = h.no_mark OpenParen (drop 1 text) (opens_paren text k)
 
 half_not_stray : (text : List ℕ) → IsBad bad.Unfinished text → IsStray text → ⊥
-half_not_stray text h g =
-    elim h [
-      | inl half ↦ g.no_part half.0 half.1 half.2
-      | inr open_one ↦ stray_not_opens text g open_one.0
-    ]
+half_not_stray text h g = elim h [ inl half ↦ g.no_part half.0 half.1 half.2 | inr open_one ↦ stray_not_opens text g open_one.0 ]
 
 -- ---- comments
 
@@ -123,14 +95,9 @@ half_not_opens text h k =
 
 -- nothing bad is a comment
 bad_not_comment : (b : Bad) (text rest : List ℕ) → IsBad b text → IsComment text rest → ⊥
-bad_not_comment bad.Number text rest h k = let e : Digit ≡ Other = sym (bad_begins bad.Number text h) ∙ opens_class text k.0 in cc
-bad_not_comment bad.Minus text rest h k = let e : Minus ≡ Other = sym (bad_begins bad.Minus text h) ∙ opens_class text k.0 in cc
-bad_not_comment bad.Unfinished text rest h k =
-    elim h [
-      | inl half ↦ half_not_opens text half k.0
-      | inr open_one ↦ open_one.1 rest k
-    ]
+bad_not_comment bad.Unfinished text rest h k = elim h [ inl half ↦ half_not_opens text half k.0 | inr open_one ↦ open_one.1 rest k ]
 bad_not_comment bad.Stray text rest h k = stray_not_opens text h k.0
+bad_not_comment b text rest h k = let e : bad_class b ≡ Other = sym (bad_begins b text h) ∙ opens_class text k.0 in cc
 
 -- no comment is white space
 comment_not_white_space : (b : ℕ) (text rest : List ℕ) → is_white_space b ≡ true → IsComment (b ∷ text) rest → ⊥
@@ -138,29 +105,17 @@ comment_not_white_space b text rest h k = let e : WhiteSpace ≡ Other = sym (wh
 
 -- no comment is a token
 comment_not_token : (t : Tok) (text rest others : List ℕ) → IsComment text rest → BeginsWith t text others → ⊥
-comment_not_token (Word w) text rest others k h = let e : Other ≡ Letter = sym (opens_class text k.0) ∙ begins_class (Word w) text others h in cc
-comment_not_token (Number n) text rest others k h = let e : Other ≡ Digit = sym (opens_class text k.0) ∙ begins_class (Number n) text others h in cc
 comment_not_token (Sign m) text rest others k h = let e : true ≡ false = sym k.0 ∙ h.1 in cc
 comment_not_token (NoToken b) text rest others k h = h
+comment_not_token t text rest others k h = let e : Other ≡ token_class t = sym (opens_class text k.0) ∙ begins_class t text others h in cc
 
 -- why no token stands somewhere has one answer
 same_bad : (b c : Bad) (text : List ℕ) → IsBad b text → IsBad c text → b ≡ c
 same_bad bad.Number bad.Number text h g = refl
-same_bad bad.Number bad.Minus text h g = absurd (let e : Digit ≡ Minus = bads_alike bad.Number bad.Minus text h g in cc)
-same_bad bad.Number bad.Unfinished text h g = absurd (let e : Digit ≡ Other = bads_alike bad.Number bad.Unfinished text h g in cc)
-same_bad bad.Number bad.Stray text h g = absurd (let e : Digit ≡ Other = bads_alike bad.Number bad.Stray text h g in cc)
-same_bad bad.Minus bad.Number text h g = absurd (let e : Minus ≡ Digit = bads_alike bad.Minus bad.Number text h g in cc)
 same_bad bad.Minus bad.Minus text h g = refl
-same_bad bad.Minus bad.Unfinished text h g = absurd (let e : Minus ≡ Other = bads_alike bad.Minus bad.Unfinished text h g in cc)
-same_bad bad.Minus bad.Stray text h g = absurd (let e : Minus ≡ Other = bads_alike bad.Minus bad.Stray text h g in cc)
-same_bad bad.Unfinished bad.Number text h g = absurd (let e : Other ≡ Digit = bads_alike bad.Unfinished bad.Number text h g in cc)
-same_bad bad.Unfinished bad.Minus text h g = absurd (let e : Other ≡ Minus = bads_alike bad.Unfinished bad.Minus text h g in cc)
-same_bad bad.Unfinished bad.Unfinished text h g = refl
 same_bad bad.Unfinished bad.Stray text h g = absurd (half_not_stray text h g)
-same_bad bad.Stray bad.Number text h g = absurd (let e : Other ≡ Digit = bads_alike bad.Stray bad.Number text h g in cc)
-same_bad bad.Stray bad.Minus text h g = absurd (let e : Other ≡ Minus = bads_alike bad.Stray bad.Minus text h g in cc)
 same_bad bad.Stray bad.Unfinished text h g = absurd (half_not_stray text g h)
-same_bad bad.Stray bad.Stray text h g = refl
+same_bad b c text h g = let e : bad_class b ≡ bad_class c = bads_alike b c text h g in cc
 
 -- ---- where tokens end
 
@@ -262,33 +217,21 @@ one_stop ts us b c text rest others l h m g =
 
 pub only_whole : (ts us : List Tok) (text : List ℕ) → Lexes text ts → LexesTo text us → ts ≡ us
 only_whole ts us text l m =
-    elim m [
-      | inl w ↦ (one_way ts us text [] [] text_end text_end l w).0
-      | inr s ↦ absurd (whole_not_stopped ts s.0 s.1 text s.2 l s.4 s.5)
-    ]
+    elim m [ inl w ↦ (one_way ts us text [] [] text_end text_end l w).0 | inr s ↦ absurd (whole_not_stopped ts s.0 s.1 text s.2 l s.4 s.5) ]
 
 pub only_stopped : (ts us : List Tok) (b : Bad) (text rest : List ℕ) → BeginsWithAll ts text rest → IsBad b rest → LexesTo text us → stopped ts b ≡ us
 only_stopped ts us b text rest l h m =
-    elim m [
-      | inl w ↦ absurd (whole_not_stopped us ts b text rest w l h)
-      | inr s ↦ one_stop ts s.0 b s.1 text rest s.2 l h s.4 s.5 ∙ sym s.3
-    ]
+    elim m [ inl w ↦ absurd (whole_not_stopped us ts b text rest w l h) | inr s ↦ one_stop ts s.0 b s.1 text rest s.2 l h s.4 s.5 ∙ sym s.3 ]
 
 -- a text has one list of tokens
 pub LexesTo-one : (text : List ℕ) (ts us : List Tok) → LexesTo text ts → LexesTo text us → ts ≡ us
-LexesTo-one text ts us l m =
-    elim l [
-      | inl w ↦ only_whole ts us text w m
-      | inr s ↦ s.3 ∙ only_stopped s.0 us s.1 text s.2 s.4 s.5 m
-    ]
+LexesTo-one text ts us l m = elim l [ inl w ↦ only_whole ts us text w m | inr s ↦ s.3 ∙ only_stopped s.0 us s.1 text s.2 s.4 s.5 m ]
 
 -- ---- wholeness
 
 whole_one : (t : Tok) (ts : List Tok) (text rest : List ℕ) → BeginsWith t text rest → AreAllTokens ts → AreAllTokens (t ∷ ts)
-whole_one (Word w) ts text rest h i = i
-whole_one (Number n) ts text rest h i = i
-whole_one (Sign m) ts text rest h i = i
 whole_one (NoToken b) ts text rest h i = absurd h
+whole_one t ts text rest h i = i
 
 all_whole : (ts : List Tok) (text rest : List ℕ) → BeginsWithAll ts text rest → AreAllTokens ts
 all_whole ts text rest none = tt
@@ -302,7 +245,5 @@ Lexes-is-whole text ts l = all_whole ts text [] l
 
 pub not_whole : (ts us : List Tok) (b : Bad) → AreAllTokens (ts ++ NoToken b ∷ us) → ⊥
 not_whole [] us b h = h
-not_whole (Word w ∷ ts) us b h = not_whole ts us b h
-not_whole (Number n ∷ ts) us b h = not_whole ts us b h
-not_whole (Sign m ∷ ts) us b h = not_whole ts us b h
 not_whole (NoToken c ∷ ts) us b h = h
+not_whole (t ∷ ts) us b h = not_whole ts us b h

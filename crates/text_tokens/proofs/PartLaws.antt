@@ -1,9 +1,10 @@
 -- What the single tokens at the front of a list take, and that they take it again.
-use Rattle.std.proofs.Common.{◌≡◌, ◌≢◌, ℕ, ◌==◌, Bool, true, false, List, [], ◌∷◌, refl, sym, ap, ◌∙◌, arith, Option, Some}
+use Rattle.std.proofs.Common.{◌≡◌, ◌≢◌, ℕ, ◌==◌, true, false, List, ◌∷◌, refl, sym, ap, ◌∙◌, arith, Option, Some}
 use Rattle.text_tokens.proofs.Vocabulary.{if◌then◌else◌, eqb-true, nat_tests, cond_some, Mark, OpenBrace, CloseBrace, OpenBracket, CloseBracket, OpenParen, CloseParen, Semicolon, Bar, Colon, Equals}
-use Rattle.text_tokens.proofs.Vocabulary.{Comma, Dollar, Tilde, And, Or, Tok, Word, Number, Sign, NoToken}
+use Rattle.text_tokens.proofs.Vocabulary.{Comma, Dollar, Tilde, And, Or, Tok, Word, Number, Sign}
 use Rattle.text_tokens.specs.Marks.{mark_code, same_mark}
 use Rattle.text_tokens.specs.Parts.{word_at, number_at, begins_with, rest_of, mark_at}
+use Rattle.std.proofs.lemmas.Bool.{false_from_ne_true as false_from}
 
 abbrev given : {A : Type 0} → A → Option A
 given x = Some x
@@ -14,21 +15,12 @@ some_is x y e = cc
 -- ---- words and numbers
 
 pub word_takes : (ts : List Tok) (x : List ℕ × List Tok) → word_at ts ≡ Some x → ts ≡ Word x.0 ∷ x.1
-word_takes [] x e = absurd cc
 word_takes (Word w ∷ ts) x e = ap (λ (p : List ℕ × List Tok). Word p.0 ∷ p.1) (some_is (w, ts) x e)
-word_takes (Number n ∷ ts) x e = absurd cc
-word_takes (Sign m ∷ ts) x e = absurd cc
-word_takes (NoToken b ∷ ts) x e = absurd cc
-
-pub word_again : (ts : List Tok) (w : List ℕ) (rest : List Tok) → ts ≡ Word w ∷ rest → word_at ts ≡ Some (w, rest)
-word_again ts w rest e = ap word_at e
+word_takes ts x e = absurd cc
 
 pub number_takes : (ts : List Tok) (x : ℕ × List Tok) → number_at ts ≡ Some x → ts ≡ Number x.0 ∷ x.1
-number_takes [] x e = absurd cc
-number_takes (Word w ∷ ts) x e = absurd cc
 number_takes (Number n ∷ ts) x e = ap (λ (p : ℕ × List Tok). Number p.0 ∷ p.1) (some_is (n, ts) x e)
-number_takes (Sign m ∷ ts) x e = absurd cc
-number_takes (NoToken b ∷ ts) x e = absurd cc
+number_takes ts x e = absurd cc
 
 pub number_again : (ts : List Tok) (n : ℕ) (rest : List Tok) → ts ≡ Number n ∷ rest → number_at ts ≡ Some (n, rest)
 number_again ts n rest e = ap number_at e
@@ -45,20 +37,7 @@ mark_back n =
 mark_again_code : (m : Mark) → mark_back (mark_code m) ≡ m
 unfolding mark_back
 mark_again_code OpenBrace = refl
-mark_again_code CloseBrace = refl
-mark_again_code OpenBracket = refl
-mark_again_code CloseBracket = refl
-mark_again_code OpenParen = refl
-mark_again_code CloseParen = refl
-mark_again_code Semicolon = refl
-mark_again_code Bar = refl
-mark_again_code Colon = refl
-mark_again_code Equals = refl
-mark_again_code Comma = refl
-mark_again_code Dollar = refl
-mark_again_code Tilde = refl
-mark_again_code And = refl
-mark_again_code Or = refl
+mark_again_code m = refl
 
 -- marks are compared by what they are
 pub same_mark_is : (m n : Mark) → same_mark m n ≡ true → m ≡ n
@@ -70,19 +49,12 @@ itself n = grind (arith, nat_tests)
 pub same_mark_itself : (m : Mark) → same_mark m m ≡ true
 same_mark_itself m = itself (mark_code m)
 
-false_from : (t : Bool) → (t ≡ true → ⊥) → t ≡ false
-false_from true h = absurd (h refl)
-false_from false h = refl
-
 pub same_mark_other : (m n : Mark) → m ≢ n → same_mark m n ≡ false
 same_mark_other m n h = false_from (same_mark m n) (λ e. h (same_mark_is m n e))
 
 pub begins_takes : (m : Mark) (ts : List Tok) → begins_with m ts ≡ true → ts ≡ Sign m ∷ rest_of ts
-begins_takes m [] e = absurd cc
-begins_takes m (Word w ∷ ts) e = absurd cc
-begins_takes m (Number n ∷ ts) e = absurd cc
 begins_takes m (Sign k ∷ ts) e = ap (λ (x : Mark). Sign x ∷ ts) (same_mark_is k m e)
-begins_takes m (NoToken b ∷ ts) e = absurd cc
+begins_takes m ts e = absurd cc
 
 pub begins_again : (m : Mark) (ts rest : List Tok) → ts ≡ Sign m ∷ rest → begins_with m ts ≡ true
 begins_again m ts rest e = ap (begins_with m) e ∙ same_mark_itself m

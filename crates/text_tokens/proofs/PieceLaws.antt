@@ -1,5 +1,5 @@
 -- A text in pieces has their tokens.
-use Rattle.std.proofs.Common.{◌≡◌, ℕ, ◌<◌, ◌^◌, List, [], ◌∷◌, ◌++◌, refl, sym, ap, ◌∙◌, subst, arith, append_assoc}
+use Rattle.std.proofs.Common.{ℕ, ◌<◌, ◌^◌, List, [], ◌∷◌, ◌++◌, refl, sym, subst, arith, append_assoc}
 use Rattle.text_tokens.proofs.Vocabulary.{decimal, append-nil, digits_decimal, digits_value-decimal, decimal_nonempty, Tok, Word, Number, Sign, NoToken, BeginsWith, BeginsWithAll, none, white_space}
 use Rattle.text_tokens.proofs.Vocabulary.{token, Lexes}
 use Rattle.text_tokens.specs.Pieces.{Piece, Space, Part, token_text, text_of, tokens_of, CanStand, AreApartBefore, AreApart}
@@ -18,29 +18,8 @@ token_begins (NoToken b) rest h = absurd h
 pub pieces_begin : (ps : List Piece) (rest : List ℕ) → AreApartBefore ps rest → BeginsWithAll (tokens_of ps) (text_of ps ++ rest) rest
 pieces_begin [] rest h = none
 pieces_begin (Space b ∷ ps) rest h = white_space h.0 (pieces_begin ps rest h.1)
-pieces_begin (Part t ∷ ps) rest h =
-    rw append_assoc (token (token_begins t (text_of ps ++ rest) h.0) (pieces_begin ps rest h.1))
+pieces_begin (Part t ∷ ps) rest h = rw append_assoc (token (token_begins t (text_of ps ++ rest) h.0) (pieces_begin ps rest h.1))
 
 -- the text of pieces has their tokens
 pub pieces_lex : (ps : List Piece) → AreApart ps → Lexes (text_of ps) (tokens_of ps)
 pieces_lex ps h = subst (λ (x : List ℕ). BeginsWithAll (tokens_of ps) x []) (append-nil (text_of ps)) (pieces_begin ps [] h)
-
--- ---- pieces behind pieces
-
-pub text_of-append : (ps qs : List Piece) → text_of (ps ++ qs) ≡ text_of ps ++ text_of qs
-text_of-append [] qs = refl
-text_of-append (Space b ∷ ps) qs = ap (λ (x : List ℕ). b ∷ x) (text_of-append ps qs)
-text_of-append (Part t ∷ ps) qs = ap (λ (x : List ℕ). token_text t ++ x) (text_of-append ps qs) ∙ sym (append_assoc (token_text t) (text_of ps) (text_of qs))
-
-pub tokens_of-append : (ps qs : List Piece) → tokens_of (ps ++ qs) ≡ tokens_of ps ++ tokens_of qs
-tokens_of-append [] qs = refl
-tokens_of-append (Space b ∷ ps) qs = tokens_of-append ps qs
-tokens_of-append (Part t ∷ ps) qs = ap (λ (x : List Tok). t ∷ x) (tokens_of-append ps qs)
-
-pub AreApartBefore-append : (ps qs : List Piece) (rest : List ℕ) → AreApartBefore ps (text_of qs ++ rest) → AreApartBefore qs rest → AreApartBefore (ps ++ qs) rest
-AreApartBefore-append [] qs rest h g = g
-AreApartBefore-append (Space b ∷ ps) qs rest h g = (h.0, AreApartBefore-append ps qs rest h.1 g)
-AreApartBefore-append (Part t ∷ ps) qs rest h g =
-    let same : text_of ps ++ (text_of qs ++ rest) ≡ text_of (ps ++ qs) ++ rest =
-    sym (append_assoc (text_of ps) (text_of qs) rest) ∙ ap (λ (x : List ℕ). x ++ rest) (sym (text_of-append ps qs)) in
-    (subst (CanStand t) same h.0, AreApartBefore-append ps qs rest h.1 g)

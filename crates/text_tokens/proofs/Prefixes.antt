@@ -28,18 +28,11 @@ one_more n = omega arith
 pub all_pass : (p : ℕ → Bool) (xs : List ℕ) → list_all p (take (prefix_len p xs) xs) ≡ true
 all_pass p [] = refl
 all_pass p (x ∷ xs) =
-    elim (cases_Bool (p x)) [
-      | inl y ↦ rw (y, one_more) (and_from (p x) (list_all p (take (prefix_len p xs) xs)) y (all_pass p xs))
-      | inr n ↦ rw n refl
-    ]
+    elim (cases_Bool (p x)) [ inl y ↦ rw (y, one_more) (and_from (p x) (list_all p (take (prefix_len p xs) xs)) y (all_pass p xs)) | inr n ↦ rw n refl ]
 
 pub next_fails : (p : ℕ → Bool) (xs : List ℕ) → p 0 ≡ false → p (slice_index (drop (prefix_len p xs) xs) 0) ≡ false
 next_fails p [] h = h
-next_fails p (x ∷ xs) h =
-    elim (cases_Bool (p x)) [
-      | inl y ↦ rw (y, one_more) (next_fails p xs h)
-      | inr n ↦ rw n n
-    ]
+next_fails p (x ∷ xs) h = elim (cases_Bool (p x)) [ inl y ↦ rw (y, one_more) (next_fails p xs h) | inr n ↦ rw n n ]
 
 pub some_pass : (p : ℕ → Bool) (xs : List ℕ) → p 0 ≡ false → p (slice_index xs 0) ≡ true → 0 < prefix_len p xs
 some_pass p [] at_end h = absurd cc

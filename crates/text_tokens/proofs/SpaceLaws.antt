@@ -1,6 +1,6 @@
 -- What follows white space and comments.
 use Rattle.std.proofs.Common.{◌≡◌, ℕ, ◌<◌, ◌≤◌, true, false, List, [], ◌∷◌, length, drop, refl, sym, ap, ◌∙◌, subst, arith}
-use Rattle.text_tokens.proofs.Vocabulary.{slice_index, nat_tests, is_white_space, opens, Inside, IsComment}
+use Rattle.text_tokens.proofs.Vocabulary.{slice_index, nat_tests, is_white_space, opens, IsComment}
 use Rattle.text_tokens.specs.Space.{IsAfterSpace, nothing, white_space, comment}
 use Rattle.text_tokens.proofs.CommentLaws.{Inside-one, comment_shorter}
 
@@ -24,11 +24,6 @@ comment_back (b ∷ text) others rest h (white_space k s) = absurd (white_space_
 comment_back text others rest h (comment {others = us} k s) =
     let same : us ≡ others = Inside-one (drop 2 text) us others k.1 h.1 in
     subst (λ (ts : List ℕ). IsAfterSpace ts rest) same s
-
-pub open_back : (text rest : List ℕ) → opens text ≡ true → IsAfterSpace text rest → (others : List ℕ) × Inside (drop 2 text) others
-open_back text rest h (nothing k l) = let e : true ≡ false = sym h ∙ l in absurd cc
-open_back (b ∷ text) rest h (white_space k s) = absurd (white_space_is_no_opening b text k h)
-open_back text rest h (comment {others = us} k s) = (us, k.1)
 
 pub other_back : (text rest : List ℕ) → is_white_space (slice_index text 0) ≡ false → opens text ≡ false → IsAfterSpace text rest → text ≡ rest
 other_back text rest h g (nothing k l) = refl

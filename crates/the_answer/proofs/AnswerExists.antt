@@ -32,8 +32,7 @@ module _ (q : Question) (costs : List ℕ) (forward : JumpForward q.program.thre
 
   -- so it is not so that none does
   not_none : NonePasses (does_serve q) count → ⊥
-  not_none none =
-      let no : true ≡ false = sym all_pass ∙ none (all_below count) (λ gap here. ltb-true gap count (sym (has_all count gap) ∙ here)) in cc
+  not_none none = let no : true ≡ false = sym all_pass ∙ none (all_below count) (λ gap here. ltb-true gap count (sym (has_all count gap) ∙ here)) in cc
 
   -- the best set of those that pass is the answer
   best_is_answer : (gaps : SetOfGaps) → IsBest (does_serve q) costs count gaps → IsTheAnswer q costs gaps

@@ -65,10 +65,7 @@ module _ (test : SetOfGaps → Bool) (costs : List ℕ) (chosen : SetOfGaps) (ga
   low_more k here = let h = low k here in omega arith
 
   low_with : AreBelow (gap + 1) (set.insert chosen gap)
-  low_with k here = elim (cases_eq k gap) [
-    | inl e ↦ omega arith
-    | inr other ↦ let h = low k (sym (with_other chosen gap k other) ∙ here) in omega arith
-  ]
+  low_with k here = elim (cases_eq k gap) [ inl e ↦ omega arith | inr other ↦ let h = low k (sym (with_other chosen gap k other) ∙ here) in omega arith ]
 
   module _ (end : ℕ) where
     -- the set has gap, or has it not

@@ -73,11 +73,10 @@ alone_set true gaps = refl
 alone_set false gaps = refl
 
 cheaper_set : (costs : List ℕ) (first second : Option (List ℕ)) → cheaper costs (option_map these first) (option_map these second) ≡ option_map these (cheaper_by costs first second)
-cheaper_set costs None second = refl
-cheaper_set costs (Some gaps) None = refl
 cheaper_set costs (Some gaps) (Some other) =
     (λ i. Some (cond (nat_lt (total-these costs other i) (total-these costs gaps i)) (these other) (these gaps)))
     ∙ chosen_set (nat_lt (total_by costs other) (total_by costs gaps)) gaps other
+cheaper_set costs first second = refl
 
 best_set : (test : SetOfGaps → Bool) (by : List ℕ → Bool) (costs : List ℕ) (n gap : ℕ) (chosen : List ℕ) → ((gaps : List ℕ) → test (these gaps) ≡ by gaps) →
     best_of test costs n gap (these chosen) ≡ option_map these (best_by by costs n gap chosen)

@@ -9,9 +9,7 @@ use Rattle.the_answer.proofs.Computed.{show_listed, shown_by_list, serve_by, ans
 -- a set of two gaps, in either order
 or_swap : (a b : Bool) → (a || (b || false)) ≡ (b || (a || false))
 or_swap true true = refl
-or_swap true false = refl
-or_swap false true = refl
-or_swap false false = refl
+or_swap a b = refl
 
 either_order : (a b : ℕ) → these (a ∷ b ∷ []) ≡ these (b ∷ a ∷ [])
 either_order a b =

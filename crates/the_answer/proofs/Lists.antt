@@ -2,6 +2,7 @@
 use Rattle.std.proofs.Common.{◌≡◌, ℕ, ◌+◌, ◌<◌, Bool, true, false, ◌&&◌, List, [], ◌∷◌, map, Contains, flat_map, refl, sym, ◌∙◌, subst, inl, inr, arith}
 use Rattle.std.proofs.lemmas.List.FromFn.{length-range_with_len, get_or-range_with_len}
 use Rattle.the_answer.proofs.Vocabulary.{list_all, range_with_len, Contains-append_left, Contains-append_right, Contains-append_cases, none_here, first_or_later, first_is_here, later_is_here}
+pub use Rattle.std.proofs.lemmas.Bool.{and_parts as both}
 
 -- what is in one of the joined lists is in the whole
 pub in_flat_map : {A B : Type 0} (f : A → List B) (xs : List A) (x : A) (y : B) → Contains xs x → Contains (f x) y → Contains (flat_map f xs) y
@@ -23,26 +24,16 @@ from_flat_map f (z ∷ zs) y here = elim (Contains-append_cases (f z) (flat_map 
 pub below_is_here : (n k : ℕ) → k < n → Contains (range_with_len 0 n) k
 below_is_here n k h = (k, omega (arith, length-range_with_len 0 n), get_or-range_with_len 0 n k k h ∙ (let same : 0 + k ≡ k = omega arith in same))
 
--- both parts of a test that passes
-pub both : (v w : Bool) → (v && w) ≡ true → (v ≡ true) × (w ≡ true)
-both true true e = (refl, refl)
-both true false e = cc
-both false w e = cc
-
 -- a test that each element passes
 pub each_passes : {A : Type 0} (test : A → Bool) (xs : List A) (x : A) → list_all test xs ≡ true → Contains xs x → test x ≡ true
 each_passes test [] x all here = absurd (none_here x here)
 each_passes {A} test (y ∷ ys) x all here =
     let parts = both (test y) (list_all test ys) all in
-    elim (first_or_later y ys x here) [
-      | inl e ↦ subst (λ (z : A). test z ≡ true) e parts.0
-      | inr later ↦ each_passes test ys x parts.1 later
-    ]
+    elim (first_or_later y ys x here) [ inl e ↦ subst (λ (z : A). test z ≡ true) e parts.0 | inr later ↦ each_passes test ys x parts.1 later ]
 
 pub all_pass : {A : Type 0} (test : A → Bool) (xs : List A) → ((x : A) → Contains xs x → test x ≡ true) → list_all test xs ≡ true
 all_pass test [] each = refl
-all_pass test (y ∷ ys) each =
-    (λ i. each y (first_is_here y ys) i && list_all test ys) ∙ all_pass test ys (λ x here. each x (later_is_here y ys x here))
+all_pass test (y ∷ ys) each = (λ i. each y (first_is_here y ys) i && list_all test ys) ∙ all_pass test ys (λ x here. each x (later_is_here y ys x here))
 
 -- one element fails a test that not all pass
 pub one_fails : {A : Type 0} (test : A → Bool) (xs : List A) → list_all test xs ≡ false → (x : A) × Contains xs x × (test x ≡ false)

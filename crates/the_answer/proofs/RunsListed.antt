@@ -4,7 +4,7 @@ use Rattle.std.proofs.lemmas.Option.{same_Some}
 use Rattle.the_answer.proofs.Vocabulary.{option_map_or, list_all, cases_lt, Contains-append_left, Contains-append_right, Contains-append_cases, Listing, Outcome, action, show, JumpForward, Label}
 use Rattle.the_answer.proofs.Vocabulary.{Exec, Flush, Pending}
 use Rattle.tso_program.specs.declared.action.Action.{Action}
-use Rattle.tso_program.specs.declared.action.Action.TheVariants.{Stop, Go, Wait, Read, Write, Swap}
+use Rattle.tso_program.specs.declared.action.Action.TheVariants.{Stop}
 use Rattle.tso_machine.specs.Machine.{Machine, State, start, step, run, is_empty, outcome_at, HasEnded, Allows}
 use Rattle.tso_machine.proofs.Runs.{no_action}
 use Rattle.the_answer.specs.OutcomeLists.{is_stop, has_ended, threads_of, labels_to_try, outcomes_here, outcomes_within, most_labels, outcomes_of}
@@ -16,11 +16,7 @@ use Rattle.the_answer.proofs.StepsOfThreads.{NoOtherThread, thread_of, of_progra
 -- what the tests of an action and of a buffer say
 stop_is : (a : Action) → is_stop a ≡ true → a ≡ Stop
 stop_is Stop e = refl
-stop_is (Go next) e = absurd cc
-stop_is (Wait next) e = absurd cc
-stop_is (Read l to next) e = absurd cc
-stop_is (Write l v next) e = absurd cc
-stop_is (Swap l v to next) e = absurd cc
+stop_is a e = absurd cc
 
 empty_is : (ws : List Pending) → is_empty ws ≡ true → ws ≡ []
 empty_is [] e = refl

@@ -72,10 +72,9 @@ module _ (p : Listing) where
 
 -- no thread is longer than the longest
 no_longer : (threads : List Thread) (t : ℕ) → length (code_of threads t) ≤ longest threads
-no_longer [] zero = omega arith
-no_longer [] (suc t) = omega arith
 no_longer (x ∷ xs) zero = le-max_left (length x.code) (longest xs)
 no_longer (x ∷ xs) (suc t) = omega (arith, no_longer xs t, le-max_right (length x.code) (longest xs))
+no_longer [] t = omega arith
 
 pub bounded : RunsAreBounded
 bounded p mode labels last forward e = run_bound p forward mode labels last (longest p.threads) (no_longer p.threads) e

@@ -50,8 +50,7 @@ module _ (q : Question) (mode : Machine) (outcomes : List Outcome) (forward : Ju
       ]
 
   by_cycle : (k : Sketch) (kind : Kind) (es : List Event) → IsKnownCycle p mode k kind es → Covered k
-  by_cycle k kind es known fits c is =
-      absurd (known_cycle_refutes p mode k kind es fits known c is)
+  by_cycle k kind es known fits c is = absurd (known_cycle_refutes p mode k kind es fits known c is)
 
   by_outcome : (k : Sketch) (number : ℕ) → MustEndAsNumber q mode outcomes k number → Covered k
   by_outcome k number must fits c is = (
@@ -78,9 +77,8 @@ module _ (q : Question) (mode : Machine) (outcomes : List Outcome) (forward : Ju
 
     each_covered : (trees : Covers) (ks : List Sketch) → AreValidCovers q mode outcomes trees ks → EachCovered ks
     each_covered NoCover [] valid = λ j here. absurd (none_here j here)
-    each_covered NoCover (k ∷ ks) valid = absurd valid
-    each_covered (MoreCovers tree trees) [] valid = absurd valid
     each_covered (MoreCovers tree trees) (k ∷ ks) (now, later) = one_more k ks (covered tree k now) (each_covered trees ks later)
+    each_covered trees ks valid = absurd valid
 
 pub valid_covers : AValidCoverCovers
 valid_covers q mode outcomes tree k forward fits valid = covered q mode outcomes forward tree k valid fits

@@ -4,16 +4,14 @@ use Rattle.tree_laws.specs.Laws.{CoversAreJudgedInOrder, GapsAreJudgedInOrder}
 
 pub covers_in_order : CoversAreJudgedInOrder
 covers_in_order q mode outcomes [] [] = ((λ valid. valid), (λ each. each))
-covers_in_order q mode outcomes [] (k ∷ ks) = ((λ valid. absurd valid), (λ each. absurd each))
-covers_in_order q mode outcomes (tree ∷ trees) [] = ((λ valid. absurd valid), (λ each. absurd each))
 covers_in_order q mode outcomes (tree ∷ trees) (k ∷ ks) =
     let others = covers_in_order q mode outcomes trees ks in
     ((λ valid. (valid.0, others.0 valid.1)), (λ each. (each.0, others.1 each.1)))
+covers_in_order q mode outcomes h g = ((λ valid. absurd valid), (λ each. absurd each))
 
 pub gaps_in_order : GapsAreJudgedInOrder
 gaps_in_order p costs answer runs [] [] = ((λ valid. valid), (λ each. each))
-gaps_in_order p costs answer runs [] (n ∷ ns) = ((λ valid. absurd valid), (λ each. absurd each))
-gaps_in_order p costs answer runs (tree ∷ trees) [] = ((λ valid. absurd valid), (λ each. absurd each))
 gaps_in_order p costs answer runs (tree ∷ trees) (n ∷ ns) =
     let others = gaps_in_order p costs answer runs trees ns in
     ((λ valid. (valid.0, others.0 valid.1)), (λ each. (each.0, others.1 each.1)))
+gaps_in_order p costs answer runs h g = ((λ valid. absurd valid), (λ each. absurd each))

@@ -26,12 +26,11 @@ covered_from_nothing q mode outcomes tree forward valid = valid_covers q mode ou
 -- the outcomes of sequential runs are sequential
 of_runs : (q : Question) (runs : List (List Label)) (outcomes : List Outcome) (o : Outcome) → AreSequentialRuns q runs outcomes → Contains outcomes o → IsSequentialOutcome q o
 of_runs q [] [] o replayed here = absurd (none_here o here)
-of_runs q [] (x ∷ xs) o replayed here = absurd replayed
-of_runs q (labels ∷ runs) [] o replayed here = absurd replayed
 of_runs q (labels ∷ runs) (x ∷ xs) o (is_run, others) here = elim (first_or_later x xs o here) [
   | inl e ↦ (labels, subst (IsShownRun q SequentialMachine labels) e is_run)
   | inr later ↦ of_runs q runs xs o others later
 ]
+of_runs q runs outcomes o replayed here = absurd replayed
 
 pub sequential_list : AValidTreeMakesTheSequentialList
 sequential_list q runs outcomes tree forward replayed valid o = (

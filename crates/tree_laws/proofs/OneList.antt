@@ -45,13 +45,12 @@ below_one_way : (m n : ℕ) → m < n → n < m → ⊥
 below_one_way m n h back = omega arith
 
 comes_one_way : (d e : Event) → ComesBefore d e → ComesBefore e d → ⊥
-comes_one_way (Initial l) (Initial m) h back = omega arith
 comes_one_way (Initial l) (At t i) h back = back
 comes_one_way (At t i) (Initial l) h back = h
-comes_one_way (At t i) (At u j) (inl h) (inl back) = omega arith
 comes_one_way (At t i) (At u j) (inl h) (inr back) = let same = back.0 in omega arith
 comes_one_way (At t i) (At u j) (inr h) (inl back) = let same = h.0 in omega arith
 comes_one_way (At t i) (At u j) (inr h) (inr back) = let before = h.1 in let after = back.1 in omega arith
+comes_one_way d e g k = omega arith
 
 pub one_list_of_values : TheValuesAreOneList
 one_list_of_values p mode k t xs ys left right =

@@ -4,6 +4,7 @@ use Rattle.std.specs.FinSet as set
 use Rattle.tree_laws.proofs.Vocabulary.{nat_cmp, eq_by_cmp, nat_cmp_total, nat_tests, SetOfGaps, all_sets, with_gap, without_gap, IsInRegion, child_regions, HasNoneOf, Region}
 use Rattle.tree_laws.specs.Laws.{ASplitLosesNoSet}
 use Rattle.tree_laws.proofs.Lists.{none_here, first_or_later, first_is_here, later_is_here}
+pub use Rattle.std.proofs.lemmas.Bool.{cases_Bool as true_or_false}
 
 tied : (q g : ℕ) (b : Bool) → (eq_by_cmp nat_cmp q g || b) ≡ true → (g ≡ q) ⊎ (b ≡ true)
 tied q g true h = inr refl
@@ -25,10 +26,6 @@ module _ (n : Region) (other : SetOfGaps) (inside : IsInRegion n other) (gap : �
     holds = inside.holds;
     avoids = λ q h. elim (new_or_old n.never gap q h) [ inl e ↦ subst (λ (g : ℕ). set.contains other g ≡ false) e missing | inr old ↦ inside.avoids q old ];
   }
-
-pub true_or_false : (b : Bool) → (b ≡ true) ⊎ (b ≡ false)
-true_or_false true = inl refl
-true_or_false false = inr refl
 
 none_of : (gap : ℕ) (gaps : List ℕ) (other : SetOfGaps) → set.contains other gap ≡ false → HasNoneOf other gaps → HasNoneOf other (gap ∷ gaps)
 none_of gap gaps other missing none q here = elim (first_or_later gap gaps q here) [

@@ -1,6 +1,6 @@
 -- Store buffering: its cover tree is valid in each mode, given the cycle of the mode.
 use Rattle.std.proofs.Common.{◌≢◌, is_some, ◌≡◌, ℕ, zero, suc, ◌<◌, List, [], ◌∷◌, Some, Contains, slice_get, slice_index, map, refl, sym, ap, ◌∙◌, subst, inl, inr, arith, lit<}
-use Rattle.tree_laws.proofs.Vocabulary.{AllPairs, IsStrictlyIncreasing, same_Some, Outcome, All, Machine, Access, Event, Initial, At, Kind, access_by, Writes, Sketch, empty_sketch, given_to}
+use Rattle.tree_laws.proofs.Vocabulary.{AllPairs, same_Some, Outcome, All, Machine, Access, Event, Initial, At, Kind, access_by, Writes, Sketch, empty_sketch, given_to, IsStrictlyIncreasing}
 use Rattle.tree_laws.proofs.Vocabulary.{IsKnownCycle, with_value, with_source, IsSourceOf, MayBeLast, MustEndAs, ComesBefore, event_of, MustEndAsNumber, HasNextValues, HasSources, IsValidCover}
 use Rattle.tso_program.specs.Shown.{Question, asked}
 use Rattle.tso_machine.specs.Examples.{store_buffering, ends_with}
@@ -20,7 +20,7 @@ end_of a b = ends_with a 0 b 0 1 1
 abbrev pub outcomes : List Outcome
 outcomes = end_of 0 1 ∷ end_of 1 0 ∷ end_of 1 1 ∷ []
 
-ascending : IsStrictlyIncreasing zero_one
+pub ascending : IsStrictlyIncreasing zero_one
 ascending zero h = lit< tt
 ascending (suc k) h = absurd (omega arith)
 

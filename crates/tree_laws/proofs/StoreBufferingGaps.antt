@@ -1,5 +1,5 @@
 -- Store buffering: its gap tree is valid.
-use Rattle.std.proofs.Common.{◌≡◌, ◌||◌, ℕ, zero, suc, ◌<◌, Bool, true, false, [], ◌∷◌, Contains, refl, sym, ap, ◌∙◌, subst, inl, inr, arith, lit<}
+use Rattle.std.proofs.Common.{◌≡◌, ◌||◌, ℕ, zero, suc, ◌<◌, Bool, true, false, [], ◌∷◌, Contains, refl, sym, ap, ◌∙◌, subst, inl, inr, arith}
 use Rattle.std.specs.FinSet as set
 use Rattle.tree_laws.proofs.Vocabulary.{IsStrictlyIncreasing, nat_cmp, eq_by_cmp, nat_cmp_total, nat_tests, SetOfGaps, Better, all_sets, with_gap, without_gap, Region, these, store_buffering}
 use Rattle.tree_laws.proofs.Vocabulary.{waiting_stores, PassesGap, IsSplitBy, IsValidGap, costs}
@@ -9,6 +9,7 @@ use Rattle.tree_laws.proofs.Lists.{none_here, first_or_later, first_is_here}
 use Rattle.tree_laws.proofs.Regions.{new_or_old}
 use Rattle.tree_laws.proofs.StoreBufferingValues.{zero_one, in_zero_one, of_zero_one}
 use Rattle.tree_laws.proofs.StoreBufferingRuns.{runs, passed_below, both_passed, second_passed, first_not_passed, second_not_passed}
+use Rattle.tree_laws.proofs.StoreBufferingCovered.{ascending as two_ascend}
 
 abbrev pub both_gaps : SetOfGaps
 both_gaps = these (0 ∷ 1 ∷ [])
@@ -22,10 +23,6 @@ none_ascend k h = absurd (omega arith)
 
 one_ascends : (gap : ℕ) → IsStrictlyIncreasing (gap ∷ [])
 one_ascends gap k h = absurd (omega arith)
-
-two_ascend : IsStrictlyIncreasing zero_one
-two_ascend zero h = lit< tt
-two_ascend (suc k) h = absurd (omega arith)
 
 below_two : (gap : ℕ) → Contains zero_one gap → gap < 2
 below_two gap here = elim (of_zero_one gap here) [ inl e ↦ omega arith | inr e ↦ omega arith ]
@@ -96,9 +93,7 @@ split_without_first = record {
 -- the order of insertion makes no difference
 swapped : (a b c : Bool) → (a || (b || c)) ≡ (b || (a || c))
 swapped true true c = refl
-swapped true false c = refl
-swapped false true c = refl
-swapped false false c = refl
+swapped a b c = refl
 
 same_gaps : set.insert (set.insert set.empty 0) 1 ≡ both_gaps
 same_gaps = set.same_set nat_cmp_total set.nat_cmp-IsAntisymmetric _ _ (λ q.

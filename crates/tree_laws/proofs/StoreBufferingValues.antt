@@ -13,11 +13,9 @@ use Rattle.tree_laws.proofs.Lists.{none_here, first_or_later, first_is_here, lat
 instruction : (t k : ℕ) (x : Instr) → instr_at store_buffering.threads t k ≡ Some x → (x ≡ StoreImm 0 1) ⊎ ((x ≡ Load Eax 1) ⊎ ((x ≡ StoreImm 1 1) ⊎ (x ≡ Load Eax 0)))
 instruction zero zero x e = inl (sym (same_Some _ x e))
 instruction zero (suc zero) x e = inr (inl (sym (same_Some _ x e)))
-instruction zero (suc (suc k)) x e = absurd cc
 instruction (suc zero) zero x e = inr (inr (inl (sym (same_Some _ x e))))
 instruction (suc zero) (suc zero) x e = inr (inr (inr (sym (same_Some _ x e))))
-instruction (suc zero) (suc (suc k)) x e = absurd cc
-instruction (suc (suc t)) k x e = absurd cc
+instruction t k x e = absurd cc
 
 stores_one : (l v : ℕ) → Occurs store_buffering (StoreImm l v) → v ≡ 1
 stores_one l v (t, k, e) = elim (instruction t k (StoreImm l v) e) [ inl q ↦ cc | inr (inl q) ↦ absurd cc | inr (inr (inl q)) ↦ cc | inr (inr (inr q)) ↦ absurd cc ]
@@ -44,9 +42,8 @@ of_zero_one v here = elim (first_or_later 0 (1 ∷ []) v here) [
 ]
 
 starts_at_zero : (l : ℕ) → l < 2 → slice_index store_buffering.memory l ≡ 0
-starts_at_zero zero h = refl
-starts_at_zero (suc zero) h = refl
 starts_at_zero (suc (suc l)) h = absurd (omega arith)
+starts_at_zero l h = refl
 
 one_is_stored : (l : ℕ) → l < 2 → Occurs store_buffering (StoreImm l 1)
 one_is_stored zero h = (0, 0, refl)
@@ -81,21 +78,14 @@ module _ (mode : Machine) (a b : ℕ) where
 
   -- the accesses that write: each thread's first, which writes 1 to its location
   pub writes_one : (t i l v : ℕ) → Writes (access_by store_buffering mode (given_to (both a b))) (At t i) l v → (v ≡ 1) × (t ≡ l)
-  writes_one zero zero l v (x, is, at, writes) =
-      let location : 0 ≡ x.location = ap (λ (z : Access). z.location) (same_Some _ x is) in
-      let written : Some 1 ≡ x.written = ap (λ (z : Access). z.written) (same_Some _ x is) in
-      (sym (same_Some 1 v (written ∙ writes)), location ∙ at)
-  writes_one zero (suc zero) l v (x, is, at, writes) =
-      let written : None ≡ x.written = ap (λ (z : Access). z.written) (same_Some _ x is) in absurd cc
-  writes_one zero (suc (suc i)) l v (x, is, at, writes) = absurd cc
-  writes_one (suc zero) zero l v (x, is, at, writes) =
-      let location : 1 ≡ x.location = ap (λ (z : Access). z.location) (same_Some _ x is) in
-      let written : Some 1 ≡ x.written = ap (λ (z : Access). z.written) (same_Some _ x is) in
-      (sym (same_Some 1 v (written ∙ writes)), location ∙ at)
-  writes_one (suc zero) (suc zero) l v (x, is, at, writes) =
-      let written : None ≡ x.written = ap (λ (z : Access). z.written) (same_Some _ x is) in absurd cc
-  writes_one (suc zero) (suc (suc i)) l v (x, is, at, writes) = absurd cc
   writes_one (suc (suc t)) i l v (x, is, at, writes) = absurd cc
+  writes_one zero (suc (suc i)) l v (x, is, at, writes) = absurd cc
+  writes_one t zero l v (x, is, at, writes) =
+      let location : t ≡ x.location = ap (λ (z : Access). z.location) (same_Some _ x is) in
+      let written : Some 1 ≡ x.written = ap (λ (z : Access). z.written) (same_Some _ x is) in
+      (sym (same_Some 1 v (written ∙ writes)), location ∙ at)
+  writes_one t (suc zero) l v (x, is, at, writes) = let written : None ≡ x.written = ap (λ (z : Access). z.written) (same_Some _ x is) in absurd cc
+  writes_one t i l v (x, is, at, writes) = absurd cc
 
   -- an initial write writes to its location
   pub writes_initial : (m l v : ℕ) → Writes (access_by store_buffering mode (given_to (both a b))) (Initial m) l v → m ≡ l

@@ -4,7 +4,7 @@ use Rattle.tree_laws.proofs.Vocabulary.{range_with_len, Local, Listing, Outcome,
 use Rattle.tree_laws.proofs.Vocabulary.{Value, Source, Order, Cycle, Known, Covers, NoCover, MoreCovers, event_of, HasNextValues, HasSources, HasNoOrder, MustEndAsNumber, IsValidCover, AreValidCovers}
 use mathlib.Core.Path.{fun_ext}
 use Rattle.tso_program.specs.declared.shown.Shown.{Shown}
-use Rattle.tso_program.specs.declared.shown.Shown.TheVariants.{All, Only, Truth}
+use Rattle.tso_program.specs.declared.shown.Shown.TheVariants.{Truth}
 use Rattle.tso_program.specs.declared.atom.Atom.{Atom}
 use Rattle.tso_program.specs.declared.atom.Atom.TheVariants as atom
 use Rattle.tso_program.specs.Truth.{is_true_at}
@@ -117,11 +117,10 @@ module _ (p : Listing) (k : Sketch) where
     where
       by_kind : (kind : Kind) → KnownRelates k kind d x e y → KnownRelates k union.Sequential d z e (bare y)
       by_kind union.Sequential h = h
-      by_kind union.Location (inl h) = inl h.0
       by_kind union.Location (inr h) = inr h
-      by_kind union.Global (inl h) = inl h.0
       by_kind union.Global (inr (inl h)) = inr (inl h.0)
       by_kind union.Global (inr (inr h)) = inr (inr h)
+      by_kind kind (inl h) = inl h.0
 
 -- the union of the mode that has the edges of this one
 abbrev kind_in : Machine → Kind → Kind
@@ -202,8 +201,7 @@ mutual
   turned_in_sequence (Value t trees) = ap (Value t) (each_turned_in_sequence trees)
   turned_in_sequence (Source read trees) = ap (Source read) (each_turned_in_sequence trees)
   turned_in_sequence (Order first second one other) = λ i. Order first second (turned_in_sequence one i) (turned_in_sequence other i)
-  turned_in_sequence (Cycle kind events) = refl
-  turned_in_sequence (Known number) = refl
+  turned_in_sequence tree = refl
 
   each_turned_in_sequence : (trees : Covers) → each_turned SequentialMachine trees ≡ each_in_sequence trees
   each_turned_in_sequence NoCover = refl
@@ -214,8 +212,7 @@ mutual
   turned_stays gaps (Value t trees) = ap (Value t) (each_turned_stays gaps trees)
   turned_stays gaps (Source read trees) = ap (Source read) (each_turned_stays gaps trees)
   turned_stays gaps (Order first second one other) = λ i. Order first second (turned_stays gaps one i) (turned_stays gaps other i)
-  turned_stays gaps (Cycle kind events) = refl
-  turned_stays gaps (Known number) = refl
+  turned_stays gaps tree = refl
 
   each_turned_stays : (gaps : Gaps) (trees : Covers) → each_turned (StoreBufferMachine gaps) trees ≡ trees
   each_turned_stays gaps NoCover = refl
@@ -254,10 +251,9 @@ module _ (q : Question) (loose tight : Machine) (tighter : IsNoLooser loose tigh
     )
 
     ends_kept : (shown : Shown) → EndsAs p loose k shown o → EndsAs p tight k shown o
-    ends_kept All (whole, ends) = (whole_forth p loose tight tighter k whole, values_kept All ends)
-    ends_kept (Only names) (whole, ends) = (whole_forth p loose tight tighter k whole, values_kept (Only names) ends)
     ends_kept (Truth f) ends =
         record { truth = ends.truth; known = known_more (KnownAtom p loose k) (KnownAtom p tight k) atom_kept ends.truth f ends.known; is_told = ends.is_told }
+    ends_kept shown (whole, ends) = (whole_forth p loose tight tighter k whole, values_kept shown ends)
 
   must_end : (k : Sketch) (o : Outcome) → MustEndAs q loose k o → MustEndAs q tight k o
   must_end k o must = ends_kept k o q.shown must
@@ -282,9 +278,8 @@ module _ (q : Question) (loose tight : Machine) (tighter : IsNoLooser loose tigh
 
       each_kept : (trees : Covers) (ks : List Sketch) → AreValidCovers q loose outcomes trees ks → AreValidCovers q tight outcomes (each_turned tight trees) ks
       each_kept NoCover [] valid = valid
-      each_kept NoCover (k ∷ ks) valid = absurd valid
-      each_kept (MoreCovers tree trees) [] valid = absurd valid
       each_kept (MoreCovers tree trees) (k ∷ ks) (now, later) = (kept tree k now, each_kept trees ks later)
+      each_kept trees ks valid = absurd valid
 
 pub tighter_keeps_cover : ATighterModeKeepsACover
 tighter_keeps_cover q loose tight outcomes tree k tighter valid =

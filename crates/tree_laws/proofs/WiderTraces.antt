@@ -2,7 +2,7 @@
 use Rattle.std.proofs.Common.{◌≡◌, ◌≢◌, ℕ, zero, suc, ◌+◌, ◌<◌, ◌≤◌, Bool, true, false, List, [], ◌∷◌, Some, slice_get, refl, sym, ◌∙◌, subst, arith}
 use Rattle.tree_laws.proofs.Vocabulary.{same_Some, Local, Access}
 use Rattle.tso_program.specs.declared.action.Action.{Action}
-use Rattle.tso_program.specs.declared.action.Action.TheVariants.{Stop, Go, Wait, Read, Write, Swap}
+use Rattle.tso_program.specs.declared.action.Action.TheVariants.{Go, Wait, Read, Write, Swap}
 use Rattle.tso_program.specs.Actions.{loaded}
 use Rattle.candidate_executions.specs.Traces.{Trace, stopped, load_of, store_of, exchange_of, with_access, entered, traced, trace}
 
@@ -19,9 +19,8 @@ pub record IsWider (n m : ℕ) (x y : Access) : Type 0 where
 -- the same of lists, each access seen from the one before it
 abbrev pub AreWider : ℕ → ℕ → List Access → List Access → Type 0
 AreWider n m [] [] = Unit {0}
-AreWider n m [] (y ∷ ys) = ⊥
-AreWider n m (x ∷ xs) [] = ⊥
 AreWider n m (x ∷ xs) (y ∷ ys) = IsWider n m x y × AreWider x.section y.section xs ys
+AreWider n m h g = ⊥
 
 -- the same of traces, which end in one state
 pub record IsWiderTrace (n m : ℕ) (a b : Trace) : Type 0 where
@@ -42,8 +41,7 @@ pub also : (n m : ℕ) (xs ys : List Access) (i : ℕ) (x : Access) → AreWider
 also n m [] ys i x are h = absurd cc
 also n m (a ∷ xs) [] i x are h = absurd are
 also n m (a ∷ xs) (b ∷ ys) zero x are h = (b, refl, subst (λ (z : Access). IsWider n m z b) (same_Some a x h) are.0)
-also n m (a ∷ xs) (b ∷ ys) (suc i) x are h =
-    let (y, there, is) = also a.section b.section xs ys i x are.1 h in (y, there, wider_before n m a b x y are.0 is)
+also n m (a ∷ xs) (b ∷ ys) (suc i) x are h = let (y, there, is) = also a.section b.section xs ys i x are.1 h in (y, there, wider_before n m a b x y are.0 is)
 
 -- and one of the second is one of the first
 pub also_back : (n m : ℕ) (xs ys : List Access) (i : ℕ) (y : Access) → AreWider n m xs ys → slice_get ys i ≡ Some y →
@@ -76,12 +74,11 @@ still_apart n m xs ys i j x z y w are before a b c d apart q =
 -- seen from other sections, the second no closer than the first
 seen_from : (n m o q : ℕ) (xs ys : List Access) → n ≤ o → o + m ≤ q + n → AreWider o q xs ys → AreWider n m xs ys
 seen_from n m o q [] [] rises wider are = are
-seen_from n m o q [] (y ∷ ys) rises wider are = absurd are
-seen_from n m o q (x ∷ xs) [] rises wider are = absurd are
 seen_from n m o q (x ∷ xs) (y ∷ ys) rises wider are =
     let f = are.0.rises in
     let g = are.0.wider in
     (record { same = are.0.same; rises = omega arith; wider = omega arith }, are.1)
+seen_from n m o q xs ys rises wider are = absurd are
 
 trace_from : (n m o q : ℕ) (a b : Trace) → n ≤ o → o + m ≤ q + n → IsWiderTrace o q a b → IsWiderTrace n m a b
 trace_from n m o q a b rises wider is = record { accesses = seen_from n m o q a.accesses b.accesses rises wider is.accesses; last = is.last }
@@ -116,15 +113,13 @@ module _ (does : Local → Action) (fewer more : ℕ → Bool) (among : (i : ℕ
       by_action : (n m : ℕ) (a : Action) (given : List ℕ) →
           ((n m : ℕ) (s : Local) (given : List ℕ) → IsWiderTrace n m (trace does fewer k n s given) (trace does more k m s given)) →
           IsWiderTrace n m (traced (trace does fewer k) n s a given) (traced (trace does more k) m s a given)
-      by_action n m Stop given rest = stops n m s given
       by_action n m (Go next) given rest = rest n m next given
       by_action n m (Wait next) given rest = trace_from n m (suc n) (suc m) _ _ (omega arith) (omega arith) (rest (suc n) (suc m) next given)
       by_action n m (Write l v next) given rest =
           one_more n m n m (store_of n l v) (store_of m l v) _ _ refl refl refl (omega arith) (omega arith) (rest n m next given)
-      by_action n m (Read l to next) [] rest = stops n m s []
       by_action n m (Read l to next) (v ∷ given) rest =
           one_more n m n m (load_of n l v) (load_of m l v) _ _ refl refl refl (omega arith) (omega arith) (rest n m (loaded to v next) given)
-      by_action n m (Swap l w to next) [] rest = stops n m s []
       by_action n m (Swap l w to next) (v ∷ given) rest =
           one_more n m (suc n) (suc m) (exchange_of n l v w) (exchange_of m l v w) _ _ refl refl refl (omega arith) (omega arith)
           (rest (suc n) (suc m) (loaded to v next) given)
+      by_action n m a given rest = stops n m s given

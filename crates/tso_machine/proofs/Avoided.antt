@@ -15,9 +15,8 @@ module _ (p : Listing) (gaps : Gaps) where
 
   gap_same : (b : Bool) (ws : List Pending) (s : State) (f : State → Option State) → (b ≡ true → not (is_empty ws) ≡ false) →
       option_and_then f (past_gap b ws s) ≡ f s
-  gap_same true [] s f h = refl
   gap_same true (w ∷ ws) s f h = absurd (let z : true ≡ false = h refl in cc)
-  gap_same false ws s f h = refl
+  gap_same b ws s f h = refl
 
   same_step : (s : State) (l : Label) → ((t k : ℕ) → gaps t k ≡ true → passes_at s l t k ≡ false) → step p (StoreBufferMachine gaps) s l ≡ step p (StoreBufferMachine no_gaps) s l
   same_step s (Flush t) h = refl
@@ -27,13 +26,11 @@ module _ (p : Listing) (gaps : Gaps) where
   -- what a fence let through passes no fenced gap
   let_through : (b : Bool) (ws : List Pending) (s next : State) (f : State → Option State) → option_and_then f (past_gap b ws s) ≡ Some next → b ≡ true → not (is_empty ws) ≡ false
   let_through true [] s next f r e = refl
-  let_through true (w ∷ ws) s next f r e = absurd cc
-  let_through false ws s next f r e = absurd cc
+  let_through b ws s next f r e = absurd cc
 
   at_other : (a b c d : Bool) → (a ≡ true → b ≡ true → c ≡ false) → (a && (b && c)) ≡ false
   at_other true true c d h = h refl refl
-  at_other true false c d h = refl
-  at_other false b c d h = refl
+  at_other a b c d h = refl
 
   eq_of : (h g : ℕ) → (h == g) ≡ true → h ≡ g
   eq_of h g e = grind (arith, nat_tests)

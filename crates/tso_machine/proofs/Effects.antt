@@ -1,30 +1,26 @@
 -- What a step does to the machine's state, by what it does to a thread and to the memory.
-use Rattle.std.proofs.Common.{◌≡◌, ◌≢◌, ℕ, ◌<◌, Bool, true, false, ◌&&◌, ◌||◌, not, List, [], ◌∷◌, ◌++◌, Option, Some, None, option_and_then, Result, Ok, Err, length, length-set, refl, sym, ap, ◌∙◌, subst, inl, inr, ◌⊎◌}
+use Rattle.std.proofs.Common.{◌≡◌, ℕ, ◌<◌, Bool, true, false, ◌&&◌, ◌||◌, not, List, [], ◌∷◌, ◌++◌, Option, Some, None, option_and_then, Result, Ok, Err, length, length-set, refl, sym, ap, ◌∙◌, subst}
 use Rattle.std.specs.Prelude.{slice_index, slice_set, OnOk, if◌then◌else◌}
 use Rattle.std.specs.FinSet as set
-use Rattle.tso_machine.proofs.Vocabulary.{nat_cmp, Exec, Pending, Model, NoSuchThread, AtEnd, BufferEmpty, FenceWaits, StepFault, Refused, OutOfMemory, Listing, Action, Stop, Go, Wait, Read, Write}
-use Rattle.tso_machine.proofs.Vocabulary.{Swap, action, machine_of_model, gaps_in, waits, StepFaultIs}
+use Rattle.tso_machine.proofs.Vocabulary.{nat_cmp, Exec, Pending, Model, Listing, Action, Stop, Go, Wait, Read, Write}
+use Rattle.tso_machine.proofs.Vocabulary.{Swap, action, machine_of_model, gaps_in, waits}
 use Rattle.tso_machine.specs.declared.label.Model.TheVariants as models
 use Rattle.tso_program.specs.Actions.{loaded, IsLocated}
 use Rattle.tso_machine.specs.Machine.{put, State, newest, found, is_empty, when_empty, past_gap, buffered, direct, step}
-use Rattle.tso_machine.specs.Internal.Cores.{Core, Cores, core_at, state_of, AreLocated, FitsProgram, after_buffered, after_direct, after_action, ExecFaultIs}
+use Rattle.tso_machine.specs.Internal.Cores.{Core, Cores, core_at, state_of, AreLocated, FitsProgram, after_buffered, after_direct, after_action}
 use Rattle.tso_machine.proofs.Link.{state_set, state_moved, memory_set, located_front, fits_set}
-
-some_is : {A : Type 0} (x y : A) → Some x ≡ Some y → x ≡ y
-some_is x y e = cc
+use Rattle.std.proofs.lemmas.Option.{same_Some as some_is}
 
 -- no action of a thread that doesn't have to wait is kept waiting
 free : (ws : List Pending) (w here : Bool) (o : Option (Core × List ℕ)) (x : Core × List ℕ) → (if not (is_empty ws) && (w || here) then None else o) ≡ Some x →
     (o ≡ Some x) × (here ≡ true → ws ≡ []) × (w ≡ true → ws ≡ [])
 free [] w here o x e = (e, (λ h. refl), (λ h. refl))
-free (y ∷ ys) true here o x e = absurd cc
-free (y ∷ ys) false true o x e = absurd cc
 free (y ∷ ys) false false o x e = (e, (λ h. absurd cc), (λ h. absurd cc))
+free ws w here o x e = absurd cc
 
 opened : (b : Bool) (ws : List Pending) (s : State) (f : State → Option State) → (b ≡ true → ws ≡ []) → option_and_then f (past_gap b ws s) ≡ f s
-opened true [] s f h = refl
 opened true (w ∷ ws) s f h = absurd (let z : (w ∷ ws) ≡ [] = h refl in cc)
-opened false ws s f h = refl
+opened b ws s f h = refl
 
 emptied : (ws : List Pending) (s : State) → ws ≡ [] → when_empty ws s ≡ Some s
 emptied [] s h = refl
@@ -71,44 +67,23 @@ module _ (s : Cores) (t : ℕ) (h : t < length s.cores) where
   kept_buffered : (n : ℕ) (a : Action) (x : Core × List ℕ) → length s.memory ≡ n → IsLocated n a → after_buffered a (core_at s.cores t) s.memory ≡ Some x → AreLocated n (core_at s.cores t).buffer →
       (length x.1 ≡ length s.memory) × AreLocated n x.0.buffer
   kept_buffered n Stop x m w e l = absurd cc
-  kept_buffered n (Go next) x m w e l = subst (λ (z : Core × List ℕ). (length z.1 ≡ length s.memory) × AreLocated n z.0.buffer) (some_is _ _ e) (refl, l)
-  kept_buffered n (Wait next) x m w e l = subst (λ (z : Core × List ℕ). (length z.1 ≡ length s.memory) × AreLocated n z.0.buffer) (some_is _ _ e) (refl, l)
-  kept_buffered n (Read k to next) x m w e l = subst (λ (z : Core × List ℕ). (length z.1 ≡ length s.memory) × AreLocated n z.0.buffer) (some_is _ _ e) (refl, l)
   kept_buffered n (Write k v next) x m w e l = subst (λ (z : Core × List ℕ). (length z.1 ≡ length s.memory) × AreLocated n z.0.buffer) (some_is _ _ e) (refl, located_front n (core_at s.cores t).buffer (record { location = k; value = v }) w l)
   kept_buffered n (Swap k v to next) x m w e l = subst (λ (z : Core × List ℕ). (length z.1 ≡ length s.memory) × AreLocated n z.0.buffer) (some_is _ _ e) (length-set s.memory k v, l)
+  kept_buffered n a x m w e l = subst (λ (z : Core × List ℕ). (length z.1 ≡ length s.memory) × AreLocated n z.0.buffer) (some_is _ _ e) (refl, l)
 
   kept_direct : (n : ℕ) (a : Action) (x : Core × List ℕ) → after_direct a (core_at s.cores t) s.memory ≡ Some x → AreLocated n (core_at s.cores t).buffer →
       (length x.1 ≡ length s.memory) × AreLocated n x.0.buffer
   kept_direct n Stop x e l = absurd cc
-  kept_direct n (Go next) x e l = subst (λ (z : Core × List ℕ). (length z.1 ≡ length s.memory) × AreLocated n z.0.buffer) (some_is _ _ e) (refl, l)
-  kept_direct n (Wait next) x e l = subst (λ (z : Core × List ℕ). (length z.1 ≡ length s.memory) × AreLocated n z.0.buffer) (some_is _ _ e) (refl, l)
-  kept_direct n (Read k to next) x e l = subst (λ (z : Core × List ℕ). (length z.1 ≡ length s.memory) × AreLocated n z.0.buffer) (some_is _ _ e) (refl, l)
   kept_direct n (Write k v next) x e l = subst (λ (z : Core × List ℕ). (length z.1 ≡ length s.memory) × AreLocated n z.0.buffer) (some_is _ _ e) (length-set s.memory k v, l)
   kept_direct n (Swap k v to next) x e l = subst (λ (z : Core × List ℕ). (length z.1 ≡ length s.memory) × AreLocated n z.0.buffer) (some_is _ _ e) (length-set s.memory k v, l)
+  kept_direct n a x e l = subst (λ (z : Core × List ℕ). (length z.1 ≡ length s.memory) × AreLocated n z.0.buffer) (some_is _ _ e) (refl, l)
 
   pub exec_fits : (p : Listing) (here : Bool) (model : Model) (a : Action) (x : Core × List ℕ) → FitsProgram p s → IsLocated (length s.memory) a →
       after_action here model a (core_at s.cores t) s.memory ≡ Some x → FitsProgram p (record { cores = slice_set s.cores t x.0; memory = x.1 })
-  exec_fits p here models.Sequential a x fits w e =
-      let (long, l) = kept_direct (length p.memory) a x e (fits.stores t) in fits_set p s t x.0 x.1 fits h long l
+  exec_fits p here models.Sequential a x fits w e = let (long, l) = kept_direct (length p.memory) a x e (fits.stores t) in fits_set p s t x.0 x.1 fits h long l
   exec_fits p here models.Buffered a x fits w e =
       let ok = free (core_at s.cores t).buffer (waits a) here (after_buffered a (core_at s.cores t) s.memory) x e in
       let (long, l) = kept_buffered (length p.memory) a x fits.locations (subst (λ n. IsLocated n a) fits.locations w) ok.0 (fits.stores t) in fits_set p s t x.0 x.1 fits h long l
-
--- a thread that is held has a store that waits, and its instruction waits or a fenced gap is here
-held_by : (ws : List Pending) (w here : Bool) → (not (is_empty ws) && (w || here)) ≡ true → (ws ≢ []) × ((w ≡ true) ⊎ (here ≡ true))
-held_by [] w here e = absurd cc
-held_by (y ∷ ys) true here e = ((λ z. cc), inl refl)
-held_by (y ∷ ys) false here e = ((λ z. cc), inr e)
-
-pub held_is : (p : Listing) (gaps : set.FinSet nat_cmp) (model : Model) (s : Cores) (t : ℕ) (fault : StepFault) →
-    ExecFaultIs (gaps_in p gaps t (core_at s.cores t).local.place) model (action p.threads t (core_at s.cores t).local) (core_at s.cores t) fault →
-    StepFaultIs p (machine_of_model p gaps model) (state_of s) (Exec t) fault
-held_is p gaps model s t (Refused NoSuchThread) e = absurd e
-held_is p gaps model s t (Refused AtEnd) e = absurd e
-held_is p gaps model s t (Refused BufferEmpty) e = absurd e
-held_is p gaps models.Sequential s t (Refused FenceWaits) e = absurd e
-held_is p gaps models.Buffered s t (Refused FenceWaits) e = held_by (core_at s.cores t).buffer (waits (action p.threads t (core_at s.cores t).local)) (gaps_in p gaps t (core_at s.cores t).local.place) e
-held_is p gaps model s t OutOfMemory e = tt
 
 module _ (p : Listing) (gaps : set.FinSet nat_cmp) (model : Model) (s : Cores) (t : ℕ) (core : Core) (a : Action) (here : Bool) where
   -- the code's own view of a step: the thread, its action and whether a fenced gap stands before it
@@ -133,9 +108,6 @@ module _ (p : Listing) (gaps : set.FinSet nat_cmp) (model : Model) (s : Cores) (
       let within : IsLocated (length s.memory) (action p.threads t (core_at s.cores t).local) =
       subst (λ b. IsLocated (length s.memory) b) (sym (action_is n)) (subst (λ m. IsLocated m a) (sym fits.locations) w) in
       (exec_is s t n.thread p gaps model x within same, exec_fits s t n.thread p _ model _ x fits within same)
-
-  pub exec_refused : (fault : StepFault) → IsNext → ExecFaultIs here model a core fault → StepFaultIs p (machine_of_model p gaps model) (state_of s) (Exec t) fault
-  exec_refused fault n e = held_is p gaps model s t fault (subst (λ z. z) (λ j. ExecFaultIs (sym (gap_is n) j) model (sym (action_is n) j) (sym n.found j) fault) e)
 
 pub on_ok : {A E : Type 0} (r : Result A E) (P Q : Type 0) → (P → Q) → OnOk r P → OnOk r Q
 on_ok (Ok u) P Q f h = f h

@@ -1,5 +1,5 @@
 -- The lists that the code keeps, seen as the machine's functions.
-use Rattle.std.proofs.Common.{◌≡◌, ℕ, zero, suc, ◌<◌, List, [], ◌∷◌, ◌++◌, Some, get_or, set, length, map, refl, sym, ap, ◌∙◌, subst, inl, inr, get_or-set_same, get_or-set_other, eq-eqb, ne_eqb, length-set}
+use Rattle.std.proofs.Common.{◌≡◌, ℕ, suc, ◌<◌, List, [], ◌∷◌, ◌++◌, Some, get_or, set, length, map, refl, sym, ap, ◌∙◌, subst, inl, inr, get_or-set_same, get_or-set_other, eq-eqb, ne_eqb, length-set}
 use Rattle.std.specs.Prelude.{slice_get, slice_index, slice_index_or, slice_set}
 use Rattle.std.specs.List.{range_with_len}
 use Rattle.std.proofs.lemmas.List.{get_or-map}
@@ -24,10 +24,7 @@ put_is_set f d xs t x h = fun_ext (λ u. elim (cases_eq u t) [
 
 -- a write of what is there changes nothing
 pub put_again : {A : Type 0} (f : ℕ → A) (t : ℕ) (x : A) → x ≡ f t → put f t x ≡ f
-put_again f t x e = fun_ext (λ u. elim (cases_eq u t) [
-  | inl q ↦ subst (λ z. put f t x z ≡ f z) (sym q) (put_same f t x ∙ e)
-  | inr n ↦ put_other f t x u n
-])
+put_again f t x e = fun_ext (λ u. elim (cases_eq u t) [ inl q ↦ subst (λ z. put f t x z ≡ f z) (sym q) (put_same f t x ∙ e) | inr n ↦ put_other f t x u n ])
 
 -- the state with one thread and the memory changed
 pub state_set : (s : Cores) (t : ℕ) (x : Core) (memory : List ℕ) → t < length s.cores →
@@ -61,9 +58,8 @@ abbrev no_thread : Thread
 no_thread = record { code = []; registers = [] }
 
 first_at : (threads : List Thread) (t : ℕ) → core_at (map first_core threads) t ≡ first_core (slice_index_or threads t no_thread)
-first_at [] t = refl
-first_at (x ∷ xs) zero = refl
 first_at (x ∷ xs) (suc t) = first_at xs t
+first_at threads t = refl
 
 -- the program's start
 pub state_of_first : (p : Listing) → state_of (first_cores p) ≡ start p

@@ -5,7 +5,7 @@ use Rattle.std.specs.FinSet as set
 use Rattle.tso_machine.proofs.Vocabulary.{option_map_or, cases_lt, nat_tests, slice_get-get_or, SetOfGaps, Thread, Listing, Local, Stop, act, gaps_in, Label, Exec, Flush, Pending, Model, Cause}
 use Rattle.tso_machine.proofs.Vocabulary.{NoSuchThread, AtEnd, BufferEmpty, FenceWaits, Refused, ReplayFault, Machine, State, start, step, run, machine_of_model}
 use Rattle.tso_program.specs.declared.instruction.Instr.{Instr}
-use Rattle.tso_program.specs.declared.instruction.Instr.TheVariants.{LoadImm, Copy, Load, StoreImm, Store, Xchg, Fence, CmpImm, CmpReg, Je, Jne, Jmp}
+use Rattle.tso_program.specs.declared.instruction.Instr.TheVariants.{LoadImm, Fence}
 use Rattle.tso_program.specs.Listings.{code_of, action, gap_count, gap_number}
 use Rattle.tso_machine.specs.declared.label.Model.TheVariants as models
 use Rattle.tso_machine.specs.declared.replaying.ReplayFault.TheVariants as fault
@@ -16,25 +16,14 @@ use Rattle.tso_machine.proofs.Refused.{run_keeps, applies_none, stops_none}
 -- an instruction does something
 goes : (x : Instr) (s : Local) → act (Some x) s ≡ Stop → ⊥
 goes (LoadImm r v) s e = cc
-goes (Copy r from) s e = cc
-goes (Load r l) s e = cc
-goes (StoreImm l v) s e = cc
-goes (Store l r) s e = cc
-goes (Xchg l r) s e = cc
-goes Fence s e = cc
-goes (CmpImm r v) s e = cc
-goes (CmpReg r from) s e = cc
-goes (Je k) s e = cc
-goes (Jne k) s e = cc
-goes (Jmp k) s e = cc
+goes x s e = cc
 
 past_end : (threads : List Thread) (t k : ℕ) → length (code_of threads t) ≤ k → gap_number threads t k ≡ None
 past_end threads t k h = let out : nat_lt k (length (code_of threads t)) ≡ false = grind (arith, nat_tests) in by_test (nat_le 1 k) (nat_lt k (length (code_of threads t))) (gap_count (take t threads) + (k - 1)) out
   where
     by_test : (a b : Bool) (n : ℕ) → b ≡ false → (if a && b then Some n else None) ≡ None
     by_test true true n e = absurd cc
-    by_test true false n e = refl
-    by_test false b n e = refl
+    by_test a b n e = refl
 
 -- no gap of a set follows a thread's last instruction
 no_gap : (p : Listing) (gaps : SetOfGaps) (t : ℕ) (s : Local) → action p.threads t s ≡ Stop → gaps_in p gaps t s.place ≡ false
@@ -69,10 +58,7 @@ module _ (p : Listing) (gaps : SetOfGaps) (model : Model) where
 
     end_held : (label : Label) → Applies p mode s AtEnd label → Applies p mode s FenceWaits label → ⊥
     end_held (Flush t) a b = a
-    end_held (Exec t) a b = elim b.1 [
-      | inl e ↦ (let z : false ≡ true = sym (ap waits a.1) ∙ e in cc)
-      | inr e ↦ at_gap model e
-    ]
+    end_held (Exec t) a b = elim b.1 [ inl e ↦ (let z : false ≡ true = sym (ap waits a.1) ∙ e in cc) | inr e ↦ at_gap model e ]
       where
         at_gap : (m : Model) → IsFenced (machine_of_model p gaps m) t (s.locals t).place → ⊥
         at_gap models.Sequential e = e
@@ -86,22 +72,19 @@ module _ (p : Listing) (gaps : SetOfGaps) (model : Model) where
 
   one_cause : (labels : List Label) (s : State) (label : Label) (cause other : Cause) → run p mode (start p) labels ≡ Some s →
       Applies p mode s cause label → Applies p mode s other label → cause ≡ other
-  one_cause labels s label NoSuchThread NoSuchThread r a b = refl
   one_cause labels s label NoSuchThread AtEnd r a b = absurd (no_thread_at_end s label a b)
   one_cause labels s label NoSuchThread BufferEmpty r a b = absurd (no_thread_no_store s label a b)
   one_cause labels s label NoSuchThread FenceWaits r a b = absurd (no_thread_held model labels s label r a b)
   one_cause labels s label AtEnd NoSuchThread r a b = absurd (no_thread_at_end s label b a)
-  one_cause labels s label AtEnd AtEnd r a b = refl
   one_cause labels s label AtEnd BufferEmpty r a b = absurd (end_no_store s label a b)
   one_cause labels s label AtEnd FenceWaits r a b = absurd (end_held s label a b)
   one_cause labels s label BufferEmpty NoSuchThread r a b = absurd (no_thread_no_store s label b a)
   one_cause labels s label BufferEmpty AtEnd r a b = absurd (end_no_store s label b a)
-  one_cause labels s label BufferEmpty BufferEmpty r a b = refl
   one_cause labels s label BufferEmpty FenceWaits r a b = absurd (no_store_held s label a b)
   one_cause labels s label FenceWaits NoSuchThread r a b = absurd (no_thread_held model labels s label r b a)
   one_cause labels s label FenceWaits AtEnd r a b = absurd (end_held s label b a)
   one_cause labels s label FenceWaits BufferEmpty r a b = absurd (no_store_held s label b a)
-  one_cause labels s label FenceWaits FenceWaits r a b = refl
+  one_cause labels s label cause other r a b = refl
 
 -- no step follows one that isn't possible
 not_after : (p : Listing) (mode : Machine) (labels : List Label) (n m : ℕ) (s before after : State) (label : Label) → run p mode s (take n labels) ≡ Some before → slice_get labels n ≡ Some label →

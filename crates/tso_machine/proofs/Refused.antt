@@ -1,7 +1,7 @@
 -- No fault but out of memory fits a run, and labels have one outcome.
 use Rattle.std.proofs.Common.{◌≡◌, ◌≢◌, ◌⊎◌, ℕ, zero, suc, ◌≤◌, take, length, Bool, true, false, List, [], ◌∷◌, ◌++◌, Option, Some, None, option_and_then, refl, ap, sym, ◌∙◌, subst, inl, inr}
-use Rattle.tso_machine.proofs.Vocabulary.{slice_get, cases_eq, Outcome, Label, Exec, Flush, Pending, Cause, NoSuchThread, AtEnd, BufferEmpty, FenceWaits, ReplayFault, Listing, Action, Stop, Go, Wait}
-use Rattle.tso_machine.proofs.Vocabulary.{Read, Write, Swap, action, waits, Applies, Stops, EndsEarly, ReplayFaultIs}
+use Rattle.tso_machine.proofs.Vocabulary.{slice_get, cases_eq, Outcome, Label, Exec, Flush, Pending, Cause, NoSuchThread, AtEnd, BufferEmpty, FenceWaits, ReplayFault, Listing, Action, Stop, Wait}
+use Rattle.tso_machine.proofs.Vocabulary.{Write, Swap, action, waits, Applies, Stops, EndsEarly, ReplayFaultIs}
 use Rattle.tso_machine.specs.declared.replaying.ReplayFault.TheVariants as fault
 use Rattle.tso_machine.specs.Machine.{put, Machine, SequentialMachine, StoreBufferMachine, State, start, step, run, buffered, direct, flushed, past_gap, when_empty, HasEnded, outcome_at, IsRun}
 use Rattle.tso_machine.proofs.Link.{put_other}
@@ -28,11 +28,9 @@ closed (w ∷ ws) s h = refl
 held_none : (s : State) (t : ℕ) (b : Bool) (a : Action) → s.buffers t ≢ [] → (waits a ≡ true) ⊎ (b ≡ true) → option_and_then (λ z. buffered z t a) (past_gap b (s.buffers t) s) ≡ None
 held_none s t true a h why = ap (option_and_then (λ z. buffered z t a)) (closed (s.buffers t) s h)
 held_none s t false Stop h why = refl
-held_none s t false (Go next) h why = elim why [ inl e ↦ absurd cc | inr e ↦ absurd cc ]
 held_none s t false (Wait next) h why = closed (s.buffers t) _ h
-held_none s t false (Read l to next) h why = elim why [ inl e ↦ absurd cc | inr e ↦ absurd cc ]
-held_none s t false (Write l v next) h why = elim why [ inl e ↦ absurd cc | inr e ↦ absurd cc ]
 held_none s t false (Swap l v to next) h why = closed (s.buffers t) _ h
+held_none s t b a h why = elim why [ inl e ↦ absurd cc | inr e ↦ absurd cc ]
 
 -- the execution of another thread's instruction leaves an empty buffer empty
 module _ (p : Listing) (t : ℕ) (out : length p.threads ≤ t) (s : State) (u : ℕ) (next : State) (e : s.buffers t ≡ []) (n : t ≡ u → ⊥) where
@@ -45,16 +43,14 @@ module _ (p : Listing) (t : ℕ) (out : length p.threads ≤ t) (s : State) (u :
 
   by_action : (a : Action) → buffered s u a ≡ Some next → next.buffers t ≡ []
   by_action Stop r = absurd cc
-  by_action (Go l) r = same_buffer _ r e
   by_action (Wait l) r = by_empty (s.buffers u) _ r e
-  by_action (Read k to l) r = same_buffer _ r e
   by_action (Write k v l) r = same_buffer _ r (put_other s.buffers u (s.buffers u ++ record { location = k; value = v } ∷ []) t n ∙ e)
   by_action (Swap k v to l) r = by_empty (s.buffers u) _ r e
+  by_action a r = same_buffer _ r e
 
   by_gap : (b : Bool) (ws : List Pending) (a : Action) → option_and_then (λ z. buffered z u a) (past_gap b ws s) ≡ Some next → next.buffers t ≡ []
-  by_gap true [] a r = by_action a r
   by_gap true (w ∷ ws) a r = absurd cc
-  by_gap false ws a r = by_action a r
+  by_gap b ws a r = by_action a r
 
 -- a thread that is not there never has a store
 module _ (p : Listing) (t : ℕ) (out : length p.threads ≤ t) where
@@ -101,12 +97,10 @@ applies_none p mode labels s NoSuchThread (Exec t) r a = stop_none p mode s t (n
 applies_none p SequentialMachine labels s NoSuchThread (Flush t) r a = refl
 applies_none p (StoreBufferMachine gaps) labels s NoSuchThread (Flush t) r a = flush_none p (StoreBufferMachine gaps) s t (run_keeps p t a gaps labels (start p) s refl r)
 applies_none p mode labels s AtEnd (Exec t) r a = stop_none p mode s t a.1
-applies_none p mode labels s AtEnd (Flush t) r a = absurd a
-applies_none p mode labels s BufferEmpty (Exec t) r a = absurd a
 applies_none p mode labels s BufferEmpty (Flush t) r a = flush_none p mode s t a.1
 applies_none p SequentialMachine labels s FenceWaits (Exec t) r a = absurd (a.0 (ap (λ (f : ℕ → List Pending). f t) (no_stores p labels (start p) s r)))
 applies_none p (StoreBufferMachine gaps) labels s FenceWaits (Exec t) r a = held_none s t (gaps t (s.locals t).place) (action p.threads t (s.locals t)) a.0 a.1
-applies_none p mode labels s FenceWaits (Flush t) r a = absurd a
+applies_none p mode labels s cause label r a = absurd a
 
 pub stops_none : (p : Listing) (mode : Machine) (labels : List Label) (n : ℕ) (cause : Cause) → Stops p mode labels n cause → run p mode (start p) labels ≡ None
 stops_none p mode labels n cause s =

@@ -20,12 +20,11 @@ same_label (Flush t) (Exec u) a b e = let bad : 102 ≡ 101 = ap (λ (w : List �
 
 pub same_labels : (ls ms : List Label) → AllByRecursion IsLabel ls → AllByRecursion IsLabel ms → map spelling ls ≡ map spelling ms → ls ≡ ms
 same_labels [] [] a b e = refl
-same_labels [] (m ∷ ms) a b e = absurd cc
-same_labels (l ∷ ls) [] a b e = absurd cc
 same_labels (l ∷ ls) (m ∷ ms) a b e =
     let first : l ≡ m = same_label l m a.0 b.0 (cc) in
     let others : ls ≡ ms = same_labels ls ms a.1 b.1 (cc) in
     cc
+same_labels ls ms a b e = absurd cc
 
 mapped : (f : ℕ → Label) (o : Option ℕ) (l : Label) → option_map f o ≡ Some l → (t : ℕ) × (o ≡ Some t) × (f t ≡ l)
 mapped f (Some t) l e = (t, refl, cc)

@@ -1,17 +1,21 @@
 -- How a run goes on by one step, and what it passes.
-use Rattle.std.proofs.Common.{◌≡◌, ℕ, ◌+◌, ◌<◌, ◌≤◌, take, length, get_or, Bool, true, false, ◌||◌, ◌&&◌, ◌==◌, not, List, [], ◌∷◌, ◌++◌, Option, Some, None, option_and_then, refl, ap, sym, ◌∙◌, subst, inl, inr, ◌⊎◌, arith, eq-eqb}
+use Rattle.std.proofs.Common.{◌≡◌, ℕ, ◌+◌, ◌<◌, ◌≤◌, take, length, get_or, Bool, true, false, ◌||◌, ◌&&◌, ◌==◌, not, List, [], ◌∷◌, ◌++◌, Option, Some, None, option_and_then, refl, ap, sym, ◌∙◌, subst, inl, inr, arith, eq-eqb}
 use Rattle.std.specs.Prelude.{slice_get, MatchOption, is_some, if◌then◌else◌}
 use Rattle.std.specs.Ordering.{nat_cmp, eq_by_cmp}
 use Rattle.std.specs.Cmp.{nat_cmp_total}
 use Rattle.std.specs.FinSet as set
 use Rattle.std.proofs.lemmas.List.{take_more, get_or_past}
 use Rattle.std.proofs.lemmas.Option.{slice_get-get_or, slice_get_past}
-use Rattle.tso_machine.proofs.Vocabulary.{option_map_or, nat_tests, cases_lt, or_from, gap_number, Label, Exec, Flush, Model, Pending, Cause, NoSuchThread, AtEnd, BufferEmpty, FenceWaits, StepFault}
-use Rattle.tso_machine.proofs.Vocabulary.{Refused, OutOfMemory, Thread, Listing, Local, Action, Stop, Go, Wait, Read, Write, Swap, act, action, Machine, SequentialMachine, State, start, step, run}
+use Rattle.tso_machine.proofs.Vocabulary.{option_map_or, nat_tests, cases_lt, or_from, gap_number, Label, Exec, Flush, Model, Pending, Cause, NoSuchThread, StepFault}
+use Rattle.tso_machine.proofs.Vocabulary.{Refused, OutOfMemory, Thread, Listing, Local, Action, Stop, act, action, Machine, SequentialMachine, State, start, step, run}
 use Rattle.tso_machine.proofs.Vocabulary.{direct, is_empty, from_some, passes_at, passes, HasEnded, Applies, StepFaultIs, Stops, ReplayFaultIs, fault_of}
 use Rattle.tso_machine.specs.declared.label.Model.TheVariants as models
 use Rattle.tso_machine.specs.Modes.{machine_of_model, Passes, ArePassed}
 use Rattle.tso_machine.specs.Internal.Cores.{Core, Cores, no_core, core_at, state_of, FitsProgram, Finished, passed_gap, gap_passed_by}
+use Rattle.std.proofs.lemmas.Bool.{and_parts as and_cases}
+use Rattle.std.proofs.lemmas.Bool.{or_right as or_after}
+use Rattle.std.proofs.lemmas.Bool.{or_left as or_before}
+use Rattle.std.proofs.lemmas.Bool.{or_cases}
 
 and_then_alike : (o : Option State) (f g : State → Option State) → ((s : State) → f s ≡ g s) → option_and_then f o ≡ option_and_then g o
 and_then_alike (Some s) f g alike = alike s
@@ -33,11 +37,7 @@ no_stores p (Exec t ∷ labels) s last e = by_action (λ z r. no_stores p labels
   where
     by_action : ((z : State) → run p SequentialMachine z labels ≡ Some last → last.buffers ≡ z.buffers) → (a : Action) → option_and_then (λ next. run p SequentialMachine next labels) (direct s t a) ≡ Some last → last.buffers ≡ s.buffers
     by_action rest Stop r = absurd cc
-    by_action rest (Go next) r = rest _ r
-    by_action rest (Wait next) r = rest _ r
-    by_action rest (Read l to next) r = rest _ r
-    by_action rest (Write l v next) r = rest _ r
-    by_action rest (Swap l v to next) r = rest _ r
+    by_action rest a r = rest _ r
 
 pub no_stores_by : (p : Listing) (gaps : set.FinSet nat_cmp) (model : Model) (labels : List Label) (s : State) → run p (machine_of_model p gaps model) (start p) labels ≡ Some s →
     model ≡ models.Sequential → (t : ℕ) → s.buffers t ≡ []
@@ -87,8 +87,7 @@ module _ (p : Listing) (mode : Machine) where
 
   pub passes_on : (s : State) (labels : List Label) (n : ℕ) (d : Label) (before : State) (t k : ℕ) → n < length labels → run p mode s (take n labels) ≡ Some before →
       passes p mode s (take (n + 1) labels) t k ≡ (passes p mode s (take n labels) t k || passes_at before (get_or labels n d) t k)
-  passes_on s labels n d before t k h reached =
-      rw (take_more labels n d h) (passes_more (take n labels) (get_or labels n d) s before t k reached)
+  passes_on s labels n d before t k h reached = rw (take_more labels n d h) (passes_more (take n labels) (get_or labels n d) s before t k reached)
 
   -- a step that isn't possible, where those before it are
   stopped : (labels : List Label) (n : ℕ) (d : Label) (before : State) (cause : Cause) → n < length labels → run p mode (start p) (take n labels) ≡ Some before →
@@ -99,9 +98,7 @@ module _ (p : Listing) (mode : Machine) where
   pub faulted : (labels : List Label) (n : ℕ) (d : Label) (before : State) (fault : StepFault) → n < length labels → run p mode (start p) (take n labels) ≡ Some before →
       StepFaultIs p mode before (get_or labels n d) fault → ReplayFaultIs p mode labels (fault_of fault n)
   faulted labels n d before (Refused NoSuchThread) h reached why = stopped labels n d before NoSuchThread h reached why
-  faulted labels n d before (Refused AtEnd) h reached why = stopped labels n d before AtEnd h reached why
-  faulted labels n d before (Refused BufferEmpty) h reached why = stopped labels n d before BufferEmpty h reached why
-  faulted labels n d before (Refused FenceWaits) h reached why = stopped labels n d before FenceWaits h reached why
+  faulted labels n d before (Refused cause) h reached why = stopped labels n d before cause h reached why
   faulted labels n d before OutOfMemory h reached why = tt
 
 -- all threads are at their ends
@@ -115,22 +112,6 @@ all_ended p s fits each t = elim (cases_lt t (length s.cores)) [
 or_false : (a : Bool) → a ≡ (a || false)
 or_false true = refl
 or_false false = refl
-
-or_cases : (a b : Bool) → (a || b) ≡ true → (a ≡ true) ⊎ (b ≡ true)
-or_cases true b e = inl refl
-or_cases false b e = inr e
-
-or_before : (a b : Bool) → a ≡ true → (a || b) ≡ true
-or_before true b e = refl
-or_before false b e = absurd cc
-
-or_after : (a b : Bool) → b ≡ true → (a || b) ≡ true
-or_after true b e = refl
-or_after false b e = e
-
-and_cases : (a b : Bool) → (a && b) ≡ true → (a ≡ true) × (b ≡ true)
-and_cases true b e = (refl, e)
-and_cases false b e = absurd cc
 
 abbrev is_gap : Option ℕ → ℕ → Bool
 is_gap o g = option_map_or (λ h. h == g) o false
@@ -230,16 +211,11 @@ seq_passes p (Exec u ∷ labels) s none t k =
   where
     here : (a b : Bool) (ws : List Pending) → ws ≡ [] → (a && (b && not (is_empty ws))) ≡ false
     here true true ws e = ap (λ z. not (is_empty z)) e
-    here true false ws e = refl
-    here false b ws e = refl
+    here a b ws e = refl
 
     by_action : ((z : State) → ((t : ℕ) → z.buffers t ≡ []) → passes p SequentialMachine z labels t k ≡ false) → (a : Action) → from_some (λ next. passes p SequentialMachine next labels t k) (direct s u a) ≡ false
     by_action rest Stop = refl
-    by_action rest (Go next) = rest _ none
-    by_action rest (Wait next) = rest _ none
-    by_action rest (Read l to next) = rest _ none
-    by_action rest (Write l v next) = rest _ none
-    by_action rest (Swap l v to next) = rest _ none
+    by_action rest a = rest _ none
 
 pub none_sequential : (p : Listing) (gaps : set.FinSet nat_cmp) (model : Model) (labels : List Label) (passed : set.FinSet nat_cmp) → ArePassed p (machine_of_model p gaps model) labels passed →
     model ≡ models.Sequential → (gap : ℕ) → set.contains passed gap ≡ false

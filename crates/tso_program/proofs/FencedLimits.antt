@@ -1,7 +1,7 @@
 -- A program within its limits is, with its fences, within those of a fenced program.
 use Rattle.std.proofs.Common.{◌≡◌, ℕ, zero, suc, ◌+◌, ◌-◌, ◌*◌, ◌<◌, ◌≤◌, Bool, true, false, List, [], ◌∷◌, ◌++◌, ◌⊎◌, inl, inr, length, Option, Some, refl, sym, ap, ◌∙◌, arith, cond}
 use Rattle.std.specs.Prelude.{slice_get, is_some, sum_by, count_by, if◌then◌else◌}
-use Rattle.tso_program.proofs.Vocabulary.{sum_by-cons, Instr, LoadImm, Copy, Load, StoreImm, Store, Xchg, Fence, CmpImm, CmpReg, Je, Jne, Jmp, Thread, Listing, location_of, target_of, code_of}
+use Rattle.tso_program.proofs.Vocabulary.{sum_by-cons, Instr, LoadImm, Fence, Je, Jne, Jmp, Thread, Listing, location_of, target_of, code_of}
 use Rattle.tso_program.proofs.Vocabulary.{instr_at, accesses_of, IsWithinLimits, IsWithinFencedLimits, MAX_INSTRUCTIONS, MAX_FENCED_INSTRUCTIONS}
 use Rattle.tso_program.specs.Fences.{Gaps, gaps_in, place_of, moved, fenced_code, fenced_threads, fence, FencingStaysWithinLimits}
 use Rattle.tso_program.proofs.FencedPlaces.{fenced_code_of, same_count}
@@ -94,17 +94,7 @@ module _ (gap : ℕ → Bool) where
   -- a moved instruction names the same location
   pub same_location : (x : Instr) → location_of (moved gap x) ≡ location_of x
   same_location (LoadImm r v) = refl
-  same_location (Copy r s) = refl
-  same_location (Load r l) = refl
-  same_location (StoreImm l v) = refl
-  same_location (Store l r) = refl
-  same_location (Xchg l r) = refl
-  same_location Fence = refl
-  same_location (CmpImm r v) = refl
-  same_location (CmpReg r s) = refl
-  same_location (Je k) = refl
-  same_location (Jne k) = refl
-  same_location (Jmp k) = refl
+  same_location x = refl
 
   -- and jumps to the place of its target
   record Jumps (x : Instr) (target : ℕ) : Type 0 where
@@ -119,15 +109,7 @@ module _ (gap : ℕ → Bool) where
   jumps (Je k) target e = jump (Je k) k target refl e
   jumps (Jne k) target e = jump (Jne k) k target refl e
   jumps (Jmp k) target e = jump (Jmp k) k target refl e
-  jumps (LoadImm r v) target e = absurd cc
-  jumps (Copy r s) target e = absurd cc
-  jumps (Load r l) target e = absurd cc
-  jumps (StoreImm l v) target e = absurd cc
-  jumps (Store l r) target e = absurd cc
-  jumps (Xchg l r) target e = absurd cc
-  jumps Fence target e = absurd cc
-  jumps (CmpImm r v) target e = absurd cc
-  jumps (CmpReg r s) target e = absurd cc
+  jumps x target e = absurd cc
 
   -- fences are no accesses
   one_access : (b : Bool) (x : Instr) (xs : List Instr) →

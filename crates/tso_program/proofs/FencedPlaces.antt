@@ -55,26 +55,24 @@ module _ (gap : ℕ → Bool) where
 
   -- the same by offset
   at_offset : (n k : ℕ) (xs : List Instr) → slice_get (fenced_code gap n xs) (offset n k) ≡ first_of (gap (n + k)) (slice_get xs k)
-  at_offset n zero [] = refl
   at_offset n zero (x ∷ xs) = let e : n ≡ n + 0 = omega arith in at_first (gap n) x (fenced_code gap (n + 1) xs) ∙ ap (λ m. first_of (gap m) (Some x)) e
-  at_offset n (suc k) [] = refl
   at_offset n (suc k) (x ∷ xs) =
       let e : (n + 1) + k ≡ n + suc k = omega arith in
       past_one (gap n) (moved gap x) (fenced_code gap (n + 1) xs) (offset (n + 1) k)
       ∙ at_offset (n + 1) k xs
       ∙ ap (λ m. first_of (gap m) (slice_get xs k)) e
+  at_offset n k [] = refl
 
   -- after the fence, by offset
   after_offset : (n k : ℕ) (xs : List Instr) (x : Instr) → gap (n + k) ≡ true → slice_get xs k ≡ Some x → slice_get (fenced_code gap n xs) (suc (offset n k)) ≡ Some (moved gap x)
-  after_offset n zero [] x g e = absurd cc
   after_offset n zero (y ∷ ys) x g e =
       let here : n ≡ n + 0 = omega arith in
       at_second (gap n) (moved gap y) (fenced_code gap (n + 1) ys) (ap gap here ∙ g) ∙ (let same : y ≡ x = cc in ap (λ z. Some (moved gap z)) same)
-  after_offset n (suc k) [] x g e = absurd cc
   after_offset n (suc k) (y ∷ ys) x g e =
       let sum : (n + 1) + k ≡ n + suc k = omega arith in
       past_one_more (gap n) (moved gap y) (fenced_code gap (n + 1) ys) (offset (n + 1) k)
       ∙ after_offset (n + 1) k ys x (ap gap sum ∙ g) e
+  after_offset n k [] x g e = absurd cc
 
   -- from the first instruction on
   place_is : (k : ℕ) → place_of gap k ≡ offset 0 k

@@ -1,8 +1,9 @@
 -- What is found in a list, and what it means that nothing is.
-use Rattle.std.proofs.Common.{◌≡◌, ℕ, zero, suc, ◌+◌, ◌<◌, Bool, true, false, ◌||◌, List, [], ◌∷◌, length, Option, Some, None, refl, sym, ap, ◌∙◌, arith}
+use Rattle.std.proofs.Common.{◌≡◌, ℕ, zero, suc, ◌+◌, Bool, true, false, List, [], ◌∷◌, length, Option, Some, None, refl, sym, ap, ◌∙◌, arith}
 use Rattle.std.specs.Prelude.{not, nat_lt, slice_get, is_some, position, if◌then◌else◌}
 use Rattle.std.specs.List.{position_or_len, list_any, enumerate_from}
 use Rattle.tso_program.proofs.Vocabulary.{option_map_or, nat_tests, Instr, Thread, code_of, instr_at, first_found}
+pub use Rattle.std.proofs.lemmas.Bool.{or_parts as neither}
 
 -- an instruction that is there stands in a thread that is there
 pub instr_found : (threads : List Thread) (t k : ℕ) (x : Instr) → instr_at threads t k ≡ Some x → (thread : Thread) × (slice_get threads t ≡ Some thread) × (slice_get thread.code k ≡ Some x)
@@ -15,11 +16,6 @@ instr_found threads t k x e = go (slice_get threads t) refl e
 -- the code of a thread that is there
 pub code_found : (threads : List Thread) (t : ℕ) (thread : Thread) → slice_get threads t ≡ Some thread → code_of threads t ≡ thread.code
 code_found threads t thread e = ap (λ o. option_map_or (λ (x : Thread). x.code) o []) e
-
-pub place_within : {X : Type 0} (xs : List X) (i : ℕ) (x : X) → slice_get xs i ≡ Some x → i < length xs
-place_within [] i x e = absurd cc
-place_within (y ∷ ys) zero x e = omega arith
-place_within (y ∷ ys) (suc i) x e = let h = place_within ys i x e in omega arith
 
 pub enumerated : {X : Type 0} (n : ℕ) (xs : List X) (i : ℕ) (x : X) → slice_get xs i ≡ Some x → slice_get (enumerate_from n xs) i ≡ Some (n + i, x)
 enumerated n [] i x e = absurd cc
@@ -51,10 +47,6 @@ some_test false k e = refl
 no_test : (b : Bool) (k : ℕ) → b ≡ false → is_some (if b then Some k else None) ≡ false
 no_test true k e = absurd cc
 no_test false k e = refl
-
-pub neither : (a b : Bool) → (a || b) ≡ false → (a ≡ false) × (b ≡ false)
-neither true b e = absurd cc
-neither false b e = (refl, e)
 
 -- where no element passes the test, none is found, and the other way round
 module _ {X : Type 0} (p : X → Bool) where

@@ -90,8 +90,7 @@ onward t x xs gap h (there u k place number) =
     there (suc u) k
     (skipped t x _ (places_from (t + 1) xs) gap (first_places t x) h ∙ place ∙ ap (λ v. Some (v, k)) e)
     (later x xs u k (gap - gaps_of_thread x) number ∙ ap (λ m. Some m) n)
-onward t x xs gap h (past place none) =
-    past (skipped t x _ (places_from (t + 1) xs) gap (first_places t x) h ∙ place) (not_here x xs gap h none)
+onward t x xs gap h (past place none) = past (skipped t x _ (places_from (t + 1) xs) gap (first_places t x) h ∙ place) (not_here x xs gap h none)
 
 none_of_none : (gap : ℕ) → (u k : ℕ) → gap_number [] u k ≡ Some gap → ⊥
 none_of_none gap u k e =

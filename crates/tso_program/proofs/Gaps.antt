@@ -32,8 +32,7 @@ pub record IsGap (threads : List Thread) (t k gap : ℕ) : Type 0 where
 
 of_test : (a b : Bool) (n gap : ℕ) → (if a && b then Some n else None) ≡ Some gap → (a ≡ true) × (b ≡ true) × (n ≡ gap)
 of_test true true n gap e = (refl, refl, (let q : n ≡ gap = cc in q))
-of_test true false n gap e = absurd cc
-of_test false b n gap e = absurd cc
+of_test a b n gap e = absurd cc
 
 low_of : (k : ℕ) → nat_le 1 k ≡ true → 1 ≤ k
 low_of k e = grind (arith, nat_tests)

@@ -3,34 +3,30 @@ use Rattle.std.proofs.Common.{◌≡◌, ℕ, ◌<◌, Bool, true, false, List, 
 use Rattle.std.proofs.lemmas.Grind.{same_number_lists}
 use Rattle.std.proofs.lemmas.List.{ext_get_or, get_or_past}
 use Rattle.std.proofs.lemmas.List.FromFn.{fill_by_all, get_or-map-range_with_len, length-map-range_with_len}
-use Rattle.tso_program.proofs.Vocabulary.{cases_lt, Outcome, Shown, All, Only, Truth, shows_register, shows_location, value_if, shown_registers, shown_value, show_registers, show_memory, show}
+use Rattle.tso_program.proofs.Vocabulary.{cases_lt, Outcome, Shown, All, Truth, shows_register, shows_location, value_if, shown_registers, shown_value, show_registers, show_memory, show}
 use Rattle.tso_program.proofs.Vocabulary.{shown_values, ShowsValues}
 use Rattle.tso_program.specs.Laws.{ShowsPartOf, HaveOneShape, register_in, location_in, WhatIsShownIsAlike, ShownRegistersAreKept, ShownLocationsAreKept, OtherRegistersAreZero, OtherLocationsAreZero, EachIsReadOffAll, APartIsShownOfTheWhole, ShowingTwiceIsShowingOnce, EverythingShownIsTheOutcome}
 use Rattle.tso_program.proofs.PartsShown.{any_register, part_of_itself}
 
 -- what a part shows of a value that the whole shows
 within : (small large : Bool) (v : ℕ) → (small ≡ true → large ≡ true) → value_if small (value_if large v) ≡ value_if small v
-within small true v h = refl
 within true false v h = let e = h refl in absurd cc
-within false false v h = refl
+within small large v h = refl
 
 -- ---- a thread's registers
 
 pub registers_long : (shown : Shown) (t : ℕ) (held : List ℕ) → length (shown_registers shown t held) ≡ length held
 registers_long All t held = refl
-registers_long (Only names) t held = length-map-range_with_len (λ r. value_if (shows_register (Only names) t r) (get_or held r 0)) 0 (length held)
-registers_long (Truth f) t held = length-map-range_with_len (λ r. value_if (shows_register (Truth f) t r) (get_or held r 0)) 0 (length held)
+registers_long shown t held = length-map-range_with_len (λ r. value_if (shows_register shown t r) (get_or held r 0)) 0 (length held)
 
 pub register_at : (shown : Shown) (t : ℕ) (held : List ℕ) (r : ℕ) → r < length held → get_or (shown_registers shown t held) r 0 ≡ value_if (shows_register shown t r) (get_or held r 0)
 register_at All t held r h = refl
-register_at (Only names) t held r h = get_or-map-range_with_len (λ r. value_if (shows_register (Only names) t r) (get_or held r 0)) 0 (length held) r r 0 h (omega arith)
-register_at (Truth f) t held r h = get_or-map-range_with_len (λ r. value_if (shows_register (Truth f) t r) (get_or held r 0)) 0 (length held) r r 0 h (omega arith)
+register_at shown t held r h = get_or-map-range_with_len (λ r. value_if (shows_register shown t r) (get_or held r 0)) 0 (length held) r r 0 h (omega arith)
 
 pub registers_by : (shown : Shown) (t : ℕ) (held left : List ℕ) → length left ≡ length held →
     ((r : ℕ) → r < length held → get_or left r 0 ≡ value_if (shows_register shown t r) (get_or held r 0)) → left ≡ shown_registers shown t held
 registers_by All t held left long each = same_number_lists left held long (λ r h. each r (omega arith))
-registers_by (Only names) t held left long each = fill_by_all (λ r. value_if (shows_register (Only names) t r) (get_or held r 0)) left (length held) 0 long each
-registers_by (Truth f) t held left long each = fill_by_all (λ r. value_if (shows_register (Truth f) t r) (get_or held r 0)) left (length held) 0 long each
+registers_by shown t held left long each = fill_by_all (λ r. value_if (shows_register shown t r) (get_or held r 0)) left (length held) 0 long each
 
 registers_within : (small large : Shown) → ShowsPartOf small large → (t : ℕ) (held : List ℕ) → shown_registers small t (shown_registers large t held) ≡ shown_registers small t held
 registers_within small large part t held =
@@ -44,19 +40,16 @@ registers_within small large part t held =
 
 pub memory_long : (shown : Shown) (memory : List ℕ) → length (show_memory shown memory) ≡ length memory
 memory_long All memory = refl
-memory_long (Only names) memory = length-map-range_with_len (λ l. shown_value (Only names) l (get_or memory l 0)) 0 (length memory)
-memory_long (Truth f) memory = length-map-range_with_len (λ l. shown_value (Truth f) l (get_or memory l 0)) 0 (length memory)
+memory_long shown memory = length-map-range_with_len (λ l. shown_value shown l (get_or memory l 0)) 0 (length memory)
 
 pub value_at : (shown : Shown) (memory : List ℕ) (l : ℕ) → l < length memory → get_or (show_memory shown memory) l 0 ≡ shown_value shown l (get_or memory l 0)
 value_at All memory l h = refl
-value_at (Only names) memory l h = get_or-map-range_with_len (λ l. shown_value (Only names) l (get_or memory l 0)) 0 (length memory) l l 0 h (omega arith)
-value_at (Truth f) memory l h = get_or-map-range_with_len (λ l. shown_value (Truth f) l (get_or memory l 0)) 0 (length memory) l l 0 h (omega arith)
+value_at shown memory l h = get_or-map-range_with_len (λ l. shown_value shown l (get_or memory l 0)) 0 (length memory) l l 0 h (omega arith)
 
 pub memory_by : (shown : Shown) (memory left : List ℕ) → length left ≡ length memory →
     ((l : ℕ) → l < length memory → get_or left l 0 ≡ shown_value shown l (get_or memory l 0)) → left ≡ show_memory shown memory
 memory_by All memory left long each = same_number_lists left memory long (λ l h. each l (omega arith))
-memory_by (Only names) memory left long each = fill_by_all (λ l. shown_value (Only names) l (get_or memory l 0)) left (length memory) 0 long each
-memory_by (Truth f) memory left long each = fill_by_all (λ l. shown_value (Truth f) l (get_or memory l 0)) left (length memory) 0 long each
+memory_by shown memory left long each = fill_by_all (λ l. shown_value shown l (get_or memory l 0)) left (length memory) 0 long each
 
 -- memories that show the same
 pub same_memory : (shown : Shown) (xs ys : List ℕ) → length xs ≡ length ys →
@@ -73,20 +66,17 @@ memory_within small large part memory = same_memory small (show_memory large mem
 
 pub threads_long : (shown : Shown) (registers : List (List ℕ)) → length (show_registers shown registers) ≡ length registers
 threads_long All registers = refl
-threads_long (Only names) registers = length-map-range_with_len (λ t. shown_registers (Only names) t (get_or registers t [])) 0 (length registers)
-threads_long (Truth f) registers = length-map-range_with_len (λ t. shown_registers (Truth f) t (get_or registers t [])) 0 (length registers)
+threads_long shown registers = length-map-range_with_len (λ t. shown_registers shown t (get_or registers t [])) 0 (length registers)
 
 pub thread_at : (shown : Shown) (registers : List (List ℕ)) (t : ℕ) → t < length registers →
     get_or (show_registers shown registers) t [] ≡ shown_registers shown t (get_or registers t [])
 thread_at All registers t h = refl
-thread_at (Only names) registers t h = get_or-map-range_with_len (λ t. shown_registers (Only names) t (get_or registers t [])) 0 (length registers) t t [] h (omega arith)
-thread_at (Truth f) registers t h = get_or-map-range_with_len (λ t. shown_registers (Truth f) t (get_or registers t [])) 0 (length registers) t t [] h (omega arith)
+thread_at shown registers t h = get_or-map-range_with_len (λ t. shown_registers shown t (get_or registers t [])) 0 (length registers) t t [] h (omega arith)
 
 pub threads_by : (shown : Shown) (registers left : List (List ℕ)) → length left ≡ length registers →
     ((t : ℕ) → t < length registers → get_or left t [] ≡ shown_registers shown t (get_or registers t [])) → left ≡ show_registers shown registers
 threads_by All registers left long each = ext_get_or [] left registers long (λ t h. each t (omega arith))
-threads_by (Only names) registers left long each = fill_by_all (λ t. shown_registers (Only names) t (get_or registers t [])) left (length registers) [] long each
-threads_by (Truth f) registers left long each = fill_by_all (λ t. shown_registers (Truth f) t (get_or registers t [])) left (length registers) [] long each
+threads_by shown registers left long each = fill_by_all (λ t. shown_registers shown t (get_or registers t [])) left (length registers) [] long each
 
 -- threads that show the same
 pub same_threads : (shown : Shown) (xs ys : List (List ℕ)) → length xs ≡ length ys →
@@ -103,9 +93,8 @@ threads_within small large part registers = same_threads small (show_registers l
 
 -- where values are shown, the outcome is shown value by value
 pub by_values : (shown : Shown) (o : Outcome) → ShowsValues shown → show shown o ≡ shown_values shown o
-by_values All o of = refl
-by_values (Only names) o of = refl
 by_values (Truth f) o of = absurd of
+by_values shown o of = refl
 
 -- what a part shows of what the whole shows
 pub shown_within : APartIsShownOfTheWhole
@@ -134,8 +123,7 @@ registers_in o t = get_or o.registers t []
 
 none_kept : (shown : Shown) (t : ℕ) → shown_registers shown t [] ≡ []
 none_kept All t = refl
-none_kept (Only names) t = refl
-none_kept (Truth f) t = refl
+none_kept shown t = refl
 
 thread_kept : (shown : Shown) (o : Outcome) (t : ℕ) → registers_in (shown_values shown o) t ≡ shown_registers shown t (registers_in o t)
 thread_kept shown o t = elim (cases_lt t (length o.registers)) [

@@ -1,19 +1,12 @@
 -- The location that an action names is one of the program's.
 use Rattle.std.proofs.Common.{◌≡◌, ℕ, List, length, Some, refl}
-use Rattle.tso_program.proofs.Vocabulary.{Instr, LoadImm, Copy, Load, StoreImm, Store, Xchg, Fence, CmpImm, CmpReg, Je, Jne, Jmp, Thread, instr_at, IsWithinLimits}
+use Rattle.tso_program.proofs.Vocabulary.{Instr, Load, StoreImm, Store, Xchg, Thread, instr_at, IsWithinLimits}
 use Rattle.tso_program.specs.declared.action.Local.{Local}
 use Rattle.tso_program.specs.Actions.{act, IsLocated}
 
 pub act_located : (threads : List Thread) (memory : List ℕ) (t k : ℕ) (x : Instr) (s : Local) → IsWithinLimits threads memory → instr_at threads t k ≡ Some x → IsLocated (length memory) (act (Some x) s)
-act_located threads memory t k (LoadImm r v) s w e = tt
-act_located threads memory t k (Copy r from) s w e = tt
 act_located threads memory t k (Load r l) s w e = w.shared.located t k l (Load r l) e refl
 act_located threads memory t k (StoreImm l v) s w e = w.shared.located t k l (StoreImm l v) e refl
 act_located threads memory t k (Store l r) s w e = w.shared.located t k l (Store l r) e refl
 act_located threads memory t k (Xchg l r) s w e = w.shared.located t k l (Xchg l r) e refl
-act_located threads memory t k Fence s w e = tt
-act_located threads memory t k (CmpImm r v) s w e = tt
-act_located threads memory t k (CmpReg r from) s w e = tt
-act_located threads memory t k (Je target) s w e = tt
-act_located threads memory t k (Jne target) s w e = tt
-act_located threads memory t k (Jmp target) s w e = tt
+act_located threads memory t k x s w e = tt

@@ -4,24 +4,22 @@ use Rattle.std.specs.Cmp.{IsTotalOrder}
 use Rattle.std.specs.Cmp.Lexicographic.{slice_cmp}
 use Rattle.std.specs.Ordering.{nat_cmp, ordering_then, ordering_reverse, is_eq}
 use Rattle.std.specs.declared.cmp.Ordering.{Ordering}
-use Rattle.std.specs.declared.cmp.Ordering.TheVariants.{Less, Equal, Greater}
+use Rattle.std.specs.declared.cmp.Ordering.TheVariants.{Less, Equal}
 use Rattle.std.proofs.lemmas.Cmp.{nat_cmp_total, lists_total, on_total, then_total}
 use Rattle.std.proofs.lemmas.Map.Lookups.{CmpEqualImpliesEq, exact_unsigned}
 use Rattle.tso_program.specs.declared.outcome.Outcome.{Outcome}
 use Rattle.tso_program.specs.Ordered.{outcome_cmp}
 
 both_equal : (a b : Ordering) → ordering_then a b ≡ Equal → (a ≡ Equal) × (b ≡ Equal)
-both_equal Less b e = absurd cc
 both_equal Equal b e = (refl, e)
-both_equal Greater b e = absurd cc
+both_equal a b e = absurd cc
 
 exact_lists : {K : Type 0} (R : K → K → Ordering) → CmpEqualImpliesEq R → (xs ys : List K) → slice_cmp R xs ys ≡ Equal → xs ≡ ys
 exact_lists R exact [] [] e = refl
-exact_lists R exact [] (y ∷ ys) e = absurd cc
-exact_lists R exact (x ∷ xs) [] e = absurd cc
 exact_lists R exact (x ∷ xs) (y ∷ ys) e =
     let parts = both_equal (R x y) (slice_cmp R xs ys) e in
     ap (λ z. z ∷ xs) (exact x y parts.0) ∙ ap (λ zs. y ∷ zs) (exact_lists R exact xs ys parts.1)
+exact_lists R exact xs ys e = absurd cc
 
 -- outcomes that compare equal are equal
 pub exact_outcomes : (a b : Outcome) → outcome_cmp a b ≡ Equal → a ≡ b
@@ -37,14 +35,12 @@ outcomes_ordered = then_total (on_total (λ (o : Outcome). o.registers) (lists_t
 
 -- an order's answer of one thing and itself
 its_own_reverse : (r : Ordering) → r ≡ ordering_reverse r → r ≡ Equal
-its_own_reverse Less e = absurd cc
 its_own_reverse Equal e = refl
-its_own_reverse Greater e = absurd cc
+its_own_reverse r e = absurd cc
 
 is_equal : (r : Ordering) → is_eq r ≡ true → r ≡ Equal
-is_equal Less e = absurd cc
 is_equal Equal e = refl
-is_equal Greater e = absurd cc
+is_equal r e = absurd cc
 
 -- an outcome compares equal to itself
 pub equal_itself : (o : Outcome) → outcome_cmp o o ≡ Equal

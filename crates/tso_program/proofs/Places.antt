@@ -3,7 +3,7 @@ use Rattle.std.proofs.Common.{◌≡◌, ◌⊎◌, ◌||◌, ℕ, ◌-◌, ◌/
 use Rattle.std.specs.Ordering.{nat_cmp, eq_by_cmp}
 use Rattle.std.specs.FinSet as set
 use Rattle.std.proofs.Math.Nat.{div-add-mod, mod-lt}
-use Rattle.tso_program.proofs.Vocabulary.{nat_cmp_total, cases_lt, nat_tests, register_place, ArePlaces, REGISTERS, MAX_THREADS}
+use Rattle.tso_program.proofs.Vocabulary.{nat_cmp_total, cases_lt, nat_tests, ArePlaces, REGISTERS}
 use Rattle.tso_program.specs.Laws.{RegisterPlacesAreDistinct, LocationPlacesAreDistinct, RegistersLieApartFromLocations, IsRegisterPlace, EachPlaceIsNamed}
 use Rattle.tso_program.specs.declared.shown.TheConstants.{REGISTER_PLACES, PLACES}
 
@@ -20,9 +20,6 @@ one_more_placed names new placed below place h =
       | inl e ↦ omega arith
       | inr old ↦ placed place old
     ]
-
-pub register_placed : (t r : ℕ) → t < MAX_THREADS → r < REGISTERS → register_place t r < PLACES
-register_placed t r thread register = omega arith
 
 -- ---- no two have one place
 

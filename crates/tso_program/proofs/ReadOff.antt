@@ -1,12 +1,12 @@
 -- A formula's truth is read off what shows all that the formula speaks of.
-use Rattle.std.proofs.Common.{◌≡◌, ◌↔◌, ℕ, ◌<◌, Bool, true, false, not, List, [], ◌∷◌, Option, Some, None, get_or, length, inl, inr, refl, sym, ap, ◌∙◌, arith}
+use Rattle.std.proofs.Common.{◌≡◌, ℕ, ◌<◌, Bool, true, false, not, List, [], Option, Some, get_or, length, inl, inr, refl, sym, ap, ◌∙◌, arith}
 use Rattle.std.specs.Prelude.{◌&&◌, ◌||◌, slice_get, option_and_then}
 use Rattle.std.proofs.lemmas.Option.{slice_get-get_or, slice_get_past}
-use Rattle.tso_program.proofs.Vocabulary.{cases_lt, Reg, Outcome, Shown, All, Only, Truth, Atom, Tree, number}
+use Rattle.tso_program.proofs.Vocabulary.{cases_lt, Reg, Outcome, Shown, Atom, Tree, number}
 use Rattle.tso_program.specs.declared.atom.Atom.TheVariants as atom
 use Rattle.tso_program.specs.Tree as tree
 use Rattle.tso_program.specs.Truth.{truth, is_true_at, is_value, final_register, location_at}
-use Rattle.tso_program.specs.Shown.{shows_register, shows_location, value_if, shown_registers, shown_value, show_registers, show_memory, shown_values, show, told, ShowsValues}
+use Rattle.tso_program.specs.Shown.{shows_register, shows_location, value_if, shown_registers, show_registers, show_memory, shown_values, told}
 use Rattle.tso_program.specs.Laws.{ShowsAtom, ShowsAtoms, ATruthIsReadOffItsAtoms, TruthsAreTold}
 use Rattle.tso_program.proofs.Kept.{by_values, registers_long, register_at, memory_long, value_at, threads_long, thread_at}
 
@@ -63,10 +63,9 @@ truth_read_off f shown of h o = ap (λ (x : Outcome). told (truth x f)) (by_valu
 
 -- two truths show different outcomes
 pub told_apart : (b c : Bool) → told b ≡ told c → b ≡ c
-told_apart true true e = refl
-told_apart false false e = refl
 told_apart true false e = absurd (let h : get_or (told true).memory 0 0 ≡ get_or (told false).memory 0 0 = ap (λ (x : Outcome). get_or x.memory 0 0) e in omega (arith, h))
 told_apart false true e = absurd (let h : get_or (told false).memory 0 0 ≡ get_or (told true).memory 0 0 = ap (λ (x : Outcome). get_or x.memory 0 0) e in omega (arith, h))
+told_apart b c e = refl
 
 pub truths_told : TruthsAreTold
 truths_told f o other = (λ e. told_apart (truth o f) (truth other f) e, λ e. ap told e)

@@ -4,18 +4,14 @@ use Rattle.std.proofs.lemmas.Bool.{and_parts, and_from}
 use Rattle.std.proofs.lemmas.Bool.Decides.{Decides-like, Decides-and, Decides-eqb}
 use Rattle.std.specs.Cmp.Lexicographic.{pointwise}
 use Rattle.std.specs.Prelude.{nat_eq}
-use Rattle.tso_program.proofs.Vocabulary.{slice_eq-Decides, Reg, Eax, Ebx, Ecx, Edx, Esi, Edi, Instr, LoadImm, Copy, Load, StoreImm, Store, Xchg, Fence, CmpImm, CmpReg, Je, Jne, Jmp, Thread}
+use Rattle.tso_program.proofs.Vocabulary.{slice_eq-Decides, Reg, Eax, Instr, LoadImm, Copy, Load, StoreImm, Store, Xchg, Fence, CmpImm, CmpReg, Je, Jne, Jmp, Thread}
 use Rattle.tso_program.specs.contracts.instruction.RegPartialEq.TheImpl as reg
 use Rattle.tso_program.specs.contracts.instruction.InstrPartialEq.TheImpl as instr
 use Rattle.tso_program.specs.contracts.listing.ThreadPartialEq.TheImpl as thread
 
 reg_decides : (r s : Reg) → Decides (reg.ghosts.eq r s) (r ≡ s)
 reg_decides Eax s = search rules
-reg_decides Ebx s = search rules
-reg_decides Ecx s = search rules
-reg_decides Edx s = search rules
-reg_decides Esi s = search rules
-reg_decides Edi s = search rules
+reg_decides r s = search rules
 
 -- two fields of which each is equal
 module _ {X Y : Type 0} (C : X → Y → Instr) where
@@ -31,149 +27,18 @@ both x y p q = and_from x y (p.1 refl) (q.1 refl)
 -- instructions of one kind, with equal fields
 instr_same : (x y : Instr) → instr.ghosts.eq x y ≡ true → x ≡ y
 instr_same (LoadImm a b) (LoadImm c d) h = two LoadImm (reg.ghosts.eq a c) (b == d) (reg_decides a c) (Decides-eqb b d) h
-instr_same (LoadImm a b) (Copy c d) h = none h
-instr_same (LoadImm a b) (Load c d) h = none h
-instr_same (LoadImm a b) (StoreImm c d) h = none h
-instr_same (LoadImm a b) (Store c d) h = none h
-instr_same (LoadImm a b) (Xchg c d) h = none h
-instr_same (LoadImm a b) Fence h = none h
-instr_same (LoadImm a b) (CmpImm c d) h = none h
-instr_same (LoadImm a b) (CmpReg c d) h = none h
-instr_same (LoadImm a b) (Je c) h = none h
-instr_same (LoadImm a b) (Jne c) h = none h
-instr_same (LoadImm a b) (Jmp c) h = none h
-instr_same (Copy a b) (LoadImm c d) h = none h
 instr_same (Copy a b) (Copy c d) h = two Copy (reg.ghosts.eq a c) (reg.ghosts.eq b d) (reg_decides a c) (reg_decides b d) h
-instr_same (Copy a b) (Load c d) h = none h
-instr_same (Copy a b) (StoreImm c d) h = none h
-instr_same (Copy a b) (Store c d) h = none h
-instr_same (Copy a b) (Xchg c d) h = none h
-instr_same (Copy a b) Fence h = none h
-instr_same (Copy a b) (CmpImm c d) h = none h
-instr_same (Copy a b) (CmpReg c d) h = none h
-instr_same (Copy a b) (Je c) h = none h
-instr_same (Copy a b) (Jne c) h = none h
-instr_same (Copy a b) (Jmp c) h = none h
-instr_same (Load a b) (LoadImm c d) h = none h
-instr_same (Load a b) (Copy c d) h = none h
 instr_same (Load a b) (Load c d) h = two Load (reg.ghosts.eq a c) (b == d) (reg_decides a c) (Decides-eqb b d) h
-instr_same (Load a b) (StoreImm c d) h = none h
-instr_same (Load a b) (Store c d) h = none h
-instr_same (Load a b) (Xchg c d) h = none h
-instr_same (Load a b) Fence h = none h
-instr_same (Load a b) (CmpImm c d) h = none h
-instr_same (Load a b) (CmpReg c d) h = none h
-instr_same (Load a b) (Je c) h = none h
-instr_same (Load a b) (Jne c) h = none h
-instr_same (Load a b) (Jmp c) h = none h
-instr_same (StoreImm a b) (LoadImm c d) h = none h
-instr_same (StoreImm a b) (Copy c d) h = none h
-instr_same (StoreImm a b) (Load c d) h = none h
 instr_same (StoreImm a b) (StoreImm c d) h = two StoreImm (a == c) (b == d) (Decides-eqb a c) (Decides-eqb b d) h
-instr_same (StoreImm a b) (Store c d) h = none h
-instr_same (StoreImm a b) (Xchg c d) h = none h
-instr_same (StoreImm a b) Fence h = none h
-instr_same (StoreImm a b) (CmpImm c d) h = none h
-instr_same (StoreImm a b) (CmpReg c d) h = none h
-instr_same (StoreImm a b) (Je c) h = none h
-instr_same (StoreImm a b) (Jne c) h = none h
-instr_same (StoreImm a b) (Jmp c) h = none h
-instr_same (Store a b) (LoadImm c d) h = none h
-instr_same (Store a b) (Copy c d) h = none h
-instr_same (Store a b) (Load c d) h = none h
-instr_same (Store a b) (StoreImm c d) h = none h
 instr_same (Store a b) (Store c d) h = two Store (a == c) (reg.ghosts.eq b d) (Decides-eqb a c) (reg_decides b d) h
-instr_same (Store a b) (Xchg c d) h = none h
-instr_same (Store a b) Fence h = none h
-instr_same (Store a b) (CmpImm c d) h = none h
-instr_same (Store a b) (CmpReg c d) h = none h
-instr_same (Store a b) (Je c) h = none h
-instr_same (Store a b) (Jne c) h = none h
-instr_same (Store a b) (Jmp c) h = none h
-instr_same (Xchg a b) (LoadImm c d) h = none h
-instr_same (Xchg a b) (Copy c d) h = none h
-instr_same (Xchg a b) (Load c d) h = none h
-instr_same (Xchg a b) (StoreImm c d) h = none h
-instr_same (Xchg a b) (Store c d) h = none h
 instr_same (Xchg a b) (Xchg c d) h = two Xchg (a == c) (reg.ghosts.eq b d) (Decides-eqb a c) (reg_decides b d) h
-instr_same (Xchg a b) Fence h = none h
-instr_same (Xchg a b) (CmpImm c d) h = none h
-instr_same (Xchg a b) (CmpReg c d) h = none h
-instr_same (Xchg a b) (Je c) h = none h
-instr_same (Xchg a b) (Jne c) h = none h
-instr_same (Xchg a b) (Jmp c) h = none h
-instr_same Fence (LoadImm c d) h = none h
-instr_same Fence (Copy c d) h = none h
-instr_same Fence (Load c d) h = none h
-instr_same Fence (StoreImm c d) h = none h
-instr_same Fence (Store c d) h = none h
-instr_same Fence (Xchg c d) h = none h
 instr_same Fence Fence h = refl
-instr_same Fence (CmpImm c d) h = none h
-instr_same Fence (CmpReg c d) h = none h
-instr_same Fence (Je c) h = none h
-instr_same Fence (Jne c) h = none h
-instr_same Fence (Jmp c) h = none h
-instr_same (CmpImm a b) (LoadImm c d) h = none h
-instr_same (CmpImm a b) (Copy c d) h = none h
-instr_same (CmpImm a b) (Load c d) h = none h
-instr_same (CmpImm a b) (StoreImm c d) h = none h
-instr_same (CmpImm a b) (Store c d) h = none h
-instr_same (CmpImm a b) (Xchg c d) h = none h
-instr_same (CmpImm a b) Fence h = none h
 instr_same (CmpImm a b) (CmpImm c d) h = two CmpImm (reg.ghosts.eq a c) (b == d) (reg_decides a c) (Decides-eqb b d) h
-instr_same (CmpImm a b) (CmpReg c d) h = none h
-instr_same (CmpImm a b) (Je c) h = none h
-instr_same (CmpImm a b) (Jne c) h = none h
-instr_same (CmpImm a b) (Jmp c) h = none h
-instr_same (CmpReg a b) (LoadImm c d) h = none h
-instr_same (CmpReg a b) (Copy c d) h = none h
-instr_same (CmpReg a b) (Load c d) h = none h
-instr_same (CmpReg a b) (StoreImm c d) h = none h
-instr_same (CmpReg a b) (Store c d) h = none h
-instr_same (CmpReg a b) (Xchg c d) h = none h
-instr_same (CmpReg a b) Fence h = none h
-instr_same (CmpReg a b) (CmpImm c d) h = none h
 instr_same (CmpReg a b) (CmpReg c d) h = two CmpReg (reg.ghosts.eq a c) (reg.ghosts.eq b d) (reg_decides a c) (reg_decides b d) h
-instr_same (CmpReg a b) (Je c) h = none h
-instr_same (CmpReg a b) (Jne c) h = none h
-instr_same (CmpReg a b) (Jmp c) h = none h
-instr_same (Je a) (LoadImm c d) h = none h
-instr_same (Je a) (Copy c d) h = none h
-instr_same (Je a) (Load c d) h = none h
-instr_same (Je a) (StoreImm c d) h = none h
-instr_same (Je a) (Store c d) h = none h
-instr_same (Je a) (Xchg c d) h = none h
-instr_same (Je a) Fence h = none h
-instr_same (Je a) (CmpImm c d) h = none h
-instr_same (Je a) (CmpReg c d) h = none h
 instr_same (Je a) (Je c) h = ap Je ((Decides-eqb a c).0 h)
-instr_same (Je a) (Jne c) h = none h
-instr_same (Je a) (Jmp c) h = none h
-instr_same (Jne a) (LoadImm c d) h = none h
-instr_same (Jne a) (Copy c d) h = none h
-instr_same (Jne a) (Load c d) h = none h
-instr_same (Jne a) (StoreImm c d) h = none h
-instr_same (Jne a) (Store c d) h = none h
-instr_same (Jne a) (Xchg c d) h = none h
-instr_same (Jne a) Fence h = none h
-instr_same (Jne a) (CmpImm c d) h = none h
-instr_same (Jne a) (CmpReg c d) h = none h
-instr_same (Jne a) (Je c) h = none h
 instr_same (Jne a) (Jne c) h = ap Jne ((Decides-eqb a c).0 h)
-instr_same (Jne a) (Jmp c) h = none h
-instr_same (Jmp a) (LoadImm c d) h = none h
-instr_same (Jmp a) (Copy c d) h = none h
-instr_same (Jmp a) (Load c d) h = none h
-instr_same (Jmp a) (StoreImm c d) h = none h
-instr_same (Jmp a) (Store c d) h = none h
-instr_same (Jmp a) (Xchg c d) h = none h
-instr_same (Jmp a) Fence h = none h
-instr_same (Jmp a) (CmpImm c d) h = none h
-instr_same (Jmp a) (CmpReg c d) h = none h
-instr_same (Jmp a) (Je c) h = none h
-instr_same (Jmp a) (Jne c) h = none h
 instr_same (Jmp a) (Jmp c) h = ap Jmp ((Decides-eqb a c).0 h)
+instr_same x y h = none h
 
 instr_itself : (x : Instr) → instr.ghosts.eq x x ≡ true
 instr_itself (LoadImm a b) = both (reg.ghosts.eq a a) (b == b) (reg_decides a a) (Decides-eqb b b)

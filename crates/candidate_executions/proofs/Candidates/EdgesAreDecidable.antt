@@ -31,19 +31,16 @@ some (Some x) = inl refl
 
 pub same_event : (d e : Event) → Dec₁ (d ≡ e)
 same_event (Initial l) (Initial k) = elim (cases_eq l k) [ inl q ↦ inl (ap Initial q) | inr n ↦ inr (λ z. n cc) ]
-same_event (Initial l) (At t i) = inr (λ z. cc)
-same_event (At t i) (Initial l) = inr (λ z. cc)
 same_event (At t i) (At u j) = elim (both (cases_eq t u) (cases_eq i j)) [ inl q ↦ inl (ap₂ At q.0 q.1) | inr n ↦ inr (λ z. n ((let a : t ≡ u = cc in a), (let b : i ≡ j = cc in b))) ]
+same_event d e = inr (λ z. cc)
 
 precedes : (d e : Event) → Dec₁ (Precedes d e)
-precedes (Initial l) e = inr (λ z. z)
-precedes (At t i) (Initial l) = inr (λ z. z)
 precedes (At t i) (At u j) = both (cases_eq t u) (less i j)
+precedes d e = inr (λ z. z)
 
 pub same_thread : (d e : Event) → Dec₁ (SameThread d e)
-same_thread (Initial l) e = inr (λ z. z)
-same_thread (At t i) (Initial l) = inr (λ z. z)
 same_thread (At t i) (At u j) = cases_eq t u
+same_thread d e = inr (λ z. z)
 
 module _ (p : Listing) (mode : Machine) (c : Candidate) where
   kept : (x y : Access) → Dec₁ (KeepsOrder x y)

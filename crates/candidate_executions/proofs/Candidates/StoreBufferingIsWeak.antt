@@ -60,10 +60,8 @@ writes (suc (suc t)) x a = absurd cc
 
 reads : (t j : ℕ) (x : Access) → access store_buffering (StoreBufferMachine no_gaps) both_zero (At t (suc j)) ≡ Some x → (t < 2) × (j ≡ 0) × (x ≡ read_of t)
 reads zero zero x a = (lit< tt, refl, sym (same_Some (read_of 0) x a))
-reads zero (suc j) x a = absurd cc
 reads (suc zero) zero x a = (lit< tt, refl, sym (same_Some (read_of 1) x a))
-reads (suc zero) (suc j) x a = absurd cc
-reads (suc (suc t)) j x a = absurd cc
+reads t j x a = absurd cc
 
 initials : (l : ℕ) (x : Access) → access store_buffering (StoreBufferMachine no_gaps) both_zero (Initial l) ≡ Some x → x.read ≡ None
 initials l x a = sym (ap (λ (z : Access). z.read) (same_Some _ x a))
@@ -181,10 +179,7 @@ outcome : HasOutcome store_buffering (StoreBufferMachine no_gaps) both_zero zero
 outcome = record { registers = refl; long = refl; memory = ends }
   where
     last : (l : ℕ) (d : Event) (w : ℕ) → Writes (access store_buffering (StoreBufferMachine no_gaps) both_zero) d l w → both_zero.rank d ≤ both_zero.rank (At l 0)
-    last l d w a = elim (which_write d l w a) [
-      | inl f ↦ (let z = ap both_zero.rank f in omega arith)
-      | inr f ↦ (let z = ap both_zero.rank f.0 in omega arith)
-    ]
+    last l d w a = elim (which_write d l w a) [ inl f ↦ (let z = ap both_zero.rank f in omega arith) | inr f ↦ (let z = ap both_zero.rank f.0 in omega arith) ]
 
     ends : (l : ℕ) → l < 2 → EndsWith store_buffering (StoreBufferMachine no_gaps) both_zero l (slice_index zeros_read.memory l)
     ends zero h = (At 0 0, (_, refl, refl, refl), last 0)

@@ -65,14 +65,13 @@ module _ (init : ℕ → ℕ) (h : History) (good : Good init h) (at : Event →
   global_forward given d e x y a b (inl p) = go d e a b p.0 p.1
     where
       go : (d e : Event) → at d ≡ Some x → at e ≡ Some y → Precedes d e → KeepsOrder x y → moment_of h d < moment_of h e
-      go (Initial l) e a b p k = absurd p
-      go (At t i) (Initial l) a b p k = absurd p
       go (At t i) (At u j) a b p k =
           let (f, fh, fx) = at_thread t i x a in
           let (g, gh, gy) = at_thread u j y b in
           let fh' : Holds h u i f = subst (λ z. Holds h z i f) p.0 fh in
           let k' : KeepsOrder f.access g.access = rw (fx, gy) at k in
           rw (moment_at t i f fh, moment_at u j g gh) (good.kept u i j f g fh' gh p.1 k')
+      go d e a b p k = absurd p
   global_forward given d e x y a b (inr (inl r)) = go d e a b r.0.0 r.0.1 r.1
     where
       go : (d e : Event) → at d ≡ Some x → at e ≡ Some y → IsSome y.read → source_of h e ≡ d → (SameThread d e → ⊥) → moment_of h d < moment_of h e
@@ -87,10 +86,7 @@ module _ (init : ℕ → ℕ) (h : History) (good : Good init h) (at : Event →
           let goal : moment_of h d < g.moment = elim (good.source t i g v.0 gh v.1) [
             | inl f ↦ (let e : d ≡ Initial g.access.location = sym s' ∙ f.is_source in rw e (omega arith))
             | inr w ↦ (let e : d ≡ At w.thread w.index = sym s' ∙ w.is_source in
-                elim w.visible [
-                  | inl q ↦ rw (e, moment_at w.thread w.index w.write w.holds) (omega arith)
-                  | inr q ↦ absurd (n (rw e q.0))
-                ])
+                elim w.visible [ inl q ↦ rw (e, moment_at w.thread w.index w.write w.holds) (omega arith) | inr q ↦ absurd (n (rw e q.0)) ])
           ] in
           rw (moment_at t i g gh) goal
   global_forward given d e x y a b (inr (inr m)) = memory_forward given d e x y a b m
@@ -189,14 +185,13 @@ module _ (init : ℕ → ℕ) (h : History) (good : Good init h) (at : Event →
   location_forward given d e x y a b (inl p) = go d e a b p.0 p.1
     where
       go : (d e : Event) → at d ≡ Some x → at e ≡ Some y → Precedes d e → x.location ≡ y.location → Less (key_of h d) (key_of h e)
-      go (Initial l) e a b p q = absurd p
-      go (At t i) (Initial l) a b p q = absurd p
       go (At t i) (At u j) a b p q =
           let (f, fh, fx) = at_thread t i x a in
           let (g, gh, gy) = at_thread u j y b in
           let fh' : Holds h u i f = subst (λ z. Holds h z i f) p.0 fh in
           let q' : f.access.location ≡ g.access.location = sym (ap (λ (z : Access). z.location) fx) ∙ (q ∙ ap (λ (z : Access). z.location) gy) in
           subst (λ z. Less (key_of h (At z i)) (key_of h (At u j))) (sym p.0) (place_forward u i j f g fh' gh p.1 q')
+      go d e a b p q = absurd p
   location_forward given d e x y a b (inr (inl r)) = go d e b r.0 r.1
     where
       go : (d e : Event) → at e ≡ Some y → IsSome y.read → source_of h e ≡ d → Less (key_of h d) (key_of h e)

@@ -57,10 +57,7 @@ module _ (location_of : ℕ → ℕ) (event_of : ℕ → Event) (l : ℕ) where
           alone none (suc r) m a b = absurd (none r m a b)
       go false q ih =
           let same : found_write l (map tagged (j ∷ js)) d ≡ found_write l (map tagged js) d = ap (λ b. found_write l (map tagged js) (if b then event_of j else d)) q in
-          elim (ih d) [
-            | inl none ↦ inl ((λ r m a b. not_here none.0 r m a b), same ∙ none.1)
-            | inr f ↦ inr (later d same f)
-          ]
+          elim (ih d) [ inl none ↦ inl ((λ r m a b. not_here none.0 r m a b), same ∙ none.1) | inr f ↦ inr (later d same f) ]
         where
           not_here : ((q j : ℕ) → slice_get js q ≡ Some j → location_of j ≡ l → ⊥) → (r m : ℕ) → slice_get (j ∷ js) r ≡ Some m → location_of m ≡ l → ⊥
           not_here none zero m a b = let same : j ≡ m = cc in eqb-false (location_of j) l q (ap location_of same ∙ b)
@@ -76,16 +73,13 @@ head_tag w ws x es tags = let (e, a) = tags 0 w refl in ap (λ (z : ℕ × Event
 pub none_found : (l : ℕ) (ws : List Pending) (es : List (ℕ × Event)) → length es ≡ length ws → AreTagged ws es → ((r : ℕ) (w : Pending) → slice_get ws r ≡ Some w → w.location ≡ l → ⊥) →
     (d : Event) → found_write l es d ≡ d
 none_found l [] [] long tags none d = refl
-none_found l [] (x ∷ es) long tags none d = absurd (omega arith)
-none_found l (w ∷ ws) [] long tags none d = absurd (omega arith)
 none_found l (w ∷ ws) (x ∷ es) long tags none d =
     let other : (x.0 == l) ≡ false = ne_eqb x.0 l (λ q. none 0 w refl (sym (head_tag w ws x es tags) ∙ q)) in
     ap (λ b. found_write l es (if b then x.1 else d)) other ∙ none_found l ws es (omega arith) (λ q v a. tags (suc q) v a) (λ r v a. none (suc r) v a) d
+none_found l ws es long tags none d = absurd (omega arith)
 
 pub newest_found : (l : ℕ) (ws : List Pending) (es : List (ℕ × Event)) (place : ℕ) (w : Pending) (e : Event) → length es ≡ length ws → AreTagged ws es → slice_get ws place ≡ Some w → w.location ≡ l →
     ((r : ℕ) (v : Pending) → slice_get ws r ≡ Some v → v.location ≡ l → r ≤ place) → slice_get es place ≡ Some (w.location, e) → (d : Event) → found_write l es d ≡ e
-newest_found l [] es place w e long tags at there last tag d = absurd cc
-newest_found l (v ∷ ws) [] place w e long tags at there last tag d = absurd cc
 newest_found l (v ∷ ws) (x ∷ es) zero w e long tags at there last tag d =
     let here : x ≡ (w.location, e) = same_Some x (w.location, e) tag in
     let same : (x.0 == l) ≡ true = eq-eqb x.0 l (ap (λ (z : ℕ × Event). z.0) here ∙ there) in
@@ -93,3 +87,4 @@ newest_found l (v ∷ ws) (x ∷ es) zero w e long tags at there last tag d =
     ∙ (none_found l ws es (omega arith) (λ q u a. tags (suc q) u a) (λ r u a b. let z = last (suc r) u a b in omega arith) x.1 ∙ ap (λ (z : ℕ × Event). z.1) here)
 newest_found l (v ∷ ws) (x ∷ es) (suc place) w e long tags at there last tag d =
     newest_found l ws es place w e (omega arith) (λ q u a. tags (suc q) u a) at there (λ r u a b. let z = last (suc r) u a b in omega arith) tag (if x.0 == l then x.1 else d)
+newest_found l ws es place w e long tags at there last tag d = absurd cc

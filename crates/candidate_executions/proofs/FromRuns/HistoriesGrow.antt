@@ -23,10 +23,7 @@ pub held_cases : (h : History) (t : ℕ) (e : Entry) (u j : ℕ) (d : Entry) →
 held_cases h t e u j d a = elim (cases_eq u t) [
   | inl q ↦ (let b : Holds (with_entry h t e) t j d = subst (λ z. Holds (with_entry h t e) z j d) q a in
       let c : slice_get (h t ++ e ∷ []) j ≡ Some d = rw (put_same h t (h t ++ e ∷ [])) at b in
-      elim (get_cases (h t) e j d c) [
-        | inl o ↦ inl (subst (λ z. Holds h z j d) (sym q) o)
-        | inr n ↦ inr (q, n.0, n.1)
-      ])
+      elim (get_cases (h t) e j d c) [ inl o ↦ inl (subst (λ z. Holds h z j d) (sym q) o) | inr n ↦ inr (q, n.0, n.1) ])
   | inr q ↦ inl (rw (put_other h t (h t ++ e ∷ []) u q) at a)
 ]
 
@@ -86,10 +83,7 @@ module _ (init : ℕ → ℕ) (h : History) (t : ℕ) (e : Entry) (good : Good i
     source = λ u j d v a r. moved u j d v (each (λ u j d. d.access.read ≡ Some v → First init d v ⊎ Source h u j d v)
         (λ u j d b. good.source u j d v b) (fits.source v) u j d a r);
     order = λ u j i d f a b n. elim (held_cases h t e u j d a) [
-      | inl x ↦ elim (held_cases h t e u i f b) [
-        | inl y ↦ good.order u j i d f x y n
-        | inr y ↦ rw y.2 (fits.later u j d x)
-      ]
+      | inl x ↦ elim (held_cases h t e u i f b) [ inl y ↦ good.order u j i d f x y n | inr y ↦ rw y.2 (fits.later u j d x) ]
       | inr x ↦ elim (held_cases h t e u i f b) [
         | inl y ↦ absurd (let z = within u i f y x.0 in let z1 = x.1 in omega arith)
         | inr y ↦ absurd (let z1 = x.1 in let z2 = y.1 in omega arith)
@@ -112,13 +106,7 @@ module _ (init : ℕ → ℕ) (h : History) (t : ℕ) (e : Entry) (good : Good i
         (each (λ u j d. Latest u j d t (length (h t)) e) (λ u j d x. fits.latest u j d x)
         (λ r w l z. absurd (let k = fits.delay in elim z [ inl q ↦ omega arith | inr q ↦ omega arith ])) u j d a) v i f b;
     apart = λ u j v i d f a b q. elim (held_cases h t e u j d a) [
-      | inl x ↦ elim (held_cases h t e v i f b) [
-        | inl y ↦ good.apart u j v i d f x y q
-        | inr y ↦ absurd (fits.apart u j d x (rw y.2 at q))
-      ]
-      | inr x ↦ elim (held_cases h t e v i f b) [
-        | inl y ↦ absurd (fits.apart v i f y (sym (rw x.2 at q)))
-        | inr y ↦ (x.0 ∙ sym y.0, x.1 ∙ sym y.1)
-      ]
+      | inl x ↦ elim (held_cases h t e v i f b) [ inl y ↦ good.apart u j v i d f x y q | inr y ↦ absurd (fits.apart u j d x (rw y.2 at q)) ]
+      | inr x ↦ elim (held_cases h t e v i f b) [ inl y ↦ absurd (fits.apart v i f y (sym (rw x.2 at q))) | inr y ↦ (x.0 ∙ sym y.0, x.1 ∙ sym y.1) ]
     ];
   }

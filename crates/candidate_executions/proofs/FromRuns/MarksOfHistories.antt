@@ -26,9 +26,8 @@ Waits waiting x = (t : ℕ) × (q : ℕ) × (l : ℕ) × (slice_get (waiting t) 
 
 -- writes arrive as their moments come
 abbrev pub Sooner : (Event → ℕ) → Mark → Mark → Type 0
-Sooner moment (Takes e v d) m = Unit {0}
-Sooner moment (Arrives d) (Takes e v f) = Unit {0}
 Sooner moment (Arrives d) (Arrives e) = moment d < moment e
+Sooner moment h g = Unit {0}
 
 -- what is shown from moment n on
 pub record Tells (past future : History) (waiting : ℕ → List (ℕ × Event)) (n : ℕ) (ms : List Mark) : Type 0 where
@@ -176,10 +175,7 @@ module _ (past : History) (t : ℕ) (e : Entry) where
       before : (x : Event) → Waits (put waiting t (waiting t ++ (l, next) ∷ [])) x → Waits waiting x ⊎ ((x ≡ next) × IsSome e.access.written)
       before x (u, q, m, a) = elim (cases_eq u t) [
         | inl s ↦ (let b : slice_get (waiting t ++ (l, next) ∷ []) q ≡ Some (m, x) = rw (put_same waiting t (waiting t ++ (l, next) ∷ [])) at (subst (λ z. slice_get (put waiting t (waiting t ++ (l, next) ∷ []) z) q ≡ Some (m, x)) s a) in
-            elim (get_cases (waiting t) (l, next) q (m, x) b) [
-              | inl k ↦ inl (t, q, m, k)
-              | inr k ↦ inr (ap (λ (z : ℕ × Event). z.1) k.1, w)
-            ])
+            elim (get_cases (waiting t) (l, next) q (m, x) b) [ inl k ↦ inl (t, q, m, k) | inr k ↦ inr (ap (λ (z : ℕ × Event). z.1) k.1, w) ])
         | inr d ↦ inl (u, q, m, rw (put_other waiting t (waiting t ++ (l, next) ∷ []) u d) at a)
       ]
 
@@ -276,10 +272,7 @@ module _ (past future : History) (t : ℕ) (e : Entry) where
     arrives = λ x. (
       λ h. elim (Contains-append_cases first ms (Arrives x) h) [
         | inl i ↦ of_here x (a.arrives x (inl i))
-        | inr i ↦ elim ((s.arrives x).0 i) [
-          | inl w ↦ of_here x (a.arrives x (inr w))
-          | inr k ↦ inr (k.0, new_later x k.0 k.1, k.2)
-        ]
+        | inr i ↦ elim ((s.arrives x).0 i) [ inl w ↦ of_here x (a.arrives x (inr w)) | inr k ↦ inr (k.0, new_later x k.0 k.1, k.2) ]
       ],
       λ h. elim h [
         | inl w ↦ of_now x (a.arrives_all x (inl w))
@@ -312,6 +305,5 @@ module _ (past future : History) (t : ℕ) (e : Entry) where
       late_after x i = subst (λ h. suc n ≤ moment_of h x) same_joined (s.late x i)
 
       sooner : (x y : Mark) → Contains first x → Contains ms y → Sooner (moment_of (joined past longer)) x y
-      sooner (Takes x v d) y h i = tt
-      sooner (Arrives x) (Takes y v d) h i = tt
       sooner (Arrives x) (Arrives y) h i = let a = at_now x h in let b = late_after y i in omega arith
+      sooner x y h i = tt

@@ -1,7 +1,7 @@
 -- Which gaps are fenced changes the sections of accesses and nothing else of a trace. So where sections don't count, a candidate of one mode is one of another.
-use Rattle.std.proofs.Common.{◌≡◌, ℕ, zero, suc, Bool, List, [], ◌∷◌, Option, Some, None, IsSome, slice_get, option_map, map, refl, sym, ap, ap₂, ◌∙◌, subst, length}
-use Rattle.candidate_executions.proofs.Vocabulary.{fun_ext, range_with_len, same_Some, slice_get-map, Listing, Local, Action, Stop, Go, Wait, Read, Write, Swap, Outcome, loaded, action, start_of}
-use Rattle.candidate_executions.proofs.Vocabulary.{code_of, Machine, Access, Event, Initial, At, Candidate, trace_of, access, Writes, IsCandidate, HasOutcome, Relates, Edge, IsAcyclic, Mark, Takes}
+use Rattle.std.proofs.Common.{◌≡◌, ℕ, zero, suc, Bool, List, ◌∷◌, Option, Some, None, IsSome, slice_get, option_map, map, refl, sym, ap, ap₂, ◌∙◌, subst, length}
+use Rattle.candidate_executions.proofs.Vocabulary.{fun_ext, range_with_len, same_Some, slice_get-map, Listing, Local, Action, Go, Wait, Read, Write, Swap, Outcome, loaded, action, start_of}
+use Rattle.candidate_executions.proofs.Vocabulary.{code_of, Machine, Access, Event, Initial, At, Candidate, trace_of, access, Writes, IsCandidate, HasOutcome, Relates, Edge, IsAcyclic, Mark}
 use Rattle.candidate_executions.proofs.Vocabulary.{Arrives, ReadsValue, IsStored, ArriveInOrder, IsValueOf}
 use Rattle.candidate_executions.specs.declared.event.Kind.TheVariants as union
 use Rattle.candidate_executions.specs.Traces.{Trace, load_of, store_of, exchange_of, with_access, entered, traced, trace, fenced_gaps}
@@ -27,14 +27,12 @@ module _ (does : Local → Action) (gap other : ℕ → Bool) where
     where
       by_action : (n m : ℕ) (a : Action) (given : List ℕ) → ((n m : ℕ) (s : Local) (given : List ℕ) → Alike (trace does gap k n s given) (trace does other k m s given)) →
           Alike (traced (trace does gap k) n s a given) (traced (trace does other k) m s a given)
-      by_action n m Stop given rest = record { accesses = refl; last = refl; unused = refl }
       by_action n m (Go next) given rest = rest n m next given
       by_action n m (Wait next) given rest = rest (suc n) (suc m) next given
       by_action n m (Write l v next) given rest = alike_after (store_of n l v) (store_of m l v) _ _ refl (rest n m next given)
-      by_action n m (Read l to next) [] rest = record { accesses = refl; last = refl; unused = refl }
       by_action n m (Read l to next) (v ∷ given) rest = alike_after (load_of n l v) (load_of m l v) _ _ refl (rest n m (loaded to v next) given)
-      by_action n m (Swap l w to next) [] rest = record { accesses = refl; last = refl; unused = refl }
       by_action n m (Swap l w to next) (v ∷ given) rest = alike_after (exchange_of n l v w) (exchange_of m l v w) _ _ refl (rest (suc n) (suc m) (loaded to v next) given)
+      by_action n m a given rest = record { accesses = refl; last = refl; unused = refl }
 
 module _ (p : Listing) (c : Candidate) where
   threads_alike : (mode other : Machine) (t : ℕ) → Alike (trace_of p mode c t) (trace_of p other c t)
@@ -74,9 +72,8 @@ module _ (p : Listing) (c : Candidate) where
       (y, b, subst (λ (z : Access). IsSome z.written) s w)
 
   pub in_order_too : (mode other : Machine) (m y : Mark) → ArriveInOrder (access p mode c) c m y → ArriveInOrder (access p other c) c m y
-  in_order_too mode other (Takes e v d) y h = tt
-  in_order_too mode other (Arrives d) (Takes e v f) h = tt
   in_order_too mode other (Arrives d) (Arrives e) h = λ l v w a b. h l v w (writes other mode d l v a) (writes other mode e l w b)
+  in_order_too mode other m y h = tt
 
   pub candidate_too : (mode other : Machine) → IsCandidate p mode c → IsCandidate p other c
   candidate_too mode other is = record {

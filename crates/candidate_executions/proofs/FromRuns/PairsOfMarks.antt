@@ -9,11 +9,9 @@ PairsOf R [] = Unit {0}
 PairsOf R (x ∷ xs) = ((y : Mark) → Contains xs y → R x y) × PairsOf R xs
 
 pub pairs_all : (R : Mark → Mark → Type 0) (xs : List Mark) → PairsOf R xs → AllPairs R xs
-pairs_all R [] h i j d a b = absurd (omega arith)
-pairs_all R (x ∷ xs) h zero zero d a b = absurd (omega arith)
 pairs_all R (x ∷ xs) h zero (suc j) d a b = h.0 (get_or xs j d) (Contains-get_or xs j d (omega arith))
-pairs_all R (x ∷ xs) h (suc i) zero d a b = absurd (omega arith)
 pairs_all R (x ∷ xs) h (suc i) (suc j) d a b = pairs_all R xs h.1 i j d (omega arith) (omega arith)
+pairs_all R xs h g k d a b = absurd (omega arith)
 
 pub none_in : (m : Mark) → Contains [] m → ⊥
 none_in m h = let n = h.1 in omega arith

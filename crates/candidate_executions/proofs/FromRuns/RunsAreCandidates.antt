@@ -225,9 +225,8 @@ module _ (p : Listing) (gaps : Gaps) (forward : JumpForward p.threads) (labels :
   lower (m ∷ ms) s = ((λ y i. ordered m y (s.0 y i)), lower ms s.1)
     where
       ordered : (m y : Mark) → Sooner (moment_of h) m y → ArriveInOrder (access p mode c) c m y
-      ordered (Takes e v d) y k = tt
-      ordered (Arrives d) (Takes e v f) k = tt
       ordered (Arrives d) (Arrives e) k = λ l v w a b. k
+      ordered m y k = tt
 
   is_candidate_of : IsCandidateOf p mode labels c
   is_candidate_of = record {

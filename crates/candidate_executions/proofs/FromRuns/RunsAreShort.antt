@@ -1,5 +1,5 @@
 -- Jumps lead forward, so a run has at most two labels for each instruction: one that executes it, and a flush.
-use Rattle.std.proofs.Common.{◌≡◌, ℕ, suc, zero, ◌+◌, ◌*◌, ◌-◌, ◌<◌, ◌≤◌, Bool, true, false, List, [], ◌∷◌, ◌++◌, Option, Some, None, option_and_then, refl, sym, ap, ◌∙◌, subst, inl, inr, arith, length}
+use Rattle.std.proofs.Common.{◌≡◌, ℕ, suc, zero, ◌+◌, ◌*◌, ◌-◌, ◌<◌, ◌≤◌, Bool, true, List, [], ◌∷◌, ◌++◌, Option, Some, None, option_and_then, refl, sym, ap, ◌∙◌, subst, inl, inr, arith, length}
 use Rattle.candidate_executions.proofs.Vocabulary.{cases_eq, cases_lt, same_Some, Listing, Local, Action, Stop, Go, Wait, Read, Write, Swap, loaded, action, code_of, JumpForward, Machine}
 use Rattle.candidate_executions.proofs.Vocabulary.{SequentialMachine, StoreBufferMachine, State, put, when_empty, past_gap, buffered, flushed, direct, step, run, start, Label, Exec, Flush, Pending}
 use Rattle.candidate_executions.specs.Laws.{EveryRunIsShort}
@@ -46,10 +46,7 @@ module _ (p : Listing) (forward : JumpForward p.threads) where
   Less s s' = (total (room s') (length p.threads) < total (room s) (length p.threads)) × Past s'
 
   there : (t i : ℕ) → i < len t → t < length p.threads
-  there t i h = elim (cases_lt t (length p.threads)) [
-    | inl l ↦ l
-    | inr g ↦ absurd (let none = ap length (no_code p t g) in omega arith)
-  ]
+  there t i h = elim (cases_lt t (length p.threads)) [ inl l ↦ l | inr g ↦ absurd (let none = ap length (no_code p t g) in omega arith) ]
 
   moved : (s : State) (t : ℕ) (next : Local) (buffers : ℕ → List Pending) (memory : ℕ → ℕ) → Past s → Further (len t) (s.locals t).place next →
       ((u : ℕ) → (u ≡ t → ⊥) → buffers u ≡ s.buffers u) → length (buffers t) ≤ suc (length (s.buffers t)) →
@@ -94,9 +91,8 @@ module _ (p : Listing) (forward : JumpForward p.threads) where
   buffered_less s s' t (Swap l v to next) past d h = subst (Less s) (empty_is (s.buffers t) _ s' h) (moved s t (loaded to (s.memory l) next) s.buffers (put s.memory l v) past d (λ u n. refl) (omega arith))
 
   after_gap : (b : Bool) (ws : List Pending) (s s' : State) (f : State → Option State) → option_and_then f (past_gap b ws s) ≡ Some s' → f s ≡ Some s'
-  after_gap false ws s s' f h = h
-  after_gap true [] s s' f h = h
   after_gap true (w ∷ ws) s s' f h = absurd cc
+  after_gap b ws s s' f h = h
 
   flush_less : (s s' : State) (t : ℕ) (ws : List Pending) → Past s → s.buffers t ≡ ws → flushed s t ws ≡ Some s' → Less s s'
   flush_less s s' t [] past e h = absurd cc

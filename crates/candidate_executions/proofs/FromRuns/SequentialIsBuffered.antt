@@ -1,7 +1,7 @@
 -- A sequential run is a run of the store buffer machine, each store flushed at once, whatever the gaps.
-use Rattle.std.proofs.Common.{◌≡◌, ℕ, suc, Bool, true, false, List, [], ◌∷◌, ◌++◌, Option, Some, None, option_and_then, refl, sym, ap, ◌∙◌, subst, inl, inr}
-use Rattle.candidate_executions.proofs.Vocabulary.{fun_ext, cases_eq, same_Some, Listing, Local, Action, Stop, Go, Wait, Read, Write, Swap, action, Gaps, put, SequentialMachine, StoreBufferMachine}
-use Rattle.candidate_executions.proofs.Vocabulary.{State, newest, found, past_gap, buffered, flushed, direct, run, Label, Exec, Flush, Pending, Event, At, Origins, Mark, Takes, Arrives, found_write}
+use Rattle.std.proofs.Common.{◌≡◌, ℕ, suc, List, [], ◌∷◌, ◌++◌, Option, Some, None, option_and_then, refl, sym, ap, ◌∙◌}
+use Rattle.candidate_executions.proofs.Vocabulary.{Listing, Action, Stop, Go, Wait, Read, Write, Swap, action, Gaps, put, SequentialMachine, StoreBufferMachine}
+use Rattle.candidate_executions.proofs.Vocabulary.{State, newest, found, buffered, direct, run, Label, Exec, Flush, Pending, Event, At, Origins, Mark, Takes, Arrives, found_write}
 use Rattle.candidate_executions.proofs.Vocabulary.{with_made, with_waiting, with_memory, buffered_origins, buffered_marks, flushed_origins, flushed_marks, direct_origins, direct_marks, marks}
 use Rattle.fence_laws.proofs.ChangedAt.{put_same, put_back}
 use Rattle.fence_laws.proofs.SequentialIsBuffered.{exec_step, stored, stored_flushed, same_buffers}
@@ -49,11 +49,7 @@ module _ (p : Listing) (gaps : Gaps) where
 
   same_waiting : (o : Origins) (t : ℕ) (a : Action) → (direct_origins o t a).waiting ≡ o.waiting
   same_waiting o t Stop = refl
-  same_waiting o t (Go next) = refl
-  same_waiting o t (Wait next) = refl
-  same_waiting o t (Read l to next) = refl
-  same_waiting o t (Write l v next) = refl
-  same_waiting o t (Swap l v to next) = refl
+  same_waiting o t a = refl
 
   -- labels of the same run, which shows the same
   abbrev Embedded : State → Origins → List Label → State → Type 0

@@ -7,11 +7,9 @@ use Rattle.candidate_executions.proofs.Orders.Lists.{put_same, put_other, get_ca
 use Rattle.candidate_executions.proofs.FromRuns.NewestStore.{newest_some}
 
 set_cases : (xs : List ℕ) (k v i : ℕ) → (get_or (set xs k v) i 0 ≡ v) ⊎ (get_or (set xs k v) i 0 ≡ get_or xs i 0)
-set_cases [] k v i = inr refl
 set_cases (x ∷ xs) zero v zero = inl refl
-set_cases (x ∷ xs) zero v (suc i) = inr refl
-set_cases (x ∷ xs) (suc k) v zero = inr refl
 set_cases (x ∷ xs) (suc k) v (suc i) = set_cases xs k v i
+set_cases xs k v i = inr refl
 
 module _ (p : Listing) where
   abbrev pub Knows : Local → Type 0

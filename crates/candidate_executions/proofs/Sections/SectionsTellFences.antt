@@ -2,7 +2,7 @@
 use Rattle.std.proofs.Common.{◌≡◌, ◌≢◌, ◌⊎◌, ◌↔◌, ℕ, zero, suc, ◌+◌, ◌<◌, Bool, true, false, cond, List, [], ◌∷◌, Some, None, slice_get, take, refl, sym, ap, ◌∙◌, subst, inl, inr, arith}
 use Rattle.std.specs.List.{count_by}
 use Rattle.std.proofs.lemmas.List.Sums.{sum_by-cons}
-use Rattle.candidate_executions.proofs.Vocabulary.{same_Some, Local, Action, Stop, Go, Wait, Read, Write, Swap, loaded, Access, trace, traced, entered}
+use Rattle.candidate_executions.proofs.Vocabulary.{same_Some, Local, Action, Go, Wait, Read, Write, Swap, loaded, Access, trace, traced, entered}
 use Rattle.candidate_executions.specs.Paths.{executed, path, is_access, IsFenceOrExchange, IsStepOf, LiesBetween}
 use Rattle.candidate_executions.proofs.Sections.SectionsOfSteps.{left, section_at, parted_or_same, parted_more}
 
@@ -74,17 +74,15 @@ module _ (does : Local → Action) (gap : ℕ → Bool) where
       go : (b : Action) → does s ≡ b → (given : List ℕ) (i : ℕ) → slice_get (traced (trace does gap k) (entered (gap s.place) n) s b given).accesses i ≡ Some x →
           ((n : ℕ) (s : Local) (given : List ℕ) (i : ℕ) (x : Access) → slice_get (trace does gap k n s given).accesses i ≡ Some x → (m : ℕ) × IsStepOf does gap (path does k s given) i m) →
           (m : ℕ) × IsStepOf does gap (executed (path does k) s b given) i m
-      go Stop e given i a ih = absurd cc
       go (Go next) e given i a ih = past (Go next) _ i e refl (ih _ next given i x a)
       go (Wait next) e given i a ih = past (Wait next) _ i e refl (ih _ next given i x a)
       go (Write l v next) e given zero a ih = (0, (s, refl, ap is_access e, refl))
       go (Write l v next) e given (suc i) a ih = on (Write l v next) _ i e refl (ih _ next given i x a)
-      go (Read l to next) e [] i a ih = absurd cc
       go (Read l to next) e (v ∷ given) zero a ih = (0, (s, refl, ap is_access e, refl))
       go (Read l to next) e (v ∷ given) (suc i) a ih = on (Read l to next) _ i e refl (ih _ (loaded to v next) given i x a)
-      go (Swap l w to next) e [] i a ih = absurd cc
       go (Swap l w to next) e (v ∷ given) zero a ih = (0, (s, refl, ap is_access e, refl))
       go (Swap l w to next) e (v ∷ given) (suc i) a ih = on (Swap l w to next) _ i e refl (ih _ (loaded to v next) given i x a)
+      go b e given i a ih = absurd cc
 
   -- the step of an access that doesn't read is no fence and no exchange
   abbrev IsPlain : List Local → ℕ → Access → Type 0
@@ -124,7 +122,6 @@ module _ (does : Local → Action) (gap : ℕ → Bool) where
           slice_get (traced (trace does gap k) (entered (gap s.place) n) s b given).accesses i ≡ Some x →
           ((n : ℕ) (s : Local) (given : List ℕ) (i m : ℕ) (x : Access) → IsStepOf does gap (path does k s given) i m →
           slice_get (trace does gap k n s given).accesses i ≡ Some x → IsSectionOf (path does k s given) n m x) → IsSectionOf (executed (path does k) s b given) n m x
-      go Stop e given i m st a ih = absurd cc
       go (Go next) e given i zero st a ih = absurd (no_first (Go next) (path does k next given) i e refl st)
       go (Go next) e given i (suc m) st a ih = let r = ih (entered (gap s.place) n) next given i m x (quiet (Go next) (path does k next given) i m e refl st) a in (r.0 ∙ onward (Go next) (path does k next given) m e, r.1)
       go (Wait next) e given i zero st a ih = absurd (no_first (Wait next) (path does k next given) i e refl st)
@@ -134,16 +131,15 @@ module _ (does : Local → Action) (gap : ℕ → Bool) where
       go (Write l v next) e given (suc i) zero st a ih = absurd (no_more (Write l v next) (path does k next given) i st)
       go (Write l v next) e given zero (suc m) st a ih = absurd (never (Write l v next) (path does k next given) m e refl st)
       go (Write l v next) e given (suc i) (suc m) st a ih = let r = ih (entered (gap s.place) n) next given i m x (back (Write l v next) (path does k next given) i m e refl st) a in (r.0 ∙ onward (Write l v next) (path does k next given) m e, r.1)
-      go (Read l to next) e [] i m st a ih = absurd cc
       go (Read l to next) e (v ∷ given) zero zero st a ih = (sym (ap (λ (z : Access). z.section) (same_Some _ x a)), reads _ v (s ∷ path does k (loaded to v next) given) (same_Some _ x a) refl)
       go (Read l to next) e (v ∷ given) (suc i) zero st a ih = absurd (no_more (Read l to next) (path does k (loaded to v next) given) i st)
       go (Read l to next) e (v ∷ given) zero (suc m) st a ih = absurd (never (Read l to next) (path does k (loaded to v next) given) m e refl st)
       go (Read l to next) e (v ∷ given) (suc i) (suc m) st a ih = let r = ih (entered (gap s.place) n) (loaded to v next) given i m x (back (Read l to next) (path does k (loaded to v next) given) i m e refl st) a in (r.0 ∙ onward (Read l to next) (path does k (loaded to v next) given) m e, r.1)
-      go (Swap l w to next) e [] i m st a ih = absurd cc
       go (Swap l w to next) e (v ∷ given) zero zero st a ih = (sym (ap (λ (z : Access). z.section) (same_Some _ x a)), reads _ v (s ∷ path does k (loaded to v next) given) (same_Some _ x a) refl)
       go (Swap l w to next) e (v ∷ given) (suc i) zero st a ih = absurd (no_more (Swap l w to next) (path does k (loaded to v next) given) i st)
       go (Swap l w to next) e (v ∷ given) zero (suc m) st a ih = absurd (never (Swap l w to next) (path does k (loaded to v next) given) m e refl st)
       go (Swap l w to next) e (v ∷ given) (suc i) (suc m) st a ih = let r = ih (suc (entered (gap s.place) n)) (loaded to v next) given i m x (back (Swap l w to next) (path does k (loaded to v next) given) i m e refl st) a in (r.0 ∙ onward (Swap l w to next) (path does k (loaded to v next) given) m e, r.1)
+      go b e given i m st a ih = absurd cc
 
   -- of a plain store and a later access
   pub sections_differ : (k n : ℕ) (s : Local) (given : List ℕ) (i j : ℕ) (x y : Access) → slice_get (trace does gap k n s given).accesses i ≡ Some x →

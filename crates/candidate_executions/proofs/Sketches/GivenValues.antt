@@ -1,5 +1,5 @@
 -- The values given to the threads: none at first, and one more for one thread.
-use Rattle.std.proofs.Common.{◌≡◌, ◌≢◌, ℕ, zero, suc, ◌<◌, List, [], ◌∷◌, ◌++◌, Some, None, length, map, refl, sym, ap, ◌∙◌, inl, inr, append-nil}
+use Rattle.std.proofs.Common.{◌≡◌, ◌≢◌, ℕ, suc, ◌<◌, List, [], ◌∷◌, ◌++◌, Some, None, length, map, refl, sym, ap, ◌∙◌, inl, inr, append-nil}
 use Rattle.std.specs.Prelude.{slice_get, unwrap_or}
 use Rattle.candidate_executions.proofs.Vocabulary.{cases_eq, cases_lt, Thread, Listing, Machine, trace_by}
 use Rattle.tso_machine.proofs.Runs.{no_action}
@@ -11,9 +11,8 @@ pub none_given : (p : Listing) (t : ℕ) → given_to (empty_sketch p) t ≡ []
 none_given p t = go p.threads t
   where
     go : (threads : List Thread) (t : ℕ) → unwrap_or {T = List ℕ} (slice_get (map (λ thread. []) threads) t) [] ≡ []
-    go [] t = refl
-    go (x ∷ xs) zero = refl
     go (x ∷ xs) (suc t) = go xs t
+    go threads t = refl
 
 pub given_same : (k : Sketch) (t v : ℕ) → t < length k.given → given_to (with_value k t v) t ≡ given_to k t ++ v ∷ []
 given_same k t v h = ap (λ o. unwrap_or o []) (get_set_same k.given t (given_to k t ++ v ∷ []) h)

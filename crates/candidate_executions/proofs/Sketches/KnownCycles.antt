@@ -18,11 +18,9 @@ some_edge R (e ∷ es) h = (e, first_edge R es e e h)
 -- a consistent candidate has no cycle of a union of its mode
 no_cycle : (p : Listing) (mode : Machine) (c : Candidate) (kind : Kind) → IsOfMode mode kind → IsConsistent p mode c → IsAcyclic (Edge p mode c kind)
 no_cycle p SequentialMachine c union.Sequential of_mode consistent = consistent
-no_cycle p SequentialMachine c union.Location of_mode consistent = absurd of_mode
-no_cycle p SequentialMachine c union.Global of_mode consistent = absurd of_mode
-no_cycle p (StoreBufferMachine gaps) c union.Sequential of_mode consistent = absurd of_mode
 no_cycle p (StoreBufferMachine gaps) c union.Location of_mode consistent = consistent.0
 no_cycle p (StoreBufferMachine gaps) c union.Global of_mode consistent = consistent.1
+no_cycle p mode c kind of_mode consistent = absurd of_mode
 
 pub known_cycle_refutes : (p : Listing) (mode : Machine) (k : Sketch) (kind : Kind) (es : List Event) → IsSketch p mode k → IsKnownCycle p mode k kind es →
     (c : Candidate) → IsConsistentCompletion p mode k c → ⊥

@@ -28,17 +28,15 @@ module _ (does : Local → Action) (gap : ℕ → Bool) where
           ((n : ℕ) (s : Local) (given more : List ℕ) (i : ℕ) (x : Access) → slice_get (trace does gap k n s given).accesses i ≡ Some x →
           slice_get (trace does gap k n s (given ++ more)).accesses i ≡ Some x) →
           slice_get (traced (trace does gap k) (entered (gap s.place) n) s a (given ++ more)).accesses i ≡ Some x
-      go Stop given i h ih = absurd cc
       go (Go next) given i h ih = ih _ next given more i x h
       go (Wait next) given i h ih = ih _ next given more i x h
       go (Write l v next) given zero h ih = h
       go (Write l v next) given (suc i) h ih = ih _ next given more i x h
-      go (Read l to next) [] i h ih = absurd cc
       go (Read l to next) (v ∷ given) zero h ih = h
       go (Read l to next) (v ∷ given) (suc i) h ih = ih _ (loaded to v next) given more i x h
-      go (Swap l w to next) [] i h ih = absurd cc
       go (Swap l w to next) (v ∷ given) zero h ih = h
       go (Swap l w to next) (v ∷ given) (suc i) h ih = ih _ (loaded to v next) given more i x h
+      go a given i h ih = absurd cc
 
   -- with no values none is left over
   pub no_values : (k n : ℕ) (s : Local) → (trace does gap k n s []).unused ≡ []
@@ -46,12 +44,10 @@ module _ (does : Local → Action) (gap : ℕ → Bool) where
   no_values (suc k) n s = go (does s) (no_values k)
     where
       go : (a : Action) → ((n : ℕ) (s : Local) → (trace does gap k n s []).unused ≡ []) → (traced (trace does gap k) (entered (gap s.place) n) s a []).unused ≡ []
-      go Stop ih = refl
       go (Go next) ih = ih (entered (gap s.place) n) next
       go (Wait next) ih = ih (suc (entered (gap s.place) n)) next
       go (Write l v next) ih = ih (entered (gap s.place) n) next
-      go (Read l to next) ih = refl
-      go (Swap l w to next) ih = refl
+      go a ih = refl
 
   -- at its end a thread takes no more values
   pub at_end : (k n : ℕ) (s : Local) (given more : List ℕ) → does (trace does gap k n s given).last ≡ Stop →

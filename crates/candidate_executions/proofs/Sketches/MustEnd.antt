@@ -4,7 +4,7 @@ use Rattle.std.specs.Prelude.{option_and_then, slice_get}
 use Rattle.candidate_executions.proofs.Vocabulary.{range_with_len, get_or-map-range_with_len, length-map-range_with_len, same_Some, slice_get-get_or, slice_get_past, cases_lt, Listing, Outcome}
 use Rattle.candidate_executions.proofs.Vocabulary.{number, action, start_of, code_of, JumpForward, Machine, Access, Event, Initial, Trace, trace, trace_by, fenced_gaps}
 use Rattle.tso_program.specs.declared.shown.Shown.{Shown}
-use Rattle.tso_program.specs.declared.shown.Shown.TheVariants.{All, Only, Truth}
+use Rattle.tso_program.specs.declared.shown.Shown.TheVariants.{Truth}
 use Rattle.tso_program.specs.declared.atom.Atom.{Atom}
 use Rattle.tso_program.specs.declared.atom.Atom.TheVariants as atom
 use Rattle.tso_program.specs.Tree.{Tree}
@@ -134,9 +134,8 @@ module _ (q : Question) (mode : Machine) (k : Sketch) (c : Candidate) (o : Outco
   truth_shown f ends = ends.is_told ∙ sym (ap told (known_is_true (KnownAtom p mode k) (is_true_at whole) atom_known ends.truth f ends.known))
 
   shown_so : (shown : Shown) → EndsAs p mode k shown o → o ≡ show shown whole
-  shown_so All (all, ends) = values_shown all All ends
-  shown_so (Only names) (all, ends) = values_shown all (Only names) ends
   shown_so (Truth f) ends = truth_shown f ends
+  shown_so shown (all, ends) = values_shown all shown ends
 
   pub ends_so : MustEndAs q mode k o → HasShownOutcome q mode c o
   ends_so must = (whole, is_outcome, shown_so q.shown must)

@@ -239,7 +239,6 @@ module _ (p : Listing) (gaps : Gaps) (c : Candidate) (is : IsCandidate p (StoreB
           ))
           (rw (put_same s.locals t next, put_same s.buffers t (s.buffers t ++ w ∷ []), put_same o.waiting t ws, put_same o.made t (suc (o.made t)))
           (write_stands p gaps c is loc t (s.locals t) (s.buffers t) (o.waiting t) (o.made t) all (suc k) e mine next k m l v given m_above a g d b)) shared
-      on_action (Read l to next) q [] h f = none_left [] _ h
       on_action (Read l to next) q (v ∷ given) h f =
           let x : Access = record { section = m; location = l; read = Some v; written = None } in
           let (a, g) = tail_plays x (trace (action p.threads t) (gaps t) k m (loaded to v next) given) t mine.done h in
@@ -261,7 +260,6 @@ module _ (p : Listing) (gaps : Gaps) (c : Candidate) (is : IsCandidate p (StoreB
           (λ l. has_still p gaps c is loc (At t i) rest l (s.memory l) (o.memory l) (shared.has l)
           (λ v b. let z : b.0 ≡ y = same_Some b.0 y (sym b.1 ∙ here) in
           let k : None ≡ Some v = ap (λ (z : Access). z.written) (same ∙ sym z) ∙ b.3 in cc)))
-      on_action (Swap l w to next) q [] h f = none_left [] _ h
       on_action (Swap l w to next) q (v ∷ given) h f =
           let x : Access = record { section = m; location = l; read = Some v; written = Some w } in
           let (a, g) = tail_plays x (trace (action p.threads t) (gaps t) k (suc m) (loaded to v next) given) t mine.done h in
@@ -294,6 +292,7 @@ module _ (p : Listing) (gaps : Gaps) (c : Candidate) (is : IsCandidate p (StoreB
                 (λ v b. n (let z : b.0 ≡ y = same_Some b.0 y (sym b.1 ∙ here) in
                 sym b.2 ∙ ap (λ (z : Access). z.location) (z ∙ sym same))))
           ]))
+      on_action a q [] h f = none_left [] _ h
 
     -- the event has been executed already, and waits in the buffer
     executed : (s : State) (o : Origins) (k e : ℕ) → Others s o → (mine : Here s o k e) → Shares s o → i < mine.done →

@@ -81,8 +81,7 @@ write_edge p mode c kind d e l v w a b less = (a.0, b.0, a.1, b.1, go kind)
 
     go : (kind : Kind) → Relates c kind d a.0 e b.0
     go union.Sequential = inr (inr (inl written))
-    go union.Location = inr (inr (inl written))
-    go union.Global = inr (inr (inl written))
+    go kind = inr (inr (inl written))
 
 module _ (p : Listing) (mode : Machine) (c : Candidate) (is : IsCandidate p mode c) (kind : Kind) where
   abbrev at : Event → Option Access
@@ -93,8 +92,6 @@ module _ (p : Listing) (mode : Machine) (c : Candidate) (is : IsCandidate p mode
 
   -- of two events the first in the order has the lower rank, where both write a location
   first_lower : (e : Event) (es : List Event) → (In e es → ⊥) → ((d : Event) → In d es → R d e → ⊥) → (x y : Mark) → Contains (shown_by c e (at e)) x → Contains (shown_along at c es) y → ArriveInOrder at c x y
-  first_lower e es new none (Takes f v g) y h i = tt
-  first_lower e es new none (Arrives f) (Takes d v g) h i = tt
   first_lower e es new none (Arrives f) (Arrives d) h i = λ l v w a b. (
       let (x, o, m) = mark_by at c e (at e) (Arrives f) h in
       let same : f ≡ e = elim m [ inl t ↦ absurd (let q = t.2 in cc) | inr t ↦ (let q = t.2 in cc) ] in
@@ -104,6 +101,7 @@ module _ (p : Listing) (mode : Machine) (c : Candidate) (is : IsCandidate p mode
         | inr (inl less) ↦ less
         | inr (inr more) ↦ absurd (none d there (subst (λ z. R d z) same (write_edge p mode c kind d f l w v b a more)))
       ])
+  first_lower e es new none x y h i = tt
 
   in_itself : (e : Event) (o : Option Access) → PairsOf (ArriveInOrder at c) (shown_by c e o)
   in_itself e None = tt

@@ -119,11 +119,9 @@ module _ (p : Listing) (gaps : Gaps) (c : Candidate) (is : IsCandidate p (StoreB
     where
       dropped : {A B : Type 0} (d : ℕ) (xs : List A) (ys : List B) → length xs ≡ length ys → drop d ys ≡ [] → drop d xs ≡ []
       dropped zero [] ys e h = refl
-      dropped zero (x ∷ xs) [] e h = absurd cc
-      dropped zero (x ∷ xs) (y ∷ ys) e h = absurd cc
       dropped (suc d) [] ys e h = refl
-      dropped (suc d) (x ∷ xs) [] e h = absurd cc
       dropped (suc d) (x ∷ xs) (y ∷ ys) e h = dropped d xs ys (omega arith) h
+      dropped d xs ys e h = absurd cc
 
   pub finish : (machine : Machine) → IsQuiet machine → (s : State) (o : Origins) (done : ℕ → ℕ) → Sim p gaps c is loc s o done [] → Goal p gaps c is loc machine s o [] (to_ends (steps_by p c.given) done (length p.threads))
   finish machine quiet s o done sim = finish_all machine quiet o done (length p.threads) s (record { empty = empty; ends = ends }) (λ t h. lefts t)

@@ -1,7 +1,7 @@
 -- A consistent candidate of sequential consistency has a run along each order that the union Sequential allows: the states of the run
 -- are those of a store buffer machine with no gap fenced, each store flushed at once.
 use Rattle.std.proofs.Common.{◌≡◌, ℕ, suc, zero, ◌+◌, ◌-◌, ◌<◌, ◌≤◌, List, [], ◌∷◌, ◌++◌, Some, None, slice_get, map, refl, sym, ap, ◌∙◌, subst, inl, inr, arith}
-use Rattle.candidate_executions.proofs.Vocabulary.{cases_lt, cases_eq, same_Some, Listing, loaded, Local, Action, Stop, Go, Wait, Read, Write, Swap, action, Outcome, put, SequentialMachine}
+use Rattle.candidate_executions.proofs.Vocabulary.{cases_lt, cases_eq, same_Some, Listing, loaded, Local, Action, Go, Wait, Read, Write, Swap, action, Outcome, put, SequentialMachine}
 use Rattle.candidate_executions.proofs.Vocabulary.{StoreBufferMachine, no_gaps, State, newest, found, step, start, Label, Exec, Access, Event, Initial, At, Candidate, access, IsCandidate, HasOutcome}
 use Rattle.candidate_executions.proofs.Vocabulary.{Trace, trace, traced, stopped, Edge, IsAcyclic, Steps, steps, steps_by, counted, execs, labels_along, Origins, first_origins, Mark, Takes, Arrives}
 use Rattle.candidate_executions.proofs.Vocabulary.{found_write, with_made, with_memory, direct_origins, direct_marks, origins_after, marks_at}
@@ -155,7 +155,6 @@ module _ (p : Listing) (c : Candidate) (is : IsCandidate p (StoreBufferMachine n
       on_action : (a : Action) → action p.threads t (s.locals t) ≡ a → (given : List ℕ) →
           traced (trace (action p.threads t) (no_gaps t) k) m (s.locals t) a given ≡ left p no_gaps c is loc t mine.done →
           counted (steps (action p.threads t) k) e a given ≡ steps_from p no_gaps c is loc t mine.done → Goals s o all (execs t (n - e) ++ labels)
-      on_action Stop q given h f = none_left given _ h
       on_action (Go next) q given h f = goes_on next (rw q refl) (ap (direct_origins o t) q) (ap (direct_marks s o t) q) m given (omega arith) h f
       on_action (Wait next) q given h f = goes_on next (rw q refl) (ap (direct_origins o t) q) (ap (direct_marks s o t) q) (suc m) given (omega arith) h f
       on_action (Write l v next) q given h f =
@@ -170,7 +169,6 @@ module _ (p : Listing) (c : Candidate) (is : IsCandidate p (StoreBufferMachine n
           (shown_first (at p no_gaps c is loc) c (At t i) rest y None (Some v) here (sym (ap (λ (z : Access). z.read) same)) (sym (ap (λ (z : Access). z.written) same)))
           (leaves next m (put s.memory l v) (put o.memory l (At t i)) given (omega arith) now g d b
           (λ k. has_written l v k (sym (ap (λ (z : Access). z.location) same)) (sym (ap (λ (z : Access). z.written) same))))
-      on_action (Read l to next) q [] h f = none_left [] _ h
       on_action (Read l to next) q (v ∷ given) h f =
           let x : Access = record { section = m; location = l; read = Some v; written = None } in
           let (a, g) = tail_plays p no_gaps c is loc x (trace (action p.threads t) (no_gaps t) k m (loaded to v next) given) t mine.done h in
@@ -188,7 +186,6 @@ module _ (p : Listing) (c : Candidate) (is : IsCandidate p (StoreBufferMachine n
           (λ l. has_still p no_gaps c is loc (At t i) rest l (s.memory l) (o.memory l) (shared.has l)
           (λ v b. let z : b.0 ≡ y = same_Some b.0 y (sym b.1 ∙ here) in
           let k : None ≡ Some v = ap (λ (z : Access). z.written) (same ∙ sym z) ∙ b.3 in cc)))
-      on_action (Swap l w to next) q [] h f = none_left [] _ h
       on_action (Swap l w to next) q (v ∷ given) h f =
           let x : Access = record { section = m; location = l; read = Some v; written = Some w } in
           let (a, g) = tail_plays p no_gaps c is loc x (trace (action p.threads t) (no_gaps t) k (suc m) (loaded to v next) given) t mine.done h in
@@ -205,6 +202,7 @@ module _ (p : Listing) (c : Candidate) (is : IsCandidate p (StoreBufferMachine n
           (shown_first (at p no_gaps c is loc) c (At t i) rest y (Some v) (Some w) here (sym (ap (λ (z : Access). z.read) same)) (sym (ap (λ (z : Access). z.written) same)))
           (leaves (loaded to v next) (suc m) (put s.memory l w) (put o.memory l (At t i)) given (omega arith) now g d b
           (λ k. has_written l w k (sym (ap (λ (z : Access). z.location) same)) (sym (ap (λ (z : Access). z.written) same))))
+      on_action a q given h f = none_left given _ h
 
     -- no store of the event waits, since none waits
     not_executed : (s : State) (o : Origins) (k e : ℕ) → Empty s → (mine : Mine t s o all k e) → i < mine.done → ⊥

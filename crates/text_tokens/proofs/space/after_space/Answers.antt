@@ -35,5 +35,4 @@ returns-else-opens-clause-only c end s =
     other_back c.loop-rest.rest.now end (sym c.is_white_space.ensures ∙ c.if-is_white_space.false) (sym c.opens.ensures.value ∙ c.if-opens.false) (c.loop-rest.invariant.back end s)
 
 pub returns-clause-some : goal.returns-clause-some
-returns-clause-some c =
-    c.loop-rest.invariant.forth c.loop-rest.rest.now (empty_is c.loop-rest.rest.now (nil_from_length _ (grind arith)))
+returns-clause-some c = c.loop-rest.invariant.forth c.loop-rest.rest.now (empty_is c.loop-rest.rest.now (nil_from_length _ (grind arith)))

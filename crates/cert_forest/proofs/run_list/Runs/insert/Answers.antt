@@ -1,4 +1,4 @@
-use Rattle.std.proofs.Common.{◌≡◌, ℕ, zero, suc, List, [], ◌∷◌, length, map, refl, sym, ap, ◌∙◌, arith}
+use Rattle.std.proofs.Common.{◌≡◌, ℕ, suc, List, ◌∷◌, length, map, refl, sym, ap, ◌∙◌, arith, zero, []}
 use Rattle.std.specs.List.{insert}
 use Rattle.cert_forest.proofs.Vocabulary.{Vec, length-map, Label, labels_of}
 use Rattle.cert_forest.proofs.run_list.Runs.insert.Goals as goal

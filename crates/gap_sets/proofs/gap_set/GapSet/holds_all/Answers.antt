@@ -1,13 +1,11 @@
-use Rattle.std.proofs.Common.{◌≡◌, ℕ, ◌∙◌, inl, inr, sym, refl, true, false, Bool}
+use Rattle.std.proofs.Common.{ℕ, ◌∙◌, inl, inr, sym}
 use mathlib.Core.Bool.{true≢false}
 use Rattle.std.specs.FinSet as set
 use Rattle.gap_sets.proofs.Vocabulary.{bit_not, w128, bit_and, nat_cmp_total, eqb_tells}
 use Rattle.gap_sets.proofs.WordSets.{contains-word}
 use Rattle.gap_sets.proofs.Words.{within, not_within}
+use Rattle.std.proofs.lemmas.Bool.{false_from_ne_true as not_all}
 use Rattle.gap_sets.proofs.gap_set.GapSet.holds_all.Goals as goal
-
-not_all : (b : Bool) → (b ≡ true → ⊥) → b ≡ false
-not_all b deny = elim b as (λ v. (v ≡ true → ⊥) → v ≡ false) [ true ↦ λ n. absurd (n refl) | false ↦ λ _. refl ] deny
 
 pub returns : goal.returns
 returns c =

@@ -1,8 +1,8 @@
 use Rattle.std.proofs.Common.{◌≡◌, ◌++◌}
 use Rattle.litmus_reader.specs.Internal.Filling.{texts}
 use Rattle.canonical_text.specs.Outcomes.{register_items}
-use Rattle.canonical_text.proofs.outcome.push_threads.Given as goal
+use Rattle.canonical_text.proofs.outcome.Legend.push_threads.Given as goal
 
 -- the items of the threads so far
 abbrev pub invariant-loop-thread : goal.invariant-loop-thread
-invariant-loop-thread l = texts l.items.items ≡ texts l.initial.items.items ++ register_items l.names l.shown l.registers l.thread
+invariant-loop-thread l = texts l.items.items ≡ texts l.initial.items.items ++ register_items l.self.names.now l.self.shown.now l.registers l.thread

@@ -1,8 +1,8 @@
 use Rattle.std.proofs.Common.{◌≡◌, ◌++◌}
 use Rattle.litmus_reader.specs.Internal.Filling.{texts}
 use Rattle.canonical_text.specs.Outcomes.{location_items}
-use Rattle.canonical_text.proofs.outcome.push_locations.Given as goal
+use Rattle.canonical_text.proofs.outcome.Legend.push_locations.Given as goal
 
 -- the items of the locations so far
 abbrev pub invariant-loop-location : goal.invariant-loop-location
-invariant-loop-location l = texts l.items.items ≡ texts l.initial.items.items ++ location_items l.names l.shown l.memory l.location
+invariant-loop-location l = texts l.items.items ≡ texts l.initial.items.items ++ location_items l.self.names.now l.self.shown.now l.memory l.location

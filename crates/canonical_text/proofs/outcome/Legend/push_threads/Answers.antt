@@ -2,11 +2,11 @@ use Rattle.std.proofs.Common.{ℕ, List, [], ◌++◌, get_or, ap, ◌∙◌}
 use Rattle.litmus_reader.specs.Internal.Filling.{texts}
 use Rattle.canonical_text.specs.Outcomes.{thread_items}
 use Rattle.canonical_text.proofs.Joined.{flat_range_more}
-use Rattle.canonical_text.proofs.outcome.push_threads.Goals as goal
+use Rattle.canonical_text.proofs.outcome.Legend.push_threads.Goals as goal
 
 pub loop-thread-preserved : goal.loop-thread-preserved
 loop-thread-preserved c =
-    let items : ℕ → List (List ℕ) = λ t. thread_items c.args.names.now c.args.shown.now t (get_or c.args.registers.now t []) in
+    let items : ℕ → List (List ℕ) = λ t. thread_items c.args.self.now.names.now c.args.self.now.shown.now t (get_or c.args.registers.now t []) in
     c.in_ok-push_thread.ensures
     ∙ ap (λ (ts : List (List ℕ)). ts ++ items c.loop-thread.thread) c.loop-thread.invariant
     ∙ flat_range_more items (texts c.args.items.now.items) c.loop-thread.thread

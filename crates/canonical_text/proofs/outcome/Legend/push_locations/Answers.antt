@@ -2,11 +2,11 @@ use Rattle.std.proofs.Common.{ℕ, List, ◌++◌, get_or, ap, ◌∙◌}
 use Rattle.litmus_reader.specs.Internal.Filling.{texts}
 use Rattle.canonical_text.specs.Outcomes.{shown_item}
 use Rattle.canonical_text.proofs.Joined.{flat_range_more}
-use Rattle.canonical_text.proofs.outcome.push_locations.Goals as goal
+use Rattle.canonical_text.proofs.outcome.Legend.push_locations.Goals as goal
 
 pub loop-location-preserved : goal.loop-location-preserved
 loop-location-preserved c =
-    let items : ℕ → List (List ℕ) = λ l. shown_item c.args.names.now c.args.shown.now l (get_or c.args.memory.now l 0) in
+    let items : ℕ → List (List ℕ) = λ l. shown_item c.args.self.now.names.now c.args.self.now.shown.now l (get_or c.args.memory.now l 0) in
     c.in_ok-push_location.ensures
     ∙ ap (λ (ts : List (List ℕ)). ts ++ items c.loop-location.location) c.loop-location.invariant
     ∙ flat_range_more items (texts c.args.items.now.items) c.loop-location.location

@@ -1,7 +1,0 @@
-use Rattle.std.proofs.Common.{◌≡◌, ◌++◌, take}
-use Rattle.canonical_text.proofs.Vocabulary.{flat_map, texts, named_item, all_registers}
-use Rattle.canonical_text.proofs.outcome.push_thread.Given as goal
-
--- the items of the registers so far
-abbrev pub invariant-loop-register : goal.invariant-loop-register
-invariant-loop-register l = texts l.items.items ≡ texts l.initial.items.items ++ flat_map (named_item l.names l.shown l.thread l.values) (take l.register-index all_registers)
