@@ -273,12 +273,18 @@ class Scripts(Cases):
             for tool in ("bash", "env", "dirname", "realpath", "sed", "find"):
                 os.symlink(shutil.which(tool), os.path.join(tools, tool))
             missing = ": rt is not on the path; it compiles and proves the programs. Install the toolchain rattle-kit-13f and add its folder bin to PATH\n"
-            for name in ("fencer", "fencecheck", "build"):
-                found = clone.call(name, "--help", path=tools)
+            for name, *words in (("fencer", "--help"), ("fencecheck", "--help"), ("build",)):
+                found = clone.call(name, *words, path=tools)
                 same(f"{name} without rt", found, (2, "", name + missing))
             clone.put("fencer", 2_000)
             status, found, said = clone.call("fencer", "place", "SB.litmus", path=tools)
             tell("a proved build without rt", (status, said) == (0, "") and found.startswith("answer "), (status, found, said))
+
+    def test_build_arguments(self):
+        """An argument of `build` gets its usage, and nothing is proved."""
+        with cloned() as clone:
+            status, found, said = clone.call("build", "--help")
+            tell("build --help", (status, found, clone.tries()) == (2, "", 0) and said.startswith("usage: build"), (status, found, said))
 
     def test_interrupted(self):
         """A build that is interrupted leaves no file and no process."""
