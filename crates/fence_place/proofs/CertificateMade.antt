@@ -1,5 +1,5 @@
 -- The certificate of a search that is done is valid, and within the limits of a text.
-use Rattle.std.proofs.Common.{◌≡◌, ℕ, ◌+◌, ◌*◌, ◌<◌, ◌≤◌, ◌^◌, suc, List, [], ◌∷◌, All, Some, length, sym, ap, ◌∙◌, subst, arith, get_or}
+use Rattle.std.proofs.Common.{◌≡◌, ℕ, ◌*◌, ◌<◌, ◌≤◌, ◌^◌, suc, List, [], ◌∷◌, All, Some, length, sym, ap, ◌∙◌, subst, arith, get_or}
 use Rattle.std.proofs.lemmas.List.Elements.{recursion_from_All}
 use Rattle.fence_place.proofs.Vocabulary.{slice_get, AllByRecursion, slice_get-get_or, SetOfGaps, IsGapSet, total, all_sets, MAX_GAPS, Question, IsWithinLimits, Label, Certificate, shows_of}
 use Rattle.fence_place.proofs.Vocabulary.{IsValidGap, undecided, Outcome, finished_state, IsOutcome, Facts, facts_of, AreNumbersOf, AreSplitRuns, IsRecorded, IsProof}
@@ -8,7 +8,6 @@ use Rattle.tso_program.specs.declared.outcome.Outcome as machine
 use Rattle.cover_solver.specs.Machine.{Machine, SequentialMachine, StoreBufferMachine, no_gaps}
 use Rattle.tso_program.specs.Fences.{gaps_in as gaps_of_set}
 use Rattle.cover_solver.specs.Outcomes.{IsTheAnswer, IsShownRun, IsSequentialOutcome, AreGapsOf}
-use Rattle.known_edges.specs.Sizes.{most_choices}
 use Rattle.cert_forest.specs.Trees.{Cover}
 use Rattle.cert_forest.specs.declared.tree.TheConstants.{MAX_COVER_DEPTH, MAX_GAP_DEPTH}
 use Rattle.cert_forest.specs.Limits as limits
@@ -45,7 +44,7 @@ pub record IsMade (t : Table) (o : Outcome) (numbers : List ℕ) (c : Certificat
 
 -- a tree of the solver is within the limits of a text
 tree_small : (q : Question) (mode : Machine) (outcomes : List machine.Outcome) (tree : Cover) → IsWholeCover q mode outcomes tree → limits.IsCoverTo MAX_COVER_DEPTH tree
-tree_small q mode outcomes tree is = let shallow : limits.cover_depth tree ≤ most_choices + 1 = is.shallow in (omega arith, is.neat.numbers)
+tree_small q mode outcomes tree is = let shallow = is.shallow in (omega arith, is.neat.numbers)
 
 module _ (t : Table) (o : Outcome) (numbers : List ℕ) (c : Certificate) (table : IsSequentialTable t) (outcome : IsOutcome o) (serving : IsServing o.served) (low : c.cost ≤ MAX_GAPS * MAX_COST)
     (same : t.question ≡ o.question) (of_served : o.served.question ≡ o.question) (answer : IsTheAnswer o.question o.costs o.served.gaps) (made : IsMade t o numbers c) where
