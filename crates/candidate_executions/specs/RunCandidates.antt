@@ -2,7 +2,7 @@
 use Rattle.std.specs.Prelude.{◌≡◌, ◌↔◌, ◌<◌, ℕ, suc, List, [], ◌∷◌, ◌++◌, Some, IsSome, Option, ◌==◌, if◌then◌else◌, Contains, AllPairs}
 use Rattle.std.specs.Option.{option_map_or}
 use Rattle.tso_program.specs.declared.action.Action.{Action}
-use Rattle.tso_program.specs.declared.action.Action.TheVariants.{Stop, Go, Wait, Read, Write, Swap}
+use Rattle.tso_program.specs.declared.action.Action.TheVariants.{Read, Write, Swap}
 use Rattle.tso_program.specs.declared.listing.Listing.{Listing}
 use Rattle.tso_program.specs.Listings.{action}
 use Rattle.tso_machine.specs.declared.label.Label.{Label}
@@ -47,21 +47,16 @@ with_memory o l e = record o { memory = put o.memory l e }
 
 -- thread t does this, over store buffers
 abbrev pub buffered_origins : Origins → ℕ → Action → Origins
-buffered_origins o t Stop = o
-buffered_origins o t (Go next) = o
-buffered_origins o t (Wait next) = o
 buffered_origins o t (Read l to next) = with_made o t
 buffered_origins o t (Write l v next) = with_made (with_waiting o t (o.waiting t ++ (l, next_event o t) ∷ [])) t
 buffered_origins o t (Swap l v to next) = with_made (with_memory o l (next_event o t)) t
+buffered_origins o t _ = o
 
 abbrev pub buffered_marks : State → Origins → ℕ → Action → List Mark
-buffered_marks s o t Stop = []
-buffered_marks s o t (Go next) = []
-buffered_marks s o t (Wait next) = []
 buffered_marks s o t (Read l to next) =
     Takes (next_event o t) (found (newest l (s.buffers t)) (s.memory l)) (found_write l (o.waiting t) (o.memory l)) ∷ []
-buffered_marks s o t (Write l v next) = []
 buffered_marks s o t (Swap l v to next) = Takes (next_event o t) (s.memory l) (o.memory l) ∷ Arrives (next_event o t) ∷ []
+buffered_marks s o t _ = []
 
 -- the oldest store of thread t's buffer goes to memory
 abbrev pub flushed_origins : Origins → ℕ → List (ℕ × Event) → Origins
@@ -74,20 +69,16 @@ flushed_marks (w ∷ ws) = Arrives w.1 ∷ []
 
 -- thread t does this, and a store writes memory at once
 abbrev pub direct_origins : Origins → ℕ → Action → Origins
-direct_origins o t Stop = o
-direct_origins o t (Go next) = o
-direct_origins o t (Wait next) = o
 direct_origins o t (Read l to next) = with_made o t
 direct_origins o t (Write l v next) = with_made (with_memory o l (next_event o t)) t
 direct_origins o t (Swap l v to next) = with_made (with_memory o l (next_event o t)) t
+direct_origins o t _ = o
 
 abbrev pub direct_marks : State → Origins → ℕ → Action → List Mark
-direct_marks s o t Stop = []
-direct_marks s o t (Go next) = []
-direct_marks s o t (Wait next) = []
 direct_marks s o t (Read l to next) = Takes (next_event o t) (s.memory l) (o.memory l) ∷ []
 direct_marks s o t (Write l v next) = Arrives (next_event o t) ∷ []
 direct_marks s o t (Swap l v to next) = Takes (next_event o t) (s.memory l) (o.memory l) ∷ Arrives (next_event o t) ∷ []
+direct_marks s o t _ = []
 
 -- one step of the machine
 abbrev pub origins_after : Listing → Machine → State → Origins → Label → Origins

@@ -1,11 +1,9 @@
 -- The canonical text of a program, fenced at any gaps, stands for that program.
-use Rattle.std.proofs.Common.{◌≡◌, ℕ, ◌+◌, ◌*◌, ◌<◌, ◌≤◌, suc, Bool, true, List, [], ◌∷◌, ◌++◌, length, map, get_or, Option, refl, sym, ap, ◌∙◌, subst, inl, inr, arith}
-use Rattle.canonical_text.proofs.Vocabulary.{AllByRecursion, IsDistinct, list_all, list_any, flat_map, filter_map, cons_option, range_with_len, option_map_or, bytes_eq, cases_Bool, cases_lt}
-use Rattle.canonical_text.proofs.Vocabulary.{slice_get-get_or, slice_get_past, fill_by_all, length-map-range_with_len, bytes_eq-Decides, Tok, Reg, Thread, Listing, code_of, Tree, tree_map, Spells}
-use Rattle.canonical_text.proofs.Vocabulary.{Sum, enclosed_signs_of, PlaceView, Location, Register, EntryView, CellView, BodyView, SignView, EndingView, NoneTwice, all_names, same_place, AreVisible}
-use Rattle.canonical_text.proofs.Vocabulary.{TextNames, all_registers, number_in, entry_place, row_places, sign_places, places, location_name, is_register, names_of, names_among, is_named, Label}
-use Rattle.canonical_text.proofs.Vocabulary.{column, labels_behind, thread_labels, all_labels, position_in, are_found, JumpsAreFound, entries_of, own_labels, moved_labels, body_of, place_named}
-use Rattle.canonical_text.proofs.Vocabulary.{signs_named, ending_of, litmus_fenced_at, canonical_text, IsTextNumber, IsLocationName, IsPrintablePlace, IsPrintableEntry, IsPrintableRow, IsPrintable}
+use Rattle.canonical_text.proofs.Vocabulary.{◌≡◌, ℕ, ◌+◌, ◌*◌, ◌<◌, ◌≤◌, suc, Bool, true, List, [], ◌∷◌, ◌++◌, length, map, get_or, Option, refl, sym, ap, ◌∙◌, subst, inl, inr, arith, AllByRecursion, IsDistinct, list_all, list_any, flat_map, filter_map}
+use Rattle.canonical_text.proofs.Vocabulary.{cons_option, range_with_len, option_map_or, bytes_eq, cases_Bool, cases_lt, slice_get-get_or, slice_get_past, fill_by_all, length-map-range_with_len, bytes_eq-Decides, Tok, Reg, Thread, Listing, code_of, Tree}
+use Rattle.canonical_text.proofs.Vocabulary.{tree_map, Spells, Sum, enclosed_signs_of, PlaceView, Location, Register, EntryView, CellView, BodyView, SignView, EndingView, NoneTwice, all_names, same_place, AreVisible, TextNames, all_registers, number_in}
+use Rattle.canonical_text.proofs.Vocabulary.{entry_place, row_places, sign_places, places, location_name, is_register, names_of, names_among, is_named, Label, column, labels_behind, thread_labels, all_labels, position_in, are_found, JumpsAreFound, entries_of}
+use Rattle.canonical_text.proofs.Vocabulary.{own_labels, moved_labels, body_of, place_named, signs_named, ending_of, litmus_fenced_at, canonical_text, IsTextNumber, IsPrintablePlace, IsPrintableEntry, IsPrintableRow, IsPrintable}
 use Rattle.canonical_text.proofs.Vocabulary.{IsPrintableSign, ArePrintable, IsPrintableEnding}
 use Rattle.gap_sets.specs.Gaps.{SetOfGaps}
 use Rattle.tso_program.specs.Limits.{IsWithinLimits}
@@ -25,8 +23,8 @@ use Rattle.canonical_text.proofs.ToldCode.{IsKnown, AreTold, name_back, rows_pri
 use Rattle.canonical_text.proofs.LabelsNamed.{label_name, AreGoodLabels, Ascending}
 use Rattle.canonical_text.proofs.LabelsOnce.{rows_once}
 use Rattle.canonical_text.proofs.LabelsAgain.{labels_again}
-use Rattle.canonical_text.proofs.ThreadsAgain.{fences_told, good, names_once, ascending, fences_registers, registers_at}
-use Rattle.canonical_text.proofs.NamedByText.{places_printable, names_good, named_is, places_known, held_small, unnamed_zero}
+use Rattle.canonical_text.proofs.ThreadsAgain.{fences_told, good, names_once, ascending, registers_at, fenced_registers, text_registers}
+use Rattle.canonical_text.proofs.NamedByText.{places_printable, names_good, named_is, places_known, unnamed_zero, found_small}
 use Rattle.canonical_text.proofs.NamesAgain.{locations_again, registers_again}
 use Rattle.canonical_text.proofs.SaidSigns.{Said, view_of, IsSaid, IsSayable, text_said, sayable, enclosed_said, signs_are, spelled_again, signs_printable, signs_known, enclosed_apart}
 use Rattle.canonical_text.proofs.GoodTokens.{AreGood, lexed_good, after_body, after_ending}
@@ -110,9 +108,6 @@ module _ (b : BodyView) (e : EndingView) (f : Tree Said) (text : IsGoodText b e 
   printable : AllByRecursion (IsPrintablePlace b.threads) (places b e)
   printable = places_printable b e text.entries text.rows text.shown text.signs
 
-  good_names : AllByRecursion IsLocationName locations
-  good_names = names_good b.threads [] (places b e) tt printable
-
   known_parts : AllByRecursion (IsKnown locations named) (flat_map row_places b.rows) × AllByRecursion (IsKnown locations named) e.observed × AllByRecursion (IsKnown locations named) (flat_map sign_places e.signs)
   known_parts =
       let ends : List PlaceView = e.observed ++ flat_map sign_places e.signs in
@@ -127,17 +122,14 @@ module _ (b : BodyView) (e : EndingView) (f : Tree Said) (text : IsGoodText b e 
   may_stand : (t : ℕ) → AreGoodLabels (own_labels labels t)
   may_stand = good locations named once gaps b text.rows known_parts.0 text.jumps text.labels_once
 
-  stand_once : (t : ℕ) → NoneTwice (map label_name (own_labels labels t))
-  stand_once = names_once locations named once gaps b text.rows known_parts.0 text.jumps text.labels_once
-
   in_turn : (t : ℕ) → Ascending 0 (length (code_of threads t)) (own_labels labels t)
   in_turn = ascending locations named once gaps b text.rows known_parts.0 text.jumps text.labels_once
 
   registers : RegistersAre held 0 threads
-  registers = fences_registers (number_in locations) gaps b
+  registers = fenced_registers (first_value b.entries) gaps 0 (map (thread_read (number_in locations) b) (range_with_len 0 b.threads)) (text_registers (number_in locations) b 0 b.threads)
 
   small : (p : PlaceView) → IsTextNumber (held p)
-  small = held_small b.threads b.entries text.entries
+  small = λ p. found_small b.threads p b.entries text.entries
 
   said : IsSayable locations named b.threads f
   said = (sayable locations named b.threads text.spells (text_said locations named b.threads e.signs text.signs known_parts.2)).0
@@ -147,11 +139,8 @@ module _ (b : BodyView) (e : EndingView) (f : Tree Said) (text : IsGoodText b e 
   own_again : (t : ℕ) → t < length threads → thread_labels body.rows t ≡ own_labels labels t
   own_again t lt = labels_again locations labels threads t lt named (in_turn t)
 
-  label_count : length labels ≡ length threads
-  label_count = same_labels_count gaps 0 (all_labels b) ∙ length-map-range_with_len (thread_labels b.rows) 0 b.threads ∙ sym count
-
   same_labels : labels ≡ all_labels body
-  same_labels = fill_by_all (thread_labels body.rows) labels (length threads) [] label_count (λ t lt. sym (own_again t lt))
+  same_labels = fill_by_all (thread_labels body.rows) labels (length threads) [] (same_labels_count gaps 0 (all_labels b) ∙ length-map-range_with_len (thread_labels b.rows) 0 b.threads ∙ sym count) (λ t lt. sym (own_again t lt))
 
   no_cell : (rows : List (List CellView)) (t : ℕ) → AllByRecursion (IsPrintableRow (length threads)) rows → length threads ≤ t → column rows t ≡ []
   no_cell [] t h le = refl
@@ -167,7 +156,7 @@ module _ (b : BodyView) (e : EndingView) (f : Tree Said) (text : IsGoodText b e 
       rows_once body.rows
       (λ t.
       elim (cases_lt t (length threads)) [
-        | inl lt ↦ subst (λ (ls : List Label). NoneTwice (map label_name ls)) (sym (own_again t lt)) (stand_once t)
+        | inl lt ↦ subst (λ (ls : List Label). NoneTwice (map label_name ls)) (sym (own_again t lt)) ((names_once locations named once gaps b text.rows known_parts.0 text.jumps text.labels_once) t)
         | inr le ↦ subst (λ (cs : List CellView). NoneTwice (map label_name (labels_behind 0 cs))) (sym (no_cell body.rows t body_rows le)) tt
       ])
 
@@ -190,7 +179,7 @@ module _ (b : BodyView) (e : EndingView) (f : Tree Said) (text : IsGoodText b e 
     some_thread = let some : 0 < length threads = omega (arith, text.some, count) in some;
     few_threads = subst IsTextNumber (sym count) text.few;
     entries = subst (AllByRecursion (IsPrintableEntry (length threads))) (sym entries_told)
-        (printable_places held (length threads) small locations (6 * 0) (threads_places named 0 (length threads)) good_names rising);
+        (printable_places held (length threads) small locations (6 * 0) (threads_places named 0 (length threads)) (names_good b.threads [] (places b e) tt printable) rising);
     none_twice = subst NoneTwice (sym entries_placed) (places_once locations (6 * 0) (6 * length threads) (threads_places named 0 (length threads)) once rising);
     rows = body_rows;
     labels_once = body_once;

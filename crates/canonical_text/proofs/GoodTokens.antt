@@ -1,13 +1,12 @@
 -- What the tokens of a text say can be printed.
-use Rattle.std.proofs.Common.{◌≡◌, ℕ, ◌+◌, true, List, [], ◌∷◌, map, Option, Some, None, inl, inr, sym, subst}
+use Rattle.canonical_text.proofs.Vocabulary.{◌≡◌, ℕ, ◌+◌, true, List, [], ◌∷◌, map, Option, Some, None, inl, inr, sym, subst, AllByRecursion, Mark, Tok, Word, Number, Sign, NoToken, Reg, Quantifier, NotExists, column_name, PlaceView, Location, Register}
+use Rattle.canonical_text.proofs.Vocabulary.{EntryView, CodeView, LoadImm, Copy, Load, StoreImm, Store, Xchg, Fence, CmpImm, CmpReg, Je, Jne, Jmp, CellView, BodyView, SignView, Atom, Const, Not, And, Or, Open, Close, EndingView, ◌▸◌, mark, number, Items, end}
+use Rattle.canonical_text.proofs.Vocabulary.{item, IsTextNumber, IsLocationName, IsLabelName, IsPrintablePlace, IsPrintableEntry, IsPrintableCode, IsPrintableContent, IsPrintableCell, IsPrintableRow, IsPrintableSign}
 use Rattle.std.proofs.lemmas.List.Elements.{recursion_from_All}
-use Rattle.canonical_text.proofs.Vocabulary.{AllByRecursion, Mark, Tok, Word, Number, Sign, NoToken, Reg, Quantifier, NotExists, column_name, PlaceView, Location, Register, EntryView}
-use Rattle.canonical_text.proofs.Vocabulary.{CodeView, LoadImm, Copy, Load, StoreImm, Store, Xchg, Fence, CmpImm, CmpReg, Je, Jne, Jmp, CellView, BodyView, SignView, Atom, Const, Not, And, Or, Open}
-use Rattle.canonical_text.proofs.Vocabulary.{Close, EndingView, ◌▸◌, mark, number, Items, end, item, IsTextNumber, IsLocationName, IsLabelName, IsPrintablePlace, IsPrintableEntry, IsPrintableCode}
-use Rattle.canonical_text.proofs.Vocabulary.{IsPrintableContent, IsPrintableCell, IsPrintableRow, IsPrintableSign}
 use Rattle.litmus_reader.specs.Mark.TheVariants as the
+use Rattle.litmus_syntax.specs.Phrases.{Phrase}
 use Rattle.litmus_reader.specs.Lexing.{IsWord, BeginsWith, BeginsWithAll, none, white_space, comment, token}
-use Rattle.litmus_syntax.specs.Grammar.{register, name, memory, IsPlace, separator, IsEntryItem, NoneTwice, labels_in_rows, place_of_entry, HasThread, MoreColumns, last, column, IsHeader, immediate, IsCode, IsLabelMark, IsContent, IsCell, IsNextCell, IsRow, IsRowList, IsBody, IsObservedItem, IsObserved, IsQuantifier, IsSign, the_end, IsEnding}
+use Rattle.litmus_syntax.specs.Grammar.{register, name, memory, IsPlace, separator, IsEntryItem, NoneTwice, labels_in_rows, place_of_entry, HasThread, MoreColumns, last, column, IsHeader, immediate, IsCode, IsLabelMark, IsContent, IsCell, IsNextCell, IsRow, before_ending, IsBody, IsObservedItem, IsObserved, IsQuantifier, IsSign, the_end, IsEnding}
 
 -- a token as texts have them
 abbrev pub IsGood : Tok → Type 0
@@ -42,6 +41,15 @@ after_number n ts rest e good = let h : AreGood (Number n ∷ rest) = subst AreG
 
 after_mark : (m : Mark) (ts rest : List Tok) → ts ≡ Sign m ∷ rest → AreGood ts → AreGood rest
 after_mark m ts rest e good = let h : AreGood (Sign m ∷ rest) = subst AreGood e good in h.1
+
+-- items that each say what can be printed, and then an end
+after_items : {X : Type 0} (p : X → Phrase) (q : Phrase) (P : X → Type 0) → ((x : X) (ts rest : List Tok) → p x ts rest → AreGood ts → P x × AreGood rest)
+    → ((ts rest : List Tok) → q ts rest → AreGood ts → AreGood rest) → (xs : List X) (ts rest : List Tok) → Items p q xs ts rest → AreGood ts → AllByRecursion P xs × AreGood rest
+after_items p q P each ends [] ts rest (end h) good = (tt, ends ts rest h good)
+after_items p q P each ends (x ∷ xs) ts rest (item {others = us} h more) good =
+    let first = each x ts us h good in
+    let second = after_items p q P each ends xs us rest more first.1 in
+    ((first.0, second.0), second.1)
 
 -- ---- places and values
 
@@ -151,26 +159,12 @@ after_labels (l ∷ ls) c ts rest (item {others = us} h more) good =
 after_cell : (c : CellView) (ts rest : List Tok) → IsCell c ts rest → AreGood ts → IsPrintableCell c × AreGood rest
 after_cell c ts rest h good = after_labels c.labels c.code ts rest h good
 
-after_cells : (cs : List CellView) (ts rest : List Tok) → Items IsNextCell (mark the.Semicolon) cs ts rest → AreGood ts → AllByRecursion IsPrintableCell cs × AreGood rest
-after_cells [] ts rest (end h) good = (tt, after_mark the.Semicolon ts rest h good)
-after_cells (c ∷ cs) ts rest (item {others = us} (vs, bar, cell) more) good =
-    let first = after_cell c vs us cell (after_mark the.Bar ts vs bar good) in
-    let second = after_cells cs us rest more first.1 in
-    ((first.0, second.0), second.1)
-
 after_row : (threads : ℕ) (cells : List CellView) (ts rest : List Tok) → IsRow threads cells ts rest → AreGood ts → IsPrintableRow threads cells × AreGood rest
 after_row threads [] ts rest h good = absurd h.1
 after_row threads (c ∷ cs) ts rest (count, (us, cell, more)) good =
     let first = after_cell c ts us cell good in
-    let second = after_cells cs us rest more first.1 in
+    let second = after_items IsNextCell (mark the.Semicolon) IsPrintableCell (λ c ts rest (vs, bar, next) good. after_cell c vs rest next (after_mark the.Bar ts vs bar good)) (after_mark the.Semicolon) cs us rest more first.1 in
     ((count, (first.0, second.0)), second.1)
-
-after_rows : (threads : ℕ) (rows : List (List CellView)) (ts rest : List Tok) → IsRowList threads rows ts rest → AreGood ts → AllByRecursion (IsPrintableRow threads) rows × AreGood rest
-after_rows threads [] ts rest (end h) good = (tt, subst AreGood h.0 good)
-after_rows threads (row ∷ rows) ts rest (item {others = us} h more) good =
-    let first = after_row threads row ts us h good in
-    let second = after_rows threads rows us rest more first.1 in
-    ((first.0, second.0), second.1)
 
 -- ---- the whole
 
@@ -180,7 +174,7 @@ pub after_body : (b : BodyView) (ts rest : List Tok) → IsBody b ts rest → Ar
 after_body b ts rest ((us, initial, (vs, header, rows)), there) good =
     let open' = initial.0 in
     let first = after_entries b.threads b.entries open'.0 us open'.2 (recursion_from_All (HasThread b.threads) (map place_of_entry b.entries) there) (after_mark the.OpenBrace ts open'.0 open'.1 good) in
-    let second = after_rows b.threads b.rows vs rest rows.0 (after_header b.threads us vs header first.1) in
+    let second = after_items (IsRow b.threads) before_ending (IsPrintableRow b.threads) (after_row b.threads) (λ ts rest h good. subst AreGood h.0 good) b.rows vs rest rows.0 (after_header b.threads us vs header first.1) in
     (((first.0, second.0), rows.1), second.1)
 
 -- ---- the ending
@@ -189,17 +183,9 @@ after_observed_item : (threads : ℕ) (p : PlaceView) (ts rest : List Tok) → I
 after_observed_item threads p ts rest (there, (us, place, separates)) good =
     let first = after_place threads p ts us place there good in (first.0, after_separator the.CloseBracket us rest separates first.1)
 
-after_observed_items : (threads : ℕ) (ps : List PlaceView) (ts rest : List Tok) → Items (IsObservedItem threads) (mark the.CloseBracket) ps ts rest → AreGood ts
-    → AllByRecursion (IsPrintablePlace threads) ps × AreGood rest
-after_observed_items threads [] ts rest (end h) good = (tt, after_mark the.CloseBracket ts rest h good)
-after_observed_items threads (p ∷ ps) ts rest (item {others = us} h more) good =
-    let first = after_observed_item threads p ts us h good in
-    let second = after_observed_items threads ps us rest more first.1 in
-    ((first.0, second.0), second.1)
-
 after_observed : (threads : ℕ) (ps : List PlaceView) (ts rest : List Tok) → IsObserved threads ps ts rest → AreGood ts → AllByRecursion (IsPrintablePlace threads) ps × AreGood rest
 after_observed threads ps ts rest (inl (us, locations, (vs, open', places))) good =
-    after_observed_items threads ps vs rest places (after_mark the.OpenBracket us vs open' (after_word _ ts us locations good).1)
+    after_items (IsObservedItem threads) (mark the.CloseBracket) (IsPrintablePlace threads) (after_observed_item threads) (after_mark the.CloseBracket) ps vs rest places (after_mark the.OpenBracket us vs open' (after_word _ ts us locations good).1)
 after_observed threads ps ts rest (inr (none', there)) good = (subst (λ (qs : List PlaceView). AllByRecursion (IsPrintablePlace threads) qs) (sym none') tt, subst AreGood there.0 good)
 
 after_quantifier : (q : Quantifier) (ts rest : List Tok) → IsQuantifier q ts rest → AreGood ts → AreGood rest
@@ -220,13 +206,8 @@ after_sign threads Close ts rest h good = (tt, after_mark the.CloseParen ts rest
 after_sign threads (Const true) ts rest h good = (tt, (after_word _ ts rest h good).1)
 after_sign threads s ts rest h good = (tt, (after_word _ ts rest h good).1)
 
-after_signs : (threads : ℕ) (ss : List SignView) (ts rest : List Tok) → Items (IsSign threads) the_end ss ts rest → AreGood ts → AllByRecursion (IsPrintableSign threads) ss
-after_signs threads [] ts rest (end h) good = tt
-after_signs threads (s ∷ ss) ts rest (item {others = us} h more) good =
-    let first = after_sign threads s ts us h good in (first.0, after_signs threads ss us rest more first.1)
-
 -- so can what is observed, and the signs of the condition
 pub after_ending : (threads : ℕ) (e : EndingView) (ts : List Tok) → IsEnding threads e ts → AreGood ts → AllByRecursion (IsPrintablePlace threads) e.observed × AllByRecursion (IsPrintableSign threads) e.signs
 after_ending threads e ts (us, shown, (vs, quantifier, signs)) good =
     let first = after_observed threads e.observed ts us shown good in
-    (first.0, after_signs threads e.signs vs [] signs (after_quantifier e.quantifier us vs quantifier first.1))
+    (first.0, (after_items (IsSign threads) the_end (IsPrintableSign threads) (after_sign threads) (λ ts rest h good. subst AreGood (sym h.1) tt) e.signs vs [] signs (after_quantifier e.quantifier us vs quantifier first.1)).0)

@@ -1,9 +1,7 @@
 -- The labels of the canonical rows are the labels.
-use Rattle.std.proofs.Common.{◌≡◌, ℕ, ◌+◌, ◌<◌, ◌≤◌, zero, suc, Bool, true, false, List, [], ◌∷◌, ◌++◌, length, map, Option, Some, None, refl, sym, ap, ◌∙◌, subst, inl, inr, arith}
-use Rattle.canonical_text.proofs.Vocabulary.{slice_get, nat_lt, option_map, option_and_then, if◌then◌else◌, AllByRecursion, flat_map, cons_option, range_with_len, option_map_or, cases_lt}
-use Rattle.canonical_text.proofs.Vocabulary.{slice_get-get_or, Instr, Thread, code_of, place_of, rises, CodeView, CellView, Label, column, size, labels_behind, thread_labels}
-use Rattle.canonical_text.proofs.Vocabulary.{instruction_of, label_names_at, own_labels, moved_label, code_named, cell_of, row_of, most_cells, rows_of, IsLabelName, IsPrintableCell}
-use Rattle.canonical_text.proofs.Vocabulary.{IsPrintableRow}
+use Rattle.canonical_text.proofs.Vocabulary.{◌≡◌, ℕ, ◌+◌, ◌<◌, ◌≤◌, zero, suc, Bool, true, false, List, [], ◌∷◌, ◌++◌, length, map, Option, Some, None, refl, sym, ap, ◌∙◌, subst, inl, inr, arith, slice_get, nat_lt, option_map, option_and_then, if◌then◌else◌}
+use Rattle.canonical_text.proofs.Vocabulary.{AllByRecursion, flat_map, cons_option, range_with_len, option_map_or, cases_lt, slice_get-get_or, Instr, Thread, code_of, place_of, rises, CodeView, CellView, Label, column, size, labels_behind, thread_labels}
+use Rattle.canonical_text.proofs.Vocabulary.{instruction_of, label_names_at, own_labels, moved_label, code_named, cell_of, row_of, most_cells, rows_of, IsLabelName, IsPrintableCell, IsPrintableRow}
 use Rattle.tso_program.specs.declared.instruction.Instr.TheVariants as instr
 use Rattle.litmus_reader.specs.Meaning as meaning
 use Rattle.canonical_text.proofs.LabelsNamed.{AreGoodLabels, Ascending, ascending_from, Before, none_at_end, before_more, none_past, standing, all_standing}
@@ -60,7 +58,7 @@ named_good : (k : ℕ) (names : List (List ℕ)) → AllByRecursion IsLabelName 
 named_good k [] h = tt
 named_good k (l ∷ names) h = (h.0, named_good k names h.1)
 
-behind_good : (k : ℕ) (cs : List CellView) → AllByRecursion IsPrintableCell cs → AreGoodLabels (labels_behind k cs)
+pub behind_good : (k : ℕ) (cs : List CellView) → AllByRecursion IsPrintableCell cs → AreGoodLabels (labels_behind k cs)
 behind_good k [] h = tt
 behind_good k (c ∷ cs) h =
     all_of_both (λ (l : Label). IsLabelName l.name) (map (λ l. record { name = l; position = k }) c.labels) (labels_behind (k + size c) cs) (named_good k c.labels h.0.0) (behind_good (k + size c) cs h.1)
@@ -78,13 +76,9 @@ one_cell : (o : Option CellView) (cs : List CellView) → IfPrintable o → AllB
 one_cell None cs h g = g
 one_cell (Some c) cs h g = (h, g)
 
-column_printable : (threads : ℕ) (rows : List (List CellView)) (t : ℕ) → AllByRecursion (IsPrintableRow threads) rows → AllByRecursion IsPrintableCell (column rows t)
+pub column_printable : (threads : ℕ) (rows : List (List CellView)) (t : ℕ) → AllByRecursion (IsPrintableRow threads) rows → AllByRecursion IsPrintableCell (column rows t)
 column_printable threads [] t h = tt
 column_printable threads (row ∷ rows) t h = one_cell (slice_get row t) (column rows t) (cell_in row t h.0.1) (column_printable threads rows t h.1)
-
--- they may stand
-pub thread_good : (threads : ℕ) (rows : List (List CellView)) (t : ℕ) → AllByRecursion (IsPrintableRow threads) rows → AreGoodLabels (thread_labels rows t)
-thread_good threads rows t h = behind_good 0 (column rows t) (column_printable threads rows t h)
 
 -- where they are moved, too
 pub moved_good : (gap : ℕ → Bool) (labels : List Label) → AreGoodLabels labels → AreGoodLabels (map (moved_label gap) labels)
@@ -110,16 +104,13 @@ module _ (labels : List Label) (code : List Instr) (named : Instr → CodeView) 
       ap (λ (ns : List (List ℕ)). map (λ (l : List ℕ). record { name = l; position = a }) ns ++ flat_map (standing labels) (range_with_len (a + 1) m)) (none_past 0 (length code) a labels order lt)
       ∙ nothing_standing (a + 1) m (omega (arith, lt))
 
-  size_within : (a : ℕ) → a < length code → size (cell a) ≡ 1
-  size_within a lt = ap (λ (o : Option Instr). option_map_or (λ c. 1) (option_map named o) 0) (slice_get-get_or code a instr.Fence lt)
-
   behind_standing : (a m : ℕ) → a ≤ length code → labels_behind a (map cell (range_with_len a m)) ≡ flat_map (standing labels) (range_with_len a m)
   behind_standing a zero le = refl
   behind_standing a (suc m) le =
       let rest : List CellView = map cell (range_with_len (a + 1) m) in
       elim (cases_lt a (length code)) [
         | inl lt ↦
-            ap (λ (n : ℕ). standing labels a ++ labels_behind (a + n) rest) (size_within a lt)
+            ap (λ (n : ℕ). standing labels a ++ labels_behind (a + n) rest) (ap (λ (o : Option Instr). option_map_or (λ c. 1) (option_map named o) 0) (slice_get-get_or code a instr.Fence lt))
             ∙ ap (λ (ls : List Label). standing labels a ++ ls) (behind_standing (a + 1) m (omega (arith, lt)))
         | inr past ↦
             let behind : length code < a + 1 = omega (arith, past, le) in

@@ -1,9 +1,8 @@
 -- A thread's labels: the first of a position names it, and in text order they are those of its places one after another.
-use Rattle.std.proofs.Common.{◌≡◌, ◌≢◌, ℕ, zero, suc, ◌+◌, ◌<◌, ◌≤◌, ◌==◌, Bool, true, false, cond, List, [], ◌∷◌, ◌++◌, length, map, Option, Some, None, refl, sym, ap, ◌∙◌, subst, inl, inr, arith}
-use Rattle.canonical_text.proofs.Vocabulary.{nat_lt, is_some, slice_index_or, AllByRecursion, cons_option, flat_map, range_with_len, option_map_or, bytes_eq, cases_Bool, lt-ltb, Decides-eqb}
-use Rattle.canonical_text.proofs.Vocabulary.{bytes_eq-Decides, IsNoneOf, NoneTwice, Label, label_in, position_in, IsLabelName, named_at, label_names_at, label_name_at}
+use Rattle.canonical_text.proofs.Vocabulary.{◌≡◌, ◌≢◌, ℕ, zero, suc, ◌+◌, ◌<◌, ◌≤◌, Bool, true, false, cond, List, [], ◌∷◌, ◌++◌, length, map, Option, Some, None, refl, sym, ap, ◌∙◌, subst, inl, inr, arith, cases_eq, nat_lt, is_some, slice_index_or}
+use Rattle.canonical_text.proofs.Vocabulary.{AllByRecursion, cons_option, flat_map, range_with_len, option_map_or, bytes_eq, cases_Bool, lt-ltb, bytes_eq-Decides, IsNoneOf, NoneTwice, Label, label_in, position_in, IsLabelName, named_at}
+use Rattle.canonical_text.proofs.Vocabulary.{label_names_at, label_name_at}
 use Rattle.canonical_text.proofs.LabelPlaces.{here, elsewhere}
-use Rattle.std.proofs.lemmas.Bool.{both_ways as false_not_true}
 
 abbrev pub label_name : Label → List ℕ
 label_name l = l.name
@@ -16,11 +15,7 @@ SomeAt labels k = 0 < length (label_names_at labels k)
 
 -- whether a label stands there, by cases
 at_or_not : (C : Type 0) (k : ℕ) (l : Label) → (l.position ≡ k → C) → ((l.position ≡ k → ⊥) → C) → C
-at_or_not C k l same other =
-    elim (cases_Bool (l.position == k)) [
-      | inl t ↦ same ((Decides-eqb l.position k).0 t)
-      | inr f ↦ other (λ e. false_not_true (l.position == k) f ((Decides-eqb l.position k).1 e))
-    ]
+at_or_not C k l same other = elim (cases_eq l.position k) [ inl e ↦ same e | inr n ↦ other n ]
 
 at_here : (l : Label) (labels : List Label) (k : ℕ) → l.position ≡ k → label_names_at (l ∷ labels) k ≡ l.name ∷ label_names_at labels k
 at_here l labels k e = ap (λ (o : Option (List ℕ)). cons_option o (label_names_at labels k)) (here k l e)
@@ -62,19 +57,13 @@ label_there (l ∷ labels) k once some =
     let apart : bytes_eq l.name (label_name_at labels k) ≡ false = different l.name (label_name_at labels k) (not_among l.name labels k once.0 rest) in
     subst (λ (n : List ℕ). goal n (bytes_eq l.name n)) name (subst (goal (label_name_at labels k)) (sym apart) (label_there labels k once.1 rest)))
 
-position_by : (k : ℕ) (o : Option Label) → StandsAt k o → option_map_or (λ l. l.position) o 0 ≡ k
+pub position_by : (k : ℕ) (o : Option Label) → StandsAt k o → option_map_or (λ l. l.position) o 0 ≡ k
 position_by k None h = absurd h
 position_by k (Some l) h = h
 
-found_by : (k : ℕ) (o : Option Label) → StandsAt k o → is_some o ≡ true
+pub found_by : (k : ℕ) (o : Option Label) → StandsAt k o → is_some o ≡ true
 found_by k None h = absurd h
 found_by k (Some l) h = refl
-
-pub position_again : (labels : List Label) (k : ℕ) → NoneTwice (map label_name labels) → SomeAt labels k → position_in labels (label_name_at labels k) ≡ k
-position_again labels k once some = position_by k (label_in labels (label_name_at labels k)) (label_there labels k once some)
-
-pub label_found : (labels : List Label) (k : ℕ) → NoneTwice (map label_name labels) → SomeAt labels k → is_some (label_in labels (label_name_at labels k)) ≡ true
-label_found labels k once some = found_by k (label_in labels (label_name_at labels k)) (label_there labels k once some)
 
 -- ---- names that may stand
 
@@ -89,12 +78,9 @@ labels_good (l ∷ labels) k h =
     (λ at. subst all (sym (at_here l labels k at)) (h.0, labels_good labels k h.1))
     (λ other. subst all (sym (at_others l labels k other)) (labels_good labels k h.1))
 
-first_good : (ns : List (List ℕ)) → 0 < length ns → AllByRecursion IsLabelName ns → IsLabelName (first ns)
+pub first_good : (ns : List (List ℕ)) → 0 < length ns → AllByRecursion IsLabelName ns → IsLabelName (first ns)
 first_good [] some h = absurd (omega (arith, some))
 first_good (n ∷ ns) some h = h.0
-
-pub label_good : (labels : List Label) (k : ℕ) → AreGoodLabels labels → SomeAt labels k → IsLabelName (label_name_at labels k)
-label_good labels k h some = first_good (label_names_at labels k) some (labels_good labels k h)
 
 -- a label that is found stands at its position
 pub found_stands : (labels : List Label) (name : List ℕ) → is_some (label_in labels name) ≡ true → SomeAt labels (position_in labels name)
@@ -111,15 +97,12 @@ found_stands (l ∷ labels) name h =
           let found : is_some rest ≡ true = sym (ap (λ (b : Bool). is_some (cond b (Some l) rest)) f) ∙ h in
           let before : SomeAt labels (position_in labels name) = found_stands labels name found in
           let same : position_in labels name ≡ at (bytes_eq l.name name) = sym (ap at f) in
-          some_more l labels (at (bytes_eq l.name name)) (subst (SomeAt labels) same before)
+          (longer (named_at (at (bytes_eq l.name name)) l) (label_names_at labels (at (bytes_eq l.name name))) (subst (SomeAt labels) same before))
     ]
   where
     longer : (o : Option (List ℕ)) (ns : List (List ℕ)) → 0 < length ns → 0 < length (cons_option o ns)
     longer None ns h = h
     longer (Some x) ns h = omega arith
-
-    some_more : (l : Label) (labels : List Label) (k : ℕ) → SomeAt labels k → SomeAt (l ∷ labels) k
-    some_more l labels k h = longer (named_at k l) (label_names_at labels k) h
 
 -- ---- labels in the order of their positions
 

@@ -1,11 +1,9 @@
 -- No label stands twice in a thread: told of all rows at once, and of each thread.
-use Rattle.std.proofs.Common.{◌≡◌, ◌≢◌, ℕ, zero, suc, ◌+◌, ◌<◌, ◌==◌, Bool, List, [], ◌∷◌, ◌++◌, map, Option, Some, None, refl, sym, ap, ◌∙◌, subst, inl, inr, arith}
-use Rattle.canonical_text.proofs.Vocabulary.{slice_get, if◌then◌else◌, cons_option, filter_map, flat_map, add-zero, cases_Bool, Decides-eqb, append-nil, map-append, filter_map-append, CellView}
-use Rattle.canonical_text.proofs.Vocabulary.{column, size, labels_behind, thread_labels}
+use Rattle.canonical_text.proofs.Vocabulary.{◌≡◌, ◌≢◌, ℕ, zero, suc, ◌+◌, ◌<◌, ◌==◌, Bool, List, [], ◌∷◌, ◌++◌, map, Option, Some, None, refl, sym, ap, ◌∙◌, subst, inl, inr, arith, slice_get, if◌then◌else◌, cons_option, filter_map, flat_map, add-zero}
+use Rattle.canonical_text.proofs.Vocabulary.{Decides-eqb, append-nil, map-append, filter_map-append, CellView, column, size, labels_behind, thread_labels}
 use Rattle.litmus_syntax.specs.Grammar.{IsNoneOf, NoneTwice, labels_from, row_labels, labels_in_rows}
 use Rattle.canonical_text.proofs.LabelsNamed.{label_name}
-use Rattle.std.proofs.lemmas.Bool.{false_from_ne_true as not_true}
-use Rattle.std.proofs.lemmas.Bool.{both_ways as false_not_true}
+use Rattle.std.proofs.lemmas.Bool.{false_from_ne_true as not_true, cases_eq}
 
 -- a label with its thread
 abbrev Owned : Type 0
@@ -20,8 +18,7 @@ abbrev own_names : ℕ → List Owned → List (List ℕ)
 own_names t ps = filter_map (own_name t) ps
 
 own_or_not : (C : Type 0) (t : ℕ) (p : Owned) → (p.0 ≡ t → C) → ((p.0 ≡ t → ⊥) → C) → C
-own_or_not C t p same other =
-    elim (cases_Bool (p.0 == t)) [ inl h ↦ same ((Decides-eqb p.0 t).0 h) | inr f ↦ other (λ e. false_not_true (p.0 == t) f ((Decides-eqb p.0 t).1 e)) ]
+own_or_not C t p same other = elim (cases_eq p.0 t) [ inl e ↦ same e | inr n ↦ other n ]
 
 own_here : (t : ℕ) (p : Owned) (ps : List Owned) → p.0 ≡ t → own_names t (p ∷ ps) ≡ p.1 ∷ own_names t ps
 own_here t p ps e = ap (λ (b : Bool). cons_option (if b then Some p.1 else None) (own_names t ps)) ((Decides-eqb p.0 t).1 e)
@@ -138,9 +135,6 @@ behind_named k (c ∷ cells) =
 -- the names of thread t's labels
 pub thread_own : (t : ℕ) (rows : List (List CellView)) → own_names t (labels_in_rows rows) ≡ map label_name (thread_labels rows t)
 thread_own t rows = rows_own t rows ∙ sym (behind_named 0 (column rows t))
-
-pub once_of_rows : (t : ℕ) (rows : List (List CellView)) → NoneTwice (labels_in_rows rows) → NoneTwice (map label_name (thread_labels rows t))
-once_of_rows t rows h = subst NoneTwice (thread_own t rows) (once_in_thread t (labels_in_rows rows) h)
 
 pub rows_once : (rows : List (List CellView)) → ((t : ℕ) → NoneTwice (map label_name (thread_labels rows t))) → NoneTwice (labels_in_rows rows)
 rows_once rows h = once_in_all (labels_in_rows rows) (λ t. subst NoneTwice (sym (thread_own t rows)) (h t))

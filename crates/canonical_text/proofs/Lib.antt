@@ -4,7 +4,6 @@ pub mod LabelPlaces
 pub mod LabelsNamed
 pub mod LabelsOnce
 pub mod LabelsAgain
-pub mod StoreBuffering
 pub mod WordsWritten
 pub mod PiecesAppended
 pub mod PiecesApart

@@ -1,7 +1,6 @@
 -- Facts of every element of a list.
-use Rattle.std.proofs.Common.{◌≡◌, ℕ, ◌+◌, ◌<◌, ◌≤◌, zero, suc, Bool, true, false, ◌||◌, List, [], ◌∷◌, ◌++◌, length, map, Option, Some, None, refl, sym, ap, ◌∙◌, arith}
-use Rattle.canonical_text.proofs.Vocabulary.{slice_get, AllByRecursion, list_any, filter_map, cons_option, range_with_len, add-zero, slice_get-get_or, length-map-range_with_len}
-use Rattle.canonical_text.proofs.Vocabulary.{get_or-map-range_with_len}
+use Rattle.canonical_text.proofs.Vocabulary.{◌≡◌, ℕ, ◌+◌, ◌<◌, ◌≤◌, zero, suc, Bool, true, ◌||◌, List, [], ◌∷◌, ◌++◌, length, map, Option, Some, None, refl, sym, ap, ◌∙◌, arith, or-true, slice_get, AllByRecursion, list_any, filter_map, cons_option}
+use Rattle.canonical_text.proofs.Vocabulary.{range_with_len, add-zero, slice_get-get_or, length-map-range_with_len, get_or-map-range_with_len}
 
 pub all_of_both : {X : Type 0} (P : X → Type 0) (xs ys : List X) → AllByRecursion P xs → AllByRecursion P ys → AllByRecursion P (xs ++ ys)
 all_of_both P [] ys h g = g
@@ -37,12 +36,8 @@ each_among alike itself [] = tt
 each_among {X} alike itself (x ∷ xs) = (
   ap (λ (b : Bool). b || list_any (λ y. alike y x) xs) (itself x),
   all_more_so (λ y. list_any (λ z. alike z y) xs ≡ true) (λ y. list_any (λ z. alike z y) (x ∷ xs) ≡ true)
-      (λ y h. ap (λ (b : Bool). alike x y || b) h ∙ or_true (alike x y)) xs (each_among alike itself xs),
+      (λ y h. ap (λ (b : Bool). alike x y || b) h ∙ or-true (alike x y)) xs (each_among alike itself xs),
 )
-  where
-    or_true : (a : Bool) → (a || true) ≡ true
-    or_true true = refl
-    or_true false = refl
 
 -- the element at a place of a list that is made by number
 pub made_at : {X : Type 0} (f : ℕ → X) (n k : ℕ) → k < n → slice_get (map f (range_with_len 0 n)) k ≡ Some (f k)

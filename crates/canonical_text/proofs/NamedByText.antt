@@ -1,13 +1,14 @@
 -- What a text names: each name can be printed, and each place that it names is named.
-use Rattle.std.proofs.Common.{◌≡◌, ℕ, ◌+◌, ◌<◌, ◌≤◌, Bool, true, false, cond, ◌||◌, List, [], ◌∷◌, ◌++◌, length, map, fold, get_or, Option, Some, None, refl, sym, ap, ◌∙◌, subst, inl, inr, arith}
-use Rattle.canonical_text.proofs.Vocabulary.{if◌then◌else◌, slice_index_or, AllByRecursion, list_any, find, flat_map, filter_map, option_map_or, bytes_eq, cases_Bool, bytes_eq-Decides}
-use Rattle.canonical_text.proofs.Vocabulary.{list_any-append, get_or-map-range_with_len, Reg, Eax, PlaceView, Location, Register, EntryView, CodeView, LoadImm, Copy, Load}
-use Rattle.canonical_text.proofs.Vocabulary.{StoreImm, Store, Xchg, CmpImm, CmpReg, CellView, BodyView, SignView, Atom, Const, Not, And, Or, Open, Close, EndingView, same_place}
-use Rattle.canonical_text.proofs.Vocabulary.{all_registers, with_name, code_places, cell_places, cells_places, row_places, sign_places, entry_place, places, location_name, is_register, names_of}
-use Rattle.canonical_text.proofs.Vocabulary.{is_named, first_value, IsTextNumber, IsLocationName, IsPrintablePlace, IsPrintableEntry, IsPrintableCode, IsPrintableContent, IsPrintableCell}
-use Rattle.canonical_text.proofs.Vocabulary.{IsPrintableRow, IsPrintableSign}
+use Rattle.canonical_text.proofs.Vocabulary.{◌≡◌, ℕ, ◌+◌, ◌<◌, ◌≤◌, Bool, true, false, cond, ◌||◌, List, [], ◌∷◌, ◌++◌, length, map, fold, get_or, Option, Some, None, refl, sym, ap, ◌∙◌, subst, inl, inr, arith, or_parts, if◌then◌else◌, slice_index_or}
+use Rattle.canonical_text.proofs.Vocabulary.{AllByRecursion, list_any, find, flat_map, filter_map, option_map_or, bytes_eq, cases_Bool, list_any-append, get_or-map-range_with_len, Reg, Eax, PlaceView, Location, Register, EntryView, CodeView}
+use Rattle.canonical_text.proofs.Vocabulary.{LoadImm, Copy, Load, StoreImm, Store, Xchg, CmpImm, CmpReg, CellView, BodyView, SignView, Atom, EndingView, same_place, all_registers, with_name, code_places, cell_places}
+use Rattle.canonical_text.proofs.Vocabulary.{cells_places, row_places, sign_places, entry_place, places, location_name, is_register, names_of, is_named, first_value, IsTextNumber, IsLocationName, IsPrintablePlace, IsPrintableEntry, IsPrintableCode}
+use Rattle.canonical_text.proofs.Vocabulary.{IsPrintableContent, IsPrintableCell, IsPrintableRow, IsPrintableSign, append-nil}
 use Rattle.tso_program.specs.Instructions.{number}
 use Rattle.litmus_syntax.proofs.SeenLaws.{same_place_itself}
+use Rattle.litmus_reader.specs.Names.{in_order}
+use Rattle.litmus_reader.proofs.NamesOnce.{Stands, stand_from}
+use Rattle.canonical_text.proofs.NamedPlaces.{nothing_held}
 use Rattle.canonical_text.proofs.ToldCode.{IsKnown}
 use Rattle.canonical_text.proofs.Lists.{all_of_both, each_among}
 
@@ -32,14 +33,11 @@ content_places_printable : (threads t : ℕ) (c : Option CodeView) → t < threa
 content_places_printable threads t None lt h = tt
 content_places_printable threads t (Some c) lt h = code_places_printable threads t c lt h
 
-cell_places_printable : (threads t : ℕ) (cell : CellView) → t < threads → IsPrintableCell cell → AllByRecursion (IsPrintablePlace threads) (cell_places t cell)
-cell_places_printable threads t cell lt h = content_places_printable threads t cell.code lt h.1
-
 cells_places_printable : (threads a : ℕ) (cells : List CellView) → a + length cells ≤ threads → AllByRecursion IsPrintableCell cells → AllByRecursion (IsPrintablePlace threads) (cells_places a cells)
 cells_places_printable threads a [] le h = tt
 cells_places_printable threads a (cell ∷ cells) le h =
     all_of_both (IsPrintablePlace threads) (cell_places a cell) (cells_places (a + 1) cells)
-    (cell_places_printable threads a cell (omega (arith, le)) h.0) (cells_places_printable threads (a + 1) cells (omega (arith, le)) h.1)
+    (content_places_printable threads a cell.code (omega (arith, le)) h.0.1) (cells_places_printable threads (a + 1) cells (omega (arith, le)) h.1)
 
 rows_places : (threads : ℕ) (rows : List (List CellView)) → AllByRecursion (IsPrintableRow threads) rows → AllByRecursion (IsPrintablePlace threads) (flat_map row_places rows)
 rows_places threads [] h = tt
@@ -49,12 +47,7 @@ rows_places threads (row ∷ rows) h =
 signs_places : (threads : ℕ) (ss : List SignView) → AllByRecursion (IsPrintableSign threads) ss → AllByRecursion (IsPrintablePlace threads) (flat_map sign_places ss)
 signs_places threads [] h = tt
 signs_places threads (Atom p n ∷ ss) h = (h.0.0, signs_places threads ss h.1)
-signs_places threads (Const b ∷ ss) h = signs_places threads ss h.1
-signs_places threads (Not ∷ ss) h = signs_places threads ss h.1
-signs_places threads (And ∷ ss) h = signs_places threads ss h.1
-signs_places threads (Or ∷ ss) h = signs_places threads ss h.1
-signs_places threads (Open ∷ ss) h = signs_places threads ss h.1
-signs_places threads (Close ∷ ss) h = signs_places threads ss h.1
+signs_places threads (_ ∷ ss) h = signs_places threads ss h.1
 
 pub places_printable : (b : BodyView) (e : EndingView) → AllByRecursion (IsPrintableEntry b.threads) b.entries → AllByRecursion (IsPrintableRow b.threads) b.rows → AllByRecursion (IsPrintablePlace b.threads) e.observed
     → AllByRecursion (IsPrintableSign b.threads) e.signs → AllByRecursion (IsPrintablePlace b.threads) (places b e)
@@ -89,38 +82,6 @@ named_is b e t r lt =
     ap (λ (bs : List Bool). slice_index_or bs (number r) false) (get_or-map-range_with_len flags 0 b.threads t t [] lt (omega arith))
     ∙ at_register (λ s. list_any (is_register t s) (places b e)) r
 
-or_true : (a : Bool) → (a || (true || false)) ≡ true
-or_true true = refl
-or_true false = refl
-
--- a name that stands there already
-stays_there : (f : List ℕ → Bool) (names : List (List ℕ)) (x : List ℕ) (b : Bool) → list_any f names ≡ true → list_any f (if b then names else names ++ x ∷ []) ≡ true
-stays_there f names x true h = h
-stays_there f names x false h = list_any-append f names (x ∷ []) ∙ ap (λ (b : Bool). b || list_any f (x ∷ [])) h
-
-stays : (f : List ℕ → Bool) (names xs : List (List ℕ)) → list_any f names ≡ true → list_any f (fold with_name names xs) ≡ true
-stays f names [] h = h
-stays f names (x ∷ xs) h = stays f (with_name names x) xs (stays_there f names x (list_any (bytes_eq x) names) h)
-
--- a name that comes
-comes : (names : List (List ℕ)) (x : List ℕ) (b : Bool) → list_any (bytes_eq x) names ≡ b → list_any (bytes_eq x) (if b then names else names ++ x ∷ []) ≡ true
-comes names x true h = h
-comes names x false h =
-    let itself : bytes_eq x x ≡ true = (bytes_eq-Decides x x).1 refl in
-    list_any-append (bytes_eq x) names (x ∷ []) ∙ ap (λ (b : Bool). list_any (bytes_eq x) names || (b || false)) itself ∙ or_true (list_any (bytes_eq x) names)
-
--- a location's name stands among the names
-abbrev Stands : List (List ℕ) → PlaceView → Type 0
-Stands names (Location x) = list_any (bytes_eq x) names ≡ true
-Stands names (Register t r) = Unit {0}
-
--- each location stands among the names
-all_stand : (names : List (List ℕ)) (ps : List PlaceView) → AllByRecursion (Stands (fold with_name names (filter_map location_name ps))) ps
-all_stand names [] = tt
-all_stand names (Location x ∷ ps) =
-    (stays (bytes_eq x) (with_name names x) (filter_map location_name ps) (comes names x (list_any (bytes_eq x) names) refl), all_stand (with_name names x) ps)
-all_stand names (Register t r ∷ ps) = (tt, all_stand names ps)
-
 known_of : (b : BodyView) (e : EndingView) (qs : List PlaceView) → AllByRecursion (IsPrintablePlace b.threads) qs → AllByRecursion (Stands (names_of b e).locations) qs
     → AllByRecursion (λ p. list_any (λ q. same_place q p) (places b e) ≡ true) qs → AllByRecursion (IsKnown (names_of b e).locations (is_named (names_of b e))) qs
 known_of b e [] printable stand among = tt
@@ -131,11 +92,12 @@ known_of b e (Register t r ∷ qs) printable stand among = (named_is b e t r pri
 pub places_known : (b : BodyView) (e : EndingView) → AllByRecursion (IsPrintablePlace b.threads) (places b e) → AllByRecursion (IsKnown (names_of b e).locations (is_named (names_of b e))) (places b e)
 places_known b e printable =
     let ps : List PlaceView = places b e in
-    known_of b e ps printable (all_stand [] ps) (each_among same_place same_place_itself ps)
+    let stand = subst (λ (qs : List PlaceView). AllByRecursion (Stands (in_order (filter_map location_name qs))) ps) (append-nil ps) (stand_from [] ps []) in
+    known_of b e ps printable stand (each_among same_place same_place_itself ps)
 
 -- ---- what the places hold
 
-found_small : (threads : ℕ) (p : PlaceView) (es : List EntryView) → AllByRecursion (IsPrintableEntry threads) es → IsTextNumber (first_value es p)
+pub found_small : (threads : ℕ) (p : PlaceView) (es : List EntryView) → AllByRecursion (IsPrintableEntry threads) es → IsTextNumber (first_value es p)
 found_small threads p [] h = omega arith
 found_small threads p (e ∷ es) h =
     let value : Bool → ℕ = λ b. option_map_or (λ (x : EntryView). x.value) (cond b (Some e) (find (λ x. same_place x.place p) es)) 0 in
@@ -144,27 +106,10 @@ found_small threads p (e ∷ es) h =
       | inr f ↦ subst IsTextNumber (sym (ap value f)) (found_small threads p es h.1)
     ]
 
-pub held_small : (threads : ℕ) (es : List EntryView) → AllByRecursion (IsPrintableEntry threads) es → (p : PlaceView) → IsTextNumber (first_value es p)
-held_small threads es h p = found_small threads p es h
-
-nothing_held : (p : PlaceView) (es : List EntryView) → list_any (λ q. same_place q p) (map entry_place es) ≡ false → first_value es p ≡ 0
-nothing_held p [] h = refl
-nothing_held p (e ∷ es) h =
-    let value : Bool → ℕ = λ b. option_map_or (λ (x : EntryView). x.value) (cond b (Some e) (find (λ x. same_place x.place p) es)) 0 in
-    let rest : Bool → Bool = λ b. b || list_any (λ q. same_place q p) (map entry_place es) in
-    elim (cases_Bool (same_place e.place p)) [
-      | inl t ↦ let clash : true ≡ false = sym (ap rest t) ∙ h in cc
-      | inr f ↦ ap value f ∙ nothing_held p es (sym (ap rest f) ∙ h)
-    ]
-
-neither : (a b : Bool) → (a || b) ≡ false → a ≡ false
-neither true b h = cc
-neither false b h = refl
-
 -- a register that is not named holds 0
 pub unnamed_zero : (b : BodyView) (e : EndingView) (t : ℕ) (r : Reg) → t < b.threads → is_named (names_of b e) t r ≡ false → first_value b.entries (Register t r) ≡ 0
 unnamed_zero b e t r lt h =
     let f : PlaceView → Bool = is_register t r in
     let more : List PlaceView = flat_map row_places b.rows ++ (e.observed ++ flat_map sign_places e.signs) in
     let none : (list_any f (map entry_place b.entries) || list_any f more) ≡ false = sym (list_any-append f (map entry_place b.entries) more) ∙ sym (named_is b e t r lt) ∙ h in
-    nothing_held (Register t r) b.entries (neither (list_any f (map entry_place b.entries)) (list_any f more) none)
+    nothing_held (Register t r) b.entries (or_parts (list_any f (map entry_place b.entries)) (list_any f more) none).0

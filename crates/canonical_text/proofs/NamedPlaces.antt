@@ -1,11 +1,13 @@
 -- The entries of the canonical text: the places that they name stand once, in order, and hold what they held.
-use Rattle.std.proofs.Common.{◌≡◌, ◌≢◌, ℕ, ◌+◌, ◌*◌, ◌<◌, ◌≤◌, ◌==◌, zero, suc, Bool, true, false, cond, ◌&&◌, ◌||◌, List, [], ◌∷◌, ◌++◌, length, map, get_or, Some, refl, sym, ap, ◌∙◌, inl, inr, arith}
+use Rattle.std.proofs.Common.{◌≡◌, ◌≢◌, ℕ, ◌+◌, ◌*◌, ◌<◌, ◌≤◌, ◌==◌, zero, suc, Bool, true, false, cond, ◌&&◌, ◌||◌, List, [], ◌∷◌, ◌++◌, length, map, get_or, Some, refl, sym, ap, ◌∙◌, inl, inr, arith, eq-eqb}
 use Rattle.std.specs.Prelude.{if◌then◌else◌, slice_index}
 use Rattle.std.proofs.lemmas.List.{length-map, get_or-map, map-append}
-use Rattle.canonical_text.proofs.Vocabulary.{AllByRecursion, IsDistinct, flat_map, filter_map, find, list_any, option_map_or, bytes_eq, cases_Bool, Decides-eqb, bytes_eq-Decides, list_any-append}
-use Rattle.canonical_text.proofs.Vocabulary.{fill_by_all, Reg, Eax, Ebx, Ecx, Edx, Esi, Edi, Thread, PlaceView, Location, Register, EntryView, IsNoneOf, NoneTwice, place_of_entry, same_place}
-use Rattle.canonical_text.proofs.Vocabulary.{same_place_is, TextNames, all_registers, location_name, is_register, is_named, first_value, location_name_at, location_entry, location_entries}
-use Rattle.canonical_text.proofs.Vocabulary.{named_entry, register_entries, IsTextNumber, IsLocationName, IsPrintableEntry}
+use Rattle.std.proofs.lemmas.Simd.{map-map}
+use Rattle.std.proofs.Math.Bool.{and-true, and-false, or-true, or-false}
+use Rattle.std.proofs.lemmas.Bool.{or_from, or_parts, false_from_ne_true}
+use Rattle.canonical_text.proofs.Vocabulary.{AllByRecursion, IsDistinct, flat_map, filter_map, find, list_any, option_map_or, bytes_eq, cases_Bool, Decides-eqb, bytes_eq-Decides, list_any-append, fill_by_all, Reg, Eax, Ebx, Ecx, Edx, Esi, Edi, Thread}
+use Rattle.canonical_text.proofs.Vocabulary.{PlaceView, Location, Register, EntryView, IsNoneOf, NoneTwice, place_of_entry, same_place, same_place_is, TextNames, all_registers, location_name, is_register, is_named, first_value, location_name_at}
+use Rattle.canonical_text.proofs.Vocabulary.{location_entry, location_entries, named_entry, register_entries, IsTextNumber, IsLocationName, IsPrintableEntry}
 use Rattle.tso_program.specs.Instructions.{number}
 
 -- ---- the places
@@ -41,10 +43,6 @@ abbrev pub RegistersAre : (PlaceView → ℕ) → ℕ → List Thread → Type 0
 RegistersAre held t [] = Unit {0}
 RegistersAre held t (thread ∷ threads) = (thread.registers ≡ map (λ r. held (Register t r)) all_registers) × RegistersAre held (t + 1) threads
 
-map_map : {A B C : Type 0} (g : B → C) (f : A → B) (xs : List A) → map g (map f xs) ≡ map (λ x. g (f x)) xs
-map_map g f [] = refl
-map_map {C = C} g f (x ∷ xs) = ap (λ (ys : List C). g (f x) ∷ ys) (map_map g f xs)
-
 location_entries_are : (held : PlaceView → ℕ) (names : List (List ℕ)) → location_entries names (map (λ x. held (Location x)) names) ≡ map (entry_at held) (map Location names)
 location_entries_are held names =
     let value : List ℕ → ℕ = λ x. held (Location x) in
@@ -57,7 +55,7 @@ location_entries_are held names =
     let within : l < length names = omega (arith, count) in
     get_or-map entry names l [] none within
     ∙ ap (λ (n : ℕ). record { place = Location (location_name_at names l); value = n }) (sym (get_or-map value names l [] 0 within)) in
-    sym (fill_by_all (location_entry names memory) (map entry names) (length memory) none (length-map names entry ∙ sym count) at) ∙ sym (map_map (entry_at held) Location names)
+    sym (fill_by_all (location_entry names memory) (map entry names) (length memory) none (length-map names entry ∙ sym count) at) ∙ sym (map-map (entry_at held) Location names)
 
 value_of_register : (v : Reg → ℕ) (r : Reg) → slice_index (map v all_registers) (number r) ≡ v r
 value_of_register v Eax = refl
@@ -143,19 +141,22 @@ key_of : PlaceView → ℕ
 key_of (Location x) = 0
 key_of (Register t r) = 6 * t + number r
 
-key_is : (t : ℕ) (r : Reg) → key_of (Register t r) ≡ 6 * t + number r
+same_key : (t u : ℕ) (r s : Reg) → Register t r ≡ Register u s → 6 * t + number r ≡ 6 * u + number s
 unfolding key_of
-key_is t r = refl
+same_key t u r s e = ap key_of e
 
 none_later : (t : ℕ) (r : Reg) (k m : ℕ) (ps : List PlaceView) → 6 * t + number r < k → Rising k m ps → IsNoneOf (Register t r) ps
 none_later t r k m [] lt h = tt
 none_later t r k m (Location x ∷ ps) lt h = absurd h
-none_later t r k m (Register u s ∷ ps) lt h = (
-  λ e.
-      let keys : 6 * t + number r ≡ 6 * u + number s = sym (key_is t r) ∙ ap key_of e ∙ key_is u s in
-      omega (arith, keys, h.0),
-  none_later t r (6 * u + number s + 1) m ps (omega (arith, h.0)) h.1,
-)
+none_later t r k m (Register u s ∷ ps) lt h =
+    ((λ e. let keys = same_key t u r s e in omega (arith, keys, h.0)), none_later t r (6 * u + number s + 1) m ps (omega (arith, h.0)) h.1)
+
+none_earlier : (t : ℕ) (r : Reg) (k m : ℕ) (ps : List PlaceView) → m ≤ 6 * t + number r → Rising k m ps → (k ≤ m) × IsNoneOf (Register t r) ps
+none_earlier t r k m [] le h = (h, tt)
+none_earlier t r k m (Location x ∷ ps) le h = absurd h
+none_earlier t r k m (Register u s ∷ ps) le h =
+    let rest = none_earlier t r (6 * u + number s + 1) m ps le h.1 in
+    (omega (arith, rest.0, h.0), ((λ e. let keys = same_key t u r s e in omega (arith, keys, rest.0)), rest.1))
 
 rising_once : (k m : ℕ) (ps : List PlaceView) → Rising k m ps → NoneTwice ps
 rising_once k m [] h = tt
@@ -224,16 +225,16 @@ held_among held p (q ∷ qs) h =
       | inr f ↦ ap found f ∙ held_among held p qs (sym (ap (λ (b : Bool). b || list_any (λ x. same_place x p) qs) f) ∙ h)
     ]
 
--- one that is not holds 0
+-- a place that no entry names holds 0
+pub nothing_held : (p : PlaceView) (es : List EntryView) → list_any (λ q. same_place q p) (map place_of_entry es) ≡ false → first_value es p ≡ 0
+nothing_held p [] h = refl
+nothing_held p (e ∷ es) h =
+    let value : Bool → ℕ = λ b. option_map_or (λ (x : EntryView). x.value) (cond b (Some e) (find (λ x. same_place x.place p) es)) 0 in
+    let neither = or_parts (same_place e.place p) (list_any (λ q. same_place q p) (map place_of_entry es)) h in
+    ap value neither.0 ∙ nothing_held p es neither.1
+
 pub held_nowhere : (held : PlaceView → ℕ) (p : PlaceView) (qs : List PlaceView) → list_any (λ q. same_place q p) qs ≡ false → first_value (map (entry_at held) qs) p ≡ 0
-held_nowhere held p [] h = refl
-held_nowhere held p (q ∷ qs) h =
-    let found : Bool → ℕ = λ b. option_map_or (λ (e : EntryView). e.value) (cond b (Some (entry_at held q)) (find (λ e. same_place e.place p) (map (entry_at held) qs))) 0 in
-    let rest : Bool → Bool = λ b. b || list_any (λ x. same_place x p) qs in
-    elim (cases_Bool (same_place q p)) [
-      | inl t ↦ let clash : true ≡ false = sym (ap rest t) ∙ h in cc
-      | inr f ↦ ap found f ∙ held_nowhere held p qs (sym (ap rest f) ∙ h)
-    ]
+held_nowhere held p qs h = nothing_held p (map (entry_at held) qs) (ap (list_any (λ q. same_place q p)) (placed_entries held qs) ∙ h)
 
 -- ---- which are among them
 
@@ -247,36 +248,25 @@ same_register r s e =
     let same : Register 0 s ≡ Register 0 r = same_place_is (Register 0 s) (Register 0 r) there in
     cc
 
-itself : (n : ℕ) → (n == n) ≡ true
-itself n = (Decides-eqb n n).1 refl
-
 any_picked : (f : PlaceView → Bool) (p : PlaceView) (b : Bool) → list_any f (if b then p ∷ [] else []) ≡ (b && f p)
-any_picked f p true = go (f p)
-  where
-    go : (c : Bool) → (c || false) ≡ c
-    go true = refl
-    go false = refl
+any_picked f p true = or-false (f p)
 any_picked f p false = refl
 
 swap_last : (a b c : Bool) → ((a && c) || (a && b)) ≡ (a && (c || b))
 swap_last true b c = refl
 swap_last false b c = refl
 
-and_false : (a : Bool) → (a && false) ≡ false
-and_false true = refl
-and_false false = refl
-
 among_picked : (named : Named) (t : ℕ) (r : Reg) (rs : List Reg) → list_any (is_register t r) (flat_map (picked named t) rs) ≡ (named t r && list_any (λ s. number s == number r) rs)
-among_picked named t r [] = sym (and_false (named t r))
+among_picked named t r [] = sym (and-false (named t r))
 among_picked named t r (s ∷ rs) =
     let rest : Bool = list_any (λ q. number q == number r) rs in
     let here : Bool = number s == number r in
     let first : list_any (is_register t r) (picked named t s) ≡ (named t s && here) =
-    any_picked (is_register t r) (Register t s) (named t s) ∙ ap (λ (b : Bool). named t s && (b && here)) (itself t) in
+    any_picked (is_register t r) (Register t s) (named t s) ∙ ap (λ (b : Bool). named t s && (b && here)) (eq-eqb t t refl) in
     let same : (named t s && here) ≡ (named t r && here) =
     elim (cases_Bool here) [
       | inl same_one ↦ ap (λ (q : Reg). named t q && here) (same_register r s same_one)
-      | inr other_one ↦ ap (λ (b : Bool). named t s && b) other_one ∙ and_false (named t s) ∙ sym (ap (λ (b : Bool). named t r && b) other_one ∙ and_false (named t r))
+      | inr other_one ↦ ap (λ (b : Bool). named t s && b) other_one ∙ and-false (named t s) ∙ sym (ap (λ (b : Bool). named t r && b) other_one ∙ and-false (named t r))
     ] in
     list_any-append (is_register t r) (picked named t s) (flat_map (picked named t) rs)
     ∙ ap (λ (b : Bool). b || list_any (is_register t r) (flat_map (picked named t) rs)) (first ∙ same)
@@ -287,47 +277,14 @@ each_register : (r : Reg) → list_any (λ s. number s == number r) all_register
 each_register Eax = refl
 each_register r = refl
 
-and_true : (a : Bool) → (a && true) ≡ a
-and_true true = refl
-and_true false = refl
-
-among_own : (named : Named) (t : ℕ) (r : Reg) → list_any (is_register t r) (register_places named t) ≡ named t r
-among_own named t r = among_picked named t r all_registers ∙ ap (λ (b : Bool). named t r && b) (each_register r) ∙ and_true (named t r)
-
--- no register of an earlier thread
-among_later : (t : ℕ) (r : Reg) (k m : ℕ) (ps : List PlaceView) → 6 * t + number r < k → Rising k m ps → list_any (is_register t r) ps ≡ false
-among_later t r k m [] lt h = refl
-among_later t r k m (Location x ∷ ps) lt h = absurd h
-among_later t r k m (Register u s ∷ ps) lt h =
-    elim (cases_Bool (same_place (Register u s) (Register t r))) [
-      | inl same_one ↦
-          let keys : 6 * u + number s ≡ 6 * t + number r = sym (key_is u s) ∙ ap key_of (same_place_is (Register u s) (Register t r) same_one) ∙ key_is t r in
-          absurd (omega (arith, keys, h.0))
-      | inr other_one ↦ ap (λ (b : Bool). b || list_any (is_register t r) ps) other_one ∙ among_later t r (6 * u + number s + 1) m ps (omega (arith, h.0)) h.1
-    ]
+-- what is no place of a list is not among it
+none_among : (p : PlaceView) (ps : List PlaceView) → IsNoneOf p ps → list_any (λ q. same_place q p) ps ≡ false
+none_among p [] h = refl
+none_among p (q ∷ ps) h = or_from (same_place q p) (list_any (λ x. same_place x p) ps) (false_from_ne_true (same_place q p) (λ t. h.0 (sym (same_place_is q p t)))) (none_among p ps h.1)
 
 small_register : (r : Reg) → number r < 6
 small_register Eax = omega arith
 small_register r = omega arith
-
--- nor of a later one
-among_earlier : (t : ℕ) (r : Reg) (k m : ℕ) (ps : List PlaceView) → m ≤ 6 * t + number r → Rising k m ps → (k ≤ m) × (list_any (is_register t r) ps ≡ false)
-among_earlier t r k m [] le h = (h, refl)
-among_earlier t r k m (Location x ∷ ps) le h = absurd h
-among_earlier t r k m (Register u s ∷ ps) le h =
-    let rest = among_earlier t r (6 * u + number s + 1) m ps le h.1 in (
-      omega (arith, rest.0, h.0),
-      elim (cases_Bool (same_place (Register u s) (Register t r))) [
-        | inl same_one ↦
-            let keys : 6 * u + number s ≡ 6 * t + number r = sym (key_is u s) ∙ ap key_of (same_place_is (Register u s) (Register t r) same_one) ∙ key_is t r in
-            absurd (omega (arith, keys, rest.0))
-        | inr other_one ↦ ap (λ (b : Bool). b || list_any (is_register t r) ps) other_one ∙ rest.1
-      ],
-    )
-
-or_false : (a : Bool) → (a || false) ≡ a
-or_false true = refl
-or_false false = refl
 
 among_threads : (named : Named) (t : ℕ) (r : Reg) (u n : ℕ) → u ≤ t → t < u + n → list_any (is_register t r) (threads_places named u n) ≡ named t r
 among_threads named t r u zero le lt = absurd (omega arith)
@@ -339,12 +296,12 @@ among_threads named t r u (suc n) le lt =
     ∙ elim (cases_Bool (u == t)) [
       | inl same_one ↦
           let same : u ≡ t = (Decides-eqb u t).0 same_one in
-          let later : list_any f rest ≡ false = among_later t r (6 * (u + 1)) (6 * ((u + 1) + n)) rest (omega (arith, same, few)) (rising_threads named (u + 1) n) in
-          ap (λ (b : Bool). list_any f (register_places named u) || b) later ∙ or_false (list_any f (register_places named u))
-          ∙ ap (λ (w : ℕ). list_any f (register_places named w)) same ∙ among_own named t r
+          let later : list_any f rest ≡ false = none_among (Register t r) rest (none_later t r (6 * (u + 1)) (6 * ((u + 1) + n)) rest (omega (arith, same, few)) (rising_threads named (u + 1) n)) in
+          ap (λ (b : Bool). list_any f (register_places named u) || b) later ∙ or-false (list_any f (register_places named u))
+          ∙ ap (λ (w : ℕ). list_any f (register_places named w)) same ∙ (among_picked named t r all_registers ∙ ap (λ (b : Bool). named t r && b) (each_register r) ∙ and-true (named t r))
       | inr other_one ↦
           let other : u ≢ t = λ e. let met : (u == t) ≡ true = (Decides-eqb u t).1 e in cc in
-          let before : list_any f (register_places named u) ≡ false = (among_earlier t r (6 * u) (6 * u + 6) (register_places named u) (omega (arith, other)) (rising_thread named u)).1 in
+          let before : list_any f (register_places named u) ≡ false = none_among (Register t r) (register_places named u) (none_earlier t r (6 * u) (6 * u + 6) (register_places named u) (omega (arith, other)) (rising_thread named u)).1 in
           ap (λ (b : Bool). b || list_any f rest) before ∙ among_threads named t r (u + 1) n (omega (arith, other)) (omega arith)
     ]
 
@@ -363,12 +320,8 @@ location_among_names x (y ∷ names) h =
       | inl same_one ↦ let back : bytes_eq y x ≡ true = (bytes_eq-Decides y x).1 (sym ((bytes_eq-Decides x y).0 same_one)) in ap (λ (b : Bool). b || rest) back
       | inr other_one ↦
           let more : list_any (bytes_eq x) names ≡ true = sym (ap (λ (b : Bool). b || list_any (bytes_eq x) names) other_one) ∙ h in
-          ap (λ (b : Bool). bytes_eq y x || b) (location_among_names x names more) ∙ or_true (bytes_eq y x)
+          ap (λ (b : Bool). bytes_eq y x || b) (location_among_names x names more) ∙ or-true (bytes_eq y x)
     ]
-  where
-    or_true : (a : Bool) → (a || true) ≡ true
-    or_true true = refl
-    or_true false = refl
 
 -- each location is among them
 pub location_among : (x : List ℕ) (names : List (List ℕ)) (ps : List PlaceView) → list_any (bytes_eq x) names ≡ true → list_any (λ q. same_place q (Location x)) (map Location names ++ ps) ≡ true

@@ -1,9 +1,8 @@
 -- The names of the canonical text are those of the text.
-use Rattle.std.proofs.Common.{◌≡◌, ℕ, ◌+◌, ◌*◌, ◌<◌, Bool, true, false, ◌||◌, List, [], ◌∷◌, ◌++◌, map, fold, refl, sym, ap, ◌∙◌, subst, inl, inr, arith, append_assoc}
+use Rattle.canonical_text.proofs.Vocabulary.{◌≡◌, ℕ, ◌+◌, ◌*◌, ◌<◌, Bool, true, false, ◌||◌, List, [], ◌∷◌, ◌++◌, map, fold, refl, sym, ap, ◌∙◌, subst, inl, inr, arith, append_assoc, append-nil, or-false, if◌then◌else◌, AllByRecursion, IsDistinct, list_any}
+use Rattle.canonical_text.proofs.Vocabulary.{filter_map, bytes_eq, cases_Bool, filter_map-append, list_any-append, Reg, PlaceView, Location, Register, same_place, same_place_is, location_name, is_register, names_among}
 use Rattle.std.proofs.lemmas.Cmp.{nat_list_eq_equiv}
 use Rattle.std.proofs.lemmas.Grind.{fold-append}
-use Rattle.canonical_text.proofs.Vocabulary.{if◌then◌else◌, AllByRecursion, IsDistinct, list_any, filter_map, bytes_eq, cases_Bool, filter_map-append, list_any-append, Reg, PlaceView, Location}
-use Rattle.canonical_text.proofs.Vocabulary.{Register, same_place, same_place_is, location_name, is_register, names_among}
 use Rattle.litmus_reader.specs.Names.{all_registers, with_name, in_order}
 use Rattle.canonical_text.proofs.NamedPlaces.{distinct_head as distinct_parts, Named, named_places, threads_places, rising_threads, named_locations, register_among}
 use Rattle.canonical_text.proofs.ToldCode.{IsKnown}
@@ -25,10 +24,6 @@ new_name (y ∷ names) x xs once =
 -- distinct names, one after another, are all new
 all_new : (names xs : List (List ℕ)) → IsDistinct bytes_eq (names ++ xs) → fold with_name names xs ≡ names ++ xs
 all_new names [] once = sym (append-nil names)
-  where
-    append-nil : (l : List (List ℕ)) → l ++ [] ≡ l
-    append-nil [] = refl
-    append-nil (x ∷ l) = ap (λ (m : List (List ℕ)). x ∷ m) (append-nil l)
 all_new names (x ∷ xs) once =
     let same : names ++ x ∷ xs ≡ (names ++ x ∷ []) ++ xs = sym (append_assoc names (x ∷ []) xs) in
     let more : IsDistinct bytes_eq ((names ++ x ∷ []) ++ xs) = subst (IsDistinct bytes_eq) same once in
@@ -57,11 +52,7 @@ locations_again names named threads ps once h =
 -- what is known adds no register
 known_register : (names : List (List ℕ)) (named : Named) (t : ℕ) (r : Reg) (ps : List PlaceView) → AllByRecursion (IsKnown names named) ps
     → (named t r || list_any (is_register t r) ps) ≡ named t r
-known_register names named t r [] h = or_false (named t r)
-  where
-    or_false : (a : Bool) → (a || false) ≡ a
-    or_false true = refl
-    or_false false = refl
+known_register names named t r [] h = or-false (named t r)
 known_register names named t r (p ∷ ps) h =
     let rest : Bool → Bool = λ b. named t r || (b || list_any (is_register t r) ps) in
     elim (cases_Bool (same_place p (Register t r))) [

@@ -1,17 +1,16 @@
 -- The pieces of parts that can be printed can be written one after the other.
-use Rattle.std.proofs.Common.{◌≡◌, ℕ, ◌+◌, ◌^◌, ◌<◌, ◌≤◌, ◌==◌, zero, suc, ◌&&◌, Bool, true, false, List, [], ◌∷◌, ◌++◌, length, map, Option, Some, None, refl, sym, ap, ◌∙◌, inl, inr, arith, append_assoc}
+use Rattle.canonical_text.proofs.Vocabulary.{◌≡◌, ℕ, ◌+◌, ◌^◌, ◌<◌, ◌≤◌, ◌==◌, zero, suc, Bool, true, false, List, [], ◌∷◌, ◌++◌, length, map, Option, Some, None, refl, sym, ap, ◌∙◌, inl, inr, arith, append_assoc, and_parts, flat_map, list_all}
+use Rattle.canonical_text.proofs.Vocabulary.{range_with_len, AllByRecursion, option_to_list, is_ascii_digit, decimal, cases_Bool, Decides-eqb, is_letter, own, Piece, text_of, AreApartBefore, AreApart, Quantifier, NotExists, PlaceView, Location}
+use Rattle.canonical_text.proofs.Vocabulary.{Register, EntryView, CodeView, LoadImm, Copy, Load, StoreImm, Store, Xchg, Fence, CmpImm, CmpReg, CellView, BodyView, SignView, Atom, Const, Not, And, Or, Open, Close, EndingView, IsTextNumber}
+use Rattle.canonical_text.proofs.Vocabulary.{IsLabelName, IsPrintablePlace, IsPrintableEntry, IsPrintableCode, IsPrintableContent, IsPrintableCell, IsPrintableRow, IsPrintable, IsPrintableSign, begins_with_a_word, SignsAreApart, ArePrintable}
+use Rattle.canonical_text.proofs.Vocabulary.{IsPrintableEnding}
 use Rattle.std.proofs.lemmas.Fmt.{digits_decimal, decimal_nonempty}
-use Rattle.canonical_text.proofs.Vocabulary.{flat_map, list_all, range_with_len, AllByRecursion, option_to_list, is_ascii_digit, decimal, cases_Bool, Decides-eqb, is_letter, own, Piece, text_of}
-use Rattle.canonical_text.proofs.Vocabulary.{AreApartBefore, AreApart, Quantifier, Exists, NotExists, Forall, PlaceView, Location, Register, EntryView, CodeView, LoadImm, Copy, Load, StoreImm, Store}
-use Rattle.canonical_text.proofs.Vocabulary.{Xchg, Fence, CmpImm, CmpReg, Je, Jne, Jmp, CellView, BodyView, SignView, Atom, Const, Not, And, Or, Open, Close, EndingView, IsTextNumber, IsLabelName}
-use Rattle.canonical_text.proofs.Vocabulary.{IsPrintablePlace, IsPrintableEntry, IsPrintableCode, IsPrintableContent, IsPrintableCell, IsPrintableRow, IsPrintable, IsPrintableSign, begins_with_a_word}
-use Rattle.canonical_text.proofs.Vocabulary.{SignsAreApart, ArePrintable, IsPrintableEnding}
 use Rattle.litmus_reader.specs.Comments.{opens}
 use Rattle.litmus_reader.specs.Lexing.{IsWord, NoWordGoesOn}
 use Rattle.canonical_text.proofs.PiecesAppended.{AreApartBefore-append}
 use Rattle.canonical_text.specs.Spelling.{line_end, next, joined_by, bar, gap, valued_pieces, entry_pieces, initial_pieces, row_end, line_of, column_pieces, header_pieces, code_pieces, label_pieces, cell_pieces, row_pieces, body_pieces, observed_place_pieces, observed_pieces, sign_pieces, condition_pieces, ending_pieces, lines_pieces, sign, space}
 use Rattle.litmus_reader.specs.Mark.TheVariants as the
-use Rattle.canonical_text.proofs.WordsWritten.{mov_word, xchg_word, mfence_word, cmp_word, je_word, jne_word, jmp_word, locations_word, exists_word, forall_word, true_word, false_word, not_word, register_word, column_word}
+use Rattle.canonical_text.proofs.WordsWritten.{register_word, digits_in_word}
 
 -- pieces that can be written before whatever does not go on with a word
 abbrev pub IsApart : List Piece → Type 0
@@ -66,40 +65,32 @@ module _ (more : List Piece) (apart : EndsApart more) where
   joined_apart (ps ∷ parts) h rest free =
       AreApartBefore-append ps (flat_map (next (space ∷ more)) parts) rest (h.0 (text_of (flat_map (next (space ∷ more)) parts) ++ rest) (parts_end parts rest free)) (parts_apart parts h.1 rest free)
 
-bars_apart : (columns : List (List Piece)) → AllByRecursion IsApart columns → IsApart (joined_by bar columns)
-bars_apart = joined_apart (sign the.Bar ∷ space ∷ []) (λ rest. (refl, (refl, tt)))
-
 gaps_apart : (parts : List (List Piece)) → AllByRecursion IsApart parts → IsApart (joined_by gap parts)
 gaps_apart = joined_apart [] (λ rest. tt)
 
 line_apart : (columns : List (List Piece)) → AllByRecursion IsApart columns → EndsApart (line_of columns)
-line_apart columns h rest = AreApartBefore-append (joined_by bar columns) row_end rest (bars_apart columns h (text_of row_end ++ rest) refl) (refl, (refl, (refl, tt)))
+line_apart columns h rest = AreApartBefore-append (joined_by bar columns) row_end rest ((joined_apart (sign the.Bar ∷ space ∷ []) (λ rest. (refl, (refl, tt)))) columns h (text_of row_end ++ rest) refl) (refl, (refl, (refl, tt)))
 
 names_apart : (k n : ℕ) → k + n ≤ 4294967295 → AllByRecursion IsApart (map column_pieces (range_with_len k n))
 names_apart k zero h = tt
 names_apart k (suc n) h =
     let small : k ≤ 4294967295 = omega (arith, h) in
     let more : (k + 1) + n ≤ 4294967295 = omega (arith, h) in
-    (λ rest free. ((column_word k small, free), tt), names_apart (k + 1) n more)
-
-header_apart : (threads : ℕ) → IsTextNumber threads → EndsApart (header_pieces threads)
-header_apart threads few = line_apart (map column_pieces (range_with_len 0 threads)) (names_apart 0 threads (omega (arith, few)))
+    (λ rest free. ((((refl, digits_in_word (decimal k) (digits_decimal own k (omega (arith, small))))), free), tt), names_apart (k + 1) n more)
 
 -- ---- rows
 
 code_apart : (c : CodeView) → IsPrintableCode c → IsApart (code_pieces c)
-code_apart (LoadImm r n) h rest free = ((mov_word, refl), (refl, ((register_word r, refl), (refl, (refl, ((h, free), tt))))))
-code_apart (Copy r s) h rest free = ((mov_word, refl), (refl, ((register_word r, refl), (refl, ((register_word s, free), tt)))))
-code_apart (Load r x) h rest free = ((mov_word, refl), (refl, ((register_word r, refl), (refl, (refl, ((h.0, refl), (refl, tt)))))))
-code_apart (StoreImm x n) h rest free = ((mov_word, refl), (refl, (refl, ((h.0.0, refl), (refl, (refl, (refl, ((h.1, free), tt))))))))
-code_apart (Store x r) h rest free = ((mov_word, refl), (refl, (refl, ((h.0, refl), (refl, (refl, ((register_word r, free), tt)))))))
-code_apart (Xchg x r) h rest free = ((xchg_word, refl), (refl, (refl, ((h.0, refl), (refl, (refl, ((register_word r, free), tt)))))))
-code_apart Fence h rest free = ((mfence_word, free), tt)
-code_apart (CmpImm r n) h rest free = ((cmp_word, refl), (refl, ((register_word r, refl), (refl, (refl, ((h, free), tt))))))
-code_apart (CmpReg r s) h rest free = ((cmp_word, refl), (refl, ((register_word r, refl), (refl, ((register_word s, free), tt)))))
-code_apart (Je l) h rest free = ((je_word, refl), (refl, ((h, free), tt)))
-code_apart (Jne l) h rest free = ((jne_word, refl), (refl, ((h, free), tt)))
-code_apart (Jmp l) h rest free = ((jmp_word, refl), (refl, ((h, free), tt)))
+code_apart (LoadImm r n) h rest free = (((refl, refl), refl), (refl, ((register_word r, refl), (refl, (refl, ((h, free), tt))))))
+code_apart (Copy r s) h rest free = (((refl, refl), refl), (refl, ((register_word r, refl), (refl, ((register_word s, free), tt)))))
+code_apart (Load r x) h rest free = (((refl, refl), refl), (refl, ((register_word r, refl), (refl, (refl, ((h.0, refl), (refl, tt)))))))
+code_apart (StoreImm x n) h rest free = (((refl, refl), refl), (refl, (refl, ((h.0.0, refl), (refl, (refl, (refl, ((h.1, free), tt))))))))
+code_apart (Store x r) h rest free = (((refl, refl), refl), (refl, (refl, ((h.0, refl), (refl, (refl, ((register_word r, free), tt)))))))
+code_apart (Xchg x r) h rest free = (((refl, refl), refl), (refl, (refl, ((h.0, refl), (refl, (refl, ((register_word r, free), tt)))))))
+code_apart Fence h rest free = (((refl, refl), free), tt)
+code_apart (CmpImm r n) h rest free = (((refl, refl), refl), (refl, ((register_word r, refl), (refl, (refl, ((h, free), tt))))))
+code_apart (CmpReg r s) h rest free = (((refl, refl), refl), (refl, ((register_word r, refl), (refl, ((register_word s, free), tt)))))
+code_apart _ h rest free = (((refl, refl), refl), (refl, ((h, free), tt)))
 
 content_apart : (c : Option CodeView) → IsPrintableContent c → AllByRecursion IsApart (map code_pieces (option_to_list c))
 content_apart None h = tt
@@ -124,7 +115,7 @@ body_apart b h rest =
     let rows : List Piece = flat_map row_pieces b.rows in
     AreApartBefore-append (initial_pieces b.entries) (header_pieces b.threads ++ rows) rest
     (initial_apart b.threads h.few_threads b.entries h.entries (text_of (header_pieces b.threads ++ rows) ++ rest))
-    (AreApartBefore-append (header_pieces b.threads) rows rest (header_apart b.threads h.few_threads (text_of rows ++ rest))
+    (AreApartBefore-append (header_pieces b.threads) rows rest ((line_apart (map column_pieces (range_with_len 0 b.threads)) (names_apart 0 b.threads (omega (arith, h.few_threads)))) (text_of rows ++ rest))
     (apart_all row_pieces (IsPrintableRow b.threads) (row_apart b.threads) b.rows h.rows rest))
 
 -- ---- what is observed
@@ -143,7 +134,7 @@ observed_apart : (threads : ℕ) → IsTextNumber threads → (ps : List PlaceVi
 observed_apart threads few [] h rest = tt
 observed_apart threads few (p ∷ ps) h rest =
     let tail : List Piece = sign the.CloseBracket ∷ line_end ∷ [] in (
-      (locations_word, refl),
+      ((refl, refl), refl),
       (
         refl,
         (
@@ -167,13 +158,9 @@ word_first : (w more : List ℕ) → IsWord w → NoStar (w ++ more)
 word_first [] more h = absurd (let clash : is_letter 0 ≡ true = h.0 in cc)
 word_first (b ∷ w) more h = other_byte is_letter refl b h.0
 
-front : (a b : Bool) → (a && b) ≡ true → a ≡ true
-front true b h = refl
-front false b h = cc
-
 digits_first : (ds more : List ℕ) → 0 < length ds → list_all is_ascii_digit ds ≡ true → NoStar (ds ++ more)
 digits_first [] more some h = absurd (omega (arith, some))
-digits_first (d ∷ ds) more some h = other_byte is_ascii_digit refl d (front (is_ascii_digit d) (list_all is_ascii_digit ds) h)
+digits_first (d ∷ ds) more some h = other_byte is_ascii_digit refl d (and_parts (is_ascii_digit d) (list_all is_ascii_digit ds) h).0
 
 number_first : (n : ℕ) (more : List ℕ) → n ≤ 4294967295 → NoStar (decimal n ++ more)
 number_first n more h = let small : n < 2 ^ 64 = omega (arith, h) in digits_first (decimal n) more (decimal_nonempty n small) (digits_decimal own n small)
@@ -201,9 +188,9 @@ signs_apart threads few (Atom p n ∷ ss) h g rest free star =
     AreApartBefore-append (valued_pieces p n) (flat_map sign_pieces ss) rest
     (valued_apart threads p n few h.0.0 h.0.1 (text_of (flat_map sign_pieces ss) ++ rest) (signs_end ss rest g.0 free))
     (signs_apart threads few ss h.1 g.1 rest free star)
-signs_apart threads few (Const true ∷ ss) h g rest free star = ((true_word, signs_end ss rest g.0 free), signs_apart threads few ss h.1 g.1 rest free star)
-signs_apart threads few (Const false ∷ ss) h g rest free star = ((false_word, signs_end ss rest g.0 free), signs_apart threads few ss h.1 g.1 rest free star)
-signs_apart threads few (Not ∷ ss) h g rest free star = ((not_word, refl), (refl, signs_apart threads few ss h.1 g rest free star))
+signs_apart threads few (Const true ∷ ss) h g rest free star = (((refl, refl), signs_end ss rest g.0 free), signs_apart threads few ss h.1 g.1 rest free star)
+signs_apart threads few (Const false ∷ ss) h g rest free star = (((refl, refl), signs_end ss rest g.0 free), signs_apart threads few ss h.1 g.1 rest free star)
+signs_apart threads few (Not ∷ ss) h g rest free star = (((refl, refl), refl), (refl, signs_apart threads few ss h.1 g rest free star))
 signs_apart threads few (And ∷ ss) h g rest free star = (refl, (refl, (refl, signs_apart threads few ss h.1 g rest free star)))
 signs_apart threads few (Or ∷ ss) h g rest free star = (refl, (refl, (refl, signs_apart threads few ss h.1 g rest free star)))
 signs_apart threads few (Open ∷ ss) h g rest free star = (signs_free threads few ss rest h.1 star, signs_apart threads few ss h.1 g rest free star)
@@ -216,9 +203,8 @@ condition_apart threads few q ss h = go q
     behind = (refl, AreApartBefore-append (flat_map sign_pieces ss) (line_end ∷ []) [] (signs_apart threads few ss h.0 h.1 (10 ∷ []) refl refl) (refl, tt))
 
     go : (q : Quantifier) → AreApart (condition_pieces q ss)
-    go Exists = ((exists_word, refl), behind)
-    go NotExists = (refl, ((exists_word, refl), behind))
-    go Forall = ((forall_word, refl), behind)
+    go NotExists = (refl, (((refl, refl), refl), behind))
+    go _ = (((refl, refl), refl), behind)
 
 -- ---- the whole
 

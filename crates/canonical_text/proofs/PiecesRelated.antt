@@ -1,10 +1,9 @@
 -- The tokens of printed parts are related to those parts by the grammar.
-use Rattle.std.proofs.Common.{◌≡◌, ℕ, ◌+◌, ◌<◌, zero, suc, true, false, List, [], ◌∷◌, ◌++◌, map, codes, Option, Some, None, inl, inr, refl, sym, ap, ◌∙◌, subst, arith, append_assoc}
+use Rattle.canonical_text.proofs.Vocabulary.{◌≡◌, ℕ, ◌+◌, ◌<◌, zero, suc, true, false, List, [], ◌∷◌, ◌++◌, map, codes, Option, Some, None, inl, inr, refl, sym, ap, ◌∙◌, subst, arith, append_assoc, flat_map-map, option_to_list, append-nil, AllByRecursion}
+use Rattle.canonical_text.proofs.Vocabulary.{flat_map, range_with_len, Tok, Sign, Piece, tokens_of, Quantifier, Exists, NotExists, Forall, PlaceView, Location, Register, EntryView, CodeView, LoadImm, Copy, Load, StoreImm, Store, Xchg, Fence, CmpImm, CmpReg}
+use Rattle.canonical_text.proofs.Vocabulary.{Je, Jne, Jmp, CellView, BodyView, SignView, Atom, Const, Not, EndingView, register_name, IsLabelName, IsPrintablePlace, IsPrintableEntry, IsPrintableCode, IsPrintableContent, IsPrintableCell, IsPrintableRow}
+use Rattle.canonical_text.proofs.Vocabulary.{IsPrintable, IsPrintableSign, ArePrintable, IsPrintableEnding}
 use Rattle.std.proofs.lemmas.List.Elements.{All-from_recursion}
-use Rattle.canonical_text.proofs.Vocabulary.{option_to_list, append-nil, AllByRecursion, flat_map, range_with_len, Tok, Sign, Piece, tokens_of, Quantifier, Exists, NotExists, Forall, PlaceView}
-use Rattle.canonical_text.proofs.Vocabulary.{Location, Register, EntryView, CodeView, LoadImm, Copy, Load, StoreImm, Store, Xchg, Fence, CmpImm, CmpReg, Je, Jne, Jmp, CellView, BodyView, SignView}
-use Rattle.canonical_text.proofs.Vocabulary.{Atom, Const, Not, EndingView, register_name, IsLabelName, IsPrintablePlace, IsPrintableEntry, IsPrintableCode, IsPrintableContent}
-use Rattle.canonical_text.proofs.Vocabulary.{IsPrintableCell, IsPrintableRow, IsPrintable, IsPrintableSign, ArePrintable, IsPrintableEnding}
 use Rattle.litmus_reader.specs.Mark.TheVariants as the
 use Rattle.litmus_syntax.specs.Words.{mnemonic_of}
 use Rattle.litmus_syntax.specs.Phrases.{Phrase, ◌▸◌, mark, number, begins_with_word, Items, end, item}
@@ -21,25 +20,19 @@ items_related f Item End P each [] h ps rest e = end e
 items_related f Item End P each (x ∷ xs) h ps rest e =
     rw (append_assoc (f x) (flat_map f xs) ps) (item (each x (flat_map f xs ++ ps) h.0) (items_related f Item End P each xs h.1 ps rest e))
 
--- items with a space before each
-spaced_related : {X : Type 0} (f : X → List Piece) (Item : X → Phrase) (End : Phrase) (P : X → Type 0)
-    → ((x : X) (ps : List Piece) → P x → Item x (tokens_of (f x ++ ps)) (tokens_of ps))
-    → (xs : List X) → AllByRecursion P xs → (ps : List Piece) (rest : List Tok) → End (tokens_of ps) rest
-    → Items Item End xs (tokens_of (flat_map (next gap) (map f xs) ++ ps)) rest
-spaced_related f Item End P each [] h ps rest e = end e
-spaced_related f Item End P each (x ∷ xs) h ps rest e =
-    let more : List Piece = flat_map (next gap) (map f xs) in
-    rw (append_assoc (f x) more ps) (item (each x (more ++ ps) h.0) (spaced_related f Item End P each xs h.1 ps rest e))
+-- spaces say nothing
+joined_tokens : (parts : List (List Piece)) (ps : List Piece) → tokens_of (joined_by gap parts ++ ps) ≡ tokens_of (flat_map (next gap) parts ++ ps)
+joined_tokens [] ps = refl
+joined_tokens (qs ∷ parts) ps = refl
 
 -- items with a space between them
 joined_related : {X : Type 0} (f : X → List Piece) (Item : X → Phrase) (End : Phrase) (P : X → Type 0)
     → ((x : X) (ps : List Piece) → P x → Item x (tokens_of (f x ++ ps)) (tokens_of ps))
     → (xs : List X) → AllByRecursion P xs → (ps : List Piece) (rest : List Tok) → End (tokens_of ps) rest
     → Items Item End xs (tokens_of (joined_by gap (map f xs) ++ ps)) rest
-joined_related f Item End P each [] h ps rest e = end e
-joined_related f Item End P each (x ∷ xs) h ps rest e =
-    let more : List Piece = flat_map (next gap) (map f xs) in
-    rw (append_assoc (f x) more ps) (item (each x (more ++ ps) h.0) (spaced_related f Item End P each xs h.1 ps rest e))
+joined_related f Item End P each xs h ps rest e =
+    subst (λ (ts : List Tok). Items Item End xs ts rest) (sym (joined_tokens (map f xs) ps ∙ ap (λ (qs : List Piece). tokens_of (qs ++ ps)) (flat_map-map (next gap) f xs)))
+    (items_related (λ x. next gap (f x)) Item End P each xs h ps rest e)
 
 -- ---- places and entries
 
@@ -108,14 +101,10 @@ labelled_related [] None ps h g e = end (refl, e)
 labelled_related [] (Some c) ps h g e = rw (append-nil (code_pieces c)) (end (code_related c ps g, e))
 labelled_related (l ∷ ls) c ps h g e = item (h.0.1, (_, refl, refl)) (labelled_related ls c ps h.1 g e)
 
-content_related : (ls : List (List ℕ)) (c : Option CodeView) (ps : List Piece) → AllByRecursion IsLabelName ls → IsPrintableContent c → ends_cell (tokens_of ps) ≡ true
-    → Items IsLabelMark (IsContent c) ls (tokens_of (joined_by gap (map label_pieces ls ++ map code_pieces (option_to_list c)) ++ ps)) (tokens_of ps)
-content_related [] None ps h g e = end (refl, e)
-content_related [] (Some c) ps h g e = rw (append-nil (code_pieces c)) (end (code_related c ps g, e))
-content_related (l ∷ ls) c ps h g e = item (h.0.1, (_, refl, refl)) (labelled_related ls c ps h.1 g e)
-
 cell_related : (c : CellView) (ps : List Piece) → IsPrintableCell c → ends_cell (tokens_of ps) ≡ true → IsCell c (tokens_of (cell_pieces c ++ ps)) (tokens_of ps)
-cell_related c ps h e = content_related c.labels c.code ps h.0 h.1 e
+cell_related c ps h e =
+    subst (λ (ts : List Tok). Items IsLabelMark (IsContent c.code) c.labels ts (tokens_of ps)) (sym (joined_tokens (map label_pieces c.labels ++ map code_pieces (option_to_list c.code)) ps))
+    (labelled_related c.labels c.code ps h.0 h.1 e)
 
 -- after a cell comes `|` or `;`
 cells_end : (cs : List CellView) (ps : List Piece) → ends_cell (tokens_of (flat_map (next bar) (map cell_pieces cs) ++ (row_end ++ ps))) ≡ true

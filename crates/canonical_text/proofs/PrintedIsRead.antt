@@ -1,7 +1,6 @@
 -- Parts that can be printed are the parts of their canonical text.
-use Rattle.std.proofs.Common.{◌≡◌, ℕ, List, [], ◌∷◌, ◌++◌, codes, refl, ap, append_assoc, lit<}
+use Rattle.canonical_text.proofs.Vocabulary.{◌≡◌, ℕ, List, [], ◌∷◌, ◌++◌, codes, refl, ap, append_assoc, lit<, append-nil, text_of, tokens_of, AreApart, lines_pieces, ending_pieces, heading}
 use Rattle.std.proofs.lemmas.Str.{IsUtf8-from_ascii, IsAscii-append}
-use Rattle.canonical_text.proofs.Vocabulary.{append-nil, text_of, tokens_of, AreApart, lines_pieces, ending_pieces, heading}
 use Rattle.litmus_reader.proofs.PieceLaws.{pieces_lex}
 use Rattle.litmus_reader.specs.Space.{nothing}
 use Rattle.litmus_reader.specs.FirstLine.{AreVisible, IsFirstLine}

@@ -1,7 +1,6 @@
 -- The condition: its canonical signs, named again, spell the same formula.
-use Rattle.std.proofs.Common.{◌≡◌, ℕ, false, List, [], ◌∷◌, ◌++◌, map, refl, sym, ap, ◌∙◌, subst, append_assoc}
-use Rattle.canonical_text.proofs.Vocabulary.{AllByRecursion, IsDistinct, flat_map, bytes_eq, append-nil, Tree, tree_map, PlaceView, Location, Register, SignView, number_in, sign_places, IsTextNumber}
-use Rattle.canonical_text.proofs.Vocabulary.{IsPrintablePlace, IsPrintableSign, begins_with_a_word, SignsAreApart}
+use Rattle.canonical_text.proofs.Vocabulary.{◌≡◌, ℕ, false, List, [], ◌∷◌, ◌++◌, map, refl, sym, ap, ◌∙◌, subst, append_assoc, AllByRecursion, IsDistinct, flat_map, bytes_eq, append-nil, Tree, tree_map, PlaceView, Location, Register, SignView, number_in}
+use Rattle.canonical_text.proofs.Vocabulary.{sign_places, IsTextNumber, IsPrintablePlace, IsPrintableSign, begins_with_a_word, SignsAreApart}
 use Rattle.tso_program.specs.Tree as tree
 use Rattle.conditions.specs.Grammar.{Sign, sign_map, Class, Sum, Spells, atom, const, negation, parens, operand, conjunction, term, disjunction}
 use Rattle.conditions.specs.Grammar as sign
@@ -42,22 +41,18 @@ spelled_again f = subst (λ (ss : List (Sign Said)). Spells Sum f ss []) (sym (s
 
 -- ---- they stand apart
 
-regroup_and : (f g : Tree Said) (rest : List (Sign Said))
-    → signs_of f ++ (sign.And ∷ (signs_of g ++ (sign.Close ∷ rest))) ≡ (signs_of f ++ (sign.And ∷ (signs_of g ++ sign.Close ∷ []))) ++ rest
-regroup_and f g rest = simp append_assoc
-
-regroup_or : (f g : Tree Said) (rest : List (Sign Said))
-    → signs_of f ++ (sign.Or ∷ (signs_of g ++ (sign.Close ∷ rest))) ≡ (signs_of f ++ (sign.Or ∷ (signs_of g ++ sign.Close ∷ []))) ++ rest
-regroup_or f g rest = simp append_assoc
+regroup : (join : Sign Said) (f g : Tree Said) (rest : List (Sign Said))
+    → signs_of f ++ (join ∷ (signs_of g ++ (sign.Close ∷ rest))) ≡ (signs_of f ++ (join ∷ (signs_of g ++ sign.Close ∷ []))) ++ rest
+regroup join f g rest = simp append_assoc
 
 apart_before : (f : Tree Said) (rest : List (Sign Said)) → begins_with_a_word (map view_of rest) ≡ false → SignsAreApart (map view_of rest) → SignsAreApart (map view_of (signs_of f ++ rest))
 apart_before (tree.Not f) rest e free = apart_before f rest e free
 apart_before (tree.And f g) rest e free =
     let inner = apart_before f (sign.And ∷ (signs_of g ++ (sign.Close ∷ rest))) refl (apart_before g (sign.Close ∷ rest) refl free) in
-    subst (λ (ss : List (Sign Said)). SignsAreApart (map view_of ss)) (regroup_and f g rest) inner
+    subst (λ (ss : List (Sign Said)). SignsAreApart (map view_of ss)) (regroup sign.And f g rest) inner
 apart_before (tree.Or f g) rest e free =
     let inner = apart_before f (sign.Or ∷ (signs_of g ++ (sign.Close ∷ rest))) refl (apart_before g (sign.Close ∷ rest) refl free) in
-    subst (λ (ss : List (Sign Said)). SignsAreApart (map view_of ss)) (regroup_or f g rest) inner
+    subst (λ (ss : List (Sign Said)). SignsAreApart (map view_of ss)) (regroup sign.Or f g rest) inner
 apart_before f rest e free = (e, free)
 
 apart_alone : (f : Tree Said) → SignsAreApart (map view_of (signs_of f))
@@ -91,12 +86,7 @@ module _ (names : List (List ℕ)) (named : Named) (threads : ℕ) where
   pub text_said : (ss : List SignView) → AllByRecursion (IsPrintableSign threads) ss → AllByRecursion (IsKnown names named) (flat_map sign_places ss) → AllByRecursion IsSaid (map meaning.sign_of ss)
   text_said [] h k = tt
   text_said (view.Atom p n ∷ ss) h k = ((k.0, h.0.0, h.0.1), text_said ss h.1 k.1)
-  text_said (view.Const b ∷ ss) h k = (tt, text_said ss h.1 k)
-  text_said (view.Not ∷ ss) h k = (tt, text_said ss h.1 k)
-  text_said (view.And ∷ ss) h k = (tt, text_said ss h.1 k)
-  text_said (view.Or ∷ ss) h k = (tt, text_said ss h.1 k)
-  text_said (view.Open ∷ ss) h k = (tt, text_said ss h.1 k)
-  text_said (view.Close ∷ ss) h k = (tt, text_said ss h.1 k)
+  text_said (_ ∷ ss) h k = (tt, text_said ss h.1 k)
 
   -- what they spell
   pub sayable : {c : Class} {f : Tree Said} {ss rest : List (Sign Said)} → Spells c f ss rest → AllByRecursion IsSaid ss → IsSayable f × AllByRecursion IsSaid rest
@@ -165,9 +155,4 @@ module _ (names : List (List ℕ)) (named : Named) (threads : ℕ) where
   pub signs_known : (ss : List (Sign Said)) → AllByRecursion IsSaid ss → AllByRecursion (IsKnown names named) (flat_map sign_places (map view_of ss))
   signs_known [] h = tt
   signs_known (sign.Atom a ∷ ss) h = (h.0.0, signs_known ss h.1)
-  signs_known (sign.Const b ∷ ss) h = signs_known ss h.1
-  signs_known (sign.Not ∷ ss) h = signs_known ss h.1
-  signs_known (sign.And ∷ ss) h = signs_known ss h.1
-  signs_known (sign.Or ∷ ss) h = signs_known ss h.1
-  signs_known (sign.Open ∷ ss) h = signs_known ss h.1
-  signs_known (sign.Close ∷ ss) h = signs_known ss h.1
+  signs_known (_ ∷ ss) h = signs_known ss h.1

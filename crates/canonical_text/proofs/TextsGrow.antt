@@ -1,10 +1,9 @@
 -- The text of pieces, one more part after the others.
-use Rattle.std.proofs.Common.{◌≡◌, ℕ, ◌+◌, ◌<◌, ◌==◌, zero, suc, false, List, [], ◌∷◌, ◌++◌, length, map, take, drop, get_or, codes, Some, None, refl, sym, ap, ◌∙◌, arith, append_assoc}
+use Rattle.canonical_text.proofs.Vocabulary.{◌≡◌, ℕ, ◌+◌, ◌<◌, ◌==◌, zero, suc, false, List, [], ◌∷◌, ◌++◌, length, map, take, drop, get_or, codes, Some, refl, sym, ap, ◌∙◌, arith, append_assoc, nat_lt, if◌then◌else◌, flat_map, range_with_len}
+use Rattle.canonical_text.proofs.Vocabulary.{map-range_with_len_more, length-range_with_len, lt-ltb, Piece, text_of, Quantifier, PlaceView, EntryView, CodeView, SignView, Thread, TextNames, space, line_end, sign, next, joined_by, gap, code_pieces}
+use Rattle.canonical_text.proofs.Vocabulary.{label_pieces, cell_pieces, observed_place_pieces, observed_pieces, entry_pieces, initial_pieces, sign_pieces, quantifier_pieces, condition_pieces, thread_entries, register_entries}
 use Rattle.std.proofs.lemmas.List.{append-nil, take_more, map_push, drop_more, length-map, length-take-le}
 use Rattle.std.proofs.lemmas.Grind.{flat_map-append}
-use Rattle.canonical_text.proofs.Vocabulary.{nat_lt, if◌then◌else◌, flat_map, range_with_len, map-range_with_len_more, length-range_with_len, lt-ltb, Piece, text_of, Quantifier, PlaceView, EntryView}
-use Rattle.canonical_text.proofs.Vocabulary.{CodeView, SignView, Thread, TextNames, space, line_end, sign, next, joined_by, gap, code_pieces, label_pieces, cell_pieces, observed_place_pieces}
-use Rattle.canonical_text.proofs.Vocabulary.{observed_pieces, entry_pieces, initial_pieces, sign_pieces, quantifier_pieces, condition_pieces, thread_entries, register_entries}
 use Rattle.litmus_reader.specs.Mark.TheVariants as the
 use Rattle.canonical_text.proofs.PiecesAppended.{text_of-append}
 
@@ -53,9 +52,6 @@ abbrev pub between_at : List Piece → ℕ → List ℕ
 between_at between n = if nat_lt 0 n then text_of between else []
 
 module _ (between : List Piece) where
-  between_behind : (n : ℕ) → 0 < n → between_at between n ≡ text_of between
-  between_behind n h = rw (lt-ltb 0 n h) refl
-
   pub joined_push : (columns : List (List Piece)) (ps : List Piece)
       → text_of (joined_by between (columns ++ ps ∷ [])) ≡ (text_of (joined_by between columns) ++ between_at between (length columns)) ++ text_of ps
   joined_push [] ps = ap text_of (append-nil ps)
@@ -67,7 +63,7 @@ module _ (between : List Piece) where
       ap text_of same ∙ text_of-append (qs ++ more) (next between ps)
       ∙ ap (λ (bs : List ℕ). text_of (qs ++ more) ++ bs) (text_of-append between ps)
       ∙ sym (append_assoc (text_of (qs ++ more)) (text_of between) (text_of ps))
-      ∙ ap (λ (bs : List ℕ). (text_of (qs ++ more) ++ bs) ++ text_of ps) (sym (between_behind (suc (length columns)) (omega arith)))
+      ∙ ap (λ (bs : List ℕ). (text_of (qs ++ more) ++ bs) ++ text_of ps) (sym (rw (lt-ltb 0 (suc (length columns)) (omega arith)) refl))
 
   -- one part more
   pub column_more : (bs : List ℕ) (columns further : List (List Piece)) (ps : List Piece) (n : ℕ) → length columns ≡ n → further ≡ columns ++ ps ∷ []
@@ -126,10 +122,6 @@ braces bs es fs =
     ∙ grown (bs ++ 123 ∷ []) (flat_map entry_pieces (es ++ fs)) (space ∷ sign the.CloseBrace ∷ line_end ∷ [])
     ∙ append_assoc bs (123 ∷ []) (text_of (flat_map entry_pieces (es ++ fs) ++ space ∷ sign the.CloseBrace ∷ line_end ∷ []))
 
--- initial values, header row and rows
-pub body_grown : (bs : List ℕ) (ps qs rs : List Piece) → ((bs ++ text_of ps) ++ text_of qs) ++ text_of rs ≡ bs ++ text_of (ps ++ (qs ++ rs))
-body_grown bs ps qs rs = grown (bs ++ text_of ps) qs rs ∙ grown bs ps (qs ++ rs)
-
 -- a quantifier and signs
 pub condition_grown : (bs : List ℕ) (q : Quantifier) (ss : List SignView)
     → (((bs ++ text_of (quantifier_pieces q)) ++ 32 ∷ []) ++ text_of (flat_map sign_pieces ss)) ++ 10 ∷ [] ≡ bs ++ text_of (condition_pieces q ss)
@@ -153,10 +145,6 @@ pub code_more : (bs : List ℕ) (names : List (List ℕ)) (c : CodeView) (count 
     → ((bs ++ text_of (joined_by gap (map label_pieces names))) ++ between_at gap count) ++ text_of (code_pieces c) ≡ bs ++ text_of (cell_pieces (record { labels = names; code = Some c }))
 code_more bs names c count counted =
     column_more gap bs (map label_pieces names) (map label_pieces names ++ code_pieces c ∷ []) (code_pieces c) count (length-map names label_pieces ∙ sym counted) refl
-
--- labels alone
-pub labels_alone : (bs : List ℕ) (names : List (List ℕ)) → bs ++ text_of (joined_by gap (map label_pieces names)) ≡ bs ++ text_of (cell_pieces (record { labels = names; code = None }))
-labels_alone bs names = ap (λ (parts : List (List Piece)). bs ++ text_of (joined_by gap parts)) (sym (append-nil (map label_pieces names)))
 
 pub not_none : (n : ℕ) → (n == 0) ≡ false → 0 < n
 not_none zero h = absurd cc

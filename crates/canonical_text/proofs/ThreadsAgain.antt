@@ -1,17 +1,16 @@
 -- The threads of the fenced program, told by the canonical text.
-use Rattle.std.proofs.Common.{◌≡◌, ℕ, ◌+◌, ◌<◌, ◌≤◌, zero, suc, Bool, List, [], ◌∷◌, length, map, get_or, Option, refl, sym, ap, ◌∙◌, subst, inl, inr, arith}
+use Rattle.canonical_text.proofs.Vocabulary.{◌≡◌, ℕ, ◌+◌, ◌<◌, ◌≤◌, zero, suc, Bool, List, [], ◌∷◌, length, map, get_or, Option, refl, sym, ap, ◌∙◌, subst, inl, inr, arith, slice_index_or, AllByRecursion, IsDistinct, flat_map, range_with_len, option_map_or, column}
+use Rattle.canonical_text.proofs.Vocabulary.{bytes_eq, add-zero, cases_lt, slice_get_past, length-map-range_with_len, get_or-map-range_with_len, Instr, Thread, code_of, Gaps, place_of, fenced_code, fenced_threads, PlaceView, Register, BodyView, NoneTwice}
+use Rattle.canonical_text.proofs.Vocabulary.{all_names, all_registers, number_in, row_places, Label, thread_labels, all_labels, position_in, JumpsAreFound, first_value, thread_read, own_labels, moved_label, moved_labels, IsPrintableRow}
 use Rattle.std.proofs.lemmas.List.{get_or_past}
-use Rattle.canonical_text.proofs.Vocabulary.{slice_index_or, AllByRecursion, IsDistinct, flat_map, range_with_len, option_map_or, bytes_eq, add-zero, cases_lt, slice_get_past}
-use Rattle.canonical_text.proofs.Vocabulary.{length-map-range_with_len, get_or-map-range_with_len, Instr, Thread, code_of, Gaps, place_of, fenced_code, fenced_threads, PlaceView, Register, BodyView}
-use Rattle.canonical_text.proofs.Vocabulary.{NoneTwice, all_names, all_registers, number_in, row_places, Label, thread_labels, all_labels, position_in, JumpsAreFound, first_value, thread_read}
-use Rattle.canonical_text.proofs.Vocabulary.{own_labels, moved_label, moved_labels, IsPrintableRow}
 use Rattle.tso_program.proofs.FencedPlaces.{fenced_code_of}
 use Rattle.tso_program.proofs.FencedLimits.{ends}
 use Rattle.litmus_reader.specs.Meaning as meaning
 use Rattle.canonical_text.proofs.LabelPlaces.{moved_of}
 use Rattle.canonical_text.proofs.LabelsNamed.{label_name, AreGoodLabels, Ascending}
-use Rattle.canonical_text.proofs.LabelsOnce.{once_of_rows}
-use Rattle.canonical_text.proofs.LabelsAgain.{thread_ascending, moved_ascending, thread_good, moved_good}
+use Rattle.canonical_text.proofs.LabelsOnce.{thread_own, once_in_thread}
+use Rattle.litmus_syntax.specs.Grammar.{labels_in_rows}
+use Rattle.canonical_text.proofs.LabelsAgain.{thread_ascending, moved_ascending, moved_good, behind_good, column_printable}
 use Rattle.canonical_text.proofs.NamedPlaces.{Named, RegistersAre}
 use Rattle.canonical_text.proofs.ToldCode.{IsKnown, IsTold, AreTold, rows_told, fenced_told}
 use Rattle.canonical_text.proofs.Lists.{made_at}
@@ -52,27 +51,19 @@ module _ (names : List (List ℕ)) (named : Named) (once : IsDistinct bytes_eq n
       let past : length (all_labels b) ≤ t = omega arith in
       moved_of gaps t (all_labels b) ∙ ap (map (moved_label (gaps t))) (get_or_past (all_labels b) t [] past)
 
+  -- what holds of each thread's moved labels holds of all
+  each_thread : (P : ℕ → List Label → Type 0) → ((t : ℕ) → t < b.threads → P t (map (moved_label (gaps t)) (thread_labels b.rows t))) → ((t : ℕ) → P t []) → (t : ℕ) → P t (own_labels labels t)
+  each_thread P there none t = elim (cases_lt t b.threads) [ inl lt ↦ subst (P t) (sym (own_is t lt)) (there t lt) | inr le ↦ subst (P t) (sym (own_past t le)) (none t) ]
+
   pub good : (t : ℕ) → AreGoodLabels (own_labels labels t)
-  good t =
-      elim (cases_lt t b.threads) [
-        | inl lt ↦ subst AreGoodLabels (sym (own_is t lt)) (moved_good (gaps t) (thread_labels b.rows t) (thread_good b.threads b.rows t printable))
-        | inr le ↦ subst AreGoodLabels (sym (own_past t le)) tt
-      ]
+  good = each_thread (λ t. AreGoodLabels) (λ t lt. moved_good (gaps t) (thread_labels b.rows t) (behind_good 0 (column b.rows t) (column_printable b.threads b.rows t printable))) (λ t. tt)
 
   pub names_once : (t : ℕ) → NoneTwice (map label_name (own_labels labels t))
-  names_once t =
-      let once_of : List Label → Type 0 = λ ls. NoneTwice (map label_name ls) in
-      elim (cases_lt t b.threads) [
-        | inl lt ↦ subst once_of (sym (own_is t lt)) (subst NoneTwice (sym (same_names (gaps t) (thread_labels b.rows t))) (once_of_rows t b.rows labels_once))
-        | inr le ↦ subst once_of (sym (own_past t le)) tt
-      ]
-
-  -- the code of a thread of the text
-  source_code : (t : ℕ) → t < b.threads → code_of source t ≡ text_code t
-  source_code t lt = ap (λ (o : Option Thread). option_map_or (λ (thread : Thread). thread.code) o []) (made_at (thread_read (number_in names) b) b.threads t lt)
+  names_once =
+      each_thread (λ t ls. NoneTwice (map label_name ls)) (λ t lt. subst NoneTwice (sym (same_names (gaps t) (thread_labels b.rows t))) (subst NoneTwice (thread_own t b.rows) (once_in_thread t (labels_in_rows b.rows) labels_once))) (λ t. tt)
 
   fenced_is : (t : ℕ) → t < b.threads → code_of threads t ≡ fenced_code (gaps t) 0 (text_code t)
-  fenced_is t lt = fenced_code_of gaps t source ∙ ap (fenced_code (gaps t) 0) (source_code t lt)
+  fenced_is t lt = fenced_code_of gaps t source ∙ ap (fenced_code (gaps t) 0) (ap (λ (o : Option Thread). option_map_or (λ (thread : Thread). thread.code) o []) (made_at (thread_read (number_in names) b) b.threads t lt))
 
   fenced_past : (t : ℕ) → b.threads ≤ t → code_of threads t ≡ []
   fenced_past t le =
@@ -81,16 +72,13 @@ module _ (names : List (List ℕ)) (named : Named) (once : IsDistinct bytes_eq n
       fenced_code_of gaps t source ∙ ap (λ (o : Option Thread). fenced_code (gaps t) 0 (option_map_or (λ (thread : Thread). thread.code) o [])) (slice_get_past source t past)
 
   pub ascending : (t : ℕ) → Ascending 0 (length (code_of threads t)) (own_labels labels t)
-  ascending t =
-      elim (cases_lt t b.threads) [
-        | inl lt ↦
-            let long : place_of (gaps t) (length (text_code t)) ≡ length (code_of threads t) = sym (ends (gaps t) (text_code t)) ∙ ap length (sym (fenced_is t lt)) in
-            let moved : Ascending 0 (place_of (gaps t) (length (text_code t))) (map (moved_label (gaps t)) (thread_labels b.rows t)) =
-            moved_ascending (gaps t) 0 (length (text_code t)) (thread_labels b.rows t) (thread_ascending (number_in names) (positions t) b.rows t) in
-            subst (Ascending 0 (length (code_of threads t))) (sym (own_is t lt))
-            (subst (λ (n : ℕ). Ascending 0 n (map (moved_label (gaps t)) (thread_labels b.rows t))) long moved)
-        | inr le ↦ subst (Ascending 0 (length (code_of threads t))) (sym (own_past t le)) tt
-      ]
+  ascending =
+      each_thread (λ t. Ascending 0 (length (code_of threads t)))
+      (λ t lt.
+      let long : place_of (gaps t) (length (text_code t)) ≡ length (code_of threads t) = sym (ends (gaps t) (text_code t)) ∙ ap length (sym (fenced_is t lt)) in
+      subst (λ (n : ℕ). Ascending 0 n (map (moved_label (gaps t)) (thread_labels b.rows t))) long
+      (moved_ascending (gaps t) 0 (length (text_code t)) (thread_labels b.rows t) (thread_ascending (number_in names) (positions t) b.rows t)))
+      (λ t. tt)
 
   -- `IsTold` holds of the fenced code
   pub fences_told : AreTold names named labels threads
@@ -106,18 +94,13 @@ module _ (names : List (List ℕ)) (named : Named) (once : IsDistinct bytes_eq n
 
 -- ---- registers
 
-text_registers : (numbered : List ℕ → ℕ) (b : BodyView) (t n : ℕ) → RegistersAre (first_value b.entries) t (map (thread_read numbered b) (range_with_len t n))
+pub text_registers : (numbered : List ℕ → ℕ) (b : BodyView) (t n : ℕ) → RegistersAre (first_value b.entries) t (map (thread_read numbered b) (range_with_len t n))
 text_registers numbered b t zero = tt
 text_registers numbered b t (suc n) = (refl, text_registers numbered b (t + 1) n)
 
-fenced_registers : (held : PlaceView → ℕ) (gaps : Gaps) (t : ℕ) (threads : List Thread) → RegistersAre held t threads → RegistersAre held t (fenced_threads gaps t threads)
+pub fenced_registers : (held : PlaceView → ℕ) (gaps : Gaps) (t : ℕ) (threads : List Thread) → RegistersAre held t threads → RegistersAre held t (fenced_threads gaps t threads)
 fenced_registers held gaps t [] h = tt
 fenced_registers held gaps t (thread ∷ threads) h = (h.0, fenced_registers held gaps (t + 1) threads h.1)
-
--- fences leave the registers
-pub fences_registers : (numbered : List ℕ → ℕ) (gaps : Gaps) (b : BodyView) → RegistersAre (first_value b.entries) 0 (fenced_threads gaps 0 (map (thread_read numbered b) (range_with_len 0 b.threads)))
-fences_registers numbered gaps b =
-    fenced_registers (first_value b.entries) gaps 0 (map (thread_read numbered b) (range_with_len 0 b.threads)) (text_registers numbered b 0 b.threads)
 
 registers_from : (held : PlaceView → ℕ) (a t : ℕ) (threads : List Thread) (d : Thread) → t < length threads → RegistersAre held a threads
     → (get_or threads t d).registers ≡ map (λ r. held (Register (a + t) r)) all_registers

@@ -1,10 +1,9 @@
 -- Code that a text tells: with names of locations and labels it can be printed, and stands for the same code again. Fences too.
-use Rattle.std.proofs.Common.{◌≡◌, ℕ, ◌+◌, ◌<◌, ◌≤◌, zero, suc, Bool, true, false, List, [], ◌∷◌, ◌++◌, length, map, Option, Some, None, refl, sym, ap, ◌∙◌, subst, arith}
-use Rattle.canonical_text.proofs.Vocabulary.{slice_get, slice_index_or, nat_lt, is_some, option_map, option_and_then, if◌then◌else◌, AllByRecursion, IsDistinct, list_all, list_any, flat_map}
-use Rattle.canonical_text.proofs.Vocabulary.{filter_map, cons_option, range_with_len, option_map_or, bytes_eq, add-zero, length-map, length-range_with_len, Instr, Thread, code_of, instr_at, PlaceView}
-use Rattle.canonical_text.proofs.Vocabulary.{Location, Register, CodeView, Load, StoreImm, Store, Xchg, Fence, Je, Jne, Jmp, CellView, NoneTwice, number_in, code_places}
-use Rattle.canonical_text.proofs.Vocabulary.{cell_places, cells_places, row_places, Label, instruction_of, instruction_in, location_name_at, label_names_at, label_name_at, own_labels, moved_label}
-use Rattle.canonical_text.proofs.Vocabulary.{code_named, cell_of, row_of, most_cells, rows_of, IsLabelName, IsPrintableCode, IsPrintableContent, IsPrintableCell, IsPrintableRow}
+use Rattle.canonical_text.proofs.Vocabulary.{◌≡◌, ℕ, ◌+◌, ◌<◌, ◌≤◌, zero, suc, Bool, true, false, List, [], ◌∷◌, ◌++◌, length, map, Option, Some, None, refl, sym, ap, ◌∙◌, subst, arith, slice_get, slice_index_or, nat_lt, is_some, option_map, option_and_then}
+use Rattle.canonical_text.proofs.Vocabulary.{if◌then◌else◌, AllByRecursion, IsDistinct, list_all, list_any, flat_map, filter_map, cons_option, range_with_len, option_map_or, bytes_eq, add-zero, length-map, length-range_with_len, Instr, Thread, code_of}
+use Rattle.canonical_text.proofs.Vocabulary.{instr_at, PlaceView, Location, Register, CodeView, Load, StoreImm, Store, Xchg, Fence, Je, Jne, Jmp, CellView, NoneTwice, number_in, code_places, cell_places, cells_places, row_places, Label, instruction_of}
+use Rattle.canonical_text.proofs.Vocabulary.{instruction_in, location_name_at, label_names_at, label_name_at, own_labels, moved_label, code_named, cell_of, row_of, most_cells, rows_of, IsLabelName, IsPrintableCode, IsPrintableContent, IsPrintableCell}
+use Rattle.canonical_text.proofs.Vocabulary.{IsPrintableRow}
 use Rattle.tso_program.specs.declared.instruction.Instr.TheVariants as instr
 use Rattle.tso_program.specs.Fences.{place_of, moved, fenced_code}
 use Rattle.litmus_reader.specs.Labels.{label_in, position_in, jump_of, is_found, are_found}
@@ -12,10 +11,9 @@ use Rattle.litmus_reader.specs.Meaning as meaning
 use Rattle.litmus_reader.proofs.NamesOnce.{place_among, number_at}
 use Rattle.canonical_text.proofs.NamedPlaces.{Named}
 use Rattle.canonical_text.proofs.LabelPlaces.{labels_moved}
-use Rattle.canonical_text.proofs.LabelsNamed.{label_name, SomeAt, AreGoodLabels, position_again, label_found, label_good, labels_good, found_stands}
-use Rattle.canonical_text.proofs.WordsWritten.{and_first, and_second}
+use Rattle.canonical_text.proofs.LabelsNamed.{label_name, SomeAt, AreGoodLabels, labels_good, found_stands, position_by, label_there, found_by, first_good}
 use Rattle.canonical_text.proofs.Lists.{all_of_both, both_of_all, all_of_range, made_at, by_places}
-use Rattle.std.proofs.lemmas.Bool.{and_from as both_true}
+use Rattle.std.proofs.lemmas.Bool.{and_from as both_true, and_parts}
 
 -- a place that is named
 abbrev pub IsKnown : List (List ℕ) → Named → PlaceView → Type 0
@@ -58,13 +56,13 @@ module _ (names : List (List ℕ)) (named : Named) (labels : List (List Label)) 
         subst (λ (ns : List (List ℕ)). 0 < length ns) (sym there) (found_stands source l h)
 
     again : (l : List ℕ) → is_some (label_in source l) ≡ true → position_in (own t) (label_name_at (own t) (place_of gap (position_in source l))) ≡ place_of gap (position_in source l)
-    again l h = position_again (own t) (place_of gap (position_in source l)) labels_once (stands l h)
+    again l h = position_by (place_of gap (position_in source l)) (label_in (own t) (label_name_at (own t) (place_of gap (position_in source l)))) (label_there (own t) (place_of gap (position_in source l)) labels_once (stands l h))
 
     found : (l : List ℕ) → is_some (label_in source l) ≡ true → is_some (label_in (own t) (label_name_at (own t) (place_of gap (position_in source l)))) ≡ true
-    found l h = label_found (own t) (place_of gap (position_in source l)) labels_once (stands l h)
+    found l h = found_by (place_of gap (position_in source l)) (label_in (own t) (label_name_at (own t) (place_of gap (position_in source l)))) (label_there (own t) (place_of gap (position_in source l)) labels_once (stands l h))
 
     may_stand : (l : List ℕ) → is_some (label_in source l) ≡ true → IsLabelName (label_name_at (own t) (place_of gap (position_in source l)))
-    may_stand l h = label_good (own t) (place_of gap (position_in source l)) good (stands l h)
+    may_stand l h = first_good (label_names_at (own t) (place_of gap (position_in source l))) (stands l h) (labels_good (own t) (place_of gap (position_in source l)) good)
 
     pub code_told : (c : CodeView) → IsPrintableCode c → AllByRecursion (IsKnown names named) (code_places t c) → JumpsAmong source (Some c)
         → IsTold t (moved gap (instruction_of (number_in names) (position_in source) c))
@@ -109,11 +107,11 @@ module _ (names : List (List ℕ)) (named : Named) (labels : List (List Label)) 
       good_at a u [] h k j = tt
       good_at a zero (cell ∷ cells) h k j =
           let places = both_of_all (IsKnown names named) (cell_places a cell) (cells_places (a + 1) cells) k in
-          let here : is_found (slice_index_or all a []) cell ≡ true = and_first (is_found (slice_index_or all a []) cell) (are_found all (a + 1) cells) j in
+          let here : is_found (slice_index_or all a []) cell ≡ true = (and_parts (is_found (slice_index_or all a []) cell) (are_found all (a + 1) cells) j).0 in
           subst (λ (v : ℕ). IfGood v (Some cell)) (sym (add-zero a)) ((h.0, places.0), here)
       good_at a (suc u) (cell ∷ cells) h k j =
           let places = both_of_all (IsKnown names named) (cell_places a cell) (cells_places (a + 1) cells) k in
-          let there : are_found all (a + 1) cells ≡ true = and_second (is_found (slice_index_or all a []) cell) (are_found all (a + 1) cells) j in
+          let there : are_found all (a + 1) cells ≡ true = (and_parts (is_found (slice_index_or all a []) cell) (are_found all (a + 1) cells) j).1 in
           let next : (a + 1) + u ≡ a + suc u = omega arith in
           subst (λ (v : ℕ). IfGood v (slice_get cells u)) next (good_at (a + 1) u cells h.1 places.1 there)
 
@@ -127,8 +125,8 @@ module _ (names : List (List ℕ)) (named : Named) (labels : List (List Label)) 
       rows_told threads [] h k j = tt
       rows_told threads (row ∷ rows) h k j =
           let places = both_of_all (IsKnown names named) (row_places row) (flat_map row_places rows) k in
-          let first : are_found all 0 row ≡ true = and_first (are_found all 0 row) (list_all (are_found all 0) rows) j in
-          let others : list_all (are_found all 0) rows ≡ true = and_second (are_found all 0 row) (list_all (are_found all 0) rows) j in
+          let first : are_found all 0 row ≡ true = (and_parts (are_found all 0 row) (list_all (are_found all 0) rows) j).0 in
+          let others : list_all (are_found all 0) rows ≡ true = (and_parts (are_found all 0 row) (list_all (are_found all 0) rows) j).1 in
           let zero_first : 0 + t ≡ t = omega arith in
           let here : IfGood t (slice_get row t) = subst (λ (u : ℕ). IfGood u (slice_get row t)) zero_first (good_at 0 t row h.0.1 places.0 first) in
           told_cell (slice_get row t) (meaning.code_in (number_in names) (position_in source) rows t) (tellable (slice_get row t) here) (rows_told threads rows h.1 places.1 others)

@@ -1,4 +1,8 @@
 -- What many proofs of this crate speak of, imported once.
+pub use Rattle.std.proofs.Common.{Bool, List, None, Option, Some, [], ap, append_assoc, arith, codes, cond, drop, false, fold, get_or, inl, inr, length, lit<, map, refl, subst, suc, sym, take, true, zero, ℕ, ◌&&◌, ◌*◌, ◌++◌, ◌+◌, ◌<◌, ◌==◌, ◌^◌, ◌||◌, ◌∙◌, ◌∷◌, ◌≡◌, ◌≢◌, ◌≤◌}
+pub use Rattle.std.proofs.Math.Bool.{or-false, or-true}
+pub use Rattle.std.proofs.lemmas.Bool.{and_parts, cases_eq, or_parts}
+pub use Rattle.std.proofs.lemmas.List.Folds.{flat_map-map}
 pub use Rattle.std.proofs.Math.Nat.{add-zero}
 pub use Rattle.std.proofs.lemmas.Bool.{cases_Bool, cases_lt, lt-ltb}
 pub use Rattle.std.proofs.lemmas.Bool.Decides.{Decides-eqb}

@@ -1,5 +1,5 @@
 -- How an outcome is written.
-use Rattle.std.specs.Prelude.{ℕ, Bool, false, List, [], ◌∷◌, ◌++◌, length, codes, ◌&&◌, slice_index, slice_index_or, if◌then◌else◌}
+use Rattle.std.specs.Prelude.{ℕ, List, [], ◌∷◌, ◌++◌, length, codes, ◌&&◌, slice_index, slice_index_or, if◌then◌else◌}
 use Rattle.std.specs.List.{join_with_byte, flat_map, range_with_len}
 use Rattle.std.specs.Fmt.{decimal}
 use Rattle.tso_program.specs.declared.instruction.Reg.{Reg}

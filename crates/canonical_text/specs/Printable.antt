@@ -3,7 +3,7 @@ use Rattle.std.specs.Prelude.{◌≡◌, ℕ, ◌<◌, ◌≤◌, Bool, true, fa
 use Rattle.std.specs.List.{AllByRecursion}
 use Rattle.litmus_reader.specs.Lexing.{IsWord}
 use Rattle.litmus_syntax.specs.Words.{is_name, is_label}
-use Rattle.litmus_syntax.specs.Views.{PlaceView, Location, Register, EntryView, CodeView, LoadImm, Copy, Load, StoreImm, Store, Xchg, Fence, CmpImm, CmpReg, Je, Jne, Jmp, CellView, BodyView, SignView, Atom, Const, Not, And, Or, Open, Close, EndingView}
+use Rattle.litmus_syntax.specs.Views.{PlaceView, Location, Register, EntryView, CodeView, LoadImm, Load, StoreImm, Store, Xchg, CmpImm, Je, Jne, Jmp, CellView, BodyView, SignView, Atom, Const, Not, EndingView}
 use Rattle.litmus_syntax.specs.Grammar.{NoneTwice, place_of_entry, labels_in_rows}
 
 -- a number of the texts
@@ -28,17 +28,15 @@ IsPrintableEntry threads e = IsPrintablePlace threads e.place × IsTextNumber e.
 
 abbrev pub IsPrintableCode : CodeView → Type 0
 IsPrintableCode (LoadImm r n) = IsTextNumber n
-IsPrintableCode (Copy r s) = Unit {0}
 IsPrintableCode (Load r x) = IsLocationName x
 IsPrintableCode (StoreImm x n) = IsLocationName x × IsTextNumber n
 IsPrintableCode (Store x r) = IsLocationName x
 IsPrintableCode (Xchg x r) = IsLocationName x
-IsPrintableCode Fence = Unit {0}
 IsPrintableCode (CmpImm r n) = IsTextNumber n
-IsPrintableCode (CmpReg r s) = Unit {0}
 IsPrintableCode (Je l) = IsWord l
 IsPrintableCode (Jne l) = IsWord l
 IsPrintableCode (Jmp l) = IsWord l
+IsPrintableCode _ = Unit {0}
 
 -- an instruction or nothing
 abbrev pub IsPrintableContent : Option CodeView → Type 0
@@ -63,12 +61,7 @@ pub record IsPrintable (b : BodyView) : Type 0 where
 
 abbrev pub IsPrintableSign : ℕ → SignView → Type 0
 IsPrintableSign threads (Atom p n) = IsPrintablePlace threads p × IsTextNumber n
-IsPrintableSign threads (Const b) = Unit {0}
-IsPrintableSign threads Not = Unit {0}
-IsPrintableSign threads And = Unit {0}
-IsPrintableSign threads Or = Unit {0}
-IsPrintableSign threads Open = Unit {0}
-IsPrintableSign threads Close = Unit {0}
+IsPrintableSign threads _ = Unit {0}
 
 -- whether a sign that begins with a letter or a digit comes first
 abbrev pub begins_with_a_word : List SignView → Bool
@@ -76,21 +69,14 @@ begins_with_a_word [] = false
 begins_with_a_word (Atom p n ∷ ss) = true
 begins_with_a_word (Const b ∷ ss) = true
 begins_with_a_word (Not ∷ ss) = true
-begins_with_a_word (And ∷ ss) = false
-begins_with_a_word (Or ∷ ss) = false
-begins_with_a_word (Open ∷ ss) = false
-begins_with_a_word (Close ∷ ss) = false
+begins_with_a_word (_ ∷ ss) = false
 
 -- no sign that begins with a letter or a digit follows one that ends with one
 abbrev pub SignsAreApart : List SignView → Type 0
 SignsAreApart [] = Unit {0}
 SignsAreApart (Atom p n ∷ ss) = (begins_with_a_word ss ≡ false) × SignsAreApart ss
 SignsAreApart (Const b ∷ ss) = (begins_with_a_word ss ≡ false) × SignsAreApart ss
-SignsAreApart (Not ∷ ss) = SignsAreApart ss
-SignsAreApart (And ∷ ss) = SignsAreApart ss
-SignsAreApart (Or ∷ ss) = SignsAreApart ss
-SignsAreApart (Open ∷ ss) = SignsAreApart ss
-SignsAreApart (Close ∷ ss) = SignsAreApart ss
+SignsAreApart (_ ∷ ss) = SignsAreApart ss
 
 -- signs over so many threads that can be printed one after the other
 abbrev pub ArePrintable : ℕ → List SignView → Type 0

@@ -1,6 +1,5 @@
 -- With every gap fenced a run passes none, so its outcome is sequential.
-use Rattle.std.proofs.Common.{List}
-use Rattle.fence_laws.proofs.Vocabulary.{SetOfGaps, Listing, Outcome, Question, gaps_in, JumpForward, Label, start}
+use Rattle.fence_laws.proofs.Vocabulary.{List, SetOfGaps, Listing, Outcome, Question, gaps_in, JumpForward, Label, start}
 use Rattle.tso_program.proofs.Gaps.{gap_below}
 use Rattle.tso_machine.specs.Outcomes.{IsStoreBufferOutcome, IsSequentialOutcome}
 use Rattle.fence_laws.specs.Laws.{PassesNoGap, PassesNoGapOf, HasEveryGapOf, AllGapsServe}

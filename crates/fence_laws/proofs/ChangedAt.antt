@@ -1,6 +1,5 @@
 -- A function changed at one place.
-use Rattle.std.proofs.Common.{◌≡◌, ℕ, sym, ◌∙◌, subst, inl, inr}
-use Rattle.fence_laws.proofs.Vocabulary.{fun_ext, cases_eq, put}
+use Rattle.fence_laws.proofs.Vocabulary.{◌≡◌, ℕ, sym, ◌∙◌, subst, inl, inr, fun_ext, cases_eq, put}
 pub use Rattle.tso_machine.proofs.Link.{put_same}
 pub use Rattle.tso_machine.proofs.Link.{put_other}
 

@@ -1,7 +1,6 @@
 -- A run of the fenced program is a run with gaps fenced: a thread after a fence of its own has nothing waiting until its instruction.
-use Rattle.std.proofs.Common.{◌≡◌, ℕ, ◌+◌, Bool, true, false, List, [], ◌∷◌, ◌++◌, ◌⊎◌, Option, Some, None, option_and_then, refl, sym, ap, ◌∙◌, subst, inl, inr}
-use Rattle.fence_laws.proofs.Vocabulary.{option_map, cases_eq, same_Some, option_and_then_some, Instr, Fence, Listing, Local, Wait, onward, action, instr_at, Gaps, place_of, moved, fence, Label, Exec}
-use Rattle.fence_laws.proofs.Vocabulary.{Flush, Pending, no_gaps, State, put, when_empty, step, run, first_of, instr_at_place, instr_after_fence}
+use Rattle.fence_laws.proofs.Vocabulary.{◌≡◌, ℕ, ◌+◌, Bool, true, false, List, [], ◌∷◌, ◌++◌, ◌⊎◌, Option, Some, None, option_and_then, refl, sym, ap, ◌∙◌, subst, inl, inr, option_map, cases_eq, same_Some, option_and_then_some, Instr, Fence, Listing, Local}
+use Rattle.fence_laws.proofs.Vocabulary.{Wait, onward, action, instr_at, Gaps, place_of, moved, fence, Label, Exec, Flush, Pending, no_gaps, State, put, when_empty, step, run, first_of, instr_at_place, instr_after_fence}
 use Rattle.fence_laws.proofs.ChangedAt.{put_same, put_other}
 use Rattle.fence_laws.proofs.FencedActions.{placed}
 use Rattle.fence_laws.proofs.EitherMachine.{mode_with, effect, NothingWaits, made, makes, others_keep, stands_at, stored, flush_made, flush_makes}

@@ -1,6 +1,6 @@
 -- The outcomes of a fenced program are those of the machine with the gaps fenced.
-use Rattle.std.proofs.Common.{◌≡◌, ◌↔◌, ℕ, ◌+◌, Bool, true, false, List, [], Option, Some, None, refl, sym, ap, ◌∙◌, subst, inl, inr, map, length}
-use Rattle.fence_laws.proofs.Vocabulary.{range_with_len, fun_ext, Instr, Listing, Local, Stop, Outcome, act, Gaps, place_of, moved, fence, Shown, Question, asked}
+use Rattle.fence_laws.proofs.Vocabulary.{◌≡◌, ◌↔◌, ℕ, ◌+◌, Bool, true, false, List, [], Option, Some, None, refl, sym, ap, ◌∙◌, subst, inl, inr, map, length, range_with_len, fun_ext, Instr, Listing, Local, Stop, Outcome, act, Gaps, place_of, moved, fence}
+use Rattle.fence_laws.proofs.Vocabulary.{Shown, Question, asked}
 use Rattle.tso_program.specs.Listings.{action, instr_at, start_of}
 use Rattle.tso_machine.specs.Machine.{Machine, no_gaps, State, start, outcome_at, HasEnded, Allows}
 use Rattle.tso_machine.specs.Outcomes.{AllowsShown, fenced_at}

@@ -1,16 +1,11 @@
 -- A run is a run with a set of gaps fenced exactly where it passes none of them.
-use Rattle.std.proofs.Common.{◌≡◌, ℕ, Bool, true, false, List, Option, Some, None, refl, sym, ap, ◌∙◌}
+use Rattle.fence_laws.proofs.Vocabulary.{◌≡◌, ℕ, Bool, true, false, List, Option, Some, None, refl, sym, ap, ◌∙◌, SetOfGaps, Listing, gaps_in, Label, StoreBufferMachine, no_gaps, State, start, run, passes}
 use Rattle.std.specs.Option.{option_map_or}
 use Rattle.std.specs.FinSet as set
-use Rattle.fence_laws.proofs.Vocabulary.{SetOfGaps, Listing, gaps_in, Label, StoreBufferMachine, no_gaps, State, start, run, passes}
 use Rattle.tso_program.specs.Listings.{gap_number}
 use Rattle.tso_machine.proofs.Avoided.{run_fenced, run_avoids}
 use Rattle.fence_laws.specs.Laws.{PassesNoGapOf, FencedRunsPassNoGapOfTheSet, PassedGapsTellTheFencedRuns}
 use Rattle.fence_laws.proofs.Unfenced.{unfenced}
-
--- a gap is fenced by its number
-fenced_number : (p : Listing) (gaps : SetOfGaps) (t k gap : ℕ) → gap_number p.threads t k ≡ Some gap → gaps_in p gaps t k ≡ set.contains gaps gap
-fenced_number p gaps t k gap number = ap (λ o. option_map_or (set.contains gaps) o false) number
 
 -- a place that is fenced is a gap of the set
 number_of_fenced : (gaps : SetOfGaps) (o : Option ℕ) → option_map_or (set.contains gaps) o false ≡ true → (gap : ℕ) × (o ≡ Some gap) × (set.contains gaps gap ≡ true)
@@ -20,7 +15,7 @@ number_of_fenced gaps (Some gap) e = (gap, refl, e)
 -- a run with gaps fenced passes none of them
 pub fenced_run_passes_none : (p : Listing) (gaps : SetOfGaps) (labels : List Label) (last : State) → run p (StoreBufferMachine (gaps_in p gaps)) (start p) labels ≡ Some last → PassesNoGapOf p gaps labels
 fenced_run_passes_none p gaps labels last r gap there (t, k, number, passed) =
-    let no : true ≡ false = sym passed ∙ run_avoids p (gaps_in p gaps) labels (start p) last r t k (fenced_number p gaps t k gap number ∙ there) in
+    let no : true ≡ false = sym passed ∙ run_avoids p (gaps_in p gaps) labels (start p) last r t k ((ap (λ o. option_map_or (set.contains gaps) o false) number) ∙ there) in
     cc
 
 -- a run that passes none of them passes no fenced place

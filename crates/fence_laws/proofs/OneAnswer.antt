@@ -1,6 +1,5 @@
 -- No two sets are both the answer.
-use Rattle.std.proofs.Common.{ℕ, ◌≤◌, List, inl, inr, arith}
-use Rattle.fence_laws.proofs.Vocabulary.{Listing, Question, gap_count}
+use Rattle.fence_laws.proofs.Vocabulary.{ℕ, ◌≤◌, List, inl, inr, arith, Listing, Question, gap_count}
 use Rattle.gap_sets.specs.Gaps.{SetOfGaps, IsGapSet}
 use Rattle.gap_sets.specs.Order.{Better}
 use Rattle.gap_sets.proofs.Orders.{decided}

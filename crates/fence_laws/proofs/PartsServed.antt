@@ -1,7 +1,6 @@
 -- What holds where more is shown holds where a part of it is.
-use Rattle.std.proofs.Common.{◌≡◌, ◌↔◌, Bool, refl, sym, ap, ◌∙◌, inl, inr}
+use Rattle.fence_laws.proofs.Vocabulary.{Bool, refl, sym, ap, ◌∙◌, inl, inr, Listing, Outcome, Shown, gaps_in, Machine, SequentialMachine, StoreBufferMachine, AllowsShown, LeavesOutcome}
 use Rattle.std.proofs.lemmas.Bool.{cases_lt}
-use Rattle.fence_laws.proofs.Vocabulary.{Listing, Outcome, Shown, gaps_in, Machine, SequentialMachine, StoreBufferMachine, AllowsShown, LeavesOutcome}
 use Rattle.gap_sets.specs.Order.{total}
 use Rattle.tso_program.specs.declared.shown.Shown.TheVariants.{All, Truth}
 use Rattle.tso_program.specs.Shown.{show, told, asked}
@@ -14,17 +13,13 @@ use Rattle.tso_program.proofs.ReadOff.{truth_read_off, told_apart}
 use Rattle.fence_laws.specs.Laws.{WhatServesServesEachPart, WhatServesForAllServes, WhatServesServesTheTruth, AnObservedAnswerCostsNoMore, ATruthsAnswerCostsNoMore, LeavesTruth, AServedTruthIsKept}
 
 module _ (p : Listing) (small large : Shown) (part : IsReadOff small large) where
-  -- what is shown alike is alike in each part
-  alike_in_part : (whole other : Outcome) → show large whole ≡ show large other → show small whole ≡ show small other
-  alike_in_part whole other e = sym (part whole) ∙ ap (show small) e ∙ part other
-
   -- where one machine shows no more than another, it shows no more of a part
   pub parts_allowed : (mode other : Machine) → ((o : Outcome) → AllowsShown (asked p large) mode o → AllowsShown (asked p large) other o) →
       (o : Outcome) → AllowsShown (asked p small) mode o → AllowsShown (asked p small) other o
   parts_allowed mode other each o (labels, (whole, is_run, e)) = from (each (show large whole) (labels, (whole, is_run, refl)))
     where
       from : AllowsShown (asked p large) other (show large whole) → AllowsShown (asked p small) other o
-      from (others, (found, is_other, same)) = (others, (found, is_other, e ∙ alike_in_part whole found same))
+      from (others, (found, is_other, same)) = (others, (found, is_other, e ∙ (sym (part whole) ∙ ap (show small) same ∙ part found)))
 
 pub part_served : WhatServesServesEachPart
 part_served p small large gaps part serves o = (

@@ -2,8 +2,7 @@
 use Rattle.std.proofs.Common.{◌≡◌, ℕ, ◌<◌, ◌≤◌, Bool, true, false, ◌&&◌, ◌||◌, ◌==◌, not, List, [], ◌∷◌, length, Option, Some, None, option_and_then, refl, sym, ap, ◌∙◌, subst, inl, inr, arith}
 use Rattle.std.proofs.lemmas.Bool.Decides.{nat_tests}
 use Rattle.std.proofs.lemmas.Option.{same_Some, slice_get_within}
-use Rattle.fence_laws.proofs.Vocabulary.{cases_eq, Instr, Je, Jne, Jmp, Listing, Local, Action, Stop, Go, Wait, Read, Write, Swap}
-use Rattle.fence_laws.proofs.Vocabulary.{act, jumped, JumpForward, Label, Exec, Flush, Pending}
+use Rattle.fence_laws.proofs.Vocabulary.{cases_eq, Instr, Je, Jne, Jmp, Listing, Local, Action, Stop, Go, Wait, Read, Write, Swap, act, jumped, JumpForward, Label, Exec, Flush, Pending}
 use Rattle.tso_program.specs.Instructions.{target_of}
 use Rattle.tso_program.specs.Listings.{action, instr_at, code_of}
 use Rattle.tso_machine.specs.Machine.{no_gaps, put, StoreBufferMachine, State, buffered, step, run, is_empty, from_some, passes_at, passes}

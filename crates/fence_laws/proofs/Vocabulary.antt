@@ -1,4 +1,5 @@
 -- What many proofs of this crate speak of, imported once.
+pub use Rattle.std.proofs.Common.{Bool, List, None, Option, Some, [], ap, arith, false, inl, inr, length, map, not, option_and_then, refl, subst, sym, true, ℕ, ◌++◌, ◌+◌, ◌↔◌, ◌∙◌, ◌∷◌, ◌≡◌, ◌≤◌, ◌⊎◌}
 pub use Rattle.std.proofs.lemmas.Bool.{cases_eq}
 pub use Rattle.std.proofs.lemmas.Option.{option_and_then_some, same_Some}
 pub use Rattle.std.specs.List.{range_with_len}

@@ -1,6 +1,6 @@
 -- A run of the store buffer machine that executes each instruction with an empty buffer is as good as a sequential one.
-use Rattle.std.proofs.Common.{◌≡◌, ℕ, true, List, [], ◌∷◌, ◌++◌, ◌⊎◌, Some, option_and_then, refl, sym, ap, ◌∙◌, subst, inl, inr, map, length}
-use Rattle.fence_laws.proofs.Vocabulary.{fun_ext, cases_eq, range_with_len, Listing, Local, Write, action, loaded, Gaps, Outcome, Label, Exec, Flush, Pending}
+use Rattle.fence_laws.proofs.Vocabulary.{◌≡◌, ℕ, true, List, [], ◌∷◌, ◌++◌, ◌⊎◌, Some, option_and_then, refl, sym, ap, ◌∙◌, subst, inl, inr, map, length, fun_ext, cases_eq, range_with_len, Listing, Local, Write, action, loaded, Gaps, Outcome, Label, Exec}
+use Rattle.fence_laws.proofs.Vocabulary.{Flush, Pending}
 use Rattle.tso_machine.specs.Machine.{put, SequentialMachine, StoreBufferMachine, State, newest, found, direct, run, start, IsRun, outcome_at}
 use Rattle.fence_laws.proofs.ChangedAt.{put_same, put_other}
 use Rattle.fence_laws.proofs.StepCases.{exec_by, flush_by}

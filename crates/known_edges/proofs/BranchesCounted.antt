@@ -3,9 +3,8 @@ use Rattle.std.proofs.Common.{◌≡◌, ℕ, zero, suc, ◌+◌, ◌-◌, ◌*�
 use Rattle.std.specs.List.Sorted.{IsStrictlyIncreasing}
 use Rattle.std.proofs.lemmas.List.Kept.{AllPairs-from_increasing}
 use Rattle.std.proofs.lemmas.List.Sums.{sum_by-cons}
-use Rattle.known_edges.proofs.Vocabulary.{unwrap_or, AllPairs, length-map, length-append, Contains-append_left, Contains-append_right, slice_get_within, get_or_from_slice_get, same_Some, Instr}
-use Rattle.known_edges.proofs.Vocabulary.{Thread, Listing, IsWithinLimits, Access, Event, Initial, At, ComesBefore, first_is_here, later_is_here, mapped, few_of, all_events, all_events_few}
-use Rattle.known_edges.proofs.Vocabulary.{all_events_has}
+use Rattle.known_edges.proofs.Vocabulary.{unwrap_or, AllPairs, length-map, length-append, Contains-append_left, Contains-append_right, slice_get_within, get_or_from_slice_get, same_Some, Instr, Thread, Listing, IsWithinLimits, Access, Event, Initial, At}
+use Rattle.known_edges.proofs.Vocabulary.{ComesBefore, first_is_here, later_is_here, mapped, few_of, all_events, all_events_few, all_events_has}
 use Rattle.tso_program.specs.Listings.{gaps_of_thread, gap_count, instr_at, start_of}
 use Rattle.tso_machine.specs.Machine.{Machine}
 use Rattle.candidate_executions.specs.Candidates.{access_by}

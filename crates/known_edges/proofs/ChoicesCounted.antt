@@ -1,12 +1,10 @@
 -- How many choices a sketch has, and how many it has at most.
-use Rattle.std.proofs.Common.{◌≡◌, ◌≢◌, ℕ, ◌+◌, ◌*◌, ◌≤◌, List, [], ◌∷◌, ◌++◌, Some, None, map, length, Contains, sum_by, ap, ◌∙◌, subst, inl, inr, arith}
+use Rattle.std.proofs.Common.{◌≡◌, ◌≢◌, ℕ, ◌*◌, ◌≤◌, List, [], ◌∷◌, ◌++◌, Some, None, map, length, Contains, sum_by, ap, ◌∙◌, subst, inl, inr, arith}
 use Rattle.std.specs.List.{AllPairs, remove}
 use Rattle.std.proofs.lemmas.List.{length-map, length-append, take_all}
 use Rattle.std.proofs.lemmas.List.Edits.{length-remove}
 use Rattle.std.proofs.lemmas.List.Sums.{get_or-le-sum_by}
-use Rattle.std.proofs.lemmas.Option.{same_Some, slice_get_within, get_or_from_slice_get}
-use Rattle.known_edges.proofs.Vocabulary.{cases_lt, Contains-append_left, Contains-append_right, Access, Event, Initial, At, ProgramSketch, mode_in, trace_in, access_in, IsLawful}
-use Rattle.known_edges.proofs.Vocabulary.{AreOtherTwo, IsAccess}
+use Rattle.known_edges.proofs.Vocabulary.{same_Some, slice_get_within, get_or_from_slice_get, cases_lt, Contains-append_left, Contains-append_right, Access, Event, Initial, At, ProgramSketch, mode_in, trace_in, access_in, IsLawful, AreOtherTwo, IsAccess}
 use Rattle.tso_program.specs.Listings.{accesses_of}
 use Rattle.candidate_executions.proofs.Orders.Lists.{get_some, first_or_later, first_is_here, later_is_here, mapped}
 use Rattle.known_edges.specs.FewAccesses.{HasSmallNumbers, AreFewAccesses}

@@ -1,8 +1,7 @@
 -- Chosen pairs, looked up.
-use Rattle.std.proofs.Common.{◌≡◌, ◌≢◌, ◌↔◌, ℕ, ◌<◌, Bool, true, false, IsTrue, List, [], ◌∷◌, ◌++◌, Option, Some, None, Contains, get_or, length, refl, sym, ap, ◌∙◌, subst, inl, inr, arith}
+use Rattle.known_edges.proofs.Vocabulary.{◌≡◌, ◌≢◌, ◌↔◌, ℕ, ◌<◌, Bool, true, false, IsTrue, List, [], ◌∷◌, ◌++◌, Option, Some, None, Contains, get_or, length, refl, sym, ap, ◌∙◌, subst, inl, inr, arith, AllPairs, is_some, cases_lt, Contains-get_or}
+use Rattle.known_edges.proofs.Vocabulary.{all_pairs_push, Listing, Event, Mode, ThreadTrace, machine_of_mode, ProgramSketch, view_of, KeepsTraces, AreOtherTwo}
 use Rattle.std.proofs.lemmas.Option.{same_Some, none-some}
-use Rattle.known_edges.proofs.Vocabulary.{AllPairs, is_some, cases_lt, Contains-get_or, all_pairs_push, Listing, Event, Mode, ThreadTrace, machine_of_mode, ProgramSketch, view_of, KeepsTraces}
-use Rattle.known_edges.proofs.Vocabulary.{AreOtherTwo}
 use Rattle.candidate_executions.proofs.Sketches.Choices.{a_source_keeps_a_sketch, a_pair_keeps_a_sketch}
 use Rattle.known_edges.specs.Choices.{HasSource, MayRead, MayFollow}
 use Rattle.known_edges.proofs.Lookups.{same_default}

@@ -1,7 +1,6 @@
 -- Whether known edges make a cycle, seen in the rows.
-use Rattle.std.proofs.Common.{◌≡◌, ◌↔◌, ◌⊎◌, ℕ, List, [], ◌∷◌, ◌++◌, Bool, IsTrue, refl, sym, ◌∙◌, inl, inr}
-use Rattle.known_edges.proofs.Vocabulary.{IsIn, AreConnected, HasRound, none_in_zero, Listing, Event, Kind, SameThread, KnownEdgeOfMode, IsWhole, Mode, Sequential, Fenced, machine_of_mode, SourceRows}
-use Rattle.known_edges.proofs.Vocabulary.{OrderRows, ThreadTrace, ProgramSketch, mode_in, view_of, HasCycle, MayRead, MayFollow}
+use Rattle.known_edges.proofs.Vocabulary.{◌≡◌, ◌↔◌, ◌⊎◌, ℕ, List, [], ◌∷◌, ◌++◌, Bool, IsTrue, refl, sym, ◌∙◌, inl, inr, IsIn, AreConnected, HasRound, none_in_zero, Listing, Event, Kind, SameThread, KnownEdgeOfMode, IsWhole, Mode, Sequential, Fenced}
+use Rattle.known_edges.proofs.Vocabulary.{machine_of_mode, SourceRows, OrderRows, ThreadTrace, ProgramSketch, mode_in, view_of, HasCycle, MayRead, MayFollow}
 use Rattle.candidate_executions.specs.declared.event.Kind.TheVariants as union
 use Rattle.known_edges.specs.Rows.{AreRowsOf, AreSourceRows, AreOrderRows, ClosesOnce, ClosesTwice, IsRepresented, main_kind, union_rows}
 use Rattle.known_edges.proofs.Found.{cycle_of_accesses, kind_of}

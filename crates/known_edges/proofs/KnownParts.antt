@@ -1,6 +1,5 @@
 -- Known edges by their parts.
-use Rattle.std.proofs.Common.{◌≡◌, ◌↔◌, ◌⊎◌, Bool, IsTrue, Some, IsSome, refl, sym, ap, ◌∙◌, subst, inl, inr}
-use Rattle.known_edges.proofs.Vocabulary.{Access, Event, Kind, same_Some, some_value, ProgramSketch, access_in, mode_in, Precedes, OrderPart, SourcePart, IsInitialWrite, of_some}
+use Rattle.known_edges.proofs.Vocabulary.{◌≡◌, ◌↔◌, ◌⊎◌, Bool, IsTrue, Some, IsSome, refl, sym, ap, ◌∙◌, subst, inl, inr, Access, Event, Kind, same_Some, some_value, ProgramSketch, access_in, mode_in, Precedes, OrderPart, SourcePart, IsInitialWrite, of_some}
 use Rattle.candidate_executions.specs.declared.event.Kind.TheVariants as union
 use Rattle.candidate_executions.specs.Sketches.{Sketch, IsBefore, KnownFromReads, KnownRelates, IsPair}
 use Rattle.thread_traces.specs.ThreadOrder.{IsKeptBy}

@@ -1,7 +1,6 @@
 -- What a sketch keeps holds at the start, and after each value that is given.
-use Rattle.std.proofs.Common.{◌≡◌, ◌≢◌, ◌⊎◌, ℕ, zero, suc, ◌<◌, List, [], ◌∷◌, ◌++◌, Some, None, IsSome, Contains, slice_get, set, map, length, refl, sym, ap, ◌∙◌, subst, inl, inr, arith, length-set}
-use Rattle.known_edges.proofs.Vocabulary.{cases_eq, length-map, slice_get_within, same_Some, Thread, Listing, IsWithinLimits, action, code_of, start_of, Access, Event, Initial, At, IsValueOf, trace}
-use Rattle.known_edges.proofs.Vocabulary.{fenced_gaps, get_cases, get_set_same, get_set_other, Mode, ThreadTrace, machine_of_mode}
+use Rattle.known_edges.proofs.Vocabulary.{◌≡◌, ◌≢◌, ◌⊎◌, ℕ, zero, suc, ◌<◌, List, [], ◌∷◌, ◌++◌, Some, None, IsSome, Contains, slice_get, set, map, length, refl, sym, ap, ◌∙◌, subst, inl, inr, arith, length-set, cases_eq, length-map, slice_get_within}
+use Rattle.known_edges.proofs.Vocabulary.{same_Some, Thread, Listing, IsWithinLimits, action, code_of, start_of, Access, Event, Initial, At, IsValueOf, trace, fenced_gaps, get_cases, get_set_same, get_set_other, Mode, ThreadTrace, machine_of_mode}
 use Rattle.candidate_executions.specs.Sketches as sketches
 use Rattle.candidate_executions.proofs.FromRuns.StepsSuffice.{advance}
 use Rattle.known_edges.specs.ProgramSketches.{ProgramSketch, trace_in, access_in, nothing_chosen, with_chosen}

@@ -1,7 +1,6 @@
 -- The location of each access is one of the program's.
-use Rattle.std.proofs.Common.{◌≡◌, ℕ, zero, suc, ◌<◌, Bool, List, [], ◌∷◌, Option, Some, None, slice_get, length, refl, sym, ap, ◌∙◌, subst, arith}
-use Rattle.known_edges.proofs.Vocabulary.{slice_get_within, same_Some, Action, Go, Wait, Read, Write, Swap, Local, Instr, Listing, IsWithinLimits, action, instr_at, code_of, start_of, Access}
-use Rattle.known_edges.proofs.Vocabulary.{Event, Initial, At, given_to, Trace, trace, traced, entered, fenced_gaps, load_of, store_of, exchange_of, Mode, ThreadTrace, ProgramSketch, mode_in, view_of}
+use Rattle.known_edges.proofs.Vocabulary.{◌≡◌, ℕ, zero, suc, ◌<◌, Bool, List, [], ◌∷◌, Option, Some, None, slice_get, length, refl, sym, ap, ◌∙◌, subst, arith, slice_get_within, same_Some, Action, Go, Wait, Read, Write, Swap, Local, Instr, Listing}
+use Rattle.known_edges.proofs.Vocabulary.{IsWithinLimits, action, instr_at, code_of, start_of, Access, Event, Initial, At, given_to, Trace, trace, traced, entered, fenced_gaps, load_of, store_of, exchange_of, Mode, ThreadTrace, ProgramSketch, mode_in, view_of}
 use Rattle.known_edges.proofs.Vocabulary.{KeepsTraces, HaveLocations}
 use Rattle.tso_program.specs.Actions.{act, loaded, IsLocated}
 use Rattle.tso_program.proofs.Located.{act_located}

@@ -1,7 +1,7 @@
 -- Rows of events, gathered event by event.
-use Rattle.std.proofs.Common.{◌≡◌, ◌≢◌, ◌↔◌, ◌⊎◌, ℕ, ◌+◌, ◌<◌, ◌≤◌, List, Some, slice_get, get_or, set, length, sym, ap, ◌∙◌, subst, inl, inr, arith}
+use Rattle.known_edges.proofs.Vocabulary.{◌≡◌, ◌≢◌, ◌↔◌, ◌⊎◌, ℕ, ◌+◌, ◌<◌, ◌≤◌, List, Some, slice_get, get_or, set, length, sym, ap, ◌∙◌, subst, inl, inr, arith, cases_lt, cases_eq, slice_get_within, slice_get-get_or, get_or_from_slice_get, same_Some, Event}
+use Rattle.known_edges.proofs.Vocabulary.{Initial, IsRowOf, AreRowsOf, ReadsBut}
 use Rattle.std.proofs.lemmas.List.{get_or-set_same, get_or-set_other}
-use Rattle.known_edges.proofs.Vocabulary.{cases_lt, cases_eq, slice_get_within, slice_get-get_or, get_or_from_slice_get, same_Some, Event, Initial, IsRowOf, AreRowsOf, ReadsBut}
 use Rattle.bit_rows.specs.Rows.{IsIn, RowHas, IsTransitive}
 
 -- the event of this number, of which P holds
@@ -113,9 +113,6 @@ rows_all events R n rows all below d e = (
   λ h. (let (x, at, (y, to, r)) = ((below d e).0 h).1 in (x, y, at, to, r)),
   λ (x, y, at, to, r). (below d e).1 ((let l = slice_get_within events d x at in omega arith), (x, at, (y, to, r))),
 )
-
-pub rows_begin : (events : List Event) (R : Event → Event → Type 0) (rows : List ℕ) → ((d e : ℕ) → RowHas rows d e → ⊥) → AreRowsBelow events R 0 rows
-rows_begin events R rows empty d e = (λ h. absurd (empty d e h), λ h. absurd (let l = h.0 in omega arith))
 
 -- rows of a relation that joins its steps join theirs
 pub rows_join : (events : List Event) (R : Event → Event → Type 0) (rows : List ℕ) → AreRowsOf events R rows → ((d e f : Event) → R d e → R e f → R d f) → IsTransitive rows

@@ -1,10 +1,8 @@
 -- Accesses by number: what the rows of a sketch say of its events.
-use Rattle.std.proofs.Common.{◌≡◌, ◌↔◌, ℕ, Bool, IsTrue, List, [], Option, Some, None, Contains, slice_get, get_or, length, refl, sym, ap, ◌∙◌, subst, inl, inr, ◌≤◌, arith}
+use Rattle.known_edges.proofs.Vocabulary.{◌≡◌, ◌↔◌, ℕ, Bool, IsTrue, List, [], Option, Some, None, Contains, slice_get, get_or, length, refl, sym, ap, ◌∙◌, subst, inl, inr, ◌≤◌, arith, option_map_or, slice_get_within, slice_get-get_or, get_or_from_slice_get}
+use Rattle.known_edges.proofs.Vocabulary.{same_Some, IsIn, RowHas, MAX_THREADS, MAX_INSTRUCTIONS, Listing, Access, Event, Initial, At, Kind, ComesBefore, IsOfMode, Mode, Sequential, Fenced, ThreadTrace, machine_of_mode, ProgramSketch, mode_in, trace_in}
+use Rattle.known_edges.proofs.Vocabulary.{access_in, view_of, KeepsTraces, IsInitialWrite, accesses_at, traced_access, IsOfThreads, AreAccesses, EachEnds, FitRow, AreRowsOf, HasWrites, IsRowOf, IsWriteAt, main_kind, union_rows, some_value, of_some}
 use Rattle.std.specs.Prelude.{slice_index}
-use Rattle.known_edges.proofs.Vocabulary.{option_map_or, slice_get_within, slice_get-get_or, get_or_from_slice_get, same_Some, IsIn, RowHas, MAX_THREADS, MAX_INSTRUCTIONS, Listing, Access}
-use Rattle.known_edges.proofs.Vocabulary.{Event, Initial, At, Kind, ComesBefore, IsOfMode, Mode, Sequential, Fenced, ThreadTrace, machine_of_mode, ProgramSketch, mode_in, trace_in, access_in, view_of}
-use Rattle.known_edges.proofs.Vocabulary.{KeepsTraces, IsInitialWrite, accesses_at, traced_access, IsOfThreads, AreAccesses, EachEnds, FitRow, AreRowsOf, HasWrites, IsRowOf, IsWriteAt, main_kind}
-use Rattle.known_edges.proofs.Vocabulary.{union_rows, some_value, of_some}
 use Rattle.candidate_executions.specs.declared.event.Kind.TheVariants as union
 use Rattle.candidate_executions.specs.Candidates.{Writes, IsAccess}
 use Rattle.candidate_executions.specs.Sketches.{IsWhole, IsPair, given_to, next_read}

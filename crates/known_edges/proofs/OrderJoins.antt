@@ -1,7 +1,6 @@
 -- Program order of each union is transitive.
-use Rattle.std.proofs.Common.{◌≡◌, ℕ, zero, suc, ◌<◌, ◌≤◌, Bool, true, false, List, ◌∷◌, Some, IsSome, slice_get, sym, ap, ◌∙◌, subst, inl, inr, arith}
-use Rattle.known_edges.proofs.Vocabulary.{same_Some, loaded, Action, Go, Wait, Read, Write, Swap, Local, Listing, action, start_of, Mode, machine_of_mode, Access, Event, At, Kind}
-use Rattle.known_edges.proofs.Vocabulary.{Trace, trace, traced, with_access, entered, store_of, load_of, exchange_of, fenced_gaps, ThreadTrace, OrderPart, KeepsTraces}
+use Rattle.known_edges.proofs.Vocabulary.{◌≡◌, ℕ, zero, suc, ◌<◌, ◌≤◌, Bool, true, false, List, ◌∷◌, Some, IsSome, slice_get, sym, ap, ◌∙◌, subst, inl, inr, arith, same_Some, loaded, Action, Go, Wait, Read, Write, Swap, Local, Listing, action, start_of, Mode}
+use Rattle.known_edges.proofs.Vocabulary.{machine_of_mode, Access, Event, At, Kind, Trace, trace, traced, with_access, entered, store_of, load_of, exchange_of, fenced_gaps, ThreadTrace, OrderPart, KeepsTraces}
 use Rattle.candidate_executions.specs.declared.event.Kind.TheVariants as union
 use Rattle.candidate_executions.specs.Consistency.{Precedes, KeepsOrder}
 use Rattle.candidate_executions.proofs.Sections.SectionsRise.{from_section}

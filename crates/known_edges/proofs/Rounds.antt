@@ -1,7 +1,6 @@
 -- Cycles of known edges, seen in the rows.
-use Rattle.std.proofs.Common.{◌≡◌, ◌↔◌, ℕ, suc, List, [], ◌∷◌, Some, Contains, slice_get, refl, sym, ◌∙◌, subst, arith}
-use Rattle.known_edges.proofs.Vocabulary.{same_Some, slice_get_within, Listing, Mode, Event, Kind, IsAccess, Leads, IsCycle, IsOfMode, KnownEdgeOfMode, IsKnownCycle, IsWhole, given_to, ThreadTrace}
-use Rattle.known_edges.proofs.Vocabulary.{ProgramSketch, mode_in, view_of, IsLawful, AreRowsOf, IsRepresented, union_rows}
+use Rattle.known_edges.proofs.Vocabulary.{◌≡◌, ◌↔◌, ℕ, suc, List, [], ◌∷◌, Some, Contains, slice_get, refl, sym, ◌∙◌, subst, arith, same_Some, slice_get_within, Listing, Mode, Event, Kind, IsAccess, Leads, IsCycle, IsOfMode, KnownEdgeOfMode, IsKnownCycle}
+use Rattle.known_edges.proofs.Vocabulary.{IsWhole, given_to, ThreadTrace, ProgramSketch, mode_in, view_of, IsLawful, AreRowsOf, IsRepresented, union_rows}
 use Rattle.bit_rows.specs.Rows.{IsIn, RowHas, Reaches, HasRound, RowsLead as Path}
 use Rattle.bit_rows.proofs.Paths.{reaches_then}
 use Rattle.known_edges.specs.Rounds.{AreRelated, HaveEvents, GoesOnIn}

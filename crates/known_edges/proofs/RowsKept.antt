@@ -1,8 +1,7 @@
 -- The rows of a sketch at its start, and after each choice.
-use Rattle.std.proofs.Common.{◌≡◌, ◌↔◌, ◌⊎◌, ℕ, ◌<◌, List, [], ◌∷◌, ◌++◌, Some, None, Contains, slice_get, get_or, length, refl, sym, ap, ◌∙◌, subst, inl, inr}
-use Rattle.known_edges.proofs.Vocabulary.{slice_get-get_or, same_Some, IsIn, RowHas, AreConnected, Listing, Access, Event, Initial, At, Kind, IsOfMode, SameThread, with_source, with_pair}
-use Rattle.known_edges.proofs.Vocabulary.{KnownEdgeOfMode, Mode, Sequential, Fenced, SourceRows, OrderRows, ThreadTrace, ProgramSketch, mode_in, access_in, with_chosen, view_of, KeepsTraces, MayRead}
-use Rattle.known_edges.proofs.Vocabulary.{MayFollow}
+use Rattle.known_edges.proofs.Vocabulary.{◌≡◌, ◌↔◌, ◌⊎◌, ℕ, ◌<◌, List, [], ◌∷◌, ◌++◌, Some, None, Contains, slice_get, get_or, length, refl, sym, ap, ◌∙◌, subst, inl, inr, slice_get-get_or, same_Some, IsIn, RowHas, AreConnected, Listing, Access, Event}
+use Rattle.known_edges.proofs.Vocabulary.{Initial, At, Kind, IsOfMode, SameThread, with_source, with_pair, KnownEdgeOfMode, Mode, Sequential, Fenced, SourceRows, OrderRows, ThreadTrace, ProgramSketch, mode_in, access_in, with_chosen, view_of, KeepsTraces}
+use Rattle.known_edges.proofs.Vocabulary.{MayRead, MayFollow}
 use Rattle.candidate_executions.specs.declared.event.Kind.TheVariants as union
 use Rattle.known_edges.specs.Rows.{accesses_at, traced_access, IsOfThreads, IsRowOf, AreRowsOf, InOrder, IsWriteAt, ReadsBut, IsAfter, HasOrder, AreSourceRows, AreOrderRows, IsRepresented, main_kind}
 use Rattle.known_edges.proofs.KnownParts.{to_relates}

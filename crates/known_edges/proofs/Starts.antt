@@ -1,15 +1,11 @@
 -- The numbers of accesses: the start of a thread, and an index in it.
-use Rattle.std.proofs.Common.{◌≡◌, ◌↔◌, ◌⊎◌, ℕ, ◌+◌, ◌<◌, ◌≤◌, List, [], ◌∷◌, ◌++◌, Some, Contains, slice_get, set, length, refl, sym, ap, ◌∙◌, inl, inr, arith}
-use Rattle.known_edges.proofs.Vocabulary.{AllPairs, cases_lt, cases_eq, slice_get_within, same_Some, IsIn, none_in_zero, Event, Initial, At, get_cases, get_set_same, get_set_other, ComesBefore}
-use Rattle.known_edges.proofs.Vocabulary.{ThreadTrace}
+use Rattle.known_edges.proofs.Vocabulary.{◌≡◌, ◌↔◌, ◌⊎◌, ℕ, ◌+◌, ◌<◌, ◌≤◌, List, [], ◌∷◌, ◌++◌, Some, Contains, slice_get, set, length, refl, sym, ap, ◌∙◌, inl, inr, arith, AllPairs, cases_lt, cases_eq, slice_get_within, same_Some, IsIn, none_in_zero, Event}
+use Rattle.known_edges.proofs.Vocabulary.{Initial, At, get_cases, get_set_same, get_set_other, ComesBefore, ThreadTrace}
 use Rattle.known_edges.specs.Rows.{IsRowOf, AreAccesses, AreBeyond, AreCounts, AreNumbered, AreStarts, FitRow, IsEarly, IsOfThreads}
 use Rattle.known_edges.proofs.Accesses.{IsBelow}
 use Rattle.known_edges.proofs.BranchesCounted.{not_before_itself}
 use Rattle.known_edges.proofs.InThreadOrder.{before_in}
 use Rattle.known_edges.proofs.Numbered.{number_of, contained}
-
-pub beyond_none : (old : List Event) (t : ℕ) → AreBeyond old t old
-beyond_none old t d u i at = inl at
 
 -- traces of which each read has a value get all numbers
 pub numbered_all : (thread_traces : List ThreadTrace) (events : List Event) → FitRow thread_traces → AreAccesses thread_traces events → AreNumbered thread_traces events
@@ -35,9 +31,6 @@ beyond_more old new t i long beyond d u j at = elim (get_cases new (At t i) d (A
     index_of : Event → ℕ
     index_of (Initial l) = 0
     index_of (At v k) = k
-
-pub starts_none : (events : List Event) (starts : List ℕ) → events ≡ [] → AreStarts events starts
-starts_none events starts none d t i at = absurd (let l = slice_get_within events d (At t i) at in let empty = ap length none in omega arith)
 
 -- one thread more
 pub starts_more : (thread_traces : List ThreadTrace) (old next : List Event) (t start : ℕ) (starts : List ℕ) → ((e : Event) → Contains old e → IsBelow thread_traces t e) → t < length starts →
@@ -98,9 +91,6 @@ row_of_number events e number row at only one d = (
   ],
   λ (x, there, same). (one d).1 (inr (only d (there ∙ ap (λ z. Some z) same))),
 )
-
-pub row_of_none : (events : List Event) (e : Event) → (Contains events e → ⊥) → IsRowOf events (λ x. x ≡ e) 0
-row_of_none events e none d = (λ h. absurd (none_in_zero d h), λ (x, there, same). absurd (none (contained events e (d, there ∙ ap (λ z. Some z) same))))
 
 -- no initial write has a number
 pub no_initial : (thread_traces : List ThreadTrace) (events : List Event) (l : ℕ) → ((e : Event) → Contains events e → IsOfThreads thread_traces e) → Contains events (Initial l) → ⊥

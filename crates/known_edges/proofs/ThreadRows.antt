@@ -1,6 +1,5 @@
 -- The rows of one thread's accesses, moved up to the numbers of all accesses.
-use Rattle.std.proofs.Common.{◌≡◌, ◌↔◌, ℕ, ◌+◌, ◌<◌, ◌≤◌, List, Some, slice_get, Bool, length, refl, sym, ap, ◌∙◌, subst, inl, inr, arith}
-use Rattle.known_edges.proofs.Vocabulary.{cases_lt, slice_get_within, same_Some, IsIn, ROW_BITS, Event, Initial, At, Kind, ThreadTrace, IsLaterIn}
+use Rattle.known_edges.proofs.Vocabulary.{◌≡◌, ◌↔◌, ℕ, ◌+◌, ◌<◌, ◌≤◌, List, Some, slice_get, Bool, length, refl, sym, ap, ◌∙◌, subst, inl, inr, arith, cases_lt, slice_get_within, same_Some, IsIn, ROW_BITS, Event, Initial, At, Kind, ThreadTrace, IsLaterIn}
 use Rattle.known_edges.specs.Rows.{accesses_at, traced_access, AreAccesses, AreStarts, InOrder, IsRowOf, KeepsTraceNumbers, NumberedTraces}
 use Rattle.known_edges.proofs.Accesses.{no_trace}
 use Rattle.known_edges.proofs.KnownParts.{order_part}

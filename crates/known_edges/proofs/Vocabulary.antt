@@ -1,4 +1,5 @@
 -- What many proofs of this crate speak of, imported once.
+pub use Rattle.std.proofs.Common.{Bool, Contains, IfSome, IsSome, IsTrue, List, None, Option, Some, [], ap, arith, drop, false, get_or, inl, inr, length, length-set, map, refl, set, slice_get, subst, suc, sym, true, zero, ℕ, ◌*◌, ◌++◌, ◌+◌, ◌<◌, ◌↔◌, ◌∙◌, ◌∷◌, ◌≡◌, ◌≢◌, ◌≤◌, ◌⊎◌}
 pub use Rattle.std.proofs.lemmas.Bool.{cases_eq, cases_lt}
 pub use Rattle.std.proofs.lemmas.List.{get_or_past, length-append, length-map}
 pub use Rattle.std.proofs.lemmas.List.Elements.{Contains-append_left, Contains-append_right, Contains-get_or, Contains-push, Contains-push_cases}

@@ -30,6 +30,5 @@ OrderPart union.Global d x e y = Precedes d e × KeepsOrder x y
 
 -- the known reads-from of a union
 abbrev pub SourcePart : Sketch → Kind → Event → Event → Type 0
-SourcePart k union.Sequential d e = Contains k.sources (e, d)
-SourcePart k union.Location d e = Contains k.sources (e, d)
 SourcePart k union.Global d e = Contains k.sources (e, d) × (SameThread d e → ⊥)
+SourcePart k _ d e = Contains k.sources (e, d)

@@ -95,9 +95,8 @@ main_kind (Fenced gaps) = union.Location
 
 -- the rows of a union
 abbrev pub union_rows : Kind → List ℕ → List ℕ → List ℕ
-union_rows union.Sequential main global = main
-union_rows union.Location main global = main
 union_rows union.Global main global = global
+union_rows _ main global = main
 
 -- what the threads do, and the accesses that have numbers, their places
 pub record NumberedTraces : Type 0 where

@@ -52,18 +52,12 @@ initial_read rest = (
   ((λ e. cc, tt), (tt, tt)),
 )
 
-first_name : codes "P0" ≡ column_name 0
-first_name = ap (λ (ds : List ℕ). codes "P" ++ ds) (sym (decimal_digit 0 (lit< tt)))
-
-second_name : codes "P1" ≡ column_name 1
-second_name = ap (λ (ds : List ℕ). codes "P" ++ ds) (sym (decimal_digit 1 (lit< tt)))
-
 header_read : (rest : List Tok) → IsHeader 2 (header rest) rest
 header_read rest =
     let others : List Tok = Sign the.Semicolon ∷ rest in (
       Sign the.Bar ∷ Word (codes "P1") ∷ others,
-      ap (λ (name : List ℕ). Word name ∷ Sign the.Bar ∷ Word (codes "P1") ∷ others) first_name,
-      column (Word (codes "P1") ∷ others, refl, ap (λ (name : List ℕ). Word name ∷ others) second_name) (last refl refl),
+      ap (λ (name : List ℕ). Word name ∷ Sign the.Bar ∷ Word (codes "P1") ∷ others) (ap (λ (ds : List ℕ). codes "P" ++ ds) (sym (decimal_digit 0 (lit< tt)))),
+      column (Word (codes "P1") ∷ others, refl, ap (λ (name : List ℕ). Word name ∷ others) (ap (λ (ds : List ℕ). codes "P" ++ ds) (sym (decimal_digit 1 (lit< tt))))) (last refl refl),
     )
 
 -- ---- rows
@@ -97,9 +91,6 @@ stored rest = store_of (codes "x") (Sign the.Bar ∷ store_of (codes "y") (Sign 
 abbrev loaded : List Tok → List Tok
 loaded rest = load_of (codes "y") (Sign the.Bar ∷ load_of (codes "x") (Sign the.Semicolon ∷ rest))
 
-stores_read : (rest : List Tok) → IsRow 2 stores (stored rest) rest
-stores_read rest = (refl, (_, end (store_read (codes "x") x_is_name _, refl), item (_, refl, end (store_read (codes "y") y_is_name _, refl)) (end refl)))
-
 loads_read : (rest : List Tok) → IsRow 2 loads (loaded rest) rest
 loads_read rest = (refl, (_, end (load_read (codes "y") y_is_name _, refl), item (_, refl, end (load_read (codes "x") x_is_name _, refl)) (end refl)))
 
@@ -119,7 +110,7 @@ ending = record { observed = []; quantifier = Exists; signs = view.Open ∷ view
 
 body_read : IsBody body (initial (header (stored (loaded condition)))) condition
 body_read = (
-  (_, initial_read _, (_, header_read _, (item (stores_read _) (item (loads_read _) (end (refl, before_exists))), tt))),
+  (_, initial_read _, (_, header_read _, (item ((refl, (_, end (store_read (codes "x") x_is_name _, refl), item (_, refl, end (store_read (codes "y") y_is_name _, refl)) (end refl)))) (item (loads_read _) (end (refl, before_exists))), tt))),
   All-cons (HasThread 2) (Location (codes "x")) (Register 1 Ebx ∷ []) tt (All-cons (HasThread 2) (Register 1 Ebx) [] (lit< tt) (All-nil (HasThread 2))),
 )
 

@@ -2,9 +2,8 @@
 use Rattle.std.proofs.Common.{◌≡◌, ℕ, ◌<◌, Bool, true, false, List, [], ◌∷◌, ◌++◌, length, get_or, set, map, replicate, fold, refl, sym, ap, ◌∙◌, arith, inl, inr}
 use Rattle.std.proofs.lemmas.Bool.{cases_Bool, eqb-true, eqb-false}
 use Rattle.std.proofs.lemmas.List.{length-replicate, get_or-replicate, length-set, get_or-set_same, get_or-set_other}
-use Rattle.litmus_reader.proofs.Vocabulary.{◌==◌, ◌&&◌, ◌||◌, min, if◌then◌else◌, option_map_or, range_with_len, filter_map, list_any, fold-append, fill_by_all, length-map-range_with_len}
-use Rattle.litmus_reader.proofs.Vocabulary.{get_or-map-range_with_len, Reg, number, Atom, PlaceView, Location, Register, BodyView, TextNames, all_registers, with_name, code_in, Label, thread_labels}
-use Rattle.litmus_reader.proofs.Vocabulary.{all_labels}
+use Rattle.litmus_reader.proofs.Vocabulary.{◌==◌, ◌&&◌, ◌||◌, min, if◌then◌else◌, option_map_or, range_with_len, filter_map, list_any, fold-append, fill_by_all, length-map-range_with_len, get_or-map-range_with_len, Reg, number, Atom, PlaceView, Location}
+use Rattle.litmus_reader.proofs.Vocabulary.{Register, BodyView, TextNames, all_registers, with_name, code_in, Label, thread_labels, all_labels}
 use Rattle.tso_program.specs.declared.instruction.Reg.TheVariants.{Eax}
 use Rattle.tso_program.specs.declared.atom.Atom.TheVariants as atom
 use Rattle.litmus_reader.specs.Places.{location_name, is_register, names_among}

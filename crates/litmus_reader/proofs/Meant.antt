@@ -1,8 +1,8 @@
 -- From what was read of a text to what the text stands for.
 use Rattle.std.proofs.Common.{◌≡◌, ℕ, ◌≤◌, false, List, length, Option, Some, None, refl, sym, ap, ◌∙◌, subst, arith, inl, inr}
 use Rattle.std.specs.Prelude.{⊤, is_some, map}
-use Rattle.litmus_reader.proofs.Vocabulary.{filter_map, IsUtf8, cases_lt, cases_Bool, Thread, Listing, ProgramFault, Tok, Lexes, Litmus, ReadFault, OutOfMemory, MatchFault, TextNames, number_in}
-use Rattle.litmus_reader.proofs.Vocabulary.{byte_in, byte_at, listing_by, position_in, all_labels, first_long, AreSkipped, Means, StandsFor, StandsForNothing, IsReadOf, MAX_LOCATIONS}
+use Rattle.litmus_reader.proofs.Vocabulary.{filter_map, IsUtf8, cases_lt, cases_Bool, Thread, Listing, ProgramFault, Tok, Lexes, Litmus, ReadFault, OutOfMemory, MatchFault, TextNames, number_in, byte_in, byte_at, listing_by, position_in, all_labels}
+use Rattle.litmus_reader.proofs.Vocabulary.{first_long, AreSkipped, Means, StandsFor, StandsForNothing, IsReadOf, MAX_LOCATIONS}
 use Rattle.litmus_reader.specs.Places.{location_name, places, names_of}
 use Rattle.litmus_reader.specs.Meaning.{listing_of, condition_of, observed_of}
 use Rattle.litmus_reader.proofs.NamesOnce.{in_order_once, entries_stand}

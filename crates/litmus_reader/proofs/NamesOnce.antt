@@ -1,13 +1,13 @@
 -- A text's names: each stands once, the number of one is its place, and what the entries name stands among them.
-use Rattle.std.proofs.Common.{◌≡◌, ℕ, ◌<◌, Bool, true, false, cond, List, [], ◌∷◌, ◌++◌, length, get_or, map, fold, Some, None, refl, sym, ap, ◌∙◌, arith}
+use Rattle.litmus_reader.proofs.Vocabulary.{◌≡◌, ℕ, ◌<◌, Bool, true, false, cond, List, [], ◌∷◌, ◌++◌, length, get_or, map, fold, Some, None, refl, sym, ap, ◌∙◌, arith, ◌==◌, ◌||◌, ⊤, nat_lt, unwrap_or, if◌then◌else◌, bytes_eq, lt-ltb, nat_list_eq_equiv}
+use Rattle.litmus_reader.proofs.Vocabulary.{get_or_default, bytes_eq-Decides, PlaceView, Location, Register, BodyView, EndingView, location_name, entry_place, row_places, sign_places, names_of, flat_map}
 use Rattle.std.specs.List.{IsDistinct, AllByRecursion, list_any, filter_map, position_or_len}
 use Rattle.std.specs.Bool.{Decides}
+use Rattle.std.proofs.lemmas.Bool.{or_right}
 use Rattle.std.proofs.lemmas.Bool.Decides.{Decides-eqb, same_from_decides}
 use Rattle.std.proofs.lemmas.List.Folds.{list_any-append, Any-from_list_any}
 use Rattle.std.proofs.lemmas.List.Sums.{position_or_len_is}
 use Rattle.std.proofs.lemmas.Map.Keys.{IsDistinct-push, apart_from_distinct}
-use Rattle.litmus_reader.proofs.Vocabulary.{◌==◌, ◌||◌, ⊤, nat_lt, unwrap_or, if◌then◌else◌, bytes_eq, lt-ltb, nat_list_eq_equiv, get_or_default, bytes_eq-Decides, PlaceView, Location, Register}
-use Rattle.litmus_reader.proofs.Vocabulary.{BodyView, EndingView, location_name, entry_place, row_places, sign_places, names_of, flat_map}
 use Rattle.litmus_reader.specs.Names.{with_name, in_order, number_in}
 
 -- ---- each name stands once
@@ -70,21 +70,17 @@ kept : (p : List ℕ → Bool) (names xs : List (List ℕ)) → list_any p names
 kept p names [] e = e
 kept p names (x ∷ xs) e = kept p (with_name names x) xs (kept_by p names x (list_any (bytes_eq x) names) e)
 
-or_true : (a : Bool) → (a || (true || false)) ≡ true
-or_true true = refl
-or_true false = refl
-
 added : (names : List (List ℕ)) (x : List ℕ) (b : Bool) → list_any (bytes_eq x) names ≡ b → list_any (bytes_eq x) (if b then names else names ++ x ∷ []) ≡ true
 added names x true e = e
 added names x false e =
-    list_any-append (bytes_eq x) names (x ∷ []) ∙ ap (λ (b : Bool). list_any (bytes_eq x) names || (b || false)) (nat_list_eq_equiv.refl x) ∙ or_true (list_any (bytes_eq x) names)
+    list_any-append (bytes_eq x) names (x ∷ []) ∙ or_right (list_any (bytes_eq x) names) (bytes_eq x x || false) (ap (λ (b : Bool). b || false) (nat_list_eq_equiv.refl x))
 
 -- a location's name stands among the names
 abbrev pub Stands : List (List ℕ) → PlaceView → Type 0
 Stands names (Location x) = list_any (bytes_eq x) names ≡ true
 Stands names (Register t r) = ⊤
 
-stand_from : (names : List (List ℕ)) (ps more : List PlaceView) → AllByRecursion (Stands (fold with_name names (filter_map location_name (ps ++ more)))) ps
+pub stand_from : (names : List (List ℕ)) (ps more : List PlaceView) → AllByRecursion (Stands (fold with_name names (filter_map location_name (ps ++ more)))) ps
 stand_from names [] more = tt
 stand_from names (Location x ∷ ps) more = (
   kept (bytes_eq x) (with_name names x) (filter_map location_name (ps ++ more)) (added names x (list_any (bytes_eq x) names) refl),

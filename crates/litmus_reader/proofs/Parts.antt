@@ -1,7 +1,6 @@
 -- The parts that are read are those of the tokens, and no others.
 use Rattle.std.proofs.Common.{◌≡◌, ℕ, List, [], length, map, Option, Some, None, refl, sym, subst}
-use Rattle.litmus_reader.proofs.Vocabulary.{⊤, Err, Tok, Listing, Atom, PlaceView, BodyView, EndingView, IsBody, IsEnding, Litmus, ReadFault, MatchFault, names_of, all_labels, JumpsAreFound, byte_in}
-use Rattle.litmus_reader.proofs.Vocabulary.{byte_at, listing_by, AreParts}
+use Rattle.litmus_reader.proofs.Vocabulary.{⊤, Err, Tok, Listing, Atom, PlaceView, BodyView, EndingView, IsBody, IsEnding, Litmus, ReadFault, MatchFault, names_of, all_labels, JumpsAreFound, byte_in, byte_at, listing_by, AreParts}
 use Rattle.tso_program.specs.Tree.{Tree, tree_map}
 use Rattle.conditions.proofs.Mapped.{spells_mapped, spells_unmapped}
 use Rattle.conditions.proofs.SpelledIsRead.{spells_one}
@@ -93,18 +92,13 @@ refused_formula tokens body refusal ending numbered fault found is =
     match_map fault ⊥ ⊥ (λ _. ⊥) (λ _. ⊥) ⊤ ⊤ (refusal ≡ None → SpellsNone (numbered_signs numbered ending.signs)) (HasNoParts tokens) (λ h. h) (λ _ h. h) (λ h. h)
     (no_formula tokens body refusal ending numbered found) is
 
--- the formula that the signs spell, from the one that the numbered signs spell
-unnumbered : (numbered : List ℕ → ℕ) (ending : EndingView) (f : Tree Atom) → SpellsOnly (numbered_signs numbered ending.signs) f
-    → (tree : Tree (PlaceView × ℕ)) × Spells Sum tree (map sign_of ending.signs) [] × (tree_map (numbered_atom numbered) tree ≡ f)
-unnumbered numbered ending f only = spells_unmapped (numbered_atom numbered) (map sign_of ending.signs) f only.0
-
 -- what is read are the tokens' parts, and no others are
 pub parts_read : (tokens : List Tok) (body : BodyView) (refusal : Option Refusal) (ending : EndingView) (litmus : Litmus Listing) → Found tokens body refusal ending → JumpsAreFound body
     → litmus.names ≡ names_of body ending → litmus.condition.quantifier ≡ ending.quantifier → (refusal ≡ None) × SpellsOnly (numbered_signs (byte_in litmus.names.locations) ending.signs) litmus.condition.formula
     → litmus.program ≡ listing_by (byte_in litmus.names.locations) byte_at (length litmus.names.locations) body → litmus.observed ≡ map (observed_of (byte_in litmus.names.locations)) ending.observed
     → litmus.labels ≡ all_labels body → AreReadTokens tokens litmus
 parts_read tokens body refusal ending litmus found jumps names quantifier spelled program observed labels =
-    let u = unnumbered (byte_in litmus.names.locations) ending litmus.condition.formula spelled.1 in
+    let u = (spells_unmapped (numbered_atom (byte_in litmus.names.locations)) (map sign_of ending.signs) litmus.condition.formula spelled.1.0) in
     record {
       body = body;
       ending = ending;

@@ -3,8 +3,7 @@ use Rattle.std.proofs.Common.{◌≡◌, ℕ, zero, suc, ◌+◌, arith, length,
 use Rattle.std.specs.Option.{option_or, option_map_or}
 use Rattle.std.specs.Map.{lookup}
 use Rattle.std.proofs.lemmas.List.Folds.{find-append}
-use Rattle.litmus_reader.proofs.Vocabulary.{⊤, ◌&&◌, is_some, option_map, unwrap_or, if◌then◌else◌, list_all, bytes_eq, Vec, nat_list_eq_equiv, append-nil, bytes_eq-Decides, CellView, BodyView, Label}
-use Rattle.litmus_reader.proofs.Vocabulary.{ReadFault, labels_in, with_label, FindsAs, FindAllAs}
+use Rattle.litmus_reader.proofs.Vocabulary.{⊤, ◌&&◌, is_some, option_map, unwrap_or, if◌then◌else◌, list_all, bytes_eq, Vec, nat_list_eq_equiv, append-nil, bytes_eq-Decides, CellView, BodyView, Label, ReadFault, labels_in, with_label, FindsAs, FindAllAs}
 use Rattle.indexmap.specs.IndexMap.{insert_entry}
 use Rattle.litmus_reader.specs.Labels.{label_in, all_labels, cell_jump, are_found, JumpsAreFound}
 use Rattle.litmus_reader.specs.Faults.{MatchFault, IsOfAToken}

@@ -1,12 +1,11 @@
 -- Tokens that the grammar relates to something are tokens each.
-use Rattle.std.proofs.Common.{◌≡◌, ℕ, ◌+◌, List, [], ◌∷◌, inl, inr, Some, None, sym, subst}
+use Rattle.litmus_reader.proofs.Vocabulary.{◌≡◌, ℕ, ◌+◌, List, [], ◌∷◌, inl, inr, Some, None, sym, subst, Tok, Word, Number, Sign, AreAllTokens, Reg, Tree, AreParts, column_name}
 use Rattle.text_tokens.specs.declared.token.Mark.{Mark}
 use Rattle.text_tokens.specs.declared.token.Mark.TheVariants as the
 use Rattle.conditions.specs.declared.condition.Quantifier.{Quantifier}
 use Rattle.conditions.specs.declared.condition.Quantifier.TheVariants.{Exists, NotExists, Forall}
 use Rattle.litmus_syntax.specs.Views.{PlaceView, Location, Register, EntryView, CodeView, LoadImm, Copy, Load, StoreImm, Store, Xchg, Fence, CmpImm, CmpReg, Je, Jne, Jmp, CellView, BodyView, SignView, Atom, Const, Not, And, Or, Open, Close, EndingView}
 use Rattle.std.specs.Prelude.{codes, true, false, Option}
-use Rattle.litmus_reader.proofs.Vocabulary.{Tok, Word, Number, Sign, AreAllTokens, Reg, Tree, AreParts, column_name}
 use Rattle.litmus_syntax.specs.Phrases.{Phrase, ◌▸◌, ◌or◌, mark, word, number, before, no_word, Items, end, item}
 use Rattle.litmus_syntax.specs.Grammar.{register, name, memory, IsPlace, IsEntry, separator, IsEntryItem, IsInitial, MoreColumns, last, column, IsHeader, immediate, comma, IsCode, IsLabelMark, IsContent, IsCell, IsNextCell, IsCells, IsRow, before_ending, IsRowList, IsRows, IsBody, IsObservedItem, IsObserved, IsQuantifier, IsSign, the_end, IsSigns, IsEnding}
 
@@ -16,12 +15,6 @@ KeepsWhole p = (ts rest : List Tok) → p ts rest → AreAllTokens rest → AreA
 
 whole_word : (w : List ℕ) (ts rest : List Tok) → ts ≡ Word w ∷ rest → AreAllTokens rest → AreAllTokens ts
 whole_word w ts rest e h = subst AreAllTokens (sym e) h
-
-whole_number : (n : ℕ) (ts rest : List Tok) → ts ≡ Number n ∷ rest → AreAllTokens rest → AreAllTokens ts
-whole_number n ts rest e h = subst AreAllTokens (sym e) h
-
-whole_mark : (m : Mark) (ts rest : List Tok) → ts ≡ Sign m ∷ rest → AreAllTokens rest → AreAllTokens ts
-whole_mark m ts rest e h = subst AreAllTokens (sym e) h
 
 then : (p q : Phrase) → KeepsWhole p → KeepsWhole q → KeepsWhole (p ▸ q)
 then p q keeps_p keeps_q ts rest h whole = keeps_p ts h.0 h.1 (keeps_q h.0 rest h.2 whole)
@@ -40,10 +33,10 @@ a_word : (w : List ℕ) → KeepsWhole (word w)
 a_word w ts rest e whole = whole_word w ts rest e whole
 
 a_number : (n : ℕ) → KeepsWhole (number n)
-a_number n ts rest e whole = whole_number n ts rest e whole
+a_number n ts rest e whole = subst AreAllTokens (sym e) whole
 
 a_mark : (m : Mark) → KeepsWhole (mark m)
-a_mark m ts rest e whole = whole_mark m ts rest e whole
+a_mark m ts rest e whole = subst AreAllTokens (sym e) whole
 
 a_register : (r : Reg) → KeepsWhole (register r)
 a_register r ts rest h whole = whole_word h.0 ts rest h.2 whole
@@ -81,9 +74,6 @@ columns k threads ts rest (last e h) whole = a_mark the.Semicolon ts rest h whol
 columns k threads ts rest (column {others = us} h more) whole =
     then (mark the.Bar) (word (column_name k)) (a_mark the.Bar) (a_word (column_name k)) ts us h (columns (k + 1) threads us rest more whole)
 
-a_header : (threads : ℕ) → KeepsWhole (IsHeader threads)
-a_header threads = then (word (column_name 0)) (MoreColumns 1 threads) (a_word (column_name 0)) (columns 1 threads)
-
 an_immediate : (n : ℕ) → KeepsWhole (immediate n)
 an_immediate n = either (mark the.Dollar ▸ number n) (number n) (then (mark the.Dollar) (number n) (a_mark the.Dollar) (a_number n)) (a_number n)
 
@@ -110,37 +100,28 @@ an_instruction (Je l) = behind _ (word l) (λ ts rest h. (h.0, h.2)) (a_word l)
 an_instruction (Jne l) = behind _ (word l) (λ ts rest h. (h.0, h.2)) (a_word l)
 an_instruction (Jmp l) = behind _ (word l) (λ ts rest h. (h.0, h.2)) (a_word l)
 
-a_label : (l : List ℕ) → KeepsWhole (IsLabelMark l)
-a_label l ts rest h whole = then (word l) (mark the.Colon) (a_word l) (a_mark the.Colon) ts rest h.1 whole
-
 a_content : (c : Option CodeView) → KeepsWhole (IsContent c)
 a_content None ts rest h whole = nothing ts rest h.0 whole
 a_content (Some c) ts rest h whole = an_instruction c ts rest h.0 whole
 
 a_cell : (c : CellView) → KeepsWhole (IsCell c)
-a_cell c = items IsLabelMark (IsContent c.code) a_label (a_content c.code) c.labels
-
-a_next_cell : (c : CellView) → KeepsWhole (IsNextCell c)
-a_next_cell c = then (mark the.Bar) (IsCell c) (a_mark the.Bar) (a_cell c)
+a_cell c = items IsLabelMark (IsContent c.code) (λ l ts rest h whole. then (word l) (mark the.Colon) (a_word l) (a_mark the.Colon) ts rest h.1 whole) (a_content c.code) c.labels
 
 cells : (cs : List CellView) → KeepsWhole (IsCells cs)
 cells [] ts rest h whole = absurd h
 cells (c ∷ cs) ts rest h whole =
-    then (IsCell c) (Items IsNextCell (mark the.Semicolon) cs) (a_cell c) (items IsNextCell (mark the.Semicolon) a_next_cell (a_mark the.Semicolon) cs) ts rest h whole
+    then (IsCell c) (Items IsNextCell (mark the.Semicolon) cs) (a_cell c) (items IsNextCell (mark the.Semicolon) (λ c. then (mark the.Bar) (IsCell c) (a_mark the.Bar) (a_cell c)) (a_mark the.Semicolon) cs) ts rest h whole
 
 a_row : (threads : ℕ) (cs : List CellView) → KeepsWhole (IsRow threads cs)
 a_row threads cs ts rest h whole = cells cs ts rest h.1 whole
 
-an_ending : KeepsWhole before_ending
-an_ending ts rest h whole = nothing ts rest h.0 whole
-
 rows : (threads : ℕ) (rs : List (List CellView)) → KeepsWhole (IsRows threads rs)
-rows threads rs ts rest h whole = items (IsRow threads) before_ending (a_row threads) an_ending rs ts rest h.0 whole
+rows threads rs ts rest h whole = items (IsRow threads) before_ending (a_row threads) (λ ts rest h whole. nothing ts rest h.0 whole) rs ts rest h.0 whole
 
 body_whole : (b : BodyView) → KeepsWhole (IsBody b)
 body_whole b ts rest h whole =
     then (IsInitial b.entries) (IsHeader b.threads ▸ IsRows b.threads b.rows) (initial b.entries)
-    (then (IsHeader b.threads) (IsRows b.threads b.rows) (a_header b.threads) (rows b.threads b.rows)) ts rest h.0 whole
+    (then (IsHeader b.threads) (IsRows b.threads b.rows) (then (word (column_name 0)) (MoreColumns 1 b.threads) (a_word (column_name 0)) (columns 1 b.threads)) (rows b.threads b.rows)) ts rest h.0 whole
 
 -- ---- after the rows
 
@@ -169,14 +150,11 @@ a_sign threads Or ts rest h whole = a_mark the.Or ts rest h whole
 a_sign threads Open ts rest h whole = a_mark the.OpenParen ts rest h whole
 a_sign threads Close ts rest h whole = a_mark the.CloseParen ts rest h whole
 
-an_end : KeepsWhole the_end
-an_end ts rest h whole = subst AreAllTokens (sym h.0) tt
-
 ending_whole : (threads : ℕ) (e : EndingView) (ts : List Tok) → IsEnding threads e ts → AreAllTokens ts
 ending_whole threads e ts h =
     let signs = Items (IsSign threads) the_end e.signs in
     then (IsObserved threads e.observed) (IsQuantifier e.quantifier ▸ signs) (observed threads e.observed)
-    (then (IsQuantifier e.quantifier) signs (quantifier e.quantifier) (items (IsSign threads) the_end (a_sign threads) an_end e.signs)) ts [] h tt
+    (then (IsQuantifier e.quantifier) signs (quantifier e.quantifier) (items (IsSign threads) the_end (a_sign threads) (λ ts rest h whole. subst AreAllTokens (sym h.0) tt) e.signs)) ts [] h tt
 
 -- tokens with all their parts are tokens each
 pub parts_whole : (tokens : List Tok) (body : BodyView) (ending : EndingView) (f : Tree (PlaceView × ℕ)) → AreParts tokens body ending f → AreAllTokens tokens

@@ -1,7 +1,6 @@
 -- What the first line, the skipped lines and the tokens of a text say of the whole text.
-use Rattle.std.proofs.Common.{◌≡◌, ℕ, List, sym, ◌∙◌, subst, inl}
-use Rattle.litmus_reader.proofs.Vocabulary.{⊤, IsUtf8, Tok, AreAllTokens, Listing, ProgramFault, Litmus, ReadFault, OutOfMemory, MatchFault, of_lines, LineFault, AreSkipped, Means, StandsFor}
-use Rattle.litmus_reader.proofs.Vocabulary.{StandsForNothing, AreReadTokens, IsReadOf, HasNoParts}
+use Rattle.litmus_reader.proofs.Vocabulary.{◌≡◌, ℕ, List, sym, ◌∙◌, subst, inl, ⊤, IsUtf8, Tok, AreAllTokens, Listing, ProgramFault, Litmus, ReadFault, OutOfMemory, MatchFault, of_lines, LineFault, AreSkipped, Means, StandsFor, StandsForNothing, AreReadTokens}
+use Rattle.litmus_reader.proofs.Vocabulary.{IsReadOf, HasNoParts}
 use Rattle.text_tokens.specs.Lexing.{Lexes, LexesTo}
 use Rattle.litmus_lines.specs.FirstLine.{IsFirstLine}
 use Rattle.litmus_reader.proofs.Faults.{match_map, match_memory, match_lines}

@@ -44,15 +44,7 @@ abbrev pub jump_of : CodeView → Option (List ℕ)
 jump_of (Je l) = Some l
 jump_of (Jne l) = Some l
 jump_of (Jmp l) = Some l
-jump_of (LoadImm r n) = None
-jump_of (Copy r s) = None
-jump_of (Load r x) = None
-jump_of (StoreImm x n) = None
-jump_of (Store x r) = None
-jump_of (Xchg x r) = None
-jump_of Fence = None
-jump_of (CmpImm r n) = None
-jump_of (CmpReg r s) = None
+jump_of _ = None
 
 -- the label to which a cell's instruction jumps
 abbrev pub cell_jump : CellView → Option (List ℕ)

@@ -15,12 +15,9 @@ code_places t (Load r x) = Register t r ∷ Location x ∷ []
 code_places t (StoreImm x n) = Location x ∷ []
 code_places t (Store x r) = Location x ∷ Register t r ∷ []
 code_places t (Xchg x r) = Location x ∷ Register t r ∷ []
-code_places t Fence = []
 code_places t (CmpImm r n) = Register t r ∷ []
 code_places t (CmpReg r s) = Register t r ∷ Register t s ∷ []
-code_places t (Je l) = []
-code_places t (Jne l) = []
-code_places t (Jmp l) = []
+code_places t _ = []
 
 -- what thread t's cell names
 abbrev pub cell_places : ℕ → CellView → List PlaceView
@@ -37,12 +34,7 @@ row_places cells = cells_places 0 cells
 -- what a sign of the condition names
 abbrev pub sign_places : SignView → List PlaceView
 sign_places (Atom p n) = p ∷ []
-sign_places (Const b) = []
-sign_places Not = []
-sign_places And = []
-sign_places Or = []
-sign_places Open = []
-sign_places Close = []
+sign_places _ = []
 
 abbrev pub entry_place : EntryView → PlaceView
 entry_place e = e.place

@@ -29,7 +29,7 @@ use Rattle.tso_machine.specs.Outcomes.{AllowsShown, IsTheAnswer, LeavesOutcome, 
 use Rattle.litmus_reader.specs.declared.observed.Observed.{Observed}
 use Rattle.litmus_reader.specs.Shown.{shown_by}
 use Rattle.litmus_reader.proofs.ShownPlaces.{shows_registers, shows_locations}
-use Rattle.text_laws.specs.Laws.{TheNamesServeTheCondition, AConditionsAnswerCostsNoMore}
+use Rattle.text_laws.specs.Laws.{AConditionsAnswerCostsNoMore}
 
 -- ---- outcomes of programs within the limits
 
@@ -109,7 +109,7 @@ module _ (p : Listing) (within : IsWithinLimits p.threads p.memory) (f : Tree At
       from (others, (found, is_other, same)) =
           (others, (found, is_other, e ∙ ap told (same_truth whole found (small p mode labels whole within is_run) (small p other others found within is_other) same)))
 
-  served : (gaps : SetOfGaps) → Serves (asked p names) gaps → Serves (asked p (Truth f)) gaps
+  pub served : (gaps : SetOfGaps) → Serves (asked p names) gaps → Serves (asked p (Truth f)) gaps
   served gaps serves o = (
     truths_allowed (StoreBufferMachine (gaps_in p gaps)) SequentialMachine (λ shown. (serves shown).0) o,
     truths_allowed SequentialMachine (StoreBufferMachine (gaps_in p gaps)) (λ shown. (serves shown).1) o,
@@ -123,9 +123,6 @@ module _ (p : Listing) (within : IsWithinLimits p.threads p.memory) (f : Tree At
         absurd (left.foreign ((served of_names other.serves left.outcome).0 left.left))
     | inr not_less ↦ not_less
   ]
-
-pub names_serve : TheNamesServeTheCondition
-names_serve text litmus gaps is serves = served litmus.program is.1 litmus.condition.formula litmus.observed gaps serves
 
 pub condition_costs_no_more : AConditionsAnswerCostsNoMore
 condition_costs_no_more text litmus costs of_truth of_names is one other = no_more litmus.program is.1 litmus.condition.formula litmus.observed costs of_truth of_names one other

@@ -5,7 +5,7 @@ use Rattle.text_tokens.specs.declared.token.Mark.TheVariants as the
 use Rattle.text_tokens.specs.Parts.{begins_with, rest_of}
 use Rattle.text_tokens.proofs.PartLaws.{begins_again}
 use Rattle.litmus_syntax.specs.Views.{CodeView, CellView}
-use Rattle.litmus_syntax.specs.Grammar.{IsEntryItem, IsInitial, MoreColumns, last, column, IsHeader, IsCode, IsLabelMark, ends_cell, IsContent, IsCell, IsNextCell, IsCells, IsRow, IsRowList, IsRows, IsBody}
+use Rattle.litmus_syntax.specs.Grammar.{IsEntryItem, IsInitial, MoreColumns, last, column, IsHeader, IsCode, IsLabelMark, ends_cell, IsContent, IsCell, IsNextCell, IsCells, IsRowList, IsRows, IsBody}
 use Rattle.litmus_syntax.specs.Reading.{entry_at, code_at, label_tokens_at}
 use Rattle.litmus_syntax.proofs.EntryLaws.{entries_are_read, no_entry}
 use Rattle.litmus_syntax.proofs.CodeLaws.{code_again, code_begins}
@@ -95,9 +95,6 @@ cells_once ts (c ∷ cs) (d ∷ ds) rest other h g =
       mark_once the.Semicolon more.1.0 rest other more.1.1 more.1.2,
     )
 
-row_once : (threads : ℕ) → One (IsRow threads)
-row_once threads ts cs ds rest other h g = cells_once ts cs ds rest other h.1 g.1
-
 nothing_in : (row : List CellView) (rows : List (List CellView)) → row ∷ rows ≡ [] → ⊥
 nothing_in row rows e = cc
 
@@ -107,7 +104,7 @@ row_list_once threads ts _ _ rest other (end h) (end g) = (refl, sym h.0 ∙ g.0
 row_list_once threads ts _ _ rest other (end h) (item {x = row} {xs = rows} g more) = absurd (nothing_in row rows ((rows_end threads ts [] ts (no_row_yet threads ts) h.1).1 (row ∷ rows) other (item g more)).0)
 row_list_once threads ts _ _ rest other (item {x = row} {xs = rows} h more) (end g) = absurd (nothing_in row rows ((rows_end threads ts [] ts (no_row_yet threads ts) g.1).1 (row ∷ rows) rest (item h more)).0)
 row_list_once threads ts _ _ rest other (item {x = cs} {xs = rows} {others = us} h more) (item {x = ds} {xs = others} {others = vs} g rows_after) =
-    let first = row_once threads ts cs ds us vs h g in
+    let first = (cells_once ts cs ds us vs h.1 g.1) in
     let next = row_list_once threads vs rows others rest other (subst (λ (z : List Tok). IsRowList threads rows z rest) first.1 more) rows_after in
     (ap (λ (z : List CellView). z ∷ rows) first.0 ∙ ap (λ (z : List (List CellView)). ds ∷ z) next.0, next.1)
 

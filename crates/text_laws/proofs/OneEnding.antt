@@ -15,13 +15,10 @@ use Rattle.text_laws.proofs.OneOfEach.{One, Apart, one_read, only_one, mark_once
 
 -- ---- what is observed
 
-separator_once : (ts rest other : List Tok) → separator the.CloseBracket ts rest → separator the.CloseBracket ts other → rest ≡ other
-separator_once ts rest other h g = same_Some rest other (sym (separator_again the.CloseBracket ts rest (λ e. cc) h) ∙ separator_again the.CloseBracket ts other (λ e. cc) g)
-
 observed_item_once : (threads : ℕ) → One (IsObservedItem threads)
 observed_item_once threads ts p q rest other h g =
     let place = one_read IsPlace place_at place_again ts p q h.1.0 g.1.0 h.1.1 g.1.1 in
-    (place.0, separator_once g.1.0 rest other (subst (λ (z : List Tok). separator the.CloseBracket z rest) place.1 h.1.2) g.1.2)
+    (place.0, (same_Some rest other (sym (separator_again the.CloseBracket g.1.0 rest (λ e. cc) (subst (λ (z : List Tok). separator the.CloseBracket z rest) place.1 h.1.2)) ∙ separator_again the.CloseBracket g.1.0 other (λ e. cc) g.1.2)))
 
 -- no place begins with `]`
 no_place : (p : PlaceView) (ts rest last : List Tok) → mark the.CloseBracket ts last → IsPlace p ts rest → ⊥

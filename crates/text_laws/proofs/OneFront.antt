@@ -1,11 +1,9 @@
 -- The first line of a text, the lines that are skipped, and the tokens are determined.
-use Rattle.std.proofs.Common.{◌≡◌, ◌==◌, ℕ, true, false, List, ◌∷◌, arith, inl, inr}
+use Rattle.std.proofs.Common.{◌≡◌, ◌==◌, ℕ, false, List, ◌∷◌, arith, inl, inr}
 use Rattle.std.specs.Prelude.{slice_index}
 use Rattle.std.proofs.lemmas.Bool.{cases_Bool}
 use Rattle.std.proofs.lemmas.Bool.Decides.{nat_tests}
-use Rattle.text_laws.proofs.Vocabulary.{Tok, Lexes}
 use Rattle.text_tokens.specs.Space.{IsAfterSpace, nothing, white_space, comment}
-use Rattle.text_tokens.proofs.OneReading.{only_whole}
 use Rattle.text_tokens.proofs.SpaceLaws.{white_space_back, comment_back, other_back}
 use Rattle.litmus_lines.specs.FirstLine.{IsFirstLine}
 use Rattle.litmus_lines.specs.SkippedLines.{IsSkippedLine, AreSkipped, brace, line}
@@ -30,21 +28,12 @@ space_once text a b (comment {others = us} k s) h = space_once us a b s (comment
 line_once : (text rest other : List ℕ) → IsSkippedLine text rest → IsSkippedLine text other → rest ≡ other
 line_once text rest other h g = let r = line_read text rest h in line_only text r.0 rest other r.1 g
 
-brace_first : (n : ℕ) → n ≡ 123 → (n == 123) ≡ true
-brace_first n e = grind (arith, nat_tests)
-
-is_brace : (n : ℕ) → (n == 123) ≡ true → n ≡ 123
-is_brace n e = grind (arith, nat_tests)
-
 -- no line that is skipped begins with `{`
 no_brace_first : (text rest : List ℕ) → IsSkippedLine text rest → (slice_index text 0 == 123) ≡ false
 no_brace_first text rest h =
-    elim (cases_Bool (slice_index text 0 == 123)) [ inl is ↦ absurd (no_brace_line text rest (is_brace (slice_index text 0) is) h) | inr other ↦ other ]
+    elim (cases_Bool (slice_index text 0 == 123)) [ inl is ↦ absurd (no_brace_line text rest (grind (arith, nat_tests)) h) | inr other ↦ other ]
 
 pub skipped_once : (text a b : List ℕ) → AreSkipped text a → AreSkipped text b → a ≡ b
-skipped_once text a b (brace s e) g = brace_back text a b (λ r t. space_once text a r s t) (brace_first (slice_index a 0) e) g
+skipped_once text a b (brace s e) g = brace_back text a b (λ r t. space_once text a r s t) (grind (arith, nat_tests)) g
 skipped_once text a b (line {front = f} {others = us} s h more) g =
     skipped_once us a b more (line_back text f us b (λ r t. space_once text f r s t) (no_brace_first f us h) (λ r i. line_once f us r h i) g)
-
-pub tokens_once : (text : List ℕ) (ts us : List Tok) → Lexes text ts → Lexes text us → ts ≡ us
-tokens_once text ts us h g = only_whole ts us text h (inl g)

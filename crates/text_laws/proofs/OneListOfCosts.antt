@@ -1,10 +1,7 @@
 -- A cost text gives the gaps of a program one list of costs.
-use Rattle.std.proofs.Common.{Some, None, sym, ◌∙◌}
+use Rattle.text_laws.proofs.Vocabulary.{Some, None, sym, ◌∙◌}
 use Rattle.cost_text.proofs.TextLaws.{costs_once}
-use Rattle.text_laws.specs.Laws.{ATextGivesOneListOfCosts, TheCostsAreOneList}
-
-pub text_costs_once : ATextGivesOneListOfCosts
-text_costs_once = costs_once
+use Rattle.text_laws.specs.Laws.{TheCostsAreOneList}
 
 pub given_costs_once : TheCostsAreOneList
 given_costs_once p None one other h g = h ∙ sym g

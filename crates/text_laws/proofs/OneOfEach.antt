@@ -1,6 +1,5 @@
 -- Phrases that tokens begin with in one way, and lists of them.
-use Rattle.std.proofs.Common.{◌≡◌, ◌∙◌, sym, ap, subst, refl, List, ◌∷◌, Option, Some}
-use Rattle.text_laws.proofs.Vocabulary.{same_Some, Tok, rest_of, mark, Items, end, item}
+use Rattle.text_laws.proofs.Vocabulary.{◌≡◌, ◌∙◌, sym, ap, subst, refl, List, ◌∷◌, Option, Some, same_Some, Tok, rest_of, mark, Items, end, item}
 use Rattle.text_tokens.specs.declared.token.Mark.{Mark}
 use Rattle.litmus_syntax.proofs.ItemLaws.{Only}
 

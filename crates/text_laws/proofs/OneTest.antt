@@ -1,5 +1,5 @@
 -- A litmus text stands for one test.
-use Rattle.std.proofs.Common.{◌≡◌, ℕ, List, [], map, sym, ap, ◌∙◌, subst}
+use Rattle.std.proofs.Common.{◌≡◌, ℕ, List, [], map, sym, ap, ◌∙◌, subst, inl}
 use Rattle.text_laws.proofs.Vocabulary.{Tok, Lexes, Tree, Listing, AreSkipped, IsEnding}
 use Rattle.conditions.specs.Grammar.{Spells, Sum}
 use Rattle.conditions.proofs.SpelledIsRead.{spells_one}
@@ -10,10 +10,11 @@ use Rattle.litmus_reader.specs.Places.{names_of}
 use Rattle.litmus_reader.specs.Labels.{all_labels}
 use Rattle.litmus_reader.specs.Meaning.{listing_of, sign_of, condition_of, observed_of}
 use Rattle.litmus_reader.specs.Texts.{AreParts, Means}
-use Rattle.text_laws.specs.Laws.{ATextStandsForOneTest, ATextIsOfOneProgram, ATextIsOfOneFencedProgram}
+use Rattle.text_laws.specs.Laws.{ATextStandsForOneTest}
 use Rattle.text_laws.proofs.OneBody.{body_once}
 use Rattle.text_laws.proofs.OneEnding.{ending_once}
-use Rattle.text_laws.proofs.OneFront.{first_line_once, skipped_once, tokens_once}
+use Rattle.text_laws.proofs.OneFront.{first_line_once, skipped_once}
+use Rattle.text_tokens.proofs.OneReading.{only_whole}
 
 abbrev Formula : Type 0
 Formula = Tree (PlaceView × ℕ)
@@ -66,11 +67,5 @@ pub test_once : ATextStandsForOneTest
 test_once text one other h g =
     let first = first_line_once text one.name other.name h.lines g.lines h.first_line g.first_line in
     let others : h.others ≡ g.others = skipped_once g.lines h.others g.others (subst (λ (x : List ℕ). AreSkipped x h.others) first.1 h.skipped) g.skipped in
-    let tokens : h.tokens ≡ g.tokens = tokens_once g.others h.tokens g.tokens (subst (λ (x : List ℕ). Lexes x h.tokens) others h.lexes) g.lexes in
+    let tokens : h.tokens ≡ g.tokens = (only_whole h.tokens g.tokens g.others (subst (λ (x : List ℕ). Lexes x h.tokens) others h.lexes) (inl g.lexes)) in
     means_once g.tokens one other first.0 (subst (λ (ts : List Tok). Means ts one) tokens h.means) g.means
-
-pub program_once : ATextIsOfOneProgram
-program_once text one other h g = test_once text one other h.0 g.0
-
-pub fenced_once : ATextIsOfOneFencedProgram
-fenced_once text one other h g = test_once text one other h.0 g.0

@@ -1,4 +1,5 @@
 -- What many proofs of this crate speak of, imported once.
+pub use Rattle.std.proofs.Common.{List, None, Option, Some, [], ap, arith, inl, inr, refl, subst, sym, true, ℕ, ◌∙◌, ◌∷◌, ◌≡◌}
 pub use Rattle.std.proofs.lemmas.Option.{same_Some}
 pub use Rattle.litmus_lines.specs.SkippedLines.{AreSkipped}
 pub use Rattle.litmus_syntax.specs.Grammar.{IsEnding}

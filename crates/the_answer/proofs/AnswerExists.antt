@@ -1,14 +1,13 @@
 -- There is an answer.
-use Rattle.std.proofs.Common.{◌≡◌, ℕ, zero, suc, ◌+◌, true, false, List, Option, Some, None, refl, sym, ap, ◌∙◌, subst, inl, inr, arith}
+use Rattle.the_answer.proofs.Vocabulary.{◌≡◌, ℕ, zero, suc, ◌+◌, true, false, List, Option, Some, None, refl, sym, ap, ◌∙◌, subst, inl, inr, arith, nat_lt, unwrap_or, MatchOption, cases_lt, ltb-true, lt-ltb, SetOfGaps, total, Question, gap_count, JumpForward}
+use Rattle.the_answer.proofs.Vocabulary.{does_serve, best_of, the_answer}
 use Rattle.std.specs.FinSet as set
-use Rattle.the_answer.proofs.Vocabulary.{nat_lt, unwrap_or, MatchOption, cases_lt, ltb-true, lt-ltb, SetOfGaps, total, Question, gap_count, JumpForward, does_serve, best_of, the_answer}
-use Rattle.gap_sets.proofs.Totals.{total-limit}
 use Rattle.tso_program.proofs.Gaps.{none_below, one_more}
 use Rattle.tso_machine.specs.Outcomes.{IsTheAnswer}
 use Rattle.fence_laws.proofs.AllGapsFenced.{all_serve}
 use Rattle.fence_laws.proofs.OneAnswer.{one_answer}
 use Rattle.fence_laws.proofs.HeadlineIsTheAnswer.{headline_is_the_answer}
-use Rattle.the_answer.specs.Laws.{NonePasses, IsBest, TheAnswerExists, TheAnswerIsThatSet, TheHeadlineIsOfThatSet, NoServingSetCostsLess, TheLeastCostIsLimited, TheHeadlineTellsTheAnswer}
+use Rattle.the_answer.specs.Laws.{NonePasses, IsBest, TheAnswerExists, TheAnswerIsThatSet, TheHeadlineIsOfThatSet, NoServingSetCostsLess}
 use Rattle.the_answer.proofs.Served.{test_tells}
 use Rattle.the_answer.proofs.Best.{best_is_found}
 
@@ -71,11 +70,3 @@ none_costs_less q costs gaps forward of_program serves = elim (cases_lt (total c
   | inl less ↦ (let left = (answer_exists q costs forward).least gaps of_program (inl less) in absurd (left.foreign ((serves left.outcome).0 left.left)))
   | inr not_less ↦ not_less
 ]
-
--- it costs no more than so many gaps may cost
-pub least_is_limited : TheLeastCostIsLimited
-least_is_limited q costs list = total-limit costs (the_answer q costs) list
-
--- what the headline tells, with the cost
-pub headline_tells : TheHeadlineTellsTheAnswer
-headline_tells q costs gaps cost within headline e = let same = (headline_is q costs gaps within).0 headline in (same, e ∙ ap (total costs) same)

@@ -61,29 +61,14 @@ module _ (test : SetOfGaps → Bool) (costs : List ℕ) (chosen : SetOfGaps) (ga
       itself other e (inr d) = let no : true ≡ false = sym d.1.in_first ∙ ap (λ (s : SetOfGaps). set.contains s d.1.gap) e ∙ d.1.not_in_second in cc
   alone false e = none_chosen e
 
-  low_more : AreBelow (gap + 1) chosen
-  low_more k here = let h = low k here in omega arith
-
-  low_with : AreBelow (gap + 1) (set.insert chosen gap)
-  low_with k here = elim (cases_eq k gap) [ inl e ↦ omega arith | inr other ↦ let h = low k (sym (with_other chosen gap k other) ∙ here) in omega arith ]
-
   module _ (end : ℕ) where
     -- the set has gap, or has it not
     wider_with : (s : SetOfGaps) → IsBetween (set.insert chosen gap) (gap + 1) end s → IsBetween chosen gap end s
     wider_with s b = record { alike = λ k h. b.alike k (omega arith) ∙ with_other chosen gap k (λ e. omega arith); below = b.below }
 
-    wider_without : (s : SetOfGaps) → IsBetween chosen (gap + 1) end s → IsBetween chosen gap end s
-    wider_without s b = record { alike = λ k h. b.alike k (omega arith); below = b.below }
-
     -- the chosen set has not
     not_chosen : set.contains chosen gap ≡ false
     not_chosen = elim (cases_Bool (set.contains chosen gap)) [ inl e ↦ absurd (let h = low gap e in omega arith) | inr e ↦ e ]
-
-    has_gap : (s : SetOfGaps) → IsBetween (set.insert chosen gap) (gap + 1) end s → set.contains s gap ≡ true
-    has_gap s b = b.alike gap (omega arith) ∙ with_gap chosen gap
-
-    has_not : (s : SetOfGaps) → IsBetween chosen (gap + 1) end s → set.contains s gap ≡ false
-    has_not s b = b.alike gap (omega arith) ∙ not_chosen
 
     narrower_with : (s : SetOfGaps) → IsBetween chosen gap end s → set.contains s gap ≡ true → IsBetween (set.insert chosen gap) (gap + 1) end s
     narrower_with s b here = record {
@@ -106,7 +91,7 @@ module _ (test : SetOfGaps → Bool) (costs : List ℕ) (chosen : SetOfGaps) (ga
     -- a set without gap has no least difference from one with it
     not_earlier : (a b : SetOfGaps) → IsBetween chosen (gap + 1) end a → IsBetween (set.insert chosen gap) (gap + 1) end b → HasLeastDifference a b → ⊥
     not_earlier a b without with d = elim (cases_lt gap d.gap) [
-      | inl later ↦ (let no : false ≡ true = sym (has_not a without) ∙ d.alike_below gap later ∙ has_gap b with in cc)
+      | inl later ↦ (let no : false ≡ true = sym (without.alike gap (omega arith) ∙ not_chosen) ∙ d.alike_below gap later ∙ (with.alike gap (omega arith) ∙ with_gap chosen gap) in cc)
       | inr not_later ↦
           (let same : set.contains a d.gap ≡ set.contains chosen d.gap = without.alike d.gap (omega arith) in
           let chosen_has : set.contains chosen d.gap ≡ true = sym same ∙ d.in_first in
@@ -132,7 +117,7 @@ module _ (test : SetOfGaps → Bool) (costs : List ℕ) (chosen : SetOfGaps) (ga
     with_is_best a w others = record { between = wider_with a w.between; passes = w.passes; least = by_half (λ s. Better costs s a → test s ≡ false) w.least others }
 
     without_is_best : (a : SetOfGaps) → Without a → ((s : SetOfGaps) → IsBetween (set.insert chosen gap) (gap + 1) end s → Better costs s a → test s ≡ false) → IsBestBetween test costs chosen gap end a
-    without_is_best a w others = record { between = wider_without a w.between; passes = w.passes; least = by_half (λ s. Better costs s a → test s ≡ false) others w.least }
+    without_is_best a w others = record { between = (record { alike = λ k h. w.between.alike k (omega arith); below = w.between.below }); passes = w.passes; least = by_half (λ s. Better costs s a → test s ≡ false) others w.least }
 
     -- of two that were found
     both_found : (a b : SetOfGaps) → With a → Without b → (less : Bool) → nat_lt (total costs b) (total costs a) ≡ less → IsBestBetween test costs chosen gap end (cond less b a)
@@ -170,8 +155,8 @@ found test costs zero gap end chosen e low =
     subst (λ z. IsFound test costs chosen gap z (best_of test costs 0 gap chosen)) (sym here) (alone test costs chosen gap low (test chosen) refl)
 found test costs (suc n) gap end chosen e low =
     halves test costs chosen gap low end (best_of test costs n (gap + 1) (set.insert chosen gap)) (best_of test costs n (gap + 1) chosen)
-    (found test costs n (gap + 1) end (set.insert chosen gap) (omega arith) (low_with test costs chosen gap low))
-    (found test costs n (gap + 1) end chosen (omega arith) (low_more test costs chosen gap low))
+    (found test costs n (gap + 1) end (set.insert chosen gap) (omega arith) (λ k here. elim (cases_eq k gap) [ inl e ↦ omega arith | inr other ↦ let h = low k (sym (with_other chosen gap k other) ∙ here) in omega arith ]))
+    (found test costs n (gap + 1) end chosen (omega arith) (λ k here. let h = low k here in omega arith))
 
 -- from the empty set on, each set of gaps below n
 of_any : (n : ℕ) (s : SetOfGaps) → AreBelow n s → IsBetween set.empty 0 n s

@@ -7,7 +7,6 @@ use Rattle.std.specs.Option.{option_map, option_map_or}
 use Rattle.std.specs.FinSet as set
 use Rattle.the_answer.proofs.Vocabulary.{SetOfGaps, these, total-these, Listing, Outcome, Machine, SequentialMachine, StoreBufferMachine, start, outcomes_within, most_labels, outcomes_of}
 use Rattle.gap_sets.specs.Order.{cost_of}
-use Rattle.tso_program.specs.declared.shown.Shown.TheVariants.{Only}
 use Rattle.tso_program.specs.Names.{register_place, location_place}
 use Rattle.tso_program.specs.Shown.{Question, show, value_if}
 use Rattle.tso_program.specs.Listings.{gap_count, gap_number}
@@ -20,7 +19,7 @@ abbrev pub is_listed : List ℕ → ℕ → Bool
 is_listed xs k = list_any (λ y. nat_eq y k) xs
 
 -- what is shown of an outcome, by a test of places
-abbrev show_by : (ℕ → Bool) → Outcome → Outcome
+abbrev pub show_by : (ℕ → Bool) → Outcome → Outcome
 show_by has o = record {
   registers = map (λ t. map (λ r. value_if (nat_lt t MAX_THREADS && has (register_place t r)) (slice_index (slice_index_or o.registers t []) r)) (range_with_len 0 (length (slice_index_or o.registers t []))))
       (range_with_len 0 (length o.registers));
@@ -30,9 +29,6 @@ show_by has o = record {
 -- what is shown, by the list of the names
 abbrev pub show_listed : List ℕ → Outcome → Outcome
 show_listed names = show_by (is_listed names)
-
-pub shown_by_list : (names : List ℕ) → show (Only (these names)) ≡ show_listed names
-shown_by_list names = ap show_by (fun_ext (λ k. set.contains-from_list_nat names k))
 
 module _ (seen : Outcome → Outcome) (p : Listing) where
   -- the outcomes, seen so

@@ -1,8 +1,7 @@
 -- The listed outcomes are those of the machine's runs.
 use Rattle.std.proofs.Common.{◌≡◌, ℕ, zero, suc, ◌<◌, ◌≤◌, Bool, true, false, ◌&&◌, List, [], ◌∷◌, length, Option, Some, None, option_and_then, Contains, flat_map, cond, ◌↔◌, refl, ap, sym, ◌∙◌, subst, inl, inr, arith}
 use Rattle.std.proofs.lemmas.Option.{same_Some}
-use Rattle.the_answer.proofs.Vocabulary.{option_map_or, list_all, cases_lt, Contains-append_left, Contains-append_right, Contains-append_cases, Listing, Outcome, action, show, JumpForward, Label}
-use Rattle.the_answer.proofs.Vocabulary.{Exec, Flush, Pending}
+use Rattle.the_answer.proofs.Vocabulary.{option_map_or, list_all, cases_lt, Contains-append_left, Contains-append_right, Contains-append_cases, Listing, Outcome, action, show, JumpForward, Label, Exec, Flush, Pending}
 use Rattle.tso_program.specs.declared.action.Action.{Action}
 use Rattle.tso_program.specs.declared.action.Action.TheVariants.{Stop}
 use Rattle.tso_machine.specs.Machine.{Machine, State, start, step, run, is_empty, outcome_at, HasEnded, Allows}

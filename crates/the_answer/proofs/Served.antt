@@ -1,15 +1,14 @@
 -- The test of a set of gaps tells whether it serves.
-use Rattle.std.proofs.Common.{◌≡◌, Bool, true, false, List, Contains, sym, ◌∙◌, inl, inr}
+use Rattle.the_answer.proofs.Vocabulary.{◌≡◌, Bool, true, false, List, Contains, sym, ◌∙◌, inl, inr, list_any, cases_Bool, SetOfGaps, Outcome, Question, JumpForward, SequentialMachine, StoreBufferMachine, outcomes_of, does_serve}
 use Rattle.std.specs.Ordering.{eq_by_cmp}
 use Rattle.std.proofs.lemmas.Cmp.{eq_by_cmp_equiv}
 use Rattle.std.proofs.lemmas.Map.Views.{Contains-from_any, list_any-from_Contains}
-use Rattle.the_answer.proofs.Vocabulary.{list_any, cases_Bool, SetOfGaps, Outcome, Question, JumpForward, SequentialMachine, StoreBufferMachine, outcomes_of, does_serve}
 use Rattle.tso_program.specs.Ordered.{outcome_cmp}
 use Rattle.tso_program.specs.Fences.{gaps_in}
 use Rattle.tso_program.proofs.OutcomesOrdered.{outcomes_ordered, same_by_order}
 use Rattle.tso_machine.specs.Outcomes.{Serves, LeavesOutcome}
 use Rattle.fence_laws.proofs.SequentialIsBuffered.{sequential_is_allowed}
-use Rattle.the_answer.specs.Laws.{EachOutcomeIsAllowedOrNot, TheTestTellsWhatServes, EachSetServesOrLeavesAnOutcome}
+use Rattle.the_answer.specs.Laws.{EachOutcomeIsAllowedOrNot, TheTestTellsWhatServes}
 use Rattle.the_answer.proofs.Lists.{each_passes, all_pass, one_fails}
 use Rattle.the_answer.proofs.RunsListed.{outcomes_listed}
 
@@ -38,7 +37,7 @@ module _ (q : Question) (gaps : SetOfGaps) (forward : JumpForward q.program.thre
   sequential = outcomes_of q SequentialMachine
 
   -- where the test passes each outcome is sequential
-  passes_serves : does_serve q gaps ≡ true → Serves q gaps
+  pub passes_serves : does_serve q gaps ≡ true → Serves q gaps
   unfolding does_serve
   passes_serves e o = (
     (λ allowed.
@@ -53,7 +52,7 @@ module _ (q : Question) (gaps : SetOfGaps) (forward : JumpForward q.program.thre
       here_is_found o sequential ((outcomes_listed q SequentialMachine o forward).1 ((serves o).0 ((outcomes_listed q (StoreBufferMachine (gaps_in q.program gaps)) o forward).0 here))))
 
   -- where it fails an outcome is found that is not
-  fails_leaves : does_serve q gaps ≡ false → LeavesOutcome q gaps
+  pub fails_leaves : does_serve q gaps ≡ false → LeavesOutcome q gaps
   unfolding does_serve
   fails_leaves e =
       let (o, here, fails) = one_fails (is_in sequential) left e in
@@ -63,16 +62,8 @@ module _ (q : Question) (gaps : SetOfGaps) (forward : JumpForward q.program.thre
         foreign = λ allowed. (let no : false ≡ true = sym fails ∙ here_is_found o sequential ((outcomes_listed q SequentialMachine o forward).1 allowed) in cc);
       }
 
-  -- an outcome that is left makes the test fail
-  leaves_fails : LeavesOutcome q gaps → does_serve q gaps ≡ false
-  leaves_fails l = elim (cases_Bool (does_serve q gaps)) [ inl e ↦ absurd (l.foreign ((passes_serves e l.outcome).0 l.left)) | inr e ↦ e ]
-
 pub test_tells : TheTestTellsWhatServes
 test_tells q gaps forward = record {
   serves = (passes_serves q gaps forward, serves_passes q gaps forward);
-  leaves = (fails_leaves q gaps forward, leaves_fails q gaps forward);
+  leaves = (fails_leaves q gaps forward, (λ l. elim (cases_Bool (does_serve q gaps)) [ inl e ↦ absurd (l.foreign ((passes_serves q gaps forward e l.outcome).0 l.left)) | inr e ↦ e ]));
 }
-
--- one or the other
-pub serves_or_leaves : EachSetServesOrLeavesAnOutcome
-serves_or_leaves q gaps forward = elim (cases_Bool (does_serve q gaps)) [ inl e ↦ inl (passes_serves q gaps forward e) | inr e ↦ inr (fails_leaves q gaps forward e) ]

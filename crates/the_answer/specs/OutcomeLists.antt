@@ -3,7 +3,7 @@ use Rattle.std.specs.Prelude.{ℕ, zero, suc, ◌+◌, ◌*◌, ◌&&◌, Bool, 
 use Rattle.std.specs.List.{list_all, range_with_len}
 use Rattle.std.specs.Option.{option_map_or}
 use Rattle.tso_program.specs.declared.action.Action.{Action}
-use Rattle.tso_program.specs.declared.action.Action.TheVariants.{Stop, Go, Wait, Read, Write, Swap}
+use Rattle.tso_program.specs.declared.action.Action.TheVariants.{Stop}
 use Rattle.tso_program.specs.declared.listing.Thread.{Thread}
 use Rattle.tso_program.specs.declared.listing.Listing.{Listing}
 use Rattle.tso_program.specs.declared.outcome.Outcome.{Outcome}
@@ -15,11 +15,7 @@ use Rattle.tso_machine.specs.Machine.{Machine, State, start, step, is_empty, out
 
 abbrev pub is_stop : Action → Bool
 is_stop Stop = true
-is_stop (Go next) = false
-is_stop (Wait next) = false
-is_stop (Read l to next) = false
-is_stop (Write l v next) = false
-is_stop (Swap l v to next) = false
+is_stop _ = false
 
 -- whether thread t is at its end, with an empty buffer
 abbrev pub has_ended : Listing → State → ℕ → Bool

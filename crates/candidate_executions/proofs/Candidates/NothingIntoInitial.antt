@@ -1,7 +1,6 @@
 -- No edge leads into an initial write, so no cycle passes through one.
-use Rattle.std.proofs.Common.{◌≡◌, ℕ, zero, suc, ◌<◌, List, [], ◌∷◌, Option, Some, None, IsSome, Contains, refl, sym, ap, ◌∙◌, subst, inl, inr, arith}
-use Rattle.candidate_executions.proofs.Vocabulary.{same_Some, Listing, Machine, Access, Event, Initial, At, Kind, Candidate, access, access_by, IsCandidate, Precedes, WriteOrder, FromReads, Edge}
-use Rattle.candidate_executions.proofs.Vocabulary.{Leads, IsCycle, Sketch, given_to, IsSketch, IsBefore, KnownEdge}
+use Rattle.candidate_executions.proofs.Vocabulary.{◌≡◌, ℕ, zero, suc, ◌<◌, List, [], ◌∷◌, Option, Some, None, IsSome, Contains, refl, sym, ap, ◌∙◌, subst, inl, inr, arith, same_Some, Listing, Machine, Access, Event, Initial, At, Kind, Candidate, access}
+use Rattle.candidate_executions.proofs.Vocabulary.{access_by, IsCandidate, Precedes, WriteOrder, FromReads, Edge, Leads, IsCycle, Sketch, given_to, IsSketch, IsBefore, KnownEdge}
 use Rattle.candidate_executions.specs.declared.event.Kind.TheVariants as union
 use Rattle.candidate_executions.specs.Laws.{NoEdgeLeadsIntoInitial, CyclesAreOfAccesses, NoKnownEdgeLeadsIntoInitial, KnownCyclesAreOfAccesses}
 use Rattle.candidate_executions.proofs.Candidates.WrittenValues.{stored_as, some_written}

@@ -1,7 +1,6 @@
 -- Store buffering: both reads give 0 with no gap fenced, and neither sequentially nor with both gaps fenced.
-use Rattle.std.proofs.Common.{◌≡◌, ◌≢◌, ℕ, zero, suc, ◌-◌, ◌<◌, ◌≤◌, ◌⊎◌, List, [], ◌∷◌, Some, None, IsSome, slice_index, refl, sym, ap, ◌∙◌, subst, inl, inr, arith, lit<}
-use Rattle.candidate_executions.proofs.Vocabulary.{same_Some, Stop, action, SequentialMachine, StoreBufferMachine, no_gaps, Access, Event, Initial, At, trace_of, access, Writes, EndsWith, IsCandidate}
-use Rattle.candidate_executions.proofs.Vocabulary.{HasOutcome, Precedes, KeepsOrder, ReadsFrom, WriteOrder, FromReads, IsCycle, Edge, IsConsistent}
+use Rattle.candidate_executions.proofs.Vocabulary.{◌≡◌, ◌≢◌, ℕ, zero, suc, ◌-◌, ◌<◌, ◌≤◌, ◌⊎◌, List, [], ◌∷◌, Some, None, IsSome, slice_index, refl, sym, ap, ◌∙◌, subst, inl, inr, arith, lit<, same_Some, Stop, action, SequentialMachine, StoreBufferMachine}
+use Rattle.candidate_executions.proofs.Vocabulary.{no_gaps, Access, Event, Initial, At, trace_of, access, Writes, EndsWith, IsCandidate, HasOutcome, Precedes, KeepsOrder, ReadsFrom, WriteOrder, FromReads, IsCycle, Edge, IsConsistent}
 use Rattle.tso_machine.specs.Examples.{store_buffering}
 use Rattle.candidate_executions.specs.declared.event.Kind.TheVariants as union
 use Rattle.candidate_executions.specs.StoreBuffering.{both_zero, initial_source, both_gaps, zeros_read, StoreBufferingCandidates}
@@ -37,9 +36,6 @@ fenced_cycle = (
 
 not_both : IsConsistent store_buffering (StoreBufferMachine both_gaps) both_zero → ⊥
 not_both h = h.1 around fenced_cycle
-
-not_sequentially : IsConsistent store_buffering SequentialMachine both_zero → ⊥
-not_sequentially h = h around whole_cycle
 
 -- with no fence it is consistent: the initial writes come first, then the reads, then the stores
 abbrev key : Event → Pair
@@ -191,6 +187,6 @@ store_buffering_is_told = record {
   is_candidate = is_candidate;
   outcome = outcome;
   unfenced = consistent_unfenced;
-  sequential = not_sequentially;
+  sequential = λ h. h around whole_cycle;
   fenced = not_both;
 }

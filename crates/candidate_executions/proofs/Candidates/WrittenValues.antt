@@ -1,6 +1,5 @@
 -- What an access writes.
-use Rattle.std.proofs.Common.{◌≡◌, ℕ, List, [], ◌∷◌, ◌⊎◌, Option, Some, None, IsSome, option_map, slice_get, map, refl, sym, ◌∙◌, inl, inr}
-use Rattle.candidate_executions.proofs.Vocabulary.{slice_get-map, Pending, Access, Event}
+use Rattle.candidate_executions.proofs.Vocabulary.{◌≡◌, ℕ, List, [], ◌∷◌, ◌⊎◌, Option, Some, None, IsSome, option_map, slice_get, map, refl, sym, ◌∙◌, inl, inr, slice_get-map, Pending, Access, Event}
 use Rattle.candidate_executions.proofs.Orders.AcyclicIsOrdered.{In}
 use Rattle.candidate_executions.proofs.Candidates.EdgesAreDecidable.{same_event}
 

@@ -1,6 +1,5 @@
 -- The candidate that a history tells of.
-use Rattle.std.proofs.Common.{◌≡◌, ℕ, suc, List, Option, Some, None, slice_get, option_map, refl}
-use Rattle.candidate_executions.proofs.Vocabulary.{Access, Event, Initial, At, Candidate}
+use Rattle.candidate_executions.proofs.Vocabulary.{◌≡◌, ℕ, suc, List, Option, Some, None, slice_get, option_map, refl, Access, Event, Initial, At, Candidate}
 use Rattle.candidate_executions.proofs.FromRuns.Histories.{Entry, History}
 use Rattle.candidate_executions.proofs.Orders.ForwardIsAcyclic.{Pair}
 

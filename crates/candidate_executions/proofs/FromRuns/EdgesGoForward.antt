@@ -1,6 +1,6 @@
 -- Edges go forward in moments, so a good history has no cycle.
-use Rattle.std.proofs.Common.{◌≡◌, ◌≢◌, ℕ, suc, ◌<◌, ◌≤◌, List, ◌⊎◌, Option, Some, None, IsSome, slice_get, refl, sym, ap, ◌∙◌, subst, inl, inr, arith}
-use Rattle.candidate_executions.proofs.Vocabulary.{cases_order, Access, Event, Initial, At, KeepsOrder, Precedes, SameThread, Relates, IsAcyclic, WriteOrder, FromReads}
+use Rattle.candidate_executions.proofs.Vocabulary.{◌≡◌, ◌≢◌, ℕ, suc, ◌<◌, ◌≤◌, List, ◌⊎◌, Option, Some, None, IsSome, slice_get, refl, sym, ap, ◌∙◌, subst, inl, inr, arith, cases_order, Access, Event, Initial, At, KeepsOrder, Precedes, SameThread, Relates}
+use Rattle.candidate_executions.proofs.Vocabulary.{IsAcyclic, WriteOrder, FromReads}
 use Rattle.candidate_executions.specs.declared.event.Kind.TheVariants as union
 use Rattle.candidate_executions.proofs.Orders.Lists.{some_value}
 use Rattle.candidate_executions.proofs.FromRuns.Histories.{Entry, History, Holds, Visible, Good}

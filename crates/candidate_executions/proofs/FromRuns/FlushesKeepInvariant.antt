@@ -1,6 +1,6 @@
 -- A flush keeps the invariant of a run.
-use Rattle.std.proofs.Common.{◌≡◌, ℕ, suc, zero, ◌≤◌, List, [], ◌∷◌, ◌⊎◌, Some, slice_get, refl, sym, ap, ◌∙◌, subst, inl, inr, arith, length, eq-eqb, ne_eqb}
-use Rattle.candidate_executions.proofs.Vocabulary.{cases_lt, cases_eq, same_Some, put, Label, Flush, Pending, Event, At, Origins, with_waiting, with_memory}
+use Rattle.candidate_executions.proofs.Vocabulary.{◌≡◌, ℕ, suc, zero, ◌≤◌, List, [], ◌∷◌, ◌⊎◌, Some, slice_get, refl, sym, ap, ◌∙◌, subst, inl, inr, arith, length, eq-eqb, ne_eqb, cases_lt, cases_eq, same_Some, put, Label, Flush, Pending, Event, At, Origins}
+use Rattle.candidate_executions.proofs.Vocabulary.{with_waiting, with_memory}
 use Rattle.candidate_executions.proofs.FromRuns.Histories.{Entry, History, Holds}
 use Rattle.candidate_executions.proofs.Orders.Lists.{put_same, put_other}
 use Rattle.candidate_executions.proofs.FromRuns.FlushesDue.{due, due_late}

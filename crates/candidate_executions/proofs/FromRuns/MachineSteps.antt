@@ -1,7 +1,7 @@
 -- The steps of the store buffer machine, by cases.
-use Rattle.std.proofs.Common.{◌≡◌, ℕ, suc, ◌<◌, ◌≤◌, Bool, true, false, List, [], ◌∷◌, ◌++◌, ◌==◌, Option, Some, option_and_then, refl, sym, ap, ◌∙◌, subst, inl, inr, arith, length, length-append, eq-eqb, ne_eqb, if◌then◌else◌}
-use Rattle.candidate_executions.proofs.Vocabulary.{cases_eq, Reg, Listing, Local, Action, Stop, Go, Wait, Read, Write, Swap, action, loaded, Gaps, put, StoreBufferMachine, State, newest, found}
-use Rattle.candidate_executions.proofs.Vocabulary.{when_empty, past_gap, buffered, flushed, step, run, Label, Exec, Flush, Pending, exec_by, flush_by}
+use Rattle.candidate_executions.proofs.Vocabulary.{◌≡◌, ℕ, suc, ◌<◌, ◌≤◌, Bool, true, false, List, [], ◌∷◌, ◌++◌, ◌==◌, Some, option_and_then, refl, sym, ap, ◌∙◌, subst, inl, inr, arith, length, length-append, eq-eqb, ne_eqb, if◌then◌else◌, cases_eq}
+use Rattle.candidate_executions.proofs.Vocabulary.{Listing, action, Gaps, put, StoreBufferMachine, State, past_gap, buffered, step, run, Label, Exec, Flush}
+use Rattle.candidate_executions.proofs.Vocabulary.{Pending, exec_by, flush_by}
 use Rattle.candidate_executions.proofs.Orders.Lists.{put_same, put_other}
 use Rattle.candidate_executions.proofs.FromRuns.FlushesDue.{due}
 

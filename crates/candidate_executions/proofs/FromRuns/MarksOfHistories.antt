@@ -1,6 +1,6 @@
 -- What a run shows of the history that it leaves.
-use Rattle.std.proofs.Common.{◌≡◌, ◌↔◌, ℕ, suc, zero, ◌+◌, ◌<◌, ◌≤◌, List, [], ◌∷◌, ◌++◌, ◌⊎◌, Some, None, IsSome, Contains, slice_get, refl, sym, ap, ◌∙◌, subst, inl, inr, arith, length, length-append, append_assoc}
-use Rattle.candidate_executions.proofs.Vocabulary.{fun_ext, cases_eq, same_Some, Contains-append_left, Contains-append_right, Contains-append_cases, put, Event, At, Mark, Takes, Arrives}
+use Rattle.candidate_executions.proofs.Vocabulary.{◌≡◌, ◌↔◌, ℕ, suc, zero, ◌+◌, ◌<◌, ◌≤◌, List, [], ◌∷◌, ◌++◌, ◌⊎◌, Some, None, IsSome, Contains, slice_get, refl, sym, ap, ◌∙◌, subst, inl, inr, arith, length, length-append, append_assoc, fun_ext, cases_eq}
+use Rattle.candidate_executions.proofs.Vocabulary.{same_Some, Contains-append_left, Contains-append_right, Contains-append_cases, put, Event, At, Mark, Takes, Arrives}
 use Rattle.candidate_executions.proofs.Orders.Lists.{put_same, put_other, get_end, get_front, get_cases}
 use Rattle.candidate_executions.proofs.FromRuns.Histories.{Entry, History, Holds}
 use Rattle.candidate_executions.proofs.FromRuns.HistoriesGrow.{with_entry}
@@ -121,7 +121,7 @@ module _ (past : History) (t : ℕ) (e : Entry) where
   -- a load
   pub shown_load : (waiting : ℕ → List (ℕ × Event)) (n v : ℕ) → e.access.read ≡ Some v → e.access.written ≡ None → IsShownAs waiting waiting n (Takes next v e.source ∷ [])
   shown_load waiting n v r w = record {
-    takes = λ x d u. ((λ h. took x d u h), λ (q, a, f). took_it x d u q a f);
+    takes = λ x d u. ((λ h. took x d u h), λ (q, a, f). ((0, omega arith, λ i. Takes (sym q i) (same_Some v u (sym r ∙ a) i) (f i))));
     arrives = λ x h. elim h [ inl i ↦ absurd (none x i) | inr i ↦ inl i ];
     arrives_all = λ x h. elim h [ inl i ↦ inr i | inr i ↦ absurd (let z : IsSome {T = ℕ} None = subst IsSome w i.1 in cc) ];
     now = λ x h. absurd (none x h);
@@ -131,9 +131,6 @@ module _ (past : History) (t : ℕ) (e : Entry) where
       took : (x d : Event) (u : ℕ) → Contains (Takes next v e.source ∷ []) (Takes x u d) → (x ≡ next) × (e.access.read ≡ Some u) × (e.source ≡ d)
       took x d u (zero, n, q) = ((let z : x ≡ next = cc in z), r ∙ ap Some (let z : v ≡ u = cc in z), (let z : e.source ≡ d = cc in z))
       took x d u (suc k, n, q) = absurd (omega arith)
-
-      took_it : (x d : Event) (u : ℕ) → x ≡ next → e.access.read ≡ Some u → e.source ≡ d → Contains (Takes next v e.source ∷ []) (Takes x u d)
-      took_it x d u q a f = (0, omega arith, λ i. Takes (sym q i) (same_Some v u (sym r ∙ a) i) (f i))
 
       none : (x : Event) → Contains (Takes next v e.source ∷ []) (Arrives x) → ⊥
       none x (zero, n, q) = cc
@@ -164,7 +161,7 @@ module _ (past : History) (t : ℕ) (e : Entry) where
   shown_store waiting n l r w = record {
     takes = λ x d u. ((λ h. absurd (none_in (Takes x u d) h)), λ (q, a, f). absurd (let z : None ≡ Some u = sym r ∙ a in cc));
     arrives = λ x h. elim h [ inl i ↦ absurd (none_in (Arrives x) i) | inr i ↦ before x i ];
-    arrives_all = λ x h. inr (elim h [ inl i ↦ still x i | inr i ↦ now_waits x i.0 ]);
+    arrives_all = λ x h. inr (elim h [ inl i ↦ still x i | inr i ↦ ((t, length (waiting t), l, rw (put_same waiting t (waiting t ++ (l, next) ∷ [])) (get_end (waiting t) (l, next) ∙ ap (λ z. Some (l, z)) (sym i.0)))) ]);
     now = λ x h. absurd (none_in (Arrives x) h);
     alone = λ moment. tt;
   }
@@ -184,9 +181,6 @@ module _ (past : History) (t : ℕ) (e : Entry) where
         | inl s ↦ (t, q, m, rw (put_same waiting t (waiting t ++ (l, next) ∷ [])) (get_front (waiting t) (l, next) q (m, x) (subst (λ z. slice_get (waiting z) q ≡ Some (m, x)) s a)))
         | inr d ↦ (u, q, m, rw (put_other waiting t (waiting t ++ (l, next) ∷ []) u d) a)
       ]
-
-      now_waits : (x : Event) → x ≡ next → Waits (put waiting t (waiting t ++ (l, next) ∷ [])) x
-      now_waits x q = (t, length (waiting t), l, rw (put_same waiting t (waiting t ++ (l, next) ∷ [])) (get_end (waiting t) (l, next) ∙ ap (λ z. Some (l, z)) (sym q)))
 
 -- the oldest store of a thread waits no more
 pub waits_flush : (waiting : ℕ → List (ℕ × Event)) (t l : ℕ) (x : Event) (xs : List (ℕ × Event)) → waiting t ≡ (l, x) ∷ xs → (y : Event) → Waits waiting y ↔ ((y ≡ x) ⊎ Waits (put waiting t xs) y)
@@ -221,9 +215,6 @@ module _ (past future : History) (t : ℕ) (e : Entry) where
         (rw (put_same past t (past t ++ e ∷ []), put_same future t (e ∷ future t)) (append_assoc (past t) (e ∷ []) (future t)))
     | inr q ↦ rw (put_other past t (past t ++ e ∷ []) u q, put_other future t (e ∷ future t) u q) refl
   ])
-
-  moment_now : moment_of (joined past longer) here ≡ e.moment
-  moment_now = ap moment_of_entry (ap (λ es. slice_get (past t ++ es) (length (past t))) (put_same future t (e ∷ future t)) ∙ get_next_of (past t) (future t) e)
 
   -- the entry is new, or it is held later
   new_cases : (x : Event) (f : Entry) → IsNew past longer x f → ((x ≡ here) × (f ≡ e)) ⊎ IsNew (with_entry past t e) future x f
@@ -299,7 +290,7 @@ module _ (past future : History) (t : ℕ) (e : Entry) where
       of_now x (inr w) = Contains-append_right first ms (Arrives x) ((s.arrives x).1 (inl w))
 
       at_now : (x : Event) → Contains first (Arrives x) → moment_of (joined past longer) x ≡ n
-      at_now x i = let (q, m) = a.now x i in ap (moment_of (joined past longer)) q ∙ (moment_now ∙ m)
+      at_now x i = let (q, m) = a.now x i in ap (moment_of (joined past longer)) q ∙ ((ap moment_of_entry (ap (λ es. slice_get (past t ++ es) (length (past t))) (put_same future t (e ∷ future t)) ∙ get_next_of (past t) (future t) e)) ∙ m)
 
       late_after : (x : Event) → Contains ms (Arrives x) → suc n ≤ moment_of (joined past longer) x
       late_after x i = subst (λ h. suc n ≤ moment_of h x) same_joined (s.late x i)

@@ -1,7 +1,6 @@
 -- Relations that hold of each mark and each later one.
-use Rattle.std.proofs.Common.{suc, zero, List, [], ◌∷◌, ◌++◌, Contains, get_or, refl, inl, inr, arith}
+use Rattle.candidate_executions.proofs.Vocabulary.{suc, zero, List, [], ◌∷◌, ◌++◌, Contains, get_or, refl, inl, inr, arith, AllPairs, Mark}
 use Rattle.std.proofs.lemmas.List.Elements.{Contains-get_or, Contains-append_cases}
-use Rattle.candidate_executions.proofs.Vocabulary.{AllPairs, Mark}
 
 -- the relation holds of each mark and each later one
 abbrev pub PairsOf : (Mark → Mark → Type 0) → List Mark → Type 0

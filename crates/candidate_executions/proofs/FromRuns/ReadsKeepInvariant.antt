@@ -1,6 +1,5 @@
 -- An access that reads keeps the invariant of a run.
-use Rattle.std.proofs.Common.{◌≡◌, ℕ, suc, ◌≤◌, List, [], ◌∷◌, ◌⊎◌, Option, Some, None, IsSome, refl, sym, ap, ◌∙◌, subst, inl, inr, arith, length}
-use Rattle.candidate_executions.proofs.Vocabulary.{cases_eq, same_Some, put, Label, Exec, Pending, At, Event, Origins, with_made, with_memory}
+use Rattle.candidate_executions.proofs.Vocabulary.{◌≡◌, ℕ, suc, ◌≤◌, List, [], ◌∷◌, ◌⊎◌, Option, Some, None, IsSome, refl, sym, ap, ◌∙◌, subst, inl, inr, arith, length, cases_eq, same_Some, put, Label, Exec, Pending, At, Event, Origins, with_made, with_memory}
 use Rattle.candidate_executions.proofs.FromRuns.Histories.{Entry, History}
 use Rattle.candidate_executions.proofs.Orders.Lists.{put_same, put_other}
 use Rattle.candidate_executions.proofs.FromRuns.HistoriesGrow.{with_entry, held_new, held_cases, Fits, good_more}

@@ -1,6 +1,6 @@
 -- What joins the machine's buffers and memory to the history, along a run.
-use Rattle.std.proofs.Common.{◌≡◌, ℕ, suc, ◌<◌, ◌≤◌, List, [], ◌∷◌, ◌++◌, ◌⊎◌, Some, IsSome, slice_get, sym, ap, ◌∙◌, subst, inl, inr, arith, length, length-append}
-use Rattle.candidate_executions.proofs.Vocabulary.{cases_lt, cases_eq, put, Label, Exec, Pending, Event, Initial, At, Origins}
+use Rattle.candidate_executions.proofs.Vocabulary.{◌≡◌, ℕ, suc, ◌<◌, ◌≤◌, List, [], ◌∷◌, ◌++◌, ◌⊎◌, Some, IsSome, slice_get, sym, ap, ◌∙◌, subst, inl, inr, arith, length, length-append, cases_lt, cases_eq, put, Label, Exec, Pending, Event, Initial, At}
+use Rattle.candidate_executions.proofs.Vocabulary.{Origins}
 use Rattle.candidate_executions.proofs.FromRuns.Histories.{Entry, History, Holds, Visible, Good}
 use Rattle.candidate_executions.proofs.Orders.Lists.{put_same, put_other}
 use Rattle.candidate_executions.proofs.FromRuns.HistoriesGrow.{with_entry, held_old, held_cases}

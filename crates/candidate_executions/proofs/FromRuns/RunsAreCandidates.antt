@@ -1,8 +1,7 @@
 -- Each run is a consistent candidate.
-use Rattle.std.proofs.Common.{◌≡◌, ◌≢◌, ℕ, ◌<◌, ◌≤◌, true, List, [], ◌∷◌, Some, None, IsSome, Contains, slice_get, slice_index, option_map, map, refl, sym, ap, ap₂, ◌∙◌, subst, inl, inr, arith, length, lit<}
-use Rattle.candidate_executions.proofs.Vocabulary.{fun_ext, length-map-range_with_len, get_or-map-range_with_len, range_with_len, AllPairs, same_Some, slice_get-map, Listing, Stop, action, start_of}
-use Rattle.candidate_executions.proofs.Vocabulary.{code_of, Gaps, Outcome, JumpForward, Label, Access, Event, Initial, At, Candidate, trace_of, access, Writes, IsCandidate, EndsWith, HasOutcome}
-use Rattle.candidate_executions.proofs.Vocabulary.{Trace, IsConsistent, IsValueOf, first_origins, Mark, Takes, Arrives, marks_of, ReadsValue, IsStored, ArriveInOrder, IsCandidateOf}
+use Rattle.candidate_executions.proofs.Vocabulary.{◌≡◌, ◌≢◌, ℕ, ◌<◌, ◌≤◌, true, List, [], ◌∷◌, Some, None, IsSome, Contains, slice_get, slice_index, option_map, map, refl, sym, ap, ap₂, ◌∙◌, subst, inl, inr, arith, length, lit<, fun_ext}
+use Rattle.candidate_executions.proofs.Vocabulary.{length-map-range_with_len, get_or-map-range_with_len, range_with_len, AllPairs, same_Some, slice_get-map, Listing, Stop, action, start_of, code_of, Gaps, Outcome, JumpForward, Label, Access, Event, Initial}
+use Rattle.candidate_executions.proofs.Vocabulary.{At, Candidate, trace_of, access, Writes, IsCandidate, EndsWith, HasOutcome, Trace, IsConsistent, IsValueOf, first_origins, Mark, Takes, Arrives, marks_of, ReadsValue, IsStored, ArriveInOrder, IsCandidateOf}
 use Rattle.tso_machine.specs.Machine.{Machine, SequentialMachine, StoreBufferMachine, State, run, start, outcome_at, HasEnded, IsRun}
 use Rattle.candidate_executions.specs.Laws.{EveryRunIsACandidate, EveryRunIsACompletion, HasItsCandidate}
 use Rattle.candidate_executions.proofs.Sketches.KnownEdges.{completes_empty}
@@ -94,14 +93,11 @@ module _ (p : Listing) (gaps : Gaps) (forward : JumpForward p.threads) (labels :
   writes_initial : (l v : ℕ) → v ≡ init l → Writes (access p mode c) (Initial l) l v
   writes_initial l v e = (_, refl, refl, ap Some (sym e))
 
-  same_entry : (t i u j : ℕ) (f g : Entry) → Holds h t i f → Holds h u j g → t ≡ u → i ≡ j → f ≡ g
-  same_entry t i u j f g a b q r = same_Some f g (sym a ∙ (ap₂ (λ x y. slice_get (h x) y) q r ∙ b))
-
   not_itself : (t i : ℕ) (f : Entry) (v : ℕ) → Holds h t i f → f.access.read ≡ Some v → (s : Source h t i f v) → At s.thread s.index ≡ At t i → ⊥
   not_itself t i f v fh r s e =
       let a : s.thread ≡ t = cc in
       let b : s.index ≡ i = cc in
-      let w : s.write ≡ f = same_entry s.thread s.index t i s.write f s.holds fh a b in
+      let w : s.write ≡ f = (same_Some s.write f (sym s.holds ∙ (ap₂ (λ x y. slice_get (h x) y) a b ∙ fh))) in
       let m : s.write.moment ≡ f.moment = ap (λ (z : Entry). z.moment) w in
       let k : f.moment ≡ f.exec = good.prompt t i f fh (rw r refl) in
       elim s.visible [ inl q ↦ omega arith | inr q ↦ omega arith ]

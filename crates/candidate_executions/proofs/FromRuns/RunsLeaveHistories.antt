@@ -1,9 +1,8 @@
 -- Each run leaves a good history, and its traces.
-use Rattle.std.proofs.Common.{◌≡◌, ℕ, suc, ◌≤◌, Bool, true, false, List, [], ◌∷◌, ◌++◌, ◌⊎◌, ◌↔◌, Option, Some, None, IsSome, get_or, map, refl, sym, ap, ◌∙◌, subst, inl, inr, length, append-nil, slice_get, zero, arith}
-use Rattle.candidate_executions.proofs.Vocabulary.{fun_ext, cases_eq, cases_lt, slice_get-get_or, slice_get_within, same_Some, Reg, Listing, Local, Action, Go, Wait, Read, Write, Swap, action, loaded}
-use Rattle.candidate_executions.proofs.Vocabulary.{Gaps, put, StoreBufferMachine, State, newest, found, when_empty, flushed, run, Label, Exec, Flush, Pending, Access, Event, At, Origins, Mark, Takes}
-use Rattle.candidate_executions.proofs.Vocabulary.{Arrives, found_write, with_made, with_waiting, with_memory, buffered_origins, buffered_marks, flushed_origins, flushed_marks, marks, Trace, trace}
-use Rattle.candidate_executions.proofs.Vocabulary.{with_access, entered, IsValueOf, exec_by, flush_by}
+use Rattle.candidate_executions.proofs.Vocabulary.{◌≡◌, ℕ, suc, ◌≤◌, Bool, true, false, List, [], ◌∷◌, ◌++◌, ◌⊎◌, ◌↔◌, Option, Some, None, IsSome, get_or, map, refl, sym, ap, ◌∙◌, subst, inl, inr, length, append-nil, slice_get, zero, arith, fun_ext, cases_eq}
+use Rattle.candidate_executions.proofs.Vocabulary.{cases_lt, slice_get-get_or, slice_get_within, same_Some, Listing, Local, Action, Go, Wait, Read, Write, Swap, action, loaded, Gaps, put, StoreBufferMachine, State, newest, found, when_empty, flushed, run}
+use Rattle.candidate_executions.proofs.Vocabulary.{Label, Exec, Flush, Pending, Access, Event, At, Origins, Mark, Takes, Arrives, found_write, with_made, with_waiting, with_memory, buffered_origins, buffered_marks, flushed_origins, flushed_marks, marks, Trace}
+use Rattle.candidate_executions.proofs.Vocabulary.{trace, with_access, entered, IsValueOf, exec_by, flush_by}
 use Rattle.candidate_executions.proofs.FromRuns.CandidateOfHistory.{moment_of}
 use Rattle.candidate_executions.proofs.FromRuns.MarksAlong.{marks_step}
 use Rattle.candidate_executions.proofs.FromRuns.MarksOfHistories.{joined, Waits, Tells, IsShownAs, tells_end, tells_quiet, tells_flush, tells_entry, moment_old, same_joined, shown_load, shown_exchange, shown_store, waits_flush}
@@ -45,24 +44,6 @@ Ends init h memory = Good init h × ((l : ℕ) → Ending init h l (memory l))
 module _ (does : Local → Action) (gap : ℕ → Bool) (k n : ℕ) (s : Local) where
   abbrev inside : ℕ
   inside = entered (gap s.place) n
-
-  trace_go : (next : Local) → does s ≡ Go next → (given : List ℕ) → trace does gap (suc k) n s given ≡ trace does gap k inside next given
-  trace_go next e given = rw e refl
-
-  trace_wait : (next : Local) → does s ≡ Wait next → (given : List ℕ) → trace does gap (suc k) n s given ≡ trace does gap k (suc inside) next given
-  trace_wait next e given = rw e refl
-
-  trace_read : (l : ℕ) (to : Reg) (v : ℕ) (next : Local) → does s ≡ Read l to next → (given : List ℕ) → trace does gap (suc k) n s (v ∷ given) ≡
-      with_access (record { section = inside; location = l; read = Some v; written = None }) (trace does gap k inside (loaded to v next) given)
-  trace_read l to v next e given = rw e refl
-
-  trace_write : (l v : ℕ) (next : Local) → does s ≡ Write l v next → (given : List ℕ) → trace does gap (suc k) n s given ≡
-      with_access (record { section = inside; location = l; read = None; written = Some v }) (trace does gap k inside next given)
-  trace_write l v next e given = rw e refl
-
-  trace_swap : (l w : ℕ) (to : Reg) (v : ℕ) (next : Local) → does s ≡ Swap l w to next → (given : List ℕ) → trace does gap (suc k) n s (v ∷ given) ≡
-      with_access (record { section = inside; location = l; read = Some v; written = Some w }) (trace does gap k (suc inside) (loaded to v next) given)
-  trace_swap l w to v next e given = rw e refl
 
 -- a section may begin at a gap that is fenced
 entered_cases : (b : Bool) (n : ℕ) (bs : List Pending) → (b ≡ true → bs ≡ []) → (n ≡ entered b n) ⊎ (bs ≡ [])
@@ -193,7 +174,7 @@ module _ (p : Listing) (gaps : Gaps) (init : ℕ → ℕ) (last : State) where
       marks_step p (StoreBufferMachine gaps) (Exec t) ls s s' o o [] (exec_ok p gaps s s' t g (rw e refl)) (ap (buffered_origins o t) e) (ap (buffered_marks s o t) e) in
       subst (λ ms. Rest s.locals section past o.waiting n ms) (sym same)
       (rest_quiet s.locals section past t next (inside t) o.waiting n (marks p (StoreBufferMachine gaps) s' o ls)
-      (λ k given. trace_go (action p.threads t) (gaps t) k (section t) (s.locals t) next e given)
+      (λ k given. (rw e refl))
       (played empty ls s' o (suc n) (put section t (inside t)) past (tick init past s.buffers s.memory o n (put section t (inside t)) t ls
       (inv_section init past s.buffers s.memory o n section (Exec t ∷ ls) t (inside t) (entered_cases (gap t) (section t) (s.buffers t) g) inv)) (valued_local p s vd t next (knows (Go next) e)) r)))
       (λ next e b r.
@@ -202,7 +183,7 @@ module _ (p : Listing) (gaps : Gaps) (init : ℕ → ℕ) (last : State) where
       marks_step p (StoreBufferMachine gaps) (Exec t) ls s s' o o [] (exec_ok p gaps s s' t (λ g. b) (rw e (ap (λ ws. when_empty ws s') b))) (ap (buffered_origins o t) e) (ap (buffered_marks s o t) e) in
       subst (λ ms. Rest s.locals section past o.waiting n ms) (sym same)
       (rest_quiet s.locals section past t next (suc (inside t)) o.waiting n (marks p (StoreBufferMachine gaps) s' o ls)
-      (λ k given. trace_wait (action p.threads t) (gaps t) k (section t) (s.locals t) next e given)
+      (λ k given. (rw e refl))
       (played empty ls s' o (suc n) (put section t (suc (inside t))) past (tick init past s.buffers s.memory o n (put section t (suc (inside t))) t ls
       (inv_section init past s.buffers s.memory o n section (Exec t ∷ ls) t (suc (inside t)) (inr b) inv)) (valued_local p s vd t next (knows (Wait next) e)) r)))
       (λ l to next e g r.
@@ -220,7 +201,7 @@ module _ (p : Listing) (gaps : Gaps) (init : ℕ → ℕ) (last : State) where
       (ap (buffered_marks s o t) e ∙ (λ i. Takes (At t (here i)) v (seen.found_is i) ∷ [])) in
       subst (λ ms. Rest s.locals section past o.waiting n ms) (sym same)
       (rest_entry s.locals section past t (loaded to v next) (inside t) o.waiting n (marks p (StoreBufferMachine gaps) s' (with_made o t) ls) x (put section t (inside t)) (put_same section t (inside t)) (put_other section t (inside t))
-      (λ k given. rw (put_same section t (inside t)) (trace_read (action p.threads t) (gaps t) k (section t) (s.locals t) l to v next e given))
+      (λ k given. rw (put_same section t (inside t)) (rw e refl))
       (λ x q. subst (λ z. IsValueOf p l z) (same_Some v x q) (found_value p s vd t l)) o.waiting first (shown_load past t x o.waiting n v refl refl)
       (played empty ls s' (with_made o t) (suc n) (put section t (inside t)) (with_entry past t x)
       (inv_load init past s.buffers s.memory o n (put section t (inside t)) t l v None ls inv1 w seen (inl refl) refl) (valued_loaded p s vd t l to next v (found_value p s vd t l) (knows (Read l to next) e)) r)))
@@ -238,7 +219,7 @@ module _ (p : Listing) (gaps : Gaps) (init : ℕ → ℕ) (last : State) where
       marks_step p (StoreBufferMachine gaps) (Exec t) ls s s' o o' [] (exec_ok p gaps s s' t g (rw e refl)) (ap (buffered_origins o t) e) (ap (buffered_marks s o t) e) in
       subst (λ ms. Rest s.locals section past o.waiting n ms) (sym same)
       (rest_entry s.locals section past t next (inside t) o.waiting n (marks p (StoreBufferMachine gaps) s' o' ls) x (put section t (inside t)) (put_same section t (inside t)) (put_other section t (inside t))
-      (λ k given. rw (put_same section t (inside t)) (trace_write (action p.threads t) (gaps t) k (section t) (s.locals t) l v next e given))
+      (λ k given. rw (put_same section t (inside t)) (rw e refl))
       (λ x q. absurd cc) (put o.waiting t ws) []
       (subst (λ z. IsShownAs past t x o.waiting (put o.waiting t (o.waiting t ++ (l, At t z) ∷ [])) n []) (sym (inv.made t)) (shown_store past t x o.waiting n l refl refl))
       (played empty ls s' o' (suc n) (put section t (inside t)) (with_entry past t x)
@@ -260,7 +241,7 @@ module _ (p : Listing) (gaps : Gaps) (init : ℕ → ℕ) (last : State) where
       subst (λ ms. Rest s.locals section past o.waiting n ms) (sym same)
       (rest_entry s.locals section past t (loaded to v next) (suc (inside t)) o.waiting n (marks p (StoreBufferMachine gaps) s' o' ls) x section2 (put_same (put section t (inside t)) t (suc (inside t)))
       (λ u q. put_other (put section t (inside t)) t (suc (inside t)) u q ∙ put_other section t (inside t) u q)
-      (λ k given. rw (put_same section t (inside t)) (trace_swap (action p.threads t) (gaps t) k (section t) (s.locals t) l w to v next e given))
+      (λ k given. rw (put_same section t (inside t)) (rw e refl))
       (λ x q. subst (λ z. IsValueOf p l z) (same_Some v x q) (vd.stored l)) o.waiting first (shown_exchange past t x o.waiting n v refl refl refl)
       (played empty ls s' o' (suc n) section2 (with_entry past t x)
       (inv_section init (with_entry past t x) s.buffers (put s.memory l w) o' (suc n) (put section t (inside t)) ls t (suc (inside t)) (inr b)

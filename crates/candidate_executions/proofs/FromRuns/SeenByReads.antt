@@ -1,6 +1,6 @@
 -- What a load or an exchange finds is the newest write that it may see.
-use Rattle.std.proofs.Common.{◌≡◌, ℕ, suc, ◌≤◌, List, ◌∷◌, Option, Some, None, slice_get, refl, sym, ap, ◌∙◌, subst, inl, inr, arith}
-use Rattle.candidate_executions.proofs.Vocabulary.{cases_lt, cases_eq, same_Some, slice_get_within, newest, found, Label, Exec, Pending, At, Origins, found_write}
+use Rattle.candidate_executions.proofs.Vocabulary.{◌≡◌, ℕ, suc, ◌≤◌, List, ◌∷◌, Option, Some, None, slice_get, refl, sym, ap, ◌∙◌, subst, inl, inr, arith, cases_lt, cases_eq, same_Some, slice_get_within, newest, found, Label, Exec, Pending, At, Origins}
+use Rattle.candidate_executions.proofs.Vocabulary.{found_write}
 use Rattle.candidate_executions.proofs.FromRuns.Histories.{History}
 use Rattle.candidate_executions.proofs.FromRuns.FoundWrites.{AreTagged, none_found, newest_found}
 use Rattle.candidate_executions.proofs.FromRuns.FlushesDue.{due, due_late, due_sorted}

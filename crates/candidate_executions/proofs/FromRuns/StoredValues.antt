@@ -1,7 +1,6 @@
 -- Each value that a run stores to a location is one of the location's values.
-use Rattle.std.proofs.Common.{◌≡◌, ℕ, suc, zero, Bool, true, false, not, List, [], ◌∷◌, ◌++◌, ◌⊎◌, Option, Some, None, slice_get, slice_index, get_or, set, refl, sym, subst, inl, inr}
-use Rattle.candidate_executions.proofs.Vocabulary.{cases_eq, Reg, Instr, LoadImm, Copy, Load, StoreImm, Store, Xchg, Fence, CmpImm, CmpReg, Je, Jne, Jmp, Listing, Local, Action, Stop, Go, Wait, Read}
-use Rattle.candidate_executions.proofs.Vocabulary.{Write, Swap, action, code_of, start_of, act, loaded, jumped, number, put, State, newest, found, Pending}
+use Rattle.candidate_executions.proofs.Vocabulary.{◌≡◌, ℕ, suc, zero, Bool, true, false, not, List, [], ◌∷◌, ◌++◌, ◌⊎◌, Option, Some, None, slice_get, slice_index, get_or, set, refl, sym, subst, inl, inr, cases_eq, Reg, Instr, LoadImm, Copy, StoreImm}
+use Rattle.candidate_executions.proofs.Vocabulary.{Store, Xchg, Je, Jne, Jmp, Listing, Local, Action, Stop, Go, Wait, Read, Write, Swap, action, code_of, start_of, act, loaded, jumped, number, put, State, newest, found, Pending}
 use Rattle.candidate_executions.specs.Values.{IsKnown, IsValueOf}
 use Rattle.candidate_executions.proofs.Orders.Lists.{put_same, put_other, get_cases}
 use Rattle.candidate_executions.proofs.FromRuns.NewestStore.{newest_some}
@@ -43,16 +42,13 @@ module _ (p : Listing) where
       go None e = tt
       go (Some (LoadImm r v)) e = knows_loaded r v s (inr (inl (inl (r, (t, s.place, e))))) h
       go (Some (Copy r f)) e = knows_loaded r _ s (h (number f)) h
-      go (Some (Load r l)) e = h
       go (Some (StoreImm l v)) e = (h, inr (inl (t, s.place, e)))
       go (Some (Store l r)) e = (h, inr (inr ((r, inl (t, s.place, e)), h (number r))))
       go (Some (Xchg l r)) e = (h, inr (inr ((r, inr (t, s.place, e)), h (number r))))
-      go (Some Fence) e = h
-      go (Some (CmpImm r v)) e = h
-      go (Some (CmpReg r f)) e = h
       go (Some (Je k)) e = knows_jumped s.flag k s h
       go (Some (Jne k)) e = knows_jumped (not s.flag) k s h
       go (Some (Jmp k)) e = knows_jumped true k s h
+      go (Some _) e = h
 
   pub fair_at : (t : ℕ) (s : Local) (a : Action) → Knows s → action p.threads t s ≡ a → Fair a
   fair_at t s a h e = subst Fair e (fair t s h)

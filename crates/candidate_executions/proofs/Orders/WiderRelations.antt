@@ -1,6 +1,5 @@
 -- A cycle of a relation is one of each wider relation.
-use Rattle.std.proofs.Common.{List, [], ◌∷◌}
-use Rattle.candidate_executions.proofs.Vocabulary.{Event, Leads, IsCycle, IsAcyclic}
+use Rattle.candidate_executions.proofs.Vocabulary.{List, [], ◌∷◌, Event, Leads, IsCycle, IsAcyclic}
 use Rattle.candidate_executions.proofs.Orders.AcyclicIsOrdered.{Ordered}
 
 module _ (R S : Event → Event → Type 0) (wider : (d e : Event) → R d e → S d e) where

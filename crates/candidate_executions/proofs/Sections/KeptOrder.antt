@@ -1,6 +1,5 @@
 -- Kept program order in words of what lies between two accesses.
-use Rattle.std.proofs.Common.{◌≡◌, ◌⊎◌, ◌↔◌, ℕ, Option, Some, None, IsSome, refl, inl, inr, length}
-use Rattle.candidate_executions.proofs.Vocabulary.{action, start_of, code_of, KeepsOrder}
+use Rattle.candidate_executions.proofs.Vocabulary.{◌≡◌, ◌⊎◌, ◌↔◌, ℕ, Option, Some, None, IsSome, refl, inl, inr, length, action, start_of, code_of, KeepsOrder}
 use Rattle.candidate_executions.specs.Paths.{path_of, LiesBetween}
 use Rattle.candidate_executions.specs.Laws.{SectionsTellFences, KeptOrderIsTold}
 use Rattle.candidate_executions.proofs.Sections.SectionsTellFences.{sections_differ}

@@ -32,12 +32,6 @@ module _ (does : Local → Action) (gap : ℕ → Bool) where
       let d : cond (is_access (does s)) 1 0 + counted (take m states) ≡ 0 = sym (counted_more s (take m states)) ∙ c in
       let e : 1 + counted (take m states) ≡ 0 = rw q at d in omega arith
 
-  quiet_on : (s : Local) (states : List Local) (i m : ℕ) → is_access (does s) ≡ false → IsStepOf does gap states i m → IsStepOf does gap (s ∷ states) i (suc m)
-  quiet_on s states i m q st = let (z, a, b, c) = st in (z, a, b, counted_more s (take m states) ∙ rw q (omega arith))
-
-  access_on : (s : Local) (states : List Local) (i m : ℕ) → is_access (does s) ≡ true → IsStepOf does gap states i m → IsStepOf does gap (s ∷ states) (suc i) (suc m)
-  access_on s states i m q st = let (z, a, b, c) = st in (z, a, b, counted_more s (take m states) ∙ rw q (omega arith))
-
   is_or_not : (b : Bool) → (b ≡ true) ⊎ (b ≡ false)
   is_or_not true = inl refl
   is_or_not false = inr refl
@@ -66,10 +60,10 @@ module _ (does : Local → Action) (gap : ℕ → Bool) where
   step_of (suc k) n s given i x a = go (does s) refl given i a (step_of k)
     where
       on : (b : Action) (states : List Local) (i : ℕ) → does s ≡ b → is_access b ≡ true → (m : ℕ) × IsStepOf does gap states i m → (m : ℕ) × IsStepOf does gap (s ∷ states) (suc i) m
-      on b states i e q st = (suc st.0, access_on s states i st.0 (ap is_access e ∙ q) st.1)
+      on b states i e q st = (suc st.0, (let (z, a, b, c) = st.1 in (z, a, b, counted_more s (take st.0 states) ∙ rw (ap is_access e ∙ q) (omega arith))))
 
       past : (b : Action) (states : List Local) (i : ℕ) → does s ≡ b → is_access b ≡ false → (m : ℕ) × IsStepOf does gap states i m → (m : ℕ) × IsStepOf does gap (s ∷ states) i m
-      past b states i e q st = (suc st.0, quiet_on s states i st.0 (ap is_access e ∙ q) st.1)
+      past b states i e q st = (suc st.0, (let (z, a, b, c) = st.1 in (z, a, b, counted_more s (take st.0 states) ∙ rw (ap is_access e ∙ q) (omega arith))))
 
       go : (b : Action) → does s ≡ b → (given : List ℕ) (i : ℕ) → slice_get (traced (trace does gap k) (entered (gap s.place) n) s b given).accesses i ≡ Some x →
           ((n : ℕ) (s : Local) (given : List ℕ) (i : ℕ) (x : Access) → slice_get (trace does gap k n s given).accesses i ≡ Some x → (m : ℕ) × IsStepOf does gap (path does k s given) i m) →

@@ -1,7 +1,6 @@
 -- The values given to the threads: none at first, and one more for one thread.
-use Rattle.std.proofs.Common.{◌≡◌, ◌≢◌, ℕ, suc, ◌<◌, List, [], ◌∷◌, ◌++◌, Some, None, length, map, refl, sym, ap, ◌∙◌, inl, inr, append-nil}
+use Rattle.candidate_executions.proofs.Vocabulary.{◌≡◌, ◌≢◌, ℕ, suc, ◌<◌, List, [], ◌∷◌, ◌++◌, Some, None, length, map, refl, sym, ap, ◌∙◌, inl, inr, append-nil, cases_eq, cases_lt, Thread, Listing, Machine, trace_by}
 use Rattle.std.specs.Prelude.{slice_get, unwrap_or}
-use Rattle.candidate_executions.proofs.Vocabulary.{cases_eq, cases_lt, Thread, Listing, Machine, trace_by}
 use Rattle.tso_machine.proofs.Runs.{no_action}
 use Rattle.candidate_executions.specs.Sketches.{Sketch, empty_sketch, given_to, IsPrefixOf, with_value, read_by, next_read}
 use Rattle.candidate_executions.proofs.Orders.Lists.{get_set_same, get_set_other}

@@ -1,6 +1,5 @@
 -- A cycle of known edges, of a union of the mode, leaves a sketch no consistent completion.
-use Rattle.std.proofs.Common.{List, [], ◌∷◌}
-use Rattle.candidate_executions.proofs.Vocabulary.{Listing, Machine, SequentialMachine, StoreBufferMachine, Event, Kind, Candidate}
+use Rattle.candidate_executions.proofs.Vocabulary.{List, [], ◌∷◌, Listing, Machine, SequentialMachine, StoreBufferMachine, Event, Kind, Candidate}
 use Rattle.candidate_executions.specs.declared.event.Kind.TheVariants as union
 use Rattle.candidate_executions.specs.Consistency.{IsOfMode, Edge, Leads, IsCycle, IsAcyclic, IsConsistent}
 use Rattle.candidate_executions.specs.Sketches.{Sketch, IsConsistentCompletion, IsSketch, KnownEdge, KnownEdgeOfMode, IsKnownCycle}

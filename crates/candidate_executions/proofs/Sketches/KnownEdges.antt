@@ -1,7 +1,6 @@
 -- What is known of a sketch holds of each completion.
-use Rattle.std.proofs.Common.{◌≡◌, ◌≢◌, ℕ, ◌<◌, List, ◌++◌, Some, IsSome, Contains, slice_get, refl, sym, ap, ◌∙◌, subst, inl, inr, arith, length, slice_index}
-use Rattle.candidate_executions.proofs.Vocabulary.{same_Some, Listing, action, start_of, code_of, Machine, Access, Event, Initial, At, Kind, Candidate, access, access_by, Writes, IsCandidate, trace}
-use Rattle.candidate_executions.proofs.Vocabulary.{fenced_gaps, Relates, Edge, IsCycle, WriteOrder, FromReads}
+use Rattle.candidate_executions.proofs.Vocabulary.{◌≡◌, ◌≢◌, ℕ, ◌<◌, List, ◌++◌, Some, IsSome, Contains, slice_get, refl, sym, ap, ◌∙◌, subst, inl, inr, arith, length, slice_index, same_Some, Listing, action, start_of, code_of, Machine, Access, Event, Initial}
+use Rattle.candidate_executions.proofs.Vocabulary.{At, Kind, Candidate, access, access_by, Writes, IsCandidate, trace, fenced_gaps, Relates, Edge, IsCycle, WriteOrder, FromReads}
 use Rattle.candidate_executions.specs.declared.event.Kind.TheVariants as union
 use Rattle.candidate_executions.specs.Sketches.{Sketch, given_to, Completes, IsSketch, IsBefore, KnownRelates, KnownEdge, KnownFromReads}
 use Rattle.candidate_executions.specs.Laws.{EveryCandidateCompletesEmpty, AKnownEdgeIsAnEdge, AKnownCycleIsACycle}

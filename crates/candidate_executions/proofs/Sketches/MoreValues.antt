@@ -1,6 +1,6 @@
 -- What more given values do to a trace: it keeps its accesses, a read at which it stopped takes the next value, and at its end it takes none.
-use Rattle.std.proofs.Common.{◌≡◌, ℕ, zero, suc, ◌+◌, ◌≤◌, Bool, List, [], ◌∷◌, ◌++◌, Some, None, slice_get, length, refl, sym, ap, ◌∙◌, arith}
-use Rattle.candidate_executions.proofs.Vocabulary.{Local, Action, Stop, Go, Wait, Read, Write, Swap, loaded, Access, Trace, trace, traced, entered, with_access, read_by}
+use Rattle.candidate_executions.proofs.Vocabulary.{◌≡◌, ℕ, zero, suc, ◌+◌, ◌≤◌, Bool, List, [], ◌∷◌, ◌++◌, Some, None, slice_get, length, refl, sym, ap, ◌∙◌, arith, Local, Action, Stop, Go, Wait, Read, Write, Swap, loaded, Access, Trace, trace, traced}
+use Rattle.candidate_executions.proofs.Vocabulary.{entered, with_access, read_by}
 use Rattle.candidate_executions.proofs.FromRuns.StepsSuffice.{Advances}
 
 -- the trace with more values left over
@@ -75,11 +75,7 @@ module _ (does : Local → Action) (gap : ℕ → Bool) where
       where
         go : (a : Action) → does s ≡ a → Advances len s.place a → does s ≡ Stop
         go Stop e f = e
-        go (Go next) e f = absurd (omega arith)
-        go (Wait next) e f = absurd (omega arith)
-        go (Read l to next) e f = absurd (omega arith)
-        go (Write l v next) e f = absurd (omega arith)
-        go (Swap l w to next) e f = absurd (omega arith)
+        go _ e f = absurd (omega arith)
 
     not_past_end : (s : Local) (l : ℕ) → len ≤ s.place → read_by (does s) ≡ Some l → ⊥
     not_past_end s l h r = let z : None ≡ Some l = sym (ap read_by (past_end s h)) ∙ r in cc

@@ -1,19 +1,17 @@
 -- Where a sketch must end as an outcome, the same is shown of each completion's.
-use Rattle.std.proofs.Common.{◌≡◌, ℕ, ◌<◌, ◌≤◌, Bool, List, [], Option, Some, None, slice_index, length, map, refl, sym, ap, ◌∙◌, subst, inl, inr, arith}
+use Rattle.candidate_executions.proofs.Vocabulary.{◌≡◌, ℕ, ◌<◌, ◌≤◌, Bool, List, [], Option, Some, None, slice_index, length, map, refl, sym, ap, ◌∙◌, subst, inl, inr, arith, range_with_len, get_or-map-range_with_len, length-map-range_with_len, same_Some}
+use Rattle.candidate_executions.proofs.Vocabulary.{slice_get-get_or, slice_get_past, cases_lt, Listing, Outcome, number, action, start_of, code_of, JumpForward, Machine, Access, Event, Initial, Trace, trace, trace_by, fenced_gaps}
 use Rattle.std.specs.Prelude.{option_and_then, slice_get}
-use Rattle.candidate_executions.proofs.Vocabulary.{range_with_len, get_or-map-range_with_len, length-map-range_with_len, same_Some, slice_get-get_or, slice_get_past, cases_lt, Listing, Outcome}
-use Rattle.candidate_executions.proofs.Vocabulary.{number, action, start_of, code_of, JumpForward, Machine, Access, Event, Initial, Trace, trace, trace_by, fenced_gaps}
 use Rattle.tso_program.specs.declared.shown.Shown.{Shown}
 use Rattle.tso_program.specs.declared.shown.Shown.TheVariants.{Truth}
 use Rattle.tso_program.specs.declared.atom.Atom.{Atom}
 use Rattle.tso_program.specs.declared.atom.Atom.TheVariants as atom
-use Rattle.tso_program.specs.Tree.{Tree}
-use Rattle.tso_program.specs.Truth.{truth, is_true_at, is_value}
+use Rattle.tso_program.specs.Truth.{is_true_at, is_value}
 use Rattle.tso_program.proofs.KnownTruths.{known_is_true}
 use Rattle.tso_program.specs.Shown.{Question, shown_value, show_registers, show_memory, shown_values, show, told}
 use Rattle.tso_program.proofs.Kept.{memory_by}
 use Rattle.candidate_executions.specs.Candidates.{Candidate, access, access_by, Writes, IsCandidate, EndsWith, HasOutcome, HasShownOutcome}
-use Rattle.candidate_executions.specs.Sketches.{Sketch, given_to, Completes, IsSketch, MayBeLast, stopped, MayEndWith, EndsInValues, KnownAtom, EndsInTruth, EndsAs, IsWhole, MustEndAs, next_read}
+use Rattle.candidate_executions.specs.Sketches.{Sketch, given_to, Completes, IsSketch, MayBeLast, stopped, MayEndWith, EndsInValues, KnownAtom, EndsAs, IsWhole, MustEndAs, next_read}
 use Rattle.candidate_executions.specs.Laws.{EachCompletionEndsSo}
 use Rattle.candidate_executions.proofs.Sketches.Choices.{all_given, given_whole, keeps_writes}
 use Rattle.candidate_executions.proofs.Candidates.LastWrites.{ends_with}
@@ -130,11 +128,8 @@ module _ (q : Question) (mode : Machine) (k : Sketch) (c : Candidate) (o : Outco
         ap (λ (x : Option ℕ). is_value x v) (slice_get_past whole.memory l (omega arith)) ∙ past h
   ]
 
-  truth_shown : (f : Tree Atom) → EndsInTruth p mode k f o → o ≡ told (truth whole f)
-  truth_shown f ends = ends.is_told ∙ sym (ap told (known_is_true (KnownAtom p mode k) (is_true_at whole) atom_known ends.truth f ends.known))
-
   shown_so : (shown : Shown) → EndsAs p mode k shown o → o ≡ show shown whole
-  shown_so (Truth f) ends = truth_shown f ends
+  shown_so (Truth f) ends = ends.is_told ∙ sym (ap told (known_is_true (KnownAtom p mode k) (is_true_at whole) atom_known ends.truth f ends.known))
   shown_so shown (all, ends) = values_shown all shown ends
 
   pub ends_so : MustEndAs q mode k o → HasShownOutcome q mode c o

@@ -1,7 +1,5 @@
 -- A consistent candidate has a run along each order of its accesses, and so every one is the candidate of a run.
-use Rattle.std.proofs.Common.{List}
-use Rattle.candidate_executions.proofs.Vocabulary.{Listing, Outcome, Label, Machine, SequentialMachine, StoreBufferMachine, IsRun, Event, Candidate, access, IsCandidate, HasOutcome, Edge}
-use Rattle.candidate_executions.proofs.Vocabulary.{IsConsistent, labels_along, followed_union, IsCandidateOf}
+use Rattle.candidate_executions.proofs.Vocabulary.{List, Listing, Outcome, Label, Machine, SequentialMachine, StoreBufferMachine, IsRun, Event, Candidate, access, IsCandidate, HasOutcome, Edge, IsConsistent, labels_along, followed_union, IsCandidateOf}
 use Rattle.candidate_executions.specs.declared.event.Kind.TheVariants as union
 use Rattle.candidate_executions.specs.Laws.{EveryCandidateIsARun, EveryOrderIsARun}
 use Rattle.candidate_executions.proofs.ToRuns.Linear.{IsLinear, order_is_linear, linear}

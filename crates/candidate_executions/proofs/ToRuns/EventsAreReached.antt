@@ -1,11 +1,10 @@
 -- A run of the store buffer machine comes to the next event of the order.
-use Rattle.std.proofs.Common.{◌≡◌, ℕ, suc, zero, ◌+◌, ◌-◌, ◌<◌, ◌≤◌, Bool, true, false, List, [], ◌∷◌, ◌++◌, Some, None, IsSome, option_and_then, slice_get, drop, refl, sym, ap, ◌∙◌, subst, inl, inr, arith}
-use Rattle.candidate_executions.proofs.Vocabulary.{cases_lt, cases_eq, same_Some, Listing, loaded, Local, Action, Stop, Go, Wait, Read, Write, Swap, action, Gaps, Machine, put, StoreBufferMachine}
-use Rattle.candidate_executions.proofs.Vocabulary.{State, newest, found, when_empty, flushed, step, run, Label, Exec, Flush, Pending, Access, Event, At, Candidate, IsCandidate, EndsWith, Trace, trace}
-use Rattle.candidate_executions.proofs.Vocabulary.{traced, stopped, with_access, entered, KeepsOrder, Edge, IsAcyclic, Origins, Mark, Takes, Arrives, found_write, with_made, with_waiting, with_memory}
+use Rattle.candidate_executions.proofs.Vocabulary.{◌≡◌, ℕ, suc, zero, ◌+◌, ◌-◌, ◌<◌, ◌≤◌, Bool, true, false, List, [], ◌∷◌, ◌++◌, Some, None, IsSome, option_and_then, slice_get, drop, refl, sym, ap, ◌∙◌, subst, inl, inr, arith, cases_lt, cases_eq, same_Some}
+use Rattle.candidate_executions.proofs.Vocabulary.{Listing, loaded, Local, Action, Stop, Go, Wait, Read, Write, Swap, action, Gaps, Machine, put, StoreBufferMachine, State, newest, found, when_empty, flushed, step, run, Label, Exec, Flush, Pending, Access}
+use Rattle.candidate_executions.proofs.Vocabulary.{Event, At, Candidate, IsCandidate, EndsWith, Trace, trace, traced, stopped, with_access, entered, KeepsOrder, Edge, IsAcyclic, Origins, Mark, Takes, Arrives, found_write, with_made, with_waiting, with_memory}
 use Rattle.candidate_executions.proofs.Vocabulary.{buffered_origins, buffered_marks, flushed_origins, flushed_marks, origins_after, marks_at, marks}
 use Rattle.candidate_executions.specs.declared.event.Kind.TheVariants as union
-use Rattle.candidate_executions.specs.Orders.{Steps, steps, steps_by, counted, execs, flush_of}
+use Rattle.candidate_executions.specs.Orders.{Steps, made_at, steps, steps_by, counted, execs, flush_of}
 use Rattle.candidate_executions.proofs.Orders.Lists.{put_same, put_other}
 use Rattle.candidate_executions.proofs.FromRuns.MachineSteps.{exec_ok}
 use Rattle.candidate_executions.proofs.Orders.Dropped.{drop_none, drop_head, get_drop}
@@ -13,9 +12,9 @@ use Rattle.candidate_executions.proofs.Sections.SectionsRise.{from_section}
 use Rattle.candidate_executions.proofs.Candidates.WrittenValues.{stored_as, store_of, some_written}
 use Rattle.candidate_executions.proofs.ToRuns.StepsCounted.{later, tail_counts}
 use Rattle.candidate_executions.proofs.ToRuns.Standing.{at, acc, W, store, Has, steps_from}
-use Rattle.candidate_executions.proofs.FromRuns.MarksAlong.{marks_step, shown_along, shown_first}
+use Rattle.candidate_executions.proofs.FromRuns.MarksAlong.{marks_step, taken, arrived, shown_along, shown_first}
 use Rattle.candidate_executions.proofs.ToRuns.ReadsTheRightValue.{not_kept, clear, no_waits, right_write, right_value}
-use Rattle.candidate_executions.proofs.ToRuns.StandingOn.{mode, final, left, Stand, Share, MadeNext, quiet_stands, write_stands, other_stands, read_stands, shared_next, has_still, has_new, flush_stands}
+use Rattle.candidate_executions.proofs.ToRuns.StandingOn.{mode, final, left, Stand, Share, quiet_stands, write_stands, other_stands, read_stands, shared_next, has_still, has_new, flush_stands}
 
 module _ (p : Listing) (gaps : Gaps) (c : Candidate) (is : IsCandidate p (StoreBufferMachine gaps) c) (loc : IsAcyclic (Edge p (StoreBufferMachine gaps) c union.Location)) where
   -- what a run has to come to
@@ -54,6 +53,81 @@ module _ (p : Listing) (gaps : Gaps) (c : Candidate) (is : IsCandidate p (StoreB
   pub above : (b : Bool) (n : ℕ) → n ≤ entered b n
   above true n = omega arith
   above false n = omega arith
+
+  -- the turn of an event, in a run of either machine of which this is kept
+  module _ (machine : Machine) (Kept : (ℕ → List Pending) → Type 0) (t i : ℕ) (rest : List Event) (y : Access) (here : at p gaps c is loc (At t i) ≡ Some y) (done : ℕ → ℕ) (n : ℕ)
+      (made : slice_get (steps_by p c.given t).accesses i ≡ Some n) (labels : List Label)
+      (ih : (s : State) (o : Origins) → Kept s.buffers → Sim s o (put done t (done t + (n - done t))) rest → Goal machine s o rest labels)
+      (k e : ℕ) (s : State) (o : Origins) (kept : Kept s.buffers)
+      (others : (u : ℕ) → (u ≡ t → ⊥) → (k : ℕ) × Stand p gaps c is loc u (s.locals u) (s.buffers u) (o.waiting u) (o.made u) (At t i ∷ rest) k (done u))
+      (mine : Stand p gaps c is loc t (s.locals t) (s.buffers t) (o.waiting t) (o.made t) (At t i ∷ rest) (suc k) e) (shared : Share p gaps c is loc s.memory o.memory (At t i ∷ rest))
+      (ge : mine.done ≤ i) (low : done t ≤ e) (high : e ≤ done t + (n - done t)) where
+    -- the event's instruction is still to come
+    pub to_come : e < n
+    to_come = later (action p.threads t) (suc k) e (s.locals t) mine.given (i - mine.done) n
+        (ap (λ (z : Steps). slice_get z.accesses (i - mine.done)) mine.counts ∙ (get_drop mine.done i (steps_by p c.given t).accesses ge ∙ made))
+
+    pub exec_first : (ls : List Label) (s' : State) (o' : Origins) (rest' : List Event) (ms : List Mark) → step p machine s (Exec t) ≡ Some s' → origins_after p machine s o (Exec t) ≡ o' →
+        marks_at p machine s o (Exec t) ≡ ms → ms ++ shown rest' ≡ shown (At t i ∷ rest) → Goal machine s' o' rest' (execs t (n - suc e) ++ ls) → Goal machine s o (At t i ∷ rest) (execs t (n - e) ++ ls)
+    exec_first ls s' o' rest' ms st f h m g = let lt = to_come in let q : suc (n - suc e) ≡ n - e = omega arith in
+        subst (λ x. Goal machine s o (At t i ∷ rest) (execs t x ++ ls)) q (first_step machine (Exec t) (execs t (n - suc e) ++ ls) s s' o o' (At t i ∷ rest) rest' ms st f h m g)
+
+    pub none_left : (given : List ℕ) (labels : List Label) → stopped (s.locals t) given ≡ left p gaps c is loc t mine.done → Goal machine s o (At t i ∷ rest) labels
+    none_left given labels e = absurd (drop_none mine.done i (acc p gaps c is loc t) y (sym (ap (λ (z : Trace). z.accesses) e)) here ge)
+
+    pub is_y : (a : Access) (T : Trace) → with_access a T ≡ left p gaps c is loc t mine.done → mine.done ≡ i → a ≡ y
+    is_y a T h q = same_Some a y (sym (tail_plays a T t mine.done h).0 ∙ (ap (slice_get (acc p gaps c is loc t)) q ∙ here))
+
+    -- memory where the event writes none
+    pub has_read : y.written ≡ None → (l : ℕ) → Has p gaps c is loc rest l (s.memory l) (o.memory l)
+    has_read none l = has_still p gaps c is loc (At t i) rest l (s.memory l) (o.memory l) (shared.has l)
+        (λ v b. let z : b.0 ≡ y = same_Some b.0 y (sym b.1 ∙ here) in let k : None ≡ Some v = sym none ∙ (sym (ap (λ (z : Access). z.written) z) ∙ b.3) in cc)
+
+    -- and where it writes
+    pub has_written : (l w k : ℕ) → y.location ≡ l → y.written ≡ Some w → Has p gaps c is loc rest k (put s.memory l w k) (put o.memory l (At t i) k)
+    has_written l w k q writes = elim (cases_eq k l) [
+      | inl r ↦ subst (λ z. Has p gaps c is loc rest z (put s.memory l w z) (put o.memory l (At t i) z)) (sym r)
+          (rw (put_same s.memory l w, put_same o.memory l (At t i)) (has_new p gaps c is loc (At t i) rest s.memory o.memory l w shared (y, here, q, writes)))
+      | inr n ↦ rw (put_other s.memory l w k n, put_other o.memory l (At t i) k n) (has_still p gaps c is loc (At t i) rest k (s.memory k) (o.memory k) (shared.has k)
+          (λ v b. n (let z : b.0 ≡ y = same_Some b.0 y (sym b.1 ∙ here) in sym b.2 ∙ (ap (λ (z : Access). z.location) z ∙ q))))
+    ]
+
+    -- the event's access is made now, and leaves the rest
+    pub meets : (x : Access) (next : Local) (m : ℕ) (given : List ℕ) (memory : ℕ → ℕ) (origins : ℕ → Event) → mine.section ≤ m → mine.done ≡ i →
+        with_access x (trace (action p.threads t) (gaps t) k m next given) ≡ left p gaps c is loc t mine.done →
+        made_at (suc e) (steps (action p.threads t) k (suc e) next given) ≡ steps_from p gaps c is loc t mine.done →
+        step p machine s (Exec t) ≡ Some (record s { locals = put s.locals t next; memory = memory }) →
+        origins_after p machine s o (Exec t) ≡ record o { made = put o.made t (suc (o.made t)); memory = origins } →
+        marks_at p machine s o (Exec t) ≡ taken x.read (At t i) (c.source (At t i)) ++ arrived x.written (At t i) → ((l : ℕ) → Has p gaps c is loc rest l (memory l) (origins l)) →
+        Goal machine s o (At t i ∷ rest) (execs t (n - e) ++ labels)
+    meets x next m given memory origins above now h f st og mk has =
+        let (a, g) = tail_plays x (trace (action p.threads t) (gaps t) k m next given) t mine.done h in
+        let (b, d) = tail_counts (suc e) mine.done (steps (action p.threads t) k (suc e) next given) (steps_by p c.given t) f in
+        let same : x ≡ y = is_y x (trace (action p.threads t) (gaps t) k m next given) h now in
+        let s' : State = record s { locals = put s.locals t next; memory = memory } in
+        let o' : Origins = record o { made = put o.made t (suc (o.made t)); memory = origins } in
+        let turn : suc e ≡ n = same_Some (suc e) n (sym b ∙ (ap (slice_get (steps_by p c.given t).accesses) now ∙ made)) in
+        let none : 0 ≡ n - suc e = omega arith in
+        let count : suc e ≡ done t + (n - done t) = omega arith in
+        exec_first labels s' o' rest (taken x.read (At t i) (c.source (At t i)) ++ arrived x.written (At t i)) st og mk
+        (shown_first (at p gaps c is loc) c (At t i) rest y x.read x.written here (sym (ap (λ (z : Access). z.read) same)) (sym (ap (λ (z : Access). z.written) same)))
+        (subst (λ z. Goal machine s' o' rest (execs t z ++ labels)) none
+        (ih s' o' kept (record {
+          threads = λ u. elim (cases_eq u t) [
+            | inl q ↦ subst (λ z. (k : ℕ) × Stand p gaps c is loc z (put s.locals t next z) (s.buffers z) (o.waiting z) (put o.made t (suc (o.made t)) z) rest k (put done t (done t + (n - done t)) z)) (sym q) (
+              k,
+              rw (put_same s.locals t next, put_same o.made t (suc (o.made t)), put_same done t (done t + (n - done t)))
+                  (subst (λ z. Stand p gaps c is loc t next (s.buffers t) (o.waiting t) (suc (o.made t)) rest k z) count
+                  (read_stands p gaps c is loc t i (s.locals t) (s.buffers t) (o.waiting t) (o.made t) rest (suc k) e mine next k m given above now shared.distinct.0 g d b)),
+            )
+            | inr n' ↦ (let (k, x) = others u n' in (
+              k,
+              rw (put_other s.locals t next u n', put_other o.made t (suc (o.made t)) u n', put_other done t (done t + (n - done t)) u n')
+                  (other_stands p gaps c is loc t i u n' (s.locals u) (s.buffers u) (o.waiting u) (o.made u) rest k (done u) x),
+            ))
+          ];
+          shared = shared_next p gaps c is loc (At t i) rest s.memory memory o.memory origins shared has;
+        })))
 
   module _ (t i : ℕ) (rest : List Event) (y : Access) (here : at p gaps c is loc (At t i) ≡ Some y) (done : ℕ → ℕ) (n : ℕ)
       (made : slice_get (steps_by p c.given t).accesses i ≡ Some n) (labels : List Label)
@@ -134,20 +208,10 @@ module _ (p : Listing) (gaps : Gaps) (c : Candidate) (is : IsCandidate p (StoreB
       m_le = from_section (action p.threads t) (gaps t) (suc k) mine.section (s.locals t) mine.given (i - mine.done) y
           (ap (λ (z : Trace). slice_get z.accesses (i - mine.done)) mine.plays ∙ y_at)
 
-      -- the event's instruction is still to come
-      to_come : e < n
-      to_come = later (action p.threads t) (suc k) e (s.locals t) mine.given (i - mine.done) n
-          (ap (λ (z : Steps). slice_get z.accesses (i - mine.done)) mine.counts ∙ (get_drop mine.done i (steps_by p c.given t).accesses ge ∙ made))
-
-      exec_first : (s' : State) (o' : Origins) (rest' : List Event) (ms : List Mark) → step p (mode p gaps c is loc) s (Exec t) ≡ Some s' → origins_after p (mode p gaps c is loc) s o (Exec t) ≡ o' →
-          marks_at p (mode p gaps c is loc) s o (Exec t) ≡ ms → ms ++ shown rest' ≡ shown all → Goal (mode p gaps c is loc) s' o' rest' (execs t (n - suc e) ++ then) →
-          Goal (mode p gaps c is loc) s o all (execs t (n - e) ++ then)
-      exec_first s' o' rest' ms st f h m g = let lt = to_come in let q : suc (n - suc e) ≡ n - e = omega arith in
-          subst (λ x. Goal (mode p gaps c is loc) s o all (execs t x ++ then)) q (first_step (mode p gaps c is loc) (Exec t) (execs t (n - suc e) ++ then) s s' o o' all rest' ms st f h m g)
-
       once_more : (s' : State) (o' : Origins) → step p (mode p gaps c is loc) s (Exec t) ≡ Some s' → origins_after p (mode p gaps c is loc) s o (Exec t) ≡ o' →
           marks_at p (mode p gaps c is loc) s o (Exec t) ≡ [] → Others s' o' → Here s' o' k (suc e) → Shares s' o' → Goal (mode p gaps c is loc) s o all (execs t (n - e) ++ then)
-      once_more s' o' st f m a x h = let lt = to_come in exec_first s' o' all [] st f m refl (again s' o' a x h (omega arith))
+      once_more s' o' st f m a x h = let lt = to_come (mode p gaps c is loc) (λ b. Unit {0}) t i rest y here done n made labels (λ s o u. ih s o) k e s o tt others mine shared ge low high in
+          exec_first (mode p gaps c is loc) (λ b. Unit {0}) t i rest y here done n made labels (λ s o u. ih s o) k e s o tt others mine shared ge low high then s' o' all [] st f m refl (again s' o' a x h (omega arith))
 
       clear_by : ((x : Access) → x.section ≤ mine.section → KeepsOrder x y) → s.buffers t ≡ []
       clear_by = clear p gaps c is loc t i rest y here (s.locals t) (s.buffers t) (o.waiting t) (o.made t) s.memory o.memory (suc k) e mine shared ge
@@ -158,9 +222,6 @@ module _ (p : Listing) (gaps : Gaps) (c : Candidate) (is : IsCandidate p (StoreB
 
       m_above : mine.section ≤ m
       m_above = above (gaps t (s.locals t).place) mine.section
-
-      none_left : (given : List ℕ) (labels : List Label) → stopped (s.locals t) given ≡ left p gaps c is loc t mine.done → Goal (mode p gaps c is loc) s o all labels
-      none_left given labels e = absurd (drop_none mine.done i (acc p gaps c is loc t) y (sym (ap (λ (z : Trace). z.accesses) e)) here ge)
 
       others_at : (next : Local) → (u : ℕ) → (u ≡ t → ⊥) → (k : ℕ) × Stand p gaps c is loc u (put s.locals t next u) (s.buffers u) (o.waiting u) (o.made u) all k (done u)
       others_at next u n = let (k, x) = others u n in (k, rw (put_other s.locals t next u n) x)
@@ -173,48 +234,19 @@ module _ (p : Listing) (gaps : Gaps) (c : Candidate) (is : IsCandidate p (StoreB
             (mine.behind mine.done a b (omega arith)) (omega arith) (inl r))
       ]
 
-      is_y : (a : Access) → slice_get (acc p gaps c is loc t) mine.done ≡ Some a → mine.done ≡ i → a ≡ y
-      is_y a b q = same_Some a y (sym b ∙ (ap (slice_get (acc p gaps c is loc t)) q ∙ here))
+      -- what a read finds, and by which write
+      value_of : (l v : ℕ) → y.location ≡ l → y.read ≡ Some v → mine.done ≡ i → found (newest l (s.buffers t)) (s.memory l) ≡ v
+      value_of l v there reads now = subst (λ z. found (newest z (s.buffers t)) (s.memory z) ≡ v) there
+          (right_value p gaps c is loc t i rest y here (s.locals t) (s.buffers t) (o.waiting t) (o.made t) s.memory o.memory (suc k) e mine shared v reads now)
 
-      -- the event is made by the next instruction
-      is_n : MadeNext p gaps c is loc t mine.done e → mine.done ≡ i → suc e ≡ n
-      is_n a q = same_Some (suc e) n (sym a ∙ (ap (slice_get (steps_by p c.given t).accesses) q ∙ made))
-
-      -- the event is a read or an exchange, and its turn is now
-      leaves : (next : Local) (v x : ℕ) (memory : ℕ → ℕ) (origins : ℕ → Event) (given : List ℕ) → y.read ≡ Some v → mine.section ≤ x → mine.done ≡ i →
-          trace (action p.threads t) (gaps t) k x next given ≡ left p gaps c is loc t (suc mine.done) →
-          steps (action p.threads t) k (suc e) next given ≡ steps_from p gaps c is loc t (suc mine.done) → MadeNext p gaps c is loc t mine.done e →
-          ((l : ℕ) → Has p gaps c is loc rest l (memory l) (origins l)) →
-          Goal (mode p gaps c is loc) (record s { locals = put s.locals t next; memory = memory }) (record o { made = put o.made t (suc (o.made t)); memory = origins }) rest (execs t (n - suc e) ++ then)
-      leaves next v x memory origins given reads h d f g a has =
-          let s' : State = record s { locals = put s.locals t next; memory = memory } in
-          let o' : Origins = record o { made = put o.made t (suc (o.made t)); memory = origins } in
-          let now : suc e ≡ n = is_n a d in
-          let none : 0 ≡ n - suc e = omega arith in
-          let count : suc e ≡ after_it = omega arith in
-          subst (λ z. Goal (mode p gaps c is loc) s' o' rest (execs t z ++ then)) none
-          (subst (λ r. Goal (mode p gaps c is loc) s' o' rest (flush_of r t ++ labels)) (sym reads)
-          (ih s' o' (record {
-            threads = λ u. elim (cases_eq u t) [
-              | inl q ↦ subst (λ z. (k : ℕ) × Stand p gaps c is loc z (put s.locals t next z) (s.buffers z) (o.waiting z) (put o.made t (suc (o.made t)) z) rest k (put done t after_it z)) (sym q) (
-                k,
-                rw (put_same s.locals t next, put_same o.made t (suc (o.made t)), put_same done t after_it)
-                    (subst (λ z. Stand p gaps c is loc t next (s.buffers t) (o.waiting t) (suc (o.made t)) rest k z) count
-                    (read_stands p gaps c is loc t i (s.locals t) (s.buffers t) (o.waiting t) (o.made t) rest (suc k) e mine next k x given h d shared.distinct.0 f g a)),
-              )
-              | inr n ↦ (let (k, x) = others u n in (
-                k,
-                rw (put_other s.locals t next u n, put_other o.made t (suc (o.made t)) u n, put_other done t after_it u n)
-                    (other_stands p gaps c is loc t i u n (s.locals u) (s.buffers u) (o.waiting u) (o.made u) rest k (done u) x),
-              ))
-            ];
-            shared = shared_next p gaps c is loc (At t i) rest s.memory memory o.memory origins shared has;
-          })))
+      write_of : (l v : ℕ) → y.location ≡ l → y.read ≡ Some v → mine.done ≡ i → found_write l (o.waiting t) (o.memory l) ≡ c.source (At t i)
+      write_of l v there reads now = subst (λ z. found_write z (o.waiting t) (o.memory z) ≡ c.source (At t i)) there
+          (right_write p gaps c is loc t i rest y here (s.locals t) (s.buffers t) (o.waiting t) (o.made t) s.memory o.memory (suc k) e mine shared v reads now)
 
       on_action : (a : Action) → action p.threads t (s.locals t) ≡ a → (given : List ℕ) →
           traced (trace (action p.threads t) (gaps t) k) m (s.locals t) a given ≡ left p gaps c is loc t mine.done →
           counted (steps (action p.threads t) k) e a given ≡ steps_from p gaps c is loc t mine.done → Goal (mode p gaps c is loc) s o all (execs t (n - e) ++ then)
-      on_action Stop q given e f = none_left given _ e
+      on_action Stop q given h f = none_left (mode p gaps c is loc) (λ b. Unit {0}) t i rest y here done n made labels (λ s o u. ih s o) k e s o tt others mine shared ge low high given _ h
       on_action (Go next) q given h f =
           once_more (record s { locals = put s.locals t next }) o (exec_ok p gaps s _ t gap_free (rw q refl)) (ap (buffered_origins o t) q) (ap (buffered_marks s o t) q) (others_at next)
           (rw put_same (quiet_stands p gaps c is loc t (s.locals t) (s.buffers t) (o.waiting t) (o.made t) all (suc k) e mine next k m given m_above h f)) shared
@@ -241,58 +273,37 @@ module _ (p : Listing) (gaps : Gaps) (c : Candidate) (is : IsCandidate p (StoreB
           (write_stands p gaps c is loc t (s.locals t) (s.buffers t) (o.waiting t) (o.made t) all (suc k) e mine next k m l v given m_above a g d b)) shared
       on_action (Read l to next) q (v ∷ given) h f =
           let x : Access = record { section = m; location = l; read = Some v; written = None } in
-          let (a, g) = tail_plays x (trace (action p.threads t) (gaps t) k m (loaded to v next) given) t mine.done h in
-          let (b, d) = tail_counts (suc e) mine.done (steps (action p.threads t) k (suc e) (loaded to v next) given) (steps_by p c.given t) f in
-          let now : mine.done ≡ i = is_now x a refl in
-          let same : x ≡ y = is_y x a now in
-          let reads : y.read ≡ Some v = sym (ap (λ (z : Access). z.read) same) in
+          let now : mine.done ≡ i = is_now x (tail_plays x (trace (action p.threads t) (gaps t) k m (loaded to v next) given) t mine.done h).0 refl in
+          let same : x ≡ y = is_y (mode p gaps c is loc) (λ b. Unit {0}) t i rest y here done n made labels (λ s o u. ih s o) k e s o tt others mine shared ge low high x (trace (action p.threads t) (gaps t) k m (loaded to v next) given) h now in
           let there : y.location ≡ l = sym (ap (λ (z : Access). z.location) same) in
-          let value : found (newest l (s.buffers t)) (s.memory l) ≡ v = subst (λ z. found (newest z (s.buffers t)) (s.memory z) ≡ v) there
-          (right_value p gaps c is loc t i rest y here (s.locals t) (s.buffers t) (o.waiting t) (o.made t) s.memory o.memory (suc k) e mine shared v reads now) in
-          let write : found_write l (o.waiting t) (o.memory l) ≡ c.source (At t i) = subst (λ z. found_write z (o.waiting t) (o.memory z) ≡ c.source (At t i)) there
-          (right_write p gaps c is loc t i rest y here (s.locals t) (s.buffers t) (o.waiting t) (o.made t) s.memory o.memory (suc k) e mine shared v reads now) in
+          let reads : y.read ≡ Some v = sym (ap (λ (z : Access). z.read) same) in
+          let value : found (newest l (s.buffers t)) (s.memory l) ≡ v = value_of l v there reads now in
+          let write : found_write l (o.waiting t) (o.memory l) ≡ c.source (At t i) = write_of l v there reads now in
           let it : o.made t ≡ i = mine.count_is ∙ now in
-          exec_first (record s { locals = put s.locals t (loaded to v next) }) (with_made o t) rest (Takes (At t i) v (c.source (At t i)) ∷ [])
+          subst (λ r. Goal (mode p gaps c is loc) s o all (execs t (n - e) ++ (flush_of r t ++ labels))) (sym reads)
+          (meets (mode p gaps c is loc) (λ b. Unit {0}) t i rest y here done n made labels (λ s o u. ih s o) k e s o tt others mine shared ge low high x (loaded to v next) m given s.memory o.memory m_above now h f
           (exec_ok p gaps s _ t gap_free (rw q (ap (λ v. Some (record s { locals = put s.locals t (loaded to v next) })) value)))
           (ap (buffered_origins o t) q) (ap (buffered_marks s o t) q ∙ (λ j. Takes (At t (it j)) (value j) (write j) ∷ []))
-          (shown_first (at p gaps c is loc) c (At t i) rest y (Some v) None here reads (sym (ap (λ (z : Access). z.written) same)))
-          (leaves (loaded to v next) v m s.memory o.memory given reads m_above now g d b
-          (λ l. has_still p gaps c is loc (At t i) rest l (s.memory l) (o.memory l) (shared.has l)
-          (λ v b. let z : b.0 ≡ y = same_Some b.0 y (sym b.1 ∙ here) in
-          let k : None ≡ Some v = ap (λ (z : Access). z.written) (same ∙ sym z) ∙ b.3 in cc)))
+          (has_read (mode p gaps c is loc) (λ b. Unit {0}) t i rest y here done n made labels (λ s o u. ih s o) k e s o tt others mine shared ge low high (sym (ap (λ (z : Access). z.written) same))))
       on_action (Swap l w to next) q (v ∷ given) h f =
           let x : Access = record { section = m; location = l; read = Some v; written = Some w } in
-          let (a, g) = tail_plays x (trace (action p.threads t) (gaps t) k (suc m) (loaded to v next) given) t mine.done h in
-          let (b, d) = tail_counts (suc e) mine.done (steps (action p.threads t) k (suc e) (loaded to v next) given) (steps_by p c.given t) f in
-          let now : mine.done ≡ i = is_now x a refl in
-          let same : x ≡ y = is_y x a now in
+          let now : mine.done ≡ i = is_now x (tail_plays x (trace (action p.threads t) (gaps t) k (suc m) (loaded to v next) given) t mine.done h).0 refl in
+          let same : x ≡ y = is_y (mode p gaps c is loc) (λ b. Unit {0}) t i rest y here done n made labels (λ s o u. ih s o) k e s o tt others mine shared ge low high x (trace (action p.threads t) (gaps t) k (suc m) (loaded to v next) given) h now in
+          let there : y.location ≡ l = sym (ap (λ (z : Access). z.location) same) in
           let reads : y.read ≡ Some v = sym (ap (λ (z : Access). z.read) same) in
           let writes : y.written ≡ Some w = sym (ap (λ (z : Access). z.written) same) in
           let empty : s.buffers t ≡ [] = clear_by (λ x h. inr (inl (rw writes refl))) in
-          let there : y.location ≡ l = sym (ap (λ (z : Access). z.location) same) in
-          let first : found (newest l (s.buffers t)) (s.memory l) ≡ v = subst (λ z. found (newest z (s.buffers t)) (s.memory z) ≡ v) there
-          (right_value p gaps c is loc t i rest y here (s.locals t) (s.buffers t) (o.waiting t) (o.made t) s.memory o.memory (suc k) e mine shared v reads now) in
-          let value : s.memory l ≡ v = sym (ap (λ b. found (newest l b) (s.memory l)) empty) ∙ first in
-          let source : found_write l (o.waiting t) (o.memory l) ≡ c.source (At t i) = subst (λ z. found_write z (o.waiting t) (o.memory z) ≡ c.source (At t i)) there
-          (right_write p gaps c is loc t i rest y here (s.locals t) (s.buffers t) (o.waiting t) (o.made t) s.memory o.memory (suc k) e mine shared v reads now) in
+          let value : s.memory l ≡ v = sym (ap (λ b. found (newest l b) (s.memory l)) empty) ∙ value_of l v there reads now in
           let none : o.waiting t ≡ [] = no_waits p gaps c is loc t i rest y here (s.locals t) (s.buffers t) (o.waiting t) (o.made t) s.memory o.memory (suc k) e mine shared empty in
-          let write : o.memory l ≡ c.source (At t i) = sym (ap (λ b. found_write l b (o.memory l)) none) ∙ source in
+          let write : o.memory l ≡ c.source (At t i) = sym (ap (λ b. found_write l b (o.memory l)) none) ∙ write_of l v there reads now in
           let it : o.made t ≡ i = mine.count_is ∙ now in
-          exec_first (record s { locals = put s.locals t (loaded to v next); memory = put s.memory l w }) (with_made (with_memory o l (At t i)) t) rest
-          (Takes (At t i) v (c.source (At t i)) ∷ Arrives (At t i) ∷ [])
+          subst (λ r. Goal (mode p gaps c is loc) s o all (execs t (n - e) ++ (flush_of r t ++ labels))) (sym reads)
+          (meets (mode p gaps c is loc) (λ b. Unit {0}) t i rest y here done n made labels (λ s o u. ih s o) k e s o tt others mine shared ge low high x (loaded to v next) (suc m) given (put s.memory l w) (put o.memory l (At t i)) (let z = m_above in omega arith) now h f
           (exec_ok p gaps s _ t gap_free (rw q (ap (λ b. when_empty b (record s { locals = put s.locals t (loaded to (s.memory l) next); memory = put s.memory l w })) empty ∙
           ap (λ v. Some (record s { locals = put s.locals t (loaded to v next); memory = put s.memory l w })) value)))
           (ap (buffered_origins o t) q ∙ (λ j. with_made (with_memory o l (At t (it j))) t)) (ap (buffered_marks s o t) q ∙ (λ j. Takes (At t (it j)) (value j) (write j) ∷ Arrives (At t (it j)) ∷ []))
-          (shown_first (at p gaps c is loc) c (At t i) rest y (Some v) (Some w) here reads writes)
-          (leaves (loaded to v next) v (suc m) (put s.memory l w) (put o.memory l (At t i)) given reads (let z = m_above in omega arith) now g d b
-          (λ k. elim (cases_eq k l) [
-            | inl q ↦ subst (λ z. Has p gaps c is loc rest z (put s.memory l w z) (put o.memory l (At t i) z)) (sym q)
-                (rw (put_same s.memory l w, put_same o.memory l (At t i)) (has_new p gaps c is loc (At t i) rest s.memory o.memory l w shared (y, here, sym (ap (λ (z : Access). z.location) same), writes)))
-            | inr n ↦ rw (put_other s.memory l w k n, put_other o.memory l (At t i) k n) (has_still p gaps c is loc (At t i) rest k (s.memory k) (o.memory k) (shared.has k)
-                (λ v b. n (let z : b.0 ≡ y = same_Some b.0 y (sym b.1 ∙ here) in
-                sym b.2 ∙ ap (λ (z : Access). z.location) (z ∙ sym same))))
-          ]))
-      on_action a q [] h f = none_left [] _ h
+          (λ r. has_written (mode p gaps c is loc) (λ b. Unit {0}) t i rest y here done n made labels (λ s o u. ih s o) k e s o tt others mine shared ge low high l w r there writes))
+      on_action a q [] h f = none_left (mode p gaps c is loc) (λ b. Unit {0}) t i rest y here done n made labels (λ s o u. ih s o) k e s o tt others mine shared ge low high [] _ h
 
     -- the event has been executed already, and waits in the buffer
     executed : (s : State) (o : Origins) (k e : ℕ) → Others s o → (mine : Here s o k e) → Shares s o → i < mine.done →

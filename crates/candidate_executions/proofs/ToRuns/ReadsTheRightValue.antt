@@ -1,13 +1,13 @@
 -- A read finds its source's value in memory or in its thread's buffer.
-use Rattle.std.proofs.Common.{◌≡◌, ◌≢◌, ℕ, ◌<◌, ◌≤◌, List, [], ◌∷◌, ◌⊎◌, Option, Some, None, option_map, slice_get, map, refl, sym, ap, ap₂, ◌∙◌, subst, inl, inr, arith}
-use Rattle.candidate_executions.proofs.Vocabulary.{cases_eq, cases_order, same_Some, slice_get-map, Listing, Local, Gaps, StoreBufferMachine, newest, found, Pending, Access, Event, Initial, At}
-use Rattle.candidate_executions.proofs.Vocabulary.{Candidate, IsCandidate, SameThread, KeepsOrder, Edge, IsAcyclic, found_write}
+use Rattle.candidate_executions.proofs.Vocabulary.{◌≡◌, ◌≢◌, ℕ, ◌<◌, ◌≤◌, List, [], ◌∷◌, ◌⊎◌, Option, Some, None, option_map, slice_get, map, refl, sym, ap, ap₂, ◌∙◌, subst, inl, inr, arith, cases_eq, cases_order, same_Some, slice_get-map, Listing, Local}
+use Rattle.candidate_executions.proofs.Vocabulary.{length, Gaps, StoreBufferMachine, newest, found, Pending, Access, Event, Initial, At, Candidate, IsCandidate, SameThread, KeepsOrder, Edge, IsAcyclic, found_write}
 use Rattle.candidate_executions.specs.declared.event.Kind.TheVariants as union
-use Rattle.candidate_executions.proofs.FromRuns.FoundWrites.{NoneFound, NewestFound, found_cases}
+use Rattle.candidate_executions.proofs.FromRuns.FoundWrites.{AreTagged, none_found, newest_found}
+use Rattle.std.proofs.lemmas.List.{length-map}
 use Rattle.candidate_executions.proofs.FromRuns.NewestStore.{Found, newest_none, newest_some}
 use Rattle.candidate_executions.proofs.Orders.AcyclicIsOrdered.{In}
 use Rattle.candidate_executions.proofs.Candidates.WrittenValues.{stored_as, store_of, in_or_not, get_mapped, some_written}
-use Rattle.candidate_executions.proofs.ToRuns.Standing.{at, G, Lo, W, kept_edge, place_edge, write_lo, write_g, from_lo, from_g, reads_lo, reads_g, same_value, two_lo, store, own, Stands, Has, Shared}
+use Rattle.candidate_executions.proofs.ToRuns.Standing.{at, G, Lo, W, place_edge, write_g, same_value, two_lo, store, own, Stands, Has, Shared}
 
 module _ (p : Listing) (gaps : Gaps) (c : Candidate) (is : IsCandidate p (StoreBufferMachine gaps) c) (loc : IsAcyclic (Edge p (StoreBufferMachine gaps) c union.Location)) where
   module _ (t i : ℕ) (rest : List Event) (y : Access) (here : at p gaps c is loc (At t i) ≡ Some y) (local : Local) (buffer : List Pending) (waits : List (ℕ × Event)) (count : ℕ) (memory : ℕ → ℕ) (origins : ℕ → Event) (fuel executed : ℕ)
@@ -16,7 +16,7 @@ module _ (p : Listing) (gaps : Gaps) (c : Candidate) (is : IsCandidate p (StoreB
     pub not_kept : (j : ℕ) (x : Access) → at p gaps c is loc (At t j) ≡ Some x → In (At t j) (At t i ∷ rest) → j < i → KeepsOrder x y → ⊥
     not_kept j x a b n k = elim b [
       | inl q ↦ (let z : j ≡ i = cc in omega arith)
-      | inr m ↦ shared.ordered.0 (At t j) m (kept_edge p gaps c is loc t j i x y a here n k)
+      | inr m ↦ shared.ordered.0 (At t j) m (x, y, a, here, inl ((refl, n), k))
     ]
 
     -- so the buffer is empty where all are kept
@@ -67,12 +67,12 @@ module _ (p : Listing) (gaps : Gaps) (c : Candidate) (is : IsCandidate p (StoreB
               | inr (inr r) ↦ absurd (
                   let f : from ≡ At t m = e ∙ ap (λ z. At z m) q in
                   let w : W p gaps c is loc (At t m) y.location v = subst (λ z. W p gaps c is loc z y.location v) f from_writes in
-                  two_lo p gaps c is loc me (At t m) (place_edge p gaps c is loc t i m y w.0 here w.1 r (sym w.2)) (subst (λ z. Lo p gaps c is loc z me) f (reads_lo p gaps c is loc me y v here reads)))
+                  two_lo p gaps c is loc me (At t m) (place_edge p gaps c is loc t i m y w.0 here w.1 r (sym w.2)) (subst (λ z. Lo p gaps c is loc z me) f (from_writes.0, y, from_writes.1, here, inr (inl (rw reads refl, refl)))))
             ]
             | inr n ↦ inl (λ z. elim z [
               | inl q ↦ not_me (e ∙ q)
               | inr k ↦ shared.ordered.0 (At u m) k (subst (λ x. G p gaps c is loc x me) e
-                  (reads_g p gaps c is loc me y v here reads (λ same. n (subst (λ x. SameThread x me) e same))))
+                  (from_writes.0, y, from_writes.1, here, inr (inl ((rw reads refl, refl), (λ same. n (subst (λ x. SameThread x me) e same))))))
             ])
           ]
 
@@ -86,7 +86,7 @@ module _ (p : Listing) (gaps : Gaps) (c : Candidate) (is : IsCandidate p (StoreB
           elim (cases_order (c.rank from) (c.rank (At t j))) [
             | inl e ↦ is.ranks from (At t j) y.location v (stored_as x.written) from_writes w e
             | inr (inl o) ↦ absurd (two_lo p gaps c is loc me (At t j)
-                (from_lo p gaps c is loc me (At t j) y y.location (stored_as x.written) here (rw reads refl) refl w (λ e. let z : i ≡ j = cc in omega arith) o)
+                (y, x, here, b, inr (inr (inr (sym l, rw reads refl, some, (λ e. let z : i ≡ j = cc in omega arith), o))))
                 (place_edge p gaps c is loc t j i x y b here (omega arith) l))
             | inr (inr o) ↦ elim source_cases [
               | inl past ↦ absurd (shared.closed from (At t j) past waits (write_g p gaps c is loc (At t j) from y.location (stored_as x.written) v w from_writes o))
@@ -98,7 +98,7 @@ module _ (p : Listing) (gaps : Gaps) (c : Candidate) (is : IsCandidate p (StoreB
                     | inl e ↦ (let z : m ≡ j = same_Some m j (sym g ∙ (ap (slice_get mine.queue) e ∙ a)) in f ∙ ap (At t) z)
                     | inr ne ↦ absurd (let lt : m < j = mine.rising r q m j (omega arith) g a in
                         two_lo p gaps c is loc (At t m) (At t j) (place_edge p gaps c is loc t m j fw.0 x fw.1 b lt (fw.2 ∙ sym l))
-                        (subst (λ z. Lo p gaps c is loc (At t j) z) f (write_lo p gaps c is loc (At t j) from y.location (stored_as x.written) v w from_writes o)))
+                        (subst (λ z. Lo p gaps c is loc (At t j) z) f (x, from_writes.0, b, from_writes.1, inr (inr (inl (l ∙ sym from_writes.2, some, rw from_writes.3 refl, o))))))
                   ])
             ]
           ]
@@ -117,7 +117,7 @@ module _ (p : Listing) (gaps : Gaps) (c : Candidate) (is : IsCandidate p (StoreB
             elim (cases_eq (c.rank from) (c.rank has.event)) [
               | inl e ↦ is.ranks from has.event y.location v (memory y.location) from_writes has.writes e
               | inr ne ↦ absurd (shared.closed has.event me has.past (inl refl)
-                  (from_g p gaps c is loc me has.event y y.location (memory y.location) here (rw reads refl) refl has.writes (λ e. has.past (inl (sym e))) (omega arith)))
+                  (y, has.writes.0, here, has.writes.1, inr (inr (inr (sym has.writes.2, rw reads refl, rw has.writes.3 refl, (λ e. has.past (inl (sym e))), omega arith)))))
             ])
         | inr own ↦ absurd (let (m, f, n, k) = own in
             let fw : W p gaps c is loc (At t m) y.location v = subst (λ z. W p gaps c is loc z y.location v) f from_writes in
@@ -125,43 +125,50 @@ module _ (p : Listing) (gaps : Gaps) (c : Candidate) (is : IsCandidate p (StoreB
             none r m fw.0 g fw.1 fw.2)
       ]
 
-      is_memory : None_waits → memory y.location ≡ v
-      is_memory none = same_value p gaps c is loc has.event y.location v (memory y.location) (subst (λ z. W p gaps c is loc z y.location v) (from_memory none) from_writes) has.writes
+      at_place : (q j : ℕ) → slice_get mine.queue q ≡ Some j → slice_get buffer q ≡ Some (store p gaps c is loc t j)
+      at_place q j a = rw mine.buffer_is (slice_get-map (store p gaps c is loc t) mine.queue q ∙ ap (option_map (store p gaps c is loc t)) a)
+
+      -- each store that waits has its event
+      tag_at : (q j : ℕ) (w : Pending) → slice_get mine.queue q ≡ Some j → store p gaps c is loc t j ≡ w → slice_get waits q ≡ Some (w.location, At t j)
+      tag_at q j w a e =
+          rw mine.waits_are (slice_get-map (own p gaps c is loc t) mine.queue q ∙ (ap (option_map (own p gaps c is loc t)) a ∙ ap (λ (z : Pending). Some (z.location, At t j)) e))
+
+      tags : AreTagged buffer waits
+      tags q w a = let (j, b, e) = get_mapped (store p gaps c is loc t) mine.queue q w (rw (← mine.buffer_is) a) in (At t j, tag_at q j w b e)
+
+      long : length waits ≡ length buffer
+      long = ap length mine.waits_are ∙ (length-map mine.queue (own p gaps c is loc t) ∙ (sym (length-map mine.queue (store p gaps c is loc t)) ∙ sym (ap length mine.buffer_is)))
+
+      -- the source is in memory where none to the location waits
+      not_waiting : newest y.location buffer ≡ None → from ≡ has.event
+      not_waiting e = from_memory (λ q j x a b l. newest_none y.location buffer e q (store p gaps c is loc t j) (at_place q j a) (rw b l))
+
+      -- and else the newest that waits
+      waiting : (u : ℕ) (f : Found y.location buffer u) → (j : ℕ) × (slice_get mine.queue f.place ≡ Some j) × (store p gaps c is loc t j ≡ f.store) × (from ≡ At t j)
+      waiting u f =
+          let (j, a, g) = get_mapped (store p gaps c is loc t) mine.queue f.place f.store (rw (← mine.buffer_is) f.at) in
+          let (x, b) = shared.known t j (mine.queued f.place j a).1 in
+          let st : store_of (Some x) ≡ f.store = subst (λ z. store_of z ≡ f.store) b g in
+          (j, a, g, is_newest f.place j a x b (ap (λ (z : Pending). z.location) st ∙ f.location) (λ r m z d h k. f.last r (store p gaps c is loc t m) (at_place r m d) (rw h k)))
 
       -- the write that the read finds is its source
       pub right_write : found_write y.location waits (origins y.location) ≡ from
-      right_write = ap (λ ws. found_write y.location ws (origins y.location)) mine.waits_are ∙ go (found_cases location_of (At t) y.location mine.queue (origins y.location))
+      right_write = go (newest y.location buffer) refl
         where
-          location_of : ℕ → ℕ
-          location_of j = (store p gaps c is loc t j).location
-
-          go : NoneFound location_of (At t) y.location mine.queue (origins y.location) ⊎ NewestFound location_of (At t) y.location mine.queue (origins y.location) →
-              found_write y.location (map (own p gaps c is loc t) mine.queue) (origins y.location) ≡ from
-          go (inl f) = f.1 ∙ (has.origin_is ∙ sym (from_memory (λ q j x a b l. f.0 q j a (ap (λ o. (store_of o).location) b ∙ l))))
-          go (inr f) =
-              let (x, b) = shared.known t f.index (mine.queued f.place f.index f.at).1 in
-              let located : (store p gaps c is loc t f.index).location ≡ x.location = ap (λ o. (store_of o).location) b in
-              f.found_is ∙ sym (is_newest f.place f.index f.at x b (sym located ∙ f.location) (λ r m z d h k. f.last r m d (ap (λ o. (store_of o).location) h ∙ k)))
+          go : (o : Option ℕ) → newest y.location buffer ≡ o → found_write y.location waits (origins y.location) ≡ from
+          go None e = none_found y.location buffer waits long tags (newest_none y.location buffer e) (origins y.location) ∙ (has.origin_is ∙ sym (not_waiting e))
+          go (Some u) e =
+              let f = newest_some y.location buffer u e in
+              let (j, a, g, is_it) = waiting u f in
+              newest_found y.location buffer waits f.place f.store (At t j) long tags f.at f.location f.last (tag_at f.place j f.store a g) (origins y.location) ∙ sym is_it
 
       pub right_value : found (newest y.location buffer) (memory y.location) ≡ v
       right_value = go (newest y.location buffer) refl
         where
-          at_place : (q j : ℕ) → slice_get mine.queue q ≡ Some j → slice_get buffer q ≡ Some (store p gaps c is loc t j)
-          at_place q j a = rw mine.buffer_is (slice_get-map (store p gaps c is loc t) mine.queue q ∙ ap (option_map (store p gaps c is loc t)) a)
-
           go : (o : Option ℕ) → newest y.location buffer ≡ o → found o (memory y.location) ≡ v
-          go None e = is_memory (λ q j x a b l. newest_none y.location buffer e q (store p gaps c is loc t j) (at_place q j a) (rw b l))
-          go (Some u) e = at_found (newest_some y.location buffer u e)
-            where
-              at_found : Found y.location buffer u → u ≡ v
-              at_found f =
-                  let (j, a, g) = get_mapped (store p gaps c is loc t) mine.queue f.place f.store (rw (← mine.buffer_is) f.at) in
-                  let (x, b) = shared.known t j (mine.queued f.place j a).1 in
-                  let st : store_of (Some x) ≡ f.store = subst (λ z. store_of z ≡ f.store) b g in
-                  let l : x.location ≡ y.location = ap (λ (z : Pending). z.location) st ∙ f.location in
-                  let is_it : from ≡ At t j = is_newest f.place j a x b l
-                  (λ r m z d h k. f.last r (store p gaps c is loc t m) (at_place r m d) (rw h k)) in
-                  let w : W p gaps c is loc (At t j) y.location v = subst (λ z. W p gaps c is loc z y.location v) is_it from_writes in
-                  let same : w.0 ≡ x = same_Some w.0 x (sym w.1 ∙ b) in
-                  let wr : x.written ≡ Some v = sym (ap (λ (z : Access). z.written) same) ∙ w.3 in
-                  sym f.value ∙ (sym (ap (λ (z : Pending). z.value) st) ∙ ap stored_as wr)
+          go None e = same_value p gaps c is loc has.event y.location v (memory y.location) (subst (λ z. W p gaps c is loc z y.location v) (not_waiting e) from_writes) has.writes
+          go (Some u) e =
+              let f = newest_some y.location buffer u e in
+              let (j, a, g, is_it) = waiting u f in
+              let w : W p gaps c is loc (At t j) y.location v = subst (λ z. W p gaps c is loc z y.location v) is_it from_writes in
+              sym f.value ∙ (ap (λ (z : Pending). z.value) (sym g ∙ ap store_of w.1) ∙ ap stored_as w.3)

@@ -1,16 +1,15 @@
 -- After the last event each thread comes to its end, and so the run follows the whole order.
-use Rattle.std.proofs.Common.{◌≡◌, ℕ, suc, zero, ◌+◌, ◌-◌, ◌<◌, ◌≤◌, ◌⊎◌, List, [], ◌∷◌, ◌++◌, Some, slice_get, slice_index, map, drop, refl, sym, ap, ◌∙◌, subst, inl, inr, arith, length}
+use Rattle.candidate_executions.proofs.Vocabulary.{◌≡◌, ℕ, suc, zero, ◌+◌, ◌-◌, ◌<◌, ◌≤◌, ◌⊎◌, List, [], ◌∷◌, ◌++◌, Some, slice_get, slice_index, map, drop, refl, sym, ap, ◌∙◌, subst, inl, inr, arith, length, cases_eq, Access, Listing, act, Local, Action}
+use Rattle.candidate_executions.proofs.Vocabulary.{Stop, Go, Wait, Read, Write, Swap, action, start_of, code_of, Gaps, Machine, put, StoreBufferMachine, State, when_empty, step, Label, Exec, Event, Initial, At, Candidate, IsCandidate, EndsWith, Trace, trace}
+use Rattle.candidate_executions.proofs.Vocabulary.{traced, entered, Edge, IsAcyclic, Origins, buffered_origins, buffered_marks, origins_after, marks_at}
 use Rattle.std.proofs.lemmas.Option.{slice_get_within, get_or_from_slice_get}
-use Rattle.candidate_executions.proofs.Vocabulary.{cases_eq, Access, Listing, act, Local, Action, Stop, Go, Wait, Read, Write, Swap, action, start_of, code_of, Gaps, Machine, put, StoreBufferMachine}
-use Rattle.candidate_executions.proofs.Vocabulary.{State, when_empty, step, Label, Exec, Event, Initial, At, Candidate, IsCandidate, EndsWith, Trace, trace, traced, entered, Edge, IsAcyclic, Origins}
-use Rattle.candidate_executions.proofs.Vocabulary.{buffered_origins, buffered_marks, origins_after, marks_at}
 use Rattle.candidate_executions.specs.declared.event.Kind.TheVariants as union
 use Rattle.candidate_executions.specs.Orders.{Steps, steps, steps_by, counted, execs, flushes, to_ends, labels_along}
 use Rattle.candidate_executions.proofs.Orders.Lists.{put_same, put_other, get_some}
 use Rattle.candidate_executions.proofs.FromRuns.MachineSteps.{exec_ok}
 use Rattle.candidate_executions.proofs.ToRuns.StepsCounted.{all_above, same_length}
 use Rattle.candidate_executions.proofs.ToRuns.Standing.{at, acc, store, steps_from}
-use Rattle.candidate_executions.proofs.ToRuns.StandingOn.{mode, final, left, Stand}
+use Rattle.candidate_executions.proofs.ToRuns.StandingOn.{mode, final, Stand}
 use Rattle.candidate_executions.proofs.ToRuns.EventsAreReached.{Goal, first_step, Sim, reach}
 use Rattle.candidate_executions.proofs.Candidates.AllEvents.{no_code}
 
@@ -82,19 +81,14 @@ module _ (p : Listing) (gaps : Gaps) (c : Candidate) (is : IsCandidate p (StoreB
           go one (Go next) q g f h = again one (entered (gaps m (s.locals m).place) n) next g (inl q) f h
           go one (Wait next) q g f h = again one (suc (entered (gaps m (s.locals m).place) n)) next g (inr q) f h
           go one (Write l v next) q g f h = absurd (let z = ap (λ (z : Trace). z.accesses) f in cc)
-          go one (Read l to next) q [] f h = at_end s e idle low high (ap (λ (z : Trace). z.last) f) (ap (λ (z : Steps). z.all) h)
           go one (Read l to next) q (v ∷ g) f h = absurd (let z = ap (λ (z : Trace). z.accesses) f in cc)
-          go one (Swap l w to next) q [] f h = at_end s e idle low high (ap (λ (z : Trace). z.last) f) (ap (λ (z : Steps). z.all) h)
           go one (Swap l w to next) q (v ∷ g) f h = absurd (let z = ap (λ (z : Trace). z.accesses) f in cc)
+          go one _ q [] f h = at_end s e idle low high (ap (λ (z : Trace). z.last) f) (ap (λ (z : Steps). z.all) h)
 
     pub finish_all : (m : ℕ) (s : State) → Idle s → ((t : ℕ) → t < m → Lefts s t (done t)) → ((t : ℕ) → m ≤ t → s.locals t ≡ final p gaps c is loc t) → Goal p gaps c is loc machine s o [] (ends_from m)
     finish_all zero s idle low high = (s, refl, ((λ t. (high t (omega arith), idle.empty t)), idle.ends), refl)
     finish_all (suc m) s idle low high = let (k, n, g, e, h) = low m (omega arith) in
         finish_one m (finish_all m) k n (done m) s g idle (λ t h. low t (omega arith)) high e h
-
-  pub nothing_from : (t d k n : ℕ) (local : Local) (g : List ℕ) → trace (action p.threads t) (gaps t) k n local g ≡ left p gaps c is loc t d → drop d (acc p gaps c is loc t) ≡ [] →
-      trace (action p.threads t) (gaps t) k n local g ≡ nothing t
-  nothing_from t d k n local g e h = e ∙ (λ i. record { accesses = h i; last = final p gaps c is loc t; unused = [] })
 
   pub all_dropped : {A : Type 0} (d : ℕ) (xs : List A) → ((i : ℕ) (y : A) → slice_get xs i ≡ Some y → d ≤ i → ⊥) → drop d xs ≡ []
   all_dropped zero [] h = refl
@@ -143,7 +137,7 @@ module _ (p : Listing) (gaps : Gaps) (c : Candidate) (is : IsCandidate p (StoreB
             k,
             x.section,
             x.given,
-            nothing_from t x.done k x.section (s.locals t) x.given x.plays none,
+            (x.plays ∙ (λ i. record { accesses = none i; last = final p gaps c is loc t; unused = [] })),
             none_from t x.done k (done t) (s.locals t) x.given x.counts none,
           )
 

@@ -1,7 +1,6 @@
 -- Where the threads stand in a run that follows the order of a candidate's events.
-use Rattle.std.proofs.Common.{◌≡◌, ◌≢◌, ℕ, ◌<◌, ◌≤◌, List, [], ◌∷◌, Option, Some, None, IsSome, slice_get, map, drop, refl, sym, ap, ◌∙◌, inl, inr}
-use Rattle.candidate_executions.proofs.Vocabulary.{same_Some, Listing, Local, action, Gaps, Machine, StoreBufferMachine, Pending, Access, Event, Initial, At, Candidate, trace_of, access, Writes}
-use Rattle.candidate_executions.proofs.Vocabulary.{IsCandidate, trace, Steps, steps, steps_by, SameThread, KeepsOrder, Edge, IsAcyclic}
+use Rattle.candidate_executions.proofs.Vocabulary.{◌≡◌, ℕ, ◌<◌, ◌≤◌, List, [], ◌∷◌, Option, Some, None, IsSome, slice_get, map, drop, refl, sym, ap, ◌∙◌, inl, inr, same_Some, Listing, Local, action, Gaps, Machine, StoreBufferMachine, Pending, Access}
+use Rattle.candidate_executions.proofs.Vocabulary.{Event, Initial, At, Candidate, trace_of, access, Writes, IsCandidate, trace, Steps, steps, steps_by, Edge, IsAcyclic}
 use Rattle.candidate_executions.specs.declared.event.Kind.TheVariants as union
 use Rattle.candidate_executions.proofs.Orders.AcyclicIsOrdered.{In, Distinct, Ordered}
 use Rattle.candidate_executions.proofs.Candidates.WrittenValues.{store_of}
@@ -26,29 +25,11 @@ module _ (p : Listing) (gaps : Gaps) (c : Candidate) (is : IsCandidate p (StoreB
   W = Writes at
 
   -- edges
-  pub kept_edge : (t j i : ℕ) (x y : Access) → at (At t j) ≡ Some x → at (At t i) ≡ Some y → j < i → KeepsOrder x y → G (At t j) (At t i)
-  kept_edge t j i x y a b n k = (x, y, a, b, inl ((refl, n), k))
-
   pub place_edge : (t j i : ℕ) (x y : Access) → at (At t j) ≡ Some x → at (At t i) ≡ Some y → j < i → x.location ≡ y.location → Lo (At t j) (At t i)
   place_edge t j i x y a b n k = (x, y, a, b, inl ((refl, n), k))
 
-  pub write_lo : (d e : Event) (l v w : ℕ) → W d l v → W e l w → c.rank d < c.rank e → Lo d e
-  write_lo d e l v w a b o = (a.0, b.0, a.1, b.1, inr (inr (inl (a.2 ∙ sym b.2, rw a.3 refl, rw b.3 refl, o))))
-
   pub write_g : (d e : Event) (l v w : ℕ) → W d l v → W e l w → c.rank d < c.rank e → G d e
   write_g d e l v w a b o = (a.0, b.0, a.1, b.1, inr (inr (inl (a.2 ∙ sym b.2, rw a.3 refl, rw b.3 refl, o))))
-
-  pub from_lo : (e d : Event) (y : Access) (l w : ℕ) → at e ≡ Some y → IsSome y.read → y.location ≡ l → W d l w → e ≢ d → c.rank (c.source e) < c.rank d → Lo e d
-  from_lo e d y l w a r k b n o = (y, b.0, a, b.1, inr (inr (inr (k ∙ sym b.2, r, rw b.3 refl, n, o))))
-
-  pub from_g : (e d : Event) (y : Access) (l w : ℕ) → at e ≡ Some y → IsSome y.read → y.location ≡ l → W d l w → e ≢ d → c.rank (c.source e) < c.rank d → G e d
-  from_g e d y l w a r k b n o = (y, b.0, a, b.1, inr (inr (inr (k ∙ sym b.2, r, rw b.3 refl, n, o))))
-
-  pub reads_lo : (e : Event) (y : Access) (v : ℕ) → at e ≡ Some y → y.read ≡ Some v → Lo (c.source e) e
-  reads_lo e y v a r = let s = (is.sources e y v a r).1 in (s.0, y, s.1, a, inr (inl (rw r refl, refl)))
-
-  pub reads_g : (e : Event) (y : Access) (v : ℕ) → at e ≡ Some y → y.read ≡ Some v → (SameThread (c.source e) e → ⊥) → G (c.source e) e
-  reads_g e y v a r n = let s = (is.sources e y v a r).1 in (s.0, y, s.1, a, inr (inl ((rw r refl, refl), n)))
 
   pub same_value : (d : Event) (l a b : ℕ) → W d l a → W d l b → b ≡ a
   same_value d l a b f g = let x : f.0 ≡ g.0 = same_Some f.0 g.0 (sym f.1 ∙ g.1) in

@@ -1,8 +1,7 @@
 -- How the threads stand after a step of the run.
-use Rattle.std.proofs.Common.{◌≡◌, ℕ, suc, zero, ◌<◌, ◌≤◌, List, [], ◌∷◌, ◌++◌, Some, None, IsSome, slice_get, map, drop, refl, sym, ap, ap₂, ◌∙◌, subst, inl, inr, arith, length}
+use Rattle.candidate_executions.proofs.Vocabulary.{◌≡◌, ℕ, suc, zero, ◌<◌, ◌≤◌, List, [], ◌∷◌, ◌++◌, Some, None, IsSome, slice_get, map, drop, refl, sym, ap, ap₂, ◌∙◌, subst, inl, inr, arith, length, cases_lt, cases_eq, same_Some, slice_get_within, Listing}
+use Rattle.candidate_executions.proofs.Vocabulary.{Local, action, Gaps, Machine, StoreBufferMachine, Pending, Access, Event, At, Candidate, trace_of, IsCandidate, Trace, trace, steps, steps_by, Edge, IsAcyclic}
 use Rattle.std.proofs.lemmas.List.{map_push}
-use Rattle.candidate_executions.proofs.Vocabulary.{cases_lt, cases_eq, same_Some, slice_get_within, Listing, Local, action, Gaps, Machine, StoreBufferMachine, Pending, Access, Event, At, Candidate}
-use Rattle.candidate_executions.proofs.Vocabulary.{trace_of, IsCandidate, Trace, trace, steps, steps_by, Edge, IsAcyclic}
 use Rattle.candidate_executions.specs.declared.event.Kind.TheVariants as union
 use Rattle.candidate_executions.proofs.Orders.Lists.{get_end, get_front, get_cases}
 use Rattle.candidate_executions.proofs.Orders.AcyclicIsOrdered.{In}

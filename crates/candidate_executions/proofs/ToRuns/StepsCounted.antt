@@ -1,6 +1,5 @@
 -- The steps of a thread are one for each access of its trace, and rise.
-use Rattle.std.proofs.Common.{◌≡◌, ℕ, suc, zero, ◌<◌, ◌≤◌, List, ◌∷◌, Bool, Some, slice_get, drop, refl, ap, length, arith}
-use Rattle.candidate_executions.proofs.Vocabulary.{same_Some, loaded, Go, Wait, Read, Write, Swap, Action, Local, trace, traced, entered}
+use Rattle.candidate_executions.proofs.Vocabulary.{◌≡◌, ℕ, suc, zero, ◌<◌, ◌≤◌, List, ◌∷◌, Bool, Some, slice_get, drop, refl, ap, length, arith, same_Some, loaded, Go, Wait, Read, Write, Swap, Action, Local, trace, traced, entered}
 use Rattle.candidate_executions.specs.Orders.{Steps, steps, counted, made_at}
 use Rattle.candidate_executions.proofs.Orders.Dropped.{drop_head}
 

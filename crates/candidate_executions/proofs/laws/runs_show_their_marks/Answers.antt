@@ -1,4 +1,4 @@
-use Rattle.std.proofs.Common.{refl}
+use Rattle.candidate_executions.proofs.Vocabulary.{refl}
 use Rattle.candidate_executions.proofs.laws.runs_show_their_marks.Goals as goal
 
 pub returns : goal.returns

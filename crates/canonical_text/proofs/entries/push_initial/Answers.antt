@@ -1,5 +1,4 @@
-use Rattle.std.proofs.Common.{ℕ, List, ◌++◌, codes, ap, ◌∙◌}
-use Rattle.canonical_text.proofs.Vocabulary.{flat_map, text_of, entry_pieces, location_entries, register_entries}
+use Rattle.canonical_text.proofs.Vocabulary.{ℕ, List, ◌++◌, codes, ap, ◌∙◌, flat_map, text_of, entry_pieces, location_entries, register_entries}
 use Rattle.canonical_text.proofs.TextsGrow.{braces}
 use Rattle.canonical_text.proofs.entries.push_initial.Goals as goal
 

@@ -1,5 +1,4 @@
-use Rattle.std.proofs.Common.{ℕ, List, ◌++◌, ap, ◌∙◌}
-use Rattle.canonical_text.proofs.Vocabulary.{text_of, entry_pieces, location_entry}
+use Rattle.canonical_text.proofs.Vocabulary.{ℕ, List, ◌++◌, ap, ◌∙◌, text_of, entry_pieces, location_entry}
 use Rattle.canonical_text.proofs.TextsGrow.{number_more}
 use Rattle.canonical_text.proofs.entries.push_locations.Goals as goal
 

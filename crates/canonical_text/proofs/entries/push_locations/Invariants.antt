@@ -1,5 +1,4 @@
-use Rattle.std.proofs.Common.{◌≡◌, ◌++◌, map}
-use Rattle.canonical_text.proofs.Vocabulary.{flat_map, range_with_len, text_of, entry_pieces, location_entry}
+use Rattle.canonical_text.proofs.Vocabulary.{◌≡◌, ◌++◌, map, flat_map, range_with_len, text_of, entry_pieces, location_entry}
 use Rattle.canonical_text.proofs.entries.push_locations.Given as goal
 
 -- the locations so far

@@ -1,5 +1,4 @@
-use Rattle.std.proofs.Common.{ℕ, List, ◌++◌, ◌+◌, drop, get_or, ap, ◌∙◌, append_assoc}
-use Rattle.canonical_text.proofs.Vocabulary.{flat_map, text_of, Thread, entry_pieces, thread_entries, register_entries}
+use Rattle.canonical_text.proofs.Vocabulary.{ℕ, List, ◌++◌, ◌+◌, drop, get_or, ap, ◌∙◌, append_assoc, flat_map, text_of, Thread, entry_pieces, thread_entries, register_entries}
 use Rattle.canonical_text.proofs.TextsGrow.{thread_more}
 use Rattle.canonical_text.proofs.entries.push_registers.Goals as goal
 

@@ -1,5 +1,4 @@
-use Rattle.std.proofs.Common.{◌≡◌, ◌++◌, drop}
-use Rattle.canonical_text.proofs.Vocabulary.{flat_map, text_of, entry_pieces, register_entries}
+use Rattle.canonical_text.proofs.Vocabulary.{◌≡◌, ◌++◌, drop, flat_map, text_of, entry_pieces, register_entries}
 use Rattle.canonical_text.proofs.entries.push_registers.Given as goal
 
 -- what is written and what is left are the whole

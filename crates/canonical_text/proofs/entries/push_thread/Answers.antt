@@ -1,5 +1,4 @@
-use Rattle.std.proofs.Common.{ℕ, List, ◌++◌, get_or, ap, ◌∙◌}
-use Rattle.canonical_text.proofs.Vocabulary.{flat_map, Eax, text_of, all_registers, entry_pieces, named_entry}
+use Rattle.canonical_text.proofs.Vocabulary.{ℕ, List, ◌++◌, get_or, ap, ◌∙◌, flat_map, Eax, text_of, all_registers, entry_pieces, named_entry}
 use Rattle.canonical_text.proofs.TextsGrow.{element_more}
 use Rattle.canonical_text.proofs.entries.push_thread.Goals as goal
 

@@ -1,5 +1,4 @@
-use Rattle.std.proofs.Common.{◌≡◌, ◌++◌, take}
-use Rattle.canonical_text.proofs.Vocabulary.{flat_map, text_of, all_registers, entry_pieces, named_entry}
+use Rattle.canonical_text.proofs.Vocabulary.{◌≡◌, ◌++◌, take, flat_map, text_of, all_registers, entry_pieces, named_entry}
 use Rattle.canonical_text.proofs.entries.push_thread.Given as goal
 
 -- the named registers so far

@@ -1,5 +1,4 @@
-use Rattle.std.proofs.Common.{ℕ, List, ◌++◌, ◌∷◌, [], map, ap, ◌∙◌}
-use Rattle.canonical_text.proofs.Vocabulary.{flat_map, text_of, Token, sign_of_token, quantifier_pieces, sign_pieces, sign_named, signs_named}
+use Rattle.canonical_text.proofs.Vocabulary.{ℕ, List, ◌++◌, ◌∷◌, [], map, ap, ◌∙◌, flat_map, text_of, Token, sign_of_token, quantifier_pieces, sign_pieces, sign_named, signs_named}
 use Rattle.tso_program.specs.declared.atom.Atom.{Atom}
 use Rattle.conditions.specs.Grammar.{Sign}
 use Rattle.canonical_text.proofs.TextsGrow.{condition_grown}

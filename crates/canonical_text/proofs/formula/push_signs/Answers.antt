@@ -1,5 +1,4 @@
-use Rattle.std.proofs.Common.{ℕ, List, ◌++◌, get_or, ap, ◌∙◌}
-use Rattle.canonical_text.proofs.Vocabulary.{text_of, Eax, Token, sign_of_token, sign_pieces, sign_named}
+use Rattle.canonical_text.proofs.Vocabulary.{ℕ, List, ◌++◌, get_or, ap, ◌∙◌, text_of, Eax, Token, sign_of_token, sign_pieces, sign_named}
 use Rattle.tso_program.specs.declared.atom.Atom.TheVariants as atom
 use Rattle.conditions.specs.declared.token.Token.TheVariants as token
 use Rattle.canonical_text.proofs.TextsGrow.{given_more}

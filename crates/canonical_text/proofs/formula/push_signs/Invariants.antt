@@ -1,5 +1,4 @@
-use Rattle.std.proofs.Common.{◌≡◌, ◌++◌, take, map}
-use Rattle.canonical_text.proofs.Vocabulary.{flat_map, text_of, sign_of_token, sign_pieces, sign_named}
+use Rattle.canonical_text.proofs.Vocabulary.{◌≡◌, ◌++◌, take, map, flat_map, text_of, sign_of_token, sign_pieces, sign_named}
 use Rattle.canonical_text.proofs.formula.push_signs.Given as goal
 
 -- the signs so far

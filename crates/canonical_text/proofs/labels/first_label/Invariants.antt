@@ -1,4 +1,4 @@
-use Rattle.std.proofs.Common.{◌≡◌, drop}
+use Rattle.canonical_text.proofs.Vocabulary.{◌≡◌, drop}
 use Rattle.canonical_text.specs.Canonical.{label_names_at}
 use Rattle.canonical_text.proofs.labels.first_label.Given as goal
 

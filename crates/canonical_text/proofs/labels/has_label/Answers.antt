@@ -1,5 +1,4 @@
-use Rattle.std.proofs.Common.{◌≡◌, ℕ, List, length, sym, ap, ◌∙◌}
-use Rattle.canonical_text.proofs.Vocabulary.{nat_lt, gaps_in, Label, label_names_at, own_labels, moved_labels}
+use Rattle.canonical_text.proofs.Vocabulary.{◌≡◌, ℕ, List, length, sym, ap, ◌∙◌, nat_lt, gaps_in, Label, label_names_at, own_labels, moved_labels}
 use Rattle.canonical_text.proofs.LabelPlaces.{moved_at, moved_nowhere}
 use Rattle.canonical_text.proofs.labels.has_label.Goals as goal
 

@@ -1,5 +1,4 @@
-use Rattle.std.proofs.Common.{◌≡◌, ℕ, List, [], sym, ap, ◌∙◌}
-use Rattle.canonical_text.proofs.Vocabulary.{slice_index_or, gaps_in, Label, label_names_at, own_labels, moved_labels}
+use Rattle.canonical_text.proofs.Vocabulary.{◌≡◌, ℕ, List, [], sym, ap, ◌∙◌, slice_index_or, gaps_in, Label, label_names_at, own_labels, moved_labels}
 use Rattle.canonical_text.proofs.LabelPlaces.{moved_at, moved_nowhere}
 use Rattle.canonical_text.proofs.labels.label_name.Goals as goal
 

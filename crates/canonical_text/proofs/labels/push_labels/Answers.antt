@@ -1,6 +1,5 @@
-use Rattle.std.proofs.Common.{◌≡◌, ℕ, List, ◌++◌, length, map, sym, ap, ◌∙◌, subst}
+use Rattle.canonical_text.proofs.Vocabulary.{◌≡◌, ℕ, List, ◌++◌, length, map, sym, ap, ◌∙◌, subst, append-nil, text_of, gap, joined_by, label_pieces, gaps_in, Label, label_names_at, own_labels, moved_labels}
 use Rattle.std.specs.Prelude.{IfOk}
-use Rattle.canonical_text.proofs.Vocabulary.{append-nil, text_of, gap, joined_by, label_pieces, gaps_in, Label, label_names_at, own_labels, moved_labels}
 use Rattle.canonical_text.proofs.LabelPlaces.{moved_at, moved_nowhere}
 use Rattle.canonical_text.proofs.labels.push_labels.Goals as goal
 

@@ -1,5 +1,4 @@
-use Rattle.std.proofs.Common.{◌≡◌, ◌≤◌, ◌++◌, length, map, take}
-use Rattle.canonical_text.proofs.Vocabulary.{text_of, gap, joined_by, label_pieces, label_names_at}
+use Rattle.canonical_text.proofs.Vocabulary.{◌≡◌, ◌≤◌, ◌++◌, length, map, take, text_of, gap, joined_by, label_pieces, label_names_at}
 use Rattle.canonical_text.proofs.labels.push_own.Given as goal
 
 -- the labels of the position so far, and how many they are

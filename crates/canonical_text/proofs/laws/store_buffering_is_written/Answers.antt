@@ -1,5 +1,6 @@
-use Rattle.canonical_text.proofs.StoreBuffering.{store_buffering_text}
+use Rattle.std.proofs.lemmas.Fmt.{decimal_digit}
+use Rattle.canonical_text.proofs.Vocabulary.{lit<, refl}
 use Rattle.canonical_text.proofs.laws.store_buffering_is_written.Goals as goal
 
 pub returns : goal.returns
-returns c = store_buffering_text
+returns c = rw (decimal_digit 0 (lit< tt), decimal_digit 1 (lit< tt)) refl

@@ -1,6 +1,5 @@
-use Rattle.std.proofs.Common.{◌≡◌, ◌<◌, ℕ, List, ◌++◌, length, map, take, get_or, codes, sym, ap, ◌∙◌, arith}
+use Rattle.canonical_text.proofs.Vocabulary.{◌≡◌, ◌<◌, ℕ, List, ◌++◌, length, map, take, get_or, codes, sym, ap, ◌∙◌, arith, length-map, text_of, Observed, gap, joined_by, observed_place_pieces, place_named}
 use Rattle.std.proofs.Math.Seq.{take-length}
-use Rattle.canonical_text.proofs.Vocabulary.{length-map, text_of, Observed, gap, joined_by, observed_place_pieces, place_named}
 use Rattle.litmus_reader.specs.declared.observed.Observed.TheVariants as observed
 use Rattle.canonical_text.proofs.TextsGrow.{between_at, element_column_more, not_none, brackets}
 use Rattle.canonical_text.proofs.observed.push_observed.Goals as goal

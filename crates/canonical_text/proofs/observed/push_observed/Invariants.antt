@@ -1,5 +1,4 @@
-use Rattle.std.proofs.Common.{◌≡◌, ◌++◌, map, take}
-use Rattle.canonical_text.proofs.Vocabulary.{text_of, gap, joined_by, observed_place_pieces, place_named}
+use Rattle.canonical_text.proofs.Vocabulary.{◌≡◌, ◌++◌, map, take, text_of, gap, joined_by, observed_place_pieces, place_named}
 use Rattle.canonical_text.proofs.observed.push_observed.Given as goal
 
 -- the places so far

@@ -1,5 +1,4 @@
-use Rattle.std.proofs.Common.{ℕ, List, [], ◌++◌, ◌∷◌, take, get_or, sym, ap, ◌∙◌, append_assoc}
-use Rattle.canonical_text.proofs.Vocabulary.{join_with_byte, Vec, texts}
+use Rattle.canonical_text.proofs.Vocabulary.{ℕ, List, [], ◌++◌, ◌∷◌, take, get_or, sym, ap, ◌∙◌, append_assoc, join_with_byte, Vec, texts}
 use Rattle.canonical_text.proofs.Joined.{join_more, join_first}
 use Rattle.canonical_text.proofs.outcome.join.Goals as goal
 use Rattle.canonical_text.proofs.outcome.join.Goals.{then-index-gt0+in_ok-push, else-index-gt0}

@@ -1,5 +1,4 @@
-use Rattle.std.proofs.Common.{◌≡◌, take}
-use Rattle.canonical_text.proofs.Vocabulary.{join_with_byte, texts}
+use Rattle.canonical_text.proofs.Vocabulary.{◌≡◌, take, join_with_byte, texts}
 use Rattle.canonical_text.proofs.outcome.join.Given as goal
 
 -- the items so far, joined

@@ -1,7 +1,7 @@
-use Rattle.std.proofs.Common.{◌≡◌, ℕ, List, ◌++◌, Option, ap, ◌∙◌, subst}
+use Rattle.canonical_text.proofs.Vocabulary.{◌≡◌, ℕ, List, ◌++◌, Option, ap, ◌∙◌, subst, text_of, Instr, instr_at, gaps_in, gap, code_pieces, cell_pieces, label_names_at, own_labels, moved_labels, code_named, Piece, joined_by, sym, map, label_pieces}
 use Rattle.std.specs.Prelude.{OnOk, option_map}
-use Rattle.canonical_text.proofs.Vocabulary.{text_of, Instr, instr_at, gaps_in, gap, code_pieces, cell_pieces, label_names_at, own_labels, moved_labels, code_named}
-use Rattle.canonical_text.proofs.TextsGrow.{between_at, code_more, labels_alone}
+use Rattle.canonical_text.proofs.TextsGrow.{between_at, code_more}
+use Rattle.std.proofs.lemmas.List.{append-nil}
 use Rattle.canonical_text.proofs.rows.push_cell.Goals as goal
 
 pub returns-in_ok-push_gap-in-Some : goal.returns-in_ok-push_gap-in-Some
@@ -24,5 +24,5 @@ returns-in-None c =
     let names = label_names_at own c.args.k in
     let named = code_named litmus.names.locations own in
     c.in_ok-labels.ensures.text
-    ∙ labels_alone c.args.out.now.items names
+    ∙ (ap (λ (parts : List (List Piece)). c.args.out.now.items ++ text_of (joined_by gap parts)) (sym (append-nil (map label_pieces names))))
     ∙ ap (λ (o : Option Instr). c.args.out.now.items ++ text_of (cell_pieces (record { labels = names; code = option_map named o }))) c.in-None.ensures

@@ -1,5 +1,4 @@
-use Rattle.std.proofs.Common.{◌≡◌, arith, ℕ, List, ◌++◌, map, codes, ap, ◌∙◌}
-use Rattle.canonical_text.proofs.Vocabulary.{range_with_len, text_of, bar, column_pieces, header_pieces, joined_by, row_end}
+use Rattle.canonical_text.proofs.Vocabulary.{◌≡◌, arith, ℕ, List, ◌++◌, map, codes, ap, ◌∙◌, range_with_len, text_of, bar, column_pieces, header_pieces, joined_by, row_end}
 use Rattle.canonical_text.proofs.TextsGrow.{between_at, number_column_more, grown}
 use Rattle.canonical_text.proofs.rows.push_header.Goals as goal
 

@@ -1,5 +1,4 @@
-use Rattle.std.proofs.Common.{◌≡◌, ◌++◌, map}
-use Rattle.canonical_text.proofs.Vocabulary.{range_with_len, text_of, bar, column_pieces, joined_by}
+use Rattle.canonical_text.proofs.Vocabulary.{◌≡◌, ◌++◌, map, range_with_len, text_of, bar, column_pieces, joined_by}
 use Rattle.canonical_text.proofs.rows.push_header.Given as goal
 
 -- the columns so far

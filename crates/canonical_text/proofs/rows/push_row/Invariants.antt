@@ -1,5 +1,4 @@
-use Rattle.std.proofs.Common.{◌≡◌, ◌++◌, map}
-use Rattle.canonical_text.proofs.Vocabulary.{range_with_len, text_of, gaps_in, bar, cell_pieces, joined_by, moved_labels, cell_of}
+use Rattle.canonical_text.proofs.Vocabulary.{◌≡◌, ◌++◌, map, range_with_len, text_of, gaps_in, bar, cell_pieces, joined_by, moved_labels, cell_of}
 use Rattle.canonical_text.proofs.rows.push_row.Given as goal
 
 -- the cells so far

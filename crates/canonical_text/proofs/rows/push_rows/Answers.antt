@@ -1,5 +1,4 @@
-use Rattle.std.proofs.Common.{ℕ, List, ◌++◌, ap, ◌∙◌}
-use Rattle.canonical_text.proofs.Vocabulary.{text_of, gaps_in, Thread, row_pieces, moved_labels, row_of}
+use Rattle.canonical_text.proofs.Vocabulary.{ℕ, List, ◌++◌, ap, ◌∙◌, text_of, gaps_in, Thread, row_pieces, moved_labels, row_of}
 use Rattle.canonical_text.proofs.TextsGrow.{number_more}
 use Rattle.canonical_text.proofs.rows.push_rows.Goals as goal
 

@@ -1,5 +1,4 @@
-use Rattle.std.proofs.Common.{◌≡◌, ◌++◌, map}
-use Rattle.canonical_text.proofs.Vocabulary.{flat_map, range_with_len, text_of, gaps_in, row_pieces, moved_labels, row_of}
+use Rattle.canonical_text.proofs.Vocabulary.{◌≡◌, ◌++◌, map, flat_map, range_with_len, text_of, gaps_in, row_pieces, moved_labels, row_of}
 use Rattle.canonical_text.proofs.rows.push_rows.Given as goal
 
 -- the rows so far

@@ -1,5 +1,4 @@
-use Rattle.std.proofs.Common.{ℕ, List, ◌++◌, map, ap, ◌∙◌}
-use Rattle.canonical_text.proofs.Vocabulary.{Piece, text_of, Observed, observed_pieces, condition_pieces, place_named, signs_named}
+use Rattle.canonical_text.proofs.Vocabulary.{ℕ, List, ◌++◌, map, ap, ◌∙◌, Piece, text_of, Observed, observed_pieces, condition_pieces, place_named, signs_named}
 use Rattle.canonical_text.proofs.TextsGrow.{grown}
 use Rattle.canonical_text.proofs.writer.push_ending.Goals as goal
 

@@ -1,5 +1,4 @@
-use Rattle.std.proofs.Common.{ℕ, List, ◌++◌, ap, ◌∙◌}
-use Rattle.canonical_text.proofs.Vocabulary.{Piece, text_of, gaps_in, heading, body_pieces, ending_pieces, moved_labels, body_of, ending_of}
+use Rattle.canonical_text.proofs.Vocabulary.{ℕ, List, ◌++◌, ap, ◌∙◌, Piece, text_of, gaps_in, heading, body_pieces, ending_pieces, moved_labels, body_of, ending_of}
 use Rattle.canonical_text.proofs.TextsGrow.{grown}
 use Rattle.canonical_text.proofs.writer.write_parts.Goals as goal
 

@@ -1,4 +1,4 @@
-use Rattle.std.proofs.Common.{◌≡◌, ℕ, ◌<◌, get_or}
+use Rattle.known_edges.proofs.Vocabulary.{◌≡◌, ℕ, ◌<◌, get_or}
 use Rattle.known_edges.proofs.access_rows.place_of.Given as goal
 
 -- none of the events so far is this one

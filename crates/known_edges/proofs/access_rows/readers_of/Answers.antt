@@ -1,5 +1,4 @@
-use Rattle.std.proofs.Common.{ℕ, ◌+◌, sym, subst}
-use Rattle.known_edges.proofs.Vocabulary.{IsRowOf, not_by}
+use Rattle.known_edges.proofs.Vocabulary.{ℕ, ◌+◌, sym, subst, IsRowOf, not_by}
 use Rattle.known_edges.proofs.Masks.{IsReaderBelow, readers_more, readers_skip, readers_all}
 use Rattle.known_edges.proofs.access_rows.readers_of.Goals as goal
 use Rattle.known_edges.proofs.access_rows.readers_of.Goals.{then-is_same+then-not-is_same, else-is_same, else-is_same-via-then-is_same+else-not-is_same, else-is_same-via-else-is_same}

@@ -1,4 +1,4 @@
-use Rattle.std.proofs.Common.{ap, refl, sym, ◌∙◌, Some}
+use Rattle.known_edges.proofs.Vocabulary.{ap, refl, sym, ◌∙◌, Some}
 use Rattle.known_edges.proofs.access_rows.writes_after.Goals as goal
 
 pub returns-in-Access-clause-after : goal.returns-in-Access-clause-after

@@ -1,4 +1,4 @@
-use Rattle.std.proofs.Common.{◌≡◌, ℕ, ◌<◌, get_or}
+use Rattle.known_edges.proofs.Vocabulary.{◌≡◌, ℕ, ◌<◌, get_or}
 use Rattle.known_edges.proofs.event_pairs.has_pair.Given as goal
 
 -- none of the pairs so far is this one

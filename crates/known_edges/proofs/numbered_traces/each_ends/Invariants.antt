@@ -1,4 +1,4 @@
-use Rattle.std.proofs.Common.{◌≡◌, ◌<◌, ℕ, None, Some, slice_get}
+use Rattle.known_edges.proofs.Vocabulary.{◌≡◌, ◌<◌, ℕ, None, Some, slice_get}
 use Rattle.thread_traces.specs.declared.thread_trace.ThreadTrace.{ThreadTrace}
 use Rattle.known_edges.proofs.numbered_traces.each_ends.Given as goal
 

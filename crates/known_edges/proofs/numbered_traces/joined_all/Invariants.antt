@@ -1,4 +1,4 @@
-use Rattle.std.proofs.Common.{◌<◌, ℕ, get_or}
+use Rattle.known_edges.proofs.Vocabulary.{◌<◌, ℕ, get_or}
 use Rattle.bit_rows.specs.Rows.{IsIn}
 use Rattle.known_edges.proofs.numbered_traces.joined_all.Given as goal
 

@@ -1,16 +1,16 @@
-use Rattle.std.proofs.Common.{◌∙◌, [], length, length-set, sym, ap, subst, refl, arith}
+use Rattle.known_edges.proofs.Vocabulary.{◌∙◌, [], length, length-set, sym, ap, subst, refl, arith, slice_get_within, At}
 use Rattle.thread_traces.specs.declared.thread_trace.ThreadTrace.{ThreadTrace}
 use Rattle.thread_traces.proofs.Accesses.{IsGrown, grown_none, below_is}
 use Rattle.known_edges.proofs.Accesses.{IsBelow, grown_threads, grown_all, grown_alone, before_thread, below_none, below_of, accesses_read}
 use Rattle.known_edges.proofs.Lawful.{none_in}
 use Rattle.known_edges.proofs.InThreadOrder.{none_ordered}
-use Rattle.known_edges.proofs.Starts.{starts_none, starts_more, counts_more}
+use Rattle.known_edges.proofs.Starts.{starts_more, counts_more}
 use Rattle.known_edges.proofs.numbered_traces.number_accesses.Goals as goal
 
 pub loop-t-init : goal.loop-t-init
 loop-t-init c = record {
   grown = subst (IsGrown (IsBelow c.args.thread_traces.now 0) []) (sym c.requires.none) (grown_none (IsBelow c.args.thread_traces.now 0) [] (below_none c.args.thread_traces.now));
-  starts_are = starts_none c.args.events.now.items c.args.starts.now c.requires.none;
+  starts_are = λ d t i at. absurd (let l = slice_get_within c.args.events.now.items d (At t i) at in let empty = ap length c.requires.none in omega arith);
   long = c.requires.starts;
   counts_are = c.requires.counts.1;
   as_long = c.requires.counts.0;

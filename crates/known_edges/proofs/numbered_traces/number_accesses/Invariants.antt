@@ -1,5 +1,4 @@
-use Rattle.std.proofs.Common.{◌≡◌, [], length}
-use Rattle.known_edges.proofs.Vocabulary.{MAX_THREADS, AreStarts, AreCounts, IsGrown}
+use Rattle.known_edges.proofs.Vocabulary.{◌≡◌, [], length, MAX_THREADS, AreStarts, AreCounts, IsGrown}
 use Rattle.known_edges.proofs.Accesses.{IsBelow}
 use Rattle.known_edges.proofs.numbered_traces.number_accesses.Given as goal
 

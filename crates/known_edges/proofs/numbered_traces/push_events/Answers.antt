@@ -1,5 +1,4 @@
-use Rattle.std.proofs.Common.{◌∙◌, length, sym, ap}
-use Rattle.known_edges.proofs.Vocabulary.{ThreadTrace, grown_none}
+use Rattle.known_edges.proofs.Vocabulary.{◌∙◌, length, sym, ap, ThreadTrace, grown_none}
 use Rattle.known_edges.proofs.Accesses.{IsBelow, grown_threads, grown_all, before_thread, below_none, accesses_read}
 use Rattle.known_edges.proofs.numbered_traces.push_events.Goals as goal
 

@@ -1,14 +1,13 @@
-use Rattle.std.proofs.Common.{◌≡◌, ◌∙◌, ◌+◌, ap, length, sym, subst, arith}
+use Rattle.known_edges.proofs.Vocabulary.{◌≡◌, ◌∙◌, ◌+◌, ap, length, sym, subst, arith, At, IsEarly, AreBeyond, IsGrown, grown_none, inl}
 use Rattle.std.proofs.lemmas.List.{length_push}
-use Rattle.known_edges.proofs.Vocabulary.{At, IsEarly, AreBeyond, IsGrown, grown_none}
 use Rattle.known_edges.proofs.Accesses.{grown_more, early_none}
-use Rattle.known_edges.proofs.Starts.{beyond_none, beyond_more}
+use Rattle.known_edges.proofs.Starts.{beyond_more}
 use Rattle.known_edges.proofs.numbered_traces.push_thread.Goals as goal
 
 pub loop-i-init : goal.loop-i-init
 loop-i-init c = record {
   grown = grown_none (IsEarly c.args.t 0) c.args.events.now.items (early_none c.args.t);
-  beyond = beyond_none c.args.events.now.items c.args.t;
+  beyond = λ d u i at. inl at;
   long = omega arith;
 }
 

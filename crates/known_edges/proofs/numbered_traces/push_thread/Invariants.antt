@@ -1,5 +1,4 @@
-use Rattle.std.proofs.Common.{◌≡◌, ◌+◌, length}
-use Rattle.known_edges.proofs.Vocabulary.{IsEarly, AreBeyond, IsGrown}
+use Rattle.known_edges.proofs.Vocabulary.{◌≡◌, ◌+◌, length, IsEarly, AreBeyond, IsGrown}
 use Rattle.known_edges.proofs.numbered_traces.push_thread.Given as goal
 
 -- the thread's accesses so far have come

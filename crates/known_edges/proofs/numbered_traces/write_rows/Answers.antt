@@ -1,5 +1,4 @@
-use Rattle.std.proofs.Common.{◌<◌, ℕ, IfSome, get_or, sym, subst}
-use Rattle.known_edges.proofs.Vocabulary.{Initial, IsWriteAt}
+use Rattle.known_edges.proofs.Vocabulary.{◌<◌, ℕ, IfSome, get_or, sym, subst, Initial, IsWriteAt}
 use Rattle.known_edges.proofs.Masks.{row_all}
 use Rattle.known_edges.proofs.Written.{write_located, writes_more}
 use Rattle.known_edges.proofs.numbered_traces.write_rows.Goals as goal

@@ -1,5 +1,4 @@
-use Rattle.std.proofs.Common.{◌≡◌, List, ap, sym, subst}
-use Rattle.known_edges.proofs.Vocabulary.{Event, Kind, Sequential, ThreadTrace, NumberedTraces, AreRowsOf, InOrder, HasOrder}
+use Rattle.known_edges.proofs.Vocabulary.{◌≡◌, List, ap, sym, subst, Event, Kind, Sequential, ThreadTrace, NumberedTraces, AreRowsOf, InOrder, HasOrder}
 use Rattle.candidate_executions.specs.declared.event.Kind.TheVariants as union
 use Rattle.known_edges.proofs.OrderJoins.{order_joins}
 use Rattle.known_edges.proofs.order_rows.in_order.Goals as goal

@@ -1,5 +1,4 @@
-use Rattle.std.proofs.Common.{◌<◌}
-use Rattle.known_edges.proofs.Vocabulary.{IsIn, ROW_BITS}
+use Rattle.known_edges.proofs.Vocabulary.{◌<◌, IsIn, ROW_BITS}
 use Rattle.known_edges.proofs.round.number_on_round.Given as goal
 
 abbrev pub invariant-loop-open : goal.invariant-loop-open

@@ -1,6 +1,5 @@
-use Rattle.std.proofs.Common.{◌≡◌, ◌∙◌, ◌∷◌, ◌++◌, [], List, Some, Contains, slice_get, drop, ap, sym, subst}
+use Rattle.known_edges.proofs.Vocabulary.{◌≡◌, ◌∙◌, ◌∷◌, ◌++◌, [], List, Some, Contains, slice_get, drop, ap, sym, subst, Event, IsRound}
 use Rattle.std.proofs.lemmas.Result.{IfOk-weaker}
-use Rattle.known_edges.proofs.Vocabulary.{Event, IsRound}
 use Rattle.known_edges.proofs.NumberWalks.{IsWalk, event_at, comes_back, goes_on}
 use Rattle.known_edges.proofs.round.walk.Goals as goal
 

@@ -1,5 +1,4 @@
-use Rattle.std.proofs.Common.{◌≡◌, map, take}
-use Rattle.litmus_reader.proofs.Vocabulary.{sign_at_view, byte_in, numbered_signs}
+use Rattle.litmus_reader.proofs.Vocabulary.{◌≡◌, map, take, sign_at_view, byte_in, numbered_signs}
 use Rattle.conditions.specs.Tokens.{sign_of_token as token_sign}
 use Rattle.litmus_reader.proofs.condition.numbered.Given as goal
 

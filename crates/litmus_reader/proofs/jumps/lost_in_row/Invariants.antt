@@ -1,5 +1,4 @@
-use Rattle.std.proofs.Common.{◌≡◌, map, drop}
-use Rattle.litmus_reader.proofs.Vocabulary.{cell_view, are_found}
+use Rattle.litmus_reader.proofs.Vocabulary.{◌≡◌, map, drop, cell_view, are_found}
 use Rattle.litmus_reader.proofs.jumps.lost_in_row.Given as goal
 
 -- the jumps so far are found

@@ -1,5 +1,4 @@
-use Rattle.std.proofs.Common.{◌≡◌, map, drop}
-use Rattle.litmus_reader.proofs.Vocabulary.{list_all, row_view, are_found}
+use Rattle.litmus_reader.proofs.Vocabulary.{◌≡◌, map, drop, list_all, row_view, are_found}
 use Rattle.litmus_reader.proofs.jumps.lost_jump.Given as goal
 
 -- the jumps so far are found

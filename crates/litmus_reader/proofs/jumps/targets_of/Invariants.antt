@@ -1,4 +1,4 @@
-use Rattle.std.proofs.Common.{take}
+use Rattle.litmus_reader.proofs.Vocabulary.{take}
 use Rattle.litmus_reader.specs.Internal.Filling.{FindAllAs}
 use Rattle.litmus_reader.proofs.jumps.targets_of.Given as goal
 

@@ -1,5 +1,4 @@
-use Rattle.std.proofs.Common.{List, [], ◌∷◌, ◌++◌, map, sym, ap, ◌∙◌, arith}
-use Rattle.litmus_reader.proofs.Vocabulary.{range_with_len, Vec, map-range_with_len_more, Cell, row_view, Label, thread_labels}
+use Rattle.litmus_reader.proofs.Vocabulary.{List, [], ◌∷◌, ◌++◌, map, sym, ap, ◌∙◌, arith, range_with_len, Vec, map-range_with_len_more, Cell, row_view, Label, thread_labels}
 use Rattle.litmus_reader.proofs.label.all_labels.Goals as goal
 
 pub loop-thread-preserved : goal.loop-thread-preserved

@@ -1,5 +1,4 @@
-use Rattle.std.proofs.Common.{◌≡◌, map}
-use Rattle.litmus_reader.proofs.Vocabulary.{range_with_len, row_view, thread_labels}
+use Rattle.litmus_reader.proofs.Vocabulary.{◌≡◌, map, range_with_len, row_view, thread_labels}
 use Rattle.litmus_reader.proofs.label.all_labels.Given as goal
 
 -- the labels of the threads so far

@@ -1,4 +1,4 @@
-use Rattle.std.proofs.Common.{◌≡◌, ◌++◌, map, take}
+use Rattle.litmus_reader.proofs.Vocabulary.{◌≡◌, ◌++◌, map, take}
 use Rattle.litmus_reader.proofs.label.push_labels.Given as goal
 
 -- the labels so far are added

@@ -1,5 +1,4 @@
-use Rattle.std.proofs.Common.{◌≡◌, ◌≤◌, ◌++◌, map, drop}
-use Rattle.litmus_reader.proofs.Vocabulary.{row_view, column, labels_behind, thread_labels}
+use Rattle.litmus_reader.proofs.Vocabulary.{◌≡◌, ◌≤◌, ◌++◌, map, drop, row_view, column, labels_behind, thread_labels}
 use Rattle.litmus_reader.proofs.label.thread_labels.Given as goal
 
 -- the labels of the rows so far are there, and those of the others follow the instructions so far

@@ -1,5 +1,4 @@
-use Rattle.std.proofs.Common.{◌≡◌, ℕ, List, length, ap, ◌∙◌, arith}
-use Rattle.litmus_reader.proofs.Vocabulary.{length-map, Listing, Location, first_value}
+use Rattle.litmus_reader.proofs.Vocabulary.{◌≡◌, ℕ, List, length, ap, ◌∙◌, arith, length-map, Listing, Location, first_value}
 use Rattle.litmus_reader.proofs.laws.texts_name_few_locations.Goals as goal
 
 pub returns : goal.returns

@@ -1,5 +1,4 @@
-use Rattle.std.proofs.Common.{List, map, fold, ap, ◌∙◌}
-use Rattle.litmus_reader.proofs.Vocabulary.{flat_map, Vec, Entry, Cell, Place, place_view, entry_view, row_view, sign_at_view, noted, entry_place, row_places, sign_places}
+use Rattle.litmus_reader.proofs.Vocabulary.{List, map, fold, ap, ◌∙◌, flat_map, Vec, Entry, Cell, Place, place_view, entry_view, row_view, sign_at_view, noted, entry_place, row_places, sign_places}
 use Rattle.litmus_syntax.specs.declared.formula.SignAt.{SignAt}
 use Rattle.litmus_reader.proofs.Filled.{noted_parts}
 use Rattle.litmus_reader.proofs.noted_names.note_all.Goals as goal

@@ -1,5 +1,4 @@
-use Rattle.std.proofs.Common.{◌≡◌, map, take, fold}
-use Rattle.litmus_reader.proofs.Vocabulary.{entry_view, noted, entry_place}
+use Rattle.litmus_reader.proofs.Vocabulary.{◌≡◌, map, take, fold, entry_view, noted, entry_place}
 use Rattle.litmus_reader.proofs.noted_names.note_entries.Given as goal
 
 -- the places of the entries so far are noted

@@ -1,5 +1,4 @@
-use Rattle.std.proofs.Common.{◌≡◌, map, take, fold}
-use Rattle.litmus_reader.proofs.Vocabulary.{place_view, noted}
+use Rattle.litmus_reader.proofs.Vocabulary.{◌≡◌, map, take, fold, place_view, noted}
 use Rattle.litmus_reader.proofs.noted_names.note_places.Given as goal
 
 -- the places so far are noted

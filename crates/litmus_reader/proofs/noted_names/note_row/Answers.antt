@@ -1,5 +1,4 @@
-use Rattle.std.proofs.Common.{sym, ap, ◌∙◌, fold, take, map}
-use Rattle.litmus_reader.proofs.Vocabulary.{Cell, cell_view, TextNames, noted, cell_places, row_places}
+use Rattle.litmus_reader.proofs.Vocabulary.{sym, ap, ◌∙◌, fold, take, map, Cell, cell_view, TextNames, noted, cell_places, row_places}
 use Rattle.litmus_reader.proofs.Rows.{noted_more}
 use Rattle.litmus_reader.proofs.noted_names.note_row.Goals as goal
 

@@ -1,5 +1,4 @@
-use Rattle.std.proofs.Common.{◌≡◌, map, take, fold}
-use Rattle.litmus_reader.proofs.Vocabulary.{cell_view, noted, row_places}
+use Rattle.litmus_reader.proofs.Vocabulary.{◌≡◌, map, take, fold, cell_view, noted, row_places}
 use Rattle.litmus_reader.proofs.noted_names.note_row.Given as goal
 
 -- what the cells so far name is noted

@@ -1,5 +1,4 @@
-use Rattle.std.proofs.Common.{◌≡◌, map, take, fold}
-use Rattle.litmus_reader.proofs.Vocabulary.{flat_map, row_view, noted, row_places}
+use Rattle.litmus_reader.proofs.Vocabulary.{◌≡◌, map, take, fold, flat_map, row_view, noted, row_places}
 use Rattle.litmus_reader.proofs.noted_names.note_rows.Given as goal
 
 -- what the rows so far name is noted

@@ -1,5 +1,4 @@
-use Rattle.std.proofs.Common.{◌≡◌, map, take, fold}
-use Rattle.litmus_reader.proofs.Vocabulary.{flat_map, sign_at_view, noted, sign_places}
+use Rattle.litmus_reader.proofs.Vocabulary.{◌≡◌, map, take, fold, flat_map, sign_at_view, noted, sign_places}
 use Rattle.litmus_reader.proofs.noted_names.note_signs.Given as goal
 
 -- what the signs so far name is noted

@@ -1,5 +1,4 @@
-use Rattle.std.proofs.Common.{◌≡◌, map, take}
-use Rattle.litmus_reader.proofs.Vocabulary.{place_view, observed_of, byte_in}
+use Rattle.litmus_reader.proofs.Vocabulary.{◌≡◌, map, take, place_view, observed_of, byte_in}
 use Rattle.litmus_reader.proofs.observed.all_observed.Given as goal
 
 -- the places so far

@@ -1,5 +1,4 @@
-use Rattle.std.proofs.Common.{◌≡◌, map, take}
-use Rattle.litmus_reader.proofs.Vocabulary.{row_view, byte_in, byte_at, code_in}
+use Rattle.litmus_reader.proofs.Vocabulary.{◌≡◌, map, take, row_view, byte_in, byte_at, code_in}
 use Rattle.litmus_reader.proofs.program.code_of.Given as goal
 
 -- the instructions of the rows so far

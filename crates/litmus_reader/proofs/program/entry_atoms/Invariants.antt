@@ -1,5 +1,4 @@
-use Rattle.std.proofs.Common.{◌≡◌, map, take}
-use Rattle.litmus_reader.proofs.Vocabulary.{entry_view, byte_in, entry_atoms}
+use Rattle.litmus_reader.proofs.Vocabulary.{◌≡◌, map, take, entry_view, byte_in, entry_atoms}
 use Rattle.litmus_reader.proofs.program.entry_atoms.Given as goal
 
 -- what the entries so far say

@@ -1,5 +1,4 @@
-use Rattle.std.proofs.Common.{◌≡◌, List, map, ap, ◌∙◌}
-use Rattle.litmus_reader.proofs.Vocabulary.{range_with_len, Atom, Entry, entry_view, body_view, byte_in, entry_atoms, memory_from, registers_from}
+use Rattle.litmus_reader.proofs.Vocabulary.{◌≡◌, List, map, ap, ◌∙◌, range_with_len, Atom, Entry, entry_view, body_view, byte_in, entry_atoms, memory_from, registers_from}
 use Rattle.litmus_reader.proofs.Filled.{threads_filled}
 use Rattle.litmus_reader.proofs.program.listing_of.Goals as goal
 

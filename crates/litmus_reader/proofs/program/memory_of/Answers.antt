@@ -1,5 +1,4 @@
-use Rattle.std.proofs.Common.{◌≡◌, arith, List, fold, replicate, take, ap, ◌∙◌}
-use Rattle.litmus_reader.proofs.Vocabulary.{Atom, common_steps, stored}
+use Rattle.litmus_reader.proofs.Vocabulary.{◌≡◌, arith, List, fold, replicate, take, ap, ◌∙◌, Atom, common_steps, stored}
 use Rattle.litmus_reader.proofs.Filled.{stored_all}
 use Rattle.litmus_reader.proofs.program.memory_of.Goals as goal
 

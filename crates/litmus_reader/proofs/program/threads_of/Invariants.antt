@@ -1,5 +1,4 @@
-use Rattle.std.proofs.Common.{◌≡◌, map}
-use Rattle.litmus_reader.proofs.Vocabulary.{range_with_len, row_view, byte_in, thread_in}
+use Rattle.litmus_reader.proofs.Vocabulary.{◌≡◌, map, range_with_len, row_view, byte_in, thread_in}
 use Rattle.litmus_reader.proofs.program.threads_of.Given as goal
 
 -- the threads so far

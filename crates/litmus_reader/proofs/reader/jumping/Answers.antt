@@ -1,5 +1,4 @@
-use Rattle.std.proofs.Common.{◌≡◌, true, List, map, sym, subst, ◌∙◌}
-use Rattle.litmus_reader.proofs.Vocabulary.{list_all, row_view, body_view, Label, all_labels, are_found, FindAllAs}
+use Rattle.litmus_reader.proofs.Vocabulary.{◌≡◌, true, List, map, sym, subst, ◌∙◌, list_all, row_view, body_view, Label, all_labels, are_found, FindAllAs}
 use Rattle.litmus_reader.proofs.Targets.{lost_is, all_found_same}
 use Rattle.litmus_reader.proofs.reader.jumping.Goals as goal
 

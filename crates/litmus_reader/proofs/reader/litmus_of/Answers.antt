@@ -1,5 +1,4 @@
-use Rattle.std.proofs.Common.{map, refl, ap, ◌∙◌, List}
-use Rattle.litmus_reader.proofs.Vocabulary.{err_from_is_err_and, Place, place_view, body_view, ending_view, observed_of, byte_in}
+use Rattle.litmus_reader.proofs.Vocabulary.{map, refl, ap, ◌∙◌, List, err_from_is_err_and, Place, place_view, body_view, ending_view, observed_of, byte_in}
 use Rattle.litmus_reader.proofs.Parts.{refused_formula, refused_jump, parts_read}
 use Rattle.litmus_reader.proofs.reader.litmus_of.Goals as goal
 

@@ -1,5 +1,4 @@
-use Rattle.std.proofs.Common.{ℕ, List}
-use Rattle.litmus_reader.proofs.Vocabulary.{err_from_is_err_and, Thread, IsWithinFencedLimits, first_fenced_fault, BreaksFirst}
+use Rattle.litmus_reader.proofs.Vocabulary.{ℕ, List, err_from_is_err_and, Thread, IsWithinFencedLimits, first_fenced_fault, BreaksFirst}
 use Rattle.litmus_reader.proofs.Numbered.{fenced_program_limits}
 use Rattle.litmus_reader.proofs.WholeTexts.{nothing_only, nothing_refused}
 use Rattle.litmus_reader.proofs.Meant.{found, found_only, broken, broken_only}

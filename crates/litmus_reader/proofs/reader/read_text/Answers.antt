@@ -1,5 +1,4 @@
-use Rattle.std.proofs.Common.{◌∙◌}
-use Rattle.std.proofs.lemmas.Result.{err_from_is_err_and}
+use Rattle.litmus_reader.proofs.Vocabulary.{◌∙◌, err_from_is_err_and}
 use Rattle.litmus_reader.proofs.WholeTexts.{Split, text_read, tokens_refused, first_line_refused, skipped_lines_refused}
 use Rattle.litmus_reader.proofs.reader.read_text.Goals as goal
 

@@ -1,4 +1,4 @@
-use Rattle.std.proofs.Common.{◌∙◌, sym, arith}
+use Rattle.litmus_reader.proofs.Vocabulary.{◌∙◌, sym, arith}
 use Rattle.std.proofs.lemmas.List.{at_drop_all}
 use Rattle.litmus_reader.specs.Shown.{with_places}
 use Rattle.litmus_reader.proofs.shown.with_places.Goals as goal

@@ -1,4 +1,4 @@
-use Rattle.std.proofs.Common.{◌≡◌, drop}
+use Rattle.litmus_reader.proofs.Vocabulary.{◌≡◌, drop}
 use Rattle.litmus_reader.specs.Shown.{with_places}
 use Rattle.litmus_reader.proofs.shown.with_places.Given as goal
 

@@ -1,5 +1,4 @@
-use Rattle.std.proofs.Common.{List, ◌++◌, get_or, ap, ◌∙◌, ℕ}
-use Rattle.canonical_text.proofs.Vocabulary.{Eax, texts, named_item, all_registers}
+use Rattle.canonical_text.proofs.Vocabulary.{List, ◌++◌, get_or, ap, ◌∙◌, ℕ, Eax, texts, named_item, all_registers}
 use Rattle.canonical_text.proofs.Joined.{flat_more}
 use Rattle.canonical_text.proofs.outcome.Legend.push_thread.Goals as goal
 

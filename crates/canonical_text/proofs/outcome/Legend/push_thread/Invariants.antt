@@ -1,5 +1,4 @@
-use Rattle.std.proofs.Common.{◌≡◌, ◌++◌, take}
-use Rattle.canonical_text.proofs.Vocabulary.{flat_map, texts, named_item, all_registers}
+use Rattle.canonical_text.proofs.Vocabulary.{◌≡◌, ◌++◌, take, flat_map, texts, named_item, all_registers}
 use Rattle.canonical_text.proofs.outcome.Legend.push_thread.Given as goal
 
 -- the items of the registers so far

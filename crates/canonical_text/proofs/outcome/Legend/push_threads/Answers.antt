@@ -1,4 +1,4 @@
-use Rattle.std.proofs.Common.{ℕ, List, [], ◌++◌, get_or, ap, ◌∙◌}
+use Rattle.canonical_text.proofs.Vocabulary.{ℕ, List, [], ◌++◌, get_or, ap, ◌∙◌}
 use Rattle.litmus_reader.specs.Internal.Filling.{texts}
 use Rattle.canonical_text.specs.Outcomes.{thread_items}
 use Rattle.canonical_text.proofs.Joined.{flat_range_more}

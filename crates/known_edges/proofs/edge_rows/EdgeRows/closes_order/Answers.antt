@@ -1,5 +1,4 @@
-use Rattle.std.proofs.Common.{[], ◌∷◌, ◌++◌, arith}
-use Rattle.known_edges.proofs.Vocabulary.{view_of, HasCycle, yes, not_by}
+use Rattle.known_edges.proofs.Vocabulary.{[], ◌∷◌, ◌++◌, arith, view_of, HasCycle, yes, not_by}
 use Rattle.bit_rows.proofs.Written.{connected, are_connected}
 use Rattle.known_edges.proofs.Closed.{main_cycle, pair_closes}
 use Rattle.known_edges.proofs.RowsKept.{pair_main}

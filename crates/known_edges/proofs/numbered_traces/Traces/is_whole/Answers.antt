@@ -1,4 +1,4 @@
-use Rattle.std.proofs.Common.{◌↔◌, IsTrue, subst}
+use Rattle.known_edges.proofs.Vocabulary.{◌↔◌, IsTrue, subst}
 use Rattle.known_edges.specs.Rows.{NumberedTraces, EachEnds}
 use Rattle.known_edges.proofs.numbered_traces.Traces.is_whole.Goals as goal
 

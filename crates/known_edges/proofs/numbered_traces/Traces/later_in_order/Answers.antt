@@ -1,5 +1,4 @@
-use Rattle.std.proofs.Common.{◌≡◌, ◌↔◌, ◌+◌, ◌<◌, ℕ, List, get_or, length, ap, sym, subst, arith}
-use Rattle.known_edges.proofs.Vocabulary.{IsIn, ROW_BITS, Access, Event, At, ThreadTrace, NumberedTraces, InOrder, IsRowOf, IsLaterIn}
+use Rattle.known_edges.proofs.Vocabulary.{◌≡◌, ◌↔◌, ◌+◌, ◌<◌, ℕ, List, get_or, length, ap, sym, subst, arith, IsIn, ROW_BITS, Access, Event, At, ThreadTrace, NumberedTraces, InOrder, IsRowOf, IsLaterIn}
 use Rattle.known_edges.proofs.Accesses.{accesses_read}
 use Rattle.known_edges.proofs.ThreadRows.{placed, moved_up}
 use Rattle.known_edges.proofs.numbered_traces.Traces.later_in_order.Goals as goal

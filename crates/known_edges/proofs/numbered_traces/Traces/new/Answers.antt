@@ -1,5 +1,4 @@
-use Rattle.std.proofs.Common.{◌≤◌, ℕ, List, length, sym, ap, subst, refl, arith}
-use Rattle.known_edges.proofs.Vocabulary.{MAX_INSTRUCTIONS, Event, ThreadTrace}
+use Rattle.known_edges.proofs.Vocabulary.{◌≤◌, ℕ, List, length, sym, ap, subst, refl, arith, MAX_INSTRUCTIONS, Event, ThreadTrace}
 use Rattle.known_edges.specs.Rows.{accesses_at, AreAccesses, HaveLocations, AreWriteRows, EachEnds, FitRow}
 use Rattle.known_edges.proofs.Located.{are_located}
 use Rattle.known_edges.proofs.Numbered.{courses_short, fit_row}

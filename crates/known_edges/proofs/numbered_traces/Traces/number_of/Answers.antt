@@ -1,5 +1,4 @@
-use Rattle.std.proofs.Common.{◌≡◌, ◌∙◌, ◌+◌, ◌<◌, Contains, Some, length, slice_get, ap, sym, subst}
-use Rattle.known_edges.proofs.Vocabulary.{slice_get-get_or, Event, Initial, At, NumberedTraces}
+use Rattle.known_edges.proofs.Vocabulary.{◌≡◌, ◌∙◌, ◌+◌, ◌<◌, Contains, Some, length, slice_get, ap, sym, subst, slice_get-get_or, Event, Initial, At, NumberedTraces}
 use Rattle.known_edges.proofs.Starts.{no_initial, number_at, past_count}
 use Rattle.known_edges.proofs.numbered_traces.Traces.number_of.Goals as goal
 

@@ -1,13 +1,12 @@
-use Rattle.std.proofs.Common.{◌∙◌, ◌<◌, ◌≤◌, ℕ, List, get_or, length, refl, ap, sym, subst, arith}
+use Rattle.known_edges.proofs.Vocabulary.{◌∙◌, ◌<◌, ◌≤◌, ℕ, List, get_or, length, refl, ap, sym, subst, arith, ROW_BITS, Event, Initial, NumberedTraces, InOrder, IsRowOf, AreRowsOf}
 use Rattle.std.proofs.lemmas.List.{length-set}
-use Rattle.known_edges.proofs.Vocabulary.{ROW_BITS, Event, Initial, NumberedTraces, InOrder, IsRowOf, AreRowsOf}
-use Rattle.bit_rows.proofs.Written.{zeros, zeros_are_empty}
-use Rattle.known_edges.proofs.Masks.{rows_begin, rows_more, rows_all, rows_join}
+use Rattle.bit_rows.proofs.Written.{zeros_are_empty}
+use Rattle.known_edges.proofs.Masks.{rows_more, rows_all, rows_join}
 use Rattle.known_edges.proofs.InThreadOrder.{order_never_round}
 use Rattle.known_edges.proofs.numbered_traces.Traces.order_rows.Goals as goal
 
 pub loop-d-init : goal.loop-d-init
-loop-d-init c = (refl, rows_begin c.args.self.now.events (InOrder c.args.self.now.thread_traces c.args.kind) (zeros ROW_BITS) (zeros_are_empty ROW_BITS))
+loop-d-init c = (refl, (λ d e. (λ h. absurd ((zeros_are_empty ROW_BITS) d e h), λ h. absurd (let l = h.0 in omega arith))))
 
 pub bounds-rows-d : goal.bounds-rows-d
 bounds-rows-d c =

@@ -1,5 +1,4 @@
-use Rattle.std.proofs.Common.{◌≡◌, length}
-use Rattle.known_edges.proofs.Vocabulary.{ROW_BITS, InOrder}
+use Rattle.known_edges.proofs.Vocabulary.{◌≡◌, length, ROW_BITS, InOrder}
 use Rattle.known_edges.proofs.Masks.{AreRowsBelow}
 use Rattle.known_edges.proofs.numbered_traces.Traces.order_rows.Given as goal
 

@@ -1,6 +1,6 @@
-use Rattle.std.proofs.Common.{length, ap, subst, arith}
-use Rattle.known_edges.proofs.Vocabulary.{AllPairs, ComesBefore, NumberedTraces}
-use Rattle.known_edges.proofs.Starts.{row_of_number, row_of_none, same_number}
+use Rattle.known_edges.proofs.Vocabulary.{length, ap, subst, arith, AllPairs, ComesBefore, NumberedTraces, none_in_zero, ◌∙◌, Some}
+use Rattle.known_edges.proofs.Starts.{row_of_number, same_number}
+use Rattle.known_edges.proofs.Numbered.{contained}
 use Rattle.known_edges.proofs.numbered_traces.Traces.row_of.Goals as goal
 
 pub overflow_cast-number : goal.overflow_cast-number
@@ -16,4 +16,4 @@ returns-in-Some c =
     (λ d at. same_number c.args.self.now.events ordered d c.in-Some.number c.args.event at c.in-Some.ensures.1) c.with.ensures
 
 pub returns-in-None : goal.returns-in-None
-returns-in-None c = row_of_none c.args.self.now.events c.args.event c.in-None.ensures
+returns-in-None c = λ d. (λ h. absurd (none_in_zero d h), λ (x, there, same). absurd (c.in-None.ensures (contained c.args.self.now.events c.args.event (d, there ∙ ap (λ z. Some z) same))))

@@ -1,4 +1,4 @@
-use Rattle.std.proofs.Common.{subst}
+use Rattle.known_edges.proofs.Vocabulary.{subst}
 use Rattle.known_edges.specs.Rows.{NumberedTraces, HasWrites}
 use Rattle.known_edges.proofs.numbered_traces.Traces.writes.Goals as goal
 

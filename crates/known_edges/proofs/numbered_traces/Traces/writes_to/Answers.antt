@@ -1,5 +1,4 @@
-use Rattle.std.proofs.Common.{ℕ, subst}
-use Rattle.known_edges.proofs.Vocabulary.{get_or_past, NumberedTraces, IsRowOf, IsWriteAt}
+use Rattle.known_edges.proofs.Vocabulary.{ℕ, subst, get_or_past, NumberedTraces, IsRowOf, IsWriteAt}
 use Rattle.known_edges.proofs.numbered_traces.Traces.writes_to.Goals as goal
 
 pub returns-in-None : goal.returns-in-None

@@ -1,5 +1,4 @@
-use Rattle.std.proofs.Common.{◌≡◌, ℕ, false, List, sym, ap, ◌∙◌}
-use Rattle.litmus_reader.proofs.Vocabulary.{is_some, not, Label, label_in, labels_in, with_label}
+use Rattle.litmus_reader.proofs.Vocabulary.{◌≡◌, ℕ, false, List, sym, ap, ◌∙◌, is_some, not, Label, label_in, labels_in, with_label}
 use Rattle.litmus_reader.proofs.Targets.{labels_insert, mapped_some}
 use Rattle.litmus_reader.proofs.jumps.Targets.add.Goals as goal
 

@@ -1,4 +1,4 @@
-use Rattle.std.proofs.Common.{◌∙◌}
+use Rattle.litmus_reader.proofs.Vocabulary.{◌∙◌}
 use Rattle.litmus_reader.proofs.Targets.{lookup_label}
 use Rattle.litmus_reader.proofs.jumps.Targets.find.Goals as goal
 

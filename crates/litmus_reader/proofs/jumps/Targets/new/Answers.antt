@@ -1,5 +1,4 @@
-use Rattle.std.proofs.Common.{◌≡◌, [], List, take, fold, ap, ◌∙◌, arith}
-use Rattle.litmus_reader.proofs.Vocabulary.{common_steps, Label, label_in, with_label}
+use Rattle.litmus_reader.proofs.Vocabulary.{◌≡◌, [], List, take, fold, ap, ◌∙◌, arith, common_steps, Label, label_in, with_label}
 use Rattle.litmus_reader.proofs.Targets.{finds_all}
 use Rattle.litmus_reader.proofs.jumps.Targets.new.Goals as goal
 

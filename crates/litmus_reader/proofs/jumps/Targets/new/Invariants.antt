@@ -1,4 +1,4 @@
-use Rattle.std.proofs.Common.{◌≡◌, [], take, fold}
+use Rattle.litmus_reader.proofs.Vocabulary.{◌≡◌, [], take, fold}
 use Rattle.litmus_reader.specs.Internal.Filling.{with_label}
 use Rattle.litmus_reader.proofs.jumps.Targets.new.Given as goal
 

@@ -1,5 +1,4 @@
-use Rattle.std.proofs.Common.{ℕ, ap, ◌∙◌}
-use Rattle.litmus_reader.proofs.Vocabulary.{min, unwrap_or, Option, label_in}
+use Rattle.litmus_reader.proofs.Vocabulary.{ℕ, ap, ◌∙◌, min, unwrap_or, Option, label_in}
 use Rattle.litmus_reader.proofs.NameLaws.{byte_of}
 use Rattle.litmus_reader.proofs.Targets.{mapped_or}
 use Rattle.litmus_reader.proofs.jumps.Targets.position.Goals as goal

@@ -1,5 +1,4 @@
-use Rattle.std.proofs.Common.{◌≡◌, refl, sym, ◌∙◌}
-use Rattle.litmus_reader.proofs.Vocabulary.{with_name, texts}
+use Rattle.litmus_reader.proofs.Vocabulary.{◌≡◌, refl, sym, ◌∙◌, with_name, texts}
 use Rattle.litmus_reader.proofs.NameLaws.{texts_insert, with_known}
 use Rattle.litmus_reader.proofs.names.NameTable.note_location.Goals as goal
 
