@@ -9,9 +9,8 @@ module _ (t : ℕ) (s : ProgramSketch) where
   -- as many trees as choices
   pub as_many_trees : (ts : List Traces) (cs : List Choice) → AreTraceTrees t s (trace_trees ts) cs → length ts ≡ length cs
   as_many_trees [] [] are = refl
-  as_many_trees [] (c ∷ cs) are = absurd are
-  as_many_trees (x ∷ ts) [] are = absurd are
   as_many_trees (x ∷ ts) (c ∷ cs) are = ap suc (as_many_trees ts cs are.2)
+  as_many_trees ts cs are = absurd are
 
   -- each at the sketch after its choice
   pub each_tree : (ts : List Traces) (cs : List Choice) → AreTraceTrees t s (trace_trees ts) cs → (i : ℕ) (d : Traces) (e : Choice) → i < length ts →
@@ -25,9 +24,8 @@ module _ (t : ℕ) (s : ProgramSketch) where
   pub one_more_tree : (ts : List Traces) (cs : List Choice) (x : Traces) (c : Choice) → AreTraceTrees t s (trace_trees ts) cs → root x ≡ with_chosen s (sketch_with s.chosen c) → IsTraceTree t x →
       AreTraceTrees t s (trace_trees (ts ++ x ∷ [])) (cs ++ c ∷ [])
   one_more_tree [] [] x c are at is = (at, is, tt)
-  one_more_tree [] (d ∷ cs) x c are at is = absurd are
-  one_more_tree (y ∷ ts) [] x c are at is = absurd are
   one_more_tree (y ∷ ts) (d ∷ cs) x c are at is = (are.0, are.1, one_more_tree ts cs x c are.2 at is)
+  one_more_tree ts cs x c are at is = absurd are
 
 -- an element of mapped ones
 pub get_mapped : {A B : Type 0} (f : A → B) (xs : List A) (i : ℕ) (d : B) (e : A) → i < length xs → get_or (map f xs) i d ≡ f (get_or xs i e)

@@ -1,7 +1,5 @@
 -- A certificate's parts put together.
-use Rattle.std.proofs.Common.{ℕ, zero, suc, List, [], ◌∷◌, All, Contains, take, subst, arith}
-use Rattle.cert_check.proofs.Vocabulary.{AllZip, all_sets, Question, Outcome, Label, StoreBufferMachine, no_gaps, IsShownRun, IsValidGap, Certificate, IsRunOutside, IsValidCertificate, IsFirstWithout}
-use Rattle.cert_check.proofs.Vocabulary.{HasServingSet, IsOutside}
+use Rattle.cert_check.proofs.Vocabulary.{ℕ, zero, suc, List, [], ◌∷◌, All, Contains, take, subst, arith, AllZip, all_sets, Question, Outcome, Label, StoreBufferMachine, no_gaps, IsShownRun, IsValidGap, Certificate, IsRunOutside, IsValidCertificate, IsFirstWithout, HasServingSet, IsOutside}
 use Rattle.cert_check.proofs.GapNodes.{labels_at}
 use Rattle.cert_check.proofs.FirstFaults.{one_outcome}
 

@@ -1,15 +1,9 @@
 -- A certificate that has a fault is not valid.
-use Rattle.std.proofs.Common.{◌≡◌, ℕ, zero, suc, List, [], ◌∷◌, length, All, refl, sym, ap, ◌∙◌, subst}
-use Rattle.cert_check.proofs.Vocabulary.{same_Some, SetOfGaps, without_gap, child_regions, Region, Listing, Outcome, Label, IsShownRun, Gap, Split, Bound, GapTrees, NoGap, MoreGaps, IsValidCover}
-use Rattle.cert_check.proofs.Vocabulary.{Certificate, AreSequentialRuns, IsRunOutside, IsValidCertificate, one_list_of_gaps, CheckFault, valid_is_not_wrong, IsRunOf, IsFirstWithout, CheckFaultIs}
-use Rattle.tso_program.specs.Shown.{Question, show}
-use Rattle.tso_machine.specs.Machine.{Machine, SequentialMachine, StoreBufferMachine, no_gaps, outcome_at}
+use Rattle.cert_check.proofs.Vocabulary.{◌≡◌, ℕ, zero, suc, List, [], ◌∷◌, length, All, refl, sym, ap, ◌∙◌, subst, same_Some, SetOfGaps, without_gap, child_regions, Region, Listing, Outcome, Label, IsShownRun, Gap, Split, Bound, GapTrees, NoGap, MoreGaps, IsValidCover, Certificate, AreSequentialRuns, IsRunOutside, IsValidCertificate, one_list_of_gaps, CheckFault, valid_is_not_wrong, IsRunOf, IsFirstWithout, CheckFaultIs, Question, show, Machine, SequentialMachine, StoreBufferMachine, no_gaps, outcome_at, IsValidGap, AreValidGaps, ValidCertificatesHaveNoFault}
 use Rattle.cert_forest.specs.Texts.{count_gaps}
-use Rattle.tree_laws.specs.GapTrees.{IsValidGap, AreValidGaps}
 use Rattle.tree_laws.proofs.Lists.{found_has}
 use Rattle.cert_check.specs.declared.fault.CheckFault.TheVariants as fault
 use Rattle.cert_check.specs.GapDefects as gaps
-use Rattle.cert_check.specs.Laws.{ValidCertificatesHaveNoFault}
 use Rattle.cert_check.proofs.Replayed.{zip_left, of_shown}
 
 -- a run has one outcome, and one is shown
@@ -22,13 +16,12 @@ one_outcome q mode labels o x (whole, (last, runs, ended, at), shown) (other, (e
 pub one_list : (q : Question) (runs : List (List Label)) (os xs : List Outcome) → AreSequentialRuns q runs os → AreSequentialRuns q runs xs → os ≡ xs
 one_list q [] [] [] left right = refl
 one_list q [] [] (x ∷ xs) left right = absurd right
-one_list q [] (o ∷ os) xs left right = absurd left
-one_list q (run ∷ runs) [] xs left right = absurd left
 one_list q (run ∷ runs) (o ∷ os) [] left right = absurd right
 one_list q (run ∷ runs) (o ∷ os) (x ∷ xs) left right =
     let first = one_outcome q SequentialMachine run o x left.0 right.0 in
     let rest = one_list q runs os xs left.1 right.1 in
     λ i. first i ∷ rest i
+one_list q runs os xs left right = absurd left
 
 -- runs outside a list are runs
 pub foreign_are_runs : (q : Question) (list : List Outcome) (runs : List (List Label)) → All (IsRunOutside q list) runs → All (IsRunOf q.program (StoreBufferMachine no_gaps)) runs
@@ -45,9 +38,8 @@ module _ (p : Listing) (costs : List ℕ) (answer : SetOfGaps) (runs : List (Lis
 
   many_gaps : (trees : GapTrees) (ns : List Region) → AreValidGaps p costs answer runs trees ns → count_gaps trees ≡ length ns
   many_gaps NoGap [] valid = refl
-  many_gaps NoGap (n ∷ ns) valid = absurd valid
-  many_gaps (MoreGaps tree trees) [] valid = absurd valid
   many_gaps (MoreGaps tree trees) (n ∷ ns) valid = ap suc (many_gaps trees ns valid.1)
+  many_gaps trees ns valid = absurd valid
 
   mutual
     pub valid_gap_is_not_wrong : (tree : Gap) (n : Region) (path : List ℕ) → IsValidGap p costs answer runs tree n → gaps.FirstWrongGap p costs answer runs tree n path → ⊥
@@ -61,10 +53,9 @@ module _ (p : Listing) (costs : List ℕ) (answer : SetOfGaps) (runs : List (Lis
 
     valid_gaps_have_no_wrong : (trees : GapTrees) (ns : List Region) (child : ℕ) (path : List ℕ) → AreValidGaps p costs answer runs trees ns →
         gaps.FirstWrongGapChild p costs answer runs trees ns child path → ⊥
-    valid_gaps_have_no_wrong NoGap ns child path valid wrong = wrong
-    valid_gaps_have_no_wrong (MoreGaps tree trees) [] child path valid wrong = wrong
     valid_gaps_have_no_wrong (MoreGaps tree trees) (n ∷ ns) zero path valid wrong = valid_gap_is_not_wrong tree n path valid.0 wrong
     valid_gaps_have_no_wrong (MoreGaps tree trees) (n ∷ ns) (suc child) path valid wrong = valid_gaps_have_no_wrong trees ns child path valid.1 wrong.1
+    valid_gaps_have_no_wrong trees ns child path valid wrong = wrong
 
 module _ (q : Question) (costs : List ℕ) (c : Certificate) (valid : IsValidCertificate q costs c) where
   abbrev p : Listing

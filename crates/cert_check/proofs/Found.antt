@@ -1,16 +1,10 @@
 -- The first value that has not a property, by a loop.
-use Rattle.std.proofs.Common.{◌≡◌, ℕ, ◌<◌, ◌≤◌, List, Some, All, get_or, take, length, sym, ap, ◌∙◌, subst, arith}
-use Rattle.std.proofs.lemmas.Option.{slice_get-get_or}
-use Rattle.cert_check.proofs.Vocabulary.{get_or-take, length-take-le, IsFirstWithout}
-use Rattle.sketches.proofs.Lookups.{same_default}
+use Rattle.cert_check.proofs.Vocabulary.{◌≡◌, ℕ, ◌<◌, List, Some, All, get_or, take, length, sym, ap, ◌∙◌, subst, arith, get_or-take, length-take-le, IsFirstWithout, slice_get-get_or, same_default}
 
 module _ {A : Type 0} (P : A → Type 0) (xs : List A) (n : ℕ) where
   -- each before place n has it
   abbrev pub EachBefore : Type 0
   EachBefore = (k : ℕ) (x : A) → k < n → get_or xs k x ≡ x → P x
-
-  pub all_so : EachBefore → length xs ≤ n → All P xs
-  all_so each h k d l = each k (get_or xs k d) (omega arith) (same_default xs k (get_or xs k d) d l)
 
   all_before : EachBefore → n < length xs → All P (take n xs)
   all_before each h k d l =

@@ -2,28 +2,23 @@
 use Rattle.std.proofs.Common.{◌≡◌, ◌↔◌, ℕ, zero, suc, true, false, List, [], ◌∷◌, Some, None, length, Contains, slice_get, refl, sym, ap, ◌∙◌, subst}
 use Rattle.std.specs.List.Sorted.{IsStrictlyIncreasing}
 use Rattle.std.specs.FinSet as set
-use Rattle.cert_check.proofs.Vocabulary.{AllZip, same_Some, SetOfGaps, Better, Region, Listing, Label, StoreBufferMachine, no_gaps, ArePassed, Gap, Split, Bound, gap_trees_of, one_list_of_gaps}
-use Rattle.cert_check.proofs.Vocabulary.{HasNoSplit, FirstWrongGap, AreValidIn, IsWrongChildIn, HavePassed, IsAtRoot, IsBelow}
+use Rattle.std.specs.Option.{IsSomeAnd, MatchOption}
+use Rattle.cert_check.proofs.Vocabulary.{AllZip-left, AllZip, same_Some, SetOfGaps, Better, Region, Listing, Label, StoreBufferMachine, no_gaps, ArePassed, Gap, Split, Bound, gap_trees_of, one_list_of_gaps, HasNoSplit, FirstWrongGap, AreValidIn, IsWrongChildIn, HavePassed, IsAtRoot, IsBelow, PassesGap, IsSplitBy, IsValidGap}
 use Rattle.cert_forest.proofs.TreeTexts.{gaps_count}
-use Rattle.tree_laws.specs.GapTrees.{PassesGap, IsSplitBy, IsValidGap}
 
 -- what is found at a number goes with the labels of this number
 pub labels_at : {B : Type 0} (R : List Label → B → Type 0) (runs : List (List Label)) (xs : List B) (n : ℕ) (x : B) → AllZip R runs xs → slice_get xs n ≡ Some x →
     (labels : List Label) × (slice_get runs n ≡ Some labels) × R labels x
-labels_at R [] [] n x each e = absurd cc
 labels_at R [] (y ∷ xs) n x each e = absurd each
-labels_at R (labels ∷ runs) [] n x each e = absurd cc
 labels_at R (labels ∷ runs) (y ∷ xs) zero x each e = (labels, refl, subst (R labels) (same_Some y x e) each.0)
 labels_at R (labels ∷ runs) (y ∷ xs) (suc n) x each e = labels_at R runs xs n x each.1 e
+labels_at R runs [] n x each e = absurd cc
 
 -- there is nothing where there are no labels
 pub nothing_at : {B : Type 0} (R : List Label → B → Type 0) (runs : List (List Label)) (xs : List B) (n : ℕ) (labels : List Label) → AllZip R runs xs → slice_get xs n ≡ None →
     slice_get runs n ≡ Some labels → ⊥
-nothing_at R [] [] n labels each e h = cc
-nothing_at R [] (x ∷ xs) n labels each e h = each
-nothing_at R (run ∷ runs) [] n labels each e h = each
-nothing_at R (run ∷ runs) (x ∷ xs) zero labels each e h = cc
-nothing_at R (run ∷ runs) (x ∷ xs) (suc n) labels each e h = nothing_at R runs xs n labels each.1 e h
+nothing_at R runs xs n labels each e h =
+    subst (λ o. IsSomeAnd o (R labels)) e (subst (λ o. MatchOption o (Unit {0}) (λ run. IsSomeAnd (slice_get xs n) (R run))) h (AllZip-left R runs xs each n))
 
 module _ (p : Listing) (runs : List (List Label)) (passed : List SetOfGaps) (region : Region) (n : ℕ) (each : HavePassed p runs passed) where
   -- no such run
@@ -60,8 +55,7 @@ module _ (p : Listing) (runs : List (List Label)) (passed : List SetOfGaps) (reg
 -- they are not so many
 pub not_as_many : (p : Listing) (runs : List (List Label)) (region : Region) (n count : ℕ) (gaps : List ℕ) → IsSplitBy p runs region n gaps →
     (length gaps ≡ count → ⊥) → HasNoSplit p runs region n count
-not_as_many p runs region n count gaps split differ others other e =
-    differ (ap length (one_list_of_gaps p runs region n gaps others split other) ∙ sym e)
+not_as_many p runs region n count gaps split differ others other e = differ (ap length (one_list_of_gaps p runs region n gaps others split other) ∙ sym e)
 
 module _ (p : Listing) (costs : List ℕ) (answer : SetOfGaps) (runs : List (List Label)) (region : Region) where
   pub bound_here : (path : List ℕ) → IsAtRoot (Better costs region.must answer) path → FirstWrongGap p costs answer runs Bound region path

@@ -1,7 +1,5 @@
 -- The children of a split, judged in order: what is left to be judged decides.
-use Rattle.std.proofs.Common.{◌≡◌, ℕ, suc, ◌+◌, ◌<◌, List, [], ◌∷◌, length, take, drop, refl, sym, subst, arith}
-use Rattle.cert_check.proofs.Vocabulary.{SetOfGaps, Region, Listing, Label, first_gap, Gap, IsValidGap, FirstWrongGap, AreValidIn, IsWrongChildIn, IsBelow}
-use Rattle.gap_sets.specs.Regions.{with_gap, without_gap}
+use Rattle.cert_check.proofs.Vocabulary.{◌≡◌, ℕ, suc, ◌+◌, ◌<◌, List, [], ◌∷◌, length, take, drop, refl, sym, subst, arith, SetOfGaps, Region, Listing, Label, first_gap, Gap, IsValidGap, FirstWrongGap, AreValidIn, IsWrongChildIn, IsBelow, with_gap, without_gap}
 
 module _ (p : Listing) (costs : List ℕ) (answer : SetOfGaps) (runs : List (List Label)) (trees : List Gap) (region : Region) (gaps : List ℕ) where
   -- the children that are left decide of all, where so many were judged

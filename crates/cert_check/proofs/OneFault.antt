@@ -1,18 +1,8 @@
 -- The first fault of a certificate is one fault.
-use Rattle.std.proofs.Common.{◌≡◌, ◌≢◌, ◌⊎◌, ℕ, zero, suc, ◌<◌, List, [], ◌∷◌, Some, All, slice_get, take, refl, sym, ap, ◌∙◌, subst, inl, inr, arith}
-use Rattle.std.proofs.lemmas.Bool.{cases_lt}
-use Rattle.std.proofs.lemmas.List.{get_or-take, length-take}
-use Rattle.std.proofs.lemmas.Option.{slice_get_within, get_or_from_slice_get}
-use Rattle.cert_check.proofs.Vocabulary.{SetOfGaps, all_sets, child_regions, Region, Listing, Outcome, gaps_in, Question, Label, Machine, SequentialMachine, StoreBufferMachine, no_gaps, empty_sketch}
-use Rattle.cert_check.proofs.Vocabulary.{IsValidCover, Certificate, AreSequentialRuns, IsRunOutside, one_list_of_gaps, CheckFault, FirstWrongCover}
-use Rattle.tso_machine.specs.Outcomes.{IsShownRun, AreGapsOf}
-use Rattle.cert_forest.specs.Trees.{Cover, Gap, Split, Bound, GapTrees, NoGap, MoreGaps}
+use Rattle.cert_check.proofs.Vocabulary.{◌≡◌, ◌≢◌, ◌⊎◌, ℕ, zero, suc, ◌<◌, List, [], ◌∷◌, Some, All, slice_get, take, refl, sym, ap, ◌∙◌, subst, inl, inr, arith, SetOfGaps, all_sets, child_regions, Region, Listing, Outcome, gaps_in, Question, Label, Machine, SequentialMachine, StoreBufferMachine, no_gaps, empty_sketch, IsValidCover, Certificate, AreSequentialRuns, IsRunOutside, one_list_of_gaps, CheckFault, FirstWrongCover, cases_lt, get_or-take, length-take, slice_get_within, get_or_from_slice_get, IsShownRun, AreGapsOf, Cover, Gap, Split, Bound, GapTrees, NoGap, MoreGaps, next_sibling, valid_is_not_wrong, one_wrong_node, IsRunOf, IsFirstWithout, HasRightCost, HasHead, HasOutcomes, HasEachOutcome, HasRuns, HasForeignRuns, HasServingSet, CheckFaultIs, TheFirstCheckFaultIsUnique}
 use Rattle.cert_forest.specs.Shows.{shows_of}
 use Rattle.cert_check.specs.declared.fault.CheckFault.TheVariants as fault
-use Rattle.cover_judge.proofs.WrongNodes.{next_sibling, valid_is_not_wrong, one_wrong_node}
 use Rattle.cert_check.specs.GapDefects as gaps
-use Rattle.cert_check.specs.Faults.{IsRunOf, IsFirstWithout, HasRightCost, HasHead, HasOutcomes, HasEachOutcome, HasRuns, HasForeignRuns, HasServingSet, CheckFaultIs}
-use Rattle.cert_check.specs.Laws.{TheFirstCheckFaultIsUnique}
 use Rattle.cert_check.proofs.Replayed.{zip_left, of_shown}
 use Rattle.cert_check.proofs.FirstFaults.{one_list, none_without, valid_gap_is_not_wrong}
 
@@ -27,34 +17,29 @@ has_before P xs n m v h there all =
 one_number : {A : Type 0} (P : A → Type 0) (xs : List A) (n m : ℕ) → IsFirstWithout P xs n → IsFirstWithout P xs m → n ≡ m
 one_number P xs n m first also = elim (cases_lt n m) [
   | inl h ↦ absurd (first.without (has_before P xs n m first.value h first.there also.before))
-  | inr h ↦ elim (cases_lt m n) [
-    | inl l ↦ absurd (also.without (has_before P xs m n also.value l also.there first.before))
-    | inr l ↦ omega arith
-  ]
+  | inr h ↦ elim (cases_lt m n) [ inl l ↦ absurd (also.without (has_before P xs m n also.value l also.there first.before)) | inr l ↦ omega arith ]
 ]
 
 module _ (p : Listing) (costs : List ℕ) (answer : SetOfGaps) (runs : List (List Label)) where
   mutual
     -- one node of a gap tree is the first wrong one
     pub one_wrong_gap : (tree : Gap) (n : Region) (path other : List ℕ) → gaps.FirstWrongGap p costs answer runs tree n path → gaps.FirstWrongGap p costs answer runs tree n other → path ≡ other
-    one_wrong_gap (Split number children) n [] [] wrong also = refl
     one_wrong_gap (Split number children) n [] (j ∷ other) wrong (numbers, split, many, below) = absurd (wrong numbers split many)
     one_wrong_gap (Split number children) n (i ∷ path) [] (numbers, split, many, below) wrong = absurd (wrong numbers split many)
     one_wrong_gap (Split number children) n (i ∷ path) (j ∷ other) (numbers, split, many, below) (others, split_too, many_too, below_too) =
         one_wrong_gap_child children (child_regions n numbers) i j path other below
         (subst (λ gs. gaps.FirstWrongGapChild p costs answer runs children (child_regions n gs) j other) (one_list_of_gaps p runs n number others numbers split_too split) below_too)
-    one_wrong_gap Bound n [] [] wrong also = refl
     one_wrong_gap Bound n [] (j ∷ other) wrong also = absurd also
     one_wrong_gap Bound n (i ∷ path) other wrong also = absurd wrong
+    one_wrong_gap tree n [] [] wrong also = refl
 
     one_wrong_gap_child : (trees : GapTrees) (ns : List Region) (i j : ℕ) (path other : List ℕ) → gaps.FirstWrongGapChild p costs answer runs trees ns i path →
         gaps.FirstWrongGapChild p costs answer runs trees ns j other → i ∷ path ≡ j ∷ other
-    one_wrong_gap_child NoGap ns i j path other wrong also = absurd wrong
-    one_wrong_gap_child (MoreGaps tree trees) [] i j path other wrong also = absurd wrong
     one_wrong_gap_child (MoreGaps tree trees) (n ∷ ns) zero zero path other wrong also = ap (λ xs. zero ∷ xs) (one_wrong_gap tree n path other wrong also)
     one_wrong_gap_child (MoreGaps tree trees) (n ∷ ns) zero (suc j) path other wrong also = absurd (valid_gap_is_not_wrong p costs answer runs tree n path also.0 wrong)
     one_wrong_gap_child (MoreGaps tree trees) (n ∷ ns) (suc i) zero path other wrong also = absurd (valid_gap_is_not_wrong p costs answer runs tree n other wrong.0 also)
     one_wrong_gap_child (MoreGaps tree trees) (n ∷ ns) (suc i) (suc j) path other wrong also = ap next_sibling (one_wrong_gap_child trees ns i j path other wrong.1 also.1)
+    one_wrong_gap_child trees ns i j path other wrong also = absurd wrong
 
 -- at most one fault has the property
 abbrev IsOfOne : (CheckFault → Type 0) → Type 0
@@ -218,16 +203,8 @@ module _ (q : Question) (costs : List ℕ) (c : Certificate) where
 
 -- a fault is out of memory, or another one
 memory_or_not : (why : CheckFault) → (why ≡ fault.OutOfMemory) ⊎ (why ≢ fault.OutOfMemory)
-memory_or_not fault.Shown = inr (λ e. cc)
-memory_or_not fault.Set = inr (λ e. cc)
-memory_or_not fault.Cost = inr (λ e. cc)
-memory_or_not (fault.SequentialRun n) = inr (λ e. cc)
-memory_or_not (fault.SequentialTree path) = inr (λ e. cc)
-memory_or_not (fault.Run n) = inr (λ e. cc)
-memory_or_not (fault.NotForeign n) = inr (λ e. cc)
-memory_or_not (fault.FencedTree path) = inr (λ e. cc)
-memory_or_not (fault.GapTree path) = inr (λ e. cc)
 memory_or_not fault.OutOfMemory = inl refl
+memory_or_not why = inr (λ e. cc)
 
 pub the_first_fault_is_unique : TheFirstCheckFaultIsUnique
 the_first_fault_is_unique q costs c why other wrong also = elim (memory_or_not why) [

@@ -1,13 +1,10 @@
 -- The gaps of one set that are not in another: as they are found, how many they are, and which.
 use Rattle.std.proofs.Common.{◌≡◌, ◌↔◌, ℕ, zero, suc, cond, ◌+◌, Bool, true, false, not, ◌&&◌, ◌||◌, List, [], ◌∷◌, length, Contains, refl, sym, ap, ◌∙◌, arith}
-use Rattle.std.specs.List.{filter, range_with_len}
-use Rattle.std.specs.Ordering.{nat_cmp, eq_by_cmp}
+use Rattle.cert_check.proofs.Vocabulary.{filter, range_with_len, nat_cmp, eq_by_cmp, and_parts, and_from, not-true, not_from_false, nat_cmp_total, nat_tests, MAX_GAPS, listed, unlisted}
 use Rattle.std.specs.FinSet as set
-use Rattle.cert_check.proofs.Vocabulary.{nat_cmp_total, nat_tests, MAX_GAPS}
 use Rattle.gap_sets.specs.Gaps.{SetOfGaps, IsGapSet, numbers_of_set}
 use Rattle.gap_sets.specs.Internal.BitsLaws.{any-below}
 use Rattle.tree_laws.proofs.Filtered.{has_any, any_has}
-use Rattle.tree_laws.proofs.OpenGaps.{listed, unlisted}
 
 tied : (q g : ℕ) → eq_by_cmp nat_cmp q g ≡ true → q ≡ g
 tied q g e = grind (arith, nat_tests)
@@ -86,16 +83,6 @@ as_many_listed s small = ap (λ (t : SetOfGaps). set.len t) (sym (of_listed s sm
 
 -- ---- which they are
 
-both : (a b : Bool) → (a && not b) ≡ true → (a ≡ true) × (b ≡ false)
-both true true e = absurd cc
-both true false e = (refl, refl)
-both false b e = absurd cc
-
-only : (a b : Bool) → a ≡ true → b ≡ false → (a && not b) ≡ true
-only true true a b = absurd cc
-only true false a b = refl
-only false b a e = absurd cc
-
 module _ (passed never gaps : SetOfGaps) (is : gaps ≡ set.difference passed never) (small : IsGapSet gaps) where
   contains_open : (g : ℕ) → set.contains gaps g ≡ (set.contains passed g && not (set.contains never g))
   contains_open g = ap (λ s. set.contains s g) is ∙ set.contains-difference nat_cmp_total passed never g
@@ -103,6 +90,6 @@ module _ (passed never gaps : SetOfGaps) (is : gaps ≡ set.difference passed ne
   -- the gaps of the first set that are not in the second
   pub listed_exact : (g : ℕ) → Contains (numbers_of_set gaps) g ↔ ((set.contains passed g ≡ true) × (set.contains never g ≡ false))
   listed_exact g = (
-    (λ here. both _ _ (sym (contains_open g) ∙ unlisted gaps g here)),
-    (λ (there, free). (let has : set.contains gaps g ≡ true = contains_open g ∙ only _ _ there free in listed gaps g (small g has) has)),
+    (λ here. (let parts = and_parts (set.contains passed g) (not (set.contains never g)) (sym (contains_open g) ∙ unlisted gaps g here) in (parts.0, not-true _ parts.1))),
+    (λ (there, free). (let has : set.contains gaps g ≡ true = contains_open g ∙ and_from (set.contains passed g) (not (set.contains never g)) there (not_from_false _ free) in listed gaps g (small g has) has)),
   )

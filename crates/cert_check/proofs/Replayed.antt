@@ -1,20 +1,15 @@
 -- Runs that are replayed in turn, and the first that is not a run.
-use Rattle.std.proofs.Common.{◌≡◌, ◌≢◌, ℕ, zero, suc, List, [], ◌∷◌, ◌++◌, Some, length, All, refl, sym, ap, ◌∙◌, subst, arith}
+use Rattle.cert_check.proofs.Vocabulary.{◌≡◌, ◌≢◌, ℕ, zero, suc, List, [], ◌∷◌, ◌++◌, Some, length, All, refl, sym, ap, ◌∙◌, subst, arith, Listing, Outcome, Question, Label, SetOfGaps, Machine, unfenced, ArePassed, IsRunOf, IsFirstWithout, append_assoc, AllZip-long, all_zipped_more, IsShownRun, IsReplayOf, AreReplaysOf, IsNoRunAt, IsFaultFrom, RunsFaultIs}
 use Rattle.std.specs.List.{AllZip, slice_get}
 use Rattle.std.proofs.Math.Seq.{take-append_seam}
-use Rattle.std.proofs.lemmas.List.{append_assoc, append-nil}
-use Rattle.std.proofs.lemmas.Slice.Zip.{AllZip-long}
-use Rattle.cert_check.proofs.Vocabulary.{Listing, Outcome, Question, Label, SetOfGaps, Machine, unfenced, ArePassed, IsRunOf, IsFirstWithout}
 use Rattle.tso_machine.specs.declared.label.Model.{Model}
 use Rattle.tso_machine.specs.declared.replaying.Ended.{Ended}
 use Rattle.tso_machine.specs.declared.replaying.ReplayFault.{ReplayFault}
 use Rattle.tso_machine.specs.declared.replaying.ReplayFault.TheVariants as replays
 use Rattle.cert_check.specs.declared.fault.RunsFault.{RunsFault}
 use Rattle.cert_check.specs.declared.fault.RunsFault.TheVariants as runs
-use Rattle.tso_machine.specs.Outcomes.{IsShownRun, IsReplayOf}
 use Rattle.tso_machine.specs.Faults.{ReplayFaultIs}
 use Rattle.tso_machine.proofs.Refused.{no_fault}
-use Rattle.cert_check.specs.Internal.Replays.{AreReplaysOf, IsNoRunAt, IsFaultFrom, RunsFaultIs}
 
 -- a fault of a replay says that the labels are no run
 pub no_run : (p : Listing) (machine : Machine) (labels : List Label) (why : ReplayFault) → ReplayFaultIs p machine labels why → why ≢ replays.OutOfMemory → IsRunOf p machine labels → ⊥
@@ -25,13 +20,6 @@ pub fault_is : (p : Listing) (machine : Machine) (labels : List Label) (why : Re
     IsNoRunAt p machine labels number fault
 fault_is p machine labels why number (runs.NoRun n) h (at, no_memory) = (at, no_run p machine labels why h no_memory)
 fault_is p machine labels why number runs.OutOfMemory h none = tt
-
--- lists in step, and one value more
-zip_more : {A B : Type 0} (R : A → B → Type 0) (xs : List A) (ys : List B) (x : A) (y : B) → AllZip R xs ys → R x y → AllZip R (xs ++ x ∷ []) (ys ++ y ∷ [])
-zip_more R [] [] x y all r = (r, tt)
-zip_more R [] (b ∷ ys) x y all r = absurd all
-zip_more R (a ∷ xs) [] x y all r = absurd all
-zip_more R (a ∷ xs) (b ∷ ys) x y all r = (all.0, zip_more R xs ys x y all.1 r)
 
 -- what each value on the left has, where lists are in step
 pub zip_left : {A B : Type 0} (R : A → B → Type 0) (P : A → Type 0) → ((x : A) (y : B) → R x y → P x) → (xs : List A) (ys : List B) → AllZip R xs ys → All P xs
@@ -54,20 +42,6 @@ module _ (q : Question) (model : Model) (all : List (List Label)) where
   abbrev pub AreReplayedBut : List (List Label) → List Outcome → List SetOfGaps → Type 0
   AreReplayedBut left outcomes passed = (front : List (List Label)) × (front ++ left ≡ all) × AreReplaysOf q model front outcomes passed
 
-  pub none_replayed : (outcomes : List Outcome) (passed : List SetOfGaps) → outcomes ≡ [] → passed ≡ [] → AreReplayedBut all outcomes passed
-  none_replayed outcomes passed no_outcome no_gaps = (
-    [],
-    refl,
-    record {
-      are_runs = subst (AllZip (IsShownRun q (unfenced model)) []) (sym no_outcome) tt;
-      are_passed = subst (AllZip (ArePassed q.program (unfenced model)) []) (sym no_gaps) tt;
-    },
-  )
-
-  pub all_replayed : (left : List (List Label)) (outcomes : List Outcome) (passed : List SetOfGaps) → left ≡ [] → AreReplayedBut left outcomes passed → AreReplaysOf q model all outcomes passed
-  all_replayed left outcomes passed none (front, same, each) =
-      subst (λ runs. AreReplaysOf q model runs outcomes passed) (sym (append-nil front) ∙ ap (λ (runs : List (List Label)). front ++ runs) (sym none) ∙ same) each
-
   module _ (labels : List Label) (left rest : List (List Label)) (first : left ≡ labels ∷ rest) (outcomes : List Outcome) (passed : List SetOfGaps) (so_far : AreReplayedBut left outcomes passed) where
     -- the replays so far, and one more
     pub replays_more : (more_outcomes : List Outcome) (more_passed : List SetOfGaps) (end : Ended) → IsReplayOf q model labels end → more_outcomes ≡ outcomes ++ end.outcome ∷ [] → more_passed ≡ passed ++ end.passed ∷ [] →
@@ -77,8 +51,8 @@ module _ (q : Question) (model : Model) (all : List (List Label)) where
           front ++ labels ∷ [],
           append_assoc front (labels ∷ []) rest ∙ ap (λ (runs : List (List Label)). front ++ runs) (sym first) ∙ same,
           record {
-            are_runs = subst (AllZip (IsShownRun q (unfenced model)) (front ++ labels ∷ [])) (sym pushed) (zip_more (IsShownRun q (unfenced model)) front outcomes labels end.outcome each.are_runs is.is_run);
-            are_passed = subst (AllZip (ArePassed q.program (unfenced model)) (front ++ labels ∷ [])) (sym pushed_too) (zip_more (ArePassed q.program (unfenced model)) front passed labels end.passed each.are_passed is.passed);
+            are_runs = subst (AllZip (IsShownRun q (unfenced model)) (front ++ labels ∷ [])) (sym pushed) (all_zipped_more (IsShownRun q (unfenced model)) front outcomes labels end.outcome each.are_runs is.is_run);
+            are_passed = subst (AllZip (ArePassed q.program (unfenced model)) (front ++ labels ∷ [])) (sym pushed_too) (all_zipped_more (ArePassed q.program (unfenced model)) front passed labels end.passed each.are_passed is.passed);
           },
         )
 

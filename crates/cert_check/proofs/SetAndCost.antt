@@ -1,19 +1,13 @@
 -- Sets of a program's gaps.
 use Rattle.std.proofs.Common.{◌≡◌, ℕ, ◌<◌, true, false, nat_lt, sym, ◌∙◌, arith}
 use Rattle.std.specs.FinSet as set
-use Rattle.cert_check.proofs.Vocabulary.{nat_cmp_total, nat_tests, SetOfGaps}
+use Rattle.cert_check.proofs.Vocabulary.{ltb-true, lt-ltb, nat_cmp_total, nat_tests, SetOfGaps}
 
 module _ (gaps every : SetOfGaps) (n : ℕ) (is_every : (gap : ℕ) → set.contains every gap ≡ nat_lt gap n) where
-  below : (gap : ℕ) → nat_lt gap n ≡ true → gap < n
-  below gap e = grind (arith, nat_tests)
-
-  to_below : (gap : ℕ) → gap < n → nat_lt gap n ≡ true
-  to_below gap h = grind (arith, nat_tests)
-
   pub all_within : set.is_subset gaps every ≡ true → (gap : ℕ) → set.contains gaps gap ≡ true → gap < n
-  all_within e gap h = below gap (sym (is_every gap) ∙ set.is_subset-contains nat_cmp_total gaps every e gap h)
+  all_within e gap h = ltb-true gap n (sym (is_every gap) ∙ set.is_subset-contains nat_cmp_total gaps every e gap h)
 
   pub not_all_within : set.is_subset gaps every ≡ false → ((gap : ℕ) → set.contains gaps gap ≡ true → gap < n) → ⊥
   not_all_within e within =
-      let yes = set.contains-is_subset nat_cmp_total gaps every (λ gap h. is_every gap ∙ to_below gap (within gap h)) in
+      let yes = set.contains-is_subset nat_cmp_total gaps every (λ gap h. is_every gap ∙ lt-ltb gap n (within gap h)) in
       let no : true ≡ false = sym yes ∙ e in cc

@@ -1,6 +1,6 @@
 -- What trees and runs say of tables, sets and foreign runs.
-use Rattle.std.proofs.Common.{◌≡◌, ◌↔◌, ℕ, ◌<◌, length, Bool, true, false, IsTrue, List, Some, Contains, slice_get, sym, ap, ◌∙◌, subst}
-use Rattle.std.specs.Prelude.{Result, Ok, Err, IfOk, IfErr, is_ok, ◌^◌}
+use Rattle.std.proofs.Common.{◌≡◌, ◌↔◌, ℕ, ◌<◌, Bool, true, false, IsTrue, List, Some, Contains, slice_get, sym, ap, ◌∙◌, subst, arith}
+use Rattle.std.specs.Prelude.{Result, Ok, Err, IfOk, IfErr, is_ok}
 use Rattle.std.specs.FinSet as set
 use Rattle.std.proofs.lemmas.Option.{same_Some}
 use Rattle.gap_sets.specs.Gaps.{SetOfGaps}
@@ -15,6 +15,7 @@ use Rattle.cover_solver.specs.ForeignFaults.{ForeignFaultIs, of_replay}
 use Rattle.tso_machine.specs.Machine.{Machine, SequentialMachine, StoreBufferMachine, no_gaps, outcome_at, IsRun}
 use Rattle.fence_laws.proofs.GapsAvoided.{fenced_runs_avoid}
 use Rattle.cert_forest.specs.Trees.{Cover}
+use Rattle.cert_forest.specs.declared.node.TheConstants.{NEAR_RUNS}
 use Rattle.tree_laws.proofs.ListedOutcomes.{fenced_tree_serves}
 use Rattle.sketch_covers.specs.Covers.{IsWholeCover}
 use Rattle.cover_solver.specs.Facts.{IsSequentialTable, IsListOf, IsServing}
@@ -40,12 +41,12 @@ pub same_question : (q : Question) (p : Listing) (shown : Shown) → p ≡ q.pro
 same_question q p shown program is = λ i. record { program = program i; shown = is i }
 
 -- the table of all sequential outcomes, by a tree that names them in another order
-pub table_of : (p other : Listing) (shown copied : Shown) (known outcomes : List Outcome) (runs : List (List Label)) (places : List ℕ) (before tree : Cover) → other ≡ p → copied ≡ shown → length outcomes < 2 ^ 64 → IsListOf (asked p shown) outcomes →
+pub table_of : (p other : Listing) (shown copied : Shown) (known outcomes : List Outcome) (runs : List (List Label)) (places : List ℕ) (before tree : Cover) → other ≡ p → copied ≡ shown → ((n : ℕ) → place_in places n < NEAR_RUNS) → IsListOf (asked p shown) outcomes →
     AreRunsOf (asked p shown) SequentialMachine runs outcomes → IsWholeCover (asked p shown) SequentialMachine known before → ArePlacesOf known outcomes places → tree ≡ renumbered (place_in places) before →
     IsSequentialTable (record { question = asked other copied; outcomes = outcomes; runs = runs; tree = tree })
-table_of p other shown copied known outcomes runs places before tree same alike few list are is moves made =
+table_of p other shown copied known outcomes runs places before tree same alike small list are is moves made =
     let q = asked p shown in
-    let whole = subst (IsWholeCover q SequentialMachine outcomes) (sym made) (whole_renumbered q SequentialMachine known outcomes (place_in places) few moves before is) in
+    let whole = subst (IsWholeCover q SequentialMachine outcomes) (sym made) (whole_renumbered known outcomes (place_in places) (λ n h. let near = small n in omega arith) moves q SequentialMachine before is) in
     subst (λ (r : Question). IsSequentialTable (record { question = r; outcomes = outcomes; runs = runs; tree = tree })) (sym (same_question q other copied same alike)) (record { listed = list; runs = are; tree = whole })
 
 -- there is one list of a question's sequential outcomes

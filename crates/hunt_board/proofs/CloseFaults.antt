@@ -1,7 +1,5 @@
 -- Faults of receipts against the record of a hunt that is done.
-use Rattle.std.proofs.Common.{◌≡◌, List, Result, Ok, Err, sym, subst}
-use Rattle.std.specs.Prelude.{IfErr, IsErrAnd}
-use Rattle.hunt_board.proofs.Vocabulary.{Outcome, IsOutcome, Receipt, HuntView, CloseFaultIs, RecordFaultIs}
+use Rattle.hunt_board.proofs.Vocabulary.{◌≡◌, List, Result, Ok, Err, sym, subst, Outcome, IsOutcome, Receipt, HuntView, CloseFaultIs, RecordFaultIs, IfErr, IsErrAnd}
 use Rattle.hunt_board.specs.declared.fault.CloseFault.{CloseFault}
 use Rattle.hunt_board.specs.declared.fault.CloseFault.TheVariants as fault
 

@@ -1,22 +1,13 @@
 -- Each node of the record of a search that is done stands where the walk for its region ends.
 use Rattle.std.proofs.Common.{◌≡◌, ◌≢◌, ℕ, zero, suc, ◌+◌, ◌<◌, Bool, true, false, true≢false, ◌||◌, List, [], ◌∷◌, Option, Some, None, Contains, cond, refl, sym, ap, ◌∙◌, subst, inl, inr, arith, get_or}
 use Rattle.std.specs.Option.{option_map}
-use Rattle.std.specs.List.{position_from, AllPairs}
+use Rattle.hunt_board.proofs.Vocabulary.{position_from, AllPairs, slice_get, same_Some, none-some, Region, Question, IsWithinLimits, Foreign, Entry, Status, Open, Held, Split, Cut, Confirmed, Outcome, IsOutcome, finished_state, SetOfGaps, IsGapSet, all_sets, with_gap, without_gap, IsInRegion, child_regions, HasNoneOf, open_gaps, open_exact, open_ascending, Facts, facts_of, WalkLeads, StandsOnlyAt, ends, goes, child_by, child_in, child_of}
 use Rattle.std.specs.FinSet as set
-use Rattle.std.specs.Ordering.{nat_cmp, eq_by_cmp}
-use Rattle.std.specs.Cmp.{nat_cmp_total}
-use Rattle.std.proofs.lemmas.Bool.Decides.{nat_tests}
 use Rattle.std.proofs.lemmas.List.Kept.{AllPairs-from_increasing}
-use Rattle.hunt_board.proofs.Vocabulary.{slice_get, same_Some, none-some, Region, Question, IsWithinLimits, Foreign, Entry, Status, Open, Held, Split, Cut, Confirmed, Outcome, IsOutcome}
-use Rattle.hunt_board.proofs.Vocabulary.{finished_state}
-use Rattle.gap_sets.specs.Gaps.{SetOfGaps, IsGapSet}
-use Rattle.gap_sets.specs.Regions.{all_sets, with_gap, without_gap, IsInRegion, child_regions, HasNoneOf, open_gaps}
 use Rattle.cover_solver.proofs.Lists.{first_is_here, later_is_here}
-use Rattle.cover_solver.proofs.OpenGaps.{open_exact, open_ascending}
 use Rattle.cover_solver.proofs.Regions.{new_or_old, true_or_false, in_root}
-use Rattle.search_core.proofs.Kept.{Facts, facts_of}
 use Rattle.search_core.proofs.Sets.{gap_set, passed_gaps}
-use Rattle.hunt_board.specs.Internal.Places.{WalkLeads, StandsOnlyAt, ends, goes, child_by, child_in, child_of}
+use Rattle.search_core.proofs.Working.{kept_old, has_new, not_again, later}
 use Rattle.hunt_board.proofs.Parents.{IsChildAt, HaveParents, parents_of}
 
 -- a walk ends at one place
@@ -27,36 +18,12 @@ same_end entries n place a b (goes _ child _ some rest) (ends _ none) = absurd (
 same_end entries n place a b (goes _ child _ some rest) (goes _ child' _ some' rest') =
     same_end entries n child a b rest (subst (λ k. WalkLeads entries n k b) (sym (same_Some child child' (sym some ∙ some'))) rest')
 
--- a set has what it had, and the new gap
-kept_old : (s : SetOfGaps) (gap q : ℕ) → set.contains s q ≡ true → set.contains (set.insert s gap) q ≡ true
-kept_old s gap q h = set.contains-insert nat_cmp_total s gap q ∙ by_or (eq_by_cmp nat_cmp q gap) (set.contains s q) h
-  where
-    by_or : (a b : Bool) → b ≡ true → (a || b) ≡ true
-    by_or true b e = refl
-    by_or false b e = e
-
-has_new : (s : SetOfGaps) (gap : ℕ) → set.contains (set.insert s gap) gap ≡ true
-has_new s gap = set.contains-insert nat_cmp_total s gap gap ∙ by_or (eq_by_cmp nat_cmp gap gap) (set.contains s gap) (grind (arith, nat_tests))
-  where
-    by_or : (a b : Bool) → a ≡ true → (a || b) ≡ true
-    by_or true b e = refl
-    by_or false b e = absurd (true≢false (sym e))
-
 -- a gap that is not there, and not the new one, is not there then
 still_missing : (s : SetOfGaps) (gap q : ℕ) → gap ≢ q → set.contains s q ≡ false → set.contains (set.insert s gap) q ≡ false
 still_missing s gap q differ missing = elim (true_or_false (set.contains (set.insert s gap) q)) [
   | inr none ↦ none
   | inl there ↦ elim (new_or_old s gap q there) [ inl same ↦ absurd (differ same) | inr old ↦ absurd (true≢false (sym old ∙ missing)) ]
 ]
-
--- the first of ascending numbers is none of the others
-differs : (x : ℕ) (xs : List ℕ) → AllPairs (λ a b. a < b) (x ∷ xs) → (q : ℕ) → Contains xs q → x ≢ q
-differs x xs up q here same =
-    let less : x < get_or xs here.0 q = up 0 (suc here.0) q (omega arith) (let h = here.1 in omega arith) in
-    let is : get_or xs here.0 q ≡ q = here.2 in omega arith
-
-others : (x : ℕ) (xs : List ℕ) → AllPairs (λ a b. a < b) (x ∷ xs) → AllPairs (λ a b. a < b) xs
-others x xs up i j d h l = up (suc i) (suc j) d (omega arith) (omega arith)
 
 -- a set in the region of a child is in that of its parent
 in_parent : (n : Region) (gaps : List ℕ) (i : ℕ) (c : Region) (other : SetOfGaps) → slice_get (child_regions n gaps) i ≡ Some c → IsInRegion c other → IsInRegion n other
@@ -96,8 +63,8 @@ child_holds n (gap ∷ gaps) zero c e up must never holds = subst (λ (d : Regio
   avoids = λ q h. still_missing n.must gap q (λ same. true≢false (sym h ∙ subst (λ (g : ℕ). set.contains n.never g ≡ false) same (never gap (first_is_here gap gaps)))) (holds.avoids q h);
 })
 child_holds n (gap ∷ gaps) (suc i) c e up must never holds =
-    child_holds (without_gap n gap) gaps i c e (others gap gaps up) (λ q here. must q (later_is_here gap gaps q here))
-    (λ q here. still_missing n.never gap q (differs gap gaps up q here) (never q (later_is_here gap gaps q here)))
+    child_holds (without_gap n gap) gaps i c e (later gap gaps up) (λ q here. must q (later_is_here gap gaps q here))
+    (λ q here. still_missing n.never gap q (not_again gap gaps up q here) (never q (later_is_here gap gaps q here)))
     (record {
       holds = λ q h. h;
       avoids = λ q h. elim (new_or_old n.never gap q h) [ inl same ↦ subst (λ (g : ℕ). set.contains n.must g ≡ false) same (must gap (first_is_here gap gaps)) | inr old ↦ holds.avoids q old ];
@@ -166,11 +133,8 @@ module _ (o : Outcome) (is : IsOutcome o) where
   ends_there place e there = ap (λ (x : Option Entry). child_in x e.node) there ∙ by_status e.status refl
     where
       by_status : (s : Status) → e.status ≡ s → child_by s e.node.never e.node.must ≡ None
-      by_status Open h = refl
-      by_status Held h = refl
       by_status (Split f first) h = ap (option_map (λ (k : ℕ). first + k)) (no_first e.node.must 0 (open_gaps f.passed e.node.never) (none_must place e f first there h))
-      by_status Cut h = refl
-      by_status Confirmed h = refl
+      by_status s h = refl
 
   found : (place : ℕ) (e : Entry) → slice_get o.entries place ≡ Some e → WalkLeads o.entries e.node 0 place
   found place e there =

@@ -1,11 +1,7 @@
 -- The seats of a hunt as they are made.
-use Rattle.std.proofs.Common.{arith, ◌≡◌, ℕ, ◌+◌, List, [], ◌∷◌, ◌++◌, None, map, refl, sym, ap, ◌∙◌, subst}
-use Rattle.std.specs.List.{range_with_len}
+use Rattle.hunt_board.proofs.Vocabulary.{arith, ◌≡◌, ℕ, ◌+◌, List, [], ◌∷◌, ◌++◌, None, map, refl, sym, ap, ◌∙◌, subst, problem, range_with_len, HuntView, SeatView, IsFresh, AreFresh, word_of, Word, Known, IsSeatOf, no_ceiling}
 use Rattle.std.proofs.lemmas.List.Elements.{All-push}
 use Rattle.std.proofs.lemmas.List.FromFn.{map-range_with_len_more}
-use Rattle.hunt_board.specs.Seats.{HuntView, SeatView, IsFresh, AreFresh, word_of}
-use Rattle.search_core.specs.Ceilings.{problem}
-use Rattle.hunt_board.specs.Word.{Word, Known, IsSeatOf, no_ceiling}
 
 abbrev pub seat_of : ℕ → Known → SeatView
 seat_of number known = record { number = number; node = None; best = None; known = known; posted = 0 }

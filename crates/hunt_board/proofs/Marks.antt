@@ -1,25 +1,20 @@
 -- Receipts that are marked off against the record, one after the other.
 use Rattle.std.proofs.Common.{◌≡◌, ◌≢◌, ℕ, zero, suc, ◌+◌, ◌<◌, ◌≤◌, Bool, true, false, true≢false, List, [], ◌∷◌, Some, None, refl, sym, ap, ◌∙◌, subst, inl, inr, arith, length, length-set, set, cond, get_or, replicate, take}
-use Rattle.std.proofs.lemmas.Option.{same_Some, none-some, slice_get_within, slice_get_read, get_or_from_slice_get}
-use Rattle.std.proofs.lemmas.Bool.{cases_lt}
+use Rattle.hunt_board.proofs.Vocabulary.{same_Some, none-some, slice_get_within, slice_get_read, get_or_from_slice_get, cases_lt, slice_get, ℕ_discrete, Entry, Foreign, Status, Split, Cut, Confirmed, Settled, IsEventOf, IsSettledAs, Receipt, WalkLeads, StandsOnlyAt, get_here, get_else, get_old, HasMark, IsMarked, IsNotMarked}
 use Rattle.std.proofs.lemmas.List.{get_or-replicate, length-replicate}
-use Rattle.hunt_board.proofs.Vocabulary.{slice_get, ℕ_discrete, Entry, Foreign, Status, Open, Held, Split, Cut, Confirmed, Settled, IsEventOf, IsSettledAs, Receipt, WalkLeads, StandsOnlyAt}
 use Rattle.search_core.specs.declared.finished.Event.{Event as Recorded}
 use Rattle.search_core.specs.declared.finished.Event.TheVariants as recorded
-use Rattle.search_core.proofs.Places.{get_here, get_else, get_old}
 use Rattle.hunt_board.specs.declared.settling.Event.{Event}
 use Rattle.hunt_board.specs.declared.settling.Event.TheVariants as event
 use Rattle.hunt_board.specs.Receipts.{IsReceiptEvent as IsEventTold, IsReceiptOf, Stands, StandApart, NameAll, IsFirstWrong}
 use Rattle.hunt_board.specs.Internal.Settled.{IsSameEvent, SaysSame}
-use Rattle.hunt_board.specs.Internal.Marks.{HasMark, IsMarked, IsNotMarked}
 use Rattle.hunt_board.proofs.Found.{same_end}
 
 -- what is at a place of a list's front
 get_take : (n : ℕ) (l : List Receipt) (i : ℕ) (r : Receipt) → slice_get (take n l) i ≡ Some r → (i < n) × (slice_get l i ≡ Some r)
-get_take zero l i r e = absurd (none-some r e)
-get_take (suc n) [] i r e = absurd (none-some r e)
 get_take (suc n) (q ∷ l) zero r e = (omega arith, e)
 get_take (suc n) (q ∷ l) (suc i) r e = let h = get_take n l i r e in let less = h.0 in (omega arith, h.1)
+get_take n l i r e = absurd (none-some r e)
 
 -- a number that is at most another and differs
 lower : (a b : ℕ) → a ≤ b → a ≢ b → a < b
@@ -179,43 +174,23 @@ fresh_marks entries receipts marks n all is = subst (λ l. AreMarked entries rec
 
 -- the same event, by what the record says of it
 same_event : (s : Status) (v : Recorded) (w : Event) → IsEventOf s v → IsSameEvent v w → IsEventTold s w
-same_event Open v w h g = absurd h
-same_event Held v w h g = absurd h
 same_event (Split f first) (recorded.Split run) (event.Split passed) h g = ap (λ (x : Foreign). x.passed) (sym h) ∙ g
-same_event (Split f first) (recorded.Split run) event.Cut h g = absurd g
-same_event (Split f first) (recorded.Split run) event.Confirmed h g = absurd g
-same_event (Split f first) recorded.Cut w h g = absurd h
-same_event (Split f first) recorded.Confirmed w h g = absurd h
-same_event Cut (recorded.Split run) w h g = absurd h
-same_event Cut recorded.Cut (event.Split passed) h g = absurd g
 same_event Cut recorded.Cut event.Cut h g = tt
-same_event Cut recorded.Cut event.Confirmed h g = absurd g
-same_event Cut recorded.Confirmed w h g = absurd h
-same_event Confirmed (recorded.Split run) w h g = absurd h
-same_event Confirmed recorded.Cut w h g = absurd h
-same_event Confirmed recorded.Confirmed (event.Split passed) h g = absurd g
-same_event Confirmed recorded.Confirmed event.Cut h g = absurd g
 same_event Confirmed recorded.Confirmed event.Confirmed h g = tt
+same_event (Split f first) (recorded.Split run) w h g = absurd g
+same_event Cut recorded.Cut w h g = absurd g
+same_event Confirmed recorded.Confirmed w h g = absurd g
+same_event s v w h g = absurd h
 
 -- and the other way round
 event_same : (s : Status) (v : Recorded) (w : Event) → IsEventOf s v → IsEventTold s w → IsSameEvent v w
-event_same Open v w h g = absurd h
-event_same Held v w h g = absurd h
 event_same (Split f first) (recorded.Split run) (event.Split passed) h g = ap (λ (x : Foreign). x.passed) h ∙ g
-event_same (Split f first) (recorded.Split run) event.Cut h g = absurd g
-event_same (Split f first) (recorded.Split run) event.Confirmed h g = absurd g
-event_same (Split f first) recorded.Cut w h g = absurd h
-event_same (Split f first) recorded.Confirmed w h g = absurd h
-event_same Cut (recorded.Split run) w h g = absurd h
-event_same Cut recorded.Cut (event.Split passed) h g = absurd g
 event_same Cut recorded.Cut event.Cut h g = tt
-event_same Cut recorded.Cut event.Confirmed h g = absurd g
-event_same Cut recorded.Confirmed w h g = absurd h
-event_same Confirmed (recorded.Split run) w h g = absurd h
-event_same Confirmed recorded.Cut w h g = absurd h
-event_same Confirmed recorded.Confirmed (event.Split passed) h g = absurd g
-event_same Confirmed recorded.Confirmed event.Cut h g = absurd g
 event_same Confirmed recorded.Confirmed event.Confirmed h g = tt
+event_same (Split f first) (recorded.Split run) w h g = absurd g
+event_same Cut recorded.Cut w h g = absurd g
+event_same Confirmed recorded.Confirmed w h g = absurd g
+event_same s v w h g = absurd h
 
 -- what the record says of a node is what its receipt says
 module _ (e : Entry) (settled : Settled) (r : Receipt) (told : IsSettledAs e settled) where

@@ -1,12 +1,11 @@
 -- Each step keeps the rule of the word.
-use Rattle.std.proofs.Common.{◌≡◌, ◌≢◌, ℕ, zero, suc, ◌<◌, ◌≤◌, List, [], ◌∷◌, length, set, true, false, true≢false, min, refl, sym, ◌∙◌, subst, ⊎_elim, inl, inr, arith, le_refl, le_trans, length-set}
-use Rattle.std.specs.Prelude.{slice_index, slice_set}
-use mathlib.Core.Option.{some, some-injective, some-ne-none}
+use Rattle.std.proofs.Common.{◌≡◌, ◌≢◌, ℕ, ◌<◌, ◌≤◌, List, [], ◌∷◌, length, set, true, false, true≢false, min, refl, sym, ◌∙◌, subst, ⊎_elim, inl, inr, arith, le_refl, le_trans, length-set}
+use Rattle.hunt_board.proofs.Vocabulary.{slice_index, slice_set, knows, spent, both, IsAbove, Fits, Ruled, Loaded, Lowered}
+use mathlib.Core.Option.{some}
 use lib.ListN.{get_elem?}
-use Rattle.atomic_table.specs.Table.{State, Me, step, keeps, Allows, Splits, Joins, opening}
+use Rattle.atomic_table.specs.Table.{State, Me, step, keeps, Allows, Splits, Joins}
 use Rattle.atomic_table.proofs.Lists.{at_set, at_snoc, set_again}
 use Rattle.hunt_board.specs.declared.rule.View.{View}
-use Rattle.hunt_board.specs.Word.{no_ceiling, knows, fresh, spent, both, IsAbove, Fits, Ruled, Loaded, Lowered}
 
 word_set : (ws : List ℕ) (n : ℕ) → length ws ≡ 1 → slice_index (slice_set ws 0 n) 0 ≡ n
 word_set [] n one = absurd (omega arith)
@@ -86,10 +85,3 @@ joins goal id v other u live live' s kept at apart there =
           (fits_set goal n n s.views id (both v u) (le_refl n) kept.views (λ _. (mine.0, low)))
           (λ (e : false ≡ true). absurd (true≢false (sym e)));
     }
-
-pub begins : (goal : ℕ) → goal ≤ no_ceiling → Ruled goal (opening (no_ceiling ∷ []) [] (fresh goal))
-begins goal le = record { one = refl; above = inl refl; views = one_view }
-  where
-    one_view : (i : ℕ) (v : View) → get_elem? (fresh goal ∷ []) i ≡ some v → Fits goal no_ceiling v
-    one_view zero v e = subst (Fits goal no_ceiling) (some-injective _ _ e) (λ _. (refl, le_refl no_ceiling))
-    one_view (suc i) v e = absurd (some-ne-none v (sym e))

@@ -1,13 +1,11 @@
 -- Each node of the record but the first is a child of one that was split.
-use Rattle.std.proofs.Common.{◌≡◌, ◌⊎◌, ℕ, zero, suc, ◌+◌, Bool, true, true≢false, ◌&&◌, List, [], ◌∷◌, ◌++◌, Some, refl, sym, ap, ◌∙◌, subst, inl, inr, arith, set, length, length-set, append-nil}
-use Rattle.hunt_board.proofs.Vocabulary.{slice_get, same_Some, none-some, ℕ_discrete, all_sets, Region, Foreign, Serving, Entry, Status, Open, Held, Split, Cut, Confirmed}
+use Rattle.std.proofs.Common.{◌≡◌, ◌⊎◌, ℕ, zero, suc, ◌+◌, true, true≢false, List, [], ◌∷◌, ◌++◌, Some, refl, sym, ap, ◌∙◌, subst, inl, inr, arith, set, length, length-set, append-nil}
+use Rattle.hunt_board.proofs.Vocabulary.{slice_get, same_Some, none-some, ℕ_discrete, all_sets, Region, Foreign, Entry, Status, Open, Held, Split, Cut, Confirmed, SearchState, IsStart, IsHeldAt, open_entries, IsEvent, takes, gives_back, splits, cuts, confirms, get_else, get_longer, get_old}
 use Rattle.search_core.specs.Children.{children}
-use Rattle.search_core.specs.Entries.{entry, is_live, is_live_status, is_open_status, is_held_status}
-use Rattle.search_core.specs.States.{SearchState, IsStart}
-use Rattle.search_core.specs.Events.{open_entries, TakesNode, GivesBack, Splits, Cuts, Confirms, IsEvent, takes, gives_back, splits, cuts, confirms}
+use Rattle.search_core.specs.Entries.{entry, is_live, is_live_status}
 use Rattle.search_core.specs.Histories.{IsReached, starts, goes_on}
-use Rattle.search_core.proofs.Places.{get_else, get_longer, get_old}
 use Rattle.search_core.proofs.Changes.{changed, is_there}
+use Rattle.search_core.proofs.WorkLaws.{open_live, held_live, held_is}
 
 -- the node is the child of this number of one that was split
 pub record IsChildAt (es : List Entry) (place : ℕ) (n : Region) : Type 0 where
@@ -38,20 +36,6 @@ get_opened : (seat : ℕ) (ns : List Region) (k : ℕ) (y : Entry) → slice_get
 get_opened seat [] k y e = absurd (none-some y e)
 get_opened seat (n ∷ ns) zero y e = ap (λ (x : Entry). Some x.node) (same_Some (entry n seat Open) y e)
 get_opened seat (n ∷ ns) (suc k) y e = get_opened seat ns k y e
-
-open_live : (s : Status) → is_open_status s ≡ true → is_live_status s ≡ true
-open_live Open h = refl
-open_live Held h = refl
-open_live (Split f first) h = absurd (true≢false (sym h))
-open_live Cut h = absurd (true≢false (sym h))
-open_live Confirmed h = absurd (true≢false (sym h))
-
-held_live : (s : Status) (b : Bool) → (is_held_status s && b) ≡ true → is_live_status s ≡ true
-held_live Open b h = refl
-held_live Held b h = refl
-held_live (Split f first) b h = absurd (true≢false (sym h))
-held_live Cut b h = absurd (true≢false (sym h))
-held_live Confirmed b h = absurd (true≢false (sym h))
 
 -- an open or held node changes its status, and more nodes are opened
 module _ (es : List Entry) (place : ℕ) (e x : Entry) (there : slice_get es place ≡ Some e) (same : x.node ≡ e.node) (live : is_live e ≡ true) (parents : HaveParents es) where
@@ -108,42 +92,25 @@ module _ (es : List Entry) (place : ℕ) (e x : Entry) (there : slice_get es pla
       }))
 
 module _ (s after : SearchState) (seat : ℕ) (parents : HaveParents s.entries) where
-  taken : (n : Region) → TakesNode s after seat n → HaveParents after.entries
-  taken n t =
-      let e = t.there.before in
-      subst (λ (z : SearchState). HaveParents z.entries) (sym t.is_after)
-      (by_status s.entries t.place e (entry n seat Held) t.there.there (sym t.there.is_node) (open_live e.status t.there.open_there) parents)
+  -- the seat's node, with another status
+  held_now : (place : ℕ) (n : Region) (held : IsHeldAt s.entries seat place n) (status : Status) → HaveParents (set s.entries place (entry n seat status))
+  held_now place n held status = by_status s.entries place held.before (entry n seat status) held.there (sym held.is_node) (held_live held.before.status (held_is seat held.before held.held_there)) parents
 
-  given_back : GivesBack s after seat → HaveParents after.entries
-  given_back t =
-      let e = t.there.before in
-      subst (λ (z : SearchState). HaveParents z.entries) (sym t.is_after)
-      (by_status s.entries t.place e (entry t.node seat Open) t.there.there (sym t.there.is_node) (held_live e.status _ t.there.held_there) parents)
-
-  cut_off : Cuts s after seat → HaveParents after.entries
-  cut_off t =
-      let e = t.there.before in
-      subst (λ (z : SearchState). HaveParents z.entries) (sym t.is_after)
-      (by_status s.entries t.place e (entry t.node seat Cut) t.there.there (sym t.there.is_node) (held_live e.status _ t.there.held_there) parents)
-
-  confirmed : (b : Serving) → Confirms s after seat b → HaveParents after.entries
-  confirmed b t =
-      let e = t.there.before in
-      subst (λ (z : SearchState). HaveParents z.entries) (sym t.is_after)
-      (by_status s.entries t.place e (entry t.node seat Confirmed) t.there.there (sym t.there.is_node) (held_live e.status _ t.there.held_there) parents)
-
-  divided : (f : Foreign) → Splits s after seat f → HaveParents after.entries
-  divided f t =
-      let e = t.there.before in
-      subst (λ (z : SearchState). HaveParents z.entries) (sym t.is_after)
-      (by_split s.entries t.place e (entry t.node seat (Split f (length s.entries))) t.there.there (sym t.there.is_node) (held_live e.status _ t.there.held_there) parents seat f refl)
+  event_done : IsEvent s after seat → (es : List Entry) × HaveParents es × (after.entries ≡ es)
+  event_done (takes n t) =
+      (_, by_status s.entries t.place t.there.before (entry n seat Held) t.there.there (sym t.there.is_node) (open_live t.there.before.status t.there.open_there) parents, ap (λ (z : SearchState). z.entries) t.is_after)
+  event_done (gives_back t) = (_, held_now t.place t.node t.there Open, ap (λ (z : SearchState). z.entries) t.is_after)
+  event_done (cuts t) = (_, held_now t.place t.node t.there Cut, ap (λ (z : SearchState). z.entries) t.is_after)
+  event_done (confirms b t) = (_, held_now t.place t.node t.there Confirmed, ap (λ (z : SearchState). z.entries) t.is_after)
+  event_done (splits f t) = (
+    _,
+    by_split s.entries t.place t.there.before (entry t.node seat (Split f (length s.entries))) t.there.there (sym t.there.is_node)
+        (held_live t.there.before.status (held_is seat t.there.before t.there.held_there)) parents seat f refl,
+    ap (λ (z : SearchState). z.entries) t.is_after,
+  )
 
   after_event : IsEvent s after seat → HaveParents after.entries
-  after_event (takes n t) = taken n t
-  after_event (gives_back t) = given_back t
-  after_event (splits f t) = divided f t
-  after_event (cuts t) = cut_off t
-  after_event (confirms b t) = confirmed b t
+  after_event event = (let (es, has, same) = event_done event in subst HaveParents (sym same) has)
 
 at_start : (s : SearchState) → IsStart s → HaveParents s.entries
 at_start s is = subst HaveParents (sym is.only_root) root

@@ -1,11 +1,8 @@
 -- What a cut by the best set does to the node that a seat has in hand, and when workers wait.
 use Rattle.std.proofs.Common.{◌≡◌, ◌⊎◌, ℕ, Bool, not, true, false, true≢false, IsTrue, Result, Ok, Err, refl, sym, inl, inr}
-use Rattle.std.specs.Prelude.{◌↔◌, OnOk, OnErr, IfErr}
-use Rattle.hunt_board.proofs.Vocabulary.{Region, not_cut}
+use Rattle.hunt_board.proofs.Vocabulary.{◌↔◌, OnOk, OnErr, IfErr, Region, not_cut, SearchState, HasInHand, Cuts, IsBeaten}
 use Rattle.search_core.specs.declared.ceiling.Reason.TheVariants as reason
 use Rattle.search_core.specs.declared.fault.TreeFault.{TreeFault}
-use Rattle.search_core.specs.States.{SearchState, HasInHand}
-use Rattle.search_core.specs.Events.{Cuts, IsBeaten}
 use Rattle.search_core.specs.Faults.{CutFaultIs}
 
 -- a cut by the best set is one, or nothing where that does not cut the node

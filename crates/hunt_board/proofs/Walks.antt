@@ -1,10 +1,8 @@
 -- The walk through the record of a search.
-use Rattle.std.proofs.Common.{◌≡◌, ℕ, zero, suc, ◌+◌, ◌<◌, List, [], ◌∷◌, Option, Some, None, refl, sym, ap, ◌∙◌, subst, arith, length}
-use Rattle.hunt_board.proofs.Vocabulary.{slice_get, same_Some, slice_get_within, SetOfGaps, open_gaps, child_regions, with_gap, without_gap, Region, Foreign, Entry, Status, Settled, facts_of}
+use Rattle.hunt_board.proofs.Vocabulary.{◌≡◌, ℕ, zero, suc, ◌+◌, ◌<◌, List, [], ◌∷◌, Option, Some, None, refl, sym, ap, ◌∙◌, subst, arith, length, slice_get, same_Some, slice_get_within, SetOfGaps, open_gaps, child_regions, with_gap, without_gap, Region, Foreign, Entry, Status, Settled, facts_of, Outcome, finished_state, IsOutcome, IsEventOf, IsSettledAs, IsFirstChild}
 use Rattle.search_core.specs.declared.entry.Status.TheVariants as status
 use Rattle.search_core.specs.declared.finished.Event.{Event}
 use Rattle.search_core.specs.declared.finished.Event.TheVariants as event
-use Rattle.search_core.specs.Records.{Outcome, finished_state, IsOutcome, IsEventOf, IsSettledAs, IsFirstChild}
 
 -- where no number is found
 pub none_there : (found : Option ℕ) → ((x : ℕ) → found ≡ Some x → ⊥) → found ≡ None
@@ -30,23 +28,17 @@ kids_there o is place first number e f there split h =
     )
 
 -- the record of a split says which run it was
-split_event : (s : Status) (v : Event) (run : _) → v ≡ event.Split run → IsEventOf s v → (f : Foreign) × (first : ℕ) × (s ≡ status.Split f first) × (run.now ≡ f)
+pub split_event : (s : Status) (v : Event) (run : _) → v ≡ event.Split run → IsEventOf s v → (f : Foreign) × (first : ℕ) × (s ≡ status.Split f first) × (run.now ≡ f)
 split_event s v run e h = by_status s (subst (λ (u : Event). IsEventOf s u) e h)
   where
     by_status : (t : Status) → IsEventOf t (event.Split run) → (f : Foreign) × (first : ℕ) × (t ≡ status.Split f first) × (run.now ≡ f)
-    by_status status.Open h = absurd h
-    by_status status.Held h = absurd h
     by_status (status.Split f first) h = (f, first, refl, h)
-    by_status status.Cut h = absurd h
-    by_status status.Confirmed h = absurd h
+    by_status t h = absurd h
 
 -- a split node's run
 abbrev run_of : Foreign → Status → Foreign
-run_of f status.Open = f
-run_of f status.Held = f
 run_of f (status.Split run first) = run
-run_of f status.Cut = f
-run_of f status.Confirmed = f
+run_of f h = f
 
 module _ (o : Outcome) (place : ℕ) (settled : Settled) (run : _) (is_split : settled.event ≡ event.Split run)
     (found : (e : Entry) × (slice_get o.entries place ≡ Some e) × IsSettledAs e settled) where

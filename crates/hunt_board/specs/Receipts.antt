@@ -13,17 +13,10 @@ use Rattle.hunt_board.specs.Seats.{HuntView}
 
 -- so the node was settled; of a split the event has the gaps that its run passes
 abbrev pub IsReceiptEvent : Status → Event → Type 0
-IsReceiptEvent Open e = ⊥
-IsReceiptEvent Held e = ⊥
 IsReceiptEvent (Split run first) (event.Split passed) = run.passed ≡ passed
-IsReceiptEvent (Split run first) event.Cut = ⊥
-IsReceiptEvent (Split run first) event.Confirmed = ⊥
-IsReceiptEvent Cut (event.Split passed) = ⊥
 IsReceiptEvent Cut event.Cut = Unit {0}
-IsReceiptEvent Cut event.Confirmed = ⊥
-IsReceiptEvent Confirmed (event.Split passed) = ⊥
-IsReceiptEvent Confirmed event.Cut = ⊥
 IsReceiptEvent Confirmed event.Confirmed = Unit {0}
+IsReceiptEvent status e = ⊥
 
 -- the receipt says how the node was settled, and by which seat
 pub record IsReceiptOf (e : Entry) (r : Receipt) : Type 0 where

@@ -37,16 +37,12 @@ settling_event Best = event.Cut
 -- the settling is by a foreign run
 abbrev pub IsByRun : Settling → Type 0
 IsByRun (Asked (verdict.Foreign run)) = Unit {0}
-IsByRun (Asked (verdict.Serves served)) = ⊥
-IsByRun (Cut ceiling) = ⊥
-IsByRun Best = ⊥
+IsByRun how = ⊥
 
 -- the best set that a seat has confirmed, before and after: a set that serves may be a new one
 abbrev pub IsOwnBestAfter : List ℕ → Settling → Option facts.Serving → Option facts.Serving → Type 0
-IsOwnBestAfter costs (Asked (verdict.Foreign run)) before after = after ≡ before
 IsOwnBestAfter costs (Asked (verdict.Serves served)) before after = IsBestAfter costs served before after
-IsOwnBestAfter costs (Cut ceiling) before after = after ≡ before
-IsOwnBestAfter costs Best before after = after ≡ before
+IsOwnBestAfter costs how before after = after ≡ before
 
 -- the seat after it settled its node: it holds nothing, and only its best set may be another
 pub record IsSettled (h : HuntView) (how : Settling) (before after : SeatView) : Type 0 where

@@ -54,8 +54,6 @@ traces_still s k (Some x) are = record { there = are.there; tree = are.tree; ali
 
 -- what the last thread does is the same after a choice of another thread
 pub before_next : (s next : ProgramSketch) (last : LastThread) (c : Choice) → IsOfOther last.thread c → next ≡ with_chosen s (sketch_with s.chosen c) → IsBeforeLast s last → IsBeforeLast next last
-before_next s next last (choice.Source read source) of_other same before = absurd of_other
-before_next s next last (choice.Order first second) of_other same before = absurd of_other
 before_next s next last (choice.Value u v) of_other same before = subst (λ (n : ProgramSketch). IsBeforeLast n last) (sym same) (record {
   alone = record { sources = before.alone.sources; pairs = before.alone.pairs };
   none = values_elsewhere s.chosen u (given_to s.chosen u ++ v ∷ []) last.thread (λ e. of_other (sym e)) ∙ before.none;
@@ -65,6 +63,7 @@ before_next s next last (choice.Value u v) of_other same before = subst (λ (n :
   start = before.start;
   before = traces_still s (sketch_with s.chosen (choice.Value u v)) last.before before.before;
 })
+before_next s next last c of_other same before = absurd of_other
 
 -- where all other threads have their values, only the last thread's are left
 pub base_of : (s : ProgramSketch) (last : LastThread) (others : Tally) → IsBeforeLast s last → AreOthersFull s last.thread → IsTallyOf s (IsOther last.thread) others → IsBase last.thread s others

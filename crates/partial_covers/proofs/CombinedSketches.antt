@@ -8,6 +8,7 @@ use Rattle.candidate_executions.specs.declared.event.Event.TheVariants.{Initial,
 use Rattle.candidate_executions.specs.Traces.{Trace, trace, fenced_gaps}
 use Rattle.candidate_executions.specs.Sketches.{given_to, with_value, read_by, next_read, IsSourceOf, IsWhole}
 use Rattle.sketches.proofs.Lawful.{none_in}
+use Rattle.std.proofs.lemmas.List.{set-set}
 use Rattle.sketches.proofs.ThreadValues.{values_here, values_elsewhere, merged_lawful, values_alone}
 use Rattle.cover_judge.specs.Choices.{IsValueOpen, AreValueChoices, AreSourceChoices}
 use Rattle.cover_judge.proofs.ChoicesJudged.{source_is_open}
@@ -17,11 +18,6 @@ use Rattle.branching.specs.Tallies.{HasBit, IsTallyOf, IsTalliedRead, IsThisThre
 none_when : (o : Option ℕ) → (IsSome o → ⊥) → o ≡ None
 none_when None closed = refl
 none_when (Some n) closed = absurd (closed refl)
-
-set_twice : {A : Type 0} (xs : List A) (t : ℕ) (x y : A) → set (set xs t x) t y ≡ set xs t y
-set_twice [] t x y = refl
-set_twice (z ∷ xs) zero x y = refl
-set_twice (z ∷ xs) (suc t) x y = ap (λ ys. z ∷ ys) (set_twice xs t x y)
 
 module _ (s u : ProgramSketch) (t : ℕ) (lawful : IsLawful s) (alone : HasValuesAlone s.chosen) (there : t < length s.program.threads) (own : IsLawful u) (alike : AreAlike u s) where
   abbrev merged : ProgramSketch
@@ -75,7 +71,7 @@ module _ (s u : ProgramSketch) (t : ℕ) (lawful : IsLawful s) (alone : HasValue
       let theirs = values_here u.chosen t (given_to u.chosen t ++ v ∷ []) many in
       let mine = ap (λ (g : List ℕ). g ++ v ∷ []) (values_here s.chosen t (given_to u.chosen t) within) in
       ap (λ (given : List (List ℕ)). with_chosen s (record s.chosen { given = given }))
-      (ap (set s.chosen.given t) theirs ∙ sym (ap (set (set s.chosen.given t (given_to u.chosen t)) t) mine ∙ set_twice s.chosen.given t (given_to u.chosen t) (given_to u.chosen t ++ v ∷ [])))
+      (ap (set s.chosen.given t) theirs ∙ sym (ap (set (set s.chosen.given t (given_to u.chosen t)) t) mine ∙ set-set s.chosen.given t (given_to u.chosen t) (given_to u.chosen t ++ v ∷ [])))
 
   -- each read has its value where neither has a next read
   pub whole_merged : (IsValueOpen u t → ⊥) → ((v : ℕ) → v ≢ t → IsValueOpen s v → ⊥) → IsWhole merged.program (mode_in merged) merged.chosen
@@ -84,29 +80,32 @@ module _ (s u : ProgramSketch) (t : ℕ) (lawful : IsLawful s) (alone : HasValue
     | inr other ↦ next_elsewhere v other ∙ none_when _ (others v other)
   ]
 
+  -- a read of the thread in its own sketch is one here, and so is one of another thread
+  pub read_here : (r : ReadValue) → r.read.thread ≡ t → IsTalliedRead u r → IsTalliedRead merged r
+  read_here r of_thread is = record {
+    access = is.access;
+    is_access = access_here r.read.thread r.read.access of_thread ∙ is.is_access;
+    location = is.location;
+    reads = is.reads;
+    later = subst (λ (p : Listing). r.value ≢ slice_index p.memory is.access.location) alike.program is.later;
+  }
+
+  pub read_elsewhere : (r : ReadValue) → r.read.thread ≢ t → IsTalliedRead s r → IsTalliedRead merged r
+  read_elsewhere r other is = record {
+    access = is.access;
+    is_access = access_elsewhere r.read.thread r.read.access other ∙ is.is_access;
+    location = is.location;
+    reads = is.reads;
+    later = is.later;
+  }
+
   module _ (mine others : Tally) (own_tally : IsTallyOf u (IsThisThread t) mine) (other_tally : IsTallyOf s (IsOther t) others) where
     -- the reads of both are reads of the sketch
     tallied_here : (r : ReadValue) → Contains mine.reads.items r → IsTalliedRead merged r
-    tallied_here r here =
-        let (of_thread, is) = own_tally.reads r here in
-        record {
-          access = is.access;
-          is_access = access_here r.read.thread r.read.access of_thread ∙ is.is_access;
-          location = is.location;
-          reads = is.reads;
-          later = subst (λ (p : Listing). r.value ≢ slice_index p.memory is.access.location) alike.program is.later;
-        }
+    tallied_here r here = (let (of_thread, is) = own_tally.reads r here in read_here r of_thread is)
 
     tallied_elsewhere : (r : ReadValue) → Contains others.reads.items r → IsTalliedRead merged r
-    tallied_elsewhere r here =
-        let (of_thread, is) = other_tally.reads r here in
-        record {
-          access = is.access;
-          is_access = access_elsewhere r.read.thread r.read.access of_thread ∙ is.is_access;
-          location = is.location;
-          reads = is.reads;
-          later = is.later;
-        }
+    tallied_elsewhere r here = (let (other, is) = other_tally.reads r here in read_elsewhere r other is)
 
     -- each write of a thread has its bit in one of the two
     marked : (v i l w : ℕ) → Writes (access_in merged) (At v i) l w → HasBit mine.written l w ⊎ HasBit others.written l w

@@ -1,11 +1,12 @@
 -- What several steps of a search for outcomes do together to what it has so far.
-use Rattle.std.proofs.Common.{◌≡◌, ◌<◌, ℕ, Bool, true, List, [], ◌∷◌, ◌++◌, ◌+◌, ◌∙◌, Vec, Global, get_or, length, take, sym, ap, subst}
+use Rattle.std.proofs.Common.{◌≡◌, ◌<◌, ℕ, Bool, true, List, [], ◌∷◌, ◌++◌, ◌+◌, ◌∙◌, ◌-◌, Vec, Global, get_or, length, take, refl, sym, ap, subst, arith}
 use Rattle.partial_covers.proofs.Vocabulary.{Shown, asked, ProgramSketch, with_chosen, Choice, AreValueChoices, sketch_with, by_number, Grows, Covering, Item, Has, items_of, after, PushesPartial}
-use Rattle.partial_covers.proofs.Vocabulary.{PushesPartialRow, PushesPartialAt}
+use Rattle.partial_covers.proofs.Vocabulary.{PushesPartialRow, PushesPartialAt, AreInOrder, length-append}
 use Rattle.cert_forest.specs.declared.node.Node.TheVariants as node
-use Rattle.sketch_covers.proofs.Growing.{grows_twice, grows_after}
+use Rattle.sketch_covers.proofs.Growing.{grows_none, grows_twice, grows_after}
 use Rattle.partial_covers.specs.Coverings.{Covers, CoversEach, CoversIf}
-use Rattle.partial_covers.proofs.PartialRows.{after_more, one_partial, values_partial}
+use Rattle.partial_covers.proofs.PartialRows.{after_more, none_partial, one_partial, values_partial}
+use Rattle.partial_covers.proofs.PartialNodes.{taken_back}
 use Rattle.partial_covers.proofs.PartsJoined.{was_joined}
 
 -- after a step that leaves what is shown and the path
@@ -48,14 +49,27 @@ covers_joined s old mid new joined is shown path grows same made = covers_next s
   tree = was_joined s mid.shown.now (by_number new.outcomes) mid.path.items (items_of mid.kept) (items_of new.kept) joined is made.tree;
 })
 
+-- no choice has its cover yet
+pub each_none : (s : ProgramSketch) (choices : List Choice) (old : Covering) → AreInOrder old.outcomes → CoversEach s (take 0 choices) old old
+each_none s choices old in_order = record {
+  shown = refl;
+  path = refl;
+  grows = grows_none (asked s.program old.shown.now) old.outcomes in_order;
+  row = λ root leads. none_partial root old.shown.now (by_number old.outcomes) old.path.items choices (items_of old.kept);
+}
+
 -- a choice more has its cover
 module _ (s next : ProgramSketch) (choices : List Choice) (i : ℕ) (d : Choice) (old mid new : Covering) (longer rest : Vec Choice Global) (here : i < length choices) (same : next ≡ with_chosen s (sketch_with s.chosen (get_or choices i d)))
-    (pushed : longer.items ≡ mid.path.items ++ get_or choices i d ∷ []) (back : rest.items ≡ old.path.items) (before : CoversEach s (take i choices) old mid) (made : Covers next (record mid { path = longer }) new) where
+    (pushed : longer.items ≡ mid.path.items ++ get_or choices i d ∷ []) (n : ℕ) (popped : rest.items ≡ take n new.path.items) (count : n ≡ length new.path.items - 1)
+    (before : CoversEach s (take i choices) old mid) (made : Covers next (record mid { path = longer }) new) where
   abbrev ch : Choice
   ch = get_or choices i d
 
   long : longer.items ≡ old.path.items ++ ch ∷ []
   long = pushed ∙ ap (λ (cs : List Choice). cs ++ ch ∷ []) before.path
+
+  back : rest.items ≡ old.path.items
+  back = popped ∙ taken_back old.path.items new.path.items n (ch ∷ [], made.path ∙ long) (omega (arith, ap length (made.path ∙ long), length-append old.path.items (ch ∷ [])))
 
   grows_now : Grows (asked s.program old.shown.now) mid.outcomes new.outcomes
   grows_now = grows_after s next old.shown.now ch same mid.outcomes new.outcomes (subst (λ (sh : Shown). Grows (asked next.program sh) mid.outcomes new.outcomes) before.shown made.grows)

@@ -15,7 +15,10 @@ use Rattle.cover_judge.specs.declared.choice.Choice.TheVariants as choice
 use Rattle.branching.specs.declared.open_choice.OpenChoice.TheVariants as left
 use Rattle.sketch_covers.specs.Covers.{IsCoverAt, AreCoversAfter}
 use Rattle.partial_covers.specs.HoleTrees.{copied, Filled}
-use Rattle.partial_covers.proofs.ChangedNodes.{spelled_in_sequence}
+use Rattle.partial_covers.proofs.ChangedNodes.{spelled_in}
+use Rattle.partial_covers.specs.NodeChanges.{changed_node}
+use Rattle.cover_judge.specs.TighterModes.{kind_in}
+use mathlib.Core.Path.{fun_ext}
 use Rattle.partial_covers.proofs.ChoicesMade.{same_program, same_mode, after_unfenced}
 use Rattle.partial_covers.proofs.FilledTrees.{cover_in_mode, choices_in_mode}
 use Rattle.partial_covers.proofs.PartialNodes.{pieces_pushed}
@@ -25,18 +28,16 @@ use Rattle.partial_covers.proofs.LawfulValues.{lawful_value}
 -- ---- copies of nodes
 
 all_copied : (mode : Mode) (xs : List Node) → copied_in mode xs ≡ map (copied mode) xs
-all_copied modes.Sequential xs = refl
-all_copied (modes.Fenced gaps) [] = refl
 all_copied (modes.Fenced gaps) (x ∷ xs) = ap (λ (ys : List Node). x ∷ ys) (all_copied (modes.Fenced gaps) xs)
+all_copied mode xs = refl
+
+node_copied : (p : Listing) (mode : Mode) (x : Node) → changed_node (kind_in (machine_of_mode p mode)) (λ n. n) x ≡ copied mode x
+node_copied p (modes.Fenced gaps) (node.Value t n) = refl
+node_copied p mode x = refl
 
 -- copies of a tree's nodes are the nodes of the tree in the mode
-tree_copied : (p : Listing) (mode : Mode) (t : Cover) → spell (in_mode (machine_of_mode p mode) t) ≡ copied_in mode (spell t)
-tree_copied p modes.Sequential t = spelled_in_sequence t
-tree_copied p (modes.Fenced gaps) t = refl
-
-value_copied : (mode : Mode) (t n : ℕ) → copied mode (node.Value t n) ≡ node.Value t n
-value_copied modes.Sequential t n = refl
-value_copied (modes.Fenced gaps) t n = refl
+tree_copied : (p : Listing) (mode : Mode) (t : Cover) → spell (in_mode (machine_of_mode p mode) t) ≡ map (copied mode) (spell t)
+tree_copied p mode t = spelled_in (kind_in (machine_of_mode p mode)) t ∙ ap (λ (f : Node → Node). map f (spell t)) (fun_ext (node_copied p mode))
 
 -- ---- what stands for a partial cover
 
@@ -119,7 +120,7 @@ module _ (s : ProgramSketch) (shown : Shown) where
     closed_filled path tree items nodes is so =
         let n = after s path in
         let (others, copies, later) = copies_first (spell tree) items nodes so in
-        let spelled : spell (in_mode (mode_in n) tree) ≡ map (copied s.mode) (spell tree) = tree_copied n.program n.mode tree ∙ ap (λ (mode : Mode). copied_in mode (spell tree)) (same_mode s path) ∙ all_copied s.mode (spell tree) in
+        let spelled : spell (in_mode (mode_in n) tree) ≡ map (copied s.mode) (spell tree) = tree_copied n.program n.mode tree ∙ ap (λ (mode : Mode). map (copied mode) (spell tree)) (same_mode s path) in
         record {
           tree = in_mode (mode_in n) tree;
           is = cover_in_mode n shown outcomes tree (subst (λ (k : ProgramSketch). IsCoverAt k shown outcomes tree) (after_unfenced s path) is);
@@ -139,7 +140,7 @@ module _ (s : ProgramSketch) (shown : Shown) where
           is = node_cover n shown outcomes lawful (left.Value t) choices row.trees six (next_is_open n t are.values are.next) are row.are;
           others = row.others;
           so = row.so;
-          pushed = root ∙ ap (λ (x : Node). x ∷ more) (value_copied s.mode t many) ∙ ap (λ (xs : List Node). node.Value t many ∷ xs) row.pushed
+          pushed = root ∙ ap (λ (x : Node). x ∷ more) (sym (node_copied s.program s.mode (node.Value t many))) ∙ ap (λ (xs : List Node). node.Value t many ∷ xs) row.pushed
               ∙ (λ i. node.Value t (count i) ∷ ((sym (listed row.trees)) i ++ row.others));
         }
 

@@ -1,6 +1,6 @@
 -- Partial covers whose holes get other fillings.
-use Rattle.std.proofs.Common.{◌≡◌, ℕ, suc, ◌+◌, ◌<◌, ◌≤◌, List, [], ◌∷◌, ◌++◌, get_or, set, length, map, refl, sym, ap, ◌∙◌, subst, inl, inr, arith, append_assoc}
-use Rattle.partial_covers.proofs.Vocabulary.{append-nil, cases_eq, get_or-set_other, get_or-set_same, same_default, IsCoverAt, Pushes, Outcome, Shown, ProgramSketch, with_chosen, Node, spell, Choice, sketch_with, Piece, KeepsNumbers, IsFilling, sequential, AreFilled, IsFilled}
+use Rattle.std.proofs.Common.{◌≡◌, ℕ, suc, ◌+◌, ◌<◌, ◌≤◌, List, [], ◌∷◌, ◌++◌, length, map, refl, sym, ap, ◌∙◌, subst, arith, append_assoc}
+use Rattle.partial_covers.proofs.Vocabulary.{append-nil, IsCoverAt, Pushes, Outcome, Shown, ProgramSketch, with_chosen, Node, spell, Choice, sketch_with, Piece, KeepsNumbers, IsFilling, sequential, AreFilled, IsFilled}
 use Rattle.partial_covers.proofs.Vocabulary.{Item, Has, Lacks, PartialTree, Closed, Values, Hole, PartialTrees, NoPartial, MorePartial, count_partial, spell_partial, spell_partial_row, items_before}
 use Rattle.partial_covers.proofs.Vocabulary.{after, IsPartialAfter, ArePartialAfter, PushesPartial, PushesPartialAt}
 use Rattle.cert_forest.specs.declared.node.Node.TheVariants as node
@@ -35,27 +35,6 @@ filling_pushed k shown outcomes (x ∷ xs) old new same full filled by = record 
   pushed = by ∙ ap (λ (ys : List Node). old ++ ys) filled.pushed;
 }
 
--- one piece more is filled
-module _ (s : ProgramSketch) (shown : Shown) (before outcomes : List Outcome) (old now : List Piece) (i : ℕ) (piece new : Piece) (here : i < length old) (long : length now ≡ length old) (left : (k : ℕ) (d : Piece) → i ≤ k → get_or now k d ≡ get_or old k d)
-    (at : piece ≡ get_or now i piece) (is : IsFilled s shown outcomes piece new) where
-  within : i < length now
-  within = omega arith
-
-  was : (d : Piece) → get_or old i d ≡ piece
-  was d = sym (left i d (omega arith)) ∙ same_default now i d piece within ∙ sym at
-
-  pub fills_made : ((a b : Piece) → IsFilled s shown before a b → IsFilled s shown outcomes a b) → ((k : ℕ) (d : Piece) → k < i → IsFilled s shown before (get_or old k d) (get_or now k d)) → (k : ℕ) (d : Piece) → k < i + 1
-      → IsFilled s shown outcomes (get_or old k d) (get_or (set now i new) k d)
-  fills_made still made k d below = elim (cases_eq k i) [
-    | inl same ↦ subst (λ (j : ℕ). IsFilled s shown outcomes (get_or old j d) (get_or (set now i new) j d)) (sym same)
-        (subst (λ (p : Piece). IsFilled s shown outcomes p (get_or (set now i new) i d)) (sym (was d)) (subst (IsFilled s shown outcomes piece) (sym (get_or-set_same now i new d within)) is))
-    | inr other ↦ subst (IsFilled s shown outcomes (get_or old k d)) (sym (get_or-set_other now i k new d other)) (still (get_or old k d) (get_or now k d) (made k d (omega arith)))
-  ]
-
--- and the later ones are as they were
-pub fills_left : (old now : List Piece) (i : ℕ) (new : Piece) → ((k : ℕ) (d : Piece) → i ≤ k → get_or now k d ≡ get_or old k d) → (k : ℕ) (d : Piece) → i + 1 ≤ k → get_or (set now i new) k d ≡ get_or old k d
-fills_left old now i new left k d above = get_or-set_other now i k new d (omega arith) ∙ left k d (omega arith)
-
 pub filled_still : (s : ProgramSketch) (shown : Shown) (before outcomes : List Outcome) → KeepsNumbers before outcomes → (a b : Piece) → IsFilled s shown before a b → IsFilled s shown outcomes a b
 filled_still s shown before outcomes keeps a b is = record { nodes = is.nodes; path = is.path; filling = filling_still (after s a.path.items) shown before outcomes keeps b.filling.items is.filling }
 
@@ -75,23 +54,22 @@ module _ (root : ProgramSketch) (shown : Shown) (outcomes : List Outcome) where
   refills_last (x ∷ xs) = (map Has xs, refl, refills_last xs)
 
   -- as it lies in memory
-  refills_pieces : (old new : List Piece) (nodes : List Node) → length new ≡ length old → ((k : ℕ) (d : Piece) → k < length old → IsFilled (sequential root) shown outcomes (get_or old k d) (get_or new k d))
-      → Refills (items_before old ++ map Has nodes) (items_before new ++ map Has nodes)
-  refills_pieces [] [] nodes same each = refills_last nodes
-  refills_pieces [] (q ∷ qs) nodes same each = absurd (omega arith)
-  refills_pieces (p ∷ ps) [] nodes same each = absurd (omega arith)
-  refills_pieces (p ∷ ps) (q ∷ qs) nodes same each =
-      let first = each 0 p (omega arith) in
-      let rest = refills_pieces ps qs nodes (omega arith) (λ k d h. each (suc k) d (omega arith)) in
+  refills_pieces : (old new : List Piece) (nodes : List Node) → AreFilled (sequential root) shown outcomes old new → Refills (items_before old ++ map Has nodes) (items_before new ++ map Has nodes)
+  refills_pieces [] [] nodes filled = refills_last nodes
+  refills_pieces (p ∷ ps) (q ∷ qs) nodes filled =
+      let same = filled.as_many in
+      let first = filled.each 0 p (omega arith) in
+      let rest = refills_pieces ps qs nodes (record { as_many = omega arith; each = λ k d h. filled.each (suc k) d (omega arith) }) in
       let path = p.path.items in
       let filling = q.filling.items in
       let before = items_before ps ++ map Has nodes in
       let now = items_before qs ++ map Has nodes in
-      let filled = in_any (after root path) shown outcomes filling (subst (λ (k : ProgramSketch). IsFilling k shown outcomes filling) (after_sequential root path) first.filling) in
-      let one = refills_nodes p.nodes.items (Lacks path p.filling.items ∷ before) (Lacks path filling ∷ now) (filling, now, filled, refl, rest) in
+      let valid = in_any (after root path) shown outcomes filling (subst (λ (k : ProgramSketch). IsFilling k shown outcomes filling) (after_sequential root path) first.filling) in
+      let one = refills_nodes p.nodes.items (Lacks path p.filling.items ∷ before) (Lacks path filling ∷ now) (filling, now, valid, refl, rest) in
       subst (λ (xs : List Item). Refills xs ((map Has q.nodes.items ++ Lacks q.path.items filling ∷ items_before qs) ++ map Has nodes)) (sym (append_assoc (map Has p.nodes.items) (Lacks path p.filling.items ∷ items_before ps) (map Has nodes)))
       (subst (Refills (map Has p.nodes.items ++ Lacks path p.filling.items ∷ before))
       ((λ i. map Has ((sym first.nodes) i) ++ Lacks ((sym first.path) i) filling ∷ now) ∙ sym (append_assoc (map Has q.nodes.items) (Lacks q.path.items filling ∷ items_before qs) (map Has nodes))) one)
+  refills_pieces old new nodes filled = absurd (let same = filled.as_many in omega arith)
 
   nodes_first : (xs : List Node) (items new : List Item) → Refills (map Has xs ++ items) new → (others : List Item) × (new ≡ map Has xs ++ others) × Refills items others
   nodes_first [] items new so = (new, refl, so)
@@ -141,8 +119,6 @@ module _ (root : ProgramSketch) (shown : Shown) (outcomes : List Outcome) where
       row_refilled : (path choices : List Choice) (children : PartialTrees) (items new : List Item) → after s path ≡ after root path → ArePartialAfter s shown outcomes path children choices → Refills (spell_partial_row children ++ items) new
           → RefilledRow path choices (count_partial children) items new
       row_refilled path [] NoPartial items new same are so = record { trees = NoPartial; are = tt; count = refl; others = new; so = so; pushed = refl }
-      row_refilled path (c ∷ cs) NoPartial items new same are so = absurd are
-      row_refilled path [] (MorePartial child children) items new same are so = absurd are
       row_refilled path (c ∷ cs) (MorePartial child children) items new same (one, later) so =
           let next = after_more s path c ∙ ap (λ (k : ProgramSketch). with_chosen k (sketch_with k.chosen c)) same ∙ sym (after_more root path c) in
           let first = tree_refilled (path ++ c ∷ []) child (spell_partial_row children ++ items) new next one (subst (λ (xs : List Item). Refills xs new) (append_assoc (spell_partial child) (spell_partial_row children) items) so) in
@@ -155,6 +131,7 @@ module _ (root : ProgramSketch) (shown : Shown) (outcomes : List Outcome) where
             so = rest.so;
             pushed = first.pushed ∙ ap (λ (xs : List Item). spell_partial first.tree ++ xs) rest.pushed ∙ sym (append_assoc (spell_partial first.tree) (spell_partial_row rest.trees) rest.others);
           }
+      row_refilled path choices children items new same are so = absurd are
 
     -- a partial cover whose pieces got other fillings
     pub refilled : (old : List Outcome) (path : List Choice) (before now : List Piece) (nodes : List Node) → KeepsNumbers old outcomes → after s path ≡ after root path → AreFilled (sequential root) shown outcomes before now
@@ -162,7 +139,7 @@ module _ (root : ProgramSketch) (shown : Shown) (outcomes : List Outcome) where
     refilled old path before now nodes keeps same filled has =
         let still = partial_still s shown old outcomes keeps path has.tree has.is in
         let items = items_before now ++ map Has nodes in
-        let so = refills_pieces before now nodes filled.as_many filled.each in
+        let so = refills_pieces before now nodes filled in
         let made = tree_refilled path has.tree [] items same still (subst (λ (xs : List Item). Refills xs items) (has.pushed ∙ sym (append-nil (spell_partial has.tree))) so) in
         record {
           tree = made.tree;

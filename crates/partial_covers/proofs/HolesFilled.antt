@@ -66,13 +66,12 @@ module _ (s : ProgramSketch) (shown : Shown) (outcomes : List Outcome) where
     row_leads : (path : List Choice) (t : ℕ) (children : PartialTrees) (values : List ℕ) (items : List Item) → MayChooseAll s path → ((v : ℕ) → Contains values v → MayChoose (after s path) (choice.Value t v))
         → ArePartialAfter (unfenced s) shown outcomes path children (map (choice.Value t) values) → AllLead items → AllLead (spell_partial_row children ++ items)
     row_leads path t NoPartial [] items may each are lead = lead
-    row_leads path t NoPartial (v ∷ vs) items may each are lead = absurd are
-    row_leads path t (MorePartial child children) [] items may each are lead = absurd are
     row_leads path t (MorePartial child children) (v ∷ vs) items may each are lead =
         let c = choice.Value t v in
         subst AllLead (sym (append_assoc (spell_partial child) (spell_partial_row children) items))
         (tree_leads (path ++ c ∷ []) child (spell_partial_row children ++ items) (may_more s path c may (each v (first_is_here v vs))) are.0
         (row_leads path t children vs items may (λ w here. each w (later_is_here v vs w here)) are.1 lead))
+    row_leads path t children values items may each are lead = absurd are
 
   -- so each hole of a partial cover after a path
   pub hole_leads : (path : List Choice) (pieces : List Piece) (nodes : List Node) (i : ℕ) (d : Piece) → MayChooseAll s path → PushesPartial (unfenced s) shown outcomes path [] (items_before pieces ++ map Has nodes) → i < length pieces

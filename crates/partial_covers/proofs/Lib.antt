@@ -1,5 +1,6 @@
 -- what many proofs speak of
 mod Vocabulary
+pub mod ReplacedItems
 pub mod ChangedNodes
 pub mod PartialNodes
 pub mod PartialRows
@@ -22,6 +23,7 @@ pub mod NearNumbers
 pub mod PartialRenumbered
 pub mod PartsJoined
 pub mod CoveringSteps
+pub mod TraceSteps
 pub mod Captures
 -- words of the crates below, passed on
 pub use Rattle.cover_judge.proofs.Answered

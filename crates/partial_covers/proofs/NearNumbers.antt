@@ -16,6 +16,5 @@ module _ (q : Question) (mode : Machine) (outcomes : List Outcome) (few : length
 
     valid_each_near : (trees : Covers) (ks : List Sketch) → AreValidCovers q mode outcomes trees ks → AreNear trees
     valid_each_near NoCover [] valid = tt
-    valid_each_near NoCover (k ∷ ks) valid = absurd valid
-    valid_each_near (MoreCovers tree trees) [] valid = absurd valid
     valid_each_near (MoreCovers tree trees) (k ∷ ks) (now, later) = (valid_near tree k now, valid_each_near trees ks later)
+    valid_each_near trees ks valid = absurd valid

@@ -1,12 +1,12 @@
 -- Sketches in which the thread before the last takes its values from another sketch.
-use Rattle.std.proofs.Common.{◌≢◌, ◌⊎◌, ℕ, Option, IsSome, Contains, slice_index, sym, ◌∙◌, subst, inl, inr}
-use Rattle.partial_covers.proofs.Vocabulary.{cases_eq, Listing, At, Writes, given_to, ProgramSketch, access_in, IsLawful, with_values, values_elsewhere, IsValueOpen, LastThread, ReadValue, Tally}
+use Rattle.std.proofs.Common.{◌≢◌, ◌⊎◌, ℕ, Option, IsSome, Contains, sym, ◌∙◌, subst, inl, inr}
+use Rattle.partial_covers.proofs.Vocabulary.{cases_eq, At, Writes, given_to, ProgramSketch, access_in, IsLawful, with_values, values_elsewhere, IsValueOpen, LastThread, ReadValue, Tally}
 use Rattle.partial_covers.proofs.Vocabulary.{AreAlike, IsBase, IsRest, with_trace, IsBeforeLast}
 use Rattle.branching.specs.declared.traces.FullTrace.{FullTrace}
 use Rattle.branching.specs.Tallies.{HasBit, IsTalliedRead, IsOther, Joins}
 use Rattle.branching.specs.Traces.{IsFullTrace}
 use Rattle.partial_covers.proofs.CombinedCovers.{traces_still}
-use Rattle.partial_covers.proofs.CombinedSketches.{access_here, access_elsewhere, next_here, next_elsewhere}
+use Rattle.partial_covers.proofs.CombinedSketches.{access_here, access_elsewhere, next_here, next_elsewhere, read_here, read_elsewhere}
 
 module _ (s : ProgramSketch) (t : ℕ) (last : LastThread) (rest : Tally) (trace : FullTrace) (lawful : IsLawful s) (own : IsLawful trace.sketch) (before : IsBeforeLast s last) (is : IsRest t last.thread s rest)
     (full : IsFullTrace t trace) (alike : AreAlike trace.sketch s) where
@@ -29,26 +29,8 @@ module _ (s : ProgramSketch) (t : ℕ) (last : LastThread) (rest : Tally) (trace
   module _ (joined : Tally) (joins : Joins rest trace.tally joined) where
     read_after : (r : ReadValue) → Contains rest.reads.items r ⊎ Contains trace.tally.reads.items r → IsOther last.thread r.read.thread × IsTalliedRead merged r
     read_after r here = elim here [
-      | inl was ↦ (let (neither, tallied) = is.tally.reads r was in (
-        neither.1,
-        record {
-          access = tallied.access;
-          is_access = access_elsewhere s trace.sketch t lawful before.alone is.there own alike r.read.thread r.read.access neither.0 ∙ tallied.is_access;
-          location = tallied.location;
-          reads = tallied.reads;
-          later = tallied.later;
-        },
-      ))
-      | inr now ↦ (let (of_thread, tallied) = full.tally.reads r now in (
-        (λ e. is.differ (sym of_thread ∙ e)),
-        record {
-          access = tallied.access;
-          is_access = access_here s trace.sketch t lawful before.alone is.there own alike r.read.thread r.read.access of_thread ∙ tallied.is_access;
-          location = tallied.location;
-          reads = tallied.reads;
-          later = subst (λ (p : Listing). r.value ≢ slice_index p.memory tallied.access.location) alike.program tallied.later;
-        },
-      ))
+      | inl was ↦ (let (neither, tallied) = is.tally.reads r was in (neither.1, read_elsewhere s trace.sketch t lawful before.alone is.there own alike r neither.0 tallied))
+      | inr now ↦ (let (of_thread, tallied) = full.tally.reads r now in ((λ e. is.differ (sym of_thread ∙ e)), read_here s trace.sketch t lawful before.alone is.there own alike r of_thread tallied))
     ]
 
     written_after : (v i l w : ℕ) → IsOther last.thread v → Writes (access_in merged) (At v i) l w → HasBit joined.written l w

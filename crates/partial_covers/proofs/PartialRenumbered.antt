@@ -1,9 +1,10 @@
 -- Partial covers with other numbers for their outcomes.
-use Rattle.std.proofs.Common.{◌≡◌, ℕ, suc, ◌<◌, ◌≤◌, List, [], ◌∷◌, ◌++◌, ◌+◌, map, length, get_or, set, refl, sym, ap, ◌∙◌, subst, inl, inr, arith}
+use Rattle.std.proofs.Common.{◌≡◌, ℕ, suc, ◌<◌, ◌≤◌, List, [], ◌∷◌, ◌++◌, ◌+◌, map, length, get_or, refl, sym, ap, ◌∙◌, subst, arith}
 use Rattle.std.specs.FinSet as set
-use Rattle.partial_covers.proofs.Vocabulary.{◌^◌, cases_eq, map-append, get_or-set_same, get_or-set_other, Listing, Outcome, Shown, asked, SequentialMachine, empty_sketch, ProgramSketch, mode_in}
-use Rattle.partial_covers.proofs.Vocabulary.{nothing_chosen, same_default, Node, NEAR_RUNS, spell, Cover, Choice, PartialCover, Piece, renumbered_node, IsWholeCover, Item, Has, Lacks, renumbered_item}
-use Rattle.partial_covers.proofs.Vocabulary.{IsPieceRenumbered, PartialTree, Closed, Values, Hole, PartialTrees, NoPartial, MorePartial, count_partial, spell_partial, spell_partial_row, items_before}
+use Rattle.std.proofs.lemmas.Simd.{map-map}
+use Rattle.partial_covers.proofs.Vocabulary.{◌^◌, map-append, Listing, Outcome, Shown, asked, SequentialMachine, empty_sketch, ProgramSketch, mode_in}
+use Rattle.partial_covers.proofs.Vocabulary.{nothing_chosen, Node, NEAR_RUNS, spell, Cover, Choice, PartialCover, Piece, renumbered_node, IsWholeCover, Item, Has, Lacks, renumbered_item}
+use Rattle.partial_covers.proofs.Vocabulary.{AreEach, IsPieceRenumbered, PartialTree, Closed, Values, Hole, PartialTrees, NoPartial, MorePartial, count_partial, spell_partial, spell_partial_row, items_before}
 use Rattle.partial_covers.proofs.Vocabulary.{items_of, after, sequential, IsFilling, IsPartialAfter, ArePartialAfter, IsPartialCover}
 use Rattle.tso_machine.specs.declared.mode.Mode.TheVariants as modes
 use Rattle.cert_forest.specs.declared.node.Node.TheVariants as node
@@ -16,40 +17,19 @@ use Rattle.partial_covers.proofs.RenumberedTrees.{cover_renumbered}
 -- ---- as it lies in memory
 
 map_has : (place : ℕ → ℕ) (xs : List Node) → map (renumbered_item place) (map Has xs) ≡ map Has (map (renumbered_node place) xs)
-map_has place [] = refl
-map_has place (x ∷ xs) = ap (λ (ys : List Item). Has (renumbered_node place x) ∷ ys) (map_has place xs)
+map_has place xs = map-map (renumbered_item place) Has xs ∙ sym (map-map Has (renumbered_node place) xs)
 
 -- pieces with other numbers
-pub pieces_renumbered : (place : ℕ → ℕ) (old new : List Piece) → length new ≡ length old → ((k : ℕ) (d : Piece) → k < length old → IsPieceRenumbered place (get_or old k d) (get_or new k d)) →
-    items_before new ≡ map (renumbered_item place) (items_before old)
-pieces_renumbered place [] [] same each = refl
-pieces_renumbered place [] (q ∷ qs) same each = absurd (omega arith)
-pieces_renumbered place (p ∷ ps) [] same each = absurd (omega arith)
-pieces_renumbered place (p ∷ ps) (q ∷ qs) same each =
-    let first = each 0 p (omega arith) in
-    let rest = pieces_renumbered place ps qs (omega arith) (λ k d h. each (suc k) d (omega arith)) in
+pub pieces_renumbered : (place : ℕ → ℕ) (old new : List Piece) → AreEach (IsPieceRenumbered place) old new → items_before new ≡ map (renumbered_item place) (items_before old)
+pieces_renumbered place [] [] are = refl
+pieces_renumbered place (p ∷ ps) (q ∷ qs) are =
+    let same = are.as_many in
+    let first = are.each 0 p (omega arith) in
+    let rest = pieces_renumbered place ps qs (record { as_many = omega arith; each = λ k d h. are.each (suc k) d (omega arith) }) in
     (λ i. map Has (first.nodes i) ++ Lacks (first.path i) (first.filling i) ∷ rest i)
     ∙ ap (λ (xs : List Item). xs ++ Lacks p.path.items (map (renumbered_node place) p.filling.items) ∷ map (renumbered_item place) (items_before ps)) (sym (map_has place p.nodes.items))
     ∙ sym (map-append (renumbered_item place) (map Has p.nodes.items) (Lacks p.path.items p.filling.items ∷ items_before ps))
-
--- one piece more has other numbers
-module _ (place : ℕ → ℕ) (old now : List Piece) (i : ℕ) (piece new : Piece) (here : i < length old) (long : length now ≡ length old) (left : (k : ℕ) (d : Piece) → i ≤ k → get_or now k d ≡ get_or old k d)
-    (at : piece ≡ get_or now i piece) (is : IsPieceRenumbered place piece new) where
-  within : i < length now
-  within = omega arith
-
-  was : (d : Piece) → get_or old i d ≡ piece
-  was d = sym (left i d (omega arith)) ∙ same_default now i d piece within ∙ sym at
-
-  pub pieces_made : ((k : ℕ) (d : Piece) → k < i → IsPieceRenumbered place (get_or old k d) (get_or now k d)) → (k : ℕ) (d : Piece) → k < i + 1 → IsPieceRenumbered place (get_or old k d) (get_or (set now i new) k d)
-  pieces_made made k d below = elim (cases_eq k i) [
-    | inl same ↦ subst (λ (j : ℕ). IsPieceRenumbered place (get_or old j d) (get_or (set now i new) j d)) (sym same)
-        (subst (λ (p : Piece). IsPieceRenumbered place p (get_or (set now i new) i d)) (sym (was d)) (subst (IsPieceRenumbered place piece) (sym (get_or-set_same now i new d within)) is))
-    | inr other ↦ subst (IsPieceRenumbered place (get_or old k d)) (sym (get_or-set_other now i k new d other)) (made k d (omega arith))
-  ]
-
-  pub pieces_left : (k : ℕ) (d : Piece) → i + 1 ≤ k → get_or (set now i new) k d ≡ get_or old k d
-  pieces_left k d above = get_or-set_other now i k new d (omega arith) ∙ left k d (omega arith)
+pieces_renumbered place old new are = absurd (let same = are.as_many in omega arith)
 
 pub items_renumbered : (place : ℕ → ℕ) (old new : List Piece) (xs ys : List Node) → items_before new ≡ map (renumbered_item place) (items_before old) → ys ≡ map (renumbered_node place) xs →
     items_before new ++ map Has ys ≡ map (renumbered_item place) (items_before old ++ map Has xs)
@@ -60,7 +40,7 @@ items_renumbered place old new xs ys pieces nodes =
 -- ---- what holds of it
 
 -- a partial cover stays one over another list when its numbers are put for those of the same outcomes there
-module _ (s : ProgramSketch) (shown : Shown) (old new : List Outcome) (place : ℕ → ℕ) (few : length new < 2 ^ 64) (near : length old ≤ NEAR_RUNS) (small : (n : ℕ) → place n < NEAR_RUNS)
+module _ (s : ProgramSketch) (shown : Shown) (old new : List Outcome) (place : ℕ → ℕ) (near : length old ≤ NEAR_RUNS) (small : (n : ℕ) → place n < NEAR_RUNS)
     (moves : (n : ℕ) (o : Outcome) → HasNumber old n o → HasNumber new (place n) o) where
   -- its nodes are those with the other numbers
   pub record Renumbers (path : List Choice) (tree : PartialTree) : Type 0 where
@@ -74,6 +54,9 @@ module _ (s : ProgramSketch) (shown : Shown) (old new : List Outcome) (place : �
     count : count_partial made ≡ count_partial children
     spelled : spell_partial_row made ≡ map (renumbered_item place) (spell_partial_row children)
 
+  fits : (n : ℕ) → n < 2 ^ 64 → place n < 2 ^ 64
+  fits n h = (let low = small n in omega arith)
+
   -- and so is a filling
   filling_renumbered : (k : ProgramSketch) (nodes : List Node) → IsFilling k shown old nodes → IsFilling k shown new (map (renumbered_node place) nodes)
   filling_renumbered k [] none = tt
@@ -81,7 +64,7 @@ module _ (s : ProgramSketch) (shown : Shown) (old new : List Outcome) (place : �
       let n = sequential k in
       record {
         tree = renumbered place filled.tree;
-        is = cover_renumbered n shown old new place few moves filled.tree filled.is;
+        is = cover_renumbered old new place fits moves n shown filled.tree filled.is;
         pushed = ap (map (renumbered_node place)) filled.pushed ∙ sym (spelled_renumbered place small filled.tree (valid_near (asked n.program shown) (mode_in n) old near filled.tree n.chosen filled.is.valid));
       }
 
@@ -91,7 +74,7 @@ module _ (s : ProgramSketch) (shown : Shown) (old new : List Outcome) (place : �
         let k = after s path in
         record {
           made = Closed (renumbered place tree);
-          is = cover_renumbered k shown old new place few moves tree is;
+          is = cover_renumbered old new place fits moves k shown tree is;
           spelled = ap (map Has) (spelled_renumbered place small tree (valid_near (asked k.program shown) (mode_in k) old near tree k.chosen is.valid)) ∙ sym (map_has place (spell tree));
         }
     partial_renumbered path (Values t children) (choices, are, each) =
@@ -109,8 +92,6 @@ module _ (s : ProgramSketch) (shown : Shown) (old new : List Outcome) (place : �
 
     each_renumbered : (path choices : List Choice) (children : PartialTrees) → ArePartialAfter s shown old path children choices → RenumberEach path choices children
     each_renumbered path [] NoPartial are = record { made = NoPartial; are = tt; count = refl; spelled = refl }
-    each_renumbered path (c ∷ cs) NoPartial are = absurd are
-    each_renumbered path [] (MorePartial child children) are = absurd are
     each_renumbered path (c ∷ cs) (MorePartial child children) (now, later) =
         let first = partial_renumbered (path ++ c ∷ []) child now in
         let rest = each_renumbered path cs children later in
@@ -120,12 +101,13 @@ module _ (s : ProgramSketch) (shown : Shown) (old new : List Outcome) (place : �
           count = ap suc rest.count;
           spelled = (λ i. first.spelled i ++ rest.spelled i) ∙ sym (map-append (renumbered_item place) (spell_partial child) (spell_partial_row children));
         }
+    each_renumbered path choices children are = absurd are
 
 -- so of a program's, which is renumbered by the places in the list
-pub table_renumbered : (p other : Listing) (shown copied : Shown) (known outcomes : List Outcome) (places : List ℕ) (before made : PartialCover) → other ≡ p → copied ≡ shown → length outcomes < 2 ^ 64 → length known ≤ NEAR_RUNS →
+pub table_renumbered : (p other : Listing) (shown copied : Shown) (known outcomes : List Outcome) (places : List ℕ) (before made : PartialCover) → other ≡ p → copied ≡ shown → length known ≤ NEAR_RUNS →
     ((n : ℕ) → place_in places n < NEAR_RUNS) → IsPartialCover p shown known before → ArePlacesOf known outcomes places → items_of made ≡ map (renumbered_item (place_in places)) (items_of before) → IsPartialCover other copied outcomes made
-table_renumbered p other shown copied known outcomes places before made same alike few near small is moves by =
-    let again = partial_renumbered (nothing_chosen p (modes.Fenced set.empty)) shown known outcomes (place_in places) few near small moves [] is.tree is.is in
+table_renumbered p other shown copied known outcomes places before made same alike near small is moves by =
+    let again = partial_renumbered (nothing_chosen p (modes.Fenced set.empty)) shown known outcomes (place_in places) near small moves [] is.tree is.is in
     subst (λ (l : Listing). IsPartialCover l copied outcomes made) (sym same)
     (subst (λ (sh : Shown). IsPartialCover p sh outcomes made) (sym alike)
     (record { tree = again.made; is = again.is; pushed = by ∙ ap (map (renumbered_item (place_in places))) is.pushed ∙ sym again.spelled }))

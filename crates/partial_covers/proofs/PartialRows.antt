@@ -34,23 +34,20 @@ module _ (s : ProgramSketch) (shown : Shown) where
 
     pub each_still : (old new : List Outcome) → KeepsNumbers old new → (path : List Choice) (children : PartialTrees) (choices : List Choice) → ArePartialAfter s shown old path children choices → ArePartialAfter s shown new path children choices
     each_still old new keeps path NoPartial [] are = tt
-    each_still old new keeps path NoPartial (c ∷ cs) are = absurd are
-    each_still old new keeps path (MorePartial child children) [] are = absurd are
     each_still old new keeps path (MorePartial child children) (c ∷ cs) (now, later) = (partial_still old new keeps (path ++ c ∷ []) child now, each_still old new keeps path children cs later)
+    each_still old new keeps path children choices are = absurd are
 
   module _ (outcomes : List Outcome) (path : List Choice) where
     partial_push : (children : List PartialTree) (choices : List Choice) (child : PartialTree) (c : Choice) → ArePartialAfter s shown outcomes path (partial_of children) choices →
         IsPartialAfter s shown outcomes (path ++ c ∷ []) child → ArePartialAfter s shown outcomes path (partial_of (children ++ child ∷ [])) (choices ++ c ∷ [])
     partial_push [] [] child c are is = (is, tt)
-    partial_push [] (d ∷ choices) child c are is = absurd are
-    partial_push (k ∷ children) [] child c are is = absurd are
     partial_push (k ∷ children) (d ∷ choices) child c are is = (are.0, partial_push children choices child c are.1 is)
+    partial_push children choices child c are is = absurd are
 
     as_many_partial : (children : List PartialTree) (choices : List Choice) → ArePartialAfter s shown outcomes path (partial_of children) choices → count_partial (partial_of children) ≡ length choices
     as_many_partial [] [] are = refl
-    as_many_partial [] (c ∷ cs) are = absurd are
-    as_many_partial (k ∷ ks) [] are = absurd are
     as_many_partial (k ∷ ks) (c ∷ cs) are = ap suc (as_many_partial ks cs are.1)
+    as_many_partial children choices are = absurd are
 
     row_more : (children : List PartialTree) (child : PartialTree) → spell_partial_row (partial_of (children ++ child ∷ [])) ≡ spell_partial_row (partial_of children) ++ spell_partial child
     row_more [] child = append-nil (spell_partial child)

@@ -1,8 +1,8 @@
 -- Parts of a search, while the list of outcomes grows and choices are made, and the cover of one beside the rest.
-use Rattle.std.proofs.Common.{◌≡◌, Bool, true, false, ℕ, ◌+◌, ◌<◌, ◌≤◌, List, [], ◌∷◌, ◌++◌, Option, Some, None, get_or, set, take, drop, length, map, inl, inr, arith, refl, sym, ap, ◌∙◌, subst}
+use Rattle.std.proofs.Common.{◌≡◌, Bool, true, false, ℕ, ◌+◌, ◌<◌, ◌≤◌, List, [], ◌∷◌, ◌++◌, Option, Some, None, get_or, take, drop, length, map, arith, refl, sym, ap, ◌∙◌, subst}
 use Rattle.std.specs.Prelude.{◌^◌, All, IfSome, MatchOption}
-use Rattle.std.proofs.lemmas.List.{get_or-set_same, get_or-set_other, append-nil, take_all, drop_all}
-use Rattle.partial_covers.proofs.Vocabulary.{cases_eq, same_default, Mode, IsWhole, Outcome, Shown, Question, asked, ProgramSketch, mode_in, with_chosen, NEAR_RUNS, Choice, sketch_with, KnownOutcomes}
+use Rattle.std.proofs.lemmas.List.{append-nil, take_all, drop_all}
+use Rattle.partial_covers.proofs.Vocabulary.{Mode, IsWhole, Outcome, Shown, Question, asked, ProgramSketch, mode_in, with_chosen, NEAR_RUNS, Choice, sketch_with, KnownOutcomes}
 use Rattle.partial_covers.proofs.Vocabulary.{PartCover, Part, HasNumber, Item, renumbered_item, after, PushesPartialAt, StaysOf, LastThread, Plan, IsOfOther, IsLast, IsBeforeLast, IsPartOf}
 use Rattle.partial_covers.proofs.Vocabulary.{IsSearched, AreSearched, IsPlanned}
 use Rattle.sketch_covers.specs.declared.outcome_index.OutcomeIndex.{OutcomeIndex}
@@ -38,11 +38,11 @@ parts_after s next shown outcomes path c parts same are i d h =
     record { root = p.root; leads = after_more p.root path c ∙ ap (λ (k : ProgramSketch). with_chosen k (sketch_with k.chosen c)) p.leads ∙ sym same; is = p.is }
 
 -- the cover of a part, with the numbers of the same outcomes in another list, comes after the rest
-pub part_renumbered : (s : ProgramSketch) (shown : Shown) (old new : List Outcome) (place : ℕ → ℕ) → length new < 2 ^ 64 → length old ≤ NEAR_RUNS → ((n : ℕ) → place n < NEAR_RUNS) → ((n : ℕ) (o : Outcome) → HasNumber old n o → HasNumber new (place n) o) →
+pub part_renumbered : (s : ProgramSketch) (shown : Shown) (old new : List Outcome) (place : ℕ → ℕ) → length old ≤ NEAR_RUNS → ((n : ℕ) → place n < NEAR_RUNS) → ((n : ℕ) (o : Outcome) → HasNumber old n o → HasNumber new (place n) o) →
     (path : List Choice) (items before now : List Item) → PushesPartialAt s shown old path [] items → now ≡ before ++ map (renumbered_item place) items → PushesPartialAt s shown new path before now
-part_renumbered s shown old new place few near small moves path items before now kept by root leads =
+part_renumbered s shown old new place near small moves path items before now kept by root leads =
     let has = kept root leads in
-    let again = partial_renumbered root shown old new place few near small moves path has.tree has.is in
+    let again = partial_renumbered root shown old new place near small moves path has.tree has.is in
     record { tree = again.made; is = again.is; pushed = by ∙ ap (λ (xs : List Item). before ++ map (renumbered_item place) xs) has.pushed ∙ ap (λ (xs : List Item). before ++ xs) (sym again.spelled) }
 
 -- a part was joined, or none was
@@ -81,25 +81,6 @@ part_searched root last shown other mode old new is searched = record {
     made_from : (made : Option PartCover) → IfSome made (IsMadeIn (after root old.path.items) shown mode old.path.items) → IfSome made (IsMadeAt (after root new.path.items) shown (Open other mode) new.path.items)
     made_from (Some found) so = subst (λ (cs : List Choice). IsMadeAt (after root cs) shown (Open other mode) cs found) (sym searched.path) (so other)
     made_from None so = tt
-
--- one part more is searched
-module _ (shown : Shown) (mode : Mode) (old now : List Part) (i : ℕ) (part new : Part) (here : i < length old) (long : length now ≡ length old) (left : (k : ℕ) (d : Part) → i ≤ k → get_or now k d ≡ get_or old k d)
-    (at : part ≡ get_or now i part) (is : IsSearched shown mode part new) where
-  within : i < length now
-  within = omega arith
-
-  was : (d : Part) → get_or old i d ≡ part
-  was d = sym (left i d (omega arith)) ∙ same_default now i d part within ∙ sym at
-
-  pub searched_made : ((k : ℕ) (d : Part) → k < i → IsSearched shown mode (get_or old k d) (get_or now k d)) → (k : ℕ) (d : Part) → k < i + 1 → IsSearched shown mode (get_or old k d) (get_or (set now i new) k d)
-  searched_made made k d below = elim (cases_eq k i) [
-    | inl same ↦ subst (λ (j : ℕ). IsSearched shown mode (get_or old j d) (get_or (set now i new) j d)) (sym same)
-        (subst (λ (p : Part). IsSearched shown mode p (get_or (set now i new) i d)) (sym (was d)) (subst (IsSearched shown mode part) (sym (get_or-set_same now i new d within)) is))
-    | inr other ↦ subst (IsSearched shown mode (get_or old k d)) (sym (get_or-set_other now i k new d other)) (made k d (omega arith))
-  ]
-
-  pub searched_left : (k : ℕ) (d : Part) → i + 1 ≤ k → get_or (set now i new) k d ≡ get_or old k d
-  searched_left k d above = get_or-set_other now i k new d (omega arith) ∙ left k d (omega arith)
 
 -- each part of a search that is ready is as it must be, and their covers once they are searched are so
 pub parts_ready : (p : Listing) (s : ProgramSketch) (plan : Option Plan) (one : Plan) (parts : List Part) → s ≡ nothing_chosen p (modes.Fenced fin.empty) → plan ≡ Some one → IsPlanned s plan parts → All (IsOwnPart one.last) parts

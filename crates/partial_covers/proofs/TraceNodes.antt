@@ -29,7 +29,7 @@ module _ (s : ProgramSketch) (t : ℕ) (alone : HasValuesAlone s.chosen) (there 
   are : AreValueChoices merged t choices
   are = values_merged s u t lawful alone there own alike choices tree.0
 
-  as_many : length after ≡ length choices
+  pub as_many : length after ≡ length choices
   as_many = (let many = as_many_trees t u (map traces after) choices tree.2 in let long = length-map after traces in omega arith)
 
   -- the child at a place

@@ -32,7 +32,7 @@ pub use Rattle.cover_judge.proofs.Lists.{first_is_here, later_is_here}
 pub use Rattle.cover_judge.proofs.TighterModes.{tighter_keeps_cover}
 pub use Rattle.cover_judge.specs.Choices.{AreValueChoices, IsValueOpen, MayChoose, sketch_with}
 pub use Rattle.cover_judge.specs.CoverTrees.{AreValidCovers, IsValidCover, event_of}
-pub use Rattle.cover_judge.specs.TighterModes.{IsNoLooser, each_in_sequence, in_mode, in_sequence}
+pub use Rattle.cover_judge.specs.TighterModes.{IsNoLooser, changed, each_changed, in_mode, kind_in}
 pub use Rattle.cover_judge.specs.declared.choice.Choice.{Choice}
 pub use Rattle.gap_sets.specs.Gaps.{SetOfGaps}
 pub use Rattle.sketch_covers.proofs.AllOutcomes.{runs_found}
@@ -60,10 +60,10 @@ pub use Rattle.tso_program.specs.declared.listing.Listing.{Listing}
 pub use Rattle.tso_program.specs.declared.outcome.Outcome.{Outcome}
 pub use Rattle.tso_program.specs.declared.shown.Shown.{Shown}
 pub use Rattle.partial_covers.specs.Coverings.{Covers, CoversEach}
-pub use Rattle.partial_covers.specs.NodeChanges.{copied_in, renumbered_node, sequential_node}
+pub use Rattle.partial_covers.specs.NodeChanges.{changed_node, copied_in, renumbered_node}
 pub use Rattle.partial_covers.specs.PartialCovers.{ArePartialAfter, Closed, Has, Hole, IsPartialAfter, IsPartialCover, IsPieceRenumbered, Item, Lacks, MayChooseAll, MorePartial, NoPartial}
 pub use Rattle.partial_covers.specs.PartialCovers.{PartialTree, PartialTrees, PushesPartial, PushesPartialAt, PushesPartialRow, Values, after, count_partial, items_before, items_of, renumbered_item}
-pub use Rattle.partial_covers.specs.PartialCovers.{spell_partial, spell_partial_row, unfenced, AreFilled, IsFilled, LeadsToWhole}
+pub use Rattle.partial_covers.specs.PartialCovers.{spell_partial, spell_partial_row, unfenced, AreEach, AreFilled, IsFilled, LeadsToWhole}
 pub use Rattle.partial_covers.specs.Fillings.{IsFilling, sequential}
 pub use Rattle.partial_covers.specs.Parts.{ArePartsFor, AreRunsFor, AreSearched, IsMadeAt, IsMadeIn, IsPartOf, IsPlanned, IsSearched}
 pub use Rattle.partial_covers.specs.UnsourcedTraces.{Takes}

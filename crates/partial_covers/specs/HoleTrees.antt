@@ -17,7 +17,7 @@ use Rattle.sketch_covers.specs.Pushing.{Pushes}
 use Rattle.sketch_covers.specs.declared.stop.Stop.{Stop}
 use Rattle.sketch_covers.specs.declared.stop.Stop.TheVariants as stop
 use Rattle.partial_covers.specs.NodeChanges.{sequential_node}
-use Rattle.partial_covers.specs.PartialCovers.{Item, Has, Lacks, after}
+use Rattle.partial_covers.specs.PartialCovers.{AreEach, Item, Has, Lacks, after}
 use Rattle.partial_covers.specs.declared.partial_cover.Piece.{Piece}
 use Rattle.partial_covers.specs.declared.hole_trees.HoleTree.{HoleTree}
 
@@ -48,9 +48,8 @@ pub record IsSearchedHole (s : ProgramSketch) (shown : Shown) (outcomes : List O
   pub found : IsFoundAfter s shown outcomes old.path.items new
 
 -- so each of several
-pub record AreSearchedHoles (s : ProgramSketch) (shown : Shown) (outcomes : List Outcome) (old new : List HoleTree) : Type 0 where
-  pub as_many : length new ≡ length old
-  pub each : (i : ℕ) (d : HoleTree) → i < length old → IsSearchedHole s shown outcomes (slice_index_or old i d) (slice_index_or new i d)
+abbrev pub AreSearchedHoles : ProgramSketch → Shown → List Outcome → List HoleTree → List HoleTree → Type 0
+AreSearchedHoles s shown outcomes = AreEach (IsSearchedHole s shown outcomes)
 
 -- some holes of the pieces from a place on, the last of them first
 pub record AreHolesFrom (pieces : List Piece) (from : ℕ) (holes : List HoleTree) : Type 0 where

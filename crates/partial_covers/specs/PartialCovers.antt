@@ -132,10 +132,14 @@ pub record IsFilled (s : ProgramSketch) (shown : Shown) (outcomes : List Outcome
   pub path : new.path.items ≡ old.path.items
   pub filling : IsFilling (after s old.path.items) shown outcomes new.filling.items
 
--- so is each of several
-pub record AreFilled (s : ProgramSketch) (shown : Shown) (outcomes : List Outcome) (old new : List Piece) : Type 0 where
+-- as many as before, each of which became as it must
+pub record AreEach {A : Type 0} (R : A → A → Type 0) (old new : List A) : Type 0 where
   pub as_many : length new ≡ length old
-  pub each : (i : ℕ) (d : Piece) → i < length old → IsFilled s shown outcomes (slice_index_or old i d) (slice_index_or new i d)
+  pub each : (i : ℕ) (d : A) → i < length old → R (slice_index_or old i d) (slice_index_or new i d)
+
+-- so are several pieces
+abbrev pub AreFilled : ProgramSketch → Shown → List Outcome → List Piece → List Piece → Type 0
+AreFilled s shown outcomes = AreEach (IsFilled s shown outcomes)
 
 -- the sketch with no gap fenced
 abbrev pub unfenced : ProgramSketch → ProgramSketch

@@ -20,7 +20,7 @@ use Rattle.branching.specs.declared.plan.LastThread.{LastThread}
 use Rattle.branching.specs.declared.plan.Plan.{Plan}
 use Rattle.partial_covers.specs.declared.searching.SearchStart.{SearchStart}
 use Rattle.sketch_covers.specs.OutcomeNumbers.{IsInOrder, AreRunsOf}
-use Rattle.partial_covers.specs.PartialCovers.{Item, items_of, after, MayChooseAll, PushesPartialAt}
+use Rattle.partial_covers.specs.PartialCovers.{AreEach, Item, items_of, after, MayChooseAll, PushesPartialAt}
 use Rattle.partial_covers.specs.Fillings.{sequential}
 use Rattle.branching.specs.Plans.{IsLast, IsBeforeLast}
 
@@ -81,9 +81,8 @@ pub record IsSearched (shown : Shown) (mode : Mode) (old new : Part) : Type 0 wh
   pub made : IfSome new.made (IsMadeIn old.sketch shown mode old.path.items)
 
 -- so of each of several
-pub record AreSearched (shown : Shown) (mode : Mode) (old new : List Part) : Type 0 where
-  pub as_many : length new ≡ length old
-  pub each : (i : ℕ) (d : Part) → i < length old → IsSearched shown mode (slice_index_or old i d) (slice_index_or new i d)
+abbrev pub AreSearched : Shown → Mode → List Part → List Part → Type 0
+AreSearched shown mode = AreEach (IsSearched shown mode)
 
 -- the program's sketch with nothing chosen, a plan for it if there is a thread, and parts of its search
 abbrev pub IsPlanned : ProgramSketch → Option Plan → List Part → Type 0

@@ -1,11 +1,6 @@
 -- The answer is never lost, and the best set of a state that is done is the answer.
-use Rattle.std.proofs.Common.{◌≡◌, ◌⊎◌, ℕ, zero, suc, ◌<◌, true, false, true≢false, Option, Some, None, refl, sym, ◌∙◌, subst, inl, inr, arith}
+use Rattle.search_core.proofs.Vocabulary.{◌≡◌, ◌⊎◌, ℕ, zero, suc, ◌<◌, true, false, true≢false, Option, Some, None, refl, sym, ◌∙◌, subst, inl, inr, arith, zero-add, ◌+◌, IfSome, same_Some, SetOfGaps, total, Better, gap_count, Serves, LeavesOutcome, AreGapsOf, IsTheAnswer, Serving, SearchState, IsDone, IsReached, range_with_len, length-range_with_len, get_or-range_with_len, has_any, any_has, decided, IsLive, IsBestSet, IsUndercut, TheAnswerIsNeverLost, NoBetterSetIsLost, ADoneStateHasTheAnswer}
 use Rattle.std.specs.FinSet as set
-use Rattle.gap_sets.proofs.Orders.{decided}
-use Rattle.search_core.specs.Laws.{IsLive, IsBestSet, IsUndercut, TheAnswerIsNeverLost, NoBetterSetIsLost, ADoneStateHasTheAnswer}
-use Rattle.std.proofs.Common.{zero-add, ◌+◌}
-use Rattle.search_core.proofs.Vocabulary.{IfSome, same_Some, SetOfGaps, total, Better, gap_count, Serves, LeavesOutcome, AreGapsOf, IsTheAnswer, Serving, SearchState, IsDone, IsReached}
-use Rattle.search_core.proofs.Vocabulary.{range_with_len, length-range_with_len, get_or-range_with_len, has_any, any_has}
 use Rattle.cover_solver.proofs.AllGapsFenced.{all_serve}
 use Rattle.search_core.proofs.Sets.{unserved, gap_set}
 use Rattle.search_core.proofs.Kept.{Facts, facts_of}

@@ -1,12 +1,7 @@
 -- What holds of each state that a history reaches.
 use Rattle.std.proofs.Common.{◌≡◌, ◌⊎◌, ℕ, zero, suc, ◌<◌, ◌≤◌, true, false, List, [], ◌∷◌, ◌++◌, Option, Some, Contains, refl, sym, ap, ◌∙◌, subst, inl, inr, arith, set as set_at, length, append-nil}
 use Rattle.std.specs.FinSet as set
-use Rattle.search_core.proofs.Vocabulary.{slice_get, nat_cmp, same_Some, none-some, slice_get_within, SetOfGaps, total, Better, all_sets, with_gap, without_gap, child_regions, open_gaps, Region}
-use Rattle.search_core.proofs.Vocabulary.{not_itself, Listing, Question, gap_count, IsWithinLimits, Serves, AreGapsOf, HaveCosts, first_is_here, later_is_here, Foreign, Serving, IsForeignValue}
-use Rattle.search_core.proofs.Vocabulary.{IsServing, PassesNoneOf, Entry, Status, Open, Held, Split, Cut, Confirmed, children, IsCeiling, SearchState, IsStart, open_entries, IsBeatenBy, IsBestAfter}
-use Rattle.search_core.proofs.Vocabulary.{TakesNode, GivesBack, Splits, Cuts, Confirms, IsEvent, takes, gives_back, splits, cuts, confirms, IsReached, starts, goes_on, open_exact}
-use Rattle.cover_solver.proofs.Regions.{new_or_old, in_root}
-use Rattle.search_core.specs.Entries.{entry, is_live, is_closed, is_closed_status, is_live_status}
+use Rattle.search_core.proofs.Vocabulary.{slice_get, nat_cmp, same_Some, none-some, slice_get_within, SetOfGaps, total, Better, all_sets, with_gap, without_gap, child_regions, open_gaps, Region, not_itself, Listing, Question, gap_count, IsWithinLimits, Serves, AreGapsOf, HaveCosts, first_is_here, later_is_here, Foreign, Serving, IsForeignValue, IsServing, PassesNoneOf, Entry, Status, Open, Held, Split, Cut, Confirmed, children, IsCeiling, SearchState, IsStart, open_entries, IsBeatenBy, IsBestAfter, TakesNode, GivesBack, Splits, Cuts, Confirms, IsEvent, takes, gives_back, splits, cuts, confirms, IsReached, starts, goes_on, open_exact, new_or_old, in_root, entry, is_live, is_closed, is_closed_status, is_live_status}
 use Rattle.search_core.proofs.Places.{Each, each_behind, each_set, each_mapped}
 use Rattle.search_core.proofs.Sets.{gap_set, passed_gaps, not_better}
 use Rattle.search_core.proofs.Changes.{HasNode, IsSplitAt, SplitsHold, changed, node_stays, splits_stay, opened_live, none_live, kids_behind}
@@ -58,10 +53,7 @@ not_closed e live closed = by_status e.status live closed
   where
     by_status : (s : Status) → is_live_status s ≡ true → is_closed_status s ≡ true → ⊥
     by_status Open l c = cc
-    by_status Held l c = cc
-    by_status (Split f first) l c = cc
-    by_status Cut l c = cc
-    by_status Confirmed l c = cc
+    by_status s l c = cc
 
 -- the start
 at_start : (s : SearchState) → IsStart s → Facts s

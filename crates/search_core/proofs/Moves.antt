@@ -1,22 +1,13 @@
 -- The events of the calls.
 use Rattle.std.proofs.Common.{◌≡◌, ◌⊎◌, ℕ, zero, suc, ◌<◌, List, [], ◌∷◌, ◌++◌, Option, Some, None, refl, sym, ap, ◌∙◌, subst, inl, inr, arith, length, set as set_at}
-use Rattle.search_core.proofs.Vocabulary.{slice_get, slice_set, IfSome, MatchOption, slice_get_within, total, Region, Question, AreGapsOf, Foreign, Serving, IsForeignValue, IsServing, PassesNoneOf}
-use Rattle.search_core.proofs.Vocabulary.{Entry, Open, Held, Split, Cut, Confirmed, Reason, children, entry, IsReached}
+use Rattle.search_core.proofs.Vocabulary.{slice_get, slice_set, IfSome, MatchOption, slice_get_within, total, Region, Question, AreGapsOf, Foreign, Serving, IsForeignValue, IsServing, PassesNoneOf, Entry, Open, Held, Split, Cut, Confirmed, Reason, children, entry, IsReached, Bound, IsCeiling, IsBound, IsCeilingOf, SearchState, IsOpenAt, IsHeldAt, HoldsNode, HoldsNothing, HoldsOnly, HasNoOpen, open_entries, IsBeaten, IsTooDear, IsBestAfter, TakesNode, GivesBack, Splits, Cuts, Confirms, IsReasonOf, HasBound, CutsMust}
 use Rattle.search_core.specs.declared.ceiling.Reason.TheVariants as reason
-use Rattle.search_core.specs.Ceilings.{Bound, IsCeiling, IsBound, IsCeilingOf}
-use Rattle.search_core.specs.States.{SearchState, IsOpenAt, IsHeldAt, HoldsNode, HoldsNothing, HoldsOnly, HasNoOpen, IsSameSearch}
-use Rattle.search_core.specs.Events.{open_entries, IsBeaten, IsTooDear, IsBestAfter, TakesNode, GivesBack, Splits, Cuts, Confirms}
-use Rattle.search_core.specs.Faults.{IsReasonOf, HasBound, CutsMust}
 use Rattle.search_core.proofs.Kept.{facts_of}
 use Rattle.search_core.proofs.OneNode.{only_node}
 
 -- a seat of the value is one of the fields
 pub seated : (s old : SearchState) → s ≡ old → (seat : ℕ) → seat < old.seats → seat < s.seats
 seated s old is seat h = subst (λ (t : SearchState). seat < t.seats) (sym is) h
-
--- entries and the best set change, nothing else
-pub same_search : (s old : SearchState) → s ≡ old → (items : List Entry) (best : Option Serving) → IsSameSearch old (record s { entries = items; best = best })
-same_search s old is items best = record { question = ap (λ (t : SearchState). t.question) is; costs = ap (λ (t : SearchState). t.costs) is; seats = ap (λ (t : SearchState). t.seats) is }
 
 -- the fields as they were found, the value, and the entries that were looked through
 module _ (s old : SearchState) (is : s ≡ old) (seen : List Entry) (at : seen ≡ s.entries) where

@@ -1,13 +1,8 @@
 -- No set that is better than the best is lost: what each event does to one.
 use Rattle.std.proofs.Common.{◌≡◌, ◌⊎◌, ℕ, ◌<◌, ◌≤◌, true, false, List, ◌++◌, Option, Some, None, Contains, refl, sym, ap, ◌∙◌, subst, inl, inr, arith, set as set_at, length, ◌+◌}
 use Rattle.std.specs.FinSet as set
-use Rattle.search_core.proofs.Vocabulary.{slice_get, IfSome, slice_get-get_or, length-set, SetOfGaps, IsGapSet, total, Better, Region, Question, IsWithinLimits, LeavesOutcome, AreGapsOf, Foreign}
-use Rattle.search_core.proofs.Vocabulary.{Serving, IsForeignValue, Entry, Open, children, entry, is_live, IsCeiling, open_entries, IsBeatenBy, IsBestAfter, IsLive, IsUndercut, open_exact}
-use Rattle.gap_sets.specs.Regions.{IsInRegion, child_regions, HasNoneOf, open_gaps}
-use Rattle.gap_sets.proofs.Orders.{not_itself, chained}
-use Rattle.cover_solver.specs.GapTrees.{HaveCosts, PassesGap}
+use Rattle.search_core.proofs.Vocabulary.{slice_get, IfSome, slice_get-get_or, length-set, SetOfGaps, IsGapSet, total, Better, Region, Question, IsWithinLimits, LeavesOutcome, AreGapsOf, Foreign, Serving, IsForeignValue, Entry, Open, children, entry, is_live, IsCeiling, open_entries, IsBeatenBy, IsBestAfter, IsLive, IsUndercut, open_exact, IsInRegion, child_regions, HasNoneOf, open_gaps, not_itself, chained, HaveCosts, PassesGap, split_loses_no_set, true_or_false}
 use Rattle.cover_solver.proofs.BetterSets.{still_better}
-use Rattle.cover_solver.proofs.Regions.{split_loses_no_set, true_or_false}
 use Rattle.cover_solver.proofs.AvoidedGaps.{Avoids, leaves_outcome}
 use Rattle.search_core.proofs.Places.{get_behind, get_mapped}
 use Rattle.search_core.proofs.Sets.{no_dearer, gap_set, passed_gaps}

@@ -1,16 +1,11 @@
 -- The gaps of a set that are a program's: they serve where the set does, and cost no more.
 use Rattle.std.proofs.Common.{◌≡◌, ◌↔◌, ℕ, ◌+◌, ◌<◌, ◌≤◌, Bool, true, false, List, [], ◌∷◌, Option, Some, None, Contains, cond, sum_by, refl, sym, ◌∙◌, subst, arith, zero-add}
 use mathlib.Core.Path.{fun_ext}
-use Rattle.std.specs.Option.{option_map_or}
+use Rattle.search_core.proofs.Vocabulary.{option_map_or, filter, range_with_len, sum_by-cons, length-range_with_len, get_or-range_with_len, MAX_GAPS, Listing, Question, gap_below, alike, gap_count, gap_number, Serves, AreGapsOf, IsStoreBufferOutcome, IsSequentialOutcome, has_any, any_has, of_filter, to_filter}
 use Rattle.std.specs.FinSet as set
-use Rattle.search_core.proofs.Vocabulary.{filter, range_with_len, sum_by-cons, length-range_with_len, get_or-range_with_len, MAX_GAPS, Listing, Question, gap_below}
 use Rattle.gap_sets.specs.Gaps.{SetOfGaps, numbers_of_set}
 use Rattle.gap_sets.specs.Order.{total, cost_of}
-use Rattle.gap_sets.specs.SameGaps.{alike}
-use Rattle.tso_program.specs.Listings.{gap_count, gap_number}
 use Rattle.tso_program.specs.Fences as fences
-use Rattle.cover_solver.specs.Outcomes.{Serves, AreGapsOf, IsStoreBufferOutcome, IsSequentialOutcome}
-use Rattle.cover_solver.proofs.Filtered.{has_any, any_has, of_filter, to_filter}
 
 -- one term more, where a test passes
 one_more : (f : ℕ → ℕ) (v w : Bool) (x : ℕ) (xs ys : List ℕ) → (v ≡ true → w ≡ true) → sum_by f xs ≤ sum_by f ys → sum_by f (cond v (x ∷ xs) xs) ≤ sum_by f (cond w (x ∷ ys) ys)

@@ -1,8 +1,6 @@
 -- A seat holds one node at most.
 use Rattle.std.proofs.Common.{◌≡◌, ◌⊎◌, ℕ, zero, suc, ◌==◌, true, List, [], ◌∷◌, ◌++◌, sym, ◌∙◌, subst, inl, inr, arith, refl, ap, set as set_at, append-nil}
-use Rattle.search_core.proofs.Vocabulary.{slice_get, same_Some, none-some, nat_tests, all_sets, Region, Entry, Open, Held, Cut, Confirmed, children, entry, is_held_by, SearchState, IsHeldAt}
-use Rattle.search_core.proofs.Vocabulary.{HoldsNothing, HoldsOnly, open_entries, TakesNode, IsEvent, takes, gives_back, splits, cuts, confirms, IsReached, starts, goes_on}
-use Rattle.search_core.specs.Laws.{ASeatHoldsOneNode}
+use Rattle.search_core.proofs.Vocabulary.{slice_get, same_Some, none-some, nat_tests, all_sets, Region, Entry, Open, Held, Cut, Confirmed, children, entry, is_held_by, SearchState, IsHeldAt, HoldsNothing, HoldsOnly, open_entries, TakesNode, IsEvent, takes, gives_back, splits, cuts, confirms, IsReached, starts, goes_on, ASeatHoldsOneNode}
 use Rattle.search_core.proofs.Places.{get_here, Each, each_mapped, get_either, get_old}
 
 -- each seat holds its nodes at one place
@@ -35,10 +33,7 @@ module _ (es : List Entry) (place : ℕ) (x : Entry) (more : List Entry) (none :
   let_go : AtOnePlace (set_at es place x ++ more)
   let_go seat j k n m h i = elim (held_before es place x more seat j n none h) [
     | inl here ↦ absurd (not_held seat here.1)
-    | inr first ↦ elim (held_before es place x more seat k m none i) [
-      | inl here ↦ absurd (not_held seat here.1)
-      | inr second ↦ one seat j k n m first second
-    ]
+    | inr first ↦ elim (held_before es place x more seat k m none i) [ inl here ↦ absurd (not_held seat here.1) | inr second ↦ one seat j k n m first second ]
   ]
 
 plain : (es : List Entry) (place : ℕ) (x : Entry) → AtOnePlace (set_at es place x ++ []) → AtOnePlace (set_at es place x)

@@ -1,10 +1,6 @@
 -- What each event leaves of the work.
 use Rattle.std.proofs.Common.{◌≡◌, ℕ, ◌<◌, Bool, true, false, List, [], ◌++◌, ◌&&◌, ◌==◌, length, refl, sym, ap, ◌∙◌, subst, arith, set as set_at, append-nil}
-use Rattle.search_core.proofs.Vocabulary.{one-le-pow, Region, Question, IsWithinLimits, Entry, Status, Open, Held, Split, Cut, Confirmed, children, SearchState, IsHeldAt, work_left, work_of}
-use Rattle.search_core.proofs.Vocabulary.{undecided}
-use Rattle.search_core.specs.Entries.{entry, is_live, is_live_status, is_open_status, is_held_status, is_held_by}
-use Rattle.search_core.specs.Events.{open_entries, by_split, by_cut, by_confirm}
-use Rattle.search_core.specs.Laws.{SettlingLessensTheWork, TakingLeavesTheWork, GivingBackLeavesTheWork}
+use Rattle.search_core.proofs.Vocabulary.{one-le-pow, Region, Question, IsWithinLimits, Entry, Status, Open, Held, Split, Cut, Confirmed, children, SearchState, IsHeldAt, work_left, work_of, undecided, entry, is_live, is_live_status, is_open_status, is_held_status, is_held_by, open_entries, by_split, by_cut, by_confirm, SettlingLessensTheWork, TakingLeavesTheWork, GivingBackLeavesTheWork}
 use Rattle.search_core.proofs.Kept.{facts_of}
 use Rattle.search_core.proofs.Sets.{gap_set, passed_gaps}
 use Rattle.search_core.proofs.Working.{settled_work, moved_work, split_work}
@@ -18,18 +14,12 @@ held_is seat e h = by_status (is_held_status e.status) h
     by_status false h = h
 
 pub held_live : (status : Status) → is_held_status status ≡ true → is_live_status status ≡ true
-held_live Open h = absurd cc
 held_live Held h = refl
-held_live (Split f first) h = absurd cc
-held_live Cut h = absurd cc
-held_live Confirmed h = absurd cc
+held_live status h = absurd cc
 
 pub open_live : (status : Status) → is_open_status status ≡ true → is_live_status status ≡ true
 open_live Open h = refl
-open_live Held h = absurd cc
-open_live (Split f first) h = absurd cc
-open_live Cut h = absurd cc
-open_live Confirmed h = absurd cc
+open_live status h = absurd cc
 
 some_work : (n : Region) → 0 < work_of n
 some_work n = one-le-pow (undecided n) 2 (omega arith)

@@ -1,58 +1,29 @@
 -- The children of a node decide more gaps, and all their sets together are fewer.
 use Rattle.std.proofs.Common.{◌≡◌, ◌≢◌, ℕ, zero, suc, ◌+◌, ◌*◌, ◌^◌, ◌<◌, ◌≤◌, Bool, true, false, ◌&&◌, ◌||◌, not, List, [], ◌∷◌, ◌++◌, Some, Contains, sum_by, refl, sym, ap, ◌∙◌, if◌then◌else◌, subst, inl, inr, arith, length, get_or, set as set_at}
 use Rattle.std.specs.FinSet as set
-use Rattle.std.specs.Ordering.{nat_cmp, eq_by_cmp}
-use Rattle.std.proofs.lemmas.Option.{same_Some, none-some, slice_get_within, get_or_from_slice_get}
+use Rattle.std.proofs.lemmas.Bool.{and_parts, and_from, and_left, and_right, or_left, or_right, not-true, not_from_true, not_from_false, false_from_ne_true, true≢false}
+use Rattle.search_core.proofs.Vocabulary.{nat_cmp, eq_by_cmp, same_Some, none-some, slice_get_within, get_or_from_slice_get, AllPairs, one-le-pow, two-pow-succ, sum_by-cons, sum_by-le, length-filter, count_by-le-length, sum_by-set, sum_by-append, slice_get, filter, range_with_len, nat_cmp_total, nat_tests, length-range_with_len, SetOfGaps, IsGapSet, with_gap, without_gap, child_regions, open_gaps, Region, MAX_GAPS, new_or_old, true_or_false, first_is_here, later_is_here, Entry, Open, children, entry, is_live, open_entries, is_undecided, undecided, work_of, live_work, work_left, open_exact, open_ascending}
 use Rattle.std.proofs.lemmas.List.Kept.{AllPairs-from_increasing}
-use Rattle.std.specs.List.{AllPairs}
 use Rattle.std.proofs.Math.Pow.{pow_mono}
-use Rattle.std.proofs.Math.Nat.{one-le-pow, two-pow-succ}
-use Rattle.std.proofs.lemmas.List.Sums.{sum_by-cons, sum_by-le, length-filter, count_by-le-length, sum_by-set, sum_by-append}
-use Rattle.search_core.proofs.Vocabulary.{slice_get, filter, range_with_len, nat_cmp_total, nat_tests, length-range_with_len, SetOfGaps, IsGapSet, with_gap, without_gap, child_regions, open_gaps}
-use Rattle.search_core.proofs.Vocabulary.{Region, MAX_GAPS, new_or_old, true_or_false, first_is_here, later_is_here, Entry, Open, children, entry, is_live, open_entries}
 use Rattle.gap_sets.proofs.Ranges.{sum-lt}
-use Rattle.search_core.specs.Work.{is_undecided, undecided, work_of, live_work, work_left}
 use Rattle.search_core.proofs.Places.{Each}
-use Rattle.cover_solver.proofs.OpenGaps.{open_exact, open_ascending}
 
 -- a set has what it had, and the new gap
-kept_old : (s : SetOfGaps) (gap q : ℕ) → set.contains s q ≡ true → set.contains (set.insert s gap) q ≡ true
-kept_old s gap q h = set.contains-insert nat_cmp_total s gap q ∙ by_or (eq_by_cmp nat_cmp q gap) (set.contains s q) h
-  where
-    by_or : (a b : Bool) → b ≡ true → (a || b) ≡ true
-    by_or true b e = refl
-    by_or false b e = e
+pub kept_old : (s : SetOfGaps) (gap q : ℕ) → set.contains s q ≡ true → set.contains (set.insert s gap) q ≡ true
+kept_old s gap q h = set.contains-insert nat_cmp_total s gap q ∙ or_right (eq_by_cmp nat_cmp q gap) (set.contains s q) h
 
-has_new : (s : SetOfGaps) (gap : ℕ) → set.contains (set.insert s gap) gap ≡ true
-has_new s gap = set.contains-insert nat_cmp_total s gap gap ∙ by_or (eq_by_cmp nat_cmp gap gap) (set.contains s gap) (grind (arith, nat_tests))
-  where
-    by_or : (a b : Bool) → a ≡ true → (a || b) ≡ true
-    by_or true b e = refl
-    by_or false b e = absurd cc
+pub has_new : (s : SetOfGaps) (gap : ℕ) → set.contains (set.insert s gap) gap ≡ true
+has_new s gap = set.contains-insert nat_cmp_total s gap gap ∙ or_left (eq_by_cmp nat_cmp gap gap) (set.contains s gap) (grind (arith, nat_tests))
 
 -- what is undecided is in neither set
 both : (a b : Bool) → (not a && not b) ≡ true → (a ≡ false) × (b ≡ false)
-both true b h = absurd cc
-both false true h = absurd cc
-both false false h = (refl, refl)
+both a b h = (let parts = and_parts (not a) (not b) h in (not-true a parts.0, not-true b parts.1))
 
 neither : (a b : Bool) → a ≡ false → b ≡ false → (not a && not b) ≡ true
-neither true b e f = absurd cc
-neither false true e f = absurd cc
-neither false false e f = refl
-
-left_in : (a b : Bool) → a ≡ true → (not a && not b) ≡ false
-left_in true b e = refl
-left_in false b e = absurd cc
-
-right_in : (a b : Bool) → b ≡ true → (not a && not b) ≡ false
-right_in true b e = refl
-right_in false true e = refl
-right_in false false e = absurd cc
+neither a b e f = and_from (not a) (not b) (not_from_false a e) (not_from_false b f)
 
 outside : (a b : Bool) → (a ≡ true → b ≡ true) → b ≡ false → a ≡ false
-outside true b h e = let no : true ≡ false = sym (h refl) ∙ e in no
-outside false b h e = refl
+outside a b h e = false_from_ne_true a (λ is. true≢false (sym (h is) ∙ e))
 
 module _ (n : Region) (gap : ℕ) (low : gap < MAX_GAPS) (open_gap : is_undecided n gap ≡ true) where
   abbrev with_it : Region
@@ -65,13 +36,13 @@ module _ (n : Region) (gap : ℕ) (low : gap < MAX_GAPS) (open_gap : is_undecide
   with_less = sum-lt (λ (q : ℕ). 1) (is_undecided with_it) (is_undecided n) 0 MAX_GAPS gap
       (λ q h. let p = both (set.contains with_it.must q) (set.contains with_it.never q) h in
       neither (set.contains n.must q) (set.contains n.never q) (outside (set.contains n.must q) (set.contains with_it.must q) (kept_old n.must gap q) p.0) p.1)
-      (omega arith) (omega arith) (left_in (set.contains with_it.must gap) (set.contains with_it.never gap) (has_new n.must gap)) open_gap (omega arith)
+      (omega arith) (omega arith) (and_left (not (set.contains with_it.must gap)) (not (set.contains with_it.never gap)) (not_from_true _ (has_new n.must gap))) open_gap (omega arith)
 
   without_less : undecided without_it < undecided n
   without_less = sum-lt (λ (q : ℕ). 1) (is_undecided without_it) (is_undecided n) 0 MAX_GAPS gap
       (λ q h. let p = both (set.contains without_it.must q) (set.contains without_it.never q) h in
       neither (set.contains n.must q) (set.contains n.never q) p.0 (outside (set.contains n.never q) (set.contains without_it.never q) (kept_old n.never gap q) p.1))
-      (omega arith) (omega arith) (right_in (set.contains without_it.must gap) (set.contains without_it.never gap) (has_new n.never gap)) open_gap (omega arith)
+      (omega arith) (omega arith) (and_right (not (set.contains without_it.must gap)) (not (set.contains without_it.never gap)) (not_from_true _ (has_new n.never gap))) open_gap (omega arith)
 
   -- another gap stays undecided
   still_open : (q : ℕ) → gap ≢ q → is_undecided n q ≡ true → is_undecided without_it q ≡ true
@@ -97,12 +68,12 @@ abbrev pub AreUndecided : Region → List ℕ → Type 0
 AreUndecided n gaps = (gap : ℕ) → Contains gaps gap → (gap < MAX_GAPS) × (is_undecided n gap ≡ true)
 
 -- the first of ascending numbers is not among the others
-not_again : (x : ℕ) (xs : List ℕ) → AllPairs (λ a b. a < b) (x ∷ xs) → (q : ℕ) → Contains xs q → x ≢ q
+pub not_again : (x : ℕ) (xs : List ℕ) → AllPairs (λ a b. a < b) (x ∷ xs) → (q : ℕ) → Contains xs q → x ≢ q
 not_again x xs up q here same =
     let less : x < get_or xs here.0 q = up 0 (suc here.0) q (omega arith) (let h = here.1 in omega arith) in
     let is : get_or xs here.0 q ≡ q = here.2 in omega arith
 
-later : (x : ℕ) (xs : List ℕ) → AllPairs (λ a b. a < b) (x ∷ xs) → AllPairs (λ a b. a < b) xs
+pub later : (x : ℕ) (xs : List ℕ) → AllPairs (λ a b. a < b) (x ∷ xs) → AllPairs (λ a b. a < b) xs
 later x xs up i j d h l = up (suc i) (suc j) d (omega arith) (omega arith)
 
 -- of the others

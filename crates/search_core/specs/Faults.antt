@@ -43,27 +43,19 @@ module _ (s : SearchState) (seat : ℕ) where
   abbrev pub TakeFaultIs : TreeFault → Type 0
   TakeFaultIs NothingOpen = HoldsNothing s seat × HasNoOpen s
   TakeFaultIs SeatHolds = (n : Region) × HoldsNode s seat n
-  TakeFaultIs SeatHoldsNothing = ⊥
-  TakeFaultIs Hit = ⊥
-  TakeFaultIs StillBetter = ⊥
-  TakeFaultIs OutOfMemory = ⊥
+  TakeFaultIs fault = ⊥
 
   -- of a run that passes these gaps
   abbrev pub SplitFaultIs : SetOfGaps → TreeFault → Type 0
-  SplitFaultIs passed NothingOpen = ⊥
-  SplitFaultIs passed SeatHolds = ⊥
   SplitFaultIs passed SeatHoldsNothing = HoldsNothing s seat
   SplitFaultIs passed Hit = (n : Region) × HoldsNode s seat n × DoMeet passed n.must
-  SplitFaultIs passed StillBetter = ⊥
   SplitFaultIs passed OutOfMemory = Unit {0}
+  SplitFaultIs passed fault = ⊥
 
   abbrev pub CutFaultIs : Reason → TreeFault → Type 0
-  CutFaultIs why NothingOpen = ⊥
-  CutFaultIs why SeatHolds = ⊥
   CutFaultIs why SeatHoldsNothing = HoldsNothing s seat
-  CutFaultIs why Hit = ⊥
   CutFaultIs why StillBetter = (n : Region) × HoldsNode s seat n × (¬ CutsNode s why n)
-  CutFaultIs why OutOfMemory = ⊥
+  CutFaultIs why fault = ⊥
 
   -- of a call that only needs a node
   abbrev pub IsWithoutNode : TreeFault → Type 0

@@ -28,17 +28,10 @@ pub record IsOutcome (f : Outcome) : Type 0 where
   pub done : IsDone (finished_state f)
 
 abbrev pub IsEventOf : Status → Event → Type 0
-IsEventOf Open e = ⊥
-IsEventOf Held e = ⊥
 IsEventOf (Split f first) (event.Split run) = run.now ≡ f
-IsEventOf (Split f first) event.Cut = ⊥
-IsEventOf (Split f first) event.Confirmed = ⊥
-IsEventOf Cut (event.Split run) = ⊥
 IsEventOf Cut event.Cut = Unit {0}
-IsEventOf Cut event.Confirmed = ⊥
-IsEventOf Confirmed (event.Split run) = ⊥
-IsEventOf Confirmed event.Cut = ⊥
 IsEventOf Confirmed event.Confirmed = Unit {0}
+IsEventOf status e = ⊥
 
 -- what the record says of an entry
 pub record IsSettledAs (e : Entry) (settled : Settled) : Type 0 where

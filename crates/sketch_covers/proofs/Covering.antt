@@ -36,18 +36,13 @@ pub pushes_as : (P Q : Cover → Type 0) (old new : List Node) → ((t : Cover) 
 pushes_as P Q old new follows more = record { tree = more.tree; is = follows more.tree more.is; pushed = more.pushed }
 
 spelled_some : (t : Cover) → 1 ≤ length (spell t)
-spelled_some (Value t trees) = omega arith
-spelled_some (Source read trees) = omega arith
-spelled_some (Order first second one other) = omega arith
-spelled_some (Cycle kind events) = omega arith
 spelled_some (Known run) = known_some run
+spelled_some t = omega arith
 
 -- the node and the trees are what spells the tree over them
 two_spelled : (first second : AccessId) (trees : List Cover) → length trees ≡ 2 → spell (tree_over (left.Order first second) trees) ≡ node.Order first second ∷ spell_all trees
-two_spelled first second [] two = absurd (omega arith)
-two_spelled first second (one ∷ []) two = absurd (omega arith)
 two_spelled first second (one ∷ (other ∷ [])) two = ap (λ (xs : List Node). node.Order first second ∷ (spell one ++ xs)) (sym (append-nil (spell other)))
-two_spelled first second (one ∷ (other ∷ (more ∷ trees))) two = absurd (omega arith)
+two_spelled first second trees two = absurd (omega arith)
 
 module _ (s : ProgramSketch) (shown : Shown) (choices : List Choice) (root : Node) (old : List Node) where
   -- the root, and then valid trees after the choices so far
@@ -59,14 +54,8 @@ module _ (s : ProgramSketch) (shown : Shown) (choices : List Choice) (root : Nod
 module _ (s : ProgramSketch) (shown : Shown) (lawful : IsLawful s) (choices : List Choice) where
   over_spelled : (outcomes : List Outcome) (next : OpenChoice) (trees : List Cover) → AreChoicesOf s next choices → AreCoversAfter s shown outcomes choices trees
       → spell (tree_over next trees) ≡ node_over next (length choices) ∷ spell_all trees
-  over_spelled outcomes (left.Value t) trees are covers =
-      let each = as_many_choices s shown outcomes lawful choices trees covers in
-      let right : count_covers (covers_of trees) ≡ length choices = covers_count trees ∙ each in
-      λ k. node.Value t (right k) ∷ listed trees k
-  over_spelled outcomes (left.Source read) trees are covers =
-      let each = as_many_choices s shown outcomes lawful choices trees covers in
-      let right : count_covers (covers_of trees) ≡ length choices = covers_count trees ∙ each in
-      λ k. node.Source read (right k) ∷ listed trees k
+  over_spelled outcomes (left.Value t) trees are covers = λ k. node.Value t ((covers_count trees ∙ as_many_choices s shown outcomes lawful choices trees covers) k) ∷ listed trees k
+  over_spelled outcomes (left.Source read) trees are covers = λ k. node.Source read ((covers_count trees ∙ as_many_choices s shown outcomes lawful choices trees covers) k) ∷ listed trees k
   over_spelled outcomes (left.Order first second) trees are covers =
       two_spelled first second trees (as_many_choices s shown outcomes lawful choices trees covers ∙ ap length are)
 

@@ -77,9 +77,8 @@ module _ (q : Question) (mode : Machine) (old new : List Outcome) (keeps : Keeps
 
     still_valid_each : (trees : Covers) (ks : List Sketch) → AreValidCovers q mode old trees ks → AreValidCovers q mode new trees ks
     still_valid_each NoCover [] valid = tt
-    still_valid_each NoCover (k ∷ ks) valid = absurd valid
-    still_valid_each (MoreCovers tree trees) [] valid = absurd valid
     still_valid_each (MoreCovers tree trees) (k ∷ ks) (now, later) = (still_valid tree k now, still_valid_each trees ks later)
+    still_valid_each trees ks valid = absurd valid
 
 -- and so do the trees after choices
 pub covers_still : (s : ProgramSketch) (shown : Shown) (old new : List Outcome) (choices : List Choice) (trees : List Cover) → KeepsNumbers old new → AreCoversAfter s shown old choices trees → AreCoversAfter s shown new choices trees

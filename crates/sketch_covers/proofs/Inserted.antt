@@ -80,9 +80,8 @@ module _ (os : List Outcome) (o : Outcome) (p : ℕ) (belongs : BelongsAt os o p
 pub zip_insert : {A B : Type 0} (R : A → B → Type 0) (xs : List A) (ys : List B) (i : ℕ) (x : A) (y : B) → AllZip R xs ys → R x y → AllZip R (insert xs i x) (insert ys i y)
 zip_insert R xs ys zero x y all r = (r, all)
 zip_insert R [] [] (suc i) x y all r = (r, tt)
-zip_insert R [] (b ∷ ys) (suc i) x y all r = absurd all
-zip_insert R (a ∷ xs) [] (suc i) x y all r = absurd all
 zip_insert R (a ∷ xs) (b ∷ ys) (suc i) x y all r = (all.0, zip_insert R xs ys i x y all.1 r)
+zip_insert R xs ys i x y all r = absurd all
 
 -- an outcome that belongs at a place is not there yet
 pub not_there : (os : List Outcome) (o : Outcome) (p : ℕ) → BelongsAt os o p → Contains os o → ⊥

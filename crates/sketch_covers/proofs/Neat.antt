@@ -17,9 +17,8 @@ all_small (a ∷ rest) small = (
 )
 
 mapped_at : (accesses : List AccessId) (i : ℕ) (d : AccessId) → get_or (map event_of accesses) i (event_of d) ≡ event_of (get_or accesses i d)
-mapped_at [] i d = refl
-mapped_at (a ∷ rest) zero d = refl
 mapped_at (a ∷ rest) (suc i) d = mapped_at rest i d
+mapped_at accesses i d = refl
 
 -- the accesses of distinct events are distinct
 all_other : (accesses : List AccessId) → AllPairs (λ d e. d ≢ e) (map event_of accesses) → AllPairs (λ a b. a ≢ b) accesses

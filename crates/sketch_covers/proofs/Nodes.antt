@@ -1,6 +1,7 @@
 -- Trees made of the trees of children.
 use Rattle.std.proofs.Common.{◌≡◌, ℕ, suc, ◌+◌, ◌<◌, ◌≤◌, List, [], ◌∷◌, ◌++◌, get_or, length, map, take, refl, sym, ap, ◌∙◌, subst, arith}
 use Rattle.std.proofs.lemmas.List.{take_more, map-append, length-map}
+use Rattle.std.proofs.lemmas.Simd.{map-map}
 use Rattle.sketch_covers.proofs.Vocabulary.{◌^◌, Listing, Outcome, Shown, asked, machine_of_mode, IsLawful, choice_count, most_choices, HaveAllRegisters, AccessId, Cover, Value, Source, Order}
 use Rattle.sketch_covers.proofs.Vocabulary.{covers_of, count_covers, event_of, IsValidCover, AreValidCovers, Choice, moved, OpenChoice, IsOpen, AreChoicesOf}
 use Rattle.candidate_executions.specs.Sketches.{Sketch, given_to}
@@ -13,6 +14,7 @@ use Rattle.sketches.proofs.ChoicesCounted.{event_small}
 use Rattle.sketches.proofs.BranchesCounted.{few_values, few_sources}
 use Rattle.sketches.proofs.Completeness.{read_there, first_there, second_there}
 use Rattle.cert_forest.specs.Limits as limits
+use Rattle.cert_forest.proofs.TreeTexts.{covers_count}
 use Rattle.cert_forest.specs.Limits.{cover_depth, covers_depth}
 use Rattle.cover_judge.specs.declared.choice.Choice.TheVariants as choice
 use Rattle.cover_judge.specs.Choices.{sketch_with, MayChoose, IsValueOpen, AreValueChoices, AreSourceChoices}
@@ -22,20 +24,11 @@ use Rattle.cover_judge.specs.Judged.{IsValidAt}
 use Rattle.sketch_covers.specs.Covers.{IsNeat, AreNeat, IsLeafAt, IsCoverAt, IsCoverAfter, AreCoversAfter, IsWholeCover, tree_over}
 use Rattle.branching.proofs.Rounds.{counted_after}
 
-map_map : {A B C : Type 0} (f : B → C) (g : A → B) (xs : List A) → map f (map g xs) ≡ map (λ x. f (g x)) xs
-map_map f g [] = refl
-map_map f g (x ∷ xs) = ap (λ ys. f (g x) ∷ ys) (map_map f g xs)
-
 -- as many trees as sketches
 as_many : (s : ProgramSketch) (shown : Shown) (outcomes : List Outcome) (trees : List Cover) (ks : List Sketch) → AreValidCovers (asked s.program shown) (mode_in s) outcomes (covers_of trees) ks → length trees ≡ length ks
 as_many s shown outcomes [] [] valid = refl
-as_many s shown outcomes [] (k ∷ ks) valid = absurd valid
-as_many s shown outcomes (tree ∷ trees) [] valid = absurd valid
 as_many s shown outcomes (tree ∷ trees) (k ∷ ks) valid = ap suc (as_many s shown outcomes trees ks valid.1)
-
-counted : (trees : List Cover) → count_covers (covers_of trees) ≡ length trees
-counted [] = refl
-counted (tree ∷ trees) = ap suc (counted trees)
+as_many s shown outcomes trees ks valid = absurd valid
 
 -- an access of a lawful sketch has the numbers of one in a certificate
 named_small : (s : ProgramSketch) (a : AccessId) → IsLawful s → IsAccess s.program (mode_in s) (given_to s.chosen) (event_of a) → limits.IsAccessId a
@@ -53,13 +46,13 @@ module _ (s : ProgramSketch) (shown : Shown) (outcomes : List Outcome) (lawful :
     valid = (
       are.values,
       are.next,
-      subst (AreValidCovers (asked s.program shown) (mode_in s) outcomes (covers_of trees)) (ap (map (sketch_with s.chosen)) are.each ∙ map_map (sketch_with s.chosen) (choice.Value t) are.values) covers.valid,
+      subst (AreValidCovers (asked s.program shown) (mode_in s) outcomes (covers_of trees)) (ap (map (sketch_with s.chosen)) are.each ∙ map-map (sketch_with s.chosen) (choice.Value t) are.values) covers.valid,
     );
     neat = record {
       numbers = (
         (let there = reads_there s.program (mode_in s) s.chosen t are.next.location are.next.next in let few = lawful.within.shared.few_threads in omega arith),
         (let few = few_values s.program are.next.location are.values lawful.within six are.next.ascending (λ v. (are.next.exact v).0) in
-            let long = counted trees ∙ as_many_choices choices trees covers ∙ ap length are.each ∙ length-map are.values (choice.Value t) in
+            let long = covers_count trees ∙ as_many_choices choices trees covers ∙ ap length are.each ∙ length-map are.values (choice.Value t) in
             omega arith),
         covers.neat.numbers,
       );
@@ -75,13 +68,13 @@ module _ (s : ProgramSketch) (shown : Shown) (outcomes : List Outcome) (lawful :
     valid = (
       are.sources,
       are.next,
-      subst (AreValidCovers (asked s.program shown) (mode_in s) outcomes (covers_of trees)) (ap (map (sketch_with s.chosen)) are.each ∙ map_map (sketch_with s.chosen) (choice.Source read) are.sources) covers.valid,
+      subst (AreValidCovers (asked s.program shown) (mode_in s) outcomes (covers_of trees)) (ap (map (sketch_with s.chosen)) are.each ∙ map-map (sketch_with s.chosen) (choice.Source read) are.sources) covers.valid,
     );
     neat = record {
       numbers = (
         named_small s read lawful is,
         (let few = few_sources s.program (mode_in s) s.chosen (event_of read) lawful.within are.sources are.next.in_order (λ e. (are.next.exact e).0) in
-            let long = counted trees ∙ as_many_choices choices trees covers ∙ ap length are.each ∙ length-map are.sources (choice.Source read) in
+            let long = covers_count trees ∙ as_many_choices choices trees covers ∙ ap length are.each ∙ length-map are.sources (choice.Source read) in
             omega arith),
         covers.neat.numbers,
       );
@@ -144,9 +137,8 @@ module _ (s : ProgramSketch) (shown : Shown) (outcomes : List Outcome) (lawful :
   valid_push : (trees : List Cover) (ks : List Sketch) (tree : Cover) (k : Sketch) → AreValidCovers (asked s.program shown) (mode_in s) outcomes (covers_of trees) ks →
       IsValidCover (asked s.program shown) (mode_in s) outcomes tree k → AreValidCovers (asked s.program shown) (mode_in s) outcomes (covers_of (trees ++ tree ∷ [])) (ks ++ k ∷ [])
   valid_push [] [] tree k all valid = (valid, tt)
-  valid_push [] (j ∷ ks) tree k all valid = absurd all
-  valid_push (t ∷ trees) [] tree k all valid = absurd all
   valid_push (t ∷ trees) (j ∷ ks) tree k all valid = (all.0, valid_push trees ks tree k all.1 valid)
+  valid_push trees ks tree k all valid = absurd all
 
   depth_push : (trees : List Cover) (tree : Cover) (n most : ℕ) → covers_depth (covers_of trees) + n ≤ most → cover_depth tree + n ≤ most → covers_depth (covers_of (trees ++ tree ∷ [])) + n ≤ most
   depth_push [] tree n most a b = omega arith

@@ -25,9 +25,8 @@ number_push xs x = slice_get-get_or (xs ++ x ∷ []) (length xs) x (let long = p
 
 still_numbers : (old new : List Outcome) (ns : List ℕ) (os : List Outcome) → KeepsNumbers old new → AllZip (HasNumber old) ns os → AllZip (HasNumber new) ns os
 still_numbers old new [] [] keeps all = tt
-still_numbers old new [] (o ∷ os) keeps all = absurd all
-still_numbers old new (n ∷ ns) [] keeps all = absurd all
 still_numbers old new (n ∷ ns) (o ∷ os) keeps all = (keeps n o all.0, still_numbers old new ns os keeps all.1)
+still_numbers old new ns os keeps all = absurd all
 
 zip_at : {A B : Type 0} (R : A → B → Type 0) (xs : List A) (ys : List B) (i : ℕ) (d : A) (e : B) → AllZip R xs ys → i < length ys → R (get_or xs i d) (get_or ys i e)
 zip_at R xs [] i d e all h = absurd (omega arith)

@@ -1,7 +1,6 @@
 -- Where a set is not better than the answer, no set that holds it is.
-use Rattle.std.proofs.Common.{◌≡◌, ◌≢◌, ◌⊎◌, ℕ, ◌<◌, ◌≤◌, Bool, true, false, List, length, refl, sym, ◌∙◌, subst, inl, inr, arith}
+use Rattle.tree_laws.proofs.Vocabulary.{◌≡◌, ◌≢◌, ◌⊎◌, ℕ, ◌<◌, ◌≤◌, Bool, true, false, List, length, refl, sym, ◌∙◌, subst, inl, inr, arith, nat_cmp_total, Better, MAX_GAPS, Listing, IsWithinLimits, AreGapsOf, HaveCosts}
 use Rattle.std.specs.FinSet as set
-use Rattle.tree_laws.proofs.Vocabulary.{nat_cmp_total, Better, MAX_GAPS, Listing, IsWithinLimits, AreGapsOf, HaveCosts}
 use Rattle.gap_sets.specs.Gaps.{SetOfGaps, have_same_gaps}
 use Rattle.gap_sets.specs.SameGaps.{have_same_gaps-same}
 use Rattle.gap_sets.proofs.Subsets.{cheaper}

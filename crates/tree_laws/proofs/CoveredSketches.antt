@@ -1,7 +1,6 @@
 -- A valid cover tree at a sketch covers it: each completion has made the choice of one of the children, or is closed by a cycle, or ends as its leaf says.
-use Rattle.std.proofs.Common.{ℕ, List, [], ◌∷◌, Contains, map, sym, subst, inl, inr}
-use Rattle.tree_laws.proofs.Vocabulary.{Listing, Outcome, Question, JumpForward, Machine, Event, Kind, Cover, Value, Source, Order, Cycle, Known, Covers, NoCover, MoreCovers, event_of, HasNextValues}
-use Rattle.tree_laws.proofs.Vocabulary.{HasSources, HasNoOrder, MustEndAsNumber, IsValidCover, AreValidCovers, IsCovered}
+use Rattle.tree_laws.proofs.Vocabulary.{ℕ, List, [], ◌∷◌, Contains, map, sym, inl, inr, Listing, Outcome, Question, JumpForward, Machine, Event, Kind, Cover, Value, Source, Order, Cycle, Known, Covers, NoCover, MoreCovers, event_of, HasNextValues, HasSources}
+use Rattle.tree_laws.proofs.Vocabulary.{HasNoOrder, MustEndAsNumber, IsValidCover, AreValidCovers, IsCovered}
 use Rattle.candidate_executions.specs.Candidates.{Candidate}
 use Rattle.candidate_executions.specs.Sketches.{Sketch, Completes, IsConsistentCompletion, IsSketch, IsPair, with_value, with_source, with_pair, IsKnownCycle}
 use Rattle.candidate_executions.proofs.Orders.Lists.{some_value}
@@ -9,7 +8,7 @@ use Rattle.candidate_executions.proofs.Sketches.Choices.{a_value_keeps_a_sketch,
 use Rattle.candidate_executions.proofs.Sketches.KnownCycles.{known_cycle_refutes}
 use Rattle.candidate_executions.proofs.Sketches.MustEnd.{each_ends_so}
 use Rattle.tree_laws.specs.Laws.{AValidCoverCovers}
-use Rattle.tree_laws.proofs.Lists.{none_here, first_or_later, mapped, found_is_here}
+use Rattle.tree_laws.proofs.Lists.{none_here, mapped, found_is_here, each_more}
 
 -- a completion of one sketch that completes another
 of_other : (p : Listing) (mode : Machine) (k j : Sketch) (c : Candidate) → IsConsistentCompletion p mode k c → Completes j c → IsConsistentCompletion p mode j c
@@ -59,10 +58,6 @@ module _ (q : Question) (mode : Machine) (outcomes : List Outcome) (forward : Ju
     each_ends_so q mode k c must.outcome forward fits is.is_candidate is.completes must.must_end,
   )
 
-  -- the first of the sketches is covered, and each of the others
-  one_more : (k : Sketch) (ks : List Sketch) → Covered k → EachCovered ks → EachCovered (k ∷ ks)
-  one_more k ks first later j here = elim (first_or_later k ks j here) [ inl e ↦ subst Covered e first | inr there ↦ later j there ]
-
   mutual
     covered : (tree : Cover) (k : Sketch) → IsValidCover q mode outcomes tree k → Covered k
     covered (Value t children) k (values, has, valid) = by_values k t values has (each_covered children (map (with_value k t) values) valid)
@@ -77,7 +72,7 @@ module _ (q : Question) (mode : Machine) (outcomes : List Outcome) (forward : Ju
 
     each_covered : (trees : Covers) (ks : List Sketch) → AreValidCovers q mode outcomes trees ks → EachCovered ks
     each_covered NoCover [] valid = λ j here. absurd (none_here j here)
-    each_covered (MoreCovers tree trees) (k ∷ ks) (now, later) = one_more k ks (covered tree k now) (each_covered trees ks later)
+    each_covered (MoreCovers tree trees) (k ∷ ks) (now, later) = each_more Covered k ks (covered tree k now) (each_covered trees ks later)
     each_covered trees ks valid = absurd valid
 
 pub valid_covers : AValidCoverCovers

@@ -1,5 +1,5 @@
 -- Children are judged in their order, each at its own sketch or for its own region.
-use Rattle.std.proofs.Common.{[], ◌∷◌}
+use Rattle.tree_laws.proofs.Vocabulary.{[], ◌∷◌}
 use Rattle.tree_laws.specs.Laws.{CoversAreJudgedInOrder, GapsAreJudgedInOrder}
 
 pub covers_in_order : CoversAreJudgedInOrder

@@ -1,6 +1,5 @@
 -- Where the empty sketch is covered the list has every outcome of the machine.
-use Rattle.std.proofs.Common.{List, [], ◌∷◌, Contains, sym, ap, ◌∙◌, subst, inl, inr, ◌≡◌}
-use Rattle.tree_laws.proofs.Vocabulary.{Outcome, gaps_in, JumpForward, Label, Machine, SequentialMachine, StoreBufferMachine, empty_sketch, Cover, IsValidCover, IsCovered, AreSequentialRuns}
+use Rattle.tree_laws.proofs.Vocabulary.{List, [], ◌∷◌, Contains, sym, ap, ◌∙◌, subst, inl, inr, ◌≡◌, Outcome, gaps_in, JumpForward, Label, Machine, SequentialMachine, StoreBufferMachine, empty_sketch, Cover, IsValidCover, IsCovered, AreSequentialRuns}
 use Rattle.tso_program.specs.Shown.{Question, show}
 use Rattle.tso_machine.specs.Outcomes.{IsShownRun, IsSequentialOutcome}
 use Rattle.candidate_executions.proofs.Sketches.Choices.{empty_is_a_sketch}

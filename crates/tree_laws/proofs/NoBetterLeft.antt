@@ -1,11 +1,11 @@
 -- A valid gap tree over foreign runs leaves no better serving set in its region.
-use Rattle.std.proofs.Common.{◌≡◌, ℕ, true, false, List, [], ◌∷◌, Contains, All, sym, ◌∙◌, subst, inl, inr}
+use Rattle.std.proofs.Common.{◌≡◌, ℕ, true, false, List, [], ◌∷◌, Contains, All, sym, ◌∙◌, inl, inr}
 use Rattle.std.specs.FinSet as set
 use Rattle.tree_laws.proofs.Vocabulary.{SetOfGaps, IsInRegion, child_regions, HasNoneOf, Region, Listing, Question, IsWithinLimits, Label}
 use Rattle.cert_forest.specs.Trees.{Gap, Split, Bound, GapTrees, NoGap, MoreGaps}
 use Rattle.tree_laws.specs.GapTrees.{IsSplitBy, IsValidGap, AreValidGaps, EachBetterOfRegionLeavesOutcome, HaveCosts}
 use Rattle.tree_laws.specs.Laws.{IsForeign, AValidGapTreeLeavesNoBetter, SoNoServingSetIsBetter, TheRootHasEverySet}
-use Rattle.tree_laws.proofs.Lists.{none_here, first_or_later, found_has}
+use Rattle.tree_laws.proofs.Lists.{none_here, found_has, each_more}
 use Rattle.tree_laws.proofs.AvoidedGaps.{Avoids, leaves_outcome}
 use Rattle.tree_laws.proofs.BetterSets.{still_better}
 use Rattle.tree_laws.proofs.Regions.{true_or_false, split_loses_no_set, in_root}
@@ -17,9 +17,6 @@ module _ (q : Question) (costs : List ℕ) (answer : SetOfGaps) where
   -- each of the regions has what a valid tree means
   abbrev EachMeans : List Region → Type 0
   EachMeans ns = (n : Region) → Contains ns n → EachBetterOfRegionLeavesOutcome q costs answer n
-
-  one_more : (n : Region) (ns : List Region) → EachBetterOfRegionLeavesOutcome q costs answer n → EachMeans ns → EachMeans (n ∷ ns)
-  one_more n ns first later m here = elim (first_or_later n ns m here) [ inl e ↦ subst (EachBetterOfRegionLeavesOutcome q costs answer) e first | inr there ↦ later m there ]
 
   module _ (runs : List (List Label)) where
     -- what the run passes and the set has is one of the gaps of the split
@@ -46,9 +43,8 @@ module _ (q : Question) (costs : List ℕ) (answer : SetOfGaps) where
 
         each_means : (trees : GapTrees) (ns : List Region) → AreValidGaps p costs answer runs trees ns → EachMeans ns
         each_means NoGap [] valid = λ n here. absurd (none_here n here)
-        each_means NoGap (n ∷ ns) valid = absurd valid
-        each_means (MoreGaps tree trees) [] valid = absurd valid
-        each_means (MoreGaps tree trees) (n ∷ ns) (now, later) = one_more n ns (means tree n now) (each_means trees ns later)
+        each_means (MoreGaps tree trees) (n ∷ ns) (now, later) = each_more (EachBetterOfRegionLeavesOutcome q costs answer) n ns (means tree n now) (each_means trees ns later)
+        each_means trees ns valid = absurd valid
 
 pub no_better_left : AValidGapTreeLeavesNoBetter
 no_better_left q costs answer runs tree n within have foreign valid = means q costs answer runs within have foreign tree n valid

@@ -1,7 +1,6 @@
 -- What a node's children are for is determined: two lists in order with the same elements are the same.
-use Rattle.std.proofs.Common.{◌≡◌, ℕ, suc, ◌<◌, List, [], ◌∷◌, Contains, refl, sym, ◌∙◌, subst, inl, inr, arith}
+use Rattle.tree_laws.proofs.Vocabulary.{◌≡◌, ◌↔◌, ℕ, suc, ◌<◌, List, [], ◌∷◌, Contains, refl, sym, ◌∙◌, subst, inl, inr, arith, AllPairs, IsStrictlyIncreasing, same_Some, Event, Initial, At, IsValueOf, IsSourceOf, ComesBefore}
 use Rattle.std.proofs.lemmas.List.Kept.{AllPairs-from_increasing}
-use Rattle.tree_laws.proofs.Vocabulary.{AllPairs, same_Some, Event, Initial, At, IsValueOf, ComesBefore}
 use Rattle.tree_laws.specs.GapTrees.{IsOpenGap}
 use Rattle.tree_laws.specs.Laws.{TheValuesAreOneList, TheSourcesAreOneList, TheGapsAreOneList}
 use Rattle.tree_laws.proofs.Lists.{none_here, first_or_later, first_is_here, later_is_here}
@@ -41,8 +40,12 @@ module _ {A : Type 0} (R : A → A → Type 0) (one_way : (x y : A) → R x y �
       (still_later y ys xs right (λ z here. subst (λ (w : A). Contains (w ∷ xs) z) first (back z here))) in
       λ i. first i ∷ rest i
 
-below_one_way : (m n : ℕ) → m < n → n < m → ⊥
-below_one_way m n h back = omega arith
+  -- lists of what has a property
+  one_list_of : (P : A → Type 0) (xs ys : List A) → AllPairs R xs → AllPairs R ys → ((z : A) → Contains xs z ↔ P z) → ((z : A) → Contains ys z ↔ P z) → xs ≡ ys
+  one_list_of P xs ys left right there back = one_list xs ys left right (λ z here. (back z).1 ((there z).0 here)) (λ z here. (there z).1 ((back z).0 here))
+
+one_list_of_numbers : (P : ℕ → Type 0) (xs ys : List ℕ) → IsStrictlyIncreasing xs → IsStrictlyIncreasing ys → ((n : ℕ) → Contains xs n ↔ P n) → ((n : ℕ) → Contains ys n ↔ P n) → xs ≡ ys
+one_list_of_numbers P xs ys left right = one_list_of (λ (m n : ℕ). m < n) (λ m n h back. omega arith) P xs ys (AllPairs-from_increasing xs left) (AllPairs-from_increasing ys right)
 
 comes_one_way : (d e : Event) → ComesBefore d e → ComesBefore e d → ⊥
 comes_one_way (Initial l) (At t i) h back = back
@@ -53,33 +56,12 @@ comes_one_way (At t i) (At u j) (inr h) (inr back) = let before = h.1 in let aft
 comes_one_way d e g k = omega arith
 
 pub one_list_of_values : TheValuesAreOneList
-one_list_of_values p mode k t xs ys left right =
-    one_list (λ (m n : ℕ). m < n) below_one_way xs ys (AllPairs-from_increasing xs left.ascending) (AllPairs-from_increasing ys right.ascending)
-    (λ v here. (right.exact v).1 (moved v ((left.exact v).0 here))) (λ v here. (left.exact v).1 (moved_back v ((right.exact v).0 here)))
-  where
-    same : left.location ≡ right.location
-    same = same_Some left.location right.location (sym left.next ∙ right.next)
-
-    moved : (v : ℕ) → IsValueOf p left.location v → IsValueOf p right.location v
-    moved v is = subst (λ (l : ℕ). IsValueOf p l v) same is
-
-    moved_back : (v : ℕ) → IsValueOf p right.location v → IsValueOf p left.location v
-    moved_back v is = subst (λ (l : ℕ). IsValueOf p l v) (sym same) is
+one_list_of_values p mode k t xs ys left right = one_list_of_numbers (IsValueOf p left.location) xs ys left.ascending right.ascending left.exact
+    (subst (λ (l : ℕ). (v : ℕ) → Contains ys v ↔ IsValueOf p l v) (same_Some right.location left.location (sym right.next ∙ left.next)) right.exact)
 
 pub one_list_of_sources : TheSourcesAreOneList
-one_list_of_sources p mode k e xs ys left right =
-    one_list ComesBefore comes_one_way xs ys left.in_order right.in_order (λ s here. (right.exact s).1 ((left.exact s).0 here)) (λ s here. (left.exact s).1 ((right.exact s).0 here))
+one_list_of_sources p mode k e xs ys left right = one_list_of ComesBefore comes_one_way (λ s. IsSourceOf p mode k s e) xs ys left.in_order right.in_order left.exact right.exact
 
 pub one_list_of_gaps : TheGapsAreOneList
-one_list_of_gaps p runs n number xs ys left right =
-    one_list (λ (m n : ℕ). m < n) below_one_way xs ys (AllPairs-from_increasing xs left.ascending) (AllPairs-from_increasing ys right.ascending)
-    (λ gap here. (right.exact gap).1 (moved gap ((left.exact gap).0 here))) (λ gap here. (left.exact gap).1 (moved_back gap ((right.exact gap).0 here)))
-  where
-    same : left.labels ≡ right.labels
-    same = same_Some left.labels right.labels (sym left.is_run ∙ right.is_run)
-
-    moved : (gap : ℕ) → IsOpenGap p left.labels n.never gap → IsOpenGap p right.labels n.never gap
-    moved gap is = subst (λ labels. IsOpenGap p labels n.never gap) same is
-
-    moved_back : (gap : ℕ) → IsOpenGap p right.labels n.never gap → IsOpenGap p left.labels n.never gap
-    moved_back gap is = subst (λ labels. IsOpenGap p labels n.never gap) (sym same) is
+one_list_of_gaps p runs n number xs ys left right = one_list_of_numbers (IsOpenGap p left.labels n.never) xs ys left.ascending right.ascending left.exact
+    (subst (λ labels. (gap : ℕ) → Contains ys gap ↔ IsOpenGap p labels n.never gap) (same_Some right.labels left.labels (sym right.is_run ∙ left.is_run)) right.exact)

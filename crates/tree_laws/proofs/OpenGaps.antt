@@ -1,6 +1,7 @@
 -- The gaps of a set in order, and those of one set that are not in another.
 use Rattle.std.proofs.Common.{◌≡◌, ◌↔◌, ℕ, ◌+◌, ◌<◌, ◌≤◌, Bool, true, false, not, get_or, length, Contains, ◌∙◌, refl, arith, zero-add}
 use Rattle.std.specs.FinSet as set
+use Rattle.std.proofs.lemmas.Bool.{not-true, not_from_false}
 use Rattle.std.proofs.lemmas.List.FromFn.{length-range_with_len, get_or-range_with_len}
 use Rattle.std.proofs.lemmas.List.Kept.{IsStrictlyIncreasing-filter}
 use Rattle.std.proofs.lemmas.List.Sums.{length-filter, count_by-le-length}
@@ -8,15 +9,6 @@ use Rattle.tree_laws.proofs.Vocabulary.{range_with_len, IsStrictlyIncreasing, MA
 use Rattle.gap_sets.specs.Gaps.{SetOfGaps, IsGapSet, numbers_of_set}
 use Rattle.gap_sets.specs.Regions.{is_free, open_gaps}
 use Rattle.tree_laws.proofs.Filtered.{of_filter, to_filter}
-
--- a test that fails
-not_true : (b : Bool) → not b ≡ true → b ≡ false
-not_true true e = absurd cc
-not_true false e = refl
-
-not_false : (b : Bool) → b ≡ false → not b ≡ true
-not_false true e = absurd cc
-not_false false e = refl
 
 -- each gap of a set is listed
 pub listed : (s : SetOfGaps) (g : ℕ) → g < MAX_GAPS → set.contains s g ≡ true → Contains (numbers_of_set s) g
@@ -31,8 +23,8 @@ unlisted s g here = (of_filter (set.contains s) (range_with_len 0 MAX_GAPS) g he
 -- the open gaps are those of the first set that are not in the second
 pub open_exact : (passed never : SetOfGaps) → IsGapSet passed → (g : ℕ) → Contains (open_gaps passed never) g ↔ ((set.contains passed g ≡ true) × (set.contains never g ≡ false))
 open_exact passed never small g = (
-  (λ here. (let both = of_filter (is_free never) (numbers_of_set passed) g here in (unlisted passed g both.0, not_true _ both.1))),
-  (λ both. to_filter (is_free never) (numbers_of_set passed) g (listed passed g (small g both.0) both.0) (not_false _ both.1)),
+  (λ here. (let both = of_filter (is_free never) (numbers_of_set passed) g here in (unlisted passed g both.0, not-true _ both.1))),
+  (λ both. to_filter (is_free never) (numbers_of_set passed) g (listed passed g (small g both.0) both.0) (not_from_false _ both.1)),
 )
 
 -- they ascend

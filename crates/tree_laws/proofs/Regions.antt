@@ -1,9 +1,8 @@
 -- The children of a region: a set of the region is in the child for the first of the gaps that it has.
-use Rattle.std.proofs.Common.{◌≡◌, ◌⊎◌, ◌||◌, ℕ, Bool, true, false, List, [], ◌∷◌, refl, sym, ◌∙◌, subst, inl, inr, arith}
+use Rattle.tree_laws.proofs.Vocabulary.{◌≡◌, ◌⊎◌, ◌||◌, ℕ, Bool, true, false, [], ◌∷◌, refl, sym, ◌∙◌, subst, inl, inr, arith, nat_cmp, eq_by_cmp, nat_cmp_total, nat_tests, SetOfGaps, all_sets, with_gap, without_gap, IsInRegion, child_regions, Region}
 use Rattle.std.specs.FinSet as set
-use Rattle.tree_laws.proofs.Vocabulary.{nat_cmp, eq_by_cmp, nat_cmp_total, nat_tests, SetOfGaps, all_sets, with_gap, without_gap, IsInRegion, child_regions, HasNoneOf, Region}
 use Rattle.tree_laws.specs.Laws.{ASplitLosesNoSet}
-use Rattle.tree_laws.proofs.Lists.{none_here, first_or_later, first_is_here, later_is_here}
+use Rattle.tree_laws.proofs.Lists.{none_here, first_is_here, later_is_here, each_more}
 pub use Rattle.std.proofs.lemmas.Bool.{cases_Bool as true_or_false}
 
 tied : (q g : ℕ) (b : Bool) → (eq_by_cmp nat_cmp q g || b) ≡ true → (g ≡ q) ⊎ (b ≡ true)
@@ -27,12 +26,6 @@ module _ (n : Region) (other : SetOfGaps) (inside : IsInRegion n other) (gap : �
     avoids = λ q h. elim (new_or_old n.never gap q h) [ inl e ↦ subst (λ (g : ℕ). set.contains other g ≡ false) e missing | inr old ↦ inside.avoids q old ];
   }
 
-none_of : (gap : ℕ) (gaps : List ℕ) (other : SetOfGaps) → set.contains other gap ≡ false → HasNoneOf other gaps → HasNoneOf other (gap ∷ gaps)
-none_of gap gaps other missing none q here = elim (first_or_later gap gaps q here) [
-  | inl e ↦ subst (λ (g : ℕ). set.contains other g ≡ false) e missing
-  | inr later ↦ none q later
-]
-
 -- the first of the gaps that the set has picks the child
 pub split_loses_no_set : ASplitLosesNoSet
 split_loses_no_set n [] other inside = inr (λ gap here. absurd (none_here gap here))
@@ -43,7 +36,7 @@ split_loses_no_set n (gap ∷ gaps) other inside =
       | inl there ↦ inl (first, first_is_here first (child_regions rest gaps), with_it n other inside gap there)
       | inr missing ↦ elim (split_loses_no_set rest gaps other (without_it n other inside gap missing)) [
         | inl (child, here, in_child) ↦ inl (child, later_is_here first (child_regions rest gaps) child here, in_child)
-        | inr none ↦ inr (none_of gap gaps other missing none)
+        | inr none ↦ inr (each_more (λ (g : ℕ). set.contains other g ≡ false) gap gaps missing none)
       ]
     ]
 

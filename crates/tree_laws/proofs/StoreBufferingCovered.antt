@@ -1,7 +1,7 @@
 -- Store buffering: its cover tree is valid in each mode, given the cycle of the mode.
 use Rattle.std.proofs.Common.{◌≢◌, is_some, ◌≡◌, ℕ, zero, suc, ◌<◌, List, [], ◌∷◌, Some, Contains, slice_get, slice_index, map, refl, sym, ap, ◌∙◌, subst, inl, inr, arith, lit<}
-use Rattle.tree_laws.proofs.Vocabulary.{AllPairs, same_Some, Outcome, All, Machine, Access, Event, Initial, At, Kind, access_by, Writes, Sketch, empty_sketch, given_to, IsStrictlyIncreasing}
-use Rattle.tree_laws.proofs.Vocabulary.{IsKnownCycle, with_value, with_source, IsSourceOf, MayBeLast, MustEndAs, ComesBefore, event_of, MustEndAsNumber, HasNextValues, HasSources, IsValidCover}
+use Rattle.tree_laws.proofs.Vocabulary.{AllPairs, same_Some, Outcome, All, Machine, Access, Event, Initial, At, Kind, access_by, Writes, Sketch, empty_sketch, given_to, IsStrictlyIncreasing, IsKnownCycle, with_value, with_source, IsSourceOf, MayBeLast}
+use Rattle.tree_laws.proofs.Vocabulary.{MustEndAs, ComesBefore, event_of, MustEndAsNumber, HasNextValues, HasSources, IsValidCover}
 use Rattle.tso_program.specs.Shown.{Question, asked}
 use Rattle.tso_machine.specs.Examples.{store_buffering, ends_with}
 use Rattle.cert_forest.specs.StoreBuffering.{around, cover_of}
@@ -49,9 +49,8 @@ module _ (mode : Machine) where
   not_last a b (suc (suc l)) h last = omega arith
 
   ones : (l : ℕ) → l < 2 → 1 ≡ slice_index (1 ∷ 1 ∷ []) l
-  ones zero h = refl
-  ones (suc zero) h = refl
   ones (suc (suc l)) h = absurd (omega arith)
+  ones l h = refl
 
   last_writes : (a b l v : ℕ) (e : Event) → l < 2 → Writes (access_by store_buffering mode (given_to (both a b))) e l v →
       MayBeLast store_buffering mode (both a b) l e → v ≡ slice_index (1 ∷ 1 ∷ []) l

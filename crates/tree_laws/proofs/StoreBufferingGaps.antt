@@ -1,8 +1,7 @@
 -- Store buffering: its gap tree is valid.
-use Rattle.std.proofs.Common.{◌≡◌, ◌||◌, ℕ, zero, suc, ◌<◌, Bool, true, false, [], ◌∷◌, Contains, refl, sym, ap, ◌∙◌, subst, inl, inr, arith}
+use Rattle.tree_laws.proofs.Vocabulary.{◌≡◌, ◌||◌, ℕ, zero, suc, ◌<◌, Bool, true, false, [], ◌∷◌, Contains, refl, sym, ap, ◌∙◌, subst, inl, inr, arith, IsStrictlyIncreasing, nat_cmp, eq_by_cmp, nat_cmp_total, nat_tests, SetOfGaps, Better, all_sets, with_gap}
+use Rattle.tree_laws.proofs.Vocabulary.{without_gap, Region, these, store_buffering, waiting_stores, PassesGap, IsSplitBy, IsValidGap, costs}
 use Rattle.std.specs.FinSet as set
-use Rattle.tree_laws.proofs.Vocabulary.{IsStrictlyIncreasing, nat_cmp, eq_by_cmp, nat_cmp_total, nat_tests, SetOfGaps, Better, all_sets, with_gap, without_gap, Region, these, store_buffering}
-use Rattle.tree_laws.proofs.Vocabulary.{waiting_stores, PassesGap, IsSplitBy, IsValidGap, costs}
 use Rattle.gap_sets.proofs.Orders.{not_itself}
 use Rattle.cert_forest.specs.StoreBuffering.{second_waits, first_waits, gap_tree}
 use Rattle.tree_laws.proofs.Lists.{none_here, first_or_later, first_is_here}

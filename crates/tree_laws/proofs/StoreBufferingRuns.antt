@@ -1,5 +1,5 @@
 -- Store buffering: the runs of its certificate, and what they pass.
-use Rattle.std.proofs.Common.{◌≡◌, ℕ, zero, suc, ◌<◌, ◌≤◌, true, false, List, [], ◌∷◌, Some, Contains, All, length, slice_index, slice_index_or, ◌+◌, refl, sym, ap, ◌∙◌, inl, inr, arith, lit<}
+use Rattle.std.proofs.Common.{◌≡◌, ℕ, zero, suc, ◌<◌, ◌≤◌, true, false, List, [], ◌∷◌, Some, Contains, All, length, slice_index, slice_index_or, ◌+◌, refl, sym, ap, ◌∙◌, arith, lit<}
 use Rattle.tree_laws.proofs.Vocabulary.{All-nil, All-cons, Stop, Outcome, action, gap_number, Label, store_buffering, waiting_stores, PassesGap, AreSequentialRuns, IsRunOutside}
 use Rattle.tso_program.proofs.Gaps.{gap_below, gap_same}
 use Rattle.tso_machine.specs.declared.label.Pending.{Pending}
@@ -7,7 +7,6 @@ use Rattle.tso_machine.specs.Machine.{SequentialMachine, StoreBufferMachine, no_
 use Rattle.tso_machine.proofs.Runs.{no_action, no_stores}
 use Rattle.tso_machine.proofs.Refused.{run_keeps}
 use Rattle.cert_forest.specs.StoreBuffering.{first_first, second_first, stores_first, sequential_runs, second_waits, first_waits}
-use Rattle.tree_laws.proofs.Lists.{none_here, first_or_later}
 use Rattle.tree_laws.proofs.StoreBufferingCovered.{question, end_of, outcomes}
 
 -- a thread's next action and its waiting stores, at the end
@@ -50,16 +49,10 @@ differ o q none some same = let sums : registers_sum o ≡ registers_sum q = ap 
 
 -- both loads give 0 in no sequential run
 outside : ¬ Contains outcomes (end_of 0 0)
-outside here = elim (first_or_later {A = Outcome} (end_of 0 1) (end_of 1 0 ∷ end_of 1 1 ∷ []) (end_of 0 0) here) [
-  | inl e ↦ differ (end_of 0 1) (end_of 0 0) refl (lit< tt) e
-  | inr later ↦ elim (first_or_later {A = Outcome} (end_of 1 0) (end_of 1 1 ∷ []) (end_of 0 0) later) [
-    | inl e ↦ differ (end_of 1 0) (end_of 0 0) refl (lit< tt) e
-    | inr last ↦ elim (first_or_later {A = Outcome} (end_of 1 1) [] (end_of 0 0) last) [
-      | inl e ↦ differ (end_of 1 1) (end_of 0 0) refl (lit< tt) e
-      | inr rest ↦ none_here (end_of 0 0) rest
-    ]
-  ]
-]
+outside (zero, h, e) = differ (end_of 0 1) (end_of 0 0) refl (lit< tt) e
+outside (suc zero, h, e) = differ (end_of 1 0) (end_of 0 0) refl (lit< tt) e
+outside (suc (suc zero), h, e) = differ (end_of 1 1) (end_of 0 0) refl (lit< tt) e
+outside (suc (suc (suc k)), h, e) = absurd (omega arith)
 
 abbrev pub runs : List (List Label)
 runs = waiting_stores ∷ second_waits ∷ first_waits ∷ []

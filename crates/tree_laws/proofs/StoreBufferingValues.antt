@@ -1,13 +1,13 @@
 -- Store buffering: its instructions, the values of its locations, and its accesses under given values.
-use Rattle.std.proofs.Common.{◌≡◌, ◌↔◌, ◌⊎◌, ℕ, zero, suc, ◌<◌, List, [], ◌∷◌, Some, None, Contains, slice_index, refl, sym, ap, ◌∙◌, subst, inl, inr, arith}
-use Rattle.tree_laws.proofs.Vocabulary.{same_Some, Machine, store_buffering, Access, Initial, At, access_by, Writes, Sketch, empty_sketch, given_to, with_value, IsWhole}
+use Rattle.tree_laws.proofs.Vocabulary.{◌≡◌, ◌↔◌, ◌⊎◌, ℕ, zero, suc, ◌<◌, List, [], ◌∷◌, Some, None, Contains, slice_index, refl, sym, ap, ◌∙◌, subst, inl, inr, arith, same_Some, Machine, store_buffering, Access, Initial, At, access_by, Writes, Sketch}
+use Rattle.tree_laws.proofs.Vocabulary.{empty_sketch, given_to, with_value, IsWhole}
 use Rattle.tso_program.specs.declared.instruction.Reg.{Reg}
 use Rattle.tso_program.specs.declared.instruction.Reg.TheVariants.{Eax}
 use Rattle.tso_program.specs.declared.instruction.Instr.{Instr}
 use Rattle.tso_program.specs.declared.instruction.Instr.TheVariants.{Load, StoreImm, Store, Xchg}
 use Rattle.tso_program.specs.Listings.{instr_at}
 use Rattle.candidate_executions.specs.Values.{Occurs, IsValueOf}
-use Rattle.tree_laws.proofs.Lists.{none_here, first_or_later, first_is_here, later_is_here}
+use Rattle.tree_laws.proofs.Lists.{first_is_here, later_is_here}
 
 -- one of the four instructions
 instruction : (t k : ℕ) (x : Instr) → instr_at store_buffering.threads t k ≡ Some x → (x ≡ StoreImm 0 1) ⊎ ((x ≡ Load Eax 1) ⊎ ((x ≡ StoreImm 1 1) ⊎ (x ≡ Load Eax 0)))
@@ -36,10 +36,9 @@ in_zero_one (suc zero) h = later_is_here 0 (1 ∷ []) 1 (first_is_here 1 [])
 in_zero_one (suc (suc v)) h = absurd (omega arith)
 
 pub of_zero_one : (v : ℕ) → Contains zero_one v → (v ≡ 0) ⊎ (v ≡ 1)
-of_zero_one v here = elim (first_or_later 0 (1 ∷ []) v here) [
-  | inl e ↦ inl (sym e)
-  | inr later ↦ elim (first_or_later 1 [] v later) [ inl e ↦ inr (sym e) | inr rest ↦ absurd (none_here v rest) ]
-]
+of_zero_one v (zero, h, e) = inl (sym e)
+of_zero_one v (suc zero, h, e) = inr (sym e)
+of_zero_one v (suc (suc k), h, e) = absurd (omega arith)
 
 starts_at_zero : (l : ℕ) → l < 2 → slice_index store_buffering.memory l ≡ 0
 starts_at_zero (suc (suc l)) h = absurd (omega arith)

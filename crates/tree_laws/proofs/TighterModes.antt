@@ -1,7 +1,7 @@
 -- A cover tree that is valid in a mode is valid in each tighter one: of what is known of a sketch only sections change, and of two modes with gaps fenced they come no closer.
-use Rattle.std.proofs.Common.{◌≡◌, ◌⊎◌, ℕ, Bool, List, [], ◌∷◌, Some, IsSome, map, length, refl, sym, ap, ◌∙◌, subst, inl, inr}
-use Rattle.tree_laws.proofs.Vocabulary.{range_with_len, Local, Listing, Outcome, Machine, SequentialMachine, StoreBufferMachine, no_gaps, Access, Event, Initial, At, Kind, access_by, Writes, Cover}
-use Rattle.tree_laws.proofs.Vocabulary.{Value, Source, Order, Cycle, Known, Covers, NoCover, MoreCovers, event_of, HasNextValues, HasSources, HasNoOrder, MustEndAsNumber, IsValidCover, AreValidCovers}
+use Rattle.std.proofs.Common.{◌≡◌, ◌⊎◌, ℕ, Bool, List, [], ◌∷◌, Some, slice_get, IsSome, map, length, refl, sym, ap, ◌∙◌, subst, inl, inr}
+use Rattle.tree_laws.proofs.Vocabulary.{range_with_len, Local, Listing, Outcome, Machine, SequentialMachine, StoreBufferMachine, no_gaps, Access, Event, Initial, At, Kind, access_by, Writes, Cover, Value, Source, Order, Cycle, Known, Covers, NoCover}
+use Rattle.tree_laws.proofs.Vocabulary.{MoreCovers, event_of, HasNextValues, HasSources, HasNoOrder, IsValidCover, AreValidCovers}
 use mathlib.Core.Path.{fun_ext}
 use Rattle.tso_program.specs.declared.shown.Shown.{Shown}
 use Rattle.tso_program.specs.declared.shown.Shown.TheVariants.{Truth}
@@ -17,7 +17,7 @@ use Rattle.candidate_executions.specs.Traces.{fenced_gaps, trace_by}
 use Rattle.candidate_executions.specs.Consistency.{Precedes, KeepsOrder, IsOfMode}
 use Rattle.candidate_executions.specs.Sketches.{Sketch, given_to, IsSourceOf, IsPair, with_value, with_source, with_pair, read_by, next_read, IsWhole, MayBeLast, stopped, EndsInValues, KnownAtom, EndsAs, MustEndAs, IsBefore, KnownFromReads, KnownRelates, KnownEdgeOfMode, IsKnownCycle}
 use Rattle.candidate_executions.proofs.Orders.WiderRelations.{cycle_wider}
-use Rattle.tree_laws.specs.TighterModes.{AreGapsAmong, IsNoLooser, in_sequence, each_in_sequence, in_mode}
+use Rattle.tree_laws.specs.TighterModes.{AreGapsAmong, IsNoLooser, kind_in, changed, each_changed}
 use Rattle.tree_laws.specs.Laws.{ATighterModeKeepsACover, ATighterModeKeepsTheValues, ATighterModeKeepsAWholeSketch}
 use Rattle.tree_laws.proofs.WiderTraces.{bare, IsWiderTrace, also, also_back, still_apart, wider_trace}
 
@@ -122,11 +122,6 @@ module _ (p : Listing) (k : Sketch) where
       by_kind union.Global (inr (inr h)) = inr (inr h)
       by_kind kind (inl h) = inl h.0
 
--- the union of the mode that has the edges of this one
-abbrev kind_in : Machine → Kind → Kind
-kind_in SequentialMachine kind = union.Sequential
-kind_in (StoreBufferMachine gaps) kind = kind
-
 module _ (p : Listing) (loose tight : Machine) (tighter : IsNoLooser loose tight) (k : Sketch) where
   both : AreAlike p k loose tight
   both = alike p k loose tight tighter
@@ -183,45 +178,6 @@ module _ (p : Listing) (loose tight : Machine) (tighter : IsNoLooser loose tight
   cycle_forth : (kind : Kind) (es : List Event) → IsKnownCycle p loose k kind es → IsKnownCycle p tight k (kind_in tight kind) es
   cycle_forth kind = cycle_wider (KnownEdgeOfMode p loose k kind) (KnownEdgeOfMode p tight k (kind_in tight kind)) (edge_forth kind)
 
--- the tree with cycles of the unions of the mode, each worked out
-abbrev mutual
-  turned : Machine → Cover → Cover
-  turned mode (Value t trees) = Value t (each_turned mode trees)
-  turned mode (Source read trees) = Source read (each_turned mode trees)
-  turned mode (Order first second one other) = Order first second (turned mode one) (turned mode other)
-  turned mode (Cycle kind events) = Cycle (kind_in mode kind) events
-  turned mode (Known number) = Known number
-
-  each_turned : Machine → Covers → Covers
-  each_turned mode NoCover = NoCover
-  each_turned mode (MoreCovers tree trees) = MoreCovers (turned mode tree) (each_turned mode trees)
-
-mutual
-  turned_in_sequence : (tree : Cover) → turned SequentialMachine tree ≡ in_sequence tree
-  turned_in_sequence (Value t trees) = ap (Value t) (each_turned_in_sequence trees)
-  turned_in_sequence (Source read trees) = ap (Source read) (each_turned_in_sequence trees)
-  turned_in_sequence (Order first second one other) = λ i. Order first second (turned_in_sequence one i) (turned_in_sequence other i)
-  turned_in_sequence tree = refl
-
-  each_turned_in_sequence : (trees : Covers) → each_turned SequentialMachine trees ≡ each_in_sequence trees
-  each_turned_in_sequence NoCover = refl
-  each_turned_in_sequence (MoreCovers tree trees) = λ i. MoreCovers (turned_in_sequence tree i) (each_turned_in_sequence trees i)
-
-mutual
-  turned_stays : (gaps : Gaps) (tree : Cover) → turned (StoreBufferMachine gaps) tree ≡ tree
-  turned_stays gaps (Value t trees) = ap (Value t) (each_turned_stays gaps trees)
-  turned_stays gaps (Source read trees) = ap (Source read) (each_turned_stays gaps trees)
-  turned_stays gaps (Order first second one other) = λ i. Order first second (turned_stays gaps one i) (turned_stays gaps other i)
-  turned_stays gaps tree = refl
-
-  each_turned_stays : (gaps : Gaps) (trees : Covers) → each_turned (StoreBufferMachine gaps) trees ≡ trees
-  each_turned_stays gaps NoCover = refl
-  each_turned_stays gaps (MoreCovers tree trees) = λ i. MoreCovers (turned_stays gaps tree i) (each_turned_stays gaps trees i)
-
-turned_in_mode : (mode : Machine) (tree : Cover) → turned mode tree ≡ in_mode mode tree
-turned_in_mode SequentialMachine tree = turned_in_sequence tree
-turned_in_mode (StoreBufferMachine gaps) tree = turned_stays gaps tree
-
 module _ (q : Question) (loose tight : Machine) (tighter : IsNoLooser loose tight) where
   abbrev p : Listing
   p = q.program
@@ -258,12 +214,11 @@ module _ (q : Question) (loose tight : Machine) (tighter : IsNoLooser loose tigh
   must_end : (k : Sketch) (o : Outcome) → MustEndAs q loose k o → MustEndAs q tight k o
   must_end k o must = ends_kept k o q.shown must
 
-  module _ (outcomes : List Outcome) where
-    known : (k : Sketch) (number : ℕ) → MustEndAsNumber q loose outcomes k number → MustEndAsNumber q tight outcomes k number
-    known k number must = record { outcome = must.outcome; is_outcome = must.is_outcome; must_end = must_end k must.outcome must.must_end }
-
+  -- with unions for cycles such that these stay cycles, and each outcome's number in another list
+  module _ (kinds : Kind → Kind) (cycles : (k : Sketch) (kind : Kind) (es : List Event) → IsKnownCycle p loose k kind es → IsKnownCycle p tight k (kinds kind) es) (old new : List Outcome) (place : ℕ → ℕ)
+      (moves : (n : ℕ) (o : Outcome) → slice_get old n ≡ Some o → slice_get new (place n) ≡ Some o) where
     mutual
-      kept : (tree : Cover) (k : Sketch) → IsValidCover q loose outcomes tree k → IsValidCover q tight outcomes (turned tight tree) k
+      pub kept : (tree : Cover) (k : Sketch) → IsValidCover q loose old tree k → IsValidCover q tight new (changed kinds place tree) k
       kept (Value t children) k (values, has, valid) =
           (values, values_forth p loose tight tighter k t values has, each_kept children (map (with_value k t) values) valid)
       kept (Source read children) k (sources, has, valid) =
@@ -273,17 +228,27 @@ module _ (q : Question) (loose tight : Machine) (tighter : IsNoLooser loose tigh
         kept one_before (with_pair k (event_of one) (event_of other)) before,
         kept other_before (with_pair k (event_of other) (event_of one)) after,
       )
-      kept (Cycle kind events) k cycle = cycle_forth p loose tight tighter k kind (map event_of events) cycle
-      kept (Known number) k must = known k number must
+      kept (Cycle kind events) k cycle = cycles k kind (map event_of events) cycle
+      kept (Known number) k must = record { outcome = must.outcome; is_outcome = moves number must.outcome must.is_outcome; must_end = must_end k must.outcome must.must_end }
 
-      each_kept : (trees : Covers) (ks : List Sketch) → AreValidCovers q loose outcomes trees ks → AreValidCovers q tight outcomes (each_turned tight trees) ks
+      each_kept : (trees : Covers) (ks : List Sketch) → AreValidCovers q loose old trees ks → AreValidCovers q tight new (each_changed kinds place trees) ks
       each_kept NoCover [] valid = valid
       each_kept (MoreCovers tree trees) (k ∷ ks) (now, later) = (kept tree k now, each_kept trees ks later)
       each_kept trees ks valid = absurd valid
 
 pub tighter_keeps_cover : ATighterModeKeepsACover
 tighter_keeps_cover q loose tight outcomes tree k tighter valid =
-    subst (λ (t : Cover). IsValidCover q tight outcomes t k) (turned_in_mode tight tree) (kept q loose tight tighter outcomes tree k valid)
+    kept q loose tight tighter (kind_in tight) (λ k. cycle_forth q.program loose tight tighter k) outcomes outcomes (λ number. number) (λ n o is. is) tree k valid
+
+-- no mode is looser than itself
+as_loose : (mode : Machine) → IsNoLooser mode mode
+as_loose SequentialMachine = tt
+as_loose (StoreBufferMachine gaps) = λ t i fenced. fenced
+
+-- in the same mode, with other numbers
+pub renumbered_is_valid : (q : Question) (mode : Machine) (old new : List Outcome) (place : ℕ → ℕ) → ((n : ℕ) (o : Outcome) → slice_get old n ≡ Some o → slice_get new (place n) ≡ Some o) →
+    (tree : Cover) (k : Sketch) → IsValidCover q mode old tree k → IsValidCover q mode new (changed (λ kind. kind) place tree) k
+renumbered_is_valid q mode = kept q mode mode (as_loose mode) (λ kind. kind) (λ k kind es cycle. cycle)
 
 pub tighter_keeps_values : ATighterModeKeepsTheValues
 tighter_keeps_values p loose tight k t values tighter has = values_forth p loose tight tighter k t values has

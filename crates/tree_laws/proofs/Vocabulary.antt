@@ -1,4 +1,5 @@
 -- What many proofs of this crate speak of, imported once.
+pub use Rattle.std.proofs.Common.{Bool, Contains, List, None, Some, [], ap, arith, false, inl, inr, length, lit<, map, refl, slice_get, slice_index, subst, suc, sym, true, zero, ℕ, ◌+◌, ◌<◌, ◌||◌, ◌↔◌, ◌∙◌, ◌∷◌, ◌≡◌, ◌≢◌, ◌≤◌, ◌⊎◌}
 pub use Rattle.std.proofs.lemmas.Bool.Decides.{nat_tests}
 pub use Rattle.std.proofs.lemmas.List.Elements.{All-cons, All-nil}
 pub use Rattle.std.proofs.lemmas.Option.{same_Some}

@@ -2,6 +2,7 @@
 use Rattle.std.specs.Prelude.{◌≡◌, ℕ, true}
 use Rattle.tso_program.specs.Fences.{Gaps}
 use Rattle.tso_machine.specs.Machine.{Machine, SequentialMachine, StoreBufferMachine}
+use Rattle.candidate_executions.specs.declared.event.Kind.{Kind}
 use Rattle.candidate_executions.specs.declared.event.Kind.TheVariants as union
 use Rattle.cert_forest.specs.Trees.{Cover, Value, Source, Order, Cycle, Known, Covers, NoCover, MoreCovers}
 
@@ -16,20 +17,24 @@ IsNoLooser (StoreBufferMachine fewer) SequentialMachine = Unit {0}
 IsNoLooser SequentialMachine SequentialMachine = Unit {0}
 IsNoLooser SequentialMachine (StoreBufferMachine more) = ⊥
 
--- the same tree, each cycle being one of the union of sequential consistency
-abbrev mutual
-  pub in_sequence : Cover → Cover
-  in_sequence (Value t trees) = Value t (each_in_sequence trees)
-  in_sequence (Source read trees) = Source read (each_in_sequence trees)
-  in_sequence (Order first second one other) = Order first second (in_sequence one) (in_sequence other)
-  in_sequence (Cycle kind events) = Cycle union.Sequential events
-  in_sequence (Known number) = Known number
+-- the union of the mode that has the edges of this one
+abbrev pub kind_in : Machine → Kind → Kind
+kind_in SequentialMachine kind = union.Sequential
+kind_in (StoreBufferMachine gaps) kind = kind
 
-  pub each_in_sequence : Covers → Covers
-  each_in_sequence NoCover = NoCover
-  each_in_sequence (MoreCovers tree trees) = MoreCovers (in_sequence tree) (each_in_sequence trees)
+-- the same tree, with other unions for its cycles and other numbers for its outcomes
+abbrev mutual
+  pub changed : (Kind → Kind) → (ℕ → ℕ) → Cover → Cover
+  changed kinds place (Value t trees) = Value t (each_changed kinds place trees)
+  changed kinds place (Source read trees) = Source read (each_changed kinds place trees)
+  changed kinds place (Order first second one other) = Order first second (changed kinds place one) (changed kinds place other)
+  changed kinds place (Cycle kind events) = Cycle (kinds kind) events
+  changed kinds place (Known number) = Known (place number)
+
+  pub each_changed : (Kind → Kind) → (ℕ → ℕ) → Covers → Covers
+  each_changed kinds place NoCover = NoCover
+  each_changed kinds place (MoreCovers tree trees) = MoreCovers (changed kinds place tree) (each_changed kinds place trees)
 
 -- the same tree, with cycles of the unions of the mode: one with gaps fenced has those of each other such mode
 abbrev pub in_mode : Machine → Cover → Cover
-in_mode SequentialMachine tree = in_sequence tree
-in_mode (StoreBufferMachine gaps) tree = tree
+in_mode mode = changed (kind_in mode) (λ number. number)

@@ -16,11 +16,8 @@ number_of_child passed never must = position_from (set.contains must) 0 (open_ga
 
 -- the place of the child of the first gap that the node's sets must have
 abbrev pub child_by : Status → SetOfGaps → SetOfGaps → Option ℕ
-child_by Open never must = None
-child_by Held never must = None
 child_by (Split run first) never must = option_map (λ number. first + number) (number_of_child run.passed never must)
-child_by Cut never must = None
-child_by Confirmed never must = None
+child_by status never must = None
 
 abbrev pub child_in : Option Entry → Region → Option ℕ
 child_in None n = None

@@ -10,14 +10,9 @@ use Rattle.hunt_board.specs.declared.settling.Receipt.{Receipt}
 -- the events are the same; of a split the gaps that its run passes are
 abbrev pub IsSameEvent : Event → ReceiptEvent → Type 0
 IsSameEvent (recorded.Split run) (event.Split passed) = run.now.passed ≡ passed
-IsSameEvent (recorded.Split run) event.Cut = ⊥
-IsSameEvent (recorded.Split run) event.Confirmed = ⊥
-IsSameEvent recorded.Cut (event.Split passed) = ⊥
 IsSameEvent recorded.Cut event.Cut = Unit {0}
-IsSameEvent recorded.Cut event.Confirmed = ⊥
-IsSameEvent recorded.Confirmed (event.Split passed) = ⊥
-IsSameEvent recorded.Confirmed event.Cut = ⊥
 IsSameEvent recorded.Confirmed event.Confirmed = Unit {0}
+IsSameEvent e other = ⊥
 
 -- the receipt says the same
 pub record SaysSame (settled : Settled) (r : Receipt) : Type 0 where

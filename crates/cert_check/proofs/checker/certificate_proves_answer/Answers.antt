@@ -1,4 +1,4 @@
-use Rattle.tso_program.specs.Shown.{asked}
+use Rattle.cert_check.proofs.Vocabulary.{asked}
 use Rattle.cert_check.proofs.checker.certificate_proves_answer.Goals as goal
 
 pub returns-clause-valid : goal.returns-clause-valid

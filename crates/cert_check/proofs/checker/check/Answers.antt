@@ -1,5 +1,4 @@
-use Rattle.std.proofs.Common.{sym, subst}
-use Rattle.cert_check.proofs.Vocabulary.{asked, IsValidCertificate}
+use Rattle.cert_check.proofs.Vocabulary.{sym, subst, asked, IsValidCertificate}
 use Rattle.cert_check.proofs.FirstFaults.{valid_certificates_have_no_fault}
 use Rattle.cert_check.proofs.checker.check.Goals as goal
 

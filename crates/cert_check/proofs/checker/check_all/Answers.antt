@@ -1,6 +1,4 @@
-use Rattle.std.proofs.Common.{All, sym, subst}
-use Rattle.cert_check.proofs.Vocabulary.{all_sets, asked, gaps_in, StoreBufferMachine, empty_sketch, IsValidCover, IsValidGap, IsRunOutside, IsValidCertificate, CheckFaultIs, HasServingSet}
-use Rattle.cert_check.proofs.Vocabulary.{HasForeignRuns, HasEachOutcome, HavePassed, err_up, on_ok}
+use Rattle.cert_check.proofs.Vocabulary.{All, sym, subst, all_sets, asked, gaps_in, StoreBufferMachine, empty_sketch, IsValidCover, IsValidGap, IsRunOutside, IsValidCertificate, CheckFaultIs, HasServingSet, HasForeignRuns, HasEachOutcome, HavePassed, err_up, on_ok}
 use Rattle.cert_check.proofs.Assembled.{assembled}
 use Rattle.cert_check.proofs.FirstFaults.{foreign_are_runs}
 use Rattle.cert_check.proofs.checker.check_all.Goals as goal
@@ -21,8 +19,8 @@ returns-in_err-check_fenced-clause-fault c =
     err_up c.from_residual-in_err-check_fenced.result c.in_err-check_fenced.field-0.0 (CheckFaultIs q costs claim) c.from_residual-in_err-check_fenced.ensures.1
     (c.in_err-check_fenced.ensures.fault costs (subst (λ xs. HasForeignRuns q costs claim xs) (sym c.deref-2.ensures.value) foreign))
 
-pub returns-clause-valid : goal.returns-clause-valid
-returns-clause-valid c =
+pub returns : goal.returns
+returns c =
     let q = asked c.args.program.now c.args.shown.now in
     let costs = c.args.costs.now in
     let claim = c.args.certificate.now in
@@ -39,24 +37,7 @@ returns-clause-valid c =
       fenced = subst (λ xs. IsValidCover q (StoreBufferMachine (gaps_in q.program claim.gaps)) xs claim.fenced_tree (empty_sketch q.program)) c.deref-2.ensures.value c.in_ok-check_fenced.ensures.fenced;
     } in
     let passed = subst (HavePassed q.program claim.runs) (sym c.deref-3.ensures.value) c.in_ok-passed.ensures.passed in
-    on_ok c.check_gaps.result (IsValidGap q.program costs claim.gaps claim.runs claim.gap_tree all_sets) (IsValidCertificate q costs claim) (assembled q costs claim outs serving) (c.check_gaps.ensures.least q.program passed)
-
-pub returns-clause-fault : goal.returns-clause-fault
-returns-clause-fault c =
-    let q = asked c.args.program.now c.args.shown.now in
-    let costs = c.args.costs.now in
-    let claim = c.args.certificate.now in
-    let outs = c.in_ok-listed.listed.items in
-    let complete : HasEachOutcome q costs claim outs =
-    record { listed = record { head = c.in_ok-check_head.ensures.ok; replayed = c.in_ok-listed.ensures.replayed }; sequential = c.in_ok-listed.ensures.sequential } in
-    let foreign_runs : All (IsRunOutside q outs) claim.runs = subst (λ xs. All (IsRunOutside q xs) claim.runs) c.deref.ensures.value c.in_ok-passed.ensures.foreign in
-    let foreign : HasForeignRuns q costs claim outs = record {
-      replayed = record { complete = complete; runs = foreign_are_runs q outs claim.runs foreign_runs };
-      foreign = foreign_runs;
-    } in
-    let serving : HasServingSet q costs claim outs = record {
-      runs = foreign;
-      fenced = subst (λ xs. IsValidCover q (StoreBufferMachine (gaps_in q.program claim.gaps)) xs claim.fenced_tree (empty_sketch q.program)) c.deref-2.ensures.value c.in_ok-check_fenced.ensures.fenced;
-    } in
-    let passed = subst (HavePassed q.program claim.runs) (sym c.deref-3.ensures.value) c.in_ok-passed.ensures.passed in
-    c.check_gaps.ensures.fault q outs passed serving
+    record {
+      valid = on_ok c.check_gaps.result (IsValidGap q.program costs claim.gaps claim.runs claim.gap_tree all_sets) (IsValidCertificate q costs claim) (assembled q costs claim outs serving) (c.check_gaps.ensures.least q.program passed);
+      fault = c.check_gaps.ensures.fault q outs passed serving;
+    }

@@ -1,10 +1,5 @@
-use Rattle.std.proofs.Common.{◌≡◌, ◌∙◌, ℕ, suc, ◌+◌, ◌<◌, ◌≤◌, List, ◌∷◌, All, length, get_or, take, drop, refl, sym, ap, subst, arith}
-use Rattle.cert_check.proofs.Vocabulary.{IfErr, OnOk, length-take-le, Gap, Split, Bound, gap_trees_of, first_gap, spell_gaps, numbers_of_set, Better, MAX_GAPS, IsValidGap, IfWrong, IsAtRoot, IsBelow}
-use Rattle.cert_check.proofs.Vocabulary.{HasNoSplit, FirstWrongGap, AreValidIn, IsWrongChildIn}
+use Rattle.cert_check.proofs.Vocabulary.{◌≡◌, ◌∙◌, ℕ, suc, ◌+◌, ◌<◌, ◌≤◌, List, ◌∷◌, All, length, get_or, take, drop, refl, sym, ap, subst, arith, IfErr, OnOk, length-take-le, Gap, Split, Bound, gap_trees_of, first_gap, spell_gaps, numbers_of_set, Better, MAX_GAPS, IsValidGap, IfWrong, IsAtRoot, IsBelow, HasNoSplit, FirstWrongGap, AreValidIn, IsWrongChildIn, few_gaps, err_up, if_err, on_ok, if_wrong}
 use Rattle.cert_forest.proofs.GapNodeLaws.{next_gap_is_shorter, split_next, bound_next, gaps_no_longer}
-use Rattle.tree_laws.proofs.OpenGaps.{few_gaps}
-use Rattle.cover_judge.proofs.Answered.{err_up, if_err, on_ok}
-use Rattle.cover_judge.proofs.ChoicesJudged.{if_wrong}
 use Rattle.cover_judge.proofs.CoverSteps.{left_some, walked_on}
 use Rattle.cert_check.proofs.GapNodes.{bound_here, split_here, split_below, split_valid}
 use Rattle.cert_check.proofs.GapSteps.{IsLeft, all_left, go_on, stop_here, none_left_of}

@@ -1,5 +1,4 @@
-use Rattle.std.proofs.Common.{sym, ◌∙◌, ap, subst}
-use Rattle.std.specs.Ordering.{nat_cmp}
+use Rattle.cert_check.proofs.Vocabulary.{sym, ◌∙◌, ap, subst, nat_cmp}
 use Rattle.std.specs.FinSet as set
 use Rattle.cert_check.proofs.OpenGaps.{AreOpenSoFar, none_so_far, one_taken, one_left_out, none_to_come}
 use Rattle.cert_check.proofs.gap.open_gaps.Goals as goal

@@ -1,7 +1,4 @@
-use Rattle.std.proofs.Common.{◌≡◌, true, false, sym, ◌∙◌}
-use Rattle.cert_check.proofs.Vocabulary.{numbers_of_set, HasNoSplit}
-use Rattle.tree_laws.proofs.OpenGaps.{rising}
-use Rattle.cover_judge.proofs.ChoicesJudged.{here}
+use Rattle.cert_check.proofs.Vocabulary.{◌≡◌, true, false, sym, ◌∙◌, numbers_of_set, HasNoSplit, rising, here}
 use Rattle.cert_check.proofs.OpenGaps.{as_many_listed, listed_exact}
 use Rattle.cert_check.proofs.GapNodes.{not_there, must_pass, splits, not_as_many}
 use Rattle.cert_check.proofs.gap.split_gaps.Goals as goal

@@ -1,6 +1,4 @@
-use Rattle.std.proofs.Common.{◌≡◌, true, false, sym, ◌∙◌, subst}
-use Rattle.cert_check.specs.Internal.Replays.{IsOutside}
-use Rattle.sketches.proofs.Lookups.{each_more}
+use Rattle.cert_check.proofs.Vocabulary.{◌≡◌, true, false, sym, ◌∙◌, subst, IsOutside, each_more}
 use Rattle.cert_check.proofs.Found.{first_without}
 use Rattle.cert_check.proofs.OutcomesListed.{borrowed}
 use Rattle.cert_check.proofs.runs.first_outcome_listed.Goals as goal

@@ -1,5 +1,4 @@
-use Rattle.std.proofs.Common.{◌≡◌, ℕ, ◌<◌, get_or}
-use Rattle.cert_check.proofs.Vocabulary.{Outcome, IsOutside}
+use Rattle.cert_check.proofs.Vocabulary.{◌≡◌, ℕ, ◌<◌, get_or, Outcome, IsOutside}
 use Rattle.cert_check.proofs.runs.first_outcome_listed.Given as goal
 
 -- the outcomes so far are not in the list

@@ -1,5 +1,4 @@
-use Rattle.std.proofs.Common.{◌↔◌, Contains, IsTrue, take}
-use Rattle.cert_check.proofs.Vocabulary.{Bor, contains, Outcome, borrowed_cmp}
+use Rattle.cert_check.proofs.Vocabulary.{◌↔◌, Contains, IsTrue, take, Bor, contains, Outcome, borrowed_cmp}
 use Rattle.cert_check.proofs.runs.in_order.Given as goal
 
 -- the set has the outcomes so far

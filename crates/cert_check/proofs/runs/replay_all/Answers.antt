@@ -1,5 +1,4 @@
-use Rattle.std.proofs.Common.{arith}
-use Rattle.cert_check.proofs.Vocabulary.{asked, RunsFaultIs, err_up}
+use Rattle.cert_check.proofs.Vocabulary.{arith, asked, RunsFaultIs, err_up}
 use Rattle.cert_check.proofs.Replayed.{replays_more, first_fault}
 use Rattle.cert_check.proofs.runs.replay_all.Goals as goal
 

@@ -1,4 +1,4 @@
-use Rattle.tso_program.specs.Shown.{asked}
+use Rattle.cert_check.proofs.Vocabulary.{asked}
 use Rattle.cert_check.proofs.Replayed.{AreReplayedBut}
 use Rattle.cert_check.proofs.runs.replay_all.Given as goal
 

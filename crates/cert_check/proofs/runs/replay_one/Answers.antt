@@ -1,4 +1,4 @@
-use Rattle.tso_machine.specs.Modes.{unfenced}
+use Rattle.cert_check.proofs.Vocabulary.{unfenced}
 use Rattle.cert_check.proofs.Replayed.{fault_is}
 use Rattle.cert_check.proofs.runs.replay_one.Goals as goal
 

@@ -1,5 +1,5 @@
-use Rattle.std.proofs.Common.{◌<◌, List, ℕ, map, length, ◌∙◌, ap, arith}
-use Rattle.cover_solver.proofs.Vocabulary.{◌^◌, arc_value, place_in, renumbered}
+use Rattle.std.proofs.Common.{List, ℕ, map, ◌∙◌, ap}
+use Rattle.cover_solver.proofs.Vocabulary.{arc_value, place_in, renumbered}
 use Rattle.cert_forest.proofs.NodeLaws.{is_tree, same_tree}
 use Rattle.partial_covers.specs.NodeChanges.{renumbered_node}
 use Rattle.partial_covers.specs.PartialCovers.{items_of, renumbered_item}
@@ -29,12 +29,11 @@ invariant_of-result g c =
     let places = c.in_ok-places.places.items in
     let small = c.in_ok-places.ensures.small in
     let spelled = tree_renumbered p shown known (place_in places) small all.tree c.in_ok-places.ensures.few is.tree c.in_ok-nodes.nodes.items c.renumber.new.nodes.items c.in_ok-nodes.ensures
-    (c.renumber.ensures ∙ ap (λ (ns : List ℕ). map (renumbered_node (place_in ns)) c.in_ok-nodes.nodes.items) c.deref.ensures.value) in
-    let few : length outcomes < 2 ^ 64 = (let long = all.found.outcomes.ok.0 in let within = all.found.outcomes.ok.1 in let small_items = all.found.outcomes.small in omega arith) in (
-      table_of p copy shown copied known outcomes all.found.runs places all.tree c.in_ok-of_nodes.field-0 c.in_ok-copy.ensures c.in_ok-copy-2.ensures few
+    (c.renumber.ensures ∙ ap (λ (ns : List ℕ). map (renumbered_node (place_in ns)) c.in_ok-nodes.nodes.items) c.deref.ensures.value) in (
+      table_of p copy shown copied known outcomes all.found.runs places all.tree c.in_ok-of_nodes.field-0 c.in_ok-copy.ensures c.in_ok-copy-2.ensures small
           (record { ascend = is.in_order.ascend; exact = is.exact }) is.runs is.tree c.in_ok-places.ensures.places
           (same_tree c.in_ok-of_nodes.field-0 (renumbered (place_in places) all.tree) (c.in_ok-of_nodes.ensures ∙ spelled)),
-      table_renumbered p copy shown copied known outcomes places all.kept (arc_value c.in_ok-new.field-0) c.in_ok-copy.ensures c.in_ok-copy-2.ensures few
+      table_renumbered p copy shown copied known outcomes places all.kept (arc_value c.in_ok-new.field-0) c.in_ok-copy.ensures c.in_ok-copy-2.ensures
           c.in_ok-places.ensures.few small is.kept c.in_ok-places.ensures.places
           (ap items_of c.in_ok-new.ensures.ok ∙ c.renumber_partial.ensures ∙ ap (λ (ns : List ℕ). map (renumbered_item (place_in ns)) (items_of all.kept)) c.deref-2.ensures.value),
     )
@@ -51,7 +50,6 @@ returns-clause-table g c =
     let small = c.in_ok-places.ensures.small in
     let spelled = tree_renumbered p shown known (place_in places) small all.tree c.in_ok-places.ensures.few is.tree c.in_ok-nodes.nodes.items c.renumber.new.nodes.items c.in_ok-nodes.ensures
     (c.renumber.ensures ∙ ap (λ (ns : List ℕ). map (renumbered_node (place_in ns)) c.in_ok-nodes.nodes.items) c.deref.ensures.value) in
-    let few : length outcomes < 2 ^ 64 = (let long = all.found.outcomes.ok.0 in let within = all.found.outcomes.ok.1 in let small_items = all.found.outcomes.small in omega arith) in
-    table_of p c.in_ok-copy.field-0 shown c.in_ok-copy-2.field-0 known outcomes all.found.runs places all.tree c.in_ok-of_nodes.field-0 c.in_ok-copy.ensures c.in_ok-copy-2.ensures few
+    table_of p c.in_ok-copy.field-0 shown c.in_ok-copy-2.field-0 known outcomes all.found.runs places all.tree c.in_ok-of_nodes.field-0 c.in_ok-copy.ensures c.in_ok-copy-2.ensures small
     (record { ascend = is.in_order.ascend; exact = is.exact }) is.runs is.tree c.in_ok-places.ensures.places
     (same_tree c.in_ok-of_nodes.field-0 (renumbered (place_in places) all.tree) (c.in_ok-of_nodes.ensures ∙ spelled))

@@ -1,5 +1,5 @@
 use Rattle.search_core.specs.declared.ceiling.Reason.TheVariants.{Ceiling}
-use Rattle.search_core.proofs.Refusals.{not_cut}
+use Rattle.hunt_board.proofs.Vocabulary.{not_cut}
 use Rattle.hunt_board.proofs.events.cut_node.Goals as goal
 
 pub unreachable-requires : goal.unreachable-requires

@@ -1,4 +1,4 @@
-use Rattle.std.proofs.Common.{◌∙◌, ap, subst}
+use Rattle.hunt_board.proofs.Vocabulary.{◌∙◌, ap, subst}
 use Rattle.hunt_board.specs.declared.settling.Settling.{Settling}
 use Rattle.hunt_board.specs.declared.settling.Settling.TheVariants.{Asked}
 use Rattle.hunt_board.specs.Internal.Events.{IsLawfulThere}

@@ -1,6 +1,5 @@
 use Rattle.std.proofs.Common.{vec_len}
-use Rattle.std.specs.Prelude.{All}
-use Rattle.hunt_board.proofs.Vocabulary.{SeatView, IsSeatOf, word_with}
+use Rattle.hunt_board.proofs.Vocabulary.{All, SeatView, IsSeatOf, word_with}
 use Rattle.hunt_board.proofs.hunt.join_all.Given as goal
 
 -- all seats are of the word

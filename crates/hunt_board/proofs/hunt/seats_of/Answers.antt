@@ -1,5 +1,4 @@
-use Rattle.std.proofs.Common.{◌≡◌, ◌+◌, ◌++◌, ◌∷◌, [], ℕ, List, sym, ap, ◌∙◌, subst, arith}
-use Rattle.hunt_board.proofs.Vocabulary.{SeatView, AreFresh, Known, IsSeatOf, word_with}
+use Rattle.hunt_board.proofs.Vocabulary.{◌≡◌, ◌+◌, ◌++◌, ◌∷◌, [], ℕ, List, sym, ap, ◌∙◌, subst, arith, SeatView, AreFresh, Known, IsSeatOf, word_with}
 use Rattle.hunt_board.proofs.Fresh.{one_more_fresh}
 use Rattle.hunt_board.proofs.hunt.seats_of.Goals as goal
 

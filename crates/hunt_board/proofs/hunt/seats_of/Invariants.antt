@@ -1,5 +1,4 @@
-use Rattle.std.proofs.Common.{◌≡◌}
-use Rattle.hunt_board.proofs.Vocabulary.{HuntView, AreFresh, word_of, IsSeatOf, no_ceiling, word_with}
+use Rattle.hunt_board.proofs.Vocabulary.{◌≡◌, HuntView, AreFresh, word_of, IsSeatOf, no_ceiling, word_with}
 use Rattle.hunt_board.proofs.hunt.seats_of.Given as goal
 
 -- so many seats are fresh, and the first one at the word is as it was

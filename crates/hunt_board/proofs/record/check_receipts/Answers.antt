@@ -1,6 +1,4 @@
-use Rattle.std.proofs.Common.{refl, sym, ◌∙◌}
-use Rattle.std.proofs.lemmas.Bool.{MatchBool-at_true, MatchBool-at_false}
-use Rattle.hunt_board.proofs.Vocabulary.{slice_get_read, IsMarked, IsNotMarked}
+use Rattle.hunt_board.proofs.Vocabulary.{refl, sym, ◌∙◌, slice_get_read, IsMarked, IsNotMarked, MatchBool-at_true, MatchBool-at_false}
 use Rattle.hunt_board.proofs.Marks.{fresh_marks, one_more_marked, all_named, too_few, first_wrong}
 use Rattle.hunt_board.proofs.record.check_receipts.Goals as goal
 

@@ -1,4 +1,4 @@
-use Rattle.std.proofs.Common.{◌+◌, ◌<◌, arith}
+use Rattle.hunt_board.proofs.Vocabulary.{◌+◌, ◌<◌, arith}
 use Rattle.hunt_board.proofs.Walks.{has_first, child_there}
 use Rattle.hunt_board.proofs.record.child_of.Goals as goal
 

@@ -1,4 +1,4 @@
-use Rattle.std.proofs.Common.{refl, inl, inr, sym, ◌∙◌, true≢false}
+use Rattle.hunt_board.proofs.Vocabulary.{refl, inl, inr, sym, ◌∙◌, true≢false}
 use Rattle.hunt_board.proofs.Marks.{mark_of, stands_nowhere, stands_not}
 use Rattle.hunt_board.proofs.record.mark.Goals as goal
 

@@ -1,7 +1,5 @@
-use Rattle.std.proofs.Common.{◌≡◌, ◌+◌, length}
+use Rattle.hunt_board.proofs.Vocabulary.{◌≡◌, ◌+◌, length, filter, position_from, is_free, open_gaps, number_of_child}
 use Rattle.std.specs.FinSet as set
-use Rattle.hunt_board.proofs.Vocabulary.{filter, position_from, is_free, open_gaps}
-use Rattle.hunt_board.specs.Internal.Places.{number_of_child}
 use Rattle.hunt_board.proofs.record.number_of_child.Given as goal
 
 -- what is found among the gaps to come is found among all; so many are seen, and those are to come

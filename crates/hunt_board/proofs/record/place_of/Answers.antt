@@ -1,5 +1,4 @@
-use Rattle.std.proofs.Common.{sym, ◌∙◌}
-use Rattle.hunt_board.specs.Internal.Places.{ends, goes}
+use Rattle.hunt_board.proofs.Vocabulary.{sym, ◌∙◌, ends, goes}
 use Rattle.hunt_board.proofs.Found.{stands_only}
 use Rattle.hunt_board.proofs.Walks.{none_there}
 use Rattle.hunt_board.proofs.record.place_of.Goals as goal

@@ -1,5 +1,4 @@
-use Rattle.std.proofs.Common.{◌≡◌, arith}
-use Rattle.hunt_board.specs.Word.{goal_of}
+use Rattle.hunt_board.proofs.Vocabulary.{◌≡◌, arith, goal_of}
 use Rattle.hunt_board.proofs.Moves.{splits}
 use Rattle.hunt_board.proofs.steps.split.Goals as goal
 

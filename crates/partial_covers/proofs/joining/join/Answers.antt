@@ -1,5 +1,5 @@
-use Rattle.std.proofs.Common.{◌<◌, List, ℕ, ◌++◌, length, map, ap, ◌∙◌, arith}
-use Rattle.partial_covers.proofs.Vocabulary.{◌^◌, place_in, Item, items_of, renumbered_item}
+use Rattle.std.proofs.Common.{List, ℕ, ◌++◌, map, ap, ◌∙◌}
+use Rattle.partial_covers.proofs.Vocabulary.{place_in, Item, items_of, renumbered_item}
 use Rattle.partial_covers.proofs.PartialNodes.{on_ok}
 use Rattle.partial_covers.proofs.PartsJoined.{part_renumbered}
 use Rattle.partial_covers.proofs.joining.join.Goals as goal
@@ -9,7 +9,6 @@ returns-clause-tree c =
     let made = c.args.made in
     let new = c.add_all.new.self.by_number in
     let before = items_of c.args.kept.now in
-    let few : length new.items < 2 ^ 64 = (let long = new.ok.0 in let within = new.ok.1 in let small = new.small in omega arith) in
     let numbered = c.renumber_partial.ensures ∙ ap (λ (ns : List ℕ). map (renumbered_item (place_in ns)) (items_of made.kept)) c.deref.ensures.value in
-    on_ok c.append.result _ _ (λ by s shown path kept. part_renumbered s shown made.found.by_number.items new.items (place_in c.in_ok-places.places.items) few c.in_ok-places.ensures.few c.in_ok-places.ensures.small c.in_ok-places.ensures.numbers
+    on_ok c.append.result _ _ (λ by s shown path kept. part_renumbered s shown made.found.by_number.items new.items (place_in c.in_ok-places.places.items) c.in_ok-places.ensures.few c.in_ok-places.ensures.small c.in_ok-places.ensures.numbers
     path (items_of made.kept) before (items_of c.append.new.self) kept (by ∙ ap (λ (xs : List Item). before ++ xs) numbered)) c.append.ensures

@@ -1,16 +1,15 @@
-use Rattle.std.proofs.Common.{◌<◌, length, refl, sym, ap, ◌∙◌, subst, arith, length-set}
+use Rattle.std.proofs.Common.{◌<◌, length, sym, ap, subst, arith}
 use Rattle.partial_covers.proofs.Vocabulary.{asked, Grows, ProgramSketch, nothing_chosen, by_number, Piece, IsFilled, LeadsToWhole}
 use Rattle.tso_machine.specs.declared.mode.Mode.TheVariants as modes
 use Rattle.sketch_covers.proofs.Growing.{grows_none, grows_twice}
-use Rattle.partial_covers.proofs.FilledParts.{fills_left, fills_made, filled_still}
+use Rattle.partial_covers.proofs.FilledParts.{filled_still}
+use Rattle.partial_covers.proofs.ReplacedItems.{none_replaced, one_replaced, all_replaced, replaced_as, next_item}
 use Rattle.partial_covers.proofs.part_holes.fill_holes.Goals as goal
 
 pub loop-i-init : goal.loop-i-init
 loop-i-init g c = record {
   grows = grows_none (asked c.args.program.now c.args.shown.now) c.args.outcomes.now c.requires.in_order;
-  long = refl;
-  made = λ k d h. absurd (omega arith);
-  left = λ k d h. refl;
+  pieces = none_replaced (IsFilled (nothing_chosen c.args.program.now modes.Sequential) c.args.shown.now (by_number c.args.outcomes.now)) c.args.pieces.now.items;
 }
 
 pub fill_hole-requires-clause-sequential : goal.fill_hole-requires-clause-sequential
@@ -24,8 +23,10 @@ fill_hole-requires-clause-leads g c =
     let i = c.loop-i.i in
     let old = c.args.pieces.now.items in
     let here : i < length old = omega (arith, c.loop-i-test.true, c.len-i-end.ensures, c.args.pieces.now.ok.0) in
-    subst (λ (s : ProgramSketch). LeadsToWhole s c.index_mut.result.now.path.items) (sym c.in_ok-empty.ensures.empty)
-    (subst (λ (p : Piece). LeadsToWhole (nothing_chosen c.args.program.now modes.Sequential) p.path.items) (sym (c.index_mut.ensures.value ∙ c.loop-i.invariant.left i c.index_mut.result.now (omega arith))) (c.requires.holes i c.index_mut.result.now here))
+    let root = nothing_chosen c.args.program.now modes.Sequential in
+    let item = c.index_mut.result.now in
+    subst (λ (s : ProgramSketch). LeadsToWhole s item.path.items) (sym c.in_ok-empty.ensures.empty)
+    (subst (λ (p : Piece). LeadsToWhole root p.path.items) (sym (next_item (IsFilled root c.args.shown.now (by_number c.loop-i.outcomes)) old c.loop-i.pieces.items i c.loop-i.invariant.pieces item here c.index_mut.ensures.value item)) (c.requires.holes i item here))
 
 pub loop-i-preserved : goal.loop-i-preserved
 loop-i-preserved g c =
@@ -42,20 +43,17 @@ loop-i-preserved g c =
     let inv = c.loop-i.invariant in
     let here : i < length old = omega (arith, c.loop-i-test.true, c.len-i-end.ensures, c.args.pieces.now.ok.0) in
     let start = c.in_ok-empty.ensures.empty in
+    let Is = IsFilled root shown (by_number last) in
     let grows = subst (λ (s : ProgramSketch). Grows (asked s.program shown) mid last) start c.in_ok-fill_hole.ensures.grows in
     let filled = subst (λ (s : ProgramSketch). IsFilled s shown (by_number last) piece new) start c.in_ok-fill_hole.ensures.filled in
     record {
       grows = grows_twice (asked p shown) c.args.outcomes.now mid last inv.grows grows;
-      long = length-set now i new ∙ inv.long;
-      made = fills_made root shown (by_number mid) (by_number last) old now i piece new here inv.long inv.left c.index_mut.ensures.value filled (filled_still root shown (by_number mid) (by_number last) grows.keeps) inv.made;
-      left = fills_left old now i new inv.left;
+      pieces = one_replaced Is old now i (replaced_as (IsFilled root shown (by_number mid)) old now i inv.pieces Is (filled_still root shown (by_number mid) (by_number last) grows.keeps)) piece here c.index_mut.ensures.value new filled;
     }
 
 pub returns-clause-grows : goal.returns-clause-grows
 returns-clause-grows g c = c.loop-i.invariant.grows
 
 pub returns-clause-filled : goal.returns-clause-filled
-returns-clause-filled g c = record {
-  as_many = c.loop-i.invariant.long;
-  each = λ k d h. c.loop-i.invariant.made k d (omega (arith, c.loop-i-test.false, c.len-i-end.ensures, c.args.pieces.now.ok.0));
-}
+returns-clause-filled g c = all_replaced (IsFilled (nothing_chosen c.args.program.now modes.Sequential) c.args.shown.now (by_number c.loop-i.outcomes)) c.args.pieces.now.items c.loop-i.pieces.items c.loop-i.i c.loop-i.invariant.pieces
+    (omega (arith, c.loop-i-test.false, c.len-i-end.ensures, c.args.pieces.now.ok.0))

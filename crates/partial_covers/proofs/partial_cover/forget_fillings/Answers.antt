@@ -1,27 +1,21 @@
-use Rattle.std.proofs.Common.{◌<◌, length, refl, ◌∙◌, arith, length-set}
-use Rattle.partial_covers.proofs.FilledParts.{fills_left, fills_made}
+use Rattle.std.proofs.Common.{◌≤◌, List, length, arith}
+use Rattle.partial_covers.proofs.Vocabulary.{Outcome, Shown, ProgramSketch, Piece, IsFilled}
+use Rattle.partial_covers.proofs.ReplacedItems.{none_replaced, one_replaced, all_replaced, replaced_as}
 use Rattle.partial_covers.proofs.partial_cover.forget_fillings.Goals as goal
 
+-- the piece is as it was, but for its filling, which is valid anywhere
+abbrev IsForgotten : Piece → Piece → Type 0
+IsForgotten old new = (s : ProgramSketch) (shown : Shown) (outcomes : List Outcome) → IsFilled s shown outcomes old new
+
 pub loop-i-init : goal.loop-i-init
-loop-i-init c = record { long = refl; made = λ s shown outcomes k d h. absurd (omega arith); left = λ k d h. refl }
+loop-i-init c = none_replaced IsForgotten c.args.pieces.now.items
 
 pub loop-i-preserved : goal.loop-i-preserved
-loop-i-preserved c =
-    let old = c.args.pieces.now.items in
-    let now = c.loop-i.pieces.items in
-    let i = c.loop-i.i in
-    let piece = c.index_mut.result.now in
-    let new = c.forget_filling.new.piece in
-    let inv = c.loop-i.invariant in
-    let here : i < length old = omega (arith, c.loop-i-test.true, c.len-i-end.ensures, c.args.pieces.now.ok.0) in
-    record {
-      long = length-set now i new ∙ inv.long;
-      made = λ s shown outcomes. fills_made s shown outcomes outcomes old now i piece new here inv.long inv.left c.index_mut.ensures.value (c.forget_filling.ensures s shown outcomes) (λ a b is. is) (inv.made s shown outcomes);
-      left = fills_left old now i new inv.left;
-    }
+loop-i-preserved c = one_replaced IsForgotten c.args.pieces.now.items c.loop-i.pieces.items c.loop-i.i c.loop-i.invariant c.index_mut.result.now
+    (omega (arith, c.loop-i-test.true, c.len-i-end.ensures, c.args.pieces.now.ok.0)) c.index_mut.ensures.value c.forget_filling.new.piece c.forget_filling.ensures
 
 pub returns : goal.returns
-returns c s shown outcomes = record {
-  as_many = c.loop-i.invariant.long;
-  each = λ k d h. c.loop-i.invariant.made s shown outcomes k d (omega (arith, c.loop-i-test.false, c.len-i-end.ensures, c.args.pieces.now.ok.0));
-}
+returns c s shown outcomes =
+    let past : length c.args.pieces.now.items ≤ c.loop-i.i = omega (arith, c.loop-i-test.false, c.len-i-end.ensures, c.args.pieces.now.ok.0) in
+    let all = replaced_as IsForgotten c.args.pieces.now.items c.loop-i.pieces.items c.loop-i.i c.loop-i.invariant (IsFilled s shown outcomes) (λ a b is. is s shown outcomes) in
+    all_replaced (IsFilled s shown outcomes) c.args.pieces.now.items c.loop-i.pieces.items c.loop-i.i all past

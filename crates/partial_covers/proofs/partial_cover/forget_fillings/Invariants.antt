@@ -1,11 +1,8 @@
-use Rattle.std.proofs.Common.{◌≡◌, ℕ, ◌<◌, ◌≤◌, List, get_or, length}
-use Rattle.partial_covers.proofs.Vocabulary.{Outcome, Shown, ProgramSketch, Piece, IsFilled}
+use Rattle.std.proofs.Common.{List}
+use Rattle.partial_covers.proofs.Vocabulary.{Outcome, Shown, ProgramSketch, IsFilled}
+use Rattle.partial_covers.proofs.ReplacedItems.{IsReplaced}
 use Rattle.partial_covers.proofs.partial_cover.forget_fillings.Given as goal
 
 -- the pieces before this one have no filling, and the later ones are as they were
 abbrev pub invariant-loop-i : goal.invariant-loop-i
-invariant-loop-i l = record {
-  long : length l.pieces.items ≡ length l.initial.pieces.items;
-  made : (s : ProgramSketch) (shown : Shown) (outcomes : List Outcome) (k : ℕ) (d : Piece) → k < l.i → IsFilled s shown outcomes (get_or l.initial.pieces.items k d) (get_or l.pieces.items k d);
-  left : (k : ℕ) (d : Piece) → l.i ≤ k → get_or l.pieces.items k d ≡ get_or l.initial.pieces.items k d;
-}
+invariant-loop-i l = IsReplaced (λ old new. (s : ProgramSketch) (shown : Shown) (outcomes : List Outcome) → IsFilled s shown outcomes old new) l.initial.pieces.items l.pieces.items l.i

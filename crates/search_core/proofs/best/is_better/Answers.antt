@@ -1,5 +1,4 @@
-use Rattle.std.proofs.Common.{◌≡◌, ◌∙◌, true, false, sym, subst}
-use Rattle.search_core.proofs.Vocabulary.{SetOfGaps, Better}
+use Rattle.search_core.proofs.Vocabulary.{◌≡◌, ◌∙◌, true, false, sym, subst, SetOfGaps, Better}
 use Rattle.search_core.proofs.best.is_better.Goals as goal
 
 pub returns-in-Some-clause-no : goal.returns-in-Some-clause-no

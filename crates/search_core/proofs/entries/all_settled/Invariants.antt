@@ -1,5 +1,4 @@
-use Rattle.std.proofs.Common.{◌≡◌, ℕ, ◌<◌, Some, false}
-use Rattle.search_core.proofs.Vocabulary.{slice_get, Entry, is_live}
+use Rattle.search_core.proofs.Vocabulary.{◌≡◌, ℕ, ◌<◌, Some, false, slice_get, Entry, is_live}
 use Rattle.search_core.proofs.entries.all_settled.Given as goal
 
 -- each so far is settled

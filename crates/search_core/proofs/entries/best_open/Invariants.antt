@@ -1,5 +1,4 @@
-use Rattle.std.proofs.Common.{◌≡◌, ℕ, ◌<◌, Some, true}
-use Rattle.search_core.proofs.Vocabulary.{MatchOption, slice_get, Entry, is_open, IsOpenAt}
+use Rattle.search_core.proofs.Vocabulary.{◌≡◌, ℕ, ◌<◌, Some, true, MatchOption, slice_get, Entry, is_open, IsOpenAt}
 use Rattle.search_core.proofs.entries.best_open.Given as goal
 
 -- none is open so far, or an open one is found

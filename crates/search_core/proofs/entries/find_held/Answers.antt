@@ -1,5 +1,4 @@
-use Rattle.std.proofs.Common.{sym, refl, ◌∙◌}
-use Rattle.search_core.specs.Entries.{is_held_by}
+use Rattle.search_core.proofs.Vocabulary.{sym, refl, ◌∙◌, is_held_by}
 use Rattle.search_core.proofs.Steps.{read_there, none_so_far, none_at_all}
 use Rattle.search_core.proofs.entries.find_held.Goals as goal
 

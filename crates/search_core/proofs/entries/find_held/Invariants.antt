@@ -1,5 +1,4 @@
-use Rattle.std.proofs.Common.{◌≡◌, ℕ, ◌<◌, Some, true}
-use Rattle.search_core.proofs.Vocabulary.{slice_get, Entry, is_held_by}
+use Rattle.search_core.proofs.Vocabulary.{◌≡◌, ℕ, ◌<◌, Some, true, slice_get, Entry, is_held_by}
 use Rattle.search_core.proofs.entries.find_held.Given as goal
 
 -- the seat holds none so far

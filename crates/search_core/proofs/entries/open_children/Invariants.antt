@@ -1,6 +1,4 @@
-use Rattle.std.proofs.Common.{◌≡◌, ◌++◌}
-use Rattle.search_core.proofs.Vocabulary.{filter, children, open_entries}
-use Rattle.gap_sets.specs.Regions.{is_free}
+use Rattle.search_core.proofs.Vocabulary.{◌≡◌, ◌++◌, filter, children, open_entries, is_free}
 use Rattle.search_core.proofs.Opening.{kids}
 use Rattle.search_core.proofs.entries.open_children.Given as goal
 

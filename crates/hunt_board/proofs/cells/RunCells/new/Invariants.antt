@@ -1,4 +1,4 @@
-use Rattle.std.proofs.Common.{◌≡◌, length}
+use Rattle.hunt_board.proofs.Vocabulary.{◌≡◌, length}
 use Rattle.hunt_board.proofs.cells.RunCells.new.Given as goal
 
 abbrev pub invariant-loop : goal.invariant-loop

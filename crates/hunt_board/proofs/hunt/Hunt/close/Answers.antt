@@ -1,5 +1,4 @@
-use Rattle.std.proofs.Common.{List, ap, ◌∙◌, subst}
-use Rattle.hunt_board.proofs.Vocabulary.{SearchState, Receipt, HuntView, CloseFaultIs, RecordFaultIs}
+use Rattle.hunt_board.proofs.Vocabulary.{List, ap, ◌∙◌, subst, SearchState, Receipt, HuntView, CloseFaultIs, RecordFaultIs}
 use Rattle.hunt_board.proofs.CloseFaults.{of_record, passed_on}
 use Rattle.hunt_board.proofs.hunt.Hunt.close.Goals as goal
 

@@ -1,5 +1,4 @@
-use Rattle.std.proofs.Common.{map, refl, sym, ◌∙◌}
-use Rattle.hunt_board.proofs.Vocabulary.{asked, problem, HuntView, word_with}
+use Rattle.hunt_board.proofs.Vocabulary.{map, refl, sym, ◌∙◌, asked, problem, HuntView, word_with}
 use Rattle.once_cell.specs.Once.{cell_name}
 use Rattle.hunt_board.proofs.Fresh.{word_by_parts}
 use Rattle.hunt_board.proofs.hunt.Hunt.new.Goals as goal

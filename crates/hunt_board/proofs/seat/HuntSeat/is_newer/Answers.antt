@@ -1,7 +1,4 @@
-use Rattle.std.proofs.Common.{true≢false, Option, sym, ap, ◌∙◌, subst}
-use Rattle.std.specs.Prelude.{IfSome}
-use Rattle.hunt_board.proofs.Vocabulary.{SetOfGaps, SeatView}
-use Rattle.gap_sets.specs.Order.{Better}
+use Rattle.hunt_board.proofs.Vocabulary.{true≢false, Option, sym, ap, ◌∙◌, subst, SetOfGaps, SeatView, IfSome, Better}
 use Rattle.hunt_board.specs.declared.seat.Confirmed.{Confirmed}
 use Rattle.hunt_board.specs.Internal.Confirmed.{serving_of, IsKept}
 use Rattle.hunt_board.proofs.seat.HuntSeat.is_newer.Goals as goal

@@ -1,4 +1,4 @@
-use Rattle.std.proofs.Common.{refl, inr}
+use Rattle.hunt_board.proofs.Vocabulary.{refl, inr}
 use Rattle.hunt_board.proofs.seat.HuntSeat.newer_best.Goals as goal
 
 pub returns-then-not-is_newer-clause-best : goal.returns-then-not-is_newer-clause-best

@@ -1,7 +1,4 @@
-use Rattle.std.proofs.Common.{◌≡◌, ◌≤◌, ◌∙◌, ap, sym, subst}
-use Rattle.hunt_board.proofs.Vocabulary.{IsWithinLimits, Serving, problem, goal_of}
-use Rattle.gap_sets.specs.Order.{total}
-use Rattle.search_core.proofs.Bounds.{costs_so, least_ceiling}
+use Rattle.hunt_board.proofs.Vocabulary.{◌≡◌, ◌≤◌, ◌∙◌, ap, sym, subst, IsWithinLimits, Serving, problem, goal_of, total, costs_so, least_ceiling}
 use Rattle.hunt_board.proofs.word.CeilingWord.lower.Goals as goal
 
 pub lower_to-requires-clause-goal : goal.lower_to-requires-clause-goal

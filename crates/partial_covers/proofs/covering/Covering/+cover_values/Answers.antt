@@ -1,14 +1,13 @@
 use Rattle.std.proofs.Common.{◌≡◌, ℕ, List, [], ◌∷◌, ◌++◌, ◌∙◌, get_or, length, refl, sym, ap, subst, arith}
-use Rattle.partial_covers.proofs.Vocabulary.{Shown, asked, Choice, AreOfOthers, by_number, grows_none, few_choices, Covering, Covers, CoversEach, Has, items_of, ArePartsFor, length-append}
+use Rattle.partial_covers.proofs.Vocabulary.{Shown, asked, Choice, AreOfOthers, by_number, grows_none, few_choices, Covering, Covers, CoversEach, Has, items_of, ArePartsFor}
 use Rattle.cert_forest.specs.declared.node.Node.TheVariants as node
 use Rattle.cover_judge.specs.declared.choice.Choice.TheVariants as choice
 use Rattle.cover_judge.specs.Choices.{MayChooseEach}
 use Rattle.branching.specs.declared.open_choice.OpenChoice.TheVariants as left
 use Rattle.branching.proofs.Rounds.{fewer_rounds}
 use Rattle.partial_covers.proofs.CombinedCovers.{before_next, of_others}
-use Rattle.partial_covers.proofs.CoveringSteps.{covers_next, covers_values, covers_joined, each_more}
-use Rattle.partial_covers.proofs.PartialNodes.{taken_back, on_ok, pushes_closed, nodes_same, leaf_pushed}
-use Rattle.partial_covers.proofs.PartialRows.{none_partial}
+use Rattle.partial_covers.proofs.CoveringSteps.{covers_next, covers_values, covers_joined, each_none, each_more}
+use Rattle.partial_covers.proofs.PartialNodes.{on_ok, pushes_closed, nodes_same, leaf_pushed}
 use Rattle.partial_covers.proofs.PartsJoined.{parts_still, parts_after, not_joined}
 use Rattle.partial_covers.proofs.covering.Covering.+cover_values.Goals as goal
 
@@ -87,33 +86,17 @@ cover_values-cover_next-requires g t c κs within =
     )
 
 pub cover_each_value-loop-choice-init : goal.cover_each_value-loop-choice-init
-cover_each_value-loop-choice-init g t c =
-    let old = c.args.self.now in
-    record {
-      left = λ k shown outcomes path are. are;
-      covers = record {
-        shown = refl;
-        path = refl;
-        grows = grows_none (asked c.args.sketch.now.program old.shown.now) old.outcomes c.requires.in_order;
-        row = λ root leads. none_partial root old.shown.now (by_number old.outcomes) old.path.items c.args.choices.now (items_of old.kept);
-      };
-    }
+cover_each_value-loop-choice-init g t c = record { left = λ k shown outcomes path are. are; covers = each_none c.args.sketch.now c.args.choices.now c.args.self.now c.requires.in_order }
 
 pub cover_each_value-loop-choice-preserved : goal.cover_each_value-loop-choice-preserved
 cover_each_value-loop-choice-preserved g t c =
-    let old = c.args.self.now in
     let new = c.cover_values.new.self in
-    let i = c.loop-choice.choice-index in
-    let d = choice.Value 0 0 in
-    let ch = get_or c.args.choices.now i d in
-    let path = old.path.items in
     let inv = c.loop-choice.invariant in
     let made = c.in_ok-cover_values.ensures in
-    let still : new.path.items ≡ path ++ ch ∷ [] = made.covers.path ∙ c.in_ok-push.ensures.items ∙ ap (λ (cs : List Choice). cs ++ ch ∷ []) inv.covers.path in
-    let back = c.pop.ensures.rest ∙ taken_back path new.path.items _ (ch ∷ [], still) (omega (arith, new.path.ok.0, ap length still, length-append path (ch ∷ []))) in
     record {
       left = λ k told outcomes to are. made.left k told outcomes to (inv.left k told outcomes to are);
-      covers = each_more c.args.sketch.now c.in_ok-next.next c.args.choices.now i d old c.loop-choice.self new c.push.new.self c.pop.new.self c.loop-choice-test.true c.in_ok-next.ensures c.in_ok-push.ensures.items back inv.covers made.covers;
+      covers = each_more c.args.sketch.now c.in_ok-next.next c.args.choices.now c.loop-choice.choice-index (choice.Value 0 0) c.args.self.now c.loop-choice.self new c.push.new.self c.pop.new.self c.loop-choice-test.true
+          c.in_ok-next.ensures c.in_ok-push.ensures.items _ c.pop.ensures.rest (omega (arith, new.path.ok.0)) inv.covers made.covers;
     }
 
 pub cover_next-push_values-requires : goal.cover_next-push_values-requires

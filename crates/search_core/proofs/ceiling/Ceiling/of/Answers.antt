@@ -1,5 +1,4 @@
-use Rattle.std.proofs.Common.{◌≡◌, ◌∙◌, ap, sym, subst}
-use Rattle.search_core.proofs.Vocabulary.{total, Question, asked, IsCeiling}
+use Rattle.search_core.proofs.Vocabulary.{◌≡◌, ◌∙◌, ap, sym, subst, total, Question, asked, IsCeiling}
 use Rattle.search_core.proofs.Bounds.{costs_so}
 use Rattle.search_core.proofs.ceiling.Ceiling.of.Goals as goal
 

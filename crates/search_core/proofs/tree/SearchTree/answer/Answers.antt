@@ -1,8 +1,5 @@
-use Rattle.std.proofs.Common.{◌≡◌, Option, Some, None, sym, ◌∙◌, subst}
-use Rattle.std.specs.Prelude.{IfSome, IfNone}
-use Rattle.std.specs.Option.{option_copied}
+use Rattle.search_core.proofs.Vocabulary.{◌≡◌, Option, Some, None, sym, ◌∙◌, subst, the_view, SearchState, IsDone, none-some, IsTheAnswer, Serving, IfSome, IfNone, option_copied}
 use Rattle.std.specs.Borrow.{Bor}
-use Rattle.search_core.proofs.Vocabulary.{the_view, SearchState, IsDone, none-some, IsTheAnswer, Serving}
 use Rattle.search_core.proofs.Answered.{best_is_answer, found_is_answer}
 use Rattle.search_core.proofs.tree.SearchTree.answer.Goals as goal
 

@@ -1,5 +1,4 @@
-use Rattle.std.proofs.Common.{Some, refl, subst, inl, inr}
-use Rattle.search_core.proofs.Vocabulary.{the_view, SearchState, Confirms, confirms, goes_on}
+use Rattle.search_core.proofs.Vocabulary.{Some, refl, subst, inl, inr, the_view, SearchState, Confirms, confirms, goes_on}
 use Rattle.search_core.proofs.Moves.{seated, holds_nothing, held_within, confirm_event}
 use Rattle.search_core.proofs.tree.SearchTree.confirm.Goals as goal
 

@@ -1,5 +1,4 @@
-use Rattle.std.proofs.Common.{ap, sym, ◌∙◌}
-use Rattle.gap_sets.specs.declared.region.Region.{Region}
+use Rattle.search_core.proofs.Vocabulary.{ap, sym, ◌∙◌, Region}
 use Rattle.search_core.proofs.tree.SearchTree.confirm_held.Goals as goal
 
 pub confirm-requires-clause-of_node : goal.confirm-requires-clause-of_node

@@ -1,5 +1,4 @@
-use Rattle.std.proofs.Common.{◌≡◌, true, false, sym, ◌∙◌, subst}
-use Rattle.search_core.proofs.Vocabulary.{the_view, SearchState, Cuts, cuts, IsReasonOf, CutsNode, goes_on}
+use Rattle.search_core.proofs.Vocabulary.{◌≡◌, true, false, sym, ◌∙◌, subst, the_view, SearchState, Cuts, cuts, IsReasonOf, CutsNode, goes_on}
 use Rattle.search_core.proofs.Moves.{seated, holds_nothing, does_hold, held_within, cut_event, why_cut}
 use Rattle.search_core.proofs.tree.SearchTree.cut.Goals as goal
 

@@ -1,5 +1,4 @@
-use Rattle.std.proofs.Common.{refl, subst}
-use Rattle.search_core.proofs.Vocabulary.{the_view, SearchState, GivesBack, gives_back, goes_on}
+use Rattle.search_core.proofs.Vocabulary.{refl, subst, the_view, SearchState, GivesBack, gives_back, goes_on}
 use Rattle.search_core.proofs.Moves.{seated, holds_nothing, held_within, give_event}
 use Rattle.search_core.proofs.tree.SearchTree.give_back.Goals as goal
 

@@ -1,5 +1,4 @@
-use Rattle.std.proofs.Common.{◌≡◌, ℕ, true, false, true≢false, List, Some, IsTrue, refl, sym, ap, ◌∙◌, subst}
-use Rattle.search_core.proofs.Vocabulary.{◌↔◌, slice_get, Region, Entry, is_open, IsOpenAt}
+use Rattle.search_core.proofs.Vocabulary.{◌≡◌, ℕ, true, false, true≢false, List, Some, IsTrue, refl, sym, ap, ◌∙◌, subst, ◌↔◌, slice_get, Region, Entry, is_open, IsOpenAt}
 use Rattle.search_core.proofs.tree.SearchTree.has_no_open.Goals as goal
 
 -- no entry is open, so no node is

@@ -1,5 +1,4 @@
-use Rattle.std.proofs.Common.{Option, sym, subst}
-use Rattle.search_core.proofs.Vocabulary.{the_view, HoldsNothing, HoldsOnly, MatchOption, Region}
+use Rattle.search_core.proofs.Vocabulary.{Option, sym, subst, the_view, HoldsNothing, HoldsOnly, MatchOption, Region}
 use Rattle.search_core.proofs.Moves.{holds_nothing, holds_only, held_gaps}
 use Rattle.search_core.proofs.tree.SearchTree.held.Goals as goal
 

@@ -1,7 +1,5 @@
-use Rattle.std.proofs.Common.{◌≡◌, ◌∙◌, ℕ, List, [], ◌∷◌, ◌++◌, length, None, sym, ap, subst, refl}
-use Rattle.search_core.proofs.Vocabulary.{all_sets, Region, Listing, Question, asked, IsWithinLimits, gap_count, HaveCosts, Entry, Open, entry, starts}
+use Rattle.search_core.proofs.Vocabulary.{◌≡◌, ◌∙◌, ℕ, List, [], ◌∷◌, ◌++◌, length, None, sym, ap, subst, refl, all_sets, Region, Listing, Question, asked, IsWithinLimits, gap_count, HaveCosts, Entry, Open, entry, starts, IsStart, IsSeatCount}
 use Rattle.gap_sets.specs.CostLists.{IsCostList}
-use Rattle.search_core.specs.States.{IsStart, IsSeatCount}
 use Rattle.search_core.proofs.tree.SearchTree.new.Goals as goal
 
 have : (p : Listing) (costs : List ℕ) → length costs ≡ gap_count p.threads → IsCostList costs → HaveCosts p costs

@@ -1,6 +1,4 @@
-use Rattle.std.proofs.Common.{◌≡◌, ℕ, true, false, Option, Some, None, sym, ◌∙◌, subst}
-use Rattle.std.specs.Option.{is_some}
-use Rattle.search_core.proofs.Vocabulary.{the_view, SearchState, HoldsNode, HoldsNothing, HoldsOnly, MatchOption, Region, TakesNode, takes, IsReached, goes_on}
+use Rattle.search_core.proofs.Vocabulary.{◌≡◌, ℕ, true, false, Option, Some, None, sym, ◌∙◌, subst, the_view, SearchState, HoldsNode, HoldsNothing, HoldsOnly, MatchOption, Region, TakesNode, takes, IsReached, goes_on, is_some}
 use Rattle.search_core.proofs.OneNode.{taken_only}
 use Rattle.search_core.proofs.Moves.{seated, open_within, open_gaps, no_open, take_event}
 use Rattle.search_core.proofs.tree.SearchTree.take.Goals as goal
