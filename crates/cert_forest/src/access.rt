@@ -1,14 +1,12 @@
 //! Names of accesses, `t.i`.
 
-ghost use Rattle.std.specs.Prelude.{◌≡◌, ◌≤◌, length, []};
+ghost use Rattle.std.specs.Prelude.{◌≡◌, ◌≤◌, length, IfSome};
 ghost use Rattle.std.specs.List.{prefix_len};
-ghost use Rattle.text_tokens.specs.Steps.{Gives, GivesUnless};
-ghost use Rattle.cert_words.specs.Words.{repeat_at, stops_for_memory};
+ghost use Rattle.text_tokens.specs.Steps.{Gives};
 ghost use Rattle.cert_forest.specs.Internal.Reading.{is_no_stop, access_tail, access_of, access_at};
 
 use crate::tree::AccessId;
-use cert_words::{Refusal, Stop, Wrong, refused_unless_cut, word};
-use std::alloc::Global;
+use cert_words::{Refusal, Wrong, digit_within, ends_word, refused_unless_cut, word};
 use text_tokens::{are_digits, plain_number};
 
 /// How many bytes stand before a full stop.
@@ -66,11 +64,31 @@ fn fault_of(word: &[u8]) -> (Wrong, bool) {
     }
 }
 
+/// The name of an access after a space, where its two numbers have one digit each, and the bytes after it.
+fn short_access(bytes: &[u8]) -> Option<(AccessId, &[u8])>
+    ensures { IfSome result (λ x. access_at bytes.now ≡ Some (x.0, x.1.now)) }
+{
+    match bytes {
+        [space, thread, stop, access, rest @ ..] => {
+            if *space != b' ' || *stop != b'.' || !ends_word(rest) {
+                return None;
+            }
+            let thread = digit_within(255, *thread)? as u8;
+            let access = digit_within(255, *access)? as u8;
+            Some((AccessId { thread, access }, rest))
+        }
+        _ => None,
+    }
+}
+
 /// A space, and the name of an access.
 #[tactic(auto, unfolding(crate::specs::Internal::Reading::access_at))]
 pub(crate) fn access(bytes: &[u8]) -> Result<(AccessId, &[u8]), Refusal>
     ensures { Gives (λ x. (x.0, x.1.now)) result (access_at bytes.now) }
 {
+    if let Some((access, rest)) = short_access(bytes) {
+        return Ok((access, rest));
+    }
     let (word, rest) = word(bytes)?;
     match access_of(word) {
         Some(access) => Ok((access, rest)),
@@ -79,22 +97,4 @@ pub(crate) fn access(bytes: &[u8]) -> Result<(AccessId, &[u8]), Refusal>
             Err(refused_unless_cut(wrong, could_go_on, bytes, rest))
         }
     }
-}
-
-/// So many names of accesses.
-pub(crate) fn accesses(
-    alloc: Global,
-    count: u64,
-    bytes: &[u8],
-) -> Result<(Vec<AccessId>, &[u8]), Stop>
-    ensures { GivesUnless stops_for_memory (λ x. (x.0.items, x.1.now)) result (repeat_at access_at count [] bytes.now) }
-{
-    let mut found = Vec::new(alloc);
-    let mut rest = bytes;
-    for _ in 0..count {
-        let (access, after) = access(rest)?;
-        found.push(access)?;
-        rest = after;
-    }
-    Ok((found, rest))
 }

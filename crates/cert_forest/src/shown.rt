@@ -19,9 +19,9 @@ const CONDITION: &[u8; 9] = b"condition";
 /// How many registers and locations can be named.
 const MAX_PLACES: u8 = PLACES as u8;
 /// How many registers can be named: their places come before those of locations.
-pub(crate) const MAX_REGISTERS: u8 = REGISTER_PLACES as u8;
+const MAX_REGISTERS: u8 = REGISTER_PLACES as u8;
 /// How many registers a thread has.
-pub(crate) const THREAD_REGISTERS: u8 = REGISTERS as u8;
+const THREAD_REGISTERS: u8 = REGISTERS as u8;
 /// The greatest number of a thread.
 const LAST_THREAD: u8 = MAX_THREADS as u8 - 1;
 /// The greatest number of a location.

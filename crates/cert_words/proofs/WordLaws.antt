@@ -1,16 +1,17 @@
 -- Words: what the reader takes of each kind, and that it takes each again.
-use Rattle.std.proofs.Common.{◌≡◌, ℕ, suc, ◌+◌, ◌<◌, ◌≤◌, ◌==◌, ◌^◌, Bool, true, false, cond, List, [], ◌∷◌, ◌++◌, length, take, drop, Option, Some, None, refl, sym, ap, subst, ◌∙◌, arith, inl, inr}
+use Rattle.std.proofs.Common.{◌≡◌, ℕ, suc, ◌+◌, ◌-◌, ◌<◌, ◌≤◌, ◌==◌, ◌^◌, Bool, true, false, cond, List, [], ◌∷◌, ◌++◌, length, get_or, take, drop, Option, Some, None, refl, sym, ap, subst, ◌∙◌, arith, inl, inr}
 use Rattle.std.specs.Prelude.{nat_lt}
 use Rattle.std.specs.List.{list_all, prefix_len}
 use Rattle.std.specs.Str.{bytes_eq}
 use Rattle.std.proofs.lemmas.Bool.{and_parts, and_from, cases_Bool, eqb-true, ltb-false, le-ltb}
 use Rattle.std.proofs.lemmas.Slice.Eq.{bytes_eq-Decides}
-use Rattle.std.proofs.lemmas.List.{take_at, drop_at, take-append-drop}
+use Rattle.std.proofs.lemmas.List.{take_at, drop_at, take_all, take-append-drop}
+use Rattle.std.proofs.lemmas.Fmt.{decimal_digit}
 use Rattle.text_tokens.proofs.NumberLaws.{own, plain_number_takes, plain_number_again}
 use Rattle.text_tokens.specs.Numbers.{plain_number_at}
 use Rattle.cert_words.specs.declared.numbers.TheConstants.{MAX_COUNT}
 use Rattle.cert_words.specs.Lines.{spaced}
-use Rattle.cert_words.specs.Words.{is_inner, front, after_word, word_at, line_name_at, end_at, number_within_at, count_at, letter_of, letter_at, spaced_word_at}
+use Rattle.cert_words.specs.Words.{is_inner, front, after_word, word_at, line_name_at, end_at, ends_word, number_within_at, count_at, letter_of, letter_at, spaced_word_at}
 use Rattle.text_tokens.proofs.StepLaws.{bind_some, kept_out}
 use Rattle.std.proofs.lemmas.Option.{cond_some, same_Some}
 use Rattle.cert_words.proofs.Vocabulary.{is_ascii_digit, decimal, nat_tests, digits_decimal, ◌>>=◌}
@@ -60,6 +61,25 @@ word_takes (b ∷ bytes) x e =
 pub word_again : (w rest : List ℕ) → list_all is_inner w ≡ true → Starts rest → word_at (spaced w ++ rest) ≡ Some (w, rest)
 unfolding word_at
 word_again w rest all st = rw (front_is w rest all st, behind_is w rest all st) refl
+
+-- the byte after a space that no byte of the word follows is the word
+one_inner : (byte : ℕ) → is_inner byte ≡ true → list_all is_inner (byte ∷ []) ≡ true
+one_inner byte inner = rw inner refl
+
+pub starts_here : (rest : List ℕ) → ends_word rest ≡ true → Starts rest
+starts_here [] e = tt
+starts_here (b ∷ rest) e = grind (arith, nat_tests)
+
+short_whole : (bytes rest : List ℕ) (byte : ℕ) → bytes ≡ 32 ∷ (byte ∷ rest) → is_inner byte ≡ true → ends_word rest ≡ true → word_at bytes ≡ Some (byte ∷ [], rest)
+short_whole bytes rest byte e inner ends = ap word_at e ∙ word_again (byte ∷ []) rest (one_inner byte inner) (starts_here rest ends)
+
+pub short_here : (bytes rest : List ℕ) → 2 ≤ length bytes → rest ≡ take (length bytes - 2) (drop 2 bytes) → get_or bytes 0 0 ≡ 32 → is_inner (get_or bytes 1 0) ≡ true → ends_word rest ≡ true
+    → word_at bytes ≡ Some (get_or bytes 1 0 ∷ [], rest)
+short_here [] rest long is space inner ends = absurd (omega arith)
+short_here (a ∷ []) rest long is space inner ends = absurd (omega arith)
+short_here (a ∷ (byte ∷ more)) rest long is space inner ends =
+    let all : rest ≡ more = is ∙ take_all (length (a ∷ (byte ∷ more)) - 2) more (omega arith) in
+    short_whole (a ∷ (byte ∷ more)) rest byte (λ i. space i ∷ (byte ∷ sym all i)) inner ends
 
 pub name_takes : (name bytes rest : List ℕ) → line_name_at name bytes ≡ Some rest → bytes ≡ name ++ rest
 unfolding line_name_at
@@ -123,6 +143,15 @@ unfolding number_within_at
 number_exact limit fits =
     let s = spaced_exact (plain_number_at limit) decimal (λ n. n ≤ limit) (λ w n e. plain_number_takes limit n w fits e) (λ n le. plain_number_again limit n fits le) (λ n le. decimal_inner n (omega arith)) in
     record { takes = s.takes; again = s.again; starts = s.starts }
+
+-- a number of one digit
+pub digit_plain : (limit byte : ℕ) → limit < 2 ^ 64 → is_ascii_digit byte ≡ true → byte - 48 ≤ limit → plain_number_at limit (byte ∷ []) ≡ Some (byte - 48)
+digit_plain limit byte fits digit le =
+    let low : 48 ≤ byte = grind (arith, nat_tests) in
+    let high : byte < 58 = grind (arith, nat_tests) in
+    let back : 48 + (byte - 48) ≡ byte = omega arith in
+    let written : decimal (byte - 48) ≡ byte ∷ [] = decimal_digit (byte - 48) (omega arith) ∙ ap (λ (b : ℕ). b ∷ []) back in
+    ap (plain_number_at limit) (sym written) ∙ plain_number_again limit (byte - 48) fits le
 
 pub below64 : 18446744073709551615 < 2 ^ 64
 below64 = omega arith

@@ -50,6 +50,11 @@ abbrev pub begins_word : List ℕ → Bool
 begins_word [] = false
 begins_word (b ∷ bytes) = b == 32
 
+-- no byte of a word comes first
+abbrev pub ends_word : List ℕ → Bool
+ends_word [] = true
+ends_word (b ∷ bytes) = not (is_inner b)
+
 -- a number up to the limit
 unfoldable pub number_within_at : ℕ → List ℕ → Option (ℕ × List ℕ)
 number_within_at limit bytes = spaced_word_at (plain_number_at limit) bytes

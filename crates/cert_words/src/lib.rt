@@ -14,6 +14,6 @@ mod refusal;
 mod words;
 
 pub use completions::can_become;
-pub use numbers::{MAX_COUNT, count, number};
+pub use numbers::{MAX_COUNT, count, digit_within, number};
 pub use refusal::{Refusal, Stop, Wrong, refused, refused_unless_cut, refused_word};
-pub use words::{begins_word, end, first_word, letter, name, word};
+pub use words::{begins_word, end, ends_word, first_word, letter, name, word};

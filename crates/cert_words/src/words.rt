@@ -1,9 +1,9 @@
 //! Words, the spaces before them, and the ends of lines.
 
-ghost use Rattle.std.specs.Prelude.{◌≡◌, ◌≤◌, length};
+ghost use Rattle.std.specs.Prelude.{◌≡◌, ◌≤◌, ◌∷◌, [], length, IfSome};
 ghost use Rattle.std.specs.List.{prefix_len};
 ghost use Rattle.text_tokens.specs.Steps.{Gives};
-ghost use Rattle.cert_words.specs.Words.{is_inner, front, after_word, word_at, line_name_at, end_at, begins_word, letter_of, letter_at};
+ghost use Rattle.cert_words.specs.Words.{is_inner, front, after_word, word_at, line_name_at, end_at, begins_word, ends_word, letter_of, letter_at};
 
 use crate::refusal::{Refusal, Wrong, refused, refused_unless_cut};
 
@@ -29,6 +29,32 @@ pub fn first_word(bytes: &[u8]) -> (&[u8], &[u8])
     ensures after_word { result.1.now ≡ after_word bytes.now }
 {
     bytes.split_at(word_len(bytes))
+}
+
+/// Whether no byte of a word comes first: a word before it is whole, or cut by the end.
+pub fn ends_word(bytes: &[u8]) -> bool
+    ensures { result ≡ ends_word bytes.now }
+{
+    match bytes.split_first() {
+        None => true,
+        Some((first, _)) => !is_inner(*first),
+    }
+}
+
+/// A word of one byte after a space, and the bytes after it: these begin with a separator, or the word is cut by the end.
+pub(crate) fn short_word(bytes: &[u8]) -> Option<(u8, &[u8])>
+    ensures { IfSome result (λ x. word_at bytes.now ≡ Some (x.0 ∷ [], x.1.now)) }
+{
+    match bytes {
+        [space, byte, rest @ ..] => {
+            if *space == b' ' && is_inner(*byte) && ends_word(rest) {
+                Some((*byte, rest))
+            } else {
+                None
+            }
+        }
+        _ => None,
+    }
 }
 
 /// A space, and the word after it.
@@ -105,6 +131,9 @@ fn letter_of(word: &[u8]) -> Option<u8>
 pub fn letter(bytes: &[u8]) -> Result<(u8, &[u8]), Refusal>
     ensures { Gives (λ x. (x.0, x.1.now)) result (letter_at bytes.now) }
 {
+    if let Some((letter, rest)) = short_word(bytes) {
+        return Ok((letter, rest));
+    }
     let (word, rest) = word(bytes)?;
     match letter_of(word) {
         Some(letter) => Ok((letter, rest)),

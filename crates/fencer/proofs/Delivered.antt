@@ -1,20 +1,7 @@
 -- What is delivered: the files hold what is written to them.
-use Rattle.std.proofs.Common.{ℕ, List, Option, Result, Ok, Err, IfOk, Some, None, refl, sym, subst, ◌∙◌}
+use Rattle.std.proofs.Common.{ℕ, List, Option, Some, None, refl, sym, subst, ◌∙◌}
 use Rattle.program_streams.specs.Streams.{HoldsBytes}
-use Rattle.tso_program.specs.declared.shown.ShownKind.{ShownKind}
-use Rattle.placed_text.specs.declared.fault.TextFault.{TextFault}
-use Rattle.placed_text.specs.declared.writing.PlacedText.{PlacedText}
-use Rattle.placed_text.specs.PlacedTexts.{IsPlacedText}
-use Rattle.std.specs.Prelude.{Bool}
-use Rattle.fencer.specs.declared.delivery.Answer.{Answer}
 use Rattle.fencer.specs.Deliveries.{AreTwoNames, HoldsFile, KeepFiles, KeepFilesBut}
-use Rattle.fencer.specs.Placements.{DeliversTexts, PrintsPlacement}
-
--- the lines that were joined are those of the texts
-pub delivered_texts : (litmus : List ℕ) (costs : Option (List ℕ)) (kind : ShownKind) (check json : Bool) (texts : PlacedText) (r : Result Answer TextFault) → IsPlacedText litmus costs kind texts
-    → IfOk r (DeliversTexts texts check json) → IfOk r (PrintsPlacement litmus costs kind check json)
-delivered_texts litmus costs kind check json texts (Ok answer) placed delivered = record { texts = texts; placed = placed; delivered = delivered }
-delivered_texts litmus costs kind check json texts (Err why) placed delivered = tt
 
 -- a file holds what was written to it, if it is not the one that is written next
 pub still_held : (first second : Option (List ℕ)) (left next : List ℕ → Option (List ℕ)) (text : List ℕ) → HoldsFile first left text → KeepFiles second left next → AreTwoNames first second → HoldsFile first next text

@@ -30,8 +30,8 @@ AreTwoNames first second = (name : List ℕ) → first ≡ Some name → second 
 
 -- the files that are written, where they are named, hold the two texts; where their names are the same, it holds the second text
 pub record HoldsFiles (first second : Option (List ℕ)) (left : List ℕ → Option (List ℕ)) (answer : Answer) : Type 0 where
-  pub in_first : AreTwoNames first second → HoldsFile first left answer.first.items
-  pub in_second : HoldsFile second left answer.second.items
+  pub in_first : AreTwoNames first second → HoldsFile first left answer.first
+  pub in_second : HoldsFile second left answer.second
 
 -- the lines with their status where the files that are named hold what is written to them; or that one can't be written
 pub data IsDelivered (first second : Option (List ℕ)) (left : List ℕ → Option (List ℕ)) (answer : Answer) : ℕ → List ℕ → Type 0 where

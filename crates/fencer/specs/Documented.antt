@@ -18,4 +18,4 @@ pub record DeliversDocument (json : Bool) (page : Option (List ℕ)) (text docum
   pub lines : answer.lines.items ≡ printed json text document
   pub ends : answer.status ≡ 0
   pub as_asked : answer.json ≡ json
-  pub paged : IsPageFor page document answer.first.items
+  pub paged : IsPageFor page document answer.first

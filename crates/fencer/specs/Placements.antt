@@ -36,8 +36,8 @@ pub record DeliversTexts (texts : PlacedText) (check json : Bool) (answer : Answ
   pub printed : answer.lines.items ≡ either json (texts.answer.items ++ texts.program.items) texts.document.items
   pub ends : answer.status ≡ check_status check (nat_lt 0 (set.len texts.gaps))
   pub as_asked : answer.json ≡ json
-  pub program : answer.first.items ≡ texts.program.items
-  pub proof : answer.second.items ≡ texts.certificate.items
+  pub program : answer.first ≡ texts.program.items
+  pub proof : answer.second ≡ texts.certificate
 
 -- what is delivered of what is placed in the program of a litmus text
 pub record PrintsPlacement (litmus : List ℕ) (costs : Option (List ℕ)) (kind : ShownKind) (check json : Bool) (answer : Answer) : Type 0 where

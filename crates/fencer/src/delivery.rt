@@ -6,6 +6,7 @@ ghost use Rattle.fencer.specs.Deliveries.{HoldsFile, HoldsFiles, KeepFiles, Keep
 
 use crate::advice::unwritten_advice;
 use crate::refused::tell_refusal;
+use paged_text::Pages;
 use program_streams::{Console, FileFault, WritableFileStore, file_line, print};
 use std::alloc::Global;
 
@@ -16,15 +17,15 @@ pub(crate) struct Answer {
     pub(crate) lines: Vec<u8>,
     pub(crate) status: u8,
     pub(crate) json: bool,
-    pub(crate) first: Vec<u8>,
-    pub(crate) second: Vec<u8>,
+    pub(crate) first: Pages,
+    pub(crate) second: Pages,
 }
 
 /// Writes a text to its file, where one is named.
 fn keep_file<S: WritableFileStore>(
     files: &mut S,
     name: Option<&str>,
-    text: &[u8],
+    text: &Pages,
 ) -> Result<(), FileFault>
     ensures kept { OnOk result (HoldsFile (option_map (λ name. name.now) name.entry) (S.held files.new) text.now) }
     ensures others { KeepFiles (option_map (λ name. name.now) name.entry) (S.held files.old) (S.held files.new) }

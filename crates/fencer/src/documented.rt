@@ -4,6 +4,7 @@ ghost use Rattle.std.specs.Prelude.{◌≡◌, IfOk, option_map};
 ghost use Rattle.fencer.specs.Documented.{printed, DeliversDocument, IsPageFor};
 
 use crate::delivery::Answer;
+use paged_text::Pages;
 use run_page::page_of;
 use std::alloc::{AllocError, Global};
 
@@ -35,12 +36,13 @@ pub(crate) fn documented(
 ) -> Result<Answer, AllocError>
     ensures { IfOk result (DeliversDocument json (option_map (λ name. name.now) page.entry) text.items document.items) }
 {
-    let first = page_for(alloc, page, &document)?;
+    let first = Pages::of(alloc, page_for(alloc, page, &document)?)?;
+    let second = Pages::of(alloc, graph)?;
     Ok(Answer {
         lines: printed(json, text, document),
         status: 0,
         json,
         first,
-        second: graph,
+        second,
     })
 }

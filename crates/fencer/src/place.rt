@@ -1,6 +1,6 @@
 //! Placements: the answer of a program and its text with fences, or why there is no answer.
 
-ghost use Rattle.std.specs.Prelude.{◌≡◌, IfErr, IfOk, IsOkUnless, option_map, string_bytes};
+ghost use Rattle.std.specs.Prelude.{◌≡◌, IfErr, IfOk, option_map, string_bytes};
 ghost use Rattle.program_streams.specs.Streams.{Prints};
 ghost use Rattle.program_streams.specs.Files.{ReadsOfInput};
 ghost use Rattle.placed_text.specs.TextFaults.{HasNoPlacedText};
@@ -15,6 +15,7 @@ use crate::refused::tell_refusal;
 use crate::status::check_status;
 use crate::texts::{Texts, read_texts};
 use fencer_words::Placement;
+use paged_text::Pages;
 use placed_text::{Effort, PlacedText, TextFault, place_text};
 use program_streams::{Console, Progress, TEXT_LIMIT, WritableFileStore, file_line};
 use report::{costs_line, litmus_line};
@@ -37,9 +38,8 @@ pub(crate) fn text_fault_line(alloc: Global, fault: TextFault) -> Result<Vec<u8>
 
 /// The answer line, followed by the program's text, or the document; with a check the status says whether the answer has
 /// a gap.
-fn joined(texts: PlacedText, check: bool, json: bool) -> Result<Answer, TextFault>
+fn joined(alloc: Global, texts: PlacedText, check: bool, json: bool) -> Result<Answer, AllocError>
     ensures answer { IfOk result (DeliversTexts texts check json) }
-    ensures err { IsOkUnless result TextFault.OutOfMemory }
 {
     let PlacedText {
         program,
@@ -49,16 +49,14 @@ fn joined(texts: PlacedText, check: bool, json: bool) -> Result<Answer, TextFaul
         document,
     } = texts;
     let mut lines = answer;
-    match lines.extend_from_slice(&program) {
-        Ok(()) => Ok(Answer {
-            lines: printed(json, lines, document),
-            status: check_status(check, gaps.len() > 0),
-            json,
-            first: program,
-            second: certificate,
-        }),
-        Err(_) => Err(TextFault::OutOfMemory),
-    }
+    lines.extend_from_slice(&program)?;
+    Ok(Answer {
+        lines: printed(json, lines, document),
+        status: check_status(check, gaps.len() > 0),
+        json,
+        first: Pages::of(alloc, program)?,
+        second: certificate,
+    })
 }
 
 /// What is placed in the program of a text.
@@ -78,7 +76,10 @@ fn answer_of<T: Threads + Wait + Sync>(
         progress: progress.asked(asked.progress),
     };
     let placed = place_text(rt, alloc, &texts.litmus, costs, asked.kind, effort)?;
-    joined(placed, asked.check, asked.json)
+    match joined(alloc, placed, asked.check, asked.json) {
+        Ok(answer) => Ok(answer),
+        Err(_) => Err(TextFault::OutOfMemory),
+    }
 }
 
 /// Judges texts, prints what is placed, and returns the status.

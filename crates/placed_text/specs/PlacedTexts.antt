@@ -45,7 +45,7 @@ pub record IsPlacedText (litmus : List ℕ) (costs : Option (List ℕ)) (kind : 
   pub program : texts.program.items ≡ canonical_text (litmus_fenced_at gaps source)
   pub again : IsFencedLitmus texts.program.items (litmus_fenced_at gaps source)
   pub line : texts.answer.items ≡ answer_line source.program (shown_as source kind) gaps (total gap_costs gaps)
-  pub certificate : IsCertificateOf (question_of source kind) gap_costs gaps texts.certificate.items
+  pub certificate : IsCertificateOf (question_of source kind) gap_costs gaps texts.certificate
   pub document : IsPlacedDocument source (shown_as source kind) gap_costs gaps texts.program.items texts.document.items
   pub set : texts.gaps ≡ gaps
 
@@ -62,6 +62,6 @@ pub record AreWrittenTexts (source : Litmus Listing) (shown : Shown) (costs : Li
   pub program : texts.program.items ≡ canonical_text (litmus_fenced_at placed.set source)
   pub again : (text : List ℕ) → IsLitmus text source → IsFencedLitmus texts.program.items (litmus_fenced_at placed.set source)
   pub line : texts.answer.items ≡ answer_line source.program shown placed.set placed.cost
-  pub certificate : texts.certificate.items ≡ certificate_text placed.certificate
+  pub certificate : texts.certificate ≡ certificate_text placed.certificate
   pub document : IsPlacedDocument source shown costs placed.set texts.program.items texts.document.items
   pub set : texts.gaps ≡ placed.set

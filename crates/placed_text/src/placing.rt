@@ -12,6 +12,7 @@ use crate::ahead::report_ahead;
 use crate::reading::{read_gap_costs, read_program, shown_of};
 use crate::watched::{Effort, Watched, report_outcomes};
 use crate::writing::{PlacedText, write_placed};
+use cert_pages::write_pages;
 use cover_solver::{SolveFault, Solver, sequential_watched};
 use fence_place::{PlaceFault, Placed, place};
 use gap_sets::Costs;
@@ -114,7 +115,7 @@ pub(crate) fn placed_source<R: Threads + Wait + Sync>(
 /// others. What is shown of outcomes, by its kind, tells them apart.
 ///
 /// The litmus text is judged first, then the costs, then the number of workers. With `rt` workers start threads
-/// and wait for one another ([`fence_place::place`]). [`Effort`] says where it reports how far it is.
+/// and wait for one another ([`fence_place::place`]), and write the certificate. [`Effort`] says where it reports how far it is.
 pub fn place_text<R: Threads + Wait + Sync>(
     rt: &R,
     alloc: Global,
@@ -137,7 +138,11 @@ pub fn place_text<R: Threads + Wait + Sync>(
     // What the solver keeps is as large as a tree of the certificate: it goes before the text is made.
     let Found { placed, solver } = found;
     drop(solver);
-    match write_placed(alloc, &source, &shown, &costs, &placed) {
+    let threads = usize::from(effort.workers.max(1));
+    let Ok(certificate) = write_pages(rt, alloc, threads, &placed.certificate) else {
+        return Err(TextFault::OutOfMemory);
+    };
+    match write_placed(alloc, &source, &shown, &costs, &placed, certificate) {
         Ok(texts) => Ok(texts),
         Err(_) => Err(TextFault::OutOfMemory),
     }

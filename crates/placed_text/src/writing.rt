@@ -1,13 +1,14 @@
 //! The texts of what is placed.
 ghost use Rattle.std.specs.Prelude.{◌≡◌, None, IfOk};
 ghost use Rattle.tso_program.specs.Fences.{first_missing};
+ghost use Rattle.cert_forest.specs.Texts.{certificate_text};
 ghost use Rattle.placed_text.specs.PlacedTexts.{AreWrittenTexts};
 
-use cert_forest::write_cert;
 use documents::placed_document;
 use fence_place::Placed;
 use gap_sets::{Costs, GapSet};
 use litmus_text::{Litmus, write_litmus};
+use paged_text::Pages;
 use report::answer_line;
 use std::alloc::{AllocError, Global};
 use tso_program::{FenceFault, Program, Shown};
@@ -20,22 +21,24 @@ pub struct PlacedText {
     /// The line of the answer.
     pub answer: Vec<u8>,
     /// The certificate of the answer.
-    pub certificate: Vec<u8>,
+    pub certificate: Pages,
     /// What is said of the answer, as JSON.
     pub document: Vec<u8>,
     /// The gaps of the answer.
     pub gaps: GapSet,
 }
 
-/// Writes what is placed.
+/// Writes what is placed, where the text of its certificate is there.
 pub(crate) fn write_placed(
     alloc: Global,
     litmus: &Litmus<Program>,
     shown: &Shown,
     costs: &Costs,
     placed: &Placed,
+    certificate: Pages,
 ) -> Result<PlacedText, AllocError>
-    requires { first_missing litmus.now.program placed.now.set ≡ None }
+    requires certificate { certificate ≡ certificate_text placed.now.certificate }
+    requires gaps { first_missing litmus.now.program placed.now.set ≡ None }
     ensures { IfOk result (AreWrittenTexts litmus.now shown.now costs.now placed.now) }
 {
     let program = match write_litmus(alloc, litmus, &placed.set) {
@@ -47,7 +50,7 @@ pub(crate) fn write_placed(
     Ok(PlacedText {
         program,
         answer: answer_line(alloc, &litmus.program, shown, placed.set, placed.cost)?,
-        certificate: write_cert(alloc, &placed.certificate)?,
+        certificate,
         document,
         gaps: placed.set,
     })

@@ -5,7 +5,8 @@ ghost use Rattle.program_streams.specs.Streams.{HoldsBytes, IsReadFault};
 ghost use Rattle.program_streams.specs.Files.{AreWithin, IsTooLong, AreOfFile, IsFileFault, AreOfFileIfNamed, IsNamedFileFault, KeepOthers, ReadsOfInput};
 
 use crate::fault::FileFault;
-use crate::streams::read_up_to;
+use crate::streams::{read_up_to, write_pages};
+use paged_text::Pages;
 use std::alloc::Global;
 use std::fs;
 use std::fs::File;
@@ -46,11 +47,11 @@ pub trait FileStore {
 
 /// Where files are written by their names, too.
 pub trait WritableFileStore: FileStore {
-    /// Writes all of the bytes to a file, which is made if it does not exist; what it held before is
+    /// Writes a text, page after page, to a file, which is made if it does not exist; what it held before is
     /// gone. `Write` comes where the file can't be made or a write fails, and says nothing of what the
     /// file then holds.
-    fn write_file(&mut self, name: &str, bytes: &[u8]) -> Result<(), FileFault>
-        ensures written { OnOk result (HoldsBytes (Self.held self.new name.now) bytes.now) }
+    fn write_file(&mut self, name: &str, text: &Pages) -> Result<(), FileFault>
+        ensures written { OnOk result (HoldsBytes (Self.held self.new name.now) text.now) }
         ensures others { KeepOthers name.now (Self.held self.old) (Self.held self.new) }
         ensures fault { IfErr result (λ fault. fault ≡ FileFault.Write) };
 }
@@ -108,9 +109,12 @@ fn obstacle_of(kind: ErrorKind) -> Obstacle {
 }
 
 impl<F: Files> WritableFileStore for SystemFiles<'_, F> {
-    fn write_file(&mut self, name: &str, bytes: &[u8]) -> Result<(), FileFault> {
-        match fs::write(self.files, name, bytes) {
-            Ok(()) => Ok(()),
+    fn write_file(&mut self, name: &str, text: &Pages) -> Result<(), FileFault> {
+        match File::create(self.files, name) {
+            Ok(file) => {
+                let mut file = file;
+                write_pages(&mut file, text)
+            }
             Err(_) => Err(FileFault::Write),
         }
     }

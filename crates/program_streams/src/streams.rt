@@ -5,6 +5,7 @@ ghost use Rattle.std.specs.Io.KnownBytes.{Appends, IsAtEnd};
 ghost use Rattle.program_streams.specs.Streams.{HoldsBytes, TakesBytes, TakesUpTo, ReadsOn, AppendsRest, TakesLine, TakesOfLine, IsReadFault, AppendsFront};
 
 use crate::fault::FileFault;
+use paged_text::Pages;
 use std::alloc::Global;
 use std::io::{Read, Write};
 
@@ -129,6 +130,20 @@ pub fn write_bytes<W: Write>(output: &mut W, bytes: &[u8]) -> Result<(), FileFau
         match output.write(bytes.split_at(sent).1) {
             Ok(0) => return Err(FileFault::Write),
             Ok(count) => sent += count,
+            Err(_) => return Err(FileFault::Write),
+        }
+    }
+    Ok(())
+}
+
+/// Writes all pages of a text. Where the writer fails, some of its bytes may be written.
+pub(crate) fn write_pages<W: Write>(output: &mut W, text: &Pages) -> Result<(), FileFault>
+    ensures ok { OnOk result (Appends (W.contents output.old) (W.contents output.new) text.now) }
+    ensures fault { IfErr result (λ fault. fault ≡ FileFault.Write) }
+{
+    for page in text.as_slice() {
+        match output.write_all(page) {
+            Ok(()) => {}
             Err(_) => return Err(FileFault::Write),
         }
     }

@@ -8,8 +8,8 @@ returns-in-Ok-keep_file-clause-kept g c =
     let first = option_map (λ name. name.now) c.args.first in
     let second = option_map (λ name. name.now) c.args.second in
     record {
-      in_first = still_held first second (g.S.FileStore.held c.keep_file.new.files) (g.S.FileStore.held c.keep_file-in-Ok.new.files) c.args.answer.now.first.items (rw c.deref.ensures.value at c.in-Ok.ensures.kept) c.keep_file-in-Ok.ensures.others;
-      in_second = rw c.deref-in-Ok.ensures.value at c.in-Ok-keep_file.ensures.kept;
+      in_first = still_held first second (g.S.FileStore.held c.keep_file.new.files) (g.S.FileStore.held c.keep_file-in-Ok.new.files) c.args.answer.now.first c.in-Ok.ensures.kept c.keep_file-in-Ok.ensures.others;
+      in_second = c.in-Ok-keep_file.ensures.kept;
     }
 
 pub returns-in-Ok-keep_file-clause-others : goal.returns-in-Ok-keep_file-clause-others

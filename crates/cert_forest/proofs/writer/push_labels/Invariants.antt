@@ -1,6 +1,0 @@
-use Rattle.std.proofs.Common.{◌≡◌, ◌++◌, map, take}
-use Rattle.cert_forest.proofs.Vocabulary.{string_bytes, spelling, texts_of, spaced}
-use Rattle.cert_forest.proofs.writer.push_labels.Given as goal
-
-abbrev pub invariant-loop-label : goal.invariant-loop-label
-invariant-loop-label l = string_bytes l.out ≡ string_bytes l.fn.out ++ texts_of spaced (map spelling (take l.label-index l.labels))

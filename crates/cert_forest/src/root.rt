@@ -1,0 +1,164 @@
+//! Roots of cover trees: what a node says before its children come.
+
+ghost use Rattle.std.specs.Prelude.{◌≡◌, [], IfOk, IfErr};
+ghost use Rattle.text_tokens.specs.Steps.{Fails, Gives};
+ghost use Rattle.cert_words.specs.Words.{repeat_at, stops_for_memory};
+ghost use Rattle.cert_forest.specs.Internal.Pushing.{PushesRoot, PushesTrees, event_node};
+ghost use Rattle.cert_forest.specs.Internal.Reading.{ValueHead, SourceHead, OrderHead, access_at, kind_of, kind_at, value_head_at, source_head_at, order_head_at, cycle_at, known_at, head_at};
+
+use crate::access::access;
+use crate::node::{Node, push_known};
+use crate::tree::AccessId;
+use candidate_executions::Kind;
+use cert_words::{Refusal, Stop, Wrong, count, letter, number, refused_word};
+
+fn kind_of(letter: u8) -> Option<Kind>
+    ensures { result ≡ kind_of letter }
+{
+    if letter == b's' {
+        Some(Kind::Sequential)
+    } else if letter == b'l' {
+        Some(Kind::Location)
+    } else if letter == b'g' {
+        Some(Kind::Global)
+    } else {
+        None
+    }
+}
+
+#[tactic(auto, unfolding(crate::specs::Internal::Reading::kind_at))]
+fn kind(bytes: &[u8]) -> Result<(Kind, &[u8]), Refusal>
+    ensures { Gives (λ x. (x.0, x.1.now)) result (kind_at bytes.now) }
+{
+    let (letter, rest) = letter(bytes)?;
+    match kind_of(letter) {
+        Some(kind) => Ok((kind, rest)),
+        None => Err(refused_word(Wrong::Token, bytes)),
+    }
+}
+
+/// A thread, and the number of its next read's values.
+#[tactic(auto, unfolding(crate::specs::Internal::Reading::value_head_at))]
+fn value_words(bytes: &[u8]) -> Result<(u64, u64, &[u8]), Refusal>
+    ensures { Gives (λ x. (ValueHead x.0 x.1, x.2.now)) result (value_head_at bytes.now) }
+{
+    let (thread, rest) = number(255, bytes)?;
+    let (count, rest) = count(rest)?;
+    Ok((thread, count, rest))
+}
+
+/// A read, and the number of its sources.
+#[tactic(auto, unfolding(crate::specs::Internal::Reading::source_head_at))]
+fn source_words(bytes: &[u8]) -> Result<(AccessId, u64, &[u8]), Refusal>
+    ensures { Gives (λ x. (SourceHead x.0 x.1, x.2.now)) result (source_head_at bytes.now) }
+{
+    let (read, rest) = access(bytes)?;
+    let (count, rest) = count(rest)?;
+    Ok((read, count, rest))
+}
+
+/// Two writes.
+#[tactic(auto, unfolding(crate::specs::Internal::Reading::order_head_at))]
+fn order_words(bytes: &[u8]) -> Result<(AccessId, AccessId, &[u8]), Refusal>
+    ensures { Gives (λ x. (OrderHead x.0 x.1, x.2.now)) result (order_head_at bytes.now) }
+{
+    let (first, rest) = access(bytes)?;
+    let (second, rest) = access(rest)?;
+    Ok((first, second, rest))
+}
+
+/// The root of a tree of values, put after the other nodes, and how many children follow.
+fn value_root<'t>(bytes: &'t [u8], nodes: &mut Vec<Node>) -> Result<(u64, &'t [u8]), Stop>
+    ensures pushes { IfOk result (λ x. PushesRoot nodes.old.items nodes.new.items (value_head_at bytes.now) x.0 x.1.now) }
+    ensures stops { IfErr result (λ stop. Fails stops_for_memory stop (value_head_at bytes.now)) }
+{
+    let (thread, count, rest) = value_words(bytes)?;
+    nodes.push(Node::Value {
+        thread: thread as u8,
+        count: count as u32,
+    })?;
+    Ok((count, rest))
+}
+
+/// The root of a tree of sources, put after the other nodes, and how many children follow.
+fn source_root<'t>(bytes: &'t [u8], nodes: &mut Vec<Node>) -> Result<(u64, &'t [u8]), Stop>
+    ensures pushes { IfOk result (λ x. PushesRoot nodes.old.items nodes.new.items (source_head_at bytes.now) x.0 x.1.now) }
+    ensures stops { IfErr result (λ stop. Fails stops_for_memory stop (source_head_at bytes.now)) }
+{
+    let (read, count, rest) = source_words(bytes)?;
+    nodes.push(Node::Source {
+        read,
+        count: count as u32,
+    })?;
+    Ok((count, rest))
+}
+
+/// The root of two trees, one for each order of two writes, put after the other nodes.
+fn order_root<'t>(bytes: &'t [u8], nodes: &mut Vec<Node>) -> Result<(u64, &'t [u8]), Stop>
+    ensures pushes { IfOk result (λ x. PushesRoot nodes.old.items nodes.new.items (order_head_at bytes.now) x.0 x.1.now) }
+    ensures stops { IfErr result (λ stop. Fails stops_for_memory stop (order_head_at bytes.now)) }
+{
+    let (first, second, rest) = order_words(bytes)?;
+    nodes.push(Node::Order { first, second })?;
+    Ok((2, rest))
+}
+
+/// So many accesses of a cycle, put after the other nodes.
+fn events<'t>(count: u64, bytes: &'t [u8], nodes: &mut Vec<Node>) -> Result<&'t [u8], Stop>
+    ensures pushes { IfOk result (λ rest. PushesTrees event_node nodes.old.items nodes.new.items (repeat_at access_at count [] bytes.now) rest.now) }
+    ensures stops { IfErr result (λ stop. Fails stops_for_memory stop (repeat_at access_at count [] bytes.now)) }
+{
+    let mut rest = bytes;
+    for _ in 0..count {
+        let (event, after) = access(rest)?;
+        nodes.push(Node::Event(event))?;
+        rest = after;
+    }
+    Ok(rest)
+}
+
+/// A cycle, put after the other nodes. No children follow.
+fn cycle_root<'t>(bytes: &'t [u8], nodes: &mut Vec<Node>) -> Result<(u64, &'t [u8]), Stop>
+    ensures pushes { IfOk result (λ x. PushesRoot nodes.old.items nodes.new.items (cycle_at bytes.now) x.0 x.1.now) }
+    ensures stops { IfErr result (λ stop. Fails stops_for_memory stop (cycle_at bytes.now)) }
+{
+    let (kind, rest) = kind(bytes)?;
+    let (count, rest) = count(rest)?;
+    nodes.push(Node::Cycle {
+        kind,
+        count: count as u32,
+    })?;
+    let rest = events(count, rest, nodes)?;
+    Ok((0, rest))
+}
+
+/// The number of a run, put after the other nodes. No children follow.
+fn known_root<'t>(bytes: &'t [u8], nodes: &mut Vec<Node>) -> Result<(u64, &'t [u8]), Stop>
+    ensures pushes { IfOk result (λ x. PushesRoot nodes.old.items nodes.new.items (known_at bytes.now) x.0 x.1.now) }
+    ensures stops { IfErr result (λ stop. Fails stops_for_memory stop (known_at bytes.now)) }
+{
+    let (run, rest) = number(u64::MAX, bytes)?;
+    push_known(nodes, run)?;
+    Ok((0, rest))
+}
+
+/// A root, put after the other nodes, and how many children follow.
+pub(crate) fn root<'t>(bytes: &'t [u8], nodes: &mut Vec<Node>) -> Result<(u64, &'t [u8]), Stop>
+    ensures pushes { IfOk result (λ x. PushesRoot nodes.old.items nodes.new.items (head_at bytes.now) x.0 x.1.now) }
+    ensures stops { IfErr result (λ stop. Fails stops_for_memory stop (head_at bytes.now)) }
+{
+    let (letter, rest) = letter(bytes)?;
+    if letter == b'V' {
+        value_root(rest, nodes)
+    } else if letter == b'S' {
+        source_root(rest, nodes)
+    } else if letter == b'O' {
+        order_root(rest, nodes)
+    } else if letter == b'C' {
+        cycle_root(rest, nodes)
+    } else if letter == b'K' {
+        known_root(rest, nodes)
+    } else {
+        Err(Stop::Refused(refused_word(Wrong::Token, bytes)))
+    }
+}

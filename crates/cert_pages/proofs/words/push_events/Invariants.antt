@@ -1,0 +1,8 @@
+use Rattle.std.proofs.Common.{◌≡◌, ◌++◌, map}
+use Rattle.cert_pages.proofs.Vocabulary.{string_bytes, texts_of, spaced, access_word}
+use Rattle.cert_pages.proofs.words.push_events.Given as goal
+
+-- the text so far, and that of the accesses to come
+abbrev pub invariant-loop-event : goal.invariant-loop-event
+invariant-loop-event l =
+    string_bytes l.out ++ texts_of spaced (map access_word l.event-iterator) ≡ string_bytes l.fn.out ++ texts_of spaced (map access_word l.fn.events)

@@ -1,0 +1,7 @@
+use Rattle.std.proofs.Common.{◌≡◌, ◌++◌, map}
+use Rattle.cert_pages.proofs.Vocabulary.{string_bytes, numbers_of_set, texts_of, spaced, place_word}
+use Rattle.cert_pages.proofs.words.push_places.Given as goal
+
+-- the text so far, and that of the places to come
+abbrev pub invariant-loop-place : goal.invariant-loop-place
+invariant-loop-place l = string_bytes l.out ++ texts_of spaced (map place_word l.place-iterator) ≡ string_bytes l.fn.out ++ texts_of spaced (map place_word (numbers_of_set l.names))

@@ -1,0 +1,13 @@
+use Rattle.std.proofs.Common.{◌∷◌, [], map}
+use Rattle.cert_pages.specs.Drafts.{draft_text}
+use Rattle.cert_pages.proofs.Vocabulary.{codes, decimal, numbers_of_set, line, head_lines, cover_words, gap_words, runs_lines}
+use Rattle.cert_pages.proofs.Writing.{on_ok, all_written}
+use Rattle.cert_pages.proofs.writer.write_certificate.Goals as goal
+
+pub returns : goal.returns
+returns c =
+    let it = c.certificate.inside in
+    rw (← c.certificate.view_is) (on_ok c.write_gap_line.result (λ e.
+    all_written (head_lines it.shown) (line (codes "set") (map decimal (numbers_of_set it.set))) (line (codes "cost") (decimal it.cost ∷ [])) (runs_lines (codes "seq") it.seq_runs) (line (codes "tree") (cover_words it.seq_tree)) (runs_lines (codes "runs") it.runs) (line (codes "fenced") (cover_words it.fenced_tree)) (line (codes "gaps") (gap_words it.gap_tree))
+    (draft_text c.args.out.now) (draft_text c.write_head.new.out) (draft_text c.write_set.new.out) (draft_text c.write_runs.new.out) (draft_text c.write_cover_line.new.out) (draft_text c.write_runs-2.new.out) (draft_text c.write_cover_line-2.new.out) (draft_text c.write_gap_line.new.out)
+    c.in_ok-write_head.ensures c.in_ok-write_set.ensures c.in_ok-write_runs.ensures c.in_ok-write_cover_line.ensures c.in_ok-write_runs-2.ensures c.in_ok-write_cover_line-2.ensures e) c.write_gap_line.ensures)

@@ -1,0 +1,12 @@
+use Rattle.std.proofs.Common.{◌≡◌, ◌++◌, length}
+use Rattle.cert_pages.specs.Drafts.{draft_text}
+use Rattle.cert_pages.proofs.Vocabulary.{texts_of, spell_gaps}
+use Rattle.cert_forest.proofs.TreeTexts.{gap_text}
+use Rattle.cert_pages.proofs.writer.write_gap.Given as goal
+
+-- the text so far, and that of the trees to come
+abbrev pub invariant-loop-walk : goal.invariant-loop-walk
+invariant-loop-walk l = draft_text l.out ++ texts_of gap_text l.walk ≡ draft_text l.fn.out ++ gap_text l.tree
+
+abbrev pub decreases-loop-walk : goal.decreases-loop-walk
+decreases-loop-walk l = length (spell_gaps l.walk)

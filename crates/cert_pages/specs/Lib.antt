@@ -1,0 +1,3 @@
+pub mod NodeWords
+pub mod Drafts
+pub mod Parts
