@@ -13,6 +13,9 @@ pub mod LastWrites
 pub mod Completeness
 pub mod Known
 pub mod ValuesGiven
+pub mod ChoicesDropped
+pub mod AllChosen
+pub mod SourceLists
 -- words of the crates below, passed on
 pub use Rattle.known_edges.proofs.Accesses
 pub use Rattle.known_edges.proofs.BranchesCounted

@@ -1,7 +1,7 @@
--- Sketches in which values alone are chosen: a value that is given and taken back, and reads that lack a source.
+-- A value that is given and taken back, and reads that lack a source.
 use Rattle.std.proofs.Common.{◌≡◌, ℕ, ◌<◌, List, [], ◌∷◌, ◌++◌, Option, Some, None, IsSome, slice_get, slice_index, set, length, refl, sym, ap, ◌∙◌, subst, arith}
 use Rattle.sketches.proofs.Vocabulary.{same_Some, slice_get_within, Listing, Mode, Access, Event, Initial, At, ThreadTrace, ProgramSketch, mode_in, with_chosen, access_in, with_values, view_of}
-use Rattle.sketches.proofs.Vocabulary.{KeepsTraces, MarkedThread, IsValueMarkOf, LacksSource, EachEnds, traced_access, trace_accesses, no_accesses, none_in}
+use Rattle.sketches.proofs.Vocabulary.{KeepsTraces, MarkedThread, IsValueMarkOf, LacksSource, EachEnds, traced_access, trace_accesses, no_accesses}
 use Rattle.candidate_executions.specs.Sketches.{given_to, with_value, IsSourceOf}
 use Rattle.sketches.proofs.ThreadValues.{merged_kept, merged_parts}
 use Rattle.known_edges.proofs.Numbered.{ends_whole, accesses_same}
@@ -41,18 +41,43 @@ module _ (p : Listing) (mode : Mode) (thread_traces : List ThreadTrace) (kept : 
       ∙ ap (λ given. record { program = earlier.program; mode = earlier.mode; chosen = record { given = given; sources = earlier.chosen.sources; pairs = earlier.chosen.pairs } })
       (given_back earlier.chosen.given mark.thread (given_to earlier.chosen mark.thread ++ value ∷ []))
 
+-- the same where the lists of sources and of orders are empty as the mark's sketch has them
+module _ (p : Listing) (mode : Mode) (thread_traces : List ThreadTrace) (sources pairs : List (Event × Event)) (kept : KeepsTraces p mode thread_traces sources pairs) (mark : MarkedThread) (earlier : ProgramSketch) (value : ℕ)
+    (is : IsValueMarkOf mark earlier) (now : view_of p mode thread_traces sources pairs ≡ with_chosen earlier (with_value earlier.chosen mark.thread value)) where
+  no_sources : sources ≡ []
+  no_sources = ap (λ (s : ProgramSketch). s.chosen.sources) now ∙ ap (λ (s : ProgramSketch). s.chosen.sources) is.seen
+
+  no_pairs : pairs ≡ []
+  no_pairs = ap (λ (s : ProgramSketch). s.chosen.pairs) now ∙ ap (λ (s : ProgramSketch). s.chosen.pairs) is.seen
+
+  alone : KeepsTraces p mode thread_traces [] []
+  alone = subst (λ (ys : List (Event × Event)). KeepsTraces p mode thread_traces [] ys) no_pairs (subst (λ (xs : List (Event × Event)). KeepsTraces p mode thread_traces xs pairs) no_sources kept)
+
+  same : view_of p mode thread_traces [] [] ≡ with_chosen earlier (with_value earlier.chosen mark.thread value)
+  same = (λ i. view_of p mode thread_traces ((sym no_sources) i) ((sym no_pairs) i)) ∙ now
+
+  pub taken_kept : KeepsTraces p mode (set thread_traces mark.thread mark.trace) sources pairs
+  taken_kept = subst (λ (xs : List (Event × Event)). KeepsTraces p mode (set thread_traces mark.thread mark.trace) xs pairs) (sym no_sources)
+      (subst (λ (ys : List (Event × Event)). KeepsTraces p mode (set thread_traces mark.thread mark.trace) [] ys) (sym no_pairs) (back_kept p mode thread_traces alone mark earlier value is same))
+
+  pub taken_parts : view_of p mode (set thread_traces mark.thread mark.trace) sources pairs ≡ earlier
+  taken_parts = (λ i. view_of p mode (set thread_traces mark.thread mark.trace) (no_sources i) (no_pairs i)) ∙ back_parts p mode thread_traces alone mark earlier value is same
+
+  pub taken_there : mark.thread < length thread_traces
+  taken_there = mark_there p mode thread_traces alone mark earlier value is same
+
 -- ---- a read that lacks a source
 
-module _ (p : Listing) (mode : Mode) (thread_traces : List ThreadTrace) (kept : KeepsTraces p mode thread_traces [] []) (ends : EachEnds thread_traces)
+module _ (p : Listing) (mode : Mode) (thread_traces : List ThreadTrace) (sources pairs : List (Event × Event)) (kept : KeepsTraces p mode thread_traces sources pairs) (ends : EachEnds thread_traces)
     (read : Event) (x : Access) (value : ℕ) (at : traced_access thread_traces read ≡ Some x) (reads : x.read ≡ Some value)
     (not_first : slice_index p.memory x.location ≡ value → ⊥)
     (not_written : (t i : ℕ) (c : ThreadTrace) (y : Access) → slice_get thread_traces t ≡ Some c → slice_get c.accesses i ≡ Some y → y.location ≡ x.location → y.written ≡ Some value → ⊥) where
   abbrev s : ProgramSketch
-  s = view_of p mode thread_traces [] []
+  s = view_of p mode thread_traces sources pairs
 
   access_is : (e : Event) (y : Access) → traced_access thread_traces e ≡ Some y → access_in s e ≡ Some y
   access_is (Initial l) y q = absurd cc
-  access_is (At t i) y q = ap (λ xs. slice_get xs i) (sym (accesses_same p mode thread_traces [] [] kept t)) ∙ q
+  access_is (At t i) y q = ap (λ xs. slice_get xs i) (sym (accesses_same p mode thread_traces sources pairs kept t)) ∙ q
 
   none : (source : Event) → IsSourceOf p (mode_in s) s.chosen source read → ⊥
   none source (x', v, at', reads', differ, (y, there, place, written)) =
@@ -69,16 +94,16 @@ module _ (p : Listing) (mode : Mode) (thread_traces : List ThreadTrace) (kept : 
       by (At t i) y there place written = go (slice_get thread_traces t) refl
         where
           go : (o : Option ThreadTrace) → slice_get thread_traces t ≡ o → ⊥
-          go (Some c) e = not_written t i c y e (ap (λ xs. slice_get xs i) (sym (trace_accesses p mode thread_traces [] [] kept t c e)) ∙ there) place written
-          go None e = (let gone : slice_get {X = Access} [] i ≡ Some y = ap (λ xs. slice_get xs i) (sym (no_accesses p mode thread_traces [] [] kept t e)) ∙ there in nothing i y gone)
+          go (Some c) e = not_written t i c y e (ap (λ xs. slice_get xs i) (sym (trace_accesses p mode thread_traces sources pairs kept t c e)) ∙ there) place written
+          go None e = (let gone : slice_get {X = Access} [] i ≡ Some y = ap (λ xs. slice_get xs i) (sym (no_accesses p mode thread_traces sources pairs kept t e)) ∙ there in nothing i y gone)
             where
               nothing : (i : ℕ) (y : Access) → slice_get {X = Access} [] i ≡ Some y → ⊥
               nothing i y q = absurd cc
 
   pub lacks : LacksSource s read
   lacks = record {
-    whole = ends_whole p mode thread_traces [] [] kept ends;
+    whole = ends_whole p mode thread_traces sources pairs kept ends;
     is_read = (x, access_is read x at, subst (λ (o : Option ℕ). IsSome o) (sym reads) refl);
-    free = λ (source, has). none_in (read, source) has;
+    free = λ (source, has). none source (kept.lawful.is_sketch.sources read source has);
     no_source = none;
   }

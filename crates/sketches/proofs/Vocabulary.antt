@@ -55,4 +55,4 @@ pub use Rattle.sketches.specs.Endings.{AreLastValues, EndsSo, IsOwn, MayBe, MayB
 pub use Rattle.sketches.specs.Internal.Listed.{FollowInOrder, HasNumberIn}
 pub use Rattle.sketches.specs.Knowledge.{Knows}
 pub use Rattle.sketches.specs.ThreadValues.{HasValuesAlone, with_values}
-pub use Rattle.sketches.specs.ValueSketches.{IsValueMarkOf, LacksSource, MarkedThread}
+pub use Rattle.sketches.specs.RowlessSketches.{IsValueMarkOf, LacksSource, MarkedThread}

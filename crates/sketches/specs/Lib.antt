@@ -5,7 +5,7 @@ pub mod Endings
 pub mod Marks
 pub mod ThreadValues
 pub mod Knowledge
-pub mod ValueSketches
+pub mod RowlessSketches
 pub mod Internal
 -- words of the crates below, passed on
 pub use Rattle.candidate_executions.specs.Values

@@ -14,7 +14,7 @@ ghost use Rattle.bit_rows.specs.Rows.{IsIn};
 use crate::{Sketch, SketchFault};
 use bit_rows::{lowest, minus, without};
 use candidate_executions::Event;
-use known_edges::{has_either, is_initial, is_same, write_together};
+use known_edges::has_either;
 use std::alloc::AllocError;
 use thread_traces::is_value;
 
@@ -229,40 +229,13 @@ impl Sketch {
     pub fn is_source(&self, source: Event, read: Event) -> bool
         ensures { IsTrue result ↔ IsSourceOf self.now.program (mode_in self.now) self.now.chosen source read }
     {
-        if is_same(source, read) {
-            return false;
-        }
-        let Some(x) = self.access(read) else {
-            return false;
-        };
-        let Some(y) = self.access(source) else {
-            return false;
-        };
-        match (x.read, y.written) {
-            (Some(v), Some(w)) => y.location == x.location && w == v,
-            _ => false,
-        }
+        self.parts().is_source(source, read)
     }
 
     /// Whether they are two writes to one location, neither of them initial.
     pub fn is_pair(&self, first: Event, second: Event) -> bool
         ensures { IsTrue result ↔ IsPair self.now.program (mode_in self.now) self.now.chosen first second }
     {
-        if is_same(first, second) {
-            return false;
-        }
-        if is_initial(first) {
-            return false;
-        }
-        if is_initial(second) {
-            return false;
-        }
-        match self.access(first) {
-            Some(x) => match self.access(second) {
-                Some(y) => write_together(x, y),
-                None => false,
-            },
-            None => false,
-        }
+        self.parts().is_pair(first, second)
     }
 }

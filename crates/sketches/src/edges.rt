@@ -2,15 +2,13 @@
 ghost use Rattle.std.specs.Prelude.{◌↔◌, IsTrue, Contains};
 ghost use Rattle.candidate_executions.specs.declared.event.Event.{Event};
 ghost use Rattle.candidate_executions.specs.Consistency.{IsOfMode, Leads};
-ghost use Rattle.candidate_executions.specs.Sketches.{IsBefore, KnownFromReads, KnownRelates, KnownEdge, KnownEdgeOfMode, IsKnownCycle, given_to};
+ghost use Rattle.candidate_executions.specs.Sketches.{KnownEdge, KnownEdgeOfMode, IsKnownCycle, given_to};
 ghost use Rattle.candidate_executions.specs.Candidates.{IsAccess};
 ghost use Rattle.known_edges.specs.ProgramSketches.{mode_in};
-ghost use Rattle.known_edges.specs.Known.{SourcePart};
 ghost use Rattle.sketches.specs.Completions.{IsEdgeOfEach, IsRefuted};
 
-use crate::{Mode, Sketch};
-use candidate_executions::{Access, Event, Kind};
-use known_edges::{has_pair, is_one_thread, is_same, keeps_order};
+use crate::Sketch;
+use candidate_executions::{Event, Kind};
 
 impl Sketch {
     /// Whether an edge of the union is known to lead from the first event to the second. A union of
@@ -41,24 +39,14 @@ impl Sketch {
     fn comes_first(&self, kind: Kind, from: Event, to: Event) -> bool
         ensures { IsTrue result ↔ KnownEdge self.now.program (mode_in self.now) self.now.chosen kind from to }
     {
-        let Some(x) = self.access(from) else {
-            return false;
-        };
-        let Some(y) = self.access(to) else {
-            return false;
-        };
-        self.relates(kind, from, x, to, y)
+        self.parts().comes_first(kind, from, to)
     }
 
     /// Whether the union is one of the mode's.
     fn has_union(&self, kind: Kind) -> bool
         ensures { IsTrue result ↔ IsOfMode (mode_in self.now) kind }
     {
-        match (self.mode, kind) {
-            (Mode::Sequential, Kind::Sequential) => true,
-            (Mode::Fenced(_), Kind::Location | Kind::Global) => true,
-            _ => false,
-        }
+        self.parts().has_union(kind)
     }
 
     /// Whether each event has a known edge of the union to the next, and the last to the first. A cycle
@@ -94,70 +82,5 @@ impl Sketch {
             last = *event;
         }
         self.is_edge(kind, last, first)
-    }
-
-    /// Whether the union is known to lead from one event to another, which read and write as x and y.
-    fn relates(&self, kind: Kind, from: Event, x: Access, to: Event, y: Access) -> bool
-        ensures { IsTrue result ↔ KnownRelates self.now.chosen kind from x to y }
-    {
-        if keeps_order(kind, from, x, to, y) {
-            return true;
-        }
-        if self.is_read_by(kind, from, to) {
-            return true;
-        }
-        if self.is_before(from, to, y) {
-            return true;
-        }
-        self.reads_before(from, to, y)
-    }
-
-    /// Whether the union has reads-from from a read's chosen source.
-    fn is_read_by(&self, kind: Kind, source: Event, read: Event) -> bool
-        ensures { IsTrue result ↔ SourcePart self.now.chosen kind source read }
-    {
-        match kind {
-            Kind::Sequential | Kind::Location => self.takes_source(read, source),
-            Kind::Global => {
-                if is_one_thread(source, read) {
-                    return false;
-                }
-                self.takes_source(read, source)
-            }
-        }
-    }
-
-    /// Whether the source is chosen for the read.
-    fn takes_source(&self, read: Event, source: Event) -> bool
-        ensures { IsTrue result ↔ Contains self.now.chosen.sources (read, source) }
-    {
-        has_pair(self.sources.as_slice(), read, source)
-    }
-
-    /// Whether an event is known to come before a write: by a chosen pair, or as the initial write of
-    /// its location.
-    fn is_before(&self, first: Event, second: Event, write: Access) -> bool
-        ensures { IsTrue result ↔ IsBefore self.now.chosen first second write }
-    {
-        if self.before(first, second) {
-            return true;
-        }
-        if !is_same(first, Event::Initial(write.location)) {
-            return false;
-        }
-        if is_same(second, first) {
-            return false;
-        }
-        write.written.is_some()
-    }
-
-    /// Whether a read's chosen source is known to come before another write.
-    fn reads_before(&self, read: Event, second: Event, write: Access) -> bool
-        ensures { IsTrue result ↔ KnownFromReads self.now.chosen read second write }
-    {
-        match self.source(read) {
-            Some(source) => !is_same(read, second) && self.is_before(source, second, write),
-            None => false,
-        }
     }
 }

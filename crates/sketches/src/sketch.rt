@@ -9,14 +9,15 @@ ghost use Rattle.known_edges.specs.Kept.{IsLawful, KeepsTraces, view_of};
 ghost use Rattle.known_edges.specs.Sizes.{choice_count, most_choices, most_values, HaveAllRegisters};
 ghost use Rattle.sketches.specs.Completions.{EachRunCompletes};
 
+use crate::parts::{Parts, initial_write};
 use crate::{Mode, SketchFault};
 use bit_rows::{ROW_BITS, has};
 use candidate_executions::{Access, Event};
-use known_edges::{EdgeRows, Traces, copied, in_order, is_same, with_room};
+use known_edges::{EdgeRows, Traces, copied, in_order, with_room};
 use std::alloc::{AllocError, Global};
 use std::marker::Model;
 use std::sync::Arc;
-use thread_traces::{SharedTrace, thread_trace_at, thread_trace_of, values_of};
+use thread_traces::{SharedTrace, thread_trace_of, values_of};
 use tso_program::{Items, Program};
 
 /// A partly chosen candidate execution of a program: values for the first reads of each thread, then
@@ -148,22 +149,14 @@ impl Sketch {
     pub fn accesses(&self, t: u8) -> u8
         ensures { result ≡ length (trace_in self.now t).accesses }
     {
-        match thread_trace_at(self.traces.thread_traces(), t as usize) {
-            Some(thread_trace) => thread_trace.accesses.len() as u8,
-            None => 0,
-        }
+        self.parts().accesses(t)
     }
 
     /// The chosen source of a read.
     pub fn source(&self, read: Event) -> Option<Event>
         ensures { (source : Event) → (result ≡ Some source) ↔ Contains self.now.chosen.sources (read, source) }
     {
-        for chosen in &self.sources {
-            if is_same(chosen.0, read) {
-                return Some(chosen.1);
-            }
-        }
-        None
+        self.parts().source(read)
     }
 
     /// Whether the first write is chosen to come before the second.
@@ -182,10 +175,7 @@ impl Sketch {
         ensures value { result ≡ sketches.next_read self.now.program (mode_in self.now) self.now.chosen t }
         ensures located { IfSome result (λ location. location < length self.now.program.memory) }
     {
-        match thread_trace_at(self.traces.thread_traces(), t as usize) {
-            Some(thread_trace) => thread_trace.next,
-            None => None,
-        }
+        self.parts().next_read(t)
     }
 
     /// The values that a location may hold, ascending: its initial value and the numbers stored to it;
@@ -233,6 +223,7 @@ impl Sketch {
     pub fn access(&self, event: Event) -> Option<Access>
         ensures { result ≡ access_in self.now event }
     {
+        // Not by `parts`, which takes longer to make than this takes.
         match event {
             Event::Initial(location) => Some(self.initial(location)),
             Event::Access(t, i) => match self.traces.thread_traces().get(t as usize) {
@@ -246,12 +237,19 @@ impl Sketch {
     fn initial(&self, location: u8) -> Access
         ensures { Some result ≡ access_in self.now (Event.Initial location) }
     {
-        let value = self.program.memory().get(location as usize).copied();
-        Access {
-            section: 0,
-            location,
-            read: None,
-            written: Some(value.unwrap_or(0)),
+        initial_write(&self.program, location)
+    }
+
+    /// Its parts that are no rows.
+    pub(crate) fn parts(&self) -> Parts<'_>
+        ensures { result ≡ self.now }
+    {
+        Parts {
+            program: &self.program,
+            mode: &self.mode,
+            thread_traces: self.traces.thread_traces(),
+            sources: self.sources.as_slice(),
+            pairs: self.pairs.as_slice(),
         }
     }
 }

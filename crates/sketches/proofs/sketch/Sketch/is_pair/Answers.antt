@@ -1,9 +1,7 @@
-use Rattle.std.proofs.Common.{sym, ◌∙◌}
-use Rattle.known_edges.proofs.KnownParts.{pair_by}
-use Rattle.thread_traces.proofs.KnownParts.{not_by}
+use Rattle.std.proofs.Common.{◌↔◌, IsTrue, subst}
+use Rattle.sketches.proofs.Vocabulary.{ProgramSketch, mode_in}
+use Rattle.candidate_executions.specs.Sketches.{IsPair}
 use Rattle.sketches.proofs.sketch.Sketch.is_pair.Goals as goal
 
-pub returns-in-Some-access : goal.returns-in-Some-access
-returns-in-Some-access c = pair_by c.args.self.now c.args.first c.args.second c.in-Some.x c.in-Some-access.y c.write_together.result
-    (not_by _ _ c.is_same.ensures c.if-is_same.false) (not_by _ _ c.is_initial.ensures c.if-is_initial.false) (not_by _ _ c.is_initial-2.ensures c.if-is_initial-2.false)
-    (sym c.access.ensures ∙ c.in-Some.is) (sym c.access-in-Some.ensures ∙ c.in-Some-access.is) c.write_together.ensures
+pub returns : goal.returns
+returns c = subst (λ (s : ProgramSketch). IsTrue c.is_pair.result ↔ IsPair s.program (mode_in s) s.chosen c.args.first c.args.second) c.parts.ensures c.is_pair.ensures

@@ -1,0 +1,7 @@
+use Rattle.std.proofs.Common.{◌↔◌, IsTrue, subst}
+use Rattle.sketches.proofs.Vocabulary.{ProgramSketch, mode_in}
+use Rattle.candidate_executions.specs.Sketches.{IsSourceOf}
+use Rattle.sketches.proofs.sketch.Sketch.is_source.Goals as goal
+
+pub returns : goal.returns
+returns c = subst (λ (s : ProgramSketch). IsTrue c.is_source.result ↔ IsSourceOf s.program (mode_in s) s.chosen c.args.source c.args.read) c.parts.ensures c.is_source.ensures

@@ -1,7 +1,0 @@
-use Rattle.std.proofs.Common.{◌≡◌, ℕ, ◌<◌, get_or}
-use Rattle.candidate_executions.specs.declared.event.Event.{Event}
-use Rattle.sketches.proofs.sketch.Sketch.source.Given as goal
-
--- none of the chosen sources so far is this read's
-abbrev pub invariant-loop-chosen : goal.invariant-loop-chosen
-invariant-loop-chosen l = (k : ℕ) (s : Event) → k < l.chosen-index → get_or l.chosen-items k (l.read, s) ≡ (l.read, s) → ⊥

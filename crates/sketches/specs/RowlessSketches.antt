@@ -1,0 +1,64 @@
+-- Sketches without rows.
+use Rattle.std.specs.Prelude.{◌≡◌, ◌↔◌, ◌++◌, ℕ, List, [], Some, Contains, slice_get, Option}
+use Rattle.std.specs.List.{AllPairs}
+use Rattle.candidate_executions.specs.declared.event.Event.{Event}
+use Rattle.candidate_executions.specs.Events.{ComesBefore}
+use Rattle.candidate_executions.specs.Sketches.{Sketch, IsWhole, IsSourceOf}
+use Rattle.thread_traces.specs.declared.thread_trace.ThreadTrace.{ThreadTrace}
+use Rattle.known_edges.specs.ProgramSketches.{ProgramSketch, mode_in}
+use Rattle.known_edges.specs.Kept.{view_of, KeepsTraces}
+use Rattle.known_edges.specs.Choices.{IsRead, HasSource}
+use Rattle.tso_program.specs.declared.listing.Listing.{Listing}
+use Rattle.tso_machine.specs.declared.mode.Mode.{Mode}
+use Rattle.thread_traces.specs.declared.known_traces.KnownTrace.{KnownTrace}
+use Rattle.thread_traces.specs.ValueLists.{IsValueList}
+use Rattle.thread_traces.specs.KnownTraces.{AreKnown}
+
+-- what is kept of a thread before it is given a value
+pub record MarkedThread : Type 0 where
+  pub thread : ℕ
+  pub trace : ThreadTrace
+
+-- the mark is of a thread of the sketch, in which values alone are chosen
+pub record IsValueMarkOf (mark : MarkedThread) (s : ProgramSketch) : Type 0 where
+  pub traces : List ThreadTrace
+  pub seen : s ≡ view_of s.program s.mode traces [] []
+  pub kept : KeepsTraces s.program s.mode traces [] []
+  pub there : slice_get traces mark.thread ≡ Some mark.trace
+
+-- these are the sources of a read, in their order: the initial write first, then by thread and index
+pub record AreSources (s : ProgramSketch) (read : Event) (sources : List Event) : Type 0 where
+  pub whole : IsWhole s.program (mode_in s) s.chosen
+  pub is_read : IsRead s read
+  pub exact : (source : Event) → Contains sources source ↔ IsSourceOf s.program (mode_in s) s.chosen source read
+  pub ordered : AllPairs ComesBefore sources
+
+-- each read has its value, and this one has no source yet
+pub record IsFree (s : ProgramSketch) (read : Event) : Type 0 where
+  pub whole : IsWhole s.program (mode_in s) s.chosen
+  pub is_read : IsRead s read
+  pub free : HasSource s read → ⊥
+
+-- each read has its value, and no write gives this one its own
+pub record LacksSource (s : ProgramSketch) (read : Event) : Type 0 where
+  pub whole : IsWhole s.program (mode_in s) s.chosen
+  pub is_read : IsRead s read
+  pub free : HasSource s read → ⊥
+  pub no_source : (source : Event) → IsSourceOf s.program (mode_in s) s.chosen source read → ⊥
+
+-- more sources, more pairs
+abbrev pub with_sources : Sketch → List (Event × Event) → Sketch
+with_sources k sources = record k { sources = k.sources ++ sources }
+
+abbrev pub with_pairs : Sketch → List (Event × Event) → Sketch
+with_pairs k pairs = record k { pairs = k.pairs ++ pairs }
+
+-- each list of values that is there is that of its location
+abbrev pub AreSomeLists : Listing → List (List ℕ) → Type 0
+AreSomeLists p lists = (location : ℕ) (values : List ℕ) → slice_get lists location ≡ Some values → IsValueList p location values
+
+-- what is kept of a sketch without rows
+pub record KeepsChoices (p : Listing) (mode : Mode) (thread_traces : List ThreadTrace) (sources pairs : List (Event × Event)) (lists : List (List ℕ)) (known : List (Option KnownTrace)) : Type 0 where
+  pub kept : KeepsTraces p mode thread_traces sources pairs
+  pub lists_are : AreSomeLists p lists
+  pub known_are : AreKnown p mode known
