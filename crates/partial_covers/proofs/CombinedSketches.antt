@@ -1,5 +1,5 @@
 -- Sketches in which one thread takes its values from another sketch: what they are, and which read of them has no source.
-use Rattle.std.proofs.Common.{◌≡◌, ◌≢◌, ◌⊎◌, ◌↔◌, ℕ, zero, suc, ◌<◌, List, [], ◌∷◌, ◌++◌, Option, Some, None, IsSome, Contains, slice_get, slice_index, set, length, refl, sym, ap, ◌∙◌, subst, inl, inr, arith}
+use Rattle.std.proofs.Common.{◌≡◌, ◌≢◌, ◌⊎◌, ◌↔◌, ℕ, ◌<◌, List, [], ◌∷◌, ◌++◌, Option, Some, None, IsSome, Contains, slice_get, slice_index, set, length, refl, sym, ap, ◌∙◌, subst, inl, inr, arith}
 use Rattle.partial_covers.proofs.Vocabulary.{cases_eq, same_Some, Listing, Outcome, Shown, action, code_of, start_of, Event, Writes, IsValueOf, machine_of_mode, Mode, ProgramSketch, mode_in, trace_in}
 use Rattle.partial_covers.proofs.Vocabulary.{access_in, with_chosen, IsLawful, HaveAllRegisters, with_values, HasValuesAlone, choices_few, AccessId, Source, NoCover, event_of, Choice, ReadValue}
 use Rattle.partial_covers.proofs.Vocabulary.{Tally, AreAlike, IsCoverAt, node_cover, covers_none}

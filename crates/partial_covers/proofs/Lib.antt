@@ -24,6 +24,5 @@ pub mod PartialRenumbered
 pub mod PartsJoined
 pub mod CoveringSteps
 pub mod TraceSteps
-pub mod Captures
 -- words of the crates below, passed on
 pub use Rattle.cover_judge.proofs.Answered

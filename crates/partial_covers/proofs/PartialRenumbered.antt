@@ -1,5 +1,5 @@
 -- Partial covers with other numbers for their outcomes.
-use Rattle.std.proofs.Common.{◌≡◌, ℕ, suc, ◌<◌, ◌≤◌, List, [], ◌∷◌, ◌++◌, ◌+◌, map, length, get_or, refl, sym, ap, ◌∙◌, subst, arith}
+use Rattle.std.proofs.Common.{◌≡◌, ℕ, suc, ◌<◌, ◌≤◌, List, [], ◌∷◌, ◌++◌, map, length, refl, sym, ap, ◌∙◌, subst, arith}
 use Rattle.std.specs.FinSet as set
 use Rattle.std.proofs.lemmas.Simd.{map-map}
 use Rattle.partial_covers.proofs.Vocabulary.{◌^◌, map-append, Listing, Outcome, Shown, asked, SequentialMachine, empty_sketch, ProgramSketch, mode_in}

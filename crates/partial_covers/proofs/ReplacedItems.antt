@@ -1,5 +1,5 @@
 -- Items of a list that are replaced one after another.
-use Rattle.std.proofs.Common.{◌≡◌, ℕ, ◌+◌, ◌<◌, ◌≤◌, List, get_or, length, length-set, refl, sym, ap, ◌∙◌, subst, inl, inr, arith}
+use Rattle.std.proofs.Common.{◌≡◌, ℕ, ◌+◌, ◌<◌, ◌≤◌, List, get_or, length, length-set, refl, sym, ◌∙◌, subst, inl, inr, arith}
 use Rattle.std.proofs.Math.ListN.{set}
 use Rattle.partial_covers.proofs.Vocabulary.{cases_eq, get_or-set_other, get_or-set_same, same_default}
 use Rattle.partial_covers.specs.PartialCovers.{AreEach}

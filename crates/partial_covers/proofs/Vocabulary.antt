@@ -65,7 +65,7 @@ pub use Rattle.partial_covers.specs.PartialCovers.{ArePartialAfter, Closed, Has,
 pub use Rattle.partial_covers.specs.PartialCovers.{PartialTree, PartialTrees, PushesPartial, PushesPartialAt, PushesPartialRow, Values, after, count_partial, items_before, items_of, renumbered_item}
 pub use Rattle.partial_covers.specs.PartialCovers.{spell_partial, spell_partial_row, unfenced, AreEach, AreFilled, IsFilled, LeadsToWhole}
 pub use Rattle.partial_covers.specs.Fillings.{IsFilling, sequential}
-pub use Rattle.partial_covers.specs.Parts.{ArePartsFor, AreRunsFor, AreSearched, IsMadeAt, IsMadeIn, IsPartOf, IsPlanned, IsSearched}
+pub use Rattle.partial_covers.specs.Parts.{AreCoversFor, AreFoundIn, AreRunsFor, IsFoundIn, IsMadeAt, IsPartOf, IsPlanned, first_sketch}
 pub use Rattle.partial_covers.specs.UnsourcedTraces.{Takes}
 pub use Rattle.partial_covers.specs.declared.covering.Covering.{Covering}
 pub use Rattle.partial_covers.specs.declared.part.Part.{Part}

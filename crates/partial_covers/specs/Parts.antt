@@ -1,5 +1,5 @@
 -- Parts of a search, and their covers.
-use Rattle.std.specs.Prelude.{◌≡◌, ◌<◌, Bool, true, false, ℕ, List, [], Option, Some, None, All, IfSome, MatchOption, length, slice_get, slice_index_or}
+use Rattle.std.specs.Prelude.{◌≡◌, Bool, true, false, ℕ, List, [], Option, Some, None, All, MatchOption, slice_get}
 use Rattle.tso_program.specs.declared.outcome.Outcome.{Outcome}
 use Rattle.tso_program.specs.declared.shown.Shown.{Shown}
 use Rattle.tso_program.specs.Shown.{Question, asked}
@@ -18,9 +18,10 @@ use Rattle.partial_covers.specs.declared.part.PartCover.{PartCover}
 use Rattle.partial_covers.specs.declared.part.Part.{Part}
 use Rattle.branching.specs.declared.plan.LastThread.{LastThread}
 use Rattle.branching.specs.declared.plan.Plan.{Plan}
+use Rattle.partial_covers.specs.declared.searching.CutSearch.{CutSearch}
 use Rattle.partial_covers.specs.declared.searching.SearchStart.{SearchStart}
 use Rattle.sketch_covers.specs.OutcomeNumbers.{IsInOrder, AreRunsOf}
-use Rattle.partial_covers.specs.PartialCovers.{AreEach, Item, items_of, after, MayChooseAll, PushesPartialAt}
+use Rattle.partial_covers.specs.PartialCovers.{Item, items_of, after, MayChooseAll, PushesPartialAt}
 use Rattle.partial_covers.specs.Fillings.{sequential}
 use Rattle.branching.specs.Plans.{IsLast, IsBeforeLast}
 
@@ -35,22 +36,22 @@ pub record IsMadeAt (s : ProgramSketch) (shown : Shown) (outcomes : KnownOutcome
   pub runs : AreRunsFor (asked s.program shown) outcomes made.found
   pub kept : PushesPartialAt s shown made.found.by_number.items path [] (items_of made.kept)
 
--- the part's cover, if it has one, is so of the sketch to which its path leads
-abbrev pub IsPartFrom : ProgramSketch → Shown → KnownOutcomes → Part → Type 0
-IsPartFrom root shown outcomes part = IfSome part.made (IsMadeAt (after root part.path.items) shown outcomes part.path.items)
+-- it is so of the sketch to which its own path leads
+abbrev pub IsCoverFrom : ProgramSketch → Shown → KnownOutcomes → PartCover → Type 0
+IsCoverFrom root shown outcomes cover = IsMadeAt (after root cover.path.items) shown outcomes cover.path.items cover
 
--- it is a part of a search in which the path leads to the sketch
-pub record IsPartFor (s : ProgramSketch) (shown : Shown) (outcomes : KnownOutcomes) (path : List Choice) (part : Part) : Type 0 where
+-- it is the cover of a part of a search in which the path leads to the sketch
+pub record IsCoverFor (s : ProgramSketch) (shown : Shown) (outcomes : KnownOutcomes) (path : List Choice) (cover : PartCover) : Type 0 where
   pub root : ProgramSketch
   pub leads : after root path ≡ s
-  pub is : IsPartFrom root shown outcomes part
+  pub is : IsCoverFrom root shown outcomes cover
 
-abbrev pub ArePartsFor : ProgramSketch → Shown → KnownOutcomes → List Choice → List Part → Type 0
-ArePartsFor s shown outcomes path parts = All (IsPartFor s shown outcomes path) parts
+abbrev pub AreCoversFor : ProgramSketch → Shown → KnownOutcomes → List Choice → List PartCover → Type 0
+AreCoversFor s shown outcomes path covers = All (IsCoverFor s shown outcomes path) covers
 
--- those that are left are parts of each search of which the old ones are
-abbrev pub AreLeftOf : List Part → List Part → Type 0
-AreLeftOf old new = (s : ProgramSketch) (shown : Shown) (outcomes : KnownOutcomes) (path : List Choice) → ArePartsFor s shown outcomes path old → ArePartsFor s shown outcomes path new
+-- those that are left are covers of parts of each search of which the old ones are
+abbrev pub AreLeftOf : List PartCover → List PartCover → Type 0
+AreLeftOf old new = (s : ProgramSketch) (shown : Shown) (outcomes : KnownOutcomes) (path : List Choice) → AreCoversFor s shown outcomes path old → AreCoversFor s shown outcomes path new
 
 -- the cover of the sketch comes after the rest, or nothing does
 abbrev pub IfJoined : ProgramSketch → Shown → List Outcome → List Choice → List Item → List Item → Bool → Type 0
@@ -63,38 +64,35 @@ pub record IsPartOf (root : ProgramSketch) (last : LastThread) (part : Part) : T
   pub may : MayChooseAll (sequential root) part.path.items
   pub before : IsBeforeLast part.sketch last
 
--- it is a part of a search of its program with no gap fenced
-abbrev pub IsOwnPart : LastThread → Part → Type 0
-IsOwnPart last part = IsPartOf (nothing_chosen part.sketch.program (modes.Fenced set.empty)) last part
+-- the sketch of a program with which a search begins: no gap is fenced, and nothing is chosen
+abbrev pub first_sketch : Listing → ProgramSketch
+first_sketch p = nothing_chosen p (modes.Fenced set.empty)
 
--- the part at this place has the path
-abbrev pub IsPathAt : List Part → List Choice → ℕ → Type 0
-IsPathAt parts path place = (part : Part) × (slice_get parts place ≡ Some part) × (part.path.items ≡ path)
+abbrev pub AreOwnParts : Listing → LastThread → List Part → Type 0
+AreOwnParts p last parts = All (IsPartOf (first_sketch p) last) parts
 
--- the cover of a sketch to which the path leads, by a list that is open for the mode
-abbrev pub IsMadeIn : ProgramSketch → Shown → Mode → List Choice → PartCover → Type 0
-IsMadeIn s shown mode path made = (other : OutcomeIndex) → IsMadeAt s shown (Open other mode) path made
+-- the cover at this place has the path
+abbrev pub IsPathAt : List PartCover → List Choice → ℕ → Type 0
+IsPathAt covers path place = (cover : PartCover) × (slice_get covers place ≡ Some cover) × (cover.path.items ≡ path)
 
--- the part is as it was, and its cover is so
-pub record IsSearched (shown : Shown) (mode : Mode) (old new : Part) : Type 0 where
-  pub path : new.path.items ≡ old.path.items
-  pub made : IfSome new.made (IsMadeIn old.sketch shown mode old.path.items)
+-- the cover of a part of a program's search, by a list that is open for the mode
+abbrev pub IsFoundIn : Listing → Shown → Mode → PartCover → Type 0
+IsFoundIn p shown mode cover = (other : OutcomeIndex) → IsCoverFrom (first_sketch p) shown (Open other mode) cover
 
--- so of each of several
-abbrev pub AreSearched : Shown → Mode → List Part → List Part → Type 0
-AreSearched shown mode = AreEach (IsSearched shown mode)
+abbrev pub AreFoundIn : Listing → Shown → Mode → List PartCover → Type 0
+AreFoundIn p shown mode covers = All (IsFoundIn p shown mode) covers
 
 -- the program's sketch with nothing chosen, a plan for it if there is a thread, and parts of its search
 abbrev pub IsPlanned : ProgramSketch → Option Plan → List Part → Type 0
 IsPlanned s (Some plan) parts = IsLast s plan.last × All (IsPartOf s plan.last) parts
 IsPlanned s None parts = IsWhole s.program (mode_in s) s.chosen × (parts ≡ [])
 
-pub record IsReady (p : Listing) (start : SearchStart) : Type 0 where
-  pub sketch : start.sketch ≡ nothing_chosen p (modes.Fenced set.empty)
-  pub planned : IsPlanned start.sketch start.plan start.parts.items
+pub record IsReady (p : Listing) (cut : CutSearch) : Type 0 where
+  pub sketch : cut.sketch ≡ first_sketch p
+  pub planned : IsPlanned cut.sketch cut.plan cut.parts.items
 
--- so, and the covers of its parts are so
+-- the program's sketch with nothing chosen, a plan for it if there is a thread, and covers of parts of its search
 pub record IsCoveredStart (p : Listing) (shown : Shown) (outcomes : KnownOutcomes) (start : SearchStart) : Type 0 where
-  pub sketch : start.sketch ≡ nothing_chosen p (modes.Fenced set.empty)
+  pub sketch : start.sketch ≡ first_sketch p
   pub plan : MatchOption start.plan (IsWhole start.sketch.program (mode_in start.sketch) start.sketch.chosen) (λ plan. IsLast start.sketch plan.last)
-  pub parts : ArePartsFor start.sketch shown outcomes [] start.parts.items
+  pub covers : AreCoversFor start.sketch shown outcomes [] start.covers.items

@@ -13,11 +13,11 @@ ghost use Rattle.sketch_covers.specs.declared.known_outcomes.KnownOutcomes.TheVa
 ghost use Rattle.sketch_covers.specs.KnownOutcomes.{AreInOrder, HasRunOfEach};
 ghost use Rattle.partial_covers.specs.Coverings.{Covers, CoversEach, CoversIf};
 ghost use Rattle.partial_covers.specs.PartialCovers.{items_of};
-ghost use Rattle.partial_covers.specs.Parts.{ArePartsFor, AreLeftOf};
+ghost use Rattle.partial_covers.specs.Parts.{AreCoversFor, AreLeftOf};
 
 use crate::hole_run::PassedGaps;
-use crate::joining::{join, take_made};
-use crate::part::Part;
+use crate::joining::{join, take_cover};
+use crate::part::PartCover;
 use crate::partial_cover::PartialCover;
 use crate::watch::Watch;
 use branching::{FullTrace, OpenChoice, Plan, Tally, TraceTree, choices_of};
@@ -73,17 +73,17 @@ impl Covering<'_> {
         &mut self,
         sketch: &mut Sketch,
         plan: &Option<Plan>,
-        parts: &mut Vec<Part>,
+        covers: &mut Vec<PartCover>,
         watch: &W,
     ) -> Result<(), AllocError>
         requires in_order { AreInOrder self.old.outcomes }
         requires first { sketch.old ≡ nothing_chosen sketch.old.program sketch.old.mode }
         requires plan { MatchOption plan.now (IsWhole sketch.old.program (mode_in sketch.old) sketch.old.chosen) (λ plan. IsLast sketch.old plan.last) }
-        requires parts { ArePartsFor sketch.old self.old.shown.now self.old.outcomes self.old.path.items parts.old.items }
+        requires parts { AreCoversFor sketch.old self.old.shown.now self.old.outcomes self.old.path.items covers.old.items }
         ensures { OnOk result (Covers sketch.old self.old self.new) }
     {
         match plan {
-            Some(plan) => self.cover_values(sketch, plan, parts, watch),
+            Some(plan) => self.cover_values(sketch, plan, covers, watch),
             None => self.cover_or_hole(sketch, watch),
         }
     }
@@ -94,13 +94,13 @@ impl Covering<'_> {
         &mut self,
         sketch: &Sketch,
         plan: &Plan,
-        parts: &mut Vec<Part>,
+        covers: &mut Vec<PartCover>,
         watch: &W,
     ) -> Result<(), AllocError>
         requires in_order { AreInOrder self.old.outcomes }
         requires before { IsBeforeLast sketch.now plan.now.last }
-        requires parts { ArePartsFor sketch.now self.old.shown.now self.old.outcomes self.old.path.items parts.old.items }
-        ensures left { OnOk result (AreLeftOf parts.old.items parts.new.items) }
+        requires parts { AreCoversFor sketch.now self.old.shown.now self.old.outcomes self.old.path.items covers.old.items }
+        ensures left { OnOk result (AreLeftOf covers.old.items covers.new.items) }
         ensures covers { OnOk result (Covers sketch.now self.old self.new) }
     {
         sketch.recall_facts();
@@ -108,11 +108,11 @@ impl Covering<'_> {
             watch.done(plan.combinations(sketch), self.outcomes.count());
             return Ok(());
         }
-        if self.join_part(sketch, parts)? {
+        if self.join_part(sketch, covers)? {
             return Ok(());
         }
         match plan.next_thread(sketch) {
-            Some(t) => self.cover_next(sketch, plan, t, parts, watch),
+            Some(t) => self.cover_next(sketch, plan, t, covers, watch),
             None => self.cover_last(sketch, plan, watch),
         }
     }
@@ -124,25 +124,25 @@ impl Covering<'_> {
         sketch: &Sketch,
         plan: &Plan,
         t: u8,
-        parts: &mut Vec<Part>,
+        covers: &mut Vec<PartCover>,
         watch: &W,
     ) -> Result<(), AllocError>
         requires in_order { AreInOrder self.old.outcomes }
         requires before { IsBeforeLast sketch.now plan.now.last }
         requires open { IsOtherOpen sketch.now plan.now.last.thread t }
-        requires parts { ArePartsFor sketch.now self.old.shown.now self.old.outcomes self.old.path.items parts.old.items }
-        ensures left { OnOk result (AreLeftOf parts.old.items parts.new.items) }
+        requires parts { AreCoversFor sketch.now self.old.shown.now self.old.outcomes self.old.path.items covers.old.items }
+        ensures left { OnOk result (AreLeftOf covers.old.items covers.new.items) }
         ensures covers { OnOk result (Covers sketch.now self.old self.new) }
     {
         sketch.recall_facts();
-        if parts.is_empty() && needs_values(self.shown) {
+        if covers.is_empty() && needs_values(self.shown) {
             if let Some(before) = plan.before_last(sketch, t) {
                 return self.cover_before(sketch, before, &plan.last, watch);
             }
         }
         let choices = choices_of(self.alloc, sketch, OpenChoice::Value(t))?;
         self.kept.push_values(t, choices.len())?;
-        self.cover_each_value(sketch, plan, &choices, parts, watch)
+        self.cover_each_value(sketch, plan, &choices, covers, watch)
     }
 
     /// The same after each of the choices.
@@ -152,38 +152,42 @@ impl Covering<'_> {
         sketch: &Sketch,
         plan: &Plan,
         choices: &[Choice],
-        parts: &mut Vec<Part>,
+        covers: &mut Vec<PartCover>,
         watch: &W,
     ) -> Result<(), AllocError>
         requires in_order { AreInOrder self.old.outcomes }
         requires before { IsBeforeLast sketch.now plan.now.last }
         requires may { MayChooseEach sketch.now choices.now }
         requires others { AreOfOthers plan.now.last.thread choices.now }
-        requires parts { ArePartsFor sketch.now self.old.shown.now self.old.outcomes self.old.path.items parts.old.items }
-        ensures left { OnOk result (AreLeftOf parts.old.items parts.new.items) }
+        requires parts { AreCoversFor sketch.now self.old.shown.now self.old.outcomes self.old.path.items covers.old.items }
+        ensures left { OnOk result (AreLeftOf covers.old.items covers.new.items) }
         ensures covers { OnOk result (CoversEach sketch.now choices.now self.old self.new) }
     {
         sketch.recall_facts();
         for choice in choices {
             let next = sketch_with(sketch, *choice)?;
             self.path.push(*choice)?;
-            self.cover_values(&next, plan, parts, watch)?;
+            self.cover_values(&next, plan, covers, watch)?;
             self.path.pop();
         }
         Ok(())
     }
 
     /// Takes the cover of the part to which the path leads, if there is one, and answers whether it did.
-    fn join_part(&mut self, _sketch: &Sketch, parts: &mut Vec<Part>) -> Result<bool, AllocError>
+    fn join_part(
+        &mut self,
+        _sketch: &Sketch,
+        covers: &mut Vec<PartCover>,
+    ) -> Result<bool, AllocError>
         requires in_order { AreInOrder self.old.outcomes }
-        requires parts { ArePartsFor _sketch.now self.old.shown.now self.old.outcomes self.old.path.items parts.old.items }
-        ensures left { OnOk result (AreLeftOf parts.old.items parts.new.items) }
+        requires parts { AreCoversFor _sketch.now self.old.shown.now self.old.outcomes self.old.path.items covers.old.items }
+        ensures left { OnOk result (AreLeftOf covers.old.items covers.new.items) }
         ensures covers { IfOk result (CoversIf _sketch.now self.old self.new) }
     {
         let KnownOutcomes::Open { found, .. } = &mut self.outcomes else {
             return Ok(false);
         };
-        match take_made(parts, &self.path) {
+        match take_cover(covers, &self.path) {
             Some(made) => {
                 join(self.alloc, made, found, &mut self.kept)?;
                 Ok(true)

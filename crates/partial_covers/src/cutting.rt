@@ -2,7 +2,6 @@
 ghost use Rattle.std.specs.Prelude.{IfOk, OnOk, All};
 ghost use Rattle.sketches.specs.ProgramSketches.{ProgramSketch};
 ghost use Rattle.partial_covers.specs.Parts.{IsPartOf};
-ghost use Rattle.branching.specs.declared.plan.LastThread.{LastThread};
 ghost use Rattle.branching.specs.Plans.{IsBeforeLast};
 
 use crate::part::Part;
@@ -19,10 +18,6 @@ const ENOUGH_PARTS: usize = 32;
 
 /// Each part is cut at most so many times.
 const MOST_CUTS: usize = 16;
-
-/// In which order every eighth part is dealt. Threads take stretches of parts, and neighbours in a tree take about equally
-/// long: so a half of all parts has every second one, and a quarter every fourth.
-const TURNS: [usize; 8] = [0, 4, 2, 6, 1, 5, 3, 7];
 
 /// The parts of the search of a sketch. None where that is not cut.
 pub(crate) fn parts_of(
@@ -45,8 +40,7 @@ pub(crate) fn parts_of(
         }
         parts = cut_each(alloc, plan, &parts)?;
     }
-    let dealt = deal(alloc, &parts)?;
-    Ok(dealt)
+    Ok(parts)
 }
 
 /// Whether a search is cut. One for the truth of a formula is not: it closes most branches once both truths are found, and
@@ -86,47 +80,5 @@ fn push_cut(
     for choice in &choices_of(alloc, &part.sketch, OpenChoice::Value(t))? {
         smaller.push(part.after(alloc, *choice)?)?;
     }
-    Ok(())
-}
-
-/// The parts, in another order: each stretch of them has parts from everywhere.
-fn deal(alloc: Global, parts: &[Part]) -> Result<Vec<Part>, AllocError>
-    ensures { IfOk result (λ dealt. (root : ProgramSketch) (last : LastThread) → All (IsPartOf root last) parts.now → All (IsPartOf root last) dealt.items) }
-{
-    let mut dealt = Vec::new(alloc);
-    for turn in TURNS {
-        push_turn(alloc, parts, turn, &mut dealt)?;
-    }
-    Ok(dealt)
-}
-
-/// Puts every eighth part after the others, from this place on.
-fn push_turn(
-    alloc: Global,
-    parts: &[Part],
-    turn: usize,
-    dealt: &mut Vec<Part>,
-) -> Result<(), AllocError>
-    ensures { OnOk result ((root : ProgramSketch) (last : LastThread) → All (IsPartOf root last) parts.now → All (IsPartOf root last) dealt.old.items → All (IsPartOf root last) dealt.new.items) }
-{
-    for (place, part) in parts.iter().enumerate() {
-        push_if(alloc, part, place % TURNS.len() == turn, dealt)?;
-    }
-    Ok(())
-}
-
-/// Puts the part after the others, if it is its turn.
-fn push_if(
-    alloc: Global,
-    part: &Part,
-    is_turn: bool,
-    dealt: &mut Vec<Part>,
-) -> Result<(), AllocError>
-    ensures { OnOk result ((root : ProgramSketch) (last : LastThread) → IsPartOf root last part.now → All (IsPartOf root last) dealt.old.items → All (IsPartOf root last) dealt.new.items) }
-{
-    if !is_turn {
-        return Ok(());
-    }
-    dealt.push(part.copy(alloc)?)?;
     Ok(())
 }

@@ -8,9 +8,9 @@ ghost use Rattle.cover_judge.specs.declared.choice.Choice.{Choice as ChoiceValue
 ghost use Rattle.sketch_covers.specs.declared.known_outcomes.KnownOutcomes.{KnownOutcomes as KnownValue};
 ghost use Rattle.sketch_covers.specs.OutcomeNumbers.{IsInOrder, KeepsNumbers, AreRunsOf};
 ghost use Rattle.partial_covers.specs.PartialCovers.{items_of, PushesPartialAt};
-ghost use Rattle.partial_covers.specs.Parts.{IsMadeAt, ArePartsFor, AreLeftOf, IsPathAt};
+ghost use Rattle.partial_covers.specs.Parts.{IsMadeAt, AreCoversFor, AreLeftOf, IsPathAt};
 
-use crate::part::{Part, PartCover};
+use crate::part::PartCover;
 use crate::partial_cover::PartialCover;
 use crate::renumbering::renumber_partial;
 use cover_judge::Choice;
@@ -34,6 +34,7 @@ pub(crate) fn join(
     let PartCover {
         found: own,
         kept: mut tree,
+        ..
     } = made;
     let places = found.add_all(alloc, &own)?;
     renumber_partial(&mut tree, &places);
@@ -41,20 +42,20 @@ pub(crate) fn join(
 }
 
 /// The cover of the part of a path. It is taken out.
-pub(crate) fn take_made(parts: &mut Vec<Part>, path: &[Choice]) -> Option<PartCover>
-    ensures left { AreLeftOf parts.old.items parts.new.items }
-    ensures made { (s : ProgramSketch) (shown : ShownValue) (outcomes : KnownValue) → ArePartsFor s shown outcomes path.now parts.old.items → IfSome result (IsMadeAt s shown outcomes path.now) }
+pub(crate) fn take_cover(covers: &mut Vec<PartCover>, path: &[Choice]) -> Option<PartCover>
+    ensures left { AreLeftOf covers.old.items covers.new.items }
+    ensures made { (s : ProgramSketch) (shown : ShownValue) (outcomes : KnownValue) → AreCoversFor s shown outcomes path.now covers.old.items → IfSome result (IsMadeAt s shown outcomes path.now) }
 {
-    let place = place_of_path(parts, path)?;
-    parts[place].made.take()
+    let place = place_of_path(covers, path)?;
+    Some(covers.remove(place))
 }
 
-/// The place of the part of a path.
-fn place_of_path(parts: &[Part], path: &[Choice]) -> Option<usize>
-    ensures { IfSome result (IsPathAt parts.now path.now) }
+/// The place of the cover of the part of a path.
+fn place_of_path(covers: &[PartCover], path: &[Choice]) -> Option<usize>
+    ensures { IfSome result (IsPathAt covers.now path.now) }
 {
-    for (place, part) in parts.iter().enumerate() {
-        if is_same_path(&part.path, path) {
+    for (place, cover) in covers.iter().enumerate() {
+        if is_same_path(&cover.path, path) {
             return Some(place);
         }
     }

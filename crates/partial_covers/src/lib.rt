@@ -29,7 +29,7 @@ mod watch;
 
 pub use hole_run::HoleRun;
 pub use outcome_search::{OutcomeCover, all_outcomes, cover_all, cover_closed_by};
-pub use part::{Part, PartCover};
+pub use part::PartCover;
 pub use partial_cover::{PartialCover, Piece};
 pub use renumbering::{renumber, renumber_partial};
 pub use searching::{Search, SearchStart, start_alone, start_by};

@@ -89,14 +89,14 @@ fn partial_of_all<'a, W: Watch>(
     let SearchStart {
         mut sketch,
         plan,
-        mut parts,
+        mut covers,
     } = start;
     let joins = JoinWatch {
         whole: watch,
-        has_parts: !parts.is_empty(),
+        has_parts: !covers.is_empty(),
     };
     let mut all = Covering::none(alloc, sought.shown, sought.mode, Vec::new(alloc));
-    all.cover_first(&mut sketch, &plan, &mut parts, &joins)?;
+    all.cover_first(&mut sketch, &plan, &mut covers, &joins)?;
     all.kept.shrink();
     Ok(all)
 }

@@ -1,5 +1,5 @@
-//! Parts of a search. Each has a list of outcomes and a partial cover of its own, so the parts need nothing of one another.
-ghost use Rattle.std.specs.Prelude.{◌≡◌, ◌∷◌, ◌++◌, [], None, IfOk, IfSome, OnOk};
+//! Parts of a search, and their covers. Each cover has a list of outcomes of its own, so the parts need nothing of one another.
+ghost use Rattle.std.specs.Prelude.{◌≡◌, ◌∷◌, ◌++◌, [], IfOk, OnOk};
 ghost use Rattle.std.specs.FinSet as set;
 ghost use Rattle.tso_program.specs.Shown.{asked};
 ghost use Rattle.tso_machine.specs.declared.mode.Mode.TheVariants as modes;
@@ -7,31 +7,31 @@ ghost use Rattle.sketches.specs.ProgramSketches.{nothing_chosen, with_chosen};
 ghost use Rattle.cover_judge.specs.Choices as choices;
 ghost use Rattle.sketch_covers.specs.KnownOutcomes.{by_number, AreInOrder, Grows};
 ghost use Rattle.partial_covers.specs.PartialCovers.{items_of, after, MayChooseAll, PushesPartialAt};
-ghost use Rattle.partial_covers.specs.Parts.{IsMadeIn, IsOwnPart, IsSearched};
+ghost use Rattle.partial_covers.specs.Parts.{IsFoundIn, IsPartOf, first_sketch};
 
 use crate::covering::Covering;
 use crate::part_holes::fill_holes;
 use crate::partial_cover::PartialCover;
-use crate::watch::{PartWatch, Watch};
+use crate::searching::Search;
+use crate::watch::Watch;
 use branching::Plan;
 use cover_judge::{Choice, sketch_with};
 use sketch_covers::{KnownOutcomes, OutcomeIndex};
 use sketches::{Mode, Sketch};
 use std::alloc::{AllocError, Global};
-use tso_program::Shown;
 
-/// A part of a search: the sketch to which choices lead, and its cover.
+/// A part of a search: the sketch to which choices lead.
 #[derive(Drop)]
-pub struct Part {
-    pub path: Vec<Choice>,
-    pub sketch: Sketch,
-    /// `None` until it is searched, and where there was no memory for that.
-    pub made: Option<PartCover>,
+pub(crate) struct Part {
+    pub(crate) path: Vec<Choice>,
+    pub(crate) sketch: Sketch,
 }
 
 /// The cover of a part, with the outcomes that it found. It has the numbers of these.
 #[derive(Drop)]
 pub struct PartCover {
+    /// The part's choices.
+    pub path: Vec<Choice>,
     pub found: OutcomeIndex,
     pub kept: PartialCover,
 }
@@ -45,7 +45,6 @@ impl Part {
         Ok(Part {
             path: Vec::new(alloc),
             sketch: sketch.copy()?,
-            made: None,
         })
     }
 
@@ -60,11 +59,10 @@ impl Part {
         Ok(Part {
             path,
             sketch: sketch_with(&self.sketch, choice)?,
-            made: None,
         })
     }
 
-    /// The same part without its cover.
+    /// The same part.
     pub(crate) fn copy(&self, alloc: Global) -> Result<Part, AllocError>
         ensures path { IfOk result (λ part. part.path.items ≡ self.now.path.items) }
         ensures sketch { IfOk result (λ part. part.sketch ≡ self.now.sketch) }
@@ -72,48 +70,34 @@ impl Part {
         Ok(Part {
             path: Vec::from_slice(alloc, &self.path)?,
             sketch: self.sketch.copy()?,
-            made: None,
         })
     }
 
-    /// Searches the part, and reports to the watch of the whole search.
-    pub(crate) fn search<W: Watch>(
-        &mut self,
-        alloc: Global,
-        plan: &Plan,
-        shown: &Shown,
-        mode: Mode,
-        watch: &W,
-    )
-        requires { IsOwnPart plan.now.last self.old }
-        ensures { IsSearched shown.now mode self.old self.new }
-    {
-        let own = PartWatch::new(watch);
-        self.made = self.cover(alloc, plan, shown, mode, &own).ok();
-    }
-
     /// The cover of the part.
-    fn cover<W: Watch>(
+    pub(crate) fn cover<W: Watch>(
         &self,
-        alloc: Global,
+        sought: &Search,
         plan: &Plan,
-        shown: &Shown,
-        mode: Mode,
         watch: &W,
     ) -> Result<PartCover, AllocError>
-        requires { IsOwnPart plan.now.last self.now }
-        ensures { IfOk result (IsMadeIn self.now.sketch shown.now mode self.now.path.items) }
+        requires { IsPartOf (first_sketch sought.now.program.now) plan.now.last self.now }
+        ensures { IfOk result (IsFoundIn sought.now.program.now sought.now.shown.now sought.now.mode) }
     {
+        let alloc = sought.alloc;
         let path = Vec::from_slice(alloc, &self.path)?;
-        let mut no_parts = Vec::new(alloc);
-        let mut covering = Covering::none(alloc, shown, mode, path);
-        covering.cover_values(&self.sketch, plan, &mut no_parts, watch)?;
+        let mut no_covers = Vec::new(alloc);
+        let mut covering = Covering::none(alloc, sought.shown, sought.mode, path);
+        covering.cover_values(&self.sketch, plan, &mut no_covers, watch)?;
         covering.kept.shrink();
         self.fill(&mut covering, watch)?;
         let Covering { outcomes, kept, .. } = covering;
         watch.finished(outcomes.count());
         match outcomes {
-            KnownOutcomes::Open { found, .. } => Ok(PartCover { found, kept }),
+            KnownOutcomes::Open { found, .. } => Ok(PartCover {
+                path: Vec::from_slice(alloc, &self.path)?,
+                found,
+                kept,
+            }),
             KnownOutcomes::Closed(_) => unreachable!(),
         }
     }

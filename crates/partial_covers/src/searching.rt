@@ -1,16 +1,20 @@
 //! The search of the parts of a search, by one thread or by several. What is found is the same.
-ghost use Rattle.std.specs.Prelude.{◌<◌, IfOk, All};
+ghost use Rattle.std.specs.Prelude.{◌≡◌, ◌<◌, All, Contains, IfOk, IfSome, length};
+ghost use Rattle.tso_program.specs.declared.listing.Listing.{Listing as ListingValue};
+ghost use Rattle.tso_program.specs.declared.shown.Shown.{Shown as ShownValue};
+ghost use Rattle.tso_machine.specs.declared.mode.Mode.{Mode as ModeValue};
 ghost use Rattle.sketch_covers.specs.declared.outcome_index.OutcomeIndex.{OutcomeIndex};
 ghost use Rattle.sketch_covers.specs.declared.known_outcomes.KnownOutcomes.TheVariants.{Open};
-ghost use Rattle.partial_covers.specs.Parts.{IsOwnPart, IsSearched, AreSearched, IsReady, IsCoveredStart};
+ghost use Rattle.partial_covers.specs.Parts.{AreFoundIn, AreOwnParts, IsReady, IsCoveredStart};
 
 use crate::cutting::parts_of;
-use crate::part::Part;
-use crate::watch::{Unwatched, Watch};
+use crate::part::{Part, PartCover};
+use crate::watch::{PartWatch, Unwatched, Watch};
 use branching::{Plan, plan_for};
 use gap_sets::GapSet;
 use sketches::{Mode, Sketch};
 use std::alloc::{AllocError, Global};
+use std::sync::atomic::{AtomicU64, Ordering};
 use std::thread::{self, Threads};
 use tso_program::{Program, Shown};
 
@@ -21,8 +25,8 @@ pub struct SearchStart {
     pub sketch: Sketch,
     /// `None` if there is no thread.
     pub plan: Option<Plan>,
-    /// None where the search is not cut.
-    pub parts: Vec<Part>,
+    /// The covers of parts, in any order. None where the search is not cut.
+    pub covers: Vec<PartCover>,
 }
 
 /// What is searched: all outcomes of a program in a mode, as far as they are shown.
@@ -34,27 +38,53 @@ pub struct Search<'a> {
     pub mode: Mode,
 }
 
+/// A search that is cut, before its parts are searched.
+#[derive(Drop)]
+struct CutSearch {
+    sketch: Sketch,
+    plan: Option<Plan>,
+    parts: Vec<Part>,
+}
+
+/// Parts of a search, of which each thread takes the next.
+#[derive(Drop)]
+struct PartQueue<'a> {
+    parts: &'a [Part],
+    taken: AtomicU64,
+}
+
+impl PartQueue<'_> {
+    /// The next part, if there is one. Each part is taken once.
+    fn take(&self) -> Option<&Part>
+        ensures { IfSome result (λ part. Contains self.now.parts.now part.now) }
+    {
+        let place = self.taken.fetch_add(1, Ordering::SeqCst);
+        self.parts.get(place as usize)
+    }
+}
+
 /// A search whose parts are searched one after another.
 pub fn start_alone(sought: &Search) -> Result<SearchStart, AllocError>
     ensures { IfOk result (λ start. (none : OutcomeIndex) → IsCoveredStart sought.now.program.now sought.now.shown.now (Open none sought.now.mode) start) }
 {
-    let SearchStart {
-        sketch,
-        plan,
-        mut parts,
-    } = ready(sought.alloc, sought.program, sought.shown)?;
-    if let Some(plan) = &plan {
-        search_each(sought.alloc, &mut parts, plan, sought.shown, &sought.mode);
-    }
-    Ok(SearchStart {
+    let CutSearch {
         sketch,
         plan,
         parts,
+    } = cut(sought)?;
+    let covers = match &plan {
+        Some(plan) => search_untaken(sought, plan, &queue_of(&parts), &Unwatched),
+        None => Vec::new(sought.alloc),
+    };
+    Ok(SearchStart {
+        sketch,
+        plan,
+        covers,
     })
 }
 
 /// A search whose parts are searched in at most so many threads, which share a watch. Where one can't be started, the
-/// caller's thread searches its parts.
+/// others search its parts.
 pub fn start_by<R: Threads + Sync, W: Watch + Sync>(
     rt: &R,
     workers: u8,
@@ -63,72 +93,121 @@ pub fn start_by<R: Threads + Sync, W: Watch + Sync>(
 ) -> Result<SearchStart, AllocError>
     ensures { IfOk result (λ start. (none : OutcomeIndex) → IsCoveredStart sought.now.program.now sought.now.shown.now (Open none sought.now.mode) start) }
 {
-    let SearchStart {
-        sketch,
-        plan,
-        mut parts,
-    } = ready(sought.alloc, sought.program, sought.shown)?;
-    if let Some(plan) = &plan {
-        let threads = usize::from(workers).max(1);
-        search_by(rt, threads, parts.as_mut_slice(), plan, sought, watch);
-    }
-    Ok(SearchStart {
+    let CutSearch {
         sketch,
         plan,
         parts,
-    })
-}
-
-/// A search with parts that have no cover yet.
-fn ready(alloc: Global, program: &Program, shown: &Shown) -> Result<SearchStart, AllocError>
-    ensures { IfOk result (IsReady program.now) }
-{
-    let sketch = Sketch::new(alloc, program, Mode::Fenced(GapSet::empty()))?;
-    let plan = plan_for(alloc, &sketch)?;
-    let parts = match &plan {
-        Some(plan) => parts_of(alloc, &sketch, plan, shown)?,
-        None => Vec::new(alloc),
+    } = cut(sought)?;
+    let covers = match &plan {
+        Some(plan) => {
+            let threads = usize::from(workers).max(1);
+            search_by(rt, threads, sought, plan, &queue_of(&parts), watch)?
+        }
+        None => Vec::new(sought.alloc),
     };
     Ok(SearchStart {
         sketch,
         plan,
+        covers,
+    })
+}
+
+/// A search whose parts have no cover yet.
+fn cut(sought: &Search) -> Result<CutSearch, AllocError>
+    ensures { IfOk result (IsReady sought.now.program.now) }
+{
+    let alloc = sought.alloc;
+    let sketch = Sketch::new(alloc, sought.program, Mode::Fenced(GapSet::empty()))?;
+    let plan = plan_for(alloc, &sketch)?;
+    let parts = match &plan {
+        Some(plan) => parts_of(alloc, &sketch, plan, sought.shown)?,
+        None => Vec::new(alloc),
+    };
+    Ok(CutSearch {
+        sketch,
+        plan,
         parts,
     })
 }
 
-/// Searches each of the parts, one after another.
-fn search_each(alloc: Global, parts: &mut Vec<Part>, plan: &Plan, shown: &Shown, mode: &Mode)
-    requires { All (IsOwnPart plan.now.last) parts.old.items }
-    ensures { AreSearched shown.now mode.now parts.old.items parts.new.items }
+/// The parts, of which none is taken.
+fn queue_of(parts: &[Part]) -> PartQueue<'_>
+    ensures { result.parts.now ≡ parts.now }
 {
-    for i in 0..parts.len() {
-        parts[i].search(alloc, plan, shown, *mode, &Unwatched);
+    PartQueue {
+        parts,
+        taken: AtomicU64::new(0),
     }
 }
 
-/// Searches each of the parts in at most so many threads.
+/// The covers of the parts that are left, found in at most so many threads.
 fn search_by<R: Threads + Sync, W: Watch + Sync>(
     rt: &R,
     threads: usize,
-    parts: &mut [Part],
-    plan: &Plan,
     sought: &Search,
+    plan: &Plan,
+    queue: &PartQueue,
     watch: &W,
-)
+) -> Result<Vec<PartCover>, AllocError>
     requires threads { 0 < threads }
-    requires parts { All (IsOwnPart plan.now.last) parts.old }
-    ensures { AreSearched sought.now.shown.now sought.now.mode parts.old parts.new }
+    requires parts { AreOwnParts sought.now.program.now plan.now.last queue.now.parts.now }
+    ensures { IfOk result (λ covers. AreFoundIn sought.now.program.now sought.now.shown.now sought.now.mode covers.items) }
 {
-    let alloc = sought.alloc;
-    let shown = sought.shown;
-    let mode = &sought.mode;
+    let mut lists = empty_lists(sought.alloc, threads)?;
     thread::for_each_mut(
         rt,
-        parts,
+        lists.as_mut_slice(),
         threads,
-        &|_, part|
-            requires { IsOwnPart plan.now.last part.now }
-            ensures { IsSearched shown.entry.now mode.entry.now part.entry.now part.exit.now }
-        { part.search(alloc, plan, shown, *mode, watch) },
+        &|_, covers|
+            requires { AreOwnParts sought.now.program.now plan.now.last queue.now.parts.now }
+            ensures { AreFoundIn sought.entry.now.program.now sought.entry.now.shown.now sought.entry.now.mode covers.exit.now.items }
+        { *covers = search_untaken(sought, plan, queue, watch) },
     );
+    joined(sought.alloc, lists)
+}
+
+/// Takes parts until none is left. Their covers, but for those for which there is no memory.
+fn search_untaken<W: Watch>(
+    sought: &Search,
+    plan: &Plan,
+    queue: &PartQueue,
+    watch: &W,
+) -> Vec<PartCover>
+    requires { AreOwnParts sought.now.program.now plan.now.last queue.now.parts.now }
+    ensures { AreFoundIn sought.now.program.now sought.now.shown.now sought.now.mode result.items }
+{
+    let mut covers = Vec::new(sought.alloc);
+    for _ in 0..queue.parts.len() {
+        let Some(part) = queue.take() else {
+            break;
+        };
+        // Where memory is refused, the part is searched once more when the covers are joined.
+        let own = PartWatch::new(watch);
+        if let Ok(cover) = part.cover(sought, plan, &own) {
+            let _ = covers.push(cover);
+        }
+    }
+    covers
+}
+
+/// So many lists with nothing in them.
+fn empty_lists(alloc: Global, count: usize) -> Result<Vec<Vec<PartCover>>, AllocError>
+    ensures { IfOk result (λ lists. length lists.items ≡ count) }
+{
+    let mut lists = Vec::with_capacity(alloc, count)?;
+    for _ in 0..count {
+        lists.push(Vec::new(alloc))?;
+    }
+    Ok(lists)
+}
+
+/// The covers of all lists, in one.
+fn joined(alloc: Global, lists: Vec<Vec<PartCover>>) -> Result<Vec<PartCover>, AllocError>
+    ensures { IfOk result (λ covers. (p : ListingValue) (shown : ShownValue) (mode : ModeValue) → All (λ list. AreFoundIn p shown mode list.items) lists.items → AreFoundIn p shown mode covers.items) }
+{
+    let mut covers = Vec::new(alloc);
+    for mut list in lists {
+        covers.append(&mut list)?;
+    }
+    Ok(covers)
 }

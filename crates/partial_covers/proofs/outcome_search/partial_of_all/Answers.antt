@@ -1,6 +1,6 @@
 use Rattle.std.proofs.Common.{◌≡◌, [], ◌∙◌, List, refl, sym, subst}
 use Rattle.std.specs.FinSet as set
-use Rattle.partial_covers.proofs.Vocabulary.{Shown, asked, ProgramSketch, nothing_chosen, Choice, KnownOutcomes, PushesPartial, ArePartsFor}
+use Rattle.partial_covers.proofs.Vocabulary.{Shown, asked, ProgramSketch, nothing_chosen, Choice, KnownOutcomes, PushesPartial, AreCoversFor}
 use Rattle.tso_machine.specs.declared.mode.Mode.TheVariants as modes
 use Rattle.sketch_covers.specs.KnownOutcomes.{by_number, HasRunOfEach, StaysOf}
 use Rattle.partial_covers.proofs.CoveringSteps.{grows_from, tree_from}
@@ -16,12 +16,12 @@ cover_first-requires-clause-plan g c = (c.requires c.none-all.ensures.open.0).pl
 pub cover_first-requires-clause-parts : goal.cover_first-requires-clause-parts
 cover_first-requires-clause-parts g c =
     let s = c.args.start.sketch in
-    let parts = c.args.start.parts.items in
+    let parts = c.args.start.covers.items in
     let none = c.none-all.result in
     let begins = c.none-all.ensures in
-    subst (λ (sh : Shown). ArePartsFor s sh none.outcomes none.path.items parts) (sym begins.shown)
-    (subst (λ (cs : List Choice). ArePartsFor s c.args.sought.now.shown.now none.outcomes cs parts) (sym (begins.path ∙ c.new.ensures.items))
-    (subst (λ (o : KnownOutcomes). ArePartsFor s c.args.sought.now.shown.now o [] parts) (sym begins.open.1) (c.requires begins.open.0).parts))
+    subst (λ (sh : Shown). AreCoversFor s sh none.outcomes none.path.items parts) (sym begins.shown)
+    (subst (λ (cs : List Choice). AreCoversFor s c.args.sought.now.shown.now none.outcomes cs parts) (sym (begins.path ∙ c.new.ensures.items))
+    (subst (λ (o : KnownOutcomes). AreCoversFor s c.args.sought.now.shown.now o [] parts) (sym begins.open.1) (c.requires begins.open.0).covers))
 
 pub returns-clause-in_order : goal.returns-clause-in_order
 returns-clause-in_order g c = c.in_ok-cover_first.ensures.grows.in_order

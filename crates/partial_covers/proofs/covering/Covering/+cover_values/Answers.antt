@@ -1,5 +1,5 @@
 use Rattle.std.proofs.Common.{◌≡◌, ℕ, List, [], ◌∷◌, ◌++◌, ◌∙◌, get_or, length, refl, sym, ap, subst, arith}
-use Rattle.partial_covers.proofs.Vocabulary.{Shown, asked, Choice, AreOfOthers, by_number, grows_none, few_choices, Covering, Covers, CoversEach, Has, items_of, ArePartsFor}
+use Rattle.partial_covers.proofs.Vocabulary.{Shown, asked, Choice, AreOfOthers, by_number, grows_none, few_choices, Covering, Covers, CoversEach, Has, items_of, AreCoversFor}
 use Rattle.cert_forest.specs.declared.node.Node.TheVariants as node
 use Rattle.cover_judge.specs.declared.choice.Choice.TheVariants as choice
 use Rattle.cover_judge.specs.Choices.{MayChooseEach}
@@ -8,7 +8,7 @@ use Rattle.branching.proofs.Rounds.{fewer_rounds}
 use Rattle.partial_covers.proofs.CombinedCovers.{before_next, of_others}
 use Rattle.partial_covers.proofs.CoveringSteps.{covers_next, covers_values, covers_joined, each_none, each_more}
 use Rattle.partial_covers.proofs.PartialNodes.{on_ok, pushes_closed, nodes_same, leaf_pushed}
-use Rattle.partial_covers.proofs.PartsJoined.{parts_still, parts_after, not_joined}
+use Rattle.partial_covers.proofs.PartsJoined.{covers_still, covers_after, not_joined}
 use Rattle.partial_covers.proofs.covering.Covering.+cover_values.Goals as goal
 
 pub cover_each_value-cover_values-requires : goal.cover_each_value-cover_values-requires
@@ -22,9 +22,9 @@ cover_each_value-cover_values-requires g t c κs within =
     let path = old.path.items in
     let now = c.loop-choice.self in
     let inv = c.loop-choice.invariant in
-    let parts = c.loop-choice.parts.items in
+    let parts = c.loop-choice.covers.items in
     let longer : c.push.new.self.items ≡ path ++ ch ∷ [] = c.in_ok-push.ensures.items ∙ ap (λ (cs : List Choice). cs ++ ch ∷ []) inv.covers.path in
-    let still = parts_still old.shown.now old.outcomes now.outcomes inv.covers.grows.stays s path parts (inv.left s old.shown.now old.outcomes path c.requires.parts) in (
+    let still = covers_still old.shown.now old.outcomes now.outcomes inv.covers.grows.stays s path parts (inv.left s old.shown.now old.outcomes path c.requires.parts) in (
       omega (arith, fewer_rounds s next ch c.recall_facts.ensures.lawful c.recall_facts.ensures.few (c.requires.may.each i d c.loop-choice-test.true) c.in_ok-next.ensures),
       (
         within,
@@ -32,8 +32,8 @@ cover_each_value-cover_values-requires g t c κs within =
           inv.covers.grows.in_order,
           (
             before_next s next c.args.plan.now.last ch (c.requires.others i d c.loop-choice-test.true) c.in_ok-next.ensures c.requires.before,
-            subst (λ (sh : Shown). ArePartsFor next sh now.outcomes c.push.new.self.items parts) (sym inv.covers.shown)
-                (subst (λ (cs : List Choice). ArePartsFor next old.shown.now now.outcomes cs parts) (sym longer) (parts_after s next old.shown.now now.outcomes path ch parts c.in_ok-next.ensures still)),
+            subst (λ (sh : Shown). AreCoversFor next sh now.outcomes c.push.new.self.items parts) (sym inv.covers.shown)
+                (subst (λ (cs : List Choice). AreCoversFor next old.shown.now now.outcomes cs parts) (sym longer) (covers_after s next old.shown.now now.outcomes path ch parts c.in_ok-next.ensures still)),
           ),
         ),
       ),
@@ -66,9 +66,9 @@ cover_values-cover_next-requires g t c κs within =
     let s = c.args.sketch.now in
     let old = c.args.self.now in
     let mid = c.join_part.new.self in
-    let parts = c.join_part.new.parts.items in
+    let parts = c.join_part.new.covers.items in
     let joined = c.in_ok-join_part.ensures.covers in
-    let still = parts_still old.shown.now old.outcomes mid.outcomes joined.grows.stays s old.path.items parts (c.in_ok-join_part.ensures.left s old.shown.now old.outcomes old.path.items c.requires.parts) in (
+    let still = covers_still old.shown.now old.outcomes mid.outcomes joined.grows.stays s old.path.items parts (c.in_ok-join_part.ensures.left s old.shown.now old.outcomes old.path.items c.requires.parts) in (
       omega arith,
       (
         within,
@@ -78,7 +78,7 @@ cover_values-cover_next-requires g t c κs within =
             c.requires.before,
             (
               c.in-Some.ensures,
-              subst (λ (sh : Shown). ArePartsFor s sh mid.outcomes mid.path.items parts) (sym joined.shown) (subst (λ (cs : List Choice). ArePartsFor s old.shown.now mid.outcomes cs parts) (sym joined.path) still),
+              subst (λ (sh : Shown). AreCoversFor s sh mid.outcomes mid.path.items parts) (sym joined.shown) (subst (λ (cs : List Choice). AreCoversFor s old.shown.now mid.outcomes cs parts) (sym joined.path) still),
             ),
           ),
         ),

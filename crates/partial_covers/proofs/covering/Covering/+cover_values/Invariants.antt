@@ -16,6 +16,6 @@ decreases-cover_each_value g l = rounds l.sketch.now
 -- the choices so far have their covers
 abbrev pub invariant-cover_each_value-loop-choice : goal.invariant-cover_each_value-loop-choice
 invariant-cover_each_value-loop-choice g l = record {
-  left : AreLeftOf l.fn.parts.items l.parts.items;
+  left : AreLeftOf l.fn.covers.items l.covers.items;
   covers : CoversEach l.sketch (take l.choice-index l.choices) l.fn.self l.self;
 }

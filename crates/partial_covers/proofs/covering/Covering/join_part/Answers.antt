@@ -1,5 +1,5 @@
 use Rattle.std.proofs.Common.{List, refl, sym, subst}
-use Rattle.partial_covers.proofs.Vocabulary.{asked, machine_of_mode, Choice, KnownOutcomes, Open, Grows, AreRunsFor, ArePartsFor, IsMadeAt}
+use Rattle.partial_covers.proofs.Vocabulary.{asked, machine_of_mode, Choice, KnownOutcomes, Open, Grows, AreRunsFor, AreCoversFor, IsMadeAt}
 use Rattle.sketch_covers.proofs.Growing.{grows_none, grows_open}
 use Rattle.partial_covers.proofs.covering.Covering.join_part.Goals as goal
 
@@ -7,7 +7,7 @@ pub join-requires-clause-made : goal.join-requires-clause-made
 join-requires-clause-made c =
     let s = c.args._sketch.now in
     let old = c.args.self.now in
-    let parts = subst (λ (cs : List Choice). ArePartsFor s old.shown.now old.outcomes cs c.args.parts.now.items) (sym c.deref.ensures.value) c.requires.parts in
+    let parts = subst (λ (cs : List Choice). AreCoversFor s old.shown.now old.outcomes cs c.args.covers.now.items) (sym c.deref.ensures.value) c.requires.parts in
     (c.in-Some.ensures.made s old.shown.now old.outcomes parts).in_order
 
 pub returns-in_ok-join-in-Some-clause-covers : goal.returns-in_ok-join-in-Some-clause-covers
@@ -18,7 +18,7 @@ returns-in_ok-join-in-Some-clause-covers c =
     let mode = c.in-Open.mode in
     let new = c.join.new.found in
     let made = c.in-Some.made in
-    let parts = subst (λ (cs : List Choice). ArePartsFor s old.shown.now old.outcomes cs c.args.parts.now.items) (sym c.deref.ensures.value) c.requires.parts in
+    let parts = subst (λ (cs : List Choice). AreCoversFor s old.shown.now old.outcomes cs c.args.covers.now.items) (sym c.deref.ensures.value) c.requires.parts in
     let is = subst (λ (cs : List Choice). IsMadeAt s old.shown.now old.outcomes cs made) c.deref.ensures.value (c.in-Some.ensures.made s old.shown.now old.outcomes parts) in
     let theirs = subst (λ (o : KnownOutcomes). AreRunsFor q o made.found) c.in-Open.is is.runs in
     record {

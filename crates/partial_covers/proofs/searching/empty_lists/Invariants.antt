@@ -1,0 +1,6 @@
+use Rattle.std.proofs.Common.{◌≡◌, length}
+use Rattle.partial_covers.proofs.searching.empty_lists.Given as goal
+
+-- there is one for each turn so far
+abbrev pub invariant-loop : goal.invariant-loop
+invariant-loop l = length l.lists.items ≡ l.counter
