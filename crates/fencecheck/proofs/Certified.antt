@@ -1,10 +1,8 @@
 -- What an accepted input is.
-use Rattle.std.proofs.Common.{◌≡◌, ℕ, List, None, Some, refl, sym, ap, ◌∙◌, subst, arith}
-use Rattle.fencecheck.proofs.Vocabulary.{asked, ArePartsOf, IsVerdictOnInput, judged, no_input}
+use Rattle.fencecheck.proofs.Vocabulary.{◌≡◌, ℕ, List, None, Some, refl, sym, ap, ◌∙◌, subst, arith, asked, ArePartsOf, IsVerdictOnInput, judged, no_input, IsVerdict, accepted, refused, IsAccepted, handed_in}
 use Rattle.gap_sets.specs.Order.{total}
 use Rattle.cert_check.specs.Certificates.{IsValidCertificate}
 use Rattle.report.specs.Answers.{accepted_line}
-use Rattle.fencecheck.specs.Verdicts.{IsVerdict, accepted, refused, IsAccepted, handed_in}
 use Rattle.fencecheck.specs.Laws.{IsCertified, AcceptedInputsAreCertified}
 
 certified : (bytes litmus certificate line : List ℕ) → ArePartsOf bytes litmus certificate → IsAccepted litmus certificate None line → IsCertified bytes line

@@ -1,17 +1,14 @@
 -- Where a certificate starts in bytes of which a front was read first.
 use Rattle.std.proofs.Common.{◌≡◌, ◌⊎◌, ℕ, ◌+◌, ◌<◌, ◌≤◌, Bool, true, false, List, [], ◌++◌, Option, Some, None, IsTrue, length, take, drop, refl, sym, ap, ◌∙◌, subst, inl, inr, append_assoc, arith}
-use Rattle.std.specs.Prelude.{codes, nat_eq}
+use Rattle.fencecheck.proofs.Vocabulary.{codes, nat_eq, HoldsBytes, IsReadFault, ReadsOn, TakesBytes, TakesUpTo, AppendsRest, CERTIFICATE_LIMIT, FRONT_LIMIT, BeginsLine, StartsAt, IsCertificateStart, AreJoined, ArePartsOf, IsTooLongInput, ReadsEnough}
 use Rattle.std.specs.List.{starts_with}
 use lib.Pointwise.{pointwise}
 use Rattle.std.specs.Io.KnownBytes.{Consumes, IsAtEnd}
 use Rattle.std.proofs.lemmas.List.{append-nil, take-append-le, drop-append-le, take-append-drop, length-take-le, length-drop, length-append}
 use Rattle.program_streams.specs.declared.fault.FileFault.{FileFault}
 use Rattle.program_streams.specs.declared.fault.FileFault.TheVariants as file
-use Rattle.program_streams.specs.Streams.{HoldsBytes, IsReadFault, ReadsOn, TakesBytes, TakesUpTo, AppendsRest}
 use Rattle.program_streams.specs.declared.files.TheConstants.{TEXT_LIMIT}
 use Rattle.program_streams.proofs.StreamLaws.{reads_more}
-use Rattle.fencecheck.specs.declared.parts.TheConstants.{CERTIFICATE_LIMIT, FRONT_LIMIT}
-use Rattle.fencecheck.specs.Inputs.{BeginsLine, StartsAt, IsCertificateStart, AreJoined, ArePartsOf, IsTooLongInput, ReadsEnough}
 
 -- what comes after the first bytes of a text doesn't tell whether it begins with a word that is no longer than these
 same_word : (bytes rest word : List ℕ) → length word ≤ length bytes → starts_with nat_eq (bytes ++ rest) word ≡ starts_with nat_eq bytes word

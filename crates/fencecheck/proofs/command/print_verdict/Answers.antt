@@ -1,7 +1,6 @@
 use Rattle.std.proofs.Common.{Ok}
 use Rattle.std.specs.declared.alloc.AllocError.{AllocError}
-use Rattle.program_streams.proofs.Printed.{prints_made, prints_line}
-use Rattle.fencecheck.specs.Verdicts.{accepted, refused, refusal_line}
+use Rattle.fencecheck.proofs.Vocabulary.{prints_made, prints_line, accepted, refused, refusal_line}
 use Rattle.fencecheck.proofs.command.print_verdict.Goals as goal
 
 pub returns-in-Ok : goal.returns-in-Ok

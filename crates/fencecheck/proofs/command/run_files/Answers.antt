@@ -1,6 +1,4 @@
-use Rattle.std.specs.Prelude.{option_map}
-use Rattle.fencecheck.proofs.Vocabulary.{prints_more, prints_line, file_line, IsVerdict, file_names_of}
-use Rattle.fencecheck.specs.Replies.{IsReplyToFiles, judged, no_file}
+use Rattle.fencecheck.proofs.Vocabulary.{option_map, prints_more, prints_line, file_line, IsVerdict, file_names_of, IsReplyToFiles, judged, no_file}
 use Rattle.fencecheck.proofs.command.run_files.Goals as goal
 
 pub returns-in-Ok-clause-printed : goal.returns-in-Ok-clause-printed

@@ -1,5 +1,4 @@
-use Rattle.std.proofs.Common.{None}
-use Rattle.fencecheck.proofs.Vocabulary.{prints_more, prints_line, file_line, IsVerdict, IsVerdictOnInput, judged, no_input}
+use Rattle.fencecheck.proofs.Vocabulary.{None, prints_more, prints_line, file_line, IsVerdict, IsVerdictOnInput, judged, no_input}
 use Rattle.fencecheck.proofs.Joined.{parts_seen}
 use Rattle.fencecheck.proofs.command.run_input.Goals as goal
 

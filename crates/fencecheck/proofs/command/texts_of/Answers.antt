@@ -1,6 +1,4 @@
-use Rattle.std.proofs.Common.{subst, sym}
-use Rattle.fencecheck.specs.Internal.Names.{file_names_of}
-use Rattle.fencecheck.specs.Replies.{IsFilesFault, no_certificate, no_costs}
+use Rattle.fencecheck.proofs.Vocabulary.{subst, sym, file_names_of, IsFilesFault, no_certificate, no_costs}
 use Rattle.fencecheck.proofs.command.texts_of.Goals as goal
 
 pub returns-in-Err-file_bytes-clause-err : goal.returns-in-Err-file_bytes-clause-err

@@ -1,10 +1,9 @@
-use Rattle.std.proofs.Common.{◌≡◌, inr, refl, sym, ap, ◌∙◌, subst}
-use Rattle.fencecheck.proofs.Vocabulary.{asked, handed_in}
+use Rattle.fencecheck.proofs.Vocabulary.{◌≡◌, inr, refl, sym, ap, ◌∙◌, subst, asked, handed_in}
 use Rattle.tso_program.specs.declared.listing.Listing.{Listing}
 use Rattle.tso_program.specs.declared.shown.Shown.{Shown}
 use Rattle.litmus_reader.specs.declared.litmus.Litmus.{Litmus}
 use Rattle.cert_forest.specs.declared.shows.Shows.{Shows}
-use Rattle.cert_forest.specs.declared.shows.Shows.TheVariants.{All, Only, Condition}
+use Rattle.cert_forest.specs.declared.shows.Shows.TheVariants.{All}
 use Rattle.cert_forest.specs.Shows.{shows_of}
 use Rattle.cert_forest.specs.Certificates.{Certificate}
 use Rattle.cert_check.specs.Faults.{CheckFaultIs}
@@ -13,8 +12,7 @@ use Rattle.fencecheck.proofs.judge.judge.Goals as goal
 -- what is handed in is what is asked
 asked_once : (litmus : Litmus Listing) (claimed : Shows) → handed_in litmus (shows_of (handed_in litmus claimed)) ≡ handed_in litmus claimed
 asked_once litmus All = refl
-asked_once litmus (Only names) = refl
-asked_once litmus Condition = refl
+asked_once litmus claimed = refl
 
 pub returns-in-Err-read_cert-clause-refused : goal.returns-in-Err-read_cert-clause-refused
 returns-in-Err-read_cert-clause-refused c =

@@ -1,5 +1,4 @@
-use Rattle.std.proofs.Common.{◌<◌, ℕ}
-use Rattle.fencecheck.specs.Inputs.{StartsAt}
+use Rattle.fencecheck.proofs.Vocabulary.{◌<◌, ℕ, StartsAt}
 use Rattle.fencecheck.proofs.parts.certificate_start.Given as goal
 
 -- no certificate starts before this place

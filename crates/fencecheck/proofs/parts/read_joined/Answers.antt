@@ -1,7 +1,9 @@
 use Rattle.std.proofs.Common.{◌+◌, ◌-◌, ◌≤◌, length, subst, arith, vec_len}
-use Rattle.fencecheck.proofs.Vocabulary.{IsReadFault, CERTIFICATE_LIMIT, IsCertificateStart, IsTooLongInput}
+use Rattle.fencecheck.proofs.Vocabulary.{IsReadFault, CERTIFICATE_LIMIT, IsCertificateStart, IsTooLongInput, ReadsEnough}
 use Rattle.cert_check.proofs.Answered.{err_up}
 use Rattle.fencecheck.proofs.Joined.{end_or_full, long_litmus, parts_read, reads_rest, rest_fault}
+use Rattle.fencecheck.proofs.parts.read_joined.Given.{Over}
+use Rattle.fencecheck.proofs.parts.read_joined.Goals.{After-read_rest_up_to}
 use Rattle.fencecheck.proofs.parts.read_joined.Goals as goal
 
 pub returns-then-start-gt-TEXT_LIMIT-clause-err : goal.returns-then-start-gt-TEXT_LIMIT-clause-err
@@ -24,13 +26,17 @@ returns-in_err-read_rest_up_to-clause-err g c =
     (g.R.Read.remaining c.read_rest_up_to.new.input) (start + CERTIFICATE_LIMIT + 1 - vec_len c.read_on.new.bytes) why c.in_err-read_rest_up_to.ensures.err
     (omega (arith, c.read_on.new.bytes.ok.0, full)))
 
-pub returns-in_err-read_rest_up_to-clause-read : goal.returns-in_err-read_rest_up_to-clause-read
-returns-in_err-read_rest_up_to-clause-read g c =
+-- what is read, where the rest is
+reads : (g : Over) (c : After-read_rest_up_to g) → ReadsEnough (g.R.Read.remaining c.args.input.now) (g.R.Read.remaining c.read_rest_up_to.new.input)
+reads g c =
     let start = c.certificate_start-start.result in
     let full = c.in_ok-ended.ensures.full c.if-ended.false in
     reads_rest (g.R.Read.remaining c.args.input.now) (g.R.Read.remaining c.read_on.new.input) c.new-bytes.result.items c.read_on.new.bytes.items c.new-bytes.ensures.items c.in_ok-ended.ensures.more
     start (subst (λ xs. IsCertificateStart xs start) c.deref.ensures.value c.certificate_start-start.ensures.start) c.if-start-gt-TEXT_LIMIT.false (omega (arith, c.read_on.new.bytes.ok.0, full))
     (g.R.Read.remaining c.read_rest_up_to.new.input) (start + CERTIFICATE_LIMIT + 1 - vec_len c.read_on.new.bytes) c.read_rest_up_to.ensures.taken (omega (arith, c.read_on.new.bytes.ok.0, full))
+
+pub returns-in_err-read_rest_up_to-clause-read : goal.returns-in_err-read_rest_up_to-clause-read
+returns-in_err-read_rest_up_to-clause-read g c = reads g (goal.at.returns-in_err-read_rest_up_to-clause-read g c).After-read_rest_up_to
 
 pub returns-clause-parts : goal.returns-clause-parts
 returns-clause-parts g c =
@@ -41,9 +47,4 @@ returns-clause-parts g c =
     c.read_rest_up_to.new.bytes.items c.in_ok-read_rest_up_to.ensures.whole (omega (arith, c.read_rest_up_to.new.bytes.ok.0, c.in_ok-read_rest_up_to.ensures.within))
 
 pub returns-clause-read : goal.returns-clause-read
-returns-clause-read g c =
-    let start = c.certificate_start-start.result in
-    let full = c.in_ok-ended.ensures.full c.if-ended.false in
-    reads_rest (g.R.Read.remaining c.args.input.now) (g.R.Read.remaining c.read_on.new.input) c.new-bytes.result.items c.read_on.new.bytes.items c.new-bytes.ensures.items c.in_ok-ended.ensures.more
-    start (subst (λ xs. IsCertificateStart xs start) c.deref.ensures.value c.certificate_start-start.ensures.start) c.if-start-gt-TEXT_LIMIT.false (omega (arith, c.read_on.new.bytes.ok.0, full))
-    (g.R.Read.remaining c.read_rest_up_to.new.input) (start + CERTIFICATE_LIMIT + 1 - vec_len c.read_on.new.bytes) c.read_rest_up_to.ensures.taken (omega (arith, c.read_on.new.bytes.ok.0, full))
+returns-clause-read g c = reads g (goal.at.returns-clause-read g c).After-read_rest_up_to
