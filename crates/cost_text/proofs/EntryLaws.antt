@@ -1,20 +1,13 @@
 -- Entries, and the table and the costs that they give.
 use Rattle.std.proofs.Common.{◌≡◌, ◌≢◌, ◌==◌, ℕ, ◌<◌, ◌≤◌, true, false, List, [], ◌∷◌, ◌++◌, length, get_or, map, set, Option, Some, None, refl, sym, ap, ◌∙◌, subst, arith, inl, inr, unwrap_or}
 use Rattle.std.specs.List.{range_with_len}
+use Rattle.std.proofs.lemmas.Simd.{map-map}
+use Rattle.std.proofs.lemmas.Bool.{eqb-true, eqb-false, eq-eqb, ne_eqb}
 use Rattle.std.proofs.lemmas.List.{length-set, get_or-set_same, get_or-set_other}
 use Rattle.std.proofs.lemmas.List.FromFn.{fill_by_all, length-map-range_with_len, get_or-map-range_with_len}
-use Rattle.cost_text.proofs.Vocabulary.{cases_Bool, cases_eq, nat_tests, IsCostList, Entry, said_of, NoGapTwice, costs_of, table_of, MAX_GAPS}
+use Rattle.cost_text.proofs.Vocabulary.{cases_Bool, cases_eq, IsCostList, Entry, said_of, NoGapTwice, costs_of, table_of, MAX_GAPS}
 
 -- ---- what entries say
-
-itself : (n : ℕ) → (n == n) ≡ true
-itself n = grind (arith, nat_tests)
-
-others : (m n : ℕ) → m ≢ n → (m == n) ≡ false
-others m n h = grind (arith, nat_tests)
-
-apart : (m n : ℕ) → (m == n) ≡ false → n ≢ m
-apart m n h = λ e. grind (arith, nat_tests)
 
 some_none : (n : ℕ) → Some n ≡ None → ⊥
 some_none n e = cc
@@ -28,23 +21,20 @@ rest_says x xs gap none = rw (first_is_other x xs gap none) at none
 
 -- one more entry, of a gap of which nothing is said yet
 pub said_there : (entries more : List Entry) (e : Entry) → said_of entries e.gap ≡ None → said_of (entries ++ e ∷ more) e.gap ≡ Some e.cost
-said_there [] more e none = rw (itself e.gap) refl
+said_there [] more e none = rw (eq-eqb e.gap e.gap refl) refl
 said_there (x ∷ xs) more e none = rw (first_is_other x xs e.gap none) (said_there xs more e (rest_says x xs e.gap none))
 
 said_elsewhere : (entries : List Entry) (e : Entry) (gap : ℕ) → e.gap ≢ gap → said_of (entries ++ e ∷ []) gap ≡ said_of entries gap
-said_elsewhere [] e gap other = rw (others e.gap gap other) refl
+said_elsewhere [] e gap other = rw (ne_eqb e.gap gap other) refl
 said_elsewhere (x ∷ xs) e gap other = elim (cases_Bool (x.gap == gap)) [ inl y ↦ rw (y) refl | inr n ↦ rw (n) (said_elsewhere xs e gap other) ]
 
 pub once_more : (entries : List Entry) (e : Entry) → NoGapTwice entries → said_of entries e.gap ≡ None → NoGapTwice (entries ++ e ∷ [])
 once_more [] e once none = (refl, tt)
 once_more (x ∷ xs) e once none =
-    (said_elsewhere xs e x.gap (apart x.gap e.gap (first_is_other x xs e.gap none)) ∙ once.0, once_more xs e once.1 (rest_says x xs e.gap none))
+    (said_elsewhere xs e x.gap (λ is. eqb-false x.gap e.gap (first_is_other x xs e.gap none) (sym is)) ∙ once.0, once_more xs e once.1 (rest_says x xs e.gap none))
 
 found_again : (xs more : List Entry) (e x : Entry) → (x.gap == e.gap) ≡ true → said_of (xs ++ e ∷ more) x.gap ≡ None → ⊥
-found_again [] more e x same none = some_none e.cost (rw (itself_too e.gap x.gap same) at none)
-  where
-    itself_too : (m n : ℕ) → (n == m) ≡ true → (m == n) ≡ true
-    itself_too m n h = grind (arith, nat_tests)
+found_again [] more e x same none = some_none e.cost (rw (eq-eqb e.gap x.gap (sym (eqb-true x.gap e.gap same))) at none)
 found_again (y ∷ ys) more e x same none = found_again ys more e x same (rest_says y (ys ++ e ∷ more) x.gap none)
 
 -- no entry speaks of a gap of which an earlier one speaks
@@ -81,12 +71,8 @@ module _ (gaps : ℕ) (entries : List Entry) (e : Entry) (below : e.gap < gaps) 
 
 -- ---- the costs
 
-mapped : {X Y Z : Type 0} (g : Y → Z) (f : X → Y) (xs : List X) → map g (map f xs) ≡ map (λ x. g (f x)) xs
-mapped g f [] = refl
-mapped {Z = Z} g f (x ∷ xs) = ap (λ (zs : List Z). g (f x) ∷ zs) (mapped g f xs)
-
 pub costs_from_table : (gaps : ℕ) (entries : List Entry) → map (λ cost. unwrap_or cost 1) (table_of gaps entries) ≡ costs_of gaps entries
-costs_from_table gaps entries = mapped (λ cost. unwrap_or cost 1) (said_of entries) (range_with_len 0 gaps)
+costs_from_table gaps entries = map-map (λ cost. unwrap_or cost 1) (said_of entries) (range_with_len 0 gaps)
 
 pub costs_at : (gaps : ℕ) (entries : List Entry) (gap d : ℕ) → gap < gaps → get_or (costs_of gaps entries) gap d ≡ unwrap_or (said_of entries gap) 1
 costs_at gaps entries gap d below = get_or-map-range_with_len (λ gap. unwrap_or (said_of entries gap) 1) 0 gaps gap gap d below (omega arith)

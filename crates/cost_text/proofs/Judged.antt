@@ -1,11 +1,11 @@
 -- What is found of a line after others.
-use Rattle.std.proofs.Common.{◌≡◌, ◌==◌, ℕ, ◌<◌, ◌≤◌, true, false, List, get_or, Option, Some, None, Result, Ok, Err, refl, sym, ap, ◌∙◌, arith, inl, inr}
-use Rattle.std.specs.Prelude.{is_some, nat_le}
-use Rattle.cost_text.proofs.Vocabulary.{cases_Bool, nat_tests, CostFault, Thread, gap_count, gap_number, gap_below, Entry, IsCostEntry, said_of, IsOfNoGap, IsRepeated, IsOfNoCost, Digits, digits_in}
+use Rattle.std.proofs.Common.{◌≡◌, ℕ, ◌<◌, ◌≤◌, true, false, List, get_or, Option, Some, None, Ok, Err, refl, sym, ap, ◌∙◌, arith}
+use Rattle.std.specs.Prelude.{is_some}
+use Rattle.cost_text.proofs.Vocabulary.{CostFault, Thread, gap_count, gap_number, gap_below, Entry, IsCostEntry, said_of, IsOfNoGap, IsRepeated, IsOfNoCost, Digits, digits_in}
 use Rattle.cost_text.proofs.Vocabulary.{said_by, cost_or_fault, IsCostTable, IsNewEntry}
 use Rattle.cost_text.proofs.LineLaws.{line_read}
 use Rattle.cost_text.proofs.EntryLaws.{table_at}
-use Rattle.cost_text.proofs.CostFaults.{first_fault}
+use Rattle.cost_text.proofs.CostFaults.{IsJudged, fine, free, large, judged, first_fault}
 
 -- a line that speaks of no gap
 pub of_no_gap : (threads : List Thread) (line : List ℕ) (digits : Digits) → Some digits ≡ digits_in line → None ≡ gap_number threads (said_by digits).thread (said_by digits).instruction → IsOfNoGap threads line
@@ -24,31 +24,13 @@ record IsFine (cost found : ℕ) : Type 0 where
   some : 1 ≤ found
   within : found ≤ 1000000
 
-fine : (gap cost found : ℕ) → Ok found ≡ cost_or_fault gap cost → IsFine cost found
-fine gap cost found e =
-    elim (cases_Bool (nat_le cost 1000000)) [
-      | inl small ↦
-          elim (cases_Bool (cost == 0)) [
-            | inl zero_cost ↦ absurd (ok_err found (rw (small, zero_cost) at e))
-            | inr some ↦ whole (is_small cost small) (is_some_cost cost some) (oks (rw (small, some) at e))
-          ]
-      | inr over ↦ absurd (ok_err found (rw over at e))
-    ]
+is_fine : (gap cost found : ℕ) → Ok found ≡ cost_or_fault gap cost → IsFine cost found
+is_fine gap cost found e = by_kind (judged gap cost)
   where
-    ok_err : (n : ℕ) {why : CostFault} → ◌≡◌ {A = Result ℕ CostFault} (Ok n) (Err why) → ⊥
-    ok_err n e = cc
-
-    oks : ◌≡◌ {A = Result ℕ CostFault} (Ok found) (Ok cost) → cost ≡ found
-    oks e = cc
-
-    is_small : (c : ℕ) → nat_le c 1000000 ≡ true → c ≤ 1000000
-    is_small c h = grind (arith, nat_tests)
-
-    is_some_cost : (c : ℕ) → (c == 0) ≡ false → 1 ≤ c
-    is_some_cost c h = grind (arith, nat_tests)
-
-    whole : cost ≤ 1000000 → 1 ≤ cost → cost ≡ found → IsFine cost found
-    whole high low same = record { same = same; some = omega arith; within = omega arith }
+    by_kind : IsJudged gap cost (cost_or_fault gap cost) → IsFine cost found
+    by_kind (fine some small r) = let same : cost ≡ found = (let both = e ∙ r in cc) in record { same = same; some = omega arith; within = omega arith }
+    by_kind (free zero_cost r) = let bad = e ∙ r in absurd cc
+    by_kind (large over r) = let bad = e ∙ r in absurd cc
 
 module _ (threads : List Thread) (table : List (Option ℕ)) (entries : List Entry) (line : List ℕ) (digits : Digits) (gap : ℕ) (is : Some digits ≡ digits_in line)
     (number : Some gap ≡ gap_number threads (said_by digits).thread (said_by digits).instruction) (t : IsCostTable threads entries table) where
@@ -71,7 +53,7 @@ module _ (threads : List Thread) (table : List (Option ℕ)) (entries : List Ent
   none_yet none = sym in_table ∙ is_none_there (get_or table gap None) none
 
   pub new_entry : (cost : ℕ) → is_some (get_or table gap None) ≡ false → Ok cost ≡ cost_or_fault gap (said_by digits).cost → IsNewEntry threads entries line (entry_with cost)
-  new_entry cost none found = let f = fine gap (said_by digits).cost cost found in record { is = of_gap cost f.same; new = none_yet none; some = f.some; within = f.within }
+  new_entry cost none found = let f = is_fine gap (said_by digits).cost cost found in record { is = of_gap cost f.same; new = none_yet none; some = f.some; within = f.within }
 
   pub of_no_cost : (why : CostFault) → is_some (get_or table gap None) ≡ false → Err why ≡ cost_or_fault gap (said_by digits).cost → IsOfNoCost threads entries line why
   of_no_cost why none found = record {

@@ -1,11 +1,11 @@
 -- A line is read as what it says.
-use Rattle.std.proofs.Common.{◌≡◌, ◌==◌, ℕ, suc, ◌+◌, ◌<◌, true, false, List, [], ◌∷◌, ◌++◌, length, take, drop, Option, Some, None, refl, sym, ap, ◌∙◌, subst, arith}
-use Rattle.std.specs.Prelude.{nat_lt, slice_index, option_and_then, if◌then◌else◌}
+use Rattle.std.proofs.Common.{◌≡◌, ◌==◌, ℕ, ◌<◌, true, false, List, [], ◌∷◌, ◌++◌, length, take, drop, Some, None, refl, sym, ap, ◌∙◌, subst, arith}
+use Rattle.std.specs.Prelude.{nat_lt, slice_index}
 use Rattle.std.specs.List.{list_all, prefix_len}
 use Rattle.std.proofs.lemmas.Bool.{and_parts, eqb-true, lt-ltb, ltb-true}
-use Rattle.std.proofs.lemmas.List.{take_at, drop_at, take-append-drop}
+use Rattle.std.proofs.lemmas.List.{append-nil, take_at, drop_at, take-append-drop}
 use Rattle.std.proofs.lemmas.List.Folds.{length-prefix_len}
-use Rattle.std.proofs.lemmas.Option.{cond_some, option_and_then_some}
+use Rattle.std.proofs.lemmas.Option.{cond_some, option_and_then_some, same_Some}
 use Rattle.cost_text.proofs.Vocabulary.{is_ascii_digit, nat_tests}
 use Rattle.text_tokens.specs.Lexing.{AreDigits}
 use Rattle.text_tokens.specs.Bytes.{is_blank, is_line_space, AreBlanks, AreLineSpaces}
@@ -50,10 +50,6 @@ colon_taken (b ∷ bs) rest e =
     let a = cond_some (b == 58) bs rest e in
     ap (λ (x : ℕ). x ∷ bs) (eqb-true b 58 a.0) ∙ ap (λ (x : List ℕ). 58 ∷ x) a.1
 
-colon_again : (rest : List ℕ) → after_colon (58 ∷ rest) ≡ Some rest
-unfolding after_colon
-colon_again rest = refl
-
 record TakesBlanks (text rest : List ℕ) : Type 0 where
   blanks : List ℕ
   text_is : text ≡ blanks ++ rest
@@ -86,11 +82,8 @@ line_spaces_again line_spaces rest is stop =
 
 -- ---- the bytes that come first
 
-no_line_space : (b : ℕ) → is_ascii_digit b ≡ true → is_line_space b ≡ false
-no_line_space b h = grind (arith, nat_tests)
-
-no_blank : (b : ℕ) → is_ascii_digit b ≡ true → is_blank b ≡ false
-no_blank b h = grind (arith, nat_tests)
+digit_no_space : (b : ℕ) → is_ascii_digit b ≡ true → (is_line_space b ≡ false) × (is_blank b ≡ false)
+digit_no_space b h = (grind (arith, nat_tests), grind (arith, nat_tests))
 
 blank_no_digit : (b : ℕ) → is_blank b ≡ true → is_ascii_digit b ≡ false
 blank_no_digit b h = grind (arith, nat_tests)
@@ -98,14 +91,8 @@ blank_no_digit b h = grind (arith, nat_tests)
 line_space_no_digit : (b : ℕ) → is_line_space b ≡ true → is_ascii_digit b ≡ false
 line_space_no_digit b h = grind (arith, nat_tests)
 
-digit_first : (ds rest : List ℕ) → AreDigits ds → is_ascii_digit (slice_index (ds ++ rest) 0) ≡ true
-digit_first ds rest h = ap is_ascii_digit (first_of ds rest h.0) ∙ first_digit ds h
-
-digits_no_line_space : (ds rest : List ℕ) → AreDigits ds → is_line_space (slice_index (ds ++ rest) 0) ≡ false
-digits_no_line_space ds rest h = no_line_space (slice_index (ds ++ rest) 0) (digit_first ds rest h)
-
-digits_no_blank : (ds rest : List ℕ) → AreDigits ds → is_blank (slice_index (ds ++ rest) 0) ≡ false
-digits_no_blank ds rest h = no_blank (slice_index (ds ++ rest) 0) (digit_first ds rest h)
+digits_no_space : (ds rest : List ℕ) → AreDigits ds → (is_line_space (slice_index (ds ++ rest) 0) ≡ false) × (is_blank (slice_index (ds ++ rest) 0) ≡ false)
+digits_no_space ds rest h = digit_no_space (slice_index (ds ++ rest) 0) (ap is_ascii_digit (first_of ds rest h.0) ∙ first_digit ds h)
 
 blanks_first : (blanks rest : List ℕ) → AreBlanks blanks → is_ascii_digit (slice_index (blanks ++ rest) 0) ≡ false
 blanks_first [] rest h = absurd (omega (arith, h.0))
@@ -120,44 +107,28 @@ line_spaces_first (b ∷ bs) h = line_space_no_digit b (and_parts (is_line_space
 abbrev digits_as : List ℕ → List ℕ → List ℕ → Digits
 digits_as thread instruction cost = record { thread = thread; instruction = instruction; cost = cost }
 
-abbrev at_end : List ℕ → List ℕ → List ℕ × List ℕ → Option Digits
-at_end thread instruction c = if list_all is_line_space c.1 then Some (digits_as thread instruction c.0) else None
-
-abbrev at_cost : List ℕ → List ℕ → List ℕ → Option Digits
-at_cost thread instruction v = option_and_then (at_end thread instruction) (digits_at v)
-
-abbrev at_blanks : List ℕ → List ℕ × List ℕ → Option Digits
-at_blanks thread k = option_and_then (at_cost thread k.0) (after_blanks k.1)
-
-abbrev at_instruction : List ℕ → List ℕ → Option Digits
-at_instruction thread u = option_and_then (at_blanks thread) (digits_at u)
-
-abbrev at_colon : List ℕ × List ℕ → Option Digits
-at_colon t = option_and_then (at_instruction t.0) (after_colon t.1)
-
-in_steps : (line : List ℕ) → digits_in line ≡ option_and_then at_colon (digits_at (after_line_spaces line))
-unfolding digits_in
-in_steps line = refl
-
 -- what was read of a line is what it says
 pub record Read (line : List ℕ) (digits : Digits) : Type 0 where
   pub says : Says line (said_by digits)
   pub all_digits : AreAllDigits digits
 
-read_parts : (line : List ℕ) (t k c : List ℕ × List ℕ) (u v : List ℕ) (digits : Digits) → digits_at (after_line_spaces line) ≡ Some t → after_colon t.1 ≡ Some u → digits_at u ≡ Some k → after_blanks k.1 ≡ Some v → digits_at v ≡ Some c
-    → at_end t.0 k.0 c ≡ Some digits → Read line digits
-read_parts line t k c u v digits is_t is_u is_k is_v is_c is_end =
+pub line_read : (line : List ℕ) (digits : Digits) → digits_in line ≡ Some digits → Read line digits
+unfolding digits_in
+line_read line digits e =
+    option_and_then_some _ (digits_at (after_line_spaces line)) digits e (λ t is_t e1.
+    option_and_then_some _ (after_colon t.1) digits e1 (λ u is_u e2.
+    option_and_then_some _ (digits_at u) digits e2 (λ k is_k e3.
+    option_and_then_some _ (after_blanks k.1) digits e3 (λ v is_v e4.
+    option_and_then_some _ (digits_at v) digits e4 (λ c is_c e5.
     let n = prefix_len is_line_space line in
     let dt = digits_taken (after_line_spaces line) t.0 t.1 is_t in
     let du = colon_taken t.1 u is_u in
     let dk = digits_taken u k.0 k.1 is_k in
     let dv = blanks_taken k.1 v is_v in
     let dc = digits_taken v c.0 c.1 is_c in
-    let ended = cond_some (list_all is_line_space c.1) (digits_as t.0 k.0 c.0) digits is_end in
+    let ended = cond_some (list_all is_line_space c.1) (digits_as t.0 k.0 c.0) digits e5 in
     let after_k : k.1 ≡ dv.blanks ++ (c.0 ++ c.1) = dv.text_is ∙ ap (λ (x : List ℕ). dv.blanks ++ x) dc.text_is in
     let after_t : t.1 ≡ 58 ∷ (k.0 ++ (dv.blanks ++ (c.0 ++ c.1))) = du ∙ ap (λ (x : List ℕ). 58 ∷ x) (dk.text_is ∙ ap (λ (x : List ℕ). k.0 ++ x) after_k) in
-    let whole : line ≡ take n line ++ (t.0 ++ 58 ∷ (k.0 ++ (dv.blanks ++ (c.0 ++ c.1)))) =
-    sym (take-append-drop n line) ∙ ap (λ (x : List ℕ). take n line ++ x) (dt.text_is ∙ ap (λ (x : List ℕ). t.0 ++ x) after_t) in
     let read : Read line (digits_as t.0 k.0 c.0) = record {
       says = record {
         before = take n line;
@@ -166,7 +137,7 @@ read_parts line t k c u v digits is_t is_u is_k is_v is_c is_end =
         blanks = dv.blanks;
         cost = c.0;
         after = c.1;
-        text = whole;
+        text = sym (take-append-drop n line) ∙ ap (λ (x : List ℕ). take n line ++ x) (dt.text_is ∙ ap (λ (x : List ℕ). t.0 ++ x) after_t);
         begins = all_pass is_line_space line;
         of_thread = (dt.digits, refl);
         of_instruction = (dk.digits, refl);
@@ -176,16 +147,7 @@ read_parts line t k c u v digits is_t is_u is_k is_v is_c is_end =
       };
       all_digits = record { thread = dt.digits.1; instruction = dk.digits.1; cost = dc.digits.1 };
     } in
-    subst (Read line) ended.1 read
-
-pub line_read : (line : List ℕ) (digits : Digits) → digits_in line ≡ Some digits → Read line digits
-line_read line digits e =
-    option_and_then_some at_colon (digits_at (after_line_spaces line)) digits (sym (in_steps line) ∙ e) (λ t is_t e1.
-    option_and_then_some (at_instruction t.0) (after_colon t.1) digits e1 (λ u is_u e2.
-    option_and_then_some (at_blanks t.0) (digits_at u) digits e2 (λ k is_k e3.
-    option_and_then_some (at_cost t.0 k.0) (after_blanks k.1) digits e3 (λ v is_v e4.
-    option_and_then_some (at_end t.0 k.0) (digits_at v) digits e4 (λ c is_c e5.
-    read_parts line t k c u v digits is_t is_u is_k is_v is_c e5)))))
+    subst (Read line) ended.1 read)))))
 
 -- what a line says is read
 pub record Reads (line : List ℕ) (said : Said) : Type 0 where
@@ -195,23 +157,16 @@ pub record Reads (line : List ℕ) (said : Said) : Type 0 where
 
 parts_again : (before thread instruction blanks cost after : List ℕ) → AreLineSpaces before → AreDigits thread → AreDigits instruction → AreBlanks blanks → AreDigits cost → AreLineSpaces after
     → digits_in (before ++ (thread ++ 58 ∷ (instruction ++ (blanks ++ (cost ++ after))))) ≡ Some (digits_as thread instruction cost)
+unfolding digits_in after_colon
 parts_again before thread instruction blanks cost after begins threads instructions parts costs ends =
     let v : List ℕ = cost ++ after in
     let u : List ℕ = instruction ++ (blanks ++ v) in
-    let front : after_line_spaces (before ++ (thread ++ 58 ∷ u)) ≡ thread ++ 58 ∷ u = line_spaces_again before (thread ++ 58 ∷ u) begins (digits_no_line_space thread (58 ∷ u) threads) in
+    let front : after_line_spaces (before ++ (thread ++ 58 ∷ u)) ≡ thread ++ 58 ∷ u = line_spaces_again before (thread ++ 58 ∷ u) begins (digits_no_space thread (58 ∷ u) threads).0 in
     let is_t : digits_at (thread ++ 58 ∷ u) ≡ Some (thread, 58 ∷ u) = digits_again thread (58 ∷ u) threads refl in
     let is_k : digits_at u ≡ Some (instruction, blanks ++ v) = digits_again instruction (blanks ++ v) instructions (blanks_first blanks v parts) in
-    let is_v : after_blanks (blanks ++ v) ≡ Some v = blanks_again blanks v parts (digits_no_blank cost after costs) in
+    let is_v : after_blanks (blanks ++ v) ≡ Some v = blanks_again blanks v parts (digits_no_space cost after costs).1 in
     let is_c : digits_at v ≡ Some (cost, after) = digits_again cost after costs (line_spaces_first after ends) in
-    let ended : at_end thread instruction (cost, after) ≡ Some (digits_as thread instruction cost) = rw ends refl in
-    in_steps (before ++ (thread ++ 58 ∷ u))
-    ∙ ap (λ (x : List ℕ). option_and_then at_colon (digits_at x)) front
-    ∙ ap (option_and_then at_colon) is_t
-    ∙ ap (option_and_then (at_instruction thread)) (colon_again u)
-    ∙ ap (option_and_then (at_blanks thread)) is_k
-    ∙ ap (option_and_then (at_cost thread instruction)) is_v
-    ∙ ap (option_and_then (at_end thread instruction)) is_c
-    ∙ ended
+    rw (front, is_t, is_k, is_v, is_c, ends) refl
 
 pub said_again : (line : List ℕ) (said : Said) → Says line said → Reads line said
 said_again line said s = record {
@@ -222,36 +177,21 @@ said_again line said s = record {
 
 -- ---- what follows
 
-both : (o : Option Digits) (d e : Digits) → o ≡ Some d → o ≡ Some e → d ≡ e
-both o d e is also = cc
-
 -- a line says one thing
 pub said_once : (line : List ℕ) (a b : Said) → Says line a → Says line b → a ≡ b
 said_once line a b s t =
     let r = said_again line a s in
     let q = said_again line b t in
-    sym r.said_is ∙ ap said_by (both (digits_in line) r.digits q.digits r.is q.is) ∙ q.said_is
-
-none_or : (o : Option Digits) (d : Digits) → o ≡ None → o ≡ Some d → ⊥
-none_or o d none some = cc
+    sym r.said_is ∙ ap said_by (same_Some r.digits q.digits (sym r.is ∙ q.is)) ∙ q.said_is
 
 -- a line of which nothing is read says nothing
 pub unread : (line : List ℕ) → digits_in line ≡ None → (said : Said) → Says line said → ⊥
-unread line none said s = let r = said_again line said s in none_or (digits_in line) r.digits none r.is
+unread line none said s = let bad = sym none ∙ (said_again line said s).is in cc
 
 all_line_spaces : (line : List ℕ) → AreLineSpaces line → after_line_spaces line ≡ []
-all_line_spaces [] is = refl
-all_line_spaces (b ∷ bs) is =
-    let a = and_parts (is_line_space b) (list_all is_line_space bs) is in
-    rw (a.0, one_more) (all_line_spaces bs a.1)
-  where
-    one_more : (n : ℕ) → 1 + n ≡ suc n
-    one_more n = omega arith
-
-no_digits : digits_at [] ≡ None
-unfolding digits_at
-no_digits = refl
+all_line_spaces line is = subst (λ (x : List ℕ). after_line_spaces x ≡ []) (append-nil line) (line_spaces_again line [] is refl)
 
 -- a blank line says nothing
 pub blank_says_nothing : (line : List ℕ) → AreLineSpaces line → (said : Said) → Says line said → ⊥
-blank_says_nothing line blank = unread line (in_steps line ∙ ap (λ (x : List ℕ). option_and_then at_colon (digits_at x)) (all_line_spaces line blank) ∙ ap (option_and_then at_colon) no_digits)
+unfolding digits_in digits_at
+blank_says_nothing line blank = unread line (rw (all_line_spaces line blank) refl)

@@ -1,6 +1,7 @@
 -- Lines, one after the other, and that a text gives costs in one way.
 use Rattle.std.proofs.Common.{◌≡◌, ℕ, ◌+◌, ◌<◌, ◌≤◌, List, [], ◌∷◌, ◌++◌, length, get_or, map, set, take, drop, Option, Some, None, refl, sym, ap, ◌∙◌, subst, arith}
 use Rattle.std.specs.Prelude.{unwrap_or, IfSome}
+use Rattle.std.proofs.lemmas.Option.{same_Some}
 use Rattle.std.proofs.lemmas.List.{append-nil, take-append-drop, take_more, drop_more, length-take}
 use Rattle.cost_text.proofs.Vocabulary.{CostFault, IsCostList, first_cost_fault, Thread, gap_count, gap_number, gap_below, CostTextFault, AreLineSpaces, Said, table_of, IsCostTable, IsNewEntry}
 use Rattle.cost_text.proofs.Vocabulary.{IsTableOf, MAX_GAPS}
@@ -72,16 +73,10 @@ refused_there threads lines i line table why lt is t f = record { number = i + 1
 
 -- ---- lines say their entries in one way
 
-some_is : (m n : ℕ) (o : Option ℕ) → o ≡ Some m → o ≡ Some n → m ≡ n
-some_is m n o is also = cc
-
-none_some : (n : ℕ) (o : Option ℕ) → o ≡ None → o ≡ Some n → ⊥
-none_some n o is also = cc
-
 entry_once : (threads : List Thread) (line : List ℕ) (a b : Entry) → IsCostEntry threads line a → IsCostEntry threads line b → a ≡ b
 entry_once threads line a b is also =
     let same : is.said ≡ also.said = said_once line is.said also.said is.says also.says in
-    let gaps : a.gap ≡ b.gap = some_is a.gap b.gap (gap_number threads also.said.thread also.said.instruction) (ap (λ (s : Said). gap_number threads s.thread s.instruction) (sym same) ∙ is.gap) also.gap in
+    let gaps : a.gap ≡ b.gap = same_Some a.gap b.gap (sym is.gap ∙ ap (λ (s : Said). gap_number threads s.thread s.instruction) same ∙ also.gap) in
     let costs : a.cost ≡ b.cost = sym is.cost ∙ ap (λ (s : Said). s.cost) same ∙ also.cost in
     λ i. record { gap = gaps i; cost = costs i }
 
@@ -137,7 +132,8 @@ silent threads entries all line s (says e more is all_are) = s.nothing is.said i
 no_gap : (threads : List Thread) (entries all : List Entry) (line : List ℕ) → IsOfNoGap threads line → IsNext threads entries line all → ⊥
 no_gap threads entries all line n (says_none blank_line) = blank_says_nothing line blank_line n.said n.says
 no_gap threads entries all line n (says e more is all_are) =
-    none_some e.gap (gap_number threads is.said.thread is.said.instruction) (ap (λ (s : Said). gap_number threads s.thread s.instruction) (said_once line is.said n.said is.says n.says) ∙ n.no_gap) is.gap
+    let none = ap (λ (s : Said). gap_number threads s.thread s.instruction) (said_once line is.said n.said is.says n.says) ∙ n.no_gap in
+    let bad = sym none ∙ is.gap in cc
 
 repeated : (threads : List Thread) (entries all : List Entry) (line : List ℕ) → NoGapTwice all → IsRepeated threads entries line → IsNext threads entries line all → ⊥
 repeated threads entries all line once r (says_none blank_line) = no_entry threads line r.entry blank_line r.is
@@ -158,10 +154,8 @@ no_cost threads entries all line why before within r (says e more is all_are) =
     let is_cost : IsCost e.cost = subst IsCost cost (in_all.each e.gap 0 long) in
     let with_it : IsCostList (costs_of gaps (entries ++ e ∷ [])) = within_more gaps entries e below new before is_cost.0 is_cost.1 in
     let refused : first_cost_fault (costs_of gaps (entries ++ e ∷ [])) ≡ Some why = ap (λ (x : Entry). first_cost_fault (costs_of gaps (entries ++ x ∷ []))) (sym same) ∙ r.refused in
-    faultless (first_cost_fault (costs_of gaps (entries ++ e ∷ []))) why (no_fault-from_IsCostList (costs_of gaps (entries ++ e ∷ [])) with_it) refused
-  where
-    faultless : (o : Option CostFault) (why : CostFault) → o ≡ None → o ≡ Some why → ⊥
-    faultless o why is also = cc
+    let bad = sym (no_fault-from_IsCostList (costs_of gaps (entries ++ e ∷ [])) with_it) ∙ refused in
+    cc
 
 cannot_stand : (threads : List Thread) (lines : List (List ℕ)) (all : List Entry) (why : CostTextFault) → GiveCosts threads lines all → IsRefusedAt lines threads why → ⊥
 cannot_stand threads lines all why given r = by_fault why r.fault
