@@ -1,10 +1,11 @@
 -- What the readers of labels and cells read is what the grammar says.
-use Rattle.std.proofs.Common.{◌≡◌, ◌∙◌, ℕ, true, false, cond, List, [], ◌∷◌, ◌++◌, map, append_assoc, refl, sym, ap, subst, inl, inr, Option, Some, None}
+use Rattle.std.proofs.Common.{◌≡◌, ◌∙◌, ℕ, true, false, List, [], ◌∷◌, ◌++◌, map, append_assoc, refl, sym, ap, subst, inl, inr, Option, Some, None}
 use Rattle.litmus_syntax.proofs.Vocabulary.{or_cases, cond_some, same_Some, append-nil, map_push, Tok, Word, word_at, mark_at, begins_with, word_takes, mark_takes, begins_takes, begins_again}
-use Rattle.litmus_syntax.proofs.Vocabulary.{is_label, CodeView, CellView, Items, end, item, IsCode, IsLabelMark, ends_cell, IsContent, IsCell, ◌>>=◌, bind_some, by_test}
+use Rattle.litmus_syntax.proofs.Vocabulary.{is_label, CodeView, CellView, Items, end, item, IsLabelMark, ends_cell, IsContent, IsCell, ◌>>=◌}
 use Rattle.text_tokens.specs.declared.token.Mark.TheVariants as the
 use Rattle.litmus_syntax.specs.Reading.{code_at, begins_label, label_tokens_at, content_at}
 use Rattle.litmus_syntax.proofs.ItemLaws.{IsRead, Only, SoFar, only_read, none_read, one_more, refused}
+use Rattle.litmus_syntax.proofs.Options.{made, next, tested}
 use Rattle.litmus_syntax.proofs.CodeLaws.{code_takes, code_again, code_begins}
 use Rattle.text_tokens.proofs.StepLaws.{let_through as cond_parts}
 
@@ -12,11 +13,11 @@ use Rattle.text_tokens.proofs.StepLaws.{let_through as cond_parts}
 
 label_takes : (ts : List Tok) (x : List ℕ × List Tok) → label_tokens_at ts ≡ Some x → IsLabelMark x.0 ts x.1
 unfolding label_tokens_at
-label_takes ts x e =
-    let a = bind_some (word_at ts) (λ w. cond (is_label w.0) (mark_at the.Colon w.1 >>= λ rest. Some (w.0, rest)) None) x e in
-    let h = cond_parts (is_label a.0.0) (mark_at the.Colon a.0.1 >>= λ rest. Some (a.0.0, rest)) x a.2 in
-    let b = bind_some (mark_at the.Colon a.0.1) (λ rest. Some (a.0.0, rest)) x h.1 in
-    subst (λ (z : List ℕ × List Tok). IsLabelMark z.0 ts z.1) (same_Some (a.0.0, b.0) x b.2) (h.0, (a.0.1, word_takes ts a.0 a.1, mark_takes the.Colon a.0.1 b.0 b.1))
+label_takes ts =
+    let is : List ℕ × List Tok → Type 0 = λ x. IsLabelMark x.0 ts x.1 in
+    next is (word_at ts) _ (λ w a x e.
+    let h = cond_parts (is_label w.0) (mark_at the.Colon w.1 >>= λ rest. Some (w.0, rest)) x e in
+    made is (mark_at the.Colon w.1) (λ rest. (w.0, rest)) (λ rest b. (h.0, (w.1, word_takes ts w a, mark_takes the.Colon w.1 rest b))) x h.1)
 
 label_again : (l : List ℕ) (ts rest : List Tok) → IsLabelMark l ts rest → label_tokens_at ts ≡ Some (l, rest)
 unfolding label_tokens_at
@@ -35,34 +36,22 @@ no_label ts e l rest h = let bad = sym e ∙ label_begins l ts rest h in cc
 
 content_takes : (ts : List Tok) (x : Option CodeView × List Tok) → content_at ts ≡ Some x → IsContent x.0 ts x.1
 unfolding content_at
-content_takes ts x e =
-    elim (by_test (ends_cell ts) (Some (None, ts)) (code_at ts >>= λ c. cond (ends_cell c.1) (Some (Some c.0, c.1)) None) (Some x) e) [
-      | inl h ↦
-          let made : Option CodeView × List Tok = (None, ts) in
-          subst (λ (z : Option CodeView × List Tok). IsContent z.0 ts z.1) (same_Some made x h.1) (refl, h.0)
-      | inr h ↦
-          let a = bind_some (code_at ts) (λ c. cond (ends_cell c.1) (Some (Some c.0, c.1)) None) x h.1 in
-          let made : Option CodeView × List Tok = (Some a.0.0, a.0.1) in
-          let b = cond_some (ends_cell a.0.1) made x a.2 in
-          subst (λ (z : Option CodeView × List Tok). IsContent z.0 ts z.1) b.1 (code_takes ts a.0 a.1, b.0)
-    ]
+content_takes ts =
+    let is : Option CodeView × List Tok → Type 0 = λ x. IsContent x.0 ts x.1 in
+    let none : Option CodeView × List Tok = (None, ts) in
+    tested is (ends_cell ts) _ _ (λ h x e. subst is (same_Some none x e) (refl, h))
+    (λ h. next is (code_at ts) _ (λ c a x e.
+    let some : Option CodeView × List Tok = (Some c.0, c.1) in
+    let b = cond_some (ends_cell c.1) some x e in
+    subst is b.1 (code_takes ts c a, b.0)))
 
 not_over : (ts : List Tok) (w : List ℕ) (us : List Tok) → ts ≡ Word w ∷ us → ends_cell ts ≡ false
 not_over ts w us e = rw e refl
 
-code_content_again : (c : CodeView) (ts rest : List Tok) → IsCode c ts rest → ends_cell rest ≡ true → content_at ts ≡ Some (Some c, rest)
-unfolding content_at
-code_content_again c ts rest h over =
-    let b = code_begins c ts rest h over in
-    rw (not_over ts b.mnemonic b.others b.begins, code_again c ts rest h, over) refl
-
-no_content_again : (ts rest : List Tok) → ts ≡ rest → ends_cell rest ≡ true → content_at ts ≡ Some (None, rest)
-unfolding content_at
-no_content_again ts rest e over = rw (e, over) refl
-
 content_again : (c : Option CodeView) (ts rest : List Tok) → IsContent c ts rest → content_at ts ≡ Some (c, rest)
-content_again None ts rest h = no_content_again ts rest h.0 h.1
-content_again (Some c) ts rest h = code_content_again c ts rest h.0 h.1
+unfolding content_at
+content_again None ts rest h = rw (h.0, h.1) refl
+content_again (Some c) ts rest h = let b = code_begins c ts rest h.0 h.1 in rw (not_over ts b.mnemonic b.others b.begins, code_again c ts rest h.0, h.1) refl
 
 contents_are_read : IsRead IsContent content_at
 contents_are_read = record { takes = content_takes; again = content_again }
@@ -106,8 +95,8 @@ labels_over : (c : Option CodeView) (ts : List Tok) → begins_label ts ≡ fals
 labels_over c ts e ks last (end h) = (refl, h)
 labels_over c ts e ks last (item {x = l} {others = others} h i) = absurd (no_label ts e l others h)
 
-abbrev made : List (List ℕ) → Option CodeView → CellView
-made ls c = record { labels = ls; code = c }
+abbrev cell_of : List (List ℕ) → Option CodeView → CellView
+cell_of ls c = record { labels = ls; code = c }
 
 pub cell_is_read : (ts : List Tok) (ls : List (List ℕ)) (rest : List Tok) (c : Option CodeView) (last : List Tok) → LabelsSoFar ts ls rest → begins_label rest ≡ false → content_at rest ≡ Some (c, last)
     → Only IsCell (record { labels = ls; code = c }) ts last
@@ -118,7 +107,7 @@ cell_is_read ts ls rest c last s begins is = (
       let o = labels_over d.code rest begins b.0 other b.2 in
       let only = (only_read IsContent content_at contents_are_read rest (c, last) is).1 d.code other o.1 in
       let labels : d.labels ≡ ls = b.1 ∙ ap (λ (z : List (List ℕ)). ls ++ z) o.0 ∙ append-nil ls in
-      (ap (λ (z : List (List ℕ)). made z d.code) labels ∙ ap (made ls) only.0, only.1),
+      (ap (λ (z : List (List ℕ)). cell_of z d.code) labels ∙ ap (cell_of ls) only.0, only.1),
 )
 
 -- the labels of a cell with one more

@@ -1,16 +1,16 @@
 -- What the reader of endings reads is what the grammar says.
-use Rattle.std.proofs.Common.{◌≡◌, ◌∙◌, ℕ, cond, List, [], codes, refl, ap, subst, inl, inr, Option, Some, None}
+use Rattle.std.proofs.Common.{◌≡◌, ◌∙◌, ℕ, List, [], codes, refl, ap, subst, Option, Some, None}
 use Rattle.std.specs.Prelude.{Err, MatchOption}
-use Rattle.litmus_syntax.proofs.Vocabulary.{Tok, mark_at, begins_with, mark_takes, SyntaxFault, Refused, OutOfMemory, PlaceView, SignView, EndingView, begins_with_word, ◌>>=◌, bind_some, by_test}
-use Rattle.litmus_syntax.proofs.Vocabulary.{same_Some}
+use Rattle.litmus_syntax.proofs.Vocabulary.{Tok, mark_at, begins_with, mark_takes, SyntaxFault, Refused, OutOfMemory, PlaceView, SignView, EndingView, begins_with_word}
 use Rattle.text_tokens.specs.declared.token.Mark.TheVariants as the
 use Rattle.conditions.specs.declared.condition.Quantifier.{Quantifier}
 use Rattle.conditions.specs.declared.condition.Quantifier.TheVariants.{Exists, NotExists, Forall}
 use Rattle.litmus_syntax.specs.declared.fault.Refusal.{Refusal}
 use Rattle.litmus_syntax.specs.Grammar.{IsObserved, IsQuantifier, IsSigns, IsEnding}
 use Rattle.litmus_syntax.specs.Exact.{ReadsNone, NoEnding, ReadsEnding}
-use Rattle.litmus_syntax.specs.Reading.{keyword_at, not_exists_at, forall_at, exists_at, quantifier_at}
+use Rattle.litmus_syntax.specs.Reading.{keyword_at, quantifier_at}
 use Rattle.litmus_syntax.proofs.ItemLaws.{IsRead, Only, only_read, none_read}
+use Rattle.litmus_syntax.proofs.Options.{made, next, tested}
 use Rattle.litmus_syntax.proofs.WordLaws.{keyword_takes}
 
 -- ---- quantifiers
@@ -23,21 +23,13 @@ Quantifies ts x = IsQuantifier x.0 ts x.1
 
 quantifier_takes : (ts : List Tok) (x : QuantifierAndRest) → quantifier_at ts ≡ Some x → Quantifies ts x
 unfolding quantifier_at
-quantifier_takes ts x e =
-    elim (by_test (begins_with the.Tilde ts) (not_exists_at ts) (cond (begins_with_word (codes "forall") ts) (forall_at ts) (exists_at ts)) (Some x) e) [
-      | inl h ↦
-          let a = bind_some (mark_at the.Tilde ts) (λ rest. keyword_at (codes "exists") rest >>= λ others. Some (NotExists, others)) x h.1 in
-          let b = bind_some (keyword_at (codes "exists") a.0) (λ others. Some (NotExists, others)) x a.2 in
-          subst (Quantifies ts) (same_Some (NotExists, b.0) x b.2) (a.0, mark_takes the.Tilde ts a.0 a.1, keyword_takes (codes "exists") a.0 b.0 b.1)
-      | inr h ↦ elim (by_test (begins_with_word (codes "forall") ts) (forall_at ts) (exists_at ts) (Some x) h.1) [
-        | inl g ↦
-            let a = bind_some (keyword_at (codes "forall") ts) (λ rest. Some (Forall, rest)) x g.1 in
-            subst (Quantifies ts) (same_Some (Forall, a.0) x a.2) (keyword_takes (codes "forall") ts a.0 a.1)
-        | inr g ↦
-            let a = bind_some (keyword_at (codes "exists") ts) (λ rest. Some (Exists, rest)) x g.1 in
-            subst (Quantifies ts) (same_Some (Exists, a.0) x a.2) (keyword_takes (codes "exists") ts a.0 a.1)
-      ]
-    ]
+quantifier_takes ts =
+    tested (Quantifies ts) (begins_with the.Tilde ts) _ _
+    (λ h. next (Quantifies ts) (mark_at the.Tilde ts) _ (λ us a.
+    made (Quantifies ts) (keyword_at (codes "exists") us) (λ rest. (NotExists, rest)) (λ rest b. (us, mark_takes the.Tilde ts us a, keyword_takes (codes "exists") us rest b))))
+    (λ h.
+    tested (Quantifies ts) (begins_with_word (codes "forall") ts) _ _ (λ g. made (Quantifies ts) (keyword_at (codes "forall") ts) (λ rest. (Forall, rest)) (keyword_takes (codes "forall") ts))
+    (λ g. made (Quantifies ts) (keyword_at (codes "exists") ts) (λ rest. (Exists, rest)) (keyword_takes (codes "exists") ts)))
 
 quantifier_again : (q : Quantifier) (ts rest : List Tok) → IsQuantifier q ts rest → quantifier_at ts ≡ Some (q, rest)
 unfolding quantifier_at

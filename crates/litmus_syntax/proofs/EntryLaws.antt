@@ -1,11 +1,14 @@
 -- What the reader of initial values reads is what the grammar says.
 use Rattle.std.proofs.Common.{◌≡◌, ◌∙◌, ◌||◌, ◌++◌, ap, map, not, Bool, ℕ, true, false, List, [], ◌∷◌, refl, sym, subst, Some, None}
-use Rattle.litmus_syntax.proofs.Vocabulary.{list_any, map_push, map-append, list_any-append, Tok, mark_at, begins_with, rest_of, mark_takes, mark_again, begins_again, PlaceView, EntryView, ◌▸◌, mark}
-use Rattle.litmus_syntax.proofs.Vocabulary.{number, Items, end, item, Seen, same_place, has, ◌>>=◌, bind_some, same_Some}
+use Rattle.litmus_syntax.proofs.Vocabulary.{list_any, map_push, map-append, list_any-append, Tok, mark_at, begins_with, rest_of, mark_takes, PlaceView, EntryView, ◌▸◌, mark}
+use Rattle.litmus_syntax.proofs.Vocabulary.{number, Items, end, item, Seen, same_place, has, same_Some}
 use Rattle.text_tokens.specs.declared.token.Mark.TheVariants as the
 use Rattle.litmus_syntax.specs.Grammar.{IsEntryItem, separator, place_of_entry, NoneTwice, IsInitial}
 use Rattle.litmus_syntax.specs.Reading.{separator_at, place_at, equals_value_at, entry_value_at, entry_at}
 use Rattle.litmus_syntax.proofs.ItemLaws.{IsRead, Only, SoFar, only_read, none_read, none_behind, one_more, refused, closed}
+use Rattle.std.proofs.Math.Bool.{or-false}
+use Rattle.std.proofs.lemmas.Bool.{not-true, not-false}
+use Rattle.litmus_syntax.proofs.Options.{made, next, not_first}
 use Rattle.litmus_syntax.proofs.Repetitions.{fresh, twice}
 use Rattle.litmus_syntax.proofs.SeenLaws.{same_place_is, same_place_itself}
 use Rattle.litmus_syntax.proofs.WordLaws.{separator_takes, separator_again}
@@ -17,10 +20,9 @@ EntryValue n = (mark the.Equals ▸ number n) ▸ separator the.CloseBrace
 
 entry_value_takes : (ts : List Tok) (x : ℕ × List Tok) → entry_value_at ts ≡ Some x → EntryValue x.0 ts x.1
 unfolding entry_value_at
-entry_value_takes ts x e =
-    let a = bind_some (equals_value_at ts) (λ n. separator_at the.CloseBrace n.1 >>= λ rest. Some (n.0, rest)) x e in
-    let b = bind_some (separator_at the.CloseBrace a.0.1) (λ rest. Some (a.0.0, rest)) x a.2 in
-    subst (λ (z : ℕ × List Tok). EntryValue z.0 ts z.1) (same_Some (a.0.0, b.0) x b.2) (a.0.1, value_takes ts a.0 a.1, separator_takes the.CloseBrace a.0.1 b.0 b.1)
+entry_value_takes ts =
+    let is : ℕ × List Tok → Type 0 = λ x. EntryValue x.0 ts x.1 in
+    next is (equals_value_at ts) _ (λ n a. made is (separator_at the.CloseBrace n.1) (λ rest. (n.0, rest)) (λ rest b. (n.1, value_takes ts n a, separator_takes the.CloseBrace n.1 rest b)))
 
 entry_value_again : (n : ℕ) (ts rest : List Tok) → EntryValue n ts rest → entry_value_at ts ≡ Some (n, rest)
 unfolding entry_value_at
@@ -28,12 +30,10 @@ entry_value_again n ts rest h = rw (value_again n ts h.0 h.1, separator_again th
 
 item_takes : (ts : List Tok) (x : EntryView × List Tok) → entry_at ts ≡ Some x → IsEntryItem x.0 ts x.1
 unfolding entry_at
-item_takes ts x e =
-    let a = bind_some (place_at ts) (λ p. entry_value_at p.1 >>= λ n. Some (record { place = p.0; value = n.0 }, n.1)) x e in
-    let b = bind_some (entry_value_at a.0.1) (λ n. Some (record { place = a.0.0; value = n.0 }, n.1)) x a.2 in
-    let v = entry_value_takes a.0.1 b.0 b.1 in
-    let made : EntryView × List Tok = (record { place = a.0.0; value = b.0.0 }, b.0.1) in
-    subst (λ (z : EntryView × List Tok). IsEntryItem z.0 ts z.1) (same_Some made x b.2) (v.0, (a.0.1, place_takes ts a.0 a.1, v.1), v.2)
+item_takes ts =
+    let is : EntryView × List Tok → Type 0 = λ x. IsEntryItem x.0 ts x.1 in
+    next is (place_at ts) _ (λ p a. made is (entry_value_at p.1) (λ n. (record { place = p.0; value = n.0 }, n.1)) (λ n b.
+    let v = entry_value_takes p.1 n b in (v.0, (p.1, place_takes ts p a, v.1), v.2)))
 
 item_again : (e : EntryView) (ts rest : List Tok) → IsEntryItem e ts rest → entry_at ts ≡ Some (e, rest)
 unfolding entry_at
@@ -50,10 +50,6 @@ begins_with_place e ts rest h p is = ap (λ (x : PlaceView × List Tok). x.0) (s
 pub no_entry : (ts rest : List Tok) → mark the.CloseBrace ts rest → (e : EntryView) (other : List Tok) → IsEntryItem e ts other → ⊥
 unfolding entry_at place_at
 no_entry ts rest is e other h = let bad = sym (ap entry_at is) ∙ item_again e ts other h in absurd cc
-
--- where no `}` comes next there is no end
-pub open_yet : (ts : List Tok) → begins_with the.CloseBrace ts ≡ false → (last : List Tok) → mark the.CloseBrace ts last → ⊥
-open_yet ts e last h = let bad = sym e ∙ begins_again the.CloseBrace ts last h in cc
 
 -- ---- entries
 
@@ -75,9 +71,6 @@ no_entry_yet ts rest seen e empty =
       places = empty;
     }
 
-pub no_brace : (ts : List Tok) → mark_at the.OpenBrace ts ≡ None → (es : List EntryView) (last : List Tok) → IsInitial es ts last → ⊥
-no_brace ts e es last h = let bad = sym e ∙ mark_again the.OpenBrace ts h.0.0 h.0.1 in cc
-
 -- a place and a value are an entry
 whole_entry : (ts after others : List Tok) (p : PlaceView) (n : ℕ) → place_at ts ≡ Some (p, after) → entry_value_at after ≡ Some (n, others) → entry_at ts ≡ Some (record { place = p; value = n }, others)
 unfolding entry_at
@@ -91,23 +84,11 @@ no_value : (ts after : List Tok) (p : PlaceView) → place_at ts ≡ Some (p, af
 unfolding entry_at
 no_value ts after p e f = rw (e, f) refl
 
-pub not_back : (b : Bool) → true ≡ not b → b ≡ false
-not_back true e = absurd cc
-not_back false e = refl
-
-pub not_true_back : (b : Bool) → false ≡ not b → b ≡ true
-not_true_back true e = refl
-not_true_back false e = absurd cc
-
-or_none : (a b : Bool) → (a || b) ≡ (a || (b || false))
-or_none a true = refl
-or_none a false = refl
-
 added_place : (es : List EntryView) (e : EntryView) (old new : Seen) → ((p : PlaceView) → has old p ≡ list_any (same_place p) (map place_of_entry es)) → ((p : PlaceView) → has new p ≡ (has old p || same_place p e.place))
     → (p : PlaceView) → has new p ≡ list_any (same_place p) (map place_of_entry (es ++ e ∷ []))
 added_place es e old new s a p =
     let ps = map place_of_entry es in
-    a p ∙ ap (λ (b : Bool). b || same_place p e.place) (s p) ∙ or_none (list_any (same_place p) ps) (same_place p e.place) ∙ sym (list_any-append (same_place p) ps (e.place ∷ []))
+    a p ∙ ap (λ (b : Bool). b || same_place p e.place) (s p) ∙ ap (λ (b : Bool). list_any (same_place p) ps || b) (sym (or-false (same_place p e.place))) ∙ sym (list_any-append (same_place p) ps (e.place ∷ []))
     ∙ ap (list_any (same_place p)) (sym (map_push place_of_entry es e))
 
 pub one_more_entry : (ts : List Tok) (es : List EntryView) (rest : List Tok) (old new : Seen) (p : PlaceView) (n : ℕ) (after others : List Tok) → EntriesSoFar ts es rest old → begins_with the.CloseBrace rest ≡ false
@@ -117,14 +98,14 @@ one_more_entry ts es rest old new p n after others s apart is new_place added va
     let e : EntryView = record { place = p; value = n } in
     let only = only_read IsEntryItem entry_at entries_are_read rest (e, others) (whole_entry rest after others p n is value) in
     record {
-      items = one_more IsEntryItem (mark the.CloseBrace) (Inside ts) es rest e others s.items (open_yet rest apart) only;
-      once = rw (map_push place_of_entry es e) (fresh same_place same_place_is same_place_itself (map place_of_entry es) p s.once (sym (s.places p) ∙ not_back (has old p) new_place));
+      items = one_more IsEntryItem (mark the.CloseBrace) (Inside ts) es rest e others s.items (not_first the.CloseBrace rest apart) only;
+      once = rw (map_push place_of_entry es e) (fresh same_place same_place_is same_place_itself (map place_of_entry es) p s.once (sym (s.places p) ∙ not-true (has old p) (sym new_place)));
       places = added_place es e old new s.places added;
     }
 
 first_place : (ts : List Tok) (p : PlaceView) (after : List Tok) → begins_with the.CloseBrace ts ≡ false → place_at ts ≡ Some (p, after) → (es : List EntryView) (last : List Tok) → Items IsEntryItem (mark the.CloseBrace) es ts last
     → (fs : List PlaceView) × (map place_of_entry es ≡ p ∷ fs)
-first_place ts p after apart is es last (end e) = absurd (open_yet ts apart last e)
+first_place ts p after apart is es last (end e) = absurd (not_first the.CloseBrace ts apart last e)
 first_place ts p after apart is es last (item {x = x} {xs = xs} {others = others} h l) =
     (map place_of_entry xs, ap (λ (z : PlaceView). z ∷ map place_of_entry xs) (begins_with_place x ts others h (p, after) is))
 
@@ -134,12 +115,12 @@ place_again_stands ts es rest seen p after s apart is old fs last h =
     let b = s.items.back fs last h.0 in
     let first = first_place rest p after apart is b.0 last b.2 in
     let parts : map place_of_entry fs ≡ map place_of_entry es ++ p ∷ first.0 = ap (map place_of_entry) b.1 ∙ map-append place_of_entry es b.0 ∙ ap (λ (z : List PlaceView). map place_of_entry es ++ z) first.1 in
-    twice same_place same_place_is same_place_itself (map place_of_entry es) first.0 p (sym (s.places p) ∙ not_true_back (has seen p) old) (subst NoneTwice parts h.1)
+    twice same_place same_place_is same_place_itself (map place_of_entry es) first.0 p (sym (s.places p) ∙ not-false (has seen p) (sym old)) (subst NoneTwice parts h.1)
 
 entries_stop : (ts : List Tok) (es : List EntryView) (rest : List Tok) (seen : Seen) → EntriesSoFar ts es rest seen → begins_with the.CloseBrace rest ≡ false → entry_at rest ≡ None
     → (fs : List EntryView) (last : List Tok) → IsInitial fs ts last → ⊥
 entries_stop ts es rest seen s apart none fs last h =
-    refused IsEntryItem (mark the.CloseBrace) (Inside ts) es rest s.items (open_yet rest apart) (none_read IsEntryItem entry_at entries_are_read rest none) fs last h.0
+    refused IsEntryItem (mark the.CloseBrace) (Inside ts) es rest s.items (not_first the.CloseBrace rest apart) (none_read IsEntryItem entry_at entries_are_read rest none) fs last h.0
 
 pub no_place_stands : (ts : List Tok) (es : List EntryView) (rest : List Tok) (seen : Seen) → EntriesSoFar ts es rest seen → begins_with the.CloseBrace rest ≡ false → place_at rest ≡ None
     → (fs : List EntryView) (last : List Tok) → IsInitial fs ts last → ⊥

@@ -1,26 +1,24 @@
 -- What the reader of the header row reads is what the grammar says.
-use Rattle.std.proofs.Common.{◌≡◌, ◌∙◌, ◌+◌, ℕ, true, false, cond, List, ◌∷◌, refl, sym, ap, subst, Some, None}
+use Rattle.std.proofs.Common.{◌≡◌, ◌∙◌, ◌+◌, ℕ, false, List, ◌∷◌, refl, sym, ap, subst, Some, None}
 use Rattle.litmus_syntax.proofs.Vocabulary.{bytes_eq, cond_some, bytes_eq-Decides, Tok, Word, Sign, word_at, mark_at, begins_with, rest_of, word_takes, mark_takes, mark_again, begins_again}
-use Rattle.litmus_syntax.proofs.Vocabulary.{column_name, ReadsNone, SyntaxFault, Refused, OutOfMemory, bind_some}
+use Rattle.litmus_syntax.proofs.Vocabulary.{column_name, ReadsNone, SyntaxFault, Refused, OutOfMemory}
 use Rattle.text_tokens.specs.declared.token.Mark.TheVariants as the
 use Rattle.litmus_syntax.specs.Grammar.{MoreColumns, last, column, IsHeader}
-use Rattle.text_tokens.specs.Steps.{◌>>=◌, Fails}
+use Rattle.text_tokens.specs.Steps.{Fails}
 use Rattle.litmus_syntax.specs.Reading.{column_at, fails_for_memory}
+use Rattle.litmus_syntax.proofs.Options.{next}
 use Rattle.litmus_syntax.proofs.ItemLaws.{Only}
 
 column_takes : (k : ℕ) (ts rest : List Tok) → column_at k ts ≡ Some rest → ts ≡ Word (column_name k) ∷ rest
 unfolding column_at
-column_takes k ts rest e =
-    let a = bind_some (word_at ts) (λ w. cond (bytes_eq w.0 (column_name k)) (Some w.1) None) rest e in
-    let b = cond_some (bytes_eq a.0.0 (column_name k)) a.0.1 rest a.2 in
-    word_takes ts a.0 a.1 ∙ ap (λ (z : List ℕ). Word z ∷ a.0.1) ((bytes_eq-Decides a.0.0 (column_name k)).0 b.0) ∙ ap (λ (z : List Tok). Word (column_name k) ∷ z) b.1
-
-same_name : (w v : List ℕ) (rest : List Tok) → bytes_eq w v ≡ true → (word_at (Word w ∷ rest) >>= λ x. cond (bytes_eq x.0 v) (Some x.1) None) ≡ Some rest
-same_name w v rest e = rw e refl
+column_takes k ts =
+    next (λ rest. ts ≡ Word (column_name k) ∷ rest) (word_at ts) _ (λ w a rest e.
+    let b = cond_some (bytes_eq w.0 (column_name k)) w.1 rest e in
+    word_takes ts w a ∙ ap (λ (z : List ℕ). Word z ∷ w.1) ((bytes_eq-Decides w.0 (column_name k)).0 b.0) ∙ ap (λ (z : List Tok). Word (column_name k) ∷ z) b.1)
 
 column_again : (k : ℕ) (ts rest : List Tok) → ts ≡ Word (column_name k) ∷ rest → column_at k ts ≡ Some rest
 unfolding column_at
-column_again k ts rest e = rw e (same_name (column_name k) (column_name k) rest ((bytes_eq-Decides (column_name k) (column_name k)).1 refl))
+column_again k ts rest e = rw (e, (bytes_eq-Decides (column_name k) (column_name k)).1 refl) refl
 
 -- the columns so far are those before number k
 pub record ColumnsSoFar (ts : List Tok) (k : ℕ) (rest : List Tok) : Type 0 where
@@ -35,12 +33,9 @@ first_column ts rest e =
       back = λ n end a. subst (λ (z : List Tok). MoreColumns 1 n z end) (ap rest_of (sym a.1 ∙ is)) a.2;
     }
 
-no_first_column : (ts : List Tok) → column_at 0 ts ≡ None → (threads : ℕ) (end : List Tok) → IsHeader threads ts end → ⊥
-no_first_column ts e threads end h = let bad = sym e ∙ column_again 0 ts h.0 h.1 in cc
-
 pub first_stops : (ts : List Tok) (f : SyntaxFault) → Fails fails_for_memory f (column_at 0 ts) → ReadsNone IsHeader f ts
 first_stops ts OutOfMemory e = tt
-first_stops ts (Refused r) e = no_first_column ts e
+first_stops ts (Refused r) e = λ threads end h. let bad = sym e ∙ column_again 0 ts h.0 h.1 in cc
 
 one_back : (k n : ℕ) (ts after rest end : List Tok) → ts ≡ Sign the.Bar ∷ after → after ≡ Word (column_name k) ∷ rest → MoreColumns k n ts end → MoreColumns (k + 1) n rest end
 one_back k n ts after rest end b c (last e h) = let bad = sym b ∙ h in absurd cc
@@ -64,13 +59,9 @@ not_a_column k n ts after end b none (column {others = others} h l) =
     let first : h.0 ≡ after = ap rest_of (sym h.1 ∙ b) in
     let bad = sym none ∙ column_again k after others (sym first ∙ h.2) in cc
 
-no_next_column : (ts : List Tok) (k : ℕ) (rest after : List Tok) → ColumnsSoFar ts k rest → mark_at the.Bar rest ≡ Some after → column_at k after ≡ None
-    → (threads : ℕ) (end : List Tok) → IsHeader threads ts end → ⊥
-no_next_column ts k rest after s b none threads end h = not_a_column k threads rest after end (mark_takes the.Bar rest after b) none (s.back threads end h)
-
 pub next_stops : (ts : List Tok) (k : ℕ) (rest after : List Tok) (f : SyntaxFault) → ColumnsSoFar ts k rest → mark_at the.Bar rest ≡ Some after → Fails fails_for_memory f (column_at k after) → ReadsNone IsHeader f ts
 next_stops ts k rest after OutOfMemory s b e = tt
-next_stops ts k rest after (Refused r) s b e = no_next_column ts k rest after s b e
+next_stops ts k rest after (Refused r) s b e = λ threads end h. not_a_column k threads rest after end (mark_takes the.Bar rest after b) e (s.back threads end h)
 
 no_end : (k n : ℕ) (ts end : List Tok) → begins_with the.Bar ts ≡ false → mark_at the.Semicolon ts ≡ None → MoreColumns k n ts end → ⊥
 no_end k n ts end e none (last is h) = let bad = sym none ∙ mark_again the.Semicolon ts end h in cc

@@ -1,12 +1,10 @@
 -- Labels that stand in their thread already.
-use Rattle.std.proofs.Common.{◌≡◌, ◌∙◌, ◌+◌, ◌<◌, ◌==◌, ◌&&◌, ℕ, Bool, true, false, cond, append_assoc, List, [], ◌∷◌, ◌++◌, map, length, take, drop, get_or, refl, sym, ap, subst, arith}
+use Rattle.std.proofs.Common.{◌≡◌, ◌∙◌, ◌+◌, ◌<◌, ◌==◌, ◌&&◌, ℕ, Bool, true, false, append_assoc, List, [], ◌∷◌, ◌++◌, map, length, take, drop, get_or, refl, sym, ap, subst}
 use Rattle.std.proofs.lemmas.List.{take_more, map_push, map-append, take-append-drop}
-use Rattle.litmus_syntax.proofs.Vocabulary.{list_any, bytes_eq, Vec, eqb-true, nat_tests, bytes_eq-Decides, label_view, NoneTwice}
+use Rattle.litmus_syntax.proofs.Vocabulary.{list_any, bytes_eq, Vec, eqb-true, bytes_eq-Decides, label_view, NoneTwice}
 use Rattle.litmus_syntax.specs.declared.label.LabelAt.{LabelAt}
 use Rattle.litmus_syntax.proofs.Repetitions.{fresh, twice}
-use Rattle.std.proofs.lemmas.Bool.{and_parts as both}
-pub use Rattle.litmus_syntax.proofs.EntryLaws.{not_true_back as not_false}
-pub use Rattle.litmus_syntax.proofs.EntryLaws.{not_back as not_true}
+use Rattle.std.proofs.lemmas.Bool.{and_parts as both, eq-eqb}
 
 abbrev same_label : ℕ × List ℕ → ℕ × List ℕ → Bool
 same_label a b = a.0 == b.0 && bytes_eq a.1 b.1
@@ -20,11 +18,8 @@ same_label_is a b e =
     let h = both (a.0 == b.0) (bytes_eq a.1 b.1) e in
     ap (λ (t : ℕ). label_of t a.1) (eqb-true a.0 b.0 h.0) ∙ ap (label_of b.0) ((bytes_eq-Decides a.1 b.1).0 h.1)
 
-itself : (n : ℕ) → (n == n) ≡ true
-itself n = grind (arith, nat_tests)
-
 same_label_itself : (a : ℕ × List ℕ) → same_label a a ≡ true
-same_label_itself a = rw (itself a.0) ((bytes_eq-Decides a.1 a.1).1 refl)
+same_label_itself a = rw (eq-eqb a.0 a.0 refl) ((bytes_eq-Decides a.1 a.1).1 refl)
 
 -- what a key of the set stands for
 abbrev pub key_view : ℕ × Vec ℕ → ℕ × List ℕ
@@ -70,7 +65,3 @@ next_label labels i d own keys new s lt is apart added =
       known = ap (map key_view) added ∙ map_push key_view keys key ∙ ap (λ (z : List (ℕ × List ℕ)). z ++ (l.thread, own.items) ∷ []) s.known ∙ ap (λ (z : List ℕ). views (take i labels) ++ (l.thread, z) ∷ []) is ∙ sym (views_more labels i d lt);
       once = subst NoneTwice (sym (views_more labels i d lt)) (fresh same_label same_label_is same_label_itself (views (take i labels)) (label_view l) s.once (label_known labels i l.thread own.items l.name.now keys s is ∙ apart));
     }
-
-pub chosen_second : {A : Type 0} (b : Bool) (x y z : A) → b ≡ false → z ≡ cond b x y → z ≡ y
-chosen_second true x y z e h = absurd cc
-chosen_second false x y z e h = h

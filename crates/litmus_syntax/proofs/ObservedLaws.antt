@@ -1,11 +1,11 @@
 -- What the reader of observed places reads is what the grammar says.
 use Rattle.std.proofs.Common.{◌≡◌, ◌∙◌, ℕ, true, false, List, [], ◌∷◌, ◌++◌, codes, refl, sym, ap, subst, inl, inr, Some, None}
-use Rattle.litmus_syntax.proofs.Vocabulary.{Tok, mark_at, begins_with, rest_of, mark_takes, mark_again, begins_again, PlaceView, Location, Register, ◌▸◌, mark, word, begins_with_word, Items, ◌>>=◌}
-use Rattle.litmus_syntax.proofs.Vocabulary.{bind_some, same_Some}
+use Rattle.litmus_syntax.proofs.Vocabulary.{Tok, mark_at, begins_with, rest_of, mark_takes, mark_again, PlaceView, Location, Register, ◌▸◌, mark, word, begins_with_word, Items}
 use Rattle.text_tokens.specs.declared.token.Mark.TheVariants as the
 use Rattle.litmus_syntax.specs.Grammar.{IsPlace, IsObservedItem, IsObserved}
 use Rattle.litmus_syntax.specs.Reading.{place_among_at, keyword_at, separator_at, observed_begin_at, observed_item_at}
 use Rattle.litmus_syntax.proofs.ItemLaws.{IsRead, Only, SoFar, only_read, none_read, one_more, refused, closed}
+use Rattle.litmus_syntax.proofs.Options.{made, next, not_first}
 use Rattle.litmus_syntax.proofs.WordLaws.{begins_word_again, keyword_takes, keyword_again, separator_takes, separator_again}
 use Rattle.litmus_syntax.proofs.PlaceLaws.{place_among_takes, place_among_again}
 
@@ -15,9 +15,7 @@ Begin = word (codes "locations") ▸ mark the.OpenBracket
 
 begin_takes : (ts rest : List Tok) → observed_begin_at ts ≡ Some rest → Begin ts rest
 unfolding observed_begin_at
-begin_takes ts rest e =
-    let a = bind_some (keyword_at (codes "locations") ts) (λ us. mark_at the.OpenBracket us) rest e in
-    (a.0, keyword_takes (codes "locations") ts a.0 a.1, mark_takes the.OpenBracket a.0 rest a.2)
+begin_takes ts = next (Begin ts) (keyword_at (codes "locations") ts) _ (λ us a rest b. (us, keyword_takes (codes "locations") ts us a, mark_takes the.OpenBracket us rest b))
 
 begin_again : (ts rest : List Tok) → Begin ts rest → observed_begin_at ts ≡ Some rest
 unfolding observed_begin_at
@@ -25,11 +23,10 @@ begin_again ts rest h = rw (keyword_again (codes "locations") ts h.0 h.1) (mark_
 
 item_takes : (threads : ℕ) (ts : List Tok) (x : PlaceView × List Tok) → observed_item_at threads ts ≡ Some x → IsObservedItem threads x.0 ts x.1
 unfolding observed_item_at
-item_takes threads ts x e =
-    let a = bind_some (place_among_at threads ts) (λ p. separator_at the.CloseBracket p.1 >>= λ rest. Some (p.0, rest)) x e in
-    let b = bind_some (separator_at the.CloseBracket a.0.1) (λ rest. Some (a.0.0, rest)) x a.2 in
-    let p = place_among_takes threads ts a.0 a.1 in
-    subst (λ (z : PlaceView × List Tok). IsObservedItem threads z.0 ts z.1) (same_Some (a.0.0, b.0) x b.2) (p.0, (a.0.1, p.1, separator_takes the.CloseBracket a.0.1 b.0 b.1))
+item_takes threads ts =
+    let is : PlaceView × List Tok → Type 0 = λ x. IsObservedItem threads x.0 ts x.1 in
+    next is (place_among_at threads ts) _ (λ p a. made is (separator_at the.CloseBracket p.1) (λ rest. (p.0, rest)) (λ rest b.
+    let there = place_among_takes threads ts p a in (there.0, (p.1, there.1, separator_takes the.CloseBracket p.1 rest b))))
 
 item_again : (threads : ℕ) (p : PlaceView) (ts rest : List Tok) → IsObservedItem threads p ts rest → observed_item_at threads ts ≡ Some (p, rest)
 unfolding observed_item_at
@@ -43,9 +40,6 @@ no_place : (p : PlaceView) (ts rest last : List Tok) → mark the.CloseBracket t
 no_place (Location x) ts rest last is (inl h) = let bad = sym is ∙ h.1 in cc
 no_place (Location x) ts rest last is (inr h) = let bad = sym is ∙ h.1 in cc
 no_place (Register t r) ts rest last is h = let bad = sym is ∙ h.1 in cc
-
-open_yet : (ts : List Tok) → begins_with the.CloseBracket ts ≡ false → (last : List Tok) → mark the.CloseBracket ts last → ⊥
-open_yet ts e last h = let bad = sym e ∙ begins_again the.CloseBracket ts last h in cc
 
 -- ---- places in brackets
 
@@ -72,13 +66,13 @@ no_begin threads ts e none ps last (inr h) = let bad = sym e ∙ h.1.1 in cc
 pub next_observed : (threads : ℕ) (ts : List Tok) (ps : List PlaceView) (rest : List Tok) (p : PlaceView) (others : List Tok) → ObservedSoFar threads ts ps rest → begins_with the.CloseBracket rest ≡ false
     → observed_item_at threads rest ≡ Some (p, others) → ObservedSoFar threads ts (ps ++ p ∷ []) others
 next_observed threads ts ps rest p others s e is =
-    one_more (IsObservedItem threads) (mark the.CloseBracket) (λ qs last. IsObserved threads qs ts last) ps rest p others s (open_yet rest e)
+    one_more (IsObservedItem threads) (mark the.CloseBracket) (λ qs last. IsObserved threads qs ts last) ps rest p others s (not_first the.CloseBracket rest e)
     (only_read (IsObservedItem threads) (observed_item_at threads) (items_are_read threads) rest (p, others) is)
 
 pub observed_stops : (threads : ℕ) (ts : List Tok) (ps : List PlaceView) (rest : List Tok) → ObservedSoFar threads ts ps rest → begins_with the.CloseBracket rest ≡ false → observed_item_at threads rest ≡ None
     → (qs : List PlaceView) (last : List Tok) → IsObserved threads qs ts last → ⊥
 observed_stops threads ts ps rest s e none qs last h =
-    refused (IsObservedItem threads) (mark the.CloseBracket) (λ rs o. IsObserved threads rs ts o) ps rest s (open_yet rest e)
+    refused (IsObservedItem threads) (mark the.CloseBracket) (λ rs o. IsObserved threads rs ts o) ps rest s (not_first the.CloseBracket rest e)
     (none_read (IsObservedItem threads) (observed_item_at threads) (items_are_read threads) rest none) qs last h
 
 pub observed_ends : (threads : ℕ) (ts : List Tok) (ps : List PlaceView) (rest last : List Tok) → ObservedSoFar threads ts ps rest → mark_at the.CloseBracket rest ≡ Some last → Only (IsObserved threads) ps ts last

@@ -5,9 +5,10 @@ use Rattle.litmus_syntax.proofs.Vocabulary.{bytes_eq, or_cases, append-nil, byte
 use Rattle.litmus_syntax.proofs.Vocabulary.{is_label, mnemonic_of, CodeView, CellView, mark, Items, end, item, SyntaxFault, Refused, OutOfMemory}
 use Rattle.text_tokens.specs.declared.token.Mark.TheVariants as the
 use Rattle.text_tokens.specs.Marks.{same_mark}
-use Rattle.text_tokens.proofs.PartLaws.{mark_takes, mark_again, begins_takes, begins_again, same_mark_is}
+use Rattle.text_tokens.proofs.PartLaws.{mark_takes, begins_takes, same_mark_is}
 use Rattle.litmus_syntax.specs.Grammar.{IsLabelMark, ends_cell, IsContent, IsCell, IsNextCell, IsCells, IsRow, IsRowList, ends_rows, before_ending, cell_labels, labels_from, row_labels, labels_in_rows}
 use Rattle.litmus_syntax.specs.Exact.{ReadsNone, Reads}
+use Rattle.litmus_syntax.proofs.Options.{not_first, not_taken}
 use Rattle.litmus_syntax.proofs.ItemLaws.{Only, SoFar, none_yet, one_more, closed, refused}
 use Rattle.litmus_syntax.proofs.CodeLaws.{mnemonic_for, code_begins}
 
@@ -25,9 +26,6 @@ no_cell_behind ts us (Refused r) e none = λ c rest g. none c rest (subst (λ (z
 pub cell_behind : {X : Type 0} (view : X → CellView) (after : X → List Tok) (r : Result X SyntaxFault) (ts us : List Tok) → mark_at the.Bar ts ≡ Some us → Reads IsCell view after r us → Reads IsNextCell view after r ts
 cell_behind view after (Ok x) ts us e h = next_cell ts us (view x) (after x) e h
 cell_behind view after (Err f) ts us e h = no_cell_behind ts us f e h
-
-pub no_bar : (ts : List Tok) → mark_at the.Bar ts ≡ None → (c : CellView) (rest : List Tok) → IsNextCell c ts rest → ⊥
-no_bar ts e c rest h = let bad = sym e ∙ mark_again the.Bar ts h.0 h.1 in cc
 
 -- ---- a row
 
@@ -59,7 +57,7 @@ row_goes_on : (ts : List Tok) → begins_with the.Bar ts ≡ true → (last : Li
 row_goes_on ts e last h = let bad = sym (begins_takes the.Bar ts e) ∙ h in cc
 
 no_next_cell : (ts : List Tok) → begins_with the.Bar ts ≡ false → (c : CellView) (rest : List Tok) → IsNextCell c ts rest → ⊥
-no_next_cell ts e c rest h = let bad = sym e ∙ begins_again the.Bar ts h.0 h.1 in cc
+no_next_cell ts e c rest h = not_first the.Bar ts e h.0 h.1
 
 pub next_read : (ts : List Tok) (cs : List CellView) (rest : List Tok) (c : CellView) (others : List Tok) → CellsSoFar ts cs rest → begins_with the.Bar rest ≡ true → Only IsNextCell c rest others
     → CellsSoFar ts (cs ++ c ∷ []) others
@@ -69,22 +67,19 @@ pub no_next_read : (ts : List Tok) (cs : List CellView) (rest : List Tok) (threa
 no_next_read ts cs rest threads OutOfMemory s e none = tt
 no_next_read ts cs rest threads (Refused r) s e none = λ ds last h. refused IsNextCell (mark the.Semicolon) (λ es o. IsCells es ts o) cs rest s (row_goes_on rest e) none ds last h.1
 
-same_end : (ts last other : List Tok) → mark the.Semicolon ts last → mark the.Semicolon ts other → other ≡ last
-same_end ts last other h g = ap rest_of (sym g ∙ h)
-
 -- the row ends
 pub row_ends : (ts : List Tok) (cs : List CellView) (rest last : List Tok) (threads : ℕ) → CellsSoFar ts cs rest → begins_with the.Bar rest ≡ false → length cs ≡ threads → mark_at the.Semicolon rest ≡ Some last
     → Only (IsRow threads) cs ts last
 row_ends ts cs rest last threads s e long is =
     let h = mark_takes the.Semicolon rest last is in
-    let d = closed IsNextCell (mark the.Semicolon) (λ ds o. IsCells ds ts o) cs rest last s h (λ other g. same_end rest last other h g) (no_next_cell rest e) in
+    let d = closed IsNextCell (mark the.Semicolon) (λ ds o. IsCells ds ts o) cs rest last s h (λ other g. ap rest_of (sym g ∙ h)) (no_next_cell rest e) in
     ((long, d.0), λ ds other a. d.1 ds other a.1)
 
 -- it neither goes on nor ends
 pub row_stops : (ts : List Tok) (cs : List CellView) (rest : List Tok) (threads : ℕ) → CellsSoFar ts cs rest → begins_with the.Bar rest ≡ false → mark_at the.Semicolon rest ≡ None
     → (ds : List CellView) (last : List Tok) → IsRow threads ds ts last → ⊥
 row_stops ts cs rest threads s e none ds last a =
-    refused IsNextCell (mark the.Semicolon) (λ es o. IsCells es ts o) cs rest s (λ o g. let bad = sym none ∙ mark_again the.Semicolon rest o g in cc) (no_next_cell rest e) ds last a.1
+    refused IsNextCell (mark the.Semicolon) (λ es o. IsCells es ts o) cs rest s (not_taken the.Semicolon rest none) (no_next_cell rest e) ds last a.1
 
 only_end : (ts : List Tok) → begins_with the.Bar ts ≡ false → (es : List CellView) (last : List Tok) → Items IsNextCell (mark the.Semicolon) es ts last → es ≡ []
 only_end ts e es last (end g) = refl

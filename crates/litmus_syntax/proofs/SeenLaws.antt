@@ -1,9 +1,10 @@
 -- Places that stand already.
-use Rattle.std.proofs.Common.{◌≡◌, ◌∙◌, ◌==◌, ◌||◌, ◌&&◌, ℕ, Bool, true, false, cond, List, [], ◌∷◌, ◌++◌, refl, sym, ap, subst, arith}
-use Rattle.litmus_syntax.proofs.Vocabulary.{list_any, bytes_eq, Vec, list_any-append, Seen, eqb-true, nat_tests, bytes_eq-Decides, PlaceView, Location, Register, same_place, has}
+use Rattle.std.proofs.Common.{◌≡◌, ◌∙◌, ◌==◌, ◌||◌, ◌&&◌, ℕ, Bool, true, false, cond, List, [], ◌∷◌, ◌++◌, refl, sym, ap, subst}
+use Rattle.litmus_syntax.proofs.Vocabulary.{list_any, bytes_eq, Vec, list_any-append, Seen, eqb-true, bytes_eq-Decides, PlaceView, Location, Register, same_place, has}
 use Rattle.tso_program.specs.Instructions as instructions
 use Rattle.tso_program.proofs.Registers.{same_register}
-use Rattle.std.proofs.lemmas.Bool.{and_parts as both}
+use Rattle.std.proofs.Math.Bool.{or-false}
+use Rattle.std.proofs.lemmas.Bool.{and_parts as both, eq-eqb}
 
 -- ---- whether two places are one
 
@@ -16,12 +17,9 @@ same_place_is (Register t r) (Register u s) e =
     ap (λ (n : ℕ). Register n r) thread ∙ ap (Register u) reg
 same_place_is p q e = absurd cc
 
-itself : (n : ℕ) → (n == n) ≡ true
-itself n = grind (arith, nat_tests)
-
 pub same_place_itself : (p : PlaceView) → same_place p p ≡ true
 same_place_itself (Location x) = (bytes_eq-Decides x x).1 refl
-same_place_itself (Register t r) = rw (itself t, itself (instructions.number r)) refl
+same_place_itself (Register t r) = rw (eq-eqb t t refl, eq-eqb (instructions.number r) (instructions.number r) refl) refl
 
 -- ---- the empty set
 
@@ -35,25 +33,17 @@ absorbed : (a b : Bool) → (b ≡ true → a ≡ true) → a ≡ (a || b)
 absorbed false true h = absurd (let bad : false ≡ true = h refl in cc)
 absorbed a b h = refl
 
-or_none : (a b : Bool) → (a || (b || false)) ≡ (a || b)
-or_none a true = refl
-or_none a false = refl
-
-or_false : (a : Bool) → a ≡ (a || false)
-or_false true = refl
-or_false false = refl
-
 name_among : (keys new : List (Vec ℕ)) (own : Vec ℕ) (b : Bool) → list_any (λ q. bytes_eq own.items q.items) keys ≡ b → new ≡ cond b keys (keys ++ own ∷ []) → (y : List ℕ)
     → list_any (λ k. bytes_eq y k.items) new ≡ (list_any (λ k. bytes_eq y k.items) keys || bytes_eq y own.items)
 name_among keys new own true e is y =
     rw is (absorbed (list_any (λ k. bytes_eq y k.items) keys) (bytes_eq y own.items)
     (λ s. let same : own.items ≡ y = sym ((bytes_eq-Decides y own.items).0 s) in subst (λ (z : List ℕ). list_any (λ k. bytes_eq z k.items) keys ≡ true) same e))
 name_among keys new own false e is y =
-    rw is (list_any-append (λ k. bytes_eq y k.items) keys (own ∷ []) ∙ or_none (list_any (λ k. bytes_eq y k.items) keys) (bytes_eq y own.items))
+    rw is (list_any-append (λ k. bytes_eq y k.items) keys (own ∷ []) ∙ ap (λ (b : Bool). list_any (λ k. bytes_eq y k.items) keys || b) (or-false (bytes_eq y own.items)))
 
 pub name_added : (old new : Seen) (own : Vec ℕ) (name : List ℕ) → own.items ≡ name → new.registers.keys ≡ old.registers.keys
     → new.names.keys ≡ cond (list_any (λ q. bytes_eq own.items q.items) old.names.keys) old.names.keys (old.names.keys ++ own ∷ []) → (p : PlaceView) → has new p ≡ (has old p || same_place p (Location name))
 name_added old new own name is kept keys (Location y) =
     name_among old.names.keys new.names.keys own (list_any (λ q. bytes_eq own.items q.items) old.names.keys) refl keys y ∙ ap (λ (z : List ℕ). list_any (λ k. bytes_eq y k.items) old.names.keys || bytes_eq y z) is
 name_added old new own name is kept keys (Register t r) =
-    ap (list_any (λ k. t == k.0 && instructions.number r == k.1)) kept ∙ or_false (list_any (λ k. t == k.0 && instructions.number r == k.1) old.registers.keys)
+    ap (list_any (λ k. t == k.0 && instructions.number r == k.1)) kept ∙ sym (or-false (list_any (λ k. t == k.0 && instructions.number r == k.1) old.registers.keys))

@@ -1,17 +1,16 @@
 use Rattle.std.proofs.Common.{map}
-use Rattle.litmus_syntax.proofs.Vocabulary.{err_from_is_err_and, toks, entry_view, row_view}
+use Rattle.litmus_syntax.proofs.Vocabulary.{toks, entry_view, row_view}
+use Rattle.litmus_syntax.proofs.Options.{handed_on}
 use Rattle.litmus_syntax.proofs.BodyLaws.{body_is_read, no_entries, no_header, one_missing, no_rows}
 use Rattle.litmus_syntax.proofs.body.read_body.Goals as goal
 
 pub returns-in_err-entries : goal.returns-in_err-entries
-returns-in_err-entries c =
-    let p = err_from_is_err_and c.from_residual.result c.from_residual.ensures.1 in
-    rw (p.1, p.2) (no_entries (toks c.args.tokens.now) c.in_err-entries.field-0.0 c.in_err-entries.ensures)
+returns-in_err-entries c = rw (handed_on c.from_residual.result c.from_residual.ensures.1) (no_entries (toks c.args.tokens.now) c.in_err-entries.field-0.0 c.in_err-entries.ensures)
 
 pub returns-in_err-threads : goal.returns-in_err-threads
 returns-in_err-threads c =
-    let p = err_from_is_err_and c.from_residual-in_err-threads.result c.from_residual-in_err-threads.ensures.1 in
-    rw (p.1, p.2) (no_header (toks c.args.tokens.now) (toks c.in_ok-entries.rest.now) (map entry_view c.in_ok-entries.entries.items) c.in_err-threads.field-0.0 c.in_ok-entries.ensures c.in_err-threads.ensures)
+    rw (handed_on c.from_residual-in_err-threads.result c.from_residual-in_err-threads.ensures.1)
+    (no_header (toks c.args.tokens.now) (toks c.in_ok-entries.rest.now) (map entry_view c.in_ok-entries.entries.items) c.in_err-threads.field-0.0 c.in_ok-entries.ensures c.in_err-threads.ensures)
 
 pub returns-in-Some : goal.returns-in-Some
 returns-in-Some c =
@@ -20,8 +19,7 @@ returns-in-Some c =
 
 pub returns-in_err-rows : goal.returns-in_err-rows
 returns-in_err-rows c =
-    let p = err_from_is_err_and c.from_residual-in_err-rows.result c.from_residual-in_err-rows.ensures.1 in
-    rw (p.1, p.2)
+    rw (handed_on c.from_residual-in_err-rows.result c.from_residual-in_err-rows.ensures.1)
     (no_rows (toks c.args.tokens.now) (toks c.in_ok-entries.rest.now) (toks c.in_ok-threads.rest.now) (map entry_view c.in_ok-entries.entries.items) c.in_ok-threads.threads c.in_err-rows.field-0.0 c.in_ok-entries.ensures c.in_ok-threads.ensures
     c.in_err-rows.ensures)
 

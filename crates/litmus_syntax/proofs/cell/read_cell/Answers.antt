@@ -1,13 +1,13 @@
 use Rattle.std.proofs.Common.{◌∙◌, sym, arith, map, option_map}
-use Rattle.litmus_syntax.proofs.Vocabulary.{err_from_is_err_and, map_push, toks}
+use Rattle.litmus_syntax.proofs.Vocabulary.{map_push, toks}
+use Rattle.litmus_syntax.proofs.Options.{handed_on}
 use Rattle.litmus_syntax.specs.Views.{code_view, label_view}
 use Rattle.litmus_syntax.proofs.CellLaws.{one_more_label, one_more_own, label_stops, content_stops, cell_is_read}
 use Rattle.litmus_syntax.proofs.cell.read_cell.Goals as goal
 
 pub returns-in_err-name-clause-reads : goal.returns-in_err-name-clause-reads
 returns-in_err-name-clause-reads c =
-    let p = err_from_is_err_and c.from_residual.result c.from_residual.ensures.1 in
-    rw (p.1, p.2)
+    rw (handed_on c.from_residual.result c.from_residual.ensures.1)
     (label_stops (toks c.args.tokens.now) (map (λ name. name.now) c.loop-rest.own.items) (toks c.loop-rest.rest.now) c.loop-rest.invariant.cell (sym c.begins_label.ensures ∙ c.loop-rest-test.true) c.in_err-name.ensures.gives)
 
 pub loop-rest-preserved : goal.loop-rest-preserved
@@ -22,8 +22,7 @@ loop-rest-preserved c = record {
 
 pub returns-in_err-code-clause-reads : goal.returns-in_err-code-clause-reads
 returns-in_err-code-clause-reads c =
-    let p = err_from_is_err_and c.from_residual-in_err-code.result c.from_residual-in_err-code.ensures.1 in
-    rw (p.1, p.2)
+    rw (handed_on c.from_residual-in_err-code.result c.from_residual-in_err-code.ensures.1)
     (content_stops (toks c.args.tokens.now) (map (λ name. name.now) c.loop-rest.own.items) (toks c.loop-rest.rest.now) c.loop-rest.invariant.cell (sym c.begins_label.ensures ∙ c.loop-rest-test.false) c.in_err-code.ensures.gives)
 
 pub returns-clause-reads : goal.returns-clause-reads

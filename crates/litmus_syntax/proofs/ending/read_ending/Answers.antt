@@ -1,17 +1,16 @@
 use Rattle.std.proofs.Common.{map}
-use Rattle.litmus_syntax.proofs.Vocabulary.{err_from_is_err_and, toks, place_view, sign_at_view}
+use Rattle.litmus_syntax.proofs.Vocabulary.{toks, place_view, sign_at_view}
+use Rattle.litmus_syntax.proofs.Options.{handed_on}
 use Rattle.litmus_syntax.proofs.EndingLaws.{ending_is_read, no_observed, no_quantifier, no_signs, carried}
 use Rattle.litmus_syntax.proofs.ending.read_ending.Goals as goal
 
 pub returns-in_err-observed : goal.returns-in_err-observed
-returns-in_err-observed c =
-    let p = err_from_is_err_and c.from_residual.result c.from_residual.ensures.1 in
-    rw (p.1, p.2) (no_observed c.args.threads (toks c.args.tokens.now) c.in_err-observed.field-0.0 c.in_err-observed.ensures)
+returns-in_err-observed c = rw (handed_on c.from_residual.result c.from_residual.ensures.1) (no_observed c.args.threads (toks c.args.tokens.now) c.in_err-observed.field-0.0 c.in_err-observed.ensures)
 
 pub returns-in_err-quantifier : goal.returns-in_err-quantifier
 returns-in_err-quantifier c =
-    let p = err_from_is_err_and c.from_residual-in_err-quantifier.result c.from_residual-in_err-quantifier.ensures.1 in
-    rw (p.1, p.2) (no_quantifier c.args.threads (toks c.args.tokens.now) (toks c.in_ok-observed.rest.now) (map place_view c.in_ok-observed.observed.items) c.in_ok-observed.ensures c.in_err-quantifier.ensures)
+    rw (handed_on c.from_residual-in_err-quantifier.result c.from_residual-in_err-quantifier.ensures.1)
+    (no_quantifier c.args.threads (toks c.args.tokens.now) (toks c.in_ok-observed.rest.now) (map place_view c.in_ok-observed.observed.items) c.in_ok-observed.ensures c.in_err-quantifier.ensures)
 
 pub returns : goal.returns
 returns c =

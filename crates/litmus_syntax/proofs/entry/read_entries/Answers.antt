@@ -1,28 +1,24 @@
 use Rattle.std.proofs.Common.{◌∙◌, sym, map}
-use Rattle.litmus_syntax.proofs.Vocabulary.{err_from_is_err_and, map_push, toks, place_view, entry_view}
+use Rattle.litmus_syntax.proofs.Vocabulary.{map_push, toks, place_view, entry_view}
 use Rattle.text_tokens.specs.declared.token.Mark.TheVariants as the
-use Rattle.litmus_syntax.proofs.Options.{mark_is_there}
-use Rattle.litmus_syntax.proofs.EntryLaws.{no_entry_yet, no_brace, one_more_entry, place_again_stands, no_place_stands, no_value_stands, entries_end}
+use Rattle.litmus_syntax.proofs.Options.{handed_on, mark_is_there, not_taken}
+use Rattle.litmus_syntax.proofs.EntryLaws.{no_entry_yet, one_more_entry, place_again_stands, no_place_stands, no_value_stands, entries_end}
 use Rattle.litmus_syntax.proofs.entry.read_entries.Goals as goal
 
 pub returns-in_err-rest : goal.returns-in_err-rest
-returns-in_err-rest c =
-    let p = err_from_is_err_and c.from_residual.result c.from_residual.ensures.1 in
-    rw (p.1, p.2) (no_brace (toks c.args.tokens.now) c.in_err-rest.ensures.gives)
+returns-in_err-rest c = rw (handed_on c.from_residual.result c.from_residual.ensures.1) (λ es last h. not_taken the.OpenBrace (toks c.args.tokens.now) c.in_err-rest.ensures.gives h.0.0 h.0.1)
 
 pub loop-alloc-init : goal.loop-alloc-init
 loop-alloc-init c = rw c.new-entries.ensures.items (no_entry_yet (toks c.args.tokens.now) (toks c.in_ok-rest.rest.now) c.args.seen.now c.in_ok-rest.ensures.gives c.requires)
 
 pub returns-in_err-place : goal.returns-in_err-place
 returns-in_err-place c =
-    let p = err_from_is_err_and c.from_residual-in_err-place.result c.from_residual-in_err-place.ensures.1 in
-    rw (p.1, p.2)
+    rw (handed_on c.from_residual-in_err-place.result c.from_residual-in_err-place.ensures.1)
     (no_place_stands (toks c.args.tokens.now) (map entry_view c.loop-alloc.entries.items) (toks c.loop-alloc.rest.now) c.loop-alloc.seen c.loop-alloc.invariant (sym c.begins.ensures ∙ c.loop-alloc-test.true) c.in_err-place.ensures.gives)
 
 pub returns-in_err-value : goal.returns-in_err-value
 returns-in_err-value c =
-    let p = err_from_is_err_and c.from_residual-in_err-value.result c.from_residual-in_err-value.ensures.1 in
-    rw (p.1, p.2)
+    rw (handed_on c.from_residual-in_err-value.result c.from_residual-in_err-value.ensures.1)
     (no_value_stands (toks c.args.tokens.now) (map entry_view c.loop-alloc.entries.items) (toks c.loop-alloc.rest.now) c.loop-alloc.seen (place_view c.in_ok-place.place) (toks c.in_ok-place.after.now) c.loop-alloc.invariant
     (sym c.begins.ensures ∙ c.loop-alloc-test.true) c.in_ok-place.ensures.gives c.in_err-value.ensures.gives)
 

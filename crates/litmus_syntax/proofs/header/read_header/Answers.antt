@@ -1,14 +1,12 @@
 use Rattle.std.proofs.Common.{◌∙◌, sym, arith}
-use Rattle.litmus_syntax.proofs.Vocabulary.{err_from_is_err_and, toks}
+use Rattle.litmus_syntax.proofs.Vocabulary.{toks}
 use Rattle.text_tokens.specs.declared.token.Mark.TheVariants as the
-use Rattle.litmus_syntax.proofs.Options.{mark_is_there}
+use Rattle.litmus_syntax.proofs.Options.{handed_on, mark_is_there}
 use Rattle.litmus_syntax.proofs.HeaderLaws.{first_column, first_stops, next_column, next_stops, header_stops, header_ends}
 use Rattle.litmus_syntax.proofs.header.read_header.Goals as goal
 
 pub returns-in_err-rest : goal.returns-in_err-rest
-returns-in_err-rest c =
-    let p = err_from_is_err_and c.from_residual.result c.from_residual.ensures.1 in
-    rw (p.1, p.2) (first_stops (toks c.args.tokens.now) c.in_err-rest.field-0.0 c.in_err-rest.ensures.gives)
+returns-in_err-rest c = rw (handed_on c.from_residual.result c.from_residual.ensures.1) (first_stops (toks c.args.tokens.now) c.in_err-rest.field-0.0 c.in_err-rest.ensures.gives)
 
 pub loop-alloc-init : goal.loop-alloc-init
 loop-alloc-init c = record { columns = first_column (toks c.args.tokens.now) (toks c.in_ok-rest.rest.now) c.in_ok-rest.ensures.gives; within = omega (arith, c.in_ok-rest.ensures.shorter) }
@@ -18,8 +16,7 @@ returns-in_err-after c = absurd (mark_is_there the.Bar (toks c.loop-alloc.rest.n
 
 pub returns-in_err-rest-2 : goal.returns-in_err-rest-2
 returns-in_err-rest-2 c =
-    let p = err_from_is_err_and c.from_residual-in_err-rest-2.result c.from_residual-in_err-rest-2.ensures.1 in
-    rw (p.1, p.2)
+    rw (handed_on c.from_residual-in_err-rest-2.result c.from_residual-in_err-rest-2.ensures.1)
     (next_stops (toks c.args.tokens.now) c.loop-alloc.threads (toks c.loop-alloc.rest.now) (toks c.in_ok-after.after.now) c.in_err-rest-2.field-0.0 c.loop-alloc.invariant.columns c.in_ok-after.ensures.gives c.in_err-rest-2.ensures.gives)
 
 pub loop-alloc-preserved : goal.loop-alloc-preserved
@@ -30,8 +27,7 @@ loop-alloc-preserved c = record {
 
 pub returns-in_err-end : goal.returns-in_err-end
 returns-in_err-end c =
-    let p = err_from_is_err_and c.from_residual-in_err-end.result c.from_residual-in_err-end.ensures.1 in
-    rw (p.1, p.2)
+    rw (handed_on c.from_residual-in_err-end.result c.from_residual-in_err-end.ensures.1)
     (header_stops (toks c.args.tokens.now) c.loop-alloc.threads (toks c.loop-alloc.rest.now) c.loop-alloc.invariant.columns (sym c.begins.ensures ∙ c.loop-alloc-test.false) c.in_err-end.ensures.gives)
 
 pub returns : goal.returns

@@ -1,7 +1,7 @@
 use Rattle.std.proofs.Common.{◌∙◌, sym, map}
-use Rattle.litmus_syntax.proofs.Vocabulary.{err_from_is_err_and, map_push, toks, place_view}
+use Rattle.litmus_syntax.proofs.Vocabulary.{map_push, toks, place_view}
 use Rattle.text_tokens.specs.declared.token.Mark.TheVariants as the
-use Rattle.litmus_syntax.proofs.Options.{mark_is_there}
+use Rattle.litmus_syntax.proofs.Options.{handed_on, mark_is_there}
 use Rattle.litmus_syntax.proofs.ObservedLaws.{observed_begins, no_begin, next_observed, observed_stops, observed_ends}
 use Rattle.litmus_syntax.proofs.observed.read_observed.Goals as goal
 
@@ -14,14 +14,11 @@ loop-rest-preserved c = rw (c.in_ok-push.ensures.items, map_push)
     c.in_ok-place.ensures.gives)
 
 pub returns-in_err-rest : goal.returns-in_err-rest
-returns-in_err-rest c =
-    let p = err_from_is_err_and c.from_residual.result c.from_residual.ensures.1 in
-    rw (p.1, p.2) (no_begin c.args.threads (toks c.args.tokens.now) (sym c.begins_word.ensures ∙ c.if-not-begins_word.false) c.in_err-rest.ensures)
+returns-in_err-rest c = rw (handed_on c.from_residual.result c.from_residual.ensures.1) (no_begin c.args.threads (toks c.args.tokens.now) (sym c.begins_word.ensures ∙ c.if-not-begins_word.false) c.in_err-rest.ensures)
 
 pub returns-in_err-place : goal.returns-in_err-place
 returns-in_err-place c =
-    let p = err_from_is_err_and c.from_residual-in_err-place.result c.from_residual-in_err-place.ensures.1 in
-    rw (p.1, p.2)
+    rw (handed_on c.from_residual-in_err-place.result c.from_residual-in_err-place.ensures.1)
     (observed_stops c.args.threads (toks c.args.tokens.now) (map place_view c.loop-rest.places.items) (toks c.loop-rest.rest.now) c.loop-rest.invariant (sym c.begins.ensures ∙ c.loop-rest-test.true) c.in_err-place.ensures.gives)
 
 pub returns-in_err-end : goal.returns-in_err-end

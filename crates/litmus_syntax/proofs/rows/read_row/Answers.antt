@@ -1,12 +1,11 @@
 use Rattle.std.proofs.Common.{◌∙◌, sym, arith, map}
-use Rattle.litmus_syntax.proofs.Vocabulary.{err_from_is_err_and, map_push, length-map, toks, cell_view, label_view}
+use Rattle.litmus_syntax.proofs.Vocabulary.{map_push, length-map, toks, cell_view, label_view}
+use Rattle.litmus_syntax.proofs.Options.{handed_on}
 use Rattle.litmus_syntax.proofs.RowLaws.{first_cell, one_cell, no_first_cell, next_read, one_more_cell, no_next_read, row_ends, row_stops, row_of_another_length}
 use Rattle.litmus_syntax.proofs.rows.read_row.Goals as goal
 
 pub returns-in_err-first-clause-reads : goal.returns-in_err-first-clause-reads
-returns-in_err-first-clause-reads c =
-    let p = err_from_is_err_and c.from_residual-in_err-first.result c.from_residual-in_err-first.ensures.1 in
-    rw (p.1, p.2) (no_first_cell (toks c.args.tokens.now) c.args.threads c.in_err-first.field-0.0 c.in_err-first.ensures.reads)
+returns-in_err-first-clause-reads c = rw (handed_on c.from_residual-in_err-first.result c.from_residual-in_err-first.ensures.1) (no_first_cell (toks c.args.tokens.now) c.args.threads c.in_err-first.field-0.0 c.in_err-first.ensures.reads)
 
 pub loop-alloc-init : goal.loop-alloc-init
 loop-alloc-init c = record {
@@ -17,8 +16,7 @@ loop-alloc-init c = record {
 
 pub returns-in_err-cell-clause-reads : goal.returns-in_err-cell-clause-reads
 returns-in_err-cell-clause-reads c =
-    let p = err_from_is_err_and c.from_residual-in_err-cell.result c.from_residual-in_err-cell.ensures.1 in
-    rw (p.1, p.2)
+    rw (handed_on c.from_residual-in_err-cell.result c.from_residual-in_err-cell.ensures.1)
     (no_next_read (toks c.args.tokens.now) (map cell_view c.loop-alloc.cells.items) (toks c.loop-alloc.rest.now) c.args.threads c.in_err-cell.field-0.0 c.loop-alloc.invariant.cells (sym c.begins.ensures ∙ c.loop-alloc-test.true) c.in_err-cell.ensures.reads)
 
 pub loop-alloc-preserved : goal.loop-alloc-preserved
@@ -39,8 +37,7 @@ returns-then-len-threads-clause-reads c =
 
 pub returns-in_err-end-clause-reads : goal.returns-in_err-end-clause-reads
 returns-in_err-end-clause-reads c =
-    let p = err_from_is_err_and c.from_residual-in_err-end.result c.from_residual-in_err-end.ensures.1 in
-    rw (p.1, p.2)
+    rw (handed_on c.from_residual-in_err-end.result c.from_residual-in_err-end.ensures.1)
     (row_stops (toks c.args.tokens.now) (map cell_view c.loop-alloc.cells.items) (toks c.loop-alloc.rest.now) c.args.threads c.loop-alloc.invariant.cells (sym c.begins.ensures ∙ c.loop-alloc-test.false) c.in_err-end.ensures.gives)
 
 pub returns-clause-reads : goal.returns-clause-reads

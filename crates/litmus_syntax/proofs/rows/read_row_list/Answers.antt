@@ -1,5 +1,6 @@
 use Rattle.std.proofs.Common.{◌∙◌, sym, map}
-use Rattle.litmus_syntax.proofs.Vocabulary.{err_from_is_err_and, map_push, toks, row_view, label_view}
+use Rattle.litmus_syntax.proofs.Vocabulary.{map_push, toks, row_view, label_view}
+use Rattle.litmus_syntax.proofs.Options.{handed_on}
 use Rattle.litmus_syntax.proofs.RowLaws.{no_row_yet, no_labels_yet, next_row, one_more_row, rows_end, rows_stop}
 use Rattle.litmus_syntax.proofs.rows.read_row_list.Goals as goal
 
@@ -11,8 +12,7 @@ loop-alloc-init c = record {
 
 pub returns-in_err-row-clause-reads : goal.returns-in_err-row-clause-reads
 returns-in_err-row-clause-reads c =
-    let p = err_from_is_err_and c.from_residual.result c.from_residual.ensures.1 in
-    rw (p.1, p.2)
+    rw (handed_on c.from_residual.result c.from_residual.ensures.1)
     (rows_stop c.args.threads (toks c.args.tokens.now) (map row_view c.loop-alloc.rows.items) (toks c.loop-alloc.rest.now) c.in_err-row.field-0.0 c.loop-alloc.invariant.rows (sym c.ends_rows.ensures ∙ c.loop-alloc-test.true) c.in_err-row.ensures.reads)
 
 pub loop-alloc-preserved : goal.loop-alloc-preserved
