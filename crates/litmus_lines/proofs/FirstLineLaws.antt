@@ -1,9 +1,9 @@
 -- The first line that is read is the one that stands there.
 use Rattle.std.proofs.Common.{◌≡◌, ℕ, suc, ◌+◌, ◌<◌, Bool, true, false, List, [], ◌∷◌, ◌++◌, length, take, drop, Option, Some, None, refl, sym, ap, ◌∙◌, subst, arith, inl, inr}
-use Rattle.std.specs.Prelude.{◌&&◌, codes, nat_lt, slice_index}
+use Rattle.std.specs.Prelude.{◌&&◌, ◌==◌, codes, nat_lt, slice_index}
 use Rattle.std.specs.List.{list_all, prefix_len}
 use Rattle.std.specs.Str.{bytes_eq}
-use Rattle.std.proofs.lemmas.Bool.{and_parts, and_from, cases_Bool, lt-ltb, ltb-true, ltb-false}
+use Rattle.std.proofs.lemmas.Bool.{and_parts, and_from, cases_Bool, lt-ltb, ltb-true, ltb-false, eqb-true, not-false}
 use Rattle.std.proofs.lemmas.Bool.Decides.{nat_tests}
 use Rattle.std.proofs.lemmas.List.{take_at, take_all, drop_at, take-append-drop, length-append}
 use Rattle.std.proofs.lemmas.List.Folds.{list_all-append}
@@ -21,9 +21,6 @@ weaker p q h (x ∷ xs) all = let a = and_parts (p x) (list_all p xs) all in and
 
 one_more : (n : ℕ) → 1 + n ≡ suc n
 one_more n = omega arith
-
-lf : (b : ℕ) → is_inside b ≡ false → b ≡ 10
-lf b h = grind (arith, nat_tests)
 
 -- ---- a line
 
@@ -83,21 +80,12 @@ heading_again line name h = rw h.2 (heading_of_parts h.0 name h.1 h.3 h.4 h.5)
 
 -- ---- the text
 
-inside_blank : (b : ℕ) → is_blank b ≡ true → is_inside b ≡ true
-inside_blank b h = grind (arith, nat_tests)
-
-inside_visible : (b : ℕ) → is_visible b ≡ true → is_inside b ≡ true
-inside_visible b h = grind (arith, nat_tests)
-
-inside_line_space : (b : ℕ) → is_line_space b ≡ true → is_inside b ≡ true
-inside_line_space b h = grind (arith, nat_tests)
-
 -- no LF stands in a first line
 heading_inside : (line name : List ℕ) → IsHeading line name → list_all is_inside line ≡ true
 heading_inside line name h =
-    let blanks = weaker is_blank is_inside inside_blank h.0 h.3.1 in
-    let names = weaker is_visible is_inside inside_visible name h.4.1 in
-    let ends = weaker is_line_space is_inside inside_line_space h.1 h.5 in
+    let blanks = weaker is_blank is_inside (λ b own. grind (arith, nat_tests)) h.0 h.3.1 in
+    let names = weaker is_visible is_inside (λ b own. grind (arith, nat_tests)) name h.4.1 in
+    let ends = weaker is_line_space is_inside (λ b own. grind (arith, nat_tests)) h.1 h.5 in
     rw (h.2, list_all-append is_inside h.0 (name ++ h.1), list_all-append is_inside name h.1, blanks, names, ends) refl
 
 begins : (text : List ℕ) → prefix_len is_inside text < length text → drop (prefix_len is_inside text) text ≡ 10 ∷ drop 1 (drop (prefix_len is_inside text) text)
@@ -109,7 +97,7 @@ begins (b ∷ text) lt =
           rw (n, one_more) (begins text (omega (arith, n)))
       | inr out ↦
           let n : prefix_len is_inside (b ∷ text) ≡ 0 = rw out refl in
-          let first : b ≡ 10 = lf b out in
+          let first : b ≡ 10 = eqb-true b 10 (not-false (b == 10) out) in
           rw (n, first) refl
     ]
 
@@ -161,12 +149,12 @@ same_parts l m n k same e h = let f = ap heading_name same in cc
 
 -- ---- where no first line is read
 
-all_or_less : (p : ℕ → Bool) (xs : List ℕ) → nat_lt (prefix_len p xs) (length xs) ≡ false → list_all p xs ≡ true
-all_or_less p xs e = rw (sym (take_all (prefix_len p xs) xs (ltb-false _ _ e))) (all_pass p xs)
-
 pub no_end : (text : List ℕ) → None ≡ line_at text → list_all is_inside text ≡ true
 unfolding line_at
-no_end text e = let n = prefix_len is_inside text in all_or_less is_inside text (not_passed (nat_lt n (length text)) (take n text, drop 1 (drop n text)) (sym e))
+no_end text e =
+    let n = prefix_len is_inside text in
+    let all = not_passed (nat_lt n (length text)) (take n text, drop 1 (drop n text)) (sym e) in
+    rw (sym (take_all n text (ltb-false _ _ all))) (all_pass is_inside text)
 
 pub has_end : (text line rest : List ℕ) → line_at text ≡ Some (line, rest) → list_all is_inside text ≡ false
 has_end text line rest e = rw (line_takes text line rest e, list_all-append is_inside line (10 ∷ rest), line_inside text line rest e) refl
