@@ -7,7 +7,7 @@ use Rattle.litmus_reader.proofs.Vocabulary.{Tok, Word, Number, Sign, Eax, Ebx, E
 use Rattle.tso_program.specs.Tree as tree
 use Rattle.conditions.specs.Grammar.{atom, parens, operand, conjunction, term}
 use Rattle.text_tokens.specs.declared.token.Mark.TheVariants as the
-use Rattle.litmus_syntax.specs.Words.{reg_of, opens_condition, joins_formula, is_name, mnemonic_of, column_name}
+use Rattle.litmus_syntax.specs.Words.{reg_of, opens_condition, joins_formula, is_name, mnemonic_of}
 use Rattle.litmus_syntax.specs.Views as view
 use Rattle.litmus_syntax.specs.Grammar.{IsCode, HasThread, last, column, IsHeader, IsInitial, IsRow, IsBody, IsEnding}
 use Rattle.litmus_reader.specs.Example.{StoreBuffering, NamesStoreBuffering}
@@ -22,13 +22,9 @@ small_ebx : reg_of (codes "ebx") ≡ Some Ebx
 unfolding reg_of
 small_ebx = refl
 
-x_is_name : is_name (codes "x") ≡ true
+are_names : (is_name (codes "x") ≡ true) × (is_name (codes "y") ≡ true)
 unfolding is_name opens_condition joins_formula reg_of
-x_is_name = refl
-
-y_is_name : is_name (codes "y") ≡ true
-unfolding is_name opens_condition joins_formula reg_of
-y_is_name = refl
+are_names = (refl, refl)
 
 before_exists : opens_condition (codes "exists") ≡ true
 unfolding opens_condition
@@ -48,7 +44,7 @@ entries = record { place = Location (codes "x"); value = 0 } ∷ record { place 
 
 initial_read : (rest : List Tok) → IsInitial entries (initial rest) rest
 initial_read rest = (
-  (_, refl, item (_, (_, inl (x_is_name, refl), (_, refl, refl)), inl refl) (item (_, (_, (_, refl, (_, refl, (codes "ebx", small_ebx, refl))), (_, refl, refl)), inr (refl, (rest, refl))) (end refl))),
+  (_, refl, item (_, (_, inl (are_names.0, refl), (_, refl, refl)), inl refl) (item (_, (_, (_, refl, (_, refl, (codes "ebx", small_ebx, refl))), (_, refl, refl)), inr (refl, (rest, refl))) (end refl))),
   ((λ e. cc, tt), (tt, tt)),
 )
 
@@ -92,7 +88,7 @@ abbrev loaded : List Tok → List Tok
 loaded rest = load_of (codes "y") (Sign the.Bar ∷ load_of (codes "x") (Sign the.Semicolon ∷ rest))
 
 loads_read : (rest : List Tok) → IsRow 2 loads (loaded rest) rest
-loads_read rest = (refl, (_, end (load_read (codes "y") y_is_name _, refl), item (_, refl, end (load_read (codes "x") x_is_name _, refl)) (end refl)))
+loads_read rest = (refl, (_, end (load_read (codes "y") are_names.1 _, refl), item (_, refl, end (load_read (codes "x") are_names.0 _, refl)) (end refl)))
 
 abbrev body : BodyView
 body = record { entries = entries; threads = 2; rows = stores ∷ loads ∷ [] }
@@ -110,7 +106,7 @@ ending = record { observed = []; quantifier = Exists; signs = view.Open ∷ view
 
 body_read : IsBody body (initial (header (stored (loaded condition)))) condition
 body_read = (
-  (_, initial_read _, (_, header_read _, (item ((refl, (_, end (store_read (codes "x") x_is_name _, refl), item (_, refl, end (store_read (codes "y") y_is_name _, refl)) (end refl)))) (item (loads_read _) (end (refl, before_exists))), tt))),
+  (_, initial_read _, (_, header_read _, (item ((refl, (_, end (store_read (codes "x") are_names.0 _, refl), item (_, refl, end (store_read (codes "y") are_names.1 _, refl)) (end refl)))) (item (loads_read _) (end (refl, before_exists))), tt))),
   All-cons (HasThread 2) (Location (codes "x")) (Register 1 Ebx ∷ []) tt (All-cons (HasThread 2) (Register 1 Ebx) [] (lit< tt) (All-nil (HasThread 2))),
 )
 

@@ -1,5 +1,6 @@
 -- The reader's tables hold what they should after each entry.
 use Rattle.std.proofs.Common.{◌≡◌, ℕ, ◌<◌, Bool, true, false, List, [], ◌∷◌, ◌++◌, length, get_or, set, map, replicate, fold, refl, sym, ap, ◌∙◌, arith, inl, inr}
+use Rattle.std.proofs.Math.Bool.{or-false, or-true, or_assoc}
 use Rattle.std.proofs.lemmas.Bool.{cases_Bool, eqb-true, eqb-false}
 use Rattle.std.proofs.lemmas.List.{length-replicate, get_or-replicate, length-set, get_or-set_same, get_or-set_other}
 use Rattle.litmus_reader.proofs.Vocabulary.{◌==◌, ◌&&◌, ◌||◌, min, if◌then◌else◌, option_map_or, range_with_len, filter_map, list_any, fold-append, fill_by_all, length-map-range_with_len, get_or-map-range_with_len, Reg, number, Atom, PlaceView, Location}
@@ -124,22 +125,12 @@ threads_filled numbered body registers found atoms said table known =
 -- ---- names
 
 some_else : (b c : Bool) → (if b then true else c) ≡ (c || b)
-some_else true true = refl
-some_else true false = refl
-some_else false true = refl
-some_else false false = refl
-
-or_last : (a b c : Bool) → ((a || b) || c) ≡ (a || (b || c))
-or_last true b c = refl
-or_last false b c = refl
+some_else true c = sym (or-true c)
+some_else false c = sym (or-false c)
 
 noted_from : (n : ℕ) (ls : List (List ℕ)) (f : ℕ → Reg → Bool) (ps : List PlaceView)
     → fold noted (record { locations = ls; registers = grid f n }) ps ≡ record { locations = fold with_name ls (filter_map location_name ps); registers = grid (λ t r. f t r || list_any (is_register t r) ps) n }
-noted_from n ls f [] = λ i. record { locations = ls; registers = same_grid f (λ t r. f t r || false) n (λ t r. sym (or_false (f t r))) i }
-  where
-    or_false : (b : Bool) → (b || false) ≡ b
-    or_false true = refl
-    or_false false = refl
+noted_from n ls f [] = λ i. record { locations = ls; registers = same_grid f (λ t r. f t r || false) n (λ t r. sym (or-false (f t r))) i }
 noted_from n ls f (Location x ∷ ps) = noted_from n (with_name ls x) f ps
 noted_from n ls f (Register t r ∷ ps) =
     let g : ℕ → Reg → Bool = λ u s. f u s || (t == u && number r == number s) in
@@ -149,7 +140,7 @@ noted_from n ls f (Register t r ∷ ps) =
     ∙ (λ i. record {
       locations = fold with_name ls (filter_map location_name ps);
       registers = same_grid (λ u s. g u s || list_any (is_register u s) ps) (λ u s. f u s || list_any (is_register u s) (Register t r ∷ ps)) n
-          (λ u s. or_last (f u s) (t == u && number r == number s) (list_any (is_register u s) ps)) i;
+          (λ u s. or_assoc (f u s) (t == u && number r == number s) (list_any (is_register u s) ps)) i;
     })
 
 -- noting each place gives the names among them
@@ -161,15 +152,5 @@ noted_all n ps =
 pub noted_parts : (n : ℕ) (es es' rs rs' os os' ss : List PlaceView) (first second third fourth last : TextNames) → es' ≡ es → rs' ≡ rs → os' ≡ os → first ≡ no_names n → second ≡ fold noted first es' → third ≡ fold noted second rs'
     → fourth ≡ fold noted third os' → last ≡ fold noted fourth ss → last ≡ names_among n (es ++ (rs ++ (os ++ ss)))
 noted_parts n es es' rs rs' os os' ss first second third fourth last same_es same_rs same_os e f g h k =
-    k
-    ∙ ap (λ (names : TextNames). fold noted names ss) h
-    ∙ ap (λ (names : TextNames). fold noted (fold noted names os') ss) g
-    ∙ ap (λ (names : TextNames). fold noted (fold noted (fold noted names rs') os') ss) f
-    ∙ ap (λ (names : TextNames). fold noted (fold noted (fold noted (fold noted names es') rs') os') ss) e
-    ∙ ap (λ (ps : List PlaceView). fold noted (fold noted (fold noted (fold noted (no_names n) ps) rs') os') ss) same_es
-    ∙ ap (λ (ps : List PlaceView). fold noted (fold noted (fold noted (fold noted (no_names n) es) ps) os') ss) same_rs
-    ∙ ap (λ (ps : List PlaceView). fold noted (fold noted (fold noted (fold noted (no_names n) es) rs) ps) ss) same_os
-    ∙ sym (fold-append noted (fold noted (fold noted (no_names n) es) rs) os ss)
-    ∙ sym (fold-append noted (fold noted (no_names n) es) rs (os ++ ss))
-    ∙ sym (fold-append noted (no_names n) es (rs ++ (os ++ ss)))
-    ∙ noted_all n (es ++ (rs ++ (os ++ ss)))
+    rw (k, h, g, f, e, same_es, same_rs, same_os, ← fold-append noted (fold noted (fold noted (no_names n) es) rs) os ss, ← fold-append noted (fold noted (no_names n) es) rs (os ++ ss), ← fold-append noted (no_names n) es (rs ++ (os ++ ss)))
+    (noted_all n (es ++ (rs ++ (os ++ ss))))

@@ -3,10 +3,12 @@ use Rattle.litmus_reader.proofs.Vocabulary.{◌≡◌, ℕ, ◌<◌, Bool, true,
 use Rattle.litmus_reader.proofs.Vocabulary.{cases_Bool, fill_by_all, Reg, Atom, PlaceView, Location, Register, EntryView, BodyView, all_registers, number_in, thread_labels, position_in, value_of, is_of_location, is_of_register, entry_atoms, last_said}
 use Rattle.litmus_reader.proofs.Vocabulary.{memory_from, registers_from, listing_by}
 use Rattle.std.proofs.lemmas.List.{length-map, get_or-map}
-use Rattle.litmus_syntax.specs.Grammar.{IsNoneOf, NoneTwice, place_of_entry}
+use Rattle.litmus_syntax.specs.Grammar.{NoneTwice, place_of_entry}
 use Rattle.litmus_syntax.specs.Places.{same_place}
 use Rattle.litmus_syntax.proofs.SeenLaws.{same_place_is}
 use Rattle.litmus_reader.specs.Meaning.{atom_of, first_value, memory_of, registers_of, code_in, listing_of}
+use Rattle.std.specs.Prelude.{◌≢◌}
+use Rattle.litmus_reader.proofs.Elements.{all_more_so}
 use Rattle.litmus_reader.proofs.NamesOnce.{Stands, same_number}
 
 -- what is said of p is said of q exactly where they are one
@@ -31,10 +33,6 @@ none_said speaks numbered q (e ∷ es) v agree none =
 apart : (p q x : PlaceView) → same_place p q ≡ true → (p ≡ x → ⊥) → same_place x q ≡ false
 apart p q x e other = elim (cases_Bool (same_place x q)) [ inl t ↦ absurd (other (same_place_is p q e ∙ sym (same_place_is x q t))) | inr f ↦ f ]
 
-all_apart : (p q : PlaceView) (ps : List PlaceView) → same_place p q ≡ true → IsNoneOf p ps → AllByRecursion (λ x. same_place x q ≡ false) ps
-all_apart p q [] e none = tt
-all_apart p q (x ∷ ps) e none = (apart p q x e none.0, all_apart p q ps e none.1)
-
 -- the last value that is said is that of the entry that names the place
 said : (speaks : Atom → Bool) (numbered : List ℕ → ℕ) (q : PlaceView) (es : List EntryView) (v : ℕ) → AllByRecursion (Agrees speaks numbered q) (map place_of_entry es) → NoneTwice (map place_of_entry es)
     → said_or speaks (entry_atoms numbered es) v ≡ option_map_or (λ e. e.value) (find (λ e. same_place e.place q) es) v
@@ -45,7 +43,7 @@ said speaks numbered q (e ∷ es) v agree once =
     elim (cases_Bool (same_place e.place q)) [
       | inl t ↦
           ap (λ (b : Bool). said_or speaks (entry_atoms numbered es) (new b)) (agree.0 e.value ∙ t)
-          ∙ none_said speaks numbered q es (new true) agree.1 (all_apart e.place q (map place_of_entry es) t once.0)
+          ∙ none_said speaks numbered q es (new true) agree.1 (all_more_so (λ x. e.place ≢ x) (λ x. same_place x q ≡ false) (λ x. apart e.place q x t) (map place_of_entry es) once.0)
           ∙ value_said numbered e.place e.value
           ∙ sym (ap found t)
       | inr f ↦ ap (λ (b : Bool). said_or speaks (entry_atoms numbered es) (new b)) (agree.0 e.value ∙ f) ∙ said speaks numbered q es v agree.1 once.1 ∙ sym (ap found f)
@@ -58,11 +56,6 @@ location_agrees : (names : List (List ℕ)) (l : ℕ) (p : PlaceView) → IsDist
 location_agrees names l (Location y) once lt stands = λ n. same_number names y l once stands lt
 location_agrees names l (Register t r) once lt stands = λ n. refl
 
-locations_agree : (names : List (List ℕ)) (l : ℕ) (ps : List PlaceView) → IsDistinct bytes_eq names → l < length names → AllByRecursion (Stands names) ps
-    → AllByRecursion (Agrees (is_of_location l) (number_in names) (Location (get_or names l []))) ps
-locations_agree names l [] once lt stand = tt
-locations_agree names l (p ∷ ps) once lt stand = (location_agrees names l p once lt stand.0, locations_agree names l ps once lt stand.1)
-
 pub memory_filled : (names : List (List ℕ)) (entries : List EntryView) → IsDistinct bytes_eq names → AllByRecursion (Stands names) (map place_of_entry entries) → NoneTwice (map place_of_entry entries)
     → memory_from (length names) (entry_atoms (number_in names) entries) ≡ memory_of names entries
 memory_filled names entries distinct stand once =
@@ -70,7 +63,8 @@ memory_filled names entries distinct stand once =
     let atoms : List Atom = entry_atoms (number_in names) entries in
     let at : (l : ℕ) → l < length names → get_or (map value names) l 0 ≡ last_said (is_of_location l) atoms =
     λ l lt. get_or-map value names l [] 0 lt
-    ∙ sym (said (is_of_location l) (number_in names) (Location (get_or names l [])) entries 0 (locations_agree names l (map place_of_entry entries) distinct lt stand) once) in
+    ∙ sym (said (is_of_location l) (number_in names) (Location (get_or names l [])) entries 0
+    (all_more_so (Stands names) (Agrees (is_of_location l) (number_in names) (Location (get_or names l []))) (λ p. location_agrees names l p distinct lt) (map place_of_entry entries) stand) once) in
     sym (fill_by_all (λ l. last_said (is_of_location l) atoms) (map value names) (length names) 0 (length-map names value) at)
 
 -- ---- registers

@@ -20,19 +20,12 @@ once_from : (names xs : List (List ℕ)) → IsDistinct bytes_eq names → IsDis
 once_from names [] once = once
 once_from names (x ∷ xs) once = once_from (with_name names x) xs (with_name_once names x (list_any (bytes_eq x) names) refl once)
 
-none_once : IsDistinct bytes_eq []
-unfolding IsDistinct
-none_once = tt
-
 -- names in the order of their first appearance
 pub in_order_once : (xs : List (List ℕ)) → IsDistinct bytes_eq (in_order xs)
-in_order_once xs = once_from [] xs none_once
+unfolding IsDistinct
+in_order_once xs = once_from [] xs tt
 
 -- ---- the number of a name
-
-found_at : (b : Bool) (n : ℕ) → b ≡ true → unwrap_or (cond b (Some n) None) 0 ≡ n
-found_at true n e = refl
-found_at false n e = absurd cc
 
 -- the number of the name at a place is that place
 pub number_at : (names : List (List ℕ)) (l : ℕ) → IsDistinct bytes_eq names → l < length names → number_in names (get_or names l []) ≡ l
@@ -41,7 +34,7 @@ number_at names l once lt =
     let others : (k : ℕ) → k < l → bytes_eq name (get_or names k []) ≡ false =
     λ k below. nat_list_eq_equiv.symm name (get_or names k []) ∙ apart_from_distinct bytes_eq names k l [] once below lt in
     let first : position_or_len (bytes_eq name) names ≡ l = position_or_len_is (bytes_eq name) names l [] (omega arith) others (λ _. (bytes_eq-Decides name name).1 refl) in
-    ap (λ (n : ℕ). unwrap_or (cond (nat_lt n (length names)) (Some n) None) 0) first ∙ found_at (nat_lt l (length names)) l (lt-ltb l (length names) lt)
+    ap (λ (n : ℕ). unwrap_or (cond (nat_lt n (length names)) (Some n) None) 0) first ∙ rw (lt-ltb l (length names) lt) refl
 
 -- where a name stands
 pub place_among : (names : List (List ℕ)) (y : List ℕ) → list_any (bytes_eq y) names ≡ true → (i : ℕ) × (i < length names) × (y ≡ get_or names i [])

@@ -1,11 +1,12 @@
 -- Locations' numbers as bytes serve as well: they are the numbers where there are few, and with many the same limit is broken.
 use Rattle.std.proofs.Common.{◌≡◌, ℕ, ◌+◌, ◌<◌, ◌≤◌, Bool, true, false, cond, List, [], ◌∷◌, length, map, Option, Some, None, refl, sym, ap, ◌∙◌, arith, get_or, inl, inr, ◌⊎◌}
+use Rattle.std.proofs.lemmas.Bool.{ltb-false, not-true}
 use Rattle.std.proofs.lemmas.List.Sums.{prefix_len-le-length}
 use Rattle.tso_program.specs.declared.limits.ProgramFault.TheVariants.{NoThreads, TooManyThreads, TooLong, Locations}
 use Rattle.tso_program.proofs.WithinLimits.{limits_are_the_refusals, fenced_limits_are_the_refusals}
 use Rattle.std.proofs.lemmas.List.Sums.{prefix_len_passes}
 use Rattle.litmus_reader.proofs.Vocabulary.{◌==◌, min, nat_lt, not, is_some, unwrap_or, if◌then◌else◌, range_with_len, prefix_len, bytes_eq, lt-ltb, length-map-range_with_len, Thread, ProgramFault, IsWithinLimits, IsWithinFencedLimits, first_long, first_fault}
-use Rattle.litmus_reader.proofs.Vocabulary.{first_fenced_fault, BodyView, CellView, number_in, cases_Bool, nat_tests, get_or-map-range_with_len, Label, thread_labels, position_in, code_in, byte_in, byte_at, is_of_location, entry_atoms, last_said}
+use Rattle.litmus_reader.proofs.Vocabulary.{first_fenced_fault, BodyView, CellView, number_in, cases_Bool, get_or-map-range_with_len, Label, thread_labels, position_in, code_in, byte_in, byte_at, is_of_location, entry_atoms, last_said}
 use Rattle.litmus_reader.proofs.Vocabulary.{registers_from, memory_from, thread_by, listing_by}
 use Rattle.litmus_reader.proofs.Filled.{range_same}
 use Rattle.litmus_reader.proofs.Positions.{code_count, position_same}
@@ -138,20 +139,14 @@ none_there : (b : Bool) (n : ℕ) → is_some (if b then Some n else None) ≡ f
 none_there true n e = absurd cc
 none_there false n e = refl
 
-at_least : (a b : ℕ) → nat_lt a b ≡ false → b ≤ a
-at_least a b e = grind (arith, nat_tests)
-
-not_past : (a b : ℕ) → not (nat_lt a b) ≡ true → b ≤ a
-not_past a b e = grind (arith, nat_tests)
-
 -- each thread is short
 short : (longest : ℕ) (f : ℕ → Thread) (n : ℕ) → is_some (first_long longest (map f (range_with_len 0 n))) ≡ false → (t : ℕ) → t < n → length (f t).code ≤ longest
 short longest f n none t lt =
     let xs = map f (range_with_len 0 n) in
     let passes : Thread → Bool = λ thread. not (nat_lt longest (length thread.code)) in
-    let all : length xs ≤ prefix_len passes xs = at_least (prefix_len passes xs) (length xs) (none_there (nat_lt (prefix_len passes xs) (length xs)) (prefix_len passes xs) none) in
+    let all : length xs ≤ prefix_len passes xs = ltb-false (prefix_len passes xs) (length xs) (none_there (nat_lt (prefix_len passes xs) (length xs)) (prefix_len passes xs) none) in
     let at : passes (get_or xs t (f t)) ≡ true = prefix_len_passes passes xs t (f t) (omega (arith, lt, all, length-map-range_with_len f 0 n)) in
-    not_past longest (length (f t).code) (ap passes (sym (get_or-map-range_with_len f 0 n t t (f t) lt (omega arith))) ∙ at)
+    ltb-false longest (length (f t).code) (not-true (nat_lt longest (length (f t).code)) (ap passes (sym (get_or-map-range_with_len f 0 n t t (f t) lt (omega arith))) ∙ at))
 
 -- of few locations and short threads all numbers are bytes
 pub listing_same : (longest : ℕ) (names : List (List ℕ)) (body : BodyView) → longest ≤ 255 → length names ≤ MAX_LOCATIONS

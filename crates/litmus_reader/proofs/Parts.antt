@@ -1,6 +1,6 @@
 -- The parts that are read are those of the tokens, and no others.
 use Rattle.std.proofs.Common.{◌≡◌, ℕ, List, [], length, map, Option, Some, None, refl, sym, subst}
-use Rattle.litmus_reader.proofs.Vocabulary.{⊤, Err, Tok, Listing, Atom, PlaceView, BodyView, EndingView, IsBody, IsEnding, Litmus, ReadFault, MatchFault, names_of, all_labels, JumpsAreFound, byte_in, byte_at, listing_by, AreParts}
+use Rattle.litmus_reader.proofs.Vocabulary.{⊤, Err, Tok, Listing, PlaceView, BodyView, EndingView, IsBody, IsEnding, Litmus, ReadFault, MatchFault, names_of, all_labels, JumpsAreFound, byte_in, byte_at, listing_by, AreParts}
 use Rattle.tso_program.specs.Tree.{Tree, tree_map}
 use Rattle.conditions.proofs.Mapped.{spells_mapped, spells_unmapped}
 use Rattle.conditions.proofs.SpelledIsRead.{spells_one}

@@ -1,43 +1,36 @@
 -- Positions of labels as bytes: they are the positions where threads are short.
-use Rattle.std.proofs.Common.{◌≡◌, ℕ, ◌+◌, ◌≤◌, Bool, true, false, cond, List, [], ◌∷◌, ◌++◌, length, map, Option, Some, None, refl, arith}
-use Rattle.std.specs.Prelude.{⊤, min, option_map, option_and_then, slice_get}
+use Rattle.std.proofs.Common.{◌≡◌, ℕ, ◌+◌, ◌≤◌, Bool, true, false, cond, List, [], ◌∷◌, length, map, Option, Some, None, refl, arith}
+use Rattle.std.specs.List.{AllByRecursion}
+use Rattle.litmus_reader.proofs.Elements.{all_more_so, all_of_both}
+use Rattle.std.specs.Prelude.{min, option_map, option_and_then, slice_get}
 use Rattle.litmus_reader.proofs.Vocabulary.{find, cons_option, option_map_or, bytes_eq, Instr, CodeView, CellView, Label, column, size, labels_behind, thread_labels, position_in, byte_at}
 use Rattle.litmus_reader.specs.Meaning.{instruction_of, code_in}
 
 -- how many instructions cells have
-abbrev count : List CellView → ℕ
+abbrev pub count : List CellView → ℕ
 count [] = 0
 count (c ∷ cs) = size c + count cs
 
--- each label stands at most behind all instructions
-abbrev AllWithin : ℕ → List Label → Type 0
-AllWithin n [] = ⊤
-AllWithin n (l ∷ ls) = (l.position ≤ n) × AllWithin n ls
+-- the label stands at most behind so many instructions
+abbrev IsWithin : ℕ → Label → Type 0
+IsWithin n l = l.position ≤ n
 
-within_more : (n m : ℕ) (ls : List Label) → n ≤ m → AllWithin n ls → AllWithin m ls
-within_more n m [] le h = tt
-within_more n m (l ∷ ls) le h = (omega (arith, h.0), within_more n m ls le h.1)
-
-within_both : (n : ℕ) (ls ks : List Label) → AllWithin n ls → AllWithin n ks → AllWithin n (ls ++ ks)
-within_both n [] ks h g = g
-within_both n (l ∷ ls) ks h g = (h.0, within_both n ls ks h.1 g)
-
-named_within : (n k : ℕ) (names : List (List ℕ)) → k ≤ n → AllWithin n (map (λ l. record { name = l; position = k }) names)
+named_within : (n k : ℕ) (names : List (List ℕ)) → k ≤ n → AllByRecursion (IsWithin n) (map (λ l. record { name = l; position = k }) names)
 named_within n k [] le = tt
 named_within n k (l ∷ names) le = (le, named_within n k names le)
 
-labels_within : (k : ℕ) (cs : List CellView) → AllWithin (k + count cs) (labels_behind k cs)
+labels_within : (k : ℕ) (cs : List CellView) → AllByRecursion (IsWithin (k + count cs)) (labels_behind k cs)
 labels_within k [] = tt
 labels_within k (c ∷ cs) =
-    within_both (k + (size c + count cs)) (map (λ l. record { name = l; position = k }) c.labels) (labels_behind (k + size c) cs)
+    all_of_both (IsWithin (k + (size c + count cs))) (map (λ l. record { name = l; position = k }) c.labels) (labels_behind (k + size c) cs)
     (named_within (k + (size c + count cs)) k c.labels (omega arith))
-    (within_more (k + size c + count cs) (k + (size c + count cs)) (labels_behind (k + size c) cs) (omega arith) (labels_within (k + size c) cs))
+    (all_more_so (IsWithin (k + size c + count cs)) (IsWithin (k + (size c + count cs))) (λ l h. omega (arith, h)) (labels_behind (k + size c) cs) (labels_within (k + size c) cs))
 
 found_within : (n : ℕ) (b : Bool) (l : Label) (rest : Option Label) → l.position ≤ n → option_map_or (λ x. x.position) rest 0 ≤ n → option_map_or (λ x. x.position) (cond b (Some l) rest) 0 ≤ n
 found_within n true l rest h g = h
 found_within n false l rest h g = g
 
-position_within : (n : ℕ) (ls : List Label) (name : List ℕ) → AllWithin n ls → position_in ls name ≤ n
+position_within : (n : ℕ) (ls : List Label) (name : List ℕ) → AllByRecursion (IsWithin n) ls → position_in ls name ≤ n
 position_within n [] name h = omega arith
 position_within n (l ∷ ls) name h = found_within n (bytes_eq l.name name) l (find (λ x. bytes_eq x.name name) ls) h.0 (position_within n ls name h.1)
 

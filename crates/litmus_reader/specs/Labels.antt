@@ -3,7 +3,7 @@ use Rattle.std.specs.Prelude.{◌≡◌, ◌+◌, ◌&&◌, ℕ, Bool, true, Lis
 use Rattle.std.specs.List.{filter_map, find, list_all, range_with_len}
 use Rattle.std.specs.Option.{option_map_or}
 use Rattle.std.specs.Str.{bytes_eq}
-use Rattle.litmus_syntax.specs.Views.{CodeView, LoadImm, Copy, Load, StoreImm, Store, Xchg, Fence, CmpImm, CmpReg, Je, Jne, Jmp, CellView, BodyView}
+use Rattle.litmus_syntax.specs.Views.{CodeView, Je, Jne, Jmp, CellView, BodyView}
 use Rattle.litmus_reader.specs.declared.label.Label.{Label}
 
 -- ---- where labels stand

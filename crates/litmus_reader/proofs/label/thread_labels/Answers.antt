@@ -1,5 +1,5 @@
-use Rattle.std.proofs.Common.{◌≡◌, ℕ, ◌+◌, List, ◌++◌, map, get_or, Option, Some, None, sym, ap, ◌∙◌, arith}
-use Rattle.litmus_reader.proofs.Vocabulary.{slice_get, Vec, Cell, cell_view, row_view, Label, size}
+use Rattle.std.proofs.Common.{◌≡◌, ℕ, ◌+◌, List, ◌++◌, map, get_or, sym, ap, ◌∙◌, arith}
+use Rattle.litmus_reader.proofs.Vocabulary.{slice_get, Vec, Cell, cell_view, row_view, Label}
 use Rattle.litmus_reader.proofs.LabelRows.{behind, one_cell, no_cell, named_labels}
 use Rattle.litmus_reader.proofs.label.thread_labels.Goals as goal
 use Rattle.litmus_reader.proofs.label.thread_labels.Goals.{in-Some+in_ok-push_labels, in_default}

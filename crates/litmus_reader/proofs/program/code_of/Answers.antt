@@ -1,4 +1,4 @@
-use Rattle.std.proofs.Common.{◌≡◌, List, [], ◌∷◌, ◌++◌, map, get_or, Option, sym, ap, ◌∙◌}
+use Rattle.std.proofs.Common.{◌≡◌, List, [], ◌∷◌, ◌++◌, map, get_or, sym, ap, ◌∙◌}
 use Rattle.litmus_reader.proofs.Vocabulary.{Vec, Instr, Cell, row_view, cell_view, byte_in, byte_at}
 use Rattle.litmus_reader.specs.Meaning.{instruction_in}
 use Rattle.litmus_reader.proofs.Rows.{kept_more, kept_same}

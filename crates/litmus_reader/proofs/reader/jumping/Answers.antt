@@ -1,5 +1,5 @@
-use Rattle.litmus_reader.proofs.Vocabulary.{◌≡◌, true, List, map, sym, subst, ◌∙◌, list_all, row_view, body_view, Label, all_labels, are_found, FindAllAs}
-use Rattle.litmus_reader.proofs.Targets.{lost_is, all_found_same}
+use Rattle.litmus_reader.proofs.Vocabulary.{List, map, sym, subst, ◌∙◌, list_all, row_view, body_view, Label, all_labels, are_found, FindAllAs}
+use Rattle.litmus_reader.proofs.Targets.{lost_is}
 use Rattle.litmus_reader.proofs.reader.jumping.Goals as goal
 
 pub returns-in-Some-clause-lost : goal.returns-in-Some-clause-lost
