@@ -92,9 +92,12 @@ moved_from gaps n (suc t) (ls ∷ labels) = let e : (n + 1) + t ≡ n + suc t = 
 pub moved_of : (gaps : Gaps) (t : ℕ) (labels : List (List Label)) → own_labels (moved_labels gaps 0 labels) t ≡ map (moved_label (gaps t)) (own_labels labels t)
 moved_of gaps t labels = let e : 0 + t ≡ t = omega arith in moved_from gaps 0 t labels ∙ ap (λ (m : ℕ). map (moved_label (gaps m)) (own_labels labels t)) e
 
--- the labels at a place of thread t
-pub moved_at : (gaps : Gaps) (t k place : ℕ) (labels : List (List Label)) → place_of (gaps t) k ≡ place → label_names_at (own_labels (moved_labels gaps 0 labels) t) place ≡ label_names_at (own_labels labels t) k
-moved_at gaps t k place labels e = ap (λ (ls : List Label). label_names_at ls place) (moved_of gaps t labels) ∙ labels_moved (gaps t) (own_labels labels t) k place e
+-- the labels at a place of thread t are those that a thread's own labels have at its position
+pub moved_at : (gaps : Gaps) (t k place : ℕ) (labels given : List (List Label)) (own : List Label) → own ≡ own_labels given t → given ≡ labels → place_of (gaps t) k ≡ place
+    → label_names_at own k ≡ label_names_at (own_labels (moved_labels gaps 0 labels) t) place
+moved_at gaps t k place labels given own is same e =
+    ap (λ (ls : List Label). label_names_at ls k) (is ∙ ap (λ (ls : List (List Label)). own_labels ls t) same)
+    ∙ sym (ap (λ (ls : List Label). label_names_at ls place) (moved_of gaps t labels) ∙ labels_moved (gaps t) (own_labels labels t) k place e)
 
 pub moved_nowhere : (gaps : Gaps) (t place : ℕ) (labels : List (List Label)) → ((k : ℕ) → place_of (gaps t) k ≢ place) → label_names_at (own_labels (moved_labels gaps 0 labels) t) place ≡ []
 moved_nowhere gaps t place labels none = ap (λ (ls : List Label). label_names_at ls place) (moved_of gaps t labels) ∙ labels_nowhere (gaps t) (own_labels labels t) place none

@@ -1,13 +1,14 @@
 -- The labels of the canonical rows are the labels.
-use Rattle.canonical_text.proofs.Vocabulary.{◌≡◌, ℕ, ◌+◌, ◌<◌, ◌≤◌, zero, suc, Bool, true, false, List, [], ◌∷◌, ◌++◌, length, map, Option, Some, None, refl, sym, ap, ◌∙◌, subst, inl, inr, arith, slice_get, nat_lt, option_map, option_and_then, if◌then◌else◌}
+use Rattle.canonical_text.proofs.Vocabulary.{◌≡◌, ℕ, ◌+◌, ◌<◌, ◌≤◌, zero, suc, Bool, true, false, List, [], ◌∷◌, ◌++◌, length, map, Option, refl, sym, ap, ◌∙◌, subst, inl, inr, arith, slice_get, nat_lt, option_map, if◌then◌else◌}
 use Rattle.canonical_text.proofs.Vocabulary.{AllByRecursion, flat_map, cons_option, range_with_len, option_map_or, cases_lt, slice_get-get_or, Instr, Thread, code_of, place_of, rises, CodeView, CellView, Label, column, size, labels_behind, thread_labels}
-use Rattle.canonical_text.proofs.Vocabulary.{instruction_of, label_names_at, own_labels, moved_label, code_named, cell_of, row_of, most_cells, rows_of, IsLabelName, IsPrintableCell, IsPrintableRow}
+use Rattle.canonical_text.proofs.Vocabulary.{label_names_at, own_labels, moved_label, code_named, cell_of, row_of, most_cells, rows_of, IsLabelName, IsPrintableCell, IsPrintableRow}
 use Rattle.tso_program.specs.declared.instruction.Instr.TheVariants as instr
 use Rattle.litmus_reader.specs.Meaning as meaning
+use Rattle.litmus_reader.proofs.Positions.{code_count}
 use Rattle.canonical_text.proofs.LabelsNamed.{AreGoodLabels, Ascending, ascending_from, Before, none_at_end, before_more, none_past, standing, all_standing}
 use Rattle.canonical_text.proofs.ToldCode.{within_most}
 use Rattle.canonical_text.proofs.NamedPlaces.{Named}
-use Rattle.canonical_text.proofs.Lists.{made_at, all_of_both}
+use Rattle.canonical_text.proofs.Lists.{made_at, all_of_both, all_mapped, all_more_so, all_at, all_with}
 
 -- ---- of a text
 
@@ -29,24 +30,10 @@ behind_ascending k (c ∷ cs) =
     named_ascending k (k + (size c + instructions cs)) c.labels (labels_behind (k + size c) cs) (omega arith)
     (ascending_from k (k + size c) (k + (size c + instructions cs)) (labels_behind (k + size c) cs) (omega arith) rest)
 
-one_code : (f : CodeView → Instr) (o : Option CodeView) (is : List Instr) (n : ℕ) → length is ≡ n → length (cons_option (option_map f o) is) ≡ option_map_or (λ c. 1) o 0 + n
-one_code f None is n e = omega (arith, e)
-one_code f (Some c) is n e = omega (arith, e)
-
-one_row : (f : CodeView → Instr) (o : Option CellView) (is : List Instr) (cs : List CellView) → length is ≡ instructions cs
-    → length (cons_option (option_map f (option_and_then (λ cell. cell.code) o)) is) ≡ instructions (cons_option o cs)
-one_row f None is cs e = e
-one_row f (Some c) is cs e = one_code f c.code is (instructions cs) e
-
-code_length : (numbered positioned : List ℕ → ℕ) (rows : List (List CellView)) (t : ℕ) → length (meaning.code_in numbered positioned rows t) ≡ instructions (column rows t)
-code_length numbered positioned [] t = refl
-code_length numbered positioned (row ∷ rows) t =
-    one_row (instruction_of numbered positioned) (slice_get row t) (meaning.code_in numbered positioned rows t) (column rows t) (code_length numbered positioned rows t)
-
 -- a thread's labels stand in order, up to its end
 pub thread_ascending : (numbered positioned : List ℕ → ℕ) (rows : List (List CellView)) (t : ℕ) → Ascending 0 (length (meaning.code_in numbered positioned rows t)) (thread_labels rows t)
 thread_ascending numbered positioned rows t =
-    let same : 0 + instructions (column rows t) ≡ length (meaning.code_in numbered positioned rows t) = omega (arith, code_length numbered positioned rows t) in
+    let same : 0 + instructions (column rows t) ≡ length (meaning.code_in numbered positioned rows t) = omega (arith, code_count numbered positioned rows t) in
     subst (λ (n : ℕ). Ascending 0 n (thread_labels rows t)) same (behind_ascending 0 (column rows t))
 
 -- so do they where their fences are
@@ -54,36 +41,18 @@ pub moved_ascending : (gap : ℕ → Bool) (k n : ℕ) (labels : List Label) →
 moved_ascending gap k n [] h = tt
 moved_ascending gap k n (l ∷ labels) h = (rises gap k l.position h.0, rises gap l.position n h.1, moved_ascending gap l.position n labels h.2)
 
-named_good : (k : ℕ) (names : List (List ℕ)) → AllByRecursion IsLabelName names → AreGoodLabels (map (λ l. record { name = l; position = k }) names)
-named_good k [] h = tt
-named_good k (l ∷ names) h = (h.0, named_good k names h.1)
-
 pub behind_good : (k : ℕ) (cs : List CellView) → AllByRecursion IsPrintableCell cs → AreGoodLabels (labels_behind k cs)
 behind_good k [] h = tt
 behind_good k (c ∷ cs) h =
-    all_of_both (λ (l : Label). IsLabelName l.name) (map (λ l. record { name = l; position = k }) c.labels) (labels_behind (k + size c) cs) (named_good k c.labels h.0.0) (behind_good (k + size c) cs h.1)
-
-abbrev IfPrintable : Option CellView → Type 0
-IfPrintable None = Unit {0}
-IfPrintable (Some c) = IsPrintableCell c
-
-cell_in : (cells' : List CellView) (t : ℕ) → AllByRecursion IsPrintableCell cells' → IfPrintable (slice_get cells' t)
-cell_in [] t h = tt
-cell_in (c ∷ cs) zero h = h.0
-cell_in (c ∷ cs) (suc t) h = cell_in cs t h.1
-
-one_cell : (o : Option CellView) (cs : List CellView) → IfPrintable o → AllByRecursion IsPrintableCell cs → AllByRecursion IsPrintableCell (cons_option o cs)
-one_cell None cs h g = g
-one_cell (Some c) cs h g = (h, g)
+    all_of_both (λ (l : Label). IsLabelName l.name) (map (λ l. record { name = l; position = k }) c.labels) (labels_behind (k + size c) cs) (all_mapped IsLabelName (λ (l : Label). IsLabelName l.name) (λ l. record { name = l; position = k }) (λ l good. good) c.labels h.0.0) (behind_good (k + size c) cs h.1)
 
 pub column_printable : (threads : ℕ) (rows : List (List CellView)) (t : ℕ) → AllByRecursion (IsPrintableRow threads) rows → AllByRecursion IsPrintableCell (column rows t)
 column_printable threads [] t h = tt
-column_printable threads (row ∷ rows) t h = one_cell (slice_get row t) (column rows t) (cell_in row t h.0.1) (column_printable threads rows t h.1)
+column_printable threads (row ∷ rows) t h = all_with IsPrintableCell (slice_get row t) (column rows t) (all_at IsPrintableCell row t h.0.1) (column_printable threads rows t h.1)
 
 -- where they are moved, too
 pub moved_good : (gap : ℕ → Bool) (labels : List Label) → AreGoodLabels labels → AreGoodLabels (map (moved_label gap) labels)
-moved_good gap [] h = tt
-moved_good gap (l ∷ labels) h = (h.0, moved_good gap labels h.1)
+moved_good gap = all_mapped (λ (l : Label). IsLabelName l.name) (λ (l : Label). IsLabelName l.name) (moved_label gap) (λ l good. good)
 
 -- ---- of the canonical rows
 
@@ -121,13 +90,9 @@ module _ (labels : List Label) (code : List Instr) (named : Instr → CodeView) 
   pub cells_labels : (m : ℕ) → Before m labels → labels_behind 0 (map cell (range_with_len 0 m)) ≡ labels
   cells_labels m before = behind_standing 0 m (omega arith) ∙ all_standing labels 0 (length code) m order before
 
-before_wider : (n m : ℕ) (labels : List Label) → n ≤ m → Before n labels → Before m labels
-before_wider n m [] le h = tt
-before_wider n m (l ∷ labels) le h = (omega (arith, h.0), before_wider n m labels le h.1)
-
 enough : (labels : List Label) (n m : ℕ) (b : Bool) → nat_lt 0 (length (label_names_at labels n)) ≡ b → Ascending 0 n labels → n + (if b then 1 else 0) ≤ m → Before m labels
 enough labels n m true e order le = before_more 0 n m labels order (omega (arith, le))
-enough labels n m false e order le = before_wider n m labels (omega (arith, le)) (none_at_end 0 n labels order e)
+enough labels n m false e order le = all_more_so (λ l. l.position < n) (λ l. l.position < m) (λ l h. omega (arith, h, le)) labels (none_at_end 0 n labels order e)
 
 module _ (names : List (List ℕ)) (labels : List (List Label)) (threads : List Thread) (t : ℕ) (lt : t < length threads) where
   abbrev thread_cell : ℕ → CellView

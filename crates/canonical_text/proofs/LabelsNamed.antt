@@ -2,6 +2,7 @@
 use Rattle.canonical_text.proofs.Vocabulary.{◌≡◌, ◌≢◌, ℕ, zero, suc, ◌+◌, ◌<◌, ◌≤◌, Bool, true, false, cond, List, [], ◌∷◌, ◌++◌, length, map, Option, Some, None, refl, sym, ap, ◌∙◌, subst, inl, inr, arith, cases_eq, nat_lt, is_some, slice_index_or}
 use Rattle.canonical_text.proofs.Vocabulary.{AllByRecursion, cons_option, flat_map, range_with_len, option_map_or, bytes_eq, cases_Bool, lt-ltb, bytes_eq-Decides, IsNoneOf, NoneTwice, Label, label_in, position_in, IsLabelName, named_at}
 use Rattle.canonical_text.proofs.Vocabulary.{label_names_at, label_name_at}
+use Rattle.std.proofs.lemmas.Bool.{false_from_ne_true}
 use Rattle.canonical_text.proofs.LabelPlaces.{here, elsewhere}
 
 abbrev pub label_name : Label → List ℕ
@@ -13,9 +14,9 @@ SomeAt labels k = 0 < length (label_names_at labels k)
 
 -- ---- the first label of a position
 
--- whether a label stands there, by cases
-at_or_not : (C : Type 0) (k : ℕ) (l : Label) → (l.position ≡ k → C) → ((l.position ≡ k → ⊥) → C) → C
-at_or_not C k l same other = elim (cases_eq l.position k) [ inl e ↦ same e | inr n ↦ other n ]
+-- whether two numbers are the same, by cases
+pub same_or_not : (C : Type 0) (j k : ℕ) → (j ≡ k → C) → ((j ≡ k → ⊥) → C) → C
+same_or_not C j k same other = elim (cases_eq j k) [ inl e ↦ same e | inr n ↦ other n ]
 
 at_here : (l : Label) (labels : List Label) (k : ℕ) → l.position ≡ k → label_names_at (l ∷ labels) k ≡ l.name ∷ label_names_at labels k
 at_here l labels k e = ap (λ (o : Option (List ℕ)). cons_option o (label_names_at labels k)) (here k l e)
@@ -30,12 +31,9 @@ first ns = slice_index_or ns 0 []
 not_among : (x : List ℕ) (labels : List Label) (k : ℕ) → IsNoneOf x (map label_name labels) → SomeAt labels k → x ≢ label_name_at labels k
 not_among x [] k h some = absurd (omega (arith, some))
 not_among x (l ∷ labels) k h some =
-    at_or_not (x ≢ label_name_at (l ∷ labels) k) k l
+    same_or_not (x ≢ label_name_at (l ∷ labels) k) l.position k
     (λ at e. h.0 (e ∙ ap first (at_here l labels k at)))
     (λ other e. not_among x labels k h.1 (subst (λ (ns : List (List ℕ)). 0 < length ns) (at_others l labels k other) some) (e ∙ ap first (at_others l labels k other)))
-
-different : (x y : List ℕ) → x ≢ y → bytes_eq x y ≡ false
-different x y ne = elim (cases_Bool (bytes_eq x y)) [ inl t ↦ absurd (ne ((bytes_eq-Decides x y).0 t)) | inr f ↦ f ]
 
 -- a label of the position
 abbrev StandsAt : ℕ → Option Label → Type 0
@@ -47,23 +45,20 @@ pub label_there : (labels : List Label) (k : ℕ) → NoneTwice (map label_name 
 label_there [] k once some = absurd (omega (arith, some))
 label_there (l ∷ labels) k once some =
     let goal : List ℕ → Bool → Type 0 = λ name b. StandsAt k (cond b (Some l) (label_in labels name)) in
-    at_or_not (StandsAt k (label_in (l ∷ labels) (label_name_at (l ∷ labels) k))) k l
+    same_or_not (StandsAt k (label_in (l ∷ labels) (label_name_at (l ∷ labels) k))) l.position k
     (λ at.
     let same : bytes_eq l.name (label_name_at (l ∷ labels) k) ≡ true = (bytes_eq-Decides l.name (label_name_at (l ∷ labels) k)).1 (sym (ap first (at_here l labels k at))) in
     subst (goal (label_name_at (l ∷ labels) k)) (sym same) at)
     (λ other.
     let rest : SomeAt labels k = subst (λ (ns : List (List ℕ)). 0 < length ns) (at_others l labels k other) some in
     let name : label_name_at labels k ≡ label_name_at (l ∷ labels) k = sym (ap first (at_others l labels k other)) in
-    let apart : bytes_eq l.name (label_name_at labels k) ≡ false = different l.name (label_name_at labels k) (not_among l.name labels k once.0 rest) in
+    let apart : bytes_eq l.name (label_name_at labels k) ≡ false =
+    false_from_ne_true (bytes_eq l.name (label_name_at labels k)) (λ t. not_among l.name labels k once.0 rest ((bytes_eq-Decides l.name (label_name_at labels k)).0 t)) in
     subst (λ (n : List ℕ). goal n (bytes_eq l.name n)) name (subst (goal (label_name_at labels k)) (sym apart) (label_there labels k once.1 rest)))
 
-pub position_by : (k : ℕ) (o : Option Label) → StandsAt k o → option_map_or (λ l. l.position) o 0 ≡ k
-position_by k None h = absurd h
-position_by k (Some l) h = h
-
-pub found_by : (k : ℕ) (o : Option Label) → StandsAt k o → is_some o ≡ true
-found_by k None h = absurd h
-found_by k (Some l) h = refl
+pub found_there : (k : ℕ) (o : Option Label) → StandsAt k o → (option_map_or (λ l. l.position) o 0 ≡ k) × (is_some o ≡ true)
+found_there k None h = absurd h
+found_there k (Some l) h = (h, refl)
 
 -- ---- names that may stand
 
@@ -74,7 +69,7 @@ pub labels_good : (labels : List Label) (k : ℕ) → AreGoodLabels labels → A
 labels_good [] k h = tt
 labels_good (l ∷ labels) k h =
     let all : List (List ℕ) → Type 0 = λ ns. AllByRecursion IsLabelName ns in
-    at_or_not (all (label_names_at (l ∷ labels) k)) k l
+    same_or_not (all (label_names_at (l ∷ labels) k)) l.position k
     (λ at. subst all (sym (at_here l labels k at)) (h.0, labels_good labels k h.1))
     (λ other. subst all (sym (at_others l labels k other)) (labels_good labels k h.1))
 
@@ -122,7 +117,7 @@ Before n labels = AllByRecursion (λ (l : Label). l.position < n) labels
 pub none_at_end : (k n : ℕ) (labels : List Label) → Ascending k n labels → nat_lt 0 (length (label_names_at labels n)) ≡ false → Before n labels
 none_at_end k n [] h none = tt
 none_at_end k n (l ∷ labels) h none =
-    at_or_not (Before n (l ∷ labels)) n l
+    same_or_not (Before n (l ∷ labels)) l.position n
     (λ at.
     let some : nat_lt 0 (length (l.name ∷ label_names_at labels n)) ≡ true = lt-ltb 0 (length (l.name ∷ label_names_at labels n)) (omega arith) in
     let clash : true ≡ false = sym some ∙ sym (ap (λ (ns : List (List ℕ)). nat_lt 0 (length ns)) (at_here l labels n at)) ∙ none in
@@ -170,7 +165,7 @@ first_standing : (l : Label) (labels : List Label) (n a m : ℕ) → a ≤ l.pos
 first_standing l labels n a zero le lt h = absurd (omega arith)
 first_standing l labels n a (suc m) le lt h =
     let rest : List ℕ = range_with_len (a + 1) m in
-    at_or_not (flat_map (standing (l ∷ labels)) (range_with_len a (suc m)) ≡ l ∷ flat_map (standing labels) (range_with_len a (suc m))) a l
+    same_or_not (flat_map (standing (l ∷ labels)) (range_with_len a (suc m)) ≡ l ∷ flat_map (standing labels) (range_with_len a (suc m))) l.position a
     (λ at.
     ap (λ (ls : List Label). ls ++ flat_map (standing (l ∷ labels)) rest) (standing_here l labels a at)
     ∙ ap (λ (ls : List Label). l ∷ (standing labels a ++ ls)) (same_later l labels (a + 1) m (omega (arith, at))))

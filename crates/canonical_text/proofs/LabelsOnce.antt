@@ -1,9 +1,9 @@
 -- No label stands twice in a thread: told of all rows at once, and of each thread.
-use Rattle.canonical_text.proofs.Vocabulary.{◌≡◌, ◌≢◌, ℕ, zero, suc, ◌+◌, ◌<◌, ◌==◌, Bool, List, [], ◌∷◌, ◌++◌, map, Option, Some, None, refl, sym, ap, ◌∙◌, subst, inl, inr, arith, slice_get, if◌then◌else◌, cons_option, filter_map, flat_map, add-zero}
+use Rattle.canonical_text.proofs.Vocabulary.{◌≡◌, ◌≢◌, ℕ, zero, suc, ◌+◌, ◌<◌, ◌==◌, Bool, List, [], ◌∷◌, ◌++◌, map, Option, Some, None, refl, sym, ap, ◌∙◌, subst, arith, slice_get, if◌then◌else◌, cons_option, filter_map, flat_map}
 use Rattle.canonical_text.proofs.Vocabulary.{Decides-eqb, append-nil, map-append, filter_map-append, CellView, column, size, labels_behind, thread_labels}
 use Rattle.litmus_syntax.specs.Grammar.{IsNoneOf, NoneTwice, labels_from, row_labels, labels_in_rows}
-use Rattle.canonical_text.proofs.LabelsNamed.{label_name}
-use Rattle.std.proofs.lemmas.Bool.{false_from_ne_true as not_true, cases_eq}
+use Rattle.canonical_text.proofs.LabelsNamed.{label_name, same_or_not}
+use Rattle.std.proofs.lemmas.Bool.{false_from_ne_true as not_true}
 
 -- a label with its thread
 abbrev Owned : Type 0
@@ -17,9 +17,6 @@ own_name t p = if p.0 == t then Some p.1 else None
 abbrev own_names : ℕ → List Owned → List (List ℕ)
 own_names t ps = filter_map (own_name t) ps
 
-own_or_not : (C : Type 0) (t : ℕ) (p : Owned) → (p.0 ≡ t → C) → ((p.0 ≡ t → ⊥) → C) → C
-own_or_not C t p same other = elim (cases_eq p.0 t) [ inl e ↦ same e | inr n ↦ other n ]
-
 own_here : (t : ℕ) (p : Owned) (ps : List Owned) → p.0 ≡ t → own_names t (p ∷ ps) ≡ p.1 ∷ own_names t ps
 own_here t p ps e = ap (λ (b : Bool). cons_option (if b then Some p.1 else None) (own_names t ps)) ((Decides-eqb p.0 t).1 e)
 
@@ -31,7 +28,7 @@ own_others t p ps other = ap (λ (b : Bool). cons_option (if b then Some p.1 els
 none_of_own : (t : ℕ) (p : Owned) (ps : List Owned) → p.0 ≡ t → IsNoneOf p ps → IsNoneOf p.1 (own_names t ps)
 none_of_own t p [] e h = tt
 none_of_own t p (q ∷ ps) e h =
-    own_or_not (IsNoneOf p.1 (own_names t (q ∷ ps))) t q
+    same_or_not (IsNoneOf p.1 (own_names t (q ∷ ps))) q.0 t
     (λ here.
     let ne : p.1 ≢ q.1 = λ same. h.0 (λ i. ((e ∙ sym here) i, same i)) in
     subst (IsNoneOf p.1) (sym (own_here t q ps here)) (ne, none_of_own t p ps e h.1))
@@ -40,7 +37,7 @@ none_of_own t p (q ∷ ps) e h =
 pub once_in_thread : (t : ℕ) (ps : List Owned) → NoneTwice ps → NoneTwice (own_names t ps)
 once_in_thread t [] h = tt
 once_in_thread t (p ∷ ps) h =
-    own_or_not (NoneTwice (own_names t (p ∷ ps))) t p
+    same_or_not (NoneTwice (own_names t (p ∷ ps))) p.0 t
     (λ here. subst NoneTwice (sym (own_here t p ps here)) (none_of_own t p ps here h.0, once_in_thread t ps h.1))
     (λ other. subst NoneTwice (sym (own_others t p ps other)) (once_in_thread t ps h.1))
 
@@ -49,7 +46,7 @@ once_in_thread t (p ∷ ps) h =
 none_of_all : (p : Owned) (ps : List Owned) → IsNoneOf p.1 (own_names p.0 ps) → IsNoneOf p ps
 none_of_all p [] h = tt
 none_of_all p (q ∷ ps) h =
-    own_or_not (IsNoneOf p (q ∷ ps)) p.0 q
+    same_or_not (IsNoneOf p (q ∷ ps)) q.0 p.0
     (λ here.
     let own : IsNoneOf p.1 (q.1 ∷ own_names p.0 ps) = subst (IsNoneOf p.1) (own_here p.0 q ps here) h in
     (λ e. own.0 (ap (λ (x : Owned). x.1) e), none_of_all p ps own.1))
@@ -59,7 +56,7 @@ none_of_all p (q ∷ ps) h =
 
 once_behind : (t : ℕ) (p : Owned) (ps : List Owned) → NoneTwice (own_names t (p ∷ ps)) → NoneTwice (own_names t ps)
 once_behind t p ps h =
-    own_or_not (NoneTwice (own_names t ps)) t p
+    same_or_not (NoneTwice (own_names t ps)) p.0 t
     (λ here. let own : NoneTwice (p.1 ∷ own_names t ps) = subst NoneTwice (own_here t p ps here) h in own.1)
     (λ other. subst NoneTwice (own_others t p ps other) h)
 
@@ -94,20 +91,18 @@ later_cells t a (c ∷ cells) lt =
     ∙ ap (λ (ns : List (List ℕ)). ns ++ own_names t (labels_from (a + 1) cells)) (other_cell t a c.labels (λ e. absurd (omega (arith, e, lt))))
     ∙ later_cells t (a + 1) cells (omega (arith, lt))
 
-row_own : (a t : ℕ) (cells : List CellView) → own_names (a + t) (labels_from a cells) ≡ labels_in (slice_get cells t)
-row_own a t [] = refl
-row_own a zero (c ∷ cells) =
-    let same : a + 0 ≡ a = add-zero a in
-    ap (λ (u : ℕ). own_names u (labels_from a (c ∷ cells))) same
+row_own : (a t u : ℕ) (cells : List CellView) → a + t ≡ u → own_names u (labels_from a cells) ≡ labels_in (slice_get cells t)
+row_own a t u [] e = refl
+row_own a zero u (c ∷ cells) e =
+    let first : u ≡ a = omega arith in
+    ap (λ (v : ℕ). own_names v (labels_from a (c ∷ cells))) first
     ∙ filter_map-append (own_name a) (map (λ l. (a, l)) c.labels) (labels_from (a + 1) cells)
     ∙ ap (λ (ns : List (List ℕ)). ns ++ own_names a (labels_from (a + 1) cells)) (own_cell a c.labels)
     ∙ ap (λ (ns : List (List ℕ)). c.labels ++ ns) (later_cells a (a + 1) cells (omega arith)) ∙ append-nil c.labels
-row_own a (suc t) (c ∷ cells) =
-    let same : a + suc t ≡ (a + 1) + t = omega arith in
-    filter_map-append (own_name (a + suc t)) (map (λ l. (a, l)) c.labels) (labels_from (a + 1) cells)
-    ∙ ap (λ (ns : List (List ℕ)). ns ++ own_names (a + suc t) (labels_from (a + 1) cells)) (other_cell (a + suc t) a c.labels (λ e. absurd (omega (arith, e))))
-    ∙ ap (λ (u : ℕ). own_names u (labels_from (a + 1) cells)) same
-    ∙ row_own (a + 1) t cells
+row_own a (suc t) u (c ∷ cells) e =
+    filter_map-append (own_name u) (map (λ l. (a, l)) c.labels) (labels_from (a + 1) cells)
+    ∙ ap (λ (ns : List (List ℕ)). ns ++ own_names u (labels_from (a + 1) cells)) (other_cell u a c.labels (λ same. absurd (omega arith)))
+    ∙ row_own (a + 1) t u cells (omega arith)
 
 one_more : (o : Option CellView) (cells : List CellView) → labels_in o ++ flat_map cell_names cells ≡ flat_map cell_names (cons_option o cells)
 one_more None cells = refl
@@ -116,10 +111,8 @@ one_more (Some c) cells = refl
 rows_own : (t : ℕ) (rows : List (List CellView)) → own_names t (labels_in_rows rows) ≡ flat_map cell_names (column rows t)
 rows_own t [] = refl
 rows_own t (row ∷ rows) =
-    let zero_first : 0 + t ≡ t = omega arith in
-    let here : own_names t (row_labels row) ≡ labels_in (slice_get row t) = ap (λ (u : ℕ). own_names u (row_labels row)) (sym zero_first) ∙ row_own 0 t row in
     filter_map-append (own_name t) (row_labels row) (labels_in_rows rows)
-    ∙ (λ i. here i ++ rows_own t rows i)
+    ∙ (λ i. row_own 0 t t row (omega arith) i ++ rows_own t rows i)
     ∙ one_more (slice_get row t) (column rows t)
 
 named_at_all : (k : ℕ) (ls : List (List ℕ)) → map label_name (map (λ l. record { name = l; position = k }) ls) ≡ ls

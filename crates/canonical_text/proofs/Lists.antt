@@ -1,5 +1,6 @@
 -- Facts of every element of a list.
-use Rattle.canonical_text.proofs.Vocabulary.{◌≡◌, ℕ, ◌+◌, ◌<◌, ◌≤◌, zero, suc, Bool, true, ◌||◌, List, [], ◌∷◌, ◌++◌, length, map, Option, Some, None, refl, sym, ap, ◌∙◌, arith, or-true, slice_get, AllByRecursion, list_any, filter_map, cons_option}
+use Rattle.canonical_text.proofs.Vocabulary.{◌≡◌, ℕ, ◌+◌, ◌<◌, ◌≤◌, zero, suc, Bool, true, ◌||◌, List, [], ◌∷◌, ◌++◌, length, map, Option, Some, None, refl, sym, ap, ◌∙◌, arith, or-true, slice_get, AllByRecursion, list_any, flat_map, filter_map, cons_option}
+use Rattle.std.specs.Option.{IfSome}
 use Rattle.canonical_text.proofs.Vocabulary.{range_with_len, add-zero, slice_get-get_or, length-map-range_with_len, get_or-map-range_with_len}
 
 pub all_of_both : {X : Type 0} (P : X → Type 0) (xs ys : List X) → AllByRecursion P xs → AllByRecursion P ys → AllByRecursion P (xs ++ ys)
@@ -14,6 +15,25 @@ pub all_more_so : {X : Type 0} (P Q : X → Type 0) → ((x : X) → P x → Q x
 all_more_so P Q so [] h = tt
 all_more_so P Q so (x ∷ xs) h = (so x h.0, all_more_so P Q so xs h.1)
 
+-- what each element gives
+pub all_mapped : {X Y : Type 0} (P : X → Type 0) (Q : Y → Type 0) (f : X → Y) → ((x : X) → P x → Q (f x)) → (xs : List X) → AllByRecursion P xs → AllByRecursion Q (map f xs)
+all_mapped P Q f so [] h = tt
+all_mapped P Q f so (x ∷ xs) h = (so x h.0, all_mapped P Q f so xs h.1)
+
+pub all_given : {X Y : Type 0} (P : X → Type 0) (Q : Y → Type 0) (f : X → List Y) → ((x : X) → P x → AllByRecursion Q (f x)) → (xs : List X) → AllByRecursion P xs → AllByRecursion Q (flat_map f xs)
+all_given P Q f so [] h = tt
+all_given P Q f so (x ∷ xs) h = all_of_both Q (f x) (flat_map f xs) (so x h.0) (all_given P Q f so xs h.1)
+
+-- the element at a place
+pub all_at : {X : Type 0} (P : X → Type 0) (xs : List X) (k : ℕ) → AllByRecursion P xs → IfSome (slice_get xs k) P
+all_at P [] k h = tt
+all_at P (x ∷ xs) zero h = h.0
+all_at P (x ∷ xs) (suc k) h = all_at P xs k h.1
+
+pub all_with : {X : Type 0} (P : X → Type 0) (o : Option X) (xs : List X) → IfSome o P → AllByRecursion P xs → AllByRecursion P (cons_option o xs)
+all_with P None xs h g = g
+all_with P (Some x) xs h g = (h, g)
+
 pub all_of_range : {X : Type 0} (P : X → Type 0) (f : ℕ → X) → ((k : ℕ) → P (f k)) → (a n : ℕ) → AllByRecursion P (map f (range_with_len a n))
 all_of_range P f each a zero = tt
 all_of_range P f each a (suc n) = (each a, all_of_range P f each (a + 1) n)
@@ -22,13 +42,6 @@ all_of_range P f each a (suc n) = (each a, all_of_range P f each (a + 1) n)
 pub map_same : {X Y : Type 0} (f g : X → Y) (xs : List X) → AllByRecursion (λ x. f x ≡ g x) xs → map f xs ≡ map g xs
 map_same f g [] h = refl
 map_same {Y = Y} f g (x ∷ xs) h = ap (λ (y : Y). y ∷ map f xs) h.0 ∙ ap (λ (ys : List Y). g x ∷ ys) (map_same f g xs h.1)
-
--- functions that agree on numbers
-pub range_same : {Y : Type 0} (f g : ℕ → Y) (a n : ℕ) → ((k : ℕ) → a ≤ k → k < a + n → f k ≡ g k) → map f (range_with_len a n) ≡ map g (range_with_len a n)
-range_same f g a zero same = refl
-range_same {Y} f g a (suc n) same =
-    ap (λ (y : Y). y ∷ map f (range_with_len (a + 1) n)) (same a (omega arith) (omega arith))
-    ∙ ap (λ (ys : List Y). g a ∷ ys) (range_same f g (a + 1) n (λ k le lt. same k (omega arith) (omega arith)))
 
 -- each element is among the list
 pub each_among : {X : Type 0} (alike : X → X → Bool) → ((x : X) → alike x x ≡ true) → (xs : List X) → AllByRecursion (λ x. list_any (λ y. alike y x) xs ≡ true) xs

@@ -1,6 +1,6 @@
 -- What a text names: each name can be printed, and each place that it names is named.
-use Rattle.canonical_text.proofs.Vocabulary.{◌≡◌, ℕ, ◌+◌, ◌<◌, ◌≤◌, Bool, true, false, cond, ◌||◌, List, [], ◌∷◌, ◌++◌, length, map, fold, get_or, Option, Some, None, refl, sym, ap, ◌∙◌, subst, inl, inr, arith, or_parts, if◌then◌else◌, slice_index_or}
-use Rattle.canonical_text.proofs.Vocabulary.{AllByRecursion, list_any, find, flat_map, filter_map, option_map_or, bytes_eq, cases_Bool, list_any-append, get_or-map-range_with_len, Reg, Eax, PlaceView, Location, Register, EntryView, CodeView}
+use Rattle.canonical_text.proofs.Vocabulary.{◌≡◌, ℕ, ◌+◌, ◌<◌, ◌≤◌, Bool, true, false, cond, ◌||◌, List, [], ◌∷◌, ◌++◌, length, map, fold, Option, Some, None, sym, ap, ◌∙◌, subst, inl, inr, arith, or_parts, if◌then◌else◌, slice_index_or}
+use Rattle.canonical_text.proofs.Vocabulary.{AllByRecursion, list_any, find, flat_map, filter_map, option_map_or, bytes_eq, cases_Bool, list_any-append, get_or-map-range_with_len, Reg, PlaceView, Location, Register, EntryView, CodeView}
 use Rattle.canonical_text.proofs.Vocabulary.{LoadImm, Copy, Load, StoreImm, Store, Xchg, CmpImm, CmpReg, CellView, BodyView, SignView, Atom, EndingView, same_place, all_registers, with_name, code_places, cell_places}
 use Rattle.canonical_text.proofs.Vocabulary.{cells_places, row_places, sign_places, entry_place, places, location_name, is_register, names_of, is_named, first_value, IsTextNumber, IsLocationName, IsPrintablePlace, IsPrintableEntry, IsPrintableCode}
 use Rattle.canonical_text.proofs.Vocabulary.{IsPrintableContent, IsPrintableCell, IsPrintableRow, IsPrintableSign, append-nil}
@@ -8,15 +8,11 @@ use Rattle.tso_program.specs.Instructions.{number}
 use Rattle.litmus_syntax.proofs.SeenLaws.{same_place_itself}
 use Rattle.litmus_reader.specs.Names.{in_order}
 use Rattle.litmus_reader.proofs.NamesOnce.{Stands, stand_from}
-use Rattle.canonical_text.proofs.NamedPlaces.{nothing_held}
+use Rattle.canonical_text.proofs.NamedPlaces.{at_register, nothing_held}
 use Rattle.canonical_text.proofs.ToldCode.{IsKnown}
-use Rattle.canonical_text.proofs.Lists.{all_of_both, each_among}
+use Rattle.canonical_text.proofs.Lists.{all_of_both, all_mapped, all_given, each_among}
 
 -- ---- the places of a text can be printed
-
-entries_places : (threads : ℕ) (es : List EntryView) → AllByRecursion (IsPrintableEntry threads) es → AllByRecursion (IsPrintablePlace threads) (map entry_place es)
-entries_places threads [] h = tt
-entries_places threads (e ∷ es) h = (h.0.0, entries_places threads es h.1)
 
 code_places_printable : (threads t : ℕ) (c : CodeView) → t < threads → IsPrintableCode c → AllByRecursion (IsPrintablePlace threads) (code_places t c)
 code_places_printable threads t (LoadImm r n) lt h = (lt, tt)
@@ -39,23 +35,18 @@ cells_places_printable threads a (cell ∷ cells) le h =
     all_of_both (IsPrintablePlace threads) (cell_places a cell) (cells_places (a + 1) cells)
     (content_places_printable threads a cell.code (omega (arith, le)) h.0.1) (cells_places_printable threads (a + 1) cells (omega (arith, le)) h.1)
 
-rows_places : (threads : ℕ) (rows : List (List CellView)) → AllByRecursion (IsPrintableRow threads) rows → AllByRecursion (IsPrintablePlace threads) (flat_map row_places rows)
-rows_places threads [] h = tt
-rows_places threads (row ∷ rows) h =
-    all_of_both (IsPrintablePlace threads) (row_places row) (flat_map row_places rows) (cells_places_printable threads 0 row (omega (arith, h.0.0)) h.0.1) (rows_places threads rows h.1)
-
-signs_places : (threads : ℕ) (ss : List SignView) → AllByRecursion (IsPrintableSign threads) ss → AllByRecursion (IsPrintablePlace threads) (flat_map sign_places ss)
-signs_places threads [] h = tt
-signs_places threads (Atom p n ∷ ss) h = (h.0.0, signs_places threads ss h.1)
-signs_places threads (_ ∷ ss) h = signs_places threads ss h.1
+sign_places_printable : (threads : ℕ) (s : SignView) → IsPrintableSign threads s → AllByRecursion (IsPrintablePlace threads) (sign_places s)
+sign_places_printable threads (Atom p n) h = (h.0, tt)
+sign_places_printable threads s h = tt
 
 pub places_printable : (b : BodyView) (e : EndingView) → AllByRecursion (IsPrintableEntry b.threads) b.entries → AllByRecursion (IsPrintableRow b.threads) b.rows → AllByRecursion (IsPrintablePlace b.threads) e.observed
     → AllByRecursion (IsPrintableSign b.threads) e.signs → AllByRecursion (IsPrintablePlace b.threads) (places b e)
 places_printable b e entries rows shown signs =
     let ends : List PlaceView = e.observed ++ flat_map sign_places e.signs in
-    all_of_both (IsPrintablePlace b.threads) (map entry_place b.entries) (flat_map row_places b.rows ++ ends) (entries_places b.threads b.entries entries)
-    (all_of_both (IsPrintablePlace b.threads) (flat_map row_places b.rows) ends (rows_places b.threads b.rows rows)
-    (all_of_both (IsPrintablePlace b.threads) e.observed (flat_map sign_places e.signs) shown (signs_places b.threads e.signs signs)))
+    all_of_both (IsPrintablePlace b.threads) (map entry_place b.entries) (flat_map row_places b.rows ++ ends) (all_mapped (IsPrintableEntry b.threads) (IsPrintablePlace b.threads) entry_place (λ e h. h.0) b.entries entries)
+    (all_of_both (IsPrintablePlace b.threads) (flat_map row_places b.rows) ends
+    (all_given (IsPrintableRow b.threads) (IsPrintablePlace b.threads) row_places (λ row h. cells_places_printable b.threads 0 row (omega (arith, h.0)) h.1) b.rows rows)
+    (all_of_both (IsPrintablePlace b.threads) e.observed (flat_map sign_places e.signs) shown (all_given (IsPrintableSign b.threads) (IsPrintablePlace b.threads) sign_places (sign_places_printable b.threads) e.signs signs)))
 
 -- ---- so can the names
 
@@ -71,16 +62,12 @@ names_good threads names (Register t r ∷ ps) h g = names_good threads names ps
 
 -- ---- which registers are named
 
-at_register : (f : Reg → Bool) (r : Reg) → get_or (map f all_registers) (number r) false ≡ f r
-at_register f Eax = refl
-at_register f r = refl
-
 -- those that stand among the places
 pub named_is : (b : BodyView) (e : EndingView) (t : ℕ) (r : Reg) → t < b.threads → is_named (names_of b e) t r ≡ list_any (is_register t r) (places b e)
 named_is b e t r lt =
     let flags : ℕ → List Bool = λ u. map (λ s. list_any (is_register u s) (places b e)) all_registers in
     ap (λ (bs : List Bool). slice_index_or bs (number r) false) (get_or-map-range_with_len flags 0 b.threads t t [] lt (omega arith))
-    ∙ at_register (λ s. list_any (is_register t s) (places b e)) r
+    ∙ at_register (λ s. list_any (is_register t s) (places b e)) r false
 
 known_of : (b : BodyView) (e : EndingView) (qs : List PlaceView) → AllByRecursion (IsPrintablePlace b.threads) qs → AllByRecursion (Stands (names_of b e).locations) qs
     → AllByRecursion (λ p. list_any (λ q. same_place q p) (places b e) ≡ true) qs → AllByRecursion (IsKnown (names_of b e).locations (is_named (names_of b e))) qs

@@ -4,11 +4,13 @@ use Rattle.std.specs.Prelude.{if◌then◌else◌, slice_index}
 use Rattle.std.proofs.lemmas.List.{length-map, get_or-map, map-append}
 use Rattle.std.proofs.lemmas.Simd.{map-map}
 use Rattle.std.proofs.Math.Bool.{and-true, and-false, or-true, or-false}
-use Rattle.std.proofs.lemmas.Bool.{or_from, or_parts, false_from_ne_true}
+use Rattle.std.proofs.lemmas.Bool.{eqb-true, or_from, or_parts, false_from_ne_true}
 use Rattle.canonical_text.proofs.Vocabulary.{AllByRecursion, IsDistinct, flat_map, filter_map, find, list_any, option_map_or, bytes_eq, cases_Bool, Decides-eqb, bytes_eq-Decides, list_any-append, fill_by_all, Reg, Eax, Ebx, Ecx, Edx, Esi, Edi, Thread}
 use Rattle.canonical_text.proofs.Vocabulary.{PlaceView, Location, Register, EntryView, IsNoneOf, NoneTwice, place_of_entry, same_place, same_place_is, TextNames, all_registers, location_name, is_register, is_named, first_value, location_name_at}
 use Rattle.canonical_text.proofs.Vocabulary.{location_entry, location_entries, named_entry, register_entries, IsTextNumber, IsLocationName, IsPrintableEntry}
 use Rattle.tso_program.specs.Instructions.{number}
+use Rattle.tso_program.proofs.Registers.{small_number, same_register}
+use Rattle.canonical_text.proofs.Lists.{all_of_both, all_mapped}
 
 -- ---- the places
 
@@ -57,9 +59,10 @@ location_entries_are held names =
     ∙ ap (λ (n : ℕ). record { place = Location (location_name_at names l); value = n }) (sym (get_or-map value names l [] 0 within)) in
     sym (fill_by_all (location_entry names memory) (map entry names) (length memory) none (length-map names entry ∙ sym count) at) ∙ sym (map-map (entry_at held) Location names)
 
-value_of_register : (v : Reg → ℕ) (r : Reg) → slice_index (map v all_registers) (number r) ≡ v r
-value_of_register v Eax = refl
-value_of_register v r = refl
+-- what a list of all registers' values has at a register's number
+pub at_register : {X : Type 0} (f : Reg → X) (r : Reg) (d : X) → get_or (map f all_registers) (number r) d ≡ f r
+at_register f Eax d = refl
+at_register f r d = refl
 
 one_entry : (held : PlaceView → ℕ) (p : PlaceView) (n : ℕ) (b : Bool) → n ≡ held p
     → (if b then record { place = p; value = n } ∷ [] else []) ≡ map (entry_at held) (if b then p ∷ [] else [])
@@ -71,7 +74,7 @@ register_entries_are : (held : PlaceView → ℕ) (names : TextNames) (t : ℕ) 
 register_entries_are held names t values e [] = refl
 register_entries_are held names t values e (r ∷ rs) =
     let value : slice_index values (number r) ≡ held (Register t r) =
-    ap (λ (vs : List ℕ). slice_index vs (number r)) e ∙ value_of_register (λ s. held (Register t s)) r in
+    ap (λ (vs : List ℕ). slice_index vs (number r)) e ∙ at_register (λ s. held (Register t s)) r 0 in
     ap (λ (es : List EntryView). es ++ flat_map (named_entry names t values) rs) (one_entry held (Register t r) (slice_index values (number r)) (is_named names t r) value)
     ∙ ap (λ (es : List EntryView). map (entry_at held) (picked (is_named names) t r) ++ es) (register_entries_are held names t values e rs)
     ∙ sym (map-append (entry_at held) (picked (is_named names) t r) (flat_map (picked (is_named names) t) rs))
@@ -168,19 +171,11 @@ no_location x k m [] h = tt
 no_location x k m (Location y ∷ ps) h = absurd h
 no_location x k m (Register t r ∷ ps) h = (λ e. cc, no_location x (6 * t + number r + 1) m ps h.1)
 
-none_of_both : (p : PlaceView) (ps qs : List PlaceView) → IsNoneOf p ps → IsNoneOf p qs → IsNoneOf p (ps ++ qs)
-none_of_both p [] qs h g = g
-none_of_both p (q ∷ ps) qs h g = (h.0, none_of_both p ps qs h.1 g)
-
 other_names : (x : List ℕ) (names : List (List ℕ)) → AllByRecursion (λ y. bytes_eq x y ≡ false) names → IsNoneOf (Location x) (map Location names)
-other_names x [] h = tt
-other_names x (y ∷ names) h = (
-  λ e.
-      let same : x ≡ y = cc in
-      let met : bytes_eq x y ≡ true = (bytes_eq-Decides x y).1 same in
-      cc,
-  other_names x names h.1,
-)
+other_names x = all_mapped (λ y. bytes_eq x y ≡ false) (λ p. Location x ≢ p) Location (λ y other e.
+    let same : x ≡ y = cc in
+    let met : bytes_eq x y ≡ true = (bytes_eq-Decides x y).1 same in
+    cc)
 
 pub distinct_head : (x : List ℕ) (names : List (List ℕ)) → IsDistinct bytes_eq (x ∷ names) → AllByRecursion (λ y. bytes_eq x y ≡ false) names × IsDistinct bytes_eq names
 unfolding IsDistinct
@@ -190,7 +185,7 @@ pub places_once : (names : List (List ℕ)) (k m : ℕ) (ps : List PlaceView) �
 places_once [] k m ps once h = rising_once k m ps h
 places_once (x ∷ names) k m ps once h =
     let d = distinct_head x names once in
-    (none_of_both (Location x) (map Location names) ps (other_names x names d.0) (no_location x k m ps h), places_once names k m ps d.1 h)
+    (all_of_both (λ p. Location x ≢ p) (map Location names) ps (other_names x names d.0) (no_location x k m ps h), places_once names k m ps d.1 h)
 
 pub placed_entries : (held : PlaceView → ℕ) (ps : List PlaceView) → map place_of_entry (map (entry_at held) ps) ≡ ps
 placed_entries held [] = refl
@@ -242,12 +237,6 @@ no_locations : (t : ℕ) (r : Reg) (names : List (List ℕ)) → list_any (is_re
 no_locations t r [] = refl
 no_locations t r (x ∷ names) = no_locations t r names
 
-same_register : (r s : Reg) → (number s == number r) ≡ true → s ≡ r
-same_register r s e =
-    let there : same_place (Register 0 s) (Register 0 r) ≡ true = e in
-    let same : Register 0 s ≡ Register 0 r = same_place_is (Register 0 s) (Register 0 r) there in
-    cc
-
 any_picked : (f : PlaceView → Bool) (p : PlaceView) (b : Bool) → list_any f (if b then p ∷ [] else []) ≡ (b && f p)
 any_picked f p true = or-false (f p)
 any_picked f p false = refl
@@ -265,7 +254,7 @@ among_picked named t r (s ∷ rs) =
     any_picked (is_register t r) (Register t s) (named t s) ∙ ap (λ (b : Bool). named t s && (b && here)) (eq-eqb t t refl) in
     let same : (named t s && here) ≡ (named t r && here) =
     elim (cases_Bool here) [
-      | inl same_one ↦ ap (λ (q : Reg). named t q && here) (same_register r s same_one)
+      | inl same_one ↦ ap (λ (q : Reg). named t q && here) (same_register s r (eqb-true (number s) (number r) same_one))
       | inr other_one ↦ ap (λ (b : Bool). named t s && b) other_one ∙ and-false (named t s) ∙ sym (ap (λ (b : Bool). named t r && b) other_one ∙ and-false (named t r))
     ] in
     list_any-append (is_register t r) (picked named t s) (flat_map (picked named t) rs)
@@ -282,16 +271,12 @@ none_among : (p : PlaceView) (ps : List PlaceView) → IsNoneOf p ps → list_an
 none_among p [] h = refl
 none_among p (q ∷ ps) h = or_from (same_place q p) (list_any (λ x. same_place x p) ps) (false_from_ne_true (same_place q p) (λ t. h.0 (sym (same_place_is q p t)))) (none_among p ps h.1)
 
-small_register : (r : Reg) → number r < 6
-small_register Eax = omega arith
-small_register r = omega arith
-
 among_threads : (named : Named) (t : ℕ) (r : Reg) (u n : ℕ) → u ≤ t → t < u + n → list_any (is_register t r) (threads_places named u n) ≡ named t r
 among_threads named t r u zero le lt = absurd (omega arith)
 among_threads named t r u (suc n) le lt =
     let f : PlaceView → Bool = is_register t r in
     let rest : List PlaceView = threads_places named (u + 1) n in
-    let few : number r < 6 = small_register r in
+    let few : number r < 6 = small_number r in
     list_any-append f (register_places named u) rest
     ∙ elim (cases_Bool (u == t)) [
       | inl same_one ↦

@@ -1,12 +1,12 @@
 -- The names of the canonical text are those of the text.
-use Rattle.canonical_text.proofs.Vocabulary.{◌≡◌, ℕ, ◌+◌, ◌*◌, ◌<◌, Bool, true, false, ◌||◌, List, [], ◌∷◌, ◌++◌, map, fold, refl, sym, ap, ◌∙◌, subst, inl, inr, arith, append_assoc, append-nil, or-false, if◌then◌else◌, AllByRecursion, IsDistinct, list_any}
+use Rattle.canonical_text.proofs.Vocabulary.{◌≡◌, ℕ, ◌+◌, ◌*◌, ◌<◌, Bool, true, false, ◌||◌, List, [], ◌∷◌, ◌++◌, map, fold, refl, sym, ap, ◌∙◌, subst, inl, inr, append_assoc, append-nil, or-false, if◌then◌else◌, AllByRecursion, IsDistinct, list_any}
 use Rattle.canonical_text.proofs.Vocabulary.{filter_map, bytes_eq, cases_Bool, filter_map-append, list_any-append, Reg, PlaceView, Location, Register, same_place, same_place_is, location_name, is_register, names_among}
 use Rattle.std.proofs.lemmas.Cmp.{nat_list_eq_equiv}
 use Rattle.std.proofs.lemmas.Grind.{fold-append}
 use Rattle.litmus_reader.specs.Names.{all_registers, with_name, in_order}
 use Rattle.canonical_text.proofs.NamedPlaces.{distinct_head as distinct_parts, Named, named_places, threads_places, rising_threads, named_locations, register_among}
 use Rattle.canonical_text.proofs.ToldCode.{IsKnown}
-use Rattle.canonical_text.proofs.Lists.{range_same}
+use Rattle.litmus_reader.proofs.Filled.{range_same}
 
 -- ---- locations
 
@@ -74,7 +74,5 @@ pub registers_again : (names : List (List ℕ)) (named : Named) (threads : ℕ) 
     → ((t : ℕ) (r : Reg) → t < threads → named t r ≡ list_any (is_register t r) qs)
     → (names_among threads (named_places names named threads ++ ps)).registers ≡ (names_among threads qs).registers
 registers_again names named threads ps qs h is =
-    range_same (λ t. map (λ r. list_any (is_register t r) (named_places names named threads ++ ps)) all_registers) (λ t. map (λ r. list_any (is_register t r) qs) all_registers) 0 threads
-    (λ t low high.
-    let lt : t < threads = omega (arith, high) in
-    λ i. map (λ r. (register_again names named threads t r ps lt h ∙ is t r lt) i) all_registers)
+    range_same (λ t. map (λ r. list_any (is_register t r) (named_places names named threads ++ ps)) all_registers) (λ t. map (λ r. list_any (is_register t r) qs) all_registers) threads
+    (λ t lt i. map (λ r. (register_again names named threads t r ps lt h ∙ is t r lt) i) all_registers)

@@ -7,6 +7,7 @@ use Rattle.canonical_text.proofs.Vocabulary.{IsPrintableEnding}
 use Rattle.std.proofs.lemmas.Fmt.{digits_decimal, decimal_nonempty}
 use Rattle.litmus_reader.specs.Comments.{opens}
 use Rattle.litmus_reader.specs.Lexing.{IsWord, NoWordGoesOn}
+use Rattle.canonical_text.proofs.Lists.{all_mapped}
 use Rattle.canonical_text.proofs.PiecesAppended.{AreApartBefore-append}
 use Rattle.canonical_text.specs.Spelling.{line_end, next, joined_by, bar, gap, valued_pieces, entry_pieces, initial_pieces, row_end, line_of, column_pieces, header_pieces, code_pieces, label_pieces, cell_pieces, row_pieces, body_pieces, observed_place_pieces, observed_pieces, sign_pieces, condition_pieces, ending_pieces, lines_pieces, sign, space}
 use Rattle.litmus_reader.specs.Mark.TheVariants as the
@@ -103,12 +104,8 @@ labels_apart (l ∷ ls) parts h g = (λ rest free. ((h.0.0, refl), (refl, tt)), 
 cell_apart : (c : CellView) → IsPrintableCell c → IsApart (cell_pieces c)
 cell_apart c h = gaps_apart (map label_pieces c.labels ++ map code_pieces (option_to_list c.code)) (labels_apart c.labels (map code_pieces (option_to_list c.code)) h.0 (content_apart c.code h.1))
 
-cells_apart : (cs : List CellView) → AllByRecursion IsPrintableCell cs → AllByRecursion IsApart (map cell_pieces cs)
-cells_apart [] h = tt
-cells_apart (c ∷ cs) h = (cell_apart c h.0, cells_apart cs h.1)
-
 row_apart : (threads : ℕ) (cells : List CellView) → IsPrintableRow threads cells → EndsApart (row_pieces cells)
-row_apart threads cells h = line_apart (map cell_pieces cells) (cells_apart cells h.1)
+row_apart threads cells h = line_apart (map cell_pieces cells) (all_mapped IsPrintableCell IsApart cell_pieces cell_apart cells h.1)
 
 body_apart : (b : BodyView) → IsPrintable b → EndsApart (body_pieces b)
 body_apart b h rest =
@@ -126,10 +123,6 @@ place_apart threads few (Register t r) h rest free =
     let small : t ≤ 4294967295 = omega (arith, h, few) in
     ((small, refl), (refl, ((register_word r, refl), (refl, tt))))
 
-places_apart : (threads : ℕ) → IsTextNumber threads → (ps : List PlaceView) → AllByRecursion (IsPrintablePlace threads) ps → AllByRecursion IsApart (map observed_place_pieces ps)
-places_apart threads few [] h = tt
-places_apart threads few (p ∷ ps) h = (place_apart threads few p h.0, places_apart threads few ps h.1)
-
 observed_apart : (threads : ℕ) → IsTextNumber threads → (ps : List PlaceView) → AllByRecursion (IsPrintablePlace threads) ps → EndsApart (observed_pieces ps)
 observed_apart threads few [] h rest = tt
 observed_apart threads few (p ∷ ps) h rest =
@@ -139,7 +132,7 @@ observed_apart threads few (p ∷ ps) h rest =
         refl,
         (
           refl,
-          AreApartBefore-append (joined_by gap (map observed_place_pieces (p ∷ ps))) tail rest (gaps_apart (map observed_place_pieces (p ∷ ps)) (places_apart threads few (p ∷ ps) h) (text_of tail ++ rest) refl) (refl, (refl, tt)),
+          AreApartBefore-append (joined_by gap (map observed_place_pieces (p ∷ ps))) tail rest (gaps_apart (map observed_place_pieces (p ∷ ps)) (all_mapped (IsPrintablePlace threads) IsApart observed_place_pieces (place_apart threads few) (p ∷ ps) h) (text_of tail ++ rest) refl) (refl, (refl, tt)),
         ),
       ),
     )

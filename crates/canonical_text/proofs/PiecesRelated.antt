@@ -1,15 +1,16 @@
 -- The tokens of printed parts are related to those parts by the grammar.
 use Rattle.canonical_text.proofs.Vocabulary.{◌≡◌, ℕ, ◌+◌, ◌<◌, zero, suc, true, false, List, [], ◌∷◌, ◌++◌, map, codes, Option, Some, None, inl, inr, refl, sym, ap, ◌∙◌, subst, arith, append_assoc, flat_map-map, option_to_list, append-nil, AllByRecursion}
-use Rattle.canonical_text.proofs.Vocabulary.{flat_map, range_with_len, Tok, Sign, Piece, tokens_of, Quantifier, Exists, NotExists, Forall, PlaceView, Location, Register, EntryView, CodeView, LoadImm, Copy, Load, StoreImm, Store, Xchg, Fence, CmpImm, CmpReg}
+use Rattle.canonical_text.proofs.Vocabulary.{flat_map, range_with_len, Tok, Sign, Piece, tokens_of, Quantifier, Exists, NotExists, PlaceView, Location, Register, EntryView, CodeView, LoadImm, Copy, Load, StoreImm, Store, Xchg, Fence, CmpImm, CmpReg}
 use Rattle.canonical_text.proofs.Vocabulary.{Je, Jne, Jmp, CellView, BodyView, SignView, Atom, Const, Not, EndingView, register_name, IsLabelName, IsPrintablePlace, IsPrintableEntry, IsPrintableCode, IsPrintableContent, IsPrintableCell, IsPrintableRow}
 use Rattle.canonical_text.proofs.Vocabulary.{IsPrintable, IsPrintableSign, ArePrintable, IsPrintableEnding}
 use Rattle.std.proofs.lemmas.List.Elements.{All-from_recursion}
 use Rattle.litmus_reader.specs.Mark.TheVariants as the
-use Rattle.litmus_syntax.specs.Words.{mnemonic_of}
+use Rattle.litmus_syntax.specs.Words.{mnemonic_of, opens_condition}
 use Rattle.litmus_syntax.specs.Phrases.{Phrase, ◌▸◌, mark, number, begins_with_word, Items, end, item}
 use Rattle.litmus_syntax.specs.Grammar.{IsPlace, IsEntryItem, NoneTwice, place_of_entry, IsInitial, HasThread, MoreColumns, last, column, IsHeader, IsCode, IsLabelMark, IsContent, ends_cell, IsCell, IsNextCell, IsRow, ends_rows, before_ending, IsRows, IsBody, IsObservedItem, IsObserved, IsQuantifier, IsSign, the_end, IsSigns, IsEnding}
 use Rattle.canonical_text.specs.Spelling.{space, line_end, sign, next, joined_by, bar, gap, place_pieces, valued_pieces, entry_pieces, initial_pieces, row_end, column_pieces, header_pieces, code_pieces, label_pieces, cell_pieces, row_pieces, observed_place_pieces, observed_pieces, sign_pieces, condition_pieces, ending_pieces, lines_pieces}
-use Rattle.canonical_text.proofs.WordsWritten.{opens, opens_all, opens_locations, register_named}
+use Rattle.canonical_text.proofs.Lists.{all_mapped}
+use Rattle.canonical_text.proofs.WordsWritten.{register_named}
 
 -- items one after another
 items_related : {X : Type 0} (f : X → List Piece) (Item : X → Phrase) (End : Phrase) (P : X → Type 0)
@@ -61,10 +62,6 @@ initial_related threads es ps h once =
 has_thread : (threads : ℕ) (p : PlaceView) → IsPrintablePlace threads p → HasThread threads p
 has_thread threads (Location x) h = tt
 has_thread threads (Register t r) h = h
-
-have_threads : (threads : ℕ) (es : List EntryView) → AllByRecursion (IsPrintableEntry threads) es → AllByRecursion (HasThread threads) (map place_of_entry es)
-have_threads threads [] h = tt
-have_threads threads (e ∷ es) h = (has_thread threads e.place h.0.0, have_threads threads es h.1)
 
 -- ---- the header row
 
@@ -177,10 +174,10 @@ ending_related threads e h =
 -- ---- the whole
 
 ending_opens : (places : List PlaceView) (q : Quantifier) (ss : List SignView) → ends_rows (tokens_of (observed_pieces places ++ condition_pieces q ss)) ≡ true
-ending_opens [] Exists ss = opens
-ending_opens [] NotExists ss = refl
-ending_opens [] Forall ss = opens_all
-ending_opens (p ∷ places) q ss = opens_locations
+unfolding opens_condition
+ending_opens [] Exists ss = refl
+ending_opens [] q ss = refl
+ending_opens (p ∷ places) q ss = refl
 
 rows_related : (b : BodyView) (e : EndingView) → IsPrintable b → IsRows b.threads b.rows (tokens_of (flat_map row_pieces b.rows ++ ending_pieces e)) (tokens_of (ending_pieces e))
 rows_related b e h = (
@@ -203,4 +200,4 @@ body_related b e h =
       initial_related b.threads b.entries (header ++ (rows ++ ending)) h.entries h.none_twice,
       (tokens_of (rows ++ ending), header_related b.threads h.some_thread (rows ++ ending), rows_related b e h),
     ) in
-    (subst parts same related, All-from_recursion (HasThread b.threads) (map place_of_entry b.entries) (have_threads b.threads b.entries h.entries))
+    (subst parts same related, All-from_recursion (HasThread b.threads) (map place_of_entry b.entries) (all_mapped (IsPrintableEntry b.threads) (HasThread b.threads) place_of_entry (λ e entry. has_thread b.threads e.place entry.0) b.entries h.entries))

@@ -11,6 +11,7 @@ use Rattle.litmus_reader.specs.Meaning.{atom_of, numbered_atom}
 use Rattle.litmus_reader.specs.Meaning as meaning
 use Rattle.canonical_text.specs.Canonical.{atom_named, sign_named, signs_named}
 use Rattle.canonical_text.proofs.NamedPlaces.{Named}
+use Rattle.canonical_text.proofs.Lists.{all_of_both, all_mapped}
 use Rattle.canonical_text.proofs.ToldCode.{IsKnown, name_back}
 
 -- that a place has a value
@@ -99,24 +100,20 @@ module _ (names : List (List ℕ)) (named : Named) (threads : ℕ) where
   sayable (term s) h = sayable s h
   sayable (disjunction s t) h = let one = sayable s h in let two = sayable t one.1.1 in ((one.0, two.0), two.1)
 
-  both : (xs ys : List (Sign Said)) → AllByRecursion IsSaid xs → AllByRecursion IsSaid ys → AllByRecursion IsSaid (xs ++ ys)
-  both [] ys h g = g
-  both (x ∷ xs) ys h g = (h.0, both xs ys h.1 g)
-
   -- its canonical signs
   signs_said : (f : Tree Said) → IsSayable f → AllByRecursion IsSaid (signs_of f)
   signs_said (tree.Atom a) h = (h, tt)
   signs_said (tree.Const b) h = (tt, tt)
   signs_said (tree.Not f) h = (tt, signs_said f h)
   signs_said (tree.And f g) h =
-      (tt, both (signs_of f) (sign.And ∷ (signs_of g ++ sign.Close ∷ [])) (signs_said f h.0) (tt, both (signs_of g) (sign.Close ∷ []) (signs_said g h.1) (tt, tt)))
+      (tt, all_of_both IsSaid (signs_of f) (sign.And ∷ (signs_of g ++ sign.Close ∷ [])) (signs_said f h.0) (tt, all_of_both IsSaid (signs_of g) (sign.Close ∷ []) (signs_said g h.1) (tt, tt)))
   signs_said (tree.Or f g) h =
-      (tt, both (signs_of f) (sign.Or ∷ (signs_of g ++ sign.Close ∷ [])) (signs_said f h.0) (tt, both (signs_of g) (sign.Close ∷ []) (signs_said g h.1) (tt, tt)))
+      (tt, all_of_both IsSaid (signs_of f) (sign.Or ∷ (signs_of g ++ sign.Close ∷ [])) (signs_said f h.0) (tt, all_of_both IsSaid (signs_of g) (sign.Close ∷ []) (signs_said g h.1) (tt, tt)))
 
   pub enclosed_said : (f : Tree Said) → IsSayable f → AllByRecursion IsSaid (enclosed_signs_of f)
   enclosed_said (tree.Atom a) h = (tt, (h, (tt, tt)))
   enclosed_said (tree.Const b) h = (tt, (tt, (tt, tt)))
-  enclosed_said (tree.Not f) h = (tt, both (signs_of (tree.Not f)) (sign.Close ∷ []) (signs_said (tree.Not f) h) (tt, tt))
+  enclosed_said (tree.Not f) h = (tt, all_of_both IsSaid (signs_of (tree.Not f)) (sign.Close ∷ []) (signs_said (tree.Not f) h) (tt, tt))
   enclosed_said (tree.And f g) h = signs_said (tree.And f g) h
   enclosed_said (tree.Or f g) h = signs_said (tree.Or f g) h
 
@@ -148,8 +145,7 @@ module _ (names : List (List ℕ)) (named : Named) (threads : ℕ) where
   sign_printable s h = tt
 
   pub signs_printable : (ss : List (Sign Said)) → AllByRecursion IsSaid ss → AllByRecursion (IsPrintableSign threads) (map view_of ss)
-  signs_printable [] h = tt
-  signs_printable (s ∷ ss) h = (sign_printable s h.0, signs_printable ss h.1)
+  signs_printable = all_mapped IsSaid (IsPrintableSign threads) view_of sign_printable
 
   -- and name nothing new
   pub signs_known : (ss : List (Sign Said)) → AllByRecursion IsSaid ss → AllByRecursion (IsKnown names named) (flat_map sign_places (map view_of ss))

@@ -2,7 +2,8 @@
 use Rattle.canonical_text.proofs.Vocabulary.{◌≡◌, ℕ, ◌+◌, ◌<◌, ◌==◌, zero, suc, false, List, [], ◌∷◌, ◌++◌, length, map, take, drop, get_or, codes, Some, refl, sym, ap, ◌∙◌, arith, append_assoc, nat_lt, if◌then◌else◌, flat_map, range_with_len}
 use Rattle.canonical_text.proofs.Vocabulary.{map-range_with_len_more, length-range_with_len, lt-ltb, Piece, text_of, Quantifier, PlaceView, EntryView, CodeView, SignView, Thread, TextNames, space, line_end, sign, next, joined_by, gap, code_pieces}
 use Rattle.canonical_text.proofs.Vocabulary.{label_pieces, cell_pieces, observed_place_pieces, observed_pieces, entry_pieces, initial_pieces, sign_pieces, quantifier_pieces, condition_pieces, thread_entries, register_entries}
-use Rattle.std.proofs.lemmas.List.{append-nil, take_more, map_push, drop_more, length-map, length-take-le}
+use Rattle.std.proofs.lemmas.List.{append-nil, take_more, map_more, map_push, drop_more, length-map, length-take-le}
+use Rattle.std.proofs.lemmas.Simd.{map-map}
 use Rattle.std.proofs.lemmas.Grind.{flat_map-append}
 use Rattle.litmus_reader.specs.Mark.TheVariants as the
 use Rattle.canonical_text.proofs.PiecesAppended.{text_of-append}
@@ -38,12 +39,9 @@ element_more {X} g f bs ys i d lt =
 pub given_more : {X Y Z : Type 0} (g : Y → List Piece) (h : X → Y) (view : Z → X) (bs : List ℕ) (zs : List Z) (i : ℕ) (d : Z) → i < length zs
     → (bs ++ text_of (flat_map g (map h (map view (take i zs))))) ++ text_of (g (h (view (get_or zs i d)))) ≡ bs ++ text_of (flat_map g (map h (map view (take (i + 1) zs))))
 given_more {X} {Y} {Z} g h view bs zs i d lt =
-    let front : List Y = map h (map view (take i zs)) in
-    let same : front ++ h (view (get_or zs i d)) ∷ [] ≡ map h (map view (take (i + 1) zs)) =
-    sym (map_push h (map view (take i zs)) (view (get_or zs i d)))
-    ∙ ap (map h) (sym (map_push view (take i zs) (get_or zs i d)))
-    ∙ ap (λ (ws : List Z). map h (map view ws)) (sym (take_more zs i d lt)) in
-    one_more g bs front (h (view (get_or zs i d))) ∙ ap (λ (ys : List Y). bs ++ text_of (flat_map g ys)) same
+    let whole : Z → Y = λ z. h (view z) in
+    simp map-map
+    (one_more g bs (map whole (take i zs)) (h (view (get_or zs i d))) ∙ ap (λ (ys : List Y). bs ++ text_of (flat_map g ys)) (sym (map_more whole zs i d lt)))
 
 -- ---- parts in a line
 
@@ -83,20 +81,16 @@ module _ (between : List Piece) where
   -- one item's part more
   pub item_column_more : {X : Type 0} (g : X → List Piece) (f : ℕ → X) (bs : List ℕ) (n : ℕ)
       → ((bs ++ text_of (joined_by between (map g (map f (range_with_len 0 n))))) ++ between_at between n) ++ text_of (g (f n)) ≡ bs ++ text_of (joined_by between (map g (map f (range_with_len 0 (n + 1)))))
-  item_column_more {X} g f bs n =
-      let xs : List X = map f (range_with_len 0 n) in
-      column_more bs (map g xs) (map g (map f (range_with_len 0 (n + 1)))) (g (f n)) n (length-map xs g ∙ length-map (range_with_len 0 n) f ∙ length-range_with_len 0 n)
-      (ap (map g) (map-range_with_len_more f 0 n n (omega arith)) ∙ map_push g xs (f n))
+  item_column_more g f bs n = simp map-map (number_column_more (λ k. g (f k)) bs n)
 
   -- one element's part more
   pub element_column_more : {X Y : Type 0} (g : X → List Piece) (f : Y → X) (bs : List ℕ) (ys : List Y) (i : ℕ) (d : Y) → i < length ys
       → ((bs ++ text_of (joined_by between (map g (map f (take i ys))))) ++ between_at between i) ++ text_of (g (f (get_or ys i d)))
       ≡ bs ++ text_of (joined_by between (map g (map f (take (i + 1) ys))))
   element_column_more {X} {Y} g f bs ys i d lt =
-      let xs : List X = map f (take i ys) in
+      let whole : Y → List Piece = λ y. g (f y) in
       let long : length (take i ys) ≡ i = length-take-le i ys (omega arith) in
-      column_more bs (map g xs) (map g (map f (take (i + 1) ys))) (g (f (get_or ys i d))) i (length-map xs g ∙ length-map (take i ys) f ∙ long)
-      (ap (λ (zs : List Y). map g (map f zs)) (take_more ys i d lt) ∙ ap (map g) (map_push f (take i ys) (get_or ys i d)) ∙ map_push g xs (f (get_or ys i d)))
+      simp map-map (column_more bs (map whole (take i ys)) (map whole (take (i + 1) ys)) (g (f (get_or ys i d))) i (length-map (take i ys) whole ∙ long) (map_more whole ys i d lt))
 
 -- ---- registers
 

@@ -1,6 +1,6 @@
 -- The threads of the fenced program, told by the canonical text.
 use Rattle.canonical_text.proofs.Vocabulary.{◌≡◌, ℕ, ◌+◌, ◌<◌, ◌≤◌, zero, suc, Bool, List, [], ◌∷◌, length, map, get_or, Option, refl, sym, ap, ◌∙◌, subst, inl, inr, arith, slice_index_or, AllByRecursion, IsDistinct, flat_map, range_with_len, option_map_or, column}
-use Rattle.canonical_text.proofs.Vocabulary.{bytes_eq, add-zero, cases_lt, slice_get_past, length-map-range_with_len, get_or-map-range_with_len, Instr, Thread, code_of, Gaps, place_of, fenced_code, fenced_threads, PlaceView, Register, BodyView, NoneTwice}
+use Rattle.canonical_text.proofs.Vocabulary.{bytes_eq, cases_lt, slice_get_past, length-map-range_with_len, get_or-map-range_with_len, Instr, Thread, code_of, Gaps, place_of, fenced_code, fenced_threads, PlaceView, Register, BodyView, NoneTwice}
 use Rattle.canonical_text.proofs.Vocabulary.{all_names, all_registers, number_in, row_places, Label, thread_labels, all_labels, position_in, JumpsAreFound, first_value, thread_read, own_labels, moved_label, moved_labels, IsPrintableRow}
 use Rattle.std.proofs.lemmas.List.{get_or_past}
 use Rattle.tso_program.proofs.FencedPlaces.{fenced_code_of}
@@ -102,18 +102,13 @@ pub fenced_registers : (held : PlaceView → ℕ) (gaps : Gaps) (t : ℕ) (threa
 fenced_registers held gaps t [] h = tt
 fenced_registers held gaps t (thread ∷ threads) h = (h.0, fenced_registers held gaps (t + 1) threads h.1)
 
-registers_from : (held : PlaceView → ℕ) (a t : ℕ) (threads : List Thread) (d : Thread) → t < length threads → RegistersAre held a threads
-    → (get_or threads t d).registers ≡ map (λ r. held (Register (a + t) r)) all_registers
-registers_from held a t [] d lt h = absurd (omega arith)
-registers_from held a zero (thread ∷ threads) d lt h = h.0 ∙ ap (λ (u : ℕ). map (λ r. held (Register u r)) all_registers) (sym (add-zero a))
-registers_from held a (suc t) (thread ∷ threads) d lt h =
-    let within : t < length threads = omega (arith, lt) in
-    let same : (a + 1) + t ≡ a + suc t = omega arith in
-    registers_from held (a + 1) t threads d within h.1 ∙ ap (λ (u : ℕ). map (λ r. held (Register u r)) all_registers) same
+registers_from : (held : PlaceView → ℕ) (a t u : ℕ) (threads : List Thread) (d : Thread) → a + t ≡ u → t < length threads → RegistersAre held a threads
+    → (get_or threads t d).registers ≡ map (λ r. held (Register u r)) all_registers
+registers_from held a t u [] d e lt h = absurd (omega arith)
+registers_from held a zero u (thread ∷ threads) d e lt h = let first : a ≡ u = omega arith in h.0 ∙ ap (λ (v : ℕ). map (λ r. held (Register v r)) all_registers) first
+registers_from held a (suc t) u (thread ∷ threads) d e lt h = registers_from held (a + 1) t u threads d (omega arith) (omega (arith, lt)) h.1
 
 -- the registers of thread t
 pub registers_at : (held : PlaceView → ℕ) (t : ℕ) (threads : List Thread) (d : Thread) → t < length threads → RegistersAre held 0 threads
     → (get_or threads t d).registers ≡ map (λ r. held (Register t r)) all_registers
-registers_at held t threads d lt h =
-    let same : 0 + t ≡ t = omega arith in
-    registers_from held 0 t threads d lt h ∙ ap (λ (u : ℕ). map (λ r. held (Register u r)) all_registers) same
+registers_at held t threads d lt h = registers_from held 0 t t threads d (omega arith) lt h

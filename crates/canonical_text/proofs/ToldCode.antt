@@ -1,6 +1,6 @@
 -- Code that a text tells: with names of locations and labels it can be printed, and stands for the same code again. Fences too.
 use Rattle.canonical_text.proofs.Vocabulary.{◌≡◌, ℕ, ◌+◌, ◌<◌, ◌≤◌, zero, suc, Bool, true, false, List, [], ◌∷◌, ◌++◌, length, map, Option, Some, None, refl, sym, ap, ◌∙◌, subst, arith, slice_get, slice_index_or, nat_lt, is_some, option_map, option_and_then}
-use Rattle.canonical_text.proofs.Vocabulary.{if◌then◌else◌, AllByRecursion, IsDistinct, list_all, list_any, flat_map, filter_map, cons_option, range_with_len, option_map_or, bytes_eq, add-zero, length-map, length-range_with_len, Instr, Thread, code_of}
+use Rattle.canonical_text.proofs.Vocabulary.{if◌then◌else◌, AllByRecursion, IsDistinct, list_all, list_any, flat_map, filter_map, cons_option, range_with_len, option_map_or, bytes_eq, length-map, length-range_with_len, Instr, Thread, code_of}
 use Rattle.canonical_text.proofs.Vocabulary.{instr_at, PlaceView, Location, Register, CodeView, Load, StoreImm, Store, Xchg, Fence, Je, Jne, Jmp, CellView, NoneTwice, number_in, code_places, cell_places, cells_places, row_places, Label, instruction_of}
 use Rattle.canonical_text.proofs.Vocabulary.{instruction_in, location_name_at, label_names_at, label_name_at, own_labels, moved_label, code_named, cell_of, row_of, most_cells, rows_of, IsLabelName, IsPrintableCode, IsPrintableContent, IsPrintableCell}
 use Rattle.canonical_text.proofs.Vocabulary.{IsPrintableRow}
@@ -11,8 +11,9 @@ use Rattle.litmus_reader.specs.Meaning as meaning
 use Rattle.litmus_reader.proofs.NamesOnce.{place_among, number_at}
 use Rattle.canonical_text.proofs.NamedPlaces.{Named}
 use Rattle.canonical_text.proofs.LabelPlaces.{labels_moved}
-use Rattle.canonical_text.proofs.LabelsNamed.{label_name, SomeAt, AreGoodLabels, labels_good, found_stands, position_by, label_there, found_by, first_good}
-use Rattle.canonical_text.proofs.Lists.{all_of_both, both_of_all, all_of_range, made_at, by_places}
+use Rattle.canonical_text.proofs.LabelsNamed.{label_name, SomeAt, AreGoodLabels, labels_good, found_stands, label_there, found_there, first_good}
+use Rattle.canonical_text.proofs.Lists.{all_of_both, both_of_all, all_given, all_at, all_of_range, made_at, by_places}
+use Rattle.std.specs.Option.{IfSome}
 use Rattle.std.proofs.lemmas.Bool.{and_from as both_true, and_parts}
 
 -- a place that is named
@@ -55,13 +56,13 @@ module _ (names : List (List ℕ)) (named : Named) (labels : List (List Label)) 
         ap (λ (ls : List Label). label_names_at ls place) same ∙ labels_moved gap source (position_in source l) place refl in
         subst (λ (ns : List (List ℕ)). 0 < length ns) (sym there) (found_stands source l h)
 
-    again : (l : List ℕ) → is_some (label_in source l) ≡ true → position_in (own t) (label_name_at (own t) (place_of gap (position_in source l))) ≡ place_of gap (position_in source l)
-    again l h = position_by (place_of gap (position_in source l)) (label_in (own t) (label_name_at (own t) (place_of gap (position_in source l)))) (label_there (own t) (place_of gap (position_in source l)) labels_once (stands l h))
+    abbrev renamed : List ℕ → List ℕ
+    renamed l = label_name_at (own t) (place_of gap (position_in source l))
 
-    found : (l : List ℕ) → is_some (label_in source l) ≡ true → is_some (label_in (own t) (label_name_at (own t) (place_of gap (position_in source l)))) ≡ true
-    found l h = found_by (place_of gap (position_in source l)) (label_in (own t) (label_name_at (own t) (place_of gap (position_in source l)))) (label_there (own t) (place_of gap (position_in source l)) labels_once (stands l h))
+    again : (l : List ℕ) → is_some (label_in source l) ≡ true → (position_in (own t) (renamed l) ≡ place_of gap (position_in source l)) × (is_some (label_in (own t) (renamed l)) ≡ true)
+    again l h = found_there (place_of gap (position_in source l)) (label_in (own t) (renamed l)) (label_there (own t) (place_of gap (position_in source l)) labels_once (stands l h))
 
-    may_stand : (l : List ℕ) → is_some (label_in source l) ≡ true → IsLabelName (label_name_at (own t) (place_of gap (position_in source l)))
+    may_stand : (l : List ℕ) → is_some (label_in source l) ≡ true → IsLabelName (renamed l)
     may_stand l h = first_good (label_names_at (own t) (place_of gap (position_in source l))) (stands l h) (labels_good (own t) (place_of gap (position_in source l)) good)
 
     pub code_told : (c : CodeView) → IsPrintableCode c → AllByRecursion (IsKnown names named) (code_places t c) → JumpsAmong source (Some c)
@@ -70,9 +71,9 @@ module _ (names : List (List ℕ)) (named : Named) (labels : List (List Label)) 
     code_told (StoreImm x n) h k j = (StoreImm x n, ap (λ (y : List ℕ). StoreImm y n) (name_back names x once k.0), refl, h, k, refl)
     code_told (Store x r) h k j = (Store x r, ap (λ (y : List ℕ). Store y r) (name_back names x once k.0), refl, h, k, refl)
     code_told (Xchg x r) h k j = (Xchg x r, ap (λ (y : List ℕ). Xchg y r) (name_back names x once k.0), refl, h, k, refl)
-    code_told (Je l) h k j = (Je (label_name_at (own t) (place_of gap (position_in source l))), refl, ap (λ (p : ℕ). instr.Je p) (again l j), (may_stand l j).0, tt, found l j)
-    code_told (Jne l) h k j = (Jne (label_name_at (own t) (place_of gap (position_in source l))), refl, ap (λ (p : ℕ). instr.Jne p) (again l j), (may_stand l j).0, tt, found l j)
-    code_told (Jmp l) h k j = (Jmp (label_name_at (own t) (place_of gap (position_in source l))), refl, ap (λ (p : ℕ). instr.Jmp p) (again l j), (may_stand l j).0, tt, found l j)
+    code_told (Je l) h k j = (Je (renamed l), refl, ap (λ (p : ℕ). instr.Je p) (again l j).0, (may_stand l j).0, tt, (again l j).1)
+    code_told (Jne l) h k j = (Jne (renamed l), refl, ap (λ (p : ℕ). instr.Jne p) (again l j).0, (may_stand l j).0, tt, (again l j).1)
+    code_told (Jmp l) h k j = (Jmp (renamed l), refl, ap (λ (p : ℕ). instr.Jmp p) (again l j).0, (may_stand l j).0, tt, (again l j).1)
     code_told c h k j = (c, refl, refl, h, k, refl)
 
     -- ---- the rows of a text
@@ -87,35 +88,32 @@ module _ (names : List (List ℕ)) (named : Named) (labels : List (List Label)) 
     told_content (Some c) rest h k j more = (code_told c h k j, more)
 
     -- a cell of the text
-    abbrev IfTellable : Option CellView → Type 0
-    IfTellable None = Unit {0}
-    IfTellable (Some cell) = IsGoodCell t cell × (is_found source cell ≡ true)
+    abbrev IsTellable : CellView → Type 0
+    IsTellable cell = IsGoodCell t cell × (is_found source cell ≡ true)
 
-    told_cell : (o : Option CellView) (rest : List Instr) → IfTellable o → AllByRecursion IsToldMoved rest
+    told_cell : (o : Option CellView) (rest : List Instr) → IfSome o IsTellable → AllByRecursion IsToldMoved rest
         → AllByRecursion IsToldMoved (cons_option (option_map (instruction_of (number_in names) (position_in source)) (option_and_then (λ cell. cell.code) o)) rest)
     told_cell None rest good' more = more
     told_cell (Some cell) rest good' more = told_content cell.code rest good'.0.0.1 good'.0.1 good'.1 more
 
     module _ (all : List (List Label)) (mine : slice_index_or all t [] ≡ source) where
       -- a cell of thread u
-      abbrev IfGood : ℕ → Option CellView → Type 0
-      IfGood u None = Unit {0}
-      IfGood u (Some cell) = IsGoodCell u cell × (is_found (slice_index_or all u []) cell ≡ true)
+      abbrev IfGood : ℕ → CellView → Type 0
+      IfGood u cell = IsGoodCell u cell × (is_found (slice_index_or all u []) cell ≡ true)
 
-      good_at : (a u : ℕ) (cells : List CellView) → AllByRecursion IsPrintableCell cells → AllByRecursion (IsKnown names named) (cells_places a cells) → are_found all a cells ≡ true
-          → IfGood (a + u) (slice_get cells u)
-      good_at a u [] h k j = tt
-      good_at a zero (cell ∷ cells) h k j =
+      good_at : (a u v : ℕ) (cells : List CellView) → a + u ≡ v → AllByRecursion IsPrintableCell cells → AllByRecursion (IsKnown names named) (cells_places a cells) → are_found all a cells ≡ true
+          → IfSome (slice_get cells u) (IfGood v)
+      good_at a u v [] e h k j = tt
+      good_at a zero v (cell ∷ cells) e h k j =
           let places = both_of_all (IsKnown names named) (cell_places a cell) (cells_places (a + 1) cells) k in
           let here : is_found (slice_index_or all a []) cell ≡ true = (and_parts (is_found (slice_index_or all a []) cell) (are_found all (a + 1) cells) j).0 in
-          subst (λ (v : ℕ). IfGood v (Some cell)) (sym (add-zero a)) ((h.0, places.0), here)
-      good_at a (suc u) (cell ∷ cells) h k j =
+          let first : a ≡ v = omega arith in
+          subst (λ (w : ℕ). IfGood w cell) first ((h.0, places.0), here)
+      good_at a (suc u) v (cell ∷ cells) e h k j =
           let places = both_of_all (IsKnown names named) (cell_places a cell) (cells_places (a + 1) cells) k in
-          let there : are_found all (a + 1) cells ≡ true = (and_parts (is_found (slice_index_or all a []) cell) (are_found all (a + 1) cells) j).1 in
-          let next : (a + 1) + u ≡ a + suc u = omega arith in
-          subst (λ (v : ℕ). IfGood v (slice_get cells u)) next (good_at (a + 1) u cells h.1 places.1 there)
+          good_at (a + 1) u v cells (omega arith) h.1 places.1 (and_parts (is_found (slice_index_or all a []) cell) (are_found all (a + 1) cells) j).1
 
-      tellable : (o : Option CellView) → IfGood t o → IfTellable o
+      tellable : (o : Option CellView) → IfSome o (IfGood t) → IfSome o IsTellable
       tellable None h = tt
       tellable (Some cell) h = (h.0, subst (λ (ls : List Label). is_found ls cell ≡ true) mine h.1)
 
@@ -127,8 +125,7 @@ module _ (names : List (List ℕ)) (named : Named) (labels : List (List Label)) 
           let places = both_of_all (IsKnown names named) (row_places row) (flat_map row_places rows) k in
           let first : are_found all 0 row ≡ true = (and_parts (are_found all 0 row) (list_all (are_found all 0) rows) j).0 in
           let others : list_all (are_found all 0) rows ≡ true = (and_parts (are_found all 0 row) (list_all (are_found all 0) rows) j).1 in
-          let zero_first : 0 + t ≡ t = omega arith in
-          let here : IfGood t (slice_get row t) = subst (λ (u : ℕ). IfGood u (slice_get row t)) zero_first (good_at 0 t row h.0.1 places.0 first) in
+          let here : IfSome (slice_get row t) (IfGood t) = good_at 0 t t row (omega arith) h.0.1 places.0 first in
           told_cell (slice_get row t) (meaning.code_in (number_in names) (position_in source) rows t) (tellable (slice_get row t) here) (rows_told threads rows h.1 places.1 others)
 
     -- ---- fences
@@ -143,20 +140,11 @@ module _ (names : List (List ℕ)) (named : Named) (labels : List (List Label)) 
 
   -- ---- the rows of the canonical text
 
-  abbrev IfTold : ℕ → Option Instr → Type 0
-  IfTold t None = Unit {0}
-  IfTold t (Some i) = IsTold t i
-
-  told_at : (t k : ℕ) (code : List Instr) → AllByRecursion (IsTold t) code → IfTold t (slice_get code k)
-  told_at t k [] h = tt
-  told_at t zero (i ∷ code) h = h.0
-  told_at t (suc k) (i ∷ code) h = told_at t k code h.1
-
   -- what is known of an instruction with its names
   abbrev IsGoodContent : ℕ → Option CodeView → Type 0
   IsGoodContent t o = IsPrintableContent o × AllByRecursion (IsKnown names named) (option_map_or (code_places t) o []) × JumpsAmong (own t) o
 
-  good_content : (t : ℕ) (o : Option Instr) → IfTold t o → IsGoodContent t (option_map (code_named names (own t)) o)
+  good_content : (t : ℕ) (o : Option Instr) → IfSome o (IsTold t) → IsGoodContent t (option_map (code_named names (own t)) o)
   good_content t None h = (tt, tt, refl)
   good_content t (Some i) told = subst (λ (c : CodeView). IsGoodContent t (Some c)) (sym told.1) (told.3, told.4, told.5)
 
@@ -166,7 +154,7 @@ module _ (names : List (List ℕ)) (named : Named) (labels : List (List Label)) 
 
   module _ (threads : List Thread) (told : AreTold threads) (good : (t : ℕ) → AreGoodLabels (own t)) where
     content : (k t : ℕ) → IsGoodContent t (option_map (code_named names (own t)) (instr_at threads t k))
-    content k t = good_content t (instr_at threads t k) (told_at t k (code_of threads t) (told t))
+    content k t = good_content t (instr_at threads t k) (all_at (IsTold t) (code_of threads t) k (told t))
 
     cells_good : (k t : ℕ) → IsGoodCell t (cell_of names labels threads k t)
     cells_good k t = let c = content k t in ((labels_good (own t) k (good t), c.0), c.1)
@@ -186,14 +174,10 @@ module _ (names : List (List ℕ)) (named : Named) (labels : List (List Label)) 
         all_of_both (IsKnown names named) (cell_places a (cell_of names labels threads k a)) (cells_places (a + 1) (map (cell_of names labels threads k) (range_with_len (a + 1) n)))
         (cells_good k a).1 (row_known k (a + 1) n)
 
-    some_rows_known : (a n : ℕ) → AllByRecursion (IsKnown names named) (flat_map row_places (map (row_of names labels threads) (range_with_len a n)))
-    some_rows_known a zero = tt
-    some_rows_known a (suc n) =
-        all_of_both (IsKnown names named) (row_places (row_of names labels threads a)) (flat_map row_places (map (row_of names labels threads) (range_with_len (a + 1) n)))
-        (row_known a 0 (length threads)) (some_rows_known (a + 1) n)
-
     pub rows_known : AllByRecursion (IsKnown names named) (flat_map row_places (rows_of names labels threads))
-    rows_known = some_rows_known 0 (most_cells labels 0 threads)
+    rows_known =
+        let known : List CellView → Type 0 = λ row. AllByRecursion (IsKnown names named) (row_places row) in
+        all_given known (IsKnown names named) row_places (λ row h. h) (rows_of names labels threads) (all_of_range known (row_of names labels threads) (λ k. row_known k 0 (length threads)) 0 (most_cells labels 0 threads))
 
     row_found : (k a n : ℕ) → are_found labels a (map (cell_of names labels threads k) (range_with_len a n)) ≡ true
     row_found k a zero = refl
@@ -213,7 +197,7 @@ module _ (names : List (List ℕ)) (named : Named) (labels : List (List Label)) 
 
   -- ---- what the canonical rows mean
 
-  told_again : (t : ℕ) (o : Option Instr) → IfTold t o → option_map (instruction_of (number_in names) (position_in (own t))) (option_map (code_named names (own t)) o) ≡ o
+  told_again : (t : ℕ) (o : Option Instr) → IfSome o (IsTold t) → option_map (instruction_of (number_in names) (position_in (own t))) (option_map (code_named names (own t)) o) ≡ o
   told_again t None h = refl
   told_again t (Some i) told = ap (λ (c : CodeView). Some (instruction_of (number_in names) (position_in (own t)) c)) told.1 ∙ ap (λ (x : Instr). Some x) told.2
 
@@ -221,22 +205,16 @@ module _ (names : List (List ℕ)) (named : Named) (labels : List (List Label)) 
   abbrev pub cells : List Label → List Instr → ℕ
   cells ls code = length code + (if nat_lt 0 (length (label_names_at ls (length code))) then 1 else 0)
 
-  within_from : (a t : ℕ) (threads : List Thread) → t < length threads → cells (own (a + t)) (code_of threads t) ≤ most_cells labels a threads
-  within_from a t [] lt = absurd (omega arith)
-  within_from a zero (thread ∷ threads) lt =
-      let e : a + 0 ≡ a = add-zero a in
-      let same : cells (own (a + 0)) thread.code ≡ cells (own a) thread.code = ap (λ (u : ℕ). cells (own u) thread.code) e in
+  within_from : (a t u : ℕ) (threads : List Thread) → a + t ≡ u → t < length threads → cells (own u) (code_of threads t) ≤ most_cells labels a threads
+  within_from a t u [] e lt = absurd (omega arith)
+  within_from a zero u (thread ∷ threads) e lt =
+      let first : u ≡ a = omega arith in
+      let same = ap (λ (v : ℕ). cells (own v) thread.code) first in
       omega arith
-  within_from a (suc t) (thread ∷ threads) lt =
-      let e : (a + 1) + t ≡ a + suc t = omega arith in
-      let same : cells (own ((a + 1) + t)) (code_of threads t) ≡ cells (own (a + suc t)) (code_of threads t) = ap (λ (u : ℕ). cells (own u) (code_of threads t)) e in
-      let rest = within_from (a + 1) t threads (omega (arith, lt)) in
-      omega arith
+  within_from a (suc t) u (thread ∷ threads) e lt = let rest = within_from (a + 1) t u threads (omega arith) (omega (arith, lt)) in omega arith
 
   pub within_most : (threads : List Thread) (t : ℕ) → t < length threads → cells (own t) (code_of threads t) ≤ most_cells labels 0 threads
-  within_most threads t lt =
-      let e : 0 + t ≡ t = omega arith in
-      subst (λ (u : ℕ). cells (own u) (code_of threads t) ≤ most_cells labels 0 threads) e (within_from 0 t threads lt)
+  within_most threads t lt = within_from 0 t t threads (omega arith) lt
 
   filter_map_map : {X Y Z : Type 0} (h : Y → Option Z) (f : X → Y) (xs : List X) → filter_map h (map f xs) ≡ filter_map (λ x. h (f x)) xs
   filter_map_map h f [] = refl
@@ -251,7 +229,7 @@ module _ (names : List (List ℕ)) (named : Named) (labels : List (List Label)) 
       let same : 0 + k ≡ k = omega arith in
       ap (λ (j : ℕ). f (row_of names labels threads j)) same
       ∙ ap (λ (o : Option CellView). option_map (instruction_of (number_in names) (position_in (own t))) (option_and_then (λ c. c.code) o)) (made_at (cell_of names labels threads k) (length threads) t lt)
-      ∙ told_again t (slice_get (code_of threads t) k) (told_at t k (code_of threads t) (told t)) in
+      ∙ told_again t (slice_get (code_of threads t) k) (all_at (IsTold t) (code_of threads t) k (told t)) in
       let count : length (code_of threads t) ≤ most_cells labels 0 threads = (let w = within_most threads t lt in omega arith) in
       filter_map_map f (row_of names labels threads) (range_with_len 0 (most_cells labels 0 threads))
       ∙ by_places (λ k. f (row_of names labels threads k)) (code_of threads t) 0 (most_cells labels 0 threads) at count

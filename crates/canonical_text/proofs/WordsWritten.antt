@@ -1,6 +1,6 @@
 -- The words that are written are words, and are read as what they stand for.
-use Rattle.canonical_text.proofs.Vocabulary.{◌≡◌, ℕ, true, List, [], ◌∷◌, codes, Some, refl, list_all, is_ascii_digit, is_letter, is_word_byte, IsWord, Reg, Eax, register_name}
-use Rattle.litmus_syntax.specs.Words.{reg_of, opens_condition}
+use Rattle.canonical_text.proofs.Vocabulary.{◌≡◌, ℕ, true, List, [], ◌∷◌, Some, refl, list_all, is_ascii_digit, is_letter, is_word_byte, IsWord, Reg, Eax, register_name}
+use Rattle.litmus_syntax.specs.Words.{reg_of}
 use Rattle.std.proofs.lemmas.Bool.{and_from as both_true, or_right as or_true, and_parts}
 
 -- ---- words
@@ -17,18 +17,6 @@ digits_in_word (d ∷ ds) h =
     both_true (is_word_byte d) (list_all is_word_byte ds) (or_true (is_letter d) (is_ascii_digit d) parts.0) (digits_in_word ds parts.1)
 
 -- ---- what they stand for
-
-pub opens : opens_condition (codes "exists") ≡ true
-unfolding opens_condition
-opens = refl
-
-pub opens_all : opens_condition (codes "forall") ≡ true
-unfolding opens_condition
-opens_all = refl
-
-pub opens_locations : opens_condition (codes "locations") ≡ true
-unfolding opens_condition
-opens_locations = refl
 
 pub register_named : (r : Reg) → reg_of (register_name r) ≡ Some r
 unfolding reg_of
