@@ -1,4 +1,4 @@
--- What is kept where the last source or the last order is dropped, and where nothing is chosen yet.
+-- What is kept where sources or orders are dropped from the end, and where nothing is chosen yet.
 use Rattle.std.proofs.Common.{◌≡◌, ◌≢◌, ◌⊎◌, ℕ, List, [], ◌∷◌, ◌++◌, Some, None, IsSome, Option, Contains, get_or, length, take, refl, sym, ap, ◌∙◌, subst, inl, inr, arith}
 use Rattle.std.specs.Prelude.{option_to_list}
 use Rattle.std.proofs.lemmas.List.{get_or_append_left, length-append, length_push}
