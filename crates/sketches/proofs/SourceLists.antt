@@ -46,6 +46,11 @@ module _ (s : ProgramSketch) (read : Event) where
     ordered = ordered is.ordered (λ e h. ((is.exact e).0 h).0);
   }
 
+  -- an access that is no source is passed over
+  pub passed_over : (t i : ℕ) (listed : List Event) → AreListedTo s read t i listed → (Gives (At t i) → ⊥) → AreListedTo s read t (i + 1) listed
+  passed_over t i listed is none =
+      one_more t i listed listed is (λ e. (inl, λ h. elim h [ inl a ↦ a | inr b ↦ absurd (none (subst Gives (sym b.0) b.1)) ])) (λ all before. all)
+
   -- no access of the thread that comes later is a source
   pub next_thread : (t i : ℕ) (listed : List Event) → AreListedTo s read t i listed → ((j : ℕ) → i ≤ j → Gives (At t j) → ⊥) → AreListedTo s read (t + 1) 0 listed
   next_thread t i listed is none = record {
@@ -117,12 +122,20 @@ module _ (s : ProgramSketch) (read : Event) where
         | inr beyond ↦ absurd (past_gives t j (let none = ap length (past t beyond) in omega arith) gives)
       ]
 
+  -- an access that does not write the value to the location is no source
+  pub unwritten_here : (l v t i : ℕ) (y : Access) → slice_get (trace_in s t).accesses i ≡ Some y → ReadsThisValue s read l v → ((y.location ≡ l) × (y.written ≡ Some v) → ⊥) → Gives (At t i) → ⊥
+  unwritten_here l v t i y here (own, at_read, reads, place) none (x, u, ax, rx, ne, (z, az, loc, wr)) =
+      let is : x ≡ own = same_Some x own (sym ax ∙ at_read) in
+      let value : u ≡ v = same_Some u v (sym rx ∙ ap (λ (w : Access). w.read) is ∙ reads) in
+      let one : y ≡ z = same_Some y z (sym here ∙ az) in
+      none (ap (λ (w : Access). w.location) one ∙ loc ∙ ap (λ (w : Access). w.location) is ∙ place, ap (λ (w : Access). w.written) one ∙ wr ∙ ap Some value)
+
 -- no access of a thread that does not write the value is a source
 pub unwritten : (p : Listing) (mode : Mode) (thread_traces : List ThreadTrace) (sources pairs : List (Event × Event)) (kept : KeepsTraces p mode thread_traces sources pairs) (read : Event) (l v t : ℕ) (c : ThreadTrace) →
     slice_get thread_traces t ≡ Some c → ReadsThisValue (view_of p mode thread_traces sources pairs) read l v →
     ((i : ℕ) (x : Access) → slice_get c.accesses i ≡ Some x → x.location ≡ l → x.written ≡ Some v → ⊥) →
     (j : ℕ) → IsSourceOf p (mode_in (view_of p mode thread_traces sources pairs)) (view_of p mode thread_traces sources pairs).chosen (At t j) read → ⊥
-unwritten p mode thread_traces sources pairs kept read l v t c here (own, at_read, reads, place) none j (x, u, ax, rx, ne, (y, ay, loc, wr)) =
-    let is : x ≡ own = same_Some x own (sym ax ∙ at_read) in
-    let value : u ≡ v = same_Some u v (sym rx ∙ ap (λ (w : Access). w.read) is ∙ reads) in
-    none j y (ap (λ xs. slice_get xs j) (sym (trace_accesses p mode thread_traces sources pairs kept t c here)) ∙ ay) (loc ∙ ap (λ (w : Access). w.location) is ∙ place) (wr ∙ ap Some value)
+unwritten p mode thread_traces sources pairs kept read l v t c here reads none j gives =
+    let (x, u, ax, rx, ne, (y, ay, loc, wr)) = gives in
+    unwritten_here (view_of p mode thread_traces sources pairs) read l v t j y ay reads
+    (λ h. none j y (ap (λ xs. slice_get xs j) (sym (trace_accesses p mode thread_traces sources pairs kept t c here)) ∙ ay) h.0 h.1) gives

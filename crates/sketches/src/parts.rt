@@ -1,5 +1,6 @@
 //! What is chosen in a sketch, and what follows from it without rows.
-ghost use Rattle.std.specs.Prelude.{◌≡◌, ◌↔◌, ◌<◌, Some, None, IsTrue, IfSome, Contains, length, slice_index};
+ghost use Rattle.std.specs.Prelude.{◌≡◌, ◌↔◌, ◌<◌, ◌≤◌, Some, None, IsTrue, IfSome, Contains, length, slice_index};
+ghost use Rattle.tso_program.specs.declared.limits.TheConstants.{MAX_ACCESSES};
 ghost use Rattle.candidate_executions.specs.declared.event.Event.{Event};
 ghost use Rattle.candidate_executions.specs.Consistency.{IsOfMode};
 ghost use Rattle.candidate_executions.specs.Sketches as sketches;
@@ -63,14 +64,22 @@ impl Parts<'_> {
         }
     }
 
+    /// The accesses of thread t so far.
+    pub(crate) fn accesses_of(&self, t: u8) -> &[Access]
+        ensures value { result.now ≡ (trace_in self.now t).accesses }
+        ensures few { length result.now ≤ MAX_ACCESSES }
+    {
+        match thread_trace_at(self.thread_traces, t as usize) {
+            Some(thread_trace) => thread_trace.accesses.as_slice(),
+            None => &[],
+        }
+    }
+
     /// How many accesses thread t has so far.
     pub(crate) fn accesses(&self, t: u8) -> u8
         ensures { result ≡ length (trace_in self.now t).accesses }
     {
-        match thread_trace_at(self.thread_traces, t as usize) {
-            Some(thread_trace) => thread_trace.accesses.len() as u8,
-            None => 0,
-        }
+        self.accesses_of(t).len() as u8
     }
 
     /// What an event reads and writes, if it is there.

@@ -1,5 +1,5 @@
 //! The sources of a read, listed without rows.
-ghost use Rattle.std.specs.Prelude.{◌≡◌, ◌↔◌, ◌⊎◌, ◌+◌, IsTrue, IfOk, OnOk, MatchOption, Contains, length, slice_index};
+ghost use Rattle.std.specs.Prelude.{◌≡◌, ◌↔◌, ◌⊎◌, ◌+◌, Some, IsTrue, IfOk, OnOk, MatchOption, Contains, length, slice_index};
 ghost use Rattle.std.specs.List.{AllPairs};
 ghost use Rattle.candidate_executions.specs.declared.event.Event.{Event};
 ghost use Rattle.candidate_executions.specs.Events.{ComesBefore};
@@ -10,10 +10,10 @@ ghost use Rattle.sketches.specs.RowlessSketches.{LacksSource, AreSources};
 ghost use Rattle.sketches.specs.Internal.SourcesListed.{AreListedTo};
 
 use crate::parts::Parts;
-use candidate_executions::Event;
+use candidate_executions::{Access, Event};
 use known_edges::{access_at, each_ends};
 use std::alloc::{AllocError, Global};
-use thread_traces::writes_any;
+use thread_traces::{is_value, writes_any};
 
 impl Parts<'_> {
     /// The sources of a read: the initial write first, then by thread and index. `None` if some read has no value
@@ -63,7 +63,7 @@ impl Parts<'_> {
     {
         for (t, thread_trace) in self.thread_traces.iter().enumerate() {
             if thread_trace.writes(location, value) {
-                self.push_sources_in(t as u8, read, sources)?;
+                self.push_sources_in(t as u8, read, location, value, sources)?;
             }
         }
         Ok(())
@@ -74,12 +74,17 @@ impl Parts<'_> {
         &self,
         t: u8,
         read: Event,
+        location: u8,
+        value: u32,
         sources: &mut Vec<Event>,
     ) -> Result<(), AllocError>
+        requires { ReadsThisValue self.now read location value }
         ensures { OnOk result (AreListedTo self.now read t 0 sources.old.items → AreListedTo self.now read (t + 1) 0 sources.new.items) }
     {
-        for i in 0..self.accesses(t) {
-            self.push_if_source(Event::Access(t, i), read, sources)?;
+        for (i, access) in self.accesses_of(t).iter().enumerate() {
+            if writes_so(*access, location, value) {
+                self.push_if_source(Event::Access(t, i as u8), read, sources)?;
+            }
         }
         Ok(())
     }
@@ -128,4 +133,11 @@ impl Parts<'_> {
             None => true,
         }
     }
+}
+
+/// Whether the access writes the value to the location.
+fn writes_so(access: Access, location: u8, value: u32) -> bool
+    ensures { IsTrue result ↔ ((access.location ≡ location) × (access.written ≡ Some value)) }
+{
+    access.location == location && is_value(access.written, value)
 }

@@ -1,12 +1,31 @@
-use Rattle.std.proofs.Common.{arith}
-use Rattle.sketches.proofs.SourceLists.{one_more, next_thread, past_gives}
+use Rattle.std.proofs.Common.{◌≡◌, ◌∙◌, ◌+◌, true, false, List, None, slice_get, length, get_or, ap, sym, subst, arith}
+use Rattle.std.specs.Global.{Vec}
+use Rattle.sketches.proofs.Vocabulary.{slice_get-get_or, Access, Event}
+use Rattle.sketches.specs.Internal.SourcesListed.{AreListedTo}
+use Rattle.sketches.proofs.SourceLists.{one_more, passed_over, next_thread, past_gives, unwritten_here}
 use Rattle.sketches.proofs.parts.Parts.push_sources_in.Goals as goal
+use Rattle.sketches.proofs.parts.Parts.push_sources_in.Goals.{then-writes_so+in_ok-push_if_source, else-writes_so}
 
 pub loop-i-preserved : goal.loop-i-preserved
 loop-i-preserved c h =
-    one_more c.args.self.now c.args.read c.args.t c.loop-i.i c.loop-i.sources.items c.push_if_source.new.sources.items (c.loop-i.invariant h) c.in_ok-push_if_source.ensures.exact c.in_ok-push_if_source.ensures.ordered
+    let s = c.args.self.now in
+    let read = c.args.read in
+    let t = c.args.t in
+    let i = c.loop-i.i in
+    let before = c.loop-i.invariant h in
+    let accesses = c.accesses_of-access-items.result.now in
+    let none : Access = record { section = 0; location = 0; read = None; written = None } in
+    let here = ap (λ (xs : List Access). slice_get xs i) (sym c.accesses_of-access-items.ensures.value) ∙ slice_get-get_or accesses i none c.loop-i-test.true in
+    elim c.if-writes_so.branch [
+      | then-writes_so+in_ok-push_if_source w ↦ subst (λ (v : Vec Event). AreListedTo s read t (i + 1) v.items) (sym w.sources-is)
+          (one_more s read t i c.loop-i.sources.items w.push_if_source.new.sources.items before w.in_ok-push_if_source.ensures.exact w.in_ok-push_if_source.ensures.ordered)
+      | else-writes_so w ↦ subst (λ (v : Vec Event). AreListedTo s read t (i + 1) v.items) (sym w.sources-is)
+          (passed_over s read t i c.loop-i.sources.items before (unwritten_here s read c.args.location c.args.value t i (get_or accesses i none) here c.requires
+          (λ so. (let no : true ≡ false = sym (c.writes_so.ensures.1 so) ∙ w.if-writes_so.false in cc))))
+    ]
 
 pub returns : goal.returns
 returns c h =
+    let same = ap length c.accesses_of-access-items.ensures.value in
     next_thread c.args.self.now c.args.read c.args.t c.loop-i.i c.loop-i.sources.items (c.loop-i.invariant h)
-    (λ j past. past_gives c.args.self.now c.args.read c.args.t j (omega (arith, c.loop-i-test.false, c.accesses-i-end.ensures)))
+    (λ j past. past_gives c.args.self.now c.args.read c.args.t j (omega (arith, c.loop-i-test.false)))
