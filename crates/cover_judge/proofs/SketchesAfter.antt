@@ -1,13 +1,23 @@
 -- What holds of the sketch that a choice makes holds of the sketch with the choice.
-use Rattle.std.proofs.Common.{◌≡◌, [], ◌∷◌, refl, sym, subst}
+use Rattle.std.proofs.Common.{◌≡◌, List, [], ◌∷◌, refl, sym, subst}
 use Rattle.std.proofs.lemmas.List.{append-nil}
-use Rattle.cover_judge.proofs.Vocabulary.{Listing, Machine, Sketch, ProgramSketch, mode_in, with_chosen, event_of, Choice, sketch_with}
+use Rattle.std.specs.Prelude.{Result}
+use Rattle.cover_judge.proofs.Vocabulary.{IfErr, OnOk, Listing, Outcome, Shown, asked, Machine, Sketch, ProgramSketch, mode_in, with_chosen, event_of, Cover, IsValidCover, FirstWrongCover}
+use Rattle.cover_judge.proofs.Vocabulary.{Choice, sketch_with, TreeFault, IfWrong, IsValidAfter, IsWrongAt}
 use Rattle.sketches.specs.Marks.{ComesAfter}
 use Rattle.cover_judge.specs.declared.choice.Choice.TheVariants as choice
 
 pub moved : (F : Listing → Machine → Sketch → Type 0) (s next : ProgramSketch) (c : Choice) → next ≡ with_chosen s (sketch_with s.chosen c) →
     F next.program (mode_in next) next.chosen → F s.program (mode_in s) (sketch_with s.chosen c)
 moved F s next c same h = subst (λ (n : ProgramSketch). F n.program (mode_in n) n.chosen) same h
+
+-- so does what is judged of a tree
+module _ (shown : Shown) (outcomes : List Outcome) (s next : ProgramSketch) (tree : Cover) (c : Choice) (same : next ≡ with_chosen s (sketch_with s.chosen c)) (r : Result (Unit {0}) TreeFault) where
+  pub valid_after : OnOk r (IsValidAfter shown outcomes next tree next.chosen) → OnOk r (IsValidAfter shown outcomes s tree (sketch_with s.chosen c))
+  valid_after = moved (λ p mode k. OnOk r (IsValidCover (asked p shown) mode outcomes tree k)) s next c same
+
+  pub wrong_after : IfErr r (IfWrong (IsWrongAt shown outcomes next tree next.chosen)) → IfErr r (IfWrong (IsWrongAt shown outcomes s tree (sketch_with s.chosen c)))
+  wrong_after = moved (λ p mode k. IfErr r (IfWrong (FirstWrongCover (asked p shown) mode outcomes tree k))) s next c same
 
 -- a choice adds to what is chosen
 pub after_choice : (s : ProgramSketch) (c : Choice) → ComesAfter s (with_chosen s (sketch_with s.chosen c))

@@ -1,114 +1,70 @@
-use Rattle.std.proofs.Common.{◌≡◌, ℕ, ◌+◌, ◌<◌, List, length, take, drop, get_or, refl, sym, subst, ap, ◌∙◌, arith}
-use Rattle.cover_judge.proofs.Vocabulary.{IfErr, OnOk, length-take-le, Cover, Value, Source, Order, covers_of, first_tree, spell_all, next_is_shorter, asked, ProgramSketch, mode_in, event_of}
-use Rattle.cover_judge.proofs.Vocabulary.{IsValidCover, HasNoOrder, FirstWrongCover, HasNoValues, HasNoSources, sketch_with, MayChoose, AreValueChoices, IsValueOpen, AreSourceChoices, IsSourceOpen}
-use Rattle.cover_judge.proofs.Vocabulary.{IfWrong, IsAtRoot, IsBelow, IsValidAfter, IsWrongAt, AreValidAfter, IsWrongChild, AreNotSoMany}
-use Rattle.cert_forest.proofs.NextNodes.{value_next, source_next, order_next, rest_no_longer}
+use Rattle.std.proofs.Common.{◌≡◌, ℕ, List, length, take, drop, get_or, refl, sym, subst, ap, ◌∙◌, arith}
+use Rattle.cover_judge.proofs.Vocabulary.{IfErr, OnOk, Cover, Order, first_tree, next_is_shorter, ProgramSketch, mode_in, event_of}
+use Rattle.cover_judge.proofs.Vocabulary.{HasNoOrder, HasNoValues, HasNoSources, sketch_with, AreValueChoices, IsValueOpen, AreSourceChoices, IsSourceOpen, IfWrong, IsAtRoot, IsBelow, IsValidAfter, IsWrongAt, IsWrongChild}
+use Rattle.cover_judge.proofs.Vocabulary.{AreNotSoMany}
+use Rattle.cert_forest.proofs.NextNodes.{value_next, source_next, order_next}
 use Rattle.sketches.proofs.Lookups.{same_default}
 use Rattle.cover_judge.specs.declared.choice.Choice.TheVariants as choice
 use Rattle.cover_judge.proofs.Answered.{err_up, if_err, on_ok}
 use Rattle.cover_judge.proofs.ChoicesJudged.{if_wrong, from_child, values_differ, sources_differ, found_so_many}
-use Rattle.cover_judge.proofs.SketchesAfter.{moved, comes_after}
-use Rattle.cover_judge.proofs.CoverNodes.{value_here, value_below, value_valid, source_here, source_below, source_valid, order_here, order_first, order_second, order_valid}
-use Rattle.cover_judge.proofs.CoverSteps.{IsLeft, go_on, stop_here, none_left_of, left_some, walked_on}
+use Rattle.cover_judge.proofs.SketchesAfter.{comes_after, valid_after, wrong_after}
+use Rattle.cover_judge.proofs.CoverNodes.{values_node, sources_node, value_here, source_here, branched_values, branched_sources, past_children, valid_by_children, wrong_by_child, wrong_by_root, order_here, order_first, order_second, order_valid}
+use Rattle.cover_judge.proofs.CoverSteps.{judged_none, judged_more, judged_wrong, judged_all, past_all, next_may, next_some, not_longer, walked_on}
 use Rattle.cover_judge.proofs.cover.CoverJudge.+judge.Goals as goal
 
 pub judge_values-returns-in_err-choices-clause-wrong : goal.judge_values-returns-in_err-choices-clause-wrong
 judge_values-returns-in_err-choices-clause-wrong t c =
-    let kids = take c.args.count c.args.walk.now in
     let s = c.args.sketch.now in
     let None : ℕ → Type 0 = HasNoValues s.program (mode_in s) s.chosen c.args.thread in
-    let At = IsWrongAt c.args.self.now.shown.now c.args.self.now.outcomes.now s (Value c.args.thread (covers_of kids)) s.chosen in
-    let count = c.args.count in
-    let len : count ≡ length kids = sym (length-take-le count c.args.walk.now c.requires) in
-    let fault = c.in_err-choices.field-0.0 in
-    let none = if_wrong (IsAtRoot (AreNotSoMany c.in_ok-found.found count)) (IsAtRoot (None count)) fault
-    (λ path (at, few). (at, values_differ s c.args.thread count c.in_ok-found.found c.in_ok-found.ensures.values few)) c.in_err-choices.ensures.wrong in
-    err_up c.from_residual-in_err-choices.result fault (IfWrong At) c.from_residual-in_err-choices.ensures.1
-    (if_wrong (IsAtRoot (None (length kids))) At fault (value_here c.args.self.now.shown.now c.args.self.now.outcomes.now s kids c.args.thread)
-    (subst (λ n. IfWrong (IsAtRoot (None n)) fault) len none))
+    let none = if_wrong (IsAtRoot (AreNotSoMany c.in_ok-found.found c.args.count)) (IsAtRoot (None c.args.count)) c.in_err-choices.field-0.0
+    (λ path (at, few). (at, values_differ s c.args.thread c.args.count c.in_ok-found.found c.in_ok-found.ensures.values few)) c.in_err-choices.ensures.wrong in
+    wrong_by_root c.args.self.now.shown.now c.args.self.now.outcomes.now s (values_node c.args.thread) None (value_here c.args.self.now.shown.now c.args.self.now.outcomes.now s c.args.thread)
+    c.from_residual-in_err-choices.result c.in_err-choices.field-0.0 c.args.count c.args.walk.now c.requires c.from_residual-in_err-choices.ensures.1 none
 
 pub judge_values-returns-clause-after : goal.judge_values-returns-clause-after
 judge_values-returns-clause-after t c =
-    let choices = c.in_ok-choices.choices.items in
-    let many : c.args.count ≡ length choices = c.in_ok-choices.ensures.many.many in
-    on_ok c.judge_children.result (c.judge_children.new.walk ≡ drop (length choices) c.args.walk.now) (c.judge_children.new.walk ≡ drop c.args.count c.args.walk.now)
-    (λ e. e ∙ ap (λ (n : ℕ). drop n c.args.walk.now) (sym many)) (rw c.deref.ensures.value at c.judge_children.ensures.after)
+    past_children c.judge_children.result c.args.count (length c.in_ok-choices.choices.items) c.args.walk.now c.judge_children.new.walk c.in_ok-choices.ensures.many.many (rw c.deref.ensures.value at c.judge_children.ensures.after)
 
 pub judge_values-returns-clause-valid : goal.judge_values-returns-clause-valid
 judge_values-returns-clause-valid t c =
-    let walk = c.args.walk.now in
-    let kids = take c.args.count walk in
-    let s = c.args.sketch.now in
-    let outs = c.args.self.now.outcomes.now in
     let choices = c.in_ok-choices.choices.items in
-    let many : c.args.count ≡ length choices = c.in_ok-choices.ensures.many.many in
-    let are = found_so_many c.args.count c.in_ok-found.found c.in_ok-choices.choices (IsValueOpen s c.args.thread → ⊥) (AreValueChoices s c.args.thread) c.in_ok-choices.ensures.many c.in_ok-found.ensures.values in
-    on_ok c.judge_children.result (AreValidAfter c.args.self.now.shown.now outs s kids choices) (IsValidAfter c.args.self.now.shown.now outs s (Value c.args.thread (covers_of kids)) s.chosen) (value_valid c.args.self.now.shown.now outs s kids c.args.thread choices are)
-    (subst (λ (n : ℕ). OnOk c.judge_children.result (AreValidAfter c.args.self.now.shown.now outs s (take n walk) choices)) (sym many) (rw c.deref.ensures.value at c.judge_children.ensures.valid))
+    let are = found_so_many c.args.count c.in_ok-found.found c.in_ok-choices.choices (IsValueOpen c.args.sketch.now c.args.thread → ⊥) (AreValueChoices c.args.sketch.now c.args.thread) c.in_ok-choices.ensures.many c.in_ok-found.ensures.values in
+    let is = branched_values c.args.self.now.shown.now c.args.self.now.outcomes.now c.args.sketch.now c.args.thread choices are in
+    valid_by_children is c.judge_children.result c.args.count (length choices) c.args.walk.now c.in_ok-choices.ensures.many.many (rw c.deref.ensures.value at c.judge_children.ensures.valid)
 
 pub judge_values-returns-clause-wrong : goal.judge_values-returns-clause-wrong
 judge_values-returns-clause-wrong t c =
-    let walk = c.args.walk.now in
-    let kids = take c.args.count walk in
-    let s = c.args.sketch.now in
-    let outs = c.args.self.now.outcomes.now in
     let choices = c.in_ok-choices.choices.items in
-    let as_many : c.args.count ≡ length choices = c.in_ok-choices.ensures.many.many in
-    let are = found_so_many c.args.count c.in_ok-found.found c.in_ok-choices.choices (IsValueOpen s c.args.thread → ⊥) (AreValueChoices s c.args.thread) c.in_ok-choices.ensures.many c.in_ok-found.ensures.values in
-    let many : length kids ≡ length choices = length-take-le c.args.count walk c.requires ∙ as_many in
-    let P = IsBelow (IsWrongChild c.args.self.now.shown.now outs s kids choices) in
-    let At = IsWrongAt c.args.self.now.shown.now outs s (Value c.args.thread (covers_of kids)) s.chosen in
-    if_err c.judge_children.result (IfWrong P) (IfWrong At) (λ fault. if_wrong P At fault (value_below c.args.self.now.shown.now outs s kids c.args.thread choices are many))
-    (subst (λ (n : ℕ). IfErr c.judge_children.result (IfWrong (IsBelow (IsWrongChild c.args.self.now.shown.now outs s (take n walk) choices)))) (sym as_many) (rw c.deref.ensures.value at c.judge_children.ensures.wrong))
+    let are = found_so_many c.args.count c.in_ok-found.found c.in_ok-choices.choices (IsValueOpen c.args.sketch.now c.args.thread → ⊥) (AreValueChoices c.args.sketch.now c.args.thread) c.in_ok-choices.ensures.many c.in_ok-found.ensures.values in
+    let is = branched_values c.args.self.now.shown.now c.args.self.now.outcomes.now c.args.sketch.now c.args.thread choices are in
+    wrong_by_child is c.judge_children.result c.args.count (length choices) c.args.walk.now c.in_ok-choices.ensures.many.many c.requires refl (rw c.deref.ensures.value at c.judge_children.ensures.wrong)
 
 pub judge_sources-returns-in_err-choices-clause-wrong : goal.judge_sources-returns-in_err-choices-clause-wrong
 judge_sources-returns-in_err-choices-clause-wrong t c =
-    let kids = take c.args.count c.args.walk.now in
     let s = c.args.sketch.now in
     let None : ℕ → Type 0 = HasNoSources s.program (mode_in s) s.chosen (event_of c.args.read) in
-    let At = IsWrongAt c.args.self.now.shown.now c.args.self.now.outcomes.now s (Source c.args.read (covers_of kids)) s.chosen in
-    let count = c.args.count in
-    let len : count ≡ length kids = sym (length-take-le count c.args.walk.now c.requires) in
-    let fault = c.in_err-choices.field-0.0 in
-    let none = if_wrong (IsAtRoot (AreNotSoMany c.in_ok-found.found count)) (IsAtRoot (None count)) fault
-    (λ path (at, few). (at, sources_differ s c.args.read count c.in_ok-found.found c.in_ok-found.ensures.sources few)) c.in_err-choices.ensures.wrong in
-    err_up c.from_residual-in_err-choices.result fault (IfWrong At) c.from_residual-in_err-choices.ensures.1
-    (if_wrong (IsAtRoot (None (length kids))) At fault (source_here c.args.self.now.shown.now c.args.self.now.outcomes.now s kids c.args.read)
-    (subst (λ n. IfWrong (IsAtRoot (None n)) fault) len none))
+    let none = if_wrong (IsAtRoot (AreNotSoMany c.in_ok-found.found c.args.count)) (IsAtRoot (None c.args.count)) c.in_err-choices.field-0.0
+    (λ path (at, few). (at, sources_differ s c.args.read c.args.count c.in_ok-found.found c.in_ok-found.ensures.sources few)) c.in_err-choices.ensures.wrong in
+    wrong_by_root c.args.self.now.shown.now c.args.self.now.outcomes.now s (sources_node c.args.read) None (source_here c.args.self.now.shown.now c.args.self.now.outcomes.now s c.args.read)
+    c.from_residual-in_err-choices.result c.in_err-choices.field-0.0 c.args.count c.args.walk.now c.requires c.from_residual-in_err-choices.ensures.1 none
 
 pub judge_sources-returns-clause-after : goal.judge_sources-returns-clause-after
 judge_sources-returns-clause-after t c =
-    let choices = c.in_ok-choices.choices.items in
-    let many : c.args.count ≡ length choices = c.in_ok-choices.ensures.many.many in
-    on_ok c.judge_children.result (c.judge_children.new.walk ≡ drop (length choices) c.args.walk.now) (c.judge_children.new.walk ≡ drop c.args.count c.args.walk.now)
-    (λ e. e ∙ ap (λ (n : ℕ). drop n c.args.walk.now) (sym many)) (rw c.deref.ensures.value at c.judge_children.ensures.after)
+    past_children c.judge_children.result c.args.count (length c.in_ok-choices.choices.items) c.args.walk.now c.judge_children.new.walk c.in_ok-choices.ensures.many.many (rw c.deref.ensures.value at c.judge_children.ensures.after)
 
 pub judge_sources-returns-clause-valid : goal.judge_sources-returns-clause-valid
 judge_sources-returns-clause-valid t c =
-    let walk = c.args.walk.now in
-    let kids = take c.args.count walk in
-    let s = c.args.sketch.now in
-    let outs = c.args.self.now.outcomes.now in
     let choices = c.in_ok-choices.choices.items in
-    let many : c.args.count ≡ length choices = c.in_ok-choices.ensures.many.many in
-    let are = found_so_many c.args.count c.in_ok-found.found c.in_ok-choices.choices (IsSourceOpen s c.args.read → ⊥) (AreSourceChoices s c.args.read) c.in_ok-choices.ensures.many c.in_ok-found.ensures.sources in
-    on_ok c.judge_children.result (AreValidAfter c.args.self.now.shown.now outs s kids choices) (IsValidAfter c.args.self.now.shown.now outs s (Source c.args.read (covers_of kids)) s.chosen) (source_valid c.args.self.now.shown.now outs s kids c.args.read choices are)
-    (subst (λ (n : ℕ). OnOk c.judge_children.result (AreValidAfter c.args.self.now.shown.now outs s (take n walk) choices)) (sym many) (rw c.deref.ensures.value at c.judge_children.ensures.valid))
+    let are = found_so_many c.args.count c.in_ok-found.found c.in_ok-choices.choices (IsSourceOpen c.args.sketch.now c.args.read → ⊥) (AreSourceChoices c.args.sketch.now c.args.read) c.in_ok-choices.ensures.many c.in_ok-found.ensures.sources in
+    let is = branched_sources c.args.self.now.shown.now c.args.self.now.outcomes.now c.args.sketch.now c.args.read choices are in
+    valid_by_children is c.judge_children.result c.args.count (length choices) c.args.walk.now c.in_ok-choices.ensures.many.many (rw c.deref.ensures.value at c.judge_children.ensures.valid)
 
 pub judge_sources-returns-clause-wrong : goal.judge_sources-returns-clause-wrong
 judge_sources-returns-clause-wrong t c =
-    let walk = c.args.walk.now in
-    let kids = take c.args.count walk in
-    let s = c.args.sketch.now in
-    let outs = c.args.self.now.outcomes.now in
     let choices = c.in_ok-choices.choices.items in
-    let as_many : c.args.count ≡ length choices = c.in_ok-choices.ensures.many.many in
-    let are = found_so_many c.args.count c.in_ok-found.found c.in_ok-choices.choices (IsSourceOpen s c.args.read → ⊥) (AreSourceChoices s c.args.read) c.in_ok-choices.ensures.many c.in_ok-found.ensures.sources in
-    let many : length kids ≡ length choices = length-take-le c.args.count walk c.requires ∙ as_many in
-    let P = IsBelow (IsWrongChild c.args.self.now.shown.now outs s kids choices) in
-    let At = IsWrongAt c.args.self.now.shown.now outs s (Source c.args.read (covers_of kids)) s.chosen in
-    if_err c.judge_children.result (IfWrong P) (IfWrong At) (λ fault. if_wrong P At fault (source_below c.args.self.now.shown.now outs s kids c.args.read choices are many))
-    (subst (λ (n : ℕ). IfErr c.judge_children.result (IfWrong (IsBelow (IsWrongChild c.args.self.now.shown.now outs s (take n walk) choices)))) (sym as_many) (rw c.deref.ensures.value at c.judge_children.ensures.wrong))
+    let are = found_so_many c.args.count c.in_ok-found.found c.in_ok-choices.choices (IsSourceOpen c.args.sketch.now c.args.read → ⊥) (AreSourceChoices c.args.sketch.now c.args.read) c.in_ok-choices.ensures.many c.in_ok-found.ensures.sources in
+    let is = branched_sources c.args.self.now.shown.now c.args.self.now.outcomes.now c.args.sketch.now c.args.read choices are in
+    wrong_by_child is c.judge_children.result c.args.count (length choices) c.args.walk.now c.in_ok-choices.ensures.many.many c.requires refl (rw c.deref.ensures.value at c.judge_children.ensures.wrong)
 
 pub judge-returns-in-Value-clause-after : goal.judge-returns-in-Value-clause-after
 judge-returns-in-Value-clause-after t c =
@@ -244,21 +200,11 @@ judge_after-returns-clause-kept t c =
 
 pub judge_after-returns-clause-valid : goal.judge_after-returns-clause-valid
 judge_after-returns-clause-valid t c =
-    let tree = first_tree c.args.walk.now in
-    let outs = c.args.self.now.outcomes.now in
-    let s = c.args.sketch.now in
-    let next = c.choose.new.sketch in
-    on_ok c.judge-judged.result (IsValidAfter c.args.self.now.shown.now outs next tree next.chosen) (IsValidAfter c.args.self.now.shown.now outs s tree (sketch_with s.chosen c.args.choice))
-    (moved (λ p mode k. IsValidCover (asked p c.args.self.now.shown.now) mode outs tree k) s next c.args.choice c.in_ok-choose.ensures.ok) c.judge-judged.ensures.valid
+    valid_after c.args.self.now.shown.now c.args.self.now.outcomes.now c.args.sketch.now c.choose.new.sketch (first_tree c.args.walk.now) c.args.choice c.in_ok-choose.ensures.ok c.judge-judged.result c.judge-judged.ensures.valid
 
 pub judge_after-returns-clause-wrong : goal.judge_after-returns-clause-wrong
 judge_after-returns-clause-wrong t c =
-    let tree = first_tree c.args.walk.now in
-    let outs = c.args.self.now.outcomes.now in
-    let s = c.args.sketch.now in
-    let next = c.choose.new.sketch in
-    if_err c.judge-judged.result (IfWrong (IsWrongAt c.args.self.now.shown.now outs next tree next.chosen)) (IfWrong (IsWrongAt c.args.self.now.shown.now outs s tree (sketch_with s.chosen c.args.choice)))
-    (λ fault. moved (λ p mode k. IfWrong (FirstWrongCover (asked p c.args.self.now.shown.now) mode outs tree k) fault) s next c.args.choice c.in_ok-choose.ensures.ok) c.judge-judged.ensures.wrong
+    wrong_after c.args.self.now.shown.now c.args.self.now.outcomes.now c.args.sketch.now c.choose.new.sketch (first_tree c.args.walk.now) c.args.choice c.in_ok-choose.ensures.ok c.judge-judged.result c.judge-judged.ensures.wrong
 
 pub judge_child-returns-in-Err-clause-wrong : goal.judge_child-returns-in-Err-clause-wrong
 judge_child-returns-in-Err-clause-wrong t c =
@@ -269,60 +215,21 @@ judge_child-returns-in-Err-clause-wrong t c =
 
 pub judge_children-loop-number-preserved : goal.judge_children-loop-number-preserved
 judge_children-loop-number-preserved t c =
-    let s = c.args.sketch.now in
-    let shown = c.args.self.now.shown.now in
-    let outs = c.args.self.now.outcomes.now in
-    let choices = c.args.choices.now in
-    let all = c.args.walk.now in
-    let trees = take (length choices) all in
-    let walk = c.loop-number.walk in
-    let number = c.loop-number.number in
-    let y = get_or choices number (choice.Value 0 0) in
-    let inv = c.loop-number.invariant in
-    let here : number < length choices = c.loop-number-test.true in
-    let at : y ≡ get_or choices number y = same_default choices number (choice.Value 0 0) y here in
-    let some : 0 < length walk = left_some number (length choices) all walk here c.requires.as_many inv.walked in
-    let more = drop (number + 1) choices in
-    record {
-      kept = c.judge_child.ensures.kept ∙ inv.kept;
-      walked = c.in_ok-judge_child.ensures.after ∙ walked_on number all walk inv.walked;
-      left = subst (λ (ws : List Cover). IsLeft shown outs s trees choices (number + 1) (take (length more) ws) more) (sym c.in_ok-judge_child.ensures.after)
-          (go_on shown outs s trees choices number walk y some here at inv.left
-          (subst (λ (k : ProgramSketch). IsValidAfter shown outs k (first_tree walk) (sketch_with k.chosen y)) inv.kept c.in_ok-judge_child.ensures.valid));
-    }
+    judged_more c.loop-number.invariant c.loop-number-test.true (same_default c.args.choices.now c.loop-number.number (choice.Value 0 0) (get_or c.args.choices.now c.loop-number.number (choice.Value 0 0)) c.loop-number-test.true)
+    c.judge_child.ensures.kept c.in_ok-judge_child.ensures.after c.in_ok-judge_child.ensures.valid
 
 pub judge_children-returns-in_err-judge_child-clause-wrong : goal.judge_children-returns-in_err-judge_child-clause-wrong
 judge_children-returns-in_err-judge_child-clause-wrong t c =
-    let s = c.args.sketch.now in
-    let shown = c.args.self.now.shown.now in
-    let outs = c.args.self.now.outcomes.now in
-    let choices = c.args.choices.now in
-    let all = c.args.walk.now in
-    let trees = take (length choices) all in
-    let walk = c.loop-number.walk in
-    let number = c.loop-number.number in
-    let y = get_or choices number (choice.Value 0 0) in
-    let inv = c.loop-number.invariant in
-    let here : number < length choices = c.loop-number-test.true in
-    let at : y ≡ get_or choices number y = same_default choices number (choice.Value 0 0) y here in
-    let some : 0 < length walk = left_some number (length choices) all walk here c.requires.as_many inv.walked in
-    let below = IsBelow (IsWrongChild shown outs s trees choices) in
     let fault = c.in_err-judge_child.field-0.0 in
-    let wrong : ProgramSketch → List ℕ → Type 0 = λ k. IsBelow (λ m others. (m ≡ number) × IsWrongAt shown outs k (first_tree walk) (sketch_with k.chosen y) others) in
+    let below = IsBelow (IsWrongChild c.args.self.now.shown.now c.args.self.now.outcomes.now c.args.sketch.now (take (length c.args.choices.now) c.args.walk.now) c.args.choices.now) in
     err_up c.from_residual.result fault (IfWrong below) c.from_residual.ensures.1
-    (if_wrong (wrong s) below fault (stop_here shown outs s trees choices number walk y some here at inv.left)
-    (subst (λ (k : ProgramSketch). IfWrong (wrong k) fault) inv.kept c.in_err-judge_child.ensures.wrong))
+    (judged_wrong c.loop-number.invariant c.loop-number-test.true (same_default c.args.choices.now c.loop-number.number (choice.Value 0 0) (get_or c.args.choices.now c.loop-number.number (choice.Value 0 0)) c.loop-number-test.true) fault c.in_err-judge_child.ensures.wrong)
 
 pub judge_children-returns-clause-after : goal.judge_children-returns-clause-after
-judge_children-returns-clause-after t c =
-    let inv = c.loop-number.invariant in
-    let all : c.loop-number.number ≡ length c.args.choices.now = omega (arith, c.loop-number-test.false) in
-    inv.walked ∙ ap (λ (n : ℕ). drop n c.args.walk.now) all
+judge_children-returns-clause-after t c = past_all c.loop-number.invariant (omega (arith, c.loop-number-test.false))
 
 pub judge_children-returns-clause-valid : goal.judge_children-returns-clause-valid
-judge_children-returns-clause-valid t c =
-    none_left_of c.args.self.now.shown.now c.args.self.now.outcomes.now c.args.sketch.now (take (length c.args.choices.now) c.args.walk.now) c.args.choices.now c.loop-number.number c.loop-number.walk
-    c.loop-number-test.false c.loop-number.invariant.left
+judge_children-returns-clause-valid t c = judged_all c.loop-number.invariant c.loop-number-test.false
 
 pub judge-judge_values-requires : goal.judge-judge_values-requires
 judge-judge_values-requires t c = (
@@ -338,15 +245,11 @@ judge-judge_sources-requires t c = (
 
 pub judge_children-judge_child-requires : goal.judge_children-judge_child-requires
 judge_children-judge_child-requires t c =
-    let number = c.loop-number.number in
-    let choices = c.args.choices.now in
-    let walk = c.loop-number.walk in
-    let inv = c.loop-number.invariant in
-    let here : number < length choices = c.loop-number-test.true in
-    let same : length (spell_all walk) ≡ length (spell_all (drop number c.args.walk.now)) = ap (λ (ws : List Cover). length (spell_all ws)) inv.walked in (
-      omega (arith, rest_no_longer number c.args.walk.now, same),
-      (
-        subst (λ (k : ProgramSketch). MayChoose k (get_or choices number (choice.Value 0 0))) (sym inv.kept) (c.requires.may.each number (choice.Value 0 0) here),
-        left_some number (length choices) c.args.walk.now walk here c.requires.as_many inv.walked,
-      ),
-    )
+    let is = c.loop-number.invariant in
+    let here = c.loop-number-test.true in
+    let at = same_default c.args.choices.now c.loop-number.number (choice.Value 0 0) (get_or c.args.choices.now c.loop-number.number (choice.Value 0 0)) c.loop-number-test.true in
+    (omega (arith, not_longer is here), (next_may is here at c.requires.may, next_some is here))
+
+pub judge_children-loop-number-init : goal.judge_children-loop-number-init
+judge_children-loop-number-init t c =
+    judged_none c.args.self.now.shown.now c.args.self.now.outcomes.now c.args.sketch.now c.args.choices.now (length c.args.choices.now) c.args.walk.now refl c.requires.as_many

@@ -1,6 +1,6 @@
-use Rattle.std.proofs.Common.{◌≡◌, ◌+◌, ◌*◌, length, take, drop}
+use Rattle.std.proofs.Common.{◌+◌, ◌*◌, length}
 use Rattle.cert_forest.specs.Nodes.{spell_all}
-use Rattle.cover_judge.proofs.CoverSteps.{IsLeft}
+use Rattle.cover_judge.proofs.CoverSteps.{IsJudgedTo}
 use Rattle.cover_judge.proofs.cover.CoverJudge.+judge.Given as goal
 
 -- the nodes that are left, and the calls before the next one is taken
@@ -22,10 +22,6 @@ decreases-judge_values l = 5 * length (spell_all l.walk.now) + 4
 abbrev pub decreases-judge_sources : goal.decreases-judge_sources
 decreases-judge_sources l = 5 * length (spell_all l.walk.now) + 4
 
--- the sketch is as before, the walk is behind the children that were judged, and those that are left decide
+-- so many children are judged
 abbrev pub invariant-judge_children-loop-number : goal.invariant-judge_children-loop-number
-invariant-judge_children-loop-number l = record {
-  kept : l.sketch ≡ l.fn.sketch;
-  walked : l.walk ≡ drop l.number l.fn.walk;
-  left : IsLeft l.self.shown.now l.self.outcomes.now l.fn.sketch (take (length l.choices) l.fn.walk) l.choices l.number (take (length (drop l.number l.choices)) l.walk) (drop l.number l.choices);
-}
+invariant-judge_children-loop-number l = IsJudgedTo l.self.shown.now l.self.outcomes.now l.fn.sketch l.choices (length l.choices) l.fn.walk l.number l.sketch l.walk

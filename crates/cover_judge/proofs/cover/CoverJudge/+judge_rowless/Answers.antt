@@ -1,22 +1,20 @@
-use Rattle.std.proofs.Common.{◌≡◌, ℕ, ◌+◌, ◌<◌, List, length, map, take, drop, get_or, refl, sym, subst, ap, ◌∙◌, arith}
-use Rattle.std.proofs.lemmas.List.{get_or-map}
-use Rattle.cover_judge.proofs.Vocabulary.{IfErr, OnOk, length-map, length-take-le, Cover, Value, Source, covers_of, first_tree, spell_all, AccessId, Event, next_is_shorter, asked, IsValueOf, ProgramSketch, mode_in}
-use Rattle.cover_judge.proofs.Vocabulary.{with_chosen, LacksSource, IsValidCover, HasNextValues, event_of, same_Some, FirstWrongCover, HasNoValues, HasNoSources, sketch_with, MayChoose, AreValueChoices, AreSourceChoices, IfWrong, IsAtRoot}
-use Rattle.cover_judge.proofs.Vocabulary.{IsBelow, IsValidAfter, IsWrongAt, AreValidAfter, IsWrongChild}
+use Rattle.std.proofs.Common.{◌≡◌, ℕ, List, length, map, take, drop, get_or, refl, sym, subst, ap, ◌∙◌, arith}
+use Rattle.cover_judge.proofs.Vocabulary.{IfErr, OnOk, length-map, Cover, Source, covers_of, first_tree, AccessId, Event, next_is_shorter, IsValueOf, ProgramSketch, mode_in}
+use Rattle.cover_judge.proofs.Vocabulary.{with_chosen, LacksSource, HasNextValues, event_of, same_Some, HasNoValues, HasNoSources, sketch_with, AreValueChoices, AreSourceChoices, IfWrong, IsValidAfter, IsWrongAt}
 use Rattle.candidate_executions.specs.declared.event.Event.TheVariants.{Initial}
 use Rattle.cert_forest.specs.Walks.{IsNext}
 use Rattle.cert_forest.specs.declared.walk.CoverNode.{CoverNode}
 use Rattle.cert_forest.specs.declared.walk.CoverNode.TheVariants as n
-use Rattle.cert_forest.proofs.NextNodes.{value_next, source_next, rest_no_longer}
+use Rattle.cert_forest.proofs.NextNodes.{value_next, source_next}
 use Rattle.candidate_executions.specs.Sketches as sketches
 use Rattle.sketches.specs.Choices.{MayRead}
 use Rattle.tree_laws.specs.CoverTrees.{HasSources}
 use Rattle.cover_judge.specs.declared.choice.Choice.TheVariants as choice
-use Rattle.cover_judge.proofs.Answered.{err_up, if_err, on_ok}
-use Rattle.cover_judge.proofs.ChoicesJudged.{if_wrong, from_child, values_may, sources_may}
-use Rattle.cover_judge.proofs.SketchesAfter.{moved}
-use Rattle.cover_judge.proofs.CoverNodes.{value_here, value_below, value_valid, source_here, source_below, source_valid}
-use Rattle.cover_judge.proofs.CoverSteps.{IsLeft, all_left, go_on, stop_here, none_left_of, left_some, walked_on}
+use Rattle.cover_judge.proofs.Answered.{on_ok}
+use Rattle.cover_judge.proofs.ChoicesJudged.{from_child, values_may, sources_may}
+use Rattle.cover_judge.proofs.SketchesAfter.{valid_after, wrong_after}
+use Rattle.cover_judge.proofs.CoverNodes.{values_node, sources_node, value_here, source_here, branched_values, branched_sources, past_children, valid_by_children, wrong_by_child, wrong_by_root}
+use Rattle.cover_judge.proofs.CoverSteps.{choice_of, judged_none, judged_more, judged_wrong, judged_all, past_all, next_may, next_some, not_longer}
 use Rattle.cover_judge.proofs.LeavesWithoutSource.{leaf_valid}
 use Rattle.cover_judge.proofs.cover.CoverJudge.+judge_rowless.Goals as goal
 
@@ -24,168 +22,63 @@ use Rattle.cover_judge.proofs.cover.CoverJudge.+judge_rowless.Goals as goal
 are_values : (s : ProgramSketch) (t : ℕ) (values : List ℕ) → HasNextValues s.program (mode_in s) s.chosen t values → AreValueChoices s t (map (choice.Value t) values)
 are_values s t values next = record { values = values; next = next; each = refl }
 
-choice_at : (t : ℕ) (values : List ℕ) (number : ℕ) → number < length values →
-    choice.Value t (get_or values number 0) ≡ get_or (map (choice.Value t) values) number (choice.Value t (get_or values number 0))
-choice_at t values number here = sym (get_or-map (choice.Value t) values number 0 (choice.Value t (get_or values number 0)) here)
-
 -- the sources as choices
 are_sources : (s : ProgramSketch) (read : AccessId) (sources : List Event) → HasSources s.program (mode_in s) s.chosen (event_of read) sources → AreSourceChoices s read (map (choice.Source read) sources)
 are_sources s read sources next = record { sources = sources; next = next; each = refl }
-
-source_at : (read : AccessId) (sources : List Event) (number : ℕ) → number < length sources →
-    choice.Source read (get_or sources number (Initial 0)) ≡ get_or (map (choice.Source read) sources) number (choice.Source read (get_or sources number (Initial 0)))
-source_at read sources number here = sym (get_or-map (choice.Source read) sources number (Initial 0) (choice.Source read (get_or sources number (Initial 0))) here)
 
 -- ---- the values of a next read
 
 pub judge_next_read-returns-in_err-values-clause-wrong : goal.judge_next_read-returns-in_err-values-clause-wrong
 judge_next_read-returns-in_err-values-clause-wrong t c =
-    let kids = take c.args.count c.args.walk.now in
     let s = c.args.sketch.now in
-    let None : ℕ → Type 0 = HasNoValues s.program (mode_in s) s.chosen c.args.thread in
-    let At = IsWrongAt c.args.self.now.shown.now c.args.self.now.outcomes.now s (Value c.args.thread (covers_of kids)) s.chosen in
-    let count = c.args.count in
-    let len : count ≡ length kids = sym (length-take-le count c.args.walk.now c.requires) in
-    let fault = c.in_err-values.field-0.0 in
-    err_up c.from_residual.result fault (IfWrong At) c.from_residual.ensures.1
-    (if_wrong (IsAtRoot (None (length kids))) At fault (value_here c.args.self.now.shown.now c.args.self.now.outcomes.now s kids c.args.thread)
-    (subst (λ n. IfWrong (IsAtRoot (None n)) fault) len c.in_err-values.ensures.wrong))
+    wrong_by_root c.args.self.now.shown.now c.args.self.now.outcomes.now s (values_node c.args.thread) (HasNoValues s.program (mode_in s) s.chosen c.args.thread) (value_here c.args.self.now.shown.now c.args.self.now.outcomes.now s c.args.thread)
+    c.from_residual.result c.in_err-values.field-0.0 c.args.count c.args.walk.now c.requires c.from_residual.ensures.1 c.in_err-values.ensures.wrong
 
 pub judge_next_read-returns-clause-after : goal.judge_next_read-returns-clause-after
 judge_next_read-returns-clause-after t c =
-    let values = c.in_ok-values.values in
-    let many : c.args.count ≡ length values = c.in_ok-values.ensures.many in
-    on_ok c.judge_each_value.result (c.judge_each_value.new.walk ≡ drop (length values) c.args.walk.now) (c.judge_each_value.new.walk ≡ drop c.args.count c.args.walk.now)
-    (λ e. e ∙ ap (λ (n : ℕ). drop n c.args.walk.now) (sym many)) (rw c.as_slice.ensures at c.judge_each_value.ensures.after)
+    past_children c.judge_each_value.result c.args.count (length c.in_ok-values.values) c.args.walk.now c.judge_each_value.new.walk c.in_ok-values.ensures.many (rw c.as_slice.ensures at c.judge_each_value.ensures.after)
 
 pub judge_next_read-returns-clause-valid : goal.judge_next_read-returns-clause-valid
 judge_next_read-returns-clause-valid t c =
-    let walk = c.args.walk.now in
-    let kids = take c.args.count walk in
-    let s = c.args.sketch.now in
-    let outs = c.args.self.now.outcomes.now in
-    let values = c.in_ok-values.values in
-    let choices = map (choice.Value c.args.thread) values in
-    let many : c.args.count ≡ length values = c.in_ok-values.ensures.many in
-    let are = are_values s c.args.thread values c.in_ok-values.ensures.next in
-    on_ok c.judge_each_value.result (AreValidAfter c.args.self.now.shown.now outs s kids choices) (IsValidAfter c.args.self.now.shown.now outs s (Value c.args.thread (covers_of kids)) s.chosen) (value_valid c.args.self.now.shown.now outs s kids c.args.thread choices are)
-    (subst (λ (n : ℕ). OnOk c.judge_each_value.result (AreValidAfter c.args.self.now.shown.now outs s (take n walk) choices)) (sym many) (rw c.as_slice.ensures at c.judge_each_value.ensures.valid))
+    let is = branched_values c.args.self.now.shown.now c.args.self.now.outcomes.now c.args.sketch.now c.args.thread (map (choice.Value c.args.thread) c.in_ok-values.values) (are_values c.args.sketch.now c.args.thread c.in_ok-values.values c.in_ok-values.ensures.next) in
+    valid_by_children is c.judge_each_value.result c.args.count (length c.in_ok-values.values) c.args.walk.now c.in_ok-values.ensures.many (rw c.as_slice.ensures at c.judge_each_value.ensures.valid)
 
 pub judge_next_read-returns-clause-wrong : goal.judge_next_read-returns-clause-wrong
 judge_next_read-returns-clause-wrong t c =
-    let walk = c.args.walk.now in
-    let kids = take c.args.count walk in
-    let s = c.args.sketch.now in
-    let outs = c.args.self.now.outcomes.now in
-    let values = c.in_ok-values.values in
-    let choices = map (choice.Value c.args.thread) values in
-    let as_many : c.args.count ≡ length values = c.in_ok-values.ensures.many in
-    let are = are_values s c.args.thread values c.in_ok-values.ensures.next in
-    let many : length kids ≡ length choices = length-take-le c.args.count walk c.requires ∙ as_many ∙ sym (length-map values (choice.Value c.args.thread)) in
-    let P = IsBelow (IsWrongChild c.args.self.now.shown.now outs s kids choices) in
-    let At = IsWrongAt c.args.self.now.shown.now outs s (Value c.args.thread (covers_of kids)) s.chosen in
-    if_err c.judge_each_value.result (IfWrong P) (IfWrong At) (λ fault. if_wrong P At fault (value_below c.args.self.now.shown.now outs s kids c.args.thread choices are many))
-    (subst (λ (n : ℕ). IfErr c.judge_each_value.result (IfWrong (IsBelow (IsWrongChild c.args.self.now.shown.now outs s (take n walk) choices)))) (sym as_many) (rw c.as_slice.ensures at c.judge_each_value.ensures.wrong))
+    let is = branched_values c.args.self.now.shown.now c.args.self.now.outcomes.now c.args.sketch.now c.args.thread (map (choice.Value c.args.thread) c.in_ok-values.values) (are_values c.args.sketch.now c.args.thread c.in_ok-values.values c.in_ok-values.ensures.next) in
+    wrong_by_child is c.judge_each_value.result c.args.count (length c.in_ok-values.values) c.args.walk.now c.in_ok-values.ensures.many c.requires (sym (length-map c.in_ok-values.values (choice.Value c.args.thread)))
+    (rw c.as_slice.ensures at c.judge_each_value.ensures.wrong)
 
 pub judge_each_value-loop-number-init : goal.judge_each_value-loop-number-init
 judge_each_value-loop-number-init t c =
-    let values = c.args.values.now in
-    let walk = c.args.walk.now in
-    let choices = map (choice.Value c.args.thread) values in
-    let trees = take (length values) walk in
-    record {
-      kept = refl;
-      walked = refl;
-      left = subst (λ (m : ℕ). IsLeft c.args.self.now.shown.now c.args.self.now.outcomes.now c.args.sketch.now trees choices 0 (take m walk) choices) (sym (length-map values (choice.Value c.args.thread)))
-          (all_left c.args.self.now.shown.now c.args.self.now.outcomes.now c.args.sketch.now trees choices);
-    }
+    judged_none c.args.self.now.shown.now c.args.self.now.outcomes.now c.args.sketch.now (map (choice.Value c.args.thread) c.args.values.now) (length c.args.values.now) c.args.walk.now
+    (sym (length-map c.args.values.now (choice.Value c.args.thread))) c.requires.as_many
 
 pub judge_each_value-judge_value-requires : goal.judge_each_value-judge_value-requires
 judge_each_value-judge_value-requires t c =
-    let number = c.loop-number.number in
-    let values = c.args.values.now in
-    let walk = c.loop-number.walk in
-    let inv = c.loop-number.invariant in
-    let here : number < length values = c.loop-number-test.true in
-    let s = c.args.sketch.now in
-    let thread = c.args.thread in
-    let choices = map (choice.Value thread) values in
-    let y = choice.Value thread (get_or values number 0) in
-    let len : length choices ≡ length values = length-map values (choice.Value thread) in
-    let each = (values_may s thread choices (are_values s thread values c.requires.next)).each number y (omega arith) in
-    let may : MayChoose s y = subst (MayChoose s) (sym (choice_at thread values number here)) each in
-    let same : length (spell_all walk) ≡ length (spell_all (drop number c.args.walk.now)) = ap (λ (ws : List Cover). length (spell_all ws)) inv.walked in (
-      omega (arith, rest_no_longer number c.args.walk.now, same),
-      (
-        subst (λ (k : ProgramSketch). MayChoose k y) (sym inv.kept) may,
-        left_some number (length values) c.args.walk.now walk here c.requires.as_many inv.walked,
-      ),
-    )
+    let is = c.loop-number.invariant in
+    let here = c.loop-number-test.true in
+    let at = choice_of (choice.Value c.args.thread) c.args.values.now c.loop-number.number 0 c.loop-number-test.true in
+    let may = values_may c.args.sketch.now c.args.thread (map (choice.Value c.args.thread) c.args.values.now) (are_values c.args.sketch.now c.args.thread c.args.values.now c.requires.next) in
+    (omega (arith, not_longer is here), (next_may is here at may, next_some is here))
 
 pub judge_each_value-loop-number-preserved : goal.judge_each_value-loop-number-preserved
 judge_each_value-loop-number-preserved t c =
-    let s = c.args.sketch.now in
-    let shown = c.args.self.now.shown.now in
-    let outs = c.args.self.now.outcomes.now in
-    let values = c.args.values.now in
-    let thread = c.args.thread in
-    let choices = map (choice.Value thread) values in
-    let all = c.args.walk.now in
-    let trees = take (length values) all in
-    let walk = c.loop-number.walk in
-    let number = c.loop-number.number in
-    let y = choice.Value thread (get_or values number 0) in
-    let inv = c.loop-number.invariant in
-    let here : number < length values = c.loop-number-test.true in
-    let len : length choices ≡ length values = length-map values (choice.Value thread) in
-    let at = choice_at thread values number here in
-    let some : 0 < length walk = left_some number (length values) all walk here c.requires.as_many inv.walked in
-    let more = drop (number + 1) choices in
-    record {
-      kept = c.judge_value.ensures.kept ∙ inv.kept;
-      walked = c.in-Ok.ensures.after ∙ walked_on number all walk inv.walked;
-      left = subst (λ (ws : List Cover). IsLeft shown outs s trees choices (number + 1) (take (length more) ws) more) (sym c.in-Ok.ensures.after)
-          (go_on shown outs s trees choices number walk y some (omega arith) at inv.left
-          (subst (λ (k : ProgramSketch). IsValidAfter shown outs k (first_tree walk) (sketch_with k.chosen y)) inv.kept c.in-Ok.ensures.valid));
-    }
+    judged_more c.loop-number.invariant c.loop-number-test.true (choice_of (choice.Value c.args.thread) c.args.values.now c.loop-number.number 0 c.loop-number-test.true) c.judge_value.ensures.kept c.in-Ok.ensures.after c.in-Ok.ensures.valid
 
 pub judge_each_value-returns-in-Err-clause-wrong : goal.judge_each_value-returns-in-Err-clause-wrong
 judge_each_value-returns-in-Err-clause-wrong t c =
-    let s = c.args.sketch.now in
-    let shown = c.args.self.now.shown.now in
-    let outs = c.args.self.now.outcomes.now in
-    let values = c.args.values.now in
-    let thread = c.args.thread in
-    let choices = map (choice.Value thread) values in
-    let all = c.args.walk.now in
-    let trees = take (length values) all in
-    let walk = c.loop-number.walk in
-    let number = c.loop-number.number in
-    let y = choice.Value thread (get_or values number 0) in
-    let inv = c.loop-number.invariant in
-    let here : number < length values = c.loop-number-test.true in
-    let len : length choices ≡ length values = length-map values (choice.Value thread) in
-    let at = choice_at thread values number here in
-    let some : 0 < length walk = left_some number (length values) all walk here c.requires.as_many inv.walked in
-    let below = IsBelow (IsWrongChild shown outs s trees choices) in
-    let P : ProgramSketch → List ℕ → Type 0 = λ k. IsWrongAt shown outs k (first_tree walk) (sketch_with k.chosen y) in
-    let fault = c.from_parent.result in
-    if_wrong (IsBelow (λ m others. (m ≡ number) × P s others)) below fault (stop_here shown outs s trees choices number walk y some (omega arith) at inv.left)
-    (from_child (P s) number c.in-Err.fault fault c.from_parent.ensures (subst (λ (k : ProgramSketch). IfWrong (P k) c.in-Err.fault) inv.kept c.in-Err.ensures.wrong))
+    let k = c.loop-number.sketch in
+    let y = choice.Value c.args.thread (get_or c.args.values.now c.loop-number.number 0) in
+    let At = IsWrongAt c.args.self.now.shown.now c.args.self.now.outcomes.now k (first_tree c.loop-number.walk) (sketch_with k.chosen y) in
+    judged_wrong c.loop-number.invariant c.loop-number-test.true (choice_of (choice.Value c.args.thread) c.args.values.now c.loop-number.number 0 c.loop-number-test.true) c.from_parent.result
+    (from_child At c.loop-number.number c.in-Err.fault c.from_parent.result c.from_parent.ensures c.in-Err.ensures.wrong)
 
 pub judge_each_value-returns-clause-after : goal.judge_each_value-returns-clause-after
-judge_each_value-returns-clause-after t c =
-    let inv = c.loop-number.invariant in
-    let all : c.loop-number.number ≡ length c.args.values.now = omega (arith, c.loop-number-test.false) in
-    inv.walked ∙ ap (λ (n : ℕ). drop n c.args.walk.now) all
+judge_each_value-returns-clause-after t c = past_all c.loop-number.invariant (omega (arith, c.loop-number-test.false))
 
 pub judge_each_value-returns-clause-valid : goal.judge_each_value-returns-clause-valid
-judge_each_value-returns-clause-valid t c =
-    let values = c.args.values.now in
-    let choices = map (choice.Value c.args.thread) values in
-    let len : length choices ≡ length values = length-map values (choice.Value c.args.thread) in
-    none_left_of c.args.self.now.shown.now c.args.self.now.outcomes.now c.args.sketch.now (take (length values) c.args.walk.now) choices c.loop-number.number c.loop-number.walk
-    (omega (arith, c.loop-number-test.false)) c.loop-number.invariant.left
+judge_each_value-returns-clause-valid t c = judged_all c.loop-number.invariant c.loop-number-test.false
 
 pub judge_value-give_value-requires-clause-value : goal.judge_value-give_value-requires-clause-value
 judge_value-give_value-requires-clause-value t c =
@@ -207,174 +100,67 @@ judge_value-returns-clause-kept t c =
 
 pub judge_value-returns-clause-valid : goal.judge_value-returns-clause-valid
 judge_value-returns-clause-valid t c =
-    let tree = first_tree c.args.walk.now in
-    let outs = c.args.self.now.outcomes.now in
-    let s = c.args.sketch.now in
-    let next = c.give_value.new.self in
-    let y = choice.Value c.args.thread c.args.value in
-    on_ok c.judge_rowless-judged.result (IsValidAfter c.args.self.now.shown.now outs next tree next.chosen) (IsValidAfter c.args.self.now.shown.now outs s tree (sketch_with s.chosen y))
-    (moved (λ p mode k. IsValidCover (asked p c.args.self.now.shown.now) mode outs tree k) s next y c.in_ok-mark.ensures.ok) c.judge_rowless-judged.ensures.valid
+    valid_after c.args.self.now.shown.now c.args.self.now.outcomes.now c.args.sketch.now c.give_value.new.self (first_tree c.args.walk.now) (choice.Value c.args.thread c.args.value) c.in_ok-mark.ensures.ok c.judge_rowless-judged.result
+    c.judge_rowless-judged.ensures.valid
 
 pub judge_value-returns-clause-wrong : goal.judge_value-returns-clause-wrong
 judge_value-returns-clause-wrong t c =
-    let tree = first_tree c.args.walk.now in
-    let outs = c.args.self.now.outcomes.now in
-    let s = c.args.sketch.now in
-    let next = c.give_value.new.self in
-    let y = choice.Value c.args.thread c.args.value in
-    if_err c.judge_rowless-judged.result (IfWrong (IsWrongAt c.args.self.now.shown.now outs next tree next.chosen)) (IfWrong (IsWrongAt c.args.self.now.shown.now outs s tree (sketch_with s.chosen y)))
-    (λ fault. moved (λ p mode k. IfWrong (FirstWrongCover (asked p c.args.self.now.shown.now) mode outs tree k) fault) s next y c.in_ok-mark.ensures.ok) c.judge_rowless-judged.ensures.wrong
+    wrong_after c.args.self.now.shown.now c.args.self.now.outcomes.now c.args.sketch.now c.give_value.new.self (first_tree c.args.walk.now) (choice.Value c.args.thread c.args.value) c.in_ok-mark.ensures.ok c.judge_rowless-judged.result
+    c.judge_rowless-judged.ensures.wrong
 
 -- ---- the sources of a read
 
 pub judge_read-returns-in_err-sources-clause-wrong : goal.judge_read-returns-in_err-sources-clause-wrong
 judge_read-returns-in_err-sources-clause-wrong t c =
-    let kids = take c.args.count c.args.walk.now in
     let s = c.args.sketch.now in
-    let None : ℕ → Type 0 = HasNoSources s.program (mode_in s) s.chosen (event_of c.args.read) in
-    let At = IsWrongAt c.args.self.now.shown.now c.args.self.now.outcomes.now s (Source c.args.read (covers_of kids)) s.chosen in
-    let count = c.args.count in
-    let len : count ≡ length kids = sym (length-take-le count c.args.walk.now c.requires) in
-    let fault = c.in_err-sources.field-0.0 in
-    err_up c.from_residual.result fault (IfWrong At) c.from_residual.ensures.1
-    (if_wrong (IsAtRoot (None (length kids))) At fault (source_here c.args.self.now.shown.now c.args.self.now.outcomes.now s kids c.args.read)
-    (subst (λ n. IfWrong (IsAtRoot (None n)) fault) len c.in_err-sources.ensures.wrong))
+    wrong_by_root c.args.self.now.shown.now c.args.self.now.outcomes.now s (sources_node c.args.read) (HasNoSources s.program (mode_in s) s.chosen (event_of c.args.read)) (source_here c.args.self.now.shown.now c.args.self.now.outcomes.now s c.args.read)
+    c.from_residual.result c.in_err-sources.field-0.0 c.args.count c.args.walk.now c.requires c.from_residual.ensures.1 c.in_err-sources.ensures.wrong
 
 pub judge_read-returns-clause-after : goal.judge_read-returns-clause-after
 judge_read-returns-clause-after t c =
-    let sources = c.in_ok-sources.sources.items in
-    let many : c.args.count ≡ length sources = c.in_ok-sources.ensures.many in
-    on_ok c.judge_each_source.result (c.judge_each_source.new.walk ≡ drop (length sources) c.args.walk.now) (c.judge_each_source.new.walk ≡ drop c.args.count c.args.walk.now)
-    (λ e. e ∙ ap (λ (n : ℕ). drop n c.args.walk.now) (sym many)) (rw c.deref.ensures.value at c.judge_each_source.ensures.after)
+    past_children c.judge_each_source.result c.args.count (length c.in_ok-sources.sources.items) c.args.walk.now c.judge_each_source.new.walk c.in_ok-sources.ensures.many (rw c.deref.ensures.value at c.judge_each_source.ensures.after)
 
 pub judge_read-returns-clause-valid : goal.judge_read-returns-clause-valid
 judge_read-returns-clause-valid t c =
-    let walk = c.args.walk.now in
-    let kids = take c.args.count walk in
-    let s = c.args.sketch.now in
-    let outs = c.args.self.now.outcomes.now in
-    let sources = c.in_ok-sources.sources.items in
-    let choices = map (choice.Source c.args.read) sources in
-    let many : c.args.count ≡ length sources = c.in_ok-sources.ensures.many in
-    let are = are_sources s c.args.read sources c.in_ok-sources.ensures.next in
-    on_ok c.judge_each_source.result (AreValidAfter c.args.self.now.shown.now outs s kids choices) (IsValidAfter c.args.self.now.shown.now outs s (Source c.args.read (covers_of kids)) s.chosen) (source_valid c.args.self.now.shown.now outs s kids c.args.read choices are)
-    (subst (λ (n : ℕ). OnOk c.judge_each_source.result (AreValidAfter c.args.self.now.shown.now outs s (take n walk) choices)) (sym many) (rw c.deref.ensures.value at c.judge_each_source.ensures.valid))
+    let is = branched_sources c.args.self.now.shown.now c.args.self.now.outcomes.now c.args.sketch.now c.args.read (map (choice.Source c.args.read) c.in_ok-sources.sources.items) (are_sources c.args.sketch.now c.args.read c.in_ok-sources.sources.items c.in_ok-sources.ensures.next) in
+    valid_by_children is c.judge_each_source.result c.args.count (length c.in_ok-sources.sources.items) c.args.walk.now c.in_ok-sources.ensures.many (rw c.deref.ensures.value at c.judge_each_source.ensures.valid)
 
 pub judge_read-returns-clause-wrong : goal.judge_read-returns-clause-wrong
 judge_read-returns-clause-wrong t c =
-    let walk = c.args.walk.now in
-    let kids = take c.args.count walk in
-    let s = c.args.sketch.now in
-    let outs = c.args.self.now.outcomes.now in
-    let sources = c.in_ok-sources.sources.items in
-    let choices = map (choice.Source c.args.read) sources in
-    let as_many : c.args.count ≡ length sources = c.in_ok-sources.ensures.many in
-    let are = are_sources s c.args.read sources c.in_ok-sources.ensures.next in
-    let many : length kids ≡ length choices = length-take-le c.args.count walk c.requires ∙ as_many ∙ sym (length-map sources (choice.Source c.args.read)) in
-    let P = IsBelow (IsWrongChild c.args.self.now.shown.now outs s kids choices) in
-    let At = IsWrongAt c.args.self.now.shown.now outs s (Source c.args.read (covers_of kids)) s.chosen in
-    if_err c.judge_each_source.result (IfWrong P) (IfWrong At) (λ fault. if_wrong P At fault (source_below c.args.self.now.shown.now outs s kids c.args.read choices are many))
-    (subst (λ (n : ℕ). IfErr c.judge_each_source.result (IfWrong (IsBelow (IsWrongChild c.args.self.now.shown.now outs s (take n walk) choices)))) (sym as_many) (rw c.deref.ensures.value at c.judge_each_source.ensures.wrong))
+    let is = branched_sources c.args.self.now.shown.now c.args.self.now.outcomes.now c.args.sketch.now c.args.read (map (choice.Source c.args.read) c.in_ok-sources.sources.items) (are_sources c.args.sketch.now c.args.read c.in_ok-sources.sources.items c.in_ok-sources.ensures.next) in
+    wrong_by_child is c.judge_each_source.result c.args.count (length c.in_ok-sources.sources.items) c.args.walk.now c.in_ok-sources.ensures.many c.requires (sym (length-map c.in_ok-sources.sources.items (choice.Source c.args.read)))
+    (rw c.deref.ensures.value at c.judge_each_source.ensures.wrong)
 
 pub judge_each_source-loop-number-init : goal.judge_each_source-loop-number-init
 judge_each_source-loop-number-init t c =
-    let sources = c.args.sources.now in
-    let walk = c.args.walk.now in
-    let choices = map (choice.Source c.args.read) sources in
-    let trees = take (length sources) walk in
-    record {
-      kept = refl;
-      walked = refl;
-      left = subst (λ (m : ℕ). IsLeft c.args.self.now.shown.now c.args.self.now.outcomes.now c.args.sketch.now trees choices 0 (take m walk) choices) (sym (length-map sources (choice.Source c.args.read)))
-          (all_left c.args.self.now.shown.now c.args.self.now.outcomes.now c.args.sketch.now trees choices);
-    }
+    judged_none c.args.self.now.shown.now c.args.self.now.outcomes.now c.args.sketch.now (map (choice.Source c.args.read) c.args.sources.now) (length c.args.sources.now) c.args.walk.now
+    (sym (length-map c.args.sources.now (choice.Source c.args.read))) c.requires.as_many
 
 pub judge_each_source-judge_source-requires : goal.judge_each_source-judge_source-requires
 judge_each_source-judge_source-requires t c =
-    let number = c.loop-number.number in
-    let sources = c.args.sources.now in
-    let walk = c.loop-number.walk in
-    let inv = c.loop-number.invariant in
-    let here : number < length sources = c.loop-number-test.true in
-    let s = c.args.sketch.now in
-    let read = c.args.read in
-    let choices = map (choice.Source read) sources in
-    let y = choice.Source read (get_or sources number (Initial 0)) in
-    let len : length choices ≡ length sources = length-map sources (choice.Source read) in
-    let each = (sources_may s read choices (are_sources s read sources c.requires.next)).each number y (omega arith) in
-    let may : MayChoose s y = subst (MayChoose s) (sym (source_at read sources number here)) each in
-    let same : length (spell_all walk) ≡ length (spell_all (drop number c.args.walk.now)) = ap (λ (ws : List Cover). length (spell_all ws)) inv.walked in (
-      omega (arith, rest_no_longer number c.args.walk.now, same),
-      (
-        subst (λ (k : ProgramSketch). MayChoose k y) (sym inv.kept) may,
-        left_some number (length sources) c.args.walk.now walk here c.requires.as_many inv.walked,
-      ),
-    )
+    let is = c.loop-number.invariant in
+    let here = c.loop-number-test.true in
+    let at = choice_of (choice.Source c.args.read) c.args.sources.now c.loop-number.number (Initial 0) c.loop-number-test.true in
+    let may = sources_may c.args.sketch.now c.args.read (map (choice.Source c.args.read) c.args.sources.now) (are_sources c.args.sketch.now c.args.read c.args.sources.now c.requires.next) in
+    (omega (arith, not_longer is here), (next_may is here at may, next_some is here))
 
 pub judge_each_source-loop-number-preserved : goal.judge_each_source-loop-number-preserved
 judge_each_source-loop-number-preserved t c =
-    let s = c.args.sketch.now in
-    let shown = c.args.self.now.shown.now in
-    let outs = c.args.self.now.outcomes.now in
-    let sources = c.args.sources.now in
-    let read = c.args.read in
-    let choices = map (choice.Source read) sources in
-    let all = c.args.walk.now in
-    let trees = take (length sources) all in
-    let walk = c.loop-number.walk in
-    let number = c.loop-number.number in
-    let y = choice.Source read (get_or sources number (Initial 0)) in
-    let inv = c.loop-number.invariant in
-    let here : number < length sources = c.loop-number-test.true in
-    let len : length choices ≡ length sources = length-map sources (choice.Source read) in
-    let at = source_at read sources number here in
-    let some : 0 < length walk = left_some number (length sources) all walk here c.requires.as_many inv.walked in
-    let more = drop (number + 1) choices in
-    record {
-      kept = c.judge_source.ensures.kept ∙ inv.kept;
-      walked = c.in-Ok.ensures.after ∙ walked_on number all walk inv.walked;
-      left = subst (λ (ws : List Cover). IsLeft shown outs s trees choices (number + 1) (take (length more) ws) more) (sym c.in-Ok.ensures.after)
-          (go_on shown outs s trees choices number walk y some (omega arith) at inv.left
-          (subst (λ (k : ProgramSketch). IsValidAfter shown outs k (first_tree walk) (sketch_with k.chosen y)) inv.kept c.in-Ok.ensures.valid));
-    }
+    judged_more c.loop-number.invariant c.loop-number-test.true (choice_of (choice.Source c.args.read) c.args.sources.now c.loop-number.number (Initial 0) c.loop-number-test.true) c.judge_source.ensures.kept c.in-Ok.ensures.after c.in-Ok.ensures.valid
 
 pub judge_each_source-returns-in-Err-clause-wrong : goal.judge_each_source-returns-in-Err-clause-wrong
 judge_each_source-returns-in-Err-clause-wrong t c =
-    let s = c.args.sketch.now in
-    let shown = c.args.self.now.shown.now in
-    let outs = c.args.self.now.outcomes.now in
-    let sources = c.args.sources.now in
-    let read = c.args.read in
-    let choices = map (choice.Source read) sources in
-    let all = c.args.walk.now in
-    let trees = take (length sources) all in
-    let walk = c.loop-number.walk in
-    let number = c.loop-number.number in
-    let y = choice.Source read (get_or sources number (Initial 0)) in
-    let inv = c.loop-number.invariant in
-    let here : number < length sources = c.loop-number-test.true in
-    let len : length choices ≡ length sources = length-map sources (choice.Source read) in
-    let at = source_at read sources number here in
-    let some : 0 < length walk = left_some number (length sources) all walk here c.requires.as_many inv.walked in
-    let below = IsBelow (IsWrongChild shown outs s trees choices) in
-    let P : ProgramSketch → List ℕ → Type 0 = λ k. IsWrongAt shown outs k (first_tree walk) (sketch_with k.chosen y) in
-    let fault = c.from_parent.result in
-    if_wrong (IsBelow (λ m others. (m ≡ number) × P s others)) below fault (stop_here shown outs s trees choices number walk y some (omega arith) at inv.left)
-    (from_child (P s) number c.in-Err.fault fault c.from_parent.ensures (subst (λ (k : ProgramSketch). IfWrong (P k) c.in-Err.fault) inv.kept c.in-Err.ensures.wrong))
+    let k = c.loop-number.sketch in
+    let y = choice.Source c.args.read (get_or c.args.sources.now c.loop-number.number (Initial 0)) in
+    let At = IsWrongAt c.args.self.now.shown.now c.args.self.now.outcomes.now k (first_tree c.loop-number.walk) (sketch_with k.chosen y) in
+    judged_wrong c.loop-number.invariant c.loop-number-test.true (choice_of (choice.Source c.args.read) c.args.sources.now c.loop-number.number (Initial 0) c.loop-number-test.true) c.from_parent.result
+    (from_child At c.loop-number.number c.in-Err.fault c.from_parent.result c.from_parent.ensures c.in-Err.ensures.wrong)
 
 pub judge_each_source-returns-clause-after : goal.judge_each_source-returns-clause-after
-judge_each_source-returns-clause-after t c =
-    let inv = c.loop-number.invariant in
-    let all : c.loop-number.number ≡ length c.args.sources.now = omega (arith, c.loop-number-test.false) in
-    inv.walked ∙ ap (λ (n : ℕ). drop n c.args.walk.now) all
+judge_each_source-returns-clause-after t c = past_all c.loop-number.invariant (omega (arith, c.loop-number-test.false))
 
 pub judge_each_source-returns-clause-valid : goal.judge_each_source-returns-clause-valid
-judge_each_source-returns-clause-valid t c =
-    let sources = c.args.sources.now in
-    let choices = map (choice.Source c.args.read) sources in
-    let len : length choices ≡ length sources = length-map sources (choice.Source c.args.read) in
-    none_left_of c.args.self.now.shown.now c.args.self.now.outcomes.now c.args.sketch.now (take (length sources) c.args.walk.now) choices c.loop-number.number c.loop-number.walk
-    (omega (arith, c.loop-number-test.false)) c.loop-number.invariant.left
+judge_each_source-returns-clause-valid t c = judged_all c.loop-number.invariant c.loop-number-test.false
 
 -- ---- a leaf for a read that has no source
 
@@ -400,25 +186,15 @@ judge_source-returns-clause-kept t c =
 
 pub judge_source-returns-clause-valid : goal.judge_source-returns-clause-valid
 judge_source-returns-clause-valid t c =
-    let tree = first_tree c.args.walk.now in
-    let outs = c.args.self.now.outcomes.now in
-    let s = c.args.sketch.now in
-    let next = c.choose_source.new.self in
-    let y = choice.Source c.args.read c.args.source in
-    let same = subst (λ (e : Event). next ≡ with_chosen s (sketches.with_source s.chosen e c.args.source)) c.event_of.ensures c.in_ok-choose_source.ensures.ok in
-    on_ok c.judge_rowless-judged.result (IsValidAfter c.args.self.now.shown.now outs next tree next.chosen) (IsValidAfter c.args.self.now.shown.now outs s tree (sketch_with s.chosen y))
-    (moved (λ p mode k. IsValidCover (asked p c.args.self.now.shown.now) mode outs tree k) s next y same) c.judge_rowless-judged.ensures.valid
+    let same = subst (λ (e : Event). c.choose_source.new.self ≡ with_chosen c.args.sketch.now (sketches.with_source c.args.sketch.now.chosen e c.args.source)) c.event_of.ensures c.in_ok-choose_source.ensures.ok in
+    valid_after c.args.self.now.shown.now c.args.self.now.outcomes.now c.args.sketch.now c.choose_source.new.self (first_tree c.args.walk.now) (choice.Source c.args.read c.args.source) same c.judge_rowless-judged.result
+    c.judge_rowless-judged.ensures.valid
 
 pub judge_source-returns-clause-wrong : goal.judge_source-returns-clause-wrong
 judge_source-returns-clause-wrong t c =
-    let tree = first_tree c.args.walk.now in
-    let outs = c.args.self.now.outcomes.now in
-    let s = c.args.sketch.now in
-    let next = c.choose_source.new.self in
-    let y = choice.Source c.args.read c.args.source in
-    let same = subst (λ (e : Event). next ≡ with_chosen s (sketches.with_source s.chosen e c.args.source)) c.event_of.ensures c.in_ok-choose_source.ensures.ok in
-    if_err c.judge_rowless-judged.result (IfWrong (IsWrongAt c.args.self.now.shown.now outs next tree next.chosen)) (IfWrong (IsWrongAt c.args.self.now.shown.now outs s tree (sketch_with s.chosen y)))
-    (λ fault. moved (λ p mode k. IfWrong (FirstWrongCover (asked p c.args.self.now.shown.now) mode outs tree k) fault) s next y same) c.judge_rowless-judged.ensures.wrong
+    let same = subst (λ (e : Event). c.choose_source.new.self ≡ with_chosen c.args.sketch.now (sketches.with_source c.args.sketch.now.chosen e c.args.source)) c.event_of.ensures c.in_ok-choose_source.ensures.ok in
+    wrong_after c.args.self.now.shown.now c.args.self.now.outcomes.now c.args.sketch.now c.choose_source.new.self (first_tree c.args.walk.now) (choice.Source c.args.read c.args.source) same c.judge_rowless-judged.result
+    c.judge_rowless-judged.ensures.wrong
 
 -- ---- a node
 

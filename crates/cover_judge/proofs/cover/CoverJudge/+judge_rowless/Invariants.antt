@@ -1,7 +1,7 @@
-use Rattle.std.proofs.Common.{◌≡◌, ◌+◌, ◌*◌, length, map, take, drop}
+use Rattle.std.proofs.Common.{◌+◌, ◌*◌, length, map}
 use Rattle.cert_forest.specs.Nodes.{spell_all}
 use Rattle.cover_judge.specs.declared.choice.Choice.TheVariants as choice
-use Rattle.cover_judge.proofs.CoverSteps.{IsLeft}
+use Rattle.cover_judge.proofs.CoverSteps.{IsJudgedTo}
 use Rattle.cover_judge.proofs.cover.CoverJudge.+judge_rowless.Given as goal
 
 -- the nodes that are left, and the calls before the next one is taken
@@ -26,20 +26,9 @@ decreases-judge_next_read l = 4 * length (spell_all l.walk.now) + 3
 abbrev pub decreases-judge_read : goal.decreases-judge_read
 decreases-judge_read l = 4 * length (spell_all l.walk.now) + 3
 
--- the sketch is as before, the walk is past the children that were judged, and those that are left decide
+-- so many children are judged
 abbrev pub invariant-judge_each_value-loop-number : goal.invariant-judge_each_value-loop-number
-invariant-judge_each_value-loop-number l = record {
-  kept : l.sketch ≡ l.fn.sketch;
-  walked : l.walk ≡ drop l.number l.fn.walk;
-  left : IsLeft l.self.shown.now l.self.outcomes.now l.fn.sketch (take (length l.values) l.fn.walk) (map (choice.Value l.thread) l.values) l.number (take (length (drop l.number (map (choice.Value l.thread) l.values))) l.walk)
-      (drop l.number (map (choice.Value l.thread) l.values));
-}
+invariant-judge_each_value-loop-number l = IsJudgedTo l.self.shown.now l.self.outcomes.now l.fn.sketch (map (choice.Value l.thread) l.values) (length l.values) l.fn.walk l.number l.sketch l.walk
 
--- the sketch is as before, the walk is past the children that were judged, and those that are left decide
 abbrev pub invariant-judge_each_source-loop-number : goal.invariant-judge_each_source-loop-number
-invariant-judge_each_source-loop-number l = record {
-  kept : l.sketch ≡ l.fn.sketch;
-  walked : l.walk ≡ drop l.number l.fn.walk;
-  left : IsLeft l.self.shown.now l.self.outcomes.now l.fn.sketch (take (length l.sources) l.fn.walk) (map (choice.Source l.read) l.sources) l.number (take (length (drop l.number (map (choice.Source l.read) l.sources))) l.walk)
-      (drop l.number (map (choice.Source l.read) l.sources));
-}
+invariant-judge_each_source-loop-number l = IsJudgedTo l.self.shown.now l.self.outcomes.now l.fn.sketch (map (choice.Source l.read) l.sources) (length l.sources) l.fn.walk l.number l.sketch l.walk
