@@ -1,7 +1,7 @@
 -- The words of registers and locations: what the reader takes of each, and that it takes each again.
 use Rattle.std.proofs.Common.{◌≡◌, ℕ, ◌+◌, ◌-◌, ◌/◌, ◌%◌, ◌<◌, ◌≤◌, ◌==◌, ◌&&◌, Bool, true, false, cond, List, [], ◌∷◌, ◌++◌, Some, None, refl, sym, ap, subst, ◌∙◌, arith, inl, inr}
 use Rattle.std.specs.Prelude.{nat_lt, nat_le}
-use Rattle.std.proofs.lemmas.Bool.{and_parts, eqb-true, leb-true, le-leb, lt-ltb, le-ltb, cases_lt}
+use Rattle.std.proofs.lemmas.Bool.{and_parts, eqb-true, leb-true, le-leb, lt-ltb, le-ltb, cases_lt, ne_eqb}
 use Rattle.cert_forest.proofs.Vocabulary.{list_all, decimal, decimal_digit, spaced, ◌>>=◌, is_inner, bind_some, cond_some, same_Some, IsExact, spaced_exact}
 use Rattle.tso_program.specs.Names.{register_place, location_place}
 use Rattle.tso_program.specs.declared.instruction.TheConstants.{REGISTERS}
@@ -111,16 +111,9 @@ place_again = by_place (λ p. shown_place (place_word p) ≡ Some p) register lo
 
 digit_inner : (d : ℕ) → d < 10 → is_inner (48 + d) ≡ true
 digit_inner d fits =
-    let space : ((48 + d) == 32) ≡ false = differ (48 + d) 32 (λ e. omega arith) in
-    let end : ((48 + d) == 10) ≡ false = differ (48 + d) 10 (λ e. omega arith) in
+    let space : ((48 + d) == 32) ≡ false = ne_eqb (48 + d) 32 (λ e. omega arith) in
+    let end : ((48 + d) == 10) ≡ false = ne_eqb (48 + d) 10 (λ e. omega arith) in
     rw (space, end) refl
-  where
-    differ : (m n : ℕ) → (m ≡ n → ⊥) → (m == n) ≡ false
-    differ m n ne = by_answer (m == n) refl
-      where
-        by_answer : (b : Bool) → (m == n) ≡ b → b ≡ false
-        by_answer false e = refl
-        by_answer true e = absurd (ne (eqb-true m n e))
 
 place_inner : (p : ℕ) → p < PLACES → list_all is_inner (place_word p) ≡ true
 place_inner = by_place (λ p. list_all is_inner (place_word p) ≡ true) register location

@@ -2,28 +2,10 @@
 use Rattle.std.proofs.Common.{◌≡◌, ℕ, suc, ◌-◌, ◌<◌, ◌==◌, false, List, [], Some, None, refl, ap, ◌∙◌, arith, inl, inr}
 use Rattle.cert_forest.proofs.Vocabulary.{cases_Bool, eqb-true, Stop, Refused, OutOfMemory, Gap, Split, Bound, gap_trees_of, Fails, letter_at, repeat_at, stops_for_memory, Head, head_at, below_at}
 use Rattle.cert_forest.proofs.Vocabulary.{cover_at, split_at, gap_by, gap_at}
-use Rattle.cert_forest.specs.Internal.Reading.{head_by}
+use Rattle.std.proofs.lemmas.Bool.{ne_eqb}
 
 less : (d : ℕ) → 0 < d → d ≡ suc (d - 1)
 less d lt = omega arith
-
-differs : (l k : ℕ) → ¬ (l ≡ k) → (l == k) ≡ false
-differs l k h = elim (cases_Bool (l == k)) [ inl y ↦ absurd (h (eqb-true _ _ y)) | inr n ↦ n ]
-
--- ---- roots
-
-pub head_as : (bytes : List ℕ) (l k : ℕ) (rest : List ℕ) → letter_at bytes ≡ Some (l, rest) → l ≡ k → head_at bytes ≡ head_by k rest
-unfolding head_at
-head_as bytes l k rest e is = let here : head_at bytes ≡ head_by l rest = rw e refl in here ∙ ap (λ (n : ℕ). head_by n rest) is
-
-pub head_none : (bytes : List ℕ) → letter_at bytes ≡ None → head_at bytes ≡ None
-unfolding head_at
-head_none bytes e = rw e refl
-
-pub head_other : (bytes : List ℕ) (l : ℕ) (rest : List ℕ) → letter_at bytes ≡ Some (l, rest) → ¬ (l ≡ 86) → ¬ (l ≡ 83) → ¬ (l ≡ 79) → ¬ (l ≡ 67) → ¬ (l ≡ 75) → head_at bytes ≡ None
-head_other bytes l rest e v s o c k =
-    let step : head_by l rest ≡ None = rw (differs l 86 v, differs l 83 s, differs l 79 o, differs l 67 c, differs l 75 k) refl in
-    head_as bytes l l rest e refl ∙ step
 
 -- ---- cover trees
 
@@ -85,5 +67,5 @@ gap_bound d bytes l rest lt e is = gap_node d bytes l rest lt e ∙ ap (λ (k : 
 
 pub gap_other : (d : ℕ) (bytes : List ℕ) (l : ℕ) (rest : List ℕ) → 0 < d → letter_at bytes ≡ Some (l, rest) → ¬ (l ≡ 80) → ¬ (l ≡ 66) → gap_at d bytes ≡ None
 gap_other d bytes l rest lt e one two =
-    let step : gap_by (gap_at (d - 1)) l rest ≡ None = rw (differs l 80 one, differs l 66 two) refl in
+    let step : gap_by (gap_at (d - 1)) l rest ≡ None = rw (ne_eqb l 80 one, ne_eqb l 66 two) refl in
     gap_node d bytes l rest lt e ∙ step

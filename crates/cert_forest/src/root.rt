@@ -118,6 +118,7 @@ fn events<'t>(count: u64, bytes: &'t [u8], nodes: &mut Vec<Node>) -> Result<&'t 
 }
 
 /// A cycle, put after the other nodes. No children follow.
+#[tactic(auto, unfolding(crate::specs::Internal::Reading::cycle_at))]
 fn cycle_root<'t>(bytes: &'t [u8], nodes: &mut Vec<Node>) -> Result<(u64, &'t [u8]), Stop>
     ensures pushes { IfOk result (λ x. PushesRoot nodes.old.items nodes.new.items (cycle_at bytes.now) x.0 x.1.now) }
     ensures stops { IfErr result (λ stop. Fails stops_for_memory stop (cycle_at bytes.now)) }
@@ -133,6 +134,7 @@ fn cycle_root<'t>(bytes: &'t [u8], nodes: &mut Vec<Node>) -> Result<(u64, &'t [u
 }
 
 /// The number of a run, put after the other nodes. No children follow.
+#[tactic(auto, unfolding(crate::specs::Internal::Reading::known_at))]
 fn known_root<'t>(bytes: &'t [u8], nodes: &mut Vec<Node>) -> Result<(u64, &'t [u8]), Stop>
     ensures pushes { IfOk result (λ x. PushesRoot nodes.old.items nodes.new.items (known_at bytes.now) x.0 x.1.now) }
     ensures stops { IfErr result (λ stop. Fails stops_for_memory stop (known_at bytes.now)) }
@@ -143,6 +145,7 @@ fn known_root<'t>(bytes: &'t [u8], nodes: &mut Vec<Node>) -> Result<(u64, &'t [u
 }
 
 /// A root, put after the other nodes, and how many children follow.
+#[tactic(auto, unfolding(crate::specs::Internal::Reading::head_at))]
 pub(crate) fn root<'t>(bytes: &'t [u8], nodes: &mut Vec<Node>) -> Result<(u64, &'t [u8]), Stop>
     ensures pushes { IfOk result (λ x. PushesRoot nodes.old.items nodes.new.items (head_at bytes.now) x.0 x.1.now) }
     ensures stops { IfErr result (λ stop. Fails stops_for_memory stop (head_at bytes.now)) }

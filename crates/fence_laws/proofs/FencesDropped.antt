@@ -1,7 +1,7 @@
 -- A run of the fenced program is a run with gaps fenced: a thread after a fence of its own has nothing waiting until its instruction.
-use Rattle.fence_laws.proofs.Vocabulary.{◌≡◌, ℕ, ◌+◌, Bool, true, false, List, [], ◌∷◌, ◌++◌, ◌⊎◌, Option, Some, None, option_and_then, refl, sym, ap, ◌∙◌, subst, inl, inr, option_map, cases_eq, same_Some, option_and_then_some, Instr, Fence, Listing, Local}
+use Rattle.fence_laws.proofs.Vocabulary.{◌≡◌, ℕ, ◌+◌, Bool, true, false, List, [], ◌∷◌, ◌++◌, ◌⊎◌, Option, Some, None, option_and_then, refl, sym, ap, ◌∙◌, subst, inl, inr, option_map, same_Some, option_and_then_some, Instr, Fence, Listing, Local}
 use Rattle.fence_laws.proofs.Vocabulary.{Wait, onward, action, instr_at, Gaps, place_of, moved, fence, Label, Exec, Flush, Pending, no_gaps, State, put, when_empty, step, run, first_of, instr_at_place, instr_after_fence}
-use Rattle.fence_laws.proofs.ChangedAt.{put_same, put_other}
+use Rattle.fence_laws.proofs.ChangedAt.{put_each}
 use Rattle.fence_laws.proofs.FencedActions.{placed}
 use Rattle.fence_laws.proofs.EitherMachine.{mode_with, effect, NothingWaits, made, makes, others_keep, stands_at, stored, flush_made, flush_makes}
 use Rattle.fence_laws.proofs.FencedSteps.{with_locals, follow, fence_step, instruction_step}
@@ -25,10 +25,8 @@ module _ (p : Listing) (gaps : Gaps) (waits : Bool) where
   AllStand s locals = (u : ℕ) → Stands u (s.locals u) (s.buffers u) (locals u)
 
   -- a thread that nothing has changed
-  as_before : (u : ℕ) (local local' : Local) (buffer buffer' : List Pending) (other other' : Local) → local' ≡ local → buffer' ≡ buffer → other' ≡ other →
-      Stands u local buffer other → Stands u local' buffer' other'
-  as_before u local local' buffer buffer' other other' l b o h =
-      subst (λ x. Stands u x buffer' other') (sym l) (subst (λ x. Stands u local x other') (sym b) (subst (Stands u local buffer) (sym o) h))
+  as_before : (u : ℕ) (local local' : Local) (buffer buffer' : List Pending) (other : Local) → local' ≡ local → buffer' ≡ buffer → Stands u local buffer other → Stands u local' buffer' other
+  as_before u local local' buffer buffer' other l b h = subst (λ x. Stands u x buffer' other) (sym l) (subst (λ x. Stands u local x other) (sym b) h)
 
   -- labels that lead on to a state that the fenced program's has gone to
   record Leads (s z' : State) : Type 0 where
@@ -46,12 +44,8 @@ module _ (p : Listing) (gaps : Gaps) (waits : Bool) where
   -- the threads stand where one of them executed its instruction
   still_stand : (s z : State) (locals : ℕ → Local) (t : ℕ) → AllStand s locals → effect waits s t (action p.threads t (s.locals t)) ≡ Some z →
       AllStand z (put locals t (placed (gaps t) (z.locals t)))
-  still_stand s z locals t stand e u = elim (cases_eq u t) [
-    | inl q ↦ inl (subst (λ v. put locals t (placed (gaps t) (z.locals t)) v ≡ placed (gaps v) (z.locals v)) (sym q) (put_same locals t (placed (gaps t) (z.locals t))))
-    | inr q ↦ (let kept = others_keep t u q waits s z (action p.threads t (s.locals t)) e in
-        as_before u (s.locals u) (z.locals u) (s.buffers u) (z.buffers u) (locals u) (put locals t (placed (gaps t) (z.locals t)) u) kept.local kept.buffer
-        (put_other locals t (placed (gaps t) (z.locals t)) u q) (stand u))
-  ]
+  still_stand s z locals t stand e = put_each (λ u other. Stands u (z.locals u) (z.buffers u) other) locals t (placed (gaps t) (z.locals t)) (inl refl)
+      (λ u q. let kept = others_keep t u q waits s z (action p.threads t (s.locals t)) e in as_before u (s.locals u) (z.locals u) (s.buffers u) (z.buffers u) (locals u) kept.local kept.buffer (stand u))
 
   -- the step of an instruction
   by_instruction : (s z' : State) (locals : ℕ → Local) (t : ℕ) (x : Instr) (q : ℕ) → AllStand s locals → instr_at p.threads t (s.locals t).place ≡ Some x →
@@ -94,12 +88,8 @@ module _ (p : Listing) (gaps : Gaps) (waits : Bool) where
         locals' = put locals t (onward (locals t));
         leads = λ ls. refl;
         same = is;
-        stand = λ u. elim (cases_eq u t) [
-          | inl q ↦ subst (λ v. Stands v (s.locals v) (s.buffers v) (put locals t (onward (locals t)) v)) (sym q)
-              (inr (record { behind = put_same locals t (onward (locals t)) ∙ ap onward stands; fenced = g; instruction = x; there = here; empty = empty }))
-          | inr q ↦ as_before u (s.locals u) (s.locals u) (s.buffers u) (s.buffers u) (locals u) (put locals t (onward (locals t)) u) refl refl
-              (put_other locals t (onward (locals t)) u q) (stand u)
-        ];
+        stand = put_each (λ u other. Stands u (s.locals u) (s.buffers u) other) locals t (onward (locals t))
+            (inr (record { behind = ap onward stands; fenced = g; instruction = x; there = here; empty = empty })) (λ u q. stand u);
       }
 
   -- a step of a thread that stands before its fence, or where it has none
@@ -137,13 +127,8 @@ module _ (p : Listing) (gaps : Gaps) (waits : Bool) where
         locals' = locals;
         leads = λ ls. one_step s z (Flush t) ls (flush_makes p gaps waits s t f.oldest f.others f.buffered f.waiting);
         same = f.result;
-        stand = λ u. elim (cases_eq u t) [
-          | inl q ↦ elim (stand u) [
-            | inl stands ↦ inl stands
-            | inr between ↦ absurd (let no : [] ≡ f.oldest ∷ f.others = sym (between.empty f.buffered) ∙ ap s.buffers q ∙ f.waiting in cc)
-          ]
-          | inr q ↦ as_before u (s.locals u) (s.locals u) (s.buffers u) (z.buffers u) (locals u) (locals u) refl (put_other s.buffers t f.others u q) refl (stand u)
-        ];
+        stand = put_each (λ u buffer. Stands u (s.locals u) buffer (locals u)) s.buffers t f.others
+            (elim (stand t) [ inl stands ↦ inl stands | inr between ↦ absurd (let no : [] ≡ f.oldest ∷ f.others = sym (between.empty f.buffered) ∙ f.waiting in cc) ]) (λ u q. stand u);
       }
 
   -- the program's run, and where it ends

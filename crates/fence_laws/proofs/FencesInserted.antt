@@ -1,9 +1,9 @@
 -- A run with gaps fenced is a run of the fenced program: its fences are executed just before their instructions.
-use Rattle.std.proofs.Common.{◌≡◌, ℕ, suc, ◌+◌, Bool, true, false, List, [], ◌∷◌, ◌++◌, Some, option_and_then, refl, sym, ap, ◌∙◌, subst, inl, inr, arith}
+use Rattle.std.proofs.Common.{◌≡◌, ℕ, suc, ◌+◌, Bool, true, false, List, [], ◌∷◌, ◌++◌, Some, option_and_then, refl, sym, ap, ◌∙◌, subst, arith}
 use Rattle.std.specs.Prelude.{if◌then◌else◌}
-use Rattle.fence_laws.proofs.Vocabulary.{option_map, cases_eq, option_and_then_some, Instr, Fence, Listing, Local, Wait, onward, action, instr_at, Gaps, place_of, moved, fence, Label, Exec, Flush, no_gaps, State, put, when_empty, step, run, first_of}
+use Rattle.fence_laws.proofs.Vocabulary.{option_map, option_and_then_some, Instr, Fence, Listing, Local, Wait, onward, action, instr_at, Gaps, place_of, moved, fence, Label, Exec, Flush, no_gaps, State, put, when_empty, step, run, first_of}
 use Rattle.fence_laws.proofs.Vocabulary.{instr_at_place, instr_after_fence}
-use Rattle.fence_laws.proofs.ChangedAt.{put_same, put_other}
+use Rattle.fence_laws.proofs.ChangedAt.{put_same, put_other, put_each}
 use Rattle.fence_laws.proofs.FencedActions.{placed}
 use Rattle.fence_laws.proofs.EitherMachine.{mode_with, effect, NothingWaits, made, others_keep, stands_at, flush_made, flush_makes}
 use Rattle.fence_laws.proofs.FencedSteps.{with_locals, follow, fence_step, instruction_step}
@@ -37,11 +37,8 @@ module _ (p : Listing) (gaps : Gaps) (waits : Bool) where
   -- threads follow where one of them made a step
   pub still_follow : (s z : State) (locals locals' : ℕ → Local) (t : ℕ) → Follow s locals → ((u : ℕ) → (u ≡ t → ⊥) → locals' u ≡ locals u) →
       effect waits s t (action p.threads t (s.locals t)) ≡ Some z → Follow z (put locals' t (placed (gaps t) (z.locals t)))
-  still_follow s z locals locals' t follows same e u = elim (cases_eq u t) [
-    | inl q ↦ subst (λ v. put locals' t (placed (gaps t) (z.locals t)) v ≡ placed (gaps v) (z.locals v)) (sym q) (put_same locals' t (placed (gaps t) (z.locals t)))
-    | inr q ↦ put_other locals' t (placed (gaps t) (z.locals t)) u q ∙ same u q ∙ follows u
-        ∙ ap (placed (gaps u)) (sym (others_keep t u q waits s z (action p.threads t (s.locals t)) e).local)
-  ]
+  still_follow s z locals locals' t follows same e = put_each (λ u local. local ≡ placed (gaps u) (z.locals u)) locals' t (placed (gaps t) (z.locals t)) refl
+      (λ u q. same u q ∙ follows u ∙ ap (placed (gaps u)) (sym (others_keep t u q waits s z (action p.threads t (s.locals t)) e).local))
 
   -- a fence is executed where nothing waits
   fence_waits : (b : Bool) (s : State) (t : ℕ) (next : Local) → NothingWaits b (s.buffers t) → effect b s t (Wait next) ≡ Some (record s { locals = put s.locals t next })

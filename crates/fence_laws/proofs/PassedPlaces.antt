@@ -6,7 +6,7 @@ use Rattle.fence_laws.proofs.Vocabulary.{cases_eq, Instr, Je, Jne, Jmp, Listing,
 use Rattle.tso_program.specs.Instructions.{target_of}
 use Rattle.tso_program.specs.Listings.{action, instr_at, code_of}
 use Rattle.tso_machine.specs.Machine.{no_gaps, put, StoreBufferMachine, State, buffered, step, run, is_empty, from_some, passes_at, passes}
-use Rattle.fence_laws.proofs.ChangedAt.{put_same, put_other}
+use Rattle.fence_laws.proofs.ChangedAt.{put_other, put_each}
 use Rattle.fence_laws.proofs.StepCases.{exec_by, flush_by}
 use Rattle.std.proofs.lemmas.Bool.{or_cases as either}
 
@@ -56,10 +56,7 @@ module _ (p : Listing) (forward : JumpForward p.threads) where
   -- a state in which thread t has gone on
   on : (s : State) (t : ℕ) (next : Local) (buffers : ℕ → List Pending) (memory : ℕ → ℕ) → NothingWaitsAtFirst s → 0 < next.place →
       ((u : ℕ) → (u ≡ t → ⊥) → buffers u ≡ s.buffers u) → NothingWaitsAtFirst (record { locals = put s.locals t next; buffers = buffers; memory = memory })
-  on s t next buffers memory first away others u here = elim (cases_eq u t) [
-    | inl q ↦ (let z : next.place ≡ 0 = ap (λ (x : Local). x.place) (sym (put_same s.locals t next)) ∙ subst (λ v. (put s.locals t next v).place ≡ 0) q here in absurd (omega arith))
-    | inr q ↦ others u q ∙ first u (ap (λ (x : Local). x.place) (sym (put_other s.locals t next u q)) ∙ here)
-  ]
+  on s t next buffers memory first away others = put_each (λ u local. local.place ≡ 0 → buffers u ≡ []) s.locals t next (λ here. absurd (omega arith)) (λ u q here. others u q ∙ first u here)
 
   -- every step keeps it so
   step_keeps : (s z : State) (l : Label) → step p (StoreBufferMachine no_gaps) s l ≡ Some z → NothingWaitsAtFirst s → NothingWaitsAtFirst z
@@ -70,10 +67,8 @@ module _ (p : Listing) (forward : JumpForward p.threads) where
       (λ l v next a g r. subst NothingWaitsAtFirst (same_Some _ z r) (on s t next _ s.memory first (leads_on t (s.locals t) _ a) (λ u q. put_other s.buffers t _ u q)))
       (λ l v to next a g r. subst NothingWaitsAtFirst (same_Some _ z r) (on s t _ s.buffers (put s.memory l v) first (leads_on t (s.locals t) _ a) (λ u q. refl)))
   step_keeps s z (Flush t) e first = flush_by z (λ next. Some next) p no_gaps s t (NothingWaitsAtFirst z) (ap (option_and_then (λ next. Some next)) e)
-      (λ w ws b r. subst NothingWaitsAtFirst (same_Some _ z r) (λ u here. elim (cases_eq u t) [
-        | inl q ↦ absurd (let none : [] ≡ w ∷ ws = sym (first t (subst (λ v. (s.locals v).place ≡ 0) q here)) ∙ b in cc)
-        | inr q ↦ put_other s.buffers t ws u q ∙ first u here
-      ]))
+      (λ w ws b r. subst NothingWaitsAtFirst (same_Some _ z r) (put_each (λ u buffer. (s.locals u).place ≡ 0 → buffer ≡ []) s.buffers t ws
+      (λ here. absurd (let none : [] ≡ w ∷ ws = sym (first t here) ∙ b in cc)) (λ u q here. first u here)))
 
   -- the place of an instruction that is not the first
   pub record IsInside (t k : ℕ) : Type 0 where

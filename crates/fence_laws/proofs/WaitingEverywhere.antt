@@ -1,8 +1,8 @@
 -- A run of the store buffer machine that executes each instruction with an empty buffer is as good as a sequential one.
-use Rattle.fence_laws.proofs.Vocabulary.{◌≡◌, ℕ, true, List, [], ◌∷◌, ◌++◌, ◌⊎◌, Some, option_and_then, refl, sym, ap, ◌∙◌, subst, inl, inr, map, length, fun_ext, cases_eq, range_with_len, Listing, Local, Write, action, loaded, Gaps, Outcome, Label, Exec}
+use Rattle.fence_laws.proofs.Vocabulary.{◌≡◌, ℕ, true, List, [], ◌∷◌, ◌++◌, ◌⊎◌, Some, option_and_then, refl, sym, ap, ◌∙◌, subst, inl, inr, map, length, fun_ext, range_with_len, Listing, Local, Write, action, loaded, Gaps, Outcome, Label, Exec}
 use Rattle.fence_laws.proofs.Vocabulary.{Flush, Pending}
 use Rattle.tso_machine.specs.Machine.{put, SequentialMachine, StoreBufferMachine, State, newest, found, direct, run, start, IsRun, outcome_at}
-use Rattle.fence_laws.proofs.ChangedAt.{put_same, put_other}
+use Rattle.fence_laws.proofs.ChangedAt.{put_both}
 use Rattle.fence_laws.proofs.StepCases.{exec_by, flush_by}
 
 -- every gap is fenced, and the places before the first instructions too
@@ -29,11 +29,7 @@ module _ (p : Listing) where
   both s z t next m n h e q = record {
     memory = q;
     empty = h.empty;
-    each = λ u. elim (cases_eq u t) [
-      | inl r ↦ subst (λ x. Alike x (put s.locals t next x) (s.buffers x) (put z.locals t next x)) (sym r)
-          (inl (e, put_same s.locals t next ∙ sym (put_same z.locals t next)))
-      | inr r ↦ rw (put_other s.locals t next u r, put_other z.locals t next u r) (h.each u)
-    ];
+    each = put_both (λ u local other. Alike u local (s.buffers u) other) s.locals z.locals t next next (inl (e, refl)) (λ u r. h.each u);
   }
 
   -- some sequential labels lead from the one state to the other's like
@@ -56,11 +52,7 @@ module _ (p : Listing) where
             then_exec z z' last t (rw act refl) (unbuffer last js _ z' (record {
               memory = ap (λ x. put x w.location w.value) m.memory;
               empty = m.empty;
-              each = λ u. elim (cases_eq u t) [
-                | inl r ↦ subst (λ x. Alike x (s.locals x) (put s.buffers t ws x) (put z.locals t (s.locals t) x)) (sym r)
-                    (inl (put_same s.buffers t ws ∙ qs, sym (put_same z.locals t (s.locals t))))
-                | inr r ↦ rw (put_other s.buffers t ws u r, put_other z.locals t (s.locals t) u r) (m.each u)
-              ];
+              each = put_both (λ u buffer other. Alike u (s.locals u) buffer other) s.buffers z.locals t ws (s.locals t) (inl (qs, refl)) (λ u r. m.each u);
             }) r))
       ])
   unbuffer last (Exec t ∷ js) s z m r = exec_by last (λ x. run p (StoreBufferMachine all) x js) p all s t _ r
@@ -76,15 +68,12 @@ module _ (p : Listing) where
       (λ l v next e g r. unbuffer last js _ z (record {
         memory = m.memory;
         empty = m.empty;
-        each = λ u. elim (cases_eq u t) [
-          | inl q ↦ subst (λ x. Alike x (put s.locals t next x) (put s.buffers t (s.buffers t ++ record { location = l; value = v } ∷ []) x) (z.locals x)) (sym q)
-              (inr (
-                record { location = l; value = v },
-                put_same s.buffers t (s.buffers t ++ record { location = l; value = v } ∷ []) ∙ ap (λ b. b ++ record { location = l; value = v } ∷ []) (g refl),
-                rw (put_same s.locals t next) (ap (action p.threads t) (sym (same_local s z t m (g refl))) ∙ e),
-              ))
-          | inr q ↦ rw (put_other s.locals t next u q, put_other s.buffers t (s.buffers t ++ record { location = l; value = v } ∷ []) u q) (m.each u)
-        ];
+        each = put_both (λ u local buffer. Alike u local buffer (z.locals u)) s.locals s.buffers t next (s.buffers t ++ record { location = l; value = v } ∷ [])
+            (inr (
+              record { location = l; value = v },
+              ap (λ b. b ++ record { location = l; value = v } ∷ []) (g refl),
+              ap (action p.threads t) (sym (same_local s z t m (g refl))) ∙ e,
+            )) (λ u q. m.each u);
       }) r)
       (λ l v to next e g r.
       let w : s.memory l ≡ z.memory l = ap (λ x. x l) m.memory in

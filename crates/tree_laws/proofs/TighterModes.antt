@@ -1,6 +1,6 @@
 -- A cover tree that is valid in a mode is valid in each tighter one: of what is known of a sketch only sections change, and of two modes with gaps fenced they come no closer.
-use Rattle.std.proofs.Common.{◌≡◌, ◌⊎◌, ℕ, Bool, List, [], ◌∷◌, Some, slice_get, IsSome, map, length, refl, sym, ap, ◌∙◌, subst, inl, inr}
-use Rattle.tree_laws.proofs.Vocabulary.{range_with_len, Local, Listing, Outcome, Machine, SequentialMachine, StoreBufferMachine, no_gaps, Access, Event, Initial, At, Kind, access_by, Writes, Cover, Value, Source, Order, Cycle, Known, Covers, NoCover}
+use Rattle.std.proofs.Common.{◌≡◌, ◌⊎◌, ℕ, Bool, List, [], ◌∷◌, Some, slice_get, IsSome, map, length, sym, ap, ◌∙◌, subst, inl, inr}
+use Rattle.tree_laws.proofs.Vocabulary.{range_with_len, Local, Listing, Outcome, Machine, SequentialMachine, StoreBufferMachine, Access, Event, Initial, At, Kind, access_by, Writes, Cover, Value, Source, Order, Cycle, Known, Covers, NoCover}
 use Rattle.tree_laws.proofs.Vocabulary.{MoreCovers, event_of, HasNextValues, HasSources, HasNoOrder, IsValidCover, AreValidCovers}
 use mathlib.Core.Path.{fun_ext}
 use Rattle.tso_program.specs.declared.shown.Shown.{Shown}
@@ -13,77 +13,33 @@ use Rattle.tso_program.specs.Shown.{Question, show_registers}
 use Rattle.tso_program.specs.Listings.{action, start_of, code_of}
 use Rattle.tso_program.specs.Fences.{Gaps}
 use Rattle.candidate_executions.specs.declared.event.Kind.TheVariants as union
-use Rattle.candidate_executions.specs.Traces.{fenced_gaps, trace_by}
+use Rattle.candidate_executions.specs.Traces.{trace_by}
 use Rattle.candidate_executions.specs.Consistency.{Precedes, KeepsOrder, IsOfMode}
 use Rattle.candidate_executions.specs.Sketches.{Sketch, given_to, IsSourceOf, IsPair, with_value, with_source, with_pair, read_by, next_read, IsWhole, MayBeLast, stopped, EndsInValues, KnownAtom, EndsAs, MustEndAs, IsBefore, KnownFromReads, KnownRelates, KnownEdgeOfMode, IsKnownCycle}
 use Rattle.candidate_executions.proofs.Orders.WiderRelations.{cycle_wider}
 use Rattle.tree_laws.specs.TighterModes.{AreGapsAmong, IsNoLooser, kind_in, changed, each_changed}
 use Rattle.tree_laws.specs.Laws.{ATighterModeKeepsACover, ATighterModeKeepsTheValues, ATighterModeKeepsAWholeSketch}
-use Rattle.tree_laws.proofs.WiderTraces.{bare, IsWiderTrace, also, also_back, still_apart, wider_trace}
-
--- no gap at all is among any gaps
-none_among : (gaps : Gaps) → AreGapsAmong no_gaps gaps
-none_among gaps t i h = absurd cc
+use Rattle.candidate_executions.proofs.FromRuns.OtherSections.{bare, threads_alike, also, writes}
+use Rattle.tree_laws.proofs.WiderTraces.{AreWider, still_apart, wider_trace}
 
 module _ (p : Listing) (k : Sketch) where
-  -- an access is one of the mode, but for its section
-  abbrev IsAlso : Machine → Event → Access → Type 0
-  IsAlso mode e x = (y : Access) × (access_by p mode (given_to k) e ≡ Some y) × (bare x ≡ bare y)
-
-  -- so each access of the first mode is one of the second
-  abbrev AreAlso : Machine → Machine → Type 0
-  AreAlso one other = (e : Event) (x : Access) → access_by p one (given_to k) e ≡ Some x → IsAlso other e x
-
-  -- two modes have the same accesses but for their sections, and their traces end in one state
-  record AreAlike (one other : Machine) : Type 0 where
-    forth : AreAlso one other
-    back : AreAlso other one
-    last : (t : ℕ) → (trace_by p one (given_to k) t).last ≡ (trace_by p other (given_to k) t).last
-
-  module _ (one other : Machine) (among : AreGapsAmong (fenced_gaps one) (fenced_gaps other)) where
-    wider : (t : ℕ) → IsWiderTrace 0 0 (trace_by p one (given_to k) t) (trace_by p other (given_to k) t)
-    wider t = wider_trace (action p.threads t) (fenced_gaps one t) (fenced_gaps other t) (among t) (length (code_of p.threads t)) 0 0 (start_of p.threads t) (given_to k t)
-
-    forth : AreAlso one other
-    forth (Initial l) x h = (x, h, refl)
-    forth (At t i) x h = let (y, there, is) = also 0 0 _ _ i x (wider t).accesses h in (y, there, is.same)
-
-    back : AreAlso other one
-    back (Initial l) x h = (x, h, refl)
-    back (At t i) x h = let (y, there, same) = also_back 0 0 _ _ i x (wider t).accesses h in (y, there, sym same)
-
-    alike_wider : AreAlike one other
-    alike_wider = record { forth = forth; back = back; last = λ t. (wider t).last }
-
-  turned_about : (one other : Machine) → AreAlike one other → AreAlike other one
-  turned_about one other is = record { forth = is.back; back = is.forth; last = λ t. sym (is.last t) }
-
-  alike : (loose tight : Machine) → IsNoLooser loose tight → AreAlike loose tight
-  alike (StoreBufferMachine fewer) (StoreBufferMachine more) among = alike_wider (StoreBufferMachine fewer) (StoreBufferMachine more) among
-  alike (StoreBufferMachine fewer) SequentialMachine tighter = turned_about SequentialMachine (StoreBufferMachine fewer) (alike_wider SequentialMachine (StoreBufferMachine fewer) (none_among fewer))
-  alike SequentialMachine (StoreBufferMachine more) tighter = absurd tighter
-  alike SequentialMachine SequentialMachine tighter = alike_wider SequentialMachine SequentialMachine (λ t i h. h)
-
-  -- what is a write or a source in a mode is in each that has its accesses
-  module _ (mode other : Machine) (too : AreAlso mode other) where
-    writes : (e : Event) (l v : ℕ) → Writes (access_by p mode (given_to k)) e l v → Writes (access_by p other (given_to k)) e l v
-    writes e l v (x, a, q, w) =
-        let (y, b, s) = too e x a in
-        (y, b, sym (ap (λ (z : Access). z.location) s) ∙ q, sym (ap (λ (z : Access). z.written) s) ∙ w)
-
-    source : (s e : Event) → IsSourceOf p mode k s e → IsSourceOf p other k s e
-    source s e (x, v, a, reads, differ, written) =
-        let (y, b, q) = too e x a in (
-          y,
-          v,
-          b,
-          sym (ap (λ (z : Access). z.read) q) ∙ reads,
-          differ,
-          writes s y.location v (subst (λ (z : Access). Writes (access_by p mode (given_to k)) s z.location v) q written),
-        )
+  -- a source in a mode is one in each
+  source : (mode other : Machine) (s e : Event) → IsSourceOf p mode k s e → IsSourceOf p other k s e
+  source mode other s e (x, v, a, reads, differ, written) =
+      let (y, b, q) = also p (given_to k) mode other e x a in (
+        y,
+        v,
+        b,
+        sym (ap (λ (z : Access). z.read) q) ∙ reads,
+        differ,
+        writes p (given_to k) mode other s y.location v (subst (λ (z : Access). Writes (access_by p mode (given_to k)) s z.location v) q written),
+      )
 
   -- where one access keeps its order before another, it still does with more gaps fenced
   module _ (fewer more : Gaps) (among : AreGapsAmong fewer more) where
+    wider : (t : ℕ) → AreWider 0 0 (trace_by p (StoreBufferMachine fewer) (given_to k) t).accesses (trace_by p (StoreBufferMachine more) (given_to k) t).accesses
+    wider t = wider_trace (action p.threads t) (fewer t) (more t) (among t) (length (code_of p.threads t)) 0 0 (start_of p.threads t) (given_to k t)
+
     abbrev loosely : Event → Access → Type 0
     loosely e x = access_by p (StoreBufferMachine fewer) (given_to k) e ≡ Some x
 
@@ -97,7 +53,7 @@ module _ (p : Listing) (k : Sketch) where
     keeps_order (Initial l) e x y z w before a b c f q r (inr (inr apart)) = absurd before
     keeps_order (At t i) (Initial l) x y z w before a b c f q r (inr (inr apart)) = absurd before
     keeps_order (At t i) (At u j) x y z w before a b c f q r (inr (inr apart)) =
-        inr (inr (still_apart 0 0 _ _ i j x y z w (wider (StoreBufferMachine fewer) (StoreBufferMachine more) among t).accesses before.1 a (of_one_thread fewer y b) c (of_one_thread more w f) apart))
+        inr (inr (still_apart 0 0 _ _ i j x y z w (wider t) before.1 a (of_one_thread fewer y b) c (of_one_thread more w f) apart))
       where
         of_one_thread : (gaps : Gaps) (v : Access) → access_by p (StoreBufferMachine gaps) (given_to k) (At u j) ≡ Some v → access_by p (StoreBufferMachine gaps) (given_to k) (At t j) ≡ Some v
         of_one_thread gaps v h = subst (λ (n : ℕ). access_by p (StoreBufferMachine gaps) (given_to k) (At n j) ≡ Some v) (sym before.0) h
@@ -123,15 +79,12 @@ module _ (p : Listing) (k : Sketch) where
       by_kind kind (inl h) = inl h.0
 
 module _ (p : Listing) (loose tight : Machine) (tighter : IsNoLooser loose tight) (k : Sketch) where
-  both : AreAlike p k loose tight
-  both = alike p k loose tight tighter
-
   pair_forth : (d e : Event) → IsPair p loose k d e → IsPair p tight k d e
   pair_forth d e (differ, (l, v, w, one, other, not_first, not_second)) =
-      (differ, (l, v, w, writes p k loose tight both.forth d l v one, writes p k loose tight both.forth e l w other, not_first, not_second))
+      (differ, (l, v, w, writes p (given_to k) loose tight d l v one, writes p (given_to k) loose tight e l w other, not_first, not_second))
 
   same_next : (t : ℕ) → next_read p tight k t ≡ next_read p loose k t
-  same_next t = ap (λ (s : Local). read_by (action p.threads t s)) (sym (both.last t))
+  same_next t = ap (λ (s : Local). read_by (action p.threads t s)) (sym (threads_alike p (given_to k) loose tight t).last)
 
   whole_forth : IsWhole p loose k → IsWhole p tight k
   whole_forth whole t = same_next t ∙ whole t
@@ -141,29 +94,29 @@ module _ (p : Listing) (loose tight : Machine) (tighter : IsNoLooser loose tight
 
   sources_forth : (e : Event) (sources : List Event) → HasSources p loose k e sources → HasSources p tight k e sources
   sources_forth e sources has =
-      let (y, there, same) = both.forth e has.access has.is_access in record {
+      let (y, there, same) = also p (given_to k) loose tight e has.access has.is_access in record {
         whole = whole_forth has.whole;
         access = y;
         is_access = there;
         is_read = subst (λ (z : Access). IsSome z.read) same has.is_read;
         free = has.free;
         in_order = has.in_order;
-        exact = λ s. ((λ here. source p k loose tight both.forth s e ((has.exact s).0 here)), (λ is. (has.exact s).1 (source p k tight loose both.back s e is)));
+        exact = λ s. ((λ here. source p k loose tight s e ((has.exact s).0 here)), (λ is. (has.exact s).1 (source p k tight loose s e is)));
       }
 
   order_forth : (d e : Event) → HasNoOrder p loose k d e → HasNoOrder p tight k d e
   order_forth d e has = record { whole = whole_forth has.whole; is_pair = pair_forth d e has.is_pair; free = has.free }
 
   written_back : (e : Event) (l v : ℕ) → Writes (access_by p tight (given_to k)) e l v → Writes (access_by p loose (given_to k)) e l v
-  written_back = writes p k tight loose both.back
+  written_back = writes p (given_to k) tight loose
 
   last_back : (l : ℕ) (e : Event) → MayBeLast p tight k l e → MayBeLast p loose k l e
-  last_back l e last = record { no_later = last.no_later; only_initial = λ q d v w. last.only_initial q d v (writes p k loose tight both.forth d l v w) }
+  last_back l e last = record { no_later = last.no_later; only_initial = λ q d v w. last.only_initial q d v (writes p (given_to k) loose tight d l v w) }
 
   edge_forth : (kind : Kind) (d e : Event) → KnownEdgeOfMode p loose k kind d e → KnownEdgeOfMode p tight k (kind_in tight kind) d e
   edge_forth kind d e (of_mode, (x, y, a, b, relates)) =
-      let (z, c, q) = both.forth d x a in
-      let (w, f, r) = both.forth e y b in
+      let (z, c, q) = also p (given_to k) loose tight d x a in
+      let (w, f, r) = also p (given_to k) loose tight e y b in
       by_modes loose tight tighter of_mode x y z w a b c f q r relates
     where
       by_modes : (loose tight : Machine) → IsNoLooser loose tight → IsOfMode loose kind → (x y z w : Access) →
@@ -184,7 +137,7 @@ module _ (q : Question) (loose tight : Machine) (tighter : IsNoLooser loose tigh
 
   module _ (k : Sketch) (o : Outcome) where
     same_stopped : stopped p tight k ≡ stopped p loose k
-    same_stopped = sym (ap (λ f. map f (range_with_len 0 (length p.threads))) (fun_ext (λ t. ap (λ (s : Local). s.registers) ((both p loose tight tighter k).last t))))
+    same_stopped = sym (ap (λ f. map f (range_with_len 0 (length p.threads))) (fun_ext (λ t. ap (λ (s : Local). s.registers) (threads_alike p (given_to k) loose tight t).last)))
 
     values_kept : (shown : Shown) → EndsInValues p loose k shown o → EndsInValues p tight k shown o
     values_kept shown ends = record {

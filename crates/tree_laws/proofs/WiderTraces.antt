@@ -3,11 +3,8 @@ use Rattle.tree_laws.proofs.Vocabulary.{◌≡◌, ◌≢◌, ℕ, zero, suc, �
 use Rattle.tso_program.specs.declared.action.Action.{Action}
 use Rattle.tso_program.specs.declared.action.Action.TheVariants.{Go, Wait, Read, Write, Swap}
 use Rattle.tso_program.specs.Actions.{loaded}
-use Rattle.candidate_executions.specs.Traces.{Trace, stopped, load_of, store_of, exchange_of, with_access, entered, traced, trace}
-
--- the access without its section
-abbrev pub bare : Access → Access
-bare x = record x { section = 0 }
+use Rattle.candidate_executions.specs.Traces.{load_of, store_of, exchange_of, entered, traced, trace}
+use Rattle.candidate_executions.proofs.FromRuns.OtherSections.{bare}
 
 -- y is x but for its section, which is at least as far from m as the section of x is from n
 pub record IsWider (n m : ℕ) (x y : Access) : Type 0 where
@@ -21,11 +18,6 @@ AreWider n m [] [] = Unit {0}
 AreWider n m (x ∷ xs) (y ∷ ys) = IsWider n m x y × AreWider x.section y.section xs ys
 AreWider n m h g = ⊥
 
--- the same of traces, which end in one state
-pub record IsWiderTrace (n m : ℕ) (a b : Trace) : Type 0 where
-  pub accesses : AreWider n m a.accesses b.accesses
-  pub last : a.last ≡ b.last
-
 -- seen from an access before
 wider_before : (n m : ℕ) (a b x y : Access) → IsWider n m a b → IsWider a.section b.section x y → IsWider n m x y
 wider_before n m a b x y first next =
@@ -35,20 +27,12 @@ wider_before n m a b x y first next =
     let i = next.wider in record { same = next.same; rises = omega arith; wider = omega arith }
 
 -- an access of the first list is one of the second
-pub also : (n m : ℕ) (xs ys : List Access) (i : ℕ) (x : Access) → AreWider n m xs ys → slice_get xs i ≡ Some x →
+also : (n m : ℕ) (xs ys : List Access) (i : ℕ) (x : Access) → AreWider n m xs ys → slice_get xs i ≡ Some x →
     (y : Access) × (slice_get ys i ≡ Some y) × IsWider n m x y
 also n m [] ys i x are h = absurd cc
 also n m (a ∷ xs) [] i x are h = absurd are
 also n m (a ∷ xs) (b ∷ ys) zero x are h = (b, refl, subst (λ (z : Access). IsWider n m z b) (same_Some a x h) are.0)
 also n m (a ∷ xs) (b ∷ ys) (suc i) x are h = let (y, there, is) = also a.section b.section xs ys i x are.1 h in (y, there, wider_before n m a b x y are.0 is)
-
--- and one of the second is one of the first
-pub also_back : (n m : ℕ) (xs ys : List Access) (i : ℕ) (y : Access) → AreWider n m xs ys → slice_get ys i ≡ Some y →
-    (x : Access) × (slice_get xs i ≡ Some x) × (bare x ≡ bare y)
-also_back n m xs [] i y are h = absurd cc
-also_back n m [] (b ∷ ys) i y are h = absurd are
-also_back n m (a ∷ xs) (b ∷ ys) zero y are h = (a, refl, subst (λ (z : Access). bare a ≡ bare z) (same_Some b y h) are.0.same)
-also_back n m (a ∷ xs) (b ∷ ys) (suc i) y are h = also_back a.section b.section xs ys i y are.1 h
 
 -- an access seen from an earlier one
 seen : (n m : ℕ) (xs ys : List Access) (i j : ℕ) (x z y w : Access) → AreWider n m xs ys → i < j → slice_get xs i ≡ Some x → slice_get xs j ≡ Some z →
@@ -79,41 +63,31 @@ seen_from n m o q (x ∷ xs) (y ∷ ys) rises wider are =
     (record { same = are.0.same; rises = omega arith; wider = omega arith }, are.1)
 seen_from n m o q xs ys rises wider are = absurd are
 
-trace_from : (n m o q : ℕ) (a b : Trace) → n ≤ o → o + m ≤ q + n → IsWiderTrace o q a b → IsWiderTrace n m a b
-trace_from n m o q a b rises wider is = record { accesses = seen_from n m o q a.accesses b.accesses rises wider is.accesses; last = is.last }
-
-one_more : (n m o q : ℕ) (x y : Access) (a b : Trace) → bare x ≡ bare y → x.section ≡ n → y.section ≡ m → n ≤ o → o + m ≤ q + n →
-    IsWiderTrace o q a b → IsWiderTrace n m (with_access x a) (with_access y b)
-one_more n m o q x y a b same first second rises wider is = record {
-  accesses = (
-    record { same = same; rises = omega arith; wider = omega arith },
-    seen_from x.section y.section o q a.accesses b.accesses (omega arith) (omega arith) is.accesses,
-  );
-  last = is.last;
-}
-
--- a thread stops
-stops : (n m : ℕ) (s : Local) (given : List ℕ) → IsWiderTrace n m (stopped s given) (stopped s given)
-stops n m s given = record { accesses = tt; last = refl }
+one_more : (n m o q : ℕ) (x y : Access) (xs ys : List Access) → bare x ≡ bare y → x.section ≡ n → y.section ≡ m → n ≤ o → o + m ≤ q + n →
+    AreWider o q xs ys → AreWider n m (x ∷ xs) (y ∷ ys)
+one_more n m o q x y xs ys same first second rises wider are = (
+  record { same = same; rises = omega arith; wider = omega arith },
+  seen_from x.section y.section o q xs ys (omega arith) (omega arith) are,
+)
 
 -- past a gap
-past : (b c : Bool) (n m : ℕ) (x y : Trace) → (b ≡ true → c ≡ true) → IsWiderTrace (entered b n) (entered c m) x y → IsWiderTrace n m x y
-past true true n m x y h is = trace_from n m (suc n) (suc m) x y (omega arith) (omega arith) is
-past true false n m x y h is = absurd (let z = h refl in cc)
-past false true n m x y h is = trace_from n m n (suc m) x y (omega arith) (omega arith) is
-past false false n m x y h is = is
+past : (b c : Bool) (n m : ℕ) (xs ys : List Access) → (b ≡ true → c ≡ true) → AreWider (entered b n) (entered c m) xs ys → AreWider n m xs ys
+past true true n m xs ys h are = seen_from n m (suc n) (suc m) xs ys (omega arith) (omega arith) are
+past true false n m xs ys h are = absurd (let z = h refl in cc)
+past false true n m xs ys h are = seen_from n m n (suc m) xs ys (omega arith) (omega arith) are
+past false false n m xs ys h are = are
 
 module _ (does : Local → Action) (fewer more : ℕ → Bool) (among : (i : ℕ) → fewer i ≡ true → more i ≡ true) where
-  pub wider_trace : (k n m : ℕ) (s : Local) (given : List ℕ) → IsWiderTrace n m (trace does fewer k n s given) (trace does more k m s given)
-  wider_trace zero n m s given = stops n m s given
+  pub wider_trace : (k n m : ℕ) (s : Local) (given : List ℕ) → AreWider n m (trace does fewer k n s given).accesses (trace does more k m s given).accesses
+  wider_trace zero n m s given = tt
   wider_trace (suc k) n m s given =
       past (fewer s.place) (more s.place) n m _ _ (among s.place) (by_action (entered (fewer s.place) n) (entered (more s.place) m) (does s) given (wider_trace k))
     where
       by_action : (n m : ℕ) (a : Action) (given : List ℕ) →
-          ((n m : ℕ) (s : Local) (given : List ℕ) → IsWiderTrace n m (trace does fewer k n s given) (trace does more k m s given)) →
-          IsWiderTrace n m (traced (trace does fewer k) n s a given) (traced (trace does more k) m s a given)
+          ((n m : ℕ) (s : Local) (given : List ℕ) → AreWider n m (trace does fewer k n s given).accesses (trace does more k m s given).accesses) →
+          AreWider n m (traced (trace does fewer k) n s a given).accesses (traced (trace does more k) m s a given).accesses
       by_action n m (Go next) given rest = rest n m next given
-      by_action n m (Wait next) given rest = trace_from n m (suc n) (suc m) _ _ (omega arith) (omega arith) (rest (suc n) (suc m) next given)
+      by_action n m (Wait next) given rest = seen_from n m (suc n) (suc m) _ _ (omega arith) (omega arith) (rest (suc n) (suc m) next given)
       by_action n m (Write l v next) given rest =
           one_more n m n m (store_of n l v) (store_of m l v) _ _ refl refl refl (omega arith) (omega arith) (rest n m next given)
       by_action n m (Read l to next) (v ∷ given) rest =
@@ -121,4 +95,4 @@ module _ (does : Local → Action) (fewer more : ℕ → Bool) (among : (i : ℕ
       by_action n m (Swap l w to next) (v ∷ given) rest =
           one_more n m (suc n) (suc m) (exchange_of n l v w) (exchange_of m l v w) _ _ refl refl refl (omega arith) (omega arith)
           (rest (suc n) (suc m) (loaded to v next) given)
-      by_action n m a given rest = stops n m s given
+      by_action n m a given rest = tt

@@ -1,7 +1,7 @@
 -- A run with no gap fenced is a run with others fenced exactly where it passes none of them.
-use Rattle.std.proofs.Common.{◌≡◌, ℕ, Bool, true, false, ◌&&◌, ◌==◌, not, List, [], ◌∷◌, Option, Some, None, option_and_then, refl, sym, ap, ◌∙◌, subst, eq-eqb, arith}
-use Rattle.std.proofs.lemmas.Bool.{or_parts, or_from}
-use Rattle.tso_machine.proofs.Vocabulary.{nat_tests, Label, Exec, Flush, Pending, Listing, action, no_gaps, StoreBufferMachine, State, past_gap, buffered, step, run, is_empty, from_some, passes_at}
+use Rattle.std.proofs.Common.{◌≡◌, ℕ, Bool, true, false, ◌&&◌, ◌==◌, not, List, [], ◌∷◌, Option, Some, None, option_and_then, refl, sym, ap, ◌∙◌, subst, eq-eqb}
+use Rattle.std.proofs.lemmas.Bool.{or_parts, or_from, eqb-true}
+use Rattle.tso_machine.proofs.Vocabulary.{Label, Exec, Flush, Pending, Listing, action, no_gaps, StoreBufferMachine, State, past_gap, buffered, step, run, is_empty, from_some, passes_at}
 use Rattle.tso_machine.proofs.Vocabulary.{passes}
 use Rattle.tso_program.specs.Fences.{Gaps}
 
@@ -32,14 +32,11 @@ module _ (p : Listing) (gaps : Gaps) where
   at_other true true c d h = h refl refl
   at_other a b c d h = refl
 
-  eq_of : (h g : ℕ) → (h == g) ≡ true → h ≡ g
-  eq_of h g e = grind (arith, nat_tests)
-
   step_avoids : (s next : State) (l : Label) → step p (StoreBufferMachine gaps) s l ≡ Some next → (t k : ℕ) → gaps t k ≡ true → passes_at s l t k ≡ false
   step_avoids s next (Flush u) r t k g = refl
   step_avoids s next (Exec u) r t k g = at_other (u == t) ((s.locals t).place == k) (not (is_empty (s.buffers t))) true (λ a b.
-      let ut : u ≡ t = eq_of u t a in
-      let pk : (s.locals t).place ≡ k = eq_of _ k b in
+      let ut : u ≡ t = eqb-true u t a in
+      let pk : (s.locals t).place ≡ k = eqb-true _ k b in
       let fenced : gaps u (s.locals u).place ≡ true = ap (λ x. gaps x (s.locals x).place) ut ∙ ap (gaps t) pk ∙ g in
       subst (λ x. not (is_empty (s.buffers x)) ≡ false) ut
       (let_through (gaps u (s.locals u).place) (s.buffers u) s next (λ z. buffered z u (action p.threads u (s.locals u))) r fenced))

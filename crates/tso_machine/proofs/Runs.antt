@@ -15,7 +15,8 @@ use Rattle.tso_machine.specs.Internal.Cores.{Core, Cores, no_core, core_at, stat
 use Rattle.std.proofs.lemmas.Bool.{and_parts as and_cases}
 use Rattle.std.proofs.lemmas.Bool.{or_right as or_after}
 use Rattle.std.proofs.lemmas.Bool.{or_left as or_before}
-use Rattle.std.proofs.lemmas.Bool.{or_cases}
+use Rattle.std.proofs.lemmas.Bool.{or_cases, eqb-true, not-true}
+use Rattle.std.proofs.Math.Bool.{or_assoc, or-false}
 
 and_then_alike : (o : Option State) (f g : State → Option State) → ((s : State) → f s ≡ g s) → option_and_then f o ≡ option_and_then g o
 and_then_alike (Some s) f g alike = alike s
@@ -64,10 +65,6 @@ module _ (p : Listing) (mode : Machine) where
   or_end true b e = refl
   or_end false b e = e
 
-  or_again : (a b c : Bool) → (a || (b || c)) ≡ ((a || b) || c)
-  or_again true b c = refl
-  or_again false b c = refl
-
   none_after : (o : Option State) → from_some (λ s. false) o ≡ false
   none_after (Some s) = refl
   none_after None = refl
@@ -83,7 +80,7 @@ module _ (p : Listing) (mode : Machine) where
           (passes_at s first t k || from_some (λ z. passes p mode z (labels ++ label ∷ []) t k) o)
           ≡ ((passes_at s first t k || from_some (λ z. passes p mode z labels t k) o) || passes_at last label t k)
       go None r rest = absurd cc
-      go (Some z) r rest = ap (λ b. passes_at s first t k || b) (rest z r) ∙ or_again (passes_at s first t k) _ _
+      go (Some z) r rest = ap (λ b. passes_at s first t k || b) (rest z r) ∙ sym (or_assoc (passes_at s first t k) _ _)
 
   pub passes_on : (s : State) (labels : List Label) (n : ℕ) (d : Label) (before : State) (t k : ℕ) → n < length labels → run p mode s (take n labels) ≡ Some before →
       passes p mode s (take (n + 1) labels) t k ≡ (passes p mode s (take n labels) t k || passes_at before (get_or labels n d) t k)
@@ -109,10 +106,6 @@ all_ended p s fits each t = elim (cases_lt t (length s.cores)) [
       (subst (λ (c : Core). action p.threads t c.local ≡ Stop) (sym e) (no_action p t no_core.local (subst (λ n. n ≤ t) fits.threads h)), ap (λ (c : Core). c.buffer) e))
 ]
 
-or_false : (a : Bool) → a ≡ (a || false)
-or_false true = refl
-or_false false = refl
-
 abbrev is_gap : Option ℕ → ℕ → Bool
 is_gap o g = option_map_or (λ h. h == g) o false
 
@@ -121,7 +114,7 @@ tied g h true = grind (arith, nat_tests)
 tied g h false = grind (arith, nat_tests)
 
 with_gap_contains : (gaps : set.FinSet nat_cmp) (o : Option ℕ) (g : ℕ) → set.contains (option_map_or (set.insert gaps) o gaps) g ≡ (set.contains gaps g || is_gap o g)
-with_gap_contains gaps None g = or_false (set.contains gaps g)
+with_gap_contains gaps None g = sym (or-false (set.contains gaps g))
 with_gap_contains gaps (Some h) g = set.contains-insert nat_cmp_total gaps h g ∙ tied g h (set.contains gaps g)
 
 some_gap : (o : Option ℕ) (g : ℕ) → is_gap o g ≡ true → o ≡ Some g
@@ -134,9 +127,6 @@ some_gap (Some h) g e = ap Some (same h g e)
 gap_some : (o : Option ℕ) (g : ℕ) → o ≡ Some g → is_gap o g ≡ true
 gap_some None g e = absurd cc
 gap_some (Some h) g e = eq-eqb h g cc
-
-eq_of : (h g : ℕ) → (h == g) ≡ true → h ≡ g
-eq_of h g e = grind (arith, nat_tests)
 
 module _ (p : Listing) (s : Cores) where
   -- the step passes the gap
@@ -156,18 +146,14 @@ module _ (p : Listing) (s : Cores) where
       let (w, n) = unsettled (is_empty (core_at s.cores t).buffer) (gap_number p.threads t (core_at s.cores t).local.place) g e in
       (t, (core_at s.cores t).local.place, n, at_place t (core_at s.cores t).buffer w)
 
-  not_true : (b : Bool) → not b ≡ true → b ≡ false
-  not_true true e = absurd cc
-  not_true false e = refl
-
   from_here : (label : Label) (g : ℕ) → PassesHere label g → passed_gap p.threads s.cores label ≡ Some g
   from_here (Flush u) g (t, k, n, e) = absurd cc
   from_here (Exec u) g (t, k, n, e) =
       let (a, b) = and_cases (u == t) (((core_at s.cores t).local.place == k) && not (is_empty (core_at s.cores t).buffer)) e in
       let (q, r) = and_cases ((core_at s.cores t).local.place == k) (not (is_empty (core_at s.cores t).buffer)) b in
-      let w : is_empty (core_at s.cores t).buffer ≡ false = not_true _ r in
-      let ut : u ≡ t = eq_of u t a in
-      let pk : (core_at s.cores t).local.place ≡ k = eq_of _ k q in
+      let w : is_empty (core_at s.cores t).buffer ≡ false = not-true _ r in
+      let ut : u ≡ t = eqb-true u t a in
+      let pk : (core_at s.cores t).local.place ≡ k = eqb-true _ k q in
       ap (λ x. gap_passed_by p.threads x (core_at s.cores x)) ut ∙ ap (λ z. if z then None else gap_number p.threads t (core_at s.cores t).local.place) w ∙ ap (gap_number p.threads t) pk ∙ n
 
   -- the set with the gap of one more step

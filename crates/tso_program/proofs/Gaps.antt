@@ -1,5 +1,6 @@
 -- Gaps and their numbers.
 use Rattle.std.proofs.Common.{◌≡◌, ℕ, zero, suc, ◌+◌, ◌-◌, ◌<◌, ◌≤◌, Bool, true, false, ◌&&◌, List, [], ◌∷◌, length, take, Some, None, refl, sym, ap, ◌∙◌, arith, inl, inr}
+use Rattle.std.proofs.lemmas.Bool.{leb-true, ltb-true}
 use Rattle.std.specs.FinSet as set
 use Rattle.tso_program.proofs.Vocabulary.{nat_lt, nat_le, if◌then◌else◌, nat_cmp, nat_cmp_total, cases_lt, nat_tests, Thread, sum_by-cons, code_of, gap_count, gap_number, gaps_of_thread}
 
@@ -34,16 +35,10 @@ of_test : (a b : Bool) (n gap : ℕ) → (if a && b then Some n else None) ≡ S
 of_test true true n gap e = (refl, refl, (let q : n ≡ gap = cc in q))
 of_test a b n gap e = absurd cc
 
-low_of : (k : ℕ) → nat_le 1 k ≡ true → 1 ≤ k
-low_of k e = grind (arith, nat_tests)
-
-high_of : (k n : ℕ) → nat_lt k n ≡ true → k < n
-high_of k n e = grind (arith, nat_tests)
-
 pub gap_facts : (threads : List Thread) (t k gap : ℕ) → gap_number threads t k ≡ Some gap → IsGap threads t k gap
 gap_facts threads t k gap e =
     let f = of_test (nat_le 1 k) (nat_lt k (length (code_of threads t))) (gap_count (take t threads) + (k - 1)) gap e in
-    record { low = low_of k f.0; high = high_of k (length (code_of threads t)) f.1; number = sym f.2 }
+    record { low = leb-true 1 k f.0; high = ltb-true k (length (code_of threads t)) f.1; number = sym f.2 }
 
 -- a gap's number is below the number of gaps
 pub gap_below : (threads : List Thread) (t k gap : ℕ) → gap_number threads t k ≡ Some gap → gap < gap_count threads

@@ -1,33 +1,23 @@
 -- No refusal applies exactly within the limits.
-use Rattle.std.proofs.Common.{◌≡◌, ℕ, ◌+◌, ◌<◌, ◌≤◌, ◌==◌, Bool, true, false, ◌||◌, List, [], ◌∷◌, ◌++◌, length, get_or, Option, Some, None, refl, sym, ap, ◌∙◌, arith}
-use Rattle.std.specs.Prelude.{nat_lt, nat_le, slice_get, is_some, unwrap_or, sum_by, if◌then◌else◌, All}
+use Rattle.std.proofs.Common.{◌≡◌, ℕ, ◌+◌, ◌<◌, ◌≤◌, ◌==◌, Bool, true, false, List, [], ◌∷◌, ◌++◌, length, get_or, Option, Some, None, refl, sym, ap, ◌∙◌, arith}
+use Rattle.std.specs.Prelude.{nat_lt, nat_le, slice_get, is_some, sum_by, if◌then◌else◌, All}
 use Rattle.tso_program.proofs.Vocabulary.{list_any, enumerate_from, option_map_or, nat_tests, slice_get-get_or, Instr, Thread, location_of, target_of, code_of, instr_at, accesses_of, gap_count}
 use Rattle.tso_program.specs.declared.limits.ProgramFault.{ProgramFault}
-use Rattle.tso_program.specs.declared.limits.ProgramFault.TheVariants.{NoThreads, TooManyThreads, TooLong, Locations, TooManyAccesses, BackwardJump, JumpPastEnd, TooManyGaps}
-use Rattle.tso_program.specs.Limits.{IsWithinSharedLimits, IsWithinLimits, IsWithinFencedLimits, first_long, is_astray, some_astray, is_backward, is_past_end, first_backward_in, first_past_end_in, first_found, first_true, at_place, shared_refusals, first_fault, first_fenced_fault, ProgramLimitsAreTheRefusals, FencedLimitsAreTheRefusals}
+use Rattle.tso_program.specs.declared.limits.ProgramFault.TheVariants.{TooManyGaps}
+use Rattle.tso_program.specs.Limits.{IsWithinSharedLimits, IsWithinLimits, IsWithinFencedLimits, first_long, is_astray, some_astray, is_backward, is_past_end, first_backward_in, first_past_end_in, first_found, first_true, shared_refusals, first_fault, first_fenced_fault, ProgramLimitsAreTheRefusals, FencedLimitsAreTheRefusals}
+use Rattle.std.specs.List.{AllByRecursion}
+use Rattle.std.proofs.lemmas.Bool.{ltb-false, le-ltb, leb-false, lt-leb}
 use Rattle.tso_program.proofs.Found.{instr_found, code_found, enumerated, enumerated_back, not_found, none_found, neither, not_any, none_any, found_nowhere, nowhere_found}
 use Rattle.tso_program.specs.declared.limits.TheConstants.{MAX_THREADS, MAX_LOCATIONS, MAX_INSTRUCTIONS, MAX_FENCED_INSTRUCTIONS, MAX_ACCESSES}
 use Rattle.gap_sets.specs.declared.gap_set.TheConstants.{MAX_GAPS}
 
 -- what each test says
 
-few : (most n : ℕ) → nat_lt most n ≡ false → n ≤ most
-few most n h = grind (arith, nat_tests)
-
-not_more : (most n : ℕ) → n ≤ most → nat_lt most n ≡ false
-not_more most n h = grind (arith, nat_tests)
-
 some_of : (n : ℕ) → (n == 0) ≡ false → 0 < n
 some_of n h = grind (arith, nat_tests)
 
 not_none : (n : ℕ) → 0 < n → (n == 0) ≡ false
 not_none n h = grind (arith, nat_tests)
-
-above : (m n : ℕ) → nat_le m n ≡ false → n < m
-above m n h = grind (arith, nat_tests)
-
-not_below : (m n : ℕ) → n < m → nat_le m n ≡ false
-not_below m n h = grind (arith, nat_tests)
 
 -- a test of what an instruction names or jumps to, where it names or jumps to something
 tested : (p : ℕ → Bool) (o : Option ℕ) (n : ℕ) → option_map_or p o false ≡ false → o ≡ Some n → p n ≡ false
@@ -53,19 +43,6 @@ pub no_fault_then : (fs gs : List (Bool × ProgramFault)) → first_true fs ≡ 
 no_fault_then [] gs e = refl
 no_fault_then (f ∷ fs) gs e = let here = no_fault f.0 f.1 (first_true fs) e in rw here.0 (no_fault_then fs gs here.1)
 
--- the shared refusals from one on, up to the last
-abbrev after_accesses : List Thread → List (Bool × ProgramFault)
-after_accesses threads = at_place BackwardJump (first_found first_backward_in 0 threads) ∷ at_place JumpPastEnd (first_found first_past_end_in 0 threads) ∷ []
-
-abbrev after_long : List Thread → List ℕ → List (Bool × ProgramFault)
-after_long threads memory =
-    (nat_lt MAX_LOCATIONS (length memory) || some_astray (length memory) threads, Locations)
-    ∷ (nat_lt MAX_ACCESSES (sum_by accesses_of threads), TooManyAccesses)
-    ∷ after_accesses threads
-
-abbrev after_many : ℕ → List Thread → List ℕ → List (Bool × ProgramFault)
-after_many longest threads memory = (is_some (first_long longest threads), TooLong (unwrap_or (first_long longest threads) 0)) ∷ after_long threads memory
-
 -- every shared test fails
 record NoTest (longest : ℕ) (threads : List Thread) (memory : List ℕ) : Type 0 where
   none : (length threads == 0) ≡ false
@@ -77,20 +54,16 @@ record NoTest (longest : ℕ) (threads : List Thread) (memory : List ℕ) : Type
   backward : is_some (first_found first_backward_in 0 threads) ≡ false
   past_end : is_some (first_found first_past_end_in 0 threads) ≡ false
 
-next_test : (f : Bool × ProgramFault) (fs : List (Bool × ProgramFault)) → first_true (f ∷ fs) ≡ None → (f.0 ≡ false) × (first_true fs ≡ None)
-next_test f fs e = no_fault f.0 f.1 (first_true fs) e
+-- where no refusal applies, each test fails
+each_fails : (fs : List (Bool × ProgramFault)) → first_true fs ≡ None → AllByRecursion (λ f. f.0 ≡ false) fs
+each_fails [] e = tt
+each_fails (f ∷ fs) e = let here = no_fault f.0 f.1 (first_true fs) e in (here.0, each_fails fs here.1)
 
 tests : (longest : ℕ) (threads : List Thread) (memory : List ℕ) → first_true (shared_refusals longest threads memory) ≡ None → NoTest longest threads memory
 tests longest threads memory e =
-    let one = next_test (length threads == 0, NoThreads) ((nat_lt MAX_THREADS (length threads), TooManyThreads) ∷ after_many longest threads memory) e in
-    let two = next_test (nat_lt MAX_THREADS (length threads), TooManyThreads) (after_many longest threads memory) one.1 in
-    let three = next_test (is_some (first_long longest threads), TooLong (unwrap_or (first_long longest threads) 0)) (after_long threads memory) two.1 in
-    let four = next_test (nat_lt MAX_LOCATIONS (length memory) || some_astray (length memory) threads, Locations) ((nat_lt MAX_ACCESSES (sum_by accesses_of threads), TooManyAccesses) ∷ after_accesses threads) three.1 in
-    let five = next_test (nat_lt MAX_ACCESSES (sum_by accesses_of threads), TooManyAccesses) (after_accesses threads) four.1 in
-    let six = next_test (at_place BackwardJump (first_found first_backward_in 0 threads)) (at_place JumpPastEnd (first_found first_past_end_in 0 threads) ∷ []) five.1 in
-    let seven = next_test (at_place JumpPastEnd (first_found first_past_end_in 0 threads)) [] six.1 in
-    let place = neither (nat_lt MAX_LOCATIONS (length memory)) (some_astray (length memory) threads) four.0 in
-    record { none = one.0; many = two.0; long = three.0; places = place.0; astray = place.1; accesses = five.0; backward = six.0; past_end = seven.0 }
+    let t = each_fails (shared_refusals longest threads memory) e in
+    let place = neither (nat_lt MAX_LOCATIONS (length memory)) (some_astray (length memory) threads) t.1.1.1.0 in
+    record { none = t.0; many = t.1.0; long = t.1.1.0; places = place.0; astray = place.1; accesses = t.1.1.1.1.0; backward = t.1.1.1.1.1.0; past_end = t.1.1.1.1.1.1.0 }
 
 no_tests : (longest : ℕ) (threads : List Thread) (memory : List ℕ) → NoTest longest threads memory → first_true (shared_refusals longest threads memory) ≡ None
 no_tests longest threads memory t = rw (t.none, t.many, t.long, t.places, t.astray, t.accesses, t.backward, t.past_end) refl
@@ -102,11 +75,11 @@ short_code longest threads t e = go (slice_get threads t) refl
   where
     go : (o : Option Thread) → slice_get threads t ≡ o → length (option_map_or (λ (x : Thread). x.code) o []) ≤ longest
     go None is = omega arith
-    go (Some thread) is = few longest (length thread.code) (not_found (λ (x : Thread). nat_lt longest (length x.code)) threads e t thread is)
+    go (Some thread) is = ltb-false longest (length thread.code) (not_found (λ (x : Thread). nat_lt longest (length x.code)) threads e t thread is)
 
 pub all_short : (longest most : ℕ) (threads : List Thread) → longest ≤ most → is_some (first_long longest threads) ≡ false → All (λ t. length t.code ≤ most) threads
 all_short longest most threads small e k d h =
-    let here = few longest (length (get_or threads k d).code) (not_found (λ (x : Thread). nat_lt longest (length x.code)) threads e k (get_or threads k d) (slice_get-get_or threads k d h)) in
+    let here = ltb-false longest (length (get_or threads k d).code) (not_found (λ (x : Thread). nat_lt longest (length x.code)) threads e k (get_or threads k d) (slice_get-get_or threads k d h)) in
     omega arith
 
 -- where no shared refusal applies, each thread is short
@@ -114,21 +87,21 @@ pub short_where_none : (threads : List Thread) (memory : List ℕ) → first_tru
 short_where_none threads memory e = all_short MAX_INSTRUCTIONS MAX_INSTRUCTIONS threads (omega arith) (tests MAX_INSTRUCTIONS threads memory e).long
 
 pub few_where_none : (threads : List Thread) (memory : List ℕ) → first_true (shared_refusals MAX_INSTRUCTIONS threads memory) ≡ None → length threads ≤ MAX_THREADS
-few_where_none threads memory e = few MAX_THREADS (length threads) (tests MAX_INSTRUCTIONS threads memory e).many
+few_where_none threads memory e = ltb-false MAX_THREADS (length threads) (tests MAX_INSTRUCTIONS threads memory e).many
 
 module _ (threads : List Thread) (t k : ℕ) (x : Instr) (there : instr_at threads t k ≡ Some x) where
   astray_fact : (locations l : ℕ) → some_astray locations threads ≡ false → location_of x ≡ Some l → l < locations
   astray_fact locations l e is =
       let found = instr_found threads t k x there in
       let here : list_any (is_astray locations) found.0.code ≡ false = not_any (λ (y : Thread). list_any (is_astray locations) y.code) threads e t found.0 found.1 in
-      above locations l (tested (λ m. nat_le locations m) (location_of x) l (not_any (is_astray locations) found.0.code here k x found.2) is)
+      leb-false locations l (tested (λ m. nat_le locations m) (location_of x) l (not_any (is_astray locations) found.0.code here k x found.2) is)
 
   forward_fact : (target : ℕ) → is_some (first_found first_backward_in 0 threads) ≡ false → target_of x ≡ Some target → k < target
   forward_fact target e is =
       let found = instr_found threads t k x there in
       let none : is_some (first_backward_in found.0) ≡ false = found_nowhere first_backward_in 0 threads e t found.0 found.1 in
       let here : is_backward (0 + k) x ≡ false = not_found (λ (i : ℕ × Instr). is_backward i.0 i.1) (enumerate_from 0 found.0.code) none k (0 + k, x) (enumerated 0 found.0.code k x found.2) in
-      let h : 0 + k < target = above target (0 + k) (tested (λ m. nat_le m (0 + k)) (target_of x) target here is) in
+      let h : 0 + k < target = leb-false target (0 + k) (tested (λ m. nat_le m (0 + k)) (target_of x) target here is) in
       omega arith
 
   inner_fact : (target : ℕ) → is_some (first_found first_past_end_in 0 threads) ≡ false → target_of x ≡ Some target → target ≤ length (code_of threads t)
@@ -136,18 +109,18 @@ module _ (threads : List Thread) (t k : ℕ) (x : Instr) (there : instr_at threa
       let found = instr_found threads t k x there in
       let none : is_some (first_past_end_in found.0) ≡ false = found_nowhere first_past_end_in 0 threads e t found.0 found.1 in
       let here : is_past_end (length found.0.code) x ≡ false = not_found (is_past_end (length found.0.code)) found.0.code none k x found.2 in
-      rw (code_found threads t found.0 found.1) (few (length found.0.code) target (tested (λ m. nat_lt (length found.0.code) m) (target_of x) target here is))
+      rw (code_found threads t found.0 found.1) (ltb-false (length found.0.code) target (tested (λ m. nat_lt (length found.0.code) m) (target_of x) target here is))
 
 shared_within : (longest : ℕ) (threads : List Thread) (memory : List ℕ) → first_true (shared_refusals longest threads memory) ≡ None → IsWithinSharedLimits longest threads memory
 shared_within longest threads memory e =
     let t = tests longest threads memory e in
     record {
       some_thread = some_of (length threads) t.none;
-      few_threads = few MAX_THREADS (length threads) t.many;
+      few_threads = ltb-false MAX_THREADS (length threads) t.many;
       short_threads = λ u. short_code longest threads u t.long;
-      few_locations = few MAX_LOCATIONS (length memory) t.places;
+      few_locations = ltb-false MAX_LOCATIONS (length memory) t.places;
       located = λ u k l x there is. astray_fact threads u k x there (length memory) l t.astray is;
-      few_accesses = few MAX_ACCESSES (sum_by accesses_of threads) t.accesses;
+      few_accesses = ltb-false MAX_ACCESSES (sum_by accesses_of threads) t.accesses;
       forward_jumps = λ u k target x there is. forward_fact threads u k x there target t.backward is;
       inner_jumps = λ u k target x there is. inner_fact threads u k x there target t.past_end is;
     }
@@ -157,7 +130,7 @@ within threads memory e =
     let both = no_fault_of_both (shared_refusals MAX_INSTRUCTIONS threads memory) ((nat_lt MAX_GAPS (gap_count threads), TooManyGaps) ∷ []) e in
     record {
       shared = shared_within MAX_INSTRUCTIONS threads memory both.0;
-      few_gaps = few MAX_GAPS (gap_count threads) (next_test (nat_lt MAX_GAPS (gap_count threads), TooManyGaps) [] both.1).0;
+      few_gaps = ltb-false MAX_GAPS (gap_count threads) (each_fails ((nat_lt MAX_GAPS (gap_count threads), TooManyGaps) ∷ []) both.1).0;
     }
 
 pub within_fenced : (threads : List Thread) (memory : List ℕ) → first_fenced_fault threads memory ≡ None → IsWithinFencedLimits threads memory
@@ -171,12 +144,12 @@ module _ (longest : ℕ) (threads : List Thread) (memory : List ℕ) (w : IsWith
 
   no_long : is_some (first_long longest threads) ≡ false
   no_long = none_found (λ (x : Thread). nat_lt longest (length x.code)) threads (λ t thread e.
-      not_more longest (length thread.code) (rw (code_found threads t thread e) at (w.short_threads t)))
+      le-ltb longest (length thread.code) (rw (code_found threads t thread e) at (w.short_threads t)))
 
   no_astray : some_astray (length memory) threads ≡ false
   no_astray = none_any (λ (x : Thread). list_any (is_astray (length memory)) x.code) threads (λ t thread e.
       none_any (is_astray (length memory)) thread.code (λ k x f.
-      untested (λ l. nat_le (length memory) l) (location_of x) (λ l is. not_below (length memory) l (w.located t k l x (instr_there t k x thread e f) is))))
+      untested (λ l. nat_le (length memory) l) (location_of x) (λ l is. lt-leb (length memory) l (w.located t k l x (instr_there t k x thread e f) is))))
 
   no_backward : is_some (first_found first_backward_in 0 threads) ≡ false
   no_backward = nowhere_found first_backward_in 0 threads (λ t thread e.
@@ -185,22 +158,22 @@ module _ (longest : ℕ) (threads : List Thread) (memory : List ℕ) (w : IsWith
       let same : i.0 ≡ k = omega (arith, back.0) in
       untested (λ target. nat_le target i.0) (target_of i.1) (λ target is.
       let h : k < target = w.forward_jumps t k target i.1 (instr_there t k i.1 thread e back.1) is in
-      not_below target i.0 (omega arith))))
+      lt-leb target i.0 (omega arith))))
 
   no_past_end : is_some (first_found first_past_end_in 0 threads) ≡ false
   no_past_end = nowhere_found first_past_end_in 0 threads (λ t thread e.
       none_found (is_past_end (length thread.code)) thread.code (λ k x f.
       untested (λ target. nat_lt (length thread.code) target) (target_of x) (λ target is.
-      not_more (length thread.code) target (rw (code_found threads t thread e) at (w.inner_jumps t k target x (instr_there t k x thread e f) is)))))
+      le-ltb (length thread.code) target (rw (code_found threads t thread e) at (w.inner_jumps t k target x (instr_there t k x thread e f) is)))))
 
   shared_refused_not : first_true (shared_refusals longest threads memory) ≡ None
   shared_refused_not = no_tests longest threads memory (record {
     none = not_none (length threads) w.some_thread;
-    many = not_more MAX_THREADS (length threads) w.few_threads;
+    many = le-ltb MAX_THREADS (length threads) w.few_threads;
     long = no_long;
-    places = not_more MAX_LOCATIONS (length memory) w.few_locations;
+    places = le-ltb MAX_LOCATIONS (length memory) w.few_locations;
     astray = no_astray;
-    accesses = not_more MAX_ACCESSES (sum_by accesses_of threads) w.few_accesses;
+    accesses = le-ltb MAX_ACCESSES (sum_by accesses_of threads) w.few_accesses;
     backward = no_backward;
     past_end = no_past_end;
   })
@@ -208,7 +181,7 @@ module _ (longest : ℕ) (threads : List Thread) (memory : List ℕ) (w : IsWith
 refused_not : (threads : List Thread) (memory : List ℕ) → IsWithinLimits threads memory → first_fault threads memory ≡ None
 refused_not threads memory w =
     no_fault_then (shared_refusals MAX_INSTRUCTIONS threads memory) ((nat_lt MAX_GAPS (gap_count threads), TooManyGaps) ∷ []) (shared_refused_not MAX_INSTRUCTIONS threads memory w.shared)
-    ∙ rw (not_more MAX_GAPS (gap_count threads) w.few_gaps) refl
+    ∙ rw (le-ltb MAX_GAPS (gap_count threads) w.few_gaps) refl
 
 pub limits_are_the_refusals : ProgramLimitsAreTheRefusals
 limits_are_the_refusals threads memory = (within threads memory, refused_not threads memory)

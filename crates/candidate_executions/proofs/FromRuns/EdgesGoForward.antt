@@ -1,5 +1,5 @@
 -- Edges go forward in moments, so a good history has no cycle.
-use Rattle.candidate_executions.proofs.Vocabulary.{◌≡◌, ◌≢◌, ℕ, suc, ◌<◌, ◌≤◌, List, ◌⊎◌, Option, Some, None, IsSome, slice_get, refl, sym, ap, ◌∙◌, subst, inl, inr, arith, cases_order, Access, Event, Initial, At, KeepsOrder, Precedes, SameThread, Relates}
+use Rattle.candidate_executions.proofs.Vocabulary.{◌≡◌, ◌≢◌, ℕ, suc, ◌<◌, ◌≤◌, List, ◌⊎◌, Option, Some, None, IsSome, slice_get, refl, sym, ap, ◌∙◌, subst, inl, inr, arith, cases_order, Access, Event, Initial, At, Precedes, Relates}
 use Rattle.candidate_executions.proofs.Vocabulary.{IsAcyclic, WriteOrder, FromReads}
 use Rattle.candidate_executions.specs.declared.event.Kind.TheVariants as union
 use Rattle.candidate_executions.proofs.Orders.Lists.{some_value}
@@ -60,35 +60,39 @@ module _ (init : ℕ → ℕ) (h : History) (good : Good init h) (at : Event →
           let k' : f.seen < g.moment = rw (seen_at t i f fh r', moment_at u j g gh) at k in
           rw (moment_at t i f fh, moment_at u j g gh) (from_read t i u j f g fh gh r' w' q' n k')
 
+  -- of program order, by entries of one thread
+  ordered_edge : (P : Event → Event → Type 0) (d e : Event) (x y : Access) → at d ≡ Some x → at e ≡ Some y → Precedes d e →
+      ((t i j : ℕ) (f g : Entry) → Holds h t i f → Holds h t j g → i < j → x ≡ f.access → y ≡ g.access → P (At t i) (At t j)) → P d e
+  ordered_edge P (At t i) (At u j) x y a b p each =
+      let (f, fh, fx) = at_thread t i x a in
+      let (g, gh, gy) = at_thread u j y b in
+      subst (λ z. P (At z i) (At u j)) (sym p.0) (each u i j f g (subst (λ z. Holds h z i f) p.0 fh) gh p.1 fx gy)
+  ordered_edge P d e x y a b p each = absurd p
+
+  -- an edge from a read's source goes forward in moments, if it does where both are of one thread
+  read_edge : (d e : Event) (y : Access) → at e ≡ Some y → IsSome y.read → source_of h e ≡ d →
+      ((t i j : ℕ) (g w : Entry) → Holds h t i g → Holds h t j w → j < i → d ≡ At t j → e ≡ At t i → w.moment < g.moment) → moment_of h d < moment_of h e
+  read_edge d (Initial l) y b r s own = absurd (let z = shows.of_initial l y b in let z0 : y.read ≡ None = z.0 in let bad : IsSome {T = ℕ} None = rw z0 at r in cc)
+  read_edge d (At t i) y b r s own =
+      let (g, gh, gy) = at_thread t i y b in
+      let r' : IsSome g.access.read = rw gy at r in
+      let v = some_value g.access.read r' in
+      let m : g.moment ≡ g.exec = good.prompt t i g gh r' in
+      let first : 0 < g.exec = good.first t i g gh in
+      let s' : d ≡ g.source = sym s ∙ source_at t i g gh in
+      rw (moment_at t i g gh) (elim (good.source t i g v.0 gh v.1) [
+        | inl f ↦ rw (s' ∙ f.is_source) (omega arith)
+        | inr w ↦ rw (s' ∙ w.is_source, moment_at w.thread w.index w.write w.holds) (elim w.visible [
+          | inl q ↦ omega arith
+          | inr q ↦ own t i w.index g w.write gh (subst (λ u. Holds h u w.index w.write) q.0 w.holds) q.1 (s' ∙ w.is_source ∙ ap (λ u. At u w.index) q.0) refl
+        ])
+      ])
+
   global_forward : (given : ℕ → List ℕ) (d e : Event) (x y : Access) → at d ≡ Some x → at e ≡ Some y →
       Relates (candidate_with h given) union.Global d x e y → moment_of h d < moment_of h e
-  global_forward given d e x y a b (inl p) = go d e a b p.0 p.1
-    where
-      go : (d e : Event) → at d ≡ Some x → at e ≡ Some y → Precedes d e → KeepsOrder x y → moment_of h d < moment_of h e
-      go (At t i) (At u j) a b p k =
-          let (f, fh, fx) = at_thread t i x a in
-          let (g, gh, gy) = at_thread u j y b in
-          let fh' : Holds h u i f = subst (λ z. Holds h z i f) p.0 fh in
-          let k' : KeepsOrder f.access g.access = rw (fx, gy) at k in
-          rw (moment_at t i f fh, moment_at u j g gh) (good.kept u i j f g fh' gh p.1 k')
-      go d e a b p k = absurd p
-  global_forward given d e x y a b (inr (inl r)) = go d e a b r.0.0 r.0.1 r.1
-    where
-      go : (d e : Event) → at d ≡ Some x → at e ≡ Some y → IsSome y.read → source_of h e ≡ d → (SameThread d e → ⊥) → moment_of h d < moment_of h e
-      go d (Initial l) a b r s n = let z = shows.of_initial l y b in let z0 : y.read ≡ None = z.0 in let bad : IsSome {T = ℕ} None = rw z0 at r in absurd cc
-      go d (At t i) a b r s n =
-          let (g, gh, gy) = at_thread t i y b in
-          let r' : IsSome g.access.read = rw gy at r in
-          let v = some_value g.access.read r' in
-          let m : g.moment ≡ g.exec = good.prompt t i g gh r' in
-          let first : 0 < g.exec = good.first t i g gh in
-          let s' : g.source ≡ d = sym (source_at t i g gh) ∙ s in
-          let goal : moment_of h d < g.moment = elim (good.source t i g v.0 gh v.1) [
-            | inl f ↦ (let e : d ≡ Initial g.access.location = sym s' ∙ f.is_source in rw e (omega arith))
-            | inr w ↦ (let e : d ≡ At w.thread w.index = sym s' ∙ w.is_source in
-                elim w.visible [ inl q ↦ rw (e, moment_at w.thread w.index w.write w.holds) (omega arith) | inr q ↦ absurd (n (rw e q.0)) ])
-          ] in
-          rw (moment_at t i g gh) goal
+  global_forward given d e x y a b (inl p) = ordered_edge (λ d e. moment_of h d < moment_of h e) d e x y a b p.0
+      (λ t i j f g fh gh n fx gy. rw (moment_at t i f fh, moment_at t j g gh) (good.kept t i j f g fh gh n (rw (fx, gy) at p.1)))
+  global_forward given d e x y a b (inr (inl r)) = read_edge d e y b r.0.0 r.0.1 (λ t i j g w gh wh n q s. absurd (r.1 (rw (q, s) refl)))
   global_forward given d e x y a b (inr (inr m)) = memory_forward given d e x y a b m
 
   -- the keys of a load and of a write
@@ -182,16 +186,8 @@ module _ (init : ℕ → ℕ) (h : History) (good : Good init h) (at : Event →
 
   location_forward : (given : ℕ → List ℕ) (d e : Event) (x y : Access) → at d ≡ Some x → at e ≡ Some y →
       Relates (candidate_with h given) union.Location d x e y → Less (key_of h d) (key_of h e)
-  location_forward given d e x y a b (inl p) = go d e a b p.0 p.1
-    where
-      go : (d e : Event) → at d ≡ Some x → at e ≡ Some y → Precedes d e → x.location ≡ y.location → Less (key_of h d) (key_of h e)
-      go (At t i) (At u j) a b p q =
-          let (f, fh, fx) = at_thread t i x a in
-          let (g, gh, gy) = at_thread u j y b in
-          let fh' : Holds h u i f = subst (λ z. Holds h z i f) p.0 fh in
-          let q' : f.access.location ≡ g.access.location = sym (ap (λ (z : Access). z.location) fx) ∙ (q ∙ ap (λ (z : Access). z.location) gy) in
-          subst (λ z. Less (key_of h (At z i)) (key_of h (At u j))) (sym p.0) (place_forward u i j f g fh' gh p.1 q')
-      go d e a b p q = absurd p
+  location_forward given d e x y a b (inl p) = ordered_edge (λ d e. Less (key_of h d) (key_of h e)) d e x y a b p.0
+      (λ t i j f g fh gh n fx gy. place_forward t i j f g fh gh n (sym (ap (λ (z : Access). z.location) fx) ∙ (p.1 ∙ ap (λ (z : Access). z.location) gy)))
   location_forward given d e x y a b (inr (inl r)) = go d e b r.0 r.1
     where
       go : (d e : Event) → at e ≡ Some y → IsSome y.read → source_of h e ≡ d → Less (key_of h d) (key_of h e)
@@ -222,36 +218,9 @@ module _ (init : ℕ → ℕ) (h : History) (good : Good init h) (at : Event →
   module _ (all : (t j i : ℕ) (d e : Entry) → Holds h t j d → Holds h t i e → j < i → d.moment < e.moment) where
     whole_forward : (given : ℕ → List ℕ) (d e : Event) (x y : Access) → at d ≡ Some x → at e ≡ Some y →
         Relates (candidate_with h given) union.Sequential d x e y → moment_of h d < moment_of h e
-    whole_forward given d e x y a b (inl p) = go d e a b p
-      where
-        go : (d e : Event) → at d ≡ Some x → at e ≡ Some y → Precedes d e → moment_of h d < moment_of h e
-        go (Initial l) e a b p = absurd p
-        go (At t i) (Initial l) a b p = absurd p
-        go (At t i) (At u j) a b p =
-            let (f, fh, fx) = at_thread t i x a in
-            let (g, gh, gy) = at_thread u j y b in
-            let fh' : Holds h u i f = subst (λ z. Holds h z i f) p.0 fh in
-            rw (moment_at t i f fh, moment_at u j g gh) (all u i j f g fh' gh p.1)
-    whole_forward given d e x y a b (inr (inl r)) = go d e a b r.0 r.1
-      where
-        inside : (t i : ℕ) (g : Entry) (v : ℕ) → Holds h t i g → g.access.read ≡ Some v → moment_of h g.source < g.moment
-        inside t i g v gh r = elim (good.source t i g v gh r) [
-          | inl f ↦ (let z = good.first t i g gh in let k = good.delay t i g gh in rw f.is_source (omega arith))
-          | inr s ↦ (let m : g.moment ≡ g.exec = good.prompt t i g gh (rw r refl) in
-              rw (s.is_source, moment_at s.thread s.index s.write s.holds) (elim s.visible [
-                | inl q ↦ omega arith
-                | inr q ↦ all t s.index i s.write g (subst (λ u. Holds h u s.index s.write) q.0 s.holds) gh q.1
-              ]))
-        ]
-
-        go : (d e : Event) → at d ≡ Some x → at e ≡ Some y → IsSome y.read → source_of h e ≡ d → moment_of h d < moment_of h e
-        go d (Initial l) a b r s = let z = shows.of_initial l y b in let z0 : y.read ≡ None = z.0 in let bad : IsSome {T = ℕ} None = rw z0 at r in absurd cc
-        go d (At t i) a b r s =
-            let (g, gh, gy) = at_thread t i y b in
-            let r' : IsSome g.access.read = rw gy at r in
-            let v = some_value g.access.read r' in
-            let e : g.source ≡ d = sym (source_at t i g gh) ∙ s in
-            rw (moment_at t i g gh) (subst (λ z. moment_of h z < g.moment) e (inside t i g v.0 gh v.1))
+    whole_forward given d e x y a b (inl p) = ordered_edge (λ d e. moment_of h d < moment_of h e) d e x y a b p
+        (λ t i j f g fh gh n fx gy. rw (moment_at t i f fh, moment_at t j g gh) (all t i j f g fh gh n))
+    whole_forward given d e x y a b (inr (inl r)) = read_edge d e y b r.0 r.1 (λ t i j g w gh wh n q s. all t j i w g wh gh n)
     whole_forward given d e x y a b (inr (inr m)) = memory_forward given d e x y a b m
 
     pub whole_acyclic : (given : ℕ → List ℕ) → IsAcyclic (λ d e. (x : Access) × (y : Access) × (at d ≡ Some x) × (at e ≡ Some y) × Relates (candidate_with h given) union.Sequential d x e y)

@@ -1,10 +1,10 @@
 -- A flush keeps the invariant of a run.
-use Rattle.candidate_executions.proofs.Vocabulary.{◌≡◌, ℕ, suc, zero, ◌≤◌, List, [], ◌∷◌, ◌⊎◌, Some, slice_get, refl, sym, ap, ◌∙◌, subst, inl, inr, arith, length, eq-eqb, ne_eqb, cases_lt, cases_eq, same_Some, put, Label, Flush, Pending, Event, At, Origins}
+use Rattle.candidate_executions.proofs.Vocabulary.{◌≡◌, ℕ, suc, zero, ◌≤◌, List, [], ◌∷◌, ◌⊎◌, Some, slice_get, refl, sym, ap, ◌∙◌, subst, inl, inr, arith, length, eq-eqb, ne_eqb, cases_lt, same_Some, put, Label, Flush, Pending, Event, At, Origins}
 use Rattle.candidate_executions.proofs.Vocabulary.{with_waiting, with_memory}
 use Rattle.candidate_executions.proofs.FromRuns.Histories.{Entry, History, Holds}
-use Rattle.candidate_executions.proofs.Orders.Lists.{put_same, put_other}
+use Rattle.candidate_executions.proofs.Orders.Lists.{put_each, put_both}
 use Rattle.candidate_executions.proofs.FromRuns.FlushesDue.{due, due_late}
-use Rattle.candidate_executions.proofs.FromRuns.RunInvariant.{Latest, Stored, Waiting, Inv}
+use Rattle.candidate_executions.proofs.FromRuns.RunInvariant.{Latest, Stored, Waiting, Inv, stored_as}
 
 module _ (init : ℕ → ℕ) (h : History) (buffers : ℕ → List Pending) (memory : ℕ → ℕ) (o : Origins) (n : ℕ) (section : ℕ → ℕ) where
   -- a flush
@@ -31,74 +31,35 @@ module _ (init : ℕ → ℕ) (h : History) (buffers : ℕ → List Pending) (me
 
     waits : (u i : ℕ) (e : Entry) → Holds h u i e → n ≤ e.moment → ((u ≡ t) × (e.moment ≡ n) × (e.access.location ≡ w.location)) ⊎
         ((suc n ≤ e.moment) × Waiting (put buffers t ws u) (due u (suc n) ls) (section u) e)
-    waits u i e a b = elim (cases_eq u t) [
-      | inl q ↦ subst (λ z. ((z ≡ t) × (e.moment ≡ n) × (e.access.location ≡ w.location)) ⊎
-          ((suc n ≤ e.moment) × Waiting (put buffers t ws z) (due z (suc n) ls) (section z) e)) (sym q)
-          (own (subst (λ z. Waiting (buffers z) (due z n (Flush t ∷ ls)) (section z) e) q (inv.waiting u i e a b)))
-      | inr q ↦ inr (other u q (inv.waiting u i e a b))
-    ]
+    waits = put_each (λ u buffer. (i : ℕ) (e : Entry) → Holds h u i e → n ≤ e.moment → ((u ≡ t) × (e.moment ≡ n) × (e.access.location ≡ w.location)) ⊎
+        ((suc n ≤ e.moment) × Waiting buffer (due u (suc n) ls) (section u) e)) buffers t ws
+        (λ i e a b. let x = inv.waiting t i e a b in at_place e x.place x.store (rw full at x.stored) (rw due_same at x.at) x.location x.section_is)
+        (λ u q i e a b. let x = rw (due_other t u ls q) at (inv.waiting u i e a b) in inr (due_late u (suc n) ls x.place e.moment x.at, x))
       where
-        at_place : (k : ℕ) (x : Pending) → slice_get (w ∷ ws) k ≡ Some x → slice_get (n ∷ due t (suc n) ls) k ≡ Some e.moment → e.access.location ≡ x.location →
+        at_place : (e : Entry) (k : ℕ) (x : Pending) → slice_get (w ∷ ws) k ≡ Some x → slice_get (n ∷ due t (suc n) ls) k ≡ Some e.moment → e.access.location ≡ x.location →
             e.access.section ≡ section t →
-            ((t ≡ t) × (e.moment ≡ n) × (e.access.location ≡ w.location)) ⊎ ((suc n ≤ e.moment) × Waiting (put buffers t ws t) (due t (suc n) ls) (section t) e)
-        at_place zero x f g l s = inl (refl, cc, l ∙ sym (ap (λ (z : Pending). z.location) (same_Some w x f)))
-        at_place (suc k) x f g l s = inr (
-          due_late t (suc n) ls k e.moment g,
-          record { place = k; store = x; stored = rw put_same f; at = g; location = l; section_is = s },
-        )
-
-        own : Waiting (buffers t) (due t n (Flush t ∷ ls)) (section t) e →
-            ((t ≡ t) × (e.moment ≡ n) × (e.access.location ≡ w.location)) ⊎ ((suc n ≤ e.moment) × Waiting (put buffers t ws t) (due t (suc n) ls) (section t) e)
-        own x = at_place x.place x.store (rw full at x.stored) (rw due_same at x.at) x.location x.section_is
-
-        other : (u : ℕ) → (u ≡ t → ⊥) → Waiting (buffers u) (due u n (Flush t ∷ ls)) (section u) e →
-            (suc n ≤ e.moment) × Waiting (put buffers t ws u) (due u (suc n) ls) (section u) e
-        other u q x =
-            let g : slice_get (due u (suc n) ls) x.place ≡ Some e.moment = rw (due_other t u ls q) at x.at in (
-              due_late u (suc n) ls x.place e.moment g,
-              record { place = x.place; store = x.store; stored = rw (put_other buffers t ws u q) x.stored; at = g; location = x.location; section_is = x.section_is },
-            )
+            ((t ≡ t) × (e.moment ≡ n) × (e.access.location ≡ w.location)) ⊎ ((suc n ≤ e.moment) × Waiting ws (due t (suc n) ls) (section t) e)
+        at_place e zero x f g l s = inl (refl, cc, l ∙ sym (ap (λ (z : Pending). z.location) (same_Some w x f)))
+        at_place e (suc k) x f g l s = inr (due_late t (suc n) ls k e.moment g, record { place = k; store = x; stored = f; at = g; location = l; section_is = s })
 
     pub inv_flush : Inv init h (put buffers t ws) (put memory w.location w.value) after_it (suc n) section ls
     inv_flush = record {
       good = inv.good;
       positive = omega arith;
       early = λ u i e a. let z = inv.early u i e a in omega arith;
-      latest = λ k. elim (cases_eq k w.location) [
-        | inl q ↦ subst (λ z. Latest init h (suc n) z (put memory w.location w.value z) (put o.memory w.location (At t head.index) z)) (sym q)
-            (rw (put_same memory w.location w.value, put_same o.memory w.location (At t head.index)) now)
-        | inr q ↦ rw (put_other memory w.location w.value k q, put_other o.memory w.location (At t head.index) k q) (before k q (inv.latest k))
-      ];
+      latest = put_both (Latest init h (suc n)) memory o.memory w.location w.value (At t head.index) now (λ k q. before k q (inv.latest k));
       made = inv.made;
-      long = λ u. elim (cases_eq u t) [
-        | inl s ↦ subst (λ z. length (put o.waiting t others_wait.0 z) ≡ length (put buffers t ws z)) (sym s)
-            (rw (put_same o.waiting t others_wait.0, put_same buffers t ws) (let a = ap length others_wait.1 in let b = ap length full in let c = inv.long t in omega arith))
-        | inr s ↦ rw (put_other o.waiting t others_wait.0 u s, put_other buffers t ws u s) (inv.long u)
-      ];
-      stored = λ u q x a. elim (cases_eq u t) [
-        | inl s ↦ subst (λ z. Stored h z (put o.waiting t others_wait.0 z) (due z (suc n) ls) q x) (sym s)
-            (rw (put_same o.waiting t others_wait.0) (own q x (rw put_same at (subst (λ z. slice_get (put buffers t ws z) q ≡ Some x) s a))))
-        | inr s ↦ rw (put_other o.waiting t others_wait.0 u s) (other u s q x (inv.stored u q x (rw (put_other buffers t ws u s) at a)))
-      ];
+      long = put_both (λ u tags buffer. length tags ≡ length buffer) o.waiting buffers t others_wait.0 ws
+          (let a = ap length others_wait.1 in let b = ap length full in let c = inv.long t in omega arith) (λ u s. inv.long u);
+      stored = put_both (λ u tags buffer. (q : ℕ) (x : Pending) → slice_get buffer q ≡ Some x → Stored h u tags (due u (suc n) ls) q x) o.waiting buffers t others_wait.0 ws own
+          (λ u s q x a. rw (due_other t u ls s) at (inv.stored u q x a));
       waiting = λ u i e a b. elim (waits u i e a (omega arith)) [ inl x ↦ absurd (let z = x.1 in omega arith) | inr x ↦ x.1 ];
     }
       where
         own : (q : ℕ) (x : Pending) → slice_get ws q ≡ Some x → Stored h t others_wait.0 (due t (suc n) ls) q x
         own q x a =
             let s : Stored h t (o.waiting t) (due t n (Flush t ∷ ls)) (suc q) x = inv.stored t (suc q) x (rw full a) in
-            record {
-              index = s.index;
-              entry = s.entry;
-              holds = s.holds;
-              location = s.location;
-              written = s.written;
-              at = rw due_same at s.at;
-              tag = subst (λ es. slice_get es (suc q) ≡ Some (x.location, At t s.index)) others_wait.1 s.tag;
-            }
-
-        other : (u : ℕ) → (u ≡ t → ⊥) → (q : ℕ) (x : Pending) → Stored h u (o.waiting u) (due u n (Flush t ∷ ls)) q x → Stored h u (o.waiting u) (due u (suc n) ls) q x
-        other u d q x s =
-            record { index = s.index; entry = s.entry; holds = s.holds; location = s.location; written = s.written; at = rw (due_other t u ls d) at s.at; tag = s.tag }
+            stored_as s s.holds (rw due_same at s.at) (subst (λ es. slice_get es (suc q) ≡ Some (x.location, At t s.index)) others_wait.1 s.tag)
 
         now : Latest init h (suc n) w.location w.value (At t head.index)
         now = record {

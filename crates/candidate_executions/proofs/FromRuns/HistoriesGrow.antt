@@ -1,17 +1,13 @@
 -- A good history stays good with one more entry that fits.
-use Rattle.candidate_executions.proofs.Vocabulary.{◌≡◌, ◌≢◌, ℕ, ◌<◌, ◌≤◌, [], ◌∷◌, ◌++◌, ◌⊎◌, Some, IsSome, slice_get, sym, ◌∙◌, subst, inl, inr, arith, length, cases_eq, slice_get_within, put, KeepsOrder}
+use Rattle.candidate_executions.proofs.Vocabulary.{◌≡◌, ◌≢◌, ℕ, ◌<◌, ◌≤◌, [], ◌∷◌, ◌++◌, ◌⊎◌, Some, IsSome, slice_get, sym, ◌∙◌, subst, inl, inr, arith, length, slice_get_within, put, KeepsOrder, refl}
 use Rattle.candidate_executions.proofs.FromRuns.Histories.{Entry, History, Holds, Visible, Source, First, Good}
-use Rattle.candidate_executions.proofs.Orders.Lists.{put_same, put_other, get_end, get_front, get_cases}
+use Rattle.candidate_executions.proofs.Orders.Lists.{put_same, get_end, get_front, get_cases, put_each}
 
 abbrev pub with_entry : History → ℕ → Entry → History
 with_entry h t e = put h t (h t ++ e ∷ [])
 
 pub held_old : (h : History) (t : ℕ) (e : Entry) (u j : ℕ) (d : Entry) → Holds h u j d → Holds (with_entry h t e) u j d
-held_old h t e u j d a = elim (cases_eq u t) [
-  | inl q ↦ subst (λ z. Holds (with_entry h t e) z j d) (sym q)
-      (rw (put_same h t (h t ++ e ∷ [])) (get_front (h t) e j d (subst (λ z. Holds h z j d) q a)))
-  | inr q ↦ rw (put_other h t (h t ++ e ∷ []) u q) a
-]
+held_old h t e = put_each (λ u es. (j : ℕ) (d : Entry) → Holds h u j d → slice_get es j ≡ Some d) h t (h t ++ e ∷ []) (λ j d a. get_front (h t) e j d a) (λ u q j d a. a)
 
 pub held_new : (h : History) (t : ℕ) (e : Entry) → Holds (with_entry h t e) t (length (h t)) e
 held_new h t e = rw (put_same h t (h t ++ e ∷ [])) (get_end (h t) e)
@@ -19,12 +15,8 @@ held_new h t e = rw (put_same h t (h t ++ e ∷ [])) (get_end (h t) e)
 -- what the longer history holds, it held before, or it is the new entry
 pub held_cases : (h : History) (t : ℕ) (e : Entry) (u j : ℕ) (d : Entry) → Holds (with_entry h t e) u j d →
     Holds h u j d ⊎ ((u ≡ t) × (j ≡ length (h t)) × (d ≡ e))
-held_cases h t e u j d a = elim (cases_eq u t) [
-  | inl q ↦ (let b : Holds (with_entry h t e) t j d = subst (λ z. Holds (with_entry h t e) z j d) q a in
-      let c : slice_get (h t ++ e ∷ []) j ≡ Some d = rw (put_same h t (h t ++ e ∷ [])) at b in
-      elim (get_cases (h t) e j d c) [ inl o ↦ inl (subst (λ z. Holds h z j d) (sym q) o) | inr n ↦ inr (q, n.0, n.1) ])
-  | inr q ↦ inl (rw (put_other h t (h t ++ e ∷ []) u q) at a)
-]
+held_cases h t e = put_each (λ u es. (j : ℕ) (d : Entry) → slice_get es j ≡ Some d → Holds h u j d ⊎ ((u ≡ t) × (j ≡ length (h t)) × (d ≡ e))) h t (h t ++ e ∷ [])
+    (λ j d a. elim (get_cases (h t) e j d a) [ inl o ↦ inl o | inr n ↦ inr (refl, n.0, n.1) ]) (λ u q j d a. inl a)
 
 -- the new entry, executed last, fits the history
 pub record Fits (init : ℕ → ℕ) (h : History) (t : ℕ) (e : Entry) : Type 0 where
@@ -42,15 +34,15 @@ pub record Fits (init : ℕ → ℕ) (h : History) (t : ℕ) (e : Entry) : Type 
 abbrev New : History → ℕ → Entry → ℕ → ℕ → Entry → Type 0
 New h t e u j d = (u ≡ t) × (j ≡ length (h t)) × (d ≡ e)
 
-module _ (init : ℕ → ℕ) (h : History) (t : ℕ) (e : Entry) (good : Good init h) (fits : Fits init h t e) where
-  -- what holds of the new entry and of each old one, holds of each
-  each : (P : ℕ → ℕ → Entry → Type 0) → ((u j : ℕ) (d : Entry) → Holds h u j d → P u j d) → P t (length (h t)) e →
-      (u j : ℕ) (d : Entry) → Holds (with_entry h t e) u j d → P u j d
-  each P old new u j d a = elim (held_cases h t e u j d a) [
-    | inl o ↦ old u j d o
-    | inr n ↦ subst (λ z. P z j d) (sym n.0) (subst (λ z. P t z d) (sym n.1) (subst (λ z. P t (length (h t)) z) (sym n.2) new))
-  ]
+-- what holds of the new entry and of each old one, holds of each
+pub each_held : (h : History) (t : ℕ) (e : Entry) (P : ℕ → ℕ → Entry → Type 0) → ((u j : ℕ) (d : Entry) → Holds h u j d → P u j d) → P t (length (h t)) e →
+    (u j : ℕ) (d : Entry) → Holds (with_entry h t e) u j d → P u j d
+each_held h t e P old new u j d a = elim (held_cases h t e u j d a) [
+  | inl o ↦ old u j d o
+  | inr n ↦ subst (λ z. P z j d) (sym n.0) (subst (λ z. P t z d) (sym n.1) (subst (λ z. P t (length (h t)) z) (sym n.2) new))
+]
 
+module _ (init : ℕ → ℕ) (h : History) (t : ℕ) (e : Entry) (good : Good init h) (fits : Fits init h t e) where
   within : (u j : ℕ) (d : Entry) → Holds h u j d → u ≡ t → j < length (h t)
   within u j d a q = slice_get_within (h t) j d (subst (λ z. Holds h z j d) q a)
 
@@ -75,11 +67,11 @@ module _ (init : ℕ → ℕ) (h : History) (t : ℕ) (e : Entry) (good : Good i
   pub good_more : Good init (with_entry h t e)
   unfolding Latest
   good_more = record {
-    acts = λ u j d a. each (λ u j d. IsSome d.access.read ⊎ IsSome d.access.written) good.acts fits.acts u j d a;
-    first = λ u j d a. each (λ u j d. 0 < d.exec) good.first fits.first u j d a;
-    delay = λ u j d a. each (λ u j d. d.exec ≤ d.moment) good.delay fits.delay u j d a;
-    prompt = λ u j d a. each (λ u j d. IsSome d.access.read → d.moment ≡ d.exec) good.prompt fits.prompt u j d a;
-    source = λ u j d v a r. moved u j d v (each (λ u j d. d.access.read ≡ Some v → First init d v ⊎ Source h u j d v)
+    acts = each_held h t e (λ u j d. IsSome d.access.read ⊎ IsSome d.access.written) good.acts fits.acts;
+    first = each_held h t e (λ u j d. 0 < d.exec) good.first fits.first;
+    delay = each_held h t e (λ u j d. d.exec ≤ d.moment) good.delay fits.delay;
+    prompt = each_held h t e (λ u j d. IsSome d.access.read → d.moment ≡ d.exec) good.prompt fits.prompt;
+    source = λ u j d v a r. moved u j d v (each_held h t e (λ u j d. d.access.read ≡ Some v → First init d v ⊎ Source h u j d v)
         (λ u j d b. good.source u j d v b) (fits.source v) u j d a r);
     order = λ u j i d f a b n. elim (held_cases h t e u j d a) [
       | inl x ↦ elim (held_cases h t e u i f b) [ inl y ↦ good.order u j i d f x y n | inr y ↦ rw y.2 (fits.later u j d x) ]
@@ -98,11 +90,11 @@ module _ (init : ℕ → ℕ) (h : History) (t : ℕ) (e : Entry) (good : Good i
         | inr y ↦ absurd (let z1 = x.1 in let z2 = y.1 in omega arith)
       ]
     ];
-    latest = λ u j v i d f a b. each (λ v i f. Latest u j d v i f)
-        (λ v i f y. each (λ u j d. Latest u j d v i f) (λ u j d x. good.latest u j v i d f x y)
+    latest = λ u j v i d f a b. each_held h t e (λ v i f. Latest u j d v i f)
+        (λ v i f y. each_held h t e (λ u j d. Latest u j d v i f) (λ u j d x. good.latest u j v i d f x y)
         (λ r w l z. absurd (let g = fits.later v i f y in let k = fits.delay in
         elim z [ inl q ↦ omega arith | inr q ↦ (let o = within v i f y (sym q.0) in let q1 = q.1 in omega arith) ])) u j d a)
-        (each (λ u j d. Latest u j d t (length (h t)) e) (λ u j d x. fits.latest u j d x)
+        (each_held h t e (λ u j d. Latest u j d t (length (h t)) e) (λ u j d x. fits.latest u j d x)
         (λ r w l z. absurd (let k = fits.delay in elim z [ inl q ↦ omega arith | inr q ↦ omega arith ])) u j d a) v i f b;
     apart = λ u j v i d f a b q. elim (held_cases h t e u j d a) [
       | inl x ↦ elim (held_cases h t e v i f b) [ inl y ↦ good.apart u j v i d f x y q | inr y ↦ absurd (fits.apart u j d x (rw y.2 at q)) ]

@@ -1,8 +1,8 @@
 -- The steps of the store buffer machine, by cases.
-use Rattle.candidate_executions.proofs.Vocabulary.{◌≡◌, ℕ, suc, ◌<◌, ◌≤◌, Bool, true, false, List, [], ◌∷◌, ◌++◌, ◌==◌, Some, option_and_then, refl, sym, ap, ◌∙◌, subst, inl, inr, arith, length, length-append, eq-eqb, ne_eqb, if◌then◌else◌, cases_eq}
+use Rattle.candidate_executions.proofs.Vocabulary.{◌≡◌, ℕ, suc, ◌<◌, ◌≤◌, Bool, true, false, List, [], ◌∷◌, ◌++◌, ◌==◌, Some, option_and_then, refl, sym, ap, ◌∙◌, arith, length, length-append, eq-eqb, ne_eqb, if◌then◌else◌}
 use Rattle.candidate_executions.proofs.Vocabulary.{Listing, action, Gaps, put, StoreBufferMachine, State, past_gap, buffered, step, run, Label, Exec, Flush}
 use Rattle.candidate_executions.proofs.Vocabulary.{Pending, exec_by, flush_by}
-use Rattle.candidate_executions.proofs.Orders.Lists.{put_same, put_other}
+use Rattle.candidate_executions.proofs.Orders.Lists.{put_same, put_each}
 use Rattle.candidate_executions.proofs.FromRuns.FlushesDue.{due}
 
 -- an instruction is executed where a fenced gap before it lets it
@@ -18,18 +18,12 @@ pub grown_here : (bs : ℕ → List Pending) (t : ℕ) (w : Pending) (m : ℕ) �
 grown_here bs t w m h = let z : length (bs t ++ w ∷ []) ≤ m = rw put_same at h in omega (arith, length-append (bs t) (w ∷ []))
 
 grown : (bs : ℕ → List Pending) (u t : ℕ) (w : Pending) (m : ℕ) → length (put bs u (bs u ++ w ∷ []) t) ≤ m → length (bs t) ≤ m
-grown bs u t w m h = elim (cases_eq t u) [
-  | inl q ↦ (let z = grown_here bs t w m (subst (λ z. length (put bs z (bs z ++ w ∷ []) t) ≤ m) (sym q) h) in omega arith)
-  | inr q ↦ rw (put_other bs u (bs u ++ w ∷ []) t q) at h
-]
+grown bs u t w m = put_each (λ t b. length b ≤ m → length (bs t) ≤ m) bs u (bs u ++ w ∷ []) (λ h. omega (arith, length-append (bs u) (w ∷ []))) (λ t q h. h) t
 
 shrunk : (bs : ℕ → List Pending) (u t n : ℕ) (w : Pending) (ws : List Pending) (rest : List ℕ) → bs u ≡ w ∷ ws →
     length (put bs u ws t) ≤ length rest → length (bs t) ≤ length (if u == t then n ∷ rest else rest)
-shrunk bs u t n w ws rest e h = elim (cases_eq t u) [
-  | inl q ↦ (let z : length ws ≤ length rest = rw put_same at (subst (λ z. length (put bs u ws z) ≤ length rest) q h) in
-      let y : bs t ≡ w ∷ ws = ap bs q ∙ e in rw (eq-eqb u t (sym q), y) (omega arith))
-  | inr q ↦ rw (ne_eqb u t (λ a. q (sym a))) (rw (put_other bs u ws t q) at h)
-]
+shrunk bs u t n w ws rest e = put_each (λ t b. length b ≤ length rest → length (bs t) ≤ length (if u == t then n ∷ rest else rest)) bs u ws
+    (λ h. rw (eq-eqb u u refl, e) (omega arith)) (λ t q h. rw (ne_eqb u t (λ a. q (sym a))) h) t
 
 -- a run that ends with an empty buffer flushes each store that waits
 pub enough : (p : Listing) (gaps : Gaps) (t : ℕ) (last : State) → last.buffers t ≡ [] → (ls : List Label) (s : State) (n : ℕ) →

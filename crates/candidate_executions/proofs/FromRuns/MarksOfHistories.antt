@@ -1,7 +1,7 @@
 -- What a run shows of the history that it leaves.
 use Rattle.candidate_executions.proofs.Vocabulary.{◌≡◌, ◌↔◌, ℕ, suc, zero, ◌+◌, ◌<◌, ◌≤◌, List, [], ◌∷◌, ◌++◌, ◌⊎◌, Some, None, IsSome, Contains, slice_get, refl, sym, ap, ◌∙◌, subst, inl, inr, arith, length, length-append, append_assoc, fun_ext, cases_eq}
 use Rattle.candidate_executions.proofs.Vocabulary.{same_Some, Contains-append_left, Contains-append_right, Contains-append_cases, put, Event, At, Mark, Takes, Arrives}
-use Rattle.candidate_executions.proofs.Orders.Lists.{put_same, put_other, get_end, get_front, get_cases}
+use Rattle.candidate_executions.proofs.Orders.Lists.{put_same, put_other, get_end, get_front, get_cases, put_each, put_both, get_front_of, get_next_of}
 use Rattle.candidate_executions.proofs.FromRuns.Histories.{Entry, History, Holds}
 use Rattle.candidate_executions.proofs.FromRuns.HistoriesGrow.{with_entry}
 use Rattle.candidate_executions.proofs.FromRuns.CandidateOfHistory.{moment_of_entry, moment_of}
@@ -35,15 +35,6 @@ pub record Tells (past future : History) (waiting : ℕ → List (ℕ × Event))
   pub arrives : (x : Event) → Contains ms (Arrives x) ↔ (Waits waiting x ⊎ NewWrite past future x)
   pub late : (x : Event) → Contains ms (Arrives x) → n ≤ moment_of (joined past future) x
   pub sorted : PairsOf (Sooner (moment_of (joined past future))) ms
-
-get_front_of : {A : Type 0} (xs ys : List A) (i : ℕ) (x : A) → slice_get xs i ≡ Some x → slice_get (xs ++ ys) i ≡ Some x
-get_front_of [] ys i x h = absurd cc
-get_front_of (y ∷ xs) ys zero x h = h
-get_front_of (y ∷ xs) ys (suc i) x h = get_front_of xs ys i x h
-
-get_next_of : {A : Type 0} (xs ys : List A) (y : A) → slice_get (xs ++ y ∷ ys) (length xs) ≡ Some y
-get_next_of [] ys y = refl
-get_next_of (x ∷ xs) ys y = get_next_of xs ys y
 
 -- the moment of an entry of the past
 pub moment_old : (past future : History) (t i : ℕ) (f : Entry) → Holds past t i f → moment_of (joined past future) (At t i) ≡ f.moment
@@ -170,17 +161,11 @@ module _ (past : History) (t : ℕ) (e : Entry) where
       waits = waiting t ++ (l, next) ∷ []
 
       before : (x : Event) → Waits (put waiting t (waiting t ++ (l, next) ∷ [])) x → Waits waiting x ⊎ ((x ≡ next) × IsSome e.access.written)
-      before x (u, q, m, a) = elim (cases_eq u t) [
-        | inl s ↦ (let b : slice_get (waiting t ++ (l, next) ∷ []) q ≡ Some (m, x) = rw (put_same waiting t (waiting t ++ (l, next) ∷ [])) at (subst (λ z. slice_get (put waiting t (waiting t ++ (l, next) ∷ []) z) q ≡ Some (m, x)) s a) in
-            elim (get_cases (waiting t) (l, next) q (m, x) b) [ inl k ↦ inl (t, q, m, k) | inr k ↦ inr (ap (λ (z : ℕ × Event). z.1) k.1, w) ])
-        | inr d ↦ inl (u, q, m, rw (put_other waiting t (waiting t ++ (l, next) ∷ []) u d) at a)
-      ]
+      before x (u, q, m, a) = put_each (λ u tags. slice_get tags q ≡ Some (m, x) → Waits waiting x ⊎ ((x ≡ next) × IsSome e.access.written)) waiting t waits
+          (λ b. elim (get_cases (waiting t) (l, next) q (m, x) b) [ inl k ↦ inl (t, q, m, k) | inr k ↦ inr (ap (λ (z : ℕ × Event). z.1) k.1, w) ]) (λ u d b. inl (u, q, m, b)) u a
 
       still : (x : Event) → Waits waiting x → Waits (put waiting t (waiting t ++ (l, next) ∷ [])) x
-      still x (u, q, m, a) = elim (cases_eq u t) [
-        | inl s ↦ (t, q, m, rw (put_same waiting t (waiting t ++ (l, next) ∷ [])) (get_front (waiting t) (l, next) q (m, x) (subst (λ z. slice_get (waiting z) q ≡ Some (m, x)) s a)))
-        | inr d ↦ (u, q, m, rw (put_other waiting t (waiting t ++ (l, next) ∷ []) u d) a)
-      ]
+      still x (u, q, m, a) = (u, q, m, put_each (λ u tags. slice_get (waiting u) q ≡ Some (m, x) → slice_get tags q ≡ Some (m, x)) waiting t waits (get_front (waiting t) (l, next) q (m, x)) (λ u d b. b) u a)
 
 -- the oldest store of a thread waits no more
 pub waits_flush : (waiting : ℕ → List (ℕ × Event)) (t l : ℕ) (x : Event) (xs : List (ℕ × Event)) → waiting t ≡ (l, x) ∷ xs → (y : Event) → Waits waiting y ↔ ((y ≡ x) ⊎ Waits (put waiting t xs) y)
@@ -197,10 +182,7 @@ waits_flush waiting t l x xs full y = ((λ h. out h), λ h. elim h [ inl q ↦ (
         at_t (suc q) a = inr (t, q, m, rw (put_same waiting t xs) a)
 
     back : Waits (put waiting t xs) y → Waits waiting y
-    back (u, q, m, a) = elim (cases_eq u t) [
-      | inl s ↦ (t, suc q, m, ap (λ es. slice_get es (suc q)) full ∙ (rw (put_same waiting t xs) at (subst (λ z. slice_get (put waiting t xs z) q ≡ Some (m, y)) s a)))
-      | inr d ↦ (u, q, m, rw (put_other waiting t xs u d) at a)
-    ]
+    back (u, q, m, a) = put_each (λ u tags. slice_get tags q ≡ Some (m, y) → Waits waiting y) waiting t xs (λ b. (t, suc q, m, ap (λ es. slice_get es (suc q)) full ∙ b)) (λ u d b. (u, q, m, b)) u a
 
 module _ (past future : History) (t : ℕ) (e : Entry) where
   abbrev here : Event
@@ -210,19 +192,12 @@ module _ (past future : History) (t : ℕ) (e : Entry) where
   longer = put future t (e ∷ future t)
 
   pub same_joined : joined (with_entry past t e) future ≡ joined past longer
-  same_joined = fun_ext (λ u. elim (cases_eq u t) [
-    | inl q ↦ subst (λ z. with_entry past t e z ++ future z ≡ past z ++ longer z) (sym q)
-        (rw (put_same past t (past t ++ e ∷ []), put_same future t (e ∷ future t)) (append_assoc (past t) (e ∷ []) (future t)))
-    | inr q ↦ rw (put_other past t (past t ++ e ∷ []) u q, put_other future t (e ∷ future t) u q) refl
-  ])
+  same_joined = fun_ext (put_both (λ u old new. old ++ future u ≡ past u ++ new) past future t (past t ++ e ∷ []) (e ∷ future t) (append_assoc (past t) (e ∷ []) (future t)) (λ u q. refl))
 
   -- the entry is new, or it is held later
   new_cases : (x : Event) (f : Entry) → IsNew past longer x f → ((x ≡ here) × (f ≡ e)) ⊎ IsNew (with_entry past t e) future x f
-  new_cases x f (u, i, q, h) = elim (cases_eq u t) [
-    | inl s ↦ (let a : slice_get (e ∷ future t) i ≡ Some f = rw (put_same future t (e ∷ future t)) at (subst (λ z. Holds longer z i f) s h) in
-        at_t i (q ∙ ap (λ z. At z (length (past z) + i)) s) a)
-    | inr n ↦ inr (u, i, q ∙ ap (λ es. At u (length es + i)) (sym (put_other past t (past t ++ e ∷ []) u n)), rw (put_other future t (e ∷ future t) u n) at h)
-  ]
+  new_cases x f (u, i, q, h) = put_each (λ u es. x ≡ At u (length (past u) + i) → slice_get es i ≡ Some f → ((x ≡ here) × (f ≡ e)) ⊎ IsNew (with_entry past t e) future x f) future t (e ∷ future t)
+      (at_t i) (λ u n q a. inr (u, i, q ∙ ap (λ es. At u (length es + i)) (sym (put_other past t (past t ++ e ∷ []) u n)), a)) u q h
     where
       at_t : (i : ℕ) → x ≡ At t (length (past t) + i) → slice_get (e ∷ future t) i ≡ Some f → ((x ≡ here) × (f ≡ e)) ⊎ IsNew (with_entry past t e) future x f
       at_t zero q a = inl (q ∙ ap (At t) (omega arith), sym (same_Some e f a))
@@ -237,15 +212,9 @@ module _ (past future : History) (t : ℕ) (e : Entry) where
   new_now = (t, 0, ap (At t) (omega arith), rw (put_same future t (e ∷ future t)) refl)
 
   new_later : (x : Event) (f : Entry) → IsNew (with_entry past t e) future x f → IsNew past longer x f
-  new_later x f (u, i, q, h) = elim (cases_eq u t) [
-    | inl s ↦ (
-      t,
-      suc i,
-      q ∙ (ap (λ z. At z (length (with_entry past t e z) + i)) s ∙ ap (At t) (let long = ap length (put_same past t (past t ++ e ∷ [])) in omega (arith, length-append (past t) (e ∷ [])))),
-      rw (put_same future t (e ∷ future t)) (subst (λ z. Holds future z i f) s h),
-    )
-    | inr n ↦ (u, i, q ∙ ap (λ es. At u (length es + i)) (put_other past t (past t ++ e ∷ []) u n), rw (put_other future t (e ∷ future t) u n) h)
-  ]
+  new_later x f (u, i, q, h) = put_each (λ u es. x ≡ At u (length es + i) → Holds future u i f → IsNew past longer x f) past t (past t ++ e ∷ [])
+      (λ q a. (t, suc i, q ∙ ap (At t) (omega (arith, length-append (past t) (e ∷ []))), rw (put_same future t (e ∷ future t)) a))
+      (λ u n q a. (u, i, q, rw (put_other future t (e ∷ future t) u n) a)) u q h
 
   pub tells_entry : (waiting others : ℕ → List (ℕ × Event)) (n : ℕ) (first ms : List Mark) → IsShownAs past t e waiting others n first → Tells (with_entry past t e) future others (suc n) ms →
       Tells past longer waiting n (first ++ ms)

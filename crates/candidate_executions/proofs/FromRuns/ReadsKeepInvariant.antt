@@ -1,8 +1,8 @@
 -- An access that reads keeps the invariant of a run.
-use Rattle.candidate_executions.proofs.Vocabulary.{◌≡◌, ℕ, suc, ◌≤◌, List, [], ◌∷◌, ◌⊎◌, Option, Some, None, IsSome, refl, sym, ap, ◌∙◌, subst, inl, inr, arith, length, cases_eq, same_Some, put, Label, Exec, Pending, At, Event, Origins, with_made, with_memory}
+use Rattle.candidate_executions.proofs.Vocabulary.{◌≡◌, ℕ, suc, ◌≤◌, List, [], ◌∷◌, ◌⊎◌, Option, Some, None, IsSome, refl, sym, ap, ◌∙◌, inl, inr, arith, length, same_Some, put, Label, Exec, Pending, At, Event, Origins, with_made, with_memory, ◌<◌}
 use Rattle.candidate_executions.proofs.FromRuns.Histories.{Entry, History}
-use Rattle.candidate_executions.proofs.Orders.Lists.{put_same, put_other}
-use Rattle.candidate_executions.proofs.FromRuns.HistoriesGrow.{with_entry, held_new, held_cases, Fits, good_more}
+use Rattle.candidate_executions.proofs.Orders.Lists.{put_both}
+use Rattle.candidate_executions.proofs.FromRuns.HistoriesGrow.{with_entry, held_new, Fits, good_more, each_held}
 use Rattle.candidate_executions.proofs.FromRuns.FlushesDue.{due}
 use Rattle.candidate_executions.proofs.FromRuns.RunInvariant.{Latest, Waiting, Inv, Seen, none_waits, one_more_made, latest_old, stored_old, free, tick}
 
@@ -52,18 +52,12 @@ module _ (init : ℕ → ℕ) (h : History) (buffers : ℕ → List Pending) (me
     inv_reads memory' held new = record {
       good = good_more init h t read_entry inv.good fits_read;
       positive = omega arith;
-      early = λ u i e a. elim (held_cases h t read_entry u i e a) [
-        | inl x ↦ (let z = inv.early u i e x in omega arith)
-        | inr x ↦ rw x.2 (omega arith)
-      ];
+      early = each_held h t read_entry (λ u i e. e.exec < suc n) (λ u i e a. let z = inv.early u i e a in omega arith) (omega arith);
       latest = new;
       stored = λ u q w a. stored_old h t read_entry u (o.waiting u) (due u (suc n) ls) q w (inv.stored u q w a);
       made = one_more_made h t read_entry o.made inv.made;
       long = inv.long;
-      waiting = λ u i e a b. elim (held_cases h t read_entry u i e a) [
-        | inl x ↦ inv.waiting u i e x (omega arith)
-        | inr x ↦ absurd (let z : suc n ≤ n = rw x.2 at b in omega arith)
-      ];
+      waiting = each_held h t read_entry (λ u i e. suc n ≤ e.moment → Waiting (buffers u) (due u (suc n) ls) (section u) e) (λ u i e a b. inv.waiting u i e a (omega arith)) (λ b. absurd (omega arith));
     }
 
     -- a load leaves memory as it is
@@ -73,12 +67,8 @@ module _ (init : ℕ → ℕ) (h : History) (buffers : ℕ → List Pending) (me
 
     -- an exchange writes it
     pub inv_swap : (x : ℕ) → written ≡ Some x → Inv init (with_entry h t read_entry) buffers (put memory l x) (with_made (with_memory o l (At t (o.made t))) t) (suc n) section ls
-    inv_swap x some = inv_reads (put memory l x) (put o.memory l (At t (o.made t))) (λ k. elim (cases_eq k l) [
-      | inl q ↦ subst (λ z. Latest init (with_entry h t read_entry) (suc n) z (put memory l x z) (put o.memory l (At t (o.made t)) z)) (sym q)
-          (rw (put_same memory l x, put_same o.memory l (At t (o.made t))) now)
-      | inr q ↦ rw (put_other memory l x k q, put_other o.memory l (At t (o.made t)) k q) (latest_old init h t (suc n) read_entry k (memory k) (o.memory k) ((tick init h buffers memory o n section t ls inv).latest k)
-          (λ a b c. absurd (q (sym a))))
-    ])
+    inv_swap x some = inv_reads (put memory l x) (put o.memory l (At t (o.made t))) (put_both (Latest init (with_entry h t read_entry) (suc n)) memory o.memory l x (At t (o.made t)) now
+        (λ k q. latest_old init h t (suc n) read_entry k (memory k) (o.memory k) ((tick init h buffers memory o n section t ls inv).latest k) (λ a b c. absurd (q (sym a)))))
       where
         now : Latest init (with_entry h t read_entry) (suc n) l x (At t (o.made t))
         now = record {

@@ -1,9 +1,9 @@
 -- What joins the machine's buffers and memory to the history, along a run.
-use Rattle.candidate_executions.proofs.Vocabulary.{◌≡◌, ℕ, suc, ◌<◌, ◌≤◌, List, [], ◌∷◌, ◌++◌, ◌⊎◌, Some, IsSome, slice_get, sym, ap, ◌∙◌, subst, inl, inr, arith, length, length-append, cases_lt, cases_eq, put, Label, Exec, Pending, Event, Initial, At}
+use Rattle.candidate_executions.proofs.Vocabulary.{◌≡◌, ℕ, suc, ◌<◌, ◌≤◌, List, [], ◌∷◌, ◌++◌, ◌⊎◌, Some, IsSome, slice_get, subst, inl, inr, arith, length, length-append, cases_lt, put, Label, Exec, Pending, Event, Initial, At}
 use Rattle.candidate_executions.proofs.Vocabulary.{Origins}
 use Rattle.candidate_executions.proofs.FromRuns.Histories.{Entry, History, Holds, Visible, Good}
-use Rattle.candidate_executions.proofs.Orders.Lists.{put_same, put_other}
-use Rattle.candidate_executions.proofs.FromRuns.HistoriesGrow.{with_entry, held_old, held_cases}
+use Rattle.candidate_executions.proofs.Orders.Lists.{put_each, put_both}
+use Rattle.candidate_executions.proofs.FromRuns.HistoriesGrow.{with_entry, held_old, each_held}
 use Rattle.candidate_executions.proofs.FromRuns.FlushesDue.{due, due_late}
 
 -- an entry that writes v to the location, with this moment
@@ -84,11 +84,8 @@ wrote_old h t e l v event m w = record {
 
 -- one access more
 pub one_more_made : (h : History) (t : ℕ) (e : Entry) (made : ℕ → ℕ) → ((u : ℕ) → made u ≡ length (h u)) → (u : ℕ) → put made t (suc (made t)) u ≡ length (with_entry h t e u)
-one_more_made h t e made is u = elim (cases_eq u t) [
-  | inl q ↦ subst (λ z. put made t (suc (made t)) z ≡ length (with_entry h t e z)) (sym q)
-      (rw (put_same made t (suc (made t)), put_same h t (h t ++ e ∷ [])) (let z = is t in omega (arith, length-append (h t) (e ∷ []))))
-  | inr n ↦ rw (put_other made t (suc (made t)) u n, put_other h t (h t ++ e ∷ []) u n) (is u)
-]
+one_more_made h t e made is = put_both (λ u n es. n ≡ length es) made h t (suc (made t)) (h t ++ e ∷ [])
+    (let z = is t in omega (arith, length-append (h t) (e ∷ []))) (λ u n. is u)
 
 -- what memory has stays the latest, where the new entry does not come after it
 pub latest_old : (init : ℕ → ℕ) (h : History) (t n : ℕ) (e : Entry) (l v : ℕ) (held : Event) (m : Latest init h n l v held) →
@@ -99,23 +96,24 @@ latest_old init h t n e l v held m new = record {
   moment = m.moment;
   before = m.before;
   origin = elim m.origin [ inl u ↦ inl u | inr w ↦ inr (wrote_old h t e l v m.event m.moment w) ];
-  newest = λ u j d a b c k. elim (held_cases h t e u j d a) [
-    | inl x ↦ m.newest u j d x b c k
-    | inr x ↦ (let p : Entry → Type 0 = λ z. z.access.location ≡ l → IsSome z.access.written → z.moment < n → z.moment ≤ m.moment in
-        subst p (sym x.2) new b c k)
-  ];
+  newest = each_held h t e (λ u j d. d.access.location ≡ l → IsSome d.access.written → d.moment < n → d.moment ≤ m.moment) m.newest new;
+}
+
+-- a store waits on where its entry, its moment and its event are those at another place
+pub stored_as : {h later : History} {t q r : ℕ} {waits others : List (ℕ × Event)} {dues moments : List ℕ} {w : Pending} → (s : Stored h t waits dues q w) → Holds later t s.index s.entry →
+    slice_get moments r ≡ Some s.entry.moment → slice_get others r ≡ Some (w.location, At t s.index) → Stored later t others moments r w
+stored_as s holds at tag = record {
+  index = s.index;
+  entry = s.entry;
+  holds = holds;
+  location = s.location;
+  written = s.written;
+  at = at;
+  tag = tag;
 }
 
 pub stored_old : (h : History) (t : ℕ) (e : Entry) (u : ℕ) (waits : List (ℕ × Event)) (dues : List ℕ) (q : ℕ) (w : Pending) → Stored h u waits dues q w → Stored (with_entry h t e) u waits dues q w
-stored_old h t e u waits dues q w s = record {
-  index = s.index;
-  entry = s.entry;
-  holds = held_old h t e u s.index s.entry s.holds;
-  location = s.location;
-  written = s.written;
-  at = s.at;
-  tag = s.tag;
-}
+stored_old h t e u waits dues q w s = stored_as s (held_old h t e u s.index s.entry s.holds) s.at s.tag
 
 module _ (init : ℕ → ℕ) (h : History) (buffers : ℕ → List Pending) (memory : ℕ → ℕ) (o : Origins) (n : ℕ) (section : ℕ → ℕ) where
   -- the section of a thread may change while its buffer is empty
@@ -129,24 +127,10 @@ module _ (init : ℕ → ℕ) (h : History) (buffers : ℕ → List Pending) (me
     stored = inv.stored;
     made = inv.made;
     long = inv.long;
-    waiting = λ u i e a b. moved u i e (inv.waiting u i e a b);
+    waiting = put_each (λ u x. (i : ℕ) (e : Entry) → Holds h u i e → n ≤ e.moment → Waiting (buffers u) (due u n ls) x e) section t m
+        (λ i e a b. let w = inv.waiting t i e a b in elim c [ inl s ↦ subst (λ x. Waiting (buffers t) (due t n ls) x e) s w | inr b ↦ absurd (none_waits w b) ])
+        (λ u q. inv.waiting u);
   }
-    where
-      moved : (u i : ℕ) (e : Entry) → Waiting (buffers u) (due u n ls) (section u) e → Waiting (buffers u) (due u n ls) (put section t m u) e
-      moved u i e w = record {
-        place = w.place;
-        store = w.store;
-        stored = w.stored;
-        at = w.at;
-        location = w.location;
-        section_is = elim (cases_eq u t) [
-          | inl q ↦ elim c [
-            | inl s ↦ w.section_is ∙ (ap section q ∙ (s ∙ sym (ap (put section t m) q ∙ put_same section t m)))
-            | inr b ↦ absurd (let z : slice_get [] w.place ≡ Some w.store = rw (q, b) at w.stored in cc)
-          ]
-          | inr q ↦ w.section_is ∙ sym (put_other section t m u q)
-        ];
-      }
 
   -- at the execution of an instruction no entry has the moment
   pub free : (t : ℕ) (ls : List Label) → Inv init h buffers memory o n section (Exec t ∷ ls) →

@@ -7,7 +7,7 @@ use Rattle.candidate_executions.proofs.FromRuns.CandidateOfHistory.{moment_of}
 use Rattle.candidate_executions.proofs.FromRuns.MarksAlong.{marks_step}
 use Rattle.candidate_executions.proofs.FromRuns.MarksOfHistories.{joined, Waits, Tells, IsShownAs, tells_end, tells_quiet, tells_flush, tells_entry, moment_old, same_joined, shown_load, shown_exchange, shown_store, waits_flush}
 use Rattle.candidate_executions.proofs.FromRuns.Histories.{Entry, History, Holds, Good}
-use Rattle.candidate_executions.proofs.Orders.Lists.{put_same, put_other}
+use Rattle.candidate_executions.proofs.Orders.Lists.{put_same, put_other, put_each, put_both}
 use Rattle.candidate_executions.proofs.FromRuns.HistoriesGrow.{with_entry}
 use Rattle.candidate_executions.proofs.FromRuns.FlushesDue.{due}
 use Rattle.candidate_executions.proofs.FromRuns.RunInvariant.{Untouched, Wrote, Latest, none_waits, Inv, inv_section, tick}
@@ -83,17 +83,12 @@ module _ (p : Listing) (gaps : Gaps) (init : ℕ → ℕ) (last : State) where
         Rest (put locals t next) (put section t m) past waiting (suc n) ms → Rest locals section past waiting n ms
     rest_quiet step r = record {
       future = r.future;
-      traces = λ u. elim (cases_eq u t) [
-        | inl q ↦ subst (λ z. (k : ℕ) × (plays z k (section z) (locals z) (values (r.future z)) ≡ whole z (r.future z))) (sym q) here
-        | inr q ↦ (let (k, e) = r.traces u in (k, rw (put_other section t m u q, put_other locals t next u q) at e))
-      ];
+      traces = λ u. put_both (λ u m next. (k : ℕ) × (plays u k m next (values (r.future u)) ≡ whole u (r.future u)) → (k : ℕ) × (plays u k (section u) (locals u) (values (r.future u)) ≡ whole u (r.future u)))
+          section locals t m next (λ (k, e). (suc k, step k (values (r.future t)) ∙ e)) (λ u q x. x) u (r.traces u);
       ends = r.ends;
       values = r.values;
       tells = tells_quiet past r.future waiting n ms r.tells;
     }
-      where
-        here : (k : ℕ) × (plays t k (section t) (locals t) (values (r.future t)) ≡ whole t (r.future t))
-        here = let (k, e) = r.traces t in (suc k, step k (values (r.future t)) ∙ (rw (put_same section t m, put_same locals t next) at e))
 
     pub rest_entry : (e : Entry) (section' : ℕ → ℕ) → (section' t ≡ m) → ((u : ℕ) → (u ≡ t → ⊥) → section' u ≡ section u) →
         ((k : ℕ) (given : List ℕ) → plays t (suc k) (section t) (locals t) (with_read e.access.read given) ≡ with_access e.access (plays t k m next given)) →
@@ -107,10 +102,7 @@ module _ (p : Listing) (gaps : Gaps) (init : ℕ → ℕ) (last : State) where
       ];
       ends = subst (λ z. Ends init z last.memory) (same_joined past r.future t e) r.ends;
       tells = tells_entry past r.future t e waiting later n front ms shown r.tells;
-      values = λ u i d v a b. elim (cases_eq u t) [
-        | inl q ↦ first i d v (rw (put_same r.future t (e ∷ r.future t)) at (subst (λ z. Holds future z i d) q a)) b
-        | inr q ↦ r.values u i d v (rw (put_other r.future t (e ∷ r.future t) u q) at a) b
-      ];
+      values = put_each (λ u es. (i : ℕ) (d : Entry) (v : ℕ) → slice_get es i ≡ Some d → d.access.read ≡ Some v → IsValueOf p d.access.location v) r.future t (e ∷ r.future t) first (λ u q. r.values u);
     }
       where
         future : History

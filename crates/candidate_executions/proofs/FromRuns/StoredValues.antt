@@ -1,8 +1,8 @@
 -- Each value that a run stores to a location is one of the location's values.
-use Rattle.candidate_executions.proofs.Vocabulary.{◌≡◌, ℕ, suc, zero, Bool, true, false, not, List, [], ◌∷◌, ◌++◌, ◌⊎◌, Option, Some, None, slice_get, slice_index, get_or, set, refl, sym, subst, inl, inr, cases_eq, Reg, Instr, LoadImm, Copy, StoreImm}
+use Rattle.candidate_executions.proofs.Vocabulary.{◌≡◌, ℕ, suc, zero, Bool, true, false, not, List, [], ◌∷◌, ◌++◌, ◌⊎◌, Option, Some, None, slice_get, slice_index, get_or, set, refl, sym, subst, inl, inr, Reg, Instr, LoadImm, Copy, StoreImm}
 use Rattle.candidate_executions.proofs.Vocabulary.{Store, Xchg, Je, Jne, Jmp, Listing, Local, Action, Stop, Go, Wait, Read, Write, Swap, action, code_of, start_of, act, loaded, jumped, number, put, State, newest, found, Pending}
 use Rattle.candidate_executions.specs.Values.{IsKnown, IsValueOf}
-use Rattle.candidate_executions.proofs.Orders.Lists.{put_same, put_other, get_cases}
+use Rattle.candidate_executions.proofs.Orders.Lists.{get_cases, put_each}
 use Rattle.candidate_executions.proofs.FromRuns.NewestStore.{newest_some}
 
 set_cases : (xs : List ℕ) (k v i : ℕ) → (get_or (set xs k v) i 0 ≡ v) ⊎ (get_or (set xs k v) i 0 ≡ get_or xs i 0)
@@ -59,12 +59,6 @@ module _ (p : Listing) where
     pub waiting : (t q : ℕ) (w : Pending) → slice_get (buffers t) q ≡ Some w → IsValueOf p w.location w.value
     pub stored : (l : ℕ) → IsValueOf p l (memory l)
 
-  put_each : {A : Type 0} (P : ℕ → A → Type 0) (f : ℕ → A) (t : ℕ) (x : A) → P t x → ((u : ℕ) → P u (f u)) → (u : ℕ) → P u (put f t x u)
-  put_each P f t x h g u = elim (cases_eq u t) [
-    | inl q ↦ subst (λ z. P z (put f t x z)) (sym q) (rw (put_same f t x) h)
-    | inr n ↦ rw (put_other f t x u n) (g u)
-  ]
-
   module _ (s : State) (v : Valued s.locals s.buffers s.memory) (t : ℕ) where
     pub found_value : (l : ℕ) → IsValueOf p l (found (newest l (s.buffers t)) (s.memory l))
     found_value l = go (newest l (s.buffers t)) refl
@@ -76,7 +70,7 @@ module _ (p : Listing) where
 
     pub valued_local : (next : Local) → Knows next → Valued (put s.locals t next) s.buffers s.memory
     valued_local next k = record {
-      registers = put_each (λ u x. Knows x) s.locals t next k v.registers;
+      registers = put_each (λ u x. Knows x) s.locals t next k (λ u n. v.registers u);
       waiting = v.waiting;
       stored = v.stored;
     }
@@ -88,18 +82,18 @@ module _ (p : Listing) where
     valued_memory locals l x h w = record {
       registers = w.registers;
       waiting = w.waiting;
-      stored = put_each (λ u y. IsValueOf p u y) s.memory l x h v.stored;
+      stored = put_each (λ u y. IsValueOf p u y) s.memory l x h (λ u n. v.stored u);
     }
 
     pub valued_write : (next : Local) (l x : ℕ) → Knows next → IsValueOf p l x →
         Valued (put s.locals t next) (put s.buffers t (s.buffers t ++ record { location = l; value = x } ∷ [])) s.memory
     valued_write next l x k h = record {
-      registers = put_each (λ u x. Knows x) s.locals t next k v.registers;
+      registers = put_each (λ u x. Knows x) s.locals t next k (λ u n. v.registers u);
       waiting = put_each (λ u b. (q : ℕ) (w : Pending) → slice_get b q ≡ Some w → IsValueOf p w.location w.value) s.buffers t (s.buffers t ++ record { location = l; value = x } ∷ [])
           (λ q w a. elim (get_cases (s.buffers t) (record { location = l; value = x }) q w a) [
             | inl o ↦ v.waiting t q w o
             | inr o ↦ subst (λ (z : Pending). IsValueOf p z.location z.value) (sym o.1) h
-          ]) v.waiting;
+          ]) (λ u n. v.waiting u);
       stored = v.stored;
     }
 
@@ -107,8 +101,8 @@ module _ (p : Listing) where
     valued_flush w ws e = record {
       registers = v.registers;
       waiting = put_each (λ u b. (q : ℕ) (w : Pending) → slice_get b q ≡ Some w → IsValueOf p w.location w.value) s.buffers t ws
-          (λ q x a. v.waiting t (suc q) x (rw e a)) v.waiting;
-      stored = put_each (λ u y. IsValueOf p u y) s.memory w.location w.value (v.waiting t 0 w (rw e refl)) v.stored;
+          (λ q x a. v.waiting t (suc q) x (rw e a)) (λ u n. v.waiting u);
+      stored = put_each (λ u y. IsValueOf p u y) s.memory w.location w.value (v.waiting t 0 w (rw e refl)) (λ u n. v.stored u);
     }
 
   pub valued_start : Valued (start_of p.threads) (λ t. []) (slice_index p.memory)

@@ -1,11 +1,11 @@
 -- A store keeps the invariant of a run.
-use Rattle.candidate_executions.proofs.Vocabulary.{◌≡◌, ℕ, suc, ◌<◌, ◌≤◌, List, [], ◌∷◌, ◌++◌, Some, None, slice_get, refl, sym, ap, ◌∙◌, subst, inl, inr, arith, length, length-append, cases_eq, slice_get_within, put, Label, Exec, Pending, Event, Initial, At}
+use Rattle.candidate_executions.proofs.Vocabulary.{◌≡◌, ℕ, suc, ◌<◌, ◌≤◌, List, [], ◌∷◌, ◌++◌, Some, None, slice_get, refl, sym, ap, ◌∙◌, subst, inl, inr, arith, length, length-append, slice_get_within, put, Label, Exec, Pending, Event, Initial, At}
 use Rattle.candidate_executions.proofs.Vocabulary.{Origins, with_made, with_waiting}
 use Rattle.candidate_executions.proofs.FromRuns.Histories.{Entry, History, Holds}
-use Rattle.candidate_executions.proofs.Orders.Lists.{put_same, put_other, get_end, get_front, get_cases}
-use Rattle.candidate_executions.proofs.FromRuns.HistoriesGrow.{with_entry, held_new, held_cases, Fits, good_more}
+use Rattle.candidate_executions.proofs.Orders.Lists.{put_same, get_end, get_front, get_cases, put_each, put_both}
+use Rattle.candidate_executions.proofs.FromRuns.HistoriesGrow.{with_entry, held_new, Fits, good_more, each_held, held_old}
 use Rattle.candidate_executions.proofs.FromRuns.FlushesDue.{due, due_late, due_sorted, due_apart}
-use Rattle.candidate_executions.proofs.FromRuns.RunInvariant.{Stored, Waiting, Inv, one_more_made, latest_old, stored_old, free, tick}
+use Rattle.candidate_executions.proofs.FromRuns.RunInvariant.{Stored, Waiting, Inv, one_more_made, latest_old, stored_old, free, tick, stored_as}
 
 module _ (init : ℕ → ℕ) (h : History) (buffers : ℕ → List Pending) (memory : ℕ → ℕ) (o : Origins) (n : ℕ) (section : ℕ → ℕ) where
   -- a store takes effect when its flush is due
@@ -49,50 +49,25 @@ module _ (init : ℕ → ℕ) (h : History) (buffers : ℕ → List Pending) (me
     inv_write = record {
       good = good_more init h t write_entry inv.good fits_write;
       positive = omega arith;
-      early = λ u i e a. elim (held_cases h t write_entry u i e a) [
-        | inl x ↦ (let z = inv.early u i e x in omega arith)
-        | inr x ↦ rw x.2 (omega arith)
-      ];
+      early = each_held h t write_entry (λ u i e. e.exec < suc n) (λ u i e a. let z = inv.early u i e a in omega arith) (omega arith);
       latest = λ k. latest_old init h t (suc n) write_entry k (memory k) (o.memory k) ((tick init h buffers memory o n section t ls inv).latest k)
           (λ a b c. absurd (let late : suc n ≤ m = due_late t (suc n) ls (length (buffers t)) m at in omega arith));
-      stored = λ u q w a. elim (cases_eq u t) [
-        | inl s ↦ subst (λ z. Stored (with_entry h t write_entry) z (put o.waiting t waits z) (due z (suc n) ls) q w) (sym s)
-            (rw (put_same o.waiting t waits) (at_t q w (rw put_same at (subst (λ z. slice_get (put buffers t (buffers t ++ store ∷ []) z) q ≡ Some w) s a))))
-        | inr s ↦ rw (put_other o.waiting t waits u s)
-            (stored_old h t write_entry u (o.waiting u) (due u (suc n) ls) q w (inv.stored u q w (rw (put_other buffers t (buffers t ++ store ∷ []) u s) at a)))
-      ];
+      stored = put_both (λ u tags buffer. (q : ℕ) (w : Pending) → slice_get buffer q ≡ Some w → Stored (with_entry h t write_entry) u tags (due u (suc n) ls) q w)
+          o.waiting buffers t waits (buffers t ++ store ∷ []) at_t (λ u s q w a. stored_old h t write_entry u (o.waiting u) (due u (suc n) ls) q w (inv.stored u q w a));
       made = one_more_made h t write_entry o.made inv.made;
-      long = λ u. elim (cases_eq u t) [
-        | inl s ↦ subst (λ z. length (put o.waiting t waits z) ≡ length (put buffers t (buffers t ++ store ∷ []) z)) (sym s)
-            (rw (put_same o.waiting t waits, put_same buffers t (buffers t ++ store ∷ []))
-            (let z = inv.long t in omega (arith, length-append (o.waiting t) ((l, At t (o.made t)) ∷ []), length-append (buffers t) (store ∷ []))))
-        | inr s ↦ rw (put_other o.waiting t waits u s, put_other buffers t (buffers t ++ store ∷ []) u s) (inv.long u)
-      ];
-      waiting = λ u i e a b. elim (held_cases h t write_entry u i e a) [
-        | inl x ↦ longer u e (inv.waiting u i e x (omega arith))
-        | inr x ↦ subst (λ z. Waiting (put buffers t (buffers t ++ store ∷ []) z) (due z (suc n) ls) (section z) e) (sym x.0)
-            (subst (λ z. Waiting (put buffers t (buffers t ++ store ∷ []) t) (due t (suc n) ls) (section t) z) (sym x.2) new)
-      ];
+      long = put_both (λ u tags buffer. length tags ≡ length buffer) o.waiting buffers t waits (buffers t ++ store ∷ [])
+          (let z = inv.long t in omega (arith, length-append (o.waiting t) ((l, At t (o.made t)) ∷ []), length-append (buffers t) (store ∷ []))) (λ u s. inv.long u);
+      waiting = each_held h t write_entry (λ u i e. suc n ≤ e.moment → Waiting (put buffers t (buffers t ++ store ∷ []) u) (due u (suc n) ls) (section u) e)
+          (λ u i e a b. longer u e (inv.waiting u i e a (omega arith))) (λ b. new);
     }
       where
         store : Pending
         store = record { location = l; value = v }
 
-        -- a store that waited waits on
-        on : (q : ℕ) (w : Pending) → Stored (with_entry h t write_entry) t (o.waiting t) (due t (suc n) ls) q w → Stored (with_entry h t write_entry) t waits (due t (suc n) ls) q w
-        on q w s = record {
-          index = s.index;
-          entry = s.entry;
-          holds = s.holds;
-          location = s.location;
-          written = s.written;
-          at = s.at;
-          tag = get_front (o.waiting t) (l, At t (o.made t)) q (w.location, At t s.index) s.tag;
-        }
-
         at_t : (q : ℕ) (w : Pending) → slice_get (buffers t ++ store ∷ []) q ≡ Some w → Stored (with_entry h t write_entry) t waits (due t (suc n) ls) q w
         at_t q w a = elim (get_cases (buffers t) store q w a) [
-          | inl x ↦ on q w (stored_old h t write_entry t (o.waiting t) (due t (suc n) ls) q w (inv.stored t q w x))
+          | inl x ↦ (let s : Stored h t (o.waiting t) (due t (suc n) ls) q w = inv.stored t q w x in
+              stored_as s (held_old h t write_entry t s.index s.entry s.holds) s.at (get_front (o.waiting t) (l, At t (o.made t)) q (w.location, At t s.index) s.tag))
           | inr x ↦ (let here : Stored (with_entry h t write_entry) t waits (due t (suc n) ls) (length (buffers t)) store = record {
             index = length (h t);
             entry = write_entry;
@@ -113,11 +88,8 @@ module _ (init : ℕ → ℕ) (h : History) (buffers : ℕ → List Pending) (me
           at = w.at;
           location = w.location;
           section_is = w.section_is;
-          stored = elim (cases_eq u t) [
-            | inl s ↦ subst (λ z. slice_get (put buffers t (buffers t ++ store ∷ []) z) w.place ≡ Some w.store) (sym s)
-                (rw put_same (get_front (buffers t) store w.place w.store (subst (λ z. slice_get (buffers z) w.place ≡ Some w.store) s w.stored)))
-            | inr s ↦ rw (put_other buffers t (buffers t ++ store ∷ []) u s) w.stored
-          ];
+          stored = put_each (λ u buffer. slice_get (buffers u) w.place ≡ Some w.store → slice_get buffer w.place ≡ Some w.store) buffers t (buffers t ++ store ∷ [])
+              (λ a. get_front (buffers t) store w.place w.store a) (λ u s a. a) u w.stored;
         }
 
         new : Waiting (put buffers t (buffers t ++ store ∷ []) t) (due t (suc n) ls) (section t) write_entry

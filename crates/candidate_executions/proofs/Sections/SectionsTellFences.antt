@@ -1,10 +1,11 @@
 -- The sections of a store and of a later access of its thread differ exactly where a fence, a fenced gap or an exchange lies between them.
-use Rattle.std.proofs.Common.{◌≡◌, ◌≢◌, ◌⊎◌, ◌↔◌, ℕ, zero, suc, ◌+◌, ◌<◌, Bool, true, false, cond, List, [], ◌∷◌, Some, None, slice_get, take, refl, sym, ap, ◌∙◌, subst, inl, inr, arith}
+use Rattle.std.proofs.Common.{◌≡◌, ◌≢◌, ◌↔◌, ℕ, zero, suc, ◌+◌, ◌<◌, Bool, true, false, cond, List, [], ◌∷◌, Some, None, slice_get, take, refl, sym, ap, ◌∙◌, subst, inl, inr, arith}
 use Rattle.std.specs.List.{count_by}
 use Rattle.std.proofs.lemmas.List.Sums.{sum_by-cons}
 use Rattle.candidate_executions.proofs.Vocabulary.{same_Some, Local, Action, Go, Wait, Read, Write, Swap, loaded, Access, trace, traced, entered}
 use Rattle.candidate_executions.specs.Paths.{executed, path, is_access, IsFenceOrExchange, IsStepOf, LiesBetween}
 use Rattle.candidate_executions.proofs.Sections.SectionsOfSteps.{left, section_at, parted_or_same, parted_more}
+use Rattle.std.proofs.lemmas.Bool.{cases_Bool}
 
 module _ (does : Local → Action) (gap : ℕ → Bool) where
   -- one step more before the others
@@ -32,17 +33,13 @@ module _ (does : Local → Action) (gap : ℕ → Bool) where
       let d : cond (is_access (does s)) 1 0 + counted (take m states) ≡ 0 = sym (counted_more s (take m states)) ∙ c in
       let e : 1 + counted (take m states) ≡ 0 = rw q at d in omega arith
 
-  is_or_not : (b : Bool) → (b ≡ true) ⊎ (b ≡ false)
-  is_or_not true = inl refl
-  is_or_not false = inr refl
-
   -- a later access has a later step
   later : (states : List Local) (i j m n : ℕ) → IsStepOf does gap states i m → IsStepOf does gap states j n → i < j → m < n
   later [] i j m n a b h = let (z, q, r, c) = a in absurd cc
   later (s ∷ states) i j zero zero a b h = absurd (let x = (at_first s states j b).1 in omega arith)
   later (s ∷ states) i j zero (suc n) a b h = omega arith
   later (s ∷ states) i j (suc m) zero a b h = absurd (let x = (at_first s states j b).1 in omega arith)
-  later (s ∷ states) i j (suc m) (suc n) a b h = elim (is_or_not (is_access (does s))) [
+  later (s ∷ states) i j (suc m) (suc n) a b h = elim (cases_Bool (is_access (does s))) [
     | inl q ↦ go i j q a b h (λ i j a b h. later states i j m n a b h)
     | inr q ↦ (let r = later states i j m n (quiet_back s states i m q a) (quiet_back s states j n q b) h in omega arith)
   ]

@@ -1,5 +1,5 @@
 -- A sketch stays one by each choice, and each completion has made each choice in one of its ways.
-use Rattle.std.proofs.Common.{◌≡◌, ◌⊎◌, ℕ, zero, suc, ◌<◌, List, [], ◌∷◌, ◌++◌, Some, None, Contains, slice_get, length, refl, sym, ap, ◌∙◌, subst, inl, inr, arith, append_assoc, append-nil, length-set}
+use Rattle.std.proofs.Common.{◌≡◌, ◌⊎◌, ℕ, ◌<◌, List, [], ◌∷◌, ◌++◌, Some, None, Contains, slice_get, length, refl, sym, ap, ◌∙◌, subst, inl, inr, arith, append_assoc, append-nil, length-set}
 use Rattle.std.proofs.lemmas.List.{length-map}
 use Rattle.candidate_executions.proofs.Vocabulary.{fun_ext, cases_eq, cases_order, Contains-append_cases, Stop, Listing, action, start_of, code_of, JumpForward, Machine, Access, Event, Initial, At, IsValueOf, Trace, trace, trace_by, fenced_gaps, Candidate}
 use Rattle.candidate_executions.proofs.Vocabulary.{access, access_by, Writes, IsCandidate}
@@ -8,11 +8,14 @@ use Rattle.candidate_executions.specs.Laws.{EmptyIsASketch, AValueKeepsASketch, 
 use Rattle.candidate_executions.proofs.Sketches.GivenValues.{none_given, given_same, given_other, longer, reads_there}
 use Rattle.candidate_executions.proofs.FromRuns.StepsSuffice.{advance}
 use Rattle.candidate_executions.proofs.Sketches.MoreValues.{spare, Takes, trace_more, no_values, at_end, end_or_read, at_read, used_up}
+use Rattle.candidate_executions.proofs.Orders.Lists.{first_or_later, none_here}
 
--- the one element of a list of one
-only : {A : Type 0} (x y : A) → Contains (x ∷ []) y → x ≡ y
-only x y (zero, h, e) = e
-only x y (suc k, h, e) = absurd (omega arith)
+-- what holds of each pair of a list and of one more, holds of each with it
+one_more : {A : Type 0} (P : A → Type 0) (xs : List A) (x : A) → ((y : A) → Contains xs y → P y) → P x → (y : A) → Contains (xs ++ x ∷ []) y → P y
+one_more P xs x old new y h = elim (Contains-append_cases xs (x ∷ []) y h) [
+  | inl i ↦ old y i
+  | inr i ↦ elim (first_or_later x [] y i) [ inl q ↦ subst P q new | inr none ↦ absurd (none_here y none) ]
+]
 
 -- events keep what they read and write when values are added
 pub keeps : (p : Listing) (mode : Machine) (given more : ℕ → List ℕ) → ((t : ℕ) → IsPrefixOf (given t) (more t)) → (e : Event) (x : Access) →
@@ -57,11 +60,7 @@ pub a_source_keeps_a_sketch : ASourceKeepsASketch
 a_source_keeps_a_sketch p mode k e s fits is = record {
   each_thread = fits.each_thread;
   used = fits.used;
-  sources = λ f z h. elim (Contains-append_cases k.sources ((e, s) ∷ []) (f, z) h) [
-    | inl old ↦ fits.sources f z old
-    | inr new ↦ (let q = only (e, s) (f, z) new in
-        subst (λ (y : Event × Event). IsSourceOf p mode (with_source k e s) y.1 y.0) q is)
-  ];
+  sources = λ f z h. one_more (λ (y : Event × Event). IsSourceOf p mode (with_source k e s) y.1 y.0) k.sources (e, s) (λ y. fits.sources y.0 y.1) is (f, z) h;
   pairs = fits.pairs;
 }
 
@@ -70,11 +69,7 @@ a_pair_keeps_a_sketch p mode k d e fits is = record {
   each_thread = fits.each_thread;
   used = fits.used;
   sources = fits.sources;
-  pairs = λ f z h. elim (Contains-append_cases k.pairs ((d, e) ∷ []) (f, z) h) [
-    | inl old ↦ fits.pairs f z old
-    | inr new ↦ (let q = only (d, e) (f, z) new in
-        subst (λ (y : Event × Event). IsPair p mode (with_pair k d e) y.0 y.1) q is)
-  ];
+  pairs = λ f z h. one_more (λ (y : Event × Event). IsPair p mode (with_pair k d e) y.0 y.1) k.pairs (d, e) (λ y. fits.pairs y.0 y.1) is (f, z) h;
 }
 
 module _ (p : Listing) (mode : Machine) (k : Sketch) (c : Candidate) (fits : IsSketch p mode k) (is : IsCandidate p mode c) (completes : Completes k c) where
@@ -82,10 +77,7 @@ module _ (p : Listing) (mode : Machine) (k : Sketch) (c : Candidate) (fits : IsS
   more_sources : (e s : Event) → c.source e ≡ s → Completes (with_source k e s) c
   more_sources e s q = record {
     given = completes.given;
-    sources = λ f z h. elim (Contains-append_cases k.sources ((e, s) ∷ []) (f, z) h) [
-      | inl old ↦ completes.sources f z old
-      | inr new ↦ subst (λ (y : Event × Event). c.source y.0 ≡ y.1) (only (e, s) (f, z) new) q
-    ];
+    sources = λ f z h. one_more (λ (y : Event × Event). c.source y.0 ≡ y.1) k.sources (e, s) (λ y. completes.sources y.0 y.1) q (f, z) h;
     pairs = completes.pairs;
   }
 
@@ -94,10 +86,7 @@ module _ (p : Listing) (mode : Machine) (k : Sketch) (c : Candidate) (fits : IsS
   more_pairs d e q = record {
     given = completes.given;
     sources = completes.sources;
-    pairs = λ f z h. elim (Contains-append_cases k.pairs ((d, e) ∷ []) (f, z) h) [
-      | inl old ↦ completes.pairs f z old
-      | inr new ↦ subst (λ (y : Event × Event). c.rank y.0 < c.rank y.1) (only (d, e) (f, z) new) q
-    ];
+    pairs = λ f z h. one_more (λ (y : Event × Event). c.rank y.0 < c.rank y.1) k.pairs (d, e) (λ y. completes.pairs y.0 y.1) q (f, z) h;
   }
 
   -- one value more

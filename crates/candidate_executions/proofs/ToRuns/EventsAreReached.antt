@@ -1,20 +1,20 @@
 -- A run of the store buffer machine comes to the next event of the order.
-use Rattle.candidate_executions.proofs.Vocabulary.{◌≡◌, ℕ, suc, zero, ◌+◌, ◌-◌, ◌<◌, ◌≤◌, Bool, true, false, List, [], ◌∷◌, ◌++◌, Some, None, IsSome, option_and_then, slice_get, drop, refl, sym, ap, ◌∙◌, subst, inl, inr, arith, cases_lt, cases_eq, same_Some}
+use Rattle.candidate_executions.proofs.Vocabulary.{◌≡◌, ℕ, suc, zero, ◌+◌, ◌-◌, ◌<◌, ◌≤◌, true, List, [], ◌∷◌, ◌++◌, Some, None, IsSome, option_and_then, slice_get, drop, refl, sym, ap, ◌∙◌, subst, inl, inr, arith, cases_lt, cases_eq, same_Some}
 use Rattle.candidate_executions.proofs.Vocabulary.{Listing, loaded, Local, Action, Stop, Go, Wait, Read, Write, Swap, action, Gaps, Machine, put, StoreBufferMachine, State, newest, found, when_empty, flushed, step, run, Label, Exec, Flush, Pending, Access}
 use Rattle.candidate_executions.proofs.Vocabulary.{Event, At, Candidate, IsCandidate, EndsWith, Trace, trace, traced, stopped, with_access, entered, KeepsOrder, Edge, IsAcyclic, Origins, Mark, Takes, Arrives, found_write, with_made, with_waiting, with_memory}
 use Rattle.candidate_executions.proofs.Vocabulary.{buffered_origins, buffered_marks, flushed_origins, flushed_marks, origins_after, marks_at, marks}
 use Rattle.candidate_executions.specs.declared.event.Kind.TheVariants as union
 use Rattle.candidate_executions.specs.Orders.{Steps, made_at, steps, steps_by, counted, execs, flush_of}
-use Rattle.candidate_executions.proofs.Orders.Lists.{put_same, put_other}
+use Rattle.candidate_executions.proofs.Orders.Lists.{put_same, put_other, put_three}
 use Rattle.candidate_executions.proofs.FromRuns.MachineSteps.{exec_ok}
 use Rattle.candidate_executions.proofs.Orders.Dropped.{drop_none, drop_head, get_drop}
-use Rattle.candidate_executions.proofs.Sections.SectionsRise.{from_section}
+use Rattle.candidate_executions.proofs.Sections.SectionsRise.{least, above, from_section}
 use Rattle.candidate_executions.proofs.Candidates.WrittenValues.{stored_as, store_of, some_written}
 use Rattle.candidate_executions.proofs.ToRuns.StepsCounted.{later, tail_counts}
-use Rattle.candidate_executions.proofs.ToRuns.Standing.{at, acc, W, store, Has, steps_from}
+use Rattle.candidate_executions.proofs.ToRuns.Standing.{at, acc, store, Has, steps_from}
 use Rattle.candidate_executions.proofs.FromRuns.MarksAlong.{marks_step, taken, arrived, shown_along, shown_first}
 use Rattle.candidate_executions.proofs.ToRuns.ReadsTheRightValue.{not_kept, clear, no_waits, right_write, right_value}
-use Rattle.candidate_executions.proofs.ToRuns.StandingOn.{mode, final, left, Stand, Share, quiet_stands, write_stands, other_stands, read_stands, shared_next, has_still, has_new, flush_stands}
+use Rattle.candidate_executions.proofs.ToRuns.StandingOn.{mode, final, left, Stand, Share, quiet_stands, write_stands, other_stands, read_stands, shared_next, has_still, has_after, flush_stands}
 
 module _ (p : Listing) (gaps : Gaps) (c : Candidate) (is : IsCandidate p (StoreBufferMachine gaps) c) (loc : IsAcyclic (Edge p (StoreBufferMachine gaps) c union.Location)) where
   -- what a run has to come to
@@ -45,14 +45,6 @@ module _ (p : Listing) (gaps : Gaps) (c : Candidate) (is : IsCandidate p (StoreB
   tail_plays a T t d e =
       let (x, y) = drop_head d (acc p gaps c is loc t) T.accesses a (ap (λ (z : Trace). z.accesses) e) in
       (x, λ i. record { accesses = y i; last = (ap (λ (z : Trace). z.last) e) i; unused = (ap (λ (z : Trace). z.unused) e) i })
-
-  pub least : (b : Bool) (n m : ℕ) → entered b n ≤ m → n ≤ m
-  least true n m h = omega arith
-  least false n m h = h
-
-  pub above : (b : Bool) (n : ℕ) → n ≤ entered b n
-  above true n = omega arith
-  above false n = omega arith
 
   -- the turn of an event, in a run of either machine of which this is kept
   module _ (machine : Machine) (Kept : (ℕ → List Pending) → Type 0) (t i : ℕ) (rest : List Event) (y : Access) (here : at p gaps c is loc (At t i) ≡ Some y) (done : ℕ → ℕ) (n : ℕ)
@@ -85,12 +77,7 @@ module _ (p : Listing) (gaps : Gaps) (c : Candidate) (is : IsCandidate p (StoreB
 
     -- and where it writes
     pub has_written : (l w k : ℕ) → y.location ≡ l → y.written ≡ Some w → Has p gaps c is loc rest k (put s.memory l w k) (put o.memory l (At t i) k)
-    has_written l w k q writes = elim (cases_eq k l) [
-      | inl r ↦ subst (λ z. Has p gaps c is loc rest z (put s.memory l w z) (put o.memory l (At t i) z)) (sym r)
-          (rw (put_same s.memory l w, put_same o.memory l (At t i)) (has_new p gaps c is loc (At t i) rest s.memory o.memory l w shared (y, here, q, writes)))
-      | inr n ↦ rw (put_other s.memory l w k n, put_other o.memory l (At t i) k n) (has_still p gaps c is loc (At t i) rest k (s.memory k) (o.memory k) (shared.has k)
-          (λ v b. n (let z : b.0 ≡ y = same_Some b.0 y (sym b.1 ∙ here) in sym b.2 ∙ (ap (λ (z : Access). z.location) z ∙ q))))
-    ]
+    has_written l w k q writes = has_after p gaps c is loc (At t i) rest s.memory o.memory l w shared (y, here, q, writes) k
 
     -- the event's access is made now, and leaves the rest
     pub meets : (x : Access) (next : Local) (m : ℕ) (given : List ℕ) (memory : ℕ → ℕ) (origins : ℕ → Event) → mine.section ≤ m → mine.done ≡ i →
@@ -113,19 +100,12 @@ module _ (p : Listing) (gaps : Gaps) (c : Candidate) (is : IsCandidate p (StoreB
         (shown_first (at p gaps c is loc) c (At t i) rest y x.read x.written here (sym (ap (λ (z : Access). z.read) same)) (sym (ap (λ (z : Access). z.written) same)))
         (subst (λ z. Goal machine s' o' rest (execs t z ++ labels)) none
         (ih s' o' kept (record {
-          threads = λ u. elim (cases_eq u t) [
-            | inl q ↦ subst (λ z. (k : ℕ) × Stand p gaps c is loc z (put s.locals t next z) (s.buffers z) (o.waiting z) (put o.made t (suc (o.made t)) z) rest k (put done t (done t + (n - done t)) z)) (sym q) (
-              k,
-              rw (put_same s.locals t next, put_same o.made t (suc (o.made t)), put_same done t (done t + (n - done t)))
-                  (subst (λ z. Stand p gaps c is loc t next (s.buffers t) (o.waiting t) (suc (o.made t)) rest k z) count
-                  (read_stands p gaps c is loc t i (s.locals t) (s.buffers t) (o.waiting t) (o.made t) rest (suc k) e mine next k m given above now shared.distinct.0 g d b)),
-            )
-            | inr n' ↦ (let (k, x) = others u n' in (
-              k,
-              rw (put_other s.locals t next u n', put_other o.made t (suc (o.made t)) u n', put_other done t (done t + (n - done t)) u n')
-                  (other_stands p gaps c is loc t i u n' (s.locals u) (s.buffers u) (o.waiting u) (o.made u) rest k (done u) x),
-            ))
-          ];
+          threads = put_three (λ u local count d. (k : ℕ) × Stand p gaps c is loc u local (s.buffers u) (o.waiting u) count rest k d) s.locals o.made done t next (suc (o.made t)) (done t + (n - done t)) (
+            k,
+            subst (λ z. Stand p gaps c is loc t next (s.buffers t) (o.waiting t) (suc (o.made t)) rest k z) count
+                (read_stands p gaps c is loc t i (s.locals t) (s.buffers t) (o.waiting t) (o.made t) rest (suc k) e mine next k m given above now shared.distinct.0 g d b),
+          )
+              (λ u n'. let (k, x) = others u n' in (k, other_stands p gaps c is loc t i u n' (s.locals u) (s.buffers u) (o.waiting u) (o.made u) rest k (done u) x));
           shared = shared_next p gaps c is loc (At t i) rest s.memory memory o.memory origins shared has;
         })))
 
@@ -166,34 +146,17 @@ module _ (p : Listing) (gaps : Gaps) (c : Candidate) (is : IsCandidate p (StoreB
         (ap (flushed s t) f.buffer_is) (ap (flushed_origins o t) f.waits_are) (ap flushed_marks f.waits_are)
         (shown_first (at p gaps c is loc) c (At t i) rest y None (Some (stored_as y.written)) here plain.0 (some_written y.written plain.1))
         (ih (record s { buffers = put s.buffers t f.others; memory = put s.memory w.location w.value }) o' (record {
-          threads = λ u. elim (cases_eq u t) [
-            | inl q ↦ subst (λ z. (k : ℕ) × Stand p gaps c is loc z (s.locals z) (put s.buffers t f.others z) (put o.waiting t f.others_wait z) (o.made z) rest k (put done t after_it z)) (sym q) (
-              k,
-              rw (put_same s.buffers t f.others, put_same o.waiting t f.others_wait, put_same done t after_it)
-                  (subst (λ x. Stand p gaps c is loc t (s.locals t) f.others f.others_wait (o.made t) rest k x) now f.stands),
-            )
-            | inr n ↦ (let (k, x) = others u n in (
-              k,
-              rw (put_other s.buffers t f.others u n, put_other o.waiting t f.others_wait u n, put_other done t after_it u n)
-                  (other_stands p gaps c is loc t i u n (s.locals u) (s.buffers u) (o.waiting u) (o.made u) rest k (done u) x),
-            ))
-          ];
-          shared = shared_next p gaps c is loc (At t i) rest s.memory (put s.memory w.location w.value) o.memory (put o.memory w.location (At t i)) shared (λ l. elim (cases_eq l w.location) [
-            | inl q ↦ subst (λ z. Has p gaps c is loc rest z (put s.memory w.location w.value z) (put o.memory w.location (At t i) z)) (sym q)
-                (rw (put_same s.memory w.location w.value, put_same o.memory w.location (At t i)) (has_new p gaps c is loc (At t i) rest s.memory o.memory w.location w.value shared (written mine lt)))
-            | inr n ↦ rw (put_other s.memory w.location w.value l n, put_other o.memory w.location (At t i) l n) (has_still p gaps c is loc (At t i) rest l (s.memory l) (o.memory l) (shared.has l)
-                (λ v a. n (let x : a.0 ≡ y = same_Some a.0 y (sym a.1 ∙ here) in sym a.2 ∙ (ap (λ (z : Access). z.location) x ∙ ap (λ (z : Pending). z.location) (sym (ap store_of here))))))
-          ]);
+          threads = put_three (λ u buffer waits d. (k : ℕ) × Stand p gaps c is loc u (s.locals u) buffer waits (o.made u) rest k d) s.buffers o.waiting done t f.others f.others_wait after_it
+              (k, subst (λ x. Stand p gaps c is loc t (s.locals t) f.others f.others_wait (o.made t) rest k x) now f.stands)
+              (λ u n. let (k, x) = others u n in (k, other_stands p gaps c is loc t i u n (s.locals u) (s.buffers u) (o.waiting u) (o.made u) rest k (done u) x));
+          shared = shared_next p gaps c is loc (At t i) rest s.memory (put s.memory w.location w.value) o.memory (put o.memory w.location (At t i)) shared
+              (has_after p gaps c is loc (At t i) rest s.memory o.memory w.location w.value shared (
+                y,
+                here,
+                ap (λ (z : Pending). z.location) (sym (ap store_of here)),
+                some_written y.written plain.1 ∙ ap Some (ap (λ (z : Pending). z.value) (sym (ap store_of here))),
+              ));
         })))
-      where
-        written : (mine : Here s o k e) → i < mine.done →
-            W p gaps c is loc (At t i) (store p gaps c is loc t i).location (store p gaps c is loc t i).value
-        written mine lt = (
-          y,
-          here,
-          ap (λ (z : Pending). z.location) (sym (ap store_of here)),
-          some_written y.written (mine.plain i y here lt (inl refl)).1 ∙ ap Some (ap (λ (z : Pending). z.value) (sym (ap store_of here))),
-        )
 
     module _ (k e : ℕ) (s : State) (o : Origins) (others : Others s o) (mine : Here s o (suc k) e) (shared : Shares s o) (ge : mine.done ≤ i)
         (low : done t ≤ e) (high : e ≤ after_it)

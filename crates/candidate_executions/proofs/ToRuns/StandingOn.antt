@@ -1,9 +1,9 @@
 -- How the threads stand after a step of the run.
-use Rattle.candidate_executions.proofs.Vocabulary.{◌≡◌, ℕ, suc, zero, ◌<◌, ◌≤◌, List, [], ◌∷◌, ◌++◌, Some, None, IsSome, slice_get, map, drop, refl, sym, ap, ap₂, ◌∙◌, subst, inl, inr, arith, length, cases_lt, cases_eq, same_Some, slice_get_within, Listing}
+use Rattle.candidate_executions.proofs.Vocabulary.{◌≡◌, ℕ, suc, zero, ◌<◌, ◌≤◌, List, [], ◌∷◌, ◌++◌, Some, None, IsSome, slice_get, map, drop, refl, sym, ap, ap₂, ◌∙◌, subst, inl, inr, arith, length, cases_lt, cases_eq, same_Some, slice_get_within, Listing, put}
 use Rattle.candidate_executions.proofs.Vocabulary.{Local, action, Gaps, Machine, StoreBufferMachine, Pending, Access, Event, At, Candidate, trace_of, IsCandidate, Trace, trace, steps, steps_by, Edge, IsAcyclic}
 use Rattle.std.proofs.lemmas.List.{map_push}
 use Rattle.candidate_executions.specs.declared.event.Kind.TheVariants as union
-use Rattle.candidate_executions.proofs.Orders.Lists.{get_end, get_front, get_cases}
+use Rattle.candidate_executions.proofs.Orders.Lists.{get_end, get_front, get_cases, put_both}
 use Rattle.candidate_executions.proofs.Orders.AcyclicIsOrdered.{In}
 use Rattle.candidate_executions.proofs.Candidates.EdgesAreDecidable.{same_event}
 use Rattle.candidate_executions.proofs.Candidates.WrittenValues.{store_of}
@@ -111,6 +111,14 @@ module _ (p : Listing) (gaps : Gaps) (c : Candidate) (is : IsCandidate p (StoreB
       same : (j : ℕ) (y : Access) → j ≡ mine.done → slice_get (acc p gaps c is loc t) j ≡ Some y → y ≡ new
       same j y q b = same_Some y new (sym b ∙ (ap (slice_get (acc p gaps c is loc t)) q ∙ a))
 
+  -- an event is still to come where it is not the one that leaves
+  stays : (e d : Event) (rest : List Event) → (e ≡ d → ⊥) → In e (d ∷ rest) → In e rest
+  stays e d rest n (inl q) = absurd (n q)
+  stays e d rest n (inr h) = h
+
+  not_i : (t i j : ℕ) (rest : List Event) → (j ≡ i → ⊥) → In (At t j) (At t i ∷ rest) → In (At t j) rest
+  not_i t i j rest f = stays (At t j) (At t i) rest (λ q. f cc)
+
   pub other_stands : (t i u : ℕ) → (u ≡ t → ⊥) → (local : Local) (buffer : List Pending) (waits : List (ℕ × Event)) (count : ℕ) (rest : List Event) (k e : ℕ) →
       Stand u local buffer waits count (At t i ∷ rest) k e → Stand u local buffer waits count rest k e
   other_stands t i u n local buffer waits count rest k e s = record {
@@ -121,20 +129,16 @@ module _ (p : Listing) (gaps : Gaps) (c : Candidate) (is : IsCandidate p (StoreB
     plays = s.plays;
     counts = s.counts;
     past = s.past;
-    behind = λ j y a b. mine j (s.behind j y a b);
+    behind = λ j y a b. stays (At u j) (At t i) rest (λ q. n cc) (s.behind j y a b);
     plain = λ j y a b w. s.plain j y a b (inr w);
     buffer_is = s.buffer_is;
     waits_are = s.waits_are;
     count_is = s.count_is;
-    queued = λ q j a. let z = s.queued q j a in (z.0, mine j z.1);
+    queued = λ q j a. let z = s.queued q j a in (z.0, stays (At u j) (At t i) rest (λ q. n cc) z.1);
     in_queue = λ j b w. s.in_queue j b (inr w);
     rising = s.rising;
     early = λ j y a b w. s.early j y a b (inr w);
   }
-    where
-      mine : (j : ℕ) → In (At u j) (At t i ∷ rest) → In (At u j) rest
-      mine j (inl q) = absurd (n cc)
-      mine j (inr h) = h
 
   -- a read or an exchange leaves the rest
   pub read_stands : (t i : ℕ) (local : Local) (buffer : List Pending) (waits : List (ℕ × Event)) (count : ℕ) (rest : List Event) (fuel x : ℕ) (mine : Stand t local buffer waits count (At t i ∷ rest) fuel x)
@@ -149,21 +153,17 @@ module _ (p : Listing) (gaps : Gaps) (c : Candidate) (is : IsCandidate p (StoreB
     plays = e;
     counts = f;
     past = λ j m. made_past t s.done x j m made s.past;
-    behind = λ j y a b. not_i j (λ q. omega arith) (s.behind j y a (omega arith));
+    behind = λ j y a b. not_i t i j rest (λ q. omega arith) (s.behind j y a (omega arith));
     plain = λ j y a b w. s.plain j y a (below j b w) (inr w);
     buffer_is = s.buffer_is;
     waits_are = s.waits_are;
     count_is = ap suc s.count_is;
-    queued = λ q j a. let z = s.queued q j a in (omega arith, not_i j (λ q. omega arith) z.1);
+    queued = λ q j a. let z = s.queued q j a in (omega arith, not_i t i j rest (λ q. omega arith) z.1);
     in_queue = λ j b w. s.in_queue j (below j b w) (inr w);
     rising = s.rising;
     early = λ j y a b w. let z = s.early j y a (below j b w) (inr w) in omega arith;
   }
     where
-      not_i : (j : ℕ) → (j ≡ i → ⊥) → In (At t j) (At t i ∷ rest) → In (At t j) rest
-      not_i j f (inl q) = absurd (f cc)
-      not_i j f (inr w) = w
-
       below : (j : ℕ) → j < suc s.done → In (At t j) rest → j < s.done
       below j b w = elim (cases_eq j i) [ inl q ↦ absurd (n (subst (λ z. In (At t z) rest) q w)) | inr q ↦ omega arith ]
 
@@ -195,7 +195,7 @@ module _ (p : Listing) (gaps : Gaps) (c : Candidate) (is : IsCandidate p (StoreB
     ];
   }
 
-  pub has_new : (e : Event) (rest : List Event) (memory : ℕ → ℕ) (origins : ℕ → Event) (l v : ℕ) → Share memory origins (e ∷ rest) → W p gaps c is loc e l v → Has p gaps c is loc rest l v e
+  has_new : (e : Event) (rest : List Event) (memory : ℕ → ℕ) (origins : ℕ → Event) (l v : ℕ) → Share memory origins (e ∷ rest) → W p gaps c is loc e l v → Has p gaps c is loc rest l v e
   has_new e rest memory origins l v s a = record {
     event = e;
     origin_is = refl;
@@ -209,6 +209,13 @@ module _ (p : Listing) (gaps : Gaps) (c : Candidate) (is : IsCandidate p (StoreB
       ]
     ];
   }
+
+  -- memory after the event's write
+  pub has_after : (e : Event) (rest : List Event) (memory : ℕ → ℕ) (origins : ℕ → Event) (l v : ℕ) → Share memory origins (e ∷ rest) → W p gaps c is loc e l v →
+      (k : ℕ) → Has p gaps c is loc rest k (put memory l v k) (put origins l e k)
+  has_after e rest memory origins l v s a = put_both (Has p gaps c is loc rest) memory origins l v e (has_new e rest memory origins l v s a)
+      (λ k n. has_still e rest k (memory k) (origins k) (s.has k)
+      (λ w b. n (let same : b.0 ≡ a.0 = same_Some b.0 a.0 (sym b.1 ∙ a.1) in sym b.2 ∙ ap (λ (z : Access). z.location) same ∙ a.2)))
 
   -- an executed store is the oldest in its buffer when its turn comes
   pub record Flushed (t i : ℕ) (local : Local) (buffer : List Pending) (waits : List (ℕ × Event)) (count : ℕ) (rest : List Event) (fuel n : ℕ) : Type 0 where
@@ -225,10 +232,6 @@ module _ (p : Listing) (gaps : Gaps) (c : Candidate) (is : IsCandidate p (StoreB
       writes : IsSome y.written
       writes = (mine.plain i y here lt (inl refl)).1
 
-      not_i : (j : ℕ) → (j ≡ i → ⊥) → In (At t j) (At t i ∷ rest) → In (At t j) rest
-      not_i j f (inl q) = absurd (f cc)
-      not_i j f (inr w) = w
-
       go : (q : List ℕ) → mine.queue ≡ q → Flushed t i local buffer waits count rest fuel n
       go [] e = absurd (let (q, a) = mine.in_queue i lt (inl refl) in let b : slice_get [] q ≡ Some i = rw e at a in cc)
       go (j ∷ js) e = record {
@@ -244,13 +247,13 @@ module _ (p : Listing) (gaps : Gaps) (c : Candidate) (is : IsCandidate p (StoreB
           plays = mine.plays;
           counts = mine.counts;
           past = mine.past;
-          behind = λ k x a b. not_i k (λ q. omega arith) (mine.behind k x a b);
+          behind = λ k x a b. not_i t i k rest (λ q. omega arith) (mine.behind k x a b);
           plain = λ k x a b w. mine.plain k x a b (inr w);
           buffer_is = refl;
           waits_are = refl;
           count_is = mine.count_is;
           queued = λ q k a. let a' : slice_get mine.queue (suc q) ≡ Some k = rw e a in let z = mine.queued (suc q) k a' in
-              (z.0, not_i k (λ r. let h : i < k = mine.rising 0 (suc q) i k (omega arith) (rw e (ap Some first)) a' in omega arith) z.1);
+              (z.0, not_i t i k rest (λ r. let h : i < k = mine.rising 0 (suc q) i k (omega arith) (rw e (ap Some first)) a' in omega arith) z.1);
           in_queue = λ k b w. let (q, a) = mine.in_queue k b (inr w) in at_place k w q (rw e at a);
           rising = λ q r k m n a b. mine.rising (suc q) (suc r) k m (omega arith) (rw e a) (rw e b);
           early = λ k x a b w. mine.early k x a b (inr w);
