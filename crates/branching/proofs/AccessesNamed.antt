@@ -1,6 +1,5 @@
-use Rattle.branching.proofs.Vocabulary.{Event, Initial, At, IsAccess, given_to, ProgramSketch, mode_in, AccessId}
 -- Events of threads, and the accesses that name them.
-use Rattle.branching.specs.Accesses.{IsOfThread}
+use Rattle.branching.proofs.Vocabulary.{Event, Initial, At, IsAccess, given_to, ProgramSketch, mode_in, AccessId, IsOfThread}
 
 -- an access is no initial write
 pub of_thread : (s : ProgramSketch) (e : Event) → IsAccess s.program (mode_in s) (given_to s.chosen) e → IsOfThread e

@@ -1,19 +1,13 @@
 -- What it says of a sketch that nothing is left to be chosen.
-use Rattle.std.proofs.Common.{◌≡◌, ◌↔◌, ℕ, Bool, true, false, not, IsTrue, zero, suc, ◌<◌, ◌≤◌, List, [], ◌∷◌, Option, None, Some, All, get_or, length, sym, ap, ◌∙◌, subst, inl, inr, arith}
+use Rattle.branching.proofs.Vocabulary.{◌≡◌, ◌↔◌, ℕ, Bool, true, false, not, IsTrue, zero, suc, ◌<◌, ◌≤◌, List, [], ◌∷◌, Option, None, Some, All, get_or, length, sym, ap, ◌∙◌, subst, inl, inr, arith}
 use Rattle.branching.proofs.Vocabulary.{IfSome, cases_lt, Event, Initial, At, IsAccess, Writes, ProgramSketch, mode_in, trace_in, access_in, with_chosen, Choice, sketch_with, MayChoose, MayChooseEach}
-use Rattle.branching.proofs.Vocabulary.{AccessId, event_of, ReadValue, WrittenValue, WholeAccesses}
+use Rattle.branching.proofs.Vocabulary.{AccessId, event_of, ReadValue, WrittenValue, WholeAccesses, given_to, IsPair, IsWhole, IsOrdered, MayFollow, other_way, turned, same_default, IsComplete}
+use Rattle.branching.proofs.Vocabulary.{HasItsSource, IsOrderedWith, read_there, first_there, second_there, IsReadValue, IsWrittenValue, NamesWrite, AreAccessesOf, HasEachSource, AreWritesInOrder}
+use Rattle.branching.proofs.Vocabulary.{IsEachInOrder}
 use Rattle.tso_program.specs.declared.listing.Thread.{Thread}
 use Rattle.cover_judge.specs.Sketches as sketches
-use Rattle.cover_judge.specs.Sketches.{given_to, IsPair, IsWhole}
-use Rattle.sketches.specs.Choices.{IsOrdered, MayFollow}
 use Rattle.cover_judge.specs.declared.choice.Choice.TheVariants as choice
-use Rattle.cover_judge.proofs.ChoicesJudged.{other_way, turned}
 use Rattle.sketches.proofs.TracesKept.{no_action}
-use Rattle.sketches.proofs.Lookups.{same_default}
-use Rattle.sketches.specs.Complete.{IsComplete, HasItsSource, IsOrderedWith}
-use Rattle.sketches.proofs.Completeness.{read_there, first_there, second_there}
-use Rattle.branching.specs.Accesses.{IsReadValue, IsWrittenValue, NamesWrite, AreAccessesOf}
-use Rattle.branching.specs.ChoicesLeft.{HasEachSource, AreWritesInOrder, IsEachInOrder}
 use Rattle.branching.proofs.AccessesNamed.{id_of}
 
 -- two writes of a list are in order, whatever stands for those past its end

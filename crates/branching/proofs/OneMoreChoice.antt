@@ -1,11 +1,7 @@
 -- Each choice is one more.
-use Rattle.std.proofs.Common.{◌≡◌, ℕ, ◌+◌, ◌<◌, [], ◌∷◌, ◌++◌, length, ap, arith}
-use Rattle.std.proofs.lemmas.List.{length-append}
+use Rattle.branching.proofs.Vocabulary.{◌≡◌, ℕ, ◌+◌, ◌<◌, [], ◌∷◌, ◌++◌, length, ap, arith, length-append, unwrap_or-slice_get, given_to, with_value, with_source, with_pair, ProgramSketch}
+use Rattle.branching.proofs.Vocabulary.{with_chosen, choice_count}
 use Rattle.std.proofs.lemmas.List.Sums.{sum_by-set}
-use Rattle.std.proofs.lemmas.Option.{unwrap_or-slice_get}
-use Rattle.cover_judge.specs.Sketches.{given_to, with_value, with_source, with_pair}
-use Rattle.sketches.specs.ProgramSketches.{ProgramSketch, with_chosen}
-use Rattle.sketches.specs.Sizes.{choice_count}
 
 pub value_counted : (s : ProgramSketch) (t v : ℕ) → t < length s.chosen.given → choice_count (with_chosen s (with_value s.chosen t v)) ≡ choice_count s + 1
 value_counted s t v h =

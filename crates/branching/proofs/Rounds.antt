@@ -1,9 +1,7 @@
 -- How many steps a search has left: a choice is one more of those that a sketch can have.
-use Rattle.std.proofs.Common.{◌≡◌, ℕ, ◌+◌, ◌-◌, ◌*◌, ◌<◌, ◌≤◌, ap, ◌∙◌, arith}
-use Rattle.branching.proofs.Vocabulary.{ProgramSketch, mode_in, with_chosen, event_of, Choice, sketch_with, MayChoose}
+use Rattle.branching.proofs.Vocabulary.{◌≡◌, ℕ, ◌+◌, ◌-◌, ◌*◌, ◌<◌, ◌≤◌, ap, ◌∙◌, arith, ProgramSketch, mode_in, with_chosen, event_of, Choice, sketch_with, MayChoose, choice_count, most_choices}
 use Rattle.cover_judge.proofs.GivenValues.{reads_there}
 use Rattle.sketches.specs.Kept.{IsLawful}
-use Rattle.sketches.specs.Sizes.{choice_count, most_choices}
 use Rattle.branching.proofs.OneMoreChoice.{value_counted, source_counted, pair_counted}
 use Rattle.cover_judge.specs.declared.choice.Choice.TheVariants as choice
 

@@ -1,9 +1,8 @@
 -- What a sketch reads and writes, taken in access by access.
-use Rattle.std.proofs.Common.{◌≡◌, ◌⊎◌, ℕ, List, [], ◌∷◌, ◌++◌, None, Some, IsSome, All, refl, sym, ap, ◌∙◌, subst, ◌<◌, length, inl, inr, arith}
+use Rattle.branching.proofs.Vocabulary.{◌≡◌, ◌⊎◌, ℕ, List, [], ◌∷◌, ◌++◌, None, Some, IsSome, All, refl, sym, ap, ◌∙◌, subst, ◌<◌, length, inl, inr, arith, same_Some, cases_lt, ProgramSketch}
+use Rattle.branching.proofs.Vocabulary.{access_in, trace_in, IsRead, AccessId, event_of, ReadValue, WrittenValue, WholeAccesses, IsReadValue, NamesRead, IsWrittenValue, IsWrite, NamesWrite, IsItself}
+use Rattle.branching.proofs.Vocabulary.{TakesIn}
 use Rattle.std.proofs.lemmas.List.Elements.{All-push, Contains-append_left, Contains-push}
-use Rattle.std.proofs.lemmas.Option.{same_Some}
-use Rattle.branching.proofs.Vocabulary.{cases_lt, ProgramSketch, access_in, trace_in, IsRead, AccessId, event_of, ReadValue, WrittenValue, WholeAccesses, IsReadValue, NamesRead, IsWrittenValue}
-use Rattle.branching.proofs.Vocabulary.{IsWrite, NamesWrite, IsItself, TakesIn}
 use Rattle.cover_judge.specs.Access.{Access}
 use Rattle.sketches.proofs.Accesses.{none_past}
 

@@ -1,9 +1,8 @@
 -- Tallies, thread by thread.
-use Rattle.std.proofs.Common.{◌≡◌, ◌⊎◌, ℕ, ◌%◌, List, [], Contains, sym, subst, inl, inr}
-use Rattle.branching.proofs.Vocabulary.{ROW_BITS, At, Writes, ProgramSketch, access_in, ReadValue}
+use Rattle.branching.proofs.Vocabulary.{◌≡◌, ◌⊎◌, ℕ, ◌%◌, List, [], Contains, sym, subst, inl, inr, ROW_BITS, At, Writes, ProgramSketch, access_in, ReadValue, IsTallyOf, IsTalliedRead, TakesThread}
+use Rattle.branching.proofs.Vocabulary.{IsOldOrOf}
 use Rattle.sketches.proofs.Lawful.{none_in}
 use Rattle.branching.specs.declared.tally.Tally.{Tally}
-use Rattle.branching.specs.Tallies.{IsTallyOf, IsTalliedRead, TakesThread, IsOldOrOf}
 
 -- of no thread
 pub tally_none : (s : ProgramSketch) (T : ℕ → Type 0) (tally : Tally) → tally.reads.items ≡ [] → ((t : ℕ) → T t → ⊥) → IsTallyOf s T tally

@@ -1,9 +1,7 @@
 -- Trees of a thread's traces, child by child.
-use Rattle.std.proofs.Common.{◌≡◌, ℕ, zero, suc, ◌+◌, ◌<◌, List, [], ◌∷◌, ◌++◌, get_or, length, map, take, refl, sym, ap, ◌∙◌, subst, arith}
-use Rattle.std.proofs.lemmas.List.{length-map, map-append, take_more}
-use Rattle.branching.proofs.Vocabulary.{ProgramSketch, with_chosen, Choice, sketch_with}
+use Rattle.branching.proofs.Vocabulary.{◌≡◌, ℕ, zero, suc, ◌+◌, ◌<◌, List, [], ◌∷◌, ◌++◌, get_or, length, map, take, refl, sym, ap, ◌∙◌, subst, arith, length-map, map-append, take_more, ProgramSketch}
+use Rattle.branching.proofs.Vocabulary.{with_chosen, Choice, sketch_with, Traces, traces, trace_trees, root, IsTraceTree, AreTraceTrees}
 use Rattle.branching.specs.declared.traces.TraceTree.{TraceTree}
-use Rattle.branching.specs.Traces.{Traces, traces, trace_trees, root, IsTraceTree, AreTraceTrees}
 
 module _ (t : ℕ) (s : ProgramSketch) where
   -- as many trees as choices

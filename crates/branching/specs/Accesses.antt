@@ -1,8 +1,7 @@
 -- Accesses, as trees name them.
 use Rattle.std.specs.Prelude.{◌≡◌, ℕ, List, Some, IfSome, All, Contains}
 use Rattle.cover_judge.specs.Access.{Access}
-use Rattle.cover_judge.specs.Event.{Event}
-use Rattle.cover_judge.specs.Event.TheVariants.{Initial, Access as At}
+use Rattle.cover_judge.specs.Event.{Event, TheVariants.Initial, TheVariants.Access as At}
 use Rattle.cover_judge.specs.Candidates.{Writes}
 use Rattle.cover_judge.specs.Sketches.{IsWhole}
 use Rattle.sketches.specs.ProgramSketches.{ProgramSketch, mode_in, access_in}

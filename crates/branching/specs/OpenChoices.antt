@@ -9,8 +9,7 @@ use Rattle.cover_judge.specs.declared.choice.Choice.{Choice}
 use Rattle.cover_judge.specs.declared.choice.Choice.TheVariants as choice
 use Rattle.cover_judge.specs.Choices.{IsValueOpen, IsSourceOpen, AreValueChoices, AreSourceChoices, MayChooseEach}
 use Rattle.branching.specs.declared.branch.Branch.{Branch}
-use Rattle.branching.specs.declared.open_choice.OpenChoice.{OpenChoice}
-use Rattle.branching.specs.declared.open_choice.OpenChoice.TheVariants.{Value, Source, Order}
+use Rattle.branching.specs.declared.open_choice.OpenChoice.{OpenChoice, TheVariants.Value, TheVariants.Source, TheVariants.Order}
 
 -- the event is a read that has no source
 pub record NeedsSource (s : ProgramSketch) (e : Event) : Type 0 where

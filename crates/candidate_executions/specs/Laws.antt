@@ -9,8 +9,7 @@ use Rattle.tso_program.specs.Fences.{Gaps}
 use Rattle.tso_machine.specs.declared.label.Label.{Label}
 use Rattle.tso_machine.specs.Machine.{Machine, StoreBufferMachine, IsRun}
 use Rattle.candidate_executions.specs.declared.access.Access.{Access}
-use Rattle.candidate_executions.specs.declared.event.Event.{Event}
-use Rattle.candidate_executions.specs.declared.event.Event.TheVariants.{Initial, Access as At}
+use Rattle.candidate_executions.specs.declared.event.Event.{Event, TheVariants.Initial, TheVariants.Access as At}
 use Rattle.candidate_executions.specs.declared.event.Kind.{Kind}
 use Rattle.candidate_executions.specs.Candidates.{Candidate, access, access_by, IsCandidate, HasOutcome, HasShownOutcome}
 use Rattle.candidate_executions.specs.Consistency.{KeepsOrder, Edge, IsCycle, IsConsistent}

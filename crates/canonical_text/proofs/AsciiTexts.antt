@@ -1,15 +1,8 @@
 -- Printed texts are ASCII, so they are UTF-8.
-use Rattle.canonical_text.proofs.Vocabulary.{◌≡◌, ℕ, ◌<◌, ◌^◌, Bool, true, List, [], ◌∷◌, ◌++◌, refl, codes, nat_lt, arith, and_parts, list_all, IsAscii-append, Mark, Tok, Word, Number, Sign, NoToken, heading}
-use Rattle.std.specs.Str.{IsAscii}
+use Rattle.canonical_text.proofs.Vocabulary.{◌≡◌, ℕ, ◌<◌, ◌^◌, Bool, true, List, [], ◌∷◌, ◌++◌, refl, codes, nat_lt, arith, and_parts, list_all, IsAscii-append, Mark, Tok, Word, Number, Sign, NoToken}
+use Rattle.canonical_text.proofs.Vocabulary.{heading, IsAscii, IsAscii-decimal, ltb-true, nat_tests, is_word_byte, Piece, Space, Part, token_text, text_of, CanStand, AreApartBefore, is_visible}
 use Rattle.std.proofs.lemmas.Str.Ascii.{IsAscii-nil, IsAscii-cons}
-use Rattle.std.proofs.lemmas.Fmt.{IsAscii-decimal}
-use Rattle.std.proofs.lemmas.Bool.{ltb-true}
-use Rattle.std.proofs.lemmas.Bool.Decides.{nat_tests}
-use Rattle.litmus_reader.specs.Mark.TheVariants.{And}
-use Rattle.litmus_reader.specs.Bytes.{is_word_byte}
-use Rattle.litmus_reader.specs.Marks.{mark_text}
-use Rattle.litmus_reader.specs.Pieces.{Piece, Space, Part, token_text, text_of, CanStand, AreApartBefore}
-use Rattle.litmus_reader.specs.FirstLine.{is_visible}
+use Rattle.litmus_reader.specs.{Mark.TheVariants.And, Marks.mark_text}
 
 -- bytes that pass a test that only ASCII passes
 ascii_by : (test : ℕ → Bool) → ((b : ℕ) → test b ≡ true → b < 128) → (bs : List ℕ) → list_all test bs ≡ true → IsAscii bs

@@ -1,34 +1,27 @@
 -- The canonical text of a program, fenced at any gaps, stands for that program.
-use Rattle.canonical_text.proofs.Vocabulary.{◌≡◌, ℕ, ◌+◌, ◌*◌, ◌<◌, ◌≤◌, suc, Bool, true, List, [], ◌∷◌, ◌++◌, length, map, get_or, Option, refl, sym, ap, ◌∙◌, subst, inl, inr, arith, AllByRecursion, IsDistinct, list_all, list_any, flat_map, filter_map}
-use Rattle.canonical_text.proofs.Vocabulary.{cons_option, range_with_len, option_map_or, bytes_eq, cases_Bool, cases_lt, slice_get-get_or, slice_get_past, fill_by_all, length-map-range_with_len, bytes_eq-Decides, Tok, Reg, Thread, Listing, code_of, Tree}
-use Rattle.canonical_text.proofs.Vocabulary.{tree_map, Spells, Sum, enclosed_signs_of, PlaceView, Location, Register, EntryView, CellView, BodyView, SignView, EndingView, NoneTwice, all_names, same_place, AreVisible, TextNames, all_registers, number_in}
-use Rattle.canonical_text.proofs.Vocabulary.{entry_place, row_places, sign_places, places, location_name, is_register, names_of, names_among, is_named, Label, column, labels_behind, thread_labels, all_labels, position_in, are_found, JumpsAreFound, entries_of}
-use Rattle.canonical_text.proofs.Vocabulary.{own_labels, moved_labels, body_of, place_named, signs_named, ending_of, litmus_fenced_at, canonical_text, IsTextNumber, IsPrintablePlace, IsPrintableEntry, IsPrintableRow, IsPrintable}
-use Rattle.canonical_text.proofs.Vocabulary.{IsPrintableSign, ArePrintable, IsPrintableEnding}
+use Rattle.canonical_text.proofs.Vocabulary.{◌≡◌, ℕ, ◌+◌, ◌*◌, ◌<◌, ◌≤◌, suc, Bool, true, List, [], ◌∷◌, ◌++◌, length, map, get_or, Option, refl, sym, ap, ◌∙◌, subst, inl, inr, arith, AllByRecursion}
+use Rattle.canonical_text.proofs.Vocabulary.{IsDistinct, list_all, list_any, flat_map, filter_map, cons_option, range_with_len, option_map_or, bytes_eq, cases_Bool, cases_lt, slice_get-get_or}
+use Rattle.canonical_text.proofs.Vocabulary.{slice_get_past, fill_by_all, length-map-range_with_len, bytes_eq-Decides, Tok, Reg, Thread, Listing, code_of, Tree, tree_map, Spells, Sum}
+use Rattle.canonical_text.proofs.Vocabulary.{enclosed_signs_of, PlaceView, Location, Register, EntryView, CellView, BodyView, SignView, EndingView, NoneTwice, all_names, same_place, AreVisible}
+use Rattle.canonical_text.proofs.Vocabulary.{TextNames, all_registers, number_in, entry_place, row_places, sign_places, places, location_name, is_register, names_of, names_among, is_named, Label}
+use Rattle.canonical_text.proofs.Vocabulary.{column, labels_behind, thread_labels, all_labels, position_in, are_found, JumpsAreFound, entries_of, own_labels, moved_labels, body_of, place_named}
+use Rattle.canonical_text.proofs.Vocabulary.{signs_named, ending_of, litmus_fenced_at, canonical_text, IsTextNumber, IsPrintablePlace, IsPrintableEntry, IsPrintableRow, IsPrintable, IsPrintableSign}
+use Rattle.canonical_text.proofs.Vocabulary.{ArePrintable, IsPrintableEnding, Gaps, gaps_in, fence, fenced_threads, same_count, fencing_stays_within_limits, first_value, memory_of, registers_of}
+use Rattle.canonical_text.proofs.Vocabulary.{thread_read, listing_of, observed_of, numbered_atom, condition_of, AreParts, Means, StandsFor, IsFencedLitmus, in_order_once, HasParts}
+use Rattle.canonical_text.proofs.Vocabulary.{CanonicalTextIsRead, MAX_THREADS}
 use Rattle.gap_sets.specs.Gaps.{SetOfGaps}
 use Rattle.tso_program.specs.Limits.{IsWithinLimits}
-use Rattle.tso_program.specs.Fences.{Gaps, gaps_in, fence, fenced_threads}
-use Rattle.tso_program.proofs.FencedPlaces.{same_count}
-use Rattle.tso_program.proofs.FencedLimits.{fencing_stays_within_limits}
 use Rattle.litmus_reader.specs.declared.litmus.Litmus.{Litmus}
-use Rattle.litmus_reader.specs.Meaning.{first_value, memory_of, registers_of, thread_read, listing_of, observed_of, numbered_atom, condition_of}
 use Rattle.litmus_reader.specs.Meaning as meaning
-use Rattle.litmus_reader.specs.Texts.{AreParts, Means, StandsFor, IsFencedLitmus}
-use Rattle.litmus_reader.proofs.NamesOnce.{in_order_once}
-use Rattle.canonical_text.specs.Laws.{HasParts, CanonicalTextIsRead}
-use Rattle.canonical_text.proofs.PrintedIsRead.{printed_is_read}
-use Rattle.canonical_text.proofs.Lists.{both_of_all, all_of_both, all_more_so, map_same, each_among}
+use Rattle.canonical_text.proofs.{PrintedIsRead.printed_is_read, Lists.both_of_all, Lists.all_of_both, Lists.all_more_so, Lists.map_same, Lists.each_among}
 use Rattle.canonical_text.proofs.NamedPlaces.{Named, named_places, threads_places, entry_at, RegistersAre, entries_are, Rising, rising_wider, rising_threads, places_once, placed_entries, printable_places, held_among, held_nowhere, register_among, location_among}
 use Rattle.canonical_text.proofs.ToldCode.{IsKnown, AreTold, name_back, rows_printable, rows_known, rows_found, code_again}
-use Rattle.canonical_text.proofs.LabelsNamed.{label_name, AreGoodLabels, Ascending}
-use Rattle.canonical_text.proofs.LabelsOnce.{rows_once}
-use Rattle.canonical_text.proofs.LabelsAgain.{labels_again}
+use Rattle.canonical_text.proofs.{LabelsNamed.label_name, LabelsNamed.AreGoodLabels, LabelsNamed.Ascending, LabelsOnce.rows_once, LabelsAgain.labels_again}
 use Rattle.canonical_text.proofs.ThreadsAgain.{fences_told, good, names_once, ascending, registers_at, fenced_registers, text_registers}
 use Rattle.canonical_text.proofs.NamedByText.{places_printable, names_good, named_is, places_known, unnamed_zero, found_small}
 use Rattle.canonical_text.proofs.NamesAgain.{locations_again, registers_again}
 use Rattle.canonical_text.proofs.SaidSigns.{Said, view_of, IsSaid, IsSayable, text_said, sayable, enclosed_said, signs_are, spelled_again, signs_printable, signs_known, enclosed_apart}
 use Rattle.canonical_text.proofs.GoodTokens.{AreGood, lexed_good, after_body, after_ending}
-use Rattle.tso_program.specs.declared.limits.TheConstants.{MAX_THREADS}
 
 -- a text's parts, which can be printed
 record IsGoodText (b : BodyView) (e : EndingView) (f : Tree Said) : Type 0 where

@@ -1,14 +1,13 @@
 -- The labels of the canonical rows are the labels.
-use Rattle.canonical_text.proofs.Vocabulary.{◌≡◌, ℕ, ◌+◌, ◌<◌, ◌≤◌, zero, suc, Bool, true, false, List, [], ◌∷◌, ◌++◌, length, map, Option, refl, sym, ap, ◌∙◌, subst, inl, inr, arith, slice_get, nat_lt, option_map, if◌then◌else◌}
-use Rattle.canonical_text.proofs.Vocabulary.{AllByRecursion, flat_map, cons_option, range_with_len, option_map_or, cases_lt, slice_get-get_or, Instr, Thread, code_of, place_of, rises, CodeView, CellView, Label, column, size, labels_behind, thread_labels}
-use Rattle.canonical_text.proofs.Vocabulary.{label_names_at, own_labels, moved_label, code_named, cell_of, row_of, most_cells, rows_of, IsLabelName, IsPrintableCell, IsPrintableRow}
+use Rattle.canonical_text.proofs.Vocabulary.{◌≡◌, ℕ, ◌+◌, ◌<◌, ◌≤◌, zero, suc, Bool, true, false, List, [], ◌∷◌, ◌++◌, length, map, Option, refl, sym, ap, ◌∙◌, subst, inl, inr, arith, slice_get}
+use Rattle.canonical_text.proofs.Vocabulary.{nat_lt, option_map, if◌then◌else◌, AllByRecursion, flat_map, cons_option, range_with_len, option_map_or, cases_lt, slice_get-get_or, Instr, Thread}
+use Rattle.canonical_text.proofs.Vocabulary.{code_of, place_of, rises, CodeView, CellView, Label, column, size, labels_behind, thread_labels, label_names_at, own_labels, moved_label, code_named}
+use Rattle.canonical_text.proofs.Vocabulary.{cell_of, row_of, most_cells, rows_of, IsLabelName, IsPrintableCell, IsPrintableRow}
 use Rattle.tso_program.specs.declared.instruction.Instr.TheVariants as instr
 use Rattle.litmus_reader.specs.Meaning as meaning
 use Rattle.litmus_reader.proofs.Positions.{code_count}
 use Rattle.canonical_text.proofs.LabelsNamed.{AreGoodLabels, Ascending, ascending_from, Before, none_at_end, before_more, none_past, standing, all_standing}
-use Rattle.canonical_text.proofs.ToldCode.{within_most}
-use Rattle.canonical_text.proofs.NamedPlaces.{Named}
-use Rattle.canonical_text.proofs.Lists.{made_at, all_of_both, all_mapped, all_more_so, all_at, all_with}
+use Rattle.canonical_text.proofs.{ToldCode.within_most, NamedPlaces.Named, Lists.made_at, Lists.all_of_both, Lists.all_mapped, Lists.all_more_so, Lists.all_at, Lists.all_with}
 
 -- ---- of a text
 

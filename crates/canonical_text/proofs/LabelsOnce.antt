@@ -1,9 +1,8 @@
 -- No label stands twice in a thread: told of all rows at once, and of each thread.
-use Rattle.canonical_text.proofs.Vocabulary.{◌≡◌, ◌≢◌, ℕ, zero, suc, ◌+◌, ◌<◌, ◌==◌, Bool, List, [], ◌∷◌, ◌++◌, map, Option, Some, None, refl, sym, ap, ◌∙◌, subst, arith, slice_get, if◌then◌else◌, cons_option, filter_map, flat_map}
-use Rattle.canonical_text.proofs.Vocabulary.{Decides-eqb, append-nil, map-append, filter_map-append, CellView, column, size, labels_behind, thread_labels}
-use Rattle.litmus_syntax.specs.Grammar.{IsNoneOf, NoneTwice, labels_from, row_labels, labels_in_rows}
+use Rattle.canonical_text.proofs.Vocabulary.{◌≡◌, ◌≢◌, ℕ, zero, suc, ◌+◌, ◌<◌, ◌==◌, Bool, List, [], ◌∷◌, ◌++◌, map, Option, Some, None, refl, sym, ap, ◌∙◌, subst, arith, slice_get, if◌then◌else◌}
+use Rattle.canonical_text.proofs.Vocabulary.{cons_option, filter_map, flat_map, Decides-eqb, append-nil, map-append, filter_map-append, CellView, column, size, labels_behind, thread_labels, IsNoneOf}
+use Rattle.canonical_text.proofs.Vocabulary.{NoneTwice, labels_from, row_labels, labels_in_rows, false_from_ne_true as not_true}
 use Rattle.canonical_text.proofs.LabelsNamed.{label_name, same_or_not}
-use Rattle.std.proofs.lemmas.Bool.{false_from_ne_true as not_true}
 
 -- a label with its thread
 abbrev Owned : Type 0

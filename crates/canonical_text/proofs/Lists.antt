@@ -1,7 +1,7 @@
 -- Facts of every element of a list.
-use Rattle.canonical_text.proofs.Vocabulary.{◌≡◌, ℕ, ◌+◌, ◌<◌, ◌≤◌, zero, suc, Bool, true, ◌||◌, List, [], ◌∷◌, ◌++◌, length, map, Option, Some, None, refl, sym, ap, ◌∙◌, arith, or-true, slice_get, AllByRecursion, list_any, flat_map, filter_map, cons_option}
-use Rattle.std.specs.Option.{IfSome}
-use Rattle.canonical_text.proofs.Vocabulary.{range_with_len, add-zero, slice_get-get_or, length-map-range_with_len, get_or-map-range_with_len}
+use Rattle.canonical_text.proofs.Vocabulary.{◌≡◌, ℕ, ◌+◌, ◌<◌, ◌≤◌, zero, suc, Bool, true, ◌||◌, List, [], ◌∷◌, ◌++◌, length, map, Option, Some, None, refl, sym, ap, ◌∙◌, arith, or-true, slice_get}
+use Rattle.canonical_text.proofs.Vocabulary.{AllByRecursion, list_any, flat_map, filter_map, cons_option, IfSome, range_with_len, add-zero, slice_get-get_or, length-map-range_with_len}
+use Rattle.canonical_text.proofs.Vocabulary.{get_or-map-range_with_len}
 
 pub all_of_both : {X : Type 0} (P : X → Type 0) (xs ys : List X) → AllByRecursion P xs → AllByRecursion P ys → AllByRecursion P (xs ++ ys)
 all_of_both P [] ys h g = g

@@ -1,6 +1,5 @@
 -- Pieces after pieces.
-use Rattle.canonical_text.proofs.Vocabulary.{◌≡◌, List, [], ◌∷◌, ◌++◌, refl, sym, ap, ◌∙◌, subst, append_assoc, ℕ}
-use Rattle.litmus_reader.specs.Pieces.{Piece, Space, Part, token_text, text_of, CanStand, AreApartBefore}
+use Rattle.canonical_text.proofs.Vocabulary.{◌≡◌, List, [], ◌∷◌, ◌++◌, refl, sym, ap, ◌∙◌, subst, append_assoc, ℕ, Piece, Space, Part, token_text, text_of, CanStand, AreApartBefore}
 
 pub text_of-append : (ps qs : List Piece) → text_of (ps ++ qs) ≡ text_of ps ++ text_of qs
 text_of-append [] qs = refl

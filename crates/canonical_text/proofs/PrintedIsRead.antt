@@ -1,14 +1,9 @@
 -- Parts that can be printed are the parts of their canonical text.
 use Rattle.canonical_text.proofs.Vocabulary.{◌≡◌, ℕ, List, [], ◌∷◌, ◌++◌, codes, refl, ap, append_assoc, lit<, append-nil, text_of, tokens_of, AreApart, lines_pieces, ending_pieces, heading}
-use Rattle.std.proofs.lemmas.Str.{IsUtf8-from_ascii, IsAscii-append}
+use Rattle.canonical_text.proofs.Vocabulary.{IsUtf8-from_ascii, IsAscii-append, AreVisible, IsFirstLine, PrintedPartsAreRead}
 use Rattle.litmus_reader.proofs.PieceLaws.{pieces_lex}
-use Rattle.litmus_reader.specs.Space.{nothing}
-use Rattle.litmus_reader.specs.FirstLine.{AreVisible, IsFirstLine}
-use Rattle.litmus_reader.specs.SkippedLines.{brace}
-use Rattle.canonical_text.specs.Laws.{PrintedPartsAreRead}
-use Rattle.canonical_text.proofs.PiecesApart.{lines_apart}
-use Rattle.canonical_text.proofs.PiecesRelated.{body_related, ending_related}
-use Rattle.canonical_text.proofs.AsciiTexts.{ascii_pieces, ascii_heading}
+use Rattle.litmus_reader.specs.{Space.nothing, SkippedLines.brace}
+use Rattle.canonical_text.proofs.{PiecesApart.lines_apart, PiecesRelated.body_related, PiecesRelated.ending_related, AsciiTexts.ascii_pieces, AsciiTexts.ascii_heading}
 
 -- the first line gives the name
 heading_read : (name rest : List ℕ) → AreVisible name → IsFirstLine (heading name ++ rest) name rest

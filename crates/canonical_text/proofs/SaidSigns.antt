@@ -1,18 +1,14 @@
 -- The condition: its canonical signs, named again, spell the same formula.
-use Rattle.canonical_text.proofs.Vocabulary.{◌≡◌, ℕ, false, List, [], ◌∷◌, ◌++◌, map, refl, sym, ap, ◌∙◌, subst, append_assoc, AllByRecursion, IsDistinct, flat_map, bytes_eq, append-nil, Tree, tree_map, PlaceView, Location, Register, SignView, number_in}
-use Rattle.canonical_text.proofs.Vocabulary.{sign_places, IsTextNumber, IsPrintablePlace, IsPrintableSign, begins_with_a_word, SignsAreApart}
+use Rattle.canonical_text.proofs.Vocabulary.{◌≡◌, ℕ, false, List, [], ◌∷◌, ◌++◌, map, refl, sym, ap, ◌∙◌, subst, append_assoc, AllByRecursion, IsDistinct, flat_map, bytes_eq, append-nil, Tree}
+use Rattle.canonical_text.proofs.Vocabulary.{tree_map, PlaceView, Location, Register, SignView, number_in, sign_places, IsTextNumber, IsPrintablePlace, IsPrintableSign, begins_with_a_word}
+use Rattle.canonical_text.proofs.Vocabulary.{SignsAreApart, signs_of, enclosed_signs_of, atom_of, numbered_atom, atom_named, sign_named, signs_named}
 use Rattle.tso_program.specs.Tree as tree
 use Rattle.conditions.specs.Grammar.{Sign, sign_map, Class, Sum, Spells, atom, const, negation, parens, operand, conjunction, term, disjunction}
 use Rattle.conditions.specs.Grammar as sign
-use Rattle.conditions.specs.Canonical.{signs_of, enclosed_signs_of}
 use Rattle.conditions.proofs.CanonicalSigns.{canonical_spell, canonical_mapped}
 use Rattle.litmus_syntax.specs.Views as view
-use Rattle.litmus_reader.specs.Meaning.{atom_of, numbered_atom}
 use Rattle.litmus_reader.specs.Meaning as meaning
-use Rattle.canonical_text.specs.Canonical.{atom_named, sign_named, signs_named}
-use Rattle.canonical_text.proofs.NamedPlaces.{Named}
-use Rattle.canonical_text.proofs.Lists.{all_of_both, all_mapped}
-use Rattle.canonical_text.proofs.ToldCode.{IsKnown, name_back}
+use Rattle.canonical_text.proofs.{NamedPlaces.Named, Lists.all_of_both, Lists.all_mapped, ToldCode.IsKnown, ToldCode.name_back}
 
 -- that a place has a value
 abbrev pub Said : Type 0

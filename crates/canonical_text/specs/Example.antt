@@ -1,8 +1,7 @@
 -- Store buffering (Sewell et al., CACM 2010) with an MFENCE in each of its gaps, as an example of canonical text.
 use Rattle.std.specs.Prelude.{◌≡◌, ℕ, Bool, true, false, nat_le, List, [], ◌∷◌, ◌++◌, codes}
 use Rattle.tso_program.specs.declared.instruction.Reg.TheVariants.{Eax}
-use Rattle.tso_program.specs.declared.instruction.Instr.{Instr}
-use Rattle.tso_program.specs.declared.instruction.Instr.TheVariants.{StoreImm, Load}
+use Rattle.tso_program.specs.declared.instruction.Instr.{Instr, TheVariants.StoreImm, TheVariants.Load}
 use Rattle.tso_program.specs.declared.listing.Thread.{Thread}
 use Rattle.tso_program.specs.declared.listing.Listing.{Listing}
 use Rattle.tso_program.specs.Fences.{fence}

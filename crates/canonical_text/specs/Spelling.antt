@@ -7,8 +7,7 @@ use Rattle.litmus_reader.specs.Mark.TheVariants as the
 use Rattle.litmus_reader.specs.Tokens.{Word, Number, Sign}
 use Rattle.litmus_reader.specs.Pieces.{Piece, Space, Part, text_of}
 use Rattle.tso_program.specs.declared.instruction.Reg.{Reg}
-use Rattle.conditions.specs.declared.condition.Quantifier.{Quantifier}
-use Rattle.conditions.specs.declared.condition.Quantifier.TheVariants.{Exists, NotExists, Forall}
+use Rattle.conditions.specs.declared.condition.Quantifier.{Quantifier, TheVariants.Exists, TheVariants.NotExists, TheVariants.Forall}
 use Rattle.litmus_syntax.specs.Words.{column_name}
 use Rattle.litmus_syntax.specs.Views.{PlaceView, Location, Register, EntryView, CodeView, LoadImm, Copy, Load, StoreImm, Store, Xchg, Fence, CmpImm, CmpReg, Je, Jne, Jmp, CellView, BodyView, SignView, Atom, Const, Not, And, Or, Open, Close, EndingView}
 use Rattle.litmus_reader.specs.Names.{register_name}

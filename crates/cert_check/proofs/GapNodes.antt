@@ -1,9 +1,10 @@
 -- What a split says, and the gaps by which it splits a region.
-use Rattle.std.proofs.Common.{◌≡◌, ◌↔◌, ℕ, zero, suc, true, false, List, [], ◌∷◌, Some, None, length, Contains, slice_get, refl, sym, ap, ◌∙◌, subst}
+use Rattle.cert_check.proofs.Vocabulary.{◌≡◌, ◌↔◌, ℕ, zero, suc, true, false, List, [], ◌∷◌, Some, None, length, Contains, slice_get, refl, sym, ap, ◌∙◌, subst, AllZip-left, AllZip, same_Some}
+use Rattle.cert_check.proofs.Vocabulary.{SetOfGaps, Better, Region, Listing, Label, StoreBufferMachine, no_gaps, ArePassed, Gap, Split, Bound, gap_trees_of, one_list_of_gaps, HasNoSplit}
+use Rattle.cert_check.proofs.Vocabulary.{FirstWrongGap, AreValidIn, IsWrongChildIn, HavePassed, IsAtRoot, IsBelow, PassesGap, IsSplitBy, IsValidGap}
 use Rattle.std.specs.List.Sorted.{IsStrictlyIncreasing}
 use Rattle.std.specs.FinSet as set
 use Rattle.std.specs.Option.{IsSomeAnd, MatchOption}
-use Rattle.cert_check.proofs.Vocabulary.{AllZip-left, AllZip, same_Some, SetOfGaps, Better, Region, Listing, Label, StoreBufferMachine, no_gaps, ArePassed, Gap, Split, Bound, gap_trees_of, one_list_of_gaps, HasNoSplit, FirstWrongGap, AreValidIn, IsWrongChildIn, HavePassed, IsAtRoot, IsBelow, PassesGap, IsSplitBy, IsValidGap}
 use Rattle.cert_forest.proofs.TreeTexts.{gaps_count}
 
 -- what is found at a number goes with the labels of this number

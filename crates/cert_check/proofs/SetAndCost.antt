@@ -1,7 +1,6 @@
 -- Sets of a program's gaps.
-use Rattle.std.proofs.Common.{◌≡◌, ℕ, ◌<◌, true, false, nat_lt, sym, ◌∙◌, arith}
+use Rattle.cert_check.proofs.Vocabulary.{◌≡◌, ℕ, ◌<◌, true, false, nat_lt, sym, ◌∙◌, ltb-true, lt-ltb, nat_cmp_total, SetOfGaps}
 use Rattle.std.specs.FinSet as set
-use Rattle.cert_check.proofs.Vocabulary.{ltb-true, lt-ltb, nat_cmp_total, nat_tests, SetOfGaps}
 
 module _ (gaps every : SetOfGaps) (n : ℕ) (is_every : (gap : ℕ) → set.contains every gap ≡ nat_lt gap n) where
   pub all_within : set.is_subset gaps every ≡ true → (gap : ℕ) → set.contains gaps gap ≡ true → gap < n

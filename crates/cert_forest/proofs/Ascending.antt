@@ -1,11 +1,9 @@
 -- Sets of numbers, and their numbers in order.
-use Rattle.std.proofs.Common.{◌≡◌, ℕ, zero, suc, ◌+◌, ◌<◌, ◌≤◌, Bool, true, false, cond, List, [], ◌∷◌, ◌++◌, refl, sym, ap, ◌∙◌, append_assoc, arith, inl, inr}
-use Rattle.std.specs.Prelude.{nat_eq}
-use Rattle.std.specs.List.{filter, range_with_len, list_any}
+use Rattle.cert_forest.proofs.Vocabulary.{◌≡◌, ℕ, zero, suc, ◌+◌, ◌<◌, ◌≤◌, Bool, true, false, cond, List, [], ◌∷◌, ◌++◌, refl, sym, ap, ◌∙◌, append_assoc, arith, inl, inr, nat_eq, filter}
+use Rattle.cert_forest.proofs.Vocabulary.{range_with_len, list_any, cases_lt, nat_tests, append-nil, MAX_GAPS, SetOfGaps, numbers_of_set}
 use Rattle.std.specs.FinSet as set
 use Rattle.std.specs.FinSet.{contains-from_list_nat}
 use Rattle.std.specs.Cmp.{nat_cmp_total}
-use Rattle.cert_forest.proofs.Vocabulary.{cases_lt, nat_tests, append-nil, MAX_GAPS, SetOfGaps, numbers_of_set}
 
 -- numbers from the least on, below the limit, each greater than the one before
 abbrev pub Ascend : ℕ → ℕ → List ℕ → Type 0

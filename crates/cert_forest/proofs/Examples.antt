@@ -1,11 +1,9 @@
 -- The three certificates have their texts, and are within the limits.
-use Rattle.std.proofs.Common.{◌≡◌, [], ◌∷◌, lit<, lit≤}
-use Rattle.cert_forest.proofs.Vocabulary.{decimal, decimal_digit, Kind, MAX_GAPS, numbers_of_set, PLACES, MAX_COVER_DEPTH}
+use Rattle.cert_forest.proofs.Vocabulary.{◌≡◌, [], ◌∷◌, lit<, lit≤, decimal, decimal_digit, Kind, MAX_GAPS, numbers_of_set, PLACES, MAX_COVER_DEPTH, IsCoverTo, HasNumbers, TheExamplesAreCertificates}
+use Rattle.cert_forest.proofs.Vocabulary.{either, observed_tree}
 use Rattle.candidate_executions.specs.declared.event.Kind.TheVariants as kinds
 use Rattle.gap_sets.specs.Laws.{these}
-use Rattle.cert_forest.specs.Limits.{IsCoverTo, HasNumbers}
 use Rattle.cert_forest.specs.StoreBuffering.{cover_of}
-use Rattle.cert_forest.specs.Laws.{TheExamplesAreCertificates, either, observed_tree}
 use Rattle.cert_forest.proofs.Ascending.{Ascend, numbers_back, ascending_are_below}
 
 -- single digits

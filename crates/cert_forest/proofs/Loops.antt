@@ -1,8 +1,7 @@
 -- Lists, read by a loop.
-use Rattle.std.proofs.Common.{◌≡◌, ℕ, zero, suc, ◌+◌, ◌-◌, ◌<◌, ◌≤◌, true, false, List, [], ◌∷◌, ◌++◌, Option, Some, None, refl, sym, ap, ◌∙◌, arith}
+use Rattle.cert_forest.proofs.Vocabulary.{◌≡◌, ℕ, zero, suc, ◌+◌, ◌-◌, ◌<◌, ◌≤◌, true, false, List, [], ◌∷◌, ◌++◌, Option, Some, None, refl, sym, ap, ◌∙◌, arith, nat_lt, lt-ltb, le-ltb, SetOfGaps}
+use Rattle.cert_forest.proofs.Vocabulary.{Label, Stop, Refused, OutOfMemory, Fails, begins_word, repeat_at, stops_for_memory, label_word_at, run_labels_at, ascending_at}
 use Rattle.std.specs.FinSet as set
-use Rattle.cert_forest.proofs.Vocabulary.{nat_lt, lt-ltb, le-ltb, SetOfGaps, Label, Stop, Refused, OutOfMemory, Fails, begins_word, repeat_at, stops_for_memory, label_word_at, run_labels_at}
-use Rattle.cert_forest.proofs.Vocabulary.{ascending_at}
 
 one_less : (n k : ℕ) → k < n → n - k ≡ suc (n - (k + 1))
 one_less n k lt = omega arith

@@ -1,20 +1,13 @@
 -- Names of accesses, kinds of cycles and labels: what the reader takes of each, and that it takes each again.
-use Rattle.std.proofs.Common.{◌≡◌, ℕ, ◌<◌, ◌==◌, Bool, true, false, cond, List, [], ◌∷◌, ◌++◌, length, take, drop, Some, None, refl, sym, ap, subst, ◌∙◌, arith, inl, inr}
-use Rattle.std.specs.List.{list_all, prefix_len}
+use Rattle.cert_forest.proofs.Vocabulary.{◌≡◌, ℕ, ◌<◌, ◌==◌, Bool, true, false, cond, List, [], ◌∷◌, ◌++◌, length, take, drop, Some, None, refl, sym, ap, subst, ◌∙◌, arith, inl, inr, list_all}
+use Rattle.cert_forest.proofs.Vocabulary.{prefix_len, and_parts, and_from, eqb-true, take_at, drop_at, take-append-drop, digits_decimal, decimal, nat_tests, Kind, Label, spaced, ◌>>=◌, is_inner}
+use Rattle.cert_forest.proofs.Vocabulary.{letter_at, bind_some, by_test, cond_some, same_Some, Starts, IsExact, AccessId, IsAccessId, own, plain_number_takes, plain_number_again, plain_number_at}
+use Rattle.cert_forest.proofs.Vocabulary.{spelling, IsLabel, label_at, prefix_is, after_prefix, decimal_inner, letter_takes, letter_again, spaced_exact, access_word, kind_word, is_no_stop}
+use Rattle.cert_forest.proofs.Vocabulary.{access_tail, access_of, access_at, kind_of, kind_at, label_word_at}
 use Rattle.std.specs.Char.{is_ascii_digit}
-use Rattle.std.proofs.lemmas.Bool.{and_parts, and_from, eqb-true}
-use Rattle.std.proofs.lemmas.List.{take_at, drop_at, take-append-drop}
-use Rattle.std.proofs.lemmas.Fmt.{digits_decimal}
-use Rattle.cert_forest.proofs.Vocabulary.{decimal, nat_tests, Kind, Label, spaced, ◌>>=◌, is_inner, letter_at, bind_some, by_test, cond_some, same_Some, Starts, IsExact, AccessId, IsAccessId}
-use Rattle.text_tokens.proofs.NumberLaws.{own, plain_number_takes, plain_number_again}
-use Rattle.text_tokens.specs.Numbers.{plain_number_at}
 use Rattle.candidate_executions.specs.declared.event.Kind.TheVariants as kinds
-use Rattle.tso_machine.specs.declared.label.Label.TheVariants.{Exec, Flush}
-use Rattle.tso_machine.specs.RunTexts.{spelling, IsLabel, label_at}
+use Rattle.tso_machine.specs.declared.label.Label.{TheVariants.Exec, TheVariants.Flush}
 use Rattle.tso_machine.proofs.RunLabels.{label_takes, label_again}
-use Rattle.cert_words.proofs.WordLaws.{prefix_is, after_prefix, decimal_inner, letter_takes, letter_again, spaced_exact}
-use Rattle.cert_forest.specs.Texts.{access_word, kind_word}
-use Rattle.cert_forest.specs.Internal.Reading.{is_no_stop, access_tail, access_of, access_at, kind_of, kind_at, label_word_at}
 
 -- ---- accesses
 

@@ -1,14 +1,9 @@
 -- The words of registers and locations: what the reader takes of each, and that it takes each again.
-use Rattle.std.proofs.Common.{◌≡◌, ℕ, ◌+◌, ◌-◌, ◌/◌, ◌%◌, ◌<◌, ◌≤◌, ◌==◌, ◌&&◌, Bool, true, false, cond, List, [], ◌∷◌, ◌++◌, Some, None, refl, sym, ap, subst, ◌∙◌, arith, inl, inr}
-use Rattle.std.specs.Prelude.{nat_lt, nat_le}
-use Rattle.std.proofs.lemmas.Bool.{and_parts, eqb-true, leb-true, le-leb, lt-ltb, le-ltb, cases_lt, ne_eqb}
-use Rattle.cert_forest.proofs.Vocabulary.{list_all, decimal, decimal_digit, spaced, ◌>>=◌, is_inner, bind_some, cond_some, same_Some, IsExact, spaced_exact}
-use Rattle.tso_program.specs.Names.{register_place, location_place}
-use Rattle.tso_program.specs.declared.instruction.TheConstants.{REGISTERS}
-use Rattle.tso_program.specs.declared.limits.TheConstants.{MAX_THREADS, MAX_LOCATIONS}
-use Rattle.tso_program.specs.declared.shown.TheConstants.{REGISTER_PLACES, PLACES}
-use Rattle.cert_forest.specs.Texts.{register_word, location_word, place_word}
-use Rattle.cert_forest.specs.Internal.Reading.{digit_of, shown_location, register_of, shown_place, place_word_at}
+use Rattle.cert_forest.proofs.Vocabulary.{◌≡◌, ℕ, ◌+◌, ◌-◌, ◌/◌, ◌%◌, ◌<◌, ◌≤◌, ◌==◌, ◌&&◌, Bool, true, false, cond, List, [], ◌∷◌, ◌++◌, Some, None, refl, sym, ap, subst, ◌∙◌, arith, inl, inr}
+use Rattle.cert_forest.proofs.Vocabulary.{nat_lt, nat_le, and_parts, eqb-true, leb-true, le-leb, lt-ltb, le-ltb, cases_lt, ne_eqb, list_all, decimal, decimal_digit, spaced, ◌>>=◌, is_inner, bind_some}
+use Rattle.cert_forest.proofs.Vocabulary.{cond_some, same_Some, IsExact, spaced_exact, register_place, location_place, REGISTER_PLACES, PLACES, register_word, location_word, place_word, digit_of}
+use Rattle.cert_forest.proofs.Vocabulary.{shown_location, register_of, shown_place, place_word_at}
+use Rattle.tso_program.specs.{declared.instruction.TheConstants.REGISTERS, declared.limits.TheConstants.MAX_THREADS, declared.limits.TheConstants.MAX_LOCATIONS}
 
 -- ---- digits
 

@@ -1,11 +1,8 @@
 -- A run that is looked up among others.
-use Rattle.std.proofs.Common.{◌≡◌, Contains, ℕ, ◌+◌, ◌<◌, List, [], ◌∷◌, ◌++◌, Some, length, get_or, take, sym, ap, ◌∙◌, subst, inl, inr}
-use Rattle.std.specs.Prelude.{slice_get}
+use Rattle.cert_forest.proofs.Vocabulary.{◌≡◌, Contains, ℕ, ◌+◌, ◌<◌, List, [], ◌∷◌, ◌++◌, Some, length, get_or, take, sym, ap, ◌∙◌, subst, inl, inr, slice_get, slice_get-map, slice_get-get_or}
+use Rattle.cert_forest.proofs.Vocabulary.{map-append, take_more, Vec, Label, labels_of}
 use Rattle.std.specs.Option.{option_map}
-use Rattle.std.proofs.lemmas.Option.{slice_get-map, slice_get-get_or}
-use Rattle.std.proofs.lemmas.List.{map-append, take_more}
 use Rattle.std.proofs.lemmas.List.Elements.{Contains-push_cases}
-use Rattle.cert_forest.proofs.Vocabulary.{Vec, Label, labels_of}
 
 -- it is not one of those so far, and not the next
 pub none_more : (runs : List (Vec Label)) (n : ℕ) (run : Vec Label) (labels : List Label) → n < length runs → run ≡ get_or runs n run → (run.items ≡ labels → ⊥) → ¬ Contains (labels_of (take n runs)) labels →

@@ -1,6 +1,6 @@
 -- A walk over cover trees ends: after each node fewer nodes are left.
-use Rattle.std.proofs.Common.{◌<◌, List, [], ◌∷◌, ◌++◌, length, map, ap, sym, subst, append_assoc, arith}
-use Rattle.cert_forest.proofs.Vocabulary.{length-append, Cover, Value, Source, Order, Cycle, Known, spell, spell_all, known_nodes, IsNext, children_of}
+use Rattle.cert_forest.proofs.Vocabulary.{◌<◌, List, [], ◌∷◌, ◌++◌, length, map, ap, sym, subst, append_assoc, arith, length-append, Cover, Value, Source, Order, Cycle, Known, spell, spell_all}
+use Rattle.cert_forest.proofs.Vocabulary.{known_nodes, IsNext, children_of}
 use Rattle.cert_forest.specs.declared.walk.CoverNode.{CoverNode}
 use Rattle.cert_forest.specs.declared.node.Node.TheVariants as node
 use Rattle.cert_forest.proofs.NodeLaws.{below_row, known_some}

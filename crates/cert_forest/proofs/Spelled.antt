@@ -1,7 +1,5 @@
 -- Nodes give back the trees that they spell, where they give back the first one.
-use Rattle.std.proofs.Common.{◌≡◌, List, [], ◌∷◌, ◌++◌, ap, sym, ◌∙◌, refl, append_assoc}
-use Rattle.std.proofs.lemmas.List.{append-nil, append_cancel_left}
-use Rattle.cert_forest.specs.Spelling.{spell_each}
+use Rattle.cert_forest.proofs.Vocabulary.{◌≡◌, List, [], ◌∷◌, ◌++◌, ap, sym, ◌∙◌, refl, append_assoc, append-nil, append_cancel_left, spell_each}
 
 module _ {T N : Type 0} (spell : T → List N) where
   pub each_alone : (t : T) → spell_each spell (t ∷ []) ≡ spell t

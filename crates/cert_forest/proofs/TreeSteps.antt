@@ -1,8 +1,6 @@
 -- Nodes of trees, as the code reads them.
-use Rattle.std.proofs.Common.{◌≡◌, ℕ, suc, ◌-◌, ◌<◌, ◌==◌, false, List, [], Some, None, refl, ap, ◌∙◌, arith, inl, inr}
-use Rattle.cert_forest.proofs.Vocabulary.{cases_Bool, eqb-true, Stop, Refused, OutOfMemory, Gap, Split, Bound, gap_trees_of, Fails, letter_at, repeat_at, stops_for_memory, Head, head_at, below_at}
-use Rattle.cert_forest.proofs.Vocabulary.{cover_at, split_at, gap_by, gap_at}
-use Rattle.std.proofs.lemmas.Bool.{ne_eqb}
+use Rattle.cert_forest.proofs.Vocabulary.{◌≡◌, ℕ, suc, ◌-◌, ◌<◌, List, [], Some, None, refl, ap, ◌∙◌, arith, Stop, Refused, OutOfMemory, Gap, Split, Bound, gap_trees_of, Fails, letter_at, repeat_at}
+use Rattle.cert_forest.proofs.Vocabulary.{stops_for_memory, Head, head_at, below_at, cover_at, split_at, gap_by, gap_at, ne_eqb}
 
 less : (d : ℕ) → 0 < d → d ≡ suc (d - 1)
 less d lt = omega arith

@@ -1,7 +1,6 @@
 -- What the public reader answers.
 use Rattle.std.specs.Prelude.{◌≡◌, ℕ, ◌<◌, List, length, take, Result, Ok, Err}
-use Rattle.cert_forest.specs.declared.fault.CertFault.{CertFault}
-use Rattle.cert_forest.specs.declared.fault.CertFault.TheVariants.{OutOfMemory}
+use Rattle.cert_forest.specs.declared.fault.CertFault.{CertFault, TheVariants.OutOfMemory}
 use Rattle.cert_forest.specs.Certificates.{Certificate}
 use Rattle.cert_forest.specs.Limits.{IsCertificate}
 

@@ -1,12 +1,8 @@
 -- Parts of a tree's text.
-use Rattle.std.proofs.Common.{◌≡◌, ℕ, zero, suc, ◌+◌, ◌-◌, ◌<◌, ◌≤◌, List, [], ◌∷◌, ◌++◌, length, take, drop, refl, sym, ap, ◌∙◌, subst, append_assoc, arith}
-use Rattle.std.proofs.lemmas.List.{append-nil, drop_all, take_all}
-use Rattle.std.specs.Prelude.{IfSome, Option, Some, slice_index_or}
-use Rattle.cert_pages.proofs.Vocabulary.{Cover, CoverNode, IsNext, children_of, root_of, spell_all}
-use Rattle.cert_forest.proofs.ShorterWalks.{next_is_shorter}
-use Rattle.cert_pages.specs.declared.parts.Part.{Part}
+use Rattle.cert_pages.proofs.Vocabulary.{◌≡◌, ℕ, zero, suc, ◌+◌, ◌-◌, ◌<◌, ◌≤◌, List, [], ◌∷◌, ◌++◌, length, take, drop, refl, sym, ap, ◌∙◌, subst, append_assoc, arith, append-nil, drop_all, take_all}
+use Rattle.cert_pages.proofs.Vocabulary.{IfSome, Option, Some, slice_index_or, Cover, CoverNode, IsNext, children_of, root_of, spell_all, next_is_shorter, Part, trees_text, IsWritten, LeadTo}
+use Rattle.cert_pages.proofs.Vocabulary.{WriteFrom}
 unfoldable use Rattle.cert_pages.specs.Parts.{after}
-use Rattle.cert_pages.specs.Parts.{trees_text, IsWritten, AreWritten, LeadTo, WriteFrom}
 
 -- ---- so many nodes of trees
 

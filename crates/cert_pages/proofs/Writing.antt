@@ -1,8 +1,5 @@
 -- Texts that are written piece by piece.
-use Rattle.std.proofs.Common.{◌≡◌, ℕ, ◌+◌, ◌<◌, List, [], ◌∷◌, ◌++◌, length, get_or, map, take, sym, ap, ◌∙◌, append_assoc}
-use Rattle.std.proofs.lemmas.List.{map_more, append-nil}
-use Rattle.cert_words.specs.Lines.{texts_of}
-use Rattle.cert_forest.proofs.TreeTexts.{texts_append}
+use Rattle.cert_pages.proofs.Vocabulary.{◌≡◌, ℕ, ◌+◌, ◌<◌, List, [], ◌∷◌, ◌++◌, length, get_or, map, take, sym, ap, ◌∙◌, append_assoc, map_more, append-nil, texts_of, texts_append}
 pub use Rattle.std.proofs.lemmas.Result.{on_ok_weaker as on_ok}
 
 -- one value more

@@ -1,11 +1,8 @@
 -- Trees that are written node by node.
-use Rattle.std.proofs.Common.{◌≡◌, ℕ, List, [], ◌∷◌, ◌++◌, refl, ap, sym, ◌∙◌, append_assoc}
-use Rattle.cert_pages.proofs.Vocabulary.{append-nil, texts_of, spaced, GapNode, Cover, Value, Source, Order, Cycle, Known, Covers, NoCover, MoreCovers, cover_list, Gap, Split, Bound}
-use Rattle.cert_pages.proofs.Vocabulary.{GapTrees, NoGap, MoreGaps, gap_list, cover_words, covers_words, gap_words, gaps_words}
-use Rattle.cert_forest.specs.declared.walk.CoverNode.{CoverNode}
-use Rattle.cert_forest.specs.Walks.{root_of, children_of, gap_root_of, gap_children_of, IsNextBy, IsNext, IsNextGap}
+use Rattle.cert_pages.proofs.Vocabulary.{◌≡◌, ℕ, List, [], ◌∷◌, ◌++◌, refl, ap, sym, ◌∙◌, append_assoc, append-nil, texts_of, spaced, GapNode, Cover, Value, Source, Order, Covers, NoCover, MoreCovers}
+use Rattle.cert_pages.proofs.Vocabulary.{cover_list, Gap, Split, Bound, GapTrees, NoGap, MoreGaps, gap_list, cover_words, covers_words, gap_words, gaps_words, CoverNode, root_of, children_of}
+use Rattle.cert_pages.proofs.Vocabulary.{gap_root_of, gap_children_of, IsNextBy, IsNext, IsNextGap, texts_append, cover_text, gap_text}
 use Rattle.cert_pages.specs.NodeWords.{node_words, gap_node_words}
-use Rattle.cert_forest.proofs.TreeTexts.{texts_append, cover_text, gap_text}
 
 -- ---- one node more, where a tree's text is that of its root, and then those of its children
 module _ {T N : Type 0} (root : T → N) (children : T → List T) (text : T → List ℕ) (shown : N → List ℕ) (is_text : (t : T) → text t ≡ shown (root t) ++ texts_of text (children t)) where

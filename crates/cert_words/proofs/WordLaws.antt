@@ -1,20 +1,13 @@
 -- Words: what the reader takes of each kind, and that it takes each again.
-use Rattle.std.proofs.Common.{◌≡◌, ℕ, suc, ◌+◌, ◌-◌, ◌<◌, ◌≤◌, ◌==◌, ◌^◌, Bool, true, false, cond, List, [], ◌∷◌, ◌++◌, length, get_or, take, drop, Option, Some, None, refl, sym, ap, subst, ◌∙◌, arith, inl, inr}
+use Rattle.cert_words.proofs.Vocabulary.{◌≡◌, ℕ, suc, ◌+◌, ◌-◌, ◌<◌, ◌≤◌, ◌==◌, ◌^◌, Bool, true, false, cond, List, [], ◌∷◌, ◌++◌, length, get_or, take, drop, Option, Some, None, refl, sym, ap, subst}
+use Rattle.cert_words.proofs.Vocabulary.{◌∙◌, arith, inl, inr, list_all, prefix_len, and_parts, and_from, cases_Bool, eqb-true, ltb-false, le-ltb, take_at, drop_at, take_all, take-append-drop}
+use Rattle.cert_words.proofs.Vocabulary.{decimal_digit, own, plain_number_takes, plain_number_again, spaced, is_inner, front, after_word, word_at, line_name_at, end_at, ends_word, number_within_at}
+use Rattle.cert_words.proofs.Vocabulary.{count_at, letter_of, letter_at, spaced_word_at, bind_some, kept_out, cond_some, same_Some, is_ascii_digit, decimal, nat_tests, digits_decimal, ◌>>=◌}
 use Rattle.std.specs.Prelude.{nat_lt}
-use Rattle.std.specs.List.{list_all, prefix_len}
 use Rattle.std.specs.Str.{bytes_eq}
-use Rattle.std.proofs.lemmas.Bool.{and_parts, and_from, cases_Bool, eqb-true, ltb-false, le-ltb}
 use Rattle.std.proofs.lemmas.Slice.Eq.{bytes_eq-Decides}
-use Rattle.std.proofs.lemmas.List.{take_at, drop_at, take_all, take-append-drop}
-use Rattle.std.proofs.lemmas.Fmt.{decimal_digit}
-use Rattle.text_tokens.proofs.NumberLaws.{own, plain_number_takes, plain_number_again}
 use Rattle.text_tokens.specs.Numbers.{plain_number_at}
 use Rattle.cert_words.specs.declared.numbers.TheConstants.{MAX_COUNT}
-use Rattle.cert_words.specs.Lines.{spaced}
-use Rattle.cert_words.specs.Words.{is_inner, front, after_word, word_at, line_name_at, end_at, ends_word, number_within_at, count_at, letter_of, letter_at, spaced_word_at}
-use Rattle.text_tokens.proofs.StepLaws.{bind_some, kept_out}
-use Rattle.std.proofs.lemmas.Option.{cond_some, same_Some}
-use Rattle.cert_words.proofs.Vocabulary.{is_ascii_digit, decimal, nat_tests, digits_decimal, ◌>>=◌}
 use Rattle.cert_words.proofs.Steps.{Stops, Starts, IsExact}
 
 -- ---- how far bytes go that pass a test

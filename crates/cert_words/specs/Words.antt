@@ -5,8 +5,7 @@ use Rattle.std.specs.Str.{bytes_eq}
 use Rattle.text_tokens.specs.Numbers.{plain_number_at}
 use Rattle.text_tokens.specs.Steps.{◌>>=◌}
 use Rattle.cert_words.specs.declared.numbers.TheConstants.{MAX_COUNT}
-use Rattle.cert_words.specs.declared.refusal.Stop.{Stop}
-use Rattle.cert_words.specs.declared.refusal.Stop.TheVariants.{Refused, OutOfMemory}
+use Rattle.cert_words.specs.declared.refusal.Stop.{Stop, TheVariants.Refused, TheVariants.OutOfMemory}
 
 -- the reason to stop is out of memory
 abbrev pub stops_for_memory : Stop → Bool

@@ -1,8 +1,6 @@
 -- Where the reader stops.
-use Rattle.std.proofs.Common.{◌≡◌, ℕ, ◌+◌, ◌<◌, List, [], ◌∷◌, ◌++◌, length, take, drop, Option, Some, None, refl, sym, ap, ◌∙◌, arith}
-use Rattle.std.proofs.lemmas.List.{take-append-drop}
-use Rattle.conditions.specs.Grammar.{Sign}
-use Rattle.conditions.specs.Stack.{ReaderState, Wants, Start, next, reading, tree_read, state_after, reached, SignsStopAt}
+use Rattle.conditions.proofs.Vocabulary.{◌≡◌, ℕ, ◌+◌, ◌<◌, List, [], ◌∷◌, ◌++◌, length, take, drop, Option, Some, None, refl, sym, ap, ◌∙◌, arith, take-append-drop, Sign, ReaderState, Wants, Start}
+use Rattle.conditions.proofs.Vocabulary.{next, reading, tree_read, state_after, reached, SignsStopAt}
 use Rattle.conditions.proofs.SpelledIsRead.{some_is}
 
 -- reading goes on from the state that signs lead to

@@ -1,11 +1,7 @@
 -- What is found of a line after others.
-use Rattle.std.proofs.Common.{◌≡◌, ℕ, ◌<◌, ◌≤◌, true, false, List, get_or, Option, Some, None, Ok, Err, refl, sym, ap, ◌∙◌, arith}
-use Rattle.std.specs.Prelude.{is_some}
-use Rattle.cost_text.proofs.Vocabulary.{CostFault, Thread, gap_count, gap_number, gap_below, Entry, IsCostEntry, said_of, IsOfNoGap, IsRepeated, IsOfNoCost, Digits, digits_in}
-use Rattle.cost_text.proofs.Vocabulary.{said_by, cost_or_fault, IsCostTable, IsNewEntry}
-use Rattle.cost_text.proofs.LineLaws.{line_read}
-use Rattle.cost_text.proofs.EntryLaws.{table_at}
-use Rattle.cost_text.proofs.CostFaults.{IsJudged, fine, free, large, judged, first_fault}
+use Rattle.cost_text.proofs.Vocabulary.{◌≡◌, ℕ, ◌<◌, ◌≤◌, true, false, List, get_or, Option, Some, None, Ok, Err, refl, sym, ap, ◌∙◌, arith, is_some, CostFault, Thread, gap_count, gap_number}
+use Rattle.cost_text.proofs.Vocabulary.{gap_below, Entry, IsCostEntry, said_of, IsOfNoGap, IsRepeated, IsOfNoCost, Digits, digits_in, said_by, cost_or_fault, IsCostTable, IsNewEntry}
+use Rattle.cost_text.proofs.{LineLaws.line_read, EntryLaws.table_at, CostFaults.IsJudged, CostFaults.fine, CostFaults.free, CostFaults.large, CostFaults.judged, CostFaults.first_fault}
 
 -- a line that speaks of no gap
 pub of_no_gap : (threads : List Thread) (line : List ℕ) (digits : Digits) → Some digits ≡ digits_in line → None ≡ gap_number threads (said_by digits).thread (said_by digits).instruction → IsOfNoGap threads line

@@ -1,6 +1,5 @@
 -- What is said of an answer that is passed on.
-use Rattle.std.proofs.Common.{◌≡◌, sym, subst}
-use Rattle.std.specs.Prelude.{Result, Ok, Err, OnOk, IfOk, IfErr, IsErrAnd}
+use Rattle.cover_judge.proofs.Vocabulary.{◌≡◌, sym, subst, Result, Ok, Err, OnOk, IfOk, IfErr, IsErrAnd}
 
 -- a fault that is passed on as it is
 pub err_up : {T E : Type 0} (r : Result T E) (x : E) (P : E → Type 0) → IsErrAnd r (λ y. y ≡ x) → P x → IfErr r P

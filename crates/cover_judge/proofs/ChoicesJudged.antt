@@ -1,19 +1,15 @@
 -- What the nodes of a cover tree are judged by.
-use Rattle.std.proofs.Common.{◌≡◌, ◌↔◌, ℕ, true, false, Bool, not, IsTrue, List, [], Option, Some, None, IsSome, MatchOption, length, All, Contains, slice_get, refl, sym, ap, ◌∙◌, subst, inl, inr}
-use Rattle.std.specs.Global.{Vec}
-use Rattle.std.specs.List.{AllPairs}
+use Rattle.cover_judge.proofs.Vocabulary.{◌≡◌, ◌↔◌, ℕ, true, false, Bool, not, IsTrue, List, [], Option, Some, None, IsSome, MatchOption, length, All, Contains, slice_get, refl, sym, ap, ◌∙◌, subst}
+use Rattle.cover_judge.proofs.Vocabulary.{inl, inr, Vec, AllPairs, length-map, same_Some, Listing, Outcome, Shown, asked, Event, ProgramSketch, mode_in, AccessId, one_list_of_values}
+use Rattle.cover_judge.proofs.Vocabulary.{one_list_of_sources, TreeFault, Wrong, OutOfMemory, Choice, HasNoValues, HasNoSources, Sketch, IsSourceOf, IsPair, IsWhole, MustEndAs, event_of}
+use Rattle.cover_judge.proofs.Vocabulary.{HasNextValues, HasSources, HasNoOrder, MustEndAsNumber, MayChoose, MayChooseEach, IsValueOpen, IsSourceOpen, AreValueChoices, AreSourceChoices, IfWrong}
+use Rattle.cover_judge.proofs.Vocabulary.{IsAtRoot, IsBelow, IsFrom, AreSoMany, AreNotSoMany}
 use Rattle.std.specs.Option.{is_some}
 use Rattle.std.proofs.lemmas.List.Elements.{All-map, All-contains_itself, All-weaker}
-use Rattle.cover_judge.proofs.Vocabulary.{length-map, same_Some, Listing, Outcome, Shown, asked, Event, ProgramSketch, mode_in, AccessId, one_list_of_values, one_list_of_sources, TreeFault, Wrong}
-use Rattle.cover_judge.proofs.Vocabulary.{OutOfMemory, Choice, HasNoValues, HasNoSources}
 use Rattle.cert_forest.specs.Machine as machine
 use Rattle.candidate_executions.specs.Events.{ComesBefore}
-use Rattle.candidate_executions.specs.Sketches.{Sketch, IsSourceOf, IsPair, IsWhole, MustEndAs}
 use Rattle.sketches.specs.Choices as choices
-use Rattle.tree_laws.specs.CoverTrees.{event_of, HasNextValues, HasSources, HasNoOrder, MustEndAsNumber}
 use Rattle.cover_judge.specs.declared.choice.Choice.TheVariants as choice
-use Rattle.cover_judge.specs.Choices.{MayChoose, MayChooseEach, IsValueOpen, IsSourceOpen, AreValueChoices, AreSourceChoices}
-use Rattle.cover_judge.specs.Judged.{IfWrong, IsAtRoot, IsBelow, IsFrom, AreSoMany, AreNotSoMany}
 
 -- what follows of the path of a fault
 pub if_wrong : (P Q : List ℕ → Type 0) (fault : TreeFault) → ((path : List ℕ) → P path → Q path) → IfWrong P fault → IfWrong Q fault

@@ -1,15 +1,12 @@
 -- What a node of a cover tree says, and what its children are judged for.
-use Rattle.std.proofs.Common.{◌≡◌, ℕ, zero, suc, ◌≤◌, List, [], ◌∷◌, length, map, take, drop, sym, ap, ◌∙◌, subst, arith}
-use Rattle.std.specs.Prelude.{Result, IsErrAnd}
-use Rattle.cover_judge.proofs.Vocabulary.{IfErr, OnOk, length-map, length-take-le, TreeFault, IfWrong, Outcome, Shown, asked, ProgramSketch, mode_in, AccessId, Cover, Value, Source, Order, covers_of, event_of, HasNoOrder, AreValidCovers, Choice}
-use Rattle.cover_judge.proofs.Vocabulary.{FirstWrongCoverChild, HasNoValues, HasNoSources, sketch_with, MayChoose, AreValueChoices, AreSourceChoices, IsAtRoot, IsBelow, IsValidAfter, IsWrongAt}
-use Rattle.cover_judge.proofs.Vocabulary.{AreValidAfter, IsWrongChild}
+use Rattle.cover_judge.proofs.Vocabulary.{◌≡◌, ℕ, zero, suc, ◌≤◌, List, [], ◌∷◌, length, map, take, drop, sym, ap, ◌∙◌, subst, arith, Result, IsErrAnd, IfErr, OnOk, length-map, length-take-le}
+use Rattle.cover_judge.proofs.Vocabulary.{TreeFault, IfWrong, Outcome, Shown, asked, ProgramSketch, mode_in, AccessId, Cover, Value, Source, Order, covers_of, event_of, HasNoOrder, AreValidCovers}
+use Rattle.cover_judge.proofs.Vocabulary.{Choice, FirstWrongCoverChild, HasNoValues, HasNoSources, sketch_with, MayChoose, AreValueChoices, AreSourceChoices, IsAtRoot, IsBelow, IsValidAfter}
+use Rattle.cover_judge.proofs.Vocabulary.{IsWrongAt, AreValidAfter, IsWrongChild}
 use Rattle.candidate_executions.specs.Sketches as sketches
 use Rattle.cert_forest.proofs.TreeTexts.{covers_count}
 use Rattle.cover_judge.specs.declared.choice.Choice.TheVariants as choice
-use Rattle.cover_judge.proofs.Mapped.{map_map}
-use Rattle.cover_judge.proofs.Answered.{err_up, if_err, on_ok}
-use Rattle.cover_judge.proofs.ChoicesJudged.{if_wrong, no_order}
+use Rattle.cover_judge.proofs.{Mapped.map_map, Answered.err_up, Answered.if_err, Answered.on_ok, ChoicesJudged.if_wrong, ChoicesJudged.no_order}
 
 -- a node for the values of a thread's next read
 abbrev pub values_node : ℕ → List Cover → Cover

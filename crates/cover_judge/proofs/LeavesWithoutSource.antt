@@ -1,6 +1,5 @@
 -- A leaf for a read that has no source is valid.
-use Rattle.std.proofs.Common.{[], List, Contains, arith}
-use Rattle.cover_judge.proofs.Vocabulary.{Outcome, Shown, ProgramSketch, LacksSource, AccessId, Source, NoCover, event_of, IsValidAfter}
+use Rattle.cover_judge.proofs.Vocabulary.{[], List, Contains, arith, Outcome, Shown, ProgramSketch, LacksSource, AccessId, Source, NoCover, event_of, IsValidAfter}
 
 none_in : {A : Type 0} (x : A) → Contains [] x → ⊥
 none_in x h = let n = h.1 in omega arith

@@ -1,5 +1,5 @@
 -- Lists made from lists, and the rest of a list.
-use Rattle.std.proofs.Common.{◌≡◌, ℕ, suc, ◌+◌, ◌<◌, List, [], ◌∷◌, length, map, get_or, drop, drop-cons, refl, ap, ◌∙◌, arith}
+use Rattle.cover_judge.proofs.Vocabulary.{◌≡◌, ℕ, suc, ◌+◌, ◌<◌, List, [], ◌∷◌, length, map, get_or, drop, drop-cons, refl, ap, ◌∙◌, arith}
 
 pub map_map : {A B C : Type 0} (f : B → C) (g : A → B) (xs : List A) → map f (map g xs) ≡ map (λ x. f (g x)) xs
 map_map f g [] = refl

@@ -1,9 +1,6 @@
 -- What holds of the sketch that a choice makes holds of the sketch with the choice.
-use Rattle.std.proofs.Common.{◌≡◌, List, [], ◌∷◌, refl, sym, subst}
-use Rattle.std.proofs.lemmas.List.{append-nil}
-use Rattle.std.specs.Prelude.{Result}
-use Rattle.cover_judge.proofs.Vocabulary.{IfErr, OnOk, Listing, Outcome, Shown, asked, Machine, Sketch, ProgramSketch, mode_in, with_chosen, event_of, Cover, IsValidCover, FirstWrongCover}
-use Rattle.cover_judge.proofs.Vocabulary.{Choice, sketch_with, TreeFault, IfWrong, IsValidAfter, IsWrongAt}
+use Rattle.cover_judge.proofs.Vocabulary.{◌≡◌, List, [], ◌∷◌, refl, sym, subst, append-nil, Result, IfErr, OnOk, Listing, Outcome, Shown, asked, Machine, Sketch, ProgramSketch, mode_in, with_chosen}
+use Rattle.cover_judge.proofs.Vocabulary.{event_of, Cover, IsValidCover, FirstWrongCover, Choice, sketch_with, TreeFault, IfWrong, IsValidAfter, IsWrongAt}
 use Rattle.sketches.specs.Marks.{ComesAfter}
 use Rattle.cover_judge.specs.declared.choice.Choice.TheVariants as choice
 

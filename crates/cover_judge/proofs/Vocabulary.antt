@@ -1,26 +1,32 @@
 -- What many proofs of this crate speak of, imported once.
-pub use Rattle.std.proofs.lemmas.List.{length-map, length-take-le}
+pub use Rattle.std.proofs.Common.{All, Bool, Contains, IsSome, IsTrue, List, MatchOption, None, Option, Some, [], ap, arith, drop, drop-cons, false, get_or, inl, inr, length, map, not, refl}
+pub use Rattle.std.proofs.Common.{slice_get, subst, suc, sym, take, true, zero, ℕ, ◌*◌, ◌+◌, ◌<◌, ◌↔◌, ◌∙◌, ◌∷◌, ◌≡◌, ◌≤◌}
+pub use Rattle.std.proofs.lemmas.List.{append-nil, drop_all, get_or-map, length-drop, length-map, length-take-le}
 pub use Rattle.std.proofs.lemmas.Option.{same_Some}
-pub use Rattle.std.specs.Prelude.{IfErr, OnOk}
-pub use Rattle.candidate_executions.specs.Sketches.{IsSourceOf, IsWhole, Sketch}
+pub use Rattle.std.specs.Global.{Vec}
+pub use Rattle.std.specs.List.{AllPairs, flat_map}
+pub use Rattle.std.specs.Prelude.{Err, IfErr, IfOk, IsErrAnd, Ok, OnOk, Result}
+pub use Rattle.candidate_executions.specs.Consistency.{Leads}
+pub use Rattle.candidate_executions.specs.Sketches.{IsKnownCycle, IsPair, IsSourceOf, IsWhole, KnownEdgeOfMode, MustEndAs, Sketch, with_pair, with_source, with_value}
 pub use Rattle.candidate_executions.specs.Values.{IsValueOf}
 pub use Rattle.candidate_executions.specs.declared.event.Event.{Event}
+pub use Rattle.cert_forest.proofs.NextNodes.{order_next, rest_no_longer, source_next, value_next}
 pub use Rattle.cert_forest.proofs.ShorterWalks.{next_is_shorter}
 pub use Rattle.cert_forest.specs.Machine.{Machine}
 pub use Rattle.cert_forest.specs.Nodes.{first_tree, spell_all}
-pub use Rattle.cert_forest.specs.Trees.{Cover, NoCover, Order, Source, Value, covers_of}
+pub use Rattle.cert_forest.specs.Trees.{Cover, Covers, Cycle, Known, MoreCovers, NoCover, Order, Source, Value, covers_of}
 pub use Rattle.cert_forest.specs.declared.tree.AccessId.{AccessId}
+pub use Rattle.sketches.specs.Choices.{HasSource, IsRead, MayRead}
 pub use Rattle.sketches.specs.ProgramSketches.{ProgramSketch, mode_in, with_chosen}
-pub use Rattle.sketches.specs.RowlessSketches.{AreSources, LacksSource}
+pub use Rattle.sketches.specs.RowlessSketches.{AreSources, IsFree, LacksSource}
 pub use Rattle.tree_laws.proofs.OneList.{one_list_of_sources, one_list_of_values}
-pub use Rattle.tree_laws.specs.CoverTrees.{AreValidCovers, HasNextValues, HasNoOrder, IsValidCover, event_of}
-pub use Rattle.tso_program.specs.Shown.{asked}
+pub use Rattle.tree_laws.specs.CoverTrees.{AreValidCovers, HasNextValues, HasNoOrder, HasSources, IsValidCover, MustEndAsNumber, event_of}
+pub use Rattle.tso_program.specs.Shown.{Question, asked}
 pub use Rattle.tso_program.specs.declared.listing.Listing.{Listing}
 pub use Rattle.tso_program.specs.declared.outcome.Outcome.{Outcome}
 pub use Rattle.tso_program.specs.declared.shown.Shown.{Shown}
-pub use Rattle.cover_judge.specs.Choices.{AreSourceChoices, AreValueChoices, IsSourceOpen, IsValueOpen, MayChoose, sketch_with}
+pub use Rattle.cover_judge.specs.Choices.{AreSourceChoices, AreValueChoices, IsSourceOpen, IsValueOpen, MayChoose, MayChooseEach, sketch_with}
 pub use Rattle.cover_judge.specs.CoverDefects.{FirstWrongCover, FirstWrongCoverChild, HasNoSources, HasNoValues}
-pub use Rattle.cover_judge.specs.Judged.{AreNotSoMany, AreValidAfter, IfWrong, IsAtRoot, IsBelow, IsValidAfter, IsWrongAt, IsWrongChild}
+pub use Rattle.cover_judge.specs.Judged.{AreNotSoMany, AreSoMany, AreValidAfter, IfWrong, IsAtRoot, IsBelow, IsFrom, IsValidAfter, IsWrongAt, IsWrongChild}
 pub use Rattle.cover_judge.specs.declared.choice.Choice.{Choice}
-pub use Rattle.cover_judge.specs.declared.fault.TreeFault.{TreeFault}
-pub use Rattle.cover_judge.specs.declared.fault.TreeFault.TheVariants.{OutOfMemory, Wrong}
+pub use Rattle.cover_judge.specs.declared.fault.TreeFault.{TreeFault, TheVariants.OutOfMemory, TheVariants.Wrong}

@@ -1,10 +1,7 @@
 -- A valid cover tree has no wrong node, and any other has one first wrong node.
-use Rattle.std.proofs.Common.{◌≡◌, ℕ, zero, suc, List, [], ◌∷◌, length, map, refl, ap, ◌∙◌, subst}
-use Rattle.cover_judge.proofs.Vocabulary.{length-map, Outcome, Machine, event_of, IsValidCover, AreValidCovers, one_list_of_values, one_list_of_sources, TreeFault, Wrong, OutOfMemory, FirstWrongCover}
-use Rattle.cover_judge.proofs.Vocabulary.{FirstWrongCoverChild, IfWrong}
-use Rattle.tso_program.specs.Shown.{Question}
-use Rattle.candidate_executions.specs.Sketches.{Sketch, with_value, with_source, with_pair}
-use Rattle.cert_forest.specs.Trees.{Cover, Value, Source, Order, Cycle, Known, Covers, NoCover, MoreCovers}
+use Rattle.cover_judge.proofs.Vocabulary.{◌≡◌, ℕ, zero, suc, List, [], ◌∷◌, length, map, refl, ap, ◌∙◌, subst, length-map, Outcome, Machine, event_of, IsValidCover, AreValidCovers, one_list_of_values}
+use Rattle.cover_judge.proofs.Vocabulary.{one_list_of_sources, TreeFault, Wrong, OutOfMemory, FirstWrongCover, FirstWrongCoverChild, IfWrong, Question, Sketch, with_value, with_source, with_pair}
+use Rattle.cover_judge.proofs.Vocabulary.{Cover, Value, Source, Order, Cycle, Known, Covers, NoCover, MoreCovers}
 use Rattle.cert_forest.specs.Texts.{count_covers}
 
 -- the path to the next sibling

@@ -7,8 +7,7 @@ use Rattle.sketches.specs.Choices.{IsRead, HasSource, MayRead, MayFollow}
 use Rattle.sketches.specs.ProgramSketches.{ProgramSketch, mode_in}
 use Rattle.cert_forest.specs.declared.tree.AccessId.{AccessId}
 use Rattle.tree_laws.specs.CoverTrees.{event_of, HasNextValues, HasSources}
-use Rattle.cover_judge.specs.declared.choice.Choice.{Choice}
-use Rattle.cover_judge.specs.declared.choice.Choice.TheVariants.{Value, Source, Order}
+use Rattle.cover_judge.specs.declared.choice.Choice.{Choice, TheVariants.Value, TheVariants.Source, TheVariants.Order}
 
 -- the sketch with the choice
 abbrev pub sketch_with : Sketch → Choice → Sketch

@@ -9,8 +9,7 @@ use Rattle.sketches.specs.ProgramSketches.{ProgramSketch, mode_in}
 use Rattle.cert_forest.specs.Trees.{Cover, covers_of}
 use Rattle.tree_laws.specs.CoverTrees.{IsValidCover, AreValidCovers}
 use Rattle.cover_judge.specs.declared.choice.Choice.{Choice}
-use Rattle.cover_judge.specs.declared.fault.TreeFault.{TreeFault}
-use Rattle.cover_judge.specs.declared.fault.TreeFault.TheVariants.{Wrong, OutOfMemory}
+use Rattle.cover_judge.specs.declared.fault.TreeFault.{TreeFault, TheVariants.Wrong, TheVariants.OutOfMemory}
 use Rattle.cover_judge.specs.CoverDefects as covers
 use Rattle.cover_judge.specs.Choices.{sketch_with}
 

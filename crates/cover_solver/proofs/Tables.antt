@@ -1,40 +1,25 @@
 -- What trees and runs say of tables, sets and foreign runs.
-use Rattle.std.proofs.Common.{◌≡◌, ◌↔◌, ℕ, ◌<◌, Bool, true, false, IsTrue, List, Some, Contains, slice_get, sym, ap, ◌∙◌, subst, arith}
-use Rattle.std.specs.Prelude.{Result, Ok, Err, IfOk, IfErr, is_ok}
+use Rattle.cover_solver.proofs.Vocabulary.{◌≡◌, ◌↔◌, ℕ, ◌<◌, Bool, true, false, IsTrue, List, Some, Contains, slice_get, sym, ap, ◌∙◌, subst, arith, Result, Ok, Err, IfOk, IfErr, is_ok, Question}
+use Rattle.cover_solver.proofs.Vocabulary.{show, asked, ForeignFaultIs, of_replay, Machine, SequentialMachine, StoreBufferMachine, no_gaps, outcome_at, IsRun, IsSequentialTable, IsListOf, IsServing}
+use Rattle.cover_solver.proofs.Vocabulary.{AreRunsOf, place_in, ArePlacesOf, Bor, machine_of_mode, Listing, Outcome, Shown, JumpForward, Label, ReplayFaultIs, ArePassed, IsShownRun, IsForeignRun}
+use Rattle.cover_solver.proofs.Vocabulary.{renumbered, BelongsAt, not_there}
 use Rattle.std.specs.FinSet as set
 use Rattle.std.proofs.lemmas.Option.{same_Some}
 use Rattle.gap_sets.specs.Gaps.{SetOfGaps}
-use Rattle.tso_program.specs.Shown.{Question, show, asked}
-use Rattle.tso_program.specs.Fences.{gaps_in}
-use Rattle.tso_machine.specs.declared.replaying.ReplayFault.{ReplayFault}
+use Rattle.tso_program.specs.{Fences.gaps_in, Ordered.outcome_cmp}
+use Rattle.tso_machine.specs.{declared.replaying.ReplayFault.ReplayFault, declared.mode.Mode.Mode}
 use Rattle.tso_machine.specs.declared.replaying.ReplayFault.TheVariants as replays
 use Rattle.tso_machine.proofs.Refused.{no_fault}
-use Rattle.tree_laws.proofs.Lists.{found_is_here}
+use Rattle.tree_laws.proofs.{Lists.found_is_here, ListedOutcomes.fenced_tree_serves, OneList.one_list}
 use Rattle.cover_solver.specs.declared.fault.ForeignFault.TheVariants as foreign
-use Rattle.cover_solver.specs.ForeignFaults.{ForeignFaultIs, of_replay}
-use Rattle.tso_machine.specs.Machine.{Machine, SequentialMachine, StoreBufferMachine, no_gaps, outcome_at, IsRun}
 use Rattle.fence_laws.proofs.GapsAvoided.{fenced_runs_avoid}
-use Rattle.cert_forest.specs.Trees.{Cover}
-use Rattle.cert_forest.specs.declared.node.TheConstants.{NEAR_RUNS}
-use Rattle.tree_laws.proofs.ListedOutcomes.{fenced_tree_serves}
-use Rattle.sketch_covers.specs.Covers.{IsWholeCover}
-use Rattle.cover_solver.specs.Facts.{IsSequentialTable, IsListOf, IsServing}
-use Rattle.sketch_covers.specs.OutcomeNumbers.{AreRunsOf, place_in, ArePlacesOf}
-use Rattle.tso_program.specs.Ordered.{outcome_cmp}
-use Rattle.tree_laws.proofs.OneList.{one_list}
-use Rattle.partial_covers.proofs.RenumberedTrees.{whole_renumbered}
+use Rattle.cert_forest.specs.{Trees.Cover, declared.node.TheConstants.NEAR_RUNS}
+use Rattle.sketch_covers.specs.{Covers.IsWholeCover, KnownOutcomes.StopIs, declared.known_outcomes.KnownOutcomes.TheVariants.Closed, declared.stop.Stop.Stop}
+use Rattle.partial_covers.proofs.{RenumberedTrees.whole_renumbered, HoleTrees.stop_lacks}
 use Rattle.tso_program.proofs.OutcomesOrdered.{one_way}
 use Rattle.std.specs.declared.cmp.Ordering.TheVariants.{Less}
-use Rattle.std.proofs.Common.{Bor}
-use Rattle.tso_machine.specs.Modes.{machine_of_mode}
-use Rattle.tso_machine.specs.declared.mode.Mode.{Mode}
 use Rattle.tso_machine.specs.declared.mode.Mode.TheVariants as modes
-use Rattle.sketch_covers.specs.KnownOutcomes.{StopIs}
-use Rattle.sketch_covers.specs.declared.known_outcomes.KnownOutcomes.TheVariants.{Closed}
-use Rattle.sketch_covers.specs.declared.stop.Stop.{Stop}
 use Rattle.partial_covers.specs.HoleTrees.{StopLacks}
-use Rattle.partial_covers.proofs.HoleTrees.{stop_lacks}
-use Rattle.cover_solver.proofs.Vocabulary.{Listing, Outcome, Shown, JumpForward, Label, ReplayFaultIs, ArePassed, IsShownRun, IsForeignRun, renumbered, BelongsAt, not_there}
 
 -- a question by its parts
 pub same_question : (q : Question) (p : Listing) (shown : Shown) → p ≡ q.program → shown ≡ q.shown → asked p shown ≡ q

@@ -1,13 +1,8 @@
 -- Runs that show a truth are witnesses of it.
-use Rattle.std.proofs.Common.{◌≡◌, ◌↔◌, ℕ, Bool, List, Option, Some, None, Contains, slice_get, sym, ap, subst, ◌∙◌}
-use Rattle.std.specs.Prelude.{MatchOption}
+use Rattle.cover_solver.proofs.Vocabulary.{◌≡◌, ◌↔◌, Bool, List, Option, Some, None, Contains, sym, ap, subst, MatchOption, Listing, Outcome, Label, Machine, IsShownRun, AllowsShown, AreRunsOf, told}
+use Rattle.cover_solver.proofs.Vocabulary.{asked, Question}
 use Rattle.std.specs.Global.{Vec}
-use Rattle.cover_solver.proofs.Vocabulary.{Listing, Outcome, Label, Machine, IsShownRun, AllowsShown, AreRunsOf}
-use Rattle.tso_program.specs.declared.atom.Atom.{Atom}
-use Rattle.tso_program.specs.declared.shown.Shown.TheVariants.{Truth}
-use Rattle.tso_program.specs.Tree.{Tree}
-use Rattle.tso_program.specs.Truth.{truth}
-use Rattle.tso_program.specs.Shown.{told, asked, Question}
+use Rattle.tso_program.specs.{declared.atom.Atom.Atom, declared.shown.Shown.TheVariants.Truth, Tree.Tree, Truth.truth}
 use Rattle.tso_program.proofs.ReadOff.{told_apart}
 use Rattle.cover_solver.specs.Witnesses.{IsWitness, HasNoWitness}
 

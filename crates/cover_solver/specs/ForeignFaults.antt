@@ -9,8 +9,7 @@ use Rattle.tso_machine.specs.declared.replaying.ReplayFault.TheVariants as repla
 use Rattle.tso_machine.specs.Faults.{ReplayFaultIs}
 use Rattle.tso_machine.specs.Machine.{StoreBufferMachine, no_gaps}
 use Rattle.tso_machine.specs.Outcomes.{IsShownRun, IsSequentialOutcome}
-use Rattle.cover_solver.specs.declared.fault.ForeignFault.{ForeignFault}
-use Rattle.cover_solver.specs.declared.fault.ForeignFault.TheVariants.{Replay, Sequential, OutOfMemory}
+use Rattle.cover_solver.specs.declared.fault.ForeignFault.{ForeignFault, TheVariants.Replay, TheVariants.Sequential, TheVariants.OutOfMemory}
 
 -- the fault of a replay as one of a foreign run; out of memory stays that
 abbrev pub of_replay : ReplayFault → ForeignFault

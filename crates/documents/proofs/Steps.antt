@@ -1,8 +1,6 @@
 -- Steps, one more; and the labels of the steps of a run.
-use Rattle.std.proofs.Common.{◌≡◌, List, [], ◌∷◌, ◌++◌, map, refl}
-use Rattle.documents.proofs.Vocabulary.{Listing, Label, Step, StepPart, HasLabel, HaveLabels}
-use Rattle.tso_machine.specs.Machine.{Machine, State}
-use Rattle.tso_machine.specs.Steps.{AreSteps}
+use Rattle.documents.proofs.Vocabulary.{◌≡◌, List, [], ◌∷◌, ◌++◌, map, refl, Listing, Label, Step, StepPart, HasLabel, HaveLabels}
+use Rattle.tso_machine.specs.{Machine.Machine, Machine.State, Steps.AreSteps}
 
 pub one_more_step : (labels : List Label) (parts : List StepPart) (label : Label) (part : StepPart) → HaveLabels labels parts → HasLabel label part → HaveLabels (labels ++ label ∷ []) (parts ++ part ∷ [])
 one_more_step [] [] label part have has = (has, tt)

@@ -1,8 +1,6 @@
 -- Documents, from the members that are added one after the other.
-use Rattle.std.proofs.Common.{◌≡◌, ◌∙◌, ℕ, List, [], ◌∷◌, ◌++◌, ap, append_assoc}
-use Rattle.tso_program.specs.declared.listing.Listing.{Listing}
+use Rattle.documents.proofs.Vocabulary.{◌≡◌, ◌∙◌, ℕ, List, [], ◌∷◌, ◌++◌, ap, append_assoc, Listing, TellsHeading, document_of, IsDocument}
 use Rattle.report.specs.Litmus.{Litmus}
-use Rattle.documents.specs.Documents.{TellsHeading, document_of, IsDocument}
 
 -- one more member after others
 pub added : (first front : List (List ℕ)) (one : List ℕ) (before after : List (List ℕ)) → before ≡ first ++ front → after ≡ before ++ one ∷ [] → after ≡ first ++ (front ++ one ∷ [])

@@ -9,14 +9,12 @@ use Rattle.tso_program.specs.declared.instruction.Reg.{Reg}
 use Rattle.tso_program.specs.declared.listing.Listing.{Listing}
 use Rattle.tso_program.specs.declared.listing.Thread.{Thread}
 use Rattle.tso_program.specs.declared.outcome.Outcome.{Outcome}
-use Rattle.tso_program.specs.declared.shown.Shown.{Shown}
-use Rattle.tso_program.specs.declared.shown.Shown.TheVariants.{All, Only, Truth}
+use Rattle.tso_program.specs.declared.shown.Shown.{Shown, TheVariants.All, TheVariants.Only, TheVariants.Truth}
 use Rattle.tso_program.specs.Instructions.{number}
 use Rattle.tso_program.specs.Listings.{gap_place}
 use Rattle.tso_program.specs.Shown.{shows_register, shows_location}
 use Rattle.report.specs.Litmus.{Litmus}
-use Rattle.report.specs.Names.{TextNames, all_registers}
-use Rattle.report.specs.Names.{register_name, is_named}
+use Rattle.report.specs.Names.{TextNames, all_registers, register_name, is_named}
 use Rattle.json_text.specs.Texts.{quoted, array_text, member, object_text, truth_text}
 use Rattle.documents.specs.declared.program.ProgramPart.{ProgramPart}
 

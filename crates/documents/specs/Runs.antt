@@ -11,8 +11,7 @@ use Rattle.tso_machine.specs.RunTexts.{spelling}
 use Rattle.tso_program.specs.Truth.{truth}
 use Rattle.report.specs.Litmus.{Litmus}
 use Rattle.json_text.specs.Texts.{quoted, array_text, member, object_text, truth_text}
-use Rattle.documents.specs.declared.run.Setting.{Setting}
-use Rattle.documents.specs.declared.run.Setting.TheVariants.{Without, Machine}
+use Rattle.documents.specs.declared.run.Setting.{Setting, TheVariants.Without, TheVariants.Machine}
 use Rattle.documents.specs.declared.step.StepPart.{StepPart}
 use Rattle.documents.specs.Parts.{quoted_gap, gaps_array, outcome_array}
 

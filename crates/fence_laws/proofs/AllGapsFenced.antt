@@ -1,12 +1,7 @@
 -- With every gap fenced a run passes none, so its outcome is sequential.
-use Rattle.fence_laws.proofs.Vocabulary.{List, SetOfGaps, Listing, Outcome, Question, gaps_in, JumpForward, Label, start}
-use Rattle.tso_program.proofs.Gaps.{gap_below}
-use Rattle.tso_machine.specs.Outcomes.{IsStoreBufferOutcome, IsSequentialOutcome}
-use Rattle.fence_laws.specs.Laws.{PassesNoGap, PassesNoGapOf, HasEveryGapOf, AllGapsServe}
-use Rattle.fence_laws.proofs.SequentialIsBuffered.{sequential_is_allowed}
-use Rattle.fence_laws.proofs.NothingPassed.{nothing_passed}
-use Rattle.fence_laws.proofs.Unfenced.{unfenced}
-use Rattle.fence_laws.proofs.GapsAvoided.{fenced_run_passes_none}
+use Rattle.fence_laws.proofs.Vocabulary.{List, SetOfGaps, Listing, Outcome, Question, gaps_in, JumpForward, Label, start, gap_below, IsStoreBufferOutcome, IsSequentialOutcome, PassesNoGap}
+use Rattle.fence_laws.proofs.Vocabulary.{PassesNoGapOf, HasEveryGapOf, AllGapsServe}
+use Rattle.fence_laws.proofs.{SequentialIsBuffered.sequential_is_allowed, NothingPassed.nothing_passed, Unfenced.unfenced, GapsAvoided.fenced_run_passes_none}
 
 -- every gap of the program is one of the set
 every_gap : (p : Listing) (gaps : SetOfGaps) (labels : List Label) → HasEveryGapOf p gaps → PassesNoGapOf p gaps labels → PassesNoGap p labels

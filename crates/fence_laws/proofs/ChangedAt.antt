@@ -1,7 +1,6 @@
 -- A function changed at one place.
 use Rattle.fence_laws.proofs.Vocabulary.{◌≡◌, ℕ, sym, subst, inl, inr, fun_ext, cases_eq, put}
-pub use Rattle.tso_machine.proofs.Link.{put_same}
-pub use Rattle.tso_machine.proofs.Link.{put_other}
+pub use Rattle.tso_machine.proofs.Link.{put_same, put_other}
 
 -- what holds of three functions at the place where they are changed, and at each other place of what they were, holds at each place
 pub put_three : {A B C : Type 0} (P : ℕ → A → B → C → Type 0) (f : ℕ → A) (g : ℕ → B) (h : ℕ → C) (t : ℕ) (x : A) (y : B) (z : C) → P t x y z →

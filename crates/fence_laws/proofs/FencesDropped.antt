@@ -1,11 +1,9 @@
 -- A run of the fenced program is a run with gaps fenced: a thread after a fence of its own has nothing waiting until its instruction.
-use Rattle.fence_laws.proofs.Vocabulary.{◌≡◌, ℕ, ◌+◌, Bool, true, false, List, [], ◌∷◌, ◌++◌, ◌⊎◌, Option, Some, None, option_and_then, refl, sym, ap, ◌∙◌, subst, inl, inr, option_map, same_Some, option_and_then_some, Instr, Fence, Listing, Local}
-use Rattle.fence_laws.proofs.Vocabulary.{Wait, onward, action, instr_at, Gaps, place_of, moved, fence, Label, Exec, Flush, Pending, no_gaps, State, put, when_empty, step, run, first_of, instr_at_place, instr_after_fence}
-use Rattle.fence_laws.proofs.ChangedAt.{put_each}
-use Rattle.fence_laws.proofs.FencedActions.{placed}
+use Rattle.fence_laws.proofs.Vocabulary.{◌≡◌, ℕ, ◌+◌, Bool, true, false, List, [], ◌∷◌, ◌++◌, ◌⊎◌, Option, Some, None, option_and_then, refl, sym, ap, ◌∙◌, subst, inl, inr, option_map, same_Some}
+use Rattle.fence_laws.proofs.Vocabulary.{option_and_then_some, Instr, Fence, Listing, Local, Wait, onward, action, instr_at, Gaps, place_of, moved, fence, Label, Exec, Flush, Pending, no_gaps, State}
+use Rattle.fence_laws.proofs.Vocabulary.{put, when_empty, step, run, first_of, instr_at_place, instr_after_fence}
+use Rattle.fence_laws.proofs.{ChangedAt.put_each, FencedActions.placed, FencedSteps.with_locals, FencedSteps.follow, FencedSteps.fence_step, FencedSteps.instruction_step, FencesInserted.next_place}
 use Rattle.fence_laws.proofs.EitherMachine.{mode_with, effect, NothingWaits, made, makes, others_keep, stands_at, stored, flush_made, flush_makes}
-use Rattle.fence_laws.proofs.FencedSteps.{with_locals, follow, fence_step, instruction_step}
-use Rattle.fence_laws.proofs.FencesInserted.{next_place}
 
 module _ (p : Listing) (gaps : Gaps) (waits : Bool) where
   -- the thread of the fenced program has executed the fence of the instruction at which the thread stands

@@ -1,10 +1,9 @@
 -- A run with gaps fenced is a run of the fenced program: its fences are executed just before their instructions.
-use Rattle.std.proofs.Common.{◌≡◌, ℕ, suc, ◌+◌, Bool, true, false, List, [], ◌∷◌, ◌++◌, Some, option_and_then, refl, sym, ap, ◌∙◌, subst, arith}
-use Rattle.std.specs.Prelude.{if◌then◌else◌}
-use Rattle.fence_laws.proofs.Vocabulary.{option_map, option_and_then_some, Instr, Fence, Listing, Local, Wait, onward, action, instr_at, Gaps, place_of, moved, fence, Label, Exec, Flush, no_gaps, State, put, when_empty, step, run, first_of}
+use Rattle.fence_laws.proofs.Vocabulary.{◌≡◌, ℕ, suc, ◌+◌, Bool, true, false, List, [], ◌∷◌, ◌++◌, Some, option_and_then, refl, sym, ap, ◌∙◌, subst, arith, option_map, option_and_then_some, Instr}
+use Rattle.fence_laws.proofs.Vocabulary.{Fence, Listing, Local, Wait, onward, action, instr_at, Gaps, place_of, moved, fence, Label, Exec, Flush, no_gaps, State, put, when_empty, step, run, first_of}
 use Rattle.fence_laws.proofs.Vocabulary.{instr_at_place, instr_after_fence}
-use Rattle.fence_laws.proofs.ChangedAt.{put_same, put_other, put_each}
-use Rattle.fence_laws.proofs.FencedActions.{placed}
+use Rattle.std.specs.Prelude.{if◌then◌else◌}
+use Rattle.fence_laws.proofs.{ChangedAt.put_same, ChangedAt.put_other, ChangedAt.put_each, FencedActions.placed}
 use Rattle.fence_laws.proofs.EitherMachine.{mode_with, effect, NothingWaits, made, others_keep, stands_at, flush_made, flush_makes}
 use Rattle.fence_laws.proofs.FencedSteps.{with_locals, follow, fence_step, instruction_step}
 

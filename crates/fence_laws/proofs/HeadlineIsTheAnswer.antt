@@ -1,7 +1,5 @@
 -- What the headline says of fenced programs, the answer says of sets of fenced gaps.
-use Rattle.fence_laws.proofs.Vocabulary.{ℕ, List, SetOfGaps, Question, gaps_in}
-use Rattle.tso_machine.specs.Outcomes.{IsTheAnswer, Headline}
-use Rattle.fence_laws.specs.Laws.{TheHeadlineIsTheAnswer}
+use Rattle.fence_laws.proofs.Vocabulary.{ℕ, List, SetOfGaps, Question, gaps_in, IsTheAnswer, Headline, TheHeadlineIsTheAnswer}
 use Rattle.fence_laws.proofs.FencingIsTheMachine.{fencing_is_the_machine}
 
 -- the set of a fenced program

@@ -1,12 +1,9 @@
 -- A run that passes no gap waits at each place, and so has a sequential outcome.
-use Rattle.std.proofs.Common.{◌≡◌, ℕ, ◌+◌, ◌-◌, Bool, true, false, List, Some, refl, sym, ◌∙◌, take}
+use Rattle.fence_laws.proofs.Vocabulary.{◌≡◌, ℕ, ◌+◌, ◌-◌, Bool, true, false, List, Some, refl, sym, ◌∙◌, take, Listing, gap_count, JumpForward, Label, no_gaps, StoreBufferMachine, State, run, start}
+use Rattle.fence_laws.proofs.Vocabulary.{passes, run_fenced, gap_is, PassesNoGap, ARunThatPassesNothingIsSequential, ARunWithNothingPassedIsSequential}
 use Rattle.std.specs.Ordering.{nat_cmp}
 use Rattle.std.specs.FinSet as set
-use Rattle.fence_laws.proofs.Vocabulary.{Listing, gap_count, JumpForward, Label, no_gaps, StoreBufferMachine, State, run, start, passes, run_fenced}
-use Rattle.tso_program.proofs.Gaps.{gap_is}
-use Rattle.fence_laws.specs.Laws.{PassesNoGap, ARunThatPassesNothingIsSequential, ARunWithNothingPassedIsSequential}
-use Rattle.fence_laws.proofs.WaitingEverywhere.{all, to_sequential}
-use Rattle.fence_laws.proofs.PassedPlaces.{passed_inside}
+use Rattle.fence_laws.proofs.{WaitingEverywhere.all, WaitingEverywhere.to_sequential, PassedPlaces.passed_inside}
 
 -- a place that is passed would be a gap
 no_place_passed : (p : Listing) (labels : List Label) (last : State) (t k : ℕ) → JumpForward p.threads → run p (StoreBufferMachine no_gaps) (start p) labels ≡ Some last → PassesNoGap p labels →

@@ -1,10 +1,6 @@
 -- No two sets are both the answer.
-use Rattle.fence_laws.proofs.Vocabulary.{ℕ, ◌≤◌, List, inl, inr, arith, Listing, Question, gap_count}
-use Rattle.gap_sets.specs.Gaps.{SetOfGaps, IsGapSet}
-use Rattle.gap_sets.specs.Order.{Better}
+use Rattle.fence_laws.proofs.Vocabulary.{ℕ, ◌≤◌, List, inl, inr, arith, Listing, Question, gap_count, SetOfGaps, IsGapSet, Better, AreGapsOf, LeavesOutcome, IsTheAnswer, TheAnswerIsTheOnlyOne}
 use Rattle.gap_sets.proofs.Orders.{decided}
-use Rattle.tso_machine.specs.Outcomes.{AreGapsOf, LeavesOutcome, IsTheAnswer}
-use Rattle.fence_laws.specs.Laws.{TheAnswerIsTheOnlyOne}
 use Rattle.gap_sets.specs.declared.gap_set.TheConstants.{MAX_GAPS}
 
 -- the gaps of a program within the limits have numbers below `MAX_GAPS`

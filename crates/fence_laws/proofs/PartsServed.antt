@@ -1,16 +1,9 @@
 -- What holds where more is shown holds where a part of it is.
-use Rattle.fence_laws.proofs.Vocabulary.{Bool, refl, sym, ap, ◌∙◌, inl, inr, Listing, Outcome, Shown, gaps_in, Machine, SequentialMachine, StoreBufferMachine, AllowsShown, LeavesOutcome}
-use Rattle.std.proofs.lemmas.Bool.{cases_lt}
-use Rattle.gap_sets.specs.Order.{total}
-use Rattle.tso_program.specs.declared.shown.Shown.TheVariants.{All, Truth}
-use Rattle.tso_program.specs.Shown.{show, told, asked}
-use Rattle.tso_program.specs.declared.atom.Atom.{Atom}
-use Rattle.tso_program.specs.Tree.{Tree}
-use Rattle.tso_program.specs.Truth.{truth}
-use Rattle.tso_program.specs.Laws.{IsReadOff}
-use Rattle.tso_program.proofs.Kept.{off_all}
-use Rattle.tso_program.proofs.ReadOff.{truth_read_off, told_apart}
-use Rattle.fence_laws.specs.Laws.{WhatServesServesEachPart, WhatServesForAllServes, WhatServesServesTheTruth, AnObservedAnswerCostsNoMore, ATruthsAnswerCostsNoMore, LeavesTruth, AServedTruthIsKept}
+use Rattle.fence_laws.proofs.Vocabulary.{Bool, refl, sym, ap, ◌∙◌, inl, inr, Listing, Outcome, Shown, gaps_in, Machine, SequentialMachine, StoreBufferMachine, AllowsShown, LeavesOutcome, cases_lt}
+use Rattle.fence_laws.proofs.Vocabulary.{total, show, told, asked, WhatServesServesEachPart, WhatServesForAllServes, WhatServesServesTheTruth, AnObservedAnswerCostsNoMore, ATruthsAnswerCostsNoMore}
+use Rattle.fence_laws.proofs.Vocabulary.{LeavesTruth, AServedTruthIsKept}
+use Rattle.tso_program.specs.{declared.shown.Shown.TheVariants.All, declared.shown.Shown.TheVariants.Truth, declared.atom.Atom.Atom, Tree.Tree, Truth.truth, Laws.IsReadOff}
+use Rattle.tso_program.proofs.{Kept.off_all, ReadOff.truth_read_off, ReadOff.told_apart}
 
 module _ (p : Listing) (small large : Shown) (part : IsReadOff small large) where
   -- where one machine shows no more than another, it shows no more of a part

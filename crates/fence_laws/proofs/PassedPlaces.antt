@@ -1,14 +1,11 @@
 -- What a run passes are gaps: never a thread's first instruction, since nothing leads back to it, nor its end.
-use Rattle.std.proofs.Common.{◌≡◌, ℕ, ◌<◌, ◌≤◌, Bool, true, false, ◌&&◌, ◌||◌, ◌==◌, not, List, [], ◌∷◌, length, Option, Some, None, option_and_then, refl, sym, ap, ◌∙◌, subst, inl, inr, arith}
+use Rattle.fence_laws.proofs.Vocabulary.{◌≡◌, ℕ, ◌<◌, ◌≤◌, Bool, true, false, ◌&&◌, ◌||◌, ◌==◌, not, List, [], ◌∷◌, length, Option, Some, None, option_and_then, refl, sym, ap, ◌∙◌, subst, inl, inr}
+use Rattle.fence_laws.proofs.Vocabulary.{arith, same_Some, slice_get_within, cases_eq, Instr, Je, Jne, Jmp, Listing, Local, Action, Stop, Go, Wait, Read, Write, Swap, act, jumped, JumpForward, Label}
+use Rattle.fence_laws.proofs.Vocabulary.{Exec, Flush, Pending, action, instr_at, code_of, no_gaps, put, StoreBufferMachine, State, buffered, step, run, is_empty, from_some, passes_at, passes}
+use Rattle.fence_laws.proofs.Vocabulary.{or_cases as either}
 use Rattle.std.proofs.lemmas.Bool.Decides.{nat_tests}
-use Rattle.std.proofs.lemmas.Option.{same_Some, slice_get_within}
-use Rattle.fence_laws.proofs.Vocabulary.{cases_eq, Instr, Je, Jne, Jmp, Listing, Local, Action, Stop, Go, Wait, Read, Write, Swap, act, jumped, JumpForward, Label, Exec, Flush, Pending}
 use Rattle.tso_program.specs.Instructions.{target_of}
-use Rattle.tso_program.specs.Listings.{action, instr_at, code_of}
-use Rattle.tso_machine.specs.Machine.{no_gaps, put, StoreBufferMachine, State, buffered, step, run, is_empty, from_some, passes_at, passes}
-use Rattle.fence_laws.proofs.ChangedAt.{put_other, put_each}
-use Rattle.fence_laws.proofs.StepCases.{exec_by, flush_by}
-use Rattle.std.proofs.lemmas.Bool.{or_cases as either}
+use Rattle.fence_laws.proofs.{ChangedAt.put_other, ChangedAt.put_each, StepCases.exec_by, StepCases.flush_by}
 
 -- where an action leads is not the first instruction
 abbrev LeadsOn : Action → Type 0

@@ -5,8 +5,7 @@ use Rattle.gap_sets.specs.Gaps.{SetOfGaps}
 use Rattle.gap_sets.specs.Order.{total}
 use Rattle.tso_program.specs.declared.listing.Listing.{Listing}
 use Rattle.tso_program.specs.declared.outcome.Outcome.{Outcome}
-use Rattle.tso_program.specs.declared.shown.Shown.{Shown}
-use Rattle.tso_program.specs.declared.shown.Shown.TheVariants.{All, Truth}
+use Rattle.tso_program.specs.declared.shown.Shown.{Shown, TheVariants.All, TheVariants.Truth}
 use Rattle.tso_program.specs.Shown.{Question, asked, ShowsValues}
 use Rattle.tso_program.specs.declared.atom.Atom.{Atom}
 use Rattle.tso_program.specs.Tree.{Tree}

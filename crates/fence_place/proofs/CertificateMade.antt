@@ -1,24 +1,15 @@
 -- The certificate of a search that is done is valid, and within the limits of a text.
-use Rattle.std.proofs.Common.{◌≡◌, ℕ, ◌*◌, ◌<◌, ◌≤◌, ◌^◌, suc, List, [], ◌∷◌, All, Some, length, sym, ap, ◌∙◌, subst, arith, get_or}
-use Rattle.std.proofs.lemmas.List.Elements.{recursion_from_All}
-use Rattle.fence_place.proofs.Vocabulary.{slice_get, AllByRecursion, slice_get-get_or, SetOfGaps, IsGapSet, total, all_sets, MAX_GAPS, Question, IsWithinLimits, Label, Certificate, shows_of}
-use Rattle.fence_place.proofs.Vocabulary.{IsValidGap, undecided, Outcome, finished_state, IsOutcome, Facts, facts_of, AreNumbersOf, AreSplitRuns, IsRecorded, IsProof}
+use Rattle.fence_place.proofs.Vocabulary.{◌≡◌, ℕ, ◌*◌, ◌<◌, ◌≤◌, ◌^◌, suc, List, [], ◌∷◌, All, Some, length, sym, ap, ◌∙◌, subst, arith, get_or, recursion_from_All, slice_get, AllByRecursion}
+use Rattle.fence_place.proofs.Vocabulary.{slice_get-get_or, SetOfGaps, IsGapSet, total, all_sets, MAX_GAPS, Question, IsWithinLimits, Label, Certificate, shows_of, IsValidGap, undecided, Outcome}
+use Rattle.fence_place.proofs.Vocabulary.{finished_state, IsOutcome, Facts, facts_of, AreNumbersOf, AreSplitRuns, IsRecorded, IsProof, Machine, SequentialMachine, StoreBufferMachine, no_gaps}
+use Rattle.fence_place.proofs.Vocabulary.{gaps_in as gaps_of_set, IsTheAnswer, IsShownRun, IsSequentialOutcome, AreGapsOf, Cover, IsGapTo, gap_depth, IsRunOutside, IsValidCertificate}
+use Rattle.fence_place.proofs.Vocabulary.{AreSequentialRuns, Table, Foreign, IsSequentialTable, IsListOf, IsServing, IsForeignValue, few_undecided}
 use Rattle.gap_sets.specs.declared.costs.TheConstants.{MAX_COST}
 use Rattle.tso_program.specs.declared.outcome.Outcome as machine
-use Rattle.cover_solver.specs.Machine.{Machine, SequentialMachine, StoreBufferMachine, no_gaps}
-use Rattle.tso_program.specs.Fences.{gaps_in as gaps_of_set}
-use Rattle.cover_solver.specs.Outcomes.{IsTheAnswer, IsShownRun, IsSequentialOutcome, AreGapsOf}
-use Rattle.cert_forest.specs.Trees.{Cover}
 use Rattle.cert_forest.specs.declared.tree.TheConstants.{MAX_COVER_DEPTH, MAX_GAP_DEPTH}
 use Rattle.cert_forest.specs.Limits as limits
-use Rattle.cert_forest.specs.Limits.{IsGapTo, gap_depth}
-use Rattle.cover_solver.specs.Certificates.{IsRunOutside, IsValidCertificate, AreSequentialRuns}
-use Rattle.cover_solver.specs.Facts.{Table, Foreign, IsSequentialTable, IsListOf, IsServing, IsForeignValue}
 use Rattle.cover_solver.specs.Covers.{IsWholeCover}
-use Rattle.search_core.proofs.Working.{few_undecided}
-use Rattle.fence_place.proofs.GapTreeValid.{valid}
-use Rattle.fence_place.proofs.GapTreeSmall.{small}
-use Rattle.fence_place.proofs.ShortRuns.{short_run}
+use Rattle.fence_place.proofs.{GapTreeValid.valid, GapTreeSmall.small, ShortRuns.short_run}
 
 -- sequential runs are short
 sequential_short : (q : Question) (runs : List (List Label)) (outcomes : List machine.Outcome) → IsWithinLimits q.program.threads q.program.memory →

@@ -1,12 +1,9 @@
 -- The gap tree of the record is within the limits of a text.
-use Rattle.std.proofs.Common.{◌≡◌, ℕ, suc, ◌+◌, ◌<◌, ◌≤◌, ◌^◌, List, [], ◌∷◌, Some, length, max, refl, sym, ap, ◌∙◌, subst, arith}
+use Rattle.fence_place.proofs.Vocabulary.{◌≡◌, ℕ, suc, ◌+◌, ◌<◌, ◌≤◌, ◌^◌, List, [], ◌∷◌, Some, length, max, refl, sym, ap, ◌∙◌, subst, arith, slice_get, same_Some, slice_get_within, child_regions}
+use Rattle.fence_place.proofs.Vocabulary.{open_gaps, Region, MAX_GAPS, Label, Gap, Split, Bound, GapTrees, NoGap, MoreGaps, count_gaps, Entry, SearchState, undecided, Each, open_ascending, few_open}
+use Rattle.fence_place.proofs.Vocabulary.{HasNode, Facts, AreNumbersOf, IsRecorded, AreRecorded, gap_depth, gaps_depth, HasGapNumbers, HaveGapNumbers, kids_less, open_undecided}
 use Rattle.std.proofs.lemmas.List.Kept.{AllPairs-from_increasing}
-use Rattle.fence_place.proofs.Vocabulary.{slice_get, same_Some, slice_get_within, child_regions, open_gaps, Region, MAX_GAPS, Label, Gap, Split, Bound, GapTrees, NoGap, MoreGaps, count_gaps, Entry}
-use Rattle.fence_place.proofs.Vocabulary.{SearchState, undecided, Each, open_ascending, few_open, HasNode, Facts, AreNumbersOf, IsRecorded, AreRecorded}
-use Rattle.cert_forest.specs.Limits.{gap_depth, gaps_depth, HasGapNumbers, HaveGapNumbers}
-use Rattle.search_core.proofs.Working.{kids_less, open_undecided}
-use Rattle.fence_place.proofs.PassedGaps.{small_set}
-use Rattle.fence_place.proofs.GapTreeValid.{as_many}
+use Rattle.fence_place.proofs.{PassedGaps.small_set, GapTreeValid.as_many}
 
 -- no deeper than this, with numbers that a text can hold
 pub record IsSmall (depth : ℕ) (tree : Gap) : Type 0 where

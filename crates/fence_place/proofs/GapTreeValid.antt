@@ -1,13 +1,8 @@
 -- The gap tree of the record of a search that is done is valid for its answer, and within the limits of a text.
-use Rattle.std.proofs.Common.{◌≡◌, ℕ, suc, ◌+◌, List, [], ◌∷◌, Some, length, refl, sym, ap, ◌∙◌, subst, arith}
-use Rattle.fence_place.proofs.Vocabulary.{slice_get, same_Some, SetOfGaps, Better, Region, Question, Label, IsTheAnswer, Gap, Split, Bound, GapTrees, NoGap, MoreGaps, Foreign, Entry, SearchState}
-use Rattle.fence_place.proofs.Vocabulary.{Facts, AreNumbersOf, IsRecorded, AreRecorded}
-use Rattle.gap_sets.specs.Regions.{without_gap, child_regions, open_gaps}
-use Rattle.cover_solver.specs.GapTrees.{PassesGap, IsSplitBy, IsValidGap, AreValidGaps}
-use Rattle.cover_solver.proofs.OpenGaps.{open_exact, open_ascending}
-use Rattle.search_core.proofs.Changes.{HasNode, IsSplitAt}
-use Rattle.fence_place.proofs.PassedGaps.{small_set}
-use Rattle.fence_place.proofs.Bounds.{bounded}
+use Rattle.fence_place.proofs.Vocabulary.{◌≡◌, ℕ, suc, ◌+◌, List, [], ◌∷◌, Some, length, refl, sym, ap, ◌∙◌, subst, arith, slice_get, same_Some, SetOfGaps, Better, Region, Question, Label}
+use Rattle.fence_place.proofs.Vocabulary.{IsTheAnswer, Gap, Split, Bound, GapTrees, NoGap, MoreGaps, Foreign, Entry, SearchState, Facts, AreNumbersOf, IsRecorded, AreRecorded, without_gap}
+use Rattle.fence_place.proofs.Vocabulary.{child_regions, open_gaps, PassesGap, IsSplitBy, IsValidGap, AreValidGaps, open_exact, open_ascending, HasNode, IsSplitAt}
+use Rattle.fence_place.proofs.{PassedGaps.small_set, Bounds.bounded}
 
 -- as many children as gaps
 pub as_many : (n : Region) (gaps : List ℕ) → length (child_regions n gaps) ≡ length gaps

@@ -1,12 +1,9 @@
 -- A certificate that is made with its proof, its set and its cost are a placement.
-use Rattle.std.proofs.Common.{◌≡◌, ◌∙◌, ℕ, List, sym, ap, subst}
-use Rattle.fence_place.proofs.Vocabulary.{SetOfGaps, total, Listing, Shown, Certificate, IsValidCertificate, IsProof, AreDistinct}
-use Rattle.tso_program.specs.Shown.{Question, asked}
-use Rattle.cover_solver.specs.Outcomes.{Headline, IsTheAnswer}
+use Rattle.fence_place.proofs.Vocabulary.{◌≡◌, ◌∙◌, ℕ, List, sym, ap, subst, SetOfGaps, total, Listing, Shown, Certificate, IsValidCertificate, IsProof, AreDistinct, Question, asked, Headline}
+use Rattle.fence_place.proofs.Vocabulary.{IsTheAnswer}
 use Rattle.cover_solver.specs.Laws.{IsProved}
 use Rattle.search_core.specs.Answers.{the_answer, least_cost}
-use Rattle.fence_place.specs.declared.placing.Placed.{Placed}
-use Rattle.fence_place.specs.Placements.{IsPlacement}
+use Rattle.fence_place.specs.{declared.placing.Placed.Placed, Placements.IsPlacement}
 
 -- what the law of the checker says: a valid certificate proves the headline, and the headline determines the answer
 abbrev pub Proves : Question → List ℕ → Type 0

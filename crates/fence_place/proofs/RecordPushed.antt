@@ -1,13 +1,11 @@
 -- The nodes of the record's gap tree, put after the others one by one.
-use Rattle.std.proofs.Common.{◌≡◌, ℕ, zero, suc, ◌+◌, true, List, [], ◌∷◌, ◌++◌, Some, length, refl, sym, ap, ◌∙◌, subst, append_assoc}
+use Rattle.fence_place.proofs.Vocabulary.{◌≡◌, ℕ, zero, suc, ◌+◌, true, List, [], ◌∷◌, ◌++◌, Some, length, refl, sym, ap, ◌∙◌, subst, append_assoc, slice_get, open_gaps, GapNode, Split, Bound}
+use Rattle.fence_place.proofs.Vocabulary.{GapTrees, NoGap, MoreGaps, gap_trees_of, count_gaps, Foreign, Entry, is_closed, spell_gap, spell_gaps, listed_gaps, AreRecorded, PushesRecorded}
+use Rattle.fence_place.proofs.Vocabulary.{PushesRecords}
 use Rattle.std.proofs.lemmas.List.{append-nil}
-use Rattle.fence_place.proofs.Vocabulary.{slice_get, open_gaps, GapNode, Split, Bound, GapTrees, NoGap, MoreGaps, gap_trees_of, count_gaps, Foreign, Entry, is_closed}
 use Rattle.cert_forest.specs.declared.node.GapNode.TheVariants as node
-use Rattle.cert_forest.specs.GapNodes.{spell_gap, spell_gaps}
 use Rattle.cert_forest.proofs.Spelled.{each_append}
-use Rattle.cert_forest.proofs.GapNodeLaws.{listed_gaps}
 use Rattle.search_core.specs.declared.entry.Status.TheVariants as status
-use Rattle.fence_place.specs.Recorded.{AreRecorded, PushesRecorded, PushesRecords}
 use Rattle.fence_place.proofs.Recording.{recorded_more}
 
 module _ (entries : List Entry) (numbers : List ℕ) where

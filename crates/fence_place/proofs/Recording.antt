@@ -1,15 +1,12 @@
 -- What the record says of each node, and the runs of its splits.
-use Rattle.std.proofs.Common.{◌≡◌, ◌≢◌, ◌⊎◌, Contains, ℕ, zero, suc, ◌+◌, ◌<◌, true, List, [], ◌∷◌, ◌++◌, Some, length, refl, sym, ap, ◌∙◌, subst, inl, inr, arith}
-use Rattle.std.proofs.lemmas.List.Elements.{Contains-get_or}
+use Rattle.fence_place.proofs.Vocabulary.{◌≡◌, ◌≢◌, ◌⊎◌, Contains, ℕ, zero, suc, ◌+◌, ◌<◌, true, List, [], ◌∷◌, ◌++◌, Some, length, refl, sym, ap, ◌∙◌, subst, inl, inr, arith, Contains-get_or}
+use Rattle.fence_place.proofs.Vocabulary.{slice_get, same_Some, none-some, slice_get_within, open_gaps, Label, Gap, gap_trees_of, Foreign, Entry, Status, Event, children, facts_of, is_closed_status}
+use Rattle.fence_place.proofs.Vocabulary.{Outcome, finished_state, IsOutcome, IsEventOf, IsSettledAs, IsFirstChild, get_longer, get_behind, AreNumbersOf, AreSplitRuns, AreDistinct, ListsRun, is_there}
+use Rattle.fence_place.proofs.Vocabulary.{is_new, ListsEvent, IsRecorded, AreRecorded}
 use Rattle.std.proofs.lemmas.List.Quantifiers.{all_pairs_push}
-use Rattle.fence_place.proofs.Vocabulary.{slice_get, same_Some, none-some, slice_get_within, open_gaps, Label, Gap, gap_trees_of, Foreign, Entry, Status, Event, children, facts_of}
 use Rattle.search_core.specs.declared.entry.Status.TheVariants as status
 use Rattle.search_core.specs.declared.finished.Event.TheVariants as event
 use Rattle.search_core.specs.declared.finished.Settled.{Settled}
-use Rattle.search_core.specs.Entries.{is_closed_status}
-use Rattle.search_core.specs.Records.{Outcome, finished_state, IsOutcome, IsEventOf, IsSettledAs, IsFirstChild}
-use Rattle.search_core.proofs.Places.{get_longer, get_behind}
-use Rattle.fence_place.specs.Recorded.{AreNumbersOf, AreSplitRuns, AreDistinct, ListsRun, is_there, is_new, ListsEvent, IsRecorded, AreRecorded}
 use Rattle.fence_place.proofs.GapTreeValid.{as_many}
 
 -- the record of a split says which run it was

@@ -1,13 +1,9 @@
 -- A node that is taken and settled: no seat holds one then.
-use Rattle.std.proofs.Common.{◌≡◌, ℕ, zero, suc, true, false, true≢false, List, [], ◌∷◌, length, Some, refl, sym, ap, ◌∙◌, subst, inl, inr, set as set_at}
-use Rattle.fence_place.proofs.Vocabulary.{slice_get, same_Some, none-some, all_sets, Region, Entry, Status, children}
-use Rattle.search_core.specs.declared.entry.Status.TheVariants.{Open, Held, Split, Cut, Confirmed}
-use Rattle.search_core.specs.Entries.{entry, is_live_status, is_held_status, is_open_status}
-use Rattle.search_core.specs.States.{SearchState, IsHeldAt, IsDone, HasNoOpen, IsStart}
-use Rattle.search_core.specs.Events.{open_entries, TakesNode, IsSettling, by_cut, by_split, by_confirm}
-use Rattle.search_core.proofs.Places.{Each, each_behind, each_mapped, get_old}
+use Rattle.fence_place.proofs.Vocabulary.{◌≡◌, ℕ, zero, suc, true, false, true≢false, List, [], ◌∷◌, length, Some, refl, sym, ap, ◌∙◌, subst, inl, inr, set as set_at, slice_get, same_Some, none-some}
+use Rattle.fence_place.proofs.Vocabulary.{all_sets, Region, Entry, Status, children, entry, is_live_status, is_held_status, is_open_status, SearchState, IsHeldAt, IsDone, HasNoOpen, IsStart}
+use Rattle.fence_place.proofs.Vocabulary.{open_entries, TakesNode, IsSettling, by_cut, by_split, by_confirm, Each, each_behind, each_mapped, get_old, NothingIsHeld}
+use Rattle.search_core.specs.declared.entry.Status.{TheVariants.Open, TheVariants.Held, TheVariants.Split, TheVariants.Cut, TheVariants.Confirmed}
 use Rattle.search_core.proofs.WorkLaws.{held_is}
-use Rattle.fence_place.specs.Internal.Searches.{NothingIsHeld}
 
 abbrev NotHeld : Entry → Type 0
 NotHeld e = is_held_status e.status ≡ false

@@ -1,19 +1,13 @@
 -- A run of a program within the limits has no more labels than a text can hold, and each of them is of a thread that is there.
-use Rattle.std.proofs.Common.{◌≡◌, ℕ, ◌+◌, ◌*◌, ◌<◌, ◌≤◌, List, [], ◌∷◌, ◌++◌, Option, Some, None, option_and_then, length, refl, sym, ap, ◌∙◌, subst, inl, inr, arith}
+use Rattle.fence_place.proofs.Vocabulary.{◌≡◌, ℕ, ◌+◌, ◌*◌, ◌<◌, ◌≤◌, List, [], ◌∷◌, ◌++◌, Option, Some, None, option_and_then, length, refl, sym, ap, ◌∙◌, subst, inl, inr, arith, AllByRecursion}
+use Rattle.fence_place.proofs.Vocabulary.{same_Some, Listing, IsWithinLimits, Label, Gaps, Machine, SequentialMachine, StoreBufferMachine, State, put, direct, buffered, past_gap, step, run, start}
+use Rattle.fence_place.proofs.Vocabulary.{IsRun}
 use Rattle.std.proofs.lemmas.Bool.{cases_lt}
-use Rattle.fence_place.proofs.Vocabulary.{AllByRecursion, same_Some, Listing, IsWithinLimits, Label}
-use Rattle.tso_program.specs.declared.outcome.Outcome.{Outcome}
-use Rattle.tso_program.specs.declared.action.Action.TheVariants.{Stop}
-use Rattle.tso_program.specs.declared.limits.TheConstants.{MAX_THREADS, MAX_INSTRUCTIONS}
-use Rattle.tso_program.specs.Fences.{Gaps}
+use Rattle.tso_program.specs.{declared.outcome.Outcome.Outcome, declared.action.Action.TheVariants.Stop, declared.limits.TheConstants.MAX_THREADS, declared.limits.TheConstants.MAX_INSTRUCTIONS}
 use Rattle.tso_program.specs.Listings.{action}
-use Rattle.cover_solver.specs.Label.TheVariants.{Exec, Flush}
-use Rattle.cover_solver.specs.RunTexts.{IsLabel}
-use Rattle.cover_solver.specs.Machine.{Machine, SequentialMachine, StoreBufferMachine, State, put, direct, buffered, past_gap, step, run, start, IsRun}
-use Rattle.cover_solver.proofs.Runs.{no_action, no_stores}
+use Rattle.cover_solver.specs.{Label.TheVariants.Exec, Label.TheVariants.Flush, RunTexts.IsLabel}
+use Rattle.cover_solver.proofs.{Runs.no_action, Runs.no_stores, ChangedAt.put_other, StepCases.exec_by, StepCases.flush_by}
 use Rattle.search_core.proofs.RunsAreShort.{every_run_is_short}
-use Rattle.cover_solver.proofs.ChangedAt.{put_other}
-use Rattle.cover_solver.proofs.StepCases.{exec_by, flush_by}
 use Rattle.cert_forest.specs.Limits as limits
 
 abbrev no_step : State → Option State

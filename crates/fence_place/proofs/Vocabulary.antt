@@ -1,48 +1,57 @@
 -- What many proofs of this crate speak of, imported once.
-pub use Rattle.std.proofs.lemmas.List.Elements.{All-push}
-pub use Rattle.std.proofs.lemmas.Option.{none-some, same_Some, slice_get-get_or, slice_get_within}
+pub use Rattle.std.proofs.Common.{Bool, Contains, Err, List, None, Ok, Option, Some, [], ap, append_assoc, arith, cond, false, get_or, inl, inr, length, length-append, max, option_and_then, refl, set}
+pub use Rattle.std.proofs.Common.{subst, suc, sym, true, true≢false, vec_len, zero, ℕ, ◌*◌, ◌++◌, ◌+◌, ◌-◌, ◌<◌, ◌^◌, ◌∙◌, ◌∷◌, ◌≡◌, ◌≢◌, ◌≤◌, ◌⊎◌}
+pub use Rattle.std.proofs.lemmas.List.Elements.{All-get_or, All-pop, All-push, Contains-get_or, recursion_from_All}
+pub use Rattle.std.proofs.lemmas.Option.{get_or_from_slice_get, none-some, same_Some, slice_get-get_or, slice_get_read, slice_get_within}
 pub use Rattle.std.specs.List.{AllByRecursion, filter}
-pub use Rattle.std.specs.Prelude.{All, IfSome, slice_get}
+pub use Rattle.std.specs.Prelude.{All, IfErr, IfOk, IfSome, IsTrue, MatchOption, not, slice_get, slice_index_or}
 pub use Rattle.std.specs.declared.result.Result.{Result}
+pub use Rattle.cert_check.proofs.Answered.{if_ok, on_ok}
+pub use Rattle.cert_forest.proofs.GapNodeLaws.{is_gap_tree, listed_gaps, same_gap}
 pub use Rattle.cert_forest.specs.Certificates.{Certificate}
-pub use Rattle.cert_forest.specs.GapNodes.{spell_gap}
-pub use Rattle.cert_forest.specs.Limits.{AreShownPlaces}
+pub use Rattle.cert_forest.specs.GapNodes.{spell_gap, spell_gaps}
+pub use Rattle.cert_forest.specs.Limits.{AreShownPlaces, HasGapNumbers, HaveGapNumbers, IsGapTo, gap_depth, gaps_depth}
 pub use Rattle.cert_forest.specs.Shows.{shows_of}
 pub use Rattle.cert_forest.specs.Texts.{count_gaps}
-pub use Rattle.cert_forest.specs.Trees.{Bound, Gap, GapTrees, MoreGaps, NoGap, Split, gap_trees_of}
+pub use Rattle.cert_forest.specs.Trees.{Bound, Cover, Gap, GapTrees, MoreGaps, NoGap, Split, gap_trees_of}
 pub use Rattle.cert_forest.specs.declared.node.GapNode.{GapNode}
-pub use Rattle.cover_solver.proofs.OpenGaps.{few_open, open_ascending}
-pub use Rattle.cover_solver.specs.Certificates.{IsValidCertificate}
-pub use Rattle.cover_solver.specs.Facts.{AreOf, Foreign, IsForeignValue, IsServing, Serving}
-pub use Rattle.cover_solver.specs.GapTrees.{IsValidGap}
+pub use Rattle.cover_solver.proofs.OpenGaps.{few_open, open_ascending, open_exact}
+pub use Rattle.cover_solver.specs.Certificates.{AreSequentialRuns, IsRunOutside, IsValidCertificate}
+pub use Rattle.cover_solver.specs.Facts.{AreOf, Foreign, IsForeignValue, IsListOf, IsSequentialTable, IsServing, Serving, Table}
+pub use Rattle.cover_solver.specs.GapTrees.{AreValidGaps, IsSplitBy, IsValidGap, PassesGap}
 pub use Rattle.cover_solver.specs.Label.{Label}
-pub use Rattle.cover_solver.specs.Outcomes.{AreGapsOf, IsTheAnswer}
-pub use Rattle.cover_solver.specs.Verdicts.{PassesNoneOf}
+pub use Rattle.cover_solver.specs.Machine.{IsRun, Machine, SequentialMachine, State, StoreBufferMachine, buffered, direct, no_gaps, past_gap, put, run, start, step}
+pub use Rattle.cover_solver.specs.Outcomes.{AreGapsOf, Headline, IsSequentialOutcome, IsShownRun, IsTheAnswer}
+pub use Rattle.cover_solver.specs.Verdicts.{IsVerdictOf, PassesNoneOf}
 pub use Rattle.gap_sets.specs.Gaps.{IsGapSet, SetOfGaps}
 pub use Rattle.gap_sets.specs.Order.{Better}
 unfoldable pub use Rattle.gap_sets.specs.Order.{total}
-pub use Rattle.gap_sets.specs.Regions.{all_sets, child_regions, is_free, open_gaps}
+pub use Rattle.gap_sets.specs.Regions.{all_sets, child_regions, is_free, open_gaps, without_gap}
 pub use Rattle.gap_sets.specs.declared.gap_set.TheConstants.{MAX_GAPS}
 pub use Rattle.gap_sets.specs.declared.region.Region.{Region}
-pub use Rattle.hunt_board.specs.Seats.{IsFresh, IsOf}
-pub use Rattle.search_core.proofs.Changes.{HasNode}
-pub use Rattle.search_core.proofs.Kept.{Facts, facts_of}
-pub use Rattle.search_core.proofs.Places.{Each}
+pub use Rattle.hunt_board.specs.Seats.{HuntView, IsFresh, IsOf, SeatView}
+pub use Rattle.search_core.proofs.Changes.{HasNode, IsSplitAt}
+pub use Rattle.search_core.proofs.Kept.{Facts, IsBelow, facts_of}
+pub use Rattle.search_core.proofs.Places.{Each, each_behind, each_mapped, get_behind, get_longer, get_old}
+pub use Rattle.search_core.proofs.Sets.{gap_set, passed_gaps, unserved}
+pub use Rattle.search_core.proofs.Working.{few_undecided, kids_less, open_undecided}
 pub use Rattle.search_core.specs.Children.{children}
-pub use Rattle.search_core.specs.Entries.{is_closed}
-pub use Rattle.search_core.specs.Events.{IsBeatenBy, by_confirm, by_split}
-pub use Rattle.search_core.specs.Records.{IsEventOf, IsOutcome, Outcome, finished_state}
-pub use Rattle.search_core.specs.States.{IsDone, SearchState}
+pub use Rattle.search_core.specs.Entries.{entry, is_closed, is_closed_status, is_held_status, is_live_status, is_open_status}
+pub use Rattle.search_core.specs.Events.{IsBeatenBy, IsSettling, MaySplit, TakesNode, by_confirm, by_cut, by_split, open_entries}
+pub use Rattle.search_core.specs.Records.{IsEventOf, IsFirstChild, IsOutcome, IsSettledAs, Outcome, finished_state}
+pub use Rattle.search_core.specs.States.{HasNoOpen, IsDone, IsHeldAt, IsStart, SearchState}
 pub use Rattle.search_core.specs.Work.{undecided, work_left}
 pub use Rattle.search_core.specs.declared.entry.Entry.{Entry}
 pub use Rattle.search_core.specs.declared.entry.Status.{Status}
 pub use Rattle.search_core.specs.declared.finished.Event.{Event}
+pub use Rattle.tso_program.specs.Fences.{Gaps, gaps_in}
 pub use Rattle.tso_program.specs.Limits.{IsWithinLimits}
-pub use Rattle.tso_program.specs.Shown.{Question}
+pub use Rattle.tso_program.specs.Shown.{Question, asked}
 pub use Rattle.tso_program.specs.declared.listing.Listing.{Listing}
 pub use Rattle.tso_program.specs.declared.shown.Shown.{Shown}
-pub use Rattle.fence_place.specs.Internal.Workers.{IsReadyWorker}
+pub use Rattle.fence_place.specs.Internal.Searches.{HasSettled, IsAtRest, IsOfQuestion, NothingIsHeld}
+pub use Rattle.fence_place.specs.Internal.Workers.{FaultIsAfter, HasStopped, IsReadyWorker, MayStop, NoneLacksRun, lacks_run, lacks_run_for}
 pub use Rattle.fence_place.specs.Proofs.{IsProof}
-pub use Rattle.fence_place.specs.Recorded.{AreDistinct, AreNumbersOf, AreRecorded, AreSplitRuns, IsRecorded}
+pub use Rattle.fence_place.specs.Recorded.{AreDistinct, AreNumbersOf, AreRecorded, AreSplitRuns, IsRecorded, ListsEvent, ListsRun, PushesRecorded, PushesRecords, is_new, is_there}
 pub use Rattle.fence_place.specs.declared.fault.PlaceFault.{PlaceFault}
 pub use Rattle.fence_place.specs.declared.worker.Worker.{Worker}

@@ -1,13 +1,8 @@
 -- Workers of a hunt: what they know, and why they end.
-use Rattle.std.proofs.Common.{◌≡◌, ◌∙◌, Bool, true, false, ℕ, List, Option, Some, None, refl, sym, subst}
-use Rattle.std.specs.Prelude.{All, IfSome, MatchOption, slice_get, slice_index_or}
-use Rattle.std.proofs.lemmas.List.Elements.{All-get_or}
-use Rattle.std.proofs.lemmas.Option.{slice_get_within, get_or_from_slice_get, same_Some, none-some}
-use Rattle.fence_place.proofs.Vocabulary.{SetOfGaps, Better, Serving, IsServing, IsBeatenBy, Worker, PlaceFault}
-use Rattle.hunt_board.specs.Seats.{HuntView}
-use Rattle.fence_place.specs.declared.worker.Stop.{Stop}
-use Rattle.fence_place.specs.declared.worker.Stop.TheVariants.{Later, Beaten, NoRun, OutOfMemory}
-use Rattle.fence_place.specs.Internal.Workers.{HasStopped, MayStop, NoneLacksRun, FaultIsAfter, lacks_run_for}
+use Rattle.fence_place.proofs.Vocabulary.{◌≡◌, ◌∙◌, Bool, true, false, ℕ, List, Option, Some, None, refl, sym, subst, All, IfSome, MatchOption, slice_get, slice_index_or, All-get_or, slice_get_within}
+use Rattle.fence_place.proofs.Vocabulary.{get_or_from_slice_get, same_Some, none-some, SetOfGaps, Better, Serving, IsServing, IsBeatenBy, Worker, PlaceFault, HuntView, HasStopped, MayStop}
+use Rattle.fence_place.proofs.Vocabulary.{NoneLacksRun, FaultIsAfter, lacks_run_for}
+use Rattle.fence_place.specs.declared.worker.Stop.{Stop, TheVariants.Later, TheVariants.Beaten, TheVariants.NoRun, TheVariants.OutOfMemory}
 use Rattle.fence_place.specs.Faults.{MayHuntFail}
 use Rattle.fence_place.specs.declared.fault.PlaceFault.TheVariants as fault
 

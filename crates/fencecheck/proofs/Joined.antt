@@ -1,13 +1,13 @@
 -- Where a certificate starts in bytes of which a front was read first.
-use Rattle.std.proofs.Common.{◌≡◌, ◌⊎◌, ℕ, ◌+◌, ◌<◌, ◌≤◌, Bool, true, false, List, [], ◌++◌, Option, Some, None, IsTrue, length, take, drop, refl, sym, ap, ◌∙◌, subst, inl, inr, append_assoc, arith}
-use Rattle.fencecheck.proofs.Vocabulary.{codes, nat_eq, HoldsBytes, IsReadFault, ReadsOn, TakesBytes, TakesUpTo, AppendsRest, CERTIFICATE_LIMIT, FRONT_LIMIT, BeginsLine, StartsAt, IsCertificateStart, AreJoined, ArePartsOf, IsTooLongInput, ReadsEnough}
+use Rattle.fencecheck.proofs.Vocabulary.{◌≡◌, ◌⊎◌, ℕ, ◌+◌, ◌<◌, ◌≤◌, Bool, true, false, List, [], ◌++◌, Option, Some, None, IsTrue, length, take, drop, refl, sym, ap, ◌∙◌, subst, inl, inr}
+use Rattle.fencecheck.proofs.Vocabulary.{append_assoc, arith, codes, nat_eq, HoldsBytes, IsReadFault, ReadsOn, TakesBytes, TakesUpTo, AppendsRest, CERTIFICATE_LIMIT, FRONT_LIMIT, BeginsLine, StartsAt}
+use Rattle.fencecheck.proofs.Vocabulary.{IsCertificateStart, AreJoined, ArePartsOf, IsTooLongInput, ReadsEnough}
 use Rattle.std.specs.List.{starts_with}
 use lib.Pointwise.{pointwise}
 use Rattle.std.specs.Io.KnownBytes.{Consumes, IsAtEnd}
 use Rattle.std.proofs.lemmas.List.{append-nil, take-append-le, drop-append-le, take-append-drop, length-take-le, length-drop, length-append}
-use Rattle.program_streams.specs.declared.fault.FileFault.{FileFault}
+use Rattle.program_streams.specs.{declared.fault.FileFault.FileFault, declared.files.TheConstants.TEXT_LIMIT}
 use Rattle.program_streams.specs.declared.fault.FileFault.TheVariants as file
-use Rattle.program_streams.specs.declared.files.TheConstants.{TEXT_LIMIT}
 use Rattle.program_streams.proofs.StreamLaws.{reads_more}
 
 -- what comes after the first bytes of a text doesn't tell whether it begins with a word that is no longer than these

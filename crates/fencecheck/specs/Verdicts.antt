@@ -3,8 +3,7 @@ use Rattle.std.specs.Prelude.{◌≡◌, ◌⊎◌, ℕ, List, Option}
 use Rattle.gap_sets.specs.Gaps.{SetOfGaps}
 use Rattle.gap_sets.specs.Order.{total}
 use Rattle.tso_program.specs.declared.listing.Listing.{Listing}
-use Rattle.tso_program.specs.declared.shown.Shown.{Shown}
-use Rattle.tso_program.specs.declared.shown.Shown.TheVariants.{All, Truth}
+use Rattle.tso_program.specs.declared.shown.Shown.{Shown, TheVariants.All, TheVariants.Truth}
 use Rattle.tso_program.specs.Shown.{asked}
 use Rattle.report.specs.Outcomes.{Headline}
 use Rattle.litmus_reader.specs.Shown.{shown_by}

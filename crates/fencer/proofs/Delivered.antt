@@ -1,7 +1,5 @@
 -- What is delivered: the files hold what is written to them.
-use Rattle.std.proofs.Common.{ℕ, List, Option, Some, None, refl, sym, subst, ◌∙◌}
-use Rattle.program_streams.specs.Streams.{HoldsBytes}
-use Rattle.fencer.specs.Deliveries.{AreTwoNames, HoldsFile, KeepFiles, KeepFilesBut}
+use Rattle.fencer.proofs.Vocabulary.{ℕ, List, Option, Some, None, refl, sym, subst, ◌∙◌, HoldsBytes, AreTwoNames, HoldsFile, KeepFiles, KeepFilesBut}
 
 -- a file holds what was written to it, if it is not the one that is written next
 pub still_held : (first second : Option (List ℕ)) (left next : List ℕ → Option (List ℕ)) (text : List ℕ) → HoldsFile first left text → KeepFiles second left next → AreTwoNames first second → HoldsFile first next text

@@ -1,9 +1,8 @@
 -- The lines of outcomes with their runs, one more.
-use Rattle.std.proofs.Common.{◌≡◌, ◌∙◌, ℕ, suc, zero, ◌+◌, ◌<◌, List, [], ◌∷◌, ◌++◌, length, take, get_or, refl, sym, ap, arith, append_assoc, append-nil}
-use Rattle.fencer.proofs.Vocabulary.{Shown, Label, outcome_lines, run_line_at}
+use Rattle.fencer.proofs.Vocabulary.{◌≡◌, ◌∙◌, ℕ, suc, zero, ◌+◌, ◌<◌, List, [], ◌∷◌, ◌++◌, length, take, get_or, refl, sym, ap, arith, append_assoc, append-nil, Shown, Label, outcome_lines}
+use Rattle.fencer.proofs.Vocabulary.{run_line_at, outcome_line, printed_labels}
 use Rattle.tso_program.specs.declared.outcome.Outcome.{Outcome}
 use Rattle.litmus_text.specs.Names.{TextNames}
-use Rattle.report.specs.Answers.{outcome_line, printed_labels}
 
 one_more : (names : TextNames) (shown : Shown) (outcomes : List Outcome) (runs : List (List Label)) (i : ℕ) (d : Outcome) → i < length outcomes
     → outcome_lines names shown (take i outcomes) runs ++ (outcome_line names shown (get_or outcomes i d) ++ run_line_at runs i) ≡ outcome_lines names shown (take (suc i) outcomes) runs

@@ -1,9 +1,6 @@
 -- What is printed of a refusal.
-use Rattle.std.proofs.Common.{◌≡◌, ℕ, Bool, false, List, Option, Result, Ok, Err, IfOk, IsOkAnd, sym, subst}
+use Rattle.fencer.proofs.Vocabulary.{◌≡◌, ℕ, Bool, false, List, Option, Result, Ok, Err, IfOk, IsOkAnd, sym, subst, Prints, prints_more, PrintsRefusal, RefusalSays}
 use Rattle.std.specs.Global.{Vec}
-use Rattle.program_streams.specs.Streams.{Prints}
-use Rattle.program_streams.proofs.Printed.{prints_more}
-use Rattle.fencer.specs.Refused.{PrintsRefusal, RefusalSays}
 
 -- what is said of a line that is known
 of_line : {E : Type 0} (json : Bool) (made : Result (Vec ℕ) E) (line text : List ℕ) → IfOk made (λ v. v.items ≡ line) → IsOkAnd made (λ v. RefusalSays json v.items text) → RefusalSays json line text

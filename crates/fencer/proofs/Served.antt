@@ -1,6 +1,7 @@
 -- What the program prints, with words and without.
-use Rattle.std.proofs.Common.{◌≡◌, ◌==◌, ℕ, ◌+◌, zero, suc, Bool, true, false, List, [], ◌∷◌, ◌⊎◌, Option, Contains, length, map, arith, inl, inr, refl, subst, sym}
-use Rattle.std.specs.Prelude.{◌&&◌, codes, nat_lt}
+use Rattle.fencer.proofs.Vocabulary.{◌≡◌, ◌==◌, ℕ, ◌+◌, zero, suc, Bool, true, false, List, [], ◌∷◌, ◌⊎◌, Option, Contains, length, map, arith, inl, inr, refl, subst, sym, ◌&&◌, codes, nat_lt}
+use Rattle.fencer.proofs.Vocabulary.{TEXT_LIMIT, IsUtf8Refusal, asks_version, IsNoCommand, IsReadFault, TakesOfLine, HasTooLongLine, IsReply, IsReplyToInput, IsOutput, KeepFilesOf, KeepOtherFiles}
+use Rattle.fencer.proofs.Vocabulary.{LineAsksToWrite, ReadsForWords, ReadsForInput, ReadsFor, no_command}
 use Rattle.std.specs.Str.{IsAscii, IsUtf8, bytes_eq}
 use Rattle.std.specs.List.{list_all}
 use Rattle.std.proofs.lemmas.Str.{IsUtf8-from_ascii}
@@ -8,14 +9,9 @@ use Rattle.std.proofs.lemmas.Str.Ascii.{IsAscii-cons, IsAscii-nil}
 use Rattle.std.proofs.lemmas.Bool.{ltb-true}
 use Rattle.std.proofs.lemmas.Slice.Eq.{bytes_eq-Decides}
 use Rattle.std.proofs.lemmas.Bool.Decides.{nat_tests}
-use Rattle.fencer.proofs.Vocabulary.{TEXT_LIMIT, IsUtf8Refusal}
 use Rattle.clap.specs.Words.{Text}
 use Rattle.program_streams.specs.declared.fault.FileFault.{FileFault}
 use Rattle.program_streams.specs.declared.fault.FileFault.TheVariants as file
-use Rattle.program_streams.specs.Versions.{asks_version}
-use Rattle.fencer_words.specs.CommandLines.{IsNoCommand}
-use Rattle.program_streams.specs.Streams.{IsReadFault, TakesOfLine}
-use Rattle.fencer.specs.Answers.{HasTooLongLine, IsReply, IsReplyToInput, IsOutput, KeepFilesOf, KeepOtherFiles, LineAsksToWrite, ReadsForWords, ReadsForInput, ReadsFor, no_command}
 
 not_zero : (n : ℕ) → (suc n == 0) ≡ true → ⊥
 not_zero n e = grind (arith, nat_tests)

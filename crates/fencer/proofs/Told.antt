@@ -1,10 +1,7 @@
 -- What is printed of an answer.
-use Rattle.std.proofs.Common.{ℕ, Bool, List, Option, Result, Ok, Err, IfOk, IfErr, sym, subst}
-use Rattle.fencer.proofs.Vocabulary.{TEXT_LIMIT, IsTold}
+use Rattle.fencer.proofs.Vocabulary.{ℕ, Bool, List, Option, Result, Ok, Err, IfOk, IfErr, sym, subst, TEXT_LIMIT, IsTold, IsAnswerTo, answered, refused}
 use Rattle.program_streams.specs.Files.{AreOfFile}
-use Rattle.fencer.specs.declared.refusals.Refusal.{Refusal}
-use Rattle.fencer.specs.declared.refusals.Reply.{Reply}
-use Rattle.fencer.specs.TextAnswers.{IsAnswerTo, answered, refused}
+use Rattle.fencer.specs.{declared.refusals.Refusal.Refusal, declared.refusals.Reply.Reply}
 
 -- of an answer to the text of a file
 module _ (Answers : List ℕ → ℕ → List ℕ → Type 0) (Refuses : List ℕ → Refusal → Type 0) (json : Bool) (path : List ℕ) (input : Option (List ℕ)) (files : List ℕ → Option (List ℕ)) (bytes : List ℕ) (of_file : AreOfFile TEXT_LIMIT path input files bytes) where

@@ -9,8 +9,7 @@ use Rattle.program_streams.specs.Streams.{IsReadFault, TakesLine, TakesOfLine, T
 use Rattle.program_streams.specs.Words.{words_of}
 use Rattle.program_streams.specs.FileLines.{file_line}
 use Rattle.program_streams.specs.Versions.{asks_version, version_line}
-use Rattle.fencer_words.specs.declared.job.Job.{Job}
-use Rattle.fencer_words.specs.declared.job.Job.TheVariants.{Replay, Trace, Outcomes, Place, Why, Gaps, Witness}
+use Rattle.fencer_words.specs.declared.job.Job.{Job, TheVariants.Replay, TheVariants.Trace, TheVariants.Outcomes, TheVariants.Place, TheVariants.Why, TheVariants.Gaps, TheVariants.Witness}
 use Rattle.fencer_words.specs.CommandFiles.{files_of}
 use Rattle.fencer_words.specs.CommandLines.{AsksFor, IsNoCommand}
 use Rattle.fencer.specs.Lines.{EndsLine}

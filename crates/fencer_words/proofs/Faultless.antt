@@ -1,16 +1,11 @@
 -- Words in which `clap` finds no fault name a command.
-use Rattle.std.proofs.Common.{◌≡◌, ◌&&◌, ◌⊎◌, ◌∙◌, Bool, true, false, not, List, [], ◌∷◌, Option, Some, None, Contains, find, is_some, map, option_map, refl, sym, ap, subst, inl, inr}
+use Rattle.fencer_words.proofs.Vocabulary.{◌≡◌, ◌&&◌, ◌⊎◌, ◌∙◌, Bool, true, false, not, List, [], ◌∷◌, Option, Some, None, Contains, find, is_some, map, option_map, refl, sym, ap, subst, inl, inr}
+use Rattle.fencer_words.proofs.Vocabulary.{list_any, Error, OutOfMemory, MeetsNoJob, App, Row, Shape, Text, fault_of, is_simple, is_simple_and_free, kind_of, subcommand_of, subcommand_rows_of}
+use Rattle.fencer_words.proofs.Vocabulary.{HasKind, HasMatchesOf, IsAmong, Kinds, built, entered, label_of, names_of, rows_at, argument_words, ModelNames, AreModels, command_names, fencer_app}
+use Rattle.fencer_words.proofs.Vocabulary.{IsNoCommand, faulty, for_nothing}
 use Rattle.std.proofs.lemmas.List.Elements.{Contains-append_left, Contains-append_right, Contains-push}
-use Rattle.fencer_words.proofs.Vocabulary.{list_any, Error, OutOfMemory, MeetsNoJob}
-use Rattle.clap.specs.Words.{App, Row, Shape, Text, fault_of, is_simple, is_simple_and_free, kind_of, subcommand_of, subcommand_rows_of, HasKind, HasMatchesOf, IsAmong, Kinds}
-use Rattle.clap.specs.Simple.{built, entered, label_of, names_of, rows_at, argument_words}
-use Rattle.clap.specs.Walk.{answers_to, finished, settled, walk, walk_from, Held, nothing_held}
-use Rattle.clap.specs.Facts.{explicit_source}
-use Rattle.clap.specs.Kinds.{check_kinds, or_else}
-use Rattle.clap.specs.Takes.{is_given}
-use Rattle.clap.specs.Faults.{built_fault, walk_fault, entered_fault, settle_fault, defaults_fault, check_fault}
-use Rattle.clap.specs.declared.parser.matches.ArgMatches.{ArgMatches}
-use Rattle.fencer_words.specs.CommandLines.{ModelNames, AreModels, command_names, fencer_app, IsNoCommand, faulty, for_nothing}
+use Rattle.clap.specs.{Walk.answers_to, Walk.finished, Walk.settled, Walk.walk, Walk.walk_from, Walk.Held, Walk.nothing_held, Facts.explicit_source, Kinds.check_kinds, Kinds.or_else, Takes.is_given}
+use Rattle.clap.specs.{Faults.built_fault, Faults.walk_fault, Faults.entered_fault, Faults.settle_fault, Faults.defaults_fault, Faults.check_fault, declared.parser.matches.ArgMatches.ArgMatches}
 
 -- where neither of two has a fault, the second has none
 second : (a b : Kinds) → or_else a b ≡ [] → b ≡ []

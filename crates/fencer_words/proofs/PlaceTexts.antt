@@ -1,14 +1,11 @@
 -- The places that texts spell.
-use Rattle.std.proofs.Common.{◌≡◌, ◌∙◌, ◌==◌, ◌≤◌, ◌<◌, ◌^◌, ℕ, suc, true, false, List, [], ◌∷◌, ◌++◌, length, map, take, drop, get_or, inl, inr, ap, ap₂, arith, refl, sym, subst}
+use Rattle.fencer_words.proofs.Vocabulary.{◌≡◌, ◌∙◌, ◌==◌, ◌≤◌, ◌<◌, ◌^◌, ℕ, suc, true, false, List, [], ◌∷◌, ◌++◌, length, map, take, drop, get_or, inl, inr, ap, ap₂, arith, refl, sym, subst}
+use Rattle.fencer_words.proofs.Vocabulary.{AllByRecursion, IsDistinct, list_any, map-append, Text, Place, place_numbers, is_same_place, ArePlaceTexts, IsPlaceText}
 use Rattle.std.specs.Cmp.{IsEquivalence}
-use Rattle.std.specs.List.{AllByRecursion, IsDistinct, list_any}
 use Rattle.std.proofs.Math.Seq.{split_at}
 use Rattle.std.proofs.lemmas.Bool.{and_parts, cases_Bool, eqb-true}
 use Rattle.std.proofs.lemmas.Bool.Decides.{nat_tests}
-use Rattle.std.proofs.lemmas.List.{map-append}
 use Rattle.std.proofs.lemmas.Fmt.{decimal_injective}
-use Rattle.clap.specs.Words.{Text}
-use Rattle.fencer_words.specs.Places.{Place, place_numbers, is_same_place, ArePlaceTexts, IsPlaceText}
 
 -- one more place
 pub one_more : (texts : List Text) (places : List Place) (text : Text) (place : Place) → ArePlaceTexts texts places → IsPlaceText text place → ArePlaceTexts (texts ++ text ∷ []) (places ++ place ∷ [])

@@ -18,9 +18,8 @@ use Rattle.fencer_words.specs.declared.form.Form.{Form}
 use Rattle.fencer_words.specs.declared.form.Form.TheVariants as form
 use Rattle.fencer_words.specs.declared.parameter.Parameter.{Parameter}
 use Rattle.fencer_words.specs.declared.parameter.Parameter.TheVariants.{Certificate, CheckAnswer, CheckList, Condition, Costs, Fences, Graph, Graphs, Json, Labels, Litmus, Model, Not, Observed, Output, Page, Progress, Runs, Template, Workers}
-use Rattle.fencer_words.specs.declared.job.Job.{Job}
+use Rattle.fencer_words.specs.declared.job.Job.{Job, TheVariants.Replay, TheVariants.Trace, TheVariants.Outcomes, TheVariants.Place, TheVariants.Why, TheVariants.Gaps, TheVariants.Witness}
 use Rattle.fencer_words.specs.declared.job.Run.{Run}
-use Rattle.fencer_words.specs.declared.job.Job.TheVariants.{Replay, Trace, Outcomes, Place, Why, Gaps, Witness}
 use Rattle.fencer_words.specs.CommandFiles.{files_of, has_clash}
 use Rattle.fencer_words.specs.Places as places
 use Rattle.tso_program.specs.declared.limits.TheConstants.{MAX_WORKERS}

@@ -1,28 +1,23 @@
 -- The cost file of all gaps is read as their costs.
-use Rattle.std.proofs.Common.{◌≡◌, ◌==◌, ◌+◌, ◌^◌, ◌<◌, ◌≤◌, ℕ, zero, suc, true, false, List, [], ◌∷◌, ◌++◌, length, get_or, map, Option, Some, None, refl, sym, ap, ap₂, ◌∙◌, subst, arith, inl, inr, unwrap_or, nat_le}
-use Rattle.std.specs.Prelude.{slice_get}
-use Rattle.std.specs.List.{All, AllByRecursion, flat_map, range_with_len}
+use Rattle.gap_list.proofs.Vocabulary.{◌≡◌, ◌==◌, ◌+◌, ◌^◌, ◌<◌, ◌≤◌, ℕ, zero, suc, true, false, List, [], ◌∷◌, ◌++◌, length, get_or, map, Option, Some, None, refl, sym, ap, ap₂, ◌∙◌, subst, arith}
+use Rattle.gap_list.proofs.Vocabulary.{inl, inr, unwrap_or, nat_le, slice_get, All, AllByRecursion, flat_map, range_with_len, append-nil, append_assoc, ext_get_or, length-append, Entry, IsCostEntry}
+use Rattle.gap_list.proofs.Vocabulary.{IsCostText, ListsEntries, NoGapTwice, none, blank, entry, said_of, costs_of, lines_of, cost_file_text, cost_line, entry_text}
 use Rattle.std.specs.Fmt.{decimal}
 use Rattle.std.specs.Char.{is_ascii_digit}
 use Rattle.std.proofs.lemmas.Bool.{and_parts, cases_Bool}
 use Rattle.std.proofs.lemmas.Bool.Decides.{nat_tests}
 use Rattle.std.proofs.lemmas.Fmt.{digits_decimal, digits_value-decimal, decimal_nonempty}
 use Rattle.std.proofs.lemmas.Option.{slice_get-get_or}
-use Rattle.std.proofs.lemmas.List.{append-nil, append_assoc, ext_get_or, length-append}
 use Rattle.std.proofs.lemmas.List.Elements.{All-append, All-cons}
 use Rattle.std.proofs.lemmas.List.FromFn.{length-map-range_with_len, get_or-map-range_with_len}
 use Rattle.std.proofs.lemmas.List.Splits.{slice_split_at}
 use Rattle.std.proofs.lemmas.List.Sums.{AllPass-from_list_all}
 use Rattle.text_tokens.proofs.NumberLaws.{own}
 use Rattle.gap_sets.specs.CostLists.{IsCostList}
-use Rattle.tso_program.specs.declared.listing.Thread.{Thread}
-use Rattle.tso_program.specs.Limits.{IsWithinLimits}
+use Rattle.tso_program.specs.{declared.listing.Thread.Thread, Limits.IsWithinLimits}
 use Rattle.tso_program.specs.Listings.{code_of, gap_count, gap_number, gap_place, gaps_of_thread, places_from}
-use Rattle.tso_program.proofs.Gaps.{count_first, gap_facts}
-use Rattle.tso_program.proofs.GapPlaces.{places_are_numbered}
+use Rattle.tso_program.proofs.{Gaps.count_first, Gaps.gap_facts, GapPlaces.places_are_numbered}
 use Rattle.cost_text.specs.CostLines.{IsNumber}
-use Rattle.cost_text.specs.CostTexts.{Entry, IsCostEntry, IsCostText, ListsEntries, NoGapTwice, none, blank, entry, said_of, costs_of, lines_of}
-use Rattle.gap_list.specs.CostFiles.{cost_file_text, cost_line, entry_text}
 
 -- ---- the gaps of a program
 

@@ -1,12 +1,8 @@
 -- A list of costs without a fault is within the limits, and one within the limits has no fault.
-use Rattle.std.proofs.Common.{◌≡◌, ℕ, ◌<◌, ◌≤◌, ◌==◌, Bool, true, false, cond, nat_lt, List, length, get_or, Option, None, Some, position, refl, ap, arith}
-use Rattle.std.specs.Prelude.{not}
+use Rattle.gap_sets.proofs.Vocabulary.{◌≡◌, ℕ, ◌<◌, ◌≤◌, ◌==◌, Bool, true, false, cond, nat_lt, List, length, get_or, Option, None, Some, position, refl, ap, arith, not, position_or_len}
+use Rattle.gap_sets.proofs.Vocabulary.{fails_before_first, prefix_len_is, nat_tests, MAX_GAPS, MAX_COST, IsCostList, first_free, first_too_large, first_cost_fault, CostLimitsAreTheRefusals}
 use Rattle.std.specs.Option.{option_map, option_or}
-use Rattle.std.specs.List.{position_or_len}
-use Rattle.std.proofs.lemmas.List.Sums.{fails_before_first, prefix_len_is}
-use Rattle.gap_sets.proofs.Vocabulary.{nat_tests, MAX_GAPS, MAX_COST}
-use Rattle.gap_sets.specs.declared.costs.CostFault.TheVariants.{Zero, TooLarge, TooMany}
-use Rattle.gap_sets.specs.CostLists.{IsCostList, first_free, first_too_large, first_cost_fault, CostLimitsAreTheRefusals}
+use Rattle.gap_sets.specs.declared.costs.CostFault.{TheVariants.Zero, TheVariants.TooLarge, TheVariants.TooMany}
 
 -- where no place below the end is found, the place is the end
 past_the_end : (place len : ℕ) → cond (nat_lt place len) (Some place) None ≡ None → len ≤ place

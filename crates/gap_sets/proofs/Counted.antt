@@ -1,12 +1,9 @@
 -- How many members a word's set has.
-use Rattle.std.proofs.Common.{◌≡◌, ℕ, zero, suc, ◌+◌, ◌/◌, ◌^◌, ◌<◌, ◌==◌, Bool, true, false, List, ◌∷◌, cond, length, refl, sym, ap, ◌∙◌, arith}
-use Rattle.std.specs.Int.RustNames.{count_ones}
+use Rattle.gap_sets.proofs.Vocabulary.{◌≡◌, ℕ, zero, suc, ◌+◌, ◌/◌, ◌^◌, ◌<◌, ◌==◌, Bool, true, false, List, ◌∷◌, cond, length, refl, sym, ap, ◌∙◌, arith, count_ones, bit_at-suc, bit_at-lt}
+use Rattle.gap_sets.proofs.Vocabulary.{bit_at_lowest, filter, range_with_len, bit_at, nat_cmp, nat_cmp_total, has_bit, list_of, gaps_of_bits, MAX_GAPS, any-below}
 use Rattle.std.specs.FinSet as set
-use Rattle.std.proofs.lemmas.Nat.Bits.{bit_at-suc, bit_at-lt, bit_at_lowest}
-use Rattle.gap_sets.proofs.Vocabulary.{filter, range_with_len, bit_at, nat_cmp, nat_cmp_total, has_bit, list_of, gaps_of_bits, MAX_GAPS}
 use native.Mathlib.Numerals.{unary_clauses}
 use lib.Count.{ones_step}
-use Rattle.gap_sets.specs.Internal.BitsLaws.{any-below}
 
 -- a number that is not there yet makes the set larger by one
 one_more : (t : Bool) (a : ℕ) (rest : List ℕ) → set.contains (set.from_list {R = nat_cmp} rest) a ≡ false → set.len (set.from_list {R = nat_cmp} rest) ≡ length rest → set.len (set.from_list {R = nat_cmp} (cond t (a ∷ rest) rest)) ≡ length (cond t (a ∷ rest) rest)

@@ -1,11 +1,8 @@
 -- The definitions on three gaps of cost 1.
-use Rattle.std.proofs.Common.{◌≡◌, ℕ, ◌<◌, inl, inr, true, false, List, [], ◌∷◌, nat_eq, sum_by, refl, sym, ap, ◌∙◌, arith}
-use Rattle.std.specs.List.{filter, range_with_len, list_any}
+use Rattle.gap_sets.proofs.Vocabulary.{◌≡◌, ℕ, ◌<◌, inl, inr, true, false, List, [], ◌∷◌, nat_eq, sum_by, refl, sym, ap, ◌∙◌, arith, filter, range_with_len, list_any, numbers_of_set, total, cost_of}
+use Rattle.gap_sets.proofs.Vocabulary.{HasLeastDifference, MAX_GAPS, ThreeGapsOfCostOne, these, ones}
 use Rattle.std.specs.FinSet as set
-use Rattle.gap_sets.proofs.Vocabulary.{numbers_of_set, total, cost_of, HasLeastDifference, MAX_GAPS}
-use Rattle.gap_sets.proofs.Orders.{not_itself}
-use Rattle.gap_sets.proofs.Ranges.{filter_alike}
-use Rattle.gap_sets.specs.Laws.{ThreeGapsOfCostOne, these, ones}
+use Rattle.gap_sets.proofs.{Orders.not_itself, Ranges.filter_alike}
 
 -- what a listed set costs, by its list
 pub total-these : (costs gaps : List ℕ) → total costs (these gaps) ≡ sum_by (cost_of costs) (filter (λ q. list_any (λ y. nat_eq y q) gaps) (range_with_len 0 MAX_GAPS))

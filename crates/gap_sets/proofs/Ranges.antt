@@ -1,8 +1,7 @@
 -- Lists of the numbers in a range that pass a test.
-use Rattle.std.proofs.Common.{◌≡◌, ℕ, zero, suc, ◌+◌, ◌<◌, ◌≤◌, inl, inr, Bool, true, false, List, ◌∷◌, cond, All, sum_by, refl, ap, arith}
-use Rattle.std.proofs.lemmas.List.FromFn.{length-range_with_len, get_or-range_with_len}
-use Rattle.std.proofs.lemmas.List.Elements.{All-filter}
+use Rattle.gap_sets.proofs.Vocabulary.{◌≡◌, ℕ, zero, suc, ◌+◌, ◌<◌, ◌≤◌, inl, inr, Bool, true, false, List, ◌∷◌, cond, All, sum_by, refl, ap, arith, length-range_with_len, get_or-range_with_len}
 use Rattle.gap_sets.proofs.Vocabulary.{filter, range_with_len, cases_lt, sum_by-cons}
+use Rattle.std.proofs.lemmas.List.Elements.{All-filter}
 
 -- tests that answer alike in the range give the same list
 pub filter_alike : (p r : ℕ → Bool) (a n : ℕ) → ((q : ℕ) → a ≤ q → q < a + n → p q ≡ r q) → filter p (range_with_len a n) ≡ filter r (range_with_len a n)

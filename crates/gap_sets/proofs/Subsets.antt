@@ -1,11 +1,8 @@
 -- A proper subset is cheaper than the set.
-use Rattle.std.proofs.Common.{◌≡◌, ◌≢◌, ℕ, ◌<◌, ◌≤◌, inl, inr, Bool, true, false, All, List, length, refl, arith}
+use Rattle.gap_sets.proofs.Vocabulary.{◌≡◌, ◌≢◌, ℕ, ◌<◌, ◌≤◌, inl, inr, Bool, true, false, All, List, length, refl, arith, unwrap_or-slice_get, nat_cmp_total, SetOfGaps, IsGapSet, numbers_of_set}
+use Rattle.gap_sets.proofs.Vocabulary.{total, cost_of, MAX_GAPS, ProperSubsetIsBetter}
 use Rattle.std.specs.FinSet as set
-use Rattle.std.proofs.lemmas.Option.{unwrap_or-slice_get}
-use Rattle.gap_sets.proofs.Vocabulary.{nat_cmp_total, SetOfGaps, IsGapSet, numbers_of_set, total, cost_of, MAX_GAPS}
-use Rattle.gap_sets.proofs.Ranges.{sum-lt}
-use Rattle.gap_sets.proofs.Tests.{first_difference, alike_beyond}
-use Rattle.gap_sets.specs.Laws.{ProperSubsetIsBetter}
+use Rattle.gap_sets.proofs.{Ranges.sum-lt, Tests.first_difference, Tests.alike_beyond}
 
 -- of two tests of which one passes only with the other, that differ
 left_out : (v w : Bool) → (v ≡ true → w ≡ true) → v ≢ w → (v ≡ false) × (w ≡ true)

@@ -1,6 +1,5 @@
 -- Two tests of numbers agree, or there is a first number at which they differ.
-use Rattle.std.proofs.Common.{◌≡◌, ◌≢◌, ℕ, zero, suc, ◌<◌, ◌≤◌, ◌⊎◌, inl, inr, Bool, true, false, refl, sym, ◌∙◌, arith}
-use Rattle.std.proofs.lemmas.Bool.{cases_lt}
+use Rattle.gap_sets.proofs.Vocabulary.{◌≡◌, ◌≢◌, ℕ, zero, suc, ◌<◌, ◌≤◌, ◌⊎◌, inl, inr, Bool, true, false, refl, sym, ◌∙◌, arith, cases_lt}
 
 -- they answer alike below n
 abbrev pub AlikeBelow : (ℕ → Bool) → (ℕ → Bool) → ℕ → Type 0

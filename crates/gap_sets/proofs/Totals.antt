@@ -1,9 +1,7 @@
 -- What the gaps of a set cost together at most.
-use Rattle.std.proofs.Common.{◌≡◌, ℕ, ◌+◌, ◌*◌, ◌≤◌, inl, inr, List, [], ◌∷◌, length, get_or, sum_by, unwrap_or, ap, ◌∙◌, arith}
+use Rattle.gap_sets.proofs.Vocabulary.{◌≡◌, ℕ, ◌+◌, ◌*◌, ◌≤◌, inl, inr, List, [], ◌∷◌, length, get_or, sum_by, unwrap_or, ap, ◌∙◌, arith, slice_get_cases, sum_by-cons, sum_by-le, length-filter}
+use Rattle.gap_sets.proofs.Vocabulary.{count_by-le-length, range_with_len, length-range_with_len, IsCostList, SetOfGaps, numbers_of_set, cost_of, total, MAX_GAPS, MAX_COST}
 use Rattle.std.specs.FinSet as set
-use Rattle.std.proofs.lemmas.Option.{slice_get_cases}
-use Rattle.std.proofs.lemmas.List.Sums.{sum_by-cons, sum_by-le, length-filter, count_by-le-length}
-use Rattle.gap_sets.proofs.Vocabulary.{range_with_len, length-range_with_len, IsCostList, SetOfGaps, numbers_of_set, cost_of, total, MAX_GAPS, MAX_COST}
 
 -- no gap costs more than a million
 cost_of-limit : (costs : List ℕ) (gap : ℕ) → IsCostList costs → cost_of costs gap ≤ MAX_COST

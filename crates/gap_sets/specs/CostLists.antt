@@ -1,8 +1,7 @@
 -- Lists of costs by gap number, and what is refused as one.
 use Rattle.std.specs.Prelude.{◌≡◌, ◌↔◌, ℕ, ◌==◌, ◌≤◌, nat_lt, List, length, All, Option, Some, None, position, if◌then◌else◌}
 use Rattle.std.specs.Option.{option_map, option_or}
-use Rattle.gap_sets.specs.declared.costs.CostFault.{CostFault}
-use Rattle.gap_sets.specs.declared.costs.CostFault.TheVariants.{Zero, TooLarge, TooMany}
+use Rattle.gap_sets.specs.declared.costs.CostFault.{CostFault, TheVariants.Zero, TheVariants.TooLarge, TheVariants.TooMany}
 use Rattle.gap_sets.specs.declared.gap_set.TheConstants.{MAX_GAPS}
 use Rattle.gap_sets.specs.declared.costs.TheConstants.{MAX_COST}
 

@@ -1,13 +1,13 @@
 -- Each node of the record of a search that is done stands where the walk for its region ends.
-use Rattle.std.proofs.Common.{◌≡◌, ◌≢◌, ℕ, zero, suc, ◌+◌, ◌<◌, Bool, true, false, true≢false, ◌||◌, List, [], ◌∷◌, Option, Some, None, Contains, cond, refl, sym, ap, ◌∙◌, subst, inl, inr, arith, get_or}
+use Rattle.hunt_board.proofs.Vocabulary.{◌≡◌, ◌≢◌, ℕ, zero, suc, ◌+◌, ◌<◌, true, false, true≢false, List, [], ◌∷◌, Option, Some, None, cond, refl, sym, ap, ◌∙◌, subst, inl, inr, arith, position_from}
+use Rattle.hunt_board.proofs.Vocabulary.{AllPairs, slice_get, same_Some, none-some, Region, Question, IsWithinLimits, Foreign, Entry, Status, Split, Outcome, IsOutcome, finished_state, SetOfGaps}
+use Rattle.hunt_board.proofs.Vocabulary.{IsGapSet, all_sets, with_gap, without_gap, IsInRegion, child_regions, HasNoneOf, open_gaps, open_exact, open_ascending, Facts, facts_of, WalkLeads}
+use Rattle.hunt_board.proofs.Vocabulary.{StandsOnlyAt, ends, goes, child_by, child_in, child_of}
 use Rattle.std.specs.Option.{option_map}
-use Rattle.hunt_board.proofs.Vocabulary.{position_from, AllPairs, slice_get, same_Some, none-some, Region, Question, IsWithinLimits, Foreign, Entry, Status, Open, Held, Split, Cut, Confirmed, Outcome, IsOutcome, finished_state, SetOfGaps, IsGapSet, all_sets, with_gap, without_gap, IsInRegion, child_regions, HasNoneOf, open_gaps, open_exact, open_ascending, Facts, facts_of, WalkLeads, StandsOnlyAt, ends, goes, child_by, child_in, child_of}
 use Rattle.std.specs.FinSet as set
 use Rattle.std.proofs.lemmas.List.Kept.{AllPairs-from_increasing}
-use Rattle.cover_solver.proofs.Lists.{first_is_here, later_is_here}
-use Rattle.cover_solver.proofs.Regions.{new_or_old, true_or_false, in_root}
-use Rattle.search_core.proofs.Sets.{gap_set, passed_gaps}
-use Rattle.search_core.proofs.Working.{kept_old, has_new, not_again, later}
+use Rattle.cover_solver.proofs.{Lists.first_is_here, Lists.later_is_here, Regions.new_or_old, Regions.true_or_false, Regions.in_root}
+use Rattle.search_core.proofs.{Sets.gap_set, Sets.passed_gaps, Working.kept_old, Working.has_new, Working.not_again, Working.later}
 use Rattle.hunt_board.proofs.Parents.{IsChildAt, HaveParents, parents_of}
 
 -- a walk ends at one place

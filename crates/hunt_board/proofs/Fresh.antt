@@ -1,5 +1,6 @@
 -- The seats of a hunt as they are made.
-use Rattle.hunt_board.proofs.Vocabulary.{arith, ◌≡◌, ℕ, ◌+◌, List, [], ◌∷◌, ◌++◌, None, map, refl, sym, ap, ◌∙◌, subst, problem, range_with_len, HuntView, SeatView, IsFresh, AreFresh, word_of, Word, Known, IsSeatOf, no_ceiling}
+use Rattle.hunt_board.proofs.Vocabulary.{arith, ◌≡◌, ℕ, ◌+◌, List, [], ◌∷◌, ◌++◌, None, map, refl, sym, ap, ◌∙◌, subst, problem, range_with_len, HuntView, SeatView, IsFresh, AreFresh, word_of, Word}
+use Rattle.hunt_board.proofs.Vocabulary.{Known, IsSeatOf, no_ceiling}
 use Rattle.std.proofs.lemmas.List.Elements.{All-push}
 use Rattle.std.proofs.lemmas.List.FromFn.{map-range_with_len_more}
 

@@ -1,13 +1,12 @@
 -- Receipts that are marked off against the record, one after the other.
-use Rattle.std.proofs.Common.{◌≡◌, ◌≢◌, ℕ, zero, suc, ◌+◌, ◌<◌, ◌≤◌, Bool, true, false, true≢false, List, [], ◌∷◌, Some, None, refl, sym, ap, ◌∙◌, subst, inl, inr, arith, length, length-set, set, cond, get_or, replicate, take}
-use Rattle.hunt_board.proofs.Vocabulary.{same_Some, none-some, slice_get_within, slice_get_read, get_or_from_slice_get, cases_lt, slice_get, ℕ_discrete, Entry, Foreign, Status, Split, Cut, Confirmed, Settled, IsEventOf, IsSettledAs, Receipt, WalkLeads, StandsOnlyAt, get_here, get_else, get_old, HasMark, IsMarked, IsNotMarked}
+use Rattle.hunt_board.proofs.Vocabulary.{◌≡◌, ◌≢◌, ℕ, zero, suc, ◌+◌, ◌<◌, ◌≤◌, Bool, true, false, true≢false, List, [], ◌∷◌, Some, None, refl, sym, ap, ◌∙◌, subst, inl, inr, arith, length}
+use Rattle.hunt_board.proofs.Vocabulary.{length-set, set, cond, get_or, replicate, take, same_Some, none-some, slice_get_within, slice_get_read, get_or_from_slice_get, cases_lt, slice_get, ℕ_discrete}
+use Rattle.hunt_board.proofs.Vocabulary.{Entry, Foreign, Status, Split, Cut, Confirmed, Settled, IsEventOf, IsSettledAs, Receipt, WalkLeads, StandsOnlyAt, get_here, get_else, get_old, HasMark}
+use Rattle.hunt_board.proofs.Vocabulary.{IsMarked, IsNotMarked, Event as Recorded, IsReceiptEvent as IsEventTold, IsReceiptOf, Stands, StandApart, NameAll, IsFirstWrong}
 use Rattle.std.proofs.lemmas.List.{get_or-replicate, length-replicate}
-use Rattle.search_core.specs.declared.finished.Event.{Event as Recorded}
 use Rattle.search_core.specs.declared.finished.Event.TheVariants as recorded
-use Rattle.hunt_board.specs.declared.settling.Event.{Event}
+use Rattle.hunt_board.specs.{declared.settling.Event.Event, Internal.Settled.IsSameEvent, Internal.Settled.SaysSame}
 use Rattle.hunt_board.specs.declared.settling.Event.TheVariants as event
-use Rattle.hunt_board.specs.Receipts.{IsReceiptEvent as IsEventTold, IsReceiptOf, Stands, StandApart, NameAll, IsFirstWrong}
-use Rattle.hunt_board.specs.Internal.Settled.{IsSameEvent, SaysSame}
 use Rattle.hunt_board.proofs.Found.{same_end}
 
 -- what is at a place of a list's front

@@ -1,11 +1,9 @@
 -- Each node of the record but the first is a child of one that was split.
-use Rattle.std.proofs.Common.{◌≡◌, ◌⊎◌, ℕ, zero, suc, ◌+◌, true, true≢false, List, [], ◌∷◌, ◌++◌, Some, refl, sym, ap, ◌∙◌, subst, inl, inr, arith, set, length, length-set, append-nil}
-use Rattle.hunt_board.proofs.Vocabulary.{slice_get, same_Some, none-some, ℕ_discrete, all_sets, Region, Foreign, Entry, Status, Open, Held, Split, Cut, Confirmed, SearchState, IsStart, IsHeldAt, open_entries, IsEvent, takes, gives_back, splits, cuts, confirms, get_else, get_longer, get_old}
-use Rattle.search_core.specs.Children.{children}
-use Rattle.search_core.specs.Entries.{entry, is_live, is_live_status}
-use Rattle.search_core.specs.Histories.{IsReached, starts, goes_on}
-use Rattle.search_core.proofs.Changes.{changed, is_there}
-use Rattle.search_core.proofs.WorkLaws.{open_live, held_live, held_is}
+use Rattle.hunt_board.proofs.Vocabulary.{◌≡◌, ◌⊎◌, ℕ, zero, suc, ◌+◌, true, true≢false, List, [], ◌∷◌, ◌++◌, Some, refl, sym, ap, ◌∙◌, subst, inl, inr, arith, set, length, length-set, append-nil}
+use Rattle.hunt_board.proofs.Vocabulary.{slice_get, same_Some, none-some, ℕ_discrete, all_sets, Region, Foreign, Entry, Status, Open, Held, Split, Cut, Confirmed, SearchState, IsStart, IsHeldAt}
+use Rattle.hunt_board.proofs.Vocabulary.{open_entries, IsEvent, takes, gives_back, splits, cuts, confirms, get_else, get_longer, get_old}
+use Rattle.search_core.specs.{Children.children, Entries.entry, Entries.is_live, Entries.is_live_status, Histories.IsReached, Histories.starts, Histories.goes_on}
+use Rattle.search_core.proofs.{Changes.changed, Changes.is_there, WorkLaws.open_live, WorkLaws.held_live, WorkLaws.held_is}
 
 -- the node is the child of this number of one that was split
 pub record IsChildAt (es : List Entry) (place : ℕ) (n : Region) : Type 0 where

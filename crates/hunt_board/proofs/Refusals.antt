@@ -1,9 +1,8 @@
 -- What a cut by the best set does to the node that a seat has in hand, and when workers wait.
-use Rattle.std.proofs.Common.{◌≡◌, ◌⊎◌, ℕ, Bool, not, true, false, true≢false, IsTrue, Result, Ok, Err, refl, sym, inl, inr}
-use Rattle.hunt_board.proofs.Vocabulary.{◌↔◌, OnOk, OnErr, IfErr, Region, not_cut, SearchState, HasInHand, Cuts, IsBeaten}
+use Rattle.hunt_board.proofs.Vocabulary.{◌≡◌, ◌⊎◌, ℕ, Bool, not, true, false, true≢false, IsTrue, Result, Ok, Err, refl, sym, inl, inr, ◌↔◌, OnOk, OnErr, IfErr, Region, not_cut, SearchState}
+use Rattle.hunt_board.proofs.Vocabulary.{HasInHand, Cuts, IsBeaten}
 use Rattle.search_core.specs.declared.ceiling.Reason.TheVariants as reason
-use Rattle.search_core.specs.declared.fault.TreeFault.{TreeFault}
-use Rattle.search_core.specs.Faults.{CutFaultIs}
+use Rattle.search_core.specs.{declared.fault.TreeFault.TreeFault, Faults.CutFaultIs}
 
 -- a cut by the best set is one, or nothing where that does not cut the node
 pub cut_or_not : (s after : SearchState) (seat : ℕ) (n : Region) (r : Result (Unit {0}) TreeFault) → HasInHand s seat n → OnOk r (Cuts s after seat) → OnErr r (after ≡ s) → IfErr r (CutFaultIs s seat reason.Best) →

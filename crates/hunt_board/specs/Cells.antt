@@ -1,8 +1,7 @@
 -- Cells by their names, and runs that were posted in them.
 use Rattle.std.specs.Prelude.{◌≡◌, ℕ, ◌+◌, ◌*◌, ◌<◌, nat_lt, List, length, Option, Some, None, slice_get, if◌then◌else◌}
 use Rattle.cover_solver.specs.Facts.{Foreign}
-use Rattle.hunt_board.specs.declared.cells.PostFault.{PostFault}
-use Rattle.hunt_board.specs.declared.cells.PostFault.TheVariants.{RowFull, Refused}
+use Rattle.hunt_board.specs.declared.cells.PostFault.{PostFault, TheVariants.RowFull, TheVariants.Refused}
 use Rattle.hunt_board.specs.declared.cells.TheConstants.{ROW_CELLS}
 
 -- where a run was posted: the place and the name of its cell; and the run, which is there

@@ -7,13 +7,11 @@ use Rattle.cover_solver.specs.Verdicts.{IsVerdictOf}
 use Rattle.cover_solver.specs.declared.oracle.Verdict.TheVariants as verdict
 use Rattle.search_core.specs.Ceilings.{IsCeilingOf}
 use Rattle.search_core.specs.Events.{IsBeatenBy, IsBestAfter}
-use Rattle.hunt_board.specs.declared.settling.Settling.{Settling}
-use Rattle.hunt_board.specs.declared.settling.Settling.TheVariants.{Asked, Cut, Best}
+use Rattle.hunt_board.specs.declared.settling.Settling.{Settling, TheVariants.Asked, TheVariants.Cut, TheVariants.Best}
 use Rattle.hunt_board.specs.declared.settling.Event.{Event}
 use Rattle.hunt_board.specs.declared.settling.Event.TheVariants as event
 use Rattle.hunt_board.specs.declared.settling.Receipt.{Receipt}
-use Rattle.hunt_board.specs.declared.settling.Next.{Next}
-use Rattle.hunt_board.specs.declared.settling.Next.TheVariants.{Work, Done}
+use Rattle.hunt_board.specs.declared.settling.Next.{Next, TheVariants.Work, TheVariants.Done}
 use Rattle.hunt_board.specs.Seats.{HuntView, SeatView, holding_node, with_best}
 
 -- for a node, at a seat that has confirmed this best set: an oracle's verdict on what the node's sets must have; a ceiling of the hunt, which that costs more

@@ -1,8 +1,7 @@
 -- Texts with commas between them, one more.
-use Rattle.std.proofs.Common.{◌≡◌, ◌∙◌, ℕ, ◌+◌, ◌<◌, suc, true, List, [], ◌∷◌, ◌++◌, length, take, get_or, arith, refl, sym, ap, append_assoc}
-use Rattle.std.proofs.lemmas.List.{append-nil, take_more}
+use Rattle.json_text.proofs.Vocabulary.{◌≡◌, ◌∙◌, ℕ, ◌+◌, ◌<◌, suc, true, List, [], ◌∷◌, ◌++◌, length, take, get_or, arith, sym, ap, append_assoc, append-nil, take_more, nat_lt, if◌then◌else◌}
+use Rattle.json_text.proofs.Vocabulary.{flat_map, nat_tests, after_comma, with_commas}
 use Rattle.std.proofs.lemmas.Grind.{common_steps, flat_map-append}
-use Rattle.json_text.proofs.Vocabulary.{nat_lt, if◌then◌else◌, flat_map, nat_tests, after_comma, with_commas}
 
 -- what stands before the text of this number
 abbrev pub comma_before : ℕ → List ℕ

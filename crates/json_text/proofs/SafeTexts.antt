@@ -1,13 +1,11 @@
 -- No text of a value has `<`.
-use Rattle.std.proofs.Common.{◌≡◌, ◌≢◌, ℕ, ◌+◌, ◌<◌, ◌≤◌, ◌^◌, ◌/◌, ◌%◌, Bool, true, false, List, [], ◌∷◌, ◌++◌, arith, refl, sym, subst}
-use Rattle.std.specs.Prelude.{nat_lt, ◌==◌, ◌||◌, if◌then◌else◌}
+use Rattle.json_text.proofs.Vocabulary.{◌≡◌, ◌≢◌, ℕ, ◌+◌, ◌<◌, ◌^◌, ◌/◌, ◌%◌, Bool, true, false, List, [], ◌∷◌, ◌++◌, arith, refl, sym, subst, nat_lt, if◌then◌else◌, flat_map, nat_tests, IsSafe, Json}
+use Rattle.json_text.proofs.Vocabulary.{Null, Truth, Number, Text, Array, Object, Elements, NoElement, MoreElements, Fields, NoField, MoreFields, written, elements_written, members_written, IsJson}
+use Rattle.json_text.proofs.Vocabulary.{hex_digit, unicode_escape, needs_backslash, needs_number, escaped, quoted, after_comma, with_commas, enclosed, member}
 use Rattle.std.specs.Fmt.{decimal}
 use Rattle.std.specs.Str.Parse.{AllDigits}
 use Rattle.std.proofs.lemmas.Fmt.{decimal_is_IsNumeral}
 use Rattle.std.proofs.lemmas.Str.Parse.{tells_digits}
-use Rattle.json_text.proofs.Vocabulary.{flat_map, nat_tests, IsSafe, Json, Null, Truth, Number, Text, Array, Object, Elements, NoElement, MoreElements, Fields, NoField, MoreFields, written}
-use Rattle.json_text.proofs.Vocabulary.{elements_written, members_written, IsJson}
-use Rattle.json_text.specs.Texts.{hex_digit, unicode_escape, needs_backslash, needs_number, escaped, quoted, after_comma, with_commas, enclosed, member}
 
 safe_append : (xs ys : List ℕ) → IsSafe xs → IsSafe ys → IsSafe (xs ++ ys)
 safe_append [] ys first second = second

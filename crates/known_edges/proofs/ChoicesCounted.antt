@@ -1,19 +1,13 @@
 -- How many choices a sketch has, and how many it has at most.
-use Rattle.std.proofs.Common.{◌≡◌, ◌≢◌, ℕ, ◌*◌, ◌≤◌, List, [], ◌∷◌, ◌++◌, Some, None, map, length, Contains, sum_by, ap, ◌∙◌, subst, inl, inr, arith}
-use Rattle.std.specs.List.{AllPairs, remove}
-use Rattle.std.proofs.lemmas.List.{length-map, length-append, take_all}
+use Rattle.known_edges.proofs.Vocabulary.{◌≡◌, ◌≢◌, ℕ, ◌*◌, ◌≤◌, List, [], ◌∷◌, ◌++◌, Some, None, map, length, Contains, sum_by, ap, ◌∙◌, subst, inl, inr, arith, AllPairs, remove, length-map}
+use Rattle.known_edges.proofs.Vocabulary.{length-append, take_all, get_or-le-sum_by, same_Some, slice_get_within, get_or_from_slice_get, cases_lt, Contains-append_left, Contains-append_right, Access}
+use Rattle.known_edges.proofs.Vocabulary.{Event, Initial, At, ProgramSketch, mode_in, trace_in, access_in, IsLawful, AreOtherTwo, IsAccess, accesses_of, get_some, first_or_later, first_is_here}
+use Rattle.known_edges.proofs.Vocabulary.{later_is_here, mapped, choice_count, most_choices, stays, first_pairs, later_pairs, few_of, rows, rows_many, code_there, all_events, all_events_few}
+use Rattle.known_edges.proofs.Vocabulary.{all_events_has, MAX_ACCESSES, given_to}
 use Rattle.std.proofs.lemmas.List.Edits.{length-remove}
-use Rattle.std.proofs.lemmas.List.Sums.{get_or-le-sum_by}
-use Rattle.known_edges.proofs.Vocabulary.{same_Some, slice_get_within, get_or_from_slice_get, cases_lt, Contains-append_left, Contains-append_right, Access, Event, Initial, At, ProgramSketch, mode_in, trace_in, access_in, IsLawful, AreOtherTwo, IsAccess}
-use Rattle.tso_program.specs.Listings.{accesses_of}
-use Rattle.candidate_executions.proofs.Orders.Lists.{get_some, first_or_later, first_is_here, later_is_here, mapped}
 use Rattle.known_edges.specs.FewAccesses.{HasSmallNumbers, AreFewAccesses}
-use Rattle.known_edges.specs.Sizes.{choice_count, most_choices}
 use Rattle.known_edges.proofs.Accesses.{none_past}
 use Rattle.thread_traces.proofs.AccessesCounted.{given_few}
-use Rattle.thread_traces.proofs.EventsCounted.{stays, first_pairs, later_pairs, few_of, rows, rows_many, code_there, all_events, all_events_few, all_events_has}
-use Rattle.tso_program.specs.declared.limits.TheConstants.{MAX_ACCESSES}
-use Rattle.candidate_executions.specs.Sketches.{given_to}
 
 abbrev Two : Type 0
 Two = Event × Event

@@ -1,7 +1,7 @@
 -- Accesses listed by thread and index.
-use Rattle.known_edges.proofs.Vocabulary.{◌≡◌, ℕ, ◌<◌, List, [], Some, slice_get, get_or, sym, ◌∙◌, subst, arith, AllPairs, slice_get_within, get_or_from_slice_get, same_Some, RowHas, Event, Kind, Precedes, ComesBefore, ThreadTrace, InOrder, AreRowsOf}
-use Rattle.known_edges.proofs.Connected.{order_precedes}
-use Rattle.known_edges.proofs.Unchosen.{not_itself}
+use Rattle.known_edges.proofs.Vocabulary.{◌≡◌, ℕ, ◌<◌, List, [], Some, slice_get, get_or, sym, ◌∙◌, subst, arith, AllPairs, slice_get_within, get_or_from_slice_get, same_Some, RowHas, Event, Kind}
+use Rattle.known_edges.proofs.Vocabulary.{Precedes, ComesBefore, ThreadTrace, InOrder, AreRowsOf}
+use Rattle.known_edges.proofs.{Connected.order_precedes, Unchosen.not_itself}
 
 -- nothing is listed
 pub none_ordered : AllPairs ComesBefore []

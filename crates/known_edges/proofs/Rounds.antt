@@ -1,13 +1,9 @@
 -- Cycles of known edges, seen in the rows.
-use Rattle.known_edges.proofs.Vocabulary.{◌≡◌, ◌↔◌, ℕ, suc, List, [], ◌∷◌, Some, Contains, slice_get, refl, sym, ◌∙◌, subst, arith, same_Some, slice_get_within, Listing, Mode, Event, Kind, IsAccess, Leads, IsCycle, IsOfMode, KnownEdgeOfMode, IsKnownCycle}
-use Rattle.known_edges.proofs.Vocabulary.{IsWhole, given_to, ThreadTrace, ProgramSketch, mode_in, view_of, IsLawful, AreRowsOf, IsRepresented, union_rows}
-use Rattle.bit_rows.specs.Rows.{IsIn, RowHas, Reaches, HasRound, RowsLead as Path}
+use Rattle.known_edges.proofs.Vocabulary.{◌≡◌, ◌↔◌, ℕ, suc, List, [], ◌∷◌, Some, Contains, slice_get, refl, sym, ◌∙◌, subst, arith, same_Some, slice_get_within, Listing, Mode, Event, Kind, IsAccess}
+use Rattle.known_edges.proofs.Vocabulary.{Leads, IsCycle, IsOfMode, KnownEdgeOfMode, IsKnownCycle, IsWhole, given_to, ThreadTrace, ProgramSketch, mode_in, view_of, IsLawful, AreRowsOf, IsRepresented}
+use Rattle.known_edges.proofs.Vocabulary.{union_rows, IsIn, RowHas, Reaches, HasRound, RowsLead as Path, AreRelated, HaveEvents, GoesOnIn}
 use Rattle.bit_rows.proofs.Paths.{reaches_then}
-use Rattle.known_edges.specs.Rounds.{AreRelated, HaveEvents, GoesOnIn}
-use Rattle.known_edges.proofs.Connected.{HasNumber}
-use Rattle.known_edges.proofs.Numbered.{at_numbers, rows_of_kind, access_number}
-use Rattle.known_edges.proofs.Found.{cycle_of_accesses}
-use Rattle.known_edges.proofs.Unchosen.{no_cycle_yet}
+use Rattle.known_edges.proofs.{Connected.HasNumber, Numbered.at_numbers, Numbered.rows_of_kind, Numbered.access_number, Found.cycle_of_accesses, Unchosen.no_cycle_yet}
 
 module _ (R : Event → Event → Type 0) (events : List Event) (rows : List ℕ) (are : AreRowsOf events R rows) where
   path_down : (es : List Event) (x z : Event) (d k : ℕ) → slice_get events d ≡ Some x → slice_get events k ≡ Some z → Leads R x es z → ((e : Event) → Contains es e → HasNumber events e) →

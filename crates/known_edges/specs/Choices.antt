@@ -3,8 +3,7 @@ use Rattle.std.specs.Prelude.{◌≡◌, ◌⊎◌, ℕ, Some, IsSome, Contains}
 use Rattle.candidate_executions.specs.declared.access.Access.{Access}
 use Rattle.candidate_executions.specs.declared.event.Event.{Event}
 use Rattle.candidate_executions.specs.Sketches.{IsSourceOf, IsPair, IsWhole}
-use Rattle.known_edges.specs.declared.fault.SketchFault.{SketchFault}
-use Rattle.known_edges.specs.declared.fault.SketchFault.TheVariants.{NotWhole, AlreadyChosen, NotSameLocation, NotASource, OutOfMemory}
+use Rattle.known_edges.specs.declared.fault.SketchFault.{SketchFault, TheVariants.NotWhole, TheVariants.AlreadyChosen, TheVariants.NotSameLocation, TheVariants.NotASource, TheVariants.OutOfMemory}
 use Rattle.known_edges.specs.ProgramSketches.{ProgramSketch, mode_in, access_in}
 
 -- the event is a read

@@ -1,7 +1,6 @@
 -- Few accesses of a sketch, with small numbers.
 use Rattle.std.specs.Prelude.{◌<◌, ◌≤◌, List, Contains, length}
-use Rattle.candidate_executions.specs.declared.event.Event.{Event}
-use Rattle.candidate_executions.specs.declared.event.Event.TheVariants.{Initial, Access as At}
+use Rattle.candidate_executions.specs.declared.event.Event.{Event, TheVariants.Initial, TheVariants.Access as At}
 use Rattle.known_edges.specs.ProgramSketches.{ProgramSketch, mode_in}
 use Rattle.tso_program.specs.declared.limits.TheConstants.{MAX_THREADS, MAX_ACCESSES}
 use Rattle.candidate_executions.specs.Candidates.{IsAccess}

@@ -1,8 +1,7 @@
 -- What is known of truths that are made of others.
 use Rattle.std.specs.Prelude.{◌&&◌, ◌||◌}
 use Rattle.known_edges.specs.declared.known_truth.Knowledge.{Knowledge}
-use Rattle.known_edges.specs.declared.known_truth.Left.{Left}
-use Rattle.known_edges.specs.declared.known_truth.Left.TheVariants.{OfAnd, OfOr}
+use Rattle.known_edges.specs.declared.known_truth.Left.{Left, TheVariants.OfAnd, TheVariants.OfOr}
 
 -- what is known of a conjunction or a disjunction
 abbrev pub joined : Left → Knowledge → Knowledge

@@ -1,7 +1,6 @@
 -- Which accesses write a location, and which may be its last write.
 use Rattle.std.specs.Prelude.{ℕ, Contains}
-use Rattle.candidate_executions.specs.declared.event.Event.{Event}
-use Rattle.candidate_executions.specs.declared.event.Event.TheVariants.{Access as At}
+use Rattle.candidate_executions.specs.declared.event.Event.{Event, TheVariants.Access as At}
 use Rattle.candidate_executions.specs.Candidates.{Writes}
 use Rattle.candidate_executions.specs.Sketches.{MayBeLast}
 use Rattle.known_edges.specs.ProgramSketches.{ProgramSketch, mode_in, access_in}

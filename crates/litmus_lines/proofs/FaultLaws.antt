@@ -1,10 +1,7 @@
 -- The lines before the initial values are refused in one way.
-use Rattle.std.proofs.Common.{◌≡◌, ◌⊎◌, ℕ, List, ◌∷◌, inl, inr, refl, sym, ap, ◌∙◌, subst, arith}
+use Rattle.litmus_lines.proofs.Vocabulary.{◌≡◌, ◌⊎◌, ℕ, List, ◌∷◌, inl, inr, refl, sym, ap, ◌∙◌, subst, arith, white_space_back, comment_back, other_back, IsSkippedLine}
 use Rattle.text_tokens.specs.Space.{IsAfterSpace, nothing, white_space, comment}
-use Rattle.text_tokens.proofs.SpaceLaws.{white_space_back, comment_back, other_back}
-use Rattle.litmus_lines.specs.declared.fault.LineFault.{LineFault}
-use Rattle.litmus_lines.specs.SkippedLines.{IsSkippedLine}
-use Rattle.litmus_lines.specs.Faults.{BeginsSkipped, nothing as none, line, RefusesLines, ended_at, fault_at}
+use Rattle.litmus_lines.specs.{declared.fault.LineFault.LineFault, Faults.BeginsSkipped, Faults.nothing as none, Faults.line, Faults.RefusesLines, Faults.ended_at, Faults.fault_at}
 use Rattle.litmus_lines.proofs.SkippedLaws.{line_read, line_only}
 
 -- one text follows white space and comments

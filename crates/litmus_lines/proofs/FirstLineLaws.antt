@@ -1,19 +1,15 @@
 -- The first line that is read is the one that stands there.
-use Rattle.std.proofs.Common.{◌≡◌, ℕ, suc, ◌+◌, ◌<◌, Bool, true, false, List, [], ◌∷◌, ◌++◌, length, take, drop, Option, Some, None, refl, sym, ap, ◌∙◌, subst, arith, inl, inr}
-use Rattle.std.specs.Prelude.{◌&&◌, ◌==◌, codes, nat_lt, slice_index}
+use Rattle.litmus_lines.proofs.Vocabulary.{◌≡◌, ℕ, suc, ◌+◌, ◌<◌, Bool, true, false, List, [], ◌∷◌, ◌++◌, length, take, drop, Option, Some, None, refl, sym, ap, ◌∙◌, subst, arith, inl, inr, ◌&&◌}
+use Rattle.litmus_lines.proofs.Vocabulary.{◌==◌, codes, nat_lt, slice_index, nat_tests, take_at, take_all, drop_at, take-append-drop, length-append, name_after, heading_name, line_at}
 use Rattle.std.specs.List.{list_all, prefix_len}
 use Rattle.std.specs.Str.{bytes_eq}
 use Rattle.std.proofs.lemmas.Bool.{and_parts, and_from, cases_Bool, lt-ltb, ltb-true, ltb-false, eqb-true, not-false}
-use Rattle.std.proofs.lemmas.Bool.Decides.{nat_tests}
-use Rattle.std.proofs.lemmas.List.{take_at, take_all, drop_at, take-append-drop, length-append}
 use Rattle.std.proofs.lemmas.List.Folds.{list_all-append}
 use Rattle.std.proofs.lemmas.Option.{cond_some}
 use Rattle.std.proofs.lemmas.Slice.Eq.{bytes_eq-Decides}
 use Rattle.text_tokens.specs.Bytes.{is_blank, is_line_space, AreBlanks}
-use Rattle.text_tokens.proofs.Prefixes.{prefix_is, all_pass}
-use Rattle.text_tokens.proofs.StepLaws.{let_through, not_passed}
+use Rattle.text_tokens.proofs.{Prefixes.prefix_is, Prefixes.all_pass, StepLaws.let_through, StepLaws.not_passed}
 use Rattle.litmus_lines.specs.FirstLine.{is_inside, is_visible, AreVisible, IsHeading, IsFirstLine}
-use Rattle.litmus_lines.specs.Internal.FirstLineReading.{name_after, heading_name, line_at}
 
 weaker : (p q : ℕ → Bool) → ((b : ℕ) → p b ≡ true → q b ≡ true) → (xs : List ℕ) → list_all p xs ≡ true → list_all q xs ≡ true
 weaker p q h [] all = refl

@@ -1,6 +1,5 @@
 -- Facts of every element of a list.
-use Rattle.std.proofs.Common.{List, [], ◌∷◌, ◌++◌}
-use Rattle.std.specs.List.{AllByRecursion}
+use Rattle.litmus_reader.proofs.Vocabulary.{List, [], ◌∷◌, ◌++◌, AllByRecursion}
 
 pub all_more_so : {X : Type 0} (P Q : X → Type 0) → ((x : X) → P x → Q x) → (xs : List X) → AllByRecursion P xs → AllByRecursion Q xs
 all_more_so P Q so [] h = tt

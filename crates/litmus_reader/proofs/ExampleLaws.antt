@@ -1,13 +1,10 @@
 -- Store buffering stands for its program.
-use Rattle.std.proofs.Common.{◌≡◌, ℕ, true, List, [], ◌∷◌, ◌++◌, refl, sym, ap, inl, inr, lit<}
-use Rattle.std.specs.Prelude.{codes, Some}
+use Rattle.litmus_reader.proofs.Vocabulary.{◌≡◌, ℕ, true, List, [], ◌∷◌, ◌++◌, refl, sym, ap, inl, inr, lit<, codes, Some, All-cons, All-nil, Tok, Word, Number, Sign, Eax, Ebx, Exists, Location}
+use Rattle.litmus_reader.proofs.Vocabulary.{Register, EntryView, CodeView, StoreImm, Load, CellView, BodyView, EndingView, end, item, atom, parens, operand, conjunction, term, reg_of, opens_condition}
+use Rattle.litmus_reader.proofs.Vocabulary.{joins_formula, is_name, mnemonic_of}
 use Rattle.std.proofs.lemmas.Fmt.{decimal_digit}
-use Rattle.std.proofs.lemmas.List.Elements.{All-cons, All-nil}
-use Rattle.litmus_reader.proofs.Vocabulary.{Tok, Word, Number, Sign, Eax, Ebx, Exists, Location, Register, EntryView, CodeView, StoreImm, Load, CellView, BodyView, EndingView, end, item}
 use Rattle.tso_program.specs.Tree as tree
-use Rattle.conditions.specs.Grammar.{atom, parens, operand, conjunction, term}
 use Rattle.text_tokens.specs.declared.token.Mark.TheVariants as the
-use Rattle.litmus_syntax.specs.Words.{reg_of, opens_condition, joins_formula, is_name, mnemonic_of}
 use Rattle.litmus_syntax.specs.Views as view
 use Rattle.litmus_syntax.specs.Grammar.{IsCode, HasThread, last, column, IsHeader, IsInitial, IsRow, IsBody, IsEnding}
 use Rattle.litmus_reader.specs.Example.{StoreBuffering, NamesStoreBuffering}

@@ -1,9 +1,7 @@
 -- What is said of a fault, case by case.
-use Rattle.std.proofs.Common.{◌≡◌, ◌≢◌, ◌∙◌, Option, Some, None, refl, sym, ap}
-use Rattle.litmus_reader.proofs.Vocabulary.{⊤, ProgramFault, LineFault, ReadFault, MatchFault, of_lines}
-use Rattle.tso_program.specs.declared.limits.ProgramFault.TheVariants.{OutOfMemory as NoMemory}
+use Rattle.litmus_reader.proofs.Vocabulary.{◌≡◌, ◌≢◌, ◌∙◌, Option, Some, None, refl, sym, ap, ⊤, ProgramFault, LineFault, ReadFault, MatchFault, of_lines, NotUtf8, Program, OutOfMemory}
+use Rattle.tso_program.specs.declared.limits.ProgramFault.{TheVariants.OutOfMemory as NoMemory}
 use Rattle.litmus_lines.specs.declared.fault.LineFault.TheVariants as line_fault
-use Rattle.litmus_reader.specs.declared.fault.ReadFault.TheVariants.{NotUtf8, Program, OutOfMemory}
 
 -- what follows from it, case by case
 pub match_map : (fault : ReadFault) (U V : Type 0) (L K : ProgramFault → Type 0) (M N O P : Type 0) → (U → V) → ((limit : ProgramFault) → L limit → K limit) → (M → N) → (O → P)

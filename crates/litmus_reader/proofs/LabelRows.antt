@@ -1,7 +1,6 @@
 -- Labels of a thread, one row after another.
-use Rattle.std.proofs.Common.{◌≡◌, ℕ, ◌+◌, ◌<◌, List, [], ◌∷◌, ◌++◌, length, drop, get_or, map, Option, Some, None, refl, sym, ap, ◌∙◌, append_assoc}
-use Rattle.std.proofs.lemmas.List.{at_drop_more}
-use Rattle.litmus_reader.proofs.Vocabulary.{slice_get, cons_option, Vec, Cell, CellView, row_view, Label, column, size, labels_behind}
+use Rattle.litmus_reader.proofs.Vocabulary.{◌≡◌, ℕ, ◌+◌, ◌<◌, List, [], ◌∷◌, ◌++◌, length, drop, get_or, map, Option, Some, None, refl, sym, ap, ◌∙◌, append_assoc, at_drop_more, slice_get}
+use Rattle.litmus_reader.proofs.Vocabulary.{cons_option, Vec, Cell, CellView, row_view, Label, column, size, labels_behind}
 
 -- the labels of the rows from the i-th on, behind k instructions
 abbrev pub behind : List (Vec Cell) → ℕ → ℕ → ℕ → List Label

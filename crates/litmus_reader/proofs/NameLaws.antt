@@ -1,9 +1,7 @@
 -- Keys of a set as names.
-use Rattle.std.proofs.Common.{◌||◌, ◌≡◌, ℕ, ◌<◌, ◌≤◌, Bool, true, false, cond, List, [], ◌∷◌, ◌++◌, refl, sym, ap, ◌∙◌, arith}
-use Rattle.std.specs.Prelude.{not, ◌+◌, position, min, Result, Ok, Err}
-use Rattle.litmus_reader.proofs.Vocabulary.{inl, inr, list_any, prefix_len, cases_lt, bytes_eq, Vec, with_name, texts}
+use Rattle.litmus_reader.proofs.Vocabulary.{◌||◌, ◌≡◌, ℕ, ◌<◌, ◌≤◌, Bool, true, false, cond, List, [], ◌∷◌, ◌++◌, refl, sym, ap, ◌∙◌, arith, not, ◌+◌, position, min, Result, Ok, Err, inl, inr}
+use Rattle.litmus_reader.proofs.Vocabulary.{list_any, prefix_len, cases_lt, bytes_eq, Vec, with_name, texts, map_push, length-map}
 use Rattle.std.specs.Result.{OkIff, result_unwrap_or}
-use Rattle.std.proofs.lemmas.List.{map_push, length-map}
 
 any_text : (ks : List (Vec ℕ)) (name : List ℕ) → list_any (λ k. bytes_eq name k.items) ks ≡ list_any (bytes_eq name) (texts ks)
 any_text [] name = refl

@@ -1,17 +1,12 @@
 -- The parts that are read are those of the tokens, and no others.
-use Rattle.std.proofs.Common.{◌≡◌, ℕ, List, [], length, map, Option, Some, None, refl, sym, subst}
-use Rattle.litmus_reader.proofs.Vocabulary.{⊤, Err, Tok, Listing, PlaceView, BodyView, EndingView, IsBody, IsEnding, Litmus, ReadFault, MatchFault, names_of, all_labels, JumpsAreFound, byte_in, byte_at, listing_by, AreParts}
-use Rattle.tso_program.specs.Tree.{Tree, tree_map}
-use Rattle.conditions.proofs.Mapped.{spells_mapped, spells_unmapped}
-use Rattle.conditions.proofs.SpelledIsRead.{spells_one}
-use Rattle.conditions.specs.Grammar.{Spells, Sum}
+use Rattle.litmus_reader.proofs.Vocabulary.{◌≡◌, ℕ, List, [], length, map, Option, Some, None, refl, sym, subst, ⊤, Err, Tok, Listing, PlaceView, BodyView, EndingView, IsBody, IsEnding, Litmus}
+use Rattle.litmus_reader.proofs.Vocabulary.{ReadFault, MatchFault, names_of, all_labels, JumpsAreFound, byte_in, byte_at, listing_by, AreParts, Tree, tree_map, Spells, Sum, sign_of, numbered_atom}
+use Rattle.litmus_reader.proofs.Vocabulary.{observed_of, numbered_signs, ReadsOne, Found, AreReadTokens, IsSyntaxFault, HasNoParts}
+use Rattle.conditions.proofs.{Mapped.spells_mapped, Mapped.spells_unmapped, SpelledIsRead.spells_one}
 use Rattle.conditions.specs.Reads.{SpellsOnly, SpellsNone}
 use Rattle.litmus_syntax.specs.declared.fault.Refusal.{Refusal}
-use Rattle.litmus_syntax.specs.declared.fault.SyntaxFault.{SyntaxFault}
-use Rattle.litmus_syntax.specs.declared.fault.SyntaxFault.TheVariants.{Refused, OutOfMemory as NoMemory}
+use Rattle.litmus_syntax.specs.declared.fault.SyntaxFault.{SyntaxFault, TheVariants.Refused, TheVariants.OutOfMemory as NoMemory}
 use Rattle.litmus_syntax.specs.Exact.{ReadsNone, ReadsEnding, NoEnding}
-use Rattle.litmus_reader.specs.Meaning.{sign_of, numbered_atom, observed_of}
-use Rattle.litmus_reader.specs.Internal.Reading.{numbered_signs, ReadsOne, Found, AreReadTokens, IsSyntaxFault, HasNoParts}
 use Rattle.litmus_reader.proofs.Faults.{match_map}
 
 ending_is : (refusal : Option Refusal) (threads : ℕ) (ending e : EndingView) (others : List Tok) → ReadsOne refusal threads ending others → IsEnding threads e others → (e ≡ ending) × (refusal ≡ None)

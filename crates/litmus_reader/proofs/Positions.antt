@@ -1,10 +1,8 @@
 -- Positions of labels as bytes: they are the positions where threads are short.
-use Rattle.std.proofs.Common.{◌≡◌, ℕ, ◌+◌, ◌≤◌, Bool, true, false, cond, List, [], ◌∷◌, length, map, Option, Some, None, refl, arith}
-use Rattle.std.specs.List.{AllByRecursion}
+use Rattle.litmus_reader.proofs.Vocabulary.{◌≡◌, ℕ, ◌+◌, ◌≤◌, Bool, true, false, cond, List, [], ◌∷◌, length, map, Option, Some, None, refl, arith, AllByRecursion, min, option_map, option_and_then}
+use Rattle.litmus_reader.proofs.Vocabulary.{slice_get, find, cons_option, option_map_or, bytes_eq, Instr, CodeView, CellView, Label, column, size, labels_behind, thread_labels, position_in, byte_at}
+use Rattle.litmus_reader.proofs.Vocabulary.{instruction_of, code_in}
 use Rattle.litmus_reader.proofs.Elements.{all_more_so, all_of_both}
-use Rattle.std.specs.Prelude.{min, option_map, option_and_then, slice_get}
-use Rattle.litmus_reader.proofs.Vocabulary.{find, cons_option, option_map_or, bytes_eq, Instr, CodeView, CellView, Label, column, size, labels_behind, thread_labels, position_in, byte_at}
-use Rattle.litmus_reader.specs.Meaning.{instruction_of, code_in}
 
 -- how many instructions cells have
 abbrev pub count : List CellView → ℕ

@@ -1,10 +1,8 @@
 -- A loop's step over what is seen of a list.
-use Rattle.std.proofs.Common.{◌≡◌, ℕ, ◌+◌, ◌<◌, List, [], ◌∷◌, ◌++◌, length, take, get_or, map, Option, Some, None, refl, sym, ap, ◌∙◌, fold}
-use Rattle.litmus_reader.proofs.Vocabulary.{arith, append_assoc, Cell, PlaceView, CellView, cell_view, TextNames, noted, filter_map, fold-append}
+use Rattle.litmus_reader.proofs.Vocabulary.{◌≡◌, ℕ, ◌+◌, ◌<◌, List, [], ◌∷◌, ◌++◌, length, take, get_or, map, Option, Some, None, refl, sym, ap, ◌∙◌, fold, arith, append_assoc, Cell, PlaceView}
+use Rattle.litmus_reader.proofs.Vocabulary.{CellView, cell_view, TextNames, noted, filter_map, fold-append, cell_places, cells_places, row_places, map_more, append-nil, length-map, length-take}
+use Rattle.litmus_reader.proofs.Vocabulary.{filter_map-append}
 use Rattle.std.proofs.Math.Nat.{add-zero}
-use Rattle.litmus_reader.specs.Places.{cell_places, cells_places, row_places}
-use Rattle.std.proofs.lemmas.List.{map_more, append-nil, length-map, length-take}
-use Rattle.std.proofs.lemmas.List.Elements.{filter_map-append}
 
 -- one more element, of which something is kept
 pub kept_more : {X V Y : Type 0} (h : V → Option Y) (v : X → V) (xs : List X) (i : ℕ) (d : X) (y : Y) → i < length xs → h (v (get_or xs i d)) ≡ Some y

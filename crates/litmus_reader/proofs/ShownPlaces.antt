@@ -1,15 +1,12 @@
 -- What a litmus text asks to be shown is what its condition mentions and its observed places.
-use Rattle.std.proofs.Common.{◌≡◌, ◌⊎◌, ◌↔◌, ◌&&◌, ℕ, ◌<◌, Bool, true, false, List, [], ◌∷◌, Contains, sym, ap, ◌∙◌, subst, inl, inr, arith}
+use Rattle.litmus_reader.proofs.Vocabulary.{◌≡◌, ◌⊎◌, ◌↔◌, ◌&&◌, ℕ, ◌<◌, Bool, true, false, List, [], ◌∷◌, Contains, sym, ap, ◌∙◌, subst, inl, inr, arith, Contains-append_cases, Contains-append_left}
+use Rattle.litmus_reader.proofs.Vocabulary.{Contains-append_right, Contains-push, Contains-push_cases, nat_lt, nat_tests, Reg, number, Atom, Tree, MAX_THREADS, MAX_LOCATIONS, with_place, with_places}
+use Rattle.litmus_reader.proofs.Vocabulary.{shown_by, ShowsNamedRegisters, ShowsNamedLocations}
 use Rattle.std.specs.Ordering.{nat_cmp}
 use Rattle.std.specs.FinSet as set
-use Rattle.std.proofs.lemmas.List.Elements.{Contains-append_cases, Contains-append_left, Contains-append_right, Contains-push, Contains-push_cases}
-use Rattle.litmus_reader.proofs.Vocabulary.{nat_lt, nat_tests, Reg, number, Atom, Tree, MAX_THREADS, MAX_LOCATIONS}
-use Rattle.tso_program.specs.Names.{register_place, location_place}
-use Rattle.tso_program.specs.Named.{with_named, MentionsRegister, MentionsLocation}
+use Rattle.tso_program.specs.{Names.register_place, Names.location_place, Named.with_named, Named.MentionsRegister, Named.MentionsLocation}
 use Rattle.conditions.proofs.Mentioned.{Has, IsWith, then_more, register_with_register, register_with_location, location_with_location, location_with_register, register_mentioned, location_mentioned}
-use Rattle.litmus_reader.specs.declared.observed.Observed.{Observed}
-use Rattle.litmus_reader.specs.declared.observed.Observed.TheVariants.{Location, Register}
-use Rattle.litmus_reader.specs.Shown.{with_place, with_places, shown_by, ShowsNamedRegisters, ShowsNamedLocations}
+use Rattle.litmus_reader.specs.declared.observed.Observed.{Observed, TheVariants.Location, TheVariants.Register}
 
 -- the same said in another way
 said : (One Other : Type 0) (place : ℕ) (names more : set.FinSet nat_cmp) → (One → Other) → (Other → One) → IsWith One place names more → IsWith Other place names more

@@ -1,13 +1,11 @@
 -- Tokens that the grammar relates to something are tokens each.
-use Rattle.litmus_reader.proofs.Vocabulary.{◌≡◌, ℕ, ◌+◌, List, [], ◌∷◌, inl, inr, Some, None, sym, subst, Tok, Word, AreAllTokens, Tree, AreParts, column_name}
+use Rattle.litmus_reader.proofs.Vocabulary.{◌≡◌, ℕ, ◌+◌, List, [], ◌∷◌, inl, inr, Some, None, sym, subst, Tok, Word, AreAllTokens, Tree, AreParts, column_name, NotExists, codes, true, false, Option}
 use Rattle.text_tokens.specs.declared.token.Mark.{Mark}
 use Rattle.text_tokens.specs.declared.token.Mark.TheVariants as the
 use Rattle.conditions.specs.declared.condition.Quantifier.{Quantifier}
-use Rattle.conditions.specs.declared.condition.Quantifier.TheVariants.{NotExists}
 use Rattle.litmus_syntax.specs.Views.{PlaceView, Location, Register, EntryView, CodeView, LoadImm, Copy, Load, StoreImm, Store, Xchg, Fence, CmpImm, CmpReg, Je, Jne, Jmp, CellView, BodyView, SignView, Atom, Const, Not, EndingView}
-use Rattle.std.specs.Prelude.{codes, true, false, Option}
-use Rattle.litmus_syntax.specs.Phrases.{Phrase, ◌▸◌, ◌or◌, mark, word, number, Items, end, item}
 use Rattle.litmus_syntax.specs.Grammar.{memory, IsPlace, separator, IsEntryItem, IsInitial, MoreColumns, last, column, immediate, comma, IsCode, IsLabelMark, IsContent, IsCell, IsNextCell, IsCells, IsRow, before_ending, IsRows, IsBody, IsObservedItem, IsObserved, IsQuantifier, IsSign, the_end, IsEnding}
+use Rattle.litmus_syntax.specs.Phrases.{Phrase, ◌▸◌, ◌or◌, mark, word, number, Items, end, item}
 
 -- where each token after a phrase is one, each token of the phrase is one too
 abbrev KeepsWhole : Phrase → Type 0

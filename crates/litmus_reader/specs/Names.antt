@@ -2,8 +2,7 @@
 use Rattle.std.specs.Prelude.{ℕ, Bool, false, List, [], ◌∷◌, ◌++◌, codes, fold, position, slice_index_or, unwrap_or, if◌then◌else◌}
 use Rattle.std.specs.List.{list_any}
 use Rattle.std.specs.Str.{bytes_eq}
-use Rattle.tso_program.specs.declared.instruction.Reg.{Reg}
-use Rattle.tso_program.specs.declared.instruction.Reg.TheVariants.{Eax, Ebx, Ecx, Edx, Esi, Edi}
+use Rattle.tso_program.specs.declared.instruction.Reg.{Reg, TheVariants.Eax, TheVariants.Ebx, TheVariants.Ecx, TheVariants.Edx, TheVariants.Esi, TheVariants.Edi}
 use Rattle.tso_program.specs.Instructions.{number}
 
 -- a text's locations by number, and for each thread which of its six registers are named

@@ -4,8 +4,7 @@ use Rattle.std.specs.Ordering.{nat_cmp}
 use Rattle.std.specs.FinSet as set
 use Rattle.tso_program.specs.declared.instruction.Reg.{Reg}
 use Rattle.tso_program.specs.Instructions.{number}
-use Rattle.tso_program.specs.declared.shown.Shown.{Shown}
-use Rattle.tso_program.specs.declared.shown.Shown.TheVariants.{All, Only, Truth}
+use Rattle.tso_program.specs.declared.shown.Shown.{Shown, TheVariants.All, TheVariants.Only, TheVariants.Truth}
 use Rattle.tso_program.specs.declared.shown.ShownKind.{ShownKind}
 use Rattle.tso_program.specs.declared.shown.ShownKind.TheVariants as kind
 use Rattle.tso_program.specs.declared.listing.Listing.{Listing}
@@ -14,8 +13,7 @@ use Rattle.tso_program.specs.declared.atom.Atom.{Atom}
 use Rattle.tso_program.specs.Tree.{Tree}
 use Rattle.tso_program.specs.Named.{with_register, with_location, with_named, MentionsRegister, MentionsLocation}
 use Rattle.litmus_reader.specs.declared.litmus.Litmus.{Litmus}
-use Rattle.litmus_reader.specs.declared.observed.Observed.{Observed}
-use Rattle.litmus_reader.specs.declared.observed.Observed.TheVariants.{Location, Register}
+use Rattle.litmus_reader.specs.declared.observed.Observed.{Observed, TheVariants.Location, TheVariants.Register}
 use Rattle.tso_program.specs.declared.limits.TheConstants.{MAX_THREADS, MAX_LOCATIONS}
 
 -- these and an observed place

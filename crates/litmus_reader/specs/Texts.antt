@@ -12,8 +12,7 @@ use Rattle.conditions.specs.Grammar.{Spells, Sum}
 use Rattle.litmus_syntax.specs.Views.{PlaceView, BodyView, EndingView}
 use Rattle.litmus_syntax.specs.Grammar.{IsBody, IsEnding}
 use Rattle.litmus_reader.specs.declared.litmus.Litmus.{Litmus}
-use Rattle.litmus_reader.specs.declared.fault.ReadFault.{ReadFault}
-use Rattle.litmus_reader.specs.declared.fault.ReadFault.TheVariants.{OutOfMemory}
+use Rattle.litmus_reader.specs.declared.fault.ReadFault.{ReadFault, TheVariants.OutOfMemory}
 use Rattle.litmus_reader.specs.Faults.{MatchFault}
 use Rattle.litmus_reader.specs.Names.{number_in}
 use Rattle.litmus_reader.specs.Places.{names_of}

@@ -1,17 +1,11 @@
 -- What the reader of endings reads is what the grammar says.
-use Rattle.std.proofs.Common.{◌≡◌, ◌∙◌, ℕ, List, [], codes, refl, ap, subst, Option, Some, None}
-use Rattle.std.specs.Prelude.{Err, MatchOption}
-use Rattle.litmus_syntax.proofs.Vocabulary.{Tok, mark_at, begins_with, mark_takes, SyntaxFault, Refused, OutOfMemory, PlaceView, SignView, EndingView, begins_with_word}
+use Rattle.litmus_syntax.proofs.Vocabulary.{◌≡◌, ◌∙◌, ℕ, List, [], codes, refl, ap, subst, Option, Some, None, Err, MatchOption, Tok, mark_at, begins_with, mark_takes, SyntaxFault, Refused}
+use Rattle.litmus_syntax.proofs.Vocabulary.{OutOfMemory, PlaceView, SignView, EndingView, begins_with_word, IsObserved, IsQuantifier, IsSigns, IsEnding, ReadsNone, NoEnding, ReadsEnding, keyword_at}
+use Rattle.litmus_syntax.proofs.Vocabulary.{quantifier_at}
 use Rattle.text_tokens.specs.declared.token.Mark.TheVariants as the
-use Rattle.conditions.specs.declared.condition.Quantifier.{Quantifier}
-use Rattle.conditions.specs.declared.condition.Quantifier.TheVariants.{Exists, NotExists, Forall}
+use Rattle.conditions.specs.declared.condition.Quantifier.{Quantifier, TheVariants.Exists, TheVariants.NotExists, TheVariants.Forall}
 use Rattle.litmus_syntax.specs.declared.fault.Refusal.{Refusal}
-use Rattle.litmus_syntax.specs.Grammar.{IsObserved, IsQuantifier, IsSigns, IsEnding}
-use Rattle.litmus_syntax.specs.Exact.{ReadsNone, NoEnding, ReadsEnding}
-use Rattle.litmus_syntax.specs.Reading.{keyword_at, quantifier_at}
-use Rattle.litmus_syntax.proofs.ItemLaws.{IsRead, Only, only_read, none_read}
-use Rattle.litmus_syntax.proofs.Options.{made, next, tested}
-use Rattle.litmus_syntax.proofs.WordLaws.{keyword_takes}
+use Rattle.litmus_syntax.proofs.{ItemLaws.IsRead, ItemLaws.Only, ItemLaws.only_read, ItemLaws.none_read, Options.made, Options.next, Options.tested, WordLaws.keyword_takes}
 
 -- ---- quantifiers
 

@@ -1,18 +1,11 @@
 -- What the reader of initial values reads is what the grammar says.
-use Rattle.std.proofs.Common.{◌≡◌, ◌∙◌, ◌||◌, ◌++◌, ap, map, not, Bool, ℕ, true, false, List, [], ◌∷◌, refl, sym, subst, Some, None}
-use Rattle.litmus_syntax.proofs.Vocabulary.{list_any, map_push, map-append, list_any-append, Tok, mark_at, begins_with, rest_of, mark_takes, PlaceView, EntryView, ◌▸◌, mark}
-use Rattle.litmus_syntax.proofs.Vocabulary.{number, Items, end, item, Seen, same_place, has, same_Some}
+use Rattle.litmus_syntax.proofs.Vocabulary.{◌≡◌, ◌∙◌, ◌||◌, ◌++◌, ap, map, not, Bool, ℕ, true, false, List, [], ◌∷◌, refl, sym, subst, Some, None, list_any, map_push, map-append, list_any-append, Tok}
+use Rattle.litmus_syntax.proofs.Vocabulary.{mark_at, begins_with, rest_of, mark_takes, PlaceView, EntryView, ◌▸◌, mark, number, Items, end, item, Seen, same_place, has, same_Some, IsEntryItem}
+use Rattle.litmus_syntax.proofs.Vocabulary.{separator, place_of_entry, NoneTwice, IsInitial, separator_at, place_at, equals_value_at, entry_value_at, entry_at, or-false, not-true, not-false}
 use Rattle.text_tokens.specs.declared.token.Mark.TheVariants as the
-use Rattle.litmus_syntax.specs.Grammar.{IsEntryItem, separator, place_of_entry, NoneTwice, IsInitial}
-use Rattle.litmus_syntax.specs.Reading.{separator_at, place_at, equals_value_at, entry_value_at, entry_at}
 use Rattle.litmus_syntax.proofs.ItemLaws.{IsRead, Only, SoFar, only_read, none_read, none_behind, one_more, refused, closed}
-use Rattle.std.proofs.Math.Bool.{or-false}
-use Rattle.std.proofs.lemmas.Bool.{not-true, not-false}
-use Rattle.litmus_syntax.proofs.Options.{made, next, not_first}
-use Rattle.litmus_syntax.proofs.Repetitions.{fresh, twice}
-use Rattle.litmus_syntax.proofs.SeenLaws.{same_place_is, same_place_itself}
-use Rattle.litmus_syntax.proofs.WordLaws.{separator_takes, separator_again}
-use Rattle.litmus_syntax.proofs.PlaceLaws.{place_takes, place_again, value_takes, value_again}
+use Rattle.litmus_syntax.proofs.{Options.made, Options.next, Options.not_first, Repetitions.fresh, Repetitions.twice, SeenLaws.same_place_is, SeenLaws.same_place_itself}
+use Rattle.litmus_syntax.proofs.{WordLaws.separator_takes, WordLaws.separator_again, PlaceLaws.place_takes, PlaceLaws.place_again, PlaceLaws.value_takes, PlaceLaws.value_again}
 
 -- `=`, a number, and what follows an entry
 abbrev EntryValue : ℕ → List Tok → List Tok → Type 0

@@ -1,13 +1,9 @@
 -- What the reader of the header row reads is what the grammar says.
-use Rattle.std.proofs.Common.{◌≡◌, ◌∙◌, ◌+◌, ℕ, false, List, ◌∷◌, refl, sym, ap, subst, Some, None}
-use Rattle.litmus_syntax.proofs.Vocabulary.{bytes_eq, cond_some, bytes_eq-Decides, Tok, Word, Sign, word_at, mark_at, begins_with, rest_of, word_takes, mark_takes, mark_again, begins_again}
-use Rattle.litmus_syntax.proofs.Vocabulary.{column_name, ReadsNone, SyntaxFault, Refused, OutOfMemory}
+use Rattle.litmus_syntax.proofs.Vocabulary.{◌≡◌, ◌∙◌, ◌+◌, ℕ, false, List, ◌∷◌, refl, sym, ap, subst, Some, None, bytes_eq, cond_some, bytes_eq-Decides, Tok, Word, Sign, word_at, mark_at, begins_with}
+use Rattle.litmus_syntax.proofs.Vocabulary.{rest_of, word_takes, mark_takes, mark_again, begins_again, column_name, ReadsNone, SyntaxFault, Refused, OutOfMemory, MoreColumns, last, column, IsHeader}
+use Rattle.litmus_syntax.proofs.Vocabulary.{Fails, column_at, fails_for_memory}
 use Rattle.text_tokens.specs.declared.token.Mark.TheVariants as the
-use Rattle.litmus_syntax.specs.Grammar.{MoreColumns, last, column, IsHeader}
-use Rattle.text_tokens.specs.Steps.{Fails}
-use Rattle.litmus_syntax.specs.Reading.{column_at, fails_for_memory}
-use Rattle.litmus_syntax.proofs.Options.{next}
-use Rattle.litmus_syntax.proofs.ItemLaws.{Only}
+use Rattle.litmus_syntax.proofs.{Options.next, ItemLaws.Only}
 
 column_takes : (k : ℕ) (ts rest : List Tok) → column_at k ts ≡ Some rest → ts ≡ Word (column_name k) ∷ rest
 unfolding column_at

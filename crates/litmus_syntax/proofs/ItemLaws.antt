@@ -1,6 +1,5 @@
 -- Lists of items that are read one after another.
-use Rattle.std.proofs.Common.{◌≡◌, ◌∙◌, sym, ap, subst, refl, List, [], ◌∷◌, ◌++◌, append_assoc, Option, Some, None}
-use Rattle.litmus_syntax.proofs.Vocabulary.{append-nil, Tok, ◌▸◌, Items, end, item, same_Some}
+use Rattle.litmus_syntax.proofs.Vocabulary.{◌≡◌, ◌∙◌, sym, ap, subst, refl, List, [], ◌∷◌, ◌++◌, append_assoc, Option, Some, None, append-nil, Tok, ◌▸◌, Items, end, item, same_Some}
 
 -- a value begins the tokens, and nothing else does
 abbrev pub Only : {X : Type 0} → (X → List Tok → List Tok → Type 0) → X → List Tok → List Tok → Type 0

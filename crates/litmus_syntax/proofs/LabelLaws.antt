@@ -1,10 +1,8 @@
 -- Labels that stand in their thread already.
-use Rattle.std.proofs.Common.{◌≡◌, ◌∙◌, ◌+◌, ◌<◌, ◌==◌, ◌&&◌, ℕ, Bool, true, false, append_assoc, List, [], ◌∷◌, ◌++◌, map, length, take, drop, get_or, refl, sym, ap, subst}
-use Rattle.std.proofs.lemmas.List.{take_more, map_push, map-append, take-append-drop}
-use Rattle.litmus_syntax.proofs.Vocabulary.{list_any, bytes_eq, Vec, eqb-true, bytes_eq-Decides, label_view, NoneTwice}
+use Rattle.litmus_syntax.proofs.Vocabulary.{◌≡◌, ◌∙◌, ◌+◌, ◌<◌, ◌==◌, ◌&&◌, ℕ, Bool, true, false, append_assoc, List, [], ◌∷◌, ◌++◌, map, length, take, drop, get_or, refl, sym, ap, subst, take_more}
+use Rattle.litmus_syntax.proofs.Vocabulary.{map_push, map-append, take-append-drop, list_any, bytes_eq, Vec, eqb-true, bytes_eq-Decides, label_view, NoneTwice, and_parts as both, eq-eqb}
 use Rattle.litmus_syntax.specs.declared.label.LabelAt.{LabelAt}
 use Rattle.litmus_syntax.proofs.Repetitions.{fresh, twice}
-use Rattle.std.proofs.lemmas.Bool.{and_parts as both, eq-eqb}
 
 abbrev same_label : ℕ × List ℕ → ℕ × List ℕ → Bool
 same_label a b = a.0 == b.0 && bytes_eq a.1 b.1

@@ -1,9 +1,7 @@
 -- Steps that may fail.
-use Rattle.std.proofs.Common.{◌≡◌, Bool, true, false, cond, sym, ap, subst, refl, ◌∙◌, List, Option, Some, None}
-use Rattle.litmus_syntax.proofs.Vocabulary.{◌>>=◌, bind_some, same_Some, Mark, Tok, mark_at, begins_with, rest_of, mark, mark_again, begins_again, begins_takes}
-use Rattle.std.specs.Prelude.{Result, Err}
+use Rattle.litmus_syntax.proofs.Vocabulary.{◌≡◌, Bool, true, false, cond, sym, ap, subst, refl, ◌∙◌, List, Option, Some, None, ◌>>=◌, bind_some, same_Some, Mark, Tok, mark_at, begins_with, rest_of}
+use Rattle.litmus_syntax.proofs.Vocabulary.{mark, mark_again, begins_again, begins_takes, Result, Err, err_from_is_err_and}
 use Rattle.std.specs.Result.{IsErrAnd}
-use Rattle.std.proofs.lemmas.Result.{err_from_is_err_and}
 
 -- what is there
 abbrev pub given : {A : Type 0} → A → Option A

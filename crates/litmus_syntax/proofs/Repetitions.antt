@@ -1,8 +1,5 @@
 -- Lists in which nothing stands twice, by a test for being the same.
-use Rattle.std.proofs.Common.{◌≡◌, ◌≢◌, ◌∙◌, Bool, true, false, List, [], ◌∷◌, ◌++◌, refl, sym, ap, subst, inl, inr}
-use Rattle.litmus_syntax.proofs.Vocabulary.{list_any, or_cases}
-use Rattle.litmus_syntax.specs.Grammar.{IsNoneOf, NoneTwice}
-use Rattle.std.proofs.lemmas.Bool.{or_parts as neither}
+use Rattle.litmus_syntax.proofs.Vocabulary.{◌≡◌, ◌≢◌, ◌∙◌, Bool, true, false, List, [], ◌∷◌, ◌++◌, refl, sym, ap, subst, inl, inr, list_any, or_cases, IsNoneOf, NoneTwice, or_parts as neither}
 
 none_more : {X : Type 0} (y : X) (ys : List X) (x : X) → IsNoneOf y ys → y ≢ x → IsNoneOf y (ys ++ x ∷ [])
 none_more y [] x h other = (other, tt)

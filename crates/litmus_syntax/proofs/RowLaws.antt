@@ -1,15 +1,11 @@
 -- What the readers of rows read is what the grammar says.
-use Rattle.std.proofs.Common.{◌≡◌, ◌≢◌, ◌∙◌, ◌||◌, ◌+◌, suc, ℕ, codes, true, false, List, [], ◌∷◌, ◌++◌, length, refl, sym, ap, subst, inl, inr, arith, append_assoc, Option, Some, None}
-use Rattle.std.specs.Prelude.{Result, Ok, Err}
-use Rattle.litmus_syntax.proofs.Vocabulary.{bytes_eq, or_cases, append-nil, bytes_eq-Decides, Mark, Tok, Sign, mark_at, begins_with, rest_of, Mnemonic, opens_condition}
-use Rattle.litmus_syntax.proofs.Vocabulary.{is_label, mnemonic_of, CodeView, CellView, mark, Items, end, item, SyntaxFault, Refused, OutOfMemory}
+use Rattle.litmus_syntax.proofs.Vocabulary.{◌≡◌, ◌≢◌, ◌∙◌, ◌||◌, ◌+◌, suc, ℕ, codes, true, false, List, [], ◌∷◌, ◌++◌, length, refl, sym, ap, subst, inl, inr, arith, append_assoc, Option, Some, None}
+use Rattle.litmus_syntax.proofs.Vocabulary.{Result, Ok, Err, bytes_eq, or_cases, append-nil, bytes_eq-Decides, Mark, Tok, Sign, mark_at, begins_with, rest_of, Mnemonic, opens_condition, is_label}
+use Rattle.litmus_syntax.proofs.Vocabulary.{mnemonic_of, CodeView, CellView, mark, Items, end, item, SyntaxFault, Refused, OutOfMemory, mark_takes, begins_takes, same_mark_is, IsLabelMark, ends_cell}
+use Rattle.litmus_syntax.proofs.Vocabulary.{IsContent, IsCell, IsNextCell, IsCells, IsRow, IsRowList, ends_rows, before_ending, cell_labels, labels_from, row_labels, labels_in_rows, ReadsNone, Reads}
 use Rattle.text_tokens.specs.declared.token.Mark.TheVariants as the
 use Rattle.text_tokens.specs.Marks.{same_mark}
-use Rattle.text_tokens.proofs.PartLaws.{mark_takes, begins_takes, same_mark_is}
-use Rattle.litmus_syntax.specs.Grammar.{IsLabelMark, ends_cell, IsContent, IsCell, IsNextCell, IsCells, IsRow, IsRowList, ends_rows, before_ending, cell_labels, labels_from, row_labels, labels_in_rows}
-use Rattle.litmus_syntax.specs.Exact.{ReadsNone, Reads}
-use Rattle.litmus_syntax.proofs.Options.{not_first, not_taken}
-use Rattle.litmus_syntax.proofs.ItemLaws.{Only, SoFar, none_yet, one_more, closed, refused}
+use Rattle.litmus_syntax.proofs.{Options.not_first, Options.not_taken, ItemLaws.Only, ItemLaws.SoFar, ItemLaws.none_yet, ItemLaws.one_more, ItemLaws.closed, ItemLaws.refused}
 use Rattle.litmus_syntax.proofs.CodeLaws.{mnemonic_for, code_begins}
 
 -- ---- `|` and a cell

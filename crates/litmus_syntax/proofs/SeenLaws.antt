@@ -1,10 +1,8 @@
 -- Places that stand already.
-use Rattle.std.proofs.Common.{◌≡◌, ◌∙◌, ◌==◌, ◌||◌, ◌&&◌, ℕ, Bool, true, false, cond, List, [], ◌∷◌, ◌++◌, refl, sym, ap, subst}
-use Rattle.litmus_syntax.proofs.Vocabulary.{list_any, bytes_eq, Vec, list_any-append, Seen, eqb-true, bytes_eq-Decides, PlaceView, Location, Register, same_place, has}
+use Rattle.litmus_syntax.proofs.Vocabulary.{◌≡◌, ◌∙◌, ◌==◌, ◌||◌, ◌&&◌, ℕ, Bool, true, false, cond, List, [], ◌∷◌, ◌++◌, refl, sym, ap, subst, list_any, bytes_eq, Vec, list_any-append, Seen, eqb-true}
+use Rattle.litmus_syntax.proofs.Vocabulary.{bytes_eq-Decides, PlaceView, Location, Register, same_place, has, or-false, and_parts as both, eq-eqb}
 use Rattle.tso_program.specs.Instructions as instructions
 use Rattle.tso_program.proofs.Registers.{same_register}
-use Rattle.std.proofs.Math.Bool.{or-false}
-use Rattle.std.proofs.lemmas.Bool.{and_parts as both, eq-eqb}
 
 -- ---- whether two places are one
 

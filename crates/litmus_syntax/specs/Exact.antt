@@ -1,8 +1,7 @@
 -- Readers that are exact: they read what the grammar relates to the tokens, that alone, and refuse only where it relates nothing.
 use Rattle.std.specs.Prelude.{◌≡◌, ℕ, List, [], map, Result, Ok, Err, MatchOption}
 use Rattle.text_tokens.specs.Tokens.{Tok}
-use Rattle.litmus_syntax.specs.declared.fault.SyntaxFault.{SyntaxFault}
-use Rattle.litmus_syntax.specs.declared.fault.SyntaxFault.TheVariants.{Refused, OutOfMemory}
+use Rattle.litmus_syntax.specs.declared.fault.SyntaxFault.{SyntaxFault, TheVariants.Refused, TheVariants.OutOfMemory}
 use Rattle.litmus_syntax.specs.declared.formula.Signs.{Signs}
 use Rattle.litmus_syntax.specs.declared.ending.Ending.{Ending}
 use Rattle.litmus_syntax.specs.Views.{SignView, sign_at_view, EndingView, ending_view}

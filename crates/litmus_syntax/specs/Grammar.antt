@@ -9,8 +9,7 @@ use Rattle.text_tokens.specs.Tokens.{Tok, Word, Number, Sign, NoToken}
 use Rattle.text_tokens.specs.Marks.{same_mark}
 use Rattle.text_tokens.specs.Parts.{begins_with}
 use Rattle.tso_program.specs.declared.instruction.Reg.{Reg}
-use Rattle.conditions.specs.declared.condition.Quantifier.{Quantifier}
-use Rattle.conditions.specs.declared.condition.Quantifier.TheVariants.{Exists, NotExists, Forall}
+use Rattle.conditions.specs.declared.condition.Quantifier.{Quantifier, TheVariants.Exists, TheVariants.NotExists, TheVariants.Forall}
 use Rattle.litmus_syntax.specs.declared.mnemonic.Mnemonic.{Mnemonic}
 use Rattle.litmus_syntax.specs.declared.mnemonic.Mnemonic.TheVariants as op
 use Rattle.litmus_syntax.specs.Words.{reg_of, opens_condition, is_label, is_name, mnemonic_of, column_name}

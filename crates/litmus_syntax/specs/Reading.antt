@@ -7,10 +7,8 @@ use Rattle.text_tokens.specs.Tokens.{Tok, Word, Number, Sign, NoToken}
 use Rattle.text_tokens.specs.Steps.{◌>>=◌}
 use Rattle.text_tokens.specs.Parts.{word_at, number_at, mark_at, begins_with, rest_of}
 use Rattle.tso_program.specs.declared.instruction.Reg.{Reg}
-use Rattle.conditions.specs.declared.condition.Quantifier.{Quantifier}
-use Rattle.conditions.specs.declared.condition.Quantifier.TheVariants.{Exists, NotExists, Forall}
-use Rattle.litmus_syntax.specs.declared.fault.SyntaxFault.{SyntaxFault}
-use Rattle.litmus_syntax.specs.declared.fault.SyntaxFault.TheVariants.{Refused, OutOfMemory}
+use Rattle.conditions.specs.declared.condition.Quantifier.{Quantifier, TheVariants.Exists, TheVariants.NotExists, TheVariants.Forall}
+use Rattle.litmus_syntax.specs.declared.fault.SyntaxFault.{SyntaxFault, TheVariants.Refused, TheVariants.OutOfMemory}
 use Rattle.litmus_syntax.specs.declared.mnemonic.Mnemonic.{Mnemonic}
 use Rattle.litmus_syntax.specs.declared.mnemonic.Mnemonic.TheVariants as op
 use Rattle.litmus_syntax.specs.Words.{reg_of, is_label, is_name, mnemonic_of, column_name}

@@ -4,10 +4,8 @@
 use Rattle.std.specs.Prelude.{◌||◌, ◌&&◌, ℕ, ◌++◌, Bool, List, not, codes, Option, Some, None, is_some, if◌then◌else◌}
 use Rattle.std.specs.Str.{bytes_eq}
 use Rattle.std.specs.Fmt.{decimal}
-use Rattle.tso_program.specs.declared.instruction.Reg.{Reg}
-use Rattle.tso_program.specs.declared.instruction.Reg.TheVariants.{Eax, Ebx, Ecx, Edx, Esi, Edi}
-use Rattle.litmus_syntax.specs.declared.mnemonic.Mnemonic.{Mnemonic}
-use Rattle.litmus_syntax.specs.declared.mnemonic.Mnemonic.TheVariants.{Mov, Xchg, Mfence, Cmp, Je, Jne, Jmp}
+use Rattle.tso_program.specs.declared.instruction.Reg.{Reg, TheVariants.Eax, TheVariants.Ebx, TheVariants.Ecx, TheVariants.Edx, TheVariants.Esi, TheVariants.Edi}
+use Rattle.litmus_syntax.specs.declared.mnemonic.Mnemonic.{Mnemonic, TheVariants.Mov, TheVariants.Xchg, TheVariants.Mfence, TheVariants.Cmp, TheVariants.Je, TheVariants.Jne, TheVariants.Jmp}
 
 -- the register of this name, in capitals or small letters
 unfoldable pub reg_of : List ℕ → Option Reg

@@ -1,16 +1,9 @@
 -- Trees whose nodes are changed in place.
-use Rattle.std.proofs.Common.{◌≡◌, ℕ, zero, suc, ◌+◌, ◌<◌, ◌≤◌, List, [], ◌∷◌, ◌++◌, map, length, take, drop, get_or, true, refl, ap, sym, ◌∙◌, arith, inl, inr}
-use Rattle.std.proofs.Math.ListN.{set}
-use Rattle.std.specs.Prelude.{nat_lt}
-use Rattle.std.proofs.lemmas.Bool.{cases_Bool, lt-ltb}
-use Rattle.std.proofs.lemmas.Simd.{map-map}
-use Rattle.partial_covers.proofs.Vocabulary.{map-append, NEAR_RUNS, changed, each_changed, changed_node, renumbered_node}
-use Rattle.candidate_executions.specs.declared.event.Kind.{Kind}
+use Rattle.partial_covers.proofs.Vocabulary.{◌≡◌, ℕ, zero, suc, ◌+◌, ◌<◌, ◌≤◌, List, [], ◌∷◌, ◌++◌, map, length, take, drop, get_or, true, refl, ap, sym, ◌∙◌, arith, inl, inr, set, nat_lt, cases_Bool}
+use Rattle.partial_covers.proofs.Vocabulary.{lt-ltb, map-map, map-append, NEAR_RUNS, changed, each_changed, changed_node, renumbered_node, Kind, spell, spell_row, known_nodes}
 use Rattle.cert_forest.specs.declared.node.Node.TheVariants as node
 use Rattle.cert_forest.specs.Trees.{Cover, Value, Source, Order, Cycle, Known, Covers, NoCover, MoreCovers}
-use Rattle.cert_forest.specs.Nodes.{spell, spell_row, known_nodes}
-use Rattle.partial_covers.proofs.OtherNumbers.{EachNumber, EachNumberOf, every_number, IsNear, renumbered}
-use Rattle.partial_covers.proofs.TighterTrees.{as_many_changed}
+use Rattle.partial_covers.proofs.{OtherNumbers.EachNumber, OtherNumbers.EachNumberOf, OtherNumbers.every_number, OtherNumbers.IsNear, OtherNumbers.renumbered, TighterTrees.as_many_changed}
 
 -- one item more is changed
 pub changed_more : {A : Type 0} (f : A → A) (xs : List A) (i : ℕ) (d : A) → i < length xs

@@ -2,14 +2,10 @@
 use Rattle.std.proofs.Common.{◌≡◌, ◌≢◌, ℕ, zero, suc, ◌<◌, List, [], ◌∷◌, ◌++◌, get_or, Option, Some, None, slice_get, unwrap_or, set, length, sym, ap, ◌∙◌, subst, arith}
 use Rattle.partial_covers.proofs.Vocabulary.{IfSome, length-map, Listing, Outcome, Shown, Mode, Sketch, given_to, ProgramSketch, nothing_chosen, with_chosen, IsLawful, with_values, HasValuesAlone}
 use Rattle.partial_covers.proofs.Vocabulary.{values_elsewhere, Cover, Choice, AreValueChoices, sketch_with, LastThread, Tally, AreAlike, IsBase, IsRest, with_root, IsCoverAt, IsCoverAfter, Traces}
-use Rattle.partial_covers.proofs.Vocabulary.{traces, root, cover_next}
-use Rattle.candidate_executions.proofs.Sketches.GivenValues.{none_given}
+use Rattle.partial_covers.proofs.Vocabulary.{traces, root, cover_next, none_given, values_may, AreTracesOf, AreTracesFor, IsLast, IsBeforeLast, IsBeforeNext, AreOthersFull, IsOfOther, AreOfOthers}
+use Rattle.partial_covers.proofs.Vocabulary.{IsTallyOf, IsOther, IsNeither, get_mapped}
 use Rattle.cover_judge.specs.declared.choice.Choice.TheVariants as choice
-use Rattle.cover_judge.proofs.ChoicesJudged.{values_may}
 use Rattle.branching.specs.declared.plan.ThreadTraces.{ThreadTraces}
-use Rattle.branching.specs.Plans.{AreTracesOf, AreTracesFor, IsLast, IsBeforeLast, IsBeforeNext, AreOthersFull, IsOfOther, AreOfOthers}
-use Rattle.branching.specs.Tallies.{IsTallyOf, IsOther, IsNeither}
-use Rattle.branching.proofs.TraceTrees.{get_mapped}
 use Rattle.partial_covers.proofs.CombinedSketches.{lawful_merged, values_merged, one_more_value}
 
 -- each choice gives the thread one of the values

@@ -2,18 +2,11 @@
 use Rattle.std.proofs.Common.{◌≡◌, ◌≢◌, ◌⊎◌, ◌↔◌, ℕ, ◌<◌, List, [], ◌∷◌, ◌++◌, Option, Some, None, IsSome, Contains, slice_get, slice_index, set, length, refl, sym, ap, ◌∙◌, subst, inl, inr, arith}
 use Rattle.partial_covers.proofs.Vocabulary.{cases_eq, same_Some, Listing, Outcome, Shown, action, code_of, start_of, Event, Writes, IsValueOf, machine_of_mode, Mode, ProgramSketch, mode_in, trace_in}
 use Rattle.partial_covers.proofs.Vocabulary.{access_in, with_chosen, IsLawful, HaveAllRegisters, with_values, HasValuesAlone, choices_few, AccessId, Source, NoCover, event_of, Choice, ReadValue}
-use Rattle.partial_covers.proofs.Vocabulary.{Tally, AreAlike, IsCoverAt, node_cover, covers_none}
+use Rattle.partial_covers.proofs.Vocabulary.{Tally, AreAlike, IsCoverAt, node_cover, covers_none, Initial, Access as At, Trace, trace, fenced_gaps, given_to, with_value, read_by, next_read}
+use Rattle.partial_covers.proofs.Vocabulary.{IsSourceOf, IsWhole, none_in, set-set, values_here, values_elsewhere, merged_lawful, values_alone, IsValueOpen, AreValueChoices, AreSourceChoices}
+use Rattle.partial_covers.proofs.Vocabulary.{source_is_open, HasBit, IsTallyOf, IsTalliedRead, IsThisThread, IsOther, LacksWriteOfBoth}
 use Rattle.candidate_executions.specs.declared.access.Access.{Access}
-use Rattle.candidate_executions.specs.declared.event.Event.TheVariants.{Initial, Access as At}
-use Rattle.candidate_executions.specs.Traces.{Trace, trace, fenced_gaps}
-use Rattle.candidate_executions.specs.Sketches.{given_to, with_value, read_by, next_read, IsSourceOf, IsWhole}
-use Rattle.sketches.proofs.Lawful.{none_in}
-use Rattle.std.proofs.lemmas.List.{set-set}
-use Rattle.sketches.proofs.ThreadValues.{values_here, values_elsewhere, merged_lawful, values_alone}
-use Rattle.cover_judge.specs.Choices.{IsValueOpen, AreValueChoices, AreSourceChoices}
-use Rattle.cover_judge.proofs.ChoicesJudged.{source_is_open}
 use Rattle.branching.specs.declared.open_choice.OpenChoice.TheVariants as left
-use Rattle.branching.specs.Tallies.{HasBit, IsTallyOf, IsTalliedRead, IsThisThread, IsOther, LacksWriteOfBoth}
 
 none_when : (o : Option ℕ) → (IsSome o → ⊥) → o ≡ None
 none_when None closed = refl

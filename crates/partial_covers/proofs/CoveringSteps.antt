@@ -1,13 +1,9 @@
 -- What several steps of a search for outcomes do together to what it has so far.
-use Rattle.std.proofs.Common.{◌≡◌, ◌<◌, ℕ, Bool, true, List, [], ◌∷◌, ◌++◌, ◌+◌, ◌∙◌, ◌-◌, Vec, Global, get_or, length, take, refl, sym, ap, subst, arith}
-use Rattle.partial_covers.proofs.Vocabulary.{Shown, asked, ProgramSketch, with_chosen, Choice, AreValueChoices, sketch_with, by_number, Grows, Covering, Item, Has, items_of, after, PushesPartial}
-use Rattle.partial_covers.proofs.Vocabulary.{PushesPartialRow, PushesPartialAt, AreInOrder, length-append}
+use Rattle.partial_covers.proofs.Vocabulary.{◌≡◌, ◌<◌, ℕ, Bool, true, List, [], ◌∷◌, ◌++◌, ◌+◌, ◌∙◌, ◌-◌, Vec, Global, get_or, length, take, refl, sym, ap, subst, arith, Shown, asked, ProgramSketch}
+use Rattle.partial_covers.proofs.Vocabulary.{with_chosen, Choice, AreValueChoices, sketch_with, by_number, Grows, Covering, Item, Has, items_of, after, PushesPartial, PushesPartialRow}
+use Rattle.partial_covers.proofs.Vocabulary.{PushesPartialAt, AreInOrder, length-append, grows_none, grows_twice, grows_after, Covers, CoversEach, CoversIf}
 use Rattle.cert_forest.specs.declared.node.Node.TheVariants as node
-use Rattle.sketch_covers.proofs.Growing.{grows_none, grows_twice, grows_after}
-use Rattle.partial_covers.specs.Coverings.{Covers, CoversEach, CoversIf}
-use Rattle.partial_covers.proofs.PartialRows.{after_more, none_partial, one_partial, values_partial}
-use Rattle.partial_covers.proofs.PartialNodes.{taken_back}
-use Rattle.partial_covers.proofs.PartsJoined.{was_joined}
+use Rattle.partial_covers.proofs.{PartialRows.after_more, PartialRows.none_partial, PartialRows.one_partial, PartialRows.values_partial, PartialNodes.taken_back, PartsJoined.was_joined}
 
 -- after a step that leaves what is shown and the path
 module _ (s : ProgramSketch) (old mid new : Covering) (shown : mid.shown.now ≡ old.shown.now) (path : mid.path.items ≡ old.path.items) (grows : Grows (asked s.program old.shown.now) old.outcomes mid.outcomes) where

@@ -1,12 +1,11 @@
 -- Partial covers whose holes get other fillings.
-use Rattle.std.proofs.Common.{◌≡◌, ℕ, suc, List, [], ◌∷◌, ◌++◌, map, refl, sym, ap, ◌∙◌, subst, arith, append_assoc}
-use Rattle.partial_covers.proofs.Vocabulary.{append-nil, IsCoverAt, Pushes, Outcome, Shown, ProgramSketch, with_chosen, Node, spell, Choice, sketch_with, Piece, KeepsNumbers, IsFilling, sequential, AreFilled, IsFilled}
-use Rattle.partial_covers.proofs.Vocabulary.{Item, Has, Lacks, PartialTree, Closed, Values, Hole, PartialTrees, NoPartial, MorePartial, count_partial, spell_partial, spell_partial_row, items_before}
-use Rattle.partial_covers.proofs.Vocabulary.{after, IsPartialAfter, ArePartialAfter, PushesPartial, PushesPartialAt}
+use Rattle.partial_covers.proofs.Vocabulary.{◌≡◌, ℕ, suc, List, [], ◌∷◌, ◌++◌, map, refl, sym, ap, ◌∙◌, subst, arith, append_assoc, append-nil, IsCoverAt, Pushes, Outcome, Shown, ProgramSketch}
+use Rattle.partial_covers.proofs.Vocabulary.{with_chosen, Node, spell, Choice, sketch_with, Piece, KeepsNumbers, IsFilling, sequential, AreFilled, IsFilled, Item, Has, Lacks, PartialTree, Closed}
+use Rattle.partial_covers.proofs.Vocabulary.{Values, Hole, PartialTrees, NoPartial, MorePartial, count_partial, spell_partial, spell_partial_row, items_before, after, IsPartialAfter, ArePartialAfter}
+use Rattle.partial_covers.proofs.Vocabulary.{PushesPartial, PushesPartialAt}
 use Rattle.cert_forest.specs.declared.node.Node.TheVariants as node
-use Rattle.partial_covers.proofs.ChoicesMade.{after_sequential}
+use Rattle.partial_covers.proofs.{ChoicesMade.after_sequential, PartialRows.after_more, PartialRows.filling_still, PartialRows.partial_still}
 use Rattle.tso_machine.specs.declared.mode.Mode.TheVariants as modes
-use Rattle.partial_covers.proofs.PartialRows.{after_more, filling_still, partial_still}
 
 -- a filling is for the sequential machine, also where the sketch is in it
 in_any : (k : ProgramSketch) (shown : Shown) (outcomes : List Outcome) (nodes : List Node) → IsFilling (sequential k) shown outcomes nodes → IsFilling k shown outcomes nodes

@@ -1,19 +1,13 @@
 -- Trees in any mode, made of partial covers.
-use Rattle.std.proofs.Common.{◌≡◌, ℕ, true, false, List, Option, Some, None, sym, ap, ◌∙◌, arith}
+use Rattle.partial_covers.proofs.Vocabulary.{◌≡◌, ℕ, true, false, List, Option, Some, None, sym, ap, ◌∙◌, arith, option_map_or, gap_number, tighter_keeps_cover, tighter_keeps_values}
+use Rattle.partial_covers.proofs.Vocabulary.{tighter_keeps_whole, map, SetOfGaps, Listing, Outcome, Shown, asked, machine_of_mode, IsWhole, ProgramSketch, mode_in, Cover, IsNoLooser, in_mode, Choice}
+use Rattle.partial_covers.proofs.Vocabulary.{AreValueChoices, IsCoverAt, SequentialMachine, sequential, unfenced, MayChooseEach, values_may}
 use Rattle.std.specs.FinSet as set
 use Rattle.std.specs.Ordering.{nat_cmp}
-use Rattle.std.specs.Option.{option_map_or}
-use Rattle.tso_program.specs.Listings.{gap_number}
 use Rattle.tso_machine.specs.declared.mode.Mode as own
 use Rattle.tso_machine.specs.declared.mode.Mode.TheVariants as modes
-use Rattle.cover_judge.proofs.TighterModes.{tighter_keeps_cover, tighter_keeps_values, tighter_keeps_whole}
 use Rattle.cover_judge.specs.declared.choice.Choice.TheVariants as choice
 use Rattle.cover_judge.proofs.OneList.{one_list_of_values}
-use Rattle.std.proofs.Common.{map}
-use Rattle.partial_covers.proofs.Vocabulary.{SetOfGaps, Listing, Outcome, Shown, asked, machine_of_mode, IsWhole, ProgramSketch, mode_in, Cover, IsNoLooser, in_mode, Choice, AreValueChoices}
-use Rattle.partial_covers.proofs.Vocabulary.{IsCoverAt, SequentialMachine, sequential, unfenced}
-use Rattle.cover_judge.specs.Choices.{MayChooseEach}
-use Rattle.cover_judge.proofs.ChoicesJudged.{values_may}
 use Rattle.partial_covers.proofs.TighterTrees.{neat_in_mode, depth_in_mode}
 
 -- the empty set has no gap

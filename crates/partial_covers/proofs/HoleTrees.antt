@@ -1,13 +1,10 @@
 -- What is found for the holes of a partial cover, a few at a time.
-use Rattle.std.proofs.Common.{◌≡◌, ℕ, suc, ◌+◌, ◌-◌, ◌<◌, ◌≤◌, List, [], ◌∷◌, ◌++◌, get_or, length, sym, ap, ◌∙◌, subst, arith}
-use Rattle.std.proofs.lemmas.List.{get_or_append_left}
+use Rattle.partial_covers.proofs.Vocabulary.{◌≡◌, ℕ, suc, ◌+◌, ◌-◌, ◌<◌, ◌≤◌, List, [], ◌∷◌, ◌++◌, get_or, length, sym, ap, ◌∙◌, subst, arith, get_or_append_left, length-append, All, Outcome, Shown}
+use Rattle.partial_covers.proofs.Vocabulary.{Question, Machine, ProgramSketch, Node, Cover, Choice, Piece, LeadsToWhole, StopIs, Pushes, Stop, HoleTree, AreFoundFrom, AreHolesFrom, AreSearchedHoles}
+use Rattle.partial_covers.proofs.Vocabulary.{IsFoundAfter, StopLacks}
 use Rattle.std.proofs.Math.Seq.{get_or-append_seam}
-use Rattle.partial_covers.proofs.Vocabulary.{length-append, All, Outcome, Shown, Question, Machine, ProgramSketch, Node, Cover, Choice, Piece, LeadsToWhole, StopIs, Pushes}
-use Rattle.sketch_covers.specs.declared.stop.Stop.{Stop}
 use Rattle.sketch_covers.specs.declared.stop.Stop.TheVariants as stop
-use Rattle.sketch_covers.specs.declared.known_outcomes.KnownOutcomes.TheVariants.{Closed}
-use Rattle.partial_covers.specs.declared.hole_trees.HoleTree.{HoleTree}
-use Rattle.partial_covers.specs.HoleTrees.{AreFoundFrom, AreHolesFrom, AreSearchedHoles, IsFoundAfter, StopLacks}
+use Rattle.sketch_covers.specs.declared.known_outcomes.KnownOutcomes.{TheVariants.Closed}
 
 -- why a search by a closed list stops
 pub stop_lacks : (q : Question) (machine : Machine) (outcomes : _) (why : Stop) → StopIs q machine (Closed outcomes) why → StopLacks q machine outcomes.now why

@@ -1,13 +1,10 @@
 -- What is known of the holes of a partial cover: the choices of each lead to a sketch in which each read has its value, and its filling is valid there.
-use Rattle.std.proofs.Common.{ℕ, zero, suc, ◌<◌, List, [], ◌∷◌, ◌++◌, get_or, length, map, sym, ◌∙◌, subst, arith, append_assoc}
+use Rattle.partial_covers.proofs.Vocabulary.{ℕ, zero, suc, ◌<◌, List, [], ◌∷◌, ◌++◌, get_or, length, map, sym, ◌∙◌, subst, arith, append_assoc, Contains, append-nil, Outcome, Shown, IsWhole}
+use Rattle.partial_covers.proofs.Vocabulary.{ProgramSketch, mode_in, Node, spell, Choice, AreValueChoices, MayChoose, first_is_here, later_is_here, Piece, Item, Has, Lacks, PartialTree, Closed}
+use Rattle.partial_covers.proofs.Vocabulary.{Values, Hole, PartialTrees, NoPartial, MorePartial, spell_partial, spell_partial_row, items_before, after, IsPartialAfter, ArePartialAfter, PushesPartial}
+use Rattle.partial_covers.proofs.Vocabulary.{MayChooseAll, unfenced, IsFilling, LeadsToWhole}
 use Rattle.cover_judge.specs.declared.choice.Choice.TheVariants as choice
-use Rattle.std.proofs.Common.{Contains}
-use Rattle.partial_covers.proofs.Vocabulary.{append-nil, Outcome, Shown, IsWhole, ProgramSketch, mode_in, Node, spell, Choice, AreValueChoices, MayChoose, first_is_here}
-use Rattle.partial_covers.proofs.Vocabulary.{later_is_here, Piece, Item, Has, Lacks, PartialTree, Closed, Values, Hole, PartialTrees, NoPartial, MorePartial, spell_partial}
-use Rattle.partial_covers.proofs.Vocabulary.{spell_partial_row, items_before, after, IsPartialAfter, ArePartialAfter, PushesPartial, MayChooseAll, unfenced}
-use Rattle.partial_covers.proofs.Vocabulary.{IsFilling, LeadsToWhole}
-use Rattle.partial_covers.proofs.ChoicesMade.{after_unfenced, may_more}
-use Rattle.partial_covers.proofs.FilledTrees.{whole_sketch_in_mode, choices_in_mode}
+use Rattle.partial_covers.proofs.{ChoicesMade.after_unfenced, ChoicesMade.may_more, FilledTrees.whole_sketch_in_mode, FilledTrees.choices_in_mode}
 
 -- a filling is for the sequential machine, whatever the sketch's mode
 pub filling_in_any : (k : ProgramSketch) (shown : Shown) (outcomes : List Outcome) (nodes : List Node) → IsFilling (unfenced k) shown outcomes nodes → IsFilling k shown outcomes nodes

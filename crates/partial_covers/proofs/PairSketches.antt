@@ -1,10 +1,8 @@
 -- Sketches in which the thread before the last takes its values from another sketch.
-use Rattle.std.proofs.Common.{◌≢◌, ◌⊎◌, ℕ, Option, IsSome, Contains, sym, ◌∙◌, subst, inl, inr}
-use Rattle.partial_covers.proofs.Vocabulary.{cases_eq, At, Writes, given_to, ProgramSketch, access_in, IsLawful, with_values, values_elsewhere, IsValueOpen, LastThread, ReadValue, Tally}
-use Rattle.partial_covers.proofs.Vocabulary.{AreAlike, IsBase, IsRest, with_trace, IsBeforeLast}
+use Rattle.partial_covers.proofs.Vocabulary.{◌≢◌, ◌⊎◌, ℕ, Option, IsSome, Contains, sym, ◌∙◌, subst, inl, inr, cases_eq, At, Writes, given_to, ProgramSketch, access_in, IsLawful, with_values}
+use Rattle.partial_covers.proofs.Vocabulary.{values_elsewhere, IsValueOpen, LastThread, ReadValue, Tally, AreAlike, IsBase, IsRest, with_trace, IsBeforeLast, HasBit, IsTalliedRead, IsOther, Joins}
+use Rattle.partial_covers.proofs.Vocabulary.{IsFullTrace}
 use Rattle.branching.specs.declared.traces.FullTrace.{FullTrace}
-use Rattle.branching.specs.Tallies.{HasBit, IsTalliedRead, IsOther, Joins}
-use Rattle.branching.specs.Traces.{IsFullTrace}
 use Rattle.partial_covers.proofs.CombinedCovers.{traces_still}
 use Rattle.partial_covers.proofs.CombinedSketches.{access_here, access_elsewhere, next_here, next_elsewhere, read_here, read_elsewhere}
 

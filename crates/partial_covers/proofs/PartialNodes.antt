@@ -1,14 +1,8 @@
 -- Partial covers, node by node.
-use Rattle.std.proofs.Common.{◌≡◌, ◌≤◌, Bool, true, false, ℕ, List, [], ◌∷◌, ◌++◌, length, map, take, refl, sym, ap, ◌∙◌, subst, append_assoc}
-use Rattle.std.specs.Prelude.{Result, Ok, Err, OnOk}
-use Rattle.partial_covers.proofs.Vocabulary.{map-append, append-nil, Outcome, Shown, IsWhole, ProgramSketch, mode_in, IsLawful, Node, spell, Choice, Piece, IsCoverAt, Item, Has, Lacks, Closed, Hole}
-use Rattle.partial_covers.proofs.Vocabulary.{items_before, PushesPartialAt}
-use Rattle.sketches.specs.Sizes.{choice_count, most_choices}
-use Rattle.sketch_covers.specs.declared.stop.Stop.{Stop}
-use Rattle.sketch_covers.specs.KnownOutcomes.{OnTold}
-use Rattle.sketch_covers.specs.Pushing.{Pushes, IfKnown}
+use Rattle.partial_covers.proofs.Vocabulary.{◌≡◌, ◌≤◌, Bool, true, false, ℕ, List, [], ◌∷◌, ◌++◌, length, map, take, refl, sym, ap, ◌∙◌, subst, append_assoc, Result, Ok, Err, OnOk, map-append}
+use Rattle.partial_covers.proofs.Vocabulary.{append-nil, Outcome, Shown, IsWhole, ProgramSketch, mode_in, IsLawful, Node, spell, Choice, Piece, IsCoverAt, Item, Has, Lacks, Closed, Hole, items_before}
+use Rattle.partial_covers.proofs.Vocabulary.{PushesPartialAt, choice_count, most_choices, Stop, OnTold, Pushes, IfKnown, leaf_cover}
 use Rattle.sketch_covers.proofs.Leaves.{known_pushed, unknown_same}
-use Rattle.sketch_covers.proofs.Nodes.{leaf_cover}
 
 -- nodes after the last piece
 pub items_pushed : (pieces : List Piece) (old new more : List Node) → new ≡ old ++ more → items_before pieces ++ map Has new ≡ (items_before pieces ++ map Has old) ++ map Has more

@@ -1,18 +1,13 @@
 -- Partial covers with other numbers for their outcomes.
-use Rattle.std.proofs.Common.{◌≡◌, ℕ, suc, ◌<◌, ◌≤◌, List, [], ◌∷◌, ◌++◌, map, length, refl, sym, ap, ◌∙◌, subst, arith}
+use Rattle.partial_covers.proofs.Vocabulary.{◌≡◌, ℕ, suc, ◌<◌, ◌≤◌, List, [], ◌∷◌, ◌++◌, map, length, refl, sym, ap, ◌∙◌, subst, arith, map-map, ◌^◌, map-append, Listing, Outcome, Shown, asked}
+use Rattle.partial_covers.proofs.Vocabulary.{SequentialMachine, empty_sketch, ProgramSketch, mode_in, nothing_chosen, Node, NEAR_RUNS, spell, Cover, Choice, PartialCover, Piece, renumbered_node}
+use Rattle.partial_covers.proofs.Vocabulary.{IsWholeCover, Item, Has, Lacks, renumbered_item, AreEach, IsPieceRenumbered, PartialTree, Closed, Values, Hole, PartialTrees, NoPartial, MorePartial}
+use Rattle.partial_covers.proofs.Vocabulary.{count_partial, spell_partial, spell_partial_row, items_before, items_of, after, sequential, IsFilling, IsPartialAfter, ArePartialAfter, IsPartialCover}
+use Rattle.partial_covers.proofs.Vocabulary.{HasNumber, place_in, ArePlacesOf}
 use Rattle.std.specs.FinSet as set
-use Rattle.std.proofs.lemmas.Simd.{map-map}
-use Rattle.partial_covers.proofs.Vocabulary.{◌^◌, map-append, Listing, Outcome, Shown, asked, SequentialMachine, empty_sketch, ProgramSketch, mode_in}
-use Rattle.partial_covers.proofs.Vocabulary.{nothing_chosen, Node, NEAR_RUNS, spell, Cover, Choice, PartialCover, Piece, renumbered_node, IsWholeCover, Item, Has, Lacks, renumbered_item}
-use Rattle.partial_covers.proofs.Vocabulary.{AreEach, IsPieceRenumbered, PartialTree, Closed, Values, Hole, PartialTrees, NoPartial, MorePartial, count_partial, spell_partial, spell_partial_row, items_before}
-use Rattle.partial_covers.proofs.Vocabulary.{items_of, after, sequential, IsFilling, IsPartialAfter, ArePartialAfter, IsPartialCover}
 use Rattle.tso_machine.specs.declared.mode.Mode.TheVariants as modes
 use Rattle.cert_forest.specs.declared.node.Node.TheVariants as node
-use Rattle.sketch_covers.specs.OutcomeNumbers.{HasNumber, place_in, ArePlacesOf}
-use Rattle.partial_covers.proofs.OtherNumbers.{renumbered}
-use Rattle.partial_covers.proofs.ChangedNodes.{spelled_renumbered}
-use Rattle.partial_covers.proofs.NearNumbers.{valid_near}
-use Rattle.partial_covers.proofs.RenumberedTrees.{cover_renumbered}
+use Rattle.partial_covers.proofs.{OtherNumbers.renumbered, ChangedNodes.spelled_renumbered, NearNumbers.valid_near, RenumberedTrees.cover_renumbered}
 
 -- ---- as it lies in memory
 

@@ -1,11 +1,11 @@
 -- Partial covers for each value of a read, put after the rest one by one.
-use Rattle.std.proofs.Common.{◌≡◌, ℕ, suc, ◌+◌, ◌<◌, List, [], ◌∷◌, ◌++◌, get_or, length, take, refl, sym, ap, ◌∙◌, subst, append_assoc}
+use Rattle.partial_covers.proofs.Vocabulary.{◌≡◌, ℕ, suc, ◌+◌, ◌<◌, List, [], ◌∷◌, ◌++◌, get_or, length, take, refl, sym, ap, ◌∙◌, subst, append_assoc, take_more, append-nil, Listing, Outcome, Shown}
+use Rattle.partial_covers.proofs.Vocabulary.{ProgramSketch, mode_in, nothing_chosen, with_chosen, Choice, AreValueChoices, sketch_with, PartialCover, KeepsNumbers, Cover, IsCoverAt, IsFilling, Node}
+use Rattle.partial_covers.proofs.Vocabulary.{sequential, still_valid, Item, Has, PartialTree, Closed, Values, Hole, PartialTrees, NoPartial, MorePartial, partial_of, count_partial, spell_partial}
+use Rattle.partial_covers.proofs.Vocabulary.{spell_partial_row, after, IsPartialAfter, ArePartialAfter, PushesPartial, PushesPartialRow, IsPartialCover}
 use Rattle.std.specs.FinSet as set
-use Rattle.partial_covers.proofs.Vocabulary.{take_more, append-nil, Listing, Outcome, Shown, ProgramSketch, mode_in, nothing_chosen, with_chosen, Choice, AreValueChoices, sketch_with, PartialCover}
-use Rattle.partial_covers.proofs.Vocabulary.{KeepsNumbers, Cover, IsCoverAt, IsFilling, Node, sequential, still_valid}
 use Rattle.tso_machine.specs.declared.mode.Mode.TheVariants as modes
 use Rattle.cert_forest.specs.declared.node.Node.TheVariants as node
-use Rattle.partial_covers.specs.PartialCovers.{Item, Has, PartialTree, Closed, Values, Hole, PartialTrees, NoPartial, MorePartial, partial_of, count_partial, spell_partial, spell_partial_row, after, IsPartialAfter, ArePartialAfter, PushesPartial, PushesPartialRow, IsPartialCover}
 
 -- one choice more
 pub after_more : (s : ProgramSketch) (path : List Choice) (c : Choice) → after s (path ++ c ∷ []) ≡ with_chosen (after s path) (sketch_with (after s path).chosen c)

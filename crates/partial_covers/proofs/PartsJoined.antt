@@ -1,19 +1,12 @@
 -- Parts of a search, while the list of outcomes grows and choices are made, and the cover of one beside the rest.
-use Rattle.std.proofs.Common.{◌≡◌, Bool, true, false, ℕ, ◌+◌, ◌<◌, ◌≤◌, List, [], ◌∷◌, ◌++◌, Option, Some, None, get_or, take, drop, length, map, arith, sym, ap, ◌∙◌, subst}
-use Rattle.std.specs.Prelude.{All, MatchOption, if◌then◌else◌}
-use Rattle.std.proofs.lemmas.List.{append-nil, take_all, drop_all}
-use Rattle.std.proofs.lemmas.List.Elements.{All-nil, All-append, All-push, All-take, All-drop}
-use Rattle.partial_covers.proofs.Vocabulary.{Mode, IsWhole, Outcome, Shown, Question, asked, ProgramSketch, mode_in, with_chosen, NEAR_RUNS, Choice, sketch_with, KnownOutcomes}
-use Rattle.partial_covers.proofs.Vocabulary.{PartCover, Part, HasNumber, Item, renumbered_item, after, PushesPartialAt, StaysOf, LastThread, Plan, IsOfOther, IsLast, IsBeforeLast, IsPartOf}
-use Rattle.partial_covers.proofs.Vocabulary.{IsPlanned}
-use Rattle.sketch_covers.specs.declared.outcome_index.OutcomeIndex.{OutcomeIndex}
-use Rattle.sketch_covers.specs.declared.known_outcomes.KnownOutcomes.TheVariants.{Closed, Open}
-use Rattle.partial_covers.specs.Parts.{AreRunsFor, IsMadeAt, IsCoverFor, AreCoversFor, AreLeftOf, AreOwnParts, AreFoundIn, IfJoined, IsFoundIn, first_sketch}
-use Rattle.partial_covers.proofs.PartialRenumbered.{partial_renumbered}
-use Rattle.partial_covers.proofs.CombinedCovers.{before_next}
-use Rattle.partial_covers.proofs.PartialRows.{after_more}
+use Rattle.partial_covers.proofs.Vocabulary.{◌≡◌, Bool, true, false, ℕ, ◌+◌, ◌<◌, ◌≤◌, List, [], ◌∷◌, ◌++◌, Option, Some, None, get_or, take, drop, length, map, arith, sym, ap, ◌∙◌, subst, All}
+use Rattle.partial_covers.proofs.Vocabulary.{MatchOption, if◌then◌else◌, append-nil, take_all, drop_all, All-nil, All-append, All-push, All-take, All-drop, Mode, IsWhole, Outcome, Shown, Question}
+use Rattle.partial_covers.proofs.Vocabulary.{asked, ProgramSketch, mode_in, with_chosen, NEAR_RUNS, Choice, sketch_with, KnownOutcomes, PartCover, Part, HasNumber, Item, renumbered_item, after}
+use Rattle.partial_covers.proofs.Vocabulary.{PushesPartialAt, StaysOf, LastThread, Plan, IsOfOther, IsLast, IsBeforeLast, IsPartOf, IsPlanned, AreRunsFor, IsMadeAt, IsCoverFor, AreCoversFor}
+use Rattle.partial_covers.proofs.Vocabulary.{AreLeftOf, AreOwnParts, AreFoundIn, IfJoined, IsFoundIn, first_sketch, MayChoose, MayChooseAll, sequential, Listing}
+use Rattle.sketch_covers.specs.{declared.outcome_index.OutcomeIndex.OutcomeIndex, declared.known_outcomes.KnownOutcomes.TheVariants.Closed, declared.known_outcomes.KnownOutcomes.TheVariants.Open}
+use Rattle.partial_covers.proofs.{PartialRenumbered.partial_renumbered, CombinedCovers.before_next, PartialRows.after_more}
 use Rattle.partial_covers.proofs.ChoicesMade.{after_sequential, may_more, same_program}
-use Rattle.partial_covers.proofs.Vocabulary.{MayChoose, MayChooseAll, sequential, Listing}
 
 runs_stay : (q : Question) (old new : KnownOutcomes) (found : OutcomeIndex) → StaysOf old new → AreRunsFor q old found → AreRunsFor q new found
 runs_stay q (Closed outcomes) new found stays runs = subst (λ (o : KnownOutcomes). AreRunsFor q o found) (sym stays) runs

@@ -1,9 +1,6 @@
 -- A cover tree with other unions for its cycles and other numbers for its outcomes: its numbers, its events and its depth stay within their limits.
-use Rattle.std.proofs.Common.{◌≡◌, ℕ, ◌<◌, suc, List, refl, ap, arith}
-use Rattle.partial_covers.proofs.Vocabulary.{◌^◌, max, Outcome, Question, empty_sketch, count_covers, cover_depth, covers_depth, IsNoLooser, in_mode, kind_in, changed, each_changed, tighter_keeps_cover}
-use Rattle.partial_covers.proofs.Vocabulary.{IsNeat, AreNeat, IsWholeCover}
-use Rattle.tso_machine.specs.Machine.{Machine}
-use Rattle.candidate_executions.specs.declared.event.Kind.{Kind}
+use Rattle.partial_covers.proofs.Vocabulary.{◌≡◌, ℕ, ◌<◌, suc, List, refl, ap, arith, ◌^◌, max, Outcome, Question, empty_sketch, count_covers, cover_depth, covers_depth, IsNoLooser, in_mode, kind_in}
+use Rattle.partial_covers.proofs.Vocabulary.{changed, each_changed, tighter_keeps_cover, IsNeat, AreNeat, IsWholeCover, Machine, Kind}
 use Rattle.cert_forest.specs.Trees.{Cover, Value, Source, Order, Cycle, Known, Covers, NoCover, MoreCovers}
 
 module _ (kinds : Kind → Kind) (place : ℕ → ℕ) where

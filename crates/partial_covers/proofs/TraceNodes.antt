@@ -1,13 +1,10 @@
 -- The nodes of a thread's traces, at a sketch in which the other threads have their values.
-use Rattle.std.proofs.Common.{◌≡◌, ℕ, ◌<◌, List, get_or, length, map, sym, ap, subst, arith}
-use Rattle.partial_covers.proofs.Vocabulary.{◌^◌, length-map, Outcome, Shown, ProgramSketch, with_chosen, IsLawful, HaveAllRegisters, HasValuesAlone, Cover, Choice, IsValueOpen, AreValueChoices}
-use Rattle.partial_covers.proofs.Vocabulary.{sketch_with, TraceTree, AreAlike, with_root, IsCoverAt, IsCoverAfter, Traces, Read, traces, trace_trees, root, first_choices, IsTraceTree, next_is_open}
-use Rattle.partial_covers.proofs.Vocabulary.{few_choices}
+use Rattle.partial_covers.proofs.Vocabulary.{◌≡◌, ℕ, ◌<◌, List, get_or, length, map, sym, ap, subst, arith, ◌^◌, length-map, Outcome, Shown, ProgramSketch, with_chosen, IsLawful, HaveAllRegisters}
+use Rattle.partial_covers.proofs.Vocabulary.{HasValuesAlone, Cover, Choice, IsValueOpen, AreValueChoices, sketch_with, TraceTree, AreAlike, with_root, IsCoverAt, IsCoverAfter, Traces, Read, traces}
+use Rattle.partial_covers.proofs.Vocabulary.{trace_trees, root, first_choices, IsTraceTree, next_is_open, few_choices, as_many_trees, child_tree}
 use Rattle.cover_judge.specs.declared.choice.Choice.TheVariants as choice
-use Rattle.partial_covers.proofs.CombinedCovers.{child_alike, child_cover, child_parts}
-use Rattle.partial_covers.proofs.CombinedSketches.{lawful_merged, values_merged}
+use Rattle.partial_covers.proofs.{CombinedCovers.child_alike, CombinedCovers.child_cover, CombinedCovers.child_parts, CombinedSketches.lawful_merged, CombinedSketches.values_merged}
 use Rattle.branching.specs.declared.open_choice.OpenChoice.TheVariants as left
-use Rattle.branching.proofs.TraceTrees.{as_many_trees, child_tree}
 
 module _ (s : ProgramSketch) (t : ℕ) (alone : HasValuesAlone s.chosen) (there : t < length s.program.threads) (lawful : IsLawful s) (u : ProgramSketch) (own : IsLawful u) (choices : List Choice) (after : List TraceTree)
     (x : Traces) (is : x ≡ Read u choices (trace_trees (map traces after))) (is_tree : IsTraceTree t x) (is_alike : AreAlike (root x) s) (shown : Shown) where

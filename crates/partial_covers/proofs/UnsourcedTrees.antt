@@ -1,12 +1,11 @@
 -- Trees in which a read without a source closes each full trace of a thread, node by node.
-use Rattle.std.proofs.Common.{◌≡◌, ℕ, ◌+◌, ◌<◌, ◌≤◌, List, [], ◌∷◌, ◌++◌, get_or, length, map, refl, ap, ◌∙◌, subst, append_assoc}
-use Rattle.partial_covers.proofs.Vocabulary.{◌^◌, Outcome, Shown, ProgramSketch, IsLawful, HaveAllRegisters, choices_few, Node, Choice, AreValueChoices, next_is_open, Tally, TraceTree, with_root}
-use Rattle.partial_covers.proofs.Vocabulary.{IsCoverAt, IsCoverAfter, Begins, Traces, Read, traces, trace_trees, root, first_choices, IsTraceTree, few_choices}
-use Rattle.tso_program.specs.declared.shown.Shown.TheVariants.{All}
+use Rattle.partial_covers.proofs.Vocabulary.{◌≡◌, ℕ, ◌+◌, ◌<◌, ◌≤◌, List, [], ◌∷◌, ◌++◌, get_or, length, map, refl, ap, ◌∙◌, subst, append_assoc, ◌^◌, Outcome, Shown, ProgramSketch, IsLawful}
+use Rattle.partial_covers.proofs.Vocabulary.{HaveAllRegisters, choices_few, Node, Choice, AreValueChoices, next_is_open, Tally, TraceTree, with_root, IsCoverAt, IsCoverAfter, Begins, Traces, Read}
+use Rattle.partial_covers.proofs.Vocabulary.{traces, trace_trees, root, first_choices, IsTraceTree, few_choices, Takes, Closes}
+use Rattle.tso_program.specs.declared.shown.Shown.{TheVariants.All}
 use Rattle.cert_forest.specs.declared.node.Node.TheVariants as node
 use Rattle.cover_judge.specs.declared.choice.Choice.TheVariants as choice
 use Rattle.branching.specs.declared.open_choice.OpenChoice.TheVariants as left
-use Rattle.partial_covers.specs.UnsourcedTraces.{Takes, Closes}
 use Rattle.sketch_covers.proofs.Covering.{Covering, none_covered, one_covered, all_covered, pushes_as}
 use Rattle.partial_covers.proofs.TraceNodes.{as_many_here, are_here, child_meets, cover_at, lawful_at, open_here}
 

@@ -12,8 +12,7 @@ use Rattle.candidate_executions.specs.Sketches.{IsWhole}
 use Rattle.sketches.specs.ProgramSketches.{ProgramSketch, mode_in, nothing_chosen}
 use Rattle.cover_judge.specs.declared.choice.Choice.{Choice}
 use Rattle.sketch_covers.specs.declared.outcome_index.OutcomeIndex.{OutcomeIndex}
-use Rattle.sketch_covers.specs.declared.known_outcomes.KnownOutcomes.{KnownOutcomes}
-use Rattle.sketch_covers.specs.declared.known_outcomes.KnownOutcomes.TheVariants.{Closed, Open}
+use Rattle.sketch_covers.specs.declared.known_outcomes.KnownOutcomes.{KnownOutcomes, TheVariants.Closed, TheVariants.Open}
 use Rattle.partial_covers.specs.declared.part.PartCover.{PartCover}
 use Rattle.partial_covers.specs.declared.part.Part.{Part}
 use Rattle.branching.specs.declared.plan.LastThread.{LastThread}

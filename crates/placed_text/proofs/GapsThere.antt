@@ -1,14 +1,8 @@
 -- Gaps that a program has are all there.
-use Rattle.std.proofs.Common.{◌≡◌, ◌<◌, ℕ, Bool, true, false, List, [], ◌∷◌, None, find, nat_le, arith, refl}
-use Rattle.std.specs.Prelude.{filter}
-use Rattle.std.specs.List.{range_with_len}
+use Rattle.placed_text.proofs.Vocabulary.{◌≡◌, ◌<◌, ℕ, Bool, true, false, List, [], ◌∷◌, None, find, nat_le, arith, refl, filter, range_with_len, nat_tests, Listing, SetOfGaps, gap_count}
+use Rattle.placed_text.proofs.Vocabulary.{numbers_of_set, first_missing, MAX_GAPS}
 use Rattle.std.specs.FinSet as set
-use Rattle.std.proofs.lemmas.Bool.Decides.{nat_tests}
-use Rattle.placed_text.proofs.Vocabulary.{Listing, SetOfGaps, gap_count}
-use Rattle.gap_sets.specs.Gaps.{numbers_of_set}
-use Rattle.tso_program.specs.Fences.{first_missing}
 use Rattle.cover_solver.specs.Outcomes.{AreGapsOf}
-use Rattle.gap_sets.specs.declared.gap_set.TheConstants.{MAX_GAPS}
 
 not_above : (n gap : ℕ) → gap < n → nat_le n gap ≡ false
 not_above n gap below = grind (arith, nat_tests)

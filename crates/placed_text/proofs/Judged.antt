@@ -1,21 +1,11 @@
 -- What is reported of texts, from what their parts are.
-use Rattle.std.proofs.Common.{◌≡◌, ◌∙◌, ℕ, List, Option, Some, None, ap, length, subst}
-use Rattle.std.specs.Prelude.{unwrap_or}
-use Rattle.std.proofs.lemmas.List.{length-replicate}
+use Rattle.placed_text.proofs.Vocabulary.{◌≡◌, ◌∙◌, ℕ, List, Option, Some, None, ap, length, subst, unwrap_or, length-replicate, Listing, Shown, asked, shown_as, question_of, gap_count, answer_line}
+use Rattle.placed_text.proofs.Vocabulary.{IsPlacement, AreWrittenTexts, HasNoPlacedText, TellsWhy, Litmus, AreGiven, IsPlacedSource, IsPlacedText, HasNoProgram, HasNoCosts, HasNoPlacement, IsWhyText}
 use Rattle.std.proofs.lemmas.List.FromFn.{length-map-range_with_len}
-use Rattle.placed_text.proofs.Vocabulary.{Listing, Shown, asked, shown_as, question_of, gap_count, answer_line, IsPlacement, AreWrittenTexts, HasNoPlacedText, TellsWhy}
 use Rattle.tso_program.specs.declared.shown.ShownKind.{ShownKind}
-use Rattle.litmus_text.specs.Litmus.{Litmus}
-use Rattle.litmus_text.specs.Texts.{IsLitmus}
-use Rattle.litmus_text.specs.CostTexts.{said_of}
-use Rattle.litmus_text.specs.GivenCosts.{AreGiven}
-use Rattle.placed_text.specs.declared.fault.TextFault.{TextFault}
+use Rattle.litmus_text.specs.{Texts.IsLitmus, CostTexts.said_of}
+use Rattle.placed_text.specs.{declared.fault.TextFault.TextFault, declared.placing.PlacedSource.PlacedSource, declared.writing.PlacedText.PlacedText}
 use Rattle.placed_text.specs.declared.fault.TextFault.TheVariants as fault
-use Rattle.placed_text.specs.declared.placing.PlacedSource.{PlacedSource}
-use Rattle.placed_text.specs.declared.writing.PlacedText.{PlacedText}
-use Rattle.placed_text.specs.PlacedTexts.{IsPlacedSource, IsPlacedText}
-use Rattle.placed_text.specs.TextFaults.{HasNoProgram, HasNoCosts, HasNoPlacement}
-use Rattle.placed_text.specs.WhyTexts.{IsWhyText}
 
 -- each gap has a cost
 pub one_each : (p : Listing) (text : Option (List ℕ)) (costs : List ℕ) → AreGiven p text costs → length costs ≡ gap_count p.threads

@@ -1,11 +1,10 @@
 -- The answer without one of its gaps doesn't serve.
-use Rattle.std.proofs.Common.{◌≡◌, ◌≢◌, ◌<◌, ◌≤◌, ◌&&◌, ℕ, Bool, true, false, All, List, length, refl, sym, ap, subst, ◌∙◌, eq-eqb}
+use Rattle.placed_text.proofs.Vocabulary.{◌≡◌, ◌≢◌, ◌<◌, ◌≤◌, ◌&&◌, ℕ, Bool, true, false, All, List, length, refl, sym, ap, subst, ◌∙◌, eq-eqb, SetOfGaps, IsGapSet, Question, Serves, gap_count}
+use Rattle.placed_text.proofs.Vocabulary.{IsTheAnswer}
 use Rattle.std.specs.Cmp.{nat_cmp_total, unsigned_tied}
 use Rattle.std.specs.FinSet as set
-use Rattle.placed_text.proofs.Vocabulary.{SetOfGaps, IsGapSet, Question, Serves, gap_count}
 use Rattle.gap_sets.specs.CostLists.{IsCostList}
 use Rattle.gap_sets.proofs.Subsets.{cheaper}
-use Rattle.tso_machine.specs.Outcomes.{IsTheAnswer}
 
 second : (v w : Bool) → (v && w) ≡ true → w ≡ true
 second true w e = e

@@ -1,29 +1,16 @@
 -- Reasons one after the other.
-use Rattle.std.proofs.Common.{◌≡◌, ◌∙◌, ◌==◌, ◌<◌, ℕ, suc, Bool, List, [], ◌∷◌, ◌++◌, true, false, arith, length, ap, refl, sym, subst}
-use Rattle.std.specs.Prelude.{map}
-use Rattle.std.specs.List.{concat, filter, range_with_len}
-use Rattle.std.proofs.lemmas.Bool.Decides.{nat_tests}
-use Rattle.std.proofs.lemmas.List.{append-nil, map-append}
+use Rattle.placed_text.proofs.Vocabulary.{◌≡◌, ◌∙◌, ◌==◌, ◌<◌, ℕ, suc, Bool, List, [], ◌∷◌, ◌++◌, true, false, arith, length, ap, refl, sym, subst, map, concat, filter, range_with_len, nat_tests}
+use Rattle.placed_text.proofs.Vocabulary.{append-nil, map-append, SetOfGaps, IsGapSet, Question, asked, Listing, Shown, Label, Without, TellsRun, TellsWhy, printed_of, numbers_of_set, MAX_GAPS}
+use Rattle.placed_text.proofs.Vocabulary.{gaps_in, show, IsForeignRun, IsReplayOf, IsShownRun, Litmus, PassesNoneOf, Told, IsReason, AreReasons, told_lines, TellsReasons, none_line, reasons_or_none}
+use Rattle.placed_text.proofs.Vocabulary.{IsReasonText}
 use Rattle.std.proofs.lemmas.List.Folds.{concat-append}
 use Rattle.std.specs.FinSet as set
-use Rattle.placed_text.proofs.Vocabulary.{SetOfGaps, IsGapSet, Question, asked, Listing, Shown, Label, Without, TellsRun, TellsWhy, printed_of}
-use Rattle.gap_sets.specs.Gaps.{numbers_of_set}
-use Rattle.gap_sets.specs.declared.gap_set.TheConstants.{MAX_GAPS}
-use Rattle.tso_program.specs.declared.outcome.Outcome.{Outcome}
-use Rattle.tso_program.specs.declared.shown.Shown.TheVariants.{All}
-use Rattle.tso_program.specs.Fences.{gaps_in}
-use Rattle.tso_program.specs.Shown.{show}
-use Rattle.tso_machine.specs.declared.label.Model.TheVariants.{Buffered}
-use Rattle.tso_machine.specs.declared.replaying.Ended.{Ended}
-use Rattle.tso_machine.specs.Machine.{StoreBufferMachine, no_gaps, IsRun}
-use Rattle.tso_machine.specs.Outcomes.{IsForeignRun, IsReplayOf, IsShownRun}
+use Rattle.tso_program.specs.{declared.outcome.Outcome.Outcome, declared.shown.Shown.TheVariants.All}
+use Rattle.tso_machine.specs.{declared.label.Model.TheVariants.Buffered, declared.replaying.Ended.Ended, Machine.StoreBufferMachine, Machine.no_gaps, Machine.IsRun}
 use Rattle.tso_machine.proofs.Refused.{one_outcome}
-use Rattle.litmus_text.specs.Litmus.{Litmus}
 use Rattle.cover_solver.proofs.GapsAvoided.{passed_gaps_tell}
 use Rattle.cover_solver.specs.Facts as facts
-use Rattle.cover_solver.specs.Verdicts.{PassesNoneOf}
 use Rattle.documents.specs.Documents.{IsWhyDocument}
-use Rattle.placed_text.specs.WhyTexts.{Told, IsReason, AreReasons, told_lines, TellsReasons, none_line, reasons_or_none, IsReasonText}
 
 -- a foreign run that passes none of some gaps is a run with these gaps fenced
 pub runs_fenced : (run : facts.Foreign) (gaps : SetOfGaps) → facts.IsForeignValue run → PassesNoneOf gaps run → IsShownRun run.question (StoreBufferMachine (gaps_in run.question.program gaps)) run.labels run.outcome

@@ -1,17 +1,28 @@
 -- What many proofs of this crate speak of, imported once.
-pub use Rattle.std.specs.Prelude.{option_map}
-pub use Rattle.gap_sets.specs.Gaps.{IsGapSet, SetOfGaps}
-pub use Rattle.tso_program.specs.Listings.{gap_count}
-pub use Rattle.tso_program.specs.Shown.{Question, asked}
-pub use Rattle.tso_program.specs.declared.listing.Listing.{Listing}
-pub use Rattle.tso_program.specs.declared.shown.Shown.{Shown}
-pub use Rattle.tso_machine.specs.Outcomes.{Serves}
-pub use Rattle.tso_machine.specs.declared.label.Label.{Label}
-pub use Rattle.litmus_text.specs.Shown.{shown_as, question_of}
-pub use Rattle.report.specs.Answers.{answer_line}
+pub use Rattle.std.proofs.Common.{All, Bool, List, None, Option, Some, [], ap, arith, eq-eqb, false, find, length, nat_le, refl, rules, subst, suc, sym, true, ℕ, ◌&&◌, ◌++◌, ◌<◌, ◌==◌, ◌∙◌, ◌∷◌, ◌≡◌}
+pub use Rattle.std.proofs.Common.{◌≢◌, ◌≤◌}
+pub use Rattle.std.proofs.lemmas.Bool.Decides.{nat_tests}
+pub use Rattle.std.proofs.lemmas.List.{append-nil, length-replicate, map-append}
+pub use Rattle.std.specs.List.{concat, range_with_len}
+pub use Rattle.std.specs.Prelude.{filter, map, option_map, unwrap_or}
+pub use Rattle.cover_solver.specs.Verdicts.{IsVerdictOf, PassesNoneOf}
 pub use Rattle.documents.specs.Runs.{TellsRun}
 pub use Rattle.documents.specs.declared.run.Setting.TheVariants.{Without}
 pub use Rattle.fence_place.specs.Placements.{IsPlacement}
-pub use Rattle.placed_text.specs.PlacedTexts.{AreWrittenTexts}
-pub use Rattle.placed_text.specs.TextFaults.{HasNoPlacedText}
-pub use Rattle.placed_text.specs.WhyTexts.{TellsWhy, printed_of}
+pub use Rattle.gap_sets.specs.Gaps.{IsGapSet, SetOfGaps}
+unfoldable pub use Rattle.gap_sets.specs.Gaps.{numbers_of_set}
+pub use Rattle.gap_sets.specs.declared.gap_set.TheConstants.{MAX_GAPS}
+pub use Rattle.litmus_text.specs.GivenCosts.{AreGiven, AreNotGiven}
+pub use Rattle.litmus_text.specs.Litmus.{Litmus}
+pub use Rattle.litmus_text.specs.Shown.{question_of, shown_as}
+pub use Rattle.report.specs.Answers.{answer_line}
+pub use Rattle.tso_machine.specs.Outcomes.{IsForeignRun, IsReplayOf, IsShownRun, IsTheAnswer, Serves}
+pub use Rattle.tso_machine.specs.declared.label.Label.{Label}
+pub use Rattle.tso_program.specs.Fences.{first_missing, gaps_in}
+pub use Rattle.tso_program.specs.Listings.{gap_count}
+pub use Rattle.tso_program.specs.Shown.{Question, asked, show}
+pub use Rattle.tso_program.specs.declared.listing.Listing.{Listing}
+pub use Rattle.tso_program.specs.declared.shown.Shown.{Shown}
+pub use Rattle.placed_text.specs.PlacedTexts.{AreWrittenTexts, IsPlacedSource, IsPlacedText}
+pub use Rattle.placed_text.specs.TextFaults.{AreNoCosts, HasNoCosts, HasNoPlacedText, HasNoPlacement, HasNoProgram}
+pub use Rattle.placed_text.specs.WhyTexts.{AreReasons, IsReason, IsReasonText, IsWhyText, TellsReasons, TellsWhy, Told, none_line, printed_of, reasons_or_none, told_lines}

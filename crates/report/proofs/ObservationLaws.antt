@@ -5,12 +5,8 @@ use Rattle.std.specs.List.{list_all, list_any}
 use Rattle.std.proofs.lemmas.Bool.{cases_Bool, both_ways, false_from_ne_true, not-true as not_true}
 use Rattle.std.proofs.lemmas.List.Folds.{Any-from_list_any, list_any-from_Any, list_any_at, list_any_none, list_all_at}
 use Rattle.std.proofs.lemmas.List.Sums.{AllPass-from_list_all, list_all-from_AllPass}
-use Rattle.tso_program.specs.declared.outcome.Outcome.{Outcome}
-use Rattle.tso_program.specs.declared.atom.Atom.{Atom}
-use Rattle.tso_program.specs.Tree.{Tree}
-use Rattle.tso_program.specs.Truth.{truth}
-use Rattle.report.specs.Observations.{some_meets, all_meet}
-use Rattle.report.specs.Laws.{ObservationsAreTold}
+use Rattle.tso_program.specs.{declared.outcome.Outcome.Outcome, declared.atom.Atom.Atom, Tree.Tree, Truth.truth}
+use Rattle.report.specs.{Observations.some_meets, Observations.all_meet, Laws.ObservationsAreTold}
 
 -- ---- tests of a list
 

@@ -6,8 +6,7 @@ use Rattle.std.specs.List.{list_all, list_any}
 use Rattle.tso_program.specs.declared.outcome.Outcome.{Outcome}
 use Rattle.tso_program.specs.declared.atom.Atom.{Atom}
 use Rattle.conditions.specs.declared.condition.Condition.{Condition}
-use Rattle.conditions.specs.declared.condition.Quantifier.{Quantifier}
-use Rattle.conditions.specs.declared.condition.Quantifier.TheVariants.{Exists, NotExists, Forall}
+use Rattle.conditions.specs.declared.condition.Quantifier.{Quantifier, TheVariants.Exists, TheVariants.NotExists, TheVariants.Forall}
 use Rattle.tso_program.specs.Tree.{Tree}
 use Rattle.tso_program.specs.Truth.{truth}
 

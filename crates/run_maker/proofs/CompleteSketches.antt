@@ -1,43 +1,21 @@
 -- A complete sketch without a cycle is a consistent candidate: the sources are those that are chosen, and an order of the accesses
 -- gives the ranks.
-use Rattle.std.proofs.Common.{◌≡◌, ◌≢◌, ℕ, suc, ◌<◌, ◌≤◌, List, [], Option, Some, IsSome, Contains, map, length, refl, sym, ap, ◌∙◌, subst, append-nil, inl, inr, arith}
-use Rattle.std.specs.Prelude.{◌==◌, slice_index, slice_get}
-use Rattle.std.specs.List.{range_with_len}
+use Rattle.run_maker.proofs.Vocabulary.{◌≡◌, ◌≢◌, ℕ, suc, ◌<◌, ◌≤◌, List, [], Option, Some, IsSome, Contains, map, length, refl, sym, ap, ◌∙◌, subst, append-nil, inl, inr, arith, ◌==◌, slice_index}
+use Rattle.run_maker.proofs.Vocabulary.{slice_get, range_with_len, same_Some, slice_get_within, slice_get-get_or, slice_get_past, cases_lt, Listing, action, start_of, code_of, Access, Event, Initial}
+use Rattle.run_maker.proofs.Vocabulary.{At, Kind, In, HasNoCycle, IsMadeRun, IsKnownOrder, All, Truth, Machine, SequentialMachine, StoreBufferMachine, IsRun, Candidate, Writes, IsCandidate, EndsWith}
+use Rattle.run_maker.proofs.Vocabulary.{HasOutcome, IsAccess, IsOfMode, Relates, Edge, IsAcyclic, IsConsistent, Completes, IsBefore, KnownRelates, KnownFromReads, MayBeLast, EndsInValues, KnownAtom}
+use Rattle.run_maker.proofs.Vocabulary.{EndsAs, IsPair, KnownEdgeOfMode, MustEndAs, given_to, followed_union, labels_along, IsOrder, some_value, ProgramSketch, mode_in, trace_in, access_in}
 use Rattle.std.proofs.lemmas.List.FromFn.{length-map-range_with_len, get_or-map-range_with_len}
-use Rattle.std.proofs.lemmas.Option.{same_Some, slice_get_within, slice_get-get_or, slice_get_past}
-use Rattle.run_maker.proofs.Vocabulary.{cases_lt, Listing, action, start_of, code_of, Access, Event, Initial, At, Kind, In, HasNoCycle, IsMadeRun, IsKnownOrder}
-use Rattle.tso_program.specs.declared.outcome.Outcome.{Outcome}
-use Rattle.tso_program.specs.declared.shown.Shown.{Shown}
-use Rattle.tso_program.specs.declared.shown.Shown.TheVariants.{All, Truth}
-use Rattle.tso_program.specs.Shown.{shown_value, show_memory, shown_values, show, asked}
-use Rattle.tso_program.specs.declared.atom.Atom.{Atom}
-use Rattle.tso_program.specs.declared.atom.Atom.TheVariants as atom
+use Rattle.tso_program.specs.{declared.outcome.Outcome.Outcome, declared.shown.Shown.Shown, Shown.shown_value, Shown.show_memory, Shown.shown_values, Shown.show, Shown.asked, declared.atom.Atom.Atom}
 use Rattle.tso_program.specs.Truth.{truth, is_true_at, is_value}
-use Rattle.tso_program.proofs.Kept.{memory_long, value_at as kept_value}
-use Rattle.tso_program.proofs.KnownTruths.{all_known}
-use Rattle.tso_machine.specs.Machine.{Machine, SequentialMachine, StoreBufferMachine, IsRun}
+use Rattle.tso_program.specs.declared.atom.Atom.TheVariants as atom
+use Rattle.tso_program.proofs.{Kept.memory_long, Kept.value_at as kept_value, KnownTruths.all_known}
 use Rattle.candidate_executions.specs.declared.event.Kind.TheVariants as union
-use Rattle.candidate_executions.specs.Traces.{fenced_gaps}
-use Rattle.candidate_executions.specs.Candidates.{Candidate, Writes, IsCandidate, EndsWith, HasOutcome, IsAccess}
-use Rattle.candidate_executions.specs.Consistency.{IsOfMode, Relates, Edge, IsAcyclic, IsConsistent}
-use Rattle.candidate_executions.specs.Sketches.{Completes, IsBefore, KnownRelates, KnownFromReads, MayBeLast, EndsInValues, KnownAtom, EndsAs, IsPair, KnownEdgeOfMode, MustEndAs, given_to}
-use Rattle.candidate_executions.specs.Orders.{followed_union, labels_along, IsOrder}
-use Rattle.candidate_executions.specs.RunCandidates.{IsCandidateOf}
-use Rattle.candidate_executions.proofs.ToRuns.CandidatesAreRuns.{every_order}
-use Rattle.candidate_executions.proofs.Candidates.LastWrites.{one_end, ends_with}
-use Rattle.candidate_executions.proofs.ToRuns.Linear.{contains_in, pairs_ordered}
-use Rattle.candidate_executions.proofs.Orders.Lists.{some_value}
-use Rattle.candidate_executions.proofs.Sketches.MoreValues.{end_or_read}
-use Rattle.candidate_executions.proofs.FromRuns.StepsSuffice.{advance}
-use Rattle.candidate_executions.proofs.Orders.WiderRelations.{acyclic_narrower}
-use Rattle.sketches.specs.ProgramSketches.{ProgramSketch, mode_in, trace_in, access_in}
-use Rattle.sketches.specs.Kept.{IsLawful}
-use Rattle.sketches.specs.Completions.{MustEndSo}
-use Rattle.sketches.proofs.Chosen.{once}
-use Rattle.sketches.proofs.Ends.{ends_only}
-use Rattle.sketches.proofs.LastWrites.{of_followed, pair_edge}
-use Rattle.sketches.specs.Complete.{IsComplete}
-use Rattle.sketches.proofs.Completeness.{first_there, second_there}
+use Rattle.candidate_executions.specs.{Traces.fenced_gaps, RunCandidates.IsCandidateOf}
+use Rattle.candidate_executions.proofs.{ToRuns.CandidatesAreRuns.every_order, Candidates.LastWrites.one_end, Candidates.LastWrites.ends_with, ToRuns.Linear.contains_in, ToRuns.Linear.pairs_ordered}
+use Rattle.candidate_executions.proofs.{Sketches.MoreValues.end_or_read, FromRuns.StepsSuffice.advance, Orders.WiderRelations.acyclic_narrower}
+use Rattle.sketches.specs.{Kept.IsLawful, Completions.MustEndSo, Complete.IsComplete}
+use Rattle.sketches.proofs.{Chosen.once, Ends.ends_only, LastWrites.of_followed, LastWrites.pair_edge, Completeness.first_there, Completeness.second_there}
 use Rattle.run_maker.proofs.PlacesInOrder.{place, place_before, place_same, chosen, chosen_is}
 
 consistent_by : (p : Listing) (m : Machine) (c : Candidate) → ((kind : Kind) → IsOfMode m kind → IsAcyclic (Edge p m c kind)) → IsConsistent p m c

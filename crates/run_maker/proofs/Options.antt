@@ -1,5 +1,5 @@
 -- An option without a value, and one with a value.
-use Rattle.std.proofs.Common.{◌≡◌, Bool, true, false, Option, Some, None}
+use Rattle.std.proofs.Common.{◌≡◌, true, false, Option, Some, None}
 use Rattle.std.specs.Option.{MatchOption, is_some}
 
 pub when_none : {A : Type 0} (o : Option A) (N : Type 0) (S : A → Type 0) → is_some o ≡ false → MatchOption o N S → N

@@ -1,9 +1,10 @@
 -- The answer is never lost, and the best set of a state that is done is the answer.
-use Rattle.search_core.proofs.Vocabulary.{◌≡◌, ◌⊎◌, ℕ, zero, suc, ◌<◌, true, false, true≢false, Option, Some, None, refl, sym, ◌∙◌, subst, inl, inr, arith, zero-add, ◌+◌, IfSome, same_Some, SetOfGaps, total, Better, gap_count, Serves, LeavesOutcome, AreGapsOf, IsTheAnswer, Serving, SearchState, IsDone, IsReached, range_with_len, length-range_with_len, get_or-range_with_len, has_any, any_has, decided, IsLive, IsBestSet, IsUndercut, TheAnswerIsNeverLost, NoBetterSetIsLost, ADoneStateHasTheAnswer}
+use Rattle.search_core.proofs.Vocabulary.{◌≡◌, ◌⊎◌, ℕ, zero, suc, ◌<◌, true, false, true≢false, Option, Some, None, refl, sym, ◌∙◌, subst, inl, inr, arith, zero-add, ◌+◌, IfSome, same_Some, SetOfGaps}
+use Rattle.search_core.proofs.Vocabulary.{total, Better, gap_count, Serves, LeavesOutcome, AreGapsOf, IsTheAnswer, Serving, SearchState, IsDone, IsReached, range_with_len, length-range_with_len}
+use Rattle.search_core.proofs.Vocabulary.{get_or-range_with_len, has_any, any_has, decided, IsLive, IsBestSet, IsUndercut, TheAnswerIsNeverLost, NoBetterSetIsLost, ADoneStateHasTheAnswer}
 use Rattle.std.specs.FinSet as set
 use Rattle.cover_solver.proofs.AllGapsFenced.{all_serve}
-use Rattle.search_core.proofs.Sets.{unserved, gap_set}
-use Rattle.search_core.proofs.Kept.{Facts, facts_of}
+use Rattle.search_core.proofs.{Sets.unserved, Sets.gap_set, Kept.Facts, Kept.facts_of}
 
 pub no_better_is_lost : NoBetterSetIsLost
 no_better_is_lost s gaps r of better = (facts_of s r).none_lost gaps of better

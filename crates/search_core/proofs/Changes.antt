@@ -1,5 +1,7 @@
 -- What stays where one live node changes its status and nodes are opened behind.
-use Rattle.search_core.proofs.Vocabulary.{◌≡◌, ℕ, ◌+◌, ◌<◌, true, false, true≢false, List, [], ◌++◌, Some, refl, sym, ap, ◌∙◌, subst, inl, inr, length, set, slice_get, same_Some, none-some, length-set, SetOfGaps, IsInRegion, Region, Question, Foreign, IsForeignValue, PassesNoneOf, Entry, Status, Open, Split, children, entry, is_live, is_live_status, open_entries, IsLive}
+use Rattle.search_core.proofs.Vocabulary.{◌≡◌, ℕ, ◌+◌, ◌<◌, true, false, true≢false, List, [], ◌++◌, Some, refl, sym, ap, ◌∙◌, subst, inl, inr, length, set, slice_get, same_Some, none-some}
+use Rattle.search_core.proofs.Vocabulary.{length-set, SetOfGaps, IsInRegion, Region, Question, Foreign, IsForeignValue, PassesNoneOf, Entry, Status, Open, Split, children, entry, is_live}
+use Rattle.search_core.proofs.Vocabulary.{is_live_status, open_entries, IsLive}
 use native.Mathlib.Decide.{ℕ_discrete}
 use Rattle.search_core.proofs.Places.{get_here, get_else, get_longer, get_behind, get_either, get_old, get_mapped, Each, each_mapped}
 

@@ -1,9 +1,12 @@
 -- What holds of each state that a history reaches.
-use Rattle.std.proofs.Common.{◌≡◌, ◌⊎◌, ℕ, zero, suc, ◌<◌, ◌≤◌, true, false, List, [], ◌∷◌, ◌++◌, Option, Some, Contains, refl, sym, ap, ◌∙◌, subst, inl, inr, arith, set as set_at, length, append-nil}
+use Rattle.search_core.proofs.Vocabulary.{◌≡◌, ◌⊎◌, ℕ, zero, suc, ◌<◌, ◌≤◌, true, false, List, [], ◌∷◌, ◌++◌, Option, Some, Contains, refl, sym, ap, ◌∙◌, subst, inl, inr, arith, set as set_at, length}
+use Rattle.search_core.proofs.Vocabulary.{append-nil, slice_get, nat_cmp, same_Some, none-some, slice_get_within, SetOfGaps, total, Better, all_sets, with_gap, without_gap, child_regions, open_gaps}
+use Rattle.search_core.proofs.Vocabulary.{Region, not_itself, Listing, Question, gap_count, IsWithinLimits, Serves, AreGapsOf, HaveCosts, first_is_here, later_is_here, Foreign, Serving}
+use Rattle.search_core.proofs.Vocabulary.{IsForeignValue, IsServing, PassesNoneOf, Entry, Status, Open, Held, Split, Cut, Confirmed, children, IsCeiling, SearchState, IsStart, open_entries}
+use Rattle.search_core.proofs.Vocabulary.{IsBeatenBy, IsBestAfter, TakesNode, GivesBack, Splits, Cuts, Confirms, IsEvent, takes, gives_back, splits, cuts, confirms, IsReached, starts, goes_on}
+use Rattle.search_core.proofs.Vocabulary.{open_exact, new_or_old, in_root, entry, is_live, is_closed, is_closed_status, is_live_status}
 use Rattle.std.specs.FinSet as set
-use Rattle.search_core.proofs.Vocabulary.{slice_get, nat_cmp, same_Some, none-some, slice_get_within, SetOfGaps, total, Better, all_sets, with_gap, without_gap, child_regions, open_gaps, Region, not_itself, Listing, Question, gap_count, IsWithinLimits, Serves, AreGapsOf, HaveCosts, first_is_here, later_is_here, Foreign, Serving, IsForeignValue, IsServing, PassesNoneOf, Entry, Status, Open, Held, Split, Cut, Confirmed, children, IsCeiling, SearchState, IsStart, open_entries, IsBeatenBy, IsBestAfter, TakesNode, GivesBack, Splits, Cuts, Confirms, IsEvent, takes, gives_back, splits, cuts, confirms, IsReached, starts, goes_on, open_exact, new_or_old, in_root, entry, is_live, is_closed, is_closed_status, is_live_status}
-use Rattle.search_core.proofs.Places.{Each, each_behind, each_set, each_mapped}
-use Rattle.search_core.proofs.Sets.{gap_set, passed_gaps, not_better}
+use Rattle.search_core.proofs.{Places.Each, Places.each_behind, Places.each_set, Places.each_mapped, Sets.gap_set, Sets.passed_gaps, Sets.not_better}
 use Rattle.search_core.proofs.Changes.{HasNode, IsSplitAt, SplitsHold, changed, node_stays, splits_stay, opened_live, none_live, kids_behind}
 use Rattle.search_core.proofs.NoneLost.{NoneLost, lost_by_none, lost_by_no_cut, lost_by_no_confirming, lost_by_no_split}
 

@@ -1,9 +1,10 @@
 -- The events of the calls.
-use Rattle.std.proofs.Common.{◌≡◌, ◌⊎◌, ℕ, zero, suc, ◌<◌, List, [], ◌∷◌, ◌++◌, Option, Some, None, refl, sym, ap, ◌∙◌, subst, inl, inr, arith, length, set as set_at}
-use Rattle.search_core.proofs.Vocabulary.{slice_get, slice_set, IfSome, MatchOption, slice_get_within, total, Region, Question, AreGapsOf, Foreign, Serving, IsForeignValue, IsServing, PassesNoneOf, Entry, Open, Held, Split, Cut, Confirmed, Reason, children, entry, IsReached, Bound, IsCeiling, IsBound, IsCeilingOf, SearchState, IsOpenAt, IsHeldAt, HoldsNode, HoldsNothing, HoldsOnly, HasNoOpen, open_entries, IsBeaten, IsTooDear, IsBestAfter, TakesNode, GivesBack, Splits, Cuts, Confirms, IsReasonOf, HasBound, CutsMust}
+use Rattle.search_core.proofs.Vocabulary.{◌≡◌, ◌⊎◌, ℕ, zero, suc, ◌<◌, List, [], ◌∷◌, ◌++◌, Option, Some, None, refl, sym, ap, ◌∙◌, subst, inl, inr, arith, length, set as set_at, slice_get, slice_set}
+use Rattle.search_core.proofs.Vocabulary.{IfSome, MatchOption, slice_get_within, total, Region, Question, AreGapsOf, Foreign, Serving, IsForeignValue, IsServing, PassesNoneOf, Entry, Open, Held}
+use Rattle.search_core.proofs.Vocabulary.{Split, Cut, Confirmed, Reason, children, entry, IsReached, Bound, IsCeiling, IsBound, IsCeilingOf, SearchState, IsOpenAt, IsHeldAt, HoldsNode, HoldsNothing}
+use Rattle.search_core.proofs.Vocabulary.{HoldsOnly, HasNoOpen, open_entries, IsBeaten, IsTooDear, IsBestAfter, TakesNode, GivesBack, Splits, Cuts, Confirms, IsReasonOf, HasBound, CutsMust}
 use Rattle.search_core.specs.declared.ceiling.Reason.TheVariants as reason
-use Rattle.search_core.proofs.Kept.{facts_of}
-use Rattle.search_core.proofs.OneNode.{only_node}
+use Rattle.search_core.proofs.{Kept.facts_of, OneNode.only_node}
 
 -- a seat of the value is one of the fields
 pub seated : (s old : SearchState) → s ≡ old → (seat : ℕ) → seat < old.seats → seat < s.seats

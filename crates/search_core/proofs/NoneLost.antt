@@ -1,12 +1,11 @@
 -- No set that is better than the best is lost: what each event does to one.
-use Rattle.std.proofs.Common.{◌≡◌, ◌⊎◌, ℕ, ◌<◌, ◌≤◌, true, false, List, ◌++◌, Option, Some, None, Contains, refl, sym, ap, ◌∙◌, subst, inl, inr, arith, set as set_at, length, ◌+◌}
+use Rattle.search_core.proofs.Vocabulary.{◌≡◌, ◌⊎◌, ℕ, ◌<◌, ◌≤◌, true, false, List, ◌++◌, Option, Some, None, Contains, refl, sym, ap, ◌∙◌, subst, inl, inr, arith, set as set_at, length, ◌+◌}
+use Rattle.search_core.proofs.Vocabulary.{slice_get, IfSome, slice_get-get_or, length-set, SetOfGaps, IsGapSet, total, Better, Region, Question, IsWithinLimits, LeavesOutcome, AreGapsOf, Foreign}
+use Rattle.search_core.proofs.Vocabulary.{Serving, IsForeignValue, Entry, Open, children, entry, is_live, IsCeiling, open_entries, IsBeatenBy, IsBestAfter, IsLive, IsUndercut, open_exact, IsInRegion}
+use Rattle.search_core.proofs.Vocabulary.{child_regions, HasNoneOf, open_gaps, not_itself, chained, HaveCosts, PassesGap, split_loses_no_set, true_or_false}
 use Rattle.std.specs.FinSet as set
-use Rattle.search_core.proofs.Vocabulary.{slice_get, IfSome, slice_get-get_or, length-set, SetOfGaps, IsGapSet, total, Better, Region, Question, IsWithinLimits, LeavesOutcome, AreGapsOf, Foreign, Serving, IsForeignValue, Entry, Open, children, entry, is_live, IsCeiling, open_entries, IsBeatenBy, IsBestAfter, IsLive, IsUndercut, open_exact, IsInRegion, child_regions, HasNoneOf, open_gaps, not_itself, chained, HaveCosts, PassesGap, split_loses_no_set, true_or_false}
-use Rattle.cover_solver.proofs.BetterSets.{still_better}
-use Rattle.cover_solver.proofs.AvoidedGaps.{Avoids, leaves_outcome}
-use Rattle.search_core.proofs.Places.{get_behind, get_mapped}
-use Rattle.search_core.proofs.Sets.{no_dearer, gap_set, passed_gaps}
-use Rattle.search_core.proofs.Changes.{changed, moved, still_live}
+use Rattle.cover_solver.proofs.{BetterSets.still_better, AvoidedGaps.Avoids, AvoidedGaps.leaves_outcome}
+use Rattle.search_core.proofs.{Places.get_behind, Places.get_mapped, Sets.no_dearer, Sets.gap_set, Sets.passed_gaps, Changes.changed, Changes.moved, Changes.still_live}
 
 module _ (q : Question) (costs : List ℕ) (within : IsWithinLimits q.program.threads q.program.memory) (have : HaveCosts q.program costs) where
   abbrev pub Fate : List Entry → SetOfGaps → Type 0

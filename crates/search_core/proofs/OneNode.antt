@@ -1,6 +1,7 @@
 -- A seat holds one node at most.
-use Rattle.std.proofs.Common.{◌≡◌, ◌⊎◌, ℕ, zero, suc, ◌==◌, true, List, [], ◌∷◌, ◌++◌, sym, ◌∙◌, subst, inl, inr, arith, refl, ap, set as set_at, append-nil}
-use Rattle.search_core.proofs.Vocabulary.{slice_get, same_Some, none-some, nat_tests, all_sets, Region, Entry, Open, Held, Cut, Confirmed, children, entry, is_held_by, SearchState, IsHeldAt, HoldsNothing, HoldsOnly, open_entries, TakesNode, IsEvent, takes, gives_back, splits, cuts, confirms, IsReached, starts, goes_on, ASeatHoldsOneNode}
+use Rattle.search_core.proofs.Vocabulary.{◌≡◌, ◌⊎◌, ℕ, zero, suc, ◌==◌, true, List, [], ◌∷◌, ◌++◌, sym, ◌∙◌, subst, inl, inr, arith, refl, ap, set as set_at, append-nil, slice_get, same_Some}
+use Rattle.search_core.proofs.Vocabulary.{none-some, nat_tests, all_sets, Region, Entry, Open, Held, Cut, Confirmed, children, entry, is_held_by, SearchState, IsHeldAt, HoldsNothing, HoldsOnly}
+use Rattle.search_core.proofs.Vocabulary.{open_entries, TakesNode, IsEvent, takes, gives_back, splits, cuts, confirms, IsReached, starts, goes_on, ASeatHoldsOneNode}
 use Rattle.search_core.proofs.Places.{get_here, Each, each_mapped, get_either, get_old}
 
 -- each seat holds its nodes at one place

@@ -1,8 +1,7 @@
 -- Why a call for the node that a seat has in hand is refused.
 use Rattle.search_core.proofs.Vocabulary.{◌≡◌, ℕ, true, refl, subst, Region, Foreign, Reason, SearchState, HasInHand, MaySplit, SplitFaultIs, CutFaultIs, CutsNode}
 use Rattle.std.specs.FinSet as set
-use Rattle.search_core.specs.declared.fault.TreeFault.{TreeFault}
-use Rattle.search_core.specs.declared.fault.TreeFault.TheVariants.{SeatHoldsNothing, Hit, StillBetter, OutOfMemory}
+use Rattle.search_core.specs.declared.fault.TreeFault.{TreeFault, TheVariants.SeatHoldsNothing, TheVariants.Hit, TheVariants.StillBetter, TheVariants.OutOfMemory}
 
 -- a split by a run that passes no gap of `must` is refused for memory alone
 pub only_memory : (s : SearchState) (seat : ℕ) (f : Foreign) (fault : TreeFault) → MaySplit s seat f → SplitFaultIs s seat f.passed fault → fault ≡ OutOfMemory

@@ -1,9 +1,9 @@
 -- What each event leaves of the work.
-use Rattle.std.proofs.Common.{◌≡◌, ℕ, ◌<◌, Bool, true, false, List, [], ◌++◌, ◌&&◌, ◌==◌, length, refl, sym, ap, ◌∙◌, subst, arith, set as set_at, append-nil}
-use Rattle.search_core.proofs.Vocabulary.{one-le-pow, Region, Question, IsWithinLimits, Entry, Status, Open, Held, Split, Cut, Confirmed, children, SearchState, IsHeldAt, work_left, work_of, undecided, entry, is_live, is_live_status, is_open_status, is_held_status, is_held_by, open_entries, by_split, by_cut, by_confirm, SettlingLessensTheWork, TakingLeavesTheWork, GivingBackLeavesTheWork}
-use Rattle.search_core.proofs.Kept.{facts_of}
-use Rattle.search_core.proofs.Sets.{gap_set, passed_gaps}
-use Rattle.search_core.proofs.Working.{settled_work, moved_work, split_work}
+use Rattle.search_core.proofs.Vocabulary.{◌≡◌, ℕ, ◌<◌, Bool, true, false, List, [], ◌++◌, ◌&&◌, ◌==◌, length, refl, sym, ap, ◌∙◌, subst, arith, set as set_at, append-nil, one-le-pow, Region, Question}
+use Rattle.search_core.proofs.Vocabulary.{IsWithinLimits, Entry, Status, Open, Held, Split, Cut, Confirmed, children, SearchState, IsHeldAt, work_left, work_of, undecided, entry, is_live}
+use Rattle.search_core.proofs.Vocabulary.{is_live_status, is_open_status, is_held_status, is_held_by, open_entries, by_split, by_cut, by_confirm, SettlingLessensTheWork, TakingLeavesTheWork}
+use Rattle.search_core.proofs.Vocabulary.{GivingBackLeavesTheWork}
+use Rattle.search_core.proofs.{Kept.facts_of, Sets.gap_set, Sets.passed_gaps, Working.settled_work, Working.moved_work, Working.split_work}
 
 -- what a seat holds is held
 pub held_is : (seat : ℕ) (e : Entry) → is_held_by seat e ≡ true → is_held_status e.status ≡ true

@@ -1,9 +1,8 @@
 -- The outcomes that a search has found are all in one mode.
-use Rattle.std.proofs.Common.{◌≡◌, List, Contains, Bor, Box, Global, refl, sym, ◌∙◌, subst}
-use Rattle.sketch_covers.proofs.Vocabulary.{Outcome, Machine, machine_of_mode, Question, Sketch, MadeRun, Stop, OutcomeIndex, KnownOutcomes, Closed, Open, AreRunsOf}
+use Rattle.sketch_covers.proofs.Vocabulary.{◌≡◌, List, Contains, Bor, Box, Global, refl, sym, ◌∙◌, subst, Outcome, Machine, machine_of_mode, Question, Sketch, MadeRun, Stop, OutcomeIndex}
+use Rattle.sketch_covers.proofs.Vocabulary.{KnownOutcomes, Closed, Open, AreRunsOf, HasRunOfEach, StaysOf, StopIs}
 use Rattle.tso_machine.specs.declared.mode.Mode as own
 use Rattle.sketch_covers.specs.declared.stop.Stop.TheVariants as stop
-use Rattle.sketch_covers.specs.KnownOutcomes.{HasRunOfEach, StaysOf, StopIs}
 
 -- the list is open, and each of its outcomes is what is shown of that of its run in this mode
 abbrev HasRunsIn : Question → own.Mode → KnownOutcomes → Type 0

@@ -1,20 +1,13 @@
 -- Trees for the choices at a node, put after other nodes one by one.
-use Rattle.std.proofs.Common.{◌≡◌, ℕ, suc, ◌+◌, ◌<◌, ◌≤◌, List, [], ◌∷◌, ◌++◌, length, map, take, drop, get_or, refl, ap, sym, ◌∙◌, subst, arith, append_assoc}
-use Rattle.std.proofs.lemmas.List.{append-nil, length-append, take_all}
+use Rattle.sketch_covers.proofs.Vocabulary.{◌≡◌, ℕ, ◌+◌, ◌<◌, ◌≤◌, List, [], ◌∷◌, ◌++◌, length, take, drop, get_or, refl, ap, sym, ◌∙◌, subst, arith, append_assoc, append-nil, length-append, take_all}
 use Rattle.sketch_covers.proofs.Vocabulary.{Result, Ok, Err, IfErr, IsErrAnd, remove_range, Outcome, Shown, ProgramSketch, IsLawful, HaveAllRegisters, choice_count, most_choices, AccessId, Node}
-use Rattle.sketch_covers.proofs.Vocabulary.{Cover, Value, Source, Order, Cycle, Known, covers_of, count_covers, Choice, OpenChoice, Stop, AreChoicesOf, IsOpen, IsCoverAt, IsCoverAfter, IsValidAt}
-use Rattle.sketch_covers.proofs.Vocabulary.{AreCoversAfter, tree_over, node_over, KeepsNumbers}
+use Rattle.sketch_covers.proofs.Vocabulary.{Cover, Value, Source, Order, Known, Choice, OpenChoice, Stop, AreChoicesOf, IsOpen, IsCoverAt, IsCoverAfter, AreCoversAfter, tree_over, node_over}
+use Rattle.sketch_covers.proofs.Vocabulary.{KeepsNumbers, spell, spell_all, tree_of, IsTree, covers_count, known_some, is_tree, tree_again, spelled_append, child_instead, Pushes, Begins, BeginsIfNew}
 use Rattle.cert_forest.specs.declared.node.Node.TheVariants as node
-use Rattle.cert_forest.specs.Nodes.{spell, spell_all, spell_row, tree_of, IsTree}
-use Rattle.cert_forest.proofs.TreeTexts.{covers_count}
-use Rattle.cert_forest.proofs.NodeLaws.{known_some, is_tree, tree_again, spelled_append, child_instead}
 use Rattle.cert_forest.proofs.PushedTrees.{listed}
-use Rattle.branching.specs.declared.branch.Branch.{Branch}
 use Rattle.branching.specs.declared.open_choice.OpenChoice.TheVariants as left
 use Rattle.sketch_covers.specs.declared.stop.Stop.TheVariants as stop
-use Rattle.sketch_covers.specs.Pushing.{Pushes, Begins, BeginsIfNew}
-use Rattle.sketch_covers.proofs.Growing.{covers_still}
-use Rattle.sketch_covers.proofs.Nodes.{as_many_choices, covers_more, covers_none, node_cover}
+use Rattle.sketch_covers.proofs.{Growing.covers_still, Nodes.as_many_choices, Nodes.covers_more, Nodes.covers_none, Nodes.node_cover}
 
 -- what is pushed after what was pushed
 pub begins_twice : (old now new : List Node) (root : Node) (trees : List Cover) → now ≡ old ++ root ∷ spell_all trees → Begins now new → Begins old new

@@ -1,11 +1,11 @@
 -- What is put into a list at its place.
-use Rattle.std.proofs.Common.{◌≡◌, ℕ, zero, suc, ◌+◌, ◌-◌, ◌<◌, List, [], ◌∷◌, Some, Result, Ok, Err, IfOk, IfErr, Contains, slice_get, get_or, length, sym, ap, ◌∙◌, subst, inl, inr, arith}
+use Rattle.sketch_covers.proofs.Vocabulary.{◌≡◌, ℕ, zero, suc, ◌+◌, ◌-◌, ◌<◌, List, [], ◌∷◌, Some, Result, Ok, Err, IfOk, IfErr, Contains, slice_get, get_or, length, sym, ap, ◌∙◌, subst, inl, inr}
+use Rattle.sketch_covers.proofs.Vocabulary.{arith, length-insert, get_or-insert_below, get_or-insert_at, get_or-insert_above, AllZip, insert, cases_lt, slice_get-get_or, Outcome, Ascend, BelongsAt}
+use Rattle.sketch_covers.proofs.Vocabulary.{Keeps}
 use Rattle.std.specs.List.Sorted.{IsSorted, IsSearchInRange, IsBinarySearchResult, IsNonDecreasingBy}
 use Rattle.std.specs.Ordering.{ordering_index, ordering_reverse, is_lt}
 use Rattle.std.specs.declared.cmp.Ordering.TheVariants.{Less, Equal, Greater}
 use Rattle.std.proofs.lemmas.List.Sorted.{searchable_from_sorted}
-use Rattle.std.proofs.lemmas.List.Edits.{length-insert, get_or-insert_below, get_or-insert_at, get_or-insert_above}
-use Rattle.sketch_covers.proofs.Vocabulary.{AllZip, insert, cases_lt, slice_get-get_or, Outcome, Ascend, BelongsAt, Keeps}
 use Rattle.tso_program.specs.Ordered.{outcome_cmp}
 use Rattle.tso_program.proofs.OutcomesOrdered.{outcomes_ordered, exact_outcomes, equal_itself}
 

@@ -1,9 +1,7 @@
 -- Leaves: a sketch that must end as an outcome of the list, or has a cycle.
-use Rattle.std.proofs.Common.{◌≡◌, ℕ, Bool, true, false, List, Option, Some, None, Contains, map, refl, sym, subst}
-use Rattle.sketch_covers.proofs.Vocabulary.{MatchOption, Outcome, Shown, asked, Event, Kind, ProgramSketch, mode_in, MustEndSo, IsSimpleCycle, AreFewAccesses, AccessId, Node, Cycle, event_of}
-use Rattle.sketch_covers.proofs.Vocabulary.{MustEndAsNumber, IsEndNotListed, IsLeafAt, HasNumber}
-use Rattle.candidate_executions.specs.Sketches.{IsKnownCycle}
-use Rattle.sketch_covers.specs.Pushing.{Pushes, IfKnown}
+use Rattle.sketch_covers.proofs.Vocabulary.{◌≡◌, ℕ, Bool, true, false, List, Option, Some, None, Contains, map, refl, sym, subst, MatchOption, Outcome, Shown, asked, Event, Kind, ProgramSketch}
+use Rattle.sketch_covers.proofs.Vocabulary.{mode_in, MustEndSo, IsSimpleCycle, AreFewAccesses, AccessId, Node, Cycle, event_of, MustEndAsNumber, IsEndNotListed, IsLeafAt, HasNumber, IsKnownCycle}
+use Rattle.sketch_covers.proofs.Vocabulary.{Pushes, IfKnown}
 use Rattle.sketch_covers.proofs.Neat.{neat_cycle}
 
 -- the leaf of a cycle

@@ -1,13 +1,9 @@
 -- Lists of outcomes that are all that a machine allows.
-use Rattle.std.proofs.Common.{◌≡◌, ◌↔◌, ℕ, zero, suc, List, [], ◌∷◌, Some, Contains, slice_get, refl, ap, ◌∙◌, subst}
-use Rattle.sketch_covers.proofs.Vocabulary.{AllZip, same_Some, slice_get-get_or, Outcome, Question, Label, Machine, Cover, AreRunsOf, Keeps}
+use Rattle.sketch_covers.proofs.Vocabulary.{◌≡◌, ◌↔◌, ℕ, zero, suc, List, [], ◌∷◌, Some, Contains, slice_get, refl, ap, ◌∙◌, subst, AllZip, same_Some, slice_get-get_or, Outcome, Question, Label}
+use Rattle.sketch_covers.proofs.Vocabulary.{Machine, Cover, AreRunsOf, Keeps, IsShownRun, AllowsShown, empty_sketch, IsValidCover, IsCovered}
 use Rattle.tso_program.specs.Limits.{JumpForward}
-use Rattle.tso_machine.specs.Outcomes.{IsShownRun, AllowsShown}
-use Rattle.candidate_executions.specs.Sketches.{empty_sketch}
 use Rattle.candidate_executions.proofs.Sketches.Choices.{empty_is_a_sketch}
-use Rattle.cover_judge.specs.CoverTrees.{IsValidCover, IsCovered}
-use Rattle.cover_judge.proofs.CoveredSketches.{valid_covers}
-use Rattle.cover_judge.proofs.ListedOutcomes.{listed}
+use Rattle.cover_judge.proofs.{CoveredSketches.valid_covers, ListedOutcomes.listed}
 
 -- what stands beside a value of the second list
 pub zip_at_right : {A B : Type 0} (R : A → B → Type 0) (xs : List A) (ys : List B) (n : ℕ) (y : B) → AllZip R xs ys → slice_get ys n ≡ Some y → (x : A) × (slice_get xs n ≡ Some x) × R x y

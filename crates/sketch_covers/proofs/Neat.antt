@@ -1,10 +1,7 @@
 -- Leaves within the limits of a certificate.
-use Rattle.std.proofs.Common.{◌≡◌, ◌≢◌, ℕ, zero, suc, ◌<◌, List, [], ◌∷◌, Contains, get_or, length, map, refl, sym, ap, ◌∙◌, subst, arith}
-use Rattle.std.specs.List.{AllPairs, AllByRecursion}
-use Rattle.sketch_covers.proofs.Vocabulary.{◌^◌, length-map, Event, Kind, ProgramSketch, IsSimpleCycle, AccessId, Cycle, Known, event_of, IsNeat}
-use Rattle.sketches.specs.FewAccesses.{HasSmallNumbers, AreFewAccesses}
+use Rattle.sketch_covers.proofs.Vocabulary.{◌≡◌, ◌≢◌, ℕ, suc, ◌<◌, List, [], ◌∷◌, Contains, get_or, length, map, refl, sym, ap, ◌∙◌, subst, arith, AllPairs, AllByRecursion, ◌^◌, length-map, Event}
+use Rattle.sketch_covers.proofs.Vocabulary.{Kind, ProgramSketch, IsSimpleCycle, AccessId, Cycle, Known, event_of, IsNeat, HasSmallNumbers, AreFewAccesses, first_is_here, later_is_here}
 use Rattle.cert_forest.specs.Limits as limits
-use Rattle.cover_judge.proofs.Lists.{first_is_here, later_is_here}
 
 small_one : (a : AccessId) → HasSmallNumbers (event_of a) → limits.IsAccessId a
 small_one a small = ((let h = small.0 in omega arith), (let h = small.1 in omega arith))

@@ -1,28 +1,20 @@
 -- Trees made of the trees of children.
-use Rattle.std.proofs.Common.{◌≡◌, ℕ, suc, ◌+◌, ◌<◌, ◌≤◌, List, [], ◌∷◌, ◌++◌, get_or, length, map, take, refl, sym, ap, ◌∙◌, subst, arith}
-use Rattle.std.proofs.lemmas.List.{take_more, map-append, length-map}
+use Rattle.sketch_covers.proofs.Vocabulary.{◌≡◌, ℕ, suc, ◌+◌, ◌<◌, ◌≤◌, List, [], ◌∷◌, ◌++◌, get_or, length, map, take, refl, sym, ap, ◌∙◌, subst, arith, take_more, map-append, length-map, ◌^◌}
+use Rattle.sketch_covers.proofs.Vocabulary.{Listing, Outcome, Shown, asked, machine_of_mode, IsLawful, choice_count, most_choices, HaveAllRegisters, AccessId, Cover, Value, Source, Order, covers_of}
+use Rattle.sketch_covers.proofs.Vocabulary.{event_of, IsValidCover, AreValidCovers, Choice, moved, OpenChoice, IsOpen, AreChoicesOf, ProgramSketch, mode_in, nothing_chosen, with_chosen, covers_count}
+use Rattle.sketch_covers.proofs.Vocabulary.{sketch_with, MayChoose, IsValueOpen, AreValueChoices, AreSourceChoices, IsValidAt, IsNeat, AreNeat, IsLeafAt, IsCoverAt, IsCoverAfter, AreCoversAfter}
+use Rattle.sketch_covers.proofs.Vocabulary.{IsWholeCover, tree_over, counted_after}
 use Rattle.std.proofs.lemmas.Simd.{map-map}
-use Rattle.sketch_covers.proofs.Vocabulary.{◌^◌, Listing, Outcome, Shown, asked, machine_of_mode, IsLawful, choice_count, most_choices, HaveAllRegisters, AccessId, Cover, Value, Source, Order}
-use Rattle.sketch_covers.proofs.Vocabulary.{covers_of, count_covers, event_of, IsValidCover, AreValidCovers, Choice, moved, OpenChoice, IsOpen, AreChoicesOf}
-use Rattle.candidate_executions.specs.Sketches.{Sketch, given_to}
-use Rattle.candidate_executions.specs.Candidates.{IsAccess}
+use Rattle.candidate_executions.specs.{Sketches.Sketch, Sketches.given_to, Candidates.IsAccess}
 use Rattle.candidate_executions.proofs.Sketches.GivenValues.{reads_there}
 use Rattle.tso_machine.specs.declared.mode.Mode as own
-use Rattle.sketches.specs.ProgramSketches.{ProgramSketch, mode_in, nothing_chosen, with_chosen}
 use Rattle.sketches.specs.Choices.{MayFollow}
-use Rattle.sketches.proofs.ChoicesCounted.{event_small}
-use Rattle.sketches.proofs.BranchesCounted.{few_values, few_sources}
-use Rattle.sketches.proofs.Completeness.{read_there, first_there, second_there}
+use Rattle.sketches.proofs.{ChoicesCounted.event_small, BranchesCounted.few_values, BranchesCounted.few_sources, Completeness.read_there, Completeness.first_there, Completeness.second_there}
 use Rattle.cert_forest.specs.Limits as limits
-use Rattle.cert_forest.proofs.TreeTexts.{covers_count}
 use Rattle.cert_forest.specs.Limits.{cover_depth, covers_depth}
 use Rattle.cover_judge.specs.declared.choice.Choice.TheVariants as choice
-use Rattle.cover_judge.specs.Choices.{sketch_with, MayChoose, IsValueOpen, AreValueChoices, AreSourceChoices}
 use Rattle.cover_judge.proofs.ChoicesJudged.{no_order}
 use Rattle.branching.specs.declared.open_choice.OpenChoice.TheVariants as left
-use Rattle.cover_judge.specs.Judged.{IsValidAt}
-use Rattle.sketch_covers.specs.Covers.{IsNeat, AreNeat, IsLeafAt, IsCoverAt, IsCoverAfter, AreCoversAfter, IsWholeCover, tree_over}
-use Rattle.branching.proofs.Rounds.{counted_after}
 
 -- as many trees as sketches
 as_many : (s : ProgramSketch) (shown : Shown) (outcomes : List Outcome) (trees : List Cover) (ks : List Sketch) → AreValidCovers (asked s.program shown) (mode_in s) outcomes (covers_of trees) ks → length trees ≡ length ks

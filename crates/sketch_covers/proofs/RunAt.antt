@@ -1,6 +1,5 @@
 -- Runs that stand beside their outcomes.
-use Rattle.std.proofs.Common.{◌≡◌, ℕ, List, Some, slice_get, sym, subst, ◌∙◌}
-use Rattle.sketch_covers.proofs.Vocabulary.{same_Some, Outcome, Question, Label, Machine, IsShownRun, AreRunsOf}
+use Rattle.sketch_covers.proofs.Vocabulary.{◌≡◌, ℕ, List, Some, slice_get, sym, subst, ◌∙◌, same_Some, Outcome, Question, Label, Machine, IsShownRun, AreRunsOf}
 use Rattle.sketch_covers.proofs.Listing.{zip_at_right}
 
 -- the run beside an outcome

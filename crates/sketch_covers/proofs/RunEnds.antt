@@ -1,7 +1,5 @@
 -- How sketches end, as far as it is shown.
-use Rattle.std.proofs.Common.{◌≡◌, refl, sym, subst}
-use Rattle.sketch_covers.proofs.Vocabulary.{Shown, ProgramSketch, MadeRun, IsShownRunOf}
-use Rattle.tso_program.specs.Shown.{show}
+use Rattle.sketch_covers.proofs.Vocabulary.{◌≡◌, refl, sym, subst, Shown, ProgramSketch, MadeRun, IsShownRunOf, show}
 use Rattle.run_maker.specs.MadeRuns.{IsMadeRun}
 
 -- the run of a sketch, with what is shown of its outcome

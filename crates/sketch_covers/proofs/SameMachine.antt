@@ -1,14 +1,10 @@
 -- Sets that have the same gaps of a program.
-use Rattle.std.proofs.Common.{◌≡◌, ℕ, ◌<◌, Option, None, Some, false, refl, sym, ap, ◌∙◌}
+use Rattle.sketch_covers.proofs.Vocabulary.{◌≡◌, ℕ, ◌<◌, Option, None, Some, false, refl, sym, ap, ◌∙◌, option_map_or, Listing, Machine, SequentialMachine, StoreBufferMachine, no_gaps}
 use mathlib.Core.Path.{fun_ext}
 use Rattle.std.specs.FinSet as set
-use Rattle.std.specs.Option.{option_map_or}
 use Rattle.gap_sets.specs.Gaps.{SetOfGaps}
-use Rattle.tso_program.specs.declared.listing.Listing.{Listing}
-use Rattle.tso_program.specs.Listings.{gap_count, gap_number}
-use Rattle.tso_program.specs.Fences.{Gaps, gaps_in}
+use Rattle.tso_program.specs.{Listings.gap_count, Listings.gap_number, Fences.Gaps, Fences.gaps_in}
 use Rattle.tso_program.proofs.Gaps.{gap_below}
-use Rattle.tso_machine.specs.Machine.{Machine, SequentialMachine, StoreBufferMachine, no_gaps}
 
 -- the gap of this number, if the program has it, is in both sets or in neither
 abbrev pub AreAlikeAt : Listing → SetOfGaps → SetOfGaps → ℕ → Type 0

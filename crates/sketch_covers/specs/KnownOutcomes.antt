@@ -11,8 +11,7 @@ use Rattle.sketches.specs.ProgramSketches.{ProgramSketch, mode_in}
 use Rattle.sketch_covers.specs.declared.stop.Stop.{Stop}
 use Rattle.sketch_covers.specs.declared.stop.Stop.TheVariants as stop
 use Rattle.sketch_covers.specs.declared.outcome_index.OutcomeIndex.{OutcomeIndex}
-use Rattle.sketch_covers.specs.declared.known_outcomes.KnownOutcomes.{KnownOutcomes}
-use Rattle.sketch_covers.specs.declared.known_outcomes.KnownOutcomes.TheVariants.{Closed, Open}
+use Rattle.sketch_covers.specs.declared.known_outcomes.KnownOutcomes.{KnownOutcomes, TheVariants.Closed, TheVariants.Open}
 use Rattle.sketch_covers.specs.OutcomeNumbers.{IsInOrder, KeepsNumbers, AreRunsOf}
 use Rattle.sketch_covers.specs.Ascending.{Ascend}
 

@@ -1,9 +1,6 @@
 -- Sources and orders that are chosen one after another.
-use Rattle.std.proofs.Common.{◌≡◌, ◌+◌, ◌<◌, ℕ, List, [], ◌∷◌, ◌++◌, get_or, length, take, sym, ap, ◌∙◌}
-use Rattle.std.proofs.lemmas.List.{append-nil, append_assoc}
-use Rattle.sketches.proofs.Vocabulary.{take_more, Event, ProgramSketch, with_chosen}
-use Rattle.candidate_executions.specs.Sketches.{with_source, with_pair}
-use Rattle.sketches.specs.RowlessSketches.{with_sources, with_pairs}
+use Rattle.sketches.proofs.Vocabulary.{◌≡◌, ◌+◌, ◌<◌, ℕ, List, [], ◌∷◌, ◌++◌, get_or, length, take, sym, ap, ◌∙◌, append-nil, append_assoc, take_more, Event, ProgramSketch, with_chosen, with_source}
+use Rattle.sketches.proofs.Vocabulary.{with_pair, with_sources, with_pairs}
 
 pub no_sources : (s : ProgramSketch) → s ≡ with_chosen s (with_sources s.chosen [])
 no_sources s = ap (λ (zs : List (Event × Event)). with_chosen s (record { given = s.chosen.given; sources = zs; pairs = s.chosen.pairs })) (sym (append-nil s.chosen.sources))

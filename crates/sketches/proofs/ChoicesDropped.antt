@@ -1,11 +1,8 @@
 -- What is kept where sources or orders are dropped from the end, and where nothing is chosen yet.
-use Rattle.std.proofs.Common.{◌≡◌, ◌≢◌, ◌⊎◌, ℕ, List, [], ◌∷◌, ◌++◌, Some, None, IsSome, Option, Contains, get_or, length, take, refl, sym, ap, ◌∙◌, subst, inl, inr, arith}
-use Rattle.std.specs.Prelude.{option_to_list}
-use Rattle.std.proofs.lemmas.List.{get_or_append_left, length-append, length_push}
+use Rattle.sketches.proofs.Vocabulary.{◌≡◌, ◌≢◌, ◌⊎◌, ℕ, List, [], ◌∷◌, ◌++◌, Some, None, IsSome, Option, Contains, get_or, length, take, refl, sym, ap, ◌∙◌, subst, inl, inr, arith, option_to_list}
+use Rattle.sketches.proofs.Vocabulary.{get_or_append_left, length-append, length_push, AllPairs, Contains-append_left, Listing, Mode, Event, ThreadTrace, mode_in, view_of, KeepsTraces, next_read}
+use Rattle.sketches.proofs.Vocabulary.{AreOtherTwo}
 use Rattle.std.proofs.Math.Seq.{take-append_seam}
-use Rattle.sketches.proofs.Vocabulary.{AllPairs, Contains-append_left, Listing, Mode, Event, ThreadTrace, mode_in, view_of, KeepsTraces}
-use Rattle.candidate_executions.specs.Sketches.{next_read}
-use Rattle.known_edges.specs.Kept.{AreOtherTwo}
 
 -- what holds of each two of a list holds of each two of its first part
 first_pairs : {X : Type 0} (R : X → X → Type 0) (xs ys : List X) → AllPairs R (xs ++ ys) → AllPairs R xs

@@ -1,10 +1,6 @@
 -- Ways along edges, and what a cycle of known edges refutes.
-use Rattle.std.proofs.Common.{List}
-use Rattle.sketches.proofs.Vocabulary.{Event, Kind, ProgramSketch, mode_in, IsLawful}
-use Rattle.candidate_executions.specs.Sketches.{IsKnownCycle, KnownEdgeOfMode}
-use Rattle.candidate_executions.proofs.Sketches.KnownEdges.{known_edge}
-use Rattle.candidate_executions.proofs.Sketches.KnownCycles.{known_cycle_refutes}
-use Rattle.sketches.specs.Completions.{IsEdgeOfEach, IsRefuted}
+use Rattle.sketches.proofs.Vocabulary.{List, Event, Kind, ProgramSketch, mode_in, IsLawful, IsKnownCycle, KnownEdgeOfMode, IsEdgeOfEach, IsRefuted}
+use Rattle.candidate_executions.proofs.{Sketches.KnownEdges.known_edge, Sketches.KnownCycles.known_cycle_refutes}
 
 -- a known edge is one of each completion
 pub edge_of_each : (s : ProgramSketch) (kind : Kind) (d e : Event) → IsLawful s → KnownEdgeOfMode s.program (mode_in s) s.chosen kind d e → IsEdgeOfEach s kind d e

@@ -1,9 +1,7 @@
 -- Where a search for cycles begins and ends.
 use Rattle.std.proofs.Common.{List, Option, Some, None, IfSome, MatchOption, Vec, Global}
-use Rattle.sketches.proofs.Vocabulary.{Event, Kind, ProgramSketch, IsLawful, cycle_of_accesses}
-use Rattle.sketches.specs.Cycles.{IsSimpleCycle}
+use Rattle.sketches.proofs.Vocabulary.{Event, Kind, ProgramSketch, IsLawful, cycle_of_accesses, IsSimpleCycle, few_accesses}
 use Rattle.known_edges.specs.FewAccesses.{AreFewAccesses}
-use Rattle.known_edges.proofs.ChoicesCounted.{few_accesses}
 
 -- a cycle with no event twice is short
 pub simple_few : (s : ProgramSketch) (kind : Kind) (es : List Event) → IsLawful s → IsSimpleCycle s kind es → AreFewAccesses s es

@@ -1,29 +1,15 @@
 -- What is known of formulas.
-use Rattle.std.proofs.Common.{◌≡◌, ◌↔◌, ℕ, ◌<◌, ◌≤◌, Bool, true, false, not, IsTrue, List, [], ◌∷◌, Option, Some, None, IsSome, get_or, length, drop, add-one, drop-cons, ◌+◌, map, Result, Ok, Err, IfOk, refl, sym, ap, ◌∙◌, subst, inl, inr, arith}
-use Rattle.std.specs.Prelude.{slice_get, option_and_then}
-use Rattle.std.proofs.lemmas.Option.{slice_get-get_or, slice_get_past}
-use Rattle.std.proofs.lemmas.List.{drop_all}
-use Rattle.tso_program.specs.declared.instruction.Reg.{Reg}
-use Rattle.tso_program.specs.Instructions.{number}
+use Rattle.sketches.proofs.Vocabulary.{◌≡◌, ◌↔◌, ℕ, ◌<◌, ◌≤◌, Bool, true, false, not, IsTrue, List, [], ◌∷◌, Option, Some, None, IsSome, get_or, length, drop, add-one, drop-cons, ◌+◌, map, Result, Ok}
+use Rattle.sketches.proofs.Vocabulary.{Err, IfOk, refl, sym, ap, ◌∙◌, subst, inl, inr, arith, slice_get, option_and_then, slice_get-get_or, slice_get_past, drop_all, Half, AndOf, OrOf, build, told}
+use Rattle.sketches.proofs.Vocabulary.{range_with_len, Outcome, Truth, Atom, Tree, cases_lt, get_or-map-range_with_len, length-map-range_with_len, IsLawful, HasNoCycle, MustEndSo, ProgramSketch}
+use Rattle.sketches.proofs.Vocabulary.{mode_in, trace_in, final_registers, KnownAtom, next_read, IsKnownTruth, Knows, after_node, not-true as not_true, not_from_false as false_not}
+use Rattle.tso_program.specs.{declared.instruction.Reg.Reg, Instructions.number, declared.node.Node.Node, Truth.is_true_at, Truth.is_value}
 use Rattle.tso_program.specs.declared.atom.Atom.TheVariants as atom
-use Rattle.tso_program.specs.declared.node.Node.{Node}
 use Rattle.tso_program.specs.declared.node.Node.TheVariants as node
 use Rattle.tso_program.specs.Tree as tree
-use Rattle.tso_program.specs.Truth.{is_true_at, is_value}
-use Rattle.tso_program.specs.Nodes.{Half, AndOf, OrOf, build}
-use Rattle.tso_program.specs.Shown.{told}
-use Rattle.std.specs.List.{range_with_len}
-use Rattle.sketches.proofs.Vocabulary.{Outcome, Truth, Atom, Tree, cases_lt, get_or-map-range_with_len, length-map-range_with_len, IsLawful, HasNoCycle, MustEndSo, ProgramSketch, mode_in}
-use Rattle.sketches.proofs.Vocabulary.{trace_in, final_registers}
 use Rattle.tso_program.proofs.KnownTruths.{known_is_true}
 use Rattle.candidate_executions.specs.Sketches as sketches
-use Rattle.candidate_executions.specs.Sketches.{KnownAtom, next_read}
-use Rattle.sketches.proofs.LastWrites.{some_last}
-use Rattle.sketches.specs.Knowledge.{IsKnownTruth, Knows}
-use Rattle.sketches.specs.Internal.KnownWalk.{after_node}
-use Rattle.sketches.proofs.Ends.{final_at, final_long}
-use Rattle.std.proofs.lemmas.Bool.{not-true as not_true}
-use Rattle.std.proofs.lemmas.Bool.{not_from_false as false_not}
+use Rattle.sketches.proofs.{LastWrites.some_last, Ends.final_at, Ends.final_long}
 
 -- ---- tests of two truths
 

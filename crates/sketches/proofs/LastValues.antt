@@ -1,11 +1,8 @@
 -- What is shown of the writes that may be the last of a location.
-use Rattle.std.proofs.Common.{◌≡◌, ◌↔◌, ◌⊎◌, ℕ, ◌<◌, Bool, true, false, IsTrue, List, [], ◌∷◌, ◌++◌, Option, Some, None, Contains, length, refl, sym, ap, ◌∙◌, subst, inl, inr, arith}
-use Rattle.std.proofs.lemmas.List.{get_or-set_same, get_or-set_other, length-set}
-use Rattle.std.proofs.lemmas.List.Elements.{Contains-push, Contains-push_cases, Contains-append_left}
-use Rattle.sketches.proofs.Vocabulary.{◌==◌, slice_index, slice_index_or, slice_set, IfSome, cases_eq, same_Some, slice_get_within, none_here, Shown, shown_value, Access, Event, Initial, At, Writes}
-use Rattle.sketches.proofs.Vocabulary.{ProgramSketch, mode_in, access_in, MayBeLast, IsLawful, IsLastWith, HasLater, IsWritten, yes, no}
-use Rattle.tso_program.specs.declared.limits.TheConstants.{MAX_LOCATIONS}
-use Rattle.sketches.specs.Endings.{MayEndBy, IsOwn, EndsSo, MayBe, MayBeBy, Differ, IsLastValue, AreLastValues}
+use Rattle.sketches.proofs.Vocabulary.{◌≡◌, ◌↔◌, ◌⊎◌, ℕ, ◌<◌, Bool, true, false, IsTrue, List, [], ◌∷◌, ◌++◌, Option, Some, None, Contains, length, refl, sym, ap, ◌∙◌, subst, inl, inr, arith}
+use Rattle.sketches.proofs.Vocabulary.{get_or-set_same, get_or-set_other, length-set, Contains-push, Contains-push_cases, Contains-append_left, ◌==◌, slice_index, slice_index_or, slice_set, IfSome}
+use Rattle.sketches.proofs.Vocabulary.{cases_eq, same_Some, slice_get_within, none_here, Shown, shown_value, Access, Event, Initial, At, Writes, ProgramSketch, mode_in, access_in, MayBeLast, IsLawful}
+use Rattle.sketches.proofs.Vocabulary.{IsLastWith, HasLater, IsWritten, yes, no, MAX_LOCATIONS, MayEndBy, IsOwn, EndsSo, MayBe, MayBeBy, Differ, IsLastValue, AreLastValues}
 use Rattle.sketches.proofs.Ends.{last_by}
 
 -- one event writes one value to one location

@@ -1,9 +1,7 @@
 -- Where an edge leads from each event to another, there is a cycle.
-use Rattle.std.proofs.Common.{◌≡◌, ◌⊎◌, ℕ, zero, suc, ◌<◌, ◌≤◌, List, [], ◌∷◌, ◌++◌, Some, slice_get, get_or, drop, length, Contains, refl, subst, inl, inr, arith}
+use Rattle.sketches.proofs.Vocabulary.{◌≡◌, ◌⊎◌, ℕ, zero, suc, ◌<◌, ◌≤◌, List, [], ◌∷◌, ◌++◌, Some, slice_get, get_or, drop, length, Contains, refl, subst, inl, inr, arith, remove, slice_get-get_or}
+use Rattle.sketches.proofs.Vocabulary.{Event, Initial, IsCycle, same_event, EachGoesOn, IsWalk, walk_begins}
 use Rattle.std.proofs.lemmas.List.Edits.{length-remove}
-use Rattle.sketches.proofs.Vocabulary.{remove, slice_get-get_or, Event, Initial, IsCycle, same_event}
-use Rattle.sketches.specs.Cycles.{EachGoesOn}
-use Rattle.thread_traces.proofs.Walks.{IsWalk, walk_begins}
 use Rattle.sketches.proofs.Walks.{comes_back, is_open, goes_on}
 
 -- the place of an event, if it is in the list

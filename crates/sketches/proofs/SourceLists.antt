@@ -1,10 +1,7 @@
 -- The sources of a read, listed thread by thread.
-use Rattle.std.proofs.Common.{◌≡◌, ◌↔◌, ◌⊎◌, ◌+◌, ℕ, ◌≤◌, List, [], Some, slice_get, length, Contains, refl, sym, ap, ◌∙◌, subst, inl, inr, arith}
-use Rattle.sketches.proofs.Vocabulary.{AllPairs, cases_lt, cases_eq, same_Some, slice_get_within, Listing, Mode, Access, Event, Initial, At, ComesBefore, IsSourceOf, ThreadTrace, ProgramSketch, mode_in, trace_in}
-use Rattle.sketches.proofs.Vocabulary.{view_of, KeepsTraces, ReadsThisValue, IsRead, trace_accesses, none_in}
-use Rattle.candidate_executions.specs.Sketches.{IsWhole}
-use Rattle.sketches.specs.Internal.SourcesListed.{AreListedTo}
-use Rattle.sketches.specs.RowlessSketches.{AreSources}
+use Rattle.sketches.proofs.Vocabulary.{◌≡◌, ◌↔◌, ◌⊎◌, ◌+◌, ℕ, ◌≤◌, List, [], Some, slice_get, length, Contains, refl, sym, ap, ◌∙◌, subst, inl, inr, arith, AllPairs, cases_lt, cases_eq, same_Some}
+use Rattle.sketches.proofs.Vocabulary.{slice_get_within, Listing, Mode, Access, Event, Initial, At, ComesBefore, IsSourceOf, ThreadTrace, ProgramSketch, mode_in, trace_in, view_of, KeepsTraces}
+use Rattle.sketches.proofs.Vocabulary.{ReadsThisValue, IsRead, trace_accesses, none_in, IsWhole, AreListedTo, AreSources}
 
 module _ (s : ProgramSketch) (read : Event) where
   abbrev Gives : Event → Type 0

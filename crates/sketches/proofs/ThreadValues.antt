@@ -1,15 +1,11 @@
 -- A sketch with the values of one thread from another sketch is lawful.
-use Rattle.std.proofs.Common.{◌≡◌, ◌≢◌, ◌⊎◌, ℕ, ◌<◌, List, [], Some, Contains, slice_get, set, length, sym, ap, ◌∙◌, subst, inl, inr, arith, length-set}
-use Rattle.std.proofs.lemmas.Option.{same_Some, unwrap_or-slice_get}
+use Rattle.sketches.proofs.Vocabulary.{◌≡◌, ◌≢◌, ◌⊎◌, ℕ, ◌<◌, List, [], Some, Contains, slice_get, set, length, sym, ap, ◌∙◌, subst, inl, inr, arith, length-set, same_Some, unwrap_or-slice_get}
 use Rattle.sketches.proofs.Vocabulary.{cases_eq, get_or-set_same, get_or-set_other, Listing, Mode, machine_of_mode, Event, IsValueOf, ThreadTrace, ProgramSketch, trace_in, with_chosen}
-use Rattle.sketches.proofs.Vocabulary.{IsThreadTraceOf, with_values, HasValuesAlone}
+use Rattle.sketches.proofs.Vocabulary.{IsThreadTraceOf, with_values, HasValuesAlone, Sketch, given_to, get_set_same, get_set_other, given_lists, view_of, KeepsTraces, IsLawful, good_of, values_from}
+use Rattle.sketches.proofs.Vocabulary.{none_chosen, new_kept_by, given_set, given_at}
 use Rattle.tso_program.specs.Listings.{action, code_of, start_of}
 use Rattle.candidate_executions.specs.Traces.{trace, fenced_gaps}
-use Rattle.candidate_executions.specs.Sketches.{Sketch, given_to}
-use Rattle.candidate_executions.proofs.Orders.Lists.{get_set_same, get_set_other}
-use Rattle.known_edges.specs.Kept.{given_lists, view_of, KeepsTraces, IsLawful}
 use Rattle.known_edges.proofs.GivenUsed.{Good}
-use Rattle.known_edges.proofs.Lawful.{good_of, values_from, none_chosen, new_kept_by, given_set, given_at}
 
 module _ (k : Sketch) (t : ℕ) (given : List ℕ) where
   pub values_here : t < length k.given → given_to (with_values k t given) t ≡ given

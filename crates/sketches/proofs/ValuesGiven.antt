@@ -1,11 +1,8 @@
 -- A value that is given and taken back, and reads that lack a source.
-use Rattle.std.proofs.Common.{◌≡◌, ℕ, ◌<◌, List, [], ◌∷◌, ◌++◌, Option, Some, None, IsSome, slice_get, slice_index, set, length, refl, sym, ap, ◌∙◌, subst, arith}
-use Rattle.sketches.proofs.Vocabulary.{same_Some, slice_get_within, Listing, Mode, Access, Event, Initial, At, ThreadTrace, ProgramSketch, mode_in, with_chosen, access_in, with_values, view_of}
-use Rattle.sketches.proofs.Vocabulary.{KeepsTraces, MarkedThread, IsValueMarkOf, LacksSource, EachEnds, traced_access, trace_accesses, no_accesses}
-use Rattle.candidate_executions.specs.Sketches.{given_to, with_value, IsSourceOf}
+use Rattle.sketches.proofs.Vocabulary.{◌≡◌, ℕ, ◌<◌, List, [], ◌∷◌, ◌++◌, Option, Some, None, IsSome, slice_get, slice_index, set, length, refl, sym, ap, ◌∙◌, subst, arith, same_Some, slice_get_within}
+use Rattle.sketches.proofs.Vocabulary.{Listing, Mode, Access, Event, Initial, At, ThreadTrace, ProgramSketch, mode_in, with_chosen, access_in, with_values, view_of, KeepsTraces, MarkedThread}
+use Rattle.sketches.proofs.Vocabulary.{IsValueMarkOf, LacksSource, EachEnds, traced_access, trace_accesses, no_accesses, given_to, with_value, IsSourceOf, ends_whole, accesses_same, given_back}
 use Rattle.sketches.proofs.ThreadValues.{merged_kept, merged_parts}
-use Rattle.known_edges.proofs.Numbered.{ends_whole, accesses_same}
-use Rattle.thread_traces.proofs.ValuesGiven.{given_back}
 
 module _ (p : Listing) (mode : Mode) (thread_traces : List ThreadTrace) (kept : KeepsTraces p mode thread_traces [] []) (mark : MarkedThread) (earlier : ProgramSketch) (value : ℕ)
     (is : IsValueMarkOf mark earlier) (now : view_of p mode thread_traces [] [] ≡ with_chosen earlier (with_value earlier.chosen mark.thread value)) where

@@ -1,35 +1,19 @@
 -- What serves for the values that a text names serves for the truth of its condition.
-use Rattle.std.proofs.Common.{◌≡◌, ◌∙◌, ℕ, ◌<◌, ◌≤◌, Bool, true, not, List, Option, length, refl, sym, ap, inl, inr, arith}
-use Rattle.std.specs.Prelude.{◌&&◌, ◌||◌, option_and_then, slice_get}
-use Rattle.std.proofs.lemmas.Bool.{cases_lt}
+use Rattle.text_laws.proofs.Vocabulary.{◌≡◌, ◌∙◌, ℕ, ◌<◌, ◌≤◌, Bool, true, not, List, Option, length, refl, sym, ap, inl, inr, arith, ◌&&◌, ◌||◌, option_and_then, slice_get, cases_lt, slice_get_past}
+use Rattle.text_laws.proofs.Vocabulary.{Listing, Tree, AConditionsAnswerCostsNoMore}
 use Rattle.std.proofs.lemmas.List.FromFn.{length-map-range_with_len}
-use Rattle.std.proofs.lemmas.Option.{slice_get_past}
-use Rattle.text_laws.proofs.Vocabulary.{Listing, Tree}
-use Rattle.gap_sets.specs.Gaps.{SetOfGaps}
-use Rattle.gap_sets.specs.Order.{total}
-use Rattle.tso_program.specs.declared.instruction.Reg.{Reg}
-use Rattle.tso_program.specs.declared.outcome.Outcome.{Outcome}
-use Rattle.tso_program.specs.declared.shown.Shown.{Shown}
-use Rattle.tso_program.specs.declared.shown.Shown.TheVariants.{Truth}
-use Rattle.tso_program.specs.declared.atom.Atom.{Atom}
+use Rattle.gap_sets.specs.{Gaps.SetOfGaps, Order.total}
+use Rattle.tso_program.specs.{declared.instruction.Reg.Reg, declared.outcome.Outcome.Outcome, declared.shown.Shown.Shown, declared.shown.Shown.TheVariants.Truth, declared.atom.Atom.Atom}
+use Rattle.tso_program.specs.{Instructions.number, Truth.truth, Truth.is_value, Named.MentionsRegister, Named.MentionsLocation}
+use Rattle.tso_program.specs.{Shown.shows_register, Shown.shows_location, Shown.show_registers, Shown.show_memory, Shown.shown_values, Shown.show, Shown.told, Shown.asked, Limits.IsWithinLimits}
+use Rattle.tso_program.specs.{Fences.gaps_in, declared.limits.TheConstants.MAX_THREADS, declared.limits.TheConstants.MAX_LOCATIONS}
 use Rattle.tso_program.specs.declared.atom.Atom.TheVariants as atom
-use Rattle.tso_program.specs.Instructions.{number}
 use Rattle.tso_program.specs.Tree as tree
-use Rattle.tso_program.specs.Truth.{truth, is_value}
-use Rattle.tso_program.specs.Named.{MentionsRegister, MentionsLocation}
-use Rattle.tso_program.specs.Shown.{shows_register, shows_location, show_registers, show_memory, shown_values, show, told, asked}
-use Rattle.tso_program.specs.Limits.{IsWithinLimits}
-use Rattle.tso_program.specs.Fences.{gaps_in}
-use Rattle.tso_program.specs.declared.limits.TheConstants.{MAX_THREADS, MAX_LOCATIONS}
-use Rattle.tso_program.proofs.Kept.{memory_long, threads_long}
-use Rattle.tso_program.proofs.ReadOff.{atom_kept}
-use Rattle.tso_machine.specs.declared.label.Label.{Label}
-use Rattle.tso_machine.specs.Machine.{Machine, SequentialMachine, StoreBufferMachine, IsRun}
+use Rattle.tso_program.proofs.{Kept.memory_long, Kept.threads_long, ReadOff.atom_kept}
+use Rattle.tso_machine.specs.{declared.label.Label.Label, Machine.Machine, Machine.SequentialMachine, Machine.StoreBufferMachine, Machine.IsRun}
 use Rattle.tso_machine.specs.Outcomes.{AllowsShown, IsTheAnswer, LeavesOutcome, Serves}
-use Rattle.litmus_reader.specs.declared.observed.Observed.{Observed}
-use Rattle.litmus_reader.specs.Shown.{shown_by}
+use Rattle.litmus_reader.specs.{declared.observed.Observed.Observed, Shown.shown_by}
 use Rattle.litmus_reader.proofs.ShownPlaces.{shows_registers, shows_locations}
-use Rattle.text_laws.specs.Laws.{AConditionsAnswerCostsNoMore}
 
 -- ---- outcomes of programs within the limits
 

@@ -1,16 +1,10 @@
 -- Initial values, the header row and the rows are spelled in one way.
-use Rattle.std.proofs.Common.{◌≡◌, ◌∙◌, ◌+◌, ℕ, true, List, [], ◌∷◌, sym, ap, subst, refl, Option, Some, None}
-use Rattle.text_laws.proofs.Vocabulary.{Tok, mark, Items, end, item}
+use Rattle.text_laws.proofs.Vocabulary.{◌≡◌, ◌∙◌, ◌+◌, ℕ, true, List, [], ◌∷◌, sym, ap, subst, refl, Option, Some, None, Tok, mark, Items, end, item, begins_with, rest_of, CodeView, CellView}
+use Rattle.text_laws.proofs.Vocabulary.{IsEntryItem, IsInitial, MoreColumns, last, column, IsHeader, IsCode, IsLabelMark, ends_cell, IsContent, IsCell, IsNextCell, IsCells, IsRowList, IsRows, IsBody}
+use Rattle.text_laws.proofs.Vocabulary.{entry_at, code_at, label_tokens_at}
 use Rattle.text_tokens.specs.declared.token.Mark.TheVariants as the
-use Rattle.text_tokens.specs.Parts.{begins_with, rest_of}
 use Rattle.text_tokens.proofs.PartLaws.{begins_again}
-use Rattle.litmus_syntax.specs.Views.{CodeView, CellView}
-use Rattle.litmus_syntax.specs.Grammar.{IsEntryItem, IsInitial, MoreColumns, last, column, IsHeader, IsCode, IsLabelMark, ends_cell, IsContent, IsCell, IsNextCell, IsCells, IsRowList, IsRows, IsBody}
-use Rattle.litmus_syntax.specs.Reading.{entry_at, code_at, label_tokens_at}
-use Rattle.litmus_syntax.proofs.EntryLaws.{entries_are_read, no_entry}
-use Rattle.litmus_syntax.proofs.CodeLaws.{code_again, code_begins}
-use Rattle.litmus_syntax.proofs.CellLaws.{labels_are_read}
-use Rattle.litmus_syntax.proofs.RowLaws.{no_row_yet, rows_end}
+use Rattle.litmus_syntax.proofs.{EntryLaws.entries_are_read, EntryLaws.no_entry, CodeLaws.code_again, CodeLaws.code_begins, CellLaws.labels_are_read, RowLaws.no_row_yet, RowLaws.rows_end}
 use Rattle.litmus_syntax.proofs.BodyLaws.{body_is_read}
 use Rattle.text_laws.proofs.OneOfEach.{One, Apart, one_read, only_one, mark_once, items_once}
 

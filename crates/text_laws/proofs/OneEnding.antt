@@ -1,16 +1,10 @@
 -- What is observed, the quantifier and the signs of a condition are spelled in one way.
-use Rattle.std.proofs.Common.{◌≡◌, ◌∙◌, ℕ, List, [], codes, sym, ap, subst, inl, inr, refl, Some, None}
-use Rattle.text_laws.proofs.Vocabulary.{same_Some, Tok, rest_of, mark, Items}
+use Rattle.text_laws.proofs.Vocabulary.{◌≡◌, ◌∙◌, ℕ, List, [], codes, sym, ap, subst, inl, inr, refl, Some, None, same_Some, Tok, rest_of, mark, Items, PlaceView, Location, Register, SignView}
+use Rattle.text_laws.proofs.Vocabulary.{EndingView, IsPlace, separator, IsObservedItem, IsObserved, IsQuantifier, IsSign, IsSigns, the_end, IsEnding, place_at, place_among_at, quantifier_at, atom_at}
+use Rattle.text_laws.proofs.Vocabulary.{sign_at}
 use Rattle.text_tokens.specs.declared.token.Mark.TheVariants as the
-use Rattle.conditions.specs.declared.condition.Quantifier.{Quantifier}
-use Rattle.conditions.specs.declared.condition.Quantifier.TheVariants.{NotExists}
-use Rattle.litmus_syntax.specs.Views.{PlaceView, Location, Register, SignView, EndingView}
-use Rattle.litmus_syntax.specs.Grammar.{IsPlace, separator, IsObservedItem, IsObserved, IsQuantifier, IsSign, IsSigns, the_end, IsEnding}
-use Rattle.litmus_syntax.specs.Reading.{place_at, place_among_at, quantifier_at, atom_at, sign_at}
-use Rattle.litmus_syntax.proofs.WordLaws.{begins_word_again, separator_again}
-use Rattle.litmus_syntax.proofs.PlaceLaws.{place_again}
-use Rattle.litmus_syntax.proofs.SignLaws.{signs_are_read}
-use Rattle.litmus_syntax.proofs.EndingLaws.{ending_is_read}
+use Rattle.conditions.specs.declared.condition.Quantifier.{Quantifier, TheVariants.NotExists}
+use Rattle.litmus_syntax.proofs.{WordLaws.begins_word_again, WordLaws.separator_again, PlaceLaws.place_again, SignLaws.signs_are_read, EndingLaws.ending_is_read}
 use Rattle.text_laws.proofs.OneOfEach.{One, Apart, one_read, only_one, mark_once, items_once}
 
 -- ---- what is observed

@@ -1,13 +1,9 @@
 -- The first line of a text, the lines that are skipped, and the tokens are determined.
-use Rattle.std.proofs.Common.{◌≡◌, ◌==◌, ℕ, false, List, ◌∷◌, arith, inl, inr}
-use Rattle.std.specs.Prelude.{slice_index}
-use Rattle.std.proofs.lemmas.Bool.{cases_Bool}
+use Rattle.text_laws.proofs.Vocabulary.{◌≡◌, ◌==◌, ℕ, false, List, ◌∷◌, arith, inl, inr, slice_index, cases_Bool, IsSkippedLine, AreSkipped, brace, line}
 use Rattle.std.proofs.lemmas.Bool.Decides.{nat_tests}
 use Rattle.text_tokens.specs.Space.{IsAfterSpace, nothing, white_space, comment}
 use Rattle.text_tokens.proofs.SpaceLaws.{white_space_back, comment_back, other_back}
-use Rattle.litmus_lines.specs.FirstLine.{IsFirstLine}
-use Rattle.litmus_lines.specs.SkippedLines.{IsSkippedLine, AreSkipped, brace, line}
-use Rattle.litmus_lines.specs.Internal.FirstLineReading.{line_at}
+use Rattle.litmus_lines.specs.{FirstLine.IsFirstLine, Internal.FirstLineReading.line_at}
 use Rattle.litmus_lines.proofs.FirstLineLaws.{first_again, same_line, same_parts}
 use Rattle.litmus_lines.proofs.SkippedLaws.{line_read, line_only, no_brace_line, line_back, brace_back}
 

@@ -1,7 +1,5 @@
 -- A cost text gives the gaps of a program one list of costs.
-use Rattle.text_laws.proofs.Vocabulary.{Some, None, sym, ◌∙◌}
-use Rattle.cost_text.proofs.TextLaws.{costs_once}
-use Rattle.text_laws.specs.Laws.{TheCostsAreOneList}
+use Rattle.text_laws.proofs.Vocabulary.{Some, None, sym, ◌∙◌, costs_once, TheCostsAreOneList}
 
 pub given_costs_once : TheCostsAreOneList
 given_costs_once p None one other h g = h ∙ sym g

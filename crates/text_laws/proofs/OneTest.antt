@@ -1,19 +1,10 @@
 -- A litmus text stands for one test.
-use Rattle.std.proofs.Common.{◌≡◌, ℕ, List, [], map, sym, ap, ◌∙◌, subst, inl}
-use Rattle.text_laws.proofs.Vocabulary.{Tok, Lexes, Tree, Listing, AreSkipped, IsEnding}
+use Rattle.text_laws.proofs.Vocabulary.{◌≡◌, ℕ, List, [], map, sym, ap, ◌∙◌, subst, inl, Tok, Lexes, Tree, Listing, AreSkipped, IsEnding, PlaceView, BodyView, EndingView, ATextStandsForOneTest}
 use Rattle.conditions.specs.Grammar.{Spells, Sum}
 use Rattle.conditions.proofs.SpelledIsRead.{spells_one}
-use Rattle.litmus_syntax.specs.Views.{PlaceView, BodyView, EndingView}
-use Rattle.litmus_reader.specs.declared.litmus.Litmus.{Litmus}
-use Rattle.litmus_reader.specs.Names.{TextNames, number_in}
-use Rattle.litmus_reader.specs.Places.{names_of}
-use Rattle.litmus_reader.specs.Labels.{all_labels}
-use Rattle.litmus_reader.specs.Meaning.{listing_of, sign_of, condition_of, observed_of}
-use Rattle.litmus_reader.specs.Texts.{AreParts, Means}
-use Rattle.text_laws.specs.Laws.{ATextStandsForOneTest}
-use Rattle.text_laws.proofs.OneBody.{body_once}
-use Rattle.text_laws.proofs.OneEnding.{ending_once}
-use Rattle.text_laws.proofs.OneFront.{first_line_once, skipped_once}
+use Rattle.litmus_reader.specs.{declared.litmus.Litmus.Litmus, Names.TextNames, Names.number_in, Places.names_of, Labels.all_labels}
+use Rattle.litmus_reader.specs.{Meaning.listing_of, Meaning.sign_of, Meaning.condition_of, Meaning.observed_of, Texts.AreParts, Texts.Means}
+use Rattle.text_laws.proofs.{OneBody.body_once, OneEnding.ending_once, OneFront.first_line_once, OneFront.skipped_once}
 use Rattle.text_tokens.proofs.OneReading.{only_whole}
 
 abbrev Formula : Type 0

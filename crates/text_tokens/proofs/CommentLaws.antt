@@ -1,7 +1,6 @@
 -- Comments: where they end, and those that are open one within the other.
-use Rattle.std.proofs.Common.{◌≡◌, ℕ, zero, suc, ◌+◌, ◌-◌, ◌<◌, ◌==◌, ◌&&◌, Bool, true, false, List, [], ◌∷◌, length, drop, refl, sym, ap, ◌∙◌, arith, inl, inr, ◌⊎◌}
-use Rattle.text_tokens.proofs.Vocabulary.{nat_tests, length-drop, is_white_space}
-use Rattle.text_tokens.specs.Comments.{opens, closes, Inside, close, nested, other, IsComment}
+use Rattle.text_tokens.proofs.Vocabulary.{◌≡◌, ℕ, zero, suc, ◌+◌, ◌-◌, ◌<◌, ◌==◌, ◌&&◌, Bool, true, false, List, [], ◌∷◌, length, drop, refl, sym, ap, ◌∙◌, arith, inl, inr, ◌⊎◌, nat_tests}
+use Rattle.text_tokens.proofs.Vocabulary.{length-drop, is_white_space, opens, closes, Inside, close, nested, other, IsComment}
 
 -- the insides of so many comments, one after the other
 abbrev pub Open : ℕ → List ℕ → List ℕ → Type 0

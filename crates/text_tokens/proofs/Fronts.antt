@@ -1,14 +1,10 @@
 -- What the lexer finds at the front of a text.
-use Rattle.std.proofs.Common.{◌≡◌, ◌≢◌, ℕ, ◌<◌, ◌≤◌, true, false, List, [], ◌∷◌, ◌++◌, length, take, drop, Some, None, refl, sym, ap, ◌∙◌, arith, inl, inr, nat_eq}
-use Rattle.std.specs.List.{prefix_len, starts_with}
-use Rattle.std.proofs.lemmas.List.{take-append-drop, get_or-take, length-append, append-nil, nil_from_length}
+use Rattle.text_tokens.proofs.Vocabulary.{◌≡◌, ◌≢◌, ℕ, ◌<◌, ◌≤◌, true, false, List, [], ◌∷◌, ◌++◌, length, take, drop, Some, None, refl, sym, ap, ◌∙◌, arith, inl, inr, nat_eq, prefix_len, starts_with}
+use Rattle.text_tokens.proofs.Vocabulary.{take-append-drop, get_or-take, length-append, append-nil, nil_from_length, Decides-eqb, slice_index, is_ascii_digit, Mark, is_white_space, is_letter}
+use Rattle.text_tokens.proofs.Vocabulary.{is_word_byte, value_at, mark_text, mark_from, Word, Number, BeginsWith, AreDigits, IsBadNumber, IsHalf, IsStray}
 use Rattle.std.proofs.lemmas.List.Folds.{length-prefix_len}
 use Rattle.std.proofs.lemmas.Slice.Eq.{starts_is}
-use Rattle.std.proofs.lemmas.Bool.Decides.{Decides-eqb}
-use Rattle.text_tokens.proofs.Vocabulary.{slice_index, is_ascii_digit, Mark, is_white_space, is_letter, is_word_byte, value_at, mark_text, mark_from, Word, Number, BeginsWith, AreDigits, IsBadNumber}
-use Rattle.text_tokens.proofs.Vocabulary.{IsHalf, IsStray}
-use Rattle.text_tokens.proofs.NumberLaws.{value_found, value_past}
-use Rattle.text_tokens.proofs.Prefixes.{all_pass, next_fails, some_pass}
+use Rattle.text_tokens.proofs.{NumberLaws.value_found, NumberLaws.value_past, Prefixes.all_pass, Prefixes.next_fails, Prefixes.some_pass}
 use Rattle.text_tokens.proofs.FirstBytes.{first_of, letter_goes_on, no_word_byte, mark_some, mark_from_text, mark_from_is, mark_short, some_mark, some_mark_is, class_of, mark_class, other_parts}
 
 pub word_begins : (text : List ℕ) → is_letter (slice_index text 0) ≡ true → BeginsWith (Word (take (prefix_len is_word_byte text) text)) text (drop (prefix_len is_word_byte text) text)

@@ -1,15 +1,12 @@
 -- Decimal numbers and their digits.
-use Rattle.std.proofs.Common.{◌≡◌, ℕ, ◌<◌, ◌≤◌, ◌+◌, ◌*◌, ◌-◌, ◌==◌, ◌||◌, ◌^◌, true, false, List, length, get_or, take, Option, Some, None, refl, sym, ap, ◌∙◌, arith, rules, inl, inr}
-use Rattle.std.specs.Prelude.{min, nat_le, not, IfSome}
-use Rattle.std.specs.Char.{is_ascii_digit, digit_value}
+use Rattle.text_tokens.proofs.Vocabulary.{◌≡◌, ℕ, ◌<◌, ◌≤◌, ◌+◌, ◌*◌, ◌-◌, ◌==◌, ◌||◌, ◌^◌, true, false, List, length, get_or, take, Option, Some, None, refl, sym, ap, ◌∙◌, arith, rules, inl, inr}
+use Rattle.text_tokens.proofs.Vocabulary.{min, nat_le, not, IfSome, is_ascii_digit, digit_value, cases_lt, leb-true, le-leb, and_parts, and_from, digits_decimal, digits_value-decimal}
+use Rattle.text_tokens.proofs.Vocabulary.{decimal-digits_value, decimal_nonempty, first_decimal, decimal_digit, list_all, decimal, digits_value, cond_some, nat_tests, is_plain, value_at}
+use Rattle.text_tokens.proofs.Vocabulary.{plain_number_at}
 use Rattle.std.proofs.lemmas.Str.Parse.{IsNumeralModel, numerals_by_value}
-use Rattle.std.proofs.lemmas.Bool.{cases_lt, leb-true, le-leb, and_parts, and_from}
 use Rattle.std.proofs.lemmas.List.Sums.{AllPass-from_list_all}
 use Rattle.std.proofs.lemmas.List.Elements.{All-get_or}
 use Rattle.std.proofs.lemmas.Int.Digits.{digits_value_more}
-use Rattle.std.proofs.lemmas.Fmt.{digits_decimal, digits_value-decimal, decimal-digits_value, decimal_nonempty, first_decimal, decimal_digit}
-use Rattle.text_tokens.proofs.Vocabulary.{list_all, decimal, digits_value, cond_some, nat_tests}
-use Rattle.text_tokens.specs.Numbers.{is_plain, value_at, plain_number_at}
 use Rattle.text_tokens.proofs.StepLaws.{let_through, not_passed}
 
 pub own : IsNumeralModel (λ ds. list_all is_ascii_digit ds ≡ true) (digits_value 10)

@@ -1,10 +1,8 @@
 -- What the single tokens at the front of a list take, and that they take it again.
-use Rattle.std.proofs.Common.{◌≡◌, ◌≢◌, ℕ, ◌==◌, true, false, List, ◌∷◌, refl, sym, ap, ◌∙◌, arith, Option, Some}
-use Rattle.text_tokens.proofs.Vocabulary.{if◌then◌else◌, eqb-true, nat_tests, cond_some, Mark, OpenBrace, CloseBrace, OpenBracket, CloseBracket, OpenParen, CloseParen, Semicolon, Bar, Colon, Equals}
-use Rattle.text_tokens.proofs.Vocabulary.{Comma, Dollar, Tilde, And, Or, Tok, Word, Number, Sign}
-use Rattle.text_tokens.specs.Marks.{mark_code, same_mark}
+use Rattle.text_tokens.proofs.Vocabulary.{◌≡◌, ◌≢◌, ℕ, ◌==◌, true, false, List, ◌∷◌, refl, sym, ap, ◌∙◌, arith, Option, Some, if◌then◌else◌, eqb-true, nat_tests, cond_some, Mark, OpenBrace}
+use Rattle.text_tokens.proofs.Vocabulary.{CloseBrace, OpenBracket, CloseBracket, OpenParen, CloseParen, Semicolon, Bar, Colon, Equals, Comma, Dollar, Tilde, And, Or, Tok, Word, Number, Sign}
+use Rattle.text_tokens.proofs.Vocabulary.{mark_code, same_mark, false_from_ne_true as false_from}
 use Rattle.text_tokens.specs.Parts.{word_at, number_at, begins_with, rest_of, mark_at}
-use Rattle.std.proofs.lemmas.Bool.{false_from_ne_true as false_from}
 
 abbrev given : {A : Type 0} → A → Option A
 given x = Some x

@@ -1,6 +1,5 @@
 -- What follows white space and comments.
-use Rattle.std.proofs.Common.{◌≡◌, ℕ, ◌<◌, ◌≤◌, true, false, List, [], ◌∷◌, length, drop, refl, sym, ap, ◌∙◌, subst, arith}
-use Rattle.text_tokens.proofs.Vocabulary.{slice_index, nat_tests, is_white_space, opens, IsComment}
+use Rattle.text_tokens.proofs.Vocabulary.{◌≡◌, ℕ, ◌<◌, ◌≤◌, true, false, List, [], ◌∷◌, length, drop, refl, sym, ap, ◌∙◌, subst, arith, slice_index, nat_tests, is_white_space, opens, IsComment}
 use Rattle.text_tokens.specs.Space.{IsAfterSpace, nothing, white_space, comment}
 use Rattle.text_tokens.proofs.CommentLaws.{Inside-one, comment_shorter}
 

@@ -1,5 +1,5 @@
 -- Steps that may give nothing.
-use Rattle.std.proofs.Common.{◌≡◌, Bool, true, false, cond, refl, inl, inr, ◌⊎◌, Option, Some, None}
+use Rattle.text_tokens.proofs.Vocabulary.{◌≡◌, Bool, true, false, cond, refl, inl, inr, ◌⊎◌, Option, Some, None}
 use Rattle.text_tokens.specs.Steps.{◌>>=◌}
 
 -- where two steps succeed, the first does

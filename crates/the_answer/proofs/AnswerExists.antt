@@ -1,15 +1,11 @@
 -- There is an answer.
-use Rattle.the_answer.proofs.Vocabulary.{◌≡◌, ℕ, zero, suc, ◌+◌, true, false, List, Option, Some, None, refl, sym, ap, ◌∙◌, subst, inl, inr, arith, nat_lt, unwrap_or, MatchOption, cases_lt, ltb-true, lt-ltb, SetOfGaps, total, Question, gap_count, JumpForward}
-use Rattle.the_answer.proofs.Vocabulary.{does_serve, best_of, the_answer}
+use Rattle.the_answer.proofs.Vocabulary.{◌≡◌, ℕ, zero, suc, ◌+◌, true, false, List, Option, Some, None, refl, sym, ap, ◌∙◌, subst, inl, inr, arith, nat_lt, unwrap_or, MatchOption, cases_lt, ltb-true}
+use Rattle.the_answer.proofs.Vocabulary.{lt-ltb, SetOfGaps, total, Question, gap_count, JumpForward, does_serve, best_of, the_answer, IsTheAnswer, NonePasses, IsBest, TheAnswerExists}
+use Rattle.the_answer.proofs.Vocabulary.{TheAnswerIsThatSet, TheHeadlineIsOfThatSet, NoServingSetCostsLess}
 use Rattle.std.specs.FinSet as set
 use Rattle.tso_program.proofs.Gaps.{none_below, one_more}
-use Rattle.tso_machine.specs.Outcomes.{IsTheAnswer}
-use Rattle.fence_laws.proofs.AllGapsFenced.{all_serve}
-use Rattle.fence_laws.proofs.OneAnswer.{one_answer}
-use Rattle.fence_laws.proofs.HeadlineIsTheAnswer.{headline_is_the_answer}
-use Rattle.the_answer.specs.Laws.{NonePasses, IsBest, TheAnswerExists, TheAnswerIsThatSet, TheHeadlineIsOfThatSet, NoServingSetCostsLess}
-use Rattle.the_answer.proofs.Served.{test_tells}
-use Rattle.the_answer.proofs.Best.{best_is_found}
+use Rattle.fence_laws.proofs.{AllGapsFenced.all_serve, OneAnswer.one_answer, HeadlineIsTheAnswer.headline_is_the_answer}
+use Rattle.the_answer.proofs.{Served.test_tells, Best.best_is_found}
 
 -- the set of the numbers below n
 all_below : ℕ → SetOfGaps

@@ -1,12 +1,8 @@
 -- Of the sets of gaps that pass a test the best is found.
-use Rattle.std.proofs.Common.{◌≡◌, ◌≢◌, ℕ, zero, suc, ◌+◌, ◌<◌, ◌≤◌, Bool, true, false, ◌||◌, List, Option, Some, None, cond, refl, sym, ap, ◌∙◌, subst, inl, inr, arith, eq-eqb, ne_eqb}
-use Rattle.std.specs.Ordering.{nat_cmp}
-use Rattle.std.specs.Cmp.{nat_cmp_total, unsigned_tied}
+use Rattle.the_answer.proofs.Vocabulary.{◌≡◌, ◌≢◌, ℕ, zero, suc, ◌+◌, ◌<◌, ◌≤◌, Bool, true, false, ◌||◌, List, Option, Some, None, cond, refl, sym, ap, ◌∙◌, subst, inl, inr, arith, eq-eqb, ne_eqb}
+use Rattle.the_answer.proofs.Vocabulary.{nat_cmp, nat_cmp_total, unsigned_tied, cases_lt, cases_eq, cases_Bool, ltb-true, lt-ltb, nat_lt, MatchOption, SetOfGaps, cheaper, best_of, total}
+use Rattle.the_answer.proofs.Vocabulary.{HasLeastDifference, Better, AreBelow, NonePasses, IsBest, TheBestSetIsFound}
 use Rattle.std.specs.FinSet as set
-use Rattle.std.proofs.lemmas.Bool.{cases_lt, cases_eq, cases_Bool, ltb-true, lt-ltb}
-use Rattle.the_answer.proofs.Vocabulary.{nat_lt, MatchOption, SetOfGaps, cheaper, best_of}
-use Rattle.gap_sets.specs.Order.{total, HasLeastDifference, Better}
-use Rattle.the_answer.specs.Laws.{AreBelow, NonePasses, IsBest, TheBestSetIsFound}
 
 -- the set has below gap what the chosen set has, and nothing from the end on
 record IsBetween (chosen : SetOfGaps) (gap end : ℕ) (s : SetOfGaps) : Type 0 where

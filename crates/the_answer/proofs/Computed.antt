@@ -1,18 +1,11 @@
 -- The answer computes, where sets of gaps and of names are lists.
-use Rattle.std.proofs.Common.{◌≡◌, ℕ, zero, suc, ◌+◌, ◌&&◌, Bool, true, false, List, [], ◌∷◌, Option, Some, None, cond, sum_by, nat_eq, map, length, refl, ap, ◌∙◌}
-use mathlib.Core.Path.{fun_ext}
-use Rattle.std.specs.Prelude.{nat_lt, unwrap_or, slice_index, slice_index_or, if◌then◌else◌}
-use Rattle.std.specs.List.{list_any, filter, range_with_len}
-use Rattle.std.specs.Option.{option_map, option_map_or}
+use Rattle.the_answer.proofs.Vocabulary.{◌≡◌, ℕ, zero, suc, ◌+◌, ◌&&◌, Bool, true, false, List, [], ◌∷◌, Option, Some, None, cond, sum_by, nat_eq, map, length, refl, ap, ◌∙◌, fun_ext, nat_lt}
+use Rattle.the_answer.proofs.Vocabulary.{unwrap_or, slice_index, slice_index_or, if◌then◌else◌, list_any, filter, range_with_len, option_map, option_map_or, SetOfGaps, these, total-these, Listing}
+use Rattle.the_answer.proofs.Vocabulary.{Outcome, Machine, SequentialMachine, StoreBufferMachine, start, outcomes_within, most_labels, outcomes_of, cost_of, Question, show, value_if, gap_count}
+use Rattle.the_answer.proofs.Vocabulary.{gap_number, are_among, does_serve, cheaper, best_of, the_answer}
 use Rattle.std.specs.FinSet as set
-use Rattle.the_answer.proofs.Vocabulary.{SetOfGaps, these, total-these, Listing, Outcome, Machine, SequentialMachine, StoreBufferMachine, start, outcomes_within, most_labels, outcomes_of}
-use Rattle.gap_sets.specs.Order.{cost_of}
-use Rattle.tso_program.specs.Names.{register_place, location_place}
-use Rattle.tso_program.specs.Shown.{Question, show, value_if}
-use Rattle.tso_program.specs.Listings.{gap_count, gap_number}
-use Rattle.the_answer.specs.Answers.{are_among, does_serve, cheaper, best_of, the_answer}
+use Rattle.tso_program.specs.{Names.register_place, Names.location_place, declared.limits.TheConstants.MAX_THREADS}
 use Rattle.gap_sets.specs.declared.gap_set.TheConstants.{MAX_GAPS}
-use Rattle.tso_program.specs.declared.limits.TheConstants.{MAX_THREADS}
 
 -- the set of a list has these numbers
 abbrev pub is_listed : List ℕ → ℕ → Bool

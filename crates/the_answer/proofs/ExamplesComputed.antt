@@ -1,10 +1,9 @@
 -- The answers of the examples, computed.
-use Rattle.the_answer.proofs.Vocabulary.{◌≡◌, ℕ, List, [], ◌∷◌, ◌||◌, Bool, true, false, nat_eq, refl, sym, ap, ◌∙◌, nat_cmp_total, these, the_answer}
+use Rattle.the_answer.proofs.Vocabulary.{◌≡◌, ℕ, List, [], ◌∷◌, ◌||◌, Bool, true, false, nat_eq, refl, sym, ap, ◌∙◌, nat_cmp_total, these, the_answer, fun_ext}
 use Rattle.std.specs.FinSet as set
 use Rattle.tso_machine.specs.Examples.{store_buffering, r, n6, locked_exchange}
 use Rattle.the_answer.specs.Examples.{asked_whole, observed_n6, RIsAnswered, N6IsAnswered, ObservedN6IsAnswered, LockedExchangeIsAnswered}
 use Rattle.the_answer.proofs.Computed.{show_listed, serve_by, answer_is_list, show_by}
-use mathlib.Core.Path.{fun_ext}
 
 -- a set of two gaps, in either order
 or_swap : (a b : Bool) → (a || (b || false)) ≡ (b || (a || false))

@@ -1,16 +1,12 @@
 -- The test of a set of gaps tells whether it serves.
-use Rattle.the_answer.proofs.Vocabulary.{◌≡◌, Bool, true, false, List, Contains, sym, ◌∙◌, inl, inr, list_any, cases_Bool, SetOfGaps, Outcome, Question, JumpForward, SequentialMachine, StoreBufferMachine, outcomes_of, does_serve}
-use Rattle.std.specs.Ordering.{eq_by_cmp}
+use Rattle.the_answer.proofs.Vocabulary.{◌≡◌, Bool, true, false, List, Contains, sym, ◌∙◌, inl, inr, list_any, cases_Bool, SetOfGaps, Outcome, Question, JumpForward, SequentialMachine}
+use Rattle.the_answer.proofs.Vocabulary.{StoreBufferMachine, outcomes_of, does_serve, eq_by_cmp, gaps_in, Serves, LeavesOutcome, EachOutcomeIsAllowedOrNot, TheTestTellsWhatServes}
 use Rattle.std.proofs.lemmas.Cmp.{eq_by_cmp_equiv}
 use Rattle.std.proofs.lemmas.Map.Views.{Contains-from_any, list_any-from_Contains}
 use Rattle.tso_program.specs.Ordered.{outcome_cmp}
-use Rattle.tso_program.specs.Fences.{gaps_in}
 use Rattle.tso_program.proofs.OutcomesOrdered.{outcomes_ordered, same_by_order}
-use Rattle.tso_machine.specs.Outcomes.{Serves, LeavesOutcome}
 use Rattle.fence_laws.proofs.SequentialIsBuffered.{sequential_is_allowed}
-use Rattle.the_answer.specs.Laws.{EachOutcomeIsAllowedOrNot, TheTestTellsWhatServes}
-use Rattle.the_answer.proofs.Lists.{each_passes, all_pass, one_fails}
-use Rattle.the_answer.proofs.RunsListed.{outcomes_listed}
+use Rattle.the_answer.proofs.{Lists.each_passes, Lists.all_pass, Lists.one_fails, RunsListed.outcomes_listed}
 
 -- whether an outcome is in a list
 abbrev is_in : List Outcome → Outcome → Bool

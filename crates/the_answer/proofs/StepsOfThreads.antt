@@ -1,18 +1,10 @@
 -- Each step is one of the program's threads, and no run is longer than what is listed.
-use Rattle.std.proofs.Common.{◌≡◌, ℕ, zero, suc, ◌<◌, ◌≤◌, Bool, true, false, List, [], ◌∷◌, length, Some, None, slice_get, sym, ap, ◌∙◌, subst, inl, inr, arith}
+use Rattle.the_answer.proofs.Vocabulary.{◌≡◌, ℕ, zero, suc, ◌<◌, ◌≤◌, Bool, true, false, List, [], ◌∷◌, length, Some, None, slice_get, sym, ap, ◌∙◌, subst, inl, inr, arith, cases_lt, Listing, Label}
+use Rattle.the_answer.proofs.Vocabulary.{Exec, Flush, Pending, action, code_of, instr_at, Gaps, Machine, SequentialMachine, StoreBufferMachine, no_gaps, State, step, longest, RunsAreBounded}
 use Rattle.std.proofs.Math.Nat.{le-max_left, le-max_right}
-use Rattle.the_answer.proofs.Vocabulary.{cases_lt, Listing, Label, Exec, Flush, Pending}
-use Rattle.tso_program.specs.declared.instruction.Instr.{Instr}
-use Rattle.tso_program.specs.declared.listing.Thread.{Thread}
-use Rattle.tso_program.specs.Listings.{action, code_of, instr_at}
-use Rattle.tso_program.specs.Fences.{Gaps}
-use Rattle.tso_machine.specs.Machine.{Machine, SequentialMachine, StoreBufferMachine, no_gaps, State, step}
-use Rattle.candidate_executions.proofs.Candidates.AllEvents.{no_code}
-use Rattle.candidate_executions.proofs.FromRuns.RunsAreShort.{run_bound}
-use Rattle.fence_laws.proofs.ChangedAt.{put_other}
-use Rattle.fence_laws.proofs.EitherMachine.{mode_with, made, others_keep, stands_at, stored, flush_made}
-use Rattle.the_answer.specs.OutcomeLists.{longest}
-use Rattle.the_answer.specs.Laws.{RunsAreBounded}
+use Rattle.tso_program.specs.{declared.instruction.Instr.Instr, declared.listing.Thread.Thread}
+use Rattle.candidate_executions.proofs.{Candidates.AllEvents.no_code, FromRuns.RunsAreShort.run_bound}
+use Rattle.fence_laws.proofs.{ChangedAt.put_other, EitherMachine.mode_with, EitherMachine.made, EitherMachine.others_keep, EitherMachine.stands_at, EitherMachine.stored, EitherMachine.flush_made}
 
 -- nothing waits in the buffers of threads that the program has not
 abbrev pub NoOtherThread : Listing → State → Type 0

@@ -1,10 +1,8 @@
 -- The values of a location, gathered from the instructions and the initial values.
-use Rattle.std.proofs.Common.{◌≡◌, ◌↔◌, ◌⊎◌, ℕ, ◌+◌, ◌<◌, ◌≤◌, List, [], ◌∷◌, ◌++◌, Option, Some, None, slice_get, get_or, length, Contains, refl, sym, ap, ◌∙◌, subst, inl, inr, eq-eqb, ne_eqb, arith}
-use Rattle.std.proofs.lemmas.List.Elements.{Contains-append_left, Contains-append_right, Contains-append_cases, Contains-push, Contains-push_cases}
-use Rattle.thread_traces.proofs.Vocabulary.{slice_index, cases_lt, cases_eq, slice_get_within, slice_get-get_or, slice_get_read, same_Some, Instr, LoadImm, StoreImm}
-use Rattle.thread_traces.proofs.Vocabulary.{CmpImm, Thread, Listing, instr_at, code_of, code_found}
-use Rattle.candidate_executions.specs.Values.{Occurs, IsImmediate, IsKnown, TakesRegister, IsValueOf}
-use Rattle.thread_traces.specs.Immediates.{number_stored, any_number, stored_number, HasImmediate}
+use Rattle.thread_traces.proofs.Vocabulary.{◌≡◌, ◌↔◌, ◌⊎◌, ℕ, ◌+◌, ◌<◌, ◌≤◌, List, [], ◌∷◌, ◌++◌, Option, Some, None, slice_get, get_or, length, Contains, refl, sym, ap, ◌∙◌, subst, inl, inr, eq-eqb}
+use Rattle.thread_traces.proofs.Vocabulary.{ne_eqb, arith, Contains-append_left, Contains-append_right, Contains-append_cases, Contains-push, Contains-push_cases, slice_index, cases_lt, cases_eq}
+use Rattle.thread_traces.proofs.Vocabulary.{slice_get_within, slice_get-get_or, slice_get_read, same_Some, Instr, LoadImm, StoreImm, CmpImm, Thread, Listing, instr_at, code_of, code_found, Occurs}
+use Rattle.thread_traces.proofs.Vocabulary.{IsImmediate, IsKnown, TakesRegister, IsValueOf, number_stored, any_number, stored_number, HasImmediate}
 use Rattle.thread_traces.proofs.TracesKept.{no_code}
 
 -- a number of the first n threads' instructions

@@ -1,5 +1,5 @@
 -- Tests that are false.
-use Rattle.std.proofs.Common.{◌≡◌, ◌↔◌, Bool, true, false, IsTrue, ℕ, Option, Some, IsSome, refl, sym, ◌∙◌}
+use Rattle.thread_traces.proofs.Vocabulary.{◌≡◌, ◌↔◌, Bool, true, false, IsTrue, ℕ, Option, Some, IsSome, refl, sym, ◌∙◌}
 
 pub yes : (P : Type 0) → P → IsTrue true ↔ P
 yes P p = (λ e. p, λ q. refl)

@@ -1,8 +1,7 @@
 -- What a register may hold, and which locations take a register.
-use Rattle.std.proofs.Common.{◌≡◌, ◌↔◌, ◌⊎◌, ℕ, zero, suc, ◌+◌, ◌<◌, ◌≤◌, List, [], ◌∷◌, ◌++◌, Some, None, get_or, length, Contains, refl, sym, ap, ◌∙◌, subst, inl, inr, arith}
-use Rattle.std.proofs.lemmas.List.{get_or_past}
-use Rattle.thread_traces.proofs.Vocabulary.{slice_index, cases_lt, Contains-get_or, read_is, Instr, Store, Xchg, Thread, Listing}
-use Rattle.thread_traces.proofs.Vocabulary.{instr_at, start_of, IsKnown, TakesRegister, HasImmediate, StoresRegister, TakesRegisterOf}
+use Rattle.thread_traces.proofs.Vocabulary.{◌≡◌, ◌↔◌, ◌⊎◌, ℕ, zero, suc, ◌+◌, ◌<◌, ◌≤◌, List, [], ◌∷◌, ◌++◌, Some, None, get_or, length, Contains, refl, sym, ap, ◌∙◌, subst, inl, inr, arith}
+use Rattle.thread_traces.proofs.Vocabulary.{get_or_past, slice_index, cases_lt, Contains-get_or, read_is, Instr, Store, Xchg, Thread, Listing, instr_at, start_of, IsKnown, TakesRegister, HasImmediate}
+use Rattle.thread_traces.proofs.Vocabulary.{StoresRegister, TakesRegisterOf}
 use Rattle.thread_traces.proofs.Gathered.{HasCome, come_by, come_more, come_append, IsNumberBelow, thread_more, immediate_all}
 
 -- an initial value of a register of the first n threads

@@ -1,6 +1,5 @@
 -- Program order between the accesses of one thread, a row at a time.
-use Rattle.std.proofs.Common.{◌↔◌, ℕ, ◌+◌, ◌<◌, ◌≤◌, List, set, length, inl, inr, arith}
-use Rattle.thread_traces.proofs.Vocabulary.{slice_get_within, IsIn, ROW_BITS, Access}
+use Rattle.thread_traces.proofs.Vocabulary.{◌↔◌, ℕ, ◌+◌, ◌<◌, ◌≤◌, List, set, length, inl, inr, arith, slice_get_within, IsIn, ROW_BITS, Access}
 use Rattle.bit_rows.proofs.Written.{IsGrown, grown_more, grown_all, zeros, zeros_are_empty}
 use Rattle.candidate_executions.specs.declared.event.Kind.{Kind}
 use Rattle.thread_traces.specs.ThreadOrder.{AreOrderOf, IsLaterIn}

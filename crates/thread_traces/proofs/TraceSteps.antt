@@ -1,10 +1,8 @@
 -- A trace is made an instruction at a time.
-use Rattle.std.proofs.Common.{◌≡◌, ℕ, zero, suc, ◌+◌, ◌-◌, ◌<◌, ◌≤◌, Bool, true, false, List, [], get_or, drop, length, refl, sym, ap, ◌∙◌, subst, arith}
-use Rattle.std.proofs.lemmas.List.{append-nil}
-use Rattle.thread_traces.proofs.Vocabulary.{slice_get_read, code_found, Action, Thread, Listing, action, code_of, start_of, Machine, read_is, Local}
-use Rattle.candidate_executions.specs.Traces.{Trace, trace, entered, stopped, trace_by, fenced_gaps}
+use Rattle.thread_traces.proofs.Vocabulary.{◌≡◌, ℕ, zero, suc, ◌+◌, ◌-◌, ◌<◌, ◌≤◌, Bool, true, false, List, [], get_or, drop, length, refl, sym, ap, ◌∙◌, subst, arith, append-nil, slice_get_read}
+use Rattle.thread_traces.proofs.Vocabulary.{code_found, Action, Thread, Listing, action, code_of, start_of, Machine, read_is, Local, Trace, trace, entered, stopped, trace_by, fenced_gaps}
+use Rattle.thread_traces.proofs.Vocabulary.{with_accesses, GoesOn, first_local}
 use Rattle.thread_traces.specs.declared.walk.TraceSoFar.{TraceSoFar}
-use Rattle.thread_traces.specs.ThreadTraces.{with_accesses, GoesOn, first_local}
 
 -- one step less is left
 one_less : (n i : ℕ) → i < n → n - i ≡ suc (n - (i + 1))

@@ -1,7 +1,5 @@
 -- A thread that is not there has no code.
-use Rattle.std.proofs.Common.{◌≡◌, ℕ, zero, suc, ◌≤◌, List, [], ◌∷◌, None, slice_get, length, ap, arith}
-use Rattle.std.proofs.lemmas.Option.{slice_get_past}
-use Rattle.thread_traces.proofs.Vocabulary.{option_map_or, Thread, Local, Stop, action, code_of, act}
+use Rattle.thread_traces.proofs.Vocabulary.{◌≡◌, ℕ, zero, suc, ◌≤◌, List, [], ◌∷◌, None, slice_get, length, ap, arith, slice_get_past, option_map_or, Thread, Local, Stop, action, code_of, act}
 
 -- nothing stands past the end
 pub past_end : {A : Type 0} (xs : List A) (i : ℕ) → slice_get xs i ≡ None → length xs ≤ i

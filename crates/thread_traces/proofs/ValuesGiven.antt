@@ -1,10 +1,8 @@
 -- What is known of traces, as they are put in their places.
-use Rattle.std.proofs.Common.{◌≡◌, ℕ, suc, List, [], ◌∷◌, Option, slice_get, set, refl, sym, ap, subst, inl, inr}
-use Rattle.thread_traces.proofs.Vocabulary.{unwrap_or, Listing, machine_of_mode, ThreadTrace}
+use Rattle.thread_traces.proofs.Vocabulary.{◌≡◌, ℕ, suc, List, [], ◌∷◌, Option, slice_get, set, refl, sym, ap, subst, inl, inr, unwrap_or, Listing, machine_of_mode, ThreadTrace, IsThreadTraceOf}
+use Rattle.thread_traces.proofs.Vocabulary.{AreFrom, AreKnown, IsKnownAfter}
 use Rattle.tso_machine.specs.declared.mode.Mode.{Mode}
 use Rattle.thread_traces.specs.declared.known_traces.KnownTrace.{KnownTrace}
-use Rattle.thread_traces.specs.ThreadTraces.{IsThreadTraceOf}
-use Rattle.thread_traces.specs.KnownTraces.{AreFrom, AreKnown, IsKnownAfter}
 
 -- ---- traces that are known
 

@@ -1,14 +1,12 @@
 -- How many traces a thread has, and in how many ways the traces of all threads may be combined.
 use Rattle.std.specs.Prelude.{◌≡◌, ◌≤◌, ◌<◌, ◌*◌, ℕ, zero, suc, List, [], length, slice_index_or, sum_by}
 use Rattle.tso_program.specs.declared.action.Local.{Local}
-use Rattle.tso_program.specs.declared.action.Action.{Action}
-use Rattle.tso_program.specs.declared.action.Action.TheVariants.{Stop, Go, Wait, Read, Write, Swap}
+use Rattle.tso_program.specs.declared.action.Action.{Action, TheVariants.Stop, TheVariants.Go, TheVariants.Wait, TheVariants.Read, TheVariants.Write, TheVariants.Swap}
 use Rattle.tso_program.specs.declared.listing.Listing.{Listing}
 use Rattle.tso_program.specs.Actions.{loaded}
 use Rattle.tso_program.specs.Listings.{action, start_of, code_of}
 use Rattle.thread_traces.specs.ValueLists.{AreValueLists}
-use Rattle.thread_traces.specs.declared.combinations.Combinations.{Combinations}
-use Rattle.thread_traces.specs.declared.combinations.Combinations.TheVariants.{Exactly, AtLeast}
+use Rattle.thread_traces.specs.declared.combinations.Combinations.{Combinations, TheVariants.Exactly, TheVariants.AtLeast}
 
 -- the values of each location, by its number
 abbrev pub Values : Type 0

@@ -1,11 +1,9 @@
 -- Where a set is not better than the answer, no set that holds it is.
-use Rattle.tree_laws.proofs.Vocabulary.{◌≡◌, ◌≢◌, ◌⊎◌, ℕ, ◌<◌, ◌≤◌, Bool, true, false, List, length, refl, sym, ◌∙◌, subst, inl, inr, arith, nat_cmp_total, Better, MAX_GAPS, Listing, IsWithinLimits, AreGapsOf, HaveCosts}
+use Rattle.tree_laws.proofs.Vocabulary.{◌≡◌, ◌≢◌, ◌⊎◌, ℕ, ◌<◌, ◌≤◌, Bool, true, false, List, length, refl, sym, ◌∙◌, subst, inl, inr, arith, nat_cmp_total, Better, MAX_GAPS, Listing, IsWithinLimits}
+use Rattle.tree_laws.proofs.Vocabulary.{AreGapsOf, HaveCosts, SetOfGaps, have_same_gaps, chained, gap_count}
 use Rattle.std.specs.FinSet as set
-use Rattle.gap_sets.specs.Gaps.{SetOfGaps, have_same_gaps}
 use Rattle.gap_sets.specs.SameGaps.{have_same_gaps-same}
 use Rattle.gap_sets.proofs.Subsets.{cheaper}
-use Rattle.gap_sets.proofs.Orders.{chained}
-use Rattle.tso_program.specs.Listings.{gap_count}
 
 -- two sets are the same or not
 same_or_not : (a b : SetOfGaps) → (a ≡ b) ⊎ (a ≢ b)

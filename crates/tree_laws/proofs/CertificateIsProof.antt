@@ -1,13 +1,10 @@
 -- The headline holds of the set of a valid certificate.
 use Rattle.std.proofs.Common.{ℕ, ◌≤◌, List, All}
-use Rattle.std.proofs.lemmas.List.Elements.{All-weaker}
-use Rattle.tree_laws.proofs.Vocabulary.{all_sets, Question, Outcome, IsWithinLimits, Label, IsRunOutside, IsValidCertificate}
-use Rattle.tso_machine.specs.Outcomes.{IsTheAnswer}
+use Rattle.tree_laws.proofs.Vocabulary.{All-weaker, all_sets, Question, Outcome, IsWithinLimits, Label, IsRunOutside, IsValidCertificate, IsTheAnswer, IsSequentialList, IsForeign}
+use Rattle.tree_laws.proofs.Vocabulary.{AValidCertificateProves}
 use Rattle.fence_laws.proofs.HeadlineIsTheAnswer.{headline_is_the_answer}
 use Rattle.cert_forest.specs.Certificates.{Certificate}
-use Rattle.tree_laws.specs.Laws.{IsSequentialList, IsForeign, AValidCertificateProves}
-use Rattle.tree_laws.proofs.ListedOutcomes.{sequential_list, fenced_tree_serves}
-use Rattle.tree_laws.proofs.NoBetterLeft.{no_better_left, root_has_every_set}
+use Rattle.tree_laws.proofs.{ListedOutcomes.sequential_list, ListedOutcomes.fenced_tree_serves, NoBetterLeft.no_better_left, NoBetterLeft.root_has_every_set}
 
 -- what is outside of the list of sequential outcomes is foreign
 outside_is_foreign : (q : Question) (outcomes : List Outcome) (labels : List Label) → IsSequentialList q outcomes → IsRunOutside q outcomes labels → IsForeign q labels

@@ -1,6 +1,5 @@
 -- Children are judged in their order, each at its own sketch or for its own region.
-use Rattle.tree_laws.proofs.Vocabulary.{[], ◌∷◌}
-use Rattle.tree_laws.specs.Laws.{CoversAreJudgedInOrder, GapsAreJudgedInOrder}
+use Rattle.tree_laws.proofs.Vocabulary.{[], ◌∷◌, CoversAreJudgedInOrder, GapsAreJudgedInOrder}
 
 pub covers_in_order : CoversAreJudgedInOrder
 covers_in_order q mode outcomes [] [] = ((λ valid. valid), (λ each. each))

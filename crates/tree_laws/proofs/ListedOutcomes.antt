@@ -1,14 +1,10 @@
 -- Where the empty sketch is covered the list has every outcome of the machine.
-use Rattle.tree_laws.proofs.Vocabulary.{List, [], ◌∷◌, Contains, sym, ap, ◌∙◌, subst, inl, inr, ◌≡◌, Outcome, gaps_in, JumpForward, Label, Machine, SequentialMachine, StoreBufferMachine, empty_sketch, Cover, IsValidCover, IsCovered, AreSequentialRuns}
-use Rattle.tso_program.specs.Shown.{Question, show}
-use Rattle.tso_machine.specs.Outcomes.{IsShownRun, IsSequentialOutcome}
-use Rattle.candidate_executions.proofs.Sketches.Choices.{empty_is_a_sketch}
-use Rattle.candidate_executions.proofs.FromRuns.RunsAreCandidates.{every_run_is_a_completion}
-use Rattle.candidate_executions.proofs.Candidates.LastWrites.{outcomes_are_one}
+use Rattle.tree_laws.proofs.Vocabulary.{List, [], ◌∷◌, Contains, sym, ap, ◌∙◌, subst, inl, inr, ◌≡◌, Outcome, gaps_in, JumpForward, Label, Machine, SequentialMachine, StoreBufferMachine, empty_sketch}
+use Rattle.tree_laws.proofs.Vocabulary.{Cover, IsValidCover, IsCovered, AreSequentialRuns, Question, show, IsShownRun, IsSequentialOutcome, empty_is_a_sketch, ACoveredListHasEachOutcome}
+use Rattle.tree_laws.proofs.Vocabulary.{AValidTreeMakesTheSequentialList, AValidFencedTreeServes}
+use Rattle.candidate_executions.proofs.{FromRuns.RunsAreCandidates.every_run_is_a_completion, Candidates.LastWrites.outcomes_are_one}
 use Rattle.fence_laws.proofs.SequentialIsBuffered.{sequential_is_allowed}
-use Rattle.tree_laws.specs.Laws.{ACoveredListHasEachOutcome, AValidTreeMakesTheSequentialList, AValidFencedTreeServes}
-use Rattle.tree_laws.proofs.Lists.{none_here, first_or_later}
-use Rattle.tree_laws.proofs.CoveredSketches.{valid_covers}
+use Rattle.tree_laws.proofs.{Lists.none_here, Lists.first_or_later, CoveredSketches.valid_covers}
 
 pub listed : ACoveredListHasEachOutcome
 listed q mode outcomes o forward covered (labels, (whole, is_run, shown)) =

@@ -1,7 +1,6 @@
 -- Elements of lists.
 use Rattle.std.proofs.Common.{◌≡◌, ℕ, List, ◌∷◌, Some, Contains, All, slice_get, subst, inl, inr}
-use Rattle.std.proofs.lemmas.Option.{slice_get_within, get_or_from_slice_get}
-use Rattle.candidate_executions.proofs.Orders.Lists.{first_or_later}
+use Rattle.tree_laws.proofs.Vocabulary.{slice_get_within, get_or_from_slice_get, first_or_later}
 pub use Rattle.candidate_executions.proofs.Orders.Lists.{none_here, first_or_later, first_is_here, later_is_here, mapped}
 
 -- what is found at a place is an element

@@ -1,13 +1,9 @@
 -- A valid gap tree over foreign runs leaves no better serving set in its region.
 use Rattle.std.proofs.Common.{◌≡◌, ℕ, true, false, List, [], ◌∷◌, Contains, All, sym, ◌∙◌, inl, inr}
 use Rattle.std.specs.FinSet as set
-use Rattle.tree_laws.proofs.Vocabulary.{SetOfGaps, IsInRegion, child_regions, HasNoneOf, Region, Listing, Question, IsWithinLimits, Label}
-use Rattle.cert_forest.specs.Trees.{Gap, Split, Bound, GapTrees, NoGap, MoreGaps}
-use Rattle.tree_laws.specs.GapTrees.{IsSplitBy, IsValidGap, AreValidGaps, EachBetterOfRegionLeavesOutcome, HaveCosts}
-use Rattle.tree_laws.specs.Laws.{IsForeign, AValidGapTreeLeavesNoBetter, SoNoServingSetIsBetter, TheRootHasEverySet}
-use Rattle.tree_laws.proofs.Lists.{none_here, found_has, each_more}
-use Rattle.tree_laws.proofs.AvoidedGaps.{Avoids, leaves_outcome}
-use Rattle.tree_laws.proofs.BetterSets.{still_better}
+use Rattle.tree_laws.proofs.Vocabulary.{SetOfGaps, IsInRegion, child_regions, HasNoneOf, Region, Listing, Question, IsWithinLimits, Label, Gap, Split, Bound, GapTrees, NoGap, MoreGaps, IsSplitBy}
+use Rattle.tree_laws.proofs.Vocabulary.{IsValidGap, AreValidGaps, EachBetterOfRegionLeavesOutcome, HaveCosts, IsForeign, AValidGapTreeLeavesNoBetter, SoNoServingSetIsBetter, TheRootHasEverySet}
+use Rattle.tree_laws.proofs.{Lists.none_here, Lists.found_has, Lists.each_more, AvoidedGaps.Avoids, AvoidedGaps.leaves_outcome, BetterSets.still_better}
 use Rattle.tree_laws.proofs.Regions.{true_or_false, split_loses_no_set, in_root}
 
 module _ (q : Question) (costs : List ℕ) (answer : SetOfGaps) where

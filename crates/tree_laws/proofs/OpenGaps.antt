@@ -1,13 +1,9 @@
 -- The gaps of a set in order, and those of one set that are not in another.
-use Rattle.std.proofs.Common.{◌≡◌, ◌↔◌, ℕ, ◌+◌, ◌<◌, ◌≤◌, Bool, true, false, not, get_or, length, Contains, ◌∙◌, refl, arith, zero-add}
+use Rattle.tree_laws.proofs.Vocabulary.{◌≡◌, ◌↔◌, ℕ, ◌+◌, ◌<◌, ◌≤◌, true, false, not, get_or, length, Contains, ◌∙◌, arith, zero-add, not-true, not_from_false, IsStrictlyIncreasing-filter}
+use Rattle.tree_laws.proofs.Vocabulary.{range_with_len, IsStrictlyIncreasing, MAX_GAPS, SetOfGaps, IsGapSet, numbers_of_set, is_free, open_gaps}
 use Rattle.std.specs.FinSet as set
-use Rattle.std.proofs.lemmas.Bool.{not-true, not_from_false}
 use Rattle.std.proofs.lemmas.List.FromFn.{length-range_with_len, get_or-range_with_len}
-use Rattle.std.proofs.lemmas.List.Kept.{IsStrictlyIncreasing-filter}
 use Rattle.std.proofs.lemmas.List.Sums.{length-filter, count_by-le-length}
-use Rattle.tree_laws.proofs.Vocabulary.{range_with_len, IsStrictlyIncreasing, MAX_GAPS}
-use Rattle.gap_sets.specs.Gaps.{SetOfGaps, IsGapSet, numbers_of_set}
-use Rattle.gap_sets.specs.Regions.{is_free, open_gaps}
 use Rattle.tree_laws.proofs.Filtered.{of_filter, to_filter}
 
 -- each gap of a set is listed

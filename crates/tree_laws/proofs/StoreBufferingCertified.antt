@@ -1,17 +1,12 @@
 -- Store buffering: its certificate is valid, so both gaps are the answer.
 use Rattle.std.proofs.Common.{◌≤◌, [], ◌∷◌, All, refl, sym, inl, inr, arith}
 use Rattle.std.specs.FinSet as set
-use Rattle.tree_laws.proofs.Vocabulary.{All-nil, All-cons, IsWithinLimits, SequentialMachine, AreGapsOf, store_buffering, IsValidCertificate}
+use Rattle.tree_laws.proofs.Vocabulary.{All-nil, All-cons, IsWithinLimits, SequentialMachine, AreGapsOf, store_buffering, IsValidCertificate, certificate, costs, StoreBufferingIsCertified}
 use Rattle.gap_sets.proofs.Examples.{total-these}
 use Rattle.tso_program.proofs.WithinLimits.{limits_are_the_refusals}
 use Rattle.candidate_executions.specs.declared.event.Kind.TheVariants as union
-use Rattle.cert_forest.specs.StoreBuffering.{certificate}
-use Rattle.tree_laws.specs.StoreBuffering.{costs, StoreBufferingIsCertified}
-use Rattle.tree_laws.proofs.Regions.{new_or_old}
-use Rattle.tree_laws.proofs.CertificateIsProof.{certificate_proves}
-use Rattle.tree_laws.proofs.StoreBufferingCovered.{question, outcomes, cover_is_valid}
-use Rattle.tree_laws.proofs.StoreBufferingCycles.{both_fenced, sequential_cycle, fenced_cycle}
-use Rattle.tree_laws.proofs.StoreBufferingRuns.{replayed, all_outside}
+use Rattle.tree_laws.proofs.{Regions.new_or_old, CertificateIsProof.certificate_proves, StoreBufferingCovered.question, StoreBufferingCovered.outcomes, StoreBufferingCovered.cover_is_valid}
+use Rattle.tree_laws.proofs.{StoreBufferingCycles.both_fenced, StoreBufferingCycles.sequential_cycle, StoreBufferingCycles.fenced_cycle, StoreBufferingRuns.replayed, StoreBufferingRuns.all_outside}
 use Rattle.tree_laws.proofs.StoreBufferingGaps.{both_gaps, not_empty, gap_tree_is_valid}
 
 two_gaps : AreGapsOf store_buffering both_gaps

@@ -1,11 +1,9 @@
 -- Store buffering: its gap tree is valid.
-use Rattle.tree_laws.proofs.Vocabulary.{◌≡◌, ◌||◌, ℕ, zero, suc, ◌<◌, Bool, true, false, [], ◌∷◌, Contains, refl, sym, ap, ◌∙◌, subst, inl, inr, arith, IsStrictlyIncreasing, nat_cmp, eq_by_cmp, nat_cmp_total, nat_tests, SetOfGaps, Better, all_sets, with_gap}
-use Rattle.tree_laws.proofs.Vocabulary.{without_gap, Region, these, store_buffering, waiting_stores, PassesGap, IsSplitBy, IsValidGap, costs}
+use Rattle.tree_laws.proofs.Vocabulary.{◌≡◌, ◌||◌, ℕ, zero, suc, ◌<◌, Bool, true, false, [], ◌∷◌, Contains, refl, sym, ap, ◌∙◌, subst, inl, inr, arith, IsStrictlyIncreasing, nat_cmp, eq_by_cmp}
+use Rattle.tree_laws.proofs.Vocabulary.{nat_cmp_total, nat_tests, SetOfGaps, Better, all_sets, with_gap, without_gap, Region, these, store_buffering, waiting_stores, PassesGap, IsSplitBy, IsValidGap}
+use Rattle.tree_laws.proofs.Vocabulary.{costs, not_itself, second_waits, first_waits, gap_tree}
 use Rattle.std.specs.FinSet as set
-use Rattle.gap_sets.proofs.Orders.{not_itself}
-use Rattle.cert_forest.specs.StoreBuffering.{second_waits, first_waits, gap_tree}
-use Rattle.tree_laws.proofs.Lists.{none_here, first_or_later, first_is_here}
-use Rattle.tree_laws.proofs.Regions.{new_or_old}
+use Rattle.tree_laws.proofs.{Lists.none_here, Lists.first_or_later, Lists.first_is_here, Regions.new_or_old}
 use Rattle.tree_laws.proofs.StoreBufferingValues.{zero_one, in_zero_one, of_zero_one}
 use Rattle.tree_laws.proofs.StoreBufferingRuns.{runs, passed_below, both_passed, second_passed, first_not_passed, second_not_passed}
 use Rattle.tree_laws.proofs.StoreBufferingCovered.{ascending as two_ascend}

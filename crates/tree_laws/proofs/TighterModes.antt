@@ -1,25 +1,18 @@
 -- A cover tree that is valid in a mode is valid in each tighter one: of what is known of a sketch only sections change, and of two modes with gaps fenced they come no closer.
-use Rattle.std.proofs.Common.{◌≡◌, ◌⊎◌, ℕ, Bool, List, [], ◌∷◌, Some, slice_get, IsSome, map, length, sym, ap, ◌∙◌, subst, inl, inr}
-use Rattle.tree_laws.proofs.Vocabulary.{range_with_len, Local, Listing, Outcome, Machine, SequentialMachine, StoreBufferMachine, Access, Event, Initial, At, Kind, access_by, Writes, Cover, Value, Source, Order, Cycle, Known, Covers, NoCover}
-use Rattle.tree_laws.proofs.Vocabulary.{MoreCovers, event_of, HasNextValues, HasSources, HasNoOrder, IsValidCover, AreValidCovers}
+use Rattle.tree_laws.proofs.Vocabulary.{◌≡◌, ◌⊎◌, ℕ, Bool, List, [], ◌∷◌, Some, slice_get, IsSome, map, length, sym, ap, ◌∙◌, subst, inl, inr, range_with_len, Local, Listing, Outcome, Machine}
+use Rattle.tree_laws.proofs.Vocabulary.{SequentialMachine, StoreBufferMachine, Access, Event, Initial, At, Kind, access_by, Writes, Cover, Value, Source, Order, Cycle, Known, Covers, NoCover}
+use Rattle.tree_laws.proofs.Vocabulary.{MoreCovers, event_of, HasNextValues, HasSources, HasNoOrder, IsValidCover, AreValidCovers, Truth, Question, show_registers, action, start_of, code_of, Gaps}
+use Rattle.tree_laws.proofs.Vocabulary.{trace_by, Sketch, given_to, IsSourceOf, IsPair, with_value, with_source, with_pair, read_by, next_read, IsWhole, MayBeLast, stopped, EndsInValues, KnownAtom}
+use Rattle.tree_laws.proofs.Vocabulary.{EndsAs, MustEndAs, IsBefore, KnownFromReads, KnownRelates, KnownEdgeOfMode, IsKnownCycle, ATighterModeKeepsACover, ATighterModeKeepsTheValues}
+use Rattle.tree_laws.proofs.Vocabulary.{ATighterModeKeepsAWholeSketch, bare, threads_alike, also, writes}
 use mathlib.Core.Path.{fun_ext}
-use Rattle.tso_program.specs.declared.shown.Shown.{Shown}
-use Rattle.tso_program.specs.declared.shown.Shown.TheVariants.{Truth}
-use Rattle.tso_program.specs.declared.atom.Atom.{Atom}
+use Rattle.tso_program.specs.{declared.shown.Shown.Shown, declared.atom.Atom.Atom, Truth.is_true_at}
 use Rattle.tso_program.specs.declared.atom.Atom.TheVariants as atom
-use Rattle.tso_program.specs.Truth.{is_true_at}
 use Rattle.tso_program.proofs.KnownTruths.{known_more}
-use Rattle.tso_program.specs.Shown.{Question, show_registers}
-use Rattle.tso_program.specs.Listings.{action, start_of, code_of}
-use Rattle.tso_program.specs.Fences.{Gaps}
 use Rattle.candidate_executions.specs.declared.event.Kind.TheVariants as union
-use Rattle.candidate_executions.specs.Traces.{trace_by}
 use Rattle.candidate_executions.specs.Consistency.{Precedes, KeepsOrder, IsOfMode}
-use Rattle.candidate_executions.specs.Sketches.{Sketch, given_to, IsSourceOf, IsPair, with_value, with_source, with_pair, read_by, next_read, IsWhole, MayBeLast, stopped, EndsInValues, KnownAtom, EndsAs, MustEndAs, IsBefore, KnownFromReads, KnownRelates, KnownEdgeOfMode, IsKnownCycle}
 use Rattle.candidate_executions.proofs.Orders.WiderRelations.{cycle_wider}
 use Rattle.tree_laws.specs.TighterModes.{AreGapsAmong, IsNoLooser, kind_in, changed, each_changed}
-use Rattle.tree_laws.specs.Laws.{ATighterModeKeepsACover, ATighterModeKeepsTheValues, ATighterModeKeepsAWholeSketch}
-use Rattle.candidate_executions.proofs.FromRuns.OtherSections.{bare, threads_alike, also, writes}
 use Rattle.tree_laws.proofs.WiderTraces.{AreWider, still_apart, wider_trace}
 
 module _ (p : Listing) (k : Sketch) where

@@ -1,15 +1,11 @@
 -- What a step does to the machine's state, by what it does to a thread and to the memory.
-use Rattle.std.proofs.Common.{◌≡◌, ℕ, ◌<◌, Bool, true, false, ◌&&◌, ◌||◌, not, List, [], ◌∷◌, ◌++◌, Option, Some, None, option_and_then, Result, Ok, Err, length, length-set, refl, sym, ap, ◌∙◌, subst}
-use Rattle.std.specs.Prelude.{slice_index, slice_set, OnOk, if◌then◌else◌}
+use Rattle.tso_machine.proofs.Vocabulary.{◌≡◌, ℕ, ◌<◌, Bool, true, false, ◌&&◌, ◌||◌, not, List, [], ◌∷◌, ◌++◌, Option, Some, None, option_and_then, Result, Ok, Err, length, length-set, refl, sym, ap}
+use Rattle.tso_machine.proofs.Vocabulary.{◌∙◌, subst, slice_index, slice_set, OnOk, if◌then◌else◌, nat_cmp, Exec, Pending, Model, Listing, Action, Stop, Go, Wait, Read, Write, Swap, action}
+use Rattle.tso_machine.proofs.Vocabulary.{machine_of_model, gaps_in, waits, loaded, IsLocated, put, State, newest, found, is_empty, when_empty, past_gap, buffered, direct, step, Core, Cores, core_at}
+use Rattle.tso_machine.proofs.Vocabulary.{state_of, AreLocated, FitsProgram, after_buffered, after_direct, after_action, same_Some as some_is}
 use Rattle.std.specs.FinSet as set
-use Rattle.tso_machine.proofs.Vocabulary.{nat_cmp, Exec, Pending, Model, Listing, Action, Stop, Go, Wait, Read, Write}
-use Rattle.tso_machine.proofs.Vocabulary.{Swap, action, machine_of_model, gaps_in, waits}
 use Rattle.tso_machine.specs.declared.label.Model.TheVariants as models
-use Rattle.tso_program.specs.Actions.{loaded, IsLocated}
-use Rattle.tso_machine.specs.Machine.{put, State, newest, found, is_empty, when_empty, past_gap, buffered, direct, step}
-use Rattle.tso_machine.specs.Internal.Cores.{Core, Cores, core_at, state_of, AreLocated, FitsProgram, after_buffered, after_direct, after_action}
 use Rattle.tso_machine.proofs.Link.{state_set, state_moved, memory_set, located_front, fits_set}
-use Rattle.std.proofs.lemmas.Option.{same_Some as some_is}
 
 -- no action of a thread that doesn't have to wait is kept waiting
 free : (ws : List Pending) (w here : Bool) (o : Option (Core × List ℕ)) (x : Core × List ℕ) → (if not (is_empty ws) && (w || here) then None else o) ≡ Some x →

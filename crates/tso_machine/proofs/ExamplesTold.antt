@@ -1,9 +1,8 @@
 -- The runs of the examples, computed.
-use Rattle.std.proofs.Common.{◌≡◌, ℕ, zero, suc, ◌≤◌, List, [], length, Some, refl, ap, arith}
-use Rattle.tso_machine.proofs.Vocabulary.{Stop, Listing, action, Label, Pending, SequentialMachine, StoreBufferMachine, no_gaps, State, start, run, HasEnded}
+use Rattle.tso_machine.proofs.Vocabulary.{◌≡◌, ℕ, zero, suc, ◌≤◌, List, [], length, Some, refl, ap, arith, Stop, Listing, action, Label, Pending, SequentialMachine, StoreBufferMachine, no_gaps, State}
+use Rattle.tso_machine.proofs.Vocabulary.{start, run, HasEnded}
 use Rattle.tso_machine.specs.Examples.{StoreBufferingIsTold, store_buffering, waiting_stores, in_turn, RIsTold, r, r_run, N6IsTold, n6, n6_run, LockedExchangeIsTold, locked_exchange, locked_run}
-use Rattle.tso_machine.proofs.Runs.{no_action, no_stores}
-use Rattle.tso_machine.proofs.Refused.{run_keeps}
+use Rattle.tso_machine.proofs.{Runs.no_action, Runs.no_stores, Refused.run_keeps}
 
 -- a thread's next action and its waiting stores, at the end
 abbrev IsDone : Listing → State → ℕ → Type 0

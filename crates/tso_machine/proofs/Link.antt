@@ -1,12 +1,8 @@
 -- The lists that the code keeps, seen as the machine's functions.
-use Rattle.std.proofs.Common.{◌≡◌, ℕ, suc, ◌<◌, List, [], ◌∷◌, ◌++◌, Some, get_or, set, length, map, refl, sym, ap, ◌∙◌, subst, inl, inr, get_or-set_same, get_or-set_other, eq-eqb, ne_eqb, length-set}
-use Rattle.std.specs.Prelude.{slice_get, slice_index, slice_index_or, slice_set}
-use Rattle.std.specs.List.{range_with_len}
-use Rattle.std.proofs.lemmas.List.{get_or-map}
+use Rattle.tso_machine.proofs.Vocabulary.{◌≡◌, ℕ, suc, ◌<◌, List, [], ◌∷◌, ◌++◌, Some, get_or, set, length, map, refl, sym, ap, ◌∙◌, subst, inl, inr, get_or-set_same, get_or-set_other, eq-eqb, ne_eqb}
+use Rattle.tso_machine.proofs.Vocabulary.{length-set, slice_get, slice_index, slice_index_or, slice_set, range_with_len, get_or-map, slice_get_read, slice_get-get_or, fun_ext, cases_eq, Thread}
+use Rattle.tso_machine.proofs.Vocabulary.{Outcome, Pending, Listing, put, start, outcome_at, Core, Cores, no_core, core_at, state_of, first_core, first_cores, AreLocated, FitsProgram}
 use Rattle.std.proofs.lemmas.List.FromFn.{fill_by_all}
-use Rattle.std.proofs.lemmas.Option.{slice_get_read, slice_get-get_or}
-use Rattle.tso_machine.proofs.Vocabulary.{fun_ext, cases_eq, Thread, Outcome, Pending, Listing, put, start, outcome_at}
-use Rattle.tso_machine.specs.Internal.Cores.{Core, Cores, no_core, core_at, state_of, first_core, first_cores, AreLocated, FitsProgram}
 
 pub put_same : {A : Type 0} (f : ℕ → A) (n : ℕ) (x : A) → put f n x n ≡ x
 put_same f n x = rw (eq-eqb n n refl) refl

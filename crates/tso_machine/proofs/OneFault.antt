@@ -1,17 +1,13 @@
 -- Two faults that both fit a replay are the same.
-use Rattle.std.proofs.Common.{◌≡◌, ◌≢◌, ℕ, zero, suc, ◌+◌, ◌-◌, ◌<◌, ◌≤◌, take, length, get_or, Bool, true, false, ◌&&◌, List, [], ◌∷◌, Option, Some, None, option_and_then, refl, ap, sym, ◌∙◌, subst, inl, inr, arith}
-use Rattle.std.specs.Prelude.{slice_get, nat_lt, nat_le, if◌then◌else◌}
+use Rattle.tso_machine.proofs.Vocabulary.{◌≡◌, ◌≢◌, ℕ, zero, suc, ◌+◌, ◌-◌, ◌<◌, ◌≤◌, take, length, get_or, Bool, true, false, ◌&&◌, List, [], ◌∷◌, Option, Some, None, option_and_then, refl, ap, sym}
+use Rattle.tso_machine.proofs.Vocabulary.{◌∙◌, subst, inl, inr, arith, slice_get, nat_lt, nat_le, if◌then◌else◌, option_map_or, cases_lt, nat_tests, slice_get-get_or, SetOfGaps, Thread, Listing}
+use Rattle.tso_machine.proofs.Vocabulary.{Local, Stop, act, gaps_in, Label, Exec, Flush, Pending, Model, Cause, NoSuchThread, AtEnd, BufferEmpty, FenceWaits, Refused, ReplayFault, Machine, State}
+use Rattle.tso_machine.proofs.Vocabulary.{start, step, run, machine_of_model, code_of, action, gap_count, gap_number, waits, IsFenced, Applies, Stops, EndsEarly, ReplayFaultIs, fault_of}
 use Rattle.std.specs.FinSet as set
-use Rattle.tso_machine.proofs.Vocabulary.{option_map_or, cases_lt, nat_tests, slice_get-get_or, SetOfGaps, Thread, Listing, Local, Stop, act, gaps_in, Label, Exec, Flush, Pending, Model, Cause}
-use Rattle.tso_machine.proofs.Vocabulary.{NoSuchThread, AtEnd, BufferEmpty, FenceWaits, Refused, ReplayFault, Machine, State, start, step, run, machine_of_model}
-use Rattle.tso_program.specs.declared.instruction.Instr.{Instr}
-use Rattle.tso_program.specs.declared.instruction.Instr.TheVariants.{LoadImm, Fence}
-use Rattle.tso_program.specs.Listings.{code_of, action, gap_count, gap_number}
+use Rattle.tso_program.specs.declared.instruction.Instr.{Instr, TheVariants.LoadImm, TheVariants.Fence}
 use Rattle.tso_machine.specs.declared.label.Model.TheVariants as models
 use Rattle.tso_machine.specs.declared.replaying.ReplayFault.TheVariants as fault
-use Rattle.tso_machine.specs.Faults.{waits, IsFenced, Applies, Stops, EndsEarly, ReplayFaultIs, fault_of}
-use Rattle.tso_machine.proofs.Runs.{no_stores}
-use Rattle.tso_machine.proofs.Refused.{run_keeps, applies_none, stops_none}
+use Rattle.tso_machine.proofs.{Runs.no_stores, Refused.run_keeps, Refused.applies_none, Refused.stops_none}
 
 -- an instruction does something
 goes : (x : Instr) (s : Local) → act (Some x) s ≡ Stop → ⊥

@@ -1,16 +1,9 @@
 -- Labels and the words that spell them.
-use Rattle.std.proofs.Common.{sym, ◌∙◌, subst, ◌==◌, inl, inr, ◌⊎◌, take, drop, ◌≢◌, Option, Some, None, ◌+◌, ◌≡◌, ℕ, zero, suc, ◌<◌, Bool, true, false, List, [], ◌∷◌, ◌++◌, length, get_or, map, refl, ap, arith, cond}
-use Rattle.std.specs.Prelude.{filter, nat_lt, option_map}
-use Rattle.std.proofs.lemmas.List.{map_more, map_push}
-use Rattle.std.proofs.lemmas.List.Elements.{filter-append}
-use Rattle.std.proofs.lemmas.Bool.{lt-ltb, eqb-true, cases_Bool}
+use Rattle.tso_machine.proofs.Vocabulary.{sym, ◌∙◌, subst, ◌==◌, inl, inr, ◌⊎◌, take, drop, ◌≢◌, Option, Some, None, ◌+◌, ◌≡◌, ℕ, zero, suc, ◌<◌, Bool, true, false, List, [], ◌∷◌, ◌++◌, length}
+use Rattle.tso_machine.proofs.Vocabulary.{get_or, map, refl, ap, arith, cond, filter, nat_lt, option_map, map_more, map_push, filter-append, lt-ltb, eqb-true, cases_Bool, decimal_injective}
+use Rattle.tso_machine.proofs.Vocabulary.{AllByRecursion, Label, Exec, Flush, label_at, plain_number_takes, plain_number_again, spelling, IsLabel, words, IsFirstNoLabel}
 use Rattle.std.specs.Borrow.{Bor}
-use Rattle.std.proofs.lemmas.Fmt.{decimal_injective}
-use Rattle.tso_machine.proofs.Vocabulary.{AllByRecursion, Label, Exec, Flush}
-use Rattle.tso_machine.specs.RunTexts.{label_at}
 use Rattle.text_tokens.specs.Numbers.{plain_number_at}
-use Rattle.text_tokens.proofs.NumberLaws.{plain_number_takes, plain_number_again}
-use Rattle.tso_machine.specs.RunTexts.{spelling, IsLabel, words, IsFirstNoLabel}
 
 same_label : (l m : Label) → IsLabel l → IsLabel m → spelling l ≡ spelling m → l ≡ m
 same_label (Exec t) (Exec u) a b e = let same : t ≡ u = decimal_injective t u (omega (arith, a)) (omega (arith, b)) (cc) in cc

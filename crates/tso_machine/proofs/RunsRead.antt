@@ -1,15 +1,11 @@
 -- The text that is written has the labels' words.
-use Rattle.std.proofs.Common.{◌≡◌, ℕ, ◌<◌, ◌≤◌, ◌∙◌, ◌+◌, true, false, List, [], ◌∷◌, ◌++◌, length, get_or, map, take, refl, sym, ap, arith, All, append_assoc}
-use Rattle.std.specs.List.{AllByRecursion, join_with_byte}
+use Rattle.tso_machine.proofs.Vocabulary.{◌≡◌, ℕ, ◌<◌, ◌≤◌, ◌∙◌, ◌+◌, true, false, List, [], ◌∷◌, ◌++◌, length, get_or, map, take, refl, sym, ap, arith, All, append_assoc, AllByRecursion}
+use Rattle.tso_machine.proofs.Vocabulary.{join_with_byte, map_more, length-map, length-take, All-weaker, All-cons, digits_decimal, own, lt-ltb, nat_tests, Label, Exec, Flush, spelling, IsLabel, words}
+use Rattle.tso_machine.proofs.Vocabulary.{run_text, is_white_space}
 use Rattle.std.specs.Char.{is_ascii_digit}
-use Rattle.std.proofs.lemmas.List.{map_more, length-map, length-take}
 use Rattle.std.proofs.lemmas.List.Splits.{slice_split_none, slice_split_at}
 use Rattle.std.proofs.lemmas.List.Sums.{AllPass-from_list_all}
-use Rattle.std.proofs.lemmas.List.Elements.{All-weaker, All-cons}
-use Rattle.std.proofs.lemmas.Fmt.{digits_decimal}
-use Rattle.text_tokens.proofs.NumberLaws.{own}
 use Rattle.std.specs.Fmt.{decimal}
-use Rattle.tso_machine.proofs.Vocabulary.{lt-ltb, nat_tests, Label, Exec, Flush, spelling, IsLabel, words, run_text, is_white_space}
 use Rattle.tso_machine.proofs.RunLabels.{word_of}
 
 digit_not_white_space : (c : ℕ) → is_ascii_digit c ≡ true → is_white_space c ≡ false

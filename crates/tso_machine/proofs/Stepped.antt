@@ -1,10 +1,7 @@
 -- How the steps of a run go on by one.
-use Rattle.std.proofs.Common.{◌≡◌, ℕ, ◌+◌, ◌<◌, take, length, get_or, List, [], ◌∷◌, ◌++◌, Some, sym, subst}
+use Rattle.tso_machine.proofs.Vocabulary.{◌≡◌, ℕ, ◌+◌, ◌<◌, take, length, get_or, List, [], ◌∷◌, ◌++◌, Some, sym, subst, AreSteps, IsStepBetween, Option, option_and_then, take_more, Listing, Label}
+use Rattle.tso_machine.proofs.Vocabulary.{Machine, State, step, run}
 use Rattle.tso_machine.specs.declared.stepping.Step.{Step}
-use Rattle.tso_machine.specs.Steps.{AreSteps, IsStepBetween}
-use Rattle.std.specs.Prelude.{Option}
-use Rattle.std.specs.Option.{option_and_then}
-use Rattle.tso_machine.proofs.Vocabulary.{take_more, Listing, Label, Machine, State, step, run}
 
 module _ (p : Listing) (mode : Machine) where
   one_more : (labels : List Label) (steps : List Step) (s before last : State) (label : Label) (made : Step) → AreSteps p mode s labels steps → run p mode s labels ≡ Some before

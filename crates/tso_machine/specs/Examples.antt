@@ -1,13 +1,11 @@
 -- The definitions at programs of the literature: store buffering, R and n6 (Sewell et al., CACM 2010, section 2), and store buffering with a locked exchange.
 use Rattle.std.specs.Prelude.{◌≡◌, ℕ, true, false, List, [], ◌∷◌}
 use Rattle.tso_program.specs.declared.instruction.Reg.TheVariants.{Eax, Ebx}
-use Rattle.tso_program.specs.declared.instruction.Instr.{Instr}
-use Rattle.tso_program.specs.declared.instruction.Instr.TheVariants.{LoadImm, Load, StoreImm, Xchg}
+use Rattle.tso_program.specs.declared.instruction.Instr.{Instr, TheVariants.LoadImm, TheVariants.Load, TheVariants.StoreImm, TheVariants.Xchg}
 use Rattle.tso_program.specs.declared.listing.Thread.{Thread}
 use Rattle.tso_program.specs.declared.listing.Listing.{Listing}
 use Rattle.tso_program.specs.declared.outcome.Outcome.{Outcome}
-use Rattle.tso_machine.specs.declared.label.Label.{Label}
-use Rattle.tso_machine.specs.declared.label.Label.TheVariants.{Exec, Flush}
+use Rattle.tso_machine.specs.declared.label.Label.{Label, TheVariants.Exec, TheVariants.Flush}
 use Rattle.tso_machine.specs.Machine.{SequentialMachine, StoreBufferMachine, no_gaps, start, IsRun, passes}
 
 -- registers that hold 0 but for EAX and EBX

@@ -2,15 +2,13 @@
 use Rattle.std.specs.Prelude.{◌&&◌, ◌||◌, not, ◌≡◌, ℕ, Bool, true, false, List, [], ◌∷◌, ◌++◌, Option, Some, None, ◌==◌, if◌then◌else◌, slice_index, option_and_then, length, map}
 use Rattle.std.specs.List.{range_with_len}
 use Rattle.tso_program.specs.declared.action.Local.{Local}
-use Rattle.tso_program.specs.declared.action.Action.{Action}
-use Rattle.tso_program.specs.declared.action.Action.TheVariants.{Stop, Go, Wait, Read, Write, Swap}
+use Rattle.tso_program.specs.declared.action.Action.{Action, TheVariants.Stop, TheVariants.Go, TheVariants.Wait, TheVariants.Read, TheVariants.Write, TheVariants.Swap}
 use Rattle.tso_program.specs.declared.listing.Listing.{Listing}
 use Rattle.tso_program.specs.declared.outcome.Outcome.{Outcome}
 use Rattle.tso_program.specs.Actions.{loaded}
 use Rattle.tso_program.specs.Listings.{action, start_of}
 use Rattle.tso_program.specs.Fences.{Gaps}
-use Rattle.tso_machine.specs.declared.label.Label.{Label}
-use Rattle.tso_machine.specs.declared.label.Label.TheVariants.{Exec, Flush}
+use Rattle.tso_machine.specs.declared.label.Label.{Label, TheVariants.Exec, TheVariants.Flush}
 use Rattle.tso_machine.specs.declared.label.Pending.{Pending}
 
 -- sequential consistency, or store buffers with these gaps fenced

@@ -5,10 +5,8 @@ use Rattle.std.specs.List.{AllByRecursion, slice_split, join_with_byte}
 use Rattle.std.specs.Global.{Vec}
 use Rattle.text_tokens.specs.Bytes.{is_white_space}
 use Rattle.text_tokens.specs.Numbers.{plain_number_at}
-use Rattle.tso_machine.specs.declared.label.Label.{Label}
-use Rattle.tso_machine.specs.declared.label.Label.TheVariants.{Exec, Flush}
-use Rattle.tso_machine.specs.declared.run_text.RunFault.{RunFault}
-use Rattle.tso_machine.specs.declared.run_text.RunFault.TheVariants.{Token, OutOfMemory}
+use Rattle.tso_machine.specs.declared.label.Label.{Label, TheVariants.Exec, TheVariants.Flush}
+use Rattle.tso_machine.specs.declared.run_text.RunFault.{RunFault, TheVariants.Token, TheVariants.OutOfMemory}
 
 -- `e` or `f` and the thread's number, without leading zeros
 abbrev pub spelling : Label → List ℕ

@@ -1,8 +1,7 @@
 -- Gaps and their numbers.
-use Rattle.std.proofs.Common.{◌≡◌, ℕ, zero, suc, ◌+◌, ◌-◌, ◌<◌, ◌≤◌, Bool, true, false, ◌&&◌, List, [], ◌∷◌, length, take, Some, None, refl, sym, ap, ◌∙◌, arith, inl, inr}
-use Rattle.std.proofs.lemmas.Bool.{leb-true, ltb-true}
+use Rattle.tso_program.proofs.Vocabulary.{◌≡◌, ℕ, zero, suc, ◌+◌, ◌-◌, ◌<◌, ◌≤◌, Bool, true, false, ◌&&◌, List, [], ◌∷◌, length, take, Some, None, refl, sym, ap, ◌∙◌, arith, inl, inr, leb-true}
+use Rattle.tso_program.proofs.Vocabulary.{ltb-true, nat_lt, nat_le, if◌then◌else◌, nat_cmp, nat_cmp_total, cases_lt, nat_tests, Thread, sum_by-cons, code_of, gap_count, gap_number, gaps_of_thread}
 use Rattle.std.specs.FinSet as set
-use Rattle.tso_program.proofs.Vocabulary.{nat_lt, nat_le, if◌then◌else◌, nat_cmp, nat_cmp_total, cases_lt, nat_tests, Thread, sum_by-cons, code_of, gap_count, gap_number, gaps_of_thread}
 
 -- the gaps of a thread that may not be there
 abbrev gaps_at : List Thread → ℕ → ℕ

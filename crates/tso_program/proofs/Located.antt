@@ -1,8 +1,6 @@
 -- The location that an action names is one of the program's.
-use Rattle.std.proofs.Common.{◌≡◌, ℕ, List, length, Some, refl}
-use Rattle.tso_program.proofs.Vocabulary.{Instr, Load, StoreImm, Store, Xchg, Thread, instr_at, IsWithinLimits}
+use Rattle.tso_program.proofs.Vocabulary.{◌≡◌, ℕ, List, length, Some, refl, Instr, Load, StoreImm, Store, Xchg, Thread, instr_at, IsWithinLimits, act, IsLocated}
 use Rattle.tso_program.specs.declared.action.Local.{Local}
-use Rattle.tso_program.specs.Actions.{act, IsLocated}
 
 pub act_located : (threads : List Thread) (memory : List ℕ) (t k : ℕ) (x : Instr) (s : Local) → IsWithinLimits threads memory → instr_at threads t k ≡ Some x → IsLocated (length memory) (act (Some x) s)
 act_located threads memory t k (Load r l) s w e = w.shared.located t k l (Load r l) e refl

@@ -1,11 +1,8 @@
 -- The places of named registers and locations.
-use Rattle.std.proofs.Common.{◌≡◌, ◌⊎◌, ◌||◌, ℕ, ◌-◌, ◌/◌, ◌%◌, ◌<◌, Bool, true, false, refl, sym, ◌∙◌, inl, inr, arith}
-use Rattle.std.specs.Ordering.{nat_cmp, eq_by_cmp}
+use Rattle.tso_program.proofs.Vocabulary.{◌≡◌, ◌⊎◌, ◌||◌, ℕ, ◌-◌, ◌/◌, ◌%◌, ◌<◌, Bool, true, false, refl, sym, ◌∙◌, inl, inr, arith, nat_cmp, eq_by_cmp, nat_cmp_total, cases_lt, nat_tests, ArePlaces}
+use Rattle.tso_program.proofs.Vocabulary.{REGISTERS, RegisterPlacesAreDistinct, LocationPlacesAreDistinct, RegistersLieApartFromLocations, IsRegisterPlace, EachPlaceIsNamed, REGISTER_PLACES, PLACES}
 use Rattle.std.specs.FinSet as set
 use Rattle.std.proofs.Math.Nat.{div-add-mod, mod-lt}
-use Rattle.tso_program.proofs.Vocabulary.{nat_cmp_total, cases_lt, nat_tests, ArePlaces, REGISTERS}
-use Rattle.tso_program.specs.Laws.{RegisterPlacesAreDistinct, LocationPlacesAreDistinct, RegistersLieApartFromLocations, IsRegisterPlace, EachPlaceIsNamed}
-use Rattle.tso_program.specs.declared.shown.TheConstants.{REGISTER_PLACES, PLACES}
 
 pub none_placed : ArePlaces set.empty
 none_placed place h = let no : true ≡ false = sym h ∙ set.contains-empty nat_cmp place in absurd cc

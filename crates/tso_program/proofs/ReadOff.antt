@@ -1,13 +1,9 @@
 -- A formula's truth is read off what shows all that the formula speaks of.
-use Rattle.std.proofs.Common.{◌≡◌, ℕ, ◌<◌, Bool, true, false, not, List, [], Option, Some, get_or, length, inl, inr, refl, sym, ap, ◌∙◌, arith}
-use Rattle.std.specs.Prelude.{◌&&◌, ◌||◌, slice_get, option_and_then}
-use Rattle.std.proofs.lemmas.Option.{slice_get-get_or, slice_get_past}
-use Rattle.tso_program.proofs.Vocabulary.{cases_lt, Reg, Outcome, Shown, Atom, Tree, number}
+use Rattle.tso_program.proofs.Vocabulary.{◌≡◌, ℕ, ◌<◌, Bool, true, false, not, List, [], Option, Some, get_or, length, inl, inr, refl, sym, ap, ◌∙◌, arith, ◌&&◌, ◌||◌, slice_get, option_and_then}
+use Rattle.tso_program.proofs.Vocabulary.{slice_get-get_or, slice_get_past, cases_lt, Reg, Outcome, Shown, Atom, Tree, number, truth, is_true_at, is_value, final_register, location_at, shows_register}
+use Rattle.tso_program.proofs.Vocabulary.{shows_location, value_if, shown_registers, show_registers, show_memory, shown_values, told, ShowsAtom, ShowsAtoms, ATruthIsReadOffItsAtoms, TruthsAreTold}
 use Rattle.tso_program.specs.declared.atom.Atom.TheVariants as atom
 use Rattle.tso_program.specs.Tree as tree
-use Rattle.tso_program.specs.Truth.{truth, is_true_at, is_value, final_register, location_at}
-use Rattle.tso_program.specs.Shown.{shows_register, shows_location, value_if, shown_registers, show_registers, show_memory, shown_values, told}
-use Rattle.tso_program.specs.Laws.{ShowsAtom, ShowsAtoms, ATruthIsReadOffItsAtoms, TruthsAreTold}
 use Rattle.tso_program.proofs.Kept.{by_values, registers_long, register_at, memory_long, value_at, threads_long, thread_at}
 
 -- a number of a list, where the other list is as long and has it too

@@ -1,6 +1,5 @@
 -- The numbers of registers.
-use Rattle.std.proofs.Common.{◌≡◌, ◌==◌, ℕ, ◌<◌, refl, sym, ap, ◌∙◌, arith}
-use Rattle.tso_program.proofs.Vocabulary.{if◌then◌else◌, Reg, Eax, Ebx, Ecx, Edx, Esi, Edi, number, REGISTERS}
+use Rattle.tso_program.proofs.Vocabulary.{◌≡◌, ◌==◌, ℕ, ◌<◌, refl, sym, ap, ◌∙◌, arith, if◌then◌else◌, Reg, Eax, Ebx, Ecx, Edx, Esi, Edi, number, REGISTERS}
 
 pub small_number : (r : Reg) → number r < REGISTERS
 small_number Eax = omega arith

@@ -1,10 +1,6 @@
 -- What the equality of threads decides.
-use Rattle.std.proofs.Common.{◌≡◌, ◌==◌, ◌&&◌, Bool, true, false, true≢false, ap, refl, sym, subst, Decides, rules}
-use Rattle.std.proofs.lemmas.Bool.{and_parts, and_from}
-use Rattle.std.proofs.lemmas.Bool.Decides.{Decides-like, Decides-and, Decides-eqb}
-use Rattle.std.specs.Cmp.Lexicographic.{pointwise}
-use Rattle.std.specs.Prelude.{nat_eq}
-use Rattle.tso_program.proofs.Vocabulary.{slice_eq-Decides, Reg, Eax, Instr, LoadImm, Copy, Load, StoreImm, Store, Xchg, Fence, CmpImm, CmpReg, Je, Jne, Jmp, Thread}
+use Rattle.tso_program.proofs.Vocabulary.{◌≡◌, ◌==◌, ◌&&◌, Bool, true, false, true≢false, ap, refl, sym, subst, Decides, rules, and_parts, and_from, Decides-like, Decides-and, Decides-eqb, pointwise}
+use Rattle.tso_program.proofs.Vocabulary.{nat_eq, slice_eq-Decides, Reg, Eax, Instr, LoadImm, Copy, Load, StoreImm, Store, Xchg, Fence, CmpImm, CmpReg, Je, Jne, Jmp, Thread}
 use Rattle.tso_program.specs.contracts.instruction.RegPartialEq.TheImpl as reg
 use Rattle.tso_program.specs.contracts.instruction.InstrPartialEq.TheImpl as instr
 use Rattle.tso_program.specs.contracts.listing.ThreadPartialEq.TheImpl as thread

@@ -1,20 +1,15 @@
 -- The runs that are found, with no gap fenced.
-use Rattle.std.proofs.Common.{◌≡◌, ℕ, true, false, List, sym, subst, refl, ◌∙◌}
+use Rattle.witness_text.proofs.Vocabulary.{◌≡◌, ℕ, true, false, List, sym, subst, refl, ◌∙◌, SetOfGaps, Listing, Outcome, All, truth, Label, one_outcome, IsWitness, TellsRun, StoreBufferMachine}
+use Rattle.witness_text.proofs.Vocabulary.{IsRun, machine_of_model, ArePassed, machine_of, unfenced_machine, IsShownRunText, TellsWitness}
 use Rattle.std.specs.FinSet as set
-use Rattle.witness_text.proofs.Vocabulary.{SetOfGaps, Listing, Outcome, All, truth, Label, one_outcome, IsWitness, TellsRun}
 use Rattle.tso_program.specs.Fences.{Gaps}
-use Rattle.tso_machine.specs.declared.label.Model.{Model}
+use Rattle.tso_machine.specs.{declared.label.Model.Model, declared.replaying.Ended.Ended}
 use Rattle.tso_machine.specs.declared.label.Model.TheVariants as models
-use Rattle.tso_machine.specs.declared.replaying.Ended.{Ended}
-use Rattle.tso_machine.specs.Machine.{StoreBufferMachine, IsRun}
-use Rattle.tso_machine.specs.Modes.{machine_of_model, ArePassed}
 use Rattle.tso_machine.proofs.Unfenced.{empty_fences_nothing}
 use Rattle.cover_solver.proofs.GapsAvoided.{fenced_runs_avoid}
 use Rattle.litmus_text.specs.Litmus.{Litmus}
-use Rattle.documents.specs.declared.run.Setting.TheVariants.{Machine as OfMachine}
-use Rattle.documents.specs.declared.witness.Sought.{Sought}
+use Rattle.documents.specs.{declared.run.Setting.TheVariants.Machine as OfMachine, declared.witness.Sought.Sought}
 use Rattle.witness_text.specs.Internal.Replays.{IsReplayed}
-use Rattle.witness_text.specs.WitnessTexts.{machine_of, unfenced_machine, IsShownRunText, TellsWitness}
 
 -- a run with gaps fenced is one with none fenced
 unfenced_run : (p : Listing) (model : Model) (gaps : SetOfGaps) (labels : List Label) (o : Outcome) → IsRun p (machine_of_model p gaps model) labels o → IsRun p (machine_of_model p set.empty model) labels o

@@ -1,14 +1,12 @@
 -- The gaps at places, one place after the other.
-use Rattle.std.proofs.Common.{◌≡◌, ◌∙◌, ◌⊎◌, ◌||◌, ℕ, Bool, true, false, List, [], ◌∷◌, ◌++◌, Option, Some, None, Contains, ap, arith, inl, inr, refl, sym, subst}
+use Rattle.witness_text.proofs.Vocabulary.{◌≡◌, ◌∙◌, ◌⊎◌, ◌||◌, ℕ, Bool, true, false, List, [], ◌∷◌, ◌++◌, Option, Some, Contains, ap, arith, inl, inr, refl, sym, subst, nat_cmp_total, SetOfGaps}
+use Rattle.witness_text.proofs.Vocabulary.{GapPlace, gap_at_place, AreGapsAt, IsAtOneOf, IsGap}
 use Rattle.std.specs.Prelude.{IsSome}
-use Rattle.std.specs.Cmp.{nat_cmp_total}
 use Rattle.std.specs.Ordering.{nat_cmp, eq_by_cmp}
 use Rattle.std.specs.FinSet as set
 use Rattle.std.proofs.lemmas.Bool.Decides.{nat_tests}
 use Rattle.std.proofs.lemmas.List.Elements.{All-nil, All-push, Contains-append_left, Contains-push, Contains-push_cases}
-use Rattle.gap_sets.specs.Gaps.{SetOfGaps}
 use Rattle.tso_program.specs.declared.listing.Thread.{Thread}
-use Rattle.witness_text.specs.FencedGaps.{GapPlace, gap_at_place, AreGapsAt, IsAtOneOf, IsGap}
 
 -- no place
 none_there : (place : GapPlace) → Contains [] place → ⊥

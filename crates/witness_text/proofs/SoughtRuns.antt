@@ -1,14 +1,8 @@
 -- Whether labels are a run that is sought, by their replay.
-use Rattle.std.proofs.Common.{◌≡◌, ◌↔◌, Bool, true, false, List, IsTrue, ◌∙◌, ap, sym}
+use Rattle.witness_text.proofs.Vocabulary.{◌≡◌, ◌↔◌, Bool, false, List, IsTrue, ◌∙◌, ap, sym, booleans_Decides, Listing, Outcome, truth, Label, Machine, IsRun, IsWitness, no_fault, one_outcome}
 use Rattle.std.proofs.Math.Bool.{beq}
-use Rattle.std.specs.Cmp.{booleans_Decides}
-use Rattle.witness_text.proofs.Vocabulary.{Listing, Outcome, truth, Label, Machine, IsRun, IsWitness}
-use Rattle.tso_program.specs.declared.atom.Atom.{Atom}
-use Rattle.tso_program.specs.Tree.{Tree}
-use Rattle.tso_machine.specs.declared.replaying.ReplayFault.{ReplayFault}
-use Rattle.tso_machine.specs.declared.replaying.ReplayFault.TheVariants.{OutOfMemory}
-use Rattle.tso_machine.specs.Faults.{ReplayFaultIs}
-use Rattle.tso_machine.proofs.Refused.{no_fault, one_outcome}
+use Rattle.tso_program.specs.{declared.atom.Atom.Atom, Tree.Tree}
+use Rattle.tso_machine.specs.{declared.replaying.ReplayFault.ReplayFault, declared.replaying.ReplayFault.TheVariants.OutOfMemory, Faults.ReplayFaultIs}
 
 module _ (p : Listing) (machine : Machine) (f : Tree Atom) (b : Bool) (labels : List Label) where
   -- labels that are a run are a witness where the formula has the truth at its outcome

@@ -1,7 +1,6 @@
 -- What an access writes.
 use Rattle.candidate_executions.proofs.Vocabulary.{◌≡◌, ℕ, List, [], ◌∷◌, ◌⊎◌, Option, Some, None, IsSome, option_map, slice_get, map, refl, sym, ◌∙◌, inl, inr, slice_get-map, Pending, Access, Event}
-use Rattle.candidate_executions.proofs.Orders.AcyclicIsOrdered.{In}
-use Rattle.candidate_executions.proofs.Candidates.EdgesAreDecidable.{same_event}
+use Rattle.candidate_executions.proofs.{Orders.AcyclicIsOrdered.In, Candidates.EdgesAreDecidable.same_event}
 
 abbrev pub stored_as : Option ℕ → ℕ
 stored_as None = 0

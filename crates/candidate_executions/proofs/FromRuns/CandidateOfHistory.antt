@@ -1,7 +1,6 @@
 -- The candidate that a history tells of.
 use Rattle.candidate_executions.proofs.Vocabulary.{◌≡◌, ℕ, suc, List, Option, Some, None, slice_get, option_map, refl, Access, Event, Initial, At, Candidate}
-use Rattle.candidate_executions.proofs.FromRuns.Histories.{Entry, History}
-use Rattle.candidate_executions.proofs.Orders.ForwardIsAcyclic.{Pair}
+use Rattle.candidate_executions.proofs.{FromRuns.Histories.Entry, FromRuns.Histories.History, Orders.ForwardIsAcyclic.Pair}
 
 -- what a history says of an event
 abbrev pub moment_of_entry : Option Entry → ℕ

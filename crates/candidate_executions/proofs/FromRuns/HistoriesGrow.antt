@@ -1,5 +1,6 @@
 -- A good history stays good with one more entry that fits.
-use Rattle.candidate_executions.proofs.Vocabulary.{◌≡◌, ◌≢◌, ℕ, ◌<◌, ◌≤◌, [], ◌∷◌, ◌++◌, ◌⊎◌, Some, IsSome, slice_get, sym, ◌∙◌, subst, inl, inr, arith, length, slice_get_within, put, KeepsOrder, refl}
+use Rattle.candidate_executions.proofs.Vocabulary.{◌≡◌, ◌≢◌, ℕ, ◌<◌, ◌≤◌, [], ◌∷◌, ◌++◌, ◌⊎◌, Some, IsSome, slice_get, sym, ◌∙◌, subst, inl, inr, arith, length, slice_get_within, put, KeepsOrder}
+use Rattle.candidate_executions.proofs.Vocabulary.{refl}
 use Rattle.candidate_executions.proofs.FromRuns.Histories.{Entry, History, Holds, Visible, Source, First, Good}
 use Rattle.candidate_executions.proofs.Orders.Lists.{put_same, get_end, get_front, get_cases, put_each}
 

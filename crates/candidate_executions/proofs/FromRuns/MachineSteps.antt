@@ -1,9 +1,8 @@
 -- The steps of the store buffer machine, by cases.
-use Rattle.candidate_executions.proofs.Vocabulary.{◌≡◌, ℕ, suc, ◌<◌, ◌≤◌, Bool, true, false, List, [], ◌∷◌, ◌++◌, ◌==◌, Some, option_and_then, refl, sym, ap, ◌∙◌, arith, length, length-append, eq-eqb, ne_eqb, if◌then◌else◌}
-use Rattle.candidate_executions.proofs.Vocabulary.{Listing, action, Gaps, put, StoreBufferMachine, State, past_gap, buffered, step, run, Label, Exec, Flush}
-use Rattle.candidate_executions.proofs.Vocabulary.{Pending, exec_by, flush_by}
-use Rattle.candidate_executions.proofs.Orders.Lists.{put_same, put_each}
-use Rattle.candidate_executions.proofs.FromRuns.FlushesDue.{due}
+use Rattle.candidate_executions.proofs.Vocabulary.{◌≡◌, ℕ, suc, ◌<◌, ◌≤◌, Bool, true, false, List, [], ◌∷◌, ◌++◌, ◌==◌, Some, option_and_then, refl, sym, ap, ◌∙◌, arith, length, length-append, eq-eqb}
+use Rattle.candidate_executions.proofs.Vocabulary.{ne_eqb, if◌then◌else◌, Listing, action, Gaps, put, StoreBufferMachine, State, past_gap, buffered, step, run, Label, Exec, Flush, Pending, exec_by}
+use Rattle.candidate_executions.proofs.Vocabulary.{flush_by}
+use Rattle.candidate_executions.proofs.{Orders.Lists.put_same, Orders.Lists.put_each, FromRuns.FlushesDue.due}
 
 -- an instruction is executed where a fenced gap before it lets it
 pub exec_ok : (p : Listing) (gaps : Gaps) (s s' : State) (t : ℕ) → (gaps t (s.locals t).place ≡ true → s.buffers t ≡ []) → buffered s t (action p.threads t (s.locals t)) ≡ Some s' →

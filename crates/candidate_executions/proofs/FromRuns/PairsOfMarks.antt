@@ -1,6 +1,5 @@
 -- Relations that hold of each mark and each later one.
-use Rattle.candidate_executions.proofs.Vocabulary.{suc, zero, List, [], ◌∷◌, ◌++◌, Contains, get_or, refl, inl, inr, arith, AllPairs, Mark}
-use Rattle.std.proofs.lemmas.List.Elements.{Contains-get_or, Contains-append_cases}
+use Rattle.candidate_executions.proofs.Vocabulary.{suc, zero, List, [], ◌∷◌, ◌++◌, Contains, get_or, refl, inl, inr, arith, AllPairs, Mark, Contains-get_or, Contains-append_cases}
 
 -- the relation holds of each mark and each later one
 abbrev pub PairsOf : (Mark → Mark → Type 0) → List Mark → Type 0

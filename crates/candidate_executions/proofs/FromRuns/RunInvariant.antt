@@ -1,9 +1,8 @@
 -- What joins the machine's buffers and memory to the history, along a run.
-use Rattle.candidate_executions.proofs.Vocabulary.{◌≡◌, ℕ, suc, ◌<◌, ◌≤◌, List, [], ◌∷◌, ◌++◌, ◌⊎◌, Some, IsSome, slice_get, subst, inl, inr, arith, length, length-append, cases_lt, put, Label, Exec, Pending, Event, Initial, At}
-use Rattle.candidate_executions.proofs.Vocabulary.{Origins}
+use Rattle.candidate_executions.proofs.Vocabulary.{◌≡◌, ℕ, suc, ◌<◌, ◌≤◌, List, [], ◌∷◌, ◌++◌, ◌⊎◌, Some, IsSome, slice_get, subst, inl, inr, arith, length, length-append, cases_lt, put, Label, Exec}
+use Rattle.candidate_executions.proofs.Vocabulary.{Pending, Event, Initial, At, Origins}
 use Rattle.candidate_executions.proofs.FromRuns.Histories.{Entry, History, Holds, Visible, Good}
-use Rattle.candidate_executions.proofs.Orders.Lists.{put_each, put_both}
-use Rattle.candidate_executions.proofs.FromRuns.HistoriesGrow.{with_entry, held_old, each_held}
+use Rattle.candidate_executions.proofs.{Orders.Lists.put_each, Orders.Lists.put_both, FromRuns.HistoriesGrow.with_entry, FromRuns.HistoriesGrow.held_old, FromRuns.HistoriesGrow.each_held}
 use Rattle.candidate_executions.proofs.FromRuns.FlushesDue.{due, due_late}
 
 -- an entry that writes v to the location, with this moment

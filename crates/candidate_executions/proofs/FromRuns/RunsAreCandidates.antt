@@ -1,9 +1,10 @@
 -- Each run is a consistent candidate.
-use Rattle.candidate_executions.proofs.Vocabulary.{◌≡◌, ◌≢◌, ℕ, ◌<◌, ◌≤◌, true, List, [], ◌∷◌, Some, None, IsSome, Contains, slice_get, slice_index, option_map, map, refl, sym, ap, ap₂, ◌∙◌, subst, inl, inr, arith, length, lit<, fun_ext}
-use Rattle.candidate_executions.proofs.Vocabulary.{length-map-range_with_len, get_or-map-range_with_len, range_with_len, AllPairs, same_Some, slice_get-map, Listing, Stop, action, start_of, code_of, Gaps, Outcome, JumpForward, Label, Access, Event, Initial}
-use Rattle.candidate_executions.proofs.Vocabulary.{At, Candidate, trace_of, access, Writes, IsCandidate, EndsWith, HasOutcome, Trace, IsConsistent, IsValueOf, first_origins, Mark, Takes, Arrives, marks_of, ReadsValue, IsStored, ArriveInOrder, IsCandidateOf}
-use Rattle.tso_machine.specs.Machine.{Machine, SequentialMachine, StoreBufferMachine, State, run, start, outcome_at, HasEnded, IsRun}
-use Rattle.candidate_executions.specs.Laws.{EveryRunIsACandidate, EveryRunIsACompletion, HasItsCandidate}
+use Rattle.candidate_executions.proofs.Vocabulary.{◌≡◌, ◌≢◌, ℕ, ◌<◌, ◌≤◌, true, List, [], ◌∷◌, Some, None, IsSome, Contains, slice_get, slice_index, option_map, map, refl, sym, ap, ap₂, ◌∙◌, subst}
+use Rattle.candidate_executions.proofs.Vocabulary.{inl, inr, arith, length, lit<, fun_ext, length-map-range_with_len, get_or-map-range_with_len, range_with_len, AllPairs, same_Some, slice_get-map}
+use Rattle.candidate_executions.proofs.Vocabulary.{Listing, Stop, action, start_of, code_of, Gaps, Outcome, JumpForward, Label, Access, Event, Initial, At, Candidate, trace_of, access, Writes}
+use Rattle.candidate_executions.proofs.Vocabulary.{IsCandidate, EndsWith, HasOutcome, Trace, IsConsistent, IsValueOf, first_origins, Mark, Takes, Arrives, marks_of, ReadsValue, IsStored}
+use Rattle.candidate_executions.proofs.Vocabulary.{ArriveInOrder, IsCandidateOf, Machine, SequentialMachine, StoreBufferMachine, State, run, start, outcome_at, HasEnded, IsRun, EveryRunIsACandidate}
+use Rattle.candidate_executions.proofs.Vocabulary.{EveryRunIsACompletion, HasItsCandidate}
 use Rattle.candidate_executions.proofs.Sketches.KnownEdges.{completes_empty}
 use Rattle.candidate_executions.proofs.FromRuns.Histories.{Entry, History, Holds, Good, Source}
 use Rattle.candidate_executions.proofs.FromRuns.CandidateOfHistory.{candidate_with, Shows, source_of_entry, moment_of_entry, moment_of}
@@ -12,9 +13,7 @@ use Rattle.candidate_executions.proofs.FromRuns.PairsOfMarks.{PairsOf, pairs_all
 use Rattle.candidate_executions.proofs.FromRuns.MarksOfHistories.{NewRead, NewWrite, Waits, Sooner}
 use Rattle.candidate_executions.proofs.FromRuns.RunInvariant.{Inv}
 use Rattle.candidate_executions.proofs.FromRuns.RunsLeaveHistories.{values, accesses, Ending, Rest, played}
-use Rattle.candidate_executions.proofs.FromRuns.StoredValues.{valued_start}
-use Rattle.candidate_executions.proofs.FromRuns.StepsSuffice.{advance, fuel}
-use Rattle.candidate_executions.proofs.FromRuns.SequentialIsBuffered.{embed}
+use Rattle.candidate_executions.proofs.{FromRuns.StoredValues.valued_start, FromRuns.StepsSuffice.advance, FromRuns.StepsSuffice.fuel, FromRuns.SequentialIsBuffered.embed}
 use Rattle.candidate_executions.proofs.FromRuns.OtherSections.{reads_too, stored_too, in_order_too, candidate_too, outcome_too, acyclic_too}
 use Rattle.candidate_executions.proofs.Sections.SectionsRise.{rising}
 

@@ -1,10 +1,9 @@
 -- Jumps lead forward, so a run has at most two labels for each instruction: one that executes it, and a flush.
-use Rattle.std.proofs.Common.{◌≡◌, ℕ, suc, zero, ◌+◌, ◌*◌, ◌-◌, ◌<◌, ◌≤◌, Bool, true, List, [], ◌∷◌, ◌++◌, Option, Some, None, option_and_then, refl, sym, ap, ◌∙◌, subst, inl, inr, arith, length}
-use Rattle.candidate_executions.proofs.Vocabulary.{cases_eq, cases_lt, same_Some, Listing, Local, Action, Stop, Go, Wait, Read, Write, Swap, loaded, action, code_of, JumpForward, Machine, SequentialMachine, StoreBufferMachine, State, put, when_empty, past_gap}
-use Rattle.candidate_executions.proofs.Vocabulary.{buffered, flushed, direct, step, run, start, Label, Exec, Flush, Pending}
-use Rattle.candidate_executions.specs.Laws.{EveryRunIsShort}
-use Rattle.candidate_executions.proofs.Orders.Lists.{put_same, put_other}
-use Rattle.candidate_executions.proofs.FromRuns.StepsSuffice.{Further, Advances, advance}
+use Rattle.candidate_executions.proofs.Vocabulary.{◌≡◌, ℕ, suc, zero, ◌+◌, ◌*◌, ◌-◌, ◌<◌, ◌≤◌, Bool, true, List, [], ◌∷◌, ◌++◌, Option, Some, None, option_and_then, refl, sym, ap, ◌∙◌, subst, inl}
+use Rattle.candidate_executions.proofs.Vocabulary.{inr, arith, length, cases_eq, cases_lt, same_Some, Listing, Local, Action, Stop, Go, Wait, Read, Write, Swap, loaded, action, code_of, JumpForward}
+use Rattle.candidate_executions.proofs.Vocabulary.{Machine, SequentialMachine, StoreBufferMachine, State, put, when_empty, past_gap, buffered, flushed, direct, step, run, start, Label, Exec, Flush}
+use Rattle.candidate_executions.proofs.Vocabulary.{Pending, EveryRunIsShort}
+use Rattle.candidate_executions.proofs.{Orders.Lists.put_same, Orders.Lists.put_other, FromRuns.StepsSuffice.Further, FromRuns.StepsSuffice.Advances, FromRuns.StepsSuffice.advance}
 use Rattle.candidate_executions.proofs.Candidates.AllEvents.{no_code}
 
 -- the sum of what each of the first n threads has

@@ -1,10 +1,8 @@
 -- A cycle of known edges, of a union of the mode, leaves a sketch no consistent completion.
-use Rattle.candidate_executions.proofs.Vocabulary.{List, [], ◌∷◌, Listing, Machine, SequentialMachine, StoreBufferMachine, Event, Kind, Candidate}
+use Rattle.candidate_executions.proofs.Vocabulary.{List, [], ◌∷◌, Listing, Machine, SequentialMachine, StoreBufferMachine, Event, Kind, Candidate, IsOfMode, Edge, Leads, IsCycle, IsAcyclic}
+use Rattle.candidate_executions.proofs.Vocabulary.{IsConsistent, Sketch, IsConsistentCompletion, IsSketch, KnownEdge, KnownEdgeOfMode, IsKnownCycle}
 use Rattle.candidate_executions.specs.declared.event.Kind.TheVariants as union
-use Rattle.candidate_executions.specs.Consistency.{IsOfMode, Edge, Leads, IsCycle, IsAcyclic, IsConsistent}
-use Rattle.candidate_executions.specs.Sketches.{Sketch, IsConsistentCompletion, IsSketch, KnownEdge, KnownEdgeOfMode, IsKnownCycle}
-use Rattle.candidate_executions.proofs.Orders.WiderRelations.{cycle_wider}
-use Rattle.candidate_executions.proofs.Sketches.KnownEdges.{known_cycle}
+use Rattle.candidate_executions.proofs.{Orders.WiderRelations.cycle_wider, Sketches.KnownEdges.known_cycle}
 
 first_edge : (R : Event → Event → Type 0) (es : List Event) (d z : Event) → Leads R d es z → (e : Event) × R d e
 first_edge R [] d z h = (z, h)

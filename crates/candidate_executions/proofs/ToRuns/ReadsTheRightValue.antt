@@ -1,11 +1,10 @@
 -- A read finds its source's value in memory or in its thread's buffer.
-use Rattle.candidate_executions.proofs.Vocabulary.{◌≡◌, ◌≢◌, ℕ, ◌<◌, ◌≤◌, List, [], ◌∷◌, ◌⊎◌, Option, Some, None, option_map, slice_get, map, refl, sym, ap, ap₂, ◌∙◌, subst, inl, inr, arith, cases_eq, cases_order, same_Some, slice_get-map, Listing, Local}
-use Rattle.candidate_executions.proofs.Vocabulary.{length, Gaps, StoreBufferMachine, newest, found, Pending, Access, Event, Initial, At, Candidate, IsCandidate, SameThread, KeepsOrder, Edge, IsAcyclic, found_write}
+use Rattle.candidate_executions.proofs.Vocabulary.{◌≡◌, ◌≢◌, ℕ, ◌<◌, ◌≤◌, List, [], ◌∷◌, ◌⊎◌, Option, Some, None, option_map, slice_get, map, refl, sym, ap, ap₂, ◌∙◌, subst, inl, inr, arith, cases_eq}
+use Rattle.candidate_executions.proofs.Vocabulary.{cases_order, same_Some, slice_get-map, Listing, Local, length, Gaps, StoreBufferMachine, newest, found, Pending, Access, Event, Initial, At}
+use Rattle.candidate_executions.proofs.Vocabulary.{Candidate, IsCandidate, SameThread, KeepsOrder, Edge, IsAcyclic, found_write, length-map}
 use Rattle.candidate_executions.specs.declared.event.Kind.TheVariants as union
 use Rattle.candidate_executions.proofs.FromRuns.FoundWrites.{AreTagged, none_found, newest_found}
-use Rattle.std.proofs.lemmas.List.{length-map}
-use Rattle.candidate_executions.proofs.FromRuns.NewestStore.{Found, newest_none, newest_some}
-use Rattle.candidate_executions.proofs.Orders.AcyclicIsOrdered.{In}
+use Rattle.candidate_executions.proofs.{FromRuns.NewestStore.Found, FromRuns.NewestStore.newest_none, FromRuns.NewestStore.newest_some, Orders.AcyclicIsOrdered.In}
 use Rattle.candidate_executions.proofs.Candidates.WrittenValues.{stored_as, store_of, in_or_not, get_mapped, some_written}
 use Rattle.candidate_executions.proofs.ToRuns.Standing.{at, G, Lo, W, place_edge, write_g, same_value, two_lo, store, own, Stands, Has, Shared}
 

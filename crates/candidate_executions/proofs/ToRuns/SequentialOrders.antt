@@ -1,16 +1,13 @@
 -- A consistent candidate of sequential consistency has a run along each order that the union Sequential allows: the states of the run
 -- are those of a store buffer machine with no gap fenced, each store flushed at once.
-use Rattle.candidate_executions.proofs.Vocabulary.{◌≡◌, ℕ, suc, zero, ◌+◌, ◌-◌, ◌<◌, ◌≤◌, List, [], ◌∷◌, ◌++◌, Some, None, slice_get, map, refl, sym, ap, ◌∙◌, subst, inl, inr, arith, cases_lt, cases_eq, Listing, loaded, Local, Action, Go, Wait}
-use Rattle.candidate_executions.proofs.Vocabulary.{Read, Write, Swap, action, Outcome, put, SequentialMachine, StoreBufferMachine, no_gaps, State, newest, found, step, start, Label, Exec, Access, Event, Initial, At, Candidate, access, IsCandidate, HasOutcome}
-use Rattle.candidate_executions.proofs.Vocabulary.{Trace, trace, traced, Edge, IsAcyclic, steps, steps_by, counted, execs, labels_along, Origins, first_origins, Takes, Arrives, found_write, with_made, with_memory, direct_origins}
-use Rattle.candidate_executions.proofs.Vocabulary.{direct_marks, origins_after, marks_at}
+use Rattle.candidate_executions.proofs.Vocabulary.{◌≡◌, ℕ, suc, zero, ◌+◌, ◌-◌, ◌<◌, ◌≤◌, List, [], ◌∷◌, ◌++◌, Some, None, slice_get, map, refl, sym, ap, ◌∙◌, subst, inl, inr, arith, cases_lt}
+use Rattle.candidate_executions.proofs.Vocabulary.{cases_eq, Listing, loaded, Local, Action, Go, Wait, Read, Write, Swap, action, Outcome, put, SequentialMachine, StoreBufferMachine, no_gaps, State}
+use Rattle.candidate_executions.proofs.Vocabulary.{newest, found, step, start, Label, Exec, Access, Event, Initial, At, Candidate, access, IsCandidate, HasOutcome, Trace, trace, traced, Edge}
+use Rattle.candidate_executions.proofs.Vocabulary.{IsAcyclic, steps, steps_by, counted, execs, labels_along, Origins, first_origins, Takes, Arrives, found_write, with_made, with_memory}
+use Rattle.candidate_executions.proofs.Vocabulary.{direct_origins, direct_marks, origins_after, marks_at, with_access}
 use Rattle.candidate_executions.specs.declared.event.Kind.TheVariants as union
-use Rattle.candidate_executions.specs.Traces.{with_access}
-use Rattle.candidate_executions.proofs.Orders.Lists.{put_same, put_other}
-use Rattle.candidate_executions.proofs.Orders.Dropped.{drop_none}
-use Rattle.candidate_executions.proofs.Orders.AcyclicIsOrdered.{In, Ordered}
-use Rattle.candidate_executions.proofs.Orders.WiderRelations.{acyclic_narrower, ordered_narrower}
-use Rattle.candidate_executions.proofs.ToRuns.Linear.{IsLinear}
+use Rattle.candidate_executions.proofs.{Orders.Lists.put_same, Orders.Lists.put_other, Orders.Dropped.drop_none, Orders.AcyclicIsOrdered.In, Orders.AcyclicIsOrdered.Ordered}
+use Rattle.candidate_executions.proofs.{Orders.WiderRelations.acyclic_narrower, Orders.WiderRelations.ordered_narrower, ToRuns.Linear.IsLinear}
 use Rattle.candidate_executions.proofs.ToRuns.Standing.{at, acc, G, store, steps_from}
 use Rattle.candidate_executions.proofs.ToRuns.ReadsTheRightValue.{no_waits, right_write, right_value}
 use Rattle.candidate_executions.proofs.ToRuns.StandingOn.{left, Stand, Share, quiet_stands}

@@ -1,8 +1,7 @@
 -- How the lines of a cost file are read.
 use Rattle.std.specs.Prelude.{◌≡◌, ◌==◌, ◌≤◌, ℕ, List, map, nat_le, Option, None, Result, Ok, Err, if◌then◌else◌}
 use Rattle.std.specs.List.{range_with_len}
-use Rattle.gap_sets.specs.declared.costs.CostFault.{CostFault}
-use Rattle.gap_sets.specs.declared.costs.CostFault.TheVariants.{Zero, TooLarge}
+use Rattle.gap_sets.specs.declared.costs.CostFault.{CostFault, TheVariants.Zero, TheVariants.TooLarge}
 use Rattle.gap_sets.specs.CostLists.{IsCostList}
 use Rattle.tso_program.specs.declared.listing.Thread.{Thread}
 use Rattle.tso_program.specs.Listings.{gap_count}

@@ -7,8 +7,7 @@ use Rattle.cover_solver.specs.Facts.{AreOf}
 use Rattle.hunt_board.specs.Seats.{HuntView, IsOf}
 use Rattle.fence_place.specs.declared.fault.PlaceFault.{PlaceFault}
 use Rattle.fence_place.specs.declared.fault.PlaceFault.TheVariants as fault
-use Rattle.fence_place.specs.declared.worker.Stop.{Stop}
-use Rattle.fence_place.specs.declared.worker.Stop.TheVariants.{Later, Beaten, NoRun, OutOfMemory}
+use Rattle.fence_place.specs.declared.worker.Stop.{Stop, TheVariants.Later, TheVariants.Beaten, TheVariants.NoRun, TheVariants.OutOfMemory}
 use Rattle.fence_place.specs.declared.worker.Worker.{Worker}
 
 -- the worker's seat is of the hunt and holds this node or none, and the runs that it knows are of the hunt's question

@@ -8,8 +8,7 @@ use Rattle.cover_solver.specs.declared.oracle.Verdict.TheVariants.{Foreign, Serv
 use Rattle.search_core.specs.Ceilings.{IsCeilingOf}
 use Rattle.search_core.specs.States.{SearchState}
 use Rattle.search_core.specs.Events.{Splits, Cuts, Confirms, IsBeaten}
-use Rattle.hunt_board.specs.declared.settling.Settling.{Settling}
-use Rattle.hunt_board.specs.declared.settling.Settling.TheVariants.{Asked, Cut, Best}
+use Rattle.hunt_board.specs.declared.settling.Settling.{Settling, TheVariants.Asked, TheVariants.Cut, TheVariants.Best}
 use Rattle.hunt_board.specs.Seats.{HuntView}
 
 -- the tree is of the hunt's question and costs, and has the seat

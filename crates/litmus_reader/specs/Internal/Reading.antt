@@ -10,8 +10,7 @@ use Rattle.tso_program.specs.Tree.{Tree}
 use Rattle.conditions.specs.Grammar.{Sign, sign_map}
 use Rattle.conditions.specs.Reads.{SpellsOnly, SpellsNone}
 use Rattle.litmus_syntax.specs.declared.fault.Refusal.{Refusal}
-use Rattle.litmus_syntax.specs.declared.fault.SyntaxFault.{SyntaxFault}
-use Rattle.litmus_syntax.specs.declared.fault.SyntaxFault.TheVariants.{Refused, OutOfMemory as NoMemory}
+use Rattle.litmus_syntax.specs.declared.fault.SyntaxFault.{SyntaxFault, TheVariants.Refused, TheVariants.OutOfMemory as NoMemory}
 use Rattle.litmus_syntax.specs.Views.{PlaceView, BodyView, SignView, EndingView}
 use Rattle.litmus_syntax.specs.Grammar.{IsBody, IsEnding}
 use Rattle.litmus_reader.specs.declared.litmus.Litmus.{Litmus}

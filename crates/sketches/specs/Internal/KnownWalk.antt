@@ -7,8 +7,7 @@ use Rattle.tso_program.specs.Tree.{Tree}
 use Rattle.tso_program.specs.Tree as tree
 use Rattle.tso_program.specs.Nodes.{Half, AndOf, OrOf}
 use Rattle.known_edges.specs.declared.known_truth.Knowledge.{Knowledge}
-use Rattle.known_edges.specs.declared.known_truth.Left.{Left}
-use Rattle.known_edges.specs.declared.known_truth.Left.TheVariants.{OfAnd, OfOr}
+use Rattle.known_edges.specs.declared.known_truth.Left.{Left, TheVariants.OfAnd, TheVariants.OfOr}
 use Rattle.known_edges.specs.ProgramSketches.{ProgramSketch}
 use Rattle.sketches.specs.Knowledge.{Knows}
 

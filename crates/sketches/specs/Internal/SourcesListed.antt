@@ -1,8 +1,7 @@
 -- Sources of a read, listed by thread and index.
 use Rattle.std.specs.Prelude.{◌↔◌, ℕ, List, Contains}
 use Rattle.std.specs.List.{AllPairs}
-use Rattle.candidate_executions.specs.declared.event.Event.{Event}
-use Rattle.candidate_executions.specs.declared.event.Event.TheVariants.{Access as At}
+use Rattle.candidate_executions.specs.declared.event.Event.{Event, TheVariants.Access as At}
 use Rattle.candidate_executions.specs.Events.{ComesBefore}
 use Rattle.candidate_executions.specs.Sketches.{IsSourceOf}
 use Rattle.known_edges.specs.ProgramSketches.{ProgramSketch, mode_in}

@@ -1,15 +1,12 @@
 -- The machine's state as the code keeps it: a list of threads, and a list of what the locations hold.
 use Rattle.std.specs.Prelude.{◌≡◌, ℕ, ◌<◌, Bool, true, false, ◌&&◌, ◌||◌, not, List, [], ◌∷◌, ◌++◌, map, length, slice_index, slice_index_or, slice_set, Option, Some, None, if◌then◌else◌}
 use Rattle.tso_program.specs.declared.listing.Thread.{Thread}
-use Rattle.tso_program.specs.Listings.{gap_number}
+use Rattle.tso_program.specs.Listings.{gap_number, action}
 use Rattle.tso_program.specs.declared.listing.Listing.{Listing}
 use Rattle.tso_program.specs.declared.action.Local.{Local}
-use Rattle.tso_program.specs.declared.action.Action.{Action}
-use Rattle.tso_program.specs.declared.action.Action.TheVariants.{Stop, Go, Wait, Read, Write, Swap}
+use Rattle.tso_program.specs.declared.action.Action.{Action, TheVariants.Stop, TheVariants.Go, TheVariants.Wait, TheVariants.Read, TheVariants.Write, TheVariants.Swap}
 use Rattle.tso_program.specs.Actions.{loaded}
-use Rattle.tso_program.specs.Listings.{action}
-use Rattle.tso_machine.specs.declared.label.Label.{Label}
-use Rattle.tso_machine.specs.declared.label.Label.TheVariants.{Exec, Flush}
+use Rattle.tso_machine.specs.declared.label.Label.{Label, TheVariants.Exec, TheVariants.Flush}
 use Rattle.tso_machine.specs.declared.label.Pending.{Pending}
 use Rattle.tso_machine.specs.declared.label.Cause.TheVariants.{FenceWaits}
 use Rattle.tso_machine.specs.declared.label.StepFault.{StepFault}

@@ -1,4 +1,4 @@
-use Rattle.std.proofs.Common.{arith}
+use Rattle.bit_rows.proofs.Vocabulary.{arith}
 use Rattle.bit_rows.proofs.Bits.{lowest_is}
 use Rattle.bit_rows.proofs.row.lowest.Goals as goal
 

@@ -1,4 +1,4 @@
-use Rattle.std.proofs.Common.{arith}
+use Rattle.bit_rows.proofs.Vocabulary.{arith}
 use Rattle.bit_rows.proofs.Bits.{is_in_without, less_without}
 use Rattle.bit_rows.proofs.row.without.Goals as goal
 

@@ -1,5 +1,4 @@
-use Rattle.std.proofs.Common.{subst}
-use Rattle.branching.proofs.Vocabulary.{MayChooseEach, IsOpen}
+use Rattle.branching.proofs.Vocabulary.{subst, MayChooseEach, IsOpen}
 use Rattle.cover_judge.proofs.Answered.{if_ok}
 use Rattle.branching.proofs.NothingLeft.{both_may}
 use Rattle.branching.proofs.branch.choices_of.Goals as goal

@@ -1,4 +1,4 @@
-use Rattle.std.proofs.Common.{◌-◌, ◌≤◌, length}
+use Rattle.branching.proofs.Vocabulary.{◌-◌, ◌≤◌, length}
 use Rattle.branching.proofs.ends.is_listed.Given as goal
 
 -- the places are of the list

@@ -1,5 +1,4 @@
-use Rattle.std.proofs.Common.{◌↔◌, IsTrue, subst}
-use Rattle.branching.proofs.Vocabulary.{IsOrdered, not_by, event_of}
+use Rattle.branching.proofs.Vocabulary.{◌↔◌, IsTrue, subst, IsOrdered, not_by, event_of}
 use Rattle.branching.proofs.NothingLeft.{pair_of, unless}
 use Rattle.branching.proofs.open_choice.needs_order.Goals as goal
 

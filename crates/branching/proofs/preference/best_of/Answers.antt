@@ -1,5 +1,4 @@
-use Rattle.std.proofs.Common.{List, subst}
-use Rattle.branching.proofs.Vocabulary.{ReadValue, HasEachSource}
+use Rattle.branching.proofs.Vocabulary.{List, subst, ReadValue, HasEachSource}
 use Rattle.branching.proofs.NothingLeft.{complete_of}
 use Rattle.branching.proofs.preference.best_of.Goals as goal
 

@@ -1,5 +1,4 @@
-use Rattle.std.proofs.Common.{◌≡◌, ℕ, ◌<◌, None, get_or}
-use Rattle.branching.proofs.Vocabulary.{IfSome, event_of, HasItsSource, ReadValue, RatedChoice, IsOpen}
+use Rattle.branching.proofs.Vocabulary.{◌≡◌, ℕ, ◌<◌, None, get_or, IfSome, event_of, HasItsSource, ReadValue, RatedChoice, IsOpen}
 use Rattle.branching.proofs.preference.best_source.Given as goal
 
 -- the best is open; if there is none, the reads so far have their sources

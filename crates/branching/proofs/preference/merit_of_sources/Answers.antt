@@ -1,6 +1,4 @@
-use Rattle.std.proofs.Common.{sym, subst}
-use Rattle.branching.proofs.Vocabulary.{mode_in, event_of, WrittenValue}
-use Rattle.cover_judge.specs.Sketches.{IsSourceOf}
+use Rattle.branching.proofs.Vocabulary.{sym, subst, mode_in, event_of, WrittenValue, IsSourceOf}
 use Rattle.branching.proofs.preference.merit_of_sources.Goals as goal
 
 pub with_source-merit-requires : goal.with_source-merit-requires

@@ -1,5 +1,4 @@
-use Rattle.std.proofs.Common.{All, length, ap, sym, subst, ◌∙◌, inl, inr, arith}
-use Rattle.branching.proofs.Vocabulary.{cases_lt, Listing, read_there, thread_within, event_of, IsReadValue, IsWrittenValue}
+use Rattle.branching.proofs.Vocabulary.{All, length, ap, sym, subst, ◌∙◌, inl, inr, arith, cases_lt, Listing, read_there, thread_within, event_of, IsReadValue, IsWrittenValue}
 use Rattle.branching.proofs.TakenIn.{thread_there}
 use Rattle.branching.proofs.reads_writes.whole_accesses.Goals as goal
 

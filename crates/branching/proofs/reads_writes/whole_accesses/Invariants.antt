@@ -1,6 +1,4 @@
-use Rattle.std.proofs.Common.{◌<◌}
-use Rattle.std.specs.Prelude.{All}
-use Rattle.branching.proofs.Vocabulary.{IsRead, AccessId, event_of, IsReadValue, NamesRead, IsWrittenValue, IsWrite, NamesWrite}
+use Rattle.branching.proofs.Vocabulary.{◌<◌, All, IsRead, AccessId, event_of, IsReadValue, NamesRead, IsWrittenValue, IsWrite, NamesWrite}
 use Rattle.branching.proofs.reads_writes.whole_accesses.Given as goal
 
 -- what the first threads read and write is taken in, and nothing else

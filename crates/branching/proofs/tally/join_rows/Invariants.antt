@@ -1,6 +1,5 @@
-use Rattle.std.proofs.Common.{◌≡◌, ◌⊎◌, ℕ, ◌<◌, length}
+use Rattle.branching.proofs.Vocabulary.{◌≡◌, ◌⊎◌, ℕ, ◌<◌, length, ROW_BITS}
 use Rattle.bit_rows.specs.Rows.{RowHas}
-use Rattle.bit_rows.specs.declared.row.TheConstants.{ROW_BITS}
 use Rattle.branching.proofs.tally.join_rows.Given as goal
 
 -- the first rows have the bits of both, and the others are as they were

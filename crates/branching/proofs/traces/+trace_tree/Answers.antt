@@ -1,7 +1,6 @@
-use Rattle.std.proofs.Common.{get_or, ◌∙◌, arith}
+use Rattle.branching.proofs.Vocabulary.{get_or, ◌∙◌, arith}
 use Rattle.cover_judge.specs.declared.choice.Choice.TheVariants as choice
-use Rattle.branching.proofs.Rounds.{fewer_rounds}
-use Rattle.branching.proofs.TraceTrees.{child_more}
+use Rattle.branching.proofs.{Rounds.fewer_rounds, TraceTrees.child_more}
 use Rattle.branching.proofs.traces.+trace_tree.Goals as goal
 
 pub trees_after-trace_tree-requires : goal.trees_after-trace_tree-requires

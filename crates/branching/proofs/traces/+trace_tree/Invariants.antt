@@ -1,5 +1,4 @@
-use Rattle.std.proofs.Common.{◌+◌, map, take}
-use Rattle.branching.specs.Traces.{traces, trace_trees, AreTraceTrees}
+use Rattle.branching.proofs.Vocabulary.{◌+◌, map, take, traces, trace_trees, AreTraceTrees}
 use Rattle.branching.proofs.Rounds.{rounds}
 use Rattle.branching.proofs.traces.+trace_tree.Given as goal
 

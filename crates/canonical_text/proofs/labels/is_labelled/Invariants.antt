@@ -1,5 +1,4 @@
-use Rattle.canonical_text.proofs.Vocabulary.{◌≡◌, drop}
-use Rattle.canonical_text.specs.Canonical.{label_names_at}
+use Rattle.canonical_text.proofs.Vocabulary.{◌≡◌, drop, label_names_at}
 use Rattle.canonical_text.proofs.labels.is_labelled.Given as goal
 
 -- the labels of the position are among those that are left

@@ -1,5 +1,4 @@
-use Rattle.canonical_text.proofs.Vocabulary.{◌≡◌, ◌<◌, arith}
-use Rattle.tso_program.specs.Fences.{gaps_in, place_of}
+use Rattle.canonical_text.proofs.Vocabulary.{◌≡◌, ◌<◌, arith, gaps_in, place_of}
 use Rattle.canonical_text.proofs.LabelPlaces.{place_between}
 use Rattle.canonical_text.proofs.labels.position_at.Goals as goal
 

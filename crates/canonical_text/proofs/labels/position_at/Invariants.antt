@@ -1,5 +1,4 @@
-use Rattle.std.proofs.Common.{◌≡◌, ℕ, ◌+◌, ◌-◌, ◌<◌, ◌≤◌}
-use Rattle.tso_program.specs.Fences.{gaps_in, place_of}
+use Rattle.canonical_text.proofs.Vocabulary.{◌≡◌, ℕ, ◌+◌, ◌-◌, ◌<◌, ◌≤◌, gaps_in, place_of}
 use Rattle.canonical_text.proofs.labels.position_at.Given as goal
 
 -- the place of the position is reached, and those of earlier ones lie before the place that is sought

@@ -1,5 +1,4 @@
-use Rattle.canonical_text.proofs.Vocabulary.{◌≡◌, ℕ, List, ◌++◌, length, map, sym, ap, ◌∙◌, subst, append-nil, text_of, gap, joined_by, label_pieces, gaps_in}
-use Rattle.std.specs.Prelude.{IfOk}
+use Rattle.canonical_text.proofs.Vocabulary.{◌≡◌, ℕ, List, ◌++◌, length, map, sym, ap, ◌∙◌, subst, append-nil, text_of, gap, joined_by, label_pieces, gaps_in, IfOk}
 use Rattle.canonical_text.proofs.LabelPlaces.{moved_at, moved_nowhere}
 use Rattle.canonical_text.proofs.labels.push_labels.Goals as goal
 

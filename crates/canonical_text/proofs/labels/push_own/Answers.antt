@@ -1,7 +1,5 @@
-use Rattle.std.proofs.Common.{◌≡◌, ℕ, ◌+◌, List, [], ◌∷◌, ◌++◌, length, map, take, length-append, sym, ap, ◌∙◌, arith}
-use Rattle.canonical_text.proofs.Vocabulary.{text_of, gap, joined_by, label_pieces, label_names_at}
-use Rattle.canonical_text.proofs.LabelPlaces.{label_here, label_elsewhere}
-use Rattle.canonical_text.proofs.TextsGrow.{between_at, label_more}
+use Rattle.canonical_text.proofs.Vocabulary.{◌≡◌, ℕ, ◌+◌, List, [], ◌∷◌, ◌++◌, length, map, take, length-append, sym, ap, ◌∙◌, arith, text_of, gap, joined_by, label_pieces, label_names_at}
+use Rattle.canonical_text.proofs.{LabelPlaces.label_here, LabelPlaces.label_elsewhere, TextsGrow.between_at, TextsGrow.label_more}
 use Rattle.canonical_text.proofs.labels.push_own.Goals as goal
 use Rattle.canonical_text.proofs.labels.push_own.Goals.{then-label-position+in_ok-push_gap+in_ok-extend_from_slice+in_ok-push, else-label-position}
 

@@ -1,5 +1,4 @@
-use Rattle.std.proofs.lemmas.Fmt.{decimal_digit}
-use Rattle.canonical_text.proofs.Vocabulary.{lit<, refl}
+use Rattle.canonical_text.proofs.Vocabulary.{decimal_digit, lit<, refl}
 use Rattle.canonical_text.proofs.laws.store_buffering_is_written.Goals as goal
 
 pub returns : goal.returns

@@ -1,7 +1,5 @@
-use Rattle.std.proofs.Common.{◌≡◌, ◌+◌, ◌≤◌, drop, max}
-use Rattle.canonical_text.proofs.Vocabulary.{gaps_in, moved_labels, most_cells}
+use Rattle.canonical_text.proofs.Vocabulary.{◌≡◌, ◌+◌, ◌≤◌, drop, max, gaps_in, moved_labels, most_cells, MAX_FENCED_INSTRUCTIONS}
 use Rattle.canonical_text.proofs.rows.most_cells.Given as goal
-use Rattle.tso_program.specs.declared.limits.TheConstants.{MAX_FENCED_INSTRUCTIONS}
 
 -- the most so far, or of those that are left
 abbrev pub invariant-loop-t : goal.invariant-loop-t

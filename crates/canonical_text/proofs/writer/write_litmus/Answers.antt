@@ -1,5 +1,4 @@
-use Rattle.canonical_text.proofs.Vocabulary.{◌≡◌, ℕ, List, sym, ap, ◌∙◌, subst, Listing, gaps_in, IsFencedLitmus, moved_labels, body_of, ending_of, canonical_text, litmus_fenced_at}
-use Rattle.canonical_text.specs.Spelling.{text_with}
+use Rattle.canonical_text.proofs.Vocabulary.{◌≡◌, ℕ, List, sym, ap, ◌∙◌, subst, Listing, gaps_in, IsFencedLitmus, moved_labels, body_of, ending_of, canonical_text, litmus_fenced_at, text_with}
 use Rattle.canonical_text.proofs.CanonicalIsRead.{canonical_is_read}
 use Rattle.canonical_text.proofs.writer.write_litmus.Goals as goal
 

@@ -1,6 +1,5 @@
 use Rattle.cert_check.proofs.Vocabulary.{asked, StoreBufferMachine, no_gaps, IsShownRun, IsRunOf}
-use Rattle.cert_check.proofs.Assembled.{each_outside, first_not_foreign}
-use Rattle.cert_check.proofs.Replayed.{zip_left, of_shown}
+use Rattle.cert_check.proofs.{Assembled.each_outside, Assembled.first_not_foreign, Replayed.zip_left, Replayed.of_shown}
 use Rattle.cert_check.proofs.checker.foreign_runs.Goals as goal
 
 pub returns-in-Some-clause-fault : goal.returns-in-Some-clause-fault

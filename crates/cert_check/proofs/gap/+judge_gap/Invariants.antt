@@ -1,5 +1,4 @@
-use Rattle.std.proofs.Common.{◌≡◌, ◌+◌, ◌*◌, ◌≤◌, ◌<◌, List, All, length, take, drop}
-use Rattle.cert_check.proofs.Vocabulary.{numbers_of_set, MAX_GAPS, Listing, Label, spell_gaps, HavePassed}
+use Rattle.cert_check.proofs.Vocabulary.{◌≡◌, ◌+◌, ◌*◌, ◌≤◌, ◌<◌, List, All, length, take, drop, numbers_of_set, MAX_GAPS, Listing, Label, spell_gaps, HavePassed}
 use Rattle.cert_check.proofs.GapSteps.{IsLeft}
 use Rattle.cert_check.proofs.gap.+judge_gap.Given as goal
 

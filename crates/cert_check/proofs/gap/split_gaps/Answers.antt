@@ -1,6 +1,5 @@
 use Rattle.cert_check.proofs.Vocabulary.{◌≡◌, true, false, sym, ◌∙◌, numbers_of_set, HasNoSplit, rising, here}
-use Rattle.cert_check.proofs.OpenGaps.{as_many_listed, listed_exact}
-use Rattle.cert_check.proofs.GapNodes.{not_there, must_pass, splits, not_as_many}
+use Rattle.cert_check.proofs.{OpenGaps.as_many_listed, OpenGaps.listed_exact, GapNodes.not_there, GapNodes.must_pass, GapNodes.splits, GapNodes.not_as_many}
 use Rattle.cert_check.proofs.gap.split_gaps.Goals as goal
 
 pub returns-in_default-clause-wrong : goal.returns-in_default-clause-wrong

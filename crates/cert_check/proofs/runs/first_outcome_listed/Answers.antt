@@ -1,6 +1,5 @@
 use Rattle.cert_check.proofs.Vocabulary.{◌≡◌, true, false, sym, ◌∙◌, subst, IsOutside, each_more}
-use Rattle.cert_check.proofs.Found.{first_without}
-use Rattle.cert_check.proofs.OutcomesListed.{borrowed}
+use Rattle.cert_check.proofs.{Found.first_without, OutcomesListed.borrowed}
 use Rattle.cert_check.proofs.runs.first_outcome_listed.Goals as goal
 
 pub returns-then-contains : goal.returns-then-contains

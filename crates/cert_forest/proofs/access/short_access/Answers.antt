@@ -1,9 +1,5 @@
-use Rattle.std.proofs.Common.{◌≡◌, ℕ, ◌-◌, ◌≤◌, true, List, [], ◌∷◌, ◌++◌, length, get_or, take, drop, Some, refl, sym, ap, ◌∙◌, arith}
-use Rattle.text_tokens.proofs.NumberLaws.{plain_number_takes}
-use Rattle.text_tokens.specs.Numbers.{plain_number_at}
-use Rattle.cert_words.proofs.WordLaws.{starts_here}
-use Rattle.cert_words.specs.Words.{ends_word}
-use Rattle.cert_forest.proofs.Vocabulary.{AccessId, access_at, take_all, done_with}
+use Rattle.cert_forest.proofs.Vocabulary.{◌≡◌, ℕ, ◌-◌, ◌≤◌, true, List, [], ◌∷◌, ◌++◌, length, get_or, take, drop, Some, refl, sym, ap, ◌∙◌, arith, plain_number_takes, plain_number_at, starts_here}
+use Rattle.cert_forest.proofs.Vocabulary.{ends_word, AccessId, access_at, take_all, done_with}
 use Rattle.cert_forest.proofs.NameLaws.{access_text, access_exact}
 use Rattle.cert_forest.proofs.access.short_access.Goals as goal
 

@@ -1,5 +1,4 @@
-use Rattle.std.proofs.Common.{◌-◌, [], arith}
-use Rattle.cert_forest.proofs.Vocabulary.{err_from_is_err_and, repeat_at, stops_for_memory, Fails, Split, Bound, gap_trees_of, spell_gap, PushesTree, PushesTrees, gap_at}
+use Rattle.cert_forest.proofs.Vocabulary.{◌-◌, [], arith, err_from_is_err_and, repeat_at, stops_for_memory, Fails, Split, Bound, gap_trees_of, spell_gap, PushesTree, PushesTrees, gap_at}
 use Rattle.cert_forest.proofs.PushedTrees.{one_pushed, split_pushed, if_ok, if_err}
 use Rattle.cert_forest.proofs.TreeSteps.{gap_none, gap_no_letter, gap_no_split, gap_no_children, gap_split, gap_bound, gap_other}
 use Rattle.cert_forest.proofs.gap_tree.+gap.Goals as goal

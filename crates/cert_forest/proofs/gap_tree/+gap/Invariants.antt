@@ -1,5 +1,4 @@
-use Rattle.std.proofs.Common.{◌+◌, ◌*◌}
-use Rattle.cert_forest.proofs.Vocabulary.{spell_gap, gap_at}
+use Rattle.cert_forest.proofs.Vocabulary.{◌+◌, ◌*◌, spell_gap, gap_at}
 use Rattle.cert_forest.proofs.PushedTrees.{PushedSoFar}
 use Rattle.cert_forest.proofs.gap_tree.+gap.Given as goal
 

@@ -1,5 +1,4 @@
-use Rattle.std.proofs.Common.{◌≤◌, arith}
-use Rattle.cert_forest.proofs.Vocabulary.{MAX_COUNT, count_exact}
+use Rattle.cert_forest.proofs.Vocabulary.{◌≤◌, arith, MAX_COUNT, count_exact}
 use Rattle.cert_forest.proofs.gap_tree.split.Goals as goal
 
 pub overflow_cast-result : goal.overflow_cast-result

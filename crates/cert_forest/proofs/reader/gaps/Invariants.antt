@@ -1,6 +1,5 @@
-use Rattle.std.proofs.Common.{◌≡◌, ◌-◌, ◌≤◌}
+use Rattle.cert_forest.proofs.Vocabulary.{◌≡◌, ◌-◌, ◌≤◌, MAX_GAPS, gap_number_at, ascending_at}
 use Rattle.std.specs.FinSet as set
-use Rattle.cert_forest.proofs.Vocabulary.{MAX_GAPS, gap_number_at, ascending_at}
 use Rattle.cert_forest.proofs.reader.gaps.Given as goal
 
 abbrev pub invariant-loop : goal.invariant-loop

@@ -1,7 +1,5 @@
-use Rattle.std.proofs.Common.{◌≡◌, [], length, sym, ap, ◌∙◌, arith, inl}
-use Rattle.std.proofs.lemmas.Bool.{eqb-true}
-use Rattle.std.proofs.lemmas.List.{nil_from_length}
-use Rattle.cert_forest.specs.declared.fault.CertFault.TheVariants.{Trailing}
+use Rattle.cert_forest.proofs.Vocabulary.{◌≡◌, [], length, sym, ap, ◌∙◌, arith, inl, eqb-true, nil_from_length}
+use Rattle.cert_forest.specs.declared.fault.CertFault.{TheVariants.Trailing}
 use Rattle.cert_forest.proofs.WholeLaws.{found_whole, only_whole, never_none, some_behind, has_more, left_behind, more_is_read}
 use Rattle.cert_forest.proofs.reader.read_cert.Goals as goal
 

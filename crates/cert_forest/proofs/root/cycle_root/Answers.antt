@@ -1,5 +1,4 @@
-use Rattle.std.proofs.Common.{◌≤◌, arith}
-use Rattle.cert_forest.proofs.Vocabulary.{err_from_is_err_and, MAX_COUNT, count_exact}
+use Rattle.cert_forest.proofs.Vocabulary.{◌≤◌, arith, MAX_COUNT, count_exact}
 use Rattle.cert_forest.proofs.PushedTrees.{cycle_pushed}
 use Rattle.cert_forest.proofs.root.cycle_root.Goals as goal
 

@@ -1,7 +1,5 @@
-use Rattle.cert_forest.proofs.Vocabulary.{err_from_is_err_and, Refused, access_at}
-use Rattle.cert_forest.specs.Internal.Pushing.{event_node}
-use Rattle.cert_forest.proofs.Loops.{repeat_stops}
-use Rattle.cert_forest.proofs.PushedTrees.{one_pushed}
+use Rattle.cert_forest.proofs.Vocabulary.{err_from_is_err_and, Refused, access_at, event_node}
+use Rattle.cert_forest.proofs.{Loops.repeat_stops, PushedTrees.one_pushed}
 use Rattle.cert_forest.proofs.root.events.Goals as goal
 
 pub returns-in_err-event-clause-stops : goal.returns-in_err-event-clause-stops

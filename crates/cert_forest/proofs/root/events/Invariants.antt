@@ -1,5 +1,4 @@
-use Rattle.cert_forest.proofs.Vocabulary.{access_at}
-use Rattle.cert_forest.specs.Internal.Pushing.{event_node}
+use Rattle.cert_forest.proofs.Vocabulary.{access_at, event_node}
 use Rattle.cert_forest.proofs.PushedTrees.{PushedSoFar}
 use Rattle.cert_forest.proofs.root.events.Given as goal
 

@@ -1,5 +1,4 @@
-use Rattle.std.proofs.Common.{arith}
-use Rattle.cert_forest.proofs.Vocabulary.{SourceHead}
+use Rattle.cert_forest.proofs.Vocabulary.{arith, SourceHead}
 use Rattle.cert_forest.proofs.CoverLaws.{HeadFits, source_takes}
 use Rattle.cert_forest.proofs.root.source_root.Goals as goal
 

@@ -1,5 +1,4 @@
-use Rattle.std.proofs.Common.{arith}
-use Rattle.cert_forest.proofs.Vocabulary.{ValueHead}
+use Rattle.cert_forest.proofs.Vocabulary.{arith, ValueHead}
 use Rattle.cert_forest.proofs.CoverLaws.{HeadFits, value_takes}
 use Rattle.cert_forest.proofs.root.value_root.Goals as goal
 

@@ -1,5 +1,4 @@
-use Rattle.std.proofs.Common.{◌≡◌, Decides, rules}
-use Rattle.std.proofs.lemmas.Slice.Eq.{slice_eq-Decides}
+use Rattle.cert_forest.proofs.Vocabulary.{◌≡◌, Decides, rules, slice_eq-Decides}
 use Rattle.cert_forest.proofs.run_list.are_same.Goals as goal
 
 pub returns : goal.returns

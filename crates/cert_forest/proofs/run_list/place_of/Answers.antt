@@ -1,5 +1,4 @@
-use Rattle.std.proofs.Common.{Contains, List, sym, ◌∙◌, subst}
-use Rattle.cert_forest.proofs.Vocabulary.{Vec, take_all, Label, labels_of}
+use Rattle.cert_forest.proofs.Vocabulary.{Contains, List, sym, ◌∙◌, subst, Vec, take_all, Label, labels_of}
 use Rattle.cert_forest.proofs.RunPlaces.{none_more, there_as}
 use Rattle.cert_forest.proofs.run_list.place_of.Goals as goal
 

@@ -1,5 +1,4 @@
-use Rattle.std.proofs.Common.{Contains, take}
-use Rattle.cert_forest.specs.Certificates.{labels_of}
+use Rattle.cert_forest.proofs.Vocabulary.{Contains, take, labels_of}
 use Rattle.cert_forest.proofs.run_list.place_of.Given as goal
 
 -- none of those so far has the labels

@@ -1,5 +1,4 @@
-use Rattle.std.proofs.Common.{◌-◌}
-use Rattle.cert_forest.proofs.Vocabulary.{err_from_is_err_and, Refused, MAX_COUNT}
+use Rattle.cert_forest.proofs.Vocabulary.{◌-◌, err_from_is_err_and, Refused, MAX_COUNT}
 use Rattle.cert_forest.proofs.Loops.{labels_more, labels_stop, labels_end, labels_past}
 use Rattle.cert_forest.proofs.runs.labels.Goals as goal
 

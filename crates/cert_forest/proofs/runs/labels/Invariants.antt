@@ -1,5 +1,4 @@
-use Rattle.std.proofs.Common.{◌≡◌, ◌-◌, []}
-use Rattle.cert_forest.proofs.Vocabulary.{MAX_COUNT, run_labels_at}
+use Rattle.cert_forest.proofs.Vocabulary.{◌≡◌, ◌-◌, [], MAX_COUNT, run_labels_at}
 use Rattle.cert_forest.proofs.runs.labels.Given as goal
 
 abbrev pub invariant-loop : goal.invariant-loop

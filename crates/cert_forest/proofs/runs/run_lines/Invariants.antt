@@ -1,5 +1,4 @@
-use Rattle.std.proofs.Common.{◌≡◌, ◌-◌, []}
-use Rattle.cert_forest.proofs.Vocabulary.{repeat_at, run_at}
+use Rattle.cert_forest.proofs.Vocabulary.{◌≡◌, ◌-◌, [], repeat_at, run_at}
 use Rattle.cert_forest.proofs.runs.run_lines.Given as goal
 
 abbrev pub invariant-loop : goal.invariant-loop

@@ -1,5 +1,4 @@
-use Rattle.std.proofs.Common.{◌-◌, arith}
-use Rattle.cert_forest.proofs.Vocabulary.{err_from_is_err_and, PLACES, place_word_at}
+use Rattle.cert_forest.proofs.Vocabulary.{◌-◌, arith, err_from_is_err_and, PLACES, place_word_at}
 use Rattle.cert_forest.proofs.Loops.{ascending_more, ascending_low, ascending_stop, ascending_end, ascending_past}
 use Rattle.cert_forest.proofs.shown.places.Goals as goal
 

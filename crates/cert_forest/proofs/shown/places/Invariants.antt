@@ -1,6 +1,5 @@
-use Rattle.std.proofs.Common.{◌≡◌, ◌-◌, ◌≤◌}
+use Rattle.cert_forest.proofs.Vocabulary.{◌≡◌, ◌-◌, ◌≤◌, PLACES, place_word_at, ascending_at}
 use Rattle.std.specs.FinSet as set
-use Rattle.cert_forest.proofs.Vocabulary.{PLACES, place_word_at, ascending_at}
 use Rattle.cert_forest.proofs.shown.places.Given as goal
 
 abbrev pub invariant-loop : goal.invariant-loop

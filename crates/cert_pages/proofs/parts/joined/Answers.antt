@@ -1,4 +1,4 @@
-use Rattle.std.proofs.Common.{◌++◌, ◌∷◌, [], subst, sym}
+use Rattle.cert_pages.proofs.Vocabulary.{◌++◌, ◌∷◌, [], subst, sym}
 use Rattle.cert_pages.proofs.PartLaws.{IsTextOf, no_part, one_part}
 use Rattle.cert_pages.proofs.parts.joined.Goals as goal
 

@@ -1,6 +1,4 @@
-use Rattle.std.proofs.Common.{◌≡◌, ◌∷◌, [], List, length, subst, sym, arith}
-use Rattle.cert_pages.specs.declared.parts.Part.{Part}
-use Rattle.cert_pages.specs.Parts.{AreWritten, WriteFrom}
+use Rattle.cert_pages.proofs.Vocabulary.{◌≡◌, ◌∷◌, [], List, length, subst, sym, arith, Part, AreWritten, WriteFrom}
 use Rattle.cert_pages.proofs.PartLaws.{all_written, written_back}
 use Rattle.cert_pages.proofs.parts.pages_ahead.Goals as goal
 

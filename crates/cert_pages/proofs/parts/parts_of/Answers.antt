@@ -1,8 +1,5 @@
-use Rattle.std.proofs.Common.{◌∷◌, [], ◌<◌, length, subst, sym, List, arith}
+use Rattle.cert_pages.proofs.Vocabulary.{◌∷◌, [], ◌<◌, length, subst, sym, List, arith, Cover, spell_all, Part, LeadTo}
 use Rattle.std.proofs.lemmas.Bool.{iff_false}
-use Rattle.cert_pages.proofs.Vocabulary.{Cover, spell_all}
-use Rattle.cert_pages.specs.declared.parts.Part.{Part}
-use Rattle.cert_pages.specs.Parts.{LeadTo}
 use Rattle.cert_pages.proofs.PartLaws.{after_is_shorter, one_part_more}
 use Rattle.cert_pages.proofs.parts.parts_of.Goals as goal
 

@@ -1,6 +1,4 @@
-use Rattle.std.proofs.Common.{[], ◌∷◌, length}
-use Rattle.cert_forest.specs.Nodes.{spell_all}
-use Rattle.cert_pages.specs.Parts.{LeadTo}
+use Rattle.cert_pages.proofs.Vocabulary.{[], ◌∷◌, length, spell_all, LeadTo}
 use Rattle.cert_pages.proofs.parts.parts_of.Given as goal
 
 -- the parts so far, and the trees that are left

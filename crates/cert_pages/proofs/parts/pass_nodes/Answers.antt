@@ -1,5 +1,4 @@
-use Rattle.std.proofs.Common.{◌-◌}
-use Rattle.cert_pages.specs.Parts.{after}
+use Rattle.cert_pages.proofs.Vocabulary.{◌-◌, after}
 use Rattle.cert_pages.proofs.PartLaws.{one_more, none_left, all_passed}
 use Rattle.cert_pages.proofs.parts.pass_nodes.Goals as goal
 

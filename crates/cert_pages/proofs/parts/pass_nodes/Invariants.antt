@@ -1,5 +1,4 @@
-use Rattle.std.proofs.Common.{◌≡◌, ◌-◌}
-use Rattle.cert_pages.specs.Parts.{after}
+use Rattle.cert_pages.proofs.Vocabulary.{◌≡◌, ◌-◌, after}
 use Rattle.cert_pages.proofs.parts.pass_nodes.Given as goal
 
 -- what is left after the nodes to come

@@ -1,8 +1,5 @@
-use Rattle.std.proofs.Common.{◌++◌, ◌-◌}
-use Rattle.cert_pages.specs.Drafts.{draft_text}
-use Rattle.cert_pages.specs.Parts.{trees_text, after}
-use Rattle.cert_pages.proofs.WrittenNodes.{node_written}
-use Rattle.cert_pages.proofs.PartLaws.{one_more, none_left, all_passed}
+use Rattle.cert_pages.proofs.Vocabulary.{◌++◌, ◌-◌, draft_text, trees_text, after}
+use Rattle.cert_pages.proofs.{WrittenNodes.node_written, PartLaws.one_more, PartLaws.none_left, PartLaws.all_passed}
 use Rattle.cert_pages.proofs.parts.write_nodes.Goals as goal
 
 pub loop-preserved : goal.loop-preserved

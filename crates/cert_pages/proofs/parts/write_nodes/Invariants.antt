@@ -1,6 +1,4 @@
-use Rattle.std.proofs.Common.{◌≡◌, ◌++◌, ◌-◌, ◌≤◌}
-use Rattle.cert_pages.specs.Drafts.{draft_text}
-use Rattle.cert_pages.specs.Parts.{trees_text, after}
+use Rattle.cert_pages.proofs.Vocabulary.{◌≡◌, ◌++◌, ◌-◌, draft_text, trees_text, after}
 use Rattle.cert_pages.proofs.parts.write_nodes.Given as goal
 
 -- the text so far and that of the trees to come, and what is left after the nodes to come

@@ -1,5 +1,4 @@
-use Rattle.std.proofs.Common.{◌≡◌, ◌++◌, map}
-use Rattle.cert_pages.proofs.Vocabulary.{string_bytes, texts_of, spaced, access_word}
+use Rattle.cert_pages.proofs.Vocabulary.{◌≡◌, ◌++◌, map, string_bytes, texts_of, spaced, access_word}
 use Rattle.cert_pages.proofs.words.push_events.Given as goal
 
 -- the text so far, and that of the accesses to come

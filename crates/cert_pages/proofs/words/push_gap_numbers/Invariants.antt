@@ -1,5 +1,4 @@
-use Rattle.std.proofs.Common.{◌≡◌, ◌++◌, map}
-use Rattle.cert_pages.proofs.Vocabulary.{string_bytes, decimal, numbers_of_set, texts_of, spaced}
+use Rattle.cert_pages.proofs.Vocabulary.{◌≡◌, ◌++◌, map, string_bytes, decimal, numbers_of_set, texts_of, spaced}
 use Rattle.cert_pages.proofs.words.push_gap_numbers.Given as goal
 
 -- the text so far, and that of the gaps to come

@@ -1,5 +1,4 @@
-use Rattle.std.proofs.Common.{◌≡◌, ◌++◌, map, take}
-use Rattle.cert_pages.proofs.Vocabulary.{string_bytes, spelling, texts_of, spaced}
+use Rattle.cert_pages.proofs.Vocabulary.{◌≡◌, ◌++◌, map, take, string_bytes, spelling, texts_of, spaced}
 use Rattle.cert_pages.proofs.words.push_labels.Given as goal
 
 abbrev pub invariant-loop-label : goal.invariant-loop-label

@@ -1,5 +1,4 @@
-use Rattle.std.proofs.Common.{◌≡◌, ◌++◌, map}
-use Rattle.cert_pages.proofs.Vocabulary.{string_bytes, numbers_of_set, texts_of, spaced, place_word}
+use Rattle.cert_pages.proofs.Vocabulary.{◌≡◌, ◌++◌, map, string_bytes, numbers_of_set, texts_of, spaced, place_word}
 use Rattle.cert_pages.proofs.words.push_places.Given as goal
 
 -- the text so far, and that of the places to come

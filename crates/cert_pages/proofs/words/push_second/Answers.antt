@@ -1,5 +1,4 @@
-use Rattle.std.proofs.Common.{List, ℕ, [], ◌∷◌, ◌++◌, map, ap, ◌∙◌, append_assoc}
-use Rattle.cert_pages.proofs.Vocabulary.{string_bytes, codes, numbers_of_set, line, place_word}
+use Rattle.cert_pages.proofs.Vocabulary.{List, ℕ, [], ◌∷◌, ◌++◌, map, ap, ◌∙◌, append_assoc, string_bytes, codes, numbers_of_set, line, place_word}
 use Rattle.cert_pages.proofs.Writing.{on_ok}
 use Rattle.cert_pages.proofs.words.push_second.Goals as goal
 

@@ -1,6 +1,4 @@
-use Rattle.std.proofs.Common.{◌∷◌, [], map}
-use Rattle.cert_pages.specs.Drafts.{draft_text}
-use Rattle.cert_pages.proofs.Vocabulary.{codes, decimal, numbers_of_set, line, head_lines, cover_words, gap_words, runs_lines}
+use Rattle.cert_pages.proofs.Vocabulary.{◌∷◌, [], map, draft_text, codes, decimal, numbers_of_set, line, head_lines, cover_words, gap_words, runs_lines}
 use Rattle.cert_pages.proofs.Writing.{on_ok, all_written}
 use Rattle.cert_pages.proofs.writer.write_certificate.Goals as goal
 

@@ -1,8 +1,5 @@
-use Rattle.std.proofs.Common.{◌++◌}
-use Rattle.cert_pages.specs.Drafts.{draft_text}
-use Rattle.cert_forest.proofs.TreeTexts.{cover_text}
+use Rattle.cert_pages.proofs.Vocabulary.{◌++◌, draft_text, cover_text, next_is_shorter}
 use Rattle.cert_pages.proofs.WrittenNodes.{node_written}
-use Rattle.cert_forest.proofs.ShorterWalks.{next_is_shorter}
 use Rattle.cert_pages.proofs.writer.write_cover.Goals as goal
 
 pub loop-walk-smaller : goal.loop-walk-smaller

@@ -1,7 +1,4 @@
-use Rattle.std.proofs.Common.{◌≡◌, ◌++◌, length}
-use Rattle.cert_pages.specs.Drafts.{draft_text}
-use Rattle.cert_pages.proofs.Vocabulary.{spell_all}
-use Rattle.cert_forest.proofs.TreeTexts.{cover_text}
+use Rattle.cert_pages.proofs.Vocabulary.{◌≡◌, ◌++◌, length, draft_text, spell_all, cover_text}
 use Rattle.cert_pages.proofs.WrittenNodes.{trees_text}
 use Rattle.cert_pages.proofs.writer.write_cover.Given as goal
 

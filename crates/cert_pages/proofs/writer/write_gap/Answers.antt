@@ -1,6 +1,4 @@
-use Rattle.std.proofs.Common.{◌++◌}
-use Rattle.cert_pages.specs.Drafts.{draft_text}
-use Rattle.cert_forest.proofs.TreeTexts.{gap_text}
+use Rattle.cert_pages.proofs.Vocabulary.{◌++◌, draft_text, gap_text}
 use Rattle.cert_forest.proofs.GapNodeLaws.{next_gap_is_shorter}
 use Rattle.cert_pages.proofs.WrittenNodes.{gap_node_written}
 use Rattle.cert_pages.proofs.writer.write_gap.Goals as goal

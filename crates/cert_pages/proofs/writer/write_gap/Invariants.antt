@@ -1,7 +1,4 @@
-use Rattle.std.proofs.Common.{◌≡◌, ◌++◌, length}
-use Rattle.cert_pages.specs.Drafts.{draft_text}
-use Rattle.cert_pages.proofs.Vocabulary.{texts_of, spell_gaps}
-use Rattle.cert_forest.proofs.TreeTexts.{gap_text}
+use Rattle.cert_pages.proofs.Vocabulary.{◌≡◌, ◌++◌, length, draft_text, texts_of, spell_gaps, gap_text}
 use Rattle.cert_pages.proofs.writer.write_gap.Given as goal
 
 -- the text so far, and that of the trees to come

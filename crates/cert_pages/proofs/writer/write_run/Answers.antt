@@ -1,4 +1,4 @@
-use Rattle.std.proofs.Common.{◌∙◌}
+use Rattle.cert_pages.proofs.Vocabulary.{◌∙◌}
 use Rattle.cert_pages.proofs.Writing.{on_ok, wrote}
 use Rattle.cert_pages.proofs.writer.write_run.Goals as goal
 

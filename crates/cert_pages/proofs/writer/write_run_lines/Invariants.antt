@@ -1,6 +1,4 @@
-use Rattle.std.proofs.Common.{◌≡◌, ◌++◌}
-use Rattle.cert_pages.specs.Drafts.{draft_text}
-use Rattle.cert_pages.proofs.Vocabulary.{texts_of, labels_line}
+use Rattle.cert_pages.proofs.Vocabulary.{◌≡◌, ◌++◌, draft_text, texts_of, labels_line}
 use Rattle.cert_pages.proofs.writer.write_run_lines.Given as goal
 
 -- the text so far, and that of the runs to come

@@ -1,4 +1,4 @@
-use Rattle.std.proofs.Common.{◌≡◌, true, false, arith}
+use Rattle.cert_words.proofs.Vocabulary.{◌≡◌, true, false, arith}
 use Rattle.cert_words.proofs.CompletionLaws.{zero_ends, none_between, as_between, from_between, between_past, between_on, between_back}
 use Rattle.cert_words.proofs.completions.can_become.Goals as goal
 use Rattle.cert_words.proofs.completions.can_become.Goals.{then-number-eq0-via-then-number-eq0, then-number-eq0-via-else-number-eq0+then-greatest-least}

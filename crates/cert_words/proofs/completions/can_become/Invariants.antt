@@ -1,5 +1,4 @@
-use Rattle.std.proofs.Common.{◌↔◌}
-use Rattle.cert_words.specs.Completions.{CanBecome}
+use Rattle.cert_words.proofs.Vocabulary.{◌↔◌, CanBecome}
 use Rattle.cert_words.proofs.CompletionLaws.{IsBetween}
 use Rattle.cert_words.proofs.completions.can_become.Given as goal
 

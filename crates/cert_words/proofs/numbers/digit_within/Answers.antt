@@ -1,4 +1,4 @@
-use Rattle.std.proofs.Common.{sym, ◌∙◌, arith}
+use Rattle.cert_words.proofs.Vocabulary.{sym, ◌∙◌, arith}
 use Rattle.cert_words.proofs.WordLaws.{digit_plain}
 use Rattle.cert_words.proofs.numbers.digit_within.Goals as goal
 

@@ -1,4 +1,4 @@
-use Rattle.std.proofs.Common.{refl, sym, ◌∙◌}
+use Rattle.cert_words.proofs.Vocabulary.{refl, sym, ◌∙◌}
 use Rattle.cert_words.proofs.WordLaws.{short_here}
 use Rattle.cert_words.proofs.words.short_word.Goals as goal
 

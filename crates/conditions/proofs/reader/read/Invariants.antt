@@ -1,5 +1,4 @@
-use Rattle.std.proofs.Common.{drop, map, take}
-use Rattle.conditions.proofs.Vocabulary.{sign_of_token, tree_read}
+use Rattle.conditions.proofs.Vocabulary.{drop, map, take, sign_of_token, tree_read}
 use Rattle.conditions.proofs.Steps.{Left}
 use Rattle.conditions.proofs.reader.read.Given as goal
 

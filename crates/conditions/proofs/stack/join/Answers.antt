@@ -1,5 +1,4 @@
-use Rattle.std.proofs.Common.{◌≡◌, [], ◌∙◌, sym, arith}
-use Rattle.std.proofs.lemmas.List.{append-nil, nil_from_length}
+use Rattle.conditions.proofs.Vocabulary.{◌≡◌, [], ◌∙◌, sym, arith, append-nil, nil_from_length}
 use Rattle.std.proofs.lemmas.Grind.{common_steps}
 use Rattle.conditions.proofs.Joins.{join_none, join_not, join_and, join_or, join_open}
 use Rattle.conditions.proofs.stack.join.Goals as goal

@@ -1,5 +1,4 @@
-use Rattle.std.proofs.Common.{◌≡◌, length}
-use Rattle.conditions.proofs.Vocabulary.{reverse, opened, left}
+use Rattle.conditions.proofs.Vocabulary.{◌≡◌, length, reverse, opened, left}
 use Rattle.conditions.proofs.writer.begin.Given as goal
 
 -- the tokens and what waits give what they gave at first

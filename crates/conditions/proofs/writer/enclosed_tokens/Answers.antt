@@ -1,8 +1,6 @@
-use Rattle.std.proofs.Common.{◌≡◌, List, [], ◌∷◌, ap, sym, ◌∙◌, map}
-use Rattle.conditions.proofs.Vocabulary.{reverse, Token, sign_of_token, formula_tokens}
-use Rattle.conditions.specs.declared.token.Token.TheVariants.{Open, Close}
-use Rattle.conditions.proofs.Unwound.{reverse_push}
-use Rattle.conditions.proofs.CanonicalSigns.{tokens_enclosed}
+use Rattle.conditions.proofs.Vocabulary.{◌≡◌, List, [], ◌∷◌, ap, sym, ◌∙◌, map, reverse, Token, sign_of_token, formula_tokens}
+use Rattle.conditions.specs.declared.token.Token.{TheVariants.Open, TheVariants.Close}
+use Rattle.conditions.proofs.{Unwound.reverse_push, CanonicalSigns.tokens_enclosed}
 use Rattle.conditions.proofs.writer.enclosed_tokens.Goals as goal
 
 pub returns : goal.returns

@@ -1,5 +1,4 @@
-use Rattle.std.proofs.Common.{List, ap, ◌∙◌, map}
-use Rattle.conditions.proofs.Vocabulary.{reverse, Token, sign_of_token, formula_tokens}
+use Rattle.conditions.proofs.Vocabulary.{List, ap, ◌∙◌, map, reverse, Token, sign_of_token, formula_tokens}
 use Rattle.conditions.proofs.CanonicalSigns.{tokens_whole}
 use Rattle.conditions.proofs.writer.tokens.Goals as goal
 

@@ -1,5 +1,4 @@
-use Rattle.std.proofs.Common.{arith}
-use mathlib.Core.List.{reverse}
+use Rattle.conditions.proofs.Vocabulary.{arith, reverse}
 use Rattle.conditions.proofs.Unwound.{tokens_end}
 use Rattle.conditions.proofs.writer.unwind_all.Goals as goal
 

@@ -1,5 +1,4 @@
-use Rattle.std.proofs.Common.{◌≡◌, ◌≤◌, [], length, take}
-use Rattle.conditions.proofs.Vocabulary.{reverse, unwound}
+use Rattle.conditions.proofs.Vocabulary.{◌≡◌, ◌≤◌, [], length, take, reverse, unwound}
 use Rattle.conditions.proofs.writer.unwind_all.Given as goal
 
 -- the nodes that are left give what all nodes give

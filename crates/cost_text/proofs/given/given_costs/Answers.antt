@@ -1,6 +1,4 @@
-use Rattle.std.proofs.Common.{◌≡◌, IfErr, option_map, ℕ, List, Bor, Option, Ok, Err, sym, subst}
-use Rattle.std.specs.Prelude.{Result, MatchResult}
-use Rattle.cost_text.proofs.Vocabulary.{Thread, CostTextFault, IsCostText, RefusesCosts}
+use Rattle.cost_text.proofs.Vocabulary.{◌≡◌, IfErr, option_map, ℕ, List, Bor, Option, Ok, Err, sym, subst, Result, MatchResult, Thread, CostTextFault, IsCostText, RefusesCosts}
 use Rattle.cost_text.specs.declared.fault.CostTextFault.TheVariants as fault
 use Rattle.cost_text.specs.GivenCosts.{AreNotGiven, IsNoCostText}
 use Rattle.cost_text.proofs.given.given_costs.Goals as goal

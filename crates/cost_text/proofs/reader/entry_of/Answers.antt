@@ -1,7 +1,5 @@
-use Rattle.std.proofs.Common.{refl, sym, ◌∙◌}
-use Rattle.cost_text.specs.Internal.TextReading.{digits_of}
-use Rattle.cost_text.proofs.LineLaws.{unread}
-use Rattle.cost_text.proofs.Judged.{of_no_gap, repeated, new_entry, of_no_cost}
+use Rattle.cost_text.proofs.Vocabulary.{refl, sym, ◌∙◌, digits_of}
+use Rattle.cost_text.proofs.{LineLaws.unread, Judged.of_no_gap, Judged.repeated, Judged.new_entry, Judged.of_no_cost}
 use Rattle.cost_text.proofs.reader.entry_of.Goals as goal
 
 pub returns-in_default-clause-refused : goal.returns-in_default-clause-refused

@@ -1,5 +1,4 @@
-use Rattle.std.proofs.Common.{◌∙◌, ap, map, unwrap_or}
-use Rattle.std.proofs.lemmas.Result.{err_from_is_err_and}
+use Rattle.cost_text.proofs.Vocabulary.{◌∙◌, ap, map, unwrap_or, err_from_is_err_and}
 use Rattle.cost_text.proofs.TextLaws.{refuted, costs_once, costs_found}
 use Rattle.cost_text.proofs.reader.read_costs.Goals as goal
 

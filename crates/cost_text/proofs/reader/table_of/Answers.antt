@@ -1,6 +1,4 @@
-use Rattle.std.proofs.Common.{◌<◌, [], length, map, sym, ◌∙◌, arith}
-use Rattle.std.proofs.lemmas.List.{length-map, get_or-map}
-use Rattle.std.proofs.lemmas.Result.{err_from_is_err_and}
+use Rattle.cost_text.proofs.Vocabulary.{◌<◌, [], length, map, sym, ◌∙◌, arith, length-map, get_or-map, err_from_is_err_and}
 use Rattle.cost_text.proofs.TextLaws.{first_table, blank_more, entry_more, refused_there, is_table, table_long}
 use Rattle.cost_text.proofs.reader.table_of.Goals as goal
 use Rattle.cost_text.proofs.reader.table_of.Goals.{then-not-are_line_spaces+in_ok-gap, else-not-are_line_spaces}

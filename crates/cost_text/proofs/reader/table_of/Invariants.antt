@@ -1,5 +1,4 @@
-use Rattle.std.proofs.Common.{map, take}
-use Rattle.cost_text.specs.Internal.TextReading.{IsTableOf}
+use Rattle.cost_text.proofs.Vocabulary.{map, take, IsTableOf}
 use Rattle.cost_text.proofs.reader.table_of.Given as goal
 
 -- the table has what the lines so far say

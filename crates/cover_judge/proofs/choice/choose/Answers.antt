@@ -1,5 +1,4 @@
-use Rattle.std.proofs.Common.{sym, ◌∙◌, subst}
-use Rattle.cover_judge.proofs.Vocabulary.{same_Some, IsValueOf, MayChoose}
+use Rattle.cover_judge.proofs.Vocabulary.{sym, ◌∙◌, subst, same_Some, IsValueOf, MayChoose}
 use Rattle.cover_judge.proofs.choice.choose.Goals as goal
 
 pub give_value-chosen-requires-clause-value : goal.give_value-chosen-requires-clause-value

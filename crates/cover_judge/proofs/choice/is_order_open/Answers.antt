@@ -1,5 +1,4 @@
-use Rattle.std.proofs.Common.{◌≡◌, true, false, sym, ◌∙◌}
-use Rattle.tree_laws.specs.CoverTrees.{event_of}
+use Rattle.cover_judge.proofs.Vocabulary.{◌≡◌, true, false, sym, ◌∙◌, event_of}
 use Rattle.cover_judge.proofs.ChoicesJudged.{untrue, other_way}
 use Rattle.cover_judge.proofs.choice.is_order_open.Goals as goal
 

@@ -1,7 +1,5 @@
-use Rattle.std.proofs.Common.{◌↔◌, ◌≡◌, Some, Contains, sym, ap, ◌∙◌, map, subst}
-use Rattle.cover_judge.proofs.Vocabulary.{Event, IsSourceOf, IsWhole, mode_in, event_of}
+use Rattle.cover_judge.proofs.Vocabulary.{◌↔◌, ◌≡◌, Some, Contains, sym, ap, ◌∙◌, map, subst, Event, IsSourceOf, IsWhole, mode_in, event_of, IsRead}
 use Rattle.candidate_executions.proofs.Orders.Lists.{some_value}
-use Rattle.sketches.specs.Choices.{IsRead}
 use Rattle.cover_judge.specs.declared.choice.Choice.TheVariants as choice
 use Rattle.cover_judge.proofs.ChoicesJudged.{sources_are, sources_may, no_source}
 use Rattle.cover_judge.proofs.choice.source_choices.Goals as goal

@@ -1,4 +1,4 @@
-use Rattle.std.proofs.Common.{sym, ap, ◌∙◌, map}
+use Rattle.cover_judge.proofs.Vocabulary.{sym, ap, ◌∙◌, map}
 use Rattle.cover_judge.specs.declared.choice.Choice.TheVariants as choice
 use Rattle.cover_judge.proofs.ChoicesJudged.{values_may}
 use Rattle.cover_judge.proofs.choice.value_choices.Goals as goal

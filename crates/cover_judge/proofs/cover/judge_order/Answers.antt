@@ -1,5 +1,4 @@
-use Rattle.std.proofs.Common.{◌≡◌, true, false, sym, ◌∙◌}
-use Rattle.sketches.specs.ProgramSketches.{mode_in}
+use Rattle.cover_judge.proofs.Vocabulary.{◌≡◌, true, false, sym, ◌∙◌, mode_in}
 use Rattle.tree_laws.specs.CoverTrees as trees
 use Rattle.cover_judge.proofs.ChoicesJudged.{here, may_order}
 use Rattle.cover_judge.proofs.cover.judge_order.Goals as goal

@@ -1,9 +1,5 @@
-use Rattle.std.proofs.Common.{◌≡◌, Option, Some, MatchOption, length, subst, ap, arith}
-use Rattle.std.specs.Global.{Vec}
-use Rattle.cover_judge.proofs.Vocabulary.{Event, ProgramSketch, mode_in, event_of, one_list_of_sources, HasNoSources, AreSources}
-use Rattle.sketches.specs.Choices.{HasSource}
-use Rattle.sketches.specs.RowlessSketches.{IsFree}
-use Rattle.tree_laws.specs.CoverTrees.{HasSources}
+use Rattle.cover_judge.proofs.Vocabulary.{◌≡◌, Option, Some, MatchOption, length, subst, ap, arith, Vec, Event, ProgramSketch, mode_in, event_of, one_list_of_sources, HasNoSources, AreSources}
+use Rattle.cover_judge.proofs.Vocabulary.{HasSource, IsFree, HasSources}
 use Rattle.cover_judge.proofs.ChoicesJudged.{here, sources_are}
 use Rattle.cover_judge.proofs.rowless.free_sources.Goals as goal
 

@@ -1,6 +1,4 @@
-use Rattle.std.proofs.Common.{◌≡◌, true, false, sym, ◌∙◌, map}
-use Rattle.cover_judge.proofs.Vocabulary.{mode_in, event_of}
-use Rattle.candidate_executions.specs.Sketches.{IsKnownCycle}
+use Rattle.cover_judge.proofs.Vocabulary.{◌≡◌, true, false, sym, ◌∙◌, map, mode_in, event_of, IsKnownCycle}
 use Rattle.cover_judge.proofs.ChoicesJudged.{here}
 use Rattle.cover_judge.proofs.rowless.judge_cycle.Goals as goal
 

@@ -1,7 +1,4 @@
-use Rattle.std.proofs.Common.{◌↔◌, map}
-use Rattle.cover_judge.proofs.Vocabulary.{mode_in, event_of}
-use Rattle.candidate_executions.specs.Consistency.{Leads}
-use Rattle.candidate_executions.specs.Sketches.{KnownEdgeOfMode}
+use Rattle.cover_judge.proofs.Vocabulary.{◌↔◌, map, mode_in, event_of, Leads, KnownEdgeOfMode}
 use Rattle.cover_judge.proofs.rowless.leads_back.Given as goal
 
 -- the accesses so far lead from each to the next, so the rest decides

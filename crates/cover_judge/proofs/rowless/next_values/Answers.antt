@@ -1,5 +1,4 @@
-use Rattle.std.proofs.Common.{◌≡◌, length, sym, ap, ◌∙◌, arith}
-use Rattle.cover_judge.proofs.Vocabulary.{mode_in, HasNextValues, one_list_of_values, HasNoValues}
+use Rattle.cover_judge.proofs.Vocabulary.{◌≡◌, length, sym, ap, ◌∙◌, arith, mode_in, HasNextValues, one_list_of_values, HasNoValues}
 use Rattle.cover_judge.proofs.ChoicesJudged.{here}
 use Rattle.cover_judge.proofs.rowless.next_values.Goals as goal
 

@@ -1,4 +1,4 @@
-use Rattle.cover_solver.specs.Facts.{AreOf}
+use Rattle.cover_solver.proofs.Vocabulary.{AreOf}
 use Rattle.cover_solver.proofs.hole_runs.add_others.Given as goal
 
 -- the runs so far are of the table's question

@@ -1,5 +1,4 @@
-use Rattle.std.proofs.Common.{◌↔◌, Contains, subst}
-use Rattle.cover_solver.proofs.Vocabulary.{asked, Machine, AllowsShown}
+use Rattle.cover_solver.proofs.Vocabulary.{◌↔◌, Contains, subst, asked, Machine, AllowsShown}
 use Rattle.cover_solver.proofs.outcome_list.outcomes.Goals as goal
 
 pub returns-clause-exact : goal.returns-clause-exact

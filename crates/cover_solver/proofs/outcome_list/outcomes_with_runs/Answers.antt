@@ -1,5 +1,4 @@
-use Rattle.std.proofs.Common.{◌↔◌, Contains, subst}
-use Rattle.cover_solver.proofs.Vocabulary.{asked, Machine, AllowsShown, AreRunsOf}
+use Rattle.cover_solver.proofs.Vocabulary.{◌↔◌, Contains, subst, asked, Machine, AllowsShown, AreRunsOf}
 use Rattle.cover_solver.proofs.outcome_list.outcomes_with_runs.Goals as goal
 
 pub returns-clause-runs : goal.returns-clause-runs

@@ -1,5 +1,4 @@
-use Rattle.std.proofs.Common.{◌≡◌, List, Some, slice_get, sym, subst}
-use Rattle.cover_solver.proofs.Vocabulary.{Outcome, Label, IsShownRun, BelongsAt, not_there}
+use Rattle.cover_solver.proofs.Vocabulary.{◌≡◌, List, Some, slice_get, sym, subst, Outcome, Label, IsShownRun, BelongsAt, not_there}
 use Rattle.sketch_covers.proofs.RunAt.{run_at}
 use Rattle.cover_solver.proofs.witnesses.run_of.Goals as goal
 

@@ -1,4 +1,4 @@
-use Rattle.tso_machine.specs.Modes.{machine_of_mode}
+use Rattle.cover_solver.proofs.Vocabulary.{machine_of_mode}
 use Rattle.cover_solver.proofs.Witnessed.{found_or_none}
 use Rattle.cover_solver.proofs.witnesses.witness.Goals as goal
 

@@ -1,6 +1,5 @@
-use Rattle.std.proofs.Common.{◌∙◌, ℕ, List, [], ◌∷◌, ◌++◌, ap, sym, arith}
+use Rattle.documents.proofs.Vocabulary.{◌∙◌, ℕ, List, [], ◌∷◌, ◌++◌, ap, sym, arith, slice_index, gap_value}
 use Rattle.std.proofs.lemmas.List.FromFn.{map-range_with_len_more}
-use Rattle.documents.proofs.Vocabulary.{slice_index, gap_value}
 use Rattle.documents.proofs.answer.costs_array.Goals as goal
 
 pub loop-gap-preserved : goal.loop-gap-preserved

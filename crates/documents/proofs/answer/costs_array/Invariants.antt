@@ -1,6 +1,4 @@
-use Rattle.std.proofs.Common.{◌≡◌, map}
-use Rattle.std.specs.List.{range_with_len}
-use Rattle.documents.proofs.Vocabulary.{slice_index, gap_value}
+use Rattle.documents.proofs.Vocabulary.{◌≡◌, map, range_with_len, slice_index, gap_value}
 use Rattle.documents.proofs.answer.costs_array.Given as goal
 
 -- the gaps so far

@@ -1,7 +1,5 @@
-use Rattle.std.proofs.Common.{ℕ, List, [], ◌∷◌, codes}
-use Rattle.documents.proofs.Vocabulary.{quoted, member, truth_text, Machine, setting_member}
+use Rattle.documents.proofs.Vocabulary.{ℕ, List, [], ◌∷◌, codes, quoted, member, truth_text, Machine, setting_member, is_observed, outcomes_array}
 use Rattle.report.specs.Observations.{frequency, is_true_of}
-use Rattle.documents.specs.Parts.{is_observed, outcomes_array}
 use Rattle.documents.proofs.Told.{added}
 use Rattle.documents.proofs.document.outcomes_object.Goals as goal
 

@@ -1,4 +1,4 @@
-use Rattle.std.proofs.lemmas.Result.{IfOk-weaker}
+use Rattle.documents.proofs.Vocabulary.{IfOk-weaker}
 use Rattle.documents.proofs.Told.{document_with}
 use Rattle.documents.proofs.document.trace_document.Goals as goal
 

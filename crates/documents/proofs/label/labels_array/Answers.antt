@@ -1,6 +1,5 @@
-use Rattle.std.proofs.Common.{◌∙◌, ℕ, List, [], ◌∷◌, ◌++◌, get_or, ap, sym}
-use Rattle.documents.proofs.Vocabulary.{map_more, Label, spelling, quoted}
-use Rattle.tso_machine.specs.declared.label.Label.TheVariants.{Exec}
+use Rattle.documents.proofs.Vocabulary.{◌∙◌, ℕ, List, [], ◌∷◌, ◌++◌, get_or, ap, sym, map_more, Label, spelling, quoted}
+use Rattle.tso_machine.specs.declared.label.Label.{TheVariants.Exec}
 use Rattle.documents.proofs.label.labels_array.Goals as goal
 
 pub loop-label-preserved : goal.loop-label-preserved

@@ -1,5 +1,4 @@
-use Rattle.std.proofs.Common.{◌≡◌, map, take}
-use Rattle.documents.proofs.Vocabulary.{quoted, spelling}
+use Rattle.documents.proofs.Vocabulary.{◌≡◌, map, take, quoted, spelling}
 use Rattle.documents.proofs.label.labels_array.Given as goal
 
 -- the labels so far

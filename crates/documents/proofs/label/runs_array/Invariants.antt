@@ -1,5 +1,4 @@
-use Rattle.std.proofs.Common.{◌≡◌, ◌++◌, map}
-use Rattle.documents.specs.Runs.{labels_array}
+use Rattle.documents.proofs.Vocabulary.{◌≡◌, ◌++◌, map, labels_array}
 use Rattle.documents.proofs.label.runs_array.Given as goal
 
 -- the runs so far, and those to come

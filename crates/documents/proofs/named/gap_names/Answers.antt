@@ -1,5 +1,4 @@
-use Rattle.std.proofs.Common.{◌∙◌, ℕ, List, [], ◌∷◌, ◌++◌, ap, sym}
-use Rattle.documents.proofs.Vocabulary.{map-append, quoted_gap}
+use Rattle.documents.proofs.Vocabulary.{◌∙◌, ℕ, List, [], ◌∷◌, ◌++◌, ap, sym, map-append, quoted_gap}
 use Rattle.documents.proofs.named.gap_names.Goals as goal
 
 pub loop-gap-preserved : goal.loop-gap-preserved

@@ -1,5 +1,4 @@
-use Rattle.std.proofs.Common.{◌≡◌, map}
-use Rattle.documents.specs.Parts.{quoted_gap}
+use Rattle.documents.proofs.Vocabulary.{◌≡◌, map, quoted_gap}
 use Rattle.documents.proofs.named.gap_names.Given as goal
 
 -- the gaps so far

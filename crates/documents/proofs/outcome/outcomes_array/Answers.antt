@@ -1,5 +1,4 @@
-use Rattle.std.proofs.Common.{◌∙◌, ℕ, List, [], ◌∷◌, ◌++◌, get_or, ap, sym}
-use Rattle.documents.proofs.Vocabulary.{map_more, outcome_array}
+use Rattle.documents.proofs.Vocabulary.{◌∙◌, ℕ, List, [], ◌∷◌, ◌++◌, get_or, ap, sym, map_more, outcome_array}
 use Rattle.documents.proofs.outcome.outcomes_array.Goals as goal
 
 pub loop-outcome-preserved : goal.loop-outcome-preserved

@@ -1,5 +1,4 @@
-use Rattle.std.proofs.Common.{◌≡◌, map, take}
-use Rattle.documents.specs.Parts.{outcome_array}
+use Rattle.documents.proofs.Vocabulary.{◌≡◌, map, take, outcome_array}
 use Rattle.documents.proofs.outcome.outcomes_array.Given as goal
 
 -- the outcomes so far

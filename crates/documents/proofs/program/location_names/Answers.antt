@@ -1,5 +1,4 @@
-use Rattle.std.proofs.Common.{◌∙◌, ℕ, List, [], ◌∷◌, ◌++◌, get_or, ap, sym, arith}
-use Rattle.documents.proofs.Vocabulary.{map_more, quoted}
+use Rattle.documents.proofs.Vocabulary.{◌∙◌, ℕ, List, [], ◌∷◌, ◌++◌, get_or, ap, sym, arith, map_more, quoted}
 use Rattle.documents.proofs.program.location_names.Goals as goal
 
 pub loop-number-preserved : goal.loop-number-preserved

@@ -1,5 +1,4 @@
-use Rattle.std.proofs.Common.{◌≡◌, map, take}
-use Rattle.json_text.specs.Texts.{quoted}
+use Rattle.documents.proofs.Vocabulary.{◌≡◌, map, take, quoted}
 use Rattle.documents.proofs.program.location_names.Given as goal
 
 -- the names so far

@@ -1,5 +1,4 @@
-use Rattle.std.proofs.Common.{ℕ, List, [], ◌∷◌, codes}
-use Rattle.json_text.specs.Texts.{member}
+use Rattle.documents.proofs.Vocabulary.{ℕ, List, [], ◌∷◌, codes, member}
 use Rattle.documents.proofs.Told.{added}
 use Rattle.documents.proofs.refusal.add_message.Goals as goal
 

@@ -1,5 +1,4 @@
-use Rattle.std.proofs.Common.{◌∙◌, ap}
-use Rattle.documents.proofs.Vocabulary.{IfOk-weaker, document_of}
+use Rattle.documents.proofs.Vocabulary.{◌∙◌, ap, IfOk-weaker, document_of}
 use Rattle.documents.proofs.refusal.refusal_document.Goals as goal
 
 pub returns-clause-told : goal.returns-clause-told

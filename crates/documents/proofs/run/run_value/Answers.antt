@@ -1,6 +1,4 @@
-use Rattle.std.proofs.Common.{◌∙◌, ap}
-use Rattle.std.proofs.lemmas.Result.{IfOk-weaker}
-use Rattle.json_text.specs.Texts.{object_text}
+use Rattle.documents.proofs.Vocabulary.{◌∙◌, ap, IfOk-weaker, object_text}
 use Rattle.documents.proofs.run.run_value.Goals as goal
 
 pub returns : goal.returns

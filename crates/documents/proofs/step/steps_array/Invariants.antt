@@ -1,5 +1,4 @@
-use Rattle.std.proofs.Common.{◌≡◌, List, map, take}
-use Rattle.documents.proofs.Vocabulary.{StepPart, step_text, HaveLabels}
+use Rattle.documents.proofs.Vocabulary.{◌≡◌, List, map, take, StepPart, step_text, HaveLabels}
 use Rattle.documents.proofs.step.steps_array.Given as goal
 
 -- the steps so far

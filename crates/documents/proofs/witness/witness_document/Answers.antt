@@ -1,6 +1,4 @@
-use Rattle.std.proofs.Common.{ℕ, List, [], ◌∷◌, codes}
-use Rattle.documents.proofs.Vocabulary.{IfOk-weaker, member, truth_text, Machine, setting_member}
-use Rattle.documents.specs.Parts.{gaps_array}
+use Rattle.documents.proofs.Vocabulary.{ℕ, List, [], ◌∷◌, codes, IfOk-weaker, member, truth_text, Machine, setting_member, gaps_array}
 use Rattle.documents.specs.Witnesses.{run_or_null}
 use Rattle.documents.proofs.Told.{added, document_with}
 use Rattle.documents.proofs.witness.witness_document.Goals as goal

@@ -1,6 +1,4 @@
-use Rattle.std.proofs.Common.{◌≡◌, ◌∙◌, ℕ, ◌<◌, ◌≤◌, ◌+◌, ◌-◌, ◌*◌, List, [], ◌∷◌, length, sym, subst, arith, true, get_or}
-use Rattle.fence_place.proofs.Vocabulary.{slice_get-get_or, open_gaps, MAX_GAPS, few_open, Bound, is_closed}
-use Rattle.cert_check.proofs.Answered.{on_ok}
+use Rattle.fence_place.proofs.Vocabulary.{◌≡◌, ◌∙◌, ◌<◌, ◌≤◌, ◌+◌, ◌-◌, ◌*◌, [], length, arith, true, get_or, slice_get-get_or, open_gaps, MAX_GAPS, few_open, is_closed, on_ok}
 use Rattle.fence_place.proofs.Recording.{split_event, other_event, kids_there, split_facts}
 use Rattle.fence_place.proofs.RecordPushed.{bound_pushed, split_pushed, none_pushed, one_pushed}
 use Rattle.fence_place.proofs.certificates.+push_tree.Goals as goal

@@ -1,5 +1,4 @@
-use Rattle.std.proofs.Common.{◌+◌, ◌-◌, ◌*◌, length}
-use Rattle.fence_place.specs.Recorded.{PushesRecords}
+use Rattle.fence_place.proofs.Vocabulary.{◌+◌, ◌-◌, ◌*◌, length, PushesRecords}
 use Rattle.fence_place.proofs.certificates.+push_tree.Given as goal
 
 -- children follow their node

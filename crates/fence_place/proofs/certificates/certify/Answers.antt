@@ -1,5 +1,4 @@
-use Rattle.std.proofs.Common.{◌≡◌, ◌∙◌, ℕ, List, sym, ap, subst}
-use Rattle.fence_place.proofs.Vocabulary.{total, Label, Certificate, AreShownPlaces, shows_of, Serving, IsServing, IsRecorded, IsProof}
+use Rattle.fence_place.proofs.Vocabulary.{◌≡◌, ◌∙◌, ℕ, List, sym, ap, subst, total, Label, Certificate, AreShownPlaces, shows_of, Serving, IsServing, IsRecorded, IsProof}
 use Rattle.fence_place.proofs.CertificateMade.{is_proof}
 use Rattle.fence_place.proofs.certificates.certify.Goals as goal
 

@@ -1,7 +1,4 @@
-use Rattle.std.proofs.Common.{◌≡◌, ◌++◌, List, sym, ap, ◌∙◌, subst}
-use Rattle.fence_place.proofs.Vocabulary.{Gap, GapNode, spell_gap, IsRecorded}
-use Rattle.cert_forest.proofs.GapNodeLaws.{is_gap_tree, same_gap}
-use Rattle.cert_check.proofs.Answered.{if_ok}
+use Rattle.fence_place.proofs.Vocabulary.{◌≡◌, ◌++◌, List, sym, ap, ◌∙◌, subst, Gap, GapNode, spell_gap, IsRecorded, is_gap_tree, same_gap, if_ok}
 use Rattle.fence_place.proofs.certificates.gap_tree.Goals as goal
 
 pub of_nodes-requires : goal.of_nodes-requires

@@ -1,5 +1,4 @@
-use Rattle.std.proofs.Common.{◌≡◌, ◌∙◌, ◌<◌, ◌≤◌, ℕ, zero, suc, List, [], ◌∷◌, ◌++◌, Some, None, length, length-append, sym, ap, subst, arith}
-use Rattle.fence_place.proofs.Vocabulary.{slice_get, slice_get_within, AreNumbersOf}
+use Rattle.fence_place.proofs.Vocabulary.{◌≡◌, ◌∙◌, ◌<◌, ◌≤◌, ℕ, zero, suc, List, [], ◌∷◌, ◌++◌, Some, None, length, length-append, sym, ap, subst, arith, slice_get, slice_get_within, AreNumbersOf}
 use Rattle.fence_place.proofs.Recording.{numbered_more, of_nodes_more, still_distinct}
 use Rattle.fence_place.proofs.certificates.listed_runs.Goals as goal
 

@@ -1,5 +1,4 @@
-use Rattle.std.proofs.Common.{◌-◌, ◌≤◌, length}
-use Rattle.fence_place.specs.Recorded.{AreNumbersOf, AreSplitRuns, AreDistinct}
+use Rattle.fence_place.proofs.Vocabulary.{◌-◌, ◌≤◌, length, AreNumbersOf, AreSplitRuns, AreDistinct}
 use Rattle.fence_place.proofs.certificates.listed_runs.Given as goal
 
 abbrev pub invariant-loop-settled : goal.invariant-loop-settled

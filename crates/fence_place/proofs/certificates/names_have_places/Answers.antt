@@ -1,5 +1,4 @@
-use Rattle.std.proofs.Common.{sym, subst}
-use Rattle.fence_place.proofs.Vocabulary.{Shown, AreShownPlaces, shows_of}
+use Rattle.fence_place.proofs.Vocabulary.{sym, subst, Shown, AreShownPlaces, shows_of}
 use Rattle.fence_place.proofs.certificates.names_have_places.Goals as goal
 
 pub returns-in-Only : goal.returns-in-Only

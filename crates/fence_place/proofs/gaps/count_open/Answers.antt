@@ -1,5 +1,4 @@
-use Rattle.std.proofs.Common.{◌≡◌, ◌+◌, ◌≤◌, ◌<◌, ◌^◌, ℕ, Bool, true, List, ◌∷◌, cond, length, not, sym, ap, ◌∙◌, arith}
-use Rattle.fence_place.proofs.Vocabulary.{filter, is_free, open_gaps, few_open}
+use Rattle.fence_place.proofs.Vocabulary.{◌≡◌, ◌+◌, ◌≤◌, ◌<◌, ◌^◌, ℕ, Bool, true, List, ◌∷◌, cond, length, not, sym, ap, ◌∙◌, arith, filter, is_free, open_gaps, few_open}
 use Rattle.fence_place.proofs.gaps.count_open.Goals as goal
 
 one_more : (p : ℕ → Bool) (count : ℕ) (left rest : List ℕ) (whole gap : ℕ) → left ≡ gap ∷ rest → p gap ≡ true → count + length (filter p left) ≡ whole → count + 1 ≤ whole

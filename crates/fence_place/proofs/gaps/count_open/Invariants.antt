@@ -1,5 +1,4 @@
-use Rattle.std.proofs.Common.{◌≡◌, ◌+◌, length}
-use Rattle.fence_place.proofs.Vocabulary.{filter, is_free, open_gaps}
+use Rattle.fence_place.proofs.Vocabulary.{◌≡◌, ◌+◌, length, filter, is_free, open_gaps}
 use Rattle.fence_place.proofs.gaps.count_open.Given as goal
 
 -- those so far, and those to come

@@ -1,6 +1,4 @@
-use Rattle.std.proofs.Common.{Ok, Err}
-use Rattle.std.specs.Prelude.{IfErr}
-use Rattle.fence_place.proofs.Vocabulary.{Result, PlaceFault}
+use Rattle.fence_place.proofs.Vocabulary.{Ok, Err, IfErr, Result, PlaceFault}
 use Rattle.fence_place.proofs.Workers.{hunt_fails}
 use Rattle.fence_place.proofs.hunting.hunt.Goals as goal
 

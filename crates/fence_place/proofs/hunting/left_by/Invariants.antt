@@ -1,5 +1,4 @@
-use Rattle.std.proofs.Common.{vec_len}
-use Rattle.fence_place.proofs.Vocabulary.{All, IsOf, Worker}
+use Rattle.fence_place.proofs.Vocabulary.{vec_len, All, IsOf, Worker}
 use Rattle.fence_place.proofs.hunting.left_by.Given as goal
 
 -- all seats are of the hunt

@@ -1,6 +1,4 @@
-use Rattle.std.proofs.Common.{◌≡◌, ℕ, ◌<◌, Some, false}
-use Rattle.fence_place.proofs.Vocabulary.{slice_get, Worker}
-use Rattle.fence_place.specs.Internal.Workers.{lacks_run}
+use Rattle.fence_place.proofs.Vocabulary.{◌≡◌, ℕ, ◌<◌, Some, false, slice_get, Worker, lacks_run}
 use Rattle.fence_place.proofs.hunting.none_lacks_run.Given as goal
 
 -- none has lacked a run so far

@@ -1,7 +1,4 @@
-use Rattle.std.proofs.Common.{[], Option, arith, ap, sym, ◌∙◌, subst}
-use Rattle.std.proofs.lemmas.List.Elements.{All-pop, All-push}
-use Rattle.fence_place.proofs.Vocabulary.{All, IfSome, AreOf, IsReadyWorker}
-use Rattle.hunt_board.specs.Seats.{SeatView, IsOf, IsFresh}
+use Rattle.fence_place.proofs.Vocabulary.{[], Option, arith, ap, sym, ◌∙◌, subst, All-pop, All-push, All, IfSome, AreOf, IsReadyWorker, SeatView, IsOf, IsFresh}
 use Rattle.fence_place.proofs.hunting.workers_at.Goals as goal
 
 pub loop-seat-preserved : goal.loop-seat-preserved

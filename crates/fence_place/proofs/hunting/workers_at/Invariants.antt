@@ -1,5 +1,4 @@
-use Rattle.std.proofs.Common.{vec_len}
-use Rattle.fence_place.proofs.Vocabulary.{All, IsFresh, IsReadyWorker}
+use Rattle.fence_place.proofs.Vocabulary.{vec_len, All, IsFresh, IsReadyWorker}
 use Rattle.fence_place.proofs.hunting.workers_at.Given as goal
 
 -- the seats that are left are as they were, and those before them have workers

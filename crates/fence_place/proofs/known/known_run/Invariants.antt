@@ -1,5 +1,4 @@
-use Rattle.std.proofs.Common.{◌≡◌, Some}
-use Rattle.fence_place.proofs.Vocabulary.{slice_get, IfSome, Foreign, PassesNoneOf}
+use Rattle.fence_place.proofs.Vocabulary.{◌≡◌, Some, slice_get, IfSome, Foreign, PassesNoneOf}
 use Rattle.fence_place.proofs.known.known_run.Given as goal
 
 -- the best so far is one of them, and passes none of these gaps

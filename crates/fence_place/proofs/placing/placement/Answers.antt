@@ -1,5 +1,4 @@
-use Rattle.std.proofs.Common.{ℕ, List, sym, ap, subst}
-use Rattle.fence_place.proofs.Vocabulary.{Question, Certificate, IsProof}
+use Rattle.fence_place.proofs.Vocabulary.{ℕ, List, sym, ap, subst, Question, Certificate, IsProof}
 use Rattle.fence_place.proofs.PlacementMade.{is_placement}
 use Rattle.fence_place.proofs.placing.placement.Goals as goal
 

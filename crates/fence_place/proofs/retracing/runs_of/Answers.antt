@@ -1,7 +1,5 @@
-use Rattle.std.proofs.Common.{◌≡◌, ◌∙◌, ℕ, Some, refl, sym, ap, subst}
-use Rattle.fence_place.proofs.Vocabulary.{slice_get, AreOf, Foreign, Entry, Event, Outcome, finished_state, IsOutcome, IsEventOf, facts_of}
+use Rattle.fence_place.proofs.Vocabulary.{◌≡◌, ◌∙◌, ℕ, Some, refl, sym, ap, subst, slice_get, AreOf, Foreign, Entry, Event, Outcome, finished_state, IsOutcome, IsEventOf, facts_of, IsOfQuestion}
 use Rattle.search_core.specs.declared.finished.Event.TheVariants as event
-use Rattle.fence_place.specs.Internal.Searches.{IsOfQuestion}
 use Rattle.fence_place.proofs.Recording.{split_event}
 use Rattle.fence_place.proofs.retracing.runs_of.Goals as goal
 use Rattle.fence_place.proofs.retracing.runs_of.Goals.{in-Some+in_ok-add_run, in_default}

@@ -1,4 +1,4 @@
-use Rattle.cover_solver.specs.Facts.{AreOf}
+use Rattle.fence_place.proofs.Vocabulary.{AreOf}
 use Rattle.fence_place.proofs.retracing.runs_of.Given as goal
 
 -- the runs so far are of the question

@@ -1,5 +1,4 @@
-use Rattle.std.proofs.Common.{sym, subst, ◌<◌, ◌≡◌, ◌∙◌, ℕ, arith}
-use Rattle.fence_place.proofs.Vocabulary.{Question, AreGapsOf, IsDone, work_left}
+use Rattle.fence_place.proofs.Vocabulary.{sym, subst, ◌<◌, ◌≡◌, ◌∙◌, ℕ, arith, Question, AreGapsOf, IsDone, work_left}
 use Rattle.search_core.specs.Faults.{TakeFaultIs}
 use Rattle.fence_place.proofs.Settling.{all_done, none_after}
 use Rattle.fence_place.proofs.searching.go_on.Goals as goal

@@ -1,5 +1,4 @@
-use Rattle.std.proofs.Common.{◌≡◌, ◌∙◌, arith, subst, sym}
-use Rattle.fence_place.proofs.Vocabulary.{Question, AreOf}
+use Rattle.fence_place.proofs.Vocabulary.{◌≡◌, ◌∙◌, arith, subst, sym, Question, AreOf}
 use Rattle.fence_place.proofs.Settling.{start_unheld}
 use Rattle.fence_place.proofs.searching.search.Goals as goal
 

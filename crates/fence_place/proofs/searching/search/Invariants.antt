@@ -1,6 +1,4 @@
-use Rattle.std.proofs.Common.{◌≡◌}
-use Rattle.search_core.specs.Work.{work_left}
-use Rattle.fence_place.specs.Internal.Searches.{IsAtRest}
+use Rattle.fence_place.proofs.Vocabulary.{◌≡◌, work_left, IsAtRest}
 use Rattle.fence_place.proofs.searching.search.Given as goal
 
 -- no seat holds a node between two of them

@@ -1,7 +1,4 @@
-use Rattle.std.proofs.Common.{◌≡◌, ◌∙◌, List, Some, sym, subst}
-use Rattle.fence_place.proofs.Vocabulary.{slice_get, Foreign, PassesNoneOf, SearchState}
-use Rattle.search_core.specs.Events.{MaySplit, by_split}
-use Rattle.fence_place.specs.Internal.Searches.{HasSettled}
+use Rattle.fence_place.proofs.Vocabulary.{◌≡◌, ◌∙◌, List, Some, sym, subst, slice_get, Foreign, PassesNoneOf, SearchState, MaySplit, by_split, HasSettled}
 use Rattle.fence_place.proofs.Workers.{element, read_at}
 use Rattle.fence_place.proofs.searching.settle.Goals as goal
 

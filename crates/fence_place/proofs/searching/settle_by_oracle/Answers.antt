@@ -1,6 +1,4 @@
-use Rattle.std.proofs.Common.{◌≡◌, ◌∙◌, sym, subst}
-use Rattle.fence_place.proofs.Vocabulary.{All-push, Foreign, AreOf, by_confirm, by_split}
-use Rattle.cover_solver.specs.Verdicts.{IsVerdictOf}
+use Rattle.fence_place.proofs.Vocabulary.{◌≡◌, ◌∙◌, sym, subst, All-push, Foreign, AreOf, by_confirm, by_split, IsVerdictOf}
 use Rattle.fence_place.proofs.searching.settle_by_oracle.Goals as goal
 
 pub split_held-requires : goal.split_held-requires

@@ -1,7 +1,5 @@
-use Rattle.std.proofs.Common.{◌≡◌, ℕ, Some, Ok, Err, sym, ap, subst, ◌∙◌}
-use Rattle.std.specs.Prelude.{IfOk, IfSome, slice_get}
+use Rattle.fence_place.proofs.Vocabulary.{◌≡◌, ℕ, Some, Ok, Err, sym, ap, subst, ◌∙◌, IfOk, IfSome, slice_get, Result, Foreign, PassesNoneOf}
 use Rattle.std.specs.Result.{result_ok}
-use Rattle.fence_place.proofs.Vocabulary.{Result, Foreign, PassesNoneOf}
 use Rattle.fence_place.proofs.Workers.{read_at}
 use Rattle.fence_place.proofs.worker.copy_of_known.Goals as goal
 

@@ -1,6 +1,4 @@
-use Rattle.std.proofs.Common.{◌≡◌, Bool, true, false, true≢false, Option, Some, None, sym, subst}
-use Rattle.std.specs.Prelude.{IsTrue, MatchOption, not}
-use Rattle.fence_place.proofs.Vocabulary.{SetOfGaps, IsServing}
+use Rattle.fence_place.proofs.Vocabulary.{◌≡◌, Bool, true, false, true≢false, Option, Some, None, sym, subst, IsTrue, MatchOption, not, SetOfGaps, IsServing}
 use Rattle.fence_place.proofs.Workers.{beaten}
 use Rattle.fence_place.proofs.worker.is_beaten.Goals as goal
 

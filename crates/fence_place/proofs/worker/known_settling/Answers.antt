@@ -1,5 +1,4 @@
-use Rattle.std.proofs.Common.{ℕ, List, subst}
-use Rattle.search_core.specs.Events.{IsBeatenBy}
+use Rattle.fence_place.proofs.Vocabulary.{ℕ, List, subst, IsBeatenBy}
 use Rattle.fence_place.proofs.worker.known_settling.Goals as goal
 
 pub returns-then-is_beaten-clause-lawful : goal.returns-then-is_beaten-clause-lawful

@@ -1,5 +1,4 @@
-use Rattle.std.proofs.Common.{◌≡◌}
-use Rattle.cover_solver.specs.Facts.{Foreign}
+use Rattle.fence_place.proofs.Vocabulary.{◌≡◌, Foreign}
 use Rattle.fence_place.proofs.Workers.{element}
 use Rattle.fence_place.proofs.worker.run_at_hand.Goals as goal
 

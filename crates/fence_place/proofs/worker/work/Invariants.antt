@@ -1,4 +1,4 @@
-use Rattle.fence_place.specs.Internal.Workers.{IsReadyWorker}
+use Rattle.fence_place.proofs.Vocabulary.{IsReadyWorker}
 use Rattle.fence_place.proofs.worker.work.Given as goal
 
 -- the worker holds nothing between two nodes

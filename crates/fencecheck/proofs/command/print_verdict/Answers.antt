@@ -1,6 +1,5 @@
-use Rattle.std.proofs.Common.{Ok}
+use Rattle.fencecheck.proofs.Vocabulary.{Ok, prints_made, prints_line, accepted, refused, refusal_line}
 use Rattle.std.specs.declared.alloc.AllocError.{AllocError}
-use Rattle.fencecheck.proofs.Vocabulary.{prints_made, prints_line, accepted, refused, refusal_line}
 use Rattle.fencecheck.proofs.command.print_verdict.Goals as goal
 
 pub returns-in-Ok : goal.returns-in-Ok

@@ -1,11 +1,7 @@
 use Rattle.fencecheck.proofs.Vocabulary.{◌≡◌, inr, refl, sym, ap, ◌∙◌, subst, asked, handed_in}
-use Rattle.tso_program.specs.declared.listing.Listing.{Listing}
-use Rattle.tso_program.specs.declared.shown.Shown.{Shown}
+use Rattle.tso_program.specs.{declared.listing.Listing.Listing, declared.shown.Shown.Shown}
 use Rattle.litmus_reader.specs.declared.litmus.Litmus.{Litmus}
-use Rattle.cert_forest.specs.declared.shows.Shows.{Shows}
-use Rattle.cert_forest.specs.declared.shows.Shows.TheVariants.{All}
-use Rattle.cert_forest.specs.Shows.{shows_of}
-use Rattle.cert_forest.specs.Certificates.{Certificate}
+use Rattle.cert_forest.specs.{declared.shows.Shows.Shows, declared.shows.Shows.TheVariants.All, Shows.shows_of, Certificates.Certificate}
 use Rattle.cert_check.specs.Faults.{CheckFaultIs}
 use Rattle.fencecheck.proofs.judge.judge.Goals as goal
 

@@ -1,5 +1,4 @@
-use Rattle.std.proofs.Common.{◌+◌, ◌-◌, ◌≤◌, length, subst, arith, vec_len}
-use Rattle.fencecheck.proofs.Vocabulary.{IsReadFault, CERTIFICATE_LIMIT, IsCertificateStart, IsTooLongInput, ReadsEnough}
+use Rattle.fencecheck.proofs.Vocabulary.{◌+◌, ◌-◌, ◌≤◌, length, subst, arith, vec_len, IsReadFault, CERTIFICATE_LIMIT, IsCertificateStart, IsTooLongInput, ReadsEnough}
 use Rattle.cert_check.proofs.Answered.{err_up}
 use Rattle.fencecheck.proofs.Joined.{end_or_full, long_litmus, parts_read, reads_rest, rest_fault}
 use Rattle.fencecheck.proofs.parts.read_joined.Given.{Over}

@@ -1,8 +1,4 @@
-use Rattle.std.proofs.Common.{◌∙◌, inl, inr, refl, sym}
-use Rattle.fencer.proofs.Vocabulary.{codes, IfOk-weaker}
-use Rattle.program_streams.specs.Versions.{version_line}
-use Rattle.fencer.specs.Answers.{answer, no_command, of_job, nothing, version}
-use Rattle.program_streams.proofs.Printed.{prints_line, prints_made, prints_more, prints_nothing}
+use Rattle.fencer.proofs.Vocabulary.{◌∙◌, inl, inr, refl, sym, codes, IfOk-weaker, version_line, answer, no_command, of_job, nothing, version, prints_line, prints_made, prints_more, prints_nothing}
 use Rattle.fencer.proofs.Served.{other}
 use Rattle.fencer.proofs.command.run_words.Goals as goal
 

@@ -1,8 +1,6 @@
-use Rattle.std.proofs.Common.{Ok}
-use Rattle.fencer.proofs.Vocabulary.{AllocError, prints_made, file_line}
+use Rattle.fencer.proofs.Vocabulary.{Ok, AllocError, prints_made, file_line, kept, not_kept}
 use Rattle.program_streams.specs.declared.fault.FileFault.TheVariants as file
 use Rattle.fencer.proofs.PrintedRefusals.{prints_refusal}
-use Rattle.fencer.specs.Deliveries.{kept, not_kept}
 use Rattle.fencer.proofs.delivery.deliver.Goals as goal
 
 pub returns-in-Ok-clause-told : goal.returns-in-Ok-clause-told

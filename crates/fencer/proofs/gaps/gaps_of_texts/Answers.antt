@@ -1,5 +1,4 @@
-use Rattle.std.proofs.Common.{Ok}
-use Rattle.fencer.proofs.Vocabulary.{AllocError, prints_made, text_fault_line}
+use Rattle.fencer.proofs.Vocabulary.{Ok, AllocError, prints_made, text_fault_line}
 use Rattle.fencer.proofs.PrintedRefusals.{prints_refused_line}
 use Rattle.fencer.specs.GapTexts.{listed, refused_for}
 use Rattle.fencer.proofs.gaps.gaps_of_texts.Goals as goal

@@ -1,5 +1,4 @@
-use Rattle.std.proofs.Common.{◌∙◌, ℕ, List, ◌++◌, ap, ap₂}
-use Rattle.fencer.proofs.Vocabulary.{outcome_line, run_line_at}
+use Rattle.fencer.proofs.Vocabulary.{◌∙◌, ℕ, List, ◌++◌, ap, ap₂, outcome_line, run_line_at}
 use Rattle.fencer.proofs.OutcomeLines.{one_more_outcome}
 use Rattle.fencer.proofs.outcomes.list_lines.Goals as goal
 

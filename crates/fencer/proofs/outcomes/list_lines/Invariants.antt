@@ -1,5 +1,4 @@
-use Rattle.std.proofs.Common.{◌≡◌, ◌++◌, take}
-use Rattle.fencer.specs.Outcomes.{outcome_lines}
+use Rattle.fencer.proofs.Vocabulary.{◌≡◌, ◌++◌, take, outcome_lines}
 use Rattle.fencer.proofs.outcomes.list_lines.Given as goal
 
 -- the outcomes so far are written, each with its run where there is one

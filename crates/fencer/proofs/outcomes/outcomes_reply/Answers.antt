@@ -1,8 +1,6 @@
-use Rattle.std.proofs.Common.{subst}
+use Rattle.fencer.proofs.Vocabulary.{subst, Shown, machine_of_model, ListsOutcomes, ListsRuns, TellsOutcomes}
 use Rattle.std.specs.FinSet as set
-use Rattle.fencer.proofs.Vocabulary.{Shown, machine_of_model}
 use Rattle.tso_program.specs.Shown.{asked}
-use Rattle.fencer.specs.Outcomes.{ListsOutcomes, ListsRuns, TellsOutcomes}
 use Rattle.fencer.proofs.outcomes.outcomes_reply.Goals as goal
 
 pub returns-in-Ok-clause-list : goal.returns-in-Ok-clause-list

@@ -1,7 +1,5 @@
-use Rattle.std.proofs.Common.{refl}
-use Rattle.fencer.proofs.Vocabulary.{option_map, prints_more, file_line}
+use Rattle.fencer.proofs.Vocabulary.{refl, option_map, prints_more, file_line, of_texts, no_texts}
 use Rattle.fencer.proofs.PrintedRefusals.{prints_refusal}
-use Rattle.fencer.specs.Placements.{of_texts, no_texts}
 use Rattle.fencer.proofs.place.run_place.Goals as goal
 
 pub returns-in-Ok-clause-told : goal.returns-in-Ok-clause-told

@@ -1,5 +1,4 @@
-use Rattle.std.proofs.Common.{Ok, refl}
-use Rattle.fencer.proofs.Vocabulary.{AllocError, prints_made, refusal_line, IsTold}
+use Rattle.fencer.proofs.Vocabulary.{Ok, refl, AllocError, prints_made, refusal_line, IsTold}
 use Rattle.fencer.proofs.PrintedRefusals.{prints_refusal}
 use Rattle.fencer.proofs.refusals.print_answer.Goals as goal
 

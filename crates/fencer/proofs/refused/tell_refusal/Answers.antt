@@ -1,5 +1,4 @@
-use Rattle.std.proofs.Common.{refl}
-use Rattle.fencer.proofs.Vocabulary.{IfOk-weaker, prints_made, PrintsRefusal}
+use Rattle.fencer.proofs.Vocabulary.{refl, IfOk-weaker, prints_made, PrintsRefusal}
 use Rattle.fencer.proofs.refused.tell_refusal.Goals as goal
 
 pub returns : goal.returns

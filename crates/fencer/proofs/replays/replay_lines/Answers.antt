@@ -1,4 +1,4 @@
-use Rattle.std.proofs.Common.{refl}
+use Rattle.fencer.proofs.Vocabulary.{refl}
 use Rattle.fencer.proofs.replays.replay_lines.Goals as goal
 
 pub returns-in-Ok-clause-run : goal.returns-in-Ok-clause-run

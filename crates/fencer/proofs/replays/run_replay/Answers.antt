@@ -1,8 +1,5 @@
-use Rattle.std.proofs.Common.{false}
-use Rattle.fencer.proofs.Vocabulary.{string_bytes, file_line, prints_more, IsTold, no_file}
-use Rattle.fencer.proofs.PrintedRefusals.{prints_refusal}
-use Rattle.fencer.specs.Replays.{label_words_text, HasNoRun, IsReplay, ShowsRun}
-use Rattle.fencer.proofs.Told.{told_answer}
+use Rattle.fencer.proofs.Vocabulary.{false, string_bytes, file_line, prints_more, IsTold, no_file, label_words_text, HasNoRun, IsReplay, ShowsRun}
+use Rattle.fencer.proofs.{PrintedRefusals.prints_refusal, Told.told_answer}
 use Rattle.fencer.proofs.replays.run_replay.Goals as goal
 
 pub returns-in-Ok-clause-told : goal.returns-in-Ok-clause-told

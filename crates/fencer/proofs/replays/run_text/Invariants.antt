@@ -1,5 +1,4 @@
-use Rattle.std.proofs.Common.{◌≡◌, take}
-use Rattle.fencer.specs.Replays.{label_words_text}
+use Rattle.fencer.proofs.Vocabulary.{◌≡◌, take, label_words_text}
 use Rattle.fencer.proofs.replays.run_text.Given as goal
 
 -- the words so far are written

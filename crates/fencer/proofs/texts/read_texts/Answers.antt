@@ -1,5 +1,4 @@
-use Rattle.std.proofs.Common.{subst, sym}
-use Rattle.std.specs.Prelude.{option_map}
+use Rattle.fencer.proofs.Vocabulary.{subst, sym, option_map}
 use Rattle.fencer.specs.InputTexts.{HasNoTexts, no_costs}
 use Rattle.fencer.proofs.texts.read_texts.Goals as goal
 

@@ -1,6 +1,5 @@
-use Rattle.std.proofs.Common.{List, subst}
+use Rattle.fencer.proofs.Vocabulary.{List, subst, Label, machine_of_model}
 use Rattle.std.specs.FinSet as set
-use Rattle.fencer.proofs.Vocabulary.{Label, machine_of_model}
 use Rattle.tso_machine.specs.Machine as machine
 use Rattle.documents.specs.Documents.{IsTraceDocument}
 use Rattle.documents.proofs.Steps.{labels_of_steps}

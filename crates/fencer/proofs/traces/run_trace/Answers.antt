@@ -1,5 +1,4 @@
-use Rattle.std.proofs.Common.{refl}
-use Rattle.fencer.proofs.Vocabulary.{prints_more, file_line}
+use Rattle.fencer.proofs.Vocabulary.{refl, prints_more, file_line}
 use Rattle.fencer.proofs.PrintedRefusals.{prints_refusal}
 use Rattle.fencer.specs.Traces.{of_text, no_text}
 use Rattle.fencer.proofs.traces.run_trace.Goals as goal

@@ -1,6 +1,5 @@
-use Rattle.std.proofs.Common.{◌++◌, refl}
-use Rattle.tso_program.specs.declared.shown.Shown.TheVariants.{All}
-use Rattle.report.specs.Answers.{outcome_line, passed_line}
+use Rattle.fencer.proofs.Vocabulary.{◌++◌, refl, outcome_line, passed_line}
+use Rattle.tso_program.specs.declared.shown.Shown.{TheVariants.All}
 use Rattle.fencer.proofs.traces.trace_of.Goals as goal
 
 pub returns-in-Ok-clause-run : goal.returns-in-Ok-clause-run

@@ -1,5 +1,4 @@
-use Rattle.std.proofs.Common.{refl}
-use Rattle.fencer.proofs.Vocabulary.{prints_more, refusal_line}
+use Rattle.fencer.proofs.Vocabulary.{refl, prints_more, refusal_line}
 use Rattle.fencer.proofs.PrintedRefusals.{prints_refusal}
 use Rattle.fencer.specs.Traces.{traced, refused_for}
 use Rattle.fencer.proofs.traces.trace_text.Goals as goal

@@ -1,5 +1,4 @@
-use Rattle.std.proofs.Common.{refl}
-use Rattle.fencer.proofs.Vocabulary.{prints_more, text_fault_line}
+use Rattle.fencer.proofs.Vocabulary.{refl, prints_more, text_fault_line}
 use Rattle.fencer.proofs.PrintedRefusals.{prints_refusal}
 use Rattle.fencer.specs.Whys.{explained, refused_for}
 use Rattle.fencer.proofs.whys.explain_texts.Goals as goal

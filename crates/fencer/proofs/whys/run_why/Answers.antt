@@ -1,5 +1,4 @@
-use Rattle.std.proofs.Common.{refl}
-use Rattle.fencer.proofs.Vocabulary.{option_map, prints_more, file_line}
+use Rattle.fencer.proofs.Vocabulary.{refl, option_map, prints_more, file_line}
 use Rattle.fencer.proofs.PrintedRefusals.{prints_refusal}
 use Rattle.fencer.specs.Whys.{of_texts, no_texts}
 use Rattle.fencer.proofs.whys.run_why.Goals as goal

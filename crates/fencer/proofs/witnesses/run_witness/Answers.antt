@@ -1,7 +1,5 @@
-use Rattle.std.proofs.Common.{refl}
-use Rattle.fencer.proofs.Vocabulary.{prints_more, file_line}
+use Rattle.fencer.proofs.Vocabulary.{refl, prints_more, file_line, of_text, no_text}
 use Rattle.fencer.proofs.PrintedRefusals.{prints_refusal}
-use Rattle.fencer.specs.Witnesses.{of_text, no_text}
 use Rattle.fencer.proofs.witnesses.run_witness.Goals as goal
 
 pub returns-in-Ok-clause-told : goal.returns-in-Ok-clause-told

@@ -1,6 +1,4 @@
-use Rattle.std.proofs.Common.{◌∙◌}
-use Rattle.clap.specs.Words.{found_of}
-use Rattle.clap.proofs.WalkLemmas.{first_value-rows}
+use Rattle.fencer_words.proofs.Vocabulary.{◌∙◌, found_of, first_value-rows}
 use Rattle.fencer_words.proofs.arguments.value_of.Goals as goal
 
 pub returns : goal.returns

@@ -1,7 +1,5 @@
-use Rattle.std.proofs.Common.{◌≡◌, ◌∙◌, ◌++◌, List, [], ◌∷◌, ℕ, Bor, map, take, drop, suc, subst, sym, true, false}
-use Rattle.std.proofs.lemmas.List.{map_more}
+use Rattle.fencer_words.proofs.Vocabulary.{◌≡◌, ◌∙◌, ◌++◌, List, [], ◌∷◌, ℕ, Bor, map, take, drop, suc, subst, sym, true, false, map_more, list_any, is_same_place, ArePlaceTexts}
 use Rattle.std.proofs.lemmas.Map.Keys.{IsDistinct-push}
-use Rattle.fencer_words.proofs.Vocabulary.{list_any, is_same_place, ArePlaceTexts}
 use Rattle.fencer_words.proofs.PlaceTexts.{at_index, no_place_there, none_twice, one_more, places_are_compared, there_twice}
 use Rattle.fencer_words.proofs.fences.places_in.Goals as goal
 

@@ -1,5 +1,4 @@
-use Rattle.std.proofs.Common.{map, take}
-use Rattle.fencer_words.proofs.Vocabulary.{IsDistinct, is_same_place, ArePlaceTexts}
+use Rattle.fencer_words.proofs.Vocabulary.{map, take, IsDistinct, is_same_place, ArePlaceTexts}
 use Rattle.fencer_words.proofs.fences.places_in.Given as goal
 
 -- the places of the texts so far

@@ -1,5 +1,4 @@
-use Rattle.std.proofs.Common.{ap, ◌∙◌}
-use Rattle.fencer_words.proofs.Vocabulary.{app_of_fields, Command, Command-F}
+use Rattle.fencer_words.proofs.Vocabulary.{ap, ◌∙◌, app_of_fields, Command, Command-F}
 use Rattle.fencer_words.proofs.form.described_command.Goals as goal
 
 pub returns-clause-app : goal.returns-clause-app

@@ -1,5 +1,4 @@
-use Rattle.std.proofs.Common.{rules, ◌≡◌, Some}
-use Rattle.clap.specs.Lexer.{usize_max}
+use Rattle.fencer_words.proofs.Vocabulary.{rules, ◌≡◌, Some, usize_max}
 use Rattle.fencer_words.proofs.Rules.{label_rule_of}
 use Rattle.fencer_words.proofs.parameter.label_arg.Goals as goal
 

@@ -1,5 +1,5 @@
-use Rattle.std.proofs.Common.{rules, ◌≡◌, Some}
-use Rattle.clap.specs.declared.builder.value_parser.ValueParser.TheVariants.{Names}
+use Rattle.fencer_words.proofs.Vocabulary.{rules, ◌≡◌, Some}
+use Rattle.clap.specs.declared.builder.value_parser.ValueParser.{TheVariants.Names}
 use Rattle.fencer_words.proofs.Rules.{model_rule_of}
 use Rattle.fencer_words.proofs.parameter.model_arg.Goals as goal
 

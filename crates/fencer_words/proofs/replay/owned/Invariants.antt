@@ -1,5 +1,4 @@
-use Rattle.std.proofs.Common.{◌≡◌, map, take}
-use Rattle.std.specs.Prelude.{string_bytes}
+use Rattle.fencer_words.proofs.Vocabulary.{◌≡◌, map, take, string_bytes}
 use Rattle.fencer_words.proofs.replay.owned.Given as goal
 
 -- the words so far have copies

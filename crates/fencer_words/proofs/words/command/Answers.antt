@@ -1,10 +1,4 @@
-use Rattle.std.proofs.Common.{rules, ◌∙◌, ◌≤◌, List, take, length, sym, subst}
-use Rattle.std.specs.Prelude.{fold}
-use Rattle.std.proofs.lemmas.List.{take_all}
-use Rattle.std.proofs.lemmas.List.Sums.{fold_more}
-use Rattle.clap.specs.Words.{App}
-use Rattle.fencer_words.specs.CommandLines.{commands_app, with_form}
-use Rattle.fencer_words.specs.Commands.{IsBuiltAs}
+use Rattle.fencer_words.proofs.Vocabulary.{rules, ◌∙◌, ◌≤◌, List, length, sym, subst, fold, take_all, fold_more, App, commands_app, with_form, IsBuiltAs}
 use Rattle.fencer_words.specs.declared.form.Form.{Form}
 use Rattle.fencer_words.proofs.Rules.{one_command_more}
 use Rattle.fencer_words.proofs.words.command.Goals as goal

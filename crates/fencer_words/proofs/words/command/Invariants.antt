@@ -1,7 +1,4 @@
-use Rattle.std.proofs.Common.{take}
-use Rattle.std.specs.Prelude.{fold}
-use Rattle.fencer_words.specs.CommandLines.{commands_app, with_form}
-use Rattle.fencer_words.specs.Commands.{IsBuiltAs}
+use Rattle.fencer_words.proofs.Vocabulary.{take, fold, commands_app, with_form, IsBuiltAs}
 use Rattle.fencer_words.proofs.words.command.Given as goal
 
 -- the command line has the commands so far

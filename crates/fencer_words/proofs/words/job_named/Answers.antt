@@ -1,7 +1,5 @@
-use Rattle.std.proofs.Common.{◌≡◌, ◌⊎◌, IfNone, IfSome, Option, inr, map, subst}
-use Rattle.fencer_words.proofs.Vocabulary.{string_bytes, app_of, kind_of, Error, OutOfMemory, IsNoCommand}
+use Rattle.fencer_words.proofs.Vocabulary.{◌≡◌, ◌⊎◌, IfNone, IfSome, Option, inr, map, subst, string_bytes, app_of, kind_of, Error, OutOfMemory, IsNoCommand, IsJobMet, MeetsNoJob}
 use Rattle.clap.proofs.TakesLemmas.{passed_up}
-use Rattle.fencer_words.specs.Commands.{IsJobMet, MeetsNoJob}
 use Rattle.fencer_words.specs.declared.job.Job.{Job}
 use Rattle.fencer_words.proofs.Faultless.{no_command, no_fault, reads, met_nothing}
 use Rattle.fencer_words.proofs.words.job_named.Goals as goal

@@ -1,6 +1,5 @@
-use Rattle.std.proofs.Common.{inr}
+use Rattle.fencer_words.proofs.Vocabulary.{inr, clashing}
 use Rattle.std.proofs.lemmas.Result.{IfErr-weaker}
-use Rattle.fencer_words.specs.CommandLines.{clashing}
 use Rattle.fencer_words.proofs.words.read_words.Goals as goal
 
 pub returns-in-Ok-clause-refused : goal.returns-in-Ok-clause-refused

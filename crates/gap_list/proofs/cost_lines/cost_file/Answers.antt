@@ -1,6 +1,5 @@
-use Rattle.std.proofs.Common.{List, ℕ, sym, subst}
+use Rattle.gap_list.proofs.Vocabulary.{List, ℕ, sym, subst, IsCostText}
 use Rattle.std.proofs.lemmas.Result.{IfOk-weaker}
-use Rattle.cost_text.specs.CostTexts.{IsCostText}
 use Rattle.gap_list.proofs.CostFileLaws.{cost_file_is_read}
 use Rattle.gap_list.proofs.cost_lines.cost_file.Goals as goal
 

@@ -1,5 +1,4 @@
-use Rattle.std.proofs.Common.{List, ◌++◌, ap, ◌∙◌, ℕ}
-use Rattle.gap_list.specs.CostFiles.{entry_text}
+use Rattle.gap_list.proofs.Vocabulary.{List, ◌++◌, ap, ◌∙◌, ℕ, entry_text}
 use Rattle.gap_list.proofs.Ranges.{one_more}
 use Rattle.gap_list.proofs.cost_lines.entries.Goals as goal
 

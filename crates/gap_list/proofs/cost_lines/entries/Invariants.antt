@@ -1,5 +1,4 @@
-use Rattle.std.proofs.Common.{◌≡◌}
-use Rattle.gap_list.proofs.Vocabulary.{flat_map, range_with_len, entry_text}
+use Rattle.gap_list.proofs.Vocabulary.{◌≡◌, flat_map, range_with_len, entry_text}
 use Rattle.gap_list.proofs.cost_lines.entries.Given as goal
 
 -- the gaps so far have their lines

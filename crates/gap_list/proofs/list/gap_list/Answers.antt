@@ -1,5 +1,4 @@
-use Rattle.std.proofs.Common.{List, ◌++◌, ap, ◌∙◌, ℕ}
-use Rattle.gap_list.proofs.Vocabulary.{option_map, slice_index, gap_line}
+use Rattle.gap_list.proofs.Vocabulary.{List, ◌++◌, ap, ◌∙◌, ℕ, option_map, slice_index, gap_line}
 use Rattle.gap_list.proofs.Ranges.{one_more}
 use Rattle.gap_list.proofs.list.gap_list.Goals as goal
 

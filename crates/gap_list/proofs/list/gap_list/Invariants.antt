@@ -1,5 +1,4 @@
-use Rattle.std.proofs.Common.{◌≡◌}
-use Rattle.gap_list.proofs.Vocabulary.{option_map, slice_index, flat_map, range_with_len, gap_line}
+use Rattle.gap_list.proofs.Vocabulary.{◌≡◌, option_map, slice_index, flat_map, range_with_len, gap_line}
 use Rattle.gap_list.proofs.list.gap_list.Given as goal
 
 -- the gaps so far have their lines

@@ -1,4 +1,4 @@
-use Rattle.search_core.specs.declared.ceiling.Reason.TheVariants.{Ceiling}
+use Rattle.search_core.specs.declared.ceiling.Reason.{TheVariants.Ceiling}
 use Rattle.hunt_board.proofs.Vocabulary.{not_cut}
 use Rattle.hunt_board.proofs.events.cut_node.Goals as goal
 

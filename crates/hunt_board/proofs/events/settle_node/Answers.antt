@@ -1,7 +1,5 @@
 use Rattle.hunt_board.proofs.Vocabulary.{◌∙◌, ap, subst}
-use Rattle.hunt_board.specs.declared.settling.Settling.{Settling}
-use Rattle.hunt_board.specs.declared.settling.Settling.TheVariants.{Asked}
-use Rattle.hunt_board.specs.Internal.Events.{IsLawfulThere}
+use Rattle.hunt_board.specs.{declared.settling.Settling.Settling, declared.settling.Settling.TheVariants.Asked, Internal.Events.IsLawfulThere}
 use Rattle.hunt_board.proofs.events.settle_node.Goals as goal
 
 pub split_held-requires : goal.split_held-requires

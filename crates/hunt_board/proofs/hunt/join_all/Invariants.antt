@@ -1,5 +1,4 @@
-use Rattle.std.proofs.Common.{vec_len}
-use Rattle.hunt_board.proofs.Vocabulary.{All, SeatView, IsSeatOf, word_with}
+use Rattle.hunt_board.proofs.Vocabulary.{vec_len, All, SeatView, IsSeatOf, word_with}
 use Rattle.hunt_board.proofs.hunt.join_all.Given as goal
 
 -- all seats are of the word

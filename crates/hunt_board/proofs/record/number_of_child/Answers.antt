@@ -1,5 +1,4 @@
-use Rattle.std.proofs.Common.{◌≡◌, ◌+◌, ◌≤◌, ◌<◌, ◌^◌, ℕ, Bool, true, List, ◌∷◌, cond, length, not, sym, ap, ◌∙◌, arith}
-use Rattle.hunt_board.proofs.Vocabulary.{filter, is_free, open_gaps, few_open}
+use Rattle.hunt_board.proofs.Vocabulary.{◌≡◌, ◌+◌, ◌≤◌, ◌<◌, ◌^◌, ℕ, Bool, true, List, ◌∷◌, cond, length, not, sym, ap, ◌∙◌, arith, filter, is_free, open_gaps, few_open}
 use Rattle.hunt_board.proofs.record.number_of_child.Goals as goal
 
 one_more : (p : ℕ → Bool) (count : ℕ) (left rest : List ℕ) (whole gap : ℕ) → left ≡ gap ∷ rest → p gap ≡ true → count + length (filter p left) ≡ whole → count + 1 ≤ whole

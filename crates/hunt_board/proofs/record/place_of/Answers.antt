@@ -1,6 +1,5 @@
 use Rattle.hunt_board.proofs.Vocabulary.{sym, ◌∙◌, ends, goes}
-use Rattle.hunt_board.proofs.Found.{stands_only}
-use Rattle.hunt_board.proofs.Walks.{none_there}
+use Rattle.hunt_board.proofs.{Found.stands_only, Walks.none_there}
 use Rattle.hunt_board.proofs.record.place_of.Goals as goal
 
 pub loop-child-preserved : goal.loop-child-preserved

@@ -1,5 +1,4 @@
-use Rattle.std.proofs.Common.{ℕ, ◌-◌, length}
-use Rattle.hunt_board.proofs.Vocabulary.{WalkLeads}
+use Rattle.hunt_board.proofs.Vocabulary.{ℕ, ◌-◌, length, WalkLeads}
 use Rattle.hunt_board.proofs.record.place_of.Given as goal
 
 -- what the rest of the walk leads to the whole does

@@ -1,6 +1,4 @@
-use Rattle.std.proofs.Common.{◌≡◌, ℕ, List, Option, Some, None, IfSome, sym, subst}
-use Rattle.std.specs.Prelude.{MatchOption}
-use Rattle.tso_program.specs.Shown.{Question, asked}
+use Rattle.hunt_calls.proofs.Vocabulary.{◌≡◌, ℕ, List, Option, Some, None, IfSome, sym, subst, MatchOption, Question, asked}
 use Rattle.search_core.specs.Ceilings.{Bound, IsBound, IsCeiling, IsCeilingOf}
 use Rattle.hunt_calls.proofs.ceilings.at_cost_of.Goals as goal
 

@@ -1,9 +1,6 @@
-use Rattle.std.proofs.Common.{◌≡◌, Bool, true, false, true≢false, ℕ, List, Option, Some, None, refl, sym, subst}
-use Rattle.std.specs.Prelude.{IsTrue, MatchOption, not}
+use Rattle.hunt_calls.proofs.Vocabulary.{◌≡◌, Bool, true, false, true≢false, ℕ, List, Option, Some, None, refl, sym, subst, IsTrue, MatchOption, not, SetOfGaps, IsBeatenBy, Serving, IsServing}
 use Rattle.std.proofs.lemmas.Option.{same_Some, none-some}
-use Rattle.hunt_calls.proofs.Vocabulary.{SetOfGaps, IsBeatenBy}
 use Rattle.gap_sets.specs.Order.{Better}
-use Rattle.cover_solver.specs.Facts.{Serving, IsServing}
 use Rattle.hunt_calls.proofs.hunts.is_beaten.Goals as goal
 
 not_both : (b : Bool) → IsTrue (not b) → IsTrue b → ⊥

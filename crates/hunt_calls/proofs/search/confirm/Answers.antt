@@ -1,9 +1,7 @@
-use Rattle.std.proofs.Common.{◌≡◌, ◌∙◌, ap, sym, subst}
-use Rattle.hunt_calls.proofs.Vocabulary.{SetOfGaps, Question, Serving}
+use Rattle.hunt_calls.proofs.Vocabulary.{◌≡◌, ◌∙◌, ap, sym, subst, SetOfGaps, Question, Serving}
 use Rattle.gap_sets.specs.declared.region.Region.{Region}
-use Rattle.cover_solver.specs.declared.oracle.Verdict.{Verdict}
+use Rattle.cover_solver.specs.{declared.oracle.Verdict.Verdict, Verdicts.IsVerdictOf}
 use Rattle.cover_solver.specs.declared.oracle.Verdict.TheVariants as verdict
-use Rattle.cover_solver.specs.Verdicts.{IsVerdictOf}
 use Rattle.hunt_calls.proofs.search.confirm.Goals as goal
 
 of_set : (q : Question) (gaps : SetOfGaps) (v : Verdict) (b : Serving) → v ≡ verdict.Serves b → IsVerdictOf q gaps v → b.gaps ≡ gaps

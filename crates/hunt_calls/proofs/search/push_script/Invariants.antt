@@ -1,4 +1,4 @@
-use Rattle.std.proofs.Common.{◌≡◌}
+use Rattle.hunt_calls.proofs.Vocabulary.{◌≡◌}
 use Rattle.hunt_calls.proofs.search.push_script.Given as goal
 
 abbrev pub invariant-loop-word : goal.invariant-loop-word

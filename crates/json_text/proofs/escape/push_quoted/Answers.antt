@@ -1,5 +1,4 @@
-use Rattle.std.proofs.Common.{◌≡◌, ◌∙◌, ℕ, List, [], ◌∷◌, ◌++◌, length, take, get_or, ap, append_assoc, arith}
-use Rattle.json_text.proofs.Vocabulary.{flat_map, take-length, escaped}
+use Rattle.json_text.proofs.Vocabulary.{◌≡◌, ◌∙◌, ℕ, List, [], ◌∷◌, ◌++◌, length, take, get_or, ap, append_assoc, arith, flat_map, take-length, escaped}
 use Rattle.json_text.proofs.Lists.{flat_more}
 use Rattle.json_text.proofs.escape.push_quoted.Goals as goal
 

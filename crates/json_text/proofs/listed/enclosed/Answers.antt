@@ -1,6 +1,4 @@
-use Rattle.std.proofs.Common.{◌≡◌, ◌<◌, ◌∙◌, ℕ, List, [], ◌∷◌, ◌++◌, length, take, get_or, ap, sym, arith}
-use Rattle.std.proofs.lemmas.List.{get_or-map, length-map}
-use Rattle.json_text.proofs.Vocabulary.{Vec, take-length, bytes_of_each, with_commas}
+use Rattle.json_text.proofs.Vocabulary.{◌≡◌, ◌<◌, ◌∙◌, ℕ, List, [], ◌∷◌, ◌++◌, length, take, ap, sym, arith, get_or-map, length-map, Vec, take-length, bytes_of_each, with_commas}
 use Rattle.json_text.proofs.Lists.{added_at}
 use Rattle.json_text.proofs.listed.enclosed.Goals as goal
 

@@ -1,5 +1,4 @@
-use Rattle.std.proofs.Common.{◌≡◌, ◌∷◌, take}
-use Rattle.json_text.proofs.Vocabulary.{bytes_of_each, with_commas}
+use Rattle.json_text.proofs.Vocabulary.{◌≡◌, ◌∷◌, take, bytes_of_each, with_commas}
 use Rattle.json_text.proofs.listed.enclosed.Given as goal
 
 -- the texts so far

@@ -1,4 +1,4 @@
-use Rattle.known_edges.specs.Rows.{IsRowOf}
+use Rattle.known_edges.proofs.Vocabulary.{IsRowOf}
 use Rattle.known_edges.proofs.Masks.{IsReaderBelow}
 use Rattle.known_edges.proofs.access_rows.readers_of.Given as goal
 

@@ -1,4 +1,4 @@
-use Rattle.bit_rows.proofs.Bits.{none_in_zero}
+use Rattle.known_edges.proofs.Vocabulary.{none_in_zero}
 use Rattle.known_edges.proofs.access_rows.row_at.Goals as goal
 
 pub returns-in-Some-clause-from : goal.returns-in-Some-clause-from

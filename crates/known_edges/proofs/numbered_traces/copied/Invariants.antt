@@ -1,4 +1,4 @@
-use Rattle.std.proofs.Common.{◌≡◌, take}
+use Rattle.known_edges.proofs.Vocabulary.{◌≡◌, take}
 use Rattle.known_edges.proofs.numbered_traces.copied.Given as goal
 
 abbrev pub invariant-loop-thread_trace : goal.invariant-loop-thread_trace

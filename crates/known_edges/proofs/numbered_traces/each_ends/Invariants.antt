@@ -1,5 +1,4 @@
-use Rattle.known_edges.proofs.Vocabulary.{◌≡◌, ◌<◌, ℕ, None, Some, slice_get}
-use Rattle.thread_traces.specs.declared.thread_trace.ThreadTrace.{ThreadTrace}
+use Rattle.known_edges.proofs.Vocabulary.{◌≡◌, ◌<◌, ℕ, None, Some, slice_get, ThreadTrace}
 use Rattle.known_edges.proofs.numbered_traces.each_ends.Given as goal
 
 -- the threads so far have come to their ends

@@ -1,5 +1,4 @@
-use Rattle.known_edges.proofs.Vocabulary.{◌<◌, ℕ, get_or}
-use Rattle.bit_rows.specs.Rows.{IsIn}
+use Rattle.known_edges.proofs.Vocabulary.{◌<◌, ℕ, get_or, IsIn}
 use Rattle.known_edges.proofs.numbered_traces.joined_all.Given as goal
 
 -- the numbers of the rows so far have come

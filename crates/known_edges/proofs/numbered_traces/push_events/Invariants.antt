@@ -1,4 +1,4 @@
-use Rattle.thread_traces.proofs.Accesses.{IsGrown}
+use Rattle.known_edges.proofs.Vocabulary.{IsGrown}
 use Rattle.known_edges.proofs.Accesses.{IsBelow}
 use Rattle.known_edges.proofs.numbered_traces.push_events.Given as goal
 

@@ -1,7 +1,5 @@
-use Rattle.known_edges.proofs.Vocabulary.{◌≡◌, ◌∙◌, ◌+◌, ap, length, sym, subst, arith, At, IsEarly, AreBeyond, IsGrown, grown_none, inl}
-use Rattle.std.proofs.lemmas.List.{length_push}
-use Rattle.known_edges.proofs.Accesses.{grown_more, early_none}
-use Rattle.known_edges.proofs.Starts.{beyond_more}
+use Rattle.known_edges.proofs.Vocabulary.{◌≡◌, ◌∙◌, ◌+◌, ap, length, sym, subst, arith, At, IsEarly, AreBeyond, IsGrown, grown_none, inl, length_push}
+use Rattle.known_edges.proofs.{Accesses.grown_more, Accesses.early_none, Starts.beyond_more}
 use Rattle.known_edges.proofs.numbered_traces.push_thread.Goals as goal
 
 pub loop-i-init : goal.loop-i-init

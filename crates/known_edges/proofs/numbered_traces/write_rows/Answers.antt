@@ -1,6 +1,5 @@
 use Rattle.known_edges.proofs.Vocabulary.{◌<◌, ℕ, IfSome, get_or, sym, subst, Initial, IsWriteAt}
-use Rattle.known_edges.proofs.Masks.{row_all}
-use Rattle.known_edges.proofs.Written.{write_located, writes_more}
+use Rattle.known_edges.proofs.{Masks.row_all, Written.write_located, Written.writes_more}
 use Rattle.known_edges.proofs.numbered_traces.write_rows.Goals as goal
 
 pub put_write-requires-clause-there : goal.put_write-requires-clause-there

@@ -1,5 +1,4 @@
-use Rattle.known_edges.proofs.Vocabulary.{◌<◌}
-use Rattle.bit_rows.specs.declared.row.TheConstants.{ROW_BITS}
+use Rattle.known_edges.proofs.Vocabulary.{◌<◌, ROW_BITS}
 use Rattle.known_edges.proofs.NumberWalks.{IsWalk}
 use Rattle.known_edges.proofs.round.walk.Given as goal
 

@@ -1,5 +1,4 @@
-use Rattle.std.proofs.Common.{refl, sym, ap, ◌∙◌}
-use Rattle.litmus_lines.specs.Internal.FirstLineReading.{heading_name, line_at}
+use Rattle.litmus_lines.proofs.Vocabulary.{refl, sym, ap, ◌∙◌, heading_name, line_at}
 use Rattle.litmus_lines.proofs.FirstLineLaws.{first_takes, first_again, none_or, same_parts, same_line, no_end, has_end}
 use Rattle.litmus_lines.proofs.first_line.read_first_line.Goals as goal
 

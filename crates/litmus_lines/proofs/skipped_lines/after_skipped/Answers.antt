@@ -1,4 +1,4 @@
-use Rattle.std.proofs.Common.{◌∙◌, sym}
+use Rattle.litmus_lines.proofs.Vocabulary.{◌∙◌, sym}
 use Rattle.litmus_lines.proofs.SkippedLaws.{line_is, line_only, other_line, no_line}
 use Rattle.litmus_lines.proofs.skipped_lines.after_skipped.Goals as goal
 

@@ -1,7 +1,4 @@
-use Rattle.std.proofs.Common.{ℕ, List, [], ◌≡◌, ◌∙◌, sym, subst, inl, inr, arith}
-use Rattle.std.proofs.lemmas.List.{nil_from_length}
-use Rattle.litmus_lines.proofs.Vocabulary.{IsAfterSpace, AreSkipped, line}
-use Rattle.text_tokens.proofs.SpaceLaws.{empty_is}
+use Rattle.litmus_lines.proofs.Vocabulary.{ℕ, List, [], ◌≡◌, ◌∙◌, sym, subst, inl, inr, arith, nil_from_length, IsAfterSpace, AreSkipped, line, empty_is}
 use Rattle.litmus_lines.specs.Faults.{nothing, line as begins}
 use Rattle.litmus_lines.proofs.SkippedLaws.{shorter, line_back, brace_back, brace_is, no_space_back, no_line_back, no_line_in_nothing, nothing_back}
 use Rattle.litmus_lines.proofs.skipped_lines.skip_lines.Goals as goal

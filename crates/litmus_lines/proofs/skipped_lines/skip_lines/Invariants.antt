@@ -1,5 +1,4 @@
-use Rattle.std.proofs.Common.{ℕ, List, length}
-use Rattle.litmus_lines.proofs.Vocabulary.{AreSkipped, BeginsSkipped}
+use Rattle.litmus_lines.proofs.Vocabulary.{ℕ, List, length, AreSkipped, BeginsSkipped}
 use Rattle.litmus_lines.proofs.skipped_lines.skip_lines.Given as goal
 
 -- where the lines end after the rest, they end after the whole, and the other way round

@@ -1,5 +1,4 @@
-use Rattle.litmus_reader.proofs.Vocabulary.{◌+◌, List, [], ◌∷◌, ◌++◌, take, get_or, sym, subst, ◌∙◌, Label, FindsAs, FindAllAs}
-use Rattle.std.proofs.lemmas.List.{take_more}
+use Rattle.litmus_reader.proofs.Vocabulary.{◌+◌, List, [], ◌∷◌, ◌++◌, take, get_or, sym, subst, ◌∙◌, Label, FindsAs, FindAllAs, take_more}
 use Rattle.litmus_reader.proofs.Targets.{find_push}
 use Rattle.litmus_reader.proofs.jumps.targets_of.Goals as goal
 

@@ -1,5 +1,4 @@
-use Rattle.litmus_reader.proofs.Vocabulary.{take}
-use Rattle.litmus_reader.specs.Internal.Filling.{FindAllAs}
+use Rattle.litmus_reader.proofs.Vocabulary.{take, FindAllAs}
 use Rattle.litmus_reader.proofs.jumps.targets_of.Given as goal
 
 -- the labels of the threads so far are found

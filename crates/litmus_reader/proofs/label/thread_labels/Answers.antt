@@ -1,5 +1,4 @@
-use Rattle.std.proofs.Common.{◌≡◌, ℕ, ◌+◌, List, ◌++◌, map, get_or, sym, ap, ◌∙◌, arith}
-use Rattle.litmus_reader.proofs.Vocabulary.{slice_get, Vec, Cell, cell_view, row_view, Label}
+use Rattle.litmus_reader.proofs.Vocabulary.{◌≡◌, ℕ, ◌+◌, List, ◌++◌, map, get_or, sym, ap, ◌∙◌, arith, slice_get, Vec, Cell, cell_view, row_view, Label}
 use Rattle.litmus_reader.proofs.LabelRows.{behind, one_cell, no_cell, named_labels}
 use Rattle.litmus_reader.proofs.label.thread_labels.Goals as goal
 use Rattle.litmus_reader.proofs.label.thread_labels.Goals.{in-Some+in_ok-push_labels, in_default}

@@ -1,5 +1,4 @@
-use Rattle.litmus_reader.proofs.Vocabulary.{ℕ, [], List, ap, ◌∙◌}
-use Rattle.std.specs.Prelude.{Option, unwrap_or}
+use Rattle.litmus_reader.proofs.Vocabulary.{ℕ, [], List, ap, ◌∙◌, Option, unwrap_or}
 use Rattle.std.proofs.lemmas.Option.{unwrap_or-slice_get}
 use Rattle.litmus_reader.proofs.names.location_name.Goals as goal
 

@@ -1,6 +1,4 @@
-use Rattle.std.proofs.Common.{◌≡◌, List, [], ◌∷◌, ◌++◌, map, get_or, sym, ap, ◌∙◌}
-use Rattle.litmus_reader.proofs.Vocabulary.{Vec, Instr, Cell, row_view, cell_view, byte_in, byte_at}
-use Rattle.litmus_reader.specs.Meaning.{instruction_in}
+use Rattle.litmus_reader.proofs.Vocabulary.{◌≡◌, List, [], ◌∷◌, ◌++◌, map, get_or, sym, ap, ◌∙◌, Vec, Instr, Cell, row_view, cell_view, byte_in, byte_at, instruction_in}
 use Rattle.litmus_reader.proofs.Rows.{kept_more, kept_same}
 use Rattle.litmus_reader.proofs.program.code_of.Goals as goal
 use Rattle.litmus_reader.proofs.program.code_of.Goals.{in-Some+in_ok-push, in_default}

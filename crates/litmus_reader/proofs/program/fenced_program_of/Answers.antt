@@ -1,5 +1,4 @@
-use Rattle.std.proofs.Common.{◌≡◌, ◌∙◌, Option, ap, subst}
-use Rattle.litmus_reader.proofs.Vocabulary.{Listing, ProgramFault, IsWithinFencedLimits, first_fenced_fault}
+use Rattle.litmus_reader.proofs.Vocabulary.{◌≡◌, ◌∙◌, Option, ap, subst, Listing, ProgramFault, IsWithinFencedLimits, first_fenced_fault}
 use Rattle.litmus_reader.proofs.Faults.{first_refused}
 use Rattle.litmus_reader.proofs.program.fenced_program_of.Goals as goal
 

@@ -1,5 +1,4 @@
-use Rattle.litmus_reader.proofs.Vocabulary.{◌≡◌, take, replicate, fold}
-use Rattle.litmus_reader.specs.Internal.Filling.{stored}
+use Rattle.litmus_reader.proofs.Vocabulary.{◌≡◌, take, replicate, fold, stored}
 use Rattle.litmus_reader.proofs.program.memory_of.Given as goal
 
 -- memory after the initial values so far

@@ -1,5 +1,4 @@
-use Rattle.std.proofs.Common.{◌≡◌, ◌∙◌, Option, ap, subst}
-use Rattle.litmus_reader.proofs.Vocabulary.{Listing, ProgramFault, IsWithinLimits, first_fault}
+use Rattle.litmus_reader.proofs.Vocabulary.{◌≡◌, ◌∙◌, Option, ap, subst, Listing, ProgramFault, IsWithinLimits, first_fault}
 use Rattle.litmus_reader.proofs.Faults.{first_refused}
 use Rattle.litmus_reader.proofs.program.program_of.Goals as goal
 

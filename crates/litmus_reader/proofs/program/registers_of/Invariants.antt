@@ -1,5 +1,4 @@
-use Rattle.litmus_reader.proofs.Vocabulary.{◌≡◌, take, replicate, fold}
-use Rattle.litmus_reader.specs.Internal.Filling.{with_initial}
+use Rattle.litmus_reader.proofs.Vocabulary.{◌≡◌, take, replicate, fold, with_initial}
 use Rattle.litmus_reader.proofs.program.registers_of.Given as goal
 
 -- the registers after the initial values so far

@@ -1,5 +1,5 @@
-use Rattle.litmus_reader.proofs.Vocabulary.{◌≡◌, ℕ, ◌∷◌, ◌++◌, [], List, map, get_or, replicate, sym, ap, ◌∙◌, arith, Option, unwrap_or, range_with_len, get_or_default, map-range_with_len_more, Instr, Thread, row_view, byte_in, byte_at, thread_in}
-use Rattle.litmus_reader.proofs.Vocabulary.{code_in}
+use Rattle.litmus_reader.proofs.Vocabulary.{◌≡◌, ℕ, ◌∷◌, ◌++◌, [], List, map, get_or, replicate, sym, ap, ◌∙◌, arith, Option, unwrap_or, range_with_len, get_or_default, map-range_with_len_more, Instr}
+use Rattle.litmus_reader.proofs.Vocabulary.{Thread, row_view, byte_in, byte_at, thread_in, code_in}
 use Rattle.litmus_reader.proofs.program.threads_of.Goals as goal
 
 made : (c d : List Instr) (r s : List ℕ) → c ≡ d → r ≡ s → ◌≡◌ {A = Thread} (record { code = c; registers = r }) (record { code = d; registers = s })

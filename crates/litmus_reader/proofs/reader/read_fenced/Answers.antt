@@ -1,7 +1,5 @@
 use Rattle.litmus_reader.proofs.Vocabulary.{ℕ, List, err_from_is_err_and, Thread, IsWithinFencedLimits, first_fenced_fault, BreaksFirst}
-use Rattle.litmus_reader.proofs.Numbered.{fenced_program_limits}
-use Rattle.litmus_reader.proofs.WholeTexts.{nothing_only, nothing_refused}
-use Rattle.litmus_reader.proofs.Meant.{found, found_only, broken, broken_only}
+use Rattle.litmus_reader.proofs.{Numbered.fenced_program_limits, WholeTexts.nothing_only, WholeTexts.nothing_refused, Meant.found, Meant.found_only, Meant.broken, Meant.broken_only}
 use Rattle.litmus_reader.proofs.reader.read_fenced.Goals as goal
 
 abbrev Within : List Thread → List ℕ → Type 0

@@ -1,7 +1,5 @@
 use Rattle.litmus_reader.proofs.Vocabulary.{ℕ, List, err_from_is_err_and, Thread, IsWithinLimits, first_fault, BreaksFirst}
-use Rattle.litmus_reader.proofs.Numbered.{program_limits}
-use Rattle.litmus_reader.proofs.WholeTexts.{nothing_only, nothing_refused}
-use Rattle.litmus_reader.proofs.Meant.{found, found_only, broken, broken_only}
+use Rattle.litmus_reader.proofs.{Numbered.program_limits, WholeTexts.nothing_only, WholeTexts.nothing_refused, Meant.found, Meant.found_only, Meant.broken, Meant.broken_only}
 use Rattle.litmus_reader.proofs.reader.read_litmus.Goals as goal
 
 abbrev Within : List Thread → List ℕ → Type 0

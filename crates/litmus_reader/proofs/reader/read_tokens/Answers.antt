@@ -1,5 +1,4 @@
-use Rattle.text_tokens.specs.Tokens.{toks}
-use Rattle.litmus_syntax.specs.Views.{body_view, ending_view}
+use Rattle.litmus_reader.proofs.Vocabulary.{toks, body_view, ending_view}
 use Rattle.litmus_reader.proofs.Parts.{found_of, refused_body, refused_ending}
 use Rattle.litmus_reader.proofs.reader.read_tokens.Goals as goal
 

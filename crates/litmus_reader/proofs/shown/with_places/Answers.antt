@@ -1,6 +1,4 @@
-use Rattle.litmus_reader.proofs.Vocabulary.{◌∙◌, sym, arith}
-use Rattle.std.proofs.lemmas.List.{at_drop_all}
-use Rattle.litmus_reader.specs.Shown.{with_places}
+use Rattle.litmus_reader.proofs.Vocabulary.{◌∙◌, sym, arith, at_drop_all, with_places}
 use Rattle.litmus_reader.proofs.shown.with_places.Goals as goal
 
 pub returns : goal.returns

@@ -1,5 +1,4 @@
-use Rattle.litmus_reader.proofs.Vocabulary.{◌≡◌, drop}
-use Rattle.litmus_reader.specs.Shown.{with_places}
+use Rattle.litmus_reader.proofs.Vocabulary.{◌≡◌, drop, with_places}
 use Rattle.litmus_reader.proofs.shown.with_places.Given as goal
 
 -- the places that are left add themselves

@@ -1,4 +1,4 @@
-use Rattle.std.proofs.Common.{sym, ◌∙◌, arith}
+use Rattle.litmus_syntax.proofs.Vocabulary.{sym, ◌∙◌, arith}
 use Rattle.litmus_syntax.proofs.BodyLaws.{one_more_there, there_at, all_there}
 use Rattle.litmus_syntax.proofs.body.missing_thread.Goals as goal
 

@@ -1,5 +1,4 @@
-use Rattle.std.proofs.Common.{map, take}
-use Rattle.litmus_syntax.proofs.Vocabulary.{All, HasThread, place_of_entry, entry_view}
+use Rattle.litmus_syntax.proofs.Vocabulary.{map, take, All, HasThread, place_of_entry, entry_view}
 use Rattle.litmus_syntax.proofs.body.missing_thread.Given as goal
 
 -- the threads of the entries so far are there

@@ -1,7 +1,5 @@
-use Rattle.std.proofs.Common.{map}
-use Rattle.litmus_syntax.proofs.Vocabulary.{toks, entry_view, row_view}
-use Rattle.litmus_syntax.proofs.Options.{handed_on}
-use Rattle.litmus_syntax.proofs.BodyLaws.{body_is_read, no_entries, no_header, one_missing, no_rows}
+use Rattle.litmus_syntax.proofs.Vocabulary.{map, toks, entry_view, row_view}
+use Rattle.litmus_syntax.proofs.{Options.handed_on, BodyLaws.body_is_read, BodyLaws.no_entries, BodyLaws.no_header, BodyLaws.one_missing, BodyLaws.no_rows}
 use Rattle.litmus_syntax.proofs.body.read_body.Goals as goal
 
 pub returns-in_err-entries : goal.returns-in_err-entries

@@ -1,8 +1,5 @@
-use Rattle.std.proofs.Common.{◌∙◌, sym, arith, map, option_map}
-use Rattle.litmus_syntax.proofs.Vocabulary.{map_push, toks}
-use Rattle.litmus_syntax.proofs.Options.{handed_on}
-use Rattle.litmus_syntax.specs.Views.{code_view, label_view}
-use Rattle.litmus_syntax.proofs.CellLaws.{one_more_label, one_more_own, label_stops, content_stops, cell_is_read}
+use Rattle.litmus_syntax.proofs.Vocabulary.{◌∙◌, sym, arith, map, option_map, map_push, toks, code_view, label_view}
+use Rattle.litmus_syntax.proofs.{Options.handed_on, CellLaws.one_more_label, CellLaws.one_more_own, CellLaws.label_stops, CellLaws.content_stops, CellLaws.cell_is_read}
 use Rattle.litmus_syntax.proofs.cell.read_cell.Goals as goal
 
 pub returns-in_err-name-clause-reads : goal.returns-in_err-name-clause-reads

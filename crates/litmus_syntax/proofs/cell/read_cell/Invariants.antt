@@ -1,5 +1,4 @@
-use Rattle.std.proofs.Common.{◌≡◌, ◌≤◌, ◌++◌, map, length}
-use Rattle.litmus_syntax.proofs.Vocabulary.{toks, label_view}
+use Rattle.litmus_syntax.proofs.Vocabulary.{◌≡◌, ◌≤◌, ◌++◌, map, length, toks, label_view}
 use Rattle.litmus_syntax.proofs.CellLaws.{LabelsSoFar}
 use Rattle.litmus_syntax.proofs.cell.read_cell.Given as goal
 

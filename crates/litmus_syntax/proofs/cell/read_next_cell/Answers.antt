@@ -1,7 +1,6 @@
 use Rattle.litmus_syntax.proofs.Vocabulary.{toks, cell_view}
 use Rattle.text_tokens.specs.declared.token.Mark.TheVariants as the
-use Rattle.litmus_syntax.proofs.Options.{handed_on, not_taken}
-use Rattle.litmus_syntax.proofs.RowLaws.{cell_behind}
+use Rattle.litmus_syntax.proofs.{Options.handed_on, Options.not_taken, RowLaws.cell_behind}
 use Rattle.litmus_syntax.proofs.cell.read_next_cell.Goals as goal
 
 pub returns-in_err-rest-clause-reads : goal.returns-in_err-rest-clause-reads

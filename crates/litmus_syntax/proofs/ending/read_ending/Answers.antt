@@ -1,7 +1,5 @@
-use Rattle.std.proofs.Common.{map}
-use Rattle.litmus_syntax.proofs.Vocabulary.{toks, place_view, sign_at_view}
-use Rattle.litmus_syntax.proofs.Options.{handed_on}
-use Rattle.litmus_syntax.proofs.EndingLaws.{ending_is_read, no_observed, no_quantifier, no_signs, carried}
+use Rattle.litmus_syntax.proofs.Vocabulary.{map, toks, place_view, sign_at_view}
+use Rattle.litmus_syntax.proofs.{Options.handed_on, EndingLaws.ending_is_read, EndingLaws.no_observed, EndingLaws.no_quantifier, EndingLaws.no_signs, EndingLaws.carried}
 use Rattle.litmus_syntax.proofs.ending.read_ending.Goals as goal
 
 pub returns-in_err-observed : goal.returns-in_err-observed

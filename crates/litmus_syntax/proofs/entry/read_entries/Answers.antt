@@ -1,5 +1,4 @@
-use Rattle.std.proofs.Common.{◌∙◌, sym, map}
-use Rattle.litmus_syntax.proofs.Vocabulary.{map_push, toks, place_view, entry_view}
+use Rattle.litmus_syntax.proofs.Vocabulary.{◌∙◌, sym, map, map_push, toks, place_view, entry_view}
 use Rattle.text_tokens.specs.declared.token.Mark.TheVariants as the
 use Rattle.litmus_syntax.proofs.Options.{handed_on, mark_is_there, not_taken}
 use Rattle.litmus_syntax.proofs.EntryLaws.{no_entry_yet, one_more_entry, place_again_stands, no_place_stands, no_value_stands, entries_end}

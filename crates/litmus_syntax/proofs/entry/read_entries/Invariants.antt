@@ -1,5 +1,4 @@
-use Rattle.std.proofs.Common.{map, length}
-use Rattle.litmus_syntax.proofs.Vocabulary.{toks, entry_view}
+use Rattle.litmus_syntax.proofs.Vocabulary.{map, length, toks, entry_view}
 use Rattle.litmus_syntax.proofs.EntryLaws.{EntriesSoFar}
 use Rattle.litmus_syntax.proofs.entry.read_entries.Given as goal
 

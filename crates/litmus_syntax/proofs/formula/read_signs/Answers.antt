@@ -1,6 +1,4 @@
-use Rattle.std.proofs.Common.{◌∙◌, sym, map}
-use Rattle.litmus_syntax.proofs.Vocabulary.{map_push, toks}
-use Rattle.litmus_syntax.specs.Views.{sign_view, sign_at_view}
+use Rattle.litmus_syntax.proofs.Vocabulary.{◌∙◌, sym, map, map_push, toks, sign_view, sign_at_view}
 use Rattle.litmus_syntax.proofs.SignLaws.{no_sign_yet, next_sign, signs_end, signs_stop, some_left, none_left}
 use Rattle.litmus_syntax.proofs.formula.read_signs.Goals as goal
 

@@ -1,5 +1,4 @@
-use Rattle.std.proofs.Common.{map, length}
-use Rattle.litmus_syntax.proofs.Vocabulary.{toks, sign_at_view}
+use Rattle.litmus_syntax.proofs.Vocabulary.{map, length, toks, sign_at_view}
 use Rattle.litmus_syntax.proofs.SignLaws.{SignsSoFar}
 use Rattle.litmus_syntax.proofs.formula.read_signs.Given as goal
 

@@ -1,5 +1,4 @@
-use Rattle.std.proofs.Common.{◌∙◌, sym, arith}
-use Rattle.litmus_syntax.proofs.Vocabulary.{toks}
+use Rattle.litmus_syntax.proofs.Vocabulary.{◌∙◌, sym, arith, toks}
 use Rattle.text_tokens.specs.declared.token.Mark.TheVariants as the
 use Rattle.litmus_syntax.proofs.Options.{handed_on, mark_is_there}
 use Rattle.litmus_syntax.proofs.HeaderLaws.{first_column, first_stops, next_column, next_stops, header_stops, header_ends}

@@ -1,5 +1,4 @@
-use Rattle.std.proofs.Common.{◌+◌, ◌≤◌, length}
-use Rattle.text_tokens.specs.Tokens.{toks}
+use Rattle.litmus_syntax.proofs.Vocabulary.{◌+◌, ◌≤◌, length, toks}
 use Rattle.litmus_syntax.proofs.HeaderLaws.{ColumnsSoFar}
 use Rattle.litmus_syntax.proofs.header.read_header.Given as goal
 

@@ -1,5 +1,4 @@
-use Rattle.std.proofs.Common.{◌∙◌, sym}
-use Rattle.std.proofs.lemmas.Bool.{not-true, not-false, cond-false}
+use Rattle.litmus_syntax.proofs.Vocabulary.{◌∙◌, sym, not-true, not-false, cond-false}
 use Rattle.litmus_syntax.proofs.LabelLaws.{label_twice, next_label}
 use Rattle.litmus_syntax.proofs.label.first_repeated.Goals as goal
 

@@ -1,5 +1,4 @@
-use Rattle.std.proofs.Common.{◌∙◌, sym, map}
-use Rattle.litmus_syntax.proofs.Vocabulary.{map_push, toks, place_view}
+use Rattle.litmus_syntax.proofs.Vocabulary.{◌∙◌, sym, map, map_push, toks, place_view}
 use Rattle.text_tokens.specs.declared.token.Mark.TheVariants as the
 use Rattle.litmus_syntax.proofs.Options.{handed_on, mark_is_there}
 use Rattle.litmus_syntax.proofs.ObservedLaws.{observed_begins, no_begin, next_observed, observed_stops, observed_ends}

@@ -1,5 +1,4 @@
-use Rattle.std.proofs.Common.{map, length}
-use Rattle.litmus_syntax.proofs.Vocabulary.{toks, place_view}
+use Rattle.litmus_syntax.proofs.Vocabulary.{map, length, toks, place_view}
 use Rattle.litmus_syntax.proofs.ObservedLaws.{ObservedSoFar}
 use Rattle.litmus_syntax.proofs.observed.read_observed.Given as goal
 

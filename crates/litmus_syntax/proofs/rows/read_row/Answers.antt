@@ -1,5 +1,4 @@
-use Rattle.std.proofs.Common.{◌∙◌, sym, arith, map}
-use Rattle.litmus_syntax.proofs.Vocabulary.{map_push, length-map, toks, cell_view, label_view}
+use Rattle.litmus_syntax.proofs.Vocabulary.{◌∙◌, sym, arith, map, map_push, length-map, toks, cell_view, label_view}
 use Rattle.litmus_syntax.proofs.Options.{handed_on}
 use Rattle.litmus_syntax.proofs.RowLaws.{first_cell, one_cell, no_first_cell, next_read, one_more_cell, no_next_read, row_ends, row_stops, row_of_another_length}
 use Rattle.litmus_syntax.proofs.rows.read_row.Goals as goal

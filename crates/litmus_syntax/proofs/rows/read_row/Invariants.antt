@@ -1,5 +1,4 @@
-use Rattle.std.proofs.Common.{◌≡◌, ◌≤◌, ◌++◌, map, length}
-use Rattle.litmus_syntax.proofs.Vocabulary.{toks, cell_view, label_view, row_labels}
+use Rattle.litmus_syntax.proofs.Vocabulary.{◌≡◌, ◌≤◌, ◌++◌, map, length, toks, cell_view, label_view, row_labels}
 use Rattle.litmus_syntax.proofs.RowLaws.{CellsSoFar}
 use Rattle.litmus_syntax.proofs.rows.read_row.Given as goal
 

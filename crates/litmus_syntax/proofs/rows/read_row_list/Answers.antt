@@ -1,7 +1,5 @@
-use Rattle.std.proofs.Common.{◌∙◌, sym, map}
-use Rattle.litmus_syntax.proofs.Vocabulary.{map_push, toks, row_view, label_view}
-use Rattle.litmus_syntax.proofs.Options.{handed_on}
-use Rattle.litmus_syntax.proofs.RowLaws.{no_row_yet, no_labels_yet, next_row, one_more_row, rows_end, rows_stop}
+use Rattle.litmus_syntax.proofs.Vocabulary.{◌∙◌, sym, map, map_push, toks, row_view, label_view}
+use Rattle.litmus_syntax.proofs.{Options.handed_on, RowLaws.no_row_yet, RowLaws.no_labels_yet, RowLaws.next_row, RowLaws.one_more_row, RowLaws.rows_end, RowLaws.rows_stop}
 use Rattle.litmus_syntax.proofs.rows.read_row_list.Goals as goal
 
 pub loop-alloc-init : goal.loop-alloc-init

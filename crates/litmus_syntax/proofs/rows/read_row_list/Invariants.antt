@@ -1,5 +1,4 @@
-use Rattle.std.proofs.Common.{◌≡◌, ◌++◌, map, length}
-use Rattle.litmus_syntax.proofs.Vocabulary.{toks, row_view, label_view, labels_in_rows}
+use Rattle.litmus_syntax.proofs.Vocabulary.{◌≡◌, ◌++◌, map, length, toks, row_view, label_view, labels_in_rows}
 use Rattle.litmus_syntax.proofs.RowLaws.{RowsSoFar}
 use Rattle.litmus_syntax.proofs.rows.read_row_list.Given as goal
 

@@ -1,5 +1,4 @@
-use Rattle.std.proofs.Common.{sym, subst}
-use Rattle.partial_covers.specs.Parts.{IsPartOf}
+use Rattle.partial_covers.proofs.Vocabulary.{sym, subst, IsPartOf}
 use Rattle.partial_covers.proofs.cutting.cut_each.Goals as goal
 
 pub loop-part-preserved : goal.loop-part-preserved

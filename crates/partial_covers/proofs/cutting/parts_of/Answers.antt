@@ -1,5 +1,4 @@
-use Rattle.std.proofs.Common.{sym, subst}
-use Rattle.partial_covers.proofs.Vocabulary.{All, IsPartOf}
+use Rattle.partial_covers.proofs.Vocabulary.{sym, subst, All, IsPartOf}
 use Rattle.partial_covers.proofs.cutting.parts_of.Goals as goal
 
 pub loop-preserved : goal.loop-preserved

@@ -1,11 +1,6 @@
-use Rattle.std.proofs.Common.{get_or, sym, subst}
-use Rattle.std.proofs.lemmas.List.Elements.{All-push}
-use Rattle.partial_covers.proofs.Vocabulary.{All, IsPartOf, AreOfOthers, sequential}
-use Rattle.cover_judge.specs.Choices.{MayChooseEach}
-use Rattle.partial_covers.proofs.FilledTrees.{values_in_sequence}
+use Rattle.partial_covers.proofs.Vocabulary.{get_or, sym, subst, All-push, All, IsPartOf, AreOfOthers, sequential, MayChooseEach}
+use Rattle.partial_covers.proofs.{FilledTrees.values_in_sequence, CombinedCovers.of_others, PartsJoined.part_next}
 use Rattle.cover_judge.specs.declared.choice.Choice.TheVariants as choice
-use Rattle.partial_covers.proofs.CombinedCovers.{of_others}
-use Rattle.partial_covers.proofs.PartsJoined.{part_next}
 use Rattle.partial_covers.proofs.cutting.push_cut.Goals as goal
 
 pub loop-choice-preserved : goal.loop-choice-preserved

@@ -1,5 +1,4 @@
-use Rattle.std.proofs.Common.{get_or, sym, ap, ◌∙◌, subst}
-use Rattle.partial_covers.proofs.Vocabulary.{ProgramSketch, with_chosen, MayChoose, sketch_with}
+use Rattle.partial_covers.proofs.Vocabulary.{get_or, sym, ap, ◌∙◌, subst, ProgramSketch, with_chosen, MayChoose, sketch_with}
 use Rattle.cover_judge.specs.declared.choice.Choice.TheVariants as choice
 use Rattle.partial_covers.proofs.ChoicesMade.{may_at, one_made, all_made}
 use Rattle.partial_covers.proofs.filling.choose_all.Goals as goal

@@ -1,5 +1,4 @@
-use Rattle.std.proofs.Common.{◌≡◌, take}
-use Rattle.partial_covers.specs.PartialCovers.{after}
+use Rattle.partial_covers.proofs.Vocabulary.{◌≡◌, take, after}
 use Rattle.partial_covers.proofs.filling.choose_all.Given as goal
 
 -- the choices so far are made

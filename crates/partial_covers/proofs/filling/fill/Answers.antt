@@ -1,11 +1,6 @@
-use Rattle.std.proofs.Common.{◌≡◌, ◌<◌, ◌≤◌, List, [], ◌++◌, get_or, length, sym, ap, ◌∙◌, subst}
-use Rattle.partial_covers.proofs.Vocabulary.{take_all, asked, IsLawful, ProgramSketch, mode_in, nothing_chosen, HaveAllRegisters, Piece, copied_in, IsCoverAt, items_before}
-use Rattle.partial_covers.proofs.Vocabulary.{after, by_number, Grows, IsFilling, LeadsToWhole, StopIs, Pushes}
-use Rattle.partial_covers.specs.HoleTrees.{Filled}
-use Rattle.partial_covers.proofs.FilledNodes.{more_copies, more_pieces, whole_filled}
-use Rattle.sketch_covers.proofs.Growing.{grows_none, grows_twice, stops_for}
-use Rattle.partial_covers.proofs.HolesFilled.{IsHole, hole_leads}
-use Rattle.partial_covers.proofs.PartialRows.{filling_still}
+use Rattle.partial_covers.proofs.Vocabulary.{◌≡◌, ◌<◌, ◌≤◌, List, [], ◌++◌, get_or, length, sym, ap, ◌∙◌, subst, take_all, asked, IsLawful, ProgramSketch, mode_in, nothing_chosen, HaveAllRegisters}
+use Rattle.partial_covers.proofs.Vocabulary.{Piece, copied_in, IsCoverAt, items_before, after, by_number, Grows, IsFilling, LeadsToWhole, StopIs, Pushes, Filled, grows_none, grows_twice, stops_for}
+use Rattle.partial_covers.proofs.{FilledNodes.more_copies, FilledNodes.more_pieces, FilledNodes.whole_filled, HolesFilled.IsHole, HolesFilled.hole_leads, PartialRows.filling_still}
 use Rattle.partial_covers.proofs.filling.fill.Goals as goal
 
 pub loop-piece-init : goal.loop-piece-init

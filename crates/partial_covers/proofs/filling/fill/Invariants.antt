@@ -1,6 +1,4 @@
-use Rattle.std.proofs.Common.{take}
-use Rattle.partial_covers.proofs.Vocabulary.{asked, nothing_chosen, items_before, by_number, Grows}
-use Rattle.partial_covers.specs.HoleTrees.{Filled}
+use Rattle.partial_covers.proofs.Vocabulary.{take, asked, nothing_chosen, items_before, by_number, Grows, Filled}
 use Rattle.partial_covers.proofs.filling.fill.Given as goal
 
 -- the list has grown, and the nodes stand for the pieces so far

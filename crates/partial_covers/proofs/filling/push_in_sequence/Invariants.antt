@@ -1,5 +1,4 @@
-use Rattle.std.proofs.Common.{◌≡◌, ◌++◌, map, take}
-use Rattle.partial_covers.specs.NodeChanges.{sequential_node}
+use Rattle.partial_covers.proofs.Vocabulary.{◌≡◌, ◌++◌, map, take, sequential_node}
 use Rattle.partial_covers.proofs.filling.push_in_sequence.Given as goal
 
 -- copies of the nodes so far come after the others

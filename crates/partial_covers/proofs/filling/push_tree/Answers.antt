@@ -1,8 +1,6 @@
-use Rattle.std.proofs.Common.{◌≡◌, ◌++◌, sym, ap, ◌∙◌, subst, rules}
-use Rattle.partial_covers.proofs.Vocabulary.{asked, Listing, IsWhole, Machine, IsCoverAt, Pushes, ProgramSketch, mode_in, by_number, after, MayChooseAll, Grows, StopIs}
-use Rattle.partial_covers.proofs.ChoicesMade.{same_machine, same_mode, same_program}
-use Rattle.partial_covers.proofs.FilledParts.{filling_pushed}
-use Rattle.sketch_covers.proofs.Growing.{grows_none, memory_stops, stops_for}
+use Rattle.partial_covers.proofs.Vocabulary.{◌≡◌, ◌++◌, sym, ap, ◌∙◌, subst, rules, asked, Listing, IsWhole, Machine, IsCoverAt, Pushes, ProgramSketch, mode_in, by_number, after, MayChooseAll, Grows}
+use Rattle.partial_covers.proofs.Vocabulary.{StopIs, grows_none, memory_stops, stops_for}
+use Rattle.partial_covers.proofs.{ChoicesMade.same_machine, ChoicesMade.same_mode, ChoicesMade.same_program, FilledParts.filling_pushed}
 use Rattle.partial_covers.proofs.filling.push_tree.Goals as goal
 
 pub choose_all-requires : goal.choose_all-requires

@@ -1,6 +1,4 @@
-use Rattle.std.proofs.Common.{take}
-use Rattle.partial_covers.proofs.Vocabulary.{nothing_chosen, items_before}
-use Rattle.partial_covers.specs.HoleTrees.{AreFoundFrom, Filled}
+use Rattle.partial_covers.proofs.Vocabulary.{take, nothing_chosen, items_before, AreFoundFrom, Filled}
 use Rattle.partial_covers.proofs.hole_trees.fill_by.Given as goal
 
 -- the nodes stand for the pieces so far, and the holes are those of the next pieces

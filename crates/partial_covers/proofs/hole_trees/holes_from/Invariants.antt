@@ -1,6 +1,4 @@
-use Rattle.std.proofs.Common.{◌≡◌, ℕ, suc, ◌+◌, ◌<◌, get_or, length}
-use Rattle.partial_covers.proofs.Vocabulary.{Piece}
-use Rattle.partial_covers.specs.declared.hole_trees.HoleTree.{HoleTree}
+use Rattle.partial_covers.proofs.Vocabulary.{◌≡◌, ℕ, suc, ◌+◌, ◌<◌, get_or, length, Piece, HoleTree}
 use Rattle.partial_covers.proofs.hole_trees.holes_from.Given as goal
 
 -- the holes so far are those of the last pieces

@@ -1,5 +1,4 @@
-use Rattle.std.proofs.Common.{arith}
-use Rattle.std.proofs.lemmas.List.{same_lists}
+use Rattle.partial_covers.proofs.Vocabulary.{arith, same_lists}
 use Rattle.partial_covers.proofs.joining.is_same_path.Goals as goal
 
 pub returns : goal.returns

@@ -1,5 +1,4 @@
-use Rattle.std.proofs.Common.{◌≡◌, ℕ, ◌<◌, get_or}
-use Rattle.cover_judge.specs.declared.choice.Choice.{Choice}
+use Rattle.partial_covers.proofs.Vocabulary.{◌≡◌, ℕ, ◌<◌, get_or, Choice}
 use Rattle.partial_covers.proofs.joining.is_same_path.Given as goal
 
 -- the choices so far are the same

@@ -1,5 +1,4 @@
-use Rattle.std.proofs.Common.{refl, sym, ◌∙◌}
-use Rattle.std.proofs.lemmas.Option.{slice_get_read}
+use Rattle.partial_covers.proofs.Vocabulary.{refl, sym, ◌∙◌, slice_get_read}
 use Rattle.partial_covers.proofs.joining.place_of_path.Goals as goal
 
 pub returns-then-is_same_path : goal.returns-then-is_same_path

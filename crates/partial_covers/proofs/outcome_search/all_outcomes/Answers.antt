@@ -1,8 +1,7 @@
-use Rattle.std.proofs.Common.{[], refl, subst}
+use Rattle.partial_covers.proofs.Vocabulary.{[], refl, subst, asked, machine_of_mode, KnownOutcomes, IsWholeCover, by_number, AreInOrder, StopIs, grows_none, nothing_chosen, sequential}
+use Rattle.partial_covers.proofs.Vocabulary.{IsPartialCover, runs_found, never_new}
 use Rattle.std.specs.FinSet as set
 use Rattle.tso_machine.specs.declared.mode.Mode.TheVariants as modes
-use Rattle.partial_covers.proofs.Vocabulary.{asked, machine_of_mode, KnownOutcomes, IsWholeCover, by_number, AreInOrder, StopIs, grows_none, nothing_chosen, sequential, IsPartialCover}
-use Rattle.sketch_covers.proofs.AllOutcomes.{runs_found, never_new}
 use Rattle.sketch_covers.proofs.Listing.{exactly_allowed}
 use Rattle.partial_covers.proofs.FilledParts.{refilled}
 use Rattle.partial_covers.proofs.outcome_search.all_outcomes.Goals as goal

@@ -1,7 +1,4 @@
-use Rattle.std.proofs.Common.{refl, sym, subst, ◌∙◌}
-use Rattle.partial_covers.proofs.Vocabulary.{asked, machine_of_mode, nothing_chosen, IsWholeCover, by_number}
-use Rattle.cert_forest.proofs.NodeLaws.{is_tree, same_tree}
-use Rattle.sketch_covers.proofs.Nodes.{cover_first}
+use Rattle.partial_covers.proofs.Vocabulary.{refl, sym, subst, ◌∙◌, asked, machine_of_mode, nothing_chosen, IsWholeCover, by_number, is_tree, same_tree, cover_first}
 use Rattle.partial_covers.proofs.outcome_search.cover_all.Goals as goal
 
 pub of_nodes-requires : goal.of_nodes-requires

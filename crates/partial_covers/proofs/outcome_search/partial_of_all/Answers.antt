@@ -1,8 +1,7 @@
-use Rattle.std.proofs.Common.{◌≡◌, [], ◌∙◌, List, refl, sym, subst}
+use Rattle.partial_covers.proofs.Vocabulary.{◌≡◌, [], ◌∙◌, List, refl, sym, subst, Shown, asked, ProgramSketch, nothing_chosen, Choice, KnownOutcomes, PushesPartial, AreCoversFor, by_number}
+use Rattle.partial_covers.proofs.Vocabulary.{HasRunOfEach, StaysOf}
 use Rattle.std.specs.FinSet as set
-use Rattle.partial_covers.proofs.Vocabulary.{Shown, asked, ProgramSketch, nothing_chosen, Choice, KnownOutcomes, PushesPartial, AreCoversFor}
 use Rattle.tso_machine.specs.declared.mode.Mode.TheVariants as modes
-use Rattle.sketch_covers.specs.KnownOutcomes.{by_number, HasRunOfEach, StaysOf}
 use Rattle.partial_covers.proofs.CoveringSteps.{grows_from, tree_from}
 use Rattle.partial_covers.proofs.outcome_search.partial_of_all.Goals as goal
 

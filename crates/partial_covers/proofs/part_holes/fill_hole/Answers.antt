@@ -1,7 +1,5 @@
-use Rattle.std.proofs.Common.{◌≡◌, refl, sym, ap, ◌∙◌, subst}
-use Rattle.partial_covers.proofs.Vocabulary.{asked, Listing, Grows, IsWhole, IsCoverAt, Pushes, ProgramSketch, mode_in, by_number, after, MayChooseAll}
-use Rattle.partial_covers.proofs.ChoicesMade.{same_mode, same_program}
-use Rattle.partial_covers.proofs.FilledParts.{filled_by}
+use Rattle.partial_covers.proofs.Vocabulary.{◌≡◌, refl, sym, ap, ◌∙◌, subst, asked, Listing, Grows, IsWhole, IsCoverAt, Pushes, ProgramSketch, mode_in, by_number, after, MayChooseAll}
+use Rattle.partial_covers.proofs.{ChoicesMade.same_mode, ChoicesMade.same_program, FilledParts.filled_by}
 use Rattle.partial_covers.proofs.part_holes.fill_hole.Goals as goal
 
 pub choose_all-requires : goal.choose_all-requires

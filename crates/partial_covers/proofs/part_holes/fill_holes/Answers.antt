@@ -1,9 +1,6 @@
-use Rattle.std.proofs.Common.{◌<◌, length, sym, ap, subst, arith}
-use Rattle.partial_covers.proofs.Vocabulary.{asked, Grows, ProgramSketch, nothing_chosen, by_number, Piece, IsFilled, LeadsToWhole}
+use Rattle.partial_covers.proofs.Vocabulary.{◌<◌, length, sym, ap, subst, arith, asked, Grows, ProgramSketch, nothing_chosen, by_number, Piece, IsFilled, LeadsToWhole, grows_none, grows_twice}
 use Rattle.tso_machine.specs.declared.mode.Mode.TheVariants as modes
-use Rattle.sketch_covers.proofs.Growing.{grows_none, grows_twice}
-use Rattle.partial_covers.proofs.FilledParts.{filled_still}
-use Rattle.partial_covers.proofs.ReplacedItems.{none_replaced, one_replaced, all_replaced, replaced_as, next_item}
+use Rattle.partial_covers.proofs.{FilledParts.filled_still, ReplacedItems.none_replaced, ReplacedItems.one_replaced, ReplacedItems.all_replaced, ReplacedItems.replaced_as, ReplacedItems.next_item}
 use Rattle.partial_covers.proofs.part_holes.fill_holes.Goals as goal
 
 pub loop-i-init : goal.loop-i-init

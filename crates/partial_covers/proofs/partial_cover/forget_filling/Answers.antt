@@ -1,5 +1,4 @@
-use Rattle.std.proofs.Common.{refl, sym, subst}
-use Rattle.partial_covers.proofs.Vocabulary.{IsFilling, after}
+use Rattle.partial_covers.proofs.Vocabulary.{refl, sym, subst, IsFilling, after}
 use Rattle.partial_covers.proofs.partial_cover.forget_filling.Goals as goal
 
 pub returns : goal.returns

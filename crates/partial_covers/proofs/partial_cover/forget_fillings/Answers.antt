@@ -1,5 +1,4 @@
-use Rattle.std.proofs.Common.{◌≤◌, List, length, arith}
-use Rattle.partial_covers.proofs.Vocabulary.{Outcome, Shown, ProgramSketch, Piece, IsFilled}
+use Rattle.partial_covers.proofs.Vocabulary.{◌≤◌, List, length, arith, Outcome, Shown, ProgramSketch, Piece, IsFilled}
 use Rattle.partial_covers.proofs.ReplacedItems.{none_replaced, one_replaced, all_replaced, replaced_as}
 use Rattle.partial_covers.proofs.partial_cover.forget_fillings.Goals as goal
 

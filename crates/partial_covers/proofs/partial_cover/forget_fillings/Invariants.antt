@@ -1,5 +1,4 @@
-use Rattle.std.proofs.Common.{List}
-use Rattle.partial_covers.proofs.Vocabulary.{Outcome, Shown, ProgramSketch, IsFilled}
+use Rattle.partial_covers.proofs.Vocabulary.{List, Outcome, Shown, ProgramSketch, IsFilled}
 use Rattle.partial_covers.proofs.ReplacedItems.{IsReplaced}
 use Rattle.partial_covers.proofs.partial_cover.forget_fillings.Given as goal
 

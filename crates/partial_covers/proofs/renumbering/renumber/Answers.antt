@@ -1,5 +1,4 @@
-use Rattle.std.proofs.Common.{◌<◌, ◌≤◌, length, sym, ◌∙◌, arith}
-use Rattle.partial_covers.proofs.Vocabulary.{renumbered_node, place_in}
+use Rattle.partial_covers.proofs.Vocabulary.{◌<◌, ◌≤◌, length, sym, ◌∙◌, arith, renumbered_node, place_in}
 use Rattle.partial_covers.proofs.ChangedNodes.{changed_step, changed_all}
 use Rattle.partial_covers.proofs.renumbering.renumber.Goals as goal
 

@@ -1,5 +1,4 @@
-use Rattle.std.proofs.Common.{◌≡◌, ◌++◌, map, take, drop}
-use Rattle.partial_covers.proofs.Vocabulary.{renumbered_node, place_in}
+use Rattle.partial_covers.proofs.Vocabulary.{◌≡◌, ◌++◌, map, take, drop, renumbered_node, place_in}
 use Rattle.partial_covers.proofs.renumbering.renumber.Given as goal
 
 -- the nodes so far are changed

@@ -1,4 +1,4 @@
-use Rattle.sketch_covers.specs.OutcomeNumbers.{place_in}
+use Rattle.partial_covers.proofs.Vocabulary.{place_in}
 use Rattle.partial_covers.proofs.PartialRenumbered.{items_renumbered}
 use Rattle.partial_covers.proofs.renumbering.renumber_partial.Goals as goal
 

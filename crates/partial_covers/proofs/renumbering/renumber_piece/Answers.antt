@@ -1,4 +1,4 @@
-use Rattle.std.proofs.Common.{refl}
+use Rattle.partial_covers.proofs.Vocabulary.{refl}
 use Rattle.partial_covers.proofs.renumbering.renumber_piece.Goals as goal
 
 pub returns : goal.returns

@@ -1,7 +1,5 @@
-use Rattle.std.proofs.Common.{arith}
-use Rattle.partial_covers.proofs.Vocabulary.{place_in, IsPieceRenumbered}
-use Rattle.partial_covers.proofs.PartialRenumbered.{pieces_renumbered}
-use Rattle.partial_covers.proofs.ReplacedItems.{none_replaced, one_replaced, all_replaced}
+use Rattle.partial_covers.proofs.Vocabulary.{arith, place_in, IsPieceRenumbered}
+use Rattle.partial_covers.proofs.{PartialRenumbered.pieces_renumbered, ReplacedItems.none_replaced, ReplacedItems.one_replaced, ReplacedItems.all_replaced}
 use Rattle.partial_covers.proofs.renumbering.renumber_pieces.Goals as goal
 
 pub loop-i-init : goal.loop-i-init

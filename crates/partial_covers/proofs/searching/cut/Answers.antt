@@ -1,5 +1,4 @@
-use Rattle.std.proofs.Common.{Option, Vec, Global, sym, ap, ◌∙◌, subst}
-use Rattle.partial_covers.proofs.Vocabulary.{All, MatchOption, SetOfGaps, IsWhole, nothing_chosen, mode_in, Part, Plan, IsLast, IsPartOf, IsPlanned}
+use Rattle.partial_covers.proofs.Vocabulary.{Option, Vec, Global, sym, ap, ◌∙◌, subst, All, MatchOption, SetOfGaps, IsWhole, nothing_chosen, mode_in, Part, Plan, IsLast, IsPartOf, IsPlanned}
 use Rattle.tso_machine.specs.declared.mode.Mode.TheVariants as modes
 use Rattle.partial_covers.proofs.searching.cut.Goals as goal
 use Rattle.partial_covers.proofs.searching.cut.Goals.{in-Some+in_ok-parts-in-Some, in-None}

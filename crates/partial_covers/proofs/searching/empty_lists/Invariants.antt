@@ -1,4 +1,4 @@
-use Rattle.std.proofs.Common.{◌≡◌, length}
+use Rattle.partial_covers.proofs.Vocabulary.{◌≡◌, length}
 use Rattle.partial_covers.proofs.searching.empty_lists.Given as goal
 
 -- there is one for each turn so far

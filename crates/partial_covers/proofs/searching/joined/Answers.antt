@@ -1,9 +1,6 @@
-use Rattle.std.proofs.Common.{◌≡◌, [], ◌∷◌, ◌++◌, Some, ◌∙◌, Vec, Global, length, refl, sym, subst, arith}
-use Rattle.std.proofs.lemmas.List.{map-id}
+use Rattle.partial_covers.proofs.Vocabulary.{◌≡◌, [], ◌∷◌, ◌++◌, Some, ◌∙◌, Vec, Global, length, refl, sym, subst, arith, map-id, All-append, All-pop, All, PartCover, AreFoundIn, IsFoundIn}
 use Rattle.std.proofs.lemmas.Iterator.Adapters.{YieldsList-from_vec}
 use Rattle.std.proofs.lemmas.Iterator.Consumers.{YieldsList-end}
-use Rattle.std.proofs.lemmas.List.Elements.{All-append, All-pop}
-use Rattle.partial_covers.proofs.Vocabulary.{All, PartCover, AreFoundIn, IsFoundIn}
 use Rattle.partial_covers.proofs.searching.joined.Goals as goal
 
 pub loop-list-preserved : goal.loop-list-preserved

@@ -1,6 +1,5 @@
-use Rattle.std.proofs.Common.{◌≡◌, Vec, Global, length, ap, sym, subst, arith}
+use Rattle.partial_covers.proofs.Vocabulary.{◌≡◌, Vec, Global, length, ap, sym, subst, arith, All, PartCover, AreFoundIn}
 use Rattle.std.proofs.lemmas.Result.{IfOk-weaker}
-use Rattle.partial_covers.proofs.Vocabulary.{All, PartCover, AreFoundIn}
 use Rattle.partial_covers.proofs.PartsJoined.{written_back}
 use Rattle.partial_covers.proofs.searching.search_by.Goals as goal
 

@@ -1,5 +1,4 @@
-use Rattle.std.proofs.Common.{Vec, Global, sym, subst}
-use Rattle.partial_covers.proofs.Vocabulary.{PartCover, AreFoundIn, IsFoundIn}
+use Rattle.partial_covers.proofs.Vocabulary.{Vec, Global, sym, subst, PartCover, AreFoundIn, IsFoundIn}
 use Rattle.partial_covers.proofs.PartsJoined.{pushed_or_not}
 use Rattle.partial_covers.proofs.searching.search_untaken.Goals as goal
 use Rattle.partial_covers.proofs.searching.search_untaken.Goals.{in-Ok+in-Err-1, in-Ok+in-Ok-1, in_default-cover}

@@ -1,6 +1,4 @@
-use Rattle.std.proofs.Common.{[], Vec, Global, ◌∙◌, sym, subst}
-use Rattle.partial_covers.proofs.Vocabulary.{Open, PartCover, AreCoversFor}
-use Rattle.partial_covers.specs.Parts.{AreOwnParts}
+use Rattle.partial_covers.proofs.Vocabulary.{[], Vec, Global, ◌∙◌, sym, subst, Open, PartCover, AreCoversFor, AreOwnParts}
 use Rattle.partial_covers.proofs.PartsJoined.{parts_cut, covers_begun, no_covers, planned_last}
 use Rattle.partial_covers.proofs.searching.start_alone.Goals as goal
 use Rattle.partial_covers.proofs.searching.start_alone.Goals.{in-Some, in-None}

@@ -1,5 +1,5 @@
-use Rattle.std.proofs.Common.{◌≡◌, ◌∙◌, ◌<◌, ◌≤◌, ◌++◌, List, ◌∷◌, [], ℕ, get_or, length, map, ap, subst, arith, rules}
-use Rattle.partial_covers.proofs.Vocabulary.{TraceTree, fold-roll-TraceTree, fold_out-TraceTree, Traces, Read, traces, trace_node, trace_trees, first_choices, IsTraceTree, child_tree}
+use Rattle.partial_covers.proofs.Vocabulary.{◌≡◌, ◌∙◌, ◌<◌, ◌≤◌, ◌++◌, List, ◌∷◌, [], ℕ, get_or, length, map, ap, subst, arith, rules, TraceTree, fold-roll-TraceTree, fold_out-TraceTree, Traces, Read}
+use Rattle.partial_covers.proofs.Vocabulary.{traces, trace_node, trace_trees, first_choices, IsTraceTree, child_tree}
 use Rattle.cert_forest.specs.declared.node.Node.TheVariants as node
 use Rattle.cover_judge.specs.declared.choice.Choice.TheVariants as choice
 use Rattle.branching.specs.declared.traces.TraceTree.TheViews as views

@@ -1,4 +1,4 @@
-use Rattle.cert_forest.specs.Trees.{Source, NoCover}
+use Rattle.partial_covers.proofs.Vocabulary.{Source, NoCover}
 use Rattle.partial_covers.proofs.CombinedSketches.{whole_merged, unsourced_cover}
 use Rattle.partial_covers.proofs.unsourced_trees.push_leaf.Goals as goal
 

@@ -1,4 +1,4 @@
-use Rattle.std.proofs.Common.{◌∙◌, [], sym, subst}
+use Rattle.placed_text.proofs.Vocabulary.{◌∙◌, [], sym, subst}
 use Rattle.placed_text.proofs.ReasonTexts.{AreHeld, first_held, numbers_are_held, tells_more}
 use Rattle.placed_text.proofs.explaining.reasons.Goals as goal
 

@@ -1,4 +1,4 @@
-use Rattle.placed_text.specs.WhyTexts.{TellsReasons}
+use Rattle.placed_text.proofs.Vocabulary.{TellsReasons}
 use Rattle.placed_text.proofs.ReasonTexts.{AreHeld}
 use Rattle.placed_text.proofs.explaining.reasons.Given as goal
 

@@ -1,4 +1,4 @@
-use Rattle.std.proofs.Common.{ℕ, ◌==◌, ◌∙◌, ap, sym}
+use Rattle.placed_text.proofs.Vocabulary.{ℕ, ◌==◌, ◌∙◌, ap, sym}
 use Rattle.std.proofs.lemmas.Result.{IfOk-weaker}
 use Rattle.placed_text.proofs.ReasonTexts.{none_said, some_said}
 use Rattle.placed_text.proofs.explaining.reasons_or_none.Goals as goal

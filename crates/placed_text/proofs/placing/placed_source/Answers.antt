@@ -1,5 +1,4 @@
-use Rattle.std.proofs.Common.{rules, ◌≡◌, length, subst, sym}
-use Rattle.placed_text.proofs.Vocabulary.{option_map, gap_count, HasNoPlacedText}
+use Rattle.placed_text.proofs.Vocabulary.{rules, ◌≡◌, length, subst, sym, option_map, gap_count, HasNoPlacedText}
 use Rattle.cover_judge.proofs.Answered.{err_up}
 use Rattle.placed_text.proofs.Judged.{one_each, no_program, no_costs, no_placement}
 use Rattle.placed_text.proofs.placing.placed_source.Goals as goal

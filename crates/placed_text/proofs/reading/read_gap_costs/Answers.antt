@@ -1,9 +1,6 @@
-use Rattle.std.proofs.Common.{◌≡◌, ℕ, List, Option, Some, None, refl}
-use Rattle.placed_text.proofs.Vocabulary.{option_map, Listing}
+use Rattle.placed_text.proofs.Vocabulary.{◌≡◌, ℕ, List, Option, Some, None, refl, option_map, Listing, AreNotGiven, AreNoCosts}
 use Rattle.litmus_text.specs.CostTextFault.{CostTextFault}
 use Rattle.litmus_text.specs.CostTextFault.TheVariants as cost_fault
-use Rattle.litmus_text.specs.GivenCosts.{AreNotGiven}
-use Rattle.placed_text.specs.TextFaults.{AreNoCosts}
 use Rattle.placed_text.proofs.reading.read_gap_costs.Goals as goal
 
 -- costs that aren't given, memory aside, are those of a text that gives none

@@ -1,5 +1,4 @@
-use Rattle.std.proofs.Common.{◌≡◌, ◌∙◌, List, map, ap, subst}
-use Rattle.placed_text.proofs.Vocabulary.{Label, Without, TellsRun, printed_of}
+use Rattle.placed_text.proofs.Vocabulary.{◌≡◌, ◌∙◌, List, map, ap, subst, Label, Without, TellsRun, printed_of}
 use Rattle.tso_machine.specs.declared.stepping.Step.{Step}
 use Rattle.placed_text.proofs.ReasonTexts as texts
 use Rattle.placed_text.proofs.reasons.reason_of.Goals as goal

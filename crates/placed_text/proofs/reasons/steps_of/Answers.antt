@@ -1,4 +1,4 @@
-use Rattle.std.proofs.Common.{◌∙◌}
+use Rattle.placed_text.proofs.Vocabulary.{◌∙◌}
 use Rattle.tso_machine.specs.declared.label.Model.TheVariants as models
 use Rattle.tso_machine.specs.Machine as machine
 use Rattle.tso_machine.specs.Modes.{machine_of_model}

@@ -1,4 +1,4 @@
-use Rattle.std.proofs.Common.{refl}
+use Rattle.placed_text.proofs.Vocabulary.{refl}
 use Rattle.placed_text.proofs.writing.write_placed.Goals as goal
 
 pub returns : goal.returns

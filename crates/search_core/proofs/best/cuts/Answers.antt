@@ -1,5 +1,4 @@
-use Rattle.std.proofs.Common.{◌∙◌, true, false, Bool, not, IsTrue, ◌↔◌, sym, subst, refl}
-use Rattle.search_core.proofs.Vocabulary.{same_Some, SetOfGaps, Better, Serving, Reason, IsBeatenBy, CutsMust}
+use Rattle.search_core.proofs.Vocabulary.{◌∙◌, true, false, Bool, not, IsTrue, ◌↔◌, sym, subst, refl, same_Some, SetOfGaps, Better, Serving, Reason, IsBeatenBy, CutsMust}
 use Rattle.search_core.proofs.best.cuts.Goals as goal
 
 -- a test that fails

@@ -1,5 +1,4 @@
-use Rattle.std.proofs.Common.{◌≡◌, map, take}
-use Rattle.cover_judge.specs.CoverTrees.{event_of}
+use Rattle.sketch_covers.proofs.Vocabulary.{◌≡◌, map, take, event_of}
 use Rattle.sketch_covers.proofs.access_ids.accesses_of.Given as goal
 
 abbrev pub invariant-loop-event : goal.invariant-loop-event

@@ -1,4 +1,4 @@
-use Rattle.std.proofs.Common.{◌≡◌, take}
+use Rattle.sketch_covers.proofs.Vocabulary.{◌≡◌, take}
 use Rattle.sketch_covers.proofs.ascending.copies.Given as goal
 
 abbrev pub invariant-loop-outcome : goal.invariant-loop-outcome

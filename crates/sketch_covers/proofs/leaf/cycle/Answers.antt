@@ -1,5 +1,4 @@
-use Rattle.std.proofs.Common.{◌≡◌, ◌++◌, ◌∙◌, List, ap}
-use Rattle.sketch_covers.proofs.Vocabulary.{Node, AccessId, spell, Cycle}
+use Rattle.sketch_covers.proofs.Vocabulary.{◌++◌, ◌∙◌, List, ap, AccessId, spell, Cycle}
 use Rattle.branching.proofs.AccessesNamed.{of_thread}
 use Rattle.sketch_covers.proofs.Leaves.{cycle_leaf}
 use Rattle.sketch_covers.proofs.leaf.cycle.Goals as goal

@@ -1,6 +1,4 @@
-use Rattle.std.proofs.Common.{Option, subst}
-use Rattle.sketch_covers.proofs.Vocabulary.{MatchOption, Outcome, by_number}
-use Rattle.sketches.specs.Completions.{MustEndSo, NeedNotEnd}
+use Rattle.sketch_covers.proofs.Vocabulary.{Option, subst, MatchOption, Outcome, by_number, MustEndSo, NeedNotEnd}
 use Rattle.sketch_covers.proofs.Leaves.{known_number}
 use Rattle.sketch_covers.proofs.leaf.known.Goals as goal
 

@@ -1,5 +1,4 @@
-use Rattle.std.proofs.Common.{◌≡◌, refl, subst, arith}
-use Rattle.sketch_covers.proofs.Vocabulary.{MatchOption, asked, mode_in, Known, MustEndAsNumber, IsEndNotListed, by_number}
+use Rattle.sketch_covers.proofs.Vocabulary.{refl, subst, arith, MatchOption, asked, mode_in, Known, MustEndAsNumber, IsEndNotListed, by_number}
 use Rattle.sketch_covers.proofs.Neat.{neat_known}
 use Rattle.sketch_covers.proofs.leaf.known_leaf.Goals as goal
 

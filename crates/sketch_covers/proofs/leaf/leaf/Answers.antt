@@ -1,5 +1,4 @@
-use Rattle.std.proofs.Common.{List, subst, rules}
-use Rattle.sketch_covers.proofs.Vocabulary.{Node, IsLeafAt, by_number, Pushes}
+use Rattle.sketch_covers.proofs.Vocabulary.{List, subst, rules, Node, IsLeafAt, by_number, Pushes}
 use Rattle.sketch_covers.proofs.Leaves.{known_pushed, unknown_same}
 use Rattle.sketch_covers.proofs.leaf.leaf.Goals as goal
 

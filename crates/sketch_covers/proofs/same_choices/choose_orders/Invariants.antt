@@ -1,4 +1,4 @@
-use Rattle.branching.specs.Combinations.{AreAlike}
+use Rattle.sketch_covers.proofs.Vocabulary.{AreAlike}
 use Rattle.sketch_covers.proofs.same_choices.choose_orders.Given as goal
 
 -- the program and the mode stay

@@ -1,4 +1,4 @@
-use Rattle.std.proofs.Common.{◌≡◌}
+use Rattle.sketch_covers.proofs.Vocabulary.{◌≡◌}
 use Rattle.sketch_covers.proofs.same_choices.give.Given as goal
 
 -- nothing is chosen yet

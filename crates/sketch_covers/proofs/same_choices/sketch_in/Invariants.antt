@@ -1,4 +1,4 @@
-use Rattle.std.proofs.Common.{◌≡◌}
+use Rattle.sketch_covers.proofs.Vocabulary.{◌≡◌}
 use Rattle.sketch_covers.proofs.same_choices.sketch_in.Given as goal
 
 -- the sketch is of the program, and in the mode

@@ -1,4 +1,4 @@
-use Rattle.std.proofs.Common.{refl, rules, arith}
+use Rattle.sketch_covers.proofs.Vocabulary.{refl, rules, arith}
 use Rattle.sketch_covers.proofs.SameMachine.{fence_same, alike_at}
 use Rattle.sketch_covers.proofs.same_machine.fence_alike.Goals as goal
 

@@ -1,4 +1,4 @@
-use Rattle.std.proofs.Common.{◌<◌, ℕ}
+use Rattle.sketch_covers.proofs.Vocabulary.{◌<◌, ℕ}
 use Rattle.sketch_covers.proofs.SameMachine.{AreAlikeAt}
 use Rattle.sketch_covers.proofs.same_machine.fence_alike.Given as goal
 

@@ -1,5 +1,4 @@
-use Rattle.std.proofs.Common.{Contains}
-use Rattle.sketches.proofs.Vocabulary.{Event, Initial, yes, no, not_by, each_more, HasItsSource, IsOrderedWith, IsComplete}
+use Rattle.sketches.proofs.Vocabulary.{Contains, Event, Initial, yes, no, not_by, each_more, HasItsSource, IsOrderedWith, IsComplete}
 use Rattle.sketches.proofs.Completeness.{complete_by}
 use Rattle.sketches.proofs.complete.are_settled.Goals as goal
 

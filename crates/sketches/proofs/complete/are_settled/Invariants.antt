@@ -1,5 +1,4 @@
-use Rattle.std.proofs.Common.{◌≡◌, ℕ, ◌<◌, get_or, Contains}
-use Rattle.sketches.proofs.Vocabulary.{Event, HasItsSource, IsOrderedWith}
+use Rattle.sketches.proofs.Vocabulary.{◌≡◌, ℕ, ◌<◌, get_or, Contains, Event, HasItsSource, IsOrderedWith}
 use Rattle.sketches.proofs.complete.are_settled.Given as goal
 
 -- the events so far have their sources, and are in order with all

@@ -1,5 +1,4 @@
-use Rattle.std.proofs.Common.{◌∙◌, sym, ap, not}
-use Rattle.sketches.proofs.Vocabulary.{IsRead, has_source_by}
+use Rattle.sketches.proofs.Vocabulary.{◌∙◌, sym, ap, not, IsRead, has_source_by}
 use Rattle.sketches.proofs.complete.has_its_source.Goals as goal
 
 pub returns-else-is_none : goal.returns-else-is_none

@@ -1,5 +1,4 @@
-use Rattle.std.proofs.lemmas.List.Elements.{Contains-get_or}
-use Rattle.sketches.proofs.Vocabulary.{Initial, no, not_by, each_more, IsOrderedWith}
+use Rattle.sketches.proofs.Vocabulary.{Contains-get_or, Initial, no, not_by, each_more, IsOrderedWith}
 use Rattle.sketches.proofs.complete.is_ordered_with_all.Goals as goal
 
 pub returns-then-not-is_ordered_with : goal.returns-then-not-is_ordered_with

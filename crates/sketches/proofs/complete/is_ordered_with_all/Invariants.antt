@@ -1,5 +1,4 @@
-use Rattle.std.proofs.Common.{◌≡◌, ℕ, ◌<◌, get_or}
-use Rattle.sketches.proofs.Vocabulary.{Event, IsOrderedWith}
+use Rattle.sketches.proofs.Vocabulary.{◌≡◌, ℕ, ◌<◌, get_or, Event, IsOrderedWith}
 use Rattle.sketches.proofs.complete.is_ordered_with_all.Given as goal
 
 -- the event is in order with each of those so far

@@ -1,6 +1,4 @@
-use Rattle.std.proofs.Common.{◌++◌, ◌∷◌, [], arith}
-use Rattle.sketches.proofs.Vocabulary.{machine_of_mode, IsThreadTraceOf}
-use Rattle.thread_traces.proofs.ValuesGiven.{known_is, kept_known}
+use Rattle.sketches.proofs.Vocabulary.{◌++◌, ◌∷◌, [], arith, machine_of_mode, IsThreadTraceOf, known_is, kept_known}
 use Rattle.sketches.proofs.next_trace.trace_after.Goals as goal
 
 pub returns-in-Some-clause-trace : goal.returns-in-Some-clause-trace

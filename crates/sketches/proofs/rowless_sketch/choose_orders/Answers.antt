@@ -1,6 +1,4 @@
-use Rattle.std.proofs.Common.{◌∙◌, ap}
-use Rattle.sketches.proofs.Vocabulary.{Initial, take_all, with_chosen}
-use Rattle.sketches.specs.RowlessSketches.{with_pairs}
+use Rattle.sketches.proofs.Vocabulary.{◌∙◌, ap, Initial, take_all, with_chosen, with_pairs}
 use Rattle.sketches.proofs.AllChosen.{no_pairs, more_pairs}
 use Rattle.sketches.proofs.rowless_sketch.choose_orders.Goals as goal
 

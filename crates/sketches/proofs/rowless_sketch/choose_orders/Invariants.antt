@@ -1,6 +1,4 @@
-use Rattle.std.proofs.Common.{◌≡◌, take}
-use Rattle.sketches.proofs.Vocabulary.{with_chosen}
-use Rattle.sketches.specs.RowlessSketches.{with_pairs}
+use Rattle.sketches.proofs.Vocabulary.{◌≡◌, take, with_chosen, with_pairs}
 use Rattle.sketches.proofs.rowless_sketch.choose_orders.Given as goal
 
 -- those so far are chosen

@@ -1,6 +1,4 @@
-use Rattle.std.proofs.Common.{◌∙◌, ap}
-use Rattle.sketches.proofs.Vocabulary.{Initial, take_all, with_chosen}
-use Rattle.sketches.specs.RowlessSketches.{with_sources}
+use Rattle.sketches.proofs.Vocabulary.{◌∙◌, ap, Initial, take_all, with_chosen, with_sources}
 use Rattle.sketches.proofs.AllChosen.{no_sources, more_sources}
 use Rattle.sketches.proofs.rowless_sketch.choose_sources.Goals as goal
 

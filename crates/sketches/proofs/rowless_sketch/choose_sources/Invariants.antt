@@ -1,6 +1,4 @@
-use Rattle.std.proofs.Common.{◌≡◌, take}
-use Rattle.sketches.proofs.Vocabulary.{with_chosen}
-use Rattle.sketches.specs.RowlessSketches.{with_sources}
+use Rattle.sketches.proofs.Vocabulary.{◌≡◌, take, with_chosen, with_sources}
 use Rattle.sketches.proofs.rowless_sketch.choose_sources.Given as goal
 
 -- those so far are chosen

@@ -1,5 +1,5 @@
 use Rattle.text_laws.proofs.OneListOfCosts.{given_costs_once}
-use Rattle.cost_text.proofs.TextLaws.{costs_once}
+use Rattle.text_laws.proofs.Vocabulary.{costs_once}
 use Rattle.text_laws.proofs.laws.a_cost_text_gives_one_list_of_costs.Goals as goal
 
 pub returns : goal.returns

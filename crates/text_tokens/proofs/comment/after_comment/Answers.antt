@@ -1,5 +1,4 @@
-use Rattle.std.proofs.Common.{◌≡◌, ◌∙◌, sym, arith, true, false}
-use Rattle.text_tokens.proofs.Vocabulary.{length-drop, opens, closes}
+use Rattle.text_tokens.proofs.Vocabulary.{◌≡◌, ◌∙◌, sym, arith, true, false, length-drop, opens, closes}
 use Rattle.text_tokens.proofs.CommentLaws.{close_forth, close_back, open_forth, open_back, other_forth, other_back, short_back}
 use Rattle.text_tokens.proofs.comment.after_comment.Goals as goal
 

@@ -1,5 +1,4 @@
-use Rattle.std.proofs.Common.{ℕ, List, ◌+◌, ◌<◌, ◌≤◌, length}
-use Rattle.text_tokens.specs.Comments.{Inside}
+use Rattle.text_tokens.proofs.Vocabulary.{ℕ, List, ◌+◌, ◌<◌, ◌≤◌, length, Inside}
 use Rattle.text_tokens.proofs.CommentLaws.{Open}
 use Rattle.text_tokens.proofs.comment.after_comment.Given as goal
 

@@ -1,4 +1,4 @@
-use Rattle.std.proofs.Common.{inr}
+use Rattle.text_tokens.proofs.Vocabulary.{inr}
 use Rattle.text_tokens.proofs.lexer.comment_front.Goals as goal
 
 pub returns-in-Some : goal.returns-in-Some

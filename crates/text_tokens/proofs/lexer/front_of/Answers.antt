@@ -1,7 +1,5 @@
-use Rattle.std.proofs.Common.{◌∙◌, sym}
-use Rattle.std.specs.Prelude.{slice_index}
-use Rattle.text_tokens.proofs.FirstBytes.{no_word_byte}
-use Rattle.text_tokens.proofs.Fronts.{stray_byte}
+use Rattle.text_tokens.proofs.Vocabulary.{◌∙◌, sym, slice_index}
+use Rattle.text_tokens.proofs.{FirstBytes.no_word_byte, Fronts.stray_byte}
 use Rattle.text_tokens.proofs.lexer.front_of.Goals as goal
 
 pub returns-in-None : goal.returns-in-None

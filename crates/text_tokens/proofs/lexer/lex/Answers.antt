@@ -1,6 +1,4 @@
-use Rattle.std.proofs.Common.{arith, [], refl, inl, inr}
-use Rattle.std.proofs.lemmas.List.{nil_from_length, map_push}
-use Rattle.text_tokens.proofs.Vocabulary.{toks, none}
+use Rattle.text_tokens.proofs.Vocabulary.{arith, [], refl, inl, inr, nil_from_length, map_push, toks, none}
 use Rattle.text_tokens.specs.Internal.Front.{lexeme_tok}
 use Rattle.text_tokens.proofs.CommentLaws.{space_shorter}
 use Rattle.text_tokens.proofs.OneReading.{whole_text, only_whole, only_stopped, not_whole, white_space_more, comment_more, token_more}

@@ -1,5 +1,4 @@
-use Rattle.std.proofs.Common.{length}
-use Rattle.text_tokens.proofs.Vocabulary.{toks, BeginsWithAll}
+use Rattle.text_tokens.proofs.Vocabulary.{length, toks, BeginsWithAll}
 use Rattle.text_tokens.proofs.lexer.lex.Given as goal
 
 -- the text is the tokens so far and then the rest

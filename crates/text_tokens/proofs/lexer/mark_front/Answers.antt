@@ -1,4 +1,4 @@
-use Rattle.std.proofs.Common.{◌∙◌, sym, ap, arith, length, inl}
+use Rattle.text_tokens.proofs.Vocabulary.{◌∙◌, sym, ap, arith, length, inl}
 use Rattle.text_tokens.proofs.Fronts.{unfinished, stray_mark}
 use Rattle.text_tokens.proofs.lexer.mark_front.Goals as goal
 

@@ -1,7 +1,5 @@
-use Rattle.std.proofs.Common.{◌∙◌, sym, ap, take, drop}
-use Rattle.std.specs.Char.{is_ascii_digit}
-use Rattle.text_tokens.proofs.Prefixes.{all_pass}
-use Rattle.text_tokens.proofs.Fronts.{letter_behind, number_begins, number_past}
+use Rattle.text_tokens.proofs.Vocabulary.{◌∙◌, sym, ap, take, drop, is_ascii_digit}
+use Rattle.text_tokens.proofs.{Prefixes.all_pass, Fronts.letter_behind, Fronts.number_begins, Fronts.number_past}
 use Rattle.text_tokens.proofs.lexer.number_front.Goals as goal
 
 pub returns-then-begins_with_letter : goal.returns-then-begins_with_letter

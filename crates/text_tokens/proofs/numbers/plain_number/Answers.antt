@@ -1,4 +1,4 @@
-use Rattle.std.proofs.Common.{◌∙◌, sym, arith}
+use Rattle.text_tokens.proofs.Vocabulary.{◌∙◌, sym, arith}
 use Rattle.text_tokens.proofs.NumberLaws.{found_plain, only_plain, never_plain}
 use Rattle.text_tokens.proofs.numbers.plain_number.Goals as goal
 

@@ -1,4 +1,4 @@
-use Rattle.std.proofs.Common.{◌∙◌}
+use Rattle.text_tokens.proofs.Vocabulary.{◌∙◌}
 use Rattle.text_tokens.proofs.NumberLaws.{value_more}
 use Rattle.text_tokens.proofs.numbers.value_up_to.Goals as goal
 

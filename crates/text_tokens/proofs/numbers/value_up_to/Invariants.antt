@@ -1,5 +1,4 @@
-use Rattle.std.proofs.Common.{◌≡◌, ◌+◌, take}
-use Rattle.text_tokens.proofs.Vocabulary.{min, digits_value}
+use Rattle.text_tokens.proofs.Vocabulary.{◌≡◌, ◌+◌, take, min, digits_value}
 use Rattle.text_tokens.proofs.numbers.value_up_to.Given as goal
 
 -- the value of the digits so far, or one more than the limit

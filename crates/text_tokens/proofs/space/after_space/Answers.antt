@@ -1,7 +1,5 @@
-use Rattle.std.proofs.Common.{◌<◌, length, ◌∙◌, sym, arith}
-use Rattle.text_tokens.proofs.Vocabulary.{nil_from_length, nothing, comment}
-use Rattle.text_tokens.proofs.CommentLaws.{comment_shorter}
-use Rattle.text_tokens.proofs.SpaceLaws.{white_space_forth, white_space_back, comment_back, other_back, empty_is}
+use Rattle.text_tokens.proofs.Vocabulary.{◌<◌, length, ◌∙◌, sym, arith, nil_from_length, nothing, comment}
+use Rattle.text_tokens.proofs.{CommentLaws.comment_shorter, SpaceLaws.white_space_forth, SpaceLaws.white_space_back, SpaceLaws.comment_back, SpaceLaws.other_back, SpaceLaws.empty_is}
 use Rattle.text_tokens.proofs.space.after_space.Goals as goal
 
 pub loop-rest-preserved-then-is_white_space : goal.loop-rest-preserved-then-is_white_space

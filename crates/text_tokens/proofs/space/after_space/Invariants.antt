@@ -1,5 +1,4 @@
-use Rattle.std.proofs.Common.{ℕ, List, length}
-use Rattle.text_tokens.specs.Space.{IsAfterSpace}
+use Rattle.text_tokens.proofs.Vocabulary.{ℕ, List, length, IsAfterSpace}
 use Rattle.text_tokens.proofs.space.after_space.Given as goal
 
 -- what follows white space and comments in the rest follows them in the whole, and the other way round

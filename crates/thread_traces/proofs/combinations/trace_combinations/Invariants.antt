@@ -1,4 +1,4 @@
-use Rattle.thread_traces.specs.TraceCounts.{combination_count, values_at, CountSays}
+use Rattle.thread_traces.proofs.Vocabulary.{combination_count, values_at, CountSays}
 use Rattle.thread_traces.proofs.combinations.trace_combinations.Given as goal
 
 -- the threads so far

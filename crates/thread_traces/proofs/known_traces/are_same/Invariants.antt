@@ -1,4 +1,4 @@
-use Rattle.std.proofs.Common.{◌≡◌, ◌<◌, ℕ, get_or}
+use Rattle.thread_traces.proofs.Vocabulary.{◌≡◌, ◌<◌, ℕ, get_or}
 use Rattle.thread_traces.proofs.known_traces.are_same.Given as goal
 
 -- the values so far are the same

@@ -1,4 +1,4 @@
-use Rattle.std.proofs.Common.{◌≡◌, None, All}
+use Rattle.thread_traces.proofs.Vocabulary.{◌≡◌, None, All}
 use Rattle.thread_traces.proofs.known_traces.empty_places.Given as goal
 
 -- the places so far are empty

@@ -1,4 +1,4 @@
-use Rattle.thread_traces.specs.KnownTraces.{AreAmong}
+use Rattle.thread_traces.proofs.Vocabulary.{AreAmong}
 use Rattle.thread_traces.proofs.known_traces.in_more_places.Given as goal
 
 -- the traces that have been put are of the old ones

@@ -1,8 +1,5 @@
-use Rattle.std.proofs.Common.{◌≡◌, ◌<◌, ◌≤◌, [], get_or, length, sym, subst}
-use Rattle.thread_traces.specs.Immediates.{TakesRegisterOf}
-use Rattle.thread_traces.proofs.KnownParts.{not_by}
-use Rattle.thread_traces.proofs.Gathered.{gathered_more, values_without, values_with}
-use Rattle.thread_traces.proofs.KnownValues.{takes_same}
+use Rattle.thread_traces.proofs.Vocabulary.{◌≡◌, ◌<◌, ◌≤◌, [], get_or, length, sym, subst, TakesRegisterOf}
+use Rattle.thread_traces.proofs.{KnownParts.not_by, Gathered.gathered_more, Gathered.values_without, Gathered.values_with, KnownValues.takes_same}
 use Rattle.thread_traces.proofs.location_values.gathered.Goals as goal
 
 pub loop-thread-preserved : goal.loop-thread-preserved

@@ -1,4 +1,4 @@
-use Rattle.std.proofs.Common.{[]}
+use Rattle.thread_traces.proofs.Vocabulary.{[]}
 use Rattle.thread_traces.proofs.Gathered.{HasCome, IsGatheredBelow}
 use Rattle.thread_traces.proofs.location_values.gathered.Given as goal
 

@@ -1,5 +1,4 @@
-use Rattle.std.proofs.Common.{◌≡◌, ℕ, ◌<◌, Some, slice_get}
-use Rattle.thread_traces.proofs.Vocabulary.{Instr, StoresRegister}
+use Rattle.thread_traces.proofs.Vocabulary.{◌≡◌, ℕ, ◌<◌, Some, slice_get, Instr, StoresRegister}
 use Rattle.thread_traces.proofs.location_values.has_register_store.Given as goal
 
 -- none of the instructions so far stores a register there

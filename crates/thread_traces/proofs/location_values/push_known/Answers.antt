@@ -1,4 +1,4 @@
-use Rattle.std.proofs.Common.{◌≡◌, ◌<◌, ◌≤◌, get_or, length, subst}
+use Rattle.thread_traces.proofs.Vocabulary.{◌≡◌, ◌<◌, ◌≤◌, get_or, length, subst}
 use Rattle.thread_traces.proofs.KnownValues.{known_more, known_come}
 use Rattle.thread_traces.proofs.location_values.push_known.Goals as goal
 

@@ -1,5 +1,4 @@
-use Rattle.thread_traces.proofs.Gathered.{HasCome}
-use Rattle.thread_traces.proofs.KnownValues.{IsKnownBelow}
+use Rattle.thread_traces.proofs.{Gathered.HasCome, KnownValues.IsKnownBelow}
 use Rattle.thread_traces.proofs.location_values.push_known.Given as goal
 
 -- 0 has come, and the numbers and registers of the threads so far

@@ -1,6 +1,5 @@
-use Rattle.std.proofs.Common.{◌+◌, ◌∙◌, sym, subst}
-use Rattle.thread_traces.proofs.Vocabulary.{LoadImm, HasImmediate}
-use Rattle.tso_program.specs.declared.instruction.Reg.TheVariants.{Eax}
+use Rattle.thread_traces.proofs.Vocabulary.{◌+◌, ◌∙◌, sym, subst, LoadImm, HasImmediate}
+use Rattle.tso_program.specs.declared.instruction.Reg.{TheVariants.Eax}
 use Rattle.thread_traces.proofs.Gathered.{HasCome, HasNumberBelow, come_by, number_all, numbers_push, numbers_skip}
 use Rattle.thread_traces.proofs.location_values.push_numbers.Goals as goal
 use Rattle.thread_traces.proofs.location_values.push_numbers.Goals.{in-Some+in_ok-push, in_default}

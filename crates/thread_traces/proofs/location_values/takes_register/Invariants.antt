@@ -1,5 +1,4 @@
-use Rattle.std.proofs.Common.{◌≡◌, ℕ, ◌<◌, Some}
-use Rattle.thread_traces.proofs.Vocabulary.{Instr, instr_at, StoresRegister}
+use Rattle.thread_traces.proofs.Vocabulary.{◌≡◌, ℕ, ◌<◌, Some, Instr, instr_at, StoresRegister}
 use Rattle.thread_traces.proofs.location_values.takes_register.Given as goal
 
 -- none of the threads so far stores a register there

@@ -1,8 +1,7 @@
-use Rattle.std.proofs.Common.{Contains, sym, subst, eqb}
+use Rattle.thread_traces.proofs.Vocabulary.{Contains, sym, subst, eqb, Contains-permutation, IsPermutation-sym}
 use Rattle.std.specs.List.Sorted.{IsStrictlyIncreasing}
 use Rattle.std.proofs.lemmas.List.Filters.{dedup_is}
 use Rattle.std.proofs.lemmas.List.Kept.{Contains-dedup_nat, Contains-from_dedup}
-use Rattle.std.proofs.lemmas.List.Sorted.{Contains-permutation, IsPermutation-sym}
 use Rattle.std.proofs.lemmas.Map.Keys.{IsStrictlyIncreasing-dedup}
 use Rattle.thread_traces.proofs.location_values.values_of.Goals as goal
 

@@ -1,7 +1,4 @@
-use Rattle.std.proofs.Common.{◌≡◌, ◌∙◌, ◌+◌, ◌++◌, ◌∷◌, [], ℕ, List, Some, slice_get, length, ap, sym, subst, inl, inr}
-use Rattle.std.proofs.lemmas.List.{length_push}
-use Rattle.thread_traces.proofs.Vocabulary.{Listing, IsValueList}
-use Rattle.candidate_executions.proofs.Orders.Lists.{get_cases}
+use Rattle.thread_traces.proofs.Vocabulary.{◌≡◌, ◌∙◌, ◌+◌, ◌++◌, ◌∷◌, [], ℕ, List, Some, slice_get, length, ap, sym, subst, inl, inr, length_push, Listing, IsValueList, get_cases}
 use Rattle.thread_traces.proofs.shared_values.value_lists.Goals as goal
 
 made_more : (p : Listing) (lists : List (List ℕ)) (location : ℕ) (new : List ℕ) → length lists ≡ location →

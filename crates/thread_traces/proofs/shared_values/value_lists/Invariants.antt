@@ -1,5 +1,4 @@
-use Rattle.std.proofs.Common.{◌≡◌, ℕ, List, Some, slice_get, length}
-use Rattle.thread_traces.specs.ValueLists.{IsValueList}
+use Rattle.thread_traces.proofs.Vocabulary.{◌≡◌, ℕ, List, Some, slice_get, length, IsValueList}
 use Rattle.thread_traces.proofs.shared_values.value_lists.Given as goal
 
 -- the locations so far have their lists

@@ -1,4 +1,4 @@
-use Rattle.std.proofs.Common.{◌∙◌, length-set, arith}
+use Rattle.thread_traces.proofs.Vocabulary.{◌∙◌, length-set, arith}
 use Rattle.thread_traces.proofs.ThreadRows.{order_more, order_all}
 use Rattle.thread_traces.proofs.thread_order.thread_order.Goals as goal
 

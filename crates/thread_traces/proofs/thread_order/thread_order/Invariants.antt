@@ -1,5 +1,4 @@
-use Rattle.std.proofs.Common.{◌≡◌, length}
-use Rattle.bit_rows.specs.declared.row.TheConstants.{ROW_BITS}
+use Rattle.thread_traces.proofs.Vocabulary.{◌≡◌, length, ROW_BITS}
 use Rattle.thread_traces.proofs.ThreadRows.{AreOrderBelow}
 use Rattle.thread_traces.proofs.thread_order.thread_order.Given as goal
 

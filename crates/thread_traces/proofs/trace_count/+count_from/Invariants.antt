@@ -1,8 +1,4 @@
-use Rattle.std.proofs.Common.{◌+◌, take}
-use Rattle.std.specs.Prelude.{sum_by}
-use Rattle.tso_program.specs.Actions.{loaded}
-use Rattle.tso_program.specs.Listings.{action}
-use Rattle.thread_traces.specs.TraceCounts.{trace_count, values_at, IsCountUpTo}
+use Rattle.thread_traces.proofs.Vocabulary.{◌+◌, take, sum_by, loaded, action, trace_count, values_at, IsCountUpTo}
 use Rattle.thread_traces.proofs.trace_count.+count_from.Given as goal
 
 abbrev pub decreases-count_from : goal.decreases-count_from

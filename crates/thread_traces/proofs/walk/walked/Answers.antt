@@ -1,5 +1,4 @@
-use Rattle.std.proofs.Common.{◌∙◌, ap, subst, length, arith}
-use Rattle.thread_traces.proofs.Vocabulary.{action, code_of, fenced_gaps, trace_by, entered, machine_of_mode, GoesOn}
+use Rattle.thread_traces.proofs.Vocabulary.{◌∙◌, ap, subst, length, arith, action, code_of, fenced_gaps, trace_by, entered, machine_of_mode, GoesOn}
 use Rattle.thread_traces.proofs.EventsCounted.{thread_few}
 use Rattle.thread_traces.proofs.TraceSteps.{begun, stepped, halted, finished, code_there, registers_there, entered_by}
 use Rattle.thread_traces.proofs.walk.walked.Goals as goal

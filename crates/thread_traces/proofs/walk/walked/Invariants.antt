@@ -1,5 +1,4 @@
-use Rattle.std.proofs.Common.{◌≡◌, ◌≤◌, ◌-◌, ◌*◌, drop, length}
-use Rattle.thread_traces.proofs.Vocabulary.{action, code_of, trace, trace_by, fenced_gaps, machine_of_mode, with_accesses}
+use Rattle.thread_traces.proofs.Vocabulary.{◌≡◌, ◌≤◌, ◌-◌, ◌*◌, drop, length, action, code_of, trace, trace_by, fenced_gaps, machine_of_mode, with_accesses}
 use Rattle.thread_traces.proofs.walk.walked.Given as goal
 
 -- the accesses so far, and then the trace from here, make the whole trace

@@ -1,5 +1,4 @@
-use Rattle.std.proofs.Common.{◌≡◌, ℕ, Some, slice_get, subst, arith, below_more}
-use Rattle.thread_traces.proofs.Vocabulary.{slice_get_within, get_or_from_slice_get, IsIn, Access, write_bit}
+use Rattle.thread_traces.proofs.Vocabulary.{◌≡◌, ℕ, Some, slice_get, subst, arith, below_more, slice_get_within, get_or_from_slice_get, IsIn, Access, write_bit}
 use Rattle.thread_traces.proofs.write_bits.write_bits.Goals as goal
 
 pub loop-access-preserved : goal.loop-access-preserved

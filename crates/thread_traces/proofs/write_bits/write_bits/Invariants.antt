@@ -1,5 +1,4 @@
-use Rattle.std.proofs.Common.{◌≡◌, ◌<◌, ℕ, Some, slice_get}
-use Rattle.thread_traces.proofs.Vocabulary.{IsIn, Access, write_bit}
+use Rattle.thread_traces.proofs.Vocabulary.{◌≡◌, ◌<◌, ℕ, Some, slice_get, IsIn, Access, write_bit}
 use Rattle.thread_traces.proofs.write_bits.write_bits.Given as goal
 
 -- the bits of what the accesses so far write are there

@@ -1,5 +1,4 @@
-use Rattle.std.proofs.Common.{◌≡◌, ◌<◌, ℕ, Some, slice_get}
-use Rattle.thread_traces.proofs.Vocabulary.{Access, ThreadTrace}
+use Rattle.thread_traces.proofs.Vocabulary.{◌≡◌, ◌<◌, ℕ, Some, slice_get, Access, ThreadTrace}
 use Rattle.thread_traces.proofs.writes.writes_any.Given as goal
 
 -- none of the threads so far writes the value to the location

@@ -1,5 +1,4 @@
-use Rattle.std.proofs.Common.{◌≡◌, ◌<◌, ℕ, Some, slice_get}
-use Rattle.candidate_executions.specs.declared.access.Access.{Access}
+use Rattle.thread_traces.proofs.Vocabulary.{◌≡◌, ◌<◌, ℕ, Some, slice_get, Access}
 use Rattle.thread_traces.proofs.writes.writes_value.Given as goal
 
 -- none of the accesses so far writes the value to the location

@@ -1,5 +1,4 @@
-use Rattle.std.proofs.Common.{refl, sym, subst}
-use Rattle.tso_machine.specs.Machine.{IsRun}
+use Rattle.tso_machine.proofs.Vocabulary.{refl, sym, subst, IsRun}
 use Rattle.tso_machine.specs.Laws.{AllShownAreTheRuns, AllShownAreTheOutcomes}
 use Rattle.tso_machine.proofs.laws.all_shown_are_the_outcomes.Goals as goal
 

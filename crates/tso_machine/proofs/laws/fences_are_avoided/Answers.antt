@@ -1,4 +1,4 @@
-use Rattle.tso_machine.specs.Machine.{start}
+use Rattle.tso_machine.proofs.Vocabulary.{start}
 use Rattle.tso_machine.proofs.Avoided.{run_fenced, run_avoids}
 use Rattle.tso_machine.proofs.laws.fences_are_avoided.Goals as goal
 

@@ -1,5 +1,4 @@
-use Rattle.tso_machine.proofs.Refused.{applies_none}
-use Rattle.tso_machine.proofs.OneFault.{one_fault}
+use Rattle.tso_machine.proofs.{Refused.applies_none, OneFault.one_fault}
 use Rattle.tso_machine.proofs.laws.the_first_fault_is_unique.Goals as goal
 
 pub returns-clause-stops : goal.returns-clause-stops

@@ -1,9 +1,6 @@
-use Rattle.std.proofs.Common.{◌≡◌, ◌∙◌, take, Some, sym, ap, subst, refl, arith}
-use Rattle.std.proofs.lemmas.List.{take_all}
-use Rattle.tso_machine.proofs.Vocabulary.{Exec, Listing, Machine, start, HasEnded, machine_of_model, Cores, state_of, FitsProgram}
-use Rattle.tso_machine.specs.Faults.{IsUnfinished}
-use Rattle.tso_machine.proofs.Link.{state_of_first, first_fits, outcome_is}
-use Rattle.tso_machine.proofs.Refused.{no_fault, one_outcome}
+use Rattle.tso_machine.proofs.Vocabulary.{◌≡◌, ◌∙◌, take, Some, sym, ap, subst, refl, arith, take_all, Exec, Listing, Machine, start, HasEnded, machine_of_model, Cores, state_of, FitsProgram}
+use Rattle.tso_machine.proofs.Vocabulary.{IsUnfinished}
+use Rattle.tso_machine.proofs.{Link.state_of_first, Link.first_fits, Link.outcome_is, Refused.no_fault, Refused.one_outcome}
 use Rattle.tso_machine.proofs.Runs.{run_on, passed_on, none_passed, faulted, no_stores_by, none_sequential, match_some, match_none}
 use Rattle.tso_machine.proofs.replaying.replay.Goals as goal
 

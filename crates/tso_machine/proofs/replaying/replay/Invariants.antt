@@ -1,5 +1,4 @@
-use Rattle.std.proofs.Common.{◌≡◌, take, Some}
-use Rattle.tso_machine.proofs.Vocabulary.{run, start, machine_of_model, ArePassed, state_of, FitsProgram}
+use Rattle.tso_machine.proofs.Vocabulary.{◌≡◌, take, Some, run, start, machine_of_model, ArePassed, state_of, FitsProgram}
 use Rattle.tso_machine.proofs.replaying.replay.Given as goal
 
 -- the steps so far lead to the state, and pass the gaps passed

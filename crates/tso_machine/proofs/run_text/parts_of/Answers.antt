@@ -1,7 +1,6 @@
-use Rattle.std.proofs.Common.{rules}
+use Rattle.tso_machine.proofs.Vocabulary.{rules, is_white_space}
 use Rattle.std.proofs.lemmas.Iterator.Consumers.{map_from_collect}
 use Rattle.std.proofs.lemmas.Iterator.Splits.{YieldsList-from_slice_split}
-use Rattle.text_tokens.specs.Bytes.{is_white_space}
 use Rattle.tso_machine.proofs.run_text.parts_of.Goals as goal
 
 pub returns : goal.returns

@@ -1,6 +1,4 @@
-use Rattle.std.proofs.Common.{◌≡◌, ◌∙◌, sym, ap, map, arith}
-use Rattle.std.proofs.lemmas.List.Elements.{recursion_from_All, All-push}
-use Rattle.tso_machine.proofs.Vocabulary.{filter, common_steps, spelling, words, IsLabel}
+use Rattle.tso_machine.proofs.Vocabulary.{◌≡◌, ◌∙◌, sym, ap, map, arith, recursion_from_All, All-push, filter, common_steps, spelling, words, IsLabel}
 use Rattle.tso_machine.proofs.RunLabels.{word_of, no_label, first_no_label, same_labels, one_more, label_takes}
 use Rattle.tso_machine.proofs.run_text.read_run.Goals as goal
 

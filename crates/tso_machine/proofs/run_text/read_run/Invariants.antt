@@ -1,5 +1,4 @@
-use Rattle.std.proofs.Common.{◌≡◌, take, map, All}
-use Rattle.tso_machine.proofs.Vocabulary.{filter, spelling, IsLabel}
+use Rattle.tso_machine.proofs.Vocabulary.{◌≡◌, take, map, All, filter, spelling, IsLabel}
 use Rattle.tso_machine.proofs.RunLabels.{word_of}
 use Rattle.tso_machine.proofs.run_text.read_run.Given as goal
 

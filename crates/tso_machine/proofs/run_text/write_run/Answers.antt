@@ -1,6 +1,4 @@
-use Rattle.std.proofs.Common.{ℕ, List, [], ◌∷◌, ◌++◌, ◌≡◌, ◌∙◌, ap, sym, take, arith, append_assoc, All}
-use Rattle.std.proofs.lemmas.List.Elements.{recursion_from_All, All-more}
-use Rattle.tso_machine.proofs.Vocabulary.{string_bytes, common_steps, IsLabel, run_text}
+use Rattle.tso_machine.proofs.Vocabulary.{ℕ, List, [], ◌∷◌, ◌++◌, ◌≡◌, ◌∙◌, ap, sym, take, arith, append_assoc, All, recursion_from_All, All-more, string_bytes, common_steps, IsLabel, run_text}
 use Rattle.tso_machine.proofs.RunsRead.{text_more, text_first, read_again}
 use Rattle.tso_machine.proofs.run_text.write_run.Goals as goal
 use Rattle.tso_machine.proofs.run_text.write_run.Goals.{then-i-gt0+in_ok-push, else-i-gt0}

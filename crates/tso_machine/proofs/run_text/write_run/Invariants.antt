@@ -1,5 +1,4 @@
-use Rattle.std.proofs.Common.{◌≡◌, take, All}
-use Rattle.tso_machine.proofs.Vocabulary.{string_bytes, run_text, IsLabel}
+use Rattle.tso_machine.proofs.Vocabulary.{◌≡◌, take, All, string_bytes, run_text, IsLabel}
 use Rattle.tso_machine.proofs.run_text.write_run.Given as goal
 
 -- the text so far is that of the labels so far

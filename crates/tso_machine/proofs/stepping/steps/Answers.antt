@@ -1,8 +1,5 @@
-use Rattle.std.proofs.Common.{◌∙◌, take, Some, sym, ap, subst, arith}
-use Rattle.tso_machine.proofs.Vocabulary.{Exec, Listing, Machine, start, machine_of_model, Cores, state_of, FitsProgram}
-use Rattle.tso_machine.proofs.Link.{state_of_first, first_fits}
-use Rattle.tso_machine.proofs.Runs.{run_on, faulted, no_stores_by}
-use Rattle.tso_machine.proofs.Stepped.{steps_on}
+use Rattle.tso_machine.proofs.Vocabulary.{◌∙◌, take, Some, sym, ap, subst, arith, Exec, Listing, Machine, start, machine_of_model, Cores, state_of, FitsProgram}
+use Rattle.tso_machine.proofs.{Link.state_of_first, Link.first_fits, Runs.run_on, Runs.faulted, Runs.no_stores_by, Stepped.steps_on}
 use Rattle.tso_machine.proofs.stepping.steps.Goals as goal
 
 pub loop-n-init : goal.loop-n-init

@@ -1,5 +1,4 @@
-use Rattle.std.proofs.Common.{◌≡◌, take, Some}
-use Rattle.tso_machine.proofs.Vocabulary.{run, start, machine_of_model, AreSteps, state_of, FitsProgram}
+use Rattle.tso_machine.proofs.Vocabulary.{◌≡◌, take, Some, run, start, machine_of_model, AreSteps, state_of, FitsProgram}
 use Rattle.tso_machine.proofs.stepping.steps.Given as goal
 
 -- the labels so far lead to the state, by these steps

@@ -1,5 +1,4 @@
-use Rattle.std.proofs.Common.{◌≡◌, ◌≤◌, ◌*◌}
-use Rattle.tso_program.specs.Fences.{gaps_in, place_of}
+use Rattle.tso_program.proofs.Vocabulary.{◌≡◌, ◌≤◌, ◌*◌, gaps_in, place_of}
 use Rattle.tso_program.proofs.fenced.fenced_place.Given as goal
 
 -- the place so far, at most two for each instruction

@@ -1,5 +1,4 @@
-use Rattle.std.proofs.Common.{◌≡◌, ◌++◌, drop}
-use Rattle.tso_program.specs.Fences.{gaps_in, fenced_code}
+use Rattle.tso_program.proofs.Vocabulary.{◌≡◌, ◌++◌, drop, gaps_in, fenced_code}
 use Rattle.tso_program.proofs.fenced.fenced_thread.Given as goal
 
 -- followed by the fenced rest, it is the fenced code

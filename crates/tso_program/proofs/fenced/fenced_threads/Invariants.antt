@@ -1,5 +1,4 @@
-use Rattle.std.proofs.Common.{◌≡◌, ◌++◌, drop}
-use Rattle.tso_program.specs.Fences.{gaps_in, fenced_threads}
+use Rattle.tso_program.proofs.Vocabulary.{◌≡◌, ◌++◌, drop, gaps_in, fenced_threads}
 use Rattle.tso_program.proofs.fenced.fenced_threads.Given as goal
 
 -- with the fenced rest behind them, they are the fenced threads

@@ -1,7 +1,4 @@
-use Rattle.std.proofs.Common.{◌≡◌, ℕ, Option, Some, None, refl, sym, ap, ◌∙◌, rules, tests}
-use Rattle.std.specs.Prelude.{nat_le}
-use Rattle.std.specs.List.{find}
-use Rattle.std.specs.Option.{option_map}
+use Rattle.tso_program.proofs.Vocabulary.{◌≡◌, ℕ, Option, Some, None, refl, sym, ap, ◌∙◌, rules, tests, nat_le, find, option_map}
 use Rattle.std.proofs.lemmas.Iterator.Consumers.{YieldsList-from_first}
 use Rattle.std.proofs.lemmas.Iterator.Search.{find_from_yields_List}
 use Rattle.gap_sets.specs.Gaps.{numbers_of_set}

@@ -1,5 +1,4 @@
-use Rattle.std.proofs.Common.{◌≡◌, ◌≤◌, ◌*◌, take}
-use Rattle.tso_program.proofs.Vocabulary.{sum_by, accesses_of, MAX_FENCED_INSTRUCTIONS}
+use Rattle.tso_program.proofs.Vocabulary.{◌≡◌, ◌≤◌, ◌*◌, take, sum_by, accesses_of, MAX_FENCED_INSTRUCTIONS}
 use Rattle.tso_program.proofs.limits.all_accesses.Given as goal
 
 -- the total so far, at most 127 for each thread

@@ -1,5 +1,4 @@
-use Rattle.std.proofs.Common.{◌≡◌, ◌≤◌, ◌*◌, take}
-use Rattle.tso_program.proofs.Vocabulary.{sum_by, gaps_of_thread, MAX_INSTRUCTIONS}
+use Rattle.tso_program.proofs.Vocabulary.{◌≡◌, ◌≤◌, ◌*◌, take, sum_by, gaps_of_thread, MAX_INSTRUCTIONS}
 use Rattle.tso_program.proofs.limits.all_gaps.Given as goal
 
 -- the total so far, at most 64 for each thread

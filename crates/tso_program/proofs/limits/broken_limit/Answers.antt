@@ -1,4 +1,4 @@
-use Rattle.std.proofs.Common.{◌∙◌, sym}
+use Rattle.tso_program.proofs.Vocabulary.{◌∙◌, sym}
 use Rattle.tso_program.proofs.WithinLimits.{short_where_none, few_where_none}
 use Rattle.tso_program.proofs.limits.broken_limit.Goals as goal
 

@@ -1,5 +1,4 @@
-use Rattle.std.proofs.Common.{◌∙◌, sym, ap}
-use Rattle.tso_program.proofs.Vocabulary.{is_some, MAX_FENCED_INSTRUCTIONS}
+use Rattle.tso_program.proofs.Vocabulary.{◌∙◌, sym, ap, is_some, MAX_FENCED_INSTRUCTIONS}
 use Rattle.tso_program.proofs.WithinLimits.{all_short}
 use Rattle.tso_program.proofs.limits.broken_shared_limit.Goals as goal
 

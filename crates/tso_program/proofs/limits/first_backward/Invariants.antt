@@ -1,5 +1,4 @@
-use Rattle.std.proofs.Common.{◌≡◌, drop}
-use Rattle.tso_program.specs.Limits.{first_found, first_backward_in}
+use Rattle.tso_program.proofs.Vocabulary.{◌≡◌, drop, first_found, first_backward_in}
 use Rattle.tso_program.proofs.limits.first_backward.Given as goal
 
 -- nothing is found in the threads so far

@@ -1,5 +1,4 @@
-use Rattle.std.proofs.Common.{◌≡◌, drop}
-use Rattle.tso_program.specs.Limits.{first_found, first_past_end_in}
+use Rattle.tso_program.proofs.Vocabulary.{◌≡◌, drop, first_found, first_past_end_in}
 use Rattle.tso_program.proofs.limits.first_past_end.Given as goal
 
 -- nothing is found in the threads so far

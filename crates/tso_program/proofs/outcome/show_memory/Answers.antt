@@ -1,4 +1,4 @@
-use Rattle.std.proofs.Common.{arith}
+use Rattle.tso_program.proofs.Vocabulary.{arith}
 use Rattle.tso_program.proofs.Kept.{memory_by}
 use Rattle.tso_program.proofs.outcome.show_memory.Goals as goal
 

@@ -1,4 +1,4 @@
-use Rattle.std.proofs.Common.{arith}
+use Rattle.tso_program.proofs.Vocabulary.{arith}
 use Rattle.tso_program.proofs.Kept.{threads_by}
 use Rattle.tso_program.proofs.outcome.show_registers.Goals as goal
 

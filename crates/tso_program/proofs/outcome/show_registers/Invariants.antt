@@ -1,5 +1,4 @@
-use Rattle.std.proofs.Common.{◌≡◌, ℕ, ◌<◌, ◌≤◌, [], get_or, length}
-use Rattle.tso_program.specs.Shown.{shown_registers}
+use Rattle.tso_program.proofs.Vocabulary.{◌≡◌, ℕ, ◌<◌, ◌≤◌, [], get_or, length, shown_registers}
 use Rattle.tso_program.proofs.outcome.show_registers.Given as goal
 
 -- the registers of the threads so far are as shown, and the others as they were

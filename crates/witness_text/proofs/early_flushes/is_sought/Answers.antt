@@ -1,4 +1,4 @@
-use Rattle.witness_text.specs.WitnessTexts.{machine_of}
+use Rattle.witness_text.proofs.Vocabulary.{machine_of}
 use Rattle.witness_text.proofs.SoughtRuns.{no_witness, witness_by_outcome}
 use Rattle.witness_text.proofs.early_flushes.is_sought.Goals as goal
 

@@ -1,5 +1,4 @@
-use Rattle.std.proofs.Common.{◌≡◌, vec_len}
-use Rattle.witness_text.specs.Internal.SoughtRuns.{IsSoughtRun}
+use Rattle.witness_text.proofs.Vocabulary.{◌≡◌, vec_len, IsSoughtRun}
 use Rattle.witness_text.proofs.early_flushes.with_early_flushes.Given as goal
 
 -- the run so far is sought, and as long as the first

@@ -1,4 +1,4 @@
-use Rattle.std.proofs.Common.{◌≡◌, ◌∙◌, take, drop, suc, sym}
+use Rattle.witness_text.proofs.Vocabulary.{take, drop, suc, sym}
 use Rattle.std.proofs.Math.Seq.{split_at}
 use Rattle.std.proofs.lemmas.List.{take_more}
 use Rattle.witness_text.proofs.PlacesFenced.{no_place, one_more}

@@ -1,5 +1,4 @@
-use Rattle.std.proofs.Common.{take}
-use Rattle.witness_text.specs.FencedGaps.{AreGapsAt}
+use Rattle.witness_text.proofs.Vocabulary.{take, AreGapsAt}
 use Rattle.witness_text.proofs.gaps.gaps_at.Given as goal
 
 -- the gaps at the places so far

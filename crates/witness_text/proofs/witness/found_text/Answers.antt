@@ -1,7 +1,5 @@
-use Rattle.std.proofs.Common.{List, subst}
-use Rattle.witness_text.proofs.Vocabulary.{All, Label, TellsRun}
-use Rattle.documents.specs.declared.run.Setting.TheVariants.{Machine}
-use Rattle.witness_text.specs.WitnessTexts.{found}
+use Rattle.witness_text.proofs.Vocabulary.{List, subst, All, Label, TellsRun, found}
+use Rattle.documents.specs.declared.run.Setting.{TheVariants.Machine}
 use Rattle.witness_text.proofs.FencedRuns.{told_run}
 use Rattle.witness_text.proofs.witness.found_text.Goals as goal
 

@@ -1,4 +1,4 @@
-use Rattle.witness_text.specs.WitnessTexts.{none}
+use Rattle.witness_text.proofs.Vocabulary.{none}
 use Rattle.witness_text.proofs.witness.none_text.Goals as goal
 
 pub returns : goal.returns

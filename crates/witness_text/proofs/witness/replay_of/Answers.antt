@@ -1,6 +1,6 @@
 use Rattle.std.specs.FinSet as set
 use Rattle.tso_machine.specs.Machine as machine
-use Rattle.tso_machine.specs.Modes.{machine_of_model}
+use Rattle.witness_text.proofs.Vocabulary.{machine_of_model}
 use Rattle.documents.proofs.Steps.{labels_of_steps}
 use Rattle.witness_text.proofs.witness.replay_of.Goals as goal
 

@@ -1,6 +1,4 @@
-use Rattle.std.proofs.Common.{subst}
-use Rattle.tso_machine.specs.Machine.{Machine}
-use Rattle.cover_solver.specs.Witnesses.{HasNoWitness}
+use Rattle.witness_text.proofs.Vocabulary.{subst, Machine, HasNoWitness}
 use Rattle.witness_text.proofs.witness.sought_text.Goals as goal
 
 pub none_text-requires : goal.none_text-requires

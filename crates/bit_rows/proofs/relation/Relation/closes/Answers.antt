@@ -1,7 +1,5 @@
-use Rattle.std.proofs.Common.{◌↔◌, ℕ, List, IsTrue, subst, arith}
-use Rattle.bit_rows.specs.Rows.{AreConnected, HasRound}
-use Rattle.bit_rows.proofs.Paths.{told_by, either_by, turned, round_after, leads_by}
-use Rattle.bit_rows.proofs.Written.{connected, are_connected}
+use Rattle.bit_rows.proofs.Vocabulary.{◌↔◌, ℕ, List, IsTrue, subst, arith, AreConnected, HasRound}
+use Rattle.bit_rows.proofs.{Paths.told_by, Paths.either_by, Paths.turned, Paths.round_after, Paths.leads_by, Written.connected, Written.are_connected}
 use Rattle.bit_rows.proofs.relation.Relation.closes.Goals as goal
 
 pub returns : goal.returns

@@ -1,7 +1,5 @@
-use Rattle.std.proofs.Common.{◌≡◌, ◌↔◌, ◌∙◌, ℕ, List, IsTrue, length, subst, arith}
-use Rattle.bit_rows.specs.Rows.{AreConnected, HasRound}
-use Rattle.bit_rows.proofs.Paths.{told_by, either_by, both_by, turned, round_after_twice, leads_by}
-use Rattle.bit_rows.proofs.Written.{connected, are_connected, length_connected}
+use Rattle.bit_rows.proofs.Vocabulary.{◌≡◌, ◌↔◌, ◌∙◌, ℕ, List, IsTrue, length, subst, arith, AreConnected, HasRound}
+use Rattle.bit_rows.proofs.{Paths.told_by, Paths.either_by, Paths.both_by, Paths.turned, Paths.round_after_twice, Paths.leads_by, Written.connected, Written.are_connected, Written.length_connected}
 use Rattle.bit_rows.proofs.relation.Relation.closes_twice.Goals as goal
 
 pub returns : goal.returns

@@ -1,4 +1,4 @@
-use Rattle.std.proofs.Common.{◌≡◌, true, false}
+use Rattle.bit_rows.proofs.Vocabulary.{◌≡◌, true, false}
 use Rattle.bit_rows.proofs.Paths.{order_is_reach, order_has_no_round}
 use Rattle.bit_rows.proofs.relation.Relation.of_order.Goals as goal
 

@@ -1,5 +1,4 @@
-use Rattle.sketches.proofs.Lookups.{each_index}
-use Rattle.branching.specs.ChoicesLeft.{IsInOrderWithLater}
+use Rattle.branching.proofs.Vocabulary.{each_index, IsInOrderWithLater}
 use Rattle.branching.proofs.preference.OrderRating.best_order.Goals as goal
 
 pub loop-place-preserved : goal.loop-place-preserved

@@ -1,5 +1,4 @@
-use Rattle.std.proofs.Common.{◌≡◌, ℕ, ◌<◌, None}
-use Rattle.branching.proofs.Vocabulary.{IfSome, RatedChoice, IsOpen, IsInOrderWithLater}
+use Rattle.branching.proofs.Vocabulary.{◌≡◌, ℕ, ◌<◌, None, IfSome, RatedChoice, IsOpen, IsInOrderWithLater}
 use Rattle.branching.proofs.preference.OrderRating.best_order.Given as goal
 
 -- the best is open; if there is none, the writes so far are in order with all later ones

@@ -1,5 +1,4 @@
-use Rattle.std.proofs.Common.{◌≡◌, ℕ, ◌<◌, None, get_or}
-use Rattle.branching.proofs.Vocabulary.{IfSome, RatedChoice, WrittenValue, IsOpen, AreWritesInOrder}
+use Rattle.branching.proofs.Vocabulary.{◌≡◌, ℕ, ◌<◌, None, get_or, IfSome, RatedChoice, WrittenValue, IsOpen, AreWritesInOrder}
 use Rattle.branching.proofs.preference.OrderRating.with_orders.Given as goal
 
 -- the best is open; if there is none, the write is in order with the later ones so far

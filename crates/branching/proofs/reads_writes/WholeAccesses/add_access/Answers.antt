@@ -1,5 +1,4 @@
-use Rattle.std.proofs.Common.{◌≡◌, Some, refl, sym, ap, ◌∙◌, subst}
-use Rattle.branching.proofs.Vocabulary.{access_in, event_of, WholeAccesses}
+use Rattle.branching.proofs.Vocabulary.{◌≡◌, Some, refl, sym, ap, ◌∙◌, subst, access_in, event_of, WholeAccesses}
 use Rattle.branching.proofs.TakenIn.{TakesRead, read_put, read_left, write_put, write_left}
 use Rattle.branching.proofs.reads_writes.WholeAccesses.add_access.Goals as goal
 use Rattle.branching.proofs.reads_writes.WholeAccesses.add_access.Goals.{in-Some-read+in_ok-push, in_default-read}

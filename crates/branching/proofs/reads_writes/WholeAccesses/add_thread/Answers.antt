@@ -1,6 +1,4 @@
-use Rattle.std.proofs.Common.{◌≡◌, ◌<◌, ◌+◌, length, ap, inl, inr, arith}
-use Rattle.std.proofs.lemmas.Option.{slice_get_within}
-use Rattle.branching.proofs.Vocabulary.{cases_lt, trace_in, read_there, AccessId, event_of, IsItself}
+use Rattle.branching.proofs.Vocabulary.{◌≡◌, ◌<◌, ◌+◌, length, ap, inl, inr, arith, slice_get_within, cases_lt, trace_in, read_there, AccessId, event_of, IsItself}
 use Rattle.branching.proofs.TakenIn.{none_taken, taken_after, same_access}
 use Rattle.branching.proofs.reads_writes.WholeAccesses.add_thread.Goals as goal
 

@@ -1,5 +1,4 @@
-use Rattle.std.proofs.Common.{◌≡◌, ◌<◌}
-use Rattle.branching.proofs.Vocabulary.{AccessId, TakesIn}
+use Rattle.branching.proofs.Vocabulary.{◌≡◌, ◌<◌, AccessId, TakesIn}
 use Rattle.branching.proofs.reads_writes.WholeAccesses.add_thread.Given as goal
 
 -- the thread's first accesses are taken in

@@ -1,6 +1,4 @@
-use Rattle.std.proofs.Common.{◌≡◌, ◌%◌, ℕ, subst, inl, inr, arith}
-use Rattle.branching.proofs.Vocabulary.{cases_lt, ROW_BITS, At, Writes, access_in}
-use Rattle.sketches.proofs.Ends.{write_within}
+use Rattle.branching.proofs.Vocabulary.{◌≡◌, ◌%◌, ℕ, subst, inl, inr, arith, cases_lt, ROW_BITS, At, Writes, access_in, write_within}
 use Rattle.branching.proofs.tally.Tally.add_thread.Goals as goal
 
 pub loop-access-preserved : goal.loop-access-preserved

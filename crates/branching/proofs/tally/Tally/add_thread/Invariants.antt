@@ -1,6 +1,4 @@
-use Rattle.std.proofs.Common.{ℕ, ◌<◌, Contains}
-use Rattle.branching.proofs.Vocabulary.{At, Writes, access_in, ReadValue}
-use Rattle.branching.specs.Tallies.{HasBit, IsOldOrOf, KeepsBits}
+use Rattle.branching.proofs.Vocabulary.{ℕ, ◌<◌, Contains, At, Writes, access_in, ReadValue, HasBit, IsOldOrOf, KeepsBits}
 use Rattle.branching.proofs.tally.Tally.add_thread.Given as goal
 
 -- the thread's first accesses are taken in

@@ -1,6 +1,4 @@
-use Rattle.std.proofs.Common.{◌≡◌, ◌≢◌, ◌<◌, ◌+◌, ℕ, length, sym, subst, ap, ◌∙◌, inl, inr, arith}
-use Rattle.branching.proofs.Vocabulary.{cases_lt, Listing, thread_within}
-use Rattle.branching.specs.Tallies.{IsTallyOf, IsOther}
+use Rattle.branching.proofs.Vocabulary.{◌≡◌, ◌≢◌, ◌<◌, ◌+◌, ℕ, length, sym, subst, ap, ◌∙◌, inl, inr, arith, cases_lt, Listing, thread_within, IsTallyOf, IsOther}
 use Rattle.branching.proofs.Tallied.{tally_more, tally_same}
 use Rattle.branching.proofs.tally.Tally.of_others.Goals as goal
 use Rattle.branching.proofs.tally.Tally.of_others.Goals.{then-other-t+in_ok-add_thread, else-other-t}

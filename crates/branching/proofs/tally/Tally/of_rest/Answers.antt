@@ -1,5 +1,4 @@
-use Rattle.std.proofs.Common.{◌≡◌, ◌<◌, ◌+◌, ℕ, length, sym, subst, ap, ◌∙◌, inl, inr, arith}
-use Rattle.branching.proofs.Vocabulary.{cases_lt, Listing, thread_within, not_by, IsTallyOf, IsNeither}
+use Rattle.branching.proofs.Vocabulary.{◌≡◌, ◌<◌, ◌+◌, ℕ, length, sym, subst, ap, ◌∙◌, inl, inr, arith, cases_lt, Listing, thread_within, not_by, IsTallyOf, IsNeither}
 use Rattle.branching.proofs.Tallied.{tally_more, tally_same}
 use Rattle.branching.proofs.tally.Tally.of_rest.Goals as goal
 use Rattle.branching.proofs.tally.Tally.of_rest.Goals.{then-is_neither+in_ok-add_thread, else-is_neither}

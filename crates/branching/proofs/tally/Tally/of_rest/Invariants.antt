@@ -1,5 +1,4 @@
-use Rattle.std.proofs.Common.{◌<◌}
-use Rattle.branching.specs.Tallies.{IsTallyOf, IsNeither}
+use Rattle.branching.proofs.Vocabulary.{◌<◌, IsTallyOf, IsNeither}
 use Rattle.branching.proofs.tally.Tally.of_rest.Given as goal
 
 -- the first threads but one are taken in

@@ -1,5 +1,4 @@
-use Rattle.std.proofs.Common.{refl, inr}
-use Rattle.branching.specs.Tallies.{IsThisThread}
+use Rattle.branching.proofs.Vocabulary.{refl, inr, IsThisThread}
 use Rattle.branching.proofs.Tallied.{tally_none, tally_more}
 use Rattle.branching.proofs.tally.Tally.of_thread.Goals as goal
 

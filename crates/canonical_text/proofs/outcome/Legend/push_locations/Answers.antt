@@ -1,6 +1,4 @@
-use Rattle.canonical_text.proofs.Vocabulary.{ℕ, List, ◌++◌, get_or, ap, ◌∙◌}
-use Rattle.litmus_reader.specs.Internal.Filling.{texts}
-use Rattle.canonical_text.specs.Outcomes.{shown_item}
+use Rattle.canonical_text.proofs.Vocabulary.{ℕ, List, ◌++◌, get_or, ap, ◌∙◌, texts, shown_item}
 use Rattle.canonical_text.proofs.Joined.{flat_range_more}
 use Rattle.canonical_text.proofs.outcome.Legend.push_locations.Goals as goal
 

@@ -1,6 +1,4 @@
-use Rattle.canonical_text.proofs.Vocabulary.{◌≡◌, ◌++◌}
-use Rattle.litmus_reader.specs.Internal.Filling.{texts}
-use Rattle.canonical_text.specs.Outcomes.{location_items}
+use Rattle.canonical_text.proofs.Vocabulary.{◌≡◌, ◌++◌, texts, location_items}
 use Rattle.canonical_text.proofs.outcome.Legend.push_locations.Given as goal
 
 -- the items of the locations so far

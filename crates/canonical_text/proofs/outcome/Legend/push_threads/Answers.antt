@@ -1,6 +1,4 @@
-use Rattle.canonical_text.proofs.Vocabulary.{ℕ, List, [], ◌++◌, get_or, ap, ◌∙◌}
-use Rattle.litmus_reader.specs.Internal.Filling.{texts}
-use Rattle.canonical_text.specs.Outcomes.{thread_items}
+use Rattle.canonical_text.proofs.Vocabulary.{ℕ, List, [], ◌++◌, get_or, ap, ◌∙◌, texts, thread_items}
 use Rattle.canonical_text.proofs.Joined.{flat_range_more}
 use Rattle.canonical_text.proofs.outcome.Legend.push_threads.Goals as goal
 

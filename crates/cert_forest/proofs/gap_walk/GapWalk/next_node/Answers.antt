@@ -1,5 +1,4 @@
-use Rattle.std.proofs.Common.{◌≡◌, ◌∷◌, List, sym, subst}
-use Rattle.cert_forest.proofs.Vocabulary.{Gap, gap_trees_in, AreGapTrees, IsNextGap}
+use Rattle.cert_forest.proofs.Vocabulary.{◌≡◌, ◌∷◌, List, sym, subst, Gap, gap_trees_in, AreGapTrees, IsNextGap}
 use Rattle.cert_forest.proofs.GapNodeLaws.{gap_shown}
 use Rattle.cert_forest.proofs.gap_walk.GapWalk.next_node.Goals as goal
 

@@ -1,4 +1,4 @@
-use Rattle.std.proofs.Common.{◌≡◌, ◌++◌}
+use Rattle.cert_forest.proofs.Vocabulary.{◌≡◌, ◌++◌}
 use Rattle.cert_forest.proofs.run_list.Runs.copy.Given as goal
 
 -- the copies so far, and the runs to come

@@ -1,6 +1,4 @@
-use Rattle.std.proofs.Common.{◌≡◌, ℕ, suc, List, ◌∷◌, length, map, refl, sym, ap, ◌∙◌, arith, zero, []}
-use Rattle.std.specs.List.{insert}
-use Rattle.cert_forest.proofs.Vocabulary.{Vec, length-map, Label, labels_of}
+use Rattle.cert_forest.proofs.Vocabulary.{◌≡◌, ℕ, suc, List, ◌∷◌, length, map, refl, sym, ap, ◌∙◌, arith, zero, [], insert, Vec, length-map, Label, labels_of}
 use Rattle.cert_forest.proofs.run_list.Runs.insert.Goals as goal
 
 map_insert : {A B : Type 0} (f : A → B) (xs : List A) (i : ℕ) (x : A) → map f (insert xs i x) ≡ insert (map f xs) i (f x)

@@ -1,5 +1,4 @@
-use Rattle.std.proofs.Common.{List, Contains, MatchOption, Some, slice_get, ap, ◌≡◌, ◌∙◌, subst}
-use Rattle.cert_forest.proofs.Vocabulary.{Label, labels_of}
+use Rattle.cert_forest.proofs.Vocabulary.{List, Contains, MatchOption, Some, slice_get, ap, ◌≡◌, ◌∙◌, subst, Label, labels_of}
 use Rattle.cert_forest.proofs.run_list.Runs.position.Goals as goal
 
 pub returns : goal.returns

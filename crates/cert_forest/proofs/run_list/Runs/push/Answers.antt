@@ -1,6 +1,4 @@
-use Rattle.std.proofs.Common.{List, [], ◌∷◌, ◌++◌, ap, ◌∙◌}
-use Rattle.std.proofs.lemmas.List.{map_push}
-use Rattle.cert_forest.proofs.Vocabulary.{Label, labels_of}
+use Rattle.cert_forest.proofs.Vocabulary.{List, [], ◌∷◌, ◌++◌, ap, ◌∙◌, map_push, Label, labels_of}
 use Rattle.cert_forest.proofs.run_list.Runs.push.Goals as goal
 
 pub returns : goal.returns

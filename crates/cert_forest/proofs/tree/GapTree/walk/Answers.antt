@@ -1,6 +1,5 @@
-use Rattle.cert_forest.specs.GapNodes.{spell_gap, gap_trees_in}
-use Rattle.cert_forest.proofs.Spelled.{alone_are, alone_is}
-use Rattle.cert_forest.proofs.GapNodeLaws.{gaps_back}
+use Rattle.cert_forest.proofs.Vocabulary.{spell_gap, gap_trees_in}
+use Rattle.cert_forest.proofs.{Spelled.alone_are, Spelled.alone_is, GapNodeLaws.gaps_back}
 use Rattle.cert_forest.proofs.tree.GapTree.walk.Goals as goal
 
 pub over-requires : goal.over-requires

@@ -1,8 +1,6 @@
-use Rattle.std.proofs.Common.{◌≡◌, ℕ, List, length, take, drop, get_or, refl, sym, subst, ap, ◌∙◌, arith}
-use Rattle.cover_judge.proofs.Vocabulary.{IfErr, OnOk, Cover, Order, first_tree, next_is_shorter, ProgramSketch, mode_in, event_of}
-use Rattle.cover_judge.proofs.Vocabulary.{HasNoOrder, HasNoValues, HasNoSources, sketch_with, AreValueChoices, IsValueOpen, AreSourceChoices, IsSourceOpen, IfWrong, IsAtRoot, IsBelow, IsValidAfter, IsWrongAt, IsWrongChild}
-use Rattle.cover_judge.proofs.Vocabulary.{AreNotSoMany}
-use Rattle.cert_forest.proofs.NextNodes.{value_next, source_next, order_next}
+use Rattle.cover_judge.proofs.Vocabulary.{◌≡◌, ℕ, List, length, take, drop, get_or, refl, sym, subst, ap, ◌∙◌, arith, IfErr, OnOk, Cover, Order, first_tree, next_is_shorter, ProgramSketch, mode_in}
+use Rattle.cover_judge.proofs.Vocabulary.{event_of, HasNoOrder, HasNoValues, HasNoSources, sketch_with, AreValueChoices, IsValueOpen, AreSourceChoices, IsSourceOpen, IfWrong, IsAtRoot, IsBelow}
+use Rattle.cover_judge.proofs.Vocabulary.{IsValidAfter, IsWrongAt, IsWrongChild, AreNotSoMany, value_next, source_next, order_next}
 use Rattle.sketches.proofs.Lookups.{same_default}
 use Rattle.cover_judge.specs.declared.choice.Choice.TheVariants as choice
 use Rattle.cover_judge.proofs.Answered.{err_up, if_err, on_ok}

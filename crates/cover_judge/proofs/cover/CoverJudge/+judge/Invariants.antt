@@ -1,5 +1,4 @@
-use Rattle.std.proofs.Common.{◌+◌, ◌*◌, length}
-use Rattle.cert_forest.specs.Nodes.{spell_all}
+use Rattle.cover_judge.proofs.Vocabulary.{◌+◌, ◌*◌, length, spell_all}
 use Rattle.cover_judge.proofs.CoverSteps.{IsJudgedTo}
 use Rattle.cover_judge.proofs.cover.CoverJudge.+judge.Given as goal
 

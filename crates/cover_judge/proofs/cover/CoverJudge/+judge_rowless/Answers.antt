@@ -1,18 +1,12 @@
-use Rattle.std.proofs.Common.{◌≡◌, ℕ, List, length, map, take, drop, get_or, refl, sym, subst, ap, ◌∙◌, arith}
-use Rattle.cover_judge.proofs.Vocabulary.{IfErr, OnOk, length-map, Cover, Source, covers_of, first_tree, AccessId, Event, next_is_shorter, IsValueOf, ProgramSketch, mode_in}
-use Rattle.cover_judge.proofs.Vocabulary.{with_chosen, LacksSource, HasNextValues, event_of, same_Some, HasNoValues, HasNoSources, sketch_with, AreValueChoices, AreSourceChoices, IfWrong, IsValidAfter, IsWrongAt}
-use Rattle.candidate_executions.specs.declared.event.Event.TheVariants.{Initial}
-use Rattle.cert_forest.specs.Walks.{IsNext}
-use Rattle.cert_forest.specs.declared.walk.CoverNode.{CoverNode}
+use Rattle.cover_judge.proofs.Vocabulary.{◌≡◌, ℕ, List, length, map, take, drop, get_or, refl, sym, subst, ap, ◌∙◌, arith, IfErr, OnOk, length-map, Cover, Source, covers_of, first_tree, AccessId}
+use Rattle.cover_judge.proofs.Vocabulary.{Event, next_is_shorter, IsValueOf, ProgramSketch, mode_in, with_chosen, LacksSource, HasNextValues, event_of, same_Some, HasNoValues, HasNoSources}
+use Rattle.cover_judge.proofs.Vocabulary.{sketch_with, AreValueChoices, AreSourceChoices, IfWrong, IsValidAfter, IsWrongAt, value_next, source_next, MayRead, HasSources}
+use Rattle.candidate_executions.specs.declared.event.Event.{TheVariants.Initial}
+use Rattle.cert_forest.specs.{Walks.IsNext, declared.walk.CoverNode.CoverNode}
 use Rattle.cert_forest.specs.declared.walk.CoverNode.TheVariants as n
-use Rattle.cert_forest.proofs.NextNodes.{value_next, source_next}
 use Rattle.candidate_executions.specs.Sketches as sketches
-use Rattle.sketches.specs.Choices.{MayRead}
-use Rattle.tree_laws.specs.CoverTrees.{HasSources}
 use Rattle.cover_judge.specs.declared.choice.Choice.TheVariants as choice
-use Rattle.cover_judge.proofs.Answered.{on_ok}
-use Rattle.cover_judge.proofs.ChoicesJudged.{from_child, values_may, sources_may}
-use Rattle.cover_judge.proofs.SketchesAfter.{valid_after, wrong_after}
+use Rattle.cover_judge.proofs.{Answered.on_ok, ChoicesJudged.from_child, ChoicesJudged.values_may, ChoicesJudged.sources_may, SketchesAfter.valid_after, SketchesAfter.wrong_after}
 use Rattle.cover_judge.proofs.CoverNodes.{values_node, sources_node, value_here, source_here, branched_values, branched_sources, past_children, valid_by_children, wrong_by_child, wrong_by_root}
 use Rattle.cover_judge.proofs.CoverSteps.{choice_of, judged_none, judged_more, judged_wrong, judged_all, past_all, next_may, next_some, not_longer}
 use Rattle.cover_judge.proofs.LeavesWithoutSource.{leaf_valid}

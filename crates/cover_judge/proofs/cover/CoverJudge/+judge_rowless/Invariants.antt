@@ -1,5 +1,4 @@
-use Rattle.std.proofs.Common.{◌+◌, ◌*◌, length, map}
-use Rattle.cert_forest.specs.Nodes.{spell_all}
+use Rattle.cover_judge.proofs.Vocabulary.{◌+◌, ◌*◌, length, map, spell_all}
 use Rattle.cover_judge.specs.declared.choice.Choice.TheVariants as choice
 use Rattle.cover_judge.proofs.CoverSteps.{IsJudgedTo}
 use Rattle.cover_judge.proofs.cover.CoverJudge.+judge_rowless.Given as goal

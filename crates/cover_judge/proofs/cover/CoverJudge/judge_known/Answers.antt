@@ -1,5 +1,4 @@
-use Rattle.std.proofs.Common.{◌≡◌, true, false, sym, ◌∙◌}
-use Rattle.cover_judge.proofs.Vocabulary.{asked, mode_in}
+use Rattle.cover_judge.proofs.Vocabulary.{◌≡◌, true, false, sym, ◌∙◌, asked, mode_in}
 use Rattle.tree_laws.specs.CoverTrees as trees
 use Rattle.cover_judge.proofs.ChoicesJudged.{here, not_known, not_so}
 use Rattle.cover_judge.proofs.cover.CoverJudge.judge_known.Goals as goal

@@ -1,5 +1,4 @@
-use Rattle.std.proofs.Common.{take}
-use Rattle.std.specs.List.{flat_map}
+use Rattle.cover_judge.proofs.Vocabulary.{take, flat_map}
 use Rattle.std.specs.Fmt.{HasWritten, IsPlainFormatter}
 use Rattle.cover_judge.specs.Paths.{child_text}
 use Rattle.cover_judge.proofs.path.PathDisplay.fmt.Given as goal

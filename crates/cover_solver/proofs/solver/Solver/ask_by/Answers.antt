@@ -1,5 +1,4 @@
-use Rattle.std.proofs.Common.{ap, ◌∙◌}
-use Rattle.cover_solver.specs.Facts.{Asked}
+use Rattle.cover_solver.proofs.Vocabulary.{ap, ◌∙◌, Asked}
 use Rattle.cover_solver.proofs.Tables.{lacks_moved}
 use Rattle.cover_solver.proofs.solver.Solver.ask_by.Goals as goal
 

@@ -1,6 +1,5 @@
-use Rattle.std.proofs.Common.{◌≡◌, true, sym, subst, ap, ◌∙◌}
+use Rattle.cover_solver.proofs.Vocabulary.{◌≡◌, true, sym, subst, ap, ◌∙◌, Question, asked, StoreBufferMachine, no_gaps, ReplayFaultIs, ArePassed, IsShownRun, IsForeignRun, Asked, IsListOf}
 use Rattle.std.specs.FinSet as set
-use Rattle.cover_solver.proofs.Vocabulary.{Question, asked, StoreBufferMachine, no_gaps, ReplayFaultIs, ArePassed, IsShownRun, IsForeignRun, Asked, IsListOf}
 use Rattle.cover_solver.proofs.Tables.{foreign_again, passes_none, replays_unfenced, same_question}
 use Rattle.cover_solver.proofs.solver.Solver.foreign.Goals as goal
 

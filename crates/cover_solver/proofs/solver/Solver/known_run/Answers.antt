@@ -1,8 +1,6 @@
-use Rattle.std.proofs.Common.{◌≡◌, ◌∙◌, true, sym, ap, subst}
+use Rattle.cover_solver.proofs.Vocabulary.{◌≡◌, ◌∙◌, true, sym, ap, subst, asked, AreOf, Asked, Foreign, IsForeignValue}
 use Rattle.std.specs.FinSet as set
-use Rattle.tso_program.specs.Shown.{asked}
 use Rattle.sketches.proofs.KnownParts.{not_by}
-use Rattle.cover_solver.specs.Facts.{AreOf, Asked, Foreign, IsForeignValue}
 use Rattle.cover_solver.proofs.solver.Solver.known_run.Goals as goal
 
 pub returns-then-not-meets : goal.returns-then-not-meets

@@ -1,7 +1,4 @@
-use Rattle.std.proofs.Common.{ap, ◌∙◌}
-use Rattle.tso_program.specs.Shown.{asked}
-use Rattle.tso_machine.specs.Modes.{machine_of_mode}
-use Rattle.cover_solver.specs.Facts.{Asked}
+use Rattle.cover_solver.proofs.Vocabulary.{ap, ◌∙◌, asked, machine_of_mode, Asked}
 use Rattle.cover_solver.proofs.Tables.{lacks_moved, stop_lacks_if}
 use Rattle.cover_solver.proofs.solver.Solver.searched.Goals as goal
 

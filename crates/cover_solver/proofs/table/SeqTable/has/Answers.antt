@@ -1,5 +1,4 @@
-use Rattle.std.proofs.Common.{◌↔◌, IsTrue, List, Some, slice_get, ◌≡◌, ap, subst}
-use Rattle.cover_solver.proofs.Vocabulary.{IfOk, IfErr, Outcome, IsSequentialOutcome, Table, BelongsAt}
+use Rattle.cover_solver.proofs.Vocabulary.{◌↔◌, IsTrue, List, Some, slice_get, ◌≡◌, ap, subst, IfOk, IfErr, Outcome, IsSequentialOutcome, Table, BelongsAt}
 use Rattle.cover_solver.proofs.Tables.{found_by}
 use Rattle.cover_solver.proofs.table.SeqTable.has.Goals as goal
 

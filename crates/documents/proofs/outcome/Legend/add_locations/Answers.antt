@@ -1,6 +1,4 @@
-use Rattle.std.proofs.Common.{ℕ, List, ◌++◌, get_or, ap, ◌∙◌}
-use Rattle.report.proofs.Joined.{flat_range_more}
-use Rattle.documents.specs.Parts.{location_value}
+use Rattle.documents.proofs.Vocabulary.{ℕ, List, ◌++◌, get_or, ap, ◌∙◌, flat_range_more, location_value}
 use Rattle.documents.proofs.outcome.Legend.add_locations.Goals as goal
 
 pub loop-location-preserved : goal.loop-location-preserved

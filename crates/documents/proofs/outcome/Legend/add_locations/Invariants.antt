@@ -1,5 +1,4 @@
-use Rattle.std.proofs.Common.{◌≡◌, ◌++◌}
-use Rattle.documents.specs.Parts.{location_values}
+use Rattle.documents.proofs.Vocabulary.{◌≡◌, ◌++◌, location_values}
 use Rattle.documents.proofs.outcome.Legend.add_locations.Given as goal
 
 -- the items of the locations so far

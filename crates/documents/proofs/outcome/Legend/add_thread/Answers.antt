@@ -1,7 +1,5 @@
-use Rattle.std.proofs.Common.{List, ◌++◌, get_or, ap, ◌∙◌, ℕ}
-use Rattle.documents.proofs.Vocabulary.{all_registers, register_value}
-use Rattle.tso_program.specs.declared.instruction.Reg.TheVariants.{Eax}
-use Rattle.report.proofs.Joined.{flat_more}
+use Rattle.documents.proofs.Vocabulary.{List, ◌++◌, get_or, ap, ◌∙◌, ℕ, all_registers, register_value, flat_more}
+use Rattle.tso_program.specs.declared.instruction.Reg.{TheVariants.Eax}
 use Rattle.documents.proofs.outcome.Legend.add_thread.Goals as goal
 
 pub loop-register-preserved : goal.loop-register-preserved

@@ -1,6 +1,4 @@
-use Rattle.std.proofs.Common.{◌≡◌, ◌++◌, take}
-use Rattle.std.specs.List.{flat_map}
-use Rattle.documents.proofs.Vocabulary.{all_registers, register_value}
+use Rattle.documents.proofs.Vocabulary.{◌≡◌, ◌++◌, take, flat_map, all_registers, register_value}
 use Rattle.documents.proofs.outcome.Legend.add_thread.Given as goal
 
 -- the items of the registers so far

@@ -1,6 +1,4 @@
-use Rattle.std.proofs.Common.{ℕ, List, [], ◌++◌, get_or, ap, ◌∙◌}
-use Rattle.report.proofs.Joined.{flat_range_more}
-use Rattle.documents.specs.Parts.{thread_values}
+use Rattle.documents.proofs.Vocabulary.{ℕ, List, [], ◌++◌, get_or, ap, ◌∙◌, flat_range_more, thread_values}
 use Rattle.documents.proofs.outcome.Legend.add_threads.Goals as goal
 
 pub loop-thread-preserved : goal.loop-thread-preserved

@@ -1,5 +1,4 @@
-use Rattle.std.proofs.Common.{◌≡◌, ◌++◌}
-use Rattle.documents.specs.Parts.{register_values}
+use Rattle.documents.proofs.Vocabulary.{◌≡◌, ◌++◌, register_values}
 use Rattle.documents.proofs.outcome.Legend.add_threads.Given as goal
 
 -- the items of the threads so far

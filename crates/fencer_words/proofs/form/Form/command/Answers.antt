@@ -1,10 +1,4 @@
-use Rattle.std.proofs.Common.{rules, ◌∙◌, ◌≤◌, List, take, length, ap, sym, subst}
-use Rattle.std.specs.Prelude.{fold}
-use Rattle.std.proofs.lemmas.List.{take_all}
-use Rattle.std.proofs.lemmas.List.Sums.{fold_more}
-use Rattle.clap.specs.Words.{App, new_app}
-use Rattle.fencer_words.specs.CommandLines.{name_of_form, with_parameter}
-use Rattle.fencer_words.specs.Commands.{IsBuiltAs}
+use Rattle.fencer_words.proofs.Vocabulary.{rules, ◌∙◌, ◌≤◌, List, length, ap, sym, subst, fold, take_all, fold_more, App, new_app, name_of_form, with_parameter, IsBuiltAs}
 use Rattle.fencer_words.specs.declared.parameter.Parameter.{Parameter}
 use Rattle.fencer_words.proofs.Rules.{one_argument_more}
 use Rattle.fencer_words.proofs.form.Form.command.Goals as goal

@@ -1,8 +1,4 @@
-use Rattle.std.proofs.Common.{take}
-use Rattle.std.specs.Prelude.{fold}
-use Rattle.clap.specs.Words.{new_app}
-use Rattle.fencer_words.specs.CommandLines.{name_of_form, with_parameter}
-use Rattle.fencer_words.specs.Commands.{IsBuiltAs}
+use Rattle.fencer_words.proofs.Vocabulary.{take, fold, new_app, name_of_form, with_parameter, IsBuiltAs}
 use Rattle.fencer_words.proofs.form.Form.command.Given as goal
 
 -- the command has the parameters so far

@@ -1,4 +1,4 @@
-use Rattle.std.proofs.Common.{sym, ◌∙◌}
+use Rattle.gap_sets.proofs.Vocabulary.{sym, ◌∙◌}
 use Rattle.gap_sets.proofs.CostLimits.{IsCostList-from_no_fault}
 use Rattle.gap_sets.proofs.costs.Costs.new.Goals as goal
 

@@ -1,5 +1,4 @@
-use Rattle.std.proofs.Common.{ap, ◌∙◌, arith}
-use Rattle.gap_sets.specs.Order.{total}
+use Rattle.gap_sets.proofs.Vocabulary.{ap, ◌∙◌, arith, total}
 use Rattle.gap_sets.proofs.Totals.{next-limit, sum-whole, total-limit}
 use Rattle.gap_sets.proofs.costs.Costs.total.Goals as goal
 

@@ -1,5 +1,4 @@
-use Rattle.std.proofs.Common.{◌≡◌, ◌+◌, sum_by}
-use Rattle.gap_sets.proofs.Vocabulary.{numbers_of_set, cost_of}
+use Rattle.gap_sets.proofs.Vocabulary.{◌≡◌, ◌+◌, sum_by, numbers_of_set, cost_of}
 use Rattle.gap_sets.proofs.costs.Costs.total.Given as goal
 
 abbrev pub invariant-loop-gap : goal.invariant-loop-gap

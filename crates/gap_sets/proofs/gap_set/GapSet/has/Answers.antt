@@ -1,5 +1,4 @@
-use Rattle.std.proofs.Common.{◌≡◌, sym, arith}
-use Rattle.gap_sets.proofs.Vocabulary.{bit_at, shr_and_one, bit_at_above, nat_tests, MAX_GAPS}
+use Rattle.gap_sets.proofs.Vocabulary.{◌≡◌, sym, arith, bit_at, shr_and_one, bit_at_above, nat_tests, MAX_GAPS}
 use Rattle.gap_sets.proofs.WordSets.{contains-word}
 use Rattle.gap_sets.proofs.gap_set.GapSet.has.Goals as goal
 

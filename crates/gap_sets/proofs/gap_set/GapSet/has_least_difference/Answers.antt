@@ -1,5 +1,4 @@
-use Rattle.std.proofs.Common.{◌≢◌, ℕ, IsTrue, not, nat_eq, sym, ◌∙◌, arith, eqb-true, eq-eqb}
-use Rattle.gap_sets.proofs.Vocabulary.{w128, trailing_zeros, bit_xor, nat_tests, shr_and_one}
+use Rattle.gap_sets.proofs.Vocabulary.{◌≢◌, ℕ, IsTrue, not, nat_eq, sym, ◌∙◌, arith, eqb-true, eq-eqb, w128, trailing_zeros, bit_xor, nat_tests, shr_and_one}
 use Rattle.gap_sets.proofs.Differences.{lowest_bit-lt, differs_at_lowest, least_from_bit, bit_from_least, words_differ}
 use Rattle.gap_sets.proofs.gap_set.GapSet.has_least_difference.Goals as goal
 

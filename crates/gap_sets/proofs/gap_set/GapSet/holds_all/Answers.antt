@@ -1,10 +1,7 @@
-use Rattle.std.proofs.Common.{ℕ, ◌∙◌, inl, inr, sym}
+use Rattle.gap_sets.proofs.Vocabulary.{ℕ, ◌∙◌, inl, inr, sym, bit_not, w128, bit_and, nat_cmp_total, eqb_tells, false_from_ne_true as not_all}
 use mathlib.Core.Bool.{true≢false}
 use Rattle.std.specs.FinSet as set
-use Rattle.gap_sets.proofs.Vocabulary.{bit_not, w128, bit_and, nat_cmp_total, eqb_tells}
-use Rattle.gap_sets.proofs.WordSets.{contains-word}
-use Rattle.gap_sets.proofs.Words.{within, not_within}
-use Rattle.std.proofs.lemmas.Bool.{false_from_ne_true as not_all}
+use Rattle.gap_sets.proofs.{WordSets.contains-word, Words.within, Words.not_within}
 use Rattle.gap_sets.proofs.gap_set.GapSet.holds_all.Goals as goal
 
 pub returns : goal.returns

@@ -1,7 +1,5 @@
-use Rattle.gap_sets.proofs.Listed.{list_of-rises, list_of-gaps_in}
-use Rattle.gap_sets.proofs.Ranges.{below_end}
-use Rattle.std.proofs.Common.{refl}
-use Rattle.gap_sets.proofs.Vocabulary.{list_of, gaps_of_bits, has_bit, MAX_GAPS}
+use Rattle.gap_sets.proofs.{Listed.list_of-rises, Listed.list_of-gaps_in, Ranges.below_end}
+use Rattle.gap_sets.proofs.Vocabulary.{refl, list_of, gaps_of_bits, has_bit, MAX_GAPS}
 use Rattle.gap_sets.proofs.gap_set.GapSet.iter.Goals as goal
 
 pub returns-clause-value : goal.returns-clause-value

@@ -1,7 +1,6 @@
-use Rattle.std.proofs.Common.{ap, ◌∙◌}
+use Rattle.gap_sets.proofs.Vocabulary.{ap, ◌∙◌}
 use Rattle.std.specs.FinSet as set
-use Rattle.gap_sets.proofs.WordSets.{IsGapSet-word}
-use Rattle.gap_sets.proofs.Counted.{len-gaps_of}
+use Rattle.gap_sets.proofs.{WordSets.IsGapSet-word, Counted.len-gaps_of}
 use Rattle.gap_sets.proofs.gap_set.GapSet.len.Goals as goal
 
 pub returns-clause-value : goal.returns-clause-value

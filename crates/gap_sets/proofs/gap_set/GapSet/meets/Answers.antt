@@ -1,7 +1,5 @@
-use Rattle.std.proofs.Common.{◌≢◌, ℕ, ◌∙◌, sym, arith, IsTrue, not, nat_eq}
-use Rattle.gap_sets.proofs.Vocabulary.{nat_tests, and_le_l}
-use Rattle.gap_sets.proofs.WordSets.{contains-word}
-use Rattle.gap_sets.proofs.Words.{common, no_common}
+use Rattle.gap_sets.proofs.Vocabulary.{◌≢◌, ℕ, ◌∙◌, sym, arith, IsTrue, not, nat_eq, nat_tests, and_le_l}
+use Rattle.gap_sets.proofs.{WordSets.contains-word, Words.common, Words.no_common}
 use Rattle.gap_sets.proofs.gap_set.GapSet.meets.Goals as goal
 
 some : (n : ℕ) → IsTrue (not (nat_eq n 0)) → n ≢ 0

@@ -1,4 +1,4 @@
-use Rattle.std.proofs.Common.{ap, ◌∙◌}
+use Rattle.gap_sets.proofs.Vocabulary.{ap, ◌∙◌}
 use Rattle.std.specs.FinSet as set
 use Rattle.gap_sets.proofs.WordSets.{gaps_of-insert, or_fits}
 use Rattle.gap_sets.proofs.gap_set.GapSet.with.Goals as goal

@@ -1,6 +1,5 @@
-use Rattle.std.proofs.Common.{◌∙◌, ap, sym, arith, length}
+use Rattle.gap_sets.proofs.Vocabulary.{◌∙◌, ap, sym, arith, length, list_of}
 use Rattle.gap_sets.proofs.Listed.{list_of-zero, list_of-first}
-use Rattle.gap_sets.specs.Internal.Bits.{list_of}
 use Rattle.gap_sets.proofs.gap_set.GapsIterator.next.Goals as goal
 
 pub returns-then-self-eq0-clause-steps : goal.returns-then-self-eq0-clause-steps

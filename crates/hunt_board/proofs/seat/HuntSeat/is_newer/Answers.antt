@@ -1,6 +1,5 @@
 use Rattle.hunt_board.proofs.Vocabulary.{true≢false, Option, sym, ap, ◌∙◌, subst, SetOfGaps, SeatView, IfSome, Better}
-use Rattle.hunt_board.specs.declared.seat.Confirmed.{Confirmed}
-use Rattle.hunt_board.specs.Internal.Confirmed.{serving_of, IsKept}
+use Rattle.hunt_board.specs.{declared.seat.Confirmed.Confirmed, Internal.Confirmed.serving_of, Internal.Confirmed.IsKept}
 use Rattle.hunt_board.proofs.seat.HuntSeat.is_newer.Goals as goal
 
 pub returns-in-Some-clause-no : goal.returns-in-Some-clause-no

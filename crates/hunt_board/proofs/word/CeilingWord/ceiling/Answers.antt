@@ -1,5 +1,4 @@
-use Rattle.std.proofs.Common.{◌≤◌, ℕ, List, Option, Some, None, IfSome, subst}
-use Rattle.hunt_board.proofs.Vocabulary.{Question, asked, least_ceiling, goal_of, JumpForward, IsCeiling, problem}
+use Rattle.hunt_board.proofs.Vocabulary.{◌≤◌, ℕ, List, Option, Some, None, IfSome, subst, Question, asked, least_ceiling, goal_of, JumpForward, IsCeiling, problem}
 use Rattle.hunt_board.proofs.word.CeilingWord.ceiling.Goals as goal
 
 -- what isn't below the answer's cost is a ceiling

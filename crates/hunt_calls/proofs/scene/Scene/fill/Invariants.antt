@@ -1,4 +1,4 @@
-use Rattle.hunt_calls.specs.Hunts.{IsSound}
+use Rattle.hunt_calls.proofs.Vocabulary.{IsSound}
 use Rattle.hunt_calls.proofs.scene.Scene.fill.Given as goal
 
 -- what is in hand stays sound

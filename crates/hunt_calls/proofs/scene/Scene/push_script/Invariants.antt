@@ -1,5 +1,4 @@
-use Rattle.std.proofs.Common.{◌≡◌}
-use Rattle.hunt_calls.specs.Hunts.{IsSound}
+use Rattle.hunt_calls.proofs.Vocabulary.{IsSound}
 use Rattle.hunt_calls.proofs.scene.Scene.push_script.Given as goal
 
 -- what is in hand stays sound

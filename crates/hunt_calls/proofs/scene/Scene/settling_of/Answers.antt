@@ -1,5 +1,4 @@
-use Rattle.std.proofs.Common.{ℕ, List, sym, subst}
-use Rattle.search_core.specs.Events.{IsBeatenBy}
+use Rattle.hunt_calls.proofs.Vocabulary.{ℕ, List, subst, IsBeatenBy}
 use Rattle.hunt_calls.proofs.scene.Scene.settling_of.Goals as goal
 
 pub returns-then-is_beaten : goal.returns-then-is_beaten

@@ -1,5 +1,4 @@
-use Rattle.std.proofs.Common.{ℕ, List, [], ◌∷◌, sym, subst}
-use Rattle.json_text.proofs.Vocabulary.{Vec, map-append, bytes_of_each, IsJson, AreJson}
+use Rattle.json_text.proofs.Vocabulary.{ℕ, [], ◌∷◌, sym, subst, Vec, map-append, bytes_of_each, IsJson, AreJson}
 use Rattle.json_text.proofs.Values.{one_more_item}
 use Rattle.json_text.proofs.array.JsonArray.add.Goals as goal
 

@@ -1,6 +1,4 @@
-use Rattle.std.proofs.Common.{◌∙◌, ap}
-use Rattle.json_text.proofs.Vocabulary.{bytes_of_each, Array}
-use Rattle.json_text.specs.Texts.{array_text}
+use Rattle.json_text.proofs.Vocabulary.{◌∙◌, ap, bytes_of_each, Array, array_text}
 use Rattle.json_text.proofs.array.JsonArray.into_json.Goals as goal
 
 pub invariant_of-result : goal.invariant_of-result

@@ -1,5 +1,4 @@
-use Rattle.std.proofs.Common.{subst}
-use Rattle.json_text.proofs.Vocabulary.{IsSafe, IsJson}
+use Rattle.json_text.proofs.Vocabulary.{subst, IsSafe, IsJson}
 use Rattle.json_text.proofs.SafeTexts.{json_is_safe}
 use Rattle.json_text.proofs.json.JsonText.as_bytes.Goals as goal
 

@@ -1,4 +1,4 @@
-use Rattle.json_text.specs.Values.{Null}
+use Rattle.json_text.proofs.Vocabulary.{Null}
 use Rattle.json_text.proofs.json.JsonText.null.Goals as goal
 
 pub invariant_of-result : goal.invariant_of-result

@@ -1,5 +1,4 @@
-use Rattle.std.proofs.Common.{arith}
-use Rattle.json_text.specs.Values.{Number}
+use Rattle.json_text.proofs.Vocabulary.{arith, Number}
 use Rattle.json_text.proofs.json.JsonText.number.Goals as goal
 
 pub invariant_of-result : goal.invariant_of-result

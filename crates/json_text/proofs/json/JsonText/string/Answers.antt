@@ -1,4 +1,4 @@
-use Rattle.json_text.specs.Values.{Text}
+use Rattle.json_text.proofs.Vocabulary.{Text}
 use Rattle.json_text.proofs.json.JsonText.string.Goals as goal
 
 pub invariant_of-result : goal.invariant_of-result

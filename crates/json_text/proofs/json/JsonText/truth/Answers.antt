@@ -1,5 +1,4 @@
-use Rattle.std.proofs.Common.{◌∙◌}
-use Rattle.json_text.specs.Values.{Truth}
+use Rattle.json_text.proofs.Vocabulary.{◌∙◌, Truth}
 use Rattle.json_text.proofs.json.JsonText.truth.Goals as goal
 
 pub invariant_of-result : goal.invariant_of-result

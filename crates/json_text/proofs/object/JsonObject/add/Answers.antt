@@ -1,5 +1,4 @@
-use Rattle.std.proofs.Common.{◌≡◌, ◌∙◌, ℕ, List, [], ◌∷◌, ◌++◌, ap, sym, subst}
-use Rattle.json_text.proofs.Vocabulary.{Vec, map-append, bytes_of_each, member, AreMembers}
+use Rattle.json_text.proofs.Vocabulary.{◌≡◌, ◌∙◌, ℕ, List, [], ◌∷◌, ◌++◌, ap, sym, subst, Vec, map-append, bytes_of_each, member, AreMembers}
 use Rattle.json_text.proofs.Values.{one_more_member}
 use Rattle.json_text.proofs.object.JsonObject.add.Goals as goal
 

@@ -1,5 +1,4 @@
-use Rattle.std.proofs.Common.{ap}
-use Rattle.json_text.proofs.Vocabulary.{bytes_of_each, NoField}
+use Rattle.json_text.proofs.Vocabulary.{ap, bytes_of_each, NoField}
 use Rattle.json_text.proofs.object.JsonObject.new.Goals as goal
 
 pub invariant_of-result : goal.invariant_of-result

@@ -1,7 +1,5 @@
-use Rattle.known_edges.proofs.Vocabulary.{[], ◌∷◌, ◌++◌, arith, view_of, HasCycle, yes, not_by}
-use Rattle.bit_rows.proofs.Written.{connected, are_connected}
-use Rattle.known_edges.proofs.Closed.{main_cycle, pair_closes}
-use Rattle.known_edges.proofs.RowsKept.{pair_main}
+use Rattle.known_edges.proofs.Vocabulary.{[], ◌∷◌, ◌++◌, arith, view_of, HasCycle, yes, not_by, connected, are_connected}
+use Rattle.known_edges.proofs.{Closed.main_cycle, Closed.pair_closes, RowsKept.pair_main}
 use Rattle.known_edges.proofs.edge_rows.EdgeRows.closes_order.Goals as goal
 
 pub returns-then-closes : goal.returns-then-closes

@@ -1,6 +1,5 @@
 use Rattle.known_edges.proofs.Vocabulary.{[], ◌∷◌, ◌++◌, view_of, HasCycle, yes, not_by}
-use Rattle.known_edges.proofs.Closed.{main_cycle, source_closes}
-use Rattle.known_edges.proofs.RowsKept.{source_main}
+use Rattle.known_edges.proofs.{Closed.main_cycle, Closed.source_closes, RowsKept.source_main}
 use Rattle.known_edges.proofs.edge_rows.EdgeRows.closes_source.Goals as goal
 
 pub returns-then-closes_twice : goal.returns-then-closes_twice

@@ -1,5 +1,4 @@
-use Rattle.known_edges.proofs.Vocabulary.{◌↔◌, IsTrue, subst}
-use Rattle.known_edges.specs.Rows.{NumberedTraces, EachEnds}
+use Rattle.known_edges.proofs.Vocabulary.{◌↔◌, IsTrue, subst, NumberedTraces, EachEnds}
 use Rattle.known_edges.proofs.numbered_traces.Traces.is_whole.Goals as goal
 
 pub returns : goal.returns

@@ -1,6 +1,5 @@
 use Rattle.known_edges.proofs.Vocabulary.{length, ap, subst, arith, AllPairs, ComesBefore, NumberedTraces, none_in_zero, ◌∙◌, Some}
-use Rattle.known_edges.proofs.Starts.{row_of_number, same_number}
-use Rattle.known_edges.proofs.Numbered.{contained}
+use Rattle.known_edges.proofs.{Starts.row_of_number, Starts.same_number, Numbered.contained}
 use Rattle.known_edges.proofs.numbered_traces.Traces.row_of.Goals as goal
 
 pub overflow_cast-number : goal.overflow_cast-number

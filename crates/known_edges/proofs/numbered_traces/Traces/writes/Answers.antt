@@ -1,5 +1,4 @@
-use Rattle.known_edges.proofs.Vocabulary.{subst}
-use Rattle.known_edges.specs.Rows.{NumberedTraces, HasWrites}
+use Rattle.known_edges.proofs.Vocabulary.{subst, NumberedTraces, HasWrites}
 use Rattle.known_edges.proofs.numbered_traces.Traces.writes.Goals as goal
 
 pub returns : goal.returns

@@ -1,5 +1,4 @@
-use Rattle.litmus_reader.proofs.Vocabulary.{◌≡◌, [], take, fold}
-use Rattle.litmus_reader.specs.Internal.Filling.{with_label}
+use Rattle.litmus_reader.proofs.Vocabulary.{◌≡◌, [], take, fold, with_label}
 use Rattle.litmus_reader.proofs.jumps.Targets.new.Given as goal
 
 -- the labels so far are added

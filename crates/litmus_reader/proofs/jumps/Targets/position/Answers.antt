@@ -1,6 +1,5 @@
 use Rattle.litmus_reader.proofs.Vocabulary.{ℕ, ap, ◌∙◌, min, unwrap_or, Option, label_in}
-use Rattle.litmus_reader.proofs.NameLaws.{byte_of}
-use Rattle.litmus_reader.proofs.Targets.{mapped_or}
+use Rattle.litmus_reader.proofs.{NameLaws.byte_of, Targets.mapped_or}
 use Rattle.litmus_reader.proofs.jumps.Targets.position.Goals as goal
 
 pub returns : goal.returns

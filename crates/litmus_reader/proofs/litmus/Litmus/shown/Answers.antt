@@ -1,5 +1,4 @@
-use Rattle.litmus_reader.proofs.Vocabulary.{sym, ap, subst, ◌∙◌}
-use Rattle.litmus_reader.specs.Shown.{shown_by, ShowsNamedRegisters, ShowsNamedLocations}
+use Rattle.litmus_reader.proofs.Vocabulary.{sym, ap, subst, ◌∙◌, shown_by, ShowsNamedRegisters, ShowsNamedLocations}
 use Rattle.litmus_reader.proofs.ShownPlaces.{shows_registers, shows_locations}
 use Rattle.litmus_reader.proofs.litmus.Litmus.shown.Goals as goal
 

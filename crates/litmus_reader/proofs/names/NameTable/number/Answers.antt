@@ -1,5 +1,4 @@
-use Rattle.litmus_reader.proofs.Vocabulary.{ℕ, sym, ap, ◌∙◌}
-use Rattle.std.specs.Prelude.{min, unwrap_or, Option}
+use Rattle.litmus_reader.proofs.Vocabulary.{ℕ, sym, ap, ◌∙◌, min, unwrap_or, Option}
 use Rattle.litmus_reader.proofs.NameLaws.{position_texts, byte_of}
 use Rattle.litmus_reader.proofs.names.NameTable.number.Goals as goal
 

@@ -1,4 +1,4 @@
-use Rattle.std.proofs.Common.{refl}
+use Rattle.litmus_syntax.proofs.Vocabulary.{refl}
 use Rattle.litmus_syntax.proofs.SeenLaws.{name_added}
 use Rattle.litmus_syntax.proofs.seen.Seen.add.Goals as goal
 

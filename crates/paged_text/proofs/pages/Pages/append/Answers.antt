@@ -1,4 +1,4 @@
-use Rattle.std.proofs.Common.{List, ℕ, ◌++◌, ap, ◌∙◌}
+use Rattle.std.proofs.Common.{◌++◌, ap, ◌∙◌}
 use Rattle.paged_text.specs.PageTexts.{text_of}
 use Rattle.paged_text.proofs.PageLaws.{text_of_both}
 use Rattle.paged_text.proofs.pages.Pages.append.Goals as goal

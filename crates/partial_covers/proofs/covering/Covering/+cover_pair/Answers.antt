@@ -1,9 +1,7 @@
-use Rattle.std.proofs.Common.{◌≡◌, ◌<◌, ◌≤◌, List, get_or, length, map, subst, arith, rules}
-use Rattle.partial_covers.proofs.Vocabulary.{TraceTree, fold-roll-TraceTree, fold_out-TraceTree, with_root, Traces, Read, traces, trace_node, trace_trees, first_choices, by_number}
+use Rattle.partial_covers.proofs.Vocabulary.{◌≡◌, ◌<◌, ◌≤◌, List, get_or, length, map, subst, arith, rules, TraceTree, fold-roll-TraceTree, fold_out-TraceTree, with_root, Traces, Read, traces}
+use Rattle.partial_covers.proofs.Vocabulary.{trace_node, trace_trees, first_choices, by_number}
 use Rattle.branching.specs.declared.traces.TraceTree.TheViews as views
-use Rattle.partial_covers.proofs.CoveringSteps.{each_none}
-use Rattle.partial_covers.proofs.TraceNodes.{few_here, as_many, child_meets}
-use Rattle.partial_covers.proofs.TraceSteps.{trace_more, trace_all}
+use Rattle.partial_covers.proofs.{CoveringSteps.each_none, TraceNodes.few_here, TraceNodes.as_many, TraceNodes.child_meets, TraceSteps.trace_more, TraceSteps.trace_all}
 use Rattle.partial_covers.proofs.covering.Covering.+cover_pair.Goals as goal
 
 pub push_values-requires : goal.push_values-requires

@@ -1,5 +1,4 @@
-use Rattle.std.proofs.Common.{take}
-use Rattle.partial_covers.proofs.Vocabulary.{with_root, traces, first_choices, CoversEach}
+use Rattle.partial_covers.proofs.Vocabulary.{take, with_root, traces, first_choices, CoversEach}
 use Rattle.partial_covers.proofs.covering.Covering.+cover_traces.Given as goal
 
 -- after the node, the choices so far have their covers

@@ -1,7 +1,4 @@
-use Rattle.std.proofs.Common.{◌+◌, take}
-use Rattle.partial_covers.specs.Coverings.{CoversEach}
-use Rattle.partial_covers.specs.Parts.{AreLeftOf}
-use Rattle.branching.proofs.Rounds.{rounds}
+use Rattle.partial_covers.proofs.Vocabulary.{◌+◌, take, CoversEach, AreLeftOf, rounds}
 use Rattle.partial_covers.proofs.covering.Covering.+cover_values.Given as goal
 
 abbrev pub decreases-cover_values : goal.decreases-cover_values

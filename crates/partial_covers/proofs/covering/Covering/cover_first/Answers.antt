@@ -1,5 +1,4 @@
-use Rattle.std.proofs.Common.{Option, subst}
-use Rattle.partial_covers.proofs.Vocabulary.{MatchOption, IsWhole, mode_in, Plan, IsLast}
+use Rattle.partial_covers.proofs.Vocabulary.{Option, subst, MatchOption, IsWhole, mode_in, Plan, IsLast}
 use Rattle.partial_covers.proofs.CombinedCovers.{before_first}
 use Rattle.partial_covers.proofs.covering.Covering.cover_first.Goals as goal
 

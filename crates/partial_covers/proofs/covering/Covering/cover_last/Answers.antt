@@ -1,7 +1,5 @@
-use Rattle.std.proofs.Common.{subst}
-use Rattle.partial_covers.proofs.Vocabulary.{ProgramSketch, with_root, traces, Covers}
-use Rattle.partial_covers.proofs.CombinedCovers.{at_start}
-use Rattle.partial_covers.proofs.PartialNodes.{on_ok}
+use Rattle.partial_covers.proofs.Vocabulary.{subst, ProgramSketch, with_root, traces, Covers}
+use Rattle.partial_covers.proofs.{CombinedCovers.at_start, PartialNodes.on_ok}
 use Rattle.partial_covers.proofs.covering.Covering.cover_last.Goals as goal
 
 pub returns : goal.returns

@@ -1,6 +1,4 @@
-use Rattle.std.proofs.Common.{◌≡◌, ◌∷◌, [], ◌++◌, ◌∙◌, List, map, refl, subst, arith}
-use Rattle.partial_covers.proofs.Vocabulary.{asked, by_number, Grows, Covers, Item, Has, Lacks, items_before, items_of}
-use Rattle.sketch_covers.specs.Pushing.{BeginsIfNew}
+use Rattle.partial_covers.proofs.Vocabulary.{◌≡◌, ◌∷◌, [], ◌++◌, ◌∙◌, List, map, refl, subst, arith, asked, by_number, Grows, Covers, Item, Has, Lacks, items_before, items_of, BeginsIfNew}
 use Rattle.partial_covers.proofs.PartialNodes.{pushes_closed, pushes_hole, taken_back, on_ok, told_as}
 use Rattle.partial_covers.proofs.covering.Covering.cover_or_hole.Goals as goal
 

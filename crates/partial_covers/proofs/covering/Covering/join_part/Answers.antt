@@ -1,6 +1,4 @@
-use Rattle.std.proofs.Common.{List, refl, sym, subst}
-use Rattle.partial_covers.proofs.Vocabulary.{asked, machine_of_mode, Choice, KnownOutcomes, Open, Grows, AreRunsFor, AreCoversFor, IsMadeAt}
-use Rattle.sketch_covers.proofs.Growing.{grows_none, grows_open}
+use Rattle.partial_covers.proofs.Vocabulary.{List, refl, sym, subst, asked, machine_of_mode, Choice, KnownOutcomes, Open, Grows, AreRunsFor, AreCoversFor, IsMadeAt, grows_none, grows_open}
 use Rattle.partial_covers.proofs.covering.Covering.join_part.Goals as goal
 
 pub join-requires-clause-made : goal.join-requires-clause-made

@@ -1,4 +1,4 @@
-use Rattle.std.proofs.Common.{refl}
+use Rattle.partial_covers.proofs.Vocabulary.{refl}
 use Rattle.partial_covers.proofs.covering.Covering.none.Goals as goal
 
 pub returns-clause-open : goal.returns-clause-open

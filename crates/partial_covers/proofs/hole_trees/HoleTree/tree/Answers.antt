@@ -1,9 +1,5 @@
-use Rattle.std.proofs.Common.{◌≡◌, ◌∙◌, subst}
-use Rattle.partial_covers.proofs.Vocabulary.{asked, Listing, Machine, ProgramSketch, mode_in, after}
-use Rattle.sketch_covers.proofs.Growing.{stops_for}
-use Rattle.partial_covers.specs.HoleTrees.{StopLacks}
-use Rattle.partial_covers.proofs.ChoicesMade.{same_program, same_machine}
-use Rattle.partial_covers.proofs.HoleTrees.{stop_lacks}
+use Rattle.partial_covers.proofs.Vocabulary.{◌≡◌, ◌∙◌, subst, asked, Listing, Machine, ProgramSketch, mode_in, after, stops_for, StopLacks}
+use Rattle.partial_covers.proofs.{ChoicesMade.same_program, ChoicesMade.same_machine, HoleTrees.stop_lacks}
 use Rattle.partial_covers.proofs.hole_trees.HoleTree.tree.Goals as goal
 
 pub returns-in_err-cover_whole-clause-stop : goal.returns-in_err-cover_whole-clause-stop

@@ -1,8 +1,5 @@
-use Rattle.std.proofs.Common.{[], ◌∙◌, sym, subst}
-use Rattle.partial_covers.proofs.Vocabulary.{Shown, asked, KnownOutcomes, Grows, by_number, AreInOrder, runs_found, items_of, PushesPartialAt}
-use Rattle.sketch_covers.proofs.Growing.{grows_twice}
-use Rattle.partial_covers.proofs.CoveringSteps.{grows_from, tree_from}
-use Rattle.partial_covers.proofs.PartsJoined.{own_part, found_in}
+use Rattle.partial_covers.proofs.Vocabulary.{[], ◌∙◌, sym, subst, Shown, asked, KnownOutcomes, Grows, by_number, AreInOrder, runs_found, items_of, PushesPartialAt, grows_twice}
+use Rattle.partial_covers.proofs.{CoveringSteps.grows_from, CoveringSteps.tree_from, PartsJoined.own_part, PartsJoined.found_in}
 use Rattle.partial_covers.proofs.part.Part.cover.Goals as goal
 
 pub cover_values-requires-clause-before : goal.cover_values-requires-clause-before

@@ -1,12 +1,7 @@
-use Rattle.std.proofs.Common.{[], get_or, sym, subst}
+use Rattle.partial_covers.proofs.Vocabulary.{[], get_or, sym, subst, Listing, asked, Grows, by_number, nothing_chosen, items_of, PushesPartialAt, LeadsToWhole, AreFilled, sequential, OnOk, grows_none}
 use Rattle.std.specs.FinSet as set
-use Rattle.partial_covers.proofs.Vocabulary.{Listing, asked, Grows, by_number, nothing_chosen, items_of, PushesPartialAt, LeadsToWhole, AreFilled, sequential}
 use Rattle.tso_machine.specs.declared.mode.Mode.TheVariants as modes
-use Rattle.std.specs.Prelude.{OnOk}
-use Rattle.sketch_covers.proofs.Growing.{grows_none}
-use Rattle.partial_covers.proofs.PartialNodes.{on_both}
-use Rattle.partial_covers.proofs.HolesFilled.{hole_leads}
-use Rattle.partial_covers.proofs.FilledParts.{part_refilled}
+use Rattle.partial_covers.proofs.{PartialNodes.on_both, HolesFilled.hole_leads, FilledParts.part_refilled}
 use Rattle.partial_covers.proofs.part.Part.fill.Goals as goal
 
 pub fill_holes-requires-clause-holes : goal.fill_holes-requires-clause-holes

@@ -1,5 +1,4 @@
-use Rattle.std.proofs.Common.{List, [], ◌∷◌, ◌++◌, map, sym, ap, ◌∙◌, append_assoc}
-use Rattle.partial_covers.specs.PartialCovers.{Item, Has, Lacks, items_of, items_before}
+use Rattle.partial_covers.proofs.Vocabulary.{List, [], ◌∷◌, ◌++◌, map, sym, ap, ◌∙◌, append_assoc, Item, Has, Lacks, items_of, items_before}
 use Rattle.partial_covers.proofs.PartialNodes.{pieces_pushed}
 use Rattle.partial_covers.proofs.partial_cover.PartialCover.append.Goals as goal
 

@@ -1,5 +1,4 @@
-use Rattle.std.proofs.Common.{◌≡◌, ◌++◌}
-use Rattle.partial_covers.specs.PartialCovers.{items_of, items_before}
+use Rattle.partial_covers.proofs.Vocabulary.{◌≡◌, ◌++◌, items_of, items_before}
 use Rattle.partial_covers.proofs.partial_cover.PartialCover.append.Given as goal
 
 -- the pieces so far come after the rest

@@ -1,4 +1,4 @@
-use Rattle.std.proofs.Common.{◌∙◌, ap}
+use Rattle.partial_covers.proofs.Vocabulary.{◌∙◌, ap}
 use Rattle.partial_covers.proofs.PartialNodes.{piece_pushed}
 use Rattle.partial_covers.proofs.partial_cover.PartialCover.push_hole.Goals as goal
 

@@ -1,6 +1,6 @@
-use Rattle.std.proofs.Common.{◌≡◌, ℕ, ◌<◌, ◌↔◌, IsTrue, Bool, true, false, List, ◌++◌, sym, ap, ◌∙◌, subst, arith, length, length-append}
+use Rattle.search_core.proofs.Vocabulary.{◌≡◌, ℕ, ◌<◌, ◌↔◌, IsTrue, Bool, true, false, List, ◌++◌, sym, ap, ◌∙◌, subst, arith, length, length-append, Entry, the_view, SearchState, slice_set}
+use Rattle.search_core.proofs.Vocabulary.{SetOfGaps, Region, Foreign, Split, children, entry, open_entries, Splits, splits, goes_on, DoMeet}
 use Rattle.std.specs.FinSet as set
-use Rattle.search_core.proofs.Vocabulary.{Entry, the_view, SearchState, slice_set, SetOfGaps, Region, Foreign, Split, children, entry, open_entries, Splits, splits, goes_on, DoMeet}
 use Rattle.search_core.proofs.Moves.{seated, holds_nothing, does_hold, held_within, split_event, set_front}
 use Rattle.search_core.proofs.tree.SearchTree.split.Goals as goal
 

@@ -1,6 +1,6 @@
-use Rattle.search_core.proofs.Vocabulary.{◌≡◌, ℕ, true, false, Option, Some, None, sym, ◌∙◌, subst, the_view, SearchState, HoldsNode, HoldsNothing, HoldsOnly, MatchOption, Region, TakesNode, takes, IsReached, goes_on, is_some}
-use Rattle.search_core.proofs.OneNode.{taken_only}
-use Rattle.search_core.proofs.Moves.{seated, open_within, open_gaps, no_open, take_event}
+use Rattle.search_core.proofs.Vocabulary.{◌≡◌, ℕ, true, false, Option, Some, None, sym, ◌∙◌, subst, the_view, SearchState, HoldsNode, HoldsNothing, HoldsOnly, MatchOption, Region, TakesNode, takes}
+use Rattle.search_core.proofs.Vocabulary.{IsReached, goes_on, is_some}
+use Rattle.search_core.proofs.{OneNode.taken_only, Moves.seated, Moves.open_within, Moves.open_gaps, Moves.no_open, Moves.take_event}
 use Rattle.search_core.proofs.tree.SearchTree.take.Goals as goal
 
 some_held : (s : SearchState) (seat : ℕ) (o : Option Region) → is_some o ≡ true → MatchOption o (HoldsNothing s seat) (HoldsOnly s seat) → (n : Region) × HoldsNode s seat n

@@ -1,18 +1,10 @@
-use Rattle.std.proofs.Common.{◌≡◌, ◌∙◌, ◌+◌, ◌<◌, ◌≤◌, ◌++◌, ◌∷◌, [], Bool, List, true, false, Err, get_or, drop, length, refl, sym, ap, subst, arith}
-use Rattle.std.specs.Option.{MatchOption}
-use Rattle.sketch_covers.proofs.Vocabulary.{remove_range, Outcome, asked, ProgramSketch, with_chosen, Node, Cover, tree_of, Choice, sketch_with, MayChoose, IsValidAt, IsLeafAt, IsCoverAt}
-use Rattle.sketch_covers.proofs.Vocabulary.{IsCoverAfter, node_over, by_number, Grows, OnTold}
-use Rattle.sketches.specs.Complete.{IsComplete}
+use Rattle.sketch_covers.proofs.Vocabulary.{◌≡◌, ◌∙◌, ◌+◌, ◌<◌, ◌≤◌, ◌++◌, ◌∷◌, [], Bool, List, true, false, Err, get_or, drop, length, refl, sym, ap, subst, arith, remove_range, Outcome, asked}
+use Rattle.sketch_covers.proofs.Vocabulary.{ProgramSketch, with_chosen, Node, Cover, tree_of, Choice, sketch_with, IsValidAt, IsCoverAt, IsCoverAfter, node_over, by_number, Grows, OnTold, comes_after}
+use Rattle.sketch_covers.proofs.Vocabulary.{Pushes, IsTaken, fewer_rounds}
 use Rattle.cover_judge.specs.declared.choice.Choice.TheVariants as choice
-use Rattle.cover_judge.proofs.SketchesAfter.{comes_after}
-use Rattle.branching.specs.OpenChoices.{IsBranch}
-use Rattle.sketch_covers.specs.Pushing.{Pushes, IfLeaf, IsTaken}
-use Rattle.branching.specs.Accesses.{AreAccessesOf}
-use Rattle.sketch_covers.proofs.Growing.{grows_none, grows_twice, stops_as}
-use Rattle.branching.proofs.Rounds.{rounds, fewer_rounds}
-use Rattle.branching.proofs.NothingLeft.{accesses_after}
-use Rattle.sketch_covers.proofs.Nodes.{cover_next, cover_without, few_choices, leaf_cover}
+use Rattle.sketch_covers.proofs.{Growing.grows_none, Growing.grows_twice, Growing.stops_as, Nodes.cover_next, Nodes.cover_without, Nodes.few_choices}
 use Rattle.sketch_covers.proofs.Covering.{Covering, none_covered, one_covered, all_covered, child_is_tree, child_fits, child_placed, child_is, pushes_as, stays_as}
+use Rattle.branching.proofs.NothingLeft.{accesses_after}
 use Rattle.sketch_covers.proofs.cover.TreeSearch.+cover.Goals as goal
 
 pub cover_after-cover_from-covered-requires : goal.cover_after-cover_from-covered-requires

@@ -1,5 +1,4 @@
-use Rattle.std.proofs.Common.{◌≡◌, ◌+◌, length}
-use Rattle.sketch_covers.proofs.Vocabulary.{asked, node_over, by_number, Grows, rounds}
+use Rattle.sketch_covers.proofs.Vocabulary.{◌≡◌, ◌+◌, length, asked, node_over, by_number, Grows, rounds}
 use Rattle.sketch_covers.proofs.Covering.{Covering}
 use Rattle.sketch_covers.proofs.cover.TreeSearch.+cover.Given as goal
 

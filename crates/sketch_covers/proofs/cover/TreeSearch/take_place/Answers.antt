@@ -1,7 +1,4 @@
-use Rattle.std.proofs.Common.{◌≡◌, ◌≤◌, ◌-◌, List, length, take, drop, ap, sym, ◌∙◌, arith}
-use Rattle.std.proofs.lemmas.List.{length-drop, take_all}
-use Rattle.sketch_covers.proofs.Vocabulary.{Node, tree_of}
-use Rattle.cert_forest.proofs.NodeLaws.{alone}
+use Rattle.sketch_covers.proofs.Vocabulary.{◌≡◌, ◌-◌, length, take, drop, ap, sym, ◌∙◌, arith, length-drop, take_all, tree_of, alone}
 use Rattle.sketch_covers.proofs.cover.TreeSearch.take_place.Goals as goal
 
 pub over-requires : goal.over-requires

@@ -1,8 +1,5 @@
-use Rattle.std.proofs.Common.{IfSome, sym, subst}
-use Rattle.std.specs.Option.{IsSomeAnd}
-use Rattle.sketch_covers.proofs.Vocabulary.{asked, machine_of_mode, IsShownRun, KnownOutcomes, Open, Grows, IsShownRunOf}
-use Rattle.sketch_covers.proofs.Growing.{grows_none, grows_open}
-use Rattle.sketch_covers.proofs.OwnEnds.{numbered_is_listed}
+use Rattle.sketch_covers.proofs.Vocabulary.{IfSome, sym, subst, IsSomeAnd, asked, machine_of_mode, IsShownRun, KnownOutcomes, Open, Grows, IsShownRunOf}
+use Rattle.sketch_covers.proofs.{Growing.grows_none, Growing.grows_open, OwnEnds.numbered_is_listed}
 use Rattle.sketch_covers.proofs.known_outcomes.KnownOutcomes.add.Goals as goal
 
 pub returns-in_ok-add-clause-grows : goal.returns-in_ok-add-clause-grows

@@ -1,7 +1,6 @@
-use Rattle.std.proofs.Common.{◌≡◌, List, [], ◌∷◌, ◌++◌, Some, slice_get, length, sym, ap, ◌∙◌, subst, arith}
-use Rattle.sketch_covers.proofs.Vocabulary.{insert, Outcome, Label, IsShownRun, HasNumber, KeepsNumbers, AreRunsOf, BelongsAt}
-use Rattle.sketch_covers.proofs.Inserted.{zip_insert}
-use Rattle.sketch_covers.proofs.Numbered.{keeps_push, number_push, number_within, number_is, place_within, in_order_added}
+use Rattle.sketch_covers.proofs.Vocabulary.{◌≡◌, List, [], ◌∷◌, ◌++◌, Some, slice_get, length, sym, ap, ◌∙◌, subst, arith, insert, Outcome, Label, IsShownRun, HasNumber, KeepsNumbers, AreRunsOf}
+use Rattle.sketch_covers.proofs.Vocabulary.{BelongsAt}
+use Rattle.sketch_covers.proofs.{Inserted.zip_insert, Numbered.keeps_push, Numbered.number_push, Numbered.number_within, Numbered.number_is, Numbered.place_within, Numbered.in_order_added}
 use Rattle.sketch_covers.proofs.outcome_index.OutcomeIndex.add.Goals as goal
 
 pub index-requires : goal.index-requires

@@ -1,5 +1,4 @@
-use Rattle.std.proofs.Common.{◌≡◌, ℕ, ◌<◌, get_or, length}
-use Rattle.sketch_covers.proofs.Vocabulary.{◌^◌, Outcome, Question, Machine, HasNumber, IsInOrder, KeepsNumbers, AreRunsOf, place_in}
+use Rattle.sketch_covers.proofs.Vocabulary.{◌≡◌, ℕ, ◌<◌, get_or, length, ◌^◌, Outcome, Question, Machine, HasNumber, IsInOrder, KeepsNumbers, AreRunsOf, place_in}
 use Rattle.sketch_covers.proofs.outcome_index.OutcomeIndex.add_all.Given as goal
 
 -- the list has grown, and each outcome of the other so far has its number in it

@@ -1,7 +1,5 @@
-use Rattle.std.proofs.Common.{◌≡◌, List, Some, slice_get, sym, subst, arith}
-use Rattle.sketch_covers.proofs.Vocabulary.{slice_get_within, Outcome, Label, IsShownRun, BelongsAt}
-use Rattle.sketch_covers.proofs.Inserted.{not_there}
-use Rattle.sketch_covers.proofs.RunAt.{run_at}
+use Rattle.sketch_covers.proofs.Vocabulary.{◌≡◌, List, Some, slice_get, sym, subst, arith, slice_get_within, Outcome, Label, IsShownRun, BelongsAt}
+use Rattle.sketch_covers.proofs.{Inserted.not_there, RunAt.run_at}
 use Rattle.sketch_covers.proofs.outcome_index.OutcomeIndex.add_from.Goals as goal
 
 pub unreachable-requires : goal.unreachable-requires

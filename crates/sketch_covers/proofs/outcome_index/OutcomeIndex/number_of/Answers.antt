@@ -1,5 +1,4 @@
-use Rattle.std.proofs.Common.{◌≡◌, List, Some, slice_get, subst, arith}
-use Rattle.sketch_covers.proofs.Vocabulary.{Outcome, BelongsAt}
+use Rattle.sketch_covers.proofs.Vocabulary.{◌≡◌, List, Some, slice_get, subst, arith, Outcome, BelongsAt}
 use Rattle.sketch_covers.proofs.Numbered.{number_within, number_is, not_listed}
 use Rattle.sketch_covers.proofs.outcome_index.OutcomeIndex.number_of.Goals as goal
 

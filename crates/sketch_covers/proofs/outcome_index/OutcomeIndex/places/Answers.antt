@@ -1,8 +1,5 @@
-use Rattle.std.proofs.Common.{◌≡◌, ℕ, ◌+◌, ◌<◌, ◌≤◌, List, Some, slice_get, get_or, length, refl, sym, ap, ◌∙◌, subst, arith}
-use Rattle.std.proofs.lemmas.Option.{slice_get_read, slice_get_within}
-use Rattle.sketch_covers.proofs.Vocabulary.{Outcome, BelongsAt}
-use Rattle.sketch_covers.proofs.Numbered.{push_long, not_listed, places_more}
-use Rattle.sketch_covers.proofs.Numbered.{small_places, small_push}
+use Rattle.sketch_covers.proofs.Vocabulary.{◌≡◌, ℕ, ◌+◌, ◌<◌, ◌≤◌, List, Some, slice_get, get_or, length, refl, sym, ap, ◌∙◌, subst, arith, slice_get_read, slice_get_within, Outcome, BelongsAt}
+use Rattle.sketch_covers.proofs.Numbered.{push_long, not_listed, places_more, small_places, small_push}
 use Rattle.sketch_covers.proofs.outcome_index.OutcomeIndex.places.Goals as goal
 
 pub unreachable-requires : goal.unreachable-requires

@@ -1,5 +1,4 @@
-use Rattle.std.proofs.Common.{◌≡◌, ℕ, ◌<◌, get_or, length}
-use Rattle.sketch_covers.proofs.Vocabulary.{◌^◌, Outcome, HasNumber, place_in}
+use Rattle.sketch_covers.proofs.Vocabulary.{◌≡◌, ℕ, ◌<◌, get_or, length, ◌^◌, Outcome, HasNumber, place_in}
 use Rattle.sketch_covers.proofs.outcome_index.OutcomeIndex.places.Given as goal
 
 -- each outcome so far has its place

@@ -1,4 +1,4 @@
-use Rattle.std.proofs.Common.{ap, length, arith}
+use Rattle.sketches.proofs.Vocabulary.{ap, length, arith}
 use Rattle.sketches.proofs.parts.Parts.accesses.Goals as goal
 
 pub overflow_cast-result : goal.overflow_cast-result

@@ -1,5 +1,4 @@
-use Rattle.std.proofs.Common.{◌∙◌, length, sym, ap, arith}
-use Rattle.sketches.proofs.Vocabulary.{ProgramSketch, trace_in, trace_accesses, no_accesses}
+use Rattle.sketches.proofs.Vocabulary.{◌∙◌, length, sym, ap, arith, ProgramSketch, trace_in, trace_accesses, no_accesses}
 use Rattle.sketches.proofs.parts.Parts.accesses_of.Goals as goal
 
 pub returns-in-Some-clause-value : goal.returns-in-Some-clause-value

@@ -1,4 +1,4 @@
-use Rattle.std.proofs.Common.{◌↔◌, IsTrue, Contains, ap, subst}
+use Rattle.sketches.proofs.Vocabulary.{◌↔◌, IsTrue, Contains, ap, subst}
 use Rattle.sketches.proofs.parts.Parts.before.Goals as goal
 
 pub returns : goal.returns

@@ -1,6 +1,4 @@
-use Rattle.std.proofs.Common.{sym, ◌∙◌}
-use Rattle.known_edges.proofs.KnownParts.{pair_by}
-use Rattle.thread_traces.proofs.KnownParts.{not_by}
+use Rattle.sketches.proofs.Vocabulary.{sym, ◌∙◌, pair_by, not_by}
 use Rattle.sketches.proofs.parts.Parts.is_pair.Goals as goal
 
 pub returns-in-Some-access : goal.returns-in-Some-access

@@ -1,7 +1,5 @@
-use Rattle.std.proofs.Common.{sym, subst}
-use Rattle.sketches.proofs.Vocabulary.{ProgramSketch, mode_in}
+use Rattle.sketches.proofs.Vocabulary.{sym, subst, ProgramSketch, mode_in, whole_ends, ends_whole}
 use Rattle.candidate_executions.specs.Sketches as sketches
-use Rattle.known_edges.proofs.Numbered.{whole_ends, ends_whole}
 use Rattle.sketches.proofs.parts.Parts.is_whole.Goals as goal
 
 pub returns : goal.returns

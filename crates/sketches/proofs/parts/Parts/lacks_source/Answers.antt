@@ -1,5 +1,4 @@
-use Rattle.std.proofs.Common.{◌≡◌, ◌∙◌, ℕ, Bool, true, false, not, IsTrue, List, slice_index, ap, sym, subst}
-use Rattle.sketches.proofs.Vocabulary.{ProgramSketch, LacksSource}
+use Rattle.sketches.proofs.Vocabulary.{◌≡◌, ◌∙◌, ℕ, Bool, true, false, not, IsTrue, List, slice_index, ap, sym, subst, ProgramSketch, LacksSource}
 use Rattle.sketches.proofs.ValuesGiven.{lacks}
 use Rattle.sketches.proofs.parts.Parts.lacks_source.Goals as goal
 

@@ -1,5 +1,4 @@
-use Rattle.std.proofs.Common.{◌∙◌, ◌<◌, IfSome, ap, sym, subst, length}
-use Rattle.sketches.proofs.Vocabulary.{ProgramSketch, mode_in, trace_next, past_next, no_trace}
+use Rattle.sketches.proofs.Vocabulary.{◌∙◌, ◌<◌, IfSome, ap, sym, subst, length, ProgramSketch, mode_in, trace_next, past_next, no_trace}
 use Rattle.candidate_executions.specs.Sketches as sketches
 use Rattle.sketches.proofs.parts.Parts.next_read.Goals as goal
 

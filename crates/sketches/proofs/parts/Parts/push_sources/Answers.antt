@@ -1,7 +1,4 @@
-use Rattle.std.proofs.Common.{◌≡◌, ◌∙◌, ◌+◌, true, false, length, refl, sym, subst}
-use Rattle.std.specs.Global.{Vec}
-use Rattle.sketches.proofs.Vocabulary.{slice_get_read, Event, At, IsSourceOf, ProgramSketch, mode_in, ReadsThisValue}
-use Rattle.sketches.specs.Internal.SourcesListed.{AreListedTo}
+use Rattle.sketches.proofs.Vocabulary.{◌≡◌, ◌∙◌, ◌+◌, true, false, length, refl, sym, subst, Vec, slice_get_read, Event, At, IsSourceOf, ProgramSketch, mode_in, ReadsThisValue, AreListedTo}
 use Rattle.sketches.proofs.SourceLists.{next_thread, unwritten}
 use Rattle.sketches.proofs.parts.Parts.push_sources.Goals as goal
 use Rattle.sketches.proofs.parts.Parts.push_sources.Goals.{then-writes+in_ok-push_sources_in, else-writes}

@@ -1,4 +1,4 @@
-use Rattle.sketches.specs.Internal.SourcesListed.{AreListedTo}
+use Rattle.sketches.proofs.Vocabulary.{AreListedTo}
 use Rattle.sketches.proofs.parts.Parts.push_sources.Given as goal
 
 -- the sources of the threads so far are listed

@@ -1,7 +1,4 @@
-use Rattle.std.proofs.Common.{◌≡◌, ◌∙◌, ◌+◌, true, false, List, None, slice_get, length, get_or, ap, sym, subst, arith}
-use Rattle.std.specs.Global.{Vec}
-use Rattle.sketches.proofs.Vocabulary.{slice_get-get_or, Access, Event}
-use Rattle.sketches.specs.Internal.SourcesListed.{AreListedTo}
+use Rattle.sketches.proofs.Vocabulary.{◌≡◌, ◌∙◌, ◌+◌, true, false, List, None, slice_get, length, get_or, ap, sym, subst, arith, Vec, slice_get-get_or, Access, Event, AreListedTo}
 use Rattle.sketches.proofs.SourceLists.{one_more, passed_over, next_thread, past_gives, unwritten_here}
 use Rattle.sketches.proofs.parts.Parts.push_sources_in.Goals as goal
 use Rattle.sketches.proofs.parts.Parts.push_sources_in.Goals.{then-writes_so+in_ok-push_if_source, else-writes_so}

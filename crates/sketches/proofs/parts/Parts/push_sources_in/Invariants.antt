@@ -1,4 +1,4 @@
-use Rattle.sketches.specs.Internal.SourcesListed.{AreListedTo}
+use Rattle.sketches.proofs.Vocabulary.{AreListedTo}
 use Rattle.sketches.proofs.parts.Parts.push_sources_in.Given as goal
 
 -- the thread's accesses so far are listed

@@ -1,7 +1,4 @@
-use Rattle.std.proofs.Common.{sym, ◌∙◌, subst}
-use Rattle.std.proofs.lemmas.Option.{same_Some, none-some}
-use Rattle.candidate_executions.specs.Sketches.{KnownFromReads, IsBefore}
-use Rattle.thread_traces.proofs.KnownParts.{no, not_by}
+use Rattle.sketches.proofs.Vocabulary.{sym, ◌∙◌, subst, same_Some, none-some, KnownFromReads, IsBefore, no, not_by}
 use Rattle.sketches.proofs.parts.Parts.reads_before.Goals as goal
 
 pub returns-in-None : goal.returns-in-None

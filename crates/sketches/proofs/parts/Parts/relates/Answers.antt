@@ -1,6 +1,4 @@
-use Rattle.std.proofs.Common.{inl, inr}
-use Rattle.sketches.proofs.Vocabulary.{KnownRelates, yes, not_by}
-use Rattle.known_edges.proofs.KnownParts.{to_relates, last_part}
+use Rattle.sketches.proofs.Vocabulary.{inl, inr, KnownRelates, yes, not_by, to_relates, last_part}
 use Rattle.sketches.proofs.parts.Parts.relates.Goals as goal
 
 pub returns-then-keeps_order : goal.returns-then-keeps_order

@@ -1,6 +1,4 @@
-use Rattle.std.proofs.Common.{◌≡◌, ◌↔◌, Some, Contains, get_or, ap, subst}
-use Rattle.sketches.proofs.Vocabulary.{Event, Initial}
-use Rattle.known_edges.proofs.Chosen.{once, found_source}
+use Rattle.sketches.proofs.Vocabulary.{◌≡◌, ◌↔◌, Some, Contains, get_or, ap, subst, Event, Initial, once, found_source}
 use Rattle.sketches.proofs.parts.Parts.source.Goals as goal
 
 pub returns-then-is_same : goal.returns-then-is_same

@@ -1,5 +1,4 @@
-use Rattle.std.proofs.Common.{◌≡◌, ℕ, ◌<◌, get_or}
-use Rattle.candidate_executions.specs.declared.event.Event.{Event}
+use Rattle.sketches.proofs.Vocabulary.{◌≡◌, ℕ, ◌<◌, get_or, Event}
 use Rattle.sketches.proofs.parts.Parts.source.Given as goal
 
 -- none of the chosen sources so far is this read's

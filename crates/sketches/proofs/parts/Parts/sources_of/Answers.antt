@@ -1,7 +1,4 @@
-use Rattle.std.proofs.Common.{◌≡◌, ◌∙◌, ◌≤◌, ℕ, [], Option, IsSome, length, refl, sym, ap, subst, arith}
-use Rattle.std.proofs.lemmas.Option.{slice_get_past}
-use Rattle.sketches.proofs.Vocabulary.{ProgramSketch, trace_in, ReadsThisValue, IsRead, no_accesses}
-use Rattle.candidate_executions.specs.declared.event.Event.{Event}
+use Rattle.sketches.proofs.Vocabulary.{◌≡◌, ◌∙◌, ◌≤◌, ℕ, [], Option, IsSome, length, refl, sym, ap, subst, arith, slice_get_past, ProgramSketch, trace_in, ReadsThisValue, IsRead, no_accesses, Event}
 use Rattle.sketches.proofs.SourceLists.{first_listed, all_listed}
 use Rattle.sketches.proofs.parts.Parts.sources_of.Goals as goal
 

@@ -1,6 +1,4 @@
-use Rattle.std.proofs.Common.{List, sym, subst}
-use Rattle.sketches.proofs.Vocabulary.{Event, ProgramSketch, KeepsTraces, MayRead}
-use Rattle.known_edges.proofs.Chosen.{source_kept}
+use Rattle.sketches.proofs.Vocabulary.{List, sym, subst, Event, ProgramSketch, KeepsTraces, MayRead, source_kept}
 use Rattle.sketches.proofs.rowless_sketch.RowlessSketch.choose_source.Goals as goal
 
 pub invariant_of-self-2 : goal.invariant_of-self-2

@@ -1,7 +1,4 @@
-use Rattle.std.proofs.Common.{◌≡◌, ◌∙◌, ◌<◌, ◌++◌, ◌∷◌, [], List, length, vec_len, ap, subst, arith}
-use Rattle.std.specs.Prelude.{option_to_list}
-use Rattle.std.proofs.lemmas.List.{length_push}
-use Rattle.sketches.proofs.Vocabulary.{Event, ProgramSketch, KeepsTraces, view_of}
+use Rattle.sketches.proofs.Vocabulary.{◌≡◌, ◌∙◌, ◌<◌, ◌++◌, ◌∷◌, [], List, length, vec_len, ap, subst, arith, option_to_list, length_push, Event, ProgramSketch, KeepsTraces, view_of}
 use Rattle.sketches.proofs.ChoicesDropped.{fewer_sources, last_dropped}
 use Rattle.sketches.proofs.rowless_sketch.RowlessSketch.drop_source.Goals as goal
 

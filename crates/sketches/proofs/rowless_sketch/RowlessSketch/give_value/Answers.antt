@@ -1,5 +1,5 @@
-use Rattle.std.proofs.Common.{◌≡◌, ◌∙◌, ap, sym, subst, length, List, [], Some, IsSome, get_or, set, refl, ℕ}
-use Rattle.sketches.proofs.Vocabulary.{slice_get_read, Event, IsValueOf, ThreadTrace, ProgramSketch, mode_in, with_chosen, view_of, KeepsTraces, MarkedThread, IsValueMarkOf, reads_there, more_kept, more_parts}
+use Rattle.sketches.proofs.Vocabulary.{◌≡◌, ◌∙◌, ap, sym, subst, length, List, [], Some, IsSome, get_or, set, refl, ℕ, slice_get_read, Event, IsValueOf, ThreadTrace, ProgramSketch, mode_in}
+use Rattle.sketches.proofs.Vocabulary.{with_chosen, view_of, KeepsTraces, MarkedThread, IsValueMarkOf, reads_there, more_kept, more_parts}
 use Rattle.candidate_executions.specs.Sketches as sketches
 use Rattle.sketches.proofs.ChoicesDropped.{no_sources, no_pairs}
 use Rattle.sketches.proofs.rowless_sketch.RowlessSketch.give_value.Goals as goal

@@ -1,7 +1,4 @@
-use Rattle.std.proofs.Common.{◌∙◌, List, ap, sym, subst}
-use Rattle.sketches.proofs.Vocabulary.{arc_value, Listing, Event, ThreadTrace, ProgramSketch, NumberedTraces, KeepsTraces}
-use Rattle.thread_traces.proofs.ValuesGiven.{none_known}
-use Rattle.sketches.specs.RowlessSketches.{AreSomeLists}
+use Rattle.sketches.proofs.Vocabulary.{◌∙◌, List, ap, sym, subst, arc_value, Listing, Event, ThreadTrace, ProgramSketch, NumberedTraces, KeepsTraces, none_known, AreSomeLists}
 use Rattle.sketches.proofs.rowless_sketch.RowlessSketch.of.Goals as goal
 
 pub invariant_of-result : goal.invariant_of-result

@@ -1,5 +1,4 @@
-use Rattle.std.proofs.Common.{◌∙◌, List, [], sym, subst}
-use Rattle.sketches.proofs.Vocabulary.{ThreadTrace, KeepsTraces}
+use Rattle.sketches.proofs.Vocabulary.{◌∙◌, List, [], sym, subst, ThreadTrace, KeepsTraces}
 use Rattle.sketches.proofs.ChoicesDropped.{fewer_sources, fewer_pairs}
 use Rattle.sketches.proofs.rowless_sketch.RowlessSketch.sketch.Goals as goal
 

@@ -1,5 +1,4 @@
-use Rattle.std.proofs.Common.{◌≡◌, ◌∙◌, sym, subst}
-use Rattle.sketches.proofs.Vocabulary.{with_chosen, MarkedThread, IsValueMarkOf}
+use Rattle.sketches.proofs.Vocabulary.{◌≡◌, ◌∙◌, sym, subst, with_chosen, MarkedThread, IsValueMarkOf}
 use Rattle.candidate_executions.specs.Sketches as sketches
 use Rattle.sketches.proofs.ValuesGiven.{taken_kept, taken_parts}
 use Rattle.sketches.proofs.rowless_sketch.RowlessSketch.take_back.Goals as goal

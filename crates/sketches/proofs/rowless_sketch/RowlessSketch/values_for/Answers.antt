@@ -1,7 +1,6 @@
-use Rattle.std.proofs.Common.{◌≡◌, ◌∙◌, ◌↔◌, ◌<◌, ℕ, List, Some, Contains, slice_get, length, get_or, refl, sym, ap, subst, arith}
-use Rattle.std.specs.Prelude.{Result, Ok, Err, IfOk}
+use Rattle.sketches.proofs.Vocabulary.{◌≡◌, ◌∙◌, ◌↔◌, ◌<◌, ℕ, List, Some, Contains, slice_get, length, get_or, refl, sym, ap, subst, arith, Result, Ok, Err, IfOk, slice_get_read, Listing, IsValueOf}
+use Rattle.sketches.proofs.Vocabulary.{ProgramSketch}
 use Rattle.std.specs.List.Sorted.{IsStrictlyIncreasing}
-use Rattle.sketches.proofs.Vocabulary.{slice_get_read, Listing, IsValueOf, ProgramSketch}
 use Rattle.thread_traces.specs.ValueLists.{AreValueLists, IsValueList}
 use Rattle.sketches.proofs.rowless_sketch.RowlessSketch.values_for.Goals as goal
 

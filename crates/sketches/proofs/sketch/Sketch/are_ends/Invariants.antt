@@ -1,5 +1,4 @@
-use Rattle.std.proofs.Common.{ℕ, ◌<◌}
-use Rattle.sketches.proofs.Vocabulary.{slice_index, EndsSo}
+use Rattle.sketches.proofs.Vocabulary.{ℕ, ◌<◌, slice_index, EndsSo}
 use Rattle.sketches.proofs.sketch.Sketch.are_ends.Given as goal
 
 -- the locations so far end so

@@ -1,5 +1,4 @@
-use Rattle.std.proofs.Common.{List, [], ◌∷◌, ◌++◌, sym, subst}
-use Rattle.sketches.proofs.Vocabulary.{arc_value, Listing, Event, ProgramSketch, view_of, MayFollow, NumberedTraces, IsRepresented}
+use Rattle.sketches.proofs.Vocabulary.{List, [], ◌∷◌, ◌++◌, sym, subst, arc_value, Listing, Event, ProgramSketch, view_of, MayFollow, NumberedTraces, IsRepresented}
 use Rattle.sketches.proofs.sketch.Sketch.choose_order.Goals as goal
 
 pub invariant_of-self-in-None : goal.invariant_of-self-in-None

@@ -1,6 +1,5 @@
-use Rattle.std.proofs.Common.{IsTrue, ◌↔◌, List, [], ◌∷◌, ◌++◌, sym, subst}
-use Rattle.sketches.proofs.Vocabulary.{arc_value, Listing, Event, ProgramSketch, with_chosen, view_of, MayFollow, NumberedTraces, IsRepresented, HasCycle}
-use Rattle.candidate_executions.specs.Sketches.{with_pair}
+use Rattle.sketches.proofs.Vocabulary.{IsTrue, ◌↔◌, List, [], ◌∷◌, ◌++◌, sym, subst, arc_value, Listing, Event, ProgramSketch, with_chosen, view_of, MayFollow, NumberedTraces, IsRepresented, HasCycle}
+use Rattle.sketches.proofs.Vocabulary.{with_pair}
 use Rattle.sketches.proofs.sketch.Sketch.closes_order.Goals as goal
 
 pub returns : goal.returns

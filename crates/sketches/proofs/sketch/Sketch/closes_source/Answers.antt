@@ -1,6 +1,4 @@
-use Rattle.std.proofs.Common.{IsTrue, ◌↔◌, List, [], ◌∷◌, ◌++◌, sym, subst}
-use Rattle.sketches.proofs.Vocabulary.{Listing, Event, ProgramSketch, with_chosen, view_of, MayRead, NumberedTraces, IsRepresented, HasCycle}
-use Rattle.candidate_executions.specs.Sketches.{with_source}
+use Rattle.sketches.proofs.Vocabulary.{IsTrue, ◌↔◌, List, [], ◌∷◌, ◌++◌, sym, subst, Listing, Event, ProgramSketch, with_chosen, view_of, MayRead, NumberedTraces, IsRepresented, HasCycle, with_source}
 use Rattle.sketches.proofs.sketch.Sketch.closes_source.Goals as goal
 
 pub returns : goal.returns

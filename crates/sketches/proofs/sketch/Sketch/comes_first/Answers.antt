@@ -1,6 +1,4 @@
-use Rattle.std.proofs.Common.{◌↔◌, IsTrue, subst}
-use Rattle.sketches.proofs.Vocabulary.{ProgramSketch, mode_in}
-use Rattle.candidate_executions.specs.Sketches.{KnownEdge}
+use Rattle.sketches.proofs.Vocabulary.{◌↔◌, IsTrue, subst, ProgramSketch, mode_in, KnownEdge}
 use Rattle.sketches.proofs.sketch.Sketch.comes_first.Goals as goal
 
 pub returns : goal.returns

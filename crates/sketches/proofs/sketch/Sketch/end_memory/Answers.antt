@@ -1,4 +1,4 @@
-use Rattle.std.proofs.Common.{rules}
+use Rattle.sketches.proofs.Vocabulary.{rules}
 use Rattle.sketches.proofs.Ends.{ends_more}
 use Rattle.sketches.proofs.sketch.Sketch.end_memory.Goals as goal
 

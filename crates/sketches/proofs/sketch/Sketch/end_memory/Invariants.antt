@@ -1,5 +1,4 @@
-use Rattle.std.proofs.Common.{◌≡◌, ℕ, ◌<◌, length}
-use Rattle.sketches.proofs.Vocabulary.{slice_index, EndsSo}
+use Rattle.sketches.proofs.Vocabulary.{◌≡◌, ℕ, ◌<◌, length, slice_index, EndsSo}
 use Rattle.sketches.proofs.sketch.Sketch.end_memory.Given as goal
 
 -- the ends of the locations so far

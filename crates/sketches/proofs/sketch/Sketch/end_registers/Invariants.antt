@@ -1,5 +1,4 @@
-use Rattle.std.proofs.Common.{◌≡◌, ℕ, ◌<◌, [], get_or, length}
-use Rattle.sketches.proofs.Vocabulary.{shown_registers, trace_in}
+use Rattle.sketches.proofs.Vocabulary.{◌≡◌, ℕ, ◌<◌, [], get_or, length, shown_registers, trace_in}
 use Rattle.sketches.proofs.sketch.Sketch.end_registers.Given as goal
 
 -- what is shown of the registers of the threads so far

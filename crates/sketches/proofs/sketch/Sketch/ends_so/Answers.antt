@@ -1,5 +1,4 @@
-use Rattle.std.proofs.Common.{◌≡◌, ℕ}
-use Rattle.sketches.proofs.Vocabulary.{◌==◌, IsLastWith, no}
+use Rattle.sketches.proofs.Vocabulary.{◌≡◌, ℕ, ◌==◌, IsLastWith, no}
 use Rattle.sketches.proofs.sketch.Sketch.ends_so.Goals as goal
 
 pub returns-in-None : goal.returns-in-None

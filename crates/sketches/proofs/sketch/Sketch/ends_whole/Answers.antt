@@ -1,4 +1,4 @@
-use Rattle.std.proofs.Common.{◌≡◌, ◌∙◌, true, false, sym}
+use Rattle.sketches.proofs.Vocabulary.{◌≡◌, ◌∙◌, true, false, sym}
 use Rattle.sketches.proofs.sketch.Sketch.ends_whole.Goals as goal
 
 pub returns-then-not-is_whole : goal.returns-then-not-is_whole

@@ -1,5 +1,4 @@
-use Rattle.std.proofs.Common.{subst}
-use Rattle.sketches.proofs.Vocabulary.{IfOk-weaker, ProgramSketch, IsLawful}
+use Rattle.sketches.proofs.Vocabulary.{subst, IfOk-weaker, ProgramSketch, IsLawful}
 use Rattle.sketches.proofs.Found.{some_few}
 use Rattle.sketches.proofs.sketch.Sketch.find_cycle.Goals as goal
 

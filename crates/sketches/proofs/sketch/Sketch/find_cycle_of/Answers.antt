@@ -1,7 +1,5 @@
-use Rattle.std.proofs.Common.{◌∙◌, List, ap, sym, subst}
-use Rattle.sketches.proofs.Vocabulary.{arc_value, Event, KnownEdgeOfMode, NumberedTraces, mode_in, HasCycle, not_by}
+use Rattle.sketches.proofs.Vocabulary.{◌∙◌, List, ap, sym, subst, arc_value, Event, KnownEdgeOfMode, NumberedTraces, mode_in, HasCycle, not_by, on_err_by}
 use Rattle.known_edges.specs.Rounds.{HaveEvents, IsRound}
-use Rattle.known_edges.proofs.Lookups.{on_err_by}
 use Rattle.known_edges.proofs.Rounds.{cycle_up, have_events, round_cycle, known_rows, no_round_no_cycle}
 use Rattle.sketches.proofs.sketch.Sketch.find_cycle_of.Goals as goal
 

@@ -1,7 +1,4 @@
-use Rattle.std.proofs.Common.{◌∙◌, sym, ap}
-use Rattle.sketches.proofs.Vocabulary.{MatchOption-at_none, IfOk-weaker, ProgramSketch}
-use Rattle.known_edges.proofs.Lookups.{none_by}
-use Rattle.known_edges.proofs.Found.{none_sequential, none_fenced}
+use Rattle.sketches.proofs.Vocabulary.{◌∙◌, sym, ap, MatchOption-at_none, IfOk-weaker, ProgramSketch, none_by, none_sequential, none_fenced}
 use Rattle.sketches.proofs.sketch.Sketch.first_cycle.Goals as goal
 
 pub returns-in-Sequential-clause-cycle : goal.returns-in-Sequential-clause-cycle

@@ -1,8 +1,5 @@
-use Rattle.std.proofs.Common.{◌≡◌, List, ℕ, Some, slice_get, ap, sym, subst}
-use Rattle.sketches.proofs.Vocabulary.{arc_value, Event, Kind, IsOfMode, KnownEdgeOfMode, ProgramSketch, mode_in, view_of}
-use Rattle.bit_rows.specs.Rows.{RowHas}
-use Rattle.known_edges.specs.Rows.{NumberedTraces, union_rows}
-use Rattle.known_edges.proofs.Numbered.{at_numbers, rows_of_kind}
+use Rattle.sketches.proofs.Vocabulary.{◌≡◌, List, ℕ, Some, slice_get, ap, sym, subst, arc_value, Event, Kind, IsOfMode, KnownEdgeOfMode, ProgramSketch, mode_in, view_of, RowHas, NumberedTraces}
+use Rattle.sketches.proofs.Vocabulary.{union_rows, at_numbers, rows_of_kind}
 use Rattle.sketches.proofs.sketch.Sketch.has_edge.Goals as goal
 
 pub returns-in-Some-Some : goal.returns-in-Some-Some

@@ -1,5 +1,4 @@
-use Rattle.std.proofs.Common.{◌≡◌, ◌∙◌, ap, length, sym, arith}
-use Rattle.sketches.proofs.Vocabulary.{shown_registers, show_registers, final_registers, yes, no, not_by}
+use Rattle.sketches.proofs.Vocabulary.{◌≡◌, ◌∙◌, ap, length, sym, arith, shown_registers, show_registers, final_registers, yes, no, not_by}
 use Rattle.sketches.proofs.Ends.{registers_shown, registers_at, registers_long}
 use Rattle.sketches.proofs.sketch.Sketch.has_registers.Goals as goal
 

@@ -1,5 +1,4 @@
-use Rattle.std.proofs.Common.{◌≡◌, ℕ, ◌<◌, [], get_or}
-use Rattle.sketches.proofs.Vocabulary.{shown_registers, trace_in}
+use Rattle.sketches.proofs.Vocabulary.{◌≡◌, ℕ, ◌<◌, [], get_or, shown_registers, trace_in}
 use Rattle.sketches.proofs.sketch.Sketch.has_registers.Given as goal
 
 -- the registers of the threads so far are shown of those where they stop

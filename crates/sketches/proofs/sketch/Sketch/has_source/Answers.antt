@@ -1,4 +1,4 @@
-use Rattle.known_edges.proofs.Chosen.{has_source_by}
+use Rattle.sketches.proofs.Vocabulary.{has_source_by}
 use Rattle.sketches.proofs.sketch.Sketch.has_source.Goals as goal
 
 pub returns : goal.returns

@@ -1,5 +1,4 @@
-use Rattle.std.proofs.Common.{subst}
-use Rattle.sketches.proofs.Vocabulary.{ProgramSketch, IsLawful, cycle_of_accesses}
+use Rattle.sketches.proofs.Vocabulary.{subst, ProgramSketch, IsLawful, cycle_of_accesses}
 use Rattle.sketches.proofs.Cycles.{cycle_refutes}
 use Rattle.sketches.proofs.sketch.Sketch.is_cycle.Goals as goal
 

@@ -1,5 +1,4 @@
-use Rattle.std.proofs.Common.{subst}
-use Rattle.sketches.proofs.Vocabulary.{ProgramSketch, IsLawful}
+use Rattle.sketches.proofs.Vocabulary.{subst, ProgramSketch, IsLawful}
 use Rattle.sketches.proofs.Cycles.{edge_of_each}
 use Rattle.sketches.proofs.sketch.Sketch.is_edge.Goals as goal
 

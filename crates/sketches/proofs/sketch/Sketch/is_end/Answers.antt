@@ -1,7 +1,4 @@
-use Rattle.std.proofs.Common.{◌∙◌, List, ℕ, ap, sym, subst}
-use Rattle.std.specs.Prelude.{nat_eq, slice_index}
-use Rattle.std.proofs.lemmas.Bool.{eqb-true, eq-eqb}
-use Rattle.sketches.proofs.Vocabulary.{shown_value, ProgramSketch, IsLawful}
+use Rattle.sketches.proofs.Vocabulary.{◌∙◌, List, ℕ, ap, sym, subst, nat_eq, slice_index, eqb-true, eq-eqb, shown_value, ProgramSketch, IsLawful}
 use Rattle.sketches.proofs.LastValues.{kept_test, initial_ends, written_ends}
 use Rattle.sketches.proofs.sketch.Sketch.is_end.Goals as goal
 

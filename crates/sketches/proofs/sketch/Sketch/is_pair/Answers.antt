@@ -1,6 +1,4 @@
-use Rattle.std.proofs.Common.{◌↔◌, IsTrue, subst}
-use Rattle.sketches.proofs.Vocabulary.{ProgramSketch, mode_in}
-use Rattle.candidate_executions.specs.Sketches.{IsPair}
+use Rattle.sketches.proofs.Vocabulary.{◌↔◌, IsTrue, subst, ProgramSketch, mode_in, IsPair}
 use Rattle.sketches.proofs.sketch.Sketch.is_pair.Goals as goal
 
 pub returns : goal.returns

@@ -1,6 +1,5 @@
-use Rattle.std.proofs.Common.{◌≡◌, ◌↔◌, ◌∙◌, ℕ, Bool, false, Option, Some, None, IsSome, refl, IsTrue, slice_get, ap, sym, subst}
-use Rattle.std.specs.Prelude.{is_some}
-use Rattle.sketches.proofs.Vocabulary.{arc_value, ProgramSketch, mode_in, NumberedTraces, trace_next, past_next, no_trace}
+use Rattle.sketches.proofs.Vocabulary.{◌≡◌, ◌↔◌, ◌∙◌, ℕ, Bool, false, Option, Some, None, IsSome, refl, IsTrue, slice_get, ap, sym, subst, is_some, arc_value, ProgramSketch, mode_in, NumberedTraces}
+use Rattle.sketches.proofs.Vocabulary.{trace_next, past_next, no_trace}
 use Rattle.candidate_executions.specs.Sketches as sketches
 use Rattle.sketches.proofs.sketch.Sketch.is_reading.Goals as goal
 

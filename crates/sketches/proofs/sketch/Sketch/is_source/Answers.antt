@@ -1,6 +1,4 @@
-use Rattle.std.proofs.Common.{◌↔◌, IsTrue, subst}
-use Rattle.sketches.proofs.Vocabulary.{ProgramSketch, mode_in}
-use Rattle.candidate_executions.specs.Sketches.{IsSourceOf}
+use Rattle.sketches.proofs.Vocabulary.{◌↔◌, IsTrue, subst, ProgramSketch, mode_in, IsSourceOf}
 use Rattle.sketches.proofs.sketch.Sketch.is_source.Goals as goal
 
 pub returns : goal.returns

@@ -1,7 +1,5 @@
-use Rattle.std.proofs.Common.{sym, subst}
-use Rattle.sketches.proofs.Vocabulary.{arc_value, ProgramSketch, mode_in, NumberedTraces, EachEnds}
+use Rattle.sketches.proofs.Vocabulary.{sym, subst, arc_value, ProgramSketch, mode_in, NumberedTraces, EachEnds, whole_ends, ends_whole}
 use Rattle.candidate_executions.specs.Sketches as sketches
-use Rattle.known_edges.proofs.Numbered.{whole_ends, ends_whole}
 use Rattle.sketches.proofs.sketch.Sketch.is_whole.Goals as goal
 
 pub returns : goal.returns

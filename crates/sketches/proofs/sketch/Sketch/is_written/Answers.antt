@@ -1,6 +1,4 @@
-use Rattle.std.proofs.Common.{◌↔◌, IsTrue, sym, subst}
-use Rattle.sketches.proofs.Vocabulary.{arc_value, IsWhole, ProgramSketch, mode_in, IsWritten, NumberedTraces, IsRowOf, IsWriteAt}
-use Rattle.known_edges.proofs.Numbered.{written_test}
+use Rattle.sketches.proofs.Vocabulary.{◌↔◌, IsTrue, sym, subst, arc_value, IsWhole, ProgramSketch, mode_in, IsWritten, NumberedTraces, IsRowOf, IsWriteAt, written_test}
 use Rattle.sketches.proofs.sketch.Sketch.is_written.Goals as goal
 
 pub returns-then-is_whole : goal.returns-then-is_whole

@@ -1,5 +1,4 @@
-use Rattle.std.proofs.Common.{ap, length, arith}
-use Rattle.sketches.proofs.Vocabulary.{IsWritten, IsWrittenBy, each_index, no, not_by}
+use Rattle.sketches.proofs.Vocabulary.{ap, length, arith, IsWritten, IsWrittenBy, each_index, no, not_by}
 use Rattle.sketches.proofs.Ends.{thread_within}
 use Rattle.sketches.proofs.sketch.Sketch.is_written_by_any.Goals as goal
 

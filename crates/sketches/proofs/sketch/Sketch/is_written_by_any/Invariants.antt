@@ -1,5 +1,4 @@
-use Rattle.std.proofs.Common.{ℕ, ◌<◌}
-use Rattle.known_edges.specs.Writes.{IsWrittenBy}
+use Rattle.sketches.proofs.Vocabulary.{ℕ, ◌<◌, IsWrittenBy}
 use Rattle.sketches.proofs.sketch.Sketch.is_written_by_any.Given as goal
 
 -- none of the threads so far writes the location

@@ -1,5 +1,4 @@
-use Rattle.std.proofs.Common.{◌≡◌, ◌∙◌, ℕ, true, false, ◌++◌, ◌∷◌, [], None, Some, Contains, ap, sym, subst}
-use Rattle.sketches.proofs.Vocabulary.{IfSome, slice_index_or, slice_set, AreLastValues}
+use Rattle.sketches.proofs.Vocabulary.{◌≡◌, ◌∙◌, ℕ, true, false, ◌++◌, ◌∷◌, [], None, Some, Contains, ap, sym, subst, IfSome, slice_index_or, slice_set, AreLastValues}
 use Rattle.sketches.proofs.LastValues.{values_same, values_more, values_differ}
 use Rattle.sketches.proofs.sketch.Sketch.keep_last.Goals as goal
 

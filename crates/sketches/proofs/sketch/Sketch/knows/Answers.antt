@@ -1,10 +1,8 @@
-use Rattle.std.proofs.Common.{◌≡◌, ◌∙◌, [], false, refl, sym, ap, subst}
-use Rattle.sketches.proofs.Vocabulary.{Atom, Tree, Knows, Knowledge}
+use Rattle.sketches.proofs.Vocabulary.{◌≡◌, ◌∙◌, [], false, refl, sym, ap, subst, Atom, Tree, Knows, Knowledge, formula_tree, tree_again}
 use Rattle.tso_program.specs.declared.atom.Atom.TheVariants as atom
-use Rattle.tso_program.specs.declared.instruction.Reg.TheVariants.{Eax}
+use Rattle.tso_program.specs.declared.instruction.Reg.{TheVariants.Eax}
 use Rattle.tso_program.specs.declared.node.Node.TheVariants as node
 use Rattle.tso_program.specs.Tree as tree
-use Rattle.tso_program.specs.Nodes.{formula_tree, tree_again}
 use Rattle.sketches.proofs.Known.{knows_const, walk_on, walked}
 use Rattle.sketches.proofs.sketch.Sketch.knows.Goals as goal
 

@@ -1,6 +1,4 @@
-use Rattle.std.proofs.Common.{◌≡◌, List, drop}
-use Rattle.sketches.proofs.Vocabulary.{Atom, Tree, Half, build, formula_tree}
-use Rattle.sketches.specs.Internal.KnownWalk.{KnowsAll}
+use Rattle.sketches.proofs.Vocabulary.{◌≡◌, List, drop, Atom, Tree, Half, build, formula_tree, KnowsAll}
 use Rattle.sketches.proofs.sketch.Sketch.knows.Given as goal
 
 -- what is known of the part that was read last, and of the left operands that wait; the nodes that are left make the formula of them

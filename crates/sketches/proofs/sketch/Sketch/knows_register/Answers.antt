@@ -1,5 +1,4 @@
-use Rattle.std.proofs.Common.{◌≡◌, ◌∙◌, sym, subst, true, false}
-use Rattle.sketches.proofs.Vocabulary.{Knowledge, Knows}
+use Rattle.sketches.proofs.Vocabulary.{◌≡◌, ◌∙◌, sym, subst, true, false, Knowledge, Knows}
 use Rattle.tso_program.specs.declared.atom.Atom.TheVariants as atom
 use Rattle.tso_program.specs.Tree as tree
 use Rattle.sketches.proofs.Known.{knows_reading, knows_stopped}

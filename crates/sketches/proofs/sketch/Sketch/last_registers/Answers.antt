@@ -1,7 +1,5 @@
-use Rattle.std.proofs.Common.{◌≡◌, ◌<◌, ◌∙◌, List, get_or, ap, sym, subst, refl, length, arith}
-use Rattle.sketches.proofs.Vocabulary.{NumberedTraces, ThreadTrace, arc_value, slice_get_read, ProgramSketch, trace_in}
+use Rattle.sketches.proofs.Vocabulary.{◌≡◌, ◌<◌, ◌∙◌, List, get_or, ap, sym, subst, refl, length, arith, NumberedTraces, ThreadTrace, arc_value, slice_get_read, ProgramSketch, trace_in, trace_last}
 use Rattle.tso_program.specs.declared.action.Local.{Local}
-use Rattle.known_edges.proofs.TracesKept.{trace_last}
 use Rattle.sketches.proofs.sketch.Sketch.last_registers.Goals as goal
 
 pub bounds-thread_traces-t : goal.bounds-thread_traces-t

@@ -1,5 +1,4 @@
-use Rattle.std.proofs.Common.{Contains, take}
-use Rattle.sketches.specs.Endings.{AreLastValues}
+use Rattle.sketches.proofs.Vocabulary.{Contains, take, AreLastValues}
 use Rattle.sketches.proofs.sketch.Sketch.last_values.Given as goal
 
 -- what is shown of the accesses so far

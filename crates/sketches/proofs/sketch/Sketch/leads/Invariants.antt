@@ -1,6 +1,4 @@
-use Rattle.std.proofs.Common.{◌↔◌, drop}
-use Rattle.sketches.proofs.Vocabulary.{KnownEdgeOfMode, mode_in}
-use Rattle.candidate_executions.specs.Consistency.{Leads}
+use Rattle.sketches.proofs.Vocabulary.{◌↔◌, drop, KnownEdgeOfMode, mode_in, Leads}
 use Rattle.sketches.proofs.sketch.Sketch.leads.Given as goal
 
 -- the events so far lead from each to the next, so the rest decides

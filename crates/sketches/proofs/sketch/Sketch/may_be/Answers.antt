@@ -1,6 +1,6 @@
-use Rattle.std.proofs.Common.{◌≡◌, ◌↔◌, ◌∙◌, ℕ, true, false, IsTrue, List, Contains, Some, get_or, slice_get, take, ap, sym, subst}
-use Rattle.sketches.proofs.Vocabulary.{arc_value, ◌==◌, slice_index, take_more, take_all, slice_get-get_or, Event, Initial, IsAccess, IsWhole, given_to, machine_of_mode, NumberedTraces, ProgramSketch}
-use Rattle.sketches.proofs.Vocabulary.{mode_in, view_of, IsOwn, MayBeBy, HasLater, contained, later_test, number_exact, number_own, not_by}
+use Rattle.sketches.proofs.Vocabulary.{◌≡◌, ◌↔◌, ◌∙◌, ℕ, true, false, IsTrue, List, Contains, Some, get_or, slice_get, take, ap, sym, subst, arc_value, ◌==◌, slice_index, take_more, take_all}
+use Rattle.sketches.proofs.Vocabulary.{slice_get-get_or, Event, Initial, IsAccess, IsWhole, given_to, machine_of_mode, NumberedTraces, ProgramSketch, mode_in, view_of, IsOwn, MayBeBy, HasLater}
+use Rattle.sketches.proofs.Vocabulary.{contained, later_test, number_exact, number_own, not_by}
 use Rattle.sketches.proofs.LastValues.{none_does, no_more_does, initial_does}
 use Rattle.sketches.proofs.sketch.Sketch.may_be.Goals as goal
 

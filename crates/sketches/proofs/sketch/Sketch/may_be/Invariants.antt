@@ -1,5 +1,4 @@
-use Rattle.std.proofs.Common.{Contains, take}
-use Rattle.sketches.specs.Endings.{MayBeBy}
+use Rattle.sketches.proofs.Vocabulary.{Contains, take, MayBeBy}
 use Rattle.sketches.proofs.sketch.Sketch.may_be.Given as goal
 
 -- none of the accesses so far does

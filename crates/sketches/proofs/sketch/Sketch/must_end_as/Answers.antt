@@ -1,9 +1,5 @@
-use Rattle.std.proofs.Common.{◌↔◌, Bool, Result, Ok, Err, IfOk, IsTrue, sym, subst}
-use Rattle.std.specs.Prelude.{OnErr}
-use Rattle.sketches.proofs.Vocabulary.{Shown, Truth, ShowsValues, ProgramSketch, mode_in, EndsOnlyAs, IsLawful}
-use Rattle.candidate_executions.specs.Sketches.{EndsAs, EndsInTruth}
-use Rattle.sketches.proofs.Ends.{of_values, values_test, ends_only}
-use Rattle.sketches.proofs.Known.{only_if}
+use Rattle.sketches.proofs.Vocabulary.{◌↔◌, Bool, Result, Ok, Err, IfOk, IsTrue, sym, subst, OnErr, Shown, Truth, ShowsValues, ProgramSketch, mode_in, EndsOnlyAs, IsLawful, EndsAs, EndsInTruth}
+use Rattle.sketches.proofs.{Ends.of_values, Ends.values_test, Ends.ends_only, Known.only_if}
 use Rattle.sketches.proofs.sketch.Sketch.must_end_as.Goals as goal
 
 pub returns-in-All-clause-ends : goal.returns-in-All-clause-ends

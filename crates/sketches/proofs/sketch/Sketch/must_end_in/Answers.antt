@@ -1,5 +1,4 @@
-use Rattle.std.proofs.Common.{subst}
-use Rattle.sketches.proofs.Vocabulary.{ProgramSketch, IsLawful}
+use Rattle.sketches.proofs.Vocabulary.{subst, ProgramSketch, IsLawful}
 use Rattle.sketches.proofs.Ends.{ends_only, must_end_so, need_not_end}
 use Rattle.sketches.proofs.sketch.Sketch.must_end_in.Goals as goal
 

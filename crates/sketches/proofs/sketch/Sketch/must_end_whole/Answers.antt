@@ -1,4 +1,4 @@
-use Rattle.std.proofs.Common.{◌≡◌, ◌∙◌, true, false, sym}
+use Rattle.sketches.proofs.Vocabulary.{◌≡◌, ◌∙◌, true, false, sym}
 use Rattle.sketches.proofs.Ends.{need_whole}
 use Rattle.sketches.proofs.sketch.Sketch.must_end_whole.Goals as goal
 

@@ -1,7 +1,5 @@
-use Rattle.std.proofs.Common.{true, false, subst}
-use Rattle.sketches.proofs.Vocabulary.{Truth, ProgramSketch, IsLawful}
-use Rattle.sketches.proofs.Ends.{ends_only}
-use Rattle.sketches.proofs.Known.{must_tell}
+use Rattle.sketches.proofs.Vocabulary.{true, false, subst, Truth, ProgramSketch, IsLawful}
+use Rattle.sketches.proofs.{Ends.ends_only, Known.must_tell}
 use Rattle.sketches.proofs.sketch.Sketch.must_tell.Goals as goal
 
 pub returns-then-known-clause-end : goal.returns-then-known-clause-end

@@ -1,7 +1,5 @@
-use Rattle.std.proofs.Common.{◌≡◌, ◌∙◌, ◌+◌, ap, sym, subst, length, arith, [], Some, slice_get, ℕ}
-use Rattle.std.proofs.lemmas.List.{length_push}
-use Rattle.sketches.proofs.Vocabulary.{IfOk-weaker, ThreadTrace, machine_of_mode, ProgramSketch, IsThreadTraceOf, EachRunCompletes}
-use Rattle.known_edges.proofs.Lawful.{new_kept, new_parts, made_more}
+use Rattle.sketches.proofs.Vocabulary.{◌≡◌, ◌∙◌, ◌+◌, ap, sym, subst, length, arith, [], Some, slice_get, ℕ, length_push, IfOk-weaker, ThreadTrace, machine_of_mode, ProgramSketch, IsThreadTraceOf}
+use Rattle.sketches.proofs.Vocabulary.{EachRunCompletes, new_kept, new_parts, made_more}
 use Rattle.sketches.proofs.Completed.{each_run_completes}
 use Rattle.sketches.proofs.sketch.Sketch.new.Goals as goal
 

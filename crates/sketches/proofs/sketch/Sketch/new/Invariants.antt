@@ -1,5 +1,4 @@
-use Rattle.std.proofs.Common.{◌≡◌, ℕ, [], Some, slice_get, length}
-use Rattle.sketches.proofs.Vocabulary.{ThreadTrace, machine_of_mode, IsThreadTraceOf}
+use Rattle.sketches.proofs.Vocabulary.{◌≡◌, ℕ, [], Some, slice_get, length, ThreadTrace, machine_of_mode, IsThreadTraceOf}
 use Rattle.sketches.proofs.sketch.Sketch.new.Given as goal
 
 -- the threads so far, with no value given

@@ -1,5 +1,4 @@
-use Rattle.std.proofs.Common.{◌∙◌, ap, sym, subst, List, []}
-use Rattle.sketches.proofs.Vocabulary.{arc_value, ThreadTrace, view_of, IsRepresented, none_chosen, new_kept_by, begun}
+use Rattle.sketches.proofs.Vocabulary.{◌∙◌, ap, sym, subst, List, [], arc_value, ThreadTrace, view_of, IsRepresented, none_chosen, new_kept_by, begun}
 use Rattle.bit_rows.proofs.Written.{zeros, zeros_are_empty}
 use Rattle.bit_rows.specs.declared.row.TheConstants.{ROW_BITS}
 use Rattle.sketches.proofs.sketch.Sketch.of_traces.Goals as goal

@@ -1,6 +1,4 @@
-use Rattle.std.proofs.Common.{subst}
-use Rattle.sketches.proofs.Vocabulary.{arc_value, ProgramSketch, IsLawful, HaveAllRegisters, six_registers}
-use Rattle.known_edges.proofs.ChoicesCounted.{choices_few}
+use Rattle.sketches.proofs.Vocabulary.{subst, arc_value, ProgramSketch, IsLawful, HaveAllRegisters, six_registers, choices_few}
 use Rattle.sketches.proofs.sketch.Sketch.program.Goals as goal
 
 pub returns-clause-few : goal.returns-clause-few

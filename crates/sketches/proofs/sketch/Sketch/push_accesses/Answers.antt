@@ -1,8 +1,5 @@
-use Rattle.std.proofs.Common.{◌≤◌, ◌∙◌, ℕ, List, ap, sym, subst, length, inl, inr, arith}
-use Rattle.sketches.proofs.Vocabulary.{arc_value, ThreadTrace, ProgramSketch, mode_in, IsAccess, given_to}
-use Rattle.tso_program.specs.declared.limits.TheConstants.{MAX_INSTRUCTIONS}
-use Rattle.known_edges.specs.Rows.{NumberedTraces, accesses_at, IsOfThreads}
-use Rattle.known_edges.proofs.Numbered.{is_access, courses_few, courses_short}
+use Rattle.sketches.proofs.Vocabulary.{◌≤◌, ◌∙◌, ℕ, List, ap, sym, subst, length, inl, inr, arith, arc_value, ThreadTrace, ProgramSketch, mode_in, IsAccess, given_to, MAX_INSTRUCTIONS, NumberedTraces}
+use Rattle.sketches.proofs.Vocabulary.{accesses_at, IsOfThreads, is_access, courses_few, courses_short}
 use Rattle.sketches.proofs.sketch.Sketch.push_accesses.Goals as goal
 
 pub push_events-requires-clause-few : goal.push_events-requires-clause-few

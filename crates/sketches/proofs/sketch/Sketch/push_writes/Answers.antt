@@ -1,5 +1,4 @@
-use Rattle.std.proofs.Common.{get_or}
-use Rattle.sketches.proofs.Vocabulary.{slice_get-get_or, Initial, IsValueWritten}
+use Rattle.sketches.proofs.Vocabulary.{get_or, slice_get-get_or, Initial, IsValueWritten}
 use Rattle.sketches.proofs.Sources.{one_listed, all_listed}
 use Rattle.sketches.proofs.sketch.Sketch.push_writes.Goals as goal
 

@@ -1,5 +1,5 @@
 use Rattle.sketches.proofs.Sources.{IsListed}
-use Rattle.known_edges.specs.Choices.{IsValueWritten}
+use Rattle.sketches.proofs.Vocabulary.{IsValueWritten}
 use Rattle.sketches.proofs.sketch.Sketch.push_writes.Given as goal
 
 -- the events of the numbers that are no longer left

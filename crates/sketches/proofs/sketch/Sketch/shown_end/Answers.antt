@@ -1,5 +1,4 @@
-use Rattle.std.proofs.Common.{◌∙◌, List, ℕ, ap, sym, subst}
-use Rattle.sketches.proofs.Vocabulary.{slice_index, shown_value, EndsSo}
+use Rattle.sketches.proofs.Vocabulary.{◌∙◌, List, ℕ, ap, sym, subst, slice_index, shown_value, EndsSo}
 use Rattle.sketches.proofs.LastValues.{kept_end, initial_end}
 use Rattle.sketches.proofs.sketch.Sketch.shown_end.Goals as goal
 

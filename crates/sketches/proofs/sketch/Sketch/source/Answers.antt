@@ -1,5 +1,4 @@
-use Rattle.std.proofs.Common.{◌≡◌, ◌↔◌, Some, Contains, subst}
-use Rattle.sketches.proofs.Vocabulary.{Event, ProgramSketch}
+use Rattle.sketches.proofs.Vocabulary.{◌≡◌, ◌↔◌, Some, Contains, subst, Event, ProgramSketch}
 use Rattle.sketches.proofs.sketch.Sketch.source.Goals as goal
 
 pub returns : goal.returns

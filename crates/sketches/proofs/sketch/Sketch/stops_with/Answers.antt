@@ -1,4 +1,4 @@
-use Rattle.std.proofs.Common.{◌∙◌, ◌<◌, length, ap, sym, arith}
+use Rattle.sketches.proofs.Vocabulary.{◌∙◌, ◌<◌, length, ap, sym, arith}
 use Rattle.sketches.proofs.Known.{stops, stops_past}
 use Rattle.sketches.proofs.sketch.Sketch.stops_with.Goals as goal
 

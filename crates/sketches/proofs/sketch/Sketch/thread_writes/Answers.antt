@@ -1,5 +1,4 @@
-use Rattle.std.proofs.Common.{arith}
-use Rattle.sketches.proofs.Vocabulary.{At, WritesTo, IsWrittenBy, each_index, yes, no, not_by}
+use Rattle.sketches.proofs.Vocabulary.{arith, At, WritesTo, IsWrittenBy, each_index, yes, no, not_by}
 use Rattle.sketches.proofs.Ends.{write_within}
 use Rattle.sketches.proofs.sketch.Sketch.thread_writes.Goals as goal
 

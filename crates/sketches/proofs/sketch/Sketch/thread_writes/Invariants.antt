@@ -1,5 +1,4 @@
-use Rattle.std.proofs.Common.{ℕ, ◌<◌}
-use Rattle.sketches.proofs.Vocabulary.{At, WritesTo}
+use Rattle.sketches.proofs.Vocabulary.{ℕ, ◌<◌, At, WritesTo}
 use Rattle.sketches.proofs.sketch.Sketch.thread_writes.Given as goal
 
 -- none of the accesses so far writes the location

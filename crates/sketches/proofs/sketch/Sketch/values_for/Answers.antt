@@ -1,6 +1,4 @@
-use Rattle.std.proofs.Common.{◌↔◌, ℕ, Contains, subst}
-use Rattle.sketches.proofs.Vocabulary.{arc_value, IsValueOf, ProgramSketch, IsLawful, HaveAllRegisters, six_registers}
-use Rattle.known_edges.proofs.BranchesCounted.{few_values}
+use Rattle.sketches.proofs.Vocabulary.{◌↔◌, ℕ, Contains, subst, arc_value, IsValueOf, ProgramSketch, IsLawful, HaveAllRegisters, six_registers, few_values}
 use Rattle.sketches.proofs.sketch.Sketch.values_for.Goals as goal
 
 pub returns-clause-exact : goal.returns-clause-exact

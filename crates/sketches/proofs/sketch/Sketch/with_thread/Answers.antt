@@ -1,6 +1,5 @@
-use Rattle.std.proofs.Common.{◌≡◌, ◌∙◌, ◌<◌, ap, sym, subst, length, List, [], Some, get_or, set, refl, arith}
-use Rattle.sketches.proofs.Vocabulary.{arc_value, slice_get_read, IfOk-weaker, Listing, ThreadTrace, given_to, ProgramSketch, with_chosen, view_of, KeepsTraces, NumberedTraces, with_values}
-use Rattle.sketches.proofs.Vocabulary.{HasValuesAlone}
+use Rattle.sketches.proofs.Vocabulary.{◌≡◌, ◌∙◌, ◌<◌, ap, sym, subst, length, List, [], Some, get_or, set, refl, arith, arc_value, slice_get_read, IfOk-weaker, Listing, ThreadTrace, given_to}
+use Rattle.sketches.proofs.Vocabulary.{ProgramSketch, with_chosen, view_of, KeepsTraces, NumberedTraces, with_values, HasValuesAlone}
 use Rattle.sketches.proofs.ThreadValues.{merged_kept, merged_parts, merged_anew}
 use Rattle.sketches.proofs.sketch.Sketch.with_thread.Goals as goal
 

@@ -1,4 +1,4 @@
-use Rattle.std.proofs.Common.{sym, ◌∙◌}
+use Rattle.sketches.proofs.Vocabulary.{sym, ◌∙◌}
 use Rattle.sketches.proofs.Ends.{writes_by, absent_writes}
 use Rattle.sketches.proofs.sketch.Sketch.writes.Goals as goal
 

@@ -1,9 +1,6 @@
-use Rattle.std.proofs.Common.{◌≡◌, ◌∙◌, ◌<◌, sym, ap, ℕ, length, arith, rules}
+use Rattle.tso_machine.proofs.Vocabulary.{◌≡◌, ◌∙◌, ◌<◌, sym, ap, ℕ, length, arith, rules, with_items_is, Listing, gaps_in, action, Core, Cores, FitsProgram, no_core}
 use Rattle.std.specs.Vec.{with_items}
-use Rattle.std.proofs.lemmas.List.{with_items_is}
-use Rattle.tso_machine.proofs.Vocabulary.{Listing, gaps_in, action, Core, Cores, FitsProgram, no_core}
-use Rattle.tso_machine.proofs.Link.{read_is}
-use Rattle.tso_machine.proofs.Effects.{IsNext, exec_done, on_ok}
+use Rattle.tso_machine.proofs.{Link.read_is, Effects.IsNext, Effects.exec_done, Effects.on_ok}
 use Rattle.tso_machine.proofs.state.State.exec.Goals as goal
 
 pub returns : goal.returns

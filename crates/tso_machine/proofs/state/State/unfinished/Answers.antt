@@ -1,5 +1,4 @@
-use Rattle.std.proofs.Common.{ap, length, arith}
-use Rattle.tso_machine.specs.Internal.Cores.{Cores, FitsProgram}
+use Rattle.tso_machine.proofs.Vocabulary.{ap, length, arith, Cores, FitsProgram}
 use Rattle.tso_machine.proofs.Runs.{all_ended}
 use Rattle.tso_machine.proofs.state.State.unfinished.Goals as goal
 

@@ -1,5 +1,4 @@
-use Rattle.std.proofs.Common.{◌≡◌, List, ℕ, None, ◌∙◌, sym, subst}
-use Rattle.tso_program.proofs.Vocabulary.{Listing, IsWithinFencedLimits, first_fenced_fault}
+use Rattle.tso_program.proofs.Vocabulary.{◌≡◌, List, ℕ, None, ◌∙◌, sym, subst, Listing, IsWithinFencedLimits, first_fenced_fault}
 use Rattle.tso_program.proofs.WithinLimits.{within_fenced}
 use Rattle.tso_program.proofs.fenced.FencedProgram.new.Goals as goal
 

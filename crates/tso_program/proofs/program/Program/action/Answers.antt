@@ -1,5 +1,4 @@
-use Rattle.std.proofs.Common.{◌≡◌, Some, ◌∙◌, sym, ap, length, subst}
-use Rattle.tso_program.proofs.Vocabulary.{IsLocated, instr_at}
+use Rattle.tso_program.proofs.Vocabulary.{◌≡◌, Some, ◌∙◌, sym, ap, length, subst, IsLocated, instr_at}
 use Rattle.tso_program.specs.declared.action.Action.{Action}
 use Rattle.tso_program.proofs.Located.{act_located}
 use Rattle.tso_program.proofs.program.Program.action.Goals as goal

@@ -1,5 +1,4 @@
-use Rattle.std.proofs.Common.{◌≡◌, ℕ}
-use Rattle.std.specs.Prelude.{nat_lt}
+use Rattle.tso_program.proofs.Vocabulary.{◌≡◌, ℕ, nat_lt}
 use Rattle.std.specs.FinSet as set
 use Rattle.tso_program.proofs.program.Program.all_gaps.Given as goal
 

@@ -1,5 +1,4 @@
-use Rattle.std.proofs.Common.{◌≡◌, List, ℕ, ◌∙◌, sym, subst}
-use Rattle.tso_program.proofs.Vocabulary.{Listing, IsWithinFencedLimits, gaps_in, fenced_threads}
+use Rattle.tso_program.proofs.Vocabulary.{◌≡◌, List, ℕ, ◌∙◌, sym, subst, Listing, IsWithinFencedLimits, gaps_in, fenced_threads}
 use Rattle.tso_program.proofs.FencedLimits.{fencing_stays_within_limits}
 use Rattle.tso_program.proofs.program.Program.fenced.Goals as goal
 

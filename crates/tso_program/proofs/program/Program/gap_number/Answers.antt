@@ -1,5 +1,4 @@
-use Rattle.std.proofs.Common.{◌≡◌, arith, length, take, ap}
-use Rattle.tso_program.specs.Listings.{code_of, gap_count}
+use Rattle.tso_program.proofs.Vocabulary.{◌≡◌, arith, length, take, ap, code_of, gap_count}
 use Rattle.tso_program.proofs.Gaps.{number_below}
 use Rattle.tso_program.proofs.program.Program.gap_number.Goals as goal
 

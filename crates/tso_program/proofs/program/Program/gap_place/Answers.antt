@@ -1,9 +1,6 @@
-use Rattle.std.proofs.Common.{◌≡◌, ◌≤◌, ◌<◌, ◌+◌, ℕ, List, arith, length, take, get_or, ap, sym, ◌∙◌, Option, Some, subst}
-use Rattle.std.proofs.lemmas.List.{take_all}
-use Rattle.tso_program.proofs.Vocabulary.{slice_get-get_or, Thread, code_of, gap_count, gap_number, gaps_of_thread}
-use Rattle.tso_program.proofs.Found.{code_found}
-use Rattle.tso_program.proofs.Gaps.{gap_same, gap_below, gap_is}
-use Rattle.tso_program.proofs.GapPlaces.{no_place, places_are_numbered}
+use Rattle.tso_program.proofs.Vocabulary.{◌≡◌, ◌≤◌, ◌<◌, ◌+◌, ℕ, List, arith, length, take, get_or, ap, sym, ◌∙◌, Option, Some, subst, take_all, slice_get-get_or, Thread, code_of, gap_count}
+use Rattle.tso_program.proofs.Vocabulary.{gap_number, gaps_of_thread}
+use Rattle.tso_program.proofs.{Found.code_found, Gaps.gap_same, Gaps.gap_below, Gaps.gap_is, GapPlaces.no_place, GapPlaces.places_are_numbered}
 use Rattle.tso_program.proofs.program.Program.gap_place.Goals as goal
 
 -- the place that is found has the number

@@ -1,5 +1,4 @@
-use Rattle.std.proofs.Common.{◌≡◌, ◌+◌, take}
-use Rattle.tso_program.specs.Listings.{gap_count}
+use Rattle.tso_program.proofs.Vocabulary.{◌≡◌, ◌+◌, take, gap_count}
 use Rattle.tso_program.proofs.program.Program.gap_place.Given as goal
 
 -- the gaps of the threads so far are passed over

@@ -1,5 +1,4 @@
-use Rattle.std.proofs.Common.{◌≡◌, List, ℕ, None, ◌∙◌, sym, subst}
-use Rattle.tso_program.proofs.Vocabulary.{Listing, IsWithinLimits, first_fault}
+use Rattle.tso_program.proofs.Vocabulary.{◌≡◌, List, ℕ, None, ◌∙◌, sym, subst, Listing, IsWithinLimits, first_fault}
 use Rattle.tso_program.proofs.WithinLimits.{within}
 use Rattle.tso_program.proofs.program.Program.new.Goals as goal
 

@@ -1,5 +1,4 @@
-use Rattle.std.proofs.Common.{◌≡◌, ap, sym, ◌∙◌, Decides}
-use Rattle.tso_program.proofs.Vocabulary.{Decides-eqb, slice_eq-Decides, Listing}
+use Rattle.tso_program.proofs.Vocabulary.{◌≡◌, ap, sym, ◌∙◌, Decides, Decides-eqb, slice_eq-Decides, Listing}
 use Rattle.tso_program.proofs.SamePrograms.{thread_decides}
 use Rattle.tso_program.proofs.program.Program.same.Goals as goal
 

@@ -1,5 +1,4 @@
-use Rattle.std.proofs.Common.{sym, subst}
-use Rattle.tso_program.specs.Names.{ArePlaces}
+use Rattle.tso_program.proofs.Vocabulary.{sym, subst, ArePlaces}
 use Rattle.tso_program.proofs.Places.{one_more_placed}
 use Rattle.tso_program.proofs.shown.Names.with_place.Goals as goal
 

@@ -1,5 +1,4 @@
-use Rattle.std.proofs.Common.{◌≡◌, ℕ, ◌<◌, get_or, length}
-use Rattle.tso_program.specs.Shown.{shows_register, value_if}
+use Rattle.tso_program.proofs.Vocabulary.{◌≡◌, ℕ, ◌<◌, get_or, length, shows_register, value_if}
 use Rattle.tso_program.proofs.shown.Shown.registers.Given as goal
 
 -- the registers so far are as shown
