@@ -2,14 +2,14 @@
 use Rattle.fence_place.proofs.Vocabulary.{◌≡◌, ℕ, ◌*◌, ◌<◌, ◌≤◌, ◌^◌, suc, List, [], ◌∷◌, All, Some, length, sym, ap, ◌∙◌, subst, arith, get_or, recursion_from_All, slice_get, AllByRecursion}
 use Rattle.fence_place.proofs.Vocabulary.{slice_get-get_or, SetOfGaps, IsGapSet, total, all_sets, MAX_GAPS, Question, IsWithinLimits, Label, Certificate, shows_of, IsValidGap, undecided, Outcome}
 use Rattle.fence_place.proofs.Vocabulary.{finished_state, IsOutcome, Facts, facts_of, AreNumbersOf, AreSplitRuns, IsRecorded, IsProof, Machine, SequentialMachine, StoreBufferMachine, no_gaps}
-use Rattle.fence_place.proofs.Vocabulary.{gaps_in as gaps_of_set, IsTheAnswer, IsShownRun, IsSequentialOutcome, AreGapsOf, Cover, IsGapTo, gap_depth, IsRunOutside, IsValidCertificate}
-use Rattle.fence_place.proofs.Vocabulary.{AreSequentialRuns, Table, Foreign, IsSequentialTable, IsListOf, IsServing, IsForeignValue, few_undecided}
+use Rattle.fence_place.proofs.Vocabulary.{IsTheAnswer, IsShownRun, IsSequentialOutcome, AreGapsOf, Cover, IsGapTo, gap_depth, IsRunOutside, IsValidCertificate, AreSequentialRuns, Table, Foreign}
+use Rattle.fence_place.proofs.Vocabulary.{IsSequentialTable, IsListOf, IsServing, IsForeignValue, few_undecided, gaps_in as gaps_of_set}
 use Rattle.gap_sets.specs.declared.costs.TheConstants.{MAX_COST}
 use Rattle.tso_program.specs.declared.outcome.Outcome as machine
 use Rattle.cert_forest.specs.declared.tree.TheConstants.{MAX_COVER_DEPTH, MAX_GAP_DEPTH}
 use Rattle.cert_forest.specs.Limits as limits
 use Rattle.cover_solver.specs.Covers.{IsWholeCover}
-use Rattle.fence_place.proofs.{GapTreeValid.valid, GapTreeSmall.small, ShortRuns.short_run}
+use Rattle.fence_place.proofs.{GapTreeValid.IsFine, GapTreeValid.fine, ShortRuns.short_run}
 
 -- sequential runs are short
 sequential_short : (q : Question) (runs : List (List Label)) (outcomes : List machine.Outcome) → IsWithinLimits q.program.threads q.program.memory →
@@ -71,6 +71,9 @@ module _ (t : Table) (o : Outcome) (numbers : List ℕ) (c : Certificate) (table
       (subst (λ (g : SetOfGaps). IsWholeCover o.question (StoreBufferMachine (gaps_of_set o.question.program g)) t.outcomes o.served.tree) (sym made.same_gaps)
       (subst (λ (q : Question). IsWholeCover q (StoreBufferMachine (gaps_of_set q.program o.served.gaps)) t.outcomes o.served.tree) of_served here))
 
+  gap_tree_fine : IsFine (finished_state o) facts o.served.gaps answer c.runs numbers made.numbered c.gap_tree all_sets
+  gap_tree_fine = fine (finished_state o) facts o.served.gaps answer c.runs numbers made.numbered made.few_runs c.gap_tree 0 all_sets made.recorded facts.root
+
   is_valid : IsValidCertificate o.question o.costs c
   is_valid = record {
     shown = made.same_shown ∙ ap (λ (q : Question). shows_of q.shown) same;
@@ -83,16 +86,14 @@ module _ (t : Table) (o : Outcome) (numbers : List ℕ) (c : Certificate) (table
     sequential = table_tree.valid;
     foreign = foreign;
     fenced = fenced_tree.valid;
-    least = subst (λ (g : SetOfGaps). IsValidGap o.question.program o.costs g c.runs c.gap_tree all_sets) (sym made.same_gaps)
-        (valid (finished_state o) facts o.served.gaps answer c.runs numbers made.numbered c.gap_tree 0 all_sets made.recorded facts.root);
+    least = subst (λ (g : SetOfGaps). IsValidGap o.question.program o.costs g c.runs c.gap_tree all_sets) (sym made.same_gaps) gap_tree_fine.valid;
   }
 
   gap_tree_small : IsGapTo MAX_GAP_DEPTH c.gap_tree
   gap_tree_small =
-      let is = small (finished_state o) facts c.runs made.few_runs numbers made.numbered c.gap_tree 0 all_sets made.recorded facts.root in
       let few : undecided all_sets ≤ MAX_GAPS = few_undecided all_sets in
-      let deep : gap_depth c.gap_tree ≤ suc (undecided all_sets) = is.deep in
-      (at_most (gap_depth c.gap_tree) (undecided all_sets) deep few, is.numbers)
+      let deep : gap_depth c.gap_tree ≤ suc (undecided all_sets) = gap_tree_fine.deep in
+      (at_most (gap_depth c.gap_tree) (undecided all_sets) deep few, gap_tree_fine.small_numbers)
     where
       at_most : (d u : ℕ) → d ≤ suc u → u ≤ MAX_GAPS → d ≤ MAX_GAP_DEPTH
       at_most d u h i = omega arith

@@ -1,11 +1,9 @@
 -- what many proofs speak of
 mod Vocabulary
-pub mod PassedGaps
 pub mod Bounds
 pub mod GapTreeValid
 pub mod Recording
 pub mod RecordPushed
-pub mod GapTreeSmall
 pub mod ShortRuns
 pub mod CertificateMade
 pub mod PlacementMade

@@ -12,9 +12,8 @@ module _ (entries : List Entry) (numbers : List ℕ) where
   -- as many trees as nodes
   many : (ts : GapTrees) (place count : ℕ) → AreRecorded entries numbers ts place count → count_gaps ts ≡ count
   many NoGap place zero h = refl
-  many NoGap place (suc count) h = absurd h
-  many (MoreGaps t ts) place zero h = absurd h
   many (MoreGaps t ts) place (suc count) h = ap suc (many ts (place + 1) count h.1)
+  many ts place count h = absurd h
 
   pub bound_pushed : (place : ℕ) (e : Entry) (old new : List GapNode) → slice_get entries place ≡ Some e → is_closed e ≡ true → new ≡ old ++ node.Bound ∷ [] → PushesRecorded entries numbers place old new
   bound_pushed place e old new there closed pushed = record { tree = Bound; recorded = (e, there, closed); pushed = pushed }

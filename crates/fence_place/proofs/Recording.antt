@@ -1,68 +1,46 @@
 -- What the record says of each node, and the runs of its splits.
 use Rattle.fence_place.proofs.Vocabulary.{◌≡◌, ◌≢◌, ◌⊎◌, Contains, ℕ, zero, suc, ◌+◌, ◌<◌, true, List, [], ◌∷◌, ◌++◌, Some, length, refl, sym, ap, ◌∙◌, subst, inl, inr, arith, Contains-get_or}
-use Rattle.fence_place.proofs.Vocabulary.{slice_get, same_Some, none-some, slice_get_within, open_gaps, Label, Gap, gap_trees_of, Foreign, Entry, Status, Event, children, facts_of, is_closed_status}
+use Rattle.fence_place.proofs.Vocabulary.{each_one, get_either, slice_get, same_Some, slice_get_within, open_gaps, Label, Gap, gap_trees_of, Foreign, Entry, Status, Event, facts_of, is_closed_status}
 use Rattle.fence_place.proofs.Vocabulary.{Outcome, finished_state, IsOutcome, IsEventOf, IsSettledAs, IsFirstChild, get_longer, get_behind, AreNumbersOf, AreSplitRuns, AreDistinct, ListsRun, is_there}
 use Rattle.fence_place.proofs.Vocabulary.{is_new, ListsEvent, IsRecorded, AreRecorded}
 use Rattle.std.proofs.lemmas.List.Quantifiers.{all_pairs_push}
 use Rattle.search_core.specs.declared.entry.Status.TheVariants as status
 use Rattle.search_core.specs.declared.finished.Event.TheVariants as event
 use Rattle.search_core.specs.declared.finished.Settled.{Settled}
-use Rattle.fence_place.proofs.GapTreeValid.{as_many}
-
--- the record of a split says which run it was
-pub split_event : (s : Status) (v : Event) (run : _) → v ≡ event.Split run → IsEventOf s v → (f : Foreign) × (first : ℕ) × (s ≡ status.Split f first) × (run.now ≡ f)
-split_event s v run e h = by_status s (subst (λ (u : Event). IsEventOf s u) e h)
-  where
-    by_status : (t : Status) → IsEventOf t (event.Split run) → (f : Foreign) × (first : ℕ) × (t ≡ status.Split f first) × (run.now ≡ f)
-    by_status status.Open h = absurd h
-    by_status status.Held h = absurd h
-    by_status (status.Split f first) h = (f, first, refl, h)
-    by_status status.Cut h = absurd h
-    by_status status.Confirmed h = absurd h
+use Rattle.hunt_board.proofs.Walks as walks
+pub use Rattle.hunt_board.proofs.Walks.{split_event}
 
 -- any other says that the node is closed
 pub other_event : (s : Status) (v : Event) → ((run : _) → v ≡ event.Split run → ⊥) → IsEventOf s v → is_closed_status s ≡ true
-other_event status.Open v other h = absurd h
-other_event status.Held v other h = absurd h
 other_event (status.Split f first) (event.Split run) other h = absurd (other run refl)
-other_event (status.Split f first) event.Cut other h = absurd h
-other_event (status.Split f first) event.Confirmed other h = absurd h
 other_event status.Cut v other h = refl
 other_event status.Confirmed v other h = refl
+other_event s v other h = absurd h
 
 -- in the front, or the last
 get_last : {A : Type 0} (l : List A) (x : A) (k : ℕ) (a : A) → slice_get (l ++ x ∷ []) k ≡ Some a → (slice_get l k ≡ Some a) ⊎ ((k ≡ length l) × (x ≡ a))
-get_last [] x zero a e = inr (refl, same_Some x a e)
-get_last [] x (suc k) a e = absurd (none-some a e)
-get_last (y ∷ ys) x zero a e = inl e
-get_last (y ∷ ys) x (suc k) a e = elim (get_last ys x k a e) [ inl h ↦ inl h | inr h ↦ inr ((let q : k ≡ length ys = h.0 in omega arith), h.1) ]
-
-some_there : {A : Type 0} (l : List A) (i : ℕ) → i < length l → (a : A) × (slice_get l i ≡ Some a)
-some_there [] i h = absurd (omega arith)
-some_there (x ∷ xs) zero h = (x, refl)
-some_there (x ∷ xs) (suc i) h = some_there xs i (omega arith)
+get_last l x k a e = elim (get_either l (x ∷ []) k a e) [
+  | inl front ↦ inl front
+  | inr last ↦ inr ((let within = slice_get_within (x ∷ []) last.0 a last.1 in let at = last.2 in omega arith), each_one (λ y. x ≡ y) x refl last.0 a last.1)
+]
 
 -- where the children of a split node stand
 pub kids_there : (o : Outcome) → IsOutcome o → (place first : ℕ) (e : Entry) (f : Foreign) → slice_get o.entries place ≡ Some e → e.status ≡ status.Split f first →
     (place < first) × ((i : ℕ) → i < length (open_gaps f.passed e.node.never) → first + i < length o.entries)
-kids_there o is place first e f there split =
-    let at = (facts_of (finished_state o) is.reached).split place e f first there split in
-    let long : length (children e.node f.passed) ≡ length (open_gaps f.passed e.node.never) = as_many e.node (open_gaps f.passed e.node.never) in (
-      at.later,
-      λ i h. (let kid = some_there (children e.node f.passed) i (omega arith) in
-          let has = at.kids i kid.0 kid.1 in slice_get_within o.entries (first + i) has.here has.there),
-    )
+kids_there o is place first e f there split = (
+  ((facts_of (finished_state o) is.reached).split place e f first there split).later,
+  λ i h. (walks.kids_there o is place first i e f there split h).1,
+)
 
 -- one tree more
 pub recorded_more : (entries : List Entry) (numbers : List ℕ) (ts : List Gap) (t : Gap) (first i : ℕ) → AreRecorded entries numbers (gap_trees_of ts) first i → IsRecorded entries numbers t (first + i) →
     AreRecorded entries numbers (gap_trees_of (ts ++ t ∷ [])) first (i + 1)
 recorded_more entries numbers [] t first zero so h = (subst (IsRecorded entries numbers t) (omega arith) h, tt)
-recorded_more entries numbers [] t first (suc i) so h = absurd so
-recorded_more entries numbers (x ∷ xs) t first zero so h = absurd so
 recorded_more entries numbers (x ∷ xs) t first (suc i) so h =
     let e : suc i + 1 ≡ suc (i + 1) = omega arith in
     subst (λ n. AreRecorded entries numbers (gap_trees_of (x ∷ xs ++ t ∷ [])) first n) (sym e)
     (so.0, recorded_more entries numbers xs t (first + 1) i so.1 (subst (IsRecorded entries numbers t) (omega arith) h))
+recorded_more entries numbers ts t first i so h = absurd so
 
 module _ (labels : List Label) (number : ℕ) (runs after : List (List Label)) where
   -- the runs so far stay
@@ -89,29 +67,20 @@ module _ (labels : List Label) (number : ℕ) (runs after : List (List Label)) w
   once_more (is_new fresh last same) once =
       subst AreDistinct (sym same) (all_pairs_push (λ a b. a ≢ b) runs labels once (λ k d within is. fresh (subst (Contains runs) is (Contains-get_or runs k d within))))
 
--- a node that is not split has any number
-pub not_listed : (v : Event) (number : ℕ) (runs : List (List Label)) → ((run : _) → v ≡ event.Split run → ⊥) → ListsEvent v number runs runs
-not_listed (event.Split run) number runs other = absurd (other run refl)
-not_listed event.Cut number runs other = refl
-not_listed event.Confirmed number runs other = refl
-
 pub still_distinct : (v : Event) (number : ℕ) (runs after : List (List Label)) → ListsEvent v number runs after → AreDistinct runs → AreDistinct after
 still_distinct (event.Split run) number runs after h once = once_more run.now.labels number runs after h once
-still_distinct event.Cut number runs after h once = subst AreDistinct (sym h) once
-still_distinct event.Confirmed number runs after h once = subst AreDistinct (sym h) once
+still_distinct v number runs after h once = subst AreDistinct (sym h) once
 
 module _ (entries : List Entry) (runs after : List (List Label)) (numbers : List ℕ) (number : ℕ) (e : Entry) (settled : Settled) (there : slice_get entries (length numbers) ≡ Some e) (is : IsSettledAs e settled)
     (listed : ListsEvent settled.event number runs after) where
   event_stays : (v : Event) → ListsEvent v number runs after → (k : ℕ) (l : List Label) → slice_get runs k ≡ Some l → slice_get after k ≡ Some l
   event_stays (event.Split run) h k l at = stays run.now.labels number runs after h k l at
-  event_stays event.Cut h k l at = subst (λ (r : List (List Label)). slice_get r k ≡ Some l) (sym h) at
-  event_stays event.Confirmed h k l at = subst (λ (r : List (List Label)). slice_get r k ≡ Some l) (sym h) at
+  event_stays v h k l at = subst (λ (r : List (List Label)). slice_get r k ≡ Some l) (sym h) at
 
   here_now : (s : Status) (v : Event) → ListsEvent v number runs after → IsEventOf s v → (f : Foreign) (first : ℕ) → s ≡ status.Split f first → slice_get after number ≡ Some f.labels
   here_now s (event.Split run) lists h f first split = let g : run.now ≡ f = subst (λ (t : Status). IsEventOf t (event.Split run)) split h in
       has_number run.now.labels number runs after lists ∙ ap (λ (x : Foreign). Some x.labels) g
-  here_now s event.Cut lists h f first split = absurd (subst (λ (t : Status). IsEventOf t event.Cut) split h)
-  here_now s event.Confirmed lists h f first split = absurd (subst (λ (t : Status). IsEventOf t event.Confirmed) split h)
+  here_now s v lists h f first split = absurd (subst (λ (t : Status). IsEventOf t v) split h)
 
   pub numbered_more : AreNumbersOf entries runs numbers → AreNumbersOf entries after (numbers ++ number ∷ [])
   numbered_more so place k at = elim (get_last numbers number place k at) [
@@ -131,8 +100,7 @@ module _ (entries : List Entry) (runs after : List (List Label)) (numbers : List
         | inr new ↦ (let s = split_event e.status (event.Split run) run refl h in
             (length numbers, e, s.0, s.1, there, s.2, ap (λ (g : Foreign). g.labels) (sym s.3) ∙ new))
       ]
-      by_event event.Cut lists h = subst (AreSplitRuns entries) (sym lists) so
-      by_event event.Confirmed lists h = subst (AreSplitRuns entries) (sym lists) so
+      by_event v lists h = subst (AreSplitRuns entries) (sym lists) so
 
 -- what the readers say of a split node
 pub split_facts : (o : Outcome) (place first : ℕ) (settled : Settled) (run : _) → (x : Entry) × (slice_get o.entries place ≡ Some x) × IsSettledAs x settled → settled.event ≡ event.Split run → IsFirstChild o.entries place first →

@@ -1,10 +1,11 @@
 -- What many proofs of this crate speak of, imported once.
-pub use Rattle.std.proofs.Common.{Bool, Contains, Err, List, None, Ok, Option, Some, [], ap, append_assoc, arith, cond, false, get_or, inl, inr, length, length-append, max, option_and_then, refl, set}
-pub use Rattle.std.proofs.Common.{subst, suc, sym, true, true≢false, vec_len, zero, ℕ, ◌*◌, ◌++◌, ◌+◌, ◌-◌, ◌<◌, ◌^◌, ◌∙◌, ◌∷◌, ◌≡◌, ◌≢◌, ◌≤◌, ◌⊎◌}
+pub use Rattle.std.proofs.Common.{Bool, Contains, Err, List, None, Ok, Option, Some, [], ap, append_assoc, arith, false, get_or, inl, inr, length, length-append, max, option_and_then, refl, subst}
+pub use Rattle.std.proofs.Common.{suc, sym, true, true≢false, vec_len, zero, ℕ, ◌*◌, ◌++◌, ◌+◌, ◌-◌, ◌<◌, ◌^◌, ◌∙◌, ◌∷◌, ◌≡◌, ◌≢◌, ◌≤◌, ◌⊎◌}
+pub use Rattle.std.proofs.lemmas.Bool.{cases_lt, false_from_ne_true}
 pub use Rattle.std.proofs.lemmas.List.Elements.{All-get_or, All-pop, All-push, Contains-get_or, recursion_from_All}
-pub use Rattle.std.proofs.lemmas.Option.{get_or_from_slice_get, none-some, same_Some, slice_get-get_or, slice_get_read, slice_get_within}
+pub use Rattle.std.proofs.lemmas.Option.{get_or_from_slice_get, none-some, same_Some, slice_get-get_or, slice_get_cases, slice_get_read, slice_get_within}
 pub use Rattle.std.specs.List.{AllByRecursion, filter}
-pub use Rattle.std.specs.Prelude.{All, IfErr, IfOk, IfSome, IsTrue, MatchOption, not, slice_get, slice_index_or}
+pub use Rattle.std.specs.Prelude.{All, IfErr, IfOk, IfSome, not, slice_get, slice_index_or}
 pub use Rattle.std.specs.declared.result.Result.{Result}
 pub use Rattle.cert_check.proofs.Answered.{if_ok, on_ok}
 pub use Rattle.cert_forest.proofs.GapNodeLaws.{is_gap_tree, listed_gaps, same_gap}
@@ -18,7 +19,7 @@ pub use Rattle.cert_forest.specs.declared.node.GapNode.{GapNode}
 pub use Rattle.cover_solver.proofs.OpenGaps.{few_open, open_ascending, open_exact}
 pub use Rattle.cover_solver.specs.Certificates.{AreSequentialRuns, IsRunOutside, IsValidCertificate}
 pub use Rattle.cover_solver.specs.Facts.{AreOf, Foreign, IsForeignValue, IsListOf, IsSequentialTable, IsServing, Serving, Table}
-pub use Rattle.cover_solver.specs.GapTrees.{AreValidGaps, IsSplitBy, IsValidGap, PassesGap}
+pub use Rattle.cover_solver.specs.GapTrees.{AreValidGaps, IsSplitBy, IsValidGap}
 pub use Rattle.cover_solver.specs.Label.{Label}
 pub use Rattle.cover_solver.specs.Machine.{IsRun, Machine, SequentialMachine, State, StoreBufferMachine, buffered, direct, no_gaps, past_gap, put, run, start, step}
 pub use Rattle.cover_solver.specs.Outcomes.{AreGapsOf, Headline, IsSequentialOutcome, IsShownRun, IsTheAnswer}
@@ -30,16 +31,15 @@ pub use Rattle.gap_sets.specs.Regions.{all_sets, child_regions, is_free, open_ga
 pub use Rattle.gap_sets.specs.declared.gap_set.TheConstants.{MAX_GAPS}
 pub use Rattle.gap_sets.specs.declared.region.Region.{Region}
 pub use Rattle.hunt_board.specs.Seats.{HuntView, IsFresh, IsOf, SeatView}
-pub use Rattle.search_core.proofs.Changes.{HasNode, IsSplitAt}
+pub use Rattle.search_core.proofs.Changes.{HasNode, IsSplitAt, change_of, found, held_is, settles, state_after}
 pub use Rattle.search_core.proofs.Kept.{Facts, IsBelow, facts_of}
-pub use Rattle.search_core.proofs.Places.{Each, each_behind, each_mapped, get_behind, get_longer, get_old}
-pub use Rattle.search_core.proofs.Sets.{gap_set, passed_gaps, unserved}
+pub use Rattle.search_core.proofs.Places.{Each, each_one, get_behind, get_either, get_longer}
+pub use Rattle.search_core.proofs.Sets.{gap_set, small_set, unserved}
 pub use Rattle.search_core.proofs.Working.{few_undecided, kids_less, open_undecided}
-pub use Rattle.search_core.specs.Children.{children}
 pub use Rattle.search_core.specs.Entries.{entry, is_closed, is_closed_status, is_held_status, is_live_status, is_open_status}
-pub use Rattle.search_core.specs.Events.{IsBeatenBy, IsSettling, MaySplit, TakesNode, by_confirm, by_cut, by_split, open_entries}
+pub use Rattle.search_core.specs.Events.{IsBeatenBy, IsSettling, MaySplit, TakesNode, by_confirm, by_cut, by_split, takes}
 pub use Rattle.search_core.specs.Records.{IsEventOf, IsFirstChild, IsOutcome, IsSettledAs, Outcome, finished_state}
-pub use Rattle.search_core.specs.States.{HasNoOpen, IsDone, IsHeldAt, IsStart, SearchState}
+pub use Rattle.search_core.specs.States.{HasNoOpen, IsDone, IsStart, SearchState}
 pub use Rattle.search_core.specs.Work.{undecided, work_left}
 pub use Rattle.search_core.specs.declared.entry.Entry.{Entry}
 pub use Rattle.search_core.specs.declared.entry.Status.{Status}

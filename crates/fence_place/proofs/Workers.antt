@@ -1,9 +1,7 @@
 -- Workers of a hunt: what they know, and why they end.
-use Rattle.fence_place.proofs.Vocabulary.{◌≡◌, ◌∙◌, Bool, true, false, ℕ, List, Option, Some, None, refl, sym, subst, All, IfSome, MatchOption, slice_get, slice_index_or, All-get_or, slice_get_within}
-use Rattle.fence_place.proofs.Vocabulary.{get_or_from_slice_get, same_Some, none-some, SetOfGaps, Better, Serving, IsServing, IsBeatenBy, Worker, PlaceFault, HuntView, HasStopped, MayStop}
-use Rattle.fence_place.proofs.Vocabulary.{NoneLacksRun, FaultIsAfter, lacks_run_for}
-use Rattle.fence_place.specs.declared.worker.Stop.{Stop, TheVariants.Later, TheVariants.Beaten, TheVariants.NoRun, TheVariants.OutOfMemory}
-use Rattle.fence_place.specs.Faults.{MayHuntFail}
+use Rattle.fence_place.proofs.Vocabulary.{◌≡◌, ◌∙◌, Bool, true, false, ℕ, List, Option, Some, refl, sym, subst, Worker, PlaceFault, All, IfSome, slice_get, slice_index_or, All-get_or}
+use Rattle.fence_place.proofs.Vocabulary.{slice_get_within, get_or_from_slice_get, HuntView, HasStopped, MayStop, NoneLacksRun, FaultIsAfter, lacks_run_for}
+use Rattle.fence_place.specs.{declared.worker.Stop.Stop, declared.worker.Stop.TheVariants.NoRun, Faults.MayHuntFail}
 use Rattle.fence_place.specs.declared.fault.PlaceFault.TheVariants as fault
 
 -- what holds of each element holds of the one at a place
@@ -15,26 +13,17 @@ pub read_at : {X : Type 0} (xs : List X) (place : ℕ) (x y d : X) → slice_get
 read_at xs place x y d at is = sym (is ∙ get_or_from_slice_get xs place x d at)
 
 none_lacked : (stop : Option Stop) → IfSome stop (MayStop false) → lacks_run_for stop ≡ false
-none_lacked None may = refl
-none_lacked (Some Later) may = refl
-none_lacked (Some Beaten) may = refl
 none_lacked (Some NoRun) may = sym may
-none_lacked (Some OutOfMemory) may = refl
+none_lacked stop may = refl
 
 -- where a worker lacked a run the oracle may lack runs
 pub may_lack : (h : HuntView) (may : Bool) (workers : List Worker) → All (HasStopped h may) workers → ¬ NoneLacksRun workers → may ≡ true
 may_lack h true workers ended lacked = refl
 may_lack h false workers ended lacked = absurd (lacked (λ place w at. none_lacked w.stop ((element (HasStopped h false) workers place w at ended).1)))
 
--- a set that isn't better than the best one
-pub beaten : (costs : List ℕ) (own : Option Serving) (best set : SetOfGaps) → MatchOption own (Some best ≡ None) (λ b. (Some best ≡ Some b.gaps) × IsServing b) → ¬ Better costs set best → IsBeatenBy costs own set
-beaten costs None best set is worse = absurd (none-some best (sym is))
-beaten costs (Some b) best set is worse = (b, refl, subst (λ (gaps : SetOfGaps). ¬ Better costs set gaps) (same_Some best b.gaps is.0) worse)
-
 -- the fault of a hunt, where its workers have ended as they may
 pub hunt_fails : (h : HuntView) (may : Bool) (workers : List Worker) (why : PlaceFault) → All (HasStopped h may) workers → FaultIsAfter workers why → MayHuntFail may why
-hunt_fails h may workers fault.Workers ended is = is
-hunt_fails h may workers fault.Costs ended is = is
 hunt_fails h may workers fault.NotCertified ended is = may_lack h may workers ended is
 hunt_fails h may workers fault.Board ended is = tt
 hunt_fails h may workers fault.OutOfMemory ended is = tt
+hunt_fails h may workers why ended is = is

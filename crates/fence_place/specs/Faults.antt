@@ -20,9 +20,7 @@ HasOtherLength p costs = length costs ≢ gap_count p.threads
 abbrev pub ArgumentFaultIs : Listing → List ℕ → ℕ → PlaceFault → Type 0
 ArgumentFaultIs p costs workers fault.Workers = AreTooFewOrMany workers
 ArgumentFaultIs p costs workers fault.Costs = (¬ AreTooFewOrMany workers) × HasOtherLength p costs
-ArgumentFaultIs p costs workers fault.NotCertified = ⊥
-ArgumentFaultIs p costs workers fault.Board = ⊥
-ArgumentFaultIs p costs workers fault.OutOfMemory = ⊥
+ArgumentFaultIs p costs workers why = ⊥
 
 -- the oracle lacks a run, where it may, or out of memory
 abbrev pub MaySearchFail : Bool → SolveFault → Type 0
@@ -30,24 +28,18 @@ MaySearchFail may_lack_runs why = why ≡ solve.NoRun → may_lack_runs ≡ true
 
 -- so it is, or the record doesn't close
 abbrev pub MayHuntFail : Bool → PlaceFault → Type 0
-MayHuntFail may_lack_runs fault.Workers = ⊥
-MayHuntFail may_lack_runs fault.Costs = ⊥
 MayHuntFail may_lack_runs fault.NotCertified = may_lack_runs ≡ true
 MayHuntFail may_lack_runs fault.Board = Unit {0}
 MayHuntFail may_lack_runs fault.OutOfMemory = Unit {0}
+MayHuntFail may_lack_runs why = ⊥
 
 -- of a hunt: it is about the arguments, or the hunt fails
 abbrev pub HuntFaultIs : Listing → List ℕ → ℕ → Bool → PlaceFault → Type 0
 HuntFaultIs p costs workers may_lack_runs fault.Workers = AreTooFewOrMany workers
 HuntFaultIs p costs workers may_lack_runs fault.Costs = (¬ AreTooFewOrMany workers) × HasOtherLength p costs
-HuntFaultIs p costs workers may_lack_runs fault.NotCertified = may_lack_runs ≡ true
-HuntFaultIs p costs workers may_lack_runs fault.Board = Unit {0}
-HuntFaultIs p costs workers may_lack_runs fault.OutOfMemory = Unit {0}
+HuntFaultIs p costs workers may_lack_runs why = MayHuntFail may_lack_runs why
 
 -- of a placement: it is about the arguments, or memory runs out
 abbrev pub PlaceFaultIs : Listing → List ℕ → ℕ → PlaceFault → Type 0
-PlaceFaultIs p costs workers fault.Workers = AreTooFewOrMany workers
-PlaceFaultIs p costs workers fault.Costs = (¬ AreTooFewOrMany workers) × HasOtherLength p costs
-PlaceFaultIs p costs workers fault.NotCertified = ⊥
-PlaceFaultIs p costs workers fault.Board = ⊥
 PlaceFaultIs p costs workers fault.OutOfMemory = Unit {0}
+PlaceFaultIs p costs workers why = ArgumentFaultIs p costs workers why

@@ -33,8 +33,7 @@ pub data ListsRun (labels : List Label) (number : ℕ) (runs after : List (List 
 -- the runs, and that of a split among them
 abbrev pub ListsEvent : Event → ℕ → List (List Label) → List (List Label) → Type 0
 ListsEvent (event.Split run) number runs after = ListsRun run.now.labels number runs after
-ListsEvent event.Cut number runs after = after ≡ runs
-ListsEvent event.Confirmed number runs after = after ≡ runs
+ListsEvent v number runs after = after ≡ runs
 
 -- each of the runs is that of a split node
 abbrev pub AreSplitRuns : List Entry → List (List Label) → Type 0

@@ -36,7 +36,7 @@ pub fn certify(
     let gap_tree = gap_tree(alloc, finished, &numbers)?;
     let set = served.set();
     let seq_runs = table.runs().copy(alloc)?;
-    // As for these: there are no more of them than a number can count.
+    // For the proof alone: there are no more runs than a number can count.
     let _ = runs.len();
     let _ = seq_runs.len();
     Ok(Certificate {
@@ -122,7 +122,7 @@ fn push_tree(
     requires there { number < length numbers.now }
     ensures { OnOk result (PushesRecorded finished.now.entries numbers.now number nodes.old.items nodes.new.items) }
 {
-    let _ = finished.program();
+    finished.recall_facts();
     let Some(settled) = finished.settled(number) else {
         unreachable!()
     };

@@ -44,8 +44,7 @@ pub fn hunt_with<R: Threads + Wait + Sync, O: Oracle>(
     judge_arguments(table, costs, workers)?;
     let tree = SearchTree::new(alloc, table, costs, workers)?;
     let finished = hunt(rt, alloc, oracle, tree)?;
-    // For the proof alone: what holds of every search that is done is known where its answer is read.
-    let _ = finished.served();
+    finished.recall_facts();
     Ok(finished)
 }
 

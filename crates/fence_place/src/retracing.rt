@@ -80,8 +80,7 @@ fn search_by_its_runs(
 fn runs_of(alloc: Global, finished: &Finished) -> Result<Vec<ForeignRun>, AllocError>
     ensures { IfOk result (λ runs. AreOf finished.now.question runs.items) }
 {
-    // For the proof alone: what holds of every search that is done is known where its program is read.
-    let _ = finished.program();
+    finished.recall_facts();
     let mut runs = Vec::new(alloc);
     for number in 0..finished.nodes() {
         if let Some(settled) = finished.settled(number) {

@@ -65,8 +65,7 @@ fn go_on<O: Oracle>(
         Err(TreeFault::NothingOpen) => return Ok(false),
         Err(_) => unreachable!(),
     };
-    // For the proof alone: what holds of every search is known where its program is read.
-    let _ = tree.program();
+    tree.recall_facts();
     settling_lessens_the_work();
     settle(tree, known, oracle, &node)?;
     Ok(true)

@@ -1,9 +1,8 @@
 //! One worker of a hunt.
-ghost use Rattle.std.specs.Prelude.{◌≡◌, ◌⊎◌, ◌++◌, ◌∷◌, [], Some, None, ℕ, IfErr, IfOk, IfSome, IsTrue, OnErr, OnOk, slice_get};
+ghost use Rattle.std.specs.Prelude.{◌≡◌, ◌⊎◌, ◌++◌, ◌∷◌, [], Some, None, ℕ, IfErr, IfOk, IfSome, OnErr, OnOk, slice_get};
 ghost use Rattle.cover_solver.specs.Outcomes.{AreGapsOf};
 ghost use Rattle.cover_solver.specs.Facts.{AreOf, IsForeignValue};
 ghost use Rattle.cover_solver.specs.Verdicts.{IsVerdictOf, PassesNoneOf};
-ghost use Rattle.search_core.specs.Events.{IsBeatenBy};
 ghost use Rattle.hunt_board.specs.Seats.{IsOf};
 ghost use Rattle.hunt_board.specs.Settlings.{IsLawfulSettling, MaySettle};
 ghost use Rattle.fence_place.specs.Internal.Sharing.{CanSplit};
@@ -13,7 +12,7 @@ use crate::known::known_run;
 use crate::sharing::{ceiling_below, copy_of_posted, share};
 use crate::turns::{Turn, Turns};
 use cover_solver::{ForeignRun, Oracle, SolveFault, Verdict};
-use gap_sets::{Costs, GapSet, Region};
+use gap_sets::{GapSet, Region};
 use hunt_board::{Hunt, HuntSeat, Next, Receipt, Settling};
 use std::alloc::Global;
 use std::sync::Wait;
@@ -137,7 +136,7 @@ fn known_settling(
     ensures lawful { IfSome result (IsLawfulSettling hunt.now worker.new.seat.best node.now) }
     ensures still { IsStillAt hunt.now worker.old worker.new node.now }
 {
-    if is_beaten(hunt.costs(), &worker.seat, &node.must) {
+    if worker.seat.has_as_good(hunt.costs(), &node.must) {
         return Some(Settling::Best);
     }
     if let Some(ceiling) = ceiling_below(hunt, &mut worker.seat, &node.must) {
@@ -160,16 +159,6 @@ fn run_at_hand(
     match copy_of_known(alloc, known, node) {
         Some(run) => Some(run),
         None => copy_of_posted(alloc, hunt, node),
-    }
-}
-
-/// Whether the seat has confirmed a set that this one isn't better than.
-fn is_beaten(costs: &Costs, seat: &HuntSeat, set: &GapSet) -> bool
-    ensures { IsTrue result → IsBeatenBy costs.now seat.now.best set.now }
-{
-    match seat.best() {
-        Some(best) => !costs.better(set, &best),
-        None => false,
     }
 }
 

@@ -1,13 +1,13 @@
 -- Each node of the record of a search that is done stands where the walk for its region ends.
-use Rattle.hunt_board.proofs.Vocabulary.{◌≡◌, ◌≢◌, ℕ, zero, suc, ◌+◌, ◌<◌, true, false, true≢false, List, [], ◌∷◌, Option, Some, None, cond, refl, sym, ap, ◌∙◌, subst, inl, inr, arith, position_from}
-use Rattle.hunt_board.proofs.Vocabulary.{AllPairs, slice_get, same_Some, none-some, Region, Question, IsWithinLimits, Foreign, Entry, Status, Split, Outcome, IsOutcome, finished_state, SetOfGaps}
-use Rattle.hunt_board.proofs.Vocabulary.{IsGapSet, all_sets, with_gap, without_gap, IsInRegion, child_regions, HasNoneOf, open_gaps, open_exact, open_ascending, Facts, facts_of, WalkLeads}
-use Rattle.hunt_board.proofs.Vocabulary.{StandsOnlyAt, ends, goes, child_by, child_in, child_of}
+use Rattle.hunt_board.proofs.Vocabulary.{◌≡◌, ◌≢◌, ℕ, zero, suc, ◌+◌, ◌<◌, false, true≢false, List, [], ◌∷◌, Option, Some, None, cond, refl, sym, ap, ◌∙◌, subst, inl, inr, arith, position_from}
+use Rattle.hunt_board.proofs.Vocabulary.{AllPairs, slice_get, same_Some, none-some, Region, Foreign, Entry, Status, Split, Outcome, IsOutcome, finished_state, SetOfGaps, IsGapSet, all_sets, with_gap}
+use Rattle.hunt_board.proofs.Vocabulary.{without_gap, IsInRegion, child_regions, HasNoneOf, open_gaps, open_exact, open_ascending, Facts, facts_of, WalkLeads, StandsOnlyAt, ends, goes, child_by}
+use Rattle.hunt_board.proofs.Vocabulary.{child_in, child_of}
 use Rattle.std.specs.Option.{option_map}
 use Rattle.std.specs.FinSet as set
 use Rattle.std.proofs.lemmas.List.Kept.{AllPairs-from_increasing}
 use Rattle.cover_solver.proofs.{Lists.first_is_here, Lists.later_is_here, Regions.new_or_old, Regions.true_or_false, Regions.in_root}
-use Rattle.search_core.proofs.{Sets.gap_set, Sets.passed_gaps, Working.kept_old, Working.has_new, Working.not_again, Working.later}
+use Rattle.search_core.proofs.{Sets.small_set, Working.kept_old, Working.has_new, Working.not_again, Working.later}
 use Rattle.hunt_board.proofs.Parents.{IsChildAt, HaveParents, parents_of}
 
 -- a walk ends at one place
@@ -25,27 +25,20 @@ still_missing s gap q differ missing = elim (true_or_false (set.contains (set.in
   | inl there ↦ elim (new_or_old s gap q there) [ inl same ↦ absurd (differ same) | inr old ↦ absurd (true≢false (sym old ∙ missing)) ]
 ]
 
--- a set in the region of a child is in that of its parent
-in_parent : (n : Region) (gaps : List ℕ) (i : ℕ) (c : Region) (other : SetOfGaps) → slice_get (child_regions n gaps) i ≡ Some c → IsInRegion c other → IsInRegion n other
-in_parent n [] i c other e inside = absurd (none-some c e)
-in_parent n (gap ∷ gaps) zero c other e inside =
-    let here : IsInRegion (with_gap n gap) other = subst (λ (d : Region). IsInRegion d other) (sym (same_Some (with_gap n gap) c e)) inside in
-    record { holds = λ q h. here.holds q (kept_old n.must gap q h); avoids = here.avoids }
-in_parent n (gap ∷ gaps) (suc i) c other e inside =
-    let rest = in_parent (without_gap n gap) gaps i c other e inside in
-    record { holds = rest.holds; avoids = λ q h. rest.avoids q (kept_old n.never gap q h) }
-
--- and the child is that of the first of the gaps that the set has
-is_first : (n : Region) (gaps : List ℕ) (i : ℕ) (c : Region) (other : SetOfGaps) (k : ℕ) → slice_get (child_regions n gaps) i ≡ Some c → IsInRegion c other →
-    position_from (set.contains other) k gaps ≡ Some (k + i)
-is_first n [] i c other k e inside = absurd (none-some c e)
-is_first n (gap ∷ gaps) zero c other k e inside =
-    let here : IsInRegion (with_gap n gap) other = subst (λ (d : Region). IsInRegion d other) (sym (same_Some (with_gap n gap) c e)) inside in
-    ap (λ b. cond b (Some k) (position_from (set.contains other) (k + 1) gaps)) (here.holds gap (has_new n.must gap)) ∙ ap (λ (j : ℕ). Some j) (omega arith)
-is_first n (gap ∷ gaps) (suc i) c other k e inside =
-    let rest = in_parent (without_gap n gap) gaps i c other e inside in
-    ap (λ b. cond b (Some k) (position_from (set.contains other) (k + 1) gaps)) (rest.avoids gap (has_new n.never gap))
-    ∙ is_first (without_gap n gap) gaps i c other (k + 1) e inside ∙ ap (λ (j : ℕ). Some j) (omega arith)
+-- a set in the region of a child is in that of its parent, and the child is that of the first of the gaps that the set has
+in_child : (n : Region) (gaps : List ℕ) (i : ℕ) (c : Region) (other : SetOfGaps) (k : ℕ) → slice_get (child_regions n gaps) i ≡ Some c → IsInRegion c other →
+    IsInRegion n other × (position_from (set.contains other) k gaps ≡ Some (k + i))
+in_child n [] i c other k e inside = absurd (none-some c e)
+in_child n (gap ∷ gaps) zero c other k e inside =
+    let here : IsInRegion (with_gap n gap) other = subst (λ (d : Region). IsInRegion d other) (sym (same_Some (with_gap n gap) c e)) inside in (
+      record { holds = λ q h. here.holds q (kept_old n.must gap q h); avoids = here.avoids },
+      ap (λ b. cond b (Some k) (position_from (set.contains other) (k + 1) gaps)) (here.holds gap (has_new n.must gap)) ∙ ap (λ (j : ℕ). Some j) (omega arith),
+    )
+in_child n (gap ∷ gaps) (suc i) c other k e inside =
+    let (rest, first) = in_child (without_gap n gap) gaps i c other (k + 1) e inside in (
+      record { holds = rest.holds; avoids = λ q h. rest.avoids q (kept_old n.never gap q h) },
+      ap (λ b. cond b (Some k) (position_from (set.contains other) (k + 1) gaps)) (rest.avoids gap (has_new n.never gap)) ∙ first ∙ ap (λ (j : ℕ). Some j) (omega arith),
+    )
 
 -- where the set has none of them, there is no first one
 no_first : (other : SetOfGaps) (k : ℕ) (gaps : List ℕ) → HasNoneOf other gaps → position_from (set.contains other) k gaps ≡ None
@@ -79,9 +72,7 @@ module _ (o : Outcome) (is : IsOutcome o) where
 
   module _ (place : ℕ) (e : Entry) (f : Foreign) (first : ℕ) (there : slice_get o.entries place ≡ Some e) (split : e.status ≡ Split f first) where
     small : IsGapSet f.passed
-    small =
-        let at = facts.split place e f first there split in
-        gap_set f.question.program (subst (λ (q : Question). IsWithinLimits q.program.threads q.program.memory) (sym at.of_question) facts.within) f.passed (passed_gaps f at.foreign)
+    small = let at = facts.split place e f first there split in small_set (finished_state o).question facts.within f at.of_question at.foreign
 
     -- what a split node's sets must have has none of the gaps that its run passes
     none_must : HasNoneOf e.node.must (open_gaps f.passed e.node.never)
@@ -100,7 +91,7 @@ module _ (o : Outcome) (is : IsOutcome o) where
     -- the walk for a set of the node goes from the parent to it
     goes_there : (m : Region) → IsInRegion n m.must → child_of o.entries c.parent m ≡ Some place
     goes_there m inside =
-        let number = is_first c.above.node (open_gaps c.run.passed c.above.node.never) c.number n m.must 0 c.is_child inside in
+        let number = (in_child c.above.node (open_gaps c.run.passed c.above.node.never) c.number n m.must 0 c.is_child inside).1 in
         ap (λ (x : Option Entry). child_in x m) c.there ∙ ap (λ (x : Status). child_by x c.above.node.never m.must) c.split
         ∙ ap (option_map (λ (k : ℕ). c.first + k)) number ∙ ap (λ (k : ℕ). Some k) (let at = c.at in omega arith)
 
@@ -124,7 +115,7 @@ module _ (o : Outcome) (is : IsOutcome o) where
   comes (suc bound) place below e there m end inside rest = elim (parents place e there) [
     | inl root ↦ subst (λ (k : ℕ). WalkLeads o.entries m k end) root.0 rest
     | inr c ↦ comes bound c.parent (let h = earlier place e.node c in omega arith) c.above c.there m end
-        (in_parent c.above.node (open_gaps c.run.passed c.above.node.never) c.number e.node m.must c.is_child inside)
+        (in_child c.above.node (open_gaps c.run.passed c.above.node.never) c.number e.node m.must 0 c.is_child inside).0
         (goes c.parent place end (goes_there place e.node c m inside) rest)
   ]
 

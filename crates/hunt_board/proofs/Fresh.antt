@@ -1,23 +1,15 @@
 -- The seats of a hunt as they are made.
-use Rattle.hunt_board.proofs.Vocabulary.{arith, ◌≡◌, ℕ, ◌+◌, List, [], ◌∷◌, ◌++◌, None, map, refl, sym, ap, ◌∙◌, subst, problem, range_with_len, HuntView, SeatView, IsFresh, AreFresh, word_of, Word}
-use Rattle.hunt_board.proofs.Vocabulary.{Known, IsSeatOf, no_ceiling}
+use Rattle.hunt_board.proofs.Vocabulary.{map-id, map_push, arith, ◌≡◌, ℕ, ◌+◌, List, [], ◌∷◌, ◌++◌, None, refl, sym, ap, ◌∙◌, subst, problem, range_with_len, HuntView, SeatView, IsFresh, AreFresh}
+use Rattle.hunt_board.proofs.Vocabulary.{word_of, Word, Known, IsSeatOf, no_ceiling}
 use Rattle.std.proofs.lemmas.List.Elements.{All-push}
 use Rattle.std.proofs.lemmas.List.FromFn.{map-range_with_len_more}
 
 abbrev pub seat_of : ℕ → Known → SeatView
 seat_of number known = record { number = number; node = None; best = None; known = known; posted = 0 }
 
-number_last : (seats : List SeatView) (n : ℕ) (known : Known) → map (λ (s : SeatView). s.number) (seats ++ seat_of n known ∷ []) ≡ map (λ (s : SeatView). s.number) seats ++ n ∷ []
-number_last [] n known = refl
-number_last (s ∷ seats) n known = ap (λ l. s.number ∷ l) (number_last seats n known)
-
-same_list : (l : List ℕ) → map (λ (n : ℕ). n) l ≡ l
-same_list [] = refl
-same_list (x ∷ xs) = ap (λ l. x ∷ l) (same_list xs)
-
 -- so many numbers, and one more
 numbers_more : (n : ℕ) → range_with_len 0 (n + 1) ≡ range_with_len 0 n ++ n ∷ []
-numbers_more n = sym (same_list (range_with_len 0 (n + 1))) ∙ map-range_with_len_more (λ (k : ℕ). k) 0 n n (omega arith) ∙ ap (λ l. l ++ n ∷ []) (same_list (range_with_len 0 n))
+numbers_more n = sym (map-id (range_with_len 0 (n + 1))) ∙ map-range_with_len_more (λ (k : ℕ). k) 0 n n (omega arith) ∙ ap (λ l. l ++ n ∷ []) (map-id (range_with_len 0 n))
 
 module _ (h : HuntView) (n : ℕ) (seats : List SeatView) (w : Word) (first known : Known) where
   -- one more seat, which knows what the first one knows
@@ -26,7 +18,7 @@ module _ (h : HuntView) (n : ℕ) (seats : List SeatView) (w : Word) (first know
       let here : IsSeatOf (word_of h) known = subst (λ (v : Word). IsSeatOf v known) (sym word) (subst (IsSeatOf w) (sym same) of) in
       let none : known.least ≡ no_ceiling = ap (λ (k : Known). k.least) same ∙ least in record {
         each = All-push (IsFresh h) seats (seat_of n known) fresh.each ((here, tt), refl, refl, none, refl);
-        numbers = number_last seats n known ∙ ap (λ l. l ++ n ∷ []) fresh.numbers ∙ sym (numbers_more n);
+        numbers = map_push (λ (s : SeatView). s.number) seats (seat_of n known) ∙ ap (λ l. l ++ n ∷ []) fresh.numbers ∙ sym (numbers_more n);
       }
 
 -- a hunt's word by its parts

@@ -1,9 +1,9 @@
 -- Receipts that are marked off against the record, one after the other.
-use Rattle.hunt_board.proofs.Vocabulary.{◌≡◌, ◌≢◌, ℕ, zero, suc, ◌+◌, ◌<◌, ◌≤◌, Bool, true, false, true≢false, List, [], ◌∷◌, Some, None, refl, sym, ap, ◌∙◌, subst, inl, inr, arith, length}
-use Rattle.hunt_board.proofs.Vocabulary.{length-set, set, cond, get_or, replicate, take, same_Some, none-some, slice_get_within, slice_get_read, get_or_from_slice_get, cases_lt, slice_get, ℕ_discrete}
-use Rattle.hunt_board.proofs.Vocabulary.{Entry, Foreign, Status, Split, Cut, Confirmed, Settled, IsEventOf, IsSettledAs, Receipt, WalkLeads, StandsOnlyAt, get_here, get_else, get_old, HasMark}
-use Rattle.hunt_board.proofs.Vocabulary.{IsMarked, IsNotMarked, Event as Recorded, IsReceiptEvent as IsEventTold, IsReceiptOf, Stands, StandApart, NameAll, IsFirstWrong}
-use Rattle.std.proofs.lemmas.List.{get_or-replicate, length-replicate}
+use Rattle.hunt_board.proofs.Vocabulary.{◌≡◌, ◌≢◌, ℕ, zero, suc, ◌+◌, ◌<◌, ◌≤◌, Bool, true, false, true≢false, List, [], ◌∷◌, Some, None, refl, sym, ap, ◌∙◌, subst, inl, inr, arith, below_more}
+use Rattle.hunt_board.proofs.Vocabulary.{length, length-set, set, cond, get_or, replicate, take, ◌↔◌, same_Some, none-some, slice_get_within, slice_get_read, get_or_from_slice_get, cases_lt}
+use Rattle.hunt_board.proofs.Vocabulary.{slice_get, ℕ_discrete, Entry, Foreign, Status, Split, Cut, Confirmed, Settled, IsEventOf, IsSettledAs, Receipt, WalkLeads, StandsOnlyAt, get_here, get_else}
+use Rattle.hunt_board.proofs.Vocabulary.{get_old, HasMark, IsMarked, IsNotMarked, get_or-replicate, length-replicate, Event as Recorded, IsReceiptEvent as IsEventTold, IsReceiptOf, Stands, StandApart}
+use Rattle.hunt_board.proofs.Vocabulary.{NameAll, IsFirstWrong}
 use Rattle.search_core.specs.declared.finished.Event.TheVariants as recorded
 use Rattle.hunt_board.specs.{declared.settling.Event.Event, Internal.Settled.IsSameEvent, Internal.Settled.SaysSame}
 use Rattle.hunt_board.specs.declared.settling.Event.TheVariants as event
@@ -42,23 +42,23 @@ all_marked (true ∷ marks) zero all h = refl
 all_marked (true ∷ marks) (suc k) all h = all_marked marks k (omega arith) (omega arith)
 all_marked (false ∷ marks) k all h = absurd (let few = few_marked marks in omega arith)
 
--- the receipts so far: each stands in the record and its node is marked, no two are of one node, and each marked node has one of them
+-- the receipts so far: the node of each is marked, no two are of one node, and each marked node has one of them
 pub record AreMarked (entries : List Entry) (receipts : List Receipt) (marks : List Bool) (count : ℕ) : Type 0 where
   pub long : length marks ≡ length entries
-  pub stand : (j : ℕ) (r : Receipt) → j < count → slice_get receipts j ≡ Some r → Stands entries r
-  pub are_marked : (j place : ℕ) (r : Receipt) → j < count → slice_get receipts j ≡ Some r → WalkLeads entries r.node 0 place → slice_get marks place ≡ Some true
-  pub apart : (j i : ℕ) (q r : Receipt) → j < i → i < count → slice_get receipts j ≡ Some q → slice_get receipts i ≡ Some r → q.node ≢ r.node
+  pub have_marks : (j : ℕ) → j < count → (r : Receipt) → slice_get receipts j ≡ Some r → HasMark entries r marks true
+  pub apart : (i : ℕ) → i < count → (j : ℕ) (q r : Receipt) → j < i → slice_get receipts j ≡ Some q → slice_get receipts i ≡ Some r → q.node ≢ r.node
   pub named : (place : ℕ) (e : Entry) → slice_get marks place ≡ Some true → slice_get entries place ≡ Some e → (j : ℕ) × (r : Receipt) × (j < count) × (slice_get receipts j ≡ Some r) × IsReceiptOf e r
   pub as_many : marked marks ≡ count
+
+-- the same of other marks
+with_marks : (entries : List Entry) (r : Receipt) (marks after : List Bool) (a b : Bool) (m : HasMark entries r marks a) → slice_get after m.place ≡ Some b → HasMark entries r after b
+with_marks entries r marks after a b m has = record { place = m.place; leads = m.leads; entry = m.entry; there = m.there; is_receipt = m.is_receipt; has = has }
 
 module _ (entries : List Entry) (receipts : List Receipt) (marks : List Bool) (count : ℕ) (so : AreMarked entries receipts marks count) where
   -- one more is marked
   module _ (x : Receipt) (here : slice_get receipts count ≡ Some x) (is : HasMark entries x marks false) where
-    is_x : (j : ℕ) (r : Receipt) → j ≡ count → slice_get receipts j ≡ Some r → x ≡ r
-    is_x j r e there = same_Some x r (sym here ∙ ap (slice_get receipts) (sym e) ∙ there)
-
-    stands_x : Stands entries x
-    stands_x = (is.place, is.entry, is.there, is.is_receipt)
+    is_x : (r : Receipt) → slice_get receipts count ≡ Some r → x ≡ r
+    is_x r there = same_Some x r (sym here ∙ there)
 
     stays : (place : ℕ) → slice_get marks place ≡ Some true → slice_get (set marks is.place true) place ≡ Some true
     stays place e = elim (ℕ_discrete place is.place) [
@@ -66,29 +66,11 @@ module _ (entries : List Entry) (receipts : List Receipt) (marks : List Bool) (c
       | no other ↦ get_else marks is.place place true other ∙ e
     ]
 
-    stand_on : (j : ℕ) (r : Receipt) → j < count + 1 → slice_get receipts j ≡ Some r → Stands entries r
-    stand_on j r h there = elim (cases_lt j count) [
-      | inl less ↦ so.stand j r less there
-      | inr not_less ↦ subst (Stands entries) (is_x j r (omega arith) there) stands_x
-    ]
-
-    marked_on : (j place : ℕ) (r : Receipt) → j < count + 1 → slice_get receipts j ≡ Some r → WalkLeads entries r.node 0 place → slice_get (set marks is.place true) place ≡ Some true
-    marked_on j place r h there leads = elim (cases_lt j count) [
-      | inl less ↦ stays place (so.are_marked j place r less there leads)
-      | inr not_less ↦ (let same : x ≡ r = is_x j r (omega arith) there in
-          let end : place ≡ is.place = same_end entries x.node 0 place is.place (subst (λ (y : Receipt). WalkLeads entries y.node 0 place) (sym same) leads) is.leads in
-          ap (slice_get (set marks is.place true)) end ∙ get_here marks is.place false true is.has)
-    ]
-
-    new_node : (j : ℕ) (q : Receipt) → j < count → slice_get receipts j ≡ Some q → q.node ≢ x.node
-    new_node j q less there same = true≢false (same_Some true false
-        (sym (so.are_marked j is.place q less there (subst (λ n. WalkLeads entries n 0 is.place) (sym same) is.leads)) ∙ is.has))
-
-    apart_on : (j i : ℕ) (q r : Receipt) → j < i → i < count + 1 → slice_get receipts j ≡ Some q → slice_get receipts i ≡ Some r → q.node ≢ r.node
-    apart_on j i q r before h there there' = elim (cases_lt i count) [
-      | inl less ↦ so.apart j i q r before less there there'
-      | inr not_less ↦ subst (λ (y : Receipt). q.node ≢ y.node) (is_x i r (omega arith) there') (new_node j q (omega arith) there)
-    ]
+    new_node : (j : ℕ) → j < count → (q : Receipt) → slice_get receipts j ≡ Some q → q.node ≢ x.node
+    new_node j less q there same =
+        let m = so.have_marks j less q there in
+        let end = same_end entries x.node 0 m.place is.place (subst (λ n. WalkLeads entries n 0 m.place) same m.leads) is.leads in
+        true≢false (same_Some true false (sym m.has ∙ ap (slice_get marks) end ∙ is.has))
 
     named_on : (place : ℕ) (e : Entry) → slice_get (set marks is.place true) place ≡ Some true → slice_get entries place ≡ Some e → (j : ℕ) × (r : Receipt) × (j < count + 1) × (slice_get receipts j ≡ Some r) × IsReceiptOf e r
     named_on place e mark there = elim (get_old marks is.place place true true mark) [
@@ -99,9 +81,10 @@ module _ (entries : List Entry) (receipts : List Receipt) (marks : List Bool) (c
     with_x : AreMarked entries receipts (set marks is.place true) (count + 1)
     with_x = record {
       long = length-set marks is.place true ∙ so.long;
-      stand = stand_on;
-      are_marked = marked_on;
-      apart = apart_on;
+      have_marks = below_more _ _ (λ j less r there. (let m = so.have_marks j less r there in with_marks entries r marks (set marks is.place true) true true m (stays m.place m.has)))
+          (λ r there. subst (λ (y : Receipt). HasMark entries y (set marks is.place true) true) (is_x r there)
+          (with_marks entries x marks (set marks is.place true) false true is (get_here marks is.place false true is.has)));
+      apart = below_more _ _ so.apart (λ j q r before there there'. subst (λ (y : Receipt). q.node ≢ y.node) (is_x r there') (new_node j before q there));
       named = named_on;
       as_many = one_more marks is.place is.has ∙ ap (λ n. n + 1) so.as_many;
     }
@@ -112,8 +95,8 @@ module _ (entries : List Entry) (receipts : List Receipt) (marks : List Bool) (c
   -- the receipts so far stand in the record, and no two are of one node
   stand_so_far : (l : List Receipt) → ((i : ℕ) (r : Receipt) → slice_get l i ≡ Some r → (i < count) × (slice_get receipts i ≡ Some r)) → StandApart entries l
   stand_so_far l some = record {
-    each = λ i r e. (let h = some i r e in so.stand i r h.0 h.1);
-    apart = λ j i q r before there there'. (let h = some j q there in let k = some i r there' in so.apart j i q r before k.0 h.1 k.1);
+    each = λ i r e. (let h = some i r e in let m = so.have_marks i h.0 r h.1 in (m.place, m.entry, m.there, m.is_receipt));
+    apart = λ j i q r before there there'. (let h = some j q there in let k = some i r there' in so.apart i k.0 j q r before h.1 k.1);
   }
 
   -- all of them are
@@ -149,63 +132,35 @@ module _ (entries : List Entry) (receipts : List Receipt) (marks : List Bool) (c
   }
 
 -- none is marked at first
-none_false : (l : List Bool) → ((k : ℕ) (b : Bool) → slice_get l k ≡ Some b → b ≡ false) → marked l ≡ 0
-none_false [] none = refl
-none_false (true ∷ marks) none = absurd (true≢false (none 0 true refl))
-none_false (false ∷ marks) none = let so = none_false marks (λ k b e. none (suc k) b e) in omega arith
+none_marked : (n : ℕ) → marked (replicate n false) ≡ 0
+none_marked zero = refl
+none_marked (suc n) = let so = none_marked n in omega arith
 
-pub none_marked : (entries : List Entry) (receipts : List Receipt) (marks : List Bool) → length marks ≡ length entries → ((k : ℕ) (b : Bool) → slice_get marks k ≡ Some b → b ≡ false) → AreMarked entries receipts marks 0
-none_marked entries receipts marks long none = record {
-  long = long;
-  stand = λ j r h. absurd (omega arith);
-  are_marked = λ j place r h. absurd (omega arith);
-  apart = λ j i q r before h. absurd (omega arith);
-  named = λ place e mark. absurd (true≢false (none place true mark));
-  as_many = none_false marks none;
-}
-
--- the marks as they are made
 pub fresh_marks : (entries : List Entry) (receipts : List Receipt) (marks : List Bool) (n : ℕ) → n ≡ length entries → marks ≡ replicate n false → AreMarked entries receipts marks 0
-fresh_marks entries receipts marks n all is = subst (λ l. AreMarked entries receipts l 0) (sym is)
-    (none_marked entries receipts (replicate n false) (length-replicate n false ∙ all)
-    (λ k b e. (let within = slice_get_within (replicate n false) k b e in let long = length-replicate n false in
-    sym (get_or_from_slice_get (replicate n false) k b false e) ∙ get_or-replicate n k false false (omega arith))))
+fresh_marks entries receipts marks n all is = subst (λ l. AreMarked entries receipts l 0) (sym is) (record {
+  long = length-replicate n false ∙ all;
+  have_marks = λ j h. absurd (omega arith);
+  apart = λ i h. absurd (omega arith);
+  named = λ place e mark. absurd (let within = slice_get_within (replicate n false) place true mark in let long = length-replicate n false in
+      true≢false (sym (get_or_from_slice_get (replicate n false) place true false mark) ∙ get_or-replicate n place false false (omega arith)));
+  as_many = none_marked n;
+})
 
 -- the same event, by what the record says of it
-same_event : (s : Status) (v : Recorded) (w : Event) → IsEventOf s v → IsSameEvent v w → IsEventTold s w
-same_event (Split f first) (recorded.Split run) (event.Split passed) h g = ap (λ (x : Foreign). x.passed) (sym h) ∙ g
-same_event Cut recorded.Cut event.Cut h g = tt
-same_event Confirmed recorded.Confirmed event.Confirmed h g = tt
-same_event (Split f first) (recorded.Split run) w h g = absurd g
-same_event Cut recorded.Cut w h g = absurd g
-same_event Confirmed recorded.Confirmed w h g = absurd g
-same_event s v w h g = absurd h
-
--- and the other way round
-event_same : (s : Status) (v : Recorded) (w : Event) → IsEventOf s v → IsEventTold s w → IsSameEvent v w
-event_same (Split f first) (recorded.Split run) (event.Split passed) h g = ap (λ (x : Foreign). x.passed) h ∙ g
-event_same Cut recorded.Cut event.Cut h g = tt
-event_same Confirmed recorded.Confirmed event.Confirmed h g = tt
-event_same (Split f first) (recorded.Split run) w h g = absurd g
-event_same Cut recorded.Cut w h g = absurd g
-event_same Confirmed recorded.Confirmed w h g = absurd g
-event_same s v w h g = absurd h
+same_event : (s : Status) (v : Recorded) (w : Event) → IsEventOf s v → IsSameEvent v w ↔ IsEventTold s w
+same_event (Split f first) (recorded.Split run) (event.Split passed) h = ((λ g. ap (λ (x : Foreign). x.passed) (sym h) ∙ g), (λ g. ap (λ (x : Foreign). x.passed) h ∙ g))
+same_event (Split f first) (recorded.Split run) w h = ((λ g. absurd g), (λ g. absurd g))
+same_event Cut recorded.Cut w h = ((λ g. g), (λ g. g))
+same_event Confirmed recorded.Confirmed w h = ((λ g. g), (λ g. g))
+same_event s v w h = absurd h
 
 -- what the record says of a node is what its receipt says
-module _ (e : Entry) (settled : Settled) (r : Receipt) (told : IsSettledAs e settled) where
-  pub receipt_of : SaysSame settled r → IsReceiptOf e r
-  receipt_of says = record {
-    node = says.node ∙ told.same_node;
-    seat = says.seat ∙ told.same_seat;
-    event = same_event e.status settled.event r.event told.is_event says.event;
-  }
-
-  says_same : IsReceiptOf e r → SaysSame settled r
-  says_same is = record {
-    node = is.node ∙ sym told.same_node;
-    seat = is.seat ∙ sym told.same_seat;
-    event = event_same e.status settled.event r.event told.is_event is.event;
-  }
+pub receipt_of : (e : Entry) (settled : Settled) (r : Receipt) → IsSettledAs e settled → SaysSame settled r ↔ IsReceiptOf e r
+receipt_of e settled r told =
+    let events = same_event e.status settled.event r.event told.is_event in (
+      (λ says. record { node = says.node ∙ told.same_node; seat = says.seat ∙ told.same_seat; event = events.0 says.event }),
+      (λ is. record { node = is.node ∙ sym told.same_node; seat = is.seat ∙ sym told.same_seat; event = events.1 is.event }),
+    )
 
 -- the mark of the receipt's node
 abbrev pub mark_of : (entries : List Entry) (r : Receipt) (marks : List Bool) (place : ℕ) (settled : Settled) (mark b : Bool) → WalkLeads entries r.node 0 place →
@@ -216,7 +171,7 @@ mark_of entries r marks place settled mark b leads found says long read is = rec
   leads = leads;
   entry = found.0;
   there = found.1;
-  is_receipt = receipt_of found.0 settled r found.2 says;
+  is_receipt = (receipt_of found.0 settled r found.2).0 says;
   has = (let within = slice_get_within entries place found.0 found.1 in slice_get_read marks (length entries) place mark (sym long) within read) ∙ ap Some is;
 }
 
@@ -234,4 +189,4 @@ module _ (entries : List Entry) (r : Receipt) (place : ℕ) (only : StandsOnlyAt
   stands_not settled (e, at, told) other stands =
       let there = stands_there stands in
       let same : there.0 ≡ e = same_Some there.0 e (sym there.1 ∙ at) in
-      other (says_same e settled r told (subst (λ (d : Entry). IsReceiptOf d r) same there.2))
+      other ((receipt_of e settled r told).1 (subst (λ (d : Entry). IsReceiptOf d r) same there.2))

@@ -1,7 +1,7 @@
 -- Receipts against the record of a search.
 use Rattle.std.specs.Prelude.{◌≡◌, ◌≢◌, ◌⊎◌, ◌<◌, ℕ, List, Some, slice_get, length, take}
 use Rattle.search_core.specs.declared.entry.Entry.{Entry}
-use Rattle.search_core.specs.declared.entry.Status.{Status, TheVariants.Open, TheVariants.Held, TheVariants.Split, TheVariants.Cut, TheVariants.Confirmed}
+use Rattle.search_core.specs.declared.entry.Status.{Status, TheVariants.Split, TheVariants.Cut, TheVariants.Confirmed}
 use Rattle.search_core.specs.Records.{Outcome, IsOutcome}
 use Rattle.hunt_board.specs.declared.settling.Event.{Event}
 use Rattle.hunt_board.specs.declared.settling.Event.TheVariants as event

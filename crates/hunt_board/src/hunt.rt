@@ -252,8 +252,7 @@ impl Hunt {
         let Ok(finished) = tree.finish() else {
             return Err(CloseFault::NotDone);
         };
-        // For the proof alone: that the set is the answer is known where it is read.
-        let _ = finished.served();
+        finished.recall_facts();
         check_receipts(alloc, &finished, &receipts)?;
         Ok(finished)
     }

@@ -89,8 +89,7 @@ fn place_of(finished: &Finished, node: &Region) -> usize
     ensures leads { WalkLeads finished.now.entries node.now 0 result }
     ensures only { StandsOnlyAt finished.now.entries node.now result }
 {
-    // For the proof alone: what holds of every record is known where its program is read.
-    let _ = finished.program();
+    finished.recall_facts();
     let mut place = 0;
     while let Some(child) = child_of(finished, place, node) {
         place = child;
@@ -104,9 +103,8 @@ fn child_of(finished: &Finished, place: usize, node: &Region) -> Option<usize>
     ensures later { IfSome result (λ child. place < child) }
     ensures there { IfSome result (λ child. child < length finished.now.entries) }
 {
-    // For the proof alone: what holds of every record is known where its program and the number of its nodes
-    // are read.
-    let _ = finished.program();
+    finished.recall_facts();
+    // For the proof alone: how many nodes there are is a number of this type.
     let _ = finished.nodes();
     let Some(settled) = finished.settled(place) else {
         return None;

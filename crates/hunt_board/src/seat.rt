@@ -3,7 +3,7 @@ ghost use Rattle.std.specs.Prelude.{◌≡◌, false, min, Some, None, IfSome, I
 ghost use Rattle.gap_sets.specs.Order.{Better};
 ghost use Rattle.gap_sets.specs.declared.region.Region.{Region};
 ghost use Rattle.cover_solver.specs.Facts.{Serving, IsServing};
-ghost use Rattle.search_core.specs.Events.{IsBestAfter};
+ghost use Rattle.search_core.specs.Events.{IsBeatenBy, IsBestAfter};
 ghost use Rattle.hunt_board.specs.Seats.{SeatView, holding_node, with_best, with_known};
 ghost use Rattle.hunt_board.specs.Settlings.{IsOwnBestAfter};
 ghost use Rattle.hunt_board.specs.Word.{IsSeatOf, with_least, word_with};
@@ -78,6 +78,17 @@ impl HuntSeat {
         }
     }
 
+    /// Whether the seat has confirmed a set that this one isn't better than.
+    pub fn has_as_good(&self, costs: &Costs, set: &GapSet) -> bool
+        ensures yes { IsTrue result → IsBeatenBy costs.now self.now.best set.now }
+        ensures no { result ≡ false → IfSome self.now.best (λ old. Better costs.now set.now old.gaps) }
+    {
+        match &self.best {
+            Some(best) => !costs.better(set, &best.set),
+            None => false,
+        }
+    }
+
     /// A seat that holds nothing, has confirmed nothing and has posted nothing.
     pub(crate) fn new(number: u8, word: WordSeat) -> HuntSeat
         ensures { result ≡ record { number = number; node = None; best = None; known = word; posted = 0 } }
@@ -109,24 +120,14 @@ impl HuntSeat {
     {
         // For the proof alone: what holds of every set that serves is known where its program is read.
         let _ = served.program();
-        if !self.is_newer(costs, served) {
+        let set = served.set();
+        if self.has_as_good(costs, &set) {
             return None;
         }
         Some(Confirmed {
-            set: served.set(),
+            set,
             served: Snapshot::of(served),
         })
-    }
-
-    /// Whether the seat has confirmed no set, or this one is better than its best.
-    fn is_newer(&self, costs: &Costs, served: &Served) -> bool
-        ensures yes { IsTrue result → IfSome self.now.best (λ old. Better costs.now served.now.gaps old.gaps) }
-        ensures no { result ≡ false → (old : Serving) × (self.now.best ≡ Some old) × (¬ Better costs.now served.now.gaps old.gaps) }
-    {
-        match &self.best {
-            Some(best) => costs.better(&served.set(), &best.set),
-            None => true,
-        }
     }
 
     /// The seat holds nothing more, and the set, if there is one, is its best.

@@ -1,9 +1,8 @@
 //! A hunt of one seat by its calls, one for each word of a script, at whose end the hunt is closed.
-ghost use Rattle.std.specs.Prelude.{◌≡◌, IfOk, IsTrue, Some};
+ghost use Rattle.std.specs.Prelude.{◌≡◌, IfOk, Some};
 ghost use Rattle.tso_machine.specs.Outcomes.{AreGapsOf};
 ghost use Rattle.cover_solver.specs.Facts.{IsForeignValue};
 ghost use Rattle.cover_solver.specs.Verdicts.{IsVerdictOf, PassesNoneOf};
-ghost use Rattle.search_core.specs.Events.{IsBeatenBy};
 ghost use Rattle.hunt_board.specs.Seats.{IsOf};
 ghost use Rattle.hunt_board.specs.Settlings.{IsLawfulSettling};
 ghost use Rattle.hunt_calls.specs.Hunts.{IsSound};
@@ -14,7 +13,7 @@ use crate::scene::Scene;
 use crate::search::{labels_of, push_region};
 use crate::settlings::cut;
 use cover_solver::{ForeignRun, Oracle, SeqTable, Solver, Verdict};
-use gap_sets::{Costs, GapSet, Region};
+use gap_sets::{GapSet, Region};
 use hunt_board::{Event, Hunt, HuntSeat, Next, Posted, Receipt, Settling};
 use search_core::SearchTree;
 use solver_calls::{equal_costs, passes_none};
@@ -103,16 +102,6 @@ fn by_solver(alloc: Global, table: &SeqTable, node: &Region) -> Result<Verdict, 
     Ok(solver.ask(&node.must)?)
 }
 
-/// Whether the seat has confirmed a set that the node doesn't better.
-fn is_beaten(costs: &Costs, seat: &HuntSeat, node: &Region) -> bool
-    ensures { IsTrue result → IsBeatenBy costs.now seat.now.best node.now.must }
-{
-    match seat.best() {
-        Some(best) => !costs.better(&node.must, &best),
-        None => false,
-    }
-}
-
 pub fn push_receipt(receipt: &Receipt, printed: &mut String) -> Result<(), AllocError> {
     write!(printed, "seat {} ", receipt.seat)?;
     match receipt.event {
@@ -176,7 +165,7 @@ impl Scene<'_> {
         if name == b"ask".as_slice() {
             return Ok(Settling::Asked(by_solver(self.alloc, self.table, node)?));
         }
-        if name == b"best".as_slice() && is_beaten(self.hunt.costs(), seat, node) {
+        if name == b"best".as_slice() && seat.has_as_good(self.hunt.costs(), &node.must) {
             return Ok(Settling::Best);
         }
         Err(HuntRefusal::Call)

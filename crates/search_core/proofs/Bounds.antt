@@ -1,7 +1,5 @@
 -- Which costs are ceilings.
-use Rattle.search_core.proofs.Vocabulary.{ℕ, List, le_trans, total, Serving, IsServing, IsCeiling, TheLeastCostIsTheLeastCeiling}
-use Rattle.the_answer.specs.Answers.{the_answer}
-use Rattle.the_answer.proofs.AnswerExists.{answer_exists, none_costs_less}
+use Rattle.search_core.proofs.Vocabulary.{ℕ, List, le_trans, total, Serving, IsServing, IsCeiling, TheLeastCostIsTheLeastCeiling, the_answer, answer_exists, none_costs_less}
 use Rattle.search_core.proofs.OfProgram.{part, part_of_program, part_serves, part_costs_less}
 
 -- what a serving set costs is a ceiling

@@ -1,8 +1,8 @@
 -- The events of the calls.
-use Rattle.search_core.proofs.Vocabulary.{◌≡◌, ◌⊎◌, ℕ, zero, suc, ◌<◌, List, [], ◌∷◌, ◌++◌, Option, Some, None, refl, sym, ap, ◌∙◌, subst, inl, inr, arith, length, set as set_at, slice_get, slice_set}
-use Rattle.search_core.proofs.Vocabulary.{IfSome, MatchOption, slice_get_within, total, Region, Question, AreGapsOf, Foreign, Serving, IsForeignValue, IsServing, PassesNoneOf, Entry, Open, Held}
-use Rattle.search_core.proofs.Vocabulary.{Split, Cut, Confirmed, Reason, children, entry, IsReached, Bound, IsCeiling, IsBound, IsCeilingOf, SearchState, IsOpenAt, IsHeldAt, HoldsNode, HoldsNothing}
-use Rattle.search_core.proofs.Vocabulary.{HoldsOnly, HasNoOpen, open_entries, IsBeaten, IsTooDear, IsBestAfter, TakesNode, GivesBack, Splits, Cuts, Confirms, IsReasonOf, HasBound, CutsMust}
+use Rattle.search_core.proofs.Vocabulary.{◌≡◌, ◌⊎◌, ℕ, ◌<◌, List, ◌++◌, Option, Some, None, sym, ap, ◌∙◌, subst, inl, inr, length, slice_get, slice_set, IfSome, MatchOption, slice_get_within, total}
+use Rattle.search_core.proofs.Vocabulary.{Region, Question, AreGapsOf, Foreign, Serving, IsForeignValue, IsServing, PassesNoneOf, Entry, Open, Held, Split, Cut, Confirmed, Reason, children, entry}
+use Rattle.search_core.proofs.Vocabulary.{IsReached, Bound, IsCeiling, IsBound, IsCeilingOf, SearchState, IsOpenAt, IsHeldAt, HoldsNode, HoldsNothing, HoldsOnly, HasNoOpen, open_entries, IsBeaten}
+use Rattle.search_core.proofs.Vocabulary.{IsTooDear, IsBestAfter, TakesNode, GivesBack, Splits, Cuts, Confirms, IsReasonOf, HasBound, CutsMust}
 use Rattle.search_core.specs.declared.ceiling.Reason.TheVariants as reason
 use Rattle.search_core.proofs.{Kept.facts_of, OneNode.only_node}
 
@@ -27,19 +27,12 @@ module _ (s old : SearchState) (is : s ≡ old) (seen : List Entry) (at : seen �
   pub no_open : ((place : ℕ) (n : Region) → ¬ IsOpenAt seen place n) → HasNoOpen old
   no_open none place n open_there = none place n (subst (λ es. IsOpenAt es place n) (sym seen_old) open_there)
 
-  pub held_within : (seat place : ℕ) (n : Region) → IsHeldAt seen seat place n → place < length s.entries
-  held_within seat place n held = subst (λ es. place < length es) at (slice_get_within seen place held.before held.there)
+  pub is_within : (place : ℕ) (e : Entry) → slice_get seen place ≡ Some e → place < length s.entries
+  is_within place e there = subst (λ es. place < length es) at (slice_get_within seen place e there)
 
-  pub open_within : (place : ℕ) (n : Region) → IsOpenAt seen place n → place < length s.entries
-  open_within place n open_there = subst (λ es. place < length es) at (slice_get_within seen place open_there.before open_there.there)
-
-  pub held_gaps : IsReached s → (seat place : ℕ) (n : Region) → IsHeldAt seen seat place n → AreGapsOf old.question.program n.must
-  held_gaps r seat place n held = subst (λ (t : SearchState). AreGapsOf t.question.program n.must) is
-      (subst (λ (m : Region). AreGapsOf s.question.program m.must) held.is_node ((facts_of s r).of_program place held.before (ap (λ es. slice_get es place) (sym at) ∙ held.there)))
-
-  pub open_gaps : IsReached s → (place : ℕ) (n : Region) → IsOpenAt seen place n → AreGapsOf old.question.program n.must
-  open_gaps r place n h = subst (λ (t : SearchState). AreGapsOf t.question.program n.must) is
-      (subst (λ (m : Region). AreGapsOf s.question.program m.must) h.is_node ((facts_of s r).of_program place h.before (ap (λ es. slice_get es place) (sym at) ∙ h.there)))
+  pub node_gaps : IsReached s → (place : ℕ) (e : Entry) → slice_get seen place ≡ Some e → (n : Region) → e.node ≡ n → AreGapsOf old.question.program n.must
+  node_gaps r place e there n is_node = subst (λ (t : SearchState). AreGapsOf t.question.program n.must) is
+      (subst (λ (m : Region). AreGapsOf s.question.program m.must) is_node ((facts_of s r).of_program place e (ap (λ es. slice_get es place) (sym at) ∙ there)))
 
   module _ (items : List Entry) (seat place : ℕ) (n : Region) where
     abbrev pub after : SearchState
@@ -97,9 +90,3 @@ why_cut s (reason.Ceiling ceiling) n of bound cuts = inr (by_ceiling ceiling of 
     by_ceiling : (c : Option Bound) → IsCeilingOf s.question s.costs c → IfSome c IsBound → MatchOption c ⊥ (λ b. b.cost < total s.costs n.must) → IsTooDear s n
     by_ceiling None of bound cuts = absurd cuts
     by_ceiling (Some b) of bound cuts = (b.cost, subst (λ (l : List ℕ). IsCeiling s.question l b.cost) of.1 (subst (λ (q : Question). IsCeiling q b.costs b.cost) of.0 bound), cuts)
-
--- an entry changes before others are appended, or after
-pub set_front : {A : Type 0} (l m : List A) (k : ℕ) (x : A) → k < length l → set_at (l ++ m) k x ≡ set_at l k x ++ m
-set_front [] m k x h = absurd (omega arith)
-set_front (y ∷ ys) m zero x h = refl
-set_front (y ∷ ys) m (suc k) x h = ap (λ l. y ∷ l) (set_front ys m k x (omega arith))

@@ -1,6 +1,7 @@
 -- Sets of a program's gaps: their totals, and what serves.
-use Rattle.search_core.proofs.Vocabulary.{◌≡◌, ℕ, ◌<◌, ◌≤◌, Bool, true, false, List, length, refl, sym, ap, ◌∙◌, inl, inr, arith, nat_cmp_total, total, Better, MAX_GAPS, Listing, Question, gap_count}
-use Rattle.search_core.proofs.Vocabulary.{IsWithinLimits, gap_below, Serves, LeavesOutcome, AreGapsOf, HaveCosts, Foreign, IsForeignValue, SetOfGaps, IsGapSet, have_same_gaps, have_same_gaps-same}
+use Rattle.search_core.proofs.Vocabulary.{◌≡◌, ℕ, ◌<◌, ◌≤◌, Bool, true, false, List, length, refl, sym, ap, ◌∙◌, subst, inl, inr, arith, nat_cmp_total, total, Better, MAX_GAPS, Listing, Question}
+use Rattle.search_core.proofs.Vocabulary.{gap_count, IsWithinLimits, gap_below, Serves, LeavesOutcome, AreGapsOf, HaveCosts, Foreign, IsForeignValue, SetOfGaps, IsGapSet, have_same_gaps}
+use Rattle.search_core.proofs.Vocabulary.{have_same_gaps-same}
 use Rattle.std.specs.FinSet as set
 use Rattle.gap_sets.proofs.Subsets.{cheaper}
 
@@ -8,9 +9,9 @@ use Rattle.gap_sets.proofs.Subsets.{cheaper}
 pub unserved : (q : Question) (gaps : SetOfGaps) → LeavesOutcome q gaps → Serves q gaps → ⊥
 unserved q gaps left serves = left.foreign ((serves left.outcome).0 left.left)
 
--- what a foreign run passes are gaps of its program
-pub passed_gaps : (f : Foreign) → IsForeignValue f → AreGapsOf f.question.program f.passed
-passed_gaps f is gap there = let p = (is.passed gap).0 there in gap_below f.question.program.threads p.0 p.1 gap p.2
+-- what a foreign run passes are gaps of the program
+pub passed_of : (q : Question) (f : Foreign) → f.question ≡ q → IsForeignValue f → AreGapsOf q.program f.passed
+passed_of q f of is = subst (λ (r : Question). AreGapsOf r.program f.passed) of (λ gap there. let p = (is.passed gap).0 there in gap_below f.question.program.threads p.0 p.1 gap p.2)
 
 module _ (p : Listing) (within : IsWithinLimits p.threads p.memory) where
   pub gap_set : (gaps : SetOfGaps) → AreGapsOf p gaps → IsGapSet gaps
@@ -30,6 +31,10 @@ module _ (p : Listing) (within : IsWithinLimits p.threads p.memory) where
         by_test false e = by_better (cheaper costs part whole have.positive (gap_set whole of)
             (λ gap there. let below : gap < gap_count p.threads = of gap there in let each : length costs ≡ gap_count p.threads = have.one_each in omega arith)
             (set.contains-is_subset nat_cmp_total part whole held) (λ q. let no : true ≡ false = sym ((have_same_gaps-same part whole).1 q) ∙ e in cc))
+
+-- so they are below the limit
+pub small_set : (q : Question) → IsWithinLimits q.program.threads q.program.memory → (f : Foreign) → f.question ≡ q → IsForeignValue f → IsGapSet f.passed
+small_set q within f of is = gap_set q.program within f.passed (passed_of q f of is)
 
 -- a dearer set is not better
 pub not_better : (costs : List ℕ) (a b : SetOfGaps) → total costs b < total costs a → ¬ Better costs a b

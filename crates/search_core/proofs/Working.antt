@@ -1,15 +1,15 @@
 -- The children of a node decide more gaps, and all their sets together are fewer.
-use Rattle.search_core.proofs.Vocabulary.{◌≡◌, ◌≢◌, ℕ, zero, suc, ◌+◌, ◌*◌, ◌^◌, ◌<◌, ◌≤◌, Bool, true, false, ◌&&◌, not, List, [], ◌∷◌, ◌++◌, Some, Contains, sum_by, refl, sym, ap, ◌∙◌, if◌then◌else◌}
-use Rattle.search_core.proofs.Vocabulary.{subst, inl, inr, arith, length, get_or, set as set_at, and_parts, and_from, and_left, and_right, or_left, or_right, not-true, not_from_true, not_from_false}
+use Rattle.search_core.proofs.Vocabulary.{◌≡◌, ◌≢◌, ℕ, zero, suc, ◌+◌, ◌*◌, ◌^◌, ◌<◌, ◌≤◌, Bool, true, false, ◌&&◌, not, List, [], ◌∷◌, Contains, sum_by, refl, sym, ap, ◌∙◌, if◌then◌else◌, subst, inl}
+use Rattle.search_core.proofs.Vocabulary.{inr, arith, length, get_or, set as set_at, and_parts, and_from, and_left, and_right, or_left, or_right, not-true, not_from_true, not_from_false}
 use Rattle.search_core.proofs.Vocabulary.{false_from_ne_true, true≢false, nat_cmp, eq_by_cmp, same_Some, none-some, slice_get_within, get_or_from_slice_get, AllPairs, one-le-pow, two-pow-succ}
-use Rattle.search_core.proofs.Vocabulary.{sum_by-cons, sum_by-le, length-filter, count_by-le-length, sum_by-set, sum_by-append, slice_get, filter, range_with_len, nat_cmp_total, nat_tests}
-use Rattle.search_core.proofs.Vocabulary.{length-range_with_len, SetOfGaps, IsGapSet, with_gap, without_gap, child_regions, open_gaps, Region, MAX_GAPS, new_or_old, true_or_false, first_is_here}
-use Rattle.search_core.proofs.Vocabulary.{later_is_here, Entry, Open, children, entry, is_live, open_entries, is_undecided, undecided, work_of, live_work, work_left, open_exact, open_ascending}
+use Rattle.search_core.proofs.Vocabulary.{sum_by-cons, sum_by-le, length-filter, count_by-le-length, sum_by-set, sum_by-append, filter, range_with_len, nat_cmp_total, nat_tests, length-range_with_len}
+use Rattle.search_core.proofs.Vocabulary.{SetOfGaps, IsGapSet, with_gap, without_gap, child_regions, open_gaps, Region, MAX_GAPS, new_or_old, true_or_false, first_is_here, later_is_here, Entry, Open}
+use Rattle.search_core.proofs.Vocabulary.{children, entry, open_entries, is_undecided, undecided, work_of, live_work, work_left, open_exact, open_ascending}
 use Rattle.std.specs.FinSet as set
 use Rattle.std.proofs.lemmas.List.Kept.{AllPairs-from_increasing}
 use Rattle.std.proofs.Math.Pow.{pow_mono}
 use Rattle.gap_sets.proofs.Ranges.{sum-lt}
-use Rattle.search_core.proofs.Places.{Each}
+use Rattle.search_core.proofs.{Places.Each, Changes.Change, Changes.changed}
 
 -- a set has what it had, and the new gap
 pub kept_old : (s : SetOfGaps) (gap q : ℕ) → set.contains s q ≡ true → set.contains (set.insert s gap) q ≡ true
@@ -134,6 +134,12 @@ open_undecided passed n small apart gap here =
     not_there true e there = absurd (apart gap there e)
     not_there false e there = refl
 
+-- and all children together leave less work
+pub split_work : (passed : SetOfGaps) (n : Region) → IsGapSet passed → AreApart passed n.must → sum_by work_of (children n passed) < work_of n
+split_work passed n small apart =
+    let gaps = open_gaps passed n.never in
+    kids_work n gaps (AllPairs-from_increasing gaps (open_ascending passed n.never)) (open_undecided passed n small apart)
+
 -- the work of nodes that are opened
 opened_work : (seat : ℕ) (cs : List Region) → work_left (open_entries seat cs) ≡ sum_by work_of cs
 opened_work seat [] = refl
@@ -141,40 +147,11 @@ opened_work seat (c ∷ cs) =
     let e = entry c seat Open in
     sum_by-cons live_work e (open_entries seat cs) ∙ ap (λ (k : ℕ). work_of c + k) (opened_work seat cs) ∙ sym (sum_by-cons work_of c cs)
 
-pub split_work : (seat : ℕ) (passed : SetOfGaps) (n : Region) → IsGapSet passed → AreApart passed n.must → work_left (open_entries seat (children n passed)) < work_of n
-split_work seat passed n small apart =
-    let gaps = open_gaps passed n.never in
-    let less : sum_by work_of (child_regions n gaps) < work_of n =
-    kids_work n gaps (AllPairs-from_increasing gaps (open_ascending passed n.never)) (open_undecided passed n small apart) in
-    let same : work_left (open_entries seat (children n passed)) ≡ sum_by work_of (child_regions n gaps) = opened_work seat (child_regions n gaps) in
-    omega arith
-
 -- a live node changes, and others are opened
-module _ (es : List Entry) (place : ℕ) (e x : Entry) (there : slice_get es place ≡ Some e) where
-  change_work : (more : List Entry) → work_left (set_at es place x ++ more) + live_work e ≡ work_left es + live_work x + work_left more
-  change_work more =
-      let a : sum_by live_work (set_at es place x) + live_work (get_or es place e) ≡ work_left es + live_work x = sum_by-set live_work es place x e (slice_get_within es place e there) in
-      let b : live_work (get_or es place e) ≡ live_work e = ap live_work (get_or_from_slice_get es place e e there) in
-      let c : work_left (set_at es place x ++ more) ≡ sum_by live_work (set_at es place x) + work_left more = sum_by-append live_work (set_at es place x) more in
-      omega arith
-
-  live_is : is_live e ≡ true → live_work e ≡ work_of e.node
-  live_is live = ap (λ (b : Bool). if b then work_of e.node else 0) live
-
-  dead_is : is_live x ≡ false → live_work x ≡ 0
-  dead_is dead = ap (λ (b : Bool). if b then work_of x.node else 0) dead
-
-  pub settled_work : (more : List Entry) → is_live e ≡ true → is_live x ≡ false → work_left more < work_of e.node → work_left (set_at es place x ++ more) < work_left es
-  settled_work more live dead less =
-      let a = change_work more in
-      let b : live_work e ≡ work_of e.node = live_is live in
-      let c : live_work x ≡ 0 = dead_is dead in
-      omega arith
-
-  pub moved_work : is_live e ≡ true → is_live x ≡ true → x.node ≡ e.node → work_left (set_at es place x) ≡ work_left es
-  moved_work live too same =
-      let a : sum_by live_work (set_at es place x) + live_work (get_or es place e) ≡ work_left es + live_work x = sum_by-set live_work es place x e (slice_get_within es place e there) in
-      let b : live_work (get_or es place e) ≡ live_work e = ap live_work (get_or_from_slice_get es place e e there) in
-      let c : live_work e ≡ work_of e.node = live_is live in
-      let d : live_work x ≡ work_of e.node = ap (λ (b : Bool). if b then work_of x.node else 0) too ∙ ap (λ (n : Region). work_of n) same in
-      omega arith
+pub change_work : (es : List Entry) (c : Change es) → work_left (changed es c) + work_of c.now.node ≡ work_left es + live_work c.now + sum_by work_of c.opened
+change_work es c =
+    let a : sum_by live_work (set_at es c.place c.now) + live_work (get_or es c.place c.before) ≡ work_left es + live_work c.now = sum_by-set live_work es c.place c.now c.before (slice_get_within es c.place c.before c.there) in
+    let b : live_work (get_or es c.place c.before) ≡ work_of c.now.node = ap live_work (get_or_from_slice_get es c.place c.before c.before c.there) ∙ ap (λ (b : Bool). if b then work_of c.before.node else 0) c.live ∙ ap work_of (sym c.same) in
+    let d : work_left (changed es c) ≡ sum_by live_work (set_at es c.place c.now) + work_left (open_entries c.seat c.opened) = sum_by-append live_work (set_at es c.place c.now) (open_entries c.seat c.opened) in
+    let e : work_left (open_entries c.seat c.opened) ≡ sum_by work_of c.opened = opened_work c.seat c.opened in
+    omega arith

@@ -3,7 +3,7 @@ use Rattle.std.specs.Prelude.{◌≡◌, ℕ, List, Some, slice_get}
 use Rattle.tso_program.specs.Shown.{Question}
 use Rattle.cover_solver.specs.Facts.{Foreign, Serving}
 use Rattle.search_core.specs.declared.entry.Entry.{Entry}
-use Rattle.search_core.specs.declared.entry.Status.{Status, TheVariants.Open, TheVariants.Held, TheVariants.Split, TheVariants.Cut, TheVariants.Confirmed}
+use Rattle.search_core.specs.declared.entry.Status.{Status, TheVariants.Split, TheVariants.Cut, TheVariants.Confirmed}
 use Rattle.search_core.specs.declared.finished.Event.{Event}
 use Rattle.search_core.specs.declared.finished.Event.TheVariants as event
 use Rattle.search_core.specs.declared.finished.Settled.{Settled}

@@ -68,6 +68,14 @@ impl Finished {
         &self.served
     }
 
+    /// For a proof alone: recalls what holds of every search that is done.
+    pub fn recall_facts(&self)
+        ensures answer { (self.now.served.question ≡ self.now.question) × IsTheAnswer self.now.question self.now.costs self.now.served.gaps }
+        ensures outcome { IsOutcome self.now }
+    {
+        let _ = self.served();
+    }
+
     /// The program.
     pub fn program(&self) -> &Program
         ensures value { result.now ≡ self.now.question.program }

@@ -98,6 +98,13 @@ impl SearchTree {
         &self.program
     }
 
+    /// For a proof alone: recalls what holds of every search.
+    pub fn recall_facts(&self)
+        ensures reached { IsReached self.now }
+    {
+        let _ = self.program();
+    }
+
     /// What is shown of outcomes.
     pub fn shown(&self) -> &Shown
         ensures value { result.now ≡ self.now.question.shown }

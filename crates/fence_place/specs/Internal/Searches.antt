@@ -21,8 +21,7 @@ NothingIsHeld s = (place : ℕ) (e : Entry) → slice_get s.entries place ≡ So
 -- the run of a split is of the question
 abbrev pub IsOfQuestion : Question → Event → Type 0
 IsOfQuestion q (event.Split run) = run.now.question ≡ q
-IsOfQuestion q event.Cut = Unit {0}
-IsOfQuestion q event.Confirmed = Unit {0}
+IsOfQuestion q v = Unit {0}
 
 -- what a search for this question and these costs leaves
 pub record IsSearchFor (q : Question) (costs : List ℕ) (o : Outcome) : Type 0 where

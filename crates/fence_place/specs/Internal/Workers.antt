@@ -7,7 +7,7 @@ use Rattle.cover_solver.specs.Facts.{AreOf}
 use Rattle.hunt_board.specs.Seats.{HuntView, IsOf}
 use Rattle.fence_place.specs.declared.fault.PlaceFault.{PlaceFault}
 use Rattle.fence_place.specs.declared.fault.PlaceFault.TheVariants as fault
-use Rattle.fence_place.specs.declared.worker.Stop.{Stop, TheVariants.Later, TheVariants.Beaten, TheVariants.NoRun, TheVariants.OutOfMemory}
+use Rattle.fence_place.specs.declared.worker.Stop.{Stop, TheVariants.NoRun}
 use Rattle.fence_place.specs.declared.worker.Worker.{Worker}
 
 -- the worker's seat is of the hunt and holds this node or none, and the runs that it knows are of the hunt's question
@@ -22,10 +22,8 @@ IsReadyWorker h w = IsAt h w None × (w.stop ≡ None)
 
 -- the oracle lacks a run only where it may
 abbrev pub MayStop : Bool → Stop → Type 0
-MayStop may_lack_runs Later = Unit {0}
-MayStop may_lack_runs Beaten = Unit {0}
 MayStop may_lack_runs NoRun = may_lack_runs ≡ true
-MayStop may_lack_runs OutOfMemory = Unit {0}
+MayStop may_lack_runs stop = Unit {0}
 
 -- the worker is to settle this node, with an oracle of this question
 pub record IsToSettle (q : Question) (h : HuntView) (w : Worker) (n : Region) : Type 0 where
@@ -51,11 +49,8 @@ HasStopped h may_lack_runs w = IsAt h w None × IfSome w.stop (MayStop may_lack_
 
 -- whether it ended since the oracle lacked a run
 abbrev pub lacks_run_for : Option Stop → Bool
-lacks_run_for None = false
-lacks_run_for (Some Later) = false
-lacks_run_for (Some Beaten) = false
 lacks_run_for (Some NoRun) = true
-lacks_run_for (Some OutOfMemory) = false
+lacks_run_for stop = false
 
 abbrev pub lacks_run : Worker → Bool
 lacks_run w = lacks_run_for w.stop
@@ -65,16 +60,11 @@ NoneLacksRun workers = (place : ℕ) (w : Worker) → slice_get workers place �
 
 -- the fault is that of a worker: of one that ended without memory, or where the oracle lacked a run
 abbrev pub FaultIsOf : List Worker → PlaceFault → Type 0
-FaultIsOf workers fault.Workers = ⊥
-FaultIsOf workers fault.Costs = ⊥
 FaultIsOf workers fault.NotCertified = ¬ NoneLacksRun workers
-FaultIsOf workers fault.Board = ⊥
 FaultIsOf workers fault.OutOfMemory = Unit {0}
+FaultIsOf workers why = ⊥
 
 -- so it is, or the record doesn't close
 abbrev pub FaultIsAfter : List Worker → PlaceFault → Type 0
-FaultIsAfter workers fault.Workers = ⊥
-FaultIsAfter workers fault.Costs = ⊥
-FaultIsAfter workers fault.NotCertified = ¬ NoneLacksRun workers
 FaultIsAfter workers fault.Board = Unit {0}
-FaultIsAfter workers fault.OutOfMemory = Unit {0}
+FaultIsAfter workers why = FaultIsOf workers why

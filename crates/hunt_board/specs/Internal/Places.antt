@@ -7,7 +7,7 @@ use Rattle.gap_sets.specs.Gaps.{SetOfGaps}
 use Rattle.gap_sets.specs.Regions.{open_gaps}
 use Rattle.gap_sets.specs.declared.region.Region.{Region}
 use Rattle.search_core.specs.declared.entry.Entry.{Entry}
-use Rattle.search_core.specs.declared.entry.Status.{Status, TheVariants.Open, TheVariants.Held, TheVariants.Split, TheVariants.Cut, TheVariants.Confirmed}
+use Rattle.search_core.specs.declared.entry.Status.{Status, TheVariants.Split}
 
 -- which of the gaps that the run passes and the sets may have is the first one that they must have
 abbrev pub number_of_child : SetOfGaps → SetOfGaps → SetOfGaps → Option ℕ

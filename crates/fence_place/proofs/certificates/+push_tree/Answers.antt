@@ -1,4 +1,4 @@
-use Rattle.fence_place.proofs.Vocabulary.{◌≡◌, ◌∙◌, ◌<◌, ◌≤◌, ◌+◌, ◌-◌, ◌*◌, [], length, arith, true, get_or, slice_get-get_or, open_gaps, MAX_GAPS, few_open, is_closed, on_ok}
+use Rattle.fence_place.proofs.Vocabulary.{◌≡◌, ◌∙◌, ◌<◌, ◌≤◌, ◌+◌, ◌-◌, ◌*◌, length, arith, true, get_or, slice_get-get_or, open_gaps, MAX_GAPS, few_open, is_closed, on_ok}
 use Rattle.fence_place.proofs.Recording.{split_event, other_event, kids_there, split_facts}
 use Rattle.fence_place.proofs.RecordPushed.{bound_pushed, split_pushed, none_pushed, one_pushed}
 use Rattle.fence_place.proofs.certificates.+push_tree.Goals as goal
@@ -26,7 +26,7 @@ push_tree-push_trees-requires t c =
     let o = c.args.finished.now in
     let first = c.in-Some-first_child.first in
     let (e, f, there, split, same_run, same_node) = split_facts o c.args.number first c.in-Some.settled c.in-Split.run' c.in-Some.ensures c.in-Split.is c.in-Some-first_child.ensures.some in
-    let kids = kids_there o c.program.ensures.outcome c.args.number first e f there split in
+    let kids = kids_there o c.recall_facts.ensures.outcome c.args.number first e f there split in
     let later : c.args.number < first = kids.0 in
     let many : length c.args.numbers.now ≡ length o.entries = c.requires.as_many in
     let within : c.args.number < length c.args.numbers.now = c.requires.there in

@@ -1,11 +1,10 @@
-use Rattle.fence_place.proofs.Vocabulary.{◌≡◌, ◌∙◌, ◌<◌, ◌≤◌, ℕ, zero, suc, List, [], ◌∷◌, ◌++◌, Some, None, length, length-append, sym, ap, subst, arith, slice_get, slice_get_within, AreNumbersOf}
+use Rattle.fence_place.proofs.Vocabulary.{◌≡◌, ◌∙◌, ◌<◌, ◌≤◌, ℕ, List, [], ◌∷◌, ◌++◌, Some, None, inl, inr, length, length-append, sym, ap, subst, arith, none-some, slice_get, slice_get_within}
+use Rattle.fence_place.proofs.Vocabulary.{AreNumbersOf, slice_get_cases}
 use Rattle.fence_place.proofs.Recording.{numbered_more, of_nodes_more, still_distinct}
 use Rattle.fence_place.proofs.certificates.listed_runs.Goals as goal
 
 none_past : {A : Type 0} (l : List A) (k : ℕ) → slice_get l k ≡ None → length l ≤ k
-none_past [] k e = omega arith
-none_past (x ∷ xs) zero e = absurd cc
-none_past (x ∷ xs) (suc k) e = let h = none_past xs k e in omega arith
+none_past l k e = elim (slice_get_cases l k).1 [ inl h ↦ absurd (none-some h.0 (sym e ∙ h.2)) | inr past ↦ past.0 ]
 
 longer : (l : List ℕ) (x : ℕ) (n : ℕ) → length l < n → length (l ++ x ∷ []) ≤ n
 longer l x n h = omega (arith, length-append l (x ∷ []))

@@ -1,4 +1,4 @@
-use Rattle.fence_place.proofs.Vocabulary.{Ok, Err, IfErr, Result, PlaceFault}
+use Rattle.fence_place.proofs.Vocabulary.{Ok, Err, Result, PlaceFault, IfErr}
 use Rattle.fence_place.proofs.Workers.{hunt_fails}
 use Rattle.fence_place.proofs.hunting.hunt.Goals as goal
 

@@ -1,4 +1,4 @@
-use Rattle.fence_place.proofs.Vocabulary.{[], Option, arith, ap, sym, ◌∙◌, subst, All-pop, All-push, All, IfSome, AreOf, IsReadyWorker, SeatView, IsOf, IsFresh}
+use Rattle.fence_place.proofs.Vocabulary.{[], Option, arith, ap, sym, ◌∙◌, subst, All, IfSome, AreOf, IsReadyWorker, All-pop, All-push, SeatView, IsOf, IsFresh}
 use Rattle.fence_place.proofs.hunting.workers_at.Goals as goal
 
 pub loop-seat-preserved : goal.loop-seat-preserved

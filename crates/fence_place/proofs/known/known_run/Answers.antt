@@ -1,4 +1,4 @@
-use Rattle.fence_place.proofs.Vocabulary.{◌≡◌, ℕ, Option, Some, sym, subst, refl, slice_get_read, slice_get, IfSome, Foreign, PassesNoneOf}
+use Rattle.fence_place.proofs.Vocabulary.{◌≡◌, ℕ, Option, Some, sym, subst, refl, slice_get, IfSome, Foreign, PassesNoneOf, slice_get_read}
 use Rattle.fence_place.proofs.known.known_run.Goals as goal
 use Rattle.fence_place.proofs.known.known_run.Goals.{then-count-fewest+then-may_split, else-count-fewest}
 

@@ -31,6 +31,6 @@ returns-clause-rest g c =
 
 pub returns-clause-less : goal.returns-clause-less
 returns-clause-less g c = λ _.
-    let settled : work_left c.settle.new.tree.entries < work_left c.take.new.self.entries = c.settling_lessens_the_work.ensures.settled c.take.new.self c.settle.new.tree 0 c.program.ensures.reached c.in_ok-settle.ensures.settled in
+    let settled : work_left c.settle.new.tree.entries < work_left c.take.new.self.entries = c.settling_lessens_the_work.ensures.settled c.take.new.self c.settle.new.tree 0 c.recall_facts.ensures.reached c.in_ok-settle.ensures.settled in
     let taken : work_left c.take.new.self.entries ≡ work_left c.args.tree.now.entries = c.settling_lessens_the_work.ensures.taken c.args.tree.now c.take.new.self 0 c.in-Ok.node c.in-Ok.ensures.taken in
     omega arith

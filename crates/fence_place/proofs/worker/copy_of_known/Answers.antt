@@ -1,4 +1,4 @@
-use Rattle.fence_place.proofs.Vocabulary.{◌≡◌, ℕ, Some, Ok, Err, sym, ap, subst, ◌∙◌, IfOk, IfSome, slice_get, Result, Foreign, PassesNoneOf}
+use Rattle.fence_place.proofs.Vocabulary.{◌≡◌, ℕ, Some, Ok, Err, sym, ap, subst, ◌∙◌, Result, Foreign, PassesNoneOf, IfOk, IfSome, slice_get}
 use Rattle.std.specs.Result.{result_ok}
 use Rattle.fence_place.proofs.Workers.{read_at}
 use Rattle.fence_place.proofs.worker.copy_of_known.Goals as goal

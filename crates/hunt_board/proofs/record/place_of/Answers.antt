@@ -9,5 +9,5 @@ pub returns-clause-leads : goal.returns-clause-leads
 returns-clause-leads c = c.loop-child.invariant c.loop-child.place (ends c.loop-child.place (sym c.child_of.ensures.child ∙ none_there c.child_of.result c.in_default.not-Some))
 
 pub returns-clause-only : goal.returns-clause-only
-returns-clause-only c = stands_only c.args.finished.now c.program.ensures.outcome c.args.node.now c.loop-child.place
+returns-clause-only c = stands_only c.args.finished.now c.recall_facts.ensures.outcome c.args.node.now c.loop-child.place
     (c.loop-child.invariant c.loop-child.place (ends c.loop-child.place (sym c.child_of.ensures.child ∙ none_there c.child_of.result c.in_default.not-Some)))

@@ -1,4 +1,5 @@
-use Rattle.hunt_calls.proofs.Vocabulary.{◌≡◌, ℕ, List, Option, Some, None, IfSome, sym, subst, MatchOption, Question, asked}
+use Rattle.hunt_calls.proofs.Vocabulary.{◌≡◌, ℕ, List, Option, Some, None, IfSome, sym, subst, Question, asked}
+use Rattle.std.specs.Prelude.{MatchOption}
 use Rattle.search_core.specs.Ceilings.{Bound, IsBound, IsCeiling, IsCeilingOf}
 use Rattle.hunt_calls.proofs.ceilings.at_cost_of.Goals as goal
 

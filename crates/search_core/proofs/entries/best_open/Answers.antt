@@ -1,6 +1,6 @@
-use Rattle.search_core.proofs.Vocabulary.{◌≡◌, ℕ, ◌+◌, ◌<◌, ◌≤◌, Bool, true, false, true≢false, List, Option, Some, None, length, get_or, IsTrue, refl, sym, ◌∙◌, subst, MatchOption, ◌↔◌, slice_get}
-use Rattle.search_core.proofs.Vocabulary.{Better, Region, Entry, is_open, IsOpenAt}
-use Rattle.search_core.proofs.Steps.{read_there, none_so_far, none_at_all}
+use Rattle.search_core.proofs.Vocabulary.{slice_get_read, ◌≡◌, ℕ, ◌+◌, ◌<◌, ◌≤◌, Bool, true, false, true≢false, List, Option, Some, None, length, get_or, IsTrue, refl, sym, ◌∙◌, subst, MatchOption}
+use Rattle.search_core.proofs.Vocabulary.{◌↔◌, slice_get, Better, Region, Entry, is_open, IsOpenAt}
+use Rattle.search_core.proofs.Steps.{none_so_far, none_at_all}
 use Rattle.search_core.proofs.entries.best_open.Goals as goal
 use Rattle.search_core.proofs.entries.best_open.Goals.{then-is_open+then-is_first_or_better, else-is_open, else-is_open-via-then-is_open+else-is_first_or_better, else-is_open-via-else-is_open}
 
@@ -31,7 +31,7 @@ loop-place-preserved c =
     elim c.if-is_open.branch [
       | then-is_open+then-is_first_or_better w ↦ subst (IsFound es (k + 1)) (sym w.best-is) (record {
         before = e;
-        there = read_there es k e c.loop-place-test.true c.index-entries-place.is;
+        there = slice_get_read es _ k e refl c.loop-place-test.true c.index-entries-place.is;
         open_there = sym c.is_open.ensures ∙ w.if-is_open.true;
         is_node = refl;
       })

@@ -8,7 +8,7 @@ returns-in_err-check_receipts-clause-fault c =
     let why = c.in_err-check_receipts.field-0.0 in
     let same = c.is_search_of.ensures.0 c.if-not-is_search_of.false in
     passed_on c.from_residual.result why (CloseFaultIs c.args.self c.args.receipts.items) c.from_residual.ensures.1
-    (of_record c.args.self finished c.args.receipts.items why c.served.ensures.outcome
+    (of_record c.args.self finished c.args.receipts.items why c.recall_facts.ensures.outcome
     (ap (λ (s : SearchState). s.question) c.in-Ok.ensures.ok ∙ same.0 ∙ ap (λ (h : HuntView). h.question) c.self.view_is)
     (ap (λ (s : SearchState). s.costs) c.in-Ok.ensures.ok ∙ same.1 ∙ ap (λ (h : HuntView). h.costs) c.self.view_is)
     (subst (λ (l : List Receipt). RecordFaultIs finished.entries l why) c.deref.ensures.value c.in_err-check_receipts.ensures.fault))

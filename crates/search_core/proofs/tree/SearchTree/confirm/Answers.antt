@@ -1,12 +1,12 @@
 use Rattle.search_core.proofs.Vocabulary.{Some, refl, subst, inl, inr, the_view, SearchState, Confirms, confirms, goes_on}
-use Rattle.search_core.proofs.Moves.{seated, holds_nothing, held_within, confirm_event}
+use Rattle.search_core.proofs.Moves.{seated, holds_nothing, is_within, confirm_event}
 use Rattle.search_core.proofs.tree.SearchTree.confirm.Goals as goal
 
 pub returns-in_default-clause-fault : goal.returns-in_default-clause-fault
 returns-in_default-clause-fault c = (refl, holds_nothing (the_view c.self.inside) c.args.self.now c.self.view_is c.deref.result.now c.deref.ensures.value c.args.seat c.in_default.ensures)
 
 pub mark-requires : goal.mark-requires
-mark-requires c = held_within (the_view c.self.inside) c.args.self.now c.self.view_is c.deref.result.now c.deref.ensures.value c.args.seat c.in-Some.place c.in-Some.node c.in-Some.ensures
+mark-requires c = is_within (the_view c.self.inside) c.args.self.now c.self.view_is c.deref.result.now c.deref.ensures.value c.in-Some.place c.in-Some.ensures.before c.in-Some.ensures.there
 
 older : (c : goal.After-drop-served-inside-then-not-better-3) → Confirms (the_view c.self.inside) (record (the_view c.self.inside) { entries = c.mark.new.entries.items }) c.args.seat c.args.served
 older c = let s = the_view c.self.inside in

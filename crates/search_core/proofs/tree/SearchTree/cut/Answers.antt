@@ -1,5 +1,5 @@
 use Rattle.search_core.proofs.Vocabulary.{◌≡◌, true, false, sym, ◌∙◌, subst, the_view, SearchState, Cuts, cuts, IsReasonOf, CutsNode, goes_on}
-use Rattle.search_core.proofs.Moves.{seated, holds_nothing, does_hold, held_within, cut_event, why_cut}
+use Rattle.search_core.proofs.Moves.{seated, holds_nothing, does_hold, is_within, cut_event, why_cut}
 use Rattle.search_core.proofs.tree.SearchTree.cut.Goals as goal
 
 pub returns-in_default-clause-fault : goal.returns-in_default-clause-fault
@@ -13,7 +13,7 @@ returns-then-not-cuts-clause-fault c = (
 )
 
 pub mark-requires : goal.mark-requires
-mark-requires c = held_within (the_view c.self.inside) c.args.self.now c.self.view_is c.deref.result.now c.deref.ensures.value c.args.seat c.in-Some.place c.in-Some.node c.in-Some.ensures
+mark-requires c = is_within (the_view c.self.inside) c.args.self.now c.self.view_is c.deref.result.now c.deref.ensures.value c.in-Some.place c.in-Some.ensures.before c.in-Some.ensures.there
 
 event : (c : goal.Joined-reason-5) → Cuts (the_view c.self.inside) (record (the_view c.self.inside) { entries = c.mark.new.entries.items }) c.args.seat
 event c = cut_event (the_view c.self.inside) c.args.self.now c.self.view_is c.deref.result.now c.deref.ensures.value c.mark.new.entries.items c.args.seat c.in-Some.place c.in-Some.node

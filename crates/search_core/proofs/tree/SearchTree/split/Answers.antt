@@ -1,7 +1,7 @@
-use Rattle.search_core.proofs.Vocabulary.{◌≡◌, ℕ, ◌<◌, ◌↔◌, IsTrue, Bool, true, false, List, ◌++◌, sym, ap, ◌∙◌, subst, arith, length, length-append, Entry, the_view, SearchState, slice_set}
-use Rattle.search_core.proofs.Vocabulary.{SetOfGaps, Region, Foreign, Split, children, entry, open_entries, Splits, splits, goes_on, DoMeet}
+use Rattle.search_core.proofs.Vocabulary.{◌≡◌, ℕ, ◌<◌, ◌↔◌, IsTrue, Bool, true, false, List, ◌++◌, sym, ap, ◌∙◌, subst, arith, length, length-append, Entry, the_view, SearchState, set-append_left}
+use Rattle.search_core.proofs.Vocabulary.{slice_set, SetOfGaps, Region, Foreign, Split, children, entry, open_entries, Splits, splits, goes_on, DoMeet}
 use Rattle.std.specs.FinSet as set
-use Rattle.search_core.proofs.Moves.{seated, holds_nothing, does_hold, held_within, split_event, set_front}
+use Rattle.search_core.proofs.Moves.{seated, holds_nothing, does_hold, is_within, split_event}
 use Rattle.search_core.proofs.tree.SearchTree.split.Goals as goal
 
 -- sets that do not meet have no gap in common
@@ -16,7 +16,7 @@ after_split : (es all items cs : List Entry) (place seat first : ℕ) (n : Regio
     items ≡ slice_set all place (entry n seat (Split kept first)) → items ≡ slice_set es place (entry n seat (Split f (length es))) ++ open_entries seat (children n f.passed)
 after_split es all items cs place seat first n kept f within same at kids e is =
     is ∙ (λ i. slice_set (e i) place (entry n seat (Split (same i) (at i)))) ∙ (λ i. slice_set (es ++ kids i) place (entry n seat (Split f (length es))))
-    ∙ set_front es (open_entries seat (children n f.passed)) place (entry n seat (Split f (length es))) within
+    ∙ set-append_left es (open_entries seat (children n f.passed)) place (entry n seat (Split f (length es))) within
 
 pub returns-in_default-clause-fault : goal.returns-in_default-clause-fault
 returns-in_default-clause-fault c = holds_nothing (the_view c.self.inside) c.args.self.now c.self.view_is c.deref.result.now c.deref.ensures.value c.args.seat c.in_default.ensures
@@ -30,14 +30,14 @@ returns-then-meets-clause-fault c = (
 
 pub mark-requires : goal.mark-requires
 mark-requires c =
-    let h = held_within (the_view c.self.inside) c.args.self.now c.self.view_is c.deref.result.now c.deref.ensures.value c.args.seat c.in-Some.place c.in-Some.node c.in-Some.ensures in
+    let h = is_within (the_view c.self.inside) c.args.self.now c.self.view_is c.deref.result.now c.deref.ensures.value c.in-Some.place c.in-Some.ensures.before c.in-Some.ensures.there in
     subst (λ (l : List Entry). c.in-Some.place < length l) (sym c.in_ok-append.ensures.items) (longer c.self.inside.entries.items c.in_ok-opened.opened.items c.in-Some.place h)
 
 event : (c : goal.After-drop-opened-2) → Splits (the_view c.self.inside) (record (the_view c.self.inside) { entries = c.mark.new.entries.items }) c.args.seat c.args.run.now
 event c =
     let s = the_view c.self.inside in
     let f = c.args.run.now in
-    let within = held_within s c.args.self.now c.self.view_is c.deref.result.now c.deref.ensures.value c.args.seat c.in-Some.place c.in-Some.node c.in-Some.ensures in
+    let within = is_within s c.args.self.now c.self.view_is c.deref.result.now c.deref.ensures.value c.in-Some.place c.in-Some.ensures.before c.in-Some.ensures.there in
     let long = c.self.inside.entries.ok.0 in
     let len = c.len-first.ensures in
     split_event s c.args.self.now c.self.view_is c.deref.result.now c.deref.ensures.value c.mark.new.entries.items c.args.seat c.in-Some.place c.in-Some.node

@@ -1,6 +1,6 @@
 use Rattle.search_core.proofs.Vocabulary.{◌≡◌, ℕ, true, false, Option, Some, None, sym, ◌∙◌, subst, the_view, SearchState, HoldsNode, HoldsNothing, HoldsOnly, MatchOption, Region, TakesNode, takes}
 use Rattle.search_core.proofs.Vocabulary.{IsReached, goes_on, is_some}
-use Rattle.search_core.proofs.{OneNode.taken_only, Moves.seated, Moves.open_within, Moves.open_gaps, Moves.no_open, Moves.take_event}
+use Rattle.search_core.proofs.{OneNode.taken_only, Moves.seated, Moves.is_within, Moves.node_gaps, Moves.no_open, Moves.take_event}
 use Rattle.search_core.proofs.tree.SearchTree.take.Goals as goal
 
 some_held : (s : SearchState) (seat : ℕ) (o : Option Region) → is_some o ≡ true → MatchOption o (HoldsNothing s seat) (HoldsOnly s seat) → (n : Region) × HoldsNode s seat n
@@ -21,7 +21,7 @@ returns-in_default-clause-fault c = (
 )
 
 pub mark-requires : goal.mark-requires
-mark-requires c = open_within (the_view c.self.inside) c.args.self.now c.self.view_is c.deref.result.now c.deref.ensures.value c.in-Some.place c.in-Some.node c.in-Some.ensures
+mark-requires c = is_within (the_view c.self.inside) c.args.self.now c.self.view_is c.deref.result.now c.deref.ensures.value c.in-Some.place c.in-Some.ensures.before c.in-Some.ensures.there
 
 event : (c : goal.After-mark) → TakesNode (the_view c.self.inside) (record (the_view c.self.inside) { entries = c.mark.new.entries.items }) c.args.seat c.in-Some.node
 event c = take_event (the_view c.self.inside) c.args.self.now c.self.view_is c.deref.result.now c.deref.ensures.value c.mark.new.entries.items c.args.seat c.in-Some.place c.in-Some.node
@@ -40,4 +40,4 @@ pub returns-clause-taken : goal.returns-clause-taken
 returns-clause-taken c = subst (λ (s : SearchState). TakesNode s (record (the_view c.self.inside) { entries = c.mark.new.entries.items }) c.args.seat c.in-Some.node) c.self.view_is (event c)
 
 pub returns-clause-of_program : goal.returns-clause-of_program
-returns-clause-of_program c = open_gaps (the_view c.self.inside) c.args.self.now c.self.view_is c.deref.result.now c.deref.ensures.value c.self.invariant c.in-Some.place c.in-Some.node c.in-Some.ensures
+returns-clause-of_program c = node_gaps (the_view c.self.inside) c.args.self.now c.self.view_is c.deref.result.now c.deref.ensures.value c.self.invariant c.in-Some.place c.in-Some.ensures.before c.in-Some.ensures.there c.in-Some.node c.in-Some.ensures.is_node
