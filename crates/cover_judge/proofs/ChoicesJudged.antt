@@ -1,9 +1,8 @@
 -- What the nodes of a cover tree are judged by.
-use Rattle.cover_judge.proofs.Vocabulary.{◌≡◌, ◌↔◌, ℕ, true, false, Bool, not, IsTrue, List, [], Option, Some, None, IsSome, MatchOption, length, All, Contains, slice_get, refl, sym, ap, ◌∙◌, subst}
-use Rattle.cover_judge.proofs.Vocabulary.{inl, inr, Vec, AllPairs, length-map, same_Some, Listing, Outcome, Shown, asked, Event, ProgramSketch, mode_in, AccessId, one_list_of_values}
-use Rattle.cover_judge.proofs.Vocabulary.{one_list_of_sources, TreeFault, Wrong, OutOfMemory, Choice, HasNoValues, HasNoSources, Sketch, IsSourceOf, IsPair, IsWhole, MustEndAs, event_of}
-use Rattle.cover_judge.proofs.Vocabulary.{HasNextValues, HasSources, HasNoOrder, MustEndAsNumber, MayChoose, MayChooseEach, IsValueOpen, IsSourceOpen, AreValueChoices, AreSourceChoices, IfWrong}
-use Rattle.cover_judge.proofs.Vocabulary.{IsAtRoot, IsBelow, IsFrom, AreSoMany, AreNotSoMany}
+use Rattle.cover_judge.proofs.Vocabulary.{◌≡◌, ◌↔◌, ℕ, true, false, List, [], Option, Some, None, IsSome, All, Contains, slice_get, refl, sym, ap, ◌∙◌, subst, inl, inr, AllPairs, same_Some, Listing}
+use Rattle.cover_judge.proofs.Vocabulary.{Outcome, Shown, asked, Event, ProgramSketch, mode_in, AccessId, TreeFault, Wrong, OutOfMemory, Choice, Sketch, IsSourceOf, IsPair, IsWhole, MustEndAs}
+use Rattle.cover_judge.proofs.Vocabulary.{event_of, HasNextValues, HasSources, HasNoOrder, MustEndAsNumber, MayChoose, MayChooseEach, IsValueOpen, IsSourceOpen, AreValueChoices, AreSourceChoices}
+use Rattle.cover_judge.proofs.Vocabulary.{IfWrong, IsAtRoot, IsBelow, IsFrom}
 use Rattle.std.specs.Option.{is_some}
 use Rattle.std.proofs.lemmas.List.Elements.{All-map, All-contains_itself, All-weaker}
 use Rattle.cert_forest.specs.Machine as machine
@@ -47,27 +46,6 @@ source_is_open s read sources has = record {
   free = λ (source, is). has.free source is;
 }
 
--- they are not so many
-pub values_differ : (s : ProgramSketch) (t count : ℕ) (found : Option (Vec Choice)) → MatchOption found (IsValueOpen s t → ⊥) (λ cs. AreValueChoices s t cs.items) → AreNotSoMany found count →
-    HasNoValues s.program (mode_in s) s.chosen t count
-values_differ s t count None none differ values has e = none (next_is_open s t values has)
-values_differ s t count (Some cs) are differ values has e =
-    let same : length values ≡ length cs.items =
-    ap length (one_list_of_values s.program (mode_in s) s.chosen t values are.values has are.next) ∙ sym (length-map are.values (choice.Value t)) ∙ ap length (sym are.each) in
-    differ cs (record { found_are = refl; many = e ∙ same })
-
-pub sources_differ : (s : ProgramSketch) (read : AccessId) (count : ℕ) (found : Option (Vec Choice)) → MatchOption found (IsSourceOpen s read → ⊥) (λ cs. AreSourceChoices s read cs.items) →
-    AreNotSoMany found count → HasNoSources s.program (mode_in s) s.chosen (event_of read) count
-sources_differ s read count None none differ sources has e = none (source_is_open s read sources has)
-sources_differ s read count (Some cs) are differ sources has e =
-    let same : length sources ≡ length cs.items =
-    ap length (one_list_of_sources s.program (mode_in s) s.chosen (event_of read) sources are.sources has are.next) ∙ sym (length-map are.sources (choice.Source read)) ∙ ap length (sym are.each) in
-    differ cs (record { found_are = refl; many = e ∙ same })
-
--- the choices that were found
-pub found_so_many : (count : ℕ) (found : Option (Vec Choice)) (cs : Vec Choice) (N : Type 0) (P : List Choice → Type 0) → AreSoMany found count cs → MatchOption found N (λ each. P each.items) → P cs.items
-found_so_many count found cs N P many are = subst (λ (o : Option (Vec Choice)). MatchOption o N (λ each. P each.items)) many.found_are are
-
 -- the sources of a read that has none yet
 pub sources_are : (s : ProgramSketch) (read : Event) (sources : List Event) → IsWhole s.program (mode_in s) s.chosen × choices.IsRead s read → (choices.HasSource s read → ⊥) →
     AllPairs ComesBefore sources → ((source : Event) → Contains sources source ↔ IsSourceOf s.program (mode_in s) s.chosen source read) → HasSources s.program (mode_in s) s.chosen read sources
@@ -109,11 +87,6 @@ other_way s d e may = record {
   is_pair = turned s.program (mode_in s) s.chosen d e may.is_pair;
   free = λ h. may.free (elim h [ inl a ↦ inr a | inr a ↦ inl a ]);
 }
-
--- where a test fails
-pub untrue : {P : Type 0} (b : Bool) → IsTrue b ↔ P → IsTrue (not b) ↔ (P → ⊥)
-untrue true is = ((λ t. (let no : false ≡ true = t in absurd cc)), (λ none. absurd (none (is.0 refl))))
-untrue false is = ((λ t p. (let no : false ≡ true = is.1 p in cc)), (λ none. refl))
 
 -- writes that may be put in order are in none
 pub no_order : (s : ProgramSketch) (d e : Event) → choices.MayFollow s d e → HasNoOrder s.program (mode_in s) s.chosen d e

@@ -1,8 +1,8 @@
 -- What a node of a cover tree says, and what its children are judged for.
-use Rattle.cover_judge.proofs.Vocabulary.{◌≡◌, ℕ, zero, suc, ◌≤◌, List, [], ◌∷◌, length, map, take, drop, sym, ap, ◌∙◌, subst, arith, Result, IsErrAnd, IfErr, OnOk, length-map, length-take-le}
-use Rattle.cover_judge.proofs.Vocabulary.{TreeFault, IfWrong, Outcome, Shown, asked, ProgramSketch, mode_in, AccessId, Cover, Value, Source, Order, covers_of, event_of, HasNoOrder, AreValidCovers}
-use Rattle.cover_judge.proofs.Vocabulary.{Choice, FirstWrongCoverChild, HasNoValues, HasNoSources, sketch_with, MayChoose, AreValueChoices, AreSourceChoices, IsAtRoot, IsBelow, IsValidAfter}
-use Rattle.cover_judge.proofs.Vocabulary.{IsWrongAt, AreValidAfter, IsWrongChild}
+use Rattle.cover_judge.proofs.Vocabulary.{◌≡◌, ℕ, zero, suc, ◌≤◌, List, [], ◌∷◌, length, map, take, sym, ◌∙◌, subst, arith, Result, IsErrAnd, IfErr, OnOk, length-map, length-take-le, TreeFault}
+use Rattle.cover_judge.proofs.Vocabulary.{IfWrong, Outcome, Shown, asked, ProgramSketch, mode_in, AccessId, Cover, Value, Source, Order, covers_of, event_of, HasNoOrder, AreValidCovers, Choice}
+use Rattle.cover_judge.proofs.Vocabulary.{FirstWrongCoverChild, HasNoValues, HasNoSources, sketch_with, MayChoose, HasNextValues, HasSources, Event, IsAtRoot, IsBelow, IsValidAfter, IsWrongAt}
+use Rattle.cover_judge.proofs.Vocabulary.{AreValidAfter, IsWrongChild}
 use Rattle.candidate_executions.specs.Sketches as sketches
 use Rattle.cert_forest.proofs.TreeTexts.{covers_count}
 use Rattle.cover_judge.specs.declared.choice.Choice.TheVariants as choice
@@ -24,21 +24,22 @@ module _ (shown : Shown) (outcomes : List Outcome) (s : ProgramSketch) where
         IsWrongAt shown outcomes s (node trees) s.chosen path
 
   module _ (t : ℕ) where
-    pub branched_values : (choices : List Choice) → AreValueChoices s t choices → IsBranched (values_node t) choices
-    branched_values choices are = record {
-      valid = λ trees valid. (are.values, are.next, subst (AreValidCovers (asked s.program shown) (mode_in s) outcomes (covers_of trees)) sketches_are valid);
+    pub branched_values : (values : List ℕ) → HasNextValues s.program (mode_in s) s.chosen t values → IsBranched (values_node t) (map (choice.Value t) values)
+    branched_values values next = record {
+      valid = λ trees valid. (values, next, subst (AreValidCovers (asked s.program shown) (mode_in s) outcomes (covers_of trees)) sketches_are valid);
       wrong = below;
     }
       where
-        sketches_are : map (sketch_with s.chosen) choices ≡ map (sketches.with_value s.chosen t) are.values
-        sketches_are = ap (map (sketch_with s.chosen)) are.each ∙ map_map (sketch_with s.chosen) (choice.Value t) are.values
+        sketches_are : map (sketch_with s.chosen) (map (choice.Value t) values) ≡ map (sketches.with_value s.chosen t) values
+        sketches_are = map_map (sketch_with s.chosen) (choice.Value t) values
 
-        below : (trees : List Cover) → length trees ≡ length choices → (path : List ℕ) → IsBelow (IsWrongChild shown outcomes s trees choices) path → IsWrongAt shown outcomes s (values_node t trees) s.chosen path
+        below : (trees : List Cover) → length trees ≡ length (map (choice.Value t) values) → (path : List ℕ) → IsBelow (IsWrongChild shown outcomes s trees (map (choice.Value t) values)) path →
+            IsWrongAt shown outcomes s (values_node t trees) s.chosen path
         below trees many [] wrong = absurd wrong
         below trees many (number ∷ path) wrong = (
-          are.values,
-          are.next,
-          covers_count trees ∙ many ∙ ap length are.each ∙ length-map are.values (choice.Value t),
+          values,
+          next,
+          covers_count trees ∙ many ∙ length-map values (choice.Value t),
           subst (λ ks. FirstWrongCoverChild (asked s.program shown) (mode_in s) outcomes (covers_of trees) ks number path) sketches_are wrong,
         )
 
@@ -47,21 +48,22 @@ module _ (shown : Shown) (outcomes : List Outcome) (s : ProgramSketch) where
         (λ values next e. none values next (sym (covers_count trees) ∙ e))
 
   module _ (read : AccessId) where
-    pub branched_sources : (choices : List Choice) → AreSourceChoices s read choices → IsBranched (sources_node read) choices
-    branched_sources choices are = record {
-      valid = λ trees valid. (are.sources, are.next, subst (AreValidCovers (asked s.program shown) (mode_in s) outcomes (covers_of trees)) sketches_are valid);
+    pub branched_sources : (sources : List Event) → HasSources s.program (mode_in s) s.chosen (event_of read) sources → IsBranched (sources_node read) (map (choice.Source read) sources)
+    branched_sources sources next = record {
+      valid = λ trees valid. (sources, next, subst (AreValidCovers (asked s.program shown) (mode_in s) outcomes (covers_of trees)) sketches_are valid);
       wrong = below;
     }
       where
-        sketches_are : map (sketch_with s.chosen) choices ≡ map (sketches.with_source s.chosen (event_of read)) are.sources
-        sketches_are = ap (map (sketch_with s.chosen)) are.each ∙ map_map (sketch_with s.chosen) (choice.Source read) are.sources
+        sketches_are : map (sketch_with s.chosen) (map (choice.Source read) sources) ≡ map (sketches.with_source s.chosen (event_of read)) sources
+        sketches_are = map_map (sketch_with s.chosen) (choice.Source read) sources
 
-        below : (trees : List Cover) → length trees ≡ length choices → (path : List ℕ) → IsBelow (IsWrongChild shown outcomes s trees choices) path → IsWrongAt shown outcomes s (sources_node read trees) s.chosen path
+        below : (trees : List Cover) → length trees ≡ length (map (choice.Source read) sources) → (path : List ℕ) → IsBelow (IsWrongChild shown outcomes s trees (map (choice.Source read) sources)) path →
+            IsWrongAt shown outcomes s (sources_node read trees) s.chosen path
         below trees many [] wrong = absurd wrong
         below trees many (number ∷ path) wrong = (
-          are.sources,
-          are.next,
-          covers_count trees ∙ many ∙ ap length are.each ∙ length-map are.sources (choice.Source read),
+          sources,
+          next,
+          covers_count trees ∙ many ∙ length-map sources (choice.Source read),
           subst (λ ks. FirstWrongCoverChild (asked s.program shown) (mode_in s) outcomes (covers_of trees) ks number path) sketches_are wrong,
         )
 
@@ -69,26 +71,17 @@ module _ (shown : Shown) (outcomes : List Outcome) (s : ProgramSketch) where
     source_here trees path (at, none) = subst (IsWrongAt shown outcomes s (sources_node read trees) s.chosen) (sym at)
         (λ sources next e. none sources next (sym (covers_count trees) ∙ e))
 
--- ---- a node whose children are the first trees of a walk
+-- ---- what is judged of a node
 
--- the walk is past them
-pub past_children : {T E : Type 0} (r : Result T E) (count many : ℕ) (walk new : List Cover) → count ≡ many → OnOk r (new ≡ drop many walk) → OnOk r (new ≡ drop count walk)
-past_children r count many walk new same after = subst (λ (n : ℕ). OnOk r (new ≡ drop n walk)) (sym same) after
+module _ {shown : Shown} {outcomes : List Outcome} {s : ProgramSketch} {node : List Cover → Cover} {choices : List Choice} (is : IsBranched shown outcomes s node choices) (r : Result (Unit {0}) TreeFault) (trees : List Cover) where
+  pub valid_by_children : OnOk r (AreValidAfter shown outcomes s trees choices) → OnOk r (IsValidAfter shown outcomes s (node trees) s.chosen)
+  valid_by_children = on_ok r (AreValidAfter shown outcomes s trees choices) (IsValidAfter shown outcomes s (node trees) s.chosen) (is.valid trees)
 
-module _ {shown : Shown} {outcomes : List Outcome} {s : ProgramSketch} {node : List Cover → Cover} {choices : List Choice} (is : IsBranched shown outcomes s node choices)
-    (r : Result (Unit {0}) TreeFault) (count many : ℕ) (walk : List Cover) (same : count ≡ many) where
-  pub valid_by_children : OnOk r (AreValidAfter shown outcomes s (take many walk) choices) → OnOk r (IsValidAfter shown outcomes s (node (take count walk)) s.chosen)
-  valid_by_children valid =
-      subst (λ (n : ℕ). OnOk r (IsValidAfter shown outcomes s (node (take n walk)) s.chosen)) (sym same)
-      (on_ok r (AreValidAfter shown outcomes s (take many walk) choices) (IsValidAfter shown outcomes s (node (take many walk)) s.chosen) (is.valid (take many walk)) valid)
-
-  pub wrong_by_child : count ≤ length walk → many ≡ length choices → IfErr r (IfWrong (IsBelow (IsWrongChild shown outcomes s (take many walk) choices))) →
-      IfErr r (IfWrong (IsWrongAt shown outcomes s (node (take count walk)) s.chosen))
-  wrong_by_child fits as_many wrong =
-      let P = IsBelow (IsWrongChild shown outcomes s (take many walk) choices) in
-      let At = IsWrongAt shown outcomes s (node (take many walk)) s.chosen in
-      subst (λ (n : ℕ). IfErr r (IfWrong (IsWrongAt shown outcomes s (node (take n walk)) s.chosen))) (sym same)
-      (if_err r (IfWrong P) (IfWrong At) (λ fault. if_wrong P At fault (is.wrong (take many walk) (length-take-le many walk (omega arith) ∙ as_many))) wrong)
+  pub wrong_by_child : length trees ≡ length choices → IfErr r (IfWrong (IsBelow (IsWrongChild shown outcomes s trees choices))) → IfErr r (IfWrong (IsWrongAt shown outcomes s (node trees) s.chosen))
+  wrong_by_child many =
+      let P = IsBelow (IsWrongChild shown outcomes s trees choices) in
+      let At = IsWrongAt shown outcomes s (node trees) s.chosen in
+      if_err r (IfWrong P) (IfWrong At) (λ fault. if_wrong P At fault (is.wrong trees many))
 
 -- or its root is wrong
 pub wrong_by_root : (shown : Shown) (outcomes : List Outcome) (s : ProgramSketch) (node : List Cover → Cover) (None : ℕ → Type 0) →
@@ -111,24 +104,37 @@ module _ (shown : Shown) (outcomes : List Outcome) (s : ProgramSketch) (first se
   in_no_order : MayChoose s first_choice → HasNoOrder s.program (mode_in s) s.chosen (event_of first) (event_of second)
   in_no_order may = no_order s (event_of first) (event_of second) may
 
-  pub order_valid : MayChoose s first_choice → IsValidAfter shown outcomes s one (sketch_with s.chosen first_choice) → IsValidAfter shown outcomes s other (sketch_with s.chosen second_choice) →
-      IsValidAfter shown outcomes s (Order first second one other) s.chosen
-  order_valid may a b = (in_no_order may, a, b)
+  abbrev At : List ℕ → Type 0
+  At = IsWrongAt shown outcomes s (Order first second one other) s.chosen
 
-  pub order_first : MayChoose s first_choice → (path : List ℕ) → IsBelow (λ n rest. (n ≡ 0) × IsWrongAt shown outcomes s one (sketch_with s.chosen first_choice) rest) path →
-      IsWrongAt shown outcomes s (Order first second one other) s.chosen path
-  order_first may [] wrong = absurd wrong
-  order_first may (zero ∷ path) (at, wrong) = (in_no_order may, wrong)
-  order_first may (suc n ∷ path) (at, wrong) = absurd (omega arith)
+  abbrev NoOrder : Type 0
+  NoOrder = HasNoOrder s.program (mode_in s) s.chosen (event_of first) (event_of second) → ⊥
 
-  pub order_second : MayChoose s first_choice → IsValidAfter shown outcomes s one (sketch_with s.chosen first_choice) →
-      (path : List ℕ) → IsBelow (λ n rest. (n ≡ 1) × IsWrongAt shown outcomes s other (sketch_with s.chosen second_choice) rest) path →
-      IsWrongAt shown outcomes s (Order first second one other) s.chosen path
-  order_second may valid [] wrong = absurd wrong
-  order_second may valid (zero ∷ path) (at, wrong) = absurd (omega arith)
-  order_second may valid (suc zero ∷ path) (at, wrong) = (in_no_order may, (valid, wrong))
-  order_second may valid (suc (suc n) ∷ path) (at, wrong) = absurd (omega arith)
+  -- the child of this number is wrong, where it is judged for a choice
+  abbrev Child : ℕ → Cover → Choice → List ℕ → Type 0
+  Child number tree choice = IsBelow (λ n path. (n ≡ number) × IsWrongAt shown outcomes s tree (sketch_with s.chosen choice) path)
 
-  pub order_here : (path : List ℕ) → IsAtRoot (HasNoOrder s.program (mode_in s) s.chosen (event_of first) (event_of second) → ⊥) path →
-      IsWrongAt shown outcomes s (Order first second one other) s.chosen path
-  order_here path (at, none) = subst (IsWrongAt shown outcomes s (Order first second one other) s.chosen) (sym at) none
+  pub order_here : (r : Result (Unit {0}) TreeFault) (fault : TreeFault) → IsErrAnd r (λ y. y ≡ fault) → IfWrong (IsAtRoot NoOrder) fault → IfErr r (IfWrong At)
+  order_here r fault up wrong = err_up r fault (IfWrong At) up (if_wrong (IsAtRoot NoOrder) At fault (λ path (at, none). subst At (sym at) none) wrong)
+
+  module _ (may : MayChoose s first_choice) where
+    first_at : (path : List ℕ) → Child 0 one first_choice path → At path
+    first_at [] wrong = absurd wrong
+    first_at (zero ∷ path) (at, wrong) = (in_no_order may, wrong)
+    first_at (suc n ∷ path) (at, wrong) = absurd (omega arith)
+
+    pub order_first : (r : Result (Unit {0}) TreeFault) (fault : TreeFault) → IsErrAnd r (λ y. y ≡ fault) → IfWrong (Child 0 one first_choice) fault → IfErr r (IfWrong At)
+    order_first r fault up wrong = err_up r fault (IfWrong At) up (if_wrong (Child 0 one first_choice) At fault first_at wrong)
+
+    module _ (valid : IsValidAfter shown outcomes s one (sketch_with s.chosen first_choice)) (r : Result (Unit {0}) TreeFault) where
+      pub order_valid : OnOk r (IsValidAfter shown outcomes s other (sketch_with s.chosen second_choice)) → OnOk r (IsValidAfter shown outcomes s (Order first second one other) s.chosen)
+      order_valid = on_ok r (IsValidAfter shown outcomes s other (sketch_with s.chosen second_choice)) (IsValidAfter shown outcomes s (Order first second one other) s.chosen) (λ also. (in_no_order may, valid, also))
+
+      second_at : (path : List ℕ) → Child 1 other second_choice path → At path
+      second_at [] wrong = absurd wrong
+      second_at (zero ∷ path) (at, wrong) = absurd (omega arith)
+      second_at (suc zero ∷ path) (at, wrong) = (in_no_order may, (valid, wrong))
+      second_at (suc (suc n) ∷ path) (at, wrong) = absurd (omega arith)
+
+      pub order_second : IfErr r (IfWrong (Child 1 other second_choice)) → IfErr r (IfWrong At)
+      order_second = if_err r (IfWrong (Child 1 other second_choice)) (IfWrong At) (λ fault. if_wrong (Child 1 other second_choice) At fault second_at)

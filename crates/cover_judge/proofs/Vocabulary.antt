@@ -1,6 +1,6 @@
 -- What many proofs of this crate speak of, imported once.
-pub use Rattle.std.proofs.Common.{All, Bool, Contains, IsSome, IsTrue, List, MatchOption, None, Option, Some, [], ap, arith, drop, drop-cons, false, get_or, inl, inr, length, map, not, refl}
-pub use Rattle.std.proofs.Common.{slice_get, subst, suc, sym, take, true, zero, ℕ, ◌*◌, ◌+◌, ◌<◌, ◌↔◌, ◌∙◌, ◌∷◌, ◌≡◌, ◌≤◌}
+pub use Rattle.std.proofs.Common.{All, Contains, IsSome, List, MatchOption, None, Option, Some, [], ap, arith, drop, drop-cons, false, get_or, inl, inr, length, map, refl, slice_get, subst, suc, sym}
+pub use Rattle.std.proofs.Common.{take, true, zero, ℕ, ◌*◌, ◌+◌, ◌<◌, ◌↔◌, ◌∙◌, ◌∷◌, ◌≡◌, ◌≤◌}
 pub use Rattle.std.proofs.lemmas.List.{append-nil, drop_all, get_or-map, length-drop, length-map, length-take-le}
 pub use Rattle.std.proofs.lemmas.Option.{same_Some}
 pub use Rattle.std.specs.Global.{Vec}
@@ -16,7 +16,7 @@ pub use Rattle.cert_forest.specs.Machine.{Machine}
 pub use Rattle.cert_forest.specs.Nodes.{first_tree, spell_all}
 pub use Rattle.cert_forest.specs.Trees.{Cover, Covers, Cycle, Known, MoreCovers, NoCover, Order, Source, Value, covers_of}
 pub use Rattle.cert_forest.specs.declared.tree.AccessId.{AccessId}
-pub use Rattle.sketches.specs.Choices.{HasSource, IsRead, MayRead}
+pub use Rattle.sketches.specs.Choices.{HasSource, IsRead}
 pub use Rattle.sketches.specs.ProgramSketches.{ProgramSketch, mode_in, with_chosen}
 pub use Rattle.sketches.specs.RowlessSketches.{AreSources, IsFree, LacksSource}
 pub use Rattle.tree_laws.proofs.OneList.{one_list_of_sources, one_list_of_values}
@@ -27,6 +27,6 @@ pub use Rattle.tso_program.specs.declared.outcome.Outcome.{Outcome}
 pub use Rattle.tso_program.specs.declared.shown.Shown.{Shown}
 pub use Rattle.cover_judge.specs.Choices.{AreSourceChoices, AreValueChoices, IsSourceOpen, IsValueOpen, MayChoose, MayChooseEach, sketch_with}
 pub use Rattle.cover_judge.specs.CoverDefects.{FirstWrongCover, FirstWrongCoverChild, HasNoSources, HasNoValues}
-pub use Rattle.cover_judge.specs.Judged.{AreNotSoMany, AreSoMany, AreValidAfter, IfWrong, IsAtRoot, IsBelow, IsFrom, IsValidAfter, IsWrongAt, IsWrongChild}
+pub use Rattle.cover_judge.specs.Judged.{AreValidAfter, IfWrong, IsAtRoot, IsBelow, IsFrom, IsValidAfter, IsWrongAt, IsWrongChild}
 pub use Rattle.cover_judge.specs.declared.choice.Choice.{Choice}
 pub use Rattle.cover_judge.specs.declared.fault.TreeFault.{TreeFault, TheVariants.OutOfMemory, TheVariants.Wrong}

@@ -1,6 +1,5 @@
 -- What the functions that judge trees answer.
-use Rattle.std.specs.Prelude.{◌≡◌, ℕ, List, [], ◌∷◌, Option, Some, map, length}
-use Rattle.std.specs.Global.{Vec}
+use Rattle.std.specs.Prelude.{◌≡◌, ℕ, List, [], ◌∷◌, map}
 use Rattle.tso_program.specs.declared.outcome.Outcome.{Outcome}
 use Rattle.tso_program.specs.declared.shown.Shown.{Shown}
 use Rattle.tso_program.specs.Shown.{asked}
@@ -52,12 +51,3 @@ module _ (shown : Shown) (outcomes : List Outcome) (s : ProgramSketch) where
   abbrev pub IsWrongChild : List Cover → List Choice → ℕ → List ℕ → Type 0
   IsWrongChild trees choices number path =
       covers.FirstWrongCoverChild (asked s.program shown) (mode_in s) outcomes (covers_of trees) (map (sketch_with s.chosen) choices) number path
-
--- what was found are these choices, and they are as many as this
-pub record AreSoMany (found : Option (Vec Choice)) (count : ℕ) (choices : Vec Choice) : Type 0 where
-  pub found_are : found ≡ Some choices
-  pub many : count ≡ length choices.items
-
--- no choices were found, or they are not as many as this
-abbrev pub AreNotSoMany : Option (Vec Choice) → ℕ → Type 0
-AreNotSoMany found count = (choices : Vec Choice) → AreSoMany found count choices → ⊥

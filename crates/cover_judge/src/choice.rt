@@ -1,7 +1,6 @@
 //! What branches in a sketch.
-ghost use Rattle.std.specs.Prelude.{◌≡◌, ◌↔◌, IsTrue, IfOk, OnOk, OnErr, IfSome, MatchOption, map};
+ghost use Rattle.std.specs.Prelude.{◌≡◌, IfOk, OnOk, OnErr, IfSome, MatchOption, map};
 ghost use Rattle.sketches.specs.ProgramSketches.{with_chosen};
-ghost use Rattle.sketches.specs.Choices.{IsOrdered};
 ghost use Rattle.tree_laws.specs.CoverTrees as trees;
 ghost use Rattle.cover_judge.specs.Choices.{sketch_with, MayChoose, MayChooseEach, IsValueOpen, IsSourceOpen, AreValueChoices, AreSourceChoices};
 
@@ -107,26 +106,4 @@ fn each_source(alloc: Global, read: AccessId, sources: &[Event]) -> Result<Vec<C
         .iter()
         .map(|source| Choice::Source(read, *source))
         .collect(alloc)
-}
-
-/// Whether two accesses are writes to one location in no order yet, and each read has its value.
-pub fn is_order_open(sketch: &Sketch, first: AccessId, second: AccessId) -> bool
-    ensures order { IsTrue result ↔ MayChoose sketch.now (Choice.Order first second) }
-    ensures reverse { IsTrue result → MayChoose sketch.now (Choice.Order second first) }
-{
-    let (first, second) = (event_of(first), event_of(second));
-    if !sketch.is_whole() {
-        return false;
-    }
-    if !sketch.is_pair(first, second) {
-        return false;
-    }
-    !is_ordered(sketch, first, second)
-}
-
-/// Whether two writes are in order, one way or the other.
-fn is_ordered(sketch: &Sketch, first: Event, second: Event) -> bool
-    ensures { IsTrue result ↔ IsOrdered sketch.now first second }
-{
-    sketch.before(first, second) || sketch.before(second, first)
 }

@@ -187,14 +187,13 @@ impl TreeSearch<'_> {
         nodes: &mut Vec<Node>,
         root: usize,
         child: usize,
-        sketch: &mut Sketch,
+        sketch: &Sketch,
         outcomes: &[Outcome],
     ) -> Result<bool, AllocError>
         requires order { root ≤ child }
         requires within { child < length nodes.old.items }
         requires tree { IsTree (drop child nodes.old.items) }
-        ensures kept { sketch.new ≡ sketch.old }
-        ensures taken { IfOk result (IsTaken sketch.old self.now.shown.now outcomes.now (tree_of (drop child nodes.old.items)) nodes.old.items (remove_range nodes.old.items root child) nodes.new.items) }
+        ensures taken { IfOk result (IsTaken sketch.now self.now.shown.now outcomes.now (tree_of (drop child nodes.old.items)) nodes.old.items (remove_range nodes.old.items root child) nodes.new.items) }
     {
         if is_cycle(&nodes[child]) {
             return Ok(false);

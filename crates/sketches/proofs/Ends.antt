@@ -3,12 +3,11 @@ use Rattle.sketches.proofs.Vocabulary.{◌≡◌, ◌↔◌, ℕ, ◌<◌, Bool,
 use Rattle.sketches.proofs.Vocabulary.{get_or_append_left, get_or_push, Truth, slice_index, cases_lt, get_or-map-range_with_len, length-map-range_with_len, same_Some, slice_get_within, Outcome, Shown}
 use Rattle.sketches.proofs.Vocabulary.{Access, Event, Initial, At, Writes, ProgramSketch, mode_in, trace_in, access_in, IsLawful, HasNoCycle, HasLater, WritesTo, IsWritten, IsWrittenBy, yes, no}
 use Rattle.sketches.proofs.Vocabulary.{of_some, shown_registers, show_registers, show, ShowsValues, asked, EndsOnlyAs, MustEndSo, NeedNotEnd, final_registers, HasEnds, EndsSo, Differ, some_value}
-use Rattle.sketches.proofs.Vocabulary.{IsWhole, MayBeLast, EndsInValues, EndsAs, MustEndAs}
+use Rattle.sketches.proofs.Vocabulary.{IsWhole, MayBeLast, EndsInValues, EndsAs, MustEndAs, none_past}
 use Rattle.std.proofs.lemmas.Grind.{same_number_lists}
 use Rattle.tso_program.proofs.Kept.{threads_long, thread_at, threads_by}
 use Rattle.candidate_executions.proofs.{Sketches.MustEnd.each_ends_so, Candidates.LastWrites.outcomes_are_one}
 use Rattle.sketches.proofs.LastWrites.{some_last}
-use Rattle.known_edges.proofs.Accesses.{none_past}
 
 -- nothing else is shown of a completion's outcome
 pub ends_only : (s : ProgramSketch) (shown : Shown) (o : Outcome) → IsLawful s → MustEndAs (asked s.program shown) (mode_in s) s.chosen o → EndsOnlyAs s shown o

@@ -2,14 +2,15 @@
 use Rattle.sketches.proofs.Vocabulary.{◌≡◌, ◌↔◌, ℕ, ◌<◌, ◌≤◌, Bool, true, false, not, IsTrue, List, [], ◌∷◌, Option, Some, None, IsSome, get_or, length, drop, add-one, drop-cons, ◌+◌, map, Result, Ok}
 use Rattle.sketches.proofs.Vocabulary.{Err, IfOk, refl, sym, ap, ◌∙◌, subst, inl, inr, arith, slice_get, option_and_then, slice_get-get_or, slice_get_past, drop_all, Half, AndOf, OrOf, build, told}
 use Rattle.sketches.proofs.Vocabulary.{range_with_len, Outcome, Truth, Atom, Tree, cases_lt, get_or-map-range_with_len, length-map-range_with_len, IsLawful, HasNoCycle, MustEndSo, ProgramSketch}
-use Rattle.sketches.proofs.Vocabulary.{mode_in, trace_in, final_registers, KnownAtom, next_read, IsKnownTruth, Knows, after_node, not-true as not_true, not_from_false as false_not}
+use Rattle.sketches.proofs.Vocabulary.{mode_in, trace_in, final_registers, KnownAtom, next_read, IsKnownTruth, Knows, after_node, not-true as not_true, not_from_false as false_not, ◌==◌, slice_index}
+use Rattle.sketches.proofs.Vocabulary.{Access, Event, At, Initial, access_in, IsLastWith, HasLater, IsInitialWrite, IsOfThread, IsWritten, MayBe, MayBeBy, yes, no}
 use Rattle.tso_program.specs.{declared.instruction.Reg.Reg, Instructions.number, declared.node.Node.Node, Truth.is_true_at, Truth.is_value}
 use Rattle.tso_program.specs.declared.atom.Atom.TheVariants as atom
 use Rattle.tso_program.specs.declared.node.Node.TheVariants as node
 use Rattle.tso_program.specs.Tree as tree
 use Rattle.tso_program.proofs.KnownTruths.{known_is_true}
 use Rattle.candidate_executions.specs.Sketches as sketches
-use Rattle.sketches.proofs.{LastWrites.some_last, Ends.final_at, Ends.final_long}
+use Rattle.sketches.proofs.{LastWrites.some_last, LastValues.own_or_initial, LastValues.first_free, Ends.final_at, Ends.final_long, Ends.last_by, Ends.write_within, Ends.thread_within}
 
 -- ---- tests of two truths
 
@@ -57,6 +58,53 @@ module _ (s : ProgramSketch) where
   stops_past t r v past =
       let long = final_long s in
       sym (ap (λ x. is_value (option_and_then (λ registers. slice_get registers (number r)) x) v) (slice_get_past (final_registers s) t (omega arith)))
+
+-- ---- whether a location may end with a value, or with another
+
+module _ (s : ProgramSketch) (l v : ℕ) (is : Bool) where
+  -- an access that writes such a value does, unless a chosen pair puts a write after it
+  pub access_does : (e : Event) (x : Access) (held : ℕ) (b : Bool) → access_in s e ≡ Some x → (IsInitialWrite e → ⊥) → x.written ≡ Some held → x.location ≡ l → ((held == v) ≡ is) →
+      (IsTrue b ↔ HasLater s e) → IsTrue (not b) ↔ ((w : ℕ) × IsLastWith s l w e × ((w == v) ≡ is))
+  access_does e x held true at other written here so later = no ((w : ℕ) × IsLastWith s l w e × ((w == v) ≡ is)) (λ (w, last, same). (let (d, h) = later.0 refl in last.1.no_later d h))
+  access_does e x held false at other written here so later = yes ((w : ℕ) × IsLastWith s l w e × ((w == v) ≡ is)) (
+    held,
+    (
+      (x, at, here, written),
+      record {
+        no_later = λ d h. (let f : false ≡ true = later.1 (d, h) in cc);
+        only_initial = λ q d u w. absurd (other (subst IsInitialWrite (sym q) tt));
+      },
+    ),
+    so,
+  )
+
+  -- an access of a thread does where one of its accesses does
+  pub one_does : (t : ℕ) → MayBeBy s l v is (IsOfThread t) → (i : ℕ) × (i < length (trace_in s t).accesses) × ((w : ℕ) × IsLastWith s l w (At t i) × ((w == v) ≡ is))
+  one_does t (e, (i, q), (w, last, so)) =
+      let here : IsLastWith s l w (At t i) = subst (IsLastWith s l w) q last in
+      (i, write_within s t i l (w, here.0), (w, here, so))
+
+  module _ (n : ℕ) (all : length s.program.threads ≤ n) (none : (t : ℕ) → t < n → MayBeBy s l v is (IsOfThread t) → ⊥) where
+    -- where no access does, only the initial write does
+    only_initial_does : (w : ℕ) (e : Event) → IsLastWith s l w e → ((w == v) ≡ is) → (e ≡ Initial l) × ((slice_index s.program.memory l == v) ≡ is)
+    only_initial_does w (At t i) last so = absurd (let h = thread_within s t l (i, (w, last.0)) in none t (omega arith) (At t i, (i, refl), (w, last, so)))
+    only_initial_does w (Initial m) last so = elim (own_or_initial s (Initial m) l w last.0) [
+      | inl own ↦ absurd own
+      | inr (q, value) ↦ (q, sym (ap (λ (n : ℕ). n == v) value) ∙ so)
+    ]
+
+    -- which does if its value is such, unless an access writes the location
+    pub initial_does : (b : Bool) → IsLawful s → ((slice_index s.program.memory l == v) ≡ is) → (IsTrue b ↔ IsWritten s l) → IsTrue (not b) ↔ MayBe s l v is
+    initial_does true lawful so test = no (MayBe s l v is) (λ (w, (e, last), same). (
+        let (t, h) = test.0 refl in
+        let (i, h2) = h in
+        let (u, writes) = h2 in
+        let apart : At t i ≡ Initial l = last.1.only_initial (only_initial_does w e last same).0 (At t i) u writes in
+        cc))
+    initial_does false lawful so test = yes (MayBe s l v is) (slice_index s.program.memory l, (Initial l, ((_, refl, refl, refl), (last_by s l (Initial l) false (first_free s l lawful) refl test).0 refl)), so)
+
+    pub initial_differs : ((slice_index s.program.memory l == v) ≡ is → ⊥) → MayBe s l v is → ⊥
+    initial_differs other (w, (e, last), so) = other (only_initial_does w e last so).1
 
 -- ---- a walk over the nodes
 

@@ -1,9 +1,8 @@
 -- What is shown of the writes that may be the last of a location.
-use Rattle.sketches.proofs.Vocabulary.{◌≡◌, ◌↔◌, ◌⊎◌, ℕ, ◌<◌, Bool, true, false, IsTrue, List, [], ◌∷◌, ◌++◌, Option, Some, None, Contains, length, refl, sym, ap, ◌∙◌, subst, inl, inr, arith}
-use Rattle.sketches.proofs.Vocabulary.{get_or-set_same, get_or-set_other, length-set, Contains-push, Contains-push_cases, Contains-append_left, ◌==◌, slice_index, slice_index_or, slice_set, IfSome}
-use Rattle.sketches.proofs.Vocabulary.{cases_eq, same_Some, slice_get_within, none_here, Shown, shown_value, Access, Event, Initial, At, Writes, ProgramSketch, mode_in, access_in, MayBeLast, IsLawful}
-use Rattle.sketches.proofs.Vocabulary.{IsLastWith, HasLater, IsWritten, yes, no, MAX_LOCATIONS, MayEndBy, IsOwn, EndsSo, MayBe, MayBeBy, Differ, IsLastValue, AreLastValues}
-use Rattle.sketches.proofs.Ends.{last_by}
+use Rattle.sketches.proofs.Vocabulary.{◌≡◌, ◌↔◌, ◌⊎◌, ℕ, ◌<◌, List, [], ◌∷◌, ◌++◌, Option, Some, None, Contains, length, refl, sym, ap, ◌∙◌, subst, inl, inr, arith, get_or-set_same, get_or-set_other}
+use Rattle.sketches.proofs.Vocabulary.{length-set, Contains-push, Contains-push_cases, Contains-append_left, slice_index, slice_index_or, slice_set, IfSome, cases_eq, same_Some, slice_get_within}
+use Rattle.sketches.proofs.Vocabulary.{Shown, shown_value, Access, Event, Initial, At, Writes, ProgramSketch, access_in, IsLawful, IsLastWith, HasLater, MAX_LOCATIONS, MayEndBy, IsOwn, EndsSo, Differ}
+use Rattle.sketches.proofs.Vocabulary.{IsLastValue, AreLastValues}
 
 -- one event writes one value to one location
 pub same_location : (s : ProgramSketch) (e : Event) (l m v w : ℕ) → Writes (access_in s) e l v → Writes (access_in s) e m w → l ≡ m
@@ -13,7 +12,7 @@ pub same_value : (s : ProgramSketch) (e : Event) (l m v w : ℕ) → Writes (acc
 same_value s e l m v w a b = same_Some v w (sym a.3 ∙ ap (λ (z : Access). z.written) (same_Some a.0 b.0 (sym a.1 ∙ b.1)) ∙ b.3)
 
 -- a write is an access, or the initial one
-own_or_initial : (s : ProgramSketch) (e : Event) (l v : ℕ) → Writes (access_in s) e l v → IsOwn s e ⊎ ((e ≡ Initial l) × (v ≡ slice_index s.program.memory l))
+pub own_or_initial : (s : ProgramSketch) (e : Event) (l v : ℕ) → Writes (access_in s) e l v → IsOwn s e ⊎ ((e ≡ Initial l) × (v ≡ slice_index s.program.memory l))
 own_or_initial s (At t i) l v w = inl (slice_get_within _ i w.0 w.1)
 own_or_initial s (Initial m) l v w =
     let at : m ≡ l = same_location s (Initial m) m l (slice_index s.program.memory m) v (_, refl, refl, refl) w in
@@ -22,6 +21,12 @@ own_or_initial s (Initial m) l v w =
 own_apart : (s : ProgramSketch) (e : Event) (l : ℕ) → IsOwn s e → e ≡ Initial l → ⊥
 own_apart s (Initial m) l own q = own
 own_apart s (At t i) l own q = cc
+
+-- no pair puts a write after an initial one
+pub first_free : (s : ProgramSketch) (l : ℕ) → IsLawful s → HasLater s (Initial l) → ⊥
+first_free s l lawful (d, h) =
+    let (differ, (m, v, w, first, second, not_first, not_second)) = lawful.is_sketch.pairs (Initial l) d h in
+    not_first (ap Initial (ap (λ (z : Access). z.location) (same_Some _ first.0 first.1) ∙ first.2))
 
 -- ---- the value that is kept for a location
 
@@ -87,42 +92,6 @@ module _ (s : ProgramSketch) (shown : Shown) (l : ℕ) where
     | inr initial ↦ ap (shown_value shown l) initial.1
   ]
 
-  -- the value is the held one
-  pub kept_test : (o : Option ℕ) (u held : ℕ) (b : Bool) → o ≡ Some u → IsLastValue s shown (IsOwn s) l o → (IsTrue b ↔ (u ≡ held)) → IsTrue b ↔ EndsSo s shown l held
-  kept_test o u held b q last test = (
-    λ t v may. kept_end o u q last v may ∙ test.0 t,
-    λ ends. test.1 (go o q last ends),
-  )
-    where
-      go : (o : Option ℕ) → o ≡ Some u → IsLastValue s shown (IsOwn s) l o → EndsSo s shown l held → u ≡ held
-      go None q none ends = absurd cc
-      go (Some k) q ((w, (d, own, last)), each) ends = sym (same_Some k u q) ∙ sym (each w (d, own, last)) ∙ ends w (d, last)
-
-  -- the initial value is the held one
-  pub initial_ends : (o : Option ℕ) (held : ℕ) → o ≡ None → IsLastValue s shown (IsOwn s) l o → shown_value shown l (slice_index s.program.memory l) ≡ held → EndsSo s shown l held
-  initial_ends o held q last same = λ v may. initial_end o q last v may ∙ same
-
-  -- where it is not, an access writes the location, or the location does not end so
-  pub written_ends : (o : Option ℕ) (held : ℕ) (b : Bool) → IsLawful s → o ≡ None → IsLastValue s shown (IsOwn s) l o → (shown_value shown l (slice_index s.program.memory l) ≡ held → ⊥) →
-      (IsTrue b ↔ IsWritten s l) → IsTrue b ↔ EndsSo s shown l held
-  written_ends (Some k) held b lawful q there other test = absurd cc
-  written_ends None held true lawful q none other test = yes (EndsSo s shown l held) (λ v (e, may). elim (own_or_initial s e l v may.0) [
-    | inl own ↦ absurd (none v (e, own, may))
-    | inr initial ↦ (
-        let (t, h) = test.0 refl in
-        let (i, h2) = h in
-        let (w, writes) = h2 in
-        let same : At t i ≡ Initial l = may.1.only_initial initial.0 (At t i) w writes in
-        absurd cc)
-  ])
-  written_ends None held false lawful q none other test = no (EndsSo s shown l held)
-      (λ ends. other (ends (slice_index s.program.memory l) (Initial l, ((_, refl, refl, refl), (last_by s l (Initial l) false free refl test).0 refl))))
-    where
-      free : HasLater s (Initial l) → ⊥
-      free (d, h) =
-          let (differ, (m, v, w, first, second, not_first, not_second)) = lawful.is_sketch.pairs (Initial l) d h in
-          not_first (ap Initial (ap (λ (z : Access). z.location) (same_Some _ first.0 first.1) ∙ first.2))
-
 -- ---- the values that are kept for all locations
 
 module _ (s : ProgramSketch) (shown : Shown) where
@@ -149,28 +118,3 @@ module _ (s : ProgramSketch) (shown : Shown) where
 
   pub values_all : (es : List Event) (values : List (Option ℕ)) → ((e : Event) → Contains es e ↔ IsOwn s e) → AreLastValues s shown (Contains es) values → AreLastValues s shown (IsOwn s) values
   values_all es values exact before = record { long = before.long; each = λ l h. last_all s shown l es exact (slice_index_or values l None) (before.each l h) }
-
--- ---- whether a location may end with a value, or with another
-
-module _ (s : ProgramSketch) (l v : ℕ) (is : Bool) where
-  -- none of no events does
-  pub none_does : MayBeBy s l v is (Contains []) → ⊥
-  none_does (e, has, does) = none_here e has
-
-  -- nor does one more that doesn't
-  pub no_more_does : (es : List Event) (x : Event) → (MayBeBy s l v is (Contains es) → ⊥) → ((w : ℕ) → IsLastWith s l w x → (w == v) ≡ is → ⊥) → MayBeBy s l v is (Contains (es ++ x ∷ [])) → ⊥
-  no_more_does es x none other (e, has, (w, last, so)) = elim (Contains-push_cases es x e has) [
-    | inl h ↦ none (e, h, (w, last, so))
-    | inr q ↦ other w (subst (IsLastWith s l w) (sym q) last) so
-  ]
-
-  -- where no access does, the initial write does or none
-  pub initial_does : (es : List Event) (b : Bool) → ((e : Event) → Contains es e ↔ IsOwn s e) → (MayBeBy s l v is (Contains es) → ⊥) →
-      (IsTrue b ↔ (((slice_index s.program.memory l == v) ≡ is) × MayBeLast s.program (mode_in s) s.chosen l (Initial l))) → IsTrue b ↔ MayBe s l v is
-  initial_does es b exact none test = (
-    λ t. (let (so, last) = test.0 t in (slice_index s.program.memory l, (Initial l, ((_, refl, refl, refl), last)), so)),
-    λ (w, (e, last), so). elim (own_or_initial s e l w last.0) [
-      | inl own ↦ absurd (none (e, (exact e).1 own, (w, last, so)))
-      | inr initial ↦ test.1 (sym (ap (λ (n : ℕ). n == v) initial.1) ∙ so, subst (MayBeLast s.program (mode_in s) s.chosen l) initial.0 last.1)
-    ],
-  )

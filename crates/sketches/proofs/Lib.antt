@@ -8,6 +8,7 @@ pub mod Sources
 pub mod Found
 pub mod Ends
 pub mod LastValues
+pub mod MemoryEnds
 pub mod RoundTrips
 pub mod LastWrites
 pub mod Completeness

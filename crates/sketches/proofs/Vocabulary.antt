@@ -1,7 +1,7 @@
 -- What many proofs of this crate speak of, imported once.
 pub use Rattle.std.proofs.Common.{Bool, Contains, Err, IfOk, IsSome, IsTrue, List, None, Ok, Option, Result, Some, [], add-one, ap, arith, drop, drop-cons, false, get_or, inl, inr, length, map, not}
 pub use Rattle.std.proofs.Common.{refl, rules, set, slice_get, subst, suc, sym, take, true, vec_len, zero, ℕ, ◌++◌, ◌+◌, ◌<◌, ◌↔◌, ◌∙◌, ◌∷◌, ◌≡◌, ◌≢◌, ◌≤◌, ◌⊎◌}
-pub use Rattle.std.proofs.lemmas.Bool.{cases_eq, cases_lt, eq-eqb, eqb-true, not-true, not_from_false}
+pub use Rattle.std.proofs.lemmas.Bool.{cases_eq, cases_lt, not-true, not_from_false}
 pub use Rattle.std.proofs.lemmas.List.{append-nil, append_assoc, drop_all, get_or-set_other, get_or-set_same, get_or_append_left, get_or_push, length-append, length-set, length_push, take_all}
 pub use Rattle.std.proofs.lemmas.List.{take_more}
 pub use Rattle.std.proofs.lemmas.List.Elements.{Contains-append_left, Contains-get_or, Contains-push, Contains-push_cases}
@@ -11,22 +11,23 @@ pub use Rattle.std.proofs.lemmas.Result.{IfOk-weaker}
 pub use Rattle.std.specs.Arc.{arc_value}
 pub use Rattle.std.specs.Global.{Vec}
 pub use Rattle.std.specs.List.{AllPairs, range_with_len, remove}
-pub use Rattle.std.specs.Prelude.{IfSome, OnErr, is_some, nat_eq, option_and_then, option_to_list, slice_index, slice_index_or, slice_set, ◌==◌}
+pub use Rattle.std.specs.Prelude.{IfSome, OnErr, is_some, option_and_then, option_to_list, slice_index, slice_index_or, slice_set, ◌==◌}
 pub use Rattle.bit_rows.specs.Rows.{IsIn, RowHas}
 pub use Rattle.candidate_executions.proofs.Candidates.EdgesAreDecidable.{same_event}
 pub use Rattle.candidate_executions.proofs.Orders.Lists.{first_is_here, first_or_later, get_set_other, get_set_same, later_is_here, none_here, some_value}
 pub use Rattle.candidate_executions.specs.Candidates.{IsAccess, Writes}
 pub use Rattle.candidate_executions.specs.Consistency.{IsCycle, IsOfMode, Leads}
 pub use Rattle.candidate_executions.specs.Events.{ComesBefore}
-pub use Rattle.candidate_executions.specs.Sketches.{EndsAs, EndsInTruth, EndsInValues, IsBefore, IsKnownCycle, IsPair, IsSourceOf, IsWhole, KnownAtom, KnownEdge, KnownEdgeOfMode, KnownFromReads}
-pub use Rattle.candidate_executions.specs.Sketches.{KnownRelates, MayBeLast, MustEndAs, Sketch, given_to, next_read, with_pair, with_source, with_value}
+pub use Rattle.candidate_executions.specs.Sketches.{EndsAs, EndsInValues, IsBefore, IsKnownCycle, IsPair, IsSourceOf, IsWhole, KnownAtom, KnownEdge, KnownEdgeOfMode, KnownFromReads, KnownRelates}
+pub use Rattle.candidate_executions.specs.Sketches.{MayBeLast, MustEndAs, Sketch, given_to, next_read, with_pair, with_source, with_value}
 pub use Rattle.candidate_executions.specs.Values.{IsValueOf}
 pub use Rattle.candidate_executions.specs.declared.access.Access.{Access}
 pub use Rattle.candidate_executions.specs.declared.event.Event.{Event, TheVariants.Access as At, TheVariants.Initial}
 pub use Rattle.candidate_executions.specs.declared.event.Kind.{Kind}
+pub use Rattle.known_edges.proofs.Accesses.{none_past}
 pub use Rattle.known_edges.proofs.BranchesCounted.{few_sources, few_values}
 pub use Rattle.known_edges.proofs.ChoicesCounted.{choices_few, events, events_has, few_accesses}
-pub use Rattle.known_edges.proofs.Chosen.{found_source, has_source_by, once, source_kept}
+pub use Rattle.known_edges.proofs.Chosen.{found_source, has_source_by, once, pair_kept, source_kept}
 pub use Rattle.known_edges.proofs.Found.{cycle_of_accesses, none_fenced, none_sequential}
 pub use Rattle.known_edges.proofs.KnownParts.{last_part, pair_by, to_relates}
 pub use Rattle.known_edges.proofs.Lawful.{given_at, given_set, good_of, made_more, more_kept, more_parts, new_kept, new_kept_by, new_parts, none_chosen, none_in, unchosen, values_from}
@@ -37,7 +38,7 @@ pub use Rattle.known_edges.proofs.RowsKept.{begun, later_empty}
 pub use Rattle.known_edges.proofs.TracesKept.{no_accesses, no_trace, past_next, reads_there, six_registers, trace_accesses, trace_last, trace_next}
 pub use Rattle.known_edges.specs.Choices.{IsOrdered, IsRead, IsValueWritten, MayFollow, MayRead, ReadsThisValue}
 pub use Rattle.known_edges.specs.Kept.{AreOtherTwo, IsLawful, KeepsTraces, given_lists, view_of}
-pub use Rattle.known_edges.specs.Known.{HasCycle, HasNoCycle}
+pub use Rattle.known_edges.specs.Known.{HasCycle, HasNoCycle, IsInitialWrite}
 pub use Rattle.known_edges.specs.ProgramSketches.{ProgramSketch, access_in, mode_in, nothing_chosen, trace_in, with_chosen}
 pub use Rattle.known_edges.specs.Rows.{AreAccesses, EachEnds, HasWrites, IsOfThreads, IsRepresented, IsRowOf, IsWriteAt, NumberedTraces, accesses_at, traced_access, union_rows}
 pub use Rattle.known_edges.specs.Sizes.{HaveAllRegisters}
@@ -61,7 +62,7 @@ pub use Rattle.tso_program.specs.declared.shown.Shown.{Shown, TheVariants.Truth}
 pub use Rattle.sketches.specs.Complete.{HasItsSource, IsComplete, IsOrderedWith}
 pub use Rattle.sketches.specs.Completions.{EachRunCompletes, EndsOnlyAs, IsEdgeOfEach, IsRefuted, MustEndSo, NeedNotEnd}
 pub use Rattle.sketches.specs.Cycles.{EachGoesOn, IsSimpleCycle, IsSuccessor}
-pub use Rattle.sketches.specs.Endings.{AreLastValues, Differ, EndsSo, HasEnds, IsLastValue, IsOwn, MayBe, MayBeBy, MayEndBy, SketchMayEndWith, final_registers}
+pub use Rattle.sketches.specs.Endings.{AreLastValues, Differ, EndsSo, HasEndOf, HasEnds, IsLastValue, IsOfThread, IsOwn, MayBe, MayBeBy, MayEndBy, SketchMayEndWith, final_registers}
 pub use Rattle.sketches.specs.Internal.KnownWalk.{KnowsAll, after_node}
 pub use Rattle.sketches.specs.Internal.Listed.{FollowInOrder, HasNumberIn}
 pub use Rattle.sketches.specs.Internal.SourcesListed.{AreListedTo}

@@ -4,7 +4,7 @@ use Rattle.std.specs.List.{range_with_len}
 use Rattle.tso_program.specs.declared.limits.TheConstants.{MAX_LOCATIONS}
 use Rattle.tso_program.specs.declared.shown.Shown.{Shown}
 use Rattle.tso_program.specs.Shown.{shown_value}
-use Rattle.candidate_executions.specs.declared.event.Event.{Event}
+use Rattle.candidate_executions.specs.declared.event.Event.{Event, TheVariants.Access as At}
 use Rattle.candidate_executions.specs.Candidates.{IsAccess}
 use Rattle.candidate_executions.specs.Sketches.{given_to}
 use Rattle.known_edges.specs.ProgramSketches.{ProgramSketch, mode_in, trace_in}
@@ -42,6 +42,14 @@ MayBe s l v is = (w : ℕ) × SketchMayEndWith s l w × ((w == v) ≡ is)
 -- the same of a write of which P holds
 abbrev pub MayBeBy : ProgramSketch → ℕ → ℕ → Bool → (Event → Type 0) → Type 0
 MayBeBy s l v is P = (e : Event) × P e × ((w : ℕ) × IsLastWith s l w e × ((w == v) ≡ is))
+
+-- an access of thread t
+abbrev pub IsOfThread : ℕ → Event → Type 0
+IsOfThread t e = (i : ℕ) × (e ≡ At t i)
+
+-- the memory has what is shown of e's value, if e may be the last write of a location
+abbrev pub HasEndOf : ProgramSketch → Shown → List ℕ → Event → Type 0
+HasEndOf s shown memory e = (l v : ℕ) → l < length memory → IsLastWith s l v e → shown_value shown l v ≡ slice_index memory l
 
 -- two writes that may be the last of a location have values that are not shown alike
 pub record Differ (s : ProgramSketch) (shown : Shown) : Type 0 where

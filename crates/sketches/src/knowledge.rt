@@ -1,5 +1,5 @@
 //! What a sketch tells of a formula's truth.
-ghost use Rattle.std.specs.Prelude.{◌≡◌, ◌↔◌, ◌<◌, ◌==◌, ℕ, List, [], IfOk, IsSome, IsTrue, false, length, slice_get};
+ghost use Rattle.std.specs.Prelude.{◌≡◌, ◌↔◌, ◌<◌, ◌==◌, ℕ, List, [], Some, IfOk, IsSome, IsTrue, false, length, slice_get};
 ghost use Rattle.tso_program.specs.declared.atom.Atom.TheVariants as atom;
 ghost use Rattle.tso_program.specs.declared.atom.Atom.{Atom as AtomValue};
 ghost use Rattle.tso_program.specs.Nodes.{Half};
@@ -7,31 +7,30 @@ ghost use Rattle.tso_program.specs.Tree as tree;
 ghost use Rattle.tso_program.specs.Tree.{Tree};
 ghost use Rattle.tso_program.specs.Truth.{is_true_at, is_value};
 ghost use Rattle.tso_program.specs.Instructions.{number};
-ghost use Rattle.candidate_executions.specs.Sketches.{IsWhole, next_read};
-ghost use Rattle.sketches.specs.Endings.{final_registers, MayBe};
-ghost use Rattle.known_edges.specs.Writes.{HasLater, IsLastWith};
+ghost use Rattle.candidate_executions.specs.Sketches.{next_read};
+ghost use Rattle.sketches.specs.Endings.{final_registers, MayBe, MayBeBy, IsOfThread};
+ghost use Rattle.known_edges.specs.Writes.{IsLastWith};
 ghost use Rattle.known_edges.specs.Known.{IsInitialWrite};
 ghost use Rattle.sketches.specs.Internal.KnownWalk.{after_node, KnowsAll};
 ghost use Rattle.known_edges.specs.KnownTruths.{joined};
 ghost use Rattle.sketches.specs.Knowledge.{Knows};
-ghost use Rattle.known_edges.specs.ProgramSketches.{mode_in};
+ghost use Rattle.known_edges.specs.ProgramSketches.{mode_in, access_in};
 
-use crate::Sketch;
-use bit_rows::has_any;
-use candidate_executions::Event;
+use crate::parts::Parts;
+use candidate_executions::{Access, Event};
 use known_edges::{Knowledge, Left, joined, negated, settled, unsettled};
-use std::alloc::AllocError;
+use std::alloc::{AllocError, Global};
 use thread_traces::thread_trace_at;
 use tso_program::{Atom, Formula, Node, REGISTERS, Reg};
 
-impl Sketch {
+impl Parts<'_> {
     /// What is known of the formula's truth, whatever is chosen further. Only the left operands that wait for
     /// their right ones take memory.
-    pub(crate) fn knows(&self, formula: &Formula) -> Result<Knowledge, AllocError>
+    pub(crate) fn knows(&self, alloc: Global, formula: &Formula) -> Result<Knowledge, AllocError>
         ensures { IfOk result (Knows self.now formula.now) }
     {
         let mut value = settled(false);
-        let mut waiting = Vec::new(self.alloc);
+        let mut waiting = Vec::new(alloc);
         let nodes = formula.nodes();
         for node in nodes {
             value = self.knows_more(*node, value, &mut waiting)?;
@@ -97,7 +96,7 @@ impl Sketch {
     fn is_reading(&self, thread: u32) -> bool
         ensures { IsTrue result ↔ IsSome (next_read self.now.program (mode_in self.now) self.now.chosen thread) }
     {
-        match thread_trace_at(self.traces.thread_traces(), thread as usize) {
+        match thread_trace_at(self.thread_traces, thread as usize) {
             Some(thread_trace) => thread_trace.next.is_some(),
             None => false,
         }
@@ -134,32 +133,48 @@ impl Sketch {
     /// Whether a write that may be the location's last writes a value that is this one, or is not.
     fn may_be(&self, location: u32, value: u32, is: bool) -> bool
         requires there { location < length self.now.program.memory }
-        requires whole { IsWhole self.now.program (mode_in self.now) self.now.chosen }
         ensures { IsTrue result ↔ MayBe self.now location value is }
     {
-        let events = self.traces.events();
-        for (d, event) in events.iter().enumerate() {
-            let has_later = has_any(self.rows.later[d]);
-            if self.ends_so(*event, has_later, location, value, is) {
+        let threads = self.thread_traces.len() as u8;
+        for t in 0..threads {
+            if self.may_be_by(t, location, value, is) {
                 return true;
             }
         }
         let initial = self.program.memory()[location as usize];
-        is_so(initial, value, is)
-            && self.may_be_last(location as u8, Event::Initial(location as u8))
+        is_so(initial, value, is) && !self.is_written(location as u8)
     }
 
-    /// Whether an access may be the location's last write, and writes a value that is this one, or is not.
-    fn ends_so(&self, event: Event, has_later: bool, location: u32, value: u32, is: bool) -> bool
+    /// The same of a write of thread t.
+    fn may_be_by(&self, t: u8, location: u32, value: u32, is: bool) -> bool
         requires there { location < length self.now.program.memory }
-        requires access { IsInitialWrite event → ⊥ }
-        requires later { IsTrue has_later ↔ HasLater self.now event }
+        ensures { IsTrue result ↔ MayBeBy self.now location value is (IsOfThread t) }
+    {
+        for (i, access) in self.accesses_of(t).iter().enumerate() {
+            if self.ends_so(Event::Access(t, i as u8), *access, location, value, is) {
+                return true;
+            }
+        }
+        false
+    }
+
+    /// Whether an access, which reads and writes as x, may be the location's last write, and writes a value that is this
+    /// one, or is not.
+    fn ends_so(&self, event: Event, x: Access, location: u32, value: u32, is: bool) -> bool
+        requires access { access_in self.now event ≡ Some x }
+        requires other { IsInitialWrite event → ⊥ }
         ensures { IsTrue result ↔ ((w : ℕ) × IsLastWith self.now location w event × ((w == value) ≡ is)) }
     {
-        match self.last_write(event, has_later) {
-            Some((place, held)) => place as u32 == location && is_so(held, value, is),
-            None => false,
+        let Some(held) = x.written else {
+            return false;
+        };
+        if x.location as u32 != location {
+            return false;
         }
+        if !is_so(held, value, is) {
+            return false;
+        }
+        !self.has_later(event)
     }
 }
 

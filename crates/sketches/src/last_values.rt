@@ -1,17 +1,18 @@
 //! What is shown of the accesses that may be the last writes of their locations.
 ghost use Rattle.std.specs.Prelude.{◌≡◌, ◌↔◌, ◌<◌, ◌++◌, ◌∷◌, [], ℕ, List, Some, None, IsTrue, IfSome, MatchOption, Contains, length, slice_set, slice_index_or};
 ghost use Rattle.candidate_executions.specs.declared.event.Event.{Event};
-ghost use Rattle.candidate_executions.specs.Sketches.{IsWhole};
+ghost use Rattle.candidate_executions.specs.Sketches.{IsWhole, MayBeLast};
 ghost use Rattle.tso_program.specs.declared.limits.TheConstants.{MAX_LOCATIONS};
 ghost use Rattle.known_edges.specs.Known.{IsInitialWrite};
-ghost use Rattle.known_edges.specs.ProgramSketches.{mode_in};
+ghost use Rattle.known_edges.specs.ProgramSketches.{mode_in, trace_in};
 ghost use Rattle.sketches.specs.Endings.{IsOwn, Differ, AreLastValues};
-ghost use Rattle.known_edges.specs.Writes.{HasLater, IsLastWith};
+ghost use Rattle.known_edges.specs.Writes.{HasLater, IsLastWith, IsWritten};
 
 use crate::Sketch;
 use bit_rows::{has, has_any};
 use candidate_executions::Event;
-use tso_program::{MAX_LOCATIONS, Shown};
+use known_edges::is_same;
+use tso_program::{MAX_LOCATIONS, REGISTERS, Shown};
 
 impl Sketch {
     /// For each location what is shown of the accesses that may be its last write, if the same is shown of
@@ -78,6 +79,44 @@ impl Sketch {
             return None;
         }
         Some((access.location, value))
+    }
+
+    /// The registers where thread t stops.
+    pub fn last_registers(&self, t: usize) -> [u32; REGISTERS]
+        requires { t < length self.now.program.threads }
+        ensures { result ≡ (trace_in self.now t).last.registers }
+    {
+        self.parts().last_registers(t)
+    }
+
+    /// Whether an event may be the last write of its location.
+    pub fn may_be_last(&self, location: u8, event: Event) -> bool
+        ensures { IsTrue result ↔ MayBeLast self.now.program (mode_in self.now) self.now.chosen location event }
+    {
+        if self.has_later(event) {
+            return false;
+        }
+        !is_same(event, Event::Initial(location)) || !self.is_written(location)
+    }
+
+    /// Whether a chosen pair puts a write after this one.
+    fn has_later(&self, event: Event) -> bool
+        ensures { IsTrue result ↔ HasLater self.now event }
+    {
+        match self.traces.number_of(event) {
+            Some(d) => has_any(self.rows.later[d]),
+            None => false,
+        }
+    }
+
+    /// Whether some access writes the location.
+    fn is_written(&self, location: u8) -> bool
+        ensures { IsTrue result ↔ IsWritten self.now location }
+    {
+        if self.is_whole() {
+            return has_any(self.traces.writes_to(location));
+        }
+        self.parts().is_written(location)
     }
 }
 

@@ -60,7 +60,7 @@ impl Sketch {
         ensures completions { IfOk result (λ end. IfSome end (EndsOnlyAs self.now (Truth formula.now))) }
     {
         let _ = &self.program;
-        let known = self.knows(formula)?;
+        let known = self.parts().knows(self.alloc, formula)?;
         if known.is_true {
             return Ok(Some(Outcome::told(self.alloc, true)?));
         }

@@ -6,8 +6,10 @@ ghost use Rattle.std.specs.List.Sorted.{IsStrictlyIncreasing};
 ghost use Rattle.candidate_executions.specs.declared.event.Event.{Event};
 ghost use Rattle.candidate_executions.specs.Sketches as sketches;
 ghost use Rattle.candidate_executions.specs.Values.{IsValueOf};
-ghost use Rattle.known_edges.specs.Choices.{HasSource, MayRead};
+ghost use Rattle.known_edges.specs.Choices.{HasSource, MayRead, MayFollow};
 ghost use Rattle.known_edges.specs.ProgramSketches.{ProgramSketch, mode_in, with_chosen};
+ghost use Rattle.tso_program.specs.Shown.{asked, ShowsValues};
+ghost use Rattle.sketches.specs.Completions.{EndsOnlyAs};
 ghost use Rattle.sketches.specs.RowlessSketches.{AreSomeLists, AreSources, IsFree, IsValueMarkOf, LacksSource, with_sources, with_pairs};
 
 use crate::next_trace::{Base, trace_after};
@@ -19,9 +21,10 @@ use std::alloc::{AllocError, Global};
 use std::marker::Model;
 use std::mem;
 use thread_traces::{KnownTrace, SharedTrace, value_lists};
+use tso_program::{Outcome, Shown};
 
-/// A sketch without rows: values and sources are chosen in it and taken back, its orders stay, and a known edge is
-/// looked up by its definition.
+/// A sketch without rows: values, sources and orders are chosen in it and taken back, and a known edge is looked
+/// up by its definition.
 #[derive(Drop)]
 pub struct RowlessSketch {
     base: Base,
@@ -194,6 +197,48 @@ impl RowlessSketch {
         ensures { (earlier : ProgramSketch) (read source : Event) → self.old ≡ with_chosen earlier (sketches.with_source earlier.chosen read source) → self.new ≡ earlier }
     {
         let _ = self.sources.pop();
+    }
+
+    /// Whether two accesses are writes to one location in no order yet, and each read has its value.
+    pub fn is_order_open(&self, first: Event, second: Event) -> bool
+        ensures { IsTrue result ↔ MayFollow self.now first second }
+    {
+        let parts = self.parts();
+        if !parts.is_whole() {
+            return false;
+        }
+        if !parts.is_pair(first, second) {
+            return false;
+        }
+        !parts.is_ordered(first, second)
+    }
+
+    /// Chooses that the first write comes before the second.
+    pub fn choose_order(&mut self, first: Event, second: Event) -> Result<(), AllocError>
+        requires { MayFollow self.old first second }
+        ensures ok { OnOk result (self.new ≡ with_chosen self.old (sketches.with_pair self.old.chosen first second)) }
+        ensures err { OnErr result (self.new ≡ self.old) }
+    {
+        self.pairs.push((first, second))?;
+        Ok(())
+    }
+
+    /// Takes back the order that was chosen last.
+    pub fn drop_order(&mut self)
+        ensures { (earlier : ProgramSketch) (first second : Event) → self.old ≡ with_chosen earlier (sketches.with_pair earlier.chosen first second) → self.new ≡ earlier }
+    {
+        let _ = self.pairs.pop();
+    }
+
+    /// Whether the outcome is shown of each completion, whatever is chosen further: once each read has its
+    /// value, what is shown of the registers at the ends of the threads and of the value of each write that may
+    /// be the last of its location; or the truth that is known of a formula. Only a formula takes memory.
+    pub fn must_end_as(&self, shown: &Shown, outcome: &Outcome) -> Result<bool, AllocError>
+        ensures ends { IfOk result (λ ends. IsTrue ends ↔ sketches.MustEndAs (asked self.now.program shown.now) (mode_in self.now) self.now.chosen outcome.now) }
+        ensures completions { IfOk result (λ ends. IsTrue ends → EndsOnlyAs self.now shown.now outcome.now) }
+        ensures refused { OnErr result (ShowsValues shown.now → ⊥) }
+    {
+        self.parts().must_end_as(self.base.alloc, shown, outcome)
     }
 
     /// Whether an edge of the union is known to lead from the first event to the second. A union of

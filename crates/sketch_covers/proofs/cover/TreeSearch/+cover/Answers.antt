@@ -173,7 +173,7 @@ cover_over-loop-choice-preserved t c =
     let same : Taken c.cover_after.new.sketch c.as_slice.result.now false = subst (Taken c.cover_after.new.sketch c.as_slice.result.now) c.if-branch.false c.in_ok-take_place.ensures.taken in
     let next : Pushes (IsCoverAfter s shown outs ch) now new = pushes_as P (IsCoverAfter s shown outs ch) now new (λ tree is. cover_next s shown outs lawful (with_chosen s (sketch_with s.chosen ch)) ch tree may refl is) more in
     record {
-      kept = c.take_place.ensures.kept ∙ kept;
+      kept = kept;
       grows = grows_twice (asked s.program shown) c.args.outcomes.now c.loop-choice.outcomes c.cover_after.new.outcomes inv.grows grows;
       covering = subst (Covering s shown choices root old outs (i + 1)) (sym same) (one_covered s shown lawful choices root old mid outs i d now new here grows.keeps inv.covering next);
     }

@@ -10,3 +10,6 @@ returns-then-is_whole c =
     subst (λ (s : ProgramSketch). IsTrue c.has_any.result ↔ IsWritten s c.args.location) c.self.view_is
     (written_test c.self.inside.program c.self.inside.mode threads c.self.inside.sources.items c.self.inside.pairs.items c.self.invariant.kept events c.writes_to.result c.args.location c.has_any.result
     (c.self.invariant.rows.all whole) row c.has_any.ensures)
+
+pub returns : goal.returns
+returns c = subst (λ (s : ProgramSketch). IsTrue c.is_written.result ↔ IsWritten s c.args.location) c.parts.ensures c.is_written.ensures
