@@ -26,10 +26,8 @@ pub fn certify(
 {
     let served = finished.served();
     let shown = table.shown();
-    // For the proof alone: what holds of every table, of each set that serves and of all names is known
-    // where these are read.
-    let _ = table.program();
-    let _ = served.program();
+    table.recall_facts();
+    served.recall_facts();
     names_have_places(shown);
     let shows = Shows::of(shown);
     let (runs, numbers) = listed_runs(alloc, finished)?;

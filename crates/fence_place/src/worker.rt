@@ -170,8 +170,7 @@ fn copy_of_known(alloc: Global, known: &[ForeignRun], node: &Region) -> Option<F
 {
     let place = known_run(known, node)?;
     let run = known.get(place)?;
-    // For the proof alone: what holds of every run is known where its program is read.
-    let _ = run.program();
+    run.recall_facts();
     run.copy(alloc).ok()
 }
 

@@ -118,8 +118,7 @@ impl HuntSeat {
         ensures best { IsBestAfter costs.now served.now self.now.best (newer self.now.best (serving_of result)) }
         ensures kept { IfSome result IsKept }
     {
-        // For the proof alone: what holds of every set that serves is known where its program is read.
-        let _ = served.program();
+        served.recall_facts();
         let set = served.set();
         if self.has_as_good(costs, &set) {
             return None;

@@ -85,8 +85,7 @@ pub fn run_past(
 {
     let labels = labels_of(alloc, labels)?;
     let run = ForeignRun::new(alloc, table, labels.as_slice())?;
-    // For the proof alone: what holds of every run is known where its program is read.
-    let _ = run.program();
+    run.recall_facts();
     if !passes_none(&run, &node.must) {
         return Err(HuntRefusal::Call);
     }

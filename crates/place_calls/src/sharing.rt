@@ -33,8 +33,7 @@ struct TwoRuns {
 fn verdict_by(alloc: Global, run: &ForeignRun, set: &GapSet) -> Result<Option<Verdict>, AllocError>
     ensures { IfOk result (λ found. IfSome found (IsVerdictOf run.now.question set.now)) }
 {
-    // For the proof alone: what holds of every run is known where its program is read.
-    let _ = run.program();
+    run.recall_facts();
     if !passes_none(run, set) {
         return Ok(None);
     }

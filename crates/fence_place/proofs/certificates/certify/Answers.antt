@@ -22,7 +22,7 @@ returns-clause-proof c =
     } in
     subst (λ (runs : List (List Label)). IsProof o.question o.costs (with_runs runs)) (sym c.runs.view_is)
     (is_proof t o c.in_ok-runs.numbers.items (with_runs c.in_ok-runs.runs)
-    c.program.ensures.table c.served-served.ensures.outcome (subst IsServing is_served c.program-2.ensures.serving) low c.requires c.served-served.ensures.answer.0 c.served-served.ensures.answer.1
+    c.recall_facts.ensures.table c.served-served.ensures.outcome (subst IsServing is_served c.recall_facts-2.ensures.serving) low c.requires c.served-served.ensures.answer.0 c.served-served.ensures.answer.1
     (record {
       same_shown = c.of-shows.ensures ∙ ap shows_of c.shown-shown.ensures;
       places = subst AreShownPlaces (sym c.of-shows.ensures) c.names_have_places.ensures;
