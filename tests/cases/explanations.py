@@ -17,7 +17,8 @@ def explained(litmus, options):
     answer = run(["place", *options, litmus])[1].decode().split("\n")[0] + "\n"
     gaps = answer.split(" set")[1].split()
     name = f"why {' '.join(options)} {litmus}"
-    none = "Store buffers do not change the condition's verdict.\n" if "--condition" in options else "Every store buffer outcome is sequential.\n"
+    compared = " in what is compared" if "--observed" in options else ""
+    none = "Store buffers do not change the condition's verdict.\n" if "--condition" in options else f"Every store buffer outcome is sequential{compared}.\n"
     end = "" if gaps else none
     tell(name, status == 0 and head == answer + end and [reason.split("\n")[0] for reason in reasons] == gaps, text)
     shown = [option for option in options if option in ("--observed", "--condition")]

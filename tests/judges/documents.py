@@ -29,7 +29,7 @@ ALONE = {
     True: "This run meets the condition's formula, and no sequential run does.",
     False: "This run does not meet the condition's formula, and each sequential run does.",
 }
-NO_RUN = {True: "No run meets the condition.\n", False: "Every run meets the condition.\n"}
+NO_RUN = {True: "No run meets the condition's formula.\n", False: "Every run meets the condition's formula.\n"}
 EXAMPLE = re.compile(r"^    \$ \./fencer (.* --json .*)\n    (\{.*\})\n", re.M)
 
 

@@ -14,8 +14,8 @@ pub const FIRST: &str = "Shows for each fence of the answer a run that it preven
 pub const LAST: &str = "\
 Prints the answer line of `fencer place`, and for each of its gaps a run with the other gaps
 fenced: `without T:K`, `run LABEL ..`, the run as a table, `outcome: ..`, `passed T:K ..`, and
-that no sequential run has this outcome. Without a gap it prints that every store buffer outcome
-is sequential.
+that no sequential run has this outcome. Without a gap it prints that store buffers add nothing to
+what is compared.
 
 A program that is wrong on a sequential machine too gets an answer: see first whether its condition
 holds with `fencer outcomes --model sequential`.

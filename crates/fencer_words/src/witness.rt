@@ -16,8 +16,8 @@ pub const FIRST: &str =
 
 pub const LAST: &str = "\
 Prints `run LABEL ..`, the run as a table, `outcome: ..` and `passed T:K ..`, as `fencer trace`
-does of these labels; or `No run meets the condition.`, with --not `Every run meets the condition.`
-The formula alone counts: for `~exists` the run is what must not happen.
+does of these labels; or `No run meets the condition's formula.`, with --not `Every run meets the
+condition's formula.` The formula alone counts: for `~exists` the run is what must not happen.
 
 The status is 0 for an answer, 1 for a refusal (docs/formats.md explains each), 2 for a bad
 command line or this help.

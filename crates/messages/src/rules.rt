@@ -79,6 +79,7 @@ const ROW: &str = "\
 /// What stands in a cell, but operands.
 const INSTRUCTION: &str = "\
 ; # <not_exists> # is not read; a condition is `exists`, `~exists` or `forall`, and a formula
+; # EXIST EXISTS EXSTS EXITS FORALL FORBID FORBIDDEN ALLOWED REQUIRED NEVER ALWAYS SOMETIMES ASSERT # is not read; a condition is `exists`, `~exists` or `forall`, and a formula
 | ; : # INC DEC ADD SUB AND OR XOR NEG NOT MUL IMUL DIV SHL SHR SAL SAR LEA TEST # is arithmetic, which is not read; MOV, XCHG, MFENCE, CMP, JE, JNE and JMP are
 | ; : # LOCK CMPXCHG XADD # is not read; of locked instructions XCHG is, which is written without LOCK
 | ; : # SFENCE LFENCE # is not read; it orders nothing that this machine leaves unordered, so leave it out
@@ -97,9 +98,10 @@ const OPERAND: &str = "\
 $ # # is no number
 JE JNE JMP # # cannot stand here; a jump names a label of its thread
 CMP # # is no register; CMP compares a register with a register or a number
+, # EAX EBX ECX EDX ESI EDI # cannot stand here; XCHG is `[x],REG` or `REG,[x]`
 MOV XCHG , # <word> # is no register; these are EAX, EBX, ECX, EDX, ESI and EDI, and a location is written `[x]`
 MOV XCHG # # cannot stand here; the first operand is a register or a location `[x]`
-, # # cannot stand here; MOV is `REG,$1`, `REG,REG`, `REG,[x]`, `[x],$1` or `[x],REG`, XCHG `[x],REG`
+, # # cannot stand here; MOV is `REG,$1`, `REG,REG`, `REG,[x]`, `[x],$1` or `[x],REG`, XCHG `[x],REG` or `REG,[x]`, CMP `REG,$1` or `REG,REG`
 # # cannot stand here; after an operand `,` does, and after a location's name `]`
 ";
 

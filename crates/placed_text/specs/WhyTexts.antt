@@ -53,7 +53,7 @@ printed_of (Truth formula) = All
 -- what is said of an answer without a gap
 abbrev pub none_line : Shown → List ℕ
 none_line All = codes "Every store buffer outcome is sequential." ++ 10 ∷ []
-none_line (Only names) = codes "Every store buffer outcome is sequential." ++ 10 ∷ []
+none_line (Only names) = codes "Every store buffer outcome is sequential in what is compared." ++ 10 ∷ []
 none_line (Truth formula) = codes "Store buffers do not change the condition's verdict." ++ 10 ∷ []
 
 -- what a run leaves, the gaps that it passes, that no sequential run leaves this, and whether it meets the condition

@@ -79,7 +79,8 @@ fn none_line(shown: &Shown) -> &'static [u8]
     ensures { result.now ≡ none_line shown.now }
 {
     match shown {
-        Shown::All | Shown::Only(_) => b"Every store buffer outcome is sequential.\n",
+        Shown::All => b"Every store buffer outcome is sequential.\n",
+        Shown::Only(_) => b"Every store buffer outcome is sequential in what is compared.\n",
         Shown::Truth(_) => b"Store buffers do not change the condition's verdict.\n",
     }
 }

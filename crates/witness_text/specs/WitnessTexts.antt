@@ -40,8 +40,8 @@ IsShownRunText source labels outcome passed text = (table : List ℕ) × (text �
 
 -- that no run of the machine meets the formula, or that each does
 abbrev pub no_run_line : Bool → List ℕ
-no_run_line true = codes "No run meets the condition." ++ 10 ∷ []
-no_run_line false = codes "Every run meets the condition." ++ 10 ∷ []
+no_run_line true = codes "No run meets the condition's formula." ++ 10 ∷ []
+no_run_line false = codes "Every run meets the condition's formula." ++ 10 ∷ []
 
 -- A run that is sought: of the machine with its gaps fenced, and with none fenced, to an outcome of which the formula has the truth;
 -- the text has its labels, its outcome and the gaps that it passes, none of which is fenced; the document says the same of it.

@@ -33,8 +33,8 @@ pub(crate) fn none_line(meets: bool) -> &'static [u8]
     ensures { result.now ≡ no_run_line meets }
 {
     if meets {
-        b"No run meets the condition.\n"
+        b"No run meets the condition's formula.\n"
     } else {
-        b"Every run meets the condition.\n"
+        b"Every run meets the condition's formula.\n"
     }
 }
