@@ -4,8 +4,19 @@ An edit that the prover must refuse (`crates/CRATE/must-fail`, `tests/edits/CRAT
 have several pairs of texts; each applies to what the earlier ones made. A wrong body (`tests/wrong-bodies`) has the same lines and 'crate: CRATE';
 its old text and its new text may have several lines each.
 """
+import contextlib
 import glob
 import os
+
+
+def read_text(path):
+    with open(path, encoding="utf-8") as file:
+        return file.read()
+
+
+def write_text(path, text):
+    with open(path, "w", encoding="utf-8") as file:
+        file.write(text)
 
 
 def words_of(path):
@@ -44,12 +55,26 @@ def fault_of(crate, pairs):
         if not os.path.isfile(path):
             return f"there is no file {name}"
         if name not in texts:
-            with open(path, encoding="utf-8") as file:
-                texts[name] = file.read()
+            texts[name] = read_text(path)
         if not old or texts[name].count(old) != 1:
             return f"{name} has {old!r} {texts[name].count(old)} times"
         texts[name] = texts[name].replace(old, new)
     return "" if any(old != new for _, old, new in pairs) else "it changes nothing"
+
+
+@contextlib.contextmanager
+def applied(crate, pairs):
+    """Applies the pairs of an edit to a crate, and puts its files back at the end."""
+    paths = {os.path.join(crate, file) for file, _, _ in pairs}
+    were = {path: read_text(path) for path in paths}
+    try:
+        for file, old, new in pairs:
+            path = os.path.join(crate, file)
+            write_text(path, read_text(path).replace(old, new))
+        yield
+    finally:
+        for path, text in were.items():
+            write_text(path, text)
 
 
 def faults(top):
