@@ -31,8 +31,7 @@ pub(crate) fn is_better(costs: &Costs, best: &Option<Served>, served: &Served) -
     ensures no { result ≡ false → (old : Serving) × (best.now ≡ Some old) × (¬ Better costs.now served.now.gaps old.gaps) }
     ensures serving { IsServing served.now }
 {
-    // For the proof alone: what holds of every set that serves is known where its program is read.
-    let _ = served.program();
+    served.recall_facts();
     let set = served.set();
     match best {
         Some(best) => costs.better(&set, &best.set()),

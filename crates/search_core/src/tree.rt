@@ -196,8 +196,7 @@ impl SearchTree {
         let Some((place, node)) = find_held(&self.entries, seat) else {
             return Err(TreeFault::SeatHoldsNothing);
         };
-        // For the proof alone: what holds of every run is known where its program is read.
-        let _ = run.program();
+        run.recall_facts();
         let passed = run.passed();
         if passed.meets(&node.must) {
             return Err(TreeFault::Hit);

@@ -15,7 +15,6 @@ pub mod Completeness
 pub mod Known
 pub mod ValuesGiven
 pub mod ChoicesDropped
-pub mod AllChosen
 pub mod SourceLists
 -- words of the crates below, passed on
 pub use Rattle.known_edges.proofs.Accesses

@@ -2,8 +2,7 @@
 pub use Rattle.std.proofs.Common.{Bool, Contains, Err, IfOk, IsSome, IsTrue, List, None, Ok, Option, Result, Some, [], add-one, ap, arith, drop, drop-cons, false, get_or, inl, inr, length, map, not}
 pub use Rattle.std.proofs.Common.{refl, rules, set, slice_get, subst, suc, sym, take, true, vec_len, zero, ℕ, ◌++◌, ◌+◌, ◌<◌, ◌↔◌, ◌∙◌, ◌∷◌, ◌≡◌, ◌≢◌, ◌≤◌, ◌⊎◌}
 pub use Rattle.std.proofs.lemmas.Bool.{cases_eq, cases_lt, not-true, not_from_false}
-pub use Rattle.std.proofs.lemmas.List.{append-nil, append_assoc, drop_all, get_or-set_other, get_or-set_same, get_or_append_left, get_or_push, length-append, length-set, length_push, take_all}
-pub use Rattle.std.proofs.lemmas.List.{take_more}
+pub use Rattle.std.proofs.lemmas.List.{drop_all, get_or-set_other, get_or-set_same, get_or_append_left, get_or_push, length-append, length-set, length_push, take_all, take_more}
 pub use Rattle.std.proofs.lemmas.List.Elements.{Contains-append_left, Contains-get_or, Contains-push, Contains-push_cases}
 pub use Rattle.std.proofs.lemmas.List.FromFn.{get_or-map-range_with_len, length-map-range_with_len}
 pub use Rattle.std.proofs.lemmas.Option.{MatchOption-at_none, get_or_from_slice_get, none-some, same_Some, slice_get-get_or, slice_get_past, slice_get_read, slice_get_within, unwrap_or-slice_get}
@@ -67,5 +66,5 @@ pub use Rattle.sketches.specs.Internal.KnownWalk.{KnowsAll, after_node}
 pub use Rattle.sketches.specs.Internal.Listed.{FollowInOrder, HasNumberIn}
 pub use Rattle.sketches.specs.Internal.SourcesListed.{AreListedTo}
 pub use Rattle.sketches.specs.Knowledge.{IsKnownTruth, Knows}
-pub use Rattle.sketches.specs.RowlessSketches.{AreSomeLists, AreSources, IsValueMarkOf, LacksSource, MarkedThread, with_pairs, with_sources}
+pub use Rattle.sketches.specs.RowlessSketches.{AreSomeLists, AreSources, IsValueMarkOf, LacksSource, MarkedThread}
 pub use Rattle.sketches.specs.ThreadValues.{HasValuesAlone, with_values}

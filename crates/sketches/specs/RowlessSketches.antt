@@ -1,9 +1,9 @@
 -- Sketches without rows.
-use Rattle.std.specs.Prelude.{◌≡◌, ◌↔◌, ◌++◌, ℕ, List, [], Some, Contains, slice_get, Option}
+use Rattle.std.specs.Prelude.{◌≡◌, ◌↔◌, ℕ, List, [], Some, Contains, slice_get, Option}
 use Rattle.std.specs.List.{AllPairs}
 use Rattle.candidate_executions.specs.declared.event.Event.{Event}
 use Rattle.candidate_executions.specs.Events.{ComesBefore}
-use Rattle.candidate_executions.specs.Sketches.{Sketch, IsWhole, IsSourceOf}
+use Rattle.candidate_executions.specs.Sketches.{IsWhole, IsSourceOf}
 use Rattle.thread_traces.specs.declared.thread_trace.ThreadTrace.{ThreadTrace}
 use Rattle.known_edges.specs.ProgramSketches.{ProgramSketch, mode_in}
 use Rattle.known_edges.specs.Kept.{view_of, KeepsTraces}
@@ -45,13 +45,6 @@ pub record LacksSource (s : ProgramSketch) (read : Event) : Type 0 where
   pub is_read : IsRead s read
   pub free : HasSource s read → ⊥
   pub no_source : (source : Event) → IsSourceOf s.program (mode_in s) s.chosen source read → ⊥
-
--- more sources, more pairs
-abbrev pub with_sources : Sketch → List (Event × Event) → Sketch
-with_sources k sources = record k { sources = k.sources ++ sources }
-
-abbrev pub with_pairs : Sketch → List (Event × Event) → Sketch
-with_pairs k pairs = record k { pairs = k.pairs ++ pairs }
 
 -- each list of values that is there is that of its location
 abbrev pub AreSomeLists : Listing → List (List ℕ) → Type 0

@@ -10,7 +10,7 @@ ghost use Rattle.known_edges.specs.Choices.{HasSource, MayRead, MayFollow};
 ghost use Rattle.known_edges.specs.ProgramSketches.{ProgramSketch, mode_in, with_chosen};
 ghost use Rattle.tso_program.specs.Shown.{asked, ShowsValues};
 ghost use Rattle.sketches.specs.Completions.{EndsOnlyAs};
-ghost use Rattle.sketches.specs.RowlessSketches.{AreSomeLists, AreSources, IsFree, IsValueMarkOf, LacksSource, with_sources, with_pairs};
+ghost use Rattle.sketches.specs.RowlessSketches.{AreSomeLists, AreSources, IsFree, IsValueMarkOf, LacksSource};
 
 use crate::next_trace::{Base, trace_after};
 use crate::parts::Parts;
@@ -87,18 +87,6 @@ impl RowlessSketch {
             values,
             known: Vec::new(alloc),
         })
-    }
-
-    /// The sketch with its rows.
-    pub fn sketch(&self) -> Result<Sketch, AllocError>
-        ensures { IfOk result (λ sketch. sketch ≡ self.now) }
-    {
-        let base = &self.base;
-        let thread_traces = copied(base.alloc, self.thread_traces.as_slice())?;
-        let mut whole = Sketch::of_traces(base.alloc, &base.program, base.mode, thread_traces)?;
-        choose_sources(&mut whole, self.sources.as_slice())?;
-        choose_orders(&mut whole, self.pairs.as_slice())?;
-        Ok(whole)
     }
 
     fn parts(&self) -> Parts<'_>
@@ -266,30 +254,4 @@ fn needed_values(sketch: &Sketch) -> Result<Vec<SharedValues>, AllocError>
     } else {
         value_lists(sketch.alloc, &sketch.program)
     }
-}
-
-/// Chooses each source of a list, in its order.
-fn choose_sources(sketch: &mut Sketch, sources: &[(Event, Event)]) -> Result<(), AllocError>
-    ensures { OnOk result (sketch.new ≡ with_chosen sketch.old (with_sources sketch.old.chosen sources.now)) }
-{
-    for (read, source) in sources {
-        match sketch.choose_source(*read, *source) {
-            Ok(()) => {}
-            Err(_) => return Err(AllocError),
-        }
-    }
-    Ok(())
-}
-
-/// Chooses each order of a list, in its order.
-fn choose_orders(sketch: &mut Sketch, pairs: &[(Event, Event)]) -> Result<(), AllocError>
-    ensures { OnOk result (sketch.new ≡ with_chosen sketch.old (with_pairs sketch.old.chosen pairs.now)) }
-{
-    for (first, second) in pairs {
-        match sketch.choose_order(*first, *second) {
-            Ok(()) => {}
-            Err(_) => return Err(AllocError),
-        }
-    }
-    Ok(())
 }

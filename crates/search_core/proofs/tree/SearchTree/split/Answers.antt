@@ -41,7 +41,7 @@ event c =
     let long = c.self.inside.entries.ok.0 in
     let len = c.len-first.ensures in
     split_event s c.args.self.now c.self.view_is c.deref.result.now c.deref.ensures.value c.mark.new.entries.items c.args.seat c.in-Some.place c.in-Some.node
-    c.in-Some.ensures f c.requires.of_question c.program.ensures.foreign
+    c.in-Some.ensures f c.requires.of_question c.recall_facts.ensures.foreign
     (subst (λ (a : SetOfGaps). (gap : ℕ) → set.contains a gap ≡ true → set.contains c.in-Some.node.must gap ≡ true → ⊥) c.passed-passed.ensures (apart c.passed-passed.result c.in-Some.node.must c.meets.result c.meets.ensures c.if-meets.false))
     (after_split s.entries c.append.new.self.items c.mark.new.entries.items c.in_ok-opened.opened.items c.in-Some.place c.args.seat c.len-first.result c.in-Some.node c.in_ok-kept.kept f within
     c.in_ok-kept.ensures (omega arith) (c.in_ok-opened.ensures ∙ ap (λ (a : SetOfGaps). open_entries c.args.seat (children c.in-Some.node a)) c.passed-passed.ensures) c.in_ok-append.ensures.items c.mark.ensures)
