@@ -35,16 +35,17 @@ pub use Rattle.tso_program.specs.Names.{ArePlaces, location_place, register_plac
 pub use Rattle.tso_program.specs.declared.shown.TheConstants.{PLACES, REGISTER_PLACES}
 pub use Rattle.cert_forest.specs.Certificates.{Certificate, labels_of}
 pub use Rattle.cert_forest.specs.GapNodes.{AreGapTrees, IsGapTree, first_gap, gap_before, gap_tree_of, gap_trees_in, spell_gap, spell_gap_row, spell_gaps}
-pub use Rattle.cert_forest.specs.Internal.Pushing.{PushesRoot, PushesTree, PushesTrees, children_after, event_node, root_nodes}
+pub use Rattle.cert_forest.specs.Internal.Pushing.{PushesCycle, PushesRoot, PushesTree, PushesTrees, children_after, root_nodes}
 pub use Rattle.cert_forest.specs.Internal.Reading.{CycleHead, Head, KnownHead, OrderHead, SourceHead, ValueHead, access_tail, below_at, digit_of, gap_by, gap_number_at, head_by, is_no_stop, kind_of}
 pub use Rattle.cert_forest.specs.Internal.Reading.{or_condition, register_of, shown_location, shown_place, shown_words_at}
 unfoldable pub use Rattle.cert_forest.specs.Internal.Reading.{access_at, access_of, after_set_at, ascending_at, certificate_at, condition_line_at, cost_at, cover_at, cover_line_at, cycle_at, gap_at}
-unfoldable pub use Rattle.cert_forest.specs.Internal.Reading.{gap_line_at, head_at, header_at, kind_at, known_at, label_word_at, order_head_at, place_word_at, run_at, run_labels_at, runs_at, set_at}
+unfoldable pub use Rattle.cert_forest.specs.Internal.Reading.{gap_line_at, head_at, header_at, kind_at, known_at, label_word_at, order_head_at, place_word_at, run_at, run_labels_at, runs_at, set_at, three_at}
 unfoldable pub use Rattle.cert_forest.specs.Internal.Reading.{shown_at, shown_line_at, source_head_at, split_at, value_head_at, version_at}
 pub use Rattle.cert_forest.specs.Laws.{NoTextBeginsAnother, OneCertificate, OneText, TheExamplesAreCertificates, either, observed_tree}
 pub use Rattle.cert_forest.specs.Limits.{AreRuns, AreShownPlaces, HasNumbers, HaveGapNumbers, HaveNumbers, IsAccessId, IsCertificate, IsCoverTo, IsGapTo, IsWithin, IsWrittenRun, cover_depth}
 pub use Rattle.cert_forest.specs.Limits.{covers_depth, gap_depth, gaps_depth}
-pub use Rattle.cert_forest.specs.Nodes.{AreEvents, AreTrees, BeginsKnown, IsTree, Made, before, events_of, first_tree, known_nodes, made_of, spell, spell_all, spell_row, tree_of, trees_of}
+pub use Rattle.cert_forest.specs.Nodes.{AreTrees, BeginsCycle, BeginsKnown, IsTree, before, cycle_end, cycle_nodes, events_of, first_tree, gathered, goes_on, known_nodes, lengthened, or_later, spell, spell_all, spell_row}
+pub use Rattle.cert_forest.specs.Nodes.{tree_of, trees_of, union_of}
 pub use Rattle.cert_forest.specs.Spelling.{spell_each}
 pub use Rattle.cert_forest.specs.Texts.{access_word, certificate_text, count_covers, count_gaps, cover_words, covers_words, gap_words, gaps_words, head_lines, kind_word, labels_line, location_word}
 pub use Rattle.cert_forest.specs.Texts.{place_word, register_word, runs_lines}

@@ -1,10 +1,10 @@
 //! Roots of cover trees: what a node says before its children come.
 
-ghost use Rattle.std.specs.Prelude.{◌≡◌, [], IfOk, IfErr};
+ghost use Rattle.std.specs.Prelude.{◌≡◌, ◌≤◌, [], IfOk, IfErr};
 ghost use Rattle.text_tokens.specs.Steps.{Fails, Gives};
 ghost use Rattle.cert_words.specs.Words.{repeat_at, stops_for_memory};
-ghost use Rattle.cert_forest.specs.Internal.Pushing.{PushesRoot, PushesTrees, event_node};
-ghost use Rattle.cert_forest.specs.Internal.Reading.{ValueHead, SourceHead, OrderHead, access_at, kind_of, kind_at, value_head_at, source_head_at, order_head_at, cycle_at, known_at, head_at};
+ghost use Rattle.cert_forest.specs.Internal.Pushing.{PushesCycle, PushesRoot};
+ghost use Rattle.cert_forest.specs.Internal.Reading.{ValueHead, SourceHead, OrderHead, access_at, kind_of, kind_at, three_at, value_head_at, source_head_at, order_head_at, cycle_at, known_at, head_at};
 
 use crate::access::access;
 use crate::node::{Node, push_known};
@@ -103,18 +103,75 @@ fn order_root<'t>(bytes: &'t [u8], nodes: &mut Vec<Node>) -> Result<(u64, &'t [u
     Ok((2, rest))
 }
 
-/// So many accesses of a cycle, put after the other nodes.
-fn events<'t>(count: u64, bytes: &'t [u8], nodes: &mut Vec<Node>) -> Result<&'t [u8], Stop>
-    ensures pushes { IfOk result (λ rest. PushesTrees event_node nodes.old.items nodes.new.items (repeat_at access_at count [] bytes.now) rest.now) }
+/// The last accesses of a cycle, put after the other nodes.
+fn last_events<'t>(
+    kind: Kind,
+    count: u64,
+    bytes: &'t [u8],
+    nodes: &mut Vec<Node>,
+) -> Result<&'t [u8], Stop>
+    requires { count ≤ 3 }
+    ensures pushes { IfOk result (λ rest. PushesCycle kind nodes.old.items nodes.new.items (repeat_at access_at count [] bytes.now) rest.now) }
     ensures stops { IfErr result (λ stop. Fails stops_for_memory stop (repeat_at access_at count [] bytes.now)) }
 {
-    let mut rest = bytes;
-    for _ in 0..count {
-        let (event, after) = access(rest)?;
-        nodes.push(Node::Event(event))?;
-        rest = after;
+    if count == 0 {
+        nodes.push(Node::EmptyCycle { kind })?;
+        return Ok(bytes);
     }
+    let (first, rest) = access(bytes)?;
+    if count == 1 {
+        nodes.push(Node::LastOne { kind, first })?;
+        return Ok(rest);
+    }
+    let (second, rest) = access(rest)?;
+    if count == 2 {
+        nodes.push(Node::LastTwo {
+            kind,
+            first,
+            second,
+        })?;
+        return Ok(rest);
+    }
+    let (third, rest) = access(rest)?;
+    nodes.push(Node::LastThree {
+        kind,
+        first,
+        second,
+        third,
+    })?;
     Ok(rest)
+}
+
+/// Three accesses.
+#[tactic(auto, unfolding(crate::specs::Internal::Reading::three_at))]
+fn three(bytes: &[u8]) -> Result<(AccessId, AccessId, AccessId, &[u8]), Refusal>
+    ensures { Gives (λ x. ((x.0, x.1, x.2), x.3.now)) result (three_at bytes.now) }
+{
+    let (first, rest) = access(bytes)?;
+    let (second, rest) = access(rest)?;
+    let (third, rest) = access(rest)?;
+    Ok((first, second, third, rest))
+}
+
+/// So many accesses of a cycle, put after the other nodes.
+fn events<'t>(
+    kind: Kind,
+    count: u64,
+    bytes: &'t [u8],
+    nodes: &mut Vec<Node>,
+) -> Result<&'t [u8], Stop>
+    ensures pushes { IfOk result (λ rest. PushesCycle kind nodes.old.items nodes.new.items (repeat_at access_at count [] bytes.now) rest.now) }
+    ensures stops { IfErr result (λ stop. Fails stops_for_memory stop (repeat_at access_at count [] bytes.now)) }
+{
+    let mut left = count;
+    let mut rest = bytes;
+    while left > 3 {
+        let (first, second, third, after) = three(rest)?;
+        nodes.push(Node::Earlier(first, second, third))?;
+        rest = after;
+        left -= 3;
+    }
+    last_events(kind, left, rest, nodes)
 }
 
 /// A cycle, put after the other nodes. No children follow.
@@ -125,11 +182,7 @@ fn cycle_root<'t>(bytes: &'t [u8], nodes: &mut Vec<Node>) -> Result<(u64, &'t [u
 {
     let (kind, rest) = kind(bytes)?;
     let (count, rest) = count(rest)?;
-    nodes.push(Node::Cycle {
-        kind,
-        count: count as u32,
-    })?;
-    let rest = events(count, rest, nodes)?;
+    let rest = events(kind, count, rest, nodes)?;
     Ok((0, rest))
 }
 
