@@ -1,6 +1,5 @@
 -- Where a search for cycles begins and ends.
-use Rattle.std.proofs.Common.{List, Option, Some, None, IfSome, MatchOption, Vec, Global}
-use Rattle.sketches.proofs.Vocabulary.{Event, Kind, ProgramSketch, IsLawful, cycle_of_accesses, IsSimpleCycle, few_accesses}
+use Rattle.sketches.proofs.Vocabulary.{List, Option, Some, None, IfSome, MatchOption, Vec, Global, Event, Kind, ProgramSketch, IsLawful, cycle_of_accesses, IsSimpleCycle, few_accesses}
 use Rattle.known_edges.specs.FewAccesses.{AreFewAccesses}
 
 -- a cycle with no event twice is short

@@ -1,32 +1,12 @@
 -- What is shown of the writes that may be the last of a location.
-use Rattle.sketches.proofs.Vocabulary.{◌≡◌, ◌↔◌, ◌⊎◌, ℕ, ◌<◌, List, [], ◌∷◌, ◌++◌, Option, Some, None, Contains, length, refl, sym, ap, ◌∙◌, subst, inl, inr, arith, get_or-set_same, get_or-set_other}
-use Rattle.sketches.proofs.Vocabulary.{length-set, Contains-push, Contains-push_cases, Contains-append_left, slice_index, slice_index_or, slice_set, IfSome, cases_eq, same_Some, slice_get_within}
-use Rattle.sketches.proofs.Vocabulary.{Shown, shown_value, Access, Event, Initial, At, Writes, ProgramSketch, access_in, IsLawful, IsLastWith, HasLater, MAX_LOCATIONS, MayEndBy, IsOwn, EndsSo, Differ}
-use Rattle.sketches.proofs.Vocabulary.{IsLastValue, AreLastValues}
-
--- one event writes one value to one location
-pub same_location : (s : ProgramSketch) (e : Event) (l m v w : ℕ) → Writes (access_in s) e l v → Writes (access_in s) e m w → l ≡ m
-same_location s e l m v w a b = sym a.2 ∙ ap (λ (z : Access). z.location) (same_Some a.0 b.0 (sym a.1 ∙ b.1)) ∙ b.2
-
-pub same_value : (s : ProgramSketch) (e : Event) (l m v w : ℕ) → Writes (access_in s) e l v → Writes (access_in s) e m w → v ≡ w
-same_value s e l m v w a b = same_Some v w (sym a.3 ∙ ap (λ (z : Access). z.written) (same_Some a.0 b.0 (sym a.1 ∙ b.1)) ∙ b.3)
-
--- a write is an access, or the initial one
-pub own_or_initial : (s : ProgramSketch) (e : Event) (l v : ℕ) → Writes (access_in s) e l v → IsOwn s e ⊎ ((e ≡ Initial l) × (v ≡ slice_index s.program.memory l))
-own_or_initial s (At t i) l v w = inl (slice_get_within _ i w.0 w.1)
-own_or_initial s (Initial m) l v w =
-    let at : m ≡ l = same_location s (Initial m) m l (slice_index s.program.memory m) v (_, refl, refl, refl) w in
-    inr (ap Initial at, same_value s (Initial m) l m v (slice_index s.program.memory m) w (_, refl, refl, refl) ∙ ap (slice_index s.program.memory) at)
+use Rattle.sketches.proofs.Vocabulary.{◌≡◌, ◌↔◌, ℕ, ◌<◌, List, [], ◌∷◌, ◌++◌, Option, Some, None, Contains, length, sym, ap, ◌∙◌, subst, inl, inr, arith, get_or-set_same, get_or-set_other, length-set}
+use Rattle.sketches.proofs.Vocabulary.{Contains-push, Contains-push_cases, Contains-append_left, slice_index, slice_index_or, slice_set, IfSome, cases_eq, same_Some, Shown, shown_value, Event}
+use Rattle.sketches.proofs.Vocabulary.{Initial, At, ProgramSketch, IsLastWith, MAX_LOCATIONS, MayEndBy, IsOwn, EndsSo, Differ, IsLastValue, AreLastValues}
+use Rattle.rowless_sketches.proofs.OwnWrites.{same_location, same_value, own_or_initial}
 
 own_apart : (s : ProgramSketch) (e : Event) (l : ℕ) → IsOwn s e → e ≡ Initial l → ⊥
 own_apart s (Initial m) l own q = own
 own_apart s (At t i) l own q = cc
-
--- no pair puts a write after an initial one
-pub first_free : (s : ProgramSketch) (l : ℕ) → IsLawful s → HasLater s (Initial l) → ⊥
-first_free s l lawful (d, h) =
-    let (differ, (m, v, w, first, second, not_first, not_second)) = lawful.is_sketch.pairs (Initial l) d h in
-    not_first (ap Initial (ap (λ (z : Access). z.location) (same_Some _ first.0 first.1) ∙ first.2))
 
 -- ---- the value that is kept for a location
 

@@ -1,57 +1,56 @@
 -- What many proofs of this crate speak of, imported once.
-pub use Rattle.std.proofs.Common.{Bool, Contains, Err, IfOk, IsSome, IsTrue, List, None, Ok, Option, Result, Some, [], add-one, ap, arith, drop, drop-cons, false, get_or, inl, inr, length, map, not}
-pub use Rattle.std.proofs.Common.{refl, rules, set, slice_get, subst, suc, sym, take, true, vec_len, zero, ℕ, ◌++◌, ◌+◌, ◌<◌, ◌↔◌, ◌∙◌, ◌∷◌, ◌≡◌, ◌≢◌, ◌≤◌, ◌⊎◌}
-pub use Rattle.std.proofs.lemmas.Bool.{cases_eq, cases_lt, not-true, not_from_false}
-pub use Rattle.std.proofs.lemmas.List.{drop_all, get_or-set_other, get_or-set_same, get_or_append_left, get_or_push, length-append, length-set, length_push, take_all, take_more}
+pub use Rattle.std.proofs.Common.{Bool, Contains, Global, IsSome, IsTrue, List, MatchOption, None, Option, Some, Vec, [], ap, arith, drop, false, get_or, inl, inr, length, map, not, refl, rules, set}
+pub use Rattle.std.proofs.Common.{slice_get, subst, suc, sym, take, true, zero, ℕ, ◌++◌, ◌+◌, ◌<◌, ◌↔◌, ◌∙◌, ◌∷◌, ◌≡◌, ◌≢◌, ◌≤◌, ◌⊎◌}
+pub use Rattle.std.proofs.lemmas.Bool.{cases_eq, cases_lt}
+pub use Rattle.std.proofs.lemmas.List.{get_or-set_other, get_or-set_same, get_or_append_left, get_or_push, length-set, length_push, take_all, take_more}
 pub use Rattle.std.proofs.lemmas.List.Elements.{Contains-append_left, Contains-get_or, Contains-push, Contains-push_cases}
 pub use Rattle.std.proofs.lemmas.List.FromFn.{get_or-map-range_with_len, length-map-range_with_len}
-pub use Rattle.std.proofs.lemmas.Option.{MatchOption-at_none, get_or_from_slice_get, none-some, same_Some, slice_get-get_or, slice_get_past, slice_get_read, slice_get_within, unwrap_or-slice_get}
+pub use Rattle.std.proofs.lemmas.Option.{MatchOption-at_none, get_or_from_slice_get, same_Some, slice_get-get_or, slice_get_past, slice_get_read, slice_get_within}
 pub use Rattle.std.proofs.lemmas.Result.{IfOk-weaker}
 pub use Rattle.std.specs.Arc.{arc_value}
-pub use Rattle.std.specs.Global.{Vec}
 pub use Rattle.std.specs.List.{AllPairs, range_with_len, remove}
-pub use Rattle.std.specs.Prelude.{IfSome, OnErr, is_some, option_and_then, option_to_list, slice_index, slice_index_or, slice_set, ◌==◌}
+pub use Rattle.std.specs.Prelude.{IfSome, slice_index, slice_index_or, slice_set}
 pub use Rattle.bit_rows.specs.Rows.{IsIn, RowHas}
 pub use Rattle.candidate_executions.proofs.Candidates.EdgesAreDecidable.{same_event}
-pub use Rattle.candidate_executions.proofs.Orders.Lists.{first_is_here, first_or_later, get_set_other, get_set_same, later_is_here, none_here, some_value}
+pub use Rattle.candidate_executions.proofs.Orders.Lists.{first_is_here, first_or_later, later_is_here, none_here}
 pub use Rattle.candidate_executions.specs.Candidates.{IsAccess, Writes}
 pub use Rattle.candidate_executions.specs.Consistency.{IsCycle, IsOfMode, Leads}
 pub use Rattle.candidate_executions.specs.Events.{ComesBefore}
-pub use Rattle.candidate_executions.specs.Sketches.{EndsAs, EndsInValues, IsBefore, IsKnownCycle, IsPair, IsSourceOf, IsWhole, KnownAtom, KnownEdge, KnownEdgeOfMode, KnownFromReads, KnownRelates}
-pub use Rattle.candidate_executions.specs.Sketches.{MayBeLast, MustEndAs, Sketch, given_to, next_read, with_pair, with_source, with_value}
+pub use Rattle.candidate_executions.specs.Sketches.{EndsInValues, IsBefore, IsKnownCycle, IsPair, IsSourceOf, IsWhole, KnownAtom, KnownEdge, KnownEdgeOfMode, KnownRelates, MayBeLast, MustEndAs}
+pub use Rattle.candidate_executions.specs.Sketches.{given_to, with_pair, with_source}
 pub use Rattle.candidate_executions.specs.Values.{IsValueOf}
 pub use Rattle.candidate_executions.specs.declared.access.Access.{Access}
 pub use Rattle.candidate_executions.specs.declared.event.Event.{Event, TheVariants.Access as At, TheVariants.Initial}
 pub use Rattle.candidate_executions.specs.declared.event.Kind.{Kind}
-pub use Rattle.known_edges.proofs.Accesses.{none_past}
 pub use Rattle.known_edges.proofs.BranchesCounted.{few_sources, few_values}
 pub use Rattle.known_edges.proofs.ChoicesCounted.{choices_few, events, events_has, few_accesses}
-pub use Rattle.known_edges.proofs.Chosen.{found_source, has_source_by, once, pair_kept, source_kept}
+pub use Rattle.known_edges.proofs.Chosen.{has_source_by}
 pub use Rattle.known_edges.proofs.Found.{cycle_of_accesses, none_fenced, none_sequential}
-pub use Rattle.known_edges.proofs.KnownParts.{last_part, pair_by, to_relates}
-pub use Rattle.known_edges.proofs.Lawful.{given_at, given_set, good_of, made_more, more_kept, more_parts, new_kept, new_kept_by, new_parts, none_chosen, none_in, unchosen, values_from}
-pub use Rattle.known_edges.proofs.Lookups.{each_index, each_more, none_by, on_err_by}
-pub use Rattle.known_edges.proofs.Numbered.{access_number, access_same, accesses_same, at_numbers, chosen_numbers, contained, courses_few, courses_short, ends_whole, is_access, later_test, never_last}
-pub use Rattle.known_edges.proofs.Numbered.{number_access, number_exact, number_own, ordered_numbers, rows_of_kind, whole_ends, written_test}
+pub use Rattle.known_edges.proofs.Lawful.{made_more, more_kept, more_parts, new_kept, new_kept_by, new_parts, none_chosen, none_in, unchosen}
+pub use Rattle.known_edges.proofs.Lookups.{each_more, none_by, on_err_by}
+pub use Rattle.known_edges.proofs.Numbered.{access_number, access_same, at_numbers, chosen_numbers, contained, courses_few, courses_short, ends_whole, is_access, later_test, never_last, number_access}
+pub use Rattle.known_edges.proofs.Numbered.{number_exact, number_own, ordered_numbers, rows_of_kind, whole_ends, written_test}
 pub use Rattle.known_edges.proofs.RowsKept.{begun, later_empty}
-pub use Rattle.known_edges.proofs.TracesKept.{no_accesses, no_trace, past_next, reads_there, six_registers, trace_accesses, trace_last, trace_next}
+pub use Rattle.known_edges.proofs.TracesKept.{reads_there, six_registers}
 pub use Rattle.known_edges.specs.Choices.{IsOrdered, IsRead, IsValueWritten, MayFollow, MayRead, ReadsThisValue}
-pub use Rattle.known_edges.specs.Kept.{AreOtherTwo, IsLawful, KeepsTraces, given_lists, view_of}
-pub use Rattle.known_edges.specs.Known.{HasCycle, HasNoCycle, IsInitialWrite}
+pub use Rattle.known_edges.specs.Kept.{IsLawful, KeepsTraces, view_of}
+pub use Rattle.known_edges.specs.Known.{HasCycle, HasNoCycle}
 pub use Rattle.known_edges.specs.ProgramSketches.{ProgramSketch, access_in, mode_in, nothing_chosen, trace_in, with_chosen}
 pub use Rattle.known_edges.specs.Rows.{AreAccesses, EachEnds, HasWrites, IsOfThreads, IsRepresented, IsRowOf, IsWriteAt, NumberedTraces, accesses_at, traced_access, union_rows}
 pub use Rattle.known_edges.specs.Sizes.{HaveAllRegisters}
-pub use Rattle.known_edges.specs.Writes.{HasLater, IsLastWith, IsWritten, IsWrittenBy, WritesTo}
-pub use Rattle.known_edges.specs.declared.known_truth.Knowledge.{Knowledge}
+pub use Rattle.known_edges.specs.Writes.{HasLater, IsLastWith, IsWritten, WritesTo}
+pub use Rattle.rowless_sketches.proofs.Ends.{ends_only, in_values, last_by, of_values, registers_shown}
+pub use Rattle.rowless_sketches.specs.Completions.{EachRunCompletes, IsEdgeOfEach, IsRefuted, MustEndSo, NeedNotEnd}
+pub use Rattle.rowless_sketches.specs.Endings.{EndsSo, HasEnds, IsOwn, SketchMayEndWith, final_registers}
+pub use Rattle.rowless_sketches.specs.Knowledge.{IsKnownTruth, Knows}
+pub use Rattle.rowless_sketches.specs.ThreadValues.{HasValuesAlone, with_values}
 pub use Rattle.thread_traces.proofs.KnownParts.{no, not_by, of_some, yes}
-pub use Rattle.thread_traces.proofs.ValuesGiven.{given_back, kept_known, known_is, none_known}
 pub use Rattle.thread_traces.proofs.Walks.{IsWalk, contains_remove, distinct_more, pairs_drop, path_drop, path_more, round, walk_begins}
 pub use Rattle.thread_traces.specs.ThreadTraces.{IsThreadTraceOf}
 pub use Rattle.thread_traces.specs.declared.thread_trace.ThreadTrace.{ThreadTrace}
 pub use Rattle.tso_machine.specs.Modes.{machine_of_mode}
 pub use Rattle.tso_machine.specs.declared.mode.Mode.{Mode}
-pub use Rattle.tso_program.specs.Nodes.{AndOf, Half, OrOf, build, formula_tree, tree_again}
-pub use Rattle.tso_program.specs.Shown.{ShowsValues, asked, show, show_registers, shown_registers, shown_value, told}
+pub use Rattle.tso_program.specs.Shown.{ShowsValues, asked, show_registers, shown_registers, shown_value, told}
 pub use Rattle.tso_program.specs.Tree.{Tree}
 pub use Rattle.tso_program.specs.declared.atom.Atom.{Atom}
 pub use Rattle.tso_program.specs.declared.limits.TheConstants.{MAX_INSTRUCTIONS, MAX_LOCATIONS}
@@ -59,12 +58,6 @@ pub use Rattle.tso_program.specs.declared.listing.Listing.{Listing}
 pub use Rattle.tso_program.specs.declared.outcome.Outcome.{Outcome}
 pub use Rattle.tso_program.specs.declared.shown.Shown.{Shown, TheVariants.Truth}
 pub use Rattle.sketches.specs.Complete.{HasItsSource, IsComplete, IsOrderedWith}
-pub use Rattle.sketches.specs.Completions.{EachRunCompletes, EndsOnlyAs, IsEdgeOfEach, IsRefuted, MustEndSo, NeedNotEnd}
 pub use Rattle.sketches.specs.Cycles.{EachGoesOn, IsSimpleCycle, IsSuccessor}
-pub use Rattle.sketches.specs.Endings.{AreLastValues, Differ, EndsSo, HasEndOf, HasEnds, IsLastValue, IsOfThread, IsOwn, MayBe, MayBeBy, MayEndBy, SketchMayEndWith, final_registers}
-pub use Rattle.sketches.specs.Internal.KnownWalk.{KnowsAll, after_node}
 pub use Rattle.sketches.specs.Internal.Listed.{FollowInOrder, HasNumberIn}
-pub use Rattle.sketches.specs.Internal.SourcesListed.{AreListedTo}
-pub use Rattle.sketches.specs.Knowledge.{IsKnownTruth, Knows}
-pub use Rattle.sketches.specs.RowlessSketches.{AreSomeLists, AreSources, IsValueMarkOf, LacksSource, MarkedThread}
-pub use Rattle.sketches.specs.ThreadValues.{HasValuesAlone, with_values}
+pub use Rattle.sketches.specs.LastValues.{AreLastValues, Differ, IsLastValue, MayEndBy}

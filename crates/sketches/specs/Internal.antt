@@ -1,4 +1,2 @@
 -- What contracts of private functions and proofs cite; no public contract does.
 pub mod Listed
-pub mod KnownWalk
-pub mod SourcesListed

@@ -1,11 +1,7 @@
-pub mod Completions
 pub mod Complete
 pub mod Cycles
-pub mod Endings
+pub mod LastValues
 pub mod Marks
-pub mod ThreadValues
-pub mod Knowledge
-pub mod RowlessSketches
 pub mod Internal
 -- words of the crates below, passed on
 pub use Rattle.candidate_executions.specs.Values
@@ -16,3 +12,6 @@ pub use Rattle.known_edges.specs.Kept
 pub use Rattle.known_edges.specs.Known
 pub use Rattle.known_edges.specs.ProgramSketches
 pub use Rattle.known_edges.specs.Sizes
+pub use Rattle.rowless_sketches.specs.Completions
+pub use Rattle.rowless_sketches.specs.RowlessSketches
+pub use Rattle.rowless_sketches.specs.ThreadValues

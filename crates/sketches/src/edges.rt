@@ -5,7 +5,7 @@ ghost use Rattle.candidate_executions.specs.Consistency.{IsOfMode, Leads};
 ghost use Rattle.candidate_executions.specs.Sketches.{KnownEdge, KnownEdgeOfMode, IsKnownCycle, given_to};
 ghost use Rattle.candidate_executions.specs.Candidates.{IsAccess};
 ghost use Rattle.known_edges.specs.ProgramSketches.{mode_in};
-ghost use Rattle.sketches.specs.Completions.{IsEdgeOfEach, IsRefuted};
+ghost use Rattle.rowless_sketches.specs.Completions.{IsEdgeOfEach, IsRefuted};
 
 use crate::Sketch;
 use candidate_executions::{Event, Kind};

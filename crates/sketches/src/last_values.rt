@@ -5,7 +5,8 @@ ghost use Rattle.candidate_executions.specs.Sketches.{IsWhole, MayBeLast};
 ghost use Rattle.tso_program.specs.declared.limits.TheConstants.{MAX_LOCATIONS};
 ghost use Rattle.known_edges.specs.Known.{IsInitialWrite};
 ghost use Rattle.known_edges.specs.ProgramSketches.{mode_in, trace_in};
-ghost use Rattle.sketches.specs.Endings.{IsOwn, Differ, AreLastValues};
+ghost use Rattle.rowless_sketches.specs.Endings.{IsOwn};
+ghost use Rattle.sketches.specs.LastValues.{Differ, AreLastValues};
 ghost use Rattle.known_edges.specs.Writes.{HasLater, IsLastWith, IsWritten};
 
 use crate::Sketch;

@@ -4,7 +4,7 @@
 //! has its value, each read is given a source, and writes to one location are put in order. What is chosen
 //! makes edges known; a cycle of known edges refutes every candidate that the sketch could still become.
 //!
-//! Begin with `Sketch::new`, `Sketch::choose_source` and `RowlessSketch::of`. Free to change: what copies share,
+//! Begin with `Sketch::new`, `Sketch::choose_source` and `Sketch::rowless`. Free to change: what copies share,
 //! what a mark keeps (`mark.rt`), and which cycle is found (`cycle_search.rt`). Relied on: what may be chosen, each
 //! choice, each known edge and each end are exactly those of the definitions, so that the solver and the checker
 //! go through candidates by the same calls.
@@ -14,22 +14,16 @@ mod choices;
 mod complete;
 mod cycle_search;
 mod edges;
-mod ending;
-mod knowledge;
 mod last_values;
 mod mark;
-mod next_trace;
 mod only_outcome;
-mod parts;
-mod rowless_sketch;
 mod sketch;
-mod source_lists;
 mod thread_values;
 
 pub use candidate_executions::{Access, Event, Kind};
 pub use known_edges::SketchFault;
 pub use mark::Mark;
-pub use rowless_sketch::{RowlessSketch, ValueMark};
+pub use rowless_sketches::{RowlessSketch, ValueMark};
 pub use sketch::Sketch;
 pub use thread_traces::SharedValues;
 pub use tso_machine::Mode;

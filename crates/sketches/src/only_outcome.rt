@@ -4,8 +4,9 @@ ghost use Rattle.tso_program.specs.Shown.{show_registers, ShowsValues};
 ghost use Rattle.tso_program.specs.declared.shown.Shown.TheVariants.{Truth};
 ghost use Rattle.candidate_executions.specs.Sketches.{IsWhole};
 ghost use Rattle.known_edges.specs.ProgramSketches.{mode_in};
-ghost use Rattle.sketches.specs.Completions.{MustEndSo, NeedNotEnd, EndsOnlyAs};
-ghost use Rattle.sketches.specs.Endings.{final_registers, IsOwn, EndsSo, IsLastValue, AreLastValues};
+ghost use Rattle.rowless_sketches.specs.Completions.{MustEndSo, NeedNotEnd, EndsOnlyAs};
+ghost use Rattle.rowless_sketches.specs.Endings.{final_registers, IsOwn, EndsSo};
+ghost use Rattle.sketches.specs.LastValues.{IsLastValue, AreLastValues};
 
 use crate::Sketch;
 use std::alloc::AllocError;

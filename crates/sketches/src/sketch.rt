@@ -7,13 +7,13 @@ ghost use Rattle.std.specs.List.Sorted.{IsStrictlyIncreasing};
 ghost use Rattle.candidate_executions.specs.Values.{IsValueOf};
 ghost use Rattle.known_edges.specs.Kept.{IsLawful, KeepsTraces, view_of};
 ghost use Rattle.known_edges.specs.Sizes.{choice_count, most_choices, most_values, HaveAllRegisters};
-ghost use Rattle.sketches.specs.Completions.{EachRunCompletes};
+ghost use Rattle.rowless_sketches.specs.Completions.{EachRunCompletes};
 
-use crate::parts::{Parts, initial_write};
 use crate::{Mode, SketchFault};
 use bit_rows::{ROW_BITS, has};
 use candidate_executions::{Access, Event};
 use known_edges::{EdgeRows, Traces, copied, in_order, with_room};
+use rowless_sketches::{Parts, RowlessSketch, initial_write};
 use std::alloc::{AllocError, Global};
 use std::marker::Model;
 use std::sync::Arc;
@@ -107,6 +107,13 @@ impl Sketch {
             pairs: with_room(self.alloc, self.pairs.as_slice())?,
             rows: self.rows.copy(),
         })
+    }
+
+    /// The sketch without its rows. Where each read has its value it lists no values.
+    pub fn rowless(&self) -> Result<RowlessSketch, AllocError>
+        ensures { IfOk result (λ own. own ≡ self.now) }
+    {
+        RowlessSketch::of_parts(self.alloc, &self.parts())
     }
 
     /// The program.

@@ -2,7 +2,7 @@
 ghost use Rattle.std.specs.Prelude.{◌≡◌, ◌<◌, IfOk, length};
 ghost use Rattle.candidate_executions.specs.Sketches.{given_to};
 ghost use Rattle.known_edges.specs.ProgramSketches.{with_chosen};
-ghost use Rattle.sketches.specs.ThreadValues.{with_values, HasValuesAlone};
+ghost use Rattle.rowless_sketches.specs.ThreadValues.{with_values, HasValuesAlone};
 
 use crate::Sketch;
 use known_edges::copied;

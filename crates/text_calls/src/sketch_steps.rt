@@ -12,7 +12,7 @@ use crate::refusal::TextRefusal;
 use crate::sets::push_gaps;
 use gap_sets::GapSet;
 use run_maker::{MadeRun, make_run, make_run_for};
-use sketches::{Event, Kind, Mode, RowlessSketch, Sketch};
+use sketches::{Event, Kind, Mode, Sketch};
 use std::alloc::{AllocError, Global};
 use tso_machine::replay;
 use tso_program::{Outcome, Program, Shown};
@@ -296,7 +296,7 @@ fn push_is_cycle(
 }
 
 fn push_ends(sketch: &Sketch, outcome: &Outcome, printed: &mut String) -> Result<(), AllocError> {
-    let rowless = RowlessSketch::of(sketch)?;
+    let rowless = sketch.rowless()?;
     write!(printed, "{}", rowless.must_end_as(&Shown::All, outcome)?)
 }
 

@@ -1,5 +1,5 @@
 use Rattle.sketches.proofs.Vocabulary.{rules}
-use Rattle.sketches.proofs.Ends.{ends_more}
+use Rattle.sketches.proofs.OnlyOutcome.{ends_more}
 use Rattle.sketches.proofs.sketch.Sketch.end_memory.Goals as goal
 
 pub loop-l-preserved : goal.loop-l-preserved

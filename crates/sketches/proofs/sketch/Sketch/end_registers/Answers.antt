@@ -1,5 +1,4 @@
-use Rattle.sketches.proofs.Vocabulary.{◌∙◌, ap, length, arith}
-use Rattle.sketches.proofs.Ends.{registers_shown}
+use Rattle.sketches.proofs.Vocabulary.{◌∙◌, ap, length, arith, registers_shown}
 use Rattle.sketches.proofs.sketch.Sketch.end_registers.Goals as goal
 
 pub returns : goal.returns

@@ -1,5 +1,4 @@
-use Rattle.sketches.proofs.Vocabulary.{no, not_by, MayBeLast, mode_in}
-use Rattle.sketches.proofs.Ends.{last_by}
+use Rattle.sketches.proofs.Vocabulary.{no, not_by, MayBeLast, mode_in, last_by}
 use Rattle.sketches.proofs.sketch.Sketch.may_be_last.Goals as goal
 
 pub returns-then-has_later : goal.returns-then-has_later

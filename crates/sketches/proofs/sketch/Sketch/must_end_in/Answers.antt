@@ -1,5 +1,5 @@
-use Rattle.sketches.proofs.Vocabulary.{subst, ProgramSketch, IsLawful}
-use Rattle.sketches.proofs.Ends.{ends_only, must_end_so, need_not_end}
+use Rattle.sketches.proofs.Vocabulary.{subst, ProgramSketch, IsLawful, ends_only}
+use Rattle.sketches.proofs.OnlyOutcome.{must_end_so, need_not_end}
 use Rattle.sketches.proofs.sketch.Sketch.must_end_in.Goals as goal
 
 pub returns-in_ok-end_with-in-Some-clause-end : goal.returns-in_ok-end_with-in-Some-clause-end

@@ -1,5 +1,5 @@
 use Rattle.sketches.proofs.Vocabulary.{◌≡◌, ◌∙◌, true, false, sym}
-use Rattle.sketches.proofs.Ends.{need_whole}
+use Rattle.sketches.proofs.OnlyOutcome.{need_whole}
 use Rattle.sketches.proofs.sketch.Sketch.must_end_whole.Goals as goal
 
 pub returns-else-is_whole-clause-end : goal.returns-else-is_whole-clause-end

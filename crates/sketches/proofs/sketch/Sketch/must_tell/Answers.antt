@@ -1,5 +1,5 @@
-use Rattle.sketches.proofs.Vocabulary.{true, false, subst, Truth, ProgramSketch, IsLawful, Knows}
-use Rattle.sketches.proofs.{Ends.ends_only, Known.must_tell}
+use Rattle.sketches.proofs.Vocabulary.{true, false, subst, Truth, ProgramSketch, IsLawful, Knows, ends_only}
+use Rattle.sketches.proofs.OnlyOutcome.{must_tell}
 use Rattle.sketches.proofs.sketch.Sketch.must_tell.Goals as goal
 
 pub returns-then-known-clause-end : goal.returns-then-known-clause-end

@@ -1,0 +1,107 @@
+-- A value that is given and taken back, and reads that lack a source.
+use Rattle.rowless_sketches.proofs.Vocabulary.{◌≡◌, ℕ, ◌<◌, List, [], ◌∷◌, ◌++◌, Option, Some, None, IsSome, slice_get, slice_index, set, length, refl, sym, ap, ◌∙◌, subst, arith, same_Some}
+use Rattle.rowless_sketches.proofs.Vocabulary.{slice_get_within, Listing, Mode, Access, Event, Initial, At, ThreadTrace, ProgramSketch, mode_in, with_chosen, access_in, with_values, view_of}
+use Rattle.rowless_sketches.proofs.Vocabulary.{KeepsTraces, MarkedThread, IsValueMarkOf, LacksSource, EachEnds, traced_access, trace_accesses, no_accesses, given_to, with_value, IsSourceOf}
+use Rattle.rowless_sketches.proofs.Vocabulary.{ends_whole, accesses_same, given_back}
+use Rattle.rowless_sketches.proofs.ThreadValues.{merged_kept, merged_parts}
+
+module _ (p : Listing) (mode : Mode) (thread_traces : List ThreadTrace) (kept : KeepsTraces p mode thread_traces [] []) (mark : MarkedThread) (earlier : ProgramSketch) (value : ℕ)
+    (is : IsValueMarkOf mark earlier) (now : view_of p mode thread_traces [] [] ≡ with_chosen earlier (with_value earlier.chosen mark.thread value)) where
+  program : earlier.program ≡ p
+  program = ap (λ (s : ProgramSketch). s.program) (sym now)
+
+  same_mode : earlier.mode ≡ mode
+  same_mode = ap (λ (s : ProgramSketch). s.mode) (sym now)
+
+  others : KeepsTraces earlier.program earlier.mode is.traces [] []
+  others = is.kept
+
+  pub mark_there : mark.thread < length thread_traces
+  mark_there =
+      let within = slice_get_within is.traces mark.thread mark.trace is.there in
+      let each = is.kept.one_each in
+      let own = kept.one_each in
+      let same = ap (λ (q : Listing). length q.threads) program in
+      omega arith
+
+  pub back_kept : KeepsTraces p mode (set thread_traces mark.thread mark.trace) [] []
+  back_kept =
+      let own = kept.one_each in
+      let there = mark_there in
+      merged_kept p earlier.program mode earlier.mode thread_traces is.traces [] [] [] [] kept others program same_mode (record { sources = refl; pairs = refl }) mark.thread mark.trace (omega arith) is.there
+
+  pub back_parts : view_of p mode (set thread_traces mark.thread mark.trace) [] [] ≡ earlier
+  back_parts =
+      let own = kept.one_each in
+      let there = mark_there in
+      merged_parts p earlier.program mode earlier.mode thread_traces is.traces [] [] [] [] kept others program same_mode (record { sources = refl; pairs = refl }) mark.thread mark.trace (omega arith) is.there
+      ∙ (λ i. with_chosen (now i) (with_values (now i).chosen mark.thread (given_to ((sym is.seen) i).chosen mark.thread)))
+      ∙ ap (λ given. record { program = earlier.program; mode = earlier.mode; chosen = record { given = given; sources = earlier.chosen.sources; pairs = earlier.chosen.pairs } })
+      (given_back earlier.chosen.given mark.thread (given_to earlier.chosen mark.thread ++ value ∷ []))
+
+-- the same where the lists of sources and of orders are empty as the mark's sketch has them
+module _ (p : Listing) (mode : Mode) (thread_traces : List ThreadTrace) (sources pairs : List (Event × Event)) (kept : KeepsTraces p mode thread_traces sources pairs) (mark : MarkedThread) (earlier : ProgramSketch) (value : ℕ)
+    (is : IsValueMarkOf mark earlier) (now : view_of p mode thread_traces sources pairs ≡ with_chosen earlier (with_value earlier.chosen mark.thread value)) where
+  no_sources : sources ≡ []
+  no_sources = ap (λ (s : ProgramSketch). s.chosen.sources) now ∙ ap (λ (s : ProgramSketch). s.chosen.sources) is.seen
+
+  no_pairs : pairs ≡ []
+  no_pairs = ap (λ (s : ProgramSketch). s.chosen.pairs) now ∙ ap (λ (s : ProgramSketch). s.chosen.pairs) is.seen
+
+  alone : KeepsTraces p mode thread_traces [] []
+  alone = subst (λ (ys : List (Event × Event)). KeepsTraces p mode thread_traces [] ys) no_pairs (subst (λ (xs : List (Event × Event)). KeepsTraces p mode thread_traces xs pairs) no_sources kept)
+
+  same : view_of p mode thread_traces [] [] ≡ with_chosen earlier (with_value earlier.chosen mark.thread value)
+  same = (λ i. view_of p mode thread_traces ((sym no_sources) i) ((sym no_pairs) i)) ∙ now
+
+  pub taken_kept : KeepsTraces p mode (set thread_traces mark.thread mark.trace) sources pairs
+  taken_kept = subst (λ (xs : List (Event × Event)). KeepsTraces p mode (set thread_traces mark.thread mark.trace) xs pairs) (sym no_sources)
+      (subst (λ (ys : List (Event × Event)). KeepsTraces p mode (set thread_traces mark.thread mark.trace) [] ys) (sym no_pairs) (back_kept p mode thread_traces alone mark earlier value is same))
+
+  pub taken_parts : view_of p mode (set thread_traces mark.thread mark.trace) sources pairs ≡ earlier
+  taken_parts = (λ i. view_of p mode (set thread_traces mark.thread mark.trace) (no_sources i) (no_pairs i)) ∙ back_parts p mode thread_traces alone mark earlier value is same
+
+  pub taken_there : mark.thread < length thread_traces
+  taken_there = mark_there p mode thread_traces alone mark earlier value is same
+
+-- ---- a read that lacks a source
+
+module _ (p : Listing) (mode : Mode) (thread_traces : List ThreadTrace) (sources pairs : List (Event × Event)) (kept : KeepsTraces p mode thread_traces sources pairs) (ends : EachEnds thread_traces)
+    (read : Event) (x : Access) (value : ℕ) (at : traced_access thread_traces read ≡ Some x) (reads : x.read ≡ Some value)
+    (not_first : slice_index p.memory x.location ≡ value → ⊥)
+    (not_written : (t i : ℕ) (c : ThreadTrace) (y : Access) → slice_get thread_traces t ≡ Some c → slice_get c.accesses i ≡ Some y → y.location ≡ x.location → y.written ≡ Some value → ⊥) where
+  abbrev s : ProgramSketch
+  s = view_of p mode thread_traces sources pairs
+
+  access_is : (e : Event) (y : Access) → traced_access thread_traces e ≡ Some y → access_in s e ≡ Some y
+  access_is (Initial l) y q = absurd cc
+  access_is (At t i) y q = ap (λ xs. slice_get xs i) (sym (accesses_same p mode thread_traces sources pairs kept t)) ∙ q
+
+  none : (source : Event) → IsSourceOf p (mode_in s) s.chosen source read → ⊥
+  none source (x', v, at', reads', differ, (y, there, place, written)) =
+      let one : x ≡ x' = same_Some x x' (sym (access_is read x at) ∙ at') in
+      let same : value ≡ v = same_Some value v (sym reads ∙ ap (λ (a : Access). a.read) one ∙ reads') in
+      by source y there (place ∙ ap (λ (a : Access). a.location) (sym one)) (written ∙ ap Some (sym same))
+    where
+      by : (source : Event) (y : Access) → access_in s source ≡ Some y → y.location ≡ x.location → y.written ≡ Some value → ⊥
+      by (Initial l) y there place written =
+          let same = same_Some _ y there in
+          let held : Some (slice_index p.memory l) ≡ Some value = ap (λ (a : Access). a.written) same ∙ written in
+          let where_is : l ≡ x.location = ap (λ (a : Access). a.location) same ∙ place in
+          not_first (ap (slice_index p.memory) (sym where_is) ∙ same_Some _ value held)
+      by (At t i) y there place written = go (slice_get thread_traces t) refl
+        where
+          go : (o : Option ThreadTrace) → slice_get thread_traces t ≡ o → ⊥
+          go (Some c) e = not_written t i c y e (ap (λ xs. slice_get xs i) (sym (trace_accesses p mode thread_traces sources pairs kept t c e)) ∙ there) place written
+          go None e = (let gone : slice_get {X = Access} [] i ≡ Some y = ap (λ xs. slice_get xs i) (sym (no_accesses p mode thread_traces sources pairs kept t e)) ∙ there in nothing i y gone)
+            where
+              nothing : (i : ℕ) (y : Access) → slice_get {X = Access} [] i ≡ Some y → ⊥
+              nothing i y q = absurd cc
+
+  pub lacks : LacksSource s read
+  lacks = record {
+    whole = ends_whole p mode thread_traces sources pairs kept ends;
+    is_read = (x, access_is read x at, subst (λ (o : Option ℕ). IsSome o) (sym reads) refl);
+    free = λ (source, has). none source (kept.lawful.is_sketch.sources read source has);
+    no_source = none;
+  }

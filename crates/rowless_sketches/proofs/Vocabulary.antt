@@ -1,0 +1,53 @@
+-- What many proofs of this crate speak of, imported once.
+pub use Rattle.std.proofs.Common.{Bool, Contains, Err, IfOk, IsSome, IsTrue, List, None, Ok, Option, Result, Some, [], add-one, ap, arith, drop, drop-cons, false, get_or, inl, inr, length, not, refl}
+pub use Rattle.std.proofs.Common.{set, slice_get, subst, sym, take, true, vec_len, ℕ, ◌++◌, ◌+◌, ◌<◌, ◌↔◌, ◌∙◌, ◌∷◌, ◌≡◌, ◌≢◌, ◌≤◌, ◌⊎◌}
+pub use Rattle.std.proofs.lemmas.Bool.{cases_eq, cases_lt, not-true, not_from_false}
+pub use Rattle.std.proofs.lemmas.List.{drop_all, get_or-set_other, get_or-set_same, get_or_append_left, length-append, length-set, length_push}
+pub use Rattle.std.proofs.lemmas.List.Elements.{Contains-append_left, Contains-get_or}
+pub use Rattle.std.proofs.lemmas.List.FromFn.{get_or-map-range_with_len, length-map-range_with_len}
+pub use Rattle.std.proofs.lemmas.Option.{none-some, same_Some, slice_get-get_or, slice_get_past, slice_get_read, slice_get_within, unwrap_or-slice_get}
+pub use Rattle.std.specs.Arc.{arc_value}
+pub use Rattle.std.specs.Global.{Vec}
+pub use Rattle.std.specs.List.{AllPairs}
+pub use Rattle.std.specs.Prelude.{IfSome, OnErr, is_some, option_and_then, option_to_list, slice_index, ◌==◌}
+pub use Rattle.candidate_executions.proofs.Orders.Lists.{get_set_other, get_set_same, some_value}
+pub use Rattle.candidate_executions.specs.Candidates.{Writes}
+pub use Rattle.candidate_executions.specs.Events.{ComesBefore}
+pub use Rattle.candidate_executions.specs.Sketches.{EndsAs, EndsInValues, IsBefore, IsSourceOf, IsWhole, KnownFromReads, KnownRelates, MayBeLast, MustEndAs, Sketch, given_to, next_read, with_value}
+pub use Rattle.candidate_executions.specs.Values.{IsValueOf}
+pub use Rattle.candidate_executions.specs.declared.access.Access.{Access}
+pub use Rattle.candidate_executions.specs.declared.event.Event.{Event, TheVariants.Access as At, TheVariants.Initial}
+pub use Rattle.known_edges.proofs.Accesses.{none_past}
+pub use Rattle.known_edges.proofs.Chosen.{found_source, has_source_by, once, pair_kept, source_kept}
+pub use Rattle.known_edges.proofs.KnownParts.{last_part, pair_by, to_relates}
+pub use Rattle.known_edges.proofs.Lawful.{given_at, given_set, good_of, more_kept, more_parts, new_kept_by, none_chosen, none_in, values_from}
+pub use Rattle.known_edges.proofs.Lookups.{each_index}
+pub use Rattle.known_edges.proofs.Numbered.{accesses_same, ends_whole, whole_ends}
+pub use Rattle.known_edges.proofs.TracesKept.{no_accesses, no_trace, past_next, reads_there, trace_accesses, trace_last, trace_next}
+pub use Rattle.known_edges.specs.Choices.{IsRead, MayFollow, MayRead, ReadsThisValue}
+pub use Rattle.known_edges.specs.Kept.{AreOtherTwo, IsLawful, KeepsTraces, given_lists, view_of}
+pub use Rattle.known_edges.specs.Known.{IsInitialWrite}
+pub use Rattle.known_edges.specs.ProgramSketches.{ProgramSketch, access_in, mode_in, trace_in, with_chosen}
+pub use Rattle.known_edges.specs.Rows.{EachEnds, NumberedTraces, traced_access}
+pub use Rattle.known_edges.specs.Writes.{HasLater, IsLastWith, IsWritten, IsWrittenBy, WritesTo}
+pub use Rattle.known_edges.specs.declared.known_truth.Knowledge.{Knowledge}
+pub use Rattle.thread_traces.proofs.KnownParts.{no, not_by, of_some, yes}
+pub use Rattle.thread_traces.proofs.ValuesGiven.{given_back, kept_known, known_is, none_known}
+pub use Rattle.thread_traces.specs.ThreadTraces.{IsThreadTraceOf}
+pub use Rattle.thread_traces.specs.declared.thread_trace.ThreadTrace.{ThreadTrace}
+pub use Rattle.tso_machine.specs.Modes.{machine_of_mode}
+pub use Rattle.tso_machine.specs.declared.mode.Mode.{Mode}
+pub use Rattle.tso_program.specs.Nodes.{AndOf, Half, OrOf, build, formula_tree, tree_again}
+pub use Rattle.tso_program.specs.Shown.{ShowsValues, asked, show, show_registers, shown_registers, shown_value}
+pub use Rattle.tso_program.specs.Tree.{Tree}
+pub use Rattle.tso_program.specs.declared.atom.Atom.{Atom}
+pub use Rattle.tso_program.specs.declared.listing.Listing.{Listing}
+pub use Rattle.tso_program.specs.declared.outcome.Outcome.{Outcome}
+pub use Rattle.tso_program.specs.declared.shown.Shown.{Shown, TheVariants.Truth}
+pub use Rattle.rowless_sketches.specs.Completions.{EndsOnlyAs}
+pub use Rattle.rowless_sketches.specs.Endings.{HasEndOf, IsOfThread, IsOwn, MayBe, MayBeBy, final_registers}
+pub use Rattle.rowless_sketches.specs.Internal.KnownWalk.{KnowsAll, after_node}
+pub use Rattle.rowless_sketches.specs.Internal.SourcesListed.{AreListedTo}
+pub use Rattle.rowless_sketches.specs.Knowledge.{IsKnownTruth, Knows}
+pub use Rattle.rowless_sketches.specs.RowlessSketches.{AreSomeLists, AreSources, IsValueMarkOf, LacksSource, MarkedThread}
+pub use Rattle.rowless_sketches.specs.ThreadValues.{HasValuesAlone, with_values}

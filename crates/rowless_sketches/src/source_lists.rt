@@ -1,0 +1,143 @@
+//! The sources of a read, listed without rows.
+ghost use Rattle.std.specs.Prelude.{◌≡◌, ◌↔◌, ◌⊎◌, ◌+◌, Some, IsTrue, IfOk, OnOk, MatchOption, Contains, length, slice_index};
+ghost use Rattle.std.specs.List.{AllPairs};
+ghost use Rattle.candidate_executions.specs.declared.event.Event.{Event};
+ghost use Rattle.candidate_executions.specs.Events.{ComesBefore};
+ghost use Rattle.candidate_executions.specs.Sketches.{IsSourceOf, IsWhole};
+ghost use Rattle.known_edges.specs.ProgramSketches.{mode_in};
+ghost use Rattle.known_edges.specs.Choices.{IsRead, ReadsThisValue};
+ghost use Rattle.rowless_sketches.specs.RowlessSketches.{LacksSource, AreSources};
+ghost use Rattle.rowless_sketches.specs.Internal.SourcesListed.{AreListedTo};
+
+use crate::parts::Parts;
+use candidate_executions::{Access, Event};
+use known_edges::{access_at, each_ends};
+use std::alloc::{AllocError, Global};
+use thread_traces::{is_value, writes_any};
+
+impl Parts<'_> {
+    /// The sources of a read: the initial write first, then by thread and index. `None` if some read has no value
+    /// yet, or the event is no read. Whether the read has a source already makes no difference.
+    pub(crate) fn sources_of(
+        &self,
+        alloc: Global,
+        read: Event,
+    ) -> Result<Option<Vec<Event>>, AllocError>
+        ensures { IfOk result (λ found. MatchOption found (IsWhole self.now.program (mode_in self.now) self.now.chosen × IsRead self.now read → ⊥) (λ sources. AreSources self.now read sources.items)) }
+    {
+        // For the proof alone: what holds of every sketch is known where a field of it is read.
+        let _ = &self.program;
+        if !self.is_whole() {
+            return Ok(None);
+        }
+        match self.location_and_value(read) {
+            Some((location, value)) => {
+                let mut sources = Vec::new(alloc);
+                self.push_if_source(Event::Initial(location), read, &mut sources)?;
+                self.push_sources(read, location, value, &mut sources)?;
+                Ok(Some(sources))
+            }
+            None => Ok(None),
+        }
+    }
+
+    /// The location that an event reads, and the value.
+    pub(crate) fn location_and_value(&self, event: Event) -> Option<(u8, u32)>
+        ensures { MatchOption result (IsRead self.now event → ⊥) (λ found. ReadsThisValue self.now event found.0 found.1) }
+    {
+        let access = self.access(event)?;
+        let value = access.read?;
+        Some((access.location, value))
+    }
+
+    /// Appends the accesses that are sources of the read, by thread and index.
+    fn push_sources(
+        &self,
+        read: Event,
+        location: u8,
+        value: u32,
+        sources: &mut Vec<Event>,
+    ) -> Result<(), AllocError>
+        requires { ReadsThisValue self.now read location value }
+        ensures { OnOk result (AreListedTo self.now read 0 0 sources.old.items → AreListedTo self.now read (length self.now.program.threads) 0 sources.new.items) }
+    {
+        for (t, thread_trace) in self.thread_traces.iter().enumerate() {
+            if thread_trace.writes(location, value) {
+                self.push_sources_in(t as u8, read, location, value, sources)?;
+            }
+        }
+        Ok(())
+    }
+
+    /// Appends the accesses of thread t that are sources of the read.
+    fn push_sources_in(
+        &self,
+        t: u8,
+        read: Event,
+        location: u8,
+        value: u32,
+        sources: &mut Vec<Event>,
+    ) -> Result<(), AllocError>
+        requires { ReadsThisValue self.now read location value }
+        ensures { OnOk result (AreListedTo self.now read t 0 sources.old.items → AreListedTo self.now read (t + 1) 0 sources.new.items) }
+    {
+        for (i, access) in self.accesses_of(t).iter().enumerate() {
+            if writes_so(*access, location, value) {
+                self.push_if_source(Event::Access(t, i as u8), read, sources)?;
+            }
+        }
+        Ok(())
+    }
+
+    /// Appends an event if it is a source of the read.
+    fn push_if_source(
+        &self,
+        event: Event,
+        read: Event,
+        sources: &mut Vec<Event>,
+    ) -> Result<(), AllocError>
+        ensures exact { OnOk result ((e : Event) → Contains sources.new.items e ↔ (Contains sources.old.items e ⊎ ((event ≡ e) × IsSourceOf self.now.program (mode_in self.now) self.now.chosen e read))) }
+        ensures ordered { OnOk result (AllPairs ComesBefore sources.old.items → ((e : Event) → Contains sources.old.items e → ComesBefore e event) → AllPairs ComesBefore sources.new.items) }
+    {
+        if self.is_source(event, read) {
+            sources.push(event)?;
+        }
+        Ok(())
+    }
+
+    /// Whether each read has its value, and no write gives this read its own.
+    pub(crate) fn lacks_source(&self, read: Event) -> bool
+        ensures { IsTrue result → LacksSource self.now read }
+    {
+        if !each_ends(self.thread_traces) {
+            return false;
+        }
+        let Some(access) = access_at(self.thread_traces, read) else {
+            return false;
+        };
+        let Some(value) = access.read else {
+            return false;
+        };
+        if self.begins_with(access.location, value) {
+            return false;
+        }
+        !writes_any(self.thread_traces, access.location, value)
+    }
+
+    /// Whether the location begins with the value.
+    fn begins_with(&self, location: u8, value: u32) -> bool
+        ensures { slice_index self.now.program.memory location ≡ value → IsTrue result }
+    {
+        match self.program.memory().get(location as usize) {
+            Some(initial) => *initial == value,
+            None => true,
+        }
+    }
+}
+
+/// Whether the access writes the value to the location.
+fn writes_so(access: Access, location: u8, value: u32) -> bool
+    ensures { IsTrue result ↔ ((access.location ≡ location) × (access.written ≡ Some value)) }
+{
+    access.location == location && is_value(access.written, value)
+}

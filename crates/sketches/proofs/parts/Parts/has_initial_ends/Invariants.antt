@@ -1,6 +1,0 @@
-use Rattle.sketches.proofs.Vocabulary.{ℕ, ◌<◌, Initial, HasEndOf}
-use Rattle.sketches.proofs.parts.Parts.has_initial_ends.Given as goal
-
--- the memory has the values of the initial writes so far
-abbrev pub invariant-loop-l : goal.invariant-loop-l
-invariant-loop-l l = (k : ℕ) → k < l.l → HasEndOf l.self l.shown l.memory (Initial k)
