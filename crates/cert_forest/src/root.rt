@@ -1,6 +1,6 @@
 //! Roots of cover trees: what a node says before its children come.
 
-ghost use Rattle.std.specs.Prelude.{◌≡◌, ◌≤◌, [], IfOk, IfErr};
+ghost use Rattle.std.specs.Prelude.{◌≡◌, ◌≤◌, [], IfOk, IfErr, IfSome};
 ghost use Rattle.text_tokens.specs.Steps.{Fails, Gives};
 ghost use Rattle.cert_words.specs.Words.{repeat_at, stops_for_memory};
 ghost use Rattle.cert_forest.specs.Internal.Pushing.{PushesCycle, PushesRoot};
@@ -10,7 +10,9 @@ use crate::access::access;
 use crate::node::{Node, push_known};
 use crate::tree::AccessId;
 use candidate_executions::Kind;
-use cert_words::{Refusal, Stop, Wrong, count, letter, number, refused_word};
+use cert_words::{
+    Refusal, Stop, Wrong, count, digit_within, ends_word, letter, number, refused_word,
+};
 
 fn kind_of(letter: u8) -> Option<Kind>
     ensures { result ≡ kind_of letter }
@@ -197,9 +199,54 @@ fn known_root<'t>(bytes: &'t [u8], nodes: &mut Vec<Node>) -> Result<(u64, &'t [u
     Ok((0, rest))
 }
 
+/// A read without a source whose numbers have one digit each, and the bytes after it: most leaves are such reads.
+fn unsourced_read(bytes: &[u8]) -> Option<(AccessId, &[u8])>
+    ensures { IfSome result (λ x. head_at bytes.now ≡ Some (SourceHead x.0 0, x.1.now)) }
+{
+    match bytes {
+        [
+            before,
+            letter,
+            space,
+            thread,
+            stop,
+            read,
+            last,
+            count,
+            rest @ ..,
+        ] => {
+            if *before != b' ' || *letter != b'S' || *space != b' ' || *stop != b'.' {
+                return None;
+            }
+            if *last != b' ' || !ends_word(rest) {
+                return None;
+            }
+            digit_within(0, *count)?;
+            let thread = digit_within(255, *thread)? as u8;
+            let access = digit_within(255, *read)? as u8;
+            Some((AccessId { thread, access }, rest))
+        }
+        _ => None,
+    }
+}
+
 /// A root, put after the other nodes, and how many children follow.
-#[tactic(auto, unfolding(crate::specs::Internal::Reading::head_at))]
 pub(crate) fn root<'t>(bytes: &'t [u8], nodes: &mut Vec<Node>) -> Result<(u64, &'t [u8]), Stop>
+    ensures pushes { IfOk result (λ x. PushesRoot nodes.old.items nodes.new.items (head_at bytes.now) x.0 x.1.now) }
+    ensures stops { IfErr result (λ stop. Fails stops_for_memory stop (head_at bytes.now)) }
+{
+    match unsourced_read(bytes) {
+        Some((read, rest)) => {
+            nodes.push(Node::Source { read, count: 0 })?;
+            Ok((0, rest))
+        }
+        None => root_of_letter(bytes, nodes),
+    }
+}
+
+/// The root that a letter begins, put after the other nodes, and how many children follow.
+#[tactic(auto, unfolding(crate::specs::Internal::Reading::head_at))]
+fn root_of_letter<'t>(bytes: &'t [u8], nodes: &mut Vec<Node>) -> Result<(u64, &'t [u8]), Stop>
     ensures pushes { IfOk result (λ x. PushesRoot nodes.old.items nodes.new.items (head_at bytes.now) x.0 x.1.now) }
     ensures stops { IfErr result (λ stop. Fails stops_for_memory stop (head_at bytes.now)) }
 {
