@@ -1,7 +1,10 @@
-"""Checks a crate with an edit in it: the functions that the edit changes and those that they call, and then, where these pass, the whole crate.
+"""Checks a crate with edits in it: the functions that they change and those that these call, and then, where these pass, the whole crate.
 
 A function that the prover refuses in such a check it refuses in a check of the whole crate too. An edit outside `src/` has the check of the whole crate
 alone. The crate must be proved as it stands, and the libraries below it must be built: `rt ci` does both.
+
+A proof of a function rests on the contracts of those that it calls and not on their bodies. So edits of several functions are checked together: each is
+refused by what the prover says of its own function. One of which it says less is checked once more, with fewer beside it or alone.
 """
 import os
 import re
@@ -11,7 +14,8 @@ from . import edit_texts
 
 REFUSED, AT_A_LIMIT, SAYS_LITTLE, NOT_REFUSED, BAD, NOT_TRIED = "refused", "refused at a limit", "says little", "not refused", "bad", "not tried"
 FUNCTION = re.compile(r"( *)(?:pub(?:\([^)]*\))? )?(?:const |unsafe )*fn (\w+)")
-PLACE = re.compile(r"(?:note: )?(?:\./)?(\S+?):\d+:\d+:")
+PLACE = re.compile(r"(?:note: )?(?:\./)?(\S+?):(\d+):\d+:")
+REFUSED_BY_ITSELF = re.compile(r"fn \w+::(\S+): not proved")
 ERROR = re.compile(r"(?:\./)?(\S+?):\d+:\d+: error: (?:(`[^`]*`): )?(.*)")
 NOT_READ = re.compile(r"is not in scope|has no field|is no name|operand is missing|expected the end|cannot continue")
 NAMES_WHAT_WENT = re.compile(r"(note: )?(\./)?proofs/.*(has no field|is not in scope|has no `|was not admitted)")
@@ -30,14 +34,14 @@ def type_of(line):
 
 
 def path_around(file, text, at):
-    """The path below the crate of the function that a place of a source file lies in, or of its module where it is of a trait; no text outside functions."""
+    """The end of the path of the function that a place of a source file lies in, or its module where it is of a trait; no text outside functions."""
     module = "".join(part + "::" for part in file[len("src/"):-len(".rt")].split("/") if part not in ("lib", "main", "mod"))
     lines = text[:text.index("\n", at)].split("\n")[::-1]
     head = next(filter(None, map(FUNCTION.match, lines)), None)
     if not head or not head[1]:
         return module + head[2] if head else ""
     owner = type_of(next((line for line in lines if line.startswith("impl")), ""))
-    return f"{module}{owner}::{head[2]}" if owner else module[:-2]
+    return f"{owner}::{head[2]}" if owner else module[:-2]
 
 
 def paths_of(crate, pairs):
@@ -82,6 +86,29 @@ def answer_of(status, lines, changed):
     return (AT_A_LIMIT, limit) if status == 3 and limit else (NOT_TRIED, " ".join(lines[-3:]))
 
 
+def function_at(crate, line):
+    """The end of the path of the function that a line of a check speaks of, by a place in its body or its proof."""
+    at = PLACE.match(line)
+    if not at or not at[1].startswith(("src/", "proofs/")):
+        return ""
+    if at[1].startswith("proofs/"):
+        return os.path.dirname(at[1])[len("proofs/"):].replace("/", "::")
+    text = edit_texts.read_text(os.path.join(crate, at[1]))
+    return path_around(at[1], text, len("\n".join(text.split("\n")[:int(at[2]) - 1])) + 1)
+
+
+def refusals(crate, lines, paths):
+    """What a check says of each of these paths of functions that it refuses by itself: its first line, where that does not merely name what went."""
+    names = [found[1] for found in map(REFUSED_BY_ITSELF.fullmatch, lines) if found]
+    spoken_of = [(line, function_at(crate, line)) for line in lines]
+    found = {}
+    for path in (it for it in paths if any(f"::{name}".endswith(f"::{it}") for name in names)):
+        answer, first = refusal_of([line for line, function in spoken_of if f"::{function}".endswith(f"::{path}")])
+        if first and answer == REFUSED:
+            found[path] = first
+    return found
+
+
 class Checks:
     """Checks of the crates of a copy of the repository, over the libraries that stand in it."""
 
@@ -112,12 +139,47 @@ class Checks:
         words += [word for place in [os.path.join(self.kit, "rlibs"), *library.values()] for word in ("-L", f"dependency={place}")]
         return words + ["--antt-project", os.path.join(self.kit, "rattle", "logic", "antt-project.json"), "--logic-built", os.path.join(self.kit, "logic_built")]
 
-    def answer(self, crate, pairs, paths):
-        """What a check of these functions, or of the whole crate for none, comes to over what earlier ones kept; and the line that says so."""
+    def ran(self, crate, paths):
+        """The status and the lines of a check of these functions, or of the whole crate for none, over what earlier ones kept."""
         words = self.command(crate) + [word for path in paths for word in ("--only", path)]
         os.makedirs(os.path.join(self.folder(crate), "out", "incremental"), exist_ok=True)
         ran = subprocess.run(words, cwd=self.folder(crate), stdin=subprocess.DEVNULL, stdout=subprocess.PIPE, stderr=subprocess.STDOUT, text=True, errors="replace")
-        return answer_of(ran.returncode, ran.stdout.rstrip("\n").split("\n"), {file for file, _, _ in pairs})
+        return ran.returncode, ran.stdout.rstrip("\n").split("\n")
+
+    def answer(self, crate, pairs, paths):
+        """What such a check with an edit comes to, and the line that says so."""
+        return answer_of(*self.ran(crate, paths), {file for file, _, _ in pairs})
+
+    def beside(self, crate, edits):
+        """Of these edits, by their names, as many as change functions of their own, with the paths of these; and the pairs of all of them."""
+        chosen, pairs = {}, []
+        for name, own in edits.items():
+            paths = [] if edit_texts.fault_of(self.folder(crate), pairs + own) else paths_of(self.folder(crate), own)
+            if paths and not any(set(paths).intersection(others) for others in chosen.values()):
+                chosen[name], pairs = paths, pairs + own
+        return chosen, pairs
+
+    def refused_together(self, crate, edits):
+        """The edits that the prover refuses each by itself where it checks them together, by their names, with the line that says so."""
+        chosen, pairs = self.beside(crate, edits)
+        if len(chosen) < 2:
+            return {}
+        paths = sorted({path for paths in chosen.values() for path in paths})
+        with edit_texts.applied(self.folder(crate), pairs):
+            status, lines = self.ran(crate, paths)
+            found = refusals(self.folder(crate), lines, paths)
+        if status != 1 or any(STALE.search(line) or is_unread(line, {file for file, _, _ in pairs}) for line in lines):
+            return {}
+        return {name: found[path] for name, paths in chosen.items() for path in paths[:1] if path in found}
+
+    def try_all(self, crate, edits):
+        """Of each of these edits, by its name, what the crate comes to with it, and the line that says so."""
+        left = dict(edits)
+        while refused := self.refused_together(crate, left):
+            yield from ((name, REFUSED, line) for name, line in refused.items())
+            left = {name: pairs for name, pairs in left.items() if name not in refused}
+        for name, pairs in left.items():
+            yield (name, *self.try_pairs(crate, pairs))
 
     def try_pairs(self, crate, pairs):
         """What the crate comes to with an edit, and the line that says so. The crate is then as it was."""
