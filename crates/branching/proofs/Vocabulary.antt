@@ -6,7 +6,7 @@ pub use Rattle.std.proofs.lemmas.List.{length-append, length-map, map-append, ni
 pub use Rattle.std.proofs.lemmas.Option.{same_Some, slice_get_within, unwrap_or-slice_get}
 pub use Rattle.std.specs.Prelude.{IfSome}
 pub use Rattle.bit_rows.specs.declared.row.TheConstants.{ROW_BITS}
-pub use Rattle.cert_forest.specs.declared.tree.AccessId.{AccessId}
+pub use Rattle.cert_trees.specs.declared.tree.AccessId.{AccessId}
 pub use Rattle.cover_judge.proofs.ChoicesJudged.{other_way, turned}
 pub use Rattle.cover_judge.specs.Candidates.{IsAccess, Writes}
 pub use Rattle.cover_judge.specs.Choices.{MayChoose, MayChooseEach, sketch_with}

@@ -6,7 +6,7 @@ use Rattle.cover_judge.specs.Candidates.{Writes}
 use Rattle.cover_judge.specs.Sketches.{IsWhole}
 use Rattle.sketches.specs.ProgramSketches.{ProgramSketch, mode_in, access_in}
 use Rattle.sketches.specs.Choices.{IsRead}
-use Rattle.cert_forest.specs.declared.tree.AccessId.{AccessId}
+use Rattle.cert_trees.specs.declared.tree.AccessId.{AccessId}
 use Rattle.cover_judge.specs.CoverTrees.{event_of}
 use Rattle.branching.specs.declared.reads_writes.ReadValue.{ReadValue}
 use Rattle.branching.specs.declared.reads_writes.WrittenValue.{WrittenValue}

@@ -8,7 +8,7 @@ ghost use Rattle.branching.specs.Accesses.{AreAccessesOf};
 use crate::open_choice::OpenChoice;
 use crate::preference::preferred;
 use crate::reads_writes::WholeAccesses;
-use cert_forest::AccessId;
+use cert_trees::AccessId;
 use cover_judge::{Choice, source_choices, value_choices};
 use sketches::Sketch;
 use std::alloc::{AllocError, Global};

@@ -8,7 +8,7 @@ ghost use Rattle.branching.specs.Accesses.{IsReadValue, IsWrittenValue};
 ghost use Rattle.branching.specs.ChoicesLeft.{AreWritesInOrder};
 
 use crate::reads_writes::{ReadValue, WrittenValue};
-use cert_forest::AccessId;
+use cert_trees::AccessId;
 use cover_judge::event_of;
 use sketches::{Event, Sketch};
 

@@ -14,7 +14,7 @@ ghost use Rattle.branching.specs.ChoicesLeft.{HasEachSource, IsInOrderWithLater,
 use crate::ends::{SketchEnds, is_listed_without, sketch_ends};
 use crate::open_choice::{OpenChoice, needs_order, needs_source};
 use crate::reads_writes::{ReadValue, WholeAccesses, WrittenValue, gives, gives_at_first};
-use cert_forest::AccessId;
+use cert_trees::AccessId;
 use cover_judge::{Choice, event_of};
 use sketches::{Event, Sketch};
 use tso_program::{Outcome, Shown};

@@ -6,7 +6,7 @@ ghost use Rattle.cover_judge.specs.CoverTrees as trees;
 ghost use Rattle.branching.specs.Accesses.{IsReadValue, IsWrittenValue, AreAccessesOf, IsItself, IsOfItsThread, TakesIn};
 
 use bit_rows::ROW_BITS;
-use cert_forest::AccessId;
+use cert_trees::AccessId;
 use cover_judge::event_of;
 use sketches::{Event, Sketch};
 use std::alloc::{AllocError, Global};

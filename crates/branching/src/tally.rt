@@ -9,7 +9,7 @@ ghost use Rattle.branching.specs.Tallies.{HasBit, IsTallyOf, IsThisThread, IsOth
 
 use crate::reads_writes::ReadValue;
 use bit_rows::{ROW_BITS, has, joined, put_rows, with};
-use cert_forest::AccessId;
+use cert_trees::AccessId;
 use cover_judge::event_of;
 use sketches::{Access, Event, Sketch};
 use std::alloc::{AllocError, Global};

@@ -3,7 +3,7 @@ use Rattle.cert_check.proofs.Vocabulary.{◌≡◌, ℕ, zero, suc, List, [], �
 use Rattle.cert_check.proofs.Vocabulary.{IsShownRun, Gap, Split, Bound, GapTrees, NoGap, MoreGaps, IsValidCover, Certificate, AreSequentialRuns, IsRunOutside, IsValidCertificate, one_list_of_gaps}
 use Rattle.cert_check.proofs.Vocabulary.{CheckFault, valid_is_not_wrong, IsRunOf, IsFirstWithout, CheckFaultIs, Question, show, Machine, SequentialMachine, StoreBufferMachine, no_gaps, outcome_at}
 use Rattle.cert_check.proofs.Vocabulary.{IsValidGap, AreValidGaps, ValidCertificatesHaveNoFault}
-use Rattle.cert_forest.specs.Texts.{count_gaps}
+use Rattle.cert_forest.specs.Trees.{count_gaps}
 use Rattle.tree_laws.proofs.Lists.{found_has}
 use Rattle.cert_check.specs.declared.fault.CheckFault.TheVariants as fault
 use Rattle.cert_check.specs.GapDefects as gaps

@@ -5,7 +5,7 @@ use Rattle.cert_check.proofs.Vocabulary.{FirstWrongGap, AreValidIn, IsWrongChild
 use Rattle.std.specs.List.Sorted.{IsStrictlyIncreasing}
 use Rattle.std.specs.FinSet as set
 use Rattle.std.specs.Option.{IsSomeAnd, MatchOption}
-use Rattle.cert_forest.proofs.TreeTexts.{gaps_count}
+use Rattle.cert_forest.proofs.GapNodeLaws.{gaps_count}
 
 -- what is found at a number goes with the labels of this number
 pub labels_at : {B : Type 0} (R : List Label → B → Type 0) (runs : List (List Label)) (xs : List B) (n : ℕ) (x : B) → AllZip R runs xs → slice_get xs n ≡ Some x →

@@ -5,7 +5,7 @@ ghost use Rattle.std.specs.List.{prefix_len};
 ghost use Rattle.text_tokens.specs.Steps.{Gives};
 ghost use Rattle.cert_forest.specs.Internal.Reading.{is_no_stop, access_tail, access_of, access_at};
 
-use crate::tree::AccessId;
+use cert_trees::AccessId;
 use cert_words::{Refusal, Wrong, digit_within, ends_word, refused_unless_cut, word};
 use text_tokens::{are_digits, plain_number};
 

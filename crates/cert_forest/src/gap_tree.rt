@@ -1,15 +1,14 @@
 //! Gap trees, read from words.
 
 ghost use Rattle.std.specs.Prelude.{[], IfOk, IfErr};
-ghost use Rattle.cert_forest.specs.GapNodes.{spell_gap};
+ghost use Rattle.cert_trees.specs.GapNodes.{spell_gap};
 ghost use Rattle.cert_forest.specs.Internal.Pushing.{PushesTree, PushesTrees};
 ghost use Rattle.text_tokens.specs.Steps.{Fails, Gives, GivesUnless};
 ghost use Rattle.cert_words.specs.Words.{repeat_at, stops_for_memory};
 ghost use Rattle.cert_forest.specs.Internal.Reading.{split_at, gap_at, gap_line_at};
 
 use crate::cover_tree::too_deep;
-use crate::node::GapNode;
-use crate::tree::{GapTree, MAX_GAP_DEPTH};
+use cert_trees::{GapNode, GapTree, MAX_GAP_DEPTH};
 use cert_words::{Refusal, Stop, Wrong, count, end, letter, name, number, refused_word};
 use std::alloc::Global;
 

@@ -7,9 +7,8 @@ ghost use Rattle.cert_forest.specs.Internal.Pushing.{PushesCycle, PushesRoot};
 ghost use Rattle.cert_forest.specs.Internal.Reading.{ValueHead, SourceHead, OrderHead, access_at, kind_of, kind_at, three_at, value_head_at, source_head_at, order_head_at, cycle_at, known_at, head_at};
 
 use crate::access::access;
-use crate::node::{Node, push_known};
-use crate::tree::AccessId;
 use candidate_executions::Kind;
+use cert_trees::{AccessId, Node, push_known};
 use cert_words::{
     Refusal, Stop, Wrong, count, digit_within, ends_word, letter, number, refused_word,
 };

@@ -10,8 +10,8 @@ pub use Rattle.cert_forest.specs.Nodes.{spell_all}
 pub use Rattle.cert_forest.specs.Texts.{access_word, cover_words, covers_words, gap_words, gaps_words, head_lines, labels_line, place_word, runs_lines}
 pub use Rattle.cert_forest.specs.Trees.{Bound, Cover, Covers, Gap, GapTrees, MoreCovers, MoreGaps, NoCover, NoGap, Order, Source, Split, Value, cover_list, gap_list}
 pub use Rattle.cert_forest.specs.Walks.{IsNext, IsNextBy, IsNextGap, children_of, gap_children_of, gap_root_of, root_of}
-pub use Rattle.cert_forest.specs.declared.node.GapNode.{GapNode}
-pub use Rattle.cert_forest.specs.declared.walk.CoverNode.{CoverNode}
+pub use Rattle.cert_forest.specs.GapNode.{GapNode}
+pub use Rattle.cert_forest.specs.CoverNode.{CoverNode}
 pub use Rattle.cert_words.specs.Lines.{line, spaced, texts_of}
 unfoldable pub use Rattle.gap_sets.specs.Gaps.{numbers_of_set}
 pub use Rattle.tso_machine.specs.RunTexts.{spelling}

@@ -4,7 +4,7 @@ use Rattle.cover_judge.proofs.Vocabulary.{IfWrong, Outcome, Shown, asked, Progra
 use Rattle.cover_judge.proofs.Vocabulary.{FirstWrongCoverChild, HasNoValues, HasNoSources, sketch_with, MayChoose, HasNextValues, HasSources, Event, IsAtRoot, IsBelow, IsValidAfter, IsWrongAt}
 use Rattle.cover_judge.proofs.Vocabulary.{AreValidAfter, IsWrongChild}
 use Rattle.candidate_executions.specs.Sketches as sketches
-use Rattle.cert_forest.proofs.TreeTexts.{covers_count}
+use Rattle.cert_forest.proofs.NodeLaws.{covers_count}
 use Rattle.cover_judge.specs.declared.choice.Choice.TheVariants as choice
 use Rattle.cover_judge.proofs.{Mapped.map_map, Answered.err_up, Answered.if_err, Answered.on_ok, ChoicesJudged.if_wrong, ChoicesJudged.no_order}
 

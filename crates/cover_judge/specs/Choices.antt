@@ -5,7 +5,7 @@ use Rattle.candidate_executions.specs.Values.{IsValueOf}
 use Rattle.candidate_executions.specs.Sketches.{Sketch, with_value, with_source, with_pair, next_read, IsWhole}
 use Rattle.sketches.specs.Choices.{IsRead, HasSource, MayRead, MayFollow}
 use Rattle.sketches.specs.ProgramSketches.{ProgramSketch, mode_in}
-use Rattle.cert_forest.specs.declared.tree.AccessId.{AccessId}
+use Rattle.cert_forest.specs.AccessId.{AccessId}
 use Rattle.tree_laws.specs.CoverTrees.{event_of, HasNextValues, HasSources}
 use Rattle.cover_judge.specs.declared.choice.Choice.{Choice, TheVariants.Value, TheVariants.Source, TheVariants.Order}
 

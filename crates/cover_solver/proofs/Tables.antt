@@ -13,7 +13,8 @@ use Rattle.tso_machine.proofs.Refused.{no_fault}
 use Rattle.tree_laws.proofs.{Lists.found_is_here, ListedOutcomes.fenced_tree_serves, OneList.one_list}
 use Rattle.cover_solver.specs.declared.fault.ForeignFault.TheVariants as foreign
 use Rattle.fence_laws.proofs.GapsAvoided.{fenced_runs_avoid}
-use Rattle.cert_forest.specs.{Trees.Cover, declared.node.TheConstants.NEAR_RUNS}
+use Rattle.cert_forest.specs.Trees.{Cover}
+use Rattle.cert_forest.specs.NodeConstants.{NEAR_RUNS}
 use Rattle.sketch_covers.specs.{Covers.IsWholeCover, KnownOutcomes.StopIs, declared.known_outcomes.KnownOutcomes.TheVariants.Closed, declared.stop.Stop.Stop}
 use Rattle.partial_covers.proofs.{RenumberedTrees.whole_renumbered, HoleTrees.stop_lacks}
 use Rattle.tso_program.proofs.OutcomesOrdered.{one_way}

@@ -3,7 +3,7 @@ use Rattle.fence_place.proofs.Vocabulary.{◌≡◌, ℕ, zero, suc, ◌+◌, tr
 use Rattle.fence_place.proofs.Vocabulary.{GapTrees, NoGap, MoreGaps, gap_trees_of, count_gaps, Foreign, Entry, is_closed, spell_gap, spell_gaps, listed_gaps, AreRecorded, PushesRecorded}
 use Rattle.fence_place.proofs.Vocabulary.{PushesRecords}
 use Rattle.std.proofs.lemmas.List.{append-nil}
-use Rattle.cert_forest.specs.declared.node.GapNode.TheVariants as node
+use Rattle.cert_forest.specs.GapNode.TheVariants as node
 use Rattle.cert_forest.proofs.Spelled.{each_append}
 use Rattle.search_core.specs.declared.entry.Status.TheVariants as status
 use Rattle.fence_place.proofs.Recording.{recorded_more}

@@ -13,9 +13,9 @@ pub use Rattle.cert_forest.specs.Certificates.{Certificate}
 pub use Rattle.cert_forest.specs.GapNodes.{spell_gap, spell_gaps}
 pub use Rattle.cert_forest.specs.Limits.{AreShownPlaces, HasGapNumbers, HaveGapNumbers, IsGapTo, gap_depth, gaps_depth}
 pub use Rattle.cert_forest.specs.Shows.{shows_of}
-pub use Rattle.cert_forest.specs.Texts.{count_gaps}
+pub use Rattle.cert_forest.specs.Trees.{count_gaps}
 pub use Rattle.cert_forest.specs.Trees.{Bound, Cover, Gap, GapTrees, MoreGaps, NoGap, Split, gap_trees_of}
-pub use Rattle.cert_forest.specs.declared.node.GapNode.{GapNode}
+pub use Rattle.cert_forest.specs.GapNode.{GapNode}
 pub use Rattle.cover_solver.proofs.OpenGaps.{few_open, open_ascending, open_exact}
 pub use Rattle.cover_solver.specs.Certificates.{AreSequentialRuns, IsRunOutside, IsValidCertificate}
 pub use Rattle.cover_solver.specs.Facts.{AreOf, Foreign, IsForeignValue, IsListOf, IsSequentialTable, IsServing, Serving, Table}

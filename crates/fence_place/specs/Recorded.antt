@@ -3,7 +3,7 @@ use Rattle.std.specs.Prelude.{◌≡◌, ◌≢◌, ℕ, zero, suc, ◌+◌, tru
 use Rattle.std.specs.List.{AllPairs}
 use Rattle.gap_sets.specs.Regions.{open_gaps}
 use Rattle.cover_solver.specs.Label.{Label}
-use Rattle.cert_forest.specs.declared.node.GapNode.{GapNode}
+use Rattle.cert_forest.specs.GapNode.{GapNode}
 use Rattle.cert_forest.specs.Trees.{Gap, Split, Bound, GapTrees, NoGap, MoreGaps, gap_trees_of}
 use Rattle.cert_forest.specs.GapNodes.{spell_gap, spell_gaps}
 use Rattle.cover_solver.specs.Facts.{Foreign}

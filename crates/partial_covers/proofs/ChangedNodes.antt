@@ -1,33 +1,21 @@
 -- Trees whose nodes are changed in place.
 use Rattle.partial_covers.proofs.Vocabulary.{◌≡◌, ℕ, zero, suc, ◌+◌, ◌<◌, ◌≤◌, List, [], ◌∷◌, ◌++◌, map, length, take, drop, get_or, true, refl, ap, sym, ◌∙◌, arith, inl, inr, set, nat_lt, cases_Bool}
-use Rattle.partial_covers.proofs.Vocabulary.{lt-ltb, map-map, map-append, NEAR_RUNS, changed, each_changed, changed_node, renumbered_node, Kind, spell, spell_row, known_nodes}
-use Rattle.cert_forest.specs.declared.node.Node.TheVariants as node
+use Rattle.partial_covers.proofs.Vocabulary.{lt-ltb, map-append, NEAR_RUNS, changed, each_changed, changed_node, renumbered_node, Kind, AccessId, cycle_nodes, spell, spell_row, known_nodes}
+use Rattle.cert_forest.specs.Node.TheVariants as node
 use Rattle.cert_forest.specs.Trees.{Cover, Value, Source, Order, Cycle, Known, Covers, NoCover, MoreCovers}
 use Rattle.partial_covers.proofs.{OtherNumbers.EachNumber, OtherNumbers.EachNumberOf, OtherNumbers.every_number, OtherNumbers.IsNear, OtherNumbers.renumbered, TighterTrees.as_many_changed}
-
--- one item more is changed
-pub changed_more : {A : Type 0} (f : A → A) (xs : List A) (i : ℕ) (d : A) → i < length xs
-    → map f (take (suc i) xs) ++ drop (suc i) xs ≡ set (map f (take i xs) ++ drop i xs) i (f (get_or (map f (take i xs) ++ drop i xs) i d))
-changed_more f [] i d h = absurd (omega arith)
-changed_more f (x ∷ xs) zero d h = refl
-changed_more f (x ∷ xs) (suc i) d h = ap (λ ys. f x ∷ ys) (changed_more f xs i d (omega arith))
-
-pub changed_step : {A : Type 0} (f : A → A) (xs ys : List A) (i : ℕ) (x y : A) → i < length xs → map f (take i xs) ++ drop i xs ≡ ys → x ≡ get_or ys i x → y ≡ f x
-    → map f (take (i + 1) xs) ++ drop (i + 1) xs ≡ set ys i y
-changed_step f xs ys i x y h so at is =
-    let one : i + 1 ≡ suc i = omega arith in
-    let item : f (get_or ys i x) ≡ y = ap f (sym at) ∙ sym is in
-    ap (λ (n : ℕ). map f (take n xs) ++ drop n xs) one ∙ changed_more f xs i x h ∙ ap (λ zs. set zs i (f (get_or zs i x))) so ∙ ap (set ys i) item
-
-pub changed_all : {A : Type 0} (f : A → A) (xs : List A) (i : ℕ) → length xs ≤ i → map f (take i xs) ++ drop i xs ≡ map f xs
-changed_all f [] zero h = refl
-changed_all f [] (suc i) h = refl
-changed_all f (x ∷ xs) zero h = absurd (omega arith)
-changed_all f (x ∷ xs) (suc i) h = ap (λ ys. f x ∷ ys) (changed_all f xs i (omega arith))
 
 -- ---- the nodes of a changed tree are the changed nodes
 
 module _ (kinds : Kind → Kind) (place : ℕ → ℕ) where
+  -- a cycle's union stands in its last node
+  cycle_changed : (kind : Kind) (es : List AccessId) → cycle_nodes (kinds kind) es ≡ map (changed_node kinds place) (cycle_nodes kind es)
+  cycle_changed kind [] = refl
+  cycle_changed kind (a ∷ []) = refl
+  cycle_changed kind (a ∷ (b ∷ [])) = refl
+  cycle_changed kind (a ∷ (b ∷ (c ∷ []))) = refl
+  cycle_changed kind (a ∷ (b ∷ (c ∷ (d ∷ es)))) = ap (λ xs. node.Earlier a b c ∷ xs) (cycle_changed kind (d ∷ es))
+
   -- where those of a leaf are
   module _ (P : ℕ → Type 0) (known : (run : ℕ) → P run → known_nodes (place run) ≡ map (changed_node kinds place) (known_nodes run)) where
     mutual
@@ -37,7 +25,7 @@ module _ (kinds : Kind → Kind) (place : ℕ → ℕ) where
       spelled_changed (Order first second t u) each =
           (λ i. node.Order first second ∷ (spelled_changed t each.0 i ++ spelled_changed u each.1 i))
           ∙ ap (λ xs. node.Order first second ∷ xs) (sym (map-append (changed_node kinds place) (spell t) (spell u)))
-      spelled_changed (Cycle kind es) each = ap (λ xs. node.Cycle (kinds kind) (length es) ∷ xs) (sym (map-map (changed_node kinds place) node.Event es))
+      spelled_changed (Cycle kind es) each = cycle_changed kind es
       spelled_changed (Known run) each = known run each
 
       row_changed : (ts : Covers) → EachNumberOf P ts → spell_row (each_changed kinds place ts) ≡ map (changed_node kinds place) (spell_row ts)

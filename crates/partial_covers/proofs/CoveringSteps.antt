@@ -2,7 +2,7 @@
 use Rattle.partial_covers.proofs.Vocabulary.{◌≡◌, ◌<◌, ℕ, Bool, true, List, [], ◌∷◌, ◌++◌, ◌+◌, ◌∙◌, ◌-◌, Vec, Global, get_or, length, take, refl, sym, ap, subst, arith, Shown, asked, ProgramSketch}
 use Rattle.partial_covers.proofs.Vocabulary.{with_chosen, Choice, AreValueChoices, sketch_with, by_number, Grows, Covering, Item, Has, items_of, after, PushesPartial, PushesPartialRow}
 use Rattle.partial_covers.proofs.Vocabulary.{PushesPartialAt, AreInOrder, length-append, grows_none, grows_twice, grows_after, Covers, CoversEach, CoversIf}
-use Rattle.cert_forest.specs.declared.node.Node.TheVariants as node
+use Rattle.cert_forest.specs.Node.TheVariants as node
 use Rattle.partial_covers.proofs.{PartialRows.after_more, PartialRows.none_partial, PartialRows.one_partial, PartialRows.values_partial, PartialNodes.taken_back, PartsJoined.was_joined}
 
 -- after a step that leaves what is shown and the path

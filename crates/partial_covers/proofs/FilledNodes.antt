@@ -6,8 +6,8 @@ use Rattle.partial_covers.proofs.Vocabulary.{PartialTree, Closed, Values, Hole, 
 use Rattle.partial_covers.proofs.Vocabulary.{IsPartialAfter, ArePartialAfter, IsPartialCover, unfenced, Pushes, still_valid, cover_next, covers_none, node_cover, Cover, Value, covers_of, spell}
 use Rattle.partial_covers.proofs.Vocabulary.{spell_all, IsCoverAt, AreCoversAfter, copied, Filled, changed_node, kind_in}
 use Rattle.tso_machine.specs.declared.mode.Mode.TheVariants as modes
-use Rattle.cert_forest.specs.declared.node.Node.TheVariants as node
-use Rattle.cert_forest.proofs.{TreeTexts.covers_count, PushedTrees.listed}
+use Rattle.cert_forest.specs.Node.TheVariants as node
+use Rattle.cert_forest.proofs.NodeLaws.{covers_count, listed}
 use Rattle.cover_judge.specs.declared.choice.Choice.TheVariants as choice
 use Rattle.branching.specs.declared.open_choice.OpenChoice.TheVariants as left
 use Rattle.partial_covers.proofs.{ChangedNodes.spelled_in, ChoicesMade.same_program, ChoicesMade.same_mode, ChoicesMade.after_unfenced, FilledTrees.cover_in_mode, FilledTrees.choices_in_mode}

@@ -4,13 +4,9 @@ pub mod ReplacedItems
 pub mod ChangedNodes
 pub mod PartialNodes
 pub mod PartialRows
-pub mod TraceNodes
 pub mod TighterTrees
 pub mod RenumberedTrees
-pub mod CombinedSketches
-pub mod CombinedCovers
 pub mod PairSketches
-pub mod UnsourcedTrees
 pub mod OtherNumbers
 pub mod LawfulValues
 pub mod ChoicesMade

@@ -6,7 +6,7 @@ use Rattle.partial_covers.proofs.Vocabulary.{count_partial, spell_partial, spell
 use Rattle.partial_covers.proofs.Vocabulary.{HasNumber, place_in, ArePlacesOf}
 use Rattle.std.specs.FinSet as set
 use Rattle.tso_machine.specs.declared.mode.Mode.TheVariants as modes
-use Rattle.cert_forest.specs.declared.node.Node.TheVariants as node
+use Rattle.cert_forest.specs.Node.TheVariants as node
 use Rattle.partial_covers.proofs.{OtherNumbers.renumbered, ChangedNodes.spelled_renumbered, NearNumbers.valid_near, RenumberedTrees.cover_renumbered}
 
 -- ---- as it lies in memory

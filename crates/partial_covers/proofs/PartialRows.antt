@@ -5,7 +5,7 @@ use Rattle.partial_covers.proofs.Vocabulary.{sequential, still_valid, Item, Has,
 use Rattle.partial_covers.proofs.Vocabulary.{spell_partial_row, after, IsPartialAfter, ArePartialAfter, PushesPartial, PushesPartialRow, IsPartialCover}
 use Rattle.std.specs.FinSet as set
 use Rattle.tso_machine.specs.declared.mode.Mode.TheVariants as modes
-use Rattle.cert_forest.specs.declared.node.Node.TheVariants as node
+use Rattle.cert_forest.specs.Node.TheVariants as node
 
 -- one choice more
 pub after_more : (s : ProgramSketch) (path : List Choice) (c : Choice) → after s (path ++ c ∷ []) ≡ with_chosen (after s path) (sketch_with (after s path).chosen c)

@@ -5,7 +5,8 @@ use Rattle.partial_covers.proofs.Vocabulary.{asked, ProgramSketch, mode_in, with
 use Rattle.partial_covers.proofs.Vocabulary.{PushesPartialAt, StaysOf, LastThread, Plan, IsOfOther, IsLast, IsBeforeLast, IsPartOf, IsPlanned, AreRunsFor, IsMadeAt, IsCoverFor, AreCoversFor}
 use Rattle.partial_covers.proofs.Vocabulary.{AreLeftOf, AreOwnParts, AreFoundIn, IfJoined, IsFoundIn, first_sketch, MayChoose, MayChooseAll, sequential, Listing}
 use Rattle.sketch_covers.specs.{declared.outcome_index.OutcomeIndex.OutcomeIndex, declared.known_outcomes.KnownOutcomes.TheVariants.Closed, declared.known_outcomes.KnownOutcomes.TheVariants.Open}
-use Rattle.partial_covers.proofs.{PartialRenumbered.partial_renumbered, CombinedCovers.before_next, PartialRows.after_more}
+use Rattle.sketch_covers.proofs.{CombinedCovers.before_next}
+use Rattle.partial_covers.proofs.{PartialRenumbered.partial_renumbered, PartialRows.after_more}
 use Rattle.partial_covers.proofs.ChoicesMade.{after_sequential, may_more, same_program}
 
 runs_stay : (q : Question) (old new : KnownOutcomes) (found : OutcomeIndex) → StaysOf old new → AreRunsFor q old found → AreRunsFor q new found

@@ -2,9 +2,10 @@
 use Rattle.partial_covers.proofs.Vocabulary.{◌≡◌, ◌∙◌, ◌<◌, ◌≤◌, ◌+◌, ◌-◌, ◌++◌, List, [], ◌∷◌, ℕ, Vec, Global, get_or, length, map, take, refl, sym, ap, subst, arith, take_all, asked, same_default}
 use Rattle.partial_covers.proofs.Vocabulary.{ProgramSketch, IsLawful, HasValuesAlone, Choice, TraceTree, IsTraceTree, AreAlike, with_root, Traces, Read, root, traces, trace_trees, first_choices}
 use Rattle.partial_covers.proofs.Vocabulary.{AreInOrder, grows_none, Covering, Covers, CoversEach, Has, items_of, PartialCover}
-use Rattle.cert_forest.specs.declared.node.Node.TheVariants as node
+use Rattle.cert_forest.specs.Node.TheVariants as node
 use Rattle.cover_judge.specs.declared.choice.Choice.TheVariants as choice
-use Rattle.partial_covers.proofs.{CoveringSteps.covers_values, CoveringSteps.each_more, TraceNodes.as_many_here, TraceNodes.choices_here, TraceNodes.are_here, TraceNodes.child_at}
+use Rattle.sketch_covers.proofs.{TraceNodes.as_many_here, TraceNodes.choices_here, TraceNodes.are_here, TraceNodes.child_at}
+use Rattle.partial_covers.proofs.{CoveringSteps.covers_values, CoveringSteps.each_more}
 
 module _ (s : ProgramSketch) (t : ℕ) (alone : HasValuesAlone s.chosen) (there : t < length s.program.threads) (lawful : IsLawful s) (u : ProgramSketch) (own : IsLawful u) (choices : List Choice) (below : List TraceTree)
     (x : Traces) (is : x ≡ Read u choices (trace_trees (map traces below))) (tree : IsTraceTree t x) (alike : AreAlike (root x) s) (old new : Covering) (i : ℕ) where

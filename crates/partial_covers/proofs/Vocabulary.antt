@@ -31,12 +31,12 @@ pub use Rattle.candidate_executions.specs.declared.event.Event.{Event, TheVarian
 pub use Rattle.candidate_executions.specs.declared.event.Kind.{Kind}
 pub use Rattle.cert_forest.proofs.NodeLaws.{is_tree, same_tree}
 pub use Rattle.cert_forest.specs.Limits.{cover_depth, covers_depth}
-pub use Rattle.cert_forest.specs.Nodes.{known_nodes, spell, spell_all, spell_row}
-pub use Rattle.cert_forest.specs.Texts.{count_covers}
+pub use Rattle.cert_forest.specs.Nodes.{cycle_nodes, known_nodes, spell, spell_all, spell_row}
+pub use Rattle.cert_forest.specs.Trees.{count_covers}
 pub use Rattle.cert_forest.specs.Trees.{Cover, NoCover, Source, Value, covers_of}
-pub use Rattle.cert_forest.specs.declared.node.Node.{Node}
-pub use Rattle.cert_forest.specs.declared.node.TheConstants.{NEAR_RUNS}
-pub use Rattle.cert_forest.specs.declared.tree.AccessId.{AccessId}
+pub use Rattle.cert_forest.specs.Node.{Node}
+pub use Rattle.cert_forest.specs.NodeConstants.{NEAR_RUNS}
+pub use Rattle.cert_forest.specs.AccessId.{AccessId}
 pub use Rattle.cover_judge.proofs.ChoicesJudged.{next_is_open, source_is_open, values_may}
 pub use Rattle.cover_judge.proofs.Lists.{first_is_here, later_is_here}
 pub use Rattle.cover_judge.proofs.TighterModes.{renumbered_is_valid, tighter_keeps_cover, tighter_keeps_values, tighter_keeps_whole}
@@ -73,12 +73,12 @@ pub use Rattle.tso_program.specs.declared.shown.Shown.{Shown}
 pub use Rattle.partial_covers.specs.Coverings.{Covers, CoversEach, CoversIf}
 pub use Rattle.partial_covers.specs.Fillings.{IsFilling, sequential}
 pub use Rattle.partial_covers.specs.HoleTrees.{AreFoundFrom, AreHolesFrom, AreSearchedHoles, Filled, IsFoundAfter, StopLacks, copied}
-pub use Rattle.partial_covers.specs.NodeChanges.{changed_node, copied_in, renumbered_node, sequential_node}
+pub use Rattle.sketch_covers.specs.NodeChanges.{changed_node, copied_in, renumbered_node, sequential_node}
 pub use Rattle.partial_covers.specs.PartialCovers.{AreEach, AreFilled, ArePartialAfter, Closed, Has, Hole, IsFilled, IsPartialAfter, IsPartialCover, IsPieceRenumbered, Item, Lacks, LeadsToWhole}
 pub use Rattle.partial_covers.specs.PartialCovers.{MayChooseAll, MorePartial, NoPartial, PartialTree, PartialTrees, PushesPartial, PushesPartialAt, PushesPartialRow, Values, after, count_partial}
 pub use Rattle.partial_covers.specs.PartialCovers.{items_before, items_of, partial_of, renumbered_item, spell_partial, spell_partial_row, unfenced}
 pub use Rattle.partial_covers.specs.Parts.{AreCoversFor, AreFoundIn, AreLeftOf, AreOwnParts, AreRunsFor, IfJoined, IsCoverFor, IsFoundIn, IsMadeAt, IsPartOf, IsPlanned, first_sketch}
-pub use Rattle.partial_covers.specs.UnsourcedTraces.{Closes, Takes}
+pub use Rattle.sketch_covers.specs.UnsourcedTraces.{Closes, Takes}
 pub use Rattle.partial_covers.specs.declared.covering.Covering.{Covering}
 pub use Rattle.partial_covers.specs.declared.hole_trees.HoleTree.{HoleTree}
 pub use Rattle.partial_covers.specs.declared.part.Part.{Part}

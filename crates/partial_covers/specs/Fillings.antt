@@ -4,7 +4,7 @@ use Rattle.tso_program.specs.declared.outcome.Outcome.{Outcome}
 use Rattle.tso_program.specs.declared.shown.Shown.{Shown}
 use Rattle.tso_machine.specs.declared.mode.Mode.TheVariants as modes
 use Rattle.sketches.specs.ProgramSketches.{ProgramSketch}
-use Rattle.cert_forest.specs.declared.node.Node.{Node}
+use Rattle.cert_forest.specs.Node.{Node}
 use Rattle.sketch_covers.specs.Covers.{IsCoverAt}
 use Rattle.sketch_covers.specs.Pushing.{Pushes}
 

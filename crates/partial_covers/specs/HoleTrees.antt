@@ -8,7 +8,7 @@ use Rattle.tso_machine.specs.declared.mode.Mode.TheVariants as modes
 use Rattle.tso_machine.specs.Machine.{Machine}
 use Rattle.tso_machine.specs.Outcomes.{IsShownRun}
 use Rattle.sketches.specs.ProgramSketches.{ProgramSketch, mode_in}
-use Rattle.cert_forest.specs.declared.node.Node.{Node}
+use Rattle.cert_forest.specs.Node.{Node}
 use Rattle.cert_forest.specs.Trees.{Cover}
 use Rattle.cert_forest.specs.Nodes.{spell}
 use Rattle.cover_judge.specs.declared.choice.Choice.{Choice}
@@ -16,7 +16,7 @@ use Rattle.sketch_covers.specs.Covers.{IsCoverAt}
 use Rattle.sketch_covers.specs.Pushing.{Pushes}
 use Rattle.sketch_covers.specs.declared.stop.Stop.{Stop}
 use Rattle.sketch_covers.specs.declared.stop.Stop.TheVariants as stop
-use Rattle.partial_covers.specs.NodeChanges.{sequential_node}
+use Rattle.sketch_covers.specs.NodeChanges.{sequential_node}
 use Rattle.partial_covers.specs.PartialCovers.{AreEach, Item, Has, Lacks, after}
 use Rattle.partial_covers.specs.declared.partial_cover.Piece.{Piece}
 use Rattle.partial_covers.specs.declared.hole_trees.HoleTree.{HoleTree}

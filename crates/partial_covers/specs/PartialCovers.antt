@@ -7,13 +7,13 @@ use Rattle.tso_program.specs.declared.shown.Shown.{Shown}
 use Rattle.tso_machine.specs.declared.mode.Mode.TheVariants as modes
 use Rattle.candidate_executions.specs.Sketches.{IsWhole}
 use Rattle.sketches.specs.ProgramSketches.{ProgramSketch, mode_in, nothing_chosen, with_chosen}
-use Rattle.cert_forest.specs.declared.node.Node.{Node}
-use Rattle.cert_forest.specs.declared.node.Node.TheVariants as node
+use Rattle.cert_forest.specs.Node.{Node}
+use Rattle.cert_forest.specs.Node.TheVariants as node
 use Rattle.cert_forest.specs.Trees.{Cover}
 use Rattle.cert_forest.specs.Nodes.{spell}
 use Rattle.cover_judge.specs.declared.choice.Choice.{Choice}
 use Rattle.cover_judge.specs.Choices.{AreValueChoices, MayChoose, sketch_with}
-use Rattle.partial_covers.specs.NodeChanges.{renumbered_node}
+use Rattle.sketch_covers.specs.NodeChanges.{renumbered_node}
 use Rattle.partial_covers.specs.Fillings.{IsFilling}
 use Rattle.sketch_covers.specs.Covers.{IsCoverAt}
 use Rattle.partial_covers.specs.declared.partial_cover.PartialCover.{PartialCover}

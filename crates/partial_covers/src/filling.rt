@@ -4,7 +4,7 @@ ghost use Rattle.tso_program.specs.Shown.{asked};
 ghost use Rattle.tso_machine.specs.Modes.{machine_of_mode};
 ghost use Rattle.tso_machine.specs.declared.mode.Mode.TheVariants as modes;
 ghost use Rattle.sketches.specs.ProgramSketches.{mode_in, nothing_chosen};
-ghost use Rattle.partial_covers.specs.NodeChanges.{sequential_node, copied_in};
+ghost use Rattle.sketch_covers.specs.NodeChanges.{sequential_node, copied_in};
 ghost use Rattle.sketch_covers.specs.Covers.{IsCoverAt};
 ghost use Rattle.partial_covers.specs.Fillings.{IsFilling};
 ghost use Rattle.partial_covers.specs.PartialCovers.{IsPartialCover, after, LeadsToWhole, MayChooseAll};
@@ -13,11 +13,10 @@ ghost use Rattle.sketch_covers.specs.Pushing.{Pushes};
 
 use crate::partial_cover::{PartialCover, Piece};
 use crate::searching::Search;
-use crate::sequential_nodes::sequential_node;
 use crate::watch::Watch;
 use cert_forest::Node;
 use cover_judge::{Choice, choose};
-use sketch_covers::{KnownOutcomes, Stop, cover_whole};
+use sketch_covers::{KnownOutcomes, Stop, cover_whole, sequential_node};
 use sketches::{Mode, Sketch};
 use std::alloc::AllocError;
 

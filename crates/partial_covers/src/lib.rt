@@ -23,14 +23,12 @@ mod part_holes;
 mod partial_cover;
 mod renumbering;
 mod searching;
-mod sequential_nodes;
-mod unsourced_trees;
 mod watch;
 
 pub use hole_run::HoleRun;
 pub use outcome_search::{OutcomeCover, all_outcomes, cover_all, cover_closed_by};
 pub use part::PartCover;
 pub use partial_cover::{PartialCover, Piece};
-pub use renumbering::{renumber, renumber_partial};
+pub use renumbering::renumber_partial;
 pub use searching::{Search, SearchStart, start_alone, start_by};
 pub use watch::{Unwatched, Watch};

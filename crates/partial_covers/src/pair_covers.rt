@@ -9,9 +9,9 @@ ghost use Rattle.partial_covers.specs.Coverings.{Covers};
 ghost use Rattle.partial_covers.specs.OpenPairs.{IsPair};
 
 use crate::covering::Covering;
-use crate::unsourced_trees::push_unsourced;
 use crate::watch::Watch;
 use branching::{FullTrace, LastThread, Tally, ThreadTraces, TraceTree};
+use sketch_covers::push_unsourced;
 use sketches::Sketch;
 use std::alloc::AllocError;
 

@@ -1,6 +1,6 @@
 //! Partial covers: cover trees with holes, that are made with no gap fenced. They hold with any gaps fenced, and in the sequential machine, since a tighter machine only has more known edges.
 ghost use Rattle.std.specs.Prelude.{◌≡◌, List, [], ◌∷◌, ◌++◌, ◌<◌, ◌^◌, OnOk, map};
-ghost use Rattle.cert_forest.specs.declared.node.Node.TheVariants as node;
+ghost use Rattle.cert_forest.specs.Node.TheVariants as node;
 ghost use Rattle.tso_program.specs.declared.outcome.Outcome.{Outcome as OutcomeValue};
 ghost use Rattle.tso_program.specs.declared.shown.Shown.{Shown as ShownValue};
 ghost use Rattle.sketches.specs.ProgramSketches.{ProgramSketch};

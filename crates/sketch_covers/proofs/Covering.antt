@@ -1,10 +1,10 @@
 -- Trees for the choices at a node, put after other nodes one by one.
 use Rattle.sketch_covers.proofs.Vocabulary.{◌≡◌, ℕ, ◌+◌, ◌<◌, ◌≤◌, List, [], ◌∷◌, ◌++◌, length, take, drop, get_or, refl, ap, sym, ◌∙◌, subst, arith, append_assoc, append-nil, length-append, take_all}
 use Rattle.sketch_covers.proofs.Vocabulary.{Result, Ok, Err, IfErr, IsErrAnd, remove_range, Outcome, Shown, ProgramSketch, IsLawful, HaveAllRegisters, choice_count, most_choices, AccessId, Node}
-use Rattle.sketch_covers.proofs.Vocabulary.{Cover, Value, Source, Order, Known, Choice, OpenChoice, Stop, AreChoicesOf, IsOpen, IsCoverAt, IsCoverAfter, AreCoversAfter, tree_over, node_over}
-use Rattle.sketch_covers.proofs.Vocabulary.{KeepsNumbers, spell, spell_all, tree_of, IsTree, covers_count, known_some, is_tree, tree_again, spelled_append, child_instead, Pushes, Begins, BeginsIfNew}
-use Rattle.cert_forest.specs.declared.node.Node.TheVariants as node
-use Rattle.cert_forest.proofs.PushedTrees.{listed}
+use Rattle.sketch_covers.proofs.Vocabulary.{Cover, Value, Source, Order, Cycle, Known, Choice, OpenChoice, Stop, AreChoicesOf, IsOpen, IsCoverAt, IsCoverAfter, AreCoversAfter, tree_over, node_over}
+use Rattle.sketch_covers.proofs.Vocabulary.{KeepsNumbers, spell, spell_all, tree_of, IsTree, covers_count, cycle_some, known_some, is_tree, tree_again, spelled_append, child_instead, Pushes, Begins, BeginsIfNew}
+use Rattle.cert_forest.specs.Node.TheVariants as node
+use Rattle.cert_forest.proofs.NodeLaws.{listed}
 use Rattle.branching.specs.declared.open_choice.OpenChoice.TheVariants as left
 use Rattle.sketch_covers.specs.declared.stop.Stop.TheVariants as stop
 use Rattle.sketch_covers.proofs.{Growing.covers_still, Nodes.as_many_choices, Nodes.covers_more, Nodes.covers_none, Nodes.node_cover}
@@ -29,6 +29,7 @@ pub pushes_as : (P Q : Cover → Type 0) (old new : List Node) → ((t : Cover) 
 pushes_as P Q old new follows more = record { tree = more.tree; is = follows more.tree more.is; pushed = more.pushed }
 
 spelled_some : (t : Cover) → 1 ≤ length (spell t)
+spelled_some (Cycle kind events) = cycle_some kind events
 spelled_some (Known run) = known_some run
 spelled_some t = omega arith
 

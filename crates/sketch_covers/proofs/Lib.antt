@@ -13,3 +13,8 @@ pub mod Listing
 pub mod Nodes
 pub mod Neat
 pub mod RunAt
+pub mod ChangedItems
+pub mod CombinedSketches
+pub mod CombinedCovers
+pub mod TraceNodes
+pub mod UnsourcedTrees

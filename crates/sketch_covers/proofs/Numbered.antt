@@ -1,5 +1,5 @@
 -- Outcomes by their numbers in a list that grows at its end.
-use Rattle.cert_forest.specs.declared.node.TheConstants.{NEAR_RUNS}
+use Rattle.cert_forest.specs.NodeConstants.{NEAR_RUNS}
 use Rattle.sketch_covers.proofs.Vocabulary.{lit<, ◌≡◌, ℕ, zero, suc, ◌+◌, ◌<◌, ◌≤◌, List, [], ◌∷◌, ◌++◌, Some, Contains, slice_get, get_or, length, refl, sym, ap, ◌∙◌, subst, inl, inr, arith}
 use Rattle.sketch_covers.proofs.Vocabulary.{length-append, get_or_push, same_Some, slice_get_within, slice_get-get_or, get_or_from_slice_get, unwrap_or-slice_get, ◌^◌, AllZip, insert, cases_lt}
 use Rattle.sketch_covers.proofs.Vocabulary.{length-insert, Outcome, Label, OutcomeIndex, HasNumber, KeepsNumbers, IsInOrder, place_in, Ascend, BelongsAt, none_here, first_or_later}

@@ -11,8 +11,8 @@ use Rattle.sketches.specs.Known.{HasNoCycle}
 use Rattle.sketches.specs.Sizes.{choice_count, most_choices}
 use Rattle.cert_forest.specs.Trees.{Cover, Value, Source, Order, Cycle, Known, Covers, NoCover, MoreCovers, covers_of}
 use Rattle.cert_forest.specs.Limits.{cover_depth, covers_depth, HasNumbers, HaveNumbers}
-use Rattle.cert_forest.specs.declared.node.Node.{Node}
-use Rattle.cert_forest.specs.declared.node.Node.TheVariants as node
+use Rattle.cert_forest.specs.Node.{Node}
+use Rattle.cert_forest.specs.Node.TheVariants as node
 use Rattle.cover_judge.specs.CoverTrees.{IsValidCover, AreValidCovers}
 use Rattle.cover_judge.specs.declared.choice.Choice.{Choice}
 use Rattle.cover_judge.specs.Choices.{sketch_with}

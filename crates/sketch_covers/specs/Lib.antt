@@ -4,3 +4,5 @@ pub mod KnownOutcomes
 pub mod Covers
 pub mod Pushing
 pub mod ShownRuns
+pub mod NodeChanges
+pub mod UnsourcedTraces

@@ -3,7 +3,7 @@ use Rattle.std.specs.Prelude.{◌≡◌, Bool, true, false, List, ◌++◌}
 use Rattle.tso_program.specs.declared.outcome.Outcome.{Outcome}
 use Rattle.tso_program.specs.declared.shown.Shown.{Shown}
 use Rattle.sketches.specs.ProgramSketches.{ProgramSketch}
-use Rattle.cert_forest.specs.declared.node.Node.{Node}
+use Rattle.cert_forest.specs.Node.{Node}
 use Rattle.cert_forest.specs.Trees.{Cover}
 use Rattle.cert_forest.specs.Nodes.{spell}
 use Rattle.cover_judge.specs.Judged.{IsValidAt}

@@ -229,6 +229,14 @@ fn node_of(branch: &Branch) -> Node
     }
 }
 
+/// Whether a cycle begins with this node.
 fn is_cycle(node: &Node) -> bool {
-    matches!(node, Node::Cycle { .. })
+    matches!(
+        node,
+        Node::Earlier(..)
+            | Node::EmptyCycle { .. }
+            | Node::LastOne { .. }
+            | Node::LastTwo { .. }
+            | Node::LastThree { .. }
+    )
 }

@@ -1,7 +1,9 @@
 //! Cover trees of sketches in which each read has its value, over lists of outcomes.
 //!
 //! A list is closed, or open for the outcomes of one machine. Where a complete sketch has a new outcome, an
-//! open list takes that of the same choices in its own machine.
+//! open list takes that of the same choices in its own machine. Nodes get other numbers, or the union of the
+//! sequential machine, in place. A tree over the values of a thread is made of bits alone where a read without
+//! a source closes each of its traces.
 //!
 //! Begin with `KnownOutcomes`, `cover_whole` and `known_leaf`. Free to change: which cycle or which known
 //! outcome closes a sketch (`leaf.rt`), and whether a child takes its parent's place (`cover.rt`). Relied on:
@@ -15,14 +17,20 @@ mod cover;
 mod known_outcomes;
 mod leaf;
 mod outcome_index;
+mod renumbering;
 mod run;
 mod same_choices;
 mod same_machine;
+mod sequential_nodes;
 mod stop;
+mod unsourced_trees;
 
 pub use ascending::{copies, place_of};
 pub use cover::cover_whole;
 pub use known_outcomes::KnownOutcomes;
 pub use leaf::known_leaf;
 pub use outcome_index::OutcomeIndex;
+pub use renumbering::renumber;
+pub use sequential_nodes::sequential_node;
 pub use stop::Stop;
+pub use unsourced_trees::push_unsourced;

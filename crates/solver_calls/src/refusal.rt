@@ -2,9 +2,12 @@
 
 use cover_solver::{ForeignFault, SolveFault};
 use gap_sets::CostFault;
+use run_maker::MakeFault;
+use sketches::SketchFault;
 use std::alloc::AllocError;
 use text_calls::TextRefusal;
 use thiserror::Error;
+use tso_machine::ReplayFault;
 
 /// A refusal by the call, or `Gap`, where the program lacks one of the gaps.
 #[derive(Clone, Copy, Debug, Error)]
@@ -17,6 +20,12 @@ pub enum SolverRefusal {
     Text(#[from] TextRefusal),
     #[error("costs {0:?}")]
     Costs(#[from] CostFault),
+    #[error("sketch {0:?}")]
+    Sketch(#[from] SketchFault),
+    #[error("make {0:?}")]
+    Make(#[from] MakeFault),
+    #[error("replay {0:?}")]
+    Replay(#[from] ReplayFault),
     #[error("solve {0:?}")]
     Solve(#[from] SolveFault),
     #[error("foreign {0:?}")]

@@ -5,7 +5,7 @@ use crate::refusal::Refusal;
 use hunt_calls::{push_exchanged, push_of_hunt};
 use litmus_text::{Litmus, read_litmus};
 use place_calls::push_of_place;
-use solver_calls::{options, push_of_solver, table_of};
+use solver_calls::{options, push_of_solver, push_sketch, table_of};
 use std::alloc::{AllocError, Global};
 use std::sync::Wait;
 use std::thread::Threads;
@@ -58,6 +58,17 @@ fn push_read(
     Ok(push_of_litmus(alloc, call, words, &litmus, printed)?)
 }
 
+/// What a sketch of the program of a litmus text answers at each step of a script.
+fn push_steps(
+    alloc: Global,
+    words: &[&[u8]],
+    text: &[u8],
+    printed: &mut String,
+) -> Result<(), Refusal> {
+    let litmus = read_litmus(alloc, text)?;
+    Ok(push_sketch(alloc, words, &litmus.program, printed)?)
+}
+
 /// The answer to a call.
 fn push_of_call<R: Threads + Wait + Sync>(
     rt: &R,
@@ -70,6 +81,7 @@ fn push_of_call<R: Threads + Wait + Sync>(
     match call {
         Call::Text(call) => Ok(push_of_text(alloc, call, words, text, printed)?),
         Call::Litmus(call) => push_read(alloc, call, words, text, printed),
+        Call::Sketch => push_steps(alloc, words, text, printed),
         Call::Table(call) => push_of_table(rt, alloc, call, words, text, printed),
         Call::Exchange => Ok(push_exchanged(rt, alloc, words, text, printed)?),
     }

@@ -10,6 +10,7 @@ use text_calls::{LitmusCall, TextCall};
 pub enum Call {
     Text(TextCall),
     Litmus(LitmusCall),
+    Sketch,
     Table(TableCall),
     Exchange,
 }
@@ -43,7 +44,7 @@ pub const CALLS: [(&[u8], Call); 38] = [
     (b"outcomes", Call::Text(TextCall::Outcomes)),
     (b"replay", Call::Litmus(LitmusCall::Replay)),
     (b"run", Call::Text(TextCall::Run)),
-    (b"sketch", Call::Litmus(LitmusCall::Sketch)),
+    (b"sketch", Call::Sketch),
     (b"certificate", Call::Text(TextCall::Certificate)),
     (b"check", Call::Text(TextCall::Check)),
     (b"exchange", Call::Exchange),

@@ -3,8 +3,7 @@
 use crate::calls::{LitmusCall, TextCall};
 use crate::refusal::TextRefusal;
 use crate::{
-    certificates, fences, formulas, machines, observations, programs, sets, sketch_steps, syntax,
-    texts, tokens,
+    certificates, fences, formulas, machines, observations, programs, sets, syntax, texts, tokens,
 };
 use litmus_text::Litmus;
 use std::alloc::Global;
@@ -27,7 +26,6 @@ pub fn push_of_litmus(
         LitmusCall::Copy => programs::push_copy(program, printed),
         LitmusCall::Action => programs::push_action(words, program, printed),
         LitmusCall::Replay => machines::push_replayed(alloc, words, program, printed),
-        LitmusCall::Sketch => sketch_steps::push_sketch(alloc, words, program, printed),
     }
 }
 

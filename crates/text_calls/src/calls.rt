@@ -30,5 +30,4 @@ pub enum LitmusCall {
     Copy,
     Action,
     Replay,
-    Sketch,
 }

@@ -5,8 +5,6 @@ use conditions::FormulaFault;
 use gap_sets::CostFault;
 use litmus_syntax::SyntaxFault;
 use litmus_text::ReadFault;
-use run_maker::MakeFault;
-use sketches::SketchFault;
 use std::alloc::AllocError;
 use thiserror::Error;
 use tso_machine::{ReplayFault, RunFault};
@@ -29,10 +27,6 @@ pub enum TextRefusal {
     Run(#[from] RunFault),
     #[error("replay {0:?}")]
     Replay(#[from] ReplayFault),
-    #[error("sketch {0:?}")]
-    Sketch(#[from] SketchFault),
-    #[error("make {0:?}")]
-    Make(#[from] MakeFault),
     #[error("formula {0:?}")]
     Formula(#[from] FormulaFault),
     #[error("syntax {0:?}")]

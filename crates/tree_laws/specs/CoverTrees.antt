@@ -12,7 +12,7 @@ use Rattle.candidate_executions.specs.Events.{ComesBefore}
 use Rattle.candidate_executions.specs.Values.{IsValueOf}
 use Rattle.candidate_executions.specs.Candidates.{Candidate, access_by, HasShownOutcome}
 use Rattle.candidate_executions.specs.Sketches.{Sketch, given_to, IsConsistentCompletion, IsSourceOf, IsPair, with_value, with_source, with_pair, next_read, IsWhole, MustEndAs, IsKnownCycle}
-use Rattle.cert_forest.specs.declared.tree.AccessId.{AccessId}
+use Rattle.cert_forest.specs.AccessId.{AccessId}
 use Rattle.cert_forest.specs.Trees.{Cover, Value, Source, Order, Cycle, Known, Covers, NoCover, MoreCovers}
 
 abbrev pub event_of : AccessId → Event

@@ -1,5 +1,4 @@
-use Rattle.cert_forest.proofs.Vocabulary.{◌≡◌, ◌++◌, List, sym, ap, ◌∙◌, GapNode, spell_gap, gap_line_at}
-use Rattle.cert_forest.proofs.GapNodeLaws.{is_gap_tree, same_gap}
+use Rattle.cert_forest.proofs.Vocabulary.{◌≡◌, ◌++◌, List, sym, ap, ◌∙◌, GapNode, spell_gap, gap_line_at, is_gap_tree, same_gap}
 use Rattle.cert_forest.proofs.gap_tree.gap_line.Goals as goal
 
 pub of_nodes-requires : goal.of_nodes-requires

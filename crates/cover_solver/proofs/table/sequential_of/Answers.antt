@@ -1,6 +1,6 @@
 use Rattle.cover_solver.proofs.Vocabulary.{List, ℕ, map, ◌∙◌, ap, arc_value, place_in, renumbered, items_of, renumbered_item}
 use Rattle.cert_forest.proofs.NodeLaws.{is_tree, same_tree}
-use Rattle.partial_covers.specs.NodeChanges.{renumbered_node}
+use Rattle.sketch_covers.specs.NodeChanges.{renumbered_node}
 use Rattle.partial_covers.proofs.PartialRenumbered.{table_renumbered, tree_renumbered}
 use Rattle.cover_solver.proofs.Tables.{table_of}
 use Rattle.cover_solver.proofs.table.sequential_of.Goals as goal

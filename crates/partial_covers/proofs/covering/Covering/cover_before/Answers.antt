@@ -1,5 +1,6 @@
 use Rattle.partial_covers.proofs.Vocabulary.{subst, ProgramSketch, with_root, traces, Covers}
-use Rattle.partial_covers.proofs.{CombinedCovers.at_its_start, CombinedCovers.rest_of, PartialNodes.on_ok}
+use Rattle.sketch_covers.proofs.{CombinedCovers.at_its_start, CombinedCovers.rest_of}
+use Rattle.partial_covers.proofs.{PartialNodes.on_ok}
 use Rattle.partial_covers.proofs.covering.Covering.cover_before.Goals as goal
 
 pub cover_pair-requires-clause-pair : goal.cover_pair-requires-clause-pair

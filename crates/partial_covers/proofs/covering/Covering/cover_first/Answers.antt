@@ -1,5 +1,5 @@
 use Rattle.partial_covers.proofs.Vocabulary.{Option, subst, MatchOption, IsWhole, mode_in, Plan, IsLast}
-use Rattle.partial_covers.proofs.CombinedCovers.{before_first}
+use Rattle.sketch_covers.proofs.CombinedCovers.{before_first}
 use Rattle.partial_covers.proofs.covering.Covering.cover_first.Goals as goal
 
 pub cover_values-requires-clause-before : goal.cover_values-requires-clause-before

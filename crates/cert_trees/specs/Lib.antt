@@ -1,0 +1,9 @@
+pub mod Trees
+pub mod Spelling
+pub mod Nodes
+pub mod GapNodes
+pub mod CoverCodes
+pub mod GapCodes
+pub mod Walks
+pub mod Laws
+pub mod Internal

@@ -1,0 +1,64 @@
+//! Trees over the values of the last thread where a read without a source closes each full trace.
+ghost use Rattle.std.specs.Prelude.{IsTrue, IfOk, OnOk};
+ghost use Rattle.sketch_covers.specs.Pushing.{Begins};
+ghost use Rattle.branching.specs.Traces.{Full, traces, IsTraceTree, IsFullTrace};
+ghost use Rattle.sketch_covers.specs.UnsourcedTraces.{Closes};
+
+use branching::{FullTrace, Tally, TraceTree};
+use cert_forest::Node;
+use std::alloc::AllocError;
+
+/// Puts the tree over the values of thread t after the other nodes, and answers that it did; or that a full trace has no
+/// read without a source, and some nodes are there. The other threads read and write what the tally of them says.
+#[cycle(push_unsourced)]
+pub fn push_unsourced(
+    nodes: &mut Vec<Node>,
+    others: &Tally,
+    t: u8,
+    tree: &TraceTree,
+) -> Result<bool, AllocError>
+    requires { IsTraceTree t (traces tree.now) }
+    ensures closes { IfOk result (λ all. IsTrue all → Closes t others.now (traces tree.now) nodes.old.items nodes.new.items) }
+    ensures begins { OnOk result (Begins nodes.old.items nodes.new.items) }
+{
+    match tree {
+        TraceTree::Read {
+            sketch,
+            choices,
+            after,
+        } => {
+            sketch.recall_facts();
+            let count = choices.len() as u32;
+            nodes.push(Node::Value { thread: t, count })?;
+            for next in after {
+                if !push_unsourced(nodes, others, t, next)? {
+                    return Ok(false);
+                }
+            }
+            Ok(true)
+        }
+        TraceTree::Full(trace) => push_leaf(nodes, others, t, trace),
+    }
+}
+
+/// The same of a full trace.
+fn push_leaf(
+    nodes: &mut Vec<Node>,
+    others: &Tally,
+    _t: u8,
+    trace: &FullTrace,
+) -> Result<bool, AllocError>
+    requires { IsFullTrace _t trace.now }
+    ensures closes { IfOk result (λ all. IsTrue all → Closes _t others.now (Full trace.now) nodes.old.items nodes.new.items) }
+    ensures begins { OnOk result (Begins nodes.old.items nodes.new.items) }
+{
+    // For the proof alone, as above.
+    trace.sketch.recall_facts();
+    match trace.tally.lacking(others) {
+        Some(read) => {
+            nodes.push(Node::Source { read, count: 0 })?;
+            Ok(true)
+        }
+        None => Ok(false),
+    }
+}
