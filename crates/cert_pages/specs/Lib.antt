@@ -1,3 +1,4 @@
 pub mod NodeWords
 pub mod Drafts
 pub mod Parts
+pub mod CertificateLines

@@ -7,7 +7,7 @@ ghost use Rattle.cert_words.specs.Lines.{texts_of, spaced, line};
 ghost use Rattle.cert_forest.specs.Texts.{head_lines, cover_words, gap_words, labels_line, runs_lines, certificate_text};
 ghost use Rattle.cert_pages.specs.NodeWords.{node_words, gap_node_words};
 ghost use Rattle.cert_pages.specs.Drafts.{draft_text};
-ghost use Rattle.cert_pages.specs.Parts.{trees_text};
+ghost use Rattle.cert_pages.specs.CertificateLines.{lines_text, words_line, words_text};
 
 use crate::draft::Draft;
 use crate::parts::pages_ahead;
@@ -98,28 +98,44 @@ fn write_set(out: &mut Draft, set: GapSet, cost: u64) -> Result<(), AllocError>
     out.turn()
 }
 
-/// The words of a tree, which may be written already.
-fn write_tree(out: &mut Draft, tree: &CoverTree, ahead: Option<Pages>) -> Result<(), AllocError>
-    requires { IfSome ahead (λ words. words ≡ trees_text (tree.now ∷ [])) }
-    ensures { OnOk result (draft_text out.new ≡ draft_text out.old ++ texts_of spaced (cover_words tree.now)) }
+/// The words of a tree, or the tree while they are still to be written.
+#[derive(Drop)]
+enum TreeWords {
+    Written(Pages),
+    Unwritten(CoverTree),
+}
+
+/// The words of a tree, which threads write where it is long. A tree whose words are written is let go.
+fn words_of<R: Threads + Sync>(
+    rt: &R,
+    alloc: Global,
+    threads: usize,
+    tree: CoverTree,
+) -> Result<TreeWords, AllocError>
+    requires { 0 < threads }
+    ensures { IfOk result (λ words. words_text words ≡ texts_of spaced (cover_words tree)) }
 {
-    match ahead {
-        Some(words) => out.append(words),
-        None => write_cover(out, tree),
+    match pages_ahead(rt, alloc, threads, &tree)? {
+        Some(words) => Ok(TreeWords::Written(words)),
+        None => Ok(TreeWords::Unwritten(tree)),
     }
 }
 
-fn write_cover_line(
-    out: &mut Draft,
-    name: &str,
-    tree: &CoverTree,
-    ahead: Option<Pages>,
-) -> Result<(), AllocError>
-    requires { IfSome ahead (λ words. words ≡ trees_text (tree.now ∷ [])) }
-    ensures { OnOk result (draft_text out.new ≡ draft_text out.old ++ line name.now (cover_words tree.now)) }
+/// Writes the words of a tree. The tree is let go.
+fn write_words(out: &mut Draft, words: TreeWords) -> Result<(), AllocError>
+    ensures { OnOk result (draft_text out.new ≡ draft_text out.old ++ words_text words) }
+{
+    match words {
+        TreeWords::Written(words) => out.append(words),
+        TreeWords::Unwritten(tree) => write_cover(out, &tree),
+    }
+}
+
+fn write_cover_line(out: &mut Draft, name: &str, words: TreeWords) -> Result<(), AllocError>
+    ensures { OnOk result (draft_text out.new ≡ draft_text out.old ++ words_line name.now words) }
 {
     out.push_str(name)?;
-    write_tree(out, tree, ahead)?;
+    write_words(out, words)?;
     out.push_str("\n")
 }
 
@@ -139,49 +155,100 @@ fn write_head(out: &mut Draft, shown: &Shows) -> Result<(), AllocError>
     out.turn()
 }
 
-/// The text of a certificate, of whose two cover trees the words may be written already.
-fn write_certificate(
-    out: &mut Draft,
-    certificate: &Certificate,
-    seq: Option<Pages>,
-    fenced: Option<Pages>,
-) -> Result<(), AllocError>
-    requires seq { IfSome seq (λ words. words ≡ trees_text (certificate.now.seq_tree ∷ [])) }
-    requires fenced { IfSome fenced (λ words. words ≡ trees_text (certificate.now.fenced_tree ∷ [])) }
-    ensures { OnOk result (draft_text out.new ≡ draft_text out.old ++ certificate_text certificate.now) }
+/// What a certificate's lines are made of: the words of its cover trees may be written already.
+#[derive(Drop)]
+struct Lines {
+    shown: Shows,
+    set: GapSet,
+    cost: u64,
+    seq_runs: Runs,
+    seq_words: TreeWords,
+    runs: Runs,
+    fenced_words: TreeWords,
+    gap_tree: GapTree,
+}
+
+/// Writes the lines. Each cover tree is let go once its words are written.
+fn write_lines(out: &mut Draft, lines: Lines) -> Result<(), AllocError>
+    ensures { OnOk result (draft_text out.new ≡ draft_text out.old ++ lines_text lines) }
 {
-    write_head(out, &certificate.shown)?;
-    write_set(out, certificate.set, certificate.cost)?;
-    write_runs(out, "seq", &certificate.seq_runs)?;
-    write_cover_line(out, "tree", &certificate.seq_tree, seq)?;
-    write_runs(out, "runs", &certificate.runs)?;
-    write_cover_line(out, "fenced", &certificate.fenced_tree, fenced)?;
-    write_gap_line(out, &certificate.gap_tree)
+    let Lines {
+        shown,
+        set,
+        cost,
+        seq_runs,
+        seq_words,
+        runs,
+        fenced_words,
+        gap_tree,
+    } = lines;
+    write_head(out, &shown)?;
+    write_set(out, set, cost)?;
+    write_runs(out, "seq", &seq_runs)?;
+    write_cover_line(out, "tree", seq_words)?;
+    write_runs(out, "runs", &runs)?;
+    write_cover_line(out, "fenced", fenced_words)?;
+    write_gap_line(out, &gap_tree)
+}
+
+/// The text of the lines.
+fn pages_of(alloc: Global, lines: Lines) -> Result<Pages, AllocError>
+    ensures { IfOk result (λ text. text ≡ lines_text lines) }
+{
+    let mut out = Draft::new(alloc);
+    write_lines(&mut out, lines)?;
+    out.into_pages()
 }
 
 /// The certificate's text, beyond the limits of what is read too: `read_cert` reads the text of a certificate within
-/// them. At most so many threads write it.
+/// them. At most so many threads write it. Each cover tree is let go once its words are written.
 pub fn write_pages<R: Threads + Sync>(
     rt: &R,
     alloc: Global,
     threads: usize,
-    certificate: &Certificate,
+    certificate: Certificate,
 ) -> Result<Pages, AllocError>
     requires { 0 < threads }
-    ensures { IfOk result (λ text. text ≡ certificate_text certificate.now) }
+    ensures { IfOk result (λ text. text ≡ certificate_text certificate) }
 {
-    let seq = pages_ahead(rt, alloc, threads, &certificate.seq_tree)?;
-    let fenced = pages_ahead(rt, alloc, threads, &certificate.fenced_tree)?;
-    let mut out = Draft::new(alloc);
-    write_certificate(&mut out, certificate, seq, fenced)?;
-    out.into_pages()
+    let Certificate {
+        shown,
+        set,
+        cost,
+        seq_runs,
+        seq_tree,
+        runs,
+        fenced_tree,
+        gap_tree,
+    } = certificate;
+    let seq_words = words_of(rt, alloc, threads, seq_tree)?;
+    let fenced_words = words_of(rt, alloc, threads, fenced_tree)?;
+    let lines = Lines {
+        shown,
+        set,
+        cost,
+        seq_runs,
+        seq_words,
+        runs,
+        fenced_words,
+        gap_tree,
+    };
+    pages_of(alloc, lines)
 }
 
 /// The same in one block, and in this thread.
-pub fn write_cert(alloc: Global, certificate: &Certificate) -> Result<Vec<u8>, AllocError>
-    ensures { IfOk result (λ text. text.items ≡ certificate_text certificate.now) }
+pub fn write_cert(alloc: Global, certificate: Certificate) -> Result<Vec<u8>, AllocError>
+    ensures { IfOk result (λ text. text.items ≡ certificate_text certificate) }
 {
-    let mut out = Draft::new(alloc);
-    write_certificate(&mut out, certificate, None, None)?;
-    out.into_pages()?.joined(alloc)
+    let lines = Lines {
+        shown: certificate.shown,
+        set: certificate.set,
+        cost: certificate.cost,
+        seq_runs: certificate.seq_runs,
+        seq_words: TreeWords::Unwritten(certificate.seq_tree),
+        runs: certificate.runs,
+        fenced_words: TreeWords::Unwritten(certificate.fenced_tree),
+        gap_tree: certificate.gap_tree,
+    };
+    pages_of(alloc, lines)?.joined(alloc)
 }

@@ -14,12 +14,11 @@ use Rattle.litmus_text.specs.GivenCosts.{AreGiven}
 use Rattle.documents.specs.Documents.{IsPlacedDocument}
 use Rattle.cert_forest.specs.Certificates.{Certificate}
 use Rattle.cert_forest.specs.Limits.{IsCertificate}
-use Rattle.cert_forest.specs.Texts.{certificate_text}
 use Rattle.cover_solver.specs.Certificates.{IsValidCertificate}
 use Rattle.report.specs.Answers.{answer_line}
 use Rattle.fence_place.specs.Placements.{IsPlacement}
-use Rattle.fence_place.specs.declared.placing.Placed.{Placed}
 use Rattle.placed_text.specs.declared.placing.PlacedSource.{PlacedSource}
+use Rattle.placed_text.specs.declared.writing.CertifiedSet.{CertifiedSet}
 use Rattle.placed_text.specs.declared.writing.PlacedText.{PlacedText}
 use Rattle.litmus_text.specs.Shown.{shown_as, question_of}
 
@@ -58,10 +57,10 @@ pub record IsPlacedSource (litmus : List ℕ) (costs : Option (List ℕ)) (kind 
   pub placement : IsPlacement (asked placed.source.program placed.shown) placed.costs placed.found.placed
 
 -- the texts of what is placed
-pub record AreWrittenTexts (source : Litmus Listing) (shown : Shown) (costs : List ℕ) (placed : Placed) (texts : PlacedText) : Type 0 where
+pub record AreWrittenTexts (source : Litmus Listing) (shown : Shown) (costs : List ℕ) (placed : CertifiedSet) (texts : PlacedText) : Type 0 where
   pub program : texts.program.items ≡ canonical_text (litmus_fenced_at placed.set source)
   pub again : (text : List ℕ) → IsLitmus text source → IsFencedLitmus texts.program.items (litmus_fenced_at placed.set source)
   pub line : texts.answer.items ≡ answer_line source.program shown placed.set placed.cost
-  pub certificate : texts.certificate ≡ certificate_text placed.certificate
+  pub certificate : texts.certificate ≡ placed.certificate
   pub document : IsPlacedDocument source shown costs placed.set texts.program.items texts.document.items
   pub set : texts.gaps ≡ placed.set

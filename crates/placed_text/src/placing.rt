@@ -11,7 +11,7 @@ use crate::TextFault;
 use crate::ahead::report_ahead;
 use crate::reading::{read_gap_costs, read_program, shown_of};
 use crate::watched::{Effort, Watched, report_outcomes};
-use crate::writing::{PlacedText, write_placed};
+use crate::writing::{CertifiedSet, PlacedText, write_placed};
 use cert_pages::write_pages;
 use cover_solver::{SolveFault, Solver, sequential_watched};
 use fence_place::{PlaceFault, Placed, place};
@@ -138,11 +138,21 @@ pub fn place_text<R: Threads + Wait + Sync>(
     // What the solver keeps is as large as a tree of the certificate: it goes before the text is made.
     let Found { placed, solver } = found;
     drop(solver);
+    let Placed {
+        set,
+        cost,
+        certificate,
+    } = placed;
     let threads = usize::from(effort.workers.max(1));
-    let Ok(certificate) = write_pages(rt, alloc, threads, &placed.certificate) else {
+    let Ok(certificate) = write_pages(rt, alloc, threads, certificate) else {
         return Err(TextFault::OutOfMemory);
     };
-    match write_placed(alloc, &source, &shown, &costs, &placed, certificate) {
+    let certified = CertifiedSet {
+        set,
+        cost,
+        certificate,
+    };
+    match write_placed(alloc, &source, &shown, &costs, certified) {
         Ok(texts) => Ok(texts),
         Err(_) => Err(TextFault::OutOfMemory),
     }

@@ -1,11 +1,9 @@
 //! The texts of what is placed.
 ghost use Rattle.std.specs.Prelude.{◌≡◌, None, IfOk};
 ghost use Rattle.tso_program.specs.Fences.{first_missing};
-ghost use Rattle.cert_forest.specs.Texts.{certificate_text};
 ghost use Rattle.placed_text.specs.PlacedTexts.{AreWrittenTexts};
 
 use documents::placed_document;
-use fence_place::Placed;
 use gap_sets::{Costs, GapSet};
 use litmus_text::{Litmus, write_litmus};
 use paged_text::Pages;
@@ -28,30 +26,41 @@ pub struct PlacedText {
     pub gaps: GapSet,
 }
 
+/// The gaps that are the answer, their cost, and the text of a certificate of them.
+#[derive(Drop)]
+pub(crate) struct CertifiedSet {
+    pub(crate) set: GapSet,
+    pub(crate) cost: u64,
+    pub(crate) certificate: Pages,
+}
+
 /// Writes what is placed, where the text of its certificate is there.
 pub(crate) fn write_placed(
     alloc: Global,
     litmus: &Litmus<Program>,
     shown: &Shown,
     costs: &Costs,
-    placed: &Placed,
-    certificate: Pages,
+    certified: CertifiedSet,
 ) -> Result<PlacedText, AllocError>
-    requires certificate { certificate ≡ certificate_text placed.now.certificate }
-    requires gaps { first_missing litmus.now.program placed.now.set ≡ None }
-    ensures { IfOk result (AreWrittenTexts litmus.now shown.now costs.now placed.now) }
+    requires { first_missing litmus.now.program certified.set ≡ None }
+    ensures { IfOk result (AreWrittenTexts litmus.now shown.now costs.now certified) }
 {
-    let program = match write_litmus(alloc, litmus, &placed.set) {
+    let CertifiedSet {
+        set,
+        cost,
+        certificate,
+    } = certified;
+    let program = match write_litmus(alloc, litmus, &set) {
         Ok(program) => program,
         Err(FenceFault::NoSuchGap(_)) => unreachable!(),
         Err(FenceFault::OutOfMemory) => return Err(AllocError),
     };
-    let document = placed_document(alloc, litmus, shown, costs, &placed.set, &program)?;
+    let document = placed_document(alloc, litmus, shown, costs, &set, &program)?;
     Ok(PlacedText {
         program,
-        answer: answer_line(alloc, &litmus.program, shown, placed.set, placed.cost)?,
+        answer: answer_line(alloc, &litmus.program, shown, set, cost)?,
         certificate,
         document,
-        gaps: placed.set,
+        gaps: set,
     })
 }

@@ -20,10 +20,10 @@ fn copy_trees(certificate: &mut Certificate) -> Result<(), AllocError> {
 
 fn push_written(
     alloc: Global,
-    certificate: &mut Certificate,
+    mut certificate: Certificate,
     printed: &mut String,
 ) -> Result<(), AllocError> {
-    copy_trees(certificate)?;
+    copy_trees(&mut certificate)?;
     push_bytes(printed, &write_cert(alloc, certificate)?)
 }
 
@@ -33,8 +33,8 @@ pub fn push_certificate(
     text: &[u8],
     printed: &mut String,
 ) -> Result<(), TextRefusal> {
-    let mut certificate = read_cert(alloc, text)?;
-    Ok(push_written(alloc, &mut certificate, printed)?)
+    let certificate = read_cert(alloc, text)?;
+    Ok(push_written(alloc, certificate, printed)?)
 }
 
 /// The litmus text and the certificate of a text; the first word `FENCECERT` begins the latter.
