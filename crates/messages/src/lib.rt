@@ -18,6 +18,7 @@ mod message;
 mod refusals;
 mod rules;
 mod source;
+mod text_end;
 mod tokens;
 
 pub use certificates::{certificate_message, check_message};

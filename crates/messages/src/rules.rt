@@ -136,9 +136,16 @@ const NUMBER: &str = "\
 # # is no number; these are decimal digits alone
 ";
 
-/// The end of the text.
+/// The end of the text. Its kind says in what it is.
 const ENDED: &str = "\
 # <unfinished> # begins what does not end: a comment, `/\\` or `\\/`
+# <in_values> # ends in its initial values: `}` is missing
+= # # ends after `=`: a number is missing
+exists forall not ~ ( /\\ \\/ # # ends in its condition: a formula is missing, as `0:EAX=1`
+# <in_parentheses> # ends in its condition: `)` is missing
+# <in_condition> # ends in its condition: `=` and a number are missing
+} # # ends before its threads: a row as `P0 | P1 ;` is missing
 ; # # ends without a condition: `exists`, `~exists` or `forall`, and a formula
+# <in_rows> # ends in a row: `;` is missing
 # # ends here, and more is needed
 ";

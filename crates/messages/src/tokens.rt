@@ -1,6 +1,7 @@
 //! Tokens of a litmus text, as they lie in it.
 
 use crate::source::{continues_character, from};
+use crate::text_end::end_kind;
 use litmus_syntax::{Part, Refusal};
 use text_tokens::{
     Bad, Token, after_space, are_digits, digits_len, is_white_space, is_word_byte, line_spaces_len,
@@ -39,7 +40,10 @@ pub(crate) fn spot_of<'t>(
         word,
         shown,
         before: token_before(text, tokens, index),
-        kind: kind_of(tokens.get(index), word, shown),
+        kind: match tokens.get(index) {
+            Some(token) => kind_of(token, word, shown),
+            None => end_kind(tokens),
+        },
     }
 }
 
@@ -137,16 +141,15 @@ fn character_len(text: &[u8]) -> usize {
     later.saturating_add(1)
 }
 
-fn kind_of(token: Option<&Token>, word: &[u8], shown: &[u8]) -> &'static [u8] {
+fn kind_of(token: &Token, word: &[u8], shown: &[u8]) -> &'static [u8] {
     match token {
-        None => b"<end>",
-        Some(Token::Word(_)) => word_kind(word, shown),
-        Some(Token::Number(_)) => b"<number>",
-        Some(Token::Mark(_)) => b"<mark>",
-        Some(Token::Bad(Bad::Number)) => number_kind(word),
-        Some(Token::Bad(Bad::Minus)) => b"<negative>",
-        Some(Token::Bad(Bad::Unfinished)) => b"<unfinished>",
-        Some(Token::Bad(Bad::Stray)) => b"<stray>",
+        Token::Word(_) => word_kind(word, shown),
+        Token::Number(_) => b"<number>",
+        Token::Mark(_) => b"<mark>",
+        Token::Bad(Bad::Number) => number_kind(word),
+        Token::Bad(Bad::Minus) => b"<negative>",
+        Token::Bad(Bad::Unfinished) => b"<unfinished>",
+        Token::Bad(Bad::Stray) => b"<stray>",
     }
 }
 
