@@ -1,7 +1,7 @@
 """Checks a crate with edits in it: the functions that they change and those that these call, and then, where these pass, the whole crate.
 
-A function that the prover refuses in such a check it refuses in a check of the whole crate too. An edit outside `src/` has the check of the whole crate
-alone. The crate must be proved as it stands, and the libraries below it must be built: `rt ci` does both.
+A function that the prover refuses in such a check it refuses in a check of the whole crate too. An edit outside `src/`, or of a contract, has the check
+of the whole crate alone. The crate must be proved as it stands, and the libraries below it must be built: `rt ci` does both.
 
 A proof of a function rests on the contracts of those that it calls and not on their bodies. So edits of several functions are checked together: each is
 refused by what the prover says of its own function. One of which it says less is checked once more, with fewer beside it or alone.
@@ -22,6 +22,7 @@ NAMES_WHAT_WENT = re.compile(r"(note: )?(\./)?proofs/.*(has no field|is not in s
 LIMIT = re.compile(r"antt ran out of (stack|the (steps|memory) that the check of one declaration may (take|use))|(outgrew the memory limit|stopped at the step limit) \(")
 STALE = re.compile(r"module .Rattle-\w+-.*Run the lower steps again")
 ONLY = re.compile(r"only=(\d+) proved=(\d+)")
+CONTRACT = re.compile(r"\s*(ensures|requires|ghost)\b")
 
 
 def type_of(line):
@@ -44,12 +45,18 @@ def path_around(file, text, at):
     return f"{owner}::{head[2]}" if owner else module[:-2]
 
 
+def body_around(file, text, old, new):
+    """The end of the path of the function in whose body an edit makes another text of an old one; no text where it is elsewhere, or of a contract."""
+    if not file.startswith("src/") or old not in text:
+        return ""
+    at = text.index(old)
+    lines = text[text.rfind("\n", 0, at) + 1:text.index("\n", at)], new
+    return "" if any(map(CONTRACT.match, lines)) else path_around(file, text, at)
+
+
 def paths_of(crate, pairs):
-    """The functions that an edit changes, or none where a part of it lies outside all functions."""
-    paths = set()
-    for file, old, _ in pairs:
-        text = edit_texts.read_text(os.path.join(crate, file))
-        paths.add(path_around(file, text, text.index(old)) if file.startswith("src/") and old in text else "")
+    """The functions whose bodies an edit changes, or none where a part of it is elsewhere."""
+    paths = {body_around(file, edit_texts.read_text(os.path.join(crate, file)), old, new) for file, old, new in pairs}
     return [] if "" in paths else sorted(paths)
 
 

@@ -6,13 +6,14 @@ ghost use Rattle.branching.specs.OpenChoices.{IsOpen, IsBranch, AreChoicesOf};
 ghost use Rattle.branching.specs.Accesses.{AreAccessesOf};
 
 use crate::open_choice::OpenChoice;
+use crate::ordered_outcomes::OrderedOutcomes;
 use crate::preference::preferred;
 use crate::reads_writes::WholeAccesses;
 use cert_trees::AccessId;
 use cover_judge::{Choice, source_choices, value_choices};
 use sketches::Sketch;
 use std::alloc::{AllocError, Global};
-use tso_program::{Outcome, Shown};
+use tso_program::Shown;
 
 /// Something that is left to be chosen, and its choices.
 #[derive(Drop)]
@@ -27,7 +28,7 @@ pub fn next_branch(
     sketch: &Sketch,
     accesses: &WholeAccesses,
     shown: &Shown,
-    outcomes: &[Outcome],
+    outcomes: OrderedOutcomes,
 ) -> Result<Option<Branch>, AllocError>
     requires { AreAccessesOf sketch.now accesses.now }
     ensures { IfOk result (λ branch. MatchOption branch (IsComplete sketch.now) (IsBranch sketch.now)) }

@@ -4,6 +4,7 @@
 //!
 //! An initial write may be the last only where its location has no other.
 
+use crate::ordered_outcomes::OrderedOutcomes;
 use crate::reads_writes::{WholeAccesses, WrittenValue};
 use bit_rows::{ROW_BITS, has_any, joined, minus, with};
 use cover_judge::event_of;
@@ -39,7 +40,7 @@ pub(crate) fn sketch_ends(sketch: &Sketch, shown: &Shown, writes: &[WrittenValue
 pub(crate) fn is_listed_without(
     sketch: &Sketch,
     shown: &Shown,
-    outcomes: &[Outcome],
+    outcomes: OrderedOutcomes,
     accesses: &WholeAccesses,
     known: &SketchEnds,
     except: WrittenValue,
@@ -99,13 +100,16 @@ fn row_of(location: u8) -> u32 {
     with(0, location % ROW_BITS as u8)
 }
 
-/// Whether a list that ascends has the outcome with these ends, and the registers where the threads stop.
-fn is_listed(sketch: &Sketch, shown: &Shown, outcomes: &[Outcome], ends: &Ends) -> bool {
+/// Whether a list has the outcome with these ends, and the registers where the threads stop.
+fn is_listed(sketch: &Sketch, shown: &Shown, outcomes: OrderedOutcomes, ends: &Ends) -> bool {
     let mut low = 0;
-    let mut high = outcomes.len();
+    let mut high = outcomes.count();
     while low < high {
         let middle = low + (high - low) / 2;
-        match compared(sketch, shown, &outcomes[middle], ends) {
+        let Some(outcome) = outcomes.get(middle) else {
+            return false;
+        };
+        match compared(sketch, shown, outcome, ends) {
             Ordering::Less => low = middle + 1,
             Ordering::Equal => return true,
             Ordering::Greater => high = middle,

@@ -12,6 +12,7 @@
 mod branch;
 mod ends;
 mod open_choice;
+mod ordered_outcomes;
 mod plan;
 mod preference;
 mod reads_writes;
@@ -21,6 +22,7 @@ mod traces;
 
 pub use branch::{Branch, choices_of, next_branch};
 pub use open_choice::OpenChoice;
+pub use ordered_outcomes::OrderedOutcomes;
 pub use plan::{LastThread, Plan, ThreadTraces, plan_for};
 pub use reads_writes::{ReadValue, WholeAccesses, WrittenValue, whole_accesses};
 pub use tally::Tally;

@@ -13,11 +13,12 @@ ghost use Rattle.branching.specs.ChoicesLeft.{HasEachSource, IsInOrderWithLater,
 
 use crate::ends::{SketchEnds, is_listed_without, sketch_ends};
 use crate::open_choice::{OpenChoice, needs_order, needs_source};
+use crate::ordered_outcomes::OrderedOutcomes;
 use crate::reads_writes::{ReadValue, WholeAccesses, WrittenValue, gives, gives_at_first};
 use cert_trees::AccessId;
 use cover_judge::{Choice, event_of};
 use sketches::{Event, Sketch};
-use tso_program::{Outcome, Shown};
+use tso_program::Shown;
 
 /// How many children stay open after a choice, how many there are, and whether it is an order: the
 /// least is the best.
@@ -41,7 +42,7 @@ struct OrderRating<'a> {
     sketch: &'a Sketch,
     accesses: &'a WholeAccesses,
     shown: &'a Shown,
-    outcomes: &'a [Outcome],
+    outcomes: OrderedOutcomes<'a>,
     ends: SketchEnds,
 }
 
@@ -51,7 +52,7 @@ pub(crate) fn preferred(
     sketch: &Sketch,
     accesses: &WholeAccesses,
     shown: &Shown,
-    outcomes: &[Outcome],
+    outcomes: OrderedOutcomes,
 ) -> Option<OpenChoice>
     requires { AreAccessesOf sketch.now accesses.now }
     ensures { MatchOption result (IsComplete sketch.now) (IsOpen sketch.now) }
@@ -80,7 +81,7 @@ fn best_of(
     sketch: &Sketch,
     accesses: &WholeAccesses,
     shown: &Shown,
-    outcomes: &[Outcome],
+    outcomes: OrderedOutcomes,
 ) -> Option<OpenChoice>
     requires { AreAccessesOf sketch.now accesses.now }
     ensures { MatchOption result (IsComplete sketch.now) (IsOpen sketch.now) }
@@ -98,7 +99,7 @@ fn or_order(
     sketch: &Sketch,
     accesses: &WholeAccesses,
     shown: &Shown,
-    outcomes: &[Outcome],
+    outcomes: OrderedOutcomes,
     best: Option<RatedChoice>,
 ) -> Option<RatedChoice>
     requires accesses { AreAccessesOf sketch.now accesses.now }

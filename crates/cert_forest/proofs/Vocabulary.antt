@@ -1,16 +1,15 @@
 -- What many proofs of this crate speak of, imported once.
-pub use Rattle.std.proofs.Common.{Bool, Contains, Decides, List, MatchOption, None, Option, Some, [], ap, append_assoc, arith, cond, drop, false, get_or, inl, inr, length, lit<, lit≤, map, refl}
+pub use Rattle.std.proofs.Common.{Bool, Contains, Decides, List, None, Option, Some, [], ap, append_assoc, arith, cond, drop, false, get_or, inl, inr, length, lit<, lit≤, map, refl}
 pub use Rattle.std.proofs.Common.{rules, subst, suc, sym, take, true, zero, ℕ, ◌%◌, ◌&&◌, ◌*◌, ◌++◌, ◌+◌, ◌-◌, ◌/◌, ◌<◌, ◌==◌, ◌^◌, ◌∙◌, ◌∷◌, ◌≡◌, ◌≤◌}
 pub use Rattle.std.proofs.lemmas.Bool.{and_from, and_parts, cases_lt, eqb-true, le-leb, le-ltb, leb-true, lt-ltb, ltb-false, ne_eqb}
 pub use Rattle.std.proofs.lemmas.Bool.Decides.{nat_tests}
 pub use Rattle.std.proofs.lemmas.Fmt.{decimal_digit, digits_decimal}
-pub use Rattle.std.proofs.lemmas.List.{append-nil, drop_at, length-append, length-drop, length-map, map-append, map_push, nil_from_length, take-append-drop, take_all, take_at, take_more}
-pub use Rattle.std.proofs.lemmas.Option.{cond_some, same_Some, slice_get-get_or, slice_get-map}
+pub use Rattle.std.proofs.lemmas.List.{append-nil, drop_at, length-append, length-drop, nil_from_length, take-append-drop, take_all, take_at, take_more}
+pub use Rattle.std.proofs.lemmas.Option.{cond_some, same_Some, slice_get-get_or}
 pub use Rattle.std.proofs.lemmas.Result.{err_from_is_err_and}
 pub use Rattle.std.proofs.lemmas.Slice.Eq.{bytes_eq-Decides, slice_eq-Decides}
 pub use Rattle.std.specs.Fmt.{decimal}
-pub use Rattle.std.specs.Global.{Vec}
-pub use Rattle.std.specs.List.{AllByRecursion, filter, insert, list_all, list_any, prefix_len, range_with_len}
+pub use Rattle.std.specs.List.{AllByRecursion, filter, list_all, list_any, prefix_len, range_with_len}
 pub use Rattle.std.specs.Prelude.{codes, max, nat_eq, nat_le, nat_lt, slice_get}
 pub use Rattle.candidate_executions.specs.declared.event.Kind.{Kind}
 pub use Rattle.cert_trees.proofs.GapNodeLaws.{gaps_count, is_gap_tree, listed_gaps, same_gap}
@@ -43,7 +42,8 @@ pub use Rattle.tso_machine.specs.RunTexts.{IsLabel, label_at, spelling}
 pub use Rattle.tso_machine.specs.declared.label.Label.{Label}
 pub use Rattle.tso_program.specs.Names.{ArePlaces, location_place, register_place}
 pub use Rattle.tso_program.specs.declared.shown.TheConstants.{PLACES, REGISTER_PLACES}
-pub use Rattle.cert_forest.specs.Certificates.{Certificate, labels_of}
+pub use Rattle.cert_forest.specs.Certificates.{Certificate}
+pub use Rattle.cert_forest.specs.FlatRuns.{AreEnds, runs_from}
 pub use Rattle.cert_forest.specs.Internal.Pushing.{PushesCycle, PushesRoot, PushesTree, PushesTrees, children_after, root_nodes}
 pub use Rattle.cert_forest.specs.Internal.Reading.{CycleHead, Head, KnownHead, OrderHead, SourceHead, ValueHead, access_tail, below_at, digit_of, gap_by, gap_number_at, head_by, is_no_stop, kind_of}
 pub use Rattle.cert_forest.specs.Internal.Reading.{or_condition, register_of, shown_location, shown_place, shown_words_at}

@@ -24,6 +24,7 @@ use cert_words::{
 };
 use gap_sets::{GapSet, MAX_GAPS};
 use std::alloc::Global;
+use std::sync::Arc;
 
 /// The greatest number of a gap.
 const LAST_GAP: u64 = MAX_GAPS as u64 - 1;
@@ -154,7 +155,7 @@ fn after_set(
         shown,
         set,
         cost,
-        seq_runs,
+        seq_runs: Arc::new(alloc, seq_runs)?,
         seq_tree,
         runs,
         fenced_tree,

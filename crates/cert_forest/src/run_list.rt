@@ -1,27 +1,29 @@
 //! Lists of runs.
-ghost use Rattle.std.specs.Prelude.{◌≡◌, ◌↔◌, ◌≤◌, ◌<◌, ◌^◌, ◌++◌, ◌∷◌, [], Some, IsTrue, IfOk, OnOk, MatchOption, Contains, length, slice_get};
+ghost use Rattle.std.specs.Prelude.{◌≡◌, ◌↔◌, ◌≤◌, ◌<◌, ◌^◌, ◌++◌, ◌∷◌, [], Some, IsTrue, OnOk, OnErr, MatchOption, Contains, length, get_or, slice_get, slice_range};
 ghost use Rattle.std.specs.List.{insert};
 ghost use Rattle.std.specs.Iterator.{YieldsFirstRef, item_count};
-ghost use Rattle.cert_forest.specs.Certificates.{labels_of};
 
 use std::alloc::{AllocError, Global};
 use std::marker::Model;
 use tso_machine::Label;
 
-/// Runs in order, each by its labels.
+/// Runs in order, each by its labels. They lie flat: the labels of all runs one after another, and where each run ends.
 #[derive(Debug, Drop)]
 pub struct Runs {
-    runs: Vec<Vec<Label>>,
+    labels: Vec<Label>,
+    ends: Vec<usize>,
 }
 
 impl Model for Runs {
-    ghost use Rattle.std.specs.Prelude.{List};
+    ghost use Rattle.std.specs.Prelude.{List, length};
     ghost use Rattle.tso_machine.specs.declared.label.Label.{Label};
-    ghost use Rattle.cert_forest.specs.Certificates.{labels_of};
+    ghost use Rattle.cert_forest.specs.FlatRuns.{runs_from, AreEnds};
 
     ghost Value = { List (List Label) };
 
-    ghost view = { λ r. labels_of r.runs.items };
+    ghost view = { λ r. runs_from 0 r.ends.items r.labels.items };
+
+    ghost invariant = { λ r. AreEnds 0 r.ends.items (length r.labels.items) };
 }
 
 impl Runs {
@@ -30,7 +32,8 @@ impl Runs {
         ensures { result ≡ [] }
     {
         Runs {
-            runs: Vec::new(alloc),
+            labels: Vec::new(alloc),
+            ends: Vec::new(alloc),
         }
     }
 
@@ -39,29 +42,53 @@ impl Runs {
         ensures value { result ≡ length self.now }
         ensures few { length self.now < 2 ^ 64 }
     {
-        self.runs.len()
+        self.ends.len()
     }
 
     /// The labels of the run of this number, from 0.
     pub fn get(&self, number: usize) -> Option<&[Label]>
         ensures { MatchOption result (length self.now ≤ number) (λ labels. slice_get self.now number ≡ Some labels.now) }
     {
-        let run = self.runs.get(number)?;
-        Some(run)
+        match self.ends.get(number) {
+            Some(end) => Some(part(&self.labels, start_of(&self.ends, number), *end)),
+            None => None,
+        }
     }
 
     /// The number of the run with these labels, from 0.
     pub fn position(&self, labels: &[Label]) -> Option<usize>
         ensures { MatchOption result (¬ Contains self.now labels.now) (λ number. slice_get self.now number ≡ Some labels.now) }
     {
-        place_of(&self.runs, labels)
+        for number in 0..self.len() {
+            if self.has_at(number, labels) {
+                return Some(number);
+            }
+        }
+        None
     }
 
-    /// Puts a run after the others.
-    pub fn push(&mut self, labels: Vec<Label>) -> Result<(), AllocError>
-        ensures { OnOk result (self.new ≡ self.old ++ labels.items ∷ []) }
+    /// Whether the run of this number has these labels.
+    fn has_at(&self, number: usize, labels: &[Label]) -> bool
+        requires { number < length self.now }
+        ensures { IsTrue result ↔ (slice_get self.now number ≡ Some labels.now) }
     {
-        self.runs.push(labels)?;
+        match self.get(number) {
+            Some(run) => are_same(run, labels),
+            None => unreachable!(),
+        }
+    }
+
+    /// Puts a run after the others. Where there is no memory for it, the runs stay as they are.
+    pub fn push(&mut self, labels: &[Label]) -> Result<(), AllocError>
+        ensures ok { OnOk result (self.new ≡ self.old ++ labels.now ∷ []) }
+        ensures err { OnErr result (self.new ≡ self.old) }
+    {
+        let start = self.labels.len();
+        self.labels.extend_from_slice(labels)?;
+        if self.ends.push(self.labels.len()).is_err() {
+            self.labels.truncate(start);
+            return Err(AllocError);
+        }
         Ok(())
     }
 
@@ -70,43 +97,70 @@ impl Runs {
         requires { number ≤ length self.old }
         ensures { OnOk result (self.new ≡ insert self.old number labels.items) }
     {
-        self.runs.insert(number, labels)?;
+        let mut runs = Runs::new(*self.labels.allocator());
+        runs.push_part(self, 0, number)?;
+        runs.push(&labels)?;
+        runs.push_part(self, number, self.len())?;
+        *self = runs;
         Ok(())
+    }
+
+    /// Puts those of other runs from this number to before that one after all.
+    fn push_part(&mut self, others: &Runs, from: usize, to: usize) -> Result<(), AllocError>
+        requires ascend { from ≤ to }
+        requires within { to ≤ length others.now }
+        ensures { OnOk result (self.new ≡ self.old ++ slice_range others.now from to) }
+    {
+        for number in from..to {
+            match others.get(number) {
+                Some(run) => self.push(run)?,
+                None => unreachable!(),
+            }
+        }
+        Ok(())
+    }
+
+    /// Gives back the memory that no run takes.
+    pub fn shrink_to_fit(&mut self)
+        ensures { self.new ≡ self.old }
+    {
+        self.labels.shrink_to_fit();
+        self.ends.shrink_to_fit();
     }
 
     /// The labels of each run, in order.
     pub fn iter(&self) -> RunIter<'_>
         ensures { result ≡ self.now }
     {
-        RunIter { left: &self.runs }
-    }
-
-    /// Equal runs.
-    pub fn copy(&self, alloc: Global) -> Result<Runs, AllocError>
-        ensures { IfOk result (λ other. other ≡ self.now) }
-    {
-        let mut copies = Runs::new(alloc);
-        for run in self.iter() {
-            copies.push(Vec::from_slice(alloc, run)?)?;
+        RunIter {
+            labels: &self.labels,
+            start: 0,
+            ends: &self.ends,
         }
-        Ok(copies)
     }
 }
 
 /// The runs that are still to come, in order.
 #[derive(Debug, Drop)]
 pub struct RunIter<'a> {
-    left: &'a [Vec<Label>],
+    /// Those of all runs.
+    labels: &'a [Label],
+    /// Where the next run begins.
+    start: usize,
+    /// Where each run that is still to come ends.
+    ends: &'a [usize],
 }
 
 impl<'a> Model for RunIter<'a> {
-    ghost use Rattle.std.specs.Prelude.{List};
+    ghost use Rattle.std.specs.Prelude.{List, length};
     ghost use Rattle.tso_machine.specs.declared.label.Label.{Label};
-    ghost use Rattle.cert_forest.specs.Certificates.{labels_of};
+    ghost use Rattle.cert_forest.specs.FlatRuns.{runs_from, AreEnds};
 
     ghost Value = { List (List Label) };
 
-    ghost view = { λ i. labels_of i.left.now };
+    ghost view = { λ i. runs_from i.start i.ends.now i.labels.now };
+
+    ghost invariant = { λ i. AreEnds i.start i.ends.now (length i.labels.now) };
 }
 
 impl<'a> Iterator for RunIter<'a> {
@@ -117,9 +171,15 @@ impl<'a> Iterator for RunIter<'a> {
     ghost remaining = { item_count (λ rest. rest) };
 
     fn next(&mut self) -> Option<&'a [Label]> {
-        let (first, others) = self.left.split_first()?;
-        self.left = others;
-        Some(first)
+        match self.ends.split_first() {
+            Some((end, others)) => {
+                let run = part(self.labels, self.start, *end);
+                self.start = *end;
+                self.ends = others;
+                Some(run)
+            }
+            None => None,
+        }
     }
 }
 
@@ -135,16 +195,24 @@ impl<'a> IntoIterator for &'a Runs {
     }
 }
 
-/// The number of the run with these labels, from 0.
-fn place_of(runs: &[Vec<Label>], labels: &[Label]) -> Option<usize>
-    ensures { MatchOption result (¬ Contains (labels_of runs.now) labels.now) (λ number. slice_get (labels_of runs.now) number ≡ Some labels.now) }
+/// Where the run of this number begins.
+fn start_of(ends: &[usize], number: usize) -> usize
+    requires { number ≤ length ends.now }
+    ensures { result ≡ get_or (0 ∷ ends.now) number result }
 {
-    for (number, run) in runs.iter().enumerate() {
-        if are_same(run, labels) {
-            return Some(number);
-        }
+    match number.checked_sub(1) {
+        Some(before) => ends[before],
+        None => 0,
     }
-    None
+}
+
+/// The labels from one place to before another.
+fn part(labels: &[Label], start: usize, end: usize) -> &[Label]
+    requires ascend { start ≤ end }
+    requires within { end ≤ length labels.now }
+    ensures { result.now ≡ slice_range labels.now start end }
+{
+    &labels[start..end]
 }
 
 /// Whether the two are the same steps.

@@ -99,7 +99,7 @@ fn run_lines(alloc: Global, count: u64, bytes: &[u8]) -> Result<(Runs, &[u8]), S
     let mut rest = bytes;
     for _ in 0..count {
         let (run, after) = run(alloc, rest)?;
-        found.push(run)?;
+        found.push(&run)?;
         rest = after;
     }
     Ok((found, rest))

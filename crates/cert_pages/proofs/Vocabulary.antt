@@ -2,7 +2,7 @@
 pub use Rattle.std.proofs.Common.{List, [], ap, append_assoc, arith, drop, get_or, length, map, refl, subst, suc, sym, take, zero, ℕ, ◌++◌, ◌+◌, ◌-◌, ◌<◌, ◌∙◌, ◌∷◌, ◌≡◌, ◌≤◌}
 pub use Rattle.std.proofs.lemmas.List.{append-nil, drop_all, map_more, take_all}
 pub use Rattle.std.specs.Fmt.{decimal}
-pub use Rattle.std.specs.Prelude.{IfSome, Option, Some, codes, slice_index_or, string_bytes}
+pub use Rattle.std.specs.Prelude.{IfSome, Option, Some, codes, slice_index_or}
 pub use Rattle.cert_forest.proofs.ShorterWalks.{next_is_shorter}
 pub use Rattle.cert_forest.proofs.TreeTexts.{cover_text, gap_text, texts_append}
 pub use Rattle.cert_forest.specs.GapNodes.{spell_gaps}

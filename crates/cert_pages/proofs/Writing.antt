@@ -10,16 +10,18 @@ pushed t f xs i d old a b lt so e =
     ∙ ap (λ (w : List ℕ). old ++ (texts_of t (map f (take i xs)) ++ w)) (sym (append-nil (t (f (get_or xs i d)))))
     ∙ ap (λ (w : List ℕ). old ++ w) (sym more)
 
-grouped : (a s k q t r f g b : List ℕ) → ((((((b ++ a) ++ (s ++ k)) ++ q) ++ t) ++ r) ++ f) ++ g ≡ b ++ (a ++ (s ++ (k ++ (q ++ (t ++ (r ++ (f ++ g)))))))
-grouped a s k q t r f g b = simp append_assoc
-
 -- ---- a whole certificate, line by line
 
-pub all_written : (a s k q t r f g b0 b1 b2 b3 b4 b5 b6 b7 : List ℕ) → b1 ≡ b0 ++ a → b2 ≡ b1 ++ (s ++ k) → b3 ≡ b2 ++ q → b4 ≡ b3 ++ t → b5 ≡ b4 ++ r → b6 ≡ b5 ++ f → b7 ≡ b6 ++ g
-    → b7 ≡ b0 ++ (a ++ (s ++ (k ++ (q ++ (t ++ (r ++ (f ++ g)))))))
-all_written a s k q t r f g b0 b1 b2 b3 b4 b5 b6 b7 e1 e2 e3 e4 e5 e6 e7 =
-    e7 ∙ ap (λ (w : List ℕ). w ++ g) (e6 ∙ ap (λ (w : List ℕ). w ++ f) (e5 ∙ ap (λ (w : List ℕ). w ++ r) (e4 ∙ ap (λ (w : List ℕ). w ++ t) (e3 ∙ ap (λ (w : List ℕ). w ++ q) (e2 ∙ ap (λ (w : List ℕ). w ++ (s ++ k)) e1)))))
-    ∙ grouped a s k q t r f g b0
+pub front_written : (a s k q b0 b1 b2 b3 : List ℕ) → b1 ≡ b0 ++ a → b2 ≡ b1 ++ (s ++ k) → b3 ≡ b2 ++ q → b3 ≡ b0 ++ (a ++ (s ++ (k ++ q)))
+front_written a s k q b0 b1 b2 b3 e1 e2 e3 =
+    let grouped : ((b0 ++ a) ++ (s ++ k)) ++ q ≡ b0 ++ (a ++ (s ++ (k ++ q))) = simp append_assoc in
+    e3 ∙ ap (λ (w : List ℕ). w ++ q) (e2 ∙ ap (λ (w : List ℕ). w ++ (s ++ k)) e1) ∙ grouped
+
+pub all_written : (a s k q t r f g b0 b1 b2 b3 b4 b5 : List ℕ) → b1 ≡ b0 ++ (a ++ (s ++ (k ++ q))) → b2 ≡ b1 ++ t → b3 ≡ b2 ++ r → b4 ≡ b3 ++ f → b5 ≡ b4 ++ g
+    → b5 ≡ b0 ++ (a ++ (s ++ (k ++ (q ++ (t ++ (r ++ (f ++ g)))))))
+all_written a s k q t r f g b0 b1 b2 b3 b4 b5 e1 e2 e3 e4 e5 =
+    let grouped : ((((b0 ++ (a ++ (s ++ (k ++ q)))) ++ t) ++ r) ++ f) ++ g ≡ b0 ++ (a ++ (s ++ (k ++ (q ++ (t ++ (r ++ (f ++ g))))))) = simp append_assoc in
+    e5 ∙ ap (λ (w : List ℕ). w ++ g) (e4 ∙ ap (λ (w : List ℕ). w ++ f) (e3 ∙ ap (λ (w : List ℕ). w ++ r) (e2 ∙ ap (λ (w : List ℕ). w ++ t) e1))) ∙ grouped
 
 -- ---- more bytes on the page that comes after the full ones
 

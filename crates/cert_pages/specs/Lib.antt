@@ -1,4 +1,3 @@
 pub mod NodeWords
 pub mod Drafts
 pub mod Parts
-pub mod CertificateLines

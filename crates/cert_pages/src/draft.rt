@@ -19,7 +19,7 @@ const NODE_BYTES: usize = 512;
 pub(crate) struct Draft {
     alloc: Global,
     full: Pages,
-    pub(crate) page: String,
+    pub(crate) page: Vec<u8>,
 }
 
 impl Draft {
@@ -30,23 +30,28 @@ impl Draft {
         Draft {
             alloc,
             full: Pages::new(alloc),
-            page: String::new(alloc),
+            page: Vec::new(alloc),
         }
     }
 
+    /// What gives it memory.
+    pub(crate) fn alloc(&self) -> Global {
+        self.alloc
+    }
+
     /// Writes these bytes.
-    pub(crate) fn push_str(&mut self, text: &str) -> Result<(), AllocError>
+    pub(crate) fn push(&mut self, text: &[u8]) -> Result<(), AllocError>
         ensures { OnOk result (draft_text self.new ≡ draft_text self.old ++ text.now) }
     {
-        self.page.push_str(text)
+        self.page.extend_from_slice(text)
     }
 
     /// Puts the pages of a text after what is written.
     pub(crate) fn append(&mut self, text: Pages) -> Result<(), AllocError>
         ensures { OnOk result (draft_text self.new ≡ draft_text self.old ++ text) }
     {
-        let page = mem::replace(&mut self.page, String::new(self.alloc));
-        self.full.push(page.into_bytes())?;
+        let page = mem::replace(&mut self.page, Vec::new(self.alloc));
+        self.full.push(page)?;
         self.full.append(text)
     }
 
@@ -64,10 +69,10 @@ impl Draft {
     fn put_away(&mut self) -> Result<(), AllocError>
         ensures { OnOk result (draft_text self.new ≡ draft_text self.old) }
     {
-        let mut next = String::new(self.alloc);
+        let mut next = Vec::new(self.alloc);
         next.reserve(PAGE_BYTES + NODE_BYTES)?;
         let page = mem::replace(&mut self.page, next);
-        self.full.push(page.into_bytes())
+        self.full.push(page)
     }
 
     /// The whole text.
@@ -75,7 +80,7 @@ impl Draft {
         ensures { IfOk result (λ pages. pages ≡ draft_text self) }
     {
         let mut pages = self.full;
-        pages.push(self.page.into_bytes())?;
+        pages.push(self.page)?;
         Ok(pages)
     }
 }

@@ -1,6 +1,8 @@
 //! The words of a certificate's lines.
+//!
+//! Most numbers of a tree have one digit, so the words of such a node are made whole, and go onto the page at once.
 
-ghost use Rattle.std.specs.Prelude.{◌≡◌, ◌++◌, ◌∷◌, [], map, OnOk, IfSome, string_bytes, codes};
+ghost use Rattle.std.specs.Prelude.{◌≡◌, ◌++◌, ◌∷◌, [], ◌<◌, map, OnOk, codes};
 ghost use Rattle.std.specs.Fmt.{decimal};
 ghost use Rattle.gap_sets.specs.Gaps.{numbers_of_set};
 ghost use Rattle.tso_machine.specs.RunTexts.{spelling};
@@ -21,36 +23,86 @@ const MAX_REGISTERS: u8 = REGISTER_PLACES as u8;
 /// How many registers a thread has.
 const THREAD_REGISTERS: u8 = REGISTERS as u8;
 
-/// The number's digit, where it has one.
+/// The number's one digit.
 #[tactic(auto, using(std::proofs::lemmas::Fmt::decimal_digit))]
-fn digit_of(number: u64) -> Option<&'static str>
-    ensures { IfSome result (λ digit. digit.now ≡ decimal number) }
+fn digit(number: u64) -> u8
+    requires { number < 10 }
+    ensures { decimal number ≡ result ∷ [] }
 {
-    match number {
-        0 => Some("0"),
-        1 => Some("1"),
-        2 => Some("2"),
-        3 => Some("3"),
-        4 => Some("4"),
-        5 => Some("5"),
-        6 => Some("6"),
-        7 => Some("7"),
-        8 => Some("8"),
-        9 => Some("9"),
-        _ => None,
+    b'0' + number as u8
+}
+
+fn push_byte(out: &mut Vec<u8>, byte: u8) -> Result<(), AllocError>
+    ensures { OnOk result (out.new.items ≡ out.old.items ++ byte ∷ []) }
+{
+    out.push(byte)?;
+    Ok(())
+}
+
+fn push_digits(out: &mut Vec<u8>, number: u64) -> Result<(), AllocError>
+    ensures { OnOk result (out.new.items ≡ out.old.items ++ decimal number) }
+{
+    if number < 10 {
+        return push_byte(out, digit(number));
     }
+    let mut digits = Buffer::new();
+    out.extend_from_slice(digits.format(number).as_bytes())
 }
 
-fn push_access(out: &mut String, event: AccessId) -> Result<(), AllocError>
-    ensures { OnOk result (string_bytes out.new ≡ string_bytes out.old ++ spaced (access_word event)) }
+/// A space, and a number.
+fn push_number(out: &mut Vec<u8>, number: u64) -> Result<(), AllocError>
+    ensures { OnOk result (out.new.items ≡ out.old.items ++ spaced (decimal number)) }
 {
-    push_number(out, u64::from(event.thread))?;
-    out.push('.')?;
-    push_digits(out, u64::from(event.access))
+    if number < 10 {
+        return out.extend_from_slice(&[b' ', digit(number)]);
+    }
+    push_byte(out, b' ')?;
+    push_digits(out, number)
 }
 
-fn push_events(out: &mut String, events: Events<'_>) -> Result<(), AllocError>
-    ensures { OnOk result (string_bytes out.new ≡ string_bytes out.old ++ texts_of spaced (map access_word events.entry)) }
+pub(crate) fn push_len(out: &mut Vec<u8>, number: usize) -> Result<(), AllocError>
+    ensures { OnOk result (out.new.items ≡ out.old.items ++ spaced (decimal number)) }
+{
+    push_number(out, number as u64)
+}
+
+/// A space, and a letter.
+fn push_letter(out: &mut Vec<u8>, letter: u8) -> Result<(), AllocError>
+    ensures { OnOk result (out.new.items ≡ out.old.items ++ spaced (letter ∷ [])) }
+{
+    out.extend_from_slice(&[b' ', letter])
+}
+
+/// A space, a letter, and a number.
+fn push_named(out: &mut Vec<u8>, letter: u8, number: u64) -> Result<(), AllocError>
+    ensures { OnOk result (out.new.items ≡ out.old.items ++ spaced (letter ∷ decimal number)) }
+{
+    if number < 10 {
+        return out.extend_from_slice(&[b' ', letter, digit(number)]);
+    }
+    push_letter(out, letter)?;
+    push_digits(out, number)
+}
+
+fn push_access(out: &mut Vec<u8>, event: AccessId) -> Result<(), AllocError>
+    ensures { OnOk result (out.new.items ≡ out.old.items ++ spaced (access_word event)) }
+{
+    let AccessId { thread, access } = event;
+    if thread < 10 && access < 10 {
+        return out.extend_from_slice(&[
+            b' ',
+            digit(u64::from(thread)),
+            b'.',
+            digit(u64::from(access)),
+        ]);
+    }
+    push_number(out, u64::from(thread))?;
+    push_byte(out, b'.')?;
+    push_digits(out, u64::from(access))
+}
+
+fn push_events(out: &mut Vec<u8>, events: Events<'_>) -> Result<(), AllocError>
+    ensures { OnOk result (out.new.items ≡ out.old.items ++ texts_of spaced (map access_word events.entry)) }
 {
     for event in events {
         push_access(out, event)?;
@@ -58,105 +110,114 @@ fn push_events(out: &mut String, events: Events<'_>) -> Result<(), AllocError>
     Ok(())
 }
 
-fn push_digits(out: &mut String, number: u64) -> Result<(), AllocError>
-    ensures { OnOk result (string_bytes out.new ≡ string_bytes out.old ++ decimal number) }
+fn push_value(out: &mut Vec<u8>, thread: u8, count: u32) -> Result<(), AllocError>
+    ensures { OnOk result (out.new.items ≡ out.old.items ++ texts_of spaced (codes "V" ∷ (decimal thread ∷ (decimal count ∷ [])))) }
 {
-    // Most numbers of a tree have one digit.
-    if let Some(digit) = digit_of(number) {
-        return out.push_str(digit);
+    if thread < 10 && count < 10 {
+        return out.extend_from_slice(&[
+            b' ',
+            b'V',
+            b' ',
+            digit(u64::from(thread)),
+            b' ',
+            digit(u64::from(count)),
+        ]);
     }
-    let mut digits = Buffer::new();
-    out.push_str(digits.format(number))
+    push_letter(out, b'V')?;
+    push_number(out, u64::from(thread))?;
+    push_number(out, u64::from(count))
 }
 
-/// A space, and a number.
-fn push_number(out: &mut String, number: u64) -> Result<(), AllocError>
-    ensures { OnOk result (string_bytes out.new ≡ string_bytes out.old ++ spaced (decimal number)) }
+fn push_source(out: &mut Vec<u8>, read: AccessId, count: u32) -> Result<(), AllocError>
+    ensures { OnOk result (out.new.items ≡ out.old.items ++ texts_of spaced (codes "S" ∷ (access_word read ∷ (decimal count ∷ [])))) }
 {
-    out.push(' ')?;
-    push_digits(out, number)
+    let AccessId { thread, access } = read;
+    if thread < 10 && access < 10 && count < 10 {
+        return out.extend_from_slice(&[
+            b' ',
+            b'S',
+            b' ',
+            digit(u64::from(thread)),
+            b'.',
+            digit(u64::from(access)),
+            b' ',
+            digit(u64::from(count)),
+        ]);
+    }
+    push_letter(out, b'S')?;
+    push_access(out, read)?;
+    push_number(out, u64::from(count))
 }
 
-pub(crate) fn push_len(out: &mut String, number: usize) -> Result<(), AllocError>
-    ensures { OnOk result (string_bytes out.new ≡ string_bytes out.old ++ spaced (decimal number)) }
-{
-    push_number(out, number as u64)
-}
-
-/// A space, and a word.
-fn push_word(out: &mut String, word: &str) -> Result<(), AllocError>
-    ensures { OnOk result (string_bytes out.new ≡ string_bytes out.old ++ spaced word.now) }
-{
-    out.push(' ')?;
-    out.push_str(word)
-}
-
-fn push_kind(out: &mut String, kind: Kind) -> Result<(), AllocError>
-    ensures { OnOk result (string_bytes out.new ≡ string_bytes out.old ++ spaced (kind_word kind)) }
+/// The letter of a kind.
+fn letter_of(kind: Kind) -> u8
+    ensures { kind_word kind ≡ result ∷ [] }
 {
     match kind {
-        Kind::Sequential => push_word(out, "s"),
-        Kind::Location => push_word(out, "l"),
-        Kind::Global => push_word(out, "g"),
+        Kind::Sequential => b's',
+        Kind::Location => b'l',
+        Kind::Global => b'g',
     }
 }
 
-pub(crate) fn push_node(out: &mut String, node: CoverNode<'_>) -> Result<(), AllocError>
-    ensures { OnOk result (string_bytes out.new ≡ string_bytes out.old ++ texts_of spaced (node_words node.entry)) }
+/// What a cycle is of, and how many accesses it has.
+fn push_cycle_head(out: &mut Vec<u8>, kind: Kind, len: usize) -> Result<(), AllocError>
+    ensures { OnOk result (out.new.items ≡ out.old.items ++ texts_of spaced (codes "C" ∷ (kind_word kind ∷ (decimal len ∷ [])))) }
+{
+    if len < 10 {
+        return out.extend_from_slice(&[b' ', b'C', b' ', letter_of(kind), b' ', digit(len as u64)]);
+    }
+    push_letter(out, b'C')?;
+    push_letter(out, letter_of(kind))?;
+    push_len(out, len)
+}
+
+pub(crate) fn push_node(out: &mut Vec<u8>, node: CoverNode<'_>) -> Result<(), AllocError>
+    ensures { OnOk result (out.new.items ≡ out.old.items ++ texts_of spaced (node_words node.entry)) }
 {
     match node {
-        CoverNode::Value { thread, count } => {
-            push_word(out, "V")?;
-            push_number(out, u64::from(thread))?;
-            push_number(out, u64::from(count))
-        }
-        CoverNode::Source { read, count } => {
-            push_word(out, "S")?;
-            push_access(out, read)?;
-            push_number(out, u64::from(count))
-        }
+        CoverNode::Value { thread, count } => push_value(out, thread, count),
+        CoverNode::Source { read, count } => push_source(out, read, count),
         CoverNode::Order { first, second } => {
-            push_word(out, "O")?;
+            push_letter(out, b'O')?;
             push_access(out, first)?;
             push_access(out, second)
         }
         CoverNode::Cycle { kind, events } => {
-            push_word(out, "C")?;
-            push_kind(out, kind)?;
-            push_len(out, events.len())?;
+            push_cycle_head(out, kind, events.len())?;
             push_events(out, events)
         }
         CoverNode::Known { run } => {
-            push_word(out, "K")?;
+            push_letter(out, b'K')?;
             push_number(out, run)
         }
     }
 }
 
-pub(crate) fn push_gap_node(out: &mut String, node: GapNode) -> Result<(), AllocError>
-    ensures { OnOk result (string_bytes out.new ≡ string_bytes out.old ++ texts_of spaced (gap_node_words node)) }
+pub(crate) fn push_gap_node(out: &mut Vec<u8>, node: GapNode) -> Result<(), AllocError>
+    ensures { OnOk result (out.new.items ≡ out.old.items ++ texts_of spaced (gap_node_words node)) }
 {
     match node {
         GapNode::Split { count, run } => {
-            push_word(out, "P")?;
+            push_letter(out, b'P')?;
             push_number(out, run)?;
             push_number(out, u64::from(count))
         }
-        GapNode::Bound => push_word(out, "B"),
+        GapNode::Bound => push_letter(out, b'B'),
     }
 }
 
-fn push_label(out: &mut String, label: Label) -> Result<(), AllocError>
-    ensures { OnOk result (string_bytes out.new ≡ string_bytes out.old ++ spaced (spelling label)) }
+fn push_label(out: &mut Vec<u8>, label: Label) -> Result<(), AllocError>
+    ensures { OnOk result (out.new.items ≡ out.old.items ++ spaced (spelling label)) }
 {
     match label {
-        Label::Exec(thread) => write!(out, " e{thread}"),
-        Label::Flush(thread) => write!(out, " f{thread}"),
+        Label::Exec(thread) => push_named(out, b'e', u64::from(thread)),
+        Label::Flush(thread) => push_named(out, b'f', u64::from(thread)),
     }
 }
 
-fn push_labels(out: &mut String, labels: &[Label]) -> Result<(), AllocError>
-    ensures { OnOk result (string_bytes out.new ≡ string_bytes out.old ++ texts_of spaced (map spelling labels.now)) }
+fn push_labels(out: &mut Vec<u8>, labels: &[Label]) -> Result<(), AllocError>
+    ensures { OnOk result (out.new.items ≡ out.old.items ++ texts_of spaced (map spelling labels.now)) }
 {
     for label in labels {
         push_label(out, *label)?;
@@ -164,16 +225,16 @@ fn push_labels(out: &mut String, labels: &[Label]) -> Result<(), AllocError>
     Ok(())
 }
 
-pub(crate) fn push_run(out: &mut String, labels: &[Label]) -> Result<(), AllocError>
-    ensures { OnOk result (string_bytes out.new ≡ string_bytes out.old ++ labels_line labels.now) }
+pub(crate) fn push_run(out: &mut Vec<u8>, labels: &[Label]) -> Result<(), AllocError>
+    ensures { OnOk result (out.new.items ≡ out.old.items ++ labels_line labels.now) }
 {
-    out.push_str("run")?;
+    out.extend_from_slice(b"run")?;
     push_labels(out, labels)?;
-    out.push('\n')
+    push_byte(out, b'\n')
 }
 
-fn push_gap_numbers(out: &mut String, set: GapSet) -> Result<(), AllocError>
-    ensures { OnOk result (string_bytes out.new ≡ string_bytes out.old ++ texts_of spaced (map decimal (numbers_of_set set))) }
+fn push_gap_numbers(out: &mut Vec<u8>, set: GapSet) -> Result<(), AllocError>
+    ensures { OnOk result (out.new.items ≡ out.old.items ++ texts_of spaced (map decimal (numbers_of_set set))) }
 {
     for gap in set.iter() {
         push_number(out, u64::from(gap))?;
@@ -182,34 +243,36 @@ fn push_gap_numbers(out: &mut String, set: GapSet) -> Result<(), AllocError>
 }
 
 /// The line of the set and that of its cost.
-pub(crate) fn push_set(out: &mut String, set: GapSet, cost: u64) -> Result<(), AllocError>
-    ensures { OnOk result (string_bytes out.new
-        ≡ string_bytes out.old ++ (line (codes "set") (map decimal (numbers_of_set set)) ++ line (codes "cost") (decimal cost ∷ []))) }
+pub(crate) fn push_set(out: &mut Vec<u8>, set: GapSet, cost: u64) -> Result<(), AllocError>
+    ensures { OnOk result (out.new.items
+        ≡ out.old.items ++ (line (codes "set") (map decimal (numbers_of_set set)) ++ line (codes "cost") (decimal cost ∷ []))) }
 {
-    out.push_str("set")?;
+    out.extend_from_slice(b"set")?;
     push_gap_numbers(out, set)?;
-    out.push_str("\ncost")?;
+    out.extend_from_slice(b"\ncost")?;
     push_number(out, cost)?;
-    out.push('\n')
+    push_byte(out, b'\n')
 }
 
 /// A space, and `rT.R`.
-fn push_register(out: &mut String, thread: u8, register: u8) -> Result<(), AllocError>
-    ensures { OnOk result (string_bytes out.new ≡ string_bytes out.old ++ spaced (register_word thread register)) }
+fn push_register(out: &mut Vec<u8>, thread: u8, register: u8) -> Result<(), AllocError>
+    ensures { OnOk result (out.new.items ≡ out.old.items ++ spaced (register_word thread register)) }
 {
-    write!(out, " r{thread}.{register}")
+    push_named(out, b'r', u64::from(thread))?;
+    push_byte(out, b'.')?;
+    push_digits(out, u64::from(register))
 }
 
 /// A space, and `lN`.
-fn push_location(out: &mut String, location: u8) -> Result<(), AllocError>
-    ensures { OnOk result (string_bytes out.new ≡ string_bytes out.old ++ spaced (location_word location)) }
+fn push_location(out: &mut Vec<u8>, location: u8) -> Result<(), AllocError>
+    ensures { OnOk result (out.new.items ≡ out.old.items ++ spaced (location_word location)) }
 {
-    write!(out, " l{location}")
+    push_named(out, b'l', u64::from(location))
 }
 
 /// A space, and the word of a place.
-fn push_place(out: &mut String, place: u8) -> Result<(), AllocError>
-    ensures { OnOk result (string_bytes out.new ≡ string_bytes out.old ++ spaced (place_word place)) }
+fn push_place(out: &mut Vec<u8>, place: u8) -> Result<(), AllocError>
+    ensures { OnOk result (out.new.items ≡ out.old.items ++ spaced (place_word place)) }
 {
     if place < MAX_REGISTERS {
         push_register(out, place / THREAD_REGISTERS, place % THREAD_REGISTERS)
@@ -218,8 +281,8 @@ fn push_place(out: &mut String, place: u8) -> Result<(), AllocError>
     }
 }
 
-fn push_places(out: &mut String, names: &Names) -> Result<(), AllocError>
-    ensures { OnOk result (string_bytes out.new ≡ string_bytes out.old ++ texts_of spaced (map place_word (numbers_of_set names.now))) }
+fn push_places(out: &mut Vec<u8>, names: &Names) -> Result<(), AllocError>
+    ensures { OnOk result (out.new.items ≡ out.old.items ++ texts_of spaced (map place_word (numbers_of_set names.now))) }
 {
     for place in names.places() {
         push_place(out, place)?;
@@ -228,28 +291,28 @@ fn push_places(out: &mut String, names: &Names) -> Result<(), AllocError>
 }
 
 /// The line that says what the text is, and that of what is shown, where not all is.
-pub(crate) fn push_head(out: &mut String, shown: &Shows) -> Result<(), AllocError>
-    ensures { OnOk result (string_bytes out.new ≡ string_bytes out.old ++ head_lines shown.now) }
+pub(crate) fn push_head(out: &mut Vec<u8>, shown: &Shows) -> Result<(), AllocError>
+    ensures { OnOk result (out.new.items ≡ out.old.items ++ head_lines shown.now) }
 {
     match shown {
-        Shows::All => out.push_str("FENCECERT 1\n"),
+        Shows::All => out.extend_from_slice(b"FENCECERT 1\n"),
         Shows::Only(names) => push_second(out, names),
-        Shows::Condition => out.push_str("FENCECERT 2\nshown condition\n"),
+        Shows::Condition => out.extend_from_slice(b"FENCECERT 2\nshown condition\n"),
     }
 }
 
 /// The two lines of the second version.
-fn push_second(out: &mut String, names: &Names) -> Result<(), AllocError>
-    ensures { OnOk result (string_bytes out.new ≡ string_bytes out.old ++ head_lines (Shows.Only names.now)) }
+fn push_second(out: &mut Vec<u8>, names: &Names) -> Result<(), AllocError>
+    ensures { OnOk result (out.new.items ≡ out.old.items ++ head_lines (Shows.Only names.now)) }
 {
-    out.push_str("FENCECERT 2\n")?;
+    out.extend_from_slice(b"FENCECERT 2\n")?;
     push_shown(out, names)
 }
 
-fn push_shown(out: &mut String, names: &Names) -> Result<(), AllocError>
-    ensures { OnOk result (string_bytes out.new ≡ string_bytes out.old ++ line (codes "shown") (map place_word (numbers_of_set names.now))) }
+fn push_shown(out: &mut Vec<u8>, names: &Names) -> Result<(), AllocError>
+    ensures { OnOk result (out.new.items ≡ out.old.items ++ line (codes "shown") (map place_word (numbers_of_set names.now))) }
 {
-    out.push_str("shown")?;
+    out.extend_from_slice(b"shown")?;
     push_places(out, names)?;
-    out.push('\n')
+    push_byte(out, b'\n')
 }

@@ -1,13 +1,13 @@
 //! The text of a certificate.
 
 ghost use Rattle.std.specs.Prelude.{◌≡◌, ◌++◌, ◌∷◌, [], ◌<◌, map, OnOk, IfOk, IfSome, codes};
+ghost use Rattle.std.specs.Arc.{arc_value};
 ghost use Rattle.std.specs.Fmt.{decimal};
 ghost use Rattle.gap_sets.specs.Gaps.{numbers_of_set};
 ghost use Rattle.cert_words.specs.Lines.{texts_of, spaced, line};
 ghost use Rattle.cert_forest.specs.Texts.{head_lines, cover_words, gap_words, labels_line, runs_lines, certificate_text};
 ghost use Rattle.cert_pages.specs.NodeWords.{node_words, gap_node_words};
 ghost use Rattle.cert_pages.specs.Drafts.{draft_text};
-ghost use Rattle.cert_pages.specs.CertificateLines.{lines_text, words_line, words_text};
 
 use crate::draft::Draft;
 use crate::parts::pages_ahead;
@@ -16,6 +16,7 @@ use cert_forest::{Certificate, CoverNode, CoverTree, GapNode, GapTree, Runs, Sho
 use gap_sets::GapSet;
 use paged_text::Pages;
 use std::alloc::{AllocError, Global};
+use std::sync::Arc;
 use std::thread::Threads;
 use tso_machine::Label;
 
@@ -80,12 +81,13 @@ fn write_len(out: &mut Draft, number: usize) -> Result<(), AllocError>
     out.turn()
 }
 
-fn write_runs(out: &mut Draft, name: &str, runs: &Runs) -> Result<(), AllocError>
+/// Writes the lines of runs.
+fn write_runs(out: &mut Draft, name: &[u8], runs: &Runs) -> Result<(), AllocError>
     ensures { OnOk result (draft_text out.new ≡ draft_text out.old ++ runs_lines name.now runs.now) }
 {
-    out.push_str(name)?;
+    out.push(name)?;
     write_len(out, runs.len())?;
-    out.push_str("\n")?;
+    out.push(b"\n")?;
     write_run_lines(out, runs)
 }
 
@@ -98,53 +100,12 @@ fn write_set(out: &mut Draft, set: GapSet, cost: u64) -> Result<(), AllocError>
     out.turn()
 }
 
-/// The words of a tree, or the tree while they are still to be written.
-#[derive(Drop)]
-enum TreeWords {
-    Written(Pages),
-    Unwritten(CoverTree),
-}
-
-/// The words of a tree, which threads write where it is long. A tree whose words are written is let go.
-fn words_of<R: Threads + Sync>(
-    rt: &R,
-    alloc: Global,
-    threads: usize,
-    tree: CoverTree,
-) -> Result<TreeWords, AllocError>
-    requires { 0 < threads }
-    ensures { IfOk result (λ words. words_text words ≡ texts_of spaced (cover_words tree)) }
-{
-    match pages_ahead(rt, alloc, threads, &tree)? {
-        Some(words) => Ok(TreeWords::Written(words)),
-        None => Ok(TreeWords::Unwritten(tree)),
-    }
-}
-
-/// Writes the words of a tree. The tree is let go.
-fn write_words(out: &mut Draft, words: TreeWords) -> Result<(), AllocError>
-    ensures { OnOk result (draft_text out.new ≡ draft_text out.old ++ words_text words) }
-{
-    match words {
-        TreeWords::Written(words) => out.append(words),
-        TreeWords::Unwritten(tree) => write_cover(out, &tree),
-    }
-}
-
-fn write_cover_line(out: &mut Draft, name: &str, words: TreeWords) -> Result<(), AllocError>
-    ensures { OnOk result (draft_text out.new ≡ draft_text out.old ++ words_line name.now words) }
-{
-    out.push_str(name)?;
-    write_words(out, words)?;
-    out.push_str("\n")
-}
-
 fn write_gap_line(out: &mut Draft, tree: &GapTree) -> Result<(), AllocError>
     ensures { OnOk result (draft_text out.new ≡ draft_text out.old ++ line (codes "gaps") (gap_words tree.now)) }
 {
-    out.push_str("gaps")?;
+    out.push(b"gaps")?;
     write_gap(out, tree)?;
-    out.push_str("\n")
+    out.push(b"\n")
 }
 
 /// The line that says what the text is, and that of what is shown, where not all is.
@@ -155,61 +116,66 @@ fn write_head(out: &mut Draft, shown: &Shows) -> Result<(), AllocError>
     out.turn()
 }
 
-/// What a certificate's lines are made of: the words of its cover trees may be written already.
-#[derive(Drop)]
-struct Lines {
-    shown: Shows,
+/// The lines before that of the first tree. The runs are let go.
+fn write_front(
+    out: &mut Draft,
+    shown: &Shows,
     set: GapSet,
     cost: u64,
-    seq_runs: Runs,
-    seq_words: TreeWords,
-    runs: Runs,
-    fenced_words: TreeWords,
-    gap_tree: GapTree,
-}
-
-/// Writes the lines. Each cover tree is let go once its words are written.
-fn write_lines(out: &mut Draft, lines: Lines) -> Result<(), AllocError>
-    ensures { OnOk result (draft_text out.new ≡ draft_text out.old ++ lines_text lines) }
+    seq_runs: Arc<Runs>,
+) -> Result<(), AllocError>
+    ensures { OnOk result (draft_text out.new
+        ≡ draft_text out.old ++ (head_lines shown.now ++ (line (codes "set") (map decimal (numbers_of_set set)) ++ (line (codes "cost") (decimal cost ∷ []) ++ runs_lines (codes "seq") (arc_value seq_runs))))) }
 {
-    let Lines {
-        shown,
-        set,
-        cost,
-        seq_runs,
-        seq_words,
-        runs,
-        fenced_words,
-        gap_tree,
-    } = lines;
-    write_head(out, &shown)?;
+    write_head(out, shown)?;
     write_set(out, set, cost)?;
-    write_runs(out, "seq", &seq_runs)?;
-    write_cover_line(out, "tree", seq_words)?;
-    write_runs(out, "runs", &runs)?;
-    write_cover_line(out, "fenced", fenced_words)?;
-    write_gap_line(out, &gap_tree)
+    write_runs(out, b"seq", &seq_runs)
 }
 
-/// The text of the lines.
-fn pages_of(alloc: Global, lines: Lines) -> Result<Pages, AllocError>
-    ensures { IfOk result (λ text. text ≡ lines_text lines) }
+/// Writes the line of a tree. The tree is let go.
+fn write_cover_line(out: &mut Draft, name: &[u8], tree: CoverTree) -> Result<(), AllocError>
+    ensures { OnOk result (draft_text out.new ≡ draft_text out.old ++ line name.now (cover_words tree)) }
 {
-    let mut out = Draft::new(alloc);
-    write_lines(&mut out, lines)?;
-    out.into_pages()
+    out.push(name)?;
+    write_cover(out, &tree)?;
+    out.push(b"\n")
 }
 
-/// The certificate's text, beyond the limits of what is read too: `read_cert` reads the text of a certificate within
-/// them. At most so many threads write it. Each cover tree is let go once its words are written.
-pub fn write_pages<R: Threads + Sync>(
+/// Writes the words of a tree, in at most so many threads where it is long. The tree is let go.
+fn write_shared_cover<R: Threads + Sync>(
     rt: &R,
-    alloc: Global,
+    out: &mut Draft,
     threads: usize,
-    certificate: Certificate,
-) -> Result<Pages, AllocError>
+    tree: CoverTree,
+) -> Result<(), AllocError>
     requires { 0 < threads }
-    ensures { IfOk result (λ text. text ≡ certificate_text certificate) }
+    ensures { OnOk result (draft_text out.new ≡ draft_text out.old ++ texts_of spaced (cover_words tree)) }
+{
+    match pages_ahead(rt, out.alloc(), threads, &tree)? {
+        Some(words) => out.append(words),
+        None => write_cover(out, &tree),
+    }
+}
+
+/// Writes the line of a tree, which threads write where it is long. The tree is let go.
+fn write_shared_line<R: Threads + Sync>(
+    rt: &R,
+    out: &mut Draft,
+    threads: usize,
+    name: &[u8],
+    tree: CoverTree,
+) -> Result<(), AllocError>
+    requires { 0 < threads }
+    ensures { OnOk result (draft_text out.new ≡ draft_text out.old ++ line name.now (cover_words tree)) }
+{
+    out.push(name)?;
+    write_shared_cover(rt, out, threads, tree)?;
+    out.push(b"\n")
+}
+
+/// Writes the certificate in this thread.
+fn write_alone(out: &mut Draft, certificate: Certificate) -> Result<(), AllocError>
+    ensures { OnOk result (draft_text out.new ≡ draft_text out.old ++ certificate_text certificate) }
 {
     let Certificate {
         shown,
@@ -221,34 +187,63 @@ pub fn write_pages<R: Threads + Sync>(
         fenced_tree,
         gap_tree,
     } = certificate;
-    let seq_words = words_of(rt, alloc, threads, seq_tree)?;
-    let fenced_words = words_of(rt, alloc, threads, fenced_tree)?;
-    let lines = Lines {
+    write_front(out, &shown, set, cost, seq_runs)?;
+    write_cover_line(out, b"tree", seq_tree)?;
+    write_runs(out, b"runs", &runs)?;
+    drop(runs);
+    write_cover_line(out, b"fenced", fenced_tree)?;
+    write_gap_line(out, &gap_tree)
+}
+
+/// Writes the certificate. Threads write its long trees. Its runs and its trees are let go, each once it is written.
+fn write_shared<R: Threads + Sync>(
+    rt: &R,
+    out: &mut Draft,
+    threads: usize,
+    certificate: Certificate,
+) -> Result<(), AllocError>
+    requires { 0 < threads }
+    ensures { OnOk result (draft_text out.new ≡ draft_text out.old ++ certificate_text certificate) }
+{
+    let Certificate {
         shown,
         set,
         cost,
         seq_runs,
-        seq_words,
+        seq_tree,
         runs,
-        fenced_words,
+        fenced_tree,
         gap_tree,
-    };
-    pages_of(alloc, lines)
+    } = certificate;
+    write_front(out, &shown, set, cost, seq_runs)?;
+    write_shared_line(rt, out, threads, b"tree", seq_tree)?;
+    write_runs(out, b"runs", &runs)?;
+    drop(runs);
+    write_shared_line(rt, out, threads, b"fenced", fenced_tree)?;
+    write_gap_line(out, &gap_tree)
+}
+
+/// The certificate's text, beyond the limits of what is read too: `read_cert` reads the text of a certificate within
+/// them. At most so many threads write it. Its runs and its trees are let go, each once it is written.
+pub fn write_pages<R: Threads + Sync>(
+    rt: &R,
+    alloc: Global,
+    threads: usize,
+    certificate: Certificate,
+) -> Result<Pages, AllocError>
+    requires { 0 < threads }
+    ensures { IfOk result (λ text. text ≡ certificate_text certificate) }
+{
+    let mut out = Draft::new(alloc);
+    write_shared(rt, &mut out, threads, certificate)?;
+    out.into_pages()
 }
 
 /// The same in one block, and in this thread.
 pub fn write_cert(alloc: Global, certificate: Certificate) -> Result<Vec<u8>, AllocError>
     ensures { IfOk result (λ text. text.items ≡ certificate_text certificate) }
 {
-    let lines = Lines {
-        shown: certificate.shown,
-        set: certificate.set,
-        cost: certificate.cost,
-        seq_runs: certificate.seq_runs,
-        seq_words: TreeWords::Unwritten(certificate.seq_tree),
-        runs: certificate.runs,
-        fenced_words: TreeWords::Unwritten(certificate.fenced_tree),
-        gap_tree: certificate.gap_tree,
-    };
-    pages_of(alloc, lines)?.joined(alloc)
+    let mut out = Draft::new(alloc);
+    write_alone(&mut out, certificate)?;
+    out.into_pages()?.joined(alloc)
 }

@@ -5,7 +5,7 @@ use Rattle.cert_trees.specs.declared.node.Node.TheVariants as node
 use Rattle.cert_trees.specs.declared.walk.CoverNode.TheVariants as n
 use Rattle.cert_trees.proofs.NodeLaws.{Begun, begins, are_trees, trees_again, tree_first, events_first, end_first}
 
--- the trees after a first node are told by their nodes
+-- the trees after a first node follow from their nodes
 next_by : (ts : List Cover) (t : Cover) (us : List Cover) (xs : List Node) → ts ≡ t ∷ us → xs ≡ spell_all (children_of t ++ us)
     → AreTrees xs × IsNext ts (root_of t) (trees_of xs)
 next_by ts t us xs is e =

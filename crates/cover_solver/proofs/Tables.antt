@@ -1,7 +1,7 @@
 -- What trees and runs say of tables, sets and foreign runs.
 use Rattle.cover_solver.proofs.Vocabulary.{◌≡◌, ◌↔◌, ℕ, ◌<◌, Bool, true, false, IsTrue, List, Some, Contains, slice_get, sym, ap, ◌∙◌, subst, arith, Result, Ok, Err, IfOk, IfErr, is_ok, Question}
 use Rattle.cover_solver.proofs.Vocabulary.{show, asked, ForeignFaultIs, of_replay, Machine, SequentialMachine, StoreBufferMachine, no_gaps, outcome_at, IsRun, IsSequentialTable, IsListOf, IsServing}
-use Rattle.cover_solver.proofs.Vocabulary.{AreRunsOf, place_in, ArePlacesOf, Bor, machine_of_mode, Listing, Outcome, Shown, JumpForward, Label, ReplayFaultIs, ArePassed, IsShownRun, IsForeignRun}
+use Rattle.cover_solver.proofs.Vocabulary.{AreRunsOf, place_in, ArePlacesOf, Bor, machine_of_mode, Listing, Outcome, Shown, JumpForward, Label, ReplayFaultIs, ArePassed, AllowsShown, IsShownRun, IsForeignRun}
 use Rattle.cover_solver.proofs.Vocabulary.{renumbered, BelongsAt, not_there}
 use Rattle.std.specs.FinSet as set
 use Rattle.std.proofs.lemmas.Option.{same_Some}
@@ -15,7 +15,7 @@ use Rattle.cover_solver.specs.declared.fault.ForeignFault.TheVariants as foreign
 use Rattle.fence_laws.proofs.GapsAvoided.{fenced_runs_avoid}
 use Rattle.cert_forest.specs.Trees.{Cover}
 use Rattle.cert_forest.specs.NodeConstants.{NEAR_RUNS}
-use Rattle.sketch_covers.specs.{Covers.IsWholeCover, KnownOutcomes.StopIs, declared.known_outcomes.KnownOutcomes.TheVariants.Closed, declared.stop.Stop.Stop}
+use Rattle.sketch_covers.specs.{OutcomeNumbers.AreFoundOf, declared.ascending_outcomes.AscendingOutcomes.AscendingOutcomes, declared.outcome_index.OutcomeIndex.OutcomeIndex, Covers.IsWholeCover, KnownOutcomes.StopIs, declared.known_outcomes.KnownOutcomes.TheVariants.Closed, declared.stop.Stop.Stop}
 use Rattle.partial_covers.proofs.{RenumberedTrees.whole_renumbered, HoleTrees.stop_lacks}
 use Rattle.tso_program.proofs.OutcomesOrdered.{one_way}
 use Rattle.std.specs.declared.cmp.Ordering.TheVariants.{Less}
@@ -34,6 +34,11 @@ table_of p other shown copied known outcomes runs places before tree same alike 
     let q = asked p shown in
     let whole = subst (IsWholeCover q SequentialMachine outcomes) (sym made) (whole_renumbered known outcomes (place_in places) (λ n h. let near = small n in omega arith) moves q SequentialMachine before is) in
     subst (λ (r : Question). IsSequentialTable (record { question = r; outcomes = outcomes; runs = runs; tree = tree })) (sym (same_question q other copied same alike)) (record { listed = list; runs = are; tree = whole })
+
+-- what is found is as exact in ascending order
+pub still_exact : (found : OutcomeIndex) (list : AscendingOutcomes) → AreFoundOf found list → (q : Question) (mode : Machine) → ((o : Outcome) → Contains found.outcomes.items o ↔ AllowsShown q mode o) →
+    (o : Outcome) → Contains list.outcomes.items o ↔ AllowsShown q mode o
+still_exact found list are q mode exact o = ((λ here. (exact o).0 (are.only o here)), (λ allows. are.all o ((exact o).1 allows)))
 
 -- there is one list of a question's sequential outcomes
 pub one_list_of_outcomes : (q : Question) (xs ys : List Outcome) → IsListOf q xs → IsListOf q ys → xs ≡ ys

@@ -11,6 +11,7 @@ ghost use Rattle.sketch_covers.specs.Ascending.{Ascend};
 use crate::fault::SolveFault;
 use cert_forest::Runs;
 use partial_covers::{Search, Unwatched, Watch, all_outcomes, start_alone, start_by};
+use sketch_covers::in_ascending_order;
 use sketches::Mode;
 use std::alloc::Global;
 use std::thread::Threads;
@@ -58,10 +59,10 @@ pub fn outcomes_with_runs<R: Threads + Sync, W: Watch + Sync>(
     };
     let start = start_by(rt, workers, &search, watch)?;
     let all = all_outcomes(&search, start, watch)?;
-    let found = all.found;
+    let listed = in_ascending_order(sought.alloc, all.found)?;
     Ok(OutcomeList {
-        outcomes: found.outcomes,
-        runs: found.runs,
+        outcomes: listed.outcomes,
+        runs: listed.runs,
     })
 }
 
@@ -86,5 +87,5 @@ pub fn outcomes(
     };
     let start = start_alone(&search)?;
     let all = all_outcomes(&search, start, &Unwatched)?;
-    Ok(all.found.outcomes)
+    Ok(in_ascending_order(alloc, all.found)?.outcomes)
 }

@@ -9,7 +9,7 @@ ghost use Rattle.cover_solver.specs.Witnesses.{IsWitness, HasNoWitness};
 
 use crate::fault::SolveFault;
 use partial_covers::{Search, Unwatched, all_outcomes, start_alone};
-use sketch_covers::{OutcomeIndex, place_of};
+use sketch_covers::OutcomeIndex;
 use sketches::Mode;
 use std::alloc::{AllocError, Global};
 use tso_machine::Label;
@@ -48,11 +48,8 @@ fn run_of(
     requires { IsInOrder found.now }
     ensures { IfOk result (λ run. MatchOption run (Contains found.now.outcomes.items outcome.now → ⊥) (λ labels. (q : Question) (machine : Machine) → AreRunsOf q machine found.now.runs found.now.outcomes.items → IsShownRun q machine labels.items outcome.now)) }
 {
-    match place_of(&found.outcomes, outcome) {
-        Ok(place) => match found.runs.get(place) {
-            Some(labels) => Ok(Some(Vec::from_slice(alloc, labels)?)),
-            None => unreachable!(),
-        },
-        Err(_) => Ok(None),
+    match found.run_of(outcome) {
+        Some(labels) => Ok(Some(Vec::from_slice(alloc, labels)?)),
+        None => Ok(None),
     }
 }

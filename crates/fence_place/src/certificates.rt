@@ -33,7 +33,7 @@ pub fn certify(
     let (runs, numbers) = listed_runs(alloc, finished)?;
     let gap_tree = gap_tree(alloc, finished, &numbers)?;
     let set = served.set();
-    let seq_runs = table.runs().copy(alloc)?;
+    let seq_runs = table.shared_runs()?;
     // For the proof alone: there are no more runs than a number can count.
     let _ = runs.len();
     let _ = seq_runs.len();
@@ -74,7 +74,7 @@ fn listed_runs(alloc: Global, finished: &Finished) -> Result<(Runs, Vec<usize>),
     let mut runs = Runs::new(alloc);
     let mut numbers = Vec::new(alloc);
     while let Some(settled) = finished.settled(numbers.len()) {
-        let number = run_number(alloc, &mut runs, settled.event)?;
+        let number = run_number(&mut runs, settled.event)?;
         numbers.push(number)?;
     }
     Ok((runs, numbers))
@@ -82,7 +82,7 @@ fn listed_runs(alloc: Global, finished: &Finished) -> Result<(Runs, Vec<usize>),
 
 /// The number of the run of a split, which is put after the others where none of them is equal to it. A
 /// node that isn't split has any number.
-fn run_number(alloc: Global, runs: &mut Runs, event: Event<'_>) -> Result<usize, AllocError>
+fn run_number(runs: &mut Runs, event: Event<'_>) -> Result<usize, AllocError>
     ensures { IfOk result (λ number. ListsEvent event.entry number runs.old runs.new) }
 {
     let Event::Split(run) = event else {
@@ -92,7 +92,7 @@ fn run_number(alloc: Global, runs: &mut Runs, event: Event<'_>) -> Result<usize,
         return Ok(number);
     }
     let number = runs.len();
-    runs.push(Vec::from_slice(alloc, run.labels())?)?;
+    runs.push(run.labels())?;
     Ok(number)
 }
 

@@ -54,6 +54,12 @@ pieces_pushed (p ∷ ps) piece =
     ∙ sym (append_assoc (map Has p.nodes.items) ((Lacks p.path.items p.filling.items ∷ items_before ps) ++ map Has piece.nodes.items) (Lacks piece.path.items piece.filling.items ∷ []))
     ∙ ap (λ (xs : List Item). xs ++ Lacks piece.path.items piece.filling.items ∷ []) (sym (append_assoc (map Has p.nodes.items) (Lacks p.path.items p.filling.items ∷ items_before ps) (map Has piece.nodes.items)))
 
+pub piece_moved : (old new : List Piece) (piece : Piece) (nodes : List Node) → nodes ≡ [] → new ≡ old ++ piece ∷ [] →
+    items_before new ++ map Has nodes ≡ ((items_before old ++ map Has nodes) ++ map Has piece.nodes.items) ++ Lacks piece.path.items piece.filling.items ∷ []
+piece_moved old new piece nodes none pushed =
+    (λ i. items_before (pushed i) ++ map Has (none i)) ∙ append-nil (items_before (old ++ piece ∷ [])) ∙ pieces_pushed old piece
+    ∙ ap (λ (xs : List Item). (xs ++ map Has piece.nodes.items) ++ Lacks piece.path.items piece.filling.items ∷ []) (sym (append-nil (items_before old)) ∙ ap (λ (ns : List Node). items_before old ++ map Has ns) (sym none))
+
 pub piece_pushed : (old new : List Piece) (piece : Piece) (nodes none : List Node) (path : List Choice) → new ≡ old ++ piece ∷ [] → piece.nodes.items ≡ nodes → none ≡ [] → piece.path.items ≡ path →
     items_before new ++ map Has none ≡ (items_before old ++ map Has nodes) ++ Lacks path piece.filling.items ∷ []
 piece_pushed old new piece nodes none path pushed here empty leads =

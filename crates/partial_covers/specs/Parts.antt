@@ -33,7 +33,7 @@ AreRunsFor q (Open other mode) found = AreRunsOf q (machine_of_mode q.program mo
 pub record IsMadeAt (s : ProgramSketch) (shown : Shown) (outcomes : KnownOutcomes) (path : List Choice) (made : PartCover) : Type 0 where
   pub in_order : IsInOrder made.found
   pub runs : AreRunsFor (asked s.program shown) outcomes made.found
-  pub kept : PushesPartialAt s shown made.found.by_number.items path [] (items_of made.kept)
+  pub kept : PushesPartialAt s shown made.found.outcomes.items path [] (items_of made.kept)
 
 -- it is so of the sketch to which its own path leads
 abbrev pub IsCoverFrom : ProgramSketch → Shown → KnownOutcomes → PartCover → Type 0

@@ -35,7 +35,7 @@ pub(crate) fn fill<W: Watch>(
 {
     let empty = Sketch::new(sought.alloc, sought.program, sought.mode)?;
     empty.recall_facts();
-    let mut nodes = Vec::with_capacity(sought.alloc, kept.count())?;
+    let mut nodes = Vec::with_capacity(sought.alloc, kept.room())?;
     for piece in &kept.pieces {
         push_copies(&mut nodes, &piece.nodes, empty.mode())?;
         push_tree(sought, &empty, piece, outcomes, &mut nodes, watch)?;

@@ -84,7 +84,7 @@ pub(crate) fn fill_by<R: Threads + Sync>(
     let alloc = sought.alloc;
     let empty = Sketch::new(alloc, sought.program, sought.mode)?;
     empty.recall_facts();
-    let mut nodes = Vec::with_capacity(alloc, room_for(kept))?;
+    let mut nodes = Vec::with_capacity(alloc, kept.room())?;
     let mut holes = Vec::new(alloc);
     for i in 0..kept.pieces.len() {
         if holes.is_empty() {
@@ -100,13 +100,6 @@ pub(crate) fn fill_by<R: Threads + Sync>(
     }
     push_copies(&mut nodes, &kept.nodes, empty.mode())?;
     Ok(nodes)
-}
-
-/// Room for the nodes of a partial cover and for the trees in place of its holes, which are few: a list that grows past
-/// its room lies in memory twice for a while.
-fn room_for(kept: &PartialCover) -> usize {
-    let count = kept.count();
-    count.saturating_add(count / 8)
 }
 
 /// The next holes of pieces from a place on, the last of them first.

@@ -27,9 +27,9 @@ pub(crate) fn join(
     requires in_order { IsInOrder found.old }
     requires made { IsInOrder made.found }
     ensures in_order { OnOk result (IsInOrder found.new) }
-    ensures keeps { OnOk result (KeepsNumbers found.old.by_number.items found.new.by_number.items) }
+    ensures keeps { OnOk result (KeepsNumbers found.old.outcomes.items found.new.outcomes.items) }
     ensures runs { OnOk result ((q : Question) (mode : Machine) → AreRunsOf q mode made.found.runs made.found.outcomes.items → AreRunsOf q mode found.old.runs found.old.outcomes.items → AreRunsOf q mode found.new.runs found.new.outcomes.items) }
-    ensures tree { OnOk result ((s : ProgramSketch) (shown : ShownValue) (path : List ChoiceValue) → PushesPartialAt s shown made.found.by_number.items path [] (items_of made.kept) → PushesPartialAt s shown found.new.by_number.items path (items_of kept.old) (items_of kept.new)) }
+    ensures tree { OnOk result ((s : ProgramSketch) (shown : ShownValue) (path : List ChoiceValue) → PushesPartialAt s shown made.found.outcomes.items path [] (items_of made.kept) → PushesPartialAt s shown found.new.outcomes.items path (items_of kept.old) (items_of kept.new)) }
 {
     let PartCover {
         found: own,

@@ -46,8 +46,8 @@ pub fn all_outcomes<W: Watch>(
     requires { (none : IndexValue) → IsCoveredStart sought.now.program.now sought.now.shown.now (Open none sought.now.mode) start }
     ensures in_order { IfOk result (λ all. IsInOrder all.found) }
     ensures runs { IfOk result (λ all. AreRunsOf (asked sought.now.program.now sought.now.shown.now) (machine_of_mode sought.now.program.now sought.now.mode) all.found.runs all.found.outcomes.items) }
-    ensures kept { IfOk result (λ all. IsPartialCover sought.now.program.now sought.now.shown.now all.found.by_number.items all.kept) }
-    ensures tree { IfOk result (λ all. IsWholeCover (asked sought.now.program.now sought.now.shown.now) (machine_of_mode sought.now.program.now sought.now.mode) all.found.by_number.items all.tree) }
+    ensures kept { IfOk result (λ all. IsPartialCover sought.now.program.now sought.now.shown.now all.found.outcomes.items all.kept) }
+    ensures tree { IfOk result (λ all. IsWholeCover (asked sought.now.program.now sought.now.shown.now) (machine_of_mode sought.now.program.now sought.now.mode) all.found.outcomes.items all.tree) }
     ensures exact { IfOk result (λ all. (o : Outcome) → Contains all.found.outcomes.items o ↔ AllowsShown (asked sought.now.program.now sought.now.shown.now) (machine_of_mode sought.now.program.now sought.now.mode) o) }
 {
     // For the proof alone: what holds of every program is known where its threads are read.
@@ -63,6 +63,7 @@ pub fn all_outcomes<W: Watch>(
         Err(Stop::OutOfMemory) => return Err(AllocError),
         Err(Stop::New { .. }) => unreachable!(),
     };
+    kept.filled_count = kept.count();
     forget_fillings(sought.alloc, &mut kept.pieces);
     watch.finished(outcomes.count());
     match outcomes {

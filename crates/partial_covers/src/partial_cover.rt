@@ -19,6 +19,8 @@ pub struct PartialCover {
     pub pieces: Vec<Piece>,
     /// The nodes after the last hole.
     pub nodes: Vec<Node>,
+    /// How many nodes the sequential machine's tree has, once it is made; 0 before. Other trees have about as many.
+    pub filled_count: usize,
 }
 
 /// Nodes, and a hole after them: a place where a tree lacks. Each read has its value there.
@@ -41,6 +43,7 @@ impl PartialCover {
         PartialCover {
             pieces: Vec::new(alloc),
             nodes: Vec::new(alloc),
+            filled_count: 0,
         }
     }
 
@@ -80,15 +83,35 @@ impl PartialCover {
     pub(crate) fn append(&mut self, alloc: Global, part: PartialCover) -> Result<(), AllocError>
         ensures { OnOk result (items_of self.new ≡ items_of self.old ++ items_of part) }
     {
-        let PartialCover { pieces, nodes } = part;
+        let PartialCover { pieces, nodes, .. } = part;
         for piece in pieces {
             self.push_piece(alloc, piece)?;
         }
         self.nodes.extend_from_slice(&nodes)
     }
 
-    /// Puts a piece after the nodes.
+    /// Puts a piece after the nodes. It is copied only where nodes stand before it.
     fn push_piece(&mut self, alloc: Global, piece: Piece) -> Result<(), AllocError>
+        ensures { OnOk result (items_of self.new ≡ items_of self.old ++ map Has piece.nodes.items ++ Lacks piece.path.items piece.filling.items ∷ []) }
+    {
+        if self.nodes.is_empty() {
+            self.move_piece(piece)
+        } else {
+            self.copy_piece(alloc, piece)
+        }
+    }
+
+    /// Puts a piece after the others, as it lies in memory.
+    fn move_piece(&mut self, piece: Piece) -> Result<(), AllocError>
+        requires { self.old.nodes.items ≡ [] }
+        ensures { OnOk result (items_of self.new ≡ items_of self.old ++ map Has piece.nodes.items ++ Lacks piece.path.items piece.filling.items ∷ []) }
+    {
+        self.pieces.push(piece)?;
+        Ok(())
+    }
+
+    /// Puts a piece after the nodes, with these before its own.
+    fn copy_piece(&mut self, alloc: Global, piece: Piece) -> Result<(), AllocError>
         ensures { OnOk result (items_of self.new ≡ items_of self.old ++ map Has piece.nodes.items ++ Lacks piece.path.items piece.filling.items ∷ []) }
     {
         let Piece {
@@ -116,6 +139,13 @@ impl PartialCover {
             count = count.saturating_add(piece.filling.len());
         }
         count
+    }
+
+    /// Room for the nodes of a tree in which the holes are filled. A list that grows past its room lies in memory twice for
+    /// a while.
+    pub(crate) fn room(&self) -> usize {
+        let count = self.count().max(self.filled_count);
+        count.saturating_add(count / 8)
     }
 }
 

@@ -3,7 +3,24 @@ use Rattle.rowless_sketches.proofs.Vocabulary.{◌≡◌, ℕ, ◌<◌, List, []
 use Rattle.rowless_sketches.proofs.Vocabulary.{slice_get_within, Listing, Mode, Access, Event, Initial, At, ThreadTrace, ProgramSketch, mode_in, with_chosen, access_in, with_values, view_of}
 use Rattle.rowless_sketches.proofs.Vocabulary.{KeepsTraces, MarkedThread, IsValueMarkOf, LacksSource, EachEnds, traced_access, trace_accesses, no_accesses, given_to, with_value, IsSourceOf}
 use Rattle.rowless_sketches.proofs.Vocabulary.{ends_whole, accesses_same, given_back}
-use Rattle.rowless_sketches.proofs.ThreadValues.{merged_kept, merged_parts}
+use Rattle.rowless_sketches.proofs.Vocabulary.{◌≢◌, unwrap_or, given_at, given_lists, given_set, get_set_other, get_set_same, length-map}
+use Rattle.rowless_sketches.proofs.ThreadValues.{merged_kept, merged_parts, values_here}
+use Rattle.known_edges.specs.Kept.{given_in}
+use Rattle.thread_traces.specs.TraceTrees.{IsGivenMore}
+
+-- ---- the values that threads are given, where one trace is changed
+
+pub given_other : (thread_traces : List ThreadTrace) (t : ℕ) (c : ThreadTrace) (u : ℕ) → u ≢ t → given_in (set thread_traces t c) u ≡ given_in thread_traces u
+given_other thread_traces t c u ne = ap (λ (gs : List (List ℕ)). unwrap_or (slice_get gs u) []) (given_set thread_traces t c) ∙ ap (λ (o : Option (List ℕ)). unwrap_or o []) (get_set_other (given_lists thread_traces) t c.given u ne)
+
+pub given_more : (thread_traces : List ThreadTrace) (t value : ℕ) (own next : ThreadTrace) → slice_get thread_traces t ≡ Some own → next.given ≡ own.given ++ value ∷ [] →
+    IsGivenMore (given_in thread_traces) t value (given_in (set thread_traces t next))
+given_more thread_traces t value own next there is = (
+  given_at (set thread_traces t next) t next (get_set_same thread_traces t next (slice_get_within thread_traces t own there)) ∙ is ∙ ap (λ (g : List ℕ). g ++ value ∷ []) (sym (given_at thread_traces t own there)),
+  given_other thread_traces t next,
+)
+
+-- ---- a value that is taken back
 
 module _ (p : Listing) (mode : Mode) (thread_traces : List ThreadTrace) (kept : KeepsTraces p mode thread_traces [] []) (mark : MarkedThread) (earlier : ProgramSketch) (value : ℕ)
     (is : IsValueMarkOf mark earlier) (now : view_of p mode thread_traces [] [] ≡ with_chosen earlier (with_value earlier.chosen mark.thread value)) where
@@ -63,6 +80,20 @@ module _ (p : Listing) (mode : Mode) (thread_traces : List ThreadTrace) (sources
 
   pub taken_there : mark.thread < length thread_traces
   taken_there = mark_there p mode thread_traces alone mark earlier value is same
+
+  -- the thread was given this value last
+  pub taken_more : IsGivenMore (given_in (set thread_traces mark.thread mark.trace)) mark.thread value (given_in thread_traces)
+  taken_more =
+      let within : mark.thread < length earlier.chosen.given =
+      (let low = slice_get_within is.traces mark.thread mark.trace is.there in
+      let one = ap (λ (s : ProgramSketch). length s.chosen.given) is.seen in
+      let long = length-map is.traces (λ (c : ThreadTrace). c.given) in
+      omega arith) in
+      let back = given_at (set thread_traces mark.thread mark.trace) mark.thread mark.trace (get_set_same thread_traces mark.thread mark.trace taken_there) in
+      let was : given_to earlier.chosen mark.thread ≡ mark.trace.given = ap (λ (s : ProgramSketch). given_to s.chosen mark.thread) is.seen ∙ given_at is.traces mark.thread mark.trace is.there in (
+        ap (λ (s : ProgramSketch). given_to s.chosen mark.thread) now ∙ values_here earlier.chosen mark.thread (given_to earlier.chosen mark.thread ++ value ∷ []) within ∙ ap (λ (g : List ℕ). g ++ value ∷ []) (was ∙ sym back),
+        λ u ne. sym (given_other thread_traces mark.thread mark.trace u ne),
+      )
 
 -- ---- a read that lacks a source
 

@@ -2,14 +2,14 @@
 pub use Rattle.std.proofs.Common.{Bool, Contains, Err, IfOk, IsSome, IsTrue, List, None, Ok, Option, Result, Some, [], add-one, ap, arith, drop, drop-cons, false, get_or, inl, inr, length, not, refl}
 pub use Rattle.std.proofs.Common.{set, slice_get, subst, sym, take, true, vec_len, ℕ, ◌++◌, ◌+◌, ◌<◌, ◌↔◌, ◌∙◌, ◌∷◌, ◌≡◌, ◌≢◌, ◌≤◌, ◌⊎◌}
 pub use Rattle.std.proofs.lemmas.Bool.{cases_eq, cases_lt, not-true, not_from_false}
-pub use Rattle.std.proofs.lemmas.List.{drop_all, get_or-set_other, get_or-set_same, get_or_append_left, length-append, length-set, length_push}
+pub use Rattle.std.proofs.lemmas.List.{drop_all, get_or-set_other, get_or-set_same, get_or_append_left, length-append, length-map, length-set, length_push}
 pub use Rattle.std.proofs.lemmas.List.Elements.{Contains-append_left, Contains-get_or}
 pub use Rattle.std.proofs.lemmas.List.FromFn.{get_or-map-range_with_len, length-map-range_with_len}
 pub use Rattle.std.proofs.lemmas.Option.{none-some, same_Some, slice_get-get_or, slice_get_past, slice_get_read, slice_get_within, unwrap_or-slice_get}
 pub use Rattle.std.specs.Arc.{arc_value}
 pub use Rattle.std.specs.Global.{Vec}
 pub use Rattle.std.specs.List.{AllPairs}
-pub use Rattle.std.specs.Prelude.{IfSome, OnErr, is_some, option_and_then, option_to_list, slice_index, ◌==◌}
+pub use Rattle.std.specs.Prelude.{IfSome, OnErr, is_some, option_and_then, option_to_list, slice_index, unwrap_or, ◌==◌}
 pub use Rattle.candidate_executions.proofs.Orders.Lists.{get_set_other, get_set_same, some_value}
 pub use Rattle.candidate_executions.specs.Candidates.{Writes}
 pub use Rattle.candidate_executions.specs.Events.{ComesBefore}
@@ -25,14 +25,14 @@ pub use Rattle.known_edges.proofs.Lookups.{each_index}
 pub use Rattle.known_edges.proofs.Numbered.{accesses_same, ends_whole, whole_ends}
 pub use Rattle.known_edges.proofs.TracesKept.{no_accesses, no_trace, past_next, reads_there, trace_accesses, trace_last, trace_next}
 pub use Rattle.known_edges.specs.Choices.{IsRead, MayFollow, MayRead, ReadsThisValue}
-pub use Rattle.known_edges.specs.Kept.{AreOtherTwo, IsLawful, KeepsTraces, given_lists, view_of}
+pub use Rattle.known_edges.specs.Kept.{AreOtherTwo, IsLawful, KeepsTraces, given_in, given_lists, view_of}
 pub use Rattle.known_edges.specs.Known.{IsInitialWrite}
 pub use Rattle.known_edges.specs.ProgramSketches.{ProgramSketch, access_in, mode_in, trace_in, with_chosen}
 pub use Rattle.known_edges.specs.Rows.{EachEnds, NumberedTraces, traced_access}
 pub use Rattle.known_edges.specs.Writes.{HasLater, IsLastWith, IsWritten, IsWrittenBy, WritesTo}
 pub use Rattle.known_edges.specs.declared.known_truth.Knowledge.{Knowledge}
 pub use Rattle.thread_traces.proofs.KnownParts.{no, not_by, of_some, yes}
-pub use Rattle.thread_traces.proofs.ValuesGiven.{given_back, kept_known, known_is, none_known}
+pub use Rattle.thread_traces.proofs.ValuesGiven.{given_back}
 pub use Rattle.thread_traces.specs.ThreadTraces.{IsThreadTraceOf}
 pub use Rattle.thread_traces.specs.declared.thread_trace.ThreadTrace.{ThreadTrace}
 pub use Rattle.tso_machine.specs.Modes.{machine_of_mode}

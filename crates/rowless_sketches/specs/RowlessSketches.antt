@@ -1,18 +1,18 @@
 -- Sketches without rows.
-use Rattle.std.specs.Prelude.{◌≡◌, ◌↔◌, ℕ, List, [], Some, Contains, slice_get, Option}
+use Rattle.std.specs.Prelude.{◌≡◌, ◌↔◌, ℕ, List, [], Some, Contains, slice_get}
 use Rattle.std.specs.List.{AllPairs}
 use Rattle.candidate_executions.specs.declared.event.Event.{Event}
 use Rattle.candidate_executions.specs.Events.{ComesBefore}
 use Rattle.candidate_executions.specs.Sketches.{IsWhole, IsSourceOf}
 use Rattle.thread_traces.specs.declared.thread_trace.ThreadTrace.{ThreadTrace}
 use Rattle.known_edges.specs.ProgramSketches.{ProgramSketch, mode_in}
-use Rattle.known_edges.specs.Kept.{view_of, KeepsTraces}
+use Rattle.known_edges.specs.Kept.{view_of, given_in, KeepsTraces}
 use Rattle.known_edges.specs.Choices.{IsRead, HasSource}
 use Rattle.tso_program.specs.declared.listing.Listing.{Listing}
 use Rattle.tso_machine.specs.declared.mode.Mode.{Mode}
-use Rattle.thread_traces.specs.declared.known_traces.KnownTrace.{KnownTrace}
+use Rattle.thread_traces.specs.declared.trace_tree.TraceTree.{TraceTree}
 use Rattle.thread_traces.specs.ValueLists.{IsValueList}
-use Rattle.thread_traces.specs.KnownTraces.{AreKnown}
+use Rattle.thread_traces.specs.TraceTrees.{IsTraceTree}
 
 -- what is kept of a thread before it is given a value
 pub record MarkedThread : Type 0 where
@@ -51,7 +51,7 @@ abbrev pub AreSomeLists : Listing → List (List ℕ) → Type 0
 AreSomeLists p lists = (location : ℕ) (values : List ℕ) → slice_get lists location ≡ Some values → IsValueList p location values
 
 -- what is kept of a sketch without rows
-pub record KeepsChoices (p : Listing) (mode : Mode) (thread_traces : List ThreadTrace) (sources pairs : List (Event × Event)) (lists : List (List ℕ)) (known : List (Option KnownTrace)) : Type 0 where
+pub record KeepsChoices (p : Listing) (mode : Mode) (thread_traces : List ThreadTrace) (sources pairs : List (Event × Event)) (lists : List (List ℕ)) (tree : TraceTree) : Type 0 where
   pub kept : KeepsTraces p mode thread_traces sources pairs
   pub lists_are : AreSomeLists p lists
-  pub known_are : AreKnown p mode known
+  pub tree_is : IsTraceTree p mode (given_in thread_traces) tree

@@ -20,7 +20,7 @@ use known_edges::{copied, with_room};
 use std::alloc::{AllocError, Global};
 use std::marker::Model;
 use std::mem;
-use thread_traces::{KnownTrace, SharedTrace, value_lists};
+use thread_traces::{SharedTrace, TraceTree, value_lists};
 use tso_program::{Outcome, Shown};
 
 /// A sketch without rows: values, sources and orders are chosen in it and taken back, and a known edge is looked
@@ -32,7 +32,7 @@ pub struct RowlessSketch {
     sources: Vec<(Event, Event)>,
     pairs: Vec<(Event, Event)>,
     values: Vec<SharedValues>,
-    known: Vec<Option<KnownTrace>>,
+    tree: TraceTree,
 }
 
 /// What a thread did before it was given a value.
@@ -65,7 +65,7 @@ impl Model for RowlessSketch {
 
     ghost view = { λ s. view_of s.base.program s.base.mode s.thread_traces.items s.sources.items s.pairs.items };
 
-    ghost invariant = { λ s. KeepsChoices s.base.program s.base.mode s.thread_traces.items s.sources.items s.pairs.items s.values.items s.known.items };
+    ghost invariant = { λ s. KeepsChoices s.base.program s.base.mode s.thread_traces.items s.sources.items s.pairs.items s.values.items s.tree };
 }
 
 impl RowlessSketch {
@@ -84,7 +84,7 @@ impl RowlessSketch {
             sources: with_room(alloc, parts.sources)?,
             pairs: with_room(alloc, parts.pairs)?,
             values,
-            known: Vec::new(alloc),
+            tree: TraceTree::new(alloc, parts.thread_traces.len())?,
         })
     }
 
@@ -136,7 +136,7 @@ impl RowlessSketch {
         let place = t as usize;
         let thread_traces = self.thread_traces.as_slice();
         let given = &thread_traces[place];
-        let next = trace_after(&self.base, &mut self.known, given, t, value)?;
+        let next = trace_after(&self.base, &mut self.tree, given, t, value)?;
         let trace = mem::replace(&mut self.thread_traces[place], next);
         Ok(ValueMark { thread: t, trace })
     }
@@ -147,7 +147,8 @@ impl RowlessSketch {
         ensures { (earlier : ProgramSketch) (value : ℕ) → IsValueMarkOf mark earlier → self.old ≡ with_chosen earlier (sketches.with_value earlier.chosen mark.thread value) → self.new ≡ earlier }
     {
         let place = mark.thread as usize;
-        self.thread_traces[place] = mark.trace;
+        let own = mem::replace(&mut self.thread_traces[place], mark.trace);
+        self.tree.leave(mark.thread, own);
     }
 
     /// Whether each read has its value, and no write gives this read its own.

@@ -36,7 +36,7 @@ stops_open q machine mode old new (stop.New run sketch) is = is
 stops_open q machine mode old new stop.OutOfMemory is = tt
 
 -- an open list that found more
-module _ (q : Question) (mode : own.Mode) (old new : OutcomeIndex) (in_order : IsInOrder new) (keeps : KeepsNumbers old.by_number.items new.by_number.items)
+module _ (q : Question) (mode : own.Mode) (old new : OutcomeIndex) (in_order : IsInOrder new) (keeps : KeepsNumbers old.outcomes.items new.outcomes.items)
     (runs : AreRunsOf q (machine_of_mode q.program mode) old.runs old.outcomes.items → AreRunsOf q (machine_of_mode q.program mode) new.runs new.outcomes.items) where
   pub grows_open : Grows q (Open old mode) (Open new mode)
   grows_open = record { in_order = in_order; keeps = keeps; runs = runs; stays = (new, refl); stops = λ machine why is. stops_open q machine mode old new why is }

@@ -18,3 +18,5 @@ pub mod CombinedSketches
 pub mod CombinedCovers
 pub mod TraceNodes
 pub mod UnsourcedTrees
+pub mod Halving
+pub mod PutInOrder

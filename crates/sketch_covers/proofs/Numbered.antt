@@ -2,7 +2,7 @@
 use Rattle.cert_forest.specs.NodeConstants.{NEAR_RUNS}
 use Rattle.sketch_covers.proofs.Vocabulary.{lit<, ◌≡◌, ℕ, zero, suc, ◌+◌, ◌<◌, ◌≤◌, List, [], ◌∷◌, ◌++◌, Some, Contains, slice_get, get_or, length, refl, sym, ap, ◌∙◌, subst, inl, inr, arith}
 use Rattle.sketch_covers.proofs.Vocabulary.{length-append, get_or_push, same_Some, slice_get_within, slice_get-get_or, get_or_from_slice_get, unwrap_or-slice_get, ◌^◌, AllZip, insert, cases_lt}
-use Rattle.sketch_covers.proofs.Vocabulary.{length-insert, Outcome, Label, OutcomeIndex, HasNumber, KeepsNumbers, IsInOrder, place_in, Ascend, BelongsAt, none_here, first_or_later}
+use Rattle.sketch_covers.proofs.Vocabulary.{length-insert, Option, Outcome, Label, OutcomeIndex, HasNumber, KeepsNumbers, IsInOrder, ascending, numbered, place_in, with_first, Ascend, BelongsAt, none_here, first_or_later}
 use Rattle.std.proofs.Math.ListN.{get_or-append}
 use Rattle.std.proofs.lemmas.List.Elements.{Contains-append_cases}
 use Rattle.std.proofs.lemmas.Slice.Zip.{AllZip-long}
@@ -26,54 +26,83 @@ still_numbers old new [] [] keeps all = tt
 still_numbers old new (n ∷ ns) (o ∷ os) keeps all = (keeps n o all.0, still_numbers old new ns os keeps all.1)
 still_numbers old new ns os keeps all = absurd all
 
-zip_at : {A B : Type 0} (R : A → B → Type 0) (xs : List A) (ys : List B) (i : ℕ) (d : A) (e : B) → AllZip R xs ys → i < length ys → R (get_or xs i d) (get_or ys i e)
+pub zip_at : {A B : Type 0} (R : A → B → Type 0) (xs : List A) (ys : List B) (i : ℕ) (d : A) (e : B) → AllZip R xs ys → i < length ys → R (get_or xs i d) (get_or ys i e)
 zip_at R xs [] i d e all h = absurd (omega arith)
 zip_at R [] (b ∷ ys) i d e all h = absurd all
 zip_at R (a ∷ xs) (b ∷ ys) zero d e all h = all.0
 zip_at R (a ∷ xs) (b ∷ ys) (suc i) d e all h = zip_at R xs ys i d e all.1 (omega arith)
 
+-- outcomes that have these numbers are those with these numbers
+pub numbered_is : (outcomes : List Outcome) (ns : List ℕ) (os : List Outcome) → AllZip (HasNumber outcomes) ns os → numbered outcomes ns ≡ os
+numbered_is outcomes [] [] all = refl
+numbered_is outcomes (n ∷ ns) (o ∷ os) all = ap (λ (found : Option Outcome). with_first found (numbered outcomes ns)) all.0 ∙ ap (λ (xs : List Outcome). o ∷ xs) (numbered_is outcomes ns os all.1)
+numbered_is outcomes ns os all = absurd all
+
+-- nothing is in order
+pub none_in_order : (found : OutcomeIndex) → found.outcomes.items ≡ [] → found.numbers.items ≡ [] → found.runs ≡ [] → IsInOrder found
+none_in_order found outcomes numbers runs =
+    let none : ascending found ≡ [] = ap (numbered found.outcomes.items) numbers in
+    record {
+      ascend = subst Ascend (sym none) (λ i j d h below. absurd (omega arith));
+      numbers = subst (λ (ns : List ℕ). AllZip (HasNumber found.outcomes.items) ns (numbered found.outcomes.items ns)) (sym numbers) tt;
+      all = λ o here. absurd (none_here o (subst (λ (os : List Outcome). Contains os o) outcomes here));
+      one_each = ap length numbers ∙ sym (ap length outcomes);
+      as_many = ap length runs ∙ sym (ap length outcomes);
+      few = (let none = ap length outcomes in omega arith);
+    }
+
 module _ (found : OutcomeIndex) (in_order : IsInOrder found) (o : Outcome) (place : ℕ) where
   -- beside an outcome at its place stands its number
-  module _ (at : slice_get found.outcomes.items place ≡ Some o) where
+  module _ (at : HasNumber (ascending found) place o) where
     pub number_within : place < length found.numbers.items
-    number_within = (let within = slice_get_within found.outcomes.items place o at in let long = AllZip-long (HasNumber found.by_number.items) found.numbers.items found.outcomes.items in_order.numbers in omega arith)
+    number_within = (let within = slice_get_within (ascending found) place o at in let long = AllZip-long (HasNumber found.outcomes.items) found.numbers.items (ascending found) in_order.numbers in omega arith)
 
-    pub number_is : (n d : ℕ) → n ≡ get_or found.numbers.items place d → HasNumber found.by_number.items n o
+    pub number_is : (n d : ℕ) → n ≡ get_or found.numbers.items place d → HasNumber found.outcomes.items n o
     number_is n d same =
-        subst (λ (x : Outcome). HasNumber found.by_number.items n x) (get_or_from_slice_get found.outcomes.items place o o at)
-        (subst (λ (m : ℕ). HasNumber found.by_number.items m (get_or found.outcomes.items place o)) (sym same)
-        (zip_at (HasNumber found.by_number.items) found.numbers.items found.outcomes.items place d o in_order.numbers (slice_get_within found.outcomes.items place o at)))
+        subst (λ (x : Outcome). HasNumber found.outcomes.items n x) (get_or_from_slice_get (ascending found) place o o at)
+        (subst (λ (m : ℕ). HasNumber found.outcomes.items m (get_or (ascending found) place o)) (sym same)
+        (zip_at (HasNumber found.outcomes.items) found.numbers.items (ascending found) place d o in_order.numbers (slice_get_within (ascending found) place o at)))
 
   -- one that belongs at a place has none
-  module _ (belongs : BelongsAt found.outcomes.items o place) where
-    pub not_listed : Contains found.by_number.items o → ⊥
-    not_listed here = not_there found.outcomes.items o place belongs (in_order.all o here)
+  module _ (belongs : BelongsAt (ascending found) o place) where
+    pub not_listed : Contains found.outcomes.items o → ⊥
+    not_listed here = not_there (ascending found) o place belongs (in_order.all o here)
 
     pub place_within : place ≤ length found.numbers.items
-    place_within = (let within = belongs.within in let long = AllZip-long (HasNumber found.by_number.items) found.numbers.items found.outcomes.items in_order.numbers in omega arith)
+    place_within = (let within = belongs.within in let long = AllZip-long (HasNumber found.outcomes.items) found.numbers.items (ascending found) in_order.numbers in omega arith)
 
     -- with this one added
-    pub in_order_added : (new : OutcomeIndex) (labels : List Label) → new.by_number.items ≡ found.by_number.items ++ o ∷ [] → new.outcomes.items ≡ insert found.outcomes.items place o →
-        new.numbers.items ≡ insert found.numbers.items place (length found.by_number.items) → new.runs ≡ insert found.runs place labels → IsInOrder new
-    in_order_added new labels names outcomes numbers runs = record {
-      ascend = subst Ascend (sym outcomes) (ascend_insert found.outcomes.items o place belongs in_order.ascend);
-      numbers = subst (λ (xs : List Outcome). AllZip (HasNumber xs) new.numbers.items new.outcomes.items) (sym names)
-          (subst (λ (ns : List ℕ). AllZip (HasNumber (found.by_number.items ++ o ∷ [])) ns new.outcomes.items) (sym numbers)
-          (subst (λ (os : List Outcome). AllZip (HasNumber (found.by_number.items ++ o ∷ [])) (insert found.numbers.items place (length found.by_number.items)) os) (sym outcomes)
-          (zip_insert (HasNumber (found.by_number.items ++ o ∷ [])) found.numbers.items found.outcomes.items place (length found.by_number.items) o
-          (still_numbers found.by_number.items (found.by_number.items ++ o ∷ []) found.numbers.items found.outcomes.items (keeps_push found.by_number.items o) in_order.numbers) (number_push found.by_number.items o))));
-      all = λ x here. subst (λ (xs : List Outcome). Contains xs x) (sym outcomes) (elim (Contains-append_cases found.by_number.items (o ∷ []) x (subst (λ (xs : List Outcome). Contains xs x) names here)) [
-        | inl before ↦ keeps_insert found.outcomes.items o place belongs x (in_order.all x before)
-        | inr last ↦ elim (first_or_later o [] x last) [
-          | inl e ↦ subst (Contains (insert found.outcomes.items place o)) e (has_insert found.outcomes.items o place belongs)
-          | inr none ↦ absurd (none_here x none)
-        ]
-      ]);
-      as_many = (
-          let long = ap length runs ∙ length-insert found.runs place labels (let w = belongs.within in let same = in_order.as_many in omega arith) in
-          let many = ap length outcomes ∙ length-insert found.outcomes.items place o belongs.within in
-          let same = in_order.as_many in omega arith);
-    }
+    module _ (new : OutcomeIndex) (labels : List Label) (outcomes : new.outcomes.items ≡ found.outcomes.items ++ o ∷ []) (numbers : new.numbers.items ≡ insert found.numbers.items place (length found.outcomes.items))
+        (runs : new.runs ≡ found.runs ++ labels ∷ []) (few : length found.outcomes.items < NEAR_RUNS) where
+      abbrev one_more : List Outcome
+      one_more = insert (ascending found) place o
+
+      in_step : AllZip (HasNumber new.outcomes.items) new.numbers.items one_more
+      in_step =
+          subst (λ (xs : List Outcome). AllZip (HasNumber xs) new.numbers.items one_more) (sym outcomes)
+          (subst (λ (ns : List ℕ). AllZip (HasNumber (found.outcomes.items ++ o ∷ [])) ns one_more) (sym numbers)
+          (zip_insert (HasNumber (found.outcomes.items ++ o ∷ [])) found.numbers.items (ascending found) place (length found.outcomes.items) o
+          (still_numbers found.outcomes.items (found.outcomes.items ++ o ∷ []) found.numbers.items (ascending found) (keeps_push found.outcomes.items o) in_order.numbers) (number_push found.outcomes.items o)))
+
+      inserted : ascending new ≡ one_more
+      inserted = numbered_is new.outcomes.items new.numbers.items one_more in_step
+
+      pub in_order_added : IsInOrder new
+      in_order_added = record {
+        ascend = subst Ascend (sym inserted) (ascend_insert (ascending found) o place belongs in_order.ascend);
+        numbers = subst (AllZip (HasNumber new.outcomes.items) new.numbers.items) (sym inserted) in_step;
+        all = λ x here. subst (λ (xs : List Outcome). Contains xs x) (sym inserted) (elim (Contains-append_cases found.outcomes.items (o ∷ []) x (subst (λ (xs : List Outcome). Contains xs x) outcomes here)) [
+          | inl before ↦ keeps_insert (ascending found) o place belongs x (in_order.all x before)
+          | inr last ↦ elim (first_or_later o [] x last) [
+            | inl e ↦ subst (Contains one_more) e (has_insert (ascending found) o place belongs)
+            | inr none ↦ absurd (none_here x none)
+          ]
+        ]);
+        one_each = (let long = AllZip-long (HasNumber new.outcomes.items) new.numbers.items one_more in_step in let many = ap length outcomes ∙ push_long found.outcomes.items o in let more = length-insert (ascending found) place o belongs.within in
+            let so_far = AllZip-long (HasNumber found.outcomes.items) found.numbers.items (ascending found) in_order.numbers in let same = in_order.one_each in omega arith);
+        as_many = (let long = ap length runs ∙ push_long found.runs labels in let many = ap length outcomes ∙ push_long found.outcomes.items o in let same = in_order.as_many in omega arith);
+        few = (let many = ap length outcomes ∙ push_long found.outcomes.items o in omega arith);
+      }
 
 -- the places of one outcome more
 pub places_more : (by_number outcomes : List Outcome) (places more : List ℕ) (i p : ℕ) (o : Outcome) → length places ≡ i → more ≡ places ++ p ∷ [] → HasNumber by_number i o → HasNumber outcomes p o →

@@ -1,6 +1,6 @@
 -- What many proofs of this crate speak of, imported once.
 pub use Rattle.std.proofs.Common.{Bool, Bor, Box, Contains, Global, IfOk, IfSome, List, None, Option, Some, [], ap, append_assoc, arith, drop, false, get_or, inl, inr, length, lit<, map, refl, rules}
-pub use Rattle.std.proofs.Common.{slice_get, subst, suc, sym, take, true, zero, ℕ, ◌++◌, ◌+◌, ◌-◌, ◌<◌, ◌↔◌, ◌∙◌, ◌∷◌, ◌≡◌, ◌≢◌, ◌≤◌}
+pub use Rattle.std.proofs.Common.{slice_get, subst, suc, sym, take, true, zero, ℕ, ◌++◌, ◌+◌, ◌-◌, ◌/◌, ◌<◌, ◌↔◌, ◌∙◌, ◌∷◌, ◌≡◌, ◌≢◌, ◌≤◌}
 pub use Rattle.std.proofs.Math.ListN.{set}
 pub use Rattle.std.proofs.lemmas.Bool.{cases_eq, cases_lt}
 pub use Rattle.std.proofs.lemmas.List.{append-nil, get_or_push, length-append, length-drop, length-map, map-append, set-set, take_all, take_more}
@@ -69,7 +69,7 @@ pub use Rattle.sketch_covers.specs.Ascending.{Ascend, BelongsAt}
 pub use Rattle.sketch_covers.specs.Covers.{AreCoversAfter, AreNeat, IsCoverAfter, IsCoverAt, IsEndNotListed, IsLeafAt, IsNeat, IsWholeCover, node_over, tree_over}
 pub use Rattle.sketch_covers.specs.KnownOutcomes.{AreInOrder, Grows, HasOwnEnd, HasRunOfEach, OnTold, StaysOf, StopIs, by_number}
 pub use Rattle.sketch_covers.specs.NodeChanges.{renumbered_node}
-pub use Rattle.sketch_covers.specs.OutcomeNumbers.{AreRunsOf, HasNumber, IsInOrder, Keeps, KeepsNumbers, place_in}
+pub use Rattle.sketch_covers.specs.OutcomeNumbers.{AreFoundOf, ArePlacesOf, AreRunsOf, HasNumber, IsInOrder, IsRunOf, Keeps, KeepsNumbers, ascending, numbered, place_in, with_first}
 pub use Rattle.sketch_covers.specs.Pushing.{Begins, BeginsIfNew, IfKnown, IsTaken, Pushes}
 pub use Rattle.sketch_covers.specs.ShownRuns.{IsShownRunOf}
 pub use Rattle.sketch_covers.specs.UnsourcedTraces.{Closes, Takes}

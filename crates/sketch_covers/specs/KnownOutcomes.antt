@@ -18,7 +18,7 @@ use Rattle.sketch_covers.specs.Ascending.{Ascend}
 -- the outcomes, in the order of their numbers
 abbrev pub by_number : KnownOutcomes → List Outcome
 by_number (Closed outcomes) = outcomes.now
-by_number (Open found mode) = found.by_number.items
+by_number (Open found mode) = found.outcomes.items
 
 -- a closed list ascends, and an open one is in order
 abbrev pub AreInOrder : KnownOutcomes → Type 0
@@ -33,7 +33,7 @@ HasRunOfEach q (Open found mode) = AreRunsOf q (machine_of_mode q.program mode) 
 -- a list that is open for the sketch's own mode has an outcome as which the sketch must end
 abbrev pub HasOwnEnd : ProgramSketch → Shown → KnownOutcomes → Type 0
 HasOwnEnd s shown (Closed outcomes) = Unit {0}
-HasOwnEnd s shown (Open found mode) = machine_of_mode s.program mode ≡ mode_in s → (o : Outcome) × MustEndAs (asked s.program shown) (mode_in s) s.chosen o × Contains found.by_number.items o
+HasOwnEnd s shown (Open found mode) = machine_of_mode s.program mode ≡ mode_in s → (o : Outcome) × MustEndAs (asked s.program shown) (mode_in s) s.chosen o × Contains found.outcomes.items o
 
 -- why no tree is found in a mode: a closed list lacks the outcome of a run, and an open list is open for another mode
 abbrev pub StopIs : Question → Machine → KnownOutcomes → Stop → Type 0

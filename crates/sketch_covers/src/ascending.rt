@@ -2,7 +2,6 @@
 ghost use Rattle.std.specs.Prelude.{◌≡◌, IfOk, IfErr, Some, slice_get};
 ghost use Rattle.sketch_covers.specs.Ascending.{Ascend, BelongsAt};
 
-use std::alloc::{AllocError, Global};
 use tso_program::Outcome;
 
 /// The place of an outcome in a list that ascends, or else the place where it belongs.
@@ -12,15 +11,4 @@ pub fn place_of(outcomes: &[Outcome], outcome: &Outcome) -> Result<usize, usize>
     ensures belongs { IfErr result (BelongsAt outcomes.now outcome.now) }
 {
     outcomes.binary_search(outcome)
-}
-
-/// Equal outcomes.
-pub fn copies(alloc: Global, outcomes: &[Outcome]) -> Result<Vec<Outcome>, AllocError>
-    ensures { IfOk result (λ copies. copies.items ≡ outcomes.now) }
-{
-    let mut copies = Vec::new(alloc);
-    for outcome in outcomes {
-        copies.push(outcome.copy(alloc)?)?;
-    }
-    Ok(copies)
 }

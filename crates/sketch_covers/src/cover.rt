@@ -85,7 +85,7 @@ impl TreeSearch<'_> {
             sketch,
             &self.accesses,
             self.shown,
-            outcomes.ascending(),
+            outcomes.ordered(),
         )? {
             Some(branch) => self.cover_over(sketch, &branch, outcomes, nodes),
             None => self.end(sketch, outcomes, nodes),

@@ -17,7 +17,7 @@ use crate::outcome_index::OutcomeIndex;
 use crate::run::{run_if_complete, shown_run};
 use crate::same_choices::sketch_in;
 use crate::same_machine::have_same_machine;
-use branching::WholeAccesses;
+use branching::{OrderedOutcomes, WholeAccesses};
 use run_maker::MadeRun;
 use sketches::{Mode, Sketch};
 use std::alloc::{AllocError, Global};
@@ -39,7 +39,7 @@ impl KnownOutcomes<'_> {
     {
         match self {
             KnownOutcomes::Closed(outcomes) => outcomes,
-            KnownOutcomes::Open { found, .. } => &found.by_number,
+            KnownOutcomes::Open { found, .. } => &found.outcomes,
         }
     }
 
@@ -47,15 +47,18 @@ impl KnownOutcomes<'_> {
     pub fn count(&self) -> usize {
         match self {
             KnownOutcomes::Closed(outcomes) => outcomes.len(),
-            KnownOutcomes::Open { found, .. } => found.by_number.len(),
+            KnownOutcomes::Open { found, .. } => found.outcomes.len(),
         }
     }
 
     /// The same outcomes, ascending.
-    pub fn ascending(&self) -> &[Outcome] {
+    pub(crate) fn ordered(&self) -> OrderedOutcomes<'_> {
         match self {
-            KnownOutcomes::Closed(outcomes) => outcomes,
-            KnownOutcomes::Open { found, .. } => &found.outcomes,
+            KnownOutcomes::Closed(outcomes) => OrderedOutcomes {
+                outcomes,
+                numbers: None,
+            },
+            KnownOutcomes::Open { found, .. } => found.ordered(),
         }
     }
 
@@ -87,7 +90,7 @@ impl KnownOutcomes<'_> {
     {
         if let KnownOutcomes::Open { found, mode } = self {
             if let Some(run) = run_in(alloc, sketch, accesses, *mode, shown)? {
-                found.add(alloc, run.outcome, run.labels)?;
+                found.add(run.outcome, run.labels)?;
             }
         }
         Ok(())

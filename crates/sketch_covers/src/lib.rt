@@ -13,6 +13,7 @@
 
 mod access_ids;
 mod ascending;
+mod ascending_outcomes;
 mod cover;
 mod known_outcomes;
 mod leaf;
@@ -25,7 +26,8 @@ mod sequential_nodes;
 mod stop;
 mod unsourced_trees;
 
-pub use ascending::{copies, place_of};
+pub use ascending::place_of;
+pub use ascending_outcomes::{AscendingOutcomes, in_ascending_order};
 pub use cover::cover_whole;
 pub use known_outcomes::KnownOutcomes;
 pub use leaf::known_leaf;

@@ -1,13 +1,17 @@
 //! The outcomes that a search has found so far, with their numbers and their runs.
-ghost use Rattle.std.specs.Prelude.{◌≡◌, ◌<◌, ◌≤◌, ℕ, IfOk, OnOk, MatchOption, Contains, length};
+ghost use Rattle.std.specs.Prelude.{◌≡◌, ◌<◌, ℕ, IfOk, IfErr, OnOk, MatchOption, Contains, length, slice_index_or};
+ghost use Rattle.tso_program.specs.declared.outcome.Outcome.{Outcome as OutcomeValue};
 ghost use Rattle.tso_program.specs.Shown.{Question};
+ghost use Rattle.tso_program.specs.Ordered.{outcome_cmp};
 ghost use Rattle.tso_machine.specs.Machine.{Machine};
 ghost use Rattle.tso_machine.specs.Outcomes.{IsShownRun};
-ghost use Rattle.sketch_covers.specs.OutcomeNumbers.{IsInOrder, HasNumber, KeepsNumbers, AreRunsOf, ArePlacesOf, place_in};
+ghost use Rattle.sketch_covers.specs.Ascending.{BelongsAt};
+ghost use Rattle.sketch_covers.specs.OutcomeNumbers.{ascending, IsInOrder, HasNumber, KeepsNumbers, AreRunsOf, ArePlacesOf, IsRunOf, place_in};
 
-use crate::ascending::place_of;
+use branching::OrderedOutcomes;
 use cert_forest::{NEAR_RUNS, Runs};
 use std::alloc::{AllocError, Global};
+use std::cmp::Ordering;
 use tso_machine::Label;
 use tso_program::Outcome;
 
@@ -17,13 +21,11 @@ const MOST_NUMBERED: usize = NEAR_RUNS as usize;
 /// Outcomes, each with its number and a run: they are looked up in ascending order.
 #[derive(Debug, Drop)]
 pub struct OutcomeIndex {
-    /// In the order in which they are found. A tree names an outcome by its number here.
-    pub by_number: Vec<Outcome>,
-    /// The same outcomes, ascending.
+    /// In the order in which they are found. A tree names an outcome by its number, which is its place here.
     pub outcomes: Vec<Outcome>,
     /// The number of each, in ascending order of the outcomes.
-    pub numbers: Vec<usize>,
-    /// A run of each, in ascending order of the outcomes.
+    pub numbers: Vec<u32>,
+    /// A run of each, in the order of their numbers.
     pub runs: Runs,
 }
 
@@ -34,119 +36,145 @@ impl OutcomeIndex {
         ensures runs { (q : Question) (mode : Machine) → AreRunsOf q mode result.runs result.outcomes.items }
     {
         OutcomeIndex {
-            by_number: Vec::new(alloc),
             outcomes: Vec::new(alloc),
             numbers: Vec::new(alloc),
             runs: Runs::new(alloc),
         }
     }
 
+    /// The outcomes in ascending order.
+    pub(crate) fn ordered(&self) -> OrderedOutcomes<'_> {
+        OrderedOutcomes {
+            outcomes: &self.outcomes,
+            numbers: Some(&self.numbers),
+        }
+    }
+
     /// The number of an outcome. `None` if it is not there.
     pub(crate) fn number_of(&self, outcome: &Outcome) -> Option<usize>
         requires { IsInOrder self.now }
-        ensures { MatchOption result (Contains self.now.by_number.items outcome.now → ⊥) (λ number. HasNumber self.now.by_number.items number outcome.now) }
+        ensures { MatchOption result (Contains self.now.outcomes.items outcome.now → ⊥) (λ number. HasNumber self.now.outcomes.items number outcome.now) }
     {
-        match place_of(&self.outcomes, outcome) {
-            Ok(place) => Some(self.numbers[place]),
+        match self.place_of(outcome) {
+            Ok(place) => Some(self.numbers[place] as usize),
             Err(_) => None,
         }
     }
 
-    /// Adds an outcome with its run, unless it is there, and answers its number.
-    pub(crate) fn add(
-        &mut self,
-        alloc: Global,
-        outcome: Outcome,
-        labels: Vec<Label>,
-    ) -> Result<usize, AllocError>
+    /// The run of an outcome. `None` if it is not there.
+    pub fn run_of(&self, outcome: &Outcome) -> Option<&[Label]>
+        requires { IsInOrder self.now }
+        ensures { MatchOption result (Contains self.now.outcomes.items outcome.now → ⊥) (λ labels. IsRunOf self.now labels.now outcome.now) }
+    {
+        let number = self.number_of(outcome)?;
+        self.runs.get(number)
+    }
+
+    /// The place of an outcome in ascending order, or else the place where it belongs.
+    pub(crate) fn place_of(&self, outcome: &Outcome) -> Result<usize, usize>
+        requires { IsInOrder self.now }
+        ensures there { IfOk result (λ place. HasNumber (ascending self.now) place outcome.now) }
+        ensures belongs { IfErr result (BelongsAt (ascending self.now) outcome.now) }
+    {
+        let mut low = 0;
+        let mut high = self.numbers.len();
+        while low < high {
+            let middle = low + (high - low) / 2;
+            match self.compared(middle, outcome) {
+                Ordering::Less => low = middle + 1,
+                Ordering::Equal => return Ok(middle),
+                Ordering::Greater => high = middle,
+            }
+        }
+        Err(low)
+    }
+
+    /// How the outcome at a place in ascending order compares with another.
+    fn compared(&self, place: usize, outcome: &Outcome) -> Ordering
+        requires in_order { IsInOrder self.now }
+        requires within { place < length (ascending self.now) }
+        ensures { (d : OutcomeValue) → result ≡ outcome_cmp (slice_index_or (ascending self.now) place d) outcome.now }
+    {
+        let number = self.numbers[place];
+        self.outcomes[number as usize].cmp(outcome)
+    }
+
+    /// Adds an outcome with its run, unless it is there, and answers its number. There is no memory for more
+    /// than `MOST_NUMBERED`.
+    pub(crate) fn add(&mut self, outcome: Outcome, labels: Vec<Label>) -> Result<u32, AllocError>
         requires { IsInOrder self.old }
         ensures in_order { OnOk result (IsInOrder self.new) }
-        ensures number { IfOk result (λ number. HasNumber self.new.by_number.items number outcome) }
-        ensures keeps { OnOk result (KeepsNumbers self.old.by_number.items self.new.by_number.items) }
+        ensures number { IfOk result (λ number. HasNumber self.new.outcomes.items number outcome) }
+        ensures keeps { OnOk result (KeepsNumbers self.old.outcomes.items self.new.outcomes.items) }
         ensures runs { OnOk result ((q : Question) (mode : Machine) → AreRunsOf q mode self.old.runs self.old.outcomes.items → IsShownRun q mode labels.items outcome → AreRunsOf q mode self.new.runs self.new.outcomes.items) }
     {
-        match place_of(&self.outcomes, &outcome) {
+        match self.place_of(&outcome) {
             Ok(place) => Ok(self.numbers[place]),
-            Err(place) => {
-                let number = self.by_number.len();
-                self.by_number.push(outcome.copy(alloc)?)?;
-                self.outcomes.insert(place, outcome)?;
-                self.numbers.insert(place, number)?;
-                self.runs.insert(place, labels)?;
-                Ok(number)
-            }
+            Err(place) => self.add_at(place, outcome, labels),
         }
     }
 
+    /// Adds an outcome with its run, and puts its number where it belongs.
+    fn add_at(
+        &mut self,
+        place: usize,
+        outcome: Outcome,
+        labels: Vec<Label>,
+    ) -> Result<u32, AllocError>
+        requires in_order { IsInOrder self.old }
+        requires belongs { BelongsAt (ascending self.old) outcome place }
+        ensures in_order { OnOk result (IsInOrder self.new) }
+        ensures number { IfOk result (λ number. HasNumber self.new.outcomes.items number outcome) }
+        ensures keeps { OnOk result (KeepsNumbers self.old.outcomes.items self.new.outcomes.items) }
+        ensures runs { OnOk result ((q : Question) (mode : Machine) → AreRunsOf q mode self.old.runs self.old.outcomes.items → IsShownRun q mode labels.items outcome → AreRunsOf q mode self.new.runs self.new.outcomes.items) }
+    {
+        if self.outcomes.len() >= MOST_NUMBERED {
+            return Err(AllocError);
+        }
+        let number = self.outcomes.len() as u32;
+        self.numbers.insert(place, number)?;
+        self.outcomes.push(outcome)?;
+        self.runs.push(&labels)?;
+        Ok(number)
+    }
+
     /// Adds each outcome of another list that is new, with its run, and answers the numbers that they have here, in the
-    /// order of their numbers there. There is no memory for numbers that need more than one node.
+    /// order of their numbers there.
     pub fn add_all(&mut self, alloc: Global, other: &OutcomeIndex) -> Result<Vec<u32>, AllocError>
         requires in_order { IsInOrder self.old }
         requires other { IsInOrder other.now }
         ensures in_order { OnOk result (IsInOrder self.new) }
-        ensures keeps { OnOk result (KeepsNumbers self.old.by_number.items self.new.by_number.items) }
-        ensures numbers { IfOk result (λ numbers. ArePlacesOf other.now.by_number.items self.new.by_number.items numbers.items) }
+        ensures keeps { OnOk result (KeepsNumbers self.old.outcomes.items self.new.outcomes.items) }
+        ensures numbers { IfOk result (λ numbers. ArePlacesOf other.now.outcomes.items self.new.outcomes.items numbers.items) }
         ensures small { IfOk result (λ numbers. (n : ℕ) → place_in numbers.items n < NEAR_RUNS) }
-        ensures few { OnOk result (length other.now.by_number.items ≤ NEAR_RUNS) }
         ensures runs { OnOk result ((q : Question) (mode : Machine) → AreRunsOf q mode other.now.runs other.now.outcomes.items → AreRunsOf q mode self.old.runs self.old.outcomes.items → AreRunsOf q mode self.new.runs self.new.outcomes.items) }
     {
-        if other.by_number.len() > MOST_NUMBERED {
-            return Err(AllocError);
-        }
-        let mut numbers = Vec::with_capacity(alloc, other.by_number.len())?;
-        for outcome in &other.by_number {
-            numbers.push(self.add_from(alloc, other, outcome)?)?;
+        let mut numbers = Vec::with_capacity(alloc, other.outcomes.len())?;
+        for number in 0..other.outcomes.len() {
+            numbers.push(self.add_from(alloc, other, number)?)?;
         }
         Ok(numbers)
     }
 
-    /// Adds an outcome of another list with its run there, unless it is here, and answers its number.
+    /// Adds the outcome of a number in another list with its run there, unless it is here, and answers its number.
     fn add_from(
         &mut self,
         alloc: Global,
         other: &OutcomeIndex,
-        outcome: &Outcome,
+        number: usize,
     ) -> Result<u32, AllocError>
         requires in_order { IsInOrder self.old }
         requires other { IsInOrder other.now }
-        requires there { Contains other.now.by_number.items outcome.now }
+        requires there { number < length other.now.outcomes.items }
         ensures in_order { OnOk result (IsInOrder self.new) }
-        ensures keeps { OnOk result (KeepsNumbers self.old.by_number.items self.new.by_number.items) }
-        ensures number { IfOk result (λ number. HasNumber self.new.by_number.items number outcome.now) }
+        ensures keeps { OnOk result (KeepsNumbers self.old.outcomes.items self.new.outcomes.items) }
+        ensures number { IfOk result (λ here. (o : OutcomeValue) → HasNumber other.now.outcomes.items number o → HasNumber self.new.outcomes.items here o) }
         ensures runs { OnOk result ((q : Question) (mode : Machine) → AreRunsOf q mode other.now.runs other.now.outcomes.items → AreRunsOf q mode self.old.runs self.old.outcomes.items → AreRunsOf q mode self.new.runs self.new.outcomes.items) }
     {
-        let Ok(place) = place_of(&other.outcomes, outcome) else {
-            unreachable!()
-        };
-        let Some(labels) = other.runs.get(place) else {
+        let Some(labels) = other.runs.get(number) else {
             unreachable!()
         };
         let labels = Vec::from_slice(alloc, labels)?;
-        let number = self.add(alloc, outcome.copy(alloc)?, labels)?;
-        if self.by_number.len() > MOST_NUMBERED {
-            return Err(AllocError);
-        }
-        Ok(number as u32)
-    }
-
-    /// The place in ascending order of each outcome, in the order of their numbers. There is no memory for more of them than
-    /// `MOST_NUMBERED`.
-    pub fn places(&self, alloc: Global) -> Result<Vec<u32>, AllocError>
-        requires { IsInOrder self.now }
-        ensures places { IfOk result (λ places. ArePlacesOf self.now.by_number.items self.now.outcomes.items places.items) }
-        ensures small { IfOk result (λ places. (n : ℕ) → place_in places.items n < NEAR_RUNS) }
-        ensures few { OnOk result (length self.now.by_number.items ≤ NEAR_RUNS) }
-    {
-        if self.by_number.len() > MOST_NUMBERED || self.outcomes.len() > MOST_NUMBERED {
-            return Err(AllocError);
-        }
-        let mut places = Vec::with_capacity(alloc, self.by_number.len())?;
-        for outcome in &self.by_number {
-            match place_of(&self.outcomes, outcome) {
-                Ok(place) => places.push(place as u32)?,
-                Err(_) => unreachable!(),
-            }
-        }
-        Ok(places)
+        self.add(other.outcomes[number].copy(alloc)?, labels)
     }
 }

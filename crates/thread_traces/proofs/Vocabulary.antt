@@ -31,7 +31,6 @@ pub use Rattle.tso_program.specs.declared.instruction.Instr.TheVariants.{CmpImm,
 pub use Rattle.tso_program.specs.declared.listing.Listing.{Listing}
 pub use Rattle.tso_program.specs.declared.listing.Thread.{Thread}
 pub use Rattle.thread_traces.specs.Immediates.{HasImmediate, StoresRegister, TakesRegisterOf, any_number, number_stored, stored_number}
-pub use Rattle.thread_traces.specs.KnownTraces.{AreAmong, AreFrom, AreKnown, IsKnownAfter}
 pub use Rattle.thread_traces.specs.ThreadTraces.{GoesOn, IsThreadTraceOf, first_local, with_accesses}
 pub use Rattle.thread_traces.specs.TraceCounts.{CountSays, IsCountUpTo, combination_count, trace_count, values_at}
 pub use Rattle.thread_traces.specs.ValueLists.{IsValueList}

@@ -4,4 +4,4 @@ pub mod WriteBits
 pub mod Immediates
 pub mod ValueLists
 pub mod TraceCounts
-pub mod KnownTraces
+pub mod TraceTrees

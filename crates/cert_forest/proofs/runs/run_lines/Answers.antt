@@ -9,4 +9,4 @@ returns-in_err-run c =
 
 pub loop-preserved : goal.loop-preserved
 loop-preserved c =
-    rw c.in_ok-push.ensures (repeat_more run_at c.args.count c.loop.counter c.loop.found c.loop.rest.now c.in_ok-run.run'.items c.in_ok-run.after.now _ c.loop-test.true c.in_ok-run.ensures c.loop.invariant)
+    rw (c.in_ok-push.ensures.ok, c.deref.ensures.value) (repeat_more run_at c.args.count c.loop.counter c.loop.found c.loop.rest.now c.in_ok-run.run'.items c.in_ok-run.after.now _ c.loop-test.true c.in_ok-run.ensures c.loop.invariant)

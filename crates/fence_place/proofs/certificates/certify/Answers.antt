@@ -1,4 +1,5 @@
-use Rattle.fence_place.proofs.Vocabulary.{◌≡◌, ◌∙◌, ℕ, List, sym, ap, subst, total, Label, Certificate, AreShownPlaces, shows_of, Serving, IsServing, IsRecorded, IsProof}
+use Rattle.fence_place.proofs.Vocabulary.{◌≡◌, ◌∙◌, ◌<◌, ◌^◌, ℕ, List, length, sym, ap, subst, total, Label, Certificate, AreShownPlaces, shows_of, Serving, IsServing, IsRecorded, IsProof}
+use Rattle.std.specs.Arc.{arc_value}
 use Rattle.fence_place.proofs.CertificateMade.{is_proof}
 use Rattle.fence_place.proofs.certificates.certify.Goals as goal
 
@@ -14,7 +15,7 @@ returns-clause-proof c =
       shown = c.of-shows.result;
       gaps = c.set-set.result;
       cost = c.total.result;
-      seq_runs = c.in_ok-seq_runs.seq_runs;
+      seq_runs = arc_value c.in_ok-seq_runs.seq_runs;
       seq_tree = c.in_ok-copy.field-0;
       runs = runs;
       fenced_tree = c.in_ok-copy-2.field-0;
@@ -28,12 +29,12 @@ returns-clause-proof c =
       places = subst AreShownPlaces (sym c.of-shows.ensures) c.names_have_places.ensures;
       same_gaps = same_gaps;
       cost = cost;
-      seq_runs = c.in_ok-seq_runs.ensures ∙ c.runs-2.ensures;
+      seq_runs = c.in_ok-seq_runs.ensures;
       seq_tree = c.in_ok-copy.ensures ∙ c.tree.ensures;
       fenced_tree = c.in_ok-copy-2.ensures ∙ c.tree-2.ensures ∙ ap (λ (s : Serving). s.tree) is_served;
       numbered = c.in_ok-runs.ensures.numbers;
       of_nodes = c.in_ok-runs.ensures.runs;
       recorded = subst (λ (ns : List ℕ). IsRecorded o.entries ns c.in_ok-gap_tree.gap_tree 0) c.deref.ensures.value c.in_ok-gap_tree.ensures;
       few_runs = c.len.ensures.few;
-      few_seq_runs = c.len-2.ensures.few;
+      few_seq_runs = subst (λ (runs : List (List Label)). length runs < 2 ^ 64) c.deref-2.ensures c.len-2.ensures.few;
     }))

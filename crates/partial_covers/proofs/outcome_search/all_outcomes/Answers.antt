@@ -1,4 +1,4 @@
-use Rattle.partial_covers.proofs.Vocabulary.{[], refl, subst, asked, machine_of_mode, KnownOutcomes, IsWholeCover, by_number, AreInOrder, StopIs, grows_none, nothing_chosen, sequential}
+use Rattle.partial_covers.proofs.Vocabulary.{[], refl, subst, asked, machine_of_mode, KnownOutcomes, IsWholeCover, by_number, StopIs, grows_none, nothing_chosen, sequential}
 use Rattle.partial_covers.proofs.Vocabulary.{IsPartialCover, runs_found, never_new}
 use Rattle.std.specs.FinSet as set
 use Rattle.tso_machine.specs.declared.mode.Mode.TheVariants as modes
@@ -21,7 +21,7 @@ returns-clause-kept g c =
     let root = nothing_chosen p (modes.Fenced set.empty) in
     let pieces = c.forget_fillings.new.pieces in
     let outcomes = by_number c.cover_all.new.outcomes in
-    subst (λ (outcomes : KnownOutcomes). IsPartialCover p shown (by_number outcomes) (record made { pieces = pieces })) c.in-Open.is
+    subst (λ (outcomes : KnownOutcomes). IsPartialCover p shown (by_number outcomes) (record made { pieces = pieces; filled_count = c.count.result })) c.in-Open.is
     (refilled root shown outcomes root (by_number c.in_ok-found.found.outcomes) [] made.pieces.items pieces.items made.nodes.items c.in-Ok.ensures.grows.keeps refl (c.forget_fillings.ensures (sequential root) shown outcomes) c.in_ok-found.ensures.kept)
 
 pub returns-clause-exact : goal.returns-clause-exact
@@ -31,9 +31,8 @@ returns-clause-exact g c =
     let mode = machine_of_mode p c.args.sought.now.mode in
     let found = c.in-Open.found in
     let tree = c.in-Ok.tree in
-    let in_order = subst AreInOrder c.in-Open.is c.in-Ok.ensures.grows.in_order in
     let whole = subst (λ (outcomes : KnownOutcomes). IsWholeCover q mode (by_number outcomes) tree) c.in-Open.is c.in-Ok.ensures.tree in
-    exactly_allowed q mode found.runs found.outcomes.items found.by_number.items tree c.threads.ensures.within.shared.forward_jumps (returns-clause-runs g c) in_order.all whole.valid
+    exactly_allowed q mode found.runs found.outcomes.items tree c.threads.ensures.within.shared.forward_jumps (returns-clause-runs g c) whole.valid
 
 pub unreachable-requires : goal.unreachable-requires
 unreachable-requires g c =

@@ -8,4 +8,4 @@ returns c =
     let table = c.args.self.now in
     if_ok c.try_clone.result (λ shared. arc_value shared ≡ arc_value s.kept) (λ shared. IsPartialCover table.question.program table.question.shown table.outcomes (arc_value shared))
     (λ shared same. subst (λ (t : Table). IsPartialCover t.question.program t.question.shown t.outcomes (arc_value shared)) c.self.view_is
-    (subst (λ (tree : PartialCover). IsPartialCover s.program s.shown s.outcomes.items tree) (sym same) c.self.invariant.1)) c.try_clone.ensures
+    (subst (λ (tree : PartialCover). IsPartialCover s.program s.shown (arc_value s.outcomes).items tree) (sym same) c.self.invariant.1)) c.try_clone.ensures

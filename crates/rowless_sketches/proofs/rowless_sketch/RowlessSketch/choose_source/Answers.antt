@@ -8,5 +8,5 @@ invariant_of-self-2 c =
       kept = subst (λ (xs : List (Event × Event)). KeepsTraces c.self.inside.base.program c.self.inside.base.mode c.self.inside.thread_traces.items (xs) c.self.inside.pairs.items) (sym c.in_ok-push.ensures.items)
           (source_kept c.self.inside.base.program c.self.inside.base.mode c.self.inside.thread_traces.items c.self.inside.sources.items c.self.inside.pairs.items c.self.invariant.kept c.args.read c.args.source may);
       lists_are = c.self.invariant.lists_are;
-      known_are = c.self.invariant.known_are;
+      tree_is = c.self.invariant.tree_is;
     }

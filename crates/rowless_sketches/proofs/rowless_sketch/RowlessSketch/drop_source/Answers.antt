@@ -7,7 +7,7 @@ invariant_of-self c = record {
   kept = fewer_sources c.self.inside.base.program c.self.inside.base.mode c.self.inside.thread_traces.items c.pop.new.self.items c.self.inside.pairs.items (option_to_list c.pop.result)
       (subst (λ (xs : List (Event × Event)). KeepsTraces c.self.inside.base.program c.self.inside.base.mode c.self.inside.thread_traces.items (xs) c.self.inside.pairs.items) c.pop.ensures.items c.self.invariant.kept);
   lists_are = c.self.invariant.lists_are;
-  known_are = c.self.invariant.known_are;
+  tree_is = c.self.invariant.tree_is;
 }
 
 pub returns : goal.returns

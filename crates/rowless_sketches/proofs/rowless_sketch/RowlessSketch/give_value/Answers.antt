@@ -1,7 +1,10 @@
 use Rattle.rowless_sketches.proofs.Vocabulary.{◌≡◌, ◌∙◌, ap, sym, subst, length, List, [], Some, IsSome, get_or, set, refl, ℕ, slice_get_read, Event, IsValueOf, ThreadTrace, ProgramSketch, mode_in}
 use Rattle.rowless_sketches.proofs.Vocabulary.{with_chosen, view_of, KeepsTraces, MarkedThread, IsValueMarkOf, reads_there, more_kept, more_parts}
 use Rattle.candidate_executions.specs.Sketches as sketches
+use Rattle.rowless_sketches.proofs.Vocabulary.{given_at, given_in}
 use Rattle.rowless_sketches.proofs.ChoicesDropped.{no_sources, no_pairs}
+use Rattle.rowless_sketches.proofs.ValuesGiven.{given_more}
+use Rattle.thread_traces.specs.TraceTrees.{IsTraceTree}
 use Rattle.rowless_sketches.proofs.rowless_sketch.RowlessSketch.give_value.Goals as goal
 
 pub invariant_of-self-2 : goal.invariant_of-self-2
@@ -17,12 +20,22 @@ invariant_of-self-2 c =
     let index = subst (λ (ts : List ThreadTrace). c.index-thread_traces-place.result ≡ get_or ts c.args.t c.index-thread_traces-place.result) c.as_slice-thread_traces.ensures.value c.index-thread_traces-place.is in
     let own = c.index-thread_traces-place.result in
     let old = slice_get_read traces (length traces) c.args.t own refl there index in
+    let given = given_at traces c.args.t own old in
+    let trace = c.in_ok-next.ensures.trace (given_in traces) c.self.invariant.tree_is given in
     record {
       kept = subst (λ (next : ThreadTrace). KeepsTraces p mode (set traces c.args.t next) sources pairs) (sym c.replace-trace.ensures.after)
-          (more_kept p mode traces sources pairs c.self.invariant.kept c.args.t c.args.value own c.in_ok-next.next old c.in_ok-next.ensures.trace some fits);
+          (more_kept p mode traces sources pairs c.self.invariant.kept c.args.t c.args.value own c.in_ok-next.next old trace some fits);
       lists_are = c.self.invariant.lists_are;
-      known_are = c.in_ok-next.ensures.known;
+      tree_is = subst (λ (next : ThreadTrace). IsTraceTree p mode (given_in (set traces c.args.t next)) c.trace_after.new.tree) (sym c.replace-trace.ensures.after)
+          (c.in_ok-next.ensures.moved (given_in traces) (given_in (set traces c.args.t c.in_ok-next.next)) c.self.invariant.tree_is (given_more traces c.args.t c.args.value own c.in_ok-next.next old trace.given_is));
     }
+
+pub invariant_of-self : goal.invariant_of-self
+invariant_of-self c = record {
+  kept = c.self.invariant.kept;
+  lists_are = c.self.invariant.lists_are;
+  tree_is = c.in_err-next.ensures.kept (given_in c.self.inside.thread_traces.items) c.self.invariant.tree_is;
+}
 
 pub returns-clause-ok : goal.returns-clause-ok
 returns-clause-ok c =
@@ -37,8 +50,9 @@ returns-clause-ok c =
     let index = subst (λ (ts : List ThreadTrace). c.index-thread_traces-place.result ≡ get_or ts c.args.t c.index-thread_traces-place.result) c.as_slice-thread_traces.ensures.value c.index-thread_traces-place.is in
     let own = c.index-thread_traces-place.result in
     let old = slice_get_read traces (length traces) c.args.t own refl there index in
+    let trace = c.in_ok-next.ensures.trace (given_in traces) c.self.invariant.tree_is (given_at traces c.args.t own old) in
     ap (λ (next : ThreadTrace). view_of p mode (set traces c.args.t next) sources pairs) c.replace-trace.ensures.after
-    ∙ more_parts p mode traces sources pairs c.self.invariant.kept c.args.t c.args.value own c.in_ok-next.next old c.in_ok-next.ensures.trace some fits
+    ∙ more_parts p mode traces sources pairs c.self.invariant.kept c.args.t c.args.value own c.in_ok-next.next old trace some fits
     ∙ ap (λ (s : ProgramSketch). with_chosen s (sketches.with_value s.chosen c.args.t c.args.value)) c.self.view_is
 
 pub returns-clause-mark : goal.returns-clause-mark

@@ -1,4 +1,4 @@
-use Rattle.rowless_sketches.proofs.Vocabulary.{◌∙◌, List, ap, sym, subst, Listing, Event, ThreadTrace, ProgramSketch, KeepsTraces, none_known, AreSomeLists}
+use Rattle.rowless_sketches.proofs.Vocabulary.{◌∙◌, List, ap, sym, subst, Listing, Event, ThreadTrace, ProgramSketch, KeepsTraces, given_in, AreSomeLists}
 use Rattle.rowless_sketches.proofs.rowless_sketch.RowlessSketch.of_parts.Goals as goal
 
 pub invariant_of-result : goal.invariant_of-result
@@ -14,5 +14,5 @@ invariant_of-result c =
           (subst (λ (ts : List ThreadTrace). KeepsTraces p mode ts parts.sources.now parts.pairs.now) (sym c.in_ok-copied.ensures)
           (subst (λ (q : Listing). KeepsTraces q mode parts.thread_traces.now parts.sources.now parts.pairs.now) (sym c.in_ok-copy.ensures) c.parts.invariant)));
       lists_are = subst (λ (q : Listing). AreSomeLists q c.in_ok-values.values.items) (sym (c.in_ok-copy.ensures ∙ ap (λ (x : ProgramSketch). x.program) c.parts.view_is)) c.in_ok-values.ensures;
-      known_are = none_known p mode c.new.result.items c.new.ensures.items;
+      tree_is = c.in_ok-new.ensures p mode (given_in traces);
     }

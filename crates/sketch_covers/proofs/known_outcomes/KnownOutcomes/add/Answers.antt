@@ -14,7 +14,7 @@ returns-in_ok-add-clause-grows c =
 
 pub returns-in_ok-add-clause-own : goal.returns-in_ok-add-clause-own
 returns-in_ok-add-clause-own c same =
-    let outcomes = c.add.new.self.by_number.items in
+    let outcomes = c.add.new.self.outcomes.items in
     let outcome = c.in-Some.run'.outcome in
     let made = subst (λ found. IsSomeAnd found (IsShownRunOf c.args.sketch.now c.args.shown.now)) c.in-Some.is (c.in_ok-run.ensures.own same) in
     (outcome, made.must_end, numbered_is_listed outcomes c.in_ok-add.field-0 outcome c.in_ok-add.ensures.number)

@@ -1,6 +1,0 @@
-use Rattle.sketch_covers.proofs.Vocabulary.{◌≡◌, ℕ, ◌<◌, get_or, length, ◌^◌, Outcome, HasNumber, place_in}
-use Rattle.sketch_covers.proofs.outcome_index.OutcomeIndex.places.Given as goal
-
--- each outcome so far has its place
-abbrev pub invariant-loop-outcome : goal.invariant-loop-outcome
-invariant-loop-outcome l = (length l.places.items ≡ l.outcome-index) × ((n : ℕ) (o : Outcome) → n < l.outcome-index → HasNumber l.self.by_number.items n o → HasNumber l.self.outcomes.items (place_in l.places.items n) o) × ((k : ℕ) → get_or l.places.items k 0 < 2 ^ 32)
