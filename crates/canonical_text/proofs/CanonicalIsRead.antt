@@ -144,18 +144,6 @@ module _ (b : BodyView) (e : EndingView) (f : Tree Said) (text : IsGoodText b e 
   body_rows : AllByRecursion (IsPrintableRow (length threads)) body.rows
   body_rows = rows_printable locations named labels threads told may_stand
 
-  body_once : NoneTwice (all_names body.rows)
-  body_once =
-      rows_once body.rows
-      (λ t.
-      elim (cases_lt t (length threads)) [
-        | inl lt ↦ subst (λ (ls : List Label). NoneTwice (map label_name ls)) (sym (own_again t lt)) ((names_once locations named once gaps b text.rows known_parts.0 text.jumps text.labels_once) t)
-        | inr le ↦ subst (λ (cs : List CellView). NoneTwice (map label_name (labels_behind 0 cs))) (sym (no_cell body.rows t body_rows le)) tt
-      ])
-
-  jumps_found : JumpsAreFound body
-  jumps_found = subst (λ (ls : List (List Label)). list_all (are_found ls 0) body.rows ≡ true) same_labels (rows_found locations named labels threads told may_stand)
-
   -- ---- the canonical parts
 
   entries_told : entries_of names program ≡ map (entry_at held) named_ones
@@ -175,7 +163,10 @@ module _ (b : BodyView) (e : EndingView) (f : Tree Said) (text : IsGoodText b e 
         (printable_places held (length threads) small locations (6 * 0) (threads_places named 0 (length threads)) (names_good b.threads [] (places b e) tt printable) rising);
     none_twice = subst NoneTwice (sym entries_placed) (places_once locations (6 * 0) (6 * length threads) (threads_places named 0 (length threads)) once rising);
     rows = body_rows;
-    labels_once = body_once;
+    labels_once = rows_once body.rows (λ t. elim (cases_lt t (length threads)) [
+      | inl lt ↦ subst (λ (ls : List Label). NoneTwice (map label_name ls)) (sym (own_again t lt)) ((names_once locations named once gaps b text.rows known_parts.0 text.jumps text.labels_once) t)
+      | inr le ↦ subst (λ (cs : List CellView). NoneTwice (map label_name (labels_behind 0 cs))) (sym (no_cell body.rows t body_rows le)) tt
+    ]);
   }
 
   abbrev signs : List SignView
@@ -190,11 +181,6 @@ module _ (b : BodyView) (e : EndingView) (f : Tree Said) (text : IsGoodText b e 
   said_signs : AllByRecursion (IsSaid locations named b.threads) (enclosed_signs_of f)
   said_signs = enclosed_said locations named b.threads f said
 
-  condition_printable : ArePrintable (length threads) signs
-  condition_printable =
-      let each : AllByRecursion (IsPrintableSign b.threads) (map view_of (enclosed_signs_of f)) = signs_printable locations named b.threads (enclosed_signs_of f) said_signs in
-      subst (ArePrintable (length threads)) (sym signs_told) (subst (λ (n : ℕ). AllByRecursion (IsPrintableSign n) (map view_of (enclosed_signs_of f))) (sym count) each, enclosed_apart f)
-
   shown_again : ending.observed ≡ e.observed
   shown_again = places_again locations named once e.observed known_parts.1
 
@@ -202,7 +188,9 @@ module _ (b : BodyView) (e : EndingView) (f : Tree Said) (text : IsGoodText b e 
   ending_printable = record {
     observed = subst (λ (ps : List PlaceView). AllByRecursion (IsPrintablePlace (length threads)) ps) (sym shown_again)
         (subst (λ (n : ℕ). AllByRecursion (IsPrintablePlace n) e.observed) (sym count) text.shown);
-    signs = condition_printable;
+    signs =
+        let each : AllByRecursion (IsPrintableSign b.threads) (map view_of (enclosed_signs_of f)) = signs_printable locations named b.threads (enclosed_signs_of f) said_signs in
+        subst (ArePrintable (length threads)) (sym signs_told) (subst (λ (n : ℕ). AllByRecursion (IsPrintableSign n) (map view_of (enclosed_signs_of f))) (sym count) each, enclosed_apart f);
   }
 
   -- ---- what they stand for
@@ -258,14 +246,12 @@ module _ (b : BodyView) (e : EndingView) (f : Tree Said) (text : IsGoodText b e 
       let d : Thread = record { code = []; registers = [] } in
       fill_by_all (thread_read (number_in locations) body) threads (length threads) d refl (λ t lt. same_thread t d lt)
 
-  same_program : program ≡ listing_of locations body
-  same_program = λ i. record { threads = same_threads i; memory = same_memory i }
-
   -- the canonical text stands for the fenced program
   stands : (name : List ℕ) → AreVisible name
       → StandsFor (canonical_text (record (source name b e f) { program = program; labels = labels })) (record (source name b e f) { program = program; labels = labels })
   stands name visible =
       let h : HasParts (canonical_text (record (source name b e f) { program = program; labels = labels })) name body ending = printed_is_read name body ending visible body_printable ending_printable in
+      let jumps : JumpsAreFound body = subst (λ (ls : List (List Label)). list_all (are_found ls 0) body.rows ≡ true) same_labels (rows_found locations named labels threads told may_stand) in
       let spells : Spells Sum f (map meaning.sign_of signs) [] = subst (λ (vs : List SignView). Spells Sum f (map meaning.sign_of vs) []) (sym signs_told) (spelled_again f) in
       record {
         lines = h.lines;
@@ -279,9 +265,9 @@ module _ (b : BodyView) (e : EndingView) (f : Tree Said) (text : IsGoodText b e 
           body = body;
           ending = ending;
           formula = f;
-          parts = record { others = h.others; begins = h.begins; ends = h.ends; spells = spells; jumps = jumps_found };
+          parts = record { others = h.others; begins = h.begins; ends = h.ends; spells = spells; jumps = jumps };
           names = same_names;
-          program = same_program;
+          program = λ i. record { threads = same_threads i; memory = same_memory i };
           condition = refl;
           observed = ap (map (observed_of (number_in locations))) (sym shown_again);
           labels = same_labels;
@@ -290,11 +276,17 @@ module _ (b : BodyView) (e : EndingView) (f : Tree Said) (text : IsGoodText b e 
 
 -- ---- of what a text stands for
 
-parts_good : (tokens : List Tok) (b : BodyView) (e : EndingView) (f : Tree Said) → AreGood tokens → AreParts tokens b e f → 0 < b.threads → IsTextNumber b.threads → IsGoodText b e f
-parts_good tokens b e f whole parts some few =
+fenced_text : (name : List ℕ) (b : BodyView) (e : EndingView) (f : Tree Said) (tokens : List Tok) (gaps : SetOfGaps) → AreVisible name → AreGood tokens → AreParts tokens b e f
+    → IsWithinLimits (source name b e f).program.threads (source name b e f).program.memory
+    → IsFencedLitmus (canonical_text (litmus_fenced_at gaps (source name b e f))) (litmus_fenced_at gaps (source name b e f))
+fenced_text name b e f tokens gaps visible whole parts limits =
+    let threads : List Thread = (source name b e f).program.threads in
+    let count : length threads ≡ b.threads = length-map-range_with_len (thread_read (number_in (names_of b e).locations) b) 0 b.threads in
+    let some : 0 < b.threads = let h : 0 < length threads = limits.shared.some_thread in omega (arith, h, count) in
+    let few : IsTextNumber b.threads = let h : length threads ≤ MAX_THREADS = limits.shared.few_threads in omega (arith, h, count) in
     let before = after_body b tokens parts.others parts.begins whole in
     let behind = after_ending b.threads e parts.others parts.ends before.1 in
-    record {
+    let text : IsGoodText b e f = record {
       some = some;
       few = few;
       entries = before.0.0.0;
@@ -304,17 +296,8 @@ parts_good tokens b e f whole parts some few =
       shown = behind.0;
       signs = behind.1;
       spells = parts.spells;
-    }
-
-fenced_text : (name : List ℕ) (b : BodyView) (e : EndingView) (f : Tree Said) (tokens : List Tok) (gaps : SetOfGaps) → AreVisible name → AreGood tokens → AreParts tokens b e f
-    → IsWithinLimits (source name b e f).program.threads (source name b e f).program.memory
-    → IsFencedLitmus (canonical_text (litmus_fenced_at gaps (source name b e f))) (litmus_fenced_at gaps (source name b e f))
-fenced_text name b e f tokens gaps visible whole parts limits =
-    let threads : List Thread = (source name b e f).program.threads in
-    let count : length threads ≡ b.threads = length-map-range_with_len (thread_read (number_in (names_of b e).locations) b) 0 b.threads in
-    let some : 0 < b.threads = let h : 0 < length threads = limits.shared.some_thread in omega (arith, h, count) in
-    let few : IsTextNumber b.threads = let h : length threads ≤ MAX_THREADS = limits.shared.few_threads in omega (arith, h, count) in (
-      stands b e f (parts_good tokens b e f whole parts some few) (gaps_in (source name b e f).program gaps) name visible,
+    } in (
+      stands b e f text (gaps_in (source name b e f).program gaps) name visible,
       fencing_stays_within_limits (source name b e f).program gaps limits,
     )
 

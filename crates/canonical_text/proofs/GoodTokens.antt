@@ -102,13 +102,10 @@ after_valued threads p n there = both (after_place threads p there) (skip (after
 after_separator : (close : Mark) → Says (Unit {0}) (separator close)
 after_separator close = either (after_mark the.Semicolon) (λ ts rest here good. (tt, subst AreGood here.0 good))
 
-after_entry : (threads : ℕ) (e : EntryView) → HasThread threads e.place → Says (IsPrintableEntry threads e) (IsEntryItem e)
-after_entry threads e there = keep (after_valued threads e.place e.value there) (after_separator the.CloseBrace)
-
 after_entries : (threads : ℕ) (es : List EntryView) → AllByRecursion (HasThread threads) (map place_of_entry es) → Says (AllByRecursion (IsPrintableEntry threads) es) (Items IsEntryItem (mark the.CloseBrace) es)
 after_entries threads [] there ts rest (end h) good = after_mark the.CloseBrace ts rest h good
 after_entries threads (e ∷ es) there ts rest (item {others = us} h more) good =
-    let first = after_entry threads e there.0 ts us h good in
+    let first = keep (after_valued threads e.place e.value there.0) (after_separator the.CloseBrace) ts us h good in
     let second = after_entries threads es there.1 us rest more first.1 in
     ((first.0, second.0), second.1)
 
@@ -118,9 +115,6 @@ after_columns : (k threads : ℕ) → Says (Unit {0}) (MoreColumns k threads)
 after_columns k threads ts rest (last e h) good = after_mark the.Semicolon ts rest h good
 after_columns k threads ts rest (column {others = us} h more) good =
     after_columns (k + 1) threads us rest more (skip (after_mark the.Bar) (after_word (column_name k)) ts us h good).1
-
-after_header : (threads : ℕ) → Says (Unit {0}) (IsHeader threads)
-after_header threads = skip (after_word (column_name 0)) (after_columns 1 threads)
 
 -- ---- rows
 
@@ -148,11 +142,10 @@ after_content : (c : Option CodeView) → Says (IsPrintableContent c) (IsContent
 after_content None ts rest h good = (tt, subst AreGood h.0 good)
 after_content (Some c) ts rest h good = after_code c ts rest h.0 good
 
-after_label : (l : List ℕ) → Says (IsLabelName l) (IsLabelMark l)
-after_label l ts rest h good = let first = keep (after_word l) (after_mark the.Colon) ts rest h.1 good in ((first.0, h.0), first.1)
-
 after_cell : (c : CellView) → Says (IsPrintableCell c) (IsCell c)
-after_cell c = after_items IsLabelMark (IsContent c.code) IsLabelName after_label (after_content c.code) c.labels
+after_cell c =
+    let label : (l : List ℕ) → Says (IsLabelName l) (IsLabelMark l) = λ l ts rest h good. let first = keep (after_word l) (after_mark the.Colon) ts rest h.1 good in ((first.0, h.0), first.1) in
+    after_items IsLabelMark (IsContent c.code) IsLabelName label (after_content c.code) c.labels
 
 after_row : (threads : ℕ) (cells : List CellView) → Says (IsPrintableRow threads cells) (IsRow threads cells)
 after_row threads [] ts rest h good = absurd h.1
@@ -168,17 +161,14 @@ pub after_body : (b : BodyView)
 after_body b ts rest ((us, initial, (vs, header, rows)), there) good =
     let entries = after_entries b.threads b.entries (recursion_from_All (HasThread b.threads) (map place_of_entry b.entries) there) in
     let first = skip (after_mark the.OpenBrace) entries ts us initial.0 good in
-    let second = after_all (IsRow b.threads) before_ending (IsPrintableRow b.threads) (after_row b.threads) (λ ts rest h good. (tt {0}, subst AreGood h.0 good)) b.rows vs rest rows.0 (after_header b.threads us vs header first.1).1 in
+    let second = after_all (IsRow b.threads) before_ending (IsPrintableRow b.threads) (after_row b.threads) (λ ts rest h good. (tt {0}, subst AreGood h.0 good)) b.rows vs rest rows.0 (skip (after_word (column_name 0)) (after_columns 1 b.threads) us vs header first.1).1 in
     (((first.0, second.0), rows.1), second.1)
 
 -- ---- the ending
 
-after_observed_item : (threads : ℕ) (p : PlaceView) → Says (IsPrintablePlace threads p) (IsObservedItem threads p)
-after_observed_item threads p ts rest h = keep (after_place threads p h.0) (after_separator the.CloseBracket) ts rest h.1
-
 after_observed : (threads : ℕ) (ps : List PlaceView) → Says (AllByRecursion (IsPrintablePlace threads) ps) (IsObserved threads ps)
 after_observed threads ps =
-    let places = after_all (IsObservedItem threads) (mark the.CloseBracket) (IsPrintablePlace threads) (after_observed_item threads) (after_mark the.CloseBracket) ps in
+    let places = after_all (IsObservedItem threads) (mark the.CloseBracket) (IsPrintablePlace threads) (λ p ts rest h. keep (after_place threads p h.0) (after_separator the.CloseBracket) ts rest h.1) (after_mark the.CloseBracket) ps in
     either (skip (after_word (codes "locations")) (skip (after_mark the.OpenBracket) places))
     (λ ts rest h good. (subst (λ (qs : List PlaceView). AllByRecursion (IsPrintablePlace threads) qs) (sym h.0) tt, subst AreGood h.1.0 good))
 

@@ -49,10 +49,6 @@ pub column_printable : (threads : ℕ) (rows : List (List CellView)) (t : ℕ) �
 column_printable threads [] t h = tt
 column_printable threads (row ∷ rows) t h = all_with IsPrintableCell (slice_get row t) (column rows t) (all_at IsPrintableCell row t h.0.1) (column_printable threads rows t h.1)
 
--- where they are moved, too
-pub moved_good : (gap : ℕ → Bool) (labels : List Label) → AreGoodLabels labels → AreGoodLabels (map (moved_label gap) labels)
-moved_good gap = all_mapped (λ (l : Label). IsLabelName l.name) (λ (l : Label). IsLabelName l.name) (moved_label gap) (λ l good. good)
-
 -- ---- of the canonical rows
 
 module _ (labels : List Label) (code : List Instr) (named : Instr → CodeView) (order : Ascending 0 (length code) labels) where
@@ -85,10 +81,6 @@ module _ (labels : List Label) (code : List Instr) (named : Instr → CodeView) 
             ap (λ (ls : List Label). standing labels a ++ ls) (nothing_behind (a + size (cell a)) (a + 1) m behind ∙ sym (nothing_standing (a + 1) m behind))
       ]
 
-  -- the labels of enough rows
-  pub cells_labels : (m : ℕ) → Before m labels → labels_behind 0 (map cell (range_with_len 0 m)) ≡ labels
-  cells_labels m before = behind_standing 0 m (omega arith) ∙ all_standing labels 0 (length code) m order before
-
 enough : (labels : List Label) (n m : ℕ) (b : Bool) → nat_lt 0 (length (label_names_at labels n)) ≡ b → Ascending 0 n labels → n + (if b then 1 else 0) ≤ m → Before m labels
 enough labels n m true e order le = before_more 0 n m labels order (omega (arith, le))
 enough labels n m false e order le = all_more_so (λ l. l.position < n) (λ l. l.position < m) (λ l h. omega (arith, h, le)) labels (none_at_end 0 n labels order e)
@@ -110,4 +102,5 @@ module _ (names : List (List ℕ)) (labels : List (List Label)) (threads : List 
       let code : List Instr = code_of threads t in
       let most : ℕ = most_cells labels 0 threads in
       ap (labels_behind 0) (column_made 0 most)
-      ∙ cells_labels own code (code_named names own) order most (enough own (length code) most (nat_lt 0 (length (label_names_at own (length code)))) refl order (within_most names named labels threads t lt))
+      ∙ behind_standing own code (code_named names own) order 0 most (omega arith)
+      ∙ all_standing own 0 (length code) most order (enough own (length code) most (nat_lt 0 (length (label_names_at own (length code)))) refl order (within_most names named labels threads t lt))

@@ -2,18 +2,11 @@
 use Rattle.canonical_text.proofs.Vocabulary.{◌≡◌, ℕ, ◌+◌, ◌<◌, ◌≤◌, zero, suc, Bool, true, ◌||◌, List, [], ◌∷◌, ◌++◌, length, map, Option, Some, None, refl, sym, ap, ◌∙◌, arith, or-true, slice_get}
 use Rattle.canonical_text.proofs.Vocabulary.{AllByRecursion, list_any, flat_map, filter_map, cons_option, IfSome, range_with_len, add-zero, slice_get-get_or, length-map-range_with_len}
 use Rattle.canonical_text.proofs.Vocabulary.{get_or-map-range_with_len}
-
-pub all_of_both : {X : Type 0} (P : X → Type 0) (xs ys : List X) → AllByRecursion P xs → AllByRecursion P ys → AllByRecursion P (xs ++ ys)
-all_of_both P [] ys h g = g
-all_of_both P (x ∷ xs) ys h g = (h.0, all_of_both P xs ys h.1 g)
+pub use Rattle.litmus_reader.proofs.Elements.{all_more_so, all_of_both}
 
 pub both_of_all : {X : Type 0} (P : X → Type 0) (xs ys : List X) → AllByRecursion P (xs ++ ys) → AllByRecursion P xs × AllByRecursion P ys
 both_of_all P [] ys h = (tt, h)
 both_of_all P (x ∷ xs) ys h = let rest = both_of_all P xs ys h.1 in ((h.0, rest.0), rest.1)
-
-pub all_more_so : {X : Type 0} (P Q : X → Type 0) → ((x : X) → P x → Q x) → (xs : List X) → AllByRecursion P xs → AllByRecursion Q xs
-all_more_so P Q so [] h = tt
-all_more_so P Q so (x ∷ xs) h = (so x h.0, all_more_so P Q so xs h.1)
 
 -- what each element gives
 pub all_mapped : {X Y : Type 0} (P : X → Type 0) (Q : Y → Type 0) (f : X → Y) → ((x : X) → P x → Q (f x)) → (xs : List X) → AllByRecursion P xs → AllByRecursion Q (map f xs)

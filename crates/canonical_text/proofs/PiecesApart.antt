@@ -102,16 +102,13 @@ labels_apart (l ∷ ls) parts h g = (λ rest free. ((h.0.0, refl), (refl, tt)), 
 cell_apart : (c : CellView) → IsPrintableCell c → IsApart (cell_pieces c)
 cell_apart c h = gaps_apart (map label_pieces c.labels ++ map code_pieces (option_to_list c.code)) (labels_apart c.labels (map code_pieces (option_to_list c.code)) h.0 (content_apart c.code h.1))
 
-row_apart : (threads : ℕ) (cells : List CellView) → IsPrintableRow threads cells → EndsApart (row_pieces cells)
-row_apart threads cells h = line_apart (map cell_pieces cells) (all_mapped IsPrintableCell IsApart cell_pieces cell_apart cells h.1)
-
 body_apart : (b : BodyView) → IsPrintable b → EndsApart (body_pieces b)
 body_apart b h rest =
     let rows : List Piece = flat_map row_pieces b.rows in
     AreApartBefore-append (initial_pieces b.entries) (header_pieces b.threads ++ rows) rest
     (initial_apart b.threads h.few_threads b.entries h.entries (text_of (header_pieces b.threads ++ rows) ++ rest))
     (AreApartBefore-append (header_pieces b.threads) rows rest ((line_apart (map column_pieces (range_with_len 0 b.threads)) (names_apart 0 b.threads (omega (arith, h.few_threads)))) (text_of rows ++ rest))
-    (apart_all row_pieces (IsPrintableRow b.threads) (row_apart b.threads) b.rows h.rows rest))
+    (apart_all row_pieces (IsPrintableRow b.threads) (λ cells h. line_apart (map cell_pieces cells) (all_mapped IsPrintableCell IsApart cell_pieces cell_apart cells h.1)) b.rows h.rows rest))
 
 -- ---- what is observed
 
@@ -187,15 +184,12 @@ signs_apart threads few (Or ∷ ss) h g rest free star = (refl, (refl, (refl, si
 signs_apart threads few (Open ∷ ss) h g rest free star = (signs_free threads few ss rest h.1 star, signs_apart threads few ss h.1 g rest free star)
 signs_apart threads few (Close ∷ ss) h g rest free star = (refl, signs_apart threads few ss h.1 g rest free star)
 
-condition_apart : (threads : ℕ) → IsTextNumber threads → (q : Quantifier) (ss : List SignView) → ArePrintable threads ss → AreApart (condition_pieces q ss)
-condition_apart threads few q ss h = go q
-  where
-    behind : AreApartBefore (space ∷ (flat_map sign_pieces ss ++ line_end ∷ [])) []
-    behind = (refl, AreApartBefore-append (flat_map sign_pieces ss) (line_end ∷ []) [] (signs_apart threads few ss h.0 h.1 (10 ∷ []) refl refl) (refl, tt))
+signs_and_end_apart : (threads : ℕ) → IsTextNumber threads → (ss : List SignView) → ArePrintable threads ss → AreApartBefore (space ∷ (flat_map sign_pieces ss ++ line_end ∷ [])) []
+signs_and_end_apart threads few ss h = (refl, AreApartBefore-append (flat_map sign_pieces ss) (line_end ∷ []) [] (signs_apart threads few ss h.0 h.1 (10 ∷ []) refl refl) (refl, tt))
 
-    go : (q : Quantifier) → AreApart (condition_pieces q ss)
-    go NotExists = (refl, (((refl, refl), refl), behind))
-    go _ = (((refl, refl), refl), behind)
+condition_apart : (threads : ℕ) → IsTextNumber threads → (q : Quantifier) (ss : List SignView) → ArePrintable threads ss → AreApart (condition_pieces q ss)
+condition_apart threads few NotExists ss h = (refl, (((refl, refl), refl), signs_and_end_apart threads few ss h))
+condition_apart threads few q ss h = (((refl, refl), refl), signs_and_end_apart threads few ss h)
 
 -- ---- the whole
 

@@ -139,10 +139,6 @@ pub code_more : (bs : List ℕ) (names : List (List ℕ)) (c : CodeView) (count 
 code_more bs names c count counted =
     column_more gap bs (map label_pieces names) (map label_pieces names ++ code_pieces c ∷ []) (code_pieces c) count (length-map names label_pieces ∙ sym counted) refl
 
-pub not_none : (n : ℕ) → (n == 0) ≡ false → 0 < n
-not_none zero h = absurd cc
-not_none (suc n) h = omega arith
-
 -- places in their brackets
 pub brackets : (bs : List ℕ) (ps : List PlaceView) → 0 < length ps
     → ((bs ++ codes "locations [") ++ text_of (joined_by gap (map observed_place_pieces ps))) ++ codes "]\n" ≡ bs ++ text_of (observed_pieces ps)

@@ -3,17 +3,13 @@ use Rattle.canonical_text.proofs.Vocabulary.{◌≡◌, ℕ, ◌+◌, ◌<◌, �
 use Rattle.canonical_text.proofs.Vocabulary.{AllByRecursion, IsDistinct, flat_map, range_with_len, option_map_or, column, bytes_eq, cases_lt, slice_get_past, length-map-range_with_len}
 use Rattle.canonical_text.proofs.Vocabulary.{get_or-map-range_with_len, Instr, Thread, code_of, Gaps, place_of, fenced_code, fenced_threads, PlaceView, Register, BodyView, NoneTwice, all_names}
 use Rattle.canonical_text.proofs.Vocabulary.{all_registers, number_in, row_places, Label, thread_labels, all_labels, position_in, JumpsAreFound, first_value, thread_read, own_labels, moved_label}
-use Rattle.canonical_text.proofs.Vocabulary.{moved_labels, IsPrintableRow, get_or_past, fenced_code_of, ends, labels_in_rows}
+use Rattle.canonical_text.proofs.Vocabulary.{moved_labels, IsLabelName, map-map, IsPrintableRow, get_or_past, fenced_code_of, ends, labels_in_rows}
 use Rattle.litmus_reader.specs.Meaning as meaning
 use Rattle.canonical_text.proofs.{LabelPlaces.moved_of, LabelsNamed.label_name, LabelsNamed.AreGoodLabels, LabelsNamed.Ascending, LabelsOnce.thread_own, LabelsOnce.once_in_thread}
-use Rattle.canonical_text.proofs.LabelsAgain.{thread_ascending, moved_ascending, moved_good, behind_good, column_printable}
-use Rattle.canonical_text.proofs.{NamedPlaces.Named, NamedPlaces.RegistersAre, ToldCode.IsKnown, ToldCode.IsTold, ToldCode.AreTold, ToldCode.rows_told, ToldCode.fenced_told, Lists.made_at}
+use Rattle.canonical_text.proofs.LabelsAgain.{thread_ascending, moved_ascending, behind_good, column_printable}
+use Rattle.canonical_text.proofs.{NamedPlaces.Named, NamedPlaces.RegistersAre, ToldCode.IsKnown, ToldCode.IsTold, ToldCode.AreTold, ToldCode.rows_told, ToldCode.fenced_told, Lists.all_mapped, Lists.made_at}
 
 -- ---- labels and code
-
-same_names : (gap : ℕ → Bool) (labels : List Label) → map label_name (map (moved_label gap) labels) ≡ map label_name labels
-same_names gap [] = refl
-same_names gap (l ∷ labels) = ap (λ (ns : List (List ℕ)). l.name ∷ ns) (same_names gap labels)
 
 module _ (names : List (List ℕ)) (named : Named) (once : IsDistinct bytes_eq names) (gaps : Gaps) (b : BodyView) (printable : AllByRecursion (IsPrintableRow b.threads) b.rows)
     (known : AllByRecursion (IsKnown names named) (flat_map row_places b.rows)) (found : JumpsAreFound b) (labels_once : NoneTwice (all_names b.rows)) where
@@ -50,11 +46,14 @@ module _ (names : List (List ℕ)) (named : Named) (once : IsDistinct bytes_eq n
   each_thread P there none t = elim (cases_lt t b.threads) [ inl lt ↦ subst (P t) (sym (own_is t lt)) (there t lt) | inr le ↦ subst (P t) (sym (own_past t le)) (none t) ]
 
   pub good : (t : ℕ) → AreGoodLabels (own_labels labels t)
-  good = each_thread (λ t. AreGoodLabels) (λ t lt. moved_good (gaps t) (thread_labels b.rows t) (behind_good 0 (column b.rows t) (column_printable b.threads b.rows t printable))) (λ t. tt)
+  good =
+      each_thread (λ t. AreGoodLabels) (λ t lt.
+      all_mapped (λ (l : Label). IsLabelName l.name) (λ (l : Label). IsLabelName l.name) (moved_label (gaps t)) (λ l good. good) (thread_labels b.rows t)
+      (behind_good 0 (column b.rows t) (column_printable b.threads b.rows t printable))) (λ t. tt)
 
   pub names_once : (t : ℕ) → NoneTwice (map label_name (own_labels labels t))
   names_once =
-      each_thread (λ t ls. NoneTwice (map label_name ls)) (λ t lt. subst NoneTwice (sym (same_names (gaps t) (thread_labels b.rows t))) (subst NoneTwice (thread_own t b.rows) (once_in_thread t (labels_in_rows b.rows) labels_once))) (λ t. tt)
+      each_thread (λ t ls. NoneTwice (map label_name ls)) (λ t lt. subst NoneTwice (sym (map-map label_name (moved_label (gaps t)) (thread_labels b.rows t))) (subst NoneTwice (thread_own t b.rows) (once_in_thread t (labels_in_rows b.rows) labels_once))) (λ t. tt)
 
   fenced_is : (t : ℕ) → t < b.threads → code_of threads t ≡ fenced_code (gaps t) 0 (text_code t)
   fenced_is t lt = fenced_code_of gaps t source ∙ ap (fenced_code (gaps t) 0) (ap (λ (o : Option Thread). option_map_or (λ (thread : Thread). thread.code) o []) (made_at (thread_read (number_in names) b) b.threads t lt))

@@ -1,5 +1,5 @@
 -- The steps of either machine, in one form.
-use Rattle.fence_laws.proofs.Vocabulary.{◌≡◌, ℕ, Bool, true, false, List, [], ◌∷◌, Option, Some, None, option_and_then, refl, sym, ap, ◌∙◌, same_Some, Instr, Listing, Local, Action, Stop, Go, Wait}
+use Rattle.fence_laws.proofs.Vocabulary.{Label, run, ◌≡◌, ℕ, Bool, true, false, List, [], ◌∷◌, Option, Some, None, option_and_then, refl, sym, ap, ◌∙◌, same_Some, Instr, Listing, Local, Action, Stop, Go, Wait}
 use Rattle.fence_laws.proofs.Vocabulary.{Read, Write, Swap, act, loaded, action, instr_at, Gaps, Exec, Flush, Pending, Machine, SequentialMachine, StoreBufferMachine, State, put, when_empty, past_gap}
 use Rattle.fence_laws.proofs.Vocabulary.{buffered, direct, flushed, step}
 use Rattle.fence_laws.proofs.ChangedAt.{put_other}
@@ -13,6 +13,10 @@ mode_with false gaps = SequentialMachine
 abbrev pub effect : Bool → State → ℕ → Action → Option State
 effect true = buffered
 effect false = direct
+
+-- a step goes before further ones
+pub run_first : (p : Listing) (mode : Machine) (s z : State) (l : Label) (ls : List Label) → step p mode s l ≡ Some z → run p mode s (l ∷ ls) ≡ run p mode z ls
+run_first p mode s z l ls e = ap (option_and_then (λ next. run p mode next ls)) e
 
 -- nothing waits, where stores wait at all
 abbrev pub NothingWaits : Bool → List Pending → Type 0

@@ -1,9 +1,9 @@
 -- A run of the fenced program is a run with gaps fenced: a thread after a fence of its own has nothing waiting until its instruction.
-use Rattle.fence_laws.proofs.Vocabulary.{◌≡◌, ℕ, ◌+◌, Bool, true, false, List, [], ◌∷◌, ◌++◌, ◌⊎◌, Option, Some, None, option_and_then, refl, sym, ap, ◌∙◌, subst, inl, inr, option_map, same_Some}
+use Rattle.fence_laws.proofs.Vocabulary.{◌≡◌, ℕ, ◌+◌, Bool, true, false, List, [], ◌∷◌, ◌++◌, ◌⊎◌, Option, Some, None, refl, sym, ap, ◌∙◌, subst, inl, inr, option_map, same_Some}
 use Rattle.fence_laws.proofs.Vocabulary.{option_and_then_some, Instr, Fence, Listing, Local, Wait, onward, action, instr_at, Gaps, place_of, moved, fence, Label, Exec, Flush, Pending, no_gaps, State}
 use Rattle.fence_laws.proofs.Vocabulary.{put, when_empty, step, run, first_of, instr_at_place, instr_after_fence}
 use Rattle.fence_laws.proofs.{ChangedAt.put_each, FencedActions.placed, FencedSteps.with_locals, FencedSteps.follow, FencedSteps.fence_step, FencedSteps.instruction_step, FencesInserted.next_place}
-use Rattle.fence_laws.proofs.EitherMachine.{mode_with, effect, NothingWaits, made, makes, others_keep, stands_at, stored, flush_made, flush_makes}
+use Rattle.fence_laws.proofs.EitherMachine.{mode_with, effect, NothingWaits, made, makes, others_keep, run_first, stands_at, stored, flush_made, flush_makes}
 
 module _ (p : Listing) (gaps : Gaps) (waits : Bool) where
   -- the thread of the fenced program has executed the fence of the instruction at which the thread stands
@@ -22,10 +22,6 @@ module _ (p : Listing) (gaps : Gaps) (waits : Bool) where
   abbrev pub AllStand : State → (ℕ → Local) → Type 0
   AllStand s locals = (u : ℕ) → Stands u (s.locals u) (s.buffers u) (locals u)
 
-  -- a thread that nothing has changed
-  as_before : (u : ℕ) (local local' : Local) (buffer buffer' : List Pending) (other : Local) → local' ≡ local → buffer' ≡ buffer → Stands u local buffer other → Stands u local' buffer' other
-  as_before u local local' buffer buffer' other l b h = subst (λ x. Stands u x buffer' other) (sym l) (subst (λ x. Stands u local x other) (sym b) h)
-
   -- labels that lead on to a state that the fenced program's has gone to
   record Leads (s z' : State) : Type 0 where
     labels : List Label
@@ -35,15 +31,11 @@ module _ (p : Listing) (gaps : Gaps) (waits : Bool) where
     same : z' ≡ with_locals z locals'
     stand : AllStand z locals'
 
-  -- a step of the program goes before further ones
-  one_step : (s z : State) (l : Label) (ls : List Label) → step p (mode_with waits gaps) s l ≡ Some z → run p (mode_with waits gaps) s (l ∷ ls) ≡ run p (mode_with waits gaps) z ls
-  one_step s z l ls e = ap (option_and_then (λ next. run p (mode_with waits gaps) next ls)) e
-
   -- the threads stand where one of them executed its instruction
   still_stand : (s z : State) (locals : ℕ → Local) (t : ℕ) → AllStand s locals → effect waits s t (action p.threads t (s.locals t)) ≡ Some z →
       AllStand z (put locals t (placed (gaps t) (z.locals t)))
   still_stand s z locals t stand e = put_each (λ u other. Stands u (z.locals u) (z.buffers u) other) locals t (placed (gaps t) (z.locals t)) (inl refl)
-      (λ u q. let kept = others_keep t u q waits s z (action p.threads t (s.locals t)) e in as_before u (s.locals u) (z.locals u) (s.buffers u) (z.buffers u) (locals u) kept.local kept.buffer (stand u))
+      (λ u q. let kept = others_keep t u q waits s z (action p.threads t (s.locals t)) e in rw (kept.local, kept.buffer) (stand u))
 
   -- the step of an instruction
   by_instruction : (s z' : State) (locals : ℕ → Local) (t : ℕ) (x : Instr) (q : ℕ) → AllStand s locals → instr_at p.threads t (s.locals t).place ≡ Some x →
@@ -59,7 +51,7 @@ module _ (p : Listing) (gaps : Gaps) (waits : Bool) where
         labels = Exec t ∷ [];
         z = z;
         locals' = put locals t (placed (gaps t) (z.locals t));
-        leads = λ ls. one_step s z (Exec t) ls (makes p gaps waits s t free ∙ r);
+        leads = λ ls. run_first p (mode_with waits gaps) s z (Exec t) ls (makes p gaps waits s t free ∙ r);
         same = sym (same_Some _ z' e);
         stand = still_stand s z locals t stand r;
       }
@@ -123,7 +115,7 @@ module _ (p : Listing) (gaps : Gaps) (waits : Bool) where
         labels = Flush t ∷ [];
         z = z;
         locals' = locals;
-        leads = λ ls. one_step s z (Flush t) ls (flush_makes p gaps waits s t f.oldest f.others f.buffered f.waiting);
+        leads = λ ls. run_first p (mode_with waits gaps) s z (Flush t) ls (flush_makes p gaps waits s t f.oldest f.others f.buffered f.waiting);
         same = f.result;
         stand = put_each (λ u buffer. Stands u (s.locals u) buffer (locals u)) s.buffers t f.others
             (elim (stand t) [ inl stands ↦ inl stands | inr between ↦ absurd (let no : [] ≡ f.oldest ∷ f.others = sym (between.empty f.buffered) ∙ f.waiting in cc) ]) (λ u q. stand u);

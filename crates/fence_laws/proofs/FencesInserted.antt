@@ -1,10 +1,10 @@
 -- A run with gaps fenced is a run of the fenced program: its fences are executed just before their instructions.
-use Rattle.fence_laws.proofs.Vocabulary.{◌≡◌, ℕ, suc, ◌+◌, Bool, true, false, List, [], ◌∷◌, ◌++◌, Some, option_and_then, refl, sym, ap, ◌∙◌, subst, arith, option_map, option_and_then_some, Instr}
+use Rattle.fence_laws.proofs.Vocabulary.{◌≡◌, ℕ, suc, ◌+◌, Bool, true, false, List, [], ◌∷◌, ◌++◌, Some, refl, sym, ap, ◌∙◌, subst, arith, option_map, option_and_then_some, Instr}
 use Rattle.fence_laws.proofs.Vocabulary.{Fence, Listing, Local, Wait, onward, action, instr_at, Gaps, place_of, moved, fence, Label, Exec, Flush, no_gaps, State, put, when_empty, step, run, first_of}
 use Rattle.fence_laws.proofs.Vocabulary.{instr_at_place, instr_after_fence}
 use Rattle.std.specs.Prelude.{if◌then◌else◌}
 use Rattle.fence_laws.proofs.{ChangedAt.put_same, ChangedAt.put_other, ChangedAt.put_each, FencedActions.placed}
-use Rattle.fence_laws.proofs.EitherMachine.{mode_with, effect, NothingWaits, made, others_keep, stands_at, flush_made, flush_makes}
+use Rattle.fence_laws.proofs.EitherMachine.{mode_with, effect, NothingWaits, made, others_keep, run_first, stands_at, flush_made, flush_makes}
 use Rattle.fence_laws.proofs.FencedSteps.{with_locals, follow, fence_step, instruction_step}
 
 -- the next place, from after the fence or from where there is no fence
@@ -27,11 +27,6 @@ module _ (p : Listing) (gaps : Gaps) (waits : Bool) where
     locals' : ℕ → Local
     leads : (ls : List Label) → run (fence gaps p) (mode_with waits no_gaps) (with_locals s locals) (labels ++ ls) ≡ run (fence gaps p) (mode_with waits no_gaps) (with_locals z locals') ls
     follow' : Follow z locals'
-
-  -- a step of the fenced program goes before further ones
-  run_step : (s z : State) (l : Label) (ls : List Label) → step (fence gaps p) (mode_with waits no_gaps) s l ≡ Some z →
-      run (fence gaps p) (mode_with waits no_gaps) s (l ∷ ls) ≡ run (fence gaps p) (mode_with waits no_gaps) z ls
-  run_step s z l ls e = ap (option_and_then (λ next. run (fence gaps p) (mode_with waits no_gaps) next ls)) e
 
   -- threads follow where one of them made a step
   pub still_follow : (s z : State) (locals locals' : ℕ → Local) (t : ℕ) → Follow s locals → ((u : ℕ) → (u ≡ t → ⊥) → locals' u ≡ locals u) →
@@ -61,7 +56,7 @@ module _ (p : Listing) (gaps : Gaps) (waits : Bool) where
           record {
             labels = Exec t ∷ [];
             locals' = put locals t (placed (gaps t) (z.locals t));
-            leads = λ ls. run_step (with_locals s locals) (follow (gaps t) t locals z) (Exec t) ls one;
+            leads = λ ls. run_first (fence gaps p) (mode_with waits no_gaps) (with_locals s locals) (follow (gaps t) t locals z) (Exec t) ls one;
             follow' = still_follow s z locals locals t follows (λ u q. refl) r;
           }
       by_gap free r x here true g =
@@ -79,8 +74,8 @@ module _ (p : Listing) (gaps : Gaps) (waits : Bool) where
           record {
             labels = Exec t ∷ Exec t ∷ [];
             locals' = put between t (placed (gaps t) (z.locals t));
-            leads = λ ls. run_step (with_locals s locals) (with_locals s between) (Exec t) (Exec t ∷ ls) first
-                ∙ run_step (with_locals s between) (follow (gaps t) t between z) (Exec t) ls second;
+            leads = λ ls. run_first (fence gaps p) (mode_with waits no_gaps) (with_locals s locals) (with_locals s between) (Exec t) (Exec t ∷ ls) first
+                ∙ run_first (fence gaps p) (mode_with waits no_gaps) (with_locals s between) (follow (gaps t) t between z) (Exec t) ls second;
             follow' = still_follow s z locals between t follows (λ u q. put_other locals t (onward (locals t)) u q) r;
           }
 
@@ -94,7 +89,7 @@ module _ (p : Listing) (gaps : Gaps) (waits : Bool) where
       record {
         labels = Flush t ∷ [];
         locals' = locals;
-        leads = λ ls. run_step (with_locals s locals) (with_locals z locals) (Flush t) ls one;
+        leads = λ ls. run_first (fence gaps p) (mode_with waits no_gaps) (with_locals s locals) (with_locals z locals) (Flush t) ls one;
         follow' = λ u. follows u ∙ ap (λ (x : State). placed (gaps u) (x.locals u)) (sym f.result);
       }
 

@@ -1,7 +1,7 @@
 -- The outcomes of a fenced program are those of the machine with the gaps fenced.
 use Rattle.fence_laws.proofs.Vocabulary.{◌≡◌, ◌↔◌, ℕ, ◌+◌, Bool, true, false, List, [], Option, Some, None, refl, sym, ap, ◌∙◌, subst, inl, inr, map, length, range_with_len, fun_ext, Instr, Listing}
 use Rattle.fence_laws.proofs.Vocabulary.{Local, Stop, Outcome, act, Gaps, place_of, moved, fence, Shown, Question, asked, action, instr_at, start_of, Machine, no_gaps, State, start, outcome_at}
-use Rattle.fence_laws.proofs.Vocabulary.{HasEnded, Allows, AllowsShown, fenced_at, FencingIsTheMachineWithGaps, FencingKeepsSequentialOutcomes, first_of, same_registers, same_count, instr_at_place}
+use Rattle.fence_laws.proofs.Vocabulary.{HasEnded, Allows, AllowsShown, fenced_at, FencingIsTheMachineWithGaps, first_of, same_registers, same_count, instr_at_place}
 use Rattle.fence_laws.proofs.Vocabulary.{instr_after_fence}
 use Rattle.fence_laws.proofs.{FencedActions.placed, FencedActions.stops_at_none, EitherMachine.mode_with, FencedSteps.with_locals, FencesInserted.Follow, FencesInserted.inserted}
 use Rattle.fence_laws.proofs.FencesDropped.{AllStand, dropped}
@@ -82,7 +82,7 @@ shown_too : (shown : Shown) (p other : Listing) (m n : Machine) (o : Outcome) �
     AllowsShown (asked p shown) m o → AllowsShown (asked other shown) n o
 shown_too shown p other m n o also (labels, (whole, is_run, same)) = let (ls, is) = also whole (labels, is_run) in (ls, (whole, is, same))
 
-both_ways : (q : Question) (gaps : Gaps) (waits : Bool) (o : Outcome) → AllowsShown (fenced_at gaps q) (mode_with waits no_gaps) o ↔ AllowsShown q (mode_with waits gaps) o
+pub both_ways : (q : Question) (gaps : Gaps) (waits : Bool) (o : Outcome) → AllowsShown (fenced_at gaps q) (mode_with waits no_gaps) o ↔ AllowsShown q (mode_with waits gaps) o
 both_ways q gaps waits o = (
   shown_too q.shown (fence gaps q.program) q.program (mode_with waits no_gaps) (mode_with waits gaps) o (to_program q.program gaps waits),
   shown_too q.shown q.program (fence gaps q.program) (mode_with waits gaps) (mode_with waits no_gaps) o (to_fenced q.program gaps waits),
@@ -91,7 +91,3 @@ both_ways q gaps waits o = (
 -- over store buffers
 pub fencing_is_the_machine : FencingIsTheMachineWithGaps
 fencing_is_the_machine q gaps o = both_ways q gaps true o
-
--- and sequentially
-pub fencing_keeps_sequential : FencingKeepsSequentialOutcomes
-fencing_keeps_sequential q gaps o = both_ways q gaps false o

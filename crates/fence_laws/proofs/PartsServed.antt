@@ -1,27 +1,23 @@
 -- What holds where more is shown holds where a part of it is.
 use Rattle.fence_laws.proofs.Vocabulary.{Bool, refl, sym, ap, ◌∙◌, inl, inr, Listing, Outcome, Shown, gaps_in, Machine, SequentialMachine, StoreBufferMachine, AllowsShown, LeavesOutcome, cases_lt}
-use Rattle.fence_laws.proofs.Vocabulary.{total, show, told, asked, WhatServesServesEachPart, WhatServesForAllServes, WhatServesServesTheTruth, AnObservedAnswerCostsNoMore, ATruthsAnswerCostsNoMore}
+use Rattle.fence_laws.proofs.Vocabulary.{total, show, told, asked, WhatServesServesEachPart, WhatServesServesTheTruth, AnObservedAnswerCostsNoMore, ATruthsAnswerCostsNoMore}
 use Rattle.fence_laws.proofs.Vocabulary.{LeavesTruth, AServedTruthIsKept}
-use Rattle.tso_program.specs.{declared.shown.Shown.TheVariants.All, declared.shown.Shown.TheVariants.Truth, declared.atom.Atom.Atom, Tree.Tree, Truth.truth, Laws.IsReadOff}
-use Rattle.tso_program.proofs.{Kept.off_all, ReadOff.truth_read_off, ReadOff.told_apart}
+use Rattle.tso_program.specs.{declared.shown.Shown.TheVariants.Truth, declared.atom.Atom.Atom, Tree.Tree, Truth.truth, Laws.IsReadOff}
+use Rattle.tso_program.proofs.{ReadOff.truth_read_off, ReadOff.told_apart}
 
 module _ (p : Listing) (small large : Shown) (part : IsReadOff small large) where
   -- where one machine shows no more than another, it shows no more of a part
   pub parts_allowed : (mode other : Machine) → ((o : Outcome) → AllowsShown (asked p large) mode o → AllowsShown (asked p large) other o) →
       (o : Outcome) → AllowsShown (asked p small) mode o → AllowsShown (asked p small) other o
-  parts_allowed mode other each o (labels, (whole, is_run, e)) = from (each (show large whole) (labels, (whole, is_run, refl)))
-    where
-      from : AllowsShown (asked p large) other (show large whole) → AllowsShown (asked p small) other o
-      from (others, (found, is_other, same)) = (others, (found, is_other, e ∙ (sym (part whole) ∙ ap (show small) same ∙ part found)))
+  parts_allowed mode other each o (labels, (whole, is_run, e)) =
+      let (others, (found, is_other, same)) = each (show large whole) (labels, (whole, is_run, refl)) in
+      (others, (found, is_other, e ∙ (sym (part whole) ∙ ap (show small) same ∙ part found)))
 
 pub part_served : WhatServesServesEachPart
 part_served p small large gaps part serves o = (
   parts_allowed p small large part (StoreBufferMachine (gaps_in p gaps)) SequentialMachine (λ shown. (serves shown).0) o,
   parts_allowed p small large part SequentialMachine (StoreBufferMachine (gaps_in p gaps)) (λ shown. (serves shown).1) o,
 )
-
-pub all_served : WhatServesForAllServes
-all_served p shown gaps = part_served p shown All gaps (off_all shown)
 
 -- a cheaper set that serves for more would be better, and so leave an outcome of the part
 pub no_more : AnObservedAnswerCostsNoMore
@@ -45,17 +41,15 @@ module _ (p : Listing) (f : Tree Atom) where
   -- where the one machine shows no more than the other, it leaves no other truth, and the other way round
   truths_forth : (mode other : Machine) → ((o : Outcome) → AllowsShown (asked p (Truth f)) mode o → AllowsShown (asked p (Truth f)) other o) →
       (b : Bool) → LeavesTruth p mode f b → LeavesTruth p other f b
-  truths_forth mode other each b (labels, (o, is_run, e)) = from (each (told b) (labels, (o, is_run, sym (ap told e))))
-    where
-      from : AllowsShown (asked p (Truth f)) other (told b) → LeavesTruth p other f b
-      from (others, (found, is_other, same)) = (others, (found, is_other, sym (told_apart b (truth found f) same)))
+  truths_forth mode other each b (labels, (o, is_run, e)) =
+      let (others, (found, is_other, same)) = each (told b) (labels, (o, is_run, sym (ap told e))) in
+      (others, (found, is_other, sym (told_apart b (truth found f) same)))
 
   truths_back : (mode other : Machine) → ((b : Bool) → LeavesTruth p mode f b → LeavesTruth p other f b) →
       (o : Outcome) → AllowsShown (asked p (Truth f)) mode o → AllowsShown (asked p (Truth f)) other o
-  truths_back mode other each o (labels, (whole, is_run, e)) = from (each (truth whole f) (labels, (whole, is_run, refl)))
-    where
-      from : LeavesTruth p other f (truth whole f) → AllowsShown (asked p (Truth f)) other o
-      from (others, (found, is_other, same)) = (others, (found, is_other, e ∙ sym (ap told same)))
+  truths_back mode other each o (labels, (whole, is_run, e)) =
+      let (others, (found, is_other, same)) = each (truth whole f) (labels, (whole, is_run, refl)) in
+      (others, (found, is_other, e ∙ sym (ap told same)))
 
 pub truth_kept : AServedTruthIsKept
 truth_kept p f gaps = (

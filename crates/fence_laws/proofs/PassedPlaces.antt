@@ -35,16 +35,12 @@ stands_at (Some x) s h = (x, refl)
 
 module _ (p : Listing) (forward : JumpForward p.threads) where
   -- what a thread does leads on
-  action_on : (t : ℕ) (s : Local) → LeadsOn (action p.threads t s)
-  action_on t s = by_instruction (instr_at p.threads t s.place) refl
+  leads_on : (t : ℕ) (s : Local) (a : Action) → action p.threads t s ≡ a → LeadsOn a
+  leads_on t s a e = subst LeadsOn e (by_instruction (instr_at p.threads t s.place) refl)
     where
       by_instruction : (o : Option Instr) → instr_at p.threads t s.place ≡ o → LeadsOn (act o s)
       by_instruction None e = tt
       by_instruction (Some x) e = instruction_on x s (λ target h. let z : s.place < target = forward t s.place target x e h in omega arith)
-
-  -- the same of an action by name
-  leads_on : (t : ℕ) (s : Local) (a : Action) → action p.threads t s ≡ a → LeadsOn a
-  leads_on t s a e = subst LeadsOn e (action_on t s)
 
   -- at its first instruction a thread has nothing waiting
   abbrev NothingWaitsAtFirst : State → Type 0

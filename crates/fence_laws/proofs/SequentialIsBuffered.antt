@@ -20,10 +20,6 @@ module _ (p : Listing) (gaps : Gaps) where
   exec_step s s' t empty e ls = ap (option_and_then (λ next. run p (StoreBufferMachine gaps) next ls))
       (passes (gaps t (s.locals t).place) (s.buffers t) s (λ z. buffered z t (action p.threads t (s.locals t))) empty ∙ e)
 
-  -- one label leads on
-  by_step : (s s' : State) (t : ℕ) → s.buffers t ≡ [] → buffered s t (action p.threads t (s.locals t)) ≡ Some s' → Leads s s'
-  by_step s s' t empty e = (Exec t ∷ [], exec_step s s' t empty e)
-
   -- the state with one more store waiting
   abbrev pub stored : State → ℕ → ℕ → ℕ → Local → State
   stored s t l v next = record s { locals = put s.locals t next; buffers = put s.buffers t (s.buffers t ++ record { location = l; value = v } ∷ []) }
@@ -40,13 +36,13 @@ module _ (p : Listing) (gaps : Gaps) where
   -- a sequential step is one label, or two for a store
   one_step : (s s' : State) (t : ℕ) → s.buffers t ≡ [] → (a : Action) → action p.threads t (s.locals t) ≡ a → direct s t a ≡ Some s' → Leads s s'
   one_step s s' t empty Stop e h = absurd cc
-  one_step s s' t empty (Go next) e h = by_step s s' t empty (rw e h)
+  one_step s s' t empty (Go next) e h = (Exec t ∷ [], exec_step s s' t empty (rw e h))
   one_step s s' t empty (Write l v next) e h = (
     Exec t ∷ Flush t ∷ [],
     λ ls.
         exec_step s (stored s t l v next) t empty (rw e refl) (Flush t ∷ ls) ∙ ap (option_and_then (λ next. run p (StoreBufferMachine gaps) next ls)) (stored_flushed s s' t l v next empty h),
   )
-  one_step s s' t empty a e h = by_step s s' t empty (rw e (rw empty h))
+  one_step s s' t empty a e h = (Exec t ∷ [], exec_step s s' t empty (rw e (rw empty h)))
 
   -- a sequential step leaves the buffers
   pub same_buffers : (s s' : State) (t : ℕ) (a : Action) → direct s t a ≡ Some s' → s'.buffers ≡ s.buffers

@@ -10,6 +10,7 @@ use Rattle.tso_machine.specs.Machine.{Machine}
 use Rattle.thread_traces.specs.Immediates.{any_number}
 use Rattle.thread_traces.proofs.KnownValues.{known_all}
 use Rattle.tso_program.specs.declared.instruction.TheConstants.{REGISTERS}
+use Rattle.candidate_executions.proofs.FromRuns.StoredValues.{known_value}
 
 -- an instruction's number, 0 where it has none
 abbrev number_or_zero : Instr → ℕ
@@ -74,16 +75,12 @@ module _ (p : Listing) where
     | inr has ↦ later_is_here 0 (p.memory ++ constants p.threads) v (Contains-append_left p.memory (constants p.threads) v has)
   ]
 
-  -- a location's values are among what a register may hold
-  value_known : (l v : ℕ) → IsValueOf p l v → IsKnown p v
-  value_known l v is = elim is [ inl q ↦ inr (inr (inr (l, q))) | inr (inl o) ↦ inr (inl (inr (inl (l, o)))) | inr (inr k) ↦ k.1 ]
-
   -- so different values of a location are few
   pub few_values : (l : ℕ) (values : List ℕ) → IsWithinLimits p.threads p.memory → HaveAllRegisters p.threads → IsStrictlyIncreasing values → ((v : ℕ) → Contains values v → IsValueOf p l v) →
       length values ≤ most_values
   few_values l values within six ascending are =
       let rises = AllPairs-from_increasing values ascending in
-      let few = few_of (λ v. v) values all_constants (λ i j d h k same. (let less = rises i j d h k in omega arith)) (λ v has. known_here v (value_known l v (are v has))) in
+      let few = few_of (λ v. v) values all_constants (λ i j d h k same. (let less = rises i j d h k in omega arith)) (λ v has. known_here v (known_value p l v (are v has))) in
       let long = length-append p.memory (constants p.threads) in
       let threads = constants_few p.threads six in
       let gaps = within.few_gaps in

@@ -5,6 +5,7 @@ use Rattle.known_edges.proofs.Vocabulary.{MayFollow, AreRowsOf, AreSourceRows, A
 use Rattle.candidate_executions.specs.declared.event.Kind.TheVariants as union
 use Rattle.known_edges.proofs.{Found.cycle_of_accesses, Found.kind_of, Numbered.access_number, Numbered.rows_of_kind, Rounds.cycle_down, Rounds.cycle_up}
 use Rattle.known_edges.proofs.RowsKept.{source_represented, pair_represented}
+use Rattle.gap_sets.specs.Gaps.{SetOfGaps}
 
 side : (kind : Kind) (main global : List ℕ) → HasRound (union_rows kind main global) → HasRound main ⊎ HasRound global
 side union.Global main global h = inr h
@@ -40,6 +41,16 @@ main_cycle p mode thread_traces events sources pairs main rows (d, h) =
 other_side : (b : Bool) (P Q : Type 0) → (P → ⊥) → (IsTrue b ↔ Q) → IsTrue b ↔ (P ⊎ Q)
 other_side b P Q none test = (λ t. inr (test.0 t), λ h. elim h [ inl p ↦ absurd (none p) | inr q ↦ test.1 q ])
 
+-- the second decides whether there is a cycle
+closed_by : (p : Listing) (mode : Mode) (thread_traces : List ThreadTrace) (events : List Event) (sources pairs : List (Event × Event)) (later main global : List ℕ) →
+    IsRepresented p mode thread_traces events sources pairs later main global → IsWhole p (machine_of_mode p mode) (view_of p mode thread_traces sources pairs).chosen → (b : Bool) →
+    (HasRound main → ⊥) → (IsTrue b ↔ HasRound global) → IsTrue b ↔ HasCycle (view_of p mode thread_traces sources pairs)
+closed_by p mode thread_traces events sources pairs later main global is whole b none test =
+    closed p mode thread_traces events sources pairs later main global is whole b (other_side b (HasRound main) (HasRound global) none test)
+
+not_sequential : (mode : Mode) (gaps : SetOfGaps) → mode ≡ Fenced gaps → mode ≡ Sequential → ⊥
+not_sequential mode gaps e q = let never : Sequential ≡ Fenced gaps = sym q ∙ e in cc
+
 -- a row of no number adds nothing
 not_connected : (rows : List ℕ) (to : ℕ) → AreConnected rows 0 to rows
 not_connected rows to d e = (λ h. inl h, λ h. elim h [ inl p ↦ p | inr p ↦ absurd (none_in_zero d p.0) ])
@@ -61,22 +72,15 @@ module _ (p : Listing) (mode : Mode) (thread_traces : List ThreadTrace) (events 
       ClosesTwice mode global far rows.reader rows.after b → IsTrue b ↔ HasCycle (view_of p mode thread_traces (sources ++ (read, source) ∷ []) pairs)
   source_closes read source may rows are far of_far main₁ main₂ put₁ put₂ none closes = go mode refl closes
     where
-      by : (global' : List ℕ) → IsRepresented p mode thread_traces events (sources ++ (read, source) ∷ []) pairs later main₂ global' → (IsTrue b ↔ HasRound global') →
-          IsTrue b ↔ HasCycle (view_of p mode thread_traces (sources ++ (read, source) ∷ []) pairs)
-      by global' represented test = closed p mode thread_traces events (sources ++ (read, source) ∷ []) pairs later main₂ global' represented may.whole b (other_side b (HasRound main₂) (HasRound global') none test)
-
       go : (m : Mode) → mode ≡ m → ClosesTwice m global far rows.reader rows.after b → IsTrue b ↔ HasCycle (view_of p mode thread_traces (sources ++ (read, source) ∷ []) pairs)
-      go Sequential e test = by global
+      go Sequential e test = closed_by p mode thread_traces events (sources ++ (read, source) ∷ []) pairs later main₂ global
           (source_represented p mode thread_traces events sources pairs later main global is read source may rows are far 0 0 main₁ main₂ global global
           of_far (none_outside mode e far) (none_outside mode e rows.reader) put₁ put₂ (not_connected global rows.reader) (not_connected global rows.after))
-          test
-      go (Fenced gaps) e (global₁, global₂, put₃, put₄, test) = by global₂
+          may.whole b none test
+      go (Fenced gaps) e (global₁, global₂, put₃, put₄, test) = let other = not_sequential mode gaps e in closed_by p mode thread_traces events (sources ++ (read, source) ∷ []) pairs later main₂ global₂
           (source_represented p mode thread_traces events sources pairs later main global is read source may rows are far far rows.reader main₁ main₂ global₁ global₂
           of_far (all_outside mode other far) (all_outside mode other rows.reader) put₁ put₂ put₃ put₄)
-          test
-        where
-          other : mode ≡ Sequential → ⊥
-          other q = let never : Sequential ≡ Fenced gaps = sym q ∙ e in cc
+          may.whole b none test
 
   -- the look at an order
   pub pair_closes : (first second : Event) (may : MayFollow (view_of p mode thread_traces sources pairs) first second) (rows : OrderRows) (are : AreOrderRows events sources first second rows)
@@ -84,17 +88,10 @@ module _ (p : Listing) (mode : Mode) (thread_traces : List ThreadTrace) (events 
       ClosesOnce mode global rows.earlier rows.after b → IsTrue b ↔ HasCycle (view_of p mode thread_traces sources (pairs ++ (first, second) ∷ []))
   pair_closes first second may rows are later' main' put put_main none closes = go mode refl closes
     where
-      by : (global' : List ℕ) → IsRepresented p mode thread_traces events sources (pairs ++ (first, second) ∷ []) later' main' global' → (IsTrue b ↔ HasRound global') →
-          IsTrue b ↔ HasCycle (view_of p mode thread_traces sources (pairs ++ (first, second) ∷ []))
-      by global' represented test = closed p mode thread_traces events sources (pairs ++ (first, second) ∷ []) later' main' global' represented may.whole b (other_side b (HasRound main') (HasRound global') none test)
-
       go : (m : Mode) → mode ≡ m → ClosesOnce m global rows.earlier rows.after b → IsTrue b ↔ HasCycle (view_of p mode thread_traces sources (pairs ++ (first, second) ∷ []))
-      go Sequential e test = by global
+      go Sequential e test = closed_by p mode thread_traces events sources (pairs ++ (first, second) ∷ []) later' main' global
           (pair_represented p mode thread_traces events sources pairs later main global is first second may rows are 0 later' main' global (none_outside mode e rows.earlier) put put_main (not_connected global rows.after))
-          test
-      go (Fenced gaps) e (global', put_global, test) = by global'
+          may.whole b none test
+      go (Fenced gaps) e (global', put_global, test) = let other = not_sequential mode gaps e in closed_by p mode thread_traces events sources (pairs ++ (first, second) ∷ []) later' main' global'
           (pair_represented p mode thread_traces events sources pairs later main global is first second may rows are rows.earlier later' main' global' (all_outside mode other rows.earlier) put put_main put_global)
-          test
-        where
-          other : mode ≡ Sequential → ⊥
-          other q = let never : Sequential ≡ Fenced gaps = sym q ∙ e in cc
+          may.whole b none test

@@ -4,6 +4,7 @@ use Rattle.known_edges.proofs.Vocabulary.{Contains-push_cases, IsIn, RowHas, Lis
 use Rattle.known_edges.proofs.Vocabulary.{Fenced, machine_of_mode, ProgramSketch, mode_in, access_in, with_chosen, IsLawful, SourcePart, MayRead, MayFollow, IsRowOf, AreRowsOf, ReadsBut, main_kind}
 use Rattle.candidate_executions.specs.declared.event.Kind.TheVariants as union
 use Rattle.known_edges.proofs.KnownParts.{Parts4, to_relates, of_relates}
+use Rattle.candidate_executions.proofs.Sketches.KnownEdges.{each}
 pub use Rattle.known_edges.proofs.Unchosen.{order_precedes}
 
 -- the event has a number
@@ -37,6 +38,13 @@ pub global_of_mode : (p : Listing) (mode : Mode) → IsOfMode (machine_of_mode p
 global_of_mode p Sequential = (λ h e. h, λ h. h refl)
 global_of_mode p (Fenced gaps) = (λ h e. absurd cc, λ h. tt)
 
+-- a pair of a list with one more is one of the list, or the new one
+pushed : (pairs : List (Event × Event)) (a b d e : Event) → Contains (pairs ++ (a, b) ∷ []) (d, e) → Contains pairs (d, e) ⊎ ((d ≡ a) × (e ≡ b))
+pushed pairs a b d e h = elim (Contains-push_cases pairs (a, b) (d, e) h) [
+  | inl old ↦ inl old
+  | inr q ↦ inr (sym (ap (λ (r : Event × Event). r.0) q), sym (ap (λ (r : Event × Event). r.1) q))
+]
+
 module _ (s : ProgramSketch) (lawful : IsLawful s) (first second : Event) (may : MayFollow s first second) where
   abbrev t : ProgramSketch
   t = with_chosen s (with_pair s.chosen first second)
@@ -45,19 +53,12 @@ module _ (s : ProgramSketch) (lawful : IsLawful s) (first second : Event) (may :
   abbrev pub Earlier : Event → Type 0
   Earlier d = (d ≡ first) ⊎ ReadsBut s.chosen.sources first second d
 
-  same_source : (kind : Kind) (d e : Event) → SourcePart t.chosen kind d e → SourcePart s.chosen kind d e
-  same_source union.Sequential d e h = h
-  same_source kind d e h = h
-
-  source_same : (kind : Kind) (d e : Event) → SourcePart s.chosen kind d e → SourcePart t.chosen kind d e
-  source_same union.Sequential d e h = h
-  source_same kind d e h = h
+  same_source : (kind : Kind) (d e : Event) → SourcePart t.chosen kind d e ↔ SourcePart s.chosen kind d e
+  same_source union.Sequential d e = (λ h. h, λ h. h)
+  same_source kind d e = (λ h. h, λ h. h)
 
   before_of : (d e : Event) (y : Access) → IsBefore t.chosen d e y → IsBefore s.chosen d e y ⊎ ((d ≡ first) × (e ≡ second))
-  before_of d e y (inl h) = elim (Contains-push_cases s.chosen.pairs (first, second) (d, e) h) [
-    | inl a ↦ inl (inl a)
-    | inr q ↦ inr (sym (ap (λ (r : Event × Event). r.0) q), sym (ap (λ (r : Event × Event). r.1) q))
-  ]
+  before_of d e y (inl h) = elim (pushed s.chosen.pairs first second d e h) [ inl a ↦ inl (inl a) | inr q ↦ inr q ]
   before_of d e y (inr h) = inl (inr h)
 
   before_kept : (d e : Event) (y : Access) → IsBefore s.chosen d e y → IsBefore t.chosen d e y
@@ -66,7 +67,7 @@ module _ (s : ProgramSketch) (lawful : IsLawful s) (first second : Event) (may :
 
   parts_of_pair : (kind : Kind) (d : Event) (x : Access) (e : Event) (y : Access) → Parts4 t.chosen kind d x e y → Parts4 s.chosen kind d x e y ⊎ (Earlier d × (e ≡ second))
   parts_of_pair kind d x e y (inl o) = inl (inl o)
-  parts_of_pair kind d x e y (inr (inl h)) = inl (inr (inl (same_source kind d e h)))
+  parts_of_pair kind d x e y (inr (inl h)) = inl (inr (inl ((same_source kind d e).0 h)))
   parts_of_pair kind d x e y (inr (inr (inl h))) = elim (before_of d e y h) [ inl b ↦ inl (inr (inr (inl b))) | inr q ↦ inr (inl q.0, q.1) ]
   parts_of_pair kind d x e y (inr (inr (inr (source, has, b, other)))) = elim (before_of source e y b) [
     | inl c ↦ inl (inr (inr (inr (source, has, c, other))))
@@ -74,10 +75,7 @@ module _ (s : ProgramSketch) (lawful : IsLawful s) (first second : Event) (may :
   ]
 
   parts_kept : (kind : Kind) (d : Event) (x : Access) (e : Event) (y : Access) → Parts4 s.chosen kind d x e y → Parts4 t.chosen kind d x e y
-  parts_kept kind d x e y (inl o) = inl o
-  parts_kept kind d x e y (inr (inl h)) = inr (inl (source_same kind d e h))
-  parts_kept kind d x e y (inr (inr (inl h))) = inr (inr (inl (before_kept d e y h)))
-  parts_kept kind d x e y (inr (inr (inr (source, has, b, other)))) = inr (inr (inr (source, has, before_kept source e y b, other)))
+  parts_kept kind d x e y h = each h (λ o. o) (same_source kind d e).1 (before_kept d e y) (λ (source, has, b, other). (source, has, before_kept source e y b, other))
 
   parts_new : (kind : Kind) (d : Event) (x : Access) (e : Event) (y : Access) → Earlier d → e ≡ second → Parts4 t.chosen kind d x e y
   parts_new kind d x e y (inl q) r = inr (inr (inl (inl (subst (λ z. Contains (s.chosen.pairs ++ (first, second) ∷ []) (z, e)) (sym q)
@@ -93,9 +91,6 @@ module _ (s : ProgramSketch) (lawful : IsLawful s) (first second : Event) (may :
   there_first d (inl q) = let (l, v, u, w, w2, a, b) = may.is_pair.1 in (w.0, ap (access_in s) q ∙ w.1)
   there_first d (inr q) = let (x, v, at, r, ne, w) = lawful.is_sketch.sources d first q.0 in (x, at)
 
-  there_second : (e : Event) → e ≡ second → (y : Access) × (access_in s e ≡ Some y)
-  there_second e r = let (l, v, u, w, w2, a, b) = may.is_pair.1 in (w2.0, ap (access_in s) r ∙ w2.1)
-
   -- one more pair adds edges from first, and from the reads that have it as their source, to second
   pub pair_edges : (kind : Kind) (d e : Event) → KnownEdgeOfMode t.program (mode_in t) t.chosen kind d e ↔ (KnownEdgeOfMode s.program (mode_in s) s.chosen kind d e ⊎ ((IsOfMode (mode_in s) kind × Earlier d) × (e ≡ second)))
   pair_edges kind d e = (
@@ -107,17 +102,14 @@ module _ (s : ProgramSketch) (lawful : IsLawful s) (first second : Event) (may :
       | inl (m, (x, y, ad, ae, r)) ↦ (m, (x, y, ad, ae, to_relates t.chosen kind d x e y (parts_kept kind d x e y (of_relates s.chosen kind d x e y r))))
       | inr ((m, earlier), same) ↦
           (let (x, ad) = there_first d earlier in
-          let (y, ae) = there_second e same in
-          (m, (x, y, ad, ae, to_relates t.chosen kind d x e y (parts_new kind d x e y earlier same))))
+          let (l, v, w, wr, y, a, b) = may.is_pair.1 in
+          (m, (x, y.0, ad, ap (access_in s) same ∙ y.1, to_relates t.chosen kind d x e y.0 (parts_new kind d x e y.0 earlier same))))
     ],
   )
 
   pub pair_pairs : (d e : Event) → Contains t.chosen.pairs (d, e) ↔ (Contains s.chosen.pairs (d, e) ⊎ ((d ≡ first) × (e ≡ second)))
   pair_pairs d e = (
-    λ h. elim (Contains-push_cases s.chosen.pairs (first, second) (d, e) h) [
-      | inl a ↦ inl a
-      | inr q ↦ inr (sym (ap (λ (r : Event × Event). r.0) q), sym (ap (λ (r : Event × Event). r.1) q))
-    ],
+    λ h. pushed s.chosen.pairs first second d e h,
     λ h. elim h [
       | inl a ↦ Contains-append_left s.chosen.pairs ((first, second) ∷ []) (d, e) a
       | inr q ↦ subst (λ (r : Event × Event). Contains t.chosen.pairs r) (λ i. ((sym q.0) i, (sym q.1) i)) (Contains-push s.chosen.pairs (first, second))
@@ -133,10 +125,7 @@ module _ (s : ProgramSketch) (lawful : IsLawful s) (read source : Event) (may : 
   After e = (y : Access) × (access_in s e ≡ Some y) × IsBefore s.chosen source e y × (read ≢ e)
 
   sources_of : (d e : Event) → Contains u.chosen.sources (e, d) → Contains s.chosen.sources (e, d) ⊎ ((d ≡ source) × (e ≡ read))
-  sources_of d e h = elim (Contains-push_cases s.chosen.sources (read, source) (e, d) h) [
-    | inl a ↦ inl a
-    | inr q ↦ inr (sym (ap (λ (r : Event × Event). r.1) q), sym (ap (λ (r : Event × Event). r.0) q))
-  ]
+  sources_of d e h = elim (pushed s.chosen.sources read source e d h) [ inl a ↦ inl a | inr q ↦ inr (q.1, q.0) ]
 
   sources_kept : (d e : Event) → Contains s.chosen.sources (e, d) → Contains u.chosen.sources (e, d)
   sources_kept d e h = Contains-append_left s.chosen.sources ((read, source) ∷ []) (e, d) h
@@ -179,16 +168,10 @@ module _ (s : ProgramSketch) (lawful : IsLawful s) (read source : Event) (may : 
   ]
 
   source_parts_kept : (kind : Kind) (d : Event) (x : Access) (e : Event) (y : Access) → Parts4 s.chosen kind d x e y → Parts4 u.chosen kind d x e y
-  source_parts_kept kind d x e y (inl o) = inl o
-  source_parts_kept kind d x e y (inr (inl h)) = inr (inl (step_kept kind d e h))
-  source_parts_kept kind d x e y (inr (inr (inl h))) = inr (inr (inl h))
-  source_parts_kept kind d x e y (inr (inr (inr (z, has, b, other)))) = inr (inr (inr (z, sources_kept z d has, b, other)))
+  source_parts_kept kind d x e y h = each h (λ o. o) (step_kept kind d e) (λ b. b) (λ (z, has, b, other). (z, sources_kept z d has, b, other))
 
   there_read : (d : Event) → d ≡ read → (x : Access) × (access_in s d ≡ Some x)
   there_read d q = let (x, v, at, r, ne, w) = may.is_source in (x, ap (access_in s) q ∙ at)
-
-  there_source : (d : Event) → d ≡ source → (x : Access) × (access_in s d ≡ Some x)
-  there_source d q = let (x, v, at, r, ne, w) = may.is_source in (w.0, ap (access_in s) q ∙ w.1)
 
   -- one more source adds the edge from it to its read, and edges from the read to the writes that come after it
   pub source_edges : (kind : Kind) (d e : Event) →
@@ -203,9 +186,9 @@ module _ (s : ProgramSketch) (lawful : IsLawful s) (read source : Event) (may : 
       | inl (m, (x, y, ad, ae, r)) ↦ (m, (x, y, ad, ae, to_relates u.chosen kind d x e y (source_parts_kept kind d x e y (of_relates s.chosen kind d x e y r))))
       | inr (inl (m, step)) ↦
           (let ends = step_ends kind d e step in
-          let (x, ad) = there_source d ends.0 in
+          let (z, v, at, r, ne, x) = may.is_source in
           let (y, ae) = there_read e ends.1 in
-          (m, (x, y, ad, ae, to_relates u.chosen kind d x e y (inr (inl (step_new kind d e step))))))
+          (m, (x.0, y, ap (access_in s) ends.0 ∙ x.1, ae, to_relates u.chosen kind d x.0 e y (inr (inl (step_new kind d e step))))))
       | inr (inr ((m, q), (y, ae, b, other))) ↦
           (let (x, ad) = there_read d q in
           (m, (x, y, ad, ae, to_relates u.chosen kind d x e y (inr (inr (inr (source, sources_new source d refl q, b, λ same. other (sym q ∙ same))))))))

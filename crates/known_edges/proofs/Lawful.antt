@@ -1,5 +1,5 @@
 -- What a sketch keeps holds at the start, and after each value that is given.
-use Rattle.known_edges.proofs.Vocabulary.{◌≡◌, ◌≢◌, ◌⊎◌, ℕ, zero, suc, ◌<◌, List, [], ◌∷◌, ◌++◌, Some, None, IsSome, Contains, slice_get, set, map, length, refl, sym, ap, ◌∙◌, subst, inl, inr, arith}
+use Rattle.known_edges.proofs.Vocabulary.{option_map, slice_get-map, unwrap_or, ◌≡◌, ◌≢◌, ◌⊎◌, ℕ, zero, suc, ◌<◌, List, [], ◌∷◌, ◌++◌, Some, None, IsSome, Contains, slice_get, set, map, length, refl, sym, ap, ◌∙◌, subst, inl, inr, arith}
 use Rattle.known_edges.proofs.Vocabulary.{length-set, cases_eq, length-map, slice_get_within, same_Some, Thread, Listing, IsWithinLimits, action, code_of, start_of, Access, Event, Initial, At}
 use Rattle.known_edges.proofs.Vocabulary.{IsValueOf, trace, fenced_gaps, get_cases, get_set_same, get_set_other, Mode, ThreadTrace, machine_of_mode, advance, ProgramSketch, trace_in, access_in}
 use Rattle.known_edges.proofs.Vocabulary.{nothing_chosen, with_chosen, given_lists, given_in, view_of, KeepsTraces, IsLawful}
@@ -74,9 +74,7 @@ given_set (d ∷ cs) (suc t) c = ap (λ xs. d.given ∷ xs) (given_set cs t c)
 given_set cs t c = refl
 
 pub given_at : (cs : List ThreadTrace) (t : ℕ) (c : ThreadTrace) → slice_get cs t ≡ Some c → given_in cs t ≡ c.given
-given_at [] t c e = absurd cc
-given_at (d ∷ cs) zero c e = ap (λ (x : ThreadTrace). x.given) (same_Some d c e)
-given_at (d ∷ cs) (suc t) c e = given_at cs t c e
+given_at cs t c e = ap (λ o. unwrap_or o []) (slice_get-map (λ (x : ThreadTrace). x.given) cs t ∙ ap (option_map (λ (x : ThreadTrace). x.given)) e)
 
 module _ (p : Listing) (mode : Mode) (thread_traces : List ThreadTrace) (sources pairs : List (Event × Event)) (kept : KeepsTraces p mode thread_traces sources pairs)
     (t v : ℕ) (old new : ThreadTrace) (there : slice_get thread_traces t ≡ Some old) (is : IsThreadTraceOf p (machine_of_mode p mode) t (old.given ++ v ∷ []) new)
@@ -95,12 +93,7 @@ module _ (p : Listing) (mode : Mode) (thread_traces : List ThreadTrace) (sources
   given_same = given_at (set thread_traces t new) t new (get_set_same thread_traces t new within) ∙ is.given_is ∙ ap (λ xs. xs ++ v ∷ []) (sym (given_at thread_traces t old there))
 
   given_other : (u : ℕ) → u ≢ t → given_in (set thread_traces t new) u ≡ given_in thread_traces u
-  given_other u ne = go thread_traces t u ne
-    where
-      go : (cs : List ThreadTrace) (t u : ℕ) → u ≢ t → given_in (set cs t new) u ≡ given_in cs u
-      go (d ∷ cs) zero zero h = absurd (h refl)
-      go (d ∷ cs) (suc t) (suc u) h = go cs t u (λ e. h (ap suc e))
-      go cs t u h = refl
+  given_other u ne = ap (λ (gs : List (List ℕ)). unwrap_or (slice_get gs u) []) (given_set thread_traces t new) ∙ ap (λ o. unwrap_or o []) (get_set_other (given_lists thread_traces) t new.given u ne)
 
   abbrev traced_with : ℕ → List ℕ → Type 0
   traced_with u given = Good (IsValueOf p) (trace (action p.threads u) (fenced_gaps (machine_of_mode p mode) u) (length (code_of p.threads u)) 0 (start_of p.threads u) given)

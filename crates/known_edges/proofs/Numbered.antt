@@ -3,7 +3,7 @@ use Rattle.known_edges.proofs.Vocabulary.{◌≡◌, ◌↔◌, ℕ, Bool, IsTru
 use Rattle.known_edges.proofs.Vocabulary.{slice_get_within, slice_get-get_or, get_or_from_slice_get, same_Some, IsIn, RowHas, MAX_THREADS, MAX_INSTRUCTIONS, Listing, Access, Event, Initial, At, Kind}
 use Rattle.known_edges.proofs.Vocabulary.{ComesBefore, IsOfMode, Mode, Sequential, Fenced, ThreadTrace, machine_of_mode, ProgramSketch, mode_in, trace_in, access_in, view_of, KeepsTraces}
 use Rattle.known_edges.proofs.Vocabulary.{IsInitialWrite, accesses_at, traced_access, IsOfThreads, AreAccesses, EachEnds, FitRow, AreRowsOf, HasWrites, IsRowOf, IsWriteAt, main_kind, union_rows}
-use Rattle.known_edges.proofs.Vocabulary.{some_value, of_some, slice_index, Writes, IsAccess, IsWhole, IsPair, given_to, next_read, IsOrdered}
+use Rattle.known_edges.proofs.Vocabulary.{some_value, of_some, slice_index, Writes, IsAccess, IsWhole, given_to, next_read, IsOrdered}
 use Rattle.candidate_executions.specs.declared.event.Kind.TheVariants as union
 use Rattle.known_edges.specs.Writes.{HasLater, IsLastWith, IsWritten}
 use Rattle.known_edges.proofs.{TracesKept.trace_accesses, TracesKept.no_accesses, TracesKept.no_trace, TracesKept.trace_next, TracesKept.past_next, Connected.HasNumber, ChoicesCounted.few_accesses}
@@ -52,13 +52,10 @@ module _ (p : Listing) (mode : Mode) (thread_traces : List ThreadTrace) (sources
   access_same (Initial l) h = absurd h
   access_same (At t i) h = ap (λ xs. slice_get xs i) (accesses_same t)
 
-  -- both writes of a pair are accesses
+  -- a write that is not the initial one is an access
   writes_access : (e : Event) (l v : ℕ) → Writes (access_in s) e l v → (e ≡ Initial l → ⊥) → IsAccess s.program (mode_in s) (given_to s.chosen) e
   writes_access (Initial m) l v w other = absurd (other (ap (λ n. Initial n) (ap (λ (x : Access). x.location) (same_Some _ w.0 w.1) ∙ w.2)))
   writes_access (At t i) l v w other = slice_get_within _ i w.0 w.1
-
-  pub pair_accesses : (d e : Event) → IsPair s.program (mode_in s) s.chosen d e → IsAccess s.program (mode_in s) (given_to s.chosen) d × IsAccess s.program (mode_in s) (given_to s.chosen) e
-  pair_accesses d e h = let (l, v, u, w, w2, a, b) = h.1 in (writes_access d l v w a, writes_access e l u w2 b)
 
   -- the threads are few
   pub courses_few : length thread_traces ≤ MAX_THREADS
@@ -98,9 +95,9 @@ module _ (p : Listing) (mode : Mode) (thread_traces : List ThreadTrace) (sources
   -- both writes of a chosen pair have numbers
   pub chosen_numbers : (events : List Event) → (IsWhole s.program (mode_in s) s.chosen → AreAccesses thread_traces events) → (d e : Event) → Contains pairs (d, e) → HasNumber events d × HasNumber events e
   chosen_numbers events all d e h =
-      let both = pair_accesses d e (kept.lawful.is_sketch.pairs d e h) in
+      let (l, v, u, w, w2, a, b) = (kept.lawful.is_sketch.pairs d e h).1 in
       let accesses = all (kept.lawful.whole d e (inr h)) in
-      (access_number events accesses d both.0, access_number events accesses e both.1)
+      (access_number events accesses d (writes_access d l v w a), access_number events accesses e (writes_access e l u w2 b))
 
   -- so have two writes that are in order
   pub ordered_numbers : (events : List Event) → (IsWhole s.program (mode_in s) s.chosen → AreAccesses thread_traces events) → (d e : Event) → IsOrdered s d e → HasNumber events d × HasNumber events e

@@ -3,16 +3,12 @@ use Rattle.known_edges.proofs.Vocabulary.{◌≡◌, ℕ, zero, suc, ◌<◌, �
 use Rattle.known_edges.proofs.Vocabulary.{Read, Write, Swap, Local, Listing, action, start_of, Mode, machine_of_mode, Access, Event, At, Kind, Trace, trace, traced, with_access, entered, store_of}
 use Rattle.known_edges.proofs.Vocabulary.{load_of, exchange_of, fenced_gaps, ThreadTrace, OrderPart, KeepsTraces, Precedes, KeepsOrder, traced_access, InOrder, AreOfSketch}
 use Rattle.candidate_executions.specs.declared.event.Kind.TheVariants as union
-use Rattle.candidate_executions.proofs.Sections.SectionsRise.{from_section}
+use Rattle.candidate_executions.proofs.Sections.SectionsRise.{least, from_section}
 use Rattle.known_edges.proofs.{Numbered.accesses_same, Unchosen.precedes_then}
 
 -- the second's section is not below the first's, and above it after an exchange
 abbrev pub Rises : Access → Access → Type 0
 Rises x y = (x.section ≤ y.section) × (IsSome x.read → IsSome x.written → x.section < y.section)
-
-not_entered : (b : Bool) (n m : ℕ) → entered b n ≤ m → n ≤ m
-not_entered true n m h = omega arith
-not_entered false n m h = h
 
 -- one access before a trace
 one_before : (a : Access) (T : Trace) (i j : ℕ) (x y : Access) → ((j : ℕ) (y : Access) → slice_get T.accesses j ≡ Some y → Rises a y) →
@@ -39,11 +35,11 @@ module _ (does : Local → Action) (gap : ℕ → Bool) where
       go (Go next) given i j o a b ih = ih m next given i j o a b
       go (Wait next) given i j o a b ih = ih (suc m) next given i j o a b
       go (Write l v next) given i j o a b ih = one_before (store_of m l v) (trace does gap k m next given) i j x y
-          (λ j z e. (not_entered (gap next.place) m z.section (from_section does gap k m next given j z e), λ r w. absurd (let f : false ≡ true = r in cc))) (ih m next given) o a b
+          (λ j z e. (least (gap next.place) m z.section (from_section does gap k m next given j z e), λ r w. absurd (let f : false ≡ true = r in cc))) (ih m next given) o a b
       go (Read l to next) (v ∷ given) i j o a b ih = one_before (load_of m l v) (trace does gap k m (loaded to v next) given) i j x y
-          (λ j z e. (not_entered _ m z.section (from_section does gap k m (loaded to v next) given j z e), λ r w. absurd (let f : false ≡ true = w in cc))) (ih m (loaded to v next) given) o a b
+          (λ j z e. (least _ m z.section (from_section does gap k m (loaded to v next) given j z e), λ r w. absurd (let f : false ≡ true = w in cc))) (ih m (loaded to v next) given) o a b
       go (Swap l w to next) (v ∷ given) i j o a b ih = one_before (exchange_of m l v w) (trace does gap k (suc m) (loaded to v next) given) i j x y
-          (λ j z e. let above = not_entered _ (suc m) z.section (from_section does gap k (suc m) (loaded to v next) given j z e) in (omega arith, λ r w. omega arith)) (ih (suc m) (loaded to v next) given) o a b
+          (λ j z e. let above = least _ (suc m) z.section (from_section does gap k (suc m) (loaded to v next) given j z e) in (omega arith, λ r w. omega arith)) (ih (suc m) (loaded to v next) given) o a b
       go c given i j o a b ih = absurd cc
 
 -- order that is kept twice is kept

@@ -1,5 +1,5 @@
 -- The rows of a sketch at its start, and after each choice.
-use Rattle.known_edges.proofs.Vocabulary.{◌≡◌, ◌↔◌, ◌⊎◌, ℕ, ◌<◌, List, [], ◌∷◌, ◌++◌, Some, None, Contains, slice_get, get_or, length, refl, sym, ap, ◌∙◌, subst, inl, inr, slice_get-get_or, same_Some}
+use Rattle.known_edges.proofs.Vocabulary.{get_some, ◌≡◌, ◌↔◌, ◌⊎◌, ℕ, List, [], ◌∷◌, ◌++◌, Some, Contains, slice_get, refl, sym, ap, ◌∙◌, subst, inl, inr, same_Some}
 use Rattle.known_edges.proofs.Vocabulary.{IsIn, RowHas, AreConnected, Listing, Access, Event, Initial, At, Kind, IsOfMode, SameThread, with_source, with_pair, KnownEdgeOfMode, Mode, Sequential}
 use Rattle.known_edges.proofs.Vocabulary.{Fenced, SourceRows, OrderRows, ThreadTrace, ProgramSketch, mode_in, access_in, with_chosen, view_of, KeepsTraces, MayRead, MayFollow, accesses_at}
 use Rattle.known_edges.proofs.Vocabulary.{traced_access, IsOfThreads, IsRowOf, AreRowsOf, InOrder, IsWriteAt, ReadsBut, IsAfter, HasOrder, AreSourceRows, AreOrderRows, IsRepresented, main_kind}
@@ -141,14 +141,11 @@ module _ (p : Listing) (mode : Mode) (thread_traces : List ThreadTrace) (events 
             elim before [
               | inl h ↦ absurd (subst (IsOfThreads thread_traces) from (number_access thread_traces events is.rows.of_threads source
                   (chosen_numbers p mode thread_traces sources pairs is.kept events is.rows.all source x h).0))
-              | inr (q, other, wr) ↦ (x, at, (y, same ∙ ay, same_location y.location l (sym q ∙ from), wr))
+              | inr (q, other, wr) ↦ (x, at, (y, same ∙ ay, (let here : Initial y.location ≡ Initial l = sym q ∙ from in cc), wr))
             ],
             not_read reader d x of_reader at ne,
           ),
     )
-      where
-        same_location : (m n : ℕ) → Initial m ≡ Initial n → m ≡ n
-        same_location m n q = cc
 
     -- and those that chosen pairs put after an access
     after_access : (t i reader after : ℕ) → source ≡ At t i → IsRowOf events (λ e. e ≡ read) reader →
@@ -170,9 +167,6 @@ module _ (p : Listing) (mode : Mode) (thread_traces : List ThreadTrace) (events 
         has_access : (e : Event) → IsOfThreads thread_traces e → (y : Access) × (traced_access thread_traces e ≡ Some y)
         has_access (Initial l) h = absurd h
         has_access (At u j) h = get_some (accesses_at thread_traces u) j h
-          where
-            get_some : (xs : List Access) (n : ℕ) → n < length xs → (y : Access) × (slice_get xs n ≡ Some y)
-            get_some xs n l = (get_or xs n (record { section = 0; location = 0; read = None; written = None }), slice_get-get_or xs n _ l)
 
         there : (e : Event) → HasNumber events e → (y : Access) × (access_in v e ≡ Some y)
         there e num =

@@ -18,16 +18,8 @@ numbered_all thread_traces events fit accesses = record {
 pub beyond_more : (old new : List Event) (t i : ℕ) → length new ≡ length old + i → AreBeyond old t new → AreBeyond old t (new ++ At t i ∷ [])
 beyond_more old new t i long beyond d u j at = elim (get_cases new (At t i) d (At u j) at) [
   | inl a ↦ beyond d u j a
-  | inr b ↦ (let index : j ≡ i = ap index_of b.1 in let place = b.0 in inr (ap thread_of b.1, omega arith))
+  | inr (place, same) ↦ (let thread : u ≡ t = cc in let index : j ≡ i = cc in inr (thread, omega arith))
 ]
-  where
-    thread_of : Event → ℕ
-    thread_of (Initial l) = 0
-    thread_of (At v k) = v
-
-    index_of : Event → ℕ
-    index_of (Initial l) = 0
-    index_of (At v k) = k
 
 -- one thread more
 pub starts_more : (thread_traces : List ThreadTrace) (old next : List Event) (t start : ℕ) (starts : List ℕ) → ((e : Event) → Contains old e → IsBelow thread_traces t e) → t < length starts →

@@ -1,25 +1,22 @@
 -- The trace that is kept of each thread is the trace under its given values.
 use Rattle.known_edges.proofs.Vocabulary.{◌≡◌, ℕ, ◌<◌, ◌≤◌, List, [], Some, None, slice_get, length, ap, ◌∙◌, subst, inl, inr, IsSome, arith, cases_lt, Listing, action, code_of, start_of, Event}
-use Rattle.known_edges.proofs.Vocabulary.{trace, fenced_gaps, get_some, Mode, ThreadTrace, machine_of_mode, ProgramSketch, trace_in, given_in, view_of, KeepsTraces, HaveAllRegisters, unwrap_or}
-use Rattle.known_edges.proofs.Vocabulary.{option_map, slice_get-map}
+use Rattle.known_edges.proofs.Vocabulary.{trace, fenced_gaps, get_some, Mode, ThreadTrace, machine_of_mode, ProgramSketch, trace_in, given_in, view_of, KeepsTraces, HaveAllRegisters}
 use Rattle.candidate_executions.specs.Sketches as sketches
+use Rattle.known_edges.proofs.Lawful.{given_at}
 use Rattle.thread_traces.proofs.TracesKept.{past_end, no_code, no_action}
 
 module _ (p : Listing) (mode : Mode) (thread_traces : List ThreadTrace) (sources pairs : List (Event × Event)) (kept : KeepsTraces p mode thread_traces sources pairs) where
   abbrev s : ProgramSketch
   s = view_of p mode thread_traces sources pairs
 
-  pub trace_given : (t : ℕ) (c : ThreadTrace) → slice_get thread_traces t ≡ Some c → given_in thread_traces t ≡ c.given
-  trace_given t c e = ap (λ o. unwrap_or o []) (slice_get-map (λ (x : ThreadTrace). x.given) thread_traces t ∙ ap (option_map (λ (x : ThreadTrace). x.given)) e)
-
   pub trace_accesses : (t : ℕ) (c : ThreadTrace) → slice_get thread_traces t ≡ Some c → (trace_in s t).accesses ≡ c.accesses
   trace_accesses t c e =
-      ap (λ given. (trace (action p.threads t) (fenced_gaps (machine_of_mode p mode) t) (length (code_of p.threads t)) 0 (start_of p.threads t) given).accesses) (trace_given t c e)
+      ap (λ given. (trace (action p.threads t) (fenced_gaps (machine_of_mode p mode) t) (length (code_of p.threads t)) 0 (start_of p.threads t) given).accesses) (given_at thread_traces t c e)
       ∙ (kept.traces_are t c e).accesses
 
   pub trace_last : (t : ℕ) (c : ThreadTrace) → slice_get thread_traces t ≡ Some c → (trace_in s t).last ≡ c.last
   trace_last t c e =
-      ap (λ given. (trace (action p.threads t) (fenced_gaps (machine_of_mode p mode) t) (length (code_of p.threads t)) 0 (start_of p.threads t) given).last) (trace_given t c e)
+      ap (λ given. (trace (action p.threads t) (fenced_gaps (machine_of_mode p mode) t) (length (code_of p.threads t)) 0 (start_of p.threads t) given).last) (given_at thread_traces t c e)
       ∙ (kept.traces_are t c e).last
 
   pub no_trace : (t : ℕ) → slice_get thread_traces t ≡ None → length p.threads ≤ t

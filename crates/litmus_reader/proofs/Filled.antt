@@ -80,30 +80,23 @@ stored_range : (f : ℕ → ℕ) (n : ℕ) (a : Atom) → stored (map f (range_w
 stored_range f n (atom.Location k x) = set_range f n k x
 stored_range f n (atom.Register t r x) = refl
 
-stored_from : (f : ℕ → ℕ) (n : ℕ) (atoms : List Atom)
-    → fold stored (map f (range_with_len 0 n)) atoms ≡ map (λ l. fold (λ v a. if is_of_location l a then value_of a else v) (f l) atoms) (range_with_len 0 n)
-stored_from f n [] = refl
-stored_from f n (a ∷ atoms) = ap (λ (memory : List ℕ). fold stored memory atoms) (stored_range f n a) ∙ stored_from (λ l. if is_of_location l a then value_of a else f l) n atoms
+-- a table that is changed by one initial value after another
+changed_by_all : {I V S : Type 0} (table : (I → V) → S) (step : S → Atom → S) (change : I → V → Atom → V) → ((f : I → V) (a : Atom) → step (table f) a ≡ table (λ i. change i (f i) a))
+    → (f : I → V) (atoms : List Atom) → fold step (table f) atoms ≡ table (λ i. fold (change i) (f i) atoms)
+changed_by_all table step change one f [] = refl
+changed_by_all table step change one f (a ∷ atoms) = ap (λ s. fold step s atoms) (one f a) ∙ changed_by_all table step change one (λ i. change i (f i) a) atoms
 
 -- memory after all initial values
 pub stored_all : (n : ℕ) (atoms : List Atom) → fold stored (replicate n 0) atoms ≡ memory_from n atoms
-stored_all n atoms = ap (λ (memory : List ℕ). fold stored memory atoms) (all_same n 0) ∙ stored_from (λ _. 0) n atoms
+stored_all n atoms = ap (λ (memory : List ℕ). fold stored memory atoms) (all_same n 0) ∙ changed_by_all (λ f. map f (range_with_len 0 n)) stored (λ l v a. if is_of_location l a then value_of a else v) (λ f a. stored_range f n a) (λ _. 0) atoms
 
 loaded_grid : (f : ℕ → Reg → ℕ) (n : ℕ) (a : Atom) → with_initial (grid f n) a ≡ grid (λ t r. if is_of_register t r a then value_of a else f t r) n
 loaded_grid f n (atom.Location l x) = refl
 loaded_grid f n (atom.Register t r x) = put_grid f n t r x
 
-loaded_from : (f : ℕ → Reg → ℕ) (n : ℕ) (atoms : List Atom) → fold with_initial (grid f n) atoms ≡ grid (λ t r. fold (λ v a. if is_of_register t r a then value_of a else v) (f t r) atoms) n
-loaded_from f n [] = refl
-loaded_from f n (a ∷ atoms) = ap (λ (table : List (List ℕ)). fold with_initial table atoms) (loaded_grid f n a) ∙ loaded_from (λ t r. if is_of_register t r a then value_of a else f t r) n atoms
-
 -- the registers after all initial values
 pub loaded_all : (n : ℕ) (atoms : List Atom) → fold with_initial (replicate n (replicate 6 0)) atoms ≡ map (registers_from atoms) (range_with_len 0 n)
-loaded_all n atoms = ap (λ (table : List (List ℕ)). fold with_initial table atoms) (all_same n (replicate 6 0)) ∙ loaded_from (λ _ _. 0) n atoms
-
--- labels that are found alike have the same positions
-same_positions : (found labels : List Label) → FindsAs found labels → byte_at found ≡ byte_at labels
-same_positions found labels h = λ i name. min 255 (option_map_or (λ l. l.position) (h name i) 0)
+loaded_all n atoms = ap (λ (table : List (List ℕ)). fold with_initial table atoms) (all_same n (replicate 6 0)) ∙ changed_by_all (λ f. grid (λ t r. f (t, r)) n) with_initial (λ p v a. if is_of_register p.0 p.1 a then value_of a else v) (λ f a. loaded_grid (λ t r. f (t, r)) n a) (λ (_ : ℕ × Reg). 0) atoms
 
 -- threads with their registers and labels from tables
 pub threads_filled : (numbered : List ℕ → ℕ) (body : BodyView) (registers : List (List ℕ)) (found : List (List Label)) (atoms : List Atom) → atoms ≡ entry_atoms numbered body.entries
@@ -116,7 +109,7 @@ threads_filled numbered body registers found atoms said table known =
     ap (λ (n : ℕ). map (thread_in numbered body.rows registers found) (range_with_len 0 n)) count
     ∙ range_same (thread_in numbered body.rows registers found) (thread_by numbered byte_at body) body.threads
     (λ t lt i. record {
-      code = code_in numbered ((same_positions (get_or found t []) (get_or (all_labels body) t []) (known.1 t) ∙ ap byte_at (get_or-map-range_with_len (thread_labels body.rows) 0 body.threads t t [] lt (omega arith))) i) body.rows t;
+      code = code_in numbered (((λ i name. min 255 (option_map_or (λ l. l.position) (known.1 t name i) 0)) ∙ ap byte_at (get_or-map-range_with_len (thread_labels body.rows) 0 body.threads t t [] lt (omega arith))) i) body.rows t;
       registers = (ap (λ (rs : List (List ℕ)). get_or rs t (replicate 6 0)) same ∙ get_or-map-range_with_len (registers_from own) 0 body.threads t t (replicate 6 0) lt (omega arith)) i;
     })
 
@@ -141,14 +134,10 @@ noted_from n ls f (Register t r ∷ ps) =
           (λ u s. or_assoc (f u s) (t == u && number r == number s) (list_any (is_register u s) ps)) i;
     })
 
--- noting each place gives the names among them
-pub noted_all : (n : ℕ) (ps : List PlaceView) → fold noted (no_names n) ps ≡ names_among n ps
-noted_all n ps =
-    ap (λ (table : List (List Bool)). fold noted (record { locations = []; registers = table }) ps) (all_same n (replicate 6 false)) ∙ noted_from n [] (λ _ _. false) ps
-
 -- noting what each part of a text names
 pub noted_parts : (n : ℕ) (es es' rs rs' os os' ss : List PlaceView) (first second third fourth last : TextNames) → es' ≡ es → rs' ≡ rs → os' ≡ os → first ≡ no_names n → second ≡ fold noted first es' → third ≡ fold noted second rs'
     → fourth ≡ fold noted third os' → last ≡ fold noted fourth ss → last ≡ names_among n (es ++ (rs ++ (os ++ ss)))
 noted_parts n es es' rs rs' os os' ss first second third fourth last same_es same_rs same_os e f g h k =
     rw (k, h, g, f, e, same_es, same_rs, same_os, ← fold-append noted (fold noted (fold noted (no_names n) es) rs) os ss, ← fold-append noted (fold noted (no_names n) es) rs (os ++ ss), ← fold-append noted (no_names n) es (rs ++ (os ++ ss)))
-    (noted_all n (es ++ (rs ++ (os ++ ss))))
+    (ap (λ (table : List (List Bool)). fold noted (record { locations = []; registers = table }) (es ++ (rs ++ (os ++ ss)))) (all_same n (replicate 6 false))
+    ∙ noted_from n [] (λ _ _. false) (es ++ (rs ++ (os ++ ss))))

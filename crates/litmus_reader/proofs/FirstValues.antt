@@ -3,6 +3,7 @@ use Rattle.litmus_reader.proofs.Vocabulary.{◌≡◌, ℕ, ◌<◌, Bool, true,
 use Rattle.litmus_reader.proofs.Vocabulary.{AllByRecursion, range_with_len, find, option_map_or, bytes_eq, cases_Bool, fill_by_all, Reg, Atom, PlaceView, Location, Register, EntryView, BodyView}
 use Rattle.litmus_reader.proofs.Vocabulary.{all_registers, number_in, thread_labels, position_in, value_of, is_of_location, is_of_register, entry_atoms, last_said, memory_from, registers_from}
 use Rattle.litmus_reader.proofs.Vocabulary.{listing_by, length-map, get_or-map, NoneTwice, place_of_entry, atom_of, first_value, memory_of, registers_of, code_in, listing_of, ◌≢◌}
+use Rattle.std.proofs.lemmas.Bool.{false_from_ne_true}
 use Rattle.litmus_syntax.specs.Places.{same_place}
 use Rattle.litmus_syntax.proofs.SeenLaws.{same_place_is}
 use Rattle.litmus_reader.proofs.{Elements.all_more_so, NamesOnce.Stands, NamesOnce.same_number}
@@ -26,9 +27,6 @@ none_said speaks numbered q (e ∷ es) v agree none =
     ap (λ (b : Bool). said_or speaks (entry_atoms numbered es) (if b then value_of (atom_of numbered e.place e.value) else v)) (agree.0 e.value ∙ none.0)
     ∙ none_said speaks numbered q es v agree.1 none.1
 
-apart : (p q x : PlaceView) → same_place p q ≡ true → (p ≡ x → ⊥) → same_place x q ≡ false
-apart p q x e other = elim (cases_Bool (same_place x q)) [ inl t ↦ absurd (other (same_place_is p q e ∙ sym (same_place_is x q t))) | inr f ↦ f ]
-
 -- the last value that is said is that of the entry that names the place
 said : (speaks : Atom → Bool) (numbered : List ℕ → ℕ) (q : PlaceView) (es : List EntryView) (v : ℕ) → AllByRecursion (Agrees speaks numbered q) (map place_of_entry es) → NoneTwice (map place_of_entry es)
     → said_or speaks (entry_atoms numbered es) v ≡ option_map_or (λ e. e.value) (find (λ e. same_place e.place q) es) v
@@ -39,7 +37,7 @@ said speaks numbered q (e ∷ es) v agree once =
     elim (cases_Bool (same_place e.place q)) [
       | inl t ↦
           ap (λ (b : Bool). said_or speaks (entry_atoms numbered es) (new b)) (agree.0 e.value ∙ t)
-          ∙ none_said speaks numbered q es (new true) agree.1 (all_more_so (λ x. e.place ≢ x) (λ x. same_place x q ≡ false) (λ x. apart e.place q x t) (map place_of_entry es) once.0)
+          ∙ none_said speaks numbered q es (new true) agree.1 (all_more_so (λ x. e.place ≢ x) (λ x. same_place x q ≡ false) (λ x other. false_from_ne_true (same_place x q) (λ s. other (same_place_is e.place q t ∙ sym (same_place_is x q s)))) (map place_of_entry es) once.0)
           ∙ value_said numbered e.place e.value
           ∙ sym (ap found t)
       | inr f ↦ ap (λ (b : Bool). said_or speaks (entry_atoms numbered es) (new b)) (agree.0 e.value ∙ f) ∙ said speaks numbered q es v agree.1 once.1 ∙ sym (ap found f)
@@ -65,13 +63,10 @@ memory_filled names entries distinct stand once =
 
 -- ---- registers
 
-register_agrees : (numbered : List ℕ → ℕ) (t : ℕ) (r : Reg) (p : PlaceView) → Agrees (is_of_register t r) numbered (Register t r) p
-register_agrees numbered t r (Location y) = λ n. refl
-register_agrees numbered t r (Register u s) = λ n. refl
-
 registers_agree : (numbered : List ℕ → ℕ) (t : ℕ) (r : Reg) (ps : List PlaceView) → AllByRecursion (Agrees (is_of_register t r) numbered (Register t r)) ps
 registers_agree numbered t r [] = tt
-registers_agree numbered t r (p ∷ ps) = (register_agrees numbered t r p, registers_agree numbered t r ps)
+registers_agree numbered t r (Location y ∷ ps) = ((λ n. refl), registers_agree numbered t r ps)
+registers_agree numbered t r (Register u s ∷ ps) = ((λ n. refl), registers_agree numbered t r ps)
 
 pub registers_filled : (numbered : List ℕ → ℕ) (entries : List EntryView) (t : ℕ) → NoneTwice (map place_of_entry entries) → registers_from (entry_atoms numbered entries) t ≡ registers_of entries t
 registers_filled numbered entries t once =

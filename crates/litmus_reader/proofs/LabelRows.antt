@@ -23,7 +23,3 @@ one_cell rows i t k d c before lt is =
 pub no_cell : (rows : List (Vec Cell)) (i t k : ℕ) (d : Vec Cell) (before : List Label) → i < length rows → slice_get (row_view (get_or rows i d)) t ≡ None
     → before ++ behind rows t k (i + 1) ≡ before ++ behind rows t k i
 no_cell rows i t k d before lt is = ap (λ (ls : List Label). before ++ ls) (sym (row_is rows i t k d None lt is))
-
-pub named_labels : {X : Type 0} (now : X → List ℕ) (k : ℕ) (names : List X) → ◌≡◌ {A = List Label} (map (λ n. record { name = now n; position = k }) names) (map (λ l. record { name = l; position = k }) (map now names))
-named_labels now k [] = refl
-named_labels now k (n ∷ names) = ap (λ (ls : List Label). record { name = now n; position = k } ∷ ls) (named_labels now k names)

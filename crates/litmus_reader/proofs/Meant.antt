@@ -65,15 +65,12 @@ module _ (text : List ℕ) (read : Litmus Listing) (is : IsReadOf text read) whe
       λ i. record { name = read.name; program = program i; names = read.names; condition = condition i; observed = observed i; labels = read.labels }
 
   module _ (Within : List Thread → List ℕ → Type 0) (first : List Thread → List ℕ → Option ProgramFault) (limits : AreLimits Within first) where
-    few_within : Within read.program.threads read.program.memory → length read.names.locations ≤ MAX_LOCATIONS
-    few_within within =
+    within_meant : Within read.program.threads read.program.memory → meant ≡ read
+    within_meant within =
         let names = read.names.locations in
         let e : length read.program.memory ≡ length names = ap (λ (l : Listing). length l.memory) is.read.program ∙ memory_len (byte_in names) byte_at (length names) is.read.body in
         let le = limits.few_locations read.program.threads read.program.memory within in
-        omega arith
-
-    within_meant : Within read.program.threads read.program.memory → meant ≡ read
-    within_meant within = few_meant limits.longest limits.small (few_within within) (none_long Within first limits read.program.threads read.program.memory within)
+        few_meant limits.longest limits.small (omega arith) (none_long Within first limits read.program.threads read.program.memory within)
 
     -- past the limits on locations and code the first limit that is broken is the same
     over_first : IsOver limits.longest (byte_in read.names.locations) byte_at (length read.names.locations) is.read.body

@@ -6,7 +6,7 @@ use Rattle.litmus_reader.proofs.Vocabulary.{first_fault, first_fenced_fault, Bod
 use Rattle.litmus_reader.proofs.Vocabulary.{byte_at, is_of_location, entry_atoms, last_said, registers_from, memory_from, thread_by, listing_by, MAX_THREADS, MAX_LOCATIONS, MAX_INSTRUCTIONS}
 use Rattle.litmus_reader.proofs.Vocabulary.{MAX_FENCED_INSTRUCTIONS}
 use Rattle.tso_program.proofs.WithinLimits.{limits_are_the_refusals, fenced_limits_are_the_refusals}
-use Rattle.litmus_reader.proofs.{Filled.range_same, Positions.code_count, Positions.position_same}
+use Rattle.litmus_reader.proofs.{Filled.range_same, Positions.byte_is, Positions.code_count, Positions.position_same}
 
 -- ---- few names
 
@@ -18,9 +18,6 @@ number_le : (names : List (List ℕ)) (name : List ℕ) → number_in names name
 number_le names name =
     let n = prefix_len (λ m. not (bytes_eq name m)) names in
     place_le (nat_lt n (length names)) n (length names) (prefix_len-le-length (λ m. not (bytes_eq name m)) names)
-
-byte_is : (n : ℕ) → n ≤ MAX_LOCATIONS → min 255 n ≡ n
-byte_is n le = omega arith
 
 -- of a few names each number is a byte
 pub byte_same : (names : List (List ℕ)) → length names ≤ MAX_LOCATIONS → byte_in names ≡ number_in names
@@ -71,21 +68,10 @@ fenced_program_limits = record {
 
 -- ---- many names
 
--- code has as many instructions, however locations and positions are numbered
-code_len : (a b p q : List ℕ → ℕ) (rows : List (List CellView)) (t : ℕ) → length (code_in a p rows t) ≡ length (code_in b q rows t)
-code_len a b p q rows t = code_count a p rows t ∙ sym (code_count b q rows t)
-
 prefix_same : (longest : ℕ) (f g : ℕ → Thread) (ts : List ℕ) → ((t : ℕ) → length (f t).code ≡ length (g t).code)
     → prefix_len (λ (thread : Thread). not (nat_lt longest (length thread.code))) (map f ts) ≡ prefix_len (λ (thread : Thread). not (nat_lt longest (length thread.code))) (map g ts)
 prefix_same longest f g [] h = refl
 prefix_same longest f g (t ∷ ts) h = λ i. cond (not (nat_lt longest (h t i))) (1 + prefix_same longest f g ts h i) 0
-
-long_same : (longest : ℕ) (f g : ℕ → Thread) (n : ℕ) → ((t : ℕ) → length (f t).code ≡ length (g t).code)
-    → first_long longest (map f (range_with_len 0 n)) ≡ first_long longest (map g (range_with_len 0 n))
-long_same longest f g n h =
-    let e = prefix_same longest f g (range_with_len 0 n) h in
-    let l : length (map f (range_with_len 0 n)) ≡ length (map g (range_with_len 0 n)) = length-map-range_with_len f 0 n ∙ sym (length-map-range_with_len g 0 n) in
-    λ i. cond (nat_lt (e i) (l i)) (Some (e i)) None
 
 -- as many locations as names
 pub memory_len : (numbered : List ℕ → ℕ) (positioned : List Label → List ℕ → ℕ) (locations : ℕ) (body : BodyView) → length (listing_by numbered positioned locations body).memory ≡ locations
@@ -98,7 +84,12 @@ IsOver longest numbered positioned locations body = (MAX_LOCATIONS < locations) 
 long_len : (longest : ℕ) (a b : List ℕ → ℕ) (p q : List Label → List ℕ → ℕ) (locations : ℕ) (body : BodyView)
     → first_long longest (listing_by a p locations body).threads ≡ first_long longest (listing_by b q locations body).threads
 long_len longest a b p q locations body =
-    long_same longest (thread_by a p body) (thread_by b q body) body.threads (λ t. code_len a b (p (thread_labels body.rows t)) (q (thread_labels body.rows t)) body.rows t)
+    let f = thread_by a p body in
+    let g = thread_by b q body in
+    let count : (t : ℕ) → length (f t).code ≡ length (g t).code = λ t. code_count a (p (thread_labels body.rows t)) body.rows t ∙ sym (code_count b (q (thread_labels body.rows t)) body.rows t) in
+    let e = prefix_same longest f g (range_with_len 0 body.threads) count in
+    let l : length (map f (range_with_len 0 body.threads)) ≡ length (map g (range_with_len 0 body.threads)) = length-map-range_with_len f 0 body.threads ∙ sym (length-map-range_with_len g 0 body.threads) in
+    λ i. cond (nat_lt (e i) (l i)) (Some (e i)) None
 
 module _ (Within : List Thread → List ℕ → Type 0) (first : List Thread → List ℕ → Option ProgramFault) (limits : AreLimits Within first) where
   past_of : (numbered : List ℕ → ℕ) (positioned : List Label → List ℕ → ℕ) (locations : ℕ) (body : BodyView) → IsOver limits.longest numbered positioned locations body

@@ -27,17 +27,6 @@ ending_found : (refusal : Option Refusal) (threads : ℕ) (ending : EndingView) 
 ending_found None threads ending others h e = h.0
 ending_found (Some r) threads ending others h e = absurd cc
 
--- what was found, with the formula that the signs spell, are the parts
-found_parts : (tokens : List Tok) (body : BodyView) (refusal : Option Refusal) (ending : EndingView) (f : Tree (PlaceView × ℕ)) → Found tokens body refusal ending → refusal ≡ None
-    → Spells Sum f (map sign_of ending.signs) [] → JumpsAreFound body → AreParts tokens body ending f
-found_parts tokens body refusal ending f found e spells jumps = record {
-  others = found.others;
-  begins = found.begins;
-  ends = ending_found refusal body.threads ending found.others found.ends e;
-  spells = spells;
-  jumps = jumps;
-}
-
 -- what the readers' clauses say of the tokens
 pub found_of : (tokens ts others : List Tok) (body : BodyView) (refusal : Option Refusal) (ending : EndingView) → ts ≡ tokens
     → IsBody body ts others × ((b : BodyView) (rest : List Tok) → IsBody b ts rest → (b ≡ body) × (rest ≡ others)) → ReadsOne refusal body.threads ending others → Found tokens body refusal ending
@@ -73,19 +62,14 @@ refused_jump tokens body refusal ending fault found is =
     lost (subst (λ (x : BodyView). JumpsAreFound x) (parts_are tokens body b refusal ending e f found parts).0 parts.jumps) in
     match_map fault ⊥ ⊥ (λ _. ⊥) (λ _. ⊥) ⊤ ⊤ (JumpsAreFound body → ⊥) (HasNoParts tokens) (λ h. h) (λ _ h. h) (λ h. h) no_parts is
 
--- where the numbered signs spell no formula, the tokens have no parts
-no_formula : (tokens : List Tok) (body : BodyView) (refusal : Option Refusal) (ending : EndingView) (numbered : List ℕ → ℕ) → Found tokens body refusal ending
-    → (refusal ≡ None → SpellsNone (numbered_signs numbered ending.signs)) → HasNoParts tokens
-no_formula tokens body refusal ending numbered found none b e f parts =
-    let p = parts_are tokens body b refusal ending e f found parts in
-    none p.2 (tree_map (numbered_atom numbered) f) (spells_mapped (numbered_atom numbered) (map sign_of ending.signs) f p.3)
-
 -- what a refused formula says
 pub refused_formula : (tokens : List Tok) (body : BodyView) (refusal : Option Refusal) (ending : EndingView) (numbered : List ℕ → ℕ) (fault : ReadFault) → Found tokens body refusal ending
     → MatchFault fault ⊥ (λ _. ⊥) ⊤ (refusal ≡ None → SpellsNone (numbered_signs numbered ending.signs)) → MatchFault fault ⊥ (λ _. ⊥) ⊤ (HasNoParts tokens)
 refused_formula tokens body refusal ending numbered fault found is =
-    match_map fault ⊥ ⊥ (λ _. ⊥) (λ _. ⊥) ⊤ ⊤ (refusal ≡ None → SpellsNone (numbered_signs numbered ending.signs)) (HasNoParts tokens) (λ h. h) (λ _ h. h) (λ h. h)
-    (no_formula tokens body refusal ending numbered found) is
+    let no_parts : (refusal ≡ None → SpellsNone (numbered_signs numbered ending.signs)) → HasNoParts tokens = λ none b e f parts.
+    let p = parts_are tokens body b refusal ending e f found parts in
+    none p.2 (tree_map (numbered_atom numbered) f) (spells_mapped (numbered_atom numbered) (map sign_of ending.signs) f p.3) in
+    match_map fault ⊥ ⊥ (λ _. ⊥) (λ _. ⊥) ⊤ ⊤ (refusal ≡ None → SpellsNone (numbered_signs numbered ending.signs)) (HasNoParts tokens) (λ h. h) (λ _ h. h) (λ h. h) no_parts is
 
 -- what is read are the tokens' parts, and no others are
 pub parts_read : (tokens : List Tok) (body : BodyView) (refusal : Option Refusal) (ending : EndingView) (litmus : Litmus Listing) → Found tokens body refusal ending → JumpsAreFound body
@@ -98,7 +82,7 @@ parts_read tokens body refusal ending litmus found jumps names quantifier spelle
       body = body;
       ending = ending;
       formula = u.0;
-      parts = found_parts tokens body refusal ending u.0 found spelled.0 u.1 jumps;
+      parts = record { others = found.others; begins = found.begins; ends = ending_found refusal body.threads ending found.others found.ends spelled.0; spells = u.1; jumps = jumps };
       only = λ b e f parts. let p = parts_are tokens body b refusal ending e f found parts in (p.0, p.1, spells_one (map sign_of ending.signs) f u.0 p.3 u.1);
       names = names;
       program = program;

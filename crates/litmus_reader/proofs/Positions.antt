@@ -46,7 +46,7 @@ code_count numbered positioned [] t = refl
 code_count numbered positioned (row ∷ rows) t =
     one_row (instruction_of numbered positioned) (slice_get row t) (code_in numbered positioned rows t) (column rows t) (code_count numbered positioned rows t)
 
-byte_is : (n : ℕ) → n ≤ 255 → min 255 n ≡ n
+pub byte_is : (n : ℕ) → n ≤ 255 → min 255 n ≡ n
 byte_is n le = omega arith
 
 -- no label of a thread follows more instructions than the thread has; where these are few, its position is a byte

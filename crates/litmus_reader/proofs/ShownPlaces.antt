@@ -10,14 +10,10 @@ use Rattle.litmus_reader.specs.declared.observed.Observed.{Observed, TheVariants
 
 -- the same said in another way
 said : (One Other : Type 0) (place : ℕ) (names more : set.FinSet nat_cmp) → (One → Other) → (Other → One) → IsWith One place names more → IsWith Other place names more
-said One Other place names more on back with_one = (to, from)
-  where
-    to : Has more place → Has names place ⊎ Other
-    to h = elim (with_one.0 h) [ inl old ↦ inl old | inr one ↦ inr (on one) ]
-
-    from : Has names place ⊎ Other → Has more place
-    from (inl old) = with_one.1 (inl old)
-    from (inr other) = with_one.1 (inr (back other))
+said One Other place names more on back with_one = (
+  λ h. elim (with_one.0 h) [ inl old ↦ inl old | inr one ↦ inr (on one) ],
+  λ h. elim h [ inl old ↦ with_one.1 (inl old) | inr other ↦ with_one.1 (inr (back other)) ],
+)
 
 -- ---- observed places, one by one
 
@@ -36,14 +32,7 @@ here_or_there o os x (inr later) = Contains-append_right (o ∷ []) os x later
 
 by_places : (x : Observed) (place : ℕ) → ((names : set.FinSet nat_cmp) (o : Observed) → IsWith (o ≡ x) place names (with_place names o)) →
     (os : List Observed) (names : set.FinSet nat_cmp) → IsWith (Contains os x) place names (with_places names os)
-by_places x place each [] names = said ⊥ (Contains [] x) place names names absurd_none (none_listed x) ((λ h. inl h), drop_none)
-  where
-    absurd_none : ⊥ → Contains [] x
-    absurd_none none = absurd none
-
-    drop_none : Has names place ⊎ ⊥ → Has names place
-    drop_none (inl h) = h
-    drop_none (inr none) = absurd none
+by_places x place each [] names = said ⊥ (Contains [] x) place names names (λ none. absurd none) (none_listed x) ((λ h. inl h), (λ h. elim h [ inl old ↦ old | inr none ↦ absurd none ]))
 by_places x place each (o ∷ os) names =
     said ((o ≡ x) ⊎ Contains os x) (Contains (o ∷ os) x) place names (with_places (with_place names o) os) (here_or_there o os x) (first_or_later o os x)
     (then_more (o ≡ x) (Contains os x) place names (with_place names o) (with_places (with_place names o) os) (each names o) (by_places x place each os (with_place names o)))
@@ -67,10 +56,10 @@ each_location l few names (Location location) =
 -- ---- both
 
 from_none : (Spoken : Type 0) (place : ℕ) (more : set.FinSet nat_cmp) → IsWith Spoken place set.empty more → Has more place ↔ Spoken
-from_none Spoken place more with_it = (to, λ spoken. with_it.1 (inr spoken))
-  where
-    to : Has more place → Spoken
-    to h = elim (with_it.0 h) [ inl none ↦ let no : true ≡ false = sym none ∙ set.contains-empty nat_cmp place in absurd cc | inr spoken ↦ spoken ]
+from_none Spoken place more with_it = (
+  λ h. elim (with_it.0 h) [ inl none ↦ let no : true ≡ false = sym none ∙ set.contains-empty nat_cmp place in absurd cc | inr spoken ↦ spoken ],
+  λ spoken. with_it.1 (inr spoken),
+)
 
 in_range : (t : ℕ) (b : Bool) → t < MAX_THREADS → (nat_lt t MAX_THREADS && b) ≡ b
 in_range t b h = grind (arith, nat_tests)

@@ -97,12 +97,9 @@ pub are_found_same : (found labels : List (List Label)) → FindAllAs found labe
 are_found_same found labels h t [] = refl
 are_found_same found labels h t (c ∷ cs) = λ i. option_map_or (λ l. is_some (h.1 t l i)) (cell_jump c) true && are_found_same found labels h (t + 1) cs i
 
-pub all_found_same : (found labels : List (List Label)) → FindAllAs found labels → (rows : List (List CellView)) → list_all (are_found found 0) rows ≡ list_all (are_found labels 0) rows
-all_found_same found labels h rows = λ i. list_all (λ row. are_found_same found labels h 0 row i) rows
-
 -- what a jump to no label says
 pub lost_is : (fault : ReadFault) (body : BodyView) (found : List (List Label)) → FindAllAs found (all_labels body) → list_all (are_found found 0) body.rows ≡ false → IsOfAToken fault
     → MatchFault fault ⊥ (λ _. ⊥) ⊤ (JumpsAreFound body → ⊥)
 lost_is fault body found h lost is =
-    let none : JumpsAreFound body → ⊥ = λ ok. let e : false ≡ true = sym lost ∙ all_found_same found (all_labels body) h body.rows ∙ ok in cc in
+    let none : JumpsAreFound body → ⊥ = λ ok. let e : false ≡ true = sym lost ∙ (λ i. list_all (λ row. are_found_same found (all_labels body) h 0 row i) body.rows) ∙ ok in cc in
     match_map fault ⊥ ⊥ (λ _. ⊥) (λ _. ⊥) ⊥ ⊤ ⊤ (JumpsAreFound body → ⊥) (λ x. x) (λ _ x. x) (λ x. absurd x) (λ _. none) is

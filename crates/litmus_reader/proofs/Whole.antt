@@ -98,9 +98,6 @@ initial es ts rest h =
     let entry : (e : EntryView) → KeepsWhole (IsEntryItem e) = λ e. then (valued e.place e.value) (a_separator the.CloseBrace) in
     then (a_mark the.OpenBrace) (items IsEntryItem (mark the.CloseBrace) entry (a_mark the.CloseBrace) es) ts rest h.0
 
-body_whole : (b : BodyView) → KeepsWhole (IsBody b)
-body_whole b ts rest h = then (initial b.entries) (then (then (a_word (column_name 0)) (columns 1 b.threads)) (rows b.threads b.rows)) ts rest h.0
-
 -- ---- after the rows
 
 observed : (threads : ℕ) (ps : List PlaceView) → KeepsWhole (IsObserved threads ps)
@@ -126,4 +123,5 @@ ending_whole threads e ts h =
 
 -- tokens with all their parts are tokens each
 pub parts_whole : (tokens : List Tok) (body : BodyView) (ending : EndingView) (f : Tree (PlaceView × ℕ)) → AreParts tokens body ending f → AreAllTokens tokens
-parts_whole tokens body ending f parts = body_whole body tokens parts.others parts.begins (ending_whole body.threads ending parts.others parts.ends)
+parts_whole tokens body ending f parts =
+    then (initial body.entries) (then (then (a_word (column_name 0)) (columns 1 body.threads)) (rows body.threads body.rows)) tokens parts.others parts.begins.0 (ending_whole body.threads ending parts.others parts.ends)

@@ -1,6 +1,8 @@
 -- Comments: where they end, and those that are open one within the other.
 use Rattle.text_tokens.proofs.Vocabulary.{◌≡◌, ℕ, zero, suc, ◌+◌, ◌-◌, ◌<◌, ◌==◌, ◌&&◌, Bool, true, false, List, [], ◌∷◌, length, drop, refl, sym, ap, ◌∙◌, arith, inl, inr, ◌⊎◌, nat_tests}
-use Rattle.text_tokens.proofs.Vocabulary.{length-drop, is_white_space, opens, closes, Inside, close, nested, other, IsComment}
+use Rattle.text_tokens.proofs.Vocabulary.{length-drop, slice_index, is_white_space, opens, closes, Inside, close, nested, other, IsComment}
+use Rattle.std.proofs.Math.Bool.{and-false}
+use Rattle.std.proofs.lemmas.List.{get_or_past}
 
 -- the insides of so many comments, one after the other
 abbrev pub Open : ℕ → List ℕ → List ℕ → Type 0
@@ -23,20 +25,12 @@ other_is x text rest h g (close k e) = absurd cc
 other_is x text rest h g (nested k i j) = absurd cc
 other_is x text rest h g (other k l i) = i
 
-no_second : (b : Bool) → (b && false) ≡ false
-no_second true = refl
-no_second false = refl
-
 -- two bytes open or close a comment
 pub short_opens : (text : List ℕ) → length text < 2 → opens text ≡ false
-short_opens [] lt = refl
-short_opens (x ∷ []) lt = no_second (x == 40)
-short_opens (x ∷ y ∷ text) lt = absurd (omega arith)
+short_opens text lt = rw (get_or_past text 1 0 (omega arith)) (and-false (slice_index text 0 == 40))
 
-pub short_closes : (text : List ℕ) → length text < 2 → closes text ≡ false
-short_closes [] lt = refl
-short_closes (x ∷ []) lt = no_second (x == 42)
-short_closes (x ∷ y ∷ text) lt = absurd (omega arith)
+short_closes : (text : List ℕ) → length text < 2 → closes text ≡ false
+short_closes text lt = rw (get_or_past text 1 0 (omega arith)) (and-false (slice_index text 0 == 42))
 
 short_is : (text rest : List ℕ) → length text < 2 → Inside text rest → ⊥
 short_is text rest lt (close k e) = let bad : closes text ≡ false = short_closes text lt in let e : true ≡ false = sym k ∙ bad in cc
@@ -93,13 +87,10 @@ Inside-one text a b (nested {middle = m} h i k) j =
     Inside-one m a b k (rw (← same) at n.2)
 Inside-one (x ∷ text) a b (other h g i) j = Inside-one text a b i (other_is x text b h g j)
 
-shorter_close : (text rest : List ℕ) → closes text ≡ true → drop 2 text ≡ rest → length rest < length text
-shorter_close [] rest h e = absurd cc
-shorter_close (x ∷ text) rest h e = omega (arith, length-drop 2 (x ∷ text), ap length e)
-
 -- what follows the inside of a comment is shorter
 pub Inside-shorter : (text rest : List ℕ) → Inside text rest → length rest < length text
-Inside-shorter text rest (close h e) = shorter_close text rest h e
+Inside-shorter [] rest (close h e) = absurd cc
+Inside-shorter (x ∷ text) rest (close h e) = omega (arith, length-drop 2 (x ∷ text), ap length e)
 Inside-shorter text rest (nested {middle = m} h i j) = omega (arith, Inside-shorter (drop 2 text) m i, Inside-shorter m rest j, length-drop 2 text)
 Inside-shorter (x ∷ text) rest (other h g i) = omega (arith, Inside-shorter text rest i)
 

@@ -4,6 +4,7 @@ use Rattle.text_tokens.proofs.Vocabulary.{if◌then◌else◌, list_all, is_asci
 use Rattle.text_tokens.proofs.Vocabulary.{OpenParen, CloseParen, Semicolon, Bar, Colon, Equals, Comma, Dollar, Tilde, And, Or, Bad, is_white_space, is_letter, is_word_byte, mark_text, mark_from}
 use Rattle.text_tokens.proofs.Vocabulary.{opens, Tok, Word, Number, Sign, NoToken, BeginsWith, IsWord, AreDigits, IsBad, false_from_ne_true as false_from}
 use Rattle.text_tokens.specs.declared.token.Bad.TheVariants as bad
+use Rattle.std.proofs.lemmas.Option.{same_Some, none-some}
 
 -- ---- classes of bytes, of which no two meet
 
@@ -20,26 +21,14 @@ class_of b = if is_white_space b then WhiteSpace else if is_letter b then Letter
 pub white_space_class : (b : ℕ) → is_white_space b ≡ true → class_of b ≡ WhiteSpace
 white_space_class b h = rw h refl
 
-letter_not_white_space : (b : ℕ) → is_letter b ≡ true → is_white_space b ≡ false
-letter_not_white_space b h = grind (arith, nat_tests)
-
-digit_not_white_space : (b : ℕ) → is_ascii_digit b ≡ true → is_white_space b ≡ false
-digit_not_white_space b h = grind (arith, nat_tests)
-
-digit_not_letter : (b : ℕ) → is_ascii_digit b ≡ true → is_letter b ≡ false
-digit_not_letter b h = grind (arith, nat_tests)
-
 pub letter_class : (b : ℕ) → is_letter b ≡ true → class_of b ≡ Letter
-letter_class b h = rw (letter_not_white_space b h, h) refl
+letter_class b h = let no_white_space : is_white_space b ≡ false = grind (arith, nat_tests) in rw (no_white_space, h) refl
 
 pub digit_class : (b : ℕ) → is_ascii_digit b ≡ true → class_of b ≡ Digit
-digit_class b h = rw (digit_not_white_space b h, digit_not_letter b h, h) refl
-
-minus_class : (b : ℕ) → b ≡ 45 → class_of b ≡ Minus
-minus_class b h = rw h refl
-
-not_minus : (b : ℕ) → b ≢ 45 → (b == 45) ≡ false
-not_minus b h = grind (arith, nat_tests)
+digit_class b h =
+    let no_white_space : is_white_space b ≡ false = grind (arith, nat_tests) in
+    let alone : is_letter b ≡ false = grind (arith, nat_tests) in
+    rw (no_white_space, alone, h) refl
 
 pub letter_goes_on : (b : ℕ) → is_letter b ≡ true → is_word_byte b ≡ true
 letter_goes_on b h = rw h refl
@@ -54,7 +43,7 @@ pub no_word_byte : (b : ℕ) → is_letter b ≡ false → is_ascii_digit b ≡ 
 no_word_byte b h g = grind (arith, nat_tests)
 
 other_class : (b : ℕ) → is_white_space b ≡ false → is_word_byte b ≡ false → b ≢ 45 → class_of b ≡ Other
-other_class b h g k = rw (h, no_letter b g, no_digit b g, not_minus b k) refl
+other_class b h g k = let no_minus : (b == 45) ≡ false = grind (arith, nat_tests) in rw (h, no_letter b g, no_digit b g, no_minus) refl
 
 word_class : (b : ℕ) → class_of b ≡ Other → is_word_byte b ≡ true → ⊥
 word_class b h w =
@@ -67,7 +56,7 @@ pub other_parts : (b : ℕ) → class_of b ≡ Other → (is_white_space b ≡ f
 other_parts b h = (
   false_from (is_white_space b) (λ y. let bad : WhiteSpace ≡ Other = sym (white_space_class b y) ∙ h in absurd cc),
   false_from (is_word_byte b) (word_class b h),
-  λ e. let bad : Minus ≡ Other = sym (minus_class b e) ∙ h in absurd cc,
+  λ e. let bad : Minus ≡ Other = sym (ap class_of e) ∙ h in absurd cc,
 )
 
 -- ---- the first byte of two texts, one after the other
@@ -104,31 +93,22 @@ unfolding mark_from
 mark_from_text OpenBrace = refl
 mark_from_text m = refl
 
-abbrev pub some_mark : Mark → Option Mark
-some_mark m = Some m
-
-pub some_mark_is : (m n : Mark) → some_mark m ≡ some_mark n → m ≡ n
-some_mark_is m n e = cc
-
 -- the texts of two marks that begin alike are of one mark
 pub one_mark : (m n : Mark) (xs ys : List ℕ) → mark_text m ++ xs ≡ mark_text n ++ ys → m ≡ n
 one_mark m n xs ys e =
     let first : slice_index (mark_text m) 0 ≡ slice_index (mark_text n) 0 =
     sym (first_of (mark_text m) xs (mark_some m)) ∙ ap (λ (text : List ℕ). slice_index text 0) e ∙ first_of (mark_text n) ys (mark_some n) in
-    some_mark_is m n (sym (mark_from_text m) ∙ ap mark_from first ∙ mark_from_text n)
+    same_Some m n (sym (mark_from_text m) ∙ ap mark_from first ∙ mark_from_text n)
 
 picked : (b c : ℕ) (k m : Mark) (o : Option Mark) → slice_index (mark_text k) 0 ≡ c → (o ≡ Some m → slice_index (mark_text m) 0 ≡ b) → cond (b == c) (Some k) o ≡ Some m → slice_index (mark_text m) 0 ≡ b
 picked b c k m o is others e =
     elim (cases_Bool (b == c)) [
       | inl y ↦
           let same : b ≡ c = eqb-true b c y in
-          let this : some_mark k ≡ some_mark m = rw y at e in
-          ap (λ (n : Mark). slice_index (mark_text n) 0) (sym (some_mark_is k m this)) ∙ is ∙ sym same
+          let this : Some k ≡ Some m = rw y at e in
+          ap (λ (n : Mark). slice_index (mark_text n) 0) (sym (same_Some k m this)) ∙ is ∙ sym same
       | inr n ↦ others (rw n at e)
     ]
-
-not_none : (m : Mark) (b : ℕ) → None ≡ some_mark m → slice_index (mark_text m) 0 ≡ b
-not_none m b e = absurd cc
 
 -- the mark that is found begins with the byte
 pub mark_from_is : (b : ℕ) (m : Mark) → mark_from b ≡ Some m → slice_index (mark_text m) 0 ≡ b
@@ -148,7 +128,7 @@ mark_from_is b m e =
     picked b 36 Dollar m _ refl (
     picked b 126 Tilde m _ refl (
     picked b 47 And m _ refl (
-    picked b 92 Or m _ refl (not_none m b))))))))))))))) e
+    picked b 92 Or m _ refl (λ e. absurd (none-some m e)))))))))))))))) e
 
 -- ---- comments
 
@@ -189,7 +169,7 @@ bad_class h = Other
 
 pub bad_begins : (b : Bad) (text : List ℕ) → IsBad b text → class_of (slice_index text 0) ≡ bad_class b
 bad_begins bad.Number text h = digit_class (slice_index text 0) (ap (λ (x : List ℕ). is_ascii_digit (slice_index x 0)) h.2 ∙ ap is_ascii_digit (first_of h.0 h.1 h.3.0) ∙ first_digit h.0 h.3)
-bad_begins bad.Minus text h = minus_class (slice_index text 0) h
+bad_begins bad.Minus text h = ap class_of h
 bad_begins bad.Unfinished text h =
     elim h [
       | inl half ↦ ap class_of (sym (first_of text half.1 half.3) ∙ ap (λ (x : List ℕ). slice_index x 0) (sym half.2)) ∙ mark_class half.0

@@ -4,8 +4,9 @@ use Rattle.text_tokens.proofs.Vocabulary.{take-append-drop, get_or-take, length-
 use Rattle.text_tokens.proofs.Vocabulary.{is_word_byte, value_at, mark_text, mark_from, Word, Number, BeginsWith, AreDigits, IsBadNumber, IsHalf, IsStray}
 use Rattle.std.proofs.lemmas.List.Folds.{length-prefix_len}
 use Rattle.std.proofs.lemmas.Slice.Eq.{starts_is}
+use Rattle.std.proofs.lemmas.Option.{same_Some, none-some}
 use Rattle.text_tokens.proofs.{NumberLaws.value_found, NumberLaws.value_past, Prefixes.all_pass, Prefixes.next_fails, Prefixes.some_pass}
-use Rattle.text_tokens.proofs.FirstBytes.{first_of, letter_goes_on, no_word_byte, mark_some, mark_from_text, mark_from_is, mark_short, some_mark, some_mark_is, class_of, mark_class, other_parts}
+use Rattle.text_tokens.proofs.FirstBytes.{first_of, letter_goes_on, no_word_byte, mark_some, mark_from_text, mark_from_is, mark_short, class_of, mark_class, other_parts}
 
 pub word_begins : (text : List ℕ) → is_letter (slice_index text 0) ≡ true → BeginsWith (Word (take (prefix_len is_word_byte text) text)) text (drop (prefix_len is_word_byte text) text)
 word_begins text h =
@@ -36,16 +37,12 @@ letter_behind text rest h back letter =
 
 -- ---- marks
 
--- the mark whose first byte comes first is the only one that begins the text, or that the text begins
-only_mark : (text : List ℕ) (m n : Mark) (rest : List ℕ) → mark_from (slice_index text 0) ≡ Some m → text ≡ mark_text n ++ rest → n ≡ m
-only_mark text m n rest found is =
-    let first : slice_index text 0 ≡ slice_index (mark_text n) 0 = ap (λ (x : List ℕ). slice_index x 0) is ∙ first_of (mark_text n) rest (mark_some n) in
-    some_mark_is n m (sym (mark_from_text n) ∙ ap mark_from (sym first) ∙ found)
+-- a mark that begins the text, or that the text begins, is the one whose first byte comes first
+whole_mark : (text : List ℕ) (n : Mark) (rest : List ℕ) → text ≡ mark_text n ++ rest → mark_from (slice_index text 0) ≡ Some n
+whole_mark text n rest is = ap (λ (x : List ℕ). mark_from (slice_index x 0)) is ∙ ap mark_from (first_of (mark_text n) rest (mark_some n)) ∙ mark_from_text n
 
-only_part : (text : List ℕ) (m n : Mark) (more : List ℕ) → 0 < length text → mark_from (slice_index text 0) ≡ Some m → mark_text n ≡ text ++ more → n ≡ m
-only_part text m n more some found is =
-    let first : slice_index (mark_text n) 0 ≡ slice_index text 0 = ap (λ (x : List ℕ). slice_index x 0) is ∙ first_of text more some in
-    some_mark_is n m (sym (mark_from_text n) ∙ ap mark_from first ∙ found)
+part_mark : (text : List ℕ) (n : Mark) (more : List ℕ) → 0 < length text → mark_text n ≡ text ++ more → mark_from (slice_index text 0) ≡ Some n
+part_mark text n more some is = sym (ap (λ (x : List ℕ). mark_from (slice_index x 0)) is ∙ ap mark_from (first_of text more some)) ∙ mark_from_text n
 
 part_of : (xs : List ℕ) (x : ℕ) → slice_index xs 0 ≡ x → 1 < length xs → (more : List ℕ) × (xs ≡ x ∷ more) × (0 < length more)
 part_of [] x e long = absurd (omega arith)
@@ -81,15 +78,12 @@ stray_mark text m spelling some found is_text differs' long' =
       no_word = parts.1;
       no_minus = parts.2;
       no_mark = λ n rest is.
-          let same : n ≡ m = only_mark text m n rest found is in
+          let same : n ≡ m = same_Some n m (sym (whole_mark text n rest is) ∙ found) in
           not_begun text m rest differs (is ∙ ap (λ (k : Mark). mark_text k ++ rest) same);
       no_part = λ n more is.
-          let same : n ≡ m = only_part text m n more some found is in
+          let same : n ≡ m = same_Some n m (sym (part_mark text n more some is) ∙ found) in
           not_begun text m [] differs (no_more text m more long (ap mark_text (sym same) ∙ is));
     }
-
-some_mark_none : (m : Mark) → some_mark m ≡ None → ⊥
-some_mark_none m e = cc
 
 pub stray_byte : (text : List ℕ) → 0 < length text → is_white_space (slice_index text 0) ≡ false → is_word_byte (slice_index text 0) ≡ false → slice_index text 0 ≢ 45 → mark_from (slice_index text 0) ≡ None → IsStray text
 stray_byte text some no_white_space no_word no_minus none = record {
@@ -97,10 +91,6 @@ stray_byte text some no_white_space no_word no_minus none = record {
   no_white_space = no_white_space;
   no_word = no_word;
   no_minus = no_minus;
-  no_mark = λ n rest is.
-      let first : slice_index text 0 ≡ slice_index (mark_text n) 0 = ap (λ (x : List ℕ). slice_index x 0) is ∙ first_of (mark_text n) rest (mark_some n) in
-      some_mark_none n (sym (mark_from_text n) ∙ ap mark_from (sym first) ∙ none);
-  no_part = λ n more is.
-      let first : slice_index (mark_text n) 0 ≡ slice_index text 0 = ap (λ (x : List ℕ). slice_index x 0) is ∙ first_of text more some in
-      some_mark_none n (sym (mark_from_text n) ∙ ap mark_from first ∙ none);
+  no_mark = λ n rest is. none-some n (sym none ∙ whole_mark text n rest is);
+  no_part = λ n more is. none-some n (sym none ∙ part_mark text n more some is);
 }

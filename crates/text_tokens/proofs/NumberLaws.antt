@@ -24,12 +24,6 @@ plain_parts ds e =
     let b = and_parts _ _ a.0 in
     record { digits = b.0; some = grind (arith, nat_tests); first = λ zero. grind (arith, nat_tests) }
 
-one_or_other : (ds : List ℕ) → (get_or ds 0 0 ≡ 48 → length ds ≡ 1) → (length ds == 1 || not (get_or ds 0 0 == 48)) ≡ true
-one_or_other ds h = grind (arith, nat_tests)
-
-plain_whole : (ds : List ℕ) → Plain ds → is_plain ds ≡ true
-plain_whole ds p = and_from _ _ (and_from _ _ p.digits (grind (arith, nat_tests))) (one_or_other ds p.first)
-
 plain_decimal : (n : ℕ) → n < 2 ^ 64 → Plain (decimal n)
 plain_decimal n lt = record {
   digits = digits_decimal own n lt;
@@ -39,9 +33,6 @@ plain_decimal n lt = record {
     | inr zero ↦ ap length (decimal_digit n (omega arith))
   ];
 }
-
-abbrev pub none_of : Option ℕ
-none_of = None
 
 -- the number that is read is written so
 pub plain_number_takes : (limit n : ℕ) (ds : List ℕ) → limit < 2 ^ 64 → plain_number_at limit ds ≡ Some n → (ds ≡ decimal n) × (n ≤ limit)
@@ -58,20 +49,18 @@ plain_number_takes limit n ds fits e =
 pub plain_number_again : (limit n : ℕ) → limit < 2 ^ 64 → n ≤ limit → plain_number_at limit (decimal n) ≡ Some n
 unfolding plain_number_at
 plain_number_again limit n fits le =
-    let plain : is_plain (decimal n) ≡ true = plain_whole (decimal n) (plain_decimal n (omega arith)) in
+    let p = plain_decimal n (omega arith) in
+    let plain : is_plain (decimal n) ≡ true = and_from _ _ (and_from _ _ p.digits (grind (arith, nat_tests))) (grind (arith, nat_tests, p.first)) in
     let value : digits_value 10 (decimal n) ≡ n = digits_value-decimal own n (omega arith) in
     rw (plain, value, le-leb n limit le) refl
 
 as_digit : (c : ℕ) → is_ascii_digit c ≡ true → digit_value c ≡ c - 48
 as_digit c h = grind (arith, nat_tests)
 
-digit_at : (ds : List ℕ) (i : ℕ) → list_all is_ascii_digit ds ≡ true → i < length ds → digit_value (get_or ds i 0) ≡ get_or ds i 0 - 48
-digit_at ds i digits lt = as_digit (get_or ds i 0) (All-get_or (λ c. is_ascii_digit c ≡ true) ds i 0 lt (AllPass-from_list_all is_ascii_digit ds digits))
-
 -- one more digit
 pub value_more : (ds : List ℕ) (i limit v d : ℕ) → list_all is_ascii_digit ds ≡ true → i < length ds → v ≡ min (digits_value 10 (take i ds)) (limit + 1) → d ≡ get_or ds i 0 - 48
     → min (v * 10 + d) (limit + 1) ≡ min (digits_value 10 (take (i + 1) ds)) (limit + 1)
-value_more ds i limit v d digits lt e is = omega (arith, digits_value_more 10 ds i lt, digit_at ds i digits lt)
+value_more ds i limit v d digits lt e is = omega (arith, digits_value_more 10 ds i lt, as_digit (get_or ds i 0) (All-get_or (λ c. is_ascii_digit c ≡ true) ds i 0 lt (AllPass-from_list_all is_ascii_digit ds digits)))
 
 -- what a bounded value says of the digits' value
 pub value_found : (limit n : ℕ) (ds : List ℕ) → value_at limit ds ≡ Some n → (n ≡ digits_value 10 ds) × (n ≤ limit)
@@ -91,19 +80,15 @@ plain_then : (limit : ℕ) (ds : List ℕ) → is_plain ds ≡ true → plain_nu
 unfolding plain_number_at
 plain_then limit ds e = rw e refl
 
-plain_else : (limit : ℕ) (ds : List ℕ) → is_plain ds ≡ false → plain_number_at limit ds ≡ None
-unfolding plain_number_at
-plain_else limit ds e = rw e refl
-
-found_one : (limit : ℕ) (ds : List ℕ) (o : Option ℕ) → limit < 2 ^ 64 → plain_number_at limit ds ≡ o → IfSome o (λ n. (n ≤ limit) × (ds ≡ decimal n))
-found_one limit ds (Some n) fits e = let t = plain_number_takes limit n ds fits e in (t.1, t.0)
-found_one limit ds None fits e = tt
-
 pub found_plain : (limit : ℕ) (ds : List ℕ) (o : Option ℕ) → limit < 2 ^ 64 → is_plain ds ≡ true → o ≡ value_at limit ds → IfSome o (λ n. (n ≤ limit) × (ds ≡ decimal n))
-found_plain limit ds o fits plain e = found_one limit ds o fits (plain_then limit ds plain ∙ sym e)
+found_plain limit ds (Some n) fits plain e = let t = plain_number_takes limit n ds fits (plain_then limit ds plain ∙ sym e) in (t.1, t.0)
+found_plain limit ds None fits plain e = tt
 
 pub only_plain : (limit n : ℕ) (ds : List ℕ) (o : Option ℕ) → limit < 2 ^ 64 → is_plain ds ≡ true → o ≡ value_at limit ds → n ≤ limit → ds ≡ decimal n → o ≡ Some n
 only_plain limit n ds o fits plain e le is = e ∙ sym (plain_then limit ds plain) ∙ ap (plain_number_at limit) is ∙ plain_number_again limit n fits le
 
-pub never_plain : (limit n : ℕ) (ds : List ℕ) → limit < 2 ^ 64 → is_plain ds ≡ false → n ≤ limit → ds ≡ decimal n → none_of ≡ Some n
-never_plain limit n ds fits plain le is = sym (plain_else limit ds plain) ∙ ap (plain_number_at limit) is ∙ plain_number_again limit n fits le
+pub never_plain : (limit n : ℕ) (ds : List ℕ) → limit < 2 ^ 64 → is_plain ds ≡ false → n ≤ limit → ds ≡ decimal n → None ≡ Some n
+unfolding plain_number_at
+never_plain limit n ds fits plain le is =
+    let nothing : plain_number_at limit ds ≡ None = rw plain refl in
+    sym nothing ∙ ap (plain_number_at limit) is ∙ plain_number_again limit n fits le

@@ -9,10 +9,6 @@ use Rattle.text_tokens.specs.Lexing.{BeginsWith, BeginsWithAll, none, white_spac
 
 -- ---- one token
 
--- two tokens with which a text begins have their classes alike
-alike : (t u : Tok) (text rest others : List ℕ) → BeginsWith t text rest → BeginsWith u text others → token_class t ≡ token_class u
-alike t u text rest others h g = sym (begins_class t text rest h) ∙ begins_class u text others g
-
 -- a text begins with one token, and one text follows it
 pub same_token : (t u : Tok) (text rest others : List ℕ) → BeginsWith t text rest → BeginsWith u text others → (t ≡ u) × (rest ≡ others)
 same_token (Word w) (Word v) text rest others h g =
@@ -31,7 +27,7 @@ same_token (Sign m) (Sign n) text rest others h g =
         ∙ drop_at (mark_text n) others (length (mark_text m)) (ap (λ (k : Mark). length (mark_text k)) (sym same))
 same_token (NoToken b) u text rest others h g = absurd h
 same_token t (NoToken b) text rest others h g = absurd g
-same_token t u text rest others h g = absurd (let e : token_class t ≡ token_class u = alike t u text rest others h g in cc)
+same_token t u text rest others h g = absurd (let e : token_class t ≡ token_class u = sym (begins_class t text rest h) ∙ begins_class u text others g in cc)
 
 -- no token begins with white space
 not_white_space : (t : Tok) (b : ℕ) (text rest : List ℕ) → is_white_space b ≡ true → BeginsWith t (b ∷ text) rest → ⊥
@@ -44,9 +40,6 @@ not_white_space t b text rest h k = let e : WhiteSpace ≡ token_class t = sym (
 bad_not_white_space : (k : Bad) (b : ℕ) (text : List ℕ) → is_white_space b ≡ true → IsBad k (b ∷ text) → ⊥
 bad_not_white_space bad.Number b text h k = let e : WhiteSpace ≡ Digit = sym (white_space_class b h) ∙ bad_begins bad.Number (b ∷ text) k in cc
 bad_not_white_space k b text h i = let e : WhiteSpace ≡ bad_class k = sym (white_space_class b h) ∙ bad_begins k (b ∷ text) i in cc
-
-bads_alike : (b c : Bad) (text : List ℕ) → IsBad b text → IsBad c text → bad_class b ≡ bad_class c
-bads_alike b c text h g = sym (bad_begins b text h) ∙ bad_begins c text g
 
 bad_alike : (k : Bad) (t : Tok) (text rest : List ℕ) → IsBad k text → BeginsWith t text rest → bad_class k ≡ token_class t
 bad_alike k t text rest h g = sym (bad_begins k text h) ∙ begins_class t text rest g
@@ -113,7 +106,7 @@ same_bad bad.Number bad.Number text h g = refl
 same_bad bad.Minus bad.Minus text h g = refl
 same_bad bad.Unfinished bad.Stray text h g = absurd (half_not_stray text h g)
 same_bad bad.Stray bad.Unfinished text h g = absurd (half_not_stray text g h)
-same_bad b c text h g = let e : bad_class b ≡ bad_class c = bads_alike b c text h g in cc
+same_bad b c text h g = let e : bad_class b ≡ bad_class c = sym (bad_begins b text h) ∙ bad_begins c text g in cc
 
 -- ---- where tokens end
 

@@ -2,22 +2,18 @@
 use Rattle.text_tokens.proofs.Vocabulary.{◌≡◌, ◌≢◌, ℕ, ◌==◌, true, false, List, ◌∷◌, refl, sym, ap, ◌∙◌, arith, Option, Some, if◌then◌else◌, eqb-true, nat_tests, cond_some, Mark, OpenBrace}
 use Rattle.text_tokens.proofs.Vocabulary.{CloseBrace, OpenBracket, CloseBracket, OpenParen, CloseParen, Semicolon, Bar, Colon, Equals, Comma, Dollar, Tilde, And, Or, Tok, Word, Number, Sign}
 use Rattle.text_tokens.proofs.Vocabulary.{mark_code, same_mark, false_from_ne_true as false_from}
+use Rattle.std.proofs.lemmas.Bool.{eq-eqb}
+use Rattle.std.proofs.lemmas.Option.{same_Some}
 use Rattle.text_tokens.specs.Parts.{word_at, number_at, begins_with, rest_of, mark_at}
-
-abbrev given : {A : Type 0} → A → Option A
-given x = Some x
-
-some_is : {A : Type 0} (x y : A) → given x ≡ Some y → x ≡ y
-some_is x y e = cc
 
 -- ---- words and numbers
 
 pub word_takes : (ts : List Tok) (x : List ℕ × List Tok) → word_at ts ≡ Some x → ts ≡ Word x.0 ∷ x.1
-word_takes (Word w ∷ ts) x e = ap (λ (p : List ℕ × List Tok). Word p.0 ∷ p.1) (some_is (w, ts) x e)
+word_takes (Word w ∷ ts) x e = ap (λ (p : List ℕ × List Tok). Word p.0 ∷ p.1) (same_Some (w, ts) x e)
 word_takes ts x e = absurd cc
 
 pub number_takes : (ts : List Tok) (x : ℕ × List Tok) → number_at ts ≡ Some x → ts ≡ Number x.0 ∷ x.1
-number_takes (Number n ∷ ts) x e = ap (λ (p : ℕ × List Tok). Number p.0 ∷ p.1) (some_is (n, ts) x e)
+number_takes (Number n ∷ ts) x e = ap (λ (p : ℕ × List Tok). Number p.0 ∷ p.1) (same_Some (n, ts) x e)
 number_takes ts x e = absurd cc
 
 pub number_again : (ts : List Tok) (n : ℕ) (rest : List Tok) → ts ≡ Number n ∷ rest → number_at ts ≡ Some (n, rest)
@@ -41,14 +37,8 @@ mark_again_code m = refl
 pub same_mark_is : (m n : Mark) → same_mark m n ≡ true → m ≡ n
 same_mark_is m n e = sym (mark_again_code m) ∙ ap mark_back (eqb-true (mark_code m) (mark_code n) e) ∙ mark_again_code n
 
-itself : (n : ℕ) → (n == n) ≡ true
-itself n = grind (arith, nat_tests)
-
 pub same_mark_itself : (m : Mark) → same_mark m m ≡ true
-same_mark_itself m = itself (mark_code m)
-
-pub same_mark_other : (m n : Mark) → m ≢ n → same_mark m n ≡ false
-same_mark_other m n h = false_from (same_mark m n) (λ e. h (same_mark_is m n e))
+same_mark_itself m = eq-eqb (mark_code m) (mark_code m) refl
 
 pub begins_takes : (m : Mark) (ts : List Tok) → begins_with m ts ≡ true → ts ≡ Sign m ∷ rest_of ts
 begins_takes m (Sign k ∷ ts) e = ap (λ (x : Mark). Sign x ∷ ts) (same_mark_is k m e)
@@ -58,7 +48,7 @@ pub begins_again : (m : Mark) (ts rest : List Tok) → ts ≡ Sign m ∷ rest �
 begins_again m ts rest e = ap (begins_with m) e ∙ same_mark_itself m
 
 pub begins_other : (m n : Mark) (ts rest : List Tok) → ts ≡ Sign n ∷ rest → n ≢ m → begins_with m ts ≡ false
-begins_other m n ts rest e h = ap (begins_with m) e ∙ same_mark_other n m h
+begins_other m n ts rest e h = ap (begins_with m) e ∙ false_from (same_mark n m) (λ e. h (same_mark_is n m e))
 
 pub mark_takes : (m : Mark) (ts rest : List Tok) → mark_at m ts ≡ Some rest → ts ≡ Sign m ∷ rest
 mark_takes m ts rest e =

@@ -1,6 +1,7 @@
 -- How far the bytes go at the front of a text that pass a test.
 use Rattle.text_tokens.proofs.Vocabulary.{◌≡◌, ℕ, suc, ◌+◌, ◌<◌, Bool, true, false, List, [], ◌∷◌, ◌++◌, length, take, drop, refl, sym, ap, ◌∙◌, arith, inl, inr, take_at, drop_at, slice_index}
 use Rattle.text_tokens.proofs.Vocabulary.{list_all, prefix_len, and_parts, and_from, cases_Bool}
+use Rattle.std.proofs.Math.Numerals.{one-add}
 
 pub prefix_is : (p : ℕ → Bool) (xs rest : List ℕ) → list_all p xs ≡ true → p (slice_index rest 0) ≡ false → prefix_len p (xs ++ rest) ≡ length xs
 prefix_is p [] [] all stop = refl
@@ -21,17 +22,14 @@ same_prefix p xs rest ys others all stop all' stop' same =
       sym (drop_at xs rest (length xs) refl) ∙ ap (drop (length xs)) same ∙ drop_at ys others (length xs) (sym lengths),
     )
 
-one_more : (n : ℕ) → 1 + n ≡ suc n
-one_more n = omega arith
-
 pub all_pass : (p : ℕ → Bool) (xs : List ℕ) → list_all p (take (prefix_len p xs) xs) ≡ true
 all_pass p [] = refl
 all_pass p (x ∷ xs) =
-    elim (cases_Bool (p x)) [ inl y ↦ rw (y, one_more) (and_from (p x) (list_all p (take (prefix_len p xs) xs)) y (all_pass p xs)) | inr n ↦ rw n refl ]
+    elim (cases_Bool (p x)) [ inl y ↦ rw (y, one-add) (and_from (p x) (list_all p (take (prefix_len p xs) xs)) y (all_pass p xs)) | inr n ↦ rw n refl ]
 
 pub next_fails : (p : ℕ → Bool) (xs : List ℕ) → p 0 ≡ false → p (slice_index (drop (prefix_len p xs) xs) 0) ≡ false
 next_fails p [] h = h
-next_fails p (x ∷ xs) h = elim (cases_Bool (p x)) [ inl y ↦ rw (y, one_more) (next_fails p xs h) | inr n ↦ rw n n ]
+next_fails p (x ∷ xs) h = elim (cases_Bool (p x)) [ inl y ↦ rw (y, one-add) (next_fails p xs h) | inr n ↦ rw n n ]
 
 pub some_pass : (p : ℕ → Bool) (xs : List ℕ) → p 0 ≡ false → p (slice_index xs 0) ≡ true → 0 < prefix_len p xs
 some_pass p [] at_end h = absurd cc

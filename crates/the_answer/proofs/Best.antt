@@ -30,17 +30,18 @@ with_gap s gap = set.contains-insert nat_cmp_total s gap gap ∙ ap (λ b. b || 
 with_other : (s : SetOfGaps) (gap k : ℕ) → k ≢ gap → set.contains (set.insert s gap) k ≡ set.contains s k
 with_other s gap k other = set.contains-insert nat_cmp_total s gap k ∙ ap (λ b. b || set.contains s k) (unsigned_tied k gap ∙ ne_eqb k gap other)
 
+-- a set has nothing from its end on
+outside : (t : SetOfGaps) (k end : ℕ) → AreBelow end t → end ≤ k → set.contains t k ≡ false
+outside t k end below past = elim (cases_Bool (set.contains t k)) [ inl e ↦ absurd (let h = below k e in omega arith) | inr e ↦ e ]
+
 -- the chosen set is below gap
 module _ (test : SetOfGaps → Bool) (costs : List ℕ) (chosen : SetOfGaps) (gap : ℕ) (low : AreBelow gap chosen) where
   -- a set that is below gap and the same there is the chosen one
   only_chosen : (s : SetOfGaps) → IsBetween chosen gap gap s → s ≡ chosen
   only_chosen s b = set.same_set nat_cmp_total set.nat_cmp-IsAntisymmetric s chosen each
     where
-      outside : (t : SetOfGaps) (k : ℕ) → AreBelow gap t → gap ≤ k → set.contains t k ≡ false
-      outside t k below past = elim (cases_Bool (set.contains t k)) [ inl e ↦ absurd (let h = below k e in omega arith) | inr e ↦ e ]
-
       each : (k : ℕ) → set.contains s k ≡ set.contains chosen k
-      each k = elim (cases_lt k gap) [ inl under ↦ b.alike k under | inr past ↦ outside s k b.below past ∙ sym (outside chosen k low past) ]
+      each k = elim (cases_lt k gap) [ inl under ↦ b.alike k under | inr past ↦ outside s k gap b.below past ∙ sym (outside chosen k gap low past) ]
 
   none_chosen : test chosen ≡ false → NoneBetween test chosen gap gap
   none_chosen fails other b = ap test (only_chosen other b) ∙ fails
@@ -62,24 +63,12 @@ module _ (test : SetOfGaps → Bool) (costs : List ℕ) (chosen : SetOfGaps) (ga
     wider_with : (s : SetOfGaps) → IsBetween (set.insert chosen gap) (gap + 1) end s → IsBetween chosen gap end s
     wider_with s b = record { alike = λ k h. b.alike k (omega arith) ∙ with_other chosen gap k (λ e. omega arith); below = b.below }
 
-    -- the chosen set has not
-    not_chosen : set.contains chosen gap ≡ false
-    not_chosen = elim (cases_Bool (set.contains chosen gap)) [ inl e ↦ absurd (let h = low gap e in omega arith) | inr e ↦ e ]
-
-    narrower_with : (s : SetOfGaps) → IsBetween chosen gap end s → set.contains s gap ≡ true → IsBetween (set.insert chosen gap) (gap + 1) end s
-    narrower_with s b here = record {
+    -- a set that is as another at gap, where that is as the chosen one at the other gaps
+    narrower : (s other : SetOfGaps) → IsBetween chosen gap end s → set.contains s gap ≡ set.contains other gap → ((k : ℕ) → k ≢ gap → set.contains other k ≡ set.contains chosen k) → IsBetween other (gap + 1) end s
+    narrower s other b here alike = record {
       alike = λ k h. elim (cases_eq k gap) [
-        | inl e ↦ subst (λ n. set.contains s n ≡ set.contains (set.insert chosen gap) n) (sym e) (here ∙ sym (with_gap chosen gap))
-        | inr other ↦ b.alike k (omega arith) ∙ sym (with_other chosen gap k other)
-      ];
-      below = b.below;
-    }
-
-    narrower_without : (s : SetOfGaps) → IsBetween chosen gap end s → set.contains s gap ≡ false → IsBetween chosen (gap + 1) end s
-    narrower_without s b missing = record {
-      alike = λ k h. elim (cases_eq k gap) [
-        | inl e ↦ subst (λ n. set.contains s n ≡ set.contains chosen n) (sym e) (missing ∙ sym not_chosen)
-        | inr other ↦ b.alike k (omega arith)
+        | inl e ↦ subst (λ n. set.contains s n ≡ set.contains other n) (sym e) here
+        | inr apart ↦ b.alike k (omega arith) ∙ sym (alike k apart)
       ];
       below = b.below;
     }
@@ -87,7 +76,7 @@ module _ (test : SetOfGaps → Bool) (costs : List ℕ) (chosen : SetOfGaps) (ga
     -- a set without gap has no least difference from one with it
     not_earlier : (a b : SetOfGaps) → IsBetween chosen (gap + 1) end a → IsBetween (set.insert chosen gap) (gap + 1) end b → HasLeastDifference a b → ⊥
     not_earlier a b without with d = elim (cases_lt gap d.gap) [
-      | inl later ↦ (let no : false ≡ true = sym (without.alike gap (omega arith) ∙ not_chosen) ∙ d.alike_below gap later ∙ (with.alike gap (omega arith) ∙ with_gap chosen gap) in cc)
+      | inl later ↦ (let no : false ≡ true = sym (without.alike gap (omega arith) ∙ outside chosen gap gap low (omega arith)) ∙ d.alike_below gap later ∙ (with.alike gap (omega arith) ∙ with_gap chosen gap) in cc)
       | inr not_later ↦
           (let same : set.contains a d.gap ≡ set.contains chosen d.gap = without.alike d.gap (omega arith) in
           let chosen_has : set.contains chosen d.gap ≡ true = sym same ∙ d.in_first in
@@ -106,7 +95,10 @@ module _ (test : SetOfGaps → Bool) (costs : List ℕ) (chosen : SetOfGaps) (ga
     -- what holds of the sets with gap and of those without it holds of each
     by_half : (P : SetOfGaps → Type 0) → ((s : SetOfGaps) → IsBetween (set.insert chosen gap) (gap + 1) end s → P s) → ((s : SetOfGaps) → IsBetween chosen (gap + 1) end s → P s) →
         (s : SetOfGaps) → IsBetween chosen gap end s → P s
-    by_half P with without s b = elim (cases_Bool (set.contains s gap)) [ inl e ↦ with s (narrower_with s b e) | inr e ↦ without s (narrower_without s b e) ]
+    by_half P with without s b = elim (cases_Bool (set.contains s gap)) [
+      | inl e ↦ with s (narrower s (set.insert chosen gap) b (e ∙ sym (with_gap chosen gap)) (with_other chosen gap))
+      | inr e ↦ without s (narrower s chosen b (e ∙ sym (outside chosen gap gap low (omega arith))) (λ k n. refl))
+    ]
 
     -- the set with gap is the best where that without it is not cheaper
     with_is_best : (a : SetOfGaps) → With a → ((s : SetOfGaps) → IsBetween chosen (gap + 1) end s → Better costs s a → test s ≡ false) → IsBestBetween test costs chosen gap end a

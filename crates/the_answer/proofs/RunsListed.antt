@@ -54,24 +54,11 @@ label_is_tried p l inside =
 
 module _ (p : Listing) (mode : Machine) where
   -- a run from a state
-  record RunsTo (s : State) (o : Outcome) : Type 0 where
-    labels : List Label
-    last : State
-    leads : run p mode s labels ≡ Some last
-    ended : HasEnded p last
-    outcome : o ≡ outcome_at p last
+  abbrev RunsTo : State → Outcome → Type 0
+  RunsTo s o = (labels : List Label) × (last : State) × (run p mode s labels ≡ Some last) × HasEnded p last × (o ≡ outcome_at p last)
 
   no_step_more : (s : State) (o : Outcome) → NoOtherThread p s → Contains (outcomes_here p s) o → RunsTo s o
-  no_step_more s o none here = let (ended, is) = from_here p s o none here in record { labels = []; last = s; leads = refl; ended = ended; outcome = is }
-
-  one_step_more : (s z : State) (l : Label) (o : Outcome) → step p mode s l ≡ Some z → RunsTo z o → RunsTo s o
-  one_step_more s z l o e r = record {
-    labels = l ∷ r.labels;
-    last = r.last;
-    leads = ap (option_and_then (λ next. run p mode next r.labels)) e ∙ r.leads;
-    ended = r.ended;
-    outcome = r.outcome;
-  }
+  no_step_more s o none here = let (ended, is) = from_here p s o none here in ([], s, refl, ended, is)
 
   -- what is listed has a run
   has_run : (n : ℕ) (s : State) (o : Outcome) → NoOtherThread p s → Contains (outcomes_within p mode n s) o → RunsTo s o
@@ -86,7 +73,9 @@ module _ (p : Listing) (mode : Machine) where
       after : (l : Label) (next : Option State) → step p mode s l ≡ next → Contains (option_map_or (outcomes_within p mode n) next []) o →
           ((z : State) → NoOtherThread p z → Contains (outcomes_within p mode n z) o → RunsTo z o) → RunsTo s o
       after l None e there ih = absurd (none_here o there)
-      after l (Some z) e there ih = one_step_more s z l o e (ih z (of_program p mode s z l none e).no_other there)
+      after l (Some z) e there ih =
+          let (labels, last, leads, ended, is) = ih z (of_program p mode s z l none e).no_other there in
+          (l ∷ labels, last, ap (option_and_then (λ next. run p mode next labels)) e ∙ leads, ended, is)
 
   -- what ends here is listed, whatever the number of steps
   ends_here : (n : ℕ) (s : State) → HasEnded p s → Contains (outcomes_within p mode n s) (outcome_at p s)
@@ -123,7 +112,7 @@ whole_outcomes p mode = outcomes_within p mode (most_labels p) (start p)
 -- both ways
 whole_listed : (p : Listing) (mode : Machine) (o : Outcome) → JumpForward p.threads → Contains (whole_outcomes p mode) o ↔ Allows p mode o
 whole_listed p mode o forward = (
-  (λ here. let r = has_run p mode (most_labels p) (start p) o (λ t past. refl) here in (r.labels, (r.last, r.leads, r.ended, r.outcome))),
+  (λ here. let (labels, last, leads, ended, is) = has_run p mode (most_labels p) (start p) o (λ t past. refl) here in (labels, (last, leads, ended, is))),
   (λ (labels, (last, leads, ended, is)).
       subst (λ (q : Outcome). Contains (whole_outcomes p mode) q) (sym is)
       (is_listed p mode labels (most_labels p) (start p) last (λ t past. refl) (bounded p mode labels last forward leads) leads ended)),

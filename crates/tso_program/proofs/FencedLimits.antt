@@ -11,15 +11,15 @@ module _ (gap : ℕ → Bool) where
   next_place b k e = let next : k + 1 ≡ suc k = omega arith in ap (place_of gap) next ∙ ap (λ (c : Bool). place_of gap k + (if c then 2 else 1)) e
 
   -- places rise
-  step_up : (b : Bool) (n : ℕ) → n < n + (if b then 2 else 1)
-  step_up true n = omega arith
-  step_up false n = omega arith
+  step_up : (b : Bool) (n : ℕ) → (n < n + (if b then 2 else 1)) × (n + (if b then 2 else 1) ≤ n + 2)
+  step_up true n = (omega arith, omega arith)
+  step_up false n = (omega arith, omega arith)
 
   rises_by : (j d : ℕ) → place_of gap j ≤ place_of gap (j + d)
   rises_by j zero = let e : j + 0 ≡ j = omega arith in rw e (omega arith)
   rises_by j (suc d) =
       let e : j + suc d ≡ suc (j + d) = omega arith in
-      let up = step_up (gap (j + d)) (place_of gap (j + d)) in
+      let up = (step_up (gap (j + d)) (place_of gap (j + d))).0 in
       let so_far = rises_by j d in
       rw e (omega arith)
 
@@ -27,13 +27,9 @@ module _ (gap : ℕ → Bool) where
   rises j k h = let d : ℕ = k - j in let e : j + d ≡ k = omega arith in let r : place_of gap j ≤ place_of gap (j + d) = rises_by j d in rw e at r
 
   -- with no gap before the first instruction, twice as many places but one
-  at_most_two : (b : Bool) (n : ℕ) → n + (if b then 2 else 1) ≤ n + 2
-  at_most_two true n = omega arith
-  at_most_two false n = omega arith
-
   small : (k : ℕ) → gap 0 ≡ false → place_of gap (suc k) ≤ 2 * k + 1
   small zero e = let p = next_place false 0 e in omega arith
-  small (suc k) e = let so_far = small k e in let here = at_most_two (gap (suc k)) (place_of gap (suc k)) in omega arith
+  small (suc k) e = let so_far = small k e in let here = (step_up (gap (suc k)) (place_of gap (suc k))).1 in omega arith
 
   pub place_small : (most k : ℕ) → gap 0 ≡ false → k ≤ suc most → place_of gap k ≤ 2 * most + 1
   place_small most zero e h = omega arith
@@ -68,7 +64,6 @@ module _ (gap : ℕ → Bool) where
       (x ≡ Fence) ⊎ Stands (n + 1) ys q x → (x ≡ Fence) ⊎ Stands n (y ∷ ys) (width + q) x
   later n width q y ys x next (inl fence) = inl fence
   later n width q y ys x next (inr s) = inr (
-      let at_place = s.place in
       let same : place_of gap (n + 1 + s.number + 1) ≡ place_of gap (n + suc s.number + 1) = ap (place_of gap) (let e : n + 1 + s.number + 1 ≡ n + suc s.number + 1 = omega arith in e) in
       record { number = suc s.number; instr = s.instr; there = s.there; is = s.is; place = omega arith })
 
@@ -146,7 +141,6 @@ instead gaps threads t q x e = go (stands (gaps t) 0 (code_of threads t) q x (ap
     go : (x ≡ Fence) ⊎ Stands (gaps t) 0 (code_of threads t) q x → (x ≡ Fence) ⊎ Instead gaps threads t q x
     go (inl fence) = inl fence
     go (inr s) = inr (
-        let at_place = s.place in
         let same : place_of (gaps t) (0 + s.number + 1) ≡ place_of (gaps t) (s.number + 1) = ap (place_of (gaps t)) (let z : 0 + s.number + 1 ≡ s.number + 1 = omega arith in z) in
         record { number = s.number; instr = s.instr; there = s.there; is = s.is; place = omega arith })
 
@@ -195,14 +189,12 @@ module _ (p : Listing) (gaps : Gaps) (w : IsWithinLimits p.threads p.memory) (be
   forward : (t q target : ℕ) (x : Instr) → instr_at fenced t q ≡ Some x → target_of x ≡ Some target → q < target
   forward t q target x e is =
       let l = lands t q target x e is in
-      let at_place = l.place in let there = l.lands in let on = l.forward in
       let up = rises (gaps t) (l.from + 1) l.aim (omega arith) in
       omega arith
 
   inner : (t q target : ℕ) (x : Instr) → instr_at fenced t q ≡ Some x → target_of x ≡ Some target → target ≤ length (code_of fenced t)
   inner t q target x e is =
       let l = lands t q target x e is in
-      let there = l.lands in
       let up = rises (gaps t) l.aim (length (code_of p.threads t)) l.inner in
       let long : length (code_of fenced t) ≡ place_of (gaps t) (length (code_of p.threads t)) = ap length (fenced_code_of gaps t p.threads) ∙ ends (gaps t) (code_of p.threads t) in
       omega arith
@@ -210,8 +202,7 @@ module _ (p : Listing) (gaps : Gaps) (w : IsWithinLimits p.threads p.memory) (be
   within : IsWithinFencedLimits fenced p.memory
   within =
       let count = same_count gaps 0 p.threads in
-      let some = w.shared.some_thread in let few = w.shared.few_threads in
-      let accesses = w.shared.few_accesses in let same = all_accesses_same gaps 0 p.threads in
+      let same = all_accesses_same gaps 0 p.threads in
       record {
         some_thread = omega arith;
         few_threads = omega arith;

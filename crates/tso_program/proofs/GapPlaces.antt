@@ -29,9 +29,6 @@ later x xs u k gap e =
     let sum : gap_count (x ∷ take u xs) + (k - 1) ≡ gaps_of_thread x + (gap_count (take u xs) + (k - 1)) = omega (arith, count_first x (take u xs)) in
     ap (λ n. if there then Some n else None) sum ∙ shifted there (gaps_of_thread x) (gap_count (take u xs) + (k - 1)) gap e
 
-first_listed : (x : Thread) (xs : List Thread) (gap : ℕ) → gap < gaps_of_thread x → gap_number (x ∷ xs) 0 (gap + 1) ≡ Some gap
-first_listed x xs gap h = gap_is (x ∷ xs) 0 (gap + 1) gap (omega arith) (omega arith) (omega arith)
-
 earlier : (b : Bool) (m n gap : ℕ) → m ≤ gap → (if b then Some (m + n) else None) ≡ Some gap → (if b then Some n else None) ≡ Some (gap - m)
 earlier true m n gap h e = let q : m + n ≡ gap = cc in ap Some (let k : n ≡ gap - m = omega arith in k)
 earlier false m n gap h e = absurd cc
@@ -41,66 +38,50 @@ not_here : (x : Thread) (xs : List Thread) (gap : ℕ) → gaps_of_thread x ≤ 
     → (u k : ℕ) → gap_number (x ∷ xs) u k ≡ Some gap → ⊥
 not_here x xs gap h none zero k e =
     let p = gap_facts (x ∷ xs) 0 k gap e in
-    let low = p.low in let high = p.high in let number = p.number in
     omega arith
 not_here x xs gap h none (suc u) k e =
     let there : Bool = nat_le 1 k && nat_lt k (length (code_of xs u)) in
     let sum : gaps_of_thread x + (gap_count (take u xs) + (k - 1)) ≡ gap_count (x ∷ take u xs) + (k - 1) = omega (arith, count_first x (take u xs)) in
     none u k (earlier there (gaps_of_thread x) (gap_count (take u xs) + (k - 1)) gap h (ap (λ n. if there then Some n else None) sum ∙ e))
 
-record FirstPlaces (t : ℕ) (x : Thread) (front : List (ℕ × ℕ)) : Type 0 where
-  long : length front ≡ gaps_of_thread x
-  places : (gap : ℕ) → gap < gaps_of_thread x → slice_get front gap ≡ Some (t, gap + 1)
+-- the gaps of thread t, which come first
+abbrev front : ℕ → Thread → List (ℕ × ℕ)
+front t x = map (λ k. (t, k)) (range_with_len 1 (gaps_of_thread x))
 
-places_of : ℕ → Thread → List (ℕ × ℕ)
-places_of t x = map (λ k. (t, k)) (range_with_len 1 (gaps_of_thread x))
+front_long : (t : ℕ) (x : Thread) → length (front t x) ≡ gaps_of_thread x
+front_long t x = length-map-range_with_len (λ k. (t, k)) 1 (gaps_of_thread x)
 
-long_places : (t : ℕ) (x : Thread) → length (places_of t x) ≡ gaps_of_thread x
-unfolding places_of
-long_places t x = length-map-range_with_len (λ k. (t, k)) 1 (gaps_of_thread x)
+here : (t : ℕ) (x : Thread) (rest : List (ℕ × ℕ)) (gap : ℕ) → gap < gaps_of_thread x → slice_get (front t x ++ rest) gap ≡ Some (t + 0, gap + 1)
+here t x rest gap h =
+    let long = front_long t x in
+    let e : t ≡ t + 0 = omega arith in
+    in_front (front t x) rest gap (omega arith) ∙ slice_get-get_or (front t x) gap (t, gap + 1) (omega arith)
+    ∙ ap (λ p. Some p) (get_or-map-range_with_len (λ k. (t, k)) 1 (gaps_of_thread x) gap (gap + 1) (t, gap + 1) h (omega arith)) ∙ ap (λ u. Some (u, gap + 1)) e
 
-read_place : (t : ℕ) (x : Thread) (gap : ℕ) → gap < gaps_of_thread x → get_or (places_of t x) gap (t, gap + 1) ≡ (t, gap + 1)
-unfolding places_of
-read_place t x gap h = get_or-map-range_with_len (λ k. (t, k)) 1 (gaps_of_thread x) gap (gap + 1) (t, gap + 1) h (omega arith)
-
-place_there : (t : ℕ) (x : Thread) (gap : ℕ) → gap < gaps_of_thread x → slice_get (places_of t x) gap ≡ Some (t, gap + 1)
-place_there t x gap h = slice_get-get_or (places_of t x) gap (t, gap + 1) (omega (arith, long_places t x)) ∙ ap (λ p. Some p) (read_place t x gap h)
-
-first_places : (t : ℕ) (x : Thread) → FirstPlaces t x (map (λ k. (t, k)) (range_with_len 1 (gaps_of_thread x)))
-unfolding places_of
-first_places t x = record { long = long_places t x; places = place_there t x }
-
-here : (t : ℕ) (x : Thread) (front rest : List (ℕ × ℕ)) (gap : ℕ) → FirstPlaces t x front → gap < gaps_of_thread x → slice_get (front ++ rest) gap ≡ Some (t + 0, gap + 1)
-here t x front rest gap f h =
-    let long = f.long in
-    in_front front rest gap (omega arith) ∙ f.places gap h ∙ ap (λ u. Some (u, gap + 1)) (let e : t ≡ t + 0 = omega arith in e)
-
-skipped : (t : ℕ) (x : Thread) (front rest : List (ℕ × ℕ)) (gap : ℕ) → FirstPlaces t x front → gaps_of_thread x ≤ gap → slice_get (front ++ rest) gap ≡ slice_get rest (gap - gaps_of_thread x)
-skipped t x front rest gap f h =
-    let long = f.long in
-    let e : gap ≡ length front + (gap - gaps_of_thread x) = omega arith in
-    ap (slice_get (front ++ rest)) e ∙ behind front rest (gap - gaps_of_thread x)
+skipped : (t : ℕ) (x : Thread) (rest : List (ℕ × ℕ)) (gap : ℕ) → gaps_of_thread x ≤ gap → slice_get (front t x ++ rest) gap ≡ slice_get rest (gap - gaps_of_thread x)
+skipped t x rest gap h =
+    let long = front_long t x in
+    let e : gap ≡ length (front t x) + (gap - gaps_of_thread x) = omega arith in
+    ap (slice_get (front t x ++ rest)) e ∙ behind (front t x) rest (gap - gaps_of_thread x)
 
 onward : (t : ℕ) (x : Thread) (xs : List Thread) (gap : ℕ) → gaps_of_thread x ≤ gap → IsListed (t + 1) xs (gap - gaps_of_thread x) → IsListed t (x ∷ xs) gap
 onward t x xs gap h (there u k place number) =
     let e : t + 1 + u ≡ t + suc u = omega arith in
     let n : gaps_of_thread x + (gap - gaps_of_thread x) ≡ gap = omega arith in
     there (suc u) k
-    (skipped t x _ (places_from (t + 1) xs) gap (first_places t x) h ∙ place ∙ ap (λ v. Some (v, k)) e)
+    (skipped t x (places_from (t + 1) xs) gap h ∙ place ∙ ap (λ v. Some (v, k)) e)
     (later x xs u k (gap - gaps_of_thread x) number ∙ ap (λ m. Some m) n)
-onward t x xs gap h (past place none) = past (skipped t x _ (places_from (t + 1) xs) gap (first_places t x) h ∙ place) (not_here x xs gap h none)
+onward t x xs gap h (past place none) = past (skipped t x (places_from (t + 1) xs) gap h ∙ place) (not_here x xs gap h none)
 
 none_of_none : (gap : ℕ) → (u k : ℕ) → gap_number [] u k ≡ Some gap → ⊥
-none_of_none gap u k e =
-    let high = (gap_facts [] u k gap e).high in
-    omega arith
+none_of_none gap u k e = omega (arith, (gap_facts [] u k gap e).high)
 
 -- each number is listed, or past all gaps
 listed : (t : ℕ) (threads : List Thread) (gap : ℕ) → IsListed t threads gap
 listed t [] gap = past refl (none_of_none gap)
 listed t (x ∷ xs) gap =
     elim (cases_lt gap (gaps_of_thread x)) [
-      | inl h ↦ there 0 (gap + 1) (here t x _ (places_from (t + 1) xs) gap (first_places t x) h) (first_listed x xs gap h)
+      | inl h ↦ there 0 (gap + 1) (here t x (places_from (t + 1) xs) gap h) (gap_is (x ∷ xs) 0 (gap + 1) gap (omega arith) (omega arith) (omega arith))
       | inr h ↦ onward t x xs gap h (listed (t + 1) xs (gap - gaps_of_thread x))
     ]
 
@@ -109,17 +90,16 @@ found_place : (s : ℕ) (threads : List Thread) (t k gap : ℕ) → gap_number t
 found_place s [] t k gap e = absurd (none_of_none gap t k e)
 found_place s (x ∷ xs) zero k gap e =
     let p = gap_facts (x ∷ xs) 0 k gap e in
-    let low = p.low in let high = p.high in let number = p.number in
     let within : gap < gaps_of_thread x = omega arith in
     let next : gap + 1 ≡ k = omega arith in
-    here s x _ (places_from (s + 1) xs) gap (first_places s x) within ∙ ap (λ k. Some (s + 0, k)) next
+    here s x (places_from (s + 1) xs) gap within ∙ ap (λ k. Some (s + 0, k)) next
 found_place s (x ∷ xs) (suc t) k gap e =
     let number = (gap_facts (x ∷ xs) (suc t) k gap e).number in
     let past_first : gaps_of_thread x ≤ gap = omega (arith, count_first x (take t xs)) in
     let there : Bool = nat_le 1 k && nat_lt k (length (code_of xs t)) in
     let sum : gaps_of_thread x + (gap_count (take t xs) + (k - 1)) ≡ gap_count (x ∷ take t xs) + (k - 1) = omega (arith, count_first x (take t xs)) in
     let rest : gap_number xs t k ≡ Some (gap - gaps_of_thread x) = earlier there (gaps_of_thread x) (gap_count (take t xs) + (k - 1)) gap past_first (ap (λ n. if there then Some n else None) sum ∙ e) in
-    skipped s x _ (places_from (s + 1) xs) gap (first_places s x) past_first
+    skipped s x (places_from (s + 1) xs) gap past_first
     ∙ found_place (s + 1) xs t k (gap - gaps_of_thread x) rest
     ∙ ap (λ u. Some (u, k)) (let q : s + 1 + t ≡ s + suc t = omega arith in q)
 

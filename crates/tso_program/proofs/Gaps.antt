@@ -43,7 +43,6 @@ gap_facts threads t k gap e =
 pub gap_below : (threads : List Thread) (t k gap : ℕ) → gap_number threads t k ≡ Some gap → gap < gap_count threads
 gap_below threads t k gap e =
     let f = gap_facts threads t k gap e in
-    let low = f.low in let high = f.high in let number = f.number in
     omega (arith, count_within threads t)
 
 pub number_below : (threads : List Thread) (t k : ℕ) → 1 ≤ k → k < length (code_of threads t) → gap_count (take t threads) + (k - 1) < gap_count threads
@@ -54,8 +53,6 @@ pub gap_same : (threads : List Thread) (t k u j gap : ℕ) → gap_number thread
 gap_same threads t k u j gap e f =
     let a = gap_facts threads t k gap e in
     let b = gap_facts threads u j gap f in
-    let a_low = a.low in let a_high = a.high in let a_number = a.number in
-    let b_low = b.low in let b_high = b.high in let b_number = b.number in
     elim (cases_lt t u) [
       | inl h ↦ absurd (omega (arith, count_before threads t u h))
       | inr h ↦

@@ -155,18 +155,10 @@ value_kept shown o l = elim (cases_lt l (length o.memory)) [
       ∙ sym (ap (shown_value shown l) (get_or_past o.memory l 0 h) ∙ hidden (shows_location shown l))
 ]
 
-abbrev seen : (shown : Shown) (o : Outcome) → ShowsValues shown → shown_values shown o ≡ show shown o
-seen shown o of = sym (by_values shown o of)
-
-alike_values : (shown : Shown) (o : Outcome) → HaveOneShape (shown_values shown o) o
-alike_values shown o = record {
-  threads = threads_long shown o.registers;
-  registers = λ t. ap length (thread_kept shown o t) ∙ registers_long shown t (registers_in o t);
-  locations = memory_long shown o.memory;
-}
-
 pub alike : WhatIsShownIsAlike
-alike shown o of = subst (λ (x : Outcome). HaveOneShape x o) (seen shown o of) (alike_values shown o)
+alike shown o of =
+    let registers : (t : ℕ) → length (registers_in (shown_values shown o) t) ≡ length (registers_in o t) = λ t. ap length (thread_kept shown o t) ∙ registers_long shown t (registers_in o t) in
+    subst (λ (x : Outcome). HaveOneShape x o) (sym (by_values shown o of)) (record { threads = threads_long shown o.registers; registers = registers; locations = memory_long shown o.memory })
 
 pub registers_kept : ShownRegistersAreKept
 registers_kept shown o t r of h =

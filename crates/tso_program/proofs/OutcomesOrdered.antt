@@ -1,8 +1,9 @@
 -- The order of outcomes is a strict one: those that compare equal are equal.
 use Rattle.tso_program.proofs.Vocabulary.{◌≡◌, ◌↔◌, true, List, [], ◌∷◌, refl, sym, ap, ◌∙◌, IsTotalOrder, slice_cmp, nat_cmp, ordering_then, ordering_reverse, is_eq, Outcome}
 use Rattle.std.specs.declared.cmp.Ordering.{Ordering, TheVariants.Less, TheVariants.Equal}
-use Rattle.std.proofs.lemmas.Cmp.{nat_cmp_total, lists_total, on_total, then_total}
+use Rattle.std.proofs.lemmas.Cmp.{nat_cmp_total, lists_total, on_total, then_total, tied_itself}
 use Rattle.std.proofs.lemmas.Map.Lookups.{CmpEqualImpliesEq, exact_unsigned}
+use Rattle.std.specs.Cmp.{Equal-is}
 use Rattle.tso_program.specs.Ordered.{outcome_cmp}
 
 both_equal : (a b : Ordering) → ordering_then a b ≡ Equal → (a ≡ Equal) × (b ≡ Equal)
@@ -28,23 +29,14 @@ exact_outcomes a b e =
 pub outcomes_ordered : IsTotalOrder outcome_cmp
 outcomes_ordered = then_total (on_total (λ (o : Outcome). o.registers) (lists_total (lists_total nat_cmp_total))) (on_total (λ (o : Outcome). o.memory) (lists_total nat_cmp_total))
 
--- an order's answer of one thing and itself
-its_own_reverse : (r : Ordering) → r ≡ ordering_reverse r → r ≡ Equal
-its_own_reverse Equal e = refl
-its_own_reverse r e = absurd cc
-
-is_equal : (r : Ordering) → is_eq r ≡ true → r ≡ Equal
-is_equal Equal e = refl
-is_equal r e = absurd cc
-
 -- an outcome compares equal to itself
 pub equal_itself : (o : Outcome) → outcome_cmp o o ≡ Equal
-equal_itself o = its_own_reverse (outcome_cmp o o) (outcomes_ordered.antisymm o o)
+equal_itself o = tied_itself outcomes_ordered o
 
 -- the order's test of two outcomes
 pub same_by_order : (a b : Outcome) → (is_eq (outcome_cmp a b) ≡ true) ↔ (a ≡ b)
 same_by_order a b = (
-  (λ found. exact_outcomes a b (is_equal (outcome_cmp a b) found)),
+  (λ found. exact_outcomes a b ((Equal-is (outcome_cmp a b)).0 found)),
   (λ same. ap is_eq (ap (outcome_cmp a) (sym same) ∙ equal_itself a)),
 )
 

@@ -13,9 +13,6 @@ same_place xs ys i long same = elim (cases_lt i (length ys)) [
   | inr h ↦ slice_get_past xs i (omega arith) ∙ sym (slice_get_past ys i h)
 ]
 
-kept : (b : Bool) (v : ℕ) → b ≡ true → value_if b v ≡ v
-kept b v e = ap (λ (c : Bool). value_if c v) e
-
 -- the value of a register, where there is its thread
 abbrev at_number : Reg → Option (List ℕ) → Option ℕ
 at_number r held = option_and_then (λ registers. slice_get registers (number r)) held
@@ -23,11 +20,11 @@ at_number r held = option_and_then (λ registers. slice_get registers (number r)
 module _ (shown : Shown) (o : Outcome) where
   location_kept : (l : ℕ) → shows_location shown l ≡ true → location_at (shown_values shown o) l ≡ location_at o l
   location_kept l h = same_place (show_memory shown o.memory) o.memory l (memory_long shown o.memory)
-      (λ within. value_at shown o.memory l within ∙ kept (shows_location shown l) (get_or o.memory l 0) h)
+      (λ within. value_at shown o.memory l within ∙ ap (λ (b : Bool). value_if b (get_or o.memory l 0)) h)
 
   of_thread : (held : List ℕ) (t r : ℕ) → shows_register shown t r ≡ true → slice_get (shown_registers shown t held) r ≡ slice_get held r
   of_thread held t r h = same_place (shown_registers shown t held) held r (registers_long shown t held)
-      (λ within. register_at shown t held r within ∙ kept (shows_register shown t r) (get_or held r 0) h)
+      (λ within. register_at shown t held r within ∙ ap (λ (b : Bool). value_if b (get_or held r 0)) h)
 
   -- the register of a thread that is there, and of one that is not
   register_of : (t : ℕ) (r : Reg) → shows_register shown t (number r) ≡ true → final_register (shown_values shown o) t r ≡ final_register o t r

@@ -50,13 +50,10 @@ instr_itself (Je a) = (Decides-eqb a a).1 refl
 instr_itself (Jne a) = (Decides-eqb a a).1 refl
 instr_itself (Jmp a) = (Decides-eqb a a).1 refl
 
-instr_decides : (x y : Instr) → Decides (instr.ghosts.eq x y) (x ≡ y)
-instr_decides x y = (instr_same x y, λ e. subst (λ z. instr.ghosts.eq x z ≡ true) e (instr_itself x))
-
 parts_decide : (a b : Thread) → Decides (thread.ghosts.eq a b) ((a.code ≡ b.code) × (a.registers ≡ b.registers))
 parts_decide a b =
     Decides-and (pointwise instr.ghosts.eq a.code b.code) (pointwise nat_eq a.registers b.registers)
-    (slice_eq-Decides instr_decides a.code b.code (pointwise instr.ghosts.eq a.code b.code) refl)
+    (slice_eq-Decides (λ x y. (instr_same x y, λ e. subst (λ z. instr.ghosts.eq x z ≡ true) e (instr_itself x))) a.code b.code (pointwise instr.ghosts.eq a.code b.code) refl)
     (slice_eq-Decides Decides-eqb a.registers b.registers (pointwise nat_eq a.registers b.registers) refl)
 
 pub thread_decides : (a b : Thread) → Decides (thread.ghosts.eq a b) (a ≡ b)

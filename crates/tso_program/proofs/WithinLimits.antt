@@ -11,12 +11,6 @@ use Rattle.gap_sets.specs.declared.gap_set.TheConstants.{MAX_GAPS}
 
 -- what each test says
 
-some_of : (n : ℕ) → (n == 0) ≡ false → 0 < n
-some_of n h = grind (arith, nat_tests)
-
-not_none : (n : ℕ) → 0 < n → (n == 0) ≡ false
-not_none n h = grind (arith, nat_tests)
-
 -- a test of what an instruction names or jumps to, where it names or jumps to something
 tested : (p : ℕ → Bool) (o : Option ℕ) (n : ℕ) → option_map_or p o false ≡ false → o ≡ Some n → p n ≡ false
 tested p o n e is = ap (λ z. option_map_or p z false) (sym is) ∙ e
@@ -62,9 +56,6 @@ tests longest threads memory e =
     let t = each_fails (shared_refusals longest threads memory) e in
     let place = neither (nat_lt MAX_LOCATIONS (length memory)) (some_astray (length memory) threads) t.1.1.1.0 in
     record { none = t.0; many = t.1.0; long = t.1.1.0; places = place.0; astray = place.1; accesses = t.1.1.1.1.0; backward = t.1.1.1.1.1.0; past_end = t.1.1.1.1.1.1.0 }
-
-no_tests : (longest : ℕ) (threads : List Thread) (memory : List ℕ) → NoTest longest threads memory → first_true (shared_refusals longest threads memory) ≡ None
-no_tests longest threads memory t = rw (t.none, t.many, t.long, t.places, t.astray, t.accesses, t.backward, t.past_end) refl
 
 -- from the tests to the facts
 
@@ -113,7 +104,7 @@ shared_within : (longest : ℕ) (threads : List Thread) (memory : List ℕ) → 
 shared_within longest threads memory e =
     let t = tests longest threads memory e in
     record {
-      some_thread = some_of (length threads) t.none;
+      some_thread = grind (arith, nat_tests, t.none);
       few_threads = ltb-false MAX_THREADS (length threads) t.many;
       short_threads = λ u. short_code longest threads u t.long;
       few_locations = ltb-false MAX_LOCATIONS (length memory) t.places;
@@ -140,10 +131,6 @@ module _ (longest : ℕ) (threads : List Thread) (memory : List ℕ) (w : IsWith
   instr_there : (t k : ℕ) (x : Instr) (thread : Thread) → slice_get threads t ≡ Some thread → slice_get thread.code k ≡ Some x → instr_at threads t k ≡ Some x
   instr_there t k x thread e f = rw (code_found threads t thread e) f
 
-  no_long : is_some (first_long longest threads) ≡ false
-  no_long = none_found (λ (x : Thread). nat_lt longest (length x.code)) threads (λ t thread e.
-      le-ltb longest (length thread.code) (rw (code_found threads t thread e) at (w.short_threads t)))
-
   no_astray : some_astray (length memory) threads ≡ false
   no_astray = none_any (λ (x : Thread). list_any (is_astray (length memory)) x.code) threads (λ t thread e.
       none_any (is_astray (length memory)) thread.code (λ k x f.
@@ -165,16 +152,11 @@ module _ (longest : ℕ) (threads : List Thread) (memory : List ℕ) (w : IsWith
       le-ltb (length thread.code) target (rw (code_found threads t thread e) at (w.inner_jumps t k target x (instr_there t k x thread e f) is)))))
 
   shared_refused_not : first_true (shared_refusals longest threads memory) ≡ None
-  shared_refused_not = no_tests longest threads memory (record {
-    none = not_none (length threads) w.some_thread;
-    many = le-ltb MAX_THREADS (length threads) w.few_threads;
-    long = no_long;
-    places = le-ltb MAX_LOCATIONS (length memory) w.few_locations;
-    astray = no_astray;
-    accesses = le-ltb MAX_ACCESSES (sum_by accesses_of threads) w.few_accesses;
-    backward = no_backward;
-    past_end = no_past_end;
-  })
+  shared_refused_not =
+      let none : (length threads == 0) ≡ false = grind (arith, nat_tests, w.some_thread) in
+      let long : is_some (first_long longest threads) ≡ false = none_found (λ (x : Thread). nat_lt longest (length x.code)) threads (λ t thread e.
+      le-ltb longest (length thread.code) (rw (code_found threads t thread e) at (w.short_threads t))) in
+      rw (none, le-ltb MAX_THREADS (length threads) w.few_threads, long, le-ltb MAX_LOCATIONS (length memory) w.few_locations, no_astray, le-ltb MAX_ACCESSES (sum_by accesses_of threads) w.few_accesses, no_backward, no_past_end) refl
 
 refused_not : (threads : List Thread) (memory : List ℕ) → IsWithinLimits threads memory → first_fault threads memory ≡ None
 refused_not threads memory w =

@@ -51,13 +51,7 @@ module _ (p : Listing) (mode : Machine) (c : Candidate) (l : ℕ) where
 
   one_more : (e : Event) (es : List Event) → After es → After (e ∷ es)
   one_more e es old = elim (writes_or_not e) [
-    | inr other ↦ record {
-      event = old.event;
-      value = old.value;
-      writes = old.writes;
-      after = λ d w h a. elim h [ inl q ↦ absurd (other w (subst (λ z. Writes (access p mode c) z l w) q a)) | inr i ↦ old.after d w i a ];
-      initial = old.initial;
-    }
+    | inr other ↦ still (λ w a. absurd (other w a))
     | inl mine ↦ elim (cases_lt (c.rank old.event) (c.rank e)) [
       | inl less ↦ record {
         event = e;
@@ -66,15 +60,18 @@ module _ (p : Listing) (mode : Machine) (c : Candidate) (l : ℕ) where
         after = λ d w h a. elim h [ inl q ↦ (let z = ap c.rank q in omega arith) | inr i ↦ (let z = old.after d w i a in omega arith) ];
         initial = let z = old.initial in omega arith;
       }
-      | inr more ↦ record {
+      | inr more ↦ still (λ w a. more)
+    ]
+  ]
+    where
+      still : ((w : ℕ) → Writes (access p mode c) e l w → c.rank e ≤ c.rank old.event) → After (e ∷ es)
+      still le = record {
         event = old.event;
         value = old.value;
         writes = old.writes;
-        after = λ d w h a. elim h [ inl q ↦ (let z = ap c.rank q in omega arith) | inr i ↦ old.after d w i a ];
+        after = λ d w h a. elim h [ inl q ↦ rw q (le w (subst (λ z. Writes (access p mode c) z l w) q a)) | inr i ↦ old.after d w i a ];
         initial = old.initial;
       }
-    ]
-  ]
 
   last_of : (es : List Event) → After es
   last_of [] = record { event = Initial l; value = slice_index p.memory l; writes = (_, refl, refl, refl); after = λ d w h. absurd h; initial = omega arith }

@@ -1,16 +1,18 @@
 -- No edge leads into an initial write, so no cycle passes through one.
-use Rattle.candidate_executions.proofs.Vocabulary.{◌≡◌, ℕ, zero, suc, ◌<◌, List, [], ◌∷◌, Option, Some, None, IsSome, Contains, refl, sym, ap, ◌∙◌, subst, inl, inr, arith, same_Some, Listing, Machine}
+use Rattle.candidate_executions.proofs.Vocabulary.{◌⊎◌, ◌≡◌, ℕ, zero, suc, ◌<◌, List, [], ◌∷◌, Option, Some, None, IsSome, Contains, refl, sym, ap, ◌∙◌, subst, inl, inr, arith, same_Some, Listing, Machine}
 use Rattle.candidate_executions.proofs.Vocabulary.{Access, Event, Initial, At, Kind, Candidate, access, access_by, IsCandidate, Precedes, WriteOrder, FromReads, Edge, Leads, IsCycle, Sketch, given_to}
 use Rattle.candidate_executions.proofs.Vocabulary.{IsSketch, IsBefore, KnownEdge, NoEdgeLeadsIntoInitial, CyclesAreOfAccesses, NoKnownEdgeLeadsIntoInitial, KnownCyclesAreOfAccesses}
 use Rattle.candidate_executions.specs.declared.event.Kind.TheVariants as union
 use Rattle.candidate_executions.proofs.Candidates.WrittenValues.{stored_as, some_written}
+use Rattle.candidate_executions.proofs.Orders.Lists.{not_some}
 
 no_order : (d : Event) (l : ℕ) → Precedes d (Initial l) → ⊥
 no_order (Initial k) l h = h
 no_order (At t i) l h = h
 
-unread : (y : Access) → y.read ≡ None → IsSome y.read → ⊥
-unread y q h = let z : IsSome {T = ℕ} None = rw q at h in cc
+-- a union of which no part leads there
+neither : {P R W F : Type 0} → P ⊎ (R ⊎ (W ⊎ F)) → (P → ⊥) → (R → ⊥) → (W → ⊥) → (F → ⊥) → ⊥
+neither h p r w f = elim h [ inl a ↦ p a | inr (inl a) ↦ r a | inr (inr (inl a)) ↦ w a | inr (inr (inr a)) ↦ f a ]
 
 module _ (p : Listing) (mode : Machine) (c : Candidate) (is : IsCandidate p mode c) where
   least : (e : Event) (x y : Access) (l : ℕ) → access p mode c e ≡ Some x → x.location ≡ y.location → IsSome x.written →
@@ -26,25 +28,16 @@ module _ (p : Listing) (mode : Machine) (c : Candidate) (is : IsCandidate p mode
   no_from_reads d l x y a b r = go x.read refl
     where
       go : (o : Option ℕ) → x.read ≡ o → ⊥
-      go None q = unread x q r.1
+      go None q = not_some x.read q r.1
       go (Some v) q = let s = (is.sources d x v a q).1 in least (c.source d) s.0 y l s.1 (s.2 ∙ r.0) (rw s.3 refl) b r.4
 
   no_read : (l : ℕ) (y : Access) → access p mode c (Initial l) ≡ Some y → IsSome y.read → ⊥
-  no_read l y b h = unread y (sym (ap (λ (z : Access). z.read) (same_Some _ y b))) h
+  no_read l y b h = not_some y.read (sym (ap (λ (z : Access). z.read) (same_Some _ y b))) h
 
   pub no_edge : (kind : Kind) (d : Event) (l : ℕ) → Edge p mode c kind d (Initial l) → ⊥
-  no_edge union.Sequential d l (x, y, a, b, inl r) = no_order d l r
-  no_edge union.Sequential d l (x, y, a, b, inr (inl r)) = no_read l y b r.0
-  no_edge union.Sequential d l (x, y, a, b, inr (inr (inl r))) = no_write_order d l x y a b r
-  no_edge union.Sequential d l (x, y, a, b, inr (inr (inr r))) = no_from_reads d l x y a b r
-  no_edge union.Location d l (x, y, a, b, inl r) = no_order d l r.0
-  no_edge union.Location d l (x, y, a, b, inr (inl r)) = no_read l y b r.0
-  no_edge union.Location d l (x, y, a, b, inr (inr (inl r))) = no_write_order d l x y a b r
-  no_edge union.Location d l (x, y, a, b, inr (inr (inr r))) = no_from_reads d l x y a b r
-  no_edge union.Global d l (x, y, a, b, inl r) = no_order d l r.0
-  no_edge union.Global d l (x, y, a, b, inr (inl r)) = no_read l y b r.0.0
-  no_edge union.Global d l (x, y, a, b, inr (inr (inl r))) = no_write_order d l x y a b r
-  no_edge union.Global d l (x, y, a, b, inr (inr (inr r))) = no_from_reads d l x y a b r
+  no_edge union.Sequential d l (x, y, a, b, h) = neither h (no_order d l) (λ r. no_read l y b r.0) (no_write_order d l x y a b) (no_from_reads d l x y a b)
+  no_edge union.Location d l (x, y, a, b, h) = neither h (λ r. no_order d l r.0) (λ r. no_read l y b r.0) (no_write_order d l x y a b) (no_from_reads d l x y a b)
+  no_edge union.Global d l (x, y, a, b, h) = neither h (λ r. no_order d l r.0) (λ r. no_read l y b r.0.0) (no_write_order d l x y a b) (no_from_reads d l x y a b)
 
 -- on a way from an event every other event has an edge that leads into it
 module _ (R : Event → Event → Type 0) (x : Event) (closed : (d : Event) → R d x → ⊥) where
@@ -74,21 +67,12 @@ module _ (p : Listing) (mode : Machine) (k : Sketch) (fits : IsSketch p mode k) 
 
   no_source : (d : Event) (l : ℕ) → Contains k.sources (Initial l, d) → ⊥
   no_source d l h = let (x, v, a, r, ne, w) = fits.sources (Initial l) d h in
-      unread x (sym (ap (λ (z : Access). z.read) (same_Some _ x a))) (rw r refl)
+      not_some x.read (sym (ap (λ (z : Access). z.read) (same_Some _ x a))) (rw r refl)
 
   pub no_known_edge : (kind : Kind) (d : Event) (l : ℕ) → KnownEdge p mode k kind d (Initial l) → ⊥
-  no_known_edge union.Sequential d l (x, y, a, b, inl r) = no_order d l r
-  no_known_edge union.Sequential d l (x, y, a, b, inr (inl r)) = no_source d l r
-  no_known_edge union.Sequential d l (x, y, a, b, inr (inr (inl r))) = no_before d l y b r
-  no_known_edge union.Sequential d l (x, y, a, b, inr (inr (inr r))) = no_before r.0 l y b r.2
-  no_known_edge union.Location d l (x, y, a, b, inl r) = no_order d l r.0
-  no_known_edge union.Location d l (x, y, a, b, inr (inl r)) = no_source d l r
-  no_known_edge union.Location d l (x, y, a, b, inr (inr (inl r))) = no_before d l y b r
-  no_known_edge union.Location d l (x, y, a, b, inr (inr (inr r))) = no_before r.0 l y b r.2
-  no_known_edge union.Global d l (x, y, a, b, inl r) = no_order d l r.0
-  no_known_edge union.Global d l (x, y, a, b, inr (inl r)) = no_source d l r.0
-  no_known_edge union.Global d l (x, y, a, b, inr (inr (inl r))) = no_before d l y b r
-  no_known_edge union.Global d l (x, y, a, b, inr (inr (inr r))) = no_before r.0 l y b r.2
+  no_known_edge union.Sequential d l (x, y, a, b, h) = neither h (no_order d l) (no_source d l) (no_before d l y b) (λ r. no_before r.0 l y b r.2)
+  no_known_edge union.Location d l (x, y, a, b, h) = neither h (λ r. no_order d l r.0) (no_source d l) (no_before d l y b) (λ r. no_before r.0 l y b r.2)
+  no_known_edge union.Global d l (x, y, a, b, h) = neither h (λ r. no_order d l r.0) (λ r. no_source d l r.0) (no_before d l y b) (λ r. no_before r.0 l y b r.2)
 
 pub no_edge_into_initial : NoEdgeLeadsIntoInitial
 no_edge_into_initial p mode c kind d l is h = no_edge p mode c is kind d l h

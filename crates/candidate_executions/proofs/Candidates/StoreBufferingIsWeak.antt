@@ -1,11 +1,12 @@
 -- Store buffering: both reads give 0 with no gap fenced, and neither sequentially nor with both gaps fenced.
-use Rattle.candidate_executions.proofs.Vocabulary.{◌≡◌, ◌≢◌, ℕ, zero, suc, ◌-◌, ◌<◌, ◌≤◌, ◌⊎◌, List, [], ◌∷◌, Some, None, IsSome, slice_index, refl, sym, ap, ◌∙◌, subst, inl, inr, arith, lit<}
+use Rattle.candidate_executions.proofs.Vocabulary.{◌≡◌, ◌≢◌, ℕ, zero, suc, ◌-◌, ◌<◌, ◌≤◌, ◌⊎◌, List, [], ◌∷◌, Some, None, slice_index, refl, sym, ap, ◌∙◌, subst, inl, inr, arith, lit<}
 use Rattle.candidate_executions.proofs.Vocabulary.{same_Some, Stop, action, SequentialMachine, StoreBufferMachine, no_gaps, Access, Event, Initial, At, trace_of, access, Writes, EndsWith, IsCandidate}
 use Rattle.candidate_executions.proofs.Vocabulary.{HasOutcome, Precedes, KeepsOrder, ReadsFrom, WriteOrder, FromReads, IsCycle, Edge, IsConsistent}
 use Rattle.tso_machine.specs.Examples.{store_buffering}
 use Rattle.candidate_executions.specs.declared.event.Kind.TheVariants as union
 use Rattle.candidate_executions.specs.StoreBuffering.{both_zero, initial_source, both_gaps, zeros_read, StoreBufferingCandidates}
 use Rattle.candidate_executions.proofs.Orders.ForwardIsAcyclic.{Pair, Less, acyclic_by}
+use Rattle.candidate_executions.proofs.Orders.Lists.{not_some}
 
 -- store, load, store, load
 abbrev around : List Event
@@ -71,16 +72,10 @@ source_is_initial : (e : Event) (t i : ℕ) (u j : ℕ) → e ≡ At u j → ini
 source_is_initial e t i zero j q h = let z : initial_source (At zero j) ≡ At t i = subst (λ w. initial_source w ≡ At t i) q h in cc
 source_is_initial e t i (suc u) j q h = let z : initial_source (At (suc u) j) ≡ At t i = subst (λ w. initial_source w ≡ At t i) q h in cc
 
-no_read : (x : Access) → x.read ≡ None → IsSome x.read → ⊥
-no_read x q h = let z : IsSome {T = ℕ} None = rw q at h in cc
-
-no_write : (x : Access) → x.written ≡ None → IsSome x.written → ⊥
-no_write x q h = let z : IsSome {T = ℕ} None = rw q at h in cc
-
 into_initial : (d : Event) (l : ℕ) (x y : Access) → access store_buffering (StoreBufferMachine no_gaps) both_zero (Initial l) ≡ Some y → Both d x (Initial l) y → ⊥
 into_initial (Initial k) l x y b (inl p) = p.0
 into_initial (At t i) l x y b (inl p) = p.0
-into_initial d l x y b (inr (inl r)) = no_read y (initials l y b) r.0
+into_initial d l x y b (inr (inl r)) = not_some y.read (initials l y b) r.0
 into_initial d l x y b (inr (inr (inl o))) = let z = o.3 in omega arith
 into_initial d l x y b (inr (inr (inr f))) = let z = f.4 in omega arith
 
@@ -91,7 +86,7 @@ goes_up (Initial l) (At u (suc j)) x y a b r = inl (lit< tt)
 goes_up (At t (suc i)) (At u zero) x y a b r = inl (lit< tt)
 goes_up (At t (suc i)) (At u (suc j)) x y a b (inl p) = absurd (let f = (reads u j y b).1 in let n = p.0.1 in omega arith)
 goes_up (At t (suc i)) (At u (suc j)) x y a b (inr (inl r)) = absurd (source_is_initial _ t (suc i) u (suc j) refl r.1)
-goes_up (At t (suc i)) (At u (suc j)) x y a b (inr (inr m)) = absurd (no_write y (ap (λ (z : Access). z.written) (reads u j y b).2) (elim m [ inl o ↦ o.2 | inr f ↦ f.2 ]))
+goes_up (At t (suc i)) (At u (suc j)) x y a b (inr (inr m)) = absurd (not_some y.written (ap (λ (z : Access). z.written) (reads u j y b).2) (elim m [ inl o ↦ o.2 | inr f ↦ f.2 ]))
 goes_up (At t zero) (At u zero) x y a b (inl p) = absurd (let n = p.0.1 in omega arith)
 goes_up (At t zero) (At u (suc j)) x y a b (inl p) = absurd (
     let f : x ≡ write_of t = (writes t x a).1 in
@@ -99,17 +94,17 @@ goes_up (At t zero) (At u (suc j)) x y a b (inl p) = absurd (
     let h = (writes t x a).0 in let q = p.0.0 in
     elim p.1 [
       | inl l ↦ (let z : t ≡ 1 - u = sym (ap (λ (z : Access). z.location) f) ∙ (l ∙ ap (λ (z : Access). z.location) g) in omega arith)
-      | inr (inl r) ↦ no_read x (ap (λ (z : Access). z.read) f) r
-      | inr (inr (inl w)) ↦ no_write y (ap (λ (z : Access). z.written) g) w
+      | inr (inl r) ↦ not_some x.read (ap (λ (z : Access). z.read) f) r
+      | inr (inr (inl w)) ↦ not_some y.written (ap (λ (z : Access). z.written) g) w
       | inr (inr (inr s)) ↦ s (ap (λ (z : Access). z.section) f ∙ sym (ap (λ (z : Access). z.section) g))
     ])
 goes_up (At t zero) (At u j) x y a b (inr (inl r)) = absurd (source_is_initial _ t zero u j refl r.1)
-goes_up (At t zero) (At u (suc j)) x y a b (inr (inr m)) = absurd (no_write y (ap (λ (z : Access). z.written) (reads u j y b).2) (elim m [ inl o ↦ o.2 | inr f ↦ f.2 ]))
+goes_up (At t zero) (At u (suc j)) x y a b (inr (inr m)) = absurd (not_some y.written (ap (λ (z : Access). z.written) (reads u j y b).2) (elim m [ inl o ↦ o.2 | inr f ↦ f.2 ]))
 goes_up (At t zero) (At u zero) x y a b (inr (inr m)) = absurd (
     let f : x ≡ write_of t = (writes t x a).1 in
     let g : y ≡ write_of u = (writes u y b).1 in
     let z : t ≡ u = sym (ap (λ (z : Access). z.location) f) ∙ (elim m [ inl o ↦ o.0 | inr r ↦ r.0 ] ∙ ap (λ (z : Access). z.location) g) in
-    elim m [ inl o ↦ (let n = o.3 in omega arith) | inr r ↦ no_read x (ap (λ (z : Access). z.read) f) r.1 ])
+    elim m [ inl o ↦ (let n = o.3 in omega arith) | inr r ↦ not_some x.read (ap (λ (z : Access). z.read) f) r.1 ])
 
 consistent_unfenced : IsConsistent store_buffering (StoreBufferMachine no_gaps) both_zero
 consistent_unfenced = (
@@ -124,28 +119,23 @@ which_write (At t zero) l v a =
     let f = writes t a.0 a.1 in
     let same : t ≡ l = sym (ap (λ (z : Access). z.location) f.1) ∙ a.2 in
     inr (ap (λ z. At z 0) same, subst (λ z. z < 2) same f.0)
-which_write (At t (suc j)) l v a = absurd (no_write a.0 (ap (λ (z : Access). z.written) (reads t j a.0 a.1).2) (rw a.3 refl))
+which_write (At t (suc j)) l v a = absurd (not_some a.0.written (ap (λ (z : Access). z.written) (reads t j a.0 a.1).2) (rw a.3 refl))
 
 -- a read gives 0, of the other thread's location
 which_read : (e : Event) (x : Access) (v : ℕ) → access store_buffering (StoreBufferMachine no_gaps) both_zero e ≡ Some x → x.read ≡ Some v →
     (v ≡ 0) × (both_zero.source e ≡ Initial x.location) × (e ≢ Initial x.location) × (slice_index store_buffering.memory x.location ≡ 0)
-which_read (Initial l) x v a r = absurd (no_read x (initials l x a) (rw r refl))
-which_read (At t zero) x v a r = absurd (no_read x (ap (λ (z : Access). z.read) (writes t x a).1) (rw r refl))
+which_read (Initial l) x v a r = absurd (not_some x.read (initials l x a) (rw r refl))
+which_read (At t zero) x v a r = absurd (not_some x.read (ap (λ (z : Access). z.read) (writes t x a).1) (rw r refl))
 which_read (At t (suc j)) x v a r =
     let f = reads t j x a in
     let z : Some 0 ≡ Some v = sym (ap (λ (z : Access). z.read) f.2) ∙ r in
     let l : 1 - t ≡ x.location = sym (ap (λ (z : Access). z.location) f.2) in
-    (sym (same_Some 0 v z), subst (λ z. initial_source (At t (suc j)) ≡ Initial z) l (of_thread t f.0), (λ e. cc), subst (λ z. slice_index store_buffering.memory z ≡ 0) l (holds_zero t f.0))
+    (sym (same_Some 0 v z), subst (λ z. initial_source (At t (suc j)) ≡ Initial z) l (of_thread t f.0).0, (λ e. cc), subst (λ z. slice_index store_buffering.memory z ≡ 0) l (of_thread t f.0).1)
   where
-    of_thread : (t : ℕ) → t < 2 → initial_source (At t (suc j)) ≡ Initial (1 - t)
-    of_thread zero h = refl
-    of_thread (suc zero) h = refl
+    of_thread : (t : ℕ) → t < 2 → (initial_source (At t (suc j)) ≡ Initial (1 - t)) × (slice_index store_buffering.memory (1 - t) ≡ 0)
+    of_thread zero h = (refl, refl)
+    of_thread (suc zero) h = (refl, refl)
     of_thread (suc (suc t)) h = absurd (omega arith)
-
-    holds_zero : (t : ℕ) → t < 2 → slice_index store_buffering.memory (1 - t) ≡ 0
-    holds_zero zero h = refl
-    holds_zero (suc zero) h = refl
-    holds_zero (suc (suc t)) h = absurd (omega arith)
 
 is_candidate : IsCandidate store_buffering (StoreBufferMachine no_gaps) both_zero
 is_candidate = record {

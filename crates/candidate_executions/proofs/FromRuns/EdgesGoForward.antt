@@ -3,7 +3,7 @@ use Rattle.candidate_executions.proofs.Vocabulary.{◌≡◌, ◌≢◌, ℕ, su
 use Rattle.candidate_executions.proofs.Vocabulary.{Initial, At, Precedes, Relates, IsAcyclic, WriteOrder, FromReads}
 use Rattle.candidate_executions.specs.declared.event.Kind.TheVariants as union
 use Rattle.candidate_executions.proofs.{Orders.Lists.some_value, FromRuns.Histories.Entry, FromRuns.Histories.History, FromRuns.Histories.Holds, FromRuns.Histories.Visible, FromRuns.Histories.Good}
-use Rattle.candidate_executions.proofs.Orders.ForwardIsAcyclic.{Pair, Less, near, nearer, acyclic_by}
+use Rattle.candidate_executions.proofs.Orders.ForwardIsAcyclic.{Less, near, nearer, acyclic_by}
 use Rattle.candidate_executions.proofs.FromRuns.CandidateOfHistory.{moment_of_entry, moment_of, source_of_entry, source_of, candidate_with, key_of_entry, key_of, Shows, mapped}
 
 module _ (init : ℕ → ℕ) (h : History) (good : Good init h) (at : Event → Option Access) (shows : Shows at h) where
@@ -16,18 +16,12 @@ module _ (init : ℕ → ℕ) (h : History) (good : Good init h) (at : Event →
   pub source_at : (t i : ℕ) (e : Entry) → Holds h t i e → source_of h (At t i) ≡ e.source
   source_at t i e a = ap source_of_entry a
 
-  key_at : (t i : ℕ) (e : Entry) → Holds h t i e → key_of h (At t i) ≡ key_of_entry (Some e)
-  key_at t i e a = ap key_of_entry a
-
   -- the source's moment
   pub seen_at : (t i : ℕ) (e : Entry) → Holds h t i e → IsSome e.access.read → moment_of h (source_of h (At t i)) ≡ e.seen
-  seen_at t i e a r = go (some_value e.access.read r)
-    where
-      go : (v : ℕ) × (e.access.read ≡ Some v) → moment_of h (source_of h (At t i)) ≡ e.seen
-      go v = elim (good.source t i e v.0 a v.1) [
-        | inl f ↦ ap (moment_of h) (source_at t i e a ∙ f.is_source) ∙ sym f.seen
-        | inr s ↦ ap (moment_of h) (source_at t i e a ∙ s.is_source) ∙ (moment_at s.thread s.index s.write s.holds ∙ sym s.seen)
-      ]
+  seen_at t i e a r = let v = some_value e.access.read r in elim (good.source t i e v.0 a v.1) [
+    | inl f ↦ ap (moment_of h) (source_at t i e a ∙ f.0) ∙ sym f.1
+    | inr s ↦ ap (moment_of h) (source_at t i e a ∙ s.0.is_event) ∙ (moment_at s.0.thread s.0.index s.0.write s.0.holds ∙ sym s.0.at)
+  ]
 
   -- from-reads goes forward in moments
   from_read : (t i u j : ℕ) (e w : Entry) → Holds h t i e → Holds h u j w → IsSome e.access.read → IsSome w.access.written →
@@ -80,10 +74,10 @@ module _ (init : ℕ → ℕ) (h : History) (good : Good init h) (at : Event →
       let first : 0 < g.exec = good.first t i g gh in
       let s' : d ≡ g.source = sym s ∙ source_at t i g gh in
       rw (moment_at t i g gh) (elim (good.source t i g v.0 gh v.1) [
-        | inl f ↦ rw (s' ∙ f.is_source) (omega arith)
-        | inr w ↦ rw (s' ∙ w.is_source, moment_at w.thread w.index w.write w.holds) (elim w.visible [
+        | inl f ↦ rw (s' ∙ f.0) (omega arith)
+        | inr w ↦ rw (s' ∙ w.0.is_event, moment_at w.0.thread w.0.index w.0.write w.0.holds) (elim w.1 [
           | inl q ↦ omega arith
-          | inr q ↦ own t i w.index g w.write gh (subst (λ u. Holds h u w.index w.write) q.0 w.holds) q.1 (s' ∙ w.is_source ∙ ap (λ u. At u w.index) q.0) refl
+          | inr q ↦ own t i w.0.index g w.0.write gh (subst (λ u. Holds h u w.0.index w.0.write) q.0 w.0.holds) q.1 (s' ∙ w.0.is_event ∙ ap (λ u. At u w.0.index) q.0) refl
         ])
       ])
 
@@ -94,22 +88,15 @@ module _ (init : ℕ → ℕ) (h : History) (good : Good init h) (at : Event →
   global_forward given d e x y a b (inr (inl r)) = read_edge d e y b r.0.0 r.0.1 (λ t i j g w gh wh n q s. absurd (r.1 (rw (q, s) refl)))
   global_forward given d e x y a b (inr (inr m)) = memory_forward given d e x y a b m
 
-  -- the keys of a load and of a write
-  abbrev load_key : Entry → Pair
-  load_key e = (e.seen, suc e.exec)
-
-  abbrev write_key : Entry → Pair
-  write_key e = (e.moment, 0)
-
   -- a load has read, and what has not written is a load
   key_cases : (t i : ℕ) (e : Entry) → Holds h t i e →
-      (IsSome e.access.written × (key_of h (At t i) ≡ write_key e)) ⊎ (IsSome e.access.read × (key_of h (At t i) ≡ load_key e))
+      (IsSome e.access.written × (key_of h (At t i) ≡ (e.moment, 0))) ⊎ (IsSome e.access.read × (key_of h (At t i) ≡ (e.seen, suc e.exec)))
   key_cases t i e a = go e.access.written refl
     where
       go : (o : Option ℕ) → e.access.written ≡ o →
-          (IsSome e.access.written × (key_of h (At t i) ≡ write_key e)) ⊎ (IsSome e.access.read × (key_of h (At t i) ≡ load_key e))
-      go (Some v) q = inl (rw q refl, key_at t i e a ∙ rw q refl)
-      go None q = inr (elim (good.acts t i e a) [ inl r ↦ r | inr w ↦ (let bad : IsSome {T = ℕ} None = rw q at w in absurd cc) ], key_at t i e a ∙ rw q refl)
+          (IsSome e.access.written × (key_of h (At t i) ≡ (e.moment, 0))) ⊎ (IsSome e.access.read × (key_of h (At t i) ≡ (e.seen, suc e.exec)))
+      go (Some v) q = inl (rw q refl, ap key_of_entry a ∙ rw q refl)
+      go None q = inr (elim (good.acts t i e a) [ inl r ↦ r | inr w ↦ (let bad : IsSome {T = ℕ} None = rw q at w in absurd cc) ], ap key_of_entry a ∙ rw q refl)
 
   -- of an earlier and a later access of one thread to one location
   place_forward : (t j i : ℕ) (d e : Entry) → Holds h t j d → Holds h t i e → j < i → d.access.location ≡ e.access.location →
@@ -126,28 +113,25 @@ module _ (init : ℕ → ℕ) (h : History) (good : Good init h) (at : Event →
         | inr dr ↦ (let v = some_value d.access.read dr.0 in
             elim (key_cases t i e eh) [
               | inl ew ↦ (let goal : d.seen < e.moment = elim (good.source t j d v.0 dh v.1) [
-                | inl f ↦ (let z = f.seen in let y = good.first t j d dh in omega arith)
-                | inr s ↦ (let z = s.seen in elim s.visible [
+                | inl f ↦ (let z = f.1 in let y = good.first t j d dh in omega arith)
+                | inr s ↦ (let z = s.0.at in elim s.1 [
                   | inl q ↦ omega arith
-                  | inr q ↦ (let same : Holds h t s.index s.write = subst (λ u. Holds h u s.index s.write) q.0 s.holds in
-                      let k : s.write.moment < e.moment = good.kept t s.index i s.write e same eh (omega arith) (inr (inl ew.0)) in omega arith)
+                  | inr q ↦ (let same : Holds h t s.0.index s.0.write = subst (λ u. Holds h u s.0.index s.0.write) q.0 s.0.holds in
+                      let k : s.0.write.moment < e.moment = good.kept t s.0.index i s.0.write e same eh (omega arith) (inr (inl ew.0)) in omega arith)
                 ])
               ] in rw (dr.1, ew.1) (inl goal))
               | inr er ↦ (let goal : d.seen ≤ e.seen = elim (good.source t j d v.0 dh v.1) [
-                | inl f ↦ (let z = f.seen in omega arith)
-                | inr s ↦ (let z = s.seen in
-                    let w : IsSome s.write.access.written = rw s.written refl in
-                    let vis : Visible s.thread s.index s.write.moment t i e.exec = elim s.visible [ inl q ↦ inl (omega arith) | inr q ↦ inr (q.0, omega arith) ] in
-                    let k : s.write.moment ≤ e.seen = good.latest s.thread s.index t i s.write e s.holds eh er.0 w (s.location ∙ l) vis in omega arith)
+                | inl f ↦ (let z = f.1 in omega arith)
+                | inr s ↦ (let z = s.0.at in
+                    let w : IsSome s.0.write.access.written = rw s.0.written refl in
+                    let vis : Visible s.0.thread s.0.index s.0.write.moment t i e.exec = elim s.1 [ inl q ↦ inl (omega arith) | inr q ↦ inr (q.0, omega arith) ] in
+                    let k : s.0.write.moment ≤ e.seen = good.latest s.0.thread s.0.index t i s.0.write e s.0.holds eh er.0 w (s.0.location ∙ l) vis in omega arith)
               ] in rw (dr.1, er.1) (nearer d.seen e.seen (suc d.exec) (suc e.exec) goal (omega arith)))
             ])
       ]
 
-  written_key : (t i : ℕ) (e : Entry) → Holds h t i e → IsSome e.access.written → key_of h (At t i) ≡ write_key e
-  written_key t i e a w = go (some_value e.access.written w)
-    where
-      go : (v : ℕ) × (e.access.written ≡ Some v) → key_of h (At t i) ≡ write_key e
-      go v = key_at t i e a ∙ rw v.1 refl
+  written_key : (t i : ℕ) (e : Entry) → Holds h t i e → IsSome e.access.written → key_of h (At t i) ≡ (e.moment, 0)
+  written_key t i e a w = let v = some_value e.access.written w in ap key_of_entry a ∙ rw v.1 refl
 
   key_written : (d : Event) (x : Access) → at d ≡ Some x → IsSome x.written → key_of h d ≡ (moment_of h d, 0)
   key_written (Initial l) x a w = refl
@@ -157,29 +141,24 @@ module _ (init : ℕ → ℕ) (h : History) (good : Good init h) (at : Event →
       written_key t i f fh w' ∙ rw (moment_at t i f fh) refl
 
   read_forward : (t i : ℕ) (e : Entry) → Holds h t i e → IsSome e.access.read → Less (key_of h (source_of h (At t i))) (key_of h (At t i))
-  read_forward t i e eh r = go (some_value e.access.read r)
-    where
-      first : 0 < e.exec
-      first = good.first t i e eh
-
-      late : e.exec ≤ e.moment
-      late = good.delay t i e eh
-
-      go : (v : ℕ) × (e.access.read ≡ Some v) → Less (key_of h (source_of h (At t i))) (key_of h (At t i))
-      go v = elim (good.source t i e v.0 eh v.1) [
-        | inl f ↦ rw (source_at t i e eh, f.is_source) (elim (key_cases t i e eh) [
+  read_forward t i e eh r =
+      let v = some_value e.access.read r in
+      let first = good.first t i e eh in
+      let late = good.delay t i e eh in
+      elim (good.source t i e v.0 eh v.1) [
+        | inl f ↦ rw (source_at t i e eh, f.0) (elim (key_cases t i e eh) [
           | inl w ↦ rw w.1 (inl (omega (arith, first, late)))
           | inr l ↦ rw l.1 (near 0 e.seen e.exec (omega arith))
         ])
-        | inr s ↦ (let w' : IsSome s.write.access.written = rw s.written refl in
-            let seen : e.seen ≡ s.write.moment = s.seen in
-            rw (source_at t i e eh, s.is_source, written_key s.thread s.index s.write s.holds w') (elim (key_cases t i e eh) [
-              | inl w ↦ rw w.1 (inl (elim s.visible [
+        | inr s ↦ (let w' : IsSome s.0.write.access.written = rw s.0.written refl in
+            let seen : e.seen ≡ s.0.write.moment = s.0.at in
+            rw (source_at t i e eh, s.0.is_event, written_key s.0.thread s.0.index s.0.write s.0.holds w') (elim (key_cases t i e eh) [
+              | inl w ↦ rw w.1 (inl (elim s.1 [
                 | inl q ↦ omega (arith, late)
-                | inr q ↦ (let same : Holds h t s.index s.write = subst (λ u. Holds h u s.index s.write) q.0 s.holds in
-                    good.kept t s.index i s.write e same eh q.1 (inr (inl w.0)))
+                | inr q ↦ (let same : Holds h t s.0.index s.0.write = subst (λ u. Holds h u s.0.index s.0.write) q.0 s.0.holds in
+                    good.kept t s.0.index i s.0.write e same eh q.1 (inr (inl w.0)))
               ]))
-              | inr l ↦ rw l.1 (near s.write.moment e.seen e.exec (omega arith))
+              | inr l ↦ rw l.1 (near s.0.write.moment e.seen e.exec (omega arith))
             ]))
       ]
 

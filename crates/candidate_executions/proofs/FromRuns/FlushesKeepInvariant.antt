@@ -3,7 +3,7 @@ use Rattle.candidate_executions.proofs.Vocabulary.{◌≡◌, ℕ, suc, zero, �
 use Rattle.candidate_executions.proofs.Vocabulary.{put, Label, Flush, Pending, Event, At, Origins, with_waiting, with_memory}
 use Rattle.candidate_executions.proofs.{FromRuns.Histories.Entry, FromRuns.Histories.History, FromRuns.Histories.Holds, Orders.Lists.put_each, Orders.Lists.put_both}
 use Rattle.candidate_executions.proofs.FromRuns.FlushesDue.{due, due_late}
-use Rattle.candidate_executions.proofs.FromRuns.RunInvariant.{Latest, Stored, Waiting, Inv, stored_as}
+use Rattle.candidate_executions.proofs.FromRuns.RunInvariant.{Latest, Stored, Waiting, Inv, latest_to, latest_now, stored_as}
 
 module _ (init : ℕ → ℕ) (h : History) (buffers : ℕ → List Pending) (memory : ℕ → ℕ) (o : Origins) (n : ℕ) (section : ℕ → ℕ) where
   -- a flush
@@ -46,7 +46,8 @@ module _ (init : ℕ → ℕ) (h : History) (buffers : ℕ → List Pending) (me
       good = inv.good;
       positive = omega arith;
       early = λ u i e a. let z = inv.early u i e a in omega arith;
-      latest = put_both (Latest init h (suc n)) memory o.memory w.location w.value (At t head.index) now (λ k q. before k q (inv.latest k));
+      latest = put_both (Latest init h (suc n)) memory o.memory w.location w.value (At t head.index)
+          (latest_now refl head.holds head.location head.written (same_Some n head.entry.moment head.at)) (λ k q. before k q (inv.latest k));
       made = inv.made;
       long = put_both (λ u tags buffer. length tags ≡ length buffer) o.waiting buffers t others_wait.0 ws
           (let a = ap length others_wait.1 in let b = ap length full in let c = inv.long t in omega arith) (λ u s. inv.long u);
@@ -60,34 +61,8 @@ module _ (init : ℕ → ℕ) (h : History) (buffers : ℕ → List Pending) (me
             let s : Stored h t (o.waiting t) (due t n (Flush t ∷ ls)) (suc q) x = inv.stored t (suc q) x (rw full a) in
             stored_as s s.holds (rw due_same at s.at) (subst (λ es. slice_get es (suc q) ≡ Some (x.location, At t s.index)) others_wait.1 s.tag)
 
-        now : Latest init h (suc n) w.location w.value (At t head.index)
-        now = record {
-          event = At t head.index;
-          held_is = refl;
-          moment = n;
-          before = omega arith;
-          origin = inr (record {
-            thread = t;
-            index = head.index;
-            write = head.entry;
-            holds = head.holds;
-            is_event = refl;
-            location = head.location;
-            written = head.written;
-            at = same_Some n head.entry.moment head.at;
-          });
-          newest = λ u j d a b c k. omega arith;
-        }
-
         before : (k : ℕ) → (k ≡ w.location → ⊥) → Latest init h n k (memory k) (o.memory k) → Latest init h (suc n) k (memory k) (o.memory k)
-        before k q m = record {
-          event = m.event;
-          held_is = m.held_is;
-          moment = m.moment;
-          before = let z = m.before in omega arith;
-          origin = m.origin;
-          newest = λ u j d a b c z. elim (cases_lt d.moment n) [
-            | inl y ↦ m.newest u j d a b c y
-            | inr y ↦ elim (waits u j d a y) [ inl x ↦ absurd (q (sym b ∙ x.2)) | inr x ↦ absurd (let g = x.0 in omega arith) ]
-          ];
-        }
+        before k q m = latest_to m (λ w. w) (let z = m.before in omega arith) (λ u j d a b c z. elim (cases_lt d.moment n) [
+          | inl y ↦ m.newest u j d a b c y
+          | inr y ↦ elim (waits u j d a y) [ inl x ↦ absurd (q (sym b ∙ x.2)) | inr x ↦ absurd (let g = x.0 in omega arith) ]
+        ])

@@ -1,7 +1,7 @@
 -- A good history stays good with one more entry that fits.
 use Rattle.candidate_executions.proofs.Vocabulary.{◌≡◌, ◌≢◌, ℕ, ◌<◌, ◌≤◌, [], ◌∷◌, ◌++◌, ◌⊎◌, Some, IsSome, slice_get, sym, ◌∙◌, subst, inl, inr, arith, length, slice_get_within, put, KeepsOrder}
-use Rattle.candidate_executions.proofs.Vocabulary.{refl}
-use Rattle.candidate_executions.proofs.FromRuns.Histories.{Entry, History, Holds, Visible, Source, First, Good}
+use Rattle.candidate_executions.proofs.Vocabulary.{Event, refl}
+use Rattle.candidate_executions.proofs.FromRuns.Histories.{Entry, History, Holds, Visible, Wrote, wrote_by, Source, First, Good}
 use Rattle.candidate_executions.proofs.Orders.Lists.{put_same, get_end, get_front, get_cases, put_each}
 
 abbrev pub with_entry : History → ℕ → Entry → History
@@ -9,6 +9,9 @@ with_entry h t e = put h t (h t ++ e ∷ [])
 
 pub held_old : (h : History) (t : ℕ) (e : Entry) (u j : ℕ) (d : Entry) → Holds h u j d → Holds (with_entry h t e) u j d
 held_old h t e = put_each (λ u es. (j : ℕ) (d : Entry) → Holds h u j d → slice_get es j ≡ Some d) h t (h t ++ e ∷ []) (λ j d a. get_front (h t) e j d a) (λ u q j d a. a)
+
+abbrev pub wrote_old : (h : History) (t : ℕ) (e : Entry) (l v : ℕ) (event : Event) (m : ℕ) → Wrote h l v event m → Wrote (with_entry h t e) l v event m
+wrote_old h t e l v event m w = wrote_by w.is_event (held_old h t e w.thread w.index w.write w.holds) w.location w.written w.at
 
 pub held_new : (h : History) (t : ℕ) (e : Entry) → Holds (with_entry h t e) t (length (h t)) e
 held_new h t e = rw (put_same h t (h t ++ e ∷ [])) (get_end (h t) e)
@@ -47,19 +50,16 @@ module _ (init : ℕ → ℕ) (h : History) (t : ℕ) (e : Entry) (good : Good i
   within : (u j : ℕ) (d : Entry) → Holds h u j d → u ≡ t → j < length (h t)
   within u j d a q = slice_get_within (h t) j d (subst (λ z. Holds h z j d) q a)
 
+  -- of two entries of one thread the earlier is old
+  earlier_old : (u j i : ℕ) (d f : Entry) → Holds (with_entry h t e) u j d → Holds (with_entry h t e) u i f → j < i → Holds h u j d
+  earlier_old u j i d f a b n = elim (held_cases h t e u j d a) [
+    | inl x ↦ x
+    | inr x ↦ absurd (elim (held_cases h t e u i f b) [ inl y ↦ (let z = within u i f y x.0 in let z1 = x.1 in omega arith) | inr y ↦ (let z1 = x.1 in let z2 = y.1 in omega arith) ])
+  ]
+
   moved : (u j : ℕ) (d : Entry) (v : ℕ) → First init d v ⊎ Source h u j d v → First init d v ⊎ Source (with_entry h t e) u j d v
   moved u j d v (inl f) = inl f
-  moved u j d v (inr s) = inr (record {
-    thread = s.thread;
-    index = s.index;
-    write = s.write;
-    holds = held_old h t e s.thread s.index s.write s.holds;
-    is_source = s.is_source;
-    location = s.location;
-    written = s.written;
-    seen = s.seen;
-    visible = s.visible;
-  })
+  moved u j d v (inr s) = inr (wrote_old h t e d.access.location v d.source d.seen s.0, s.1)
 
   Latest : ℕ → ℕ → Entry → ℕ → ℕ → Entry → Type 0
   Latest u j d v i f = IsSome f.access.read → IsSome d.access.written → d.access.location ≡ f.access.location →
@@ -74,22 +74,11 @@ module _ (init : ℕ → ℕ) (h : History) (t : ℕ) (e : Entry) (good : Good i
     prompt = each_held h t e (λ u j d. IsSome d.access.read → d.moment ≡ d.exec) good.prompt fits.prompt;
     source = λ u j d v a r. moved u j d v (each_held h t e (λ u j d. d.access.read ≡ Some v → First init d v ⊎ Source h u j d v)
         (λ u j d b. good.source u j d v b) (fits.source v) u j d a r);
-    order = λ u j i d f a b n. elim (held_cases h t e u j d a) [
-      | inl x ↦ elim (held_cases h t e u i f b) [ inl y ↦ good.order u j i d f x y n | inr y ↦ rw y.2 (fits.later u j d x) ]
-      | inr x ↦ elim (held_cases h t e u i f b) [
-        | inl y ↦ absurd (let z = within u i f y x.0 in let z1 = x.1 in omega arith)
-        | inr y ↦ absurd (let z1 = x.1 in let z2 = y.1 in omega arith)
-      ]
-    ];
-    kept = λ u j i d f a b n k. elim (held_cases h t e u j d a) [
-      | inl x ↦ elim (held_cases h t e u i f b) [
-        | inl y ↦ good.kept u j i d f x y n k
-        | inr y ↦ rw y.2 (fits.kept j d (subst (λ z. Holds h z j d) y.0 x) (rw y.2 at k))
-      ]
-      | inr x ↦ elim (held_cases h t e u i f b) [
-        | inl y ↦ absurd (let z = within u i f y x.0 in let z1 = x.1 in omega arith)
-        | inr y ↦ absurd (let z1 = x.1 in let z2 = y.1 in omega arith)
-      ]
+    order = λ u j i d f a b n. let x = earlier_old u j i d f a b n in
+        elim (held_cases h t e u i f b) [ inl y ↦ good.order u j i d f x y n | inr y ↦ rw y.2 (fits.later u j d x) ];
+    kept = λ u j i d f a b n k. let x = earlier_old u j i d f a b n in elim (held_cases h t e u i f b) [
+      | inl y ↦ good.kept u j i d f x y n k
+      | inr y ↦ rw y.2 (fits.kept j d (subst (λ z. Holds h z j d) y.0 x) (rw y.2 at k))
     ];
     latest = λ u j v i d f a b. each_held h t e (λ v i f. Latest u j d v i f)
         (λ v i f y. each_held h t e (λ u j d. Latest u j d v i f) (λ u j d x. good.latest u j v i d f x y)

@@ -1,10 +1,11 @@
 -- An access that reads keeps the invariant of a run.
-use Rattle.candidate_executions.proofs.Vocabulary.{◌≡◌, ℕ, suc, ◌≤◌, List, [], ◌∷◌, ◌⊎◌, Option, Some, None, IsSome, refl, sym, ap, ◌∙◌, inl, inr, arith, length, same_Some, put, Label, Exec, Pending}
+use Rattle.candidate_executions.proofs.Vocabulary.{◌≡◌, ℕ, suc, ◌≤◌, List, [], ◌∷◌, ◌⊎◌, Option, Some, None, IsSome, refl, sym, ap, subst, inl, inr, arith, length, same_Some, put, Label, Exec, Pending}
 use Rattle.candidate_executions.proofs.Vocabulary.{At, Event, Origins, with_made, with_memory, ◌<◌}
-use Rattle.candidate_executions.proofs.{FromRuns.Histories.Entry, FromRuns.Histories.History, Orders.Lists.put_both}
+use Rattle.candidate_executions.proofs.FromRuns.Histories.{Entry, History, Source, First}
+use Rattle.candidate_executions.proofs.Orders.Lists.{put_both}
 use Rattle.candidate_executions.proofs.FromRuns.HistoriesGrow.{with_entry, held_new, Fits, good_more, each_held}
 use Rattle.candidate_executions.proofs.FromRuns.FlushesDue.{due}
-use Rattle.candidate_executions.proofs.FromRuns.RunInvariant.{Latest, Waiting, Inv, Seen, none_waits, one_more_made, latest_old, stored_old, free, tick}
+use Rattle.candidate_executions.proofs.FromRuns.RunInvariant.{Latest, Waiting, Inv, Seen, none_waits, one_more_made, latest_old, latest_now, stored_old, free, tick}
 
 module _ (init : ℕ → ℕ) (h : History) (buffers : ℕ → List Pending) (memory : ℕ → ℕ) (o : Origins) (n : ℕ) (section : ℕ → ℕ) where
   -- an entry that reads fits
@@ -19,20 +20,7 @@ module _ (init : ℕ → ℕ) (h : History) (buffers : ℕ → List Pending) (me
       first = inv.positive;
       delay = omega arith;
       prompt = λ r. refl;
-      source = λ u r. elim seen.origin [
-        | inl f ↦ inl (record { is_source = f.0; seen = f.1; value = (let q : v ≡ u = same_Some v u r in sym q ∙ f.2) })
-        | inr w ↦ inr (record {
-          thread = w.0.thread;
-          index = w.0.index;
-          write = w.0.write;
-          holds = w.0.holds;
-          is_source = w.0.is_event;
-          location = w.0.location;
-          written = w.0.written ∙ r;
-          seen = w.0.at;
-          visible = w.1;
-        })
-      ];
+      source = λ u r. subst (λ u. First init read_entry u ⊎ Source h t (length (h t)) read_entry u) (same_Some v u r) seen.origin;
       later = inv.early;
       kept = λ j d a k. elim (free init h buffers memory o n section t ls inv t j d a) [
         | inl x ↦ x
@@ -67,24 +55,6 @@ module _ (init : ℕ → ℕ) (h : History) (buffers : ℕ → List Pending) (me
 
     -- an exchange writes it
     pub inv_swap : (x : ℕ) → written ≡ Some x → Inv init (with_entry h t read_entry) buffers (put memory l x) (with_made (with_memory o l (At t (o.made t))) t) (suc n) section ls
-    inv_swap x some = inv_reads (put memory l x) (put o.memory l (At t (o.made t))) (put_both (Latest init (with_entry h t read_entry) (suc n)) memory o.memory l x (At t (o.made t)) now
+    inv_swap x some = inv_reads (put memory l x) (put o.memory l (At t (o.made t))) (put_both (Latest init (with_entry h t read_entry) (suc n)) memory o.memory l x (At t (o.made t))
+        (latest_now (ap (At t) (inv.made t)) (held_new h t read_entry) refl some refl)
         (λ k q. latest_old init h t (suc n) read_entry k (memory k) (o.memory k) ((tick init h buffers memory o n section t ls inv).latest k) (λ a b c. absurd (q (sym a)))))
-      where
-        now : Latest init (with_entry h t read_entry) (suc n) l x (At t (o.made t))
-        now = record {
-          event = At t (length (h t));
-          held_is = ap (At t) (inv.made t);
-          moment = n;
-          before = omega arith;
-          origin = inr (record {
-            thread = t;
-            index = length (h t);
-            write = read_entry;
-            holds = held_new h t read_entry;
-            is_event = refl;
-            location = refl;
-            written = some;
-            at = refl;
-          });
-          newest = λ u j d a b c k. omega arith;
-        }

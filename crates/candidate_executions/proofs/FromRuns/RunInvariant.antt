@@ -1,23 +1,10 @@
 -- What joins the machine's buffers and memory to the history, along a run.
-use Rattle.candidate_executions.proofs.Vocabulary.{◌≡◌, ℕ, suc, ◌<◌, ◌≤◌, List, [], ◌∷◌, ◌++◌, ◌⊎◌, Some, IsSome, slice_get, subst, inl, inr, arith, length, length-append, cases_lt, put, Label, Exec}
-use Rattle.candidate_executions.proofs.Vocabulary.{Pending, Event, Initial, At, Origins}
-use Rattle.candidate_executions.proofs.FromRuns.Histories.{Entry, History, Holds, Visible, Good}
-use Rattle.candidate_executions.proofs.{Orders.Lists.put_each, Orders.Lists.put_both, FromRuns.HistoriesGrow.with_entry, FromRuns.HistoriesGrow.held_old, FromRuns.HistoriesGrow.each_held}
+use Rattle.candidate_executions.proofs.Vocabulary.{◌≡◌, ℕ, suc, ◌<◌, ◌≤◌, List, [], ◌∷◌, ◌++◌, ◌⊎◌, Some, IsSome, slice_get, refl, subst, inl, inr, arith, length, length-append, cases_lt, put, Label, Exec}
+use Rattle.candidate_executions.proofs.Vocabulary.{Pending, Event, At, Origins}
+use Rattle.candidate_executions.proofs.FromRuns.Histories.{Entry, History, Holds, Visible, Wrote, wrote_by, Untouched, Good}
+use Rattle.candidate_executions.proofs.Orders.Lists.{put_each, put_both}
+use Rattle.candidate_executions.proofs.FromRuns.HistoriesGrow.{with_entry, held_old, wrote_old, each_held}
 use Rattle.candidate_executions.proofs.FromRuns.FlushesDue.{due, due_late}
-
--- an entry that writes v to the location, with this moment
-pub record Wrote (h : History) (l v : ℕ) (event : Event) (moment : ℕ) : Type 0 where
-  pub thread : ℕ
-  pub index : ℕ
-  pub write : Entry
-  pub holds : Holds h thread index write
-  pub is_event : event ≡ At thread index
-  pub location : write.access.location ≡ l
-  pub written : write.access.written ≡ Some v
-  pub at : moment ≡ write.moment
-
-abbrev pub Untouched : (ℕ → ℕ) → ℕ → ℕ → Event → ℕ → Type 0
-Untouched init l v event moment = (event ≡ Initial l) × (moment ≡ 0) × (v ≡ init l)
 
 -- the write that memory has at the location: the latest before moment n
 pub record Latest (init : ℕ → ℕ) (h : History) (n l v : ℕ) (held : Event) : Type 0 where
@@ -69,33 +56,39 @@ pub record Seen (init : ℕ → ℕ) (h : History) (t n l v : ℕ) (found : Even
 pub none_waits : {buffer : List Pending} {dues : List ℕ} {section : ℕ} {e : Entry} → Waiting buffer dues section e → buffer ≡ [] → ⊥
 none_waits w b = let z : slice_get [] w.place ≡ Some w.store = rw b at w.stored in absurd cc
 
-pub wrote_old : (h : History) (t : ℕ) (e : Entry) (l v : ℕ) (event : Event) (m : ℕ) → Wrote h l v event m → Wrote (with_entry h t e) l v event m
-wrote_old h t e l v event m w = record {
-  thread = w.thread;
-  index = w.index;
-  write = w.write;
-  holds = held_old h t e w.thread w.index w.write w.holds;
-  is_event = w.is_event;
-  location = w.location;
-  written = w.written;
-  at = w.at;
-}
-
 -- one access more
 pub one_more_made : (h : History) (t : ℕ) (e : Entry) (made : ℕ → ℕ) → ((u : ℕ) → made u ≡ length (h u)) → (u : ℕ) → put made t (suc (made t)) u ≡ length (with_entry h t e u)
 one_more_made h t e made is = put_both (λ u n es. n ≡ length es) made h t (suc (made t)) (h t ++ e ∷ [])
     (let z = is t in omega (arith, length-append (h t) (e ∷ []))) (λ u n. is u)
 
--- what memory has stays the latest, where the new entry does not come after it
-pub latest_old : (init : ℕ → ℕ) (h : History) (t n : ℕ) (e : Entry) (l v : ℕ) (held : Event) (m : Latest init h n l v held) →
-    (e.access.location ≡ l → IsSome e.access.written → e.moment < n → e.moment ≤ m.moment) → Latest init (with_entry h t e) n l v held
-latest_old init h t n e l v held m new = record {
+-- what memory has stays the latest at another moment, in a history that may hold more
+pub latest_to : {init : ℕ → ℕ} {h later : History} {n k l v : ℕ} {held : Event} (m : Latest init h n l v held) → (Wrote h l v m.event m.moment → Wrote later l v m.event m.moment) → m.moment < k →
+    ((u j : ℕ) (d : Entry) → Holds later u j d → d.access.location ≡ l → IsSome d.access.written → d.moment < k → d.moment ≤ m.moment) → Latest init later k l v held
+latest_to m kept before newest = record {
   event = m.event;
   held_is = m.held_is;
   moment = m.moment;
-  before = m.before;
-  origin = elim m.origin [ inl u ↦ inl u | inr w ↦ inr (wrote_old h t e l v m.event m.moment w) ];
-  newest = each_held h t e (λ u j d. d.access.location ≡ l → IsSome d.access.written → d.moment < n → d.moment ≤ m.moment) m.newest new;
+  before = before;
+  origin = elim m.origin [ inl u ↦ inl u | inr w ↦ inr (kept w) ];
+  newest = newest;
+}
+
+-- where the new entry does not come after it
+pub latest_old : (init : ℕ → ℕ) (h : History) (t n : ℕ) (e : Entry) (l v : ℕ) (held : Event) (m : Latest init h n l v held) →
+    (e.access.location ≡ l → IsSome e.access.written → e.moment < n → e.moment ≤ m.moment) → Latest init (with_entry h t e) n l v held
+latest_old init h t n e l v held m new = latest_to m (wrote_old h t e l v m.event m.moment) m.before
+    (each_held h t e (λ u j d. d.access.location ≡ l → IsSome d.access.written → d.moment < n → d.moment ≤ m.moment) m.newest new)
+
+-- a write of this moment is the latest
+pub latest_now : {init : ℕ → ℕ} {h : History} {t i n l v : ℕ} {w : Entry} {held : Event} → held ≡ At t i → slice_get (h t) i ≡ Some w → w.access.location ≡ l → w.access.written ≡ Some v → n ≡ w.moment →
+    Latest init h (suc n) l v held
+latest_now {t} {i} {n} is_event holds location written at = record {
+  event = At t i;
+  held_is = is_event;
+  moment = n;
+  before = omega arith;
+  origin = inr (wrote_by refl holds location written at);
+  newest = λ u j d a b c k. omega arith;
 }
 
 -- a store waits on where its entry, its moment and its event are those at another place
@@ -145,19 +138,10 @@ module _ (init : ℕ → ℕ) (h : History) (buffers : ℕ → List Pending) (me
     good = inv.good;
     positive = omega arith;
     early = λ u i e a. let z = inv.early u i e a in omega arith;
-    latest = λ l. later l (inv.latest l);
+    latest = λ l. let m = inv.latest l in
+        latest_to m (λ w. w) (let z = m.before in omega arith) (λ u j d a b c k. m.newest u j d a b c (elim (free t ls inv u j d a) [ inl x ↦ x | inr x ↦ absurd (omega arith) ]));
     stored = inv.stored;
     made = inv.made;
     long = inv.long;
     waiting = λ u i e a b. inv.waiting u i e a (omega arith);
   }
-    where
-      later : (l : ℕ) → Latest init h n l (memory l) (o.memory l) → Latest init h (suc n) l (memory l) (o.memory l)
-      later l m = record {
-        event = m.event;
-        held_is = m.held_is;
-        moment = m.moment;
-        before = let z = m.before in omega arith;
-        origin = m.origin;
-        newest = λ u j d a b c k. m.newest u j d a b c (elim (free t ls inv u j d a) [ inl x ↦ x | inr x ↦ absurd (omega arith) ]);
-      }

@@ -6,7 +6,7 @@ use Rattle.candidate_executions.proofs.Vocabulary.{IsCandidate, EndsWith, HasOut
 use Rattle.candidate_executions.proofs.Vocabulary.{ArriveInOrder, IsCandidateOf, Machine, SequentialMachine, StoreBufferMachine, State, run, start, outcome_at, HasEnded, IsRun, EveryRunIsACandidate}
 use Rattle.candidate_executions.proofs.Vocabulary.{EveryRunIsACompletion, HasItsCandidate}
 use Rattle.candidate_executions.proofs.Sketches.KnownEdges.{completes_empty}
-use Rattle.candidate_executions.proofs.FromRuns.Histories.{Entry, History, Holds, Good, Source}
+use Rattle.candidate_executions.proofs.FromRuns.Histories.{Entry, History, Holds, Wrote, Good, Source}
 use Rattle.candidate_executions.proofs.FromRuns.CandidateOfHistory.{candidate_with, Shows, source_of_entry, moment_of_entry, moment_of}
 use Rattle.candidate_executions.proofs.FromRuns.EdgesGoForward.{at_thread, global_acyclic, location_acyclic, whole_acyclic}
 use Rattle.candidate_executions.proofs.FromRuns.PairsOfMarks.{PairsOf, pairs_all}
@@ -86,32 +86,26 @@ module _ (p : Listing) (gaps : Gaps) (forward : JumpForward p.threads) (labels :
   held : (t i : ℕ) (e : Entry) → Holds h t i e → access p mode c (At t i) ≡ Some e.access
   held t i e a = shows.of_thread t i ∙ ap (option_map (λ (e : Entry). e.access)) a
 
-  writes_entry : (u j : ℕ) (w : Entry) (l v : ℕ) → Holds h u j w → w.access.location ≡ l → w.access.written ≡ Some v → Writes (access p mode c) (At u j) l v
-  writes_entry u j w l v a b d = (w.access, held u j w a, b, d)
+  writes_wrote : (l v m : ℕ) (e : Event) → Wrote h l v e m → Writes (access p mode c) e l v
+  writes_wrote l v m e w = (w.write.access, ap (access p mode c) w.is_event ∙ held w.thread w.index w.write w.holds, w.location, w.written)
 
   writes_initial : (l v : ℕ) → v ≡ init l → Writes (access p mode c) (Initial l) l v
   writes_initial l v e = (_, refl, refl, ap Some (sym e))
 
-  not_itself : (t i : ℕ) (f : Entry) (v : ℕ) → Holds h t i f → f.access.read ≡ Some v → (s : Source h t i f v) → At s.thread s.index ≡ At t i → ⊥
+  not_itself : (t i : ℕ) (f : Entry) (v : ℕ) → Holds h t i f → f.access.read ≡ Some v → (s : Source h t i f v) → At s.0.thread s.0.index ≡ At t i → ⊥
   not_itself t i f v fh r s e =
-      let a : s.thread ≡ t = cc in
-      let b : s.index ≡ i = cc in
-      let w : s.write ≡ f = (same_Some s.write f (sym s.holds ∙ (ap₂ (λ x y. slice_get (h x) y) a b ∙ fh))) in
-      let m : s.write.moment ≡ f.moment = ap (λ (z : Entry). z.moment) w in
+      let a : s.0.thread ≡ t = cc in
+      let b : s.0.index ≡ i = cc in
+      let w : s.0.write ≡ f = (same_Some s.0.write f (sym s.0.holds ∙ (ap₂ (λ x y. slice_get (h x) y) a b ∙ fh))) in
+      let m : s.0.write.moment ≡ f.moment = ap (λ (z : Entry). z.moment) w in
       let k : f.moment ≡ f.exec = good.prompt t i f fh (rw r refl) in
-      elim s.visible [ inl q ↦ omega arith | inr q ↦ omega arith ]
+      elim s.1 [ inl q ↦ omega arith | inr q ↦ omega arith ]
 
   entry_source : (t i : ℕ) (f : Entry) (v : ℕ) → Holds h t i f → f.access.read ≡ Some v →
       (c.source (At t i) ≢ At t i) × Writes (access p mode c) (c.source (At t i)) f.access.location v
-  entry_source t i f v fh r = elim (good.source t i f v fh r) [
-    | inl s ↦ (let z : c.source (At t i) ≡ Initial f.access.location = ap source_of_entry fh ∙ s.is_source in (
-      (λ e. let y : Initial f.access.location ≡ At t i = sym z ∙ e in cc),
-      rw z (writes_initial f.access.location v s.value),
-    ))
-    | inr s ↦ (let z : c.source (At t i) ≡ At s.thread s.index = ap source_of_entry fh ∙ s.is_source in (
-      (λ e. not_itself t i f v fh r s (sym z ∙ e)),
-      rw z (writes_entry s.thread s.index s.write f.access.location v s.holds s.location s.written),
-    ))
+  entry_source t i f v fh r = let z : c.source (At t i) ≡ f.source = ap source_of_entry fh in elim (good.source t i f v fh r) [
+    | inl s ↦ ((λ e. let y : Initial f.access.location ≡ At t i = sym s.0 ∙ (sym z ∙ e) in cc), rw (z, s.0) (writes_initial f.access.location v s.2))
+    | inr s ↦ ((λ e. not_itself t i f v fh r s (sym s.0.is_event ∙ (sym z ∙ e))), rw z (writes_wrote f.access.location v f.seen f.source s.0))
   ]
 
   sources : (e : Event) (x : Access) (v : ℕ) → access p mode c e ≡ Some x → x.read ≡ Some v →
@@ -166,22 +160,17 @@ module _ (p : Listing) (gaps : Gaps) (forward : JumpForward p.threads) (labels :
       let b = f t i g gh x (rw y refl) in omega arith
 
   ends_with : (l : ℕ) → EndsWith p mode c l (last.memory l)
-  ends_with l = elim e.origin [
-    | inl u ↦ (
-      e.event,
-      rw u.0 (writes_initial l (last.memory l) u.2),
-      (λ d w a. let b = entry_below d l w e.moment e.newest a in let z = u.1 in omega arith),
-    )
-    | inr w ↦ (
-      e.event,
-      rw w.is_event (writes_entry w.thread w.index w.write l (last.memory l) w.holds w.location w.written),
-      (λ d x a. let b = entry_below d l x e.moment e.newest a in let z = w.at in
-          let y : c.rank e.event ≡ w.write.moment = ap c.rank w.is_event ∙ ap moment_of_entry w.holds in omega arith),
-    )
-  ]
-    where
-      e : Ending init h l (last.memory l)
-      e = ending l
+  ends_with l =
+      let (n, held, e, all) = ending l in
+      let below = λ (d : Event) (w : ℕ) (a : Writes (access p mode c) d l w). entry_below d l w e.moment (λ u j d b c k. e.newest u j d b c k (all u j d b)) a in
+      elim e.origin [
+        | inl u ↦ (e.event, rw u.0 (writes_initial l (last.memory l) u.2), (λ d w a. let b = below d w a in let z = u.1 in omega arith))
+        | inr w ↦ (
+          e.event,
+          writes_wrote l (last.memory l) e.moment e.event w,
+          (λ d x a. let b = below d x a in let z = w.at in let y : c.rank e.event ≡ w.write.moment = ap c.rank w.is_event ∙ ap moment_of_entry w.holds in omega arith),
+        )
+      ]
 
   has_outcome : HasOutcome p mode c (outcome_at p last)
   has_outcome = record {

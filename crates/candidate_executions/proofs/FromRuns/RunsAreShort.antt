@@ -1,7 +1,7 @@
 -- Jumps lead forward, so a run has at most two labels for each instruction: one that executes it, and a flush.
-use Rattle.candidate_executions.proofs.Vocabulary.{◌≡◌, ℕ, suc, zero, ◌+◌, ◌*◌, ◌-◌, ◌<◌, ◌≤◌, Bool, true, List, [], ◌∷◌, ◌++◌, Option, Some, None, option_and_then, refl, sym, ap, ◌∙◌, subst, inl}
+use Rattle.candidate_executions.proofs.Vocabulary.{exec_by, flush_by, length-append, ◌≡◌, ℕ, suc, zero, ◌+◌, ◌*◌, ◌-◌, ◌<◌, ◌≤◌, List, [], ◌∷◌, ◌++◌, Option, Some, None, option_and_then, refl, sym, ap, ◌∙◌, subst, inl}
 use Rattle.candidate_executions.proofs.Vocabulary.{inr, arith, length, cases_eq, cases_lt, same_Some, Listing, Local, Action, Stop, Go, Wait, Read, Write, Swap, loaded, action, code_of, JumpForward}
-use Rattle.candidate_executions.proofs.Vocabulary.{Machine, SequentialMachine, StoreBufferMachine, State, put, when_empty, past_gap, buffered, flushed, direct, step, run, start, Label, Exec, Flush}
+use Rattle.candidate_executions.proofs.Vocabulary.{Machine, SequentialMachine, StoreBufferMachine, State, put, direct, step, run, start, Label, Exec, Flush}
 use Rattle.candidate_executions.proofs.Vocabulary.{Pending, EveryRunIsShort}
 use Rattle.candidate_executions.proofs.{Orders.Lists.put_same, Orders.Lists.put_other, FromRuns.StepsSuffice.Further, FromRuns.StepsSuffice.Advances, FromRuns.StepsSuffice.advance}
 use Rattle.candidate_executions.proofs.Candidates.AllEvents.{no_code}
@@ -69,51 +69,32 @@ module _ (p : Listing) (forward : JumpForward p.threads) where
   direct_less s s' t (Write l v next) past d h = subst (Less s) (same_Some _ s' h) (moved s t next s.buffers (put s.memory l v) past d (λ u n. refl) (omega arith))
   direct_less s s' t (Swap l v to next) past d h = subst (Less s) (same_Some _ s' h) (moved s t (loaded to (s.memory l) next) s.buffers (put s.memory l v) past d (λ u n. refl) (omega arith))
 
-  empty_is : (ws : List Pending) (x s' : State) → when_empty ws x ≡ Some s' → x ≡ s'
-  empty_is [] x s' h = same_Some x s' h
-  empty_is (w ∷ ws) x s' h = absurd cc
-
-  one_longer : (ws : List Pending) (w : Pending) → length (ws ++ w ∷ []) ≤ suc (length ws)
-  one_longer [] w = omega arith
-  one_longer (x ∷ ws) w = let z = one_longer ws w in omega arith
-
-  buffered_less : (s s' : State) (t : ℕ) (a : Action) → Past s → Advances (len t) (s.locals t).place a → buffered s t a ≡ Some s' → Less s s'
-  buffered_less s s' t Stop past d h = absurd cc
-  buffered_less s s' t (Go next) past d h = subst (Less s) (same_Some _ s' h) (moved s t next s.buffers s.memory past d (λ u n. refl) (omega arith))
-  buffered_less s s' t (Wait next) past d h = subst (Less s) (empty_is (s.buffers t) _ s' h) (moved s t next s.buffers s.memory past d (λ u n. refl) (omega arith))
-  buffered_less s s' t (Read l to next) past d h = subst (Less s) (same_Some _ s' h) (moved s t _ s.buffers s.memory past d (λ u n. refl) (omega arith))
-  buffered_less s s' t (Write l v next) past d h =
-      let w : Pending = record { location = l; value = v } in
-      subst (Less s) (same_Some _ s' h) (moved s t next (put s.buffers t (s.buffers t ++ w ∷ [])) s.memory past d
-      (λ u n. put_other s.buffers t (s.buffers t ++ w ∷ []) u n)
-      (let a = ap length (put_same s.buffers t (s.buffers t ++ w ∷ [])) in let b = one_longer (s.buffers t) w in omega arith))
-  buffered_less s s' t (Swap l v to next) past d h = subst (Less s) (empty_is (s.buffers t) _ s' h) (moved s t (loaded to (s.memory l) next) s.buffers (put s.memory l v) past d (λ u n. refl) (omega arith))
-
-  after_gap : (b : Bool) (ws : List Pending) (s s' : State) (f : State → Option State) → option_and_then f (past_gap b ws s) ≡ Some s' → f s ≡ Some s'
-  after_gap true (w ∷ ws) s s' f h = absurd cc
-  after_gap b ws s s' f h = h
-
-  flush_less : (s s' : State) (t : ℕ) (ws : List Pending) → Past s → s.buffers t ≡ ws → flushed s t ws ≡ Some s' → Less s s'
-  flush_less s s' t [] past e h = absurd cc
-  flush_less s s' t (w ∷ ws) past e h = subst (Less s) (same_Some _ s' h) (
-    total_less (room s) (room now) (length p.threads) t here
-        (λ u n. let b = ap length (put_other s.buffers t ws u n) in omega arith)
-        (let a = ap length (put_same s.buffers t ws) in let b = ap length e in omega arith),
-    λ u g. let inside = here in put_other s.buffers t ws u (λ q. omega arith) ∙ past u g,
-  )
-    where
-      now : State
-      now = record s { buffers = put s.buffers t ws; memory = put s.memory w.location w.value }
-
-      here : t < length p.threads
-      here = elim (cases_lt t (length p.threads)) [ inl l ↦ l | inr g ↦ absurd (let q : [] ≡ w ∷ ws = sym (past t g) ∙ e in cc) ]
-
   step_less : (mode : Machine) (s s' : State) (l : Label) → Past s → step p mode s l ≡ Some s' → Less s s'
   step_less SequentialMachine s s' (Exec t) past h = direct_less s s' t (action p.threads t (s.locals t)) past (advance p forward t (s.locals t)) h
   step_less SequentialMachine s s' (Flush t) past h = absurd cc
-  step_less (StoreBufferMachine gaps) s s' (Exec t) past h = buffered_less s s' t (action p.threads t (s.locals t)) past (advance p forward t (s.locals t))
-      (after_gap (gaps t (s.locals t).place) (s.buffers t) s s' (λ x. buffered x t (action p.threads t (s.locals t))) h)
-  step_less (StoreBufferMachine gaps) s s' (Flush t) past h = flush_less s s' t (s.buffers t) past refl h
+  step_less (StoreBufferMachine gaps) s s' (Exec t) past h = exec_by s' Some p gaps s t (Less s s') (ap (option_and_then Some) h)
+      (λ next e g r. subst (Less s) (same_Some _ s' r) (moved s t next s.buffers s.memory past (on (Go next) e) (λ u n. refl) (omega arith)))
+      (λ next e g r. subst (Less s) (same_Some _ s' r) (moved s t next s.buffers s.memory past (on (Wait next) e) (λ u n. refl) (omega arith)))
+      (λ l to next e g r. subst (Less s) (same_Some _ s' r) (moved s t _ s.buffers s.memory past (on (Read l to next) e) (λ u n. refl) (omega arith)))
+      (λ l v next e g r.
+      let w : Pending = record { location = l; value = v } in
+      let longer = ap length (put_same s.buffers t (s.buffers t ++ w ∷ [])) in
+      subst (Less s) (same_Some _ s' r) (moved s t next (put s.buffers t (s.buffers t ++ w ∷ [])) s.memory past (on (Write l v next) e)
+      (put_other s.buffers t (s.buffers t ++ w ∷ [])) (omega (arith, length-append (s.buffers t) (w ∷ [])))))
+      (λ l v to next e g r. subst (Less s) (same_Some _ s' r) (moved s t (loaded to (s.memory l) next) s.buffers (put s.memory l v) past (on (Swap l v to next) e) (λ u n. refl) (omega arith)))
+    where
+      on : (a : Action) → action p.threads t (s.locals t) ≡ a → Advances (len t) (s.locals t).place a
+      on a e = subst (Advances (len t) (s.locals t).place) e (advance p forward t (s.locals t))
+  step_less (StoreBufferMachine gaps) s s' (Flush t) past h = flush_by s' Some p gaps s t (Less s s') (ap (option_and_then Some) h)
+      (λ w ws e r.
+      let now : State = record s { buffers = put s.buffers t ws; memory = put s.memory w.location w.value } in
+      let here : t < length p.threads = elim (cases_lt t (length p.threads)) [ inl l ↦ l | inr g ↦ absurd (let q : [] ≡ w ∷ ws = sym (past t g) ∙ e in cc) ] in
+      subst (Less s) (same_Some _ s' r) (
+        total_less (room s) (room now) (length p.threads) t here
+            (λ u n. let b = ap length (put_other s.buffers t ws u n) in omega arith)
+            (let a = ap length (put_same s.buffers t ws) in let b = ap length e in omega arith),
+        λ u g. put_other s.buffers t ws u (λ q. omega arith) ∙ past u g,
+      ))
 
   run_short : (mode : Machine) (labels : List Label) (s last : State) → Past s → run p mode s labels ≡ Some last → length labels ≤ total (room s) (length p.threads)
   run_short mode [] s last past h = omega arith

@@ -1,14 +1,14 @@
 -- Each run leaves a good history, and its traces.
-use Rattle.candidate_executions.proofs.Vocabulary.{◌≡◌, ℕ, suc, ◌≤◌, Bool, true, false, List, [], ◌∷◌, ◌++◌, ◌⊎◌, ◌↔◌, Option, Some, None, IsSome, get_or, map, refl, sym, ap, ◌∙◌, subst, inl, inr}
+use Rattle.candidate_executions.proofs.Vocabulary.{◌≡◌, ℕ, suc, ◌<◌, Bool, true, false, List, [], ◌∷◌, ◌++◌, ◌⊎◌, ◌↔◌, Option, Some, None, get_or, map, refl, sym, ap, ◌∙◌, subst, inl, inr}
 use Rattle.candidate_executions.proofs.Vocabulary.{length, append-nil, slice_get, zero, arith, fun_ext, cases_eq, cases_lt, slice_get-get_or, slice_get_within, same_Some, Listing, Local, Action, Go}
 use Rattle.candidate_executions.proofs.Vocabulary.{Wait, Read, Write, Swap, action, loaded, Gaps, put, StoreBufferMachine, State, newest, found, when_empty, flushed, run, Label, Exec, Flush, Pending}
 use Rattle.candidate_executions.proofs.Vocabulary.{Access, Event, At, Origins, Mark, Takes, Arrives, found_write, with_made, with_waiting, with_memory, buffered_origins, buffered_marks}
-use Rattle.candidate_executions.proofs.Vocabulary.{flushed_origins, flushed_marks, marks, Trace, trace, with_access, entered, IsValueOf, exec_by, flush_by}
+use Rattle.candidate_executions.proofs.Vocabulary.{flushed_origins, flushed_marks, marks, marks_at, origins_after, step, Trace, trace, with_access, entered, IsValueOf, exec_by, flush_by}
 use Rattle.candidate_executions.proofs.{FromRuns.CandidateOfHistory.moment_of, FromRuns.MarksAlong.marks_step}
 use Rattle.candidate_executions.proofs.FromRuns.MarksOfHistories.{joined, Waits, Tells, IsShownAs, tells_end, tells_quiet, tells_flush, tells_entry, moment_old, same_joined, shown_load, shown_exchange, shown_store, waits_flush}
 use Rattle.candidate_executions.proofs.FromRuns.Histories.{Entry, History, Holds, Good}
 use Rattle.candidate_executions.proofs.{Orders.Lists.put_same, Orders.Lists.put_other, Orders.Lists.put_each, Orders.Lists.put_both, FromRuns.HistoriesGrow.with_entry, FromRuns.FlushesDue.due}
-use Rattle.candidate_executions.proofs.FromRuns.RunInvariant.{Untouched, Wrote, Latest, none_waits, Inv, inv_section, tick}
+use Rattle.candidate_executions.proofs.FromRuns.RunInvariant.{Latest, none_waits, Inv, inv_section, tick}
 use Rattle.candidate_executions.proofs.FromRuns.SeenByReads.{seen_memory, seen_any}
 use Rattle.candidate_executions.proofs.FromRuns.ReadsKeepInvariant.{read_entry, inv_load, inv_swap}
 use Rattle.candidate_executions.proofs.FromRuns.StoresKeepInvariant.{write_entry, inv_write}
@@ -29,11 +29,8 @@ abbrev pub accesses : List Entry → List Access
 accesses es = map (λ e. e.access) es
 
 -- the last write to a location
-pub record Ending (init : ℕ → ℕ) (h : History) (l v : ℕ) : Type 0 where
-  pub event : Event
-  pub moment : ℕ
-  pub origin : Untouched init l v event moment ⊎ Wrote h l v event moment
-  pub newest : (u j : ℕ) (d : Entry) → Holds h u j d → d.access.location ≡ l → IsSome d.access.written → d.moment ≤ moment
+abbrev pub Ending : (ℕ → ℕ) → History → ℕ → ℕ → Type 0
+Ending init h l v = (n : ℕ) × (held : Event) × Latest init h n l v held × ((u j : ℕ) (d : Entry) → Holds h u j d → d.moment < n)
 
 abbrev pub Ends : (ℕ → ℕ) → History → (ℕ → ℕ) → Type 0
 Ends init h memory = Good init h × ((l : ℕ) → Ending init h l (memory l))
@@ -122,21 +119,19 @@ module _ (p : Listing) (gaps : Gaps) (init : ℕ → ℕ) (last : State) where
   at_end past o n section empty inv = record {
     future = λ t. [];
     traces = λ t. (0, refl);
-    ends = subst (λ z. Ends init z last.memory) (fun_ext (λ t. sym (append-nil (past t)))) (inv.good, (λ l. over l (inv.latest l)));
+    ends = subst (λ z. Ends init z last.memory) (fun_ext (λ t. sym (append-nil (past t)))) (inv.good, (λ l. (n, o.memory l, inv.latest l, over)));
     values = λ t i e v a. absurd cc;
     tells = tells_end past o.waiting n (λ x (t, q, l, a). let within = slice_get_within (o.waiting t) q (l, x) a in let long = inv.long t in let none = ap length (empty t) in omega arith);
   }
     where
-      over : (l : ℕ) → Latest init past n l (last.memory l) (o.memory l) → Ending init past l (last.memory l)
-      over l m = record {
-        event = m.event;
-        moment = m.moment;
-        origin = m.origin;
-        newest = λ u j d a b c. elim (cases_lt d.moment n) [
-          | inl x ↦ m.newest u j d a b c x
-          | inr x ↦ absurd (none_waits (inv.waiting u j d a x) (empty u))
-        ];
-      }
+      over : (u j : ℕ) (d : Entry) → Holds past u j d → d.moment < n
+      over u j d a = elim (cases_lt d.moment n) [ inl x ↦ x | inr x ↦ absurd (none_waits (inv.waiting u j d a x) (empty u)) ]
+
+  -- a step, with what it shows first
+  after_step : (l : Label) (ls : List Label) (s s' : State) (o o' : Origins) (first : List Mark) (section : ℕ → ℕ) (past : History) (n : ℕ) → step p (StoreBufferMachine gaps) s l ≡ Some s' →
+      origins_after p (StoreBufferMachine gaps) s o l ≡ o' → marks_at p (StoreBufferMachine gaps) s o l ≡ first →
+      Rest s.locals section past o.waiting n (first ++ marks p (StoreBufferMachine gaps) s' o' ls) → Rest s.locals section past o.waiting n (marks p (StoreBufferMachine gaps) s o (l ∷ ls))
+  after_step l ls s s' o o' first section past n e f h rest = subst (λ ms. Rest s.locals section past o.waiting n ms) (sym (marks_step p (StoreBufferMachine gaps) l ls s s' o o' first e f h)) rest
 
   pub played : ((t : ℕ) → last.buffers t ≡ []) → (ls : List Label) (s : State) (o : Origins) (n : ℕ) (section : ℕ → ℕ) (past : History) →
       Inv init past s.buffers s.memory o n section ls → Valued p s.locals s.buffers s.memory → run p (StoreBufferMachine gaps) s ls ≡ Some last →
@@ -150,9 +145,7 @@ module _ (p : Listing) (gaps : Gaps) (init : ℕ → ℕ) (last : State) where
       let others = others_wait init past s.buffers s.memory o n section t w ws ls e inv in
       let s' : State = record s { buffers = put s.buffers t ws; memory = put s.memory w.location w.value } in
       let o' = after_it init past s.buffers s.memory o n section t w ws ls e inv in
-      let same : marks p (StoreBufferMachine gaps) s o (Flush t ∷ ls) ≡ Arrives (At t first.index) ∷ marks p (StoreBufferMachine gaps) s' o' ls =
-      marks_step p (StoreBufferMachine gaps) (Flush t) ls s s' o o' (Arrives (At t first.index) ∷ []) (ap (flushed s t) e) (ap (flushed_origins o t) others.1) (ap flushed_marks others.1) in
-      subst (λ ms. Rest s.locals section past o.waiting n ms) (sym same)
+      after_step (Flush t) ls s s' o o' (Arrives (At t first.index) ∷ []) section past n (ap (flushed s t) e) (ap (flushed_origins o t) others.1) (ap flushed_marks others.1)
       (rest_flush s.locals section past o.waiting (put o.waiting t others.0) n (At t first.index) (marks p (StoreBufferMachine gaps) s' o' ls)
       (waits_flush o.waiting t w.location (At t first.index) others.0 others.1)
       (λ future. moment_old past future t first.index first.entry first.holds ∙ sym (same_Some n first.entry.moment first.at))
@@ -160,18 +153,14 @@ module _ (p : Listing) (gaps : Gaps) (init : ℕ → ℕ) (last : State) where
   played empty (Exec t ∷ ls) s o n section past inv vd r = exec_by last (λ next. run p (StoreBufferMachine gaps) next ls) p gaps s t _ r
       (λ next e g r.
       let s' : State = record s { locals = put s.locals t next } in
-      let same : marks p (StoreBufferMachine gaps) s o (Exec t ∷ ls) ≡ marks p (StoreBufferMachine gaps) s' o ls =
-      marks_step p (StoreBufferMachine gaps) (Exec t) ls s s' o o [] (exec_ok p gaps s s' t g (rw e refl)) (ap (buffered_origins o t) e) (ap (buffered_marks s o t) e) in
-      subst (λ ms. Rest s.locals section past o.waiting n ms) (sym same)
+      after_step (Exec t) ls s s' o o [] section past n (exec_ok p gaps s s' t g (rw e refl)) (ap (buffered_origins o t) e) (ap (buffered_marks s o t) e)
       (rest_quiet s.locals section past t next (inside t) o.waiting n (marks p (StoreBufferMachine gaps) s' o ls)
       (λ k given. (rw e refl))
       (played empty ls s' o (suc n) (put section t (inside t)) past (tick init past s.buffers s.memory o n (put section t (inside t)) t ls
       (inv_section init past s.buffers s.memory o n section (Exec t ∷ ls) t (inside t) (entered_cases (gap t) (section t) (s.buffers t) g) inv)) (valued_local p s vd t next (knows (Go next) e)) r)))
       (λ next e b r.
       let s' : State = record s { locals = put s.locals t next } in
-      let same : marks p (StoreBufferMachine gaps) s o (Exec t ∷ ls) ≡ marks p (StoreBufferMachine gaps) s' o ls =
-      marks_step p (StoreBufferMachine gaps) (Exec t) ls s s' o o [] (exec_ok p gaps s s' t (λ g. b) (rw e (ap (λ ws. when_empty ws s') b))) (ap (buffered_origins o t) e) (ap (buffered_marks s o t) e) in
-      subst (λ ms. Rest s.locals section past o.waiting n ms) (sym same)
+      after_step (Exec t) ls s s' o o [] section past n (exec_ok p gaps s s' t (λ g. b) (rw e (ap (λ ws. when_empty ws s') b))) (ap (buffered_origins o t) e) (ap (buffered_marks s o t) e)
       (rest_quiet s.locals section past t next (suc (inside t)) o.waiting n (marks p (StoreBufferMachine gaps) s' o ls)
       (λ k given. (rw e refl))
       (played empty ls s' o (suc n) (put section t (suc (inside t))) past (tick init past s.buffers s.memory o n (put section t (suc (inside t))) t ls
@@ -186,10 +175,8 @@ module _ (p : Listing) (gaps : Gaps) (init : ℕ → ℕ) (last : State) where
       let s' : State = record s { locals = put s.locals t (loaded to v next) } in
       let first : List Mark = Takes (At t (length (past t))) v x.source ∷ [] in
       let here = inv.made t in
-      let same : marks p (StoreBufferMachine gaps) s o (Exec t ∷ ls) ≡ first ++ marks p (StoreBufferMachine gaps) s' (with_made o t) ls =
-      marks_step p (StoreBufferMachine gaps) (Exec t) ls s s' o (with_made o t) first (exec_ok p gaps s s' t g (rw e refl)) (ap (buffered_origins o t) e)
-      (ap (buffered_marks s o t) e ∙ (λ i. Takes (At t (here i)) v (seen.found_is i) ∷ [])) in
-      subst (λ ms. Rest s.locals section past o.waiting n ms) (sym same)
+      after_step (Exec t) ls s s' o (with_made o t) first section past n (exec_ok p gaps s s' t g (rw e refl)) (ap (buffered_origins o t) e)
+      (ap (buffered_marks s o t) e ∙ (λ i. Takes (At t (here i)) v (seen.found_is i) ∷ []))
       (rest_entry s.locals section past t (loaded to v next) (inside t) o.waiting n (marks p (StoreBufferMachine gaps) s' (with_made o t) ls) x (put section t (inside t)) (put_same section t (inside t)) (put_other section t (inside t))
       (λ k given. rw (put_same section t (inside t)) (rw e refl))
       (λ x q. subst (λ z. IsValueOf p l z) (same_Some v x q) (found_value p s vd t l)) o.waiting first (shown_load past t x o.waiting n v refl refl)
@@ -205,9 +192,7 @@ module _ (p : Listing) (gaps : Gaps) (init : ℕ → ℕ) (last : State) where
       let s' : State = record s { locals = put s.locals t next; buffers = put s.buffers t (s.buffers t ++ record { location = l; value = v } ∷ []) } in
       let ws : List (ℕ × Event) = o.waiting t ++ (l, At t (o.made t)) ∷ [] in
       let o' : Origins = with_made (with_waiting o t ws) t in
-      let same : marks p (StoreBufferMachine gaps) s o (Exec t ∷ ls) ≡ marks p (StoreBufferMachine gaps) s' o' ls =
-      marks_step p (StoreBufferMachine gaps) (Exec t) ls s s' o o' [] (exec_ok p gaps s s' t g (rw e refl)) (ap (buffered_origins o t) e) (ap (buffered_marks s o t) e) in
-      subst (λ ms. Rest s.locals section past o.waiting n ms) (sym same)
+      after_step (Exec t) ls s s' o o' [] section past n (exec_ok p gaps s s' t g (rw e refl)) (ap (buffered_origins o t) e) (ap (buffered_marks s o t) e)
       (rest_entry s.locals section past t next (inside t) o.waiting n (marks p (StoreBufferMachine gaps) s' o' ls) x (put section t (inside t)) (put_same section t (inside t)) (put_other section t (inside t))
       (λ k given. rw (put_same section t (inside t)) (rw e refl))
       (λ x q. absurd cc) (put o.waiting t ws) []
@@ -225,10 +210,8 @@ module _ (p : Listing) (gaps : Gaps) (init : ℕ → ℕ) (last : State) where
       let o' : Origins = with_made (with_memory o l (At t (o.made t))) t in
       let here = inv.made t in
       let first : List Mark = Takes (At t (length (past t))) v x.source ∷ Arrives (At t (length (past t))) ∷ [] in
-      let same : marks p (StoreBufferMachine gaps) s o (Exec t ∷ ls) ≡ first ++ marks p (StoreBufferMachine gaps) s' o' ls =
-      marks_step p (StoreBufferMachine gaps) (Exec t) ls s s' o o' first (exec_ok p gaps s s' t (λ g. b) (rw e (ap (λ ws. when_empty ws s') b))) (ap (buffered_origins o t) e)
-      (ap (buffered_marks s o t) e ∙ (λ i. Takes (At t (here i)) v (seen.found_is i) ∷ Arrives (At t (here i)) ∷ [])) in
-      subst (λ ms. Rest s.locals section past o.waiting n ms) (sym same)
+      after_step (Exec t) ls s s' o o' first section past n (exec_ok p gaps s s' t (λ g. b) (rw e (ap (λ ws. when_empty ws s') b))) (ap (buffered_origins o t) e)
+      (ap (buffered_marks s o t) e ∙ (λ i. Takes (At t (here i)) v (seen.found_is i) ∷ Arrives (At t (here i)) ∷ []))
       (rest_entry s.locals section past t (loaded to v next) (suc (inside t)) o.waiting n (marks p (StoreBufferMachine gaps) s' o' ls) x section2 (put_same (put section t (inside t)) t (suc (inside t)))
       (λ u q. put_other (put section t (inside t)) t (suc (inside t)) u q ∙ put_other section t (inside t) u q)
       (λ k given. rw (put_same section t (inside t)) (rw e refl))

@@ -1,7 +1,7 @@
 -- What a load or an exchange finds is the newest write that it may see.
 use Rattle.candidate_executions.proofs.Vocabulary.{◌≡◌, ℕ, suc, ◌≤◌, List, ◌∷◌, Option, Some, None, slice_get, refl, sym, ap, ◌∙◌, subst, inl, inr, arith, cases_lt, cases_eq, same_Some}
 use Rattle.candidate_executions.proofs.Vocabulary.{slice_get_within, newest, found, Label, Exec, Pending, At, Origins, found_write}
-use Rattle.candidate_executions.proofs.{FromRuns.Histories.History, FromRuns.FoundWrites.AreTagged, FromRuns.FoundWrites.none_found, FromRuns.FoundWrites.newest_found}
+use Rattle.candidate_executions.proofs.{FromRuns.Histories.History, FromRuns.Histories.wrote_by, FromRuns.FoundWrites.AreTagged, FromRuns.FoundWrites.none_found, FromRuns.FoundWrites.newest_found}
 use Rattle.candidate_executions.proofs.FromRuns.FlushesDue.{due, due_late, due_sorted}
 use Rattle.candidate_executions.proofs.FromRuns.NewestStore.{Found, newest_none, newest_some}
 use Rattle.candidate_executions.proofs.FromRuns.RunInvariant.{Latest, Stored, Waiting, Inv, Seen}
@@ -36,19 +36,7 @@ module _ (init : ℕ → ℕ) (h : History) (buffers : ℕ → List Pending) (me
     event = At t st.index;
     found_is = newest_found l (buffers t) (o.waiting t) f.place f.store (At t st.index) (inv.long t) (tags t ls inv) f.at f.location f.last st.tag (o.memory l);
     moment = st.entry.moment;
-    origin = inr (
-      record {
-        thread = t;
-        index = st.index;
-        write = st.entry;
-        holds = st.holds;
-        is_event = refl;
-        location = st.location ∙ f.location;
-        written = st.written ∙ ap Some f.value;
-        at = refl;
-      },
-      inr (refl, slice_get_within (h t) st.index st.entry st.holds),
-    );
+    origin = inr (wrote_by refl st.holds (st.location ∙ f.location) (st.written ∙ ap Some f.value) refl, inr (refl, slice_get_within (h t) st.index st.entry st.holds));
     newest = λ u j d a b c vis. elim vis [
       | inl x ↦ omega (arith, late)
       | inr x ↦ elim (cases_lt d.moment n) [

@@ -22,10 +22,9 @@ module _ (p : Listing) where
   Fair (Write l v next) = Knows next × IsValueOf p l v
   Fair (Swap l v to next) = Knows next × IsValueOf p l v
 
-  known_value : (l v : ℕ) → IsValueOf p l v → IsKnown p v
-  known_value l v (inl e) = inr (inr (inr (l, e)))
-  known_value l v (inr (inl o)) = inr (inl (inr (inl (l, o))))
-  known_value l v (inr (inr o)) = o.1
+  -- a location's values are among what a register may hold
+  pub known_value : (l v : ℕ) → IsValueOf p l v → IsKnown p v
+  known_value l v is = elim is [ inl q ↦ inr (inr (inr (l, q))) | inr (inl o) ↦ inr (inl (inr (inl (l, o)))) | inr (inr k) ↦ k.1 ]
 
   pub knows_loaded : (to : Reg) (v : ℕ) (s : Local) → IsKnown p v → Knows s → Knows (loaded to v s)
   knows_loaded to v s k h i = elim (set_cases s.registers (number to) v i) [ inl e ↦ rw e k | inr e ↦ rw e (h i) ]
@@ -34,8 +33,8 @@ module _ (p : Listing) where
   knows_jumped true k s h = h
   knows_jumped false k s h = h
 
-  pub fair : (t : ℕ) (s : Local) → Knows s → Fair (action p.threads t s)
-  fair t s h = go (slice_get (code_of p.threads t) s.place) refl
+  pub fair_at : (t : ℕ) (s : Local) (a : Action) → Knows s → action p.threads t s ≡ a → Fair a
+  fair_at t s a h e = subst Fair e (go (slice_get (code_of p.threads t) s.place) refl)
     where
       go : (o : Option Instr) → slice_get (code_of p.threads t) s.place ≡ o → Fair (act o s)
       go None e = tt
@@ -48,9 +47,6 @@ module _ (p : Listing) where
       go (Some (Jne k)) e = knows_jumped (not s.flag) k s h
       go (Some (Jmp k)) e = knows_jumped true k s h
       go (Some _) e = h
-
-  pub fair_at : (t : ℕ) (s : Local) (a : Action) → Knows s → action p.threads t s ≡ a → Fair a
-  fair_at t s a h e = subst Fair e (fair t s h)
 
   -- registers, buffers and memory hold such values
   pub record Valued (locals : ℕ → Local) (buffers : ℕ → List Pending) (memory : ℕ → ℕ) : Type 0 where

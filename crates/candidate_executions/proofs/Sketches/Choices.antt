@@ -7,7 +7,7 @@ use Rattle.candidate_executions.proofs.Vocabulary.{AValueKeepsASketch, ASourceKe
 use Rattle.candidate_executions.proofs.Vocabulary.{EachCompletionHasAnOrder}
 use Rattle.candidate_executions.proofs.Sketches.GivenValues.{none_given, given_same, given_other, longer, reads_there}
 use Rattle.candidate_executions.proofs.FromRuns.StepsSuffice.{advance}
-use Rattle.candidate_executions.proofs.Sketches.MoreValues.{spare, Takes, trace_more, no_values, at_end, end_or_read, at_read, used_up}
+use Rattle.candidate_executions.proofs.Sketches.MoreValues.{spare, Takes, trace_more, no_values, at_end, end_or_read, at_read}
 use Rattle.candidate_executions.proofs.Orders.Lists.{first_or_later, none_here}
 
 -- what holds of each pair of a list and of one more, holds of each with it
@@ -46,8 +46,8 @@ a_value_keeps_a_sketch p mode k t l v forward fits next = let there = there_by p
   each_thread = length-set k.given t (given_to k t ++ v ∷ []) ∙ fits.each_thread;
   used = λ u. elim (cases_eq u t) [
     | inl q ↦ subst (λ z. (trace_by p mode (given_to (with_value k t v)) z).unused ≡ []) (sym q) (rw (given_same k t v there)
-        (used_up (action p.threads t) (fenced_gaps mode t) (length (code_of p.threads t)) (λ s. advance p forward t s) (length (code_of p.threads t)) 0
-        (start_of p.threads t) (given_to k t) v l (omega arith) next (fits.used t)))
+        ((at_read (action p.threads t) (fenced_gaps mode t) (length (code_of p.threads t)) (λ s. advance p forward t s) (length (code_of p.threads t)) 0
+        (start_of p.threads t) (given_to k t) [] v l (omega arith) next (fits.used t)).used refl))
     | inr q ↦ rw (given_other k t v u q) (fits.used u)
   ];
   sources = λ e s h. let (x, w, a, r, n, f) = fits.sources e s h in
@@ -122,7 +122,7 @@ module _ (p : Listing) (mode : Machine) (k : Sketch) (c : Candidate) (fits : IsS
             let ends : read_by (action p.threads t (plays t (c.given t)).last) ≡ None = ap read_by (is.whole t).0 in
             let z : None ≡ Some l = sym ends ∙ reads in cc)
         go (v ∷ rest) q =
-            let takes : Takes (plays t (given_to k t ++ v ∷ rest)) (length (plays t (given_to k t)).accesses) l v =
+            let takes : Takes (plays t (given_to k t ++ v ∷ rest)) (length (plays t (given_to k t)).accesses) l v rest =
             at_read (action p.threads t) (fenced_gaps mode t) (length (code_of p.threads t)) (λ s. advance p forward t s) (length (code_of p.threads t)) 0
             (start_of p.threads t) (given_to k t) rest v l (omega arith) next (fits.used t) in
             let there : access p mode c (At t (length (plays t (given_to k t)).accesses)) ≡ Some takes.access =

@@ -1,11 +1,15 @@
 -- What is known of a sketch holds of each completion.
-use Rattle.candidate_executions.proofs.Vocabulary.{◌≡◌, ◌≢◌, ℕ, ◌<◌, List, ◌++◌, Some, IsSome, Contains, slice_get, refl, sym, ap, ◌∙◌, subst, inl, inr, arith, length, slice_index, same_Some, Listing}
+use Rattle.candidate_executions.proofs.Vocabulary.{◌⊎◌, ◌≡◌, ◌≢◌, ℕ, ◌<◌, List, ◌++◌, Some, IsSome, Contains, slice_get, refl, sym, ap, ◌∙◌, subst, inl, inr, arith, length, slice_index, same_Some, Listing}
 use Rattle.candidate_executions.proofs.Vocabulary.{action, start_of, code_of, Machine, Access, Event, Initial, At, Kind, Candidate, access, access_by, Writes, IsCandidate, trace, fenced_gaps, Relates}
 use Rattle.candidate_executions.proofs.Vocabulary.{Edge, IsCycle, WriteOrder, FromReads, Sketch, given_to, Completes, IsSketch, IsBefore, KnownRelates, KnownEdge, KnownFromReads}
 use Rattle.candidate_executions.proofs.Vocabulary.{EveryCandidateCompletesEmpty, AKnownEdgeIsAnEdge, AKnownCycleIsACycle}
 use Rattle.candidate_executions.specs.declared.event.Kind.TheVariants as union
 use Rattle.candidate_executions.proofs.{Orders.WiderRelations.cycle_wider, Candidates.WrittenValues.stored_as, Candidates.WrittenValues.some_written, Sketches.MoreValues.trace_more}
 use Rattle.candidate_executions.proofs.Sketches.GivenValues.{none_given}
+
+-- each part of a union for one of another
+pub each : {P R W F Q S X G : Type 0} → P ⊎ (R ⊎ (W ⊎ F)) → (P → Q) → (R → S) → (W → X) → (F → G) → Q ⊎ (S ⊎ (X ⊎ G))
+each h p r w f = elim h [ inl a ↦ inl (p a) | inr (inl a) ↦ inr (inl (r a)) | inr (inr (inl a)) ↦ inr (inr (inl (w a))) | inr (inr (inr a)) ↦ inr (inr (inr (f a))) ]
 
 module _ (p : Listing) (mode : Machine) (k : Sketch) (fits : IsSketch p mode k) (c : Candidate) (is : IsCandidate p mode c) (completes : Completes k c) where
   grows : (e : Event) (x : Access) → access_by p mode (given_to k) e ≡ Some x → access p mode c e ≡ Some x
@@ -55,18 +59,9 @@ module _ (p : Listing) (mode : Machine) (k : Sketch) (fits : IsSketch p mode k) 
       (rw (← same) (rw xr refl), completes.sources e d q)
 
   relates : (kind : Kind) (d e : Event) (x y : Access) → access p mode c d ≡ Some x → access p mode c e ≡ Some y → KnownRelates k kind d x e y → Relates c kind d x e y
-  relates union.Sequential d e x y a b (inl r) = inl r
-  relates union.Sequential d e x y a b (inr (inl r)) = inr (inl (reads d e y b r))
-  relates union.Sequential d e x y a b (inr (inr (inl r))) = inr (inr (inl (write_order d e x y a b r)))
-  relates union.Sequential d e x y a b (inr (inr (inr r))) = inr (inr (inr (from_reads d e x y a b r)))
-  relates union.Location d e x y a b (inl r) = inl r
-  relates union.Location d e x y a b (inr (inl r)) = inr (inl (reads d e y b r))
-  relates union.Location d e x y a b (inr (inr (inl r))) = inr (inr (inl (write_order d e x y a b r)))
-  relates union.Location d e x y a b (inr (inr (inr r))) = inr (inr (inr (from_reads d e x y a b r)))
-  relates union.Global d e x y a b (inl r) = inl r
-  relates union.Global d e x y a b (inr (inl r)) = inr (inl (reads d e y b r.0, r.1))
-  relates union.Global d e x y a b (inr (inr (inl r))) = inr (inr (inl (write_order d e x y a b r)))
-  relates union.Global d e x y a b (inr (inr (inr r))) = inr (inr (inr (from_reads d e x y a b r)))
+  relates union.Sequential d e x y a b h = each h (λ r. r) (reads d e y b) (write_order d e x y a b) (from_reads d e x y a b)
+  relates union.Location d e x y a b h = each h (λ r. r) (reads d e y b) (write_order d e x y a b) (from_reads d e x y a b)
+  relates union.Global d e x y a b h = each h (λ r. r) (λ r. (reads d e y b r.0, r.1)) (write_order d e x y a b) (from_reads d e x y a b)
 
   -- a known edge is one of the completion
   pub known_edge : (kind : Kind) (d e : Event) → KnownEdge p mode k kind d e → Edge p mode c kind d e

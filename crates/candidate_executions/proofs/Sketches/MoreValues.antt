@@ -7,15 +7,16 @@ use Rattle.candidate_executions.proofs.FromRuns.StepsSuffice.{Advances}
 abbrev pub spare : Trace → List ℕ → Trace
 spare trace more = record trace { unused = trace.unused ++ more }
 
--- the access at this number reads this value from the location
-pub record Takes (trace : Trace) (i l v : ℕ) : Type 0 where
+-- the access at this number reads this value from the location, and where no more values come none is left over
+pub record Takes (trace : Trace) (i l v : ℕ) (more : List ℕ) : Type 0 where
   pub access : Access
   pub there : slice_get trace.accesses i ≡ Some access
   pub location : access.location ≡ l
   pub value : access.read ≡ Some v
+  pub used : more ≡ [] → trace.unused ≡ []
 
-takes_after : (a : Access) (trace : Trace) (i l v : ℕ) → Takes trace i l v → Takes (with_access a trace) (suc i) l v
-takes_after a trace i l v t = record { access = t.access; there = t.there; location = t.location; value = t.value }
+takes_after : (a : Access) (trace : Trace) (i l v : ℕ) (more : List ℕ) → Takes trace i l v more → Takes (with_access a trace) (suc i) l v more
+takes_after a trace i l v more t = record { access = t.access; there = t.there; location = t.location; value = t.value; used = t.used }
 
 module _ (does : Local → Action) (gap : ℕ → Bool) where
   -- the accesses stay
@@ -101,7 +102,7 @@ module _ (does : Local → Action) (gap : ℕ → Bool) where
 
     -- the read at which it stopped takes the next value
     pub at_read : (k n : ℕ) (s : Local) (given more : List ℕ) (v l : ℕ) → len ≤ s.place + k → read_by (does (trace does gap k n s given).last) ≡ Some l →
-        (trace does gap k n s given).unused ≡ [] → Takes (trace does gap k n s (given ++ v ∷ more)) (length (trace does gap k n s given).accesses) l v
+        (trace does gap k n s given).unused ≡ [] → Takes (trace does gap k n s (given ++ v ∷ more)) (length (trace does gap k n s given).accesses) l v more
     at_read zero n s given more v l b h u = absurd (not_past_end s l (omega arith) h)
     at_read (suc k) n s given more v l b h u = go (does s) refl (advances s) given h u (λ n s given. at_read k n s given more v l)
       where
@@ -109,34 +110,13 @@ module _ (does : Local → Action) (gap : ℕ → Bool) where
             read_by (does (traced (trace does gap k) (entered (gap s.place) n) s a given).last) ≡ Some l →
             (traced (trace does gap k) (entered (gap s.place) n) s a given).unused ≡ [] →
             ((n : ℕ) (s : Local) (given : List ℕ) → len ≤ s.place + k → read_by (does (trace does gap k n s given).last) ≡ Some l →
-            (trace does gap k n s given).unused ≡ [] → Takes (trace does gap k n s (given ++ v ∷ more)) (length (trace does gap k n s given).accesses) l v) →
-            Takes (traced (trace does gap k) (entered (gap s.place) n) s a (given ++ v ∷ more)) (length (traced (trace does gap k) (entered (gap s.place) n) s a given).accesses) l v
+            (trace does gap k n s given).unused ≡ [] → Takes (trace does gap k n s (given ++ v ∷ more)) (length (trace does gap k n s given).accesses) l v more) →
+            Takes (traced (trace does gap k) (entered (gap s.place) n) s a (given ++ v ∷ more)) (length (traced (trace does gap k) (entered (gap s.place) n) s a given).accesses) l v more
         go Stop e f given h u ih = absurd (let z : None ≡ Some l = sym (ap read_by e) ∙ h in cc)
         go (Go next) e f given h u ih = ih (entered (gap s.place) n) next given (omega arith) h u
         go (Wait next) e f given h u ih = ih (suc (entered (gap s.place) n)) next given (omega arith) h u
-        go (Write m w next) e f given h u ih = takes_after _ _ _ l v (ih (entered (gap s.place) n) next given (omega arith) h u)
-        go (Read m to next) e f [] h u ih = record { access = _; there = refl; location = let z : Some m ≡ Some l = sym (ap read_by e) ∙ h in cc; value = refl }
-        go (Read m to next) e f (w ∷ given) h u ih = takes_after _ _ _ l v (ih (entered (gap s.place) n) (loaded to w next) given (omega arith) h u)
-        go (Swap m x to next) e f [] h u ih = record { access = _; there = refl; location = let z : Some m ≡ Some l = sym (ap read_by e) ∙ h in cc; value = refl }
-        go (Swap m x to next) e f (w ∷ given) h u ih = takes_after _ _ _ l v (ih (suc (entered (gap s.place) n)) (loaded to w next) given (omega arith) h u)
-
-    -- and one value more is used up
-    pub used_up : (k n : ℕ) (s : Local) (given : List ℕ) (v l : ℕ) → len ≤ s.place + k → read_by (does (trace does gap k n s given).last) ≡ Some l →
-        (trace does gap k n s given).unused ≡ [] → (trace does gap k n s (given ++ v ∷ [])).unused ≡ []
-    used_up zero n s given v l b h u = absurd (not_past_end s l (omega arith) h)
-    used_up (suc k) n s given v l b h u = go (does s) refl (advances s) given h u (λ n s given. used_up k n s given v l)
-      where
-        go : (a : Action) → does s ≡ a → Advances len s.place a → (given : List ℕ) →
-            read_by (does (traced (trace does gap k) (entered (gap s.place) n) s a given).last) ≡ Some l →
-            (traced (trace does gap k) (entered (gap s.place) n) s a given).unused ≡ [] →
-            ((n : ℕ) (s : Local) (given : List ℕ) → len ≤ s.place + k → read_by (does (trace does gap k n s given).last) ≡ Some l →
-            (trace does gap k n s given).unused ≡ [] → (trace does gap k n s (given ++ v ∷ [])).unused ≡ []) →
-            (traced (trace does gap k) (entered (gap s.place) n) s a (given ++ v ∷ [])).unused ≡ []
-        go Stop e f given h u ih = absurd (let z : None ≡ Some l = sym (ap read_by e) ∙ h in cc)
-        go (Go next) e f given h u ih = ih (entered (gap s.place) n) next given (omega arith) h u
-        go (Wait next) e f given h u ih = ih (suc (entered (gap s.place) n)) next given (omega arith) h u
-        go (Write m w next) e f given h u ih = ih (entered (gap s.place) n) next given (omega arith) h u
-        go (Read m to next) e f [] h u ih = no_values k (entered (gap s.place) n) (loaded to v next)
-        go (Read m to next) e f (w ∷ given) h u ih = ih (entered (gap s.place) n) (loaded to w next) given (omega arith) h u
-        go (Swap m x to next) e f [] h u ih = no_values k (suc (entered (gap s.place) n)) (loaded to v next)
-        go (Swap m x to next) e f (w ∷ given) h u ih = ih (suc (entered (gap s.place) n)) (loaded to w next) given (omega arith) h u
+        go (Write m w next) e f given h u ih = takes_after _ _ _ l v more (ih (entered (gap s.place) n) next given (omega arith) h u)
+        go (Read m to next) e f [] h u ih = record { access = _; there = refl; location = let z : Some m ≡ Some l = sym (ap read_by e) ∙ h in cc; value = refl; used = λ q. rw q (no_values k (entered (gap s.place) n) (loaded to v next)) }
+        go (Read m to next) e f (w ∷ given) h u ih = takes_after _ _ _ l v more (ih (entered (gap s.place) n) (loaded to w next) given (omega arith) h u)
+        go (Swap m x to next) e f [] h u ih = record { access = _; there = refl; location = let z : Some m ≡ Some l = sym (ap read_by e) ∙ h in cc; value = refl; used = λ q. rw q (no_values k (suc (entered (gap s.place) n)) (loaded to v next)) }
+        go (Swap m x to next) e f (w ∷ given) h u ih = takes_after _ _ _ l v more (ih (suc (entered (gap s.place) n)) (loaded to w next) given (omega arith) h u)

@@ -1,8 +1,10 @@
 use Rattle.canonical_text.proofs.Vocabulary.{◌≡◌, ◌<◌, ℕ, List, ◌++◌, length, map, take, get_or, codes, sym, ap, ◌∙◌, arith, length-map, text_of, Observed, gap, joined_by, observed_place_pieces}
 use Rattle.canonical_text.proofs.Vocabulary.{place_named}
+use Rattle.std.proofs.Common.{◌==◌, false}
+use Rattle.std.proofs.lemmas.Bool.Decides.{nat_tests}
 use Rattle.std.proofs.Math.Seq.{take-length}
 use Rattle.litmus_reader.specs.declared.observed.Observed.TheVariants as observed
-use Rattle.canonical_text.proofs.TextsGrow.{between_at, element_column_more, not_none, brackets}
+use Rattle.canonical_text.proofs.TextsGrow.{between_at, element_column_more, brackets}
 use Rattle.canonical_text.proofs.observed.push_observed.Goals as goal
 
 pub loop-i-preserved : goal.loop-i-preserved
@@ -19,8 +21,8 @@ returns c =
     let shown = c.args.observed.now in
     let named = place_named c.args.names.now.locations in
     let all : c.loop-i.i ≡ length shown = omega arith in
-    let present : 0 < length shown = not_none (length shown) (sym c.is_empty.ensures ∙ c.if-is_empty.false) in
-    let some : 0 < length (map named shown) = omega (arith, length-map shown named, present) in
+    let present : (length shown == 0) ≡ false = sym c.is_empty.ensures ∙ c.if-is_empty.false in
+    let some : 0 < length (map named shown) = rw (length-map shown named) (grind (arith, nat_tests, present)) in
     c.in_ok-extend_from_slice-2.ensures.items
     ∙ ap (λ (bs : List ℕ). bs ++ codes "]\n") (c.loop-i.invariant
     ∙ ap (λ (bs : List ℕ). bs ++ text_of (joined_by gap (map observed_place_pieces (map named (take c.loop-i.i shown))))) c.in_ok-extend_from_slice.ensures.items

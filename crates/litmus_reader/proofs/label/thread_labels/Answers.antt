@@ -1,5 +1,6 @@
 use Rattle.litmus_reader.proofs.Vocabulary.{◌≡◌, ℕ, ◌+◌, List, ◌++◌, map, get_or, sym, ap, ◌∙◌, arith, slice_get, Vec, Cell, cell_view, row_view, Label}
-use Rattle.litmus_reader.proofs.LabelRows.{behind, one_cell, no_cell, named_labels}
+use Rattle.std.proofs.lemmas.Simd.{map-map}
+use Rattle.litmus_reader.proofs.LabelRows.{behind, one_cell, no_cell}
 use Rattle.litmus_reader.proofs.label.thread_labels.Goals as goal
 use Rattle.litmus_reader.proofs.label.thread_labels.Goals.{in-Some+in_ok-push_labels, in_default}
 
@@ -18,7 +19,7 @@ loop-row-preserved c =
           let cell = cell_view w.in-Some.cell.now in
           let names : w.push_labels.new.labels.items ≡ before ++ map (λ l. record { name = l; position = k }) cell.labels =
           w.in_ok-push_labels.ensures ∙ (λ j. before ++ map (λ name. record { name = name.now; position = k }) (w.as_slice-in-Some.ensures.value j))
-          ∙ ap (λ (ls : List Label). before ++ ls) (named_labels (λ l. l.now) k w.in-Some.cell.now.labels.items) in
+          ∙ ap (λ (ls : List Label). before ++ ls) (sym (map-map (λ l. record { name = l; position = k }) (λ l. l.now) w.in-Some.cell.now.labels.items)) in
           let labels = ap (λ (v : Vec Label). v.items) w.labels-is ∙ names in
           let position = w.position-is ∙ ap (λ (n : ℕ). k + n) w.size-position.ensures.value in
           record {

@@ -2,9 +2,6 @@ use Rattle.litmus_reader.proofs.Vocabulary.{◌≡◌, ℕ, ◌∷◌, ◌++◌,
 use Rattle.litmus_reader.proofs.Vocabulary.{Thread, row_view, byte_in, byte_at, thread_in, code_in}
 use Rattle.litmus_reader.proofs.program.threads_of.Goals as goal
 
-made : (c d : List Instr) (r s : List ℕ) → c ≡ d → r ≡ s → ◌≡◌ {A = Thread} (record { code = c; registers = r }) (record { code = d; registers = s })
-made c d r s e f = λ i. record { code = e i; registers = f i }
-
 pub loop-thread-preserved : goal.loop-thread-preserved
 loop-thread-preserved c =
     let numbered = byte_in c.args.names.now.locations in
@@ -17,5 +14,5 @@ loop-thread-preserved c =
     let registers = c.unwrap_or.ensures ∙ ap (λ (o : Option (List ℕ)). unwrap_or o (replicate 6 0)) c.copied.ensures ∙ c.get.ensures.lookup.4 (omega arith) (replicate 6 0) in
     c.in_ok-push.ensures.items
     ∙ ap (λ (ts : List Thread). ts ++ record { code = c.of.result; registers = c.unwrap_or.result } ∷ []) c.loop-thread.invariant
-    ∙ ap (λ (thread : Thread). map (thread_in numbered rows c.args.registers.now targets) (range_with_len 0 t) ++ thread ∷ []) (made _ _ _ _ code registers)
+    ∙ (λ i. map (thread_in numbered rows c.args.registers.now targets) (range_with_len 0 t) ++ record { code = code i; registers = registers i } ∷ [])
     ∙ sym (map-range_with_len_more (thread_in numbered rows c.args.registers.now targets) 0 t t (omega arith))

@@ -1,4 +1,5 @@
-use Rattle.litmus_reader.proofs.Vocabulary.{map, refl, ap, ◌∙◌, List, err_from_is_err_and, Place, place_view, body_view, ending_view, observed_of, byte_in}
+use Rattle.litmus_reader.proofs.Vocabulary.{map, refl, ap, ◌∙◌, List, Place, place_view, body_view, ending_view, observed_of, byte_in}
+use Rattle.litmus_syntax.proofs.Options.{handed_on}
 use Rattle.litmus_reader.proofs.Parts.{refused_formula, refused_jump, parts_read}
 use Rattle.litmus_reader.proofs.reader.litmus_of.Goals as goal
 
@@ -6,15 +7,15 @@ pub returns-in_err-formula : goal.returns-in_err-formula
 returns-in_err-formula c =
     let body = body_view c.args.body.now in
     let ending = c.args.ending.now in
-    let p = err_from_is_err_and c.from_residual-in_err-formula.result c.from_residual-in_err-formula.ensures.1 in
-    rw (p.1, p.2) (refused_formula c.args.tokens.now body ending.signs.refusal (ending_view ending) (byte_in c.in_ok-names.names.locations) c.in_err-formula.field-0.0 c.requires c.in_err-formula.ensures)
+    rw (handed_on c.from_residual-in_err-formula.result c.from_residual-in_err-formula.ensures.1)
+    (refused_formula c.args.tokens.now body ending.signs.refusal (ending_view ending) (byte_in c.in_ok-names.names.locations) c.in_err-formula.field-0.0 c.requires c.in_err-formula.ensures)
 
 pub returns-in_err-program : goal.returns-in_err-program
 returns-in_err-program c =
     let body = body_view c.args.body.now in
     let ending = c.args.ending.now in
-    let p = err_from_is_err_and c.from_residual-in_err-program.result c.from_residual-in_err-program.ensures.1 in
-    rw (p.1, p.2) (refused_jump c.args.tokens.now body ending.signs.refusal (ending_view ending) c.in_err-program.field-0.0 c.requires c.in_err-program.ensures.lost)
+    rw (handed_on c.from_residual-in_err-program.result c.from_residual-in_err-program.ensures.1)
+    (refused_jump c.args.tokens.now body ending.signs.refusal (ending_view ending) c.in_err-program.field-0.0 c.requires c.in_err-program.ensures.lost)
 
 pub returns : goal.returns
 returns c =

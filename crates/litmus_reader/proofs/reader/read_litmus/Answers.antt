@@ -1,32 +1,26 @@
-use Rattle.litmus_reader.proofs.Vocabulary.{ℕ, List, err_from_is_err_and, Thread, IsWithinLimits, first_fault, BreaksFirst}
+use Rattle.litmus_reader.proofs.Vocabulary.{IsWithinLimits, first_fault, BreaksFirst}
+use Rattle.litmus_syntax.proofs.Options.{handed_on}
 use Rattle.litmus_reader.proofs.{Numbered.program_limits, WholeTexts.nothing_only, WholeTexts.nothing_refused, Meant.found, Meant.found_only, Meant.broken, Meant.broken_only}
 use Rattle.litmus_reader.proofs.reader.read_litmus.Goals as goal
 
-abbrev Within : List Thread → List ℕ → Type 0
-Within threads memory = IsWithinLimits threads memory
-
 pub returns-in_err-read-clause-refused : goal.returns-in_err-read-clause-refused
-returns-in_err-read-clause-refused c =
-    let p = err_from_is_err_and c.from_residual.result c.from_residual.ensures.1 in
-    rw (p.1, p.2) (nothing_refused c.args.bytes.now c.in_err-read.field-0.0 (BreaksFirst first_fault c.args.bytes.now) c.in_err-read.ensures)
+returns-in_err-read-clause-refused c = rw (handed_on c.from_residual.result c.from_residual.ensures.1) (nothing_refused c.args.bytes.now c.in_err-read.field-0.0 (BreaksFirst first_fault c.args.bytes.now) c.in_err-read.ensures)
 
 pub returns-in_err-read-clause-only : goal.returns-in_err-read-clause-only
-returns-in_err-read-clause-only c litmus is =
-    let p = err_from_is_err_and c.from_residual.result c.from_residual.ensures.1 in
-    rw (p.1, p.2) (nothing_only c.args.bytes.now c.in_err-read.field-0.0 litmus c.in_err-read.ensures is.0)
+returns-in_err-read-clause-only c litmus is = rw (handed_on c.from_residual.result c.from_residual.ensures.1) (nothing_only c.args.bytes.now c.in_err-read.field-0.0 litmus c.in_err-read.ensures is.0)
 
 pub returns-in_err-program_of-clause-only : goal.returns-in_err-program_of-clause-only
 returns-in_err-program_of-clause-only c litmus is =
-    let p = err_from_is_err_and c.from_residual-in_err-program_of.result c.from_residual-in_err-program_of.ensures.1 in
-    rw (p.1, p.2) (broken_only c.args.bytes.now c.in_ok-read.read c.in_ok-read.ensures Within first_fault program_limits c.in_err-program_of.field-0.0 litmus c.in_err-program_of.ensures is)
+    rw (handed_on c.from_residual-in_err-program_of.result c.from_residual-in_err-program_of.ensures.1)
+    (broken_only c.args.bytes.now c.in_ok-read.read c.in_ok-read.ensures IsWithinLimits first_fault program_limits c.in_err-program_of.field-0.0 litmus c.in_err-program_of.ensures is)
 
 pub returns-in_err-program_of-clause-refused : goal.returns-in_err-program_of-clause-refused
 returns-in_err-program_of-clause-refused c =
-    let p = err_from_is_err_and c.from_residual-in_err-program_of.result c.from_residual-in_err-program_of.ensures.1 in
-    rw (p.1, p.2) (broken c.args.bytes.now c.in_ok-read.read c.in_ok-read.ensures Within first_fault program_limits c.in_err-program_of.field-0.0 c.in_err-program_of.ensures)
+    rw (handed_on c.from_residual-in_err-program_of.result c.from_residual-in_err-program_of.ensures.1)
+    (broken c.args.bytes.now c.in_ok-read.read c.in_ok-read.ensures IsWithinLimits first_fault program_limits c.in_err-program_of.field-0.0 c.in_err-program_of.ensures)
 
 pub returns-clause-found : goal.returns-clause-found
-returns-clause-found c = found c.args.bytes.now c.in_ok-read.read c.in_ok-read.ensures Within first_fault program_limits c.in_ok-program_of.field-0 c.in_ok-program_of.ensures
+returns-clause-found c = found c.args.bytes.now c.in_ok-read.read c.in_ok-read.ensures IsWithinLimits first_fault program_limits c.in_ok-program_of.field-0 c.in_ok-program_of.ensures
 
 pub returns-clause-only : goal.returns-clause-only
-returns-clause-only c litmus is = found_only c.args.bytes.now c.in_ok-read.read c.in_ok-read.ensures Within first_fault program_limits c.in_ok-program_of.field-0 litmus c.in_ok-program_of.ensures is.0
+returns-clause-only c litmus is = found_only c.args.bytes.now c.in_ok-read.read c.in_ok-read.ensures IsWithinLimits first_fault program_limits c.in_ok-program_of.field-0 litmus c.in_ok-program_of.ensures is.0

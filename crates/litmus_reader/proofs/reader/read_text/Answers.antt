@@ -1,16 +1,15 @@
-use Rattle.litmus_reader.proofs.Vocabulary.{◌∙◌, err_from_is_err_and}
+use Rattle.litmus_reader.proofs.Vocabulary.{◌∙◌}
+use Rattle.litmus_syntax.proofs.Options.{handed_on}
 use Rattle.litmus_reader.proofs.WholeTexts.{Split, text_read, tokens_refused, first_line_refused, skipped_lines_refused}
 use Rattle.litmus_reader.proofs.reader.read_text.Goals as goal
 
 pub returns-in_err-name : goal.returns-in_err-name
-returns-in_err-name c =
-    let p = err_from_is_err_and c.from_residual-in_err-name.result c.from_residual-in_err-name.ensures.1 in
-    rw (p.1, p.2) (first_line_refused c.args.bytes.now c.in_err-name.field-0.0 c.in_ok-check_utf8.ensures.ok c.in_err-name.ensures.only)
+returns-in_err-name c = rw (handed_on c.from_residual-in_err-name.result c.from_residual-in_err-name.ensures.1) (first_line_refused c.args.bytes.now c.in_err-name.field-0.0 c.in_ok-check_utf8.ensures.ok c.in_err-name.ensures.only)
 
 pub returns-in_err-others : goal.returns-in_err-others
 returns-in_err-others c =
-    let p = err_from_is_err_and c.from_residual-in_err-others.result c.from_residual-in_err-others.ensures.1 in
-    rw (p.1, p.2) (skipped_lines_refused c.args.bytes.now c.in_ok-name.name.now c.in_ok-name.lines.now c.in_err-others.field-0.0 c.in_ok-check_utf8.ensures.ok c.in_ok-name.ensures.only c.in_err-others.ensures.only)
+    rw (handed_on c.from_residual-in_err-others.result c.from_residual-in_err-others.ensures.1)
+    (skipped_lines_refused c.args.bytes.now c.in_ok-name.name.now c.in_ok-name.lines.now c.in_err-others.field-0.0 c.in_ok-check_utf8.ensures.ok c.in_ok-name.ensures.only c.in_err-others.ensures.only)
 
 pub returns-in_err-litmus : goal.returns-in_err-litmus
 returns-in_err-litmus c =
@@ -23,8 +22,8 @@ returns-in_err-litmus c =
       lexes = c.in_ok-tokens.ensures.found;
       lexes_only = c.in_ok-tokens.ensures.only;
     } in
-    let p = err_from_is_err_and c.from_residual-in_err-litmus.result c.from_residual-in_err-litmus.ensures.1 in
-    rw (p.1, p.2) (tokens_refused c.args.bytes.now c.in_ok-name.name.now c.in_ok-name.lines.now c.in_ok-others.others.now c.in_ok-tokens.tokens c.in_err-litmus.field-0.0 split c.in_err-litmus.ensures)
+    rw (handed_on c.from_residual-in_err-litmus.result c.from_residual-in_err-litmus.ensures.1)
+    (tokens_refused c.args.bytes.now c.in_ok-name.name.now c.in_ok-name.lines.now c.in_ok-others.others.now c.in_ok-tokens.tokens c.in_err-litmus.field-0.0 split c.in_err-litmus.ensures)
 
 pub returns : goal.returns
 returns c =
