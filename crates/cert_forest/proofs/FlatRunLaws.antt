@@ -1,9 +1,9 @@
 -- Lists of runs that lie flat.
 use Rattle.cert_forest.proofs.Vocabulary.{◌≡◌, ◌≤◌, ◌<◌, ◌+◌, ◌-◌, ℕ, zero, suc, List, [], ◌∷◌, ◌++◌, Some, length, get_or, take, drop, refl, sym, ap, ◌∙◌, subst, inl, inr, arith, Contains, slice_get, slice_get-get_or, length-append, length-drop, same_Some, take_more, Label, AreEnds, runs_from}
 use Rattle.std.specs.Prelude.{slice_range}
-use Rattle.std.proofs.lemmas.List.{drop-append-le, get_or-drop, take-append-le, take_all}
+use Rattle.std.proofs.lemmas.List.{drop-append-le, take-append-le, take_all}
 use Rattle.std.proofs.lemmas.List.Elements.{Contains-push_cases}
-use Rattle.std.proofs.lemmas.Option.{get_or_from_slice_get, none-some, slice_get_within}
+use Rattle.std.proofs.lemmas.Option.{none-some}
 use Rattle.std.proofs.Math.Seq.{drop-append_seam}
 
 -- as many runs as ends
@@ -98,13 +98,3 @@ pub none_more : {A : Type 0} (xs : List A) (n : ℕ) (x : A) → n < length xs �
 none_more xs n x within none other has =
     elim (Contains-push_cases (take n xs) (get_or xs n x) x (subst (λ l. Contains l x) (take_more xs n x within) has))
     [ inl old ↦ none old | inr same ↦ other (slice_get-get_or xs n x within ∙ ap Some same) ]
-
--- a part with the next
-pub range_more : {A : Type 0} (xs : List A) (from to : ℕ) (x : A) → from ≤ to → slice_get xs to ≡ Some x → slice_range xs from (to + 1) ≡ slice_range xs from to ++ x ∷ []
-range_more xs from to x before there =
-    let within : to < length xs = slice_get_within xs to x there in
-    let left : to - from < length (drop from xs) = (let e = length-drop from xs in omega (arith, e, before, within)) in
-    let more : to + 1 - from ≡ to - from + 1 = omega (arith, before) in
-    let at : from + (to - from) ≡ to = omega (arith, before) in
-    let next : get_or (drop from xs) (to - from) x ≡ x = get_or-drop from xs (to - from) x ∙ ap (λ i. get_or xs i x) at ∙ get_or_from_slice_get xs to x x there in
-    ap (λ n. take n (drop from xs)) more ∙ take_more (drop from xs) (to - from) x left ∙ ap (λ y. take (to - from) (drop from xs) ++ y ∷ []) next

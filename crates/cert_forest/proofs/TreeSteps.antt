@@ -1,6 +1,6 @@
 -- Nodes of trees, as the code reads them.
 use Rattle.cert_forest.proofs.Vocabulary.{◌≡◌, ℕ, suc, ◌-◌, ◌<◌, List, [], Some, None, refl, ap, ◌∙◌, arith, Stop, Refused, OutOfMemory, Gap, Split, Bound, gap_trees_of, Fails, letter_at, repeat_at}
-use Rattle.cert_forest.proofs.Vocabulary.{stops_for_memory, Head, head_at, below_at, cover_at, split_at, gap_by, gap_at, ne_eqb}
+use Rattle.cert_forest.proofs.Vocabulary.{stops_for_memory, AccessId, Source, NoCover, Head, SourceHead, head_at, below_at, cover_at, split_at, gap_by, gap_at, ne_eqb}
 
 less : (d : ℕ) → 0 < d → d ≡ suc (d - 1)
 less d lt = omega arith
@@ -16,6 +16,10 @@ unfolding cover_at
 cover_node d bytes h rest lt e =
     let step : cover_at (suc (d - 1)) bytes ≡ below_at (cover_at (d - 1)) h rest = rw e refl in
     ap (λ (n : ℕ). cover_at n bytes) (less d lt) ∙ step
+
+-- a read without a source is a whole tree
+pub cover_leaf : (d : ℕ) (bytes rest : List ℕ) (read : AccessId) → 0 < d → head_at bytes ≡ Some (SourceHead read 0, rest) → cover_at d bytes ≡ Some (Source read NoCover, rest)
+cover_leaf d bytes rest read lt e = cover_node d bytes (SourceHead read 0) rest lt e
 
 pub cover_stops : (d : ℕ) (bytes : List ℕ) (stop : Stop) → 0 < d → Fails stops_for_memory stop (head_at bytes) → Fails stops_for_memory stop (cover_at d bytes)
 unfolding cover_at

@@ -199,7 +199,7 @@ fn known_root<'t>(bytes: &'t [u8], nodes: &mut Vec<Node>) -> Result<(u64, &'t [u
 }
 
 /// A read without a source whose numbers have one digit each, and the bytes after it: most leaves are such reads.
-fn unsourced_read(bytes: &[u8]) -> Option<(AccessId, &[u8])>
+pub(crate) fn unsourced_read(bytes: &[u8]) -> Option<(AccessId, &[u8])>
     ensures { IfSome result (λ x. head_at bytes.now ≡ Some (SourceHead x.0 0, x.1.now)) }
 {
     match bytes {
@@ -229,15 +229,39 @@ fn unsourced_read(bytes: &[u8]) -> Option<(AccessId, &[u8])>
     }
 }
 
+/// The next read of a thread and how many values it takes, where both numbers have one digit, and the bytes after them:
+/// most nodes with children are such.
+fn short_value(bytes: &[u8]) -> Option<(u8, u8, &[u8])>
+    ensures { IfSome result (λ x. head_at bytes.now ≡ Some (ValueHead x.0 x.1, x.2.now)) }
+{
+    match bytes {
+        [before, letter, space, thread, between, count, rest @ ..] => {
+            if *before != b' ' || *letter != b'V' || *space != b' ' {
+                return None;
+            }
+            if *between != b' ' || !ends_word(rest) {
+                return None;
+            }
+            let thread = digit_within(255, *thread)? as u8;
+            let count = digit_within(255, *count)? as u8;
+            Some((thread, count, rest))
+        }
+        _ => None,
+    }
+}
+
 /// A root, put after the other nodes, and how many children follow.
 pub(crate) fn root<'t>(bytes: &'t [u8], nodes: &mut Vec<Node>) -> Result<(u64, &'t [u8]), Stop>
     ensures pushes { IfOk result (λ x. PushesRoot nodes.old.items nodes.new.items (head_at bytes.now) x.0 x.1.now) }
     ensures stops { IfErr result (λ stop. Fails stops_for_memory stop (head_at bytes.now)) }
 {
-    match unsourced_read(bytes) {
-        Some((read, rest)) => {
-            nodes.push(Node::Source { read, count: 0 })?;
-            Ok((0, rest))
+    match short_value(bytes) {
+        Some((thread, count, rest)) => {
+            nodes.push(Node::Value {
+                thread,
+                count: u32::from(count),
+            })?;
+            Ok((u64::from(count), rest))
         }
         None => root_of_letter(bytes, nodes),
     }

@@ -1,6 +1,5 @@
 //! Lists of runs.
 ghost use Rattle.std.specs.Prelude.{◌≡◌, ◌↔◌, ◌≤◌, ◌<◌, ◌^◌, ◌++◌, ◌∷◌, [], Some, IsTrue, OnOk, OnErr, MatchOption, Contains, length, get_or, slice_get, slice_range};
-ghost use Rattle.std.specs.List.{insert};
 ghost use Rattle.std.specs.Iterator.{YieldsFirstRef, item_count};
 
 use std::alloc::{AllocError, Global};
@@ -88,34 +87,6 @@ impl Runs {
         if self.ends.push(self.labels.len()).is_err() {
             self.labels.truncate(start);
             return Err(AllocError);
-        }
-        Ok(())
-    }
-
-    /// Puts a run before the one of this number, or after all.
-    pub fn insert(&mut self, number: usize, labels: Vec<Label>) -> Result<(), AllocError>
-        requires { number ≤ length self.old }
-        ensures { OnOk result (self.new ≡ insert self.old number labels.items) }
-    {
-        let mut runs = Runs::new(*self.labels.allocator());
-        runs.push_part(self, 0, number)?;
-        runs.push(&labels)?;
-        runs.push_part(self, number, self.len())?;
-        *self = runs;
-        Ok(())
-    }
-
-    /// Puts those of other runs from this number to before that one after all.
-    fn push_part(&mut self, others: &Runs, from: usize, to: usize) -> Result<(), AllocError>
-        requires ascend { from ≤ to }
-        requires within { to ≤ length others.now }
-        ensures { OnOk result (self.new ≡ self.old ++ slice_range others.now from to) }
-    {
-        for number in from..to {
-            match others.get(number) {
-                Some(run) => self.push(run)?,
-                None => unreachable!(),
-            }
         }
         Ok(())
     }

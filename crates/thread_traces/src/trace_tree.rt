@@ -7,6 +7,7 @@ ghost use Rattle.thread_traces.specs.ThreadTraces.{IsThreadTraceOf};
 ghost use Rattle.thread_traces.specs.TraceTrees.{AreNodesOf, IsChildOf, IsFurther, IsGivenMore, IsNextPlace, IsPushed, IsTraceTree};
 
 use crate::thread_trace::SharedTrace;
+use crate::writes::is_value;
 use std::alloc::{AllocError, Global};
 use std::mem;
 
@@ -20,14 +21,15 @@ const MOST_STEPS: usize = 8;
 const NO_NODE: u32 = 0xffff_ffff;
 
 /// What a thread does under the values of its parent and one more. The trace is here while the thread is neither at
-/// the node nor below. The last two numbers say where to look first: the child that was found last, and the next
-/// child of the parent, round and round.
+/// the node nor below. The last three numbers say where to look first: the child that was found last, the child after
+/// it, and the next child of the parent, round and round.
 #[derive(Drop)]
 pub struct TraceNode {
     pub trace: Option<SharedTrace>,
     pub value: u32,
     pub parent: Option<u32>,
     pub child: u32,
+    pub next: u32,
     pub sibling: u32,
 }
 
@@ -120,6 +122,7 @@ fn node_of(value: u32, parent: Option<u32>, sibling: u32) -> TraceNode
         value,
         parent,
         child: NO_NODE,
+        next: NO_NODE,
         sibling,
     }
 }
@@ -156,11 +159,10 @@ fn put(places: &mut Vec<TracePlace>, t: u8, node: Option<u32>, beyond: u32)
 fn child_of(nodes: &[TraceNode], parent: u32, value: u32) -> Option<u32>
     ensures { IfSome result (IsChildOf nodes.now parent value) }
 {
-    let last = nodes.get(parent as usize)?.child;
-    let mut next = nodes.get(last as usize)?.sibling;
+    let mut next = nodes.get(parent as usize)?.next;
     for _ in 0..MOST_STEPS {
         let node = nodes.get(next as usize)?;
-        if node.parent == Some(parent) && node.value == value {
+        if node.value == value && is_value(node.parent, parent) {
             return Some(next);
         }
         next = node.sibling;
@@ -199,9 +201,11 @@ fn put_trace(nodes: &mut Vec<TraceNode>, n: u32, trace: SharedTrace) -> Option<u
 fn point_at(nodes: &mut Vec<TraceNode>, parent: u32, child: u32)
     ensures { AreNodesOf nodes.old.items None nodes.new.items }
 {
+    let next = next_child(nodes.as_slice(), child, NO_NODE);
     let parent = parent as usize;
     if parent < nodes.len() {
         nodes[parent].child = child;
+        nodes[parent].next = next;
     }
 }
 
