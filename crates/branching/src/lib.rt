@@ -5,8 +5,8 @@
 //!
 //! Begin with `plan_for`, `whole_accesses` and `next_branch`. Free to change: the ranks of the threads
 //! (`plan.rt`), and what makes one choice better than another (`preference.rt`, `ends.rt`). Relied on: what
-//! is given is left to be chosen and comes with each of its choices, nothing is given only where the sketch
-//! is complete, and a read whose bit two tallies lack has no write in either.
+//! `next_branch` names is not chosen yet, and comes with each of its choices; where it names nothing, the
+//! sketch is complete. A read that two tallies lack reads a value that neither writes to its location.
 #![tactic(auto)]
 
 mod branch;

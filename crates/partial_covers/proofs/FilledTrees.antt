@@ -1,13 +1,12 @@
 -- Trees in any mode, made of partial covers.
-use Rattle.partial_covers.proofs.Vocabulary.{◌≡◌, ℕ, true, false, List, Option, Some, None, sym, ap, ◌∙◌, arith, option_map_or, gap_number, tighter_keeps_cover, tighter_keeps_values}
-use Rattle.partial_covers.proofs.Vocabulary.{tighter_keeps_whole, map, SetOfGaps, Listing, Outcome, Shown, asked, machine_of_mode, IsWhole, ProgramSketch, mode_in, Cover, IsNoLooser, in_mode, Choice}
+use Rattle.partial_covers.proofs.Vocabulary.{◌≡◌, ℕ, true, false, List, Option, Some, None, sym, ◌∙◌, arith, option_map_or, gap_number, tighter_keeps_cover, tighter_keeps_values}
+use Rattle.partial_covers.proofs.Vocabulary.{tighter_keeps_whole, SetOfGaps, Listing, Outcome, Shown, asked, machine_of_mode, IsWhole, ProgramSketch, mode_in, Cover, IsNoLooser, in_mode, Choice}
 use Rattle.partial_covers.proofs.Vocabulary.{AreValueChoices, IsCoverAt, SequentialMachine, sequential, unfenced, MayChooseEach, values_may}
 use Rattle.std.specs.FinSet as set
 use Rattle.std.specs.Ordering.{nat_cmp}
 use Rattle.tso_machine.specs.declared.mode.Mode as own
 use Rattle.tso_machine.specs.declared.mode.Mode.TheVariants as modes
 use Rattle.cover_judge.specs.declared.choice.Choice.TheVariants as choice
-use Rattle.cover_judge.proofs.OneList.{one_list_of_values}
 use Rattle.partial_covers.proofs.TighterTrees.{neat_in_mode, depth_in_mode}
 
 -- the empty set has no gap
@@ -53,6 +52,3 @@ module _ (s : ProgramSketch) where
     next = tighter_keeps_values s.program (mode_in (unfenced s)) (mode_in s) s.chosen t are.values (no_looser s.program s.mode) are.next;
     each = are.each;
   }
-
-  pub one_list_of_choices : (t : ℕ) (choices others : List Choice) → AreValueChoices s t choices → AreValueChoices s t others → choices ≡ others
-  one_list_of_choices t choices others are same = are.each ∙ ap (map (choice.Value t)) (one_list_of_values s.program (mode_in s) s.chosen t are.values same.values are.next same.next) ∙ sym same.each

@@ -1,8 +1,8 @@
 -- Partial covers for each value of a read, put after the rest one by one.
-use Rattle.partial_covers.proofs.Vocabulary.{◌≡◌, ℕ, suc, ◌+◌, ◌<◌, List, [], ◌∷◌, ◌++◌, get_or, length, take, refl, sym, ap, ◌∙◌, subst, append_assoc, take_more, append-nil, Listing, Outcome, Shown}
-use Rattle.partial_covers.proofs.Vocabulary.{ProgramSketch, mode_in, nothing_chosen, with_chosen, Choice, AreValueChoices, sketch_with, PartialCover, KeepsNumbers, Cover, IsCoverAt, IsFilling, Node}
+use Rattle.partial_covers.proofs.Vocabulary.{◌≡◌, ℕ, suc, ◌+◌, ◌<◌, List, [], ◌∷◌, ◌++◌, get_or, length, take, refl, sym, ap, ◌∙◌, subst, append_assoc, take_more, append-nil, Outcome, Shown}
+use Rattle.partial_covers.proofs.Vocabulary.{ProgramSketch, mode_in, with_chosen, Choice, AreValueChoices, sketch_with, KeepsNumbers, Cover, IsCoverAt, IsFilling, Node}
 use Rattle.partial_covers.proofs.Vocabulary.{sequential, still_valid, Item, Has, PartialTree, Closed, Values, Hole, PartialTrees, NoPartial, MorePartial, partial_of, count_partial, spell_partial}
-use Rattle.partial_covers.proofs.Vocabulary.{spell_partial_row, after, IsPartialAfter, ArePartialAfter, PushesPartial, PushesPartialRow, IsPartialCover}
+use Rattle.partial_covers.proofs.Vocabulary.{spell_partial_row, after, IsPartialAfter, ArePartialAfter, PushesPartial, PushesPartialRow}
 use Rattle.std.specs.FinSet as set
 use Rattle.tso_machine.specs.declared.mode.Mode.TheVariants as modes
 use Rattle.cert_forest.specs.Node.TheVariants as node
@@ -77,11 +77,3 @@ module _ (s : ProgramSketch) (shown : Shown) where
       pushed = so.pushed ∙ ap (λ (xs : List Item). xs ++ spell_partial_row (partial_of so.children)) root ∙ append_assoc old (Has (node.Value t (length choices)) ∷ []) (spell_partial_row (partial_of so.children))
           ∙ ap (λ (n : ℕ). old ++ Has (node.Value t n) ∷ spell_partial_row (partial_of so.children)) (sym (as_many_partial so.children choices so.are));
     }
-
--- so of the partial cover of a program
-pub partial_grown : (p : Listing) (shown : Shown) (old new : List Outcome) (kept : PartialCover) → KeepsNumbers old new → IsPartialCover p shown old kept → IsPartialCover p shown new kept
-partial_grown p shown old new kept keeps is = record {
-  tree = is.tree;
-  is = partial_still (nothing_chosen p (modes.Fenced set.empty)) shown old new keeps [] is.tree is.is;
-  pushed = is.pushed;
-}

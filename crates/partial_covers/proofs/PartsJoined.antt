@@ -1,9 +1,9 @@
 -- Parts of a search, while the list of outcomes grows and choices are made, and the cover of one beside the rest.
 use Rattle.partial_covers.proofs.Vocabulary.{◌≡◌, Bool, true, false, ℕ, ◌+◌, ◌<◌, ◌≤◌, List, [], ◌∷◌, ◌++◌, Option, Some, None, get_or, take, drop, length, map, arith, sym, ap, ◌∙◌, subst, All}
-use Rattle.partial_covers.proofs.Vocabulary.{MatchOption, if◌then◌else◌, append-nil, take_all, drop_all, All-nil, All-append, All-push, All-take, All-drop, Mode, IsWhole, Outcome, Shown, Question}
+use Rattle.partial_covers.proofs.Vocabulary.{MatchOption, if◌then◌else◌, append-nil, take_all, drop_all, All-nil, All-push, Mode, IsWhole, Outcome, Shown, Question}
 use Rattle.partial_covers.proofs.Vocabulary.{asked, ProgramSketch, mode_in, with_chosen, NEAR_RUNS, Choice, sketch_with, KnownOutcomes, PartCover, Part, HasNumber, Item, renumbered_item, after}
-use Rattle.partial_covers.proofs.Vocabulary.{PushesPartialAt, StaysOf, LastThread, Plan, IsOfOther, IsLast, IsBeforeLast, IsPartOf, IsPlanned, AreRunsFor, IsMadeAt, IsCoverFor, AreCoversFor}
-use Rattle.partial_covers.proofs.Vocabulary.{AreLeftOf, AreOwnParts, AreFoundIn, IfJoined, IsFoundIn, first_sketch, MayChoose, MayChooseAll, sequential, Listing}
+use Rattle.partial_covers.proofs.Vocabulary.{PushesPartialAt, StaysOf, LastThread, Plan, IsOfOther, IsLast, IsPartOf, IsPlanned, AreRunsFor, IsMadeAt, IsCoverFor, AreCoversFor}
+use Rattle.partial_covers.proofs.Vocabulary.{AreOwnParts, AreFoundIn, IfJoined, IsFoundIn, first_sketch, MayChoose, MayChooseAll, sequential, Listing}
 use Rattle.sketch_covers.specs.{declared.outcome_index.OutcomeIndex.OutcomeIndex, declared.known_outcomes.KnownOutcomes.TheVariants.Closed, declared.known_outcomes.KnownOutcomes.TheVariants.Open}
 use Rattle.sketch_covers.proofs.{CombinedCovers.before_next}
 use Rattle.partial_covers.proofs.{PartialRenumbered.partial_renumbered, PartialRows.after_more}
@@ -28,12 +28,6 @@ covers_after s next shown outcomes path c covers same are i d h =
     let p = are i d h in
     record { root = p.root; leads = after_more p.root path c ∙ ap (λ (k : ProgramSketch). with_chosen k (sketch_with k.chosen c)) p.leads ∙ sym same; is = p.is }
 
--- fewer of them
-pub covers_left : (old new : List PartCover) (place : ℕ) → new ≡ take place old ++ drop (place + 1) old → AreLeftOf old new
-covers_left old new place by s shown outcomes path are =
-    let P = IsCoverFor s shown outcomes path in
-    subst (All P) (sym by) (All-append P (take place old) (drop (place + 1) old) (All-take P place old are) (All-drop P (place + 1) old are))
-
 -- the cover of a part, with the numbers of the same outcomes in another list, comes after the rest
 pub part_renumbered : (s : ProgramSketch) (shown : Shown) (old new : List Outcome) (place : ℕ → ℕ) → length old ≤ NEAR_RUNS → ((n : ℕ) → place n < NEAR_RUNS) → ((n : ℕ) (o : Outcome) → HasNumber old n o → HasNumber new (place n) o) →
     (path : List Choice) (items before now : List Item) → PushesPartialAt s shown old path [] items → now ≡ before ++ map (renumbered_item place) items → PushesPartialAt s shown new path before now
@@ -50,15 +44,8 @@ module _ (s : ProgramSketch) (shown : Shown) (outcomes : List Outcome) (path : L
   pub not_joined : b ≡ false → IfJoined s shown outcomes path before now b → now ≡ before
   not_joined is joined = subst (IfJoined s shown outcomes path before now) is joined
 
--- the same part, and the part after a choice of another thread
+-- the part after a choice of another thread
 module _ (root : ProgramSketch) (last : LastThread) (part new : Part) (is : IsPartOf root last part) where
-  pub part_copied : new.path.items ≡ part.path.items → new.sketch ≡ part.sketch → IsPartOf root last new
-  part_copied path sketch = record {
-    leads = ap (after root) path ∙ is.leads ∙ sym sketch;
-    may = subst (MayChooseAll (sequential root)) (sym path) is.may;
-    before = subst (λ (s : ProgramSketch). IsBeforeLast s last) (sym sketch) is.before;
-  }
-
   pub part_next : (c : Choice) → IsOfOther last.thread c → MayChoose (sequential part.sketch) c → new.path.items ≡ part.path.items ++ c ∷ [] → new.sketch ≡ with_chosen part.sketch (sketch_with part.sketch.chosen c) → IsPartOf root last new
   part_next c other one path sketch = record {
     leads = ap (after root) path ∙ after_more root part.path.items c ∙ ap (λ (k : ProgramSketch). with_chosen k (sketch_with k.chosen c)) is.leads ∙ sym sketch;

@@ -1,6 +1,6 @@
 -- A cover tree with other unions for its cycles and other numbers for its outcomes: its numbers, its events and its depth stay within their limits.
-use Rattle.partial_covers.proofs.Vocabulary.{◌≡◌, ℕ, ◌<◌, suc, List, refl, ap, arith, ◌^◌, max, Outcome, Question, empty_sketch, count_covers, cover_depth, covers_depth, IsNoLooser, in_mode, kind_in}
-use Rattle.partial_covers.proofs.Vocabulary.{changed, each_changed, tighter_keeps_cover, IsNeat, AreNeat, IsWholeCover, Machine, Kind}
+use Rattle.partial_covers.proofs.Vocabulary.{◌≡◌, ℕ, ◌<◌, suc, refl, ap, arith, ◌^◌, max, count_covers, cover_depth, covers_depth, in_mode, kind_in}
+use Rattle.partial_covers.proofs.Vocabulary.{changed, each_changed, IsNeat, AreNeat, Machine, Kind}
 use Rattle.cert_forest.specs.Trees.{Cover, Value, Source, Order, Cycle, Known, Covers, NoCover, MoreCovers}
 
 module _ (kinds : Kind → Kind) (place : ℕ → ℕ) where
@@ -49,12 +49,3 @@ neat_in_mode mode = neat_changed (kind_in mode) (λ n. n) (λ n h. h)
 
 pub depth_in_mode : (mode : Machine) (tree : Cover) → cover_depth (in_mode mode tree) ≡ cover_depth tree
 depth_in_mode mode = same_depth (kind_in mode) (λ n. n)
-
--- so of a tree at the sketch with no choice
-pub whole_in_mode : (q : Question) (loose tight : Machine) (outcomes : List Outcome) (tree : Cover) → IsNoLooser loose tight →
-    IsWholeCover q loose outcomes tree → IsWholeCover q tight outcomes (in_mode tight tree)
-whole_in_mode q loose tight outcomes tree tighter is = record {
-  valid = tighter_keeps_cover q loose tight outcomes tree (empty_sketch q.program) tighter is.valid;
-  neat = neat_in_mode tight tree is.neat;
-  shallow = (let same = depth_in_mode tight tree in let below = is.shallow in omega arith);
-}

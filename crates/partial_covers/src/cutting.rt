@@ -14,7 +14,7 @@ use tso_program::Shown;
 const MANY_COMBINATIONS: u64 = 10_000;
 
 /// A search is cut until it has so many parts.
-const ENOUGH_PARTS: usize = 32;
+const ENOUGH_PARTS: usize = 16;
 
 /// Each part is cut at most so many times.
 const MOST_CUTS: usize = 16;

@@ -36,7 +36,7 @@ pub(crate) fn join(
         kept: mut tree,
         ..
     } = made;
-    let places = found.add_all(alloc, &own)?;
+    let places = found.add_all(own)?;
     renumber_partial(&mut tree, &places);
     kept.append(alloc, tree)
 }

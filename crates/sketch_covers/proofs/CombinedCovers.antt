@@ -1,9 +1,9 @@
 -- Cover trees over the values of one thread after those of the others.
 use Rattle.std.proofs.Common.{◌≡◌, ◌≢◌, ℕ, zero, suc, ◌<◌, List, [], ◌∷◌, ◌++◌, get_or, Option, Some, None, slice_get, unwrap_or, set, length, sym, ap, ◌∙◌, subst, arith}
 use Rattle.sketch_covers.proofs.Vocabulary.{IfSome, length-map, Listing, Outcome, Shown, Mode, given_to, ProgramSketch, nothing_chosen, with_chosen, IsLawful, with_values, HasValuesAlone}
-use Rattle.sketch_covers.proofs.Vocabulary.{values_elsewhere, Cover, Choice, AreValueChoices, sketch_with, LastThread, Tally, AreAlike, IsBase, IsRest, with_root, IsCoverAt, IsCoverAfter, Traces}
-use Rattle.sketch_covers.proofs.Vocabulary.{traces, root, none_given, values_may, AreTracesOf, AreTracesFor, IsLast, IsBeforeLast, IsBeforeNext, AreOthersFull, IsOfOther, AreOfOthers}
-use Rattle.sketch_covers.proofs.Vocabulary.{IsTallyOf, IsOther, IsNeither, get_mapped}
+use Rattle.sketch_covers.proofs.Vocabulary.{values_elsewhere, Cover, Choice, AreValueChoices, sketch_with, LastThread, Tally, AreAlike, IsRest, with_root, IsCoverAt, IsCoverAfter, Traces}
+use Rattle.sketch_covers.proofs.Vocabulary.{traces, root, none_given, values_may, AreTracesOf, AreTracesFor, IsLast, IsBeforeLast, IsBeforeNext, IsOfOther, AreOfOthers}
+use Rattle.sketch_covers.proofs.Vocabulary.{IsTallyOf, IsNeither, get_mapped}
 use Rattle.sketch_covers.proofs.Nodes.{cover_next}
 use Rattle.candidate_executions.specs.Sketches.{Sketch}
 use Rattle.cover_judge.specs.declared.choice.Choice.TheVariants as choice
@@ -62,10 +62,6 @@ before_next s next last (choice.Value u v) of_other same before = subst (λ (n :
   before = traces_still s (sketch_with s.chosen (choice.Value u v)) last.before before.before;
 })
 before_next s next last c of_other same before = absurd of_other
-
--- where all other threads have their values, only the last thread's are left
-pub base_of : (s : ProgramSketch) (last : LastThread) (others : Tally) → IsBeforeLast s last → AreOthersFull s last.thread → IsTallyOf s (IsOther last.thread) others → IsBase last.thread s others
-base_of s last others before full tally = record { alone = before.alone; there = before.there; full = λ u other is_open. full u (other, is_open); tally = tally }
 
 set_none : (xs : List (List ℕ)) (t : ℕ) → t < length xs → unwrap_or (slice_get xs t) [] ≡ [] → set xs t [] ≡ xs
 set_none [] t h e = absurd (omega arith)

@@ -87,10 +87,7 @@ covers_still s shown old new choices trees keeps are = record {
   shallow = are.shallow;
 }
 
--- what the search at the sketch after a choice does, and why it stops, is so at the sketch
+-- what the search at the sketch after a choice adds is so at the sketch
 module _ (s next : ProgramSketch) (shown : Shown) (c : Choice) (same : next ≡ with_chosen s (sketch_with s.chosen c)) where
   pub grows_after : (old new : KnownOutcomes) → Grows (asked next.program shown) old new → Grows (asked s.program shown) old new
   grows_after old new grows = moved (λ p mode k. Grows (asked p shown) old new) s next c same grows
-
-  pub stops_after : (outcomes : KnownOutcomes) (why : Stop) → StopIs (asked next.program shown) (mode_in next) outcomes why → StopIs (asked s.program shown) (mode_in s) outcomes why
-  stops_after outcomes why is = moved (λ p mode k. StopIs (asked p shown) mode outcomes why) s next c same is

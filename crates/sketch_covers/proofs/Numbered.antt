@@ -1,9 +1,11 @@
 -- Outcomes by their numbers in a list that grows at its end.
 use Rattle.cert_forest.specs.NodeConstants.{NEAR_RUNS}
 use Rattle.sketch_covers.proofs.Vocabulary.{lit<, ◌≡◌, ℕ, zero, suc, ◌+◌, ◌<◌, ◌≤◌, List, [], ◌∷◌, ◌++◌, Some, Contains, slice_get, get_or, length, refl, sym, ap, ◌∙◌, subst, inl, inr, arith}
-use Rattle.sketch_covers.proofs.Vocabulary.{length-append, get_or_push, same_Some, slice_get_within, slice_get-get_or, get_or_from_slice_get, unwrap_or-slice_get, ◌^◌, AllZip, insert, cases_lt}
+use Rattle.sketch_covers.proofs.Vocabulary.{length-append, get_or_push, same_Some, slice_get_read, slice_get_within, slice_get-get_or, get_or_from_slice_get, unwrap_or-slice_get, ◌^◌, AllZip, insert, cases_lt}
 use Rattle.sketch_covers.proofs.Vocabulary.{length-insert, Option, Outcome, Label, OutcomeIndex, HasNumber, KeepsNumbers, IsInOrder, ascending, numbered, place_in, with_first, Ascend, BelongsAt, none_here, first_or_later}
 use Rattle.std.proofs.Math.ListN.{get_or-append}
+use Rattle.std.proofs.lemmas.List.FromFn.{get_or-enumerate_from, length-enumerate_from}
+use Rattle.std.specs.List.{enumerate_from}
 use Rattle.std.proofs.lemmas.List.Elements.{Contains-append_cases}
 use Rattle.std.proofs.lemmas.Slice.Zip.{AllZip-long}
 use Rattle.sketch_covers.proofs.Inserted.{ascend_insert, has_insert, keeps_insert, zip_insert, not_there}
@@ -103,6 +105,13 @@ module _ (found : OutcomeIndex) (in_order : IsInOrder found) (o : Outcome) (plac
         as_many = (let long = ap length runs ∙ push_long found.runs labels in let many = ap length outcomes ∙ push_long found.outcomes.items o in let same = in_order.as_many in omega arith);
         few = (let many = ap length outcomes ∙ push_long found.outcomes.items o in omega arith);
       }
+
+-- what stands at a place of a list that is counted from 0
+pub counted : {A : Type 0} (xs : List A) (k n : ℕ) (x : A) → (k < length (enumerate_from 0 xs)) × ((n, x) ≡ get_or (enumerate_from 0 xs) k (n, x)) → (n ≡ k) × (slice_get xs k ≡ Some x)
+counted xs k n x (below, same) =
+    let within : k < length xs = (let long = length-enumerate_from 0 xs in omega arith) in
+    let is = same ∙ get_or-enumerate_from 0 xs k (n, x) within in
+    (omega (arith, ap (λ p. p.0) is), slice_get_read xs (length xs) k x refl within (ap (λ p. p.1) is))
 
 -- the places of one outcome more
 pub places_more : (by_number outcomes : List Outcome) (places more : List ℕ) (i p : ℕ) (o : Outcome) → length places ≡ i → more ≡ places ++ p ∷ [] → HasNumber by_number i o → HasNumber outcomes p o →

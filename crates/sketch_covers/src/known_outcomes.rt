@@ -90,7 +90,7 @@ impl KnownOutcomes<'_> {
     {
         if let KnownOutcomes::Open { found, mode } = self {
             if let Some(run) = run_in(alloc, sketch, accesses, *mode, shown)? {
-                found.add(run.outcome, run.labels)?;
+                found.add(run.outcome, &run.labels)?;
             }
         }
         Ok(())

@@ -101,12 +101,12 @@ impl OutcomeIndex {
 
     /// Adds an outcome with its run, unless it is there, and answers its number. There is no memory for more
     /// than `MOST_NUMBERED`.
-    pub(crate) fn add(&mut self, outcome: Outcome, labels: Vec<Label>) -> Result<u32, AllocError>
+    pub(crate) fn add(&mut self, outcome: Outcome, labels: &[Label]) -> Result<u32, AllocError>
         requires { IsInOrder self.old }
         ensures in_order { OnOk result (IsInOrder self.new) }
         ensures number { IfOk result (λ number. HasNumber self.new.outcomes.items number outcome) }
         ensures keeps { OnOk result (KeepsNumbers self.old.outcomes.items self.new.outcomes.items) }
-        ensures runs { OnOk result ((q : Question) (mode : Machine) → AreRunsOf q mode self.old.runs self.old.outcomes.items → IsShownRun q mode labels.items outcome → AreRunsOf q mode self.new.runs self.new.outcomes.items) }
+        ensures runs { OnOk result ((q : Question) (mode : Machine) → AreRunsOf q mode self.old.runs self.old.outcomes.items → IsShownRun q mode labels.now outcome → AreRunsOf q mode self.new.runs self.new.outcomes.items) }
     {
         match self.place_of(&outcome) {
             Ok(place) => Ok(self.numbers[place]),
@@ -119,14 +119,14 @@ impl OutcomeIndex {
         &mut self,
         place: usize,
         outcome: Outcome,
-        labels: Vec<Label>,
+        labels: &[Label],
     ) -> Result<u32, AllocError>
         requires in_order { IsInOrder self.old }
         requires belongs { BelongsAt (ascending self.old) outcome place }
         ensures in_order { OnOk result (IsInOrder self.new) }
         ensures number { IfOk result (λ number. HasNumber self.new.outcomes.items number outcome) }
         ensures keeps { OnOk result (KeepsNumbers self.old.outcomes.items self.new.outcomes.items) }
-        ensures runs { OnOk result ((q : Question) (mode : Machine) → AreRunsOf q mode self.old.runs self.old.outcomes.items → IsShownRun q mode labels.items outcome → AreRunsOf q mode self.new.runs self.new.outcomes.items) }
+        ensures runs { OnOk result ((q : Question) (mode : Machine) → AreRunsOf q mode self.old.runs self.old.outcomes.items → IsShownRun q mode labels.now outcome → AreRunsOf q mode self.new.runs self.new.outcomes.items) }
     {
         if self.outcomes.len() >= MOST_NUMBERED {
             return Err(AllocError);
@@ -134,47 +134,29 @@ impl OutcomeIndex {
         let number = self.outcomes.len() as u32;
         self.numbers.insert(place, number)?;
         self.outcomes.push(outcome)?;
-        self.runs.push(&labels)?;
+        self.runs.push(labels)?;
         Ok(number)
     }
 
     /// Adds each outcome of another list that is new, with its run, and answers the numbers that they have here, in the
     /// order of their numbers there.
-    pub fn add_all(&mut self, alloc: Global, other: &OutcomeIndex) -> Result<Vec<u32>, AllocError>
+    pub fn add_all(&mut self, other: OutcomeIndex) -> Result<Vec<u32>, AllocError>
         requires in_order { IsInOrder self.old }
-        requires other { IsInOrder other.now }
+        requires other { IsInOrder other }
         ensures in_order { OnOk result (IsInOrder self.new) }
         ensures keeps { OnOk result (KeepsNumbers self.old.outcomes.items self.new.outcomes.items) }
-        ensures numbers { IfOk result (λ numbers. ArePlacesOf other.now.outcomes.items self.new.outcomes.items numbers.items) }
+        ensures numbers { IfOk result (λ numbers. ArePlacesOf other.outcomes.items self.new.outcomes.items numbers.items) }
         ensures small { IfOk result (λ numbers. (n : ℕ) → place_in numbers.items n < NEAR_RUNS) }
-        ensures runs { OnOk result ((q : Question) (mode : Machine) → AreRunsOf q mode other.now.runs other.now.outcomes.items → AreRunsOf q mode self.old.runs self.old.outcomes.items → AreRunsOf q mode self.new.runs self.new.outcomes.items) }
+        ensures runs { OnOk result ((q : Question) (mode : Machine) → AreRunsOf q mode other.runs other.outcomes.items → AreRunsOf q mode self.old.runs self.old.outcomes.items → AreRunsOf q mode self.new.runs self.new.outcomes.items) }
     {
-        let mut numbers = Vec::with_capacity(alloc, other.outcomes.len())?;
-        for number in 0..other.outcomes.len() {
-            numbers.push(self.add_from(alloc, other, number)?)?;
+        let OutcomeIndex { outcomes, runs, .. } = other;
+        let mut numbers = Vec::with_capacity(*self.numbers.allocator(), outcomes.len())?;
+        for (number, outcome) in outcomes.into_iter().enumerate() {
+            let Some(labels) = runs.get(number) else {
+                unreachable!()
+            };
+            numbers.push(self.add(outcome, labels)?)?;
         }
         Ok(numbers)
-    }
-
-    /// Adds the outcome of a number in another list with its run there, unless it is here, and answers its number.
-    fn add_from(
-        &mut self,
-        alloc: Global,
-        other: &OutcomeIndex,
-        number: usize,
-    ) -> Result<u32, AllocError>
-        requires in_order { IsInOrder self.old }
-        requires other { IsInOrder other.now }
-        requires there { number < length other.now.outcomes.items }
-        ensures in_order { OnOk result (IsInOrder self.new) }
-        ensures keeps { OnOk result (KeepsNumbers self.old.outcomes.items self.new.outcomes.items) }
-        ensures number { IfOk result (λ here. (o : OutcomeValue) → HasNumber other.now.outcomes.items number o → HasNumber self.new.outcomes.items here o) }
-        ensures runs { OnOk result ((q : Question) (mode : Machine) → AreRunsOf q mode other.now.runs other.now.outcomes.items → AreRunsOf q mode self.old.runs self.old.outcomes.items → AreRunsOf q mode self.new.runs self.new.outcomes.items) }
-    {
-        let Some(labels) = other.runs.get(number) else {
-            unreachable!()
-        };
-        let labels = Vec::from_slice(alloc, labels)?;
-        self.add(other.outcomes[number].copy(alloc)?, labels)
     }
 }

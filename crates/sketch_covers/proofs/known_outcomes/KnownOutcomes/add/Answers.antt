@@ -1,4 +1,4 @@
-use Rattle.sketch_covers.proofs.Vocabulary.{IfSome, sym, subst, IsSomeAnd, asked, machine_of_mode, IsShownRun, KnownOutcomes, Open, Grows, IsShownRunOf}
+use Rattle.sketch_covers.proofs.Vocabulary.{IfSome, List, Label, sym, subst, IsSomeAnd, asked, machine_of_mode, IsShownRun, KnownOutcomes, Open, Grows, IsShownRunOf}
 use Rattle.sketch_covers.proofs.{Growing.grows_none, Growing.grows_open, OwnEnds.numbered_is_listed}
 use Rattle.sketch_covers.proofs.known_outcomes.KnownOutcomes.add.Goals as goal
 
@@ -8,7 +8,7 @@ returns-in_ok-add-clause-grows c =
     let mode = c.in-Open.mode in
     let machine = machine_of_mode c.args.sketch.now.program mode in
     let new = c.add.new.self in
-    let is_run = subst (λ found. IfSome found (λ run. IsShownRun q machine run.labels.items run.outcome)) c.in-Some.is c.in_ok-run.ensures.run in
+    let is_run = subst (λ (labels : List Label). IsShownRun q machine labels c.in-Some.run'.outcome) (sym c.deref.ensures.value) (subst (λ found. IfSome found (λ run. IsShownRun q machine run.labels.items run.outcome)) c.in-Some.is c.in_ok-run.ensures.run) in
     subst (λ (old : KnownOutcomes). Grows q old (Open new mode)) (sym c.in-Open.is)
     (grows_open q mode c.in-Open.found new c.in_ok-add.ensures.in_order c.in_ok-add.ensures.keeps (λ are. c.in_ok-add.ensures.runs q machine are is_run))
 
