@@ -1,7 +1,7 @@
 -- The runs of the examples, computed.
 use Rattle.tso_machine.proofs.Vocabulary.{◌≡◌, ℕ, zero, suc, ◌≤◌, List, [], length, Some, refl, ap, arith, Stop, Listing, action, Label, Pending, SequentialMachine, StoreBufferMachine, no_gaps, State}
 use Rattle.tso_machine.proofs.Vocabulary.{start, run, HasEnded}
-use Rattle.tso_machine.specs.Examples.{StoreBufferingIsTold, store_buffering, waiting_stores, in_turn, RIsTold, r, r_run, N6IsTold, n6, n6_run, LockedExchangeIsTold, locked_exchange, locked_run}
+use Rattle.tso_machine.specs.Examples.{StoreBufferingIsTold, store_buffering, waiting_stores, in_turn}
 use Rattle.tso_machine.proofs.{Runs.no_action, Runs.no_stores, Refused.run_keeps}
 
 -- a thread's next action and its waiting stores, at the end
@@ -9,7 +9,7 @@ abbrev IsDone : Listing → State → ℕ → Type 0
 IsDone p s t = (action p.threads t (s.locals t) ≡ Stop) × (s.buffers t ≡ [])
 
 -- of two threads, both are at their ends, and there is no other
-ended : (p : Listing) (labels : List Label) (last : State) → length p.threads ≡ 2 → run p (StoreBufferMachine no_gaps) (start p) labels ≡ Some last → IsDone p last 0 → IsDone p last 1 → HasEnded p last
+pub ended : (p : Listing) (labels : List Label) (last : State) → length p.threads ≡ 2 → run p (StoreBufferMachine no_gaps) (start p) labels ≡ Some last → IsDone p last 0 → IsDone p last 1 → HasEnded p last
 ended p labels last two r first second zero = first
 ended p labels last two r first second (suc zero) = second
 ended p labels last two r first second (suc (suc t)) =
@@ -27,12 +27,3 @@ ended_in_turn p labels last two r first second t = (done t, ap (λ (f : ℕ → 
 
 pub store_buffering_is_told : StoreBufferingIsTold
 store_buffering_is_told = ((_, refl, ended store_buffering waiting_stores _ refl refl (refl, refl) (refl, refl), refl), refl, refl, (_, refl, ended_in_turn store_buffering in_turn _ refl refl refl refl, refl))
-
-pub r_is_told : RIsTold
-r_is_told = ((_, refl, ended r r_run _ refl refl (refl, refl) (refl, refl), refl), refl, refl)
-
-pub n6_is_told : N6IsTold
-n6_is_told = ((_, refl, ended n6 n6_run _ refl refl (refl, refl) (refl, refl), refl), refl, refl, refl)
-
-pub locked_exchange_is_told : LockedExchangeIsTold
-locked_exchange_is_told = ((_, refl, ended locked_exchange locked_run _ refl refl (refl, refl) (refl, refl), refl), refl, refl, refl)

@@ -3,6 +3,7 @@ use Rattle.tso_machine.proofs.Vocabulary.{◌≡◌, ℕ, suc, ◌<◌, List, []
 use Rattle.tso_machine.proofs.Vocabulary.{length-set, slice_get, slice_index, slice_index_or, slice_set, range_with_len, get_or-map, slice_get_read, slice_get-get_or, fun_ext, cases_eq, Thread}
 use Rattle.tso_machine.proofs.Vocabulary.{Outcome, Pending, Listing, put, start, outcome_at, Core, Cores, no_core, core_at, state_of, first_core, first_cores, AreLocated, FitsProgram}
 use Rattle.std.proofs.lemmas.List.FromFn.{fill_by_all}
+use Rattle.std.proofs.lemmas.List.{length-map, map-id}
 
 pub put_same : {A : Type 0} (f : ℕ → A) (n : ℕ) (x : A) → put f n x n ≡ x
 put_same f n x = rw (eq-eqb n n refl) refl
@@ -65,34 +66,22 @@ state_of_first p = λ i. record {
   memory = slice_index p.memory;
 }
 
-first_long : (threads : List Thread) → length (map first_core threads) ≡ length threads
-first_long [] = refl
-first_long (x ∷ xs) = ap suc (first_long xs)
-
 pub first_fits : (p : Listing) → FitsProgram p (first_cores p)
 first_fits p = record {
-  threads = first_long p.threads;
+  threads = length-map p.threads first_core;
   locations = refl;
   stores = λ t. subst (λ (c : Core). AreLocated (length p.memory) c.buffer) (sym (first_at p.threads t)) tt;
 }
 
 read_all : {A B : Type 0} (f : A → B) (d : A) (xs : List A) → map f xs ≡ map (λ t. f (get_or xs t d)) (range_with_len 0 (length xs))
-read_all f d xs = fill_by_all (λ t. f (get_or xs t d)) (map f xs) (length xs) (f d) (map_long f xs) (λ k h. get_or-map f xs k d (f d) h)
-  where
-    map_long : {A B : Type 0} (f : A → B) (xs : List A) → length (map f xs) ≡ length xs
-    map_long f [] = refl
-    map_long f (x ∷ xs) = ap suc (map_long f xs)
-
-map_same : (xs : List ℕ) → map (λ (n : ℕ). n) xs ≡ xs
-map_same [] = refl
-map_same (x ∷ xs) = ap (λ ys. x ∷ ys) (map_same xs)
+read_all f d xs = fill_by_all (λ t. f (get_or xs t d)) (map f xs) (length xs) (f d) (length-map xs f) (λ k h. get_or-map f xs k d (f d) h)
 
 -- what the lists hold at the end is the outcome
 pub outcome_is : (p : Listing) (s : Cores) (o : Outcome) → FitsProgram p s → o.registers ≡ map (λ (c : Core). c.local.registers) s.cores → o.memory ≡ s.memory →
     o ≡ outcome_at p (state_of s)
 outcome_is p s o fits r m = λ i. record {
   registers = (r ∙ read_all (λ (c : Core). c.local.registers) no_core s.cores ∙ ap (λ n. map (λ t. (core_at s.cores t).local.registers) (range_with_len 0 n)) fits.threads) i;
-  memory = (m ∙ sym (map_same s.memory) ∙ read_all (λ (n : ℕ). n) 0 s.memory ∙ ap (λ n. map (slice_index s.memory) (range_with_len 0 n)) fits.locations) i;
+  memory = (m ∙ sym (map-id s.memory) ∙ read_all (λ (n : ℕ). n) 0 s.memory ∙ ap (λ n. map (slice_index s.memory) (range_with_len 0 n)) fits.locations) i;
 }
 
 pub located_front : (n : ℕ) (ws : List Pending) (w : Pending) → w.location < n → AreLocated n ws → AreLocated n (ws ++ w ∷ [])

@@ -122,11 +122,6 @@ module _ (p : Listing) (gaps : SetOfGaps) (model : Model) (labels : List Label) 
       let why : Applies p (machine_of_model p gaps model) a.before other a.label = subst (λ (x : State × Label). Applies p (machine_of_model p gaps model) x.0 other x.1) (λ i. (state i, label i)) b.why in
       one_cause p gaps model (take n labels) a.before a.label cause other a.reached a.why why
 
-  same_stop : (n m : ℕ) (cause other : Cause) → IsStop n cause → IsStop m other → (n ≡ m) × (cause ≡ other)
-  same_stop n m cause other a b =
-      let same : n ≡ m = same_step n m cause other a b in
-      (same, same_cause m cause other (subst (λ k. IsStop k cause) same a) b)
-
   not_early : (n m : ℕ) (cause : Cause) → IsStop n cause → EndsEarly p (machine_of_model p gaps model) labels m → ⊥
   not_early n m cause a b = let z : None ≡ Some b.last = sym (stops_none p (machine_of_model p gaps model) labels n cause a) ∙ b.reached in cc
 
@@ -145,7 +140,9 @@ module _ (p : Listing) (gaps : SetOfGaps) (model : Model) (labels : List Label) 
 
   same_told : (why other : ReplayFault) → Told why → Told other → why ≡ other
   same_told why other (stopped n cause e a) (stopped m cause' e' b) =
-      let same = same_stop n m cause cause' a b in e ∙ (λ i. fault_of (Refused (same.1 i)) (same.0 i)) ∙ sym e'
+      let step : n ≡ m = same_step n m cause cause' a b in
+      let why : cause ≡ cause' = same_cause m cause cause' (subst (λ k. IsStop k cause) step a) b in
+      e ∙ (λ i. fault_of (Refused (why i)) (step i)) ∙ sym e'
   same_told why other (stopped n cause e a) (early m e' b) = absurd (not_early n m cause a b)
   same_told why other (early n e a) (stopped m cause' e' b) = absurd (not_early m n cause' b a)
   same_told why other (early n e a) (early m e' b) = e ∙ ap fault.NotEnded (a.all ∙ sym b.all) ∙ sym e'

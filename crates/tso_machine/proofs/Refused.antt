@@ -53,9 +53,6 @@ module _ (p : Listing) (t : ℕ) (out : length p.threads ≤ t) (s : State) (u :
 
 -- a thread that is not there never has a store
 module _ (p : Listing) (t : ℕ) (out : length p.threads ≤ t) where
-  kept_other : (bs : ℕ → List Pending) (u : ℕ) (ws : List Pending) → (t ≡ u → ⊥) → bs t ≡ [] → put bs u ws t ≡ []
-  kept_other bs u ws n e = put_other bs u ws t n ∙ e
-
   step_keeps : (gaps : ℕ → ℕ → Bool) (s : State) (label : Label) (next : State) → s.buffers t ≡ [] → step p (StoreBufferMachine gaps) s label ≡ Some next → next.buffers t ≡ []
   step_keeps gaps s (Flush u) next e r = by_buffer (s.buffers u) refl r
     where
@@ -64,7 +61,7 @@ module _ (p : Listing) (t : ℕ) (out : length p.threads ≤ t) where
       by_buffer (w ∷ ws) q r =
           let other : t ≡ u → ⊥ = λ same. (let z : [] ≡ w ∷ ws = sym e ∙ ap s.buffers same ∙ q in cc) in
           let is : record s { buffers = put s.buffers u ws; memory = put s.memory w.location w.value } ≡ next = cc in
-          subst (λ (z : State). z.buffers t ≡ []) is (kept_other s.buffers u ws other e)
+          subst (λ (z : State). z.buffers t ≡ []) is (put_other s.buffers u ws t other ∙ e)
   step_keeps gaps s (Exec u) next e r = elim (cases_eq t u) [
     | inl same ↦ absurd (let z : None ≡ Some next = sym (stop_none p (StoreBufferMachine gaps) s u (no_action p u (s.locals u) (subst (λ n. length p.threads ≤ n) same out))) ∙ r in cc)
     | inr other ↦ by_gap p t out s u next e other (gaps u (s.locals u).place) (s.buffers u) (action p.threads u (s.locals u)) r

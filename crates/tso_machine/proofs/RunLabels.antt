@@ -108,9 +108,6 @@ words_at (p ∷ ps) (suc i) d lt some =
       | inr w ↦ rw w (words_at ps i d (omega arith) some)
     ]
 
-not_spelled : (word : List ℕ) → label_at word ≡ None → (l : Label) → IsLabel l → spelling l ≢ word
-not_spelled word none l fits e = let found : label_at word ≡ Some l = rw (← e) (label_again l fits) in cc
-
 -- the word at which no label is read, after the words of the labels so far
 pub first_no_label : (text : List ℕ) (ls : List Label) (ps : List (Bor (List ℕ))) (i n : ℕ) (d : Bor (List ℕ)) → filter word_of (map (λ p. p.now) ps) ≡ words text
     → map spelling ls ≡ filter word_of (map (λ p. p.now) (take i ps)) → AllByRecursion IsLabel ls → length ls ≡ n → i < length ps → 0 < length (get_or ps i d).now → label_at (get_or ps i d).now ≡ None
@@ -122,5 +119,5 @@ first_no_label text ls ps i n d parts so_far fits count lt some none = record {
   word = (get_or ps i d).now;
   others = filter word_of (map (λ (p : Bor (List ℕ)). p.now) (drop (suc i) ps));
   text_words = sym parts ∙ words_at ps i d lt some ∙ ap (λ (ws : List (List ℕ)). ws ++ (get_or ps i d).now ∷ filter word_of (map (λ (p : Bor (List ℕ)). p.now) (drop (suc i) ps))) (sym so_far);
-  no_label = not_spelled (get_or ps i d).now none;
+  no_label = λ l is e. (let found : label_at (get_or ps i d).now ≡ Some l = rw (← e) (label_again l is) in cc);
 }

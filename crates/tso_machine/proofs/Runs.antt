@@ -9,6 +9,7 @@ use Rattle.std.specs.Cmp.{nat_cmp_total}
 use Rattle.std.specs.FinSet as set
 use Rattle.tso_machine.specs.declared.label.Model.TheVariants as models
 use Rattle.std.proofs.Math.Bool.{or_assoc, or-false}
+use Rattle.std.proofs.lemmas.Bool.{cases_Bool}
 
 and_then_alike : (o : Option State) (f g : State → Option State) → ((s : State) → f s ≡ g s) → option_and_then f o ≡ option_and_then g o
 and_then_alike (Some s) f g alike = alike s
@@ -74,10 +75,6 @@ module _ (p : Listing) (mode : Machine) where
       go None r rest = absurd cc
       go (Some z) r rest = ap (λ b. passes_at s first t k || b) (rest z r) ∙ sym (or_assoc (passes_at s first t k) _ _)
 
-  pub passes_on : (s : State) (labels : List Label) (n : ℕ) (d : Label) (before : State) (t k : ℕ) → n < length labels → run p mode s (take n labels) ≡ Some before →
-      passes p mode s (take (n + 1) labels) t k ≡ (passes p mode s (take n labels) t k || passes_at before (get_or labels n d) t k)
-  passes_on s labels n d before t k h reached = rw (take_more labels n d h) (passes_more (take n labels) (get_or labels n d) s before t k reached)
-
   -- a step that isn't possible, where those before it are
   stopped : (labels : List Label) (n : ℕ) (d : Label) (before : State) (cause : Cause) → n < length labels → run p mode (start p) (take n labels) ≡ Some before →
       Applies p mode before cause (get_or labels n d) → Stops p mode labels n cause
@@ -111,10 +108,7 @@ with_gap_contains gaps (Some h) g = set.contains-insert nat_cmp_total gaps h g �
 
 some_gap : (o : Option ℕ) (g : ℕ) → is_gap o g ≡ true → o ≡ Some g
 some_gap None g e = absurd cc
-some_gap (Some h) g e = ap Some (same h g e)
-  where
-    same : (h g : ℕ) → (h == g) ≡ true → h ≡ g
-    same h g e = grind (arith, nat_tests)
+some_gap (Some h) g e = ap Some (eqb-true h g e)
 
 gap_some : (o : Option ℕ) (g : ℕ) → o ≡ Some g → is_gap o g ≡ true
 gap_some None g e = absurd cc
@@ -154,7 +148,7 @@ module _ (p : Listing) (s : Cores) where
   passed_on mode labels n d gaps o h reached so_far is g = (forth, back)
     where
       more : (t k : ℕ) → passes p mode (start p) (take (n + 1) labels) t k ≡ (passes p mode (start p) (take n labels) t k || passes_at (state_of s) (get_or labels n d) t k)
-      more t k = passes_on p mode (start p) labels n d (state_of s) t k h reached
+      more t k = rw (take_more labels n d h) (passes_more p mode (take n labels) (get_or labels n d) (start p) (state_of s) t k reached)
 
       forth : set.contains (option_map_or (set.insert gaps) o gaps) g ≡ true → Passes p mode (start p) (take (n + 1) labels) g
       forth e = elim (or_cases (set.contains gaps g) (is_gap o g) (sym (with_gap_contains gaps o g) ∙ e)) [
@@ -197,11 +191,9 @@ seq_passes p (Exec u ∷ labels) s none t k =
 
 pub none_sequential : (p : Listing) (gaps : set.FinSet nat_cmp) (model : Model) (labels : List Label) (passed : set.FinSet nat_cmp) → ArePassed p (machine_of_model p gaps model) labels passed →
     model ≡ models.Sequential → (gap : ℕ) → set.contains passed gap ≡ false
-none_sequential p gaps model labels passed are e gap = by_cases (set.contains passed gap) refl
-  where
-    in_sequential : ArePassed p SequentialMachine labels passed
-    in_sequential = subst (λ m. ArePassed p (machine_of_model p gaps m) labels passed) e are
-
-    by_cases : (b : Bool) → set.contains passed gap ≡ b → b ≡ false
-    by_cases false q = refl
-    by_cases true q = let (t, k, n, is) = (in_sequential gap).0 q in sym is ∙ seq_passes p labels (start p) (λ t. refl) t k
+none_sequential p gaps model labels passed are e gap =
+    let in_sequential : ArePassed p SequentialMachine labels passed = subst (λ m. ArePassed p (machine_of_model p gaps m) labels passed) e are in
+    elim (cases_Bool (set.contains passed gap)) [
+      | inl q ↦ (let (t, k, n, is) = (in_sequential gap).0 q in q ∙ (sym is ∙ seq_passes p labels (start p) (λ t. refl) t k))
+      | inr q ↦ q
+    ]
