@@ -1,5 +1,5 @@
 -- Comments: where they end, and those that are open one within the other.
-use Rattle.text_tokens.proofs.Vocabulary.{◌≡◌, ℕ, zero, suc, ◌+◌, ◌-◌, ◌<◌, ◌==◌, ◌&&◌, Bool, true, false, List, [], ◌∷◌, length, drop, refl, sym, ap, ◌∙◌, arith, inl, inr, ◌⊎◌, nat_tests}
+use Rattle.text_tokens.proofs.Vocabulary.{◌≡◌, ℕ, zero, suc, ◌+◌, ◌-◌, ◌<◌, ◌==◌, true, false, List, [], ◌∷◌, length, drop, refl, sym, ap, ◌∙◌, arith, inl, inr, ◌⊎◌, nat_tests}
 use Rattle.text_tokens.proofs.Vocabulary.{length-drop, slice_index, is_white_space, opens, closes, Inside, close, nested, other, IsComment}
 use Rattle.std.proofs.Math.Bool.{and-false}
 use Rattle.std.proofs.lemmas.List.{get_or_past}

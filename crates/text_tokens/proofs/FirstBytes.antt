@@ -1,5 +1,5 @@
 -- What the first byte of a text tells.
-use Rattle.text_tokens.proofs.Vocabulary.{◌≡◌, ◌≢◌, ℕ, ◌<◌, ◌≤◌, ◌==◌, true, false, List, [], ◌∷◌, ◌++◌, length, drop, Option, Some, None, cond, refl, sym, ap, ◌∙◌, arith, inl, inr, slice_index}
+use Rattle.text_tokens.proofs.Vocabulary.{◌≡◌, ◌≢◌, ℕ, ◌<◌, ◌≤◌, ◌==◌, true, false, List, [], ◌∷◌, ◌++◌, length, drop, Option, Some, cond, refl, sym, ap, ◌∙◌, arith, inl, inr, slice_index}
 use Rattle.text_tokens.proofs.Vocabulary.{if◌then◌else◌, list_all, is_ascii_digit, cases_Bool, and_parts, eqb-true, length-append, nat_tests, Mark, OpenBrace, CloseBrace, OpenBracket, CloseBracket}
 use Rattle.text_tokens.proofs.Vocabulary.{OpenParen, CloseParen, Semicolon, Bar, Colon, Equals, Comma, Dollar, Tilde, And, Or, Bad, is_white_space, is_letter, is_word_byte, mark_text, mark_from}
 use Rattle.text_tokens.proofs.Vocabulary.{opens, Tok, Word, Number, Sign, NoToken, BeginsWith, IsWord, AreDigits, IsBad, false_from_ne_true as false_from}

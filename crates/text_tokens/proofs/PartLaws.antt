@@ -1,5 +1,5 @@
 -- What the single tokens at the front of a list take, and that they take it again.
-use Rattle.text_tokens.proofs.Vocabulary.{◌≡◌, ◌≢◌, ℕ, ◌==◌, true, false, List, ◌∷◌, refl, sym, ap, ◌∙◌, arith, Option, Some, if◌then◌else◌, eqb-true, nat_tests, cond_some, Mark, OpenBrace}
+use Rattle.text_tokens.proofs.Vocabulary.{◌≡◌, ◌≢◌, ℕ, ◌==◌, true, false, List, ◌∷◌, refl, sym, ap, ◌∙◌, Some, if◌then◌else◌, eqb-true, cond_some, Mark, OpenBrace}
 use Rattle.text_tokens.proofs.Vocabulary.{CloseBrace, OpenBracket, CloseBracket, OpenParen, CloseParen, Semicolon, Bar, Colon, Equals, Comma, Dollar, Tilde, And, Or, Tok, Word, Number, Sign}
 use Rattle.text_tokens.proofs.Vocabulary.{mark_code, same_mark, false_from_ne_true as false_from}
 use Rattle.std.proofs.lemmas.Bool.{eq-eqb}

@@ -1,5 +1,5 @@
 -- How far the bytes go at the front of a text that pass a test.
-use Rattle.text_tokens.proofs.Vocabulary.{◌≡◌, ℕ, suc, ◌+◌, ◌<◌, Bool, true, false, List, [], ◌∷◌, ◌++◌, length, take, drop, refl, sym, ap, ◌∙◌, arith, inl, inr, take_at, drop_at, slice_index}
+use Rattle.text_tokens.proofs.Vocabulary.{◌≡◌, ℕ, ◌+◌, ◌<◌, Bool, true, false, List, [], ◌∷◌, ◌++◌, length, take, drop, refl, sym, ap, ◌∙◌, arith, inl, inr, take_at, drop_at, slice_index}
 use Rattle.text_tokens.proofs.Vocabulary.{list_all, prefix_len, and_parts, and_from, cases_Bool}
 use Rattle.std.proofs.Math.Numerals.{one-add}
 

@@ -1,5 +1,5 @@
 -- The gaps of a program, listed in the order of their numbers.
-use Rattle.tso_program.proofs.Vocabulary.{◌≡◌, ℕ, zero, suc, ◌+◌, ◌-◌, ◌<◌, ◌≤◌, Bool, true, false, ◌&&◌, List, [], ◌∷◌, ◌++◌, length, take, get_or, Option, Some, None, refl, sym, ap, subst, ◌∙◌}
+use Rattle.tso_program.proofs.Vocabulary.{◌≡◌, ℕ, zero, suc, ◌+◌, ◌-◌, ◌<◌, ◌≤◌, Bool, true, false, ◌&&◌, List, [], ◌∷◌, ◌++◌, length, take, Option, Some, None, refl, sym, ap, subst, ◌∙◌}
 use Rattle.tso_program.proofs.Vocabulary.{arith, inl, inr, ◌↔◌, map, slice_get, nat_lt, nat_le, IfSome, if◌then◌else◌, range_with_len, cases_lt, slice_get-get_or, length-map-range_with_len}
 use Rattle.tso_program.proofs.Vocabulary.{get_or-map-range_with_len, Thread, code_of, gap_count, gap_number, gap_place, gaps_of_thread, places_from}
 use Rattle.tso_program.proofs.Gaps.{count_first, gap_facts, gap_is}
