@@ -1,9 +1,7 @@
 -- What it says of a sketch that nothing is left to be chosen.
-use Rattle.branching.proofs.Vocabulary.{◌≡◌, ◌↔◌, ℕ, Bool, true, false, not, IsTrue, zero, suc, ◌<◌, ◌≤◌, List, [], ◌∷◌, Option, None, Some, All, get_or, length, sym, ap, ◌∙◌, subst, inl, inr, arith}
-use Rattle.branching.proofs.Vocabulary.{IfSome, cases_lt, Event, Initial, At, IsAccess, Writes, ProgramSketch, mode_in, trace_in, access_in, with_chosen, Choice, sketch_with, MayChoose, MayChooseEach}
-use Rattle.branching.proofs.Vocabulary.{AccessId, event_of, ReadValue, WrittenValue, WholeAccesses, given_to, IsPair, IsWhole, IsOrdered, MayFollow, other_way, turned, same_default, IsComplete}
-use Rattle.branching.proofs.Vocabulary.{HasItsSource, IsOrderedWith, read_there, first_there, second_there, IsReadValue, IsWrittenValue, NamesWrite, AreAccessesOf, HasEachSource, AreWritesInOrder}
-use Rattle.branching.proofs.Vocabulary.{IsEachInOrder}
+use Rattle.branching.proofs.Vocabulary.{◌≡◌, ◌↔◌, ℕ, Bool, true, false, not, IsTrue, zero, suc, ◌<◌, ◌≤◌, List, [], ◌∷◌, Option, None, Some, All, get_or, length, sym, ap, ◌∙◌, subst, inl, inr, arith, IfSome, cases_lt, Event, Initial, At, IsAccess, Writes}
+use Rattle.branching.proofs.Vocabulary.{ProgramSketch, mode_in, trace_in, access_in, with_chosen, Choice, sketch_with, MayChoose, MayChooseEach, AccessId, event_of, ReadValue, WrittenValue, WholeAccesses, given_to, IsPair, IsWhole, IsOrdered, MayFollow}
+use Rattle.branching.proofs.Vocabulary.{other_way, turned, same_default, IsComplete, HasItsSource, IsOrderedWith, read_there, first_there, second_there, IsReadValue, IsWrittenValue, NamesWrite, AreAccessesOf, HasEachSource, AreWritesInOrder, IsEachInOrder}
 use Rattle.tso_program.specs.declared.listing.Thread.{Thread}
 use Rattle.cover_judge.specs.Sketches as sketches
 use Rattle.cover_judge.specs.declared.choice.Choice.TheVariants as choice

@@ -1,6 +1,5 @@
 -- Each choice is one more.
-use Rattle.branching.proofs.Vocabulary.{◌≡◌, ℕ, ◌+◌, ◌<◌, [], ◌∷◌, ◌++◌, length, ap, arith, length-append, unwrap_or-slice_get, given_to, with_value, with_source, with_pair, ProgramSketch}
-use Rattle.branching.proofs.Vocabulary.{with_chosen, choice_count}
+use Rattle.branching.proofs.Vocabulary.{◌≡◌, ℕ, ◌+◌, ◌<◌, [], ◌∷◌, ◌++◌, length, ap, arith, length-append, unwrap_or-slice_get, given_to, with_value, with_source, with_pair, ProgramSketch, with_chosen, choice_count}
 use Rattle.std.proofs.lemmas.List.Sums.{sum_by-set}
 
 pub value_counted : (s : ProgramSketch) (t v : ℕ) → t < length s.chosen.given → choice_count (with_chosen s (with_value s.chosen t v)) ≡ choice_count s + 1

@@ -1,7 +1,6 @@
 -- What a sketch reads and writes, taken in access by access.
-use Rattle.branching.proofs.Vocabulary.{◌≡◌, ◌⊎◌, ℕ, List, [], ◌∷◌, ◌++◌, None, Some, IsSome, All, refl, sym, ap, ◌∙◌, subst, ◌<◌, length, inl, inr, arith, same_Some, cases_lt, ProgramSketch}
-use Rattle.branching.proofs.Vocabulary.{access_in, trace_in, IsRead, AccessId, event_of, ReadValue, WrittenValue, WholeAccesses, IsReadValue, NamesRead, IsWrittenValue, IsWrite, NamesWrite, IsItself}
-use Rattle.branching.proofs.Vocabulary.{TakesIn}
+use Rattle.branching.proofs.Vocabulary.{◌≡◌, ◌⊎◌, ℕ, List, [], ◌∷◌, ◌++◌, None, Some, IsSome, All, refl, sym, ap, ◌∙◌, subst, ◌<◌, length, inl, inr, arith, same_Some, cases_lt, ProgramSketch, access_in, trace_in, IsRead, AccessId, event_of, ReadValue}
+use Rattle.branching.proofs.Vocabulary.{WrittenValue, WholeAccesses, IsReadValue, NamesRead, IsWrittenValue, IsWrite, NamesWrite, IsItself, TakesIn}
 use Rattle.std.proofs.lemmas.List.Elements.{All-push, Contains-append_left, Contains-push}
 use Rattle.cover_judge.specs.Access.{Access}
 use Rattle.sketches.proofs.Accesses.{none_past}

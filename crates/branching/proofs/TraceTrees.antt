@@ -1,6 +1,6 @@
 -- Trees of a thread's traces, child by child.
-use Rattle.branching.proofs.Vocabulary.{◌≡◌, ℕ, zero, suc, ◌+◌, ◌<◌, List, [], ◌∷◌, ◌++◌, get_or, length, map, take, refl, sym, ap, ◌∙◌, subst, arith, length-map, map-append, take_more, ProgramSketch}
-use Rattle.branching.proofs.Vocabulary.{with_chosen, Choice, sketch_with, Traces, traces, trace_trees, root, IsTraceTree, AreTraceTrees}
+use Rattle.branching.proofs.Vocabulary.{◌≡◌, ℕ, zero, suc, ◌+◌, ◌<◌, List, [], ◌∷◌, ◌++◌, get_or, length, map, take, refl, sym, ap, ◌∙◌, subst, arith, length-map, map-append, take_more, ProgramSketch, with_chosen, Choice, sketch_with, Traces, traces}
+use Rattle.branching.proofs.Vocabulary.{trace_trees, root, IsTraceTree, AreTraceTrees}
 use Rattle.branching.specs.declared.traces.TraceTree.{TraceTree}
 
 module _ (t : ℕ) (s : ProgramSketch) where

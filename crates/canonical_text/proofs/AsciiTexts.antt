@@ -1,6 +1,6 @@
 -- Printed texts are ASCII, so they are UTF-8.
-use Rattle.canonical_text.proofs.Vocabulary.{◌≡◌, ℕ, ◌<◌, ◌^◌, Bool, true, List, [], ◌∷◌, ◌++◌, refl, codes, nat_lt, arith, and_parts, list_all, IsAscii-append, Mark, Tok, Word, Number, Sign, NoToken}
-use Rattle.canonical_text.proofs.Vocabulary.{heading, IsAscii, IsAscii-decimal, ltb-true, nat_tests, is_word_byte, Piece, Space, Part, token_text, text_of, CanStand, AreApartBefore, is_visible}
+use Rattle.canonical_text.proofs.Vocabulary.{◌≡◌, ℕ, ◌<◌, ◌^◌, Bool, true, List, [], ◌∷◌, ◌++◌, refl, codes, nat_lt, arith, and_parts, list_all, IsAscii-append, Mark, Tok, Word, Number, Sign, NoToken, heading, IsAscii, IsAscii-decimal, ltb-true, nat_tests}
+use Rattle.canonical_text.proofs.Vocabulary.{is_word_byte, Piece, Space, Part, token_text, text_of, CanStand, AreApartBefore, is_visible}
 use Rattle.std.proofs.lemmas.Str.Ascii.{IsAscii-nil, IsAscii-cons}
 use Rattle.litmus_reader.specs.{Mark.TheVariants.And, Marks.mark_text}
 

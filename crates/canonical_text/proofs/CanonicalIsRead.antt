@@ -1,14 +1,11 @@
 -- The canonical text of a program, fenced at any gaps, stands for that program.
-use Rattle.canonical_text.proofs.Vocabulary.{◌≡◌, ℕ, ◌+◌, ◌*◌, ◌<◌, ◌≤◌, suc, Bool, true, List, [], ◌∷◌, ◌++◌, length, map, get_or, Option, refl, sym, ap, ◌∙◌, subst, inl, inr, arith, AllByRecursion}
-use Rattle.canonical_text.proofs.Vocabulary.{IsDistinct, list_all, list_any, flat_map, filter_map, cons_option, range_with_len, option_map_or, bytes_eq, cases_Bool, cases_lt, slice_get-get_or}
-use Rattle.canonical_text.proofs.Vocabulary.{slice_get_past, fill_by_all, length-map-range_with_len, bytes_eq-Decides, Tok, Reg, Thread, Listing, code_of, Tree, tree_map, Spells, Sum}
-use Rattle.canonical_text.proofs.Vocabulary.{enclosed_signs_of, PlaceView, Location, Register, EntryView, CellView, BodyView, SignView, EndingView, NoneTwice, all_names, same_place, AreVisible}
-use Rattle.canonical_text.proofs.Vocabulary.{TextNames, all_registers, number_in, entry_place, row_places, sign_places, places, location_name, is_register, names_of, names_among, is_named, Label}
-use Rattle.canonical_text.proofs.Vocabulary.{column, labels_behind, thread_labels, all_labels, position_in, are_found, JumpsAreFound, entries_of, own_labels, moved_labels, body_of, place_named}
-use Rattle.canonical_text.proofs.Vocabulary.{signs_named, ending_of, litmus_fenced_at, canonical_text, IsTextNumber, IsPrintablePlace, IsPrintableEntry, IsPrintableRow, IsPrintable, IsPrintableSign}
-use Rattle.canonical_text.proofs.Vocabulary.{ArePrintable, IsPrintableEnding, Gaps, gaps_in, fence, fenced_threads, same_count, fencing_stays_within_limits, first_value, memory_of, registers_of}
-use Rattle.canonical_text.proofs.Vocabulary.{thread_read, listing_of, observed_of, numbered_atom, condition_of, AreParts, Means, StandsFor, IsFencedLitmus, in_order_once, HasParts}
-use Rattle.canonical_text.proofs.Vocabulary.{CanonicalTextIsRead, MAX_THREADS}
+use Rattle.canonical_text.proofs.Vocabulary.{◌≡◌, ℕ, ◌+◌, ◌*◌, ◌<◌, ◌≤◌, suc, Bool, true, List, [], ◌∷◌, ◌++◌, length, map, get_or, Option, refl, sym, ap, ◌∙◌, subst, inl, inr, arith, AllByRecursion, IsDistinct, list_all, list_any, flat_map, filter_map}
+use Rattle.canonical_text.proofs.Vocabulary.{cons_option, range_with_len, option_map_or, bytes_eq, cases_Bool, cases_lt, slice_get-get_or, slice_get_past, fill_by_all, length-map-range_with_len, bytes_eq-Decides, Tok, Reg, Thread, Listing, code_of, Tree}
+use Rattle.canonical_text.proofs.Vocabulary.{tree_map, Spells, Sum, enclosed_signs_of, PlaceView, Location, Register, EntryView, CellView, BodyView, SignView, EndingView, NoneTwice, all_names, same_place, AreVisible, TextNames, all_registers, number_in}
+use Rattle.canonical_text.proofs.Vocabulary.{entry_place, row_places, sign_places, places, location_name, is_register, names_of, names_among, is_named, Label, column, labels_behind, thread_labels, all_labels, position_in, are_found, JumpsAreFound, entries_of}
+use Rattle.canonical_text.proofs.Vocabulary.{own_labels, moved_labels, body_of, place_named, signs_named, ending_of, litmus_fenced_at, canonical_text, IsTextNumber, IsPrintablePlace, IsPrintableEntry, IsPrintableRow, IsPrintable, IsPrintableSign, ArePrintable}
+use Rattle.canonical_text.proofs.Vocabulary.{IsPrintableEnding, Gaps, gaps_in, fence, fenced_threads, same_count, fencing_stays_within_limits, first_value, memory_of, registers_of, thread_read, listing_of, observed_of, numbered_atom, condition_of, AreParts}
+use Rattle.canonical_text.proofs.Vocabulary.{Means, StandsFor, IsFencedLitmus, in_order_once, HasParts, CanonicalTextIsRead, MAX_THREADS}
 use Rattle.gap_sets.specs.Gaps.{SetOfGaps}
 use Rattle.tso_program.specs.Limits.{IsWithinLimits}
 use Rattle.litmus_reader.specs.declared.litmus.Litmus.{Litmus}

@@ -1,11 +1,10 @@
 -- What the tokens of a text say can be printed.
-use Rattle.canonical_text.proofs.Vocabulary.{◌≡◌, ℕ, ◌+◌, true, false, List, [], ◌∷◌, map, codes, Option, Some, None, inl, inr, sym, subst, AllByRecursion, Mark, Tok, Word, Number, Sign, NoToken, Reg}
-use Rattle.canonical_text.proofs.Vocabulary.{Quantifier, NotExists, column_name, PlaceView, Location, Register, EntryView, CodeView, LoadImm, Copy, Load, StoreImm, Store, Xchg, Fence, CmpImm, CmpReg}
-use Rattle.canonical_text.proofs.Vocabulary.{Je, Jne, Jmp, CellView, BodyView, SignView, Atom, Const, Not, EndingView, ◌▸◌, mark, number, Items, end, item, IsTextNumber, IsLocationName, IsLabelName}
-use Rattle.canonical_text.proofs.Vocabulary.{IsPrintablePlace, IsPrintableEntry, IsPrintableCode, IsPrintableContent, IsPrintableCell, IsPrintableRow, IsPrintableSign, recursion_from_All, Phrase}
-use Rattle.canonical_text.proofs.Vocabulary.{◌or◌, word, IsWord, BeginsWith, BeginsWithAll, none, white_space, comment, token}
+use Rattle.canonical_text.proofs.Vocabulary.{◌≡◌, ℕ, ◌+◌, true, false, List, [], ◌∷◌, map, codes, Option, Some, None, inl, inr, sym, subst, AllByRecursion, Mark, Tok, Word, Number, Sign, NoToken, Reg, Quantifier, NotExists, column_name, PlaceView, Location}
+use Rattle.canonical_text.proofs.Vocabulary.{Register, EntryView, CodeView, LoadImm, Copy, Load, StoreImm, Store, Xchg, Fence, CmpImm, CmpReg, Je, Jne, Jmp, CellView, BodyView, SignView, Atom, Const, Not, EndingView, ◌▸◌, mark, number, Items, end, item}
+use Rattle.canonical_text.proofs.Vocabulary.{IsTextNumber, IsLocationName, IsLabelName, IsPrintablePlace, IsPrintableEntry, IsPrintableCode, IsPrintableContent, IsPrintableCell, IsPrintableRow, IsPrintableSign, recursion_from_All, Phrase, ◌or◌, word, IsWord}
+use Rattle.canonical_text.proofs.Vocabulary.{BeginsWith, BeginsWithAll, none, white_space, comment, token}
 use Rattle.litmus_reader.specs.Mark.TheVariants as the
-use Rattle.litmus_syntax.specs.Grammar.{register, name, memory, IsPlace, separator, IsEntryItem, NoneTwice, labels_in_rows, place_of_entry, HasThread, MoreColumns, last, column, IsHeader, immediate, comma, IsCode, IsLabelMark, IsContent, IsCell, IsNextCell, IsRow, before_ending, IsBody, IsObservedItem, IsObserved, IsQuantifier, IsSign, the_end, IsEnding}
+use Rattle.litmus_syntax.specs.Grammar.{register, name, memory, IsPlace, separator, IsEntryItem, NoneTwice, labels_in_rows, place_of_entry, HasThread, MoreColumns, last, column, immediate, comma, IsCode, IsLabelMark, IsContent, IsCell, IsNextCell, IsRow, before_ending, IsBody, IsObservedItem, IsObserved, IsQuantifier, IsSign, the_end, IsEnding}
 
 -- a token as texts have them
 abbrev pub IsGood : Tok → Type 0

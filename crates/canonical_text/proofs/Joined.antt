@@ -1,6 +1,6 @@
 -- A loop's step where pieces are put together.
-use Rattle.canonical_text.proofs.Vocabulary.{◌≡◌, ℕ, ◌+◌, ◌<◌, ◌≤◌, List, [], ◌∷◌, ◌++◌, length, take, get_or, map, refl, sym, ap, ◌∙◌, arith, append_assoc, flat_map-map, flat_map, range_with_len}
-use Rattle.canonical_text.proofs.Vocabulary.{join_with_byte, Vec, map-range_with_len_more, texts, take_more, map_more, flat_map_more, length-map, length-take}
+use Rattle.canonical_text.proofs.Vocabulary.{◌≡◌, ℕ, ◌+◌, ◌<◌, ◌≤◌, List, [], ◌∷◌, ◌++◌, length, take, get_or, map, refl, sym, ap, ◌∙◌, arith, append_assoc, flat_map-map, flat_map, range_with_len, join_with_byte, Vec, map-range_with_len_more, texts, take_more}
+use Rattle.canonical_text.proofs.Vocabulary.{map_more, flat_map_more, length-map, length-take}
 
 -- one more element
 pub flat_more : {X A : Type 0} (f : X → List A) (bs : List A) (xs : List X) (i : ℕ) (d : X) → i < length xs → (bs ++ flat_map f (take i xs)) ++ f (get_or xs i d) ≡ bs ++ flat_map f (take (i + 1) xs)

@@ -1,7 +1,6 @@
 -- Labels of a position, and where they lie among fenced instructions.
-use Rattle.canonical_text.proofs.Vocabulary.{◌≡◌, ◌≢◌, ℕ, zero, suc, ◌+◌, ◌<◌, ◌≤◌, ◌==◌, Bool, true, false, List, [], ◌∷◌, ◌++◌, length, take, get_or, map, Option, Some, None, refl, sym, ap, ◌∙◌}
-use Rattle.canonical_text.proofs.Vocabulary.{inl, inr, arith, if◌then◌else◌, cons_option, option_to_list, cases_lt, append-nil, take_more, filter_map-append, Gaps, place_of, rises, Label, named_at}
-use Rattle.canonical_text.proofs.Vocabulary.{label_names_at, own_labels, moved_label, moved_labels, Decides-eqb, same_from_decides, false_from_ne_true as not_true}
+use Rattle.canonical_text.proofs.Vocabulary.{◌≡◌, ◌≢◌, ℕ, zero, suc, ◌+◌, ◌<◌, ◌≤◌, ◌==◌, Bool, true, false, List, [], ◌∷◌, ◌++◌, length, take, get_or, map, Option, Some, None, refl, sym, ap, ◌∙◌, inl, inr, arith, if◌then◌else◌, cons_option, option_to_list}
+use Rattle.canonical_text.proofs.Vocabulary.{cases_lt, append-nil, take_more, filter_map-append, Gaps, place_of, rises, Label, named_at, label_names_at, own_labels, moved_label, moved_labels, Decides-eqb, same_from_decides, false_from_ne_true as not_true}
 use Rattle.std.specs.Bool.{Decides}
 
 -- ---- places of a fenced thread

@@ -1,8 +1,7 @@
 -- The labels of the canonical rows are the labels.
-use Rattle.canonical_text.proofs.Vocabulary.{◌≡◌, ℕ, ◌+◌, ◌<◌, ◌≤◌, zero, suc, Bool, true, false, List, [], ◌∷◌, ◌++◌, length, map, Option, refl, sym, ap, ◌∙◌, subst, inl, inr, arith, slice_get}
-use Rattle.canonical_text.proofs.Vocabulary.{nat_lt, option_map, if◌then◌else◌, AllByRecursion, flat_map, cons_option, range_with_len, option_map_or, cases_lt, slice_get-get_or, Instr, Thread}
-use Rattle.canonical_text.proofs.Vocabulary.{code_of, place_of, rises, CodeView, CellView, Label, column, size, labels_behind, thread_labels, label_names_at, own_labels, moved_label, code_named}
-use Rattle.canonical_text.proofs.Vocabulary.{cell_of, row_of, most_cells, rows_of, IsLabelName, IsPrintableCell, IsPrintableRow}
+use Rattle.canonical_text.proofs.Vocabulary.{◌≡◌, ℕ, ◌+◌, ◌<◌, ◌≤◌, zero, suc, Bool, true, false, List, [], ◌∷◌, ◌++◌, length, map, Option, refl, sym, ap, ◌∙◌, subst, inl, inr, arith, slice_get, nat_lt, option_map, if◌then◌else◌, AllByRecursion, flat_map}
+use Rattle.canonical_text.proofs.Vocabulary.{cons_option, range_with_len, option_map_or, cases_lt, slice_get-get_or, Instr, Thread, code_of, place_of, rises, CodeView, CellView, Label, column, size, labels_behind, thread_labels, label_names_at, own_labels}
+use Rattle.canonical_text.proofs.Vocabulary.{moved_label, code_named, cell_of, row_of, most_cells, rows_of, IsLabelName, IsPrintableCell, IsPrintableRow}
 use Rattle.tso_program.specs.declared.instruction.Instr.TheVariants as instr
 use Rattle.litmus_reader.specs.Meaning as meaning
 use Rattle.litmus_reader.proofs.Positions.{code_count}

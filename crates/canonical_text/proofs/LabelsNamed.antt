@@ -1,7 +1,7 @@
 -- A thread's labels: the first of a position names it, and in text order they are those of its places one after another.
-use Rattle.canonical_text.proofs.Vocabulary.{◌≡◌, ◌≢◌, ℕ, zero, suc, ◌+◌, ◌<◌, ◌≤◌, Bool, true, false, cond, List, [], ◌∷◌, ◌++◌, length, map, Option, Some, None, refl, sym, ap, ◌∙◌, subst, inl, inr}
-use Rattle.canonical_text.proofs.Vocabulary.{arith, cases_eq, nat_lt, is_some, slice_index_or, AllByRecursion, cons_option, flat_map, range_with_len, option_map_or, bytes_eq, cases_Bool, lt-ltb}
-use Rattle.canonical_text.proofs.Vocabulary.{bytes_eq-Decides, IsNoneOf, NoneTwice, Label, label_in, position_in, IsLabelName, named_at, label_names_at, label_name_at, false_from_ne_true}
+use Rattle.canonical_text.proofs.Vocabulary.{◌≡◌, ◌≢◌, ℕ, zero, suc, ◌+◌, ◌<◌, ◌≤◌, Bool, true, false, cond, List, [], ◌∷◌, ◌++◌, length, map, Option, Some, None, refl, sym, ap, ◌∙◌, subst, inl, inr, arith, cases_eq, nat_lt, is_some, slice_index_or}
+use Rattle.canonical_text.proofs.Vocabulary.{AllByRecursion, cons_option, flat_map, range_with_len, option_map_or, bytes_eq, cases_Bool, lt-ltb, bytes_eq-Decides, IsNoneOf, NoneTwice, Label, label_in, position_in, IsLabelName, named_at, label_names_at}
+use Rattle.canonical_text.proofs.Vocabulary.{label_name_at, false_from_ne_true}
 use Rattle.canonical_text.proofs.LabelPlaces.{here, elsewhere}
 
 abbrev pub label_name : Label → List ℕ

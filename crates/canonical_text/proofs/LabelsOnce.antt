@@ -1,7 +1,6 @@
 -- No label stands twice in a thread: told of all rows at once, and of each thread.
-use Rattle.canonical_text.proofs.Vocabulary.{◌≡◌, ◌≢◌, ℕ, zero, suc, ◌+◌, ◌<◌, ◌==◌, Bool, List, [], ◌∷◌, ◌++◌, map, Option, Some, None, refl, sym, ap, ◌∙◌, subst, arith, slice_get, if◌then◌else◌}
-use Rattle.canonical_text.proofs.Vocabulary.{cons_option, filter_map, flat_map, Decides-eqb, append-nil, map-append, filter_map-append, CellView, column, size, labels_behind, thread_labels, IsNoneOf}
-use Rattle.canonical_text.proofs.Vocabulary.{NoneTwice, labels_from, row_labels, labels_in_rows, false_from_ne_true as not_true}
+use Rattle.canonical_text.proofs.Vocabulary.{◌≡◌, ◌≢◌, ℕ, zero, suc, ◌+◌, ◌<◌, ◌==◌, Bool, List, [], ◌∷◌, ◌++◌, map, Option, Some, None, refl, sym, ap, ◌∙◌, subst, arith, slice_get, if◌then◌else◌, cons_option, filter_map, flat_map, Decides-eqb, append-nil}
+use Rattle.canonical_text.proofs.Vocabulary.{map-append, filter_map-append, CellView, column, size, labels_behind, thread_labels, IsNoneOf, NoneTwice, labels_from, row_labels, labels_in_rows, false_from_ne_true as not_true}
 use Rattle.canonical_text.proofs.LabelsNamed.{label_name, same_or_not}
 
 -- a label with its thread

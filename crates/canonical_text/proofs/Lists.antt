@@ -1,7 +1,6 @@
 -- Facts of every element of a list.
-use Rattle.canonical_text.proofs.Vocabulary.{◌≡◌, ℕ, ◌+◌, ◌<◌, ◌≤◌, zero, suc, Bool, true, ◌||◌, List, [], ◌∷◌, ◌++◌, length, map, Option, Some, None, refl, sym, ap, ◌∙◌, arith, or-true, slice_get}
-use Rattle.canonical_text.proofs.Vocabulary.{AllByRecursion, list_any, flat_map, filter_map, cons_option, IfSome, range_with_len, add-zero, slice_get-get_or, length-map-range_with_len}
-use Rattle.canonical_text.proofs.Vocabulary.{get_or-map-range_with_len}
+use Rattle.canonical_text.proofs.Vocabulary.{◌≡◌, ℕ, ◌+◌, ◌<◌, ◌≤◌, zero, suc, Bool, true, ◌||◌, List, [], ◌∷◌, ◌++◌, length, map, Option, Some, None, refl, sym, ap, ◌∙◌, arith, or-true, slice_get, AllByRecursion, list_any, flat_map, filter_map, cons_option}
+use Rattle.canonical_text.proofs.Vocabulary.{IfSome, range_with_len, add-zero, slice_get-get_or, length-map-range_with_len, get_or-map-range_with_len}
 pub use Rattle.litmus_reader.proofs.Elements.{all_more_so, all_of_both}
 
 pub both_of_all : {X : Type 0} (P : X → Type 0) (xs ys : List X) → AllByRecursion P (xs ++ ys) → AllByRecursion P xs × AllByRecursion P ys

@@ -1,10 +1,9 @@
 -- What a text names: each name can be printed, and each place that it names is named.
-use Rattle.canonical_text.proofs.Vocabulary.{◌≡◌, ℕ, ◌+◌, ◌<◌, ◌≤◌, Bool, true, false, cond, ◌||◌, List, [], ◌∷◌, ◌++◌, length, map, fold, Option, Some, None, sym, ap, ◌∙◌, subst, inl, inr, arith}
-use Rattle.canonical_text.proofs.Vocabulary.{or_parts, if◌then◌else◌, slice_index_or, AllByRecursion, list_any, find, flat_map, filter_map, option_map_or, bytes_eq, cases_Bool, list_any-append}
-use Rattle.canonical_text.proofs.Vocabulary.{get_or-map-range_with_len, Reg, PlaceView, Location, Register, EntryView, CodeView, LoadImm, Copy, Load, StoreImm, Store, Xchg, CmpImm, CmpReg, CellView}
-use Rattle.canonical_text.proofs.Vocabulary.{BodyView, SignView, Atom, EndingView, same_place, all_registers, with_name, code_places, cell_places, cells_places, row_places, sign_places, entry_place}
-use Rattle.canonical_text.proofs.Vocabulary.{places, location_name, is_register, names_of, is_named, first_value, IsTextNumber, IsLocationName, IsPrintablePlace, IsPrintableEntry, IsPrintableCode}
-use Rattle.canonical_text.proofs.Vocabulary.{IsPrintableContent, IsPrintableCell, IsPrintableRow, IsPrintableSign, append-nil, same_place_itself, in_order, Stands, stand_from}
+use Rattle.canonical_text.proofs.Vocabulary.{◌≡◌, ℕ, ◌+◌, ◌<◌, ◌≤◌, Bool, true, false, cond, ◌||◌, List, [], ◌∷◌, ◌++◌, length, map, fold, Option, Some, None, sym, ap, ◌∙◌, subst, inl, inr, arith, or_parts, if◌then◌else◌, slice_index_or, AllByRecursion}
+use Rattle.canonical_text.proofs.Vocabulary.{list_any, find, flat_map, filter_map, option_map_or, bytes_eq, cases_Bool, list_any-append, get_or-map-range_with_len, Reg, PlaceView, Location, Register, EntryView, CodeView, LoadImm, Copy, Load, StoreImm, Store}
+use Rattle.canonical_text.proofs.Vocabulary.{Xchg, CmpImm, CmpReg, CellView, BodyView, SignView, Atom, EndingView, same_place, all_registers, with_name, code_places, cell_places, cells_places, row_places, sign_places, entry_place, places, location_name}
+use Rattle.canonical_text.proofs.Vocabulary.{is_register, names_of, is_named, first_value, IsTextNumber, IsLocationName, IsPrintablePlace, IsPrintableEntry, IsPrintableCode, IsPrintableContent, IsPrintableCell, IsPrintableRow, IsPrintableSign, append-nil}
+use Rattle.canonical_text.proofs.Vocabulary.{same_place_itself, in_order, Stands, stand_from}
 use Rattle.tso_program.specs.Instructions.{number}
 use Rattle.canonical_text.proofs.{NamedPlaces.at_register, NamedPlaces.nothing_held, ToldCode.IsKnown, Lists.all_of_both, Lists.all_mapped, Lists.all_given, Lists.each_among}
 

@@ -1,10 +1,9 @@
 -- The entries of the canonical text: the places that they name stand once, in order, and hold what they held.
-use Rattle.canonical_text.proofs.Vocabulary.{◌≡◌, ◌≢◌, ℕ, ◌+◌, ◌*◌, ◌<◌, ◌≤◌, ◌==◌, zero, suc, Bool, true, false, cond, ◌&&◌, ◌||◌, List, [], ◌∷◌, ◌++◌, length, map, get_or, Some, refl, sym, ap, ◌∙◌}
-use Rattle.canonical_text.proofs.Vocabulary.{inl, inr, arith, eq-eqb, if◌then◌else◌, slice_index, length-map, get_or-map, map-append, map-map, and-true, and-false, or-true, or-false, eqb-true}
-use Rattle.canonical_text.proofs.Vocabulary.{or_from, or_parts, false_from_ne_true, AllByRecursion, IsDistinct, flat_map, filter_map, find, list_any, option_map_or, bytes_eq, cases_Bool, Decides-eqb}
-use Rattle.canonical_text.proofs.Vocabulary.{bytes_eq-Decides, list_any-append, fill_by_all, Reg, Eax, Ebx, Ecx, Edx, Esi, Edi, Thread, PlaceView, Location, Register, EntryView, IsNoneOf, NoneTwice}
-use Rattle.canonical_text.proofs.Vocabulary.{place_of_entry, same_place, same_place_is, TextNames, all_registers, location_name, is_register, is_named, first_value, location_name_at, location_entry}
-use Rattle.canonical_text.proofs.Vocabulary.{location_entries, named_entry, register_entries, IsTextNumber, IsLocationName, IsPrintableEntry}
+use Rattle.canonical_text.proofs.Vocabulary.{◌≡◌, ◌≢◌, ℕ, ◌+◌, ◌*◌, ◌<◌, ◌≤◌, ◌==◌, zero, suc, Bool, true, false, cond, ◌&&◌, ◌||◌, List, [], ◌∷◌, ◌++◌, length, map, get_or, Some, refl, sym, ap, ◌∙◌, inl, inr, arith, eq-eqb, if◌then◌else◌, slice_index}
+use Rattle.canonical_text.proofs.Vocabulary.{length-map, get_or-map, map-append, map-map, and-true, and-false, or-true, or-false, eqb-true, or_from, or_parts, false_from_ne_true, AllByRecursion, IsDistinct, flat_map, filter_map, find, list_any, option_map_or}
+use Rattle.canonical_text.proofs.Vocabulary.{bytes_eq, cases_Bool, Decides-eqb, bytes_eq-Decides, list_any-append, fill_by_all, Reg, Eax, Ebx, Ecx, Edx, Esi, Edi, Thread, PlaceView, Location, Register, EntryView, IsNoneOf, NoneTwice, place_of_entry}
+use Rattle.canonical_text.proofs.Vocabulary.{same_place, same_place_is, TextNames, all_registers, location_name, is_register, is_named, first_value, location_name_at, location_entry, location_entries, named_entry, register_entries, IsTextNumber}
+use Rattle.canonical_text.proofs.Vocabulary.{IsLocationName, IsPrintableEntry}
 use Rattle.tso_program.specs.Instructions.{number}
 use Rattle.tso_program.proofs.Registers.{small_number, same_register}
 use Rattle.canonical_text.proofs.Lists.{all_of_both, all_mapped}

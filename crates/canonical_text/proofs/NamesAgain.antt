@@ -1,7 +1,7 @@
 -- The names of the canonical text are those of the text.
-use Rattle.canonical_text.proofs.Vocabulary.{◌≡◌, ℕ, ◌+◌, ◌*◌, ◌<◌, Bool, true, false, ◌||◌, List, [], ◌∷◌, ◌++◌, map, fold, refl, sym, ap, ◌∙◌, subst, inl, inr, append_assoc, append-nil, or-false}
-use Rattle.canonical_text.proofs.Vocabulary.{if◌then◌else◌, AllByRecursion, IsDistinct, list_any, filter_map, bytes_eq, cases_Bool, filter_map-append, list_any-append, Reg, PlaceView, Location}
-use Rattle.canonical_text.proofs.Vocabulary.{Register, same_place, same_place_is, location_name, is_register, names_among, fold-append, all_registers, with_name, in_order}
+use Rattle.canonical_text.proofs.Vocabulary.{◌≡◌, ℕ, ◌+◌, ◌*◌, ◌<◌, Bool, true, false, ◌||◌, List, [], ◌∷◌, ◌++◌, map, fold, refl, sym, ap, ◌∙◌, subst, inl, inr, append_assoc, append-nil, or-false, if◌then◌else◌, AllByRecursion, IsDistinct, list_any}
+use Rattle.canonical_text.proofs.Vocabulary.{filter_map, bytes_eq, cases_Bool, filter_map-append, list_any-append, Reg, PlaceView, Location, Register, same_place, same_place_is, location_name, is_register, names_among, fold-append, all_registers, with_name}
+use Rattle.canonical_text.proofs.Vocabulary.{in_order}
 use Rattle.std.proofs.lemmas.Cmp.{nat_list_eq_equiv}
 use Rattle.canonical_text.proofs.NamedPlaces.{distinct_head as distinct_parts, Named, named_places, threads_places, rising_threads, named_locations, register_among}
 use Rattle.canonical_text.proofs.ToldCode.{IsKnown}

@@ -1,11 +1,9 @@
 -- The pieces of parts that can be printed can be written one after the other.
-use Rattle.canonical_text.proofs.Vocabulary.{◌≡◌, ℕ, ◌+◌, ◌^◌, ◌<◌, ◌≤◌, ◌==◌, zero, suc, Bool, true, false, List, [], ◌∷◌, ◌++◌, length, map, Option, Some, None, refl, sym, ap, ◌∙◌, inl, inr, arith}
-use Rattle.canonical_text.proofs.Vocabulary.{append_assoc, and_parts, flat_map, list_all, range_with_len, AllByRecursion, option_to_list, is_ascii_digit, decimal, cases_Bool, Decides-eqb, is_letter}
-use Rattle.canonical_text.proofs.Vocabulary.{own, Piece, text_of, AreApartBefore, AreApart, Quantifier, NotExists, PlaceView, Location, Register, EntryView, CodeView, LoadImm, Copy, Load, StoreImm}
-use Rattle.canonical_text.proofs.Vocabulary.{Store, Xchg, Fence, CmpImm, CmpReg, CellView, BodyView, SignView, Atom, Const, Not, And, Or, Open, Close, EndingView, IsTextNumber, IsLabelName}
-use Rattle.canonical_text.proofs.Vocabulary.{IsPrintablePlace, IsPrintableEntry, IsPrintableCode, IsPrintableContent, IsPrintableCell, IsPrintableRow, IsPrintable, IsPrintableSign, begins_with_a_word}
-use Rattle.canonical_text.proofs.Vocabulary.{SignsAreApart, ArePrintable, IsPrintableEnding, digits_decimal, decimal_nonempty, IsWord, NoWordGoesOn, line_end, next, joined_by, bar, gap, valued_pieces}
-use Rattle.canonical_text.proofs.Vocabulary.{entry_pieces, initial_pieces, row_end, line_of, column_pieces, header_pieces, code_pieces, label_pieces, cell_pieces, row_pieces, body_pieces}
+use Rattle.canonical_text.proofs.Vocabulary.{◌≡◌, ℕ, ◌+◌, ◌^◌, ◌<◌, ◌≤◌, ◌==◌, zero, suc, Bool, true, false, List, [], ◌∷◌, ◌++◌, length, map, Option, Some, None, refl, sym, ap, ◌∙◌, inl, inr, arith, append_assoc, and_parts, flat_map, list_all, range_with_len}
+use Rattle.canonical_text.proofs.Vocabulary.{AllByRecursion, option_to_list, is_ascii_digit, decimal, cases_Bool, Decides-eqb, is_letter, own, Piece, text_of, AreApartBefore, AreApart, Quantifier, NotExists, PlaceView, Location, Register, EntryView, CodeView}
+use Rattle.canonical_text.proofs.Vocabulary.{LoadImm, Copy, Load, StoreImm, Store, Xchg, Fence, CmpImm, CmpReg, CellView, BodyView, SignView, Atom, Const, Not, And, Or, Open, Close, EndingView, IsTextNumber, IsLabelName, IsPrintablePlace, IsPrintableEntry}
+use Rattle.canonical_text.proofs.Vocabulary.{IsPrintableCode, IsPrintableContent, IsPrintableCell, IsPrintableRow, IsPrintable, IsPrintableSign, begins_with_a_word, SignsAreApart, ArePrintable, IsPrintableEnding, digits_decimal, decimal_nonempty, IsWord}
+use Rattle.canonical_text.proofs.Vocabulary.{NoWordGoesOn, line_end, next, joined_by, bar, gap, valued_pieces, entry_pieces, initial_pieces, row_end, line_of, column_pieces, header_pieces, code_pieces, label_pieces, cell_pieces, row_pieces, body_pieces}
 use Rattle.canonical_text.proofs.Vocabulary.{observed_place_pieces, observed_pieces, sign_pieces, condition_pieces, ending_pieces, lines_pieces, sign, space}
 use Rattle.litmus_reader.specs.Comments.{opens}
 use Rattle.canonical_text.proofs.{Lists.all_mapped, PiecesAppended.AreApartBefore-append, WordsWritten.register_word, WordsWritten.digits_in_word}

@@ -1,12 +1,10 @@
 -- The tokens of printed parts are related to those parts by the grammar.
-use Rattle.canonical_text.proofs.Vocabulary.{◌≡◌, ℕ, ◌+◌, ◌<◌, zero, suc, true, false, List, [], ◌∷◌, ◌++◌, map, codes, Option, Some, None, inl, inr, refl, sym, ap, ◌∙◌, subst, arith, append_assoc}
-use Rattle.canonical_text.proofs.Vocabulary.{flat_map-map, option_to_list, append-nil, AllByRecursion, flat_map, range_with_len, Tok, Sign, Piece, tokens_of, Quantifier, Exists, NotExists, PlaceView}
-use Rattle.canonical_text.proofs.Vocabulary.{Location, Register, EntryView, CodeView, LoadImm, Copy, Load, StoreImm, Store, Xchg, Fence, CmpImm, CmpReg, Je, Jne, Jmp, CellView, BodyView, SignView}
-use Rattle.canonical_text.proofs.Vocabulary.{Atom, Const, Not, EndingView, register_name, IsLabelName, IsPrintablePlace, IsPrintableEntry, IsPrintableCode, IsPrintableContent, IsPrintableCell}
-use Rattle.canonical_text.proofs.Vocabulary.{IsPrintableRow, IsPrintable, IsPrintableSign, ArePrintable, IsPrintableEnding, All-from_recursion, mnemonic_of, opens_condition, Phrase, ◌▸◌, mark, number}
-use Rattle.canonical_text.proofs.Vocabulary.{begins_with_word, Items, end, item, space, line_end, sign, next, joined_by, bar, gap, place_pieces, valued_pieces, entry_pieces, initial_pieces, row_end}
-use Rattle.canonical_text.proofs.Vocabulary.{column_pieces, header_pieces, code_pieces, label_pieces, cell_pieces, row_pieces, observed_place_pieces, observed_pieces, sign_pieces, condition_pieces}
-use Rattle.canonical_text.proofs.Vocabulary.{ending_pieces, lines_pieces}
+use Rattle.canonical_text.proofs.Vocabulary.{◌≡◌, ℕ, ◌+◌, ◌<◌, zero, suc, true, false, List, [], ◌∷◌, ◌++◌, map, codes, Option, Some, None, inl, inr, refl, sym, ap, ◌∙◌, subst, arith, append_assoc, flat_map-map, option_to_list, append-nil, AllByRecursion}
+use Rattle.canonical_text.proofs.Vocabulary.{flat_map, range_with_len, Tok, Sign, Piece, tokens_of, Quantifier, Exists, NotExists, PlaceView, Location, Register, EntryView, CodeView, LoadImm, Copy, Load, StoreImm, Store, Xchg, Fence, CmpImm, CmpReg, Je, Jne}
+use Rattle.canonical_text.proofs.Vocabulary.{Jmp, CellView, BodyView, SignView, Atom, Const, Not, EndingView, register_name, IsLabelName, IsPrintablePlace, IsPrintableEntry, IsPrintableCode, IsPrintableContent, IsPrintableCell, IsPrintableRow, IsPrintable}
+use Rattle.canonical_text.proofs.Vocabulary.{IsPrintableSign, ArePrintable, IsPrintableEnding, All-from_recursion, mnemonic_of, opens_condition, Phrase, ◌▸◌, mark, number, begins_with_word, Items, end, item, space, line_end, sign, next, joined_by, bar, gap}
+use Rattle.canonical_text.proofs.Vocabulary.{place_pieces, valued_pieces, entry_pieces, initial_pieces, row_end, column_pieces, header_pieces, code_pieces, label_pieces, cell_pieces, row_pieces, observed_place_pieces, observed_pieces, sign_pieces}
+use Rattle.canonical_text.proofs.Vocabulary.{condition_pieces, ending_pieces, lines_pieces}
 use Rattle.litmus_reader.specs.Mark.TheVariants as the
 use Rattle.litmus_syntax.specs.Grammar.{IsPlace, IsEntryItem, NoneTwice, place_of_entry, IsInitial, HasThread, MoreColumns, last, column, IsHeader, IsCode, IsLabelMark, IsContent, ends_cell, IsCell, IsNextCell, IsRow, ends_rows, before_ending, IsRows, IsBody, IsObservedItem, IsObserved, IsQuantifier, IsSign, the_end, IsSigns, IsEnding}
 use Rattle.canonical_text.proofs.{Lists.all_mapped, WordsWritten.register_named}

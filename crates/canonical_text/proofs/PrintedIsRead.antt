@@ -1,6 +1,6 @@
 -- Parts that can be printed are the parts of their canonical text.
-use Rattle.canonical_text.proofs.Vocabulary.{◌≡◌, ℕ, List, [], ◌∷◌, ◌++◌, codes, refl, ap, append_assoc, lit<, append-nil, text_of, tokens_of, AreApart, lines_pieces, ending_pieces, heading}
-use Rattle.canonical_text.proofs.Vocabulary.{IsUtf8-from_ascii, IsAscii-append, AreVisible, IsFirstLine, PrintedPartsAreRead}
+use Rattle.canonical_text.proofs.Vocabulary.{◌≡◌, ℕ, List, [], ◌∷◌, ◌++◌, codes, refl, ap, append_assoc, lit<, append-nil, text_of, tokens_of, AreApart, lines_pieces, ending_pieces, heading, IsUtf8-from_ascii, IsAscii-append, AreVisible, IsFirstLine}
+use Rattle.canonical_text.proofs.Vocabulary.{PrintedPartsAreRead}
 use Rattle.litmus_reader.proofs.PieceLaws.{pieces_lex}
 use Rattle.litmus_reader.specs.{Space.nothing, SkippedLines.brace}
 use Rattle.canonical_text.proofs.{PiecesApart.lines_apart, PiecesRelated.body_related, PiecesRelated.ending_related, AsciiTexts.ascii_pieces, AsciiTexts.ascii_heading}

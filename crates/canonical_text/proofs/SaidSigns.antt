@@ -1,7 +1,6 @@
 -- The condition: its canonical signs, named again, spell the same formula.
-use Rattle.canonical_text.proofs.Vocabulary.{◌≡◌, ℕ, false, List, [], ◌∷◌, ◌++◌, map, refl, sym, ap, ◌∙◌, subst, append_assoc, AllByRecursion, IsDistinct, flat_map, bytes_eq, append-nil, Tree}
-use Rattle.canonical_text.proofs.Vocabulary.{tree_map, PlaceView, Location, Register, SignView, number_in, sign_places, IsTextNumber, IsPrintablePlace, IsPrintableSign, begins_with_a_word}
-use Rattle.canonical_text.proofs.Vocabulary.{SignsAreApart, signs_of, enclosed_signs_of, atom_of, numbered_atom, atom_named, sign_named, signs_named}
+use Rattle.canonical_text.proofs.Vocabulary.{◌≡◌, ℕ, false, List, [], ◌∷◌, ◌++◌, map, refl, sym, ap, ◌∙◌, subst, append_assoc, AllByRecursion, IsDistinct, flat_map, bytes_eq, append-nil, Tree, tree_map, PlaceView, Location, Register, SignView, number_in}
+use Rattle.canonical_text.proofs.Vocabulary.{sign_places, IsTextNumber, IsPrintablePlace, IsPrintableSign, begins_with_a_word, SignsAreApart, signs_of, enclosed_signs_of, atom_of, numbered_atom, atom_named, sign_named, signs_named}
 use Rattle.tso_program.specs.Tree as tree
 use Rattle.conditions.specs.Grammar.{Sign, sign_map, Class, Sum, Spells, atom, const, negation, parens, operand, conjunction, term, disjunction}
 use Rattle.conditions.specs.Grammar as sign

@@ -1,9 +1,8 @@
 -- The text of pieces, one more part after the others.
-use Rattle.canonical_text.proofs.Vocabulary.{◌≡◌, ℕ, ◌+◌, ◌<◌, ◌==◌, zero, suc, false, List, [], ◌∷◌, ◌++◌, length, map, take, drop, get_or, codes, Some, refl, sym, ap, ◌∙◌, arith, append_assoc}
-use Rattle.canonical_text.proofs.Vocabulary.{nat_lt, if◌then◌else◌, flat_map, range_with_len, map-range_with_len_more, length-range_with_len, lt-ltb, Piece, text_of, Quantifier, PlaceView, EntryView}
-use Rattle.canonical_text.proofs.Vocabulary.{CodeView, SignView, Thread, TextNames, space, line_end, sign, next, joined_by, gap, code_pieces, label_pieces, cell_pieces, observed_place_pieces}
-use Rattle.canonical_text.proofs.Vocabulary.{observed_pieces, entry_pieces, initial_pieces, sign_pieces, quantifier_pieces, condition_pieces, thread_entries, register_entries, append-nil, take_more}
-use Rattle.canonical_text.proofs.Vocabulary.{map_more, map_push, drop_more, length-map, length-take-le, map-map, flat_map-append}
+use Rattle.canonical_text.proofs.Vocabulary.{◌≡◌, ℕ, ◌+◌, ◌<◌, suc, List, [], ◌∷◌, ◌++◌, length, map, take, drop, get_or, codes, Some, refl, sym, ap, ◌∙◌, arith, append_assoc, nat_lt, if◌then◌else◌, flat_map, range_with_len, map-range_with_len_more}
+use Rattle.canonical_text.proofs.Vocabulary.{length-range_with_len, lt-ltb, Piece, text_of, Quantifier, PlaceView, EntryView, CodeView, SignView, Thread, TextNames, space, line_end, sign, next, joined_by, gap, code_pieces, label_pieces, cell_pieces}
+use Rattle.canonical_text.proofs.Vocabulary.{observed_place_pieces, observed_pieces, entry_pieces, initial_pieces, sign_pieces, quantifier_pieces, condition_pieces, thread_entries, register_entries, append-nil, take_more, map_more, map_push, drop_more}
+use Rattle.canonical_text.proofs.Vocabulary.{length-map, length-take-le, map-map, flat_map-append}
 use Rattle.litmus_reader.specs.Mark.TheVariants as the
 use Rattle.canonical_text.proofs.PiecesAppended.{text_of-append}
 

@@ -1,13 +1,12 @@
 -- The threads of the fenced program, told by the canonical text.
-use Rattle.canonical_text.proofs.Vocabulary.{◌≡◌, ℕ, ◌+◌, ◌<◌, ◌≤◌, zero, suc, Bool, List, [], ◌∷◌, length, map, get_or, Option, refl, sym, ap, ◌∙◌, subst, inl, inr, arith, slice_index_or}
-use Rattle.canonical_text.proofs.Vocabulary.{AllByRecursion, IsDistinct, flat_map, range_with_len, option_map_or, column, bytes_eq, cases_lt, slice_get_past, length-map-range_with_len}
-use Rattle.canonical_text.proofs.Vocabulary.{get_or-map-range_with_len, Instr, Thread, code_of, Gaps, place_of, fenced_code, fenced_threads, PlaceView, Register, BodyView, NoneTwice, all_names}
-use Rattle.canonical_text.proofs.Vocabulary.{all_registers, number_in, row_places, Label, thread_labels, all_labels, position_in, JumpsAreFound, first_value, thread_read, own_labels, moved_label}
-use Rattle.canonical_text.proofs.Vocabulary.{moved_labels, IsLabelName, map-map, IsPrintableRow, get_or_past, fenced_code_of, ends, labels_in_rows}
+use Rattle.canonical_text.proofs.Vocabulary.{◌≡◌, ℕ, ◌+◌, ◌<◌, ◌≤◌, zero, suc, List, [], ◌∷◌, length, map, get_or, Option, refl, sym, ap, ◌∙◌, subst, inl, inr, arith, slice_index_or, AllByRecursion, IsDistinct, flat_map, range_with_len, option_map_or, column}
+use Rattle.canonical_text.proofs.Vocabulary.{bytes_eq, cases_lt, slice_get_past, length-map-range_with_len, get_or-map-range_with_len, Instr, Thread, code_of, Gaps, place_of, fenced_code, fenced_threads, PlaceView, Register, BodyView, NoneTwice, all_names}
+use Rattle.canonical_text.proofs.Vocabulary.{all_registers, number_in, row_places, Label, thread_labels, all_labels, position_in, JumpsAreFound, first_value, thread_read, own_labels, moved_label, moved_labels, IsLabelName, map-map, IsPrintableRow, get_or_past}
+use Rattle.canonical_text.proofs.Vocabulary.{fenced_code_of, ends, labels_in_rows}
 use Rattle.litmus_reader.specs.Meaning as meaning
 use Rattle.canonical_text.proofs.{LabelPlaces.moved_of, LabelsNamed.label_name, LabelsNamed.AreGoodLabels, LabelsNamed.Ascending, LabelsOnce.thread_own, LabelsOnce.once_in_thread}
-use Rattle.canonical_text.proofs.LabelsAgain.{thread_ascending, moved_ascending, behind_good, column_printable}
-use Rattle.canonical_text.proofs.{NamedPlaces.Named, NamedPlaces.RegistersAre, ToldCode.IsKnown, ToldCode.IsTold, ToldCode.AreTold, ToldCode.rows_told, ToldCode.fenced_told, Lists.all_mapped, Lists.made_at}
+use Rattle.canonical_text.proofs.{LabelsAgain.thread_ascending, LabelsAgain.moved_ascending, LabelsAgain.behind_good, LabelsAgain.column_printable, NamedPlaces.Named, NamedPlaces.RegistersAre}
+use Rattle.canonical_text.proofs.{ToldCode.IsKnown, ToldCode.IsTold, ToldCode.AreTold, ToldCode.rows_told, ToldCode.fenced_told, Lists.all_mapped, Lists.made_at}
 
 -- ---- labels and code
 

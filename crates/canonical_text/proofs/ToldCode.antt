@@ -1,11 +1,9 @@
 -- Code that a text tells: with names of locations and labels it can be printed, and stands for the same code again. Fences too.
-use Rattle.canonical_text.proofs.Vocabulary.{◌≡◌, ℕ, ◌+◌, ◌<◌, ◌≤◌, zero, suc, Bool, true, false, List, [], ◌∷◌, ◌++◌, length, map, Option, Some, None, refl, sym, ap, ◌∙◌, subst, arith, slice_get}
-use Rattle.canonical_text.proofs.Vocabulary.{slice_index_or, nat_lt, is_some, option_map, option_and_then, if◌then◌else◌, AllByRecursion, IsDistinct, list_all, list_any, flat_map, filter_map}
-use Rattle.canonical_text.proofs.Vocabulary.{cons_option, range_with_len, option_map_or, bytes_eq, length-map, length-range_with_len, Instr, Thread, code_of, instr_at, PlaceView, Location, Register}
-use Rattle.canonical_text.proofs.Vocabulary.{CodeView, Load, StoreImm, Store, Xchg, Fence, Je, Jne, Jmp, CellView, NoneTwice, number_in, code_places, cell_places, cells_places, row_places, Label}
-use Rattle.canonical_text.proofs.Vocabulary.{instruction_of, instruction_in, location_name_at, label_names_at, label_name_at, own_labels, moved_label, code_named, cell_of, row_of, most_cells, rows_of}
-use Rattle.canonical_text.proofs.Vocabulary.{IsLabelName, IsPrintableCode, IsPrintableContent, IsPrintableCell, IsPrintableRow, place_of, moved, fenced_code, label_in, position_in, jump_of, is_found}
-use Rattle.canonical_text.proofs.Vocabulary.{are_found, place_among, number_at, IfSome, and_from as both_true, and_parts}
+use Rattle.canonical_text.proofs.Vocabulary.{◌≡◌, ℕ, ◌+◌, ◌<◌, ◌≤◌, zero, suc, Bool, true, false, List, [], ◌∷◌, ◌++◌, length, map, Option, Some, None, refl, sym, ap, ◌∙◌, subst, arith, slice_get, slice_index_or, nat_lt, is_some, option_map, option_and_then}
+use Rattle.canonical_text.proofs.Vocabulary.{if◌then◌else◌, AllByRecursion, IsDistinct, list_all, list_any, flat_map, filter_map, cons_option, range_with_len, option_map_or, bytes_eq, length-map, length-range_with_len, Instr, Thread, code_of, instr_at}
+use Rattle.canonical_text.proofs.Vocabulary.{PlaceView, Location, Register, CodeView, Load, StoreImm, Store, Xchg, Fence, Je, Jne, Jmp, CellView, NoneTwice, number_in, code_places, cell_places, cells_places, row_places, Label, instruction_of, instruction_in}
+use Rattle.canonical_text.proofs.Vocabulary.{location_name_at, label_names_at, label_name_at, own_labels, moved_label, code_named, cell_of, row_of, most_cells, rows_of, IsLabelName, IsPrintableCode, IsPrintableContent, IsPrintableCell, IsPrintableRow}
+use Rattle.canonical_text.proofs.Vocabulary.{place_of, moved, fenced_code, label_in, position_in, jump_of, is_found, are_found, place_among, number_at, IfSome, and_from as both_true, and_parts}
 use Rattle.tso_program.specs.declared.instruction.Instr.TheVariants as instr
 use Rattle.litmus_reader.specs.Meaning as meaning
 use Rattle.canonical_text.proofs.{NamedPlaces.Named, LabelPlaces.labels_moved}

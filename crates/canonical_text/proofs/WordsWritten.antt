@@ -1,6 +1,5 @@
 -- The words that are written are words, and are read as what they stand for.
-use Rattle.canonical_text.proofs.Vocabulary.{◌≡◌, ℕ, true, List, [], ◌∷◌, Some, refl, list_all, is_ascii_digit, is_letter, is_word_byte, IsWord, Reg, Eax, register_name, reg_of, and_from as both_true}
-use Rattle.canonical_text.proofs.Vocabulary.{or_right as or_true, and_parts}
+use Rattle.canonical_text.proofs.Vocabulary.{◌≡◌, ℕ, true, List, [], ◌∷◌, Some, refl, list_all, is_ascii_digit, is_letter, is_word_byte, IsWord, Reg, Eax, register_name, reg_of, and_from as both_true, or_right as or_true, and_parts}
 
 -- ---- words
 

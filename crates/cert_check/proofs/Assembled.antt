@@ -1,6 +1,6 @@
 -- A certificate's parts put together.
-use Rattle.cert_check.proofs.Vocabulary.{ℕ, zero, suc, List, [], ◌∷◌, All, Contains, take, subst, arith, AllZip, all_sets, Question, Outcome, Label, StoreBufferMachine, no_gaps, IsShownRun}
-use Rattle.cert_check.proofs.Vocabulary.{IsValidGap, Certificate, IsRunOutside, IsValidCertificate, IsFirstWithout, HasServingSet, IsOutside}
+use Rattle.cert_check.proofs.Vocabulary.{ℕ, zero, suc, List, [], ◌∷◌, All, Contains, take, subst, arith, AllZip, all_sets, Question, Outcome, Label, StoreBufferMachine, no_gaps, IsShownRun, IsValidGap, Certificate, IsRunOutside, IsValidCertificate}
+use Rattle.cert_check.proofs.Vocabulary.{IsFirstWithout, HasServingSet, IsOutside}
 use Rattle.cert_check.proofs.{GapNodes.labels_at, FirstFaults.one_outcome}
 
 module _ (q : Question) (list : List Outcome) where

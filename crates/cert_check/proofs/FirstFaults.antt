@@ -1,9 +1,7 @@
 -- A certificate that has a fault is not valid.
-use Rattle.cert_check.proofs.Vocabulary.{◌≡◌, ℕ, zero, suc, List, [], ◌∷◌, length, All, refl, sym, ap, ◌∙◌, subst, same_Some, SetOfGaps, without_gap, child_regions, Region, Listing, Outcome, Label}
-use Rattle.cert_check.proofs.Vocabulary.{IsShownRun, Gap, Split, Bound, GapTrees, NoGap, MoreGaps, IsValidCover, Certificate, AreSequentialRuns, IsRunOutside, IsValidCertificate, one_list_of_gaps}
-use Rattle.cert_check.proofs.Vocabulary.{CheckFault, valid_is_not_wrong, IsRunOf, IsFirstWithout, CheckFaultIs, Question, show, Machine, SequentialMachine, StoreBufferMachine, no_gaps, outcome_at}
-use Rattle.cert_check.proofs.Vocabulary.{IsValidGap, AreValidGaps, ValidCertificatesHaveNoFault}
-use Rattle.cert_forest.specs.Trees.{count_gaps}
+use Rattle.cert_check.proofs.Vocabulary.{◌≡◌, ℕ, zero, suc, List, [], ◌∷◌, length, All, refl, sym, ap, ◌∙◌, subst, same_Some, SetOfGaps, without_gap, child_regions, Region, Listing, Outcome, Label, IsShownRun, Gap, Split, Bound, GapTrees, NoGap, MoreGaps}
+use Rattle.cert_check.proofs.Vocabulary.{IsValidCover, Certificate, AreSequentialRuns, IsRunOutside, IsValidCertificate, one_list_of_gaps, CheckFault, valid_is_not_wrong, IsRunOf, IsFirstWithout, CheckFaultIs, Question, show, Machine, SequentialMachine}
+use Rattle.cert_check.proofs.Vocabulary.{StoreBufferMachine, no_gaps, outcome_at, IsValidGap, AreValidGaps, ValidCertificatesHaveNoFault, count_gaps}
 use Rattle.tree_laws.proofs.Lists.{found_has}
 use Rattle.cert_check.specs.declared.fault.CheckFault.TheVariants as fault
 use Rattle.cert_check.specs.GapDefects as gaps

@@ -1,11 +1,9 @@
 -- What a split says, and the gaps by which it splits a region.
-use Rattle.cert_check.proofs.Vocabulary.{◌≡◌, ◌↔◌, ℕ, zero, suc, true, false, List, [], ◌∷◌, Some, None, length, Contains, slice_get, refl, sym, ap, ◌∙◌, subst, AllZip-left, AllZip, same_Some}
-use Rattle.cert_check.proofs.Vocabulary.{SetOfGaps, Better, Region, Listing, Label, StoreBufferMachine, no_gaps, ArePassed, Gap, Split, Bound, gap_trees_of, one_list_of_gaps, HasNoSplit}
-use Rattle.cert_check.proofs.Vocabulary.{FirstWrongGap, AreValidIn, IsWrongChildIn, HavePassed, IsAtRoot, IsBelow, PassesGap, IsSplitBy, IsValidGap}
+use Rattle.cert_check.proofs.Vocabulary.{◌≡◌, ◌↔◌, ℕ, zero, suc, true, false, List, [], ◌∷◌, Some, None, length, Contains, slice_get, refl, sym, ap, ◌∙◌, subst, AllZip-left, AllZip, same_Some, SetOfGaps, Better, Region, Listing, Label, StoreBufferMachine}
+use Rattle.cert_check.proofs.Vocabulary.{no_gaps, ArePassed, Gap, Split, Bound, gap_trees_of, one_list_of_gaps, HasNoSplit, FirstWrongGap, AreValidIn, IsWrongChildIn, HavePassed, IsAtRoot, IsBelow, PassesGap, IsSplitBy, IsValidGap, gaps_count}
 use Rattle.std.specs.List.Sorted.{IsStrictlyIncreasing}
 use Rattle.std.specs.FinSet as set
 use Rattle.std.specs.Option.{IsSomeAnd, MatchOption}
-use Rattle.cert_forest.proofs.GapNodeLaws.{gaps_count}
 
 -- what is found at a number goes with the labels of this number
 pub labels_at : {B : Type 0} (R : List Label → B → Type 0) (runs : List (List Label)) (xs : List B) (n : ℕ) (x : B) → AllZip R runs xs → slice_get xs n ≡ Some x →

@@ -1,6 +1,6 @@
 -- The children of a split, judged in order: what is left to be judged decides.
-use Rattle.cert_check.proofs.Vocabulary.{◌≡◌, ℕ, suc, ◌+◌, ◌<◌, List, [], ◌∷◌, length, take, drop, refl, sym, subst, arith, SetOfGaps, Region, Listing, Label, first_gap, Gap, IsValidGap}
-use Rattle.cert_check.proofs.Vocabulary.{FirstWrongGap, AreValidIn, IsWrongChildIn, IsBelow, with_gap, without_gap}
+use Rattle.cert_check.proofs.Vocabulary.{◌≡◌, ℕ, suc, ◌+◌, ◌<◌, List, [], ◌∷◌, length, take, drop, refl, sym, subst, arith, SetOfGaps, Region, Listing, Label, first_gap, Gap, IsValidGap, FirstWrongGap, AreValidIn, IsWrongChildIn, IsBelow, with_gap}
+use Rattle.cert_check.proofs.Vocabulary.{without_gap}
 
 module _ (p : Listing) (costs : List ℕ) (answer : SetOfGaps) (runs : List (List Label)) (trees : List Gap) (region : Region) (gaps : List ℕ) where
   -- the children that are left decide of all, where so many were judged

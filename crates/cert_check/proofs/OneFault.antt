@@ -1,9 +1,8 @@
 -- The first fault of a certificate is one fault.
-use Rattle.cert_check.proofs.Vocabulary.{◌≡◌, ◌≢◌, ◌⊎◌, ℕ, zero, suc, ◌<◌, List, [], ◌∷◌, Some, All, slice_get, take, refl, sym, ap, ◌∙◌, subst, inl, inr, arith, SetOfGaps, all_sets, child_regions}
-use Rattle.cert_check.proofs.Vocabulary.{Region, Listing, Outcome, gaps_in, Question, Label, Machine, SequentialMachine, StoreBufferMachine, no_gaps, empty_sketch, IsValidCover, Certificate}
-use Rattle.cert_check.proofs.Vocabulary.{AreSequentialRuns, IsRunOutside, one_list_of_gaps, CheckFault, FirstWrongCover, cases_lt, get_or-take, length-take, slice_get_within, get_or_from_slice_get}
-use Rattle.cert_check.proofs.Vocabulary.{IsShownRun, AreGapsOf, Cover, Gap, Split, Bound, GapTrees, MoreGaps, next_sibling, valid_is_not_wrong, one_wrong_node, IsRunOf, IsFirstWithout, HasRightCost}
-use Rattle.cert_check.proofs.Vocabulary.{HasHead, HasOutcomes, HasEachOutcome, HasRuns, HasForeignRuns, HasServingSet, CheckFaultIs, TheFirstCheckFaultIsUnique}
+use Rattle.cert_check.proofs.Vocabulary.{◌≡◌, ◌≢◌, ◌⊎◌, ℕ, zero, suc, ◌<◌, List, [], ◌∷◌, Some, All, slice_get, take, refl, sym, ap, ◌∙◌, subst, inl, inr, arith, SetOfGaps, all_sets, child_regions, Region, Listing, Outcome, gaps_in, Question, Label, Machine}
+use Rattle.cert_check.proofs.Vocabulary.{SequentialMachine, StoreBufferMachine, no_gaps, empty_sketch, IsValidCover, Certificate, AreSequentialRuns, IsRunOutside, one_list_of_gaps, CheckFault, FirstWrongCover, cases_lt, get_or-take, length-take}
+use Rattle.cert_check.proofs.Vocabulary.{slice_get_within, get_or_from_slice_get, IsShownRun, AreGapsOf, Cover, Gap, Split, Bound, GapTrees, MoreGaps, next_sibling, valid_is_not_wrong, one_wrong_node, IsRunOf, IsFirstWithout, HasRightCost, HasHead}
+use Rattle.cert_check.proofs.Vocabulary.{HasOutcomes, HasEachOutcome, HasRuns, HasForeignRuns, HasServingSet, CheckFaultIs, TheFirstCheckFaultIsUnique}
 use Rattle.cert_forest.specs.Shows.{shows_of}
 use Rattle.cert_check.specs.declared.fault.CheckFault.TheVariants as fault
 use Rattle.cert_check.specs.GapDefects as gaps

@@ -1,6 +1,6 @@
 -- The gaps of one set that are not in another: as they are found, how many they are, and which.
-use Rattle.cert_check.proofs.Vocabulary.{◌≡◌, ◌↔◌, ℕ, zero, suc, cond, ◌+◌, Bool, true, false, not, ◌&&◌, ◌||◌, List, [], ◌∷◌, length, Contains, refl, sym, ap, ◌∙◌, arith, filter, range_with_len}
-use Rattle.cert_check.proofs.Vocabulary.{nat_cmp, eq_by_cmp, and_parts, and_from, not-true, not_from_false, nat_cmp_total, nat_tests, MAX_GAPS, listed, unlisted, SetOfGaps, IsGapSet, numbers_of_set}
+use Rattle.cert_check.proofs.Vocabulary.{◌≡◌, ◌↔◌, ℕ, zero, suc, cond, ◌+◌, Bool, true, false, not, ◌&&◌, ◌||◌, List, [], ◌∷◌, length, Contains, refl, sym, ap, ◌∙◌, arith, filter, range_with_len, nat_cmp, eq_by_cmp, and_parts, and_from, not-true}
+use Rattle.cert_check.proofs.Vocabulary.{not_from_false, nat_cmp_total, nat_tests, MAX_GAPS, listed, unlisted, SetOfGaps, IsGapSet, numbers_of_set}
 use Rattle.std.specs.FinSet as set
 use Rattle.gap_sets.specs.Internal.BitsLaws.{any-below}
 use Rattle.tree_laws.proofs.Filtered.{has_any, any_has}

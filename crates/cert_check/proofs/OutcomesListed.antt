@@ -1,6 +1,6 @@
 -- The set of a list's outcomes.
-use Rattle.cert_check.proofs.Vocabulary.{◌≡◌, ◌↔◌, ℕ, ◌+◌, ◌<◌, Bool, true, false, List, [], ◌∷◌, ◌++◌, Contains, IsTrue, take, get_or, length, refl, sym, ◌∙◌, subst, inl, inr, ◌⊎◌, cond, Bor}
-use Rattle.cert_check.proofs.Vocabulary.{Outcome, borrowed_cmp, take_more, is_eq, BTreeSet, UpdatesBy, contains}
+use Rattle.cert_check.proofs.Vocabulary.{◌≡◌, ◌↔◌, ℕ, ◌+◌, ◌<◌, Bool, true, false, List, [], ◌∷◌, ◌++◌, Contains, IsTrue, take, get_or, length, refl, sym, ◌∙◌, subst, inl, inr, ◌⊎◌, cond, Bor, Outcome, borrowed_cmp, take_more, is_eq, BTreeSet, UpdatesBy}
+use Rattle.cert_check.proofs.Vocabulary.{contains}
 use Rattle.std.proofs.lemmas.List.Elements.{Contains-append_left, Contains-push, Contains-push_cases}
 use Rattle.tso_program.specs.Ordered.{outcome_cmp}
 use Rattle.tso_program.proofs.OutcomesOrdered.{same_by_order}

@@ -1,7 +1,6 @@
 -- Runs that are replayed in turn, and the first that is not a run.
-use Rattle.cert_check.proofs.Vocabulary.{◌≡◌, ◌≢◌, ℕ, zero, suc, List, [], ◌∷◌, ◌++◌, Some, length, All, refl, sym, ap, ◌∙◌, subst, arith, Listing, Outcome, Question, Label, SetOfGaps, Machine}
-use Rattle.cert_check.proofs.Vocabulary.{unfenced, ArePassed, IsRunOf, IsFirstWithout, append_assoc, AllZip-long, all_zipped_more, IsShownRun, IsReplayOf, AreReplaysOf, IsNoRunAt, IsFaultFrom}
-use Rattle.cert_check.proofs.Vocabulary.{RunsFaultIs, AllZip, slice_get}
+use Rattle.cert_check.proofs.Vocabulary.{◌≡◌, ◌≢◌, ℕ, zero, suc, List, [], ◌∷◌, ◌++◌, Some, length, All, refl, sym, ap, ◌∙◌, subst, arith, Listing, Outcome, Question, Label, SetOfGaps, Machine, unfenced, ArePassed, IsRunOf, IsFirstWithout, append_assoc}
+use Rattle.cert_check.proofs.Vocabulary.{AllZip-long, all_zipped_more, IsShownRun, IsReplayOf, AreReplaysOf, IsNoRunAt, IsFaultFrom, RunsFaultIs, AllZip, slice_get}
 use Rattle.std.proofs.Math.Seq.{take-append_seam}
 use Rattle.tso_machine.specs.{declared.label.Model.Model, declared.replaying.Ended.Ended, declared.replaying.ReplayFault.ReplayFault, Faults.ReplayFaultIs}
 use Rattle.tso_machine.specs.declared.replaying.ReplayFault.TheVariants as replays

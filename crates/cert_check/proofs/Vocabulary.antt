@@ -12,9 +12,10 @@ pub use Rattle.std.specs.Cmp.{nat_cmp_total}
 pub use Rattle.std.specs.List.{AllZip, filter, range_with_len}
 pub use Rattle.std.specs.Ordering.{eq_by_cmp, is_eq, nat_cmp}
 pub use Rattle.std.specs.Prelude.{IfErr, OnOk}
+pub use Rattle.cert_forest.proofs.GapNodeLaws.{bound_next, gaps_count, gaps_no_longer, next_gap_is_shorter, split_next}
 pub use Rattle.cert_forest.specs.Certificates.{Certificate}
 pub use Rattle.cert_forest.specs.GapNodes.{first_gap, spell_gaps}
-pub use Rattle.cert_forest.specs.Trees.{Bound, Cover, Gap, GapTrees, MoreGaps, NoGap, Split, gap_trees_of}
+pub use Rattle.cert_forest.specs.Trees.{Bound, Cover, Gap, GapTrees, MoreGaps, NoGap, Split, count_gaps, gap_trees_of}
 pub use Rattle.cover_judge.proofs.Answered.{err_up, if_err, on_ok}
 pub use Rattle.cover_judge.proofs.ChoicesJudged.{here, if_wrong}
 pub use Rattle.cover_judge.proofs.WrongNodes.{next_sibling, one_wrong_node, valid_is_not_wrong}

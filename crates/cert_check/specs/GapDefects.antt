@@ -6,8 +6,7 @@ use Rattle.gap_sets.specs.Regions.{child_regions}
 use Rattle.gap_sets.specs.declared.region.Region.{Region}
 use Rattle.tso_program.specs.declared.listing.Listing.{Listing}
 use Rattle.tso_machine.specs.declared.label.Label.{Label}
-use Rattle.cert_forest.specs.Trees.{Gap, Split, Bound, GapTrees, NoGap, MoreGaps}
-use Rattle.cert_forest.specs.Trees.{count_gaps}
+use Rattle.cert_forest.specs.Trees.{Gap, Split, Bound, GapTrees, NoGap, MoreGaps, count_gaps}
 use Rattle.tree_laws.specs.GapTrees.{IsSplitBy, IsValidGap}
 
 -- the run of this number doesn't split the region into so many

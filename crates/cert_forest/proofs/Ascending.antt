@@ -1,6 +1,6 @@
 -- Sets of numbers, and their numbers in order.
-use Rattle.cert_forest.proofs.Vocabulary.{◌≡◌, ℕ, zero, suc, ◌+◌, ◌<◌, ◌≤◌, Bool, true, false, cond, List, [], ◌∷◌, ◌++◌, refl, sym, ap, ◌∙◌, append_assoc, arith, inl, inr, nat_eq, filter}
-use Rattle.cert_forest.proofs.Vocabulary.{range_with_len, list_any, cases_lt, nat_tests, append-nil, MAX_GAPS, SetOfGaps, numbers_of_set}
+use Rattle.cert_forest.proofs.Vocabulary.{◌≡◌, ℕ, zero, suc, ◌+◌, ◌<◌, ◌≤◌, Bool, true, false, cond, List, [], ◌∷◌, ◌++◌, refl, sym, ap, ◌∙◌, append_assoc, arith, inl, inr, nat_eq, filter, range_with_len, list_any, cases_lt, nat_tests, append-nil, MAX_GAPS}
+use Rattle.cert_forest.proofs.Vocabulary.{SetOfGaps, numbers_of_set}
 use Rattle.std.specs.FinSet as set
 use Rattle.std.specs.FinSet.{contains-from_list_nat}
 use Rattle.std.specs.Cmp.{nat_cmp_total}

@@ -1,7 +1,6 @@
 -- Ascending numbers are read exactly, as a set.
-use Rattle.cert_forest.proofs.Vocabulary.{◌≡◌, ℕ, zero, suc, ◌+◌, ◌<◌, ◌≤◌, false, cond, List, [], ◌∷◌, ◌++◌, length, Option, Some, None, refl, sym, ap, subst, ◌∙◌, append_assoc, arith, inl, inr}
-use Rattle.cert_forest.proofs.Vocabulary.{ltb-false, le-ltb, nat_lt, MAX_GAPS, SetOfGaps, numbers_of_set, texts_of, spaced, ◌>>=◌, begins_word, bind_some, kept_out, by_test, same_Some, Starts}
-use Rattle.cert_forest.proofs.Vocabulary.{done_with, IsExact, ascending_at}
+use Rattle.cert_forest.proofs.Vocabulary.{◌≡◌, ℕ, zero, suc, ◌+◌, ◌<◌, ◌≤◌, false, cond, List, [], ◌∷◌, ◌++◌, length, Option, Some, None, refl, sym, ap, subst, ◌∙◌, append_assoc, arith, inl, inr, ltb-false, le-ltb, nat_lt, MAX_GAPS, SetOfGaps, numbers_of_set}
+use Rattle.cert_forest.proofs.Vocabulary.{texts_of, spaced, ◌>>=◌, begins_word, bind_some, kept_out, by_test, same_Some, Starts, done_with, IsExact, ascending_at}
 use Rattle.std.specs.FinSet as set
 use Rattle.cert_forest.proofs.Ascending.{Ascend, IsBelow, numbers_back, ascending_are_below, numbers_ascend, set_back, with_all, all_from_none}
 

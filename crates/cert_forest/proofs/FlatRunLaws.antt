@@ -1,10 +1,7 @@
 -- Lists of runs that lie flat.
-use Rattle.cert_forest.proofs.Vocabulary.{◌≡◌, ◌≤◌, ◌<◌, ◌+◌, ◌-◌, ℕ, zero, suc, List, [], ◌∷◌, ◌++◌, Some, length, get_or, take, drop, refl, sym, ap, ◌∙◌, subst, inl, inr, arith, Contains, slice_get, slice_get-get_or, length-append, length-drop, same_Some, take_more, Label, AreEnds, runs_from}
-use Rattle.std.specs.Prelude.{slice_range}
-use Rattle.std.proofs.lemmas.List.{drop-append-le, take-append-le, take_all}
+use Rattle.cert_forest.proofs.Vocabulary.{◌≡◌, ◌≤◌, ◌<◌, ◌+◌, ◌-◌, ℕ, zero, suc, List, [], ◌∷◌, ◌++◌, Some, length, get_or, take, drop, refl, sym, ap, ◌∙◌, subst, inl, inr, arith, Contains, slice_get, slice_get-get_or, length-append, length-drop, same_Some}
+use Rattle.cert_forest.proofs.Vocabulary.{take_more, Label, AreEnds, runs_from, slice_range, drop-append-le, take-append-le, take_all, none-some, drop-append_seam}
 use Rattle.std.proofs.lemmas.List.Elements.{Contains-push_cases}
-use Rattle.std.proofs.lemmas.Option.{none-some}
-use Rattle.std.proofs.Math.Seq.{drop-append_seam}
 
 -- as many runs as ends
 pub as_many : (start : ℕ) (ends : List ℕ) (labels : List Label) → length (runs_from start ends labels) ≡ length ends

@@ -1,8 +1,7 @@
 -- Gap trees are read exactly.
-use Rattle.cert_forest.proofs.Vocabulary.{◌≡◌, ℕ, zero, suc, ◌<◌, ◌≤◌, ◌==◌, ◌^◌, cond, List, [], ◌∷◌, ◌++◌, length, Some, None, refl, sym, ap, subst, ◌∙◌, append_assoc, arith, inl, inr, codes}
-use Rattle.cert_forest.proofs.Vocabulary.{eqb-true, MAX_COUNT, Gap, Split, Bound, GapTrees, gap_trees_of, gap_list, texts_of, spaced, count_gaps, gaps_depth, IsGapTo, ◌>>=◌, number_within_at}
-use Rattle.cert_forest.proofs.Vocabulary.{count_at, letter_at, repeat_at, split_at, gap_by, gap_at, bind_some, by_test, cond_some, same_Some, Starts, IsExact, takes_two, again_two, repeat_takes}
-use Rattle.cert_forest.proofs.Vocabulary.{repeat_again, starts_all, number_text, number_exact, below64, count_exact, letter_takes, letter_again, gaps_count}
+use Rattle.cert_forest.proofs.Vocabulary.{◌≡◌, ℕ, zero, suc, ◌<◌, ◌≤◌, ◌==◌, ◌^◌, cond, List, [], ◌∷◌, ◌++◌, length, Some, None, refl, sym, ap, subst, ◌∙◌, append_assoc, arith, inl, inr, codes, eqb-true, MAX_COUNT, Gap, Split, Bound, GapTrees, gap_trees_of}
+use Rattle.cert_forest.proofs.Vocabulary.{gap_list, texts_of, spaced, count_gaps, gaps_depth, IsGapTo, ◌>>=◌, number_within_at, count_at, letter_at, repeat_at, split_at, gap_by, gap_at, bind_some, by_test, cond_some, same_Some, Starts, IsExact, takes_two}
+use Rattle.cert_forest.proofs.Vocabulary.{again_two, repeat_takes, repeat_again, starts_all, number_text, number_exact, below64, count_exact, letter_takes, letter_again, gaps_count}
 use Rattle.cert_forest.proofs.TreeTexts.{gap_text, gaps_again, gaps_text, gaps_to, gaps_from, gap_deep, regroup}
 
 abbrev both : ℕ → ℕ → ℕ × ℕ

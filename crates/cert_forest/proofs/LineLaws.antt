@@ -1,10 +1,8 @@
 -- Lines are read exactly.
-use Rattle.cert_forest.proofs.Vocabulary.{◌≡◌, ℕ, zero, suc, ◌-◌, ◌<◌, ◌≤◌, ◌^◌, true, List, [], ◌∷◌, ◌++◌, length, map, Option, Some, refl, sym, ap, subst, ◌∙◌, append_assoc, arith, inl, inr, codes}
-use Rattle.cert_forest.proofs.Vocabulary.{AllByRecursion, list_all, decimal, append-nil, Label, spelling, IsLabel, MAX_GAPS, SetOfGaps, IsGapSet, numbers_of_set, MAX_COUNT, MAX_COVER_DEPTH}
-use Rattle.cert_forest.proofs.Vocabulary.{MAX_GAP_DEPTH, Cover, Gap, texts_of, line, cover_words, gap_words, labels_line, runs_lines, ◌>>=◌, is_inner, line_name_at, end_at, begins_word}
-use Rattle.cert_forest.proofs.Vocabulary.{number_within_at, repeat_at, label_word_at, run_labels_at, gap_number_at, ascending_at, run_at, runs_at, set_at, cost_at, cover_at, gap_at, cover_line_at}
-use Rattle.cert_forest.proofs.Vocabulary.{gap_line_at, bind_some, kept_out, by_test, same_Some, name_takes, name_again, end_takes, end_again, number_text, number_exact, below64, IsWrittenRun, AreRuns}
-use Rattle.cert_forest.proofs.Vocabulary.{IsCoverTo, IsGapTo, Starts, done_with, IsExact, repeat_takes, repeat_free}
+use Rattle.cert_forest.proofs.Vocabulary.{◌≡◌, ℕ, zero, suc, ◌-◌, ◌<◌, ◌≤◌, ◌^◌, true, List, [], ◌∷◌, ◌++◌, length, map, Option, Some, refl, sym, ap, subst, ◌∙◌, append_assoc, arith, inl, inr, codes, AllByRecursion, list_all, decimal, append-nil, Label}
+use Rattle.cert_forest.proofs.Vocabulary.{spelling, IsLabel, MAX_GAPS, SetOfGaps, IsGapSet, numbers_of_set, MAX_COUNT, MAX_COVER_DEPTH, MAX_GAP_DEPTH, Cover, Gap, texts_of, line, cover_words, gap_words, labels_line, runs_lines, ◌>>=◌, is_inner, line_name_at}
+use Rattle.cert_forest.proofs.Vocabulary.{end_at, begins_word, number_within_at, repeat_at, label_word_at, run_labels_at, gap_number_at, ascending_at, run_at, runs_at, set_at, cost_at, cover_at, gap_at, cover_line_at, gap_line_at, bind_some, kept_out, by_test}
+use Rattle.cert_forest.proofs.Vocabulary.{same_Some, name_takes, name_again, end_takes, end_again, number_text, number_exact, below64, IsWrittenRun, AreRuns, IsCoverTo, IsGapTo, Starts, done_with, IsExact, repeat_takes, repeat_free}
 use Rattle.std.specs.FinSet as set
 use Rattle.cert_forest.proofs.{AscendingLaws.numbers_start, AscendingLaws.numbers_take, AscendingLaws.numbers_again, NameLaws.label_text, NameLaws.label_exact}
 use Rattle.cert_forest.proofs.{TreeTexts.texts_map, TreeTexts.cover_text, TreeTexts.gap_text, CoverLaws.cover_exact, GapLaws.gap_exact}

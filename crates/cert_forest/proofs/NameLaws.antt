@@ -1,9 +1,8 @@
 -- Names of accesses, kinds of cycles and labels: what the reader takes of each, and that it takes each again.
-use Rattle.cert_forest.proofs.Vocabulary.{◌≡◌, ℕ, ◌<◌, ◌==◌, Bool, true, false, cond, List, [], ◌∷◌, ◌++◌, length, take, drop, Some, None, refl, sym, ap, subst, ◌∙◌, arith, inl, inr, list_all}
-use Rattle.cert_forest.proofs.Vocabulary.{prefix_len, and_parts, and_from, eqb-true, take_at, drop_at, take-append-drop, digits_decimal, decimal, nat_tests, Kind, Label, spaced, ◌>>=◌, is_inner}
-use Rattle.cert_forest.proofs.Vocabulary.{letter_at, bind_some, by_test, cond_some, same_Some, Starts, IsExact, AccessId, IsAccessId, own, plain_number_takes, plain_number_again, plain_number_at}
-use Rattle.cert_forest.proofs.Vocabulary.{spelling, IsLabel, label_at, prefix_is, after_prefix, decimal_inner, letter_takes, letter_again, spaced_exact, access_word, kind_word, is_no_stop}
-use Rattle.cert_forest.proofs.Vocabulary.{access_tail, access_of, access_at, kind_of, kind_at, label_word_at}
+use Rattle.cert_forest.proofs.Vocabulary.{◌≡◌, ℕ, ◌<◌, ◌==◌, Bool, true, false, cond, List, [], ◌∷◌, ◌++◌, length, take, drop, Some, None, refl, sym, ap, subst, ◌∙◌, arith, inl, inr, list_all, prefix_len, and_parts, and_from, eqb-true, take_at, drop_at}
+use Rattle.cert_forest.proofs.Vocabulary.{take-append-drop, digits_decimal, decimal, nat_tests, Kind, Label, spaced, ◌>>=◌, is_inner, letter_at, bind_some, by_test, cond_some, same_Some, Starts, IsExact, AccessId, IsAccessId, own, plain_number_takes}
+use Rattle.cert_forest.proofs.Vocabulary.{plain_number_again, plain_number_at, spelling, IsLabel, label_at, prefix_is, after_prefix, decimal_inner, letter_takes, letter_again, spaced_exact, access_word, kind_word, is_no_stop, access_tail, access_of, access_at}
+use Rattle.cert_forest.proofs.Vocabulary.{kind_of, kind_at, label_word_at}
 use Rattle.std.specs.Char.{is_ascii_digit}
 use Rattle.candidate_executions.specs.declared.event.Kind.TheVariants as kinds
 use Rattle.tso_machine.specs.declared.label.Label.{TheVariants.Exec, TheVariants.Flush}

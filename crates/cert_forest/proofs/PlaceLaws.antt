@@ -1,8 +1,7 @@
 -- The words of registers and locations: what the reader takes of each, and that it takes each again.
-use Rattle.cert_forest.proofs.Vocabulary.{◌≡◌, ℕ, ◌+◌, ◌-◌, ◌/◌, ◌%◌, ◌<◌, ◌≤◌, ◌==◌, ◌&&◌, Bool, true, false, cond, List, [], ◌∷◌, ◌++◌, Some, None, refl, sym, ap, subst, ◌∙◌, arith, inl, inr}
-use Rattle.cert_forest.proofs.Vocabulary.{nat_lt, nat_le, and_parts, eqb-true, leb-true, le-leb, lt-ltb, le-ltb, cases_lt, ne_eqb, list_all, decimal, decimal_digit, spaced, ◌>>=◌, is_inner, bind_some}
-use Rattle.cert_forest.proofs.Vocabulary.{cond_some, same_Some, IsExact, spaced_exact, register_place, location_place, REGISTER_PLACES, PLACES, register_word, location_word, place_word, digit_of}
-use Rattle.cert_forest.proofs.Vocabulary.{shown_location, register_of, shown_place, place_word_at}
+use Rattle.cert_forest.proofs.Vocabulary.{◌≡◌, ℕ, ◌+◌, ◌-◌, ◌/◌, ◌%◌, ◌<◌, ◌≤◌, ◌==◌, ◌&&◌, Bool, true, false, cond, List, [], ◌∷◌, ◌++◌, Some, None, refl, sym, ap, subst, ◌∙◌, arith, inl, inr, nat_lt, nat_le, and_parts, eqb-true, leb-true, le-leb, lt-ltb}
+use Rattle.cert_forest.proofs.Vocabulary.{le-ltb, cases_lt, ne_eqb, list_all, decimal, decimal_digit, spaced, ◌>>=◌, is_inner, bind_some, cond_some, same_Some, IsExact, spaced_exact, register_place, location_place, REGISTER_PLACES, PLACES, register_word}
+use Rattle.cert_forest.proofs.Vocabulary.{location_word, place_word, digit_of, shown_location, register_of, shown_place, place_word_at}
 use Rattle.tso_program.specs.{declared.instruction.TheConstants.REGISTERS, declared.limits.TheConstants.MAX_THREADS, declared.limits.TheConstants.MAX_LOCATIONS}
 
 -- ---- digits

@@ -1,6 +1,6 @@
 -- Nodes of trees, as the code reads them.
-use Rattle.cert_forest.proofs.Vocabulary.{◌≡◌, ℕ, suc, ◌-◌, ◌<◌, List, [], Some, None, refl, ap, ◌∙◌, arith, Stop, Refused, OutOfMemory, Gap, Split, Bound, gap_trees_of, Fails, letter_at, repeat_at}
-use Rattle.cert_forest.proofs.Vocabulary.{stops_for_memory, AccessId, Source, NoCover, Head, SourceHead, head_at, below_at, cover_at, split_at, gap_by, gap_at, ne_eqb}
+use Rattle.cert_forest.proofs.Vocabulary.{◌≡◌, ℕ, suc, ◌-◌, ◌<◌, List, [], Some, None, refl, ap, ◌∙◌, arith, Stop, Refused, OutOfMemory, Gap, Split, Bound, gap_trees_of, Fails, letter_at, repeat_at, stops_for_memory, AccessId, Source, NoCover, Head}
+use Rattle.cert_forest.proofs.Vocabulary.{SourceHead, head_at, below_at, cover_at, split_at, gap_by, gap_at, ne_eqb}
 
 less : (d : ℕ) → 0 < d → d ≡ suc (d - 1)
 less d lt = omega arith

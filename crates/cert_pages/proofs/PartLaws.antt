@@ -1,7 +1,6 @@
 -- Parts of a tree's text.
-use Rattle.cert_pages.proofs.Vocabulary.{◌≡◌, ℕ, zero, suc, ◌+◌, ◌-◌, ◌<◌, ◌≤◌, List, [], ◌∷◌, ◌++◌, length, take, drop, refl, sym, ap, ◌∙◌, subst, append_assoc, arith, append-nil, drop_all, take_all}
-use Rattle.cert_pages.proofs.Vocabulary.{IfSome, Option, Some, slice_index_or, Cover, CoverNode, IsNext, children_of, root_of, spell_all, next_is_shorter, Part, trees_text, IsWritten, LeadTo}
-use Rattle.cert_pages.proofs.Vocabulary.{WriteFrom}
+use Rattle.cert_pages.proofs.Vocabulary.{◌≡◌, ℕ, zero, suc, ◌+◌, ◌-◌, ◌<◌, ◌≤◌, List, [], ◌∷◌, ◌++◌, length, take, drop, refl, sym, ap, ◌∙◌, subst, append_assoc, arith, append-nil, drop_all, take_all, IfSome, Option, Some, slice_index_or, Cover, CoverNode}
+use Rattle.cert_pages.proofs.Vocabulary.{IsNext, children_of, root_of, spell_all, next_is_shorter, Part, trees_text, IsWritten, LeadTo, WriteFrom}
 unfoldable use Rattle.cert_pages.specs.Parts.{after}
 
 -- ---- so many nodes of trees

@@ -1,7 +1,6 @@
 -- Trees that are written node by node.
-use Rattle.cert_pages.proofs.Vocabulary.{◌≡◌, ℕ, List, [], ◌∷◌, ◌++◌, refl, ap, sym, ◌∙◌, append_assoc, append-nil, texts_of, spaced, GapNode, Cover, Value, Source, Order, Covers, NoCover, MoreCovers}
-use Rattle.cert_pages.proofs.Vocabulary.{cover_list, Gap, Split, Bound, GapTrees, NoGap, MoreGaps, gap_list, cover_words, covers_words, gap_words, gaps_words, CoverNode, root_of, children_of}
-use Rattle.cert_pages.proofs.Vocabulary.{gap_root_of, gap_children_of, IsNextBy, IsNext, IsNextGap, texts_append, cover_text, gap_text}
+use Rattle.cert_pages.proofs.Vocabulary.{◌≡◌, ℕ, List, [], ◌∷◌, ◌++◌, refl, ap, sym, ◌∙◌, append_assoc, append-nil, texts_of, spaced, GapNode, Cover, Value, Source, Order, Covers, NoCover, MoreCovers, cover_list, Gap, Split, Bound, GapTrees, NoGap, MoreGaps}
+use Rattle.cert_pages.proofs.Vocabulary.{gap_list, cover_words, covers_words, gap_words, gaps_words, CoverNode, root_of, children_of, gap_root_of, gap_children_of, IsNextBy, IsNext, IsNextGap, texts_append, cover_text, gap_text}
 use Rattle.cert_pages.specs.NodeWords.{node_words, gap_node_words}
 
 -- ---- one node more, where a tree's text is that of its root, and then those of its children

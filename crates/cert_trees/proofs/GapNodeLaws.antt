@@ -1,7 +1,6 @@
 -- Nodes give back the gap trees that they spell.
-use Rattle.cert_trees.proofs.Vocabulary.{◌≡◌, ℕ, suc, ◌<◌, ◌≤◌, List, [], ◌∷◌, ◌++◌, length, take, drop, refl, ap, sym, ◌∙◌, subst, append_assoc, arith, length-append, GapNode, Gap, Split, Bound}
-use Rattle.cert_trees.proofs.Vocabulary.{GapTrees, NoGap, MoreGaps, gap_trees_of, gap_list, count_gaps, gap_root_of, gap_children_of, IsNextGap, spell_gap, spell_gap_row, spell_gaps, gap_before}
-use Rattle.cert_trees.proofs.Vocabulary.{gap_trees_in, first_gap, gap_tree_of, IsGapTree, AreGapTrees}
+use Rattle.cert_trees.proofs.Vocabulary.{◌≡◌, ℕ, suc, ◌<◌, ◌≤◌, List, [], ◌∷◌, ◌++◌, length, take, drop, refl, ap, sym, ◌∙◌, subst, append_assoc, arith, length-append, GapNode, Gap, Split, Bound, GapTrees, NoGap, MoreGaps, gap_trees_of, gap_list, count_gaps}
+use Rattle.cert_trees.proofs.Vocabulary.{gap_root_of, gap_children_of, IsNextGap, spell_gap, spell_gap_row, spell_gaps, gap_before, gap_trees_in, first_gap, gap_tree_of, IsGapTree, AreGapTrees}
 use Rattle.cert_trees.specs.declared.node.GapNode.TheVariants as node
 use Rattle.cert_trees.proofs.Spelled.{each_alone, each_append, GivesBack, each_again, are_spelled}
 

@@ -1,6 +1,6 @@
 -- What the next node of a walk says of its first tree.
-use Rattle.cert_trees.proofs.Vocabulary.{◌≡◌, ℕ, suc, ◌≤◌, List, [], ◌∷◌, ◌++◌, length, take, drop, refl, ap, sym, arith, length-append, AccessId, Cover, Value, Source, Order, Covers, NoCover}
-use Rattle.cert_trees.proofs.Vocabulary.{MoreCovers, covers_of, cover_list, count_covers, spell, spell_all, first_tree, IsNext}
+use Rattle.cert_trees.proofs.Vocabulary.{◌≡◌, ℕ, suc, ◌≤◌, List, [], ◌∷◌, ◌++◌, length, take, drop, refl, ap, sym, arith, length-append, AccessId, Cover, Value, Source, Order, Covers, NoCover, MoreCovers, covers_of, cover_list, count_covers, spell, spell_all}
+use Rattle.cert_trees.proofs.Vocabulary.{first_tree, IsNext}
 use Rattle.cert_trees.specs.declared.walk.CoverNode.TheVariants as n
 use Rattle.cert_trees.proofs.NodeLaws.{row_taken, row_dropped}
 

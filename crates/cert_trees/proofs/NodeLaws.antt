@@ -1,8 +1,7 @@
 -- Nodes give back the trees that they spell.
-use Rattle.cert_trees.proofs.Vocabulary.{◌≡◌, ℕ, suc, ◌+◌, ◌*◌, ◌/◌, ◌%◌, ◌≤◌, List, [], ◌∷◌, ◌++◌, length, take, drop, refl, ap, sym, ◌∙◌, append_assoc, arith, inl, inr, subst, nat_lt, remove_range}
-use Rattle.cert_trees.proofs.Vocabulary.{cases_Bool, Kind, Some, AccessId, NEAR_RUNS, Node, Cover, Value, Source, Order, Cycle, Known, Covers, NoCover, MoreCovers, covers_of, cover_list, count_covers}
-use Rattle.cert_trees.proofs.Vocabulary.{spell, spell_row, spell_all, known_nodes, cycle_nodes, lengthened, gathered, before, trees_of, events_of, cycle_end, first_tree, tree_of, IsTree, AreTrees}
-use Rattle.cert_trees.proofs.Vocabulary.{BeginsCycle}
+use Rattle.cert_trees.proofs.Vocabulary.{◌≡◌, ℕ, suc, ◌+◌, ◌*◌, ◌/◌, ◌%◌, ◌≤◌, List, [], ◌∷◌, ◌++◌, length, take, drop, refl, ap, sym, ◌∙◌, append_assoc, arith, inl, inr, subst, nat_lt, remove_range, cases_Bool, Kind, Some, AccessId, NEAR_RUNS, Node, Cover}
+use Rattle.cert_trees.proofs.Vocabulary.{Value, Source, Order, Cycle, Known, Covers, NoCover, MoreCovers, covers_of, cover_list, count_covers, spell, spell_row, spell_all, known_nodes, cycle_nodes, lengthened, gathered, before, trees_of, events_of, cycle_end}
+use Rattle.cert_trees.proofs.Vocabulary.{first_tree, tree_of, IsTree, AreTrees, BeginsCycle}
 use Rattle.cert_trees.specs.declared.node.Node.TheVariants as node
 use Rattle.cert_trees.proofs.Spelled.{each_alone, each_append, GivesBack, each_again, are_spelled, alone_are, alone_is, one_tree_first}
 

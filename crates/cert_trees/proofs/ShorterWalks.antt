@@ -1,6 +1,5 @@
 -- A walk over cover trees ends: after each node fewer nodes are left.
-use Rattle.cert_trees.proofs.Vocabulary.{◌<◌, List, [], ◌∷◌, ◌++◌, length, ap, sym, subst, append_assoc, arith, length-append, Cover, Value, Source, Order, Cycle, Known, spell, spell_all, cycle_nodes}
-use Rattle.cert_trees.proofs.Vocabulary.{known_nodes, IsNext, children_of}
+use Rattle.cert_trees.proofs.Vocabulary.{◌<◌, List, [], ◌∷◌, ◌++◌, length, ap, sym, subst, append_assoc, arith, length-append, Cover, Value, Source, Order, Cycle, Known, spell, spell_all, cycle_nodes, known_nodes, IsNext, children_of}
 use Rattle.cert_trees.specs.declared.walk.CoverNode.{CoverNode}
 use Rattle.cert_trees.proofs.NodeLaws.{below_row, cycle_some, known_some}
 

@@ -1,6 +1,6 @@
 -- Walks over nodes, step by step.
-use Rattle.cert_trees.proofs.Vocabulary.{◌≡◌, ℕ, ◌+◌, ◌*◌, List, ◌∷◌, ◌++◌, Option, Some, None, refl, ap, sym, ◌∙◌, subst, same_Some, append_cancel_left, Kind}
-use Rattle.cert_trees.proofs.Vocabulary.{AccessId, NEAR_RUNS, Node, Cover, Value, Source, Cycle, Known, spell_all, trees_of, cycle_nodes, events_of, cycle_end, AreTrees, BeginsCycle, BeginsKnown, root_of, children_of, IsNext}
+use Rattle.cert_trees.proofs.Vocabulary.{◌≡◌, ℕ, ◌+◌, ◌*◌, List, ◌∷◌, ◌++◌, Option, Some, None, refl, ap, sym, ◌∙◌, subst, same_Some, append_cancel_left, Kind, AccessId, NEAR_RUNS, Node, Cover, Value, Source, Cycle, Known, spell_all, trees_of, cycle_nodes}
+use Rattle.cert_trees.proofs.Vocabulary.{events_of, cycle_end, AreTrees, BeginsCycle, BeginsKnown, root_of, children_of, IsNext}
 use Rattle.cert_trees.specs.declared.node.Node.TheVariants as node
 use Rattle.cert_trees.specs.declared.walk.CoverNode.TheVariants as n
 use Rattle.cert_trees.proofs.NodeLaws.{Begun, begins, are_trees, trees_again, tree_first, events_first, end_first}

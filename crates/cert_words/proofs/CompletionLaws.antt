@@ -1,7 +1,6 @@
 -- What a number whose digits are cut can still become: the tens that its function compares.
-use Rattle.cert_words.proofs.Vocabulary.{◌≡◌, ℕ, zero, suc, ◌+◌, ◌*◌, ◌/◌, ◌%◌, ◌<◌, ◌≤◌, ◌^◌, inl, inr, true, List, [], ◌∷◌, ◌++◌, length, get_or, refl, sym, ap, ◌∙◌, append_assoc, length-append}
-use Rattle.cert_words.proofs.Vocabulary.{arith, is_ascii_digit, digit_value, cases_lt, and_parts, decimal_step, decimal_digit, digits_decimal, digits_value-decimal, first_decimal, list_all, decimal}
-use Rattle.cert_words.proofs.Vocabulary.{nat_tests, append-nil, own, CanBecome}
+use Rattle.cert_words.proofs.Vocabulary.{◌≡◌, ℕ, zero, suc, ◌+◌, ◌*◌, ◌/◌, ◌%◌, ◌<◌, ◌≤◌, ◌^◌, inl, inr, true, List, [], ◌∷◌, ◌++◌, length, get_or, refl, sym, ap, ◌∙◌, append_assoc, length-append, arith, is_ascii_digit, digit_value, cases_lt, and_parts}
+use Rattle.cert_words.proofs.Vocabulary.{decimal_step, decimal_digit, digits_decimal, digits_value-decimal, first_decimal, list_all, decimal, nat_tests, append-nil, own, CanBecome}
 use Rattle.std.specs.Str.Parse.{digits_value_after}
 use Rattle.std.proofs.lemmas.List.Folds.{list_all-append}
 

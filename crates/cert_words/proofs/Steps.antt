@@ -1,6 +1,5 @@
 -- Readers and the texts that they read, in both directions.
-use Rattle.cert_words.proofs.Vocabulary.{◌≡◌, ℕ, zero, suc, Bool, false, List, [], ◌∷◌, ◌++◌, length, Option, Some, refl, sym, ap, ◌∙◌, append_assoc, AllByRecursion, append-nil, same_Some, ◌>>=◌}
-use Rattle.cert_words.proofs.Vocabulary.{bind_some, texts_of, is_inner, repeat_at}
+use Rattle.cert_words.proofs.Vocabulary.{◌≡◌, ℕ, zero, suc, Bool, false, List, [], ◌∷◌, ◌++◌, length, Option, Some, refl, sym, ap, ◌∙◌, append_assoc, AllByRecursion, append-nil, same_Some, ◌>>=◌, bind_some, texts_of, is_inner, repeat_at}
 
 -- at the end, or at a byte that fails a test
 abbrev pub Stops : (ℕ → Bool) → List ℕ → Type 0

@@ -1,8 +1,7 @@
 -- Words: what the reader takes of each kind, and that it takes each again.
-use Rattle.cert_words.proofs.Vocabulary.{◌≡◌, ℕ, suc, ◌+◌, ◌-◌, ◌<◌, ◌≤◌, ◌==◌, ◌^◌, Bool, true, false, cond, List, [], ◌∷◌, ◌++◌, length, get_or, take, drop, Option, Some, None, refl, sym, ap, subst}
-use Rattle.cert_words.proofs.Vocabulary.{◌∙◌, arith, inl, inr, list_all, prefix_len, and_parts, and_from, cases_Bool, eqb-true, ltb-false, le-ltb, take_at, drop_at, take_all, take-append-drop}
-use Rattle.cert_words.proofs.Vocabulary.{decimal_digit, own, plain_number_takes, plain_number_again, spaced, is_inner, front, after_word, word_at, line_name_at, end_at, ends_word, number_within_at}
-use Rattle.cert_words.proofs.Vocabulary.{count_at, letter_of, letter_at, spaced_word_at, bind_some, kept_out, cond_some, same_Some, is_ascii_digit, decimal, nat_tests, digits_decimal, ◌>>=◌}
+use Rattle.cert_words.proofs.Vocabulary.{◌≡◌, ℕ, suc, ◌+◌, ◌-◌, ◌<◌, ◌≤◌, ◌==◌, ◌^◌, Bool, true, false, cond, List, [], ◌∷◌, ◌++◌, length, get_or, take, drop, Option, Some, None, refl, sym, ap, subst, ◌∙◌, arith, inl, inr, list_all, prefix_len, and_parts}
+use Rattle.cert_words.proofs.Vocabulary.{and_from, cases_Bool, eqb-true, ltb-false, le-ltb, take_at, drop_at, take_all, take-append-drop, decimal_digit, own, plain_number_takes, plain_number_again, spaced, is_inner, front, after_word, word_at, line_name_at}
+use Rattle.cert_words.proofs.Vocabulary.{end_at, ends_word, number_within_at, count_at, letter_of, letter_at, spaced_word_at, bind_some, kept_out, cond_some, same_Some, is_ascii_digit, decimal, nat_tests, digits_decimal, ◌>>=◌}
 use Rattle.std.specs.Prelude.{nat_lt}
 use Rattle.std.specs.Str.{bytes_eq}
 use Rattle.std.proofs.lemmas.Slice.Eq.{bytes_eq-Decides}

@@ -1,6 +1,5 @@
 -- Where the reader stops.
-use Rattle.conditions.proofs.Vocabulary.{◌≡◌, ℕ, ◌+◌, ◌<◌, List, [], ◌∷◌, ◌++◌, length, take, drop, Option, Some, None, refl, sym, ap, ◌∙◌, arith, take-append-drop, Sign, ReaderState, Wants, Start}
-use Rattle.conditions.proofs.Vocabulary.{next, reading, tree_read, state_after, reached, SignsStopAt}
+use Rattle.conditions.proofs.Vocabulary.{◌≡◌, ℕ, ◌+◌, ◌<◌, List, [], ◌∷◌, ◌++◌, length, take, drop, Option, Some, None, refl, sym, ap, ◌∙◌, arith, take-append-drop, Sign, ReaderState, Wants, Start, next, reading, tree_read, state_after, reached, SignsStopAt}
 use Rattle.conditions.proofs.SpelledIsRead.{some_is}
 
 -- reading goes on from the state that signs lead to

@@ -1,7 +1,7 @@
 -- The first fault of the costs, where one more entry gives a gap what no gap may cost.
-use Rattle.cost_text.proofs.Vocabulary.{◌≡◌, ◌≢◌, ◌==◌, ℕ, ◌<◌, ◌≤◌, Bool, true, false, List, [], ◌∷◌, ◌++◌, length, get_or, Some, None, Result, Ok, Err, refl, sym, ap, ◌∙◌, arith, inl, inr, nat_lt}
-use Rattle.cost_text.proofs.Vocabulary.{nat_le, position, not, position_or_len, eqb-true, eqb-false, leb-true, leb-false, eq-eqb, ne_eqb, cases_Bool, cases_eq, lt-ltb, CostFault, Entry, said_of}
-use Rattle.cost_text.proofs.Vocabulary.{costs_of, cost_or_fault, MAX_GAPS, IsCostList, first_free, first_cost_fault, none_found, not_free, not_too_large, not_too_many}
+use Rattle.cost_text.proofs.Vocabulary.{◌≡◌, ◌≢◌, ◌==◌, ℕ, ◌<◌, ◌≤◌, Bool, true, false, List, [], ◌∷◌, ◌++◌, length, get_or, Some, None, Result, Ok, Err, refl, sym, ap, ◌∙◌, arith, inl, inr, nat_lt, nat_le, position, not, position_or_len, eqb-true, eqb-false}
+use Rattle.cost_text.proofs.Vocabulary.{leb-true, leb-false, eq-eqb, ne_eqb, cases_Bool, cases_eq, lt-ltb, CostFault, Entry, said_of, costs_of, cost_or_fault, MAX_GAPS, IsCostList, first_free, first_cost_fault, none_found, not_free, not_too_large}
+use Rattle.cost_text.proofs.Vocabulary.{not_too_many}
 use Rattle.std.proofs.lemmas.List.Sums.{prefix_len_is}
 use Rattle.gap_sets.specs.declared.costs.CostFault.{TheVariants.Zero, TheVariants.TooLarge}
 use Rattle.cost_text.proofs.EntryLaws.{IsCost, cost_there, others_within, same_length, few_gaps}

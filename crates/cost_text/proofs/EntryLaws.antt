@@ -1,7 +1,6 @@
 -- Entries, and the table and the costs that they give.
-use Rattle.cost_text.proofs.Vocabulary.{◌≡◌, ◌≢◌, ◌==◌, ℕ, ◌<◌, ◌≤◌, true, false, List, [], ◌∷◌, ◌++◌, length, get_or, map, set, Option, Some, None, refl, sym, ap, ◌∙◌, subst, arith, inl, inr}
-use Rattle.cost_text.proofs.Vocabulary.{unwrap_or, range_with_len, eqb-true, eqb-false, eq-eqb, ne_eqb, length-set, get_or-set_same, get_or-set_other, cases_Bool, cases_eq, IsCostList, Entry, said_of}
-use Rattle.cost_text.proofs.Vocabulary.{NoGapTwice, costs_of, table_of, MAX_GAPS}
+use Rattle.cost_text.proofs.Vocabulary.{◌≡◌, ◌≢◌, ◌==◌, ℕ, ◌<◌, ◌≤◌, true, false, List, [], ◌∷◌, ◌++◌, length, get_or, map, set, Option, Some, None, refl, sym, ap, ◌∙◌, subst, arith, inl, inr, unwrap_or, range_with_len, eqb-true, eqb-false, eq-eqb, ne_eqb}
+use Rattle.cost_text.proofs.Vocabulary.{length-set, get_or-set_same, get_or-set_other, cases_Bool, cases_eq, IsCostList, Entry, said_of, NoGapTwice, costs_of, table_of, MAX_GAPS}
 use Rattle.std.proofs.lemmas.Simd.{map-map}
 use Rattle.std.proofs.lemmas.List.FromFn.{fill_by_all, length-map-range_with_len, get_or-map-range_with_len}
 

@@ -1,6 +1,6 @@
 -- What is found of a line after others.
-use Rattle.cost_text.proofs.Vocabulary.{◌≡◌, ℕ, ◌<◌, ◌≤◌, true, false, List, get_or, Option, Some, None, Ok, Err, refl, sym, ap, ◌∙◌, arith, is_some, CostFault, Thread, gap_count, gap_number}
-use Rattle.cost_text.proofs.Vocabulary.{gap_below, Entry, IsCostEntry, said_of, IsOfNoGap, IsRepeated, IsOfNoCost, Digits, digits_in, said_by, cost_or_fault, IsCostTable, IsNewEntry}
+use Rattle.cost_text.proofs.Vocabulary.{◌≡◌, ℕ, ◌<◌, ◌≤◌, true, false, List, get_or, Option, Some, None, Ok, Err, refl, sym, ap, ◌∙◌, arith, is_some, CostFault, Thread, gap_count, gap_number, gap_below, Entry, IsCostEntry, said_of, IsOfNoGap, IsRepeated}
+use Rattle.cost_text.proofs.Vocabulary.{IsOfNoCost, Digits, digits_in, said_by, cost_or_fault, IsCostTable, IsNewEntry}
 use Rattle.cost_text.proofs.{LineLaws.line_read, EntryLaws.table_at, CostFaults.IsJudged, CostFaults.fine, CostFaults.free, CostFaults.large, CostFaults.judged, CostFaults.first_fault}
 
 -- a line that speaks of no gap

@@ -1,8 +1,7 @@
 -- A line is read as what it says.
-use Rattle.cost_text.proofs.Vocabulary.{◌≡◌, ◌==◌, ℕ, ◌<◌, true, false, List, [], ◌∷◌, ◌++◌, length, take, drop, Some, None, refl, sym, ap, ◌∙◌, subst, arith, nat_lt, slice_index, list_all}
-use Rattle.cost_text.proofs.Vocabulary.{prefix_len, and_parts, eqb-true, lt-ltb, ltb-true, append-nil, take_at, drop_at, take-append-drop, cond_some, option_and_then_some, same_Some, is_ascii_digit}
-use Rattle.cost_text.proofs.Vocabulary.{nat_tests, is_blank, is_line_space, AreBlanks, AreLineSpaces, prefix_is, all_pass, Said, Says, digits_at, after_colon, after_blanks, after_line_spaces, Digits}
-use Rattle.cost_text.proofs.Vocabulary.{digits_in, AreAllDigits, said_by}
+use Rattle.cost_text.proofs.Vocabulary.{◌≡◌, ◌==◌, ℕ, ◌<◌, true, false, List, [], ◌∷◌, ◌++◌, length, take, drop, Some, None, refl, sym, ap, ◌∙◌, subst, arith, nat_lt, slice_index, list_all, prefix_len, and_parts, eqb-true, lt-ltb, ltb-true, append-nil}
+use Rattle.cost_text.proofs.Vocabulary.{take_at, drop_at, take-append-drop, cond_some, option_and_then_some, same_Some, is_ascii_digit, nat_tests, is_blank, is_line_space, AreBlanks, AreLineSpaces, prefix_is, all_pass, Said, Says, digits_at, after_colon}
+use Rattle.cost_text.proofs.Vocabulary.{after_blanks, after_line_spaces, Digits, digits_in, AreAllDigits, said_by}
 use Rattle.std.proofs.lemmas.List.Folds.{length-prefix_len}
 use Rattle.text_tokens.specs.Lexing.{AreDigits}
 use Rattle.text_tokens.proofs.FirstBytes.{first_of, first_digit}

@@ -1,9 +1,8 @@
 -- Lines, one after the other, and that a text gives costs in one way.
-use Rattle.cost_text.proofs.Vocabulary.{◌≡◌, ℕ, ◌+◌, ◌<◌, ◌≤◌, List, [], ◌∷◌, ◌++◌, length, get_or, map, set, take, drop, Option, Some, None, refl, sym, ap, ◌∙◌, subst, arith, unwrap_or, IfSome}
-use Rattle.cost_text.proofs.Vocabulary.{same_Some, append-nil, take-append-drop, take_more, drop_more, length-take, CostFault, IsCostList, first_cost_fault, Thread, gap_count, gap_number, gap_below}
-use Rattle.cost_text.proofs.Vocabulary.{CostTextFault, AreLineSpaces, Said, table_of, IsCostTable, IsNewEntry, IsTableOf, MAX_GAPS, Entry, IsCostEntry, ListsEntries, none, blank, entry, said_of}
-use Rattle.cost_text.proofs.Vocabulary.{NoGapTwice, costs_of, GiveCosts, IsCostText, StandsAt, IsLineFault, IsRefusedAt, AreRefused, RefusesCosts, lines_of, IsOfNoCost, IsOfNoGap, IsRepeated}
-use Rattle.cost_text.proofs.Vocabulary.{SaysNothing, no_fault-from_IsCostList}
+use Rattle.cost_text.proofs.Vocabulary.{◌≡◌, ℕ, ◌+◌, ◌<◌, ◌≤◌, List, [], ◌∷◌, ◌++◌, length, get_or, map, set, take, drop, Option, Some, None, refl, sym, ap, ◌∙◌, subst, arith, unwrap_or, IfSome, same_Some, append-nil, take-append-drop, take_more, drop_more}
+use Rattle.cost_text.proofs.Vocabulary.{length-take, CostFault, IsCostList, first_cost_fault, Thread, gap_count, gap_number, gap_below, CostTextFault, AreLineSpaces, Said, table_of, IsCostTable, IsNewEntry, IsTableOf, MAX_GAPS, Entry, IsCostEntry}
+use Rattle.cost_text.proofs.Vocabulary.{ListsEntries, none, blank, entry, said_of, NoGapTwice, costs_of, GiveCosts, IsCostText, StandsAt, IsLineFault, IsRefusedAt, AreRefused, RefusesCosts, lines_of, IsOfNoCost, IsOfNoGap, IsRepeated, SaysNothing}
+use Rattle.cost_text.proofs.Vocabulary.{no_fault-from_IsCostList}
 use Rattle.cost_text.specs.declared.fault.CostTextFault.TheVariants as fault
 use Rattle.cost_text.proofs.LineLaws.{said_once, blank_says_nothing}
 use Rattle.cost_text.proofs.EntryLaws.{IsCost, said_there, once_more, not_twice, table_more, length-table_of, costs_at, length-costs_of, no_costs, within_more, costs_from_table}

@@ -1,8 +1,7 @@
 -- What the nodes of a cover tree are judged by.
-use Rattle.cover_judge.proofs.Vocabulary.{◌≡◌, ◌↔◌, ℕ, true, false, List, [], Option, Some, None, IsSome, All, Contains, slice_get, refl, sym, ap, ◌∙◌, subst, inl, inr, AllPairs, same_Some, Listing}
-use Rattle.cover_judge.proofs.Vocabulary.{Outcome, Shown, asked, Event, ProgramSketch, mode_in, AccessId, TreeFault, Wrong, OutOfMemory, Choice, Sketch, IsSourceOf, IsPair, IsWhole, MustEndAs}
-use Rattle.cover_judge.proofs.Vocabulary.{event_of, HasNextValues, HasSources, HasNoOrder, MustEndAsNumber, MayChoose, MayChooseEach, IsValueOpen, IsSourceOpen, AreValueChoices, AreSourceChoices}
-use Rattle.cover_judge.proofs.Vocabulary.{IfWrong, IsAtRoot, IsBelow, IsFrom}
+use Rattle.cover_judge.proofs.Vocabulary.{◌≡◌, ◌↔◌, ℕ, true, false, List, [], Option, Some, None, IsSome, All, Contains, slice_get, refl, sym, ap, ◌∙◌, subst, inl, inr, AllPairs, same_Some, Listing, Outcome, Shown, asked, Event, ProgramSketch, mode_in}
+use Rattle.cover_judge.proofs.Vocabulary.{AccessId, TreeFault, Wrong, OutOfMemory, Choice, Sketch, IsSourceOf, IsPair, IsWhole, MustEndAs, event_of, HasNextValues, HasSources, HasNoOrder, MustEndAsNumber, MayChoose, MayChooseEach, IsValueOpen, IsSourceOpen}
+use Rattle.cover_judge.proofs.Vocabulary.{AreValueChoices, AreSourceChoices, IfWrong, IsAtRoot, IsBelow, IsFrom}
 use Rattle.std.specs.Option.{is_some}
 use Rattle.std.proofs.lemmas.List.Elements.{All-map, All-contains_itself, All-weaker}
 use Rattle.cert_forest.specs.Machine as machine

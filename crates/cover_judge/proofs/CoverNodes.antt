@@ -1,8 +1,7 @@
 -- What a node of a cover tree says, and what its children are judged for.
-use Rattle.cover_judge.proofs.Vocabulary.{◌≡◌, ℕ, zero, suc, ◌≤◌, List, [], ◌∷◌, length, map, take, sym, ◌∙◌, subst, arith, Result, IsErrAnd, IfErr, OnOk, length-map, length-take-le, TreeFault}
-use Rattle.cover_judge.proofs.Vocabulary.{IfWrong, Outcome, Shown, asked, ProgramSketch, mode_in, AccessId, Cover, Value, Source, Order, covers_of, event_of, HasNoOrder, AreValidCovers, Choice}
-use Rattle.cover_judge.proofs.Vocabulary.{FirstWrongCoverChild, HasNoValues, HasNoSources, sketch_with, MayChoose, HasNextValues, HasSources, Event, IsAtRoot, IsBelow, IsValidAfter, IsWrongAt}
-use Rattle.cover_judge.proofs.Vocabulary.{AreValidAfter, IsWrongChild}
+use Rattle.cover_judge.proofs.Vocabulary.{◌≡◌, ℕ, zero, suc, ◌≤◌, List, [], ◌∷◌, length, map, take, sym, ◌∙◌, subst, arith, Result, IsErrAnd, IfErr, OnOk, length-map, length-take-le, TreeFault, IfWrong, Outcome, Shown, asked, ProgramSketch, mode_in, AccessId}
+use Rattle.cover_judge.proofs.Vocabulary.{Cover, Value, Source, Order, covers_of, event_of, HasNoOrder, AreValidCovers, Choice, FirstWrongCoverChild, HasNoValues, HasNoSources, sketch_with, MayChoose, HasNextValues, HasSources, Event, IsAtRoot, IsBelow}
+use Rattle.cover_judge.proofs.Vocabulary.{IsValidAfter, IsWrongAt, AreValidAfter, IsWrongChild}
 use Rattle.candidate_executions.specs.Sketches as sketches
 use Rattle.cert_forest.proofs.NodeLaws.{covers_count}
 use Rattle.cover_judge.specs.declared.choice.Choice.TheVariants as choice

@@ -1,6 +1,6 @@
 -- What holds of the sketch that a choice makes holds of the sketch with the choice.
-use Rattle.cover_judge.proofs.Vocabulary.{◌≡◌, List, [], ◌∷◌, refl, sym, subst, append-nil, Result, IfErr, OnOk, Listing, Outcome, Shown, asked, Machine, Sketch, ProgramSketch, mode_in, with_chosen}
-use Rattle.cover_judge.proofs.Vocabulary.{event_of, Cover, IsValidCover, FirstWrongCover, Choice, sketch_with, TreeFault, IfWrong, IsValidAfter, IsWrongAt}
+use Rattle.cover_judge.proofs.Vocabulary.{◌≡◌, List, [], ◌∷◌, refl, sym, subst, append-nil, Result, IfErr, OnOk, Listing, Outcome, Shown, asked, Machine, Sketch, ProgramSketch, mode_in, with_chosen, event_of, Cover, IsValidCover, FirstWrongCover, Choice}
+use Rattle.cover_judge.proofs.Vocabulary.{sketch_with, TreeFault, IfWrong, IsValidAfter, IsWrongAt}
 use Rattle.sketches.specs.Marks.{ComesAfter}
 use Rattle.cover_judge.specs.declared.choice.Choice.TheVariants as choice
 

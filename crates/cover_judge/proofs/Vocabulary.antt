@@ -12,10 +12,10 @@ pub use Rattle.candidate_executions.specs.Values.{IsValueOf}
 pub use Rattle.candidate_executions.specs.declared.event.Event.{Event}
 pub use Rattle.cert_forest.proofs.NextNodes.{order_next, rest_no_longer, source_next, value_next}
 pub use Rattle.cert_forest.proofs.ShorterWalks.{next_is_shorter}
+pub use Rattle.cert_forest.specs.AccessId.{AccessId}
 pub use Rattle.cert_forest.specs.Machine.{Machine}
 pub use Rattle.cert_forest.specs.Nodes.{first_tree, spell_all}
-pub use Rattle.cert_forest.specs.Trees.{Cover, Covers, Cycle, Known, MoreCovers, NoCover, Order, Source, Value, covers_of}
-pub use Rattle.cert_forest.specs.AccessId.{AccessId}
+pub use Rattle.cert_forest.specs.Trees.{Cover, Covers, Cycle, Known, MoreCovers, NoCover, Order, Source, Value, count_covers, covers_of}
 pub use Rattle.sketches.specs.Choices.{HasSource, IsRead}
 pub use Rattle.sketches.specs.ProgramSketches.{ProgramSketch, mode_in, with_chosen}
 pub use Rattle.sketches.specs.RowlessSketches.{AreSources, IsFree, LacksSource}

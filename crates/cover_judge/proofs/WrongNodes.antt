@@ -1,8 +1,6 @@
 -- A valid cover tree has no wrong node, and any other has one first wrong node.
-use Rattle.cover_judge.proofs.Vocabulary.{◌≡◌, ℕ, zero, suc, List, [], ◌∷◌, length, map, refl, ap, ◌∙◌, subst, length-map, Outcome, Machine, event_of, IsValidCover, AreValidCovers, one_list_of_values}
-use Rattle.cover_judge.proofs.Vocabulary.{one_list_of_sources, TreeFault, Wrong, OutOfMemory, FirstWrongCover, FirstWrongCoverChild, IfWrong, Question, Sketch, with_value, with_source, with_pair}
-use Rattle.cover_judge.proofs.Vocabulary.{Cover, Value, Source, Order, Cycle, Known, Covers, NoCover, MoreCovers}
-use Rattle.cert_forest.specs.Trees.{count_covers}
+use Rattle.cover_judge.proofs.Vocabulary.{◌≡◌, ℕ, zero, suc, List, [], ◌∷◌, length, map, refl, ap, ◌∙◌, subst, length-map, Outcome, Machine, event_of, IsValidCover, AreValidCovers, one_list_of_values, one_list_of_sources, TreeFault, Wrong, OutOfMemory}
+use Rattle.cover_judge.proofs.Vocabulary.{FirstWrongCover, FirstWrongCoverChild, IfWrong, Question, Sketch, with_value, with_source, with_pair, Cover, Value, Source, Order, Cycle, Known, Covers, NoCover, MoreCovers, count_covers}
 
 -- the path to the next sibling
 abbrev pub next_sibling : List ℕ → List ℕ

@@ -6,8 +6,7 @@ use Rattle.tso_program.specs.Shown.{Question}
 use Rattle.cert_forest.specs.Machine.{Machine}
 use Rattle.candidate_executions.specs.declared.event.Event.{Event}
 use Rattle.candidate_executions.specs.Sketches.{Sketch, with_value, with_source, with_pair, IsKnownCycle}
-use Rattle.cert_forest.specs.Trees.{Cover, Value, Source, Order, Cycle, Known, Covers, NoCover, MoreCovers}
-use Rattle.cert_forest.specs.Trees.{count_covers}
+use Rattle.cert_forest.specs.Trees.{Cover, Value, Source, Order, Cycle, Known, Covers, NoCover, MoreCovers, count_covers}
 use Rattle.tree_laws.specs.CoverTrees.{event_of, HasNextValues, HasSources, HasNoOrder, MustEndAsNumber, IsValidCover}
 
 module _ (p : Listing) (mode : Machine) where

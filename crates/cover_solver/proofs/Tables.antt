@@ -1,8 +1,7 @@
 -- What trees and runs say of tables, sets and foreign runs.
-use Rattle.cover_solver.proofs.Vocabulary.{◌≡◌, ◌↔◌, ℕ, ◌<◌, Bool, true, false, IsTrue, List, Some, Contains, slice_get, sym, ap, ◌∙◌, subst, arith, Result, Ok, Err, IfOk, IfErr, is_ok, Question}
-use Rattle.cover_solver.proofs.Vocabulary.{show, asked, ForeignFaultIs, of_replay, Machine, SequentialMachine, StoreBufferMachine, no_gaps, outcome_at, IsRun, IsSequentialTable, IsListOf, IsServing}
-use Rattle.cover_solver.proofs.Vocabulary.{AreRunsOf, place_in, ArePlacesOf, Bor, machine_of_mode, Listing, Outcome, Shown, JumpForward, Label, ReplayFaultIs, ArePassed, AllowsShown, IsShownRun, IsForeignRun}
-use Rattle.cover_solver.proofs.Vocabulary.{renumbered, BelongsAt, not_there}
+use Rattle.cover_solver.proofs.Vocabulary.{◌≡◌, ◌↔◌, ℕ, ◌<◌, Bool, true, false, IsTrue, List, Some, Contains, slice_get, sym, ap, ◌∙◌, subst, arith, Result, Ok, Err, IfOk, IfErr, is_ok, Question, show, asked, ForeignFaultIs, of_replay, Machine}
+use Rattle.cover_solver.proofs.Vocabulary.{SequentialMachine, StoreBufferMachine, no_gaps, outcome_at, IsRun, IsSequentialTable, IsListOf, IsServing, AreRunsOf, place_in, ArePlacesOf, Bor, machine_of_mode, Listing, Outcome, Shown, JumpForward, Label}
+use Rattle.cover_solver.proofs.Vocabulary.{ReplayFaultIs, ArePassed, AllowsShown, IsShownRun, IsForeignRun, renumbered, BelongsAt, not_there}
 use Rattle.std.specs.FinSet as set
 use Rattle.std.proofs.lemmas.Option.{same_Some}
 use Rattle.gap_sets.specs.Gaps.{SetOfGaps}
@@ -13,9 +12,9 @@ use Rattle.tso_machine.proofs.Refused.{no_fault}
 use Rattle.tree_laws.proofs.{Lists.found_is_here, ListedOutcomes.fenced_tree_serves, OneList.one_list}
 use Rattle.cover_solver.specs.declared.fault.ForeignFault.TheVariants as foreign
 use Rattle.fence_laws.proofs.GapsAvoided.{fenced_runs_avoid}
-use Rattle.cert_forest.specs.Trees.{Cover}
-use Rattle.cert_forest.specs.NodeConstants.{NEAR_RUNS}
-use Rattle.sketch_covers.specs.{OutcomeNumbers.AreFoundOf, declared.ascending_outcomes.AscendingOutcomes.AscendingOutcomes, declared.outcome_index.OutcomeIndex.OutcomeIndex, Covers.IsWholeCover, KnownOutcomes.StopIs, declared.known_outcomes.KnownOutcomes.TheVariants.Closed, declared.stop.Stop.Stop}
+use Rattle.cert_forest.specs.{Trees.Cover, NodeConstants.NEAR_RUNS}
+use Rattle.sketch_covers.specs.{OutcomeNumbers.AreFoundOf, declared.ascending_outcomes.AscendingOutcomes.AscendingOutcomes, declared.outcome_index.OutcomeIndex.OutcomeIndex, Covers.IsWholeCover}
+use Rattle.sketch_covers.specs.{KnownOutcomes.StopIs, declared.known_outcomes.KnownOutcomes.TheVariants.Closed, declared.stop.Stop.Stop}
 use Rattle.partial_covers.proofs.{RenumberedTrees.whole_renumbered, HoleTrees.stop_lacks}
 use Rattle.tso_program.proofs.OutcomesOrdered.{one_way}
 use Rattle.std.specs.declared.cmp.Ordering.TheVariants.{Less}

@@ -1,7 +1,9 @@
 -- What many proofs of this crate speak of, imported once.
 pub use Rattle.std.proofs.Common.{Bool, Bor, Contains, IsTrue, List, None, Option, Some, ap, arith, false, map, refl, slice_get, subst, sym, true, ℕ, ◌<◌, ◌↔◌, ◌∙◌, ◌≡◌}
 pub use Rattle.std.specs.Arc.{arc_value}
+pub use Rattle.std.specs.Global.{Vec}
 pub use Rattle.std.specs.Prelude.{Err, IfErr, IfOk, MatchOption, Ok, Result, is_ok}
+pub use Rattle.partial_covers.proofs.Answered.{if_ok}
 pub use Rattle.partial_covers.proofs.OtherNumbers.{renumbered}
 pub use Rattle.partial_covers.specs.PartialCovers.{IsPartialCover, items_of, renumbered_item}
 pub use Rattle.partial_covers.specs.declared.partial_cover.PartialCover.{PartialCover}

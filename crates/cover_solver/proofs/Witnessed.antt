@@ -1,7 +1,5 @@
 -- Runs that show a truth are witnesses of it.
-use Rattle.cover_solver.proofs.Vocabulary.{◌≡◌, ◌↔◌, Bool, List, Option, Some, None, Contains, sym, ap, subst, MatchOption, Listing, Outcome, Label, Machine, IsShownRun, AllowsShown, AreRunsOf, told}
-use Rattle.cover_solver.proofs.Vocabulary.{asked, Question}
-use Rattle.std.specs.Global.{Vec}
+use Rattle.cover_solver.proofs.Vocabulary.{◌≡◌, ◌↔◌, Bool, List, Option, Some, None, Contains, sym, ap, subst, MatchOption, Listing, Outcome, Label, Machine, IsShownRun, AllowsShown, AreRunsOf, told, asked, Question, Vec}
 use Rattle.tso_program.specs.{declared.atom.Atom.Atom, declared.shown.Shown.TheVariants.Truth, Tree.Tree, Truth.truth}
 use Rattle.tso_program.proofs.ReadOff.{told_apart}
 use Rattle.cover_solver.specs.Witnesses.{IsWitness, HasNoWitness}

@@ -1,6 +1,5 @@
 -- With every gap fenced a run passes none, so its outcome is sequential.
-use Rattle.fence_laws.proofs.Vocabulary.{SetOfGaps, Listing, Outcome, Question, gaps_in, JumpForward, start, gap_below, IsStoreBufferOutcome, IsSequentialOutcome}
-use Rattle.fence_laws.proofs.Vocabulary.{HasEveryGapOf, AllGapsServe}
+use Rattle.fence_laws.proofs.Vocabulary.{SetOfGaps, Listing, Outcome, Question, gaps_in, JumpForward, start, gap_below, IsStoreBufferOutcome, IsSequentialOutcome, HasEveryGapOf, AllGapsServe}
 use Rattle.fence_laws.proofs.{SequentialIsBuffered.sequential_is_allowed, NothingPassed.nothing_passed, Unfenced.unfenced, GapsAvoided.fenced_run_passes_none}
 
 -- every gap of the program is one of the set, so the run passes none, and is sequential with no gap fenced

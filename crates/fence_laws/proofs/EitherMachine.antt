@@ -1,7 +1,6 @@
 -- The steps of either machine, in one form.
-use Rattle.fence_laws.proofs.Vocabulary.{Label, run, ◌≡◌, ℕ, Bool, true, false, List, [], ◌∷◌, Option, Some, None, option_and_then, refl, sym, ap, ◌∙◌, same_Some, Instr, Listing, Local, Action, Stop, Go, Wait}
-use Rattle.fence_laws.proofs.Vocabulary.{Read, Write, Swap, act, loaded, action, instr_at, Gaps, Exec, Flush, Pending, Machine, SequentialMachine, StoreBufferMachine, State, put, when_empty, past_gap}
-use Rattle.fence_laws.proofs.Vocabulary.{buffered, direct, flushed, step}
+use Rattle.fence_laws.proofs.Vocabulary.{Label, run, ◌≡◌, ℕ, Bool, true, false, List, [], ◌∷◌, Option, Some, None, option_and_then, refl, sym, ap, ◌∙◌, same_Some, Instr, Listing, Local, Action, Stop, Go, Wait, Read, Write, Swap, act, loaded, action, instr_at}
+use Rattle.fence_laws.proofs.Vocabulary.{Gaps, Exec, Flush, Pending, Machine, SequentialMachine, StoreBufferMachine, State, put, when_empty, past_gap, buffered, direct, flushed, step}
 use Rattle.fence_laws.proofs.ChangedAt.{put_other}
 
 -- the store buffer machine with these gaps fenced, or the sequential machine

@@ -1,6 +1,6 @@
 -- What a moved instruction does is what the instruction does, at the places of the fenced thread.
-use Rattle.fence_laws.proofs.Vocabulary.{◌≡◌, ℕ, ◌+◌, Bool, true, false, not, Option, Some, None, refl, ap, Instr, LoadImm, Copy, Load, StoreImm, Store, Xchg, Fence, CmpImm, CmpReg, Je, Jne, Jmp}
-use Rattle.fence_laws.proofs.Vocabulary.{Local, Action, Stop, Go, Wait, Read, Write, Swap, place_of, moved, act, loaded, compared, jumped, value_in}
+use Rattle.fence_laws.proofs.Vocabulary.{◌≡◌, ℕ, ◌+◌, Bool, true, false, not, Option, Some, None, refl, ap, Instr, LoadImm, Copy, Load, StoreImm, Store, Xchg, Fence, CmpImm, CmpReg, Je, Jne, Jmp, Local, Action, Stop, Go, Wait, Read, Write, Swap, place_of}
+use Rattle.fence_laws.proofs.Vocabulary.{moved, act, loaded, compared, jumped, value_in}
 
 -- the state at the same instruction of the fenced thread, before its fence
 abbrev pub placed : (ℕ → Bool) → Local → Local

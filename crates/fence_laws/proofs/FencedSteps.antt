@@ -1,6 +1,6 @@
 -- A step of the fenced program: its fence, or the step of the instruction.
-use Rattle.fence_laws.proofs.Vocabulary.{◌≡◌, ℕ, ◌+◌, Bool, true, false, List, [], ◌∷◌, ◌++◌, Option, Some, refl, sym, ap, ◌∙◌, option_map, Instr, Fence, Listing, Local, Action, Stop, Go, Wait, Read}
-use Rattle.fence_laws.proofs.Vocabulary.{Write, Swap, act, loaded, onward, action, instr_at, Gaps, place_of, moved, fence, Exec, Pending, no_gaps, State, put, newest, found, when_empty, step}
+use Rattle.fence_laws.proofs.Vocabulary.{◌≡◌, ℕ, ◌+◌, Bool, true, false, List, [], ◌∷◌, ◌++◌, Option, Some, refl, sym, ap, ◌∙◌, option_map, Instr, Fence, Listing, Local, Action, Stop, Go, Wait, Read, Write, Swap, act, loaded, onward, action, instr_at, Gaps}
+use Rattle.fence_laws.proofs.Vocabulary.{place_of, moved, fence, Exec, Pending, no_gaps, State, put, newest, found, when_empty, step}
 use Rattle.fence_laws.proofs.{ChangedAt.put_same, EitherMachine.mode_with, EitherMachine.effect, FencedActions.placed, FencedActions.fenced_action, FencedActions.act_moved}
 
 -- the state with other threads' states

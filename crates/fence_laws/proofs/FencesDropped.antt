@@ -1,7 +1,6 @@
 -- A run of the fenced program is a run with gaps fenced: a thread after a fence of its own has nothing waiting until its instruction.
-use Rattle.fence_laws.proofs.Vocabulary.{◌≡◌, ℕ, ◌+◌, Bool, true, false, List, [], ◌∷◌, ◌++◌, ◌⊎◌, Option, Some, None, refl, sym, ap, ◌∙◌, subst, inl, inr, option_map, same_Some}
-use Rattle.fence_laws.proofs.Vocabulary.{option_and_then_some, Instr, Fence, Listing, Local, Wait, onward, action, instr_at, Gaps, place_of, moved, fence, Label, Exec, Flush, Pending, no_gaps, State}
-use Rattle.fence_laws.proofs.Vocabulary.{put, when_empty, step, run, first_of, instr_at_place, instr_after_fence}
+use Rattle.fence_laws.proofs.Vocabulary.{◌≡◌, ℕ, ◌+◌, Bool, true, false, List, [], ◌∷◌, ◌++◌, ◌⊎◌, Option, Some, None, refl, sym, ap, ◌∙◌, subst, inl, inr, option_map, same_Some, option_and_then_some, Instr, Fence, Listing, Local, Wait, onward, action}
+use Rattle.fence_laws.proofs.Vocabulary.{instr_at, Gaps, place_of, moved, fence, Label, Exec, Flush, Pending, no_gaps, State, put, when_empty, step, run, first_of, instr_at_place, instr_after_fence}
 use Rattle.fence_laws.proofs.{ChangedAt.put_each, FencedActions.placed, FencedSteps.with_locals, FencedSteps.follow, FencedSteps.fence_step, FencedSteps.instruction_step, FencesInserted.next_place}
 use Rattle.fence_laws.proofs.EitherMachine.{mode_with, effect, NothingWaits, made, makes, others_keep, run_first, stands_at, stored, flush_made, flush_makes}
 

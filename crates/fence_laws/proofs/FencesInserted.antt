@@ -1,7 +1,6 @@
 -- A run with gaps fenced is a run of the fenced program: its fences are executed just before their instructions.
-use Rattle.fence_laws.proofs.Vocabulary.{◌≡◌, ℕ, suc, ◌+◌, Bool, true, false, List, [], ◌∷◌, ◌++◌, Some, refl, sym, ap, ◌∙◌, subst, arith, option_map, option_and_then_some, Instr}
-use Rattle.fence_laws.proofs.Vocabulary.{Fence, Listing, Local, Wait, onward, action, instr_at, Gaps, place_of, moved, fence, Label, Exec, Flush, no_gaps, State, put, when_empty, step, run, first_of}
-use Rattle.fence_laws.proofs.Vocabulary.{instr_at_place, instr_after_fence}
+use Rattle.fence_laws.proofs.Vocabulary.{◌≡◌, ℕ, suc, ◌+◌, Bool, true, false, List, [], ◌∷◌, ◌++◌, Some, refl, sym, ap, ◌∙◌, subst, arith, option_map, option_and_then_some, Instr, Fence, Listing, Local, Wait, onward, action, instr_at, Gaps, place_of, moved}
+use Rattle.fence_laws.proofs.Vocabulary.{fence, Label, Exec, Flush, no_gaps, State, put, when_empty, step, run, first_of, instr_at_place, instr_after_fence}
 use Rattle.std.specs.Prelude.{if◌then◌else◌}
 use Rattle.fence_laws.proofs.{ChangedAt.put_same, ChangedAt.put_other, ChangedAt.put_each, FencedActions.placed}
 use Rattle.fence_laws.proofs.EitherMachine.{mode_with, effect, NothingWaits, made, others_keep, run_first, stands_at, flush_made, flush_makes}

@@ -1,8 +1,7 @@
 -- The outcomes of a fenced program are those of the machine with the gaps fenced.
-use Rattle.fence_laws.proofs.Vocabulary.{◌≡◌, ◌↔◌, ℕ, ◌+◌, Bool, true, false, List, [], Option, Some, None, refl, sym, ap, ◌∙◌, subst, inl, inr, map, length, range_with_len, fun_ext, Instr, Listing}
-use Rattle.fence_laws.proofs.Vocabulary.{Local, Stop, Outcome, act, Gaps, place_of, moved, fence, Shown, Question, asked, action, instr_at, start_of, Machine, no_gaps, State, start, outcome_at}
-use Rattle.fence_laws.proofs.Vocabulary.{HasEnded, Allows, AllowsShown, fenced_at, FencingIsTheMachineWithGaps, first_of, same_registers, same_count, instr_at_place}
-use Rattle.fence_laws.proofs.Vocabulary.{instr_after_fence}
+use Rattle.fence_laws.proofs.Vocabulary.{◌≡◌, ◌↔◌, ℕ, ◌+◌, Bool, true, false, List, [], Option, Some, None, refl, sym, ap, ◌∙◌, subst, inl, inr, map, length, range_with_len, fun_ext, Instr, Listing, Local, Stop, Outcome, act, Gaps, place_of, moved, fence}
+use Rattle.fence_laws.proofs.Vocabulary.{Shown, Question, asked, action, instr_at, start_of, Machine, no_gaps, State, start, outcome_at, HasEnded, Allows, AllowsShown, fenced_at, FencingIsTheMachineWithGaps, first_of, same_registers, same_count}
+use Rattle.fence_laws.proofs.Vocabulary.{instr_at_place, instr_after_fence}
 use Rattle.fence_laws.proofs.{FencedActions.placed, FencedActions.stops_at_none, EitherMachine.mode_with, FencedSteps.with_locals, FencesInserted.Follow, FencesInserted.inserted}
 use Rattle.fence_laws.proofs.FencesDropped.{AllStand, dropped}
 

@@ -1,6 +1,6 @@
 -- A run is a run with a set of gaps fenced exactly where it passes none of them.
-use Rattle.fence_laws.proofs.Vocabulary.{◌≡◌, ℕ, Bool, true, false, List, Option, Some, None, refl, sym, ap, ◌∙◌, SetOfGaps, Listing, gaps_in, Label, StoreBufferMachine, no_gaps, State, start, run}
-use Rattle.fence_laws.proofs.Vocabulary.{passes, option_map_or, gap_number, run_fenced, run_avoids, PassesNoGapOf, FencedRunsPassNoGapOfTheSet, PassedGapsTellTheFencedRuns}
+use Rattle.fence_laws.proofs.Vocabulary.{◌≡◌, ℕ, Bool, true, false, List, Option, Some, None, refl, sym, ap, ◌∙◌, SetOfGaps, Listing, gaps_in, Label, StoreBufferMachine, no_gaps, State, start, run, passes, option_map_or, gap_number, run_fenced, run_avoids}
+use Rattle.fence_laws.proofs.Vocabulary.{PassesNoGapOf, FencedRunsPassNoGapOfTheSet, PassedGapsTellTheFencedRuns}
 use Rattle.std.specs.FinSet as set
 use Rattle.fence_laws.proofs.Unfenced.{unfenced}
 

@@ -1,6 +1,6 @@
 -- A run that passes no gap waits at each place, and so has a sequential outcome.
-use Rattle.fence_laws.proofs.Vocabulary.{◌≡◌, ℕ, ◌+◌, ◌-◌, Bool, true, false, List, Some, refl, sym, ◌∙◌, take, Listing, gap_count, JumpForward, Label, no_gaps, StoreBufferMachine, State, run, start}
-use Rattle.fence_laws.proofs.Vocabulary.{passes, run_fenced, gap_is, PassesNoGap, ARunThatPassesNothingIsSequential, ARunWithNothingPassedIsSequential}
+use Rattle.fence_laws.proofs.Vocabulary.{◌≡◌, ℕ, ◌+◌, ◌-◌, Bool, true, false, List, Some, refl, sym, ◌∙◌, take, Listing, gap_count, JumpForward, Label, no_gaps, StoreBufferMachine, State, run, start, passes, run_fenced, gap_is, PassesNoGap}
+use Rattle.fence_laws.proofs.Vocabulary.{ARunThatPassesNothingIsSequential, ARunWithNothingPassedIsSequential}
 use Rattle.std.specs.Ordering.{nat_cmp}
 use Rattle.std.specs.FinSet as set
 use Rattle.fence_laws.proofs.{WaitingEverywhere.all, WaitingEverywhere.to_sequential, PassedPlaces.passed_inside}

@@ -1,8 +1,7 @@
 -- What a run passes are gaps: never a thread's first instruction, since nothing leads back to it, nor its end.
-use Rattle.fence_laws.proofs.Vocabulary.{◌≡◌, ℕ, ◌<◌, ◌≤◌, Bool, true, false, ◌&&◌, ◌||◌, ◌==◌, not, List, [], ◌∷◌, length, Option, Some, None, option_and_then, refl, sym, ap, ◌∙◌, subst, inl, inr}
-use Rattle.fence_laws.proofs.Vocabulary.{arith, same_Some, slice_get_within, cases_eq, Instr, Je, Jne, Jmp, Listing, Local, Action, Stop, Go, Wait, Read, Write, Swap, act, jumped, JumpForward, Label}
-use Rattle.fence_laws.proofs.Vocabulary.{Exec, Flush, Pending, action, instr_at, code_of, no_gaps, put, StoreBufferMachine, State, buffered, step, run, is_empty, from_some, passes_at, passes}
-use Rattle.fence_laws.proofs.Vocabulary.{or_cases as either}
+use Rattle.fence_laws.proofs.Vocabulary.{◌≡◌, ℕ, ◌<◌, ◌≤◌, Bool, true, false, ◌&&◌, ◌||◌, ◌==◌, not, List, [], ◌∷◌, length, Option, Some, None, option_and_then, refl, sym, ap, ◌∙◌, subst, inl, inr, arith, same_Some, slice_get_within, cases_eq, Instr, Je, Jne}
+use Rattle.fence_laws.proofs.Vocabulary.{Jmp, Listing, Local, Action, Stop, Go, Wait, Read, Write, Swap, act, jumped, JumpForward, Label, Exec, Flush, Pending, action, instr_at, code_of, no_gaps, put, StoreBufferMachine, State, buffered, step, run, is_empty}
+use Rattle.fence_laws.proofs.Vocabulary.{from_some, passes_at, passes, or_cases as either}
 use Rattle.std.proofs.lemmas.Bool.Decides.{nat_tests}
 use Rattle.tso_program.specs.Instructions.{target_of}
 use Rattle.fence_laws.proofs.{ChangedAt.put_other, ChangedAt.put_each, StepCases.exec_by, StepCases.flush_by}

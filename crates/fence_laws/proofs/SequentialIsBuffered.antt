@@ -1,7 +1,6 @@
 -- A sequential run is a run of the store buffer machine, each store flushed at once, whatever the gaps.
-use Rattle.fence_laws.proofs.Vocabulary.{◌≡◌, ℕ, Bool, true, false, List, [], ◌∷◌, ◌++◌, Option, Some, None, option_and_then, refl, sym, ap, ◌∙◌, same_Some, Listing, Local, Action, Stop, Go, Write}
-use Rattle.fence_laws.proofs.Vocabulary.{action, Gaps, put, SequentialMachine, StoreBufferMachine, State, past_gap, buffered, flushed, direct, run, start, Label, Exec, Flush, Pending}
-use Rattle.fence_laws.proofs.Vocabulary.{SequentialRunsAreAllowed}
+use Rattle.fence_laws.proofs.Vocabulary.{◌≡◌, ℕ, Bool, true, false, List, [], ◌∷◌, ◌++◌, Option, Some, None, option_and_then, refl, sym, ap, ◌∙◌, same_Some, Listing, Local, Action, Stop, Go, Write, action, Gaps, put, SequentialMachine, StoreBufferMachine}
+use Rattle.fence_laws.proofs.Vocabulary.{State, past_gap, buffered, flushed, direct, run, start, Label, Exec, Flush, Pending, SequentialRunsAreAllowed}
 use Rattle.fence_laws.proofs.ChangedAt.{put_same, put_back}
 
 module _ (p : Listing) (gaps : Gaps) where

@@ -1,6 +1,6 @@
 -- The steps of the store buffer machine, by cases.
-use Rattle.fence_laws.proofs.Vocabulary.{◌≡◌, ℕ, Bool, true, false, List, [], ◌∷◌, ◌++◌, Option, Some, option_and_then, refl, Listing, Local, Action, Stop, Go, Wait, Read, Write, Swap, action, loaded}
-use Rattle.fence_laws.proofs.Vocabulary.{Gaps, put, StoreBufferMachine, State, newest, found, when_empty, past_gap, buffered, flushed, step, Exec, Flush, Pending}
+use Rattle.fence_laws.proofs.Vocabulary.{◌≡◌, ℕ, Bool, true, false, List, [], ◌∷◌, ◌++◌, Option, Some, option_and_then, refl, Listing, Local, Action, Stop, Go, Wait, Read, Write, Swap, action, loaded, Gaps, put, StoreBufferMachine, State, newest, found}
+use Rattle.fence_laws.proofs.Vocabulary.{when_empty, past_gap, buffered, flushed, step, Exec, Flush, Pending}
 use Rattle.tso_program.specs.declared.instruction.Reg.{Reg}
 
 module _ (last : State) (K : State → Option State) where

@@ -1,6 +1,5 @@
 -- A run with gaps fenced is a run with none fenced.
-use Rattle.fence_laws.proofs.Vocabulary.{◌≡◌, Bool, true, List, [], ◌∷◌, Option, Some, option_and_then, ap, ◌∙◌, option_and_then_some, Listing, Gaps, action, Label, Exec, Flush, Pending, no_gaps}
-use Rattle.fence_laws.proofs.Vocabulary.{StoreBufferMachine, State, past_gap, buffered, step, run}
+use Rattle.fence_laws.proofs.Vocabulary.{◌≡◌, Bool, true, List, [], ◌∷◌, Option, Some, option_and_then, ap, ◌∙◌, option_and_then_some, Listing, Gaps, action, Label, Exec, Flush, Pending, no_gaps, StoreBufferMachine, State, past_gap, buffered, step, run}
 
 module _ (p : Listing) (gaps : Gaps) where
   -- what a gap let through can be done

@@ -26,9 +26,8 @@ pub use Rattle.tso_program.specs.declared.instruction.Instr.{Instr}
 pub use Rattle.tso_program.specs.declared.instruction.Instr.TheVariants.{CmpImm, CmpReg, Copy, Fence, Je, Jmp, Jne, Load, LoadImm, Store, StoreImm, Xchg}
 pub use Rattle.tso_program.specs.declared.listing.Listing.{Listing}
 pub use Rattle.tso_program.specs.declared.outcome.Outcome.{Outcome}
-pub use Rattle.tso_program.specs.declared.shown.Shown.{Shown}
+pub use Rattle.tso_program.specs.declared.shown.Shown.{Shown, TheVariants.All}
 pub use mathlib.Core.Path.{fun_ext}
 pub use Rattle.fence_laws.specs.Laws.{ARunThatPassesNothingIsSequential, ARunWithNothingPassedIsSequential, AServedTruthIsKept, ATruthsAnswerCostsNoMore, AllGapsServe, AnObservedAnswerCostsNoMore}
-pub use Rattle.fence_laws.specs.Laws.{FencedRunsPassNoGapOfTheSet, FencingIsTheMachineWithGaps, FencingKeepsSequentialOutcomes, HasEveryGapOf, LeavesTruth, PassedGapsTellTheFencedRuns, PassesNoGap}
-pub use Rattle.fence_laws.specs.Laws.{PassesNoGapOf, SequentialRunsAreAllowed, TheAnswerIsTheOnlyOne, TheHeadlineIsTheAnswer, WhatServesForAllServes, WhatServesServesEachPart}
-pub use Rattle.fence_laws.specs.Laws.{WhatServesServesTheTruth}
+pub use Rattle.fence_laws.specs.Laws.{FencedRunsPassNoGapOfTheSet, FencingIsTheMachineWithGaps, HasEveryGapOf, LeavesTruth, PassedGapsTellTheFencedRuns, PassesNoGap, PassesNoGapOf}
+pub use Rattle.fence_laws.specs.Laws.{SequentialRunsAreAllowed, TheAnswerIsTheOnlyOne, TheHeadlineIsTheAnswer, WhatServesServesEachPart, WhatServesServesTheTruth}

@@ -1,7 +1,6 @@
 -- A run of the store buffer machine that executes each instruction with an empty buffer is as good as a sequential one.
-use Rattle.fence_laws.proofs.Vocabulary.{◌≡◌, ℕ, true, List, [], ◌∷◌, ◌++◌, ◌⊎◌, Some, option_and_then, refl, sym, ap, ◌∙◌, subst, inl, inr, map, length, fun_ext, range_with_len, Listing, Local}
-use Rattle.fence_laws.proofs.Vocabulary.{Write, action, loaded, Gaps, Outcome, Label, Exec, Flush, Pending, put, SequentialMachine, StoreBufferMachine, State, newest, found, direct, run, start, IsRun}
-use Rattle.fence_laws.proofs.Vocabulary.{outcome_at}
+use Rattle.fence_laws.proofs.Vocabulary.{◌≡◌, ℕ, true, List, [], ◌∷◌, ◌++◌, ◌⊎◌, Some, option_and_then, refl, sym, ap, ◌∙◌, subst, inl, inr, map, length, fun_ext, range_with_len, Listing, Local, Write, action, loaded, Gaps, Outcome, Label, Exec, Flush}
+use Rattle.fence_laws.proofs.Vocabulary.{Pending, put, SequentialMachine, StoreBufferMachine, State, newest, found, direct, run, start, IsRun, outcome_at}
 use Rattle.fence_laws.proofs.{ChangedAt.put_both, StepCases.exec_by, StepCases.flush_by}
 
 -- every gap is fenced, and the places before the first instructions too

@@ -1,9 +1,8 @@
 -- The certificate of a search that is done is valid, and within the limits of a text.
-use Rattle.fence_place.proofs.Vocabulary.{◌≡◌, ℕ, ◌*◌, ◌<◌, ◌≤◌, ◌^◌, suc, List, [], ◌∷◌, All, Some, length, sym, ap, ◌∙◌, subst, arith, get_or, recursion_from_All, slice_get, AllByRecursion}
-use Rattle.fence_place.proofs.Vocabulary.{slice_get-get_or, SetOfGaps, IsGapSet, total, all_sets, MAX_GAPS, Question, IsWithinLimits, Label, Certificate, shows_of, IsValidGap, undecided, Outcome}
-use Rattle.fence_place.proofs.Vocabulary.{finished_state, IsOutcome, Facts, facts_of, AreNumbersOf, AreSplitRuns, IsRecorded, IsProof, Machine, SequentialMachine, StoreBufferMachine, no_gaps}
-use Rattle.fence_place.proofs.Vocabulary.{IsTheAnswer, IsShownRun, IsSequentialOutcome, AreGapsOf, Cover, IsGapTo, gap_depth, IsRunOutside, IsValidCertificate, AreSequentialRuns, Table, Foreign}
-use Rattle.fence_place.proofs.Vocabulary.{IsSequentialTable, IsListOf, IsServing, IsForeignValue, few_undecided, gaps_in as gaps_of_set}
+use Rattle.fence_place.proofs.Vocabulary.{◌≡◌, ℕ, ◌*◌, ◌<◌, ◌≤◌, ◌^◌, suc, List, [], ◌∷◌, All, Some, length, sym, ap, ◌∙◌, subst, arith, get_or, recursion_from_All, slice_get, AllByRecursion, slice_get-get_or, SetOfGaps, IsGapSet, total, all_sets, MAX_GAPS}
+use Rattle.fence_place.proofs.Vocabulary.{Question, IsWithinLimits, Label, Certificate, shows_of, IsValidGap, undecided, Outcome, finished_state, IsOutcome, Facts, facts_of, AreNumbersOf, AreSplitRuns, IsRecorded, IsProof, Machine, SequentialMachine}
+use Rattle.fence_place.proofs.Vocabulary.{StoreBufferMachine, no_gaps, IsTheAnswer, IsShownRun, IsSequentialOutcome, AreGapsOf, Cover, IsGapTo, gap_depth, IsRunOutside, IsValidCertificate, AreSequentialRuns, Table, Foreign, IsSequentialTable, IsListOf}
+use Rattle.fence_place.proofs.Vocabulary.{IsServing, IsForeignValue, few_undecided, gaps_in as gaps_of_set}
 use Rattle.gap_sets.specs.declared.costs.TheConstants.{MAX_COST}
 use Rattle.tso_program.specs.declared.outcome.Outcome as machine
 use Rattle.cert_forest.specs.TreeConstants.{MAX_COVER_DEPTH, MAX_GAP_DEPTH}

@@ -1,8 +1,7 @@
 -- The gap tree of the record of a search that is done is valid for its answer, and within the limits of a text.
-use Rattle.fence_place.proofs.Vocabulary.{◌≡◌, ℕ, suc, ◌+◌, ◌<◌, ◌≤◌, ◌^◌, List, [], ◌∷◌, Some, length, max, refl, sym, ap, ◌∙◌, subst, arith, slice_get, same_Some, slice_get_within, SetOfGaps}
-use Rattle.fence_place.proofs.Vocabulary.{Region, Question, Label, IsTheAnswer, Gap, Split, Bound, GapTrees, NoGap, MoreGaps, count_gaps, Foreign, Entry, SearchState, Facts, AreNumbersOf, IsRecorded}
-use Rattle.fence_place.proofs.Vocabulary.{AreRecorded, MAX_GAPS, undecided, Each, few_open, without_gap, child_regions, open_gaps, gap_depth, gaps_depth, HasGapNumbers, HaveGapNumbers, IsSplitBy}
-use Rattle.fence_place.proofs.Vocabulary.{IsValidGap, AreValidGaps, open_exact, open_ascending, HasNode, IsSplitAt, kids_less, open_undecided, small_set}
+use Rattle.fence_place.proofs.Vocabulary.{◌≡◌, ℕ, suc, ◌+◌, ◌<◌, ◌≤◌, ◌^◌, List, [], ◌∷◌, Some, length, max, refl, sym, ap, ◌∙◌, subst, arith, slice_get, same_Some, slice_get_within, SetOfGaps, Region, Question, Label, IsTheAnswer, Gap, Split, Bound, GapTrees}
+use Rattle.fence_place.proofs.Vocabulary.{NoGap, MoreGaps, count_gaps, Foreign, Entry, SearchState, Facts, AreNumbersOf, IsRecorded, AreRecorded, MAX_GAPS, undecided, Each, few_open, without_gap, child_regions, open_gaps, gap_depth, gaps_depth, HasGapNumbers}
+use Rattle.fence_place.proofs.Vocabulary.{HaveGapNumbers, IsSplitBy, IsValidGap, AreValidGaps, open_exact, open_ascending, HasNode, IsSplitAt, kids_less, open_undecided, small_set}
 use Rattle.std.proofs.lemmas.List.Kept.{AllPairs-from_increasing}
 use Rattle.fence_place.proofs.Bounds.{bounded}
 

@@ -1,7 +1,6 @@
 -- The nodes of the record's gap tree, put after the others one by one.
-use Rattle.fence_place.proofs.Vocabulary.{◌≡◌, ℕ, zero, suc, ◌+◌, true, List, [], ◌∷◌, ◌++◌, Some, length, refl, sym, ap, ◌∙◌, subst, append_assoc, slice_get, open_gaps, GapNode, Split, Bound}
-use Rattle.fence_place.proofs.Vocabulary.{GapTrees, NoGap, MoreGaps, gap_trees_of, count_gaps, Foreign, Entry, is_closed, spell_gap, spell_gaps, listed_gaps, AreRecorded, PushesRecorded}
-use Rattle.fence_place.proofs.Vocabulary.{PushesRecords}
+use Rattle.fence_place.proofs.Vocabulary.{◌≡◌, ℕ, zero, suc, ◌+◌, true, List, [], ◌∷◌, ◌++◌, Some, length, refl, sym, ap, ◌∙◌, subst, append_assoc, slice_get, open_gaps, GapNode, Split, Bound, GapTrees, NoGap, MoreGaps, gap_trees_of, count_gaps, Foreign}
+use Rattle.fence_place.proofs.Vocabulary.{Entry, is_closed, spell_gap, spell_gaps, listed_gaps, AreRecorded, PushesRecorded, PushesRecords}
 use Rattle.std.proofs.lemmas.List.{append-nil}
 use Rattle.cert_forest.specs.GapNode.TheVariants as node
 use Rattle.cert_forest.proofs.Spelled.{each_append}

@@ -1,8 +1,7 @@
 -- What the record says of each node, and the runs of its splits.
-use Rattle.fence_place.proofs.Vocabulary.{◌≡◌, ◌≢◌, ◌⊎◌, Contains, ℕ, zero, suc, ◌+◌, ◌<◌, true, List, [], ◌∷◌, ◌++◌, Some, length, refl, sym, ap, ◌∙◌, subst, inl, inr, arith, Contains-get_or}
-use Rattle.fence_place.proofs.Vocabulary.{each_one, get_either, slice_get, same_Some, slice_get_within, open_gaps, Label, Gap, gap_trees_of, Foreign, Entry, Status, Event, facts_of, is_closed_status}
-use Rattle.fence_place.proofs.Vocabulary.{Outcome, finished_state, IsOutcome, IsEventOf, IsSettledAs, IsFirstChild, get_longer, get_behind, AreNumbersOf, AreSplitRuns, AreDistinct, ListsRun, is_there}
-use Rattle.fence_place.proofs.Vocabulary.{is_new, ListsEvent, IsRecorded, AreRecorded}
+use Rattle.fence_place.proofs.Vocabulary.{◌≡◌, ◌≢◌, ◌⊎◌, Contains, ℕ, zero, suc, ◌+◌, ◌<◌, true, List, [], ◌∷◌, ◌++◌, Some, length, refl, sym, ap, ◌∙◌, subst, inl, inr, arith, Contains-get_or, each_one, get_either, slice_get, same_Some, slice_get_within}
+use Rattle.fence_place.proofs.Vocabulary.{open_gaps, Label, Gap, gap_trees_of, Foreign, Entry, Status, Event, facts_of, is_closed_status, Outcome, finished_state, IsOutcome, IsEventOf, IsSettledAs, IsFirstChild, get_longer, get_behind, AreNumbersOf}
+use Rattle.fence_place.proofs.Vocabulary.{AreSplitRuns, AreDistinct, ListsRun, is_there, is_new, ListsEvent, IsRecorded, AreRecorded}
 use Rattle.std.proofs.lemmas.List.Quantifiers.{all_pairs_push}
 use Rattle.search_core.specs.declared.entry.Status.TheVariants as status
 use Rattle.search_core.specs.declared.finished.Event.TheVariants as event

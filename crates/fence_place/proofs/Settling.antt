@@ -1,7 +1,6 @@
 -- A node that is taken and settled: no seat holds one then.
-use Rattle.fence_place.proofs.Vocabulary.{◌≡◌, ℕ, true, false, true≢false, Some, refl, sym, ap, ◌∙◌, inl, inr, slice_get, none-some, all_sets, Region, Entry, Status, entry, is_live_status}
-use Rattle.fence_place.proofs.Vocabulary.{is_held_status, is_open_status, SearchState, IsDone, HasNoOpen, IsStart, TakesNode, IsSettling, by_cut, by_split, by_confirm, NothingIsHeld}
-use Rattle.fence_place.proofs.Vocabulary.{false_from_ne_true, takes, each_one, held_is, found, change_of, settles, state_after}
+use Rattle.fence_place.proofs.Vocabulary.{◌≡◌, ℕ, true, false, true≢false, Some, refl, sym, ap, ◌∙◌, inl, inr, slice_get, none-some, all_sets, Region, Entry, Status, entry, is_live_status, is_held_status, is_open_status, SearchState, IsDone, HasNoOpen}
+use Rattle.fence_place.proofs.Vocabulary.{IsStart, TakesNode, IsSettling, by_cut, by_split, by_confirm, NothingIsHeld, false_from_ne_true, takes, each_one, held_is, found, change_of, settles, state_after}
 use Rattle.search_core.specs.declared.entry.Status.{TheVariants.Open, TheVariants.Held}
 
 -- neither open nor held

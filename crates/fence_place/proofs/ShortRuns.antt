@@ -1,7 +1,6 @@
 -- A run of a program within the limits has no more labels than a text can hold, and each of them is of a thread that is there.
-use Rattle.fence_place.proofs.Vocabulary.{◌≡◌, ℕ, ◌+◌, ◌*◌, ◌<◌, ◌≤◌, List, [], ◌∷◌, ◌++◌, Option, Some, None, option_and_then, length, refl, sym, ap, ◌∙◌, subst, inl, inr, arith, cases_lt}
-use Rattle.fence_place.proofs.Vocabulary.{AllByRecursion, same_Some, Listing, IsWithinLimits, Label, Gaps, Machine, SequentialMachine, StoreBufferMachine, State, put, direct, buffered, past_gap, step}
-use Rattle.fence_place.proofs.Vocabulary.{run, start, IsRun}
+use Rattle.fence_place.proofs.Vocabulary.{◌≡◌, ℕ, ◌+◌, ◌*◌, ◌<◌, ◌≤◌, List, [], ◌∷◌, ◌++◌, Option, Some, None, option_and_then, length, refl, sym, ap, ◌∙◌, subst, inl, inr, arith, cases_lt, AllByRecursion, same_Some, Listing, IsWithinLimits, Label, Gaps}
+use Rattle.fence_place.proofs.Vocabulary.{Machine, SequentialMachine, StoreBufferMachine, State, put, direct, buffered, past_gap, step, run, start, IsRun}
 use Rattle.tso_program.specs.{declared.outcome.Outcome.Outcome, declared.action.Action.TheVariants.Stop, declared.limits.TheConstants.MAX_THREADS, declared.limits.TheConstants.MAX_INSTRUCTIONS}
 use Rattle.tso_program.specs.Listings.{action}
 use Rattle.cover_solver.specs.{Label.TheVariants.Exec, Label.TheVariants.Flush, RunTexts.IsLabel}

@@ -10,12 +10,11 @@ pub use Rattle.std.specs.declared.result.Result.{Result}
 pub use Rattle.cert_check.proofs.Answered.{if_ok, on_ok}
 pub use Rattle.cert_forest.proofs.GapNodeLaws.{is_gap_tree, listed_gaps, same_gap}
 pub use Rattle.cert_forest.specs.Certificates.{Certificate}
+pub use Rattle.cert_forest.specs.GapNode.{GapNode}
 pub use Rattle.cert_forest.specs.GapNodes.{spell_gap, spell_gaps}
 pub use Rattle.cert_forest.specs.Limits.{AreShownPlaces, HasGapNumbers, HaveGapNumbers, IsGapTo, gap_depth, gaps_depth}
 pub use Rattle.cert_forest.specs.Shows.{shows_of}
-pub use Rattle.cert_forest.specs.Trees.{count_gaps}
-pub use Rattle.cert_forest.specs.Trees.{Bound, Cover, Gap, GapTrees, MoreGaps, NoGap, Split, gap_trees_of}
-pub use Rattle.cert_forest.specs.GapNode.{GapNode}
+pub use Rattle.cert_forest.specs.Trees.{Bound, Cover, Gap, GapTrees, MoreGaps, NoGap, Split, count_gaps, gap_trees_of}
 pub use Rattle.cover_solver.proofs.OpenGaps.{few_open, open_ascending, open_exact}
 pub use Rattle.cover_solver.specs.Certificates.{AreSequentialRuns, IsRunOutside, IsValidCertificate}
 pub use Rattle.cover_solver.specs.Facts.{AreOf, Foreign, IsForeignValue, IsListOf, IsSequentialTable, IsServing, Serving, Table}

@@ -1,6 +1,6 @@
 -- Workers of a hunt: what they know, and why they end.
-use Rattle.fence_place.proofs.Vocabulary.{◌≡◌, ◌∙◌, Bool, true, false, ℕ, List, Option, Some, refl, sym, subst, Worker, PlaceFault, All, IfSome, slice_get, slice_index_or, All-get_or}
-use Rattle.fence_place.proofs.Vocabulary.{slice_get_within, get_or_from_slice_get, HuntView, HasStopped, MayStop, NoneLacksRun, FaultIsAfter, lacks_run_for}
+use Rattle.fence_place.proofs.Vocabulary.{◌≡◌, ◌∙◌, Bool, true, false, ℕ, List, Option, Some, refl, sym, subst, Worker, PlaceFault, All, IfSome, slice_get, slice_index_or, All-get_or, slice_get_within, get_or_from_slice_get, HuntView, HasStopped, MayStop}
+use Rattle.fence_place.proofs.Vocabulary.{NoneLacksRun, FaultIsAfter, lacks_run_for}
 use Rattle.fence_place.specs.{declared.worker.Stop.Stop, declared.worker.Stop.TheVariants.NoRun, Faults.MayHuntFail}
 use Rattle.fence_place.specs.declared.fault.PlaceFault.TheVariants as fault
 

@@ -1,8 +1,7 @@
 -- Words in which `clap` finds no fault name a command.
-use Rattle.fencer_words.proofs.Vocabulary.{◌≡◌, ◌&&◌, ◌⊎◌, ◌∙◌, Bool, true, false, not, List, [], ◌∷◌, Option, Some, None, Contains, find, is_some, map, option_map, refl, sym, ap, subst, inl, inr}
-use Rattle.fencer_words.proofs.Vocabulary.{list_any, Error, OutOfMemory, MeetsNoJob, App, Row, Shape, Text, fault_of, is_simple, is_simple_and_free, kind_of, subcommand_of, subcommand_rows_of}
-use Rattle.fencer_words.proofs.Vocabulary.{HasKind, HasMatchesOf, IsAmong, Kinds, built, entered, label_of, names_of, rows_at, argument_words, ModelNames, AreModels, command_names, fencer_app}
-use Rattle.fencer_words.proofs.Vocabulary.{IsNoCommand, faulty, for_nothing}
+use Rattle.fencer_words.proofs.Vocabulary.{◌≡◌, ◌&&◌, ◌⊎◌, ◌∙◌, Bool, true, false, not, List, [], ◌∷◌, Option, Some, None, Contains, find, is_some, map, option_map, refl, sym, ap, subst, inl, inr, list_any, Error, OutOfMemory, MeetsNoJob, App, Row, Shape}
+use Rattle.fencer_words.proofs.Vocabulary.{Text, fault_of, is_simple, is_simple_and_free, kind_of, subcommand_of, subcommand_rows_of, HasKind, HasMatchesOf, IsAmong, Kinds, built, entered, label_of, names_of, rows_at, argument_words, ModelNames, AreModels}
+use Rattle.fencer_words.proofs.Vocabulary.{command_names, fencer_app, IsNoCommand, faulty, for_nothing}
 use Rattle.std.proofs.lemmas.List.Elements.{Contains-append_left, Contains-append_right, Contains-push}
 use Rattle.clap.specs.{Walk.answers_to, Walk.finished, Walk.settled, Walk.walk, Walk.walk_from, Walk.Held, Walk.nothing_held, Facts.explicit_source, Kinds.check_kinds, Kinds.or_else, Takes.is_given}
 use Rattle.clap.specs.{Faults.built_fault, Faults.walk_fault, Faults.entered_fault, Faults.settle_fault, Faults.defaults_fault, Faults.check_fault, declared.parser.matches.ArgMatches.ArgMatches}

@@ -1,6 +1,6 @@
 -- The places that texts spell.
-use Rattle.fencer_words.proofs.Vocabulary.{◌≡◌, ◌∙◌, ◌==◌, ◌≤◌, ◌<◌, ◌^◌, ℕ, suc, true, false, List, [], ◌∷◌, ◌++◌, length, map, take, drop, get_or, inl, inr, ap, ap₂, arith, refl, sym, subst}
-use Rattle.fencer_words.proofs.Vocabulary.{AllByRecursion, IsDistinct, list_any, map-append, Text, Place, place_numbers, is_same_place, ArePlaceTexts, IsPlaceText}
+use Rattle.fencer_words.proofs.Vocabulary.{◌≡◌, ◌∙◌, ◌==◌, ◌≤◌, ◌<◌, ◌^◌, ℕ, suc, true, false, List, [], ◌∷◌, ◌++◌, length, map, take, drop, get_or, inl, inr, ap, ap₂, arith, refl, sym, subst, AllByRecursion, IsDistinct, list_any, map-append, Text, Place}
+use Rattle.fencer_words.proofs.Vocabulary.{place_numbers, is_same_place, ArePlaceTexts, IsPlaceText}
 use Rattle.std.specs.Cmp.{IsEquivalence}
 use Rattle.std.proofs.Math.Seq.{split_at}
 use Rattle.std.proofs.lemmas.Bool.{and_parts, cases_Bool, eqb-true}

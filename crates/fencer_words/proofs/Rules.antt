@@ -1,7 +1,6 @@
 -- The rules of the arguments that are built for `clap`.
-use Rattle.fencer_words.proofs.Vocabulary.{◌≡◌, ◌∙◌, Bool, true, false, ◌||◌, [], ◌∷◌, Option, Some, ap, ap₂, codes, Bor, usize_max, Command, Command-F, with_rule, App, Rule, Text, AddsArg}
-use Rattle.fencer_words.proofs.Vocabulary.{AddsSubcommand, app_of, new_app, new_rule, rule_of, with_subcommand, app_of_fields, on_top, IsBuiltAs, ModelNames, named_rule, model_rule, label_rule}
-use Rattle.fencer_words.proofs.Vocabulary.{flag_rule}
+use Rattle.fencer_words.proofs.Vocabulary.{◌≡◌, ◌∙◌, Bool, true, false, ◌||◌, [], ◌∷◌, Option, Some, ap, ap₂, codes, Bor, usize_max, Command, Command-F, with_rule, App, Rule, Text, AddsArg, AddsSubcommand, app_of, new_app, new_rule, rule_of, with_subcommand}
+use Rattle.fencer_words.proofs.Vocabulary.{app_of_fields, on_top, IsBuiltAs, ModelNames, named_rule, model_rule, label_rule, flag_rule}
 use Rattle.clap.specs.{declared.builder.command.Command.TheViews.out-Command, declared.builder.action.ArgAction.TheVariants.Append, declared.builder.action.ArgAction.TheVariants.SetTrue}
 use Rattle.clap.specs.{declared.builder.arg.Arg.Arg, declared.builder.range.ValueRange.ValueRange, declared.builder.texts.Texts.TheVariants.One, declared.builder.value_parser.ValueParser.ValueParser}
 use Rattle.clap.specs.declared.builder.value_parser.ValueParser.TheVariants as parser

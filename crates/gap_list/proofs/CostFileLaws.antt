@@ -1,7 +1,7 @@
 -- The cost file of all gaps is read as their costs.
-use Rattle.gap_list.proofs.Vocabulary.{◌≡◌, ◌==◌, ◌+◌, ◌^◌, ◌<◌, ◌≤◌, ℕ, zero, suc, true, false, List, [], ◌∷◌, ◌++◌, length, get_or, map, Option, Some, None, refl, sym, ap, ap₂, ◌∙◌, subst, arith}
-use Rattle.gap_list.proofs.Vocabulary.{inl, inr, unwrap_or, nat_le, slice_get, All, AllByRecursion, flat_map, range_with_len, append-nil, append_assoc, ext_get_or, length-append, Entry, IsCostEntry}
-use Rattle.gap_list.proofs.Vocabulary.{IsCostText, ListsEntries, NoGapTwice, none, blank, entry, said_of, costs_of, lines_of, cost_file_text, cost_line, entry_text}
+use Rattle.gap_list.proofs.Vocabulary.{◌≡◌, ◌==◌, ◌+◌, ◌^◌, ◌<◌, ◌≤◌, ℕ, zero, suc, true, false, List, [], ◌∷◌, ◌++◌, length, get_or, map, Option, Some, None, refl, sym, ap, ap₂, ◌∙◌, subst, arith, inl, inr, unwrap_or, nat_le, slice_get, All, AllByRecursion}
+use Rattle.gap_list.proofs.Vocabulary.{flat_map, range_with_len, append-nil, append_assoc, ext_get_or, length-append, Entry, IsCostEntry, IsCostText, ListsEntries, NoGapTwice, none, blank, entry, said_of, costs_of, lines_of, cost_file_text, cost_line}
+use Rattle.gap_list.proofs.Vocabulary.{entry_text}
 use Rattle.std.specs.Fmt.{decimal}
 use Rattle.std.specs.Char.{is_ascii_digit}
 use Rattle.std.proofs.lemmas.Bool.{and_parts, cases_Bool}

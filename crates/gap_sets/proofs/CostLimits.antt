@@ -1,6 +1,6 @@
 -- A list of costs without a fault is within the limits, and one within the limits has no fault.
-use Rattle.gap_sets.proofs.Vocabulary.{◌≡◌, ℕ, ◌<◌, ◌≤◌, ◌==◌, Bool, true, false, cond, nat_lt, List, length, get_or, Option, None, Some, position, refl, ap, arith, not, position_or_len}
-use Rattle.gap_sets.proofs.Vocabulary.{fails_before_first, prefix_len_is, nat_tests, MAX_GAPS, MAX_COST, IsCostList, first_free, first_too_large, first_cost_fault, CostLimitsAreTheRefusals}
+use Rattle.gap_sets.proofs.Vocabulary.{◌≡◌, ℕ, ◌<◌, ◌≤◌, ◌==◌, Bool, true, false, cond, nat_lt, List, length, get_or, Option, None, Some, position, refl, ap, arith, not, position_or_len, fails_before_first, prefix_len_is, nat_tests, MAX_GAPS, MAX_COST}
+use Rattle.gap_sets.proofs.Vocabulary.{IsCostList, first_free, first_too_large, first_cost_fault, CostLimitsAreTheRefusals}
 use Rattle.std.specs.Option.{option_map, option_or}
 use Rattle.gap_sets.specs.declared.costs.CostFault.{TheVariants.Zero, TheVariants.TooLarge, TheVariants.TooMany}
 

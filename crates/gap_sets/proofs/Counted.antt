@@ -1,6 +1,6 @@
 -- How many members a word's set has.
-use Rattle.gap_sets.proofs.Vocabulary.{◌≡◌, ℕ, zero, suc, ◌+◌, ◌/◌, ◌^◌, ◌<◌, ◌==◌, Bool, true, false, List, ◌∷◌, cond, length, refl, sym, ap, ◌∙◌, arith, count_ones, bit_at-suc, bit_at-lt}
-use Rattle.gap_sets.proofs.Vocabulary.{bit_at_lowest, filter, range_with_len, bit_at, nat_cmp, nat_cmp_total, has_bit, list_of, gaps_of_bits, MAX_GAPS, any-below}
+use Rattle.gap_sets.proofs.Vocabulary.{◌≡◌, ℕ, zero, suc, ◌+◌, ◌/◌, ◌^◌, ◌<◌, ◌==◌, Bool, true, false, List, ◌∷◌, cond, length, refl, sym, ap, ◌∙◌, arith, count_ones, bit_at-suc, bit_at-lt, bit_at_lowest, filter, range_with_len, bit_at, nat_cmp, nat_cmp_total}
+use Rattle.gap_sets.proofs.Vocabulary.{has_bit, list_of, gaps_of_bits, MAX_GAPS, any-below}
 use Rattle.std.specs.FinSet as set
 use native.Mathlib.Numerals.{unary_clauses}
 use lib.Count.{ones_step}

@@ -1,6 +1,6 @@
 -- The least gap that is in exactly one of two sets is the lowest bit in which their words differ.
-use Rattle.gap_sets.proofs.Vocabulary.{◌≡◌, ◌≢◌, ℕ, ◌+◌, ◌%◌, ◌^◌, ◌<◌, ◌==◌, inl, inr, false, sym, ap, ◌∙◌, arith, eqb-true, eq-eqb, xor_lt, bit_at-lt, bit_at_xor, bit_at-zero, bit_at-trailing_zeros}
-use Rattle.gap_sets.proofs.Vocabulary.{bit_at, w128, trailing_zeros, bit_xor, cases_lt, nat_tests, gaps_of_bits, SetOfGaps, HasLeastDifference, MAX_GAPS}
+use Rattle.gap_sets.proofs.Vocabulary.{◌≡◌, ◌≢◌, ℕ, ◌+◌, ◌%◌, ◌^◌, ◌<◌, ◌==◌, inl, inr, false, sym, ap, ◌∙◌, arith, eqb-true, eq-eqb, xor_lt, bit_at-lt, bit_at_xor, bit_at-zero, bit_at-trailing_zeros, bit_at, w128, trailing_zeros, bit_xor, cases_lt, nat_tests}
+use Rattle.gap_sets.proofs.Vocabulary.{gaps_of_bits, SetOfGaps, HasLeastDifference, MAX_GAPS}
 use Rattle.gap_sets.proofs.WordSets.{contains-word}
 
 -- the words differ at this bit and at none below

@@ -1,6 +1,6 @@
 -- The definitions on three gaps of cost 1.
-use Rattle.gap_sets.proofs.Vocabulary.{◌≡◌, ℕ, ◌<◌, inl, inr, true, false, List, [], ◌∷◌, nat_eq, sum_by, refl, sym, ap, ◌∙◌, arith, filter, range_with_len, list_any, numbers_of_set, total, cost_of}
-use Rattle.gap_sets.proofs.Vocabulary.{HasLeastDifference, MAX_GAPS, ThreeGapsOfCostOne, these, ones}
+use Rattle.gap_sets.proofs.Vocabulary.{◌≡◌, ℕ, ◌<◌, inl, inr, true, false, List, [], ◌∷◌, nat_eq, sum_by, refl, sym, ap, ◌∙◌, arith, filter, range_with_len, list_any, numbers_of_set, total, cost_of, HasLeastDifference, MAX_GAPS, ThreeGapsOfCostOne, these}
+use Rattle.gap_sets.proofs.Vocabulary.{ones}
 use Rattle.std.specs.FinSet as set
 use Rattle.gap_sets.proofs.{Orders.not_itself, Ranges.filter_alike}
 

@@ -1,7 +1,6 @@
 -- The members of a word in order.
-use Rattle.gap_sets.proofs.Vocabulary.{◌≡◌, ◌≢◌, ℕ, zero, suc, ◌+◌, ◌*◌, ◌%◌, ◌^◌, ◌<◌, ◌≤◌, ◌==◌, inl, inr, Bool, true, false, List, [], ◌∷◌, cond, length, get_or, refl, sym, ap, ◌∙◌, arith, filter}
-use Rattle.gap_sets.proofs.Vocabulary.{range_with_len, bit_at, bit_not, w128, trailing_zeros, bit_and, cases_lt, bit_at-zero, bit_at-trailing_zeros, bit_at_clear_same, bit_at_clear_other, has_bit}
-use Rattle.gap_sets.proofs.Vocabulary.{list_of, gaps_of_bits, SetOfGaps, numbers_of_set, MAX_GAPS}
+use Rattle.gap_sets.proofs.Vocabulary.{◌≡◌, ◌≢◌, ℕ, zero, suc, ◌+◌, ◌*◌, ◌%◌, ◌^◌, ◌<◌, ◌≤◌, ◌==◌, inl, inr, Bool, true, false, List, [], ◌∷◌, cond, length, get_or, refl, sym, ap, ◌∙◌, arith, filter, range_with_len, bit_at, bit_not, w128, trailing_zeros}
+use Rattle.gap_sets.proofs.Vocabulary.{bit_and, cases_lt, bit_at-zero, bit_at-trailing_zeros, bit_at_clear_same, bit_at_clear_other, has_bit, list_of, gaps_of_bits, SetOfGaps, numbers_of_set, MAX_GAPS}
 use Rattle.std.specs.List.Sorted.{IsStrictlyIncreasing}
 use Rattle.std.specs.FinSet as set
 use Rattle.gap_sets.proofs.{WordSets.contains-word, Ranges.filter_alike}

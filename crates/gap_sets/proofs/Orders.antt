@@ -1,6 +1,5 @@
 -- The order on sets of gaps is strict and total.
-use Rattle.gap_sets.proofs.Vocabulary.{◌≡◌, ◌≢◌, ℕ, ◌⊎◌, inl, inr, Bool, true, false, refl, sym, ◌∙◌, arith, nat_cmp_total, cases_lt, SetOfGaps, IsGapSet, total, HasLeastDifference, MAX_GAPS}
-use Rattle.gap_sets.proofs.Vocabulary.{NoSetIsBetterThanItself, BetterIsTransitive, BetterIsTotal}
+use Rattle.gap_sets.proofs.Vocabulary.{◌≡◌, ◌≢◌, ℕ, ◌⊎◌, inl, inr, Bool, true, false, refl, sym, ◌∙◌, arith, nat_cmp_total, cases_lt, SetOfGaps, IsGapSet, total, HasLeastDifference, MAX_GAPS, NoSetIsBetterThanItself, BetterIsTransitive, BetterIsTotal}
 use Rattle.std.specs.FinSet as set
 use Rattle.gap_sets.proofs.Tests.{AlikeBelow, first_difference, alike_beyond}
 

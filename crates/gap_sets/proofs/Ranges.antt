@@ -1,6 +1,5 @@
 -- Lists of the numbers in a range that pass a test.
-use Rattle.gap_sets.proofs.Vocabulary.{◌≡◌, ℕ, zero, suc, ◌+◌, ◌<◌, ◌≤◌, inl, inr, Bool, true, false, List, ◌∷◌, cond, All, sum_by, refl, ap, arith, length-range_with_len, get_or-range_with_len}
-use Rattle.gap_sets.proofs.Vocabulary.{filter, range_with_len, cases_lt, sum_by-cons}
+use Rattle.gap_sets.proofs.Vocabulary.{◌≡◌, ℕ, zero, suc, ◌+◌, ◌<◌, ◌≤◌, inl, inr, Bool, true, false, List, ◌∷◌, cond, All, sum_by, refl, ap, arith, length-range_with_len, get_or-range_with_len, filter, range_with_len, cases_lt, sum_by-cons}
 use Rattle.std.proofs.lemmas.List.Elements.{All-filter}
 
 -- tests that answer alike in the range give the same list

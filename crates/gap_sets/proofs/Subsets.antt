@@ -1,6 +1,5 @@
 -- A proper subset is cheaper than the set.
-use Rattle.gap_sets.proofs.Vocabulary.{◌≡◌, ◌≢◌, ℕ, ◌<◌, ◌≤◌, inl, inr, Bool, true, false, All, List, length, refl, arith, unwrap_or-slice_get, nat_cmp_total, SetOfGaps, IsGapSet, numbers_of_set}
-use Rattle.gap_sets.proofs.Vocabulary.{total, cost_of, MAX_GAPS, ProperSubsetIsBetter}
+use Rattle.gap_sets.proofs.Vocabulary.{◌≡◌, ◌≢◌, ℕ, ◌<◌, ◌≤◌, inl, inr, Bool, true, false, All, List, length, refl, arith, unwrap_or-slice_get, nat_cmp_total, SetOfGaps, IsGapSet, numbers_of_set, total, cost_of, MAX_GAPS, ProperSubsetIsBetter}
 use Rattle.std.specs.FinSet as set
 use Rattle.gap_sets.proofs.{Ranges.sum-lt, Tests.first_difference, Tests.alike_beyond}
 

@@ -1,6 +1,6 @@
 -- What the gaps of a set cost together at most.
-use Rattle.gap_sets.proofs.Vocabulary.{◌≡◌, ℕ, ◌+◌, ◌*◌, ◌≤◌, inl, inr, List, [], ◌∷◌, length, get_or, sum_by, unwrap_or, ap, ◌∙◌, arith, slice_get_cases, sum_by-cons, sum_by-le, length-filter}
-use Rattle.gap_sets.proofs.Vocabulary.{count_by-le-length, range_with_len, length-range_with_len, IsCostList, SetOfGaps, numbers_of_set, cost_of, total, MAX_GAPS, MAX_COST}
+use Rattle.gap_sets.proofs.Vocabulary.{◌≡◌, ℕ, ◌+◌, ◌*◌, ◌≤◌, inl, inr, List, [], ◌∷◌, length, get_or, sum_by, unwrap_or, ap, ◌∙◌, arith, slice_get_cases, sum_by-cons, sum_by-le, length-filter, count_by-le-length, range_with_len, length-range_with_len}
+use Rattle.gap_sets.proofs.Vocabulary.{IsCostList, SetOfGaps, numbers_of_set, cost_of, total, MAX_GAPS, MAX_COST}
 use Rattle.std.specs.FinSet as set
 
 -- no gap costs more than a million

@@ -1,7 +1,6 @@
 -- What a word's set contains, and what setting and clearing a bit does to it.
-use Rattle.gap_sets.proofs.Vocabulary.{◌≡◌, ℕ, ◌*◌, ◌%◌, ◌^◌, ◌<◌, ◌==◌, inl, inr, true, false, ◌&&◌, ◌||◌, not, refl, sym, ap, ◌∙◌, arith, bit_or, bit_and, nat_cmp, eq_by_cmp, or_lt, and_le_l}
-use Rattle.gap_sets.proofs.Vocabulary.{bit_at_above, bit_at_and, bit_at_set_same, bit_at_set_other, bit_at_clear_same, bit_at_clear_other, bit_at-zero, bit_at, bit_not, w128, nat_cmp_total, cases_lt}
-use Rattle.gap_sets.proofs.Vocabulary.{nat_tests, eqb_tells, has_bit, gaps_of_bits, IsGapSet, MAX_GAPS, contains-gaps_of, no_bit}
+use Rattle.gap_sets.proofs.Vocabulary.{◌≡◌, ℕ, ◌*◌, ◌%◌, ◌^◌, ◌<◌, ◌==◌, inl, inr, true, false, ◌&&◌, ◌||◌, not, refl, sym, ap, ◌∙◌, arith, bit_or, bit_and, nat_cmp, eq_by_cmp, or_lt, and_le_l, bit_at_above, bit_at_and, bit_at_set_same, bit_at_set_other}
+use Rattle.gap_sets.proofs.Vocabulary.{bit_at_clear_same, bit_at_clear_other, bit_at-zero, bit_at, bit_not, w128, nat_cmp_total, cases_lt, nat_tests, eqb_tells, has_bit, gaps_of_bits, IsGapSet, MAX_GAPS, contains-gaps_of, no_bit}
 use Rattle.std.specs.FinSet as set
 use Rattle.std.proofs.Math.Nat.{mod-lt}
 

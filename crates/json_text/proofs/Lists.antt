@@ -1,6 +1,5 @@
 -- Texts with commas between them, one more.
-use Rattle.json_text.proofs.Vocabulary.{◌≡◌, ◌∙◌, ℕ, ◌+◌, ◌<◌, suc, true, List, [], ◌∷◌, ◌++◌, length, take, get_or, arith, sym, ap, append_assoc, append-nil, take_more, nat_lt, if◌then◌else◌}
-use Rattle.json_text.proofs.Vocabulary.{flat_map, nat_tests, after_comma, with_commas}
+use Rattle.json_text.proofs.Vocabulary.{◌≡◌, ◌∙◌, ℕ, ◌+◌, ◌<◌, suc, true, List, [], ◌∷◌, ◌++◌, length, take, get_or, arith, sym, ap, append_assoc, append-nil, take_more, nat_lt, if◌then◌else◌, flat_map, nat_tests, after_comma, with_commas}
 use Rattle.std.proofs.lemmas.Grind.{common_steps, flat_map-append}
 
 -- what stands before the text of this number

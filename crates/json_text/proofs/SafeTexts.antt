@@ -1,7 +1,7 @@
 -- No text of a value has `<`.
-use Rattle.json_text.proofs.Vocabulary.{◌≡◌, ◌≢◌, ℕ, ◌+◌, ◌<◌, ◌^◌, ◌/◌, ◌%◌, Bool, true, false, List, [], ◌∷◌, ◌++◌, arith, refl, sym, subst, nat_lt, if◌then◌else◌, flat_map, nat_tests, IsSafe, Json}
-use Rattle.json_text.proofs.Vocabulary.{Null, Truth, Number, Text, Array, Object, Elements, NoElement, MoreElements, Fields, NoField, MoreFields, written, elements_written, members_written, IsJson}
-use Rattle.json_text.proofs.Vocabulary.{hex_digit, unicode_escape, needs_backslash, needs_number, escaped, quoted, after_comma, with_commas, enclosed, member}
+use Rattle.json_text.proofs.Vocabulary.{◌≡◌, ◌≢◌, ℕ, ◌+◌, ◌<◌, ◌^◌, ◌/◌, ◌%◌, Bool, true, false, List, [], ◌∷◌, ◌++◌, arith, refl, sym, subst, nat_lt, if◌then◌else◌, flat_map, nat_tests, IsSafe, Json, Null, Truth, Number, Text, Array, Object, Elements}
+use Rattle.json_text.proofs.Vocabulary.{NoElement, MoreElements, Fields, NoField, MoreFields, written, elements_written, members_written, IsJson, hex_digit, unicode_escape, needs_backslash, needs_number, escaped, quoted, after_comma, with_commas, enclosed}
+use Rattle.json_text.proofs.Vocabulary.{member}
 use Rattle.std.specs.Fmt.{decimal}
 use Rattle.std.specs.Str.Parse.{AllDigits}
 use Rattle.std.proofs.lemmas.Fmt.{decimal_is_IsNumeral}

@@ -1,6 +1,5 @@
 -- Texts of values, one more.
-use Rattle.json_text.proofs.Vocabulary.{◌≡◌, ◌∙◌, ℕ, List, [], ◌∷◌, ◌++◌, refl, sym, ap, member, Json, Elements, NoElement, MoreElements, Fields, NoField, MoreFields, written, elements_written}
-use Rattle.json_text.proofs.Vocabulary.{members_written, IsJson, AreJson, AreMembers}
+use Rattle.json_text.proofs.Vocabulary.{◌≡◌, ◌∙◌, ℕ, List, [], ◌∷◌, ◌++◌, refl, sym, ap, member, Json, Elements, NoElement, MoreElements, Fields, NoField, MoreFields, written, elements_written, members_written, IsJson, AreJson, AreMembers}
 
 abbrev with_item : Elements → Json → Elements
 with_item NoElement value = MoreElements value NoElement

@@ -1,9 +1,7 @@
 -- A location has few values, and a read few sources.
-use Rattle.known_edges.proofs.Vocabulary.{◌≡◌, ℕ, zero, suc, ◌+◌, ◌-◌, ◌*◌, ◌<◌, ◌≤◌, List, [], ◌∷◌, ◌++◌, Some, map, length, slice_get, get_or, Contains, sym, ap, ◌∙◌, subst, inl, inr, arith}
-use Rattle.known_edges.proofs.Vocabulary.{sum_by-cons, unwrap_or, AllPairs, length-map, length-append, Contains-append_left, Contains-append_right, slice_get_within, get_or_from_slice_get, same_Some}
-use Rattle.known_edges.proofs.Vocabulary.{Instr, Thread, Listing, IsWithinLimits, Access, Event, Initial, At, ComesBefore, first_is_here, later_is_here, mapped, few_of, all_events, all_events_few}
-use Rattle.known_edges.proofs.Vocabulary.{all_events_has, gaps_of_thread, gap_count, instr_at, start_of, access_by, Sketch, given_to, IsSourceOf, IsKnown, IsValueOf, HaveAllRegisters, most_values}
-use Rattle.known_edges.proofs.Vocabulary.{most_sources}
+use Rattle.known_edges.proofs.Vocabulary.{◌≡◌, ℕ, zero, suc, ◌+◌, ◌-◌, ◌*◌, ◌<◌, ◌≤◌, List, [], ◌∷◌, ◌++◌, Some, map, length, slice_get, get_or, Contains, sym, ap, ◌∙◌, subst, inl, inr, arith, sum_by-cons, unwrap_or, AllPairs, length-map, length-append}
+use Rattle.known_edges.proofs.Vocabulary.{Contains-append_left, Contains-append_right, slice_get_within, get_or_from_slice_get, same_Some, Instr, Thread, Listing, IsWithinLimits, Access, Event, Initial, At, ComesBefore, first_is_here, later_is_here, mapped}
+use Rattle.known_edges.proofs.Vocabulary.{few_of, all_events, all_events_few, all_events_has, gaps_of_thread, gap_count, instr_at, start_of, access_by, Sketch, given_to, IsSourceOf, IsKnown, IsValueOf, HaveAllRegisters, most_values, most_sources}
 use Rattle.std.specs.List.Sorted.{IsStrictlyIncreasing}
 use Rattle.std.proofs.lemmas.List.Kept.{AllPairs-from_increasing}
 use Rattle.tso_machine.specs.Machine.{Machine}

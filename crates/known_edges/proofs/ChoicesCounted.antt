@@ -1,9 +1,8 @@
 -- How many choices a sketch has, and how many it has at most.
-use Rattle.known_edges.proofs.Vocabulary.{◌≡◌, ◌≢◌, ℕ, ◌*◌, ◌≤◌, List, [], ◌∷◌, ◌++◌, Some, None, map, length, Contains, sum_by, ap, ◌∙◌, subst, inl, inr, arith, AllPairs, remove, length-map}
-use Rattle.known_edges.proofs.Vocabulary.{length-append, take_all, get_or-le-sum_by, same_Some, slice_get_within, get_or_from_slice_get, cases_lt, Contains-append_left, Contains-append_right, Access}
-use Rattle.known_edges.proofs.Vocabulary.{Event, Initial, At, ProgramSketch, mode_in, trace_in, access_in, IsLawful, AreOtherTwo, IsAccess, accesses_of, get_some, first_or_later, first_is_here}
-use Rattle.known_edges.proofs.Vocabulary.{later_is_here, mapped, choice_count, most_choices, stays, first_pairs, later_pairs, few_of, rows, rows_many, code_there, all_events, all_events_few}
-use Rattle.known_edges.proofs.Vocabulary.{all_events_has, MAX_ACCESSES, given_to}
+use Rattle.known_edges.proofs.Vocabulary.{◌≡◌, ◌≢◌, ℕ, ◌*◌, ◌≤◌, List, [], ◌∷◌, ◌++◌, Some, None, map, length, Contains, sum_by, ap, ◌∙◌, subst, inl, inr, arith, AllPairs, remove, length-map, length-append, take_all, get_or-le-sum_by, same_Some}
+use Rattle.known_edges.proofs.Vocabulary.{slice_get_within, get_or_from_slice_get, cases_lt, Contains-append_left, Contains-append_right, Access, Event, Initial, At, ProgramSketch, mode_in, trace_in, access_in, IsLawful, AreOtherTwo, IsAccess, accesses_of}
+use Rattle.known_edges.proofs.Vocabulary.{get_some, first_or_later, first_is_here, later_is_here, mapped, choice_count, most_choices, stays, first_pairs, later_pairs, few_of, rows, rows_many, code_there, all_events, all_events_few, all_events_has}
+use Rattle.known_edges.proofs.Vocabulary.{MAX_ACCESSES, given_to}
 use Rattle.std.proofs.lemmas.List.Edits.{length-remove}
 use Rattle.known_edges.specs.FewAccesses.{HasSmallNumbers, AreFewAccesses}
 use Rattle.known_edges.proofs.Accesses.{none_past}

@@ -1,7 +1,6 @@
 -- Chosen pairs, looked up.
-use Rattle.known_edges.proofs.Vocabulary.{◌≡◌, ◌≢◌, ◌↔◌, ℕ, ◌<◌, Bool, true, false, IsTrue, List, [], ◌∷◌, ◌++◌, Option, Some, None, Contains, get_or, length, refl, sym, ap, ◌∙◌, subst, inl, inr}
-use Rattle.known_edges.proofs.Vocabulary.{arith, AllPairs, is_some, cases_lt, Contains-get_or, all_pairs_push, Listing, Event, Mode, ThreadTrace, machine_of_mode, ProgramSketch, view_of, KeepsTraces}
-use Rattle.known_edges.proofs.Vocabulary.{AreOtherTwo, same_Some, none-some, HasSource, MayRead, MayFollow}
+use Rattle.known_edges.proofs.Vocabulary.{◌≡◌, ◌≢◌, ◌↔◌, ℕ, ◌<◌, Bool, true, false, IsTrue, List, [], ◌∷◌, ◌++◌, Option, Some, None, Contains, get_or, length, refl, sym, ap, ◌∙◌, subst, inl, inr, arith, AllPairs, is_some, cases_lt, Contains-get_or}
+use Rattle.known_edges.proofs.Vocabulary.{all_pairs_push, Listing, Event, Mode, ThreadTrace, machine_of_mode, ProgramSketch, view_of, KeepsTraces, AreOtherTwo, same_Some, none-some, HasSource, MayRead, MayFollow}
 use Rattle.candidate_executions.proofs.Sketches.Choices.{a_source_keeps_a_sketch, a_pair_keeps_a_sketch}
 use Rattle.known_edges.proofs.Lookups.{same_default}
 

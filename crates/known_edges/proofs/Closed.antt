@@ -1,11 +1,10 @@
 -- Whether known edges make a cycle, seen in the rows.
-use Rattle.known_edges.proofs.Vocabulary.{◌≡◌, ◌↔◌, ◌⊎◌, ℕ, List, [], ◌∷◌, ◌++◌, Bool, IsTrue, refl, sym, ◌∙◌, inl, inr, IsIn, AreConnected, HasRound, none_in_zero, Listing, Event, Kind, SameThread}
-use Rattle.known_edges.proofs.Vocabulary.{KnownEdgeOfMode, IsWhole, Mode, Sequential, Fenced, machine_of_mode, SourceRows, OrderRows, ThreadTrace, ProgramSketch, mode_in, view_of, HasCycle, MayRead}
-use Rattle.known_edges.proofs.Vocabulary.{MayFollow, AreRowsOf, AreSourceRows, AreOrderRows, ClosesOnce, ClosesTwice, IsRepresented, main_kind, union_rows}
+use Rattle.known_edges.proofs.Vocabulary.{◌≡◌, ◌↔◌, ◌⊎◌, ℕ, List, [], ◌∷◌, ◌++◌, Bool, IsTrue, refl, sym, ◌∙◌, inl, inr, IsIn, AreConnected, HasRound, none_in_zero, Listing, Event, Kind, SameThread, KnownEdgeOfMode, IsWhole, Mode, Sequential, Fenced}
+use Rattle.known_edges.proofs.Vocabulary.{machine_of_mode, SourceRows, OrderRows, ThreadTrace, ProgramSketch, mode_in, view_of, HasCycle, MayRead, MayFollow, AreRowsOf, AreSourceRows, AreOrderRows, ClosesOnce, ClosesTwice, IsRepresented, main_kind, union_rows}
+use Rattle.known_edges.proofs.Vocabulary.{SetOfGaps}
 use Rattle.candidate_executions.specs.declared.event.Kind.TheVariants as union
 use Rattle.known_edges.proofs.{Found.cycle_of_accesses, Found.kind_of, Numbered.access_number, Numbered.rows_of_kind, Rounds.cycle_down, Rounds.cycle_up}
 use Rattle.known_edges.proofs.RowsKept.{source_represented, pair_represented}
-use Rattle.gap_sets.specs.Gaps.{SetOfGaps}
 
 side : (kind : Kind) (main global : List ℕ) → HasRound (union_rows kind main global) → HasRound main ⊎ HasRound global
 side union.Global main global h = inr h

@@ -1,7 +1,7 @@
 -- What a choice adds to the known edges, and that the rows are brought up to date with it.
-use Rattle.known_edges.proofs.Vocabulary.{◌≡◌, ◌≢◌, ◌↔◌, ◌⊎◌, ℕ, List, [], ◌∷◌, ◌++◌, Some, Contains, slice_get, refl, sym, ap, ◌∙◌, subst, inl, inr, Contains-append_left, Contains-push}
-use Rattle.known_edges.proofs.Vocabulary.{Contains-push_cases, IsIn, RowHas, Listing, Access, Event, Kind, IsOfMode, SameThread, IsBefore, with_source, with_pair, KnownEdgeOfMode, Mode, Sequential}
-use Rattle.known_edges.proofs.Vocabulary.{Fenced, machine_of_mode, ProgramSketch, mode_in, access_in, with_chosen, IsLawful, SourcePart, MayRead, MayFollow, IsRowOf, AreRowsOf, ReadsBut, main_kind}
+use Rattle.known_edges.proofs.Vocabulary.{◌≡◌, ◌≢◌, ◌↔◌, ◌⊎◌, ℕ, List, [], ◌∷◌, ◌++◌, Some, Contains, slice_get, refl, sym, ap, ◌∙◌, subst, inl, inr, Contains-append_left, Contains-push, Contains-push_cases, IsIn, RowHas, Listing, Access, Event, Kind}
+use Rattle.known_edges.proofs.Vocabulary.{IsOfMode, SameThread, IsBefore, with_source, with_pair, KnownEdgeOfMode, Mode, Sequential, Fenced, machine_of_mode, ProgramSketch, mode_in, access_in, with_chosen, IsLawful, SourcePart, MayRead, MayFollow, IsRowOf}
+use Rattle.known_edges.proofs.Vocabulary.{AreRowsOf, ReadsBut, main_kind}
 use Rattle.candidate_executions.specs.declared.event.Kind.TheVariants as union
 use Rattle.known_edges.proofs.KnownParts.{Parts4, to_relates, of_relates}
 use Rattle.candidate_executions.proofs.Sketches.KnownEdges.{each}

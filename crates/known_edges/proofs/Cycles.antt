@@ -1,6 +1,5 @@
 -- Ways along edges, and what a cycle of known edges refutes.
-use Rattle.known_edges.proofs.Vocabulary.{◌≡◌, ◌↔◌, ℕ, zero, suc, ◌+◌, ◌<◌, ◌≤◌, List, [], ◌∷◌, get_or, drop, length, Contains, refl, sym, ap, ◌∙◌, subst, add-one, drop-cons, arith, Event, Leads}
-use Rattle.known_edges.proofs.Vocabulary.{IsCycle}
+use Rattle.known_edges.proofs.Vocabulary.{◌≡◌, ◌↔◌, ℕ, zero, suc, ◌+◌, ◌<◌, ◌≤◌, List, [], ◌∷◌, get_or, drop, length, Contains, refl, sym, ap, ◌∙◌, subst, add-one, drop-cons, arith, Event, Leads, IsCycle}
 
 module _ (R : Event → Event → Type 0) where
   -- what is left begins with the next event

@@ -1,7 +1,6 @@
 -- Where a search for cycles begins and ends.
-use Rattle.known_edges.proofs.Vocabulary.{◌≡◌, List, [], ◌∷◌, Contains, refl, subst, arith, slice_get_within, Event, Initial, At, Kind, IsOfMode, IsAccess, IsKnownCycle, KnownEdgeOfMode, given_to}
-use Rattle.known_edges.proofs.Vocabulary.{Sequential, Fenced, machine_of_mode, ProgramSketch, mode_in, IsLawful, HasNoCycle}
-use Rattle.gap_sets.specs.Gaps.{SetOfGaps}
+use Rattle.known_edges.proofs.Vocabulary.{◌≡◌, List, [], ◌∷◌, Contains, refl, subst, arith, slice_get_within, Event, Initial, At, Kind, IsOfMode, IsAccess, IsKnownCycle, KnownEdgeOfMode, given_to, Sequential, Fenced, machine_of_mode, ProgramSketch, mode_in}
+use Rattle.known_edges.proofs.Vocabulary.{IsLawful, HasNoCycle, SetOfGaps}
 use Rattle.candidate_executions.specs.declared.event.Kind.TheVariants as union
 use Rattle.candidate_executions.proofs.Candidates.NothingIntoInitial.{not_in_cycle, no_known_edge_into_initial}
 use Rattle.known_edges.proofs.Cycles.{next_in_cycle}

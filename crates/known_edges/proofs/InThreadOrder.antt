@@ -1,6 +1,5 @@
 -- Accesses listed by thread and index.
-use Rattle.known_edges.proofs.Vocabulary.{◌≡◌, ℕ, ◌<◌, List, [], Some, slice_get, get_or, sym, ◌∙◌, subst, arith, AllPairs, slice_get_within, get_or_from_slice_get, same_Some, RowHas, Event, Kind}
-use Rattle.known_edges.proofs.Vocabulary.{Precedes, ComesBefore, ThreadTrace, InOrder, AreRowsOf}
+use Rattle.known_edges.proofs.Vocabulary.{◌≡◌, ℕ, ◌<◌, List, [], Some, slice_get, get_or, sym, ◌∙◌, subst, arith, AllPairs, slice_get_within, get_or_from_slice_get, same_Some, RowHas, Event, Kind, Precedes, ComesBefore, ThreadTrace, InOrder, AreRowsOf}
 use Rattle.known_edges.proofs.{Connected.order_precedes, Unchosen.not_itself}
 
 -- nothing is listed

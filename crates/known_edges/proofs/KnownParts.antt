@@ -1,6 +1,6 @@
 -- Known edges by their parts.
-use Rattle.known_edges.proofs.Vocabulary.{◌≡◌, ◌↔◌, ◌⊎◌, Bool, IsTrue, Some, IsSome, refl, sym, ap, ◌∙◌, subst, inl, inr, Access, Event, Kind, same_Some, some_value, ProgramSketch, access_in, mode_in}
-use Rattle.known_edges.proofs.Vocabulary.{Precedes, OrderPart, SourcePart, IsInitialWrite, of_some, Sketch, IsBefore, KnownFromReads, KnownRelates, IsPair, IsKeptBy}
+use Rattle.known_edges.proofs.Vocabulary.{◌≡◌, ◌↔◌, ◌⊎◌, Bool, IsTrue, Some, IsSome, refl, sym, ap, ◌∙◌, subst, inl, inr, Access, Event, Kind, same_Some, some_value, ProgramSketch, access_in, mode_in, Precedes, OrderPart, SourcePart, IsInitialWrite, of_some}
+use Rattle.known_edges.proofs.Vocabulary.{Sketch, IsBefore, KnownFromReads, KnownRelates, IsPair, IsKeptBy}
 use Rattle.candidate_executions.specs.declared.event.Kind.TheVariants as union
 
 -- program order is that of the accesses' thread, where the union keeps it

@@ -1,8 +1,7 @@
 -- What a sketch keeps holds at the start, and after each value that is given.
-use Rattle.known_edges.proofs.Vocabulary.{option_map, slice_get-map, unwrap_or, ◌≡◌, ◌≢◌, ◌⊎◌, ℕ, zero, suc, ◌<◌, List, [], ◌∷◌, ◌++◌, Some, None, IsSome, Contains, slice_get, set, map, length, refl, sym, ap, ◌∙◌, subst, inl, inr, arith}
-use Rattle.known_edges.proofs.Vocabulary.{length-set, cases_eq, length-map, slice_get_within, same_Some, Thread, Listing, IsWithinLimits, action, code_of, start_of, Access, Event, Initial, At}
-use Rattle.known_edges.proofs.Vocabulary.{IsValueOf, trace, fenced_gaps, get_cases, get_set_same, get_set_other, Mode, ThreadTrace, machine_of_mode, advance, ProgramSketch, trace_in, access_in}
-use Rattle.known_edges.proofs.Vocabulary.{nothing_chosen, with_chosen, given_lists, given_in, view_of, KeepsTraces, IsLawful}
+use Rattle.known_edges.proofs.Vocabulary.{option_map, slice_get-map, unwrap_or, ◌≡◌, ◌≢◌, ◌⊎◌, ℕ, zero, suc, ◌<◌, List, [], ◌∷◌, ◌++◌, Some, None, IsSome, Contains, slice_get, set, map, length, refl, sym, ap, ◌∙◌, subst, inl, inr, arith, length-set, cases_eq}
+use Rattle.known_edges.proofs.Vocabulary.{length-map, slice_get_within, same_Some, Thread, Listing, IsWithinLimits, action, code_of, start_of, Access, Event, Initial, At, IsValueOf, trace, fenced_gaps, get_cases, get_set_same, get_set_other, Mode, ThreadTrace}
+use Rattle.known_edges.proofs.Vocabulary.{machine_of_mode, advance, ProgramSketch, trace_in, access_in, nothing_chosen, with_chosen, given_lists, given_in, view_of, KeepsTraces, IsLawful}
 use Rattle.candidate_executions.specs.Sketches as sketches
 use Rattle.thread_traces.specs.ThreadTraces.{IsThreadTraceOf}
 use Rattle.known_edges.proofs.GivenUsed.{Good, good_begin, good_more}

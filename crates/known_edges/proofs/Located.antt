@@ -1,8 +1,7 @@
 -- The location of each access is one of the program's.
-use Rattle.known_edges.proofs.Vocabulary.{◌≡◌, ℕ, zero, suc, ◌<◌, Bool, List, [], ◌∷◌, Option, Some, None, slice_get, length, refl, sym, ap, ◌∙◌, subst, arith, slice_get_within, same_Some, Action, Go}
-use Rattle.known_edges.proofs.Vocabulary.{Wait, Read, Write, Swap, Local, Instr, Listing, IsWithinLimits, action, instr_at, code_of, start_of, Access, Event, Initial, At, given_to, Trace, trace}
-use Rattle.known_edges.proofs.Vocabulary.{traced, entered, fenced_gaps, load_of, store_of, exchange_of, Mode, ThreadTrace, ProgramSketch, mode_in, view_of, KeepsTraces, HaveLocations, act, loaded}
-use Rattle.known_edges.proofs.Vocabulary.{IsLocated}
+use Rattle.known_edges.proofs.Vocabulary.{◌≡◌, ℕ, zero, suc, ◌<◌, Bool, List, [], ◌∷◌, Option, Some, None, slice_get, length, refl, sym, ap, ◌∙◌, subst, arith, slice_get_within, same_Some, Action, Go, Wait, Read, Write, Swap, Local, Instr, Listing}
+use Rattle.known_edges.proofs.Vocabulary.{IsWithinLimits, action, instr_at, code_of, start_of, Access, Event, Initial, At, given_to, Trace, trace, traced, entered, fenced_gaps, load_of, store_of, exchange_of, Mode, ThreadTrace, ProgramSketch, mode_in, view_of}
+use Rattle.known_edges.proofs.Vocabulary.{KeepsTraces, HaveLocations, act, loaded, IsLocated}
 use Rattle.tso_program.proofs.Located.{act_located}
 use Rattle.known_edges.proofs.Numbered.{accesses_same}
 

@@ -1,7 +1,6 @@
 -- Rows of events, gathered event by event.
-use Rattle.known_edges.proofs.Vocabulary.{◌≡◌, ◌≢◌, ◌↔◌, ◌⊎◌, ℕ, ◌+◌, ◌<◌, ◌≤◌, List, Some, slice_get, get_or, set, length, sym, ap, ◌∙◌, subst, inl, inr, arith, cases_lt, cases_eq, slice_get_within}
-use Rattle.known_edges.proofs.Vocabulary.{slice_get-get_or, get_or_from_slice_get, same_Some, Event, Initial, IsRowOf, AreRowsOf, ReadsBut, get_or-set_same, get_or-set_other, IsIn, RowHas}
-use Rattle.known_edges.proofs.Vocabulary.{IsTransitive}
+use Rattle.known_edges.proofs.Vocabulary.{◌≡◌, ◌≢◌, ◌↔◌, ◌⊎◌, ℕ, ◌+◌, ◌<◌, ◌≤◌, List, Some, slice_get, get_or, set, length, sym, ap, ◌∙◌, subst, inl, inr, arith, cases_lt, cases_eq, slice_get_within, slice_get-get_or, get_or_from_slice_get, same_Some, Event}
+use Rattle.known_edges.proofs.Vocabulary.{Initial, IsRowOf, AreRowsOf, ReadsBut, get_or-set_same, get_or-set_other, IsIn, RowHas, IsTransitive}
 
 -- the event of this number, of which P holds
 abbrev pub Holds : List Event → (Event → Type 0) → ℕ → Type 0

@@ -1,6 +1,6 @@
 -- Walks from number to number: a walk that comes to an event again holds a round.
-use Rattle.known_edges.proofs.Vocabulary.{◌≡◌, ◌≢◌, ◌↔◌, ◌⊎◌, ℕ, List, [], ◌∷◌, ◌++◌, Some, slice_get, get_or, drop, Contains, sym, subst, inl, inr, AllPairs, cases_eq, Contains-append_left}
-use Rattle.known_edges.proofs.Vocabulary.{Contains-push, slice_get-get_or, IsIn, RowHas, Event, Initial, AreRelated, HaveEvents, IsRound}
+use Rattle.known_edges.proofs.Vocabulary.{◌≡◌, ◌≢◌, ◌↔◌, ◌⊎◌, ℕ, List, [], ◌∷◌, ◌++◌, Some, slice_get, get_or, drop, Contains, sym, subst, inl, inr, AllPairs, cases_eq, Contains-append_left, Contains-push, slice_get-get_or, IsIn, RowHas, Event, Initial}
+use Rattle.known_edges.proofs.Vocabulary.{AreRelated, HaveEvents, IsRound}
 use Rattle.thread_traces.proofs.Walks.{LeadsTo, path_more, path_drop, pairs_drop, round, distinct_more}
 
 -- the event of a number

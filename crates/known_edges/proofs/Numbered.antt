@@ -1,9 +1,8 @@
 -- Accesses by number: what the rows of a sketch say of its events.
-use Rattle.known_edges.proofs.Vocabulary.{◌≡◌, ◌↔◌, ℕ, Bool, IsTrue, List, [], Option, Some, None, Contains, slice_get, get_or, length, refl, sym, ap, ◌∙◌, subst, inl, inr, ◌≤◌, arith, option_map_or}
-use Rattle.known_edges.proofs.Vocabulary.{slice_get_within, slice_get-get_or, get_or_from_slice_get, same_Some, IsIn, RowHas, MAX_THREADS, MAX_INSTRUCTIONS, Listing, Access, Event, Initial, At, Kind}
-use Rattle.known_edges.proofs.Vocabulary.{ComesBefore, IsOfMode, Mode, Sequential, Fenced, ThreadTrace, machine_of_mode, ProgramSketch, mode_in, trace_in, access_in, view_of, KeepsTraces}
-use Rattle.known_edges.proofs.Vocabulary.{IsInitialWrite, accesses_at, traced_access, IsOfThreads, AreAccesses, EachEnds, FitRow, AreRowsOf, HasWrites, IsRowOf, IsWriteAt, main_kind, union_rows}
-use Rattle.known_edges.proofs.Vocabulary.{some_value, of_some, slice_index, Writes, IsAccess, IsWhole, given_to, next_read, IsOrdered}
+use Rattle.known_edges.proofs.Vocabulary.{◌≡◌, ◌↔◌, ℕ, Bool, IsTrue, List, [], Option, Some, None, Contains, slice_get, get_or, length, refl, sym, ap, ◌∙◌, subst, inl, inr, ◌≤◌, arith, option_map_or, slice_get_within, slice_get-get_or, get_or_from_slice_get}
+use Rattle.known_edges.proofs.Vocabulary.{same_Some, IsIn, RowHas, MAX_THREADS, MAX_INSTRUCTIONS, Listing, Access, Event, Initial, At, Kind, ComesBefore, IsOfMode, Mode, Sequential, Fenced, ThreadTrace, machine_of_mode, ProgramSketch, mode_in, trace_in}
+use Rattle.known_edges.proofs.Vocabulary.{access_in, view_of, KeepsTraces, IsInitialWrite, accesses_at, traced_access, IsOfThreads, AreAccesses, EachEnds, FitRow, AreRowsOf, HasWrites, IsRowOf, IsWriteAt, main_kind, union_rows, some_value, of_some}
+use Rattle.known_edges.proofs.Vocabulary.{slice_index, Writes, IsAccess, IsWhole, given_to, next_read, IsOrdered}
 use Rattle.candidate_executions.specs.declared.event.Kind.TheVariants as union
 use Rattle.known_edges.specs.Writes.{HasLater, IsLastWith, IsWritten}
 use Rattle.known_edges.proofs.{TracesKept.trace_accesses, TracesKept.no_accesses, TracesKept.no_trace, TracesKept.trace_next, TracesKept.past_next, Connected.HasNumber, ChoicesCounted.few_accesses}

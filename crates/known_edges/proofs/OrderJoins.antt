@@ -1,7 +1,7 @@
 -- Program order of each union is transitive.
-use Rattle.known_edges.proofs.Vocabulary.{◌≡◌, ℕ, zero, suc, ◌<◌, ◌≤◌, Bool, true, false, List, ◌∷◌, Some, IsSome, slice_get, sym, ap, ◌∙◌, subst, inl, inr, arith, same_Some, loaded, Action, Go, Wait}
-use Rattle.known_edges.proofs.Vocabulary.{Read, Write, Swap, Local, Listing, action, start_of, Mode, machine_of_mode, Access, Event, At, Kind, Trace, trace, traced, with_access, entered, store_of}
-use Rattle.known_edges.proofs.Vocabulary.{load_of, exchange_of, fenced_gaps, ThreadTrace, OrderPart, KeepsTraces, Precedes, KeepsOrder, traced_access, InOrder, AreOfSketch}
+use Rattle.known_edges.proofs.Vocabulary.{◌≡◌, ℕ, zero, suc, ◌<◌, ◌≤◌, Bool, true, false, List, ◌∷◌, Some, IsSome, slice_get, sym, ap, ◌∙◌, subst, inl, inr, arith, same_Some, loaded, Action, Go, Wait, Read, Write, Swap, Local, Listing, action, start_of, Mode}
+use Rattle.known_edges.proofs.Vocabulary.{machine_of_mode, Access, Event, At, Kind, Trace, trace, traced, with_access, entered, store_of, load_of, exchange_of, fenced_gaps, ThreadTrace, OrderPart, KeepsTraces, Precedes, KeepsOrder, traced_access, InOrder}
+use Rattle.known_edges.proofs.Vocabulary.{AreOfSketch}
 use Rattle.candidate_executions.specs.declared.event.Kind.TheVariants as union
 use Rattle.candidate_executions.proofs.Sections.SectionsRise.{least, from_section}
 use Rattle.known_edges.proofs.{Numbered.accesses_same, Unchosen.precedes_then}

@@ -1,7 +1,6 @@
 -- Cycles of known edges, seen in the rows.
-use Rattle.known_edges.proofs.Vocabulary.{◌≡◌, ◌↔◌, ℕ, suc, List, [], ◌∷◌, Some, Contains, slice_get, refl, sym, ◌∙◌, subst, arith, same_Some, slice_get_within, Listing, Mode, Event, Kind, IsAccess}
-use Rattle.known_edges.proofs.Vocabulary.{Leads, IsCycle, IsOfMode, KnownEdgeOfMode, IsKnownCycle, IsWhole, given_to, ThreadTrace, ProgramSketch, mode_in, view_of, IsLawful, AreRowsOf, IsRepresented}
-use Rattle.known_edges.proofs.Vocabulary.{union_rows, IsIn, RowHas, Reaches, HasRound, RowsLead as Path, AreRelated, HaveEvents, GoesOnIn}
+use Rattle.known_edges.proofs.Vocabulary.{◌≡◌, ◌↔◌, ℕ, suc, List, [], ◌∷◌, Some, Contains, slice_get, refl, sym, ◌∙◌, subst, arith, same_Some, slice_get_within, Listing, Mode, Event, Kind, IsAccess, Leads, IsCycle, IsOfMode, KnownEdgeOfMode, IsKnownCycle}
+use Rattle.known_edges.proofs.Vocabulary.{IsWhole, given_to, ThreadTrace, ProgramSketch, mode_in, view_of, IsLawful, AreRowsOf, IsRepresented, union_rows, IsIn, RowHas, Reaches, HasRound, RowsLead as Path, AreRelated, HaveEvents, GoesOnIn}
 use Rattle.bit_rows.proofs.Paths.{reaches_then}
 use Rattle.known_edges.proofs.{Connected.HasNumber, Numbered.at_numbers, Numbered.rows_of_kind, Numbered.access_number, Found.cycle_of_accesses, Unchosen.no_cycle_yet}
 

@@ -1,7 +1,6 @@
 -- The rows of a sketch at its start, and after each choice.
-use Rattle.known_edges.proofs.Vocabulary.{get_some, ◌≡◌, ◌↔◌, ◌⊎◌, ℕ, List, [], ◌∷◌, ◌++◌, Some, Contains, slice_get, refl, sym, ap, ◌∙◌, subst, inl, inr, same_Some}
-use Rattle.known_edges.proofs.Vocabulary.{IsIn, RowHas, AreConnected, Listing, Access, Event, Initial, At, Kind, IsOfMode, SameThread, with_source, with_pair, KnownEdgeOfMode, Mode, Sequential}
-use Rattle.known_edges.proofs.Vocabulary.{Fenced, SourceRows, OrderRows, ThreadTrace, ProgramSketch, mode_in, access_in, with_chosen, view_of, KeepsTraces, MayRead, MayFollow, accesses_at}
+use Rattle.known_edges.proofs.Vocabulary.{get_some, ◌≡◌, ◌↔◌, ◌⊎◌, ℕ, List, [], ◌∷◌, ◌++◌, Some, Contains, slice_get, refl, sym, ap, ◌∙◌, subst, inl, inr, same_Some, IsIn, RowHas, AreConnected, Listing, Access, Event, Initial, At, Kind, IsOfMode, SameThread}
+use Rattle.known_edges.proofs.Vocabulary.{with_source, with_pair, KnownEdgeOfMode, Mode, Sequential, Fenced, SourceRows, OrderRows, ThreadTrace, ProgramSketch, mode_in, access_in, with_chosen, view_of, KeepsTraces, MayRead, MayFollow, accesses_at}
 use Rattle.known_edges.proofs.Vocabulary.{traced_access, IsOfThreads, IsRowOf, AreRowsOf, InOrder, IsWriteAt, ReadsBut, IsAfter, HasOrder, AreSourceRows, AreOrderRows, IsRepresented, main_kind}
 use Rattle.candidate_executions.specs.declared.event.Kind.TheVariants as union
 use Rattle.known_edges.proofs.{KnownParts.to_relates, Chosen.source_kept, Chosen.pair_kept, Masks.row_joined, Masks.row_by}

@@ -1,7 +1,6 @@
 -- The rows of one thread's accesses, moved up to the numbers of all accesses.
-use Rattle.known_edges.proofs.Vocabulary.{◌≡◌, ◌↔◌, ℕ, ◌+◌, ◌<◌, ◌≤◌, List, Some, slice_get, Bool, length, refl, sym, ap, ◌∙◌, subst, inl, inr, arith, cases_lt, slice_get_within, same_Some, IsIn}
-use Rattle.known_edges.proofs.Vocabulary.{ROW_BITS, Event, Initial, At, Kind, ThreadTrace, IsLaterIn, accesses_at, traced_access, AreAccesses, AreStarts, InOrder, IsRowOf, KeepsTraceNumbers}
-use Rattle.known_edges.proofs.Vocabulary.{NumberedTraces}
+use Rattle.known_edges.proofs.Vocabulary.{◌≡◌, ◌↔◌, ℕ, ◌+◌, ◌<◌, ◌≤◌, List, Some, slice_get, Bool, length, refl, sym, ap, ◌∙◌, subst, inl, inr, arith, cases_lt, slice_get_within, same_Some, IsIn, ROW_BITS, Event, Initial, At, Kind, ThreadTrace, IsLaterIn}
+use Rattle.known_edges.proofs.Vocabulary.{accesses_at, traced_access, AreAccesses, AreStarts, InOrder, IsRowOf, KeepsTraceNumbers, NumberedTraces}
 use Rattle.known_edges.proofs.{Accesses.no_trace, KnownParts.order_part, Numbered.number_of, Numbered.contained}
 
 module _ (thread_traces : List ThreadTrace) (events : List Event) (starts : List ℕ) (accesses : AreAccesses thread_traces events) (are : AreStarts events starts) (few : length events ≤ ROW_BITS) where

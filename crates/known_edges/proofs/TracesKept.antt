@@ -1,6 +1,6 @@
 -- The trace that is kept of each thread is the trace under its given values.
-use Rattle.known_edges.proofs.Vocabulary.{◌≡◌, ℕ, ◌<◌, ◌≤◌, List, [], Some, None, slice_get, length, ap, ◌∙◌, subst, inl, inr, IsSome, arith, cases_lt, Listing, action, code_of, start_of, Event}
-use Rattle.known_edges.proofs.Vocabulary.{trace, fenced_gaps, get_some, Mode, ThreadTrace, machine_of_mode, ProgramSketch, trace_in, given_in, view_of, KeepsTraces, HaveAllRegisters}
+use Rattle.known_edges.proofs.Vocabulary.{◌≡◌, ℕ, ◌<◌, ◌≤◌, List, [], Some, None, slice_get, length, ap, ◌∙◌, subst, inl, inr, IsSome, arith, cases_lt, Listing, action, code_of, start_of, Event, trace, fenced_gaps, get_some, Mode, ThreadTrace, machine_of_mode}
+use Rattle.known_edges.proofs.Vocabulary.{ProgramSketch, trace_in, given_in, view_of, KeepsTraces, HaveAllRegisters}
 use Rattle.candidate_executions.specs.Sketches as sketches
 use Rattle.known_edges.proofs.Lawful.{given_at}
 use Rattle.thread_traces.proofs.TracesKept.{past_end, no_code, no_action}

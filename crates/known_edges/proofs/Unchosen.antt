@@ -1,6 +1,6 @@
 -- What is known where neither a source nor an order is chosen: program order, which has no cycle.
-use Rattle.known_edges.proofs.Vocabulary.{◌⊎◌, suc, List, [], ◌∷◌, Contains, refl, ◌∙◌, subst, inl, inr, arith, Access, Event, Initial, At, Kind, Leads, Precedes, IsBefore, KnownRelates}
-use Rattle.known_edges.proofs.Vocabulary.{KnownEdgeOfMode, IsKnownCycle, IsWhole, given_to, IsAccess, ProgramSketch, mode_in, IsLawful, HasNoCycle, OrderPart, SourcePart}
+use Rattle.known_edges.proofs.Vocabulary.{◌⊎◌, suc, List, [], ◌∷◌, Contains, refl, ◌∙◌, subst, inl, inr, arith, Access, Event, Initial, At, Kind, Leads, Precedes, IsBefore, KnownRelates, KnownEdgeOfMode, IsKnownCycle, IsWhole, given_to, IsAccess}
+use Rattle.known_edges.proofs.Vocabulary.{ProgramSketch, mode_in, IsLawful, HasNoCycle, OrderPart, SourcePart}
 use Rattle.candidate_executions.specs.declared.event.Kind.TheVariants as union
 use Rattle.known_edges.proofs.{KnownParts.of_relates, Found.cycle_of_accesses}
 

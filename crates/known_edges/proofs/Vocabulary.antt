@@ -26,6 +26,7 @@ pub use Rattle.candidate_executions.specs.Values.{IsKnown, IsValueOf}
 pub use Rattle.candidate_executions.specs.declared.access.Access.{Access}
 pub use Rattle.candidate_executions.specs.declared.event.Event.{Event, TheVariants.Access as At, TheVariants.Initial}
 pub use Rattle.candidate_executions.specs.declared.event.Kind.{Kind}
+pub use Rattle.gap_sets.specs.Gaps.{SetOfGaps}
 pub use Rattle.thread_traces.proofs.Accesses.{IsGrown, below_is, grown_none, later, none_past_by}
 pub use Rattle.thread_traces.proofs.EventsCounted.{all_events, all_events_few, all_events_has, code_there, few_of, first_pairs, later_pairs, rows, rows_many, stays}
 pub use Rattle.thread_traces.proofs.KnownParts.{not_by, of_some, yes}

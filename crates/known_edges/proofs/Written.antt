@@ -1,6 +1,6 @@
 -- The rows of the writes to each location.
-use Rattle.known_edges.proofs.Vocabulary.{◌≡◌, ◌↔◌, ◌⊎◌, ℕ, ◌+◌, ◌<◌, ◌≤◌, List, Option, Some, IfSome, slice_get, slice_index, get_or, length, sym, ap, ◌∙◌, subst, inl, inr, refl, None, arith}
-use Rattle.known_edges.proofs.Vocabulary.{cases_lt, slice_get-get_or, same_Some, get_or_past, IsIn, RowHas, none_in_zero, Event, Initial, ThreadTrace, IsWriteAt, HaveLocations, MAX_LOCATIONS}
+use Rattle.known_edges.proofs.Vocabulary.{◌≡◌, ◌↔◌, ◌⊎◌, ℕ, ◌+◌, ◌<◌, ◌≤◌, List, Option, Some, IfSome, slice_get, slice_index, get_or, length, sym, ap, ◌∙◌, subst, inl, inr, refl, None, arith, cases_lt, slice_get-get_or, same_Some, get_or_past, IsIn, RowHas}
+use Rattle.known_edges.proofs.Vocabulary.{none_in_zero, Event, Initial, ThreadTrace, IsWriteAt, HaveLocations, MAX_LOCATIONS}
 use Rattle.known_edges.proofs.Masks.{IsRowBelow}
 
 -- the next event is put in where F holds

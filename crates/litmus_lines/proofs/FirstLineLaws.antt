@@ -1,6 +1,6 @@
 -- The first line that is read is the one that stands there.
-use Rattle.litmus_lines.proofs.Vocabulary.{◌≡◌, ℕ, suc, ◌+◌, ◌<◌, Bool, true, false, List, [], ◌∷◌, ◌++◌, length, take, drop, Option, Some, None, refl, sym, ap, ◌∙◌, subst, arith, inl, inr, ◌&&◌}
-use Rattle.litmus_lines.proofs.Vocabulary.{◌==◌, codes, nat_lt, slice_index, nat_tests, take_at, take_all, drop_at, take-append-drop, length-append, name_after, heading_name, line_at}
+use Rattle.litmus_lines.proofs.Vocabulary.{◌≡◌, ℕ, suc, ◌+◌, ◌<◌, Bool, true, false, List, [], ◌∷◌, ◌++◌, length, take, drop, Option, Some, None, refl, sym, ap, ◌∙◌, subst, arith, inl, inr, ◌&&◌, ◌==◌, codes, nat_lt, slice_index, nat_tests, take_at, take_all}
+use Rattle.litmus_lines.proofs.Vocabulary.{drop_at, take-append-drop, length-append, name_after, heading_name, line_at}
 use Rattle.std.specs.List.{list_all, prefix_len}
 use Rattle.std.specs.Str.{bytes_eq}
 use Rattle.std.proofs.lemmas.Bool.{and_parts, and_from, cases_Bool, lt-ltb, ltb-true, ltb-false, eqb-true, not-false}

@@ -1,6 +1,6 @@
 -- The lines before the initial values: where they end.
-use Rattle.litmus_lines.proofs.Vocabulary.{◌≡◌, ℕ, ◌<◌, true, false, List, [], ◌∷◌, ◌++◌, length, Some, None, sym, ap, ◌∙◌, subst, arith, ◌==◌, slice_index, nat_tests, length-append, IsAfterSpace}
-use Rattle.litmus_lines.proofs.Vocabulary.{line_at, space_length, empty_back, is_skipped, IsSkippedLine, AreSkipped, brace, line}
+use Rattle.litmus_lines.proofs.Vocabulary.{◌≡◌, ℕ, ◌<◌, true, false, List, [], ◌∷◌, ◌++◌, length, Some, None, sym, ap, ◌∙◌, subst, arith, ◌==◌, slice_index, nat_tests, length-append, IsAfterSpace, line_at, space_length, empty_back, is_skipped, IsSkippedLine}
+use Rattle.litmus_lines.proofs.Vocabulary.{AreSkipped, brace, line}
 use Rattle.litmus_lines.proofs.FirstLineLaws.{line_takes, line_inside, line_again, same_line, none_or}
 
 -- ---- one line

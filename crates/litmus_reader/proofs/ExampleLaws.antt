@@ -1,7 +1,6 @@
 -- Store buffering stands for its program.
-use Rattle.litmus_reader.proofs.Vocabulary.{◌≡◌, ℕ, true, List, [], ◌∷◌, ◌++◌, refl, sym, ap, inl, inr, lit<, codes, Some, All-cons, All-nil, Tok, Word, Number, Sign, Eax, Ebx, Exists, Location}
-use Rattle.litmus_reader.proofs.Vocabulary.{Register, EntryView, CodeView, StoreImm, Load, CellView, BodyView, EndingView, end, item, atom, parens, operand, conjunction, term, reg_of, opens_condition}
-use Rattle.litmus_reader.proofs.Vocabulary.{joins_formula, is_name, mnemonic_of}
+use Rattle.litmus_reader.proofs.Vocabulary.{◌≡◌, ℕ, true, List, [], ◌∷◌, ◌++◌, refl, sym, ap, inl, inr, lit<, codes, Some, All-cons, All-nil, Tok, Word, Number, Sign, Eax, Ebx, Exists, Location, Register, EntryView, CodeView, StoreImm, Load, CellView}
+use Rattle.litmus_reader.proofs.Vocabulary.{BodyView, EndingView, end, item, atom, parens, operand, conjunction, term, reg_of, opens_condition, joins_formula, is_name, mnemonic_of}
 use Rattle.std.proofs.lemmas.Fmt.{decimal_digit}
 use Rattle.tso_program.specs.Tree as tree
 use Rattle.text_tokens.specs.declared.token.Mark.TheVariants as the

@@ -1,10 +1,8 @@
 -- The reader's tables hold what they should after each entry.
-use Rattle.litmus_reader.proofs.Vocabulary.{◌≡◌, ℕ, ◌<◌, Bool, true, false, List, [], ◌∷◌, ◌++◌, length, get_or, set, map, replicate, fold, refl, sym, ap, ◌∙◌, arith, inl, inr, cases_Bool, eqb-true}
-use Rattle.litmus_reader.proofs.Vocabulary.{eqb-false, length-replicate, get_or-replicate, length-set, get_or-set_same, get_or-set_other, ◌==◌, ◌&&◌, ◌||◌, min, if◌then◌else◌, option_map_or}
-use Rattle.litmus_reader.proofs.Vocabulary.{range_with_len, filter_map, list_any, fold-append, fill_by_all, length-map-range_with_len, get_or-map-range_with_len, Reg, number, Atom, PlaceView}
-use Rattle.litmus_reader.proofs.Vocabulary.{Location, Register, BodyView, TextNames, all_registers, with_name, code_in, Label, thread_labels, all_labels, Eax, location_name, is_register, names_among}
-use Rattle.litmus_reader.proofs.Vocabulary.{byte_at, FindsAs, FindAllAs, with_put, no_names, noted, stored, with_initial, value_of, is_of_location, is_of_register, entry_atoms, memory_from}
-use Rattle.litmus_reader.proofs.Vocabulary.{registers_from, thread_in, thread_by}
+use Rattle.litmus_reader.proofs.Vocabulary.{◌≡◌, ℕ, ◌<◌, Bool, true, false, List, [], ◌∷◌, ◌++◌, length, get_or, set, map, replicate, fold, refl, sym, ap, ◌∙◌, arith, inl, inr, cases_Bool, eqb-true, eqb-false, length-replicate, get_or-replicate, length-set}
+use Rattle.litmus_reader.proofs.Vocabulary.{get_or-set_same, get_or-set_other, ◌==◌, ◌&&◌, ◌||◌, min, if◌then◌else◌, option_map_or, range_with_len, filter_map, list_any, fold-append, fill_by_all, length-map-range_with_len, get_or-map-range_with_len, Reg}
+use Rattle.litmus_reader.proofs.Vocabulary.{number, Atom, PlaceView, Location, Register, BodyView, TextNames, all_registers, with_name, code_in, Label, thread_labels, all_labels, Eax, location_name, is_register, names_among, byte_at, FindAllAs, with_put}
+use Rattle.litmus_reader.proofs.Vocabulary.{no_names, noted, stored, with_initial, value_of, is_of_location, is_of_register, entry_atoms, memory_from, registers_from, thread_in, thread_by}
 use Rattle.std.proofs.Math.Bool.{or-false, or-true, or_assoc}
 use Rattle.tso_program.specs.declared.atom.Atom.TheVariants as atom
 

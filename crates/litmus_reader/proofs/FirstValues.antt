@@ -1,9 +1,7 @@
 -- Entry by entry the tables are filled with what each place holds at first, since no place stands twice.
-use Rattle.litmus_reader.proofs.Vocabulary.{◌≡◌, ℕ, ◌<◌, Bool, true, false, cond, List, [], ◌∷◌, length, get_or, map, fold, Some, refl, sym, ap, ◌∙◌, inl, inr, if◌then◌else◌, IsDistinct}
-use Rattle.litmus_reader.proofs.Vocabulary.{AllByRecursion, range_with_len, find, option_map_or, bytes_eq, cases_Bool, fill_by_all, Reg, Atom, PlaceView, Location, Register, EntryView, BodyView}
-use Rattle.litmus_reader.proofs.Vocabulary.{all_registers, number_in, thread_labels, position_in, value_of, is_of_location, is_of_register, entry_atoms, last_said, memory_from, registers_from}
-use Rattle.litmus_reader.proofs.Vocabulary.{listing_by, length-map, get_or-map, NoneTwice, place_of_entry, atom_of, first_value, memory_of, registers_of, code_in, listing_of, ◌≢◌}
-use Rattle.std.proofs.lemmas.Bool.{false_from_ne_true}
+use Rattle.litmus_reader.proofs.Vocabulary.{◌≡◌, ℕ, ◌<◌, Bool, true, false, cond, List, [], ◌∷◌, length, get_or, map, fold, Some, refl, sym, ap, ◌∙◌, inl, inr, if◌then◌else◌, IsDistinct, AllByRecursion, range_with_len, find, option_map_or, bytes_eq}
+use Rattle.litmus_reader.proofs.Vocabulary.{cases_Bool, fill_by_all, Reg, Atom, PlaceView, Location, Register, EntryView, BodyView, all_registers, number_in, thread_labels, position_in, value_of, is_of_location, is_of_register, entry_atoms, last_said}
+use Rattle.litmus_reader.proofs.Vocabulary.{memory_from, registers_from, listing_by, length-map, get_or-map, NoneTwice, place_of_entry, atom_of, first_value, memory_of, registers_of, code_in, listing_of, ◌≢◌, false_from_ne_true}
 use Rattle.litmus_syntax.specs.Places.{same_place}
 use Rattle.litmus_syntax.proofs.SeenLaws.{same_place_is}
 use Rattle.litmus_reader.proofs.{Elements.all_more_so, NamesOnce.Stands, NamesOnce.same_number}

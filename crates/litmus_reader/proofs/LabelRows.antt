@@ -1,6 +1,5 @@
 -- Labels of a thread, one row after another.
-use Rattle.litmus_reader.proofs.Vocabulary.{◌≡◌, ℕ, ◌+◌, ◌<◌, List, [], ◌∷◌, ◌++◌, length, drop, get_or, map, Option, Some, None, refl, sym, ap, ◌∙◌, append_assoc, at_drop_more, slice_get}
-use Rattle.litmus_reader.proofs.Vocabulary.{cons_option, Vec, Cell, CellView, row_view, Label, column, size, labels_behind}
+use Rattle.litmus_reader.proofs.Vocabulary.{◌≡◌, ℕ, ◌+◌, ◌<◌, List, ◌++◌, length, drop, get_or, map, Option, Some, None, sym, ap, ◌∙◌, append_assoc, at_drop_more, slice_get, cons_option, Vec, Cell, CellView, row_view, Label, column, size, labels_behind}
 
 -- the labels of the rows from the i-th on, behind k instructions
 abbrev pub behind : List (Vec Cell) → ℕ → ℕ → ℕ → List Label

@@ -1,8 +1,7 @@
 -- From what was read of a text to what the text stands for.
-use Rattle.litmus_reader.proofs.Vocabulary.{◌≡◌, ℕ, ◌≤◌, false, List, length, Option, Some, None, refl, sym, ap, ◌∙◌, subst, arith, inl, inr, ⊤, is_some, map, filter_map, IsUtf8, cases_lt, cases_Bool}
-use Rattle.litmus_reader.proofs.Vocabulary.{Thread, Listing, ProgramFault, Tok, Lexes, Litmus, ReadFault, OutOfMemory, MatchFault, TextNames, number_in, byte_in, byte_at, listing_by, position_in}
-use Rattle.litmus_reader.proofs.Vocabulary.{all_labels, first_long, AreSkipped, Means, StandsFor, StandsForNothing, IsReadOf, MAX_LOCATIONS, location_name, places, names_of, listing_of, condition_of}
-use Rattle.litmus_reader.proofs.Vocabulary.{observed_of}
+use Rattle.litmus_reader.proofs.Vocabulary.{◌≡◌, ℕ, ◌≤◌, false, List, length, Option, Some, None, refl, sym, ap, ◌∙◌, subst, arith, inl, inr, ⊤, is_some, map, filter_map, IsUtf8, cases_lt, cases_Bool, Thread, Listing, ProgramFault, Tok, Lexes, Litmus}
+use Rattle.litmus_reader.proofs.Vocabulary.{ReadFault, OutOfMemory, MatchFault, TextNames, number_in, byte_in, byte_at, listing_by, position_in, all_labels, first_long, AreSkipped, Means, StandsFor, StandsForNothing, IsReadOf, MAX_LOCATIONS, location_name}
+use Rattle.litmus_reader.proofs.Vocabulary.{places, names_of, listing_of, condition_of, observed_of}
 use Rattle.litmus_reader.proofs.{NamesOnce.in_order_once, NamesOnce.entries_stand, FirstValues.listing_filled, Faults.match_map, Faults.match_memory}
 use Rattle.litmus_reader.proofs.Numbered.{AreLimits, IsOver, byte_same, listing_same, memory_len, over_same, none_long}
 

@@ -1,6 +1,6 @@
 -- Keys of a set as names.
-use Rattle.litmus_reader.proofs.Vocabulary.{◌||◌, ◌≡◌, ℕ, ◌<◌, ◌≤◌, Bool, true, false, cond, List, [], ◌∷◌, ◌++◌, refl, sym, ap, ◌∙◌, arith, not, ◌+◌, position, min, Result, Ok, Err, inl, inr}
-use Rattle.litmus_reader.proofs.Vocabulary.{list_any, prefix_len, cases_lt, bytes_eq, Vec, with_name, texts, map_push, length-map}
+use Rattle.litmus_reader.proofs.Vocabulary.{◌||◌, ◌≡◌, ℕ, ◌<◌, ◌≤◌, Bool, true, false, cond, List, [], ◌∷◌, ◌++◌, refl, sym, ap, ◌∙◌, arith, not, ◌+◌, position, min, Result, Ok, Err, inl, inr, list_any, prefix_len, cases_lt, bytes_eq, Vec, with_name, texts}
+use Rattle.litmus_reader.proofs.Vocabulary.{map_push, length-map}
 use Rattle.std.specs.Result.{OkIff, result_unwrap_or}
 
 any_text : (ks : List (Vec ℕ)) (name : List ℕ) → list_any (λ k. bytes_eq name k.items) ks ≡ list_any (bytes_eq name) (texts ks)

@@ -1,8 +1,7 @@
 -- A text's names: each stands once, the number of one is its place, and what the entries name stands among them.
-use Rattle.litmus_reader.proofs.Vocabulary.{◌≡◌, ℕ, ◌<◌, Bool, true, false, cond, List, [], ◌∷◌, ◌++◌, length, get_or, map, fold, Some, None, refl, sym, ap, ◌∙◌, arith, ◌==◌, ◌||◌, ⊤, nat_lt}
-use Rattle.litmus_reader.proofs.Vocabulary.{unwrap_or, if◌then◌else◌, bytes_eq, lt-ltb, nat_list_eq_equiv, get_or_default, bytes_eq-Decides, PlaceView, Location, Register, BodyView, EndingView}
-use Rattle.litmus_reader.proofs.Vocabulary.{location_name, entry_place, row_places, sign_places, names_of, flat_map, IsDistinct, AllByRecursion, list_any, filter_map, position_or_len, or_right}
-use Rattle.litmus_reader.proofs.Vocabulary.{Decides-eqb, same_from_decides, list_any-append, Any-from_list_any, position_or_len_is, with_name, in_order, number_in}
+use Rattle.litmus_reader.proofs.Vocabulary.{◌≡◌, ℕ, ◌<◌, Bool, true, false, cond, List, [], ◌∷◌, ◌++◌, length, get_or, map, fold, Some, None, refl, sym, ap, ◌∙◌, arith, ◌==◌, ◌||◌, ⊤, nat_lt, unwrap_or, if◌then◌else◌, bytes_eq, lt-ltb, nat_list_eq_equiv}
+use Rattle.litmus_reader.proofs.Vocabulary.{get_or_default, bytes_eq-Decides, PlaceView, Location, Register, BodyView, EndingView, location_name, entry_place, row_places, sign_places, names_of, flat_map, IsDistinct, AllByRecursion, list_any, filter_map}
+use Rattle.litmus_reader.proofs.Vocabulary.{position_or_len, or_right, Decides-eqb, same_from_decides, list_any-append, Any-from_list_any, position_or_len_is, with_name, in_order, number_in}
 use Rattle.std.specs.Bool.{Decides}
 use Rattle.std.proofs.lemmas.Map.Keys.{IsDistinct-push, apart_from_distinct}
 

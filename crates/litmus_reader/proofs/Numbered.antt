@@ -1,10 +1,8 @@
 -- Locations' numbers as bytes serve as well: they are the numbers where there are few, and with many the same limit is broken.
-use Rattle.litmus_reader.proofs.Vocabulary.{◌≡◌, ℕ, ◌+◌, ◌<◌, ◌≤◌, Bool, true, false, cond, List, [], ◌∷◌, length, map, Option, Some, None, refl, sym, ap, ◌∙◌, arith, get_or, inl, inr, ◌⊎◌, ltb-false}
-use Rattle.litmus_reader.proofs.Vocabulary.{not-true, prefix_len-le-length, NoThreads, TooManyThreads, TooLong, Locations, prefix_len_passes, ◌==◌, min, nat_lt, not, is_some, unwrap_or, if◌then◌else◌}
-use Rattle.litmus_reader.proofs.Vocabulary.{range_with_len, prefix_len, bytes_eq, lt-ltb, length-map-range_with_len, Thread, ProgramFault, IsWithinLimits, IsWithinFencedLimits, first_long}
-use Rattle.litmus_reader.proofs.Vocabulary.{first_fault, first_fenced_fault, BodyView, CellView, number_in, cases_Bool, get_or-map-range_with_len, Label, thread_labels, position_in, code_in, byte_in}
-use Rattle.litmus_reader.proofs.Vocabulary.{byte_at, is_of_location, entry_atoms, last_said, registers_from, memory_from, thread_by, listing_by, MAX_THREADS, MAX_LOCATIONS, MAX_INSTRUCTIONS}
-use Rattle.litmus_reader.proofs.Vocabulary.{MAX_FENCED_INSTRUCTIONS}
+use Rattle.litmus_reader.proofs.Vocabulary.{◌≡◌, ℕ, ◌+◌, ◌<◌, ◌≤◌, Bool, true, false, cond, List, [], ◌∷◌, length, map, Option, Some, None, refl, sym, ap, ◌∙◌, arith, get_or, inl, inr, ◌⊎◌, ltb-false, not-true, prefix_len-le-length, NoThreads, TooManyThreads}
+use Rattle.litmus_reader.proofs.Vocabulary.{TooLong, Locations, prefix_len_passes, ◌==◌, nat_lt, not, is_some, unwrap_or, if◌then◌else◌, range_with_len, prefix_len, bytes_eq, lt-ltb, length-map-range_with_len, Thread, ProgramFault, IsWithinLimits}
+use Rattle.litmus_reader.proofs.Vocabulary.{IsWithinFencedLimits, first_long, first_fault, first_fenced_fault, BodyView, number_in, cases_Bool, get_or-map-range_with_len, Label, thread_labels, position_in, code_in, byte_in, byte_at, is_of_location}
+use Rattle.litmus_reader.proofs.Vocabulary.{entry_atoms, last_said, registers_from, memory_from, thread_by, listing_by, MAX_THREADS, MAX_LOCATIONS, MAX_INSTRUCTIONS, MAX_FENCED_INSTRUCTIONS}
 use Rattle.tso_program.proofs.WithinLimits.{limits_are_the_refusals, fenced_limits_are_the_refusals}
 use Rattle.litmus_reader.proofs.{Filled.range_same, Positions.byte_is, Positions.code_count, Positions.position_same}
 

@@ -1,7 +1,6 @@
 -- The parts that are read are those of the tokens, and no others.
-use Rattle.litmus_reader.proofs.Vocabulary.{◌≡◌, ℕ, List, [], length, map, Option, Some, None, refl, sym, subst, ⊤, Err, Tok, Listing, PlaceView, BodyView, EndingView, IsBody, IsEnding, Litmus}
-use Rattle.litmus_reader.proofs.Vocabulary.{ReadFault, MatchFault, names_of, all_labels, JumpsAreFound, byte_in, byte_at, listing_by, AreParts, Tree, tree_map, Spells, Sum, sign_of, numbered_atom}
-use Rattle.litmus_reader.proofs.Vocabulary.{observed_of, numbered_signs, ReadsOne, Found, AreReadTokens, IsSyntaxFault, HasNoParts}
+use Rattle.litmus_reader.proofs.Vocabulary.{◌≡◌, ℕ, List, [], length, map, Option, Some, None, refl, sym, subst, ⊤, Err, Tok, Listing, PlaceView, BodyView, EndingView, IsBody, IsEnding, Litmus, ReadFault, MatchFault, names_of, all_labels, JumpsAreFound}
+use Rattle.litmus_reader.proofs.Vocabulary.{byte_in, byte_at, listing_by, AreParts, Tree, tree_map, Spells, Sum, sign_of, numbered_atom, observed_of, numbered_signs, ReadsOne, Found, AreReadTokens, IsSyntaxFault, HasNoParts}
 use Rattle.conditions.proofs.{Mapped.spells_mapped, Mapped.spells_unmapped, SpelledIsRead.spells_one}
 use Rattle.conditions.specs.Reads.{SpellsOnly, SpellsNone}
 use Rattle.litmus_syntax.specs.declared.fault.Refusal.{Refusal}

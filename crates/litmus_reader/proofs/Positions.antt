@@ -1,7 +1,6 @@
 -- Positions of labels as bytes: they are the positions where threads are short.
-use Rattle.litmus_reader.proofs.Vocabulary.{◌≡◌, ℕ, ◌+◌, ◌≤◌, Bool, true, false, cond, List, [], ◌∷◌, length, map, Option, Some, None, refl, arith, AllByRecursion, min, option_map, option_and_then}
-use Rattle.litmus_reader.proofs.Vocabulary.{slice_get, find, cons_option, option_map_or, bytes_eq, Instr, CodeView, CellView, Label, column, size, labels_behind, thread_labels, position_in, byte_at}
-use Rattle.litmus_reader.proofs.Vocabulary.{instruction_of, code_in}
+use Rattle.litmus_reader.proofs.Vocabulary.{◌≡◌, ℕ, ◌+◌, ◌≤◌, Bool, true, false, cond, List, [], ◌∷◌, length, map, Option, Some, None, refl, arith, AllByRecursion, min, option_map, option_and_then, slice_get, find, cons_option, option_map_or, bytes_eq, Instr}
+use Rattle.litmus_reader.proofs.Vocabulary.{CodeView, CellView, Label, column, size, labels_behind, thread_labels, position_in, byte_at, instruction_of, code_in}
 use Rattle.litmus_reader.proofs.Elements.{all_more_so, all_of_both}
 
 -- how many instructions cells have

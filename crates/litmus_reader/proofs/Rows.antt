@@ -1,7 +1,6 @@
 -- A loop's step over what is seen of a list.
-use Rattle.litmus_reader.proofs.Vocabulary.{◌≡◌, ℕ, ◌+◌, ◌<◌, List, [], ◌∷◌, ◌++◌, length, take, get_or, map, Option, Some, None, refl, sym, ap, ◌∙◌, fold, arith, append_assoc, Cell, PlaceView}
-use Rattle.litmus_reader.proofs.Vocabulary.{CellView, cell_view, TextNames, noted, filter_map, fold-append, cell_places, cells_places, row_places, map_more, append-nil, length-map, length-take}
-use Rattle.litmus_reader.proofs.Vocabulary.{filter_map-append}
+use Rattle.litmus_reader.proofs.Vocabulary.{◌≡◌, ℕ, ◌+◌, ◌<◌, List, [], ◌∷◌, ◌++◌, length, take, get_or, map, Option, Some, None, refl, sym, ap, ◌∙◌, fold, arith, append_assoc, Cell, PlaceView, CellView, cell_view, TextNames, noted, filter_map, fold-append}
+use Rattle.litmus_reader.proofs.Vocabulary.{cell_places, cells_places, row_places, map_more, append-nil, length-map, length-take, filter_map-append}
 use Rattle.std.proofs.Math.Nat.{add-zero}
 
 -- one more element, of which something is kept

@@ -1,7 +1,6 @@
 -- What a litmus text asks to be shown is what its condition mentions and its observed places.
-use Rattle.litmus_reader.proofs.Vocabulary.{◌≡◌, ◌⊎◌, ◌↔◌, ◌&&◌, ℕ, ◌<◌, Bool, true, false, List, [], ◌∷◌, Contains, sym, ap, ◌∙◌, subst, inl, inr, arith, Contains-append_cases, Contains-append_left}
-use Rattle.litmus_reader.proofs.Vocabulary.{Contains-append_right, Contains-push, Contains-push_cases, nat_lt, nat_tests, Reg, number, Atom, Tree, MAX_THREADS, MAX_LOCATIONS, with_place, with_places}
-use Rattle.litmus_reader.proofs.Vocabulary.{shown_by, ShowsNamedRegisters, ShowsNamedLocations}
+use Rattle.litmus_reader.proofs.Vocabulary.{◌≡◌, ◌⊎◌, ◌↔◌, ◌&&◌, ℕ, ◌<◌, Bool, true, false, List, [], ◌∷◌, Contains, sym, ap, ◌∙◌, subst, inl, inr, arith, Contains-append_cases, Contains-append_left, Contains-append_right, Contains-push, Contains-push_cases}
+use Rattle.litmus_reader.proofs.Vocabulary.{nat_lt, nat_tests, Reg, number, Atom, Tree, MAX_THREADS, MAX_LOCATIONS, with_place, with_places, shown_by, ShowsNamedRegisters, ShowsNamedLocations}
 use Rattle.std.specs.Ordering.{nat_cmp}
 use Rattle.std.specs.FinSet as set
 use Rattle.tso_program.specs.{Names.register_place, Names.location_place, Named.with_named, Named.MentionsRegister, Named.MentionsLocation}

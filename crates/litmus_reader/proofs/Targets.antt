@@ -1,8 +1,7 @@
 -- Labels by their names: a table of positions gives what the labels give.
-use Rattle.litmus_reader.proofs.Vocabulary.{◌≡◌, ℕ, zero, suc, ◌+◌, arith, length, length-append, get_or, Bool, true, false, cond, List, [], ◌∷◌, ◌++◌, fold, Option, Some, None, refl, sym, ap, ◌∙◌}
-use Rattle.litmus_reader.proofs.Vocabulary.{append_assoc, option_or, option_map_or, find-append, ⊤, ◌&&◌, is_some, option_map, unwrap_or, if◌then◌else◌, list_all, bytes_eq, Vec, nat_list_eq_equiv}
-use Rattle.litmus_reader.proofs.Vocabulary.{append-nil, bytes_eq-Decides, CellView, BodyView, Label, ReadFault, labels_in, with_label, FindsAs, FindAllAs, label_in, all_labels, cell_jump, are_found}
-use Rattle.litmus_reader.proofs.Vocabulary.{JumpsAreFound, MatchFault, IsOfAToken}
+use Rattle.litmus_reader.proofs.Vocabulary.{◌≡◌, ℕ, zero, suc, ◌+◌, arith, length, length-append, get_or, Bool, true, false, cond, List, [], ◌∷◌, ◌++◌, fold, Option, Some, None, refl, sym, ap, ◌∙◌, append_assoc, option_or, option_map_or, find-append, ⊤, ◌&&◌}
+use Rattle.litmus_reader.proofs.Vocabulary.{is_some, option_map, unwrap_or, if◌then◌else◌, list_all, bytes_eq, Vec, nat_list_eq_equiv, append-nil, bytes_eq-Decides, CellView, BodyView, Label, ReadFault, labels_in, with_label, FindsAs, FindAllAs, label_in}
+use Rattle.litmus_reader.proofs.Vocabulary.{all_labels, cell_jump, are_found, JumpsAreFound, MatchFault, IsOfAToken}
 use Rattle.std.specs.Map.{lookup}
 use Rattle.indexmap.specs.IndexMap.{insert_entry}
 use Rattle.litmus_reader.proofs.Faults.{match_map}

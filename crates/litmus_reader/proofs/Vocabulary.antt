@@ -1,7 +1,7 @@
 -- What many proofs of this crate speak of, imported once.
 pub use Rattle.std.proofs.Common.{Bool, Contains, List, None, Some, [], ap, append_assoc, arith, cond, drop, false, fold, get_or, inl, inr, length, length-append, lit<, map, refl, replicate, set}
 pub use Rattle.std.proofs.Common.{subst, suc, sym, take, true, zero, ℕ, ◌++◌, ◌+◌, ◌<◌, ◌↔◌, ◌∙◌, ◌∷◌, ◌≡◌, ◌≤◌, ◌⊎◌}
-pub use Rattle.std.proofs.lemmas.Bool.{cases_Bool, cases_lt, eqb-false, eqb-true, lt-ltb, ltb-false, not-true, or_right}
+pub use Rattle.std.proofs.lemmas.Bool.{cases_Bool, cases_lt, eqb-false, eqb-true, false_from_ne_true, lt-ltb, ltb-false, not-true, or_right}
 pub use Rattle.std.proofs.lemmas.Bool.Decides.{Decides-eqb, nat_tests, same_from_decides}
 pub use Rattle.std.proofs.lemmas.Cmp.{nat_list_eq_equiv}
 pub use Rattle.std.proofs.lemmas.Grind.{common_steps}
@@ -11,7 +11,6 @@ pub use Rattle.std.proofs.lemmas.List.Elements.{All-cons, All-nil, Contains-appe
 pub use Rattle.std.proofs.lemmas.List.Folds.{Any-from_list_any, find-append, list_any-append}
 pub use Rattle.std.proofs.lemmas.List.FromFn.{fill_by_all, get_or-map-range_with_len, length-map-range_with_len, map-range_with_len_more}
 pub use Rattle.std.proofs.lemmas.List.Sums.{fold-append, position_or_len_is, prefix_len-le-length, prefix_len_passes}
-pub use Rattle.std.proofs.lemmas.Result.{err_from_is_err_and}
 pub use Rattle.std.proofs.lemmas.Slice.Eq.{bytes_eq-Decides}
 pub use Rattle.std.specs.Global.{Vec}
 pub use Rattle.std.specs.List.{AllByRecursion, cons_option, filter_map, find, flat_map, list_all, list_any, position_or_len, prefix_len, range_with_len}
@@ -23,6 +22,7 @@ pub use Rattle.conditions.specs.Grammar.{Spells, Sum, atom, conjunction, operand
 pub use Rattle.conditions.specs.declared.condition.Quantifier.TheVariants.{Exists, NotExists}
 pub use Rattle.litmus_lines.specs.SkippedLines.{AreSkipped}
 pub use Rattle.litmus_lines.specs.declared.fault.LineFault.{LineFault}
+pub use Rattle.litmus_syntax.proofs.Options.{handed_on}
 pub use Rattle.litmus_syntax.specs.Grammar.{IsBody, IsEnding, NoneTwice, place_of_entry}
 pub use Rattle.litmus_syntax.specs.Phrases.{end, item}
 pub use Rattle.litmus_syntax.specs.Views.{BodyView, CellView, CodeView, EndingView, EntryView, Load, Location, PlaceView, Register, StoreImm, body_view, cell_view, ending_view, entry_view, place_view}

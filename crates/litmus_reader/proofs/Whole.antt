@@ -4,7 +4,7 @@ use Rattle.text_tokens.specs.declared.token.Mark.{Mark}
 use Rattle.text_tokens.specs.declared.token.Mark.TheVariants as the
 use Rattle.conditions.specs.declared.condition.Quantifier.{Quantifier}
 use Rattle.litmus_syntax.specs.Views.{PlaceView, Location, Register, EntryView, CodeView, LoadImm, Copy, Load, StoreImm, Store, Xchg, Fence, CmpImm, CmpReg, Je, Jne, Jmp, CellView, BodyView, SignView, Atom, Const, Not, EndingView}
-use Rattle.litmus_syntax.specs.Grammar.{memory, IsPlace, separator, IsEntryItem, IsInitial, MoreColumns, last, column, immediate, comma, IsCode, IsLabelMark, IsContent, IsCell, IsNextCell, IsCells, IsRow, before_ending, IsRows, IsBody, IsObservedItem, IsObserved, IsQuantifier, IsSign, the_end, IsEnding}
+use Rattle.litmus_syntax.specs.Grammar.{memory, IsPlace, separator, IsEntryItem, IsInitial, MoreColumns, last, column, immediate, comma, IsCode, IsLabelMark, IsContent, IsCell, IsNextCell, IsCells, IsRow, before_ending, IsRows, IsObservedItem, IsObserved, IsQuantifier, IsSign, the_end, IsEnding}
 use Rattle.litmus_syntax.specs.Phrases.{Phrase, ◌▸◌, ◌or◌, mark, word, number, Items, end, item}
 
 -- where each token after a phrase is one, each token of the phrase is one too

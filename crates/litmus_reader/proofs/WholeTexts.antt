@@ -1,6 +1,6 @@
 -- What the first line, the skipped lines and the tokens of a text say of the whole text.
-use Rattle.litmus_reader.proofs.Vocabulary.{◌≡◌, ℕ, List, sym, ◌∙◌, subst, inl, ⊤, IsUtf8, Tok, AreAllTokens, Listing, ProgramFault, Litmus, ReadFault, OutOfMemory, MatchFault, of_lines, LineFault}
-use Rattle.litmus_reader.proofs.Vocabulary.{AreSkipped, Means, StandsFor, StandsForNothing, AreReadTokens, IsReadOf, HasNoParts, Lexes, LexesTo}
+use Rattle.litmus_reader.proofs.Vocabulary.{◌≡◌, ℕ, List, sym, ◌∙◌, subst, inl, ⊤, IsUtf8, Tok, AreAllTokens, Listing, ProgramFault, Litmus, ReadFault, OutOfMemory, MatchFault, of_lines, LineFault, AreSkipped, Means, StandsFor, StandsForNothing, AreReadTokens}
+use Rattle.litmus_reader.proofs.Vocabulary.{IsReadOf, HasNoParts, Lexes, LexesTo}
 use Rattle.litmus_lines.specs.FirstLine.{IsFirstLine}
 use Rattle.litmus_reader.proofs.{Faults.match_map, Faults.match_memory, Faults.match_lines, Whole.parts_whole}
 

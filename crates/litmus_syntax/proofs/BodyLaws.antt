@@ -1,7 +1,6 @@
 -- The body as a whole.
-use Rattle.litmus_syntax.proofs.Vocabulary.{◌≡◌, ◌∙◌, ◌+◌, ◌<◌, ◌≤◌, arith, ℕ, List, [], ◌∷◌, ◌++◌, map, length, take, get_or, sym, ap, subst, take_more, take_all, map_push, length-map, All, Tok}
-use Rattle.litmus_syntax.proofs.Vocabulary.{SyntaxFault, Refused, OutOfMemory, PlaceView, EntryView, CellView, BodyView, place_view, entry_view, ReadsNone, HasThread, place_of_entry, IsInitial}
-use Rattle.litmus_syntax.proofs.Vocabulary.{IsHeader, IsRows, IsBody}
+use Rattle.litmus_syntax.proofs.Vocabulary.{◌≡◌, ◌∙◌, ◌+◌, ◌<◌, ◌≤◌, arith, ℕ, List, [], ◌∷◌, ◌++◌, map, length, take, get_or, sym, ap, subst, take_more, take_all, map_push, length-map, All, Tok, SyntaxFault, Refused, OutOfMemory, PlaceView, EntryView}
+use Rattle.litmus_syntax.proofs.Vocabulary.{CellView, BodyView, place_view, entry_view, ReadsNone, HasThread, place_of_entry, IsInitial, IsHeader, IsRows, IsBody}
 use Rattle.std.proofs.Math.ListN.{get_or-map}
 use Rattle.std.proofs.lemmas.List.Elements.{All-append, All-cons, All-nil}
 use Rattle.litmus_syntax.specs.declared.entry.Entry.{Entry}

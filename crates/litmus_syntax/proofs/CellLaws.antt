@@ -1,7 +1,7 @@
 -- What the readers of labels and cells read is what the grammar says.
-use Rattle.litmus_syntax.proofs.Vocabulary.{◌≡◌, ◌∙◌, ℕ, true, false, List, [], ◌∷◌, ◌++◌, map, append_assoc, refl, sym, ap, subst, inl, inr, Option, Some, None, or_cases, cond_some, same_Some}
-use Rattle.litmus_syntax.proofs.Vocabulary.{append-nil, map_push, Tok, Word, word_at, mark_at, begins_with, word_takes, mark_takes, begins_takes, begins_again, is_label, CodeView, CellView, Items}
-use Rattle.litmus_syntax.proofs.Vocabulary.{end, item, IsLabelMark, ends_cell, IsContent, IsCell, ◌>>=◌, code_at, begins_label, label_tokens_at, content_at, let_through as cond_parts}
+use Rattle.litmus_syntax.proofs.Vocabulary.{◌≡◌, ◌∙◌, ℕ, true, false, List, [], ◌∷◌, ◌++◌, map, append_assoc, refl, sym, ap, subst, inl, inr, Option, Some, None, or_cases, cond_some, same_Some, append-nil, map_push, Tok, Word, word_at, mark_at, begins_with}
+use Rattle.litmus_syntax.proofs.Vocabulary.{word_takes, mark_takes, begins_takes, begins_again, is_label, CodeView, CellView, Items, end, item, IsLabelMark, ends_cell, IsContent, IsCell, ◌>>=◌, code_at, begins_label, label_tokens_at, content_at}
+use Rattle.litmus_syntax.proofs.Vocabulary.{let_through as cond_parts}
 use Rattle.text_tokens.specs.declared.token.Mark.TheVariants as the
 use Rattle.litmus_syntax.proofs.ItemLaws.{IsRead, Only, SoFar, only_read, none_read, one_more, refused}
 use Rattle.litmus_syntax.proofs.{Options.made, Options.next, Options.tested, CodeLaws.code_takes, CodeLaws.code_again, CodeLaws.code_begins}

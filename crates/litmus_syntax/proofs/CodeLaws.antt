@@ -1,8 +1,7 @@
 -- What the reader of instructions reads is what the grammar says.
-use Rattle.litmus_syntax.proofs.Vocabulary.{◌≡◌, ◌∙◌, ℕ, true, false, List, ◌∷◌, refl, sym, ap, subst, inl, inr, Some, is_some, or_cases, Tok, Word, word_at, mark_at, begins_with, word_takes}
-use Rattle.litmus_syntax.proofs.Vocabulary.{number_takes, mark_takes, mark_again, begins_takes, begins_again, Reg, Mnemonic, mnemonic_of, same_Some, CodeView, LoadImm, Copy, Load, StoreImm, Store}
-use Rattle.litmus_syntax.proofs.Vocabulary.{Xchg, Fence, CmpImm, CmpReg, Je, Jne, Jmp, ◌▸◌, ◌or◌, word, register, memory, immediate, mnemonic, comma, IsCode, ends_cell, register_at, memory_at}
-use Rattle.litmus_syntax.proofs.Vocabulary.{immediate_at, into_register_at, into_location_at, move_at, exchange_at, compared_with_at, compare_at, operands_at, code_at}
+use Rattle.litmus_syntax.proofs.Vocabulary.{◌≡◌, ◌∙◌, ℕ, true, false, List, ◌∷◌, refl, sym, ap, subst, inl, inr, Some, is_some, or_cases, Tok, Word, word_at, mark_at, begins_with, word_takes, number_takes, mark_takes, mark_again, begins_takes, begins_again}
+use Rattle.litmus_syntax.proofs.Vocabulary.{Reg, Mnemonic, mnemonic_of, same_Some, CodeView, LoadImm, Copy, Load, StoreImm, Store, Xchg, Fence, CmpImm, CmpReg, Je, Jne, Jmp, ◌▸◌, ◌or◌, word, register, memory, immediate, mnemonic, comma, IsCode, ends_cell}
+use Rattle.litmus_syntax.proofs.Vocabulary.{register_at, memory_at, immediate_at, into_register_at, into_location_at, move_at, exchange_at, compared_with_at, compare_at, operands_at, code_at}
 use Rattle.text_tokens.specs.declared.token.Mark.TheVariants as the
 use Rattle.litmus_syntax.specs.declared.mnemonic.Mnemonic.TheVariants as op
 use Rattle.litmus_syntax.proofs.{Options.given, Options.made, Options.next, Options.tested, PlaceLaws.register_takes, PlaceLaws.register_again, PlaceLaws.memory_takes, PlaceLaws.memory_again}

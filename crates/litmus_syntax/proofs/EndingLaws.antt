@@ -1,7 +1,6 @@
 -- What the reader of endings reads is what the grammar says.
-use Rattle.litmus_syntax.proofs.Vocabulary.{◌≡◌, ◌∙◌, ℕ, List, [], codes, refl, ap, subst, Option, Some, None, Err, MatchOption, Tok, mark_at, begins_with, mark_takes, SyntaxFault, Refused}
-use Rattle.litmus_syntax.proofs.Vocabulary.{OutOfMemory, PlaceView, SignView, EndingView, begins_with_word, IsObserved, IsQuantifier, IsSigns, IsEnding, ReadsNone, NoEnding, ReadsEnding, keyword_at}
-use Rattle.litmus_syntax.proofs.Vocabulary.{quantifier_at}
+use Rattle.litmus_syntax.proofs.Vocabulary.{◌≡◌, ◌∙◌, ℕ, List, [], codes, refl, ap, subst, Option, Some, None, Err, MatchOption, Tok, mark_at, begins_with, mark_takes, SyntaxFault, Refused, OutOfMemory, PlaceView, SignView, EndingView, begins_with_word}
+use Rattle.litmus_syntax.proofs.Vocabulary.{IsObserved, IsQuantifier, IsSigns, IsEnding, ReadsNone, NoEnding, ReadsEnding, keyword_at, quantifier_at}
 use Rattle.text_tokens.specs.declared.token.Mark.TheVariants as the
 use Rattle.conditions.specs.declared.condition.Quantifier.{Quantifier, TheVariants.Exists, TheVariants.NotExists, TheVariants.Forall}
 use Rattle.litmus_syntax.specs.declared.fault.Refusal.{Refusal}

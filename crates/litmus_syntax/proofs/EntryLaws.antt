@@ -1,7 +1,7 @@
 -- What the reader of initial values reads is what the grammar says.
-use Rattle.litmus_syntax.proofs.Vocabulary.{◌≡◌, ◌∙◌, ◌||◌, ◌++◌, ap, map, not, Bool, ℕ, true, false, List, [], ◌∷◌, refl, sym, subst, Some, None, list_any, map_push, map-append, list_any-append, Tok}
-use Rattle.litmus_syntax.proofs.Vocabulary.{mark_at, begins_with, rest_of, mark_takes, PlaceView, EntryView, ◌▸◌, mark, number, Items, end, item, Seen, same_place, has, same_Some, IsEntryItem}
-use Rattle.litmus_syntax.proofs.Vocabulary.{separator, place_of_entry, NoneTwice, IsInitial, separator_at, place_at, equals_value_at, entry_value_at, entry_at, or-false, not-true, not-false}
+use Rattle.litmus_syntax.proofs.Vocabulary.{◌≡◌, ◌∙◌, ◌||◌, ◌++◌, ap, map, not, Bool, ℕ, true, false, List, [], ◌∷◌, refl, sym, subst, Some, None, list_any, map_push, map-append, list_any-append, Tok, mark_at, begins_with, rest_of, mark_takes, PlaceView}
+use Rattle.litmus_syntax.proofs.Vocabulary.{EntryView, ◌▸◌, mark, number, Items, end, item, Seen, same_place, has, same_Some, IsEntryItem, separator, place_of_entry, NoneTwice, IsInitial, separator_at, place_at, equals_value_at, entry_value_at, entry_at}
+use Rattle.litmus_syntax.proofs.Vocabulary.{or-false, not-true, not-false}
 use Rattle.text_tokens.specs.declared.token.Mark.TheVariants as the
 use Rattle.litmus_syntax.proofs.ItemLaws.{IsRead, Only, SoFar, only_read, none_read, none_behind, one_more, refused, closed}
 use Rattle.litmus_syntax.proofs.{Options.made, Options.next, Options.not_first, Repetitions.fresh, Repetitions.twice, SeenLaws.same_place_is, SeenLaws.same_place_itself}

@@ -1,7 +1,6 @@
 -- What the reader of the header row reads is what the grammar says.
-use Rattle.litmus_syntax.proofs.Vocabulary.{◌≡◌, ◌∙◌, ◌+◌, ℕ, false, List, ◌∷◌, refl, sym, ap, subst, Some, None, bytes_eq, cond_some, bytes_eq-Decides, Tok, Word, Sign, word_at, mark_at, begins_with}
-use Rattle.litmus_syntax.proofs.Vocabulary.{rest_of, word_takes, mark_takes, mark_again, begins_again, column_name, ReadsNone, SyntaxFault, Refused, OutOfMemory, MoreColumns, last, column, IsHeader}
-use Rattle.litmus_syntax.proofs.Vocabulary.{Fails, column_at, fails_for_memory}
+use Rattle.litmus_syntax.proofs.Vocabulary.{◌≡◌, ◌∙◌, ◌+◌, ℕ, false, List, ◌∷◌, refl, sym, ap, subst, Some, None, bytes_eq, cond_some, bytes_eq-Decides, Tok, Word, Sign, word_at, mark_at, begins_with, rest_of, word_takes, mark_takes, mark_again, begins_again}
+use Rattle.litmus_syntax.proofs.Vocabulary.{column_name, ReadsNone, SyntaxFault, Refused, OutOfMemory, MoreColumns, last, column, IsHeader, Fails, column_at, fails_for_memory}
 use Rattle.text_tokens.specs.declared.token.Mark.TheVariants as the
 use Rattle.litmus_syntax.proofs.{Options.next, ItemLaws.Only}
 

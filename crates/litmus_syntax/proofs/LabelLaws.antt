@@ -1,6 +1,6 @@
 -- Labels that stand in their thread already.
-use Rattle.litmus_syntax.proofs.Vocabulary.{◌≡◌, ◌∙◌, ◌+◌, ◌<◌, ◌==◌, ◌&&◌, ℕ, Bool, true, false, append_assoc, List, [], ◌∷◌, ◌++◌, map, length, take, drop, get_or, refl, sym, ap, subst, take_more}
-use Rattle.litmus_syntax.proofs.Vocabulary.{map_push, map-append, take-append-drop, list_any, bytes_eq, Vec, eqb-true, bytes_eq-Decides, label_view, NoneTwice, and_parts as both, eq-eqb}
+use Rattle.litmus_syntax.proofs.Vocabulary.{◌≡◌, ◌∙◌, ◌+◌, ◌<◌, ◌==◌, ◌&&◌, ℕ, Bool, true, false, append_assoc, List, [], ◌∷◌, ◌++◌, map, length, take, drop, get_or, refl, sym, ap, subst, take_more, map_push, map-append, take-append-drop, list_any, bytes_eq}
+use Rattle.litmus_syntax.proofs.Vocabulary.{Vec, eqb-true, bytes_eq-Decides, label_view, NoneTwice, and_parts as both, eq-eqb}
 use Rattle.litmus_syntax.specs.declared.label.LabelAt.{LabelAt}
 use Rattle.litmus_syntax.proofs.Repetitions.{fresh, twice}
 

@@ -1,7 +1,6 @@
 -- What the reader of observed places reads is what the grammar says.
-use Rattle.litmus_syntax.proofs.Vocabulary.{◌≡◌, ◌∙◌, ℕ, true, false, List, [], ◌∷◌, ◌++◌, codes, refl, sym, ap, subst, inl, inr, Some, None, Tok, mark_at, begins_with, rest_of, mark_takes}
-use Rattle.litmus_syntax.proofs.Vocabulary.{mark_again, PlaceView, Location, Register, ◌▸◌, mark, word, begins_with_word, Items, IsPlace, IsObservedItem, IsObserved, place_among_at, keyword_at}
-use Rattle.litmus_syntax.proofs.Vocabulary.{separator_at, observed_begin_at, observed_item_at}
+use Rattle.litmus_syntax.proofs.Vocabulary.{◌≡◌, ◌∙◌, ℕ, true, false, List, [], ◌∷◌, ◌++◌, codes, refl, sym, ap, subst, inl, inr, Some, None, Tok, mark_at, begins_with, rest_of, mark_takes, mark_again, PlaceView, Location, Register, ◌▸◌, mark, word}
+use Rattle.litmus_syntax.proofs.Vocabulary.{begins_with_word, Items, IsPlace, IsObservedItem, IsObserved, place_among_at, keyword_at, separator_at, observed_begin_at, observed_item_at}
 use Rattle.text_tokens.specs.declared.token.Mark.TheVariants as the
 use Rattle.litmus_syntax.proofs.ItemLaws.{IsRead, Only, SoFar, only_read, none_read, one_more, refused, closed}
 use Rattle.litmus_syntax.proofs.Options.{made, next, not_first}

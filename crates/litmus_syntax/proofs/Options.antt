@@ -1,6 +1,6 @@
 -- Steps that may fail.
-use Rattle.litmus_syntax.proofs.Vocabulary.{◌≡◌, Bool, true, false, cond, sym, ap, subst, refl, ◌∙◌, List, Option, Some, None, ◌>>=◌, bind_some, same_Some, Mark, Tok, mark_at, begins_with, rest_of}
-use Rattle.litmus_syntax.proofs.Vocabulary.{mark, mark_again, begins_again, begins_takes, Result, Err, err_from_is_err_and}
+use Rattle.litmus_syntax.proofs.Vocabulary.{◌≡◌, Bool, true, false, cond, sym, ap, subst, refl, ◌∙◌, List, Option, Some, None, ◌>>=◌, bind_some, same_Some, Mark, Tok, mark_at, begins_with, rest_of, mark, mark_again, begins_again, begins_takes, Result, Err}
+use Rattle.litmus_syntax.proofs.Vocabulary.{err_from_is_err_and}
 use Rattle.std.specs.Result.{IsErrAnd}
 
 -- what is there

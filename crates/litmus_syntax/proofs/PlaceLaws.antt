@@ -1,8 +1,7 @@
 -- What the readers of names, places and values read is what the grammar says.
-use Rattle.litmus_syntax.proofs.Vocabulary.{◌≡◌, ◌∙◌, ◌<◌, ℕ, false, not, List, refl, sym, ap, subst, inl, inr, arith, Some, is_some, nat_lt, lt-ltb, kept_out, nat_tests, cond_some, Tok, word_at}
-use Rattle.litmus_syntax.proofs.Vocabulary.{number_at, mark_at, begins_with, Reg, reg_of, is_name, PlaceView, Location, Register, ◌▸◌, mark, number, word_takes, number_takes, mark_takes, number_again}
-use Rattle.litmus_syntax.proofs.Vocabulary.{mark_again, begins_again, register, name, memory, IsPlace, HasThread, name_at, register_at, memory_at, thread_register_at, as_location, place_at}
-use Rattle.litmus_syntax.proofs.Vocabulary.{names_missing, place_among_at, equals_value_at}
+use Rattle.litmus_syntax.proofs.Vocabulary.{◌≡◌, ◌∙◌, ◌<◌, ℕ, false, not, List, refl, sym, ap, subst, inl, inr, arith, Some, is_some, nat_lt, lt-ltb, kept_out, nat_tests, cond_some, Tok, word_at, number_at, mark_at, begins_with, Reg, reg_of, is_name}
+use Rattle.litmus_syntax.proofs.Vocabulary.{PlaceView, Location, Register, ◌▸◌, mark, number, word_takes, number_takes, mark_takes, number_again, mark_again, begins_again, register, name, memory, IsPlace, HasThread, name_at, register_at, memory_at}
+use Rattle.litmus_syntax.proofs.Vocabulary.{thread_register_at, as_location, place_at, names_missing, place_among_at, equals_value_at}
 use Rattle.text_tokens.specs.declared.token.Mark.TheVariants as the
 use Rattle.litmus_syntax.proofs.Options.{made, next, tested}
 

@@ -1,8 +1,7 @@
 -- What the readers of rows read is what the grammar says.
-use Rattle.litmus_syntax.proofs.Vocabulary.{◌≡◌, ◌≢◌, ◌∙◌, ◌||◌, ◌+◌, suc, ℕ, codes, true, false, List, [], ◌∷◌, ◌++◌, length, refl, sym, ap, subst, inl, inr, arith, append_assoc, Option, Some, None}
-use Rattle.litmus_syntax.proofs.Vocabulary.{Result, Ok, Err, bytes_eq, or_cases, append-nil, bytes_eq-Decides, Mark, Tok, Sign, mark_at, begins_with, rest_of, Mnemonic, opens_condition, is_label}
-use Rattle.litmus_syntax.proofs.Vocabulary.{mnemonic_of, CodeView, CellView, mark, Items, end, item, SyntaxFault, Refused, OutOfMemory, mark_takes, begins_takes, same_mark_is, IsLabelMark, ends_cell}
-use Rattle.litmus_syntax.proofs.Vocabulary.{IsContent, IsCell, IsNextCell, IsCells, IsRow, IsRowList, ends_rows, before_ending, cell_labels, labels_from, row_labels, labels_in_rows, ReadsNone, Reads}
+use Rattle.litmus_syntax.proofs.Vocabulary.{◌≡◌, ◌≢◌, ◌∙◌, ◌||◌, ◌+◌, suc, ℕ, codes, true, false, List, [], ◌∷◌, ◌++◌, length, refl, sym, ap, subst, inl, inr, arith, append_assoc, Option, Some, None, Result, Ok, Err, bytes_eq, or_cases, append-nil}
+use Rattle.litmus_syntax.proofs.Vocabulary.{bytes_eq-Decides, Mark, Tok, Sign, mark_at, begins_with, rest_of, Mnemonic, opens_condition, is_label, mnemonic_of, CodeView, CellView, mark, Items, end, item, SyntaxFault, Refused, OutOfMemory, mark_takes}
+use Rattle.litmus_syntax.proofs.Vocabulary.{begins_takes, same_mark_is, IsLabelMark, ends_cell, IsContent, IsCell, IsNextCell, IsCells, IsRow, IsRowList, ends_rows, before_ending, cell_labels, labels_from, row_labels, labels_in_rows, ReadsNone, Reads}
 use Rattle.text_tokens.specs.declared.token.Mark.TheVariants as the
 use Rattle.text_tokens.specs.Marks.{same_mark}
 use Rattle.litmus_syntax.proofs.{Options.not_first, Options.not_taken, ItemLaws.Only, ItemLaws.SoFar, ItemLaws.none_yet, ItemLaws.one_more, ItemLaws.closed, ItemLaws.refused}

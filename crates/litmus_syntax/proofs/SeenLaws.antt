@@ -1,6 +1,6 @@
 -- Places that stand already.
-use Rattle.litmus_syntax.proofs.Vocabulary.{◌≡◌, ◌∙◌, ◌==◌, ◌||◌, ◌&&◌, ℕ, Bool, true, false, cond, List, [], ◌∷◌, ◌++◌, refl, sym, ap, subst, list_any, bytes_eq, Vec, list_any-append, Seen, eqb-true}
-use Rattle.litmus_syntax.proofs.Vocabulary.{bytes_eq-Decides, PlaceView, Location, Register, same_place, has, or-false, and_parts as both, eq-eqb}
+use Rattle.litmus_syntax.proofs.Vocabulary.{◌≡◌, ◌∙◌, ◌==◌, ◌||◌, ◌&&◌, ℕ, Bool, true, false, cond, List, [], ◌∷◌, ◌++◌, refl, sym, ap, subst, list_any, bytes_eq, Vec, list_any-append, Seen, eqb-true, bytes_eq-Decides, PlaceView, Location, Register}
+use Rattle.litmus_syntax.proofs.Vocabulary.{same_place, has, or-false, and_parts as both, eq-eqb}
 use Rattle.tso_program.specs.Instructions as instructions
 use Rattle.tso_program.proofs.Registers.{same_register}
 

@@ -1,8 +1,7 @@
 -- What the reader of signs reads is what the grammar says.
-use Rattle.litmus_syntax.proofs.Vocabulary.{◌≡◌, ◌∙◌, ◌==◌, length, suc, ℕ, true, false, List, [], ◌∷◌, ◌++◌, codes, refl, sym, ap, subst, inl, inr, arith, Some, None, is_some, bytes_eq, eqb-true}
-use Rattle.litmus_syntax.proofs.Vocabulary.{bytes_eq-Decides, Mark, Tok, Word, Sign, toks, reg_of, opens_condition, joins_formula, is_name, PlaceView, Location, Register, SignView, Atom, Const, Not}
-use Rattle.litmus_syntax.proofs.Vocabulary.{And, Or, Open, Close, same_Some, IsPlace, IsSign, the_end, IsSigns, place_among_at, equals_value_at, word_sign, mark_sign, short_sign_at, atom_at, sign_at}
-use Rattle.litmus_syntax.proofs.Vocabulary.{false_from_ne_true as false_from}
+use Rattle.litmus_syntax.proofs.Vocabulary.{◌≡◌, ◌∙◌, ◌==◌, length, suc, ℕ, true, false, List, [], ◌∷◌, ◌++◌, codes, refl, sym, ap, subst, inl, inr, arith, Some, None, is_some, bytes_eq, eqb-true, bytes_eq-Decides, Mark, Tok, Word, Sign, toks, reg_of}
+use Rattle.litmus_syntax.proofs.Vocabulary.{opens_condition, joins_formula, is_name, PlaceView, Location, Register, SignView, Atom, Const, Not, And, Or, Open, Close, same_Some, IsPlace, IsSign, the_end, IsSigns, place_among_at, equals_value_at, word_sign}
+use Rattle.litmus_syntax.proofs.Vocabulary.{mark_sign, short_sign_at, atom_at, sign_at, false_from_ne_true as false_from}
 use Rattle.text_tokens.specs.declared.token.Mark.TheVariants as the
 use Rattle.text_tokens.specs.declared.token.Token.{Token}
 use Rattle.litmus_syntax.proofs.Options.{given, made, next, tested}

@@ -1,6 +1,6 @@
 -- What the readers of keywords and separators read is what the grammar says.
-use Rattle.litmus_syntax.proofs.Vocabulary.{◌≡◌, ◌≢◌, ◌∙◌, ℕ, true, List, ◌∷◌, refl, ap, inl, inr, Some, cond_some, same_Some, bytes_eq-Decides, Mark, Tok, Word, mark_at, begins_with, rest_of, word}
-use Rattle.litmus_syntax.proofs.Vocabulary.{begins_with_word, separator, keyword_at, separator_at, by_test, mark_takes, mark_again, begins_takes, begins_again, begins_other}
+use Rattle.litmus_syntax.proofs.Vocabulary.{◌≡◌, ◌≢◌, ◌∙◌, ℕ, true, List, ◌∷◌, refl, ap, inl, inr, Some, cond_some, same_Some, bytes_eq-Decides, Mark, Tok, Word, mark_at, begins_with, rest_of, word, begins_with_word, separator, keyword_at, separator_at}
+use Rattle.litmus_syntax.proofs.Vocabulary.{by_test, mark_takes, mark_again, begins_takes, begins_again, begins_other}
 use Rattle.text_tokens.specs.declared.token.Mark.TheVariants as the
 
 -- ---- keywords

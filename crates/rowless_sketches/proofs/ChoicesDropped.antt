@@ -1,7 +1,6 @@
 -- What is kept where sources or orders are dropped from the end, and where nothing is chosen yet.
-use Rattle.rowless_sketches.proofs.Vocabulary.{◌≡◌, ◌≢◌, ◌⊎◌, ℕ, List, [], ◌∷◌, ◌++◌, Some, None, IsSome, Option, Contains, get_or, length, take, refl, sym, ap, ◌∙◌, subst, inl, inr, arith}
-use Rattle.rowless_sketches.proofs.Vocabulary.{option_to_list, get_or_append_left, length-append, length_push, AllPairs, Contains-append_left, Listing, Mode, Event, ThreadTrace, mode_in, view_of}
-use Rattle.rowless_sketches.proofs.Vocabulary.{KeepsTraces, next_read, AreOtherTwo}
+use Rattle.rowless_sketches.proofs.Vocabulary.{◌≡◌, ◌≢◌, ◌⊎◌, ℕ, List, [], ◌∷◌, ◌++◌, Some, None, IsSome, Option, Contains, get_or, length, take, refl, sym, ap, ◌∙◌, subst, inl, inr, arith, option_to_list, get_or_append_left, length-append, length_push}
+use Rattle.rowless_sketches.proofs.Vocabulary.{AllPairs, Contains-append_left, Listing, Mode, Event, ThreadTrace, mode_in, view_of, KeepsTraces, next_read, AreOtherTwo}
 use Rattle.std.proofs.Math.Seq.{take-append_seam}
 
 -- what holds of each two of a list holds of each two of its first part

@@ -1,8 +1,7 @@
 -- How a sketch must end, by the ends of its locations and of its threads.
-use Rattle.rowless_sketches.proofs.Vocabulary.{◌≡◌, ◌↔◌, ℕ, ◌<◌, Bool, true, false, not, List, [], Some, None, IsSome, IsTrue, get_or, length, refl, sym, ap, ◌∙◌, inl, inr, arith, Truth}
-use Rattle.rowless_sketches.proofs.Vocabulary.{cases_lt, get_or-map-range_with_len, length-map-range_with_len, same_Some, slice_get_within, Outcome, Shown, Access, Event, Initial, At, Writes}
-use Rattle.rowless_sketches.proofs.Vocabulary.{ProgramSketch, mode_in, trace_in, access_in, IsLawful, HasLater, WritesTo, IsWritten, IsWrittenBy, yes, no, of_some, shown_registers, show_registers}
-use Rattle.rowless_sketches.proofs.Vocabulary.{show, ShowsValues, asked, EndsOnlyAs, final_registers, some_value, IsWhole, MayBeLast, EndsInValues, EndsAs, MustEndAs, none_past}
+use Rattle.rowless_sketches.proofs.Vocabulary.{◌≡◌, ◌↔◌, ℕ, ◌<◌, Bool, true, false, not, List, [], Some, None, IsSome, IsTrue, get_or, length, refl, sym, ap, ◌∙◌, inl, inr, arith, Truth, cases_lt, get_or-map-range_with_len, length-map-range_with_len}
+use Rattle.rowless_sketches.proofs.Vocabulary.{same_Some, slice_get_within, Outcome, Shown, Access, Event, Initial, At, Writes, ProgramSketch, mode_in, trace_in, access_in, IsLawful, HasLater, WritesTo, IsWritten, IsWrittenBy, yes, no, of_some}
+use Rattle.rowless_sketches.proofs.Vocabulary.{shown_registers, show_registers, show, ShowsValues, asked, EndsOnlyAs, final_registers, some_value, IsWhole, MayBeLast, EndsInValues, EndsAs, MustEndAs, none_past}
 use Rattle.tso_program.proofs.Kept.{threads_long, thread_at, threads_by}
 use Rattle.candidate_executions.proofs.{Sketches.MustEnd.each_ends_so, Candidates.LastWrites.outcomes_are_one}
 

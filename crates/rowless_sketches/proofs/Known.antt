@@ -1,9 +1,7 @@
 -- What is known of formulas.
-use Rattle.rowless_sketches.proofs.Vocabulary.{◌≡◌, ◌↔◌, ℕ, ◌<◌, ◌≤◌, Bool, true, false, not, IsTrue, List, [], ◌∷◌, Option, Some, None, IsSome, get_or, length, drop, add-one, drop-cons, ◌+◌, Result}
-use Rattle.rowless_sketches.proofs.Vocabulary.{Ok, Err, IfOk, refl, sym, ap, ◌∙◌, subst, inl, inr, arith, slice_get, option_and_then, slice_get-get_or, slice_get_past, drop_all, Half, AndOf, OrOf}
-use Rattle.rowless_sketches.proofs.Vocabulary.{build, Atom, Tree, IsLawful, ProgramSketch, mode_in, trace_in, final_registers, next_read, IsKnownTruth, Knows, after_node, not-true as not_true}
-use Rattle.rowless_sketches.proofs.Vocabulary.{not_from_false as false_not, ◌==◌, slice_index, Access, Event, At, Initial, access_in, IsLastWith, HasLater, IsInitialWrite, IsOfThread, IsWritten}
-use Rattle.rowless_sketches.proofs.Vocabulary.{MayBe, MayBeBy, yes, no}
+use Rattle.rowless_sketches.proofs.Vocabulary.{◌≡◌, ◌↔◌, ℕ, ◌<◌, ◌≤◌, Bool, true, false, not, IsTrue, List, [], ◌∷◌, Option, Some, None, IsSome, get_or, length, drop, add-one, drop-cons, ◌+◌, Result, Ok, Err, IfOk, refl, sym, ap, ◌∙◌, subst, inl, inr, arith}
+use Rattle.rowless_sketches.proofs.Vocabulary.{slice_get, option_and_then, slice_get-get_or, slice_get_past, drop_all, Half, AndOf, OrOf, build, Atom, Tree, IsLawful, ProgramSketch, mode_in, trace_in, final_registers, next_read, IsKnownTruth, Knows}
+use Rattle.rowless_sketches.proofs.Vocabulary.{after_node, not-true as not_true, not_from_false as false_not, ◌==◌, slice_index, Access, Event, At, Initial, access_in, IsLastWith, HasLater, IsInitialWrite, IsOfThread, IsWritten, MayBe, MayBeBy, yes, no}
 use Rattle.tso_program.specs.{declared.instruction.Reg.Reg, Instructions.number, declared.node.Node.Node, Truth.is_true_at, Truth.is_value}
 use Rattle.tso_program.specs.declared.atom.Atom.TheVariants as atom
 use Rattle.tso_program.specs.declared.node.Node.TheVariants as node

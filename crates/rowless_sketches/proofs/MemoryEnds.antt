@@ -1,7 +1,6 @@
 -- Whether a memory has what is shown of each write that may be the last of its location.
-use Rattle.rowless_sketches.proofs.Vocabulary.{◌≡◌, ◌↔◌, ℕ, ◌<◌, ◌≤◌, Bool, true, false, IsTrue, List, Some, None, length, refl, sym, ap, ◌∙◌, subst, inl, inr, arith, cases_lt, slice_index, same_Some}
-use Rattle.rowless_sketches.proofs.Vocabulary.{Shown, shown_value, Access, Event, Initial, At, Writes, ProgramSketch, trace_in, access_in, IsLawful, HasLater, IsWritten, IsOwn, HasEndOf}
-use Rattle.rowless_sketches.proofs.Vocabulary.{IsInitialWrite, none_past}
+use Rattle.rowless_sketches.proofs.Vocabulary.{◌≡◌, ◌↔◌, ℕ, ◌<◌, ◌≤◌, Bool, true, false, IsTrue, List, Some, None, length, refl, sym, ap, ◌∙◌, subst, inl, inr, arith, cases_lt, slice_index, same_Some, Shown, shown_value, Access, Event, Initial, At, Writes}
+use Rattle.rowless_sketches.proofs.Vocabulary.{ProgramSketch, trace_in, access_in, IsLawful, HasLater, IsWritten, IsOwn, HasEndOf, IsInitialWrite, none_past}
 use Rattle.rowless_sketches.proofs.{Ends.last_by, OwnWrites.same_location, OwnWrites.same_value, OwnWrites.first_free}
 
 some_true : (b : Bool) → ((IsTrue b → ⊥) → ⊥) → IsTrue b

@@ -1,6 +1,5 @@
 -- Writes of accesses, and initial ones.
-use Rattle.rowless_sketches.proofs.Vocabulary.{◌≡◌, ◌⊎◌, ℕ, refl, sym, ap, ◌∙◌, inl, inr, slice_index, same_Some, slice_get_within, Access, Event, Initial, At, Writes, ProgramSketch, access_in}
-use Rattle.rowless_sketches.proofs.Vocabulary.{IsLawful, HasLater, IsOwn}
+use Rattle.rowless_sketches.proofs.Vocabulary.{◌≡◌, ◌⊎◌, ℕ, refl, sym, ap, ◌∙◌, inl, inr, slice_index, same_Some, slice_get_within, Access, Event, Initial, At, Writes, ProgramSketch, access_in, IsLawful, HasLater, IsOwn}
 
 -- one event writes one value to one location
 pub same_location : (s : ProgramSketch) (e : Event) (l m v w : ℕ) → Writes (access_in s) e l v → Writes (access_in s) e m w → l ≡ m

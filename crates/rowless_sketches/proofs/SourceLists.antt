@@ -1,7 +1,6 @@
 -- The sources of a read, listed thread by thread.
-use Rattle.rowless_sketches.proofs.Vocabulary.{◌≡◌, ◌↔◌, ◌⊎◌, ◌+◌, ℕ, ◌≤◌, List, [], Some, slice_get, length, Contains, refl, sym, ap, ◌∙◌, subst, inl, inr, arith, AllPairs, cases_lt, cases_eq}
-use Rattle.rowless_sketches.proofs.Vocabulary.{same_Some, slice_get_within, Listing, Mode, Access, Event, Initial, At, ComesBefore, IsSourceOf, ThreadTrace, ProgramSketch, mode_in, trace_in, view_of}
-use Rattle.rowless_sketches.proofs.Vocabulary.{KeepsTraces, ReadsThisValue, IsRead, trace_accesses, none_in, IsWhole, AreListedTo, AreSources}
+use Rattle.rowless_sketches.proofs.Vocabulary.{◌≡◌, ◌↔◌, ◌⊎◌, ◌+◌, ℕ, ◌≤◌, List, [], Some, slice_get, length, Contains, refl, sym, ap, ◌∙◌, subst, inl, inr, arith, AllPairs, cases_lt, cases_eq, same_Some, slice_get_within, Listing, Mode, Access, Event}
+use Rattle.rowless_sketches.proofs.Vocabulary.{Initial, At, ComesBefore, IsSourceOf, ThreadTrace, ProgramSketch, mode_in, trace_in, view_of, KeepsTraces, ReadsThisValue, IsRead, trace_accesses, none_in, IsWhole, AreListedTo, AreSources}
 
 module _ (s : ProgramSketch) (read : Event) where
   abbrev Gives : Event → Type 0

@@ -1,8 +1,7 @@
 -- A sketch with the values of one thread from another sketch is lawful.
-use Rattle.rowless_sketches.proofs.Vocabulary.{◌≡◌, ◌≢◌, ◌⊎◌, ℕ, ◌<◌, List, [], Some, Contains, slice_get, set, length, sym, ap, ◌∙◌, subst, inl, inr, arith, length-set, same_Some}
-use Rattle.rowless_sketches.proofs.Vocabulary.{unwrap_or-slice_get, cases_eq, get_or-set_same, get_or-set_other, Listing, Mode, machine_of_mode, Event, IsValueOf, ThreadTrace, ProgramSketch, trace_in}
-use Rattle.rowless_sketches.proofs.Vocabulary.{with_chosen, IsThreadTraceOf, with_values, HasValuesAlone, Sketch, given_to, get_set_same, get_set_other, given_lists, view_of, KeepsTraces, IsLawful}
-use Rattle.rowless_sketches.proofs.Vocabulary.{good_of, values_from, none_chosen, new_kept_by, given_set, given_at}
+use Rattle.rowless_sketches.proofs.Vocabulary.{◌≡◌, ◌≢◌, ◌⊎◌, ℕ, ◌<◌, List, [], Some, Contains, slice_get, set, length, sym, ap, ◌∙◌, subst, inl, inr, arith, length-set, same_Some, unwrap_or-slice_get, cases_eq, get_or-set_same, get_or-set_other, Listing}
+use Rattle.rowless_sketches.proofs.Vocabulary.{Mode, machine_of_mode, Event, IsValueOf, ThreadTrace, ProgramSketch, trace_in, with_chosen, IsThreadTraceOf, with_values, HasValuesAlone, Sketch, given_to, get_set_same, get_set_other, given_lists, view_of}
+use Rattle.rowless_sketches.proofs.Vocabulary.{KeepsTraces, IsLawful, good_of, values_from, none_chosen, new_kept_by, given_set, given_at}
 use Rattle.tso_program.specs.Listings.{action, code_of, start_of}
 use Rattle.candidate_executions.specs.Traces.{trace, fenced_gaps}
 use Rattle.known_edges.proofs.GivenUsed.{Good}

@@ -1,12 +1,8 @@
 -- A value that is given and taken back, and reads that lack a source.
-use Rattle.rowless_sketches.proofs.Vocabulary.{◌≡◌, ℕ, ◌<◌, List, [], ◌∷◌, ◌++◌, Option, Some, None, IsSome, slice_get, slice_index, set, length, refl, sym, ap, ◌∙◌, subst, arith, same_Some}
-use Rattle.rowless_sketches.proofs.Vocabulary.{slice_get_within, Listing, Mode, Access, Event, Initial, At, ThreadTrace, ProgramSketch, mode_in, with_chosen, access_in, with_values, view_of}
-use Rattle.rowless_sketches.proofs.Vocabulary.{KeepsTraces, MarkedThread, IsValueMarkOf, LacksSource, EachEnds, traced_access, trace_accesses, no_accesses, given_to, with_value, IsSourceOf}
-use Rattle.rowless_sketches.proofs.Vocabulary.{ends_whole, accesses_same, given_back}
-use Rattle.rowless_sketches.proofs.Vocabulary.{◌≢◌, unwrap_or, given_at, given_lists, given_set, get_set_other, get_set_same, length-map}
+use Rattle.rowless_sketches.proofs.Vocabulary.{◌≡◌, ℕ, ◌<◌, List, [], ◌∷◌, ◌++◌, Option, Some, None, IsSome, slice_get, slice_index, set, length, refl, sym, ap, ◌∙◌, subst, arith, same_Some, slice_get_within, Listing, Mode, Access, Event, Initial, At}
+use Rattle.rowless_sketches.proofs.Vocabulary.{ThreadTrace, ProgramSketch, mode_in, with_chosen, access_in, with_values, view_of, KeepsTraces, MarkedThread, IsValueMarkOf, LacksSource, EachEnds, traced_access, trace_accesses, no_accesses, given_to, with_value}
+use Rattle.rowless_sketches.proofs.Vocabulary.{IsSourceOf, ends_whole, accesses_same, given_back, ◌≢◌, unwrap_or, given_at, given_lists, given_set, get_set_other, get_set_same, length-map, given_in, IsGivenMore}
 use Rattle.rowless_sketches.proofs.ThreadValues.{merged_kept, merged_parts, values_here}
-use Rattle.known_edges.specs.Kept.{given_in}
-use Rattle.thread_traces.specs.TraceTrees.{IsGivenMore}
 
 -- ---- the values that threads are given, where one trace is changed
 

@@ -6,7 +6,6 @@ pub use Rattle.std.proofs.lemmas.List.{drop_all, get_or-set_other, get_or-set_sa
 pub use Rattle.std.proofs.lemmas.List.Elements.{Contains-append_left, Contains-get_or}
 pub use Rattle.std.proofs.lemmas.List.FromFn.{get_or-map-range_with_len, length-map-range_with_len}
 pub use Rattle.std.proofs.lemmas.Option.{none-some, same_Some, slice_get-get_or, slice_get_past, slice_get_read, slice_get_within, unwrap_or-slice_get}
-pub use Rattle.std.specs.Arc.{arc_value}
 pub use Rattle.std.specs.Global.{Vec}
 pub use Rattle.std.specs.List.{AllPairs}
 pub use Rattle.std.specs.Prelude.{IfSome, OnErr, is_some, option_and_then, option_to_list, slice_index, unwrap_or, ◌==◌}
@@ -28,12 +27,13 @@ pub use Rattle.known_edges.specs.Choices.{IsRead, MayFollow, MayRead, ReadsThisV
 pub use Rattle.known_edges.specs.Kept.{AreOtherTwo, IsLawful, KeepsTraces, given_in, given_lists, view_of}
 pub use Rattle.known_edges.specs.Known.{IsInitialWrite}
 pub use Rattle.known_edges.specs.ProgramSketches.{ProgramSketch, access_in, mode_in, trace_in, with_chosen}
-pub use Rattle.known_edges.specs.Rows.{EachEnds, NumberedTraces, traced_access}
+pub use Rattle.known_edges.specs.Rows.{EachEnds, traced_access}
 pub use Rattle.known_edges.specs.Writes.{HasLater, IsLastWith, IsWritten, IsWrittenBy, WritesTo}
 pub use Rattle.known_edges.specs.declared.known_truth.Knowledge.{Knowledge}
 pub use Rattle.thread_traces.proofs.KnownParts.{no, not_by, of_some, yes}
 pub use Rattle.thread_traces.proofs.ValuesGiven.{given_back}
 pub use Rattle.thread_traces.specs.ThreadTraces.{IsThreadTraceOf}
+pub use Rattle.thread_traces.specs.TraceTrees.{IsGivenMore, IsTraceTree}
 pub use Rattle.thread_traces.specs.declared.thread_trace.ThreadTrace.{ThreadTrace}
 pub use Rattle.tso_machine.specs.Modes.{machine_of_mode}
 pub use Rattle.tso_machine.specs.declared.mode.Mode.{Mode}

@@ -1,10 +1,9 @@
 -- A complete sketch without a cycle is a consistent candidate: the sources are those that are chosen, and an order of the accesses
 -- gives the ranks.
-use Rattle.run_maker.proofs.Vocabulary.{◌≡◌, ◌≢◌, ℕ, suc, ◌<◌, ◌≤◌, List, [], Option, Some, IsSome, Contains, map, length, refl, sym, ap, ◌∙◌, subst, append-nil, inl, inr, arith, ◌==◌, slice_index}
-use Rattle.run_maker.proofs.Vocabulary.{slice_get, range_with_len, same_Some, slice_get_within, slice_get-get_or, slice_get_past, cases_lt, Listing, action, start_of, code_of, Access, Event, Initial}
-use Rattle.run_maker.proofs.Vocabulary.{At, Kind, In, HasNoCycle, IsMadeRun, IsKnownOrder, All, Truth, Machine, SequentialMachine, StoreBufferMachine, IsRun, Candidate, Writes, IsCandidate, EndsWith}
-use Rattle.run_maker.proofs.Vocabulary.{HasOutcome, IsAccess, IsOfMode, Relates, Edge, IsAcyclic, IsConsistent, Completes, IsBefore, KnownRelates, KnownFromReads, MayBeLast, EndsInValues, KnownAtom}
-use Rattle.run_maker.proofs.Vocabulary.{EndsAs, IsPair, KnownEdgeOfMode, MustEndAs, given_to, followed_union, labels_along, IsOrder, some_value, ProgramSketch, mode_in, trace_in, access_in}
+use Rattle.run_maker.proofs.Vocabulary.{◌≡◌, ◌≢◌, ℕ, suc, ◌<◌, ◌≤◌, List, [], Option, Some, IsSome, Contains, map, length, refl, sym, ap, ◌∙◌, subst, append-nil, inl, inr, arith, ◌==◌, slice_index, slice_get, range_with_len, same_Some, slice_get_within}
+use Rattle.run_maker.proofs.Vocabulary.{slice_get-get_or, slice_get_past, cases_lt, Listing, action, start_of, code_of, Access, Event, Initial, At, Kind, In, HasNoCycle, IsMadeRun, IsKnownOrder, All, Truth, Machine, SequentialMachine, StoreBufferMachine}
+use Rattle.run_maker.proofs.Vocabulary.{IsRun, Candidate, Writes, IsCandidate, EndsWith, HasOutcome, IsAccess, IsOfMode, Relates, Edge, IsAcyclic, IsConsistent, Completes, IsBefore, KnownRelates, KnownFromReads, MayBeLast, EndsInValues, KnownAtom, EndsAs}
+use Rattle.run_maker.proofs.Vocabulary.{IsPair, KnownEdgeOfMode, MustEndAs, given_to, followed_union, labels_along, IsOrder, some_value, ProgramSketch, mode_in, trace_in, access_in}
 use Rattle.std.proofs.lemmas.List.FromFn.{length-map-range_with_len, get_or-map-range_with_len}
 use Rattle.tso_program.specs.{declared.outcome.Outcome.Outcome, declared.shown.Shown.Shown, Shown.shown_value, Shown.show_memory, Shown.shown_values, Shown.show, Shown.asked, declared.atom.Atom.Atom}
 use Rattle.tso_program.specs.Truth.{truth, is_true_at, is_value}

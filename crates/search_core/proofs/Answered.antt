@@ -1,6 +1,6 @@
 -- The answer is never lost, and the best set of a state that is done is the answer.
-use Rattle.search_core.proofs.Vocabulary.{◌≡◌, ◌⊎◌, true≢false, Option, Some, None, refl, sym, ◌∙◌, subst, inl, inr, IfSome, same_Some, SetOfGaps, Better, IsTheAnswer, Serving, SearchState, IsDone}
-use Rattle.search_core.proofs.Vocabulary.{IsReached, decided, IsLive, IsBestSet, TheAnswerIsNeverLost, NoBetterSetIsLost, ADoneStateHasTheAnswer, the_answer, answer_exists}
+use Rattle.search_core.proofs.Vocabulary.{◌≡◌, ◌⊎◌, true≢false, Option, Some, None, refl, sym, ◌∙◌, subst, inl, inr, IfSome, same_Some, SetOfGaps, Better, IsTheAnswer, Serving, SearchState, IsDone, IsReached, decided, IsLive, IsBestSet, TheAnswerIsNeverLost}
+use Rattle.search_core.proofs.Vocabulary.{NoBetterSetIsLost, ADoneStateHasTheAnswer, the_answer, answer_exists}
 use Rattle.search_core.proofs.{Sets.unserved, Sets.gap_set, Kept.Facts, Kept.facts_of}
 
 pub no_better_is_lost : NoBetterSetIsLost

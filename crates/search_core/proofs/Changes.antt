@@ -1,8 +1,7 @@
 -- What stays where a live node changes its status and nodes are opened after the entries.
-use Rattle.search_core.proofs.Vocabulary.{◌≡◌, ◌≢◌, ◌⊎◌, ◌==◌, ℕ, ◌+◌, ◌<◌, true, List, [], ◌∷◌, ◌++◌, Option, Some, zero, suc, refl, sym, ap, ◌∙◌, subst, inl, inr, length, set, slice_get}
-use Rattle.search_core.proofs.Vocabulary.{slice_get-map, same_Some, none-some, length-set, append-nil, and_parts, SetOfGaps, IsInRegion, Region, Question, Foreign, Serving, IsForeignValue}
-use Rattle.search_core.proofs.Vocabulary.{PassesNoneOf, Entry, Status, Open, Held, Split, Cut, Confirmed, children, entry, is_live, is_live_status, is_open_status, is_held_status, is_held_by}
-use Rattle.search_core.proofs.Vocabulary.{open_entries, IsLive, SearchState, IsHeldAt, IsEvent, takes, gives_back, splits, cuts, confirms, IsSettling, by_split, by_cut, by_confirm, option_map}
+use Rattle.search_core.proofs.Vocabulary.{◌≡◌, ◌≢◌, ◌⊎◌, ◌==◌, ℕ, ◌+◌, ◌<◌, true, List, [], ◌∷◌, ◌++◌, Option, Some, zero, suc, refl, sym, ap, ◌∙◌, subst, inl, inr, length, set, slice_get, slice_get-map, same_Some, none-some, length-set, append-nil, and_parts}
+use Rattle.search_core.proofs.Vocabulary.{SetOfGaps, IsInRegion, Region, Question, Foreign, Serving, IsForeignValue, PassesNoneOf, Entry, Status, Open, Held, Split, Cut, Confirmed, children, entry, is_live, is_live_status, is_open_status, is_held_status}
+use Rattle.search_core.proofs.Vocabulary.{is_held_by, open_entries, IsLive, SearchState, IsHeldAt, IsEvent, takes, gives_back, splits, cuts, confirms, IsSettling, by_split, by_cut, by_confirm, option_map}
 use native.Mathlib.Decide.{ℕ_discrete}
 use Rattle.search_core.proofs.Places.{get_here, get_else, get_longer, get_behind, get_either, get_old, Each}
 

@@ -1,8 +1,7 @@
 -- What holds of each state that a history reaches.
-use Rattle.search_core.proofs.Vocabulary.{◌≡◌, ℕ, zero, suc, ◌<◌, ◌≤◌, true, true≢false, List, [], ◌∷◌, Option, Some, Contains, refl, sym, ◌∙◌, subst, inl, inr, arith, slice_get, nat_cmp, same_Some}
-use Rattle.search_core.proofs.Vocabulary.{none-some, slice_get_within, SetOfGaps, total, Better, all_sets, with_gap, without_gap, child_regions, open_gaps, Region, not_itself, Listing, Question}
-use Rattle.search_core.proofs.Vocabulary.{gap_count, IsWithinLimits, Serves, AreGapsOf, HaveCosts, first_is_here, later_is_here, Serving, Entry, Open, Split, IsCeiling, SearchState, IsStart}
-use Rattle.search_core.proofs.Vocabulary.{IsBeatenBy, IsBestAfter, Confirms, IsEvent, splits, cuts, confirms, IsReached, starts, goes_on, open_exact, new_or_old, in_root, entry, is_closed}
+use Rattle.search_core.proofs.Vocabulary.{◌≡◌, ℕ, zero, suc, ◌<◌, ◌≤◌, true, true≢false, List, [], ◌∷◌, Option, Some, Contains, refl, sym, ◌∙◌, subst, inl, inr, arith, slice_get, nat_cmp, same_Some, none-some, slice_get_within, SetOfGaps, total, Better}
+use Rattle.search_core.proofs.Vocabulary.{all_sets, with_gap, without_gap, child_regions, open_gaps, Region, not_itself, Listing, Question, gap_count, IsWithinLimits, Serves, AreGapsOf, HaveCosts, first_is_here, later_is_here, Serving, Entry, Open, Split}
+use Rattle.search_core.proofs.Vocabulary.{IsCeiling, SearchState, IsStart, IsBeatenBy, IsBestAfter, Confirms, IsEvent, splits, cuts, confirms, IsReached, starts, goes_on, open_exact, new_or_old, in_root, entry, is_closed}
 use Rattle.std.specs.FinSet as set
 use Rattle.search_core.proofs.{Places.Each, Places.each_one, Sets.passed_of, Sets.small_set, Sets.not_better}
 use Rattle.search_core.proofs.Changes.{HasNode, IsSplitAs, SplitsHold, Change, changed, each_changed, follows, node_stays, splits_stay, change_of, best_of, state_after}

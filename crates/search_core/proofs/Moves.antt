@@ -1,8 +1,7 @@
 -- The events of the calls.
-use Rattle.search_core.proofs.Vocabulary.{◌≡◌, ◌⊎◌, ℕ, ◌<◌, List, ◌++◌, Option, Some, None, sym, ap, ◌∙◌, subst, inl, inr, length, slice_get, slice_set, IfSome, MatchOption, slice_get_within, total}
-use Rattle.search_core.proofs.Vocabulary.{Region, Question, AreGapsOf, Foreign, Serving, IsForeignValue, IsServing, PassesNoneOf, Entry, Open, Held, Split, Cut, Confirmed, Reason, children, entry}
-use Rattle.search_core.proofs.Vocabulary.{IsReached, Bound, IsCeiling, IsBound, IsCeilingOf, SearchState, IsOpenAt, IsHeldAt, HoldsNode, HoldsNothing, HoldsOnly, HasNoOpen, open_entries, IsBeaten}
-use Rattle.search_core.proofs.Vocabulary.{IsTooDear, IsBestAfter, TakesNode, GivesBack, Splits, Cuts, Confirms, IsReasonOf, HasBound, CutsMust}
+use Rattle.search_core.proofs.Vocabulary.{◌≡◌, ◌⊎◌, ℕ, ◌<◌, List, ◌++◌, Option, Some, None, sym, ap, ◌∙◌, subst, inl, inr, length, slice_get, slice_set, IfSome, MatchOption, slice_get_within, total, Region, Question, AreGapsOf, Foreign, Serving}
+use Rattle.search_core.proofs.Vocabulary.{IsForeignValue, IsServing, PassesNoneOf, Entry, Open, Held, Split, Cut, Confirmed, Reason, children, entry, IsReached, Bound, IsCeiling, IsBound, IsCeilingOf, SearchState, IsOpenAt, IsHeldAt, HoldsNode, HoldsNothing}
+use Rattle.search_core.proofs.Vocabulary.{HoldsOnly, HasNoOpen, open_entries, IsBeaten, IsTooDear, IsBestAfter, TakesNode, GivesBack, Splits, Cuts, Confirms, IsReasonOf, HasBound, CutsMust}
 use Rattle.search_core.specs.declared.ceiling.Reason.TheVariants as reason
 use Rattle.search_core.proofs.{Kept.facts_of, OneNode.only_node}
 

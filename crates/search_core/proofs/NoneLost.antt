@@ -1,8 +1,7 @@
 -- No set that is better than the best is lost: what each event does to one.
-use Rattle.search_core.proofs.Vocabulary.{◌≡◌, ◌⊎◌, ℕ, ◌<◌, ◌≤◌, true, true≢false, List, Option, Some, None, Contains, refl, sym, ap, ◌∙◌, subst, inl, inr, arith, length, ◌+◌, slice_get, IfSome}
-use Rattle.search_core.proofs.Vocabulary.{slice_get-get_or, SetOfGaps, total, Better, Region, Question, IsWithinLimits, LeavesOutcome, AreGapsOf, Foreign, Serving, IsForeignValue, Entry, Open}
-use Rattle.search_core.proofs.Vocabulary.{children, entry, is_live, IsCeiling, IsBeatenBy, IsBestAfter, IsLive, IsUndercut, open_exact, IsInRegion, HasNoneOf, open_gaps, not_itself, chained}
-use Rattle.search_core.proofs.Vocabulary.{HaveCosts, split_loses_no_set, true_or_false}
+use Rattle.search_core.proofs.Vocabulary.{◌≡◌, ◌⊎◌, ℕ, ◌<◌, ◌≤◌, true, true≢false, List, Option, Some, None, Contains, refl, sym, ap, ◌∙◌, subst, inl, inr, arith, length, ◌+◌, slice_get, IfSome, slice_get-get_or, SetOfGaps, total, Better, Region, Question}
+use Rattle.search_core.proofs.Vocabulary.{IsWithinLimits, LeavesOutcome, AreGapsOf, Foreign, Serving, IsForeignValue, Entry, Open, children, entry, is_live, IsCeiling, IsBeatenBy, IsBestAfter, IsLive, IsUndercut, open_exact, IsInRegion, HasNoneOf, open_gaps}
+use Rattle.search_core.proofs.Vocabulary.{not_itself, chained, HaveCosts, split_loses_no_set, true_or_false}
 use Rattle.std.specs.FinSet as set
 use Rattle.cover_solver.proofs.{BetterSets.still_better, AvoidedGaps.Avoids, AvoidedGaps.leaves_outcome}
 use Rattle.search_core.proofs.{Sets.no_dearer, Sets.small_set, Changes.Change, Changes.changed, Changes.is_there, Changes.moved, Changes.follows}

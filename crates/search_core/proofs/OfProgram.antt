@@ -1,7 +1,7 @@
 -- The gaps of a set that are a program's: they serve where the set does, and cost no more.
-use Rattle.search_core.proofs.Vocabulary.{◌≡◌, ◌↔◌, ℕ, ◌+◌, ◌<◌, ◌≤◌, Bool, true, false, List, [], ◌∷◌, Option, Some, None, Contains, cond, sum_by, refl, sym, ◌∙◌, subst, arith, zero-add}
-use Rattle.search_core.proofs.Vocabulary.{option_map_or, filter, range_with_len, sum_by-cons, length-range_with_len, get_or-range_with_len, MAX_GAPS, Listing, Question, gap_below, alike, gap_count}
-use Rattle.search_core.proofs.Vocabulary.{gap_number, Serves, AreGapsOf, IsStoreBufferOutcome, IsSequentialOutcome, has_any, any_has, of_filter, to_filter, SetOfGaps, numbers_of_set, total, cost_of}
+use Rattle.search_core.proofs.Vocabulary.{◌≡◌, ◌↔◌, ℕ, ◌+◌, ◌<◌, ◌≤◌, Bool, true, false, List, [], ◌∷◌, Option, Some, None, Contains, cond, sum_by, refl, sym, ◌∙◌, subst, arith, zero-add, option_map_or, filter, range_with_len, sum_by-cons}
+use Rattle.search_core.proofs.Vocabulary.{length-range_with_len, get_or-range_with_len, MAX_GAPS, Listing, Question, gap_below, alike, gap_count, gap_number, Serves, AreGapsOf, IsStoreBufferOutcome, IsSequentialOutcome, has_any, any_has, of_filter, to_filter}
+use Rattle.search_core.proofs.Vocabulary.{SetOfGaps, numbers_of_set, total, cost_of}
 use mathlib.Core.Path.{fun_ext}
 use Rattle.std.specs.FinSet as set
 use Rattle.tso_program.specs.Fences as fences

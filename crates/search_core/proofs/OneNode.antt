@@ -1,6 +1,6 @@
 -- A seat holds one node at most.
-use Rattle.search_core.proofs.Vocabulary.{◌≡◌, ◌⊎◌, ℕ, ◌==◌, true, true≢false, List, sym, ◌∙◌, subst, inl, inr, arith, refl, ap, slice_get, same_Some, nat_tests, all_sets, Region, Entry, Open, Held}
-use Rattle.search_core.proofs.Vocabulary.{entry, is_held_by, SearchState, IsHeldAt, HoldsOnly, TakesNode, IsEvent, takes, IsReached, starts, goes_on, ASeatHoldsOneNode}
+use Rattle.search_core.proofs.Vocabulary.{◌≡◌, ◌⊎◌, ℕ, ◌==◌, true, true≢false, List, sym, ◌∙◌, subst, inl, inr, arith, refl, ap, slice_get, same_Some, nat_tests, all_sets, Region, Entry, Open, Held, entry, is_held_by, SearchState, IsHeldAt, HoldsOnly}
+use Rattle.search_core.proofs.Vocabulary.{TakesNode, IsEvent, takes, IsReached, starts, goes_on, ASeatHoldsOneNode}
 use Rattle.search_core.proofs.{Places.each_one, Places.get_here, Changes.Change, Changes.changed, Changes.found, Changes.change_of, Changes.state_after}
 
 -- each seat holds its nodes at one place

@@ -1,7 +1,6 @@
 -- Sets of a program's gaps: their totals, and what serves.
-use Rattle.search_core.proofs.Vocabulary.{◌≡◌, ℕ, ◌<◌, ◌≤◌, Bool, true, false, List, length, refl, sym, ap, ◌∙◌, subst, inl, inr, arith, nat_cmp_total, total, Better, MAX_GAPS, Listing, Question}
-use Rattle.search_core.proofs.Vocabulary.{gap_count, IsWithinLimits, gap_below, Serves, LeavesOutcome, AreGapsOf, HaveCosts, Foreign, IsForeignValue, SetOfGaps, IsGapSet, have_same_gaps}
-use Rattle.search_core.proofs.Vocabulary.{have_same_gaps-same}
+use Rattle.search_core.proofs.Vocabulary.{◌≡◌, ℕ, ◌<◌, ◌≤◌, Bool, true, false, List, length, refl, sym, ap, ◌∙◌, subst, inl, inr, arith, nat_cmp_total, total, Better, MAX_GAPS, Listing, Question, gap_count, IsWithinLimits, gap_below, Serves, LeavesOutcome}
+use Rattle.search_core.proofs.Vocabulary.{AreGapsOf, HaveCosts, Foreign, IsForeignValue, SetOfGaps, IsGapSet, have_same_gaps, have_same_gaps-same}
 use Rattle.std.specs.FinSet as set
 use Rattle.gap_sets.proofs.Subsets.{cheaper}
 

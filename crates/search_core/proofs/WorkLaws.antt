@@ -1,6 +1,6 @@
 -- What each event leaves of the work.
-use Rattle.search_core.proofs.Vocabulary.{◌≡◌, ℕ, ◌+◌, ◌<◌, sum_by, subst, sym, arith, one-le-pow, children, SearchState, IsEvent, takes, gives_back, splits, cuts, confirms, work_left, work_of}
-use Rattle.search_core.proofs.Vocabulary.{live_work, undecided, by_split, by_cut, by_confirm, SettlingLessensTheWork, TakingLeavesTheWork, GivingBackLeavesTheWork}
+use Rattle.search_core.proofs.Vocabulary.{◌≡◌, ℕ, ◌+◌, ◌<◌, sum_by, subst, sym, arith, one-le-pow, children, SearchState, IsEvent, takes, gives_back, splits, cuts, confirms, work_left, work_of, live_work, undecided, by_split, by_cut, by_confirm}
+use Rattle.search_core.proofs.Vocabulary.{SettlingLessensTheWork, TakingLeavesTheWork, GivingBackLeavesTheWork}
 use Rattle.search_core.proofs.{Kept.facts_of, Sets.small_set, Changes.change_of, Changes.state_after, Working.change_work, Working.split_work}
 
 module _ (s after : SearchState) (seat : ℕ) where

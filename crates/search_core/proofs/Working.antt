@@ -1,10 +1,9 @@
 -- The children of a node decide more gaps, and all their sets together are fewer.
-use Rattle.search_core.proofs.Vocabulary.{◌≡◌, ◌≢◌, ℕ, zero, suc, ◌+◌, ◌*◌, ◌^◌, ◌<◌, ◌≤◌, Bool, true, false, ◌&&◌, not, List, [], ◌∷◌, Contains, sum_by, refl, sym, ap, ◌∙◌, if◌then◌else◌, subst, inl}
-use Rattle.search_core.proofs.Vocabulary.{inr, arith, length, get_or, set as set_at, and_parts, and_from, and_left, and_right, or_left, or_right, not-true, not_from_true, not_from_false}
-use Rattle.search_core.proofs.Vocabulary.{false_from_ne_true, true≢false, nat_cmp, eq_by_cmp, same_Some, none-some, slice_get_within, get_or_from_slice_get, AllPairs, one-le-pow, two-pow-succ}
-use Rattle.search_core.proofs.Vocabulary.{sum_by-cons, sum_by-le, length-filter, count_by-le-length, sum_by-set, sum_by-append, filter, range_with_len, nat_cmp_total, nat_tests, length-range_with_len}
-use Rattle.search_core.proofs.Vocabulary.{SetOfGaps, IsGapSet, with_gap, without_gap, child_regions, open_gaps, Region, MAX_GAPS, new_or_old, true_or_false, first_is_here, later_is_here, Entry, Open}
-use Rattle.search_core.proofs.Vocabulary.{children, entry, open_entries, is_undecided, undecided, work_of, live_work, work_left, open_exact, open_ascending}
+use Rattle.search_core.proofs.Vocabulary.{◌≡◌, ◌≢◌, ℕ, zero, suc, ◌+◌, ◌*◌, ◌^◌, ◌<◌, ◌≤◌, Bool, true, false, ◌&&◌, not, List, [], ◌∷◌, Contains, sum_by, refl, sym, ap, ◌∙◌, if◌then◌else◌, subst, inl, inr, arith, length, get_or, set as set_at, and_parts}
+use Rattle.search_core.proofs.Vocabulary.{and_from, and_left, and_right, or_left, or_right, not-true, not_from_true, not_from_false, false_from_ne_true, true≢false, nat_cmp, eq_by_cmp, same_Some, none-some, slice_get_within, get_or_from_slice_get, AllPairs}
+use Rattle.search_core.proofs.Vocabulary.{one-le-pow, two-pow-succ, sum_by-cons, sum_by-le, length-filter, count_by-le-length, sum_by-set, sum_by-append, filter, range_with_len, nat_cmp_total, nat_tests, length-range_with_len, SetOfGaps, IsGapSet, with_gap}
+use Rattle.search_core.proofs.Vocabulary.{without_gap, child_regions, open_gaps, Region, MAX_GAPS, new_or_old, true_or_false, first_is_here, later_is_here, Entry, Open, children, entry, open_entries, is_undecided, undecided, work_of, live_work, work_left}
+use Rattle.search_core.proofs.Vocabulary.{open_exact, open_ascending}
 use Rattle.std.specs.FinSet as set
 use Rattle.std.proofs.lemmas.List.Kept.{AllPairs-from_increasing}
 use Rattle.std.proofs.Math.Pow.{pow_mono}

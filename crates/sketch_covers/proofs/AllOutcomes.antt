@@ -1,6 +1,5 @@
 -- The outcomes that a search has found are all in one mode.
-use Rattle.sketch_covers.proofs.Vocabulary.{◌≡◌, List, Contains, Bor, Box, Global, refl, sym, ◌∙◌, subst, Outcome, Machine, machine_of_mode, Question, Sketch, MadeRun, Stop, OutcomeIndex}
-use Rattle.sketch_covers.proofs.Vocabulary.{KnownOutcomes, Closed, Open, AreRunsOf, HasRunOfEach, StaysOf, StopIs}
+use Rattle.sketch_covers.proofs.Vocabulary.{◌≡◌, List, Contains, Bor, Box, Global, refl, sym, ◌∙◌, subst, Outcome, Machine, machine_of_mode, Question, Sketch, MadeRun, Stop, OutcomeIndex, KnownOutcomes, Closed, Open, AreRunsOf, HasRunOfEach, StaysOf, StopIs}
 use Rattle.tso_machine.specs.declared.mode.Mode as own
 use Rattle.sketch_covers.specs.declared.stop.Stop.TheVariants as stop
 

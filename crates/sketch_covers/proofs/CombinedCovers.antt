@@ -1,14 +1,12 @@
 -- Cover trees over the values of one thread after those of the others.
 use Rattle.std.proofs.Common.{◌≡◌, ◌≢◌, ℕ, zero, suc, ◌<◌, List, [], ◌∷◌, ◌++◌, get_or, Option, Some, None, slice_get, unwrap_or, set, length, sym, ap, ◌∙◌, subst, arith}
-use Rattle.sketch_covers.proofs.Vocabulary.{IfSome, length-map, Listing, Outcome, Shown, Mode, given_to, ProgramSketch, nothing_chosen, with_chosen, IsLawful, with_values, HasValuesAlone}
-use Rattle.sketch_covers.proofs.Vocabulary.{values_elsewhere, Cover, Choice, AreValueChoices, sketch_with, LastThread, Tally, AreAlike, IsRest, with_root, IsCoverAt, IsCoverAfter, Traces}
-use Rattle.sketch_covers.proofs.Vocabulary.{traces, root, none_given, values_may, AreTracesOf, AreTracesFor, IsLast, IsBeforeLast, IsBeforeNext, IsOfOther, AreOfOthers}
-use Rattle.sketch_covers.proofs.Vocabulary.{IsTallyOf, IsNeither, get_mapped}
-use Rattle.sketch_covers.proofs.Nodes.{cover_next}
+use Rattle.sketch_covers.proofs.Vocabulary.{IfSome, length-map, Listing, Outcome, Shown, Mode, given_to, ProgramSketch, nothing_chosen, with_chosen, IsLawful, with_values, HasValuesAlone, values_elsewhere, Cover, Choice, AreValueChoices, sketch_with}
+use Rattle.sketch_covers.proofs.Vocabulary.{LastThread, Tally, AreAlike, IsRest, with_root, IsCoverAt, IsCoverAfter, Traces, traces, root, none_given, values_may, AreTracesOf, AreTracesFor, IsLast, IsBeforeLast, IsBeforeNext, IsOfOther, AreOfOthers, IsTallyOf}
+use Rattle.sketch_covers.proofs.Vocabulary.{IsNeither, get_mapped}
+use Rattle.sketch_covers.proofs.{Nodes.cover_next, CombinedSketches.lawful_merged, CombinedSketches.values_merged, CombinedSketches.one_more_value}
 use Rattle.candidate_executions.specs.Sketches.{Sketch}
 use Rattle.cover_judge.specs.declared.choice.Choice.TheVariants as choice
 use Rattle.branching.specs.declared.plan.ThreadTraces.{ThreadTraces}
-use Rattle.sketch_covers.proofs.CombinedSketches.{lawful_merged, values_merged, one_more_value}
 
 -- each choice gives the thread one of the values
 value_at : (u : ProgramSketch) (t : ℕ) (choices : List Choice) (are : AreValueChoices u t choices) (i : ℕ) (d : Choice) → i < length choices → get_or choices i d ≡ choice.Value t (get_or are.values i 0)

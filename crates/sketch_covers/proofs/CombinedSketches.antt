@@ -1,10 +1,9 @@
 -- Sketches in which one thread takes its values from another sketch: what they are, and which read of them has no source.
 use Rattle.std.proofs.Common.{◌≡◌, ◌≢◌, ◌⊎◌, ◌↔◌, ℕ, ◌<◌, List, [], ◌∷◌, ◌++◌, Option, Some, None, IsSome, Contains, slice_get, slice_index, set, length, refl, sym, ap, ◌∙◌, subst, inl, inr, arith}
-use Rattle.sketch_covers.proofs.Vocabulary.{cases_eq, same_Some, Listing, Outcome, Shown, action, code_of, start_of, Event, Writes, IsValueOf, machine_of_mode, Mode, ProgramSketch, mode_in, trace_in}
-use Rattle.sketch_covers.proofs.Vocabulary.{access_in, with_chosen, IsLawful, HaveAllRegisters, with_values, HasValuesAlone, choices_few, AccessId, Source, NoCover, event_of, Choice, ReadValue}
-use Rattle.sketch_covers.proofs.Vocabulary.{Tally, AreAlike, IsCoverAt, Initial, Access as At, Trace, trace, fenced_gaps, given_to, with_value, read_by, next_read}
-use Rattle.sketch_covers.proofs.Vocabulary.{IsSourceOf, IsWhole, none_in, set-set, values_here, values_elsewhere, merged_lawful, values_alone, IsValueOpen, AreValueChoices, AreSourceChoices}
-use Rattle.sketch_covers.proofs.Vocabulary.{source_is_open, HasBit, IsTallyOf, IsTalliedRead, IsThisThread, IsOther, LacksWriteOfBoth}
+use Rattle.sketch_covers.proofs.Vocabulary.{cases_eq, same_Some, Listing, Outcome, Shown, action, code_of, start_of, Event, Writes, IsValueOf, machine_of_mode, Mode, ProgramSketch, mode_in, trace_in, access_in, with_chosen, IsLawful, HaveAllRegisters}
+use Rattle.sketch_covers.proofs.Vocabulary.{with_values, HasValuesAlone, choices_few, AccessId, Source, NoCover, event_of, Choice, ReadValue, Tally, AreAlike, IsCoverAt, Initial, Access as At, Trace, trace, fenced_gaps, given_to, with_value, read_by}
+use Rattle.sketch_covers.proofs.Vocabulary.{next_read, IsSourceOf, IsWhole, none_in, set-set, values_here, values_elsewhere, merged_lawful, values_alone, IsValueOpen, AreValueChoices, AreSourceChoices, source_is_open, HasBit, IsTallyOf, IsTalliedRead}
+use Rattle.sketch_covers.proofs.Vocabulary.{IsThisThread, IsOther, LacksWriteOfBoth}
 use Rattle.sketch_covers.proofs.Nodes.{covers_none, node_cover}
 use Rattle.candidate_executions.specs.declared.access.Access.{Access}
 use Rattle.branching.specs.declared.open_choice.OpenChoice.TheVariants as left

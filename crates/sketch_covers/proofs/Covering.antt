@@ -1,10 +1,8 @@
 -- Trees for the choices at a node, put after other nodes one by one.
-use Rattle.sketch_covers.proofs.Vocabulary.{◌≡◌, ℕ, ◌+◌, ◌<◌, ◌≤◌, List, [], ◌∷◌, ◌++◌, length, take, drop, get_or, refl, ap, sym, ◌∙◌, subst, arith, append_assoc, append-nil, length-append, take_all}
-use Rattle.sketch_covers.proofs.Vocabulary.{Result, Ok, Err, IfErr, IsErrAnd, remove_range, Outcome, Shown, ProgramSketch, IsLawful, HaveAllRegisters, choice_count, most_choices, AccessId, Node}
-use Rattle.sketch_covers.proofs.Vocabulary.{Cover, Value, Source, Order, Cycle, Known, Choice, OpenChoice, Stop, AreChoicesOf, IsOpen, IsCoverAt, IsCoverAfter, AreCoversAfter, tree_over, node_over}
-use Rattle.sketch_covers.proofs.Vocabulary.{KeepsNumbers, spell, spell_all, tree_of, IsTree, covers_count, cycle_some, known_some, is_tree, tree_again, spelled_append, child_instead, Pushes, Begins, BeginsIfNew}
+use Rattle.sketch_covers.proofs.Vocabulary.{◌≡◌, ℕ, ◌+◌, ◌<◌, ◌≤◌, List, [], ◌∷◌, ◌++◌, length, take, drop, get_or, refl, ap, sym, ◌∙◌, subst, arith, append_assoc, append-nil, length-append, take_all, Result, Ok, Err, IfErr, IsErrAnd, remove_range, Outcome}
+use Rattle.sketch_covers.proofs.Vocabulary.{Shown, ProgramSketch, IsLawful, HaveAllRegisters, choice_count, most_choices, AccessId, Node, Cover, Value, Source, Order, Cycle, Known, Choice, OpenChoice, Stop, AreChoicesOf, IsOpen, IsCoverAt, IsCoverAfter}
+use Rattle.sketch_covers.proofs.Vocabulary.{AreCoversAfter, tree_over, node_over, KeepsNumbers, spell, spell_all, tree_of, IsTree, covers_count, cycle_some, known_some, is_tree, tree_again, spelled_append, child_instead, Pushes, Begins, BeginsIfNew, listed}
 use Rattle.cert_forest.specs.Node.TheVariants as node
-use Rattle.cert_forest.proofs.NodeLaws.{listed}
 use Rattle.branching.specs.declared.open_choice.OpenChoice.TheVariants as left
 use Rattle.sketch_covers.specs.declared.stop.Stop.TheVariants as stop
 use Rattle.sketch_covers.proofs.{Growing.covers_still, Nodes.as_many_choices, Nodes.covers_more, Nodes.covers_none, Nodes.node_cover}

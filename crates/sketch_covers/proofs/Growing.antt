@@ -1,8 +1,7 @@
 -- Lists of outcomes that grow, and the trees over them.
-use Rattle.sketch_covers.proofs.Vocabulary.{◌≡◌, List, [], ◌∷◌, map, refl, sym, subst, Result, Ok, Err, IfErr, IsErrAnd, Outcome, Shown, Question, asked, Machine, machine_of_mode, ProgramSketch}
-use Rattle.sketch_covers.proofs.Vocabulary.{mode_in, with_chosen, event_of, IsValidCover, AreValidCovers, Choice, sketch_with, moved, Stop, OutcomeIndex, KnownOutcomes, Closed, Open, AreCoversAfter}
-use Rattle.sketch_covers.proofs.Vocabulary.{KeepsNumbers, IsInOrder, AreRunsOf, Cover, Value, Source, Order, Cycle, Known, Covers, NoCover, MoreCovers, covers_of, AreInOrder, StaysOf, StopIs, Grows}
-use Rattle.sketch_covers.proofs.Vocabulary.{OnTold}
+use Rattle.sketch_covers.proofs.Vocabulary.{◌≡◌, List, [], ◌∷◌, map, refl, sym, subst, Result, Ok, Err, IfErr, IsErrAnd, Outcome, Shown, Question, asked, Machine, machine_of_mode, ProgramSketch, mode_in, with_chosen, event_of, IsValidCover, AreValidCovers}
+use Rattle.sketch_covers.proofs.Vocabulary.{Choice, sketch_with, moved, Stop, OutcomeIndex, KnownOutcomes, Closed, Open, AreCoversAfter, KeepsNumbers, IsInOrder, AreRunsOf, Cover, Value, Source, Order, Cycle, Known, Covers, NoCover, MoreCovers, covers_of}
+use Rattle.sketch_covers.proofs.Vocabulary.{AreInOrder, StaysOf, StopIs, Grows, OnTold}
 use Rattle.tso_machine.specs.declared.mode.Mode as own
 use Rattle.candidate_executions.specs.Sketches.{Sketch, with_value, with_source, with_pair}
 use Rattle.sketch_covers.specs.declared.stop.Stop.TheVariants as stop

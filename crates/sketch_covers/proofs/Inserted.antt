@@ -1,13 +1,9 @@
 -- What is put into a list at its place.
-use Rattle.sketch_covers.proofs.Vocabulary.{◌≡◌, ℕ, zero, suc, ◌+◌, ◌-◌, ◌<◌, List, [], ◌∷◌, Some, Result, Ok, Err, IfOk, IfErr, Contains, slice_get, get_or, length, sym, ap, ◌∙◌, subst, inl, inr}
-use Rattle.sketch_covers.proofs.Vocabulary.{arith, length-insert, get_or-insert_below, get_or-insert_at, get_or-insert_above, AllZip, insert, cases_lt, slice_get-get_or, Outcome, Ascend, BelongsAt}
-use Rattle.sketch_covers.proofs.Vocabulary.{Keeps}
+use Rattle.sketch_covers.proofs.Vocabulary.{◌≡◌, ℕ, zero, suc, ◌+◌, ◌-◌, ◌<◌, List, [], ◌∷◌, Some, Result, Ok, Err, IfOk, IfErr, Contains, slice_get, get_or, length, sym, ap, ◌∙◌, subst, inl, inr, arith, length-insert, get_or-insert_below, get_or-insert_at}
+use Rattle.sketch_covers.proofs.Vocabulary.{get_or-insert_above, AllZip, insert, cases_lt, slice_get-get_or, Outcome, Ascend, BelongsAt, Keeps, ordering_index, ordering_reverse, is_lt, Less, Equal, Greater, outcome_cmp, outcomes_ordered, exact_outcomes}
+use Rattle.sketch_covers.proofs.Vocabulary.{equal_itself}
 use Rattle.std.specs.List.Sorted.{IsSorted, IsSearchInRange, IsBinarySearchResult, IsNonDecreasingBy}
-use Rattle.std.specs.Ordering.{ordering_index, ordering_reverse, is_lt}
-use Rattle.std.specs.declared.cmp.Ordering.TheVariants.{Less, Equal, Greater}
 use Rattle.std.proofs.lemmas.List.Sorted.{searchable_from_sorted}
-use Rattle.tso_program.specs.Ordered.{outcome_cmp}
-use Rattle.tso_program.proofs.OutcomesOrdered.{outcomes_ordered, exact_outcomes, equal_itself}
 
 -- a list that ascends is sorted
 sorted_of : (os : List Outcome) → Ascend os → IsSorted outcome_cmp os

@@ -1,7 +1,6 @@
 -- Leaves: a sketch that must end as an outcome of the list, or has a cycle.
-use Rattle.sketch_covers.proofs.Vocabulary.{◌≡◌, ℕ, Bool, true, false, List, Option, Some, None, Contains, map, refl, sym, subst, MatchOption, Outcome, Shown, asked, Event, Kind, ProgramSketch}
-use Rattle.sketch_covers.proofs.Vocabulary.{mode_in, MustEndSo, IsSimpleCycle, AreFewAccesses, AccessId, Node, Cycle, event_of, MustEndAsNumber, IsEndNotListed, IsLeafAt, HasNumber, IsKnownCycle}
-use Rattle.sketch_covers.proofs.Vocabulary.{Pushes, IfKnown}
+use Rattle.sketch_covers.proofs.Vocabulary.{◌≡◌, ℕ, Bool, true, false, List, Option, Some, None, Contains, map, refl, sym, subst, MatchOption, Outcome, Shown, asked, Event, Kind, ProgramSketch, mode_in, MustEndSo, IsSimpleCycle, AreFewAccesses, AccessId, Node}
+use Rattle.sketch_covers.proofs.Vocabulary.{Cycle, event_of, MustEndAsNumber, IsEndNotListed, IsLeafAt, HasNumber, IsKnownCycle, Pushes, IfKnown}
 use Rattle.sketch_covers.proofs.Neat.{neat_cycle}
 
 -- the leaf of a cycle

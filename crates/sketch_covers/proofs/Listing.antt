@@ -1,6 +1,6 @@
 -- Lists of outcomes that are all that a machine allows.
-use Rattle.sketch_covers.proofs.Vocabulary.{◌≡◌, ◌↔◌, ℕ, zero, suc, List, [], ◌∷◌, Some, Contains, slice_get, refl, ap, ◌∙◌, subst, AllZip, same_Some, slice_get-get_or, Outcome, Question, Label}
-use Rattle.sketch_covers.proofs.Vocabulary.{Machine, Cover, AreRunsOf, IsShownRun, AllowsShown, empty_sketch, IsValidCover, IsCovered}
+use Rattle.sketch_covers.proofs.Vocabulary.{◌≡◌, ◌↔◌, ℕ, zero, suc, List, [], ◌∷◌, Some, Contains, slice_get, refl, ap, ◌∙◌, subst, AllZip, same_Some, slice_get-get_or, Outcome, Question, Label, Machine, Cover, AreRunsOf, IsShownRun, AllowsShown, empty_sketch}
+use Rattle.sketch_covers.proofs.Vocabulary.{IsValidCover, IsCovered}
 use Rattle.tso_program.specs.Limits.{JumpForward}
 use Rattle.candidate_executions.proofs.Sketches.Choices.{empty_is_a_sketch}
 use Rattle.cover_judge.proofs.{CoveredSketches.valid_covers, ListedOutcomes.listed}

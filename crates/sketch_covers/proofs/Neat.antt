@@ -1,6 +1,6 @@
 -- Leaves within the limits of a certificate.
-use Rattle.sketch_covers.proofs.Vocabulary.{◌≡◌, ◌≢◌, ℕ, suc, ◌<◌, List, [], ◌∷◌, Contains, get_or, length, map, refl, sym, ap, ◌∙◌, subst, arith, AllPairs, AllByRecursion, ◌^◌, length-map, Event}
-use Rattle.sketch_covers.proofs.Vocabulary.{Kind, ProgramSketch, IsSimpleCycle, AccessId, Cycle, Known, event_of, IsNeat, HasSmallNumbers, AreFewAccesses, first_is_here, later_is_here}
+use Rattle.sketch_covers.proofs.Vocabulary.{◌≡◌, ◌≢◌, ℕ, suc, ◌<◌, List, [], ◌∷◌, Contains, get_or, length, map, refl, sym, ap, ◌∙◌, subst, arith, AllPairs, AllByRecursion, ◌^◌, length-map, Event, Kind, ProgramSketch, IsSimpleCycle, AccessId, Cycle, Known}
+use Rattle.sketch_covers.proofs.Vocabulary.{event_of, IsNeat, HasSmallNumbers, AreFewAccesses, first_is_here, later_is_here}
 use Rattle.cert_forest.specs.Limits as limits
 
 small_one : (a : AccessId) → HasSmallNumbers (event_of a) → limits.IsAccessId a

@@ -1,19 +1,16 @@
 -- Trees made of the trees of children.
-use Rattle.sketch_covers.proofs.Vocabulary.{◌≡◌, ℕ, suc, ◌+◌, ◌<◌, ◌≤◌, List, [], ◌∷◌, ◌++◌, get_or, length, map, take, refl, sym, ap, ◌∙◌, subst, arith, take_more, map-append, length-map, ◌^◌}
-use Rattle.sketch_covers.proofs.Vocabulary.{Listing, Outcome, Shown, asked, machine_of_mode, IsLawful, choice_count, most_choices, HaveAllRegisters, AccessId, Cover, Value, Source, Order, covers_of}
-use Rattle.sketch_covers.proofs.Vocabulary.{event_of, IsValidCover, AreValidCovers, Choice, moved, OpenChoice, IsOpen, AreChoicesOf, ProgramSketch, mode_in, nothing_chosen, with_chosen, covers_count}
-use Rattle.sketch_covers.proofs.Vocabulary.{sketch_with, MayChoose, IsValueOpen, AreValueChoices, AreSourceChoices, IsValidAt, IsNeat, AreNeat, IsLeafAt, IsCoverAt, IsCoverAfter, AreCoversAfter}
-use Rattle.sketch_covers.proofs.Vocabulary.{IsWholeCover, tree_over, counted_after}
+use Rattle.sketch_covers.proofs.Vocabulary.{◌≡◌, ℕ, suc, ◌+◌, ◌<◌, ◌≤◌, List, [], ◌∷◌, ◌++◌, get_or, length, map, take, refl, sym, ap, ◌∙◌, subst, arith, take_more, map-append, length-map, ◌^◌, Listing, Outcome, Shown, asked, machine_of_mode, IsLawful}
+use Rattle.sketch_covers.proofs.Vocabulary.{choice_count, most_choices, HaveAllRegisters, AccessId, Cover, Value, Source, Order, covers_of, event_of, IsValidCover, AreValidCovers, Choice, moved, OpenChoice, IsOpen, AreChoicesOf, ProgramSketch, mode_in}
+use Rattle.sketch_covers.proofs.Vocabulary.{nothing_chosen, with_chosen, covers_count, sketch_with, MayChoose, IsValueOpen, AreValueChoices, AreSourceChoices, IsValidAt, IsNeat, AreNeat, IsLeafAt, IsCoverAt, IsCoverAfter, AreCoversAfter, IsWholeCover}
+use Rattle.sketch_covers.proofs.Vocabulary.{tree_over, counted_after, reads_there, no_order}
 use Rattle.std.proofs.lemmas.Simd.{map-map}
 use Rattle.candidate_executions.specs.{Sketches.Sketch, Sketches.given_to, Candidates.IsAccess}
-use Rattle.candidate_executions.proofs.Sketches.GivenValues.{reads_there}
 use Rattle.tso_machine.specs.declared.mode.Mode as own
 use Rattle.sketches.specs.Choices.{MayFollow}
 use Rattle.sketches.proofs.{ChoicesCounted.event_small, BranchesCounted.few_values, BranchesCounted.few_sources, Completeness.read_there, Completeness.first_there, Completeness.second_there}
 use Rattle.cert_forest.specs.Limits as limits
 use Rattle.cert_forest.specs.Limits.{cover_depth, covers_depth}
 use Rattle.cover_judge.specs.declared.choice.Choice.TheVariants as choice
-use Rattle.cover_judge.proofs.ChoicesJudged.{no_order}
 use Rattle.branching.specs.declared.open_choice.OpenChoice.TheVariants as left
 
 -- as many trees as sketches

@@ -1,13 +1,9 @@
 -- Outcomes by their numbers in a list that grows at its end.
 use Rattle.cert_forest.specs.NodeConstants.{NEAR_RUNS}
-use Rattle.sketch_covers.proofs.Vocabulary.{lit<, ◌≡◌, ℕ, zero, suc, ◌+◌, ◌<◌, ◌≤◌, List, [], ◌∷◌, ◌++◌, Some, Contains, slice_get, get_or, length, refl, sym, ap, ◌∙◌, subst, inl, inr, arith}
-use Rattle.sketch_covers.proofs.Vocabulary.{length-append, get_or_push, same_Some, slice_get_read, slice_get_within, slice_get-get_or, get_or_from_slice_get, unwrap_or-slice_get, ◌^◌, AllZip, insert, cases_lt}
-use Rattle.sketch_covers.proofs.Vocabulary.{length-insert, Option, Outcome, Label, OutcomeIndex, HasNumber, KeepsNumbers, IsInOrder, ascending, numbered, place_in, with_first, Ascend, BelongsAt, none_here, first_or_later}
-use Rattle.std.proofs.Math.ListN.{get_or-append}
-use Rattle.std.proofs.lemmas.List.FromFn.{get_or-enumerate_from, length-enumerate_from}
-use Rattle.std.specs.List.{enumerate_from}
+use Rattle.sketch_covers.proofs.Vocabulary.{lit<, ◌≡◌, ℕ, zero, suc, ◌+◌, ◌<◌, ◌≤◌, List, [], ◌∷◌, ◌++◌, Some, Contains, slice_get, get_or, length, refl, sym, ap, ◌∙◌, subst, inl, inr, arith, length-append, get_or_push, same_Some, slice_get_read}
+use Rattle.sketch_covers.proofs.Vocabulary.{slice_get_within, slice_get-get_or, get_or_from_slice_get, unwrap_or-slice_get, ◌^◌, AllZip, insert, cases_lt, length-insert, Option, Outcome, Label, OutcomeIndex, HasNumber, KeepsNumbers, IsInOrder, ascending}
+use Rattle.sketch_covers.proofs.Vocabulary.{numbered, place_in, with_first, Ascend, BelongsAt, none_here, first_or_later, get_or-append, get_or-enumerate_from, length-enumerate_from, enumerate_from, AllZip-long}
 use Rattle.std.proofs.lemmas.List.Elements.{Contains-append_cases}
-use Rattle.std.proofs.lemmas.Slice.Zip.{AllZip-long}
 use Rattle.sketch_covers.proofs.Inserted.{ascend_insert, has_insert, keeps_insert, zip_insert, not_there}
 
 pub push_long : {A : Type 0} (xs : List A) (x : A) → length (xs ++ x ∷ []) ≡ length xs + 1

@@ -1,7 +1,6 @@
 -- A list that is open for a sketch's own mode has the outcome as which the sketch must end.
-use Rattle.sketch_covers.proofs.Vocabulary.{Box, Global, ◌≡◌, ℕ, List, Option, None, Some, IfSome, Contains, subst, slice_get_within, get_or_from_slice_get, Outcome, Shown, asked, Listing}
-use Rattle.sketch_covers.proofs.Vocabulary.{machine_of_mode, IsShownRun, ProgramSketch, mode_in, Sketch, MadeRun, KnownOutcomes, Closed, Open, IsEndNotListed, HasNumber, IsShownRunOf, by_number}
-use Rattle.sketch_covers.proofs.Vocabulary.{StopIs, HasOwnEnd}
+use Rattle.sketch_covers.proofs.Vocabulary.{Box, Global, ◌≡◌, ℕ, List, Option, None, Some, IfSome, Contains, subst, slice_get_within, get_or_from_slice_get, Outcome, Shown, asked, Listing, machine_of_mode, IsShownRun, ProgramSketch, mode_in, Sketch, MadeRun}
+use Rattle.sketch_covers.proofs.Vocabulary.{KnownOutcomes, Closed, Open, IsEndNotListed, HasNumber, IsShownRunOf, by_number, StopIs, HasOwnEnd}
 use Rattle.tso_machine.specs.declared.mode.Mode as own
 use Rattle.sketches.specs.Known.{HasNoCycle}
 use Rattle.sketch_covers.specs.declared.stop.Stop.TheVariants as stop

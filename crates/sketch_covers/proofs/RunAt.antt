@@ -1,5 +1,6 @@
 -- Runs that stand beside their outcomes.
-use Rattle.sketch_covers.proofs.Vocabulary.{◌≡◌, ◌≤◌, ℕ, List, Option, None, Some, Bor, Contains, MatchOption, arith, length, slice_get, slice_get_within, sym, subst, ◌∙◌, same_Some, Outcome, Question, Label, Machine, OutcomeIndex, HasNumber, IsRunOf, IsShownRun, AreRunsOf}
+use Rattle.sketch_covers.proofs.Vocabulary.{◌≡◌, ◌≤◌, ℕ, List, Option, None, Some, Bor, Contains, MatchOption, arith, length, slice_get, slice_get_within, sym, subst, ◌∙◌, same_Some, Outcome, Question, Label, Machine, OutcomeIndex, HasNumber, IsRunOf}
+use Rattle.sketch_covers.proofs.Vocabulary.{IsShownRun, AreRunsOf}
 use Rattle.sketch_covers.proofs.Listing.{zip_at_right}
 
 -- the run beside an outcome

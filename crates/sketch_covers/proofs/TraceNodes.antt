@@ -1,10 +1,8 @@
 -- The nodes of a thread's traces, at a sketch in which the other threads have their values.
-use Rattle.sketch_covers.proofs.Vocabulary.{◌≡◌, ℕ, ◌<◌, List, get_or, length, map, sym, ap, subst, arith, ◌^◌, length-map, Outcome, Shown, ProgramSketch, with_chosen, IsLawful, HaveAllRegisters}
-use Rattle.sketch_covers.proofs.Vocabulary.{HasValuesAlone, Cover, Choice, IsValueOpen, AreValueChoices, sketch_with, TraceTree, AreAlike, with_root, IsCoverAt, IsCoverAfter, Traces, Read, traces}
-use Rattle.sketch_covers.proofs.Vocabulary.{trace_trees, root, first_choices, IsTraceTree, next_is_open, as_many_trees, child_tree}
-use Rattle.sketch_covers.proofs.Nodes.{few_choices}
+use Rattle.sketch_covers.proofs.Vocabulary.{◌≡◌, ℕ, ◌<◌, List, get_or, length, map, sym, ap, subst, arith, ◌^◌, length-map, Outcome, Shown, ProgramSketch, with_chosen, IsLawful, HaveAllRegisters, HasValuesAlone, Cover, Choice, IsValueOpen, AreValueChoices}
+use Rattle.sketch_covers.proofs.Vocabulary.{sketch_with, TraceTree, AreAlike, with_root, IsCoverAt, IsCoverAfter, Traces, Read, traces, trace_trees, root, first_choices, IsTraceTree, next_is_open, as_many_trees, child_tree}
+use Rattle.sketch_covers.proofs.{Nodes.few_choices, CombinedCovers.child_alike, CombinedCovers.child_cover, CombinedCovers.child_parts, CombinedSketches.lawful_merged, CombinedSketches.values_merged}
 use Rattle.cover_judge.specs.declared.choice.Choice.TheVariants as choice
-use Rattle.sketch_covers.proofs.{CombinedCovers.child_alike, CombinedCovers.child_cover, CombinedCovers.child_parts, CombinedSketches.lawful_merged, CombinedSketches.values_merged}
 use Rattle.branching.specs.declared.open_choice.OpenChoice.TheVariants as left
 
 module _ (s : ProgramSketch) (t : ℕ) (alone : HasValuesAlone s.chosen) (there : t < length s.program.threads) (lawful : IsLawful s) (u : ProgramSketch) (own : IsLawful u) (choices : List Choice) (after : List TraceTree)

@@ -1,14 +1,12 @@
 -- Trees in which a read without a source closes each full trace of a thread, node by node.
-use Rattle.sketch_covers.proofs.Vocabulary.{◌≡◌, ℕ, ◌+◌, ◌<◌, ◌≤◌, List, [], ◌∷◌, ◌++◌, get_or, length, map, refl, ap, ◌∙◌, subst, append_assoc, ◌^◌, Outcome, Shown, ProgramSketch, IsLawful}
-use Rattle.sketch_covers.proofs.Vocabulary.{HaveAllRegisters, choices_few, Node, Choice, AreValueChoices, next_is_open, Tally, TraceTree, with_root, IsCoverAt, IsCoverAfter, Begins, Traces, Read}
-use Rattle.sketch_covers.proofs.Vocabulary.{traces, trace_trees, root, first_choices, IsTraceTree, Takes, Closes}
-use Rattle.sketch_covers.proofs.Nodes.{few_choices}
+use Rattle.sketch_covers.proofs.Vocabulary.{◌≡◌, ℕ, ◌+◌, ◌<◌, ◌≤◌, List, [], ◌∷◌, ◌++◌, get_or, length, map, refl, ap, ◌∙◌, subst, append_assoc, ◌^◌, Outcome, Shown, ProgramSketch, IsLawful, HaveAllRegisters, choices_few, Node, Choice, AreValueChoices}
+use Rattle.sketch_covers.proofs.Vocabulary.{next_is_open, Tally, TraceTree, with_root, IsCoverAt, IsCoverAfter, Begins, Traces, Read, traces, trace_trees, root, first_choices, IsTraceTree, Takes, Closes}
+use Rattle.sketch_covers.proofs.{Nodes.few_choices, Covering.Covering, Covering.none_covered, Covering.one_covered, Covering.all_covered, Covering.pushes_as}
+use Rattle.sketch_covers.proofs.TraceNodes.{as_many_here, are_here, child_meets, cover_at, lawful_at, open_here}
 use Rattle.tso_program.specs.declared.shown.Shown.{TheVariants.All}
 use Rattle.cert_forest.specs.Node.TheVariants as node
 use Rattle.cover_judge.specs.declared.choice.Choice.TheVariants as choice
 use Rattle.branching.specs.declared.open_choice.OpenChoice.TheVariants as left
-use Rattle.sketch_covers.proofs.Covering.{Covering, none_covered, one_covered, all_covered, pushes_as}
-use Rattle.sketch_covers.proofs.TraceNodes.{as_many_here, are_here, child_meets, cover_at, lawful_at, open_here}
 
 -- the values of a read are few
 pub few_own : (u : ProgramSketch) (t : ℕ) (choices : List Choice) → IsLawful u → HaveAllRegisters u.program.threads → AreValueChoices u t choices → length choices < 2 ^ 32

@@ -1,42 +1,45 @@
 -- What many proofs of this crate speak of, imported once.
 pub use Rattle.std.proofs.Common.{Bool, Bor, Box, Contains, Global, IfOk, IfSome, List, None, Option, Some, [], ap, append_assoc, arith, drop, false, get_or, inl, inr, length, lit<, map, refl, rules}
 pub use Rattle.std.proofs.Common.{slice_get, subst, suc, sym, take, true, zero, ℕ, ◌++◌, ◌+◌, ◌-◌, ◌/◌, ◌<◌, ◌↔◌, ◌∙◌, ◌∷◌, ◌≡◌, ◌≢◌, ◌≤◌}
-pub use Rattle.std.proofs.Math.ListN.{set}
+pub use Rattle.std.proofs.Math.ListN.{get_or-append, set}
 pub use Rattle.std.proofs.lemmas.Bool.{cases_eq, cases_lt}
-pub use Rattle.std.proofs.lemmas.List.{append-nil, get_or_push, length-append, length-drop, length-map, map-append, set-set, take_all, take_more}
+pub use Rattle.std.proofs.lemmas.List.{append-nil, get_or_default, get_or_push, length-append, length-drop, length-map, map-append, set-set, take_all, take_more}
 pub use Rattle.std.proofs.lemmas.List.Edits.{get_or-insert_above, get_or-insert_at, get_or-insert_below, length-insert}
+pub use Rattle.std.proofs.lemmas.List.FromFn.{get_or-enumerate_from, length-enumerate_from}
 pub use Rattle.std.proofs.lemmas.Option.{get_or_from_slice_get, same_Some, slice_get-get_or, slice_get_read, slice_get_within, unwrap_or-slice_get}
-pub use Rattle.std.specs.List.{AllByRecursion, AllPairs, AllZip, insert, remove_range}
+pub use Rattle.std.proofs.lemmas.Slice.Zip.{AllZip-long}
+pub use Rattle.std.specs.List.{AllByRecursion, AllPairs, AllZip, enumerate_from, insert, remove_range}
 pub use Rattle.std.specs.Option.{IsSomeAnd, option_map_or}
+pub use Rattle.std.specs.Ordering.{is_lt, ordering_index, ordering_reverse}
 pub use Rattle.std.specs.Prelude.{Err, IfErr, MatchOption, Ok, Result, ◌^◌}
 pub use Rattle.std.specs.Result.{IsErrAnd}
+pub use Rattle.std.specs.declared.cmp.Ordering.TheVariants.{Equal, Greater, Less}
 pub use Rattle.branching.proofs.Rounds.{counted_after, fewer_rounds, rounds}
 pub use Rattle.branching.proofs.TraceTrees.{as_many_trees, child_tree, get_mapped}
-pub use Rattle.branching.specs.Combinations.{AreAlike, IsBase, IsRest, with_root}
+pub use Rattle.branching.specs.Combinations.{AreAlike, IsRest, with_root}
 pub use Rattle.branching.specs.OpenChoices.{AreChoicesOf, IsOpen}
-pub use Rattle.branching.specs.Plans.{AreOfOthers, AreOthersFull, AreTracesFor, AreTracesOf, IsBeforeLast, IsBeforeNext, IsLast, IsOfOther}
+pub use Rattle.branching.specs.Plans.{AreOfOthers, AreTracesFor, AreTracesOf, IsBeforeLast, IsBeforeNext, IsLast, IsOfOther}
 pub use Rattle.branching.specs.Tallies.{HasBit, IsNeither, IsOther, IsTalliedRead, IsTallyOf, IsThisThread, LacksWriteOfBoth}
 pub use Rattle.branching.specs.Traces.{IsTraceTree, Read, Traces, first_choices, root, trace_node, trace_trees, traces}
 pub use Rattle.branching.specs.declared.open_choice.OpenChoice.{OpenChoice}
 pub use Rattle.branching.specs.declared.plan.LastThread.{LastThread}
 pub use Rattle.branching.specs.declared.reads_writes.ReadValue.{ReadValue}
 pub use Rattle.branching.specs.declared.tally.Tally.{Tally}
-pub use Rattle.branching.specs.declared.traces.TraceTree.TheFolds.{fold-roll-TraceTree, fold_out-TraceTree}
 pub use Rattle.branching.specs.declared.traces.TraceTree.{TraceTree}
-pub use Rattle.candidate_executions.proofs.Sketches.GivenValues.{none_given}
+pub use Rattle.branching.specs.declared.traces.TraceTree.TheFolds.{fold-roll-TraceTree, fold_out-TraceTree}
+pub use Rattle.candidate_executions.proofs.Sketches.GivenValues.{none_given, reads_there}
 pub use Rattle.candidate_executions.specs.Candidates.{Writes}
 pub use Rattle.candidate_executions.specs.Sketches.{IsKnownCycle, IsSourceOf, IsWhole, empty_sketch, given_to, next_read, read_by, with_value}
 pub use Rattle.candidate_executions.specs.Traces.{Trace, fenced_gaps, trace}
 pub use Rattle.candidate_executions.specs.Values.{IsValueOf}
 pub use Rattle.candidate_executions.specs.declared.event.Event.{Event, TheVariants.Access, TheVariants.Initial}
 pub use Rattle.candidate_executions.specs.declared.event.Kind.{Kind}
-pub use Rattle.cert_forest.proofs.NodeLaws.{alone, child_instead, cycle_some, is_tree, known_some, spelled_append, tree_again}
-pub use Rattle.cert_forest.proofs.NodeLaws.{covers_count}
+pub use Rattle.cert_forest.proofs.NodeLaws.{alone, child_instead, covers_count, cycle_some, is_tree, known_some, listed, spelled_append, tree_again}
+pub use Rattle.cert_forest.specs.AccessId.{AccessId}
+pub use Rattle.cert_forest.specs.Node.{Node}
 pub use Rattle.cert_forest.specs.Nodes.{IsTree, spell, spell_all, tree_of}
 pub use Rattle.cert_forest.specs.Trees.{Cover, Covers, Cycle, Known, MoreCovers, NoCover, Order, Source, Value, covers_of}
-pub use Rattle.cert_forest.specs.Node.{Node}
-pub use Rattle.cert_forest.specs.AccessId.{AccessId}
-pub use Rattle.cover_judge.proofs.ChoicesJudged.{next_is_open, source_is_open, values_may}
+pub use Rattle.cover_judge.proofs.ChoicesJudged.{next_is_open, no_order, source_is_open, values_may}
 pub use Rattle.cover_judge.proofs.Lists.{first_is_here, first_or_later, later_is_here, none_here}
 pub use Rattle.cover_judge.proofs.SketchesAfter.{comes_after, moved}
 pub use Rattle.cover_judge.specs.Choices.{AreSourceChoices, AreValueChoices, IsValueOpen, MayChoose, sketch_with}
@@ -60,7 +63,9 @@ pub use Rattle.tso_machine.specs.Modes.{machine_of_mode}
 pub use Rattle.tso_machine.specs.Outcomes.{AllowsShown, IsShownRun}
 pub use Rattle.tso_machine.specs.declared.label.Label.{Label}
 pub use Rattle.tso_machine.specs.declared.mode.Mode.{Mode}
+pub use Rattle.tso_program.proofs.OutcomesOrdered.{equal_itself, exact_outcomes, outcomes_ordered}
 pub use Rattle.tso_program.specs.Listings.{action, code_of, start_of}
+pub use Rattle.tso_program.specs.Ordered.{outcome_cmp}
 pub use Rattle.tso_program.specs.Shown.{Question, asked, show}
 pub use Rattle.tso_program.specs.declared.listing.Listing.{Listing}
 pub use Rattle.tso_program.specs.declared.outcome.Outcome.{Outcome}
@@ -69,7 +74,7 @@ pub use Rattle.sketch_covers.specs.Ascending.{Ascend, BelongsAt}
 pub use Rattle.sketch_covers.specs.Covers.{AreCoversAfter, AreNeat, IsCoverAfter, IsCoverAt, IsEndNotListed, IsLeafAt, IsNeat, IsWholeCover, node_over, tree_over}
 pub use Rattle.sketch_covers.specs.KnownOutcomes.{AreInOrder, Grows, HasOwnEnd, HasRunOfEach, OnTold, StaysOf, StopIs, by_number}
 pub use Rattle.sketch_covers.specs.NodeChanges.{renumbered_node}
-pub use Rattle.sketch_covers.specs.OutcomeNumbers.{AreFoundOf, ArePlacesOf, AreRunsOf, HasNumber, IsInOrder, IsRunOf, Keeps, KeepsNumbers, ascending, numbered, place_in, with_first}
+pub use Rattle.sketch_covers.specs.OutcomeNumbers.{ArePlacesOf, AreRunsOf, HasNumber, IsInOrder, IsRunOf, Keeps, KeepsNumbers, ascending, numbered, place_in, with_first}
 pub use Rattle.sketch_covers.specs.Pushing.{Begins, BeginsIfNew, IfKnown, IsTaken, Pushes}
 pub use Rattle.sketch_covers.specs.ShownRuns.{IsShownRunOf}
 pub use Rattle.sketch_covers.specs.UnsourcedTraces.{Closes, Takes}

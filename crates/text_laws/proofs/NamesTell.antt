@@ -1,6 +1,5 @@
 -- What serves for the values that a text names serves for the truth of its condition.
-use Rattle.text_laws.proofs.Vocabulary.{◌≡◌, ◌∙◌, ℕ, ◌<◌, ◌≤◌, Bool, true, not, List, Option, length, refl, sym, ap, inl, inr, arith, ◌&&◌, ◌||◌, option_and_then, slice_get, cases_lt, slice_get_past}
-use Rattle.text_laws.proofs.Vocabulary.{Listing, Tree, AConditionsAnswerCostsNoMore}
+use Rattle.text_laws.proofs.Vocabulary.{◌≡◌, ◌∙◌, ℕ, ◌<◌, ◌≤◌, Bool, true, not, List, Option, length, refl, sym, ap, inl, inr, arith, ◌&&◌, ◌||◌, option_and_then, slice_get, cases_lt, slice_get_past, Listing, Tree, AConditionsAnswerCostsNoMore}
 use Rattle.std.proofs.lemmas.List.FromFn.{length-map-range_with_len}
 use Rattle.gap_sets.specs.{Gaps.SetOfGaps, Order.total}
 use Rattle.tso_program.specs.{declared.instruction.Reg.Reg, declared.outcome.Outcome.Outcome, declared.shown.Shown.Shown, declared.shown.Shown.TheVariants.Truth, declared.atom.Atom.Atom}

@@ -1,7 +1,6 @@
 -- Initial values, the header row and the rows are spelled in one way.
-use Rattle.text_laws.proofs.Vocabulary.{◌≡◌, ◌∙◌, ◌+◌, ℕ, true, List, [], ◌∷◌, sym, ap, subst, refl, Option, Some, None, Tok, mark, Items, end, item, begins_with, rest_of, CodeView, CellView}
-use Rattle.text_laws.proofs.Vocabulary.{IsEntryItem, IsInitial, MoreColumns, last, column, IsHeader, IsCode, IsLabelMark, ends_cell, IsContent, IsCell, IsNextCell, IsCells, IsRowList, IsRows, IsBody}
-use Rattle.text_laws.proofs.Vocabulary.{entry_at, code_at, label_tokens_at}
+use Rattle.text_laws.proofs.Vocabulary.{◌≡◌, ◌∙◌, ◌+◌, ℕ, true, List, [], ◌∷◌, sym, ap, subst, refl, Option, Some, None, Tok, mark, Items, end, item, begins_with, rest_of, CodeView, CellView, IsEntryItem, IsInitial, MoreColumns, last, column, IsHeader, IsCode}
+use Rattle.text_laws.proofs.Vocabulary.{IsLabelMark, ends_cell, IsContent, IsCell, IsNextCell, IsCells, IsRowList, IsRows, IsBody, entry_at, code_at, label_tokens_at}
 use Rattle.text_tokens.specs.declared.token.Mark.TheVariants as the
 use Rattle.text_tokens.proofs.PartLaws.{begins_again}
 use Rattle.litmus_syntax.proofs.{EntryLaws.entries_are_read, EntryLaws.no_entry, CodeLaws.code_again, CodeLaws.code_begins, CellLaws.labels_are_read, RowLaws.no_row_yet, RowLaws.rows_end}

@@ -1,7 +1,6 @@
 -- What is observed, the quantifier and the signs of a condition are spelled in one way.
-use Rattle.text_laws.proofs.Vocabulary.{◌≡◌, ◌∙◌, ℕ, List, [], codes, sym, ap, subst, inl, inr, refl, Some, None, same_Some, Tok, rest_of, mark, Items, PlaceView, Location, Register, SignView}
-use Rattle.text_laws.proofs.Vocabulary.{EndingView, IsPlace, separator, IsObservedItem, IsObserved, IsQuantifier, IsSign, IsSigns, the_end, IsEnding, place_at, place_among_at, quantifier_at, atom_at}
-use Rattle.text_laws.proofs.Vocabulary.{sign_at}
+use Rattle.text_laws.proofs.Vocabulary.{◌≡◌, ◌∙◌, ℕ, List, [], codes, sym, ap, subst, inl, inr, refl, Some, None, same_Some, Tok, rest_of, mark, Items, PlaceView, Location, Register, SignView, EndingView, IsPlace, separator, IsObservedItem, IsObserved}
+use Rattle.text_laws.proofs.Vocabulary.{IsQuantifier, IsSign, IsSigns, the_end, IsEnding, place_at, place_among_at, quantifier_at, atom_at, sign_at}
 use Rattle.text_tokens.specs.declared.token.Mark.TheVariants as the
 use Rattle.conditions.specs.declared.condition.Quantifier.{Quantifier, TheVariants.NotExists}
 use Rattle.litmus_syntax.proofs.{WordLaws.begins_word_again, WordLaws.separator_again, PlaceLaws.place_again, SignLaws.signs_are_read, EndingLaws.ending_is_read}

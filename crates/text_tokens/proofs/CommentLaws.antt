@@ -1,8 +1,7 @@
 -- Comments: where they end, and those that are open one within the other.
-use Rattle.text_tokens.proofs.Vocabulary.{◌≡◌, ℕ, zero, suc, ◌+◌, ◌-◌, ◌<◌, ◌==◌, true, false, List, [], ◌∷◌, length, drop, refl, sym, ap, ◌∙◌, arith, inl, inr, ◌⊎◌, nat_tests}
-use Rattle.text_tokens.proofs.Vocabulary.{length-drop, slice_index, is_white_space, opens, closes, Inside, close, nested, other, IsComment}
+use Rattle.text_tokens.proofs.Vocabulary.{◌≡◌, ℕ, zero, suc, ◌+◌, ◌-◌, ◌<◌, ◌==◌, true, false, List, [], ◌∷◌, length, drop, refl, sym, ap, ◌∙◌, arith, inl, inr, ◌⊎◌, nat_tests, length-drop, slice_index, is_white_space, opens, closes, Inside, close, nested}
+use Rattle.text_tokens.proofs.Vocabulary.{other, IsComment, get_or_past}
 use Rattle.std.proofs.Math.Bool.{and-false}
-use Rattle.std.proofs.lemmas.List.{get_or_past}
 
 -- the insides of so many comments, one after the other
 abbrev pub Open : ℕ → List ℕ → List ℕ → Type 0

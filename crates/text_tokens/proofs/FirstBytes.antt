@@ -1,10 +1,8 @@
 -- What the first byte of a text tells.
-use Rattle.text_tokens.proofs.Vocabulary.{◌≡◌, ◌≢◌, ℕ, ◌<◌, ◌≤◌, ◌==◌, true, false, List, [], ◌∷◌, ◌++◌, length, drop, Option, Some, cond, refl, sym, ap, ◌∙◌, arith, inl, inr, slice_index}
-use Rattle.text_tokens.proofs.Vocabulary.{if◌then◌else◌, list_all, is_ascii_digit, cases_Bool, and_parts, eqb-true, length-append, nat_tests, Mark, OpenBrace, CloseBrace, OpenBracket, CloseBracket}
-use Rattle.text_tokens.proofs.Vocabulary.{OpenParen, CloseParen, Semicolon, Bar, Colon, Equals, Comma, Dollar, Tilde, And, Or, Bad, is_white_space, is_letter, is_word_byte, mark_text, mark_from}
-use Rattle.text_tokens.proofs.Vocabulary.{opens, Tok, Word, Number, Sign, NoToken, BeginsWith, IsWord, AreDigits, IsBad, false_from_ne_true as false_from}
+use Rattle.text_tokens.proofs.Vocabulary.{◌≡◌, ◌≢◌, ℕ, ◌<◌, ◌≤◌, ◌==◌, true, false, List, [], ◌∷◌, ◌++◌, length, drop, Option, Some, cond, refl, sym, ap, ◌∙◌, arith, inl, inr, slice_index, if◌then◌else◌, list_all, is_ascii_digit, cases_Bool, and_parts}
+use Rattle.text_tokens.proofs.Vocabulary.{eqb-true, length-append, nat_tests, Mark, OpenBrace, CloseBrace, OpenBracket, CloseBracket, OpenParen, CloseParen, Semicolon, Bar, Colon, Equals, Comma, Dollar, Tilde, And, Or, Bad, is_white_space, is_letter}
+use Rattle.text_tokens.proofs.Vocabulary.{is_word_byte, mark_text, mark_from, opens, Tok, Word, Number, Sign, NoToken, BeginsWith, IsWord, AreDigits, IsBad, false_from_ne_true as false_from, same_Some, none-some}
 use Rattle.text_tokens.specs.declared.token.Bad.TheVariants as bad
-use Rattle.std.proofs.lemmas.Option.{same_Some, none-some}
 
 -- ---- classes of bytes, of which no two meet
 

@@ -1,10 +1,9 @@
 -- What the lexer finds at the front of a text.
-use Rattle.text_tokens.proofs.Vocabulary.{◌≡◌, ◌≢◌, ℕ, ◌<◌, ◌≤◌, true, false, List, [], ◌∷◌, ◌++◌, length, take, drop, Some, None, refl, sym, ap, ◌∙◌, arith, inl, inr, nat_eq, prefix_len, starts_with}
-use Rattle.text_tokens.proofs.Vocabulary.{take-append-drop, get_or-take, length-append, append-nil, nil_from_length, Decides-eqb, slice_index, is_ascii_digit, Mark, is_white_space, is_letter}
-use Rattle.text_tokens.proofs.Vocabulary.{is_word_byte, value_at, mark_text, mark_from, Word, Number, BeginsWith, AreDigits, IsBadNumber, IsHalf, IsStray}
+use Rattle.text_tokens.proofs.Vocabulary.{◌≡◌, ◌≢◌, ℕ, ◌<◌, ◌≤◌, true, false, List, [], ◌∷◌, ◌++◌, length, take, drop, Some, None, refl, sym, ap, ◌∙◌, arith, inl, inr, nat_eq, prefix_len, starts_with, take-append-drop, get_or-take, length-append, append-nil}
+use Rattle.text_tokens.proofs.Vocabulary.{nil_from_length, Decides-eqb, slice_index, is_ascii_digit, Mark, is_white_space, is_letter, is_word_byte, value_at, mark_text, mark_from, Word, Number, BeginsWith, AreDigits, IsBadNumber, IsHalf, IsStray, same_Some}
+use Rattle.text_tokens.proofs.Vocabulary.{none-some}
 use Rattle.std.proofs.lemmas.List.Folds.{length-prefix_len}
 use Rattle.std.proofs.lemmas.Slice.Eq.{starts_is}
-use Rattle.std.proofs.lemmas.Option.{same_Some, none-some}
 use Rattle.text_tokens.proofs.{NumberLaws.value_found, NumberLaws.value_past, Prefixes.all_pass, Prefixes.next_fails, Prefixes.some_pass}
 use Rattle.text_tokens.proofs.FirstBytes.{first_of, letter_goes_on, no_word_byte, mark_some, mark_from_text, mark_from_is, mark_short, class_of, mark_class, other_parts}
 

@@ -1,7 +1,6 @@
 -- Decimal numbers and their digits.
-use Rattle.text_tokens.proofs.Vocabulary.{◌≡◌, ℕ, ◌<◌, ◌≤◌, ◌+◌, ◌*◌, ◌-◌, ◌^◌, true, false, List, length, get_or, take, Option, Some, None, refl, sym, ap, ◌∙◌, arith, rules, inl, inr}
-use Rattle.text_tokens.proofs.Vocabulary.{min, nat_le, IfSome, is_ascii_digit, digit_value, cases_lt, leb-true, le-leb, and_parts, and_from, digits_decimal, digits_value-decimal}
-use Rattle.text_tokens.proofs.Vocabulary.{decimal-digits_value, decimal_nonempty, first_decimal, decimal_digit, list_all, decimal, digits_value, cond_some, nat_tests, is_plain, value_at}
+use Rattle.text_tokens.proofs.Vocabulary.{◌≡◌, ℕ, ◌<◌, ◌≤◌, ◌+◌, ◌*◌, ◌-◌, ◌^◌, true, false, List, length, get_or, take, Option, Some, None, refl, sym, ap, ◌∙◌, arith, rules, inl, inr, min, nat_le, IfSome, is_ascii_digit, digit_value, cases_lt, leb-true}
+use Rattle.text_tokens.proofs.Vocabulary.{le-leb, and_parts, and_from, digits_decimal, digits_value-decimal, decimal-digits_value, decimal_nonempty, first_decimal, decimal_digit, list_all, decimal, digits_value, cond_some, nat_tests, is_plain, value_at}
 use Rattle.text_tokens.proofs.Vocabulary.{plain_number_at}
 use Rattle.std.proofs.lemmas.Str.Parse.{IsNumeralModel, numerals_by_value}
 use Rattle.std.proofs.lemmas.List.Sums.{AllPass-from_list_all}

@@ -1,7 +1,6 @@
 -- A text has its tokens in one way.
-use Rattle.text_tokens.proofs.Vocabulary.{◌≡◌, ◌<◌, ℕ, true, false, List, [], ◌∷◌, ◌++◌, length, drop, refl, sym, ap, ◌∙◌, arith, inl, inr, append_assoc, slice_index, is_ascii_digit, digits_value}
-use Rattle.text_tokens.proofs.Vocabulary.{append-nil, length-append, drop_at, Mark, Bad, is_white_space, is_letter, is_word_byte, OpenParen, mark_text, opens, IsComment, Tok, Word, Number, Sign}
-use Rattle.text_tokens.proofs.Vocabulary.{NoToken, AreAllTokens}
+use Rattle.text_tokens.proofs.Vocabulary.{◌≡◌, ◌<◌, ℕ, true, false, List, [], ◌∷◌, ◌++◌, length, drop, refl, sym, ap, ◌∙◌, arith, inl, inr, append_assoc, slice_index, is_ascii_digit, digits_value, append-nil, length-append, drop_at, Mark, Bad, is_white_space}
+use Rattle.text_tokens.proofs.Vocabulary.{is_letter, is_word_byte, OpenParen, mark_text, opens, IsComment, Tok, Word, Number, Sign, NoToken, AreAllTokens}
 use Rattle.text_tokens.specs.declared.token.Bad.TheVariants as bad
 use Rattle.text_tokens.proofs.{CommentLaws.short_opens, CommentLaws.Inside-one, Prefixes.same_prefix}
 use Rattle.text_tokens.proofs.FirstBytes.{WhiteSpace, Letter, Digit, Minus, Other, white_space_class, no_digit, no_letter, token_class, begins_class, begins_some, bad_class, bad_begins, bad_some, one_mark, mark_short, opens_paren, opens_class}

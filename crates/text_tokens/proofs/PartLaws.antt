@@ -1,9 +1,6 @@
 -- What the single tokens at the front of a list take, and that they take it again.
-use Rattle.text_tokens.proofs.Vocabulary.{◌≡◌, ◌≢◌, ℕ, ◌==◌, true, false, List, ◌∷◌, refl, sym, ap, ◌∙◌, Some, if◌then◌else◌, eqb-true, cond_some, Mark, OpenBrace}
-use Rattle.text_tokens.proofs.Vocabulary.{CloseBrace, OpenBracket, CloseBracket, OpenParen, CloseParen, Semicolon, Bar, Colon, Equals, Comma, Dollar, Tilde, And, Or, Tok, Word, Number, Sign}
-use Rattle.text_tokens.proofs.Vocabulary.{mark_code, same_mark, false_from_ne_true as false_from}
-use Rattle.std.proofs.lemmas.Bool.{eq-eqb}
-use Rattle.std.proofs.lemmas.Option.{same_Some}
+use Rattle.text_tokens.proofs.Vocabulary.{◌≡◌, ◌≢◌, ℕ, ◌==◌, true, false, List, ◌∷◌, refl, sym, ap, ◌∙◌, Some, if◌then◌else◌, eqb-true, cond_some, Mark, OpenBrace, CloseBrace, OpenBracket, CloseBracket, OpenParen, CloseParen, Semicolon, Bar, Colon, Equals}
+use Rattle.text_tokens.proofs.Vocabulary.{Comma, Dollar, Tilde, And, Or, Tok, Word, Number, Sign, mark_code, same_mark, false_from_ne_true as false_from, eq-eqb, same_Some}
 use Rattle.text_tokens.specs.Parts.{word_at, number_at, begins_with, rest_of, mark_at}
 
 -- ---- words and numbers

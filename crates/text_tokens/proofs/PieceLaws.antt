@@ -1,6 +1,6 @@
 -- A text in pieces has their tokens.
-use Rattle.text_tokens.proofs.Vocabulary.{ℕ, ◌<◌, ◌^◌, List, [], ◌∷◌, ◌++◌, refl, sym, subst, arith, append_assoc, decimal, append-nil, digits_decimal, digits_value-decimal, decimal_nonempty, Tok}
-use Rattle.text_tokens.proofs.Vocabulary.{Word, Number, Sign, NoToken, BeginsWith, BeginsWithAll, none, white_space, token, Lexes}
+use Rattle.text_tokens.proofs.Vocabulary.{ℕ, ◌<◌, ◌^◌, List, [], ◌∷◌, ◌++◌, refl, sym, subst, arith, append_assoc, decimal, append-nil, digits_decimal, digits_value-decimal, decimal_nonempty, Tok, Word, Number, Sign, NoToken, BeginsWith, BeginsWithAll, none}
+use Rattle.text_tokens.proofs.Vocabulary.{white_space, token, Lexes}
 use Rattle.text_tokens.specs.Pieces.{Piece, Space, Part, token_text, text_of, tokens_of, CanStand, AreApartBefore, AreApart}
 use Rattle.text_tokens.proofs.NumberLaws.{own}
 

@@ -1,6 +1,5 @@
 -- How far the bytes go at the front of a text that pass a test.
-use Rattle.text_tokens.proofs.Vocabulary.{◌≡◌, ℕ, ◌+◌, ◌<◌, Bool, true, false, List, [], ◌∷◌, ◌++◌, length, take, drop, refl, sym, ap, ◌∙◌, arith, inl, inr, take_at, drop_at, slice_index}
-use Rattle.text_tokens.proofs.Vocabulary.{list_all, prefix_len, and_parts, and_from, cases_Bool}
+use Rattle.text_tokens.proofs.Vocabulary.{◌≡◌, ℕ, ◌+◌, ◌<◌, Bool, true, false, List, [], ◌∷◌, ◌++◌, length, take, drop, refl, sym, ap, ◌∙◌, arith, inl, inr, take_at, drop_at, slice_index, list_all, prefix_len, and_parts, and_from, cases_Bool}
 use Rattle.std.proofs.Math.Numerals.{one-add}
 
 pub prefix_is : (p : ℕ → Bool) (xs rest : List ℕ) → list_all p xs ≡ true → p (slice_index rest 0) ≡ false → prefix_len p (xs ++ rest) ≡ length xs

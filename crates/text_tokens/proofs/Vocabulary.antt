@@ -1,15 +1,15 @@
 -- What many proofs of this crate speak of, imported once.
 pub use Rattle.std.proofs.Common.{Bool, List, None, Option, Some, [], ap, append_assoc, arith, cond, drop, false, get_or, inl, inr, length, nat_eq, refl, rules, subst, suc, sym, take, true, zero, ℕ}
-pub use Rattle.std.proofs.Common.{◌&&◌, ◌*◌, ◌++◌, ◌+◌, ◌-◌, ◌<◌, ◌==◌, ◌^◌, ◌||◌, ◌∙◌, ◌∷◌, ◌≡◌, ◌≢◌, ◌≤◌, ◌⊎◌}
-pub use Rattle.std.proofs.lemmas.Bool.{and_from, and_parts, cases_Bool, cases_lt, eqb-true, false_from_ne_true, le-leb, leb-true}
+pub use Rattle.std.proofs.Common.{◌*◌, ◌++◌, ◌+◌, ◌-◌, ◌<◌, ◌==◌, ◌^◌, ◌∙◌, ◌∷◌, ◌≡◌, ◌≢◌, ◌≤◌, ◌⊎◌}
+pub use Rattle.std.proofs.lemmas.Bool.{and_from, and_parts, cases_Bool, cases_lt, eq-eqb, eqb-true, false_from_ne_true, le-leb, leb-true}
 pub use Rattle.std.proofs.lemmas.Bool.Decides.{Decides-eqb, nat_tests}
 pub use Rattle.std.proofs.lemmas.Fmt.{decimal-digits_value, decimal_digit, decimal_nonempty, digits_decimal, digits_value-decimal, first_decimal}
-pub use Rattle.std.proofs.lemmas.List.{append-nil, drop_at, get_or-take, length-append, length-drop, map_push, nil_from_length, take-append-drop, take_at}
-pub use Rattle.std.proofs.lemmas.Option.{cond_some}
+pub use Rattle.std.proofs.lemmas.List.{append-nil, drop_at, get_or-take, get_or_past, length-append, length-drop, map_push, nil_from_length, take-append-drop, take_at}
+pub use Rattle.std.proofs.lemmas.Option.{cond_some, none-some, same_Some}
 pub use Rattle.std.specs.Char.{digit_value, is_ascii_digit}
 pub use Rattle.std.specs.Fmt.{decimal}
 pub use Rattle.std.specs.List.{list_all, prefix_len, starts_with}
-pub use Rattle.std.specs.Prelude.{IfSome, if◌then◌else◌, min, nat_le, not, slice_index}
+pub use Rattle.std.specs.Prelude.{IfSome, if◌then◌else◌, min, nat_le, slice_index}
 pub use Rattle.std.specs.Str.Parse.{digits_value}
 pub use Rattle.text_tokens.specs.Bytes.{is_letter, is_white_space, is_word_byte}
 pub use Rattle.text_tokens.specs.Comments.{Inside, IsComment, close, closes, nested, opens, other}

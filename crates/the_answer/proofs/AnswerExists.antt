@@ -1,7 +1,6 @@
 -- There is an answer.
-use Rattle.the_answer.proofs.Vocabulary.{◌≡◌, ℕ, zero, suc, ◌+◌, true, false, List, Option, Some, None, refl, sym, ap, ◌∙◌, subst, inl, inr, arith, nat_lt, unwrap_or, MatchOption, cases_lt, ltb-true}
-use Rattle.the_answer.proofs.Vocabulary.{lt-ltb, SetOfGaps, total, Question, gap_count, JumpForward, does_serve, best_of, the_answer, IsTheAnswer, NonePasses, IsBest, TheAnswerExists}
-use Rattle.the_answer.proofs.Vocabulary.{TheAnswerIsThatSet, TheHeadlineIsOfThatSet, NoServingSetCostsLess}
+use Rattle.the_answer.proofs.Vocabulary.{◌≡◌, ℕ, zero, suc, ◌+◌, true, false, List, Option, Some, None, refl, sym, ap, ◌∙◌, subst, inl, inr, arith, nat_lt, unwrap_or, MatchOption, cases_lt, ltb-true, lt-ltb, SetOfGaps, total, Question, gap_count, JumpForward}
+use Rattle.the_answer.proofs.Vocabulary.{does_serve, best_of, the_answer, IsTheAnswer, NonePasses, IsBest, TheAnswerExists, TheAnswerIsThatSet, TheHeadlineIsOfThatSet, NoServingSetCostsLess}
 use Rattle.std.specs.FinSet as set
 use Rattle.tso_program.proofs.Gaps.{none_below, one_more}
 use Rattle.fence_laws.proofs.{AllGapsFenced.all_serve, OneAnswer.one_answer, HeadlineIsTheAnswer.headline_is_the_answer}

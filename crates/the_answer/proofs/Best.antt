@@ -1,7 +1,6 @@
 -- Of the sets of gaps that pass a test the best is found.
-use Rattle.the_answer.proofs.Vocabulary.{◌≡◌, ◌≢◌, ℕ, zero, suc, ◌+◌, ◌<◌, ◌≤◌, Bool, true, false, ◌||◌, List, Option, Some, None, cond, refl, sym, ap, ◌∙◌, subst, inl, inr, arith, eq-eqb, ne_eqb}
-use Rattle.the_answer.proofs.Vocabulary.{nat_cmp, nat_cmp_total, unsigned_tied, cases_lt, cases_eq, cases_Bool, ltb-true, lt-ltb, nat_lt, MatchOption, SetOfGaps, cheaper, best_of, total}
-use Rattle.the_answer.proofs.Vocabulary.{HasLeastDifference, Better, AreBelow, NonePasses, IsBest, TheBestSetIsFound}
+use Rattle.the_answer.proofs.Vocabulary.{◌≡◌, ◌≢◌, ℕ, zero, suc, ◌+◌, ◌<◌, ◌≤◌, Bool, true, false, ◌||◌, List, Option, Some, None, cond, refl, sym, ap, ◌∙◌, subst, inl, inr, arith, eq-eqb, ne_eqb, nat_cmp, nat_cmp_total, unsigned_tied, cases_lt, cases_eq}
+use Rattle.the_answer.proofs.Vocabulary.{cases_Bool, ltb-true, lt-ltb, nat_lt, MatchOption, SetOfGaps, cheaper, best_of, total, HasLeastDifference, Better, AreBelow, NonePasses, IsBest, TheBestSetIsFound}
 use Rattle.std.specs.FinSet as set
 
 -- the set has below gap what the chosen set has, and nothing from the end on

@@ -1,8 +1,7 @@
 -- The answer computes, where sets of gaps and of names are lists.
-use Rattle.the_answer.proofs.Vocabulary.{◌≡◌, ℕ, zero, suc, ◌+◌, ◌&&◌, Bool, true, false, List, [], ◌∷◌, Option, Some, None, cond, sum_by, nat_eq, map, length, refl, ap, ◌∙◌, fun_ext, nat_lt}
-use Rattle.the_answer.proofs.Vocabulary.{unwrap_or, slice_index, slice_index_or, if◌then◌else◌, list_any, filter, range_with_len, option_map, option_map_or, SetOfGaps, these, total-these, Listing}
-use Rattle.the_answer.proofs.Vocabulary.{Outcome, Machine, SequentialMachine, StoreBufferMachine, start, outcomes_within, most_labels, outcomes_of, cost_of, Question, show, value_if, gap_count}
-use Rattle.the_answer.proofs.Vocabulary.{gap_number, are_among, does_serve, cheaper, best_of, the_answer}
+use Rattle.the_answer.proofs.Vocabulary.{◌≡◌, ℕ, zero, suc, ◌+◌, ◌&&◌, Bool, true, false, List, [], ◌∷◌, Option, Some, None, cond, sum_by, nat_eq, map, length, refl, ap, ◌∙◌, fun_ext, nat_lt, unwrap_or, slice_index, slice_index_or, if◌then◌else◌, list_any}
+use Rattle.the_answer.proofs.Vocabulary.{filter, range_with_len, option_map, option_map_or, SetOfGaps, these, total-these, Listing, Outcome, Machine, SequentialMachine, StoreBufferMachine, start, outcomes_within, most_labels, outcomes_of, cost_of, Question}
+use Rattle.the_answer.proofs.Vocabulary.{show, value_if, gap_count, gap_number, are_among, does_serve, cheaper, best_of, the_answer}
 use Rattle.std.specs.FinSet as set
 use Rattle.tso_program.specs.{Names.register_place, Names.location_place, declared.limits.TheConstants.MAX_THREADS}
 use Rattle.gap_sets.specs.declared.gap_set.TheConstants.{MAX_GAPS}

@@ -1,6 +1,6 @@
 -- Elements of lists.
-use Rattle.the_answer.proofs.Vocabulary.{◌≡◌, ℕ, ◌+◌, ◌<◌, Bool, true, false, ◌&&◌, List, [], ◌∷◌, map, Contains, flat_map, refl, sym, ◌∙◌, subst, inl, inr, arith, list_all, range_with_len}
-use Rattle.the_answer.proofs.Vocabulary.{Contains-append_left, Contains-append_right, Contains-append_cases, none_here, first_or_later, first_is_here, later_is_here}
+use Rattle.the_answer.proofs.Vocabulary.{◌≡◌, ℕ, ◌+◌, ◌<◌, Bool, true, false, ◌&&◌, List, [], ◌∷◌, map, Contains, flat_map, refl, sym, ◌∙◌, subst, inl, inr, arith, list_all, range_with_len, Contains-append_left, Contains-append_right, Contains-append_cases}
+use Rattle.the_answer.proofs.Vocabulary.{none_here, first_or_later, first_is_here, later_is_here}
 use Rattle.std.proofs.lemmas.List.FromFn.{length-range_with_len, get_or-range_with_len}
 pub use Rattle.std.proofs.lemmas.Bool.{and_parts as both}
 

@@ -1,8 +1,7 @@
 -- The listed outcomes are those of the machine's runs.
-use Rattle.the_answer.proofs.Vocabulary.{◌≡◌, ℕ, zero, suc, ◌<◌, ◌≤◌, Bool, true, false, ◌&&◌, List, [], ◌∷◌, length, Option, Some, None, option_and_then, Contains, flat_map, cond, ◌↔◌, refl, ap, sym}
-use Rattle.the_answer.proofs.Vocabulary.{◌∙◌, subst, inl, inr, arith, option_map_or, list_all, cases_lt, Contains-append_left, Contains-append_right, Contains-append_cases, Listing, Outcome, action}
-use Rattle.the_answer.proofs.Vocabulary.{show, JumpForward, Label, Exec, Flush, Pending, Machine, State, start, step, run, is_empty, outcome_at, HasEnded, Allows, is_stop, has_ended, threads_of}
-use Rattle.the_answer.proofs.Vocabulary.{labels_to_try, outcomes_here, outcomes_within, most_labels, outcomes_of, OutcomesAreListed, none_here, first_or_later, first_is_here, later_is_here, mapped}
+use Rattle.the_answer.proofs.Vocabulary.{◌≡◌, ℕ, zero, suc, ◌<◌, ◌≤◌, Bool, true, false, ◌&&◌, List, [], ◌∷◌, length, Option, Some, None, option_and_then, Contains, flat_map, cond, ◌↔◌, refl, ap, sym, ◌∙◌, subst, inl, inr, arith, option_map_or, list_all}
+use Rattle.the_answer.proofs.Vocabulary.{cases_lt, Contains-append_left, Contains-append_right, Contains-append_cases, Listing, Outcome, action, show, JumpForward, Label, Exec, Flush, Pending, Machine, State, start, step, run, is_empty, outcome_at, HasEnded}
+use Rattle.the_answer.proofs.Vocabulary.{Allows, is_stop, has_ended, threads_of, labels_to_try, outcomes_here, outcomes_within, most_labels, outcomes_of, OutcomesAreListed, none_here, first_or_later, first_is_here, later_is_here, mapped}
 use Rattle.std.proofs.lemmas.Option.{same_Some}
 use Rattle.tso_program.specs.declared.action.Action.{Action, TheVariants.Stop}
 use Rattle.tso_machine.proofs.Runs.{no_action}

@@ -1,6 +1,6 @@
 -- The test of a set of gaps tells whether it serves.
-use Rattle.the_answer.proofs.Vocabulary.{◌≡◌, Bool, true, false, List, Contains, sym, ◌∙◌, inl, inr, list_any, cases_Bool, SetOfGaps, Outcome, Question, JumpForward, SequentialMachine}
-use Rattle.the_answer.proofs.Vocabulary.{StoreBufferMachine, outcomes_of, does_serve, eq_by_cmp, gaps_in, Serves, LeavesOutcome, EachOutcomeIsAllowedOrNot, TheTestTellsWhatServes}
+use Rattle.the_answer.proofs.Vocabulary.{◌≡◌, Bool, true, false, List, Contains, sym, ◌∙◌, inl, inr, list_any, cases_Bool, SetOfGaps, Outcome, Question, JumpForward, SequentialMachine, StoreBufferMachine, outcomes_of, does_serve, eq_by_cmp, gaps_in, Serves}
+use Rattle.the_answer.proofs.Vocabulary.{LeavesOutcome, EachOutcomeIsAllowedOrNot, TheTestTellsWhatServes}
 use Rattle.std.proofs.lemmas.Cmp.{eq_by_cmp_equiv}
 use Rattle.std.proofs.lemmas.Map.Views.{Contains-from_any, list_any-from_Contains}
 use Rattle.tso_program.specs.Ordered.{outcome_cmp}

@@ -1,6 +1,6 @@
 -- Each step is one of the program's threads, and no run is longer than what is listed.
-use Rattle.the_answer.proofs.Vocabulary.{◌≡◌, ℕ, zero, suc, ◌<◌, ◌≤◌, Bool, true, false, List, [], ◌∷◌, length, Some, None, slice_get, sym, ap, ◌∙◌, subst, inl, inr, arith, cases_lt, Listing, Label}
-use Rattle.the_answer.proofs.Vocabulary.{Exec, Flush, Pending, action, code_of, instr_at, Gaps, Machine, SequentialMachine, StoreBufferMachine, no_gaps, State, step, longest, RunsAreBounded}
+use Rattle.the_answer.proofs.Vocabulary.{◌≡◌, ℕ, zero, suc, ◌<◌, ◌≤◌, Bool, true, false, List, [], ◌∷◌, length, Some, None, slice_get, sym, ap, ◌∙◌, subst, inl, inr, arith, cases_lt, Listing, Label, Exec, Flush, Pending, action, code_of, instr_at, Gaps}
+use Rattle.the_answer.proofs.Vocabulary.{Machine, SequentialMachine, StoreBufferMachine, no_gaps, State, step, longest, RunsAreBounded}
 use Rattle.std.proofs.Math.Nat.{le-max_left, le-max_right}
 use Rattle.tso_program.specs.{declared.instruction.Instr.Instr, declared.listing.Thread.Thread}
 use Rattle.candidate_executions.proofs.{Candidates.AllEvents.no_code, FromRuns.RunsAreShort.run_bound}

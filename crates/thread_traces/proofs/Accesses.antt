@@ -1,6 +1,5 @@
 -- A thread that is not there has no accesses.
-use Rattle.thread_traces.proofs.Vocabulary.{◌≡◌, ◌↔◌, ◌⊎◌, ℕ, ◌<◌, ◌≤◌, List, [], length, Contains, ap, inl, inr, arith, AllPairs, Listing, action, start_of, Machine, Event, trace, trace_by}
-use Rattle.thread_traces.proofs.Vocabulary.{fenced_gaps, Initial, At}
+use Rattle.thread_traces.proofs.Vocabulary.{◌≡◌, ◌↔◌, ◌⊎◌, ℕ, ◌<◌, ◌≤◌, List, [], length, Contains, ap, inl, inr, arith, AllPairs, Listing, action, start_of, Machine, Event, trace, trace_by, fenced_gaps, Initial, At}
 use Rattle.candidate_executions.specs.Events.{ComesBefore}
 use Rattle.thread_traces.proofs.TracesKept.{no_code}
 

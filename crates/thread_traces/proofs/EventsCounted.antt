@@ -1,8 +1,7 @@
 -- Lists of different elements are no longer than a list that has them all; a program's threads have no more accesses than a program may have.
-use Rattle.thread_traces.proofs.Vocabulary.{◌≡◌, ◌≢◌, ℕ, zero, suc, ◌+◌, ◌<◌, ◌≤◌, List, [], ◌∷◌, ◌++◌, Some, take, get_or, length, slice_get, Contains, sum_by, refl, sym, ap, ◌∙◌, subst, inl, inr}
-use Rattle.thread_traces.proofs.Vocabulary.{arith, length-append, sum_by_more, sum_by-take-le, slice_get-get_or, get_or_from_slice_get, unwrap_or-slice_get, AllPairs, remove, unwrap_or, option_map_or}
-use Rattle.thread_traces.proofs.Vocabulary.{cases_lt, cases_eq, Contains-append_left, Contains-append_right, Thread, Listing, Machine, trace_by, Event, At, accesses_of, code_of, IsWithinLimits}
-use Rattle.thread_traces.proofs.Vocabulary.{get_some, first_is_here, later_is_here}
+use Rattle.thread_traces.proofs.Vocabulary.{◌≡◌, ◌≢◌, ℕ, zero, suc, ◌+◌, ◌<◌, ◌≤◌, List, [], ◌∷◌, ◌++◌, Some, take, get_or, length, slice_get, Contains, sum_by, refl, sym, ap, ◌∙◌, subst, inl, inr, arith, length-append, sum_by_more, sum_by-take-le}
+use Rattle.thread_traces.proofs.Vocabulary.{slice_get-get_or, get_or_from_slice_get, unwrap_or-slice_get, AllPairs, remove, unwrap_or, option_map_or, cases_lt, cases_eq, Contains-append_left, Contains-append_right, Thread, Listing, Machine, trace_by, Event}
+use Rattle.thread_traces.proofs.Vocabulary.{At, accesses_of, code_of, IsWithinLimits, get_some, first_is_here, later_is_here}
 use Rattle.std.proofs.lemmas.List.Edits.{length-remove}
 use Rattle.thread_traces.proofs.{Accesses.none_past_by, AccessesCounted.weight, AccessesCounted.accesses_few, Walks.contains_remove}
 use Rattle.tso_program.specs.declared.limits.TheConstants.{MAX_ACCESSES}

@@ -1,8 +1,7 @@
 -- The values of a location, gathered from the instructions and the initial values.
-use Rattle.thread_traces.proofs.Vocabulary.{◌≡◌, ◌↔◌, ◌⊎◌, ℕ, ◌+◌, ◌<◌, ◌≤◌, List, [], ◌∷◌, ◌++◌, Option, Some, None, slice_get, get_or, length, Contains, refl, sym, ap, ◌∙◌, subst, inl, inr, eq-eqb}
-use Rattle.thread_traces.proofs.Vocabulary.{ne_eqb, arith, Contains-append_left, Contains-append_right, Contains-append_cases, Contains-push, Contains-push_cases, slice_index, cases_lt, cases_eq}
-use Rattle.thread_traces.proofs.Vocabulary.{slice_get_within, slice_get-get_or, slice_get_read, same_Some, Instr, LoadImm, StoreImm, CmpImm, Thread, Listing, instr_at, code_of, code_found, Occurs}
-use Rattle.thread_traces.proofs.Vocabulary.{IsImmediate, IsKnown, TakesRegister, IsValueOf, number_stored, any_number, stored_number, HasImmediate}
+use Rattle.thread_traces.proofs.Vocabulary.{◌≡◌, ◌↔◌, ◌⊎◌, ℕ, ◌+◌, ◌<◌, ◌≤◌, List, [], ◌∷◌, ◌++◌, Option, Some, None, slice_get, get_or, length, Contains, refl, sym, ap, ◌∙◌, subst, inl, inr, eq-eqb, ne_eqb, arith, Contains-append_left, Contains-append_right}
+use Rattle.thread_traces.proofs.Vocabulary.{Contains-append_cases, Contains-push, Contains-push_cases, slice_index, cases_lt, cases_eq, slice_get_within, slice_get-get_or, slice_get_read, same_Some, Instr, LoadImm, StoreImm, CmpImm, Thread, Listing, instr_at}
+use Rattle.thread_traces.proofs.Vocabulary.{code_of, code_found, Occurs, IsImmediate, IsKnown, TakesRegister, IsValueOf, number_stored, any_number, stored_number, HasImmediate}
 use Rattle.thread_traces.proofs.TracesKept.{no_code}
 
 -- a number of the first n threads' instructions

@@ -1,7 +1,6 @@
 -- What a register may hold, and which locations take a register.
-use Rattle.thread_traces.proofs.Vocabulary.{◌≡◌, ◌↔◌, ◌⊎◌, ℕ, zero, suc, ◌+◌, ◌<◌, ◌≤◌, List, [], ◌∷◌, ◌++◌, Some, None, get_or, length, Contains, refl, sym, ap, ◌∙◌, subst, inl, inr, arith}
-use Rattle.thread_traces.proofs.Vocabulary.{get_or_past, slice_index, cases_lt, Contains-get_or, read_is, Instr, Store, Xchg, Thread, Listing, instr_at, start_of, IsKnown, TakesRegister, HasImmediate}
-use Rattle.thread_traces.proofs.Vocabulary.{StoresRegister, TakesRegisterOf}
+use Rattle.thread_traces.proofs.Vocabulary.{◌≡◌, ◌↔◌, ◌⊎◌, ℕ, zero, suc, ◌+◌, ◌<◌, ◌≤◌, List, [], ◌∷◌, ◌++◌, Some, None, get_or, length, Contains, refl, sym, ap, ◌∙◌, subst, inl, inr, arith, get_or_past, slice_index, cases_lt, Contains-get_or, read_is, Instr}
+use Rattle.thread_traces.proofs.Vocabulary.{Store, Xchg, Thread, Listing, instr_at, start_of, IsKnown, TakesRegister, HasImmediate, StoresRegister, TakesRegisterOf}
 use Rattle.thread_traces.proofs.Gathered.{HasCome, come_by, come_more, come_append, IsNumberBelow, thread_more, immediate_all}
 
 -- an initial value of a register of the first n threads

@@ -1,7 +1,6 @@
 -- A trace is made an instruction at a time.
-use Rattle.thread_traces.proofs.Vocabulary.{◌≡◌, ℕ, zero, suc, ◌+◌, ◌-◌, ◌<◌, ◌≤◌, Bool, true, false, List, [], get_or, drop, length, refl, sym, ap, ◌∙◌, subst, arith, append-nil, slice_get_read}
-use Rattle.thread_traces.proofs.Vocabulary.{code_found, Action, Thread, Listing, action, code_of, start_of, Machine, read_is, Local, Trace, trace, entered, stopped, trace_by, fenced_gaps}
-use Rattle.thread_traces.proofs.Vocabulary.{with_accesses, GoesOn, first_local}
+use Rattle.thread_traces.proofs.Vocabulary.{◌≡◌, ℕ, zero, suc, ◌+◌, ◌-◌, ◌<◌, ◌≤◌, Bool, true, false, List, [], get_or, drop, length, refl, sym, ap, ◌∙◌, subst, arith, append-nil, slice_get_read, code_found, Action, Thread, Listing, action, code_of, start_of}
+use Rattle.thread_traces.proofs.Vocabulary.{Machine, read_is, Local, Trace, trace, entered, stopped, trace_by, fenced_gaps, with_accesses, GoesOn, first_local}
 use Rattle.thread_traces.specs.declared.walk.TraceSoFar.{TraceSoFar}
 
 -- one step less is left

@@ -1,15 +1,9 @@
 -- Trees of traces, as their nodes and the places of threads change.
-use Rattle.thread_traces.proofs.Vocabulary.{◌≡◌, ◌≢◌, ℕ, ◌+◌, ◌<◌, ◌≤◌, List, [], ◌∷◌, ◌++◌, Option, Some, None, slice_get, set, length, refl, sym, ap, ◌∙◌, subst, inl, inr, arith}
-use Rattle.thread_traces.proofs.Vocabulary.{append-nil, length-append, length-set, cases_eq, eq-eqb, ne_eqb, slice_get_within, same_Some, get_cases, cond, eqb, Listing, machine_of_mode, ThreadTrace, IsThreadTraceOf, get_or, drop}
-use Rattle.candidate_executions.proofs.Orders.Lists.{get_set_same, get_set_other, get_some}
-use Rattle.std.proofs.lemmas.List.{append_assoc}
-use Rattle.std.specs.Prelude.{IfNone, OnErr}
-use Rattle.std.proofs.Common.{Result, Ok, Err}
+use Rattle.thread_traces.proofs.Vocabulary.{◌≡◌, ◌≢◌, ℕ, ◌+◌, ◌<◌, ◌≤◌, List, [], ◌∷◌, ◌++◌, Option, Some, None, slice_get, set, length, refl, sym, ap, ◌∙◌, subst, inl, inr, arith, append-nil, length-append, length-set, cases_eq, eq-eqb, ne_eqb}
+use Rattle.thread_traces.proofs.Vocabulary.{slice_get_within, same_Some, get_cases, cond, eqb, Listing, machine_of_mode, ThreadTrace, IsThreadTraceOf, get_or, drop, get_set_same, get_set_other, get_some, append_assoc, IfNone, OnErr, Result, Ok, Err, TraceNode}
+use Rattle.thread_traces.proofs.Vocabulary.{TracePlace, AreNodes, AreNodesOf, IsAt, IsTraceTree, IsGivenMore, IsChildOf, IsNextPlace}
 use Rattle.tso_machine.specs.declared.mode.Mode.{Mode}
-use Rattle.thread_traces.specs.declared.trace_tree.TraceNode.{TraceNode}
-use Rattle.thread_traces.specs.declared.trace_tree.TracePlace.{TracePlace}
 use Rattle.thread_traces.specs.declared.trace_tree.TraceTree.{TraceTree}
-use Rattle.thread_traces.specs.TraceTrees.{AreNodes, AreNodesOf, IsAt, IsTraceTree, IsGivenMore, IsChildOf, IsNextPlace}
 
 -- ---- lists
 

@@ -1,18 +1,18 @@
 -- What many proofs of this crate speak of, imported once.
-pub use Rattle.std.proofs.Common.{All, Bool, Contains, IsSome, IsTrue, List, None, Option, Some, [], ap, arith, below_more, cond, drop, eq-eqb, eqb, false, get_or, inl, inr, length, length-set}
-pub use Rattle.std.proofs.Common.{ne_eqb, not, refl, set, slice_get, subst, suc, sum_by, sym, take, true, zero, ℕ, ◌*◌, ◌++◌, ◌+◌, ◌-◌, ◌<◌, ◌↔◌, ◌∙◌, ◌∷◌, ◌≡◌, ◌≢◌, ◌≤◌, ◌⊎◌}
+pub use Rattle.std.proofs.Common.{Bool, Contains, Err, IsSome, IsTrue, List, None, Ok, Option, Result, Some, [], ap, arith, below_more, cond, drop, eq-eqb, eqb, false, get_or, inl, inr, length}
+pub use Rattle.std.proofs.Common.{length-set, ne_eqb, not, refl, set, slice_get, subst, suc, sum_by, sym, take, true, zero, ℕ, ◌*◌, ◌++◌, ◌+◌, ◌-◌, ◌<◌, ◌↔◌, ◌∙◌, ◌∷◌, ◌≡◌, ◌≢◌, ◌≤◌, ◌⊎◌}
 pub use Rattle.std.proofs.lemmas.Bool.{cases_eq, cases_lt}
-pub use Rattle.std.proofs.lemmas.List.{append-nil, get_or_past, length-append, length_push}
+pub use Rattle.std.proofs.lemmas.List.{append-nil, append_assoc, get_or_past, length-append, length_push}
 pub use Rattle.std.proofs.lemmas.List.Elements.{Contains-append_cases, Contains-append_left, Contains-append_right, Contains-get_or, Contains-push, Contains-push_cases}
 pub use Rattle.std.proofs.lemmas.List.Sorted.{Contains-permutation, IsPermutation-remove, IsPermutation-sym}
 pub use Rattle.std.proofs.lemmas.List.Sums.{sum_by-cons, sum_by-take-le, sum_by_more}
 pub use Rattle.std.proofs.lemmas.Option.{get_or_from_slice_get, same_Some, slice_get-get_or, slice_get_past, slice_get_read, slice_get_within, unwrap_or-slice_get}
 pub use Rattle.std.specs.List.{AllPairs, remove}
 pub use Rattle.std.specs.Option.{is_some, option_map_or}
-pub use Rattle.std.specs.Prelude.{slice_index, unwrap_or}
+pub use Rattle.std.specs.Prelude.{IfNone, OnErr, slice_index, unwrap_or}
 pub use Rattle.bit_rows.specs.Rows.{IsIn}
 pub use Rattle.bit_rows.specs.declared.row.TheConstants.{ROW_BITS}
-pub use Rattle.candidate_executions.proofs.Orders.Lists.{first_is_here, get_cases, get_some, later_is_here}
+pub use Rattle.candidate_executions.proofs.Orders.Lists.{first_is_here, get_cases, get_set_other, get_set_same, get_some, later_is_here}
 pub use Rattle.candidate_executions.specs.Traces.{Trace, entered, fenced_gaps, stopped, trace, trace_by, traced}
 pub use Rattle.candidate_executions.specs.Values.{IsImmediate, IsKnown, IsValueOf, Occurs, TakesRegister}
 pub use Rattle.candidate_executions.specs.declared.access.Access.{Access}
@@ -33,6 +33,9 @@ pub use Rattle.tso_program.specs.declared.listing.Thread.{Thread}
 pub use Rattle.thread_traces.specs.Immediates.{HasImmediate, StoresRegister, TakesRegisterOf, any_number, number_stored, stored_number}
 pub use Rattle.thread_traces.specs.ThreadTraces.{GoesOn, IsThreadTraceOf, first_local, with_accesses}
 pub use Rattle.thread_traces.specs.TraceCounts.{CountSays, IsCountUpTo, combination_count, trace_count, values_at}
+pub use Rattle.thread_traces.specs.TraceTrees.{AreNodes, AreNodesOf, IsAt, IsChildOf, IsGivenMore, IsNextPlace, IsTraceTree}
 pub use Rattle.thread_traces.specs.ValueLists.{IsValueList}
 pub use Rattle.thread_traces.specs.WriteBits.{write_bit}
 pub use Rattle.thread_traces.specs.declared.thread_trace.ThreadTrace.{ThreadTrace}
+pub use Rattle.thread_traces.specs.declared.trace_tree.TraceNode.{TraceNode}
+pub use Rattle.thread_traces.specs.declared.trace_tree.TracePlace.{TracePlace}

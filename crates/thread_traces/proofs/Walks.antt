@@ -1,6 +1,6 @@
 -- Walks along edges: a walk that comes back holds a cycle.
-use Rattle.thread_traces.proofs.Vocabulary.{◌≡◌, ◌≢◌, ◌⊎◌, ℕ, zero, suc, List, [], ◌∷◌, ◌++◌, Some, slice_get, drop, Contains, sym, subst, inl, inr, arith, IsPermutation-remove, Contains-permutation}
-use Rattle.thread_traces.proofs.Vocabulary.{AllPairs, remove, Contains-get_or, slice_get_within, get_or_from_slice_get, Event}
+use Rattle.thread_traces.proofs.Vocabulary.{◌≡◌, ◌≢◌, ◌⊎◌, ℕ, zero, suc, List, [], ◌∷◌, ◌++◌, Some, slice_get, drop, Contains, sym, subst, inl, inr, arith, IsPermutation-remove, Contains-permutation, AllPairs, remove, Contains-get_or, slice_get_within}
+use Rattle.thread_traces.proofs.Vocabulary.{get_or_from_slice_get, Event}
 use Rattle.std.proofs.lemmas.List.Quantifiers.{all_pairs_push}
 use Rattle.candidate_executions.specs.Consistency.{Leads, IsCycle}
 

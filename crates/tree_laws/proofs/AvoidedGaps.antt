@@ -1,6 +1,5 @@
 -- A foreign run that passes no gap of a set leaves its outcome where the set is fenced.
-use Rattle.tree_laws.proofs.Vocabulary.{◌≡◌, ℕ, Bool, true, false, List, Option, Some, None, refl, SetOfGaps, Listing, Outcome, Question, gap_number, gaps_in, Label, StoreBufferMachine, no_gaps}
-use Rattle.tree_laws.proofs.Vocabulary.{start, passes, PassesGap, IsForeignRun, LeavesOutcome}
+use Rattle.tree_laws.proofs.Vocabulary.{◌≡◌, ℕ, Bool, true, false, List, Option, Some, None, refl, SetOfGaps, Listing, Outcome, Question, gap_number, gaps_in, Label, StoreBufferMachine, no_gaps, start, passes, PassesGap, IsForeignRun, LeavesOutcome}
 use Rattle.std.specs.Option.{option_map_or}
 use Rattle.std.specs.FinSet as set
 use Rattle.tso_machine.proofs.Avoided.{run_fenced}

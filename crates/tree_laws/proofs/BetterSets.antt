@@ -1,6 +1,6 @@
 -- Where a set is not better than the answer, no set that holds it is.
-use Rattle.tree_laws.proofs.Vocabulary.{◌≡◌, ◌≢◌, ◌⊎◌, ℕ, ◌<◌, ◌≤◌, Bool, true, false, List, length, refl, sym, ◌∙◌, subst, inl, inr, arith, nat_cmp_total, Better, MAX_GAPS, Listing, IsWithinLimits}
-use Rattle.tree_laws.proofs.Vocabulary.{AreGapsOf, HaveCosts, SetOfGaps, have_same_gaps, chained, gap_count}
+use Rattle.tree_laws.proofs.Vocabulary.{◌≡◌, ◌≢◌, ◌⊎◌, ℕ, ◌<◌, ◌≤◌, Bool, true, false, List, length, refl, sym, ◌∙◌, subst, inl, inr, arith, nat_cmp_total, Better, MAX_GAPS, Listing, IsWithinLimits, AreGapsOf, HaveCosts, SetOfGaps, have_same_gaps, chained}
+use Rattle.tree_laws.proofs.Vocabulary.{gap_count}
 use Rattle.std.specs.FinSet as set
 use Rattle.gap_sets.specs.SameGaps.{have_same_gaps-same}
 use Rattle.gap_sets.proofs.Subsets.{cheaper}

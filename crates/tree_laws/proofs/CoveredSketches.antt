@@ -1,8 +1,7 @@
 -- A valid cover tree at a sketch covers it: each completion has made the choice of one of the children, or is closed by a cycle, or ends as its leaf says.
-use Rattle.tree_laws.proofs.Vocabulary.{ℕ, List, [], ◌∷◌, Contains, map, sym, inl, inr, Listing, Outcome, Question, JumpForward, Machine, Event, Kind, Cover, Value, Source, Order, Cycle, Known}
-use Rattle.tree_laws.proofs.Vocabulary.{Covers, NoCover, MoreCovers, event_of, HasNextValues, HasSources, HasNoOrder, MustEndAsNumber, IsValidCover, AreValidCovers, IsCovered, Candidate, Sketch}
-use Rattle.tree_laws.proofs.Vocabulary.{Completes, IsConsistentCompletion, IsSketch, IsPair, with_value, with_source, with_pair, IsKnownCycle, some_value, a_value_keeps_a_sketch}
-use Rattle.tree_laws.proofs.Vocabulary.{a_source_keeps_a_sketch, a_pair_keeps_a_sketch, each_has_a_value, each_has_a_source, each_has_an_order, AValidCoverCovers}
+use Rattle.tree_laws.proofs.Vocabulary.{ℕ, List, [], ◌∷◌, Contains, map, sym, inl, inr, Listing, Outcome, Question, JumpForward, Machine, Event, Kind, Cover, Value, Source, Order, Cycle, Known, Covers, NoCover, MoreCovers, event_of, HasNextValues, HasSources}
+use Rattle.tree_laws.proofs.Vocabulary.{HasNoOrder, MustEndAsNumber, IsValidCover, AreValidCovers, IsCovered, Candidate, Sketch, Completes, IsConsistentCompletion, IsSketch, IsPair, with_value, with_source, with_pair, IsKnownCycle, some_value}
+use Rattle.tree_laws.proofs.Vocabulary.{a_value_keeps_a_sketch, a_source_keeps_a_sketch, a_pair_keeps_a_sketch, each_has_a_value, each_has_a_source, each_has_an_order, AValidCoverCovers}
 use Rattle.candidate_executions.proofs.{Sketches.KnownCycles.known_cycle_refutes, Sketches.MustEnd.each_ends_so}
 use Rattle.tree_laws.proofs.Lists.{none_here, mapped, found_is_here, each_more}
 

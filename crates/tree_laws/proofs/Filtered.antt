@@ -1,6 +1,5 @@
 -- The elements of a list that pass a test, and whether a number is in a list.
-use Rattle.tree_laws.proofs.Vocabulary.{◌≡◌, ℕ, zero, suc, Bool, true, List, [], ◌∷◌, nat_eq, Contains, ap, ◌∙◌, inl, inr, arith, filter, list_any, cases_Bool, nat_tests, All-contains}
-use Rattle.tree_laws.proofs.Vocabulary.{All-contains_itself, All-filter, filter_passes}
+use Rattle.tree_laws.proofs.Vocabulary.{◌≡◌, ℕ, zero, suc, Bool, true, List, [], ◌∷◌, nat_eq, Contains, ap, ◌∙◌, inl, inr, arith, filter, list_any, cases_Bool, nat_tests, All-contains, All-contains_itself, All-filter, filter_passes}
 use Rattle.std.proofs.lemmas.List.Folds.{list_any_at}
 use Rattle.std.proofs.lemmas.Map.Views.{Contains-from_any}
 use Rattle.tree_laws.proofs.Lists.{later_is_here}

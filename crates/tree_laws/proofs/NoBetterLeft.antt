@@ -1,8 +1,8 @@
 -- A valid gap tree over foreign runs leaves no better serving set in its region.
 use Rattle.std.proofs.Common.{◌≡◌, ℕ, true, false, List, [], ◌∷◌, Contains, All, sym, ◌∙◌, inl, inr}
 use Rattle.std.specs.FinSet as set
-use Rattle.tree_laws.proofs.Vocabulary.{SetOfGaps, IsInRegion, child_regions, HasNoneOf, Region, Listing, Question, IsWithinLimits, Label, Gap, Split, Bound, GapTrees, NoGap, MoreGaps, IsSplitBy}
-use Rattle.tree_laws.proofs.Vocabulary.{IsValidGap, AreValidGaps, EachBetterOfRegionLeavesOutcome, HaveCosts, IsForeign, AValidGapTreeLeavesNoBetter, SoNoServingSetIsBetter, TheRootHasEverySet}
+use Rattle.tree_laws.proofs.Vocabulary.{SetOfGaps, IsInRegion, child_regions, HasNoneOf, Region, Listing, Question, IsWithinLimits, Label, Gap, Split, Bound, GapTrees, NoGap, MoreGaps, IsSplitBy, IsValidGap, AreValidGaps, EachBetterOfRegionLeavesOutcome}
+use Rattle.tree_laws.proofs.Vocabulary.{HaveCosts, IsForeign, AValidGapTreeLeavesNoBetter, SoNoServingSetIsBetter, TheRootHasEverySet}
 use Rattle.tree_laws.proofs.{Lists.none_here, Lists.found_has, Lists.each_more, AvoidedGaps.Avoids, AvoidedGaps.leaves_outcome, BetterSets.still_better}
 use Rattle.tree_laws.proofs.Regions.{true_or_false, split_loses_no_set, in_root}
 

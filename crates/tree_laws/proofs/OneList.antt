@@ -1,6 +1,6 @@
 -- What a node's children are for is determined: two lists in order with the same elements are the same.
-use Rattle.tree_laws.proofs.Vocabulary.{◌≡◌, ◌↔◌, ℕ, suc, ◌<◌, List, [], ◌∷◌, Contains, refl, sym, ◌∙◌, subst, inl, inr, arith, AllPairs, IsStrictlyIncreasing, same_Some, Event, Initial, At}
-use Rattle.tree_laws.proofs.Vocabulary.{IsValueOf, IsSourceOf, ComesBefore, AllPairs-from_increasing, IsOpenGap, TheValuesAreOneList, TheSourcesAreOneList, TheGapsAreOneList}
+use Rattle.tree_laws.proofs.Vocabulary.{◌≡◌, ◌↔◌, ℕ, suc, ◌<◌, List, [], ◌∷◌, Contains, refl, sym, ◌∙◌, subst, inl, inr, arith, AllPairs, IsStrictlyIncreasing, same_Some, Event, Initial, At, IsValueOf, IsSourceOf, ComesBefore, AllPairs-from_increasing}
+use Rattle.tree_laws.proofs.Vocabulary.{IsOpenGap, TheValuesAreOneList, TheSourcesAreOneList, TheGapsAreOneList}
 use Rattle.tree_laws.proofs.Lists.{none_here, first_or_later, first_is_here, later_is_here}
 
 module _ {A : Type 0} (R : A → A → Type 0) (one_way : (x y : A) → R x y → R y x → ⊥) where

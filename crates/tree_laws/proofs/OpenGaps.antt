@@ -1,6 +1,6 @@
 -- The gaps of a set in order, and those of one set that are not in another.
-use Rattle.tree_laws.proofs.Vocabulary.{◌≡◌, ◌↔◌, ℕ, ◌+◌, ◌<◌, ◌≤◌, true, false, not, get_or, length, Contains, ◌∙◌, arith, zero-add, not-true, not_from_false, IsStrictlyIncreasing-filter}
-use Rattle.tree_laws.proofs.Vocabulary.{range_with_len, IsStrictlyIncreasing, MAX_GAPS, SetOfGaps, IsGapSet, numbers_of_set, is_free, open_gaps}
+use Rattle.tree_laws.proofs.Vocabulary.{◌≡◌, ◌↔◌, ℕ, ◌+◌, ◌<◌, ◌≤◌, true, false, get_or, length, Contains, ◌∙◌, arith, zero-add, not-true, not_from_false, IsStrictlyIncreasing-filter, range_with_len, IsStrictlyIncreasing, MAX_GAPS, SetOfGaps, IsGapSet}
+use Rattle.tree_laws.proofs.Vocabulary.{numbers_of_set, is_free, open_gaps}
 use Rattle.std.specs.FinSet as set
 use Rattle.std.proofs.lemmas.List.FromFn.{length-range_with_len, get_or-range_with_len}
 use Rattle.std.proofs.lemmas.List.Sums.{length-filter, count_by-le-length}

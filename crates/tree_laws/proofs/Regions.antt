@@ -1,6 +1,6 @@
 -- The children of a region: a set of the region is in the child for the first of the gaps that it has.
-use Rattle.tree_laws.proofs.Vocabulary.{◌≡◌, ◌⊎◌, ◌||◌, ℕ, Bool, true, false, [], ◌∷◌, refl, sym, ◌∙◌, subst, inl, inr, arith, nat_cmp, eq_by_cmp, nat_cmp_total, nat_tests, SetOfGaps, all_sets}
-use Rattle.tree_laws.proofs.Vocabulary.{with_gap, without_gap, IsInRegion, child_regions, Region, ASplitLosesNoSet}
+use Rattle.tree_laws.proofs.Vocabulary.{◌≡◌, ◌⊎◌, ◌||◌, ℕ, Bool, true, false, [], ◌∷◌, refl, sym, ◌∙◌, subst, inl, inr, arith, nat_cmp, eq_by_cmp, nat_cmp_total, nat_tests, SetOfGaps, all_sets, with_gap, without_gap, IsInRegion, child_regions, Region}
+use Rattle.tree_laws.proofs.Vocabulary.{ASplitLosesNoSet}
 use Rattle.std.specs.FinSet as set
 use Rattle.tree_laws.proofs.Lists.{none_here, first_is_here, later_is_here, each_more}
 pub use Rattle.std.proofs.lemmas.Bool.{cases_Bool as true_or_false}

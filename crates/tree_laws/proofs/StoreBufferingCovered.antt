@@ -1,8 +1,7 @@
 -- Store buffering: its cover tree is valid in each mode, given the cycle of the mode.
-use Rattle.tree_laws.proofs.Vocabulary.{◌≢◌, is_some, ◌≡◌, ℕ, zero, suc, ◌<◌, List, [], ◌∷◌, Some, Contains, slice_get, slice_index, map, refl, sym, ap, ◌∙◌, subst, inl, inr, arith, lit<, AllPairs}
-use Rattle.tree_laws.proofs.Vocabulary.{same_Some, Outcome, All, Machine, Access, Event, Initial, At, Kind, access_by, Writes, Sketch, empty_sketch, given_to, IsStrictlyIncreasing, IsKnownCycle}
-use Rattle.tree_laws.proofs.Vocabulary.{with_value, with_source, IsSourceOf, MayBeLast, MustEndAs, ComesBefore, event_of, MustEndAsNumber, HasNextValues, HasSources, IsValidCover, Question, asked}
-use Rattle.tree_laws.proofs.Vocabulary.{store_buffering, ends_with, around, cover_of}
+use Rattle.tree_laws.proofs.Vocabulary.{◌≢◌, is_some, ◌≡◌, ℕ, zero, suc, ◌<◌, List, [], ◌∷◌, Some, Contains, slice_get, slice_index, map, refl, sym, ap, ◌∙◌, subst, inl, inr, arith, lit<, AllPairs, same_Some, Outcome, All, Machine, Access, Event, Initial, At}
+use Rattle.tree_laws.proofs.Vocabulary.{Kind, access_by, Writes, Sketch, empty_sketch, given_to, IsStrictlyIncreasing, IsKnownCycle, with_value, with_source, IsSourceOf, MayBeLast, MustEndAs, ComesBefore, event_of, MustEndAsNumber, HasNextValues, HasSources}
+use Rattle.tree_laws.proofs.Vocabulary.{IsValidCover, Question, asked, store_buffering, ends_with, around, cover_of}
 use Rattle.tree_laws.proofs.Lists.{none_here, first_or_later, first_is_here}
 use Rattle.tree_laws.proofs.StoreBufferingValues.{zero_one, values, both, whole, writes_one, writes_initial}
 

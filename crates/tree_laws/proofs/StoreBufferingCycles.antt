@@ -1,6 +1,5 @@
 -- Store buffering: where both loads give 0 the accesses are a cycle, sequentially and with both gaps fenced.
-use Rattle.tree_laws.proofs.Vocabulary.{◌≡◌, ◌≢◌, ℕ, Bool, true, false, [], ◌∷◌, map, refl, inl, inr, arith, lit<, these, gaps_in, Machine, SequentialMachine, StoreBufferMachine, store_buffering}
-use Rattle.tree_laws.proofs.Vocabulary.{Initial, entered, IsKnownCycle, event_of, around}
+use Rattle.tree_laws.proofs.Vocabulary.{◌≡◌, ◌≢◌, ℕ, Bool, true, false, [], ◌∷◌, map, refl, inl, inr, arith, lit<, these, gaps_in, Machine, SequentialMachine, StoreBufferMachine, store_buffering, Initial, entered, IsKnownCycle, event_of, around}
 use Rattle.std.specs.FinSet as set
 use Rattle.candidate_executions.specs.declared.event.Kind.TheVariants as union
 use Rattle.tree_laws.proofs.StoreBufferingCovered.{read_twice}

@@ -1,7 +1,6 @@
 -- Store buffering: its gap tree is valid.
-use Rattle.tree_laws.proofs.Vocabulary.{◌≡◌, ◌||◌, ℕ, zero, suc, ◌<◌, Bool, true, false, [], ◌∷◌, Contains, refl, sym, ap, ◌∙◌, subst, inl, inr, arith, IsStrictlyIncreasing, nat_cmp, eq_by_cmp}
-use Rattle.tree_laws.proofs.Vocabulary.{nat_cmp_total, nat_tests, SetOfGaps, Better, all_sets, with_gap, without_gap, Region, these, store_buffering, waiting_stores, PassesGap, IsSplitBy, IsValidGap}
-use Rattle.tree_laws.proofs.Vocabulary.{costs, not_itself, second_waits, first_waits, gap_tree}
+use Rattle.tree_laws.proofs.Vocabulary.{◌≡◌, ◌||◌, ℕ, zero, suc, ◌<◌, Bool, true, false, [], ◌∷◌, Contains, refl, sym, ap, ◌∙◌, subst, inl, inr, arith, IsStrictlyIncreasing, nat_cmp, eq_by_cmp, nat_cmp_total, nat_tests, SetOfGaps, Better, all_sets, with_gap}
+use Rattle.tree_laws.proofs.Vocabulary.{without_gap, Region, these, store_buffering, waiting_stores, PassesGap, IsSplitBy, IsValidGap, costs, not_itself, second_waits, first_waits, gap_tree}
 use Rattle.std.specs.FinSet as set
 use Rattle.tree_laws.proofs.{Lists.none_here, Lists.first_or_later, Lists.first_is_here, Regions.new_or_old}
 use Rattle.tree_laws.proofs.StoreBufferingValues.{zero_one, in_zero_one, of_zero_one}

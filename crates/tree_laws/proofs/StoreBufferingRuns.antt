@@ -1,7 +1,7 @@
 -- Store buffering: the runs of its certificate, and what they pass.
 use Rattle.std.proofs.Common.{◌≡◌, ℕ, zero, suc, ◌<◌, ◌≤◌, true, false, List, [], ◌∷◌, Some, Contains, All, length, slice_index, slice_index_or, ◌+◌, refl, sym, ap, ◌∙◌, arith, lit<}
-use Rattle.tree_laws.proofs.Vocabulary.{All-nil, All-cons, Stop, Outcome, action, gap_number, Label, store_buffering, waiting_stores, PassesGap, AreSequentialRuns, IsRunOutside, SequentialMachine}
-use Rattle.tree_laws.proofs.Vocabulary.{StoreBufferMachine, no_gaps, State, start, run, HasEnded, passes, first_first, second_first, stores_first, sequential_runs, second_waits, first_waits}
+use Rattle.tree_laws.proofs.Vocabulary.{All-nil, All-cons, Stop, Outcome, action, gap_number, Label, store_buffering, waiting_stores, PassesGap, AreSequentialRuns, IsRunOutside, SequentialMachine, StoreBufferMachine, no_gaps, State, start, run, HasEnded}
+use Rattle.tree_laws.proofs.Vocabulary.{passes, first_first, second_first, stores_first, sequential_runs, second_waits, first_waits}
 use Rattle.tso_program.proofs.Gaps.{gap_below, gap_same}
 use Rattle.tso_machine.specs.declared.label.Pending.{Pending}
 use Rattle.tso_machine.proofs.{Runs.no_action, Runs.no_stores, Refused.run_keeps}

@@ -1,6 +1,6 @@
 -- Store buffering: its instructions, the values of its locations, and its accesses under given values.
-use Rattle.tree_laws.proofs.Vocabulary.{◌≡◌, ◌↔◌, ◌⊎◌, ℕ, zero, suc, ◌<◌, List, [], ◌∷◌, Some, None, Contains, slice_index, refl, sym, ap, ◌∙◌, subst, inl, inr, arith, same_Some, Machine}
-use Rattle.tree_laws.proofs.Vocabulary.{store_buffering, Access, Initial, At, access_by, Writes, Sketch, empty_sketch, given_to, with_value, IsWhole, instr_at, Occurs, IsValueOf}
+use Rattle.tree_laws.proofs.Vocabulary.{◌≡◌, ◌↔◌, ◌⊎◌, ℕ, zero, suc, ◌<◌, List, [], ◌∷◌, Some, None, Contains, slice_index, refl, sym, ap, ◌∙◌, subst, inl, inr, arith, same_Some, Machine, store_buffering, Access, Initial, At, access_by, Writes, Sketch}
+use Rattle.tree_laws.proofs.Vocabulary.{empty_sketch, given_to, with_value, IsWhole, instr_at, Occurs, IsValueOf}
 use Rattle.tso_program.specs.declared.instruction.Reg.{Reg, TheVariants.Eax}
 use Rattle.tso_program.specs.declared.instruction.Instr.{Instr, TheVariants.Load, TheVariants.StoreImm, TheVariants.Store, TheVariants.Xchg}
 use Rattle.tree_laws.proofs.Lists.{first_is_here, later_is_here}

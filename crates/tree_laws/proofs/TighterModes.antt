@@ -1,10 +1,8 @@
 -- A cover tree that is valid in a mode is valid in each tighter one: of what is known of a sketch only sections change, and of two modes with gaps fenced they come no closer.
-use Rattle.tree_laws.proofs.Vocabulary.{◌≡◌, ◌⊎◌, ℕ, Bool, List, [], ◌∷◌, Some, slice_get, IsSome, map, length, sym, ap, ◌∙◌, subst, inl, inr, range_with_len, Local, Listing, Outcome, Machine}
-use Rattle.tree_laws.proofs.Vocabulary.{SequentialMachine, StoreBufferMachine, Access, Event, Initial, At, Kind, access_by, Writes, Cover, Value, Source, Order, Cycle, Known, Covers, NoCover}
-use Rattle.tree_laws.proofs.Vocabulary.{MoreCovers, event_of, HasNextValues, HasSources, HasNoOrder, IsValidCover, AreValidCovers, Truth, Question, show_registers, action, start_of, code_of, Gaps}
-use Rattle.tree_laws.proofs.Vocabulary.{trace_by, Sketch, given_to, IsSourceOf, IsPair, with_value, with_source, with_pair, read_by, next_read, IsWhole, MayBeLast, stopped, EndsInValues, KnownAtom}
-use Rattle.tree_laws.proofs.Vocabulary.{EndsAs, MustEndAs, IsBefore, KnownFromReads, KnownRelates, KnownEdgeOfMode, IsKnownCycle, ATighterModeKeepsACover, ATighterModeKeepsTheValues}
-use Rattle.tree_laws.proofs.Vocabulary.{ATighterModeKeepsAWholeSketch, bare, threads_alike, also, writes}
+use Rattle.tree_laws.proofs.Vocabulary.{◌≡◌, ◌⊎◌, ℕ, Bool, List, [], ◌∷◌, Some, slice_get, IsSome, map, length, sym, ap, ◌∙◌, subst, inl, inr, range_with_len, Local, Listing, Outcome, Machine, SequentialMachine, StoreBufferMachine, Access, Event, Initial, At}
+use Rattle.tree_laws.proofs.Vocabulary.{Kind, access_by, Writes, Cover, Value, Source, Order, Cycle, Known, Covers, NoCover, MoreCovers, event_of, HasNextValues, HasSources, HasNoOrder, IsValidCover, AreValidCovers, Truth, Question, show_registers, action}
+use Rattle.tree_laws.proofs.Vocabulary.{start_of, code_of, Gaps, trace_by, Sketch, given_to, IsSourceOf, IsPair, with_value, with_source, with_pair, read_by, next_read, IsWhole, MayBeLast, stopped, EndsInValues, KnownAtom, EndsAs, MustEndAs, IsBefore}
+use Rattle.tree_laws.proofs.Vocabulary.{KnownFromReads, KnownRelates, KnownEdgeOfMode, IsKnownCycle, ATighterModeKeepsACover, ATighterModeKeepsTheValues, ATighterModeKeepsAWholeSketch, bare, threads_alike, also, writes}
 use mathlib.Core.Path.{fun_ext}
 use Rattle.tso_program.specs.{declared.shown.Shown.Shown, declared.atom.Atom.Atom, Truth.is_true_at}
 use Rattle.tso_program.specs.declared.atom.Atom.TheVariants as atom

@@ -1,6 +1,6 @@
 -- With more gaps fenced a trace is the same but for its sections, and no two of them come closer.
-use Rattle.tree_laws.proofs.Vocabulary.{◌≡◌, ◌≢◌, ℕ, zero, suc, ◌+◌, ◌<◌, ◌≤◌, Bool, true, false, List, [], ◌∷◌, Some, slice_get, refl, sym, ◌∙◌, subst, arith, same_Some, Local, Access, Go, Wait}
-use Rattle.tree_laws.proofs.Vocabulary.{Read, Write, Swap, load_of, store_of, exchange_of, entered, traced, trace, bare}
+use Rattle.tree_laws.proofs.Vocabulary.{◌≡◌, ◌≢◌, ℕ, zero, suc, ◌+◌, ◌<◌, ◌≤◌, Bool, true, false, List, [], ◌∷◌, Some, slice_get, refl, sym, ◌∙◌, subst, arith, same_Some, Local, Access, Go, Wait, Read, Write, Swap, load_of, store_of, exchange_of, entered}
+use Rattle.tree_laws.proofs.Vocabulary.{traced, trace, bare}
 use Rattle.tso_program.specs.{declared.action.Action.Action, Actions.loaded}
 
 -- y is x but for its section, which is at least as far from m as the section of x is from n

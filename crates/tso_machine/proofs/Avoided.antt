@@ -1,7 +1,6 @@
 -- A run with no gap fenced is a run with others fenced exactly where it passes none of them.
-use Rattle.tso_machine.proofs.Vocabulary.{◌≡◌, ℕ, Bool, true, false, ◌&&◌, ◌==◌, not, List, [], ◌∷◌, Option, Some, None, option_and_then, refl, sym, ap, ◌∙◌, subst, eq-eqb, or_parts, or_from}
-use Rattle.tso_machine.proofs.Vocabulary.{eqb-true, Label, Exec, Flush, Pending, Listing, action, no_gaps, StoreBufferMachine, State, past_gap, buffered, step, run, is_empty, from_some, passes_at}
-use Rattle.tso_machine.proofs.Vocabulary.{passes, Gaps}
+use Rattle.tso_machine.proofs.Vocabulary.{◌≡◌, ℕ, Bool, true, false, ◌&&◌, ◌==◌, not, List, [], ◌∷◌, Option, Some, None, option_and_then, refl, sym, ap, ◌∙◌, subst, eq-eqb, or_parts, or_from, eqb-true, Label, Exec, Flush, Pending, Listing, action, no_gaps}
+use Rattle.tso_machine.proofs.Vocabulary.{StoreBufferMachine, State, past_gap, buffered, step, run, is_empty, from_some, passes_at, passes, Gaps}
 
 module _ (p : Listing) (gaps : Gaps) where
   -- no gap of the set is passed

@@ -1,8 +1,7 @@
 -- What a step does to the machine's state, by what it does to a thread and to the memory.
-use Rattle.tso_machine.proofs.Vocabulary.{◌≡◌, ℕ, ◌<◌, Bool, true, false, ◌&&◌, ◌||◌, not, List, [], ◌∷◌, ◌++◌, Option, Some, None, option_and_then, Result, Ok, Err, length, length-set, refl, sym, ap}
-use Rattle.tso_machine.proofs.Vocabulary.{◌∙◌, subst, slice_index, slice_set, OnOk, if◌then◌else◌, nat_cmp, Exec, Pending, Model, Listing, Action, Stop, Go, Wait, Read, Write, Swap, action}
-use Rattle.tso_machine.proofs.Vocabulary.{machine_of_model, gaps_in, waits, loaded, IsLocated, put, State, newest, found, is_empty, when_empty, past_gap, buffered, direct, step, Core, Cores, core_at}
-use Rattle.tso_machine.proofs.Vocabulary.{state_of, AreLocated, FitsProgram, after_buffered, after_direct, after_action, same_Some as some_is}
+use Rattle.tso_machine.proofs.Vocabulary.{◌≡◌, ℕ, ◌<◌, Bool, true, false, ◌&&◌, ◌||◌, not, List, [], ◌∷◌, ◌++◌, Option, Some, None, option_and_then, Result, Ok, Err, length, length-set, refl, sym, ap, ◌∙◌, subst, slice_index, slice_set, OnOk, if◌then◌else◌}
+use Rattle.tso_machine.proofs.Vocabulary.{nat_cmp, Exec, Pending, Model, Listing, Action, Stop, Go, Wait, Read, Write, Swap, action, machine_of_model, gaps_in, waits, loaded, IsLocated, put, State, newest, found, is_empty, when_empty, past_gap, buffered}
+use Rattle.tso_machine.proofs.Vocabulary.{direct, step, Core, Cores, core_at, state_of, AreLocated, FitsProgram, after_buffered, after_direct, after_action, same_Some as some_is}
 use Rattle.std.specs.FinSet as set
 use Rattle.tso_machine.specs.declared.label.Model.TheVariants as models
 use Rattle.tso_machine.proofs.Link.{state_set, state_moved, memory_set, located_front, fits_set}

@@ -1,7 +1,6 @@
 -- The runs of the examples, computed.
-use Rattle.tso_machine.proofs.Vocabulary.{◌≡◌, ℕ, zero, suc, ◌≤◌, List, [], length, Some, refl, ap, arith, Stop, Listing, action, Label, Pending, SequentialMachine, StoreBufferMachine, no_gaps, State}
-use Rattle.tso_machine.proofs.Vocabulary.{start, run, HasEnded}
-use Rattle.tso_machine.specs.Examples.{StoreBufferingIsTold, store_buffering, waiting_stores, in_turn}
+use Rattle.tso_machine.proofs.Vocabulary.{◌≡◌, ℕ, zero, suc, ◌≤◌, List, [], length, Some, refl, ap, arith, Stop, Listing, action, Label, Pending, SequentialMachine, StoreBufferMachine, no_gaps, State, start, run, HasEnded, StoreBufferingIsTold}
+use Rattle.tso_machine.proofs.Vocabulary.{store_buffering, waiting_stores, in_turn}
 use Rattle.tso_machine.proofs.{Runs.no_action, Runs.no_stores, Refused.run_keeps}
 
 -- a thread's next action and its waiting stores, at the end

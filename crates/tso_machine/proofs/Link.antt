@@ -1,9 +1,8 @@
 -- The lists that the code keeps, seen as the machine's functions.
-use Rattle.tso_machine.proofs.Vocabulary.{◌≡◌, ℕ, suc, ◌<◌, List, [], ◌∷◌, ◌++◌, Some, get_or, set, length, map, refl, sym, ap, ◌∙◌, subst, inl, inr, get_or-set_same, get_or-set_other, eq-eqb, ne_eqb}
-use Rattle.tso_machine.proofs.Vocabulary.{length-set, slice_get, slice_index, slice_index_or, slice_set, range_with_len, get_or-map, slice_get_read, slice_get-get_or, fun_ext, cases_eq, Thread}
-use Rattle.tso_machine.proofs.Vocabulary.{Outcome, Pending, Listing, put, start, outcome_at, Core, Cores, no_core, core_at, state_of, first_core, first_cores, AreLocated, FitsProgram}
+use Rattle.tso_machine.proofs.Vocabulary.{◌≡◌, ℕ, suc, ◌<◌, List, [], ◌∷◌, ◌++◌, Some, get_or, set, length, map, refl, sym, ap, ◌∙◌, subst, inl, inr, get_or-set_same, get_or-set_other, eq-eqb, ne_eqb, length-set, slice_get, slice_index, slice_index_or}
+use Rattle.tso_machine.proofs.Vocabulary.{slice_set, range_with_len, get_or-map, slice_get_read, slice_get-get_or, fun_ext, cases_eq, Thread, Outcome, Pending, Listing, put, start, outcome_at, Core, Cores, no_core, core_at, state_of, first_core, first_cores}
+use Rattle.tso_machine.proofs.Vocabulary.{AreLocated, FitsProgram, length-map, map-id}
 use Rattle.std.proofs.lemmas.List.FromFn.{fill_by_all}
-use Rattle.std.proofs.lemmas.List.{length-map, map-id}
 
 pub put_same : {A : Type 0} (f : ℕ → A) (n : ℕ) (x : A) → put f n x n ≡ x
 put_same f n x = rw (eq-eqb n n refl) refl

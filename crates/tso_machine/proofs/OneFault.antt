@@ -1,8 +1,7 @@
 -- Two faults that both fit a replay are the same.
-use Rattle.tso_machine.proofs.Vocabulary.{◌≡◌, ◌≢◌, ℕ, zero, suc, ◌+◌, ◌-◌, ◌<◌, ◌≤◌, take, length, get_or, Bool, true, false, ◌&&◌, List, [], ◌∷◌, Option, Some, None, option_and_then, refl, ap, sym}
-use Rattle.tso_machine.proofs.Vocabulary.{◌∙◌, subst, inl, inr, arith, slice_get, nat_lt, nat_le, if◌then◌else◌, option_map_or, cases_lt, nat_tests, slice_get-get_or, SetOfGaps, Thread, Listing}
-use Rattle.tso_machine.proofs.Vocabulary.{Local, Stop, act, gaps_in, Label, Exec, Flush, Pending, Model, Cause, NoSuchThread, AtEnd, BufferEmpty, FenceWaits, Refused, ReplayFault, Machine, State}
-use Rattle.tso_machine.proofs.Vocabulary.{start, step, run, machine_of_model, code_of, action, gap_count, gap_number, waits, IsFenced, Applies, Stops, EndsEarly, ReplayFaultIs, fault_of}
+use Rattle.tso_machine.proofs.Vocabulary.{◌≡◌, ◌≢◌, ℕ, zero, suc, ◌+◌, ◌-◌, ◌<◌, ◌≤◌, take, length, get_or, Bool, true, false, ◌&&◌, List, [], ◌∷◌, Option, Some, None, option_and_then, refl, ap, sym, ◌∙◌, subst, inl, inr, arith, slice_get, nat_lt, nat_le}
+use Rattle.tso_machine.proofs.Vocabulary.{if◌then◌else◌, option_map_or, cases_lt, nat_tests, slice_get-get_or, SetOfGaps, Thread, Listing, Local, Stop, act, gaps_in, Label, Exec, Flush, Pending, Model, Cause, NoSuchThread, AtEnd, BufferEmpty, FenceWaits}
+use Rattle.tso_machine.proofs.Vocabulary.{Refused, ReplayFault, Machine, State, start, step, run, machine_of_model, code_of, action, gap_count, gap_number, waits, IsFenced, Applies, Stops, EndsEarly, ReplayFaultIs, fault_of}
 use Rattle.std.specs.FinSet as set
 use Rattle.tso_program.specs.declared.instruction.Instr.{Instr, TheVariants.LoadImm, TheVariants.Fence}
 use Rattle.tso_machine.specs.declared.label.Model.TheVariants as models

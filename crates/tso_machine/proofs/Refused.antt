@@ -1,8 +1,7 @@
 -- No fault but out of memory fits a run, and labels have one outcome.
-use Rattle.tso_machine.proofs.Vocabulary.{◌≡◌, ◌≢◌, ◌⊎◌, ℕ, zero, suc, ◌≤◌, take, length, Bool, true, false, List, [], ◌∷◌, ◌++◌, Option, Some, None, option_and_then, refl, ap, sym, ◌∙◌, subst, inl}
-use Rattle.tso_machine.proofs.Vocabulary.{inr, slice_get, cases_eq, Outcome, Label, Exec, Flush, Pending, Cause, NoSuchThread, AtEnd, BufferEmpty, FenceWaits, ReplayFault, Listing, Action, Stop, Wait}
-use Rattle.tso_machine.proofs.Vocabulary.{Write, Swap, action, waits, Applies, Stops, EndsEarly, ReplayFaultIs, put, Machine, SequentialMachine, StoreBufferMachine, State, start, step, run, buffered}
-use Rattle.tso_machine.proofs.Vocabulary.{direct, flushed, past_gap, when_empty, HasEnded, outcome_at, IsRun}
+use Rattle.tso_machine.proofs.Vocabulary.{◌≡◌, ◌≢◌, ◌⊎◌, ℕ, zero, suc, ◌≤◌, take, length, Bool, true, false, List, [], ◌∷◌, ◌++◌, Option, Some, None, option_and_then, refl, ap, sym, ◌∙◌, subst, inl, inr, slice_get, cases_eq, Outcome, Label, Exec, Flush}
+use Rattle.tso_machine.proofs.Vocabulary.{Pending, Cause, NoSuchThread, AtEnd, BufferEmpty, FenceWaits, ReplayFault, Listing, Action, Stop, Wait, Write, Swap, action, waits, Applies, Stops, EndsEarly, ReplayFaultIs, put, Machine, SequentialMachine}
+use Rattle.tso_machine.proofs.Vocabulary.{StoreBufferMachine, State, start, step, run, buffered, direct, flushed, past_gap, when_empty, HasEnded, outcome_at, IsRun}
 use Rattle.tso_machine.specs.declared.replaying.ReplayFault.TheVariants as fault
 use Rattle.tso_machine.proofs.{Link.put_other, Runs.no_stores, Runs.no_action}
 

@@ -1,7 +1,6 @@
 -- Labels and the words that spell them.
-use Rattle.tso_machine.proofs.Vocabulary.{sym, ◌∙◌, subst, ◌==◌, inl, inr, ◌⊎◌, take, drop, ◌≢◌, Option, Some, None, ◌+◌, ◌≡◌, ℕ, zero, suc, ◌<◌, Bool, true, false, List, [], ◌∷◌, ◌++◌, length}
-use Rattle.tso_machine.proofs.Vocabulary.{get_or, map, refl, ap, arith, cond, filter, nat_lt, option_map, map_more, map_push, filter-append, lt-ltb, eqb-true, cases_Bool, decimal_injective}
-use Rattle.tso_machine.proofs.Vocabulary.{AllByRecursion, Label, Exec, Flush, label_at, plain_number_takes, plain_number_again, spelling, IsLabel, words, IsFirstNoLabel}
+use Rattle.tso_machine.proofs.Vocabulary.{sym, ◌∙◌, subst, ◌==◌, inl, inr, ◌⊎◌, take, drop, Option, Some, None, ◌+◌, ◌≡◌, ℕ, zero, suc, ◌<◌, Bool, true, false, List, [], ◌∷◌, ◌++◌, length, get_or, map, refl, ap, arith, cond, filter, nat_lt, option_map}
+use Rattle.tso_machine.proofs.Vocabulary.{map_more, map_push, filter-append, lt-ltb, eqb-true, cases_Bool, decimal_injective, AllByRecursion, Label, Exec, Flush, label_at, plain_number_takes, plain_number_again, spelling, IsLabel, words, IsFirstNoLabel}
 use Rattle.std.specs.Borrow.{Bor}
 use Rattle.text_tokens.specs.Numbers.{plain_number_at}
 

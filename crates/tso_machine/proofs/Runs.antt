@@ -1,15 +1,13 @@
 -- How a run goes on by one step, and what it passes.
-use Rattle.tso_machine.proofs.Vocabulary.{◌≡◌, ℕ, ◌+◌, ◌<◌, ◌≤◌, take, length, get_or, Bool, true, false, ◌||◌, ◌&&◌, ◌==◌, not, List, [], ◌∷◌, ◌++◌, Option, Some, None, option_and_then, refl, ap}
-use Rattle.tso_machine.proofs.Vocabulary.{sym, ◌∙◌, subst, inl, inr, arith, eq-eqb, slice_get, MatchOption, is_some, if◌then◌else◌, nat_cmp, eq_by_cmp, take_more, get_or_past, slice_get-get_or}
-use Rattle.tso_machine.proofs.Vocabulary.{slice_get_past, option_map_or, nat_tests, cases_lt, or_from, gap_number, Label, Exec, Flush, Model, Pending, Cause, NoSuchThread, StepFault, Refused}
-use Rattle.tso_machine.proofs.Vocabulary.{OutOfMemory, Thread, Listing, Local, Action, Stop, act, action, Machine, SequentialMachine, State, start, step, run, direct, is_empty, from_some, passes_at}
-use Rattle.tso_machine.proofs.Vocabulary.{passes, HasEnded, Applies, StepFaultIs, Stops, ReplayFaultIs, fault_of, machine_of_model, Passes, ArePassed, Core, Cores, no_core, core_at, state_of}
-use Rattle.tso_machine.proofs.Vocabulary.{FitsProgram, Finished, passed_gap, gap_passed_by, and_parts as and_cases, or_right as or_after, or_left as or_before, or_cases, eqb-true, not-true}
+use Rattle.tso_machine.proofs.Vocabulary.{◌≡◌, ℕ, ◌+◌, ◌<◌, ◌≤◌, take, length, get_or, Bool, true, false, ◌||◌, ◌&&◌, ◌==◌, not, List, [], ◌∷◌, ◌++◌, Option, Some, None, option_and_then, refl, ap, sym, ◌∙◌, subst, inl, inr, arith, eq-eqb, slice_get}
+use Rattle.tso_machine.proofs.Vocabulary.{MatchOption, is_some, if◌then◌else◌, nat_cmp, eq_by_cmp, take_more, get_or_past, slice_get-get_or, slice_get_past, option_map_or, nat_tests, cases_lt, or_from, gap_number, Label, Exec, Flush, Model, Pending, Cause}
+use Rattle.tso_machine.proofs.Vocabulary.{NoSuchThread, StepFault, Refused, OutOfMemory, Thread, Listing, Local, Action, Stop, act, action, Machine, SequentialMachine, State, start, step, run, direct, is_empty, from_some, passes_at, passes, HasEnded, Applies}
+use Rattle.tso_machine.proofs.Vocabulary.{StepFaultIs, Stops, ReplayFaultIs, fault_of, machine_of_model, Passes, ArePassed, Core, Cores, no_core, core_at, state_of, FitsProgram, Finished, passed_gap, gap_passed_by, and_parts as and_cases, or_right as or_after}
+use Rattle.tso_machine.proofs.Vocabulary.{or_left as or_before, or_cases, eqb-true, not-true, cases_Bool}
 use Rattle.std.specs.Cmp.{nat_cmp_total}
 use Rattle.std.specs.FinSet as set
 use Rattle.tso_machine.specs.declared.label.Model.TheVariants as models
 use Rattle.std.proofs.Math.Bool.{or_assoc, or-false}
-use Rattle.std.proofs.lemmas.Bool.{cases_Bool}
 
 and_then_alike : (o : Option State) (f g : State → Option State) → ((s : State) → f s ≡ g s) → option_and_then f o ≡ option_and_then g o
 and_then_alike (Some s) f g alike = alike s

@@ -1,7 +1,6 @@
 -- The text that is written has the labels' words.
-use Rattle.tso_machine.proofs.Vocabulary.{◌≡◌, ℕ, ◌<◌, ◌≤◌, ◌∙◌, ◌+◌, true, false, List, [], ◌∷◌, ◌++◌, length, get_or, map, take, refl, sym, ap, arith, All, append_assoc, AllByRecursion}
-use Rattle.tso_machine.proofs.Vocabulary.{join_with_byte, map_more, length-map, length-take, All-weaker, All-cons, digits_decimal, own, lt-ltb, nat_tests, Label, Exec, Flush, spelling, IsLabel, words}
-use Rattle.tso_machine.proofs.Vocabulary.{run_text, is_white_space}
+use Rattle.tso_machine.proofs.Vocabulary.{◌≡◌, ℕ, ◌<◌, ◌≤◌, ◌∙◌, ◌+◌, true, false, List, [], ◌∷◌, ◌++◌, length, get_or, map, take, refl, sym, ap, arith, All, append_assoc, AllByRecursion, join_with_byte, map_more, length-map, length-take, All-weaker, All-cons}
+use Rattle.tso_machine.proofs.Vocabulary.{digits_decimal, own, lt-ltb, nat_tests, Label, Exec, Flush, spelling, IsLabel, words, run_text, is_white_space}
 use Rattle.std.specs.Char.{is_ascii_digit}
 use Rattle.std.proofs.lemmas.List.Splits.{slice_split_none, slice_split_at}
 use Rattle.std.proofs.lemmas.List.Sums.{AllPass-from_list_all}

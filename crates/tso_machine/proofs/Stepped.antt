@@ -1,6 +1,5 @@
 -- How the steps of a run go on by one.
-use Rattle.tso_machine.proofs.Vocabulary.{◌≡◌, ℕ, ◌+◌, ◌<◌, take, length, get_or, List, [], ◌∷◌, ◌++◌, Some, sym, subst, AreSteps, IsStepBetween, Option, option_and_then, take_more, Listing, Label}
-use Rattle.tso_machine.proofs.Vocabulary.{Machine, State, step, run}
+use Rattle.tso_machine.proofs.Vocabulary.{◌≡◌, ℕ, ◌+◌, ◌<◌, take, length, get_or, List, [], ◌∷◌, ◌++◌, Some, sym, subst, AreSteps, IsStepBetween, Option, option_and_then, take_more, Listing, Label, Machine, State, step, run}
 use Rattle.tso_machine.specs.declared.stepping.Step.{Step}
 
 module _ (p : Listing) (mode : Machine) where

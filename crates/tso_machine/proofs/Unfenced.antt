@@ -1,6 +1,6 @@
 -- Replays with no gap fenced.
-use Rattle.tso_machine.proofs.Vocabulary.{◌≡◌, ℕ, List, Option, None, Some, false, nat_cmp, refl, ap, ◌∙◌, subst, fun_ext, option_map_or, SetOfGaps, Listing, Outcome, gap_number, gaps_in, Label}
-use Rattle.tso_machine.proofs.Vocabulary.{Model, StoreBufferMachine, no_gaps, IsRun, machine_of_model, unfenced, ArePassed}
+use Rattle.tso_machine.proofs.Vocabulary.{◌≡◌, ℕ, List, Option, None, Some, false, nat_cmp, refl, ap, ◌∙◌, subst, fun_ext, option_map_or, SetOfGaps, Listing, Outcome, gap_number, gaps_in, Label, Model, StoreBufferMachine, no_gaps, IsRun, machine_of_model}
+use Rattle.tso_machine.proofs.Vocabulary.{unfenced, ArePassed}
 use Rattle.std.specs.FinSet as set
 use Rattle.tso_program.specs.{declared.shown.Shown.Shown, Shown.show, Shown.asked}
 use Rattle.tso_machine.specs.declared.label.Model.TheVariants as models

@@ -6,7 +6,7 @@ pub use Rattle.std.proofs.lemmas.Bool.{and_parts, cases_Bool, cases_eq, cases_lt
 pub use Rattle.std.proofs.lemmas.Bool.Decides.{nat_tests}
 pub use Rattle.std.proofs.lemmas.Fmt.{decimal_injective, digits_decimal}
 pub use Rattle.std.proofs.lemmas.Grind.{common_steps}
-pub use Rattle.std.proofs.lemmas.List.{get_or-map, get_or_past, length-map, length-take, map_more, map_push, take_all, take_more, with_items_is}
+pub use Rattle.std.proofs.lemmas.List.{get_or-map, get_or_past, length-map, length-take, map-id, map_more, map_push, take_all, take_more, with_items_is}
 pub use Rattle.std.proofs.lemmas.List.Elements.{All-cons, All-more, All-push, All-weaker, filter-append, recursion_from_All}
 pub use Rattle.std.proofs.lemmas.Option.{same_Some, slice_get-get_or, slice_get_past, slice_get_read}
 pub use Rattle.std.specs.List.{AllByRecursion, join_with_byte, range_with_len}
@@ -25,6 +25,7 @@ pub use Rattle.tso_program.specs.declared.listing.Listing.{Listing}
 pub use Rattle.tso_program.specs.declared.listing.Thread.{Thread}
 pub use Rattle.tso_program.specs.declared.outcome.Outcome.{Outcome}
 pub use mathlib.Core.Path.{fun_ext}
+pub use Rattle.tso_machine.specs.Examples.{StoreBufferingIsTold, in_turn, locked_exchange, locked_run, n6, n6_run, r, r_run, store_buffering, waiting_stores}
 pub use Rattle.tso_machine.specs.Faults.{Applies, EndsEarly, IsFenced, IsUnfinished, ReplayFaultIs, StepFaultIs, Stops, fault_of, waits}
 pub use Rattle.tso_machine.specs.Internal.Cores.{AreLocated, Core, Cores, Finished, FitsProgram, after_action, after_buffered, after_direct, core_at, first_core, first_cores, gap_passed_by, no_core}
 pub use Rattle.tso_machine.specs.Internal.Cores.{passed_gap, state_of}

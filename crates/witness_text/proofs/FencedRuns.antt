@@ -1,6 +1,6 @@
 -- The runs that are found, with no gap fenced.
-use Rattle.witness_text.proofs.Vocabulary.{◌≡◌, ℕ, true, false, List, sym, subst, refl, ◌∙◌, SetOfGaps, Listing, Outcome, All, truth, Label, one_outcome, IsWitness, TellsRun, StoreBufferMachine}
-use Rattle.witness_text.proofs.Vocabulary.{IsRun, machine_of_model, ArePassed, machine_of, unfenced_machine, IsShownRunText, TellsWitness}
+use Rattle.witness_text.proofs.Vocabulary.{◌≡◌, ℕ, true, false, List, sym, subst, refl, ◌∙◌, SetOfGaps, Listing, Outcome, All, truth, Label, one_outcome, IsWitness, TellsRun, StoreBufferMachine, IsRun, machine_of_model, ArePassed, machine_of, unfenced_machine}
+use Rattle.witness_text.proofs.Vocabulary.{IsShownRunText, TellsWitness}
 use Rattle.std.specs.FinSet as set
 use Rattle.tso_program.specs.Fences.{Gaps}
 use Rattle.tso_machine.specs.{declared.label.Model.Model, declared.replaying.Ended.Ended}

@@ -1,6 +1,5 @@
 -- The gaps at places, one place after the other.
-use Rattle.witness_text.proofs.Vocabulary.{◌≡◌, ◌∙◌, ◌⊎◌, ◌||◌, ℕ, Bool, true, false, List, [], ◌∷◌, ◌++◌, Option, Some, Contains, ap, arith, inl, inr, refl, sym, subst, nat_cmp_total, SetOfGaps}
-use Rattle.witness_text.proofs.Vocabulary.{GapPlace, gap_at_place, AreGapsAt, IsAtOneOf, IsGap}
+use Rattle.witness_text.proofs.Vocabulary.{◌≡◌, ◌∙◌, ◌⊎◌, ◌||◌, ℕ, Bool, true, false, List, [], ◌∷◌, ◌++◌, Option, Some, Contains, ap, arith, inl, inr, refl, sym, subst, nat_cmp_total, SetOfGaps, GapPlace, gap_at_place, AreGapsAt, IsAtOneOf, IsGap}
 use Rattle.std.specs.Prelude.{IsSome}
 use Rattle.std.specs.Ordering.{nat_cmp, eq_by_cmp}
 use Rattle.std.specs.FinSet as set

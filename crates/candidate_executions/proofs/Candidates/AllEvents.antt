@@ -1,6 +1,5 @@
 -- The events of a candidate can be listed.
-use Rattle.candidate_executions.proofs.Vocabulary.{◌≡◌, ◌≤◌, ℕ, length, ap, suc, zero, ◌<◌, List, [], ◌∷◌, ◌++◌, ◌⊎◌, refl, sym, ◌∙◌, subst, inl, inr, arith, option_map_or, slice_get_past, Listing}
-use Rattle.candidate_executions.proofs.Vocabulary.{Thread, code_of, cases_eq, Event, At}
+use Rattle.candidate_executions.proofs.Vocabulary.{◌≡◌, ◌≤◌, ℕ, length, ap, suc, zero, ◌<◌, List, [], ◌∷◌, ◌++◌, ◌⊎◌, refl, sym, ◌∙◌, subst, inl, inr, arith, option_map_or, slice_get_past, Listing, Thread, code_of, cases_eq, Event, At}
 use Rattle.candidate_executions.proofs.Orders.AcyclicIsOrdered.{In, Distinct}
 
 -- the events of thread t below i, and of the threads below n

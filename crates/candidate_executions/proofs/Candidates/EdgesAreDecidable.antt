@@ -1,6 +1,6 @@
 -- Whether an edge leads from one event to another can be decided.
-use Rattle.candidate_executions.proofs.Vocabulary.{◌≡◌, ℕ, ◌<◌, ◌⊎◌, Option, Some, None, IsSome, refl, sym, ap, ap₂, ◌∙◌, subst, inl, inr, arith, cases_lt, cases_eq, same_Some, Listing, Machine}
-use Rattle.candidate_executions.proofs.Vocabulary.{Access, Event, Initial, At, Kind, Candidate, access, Precedes, SameThread, KeepsOrder, ReadsFrom, Relates, Edge, WriteOrder, FromReads}
+use Rattle.candidate_executions.proofs.Vocabulary.{◌≡◌, ℕ, ◌<◌, ◌⊎◌, Option, Some, None, IsSome, refl, sym, ap, ap₂, ◌∙◌, subst, inl, inr, arith, cases_lt, cases_eq, same_Some, Listing, Machine, Access, Event, Initial, At, Kind, Candidate, access, Precedes}
+use Rattle.candidate_executions.proofs.Vocabulary.{SameThread, KeepsOrder, ReadsFrom, Relates, Edge, WriteOrder, FromReads}
 use Rattle.candidate_executions.specs.declared.event.Kind.TheVariants as union
 use Rattle.candidate_executions.proofs.Orders.AcyclicIsOrdered.{Decidable}
 

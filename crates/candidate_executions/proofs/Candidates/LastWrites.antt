@@ -1,7 +1,6 @@
 -- Each location of a candidate has a last write, and a candidate has one outcome.
-use Rattle.candidate_executions.proofs.Vocabulary.{◌≡◌, ◌⊎◌, ℕ, ◌<◌, ◌≤◌, List, [], ◌∷◌, Option, Some, None, slice_get, slice_index, length, refl, sym, ap, ◌∙◌, subst, inl, inr, arith, cases_eq}
-use Rattle.candidate_executions.proofs.Vocabulary.{cases_lt, same_Some, slice_get_within, same_number_lists, Listing, action, start_of, Machine, Access, Event, Initial, At, trace, fenced_gaps}
-use Rattle.candidate_executions.proofs.Vocabulary.{Candidate, trace_of, access, Writes, IsCandidate, EndsWith, OutcomesAreOne}
+use Rattle.candidate_executions.proofs.Vocabulary.{◌≡◌, ◌⊎◌, ℕ, ◌<◌, ◌≤◌, List, [], ◌∷◌, Option, Some, None, slice_get, slice_index, length, refl, sym, ap, ◌∙◌, subst, inl, inr, arith, cases_eq, cases_lt, same_Some, slice_get_within, same_number_lists}
+use Rattle.candidate_executions.proofs.Vocabulary.{Listing, action, start_of, Machine, Access, Event, Initial, At, trace, fenced_gaps, Candidate, trace_of, access, Writes, IsCandidate, EndsWith, OutcomesAreOne}
 use Rattle.candidate_executions.proofs.{Orders.AcyclicIsOrdered.In, Candidates.AllEvents.no_code, Candidates.AllEvents.of_all, Candidates.AllEvents.all_in}
 
 -- a location ends with one value

@@ -1,10 +1,9 @@
 -- No edge leads into an initial write, so no cycle passes through one.
-use Rattle.candidate_executions.proofs.Vocabulary.{◌⊎◌, ◌≡◌, ℕ, zero, suc, ◌<◌, List, [], ◌∷◌, Option, Some, None, IsSome, Contains, refl, sym, ap, ◌∙◌, subst, inl, inr, arith, same_Some, Listing, Machine}
-use Rattle.candidate_executions.proofs.Vocabulary.{Access, Event, Initial, At, Kind, Candidate, access, access_by, IsCandidate, Precedes, WriteOrder, FromReads, Edge, Leads, IsCycle, Sketch, given_to}
-use Rattle.candidate_executions.proofs.Vocabulary.{IsSketch, IsBefore, KnownEdge, NoEdgeLeadsIntoInitial, CyclesAreOfAccesses, NoKnownEdgeLeadsIntoInitial, KnownCyclesAreOfAccesses}
+use Rattle.candidate_executions.proofs.Vocabulary.{◌⊎◌, ◌≡◌, ℕ, zero, suc, ◌<◌, List, [], ◌∷◌, Option, Some, None, IsSome, Contains, refl, sym, ap, ◌∙◌, subst, inl, inr, arith, same_Some, Listing, Machine, Access, Event, Initial, At, Kind, Candidate, access}
+use Rattle.candidate_executions.proofs.Vocabulary.{access_by, IsCandidate, Precedes, WriteOrder, FromReads, Edge, Leads, IsCycle, Sketch, given_to, IsSketch, IsBefore, KnownEdge, NoEdgeLeadsIntoInitial, CyclesAreOfAccesses, NoKnownEdgeLeadsIntoInitial}
+use Rattle.candidate_executions.proofs.Vocabulary.{KnownCyclesAreOfAccesses}
 use Rattle.candidate_executions.specs.declared.event.Kind.TheVariants as union
-use Rattle.candidate_executions.proofs.Candidates.WrittenValues.{stored_as, some_written}
-use Rattle.candidate_executions.proofs.Orders.Lists.{not_some}
+use Rattle.candidate_executions.proofs.{Candidates.WrittenValues.stored_as, Candidates.WrittenValues.some_written, Orders.Lists.not_some}
 
 no_order : (d : Event) (l : ℕ) → Precedes d (Initial l) → ⊥
 no_order (Initial k) l h = h

@@ -1,12 +1,10 @@
 -- Store buffering: both reads give 0 with no gap fenced, and neither sequentially nor with both gaps fenced.
-use Rattle.candidate_executions.proofs.Vocabulary.{◌≡◌, ◌≢◌, ℕ, zero, suc, ◌-◌, ◌<◌, ◌≤◌, ◌⊎◌, List, [], ◌∷◌, Some, None, slice_index, refl, sym, ap, ◌∙◌, subst, inl, inr, arith, lit<}
-use Rattle.candidate_executions.proofs.Vocabulary.{same_Some, Stop, action, SequentialMachine, StoreBufferMachine, no_gaps, Access, Event, Initial, At, trace_of, access, Writes, EndsWith, IsCandidate}
-use Rattle.candidate_executions.proofs.Vocabulary.{HasOutcome, Precedes, KeepsOrder, ReadsFrom, WriteOrder, FromReads, IsCycle, Edge, IsConsistent}
+use Rattle.candidate_executions.proofs.Vocabulary.{◌≡◌, ◌≢◌, ℕ, zero, suc, ◌-◌, ◌<◌, ◌≤◌, ◌⊎◌, List, [], ◌∷◌, Some, None, slice_index, refl, sym, ap, ◌∙◌, subst, inl, inr, arith, lit<, same_Some, Stop, action, SequentialMachine, StoreBufferMachine, no_gaps}
+use Rattle.candidate_executions.proofs.Vocabulary.{Access, Event, Initial, At, trace_of, access, Writes, EndsWith, IsCandidate, HasOutcome, Precedes, KeepsOrder, ReadsFrom, WriteOrder, FromReads, IsCycle, Edge, IsConsistent}
 use Rattle.tso_machine.specs.Examples.{store_buffering}
 use Rattle.candidate_executions.specs.declared.event.Kind.TheVariants as union
 use Rattle.candidate_executions.specs.StoreBuffering.{both_zero, initial_source, both_gaps, zeros_read, StoreBufferingCandidates}
-use Rattle.candidate_executions.proofs.Orders.ForwardIsAcyclic.{Pair, Less, acyclic_by}
-use Rattle.candidate_executions.proofs.Orders.Lists.{not_some}
+use Rattle.candidate_executions.proofs.{Orders.ForwardIsAcyclic.Pair, Orders.ForwardIsAcyclic.Less, Orders.ForwardIsAcyclic.acyclic_by, Orders.Lists.not_some}
 
 -- store, load, store, load
 abbrev around : List Event

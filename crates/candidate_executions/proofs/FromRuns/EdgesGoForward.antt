@@ -1,6 +1,6 @@
 -- Edges go forward in moments, so a good history has no cycle.
-use Rattle.candidate_executions.proofs.Vocabulary.{◌≡◌, ◌≢◌, ℕ, suc, ◌<◌, ◌≤◌, List, ◌⊎◌, Option, Some, None, IsSome, slice_get, refl, sym, ap, ◌∙◌, subst, inl, inr, arith, cases_order, Access, Event}
-use Rattle.candidate_executions.proofs.Vocabulary.{Initial, At, Precedes, Relates, IsAcyclic, WriteOrder, FromReads}
+use Rattle.candidate_executions.proofs.Vocabulary.{◌≡◌, ◌≢◌, ℕ, suc, ◌<◌, ◌≤◌, List, ◌⊎◌, Option, Some, None, IsSome, slice_get, refl, sym, ap, ◌∙◌, subst, inl, inr, arith, cases_order, Access, Event, Initial, At, Precedes, Relates, IsAcyclic, WriteOrder}
+use Rattle.candidate_executions.proofs.Vocabulary.{FromReads}
 use Rattle.candidate_executions.specs.declared.event.Kind.TheVariants as union
 use Rattle.candidate_executions.proofs.{Orders.Lists.some_value, FromRuns.Histories.Entry, FromRuns.Histories.History, FromRuns.Histories.Holds, FromRuns.Histories.Visible, FromRuns.Histories.Good}
 use Rattle.candidate_executions.proofs.Orders.ForwardIsAcyclic.{Less, near, nearer, acyclic_by}

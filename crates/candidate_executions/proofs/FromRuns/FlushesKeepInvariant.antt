@@ -1,6 +1,6 @@
 -- A flush keeps the invariant of a run.
-use Rattle.candidate_executions.proofs.Vocabulary.{◌≡◌, ℕ, suc, zero, ◌≤◌, List, [], ◌∷◌, ◌⊎◌, Some, slice_get, refl, sym, ap, ◌∙◌, subst, inl, inr, arith, length, eq-eqb, ne_eqb, cases_lt, same_Some}
-use Rattle.candidate_executions.proofs.Vocabulary.{put, Label, Flush, Pending, Event, At, Origins, with_waiting, with_memory}
+use Rattle.candidate_executions.proofs.Vocabulary.{◌≡◌, ℕ, suc, zero, ◌≤◌, List, [], ◌∷◌, ◌⊎◌, Some, slice_get, refl, sym, ap, ◌∙◌, subst, inl, inr, arith, length, eq-eqb, ne_eqb, cases_lt, same_Some, put, Label, Flush, Pending, Event, At, Origins}
+use Rattle.candidate_executions.proofs.Vocabulary.{with_waiting, with_memory}
 use Rattle.candidate_executions.proofs.{FromRuns.Histories.Entry, FromRuns.Histories.History, FromRuns.Histories.Holds, Orders.Lists.put_each, Orders.Lists.put_both}
 use Rattle.candidate_executions.proofs.FromRuns.FlushesDue.{due, due_late}
 use Rattle.candidate_executions.proofs.FromRuns.RunInvariant.{Latest, Stored, Waiting, Inv, latest_to, latest_now, stored_as}

@@ -1,6 +1,5 @@
 -- The write that a load finds.
-use Rattle.candidate_executions.proofs.Vocabulary.{◌≡◌, ℕ, suc, zero, ◌≤◌, true, false, List, [], ◌∷◌, ◌==◌, if◌then◌else◌, Some, slice_get, length, refl, sym, ap, ◌∙◌, arith, eq-eqb, ne_eqb}
-use Rattle.candidate_executions.proofs.Vocabulary.{same_Some, Pending, Event, found_write}
+use Rattle.candidate_executions.proofs.Vocabulary.{◌≡◌, ℕ, suc, zero, ◌≤◌, true, false, List, [], ◌∷◌, ◌==◌, if◌then◌else◌, Some, slice_get, length, refl, sym, ap, ◌∙◌, arith, eq-eqb, ne_eqb, same_Some, Pending, Event, found_write}
 
 -- each store of a buffer has its event
 abbrev pub AreTagged : List Pending → List (ℕ × Event) → Type 0

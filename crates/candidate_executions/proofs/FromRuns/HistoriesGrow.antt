@@ -1,6 +1,5 @@
 -- A good history stays good with one more entry that fits.
-use Rattle.candidate_executions.proofs.Vocabulary.{◌≡◌, ◌≢◌, ℕ, ◌<◌, ◌≤◌, [], ◌∷◌, ◌++◌, ◌⊎◌, Some, IsSome, slice_get, sym, ◌∙◌, subst, inl, inr, arith, length, slice_get_within, put, KeepsOrder}
-use Rattle.candidate_executions.proofs.Vocabulary.{Event, refl}
+use Rattle.candidate_executions.proofs.Vocabulary.{◌≡◌, ◌≢◌, ℕ, ◌<◌, ◌≤◌, [], ◌∷◌, ◌++◌, ◌⊎◌, Some, IsSome, slice_get, sym, ◌∙◌, subst, inl, inr, arith, length, slice_get_within, put, KeepsOrder, Event, refl}
 use Rattle.candidate_executions.proofs.FromRuns.Histories.{Entry, History, Holds, Visible, Wrote, wrote_by, Source, First, Good}
 use Rattle.candidate_executions.proofs.Orders.Lists.{put_same, get_end, get_front, get_cases, put_each}
 

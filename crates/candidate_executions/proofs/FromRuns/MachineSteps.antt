@@ -1,7 +1,6 @@
 -- The steps of the store buffer machine, by cases.
-use Rattle.candidate_executions.proofs.Vocabulary.{◌≡◌, ℕ, suc, ◌<◌, ◌≤◌, Bool, true, false, List, [], ◌∷◌, ◌++◌, ◌==◌, Some, option_and_then, refl, sym, ap, ◌∙◌, arith, length, length-append, eq-eqb}
-use Rattle.candidate_executions.proofs.Vocabulary.{ne_eqb, if◌then◌else◌, Listing, action, Gaps, put, StoreBufferMachine, State, past_gap, buffered, step, run, Label, Exec, Flush, Pending, exec_by}
-use Rattle.candidate_executions.proofs.Vocabulary.{flush_by}
+use Rattle.candidate_executions.proofs.Vocabulary.{◌≡◌, ℕ, suc, ◌<◌, ◌≤◌, Bool, true, false, List, [], ◌∷◌, ◌++◌, ◌==◌, Some, option_and_then, refl, sym, ap, ◌∙◌, arith, length, length-append, eq-eqb, ne_eqb, if◌then◌else◌, Listing, action, Gaps, put}
+use Rattle.candidate_executions.proofs.Vocabulary.{StoreBufferMachine, State, past_gap, buffered, step, run, Label, Exec, Flush, Pending, exec_by, flush_by}
 use Rattle.candidate_executions.proofs.{Orders.Lists.put_same, Orders.Lists.put_each, FromRuns.FlushesDue.due}
 
 -- an instruction is executed where a fenced gap before it lets it

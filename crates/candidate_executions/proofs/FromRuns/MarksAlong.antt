@@ -1,6 +1,5 @@
 -- What the events of an order show: each read takes its value from its source, and each write reaches memory.
-use Rattle.candidate_executions.proofs.Vocabulary.{◌≡◌, ℕ, List, [], ◌∷◌, ◌++◌, Option, Some, None, sym, ap, ◌∙◌, Access, Event, Candidate, option_map_or, Listing, Label, Machine, State, step}
-use Rattle.candidate_executions.proofs.Vocabulary.{Origins, Mark, Takes, Arrives, origins_after, marks_at, marks}
+use Rattle.candidate_executions.proofs.Vocabulary.{◌≡◌, ℕ, List, [], ◌∷◌, ◌++◌, Option, Some, None, sym, ap, ◌∙◌, Access, Event, Candidate, option_map_or, Listing, Label, Machine, State, step, Origins, Mark, Takes, Arrives, origins_after, marks_at, marks}
 
 -- one step, and then the rest
 pub marks_step : (p : Listing) (mode : Machine) (l : Label) (labels : List Label) (s s' : State) (o o' : Origins) (ms : List Mark) → step p mode s l ≡ Some s' →

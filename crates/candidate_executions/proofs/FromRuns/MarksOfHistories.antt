@@ -1,7 +1,6 @@
 -- What a run shows of the history that it leaves.
-use Rattle.candidate_executions.proofs.Vocabulary.{◌≡◌, ◌↔◌, ℕ, suc, zero, ◌+◌, ◌<◌, ◌≤◌, List, [], ◌∷◌, ◌++◌, ◌⊎◌, Some, None, IsSome, Contains, slice_get, refl, sym, ap, ◌∙◌, subst, inl, inr, arith}
-use Rattle.candidate_executions.proofs.Vocabulary.{length, length-append, append_assoc, fun_ext, cases_eq, same_Some, Contains-append_left, Contains-append_right, Contains-append_cases, put, Event}
-use Rattle.candidate_executions.proofs.Vocabulary.{At, Mark, Takes, Arrives}
+use Rattle.candidate_executions.proofs.Vocabulary.{◌≡◌, ◌↔◌, ℕ, suc, zero, ◌+◌, ◌<◌, ◌≤◌, List, [], ◌∷◌, ◌++◌, ◌⊎◌, Some, None, IsSome, Contains, slice_get, refl, sym, ap, ◌∙◌, subst, inl, inr, arith, length, length-append, append_assoc, fun_ext, cases_eq}
+use Rattle.candidate_executions.proofs.Vocabulary.{same_Some, Contains-append_left, Contains-append_right, Contains-append_cases, put, Event, At, Mark, Takes, Arrives}
 use Rattle.candidate_executions.proofs.Orders.Lists.{put_same, put_other, get_end, get_front, get_cases, put_each, put_both, get_front_of, get_next_of}
 use Rattle.candidate_executions.proofs.{FromRuns.Histories.Entry, FromRuns.Histories.History, FromRuns.Histories.Holds, FromRuns.HistoriesGrow.with_entry}
 use Rattle.candidate_executions.proofs.FromRuns.CandidateOfHistory.{moment_of_entry, moment_of}

@@ -1,8 +1,7 @@
 -- Which gaps are fenced changes the sections of accesses and nothing else of a trace. So where sections don't count, a candidate of one mode is one of another.
-use Rattle.candidate_executions.proofs.Vocabulary.{◌≡◌, ℕ, zero, suc, Bool, List, ◌∷◌, Option, Some, None, IsSome, slice_get, option_map, map, refl, sym, ap, ap₂, ◌∙◌, subst, length, fun_ext}
-use Rattle.candidate_executions.proofs.Vocabulary.{range_with_len, same_Some, slice_get-map, Listing, Local, Action, Go, Wait, Read, Write, Swap, Outcome, loaded, action, start_of, code_of, Machine}
-use Rattle.candidate_executions.proofs.Vocabulary.{Access, Event, Initial, At, Candidate, access, Writes, IsCandidate, HasOutcome, Relates, Edge, IsAcyclic, Mark, Arrives, ReadsValue, IsStored}
-use Rattle.candidate_executions.proofs.Vocabulary.{ArriveInOrder, IsValueOf, Trace, load_of, store_of, exchange_of, with_access, entered, traced, trace, fenced_gaps, trace_by, access_by}
+use Rattle.candidate_executions.proofs.Vocabulary.{◌≡◌, ℕ, zero, suc, Bool, List, ◌∷◌, Option, Some, None, IsSome, slice_get, option_map, map, refl, sym, ap, ap₂, ◌∙◌, subst, length, fun_ext, range_with_len, same_Some, slice_get-map, Listing, Local, Action}
+use Rattle.candidate_executions.proofs.Vocabulary.{Go, Wait, Read, Write, Swap, Outcome, loaded, action, start_of, code_of, Machine, Access, Event, Initial, At, Candidate, access, Writes, IsCandidate, HasOutcome, Relates, Edge, IsAcyclic, Mark, Arrives}
+use Rattle.candidate_executions.proofs.Vocabulary.{ReadsValue, IsStored, ArriveInOrder, IsValueOf, Trace, load_of, store_of, exchange_of, with_access, entered, traced, trace, fenced_gaps, trace_by, access_by}
 use Rattle.candidate_executions.specs.declared.event.Kind.TheVariants as union
 use Rattle.candidate_executions.proofs.Orders.WiderRelations.{acyclic_narrower}
 

@@ -1,8 +1,6 @@
 -- An access that reads keeps the invariant of a run.
-use Rattle.candidate_executions.proofs.Vocabulary.{◌≡◌, ℕ, suc, ◌≤◌, List, [], ◌∷◌, ◌⊎◌, Option, Some, None, IsSome, refl, sym, ap, subst, inl, inr, arith, length, same_Some, put, Label, Exec, Pending}
-use Rattle.candidate_executions.proofs.Vocabulary.{At, Event, Origins, with_made, with_memory, ◌<◌}
-use Rattle.candidate_executions.proofs.FromRuns.Histories.{Entry, History, Source, First}
-use Rattle.candidate_executions.proofs.Orders.Lists.{put_both}
+use Rattle.candidate_executions.proofs.Vocabulary.{◌≡◌, ℕ, suc, ◌≤◌, List, [], ◌∷◌, ◌⊎◌, Option, Some, None, IsSome, refl, sym, ap, subst, inl, inr, arith, length, same_Some, put, Label, Exec, Pending, At, Event, Origins, with_made, with_memory, ◌<◌}
+use Rattle.candidate_executions.proofs.{FromRuns.Histories.Entry, FromRuns.Histories.History, FromRuns.Histories.Source, FromRuns.Histories.First, Orders.Lists.put_both}
 use Rattle.candidate_executions.proofs.FromRuns.HistoriesGrow.{with_entry, held_new, Fits, good_more, each_held}
 use Rattle.candidate_executions.proofs.FromRuns.FlushesDue.{due}
 use Rattle.candidate_executions.proofs.FromRuns.RunInvariant.{Latest, Waiting, Inv, Seen, none_waits, one_more_made, latest_old, latest_now, stored_old, free, tick}

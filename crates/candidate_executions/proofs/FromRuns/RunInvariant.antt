@@ -1,6 +1,5 @@
 -- What joins the machine's buffers and memory to the history, along a run.
-use Rattle.candidate_executions.proofs.Vocabulary.{◌≡◌, ℕ, suc, ◌<◌, ◌≤◌, List, [], ◌∷◌, ◌++◌, ◌⊎◌, Some, IsSome, slice_get, refl, subst, inl, inr, arith, length, length-append, cases_lt, put, Label, Exec}
-use Rattle.candidate_executions.proofs.Vocabulary.{Pending, Event, At, Origins}
+use Rattle.candidate_executions.proofs.Vocabulary.{◌≡◌, ℕ, suc, ◌<◌, ◌≤◌, List, [], ◌∷◌, ◌++◌, ◌⊎◌, Some, IsSome, slice_get, refl, subst, inl, inr, arith, length, length-append, cases_lt, put, Label, Exec, Pending, Event, At, Origins}
 use Rattle.candidate_executions.proofs.FromRuns.Histories.{Entry, History, Holds, Visible, Wrote, wrote_by, Untouched, Good}
 use Rattle.candidate_executions.proofs.Orders.Lists.{put_each, put_both}
 use Rattle.candidate_executions.proofs.FromRuns.HistoriesGrow.{with_entry, held_old, wrote_old, each_held}

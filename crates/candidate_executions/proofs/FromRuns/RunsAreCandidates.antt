@@ -1,10 +1,8 @@
 -- Each run is a consistent candidate.
-use Rattle.candidate_executions.proofs.Vocabulary.{◌≡◌, ◌≢◌, ℕ, ◌<◌, ◌≤◌, true, List, [], ◌∷◌, Some, None, IsSome, Contains, slice_get, slice_index, option_map, map, refl, sym, ap, ap₂, ◌∙◌, subst}
-use Rattle.candidate_executions.proofs.Vocabulary.{inl, inr, arith, length, lit<, fun_ext, length-map-range_with_len, get_or-map-range_with_len, range_with_len, AllPairs, same_Some, slice_get-map}
-use Rattle.candidate_executions.proofs.Vocabulary.{Listing, Stop, action, start_of, code_of, Gaps, Outcome, JumpForward, Label, Access, Event, Initial, At, Candidate, trace_of, access, Writes}
-use Rattle.candidate_executions.proofs.Vocabulary.{IsCandidate, EndsWith, HasOutcome, Trace, IsConsistent, IsValueOf, first_origins, Mark, Takes, Arrives, marks_of, ReadsValue, IsStored}
-use Rattle.candidate_executions.proofs.Vocabulary.{ArriveInOrder, IsCandidateOf, Machine, SequentialMachine, StoreBufferMachine, State, run, start, outcome_at, HasEnded, IsRun, EveryRunIsACandidate}
-use Rattle.candidate_executions.proofs.Vocabulary.{EveryRunIsACompletion, HasItsCandidate}
+use Rattle.candidate_executions.proofs.Vocabulary.{◌≡◌, ◌≢◌, ℕ, ◌<◌, ◌≤◌, true, List, [], ◌∷◌, Some, None, IsSome, Contains, slice_get, slice_index, option_map, map, refl, sym, ap, ap₂, ◌∙◌, subst, inl, inr, arith, length, lit<, fun_ext}
+use Rattle.candidate_executions.proofs.Vocabulary.{length-map-range_with_len, get_or-map-range_with_len, range_with_len, AllPairs, same_Some, slice_get-map, Listing, Stop, action, start_of, code_of, Gaps, Outcome, JumpForward, Label, Access, Event, Initial}
+use Rattle.candidate_executions.proofs.Vocabulary.{At, Candidate, trace_of, access, Writes, IsCandidate, EndsWith, HasOutcome, Trace, IsConsistent, IsValueOf, first_origins, Mark, Takes, Arrives, marks_of, ReadsValue, IsStored, ArriveInOrder, IsCandidateOf}
+use Rattle.candidate_executions.proofs.Vocabulary.{Machine, SequentialMachine, StoreBufferMachine, State, run, start, outcome_at, HasEnded, IsRun, EveryRunIsACandidate, EveryRunIsACompletion, HasItsCandidate}
 use Rattle.candidate_executions.proofs.Sketches.KnownEdges.{completes_empty}
 use Rattle.candidate_executions.proofs.FromRuns.Histories.{Entry, History, Holds, Wrote, Good, Source}
 use Rattle.candidate_executions.proofs.FromRuns.CandidateOfHistory.{candidate_with, Shows, source_of_entry, moment_of_entry, moment_of}

@@ -1,8 +1,7 @@
 -- Jumps lead forward, so a run has at most two labels for each instruction: one that executes it, and a flush.
-use Rattle.candidate_executions.proofs.Vocabulary.{exec_by, flush_by, length-append, ◌≡◌, ℕ, suc, zero, ◌+◌, ◌*◌, ◌-◌, ◌<◌, ◌≤◌, List, [], ◌∷◌, ◌++◌, Option, Some, None, option_and_then, refl, sym, ap, ◌∙◌, subst, inl}
-use Rattle.candidate_executions.proofs.Vocabulary.{inr, arith, length, cases_eq, cases_lt, same_Some, Listing, Local, Action, Stop, Go, Wait, Read, Write, Swap, loaded, action, code_of, JumpForward}
-use Rattle.candidate_executions.proofs.Vocabulary.{Machine, SequentialMachine, StoreBufferMachine, State, put, direct, step, run, start, Label, Exec, Flush}
-use Rattle.candidate_executions.proofs.Vocabulary.{Pending, EveryRunIsShort}
+use Rattle.candidate_executions.proofs.Vocabulary.{exec_by, flush_by, length-append, ◌≡◌, ℕ, suc, zero, ◌+◌, ◌*◌, ◌-◌, ◌<◌, ◌≤◌, List, [], ◌∷◌, ◌++◌, Option, Some, None, option_and_then, refl, sym, ap, ◌∙◌, subst, inl, inr, arith, length, cases_eq, cases_lt}
+use Rattle.candidate_executions.proofs.Vocabulary.{same_Some, Listing, Local, Action, Stop, Go, Wait, Read, Write, Swap, loaded, action, code_of, JumpForward, Machine, SequentialMachine, StoreBufferMachine, State, put, direct, step, run, start, Label, Exec}
+use Rattle.candidate_executions.proofs.Vocabulary.{Flush, Pending, EveryRunIsShort}
 use Rattle.candidate_executions.proofs.{Orders.Lists.put_same, Orders.Lists.put_other, FromRuns.StepsSuffice.Further, FromRuns.StepsSuffice.Advances, FromRuns.StepsSuffice.advance}
 use Rattle.candidate_executions.proofs.Candidates.AllEvents.{no_code}
 

@@ -1,9 +1,8 @@
 -- Each run leaves a good history, and its traces.
-use Rattle.candidate_executions.proofs.Vocabulary.{◌≡◌, ℕ, suc, ◌<◌, Bool, true, false, List, [], ◌∷◌, ◌++◌, ◌⊎◌, ◌↔◌, Option, Some, None, get_or, map, refl, sym, ap, ◌∙◌, subst, inl, inr}
-use Rattle.candidate_executions.proofs.Vocabulary.{length, append-nil, slice_get, zero, arith, fun_ext, cases_eq, cases_lt, slice_get-get_or, slice_get_within, same_Some, Listing, Local, Action, Go}
-use Rattle.candidate_executions.proofs.Vocabulary.{Wait, Read, Write, Swap, action, loaded, Gaps, put, StoreBufferMachine, State, newest, found, when_empty, flushed, run, Label, Exec, Flush, Pending}
-use Rattle.candidate_executions.proofs.Vocabulary.{Access, Event, At, Origins, Mark, Takes, Arrives, found_write, with_made, with_waiting, with_memory, buffered_origins, buffered_marks}
-use Rattle.candidate_executions.proofs.Vocabulary.{flushed_origins, flushed_marks, marks, marks_at, origins_after, step, Trace, trace, with_access, entered, IsValueOf, exec_by, flush_by}
+use Rattle.candidate_executions.proofs.Vocabulary.{◌≡◌, ℕ, suc, ◌<◌, Bool, true, false, List, [], ◌∷◌, ◌++◌, ◌⊎◌, ◌↔◌, Option, Some, None, get_or, map, refl, sym, ap, ◌∙◌, subst, inl, inr, length, append-nil, slice_get, zero, arith, fun_ext, cases_eq}
+use Rattle.candidate_executions.proofs.Vocabulary.{cases_lt, slice_get-get_or, slice_get_within, same_Some, Listing, Local, Action, Go, Wait, Read, Write, Swap, action, loaded, Gaps, put, StoreBufferMachine, State, newest, found, when_empty, flushed, run}
+use Rattle.candidate_executions.proofs.Vocabulary.{Label, Exec, Flush, Pending, Access, Event, At, Origins, Mark, Takes, Arrives, found_write, with_made, with_waiting, with_memory, buffered_origins, buffered_marks, flushed_origins, flushed_marks, marks}
+use Rattle.candidate_executions.proofs.Vocabulary.{marks_at, origins_after, step, Trace, trace, with_access, entered, IsValueOf, exec_by, flush_by}
 use Rattle.candidate_executions.proofs.{FromRuns.CandidateOfHistory.moment_of, FromRuns.MarksAlong.marks_step}
 use Rattle.candidate_executions.proofs.FromRuns.MarksOfHistories.{joined, Waits, Tells, IsShownAs, tells_end, tells_quiet, tells_flush, tells_entry, moment_old, same_joined, shown_load, shown_exchange, shown_store, waits_flush}
 use Rattle.candidate_executions.proofs.FromRuns.Histories.{Entry, History, Holds, Good}

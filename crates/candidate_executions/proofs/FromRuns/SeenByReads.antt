@@ -1,6 +1,6 @@
 -- What a load or an exchange finds is the newest write that it may see.
-use Rattle.candidate_executions.proofs.Vocabulary.{◌≡◌, ℕ, suc, ◌≤◌, List, ◌∷◌, Option, Some, None, slice_get, refl, sym, ap, ◌∙◌, subst, inl, inr, arith, cases_lt, cases_eq, same_Some}
-use Rattle.candidate_executions.proofs.Vocabulary.{slice_get_within, newest, found, Label, Exec, Pending, At, Origins, found_write}
+use Rattle.candidate_executions.proofs.Vocabulary.{◌≡◌, ℕ, suc, ◌≤◌, List, ◌∷◌, Option, Some, None, slice_get, refl, sym, ap, ◌∙◌, subst, inl, inr, arith, cases_lt, cases_eq, same_Some, slice_get_within, newest, found, Label, Exec, Pending, At, Origins}
+use Rattle.candidate_executions.proofs.Vocabulary.{found_write}
 use Rattle.candidate_executions.proofs.{FromRuns.Histories.History, FromRuns.Histories.wrote_by, FromRuns.FoundWrites.AreTagged, FromRuns.FoundWrites.none_found, FromRuns.FoundWrites.newest_found}
 use Rattle.candidate_executions.proofs.FromRuns.FlushesDue.{due, due_late, due_sorted}
 use Rattle.candidate_executions.proofs.FromRuns.NewestStore.{Found, newest_none, newest_some}

@@ -1,8 +1,7 @@
 -- A sequential run is a run of the store buffer machine, each store flushed at once, whatever the gaps.
-use Rattle.candidate_executions.proofs.Vocabulary.{◌≡◌, ℕ, suc, List, [], ◌∷◌, ◌++◌, Option, Some, None, option_and_then, refl, sym, ap, ◌∙◌, Listing, Action, Stop, Go, Wait, Read, Write, Swap}
-use Rattle.candidate_executions.proofs.Vocabulary.{action, Gaps, put, SequentialMachine, StoreBufferMachine, State, newest, found, buffered, direct, run, Label, Exec, Flush, Pending, Event, At}
-use Rattle.candidate_executions.proofs.Vocabulary.{Origins, Mark, Takes, Arrives, found_write, with_made, with_waiting, with_memory, buffered_origins, buffered_marks, flushed_origins, flushed_marks}
-use Rattle.candidate_executions.proofs.Vocabulary.{direct_origins, direct_marks, marks}
+use Rattle.candidate_executions.proofs.Vocabulary.{◌≡◌, ℕ, suc, List, [], ◌∷◌, ◌++◌, Option, Some, None, option_and_then, refl, sym, ap, ◌∙◌, Listing, Action, Stop, Go, Wait, Read, Write, Swap, action, Gaps, put, SequentialMachine, StoreBufferMachine, State}
+use Rattle.candidate_executions.proofs.Vocabulary.{newest, found, buffered, direct, run, Label, Exec, Flush, Pending, Event, At, Origins, Mark, Takes, Arrives, found_write, with_made, with_waiting, with_memory, buffered_origins, buffered_marks}
+use Rattle.candidate_executions.proofs.Vocabulary.{flushed_origins, flushed_marks, direct_origins, direct_marks, marks}
 use Rattle.fence_laws.proofs.ChangedAt.{put_same, put_back}
 use Rattle.fence_laws.proofs.SequentialIsBuffered.{exec_step, stored, stored_flushed, same_buffers}
 use Rattle.candidate_executions.proofs.{FromRuns.MachineSteps.exec_ok, FromRuns.MarksAlong.marks_step}

@@ -1,7 +1,6 @@
 -- Each value that a run stores to a location is one of the location's values.
-use Rattle.candidate_executions.proofs.Vocabulary.{◌≡◌, ℕ, suc, zero, Bool, true, false, not, List, [], ◌∷◌, ◌++◌, ◌⊎◌, Option, Some, None, slice_get, slice_index, get_or, set, refl, sym, subst, inl}
-use Rattle.candidate_executions.proofs.Vocabulary.{inr, Reg, Instr, LoadImm, Copy, StoreImm, Store, Xchg, Je, Jne, Jmp, Listing, Local, Action, Stop, Go, Wait, Read, Write, Swap, action, code_of}
-use Rattle.candidate_executions.proofs.Vocabulary.{start_of, act, loaded, jumped, number, put, State, newest, found, Pending, IsKnown, IsValueOf}
+use Rattle.candidate_executions.proofs.Vocabulary.{◌≡◌, ℕ, suc, zero, Bool, true, false, not, List, [], ◌∷◌, ◌++◌, ◌⊎◌, Option, Some, None, slice_get, slice_index, get_or, set, refl, sym, subst, inl, inr, Reg, Instr, LoadImm, Copy, StoreImm, Store, Xchg, Je}
+use Rattle.candidate_executions.proofs.Vocabulary.{Jne, Jmp, Listing, Local, Action, Stop, Go, Wait, Read, Write, Swap, action, code_of, start_of, act, loaded, jumped, number, put, State, newest, found, Pending, IsKnown, IsValueOf}
 use Rattle.candidate_executions.proofs.{Orders.Lists.get_cases, Orders.Lists.put_each, FromRuns.NewestStore.newest_some}
 
 set_cases : (xs : List ℕ) (k v i : ℕ) → (get_or (set xs k v) i 0 ≡ v) ⊎ (get_or (set xs k v) i 0 ≡ get_or xs i 0)

@@ -1,6 +1,6 @@
 -- A store keeps the invariant of a run.
-use Rattle.candidate_executions.proofs.Vocabulary.{◌≡◌, ℕ, suc, ◌<◌, ◌≤◌, List, [], ◌∷◌, ◌++◌, Some, None, slice_get, refl, sym, ap, ◌∙◌, subst, inl, inr, arith, length, length-append}
-use Rattle.candidate_executions.proofs.Vocabulary.{slice_get_within, put, Label, Exec, Pending, Event, Initial, At, Origins, with_made, with_waiting}
+use Rattle.candidate_executions.proofs.Vocabulary.{◌≡◌, ℕ, suc, ◌<◌, ◌≤◌, List, [], ◌∷◌, ◌++◌, Some, None, slice_get, refl, sym, ap, ◌∙◌, subst, inl, inr, arith, length, length-append, slice_get_within, put, Label, Exec, Pending, Event, Initial, At, Origins}
+use Rattle.candidate_executions.proofs.Vocabulary.{with_made, with_waiting}
 use Rattle.candidate_executions.proofs.FromRuns.Histories.{Entry, History, Holds}
 use Rattle.candidate_executions.proofs.Orders.Lists.{put_same, get_end, get_front, get_cases, put_each, put_both}
 use Rattle.candidate_executions.proofs.FromRuns.HistoriesGrow.{with_entry, held_new, Fits, good_more, each_held, held_old}

@@ -1,6 +1,5 @@
 -- Kept program order in words of what lies between two accesses.
-use Rattle.candidate_executions.proofs.Vocabulary.{◌≡◌, ◌⊎◌, ◌↔◌, ℕ, Option, Some, None, IsSome, refl, inl, inr, length, action, start_of, code_of, KeepsOrder, path_of, LiesBetween}
-use Rattle.candidate_executions.proofs.Vocabulary.{SectionsTellFences, KeptOrderIsTold}
+use Rattle.candidate_executions.proofs.Vocabulary.{◌≡◌, ◌⊎◌, ◌↔◌, ℕ, Option, Some, None, IsSome, refl, inl, inr, length, action, start_of, code_of, KeepsOrder, path_of, LiesBetween, SectionsTellFences, KeptOrderIsTold}
 use Rattle.candidate_executions.proofs.Sections.SectionsTellFences.{sections_differ}
 
 pub sections_tell_fences : SectionsTellFences

@@ -1,7 +1,6 @@
 -- The sections of a store and of a later access of its thread differ exactly where a fence, a fenced gap or an exchange lies between them.
-use Rattle.candidate_executions.proofs.Vocabulary.{◌≡◌, ◌≢◌, ◌↔◌, ℕ, zero, suc, ◌+◌, ◌<◌, Bool, true, false, cond, List, [], ◌∷◌, Some, None, slice_get, take, refl, sym, ap, ◌∙◌, subst, inl, inr}
-use Rattle.candidate_executions.proofs.Vocabulary.{arith, count_by, same_Some, Local, Action, Go, Wait, Read, Write, Swap, loaded, Access, trace, traced, entered, executed, path, is_access}
-use Rattle.candidate_executions.proofs.Vocabulary.{IsFenceOrExchange, IsStepOf, LiesBetween}
+use Rattle.candidate_executions.proofs.Vocabulary.{◌≡◌, ◌≢◌, ◌↔◌, ℕ, zero, suc, ◌+◌, ◌<◌, Bool, true, false, cond, List, [], ◌∷◌, Some, None, slice_get, take, refl, sym, ap, ◌∙◌, subst, inl, inr, arith, count_by, same_Some, Local, Action, Go, Wait, Read}
+use Rattle.candidate_executions.proofs.Vocabulary.{Write, Swap, loaded, Access, trace, traced, entered, executed, path, is_access, IsFenceOrExchange, IsStepOf, LiesBetween}
 use Rattle.std.proofs.lemmas.List.Sums.{sum_by-cons}
 use Rattle.candidate_executions.proofs.Sections.SectionsOfSteps.{left, section_at, parted_or_same, parted_more}
 

@@ -1,10 +1,8 @@
 -- A sketch stays one by each choice, and each completion has made each choice in one of its ways.
-use Rattle.candidate_executions.proofs.Vocabulary.{◌≡◌, ◌⊎◌, ℕ, ◌<◌, List, [], ◌∷◌, ◌++◌, Some, None, Contains, slice_get, length, refl, sym, ap, ◌∙◌, subst, inl, inr, arith, append_assoc, append-nil}
-use Rattle.candidate_executions.proofs.Vocabulary.{length-set, length-map, fun_ext, cases_eq, cases_order, Contains-append_cases, Stop, Listing, action, start_of, code_of, JumpForward, Machine}
-use Rattle.candidate_executions.proofs.Vocabulary.{Access, Event, Initial, At, IsValueOf, Trace, trace, trace_by, fenced_gaps, Candidate, access, access_by, Writes, IsCandidate, Sketch, given_to}
-use Rattle.candidate_executions.proofs.Vocabulary.{IsPrefixOf, Completes, IsSketch, IsSourceOf, IsPair, with_value, with_source, with_pair, read_by, next_read, IsWhole, EmptyIsASketch}
-use Rattle.candidate_executions.proofs.Vocabulary.{AValueKeepsASketch, ASourceKeepsASketch, APairKeepsASketch, EachCompletionHasAValue, EachCompletionHasTheValues, EachCompletionHasASource}
-use Rattle.candidate_executions.proofs.Vocabulary.{EachCompletionHasAnOrder}
+use Rattle.candidate_executions.proofs.Vocabulary.{◌≡◌, ◌⊎◌, ℕ, ◌<◌, List, [], ◌∷◌, ◌++◌, Some, None, Contains, slice_get, length, refl, sym, ap, ◌∙◌, subst, inl, inr, arith, append_assoc, append-nil, length-set, length-map, fun_ext, cases_eq, cases_order}
+use Rattle.candidate_executions.proofs.Vocabulary.{Contains-append_cases, Stop, Listing, action, start_of, code_of, JumpForward, Machine, Access, Event, Initial, At, IsValueOf, Trace, trace, trace_by, fenced_gaps, Candidate, access, access_by, Writes}
+use Rattle.candidate_executions.proofs.Vocabulary.{IsCandidate, Sketch, given_to, IsPrefixOf, Completes, IsSketch, IsSourceOf, IsPair, with_value, with_source, with_pair, read_by, next_read, IsWhole, EmptyIsASketch, AValueKeepsASketch, ASourceKeepsASketch}
+use Rattle.candidate_executions.proofs.Vocabulary.{APairKeepsASketch, EachCompletionHasAValue, EachCompletionHasTheValues, EachCompletionHasASource, EachCompletionHasAnOrder}
 use Rattle.candidate_executions.proofs.Sketches.GivenValues.{none_given, given_same, given_other, longer, reads_there}
 use Rattle.candidate_executions.proofs.FromRuns.StepsSuffice.{advance}
 use Rattle.candidate_executions.proofs.Sketches.MoreValues.{spare, Takes, trace_more, no_values, at_end, end_or_read, at_read}

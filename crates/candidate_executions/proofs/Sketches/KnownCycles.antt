@@ -1,6 +1,6 @@
 -- A cycle of known edges, of a union of the mode, leaves a sketch no consistent completion.
-use Rattle.candidate_executions.proofs.Vocabulary.{List, [], ◌∷◌, Listing, Machine, SequentialMachine, StoreBufferMachine, Event, Kind, Candidate, IsOfMode, Edge, Leads, IsCycle, IsAcyclic}
-use Rattle.candidate_executions.proofs.Vocabulary.{IsConsistent, Sketch, IsConsistentCompletion, IsSketch, KnownEdge, KnownEdgeOfMode, IsKnownCycle}
+use Rattle.candidate_executions.proofs.Vocabulary.{List, [], ◌∷◌, Listing, Machine, SequentialMachine, StoreBufferMachine, Event, Kind, Candidate, IsOfMode, Edge, Leads, IsCycle, IsAcyclic, IsConsistent, Sketch, IsConsistentCompletion, IsSketch, KnownEdge}
+use Rattle.candidate_executions.proofs.Vocabulary.{KnownEdgeOfMode, IsKnownCycle}
 use Rattle.candidate_executions.specs.declared.event.Kind.TheVariants as union
 use Rattle.candidate_executions.proofs.{Orders.WiderRelations.cycle_wider, Sketches.KnownEdges.known_cycle}
 

@@ -1,8 +1,7 @@
 -- What is known of a sketch holds of each completion.
-use Rattle.candidate_executions.proofs.Vocabulary.{◌⊎◌, ◌≡◌, ◌≢◌, ℕ, ◌<◌, List, ◌++◌, Some, IsSome, Contains, slice_get, refl, sym, ap, ◌∙◌, subst, inl, inr, arith, length, slice_index, same_Some, Listing}
-use Rattle.candidate_executions.proofs.Vocabulary.{action, start_of, code_of, Machine, Access, Event, Initial, At, Kind, Candidate, access, access_by, Writes, IsCandidate, trace, fenced_gaps, Relates}
-use Rattle.candidate_executions.proofs.Vocabulary.{Edge, IsCycle, WriteOrder, FromReads, Sketch, given_to, Completes, IsSketch, IsBefore, KnownRelates, KnownEdge, KnownFromReads}
-use Rattle.candidate_executions.proofs.Vocabulary.{EveryCandidateCompletesEmpty, AKnownEdgeIsAnEdge, AKnownCycleIsACycle}
+use Rattle.candidate_executions.proofs.Vocabulary.{◌⊎◌, ◌≡◌, ◌≢◌, ℕ, ◌<◌, List, ◌++◌, Some, IsSome, Contains, slice_get, refl, sym, ap, ◌∙◌, subst, inl, inr, arith, length, slice_index, same_Some, Listing, action, start_of, code_of, Machine, Access, Event}
+use Rattle.candidate_executions.proofs.Vocabulary.{Initial, At, Kind, Candidate, access, access_by, Writes, IsCandidate, trace, fenced_gaps, Relates, Edge, IsCycle, WriteOrder, FromReads, Sketch, given_to, Completes, IsSketch, IsBefore, KnownRelates}
+use Rattle.candidate_executions.proofs.Vocabulary.{KnownEdge, KnownFromReads, EveryCandidateCompletesEmpty, AKnownEdgeIsAnEdge, AKnownCycleIsACycle}
 use Rattle.candidate_executions.specs.declared.event.Kind.TheVariants as union
 use Rattle.candidate_executions.proofs.{Orders.WiderRelations.cycle_wider, Candidates.WrittenValues.stored_as, Candidates.WrittenValues.some_written, Sketches.MoreValues.trace_more}
 use Rattle.candidate_executions.proofs.Sketches.GivenValues.{none_given}

@@ -1,6 +1,6 @@
 -- What more given values do to a trace: it keeps its accesses, a read at which it stopped takes the next value, and at its end it takes none.
-use Rattle.candidate_executions.proofs.Vocabulary.{◌≡◌, ℕ, zero, suc, ◌+◌, ◌≤◌, Bool, List, [], ◌∷◌, ◌++◌, Some, None, slice_get, length, refl, sym, ap, ◌∙◌, arith, Local, Action, Stop, Go, Wait}
-use Rattle.candidate_executions.proofs.Vocabulary.{Read, Write, Swap, loaded, Access, Trace, trace, traced, entered, with_access, read_by}
+use Rattle.candidate_executions.proofs.Vocabulary.{◌≡◌, ℕ, zero, suc, ◌+◌, ◌≤◌, Bool, List, [], ◌∷◌, ◌++◌, Some, None, slice_get, length, refl, sym, ap, ◌∙◌, arith, Local, Action, Stop, Go, Wait, Read, Write, Swap, loaded, Access, Trace, trace, traced}
+use Rattle.candidate_executions.proofs.Vocabulary.{entered, with_access, read_by}
 use Rattle.candidate_executions.proofs.FromRuns.StepsSuffice.{Advances}
 
 -- the trace with more values left over

@@ -1,8 +1,7 @@
 -- Where a sketch must end as an outcome, the same is shown of each completion's.
-use Rattle.candidate_executions.proofs.Vocabulary.{◌≡◌, ℕ, ◌<◌, ◌≤◌, Bool, List, [], Option, Some, None, slice_index, length, map, refl, sym, ap, ◌∙◌, subst, inl, inr, arith, range_with_len}
-use Rattle.candidate_executions.proofs.Vocabulary.{get_or-map-range_with_len, length-map-range_with_len, same_Some, slice_get-get_or, slice_get_past, cases_lt, Listing, Outcome, number, action}
-use Rattle.candidate_executions.proofs.Vocabulary.{start_of, code_of, JumpForward, Machine, Access, Event, Initial, Trace, trace, trace_by, fenced_gaps, option_and_then, slice_get, Candidate, access}
-use Rattle.candidate_executions.proofs.Vocabulary.{access_by, Writes, IsCandidate, EndsWith, HasOutcome, HasShownOutcome, EachCompletionEndsSo}
+use Rattle.candidate_executions.proofs.Vocabulary.{◌≡◌, ℕ, ◌<◌, ◌≤◌, Bool, List, [], Option, Some, None, slice_index, length, map, refl, sym, ap, ◌∙◌, subst, inl, inr, arith, range_with_len, get_or-map-range_with_len, length-map-range_with_len, same_Some}
+use Rattle.candidate_executions.proofs.Vocabulary.{slice_get-get_or, slice_get_past, cases_lt, Listing, Outcome, number, action, start_of, code_of, JumpForward, Machine, Access, Event, Initial, Trace, trace, trace_by, fenced_gaps, option_and_then, slice_get}
+use Rattle.candidate_executions.proofs.Vocabulary.{Candidate, access, access_by, Writes, IsCandidate, EndsWith, HasOutcome, HasShownOutcome, EachCompletionEndsSo}
 use Rattle.tso_program.specs.{declared.shown.Shown.Shown, declared.shown.Shown.TheVariants.Truth, declared.atom.Atom.Atom, Truth.is_true_at, Truth.is_value}
 use Rattle.tso_program.specs.Shown.{Question, shown_value, show_registers, show_memory, shown_values, show, told}
 use Rattle.tso_program.specs.declared.atom.Atom.TheVariants as atom

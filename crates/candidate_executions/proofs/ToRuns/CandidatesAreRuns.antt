@@ -1,6 +1,6 @@
 -- A consistent candidate has a run along each order of its accesses, and so every one is the candidate of a run.
-use Rattle.candidate_executions.proofs.Vocabulary.{List, Listing, Outcome, Label, Machine, SequentialMachine, StoreBufferMachine, IsRun, Event, Candidate, access, IsCandidate, HasOutcome, Edge}
-use Rattle.candidate_executions.proofs.Vocabulary.{IsConsistent, labels_along, followed_union, IsCandidateOf, EveryCandidateIsARun, EveryOrderIsARun}
+use Rattle.candidate_executions.proofs.Vocabulary.{List, Listing, Outcome, Label, Machine, SequentialMachine, StoreBufferMachine, IsRun, Event, Candidate, access, IsCandidate, HasOutcome, Edge, IsConsistent, labels_along, followed_union, IsCandidateOf}
+use Rattle.candidate_executions.proofs.Vocabulary.{EveryCandidateIsARun, EveryOrderIsARun}
 use Rattle.candidate_executions.specs.declared.event.Kind.TheVariants as union
 use Rattle.candidate_executions.proofs.{ToRuns.Linear.IsLinear, ToRuns.Linear.order_is_linear, ToRuns.Linear.linear, ToRuns.CandidatesHaveRuns.IsRunAlong, ToRuns.CandidatesHaveRuns.runs_along}
 use Rattle.candidate_executions.proofs.{ToRuns.SequentialOrders.runs_directly_along, ToRuns.MarksOfOrders.candidate_of_order}

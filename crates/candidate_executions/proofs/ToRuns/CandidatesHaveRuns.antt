@@ -1,7 +1,6 @@
 -- A consistent candidate with fenced gaps has a run of the store buffer machine along each order that the union Global allows.
-use Rattle.candidate_executions.proofs.Vocabulary.{◌≡◌, ℕ, ◌<◌, ◌≤◌, List, [], slice_index, map, refl, sym, ap, ◌∙◌, subst, arith, length, same_Some, fun_ext, range_with_len}
-use Rattle.candidate_executions.proofs.Vocabulary.{length-map-range_with_len, get_or-map-range_with_len, same_number_lists, Listing, Local, code_of, Gaps, Outcome, Machine, StoreBufferMachine, State}
-use Rattle.candidate_executions.proofs.Vocabulary.{start, IsRun, outcome_at, Label, Access, Event, Initial, At, Candidate, trace_of, access, IsCandidate, EndsWith, HasOutcome, Edge, IsAcyclic}
+use Rattle.candidate_executions.proofs.Vocabulary.{◌≡◌, ℕ, ◌<◌, ◌≤◌, List, [], slice_index, map, refl, sym, ap, ◌∙◌, subst, arith, length, same_Some, fun_ext, range_with_len, length-map-range_with_len, get_or-map-range_with_len, same_number_lists, Listing}
+use Rattle.candidate_executions.proofs.Vocabulary.{Local, code_of, Gaps, Outcome, Machine, StoreBufferMachine, State, start, IsRun, outcome_at, Label, Access, Event, Initial, At, Candidate, trace_of, access, IsCandidate, EndsWith, HasOutcome, Edge, IsAcyclic}
 use Rattle.candidate_executions.proofs.Vocabulary.{labels_along, first_origins, marks_of}
 use Rattle.candidate_executions.specs.declared.event.Kind.TheVariants as union
 use Rattle.candidate_executions.proofs.{FromRuns.MarksAlong.shown_along, Orders.AcyclicIsOrdered.In, Candidates.LastWrites.one_end, ToRuns.Linear.IsLinear}

@@ -1,10 +1,8 @@
 -- A run of the store buffer machine comes to the next event of the order.
-use Rattle.candidate_executions.proofs.Vocabulary.{◌≡◌, ℕ, suc, zero, ◌+◌, ◌-◌, ◌<◌, ◌≤◌, true, List, [], ◌∷◌, ◌++◌, Some, None, IsSome, option_and_then, slice_get, drop, refl, sym, ap, ◌∙◌, subst}
-use Rattle.candidate_executions.proofs.Vocabulary.{inl, inr, arith, cases_lt, cases_eq, same_Some, Listing, loaded, Local, Action, Stop, Go, Wait, Read, Write, Swap, action, Gaps, Machine, put}
-use Rattle.candidate_executions.proofs.Vocabulary.{StoreBufferMachine, State, newest, found, when_empty, flushed, step, run, Label, Exec, Flush, Pending, Access, Event, At, Candidate, IsCandidate}
-use Rattle.candidate_executions.proofs.Vocabulary.{EndsWith, Trace, trace, traced, stopped, with_access, entered, KeepsOrder, Edge, IsAcyclic, Origins, Mark, Takes, Arrives, found_write, with_made}
-use Rattle.candidate_executions.proofs.Vocabulary.{with_waiting, with_memory, buffered_origins, buffered_marks, flushed_origins, flushed_marks, origins_after, marks_at, marks, Steps, made_at, steps}
-use Rattle.candidate_executions.proofs.Vocabulary.{steps_by, counted, execs, flush_of}
+use Rattle.candidate_executions.proofs.Vocabulary.{◌≡◌, ℕ, suc, zero, ◌+◌, ◌-◌, ◌<◌, ◌≤◌, true, List, [], ◌∷◌, ◌++◌, Some, None, IsSome, option_and_then, slice_get, drop, refl, sym, ap, ◌∙◌, subst, inl, inr, arith, cases_lt, cases_eq, same_Some, Listing}
+use Rattle.candidate_executions.proofs.Vocabulary.{loaded, Local, Action, Stop, Go, Wait, Read, Write, Swap, action, Gaps, Machine, put, StoreBufferMachine, State, newest, found, when_empty, flushed, step, run, Label, Exec, Flush, Pending, Access, Event, At}
+use Rattle.candidate_executions.proofs.Vocabulary.{Candidate, IsCandidate, EndsWith, Trace, trace, traced, stopped, with_access, entered, KeepsOrder, Edge, IsAcyclic, Origins, Mark, Takes, Arrives, found_write, with_made, with_waiting, with_memory}
+use Rattle.candidate_executions.proofs.Vocabulary.{buffered_origins, buffered_marks, flushed_origins, flushed_marks, origins_after, marks_at, marks, Steps, made_at, steps, steps_by, counted, execs, flush_of}
 use Rattle.candidate_executions.specs.declared.event.Kind.TheVariants as union
 use Rattle.candidate_executions.proofs.{Orders.Lists.put_same, Orders.Lists.put_other, Orders.Lists.put_three, FromRuns.MachineSteps.exec_ok}
 use Rattle.candidate_executions.proofs.Orders.Dropped.{drop_none, drop_head, get_drop}

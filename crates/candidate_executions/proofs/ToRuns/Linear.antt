@@ -1,7 +1,6 @@
 -- An order of a candidate's accesses.
-use Rattle.candidate_executions.proofs.Vocabulary.{◌≡◌, ◌≢◌, ℕ, suc, zero, ◌<◌, ◌≤◌, List, [], ◌∷◌, Option, Some, Contains, slice_get, length, refl, sym, ap, subst, inl, inr, arith, AllPairs}
-use Rattle.candidate_executions.proofs.Vocabulary.{cases_lt, slice_get_within, Listing, action, start_of, Machine, Access, Event, Initial, At, Kind, trace, fenced_gaps, Candidate, trace_of, access}
-use Rattle.candidate_executions.proofs.Vocabulary.{Edge, IsAcyclic, followed_union, IsOrder}
+use Rattle.candidate_executions.proofs.Vocabulary.{◌≡◌, ◌≢◌, ℕ, suc, zero, ◌<◌, ◌≤◌, List, [], ◌∷◌, Option, Some, Contains, slice_get, length, refl, sym, ap, subst, inl, inr, arith, AllPairs, cases_lt, slice_get_within, Listing, action, start_of, Machine}
+use Rattle.candidate_executions.proofs.Vocabulary.{Access, Event, Initial, At, Kind, trace, fenced_gaps, Candidate, trace_of, access, Edge, IsAcyclic, followed_union, IsOrder}
 use Rattle.candidate_executions.proofs.Orders.AcyclicIsOrdered.{In, Distinct, Ordered, Listed, listed}
 use Rattle.candidate_executions.proofs.Orders.Lists.{get_some}
 use Rattle.candidate_executions.proofs.Candidates.AllEvents.{of_all, all_in, in_all, distinct_all, no_code}

@@ -1,7 +1,7 @@
 -- A run that shows what the events of an order show has their candidate.
-use Rattle.candidate_executions.proofs.Vocabulary.{◌≡◌, ℕ, suc, zero, ◌<◌, List, [], ◌∷◌, ◌⊎◌, Option, Some, None, IsSome, Contains, refl, sym, ap, ◌∙◌, subst, inl, inr, arith, AllPairs, cases_order}
-use Rattle.candidate_executions.proofs.Vocabulary.{same_Some, Contains-append_left, Contains-append_right, Contains-append_cases, Listing, Label, Machine, Access, Event, Initial, At, Kind, Candidate}
-use Rattle.candidate_executions.proofs.Vocabulary.{access, Writes, IsCandidate, Relates, WriteOrder, Edge, Mark, Takes, Arrives, marks_of, ReadsValue, IsStored, ArriveInOrder, IsCandidateOf}
+use Rattle.candidate_executions.proofs.Vocabulary.{◌≡◌, ℕ, suc, zero, ◌<◌, List, [], ◌∷◌, ◌⊎◌, Option, Some, None, IsSome, Contains, refl, sym, ap, ◌∙◌, subst, inl, inr, arith, AllPairs, cases_order, same_Some, Contains-append_left, Contains-append_right}
+use Rattle.candidate_executions.proofs.Vocabulary.{Contains-append_cases, Listing, Label, Machine, Access, Event, Initial, At, Kind, Candidate, access, Writes, IsCandidate, Relates, WriteOrder, Edge, Mark, Takes, Arrives, marks_of, ReadsValue, IsStored}
+use Rattle.candidate_executions.proofs.Vocabulary.{ArriveInOrder, IsCandidateOf}
 use Rattle.candidate_executions.specs.declared.event.Kind.TheVariants as union
 use Rattle.candidate_executions.proofs.{Orders.AcyclicIsOrdered.In, Orders.AcyclicIsOrdered.Distinct, Orders.AcyclicIsOrdered.Ordered, ToRuns.Linear.IsLinear, Orders.Lists.some_value}
 use Rattle.candidate_executions.proofs.FromRuns.PairsOfMarks.{PairsOf, pairs_all, none_in, first_in, pairs_append}

@@ -1,7 +1,6 @@
 -- A read finds its source's value in memory or in its thread's buffer.
-use Rattle.candidate_executions.proofs.Vocabulary.{◌≡◌, ◌≢◌, ℕ, ◌<◌, ◌≤◌, List, [], ◌∷◌, ◌⊎◌, Option, Some, None, option_map, slice_get, map, refl, sym, ap, ap₂, ◌∙◌, subst, inl, inr, arith, cases_eq}
-use Rattle.candidate_executions.proofs.Vocabulary.{cases_order, same_Some, slice_get-map, Listing, Local, length, Gaps, StoreBufferMachine, newest, found, Pending, Access, Event, Initial, At}
-use Rattle.candidate_executions.proofs.Vocabulary.{Candidate, IsCandidate, SameThread, KeepsOrder, Edge, IsAcyclic, found_write, length-map}
+use Rattle.candidate_executions.proofs.Vocabulary.{◌≡◌, ◌≢◌, ℕ, ◌<◌, ◌≤◌, List, [], ◌∷◌, ◌⊎◌, Option, Some, None, option_map, slice_get, map, refl, sym, ap, ap₂, ◌∙◌, subst, inl, inr, arith, cases_eq, cases_order, same_Some, slice_get-map, Listing, Local}
+use Rattle.candidate_executions.proofs.Vocabulary.{length, Gaps, StoreBufferMachine, newest, found, Pending, Access, Event, Initial, At, Candidate, IsCandidate, SameThread, KeepsOrder, Edge, IsAcyclic, found_write, length-map}
 use Rattle.candidate_executions.specs.declared.event.Kind.TheVariants as union
 use Rattle.candidate_executions.proofs.FromRuns.FoundWrites.{AreTagged, none_found, newest_found}
 use Rattle.candidate_executions.proofs.{FromRuns.NewestStore.Found, FromRuns.NewestStore.newest_none, FromRuns.NewestStore.newest_some, Orders.AcyclicIsOrdered.In}

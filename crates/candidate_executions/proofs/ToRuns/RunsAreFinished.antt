@@ -1,9 +1,8 @@
 -- After the last event each thread comes to its end, and so the run follows the whole order.
-use Rattle.candidate_executions.proofs.Vocabulary.{◌≡◌, ℕ, suc, zero, ◌+◌, ◌-◌, ◌<◌, ◌≤◌, ◌⊎◌, List, [], ◌∷◌, ◌++◌, Some, slice_get, slice_index, map, drop, refl, sym, ap, ◌∙◌, subst, inl, inr, arith}
-use Rattle.candidate_executions.proofs.Vocabulary.{length, cases_eq, Access, Listing, act, Local, Action, Stop, Go, Wait, Read, Write, Swap, action, start_of, code_of, Gaps, Machine, put}
-use Rattle.candidate_executions.proofs.Vocabulary.{StoreBufferMachine, State, when_empty, step, Label, Exec, Event, Initial, At, Candidate, IsCandidate, EndsWith, Trace, trace, traced, entered, Edge}
-use Rattle.candidate_executions.proofs.Vocabulary.{IsAcyclic, Origins, buffered_origins, buffered_marks, origins_after, marks_at, slice_get_within, get_or_from_slice_get, Steps, steps, steps_by}
-use Rattle.candidate_executions.proofs.Vocabulary.{counted, execs, flushes, to_ends, labels_along}
+use Rattle.candidate_executions.proofs.Vocabulary.{◌≡◌, ℕ, suc, zero, ◌+◌, ◌-◌, ◌<◌, ◌≤◌, ◌⊎◌, List, [], ◌∷◌, ◌++◌, Some, slice_get, slice_index, map, drop, refl, sym, ap, ◌∙◌, subst, inl, inr, arith, length, cases_eq, Access, Listing, act, Local, Action}
+use Rattle.candidate_executions.proofs.Vocabulary.{Stop, Go, Wait, Read, Write, Swap, action, start_of, code_of, Gaps, Machine, put, StoreBufferMachine, State, when_empty, step, Label, Exec, Event, Initial, At, Candidate, IsCandidate, EndsWith, Trace, trace}
+use Rattle.candidate_executions.proofs.Vocabulary.{traced, entered, Edge, IsAcyclic, Origins, buffered_origins, buffered_marks, origins_after, marks_at, slice_get_within, get_or_from_slice_get, Steps, steps, steps_by, counted, execs, flushes, to_ends}
+use Rattle.candidate_executions.proofs.Vocabulary.{labels_along}
 use Rattle.candidate_executions.specs.declared.event.Kind.TheVariants as union
 use Rattle.candidate_executions.proofs.{Orders.Lists.put_same, Orders.Lists.put_other, Orders.Lists.get_some, FromRuns.MachineSteps.exec_ok}
 use Rattle.candidate_executions.proofs.{ToRuns.StepsCounted.all_above, ToRuns.StepsCounted.same_length, ToRuns.Standing.at, ToRuns.Standing.acc, ToRuns.Standing.store, ToRuns.Standing.steps_from}

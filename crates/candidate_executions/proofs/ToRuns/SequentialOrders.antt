@@ -1,10 +1,9 @@
 -- A consistent candidate of sequential consistency has a run along each order that the union Sequential allows: the states of the run
 -- are those of a store buffer machine with no gap fenced, each store flushed at once.
-use Rattle.candidate_executions.proofs.Vocabulary.{◌≡◌, ℕ, suc, zero, ◌+◌, ◌-◌, ◌<◌, ◌≤◌, List, [], ◌∷◌, ◌++◌, Some, None, slice_get, map, refl, sym, ap, ◌∙◌, subst, inl, inr, arith, cases_lt}
-use Rattle.candidate_executions.proofs.Vocabulary.{cases_eq, Listing, loaded, Local, Action, Go, Wait, Read, Write, Swap, action, Outcome, put, SequentialMachine, StoreBufferMachine, no_gaps, State}
-use Rattle.candidate_executions.proofs.Vocabulary.{newest, found, step, start, Label, Exec, Access, Event, Initial, At, Candidate, access, IsCandidate, HasOutcome, Trace, trace, traced, Edge}
-use Rattle.candidate_executions.proofs.Vocabulary.{IsAcyclic, steps, steps_by, counted, execs, labels_along, Origins, first_origins, Takes, Arrives, found_write, with_made, with_memory}
-use Rattle.candidate_executions.proofs.Vocabulary.{direct_origins, direct_marks, origins_after, marks_at, with_access}
+use Rattle.candidate_executions.proofs.Vocabulary.{◌≡◌, ℕ, suc, zero, ◌+◌, ◌-◌, ◌<◌, ◌≤◌, List, [], ◌∷◌, ◌++◌, Some, None, slice_get, map, refl, sym, ap, ◌∙◌, subst, inl, inr, arith, cases_lt, cases_eq, Listing, loaded, Local, Action, Go, Wait, Read, Write}
+use Rattle.candidate_executions.proofs.Vocabulary.{Swap, action, Outcome, put, SequentialMachine, StoreBufferMachine, no_gaps, State, newest, found, step, start, Label, Exec, Access, Event, Initial, At, Candidate, access, IsCandidate, HasOutcome, Trace, trace}
+use Rattle.candidate_executions.proofs.Vocabulary.{traced, Edge, IsAcyclic, steps, steps_by, counted, execs, labels_along, Origins, first_origins, Takes, Arrives, found_write, with_made, with_memory, direct_origins, direct_marks, origins_after, marks_at}
+use Rattle.candidate_executions.proofs.Vocabulary.{with_access}
 use Rattle.candidate_executions.specs.declared.event.Kind.TheVariants as union
 use Rattle.candidate_executions.proofs.{Orders.Lists.put_same, Orders.Lists.put_other, Orders.Dropped.drop_none, Orders.AcyclicIsOrdered.In, Orders.AcyclicIsOrdered.Ordered}
 use Rattle.candidate_executions.proofs.{Orders.WiderRelations.acyclic_narrower, Orders.WiderRelations.ordered_narrower, ToRuns.Linear.IsLinear}

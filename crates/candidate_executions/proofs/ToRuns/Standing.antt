@@ -1,7 +1,6 @@
 -- Where the threads stand in a run that follows the order of a candidate's events.
-use Rattle.candidate_executions.proofs.Vocabulary.{◌≡◌, ℕ, ◌<◌, ◌≤◌, List, [], ◌∷◌, Option, Some, None, IsSome, slice_get, map, drop, refl, sym, ap, ◌∙◌, inl, inr, same_Some, Listing, Local, action}
-use Rattle.candidate_executions.proofs.Vocabulary.{Gaps, Machine, StoreBufferMachine, Pending, Access, Event, Initial, At, Candidate, trace_of, access, Writes, IsCandidate, trace, Steps, steps}
-use Rattle.candidate_executions.proofs.Vocabulary.{steps_by, Edge, IsAcyclic}
+use Rattle.candidate_executions.proofs.Vocabulary.{◌≡◌, ℕ, ◌<◌, ◌≤◌, List, [], ◌∷◌, Option, Some, None, IsSome, slice_get, map, drop, refl, sym, ap, ◌∙◌, inl, inr, same_Some, Listing, Local, action, Gaps, Machine, StoreBufferMachine, Pending, Access, Event}
+use Rattle.candidate_executions.proofs.Vocabulary.{Initial, At, Candidate, trace_of, access, Writes, IsCandidate, trace, Steps, steps, steps_by, Edge, IsAcyclic}
 use Rattle.candidate_executions.specs.declared.event.Kind.TheVariants as union
 use Rattle.candidate_executions.proofs.{Orders.AcyclicIsOrdered.In, Orders.AcyclicIsOrdered.Distinct, Orders.AcyclicIsOrdered.Ordered, Candidates.WrittenValues.store_of}
 

@@ -1,7 +1,6 @@
 -- How the threads stand after a step of the run.
-use Rattle.candidate_executions.proofs.Vocabulary.{◌≡◌, ℕ, suc, zero, ◌<◌, ◌≤◌, List, [], ◌∷◌, ◌++◌, Some, None, IsSome, slice_get, map, drop, refl, sym, ap, ap₂, ◌∙◌, subst, inl, inr, arith, length}
-use Rattle.candidate_executions.proofs.Vocabulary.{cases_lt, cases_eq, same_Some, slice_get_within, Listing, put, Local, action, Gaps, Machine, StoreBufferMachine, Pending, Access, Event, At}
-use Rattle.candidate_executions.proofs.Vocabulary.{Candidate, trace_of, IsCandidate, Trace, trace, steps, steps_by, Edge, IsAcyclic, map_push}
+use Rattle.candidate_executions.proofs.Vocabulary.{◌≡◌, ℕ, suc, zero, ◌<◌, ◌≤◌, List, [], ◌∷◌, ◌++◌, Some, None, IsSome, slice_get, map, drop, refl, sym, ap, ap₂, ◌∙◌, subst, inl, inr, arith, length, cases_lt, cases_eq, same_Some, slice_get_within, Listing}
+use Rattle.candidate_executions.proofs.Vocabulary.{put, Local, action, Gaps, Machine, StoreBufferMachine, Pending, Access, Event, At, Candidate, trace_of, IsCandidate, Trace, trace, steps, steps_by, Edge, IsAcyclic, map_push}
 use Rattle.candidate_executions.specs.declared.event.Kind.TheVariants as union
 use Rattle.candidate_executions.proofs.{Orders.Lists.get_end, Orders.Lists.get_front, Orders.Lists.get_cases, Orders.Lists.put_both, Orders.AcyclicIsOrdered.In}
 use Rattle.candidate_executions.proofs.{Candidates.EdgesAreDecidable.same_event, Candidates.WrittenValues.store_of}

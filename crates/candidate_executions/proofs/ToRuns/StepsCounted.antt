@@ -1,6 +1,6 @@
 -- The steps of a thread are one for each access of its trace, and rise.
-use Rattle.candidate_executions.proofs.Vocabulary.{◌≡◌, ℕ, suc, zero, ◌<◌, ◌≤◌, List, ◌∷◌, Bool, Some, slice_get, drop, refl, ap, length, arith, same_Some, loaded, Go, Wait, Read, Write, Swap, Action}
-use Rattle.candidate_executions.proofs.Vocabulary.{Local, trace, traced, entered, Steps, steps, counted, made_at}
+use Rattle.candidate_executions.proofs.Vocabulary.{◌≡◌, ℕ, suc, zero, ◌<◌, ◌≤◌, List, ◌∷◌, Bool, Some, slice_get, drop, refl, ap, length, arith, same_Some, loaded, Go, Wait, Read, Write, Swap, Action, Local, trace, traced, entered, Steps, steps, counted}
+use Rattle.candidate_executions.proofs.Vocabulary.{made_at}
 use Rattle.candidate_executions.proofs.Orders.Dropped.{drop_head}
 
 module _ (does : Local → Action) where

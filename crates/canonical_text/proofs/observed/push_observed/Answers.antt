@@ -1,7 +1,4 @@
-use Rattle.canonical_text.proofs.Vocabulary.{◌≡◌, ◌<◌, ℕ, List, ◌++◌, length, map, take, get_or, codes, sym, ap, ◌∙◌, arith, length-map, text_of, Observed, gap, joined_by, observed_place_pieces}
-use Rattle.canonical_text.proofs.Vocabulary.{place_named}
-use Rattle.std.proofs.Common.{◌==◌, false}
-use Rattle.std.proofs.lemmas.Bool.Decides.{nat_tests}
+use Rattle.canonical_text.proofs.Vocabulary.{◌≡◌, ◌<◌, ℕ, List, ◌++◌, length, map, take, get_or, codes, sym, ap, ◌∙◌, arith, length-map, text_of, Observed, gap, joined_by, observed_place_pieces, place_named, ◌==◌, false, nat_tests}
 use Rattle.std.proofs.Math.Seq.{take-length}
 use Rattle.litmus_reader.specs.declared.observed.Observed.TheVariants as observed
 use Rattle.canonical_text.proofs.TextsGrow.{between_at, element_column_more, brackets}

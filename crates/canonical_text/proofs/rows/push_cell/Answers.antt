@@ -1,5 +1,5 @@
-use Rattle.canonical_text.proofs.Vocabulary.{◌≡◌, ℕ, List, ◌++◌, Option, ap, ◌∙◌, subst, text_of, Instr, instr_at, gaps_in, gap, code_pieces, cell_pieces, label_names_at, own_labels, moved_labels}
-use Rattle.canonical_text.proofs.Vocabulary.{code_named, Piece, joined_by, sym, map, label_pieces, OnOk, option_map, append-nil}
+use Rattle.canonical_text.proofs.Vocabulary.{◌≡◌, ℕ, List, ◌++◌, Option, ap, ◌∙◌, subst, text_of, Instr, instr_at, gaps_in, gap, code_pieces, cell_pieces, label_names_at, own_labels, moved_labels, code_named, Piece, joined_by, sym, map, label_pieces, OnOk}
+use Rattle.canonical_text.proofs.Vocabulary.{option_map, append-nil}
 use Rattle.canonical_text.proofs.TextsGrow.{between_at, code_more}
 use Rattle.canonical_text.proofs.rows.push_cell.Goals as goal
 

@@ -1,5 +1,4 @@
-use Rattle.canonical_text.proofs.Vocabulary.{◌≡◌, arith, length, ℕ, List, ◌++◌, map, codes, ap, ◌∙◌, range_with_len, text_of, gaps_in, bar, cell_pieces, row_pieces, joined_by, row_end, moved_labels}
-use Rattle.canonical_text.proofs.Vocabulary.{cell_of}
+use Rattle.canonical_text.proofs.Vocabulary.{◌≡◌, arith, length, ℕ, List, ◌++◌, map, codes, ap, ◌∙◌, range_with_len, text_of, gaps_in, bar, cell_pieces, row_pieces, joined_by, row_end, moved_labels, cell_of}
 use Rattle.canonical_text.proofs.TextsGrow.{between_at, item_column_more, grown}
 use Rattle.canonical_text.proofs.rows.push_row.Goals as goal
 

@@ -1,5 +1,4 @@
-use Rattle.canonical_text.proofs.Vocabulary.{◌≡◌, ℕ, List, ◌++◌, length, ap, ◌∙◌, flat_map, Piece, text_of, gaps_in, Listing, Thread, initial_pieces, header_pieces, row_pieces, entries_of}
-use Rattle.canonical_text.proofs.Vocabulary.{moved_labels, rows_of}
+use Rattle.canonical_text.proofs.Vocabulary.{◌≡◌, ℕ, List, ◌++◌, length, ap, ◌∙◌, flat_map, Piece, text_of, gaps_in, Listing, Thread, initial_pieces, header_pieces, row_pieces, entries_of, moved_labels, rows_of}
 use Rattle.canonical_text.proofs.TextsGrow.{grown}
 use Rattle.canonical_text.proofs.writer.push_body.Goals as goal
 

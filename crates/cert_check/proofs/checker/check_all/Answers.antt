@@ -1,5 +1,5 @@
-use Rattle.cert_check.proofs.Vocabulary.{All, sym, subst, all_sets, asked, gaps_in, StoreBufferMachine, empty_sketch, IsValidCover, IsValidGap, IsRunOutside, IsValidCertificate, CheckFaultIs}
-use Rattle.cert_check.proofs.Vocabulary.{HasServingSet, HasForeignRuns, HasEachOutcome, HavePassed, err_up, on_ok}
+use Rattle.cert_check.proofs.Vocabulary.{All, sym, subst, all_sets, asked, gaps_in, StoreBufferMachine, empty_sketch, IsValidCover, IsValidGap, IsRunOutside, IsValidCertificate, CheckFaultIs, HasServingSet, HasForeignRuns, HasEachOutcome, HavePassed, err_up}
+use Rattle.cert_check.proofs.Vocabulary.{on_ok}
 use Rattle.cert_check.proofs.{Assembled.assembled, FirstFaults.foreign_are_runs}
 use Rattle.cert_check.proofs.checker.check_all.Goals as goal
 

@@ -1,7 +1,5 @@
-use Rattle.cert_check.proofs.Vocabulary.{◌≡◌, ◌∙◌, ℕ, suc, ◌+◌, ◌<◌, ◌≤◌, List, ◌∷◌, All, length, get_or, take, drop, refl, sym, ap, subst, arith, IfErr, OnOk, length-take-le, Gap, Split, Bound}
-use Rattle.cert_check.proofs.Vocabulary.{gap_trees_of, first_gap, spell_gaps, numbers_of_set, Better, MAX_GAPS, IsValidGap, IfWrong, IsAtRoot, IsBelow, HasNoSplit, FirstWrongGap, AreValidIn}
-use Rattle.cert_check.proofs.Vocabulary.{IsWrongChildIn, few_gaps, err_up, if_err, on_ok, if_wrong}
-use Rattle.cert_forest.proofs.GapNodeLaws.{next_gap_is_shorter, split_next, bound_next, gaps_no_longer}
+use Rattle.cert_check.proofs.Vocabulary.{◌≡◌, ◌∙◌, ℕ, suc, ◌+◌, ◌<◌, ◌≤◌, List, ◌∷◌, All, length, get_or, take, drop, refl, sym, ap, subst, arith, IfErr, OnOk, length-take-le, Gap, Split, Bound, gap_trees_of, first_gap, spell_gaps, numbers_of_set, Better}
+use Rattle.cert_check.proofs.Vocabulary.{MAX_GAPS, IsValidGap, IfWrong, IsAtRoot, IsBelow, HasNoSplit, FirstWrongGap, AreValidIn, IsWrongChildIn, few_gaps, err_up, if_err, on_ok, if_wrong, next_gap_is_shorter, split_next, bound_next, gaps_no_longer}
 use Rattle.cover_judge.proofs.CoverSteps.{left_some, walked_on}
 use Rattle.cert_check.proofs.GapNodes.{bound_here, split_here, split_below, split_valid}
 use Rattle.cert_check.proofs.GapSteps.{IsLeft, all_left, go_on, stop_here, none_left_of}

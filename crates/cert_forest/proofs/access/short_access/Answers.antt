@@ -1,5 +1,4 @@
-use Rattle.cert_forest.proofs.Vocabulary.{◌≡◌, ℕ, ◌-◌, ◌≤◌, true, List, [], ◌∷◌, ◌++◌, length, get_or, take, drop, Some, refl, sym, ap, ◌∙◌, arith, plain_number_takes, plain_number_at, starts_here}
-use Rattle.cert_forest.proofs.Vocabulary.{ends_word, AccessId, access_at, take_all, done_with}
+use Rattle.cert_forest.proofs.Vocabulary.{◌≡◌, ℕ, ◌-◌, ◌≤◌, true, List, [], ◌∷◌, ◌++◌, length, get_or, take, drop, Some, refl, sym, ap, ◌∙◌, arith, plain_number_takes, plain_number_at, starts_here, ends_word, AccessId, access_at, take_all, done_with}
 use Rattle.cert_forest.proofs.NameLaws.{access_text, access_exact}
 use Rattle.cert_forest.proofs.access.short_access.Goals as goal
 

@@ -1,6 +1,5 @@
-use Rattle.cert_forest.proofs.Vocabulary.{arith}
+use Rattle.cert_forest.proofs.Vocabulary.{arith, IfSome_then}
 use Rattle.cert_forest.proofs.TreeSteps.{cover_leaf}
-use Rattle.std.proofs.lemmas.Option.{IfSome_then}
 use Rattle.cert_forest.proofs.cover_tree.leaf.Goals as goal
 
 pub returns : goal.returns

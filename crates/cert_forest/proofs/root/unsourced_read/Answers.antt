@@ -1,5 +1,4 @@
-use Rattle.cert_forest.proofs.Vocabulary.{◌≡◌, ℕ, ◌-◌, ◌≤◌, true, List, [], ◌∷◌, ◌++◌, length, get_or, take, drop, Some, refl, sym, ap, ◌∙◌, arith, plain_number_takes, plain_number_at, starts_here}
-use Rattle.cert_forest.proofs.Vocabulary.{ends_word, AccessId, SourceHead, head_at, take_all, decimal}
+use Rattle.cert_forest.proofs.Vocabulary.{◌≡◌, ℕ, ◌-◌, ◌≤◌, true, List, [], ◌∷◌, ◌++◌, length, get_or, take, drop, Some, refl, sym, ap, ◌∙◌, arith, plain_number_takes, plain_number_at, starts_here, ends_word, AccessId, SourceHead, head_at, take_all, decimal}
 use Rattle.cert_forest.proofs.CoverLaws.{head_again, head_text}
 use Rattle.cert_forest.proofs.root.unsourced_read.Goals as goal
 

@@ -1,5 +1,4 @@
-use Rattle.std.specs.Arc.{arc_value}
-use Rattle.cert_pages.proofs.Vocabulary.{◌∷◌, [], map, draft_text, codes, decimal, numbers_of_set, line, head_lines, runs_lines}
+use Rattle.cert_pages.proofs.Vocabulary.{arc_value, ◌∷◌, [], map, draft_text, codes, decimal, numbers_of_set, line, head_lines, runs_lines}
 use Rattle.cert_pages.proofs.Writing.{on_ok, front_written}
 use Rattle.cert_pages.proofs.writer.write_front.Goals as goal
 

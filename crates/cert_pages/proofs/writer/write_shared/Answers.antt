@@ -1,6 +1,4 @@
-use Rattle.std.specs.Arc.{arc_value}
-use Rattle.cert_pages.proofs.Vocabulary.{◌≡◌, ◌++◌, ◌∷◌, [], map, subst, draft_text, codes, decimal, numbers_of_set, line, head_lines, cover_words, gap_words, runs_lines}
-use Rattle.cert_forest.specs.{Certificates.Certificate, Texts.certificate_text}
+use Rattle.cert_pages.proofs.Vocabulary.{arc_value, ◌≡◌, ◌++◌, ◌∷◌, [], map, subst, draft_text, codes, decimal, numbers_of_set, line, head_lines, cover_words, gap_words, runs_lines, Certificate, certificate_text}
 use Rattle.cert_pages.proofs.Writing.{on_ok, all_written}
 use Rattle.cert_pages.proofs.writer.write_shared.Goals as goal
 

@@ -1,5 +1,4 @@
-use Rattle.cover_judge.proofs.Vocabulary.{◌≡◌, Option, Some, MatchOption, length, subst, ap, arith, Vec, Event, ProgramSketch, mode_in, event_of, one_list_of_sources, HasNoSources, AreSources}
-use Rattle.cover_judge.proofs.Vocabulary.{HasSource, IsFree, HasSources}
+use Rattle.cover_judge.proofs.Vocabulary.{◌≡◌, Option, Some, MatchOption, length, subst, ap, arith, Vec, Event, ProgramSketch, mode_in, event_of, one_list_of_sources, HasNoSources, AreSources, HasSource, IsFree, HasSources}
 use Rattle.cover_judge.proofs.ChoicesJudged.{here, sources_are}
 use Rattle.cover_judge.proofs.children.free_sources.Goals as goal
 

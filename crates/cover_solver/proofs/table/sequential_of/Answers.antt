@@ -1,5 +1,4 @@
-use Rattle.cover_solver.proofs.Vocabulary.{List, ℕ, map, sym, subst, ◌∙◌, ap, arc_value, asked, place_in, renumbered, items_of, renumbered_item, Outcome, SequentialMachine, Label, AreRunsOf, IsPartialCover, IsSequentialTable}
-use Rattle.std.specs.Global.{Vec}
+use Rattle.cover_solver.proofs.Vocabulary.{List, ℕ, map, sym, subst, ◌∙◌, ap, arc_value, asked, place_in, renumbered, items_of, renumbered_item, Outcome, SequentialMachine, Label, AreRunsOf, IsPartialCover, IsSequentialTable, Vec}
 use Rattle.cert_forest.proofs.NodeLaws.{is_tree, same_tree}
 use Rattle.sketch_covers.specs.NodeChanges.{renumbered_node}
 use Rattle.partial_covers.proofs.PartialRenumbered.{table_renumbered, tree_renumbered}

@@ -1,5 +1,4 @@
-use Rattle.documents.proofs.Vocabulary.{◌∙◌, ◌≡◌, ℕ, List, [], ◌∷◌, ◌++◌, map, take, get_or, ap, sym, subst, arith, map_more, map-append, IfOk-weaker, Label, Step, step_text, HasLabel, HaveLabels}
-use Rattle.documents.proofs.Vocabulary.{array_text}
+use Rattle.documents.proofs.Vocabulary.{◌∙◌, ◌≡◌, ℕ, List, [], ◌∷◌, ◌++◌, map, take, get_or, ap, sym, subst, arith, map_more, map-append, IfOk-weaker, Label, Step, step_text, HasLabel, HaveLabels, array_text}
 use Rattle.std.proofs.Math.Seq.{take-length}
 use Rattle.documents.proofs.Steps.{one_more_step}
 use Rattle.documents.proofs.step.steps_array.Goals as goal

@@ -1,5 +1,4 @@
-use Rattle.fence_place.proofs.Vocabulary.{◌≡◌, ◌∙◌, ◌<◌, ◌≤◌, ℕ, List, [], ◌∷◌, ◌++◌, Some, None, inl, inr, length, length-append, sym, ap, subst, arith, none-some, slice_get, slice_get_within}
-use Rattle.fence_place.proofs.Vocabulary.{AreNumbersOf, slice_get_cases}
+use Rattle.fence_place.proofs.Vocabulary.{◌≡◌, ◌∙◌, ◌<◌, ◌≤◌, ℕ, List, [], ◌∷◌, ◌++◌, Some, None, inl, inr, length, length-append, sym, ap, subst, arith, none-some, slice_get, slice_get_within, AreNumbersOf, slice_get_cases}
 use Rattle.fence_place.proofs.Recording.{numbered_more, of_nodes_more, still_distinct}
 use Rattle.fence_place.proofs.certificates.listed_runs.Goals as goal
 

@@ -1,4 +1,4 @@
-use Rattle.json_text.proofs.Vocabulary.{◌≡◌, ◌++◌, [], take, flat_map, escaped}
+use Rattle.json_text.proofs.Vocabulary.{◌≡◌, ◌++◌, take, flat_map, escaped}
 use Rattle.json_text.proofs.escape.push_quoted.Given as goal
 
 -- the bytes so far

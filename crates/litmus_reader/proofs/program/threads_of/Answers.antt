@@ -1,5 +1,4 @@
-use Rattle.litmus_reader.proofs.Vocabulary.{◌≡◌, ℕ, ◌∷◌, ◌++◌, [], List, map, get_or, replicate, sym, ap, ◌∙◌, arith, Option, unwrap_or, range_with_len, get_or_default, map-range_with_len_more, Instr}
-use Rattle.litmus_reader.proofs.Vocabulary.{Thread, row_view, byte_in, byte_at, thread_in, code_in}
+use Rattle.litmus_reader.proofs.Vocabulary.{◌≡◌, ℕ, ◌∷◌, ◌++◌, [], List, map, get_or, replicate, sym, ap, ◌∙◌, arith, Option, unwrap_or, range_with_len, get_or_default, map-range_with_len_more, Thread, row_view, byte_in, byte_at, thread_in, code_in}
 use Rattle.litmus_reader.proofs.program.threads_of.Goals as goal
 
 pub loop-thread-preserved : goal.loop-thread-preserved

@@ -1,5 +1,4 @@
-use Rattle.litmus_reader.proofs.Vocabulary.{map, refl, ap, ◌∙◌, List, Place, place_view, body_view, ending_view, observed_of, byte_in}
-use Rattle.litmus_syntax.proofs.Options.{handed_on}
+use Rattle.litmus_reader.proofs.Vocabulary.{map, refl, ap, ◌∙◌, List, Place, place_view, body_view, ending_view, observed_of, byte_in, handed_on}
 use Rattle.litmus_reader.proofs.Parts.{refused_formula, refused_jump, parts_read}
 use Rattle.litmus_reader.proofs.reader.litmus_of.Goals as goal
 

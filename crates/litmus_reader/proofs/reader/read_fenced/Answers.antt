@@ -1,5 +1,4 @@
-use Rattle.litmus_reader.proofs.Vocabulary.{IsWithinFencedLimits, first_fenced_fault, BreaksFirst}
-use Rattle.litmus_syntax.proofs.Options.{handed_on}
+use Rattle.litmus_reader.proofs.Vocabulary.{IsWithinFencedLimits, first_fenced_fault, BreaksFirst, handed_on}
 use Rattle.litmus_reader.proofs.{Numbered.fenced_program_limits, WholeTexts.nothing_only, WholeTexts.nothing_refused, Meant.found, Meant.found_only, Meant.broken, Meant.broken_only}
 use Rattle.litmus_reader.proofs.reader.read_fenced.Goals as goal
 

@@ -1,5 +1,4 @@
-use Rattle.litmus_reader.proofs.Vocabulary.{◌∙◌}
-use Rattle.litmus_syntax.proofs.Options.{handed_on}
+use Rattle.litmus_reader.proofs.Vocabulary.{◌∙◌, handed_on}
 use Rattle.litmus_reader.proofs.WholeTexts.{Split, text_read, tokens_refused, first_line_refused, skipped_lines_refused}
 use Rattle.litmus_reader.proofs.reader.read_text.Goals as goal
 

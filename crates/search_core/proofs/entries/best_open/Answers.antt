@@ -1,5 +1,4 @@
-use Rattle.search_core.proofs.Vocabulary.{slice_get_read, ◌≡◌, ℕ, ◌+◌, ◌<◌, ◌≤◌, Bool, true, false, true≢false, List, Option, Some, None, length, get_or, IsTrue, refl, sym, ◌∙◌, subst, MatchOption}
-use Rattle.search_core.proofs.Vocabulary.{◌↔◌, slice_get, Better, Region, Entry, is_open, IsOpenAt}
+use Rattle.search_core.proofs.Vocabulary.{slice_get_read, ◌≡◌, ℕ, ◌+◌, ◌<◌, ◌≤◌, Bool, true, false, true≢false, List, Option, Some, None, length, get_or, IsTrue, refl, sym, ◌∙◌, subst, MatchOption, ◌↔◌, slice_get, Better, Region, Entry, is_open, IsOpenAt}
 use Rattle.search_core.proofs.Steps.{none_so_far, none_at_all}
 use Rattle.search_core.proofs.entries.best_open.Goals as goal
 use Rattle.search_core.proofs.entries.best_open.Goals.{then-is_open+then-is_first_or_better, else-is_open, else-is_open-via-then-is_open+else-is_first_or_better, else-is_open-via-else-is_open}

@@ -1,5 +1,5 @@
-use Rattle.sketch_covers.proofs.Vocabulary.{◌≡◌, ◌∙◌, ◌<◌, ◌≤◌, ◌++◌, List, ◌∷◌, [], ℕ, get_or, length, map, ap, subst, arith, rules, TraceTree, fold-roll-TraceTree, fold_out-TraceTree, Traces, Read}
-use Rattle.sketch_covers.proofs.Vocabulary.{traces, trace_node, trace_trees, first_choices, IsTraceTree, child_tree}
+use Rattle.sketch_covers.proofs.Vocabulary.{◌≡◌, ◌∙◌, ◌<◌, ◌≤◌, ◌++◌, List, ◌∷◌, [], ℕ, get_or, length, map, ap, subst, arith, rules, TraceTree, fold-roll-TraceTree, fold_out-TraceTree, Traces, Read, traces, trace_node, trace_trees, first_choices, IsTraceTree}
+use Rattle.sketch_covers.proofs.Vocabulary.{child_tree}
 use Rattle.cert_forest.specs.Node.TheVariants as node
 use Rattle.cover_judge.specs.declared.choice.Choice.TheVariants as choice
 use Rattle.branching.specs.declared.traces.TraceTree.TheViews as views

@@ -1,6 +1,4 @@
-use Rattle.thread_traces.proofs.Vocabulary.{None, subst, List}
-use Rattle.thread_traces.specs.declared.trace_tree.TraceNode.{TraceNode}
-use Rattle.thread_traces.specs.TraceTrees.{AreNodesOf}
+use Rattle.thread_traces.proofs.Vocabulary.{None, subst, List, TraceNode, AreNodesOf}
 use Rattle.thread_traces.proofs.TraceTrees.{nodes_twice}
 use Rattle.thread_traces.proofs.trace_tree.push_child.Goals as goal
 

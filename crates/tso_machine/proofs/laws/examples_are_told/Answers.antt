@@ -1,5 +1,4 @@
-use Rattle.tso_machine.proofs.Vocabulary.{refl}
-use Rattle.tso_machine.specs.Examples.{r, r_run, n6, n6_run, locked_exchange, locked_run}
+use Rattle.tso_machine.proofs.Vocabulary.{refl, r, r_run, n6, n6_run, locked_exchange, locked_run}
 use Rattle.tso_machine.proofs.ExamplesTold.{ended, store_buffering_is_told}
 use Rattle.tso_machine.proofs.laws.examples_are_told.Goals as goal
 

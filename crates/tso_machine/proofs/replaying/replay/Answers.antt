@@ -1,5 +1,4 @@
-use Rattle.tso_machine.proofs.Vocabulary.{◌≡◌, ◌∙◌, take, Some, sym, ap, subst, refl, arith, take_all, Exec, Listing, Machine, start, HasEnded, machine_of_model, Cores, state_of, FitsProgram}
-use Rattle.tso_machine.proofs.Vocabulary.{IsUnfinished}
+use Rattle.tso_machine.proofs.Vocabulary.{◌≡◌, ◌∙◌, take, Some, sym, ap, subst, refl, arith, take_all, Exec, Listing, Machine, start, HasEnded, machine_of_model, Cores, state_of, FitsProgram, IsUnfinished}
 use Rattle.tso_machine.proofs.{Link.state_of_first, Link.first_fits, Link.outcome_is, Refused.no_fault, Refused.one_outcome}
 use Rattle.tso_machine.proofs.Runs.{run_on, passed_on, none_passed, faulted, no_stores_by, none_sequential, match_some, match_none}
 use Rattle.tso_machine.proofs.replaying.replay.Goals as goal

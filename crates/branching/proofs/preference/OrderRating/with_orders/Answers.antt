@@ -1,5 +1,4 @@
-use Rattle.branching.proofs.Vocabulary.{◌≡◌, ◌∙◌, ◌<◌, length, get_or, List, None, Some, Option, sym, subst, inl, inr, arith, IfSome, cases_lt, RatedChoice, WrittenValue, IsOpen, IsWrittenValue}
-use Rattle.branching.proofs.Vocabulary.{AreWritesInOrder}
+use Rattle.branching.proofs.Vocabulary.{◌≡◌, ◌∙◌, ◌<◌, length, get_or, List, None, Some, Option, sym, subst, inl, inr, arith, IfSome, cases_lt, RatedChoice, WrittenValue, IsOpen, IsWrittenValue, AreWritesInOrder}
 use Rattle.branching.proofs.NothingLeft.{in_order_at}
 use Rattle.branching.proofs.preference.OrderRating.with_orders.Goals as goal
 use Rattle.branching.proofs.preference.OrderRating.with_orders.Goals.{then-needs_order, else-needs_order}

@@ -1,6 +1,5 @@
 use Rattle.cert_forest.proofs.FlatRunLaws.{as_many, begins_before, found_end, run_is}
-use Rattle.cert_forest.proofs.Vocabulary.{◌≡◌, ◌∙◌, ◌≤◌, ◌∷◌, ℕ, List, length, sym, ap, subst, arith, Some, slice_get, get_or, Label}
-use Rattle.std.specs.Prelude.{slice_range}
+use Rattle.cert_forest.proofs.Vocabulary.{◌≡◌, ◌∙◌, ◌≤◌, ◌∷◌, ℕ, List, length, sym, ap, subst, arith, Some, slice_get, get_or, Label, slice_range}
 use Rattle.cert_forest.proofs.run_list.Runs.get.Goals as goal
 
 pub part-requires-clause-ascend : goal.part-requires-clause-ascend

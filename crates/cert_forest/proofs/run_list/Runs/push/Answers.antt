@@ -1,5 +1,4 @@
-use Rattle.cert_forest.proofs.Vocabulary.{◌≡◌, ◌++◌, ◌∷◌, [], ap, ◌∙◌, cond, true, arith}
-use Rattle.std.specs.Prelude.{is_ok, not}
+use Rattle.cert_forest.proofs.Vocabulary.{◌≡◌, ◌++◌, ◌∷◌, [], ap, ◌∙◌, cond, true, arith, is_ok, not}
 use Rattle.cert_forest.proofs.FlatRunLaws.{runs_after, ends_after}
 use Rattle.cert_forest.proofs.run_list.Runs.push.Goals as goal
 

@@ -1,5 +1,5 @@
-use Rattle.cover_judge.proofs.Vocabulary.{map, take, drop, refl, sym, subst, ◌∙◌, arith, length-map, length-take-le, first_tree, next_is_shorter, IsValueOf, mode_in, event_of, same_Some, HasNoValues}
-use Rattle.cover_judge.proofs.Vocabulary.{HasNoSources, Ok, Err, sketch_with, IsWrongAt, value_next, source_next, order_next}
+use Rattle.cover_judge.proofs.Vocabulary.{map, take, drop, refl, sym, subst, ◌∙◌, arith, length-map, length-take-le, first_tree, next_is_shorter, IsValueOf, mode_in, event_of, same_Some, HasNoValues, HasNoSources, Ok, Err, sketch_with, IsWrongAt, value_next}
+use Rattle.cover_judge.proofs.Vocabulary.{source_next, order_next}
 use Rattle.candidate_executions.specs.declared.event.Event.{TheVariants.Initial}
 use Rattle.cover_judge.specs.declared.choice.Choice.TheVariants as choice
 use Rattle.cover_judge.proofs.{ChoicesJudged.from_child, ChoicesJudged.values_may, ChoicesJudged.sources_may, SketchesAfter.valid_after, SketchesAfter.wrong_after}

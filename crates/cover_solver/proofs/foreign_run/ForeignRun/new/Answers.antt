@@ -1,5 +1,4 @@
-use Rattle.cover_solver.proofs.Vocabulary.{◌≡◌, true, false, sym, subst, ◌∙◌, Question, asked, StoreBufferMachine, no_gaps, ArePassed, IsShownRun, IsForeignRun, IsSequentialOutcome, ReplayFaultIs}
-use Rattle.cover_solver.proofs.Vocabulary.{ForeignFaultIs}
+use Rattle.cover_solver.proofs.Vocabulary.{◌≡◌, true, false, sym, subst, ◌∙◌, Question, asked, StoreBufferMachine, no_gaps, ArePassed, IsShownRun, IsForeignRun, IsSequentialOutcome, ReplayFaultIs, ForeignFaultIs}
 use Rattle.cover_solver.proofs.Tables.{same_question, fault_of_foreign, no_fault_of_foreign, one_outcome}
 use Rattle.cover_solver.proofs.foreign_run.ForeignRun.new.Goals as goal
 

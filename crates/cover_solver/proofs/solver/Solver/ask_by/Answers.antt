@@ -1,5 +1,4 @@
-use Rattle.cover_solver.proofs.Vocabulary.{ap, ◌∙◌, Asked, Outcome}
-use Rattle.std.specs.Global.{Vec}
+use Rattle.cover_solver.proofs.Vocabulary.{ap, ◌∙◌, Asked, Outcome, Vec}
 use Rattle.cover_solver.proofs.Tables.{lacks_moved}
 use Rattle.cover_solver.proofs.solver.Solver.ask_by.Goals as goal
 

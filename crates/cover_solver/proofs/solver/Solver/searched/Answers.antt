@@ -1,5 +1,4 @@
-use Rattle.cover_solver.proofs.Vocabulary.{ap, ◌∙◌, asked, machine_of_mode, Asked, Outcome}
-use Rattle.std.specs.Global.{Vec}
+use Rattle.cover_solver.proofs.Vocabulary.{ap, ◌∙◌, asked, machine_of_mode, Asked, Outcome, Vec}
 use Rattle.cover_solver.proofs.Tables.{lacks_moved, stop_lacks_if}
 use Rattle.cover_solver.proofs.solver.Solver.searched.Goals as goal
 

@@ -1,5 +1,4 @@
-use Rattle.cover_solver.proofs.Vocabulary.{◌∙◌, arc_value, ◌↔◌, IsTrue, List, Some, slice_get, ◌≡◌, ap, subst, IfOk, IfErr, Outcome, IsSequentialOutcome, Table, BelongsAt}
-use Rattle.std.specs.Global.{Vec}
+use Rattle.cover_solver.proofs.Vocabulary.{◌∙◌, arc_value, ◌↔◌, IsTrue, List, Some, slice_get, ◌≡◌, ap, subst, IfOk, IfErr, Outcome, IsSequentialOutcome, Table, BelongsAt, Vec}
 use Rattle.cover_solver.proofs.Tables.{found_by}
 use Rattle.cover_solver.proofs.table.SeqTable.has.Goals as goal
 

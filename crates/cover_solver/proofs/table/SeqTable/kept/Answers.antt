@@ -1,5 +1,4 @@
-use Rattle.cover_solver.proofs.Vocabulary.{◌≡◌, sym, subst, arc_value, PartialCover, Table, IsPartialCover}
-use Rattle.partial_covers.proofs.Answered.{if_ok}
+use Rattle.cover_solver.proofs.Vocabulary.{◌≡◌, sym, subst, arc_value, PartialCover, Table, IsPartialCover, if_ok}
 use Rattle.cover_solver.proofs.table.SeqTable.kept.Goals as goal
 
 pub returns : goal.returns

@@ -1,5 +1,4 @@
-use Rattle.cover_solver.proofs.Vocabulary.{ap, ◌∙◌, Outcome, Table}
-use Rattle.std.specs.Global.{Vec}
+use Rattle.cover_solver.proofs.Vocabulary.{ap, ◌∙◌, Outcome, Table, Vec}
 use Rattle.cover_solver.proofs.table.SeqTable.outcomes.Goals as goal
 
 pub returns : goal.returns

@@ -1,6 +1,4 @@
-use Rattle.cover_solver.proofs.Vocabulary.{◌≡◌, ◌∙◌, ap, arc_value, Outcome, Table}
-use Rattle.std.specs.Global.{Vec}
-use Rattle.partial_covers.proofs.Answered.{if_ok}
+use Rattle.cover_solver.proofs.Vocabulary.{◌≡◌, ◌∙◌, ap, arc_value, Outcome, Table, Vec, if_ok}
 use Rattle.cover_solver.proofs.table.SeqTable.shared_outcomes.Goals as goal
 
 pub returns : goal.returns

@@ -1,5 +1,4 @@
-use Rattle.known_edges.proofs.Vocabulary.{◌≡◌, ◌↔◌, ◌+◌, ◌<◌, ℕ, List, get_or, length, ap, sym, subst, arith, IsIn, ROW_BITS, Access, Event, At, ThreadTrace, NumberedTraces, InOrder, IsRowOf}
-use Rattle.known_edges.proofs.Vocabulary.{IsLaterIn}
+use Rattle.known_edges.proofs.Vocabulary.{◌≡◌, ◌↔◌, ◌+◌, ◌<◌, ℕ, List, get_or, length, ap, sym, subst, arith, IsIn, ROW_BITS, Access, Event, At, ThreadTrace, NumberedTraces, InOrder, IsRowOf, IsLaterIn}
 use Rattle.known_edges.proofs.{Accesses.accesses_read, ThreadRows.placed, ThreadRows.moved_up}
 use Rattle.known_edges.proofs.numbered_traces.Traces.later_in_order.Goals as goal
 

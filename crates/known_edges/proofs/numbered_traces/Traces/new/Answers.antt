@@ -1,5 +1,4 @@
-use Rattle.known_edges.proofs.Vocabulary.{◌≤◌, ℕ, List, length, sym, ap, subst, refl, arith, MAX_INSTRUCTIONS, Event, ThreadTrace, accesses_at, AreAccesses, HaveLocations, AreWriteRows, EachEnds}
-use Rattle.known_edges.proofs.Vocabulary.{FitRow}
+use Rattle.known_edges.proofs.Vocabulary.{◌≤◌, ℕ, List, length, sym, ap, subst, refl, arith, MAX_INSTRUCTIONS, Event, ThreadTrace, accesses_at, AreAccesses, HaveLocations, AreWriteRows, EachEnds, FitRow}
 use Rattle.known_edges.proofs.{Located.are_located, Numbered.courses_short, Numbered.fit_row, Starts.numbered_all}
 use Rattle.known_edges.proofs.numbered_traces.Traces.new.Goals as goal
 

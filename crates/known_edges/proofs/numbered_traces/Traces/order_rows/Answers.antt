@@ -1,5 +1,4 @@
-use Rattle.known_edges.proofs.Vocabulary.{◌∙◌, ◌<◌, ◌≤◌, ℕ, List, get_or, length, refl, ap, sym, subst, arith, ROW_BITS, Event, Initial, NumberedTraces, InOrder, IsRowOf, AreRowsOf, length-set}
-use Rattle.known_edges.proofs.Vocabulary.{zeros_are_empty}
+use Rattle.known_edges.proofs.Vocabulary.{◌∙◌, ◌<◌, ◌≤◌, ℕ, List, get_or, length, refl, ap, sym, subst, arith, ROW_BITS, Event, Initial, NumberedTraces, InOrder, IsRowOf, AreRowsOf, length-set, zeros_are_empty}
 use Rattle.known_edges.proofs.{Masks.rows_more, Masks.rows_all, Masks.rows_join, InThreadOrder.order_never_round}
 use Rattle.known_edges.proofs.numbered_traces.Traces.order_rows.Goals as goal
 

@@ -1,5 +1,4 @@
-use Rattle.rowless_sketches.proofs.Vocabulary.{◌≡◌, ◌∙◌, ◌≤◌, ℕ, [], Option, IsSome, length, refl, sym, ap, subst, arith, slice_get_past, ProgramSketch, trace_in, ReadsThisValue, IsRead, no_accesses}
-use Rattle.rowless_sketches.proofs.Vocabulary.{Event}
+use Rattle.rowless_sketches.proofs.Vocabulary.{◌≡◌, ◌∙◌, ◌≤◌, ℕ, [], Option, IsSome, length, refl, sym, ap, subst, arith, slice_get_past, ProgramSketch, trace_in, ReadsThisValue, IsRead, no_accesses, Event}
 use Rattle.rowless_sketches.proofs.SourceLists.{first_listed, all_listed}
 use Rattle.rowless_sketches.proofs.parts.Parts.sources_of.Goals as goal
 

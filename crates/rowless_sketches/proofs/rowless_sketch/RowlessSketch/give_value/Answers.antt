@@ -1,10 +1,7 @@
-use Rattle.rowless_sketches.proofs.Vocabulary.{◌≡◌, ◌∙◌, ap, sym, subst, length, List, [], Some, IsSome, get_or, set, refl, ℕ, slice_get_read, Event, IsValueOf, ThreadTrace, ProgramSketch, mode_in}
-use Rattle.rowless_sketches.proofs.Vocabulary.{with_chosen, view_of, KeepsTraces, MarkedThread, IsValueMarkOf, reads_there, more_kept, more_parts}
+use Rattle.rowless_sketches.proofs.Vocabulary.{◌≡◌, ◌∙◌, ap, sym, subst, length, List, [], Some, IsSome, get_or, set, refl, ℕ, slice_get_read, Event, IsValueOf, ThreadTrace, ProgramSketch, mode_in, with_chosen, view_of, KeepsTraces, MarkedThread}
+use Rattle.rowless_sketches.proofs.Vocabulary.{IsValueMarkOf, reads_there, more_kept, more_parts, given_at, given_in, IsTraceTree}
 use Rattle.candidate_executions.specs.Sketches as sketches
-use Rattle.rowless_sketches.proofs.Vocabulary.{given_at, given_in}
-use Rattle.rowless_sketches.proofs.ChoicesDropped.{no_sources, no_pairs}
-use Rattle.rowless_sketches.proofs.ValuesGiven.{given_more}
-use Rattle.thread_traces.specs.TraceTrees.{IsTraceTree}
+use Rattle.rowless_sketches.proofs.{ChoicesDropped.no_sources, ChoicesDropped.no_pairs, ValuesGiven.given_more}
 use Rattle.rowless_sketches.proofs.rowless_sketch.RowlessSketch.give_value.Goals as goal
 
 pub invariant_of-self-2 : goal.invariant_of-self-2

@@ -1,6 +1,6 @@
-use Rattle.rowless_sketches.proofs.Vocabulary.{◌≡◌, ◌∙◌, ℕ, Some, ap, refl, set, slice_get, slice_get_read, length, sym, subst, with_chosen, MarkedThread, IsValueMarkOf, KeepsTraces, IsThreadTraceOf, ThreadTrace, given_at, given_in, machine_of_mode, view_of}
+use Rattle.rowless_sketches.proofs.Vocabulary.{◌≡◌, ◌∙◌, Some, ap, refl, set, slice_get, slice_get_read, length, sym, subst, with_chosen, MarkedThread, IsValueMarkOf, KeepsTraces, IsThreadTraceOf, ThreadTrace, given_at, given_in, machine_of_mode, view_of}
+use Rattle.rowless_sketches.proofs.Vocabulary.{IsTraceTree}
 use Rattle.candidate_executions.specs.Sketches as sketches
-use Rattle.thread_traces.specs.TraceTrees.{IsTraceTree}
 use Rattle.rowless_sketches.proofs.ValuesGiven.{taken_kept, taken_more, taken_parts, taken_there}
 use Rattle.rowless_sketches.proofs.rowless_sketch.RowlessSketch.take_back.Goals as goal
 

@@ -1,5 +1,4 @@
-use Rattle.rowless_sketches.proofs.Vocabulary.{◌≡◌, ◌∙◌, ◌↔◌, ◌<◌, ℕ, List, Some, Contains, slice_get, length, get_or, refl, sym, ap, subst, arith, Result, Ok, Err, IfOk, slice_get_read, Listing}
-use Rattle.rowless_sketches.proofs.Vocabulary.{IsValueOf, ProgramSketch}
+use Rattle.rowless_sketches.proofs.Vocabulary.{◌≡◌, ◌∙◌, ◌↔◌, ◌<◌, ℕ, List, Some, Contains, slice_get, length, get_or, refl, sym, ap, subst, arith, Result, Ok, Err, IfOk, slice_get_read, Listing, IsValueOf, ProgramSketch}
 use Rattle.std.specs.List.Sorted.{IsStrictlyIncreasing}
 use Rattle.thread_traces.specs.ValueLists.{AreValueLists, IsValueList}
 use Rattle.rowless_sketches.proofs.rowless_sketch.RowlessSketch.values_for.Goals as goal

@@ -1,5 +1,4 @@
-use Rattle.search_core.proofs.Vocabulary.{◌≡◌, ◌∙◌, ℕ, List, [], ◌∷◌, ◌++◌, length, None, sym, ap, subst, refl, all_sets, Region, Listing, Question, asked, IsWithinLimits, gap_count, HaveCosts, Entry}
-use Rattle.search_core.proofs.Vocabulary.{Open, entry, starts, IsStart, IsSeatCount}
+use Rattle.search_core.proofs.Vocabulary.{◌≡◌, ◌∙◌, ℕ, List, [], ◌∷◌, ◌++◌, length, None, sym, ap, subst, refl, all_sets, Region, Listing, Question, asked, IsWithinLimits, gap_count, HaveCosts, Entry, Open, entry, starts, IsStart, IsSeatCount}
 use Rattle.gap_sets.specs.CostLists.{IsCostList}
 use Rattle.search_core.proofs.tree.SearchTree.new.Goals as goal
 

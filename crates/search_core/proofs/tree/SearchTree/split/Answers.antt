@@ -1,5 +1,5 @@
-use Rattle.search_core.proofs.Vocabulary.{◌≡◌, ℕ, ◌<◌, ◌↔◌, IsTrue, Bool, true, false, List, ◌++◌, sym, ap, ◌∙◌, subst, arith, length, length-append, Entry, the_view, SearchState, set-append_left}
-use Rattle.search_core.proofs.Vocabulary.{slice_set, SetOfGaps, Region, Foreign, Split, children, entry, open_entries, Splits, splits, goes_on, DoMeet}
+use Rattle.search_core.proofs.Vocabulary.{◌≡◌, ℕ, ◌<◌, ◌↔◌, IsTrue, Bool, true, false, List, ◌++◌, sym, ap, ◌∙◌, subst, arith, length, length-append, Entry, the_view, SearchState, set-append_left, slice_set, SetOfGaps, Region, Foreign, Split, children, entry}
+use Rattle.search_core.proofs.Vocabulary.{open_entries, Splits, splits, goes_on, DoMeet}
 use Rattle.std.specs.FinSet as set
 use Rattle.search_core.proofs.Moves.{seated, holds_nothing, does_hold, is_within, split_event}
 use Rattle.search_core.proofs.tree.SearchTree.split.Goals as goal

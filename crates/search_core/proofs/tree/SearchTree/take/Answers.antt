@@ -1,5 +1,4 @@
-use Rattle.search_core.proofs.Vocabulary.{◌≡◌, ℕ, true, false, Option, Some, None, sym, ◌∙◌, subst, the_view, SearchState, HoldsNode, HoldsNothing, HoldsOnly, MatchOption, Region, TakesNode, takes}
-use Rattle.search_core.proofs.Vocabulary.{IsReached, goes_on, is_some}
+use Rattle.search_core.proofs.Vocabulary.{◌≡◌, ℕ, true, false, Option, Some, None, sym, ◌∙◌, subst, the_view, SearchState, HoldsNode, HoldsNothing, HoldsOnly, MatchOption, Region, TakesNode, takes, IsReached, goes_on, is_some}
 use Rattle.search_core.proofs.{OneNode.taken_only, Moves.seated, Moves.is_within, Moves.node_gaps, Moves.no_open, Moves.take_event}
 use Rattle.search_core.proofs.tree.SearchTree.take.Goals as goal
 

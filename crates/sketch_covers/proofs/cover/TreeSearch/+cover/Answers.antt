@@ -1,6 +1,5 @@
-use Rattle.sketch_covers.proofs.Vocabulary.{◌≡◌, ◌∙◌, ◌+◌, ◌<◌, ◌≤◌, ◌++◌, ◌∷◌, [], Bool, List, true, false, Err, get_or, drop, length, refl, sym, ap, subst, arith, remove_range, Outcome, asked}
-use Rattle.sketch_covers.proofs.Vocabulary.{ProgramSketch, with_chosen, Node, Cover, tree_of, Choice, sketch_with, IsValidAt, IsCoverAt, IsCoverAfter, node_over, by_number, Grows, OnTold, comes_after}
-use Rattle.sketch_covers.proofs.Vocabulary.{Pushes, IsTaken, fewer_rounds}
+use Rattle.sketch_covers.proofs.Vocabulary.{◌≡◌, ◌∙◌, ◌+◌, ◌<◌, ◌≤◌, ◌++◌, ◌∷◌, [], Bool, List, true, false, Err, get_or, drop, length, refl, sym, ap, subst, arith, remove_range, Outcome, asked, ProgramSketch, with_chosen, Node, Cover, tree_of, Choice}
+use Rattle.sketch_covers.proofs.Vocabulary.{sketch_with, IsValidAt, IsCoverAt, IsCoverAfter, node_over, by_number, Grows, OnTold, comes_after, Pushes, IsTaken, fewer_rounds}
 use Rattle.cover_judge.specs.declared.choice.Choice.TheVariants as choice
 use Rattle.sketch_covers.proofs.{Growing.grows_none, Growing.grows_twice, Growing.stops_as, Nodes.cover_next, Nodes.cover_without, Nodes.few_choices}
 use Rattle.sketch_covers.proofs.Covering.{Covering, none_covered, one_covered, all_covered, child_is_tree, child_fits, child_placed, child_is, pushes_as, stays_as}

@@ -1,7 +1,6 @@
-use Rattle.sketch_covers.proofs.Vocabulary.{◌+◌, ℕ, length, rules, sym, ap, ◌∙◌, subst, arith, slice_get_within, HasNumber}
+use Rattle.sketch_covers.proofs.Vocabulary.{◌+◌, ℕ, length, rules, sym, ap, ◌∙◌, subst, arith, slice_get_within, HasNumber, length-enumerate_from}
 use Rattle.std.proofs.lemmas.Iterator.Adapters.{YieldsList-from_vec}
 use Rattle.std.proofs.lemmas.Iterator.Consumers.{YieldsList-end, YieldsList-from_enumerate, YieldsList-turn}
-use Rattle.std.proofs.lemmas.List.FromFn.{length-enumerate_from}
 use Rattle.sketch_covers.proofs.{Numbered.counted, Numbered.push_long, Numbered.places_more, Numbered.small_places, Numbered.small_push, RunAt.run_at}
 use Rattle.sketch_covers.proofs.outcome_index.OutcomeIndex.add_all.Goals as goal
 

@@ -1,6 +1,4 @@
-use Rattle.sketch_covers.proofs.Vocabulary.{◌≡◌, ℕ, sym, ap, ◌∙◌, subst, arith, get_or, slice_get_within, get_or_from_slice_get, Outcome, HasNumber, ascending}
-use Rattle.std.proofs.lemmas.Slice.Zip.{AllZip-long}
-use Rattle.tso_program.specs.Ordered.{outcome_cmp}
+use Rattle.sketch_covers.proofs.Vocabulary.{◌≡◌, ℕ, sym, ap, ◌∙◌, subst, arith, get_or, slice_get_within, get_or_from_slice_get, Outcome, HasNumber, ascending, AllZip-long, outcome_cmp}
 use Rattle.sketch_covers.proofs.Numbered.{zip_at}
 use Rattle.sketch_covers.proofs.outcome_index.OutcomeIndex.compared.Goals as goal
 

@@ -1,4 +1,3 @@
-use Rattle.sketch_covers.proofs.Vocabulary.{List, [], ℕ, ap, ◌∙◌, sym, subst, length, arith, Outcome, Label, OutcomeIndex, IsInOrder, HasNumber, Contains}
 use Rattle.sketch_covers.proofs.Numbered.{none_in_order}
 use Rattle.sketch_covers.proofs.outcome_index.OutcomeIndex.none.Goals as goal
 

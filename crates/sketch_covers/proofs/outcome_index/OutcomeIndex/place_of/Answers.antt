@@ -1,6 +1,4 @@
-use Rattle.sketch_covers.proofs.Vocabulary.{◌≡◌, ◌+◌, ◌-◌, ◌/◌, Some, sym, ap, ◌∙◌, arith, get_or, slice_get-get_or, HasNumber, ascending}
-use Rattle.std.proofs.lemmas.Slice.Zip.{AllZip-long}
-use Rattle.tso_program.proofs.OutcomesOrdered.{exact_outcomes}
+use Rattle.sketch_covers.proofs.Vocabulary.{◌+◌, ◌-◌, ◌/◌, Some, sym, ap, ◌∙◌, arith, get_or, slice_get-get_or, HasNumber, ascending, AllZip-long, exact_outcomes}
 use Rattle.sketch_covers.proofs.Halving.{those_before, those_after}
 use Rattle.sketch_covers.proofs.outcome_index.OutcomeIndex.place_of.Goals as goal
 

@@ -1,6 +1,4 @@
-use Rattle.sketch_covers.proofs.Vocabulary.{◌≡◌, ℕ, ◌-◌, ◌<◌, ◌≤◌, get_or, length, Outcome, ascending}
-use Rattle.std.specs.declared.cmp.Ordering.TheVariants.{Less, Greater}
-use Rattle.tso_program.specs.Ordered.{outcome_cmp}
+use Rattle.sketch_covers.proofs.Vocabulary.{◌≡◌, ℕ, ◌-◌, ◌<◌, ◌≤◌, get_or, length, Outcome, ascending, Less, Greater, outcome_cmp}
 use Rattle.sketch_covers.proofs.outcome_index.OutcomeIndex.place_of.Given as goal
 
 -- the outcome comes after those before the low end, and before those from the high end on

@@ -1,5 +1,4 @@
-use Rattle.thread_traces.proofs.Vocabulary.{◌≡◌, ◌∙◌, List, Some, refl, sym, ap, slice_get}
-use Rattle.thread_traces.specs.declared.trace_tree.TracePlace.{TracePlace}
+use Rattle.thread_traces.proofs.Vocabulary.{◌≡◌, ◌∙◌, List, Some, refl, sym, ap, slice_get, TracePlace}
 use Rattle.thread_traces.proofs.TraceTrees.{entered, in_err, no_place, nodes_same, same_tree, stays}
 use Rattle.thread_traces.proofs.trace_tree.TraceTree.enter.Goals as goal
 

@@ -1,5 +1,4 @@
-use Rattle.thread_traces.proofs.Vocabulary.{◌≡◌, ◌∙◌, ◌<◌, ◌-◌, List, Some, refl, sym, ap, slice_get, arith}
-use Rattle.thread_traces.specs.declared.trace_tree.TracePlace.{TracePlace}
+use Rattle.thread_traces.proofs.Vocabulary.{◌≡◌, ◌∙◌, ◌<◌, ◌-◌, List, Some, refl, sym, ap, slice_get, arith, TracePlace}
 use Rattle.thread_traces.proofs.TraceTrees.{left_beyond, left_node, no_place, one_place, stays}
 use Rattle.thread_traces.proofs.trace_tree.TraceTree.leave.Goals as goal
 

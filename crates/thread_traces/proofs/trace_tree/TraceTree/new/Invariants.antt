@@ -1,6 +1,4 @@
-use Rattle.thread_traces.proofs.Vocabulary.{◌≡◌, ℕ, None, Some, slice_get, length}
-use Rattle.thread_traces.specs.declared.trace_tree.TraceNode.{TraceNode}
-use Rattle.thread_traces.specs.declared.trace_tree.TracePlace.{TracePlace}
+use Rattle.thread_traces.proofs.Vocabulary.{◌≡◌, ℕ, None, Some, slice_get, length, TraceNode, TracePlace}
 use Rattle.thread_traces.proofs.trace_tree.TraceTree.new.Given as goal
 
 -- a node and a place for each thread so far

@@ -1,7 +1,4 @@
-use Rattle.thread_traces.proofs.Vocabulary.{◌≡◌, ◌∙◌, List, Some, refl, sym, ap, slice_get, subst, arith}
-use Rattle.thread_traces.specs.declared.trace_tree.TraceNode.{TraceNode}
-use Rattle.thread_traces.specs.declared.trace_tree.TracePlace.{TracePlace}
-use Rattle.thread_traces.specs.TraceTrees.{IsChildOf}
+use Rattle.thread_traces.proofs.Vocabulary.{◌≡◌, ◌∙◌, List, Some, refl, sym, ap, slice_get, subst, arith, TraceNode, TracePlace, IsChildOf}
 use Rattle.thread_traces.proofs.TraceTrees.{in_none, nodes_twice, same_tree, taken_is, taken_tree}
 use Rattle.thread_traces.proofs.trace_tree.TraceTree.take.Goals as goal
 
