@@ -1,6 +1,6 @@
 -- Choices that are made one after another.
-use Rattle.partial_covers.proofs.Vocabulary.{◌≡◌, ℕ, zero, suc, ◌+◌, ◌<◌, ◌≤◌, List, [], ◌∷◌, ◌++◌, get_or, length, take, refl, ap, ◌∙◌, arith, take_more, take_all, ProgramSketch, mode_in}
-use Rattle.partial_covers.proofs.Vocabulary.{with_chosen, Choice, MayChoose, sketch_with, after, sequential, unfenced, MayChooseAll}
+use Rattle.partial_covers.proofs.Vocabulary.{◌≡◌, ℕ, zero, suc, ◌+◌, ◌<◌, ◌≤◌, List, [], ◌∷◌, ◌++◌, get_or, length, take, refl, ap, ◌∙◌, arith, take_more, take_all, ProgramSketch, mode_in, with_chosen, Choice, MayChoose, sketch_with, after, sequential}
+use Rattle.partial_covers.proofs.Vocabulary.{unfenced, MayChooseAll}
 use Rattle.partial_covers.proofs.PartialRows.{after_more}
 
 -- the program and the mode stay

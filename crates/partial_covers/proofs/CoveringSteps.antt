@@ -1,7 +1,6 @@
 -- What several steps of a search for outcomes do together to what it has so far.
-use Rattle.partial_covers.proofs.Vocabulary.{◌≡◌, ◌<◌, ℕ, Bool, true, List, [], ◌∷◌, ◌++◌, ◌+◌, ◌∙◌, ◌-◌, Vec, Global, get_or, length, take, refl, sym, ap, subst, arith, Shown, asked, ProgramSketch}
-use Rattle.partial_covers.proofs.Vocabulary.{with_chosen, Choice, AreValueChoices, sketch_with, by_number, Grows, Covering, Item, Has, items_of, after, PushesPartial, PushesPartialRow}
-use Rattle.partial_covers.proofs.Vocabulary.{PushesPartialAt, AreInOrder, length-append, grows_none, grows_twice, grows_after, Covers, CoversEach, CoversIf}
+use Rattle.partial_covers.proofs.Vocabulary.{◌≡◌, ◌<◌, ℕ, Bool, true, List, [], ◌∷◌, ◌++◌, ◌+◌, ◌∙◌, ◌-◌, Vec, Global, get_or, length, take, refl, sym, ap, subst, arith, Shown, asked, ProgramSketch, with_chosen, Choice, AreValueChoices, sketch_with, by_number}
+use Rattle.partial_covers.proofs.Vocabulary.{Grows, Covering, Item, Has, items_of, after, PushesPartial, PushesPartialRow, PushesPartialAt, AreInOrder, length-append, grows_none, grows_twice, grows_after, Covers, CoversEach, CoversIf}
 use Rattle.cert_forest.specs.Node.TheVariants as node
 use Rattle.partial_covers.proofs.{PartialRows.after_more, PartialRows.none_partial, PartialRows.one_partial, PartialRows.values_partial, PartialNodes.taken_back, PartsJoined.was_joined}
 

@@ -1,13 +1,11 @@
 -- Nodes that stand for a partial cover: copies of nodes, and the nodes of other trees in place of the holes.
-use Rattle.partial_covers.proofs.Vocabulary.{◌≡◌, ℕ, suc, ◌+◌, ◌<◌, List, [], ◌∷◌, ◌++◌, get_or, length, map, take, Contains, refl, sym, ap, ◌∙◌, subst, arith, append_assoc, append-nil, take_more}
-use Rattle.partial_covers.proofs.Vocabulary.{Listing, Outcome, Shown, Mode, machine_of_mode, ProgramSketch, mode_in, nothing_chosen, IsLawful, HaveAllRegisters, choices_few, Node, count_covers}
-use Rattle.partial_covers.proofs.Vocabulary.{in_mode, first_is_here, later_is_here, Choice, AreValueChoices, MayChoose, next_is_open, PartialCover, Piece, copied_in, KeepsNumbers, Item, Has, Lacks}
-use Rattle.partial_covers.proofs.Vocabulary.{PartialTree, Closed, Values, Hole, PartialTrees, NoPartial, MorePartial, count_partial, spell_partial, spell_partial_row, items_before, items_of, after}
-use Rattle.partial_covers.proofs.Vocabulary.{IsPartialAfter, ArePartialAfter, IsPartialCover, unfenced, Pushes, still_valid, cover_next, covers_none, node_cover, Cover, Value, covers_of, spell}
-use Rattle.partial_covers.proofs.Vocabulary.{spell_all, IsCoverAt, AreCoversAfter, copied, Filled, changed_node, kind_in}
+use Rattle.partial_covers.proofs.Vocabulary.{◌≡◌, ℕ, suc, ◌+◌, ◌<◌, List, [], ◌∷◌, ◌++◌, get_or, length, map, take, Contains, refl, sym, ap, ◌∙◌, subst, arith, append_assoc, append-nil, take_more, Listing, Outcome, Shown, Mode, machine_of_mode, ProgramSketch}
+use Rattle.partial_covers.proofs.Vocabulary.{mode_in, nothing_chosen, IsLawful, HaveAllRegisters, choices_few, Node, count_covers, in_mode, first_is_here, later_is_here, Choice, AreValueChoices, MayChoose, next_is_open, PartialCover, Piece, copied_in}
+use Rattle.partial_covers.proofs.Vocabulary.{KeepsNumbers, Item, Has, Lacks, PartialTree, Closed, Values, Hole, PartialTrees, NoPartial, MorePartial, count_partial, spell_partial, spell_partial_row, items_before, items_of, after, IsPartialAfter}
+use Rattle.partial_covers.proofs.Vocabulary.{ArePartialAfter, IsPartialCover, unfenced, Pushes, still_valid, cover_next, covers_none, node_cover, Cover, Value, covers_of, spell, spell_all, IsCoverAt, AreCoversAfter, copied, Filled, changed_node, kind_in}
+use Rattle.partial_covers.proofs.Vocabulary.{covers_count, listed}
 use Rattle.tso_machine.specs.declared.mode.Mode.TheVariants as modes
 use Rattle.cert_forest.specs.Node.TheVariants as node
-use Rattle.cert_forest.proofs.NodeLaws.{covers_count, listed}
 use Rattle.cover_judge.specs.declared.choice.Choice.TheVariants as choice
 use Rattle.branching.specs.declared.open_choice.OpenChoice.TheVariants as left
 use Rattle.partial_covers.proofs.{ChangedNodes.spelled_in, ChoicesMade.same_program, ChoicesMade.same_mode, ChoicesMade.after_unfenced, FilledTrees.cover_in_mode, FilledTrees.choices_in_mode}

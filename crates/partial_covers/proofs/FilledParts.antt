@@ -1,8 +1,7 @@
 -- Partial covers whose holes get other fillings.
-use Rattle.partial_covers.proofs.Vocabulary.{◌≡◌, ℕ, suc, List, [], ◌∷◌, ◌++◌, map, refl, sym, ap, ◌∙◌, subst, arith, append_assoc, append-nil, IsCoverAt, Pushes, Outcome, Shown, ProgramSketch}
-use Rattle.partial_covers.proofs.Vocabulary.{with_chosen, Node, spell, Choice, sketch_with, Piece, KeepsNumbers, IsFilling, sequential, AreFilled, IsFilled, Item, Has, Lacks, PartialTree, Closed}
-use Rattle.partial_covers.proofs.Vocabulary.{Values, Hole, PartialTrees, NoPartial, MorePartial, count_partial, spell_partial, spell_partial_row, items_before, after, IsPartialAfter, ArePartialAfter}
-use Rattle.partial_covers.proofs.Vocabulary.{PushesPartial, PushesPartialAt}
+use Rattle.partial_covers.proofs.Vocabulary.{◌≡◌, ℕ, suc, List, [], ◌∷◌, ◌++◌, map, refl, sym, ap, ◌∙◌, subst, arith, append_assoc, append-nil, IsCoverAt, Pushes, Outcome, Shown, ProgramSketch, with_chosen, Node, spell, Choice, sketch_with, Piece}
+use Rattle.partial_covers.proofs.Vocabulary.{KeepsNumbers, IsFilling, sequential, AreFilled, IsFilled, Item, Has, Lacks, PartialTree, Closed, Values, Hole, PartialTrees, NoPartial, MorePartial, count_partial, spell_partial, spell_partial_row, items_before}
+use Rattle.partial_covers.proofs.Vocabulary.{after, IsPartialAfter, ArePartialAfter, PushesPartial, PushesPartialAt}
 use Rattle.cert_forest.specs.Node.TheVariants as node
 use Rattle.partial_covers.proofs.{ChoicesMade.after_sequential, PartialRows.after_more, PartialRows.filling_still, PartialRows.partial_still}
 use Rattle.tso_machine.specs.declared.mode.Mode.TheVariants as modes

@@ -1,7 +1,6 @@
 -- Trees in any mode, made of partial covers.
-use Rattle.partial_covers.proofs.Vocabulary.{◌≡◌, ℕ, true, false, List, Option, Some, None, sym, ◌∙◌, arith, option_map_or, gap_number, tighter_keeps_cover, tighter_keeps_values}
-use Rattle.partial_covers.proofs.Vocabulary.{tighter_keeps_whole, SetOfGaps, Listing, Outcome, Shown, asked, machine_of_mode, IsWhole, ProgramSketch, mode_in, Cover, IsNoLooser, in_mode, Choice}
-use Rattle.partial_covers.proofs.Vocabulary.{AreValueChoices, IsCoverAt, SequentialMachine, sequential, unfenced, MayChooseEach, values_may}
+use Rattle.partial_covers.proofs.Vocabulary.{◌≡◌, ℕ, true, false, List, Option, Some, None, sym, ◌∙◌, arith, option_map_or, gap_number, tighter_keeps_cover, tighter_keeps_values, tighter_keeps_whole, SetOfGaps, Listing, Outcome, Shown, asked, machine_of_mode}
+use Rattle.partial_covers.proofs.Vocabulary.{IsWhole, ProgramSketch, mode_in, Cover, IsNoLooser, in_mode, Choice, AreValueChoices, IsCoverAt, SequentialMachine, sequential, unfenced, MayChooseEach, values_may}
 use Rattle.std.specs.FinSet as set
 use Rattle.std.specs.Ordering.{nat_cmp}
 use Rattle.tso_machine.specs.declared.mode.Mode as own

@@ -1,7 +1,6 @@
 -- What is found for the holes of a partial cover, a few at a time.
-use Rattle.partial_covers.proofs.Vocabulary.{◌≡◌, ℕ, suc, ◌+◌, ◌-◌, ◌<◌, ◌≤◌, List, [], ◌∷◌, ◌++◌, get_or, length, sym, ap, ◌∙◌, subst, arith, get_or_append_left, length-append, All, Outcome, Shown}
-use Rattle.partial_covers.proofs.Vocabulary.{Question, Machine, ProgramSketch, Node, Cover, Choice, Piece, LeadsToWhole, StopIs, Pushes, Stop, HoleTree, AreFoundFrom, AreHolesFrom, AreSearchedHoles}
-use Rattle.partial_covers.proofs.Vocabulary.{IsFoundAfter, StopLacks}
+use Rattle.partial_covers.proofs.Vocabulary.{◌≡◌, ℕ, suc, ◌+◌, ◌-◌, ◌<◌, ◌≤◌, List, [], ◌∷◌, ◌++◌, get_or, length, sym, ap, ◌∙◌, subst, arith, get_or_append_left, length-append, All, Outcome, Shown, Question, Machine, ProgramSketch, Node, Cover, Choice, Piece}
+use Rattle.partial_covers.proofs.Vocabulary.{LeadsToWhole, StopIs, Pushes, Stop, HoleTree, AreFoundFrom, AreHolesFrom, AreSearchedHoles, IsFoundAfter, StopLacks}
 use Rattle.std.proofs.Math.Seq.{get_or-append_seam}
 use Rattle.sketch_covers.specs.declared.stop.Stop.TheVariants as stop
 use Rattle.sketch_covers.specs.declared.known_outcomes.KnownOutcomes.{TheVariants.Closed}

@@ -1,8 +1,7 @@
 -- What is known of the holes of a partial cover: the choices of each lead to a sketch in which each read has its value, and its filling is valid there.
-use Rattle.partial_covers.proofs.Vocabulary.{ℕ, zero, suc, ◌<◌, List, [], ◌∷◌, ◌++◌, get_or, length, map, sym, ◌∙◌, subst, arith, append_assoc, Contains, append-nil, Outcome, Shown, IsWhole}
-use Rattle.partial_covers.proofs.Vocabulary.{ProgramSketch, mode_in, Node, spell, Choice, AreValueChoices, MayChoose, first_is_here, later_is_here, Piece, Item, Has, Lacks, PartialTree, Closed}
-use Rattle.partial_covers.proofs.Vocabulary.{Values, Hole, PartialTrees, NoPartial, MorePartial, spell_partial, spell_partial_row, items_before, after, IsPartialAfter, ArePartialAfter, PushesPartial}
-use Rattle.partial_covers.proofs.Vocabulary.{MayChooseAll, unfenced, IsFilling, LeadsToWhole}
+use Rattle.partial_covers.proofs.Vocabulary.{ℕ, zero, suc, ◌<◌, List, [], ◌∷◌, ◌++◌, get_or, length, map, sym, ◌∙◌, subst, arith, append_assoc, Contains, append-nil, Outcome, Shown, IsWhole, ProgramSketch, mode_in, Node, spell, Choice, AreValueChoices}
+use Rattle.partial_covers.proofs.Vocabulary.{MayChoose, first_is_here, later_is_here, Piece, Item, Has, Lacks, PartialTree, Closed, Values, Hole, PartialTrees, NoPartial, MorePartial, spell_partial, spell_partial_row, items_before, after, IsPartialAfter}
+use Rattle.partial_covers.proofs.Vocabulary.{ArePartialAfter, PushesPartial, MayChooseAll, unfenced, IsFilling, LeadsToWhole}
 use Rattle.cover_judge.specs.declared.choice.Choice.TheVariants as choice
 use Rattle.partial_covers.proofs.{ChoicesMade.after_unfenced, ChoicesMade.may_more, FilledTrees.whole_sketch_in_mode, FilledTrees.choices_in_mode}
 

@@ -1,7 +1,6 @@
 -- A lawful sketch stays so when it takes a value.
-use Rattle.partial_covers.proofs.Vocabulary.{◌≡◌, ◌⊎◌, ℕ, ◌<◌, ◌++◌, List, [], ◌∷◌, Option, Some, None, IsSome, Contains, length, refl, sym, ◌∙◌, subst, inl, inr, arith, cases_eq, same_Some, action}
-use Rattle.partial_covers.proofs.Vocabulary.{code_of, start_of, Event, trace, fenced_gaps, IsValueOf, given_to, with_value, next_read, IsLawful, ProgramSketch, mode_in, trace_in, with_chosen}
-use Rattle.partial_covers.proofs.Vocabulary.{given_same, given_other, reads_there, good_of, values_from}
+use Rattle.partial_covers.proofs.Vocabulary.{◌≡◌, ◌⊎◌, ℕ, ◌<◌, ◌++◌, List, [], ◌∷◌, Option, Some, None, IsSome, Contains, length, refl, sym, ◌∙◌, subst, inl, inr, arith, cases_eq, same_Some, action, code_of, start_of, Event, trace, fenced_gaps, IsValueOf}
+use Rattle.partial_covers.proofs.Vocabulary.{given_to, with_value, next_read, IsLawful, ProgramSketch, mode_in, trace_in, with_chosen, given_same, given_other, reads_there, good_of, values_from}
 use Rattle.candidate_executions.proofs.{FromRuns.StepsSuffice.advance, Sketches.Choices.a_value_keeps_a_sketch}
 use Rattle.sketches.proofs.GivenUsed.{Good, good_more}
 

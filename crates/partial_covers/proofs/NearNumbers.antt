@@ -1,6 +1,5 @@
 -- The numbers of a valid tree over a list with a node for each number.
-use Rattle.partial_covers.proofs.Vocabulary.{◌≤◌, List, [], ◌∷◌, length, map, arith, slice_get_within, Outcome, Question, Machine, Sketch, with_value, with_source, with_pair, NEAR_RUNS, event_of}
-use Rattle.partial_covers.proofs.Vocabulary.{IsValidCover, AreValidCovers}
+use Rattle.partial_covers.proofs.Vocabulary.{◌≤◌, List, [], ◌∷◌, length, map, arith, slice_get_within, Outcome, Question, Machine, Sketch, with_value, with_source, with_pair, NEAR_RUNS, event_of, IsValidCover, AreValidCovers}
 use Rattle.cert_forest.specs.Trees.{Cover, Value, Source, Order, Cycle, Known, Covers, NoCover, MoreCovers}
 use Rattle.partial_covers.proofs.OtherNumbers.{IsNear, AreNear}
 

@@ -1,10 +1,7 @@
 -- Sketches in which the thread before the last takes its values from another sketch.
-use Rattle.partial_covers.proofs.Vocabulary.{◌≢◌, ◌⊎◌, ℕ, Option, IsSome, Contains, sym, ◌∙◌, subst, inl, inr, cases_eq, At, Writes, given_to, ProgramSketch, access_in, IsLawful, with_values}
-use Rattle.partial_covers.proofs.Vocabulary.{values_elsewhere, IsValueOpen, LastThread, ReadValue, Tally, AreAlike, IsBase, IsRest, with_trace, IsBeforeLast, HasBit, IsTalliedRead, IsOther, Joins}
-use Rattle.partial_covers.proofs.Vocabulary.{IsFullTrace}
+use Rattle.partial_covers.proofs.Vocabulary.{◌≢◌, ◌⊎◌, ℕ, Option, IsSome, Contains, sym, ◌∙◌, subst, inl, inr, cases_eq, At, Writes, given_to, ProgramSketch, access_in, IsLawful, with_values, values_elsewhere, IsValueOpen, LastThread, ReadValue, Tally}
+use Rattle.partial_covers.proofs.Vocabulary.{AreAlike, IsBase, IsRest, with_trace, IsBeforeLast, HasBit, IsTalliedRead, IsOther, Joins, IsFullTrace, traces_still, access_here, access_elsewhere, next_here, next_elsewhere, read_here, read_elsewhere}
 use Rattle.branching.specs.declared.traces.FullTrace.{FullTrace}
-use Rattle.sketch_covers.proofs.CombinedCovers.{traces_still}
-use Rattle.sketch_covers.proofs.CombinedSketches.{access_here, access_elsewhere, next_here, next_elsewhere, read_here, read_elsewhere}
 
 module _ (s : ProgramSketch) (t : ℕ) (last : LastThread) (rest : Tally) (trace : FullTrace) (lawful : IsLawful s) (own : IsLawful trace.sketch) (before : IsBeforeLast s last) (is : IsRest t last.thread s rest)
     (full : IsFullTrace t trace) (alike : AreAlike trace.sketch s) where

@@ -1,7 +1,6 @@
 -- Partial covers, node by node.
-use Rattle.partial_covers.proofs.Vocabulary.{◌≡◌, ◌≤◌, Bool, true, false, ℕ, List, [], ◌∷◌, ◌++◌, length, map, take, refl, sym, ap, ◌∙◌, subst, append_assoc, Result, Ok, Err, OnOk, map-append}
-use Rattle.partial_covers.proofs.Vocabulary.{append-nil, Outcome, Shown, IsWhole, ProgramSketch, mode_in, IsLawful, Node, spell, Choice, Piece, IsCoverAt, Item, Has, Lacks, Closed, Hole, items_before}
-use Rattle.partial_covers.proofs.Vocabulary.{PushesPartialAt, choice_count, most_choices, Stop, OnTold, Pushes, IfKnown, leaf_cover}
+use Rattle.partial_covers.proofs.Vocabulary.{◌≡◌, ◌≤◌, Bool, true, false, ℕ, List, [], ◌∷◌, ◌++◌, length, map, take, refl, sym, ap, ◌∙◌, subst, append_assoc, Result, Ok, Err, OnOk, map-append, append-nil, Outcome, Shown, IsWhole, ProgramSketch, mode_in}
+use Rattle.partial_covers.proofs.Vocabulary.{IsLawful, Node, spell, Choice, Piece, IsCoverAt, Item, Has, Lacks, Closed, Hole, items_before, PushesPartialAt, choice_count, most_choices, Stop, OnTold, Pushes, IfKnown, leaf_cover}
 use Rattle.sketch_covers.proofs.Leaves.{known_pushed, unknown_same}
 
 -- nodes after the last piece

@@ -1,9 +1,8 @@
 -- Partial covers with other numbers for their outcomes.
-use Rattle.partial_covers.proofs.Vocabulary.{◌≡◌, ℕ, suc, ◌<◌, ◌≤◌, List, [], ◌∷◌, ◌++◌, map, length, refl, sym, ap, ◌∙◌, subst, arith, map-map, ◌^◌, map-append, Listing, Outcome, Shown, asked}
-use Rattle.partial_covers.proofs.Vocabulary.{SequentialMachine, empty_sketch, ProgramSketch, mode_in, nothing_chosen, Node, NEAR_RUNS, spell, Cover, Choice, PartialCover, Piece, renumbered_node}
-use Rattle.partial_covers.proofs.Vocabulary.{IsWholeCover, Item, Has, Lacks, renumbered_item, AreEach, IsPieceRenumbered, PartialTree, Closed, Values, Hole, PartialTrees, NoPartial, MorePartial}
-use Rattle.partial_covers.proofs.Vocabulary.{count_partial, spell_partial, spell_partial_row, items_before, items_of, after, sequential, IsFilling, IsPartialAfter, ArePartialAfter, IsPartialCover}
-use Rattle.partial_covers.proofs.Vocabulary.{HasNumber, place_in, ArePlacesOf}
+use Rattle.partial_covers.proofs.Vocabulary.{◌≡◌, ℕ, suc, ◌<◌, ◌≤◌, List, [], ◌∷◌, ◌++◌, map, length, refl, sym, ap, ◌∙◌, subst, arith, map-map, ◌^◌, map-append, Listing, Outcome, Shown, asked, SequentialMachine, empty_sketch, ProgramSketch, mode_in}
+use Rattle.partial_covers.proofs.Vocabulary.{nothing_chosen, Node, NEAR_RUNS, spell, Cover, Choice, PartialCover, Piece, renumbered_node, IsWholeCover, Item, Has, Lacks, renumbered_item, AreEach, IsPieceRenumbered, PartialTree, Closed, Values, Hole}
+use Rattle.partial_covers.proofs.Vocabulary.{PartialTrees, NoPartial, MorePartial, count_partial, spell_partial, spell_partial_row, items_before, items_of, after, sequential, IsFilling, IsPartialAfter, ArePartialAfter, IsPartialCover, HasNumber, place_in}
+use Rattle.partial_covers.proofs.Vocabulary.{ArePlacesOf}
 use Rattle.std.specs.FinSet as set
 use Rattle.tso_machine.specs.declared.mode.Mode.TheVariants as modes
 use Rattle.cert_forest.specs.Node.TheVariants as node

@@ -1,13 +1,10 @@
 -- Parts of a search, while the list of outcomes grows and choices are made, and the cover of one beside the rest.
-use Rattle.partial_covers.proofs.Vocabulary.{◌≡◌, Bool, true, false, ℕ, ◌+◌, ◌<◌, ◌≤◌, List, [], ◌∷◌, ◌++◌, Option, Some, None, get_or, take, drop, length, map, arith, sym, ap, ◌∙◌, subst, All}
-use Rattle.partial_covers.proofs.Vocabulary.{MatchOption, if◌then◌else◌, append-nil, take_all, drop_all, All-nil, All-push, Mode, IsWhole, Outcome, Shown, Question}
-use Rattle.partial_covers.proofs.Vocabulary.{asked, ProgramSketch, mode_in, with_chosen, NEAR_RUNS, Choice, sketch_with, KnownOutcomes, PartCover, Part, HasNumber, Item, renumbered_item, after}
-use Rattle.partial_covers.proofs.Vocabulary.{PushesPartialAt, StaysOf, LastThread, Plan, IsOfOther, IsLast, IsPartOf, IsPlanned, AreRunsFor, IsMadeAt, IsCoverFor, AreCoversFor}
-use Rattle.partial_covers.proofs.Vocabulary.{AreOwnParts, AreFoundIn, IfJoined, IsFoundIn, first_sketch, MayChoose, MayChooseAll, sequential, Listing}
+use Rattle.partial_covers.proofs.Vocabulary.{◌≡◌, Bool, true, false, ℕ, ◌+◌, ◌<◌, ◌≤◌, List, [], ◌∷◌, ◌++◌, Option, Some, None, get_or, take, drop, length, map, arith, sym, ap, ◌∙◌, subst, All, MatchOption, if◌then◌else◌, append-nil, take_all, drop_all}
+use Rattle.partial_covers.proofs.Vocabulary.{All-nil, All-push, Mode, IsWhole, Outcome, Shown, Question, asked, ProgramSketch, mode_in, with_chosen, NEAR_RUNS, Choice, sketch_with, KnownOutcomes, PartCover, Part, HasNumber, Item, renumbered_item, after}
+use Rattle.partial_covers.proofs.Vocabulary.{PushesPartialAt, StaysOf, LastThread, Plan, IsOfOther, IsLast, IsPartOf, IsPlanned, AreRunsFor, IsMadeAt, IsCoverFor, AreCoversFor, AreOwnParts, AreFoundIn, IfJoined, IsFoundIn, first_sketch, MayChoose}
+use Rattle.partial_covers.proofs.Vocabulary.{MayChooseAll, sequential, Listing, before_next}
 use Rattle.sketch_covers.specs.{declared.outcome_index.OutcomeIndex.OutcomeIndex, declared.known_outcomes.KnownOutcomes.TheVariants.Closed, declared.known_outcomes.KnownOutcomes.TheVariants.Open}
-use Rattle.sketch_covers.proofs.{CombinedCovers.before_next}
-use Rattle.partial_covers.proofs.{PartialRenumbered.partial_renumbered, PartialRows.after_more}
-use Rattle.partial_covers.proofs.ChoicesMade.{after_sequential, may_more, same_program}
+use Rattle.partial_covers.proofs.{PartialRenumbered.partial_renumbered, PartialRows.after_more, ChoicesMade.after_sequential, ChoicesMade.may_more, ChoicesMade.same_program}
 
 runs_stay : (q : Question) (old new : KnownOutcomes) (found : OutcomeIndex) → StaysOf old new → AreRunsFor q old found → AreRunsFor q new found
 runs_stay q (Closed outcomes) new found stays runs = subst (λ (o : KnownOutcomes). AreRunsFor q o found) (sym stays) runs

@@ -1,6 +1,5 @@
 -- A valid tree stays valid over another list when its numbers are put for those of the same outcomes there.
-use Rattle.partial_covers.proofs.Vocabulary.{ℕ, ◌<◌, List, arith, ◌^◌, Outcome, Shown, Question, asked, Machine, empty_sketch, ProgramSketch, mode_in, IsCoverAt, IsWholeCover, HasNumber, Cover}
-use Rattle.partial_covers.proofs.Vocabulary.{renumbered_is_valid}
+use Rattle.partial_covers.proofs.Vocabulary.{ℕ, ◌<◌, List, arith, ◌^◌, Outcome, Shown, Question, asked, Machine, empty_sketch, ProgramSketch, mode_in, IsCoverAt, IsWholeCover, HasNumber, Cover, renumbered_is_valid}
 use Rattle.partial_covers.proofs.{OtherNumbers.renumbered, TighterTrees.neat_changed, TighterTrees.same_depth}
 
 module _ (old new : List Outcome) (place : ℕ → ℕ) (small : (n : ℕ) → n < 2 ^ 64 → place n < 2 ^ 64) (moves : (n : ℕ) (o : Outcome) → HasNumber old n o → HasNumber new (place n) o) where

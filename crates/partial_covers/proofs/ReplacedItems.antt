@@ -1,6 +1,5 @@
 -- Items of a list that are replaced one after another.
-use Rattle.partial_covers.proofs.Vocabulary.{◌≡◌, ℕ, ◌+◌, ◌<◌, ◌≤◌, List, get_or, length, length-set, refl, sym, ◌∙◌, subst, inl, inr, arith, set, cases_eq, get_or-set_other, get_or-set_same}
-use Rattle.partial_covers.proofs.Vocabulary.{same_default, AreEach}
+use Rattle.partial_covers.proofs.Vocabulary.{◌≡◌, ℕ, ◌+◌, ◌<◌, ◌≤◌, List, get_or, length, length-set, refl, sym, ◌∙◌, subst, inl, inr, arith, set, cases_eq, get_or-set_other, get_or-set_same, same_default, AreEach}
 
 -- the items before a place are as they must be, and the later ones as they were
 pub record IsReplaced {A : Type 0} (R : A → A → Type 0) (old now : List A) (i : ℕ) : Type 0 where

@@ -1,6 +1,5 @@
 -- A cover tree with other unions for its cycles and other numbers for its outcomes: its numbers, its events and its depth stay within their limits.
-use Rattle.partial_covers.proofs.Vocabulary.{◌≡◌, ℕ, ◌<◌, suc, refl, ap, arith, ◌^◌, max, count_covers, cover_depth, covers_depth, in_mode, kind_in}
-use Rattle.partial_covers.proofs.Vocabulary.{changed, each_changed, IsNeat, AreNeat, Machine, Kind}
+use Rattle.partial_covers.proofs.Vocabulary.{◌≡◌, ℕ, ◌<◌, suc, refl, ap, arith, ◌^◌, max, count_covers, cover_depth, covers_depth, in_mode, kind_in, changed, each_changed, IsNeat, AreNeat, Machine, Kind}
 use Rattle.cert_forest.specs.Trees.{Cover, Value, Source, Order, Cycle, Known, Covers, NoCover, MoreCovers}
 
 module _ (kinds : Kind → Kind) (place : ℕ → ℕ) where

@@ -1,11 +1,10 @@
 -- Covers for the values of a thread at the first node of its traces, put after the rest one by one.
-use Rattle.partial_covers.proofs.Vocabulary.{◌≡◌, ◌∙◌, ◌<◌, ◌≤◌, ◌+◌, ◌-◌, ◌++◌, List, [], ◌∷◌, ℕ, Vec, Global, get_or, length, map, take, refl, sym, ap, subst, arith, take_all, asked, same_default}
-use Rattle.partial_covers.proofs.Vocabulary.{ProgramSketch, IsLawful, HasValuesAlone, Choice, TraceTree, IsTraceTree, AreAlike, with_root, Traces, Read, root, traces, trace_trees, first_choices}
-use Rattle.partial_covers.proofs.Vocabulary.{AreInOrder, grows_none, Covering, Covers, CoversEach, Has, items_of, PartialCover}
+use Rattle.partial_covers.proofs.Vocabulary.{◌≡◌, ◌∙◌, ◌<◌, ◌≤◌, ◌+◌, ◌-◌, ◌++◌, List, [], ◌∷◌, ℕ, Vec, Global, get_or, length, map, take, refl, sym, ap, subst, arith, take_all, asked, same_default, ProgramSketch, IsLawful, HasValuesAlone, Choice, TraceTree}
+use Rattle.partial_covers.proofs.Vocabulary.{IsTraceTree, AreAlike, with_root, Traces, Read, root, traces, trace_trees, first_choices, AreInOrder, grows_none, Covering, Covers, CoversEach, Has, items_of, PartialCover, as_many_here, choices_here, are_here}
+use Rattle.partial_covers.proofs.Vocabulary.{child_at}
 use Rattle.cert_forest.specs.Node.TheVariants as node
 use Rattle.cover_judge.specs.declared.choice.Choice.TheVariants as choice
-use Rattle.sketch_covers.proofs.{TraceNodes.as_many_here, TraceNodes.choices_here, TraceNodes.are_here, TraceNodes.child_at}
-use Rattle.partial_covers.proofs.{CoveringSteps.covers_values, CoveringSteps.each_more}
+use Rattle.partial_covers.proofs.CoveringSteps.{covers_values, each_more}
 
 module _ (s : ProgramSketch) (t : ℕ) (alone : HasValuesAlone s.chosen) (there : t < length s.program.threads) (lawful : IsLawful s) (u : ProgramSketch) (own : IsLawful u) (choices : List Choice) (below : List TraceTree)
     (x : Traces) (is : x ≡ Read u choices (trace_trees (map traces below))) (tree : IsTraceTree t x) (alike : AreAlike (root x) s) (old new : Covering) (i : ℕ) where

@@ -74,7 +74,7 @@ fn push_cut(
 {
     part.sketch.recall_facts();
     let Some(t) = plan.next_thread(&part.sketch) else {
-        smaller.push(part.copy(alloc)?)?;
+        smaller.push(part.apart(alloc)?)?;
         return Ok(());
     };
     for choice in &choices_of(alloc, &part.sketch, OpenChoice::Value(t))? {

@@ -3,11 +3,10 @@
 //! A long search is cut into parts, which threads may search. Each part has outcomes and a partial cover of
 //! its own, and the parts are joined in their order.
 //!
-//! Begin with `start_by`, `all_outcomes` and `cover_closed_by`. Free to change: where a search is cut
-//! (`cutting.rt`), who searches the parts and the holes (`searching.rt`, `hole_trees.rt`), which runs holes keep
-//! (`hole_run.rt`), and what a watch is given (`watch.rt`). Relied on: a partial cover holds in each machine but
-//! for its holes, each read has its value at a hole, a filled tree is valid, and a search that stops has a run
-//! whose outcome the list lacks.
+//! Begin with `start_by`, `all_outcomes` and `cover_closed_by`. Free to change: where a search is cut (`cutting.rt`),
+//! who searches the parts and the holes (`searching.rt`, `hole_trees.rt`), which runs holes keep (`hole_run.rt`), and
+//! what a watch is given (`watch.rt`). Relied on: a partial cover holds in each machine but for its holes, each read
+//! has its value at a hole, a filled tree is valid, and a search that stops has a run whose outcome the list lacks.
 #![tactic(auto)]
 
 mod covering;

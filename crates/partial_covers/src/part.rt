@@ -62,18 +62,18 @@ impl Part {
         })
     }
 
-    /// The same part.
-    pub(crate) fn copy(&self, alloc: Global) -> Result<Part, AllocError>
+    /// The same part, with a program of its own.
+    pub(crate) fn apart(&self, alloc: Global) -> Result<Part, AllocError>
         ensures path { IfOk result (λ part. part.path.items ≡ self.now.path.items) }
         ensures sketch { IfOk result (λ part. part.sketch ≡ self.now.sketch) }
     {
         Ok(Part {
             path: Vec::from_slice(alloc, &self.path)?,
-            sketch: self.sketch.copy()?,
+            sketch: self.sketch.apart()?,
         })
     }
 
-    /// The cover of the part.
+    /// The part's cover, over a program of its own: threads that count the uses of one program wait for each other.
     pub(crate) fn cover<W: Watch>(
         &self,
         sought: &Search,
@@ -83,10 +83,22 @@ impl Part {
         requires { IsPartOf (first_sketch sought.now.program.now) plan.now.last self.now }
         ensures { IfOk result (IsFoundIn sought.now.program.now sought.now.shown.now sought.now.mode) }
     {
-        let alloc = sought.alloc;
-        let path = Vec::from_slice(alloc, &self.path)?;
-        let mut no_covers = Vec::new(alloc);
-        let mut covering = Covering::none(alloc, sought.shown, sought.mode, path);
+        self.apart(sought.alloc)?.own_cover(sought, plan, watch)
+    }
+
+    /// The cover of the part.
+    fn own_cover<W: Watch>(
+        &self,
+        sought: &Search,
+        plan: &Plan,
+        watch: &W,
+    ) -> Result<PartCover, AllocError>
+        requires { IsPartOf (first_sketch sought.now.program.now) plan.now.last self.now }
+        ensures { IfOk result (IsFoundIn sought.now.program.now sought.now.shown.now sought.now.mode) }
+    {
+        let path = Vec::from_slice(sought.alloc, &self.path)?;
+        let mut no_covers = Vec::new(sought.alloc);
+        let mut covering = Covering::none(sought.alloc, sought.shown, sought.mode, path);
         covering.cover_values(&self.sketch, plan, &mut no_covers, watch)?;
         covering.kept.shrink();
         self.fill(&mut covering, watch)?;
@@ -94,7 +106,7 @@ impl Part {
         watch.finished(outcomes.count());
         match outcomes {
             KnownOutcomes::Open { found, .. } => Ok(PartCover {
-                path: Vec::from_slice(alloc, &self.path)?,
+                path: Vec::from_slice(sought.alloc, &self.path)?,
                 found,
                 kept,
             }),
@@ -127,11 +139,8 @@ impl Part {
 
 /// Whether the list is open for the sequential machine.
 fn are_sequential(outcomes: &KnownOutcomes) -> bool {
-    matches!(
-        outcomes,
-        KnownOutcomes::Open {
-            mode: Mode::Sequential,
-            ..
-        }
-    )
+    match outcomes {
+        KnownOutcomes::Open { mode, .. } => matches!(mode, Mode::Sequential),
+        KnownOutcomes::Closed(_) => false,
+    }
 }

@@ -141,8 +141,7 @@ impl PartialCover {
         count
     }
 
-    /// Room for the nodes of a tree in which the holes are filled. A list that grows past its room lies in memory twice for
-    /// a while.
+    /// Room for the nodes of a tree in which the holes are filled. A list that outgrows its room lies twice in memory.
     pub(crate) fn room(&self) -> usize {
         let count = self.count().max(self.filled_count);
         count.saturating_add(count / 8)

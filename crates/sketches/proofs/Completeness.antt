@@ -1,6 +1,6 @@
 -- A sketch is complete by its accesses.
-use Rattle.sketches.proofs.Vocabulary.{◌≡◌, ℕ, ◌<◌, ◌≤◌, List, None, IsSome, Contains, get_or, length, sym, ap, ◌∙◌, subst, arith, same_Some, slice_get_within, Access, Event, Initial, At, IsAccess}
-use Rattle.sketches.proofs.Vocabulary.{ProgramSketch, mode_in, IsRead, HasItsSource, IsOrderedWith, IsComplete, IsPair, IsWhole, given_to}
+use Rattle.sketches.proofs.Vocabulary.{◌≡◌, ℕ, ◌<◌, ◌≤◌, List, None, IsSome, Contains, get_or, length, sym, ap, ◌∙◌, subst, arith, same_Some, slice_get_within, Access, Event, Initial, At, IsAccess, ProgramSketch, mode_in, IsRead, HasItsSource, IsOrderedWith}
+use Rattle.sketches.proofs.Vocabulary.{IsComplete, IsPair, IsWhole, given_to}
 
 -- reads and pairs are of accesses
 pub read_there : (s : ProgramSketch) (e : Event) → IsRead s e → IsAccess s.program (mode_in s) (given_to s.chosen) e

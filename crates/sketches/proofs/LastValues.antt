@@ -1,7 +1,6 @@
 -- What is shown of the writes that may be the last of a location.
-use Rattle.sketches.proofs.Vocabulary.{◌≡◌, ◌↔◌, ℕ, ◌<◌, List, [], ◌∷◌, ◌++◌, Option, Some, None, Contains, length, sym, ap, ◌∙◌, subst, inl, inr, arith, get_or-set_same, get_or-set_other, length-set}
-use Rattle.sketches.proofs.Vocabulary.{Contains-push, Contains-push_cases, Contains-append_left, slice_index, slice_index_or, slice_set, IfSome, cases_eq, same_Some, Shown, shown_value, Event}
-use Rattle.sketches.proofs.Vocabulary.{Initial, At, ProgramSketch, IsLastWith, MAX_LOCATIONS, MayEndBy, IsOwn, EndsSo, Differ, IsLastValue, AreLastValues}
+use Rattle.sketches.proofs.Vocabulary.{◌≡◌, ◌↔◌, ℕ, ◌<◌, List, [], ◌∷◌, ◌++◌, Option, Some, None, Contains, length, sym, ap, ◌∙◌, subst, inl, inr, arith, get_or-set_same, get_or-set_other, length-set, Contains-push, Contains-push_cases, Contains-append_left}
+use Rattle.sketches.proofs.Vocabulary.{slice_index, slice_index_or, slice_set, IfSome, cases_eq, same_Some, Shown, shown_value, Event, Initial, At, ProgramSketch, IsLastWith, MAX_LOCATIONS, MayEndBy, IsOwn, EndsSo, Differ, IsLastValue, AreLastValues}
 use Rattle.rowless_sketches.proofs.OwnWrites.{same_location, same_value, own_or_initial}
 
 own_apart : (s : ProgramSketch) (e : Event) (l : ℕ) → IsOwn s e → e ≡ Initial l → ⊥

@@ -1,7 +1,6 @@
 -- Where no known edges make a cycle, each location has a write that may be its last.
-use Rattle.sketches.proofs.Vocabulary.{◌≡◌, ◌↔◌, ◌⊎◌, ℕ, ◌<◌, List, [], ◌∷◌, Option, Some, None, length, Contains, refl, sym, ap, ◌∙◌, subst, inl, inr, arith, slice_index, cases_eq, same_Some, Access}
-use Rattle.sketches.proofs.Vocabulary.{Event, Initial, At, Kind, Writes, IsOfMode, IsBefore, KnownRelates, KnownEdgeOfMode, same_event, ProgramSketch, mode_in, access_in, IsLawful, HasNoCycle}
-use Rattle.sketches.proofs.Vocabulary.{IsSuccessor, WritesTo, none_here, first_or_later, first_is_here, later_is_here, SketchMayEndWith, events, events_has}
+use Rattle.sketches.proofs.Vocabulary.{◌≡◌, ◌↔◌, ◌⊎◌, ℕ, ◌<◌, List, [], ◌∷◌, Option, Some, None, length, Contains, refl, sym, ap, ◌∙◌, subst, inl, inr, arith, slice_index, cases_eq, same_Some, Access, Event, Initial, At, Kind, Writes, IsOfMode, IsBefore}
+use Rattle.sketches.proofs.Vocabulary.{KnownRelates, KnownEdgeOfMode, same_event, ProgramSketch, mode_in, access_in, IsLawful, HasNoCycle, IsSuccessor, WritesTo, none_here, first_or_later, first_is_here, later_is_here, SketchMayEndWith, events, events_has}
 use Rattle.tso_machine.specs.Machine.{Machine, SequentialMachine, StoreBufferMachine}
 use Rattle.candidate_executions.specs.declared.event.Kind.TheVariants as union
 use Rattle.candidate_executions.specs.Orders.{followed_union}

@@ -1,8 +1,7 @@
 -- The outcome as which a sketch must end.
-use Rattle.sketches.proofs.Vocabulary.{◌≡◌, ℕ, ◌<◌, Bool, List, [], ◌∷◌, ◌++◌, ◌+◌, subst, Some, get_or, length, sym, ap, ◌∙◌, inl, inr, arith, get_or_append_left, get_or_push, Truth}
-use Rattle.sketches.proofs.Vocabulary.{slice_index, cases_lt, get_or-map-range_with_len, length-map-range_with_len, Outcome, Shown, ProgramSketch, mode_in, IsLawful, HasNoCycle, show_registers}
-use Rattle.sketches.proofs.Vocabulary.{ShowsValues, asked, MustEndSo, NeedNotEnd, final_registers, HasEnds, EndsSo, Differ, IsWhole, EndsInValues, MustEndAs, map, slice_get, slice_get-get_or}
-use Rattle.sketches.proofs.Vocabulary.{slice_get_past, told, range_with_len, Atom, Tree, KnownAtom, IsKnownTruth, of_values, in_values}
+use Rattle.sketches.proofs.Vocabulary.{◌≡◌, ℕ, ◌<◌, Bool, List, [], ◌∷◌, ◌++◌, ◌+◌, subst, Some, get_or, length, sym, ap, ◌∙◌, inl, inr, arith, get_or_append_left, get_or_push, Truth, slice_index, cases_lt, get_or-map-range_with_len, length-map-range_with_len}
+use Rattle.sketches.proofs.Vocabulary.{Outcome, Shown, ProgramSketch, mode_in, IsLawful, HasNoCycle, show_registers, ShowsValues, asked, MustEndSo, NeedNotEnd, final_registers, HasEnds, EndsSo, Differ, IsWhole, EndsInValues, MustEndAs, map, slice_get}
+use Rattle.sketches.proofs.Vocabulary.{slice_get-get_or, slice_get_past, told, range_with_len, Atom, Tree, KnownAtom, IsKnownTruth, of_values, in_values}
 use Rattle.std.proofs.lemmas.Grind.{same_number_lists}
 use Rattle.tso_program.specs.Truth.{is_true_at, is_value}
 use Rattle.tso_program.specs.declared.atom.Atom.TheVariants as atom

@@ -1,6 +1,6 @@
 -- Where an edge leads from each event to another, there is a cycle.
-use Rattle.sketches.proofs.Vocabulary.{◌≡◌, ◌⊎◌, ℕ, zero, suc, ◌<◌, ◌≤◌, List, [], ◌∷◌, ◌++◌, Some, slice_get, get_or, drop, length, Contains, refl, subst, inl, inr, arith, remove, slice_get-get_or}
-use Rattle.sketches.proofs.Vocabulary.{Event, Initial, IsCycle, same_event, EachGoesOn, IsWalk, walk_begins}
+use Rattle.sketches.proofs.Vocabulary.{◌≡◌, ◌⊎◌, ℕ, zero, suc, ◌<◌, ◌≤◌, List, [], ◌∷◌, ◌++◌, Some, slice_get, get_or, drop, length, Contains, refl, subst, inl, inr, arith, remove, slice_get-get_or, Event, Initial, IsCycle, same_event, EachGoesOn, IsWalk}
+use Rattle.sketches.proofs.Vocabulary.{walk_begins}
 use Rattle.std.proofs.lemmas.List.Edits.{length-remove}
 use Rattle.sketches.proofs.Walks.{comes_back, is_open, goes_on}
 

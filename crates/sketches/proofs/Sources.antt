@@ -1,8 +1,7 @@
 -- The sources of a read, listed in order.
-use Rattle.sketches.proofs.Vocabulary.{◌≡◌, ◌≢◌, ◌↔◌, ◌⊎◌, ℕ, ◌<◌, ◌≤◌, Some, None, List, [], get_or, slice_get, Contains, refl, sym, ap, ◌∙◌, subst, inl, inr, arith, slice_get_within}
-use Rattle.sketches.proofs.Vocabulary.{get_or_from_slice_get, same_Some, AllPairs, cases_eq, Listing, Mode, Access, Event, Initial, At, ComesBefore, IsAccess, IsSourceOf, given_to, ThreadTrace}
-use Rattle.sketches.proofs.Vocabulary.{ProgramSketch, mode_in, access_in, view_of, KeepsTraces, ReadsThisValue, IsValueWritten, HasNumberIn, FollowInOrder, of_some, none_in, IsIn, traced_access}
-use Rattle.sketches.proofs.Vocabulary.{IsRowOf, IsWriteAt, AreAccesses, access_same, is_access, access_number, number_access}
+use Rattle.sketches.proofs.Vocabulary.{◌≡◌, ◌≢◌, ◌↔◌, ◌⊎◌, ℕ, ◌<◌, ◌≤◌, Some, None, List, [], get_or, slice_get, Contains, refl, sym, ap, ◌∙◌, subst, inl, inr, arith, slice_get_within, get_or_from_slice_get, same_Some, AllPairs, cases_eq, Listing, Mode}
+use Rattle.sketches.proofs.Vocabulary.{Access, Event, Initial, At, ComesBefore, IsAccess, IsSourceOf, given_to, ThreadTrace, ProgramSketch, mode_in, access_in, view_of, KeepsTraces, ReadsThisValue, IsValueWritten, HasNumberIn, FollowInOrder, of_some, none_in}
+use Rattle.sketches.proofs.Vocabulary.{IsIn, traced_access, IsRowOf, IsWriteAt, AreAccesses, access_same, is_access, access_number, number_access}
 
 -- the old events, and those of which P holds among the numbers of the row that are no longer left; they are less than those that are
 pub record IsListed (P : Event → Type 0) (events : List Event) (row left : ℕ) (old listed : List Event) : Type 0 where

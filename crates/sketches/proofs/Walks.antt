@@ -1,6 +1,6 @@
 -- Walks along edges: a walk that comes back holds a cycle.
-use Rattle.sketches.proofs.Vocabulary.{◌≡◌, ◌≢◌, ◌⊎◌, ℕ, List, [], ◌∷◌, ◌++◌, Some, slice_get, drop, Contains, sym, subst, inl, inr, AllPairs, remove, Contains-append_left, Contains-push, Event}
-use Rattle.sketches.proofs.Vocabulary.{IsCycle, IsSuccessor, IsWalk, contains_remove, path_more, path_drop, pairs_drop, round, distinct_more}
+use Rattle.sketches.proofs.Vocabulary.{◌≡◌, ◌≢◌, ◌⊎◌, ℕ, List, [], ◌∷◌, ◌++◌, Some, slice_get, drop, Contains, sym, subst, inl, inr, AllPairs, remove, Contains-append_left, Contains-push, Event, IsCycle, IsSuccessor, IsWalk, contains_remove, path_more}
+use Rattle.sketches.proofs.Vocabulary.{path_drop, pairs_drop, round, distinct_more}
 
 module _ (R : Event → Event → Type 0) (nodes path open_nodes : List Event) (now next : Event) (walk : IsWalk R nodes path now open_nodes) (edge : IsSuccessor R nodes now next) where
   -- the walk comes back

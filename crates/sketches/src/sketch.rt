@@ -109,6 +109,21 @@ impl Sketch {
         })
     }
 
+    /// An equal sketch, with a program of its own.
+    pub fn apart(&self) -> Result<Sketch, AllocError>
+        ensures { IfOk result (λ other. other ≡ self.now) }
+    {
+        Ok(Sketch {
+            alloc: self.alloc,
+            program: self.program.apart(self.alloc)?,
+            mode: self.mode,
+            traces: Arc::try_clone(&self.traces)?,
+            sources: with_room(self.alloc, self.sources.as_slice())?,
+            pairs: with_room(self.alloc, self.pairs.as_slice())?,
+            rows: self.rows.copy(),
+        })
+    }
+
     /// The sketch without its rows. Where each read has its value it lists no values.
     pub fn rowless(&self) -> Result<RowlessSketch, AllocError>
         ensures { IfOk result (λ own. own ≡ self.now) }

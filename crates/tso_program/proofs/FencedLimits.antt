@@ -1,8 +1,7 @@
 -- A program within its limits is, with its fences, within those of a fenced program.
-use Rattle.tso_program.proofs.Vocabulary.{◌≡◌, ℕ, zero, suc, ◌+◌, ◌-◌, ◌*◌, ◌<◌, ◌≤◌, Bool, true, false, List, [], ◌∷◌, ◌++◌, ◌⊎◌, inl, inr, length, Option, Some, refl, sym, ap, ◌∙◌, arith, cond}
-use Rattle.tso_program.proofs.Vocabulary.{slice_get, is_some, sum_by, count_by, if◌then◌else◌, sum_by-cons, Instr, LoadImm, Fence, Je, Jne, Jmp, Thread, Listing, location_of, target_of, code_of}
-use Rattle.tso_program.proofs.Vocabulary.{instr_at, accesses_of, IsWithinLimits, IsWithinFencedLimits, MAX_INSTRUCTIONS, MAX_FENCED_INSTRUCTIONS, Gaps, gaps_in, place_of, moved, fenced_code}
-use Rattle.tso_program.proofs.Vocabulary.{fenced_threads, fence, FencingStaysWithinLimits}
+use Rattle.tso_program.proofs.Vocabulary.{◌≡◌, ℕ, zero, suc, ◌+◌, ◌-◌, ◌*◌, ◌<◌, ◌≤◌, Bool, true, false, List, [], ◌∷◌, ◌++◌, ◌⊎◌, inl, inr, length, Option, Some, refl, sym, ap, ◌∙◌, arith, cond, slice_get, is_some, sum_by, count_by, if◌then◌else◌}
+use Rattle.tso_program.proofs.Vocabulary.{sum_by-cons, Instr, LoadImm, Fence, Je, Jne, Jmp, Thread, Listing, location_of, target_of, code_of, instr_at, accesses_of, IsWithinLimits, IsWithinFencedLimits, MAX_INSTRUCTIONS, MAX_FENCED_INSTRUCTIONS, Gaps, gaps_in}
+use Rattle.tso_program.proofs.Vocabulary.{place_of, moved, fenced_code, fenced_threads, fence, FencingStaysWithinLimits}
 use Rattle.tso_program.proofs.FencedPlaces.{fenced_code_of, same_count}
 
 module _ (gap : ℕ → Bool) where

@@ -1,6 +1,6 @@
 -- What stands at each place of a fenced thread.
-use Rattle.tso_program.proofs.Vocabulary.{◌≡◌, ℕ, zero, suc, ◌+◌, Bool, true, false, List, [], ◌∷◌, ◌++◌, Option, Some, None, refl, sym, ap, ◌∙◌, length, arith, slice_get, slice_index_or}
-use Rattle.tso_program.proofs.Vocabulary.{if◌then◌else◌, Instr, Fence, Thread, code_of, instr_at, Gaps, place_of, moved, fenced_code, fenced_threads}
+use Rattle.tso_program.proofs.Vocabulary.{◌≡◌, ℕ, zero, suc, ◌+◌, Bool, true, false, List, [], ◌∷◌, ◌++◌, Option, Some, None, refl, sym, ap, ◌∙◌, length, arith, slice_get, slice_index_or, if◌then◌else◌, Instr, Fence, Thread, code_of, instr_at, Gaps, place_of}
+use Rattle.tso_program.proofs.Vocabulary.{moved, fenced_code, fenced_threads}
 
 module _ (gap : ℕ → Bool) where
   -- how far place k of the instructions from n on lies from place n

@@ -1,6 +1,6 @@
 -- What is found in a list, and what it means that nothing is.
-use Rattle.tso_program.proofs.Vocabulary.{◌≡◌, ℕ, zero, suc, ◌+◌, Bool, true, false, List, [], ◌∷◌, length, Option, Some, None, refl, sym, ap, ◌∙◌, arith, not, nat_lt, slice_get, is_some, position}
-use Rattle.tso_program.proofs.Vocabulary.{if◌then◌else◌, position_or_len, list_any, enumerate_from, option_map_or, nat_tests, Instr, Thread, code_of, instr_at, first_found}
+use Rattle.tso_program.proofs.Vocabulary.{◌≡◌, ℕ, zero, suc, ◌+◌, Bool, true, false, List, [], ◌∷◌, length, Option, Some, None, refl, sym, ap, ◌∙◌, arith, not, nat_lt, slice_get, is_some, position, if◌then◌else◌, position_or_len, list_any, enumerate_from}
+use Rattle.tso_program.proofs.Vocabulary.{option_map_or, nat_tests, Instr, Thread, code_of, instr_at, first_found}
 pub use Rattle.std.proofs.lemmas.Bool.{or_parts as neither}
 
 -- an instruction that is there stands in a thread that is there

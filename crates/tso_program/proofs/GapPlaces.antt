@@ -1,7 +1,6 @@
 -- The gaps of a program, listed in the order of their numbers.
-use Rattle.tso_program.proofs.Vocabulary.{◌≡◌, ℕ, zero, suc, ◌+◌, ◌-◌, ◌<◌, ◌≤◌, Bool, true, false, ◌&&◌, List, [], ◌∷◌, ◌++◌, length, take, Option, Some, None, refl, sym, ap, subst, ◌∙◌}
-use Rattle.tso_program.proofs.Vocabulary.{arith, inl, inr, ◌↔◌, map, slice_get, nat_lt, nat_le, IfSome, if◌then◌else◌, range_with_len, cases_lt, slice_get-get_or, length-map-range_with_len}
-use Rattle.tso_program.proofs.Vocabulary.{get_or-map-range_with_len, Thread, code_of, gap_count, gap_number, gap_place, gaps_of_thread, places_from}
+use Rattle.tso_program.proofs.Vocabulary.{◌≡◌, ℕ, zero, suc, ◌+◌, ◌-◌, ◌<◌, ◌≤◌, Bool, true, false, ◌&&◌, List, [], ◌∷◌, ◌++◌, length, take, Option, Some, None, refl, sym, ap, subst, ◌∙◌, arith, inl, inr, ◌↔◌, map, slice_get, nat_lt, nat_le, IfSome}
+use Rattle.tso_program.proofs.Vocabulary.{if◌then◌else◌, range_with_len, cases_lt, slice_get-get_or, length-map-range_with_len, get_or-map-range_with_len, Thread, code_of, gap_count, gap_number, gap_place, gaps_of_thread, places_from}
 use Rattle.tso_program.proofs.Gaps.{count_first, gap_facts, gap_is}
 
 in_front : {X : Type 0} (xs ys : List X) (i : ℕ) → i < length xs → slice_get (xs ++ ys) i ≡ slice_get xs i

@@ -1,6 +1,6 @@
 -- Gaps and their numbers.
-use Rattle.tso_program.proofs.Vocabulary.{◌≡◌, ℕ, zero, suc, ◌+◌, ◌-◌, ◌<◌, ◌≤◌, Bool, true, false, ◌&&◌, List, [], ◌∷◌, length, take, Some, None, refl, sym, ap, ◌∙◌, arith, inl, inr, leb-true}
-use Rattle.tso_program.proofs.Vocabulary.{ltb-true, nat_lt, nat_le, if◌then◌else◌, nat_cmp, nat_cmp_total, cases_lt, nat_tests, Thread, sum_by-cons, code_of, gap_count, gap_number, gaps_of_thread}
+use Rattle.tso_program.proofs.Vocabulary.{◌≡◌, ℕ, zero, suc, ◌+◌, ◌-◌, ◌<◌, ◌≤◌, Bool, true, false, ◌&&◌, List, [], ◌∷◌, length, take, Some, None, refl, sym, ap, ◌∙◌, arith, inl, inr, leb-true, ltb-true, nat_lt, nat_le, if◌then◌else◌, nat_cmp, nat_cmp_total}
+use Rattle.tso_program.proofs.Vocabulary.{cases_lt, nat_tests, Thread, sum_by-cons, code_of, gap_count, gap_number, gaps_of_thread}
 use Rattle.std.specs.FinSet as set
 
 -- the gaps of a thread that may not be there

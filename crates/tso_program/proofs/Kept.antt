@@ -1,9 +1,7 @@
 -- What is shown, value by value.
-use Rattle.tso_program.proofs.Vocabulary.{◌≡◌, ℕ, ◌<◌, Bool, true, false, List, [], get_or, length, inl, inr, refl, sym, ap, subst, ◌∙◌, arith, ext_get_or, get_or_past, fill_by_all}
-use Rattle.tso_program.proofs.Vocabulary.{get_or-map-range_with_len, length-map-range_with_len, cases_lt, Outcome, Shown, All, Truth, shows_register, shows_location, value_if, shown_registers}
-use Rattle.tso_program.proofs.Vocabulary.{shown_value, show_registers, show_memory, show, shown_values, ShowsValues, ShowsPartOf, HaveOneShape, register_in, location_in, WhatIsShownIsAlike}
-use Rattle.tso_program.proofs.Vocabulary.{ShownRegistersAreKept, ShownLocationsAreKept, OtherRegistersAreZero, OtherLocationsAreZero, EachIsReadOffAll, APartIsShownOfTheWhole}
-use Rattle.tso_program.proofs.Vocabulary.{ShowingTwiceIsShowingOnce, EverythingShownIsTheOutcome}
+use Rattle.tso_program.proofs.Vocabulary.{◌≡◌, ℕ, ◌<◌, Bool, true, false, List, [], get_or, length, inl, inr, refl, sym, ap, subst, ◌∙◌, arith, ext_get_or, get_or_past, fill_by_all, get_or-map-range_with_len, length-map-range_with_len, cases_lt, Outcome}
+use Rattle.tso_program.proofs.Vocabulary.{Shown, All, Truth, shows_register, shows_location, value_if, shown_registers, shown_value, show_registers, show_memory, show, shown_values, ShowsValues, ShowsPartOf, HaveOneShape, register_in, location_in}
+use Rattle.tso_program.proofs.Vocabulary.{WhatIsShownIsAlike, ShownRegistersAreKept, ShownLocationsAreKept, OtherRegistersAreZero, OtherLocationsAreZero, EachIsReadOffAll, APartIsShownOfTheWhole, ShowingTwiceIsShowingOnce, EverythingShownIsTheOutcome}
 use Rattle.std.proofs.lemmas.Grind.{same_number_lists}
 use Rattle.tso_program.proofs.PartsShown.{any_register, part_of_itself}
 

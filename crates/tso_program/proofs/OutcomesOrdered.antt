@@ -1,9 +1,8 @@
 -- The order of outcomes is a strict one: those that compare equal are equal.
-use Rattle.tso_program.proofs.Vocabulary.{◌≡◌, ◌↔◌, true, List, [], ◌∷◌, refl, sym, ap, ◌∙◌, IsTotalOrder, slice_cmp, nat_cmp, ordering_then, ordering_reverse, is_eq, Outcome}
+use Rattle.tso_program.proofs.Vocabulary.{◌≡◌, ◌↔◌, true, List, [], ◌∷◌, refl, sym, ap, ◌∙◌, IsTotalOrder, slice_cmp, nat_cmp, ordering_then, ordering_reverse, is_eq, Outcome, Equal-is}
 use Rattle.std.specs.declared.cmp.Ordering.{Ordering, TheVariants.Less, TheVariants.Equal}
 use Rattle.std.proofs.lemmas.Cmp.{nat_cmp_total, lists_total, on_total, then_total, tied_itself}
 use Rattle.std.proofs.lemmas.Map.Lookups.{CmpEqualImpliesEq, exact_unsigned}
-use Rattle.std.specs.Cmp.{Equal-is}
 use Rattle.tso_program.specs.Ordered.{outcome_cmp}
 
 both_equal : (a b : Ordering) → ordering_then a b ≡ Equal → (a ≡ Equal) × (b ≡ Equal)

@@ -1,6 +1,6 @@
 -- The places of named registers and locations.
-use Rattle.tso_program.proofs.Vocabulary.{◌≡◌, ◌⊎◌, ◌||◌, ℕ, ◌-◌, ◌/◌, ◌%◌, ◌<◌, Bool, true, false, refl, sym, ◌∙◌, inl, inr, arith, nat_cmp, eq_by_cmp, nat_cmp_total, cases_lt, nat_tests, ArePlaces}
-use Rattle.tso_program.proofs.Vocabulary.{REGISTERS, RegisterPlacesAreDistinct, LocationPlacesAreDistinct, RegistersLieApartFromLocations, IsRegisterPlace, EachPlaceIsNamed, REGISTER_PLACES, PLACES}
+use Rattle.tso_program.proofs.Vocabulary.{◌≡◌, ◌⊎◌, ◌||◌, ℕ, ◌-◌, ◌/◌, ◌%◌, ◌<◌, Bool, true, false, refl, sym, ◌∙◌, inl, inr, arith, nat_cmp, eq_by_cmp, nat_cmp_total, cases_lt, nat_tests, ArePlaces, REGISTERS, RegisterPlacesAreDistinct}
+use Rattle.tso_program.proofs.Vocabulary.{LocationPlacesAreDistinct, RegistersLieApartFromLocations, IsRegisterPlace, EachPlaceIsNamed, REGISTER_PLACES, PLACES}
 use Rattle.std.specs.FinSet as set
 use Rattle.std.proofs.Math.Nat.{div-add-mod, mod-lt}
 

@@ -1,7 +1,7 @@
 -- A formula's truth is read off what shows all that the formula speaks of.
-use Rattle.tso_program.proofs.Vocabulary.{◌≡◌, ℕ, ◌<◌, Bool, true, false, not, List, [], Option, Some, get_or, length, inl, inr, refl, sym, ap, ◌∙◌, arith, ◌&&◌, ◌||◌, slice_get, option_and_then}
-use Rattle.tso_program.proofs.Vocabulary.{slice_get-get_or, slice_get_past, cases_lt, Reg, Outcome, Shown, Atom, Tree, number, truth, is_true_at, is_value, final_register, location_at, shows_register}
-use Rattle.tso_program.proofs.Vocabulary.{shows_location, value_if, shown_registers, show_registers, show_memory, shown_values, told, ShowsAtom, ShowsAtoms, ATruthIsReadOffItsAtoms, TruthsAreTold}
+use Rattle.tso_program.proofs.Vocabulary.{◌≡◌, ℕ, ◌<◌, Bool, true, false, not, List, [], Option, Some, get_or, length, inl, inr, refl, sym, ap, ◌∙◌, arith, ◌&&◌, ◌||◌, slice_get, option_and_then, slice_get-get_or, slice_get_past, cases_lt, Reg, Outcome, Shown}
+use Rattle.tso_program.proofs.Vocabulary.{Atom, Tree, number, truth, is_true_at, is_value, final_register, location_at, shows_register, shows_location, value_if, shown_registers, show_registers, show_memory, shown_values, told, ShowsAtom, ShowsAtoms}
+use Rattle.tso_program.proofs.Vocabulary.{ATruthIsReadOffItsAtoms, TruthsAreTold}
 use Rattle.tso_program.specs.declared.atom.Atom.TheVariants as atom
 use Rattle.tso_program.specs.Tree as tree
 use Rattle.tso_program.proofs.Kept.{by_values, registers_long, register_at, memory_long, value_at, threads_long, thread_at}

@@ -1,6 +1,6 @@
 -- What the equality of threads decides.
-use Rattle.tso_program.proofs.Vocabulary.{◌≡◌, ◌==◌, ◌&&◌, Bool, true, false, true≢false, ap, refl, sym, subst, Decides, rules, and_parts, and_from, Decides-like, Decides-and, Decides-eqb, pointwise}
-use Rattle.tso_program.proofs.Vocabulary.{nat_eq, slice_eq-Decides, Reg, Eax, Instr, LoadImm, Copy, Load, StoreImm, Store, Xchg, Fence, CmpImm, CmpReg, Je, Jne, Jmp, Thread}
+use Rattle.tso_program.proofs.Vocabulary.{◌≡◌, ◌==◌, ◌&&◌, Bool, true, false, true≢false, ap, refl, sym, subst, Decides, rules, and_parts, and_from, Decides-like, Decides-and, Decides-eqb, pointwise, nat_eq, slice_eq-Decides, Reg, Eax, Instr, LoadImm, Copy}
+use Rattle.tso_program.proofs.Vocabulary.{Load, StoreImm, Store, Xchg, Fence, CmpImm, CmpReg, Je, Jne, Jmp, Thread}
 use Rattle.tso_program.specs.contracts.instruction.RegPartialEq.TheImpl as reg
 use Rattle.tso_program.specs.contracts.instruction.InstrPartialEq.TheImpl as instr
 use Rattle.tso_program.specs.contracts.listing.ThreadPartialEq.TheImpl as thread

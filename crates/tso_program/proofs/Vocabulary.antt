@@ -8,7 +8,7 @@ pub use Rattle.std.proofs.lemmas.List.FromFn.{fill_by_all, get_or-map-range_with
 pub use Rattle.std.proofs.lemmas.List.Sums.{sum_by-cons}
 pub use Rattle.std.proofs.lemmas.Option.{slice_get-get_or, slice_get_past}
 pub use Rattle.std.proofs.lemmas.Slice.Eq.{slice_eq-Decides}
-pub use Rattle.std.specs.Cmp.{IsTotalOrder, nat_cmp_total}
+pub use Rattle.std.specs.Cmp.{Equal-is, IsTotalOrder, nat_cmp_total}
 pub use Rattle.std.specs.Cmp.Lexicographic.{pointwise, slice_cmp}
 pub use Rattle.std.specs.List.{AllByRecursion, enumerate_from, find, list_any, position_or_len, range_with_len}
 pub use Rattle.std.specs.Option.{option_map, option_map_or}

@@ -1,9 +1,8 @@
 -- No refusal applies exactly within the limits.
-use Rattle.tso_program.proofs.Vocabulary.{◌≡◌, ℕ, ◌+◌, ◌<◌, ◌≤◌, ◌==◌, Bool, true, false, List, [], ◌∷◌, ◌++◌, length, get_or, Option, Some, None, refl, sym, ap, ◌∙◌, arith, list_any, enumerate_from}
-use Rattle.tso_program.proofs.Vocabulary.{option_map_or, nat_tests, slice_get-get_or, Instr, Thread, location_of, target_of, code_of, instr_at, accesses_of, gap_count, IsWithinSharedLimits}
-use Rattle.tso_program.proofs.Vocabulary.{IsWithinLimits, IsWithinFencedLimits, first_long, is_astray, some_astray, is_backward, is_past_end, first_backward_in, first_past_end_in, first_found}
-use Rattle.tso_program.proofs.Vocabulary.{first_true, shared_refusals, first_fault, first_fenced_fault, ProgramLimitsAreTheRefusals, FencedLimitsAreTheRefusals, AllByRecursion, ltb-false, le-ltb}
-use Rattle.tso_program.proofs.Vocabulary.{leb-false, lt-leb, MAX_THREADS, MAX_LOCATIONS, MAX_INSTRUCTIONS, MAX_FENCED_INSTRUCTIONS, MAX_ACCESSES}
+use Rattle.tso_program.proofs.Vocabulary.{◌≡◌, ℕ, ◌+◌, ◌<◌, ◌≤◌, ◌==◌, Bool, true, false, List, [], ◌∷◌, ◌++◌, length, get_or, Option, Some, None, refl, sym, ap, ◌∙◌, arith, list_any, enumerate_from, option_map_or, nat_tests, slice_get-get_or, Instr, Thread}
+use Rattle.tso_program.proofs.Vocabulary.{location_of, target_of, code_of, instr_at, accesses_of, gap_count, IsWithinSharedLimits, IsWithinLimits, IsWithinFencedLimits, first_long, is_astray, some_astray, is_backward, is_past_end, first_backward_in}
+use Rattle.tso_program.proofs.Vocabulary.{first_past_end_in, first_found, first_true, shared_refusals, first_fault, first_fenced_fault, ProgramLimitsAreTheRefusals, FencedLimitsAreTheRefusals, AllByRecursion, ltb-false, le-ltb, leb-false, lt-leb, MAX_THREADS}
+use Rattle.tso_program.proofs.Vocabulary.{MAX_LOCATIONS, MAX_INSTRUCTIONS, MAX_FENCED_INSTRUCTIONS, MAX_ACCESSES}
 use Rattle.std.specs.Prelude.{nat_lt, nat_le, slice_get, is_some, sum_by, if◌then◌else◌, All}
 use Rattle.tso_program.specs.declared.limits.ProgramFault.{ProgramFault, TheVariants.TooManyGaps}
 use Rattle.tso_program.proofs.Found.{instr_found, code_found, enumerated, enumerated_back, not_found, none_found, neither, not_any, none_any, found_nowhere, nowhere_found}

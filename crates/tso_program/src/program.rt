@@ -162,6 +162,34 @@ impl Program {
             listing: Arc::try_clone(&self.listing)?,
         })
     }
+
+    /// An equal program, which shares nothing with this one. Threads that count the uses of one program wait for one
+    /// another.
+    pub fn apart(&self, alloc: Global) -> Result<Program, AllocError>
+        ensures { IfOk result (λ other. other ≡ self.now) }
+    {
+        let listing = Listing {
+            threads: Items::of(threads_apart(alloc, self.threads())?),
+            memory: self.listing.memory.copy(alloc)?,
+        };
+        Ok(Program {
+            listing: Arc::new(alloc, listing)?,
+        })
+    }
+}
+
+/// Equal threads, which share nothing with these.
+fn threads_apart(alloc: Global, threads: &[Thread]) -> Result<Vec<Thread>, AllocError>
+    ensures { IfOk result (λ copies. copies.items ≡ threads.now) }
+{
+    let mut copies = Vec::with_capacity(alloc, threads.len())?;
+    for thread in threads {
+        copies.push(Thread {
+            code: thread.code.copy(alloc)?,
+            registers: thread.registers,
+        })?;
+    }
+    Ok(copies)
 }
 
 /// Instruction k of thread t, if there is one.

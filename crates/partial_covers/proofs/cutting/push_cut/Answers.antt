@@ -1,5 +1,4 @@
-use Rattle.partial_covers.proofs.Vocabulary.{get_or, sym, subst, All-push, All, IsPartOf, AreOfOthers, sequential, MayChooseEach}
-use Rattle.sketch_covers.proofs.{CombinedCovers.of_others}
+use Rattle.partial_covers.proofs.Vocabulary.{get_or, sym, subst, All-push, All, IsPartOf, AreOfOthers, sequential, MayChooseEach, of_others}
 use Rattle.partial_covers.proofs.{FilledTrees.values_in_sequence, PartsJoined.part_next}
 use Rattle.cover_judge.specs.declared.choice.Choice.TheVariants as choice
 use Rattle.partial_covers.proofs.cutting.push_cut.Goals as goal

@@ -1,5 +1,5 @@
-use Rattle.partial_covers.proofs.Vocabulary.{◌≡◌, ◌<◌, ◌≤◌, List, [], ◌++◌, get_or, length, sym, ap, ◌∙◌, subst, take_all, asked, IsLawful, ProgramSketch, mode_in, nothing_chosen, HaveAllRegisters}
-use Rattle.partial_covers.proofs.Vocabulary.{Piece, copied_in, IsCoverAt, items_before, after, by_number, Grows, IsFilling, LeadsToWhole, StopIs, Pushes, Filled, grows_none, grows_twice, stops_for}
+use Rattle.partial_covers.proofs.Vocabulary.{◌≡◌, ◌<◌, ◌≤◌, List, [], ◌++◌, get_or, length, sym, ap, ◌∙◌, subst, take_all, asked, IsLawful, ProgramSketch, mode_in, nothing_chosen, HaveAllRegisters, Piece, copied_in, IsCoverAt, items_before, after, by_number}
+use Rattle.partial_covers.proofs.Vocabulary.{Grows, IsFilling, LeadsToWhole, StopIs, Pushes, Filled, grows_none, grows_twice, stops_for}
 use Rattle.partial_covers.proofs.{FilledNodes.more_copies, FilledNodes.more_pieces, FilledNodes.whole_filled, HolesFilled.IsHole, HolesFilled.hole_leads, PartialRows.filling_still}
 use Rattle.partial_covers.proofs.filling.fill.Goals as goal
 

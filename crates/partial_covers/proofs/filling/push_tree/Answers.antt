@@ -1,5 +1,4 @@
-use Rattle.partial_covers.proofs.Vocabulary.{◌≡◌, ◌++◌, sym, ap, ◌∙◌, subst, rules, asked, Listing, IsWhole, Machine, IsCoverAt, Pushes, ProgramSketch, mode_in, by_number, after, MayChooseAll, Grows}
-use Rattle.partial_covers.proofs.Vocabulary.{StopIs, grows_none, memory_stops, stops_for}
+use Rattle.partial_covers.proofs.Vocabulary.{◌≡◌, ◌++◌, sym, ap, ◌∙◌, subst, rules, asked, Listing, IsWhole, Machine, IsCoverAt, Pushes, ProgramSketch, mode_in, by_number, after, MayChooseAll, Grows, StopIs, grows_none, memory_stops, stops_for}
 use Rattle.partial_covers.proofs.{ChoicesMade.same_machine, ChoicesMade.same_mode, ChoicesMade.same_program, FilledParts.filling_pushed}
 use Rattle.partial_covers.proofs.filling.push_tree.Goals as goal
 

@@ -1,6 +1,5 @@
-use Rattle.partial_covers.proofs.Vocabulary.{◌≡◌, ◌<◌, ◌≤◌, List, [], ◌∷◌, ◌++◌, Vec, Global, get_or, length, sym, ap, ◌∙◌, subst, arith, IfOk, IfErr, option_to_list, take_all, asked, IsLawful}
-use Rattle.partial_covers.proofs.Vocabulary.{ProgramSketch, mode_in, nothing_chosen, HaveAllRegisters, Piece, copied_in, IsCoverAt, items_before, after, LeadsToWhole, Pushes, stops_for, HoleTree}
-use Rattle.partial_covers.proofs.Vocabulary.{AreFoundFrom, AreHolesFrom, AreSearchedHoles, Filled, StopLacks}
+use Rattle.partial_covers.proofs.Vocabulary.{◌≡◌, ◌<◌, ◌≤◌, List, [], ◌∷◌, ◌++◌, Vec, Global, get_or, length, sym, ap, ◌∙◌, subst, arith, IfOk, IfErr, option_to_list, take_all, asked, IsLawful, ProgramSketch, mode_in, nothing_chosen, HaveAllRegisters, Piece}
+use Rattle.partial_covers.proofs.Vocabulary.{copied_in, IsCoverAt, items_before, after, LeadsToWhole, Pushes, stops_for, HoleTree, AreFoundFrom, AreHolesFrom, AreSearchedHoles, Filled, StopLacks}
 use Rattle.partial_covers.proofs.{FilledNodes.more_copies, FilledNodes.more_pieces, FilledNodes.whole_filled, HolesFilled.hole_leads}
 use Rattle.partial_covers.proofs.{HoleTrees.after_others, HoleTrees.some_piece, HoleTrees.next_lead, HoleTrees.next_found, HoleTrees.last_found, HoleTrees.rest_found, PartsJoined.written_back}
 use Rattle.partial_covers.proofs.hole_trees.fill_by.Goals as goal

@@ -1,5 +1,4 @@
-use Rattle.partial_covers.proofs.Vocabulary.{[], refl, subst, asked, machine_of_mode, KnownOutcomes, IsWholeCover, by_number, StopIs, grows_none, nothing_chosen, sequential}
-use Rattle.partial_covers.proofs.Vocabulary.{IsPartialCover, runs_found, never_new}
+use Rattle.partial_covers.proofs.Vocabulary.{[], refl, subst, asked, machine_of_mode, KnownOutcomes, IsWholeCover, by_number, StopIs, grows_none, nothing_chosen, sequential, IsPartialCover, runs_found, never_new}
 use Rattle.std.specs.FinSet as set
 use Rattle.tso_machine.specs.declared.mode.Mode.TheVariants as modes
 use Rattle.sketch_covers.proofs.Listing.{exactly_allowed}

@@ -1,5 +1,4 @@
-use Rattle.partial_covers.proofs.Vocabulary.{◌≡◌, [], ◌∙◌, List, refl, sym, subst, Shown, asked, ProgramSketch, nothing_chosen, Choice, KnownOutcomes, PushesPartial, AreCoversFor, by_number}
-use Rattle.partial_covers.proofs.Vocabulary.{HasRunOfEach, StaysOf}
+use Rattle.partial_covers.proofs.Vocabulary.{◌≡◌, [], ◌∙◌, List, refl, sym, subst, Shown, asked, ProgramSketch, nothing_chosen, Choice, KnownOutcomes, PushesPartial, AreCoversFor, by_number, HasRunOfEach, StaysOf}
 use Rattle.std.specs.FinSet as set
 use Rattle.tso_machine.specs.declared.mode.Mode.TheVariants as modes
 use Rattle.partial_covers.proofs.CoveringSteps.{grows_from, tree_from}

@@ -1,7 +1,6 @@
-use Rattle.partial_covers.proofs.Vocabulary.{◌≡◌, ◌<◌, ◌≤◌, List, get_or, length, map, subst, arith, rules, TraceTree, fold-roll-TraceTree, fold_out-TraceTree, with_root, Traces, Read, traces}
-use Rattle.partial_covers.proofs.Vocabulary.{trace_node, trace_trees, first_choices, by_number}
+use Rattle.partial_covers.proofs.Vocabulary.{◌≡◌, ◌<◌, ◌≤◌, List, get_or, length, map, subst, arith, rules, TraceTree, fold-roll-TraceTree, fold_out-TraceTree, with_root, Traces, Read, traces, trace_node, trace_trees, first_choices, by_number, few_here}
+use Rattle.partial_covers.proofs.Vocabulary.{as_many, child_meets}
 use Rattle.branching.specs.declared.traces.TraceTree.TheViews as views
-use Rattle.sketch_covers.proofs.{TraceNodes.few_here, TraceNodes.as_many, TraceNodes.child_meets}
 use Rattle.partial_covers.proofs.{CoveringSteps.each_none, TraceSteps.trace_more, TraceSteps.trace_all}
 use Rattle.partial_covers.proofs.covering.Covering.+cover_traces.Goals as goal
 

@@ -1,9 +1,8 @@
-use Rattle.partial_covers.proofs.Vocabulary.{◌≡◌, ℕ, List, [], ◌∷◌, ◌++◌, ◌∙◌, get_or, length, refl, sym, ap, subst, arith, Shown, asked, Choice, AreOfOthers, by_number, grows_none, few_choices}
-use Rattle.partial_covers.proofs.Vocabulary.{Covering, Covers, CoversEach, Has, items_of, AreCoversFor, MayChooseEach, fewer_rounds}
+use Rattle.partial_covers.proofs.Vocabulary.{◌≡◌, ℕ, List, [], ◌∷◌, ◌++◌, ◌∙◌, get_or, length, refl, sym, ap, subst, arith, Shown, asked, Choice, AreOfOthers, by_number, grows_none, few_choices, Covering, Covers, CoversEach, Has, items_of, AreCoversFor}
+use Rattle.partial_covers.proofs.Vocabulary.{MayChooseEach, fewer_rounds, before_next, of_others}
 use Rattle.cert_forest.specs.Node.TheVariants as node
 use Rattle.cover_judge.specs.declared.choice.Choice.TheVariants as choice
 use Rattle.branching.specs.declared.open_choice.OpenChoice.TheVariants as left
-use Rattle.sketch_covers.proofs.CombinedCovers.{before_next, of_others}
 use Rattle.partial_covers.proofs.CoveringSteps.{covers_next, covers_values, covers_joined, each_none, each_more}
 use Rattle.partial_covers.proofs.PartialNodes.{on_ok, pushes_closed, nodes_same, leaf_pushed}
 use Rattle.partial_covers.proofs.PartsJoined.{covers_still, covers_after, not_joined}

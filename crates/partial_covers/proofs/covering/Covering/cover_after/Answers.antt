@@ -1,8 +1,6 @@
-use Rattle.partial_covers.proofs.Vocabulary.{◌≡◌, ◌∙◌, ◌++◌, List, map, refl, sym, ap, subst, arith, asked, IsLawful, ProgramSketch, Node, AreAlike, IsBase, with_root, with_trace, traces, root}
-use Rattle.partial_covers.proofs.Vocabulary.{IsCoverAt, by_number, Pushes, grows_none, Covering, Covers, Has, items_before, Takes}
-use Rattle.sketch_covers.proofs.{CombinedCovers.at_start, CombinedSketches.lawful_merged}
-use Rattle.partial_covers.proofs.{CoveringSteps.covers_next, PartialNodes.pushes_closed, PartialNodes.on_ok, PartialNodes.taken_back}
-use Rattle.partial_covers.proofs.PairSketches.{last_after, base_after}
+use Rattle.partial_covers.proofs.Vocabulary.{◌≡◌, ◌∙◌, ◌++◌, List, map, refl, sym, ap, subst, arith, asked, IsLawful, ProgramSketch, Node, AreAlike, IsBase, with_root, with_trace, traces, root, IsCoverAt, by_number, Pushes, grows_none, Covering, Covers, Has}
+use Rattle.partial_covers.proofs.Vocabulary.{items_before, Takes, at_start, lawful_merged}
+use Rattle.partial_covers.proofs.{CoveringSteps.covers_next, PartialNodes.pushes_closed, PartialNodes.on_ok, PartialNodes.taken_back, PairSketches.last_after, PairSketches.base_after}
 use Rattle.partial_covers.proofs.covering.Covering.cover_after.Goals as goal
 
 pub cover_traces-requires-clause-base : goal.cover_traces-requires-clause-base

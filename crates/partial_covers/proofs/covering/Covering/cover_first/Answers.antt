@@ -1,5 +1,4 @@
-use Rattle.partial_covers.proofs.Vocabulary.{Option, subst, MatchOption, IsWhole, mode_in, Plan, IsLast}
-use Rattle.sketch_covers.proofs.CombinedCovers.{before_first}
+use Rattle.partial_covers.proofs.Vocabulary.{Option, subst, MatchOption, IsWhole, mode_in, Plan, IsLast, before_first}
 use Rattle.partial_covers.proofs.covering.Covering.cover_first.Goals as goal
 
 pub cover_values-requires-clause-before : goal.cover_values-requires-clause-before

@@ -1,5 +1,4 @@
-use Rattle.sketches.proofs.Vocabulary.{◌≡◌, List, Contains, Some, slice_get, ap, sym, subst, arc_value, MatchOption-at_none, Event, NumberedTraces, ProgramSketch, no, at_numbers, chosen_numbers}
-use Rattle.sketches.proofs.Vocabulary.{contained}
+use Rattle.sketches.proofs.Vocabulary.{◌≡◌, List, Contains, Some, slice_get, ap, sym, subst, arc_value, MatchOption-at_none, Event, NumberedTraces, ProgramSketch, no, at_numbers, chosen_numbers, contained}
 use Rattle.sketches.proofs.sketch.Sketch.before.Goals as goal
 
 pub returns-in-Some-Some : goal.returns-in-Some-Some

@@ -1,5 +1,4 @@
-use Rattle.sketches.proofs.Vocabulary.{IsTrue, ◌↔◌, List, [], ◌∷◌, ◌++◌, sym, subst, arc_value, Listing, Event, ProgramSketch, with_chosen, view_of, MayFollow, NumberedTraces, IsRepresented, HasCycle}
-use Rattle.sketches.proofs.Vocabulary.{with_pair}
+use Rattle.sketches.proofs.Vocabulary.{IsTrue, ◌↔◌, List, [], ◌∷◌, ◌++◌, sym, subst, arc_value, Listing, Event, ProgramSketch, with_chosen, view_of, MayFollow, NumberedTraces, IsRepresented, HasCycle, with_pair}
 use Rattle.sketches.proofs.sketch.Sketch.closes_order.Goals as goal
 
 pub returns : goal.returns

@@ -1,6 +1,5 @@
-use Rattle.sketches.proofs.Vocabulary.{◌≡◌, ◌∙◌, ap, sym, subst, length, List, Some, IsSome, get_or, set, refl, ℕ, inr, arc_value, slice_get_read, IsValueOf, ThreadTrace, machine_of_mode}
-use Rattle.sketches.proofs.Vocabulary.{ProgramSketch, mode_in, with_chosen, view_of, KeepsTraces, IsThreadTraceOf, NumberedTraces, IsRepresented, reads_there, more_kept, more_parts, unchosen, begun}
-use Rattle.sketches.proofs.Vocabulary.{later_empty}
+use Rattle.sketches.proofs.Vocabulary.{◌≡◌, ◌∙◌, ap, sym, subst, length, List, Some, IsSome, get_or, set, refl, ℕ, inr, arc_value, slice_get_read, IsValueOf, ThreadTrace, machine_of_mode, ProgramSketch, mode_in, with_chosen, view_of, KeepsTraces}
+use Rattle.sketches.proofs.Vocabulary.{IsThreadTraceOf, NumberedTraces, IsRepresented, reads_there, more_kept, more_parts, unchosen, begun, later_empty}
 use Rattle.candidate_executions.specs.Sketches as sketches
 use Rattle.sketches.proofs.sketch.Sketch.give_value.Goals as goal
 

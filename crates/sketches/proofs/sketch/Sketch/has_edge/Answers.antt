@@ -1,5 +1,4 @@
-use Rattle.sketches.proofs.Vocabulary.{◌≡◌, List, ℕ, Some, slice_get, ap, sym, subst, arc_value, Event, Kind, IsOfMode, KnownEdgeOfMode, ProgramSketch, mode_in, view_of, RowHas, NumberedTraces}
-use Rattle.sketches.proofs.Vocabulary.{union_rows, at_numbers, rows_of_kind}
+use Rattle.sketches.proofs.Vocabulary.{◌≡◌, List, ℕ, Some, slice_get, ap, sym, subst, arc_value, Event, Kind, IsOfMode, KnownEdgeOfMode, ProgramSketch, mode_in, view_of, RowHas, NumberedTraces, union_rows, at_numbers, rows_of_kind}
 use Rattle.sketches.proofs.sketch.Sketch.has_edge.Goals as goal
 
 pub returns-in-Some-Some : goal.returns-in-Some-Some

@@ -1,5 +1,4 @@
-use Rattle.sketches.proofs.Vocabulary.{◌≡◌, ◌↔◌, IsTrue, List, Contains, Some, slice_get, ap, sym, subst, arc_value, Event, NumberedTraces, ProgramSketch, HasLater, no, chosen_numbers, contained}
-use Rattle.sketches.proofs.Vocabulary.{later_test}
+use Rattle.sketches.proofs.Vocabulary.{◌≡◌, ◌↔◌, IsTrue, List, Contains, Some, slice_get, ap, sym, subst, arc_value, Event, NumberedTraces, ProgramSketch, HasLater, no, chosen_numbers, contained, later_test}
 use Rattle.sketches.proofs.sketch.Sketch.has_later.Goals as goal
 
 pub returns-in-Some : goal.returns-in-Some

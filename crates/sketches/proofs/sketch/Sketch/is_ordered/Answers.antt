@@ -1,5 +1,4 @@
-use Rattle.sketches.proofs.Vocabulary.{◌≡◌, List, Contains, Some, slice_get, ap, sym, subst, inl, inr, arc_value, MatchOption-at_none, Event, NumberedTraces, ProgramSketch, no, IsOrdered, at_numbers}
-use Rattle.sketches.proofs.Vocabulary.{ordered_numbers, contained}
+use Rattle.sketches.proofs.Vocabulary.{◌≡◌, List, Contains, Some, slice_get, ap, sym, subst, inl, inr, arc_value, MatchOption-at_none, Event, NumberedTraces, ProgramSketch, no, IsOrdered, at_numbers, ordered_numbers, contained}
 use Rattle.sketches.proofs.sketch.Sketch.is_ordered.Goals as goal
 
 pub returns-in-Some-Some : goal.returns-in-Some-Some

@@ -1,6 +1,5 @@
-use Rattle.sketches.proofs.Vocabulary.{◌≡◌, ◌↔◌, ◌∙◌, true, false, IsTrue, List, Contains, Some, get_or, slice_get, take, ap, sym, subst, arc_value, take_more, take_all, slice_get-get_or, Event}
-use Rattle.sketches.proofs.Vocabulary.{Initial, IsAccess, IsWhole, given_to, machine_of_mode, ProgramSketch, mode_in, view_of, IsOwn, AreLastValues, IsLastWith, HasLater, NumberedTraces, HasWrites}
-use Rattle.sketches.proofs.Vocabulary.{contained, later_test, never_last, number_exact, number_own}
+use Rattle.sketches.proofs.Vocabulary.{◌≡◌, ◌↔◌, ◌∙◌, true, false, IsTrue, List, Contains, Some, get_or, slice_get, take, ap, sym, subst, arc_value, take_more, take_all, slice_get-get_or, Event, Initial, IsAccess, IsWhole, given_to, machine_of_mode}
+use Rattle.sketches.proofs.Vocabulary.{ProgramSketch, mode_in, view_of, IsOwn, AreLastValues, IsLastWith, HasLater, NumberedTraces, HasWrites, contained, later_test, never_last, number_exact, number_own}
 use Rattle.sketches.proofs.LastValues.{values_all}
 use Rattle.sketches.proofs.sketch.Sketch.last_values.Goals as goal
 

@@ -1,5 +1,5 @@
-use Rattle.sketches.proofs.Vocabulary.{◌≡◌, ◌↔◌, ◌⊎◌, List, Contains, ap, sym, ◌∙◌, subst, arc_value, AllPairs, Event, Initial, ComesBefore, IsSourceOf, IsWhole, ProgramSketch, mode_in, IsLawful}
-use Rattle.sketches.proofs.Vocabulary.{ReadsThisValue, IsValueWritten, NumberedTraces, IsRowOf, IsWriteAt, HasNumberIn, FollowInOrder, few_sources}
+use Rattle.sketches.proofs.Vocabulary.{◌≡◌, ◌↔◌, ◌⊎◌, List, Contains, ap, sym, ◌∙◌, subst, arc_value, AllPairs, Event, Initial, ComesBefore, IsSourceOf, IsWhole, ProgramSketch, mode_in, IsLawful, ReadsThisValue, IsValueWritten, NumberedTraces, IsRowOf}
+use Rattle.sketches.proofs.Vocabulary.{IsWriteAt, HasNumberIn, FollowInOrder, few_sources}
 use Rattle.sketches.proofs.Sources.{listed_in_order, first_in_order, first_after}
 use Rattle.sketches.proofs.sketch.Sketch.listed_sources.Goals as goal
 

@@ -1,5 +1,4 @@
-use Rattle.sketches.proofs.Vocabulary.{◌≡◌, ◌∙◌, ◌+◌, ap, sym, subst, length, arith, [], Some, slice_get, ℕ, length_push, IfOk-weaker, ThreadTrace, machine_of_mode, ProgramSketch, IsThreadTraceOf}
-use Rattle.sketches.proofs.Vocabulary.{EachRunCompletes, new_kept, new_parts, made_more}
+use Rattle.sketches.proofs.Vocabulary.{◌≡◌, ◌∙◌, ◌+◌, ap, sym, subst, length, arith, [], Some, slice_get, ℕ, length_push, IfOk-weaker, ThreadTrace, machine_of_mode, ProgramSketch, IsThreadTraceOf, EachRunCompletes, new_kept, new_parts, made_more}
 use Rattle.sketches.proofs.Completed.{each_run_completes}
 use Rattle.sketches.proofs.sketch.Sketch.new.Goals as goal
 

@@ -1,5 +1,4 @@
-use Rattle.sketches.proofs.Vocabulary.{◌∙◌, List, ap, sym, subst, Contains, AllPairs, arc_value, Event, IsAccess, ComesBefore, IsWhole, given_to, NumberedTraces, ProgramSketch, mode_in, access_number}
-use Rattle.sketches.proofs.Vocabulary.{contained, is_access}
+use Rattle.sketches.proofs.Vocabulary.{◌∙◌, List, ap, sym, subst, Contains, AllPairs, arc_value, Event, IsAccess, ComesBefore, IsWhole, given_to, NumberedTraces, ProgramSketch, mode_in, access_number, contained, is_access}
 use Rattle.sketches.proofs.sketch.Sketch.numbered_events.Goals as goal
 
 pub returns-clause-all : goal.returns-clause-all

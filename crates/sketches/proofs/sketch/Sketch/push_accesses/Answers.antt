@@ -1,5 +1,5 @@
-use Rattle.sketches.proofs.Vocabulary.{◌≤◌, ◌∙◌, ℕ, List, ap, sym, subst, length, inl, inr, arith, arc_value, ThreadTrace, ProgramSketch, mode_in, IsAccess, given_to, MAX_INSTRUCTIONS, NumberedTraces}
-use Rattle.sketches.proofs.Vocabulary.{accesses_at, IsOfThreads, is_access, courses_few, courses_short}
+use Rattle.sketches.proofs.Vocabulary.{◌≤◌, ◌∙◌, ℕ, List, ap, sym, subst, length, inl, inr, arith, arc_value, ThreadTrace, ProgramSketch, mode_in, IsAccess, given_to, MAX_INSTRUCTIONS, NumberedTraces, accesses_at, IsOfThreads, is_access, courses_few}
+use Rattle.sketches.proofs.Vocabulary.{courses_short}
 use Rattle.sketches.proofs.sketch.Sketch.push_accesses.Goals as goal
 
 pub push_events-requires-clause-few : goal.push_events-requires-clause-few

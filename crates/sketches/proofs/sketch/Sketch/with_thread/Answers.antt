@@ -1,5 +1,5 @@
-use Rattle.sketches.proofs.Vocabulary.{◌≡◌, ◌∙◌, ◌<◌, ap, sym, subst, length, List, [], Some, get_or, set, refl, arith, arc_value, slice_get_read, IfOk-weaker, Listing, ThreadTrace, given_to}
-use Rattle.sketches.proofs.Vocabulary.{ProgramSketch, with_chosen, view_of, KeepsTraces, NumberedTraces, with_values, HasValuesAlone}
+use Rattle.sketches.proofs.Vocabulary.{◌≡◌, ◌∙◌, ◌<◌, ap, sym, subst, length, List, [], Some, get_or, set, refl, arith, arc_value, slice_get_read, IfOk-weaker, Listing, ThreadTrace, given_to, ProgramSketch, with_chosen, view_of, KeepsTraces, NumberedTraces}
+use Rattle.sketches.proofs.Vocabulary.{with_values, HasValuesAlone}
 use Rattle.rowless_sketches.proofs.ThreadValues.{merged_kept, merged_parts, merged_anew}
 use Rattle.sketches.proofs.sketch.Sketch.with_thread.Goals as goal
 

@@ -1,5 +1,4 @@
-use Rattle.tso_program.proofs.Vocabulary.{◌≡◌, ◌≤◌, ◌<◌, ◌+◌, ℕ, List, arith, length, take, get_or, ap, sym, ◌∙◌, Option, Some, subst, take_all, slice_get-get_or, Thread, code_of, gap_count}
-use Rattle.tso_program.proofs.Vocabulary.{gap_number, gaps_of_thread}
+use Rattle.tso_program.proofs.Vocabulary.{◌≡◌, ◌≤◌, ◌<◌, ◌+◌, ℕ, List, arith, length, take, get_or, ap, sym, ◌∙◌, Option, Some, subst, take_all, slice_get-get_or, Thread, code_of, gap_count, gap_number, gaps_of_thread}
 use Rattle.tso_program.proofs.{Found.code_found, Gaps.gap_same, Gaps.gap_below, Gaps.gap_is, GapPlaces.no_place, GapPlaces.places_are_numbered}
 use Rattle.tso_program.proofs.program.Program.gap_place.Goals as goal
 
