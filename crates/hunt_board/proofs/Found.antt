@@ -1,8 +1,7 @@
 -- Each node of the record of a search that is done stands where the walk for its region ends.
-use Rattle.hunt_board.proofs.Vocabulary.{◌≡◌, ◌≢◌, ℕ, zero, suc, ◌+◌, ◌<◌, false, true≢false, List, [], ◌∷◌, Option, Some, None, cond, refl, sym, ap, ◌∙◌, subst, inl, inr, arith, position_from}
-use Rattle.hunt_board.proofs.Vocabulary.{AllPairs, slice_get, same_Some, none-some, Region, Foreign, Entry, Status, Split, Outcome, IsOutcome, finished_state, SetOfGaps, IsGapSet, all_sets, with_gap}
-use Rattle.hunt_board.proofs.Vocabulary.{without_gap, IsInRegion, child_regions, HasNoneOf, open_gaps, open_exact, open_ascending, Facts, facts_of, WalkLeads, StandsOnlyAt, ends, goes, child_by}
-use Rattle.hunt_board.proofs.Vocabulary.{child_in, child_of}
+use Rattle.hunt_board.proofs.Vocabulary.{◌≡◌, ◌≢◌, ℕ, zero, suc, ◌+◌, ◌<◌, false, true≢false, List, [], ◌∷◌, Option, Some, None, cond, refl, sym, ap, ◌∙◌, subst, inl, inr, arith, position_from, AllPairs, slice_get, same_Some, none-some, Region, Foreign, Entry}
+use Rattle.hunt_board.proofs.Vocabulary.{Status, Split, Outcome, IsOutcome, finished_state, SetOfGaps, IsGapSet, all_sets, with_gap, without_gap, IsInRegion, child_regions, HasNoneOf, open_gaps, open_exact, open_ascending, Facts, facts_of, WalkLeads}
+use Rattle.hunt_board.proofs.Vocabulary.{StandsOnlyAt, ends, goes, child_by, child_in, child_of}
 use Rattle.std.specs.Option.{option_map}
 use Rattle.std.specs.FinSet as set
 use Rattle.std.proofs.lemmas.List.Kept.{AllPairs-from_increasing}

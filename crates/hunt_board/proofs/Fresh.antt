@@ -1,6 +1,5 @@
 -- The seats of a hunt as they are made.
-use Rattle.hunt_board.proofs.Vocabulary.{map-id, map_push, arith, ◌≡◌, ℕ, ◌+◌, List, [], ◌∷◌, ◌++◌, None, refl, sym, ap, ◌∙◌, subst, problem, range_with_len, HuntView, SeatView, IsFresh, AreFresh}
-use Rattle.hunt_board.proofs.Vocabulary.{word_of, Word, Known, IsSeatOf, no_ceiling}
+use Rattle.hunt_board.proofs.Vocabulary.{map-id, map_push, arith, ◌≡◌, ℕ, ◌+◌, List, [], ◌∷◌, ◌++◌, None, refl, sym, ap, ◌∙◌, subst, range_with_len, HuntView, SeatView, IsFresh, AreFresh, word_of, Word, Known, IsSeatOf, no_ceiling}
 use Rattle.std.proofs.lemmas.List.Elements.{All-push}
 use Rattle.std.proofs.lemmas.List.FromFn.{map-range_with_len_more}
 
@@ -20,7 +19,3 @@ module _ (h : HuntView) (n : ℕ) (seats : List SeatView) (w : Word) (first know
         each = All-push (IsFresh h) seats (seat_of n known) fresh.each ((here, tt), refl, refl, none, refl);
         numbers = map_push (λ (s : SeatView). s.number) seats (seat_of n known) ∙ ap (λ l. l ++ n ∷ []) fresh.numbers ∙ sym (numbers_more n);
       }
-
--- a hunt's word by its parts
-pub word_by_parts : (h : HuntView) (w : Word) → w.problem ≡ problem h.question h.costs → w.table ≡ h.table → word_of h ≡ w
-word_by_parts h w same_problem same_table = λ i. record { problem = sym same_problem i; table = sym same_table i }

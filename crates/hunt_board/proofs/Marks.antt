@@ -1,9 +1,7 @@
 -- Receipts that are marked off against the record, one after the other.
-use Rattle.hunt_board.proofs.Vocabulary.{◌≡◌, ◌≢◌, ℕ, zero, suc, ◌+◌, ◌<◌, ◌≤◌, Bool, true, false, true≢false, List, [], ◌∷◌, Some, None, refl, sym, ap, ◌∙◌, subst, inl, inr, arith, below_more}
-use Rattle.hunt_board.proofs.Vocabulary.{length, length-set, set, cond, get_or, replicate, take, ◌↔◌, same_Some, none-some, slice_get_within, slice_get_read, get_or_from_slice_get, cases_lt}
-use Rattle.hunt_board.proofs.Vocabulary.{slice_get, ℕ_discrete, Entry, Foreign, Status, Split, Cut, Confirmed, Settled, IsEventOf, IsSettledAs, Receipt, WalkLeads, StandsOnlyAt, get_here, get_else}
-use Rattle.hunt_board.proofs.Vocabulary.{get_old, HasMark, IsMarked, IsNotMarked, get_or-replicate, length-replicate, Event as Recorded, IsReceiptEvent as IsEventTold, IsReceiptOf, Stands, StandApart}
-use Rattle.hunt_board.proofs.Vocabulary.{NameAll, IsFirstWrong}
+use Rattle.hunt_board.proofs.Vocabulary.{◌≡◌, ◌≢◌, ℕ, zero, suc, ◌+◌, ◌<◌, ◌≤◌, Bool, true, false, true≢false, List, [], ◌∷◌, Some, None, refl, sym, ap, ◌∙◌, subst, inl, inr, arith, below_more, length, length-set, set, cond, get_or, replicate, take, ◌↔◌}
+use Rattle.hunt_board.proofs.Vocabulary.{same_Some, none-some, slice_get_within, slice_get_read, get_or_from_slice_get, cases_lt, slice_get, ℕ_discrete, Entry, Foreign, Status, Split, Cut, Confirmed, Settled, IsEventOf, IsSettledAs, Receipt, WalkLeads}
+use Rattle.hunt_board.proofs.Vocabulary.{StandsOnlyAt, get_here, get_else, get_old, HasMark, IsMarked, IsNotMarked, get_or-replicate, length-replicate, Event as Recorded, IsReceiptEvent as IsEventTold, IsReceiptOf, Stands, StandApart, NameAll, IsFirstWrong}
 use Rattle.search_core.specs.declared.finished.Event.TheVariants as recorded
 use Rattle.hunt_board.specs.{declared.settling.Event.Event, Internal.Settled.IsSameEvent, Internal.Settled.SaysSame}
 use Rattle.hunt_board.specs.declared.settling.Event.TheVariants as event

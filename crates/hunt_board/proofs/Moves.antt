@@ -1,6 +1,6 @@
 -- Each step keeps the rule of the word.
-use Rattle.hunt_board.proofs.Vocabulary.{◌≡◌, ◌≢◌, ℕ, ◌<◌, ◌≤◌, List, [], ◌∷◌, length, set, true, false, true≢false, min, refl, sym, ◌∙◌, subst, ⊎_elim, inl, inr, arith, le_refl, le_trans, length-set}
-use Rattle.hunt_board.proofs.Vocabulary.{slice_index, slice_set, knows, spent, both, IsAbove, Fits, Ruled, Loaded, Lowered}
+use Rattle.hunt_board.proofs.Vocabulary.{◌≡◌, ◌≢◌, ℕ, ◌<◌, ◌≤◌, List, [], ◌∷◌, length, set, true, false, true≢false, min, refl, sym, ◌∙◌, subst, ⊎_elim, inl, inr, arith, le_refl, le_trans, length-set, slice_index, slice_set, knows, spent, both, IsAbove, Fits}
+use Rattle.hunt_board.proofs.Vocabulary.{Ruled, Loaded, Lowered}
 use mathlib.Core.Option.{some}
 use lib.ListN.{get_elem?}
 use Rattle.atomic_table.specs.Table.{State, Me, step, keeps, Allows, Splits, Joins}

@@ -1,6 +1,5 @@
 -- Each node of the record but the first is a child of one that was split.
-use Rattle.hunt_board.proofs.Vocabulary.{◌≡◌, ◌⊎◌, ℕ, zero, suc, ◌+◌, true≢false, List, [], ◌∷◌, Some, refl, sym, ap, ◌∙◌, subst, inl, inr, length, slice_get, same_Some, none-some, ℕ_discrete}
-use Rattle.hunt_board.proofs.Vocabulary.{all_sets, Region, Foreign, Entry, Open, Split, SearchState}
+use Rattle.hunt_board.proofs.Vocabulary.{◌≡◌, ◌⊎◌, ℕ, zero, suc, ◌+◌, true≢false, List, [], ◌∷◌, Some, refl, sym, ap, ◌∙◌, subst, inl, inr, length, slice_get, same_Some, none-some, ℕ_discrete, all_sets, Region, Foreign, Entry, Open, Split, SearchState}
 use Rattle.search_core.specs.{Children.children, Entries.entry, Entries.is_live, Entries.is_live_status, Histories.IsReached, Histories.starts, Histories.goes_on}
 use Rattle.search_core.proofs.Changes.{Change, changed, is_there, stays, was, found, change_of, state_after}
 

@@ -1,6 +1,5 @@
 -- What a cut by the best set does to the node that a seat has in hand, and when workers wait.
-use Rattle.hunt_board.proofs.Vocabulary.{◌≡◌, ◌⊎◌, ℕ, Bool, not, true, false, true≢false, IsTrue, Result, Ok, Err, refl, sym, inl, inr, ◌↔◌, OnOk, OnErr, IfErr, Region, not_cut, SearchState}
-use Rattle.hunt_board.proofs.Vocabulary.{HasInHand, Cuts, IsBeaten}
+use Rattle.hunt_board.proofs.Vocabulary.{◌≡◌, ◌⊎◌, ℕ, Bool, not, true, false, true≢false, IsTrue, Result, Ok, Err, refl, sym, inl, inr, ◌↔◌, OnOk, OnErr, IfErr, Region, not_cut, SearchState, HasInHand, Cuts, IsBeaten}
 use Rattle.search_core.specs.declared.ceiling.Reason.TheVariants as reason
 use Rattle.search_core.specs.{declared.fault.TreeFault.TreeFault, Faults.CutFaultIs}
 

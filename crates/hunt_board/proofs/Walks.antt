@@ -1,7 +1,6 @@
 -- The walk through the record of a search.
-use Rattle.hunt_board.proofs.Vocabulary.{◌≡◌, ℕ, zero, suc, ◌+◌, ◌<◌, List, [], ◌∷◌, Option, Some, None, refl, sym, ap, ◌∙◌, subst, arith, length, slice_get, same_Some, slice_get_within, SetOfGaps}
-use Rattle.hunt_board.proofs.Vocabulary.{open_gaps, child_regions, with_gap, without_gap, Region, Foreign, Entry, Status, Settled, facts_of, Outcome, finished_state, IsOutcome, IsEventOf, IsSettledAs}
-use Rattle.hunt_board.proofs.Vocabulary.{IsFirstChild, Event}
+use Rattle.hunt_board.proofs.Vocabulary.{◌≡◌, ℕ, zero, suc, ◌+◌, ◌<◌, List, [], ◌∷◌, Option, Some, None, refl, sym, ap, ◌∙◌, subst, arith, length, slice_get, same_Some, slice_get_within, SetOfGaps, open_gaps, child_regions, with_gap, without_gap, Region}
+use Rattle.hunt_board.proofs.Vocabulary.{Foreign, Entry, Status, Settled, facts_of, Outcome, finished_state, IsOutcome, IsEventOf, IsSettledAs, IsFirstChild, Event}
 use Rattle.search_core.specs.declared.entry.Status.TheVariants as status
 use Rattle.search_core.specs.declared.finished.Event.TheVariants as event
 

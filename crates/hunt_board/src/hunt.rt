@@ -4,7 +4,7 @@ ghost use Rattle.gap_sets.specs.Order.{total};
 ghost use Rattle.tso_program.specs.Shown.{asked};
 ghost use Rattle.cover_solver.specs.Outcomes.{AreGapsOf, IsTheAnswer};
 ghost use Rattle.cover_solver.specs.Facts.{IsForeignValue};
-ghost use Rattle.search_core.specs.Ceilings.{IsCeilingOf};
+ghost use Rattle.search_core.specs.Ceilings.{IsCeilingOf, problem};
 ghost use Rattle.search_core.specs.States.{IsStart, HoldsOnly};
 ghost use Rattle.search_core.specs.Events.{TakesNode};
 ghost use Rattle.search_core.specs.Records.{IsOutcome};
@@ -82,22 +82,39 @@ impl Hunt {
         ensures hunt { IfOk result (λ made. (made.0.question ≡ tree.question) × (made.0.costs ≡ tree.costs)) }
         ensures seats { IfOk result (λ made. AreFresh made.0 seats made.1.items) }
     {
-        let program = tree.program().copy()?;
-        let shown = tree.shown().copy()?;
-        let costs = tree.costs().copy()?;
-        let (word, mut first) = CeilingWord::new(alloc, &program, &shown, &costs)?;
-        let row = seats_of(alloc, &word, &mut first, seats)?;
-        let hunt = Hunt {
+        let (word, mut first) = CeilingWord::new(
             alloc,
-            program,
-            shown,
-            costs,
+            tree.program(),
+            tree.shown(),
+            tree.costs(),
+        )?;
+        let row = seats_of(alloc, &word, &mut first, seats)?;
+        let hunt = Hunt::over(alloc, tree, word, RunCells::new(alloc, seats)?)?;
+        Ok((hunt, row))
+    }
+
+    /// The hunt through the tree, with what stands beside its lock.
+    fn over(
+        alloc: Global,
+        tree: SearchTree,
+        word: CeilingWord,
+        rows: RunCells,
+    ) -> Result<Hunt, AllocError>
+        requires { word.table.shared.key ≡ problem tree.question tree.costs }
+        ensures question { IfOk result (λ hunt. hunt.question ≡ tree.question) }
+        ensures costs { IfOk result (λ hunt. hunt.costs ≡ tree.costs) }
+        ensures word { IfOk result (λ hunt. word_of hunt ≡ word_with word.table.shared.key word.table.shared.table_id) }
+    {
+        Ok(Hunt {
+            alloc,
+            program: tree.program().copy()?,
+            shown: tree.shown().copy()?,
+            costs: tree.costs().copy()?,
             word,
-            rows: RunCells::new(alloc, seats)?,
+            rows,
             tree: Mutex::new(tree),
             opened: Condvar::new(),
-        };
-        Ok((hunt, row))
+        })
     }
 
     /// What each gap costs.
@@ -234,8 +251,22 @@ impl Hunt {
         ensures receipts { IfOk result (λ finished. NameAll finished.entries receipts.items) }
         ensures fault { IfErr result (CloseFaultIs self receipts.items) }
     {
+        let alloc = self.alloc;
+        let Some(finished) = self.finished(seats) else {
+            return Err(CloseFault::NotDone);
+        };
+        finished.recall_facts();
+        check_receipts(alloc, &finished, &receipts)?;
+        Ok(finished)
+    }
+
+    /// What the search leaves, where no node is left. The seats are taken in.
+    fn finished(self, seats: Vec<HuntSeat>) -> Option<Finished>
+        requires { All (IsOf self) seats.items }
+        ensures { IfSome result (λ finished. (finished.question ≡ self.question) × (finished.costs ≡ self.costs)) }
+    {
         let Hunt {
-            alloc,
+            alloc: _,
             program,
             shown,
             costs,
@@ -247,14 +278,9 @@ impl Hunt {
         join_all(&word, seats);
         let tree = tree.into_inner();
         if !is_search_of(&tree, &program, &shown, &costs) {
-            return Err(CloseFault::NotDone);
+            return None;
         }
-        let Ok(finished) = tree.finish() else {
-            return Err(CloseFault::NotDone);
-        };
-        finished.recall_facts();
-        check_receipts(alloc, &finished, &receipts)?;
-        Ok(finished)
+        tree.finish().ok()
     }
 
     /// One event under the lock: once a node is open, the seat takes one. If no node is left, nothing happens.
