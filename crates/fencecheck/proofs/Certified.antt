@@ -1,6 +1,5 @@
 -- What an accepted input is.
-use Rattle.fencecheck.proofs.Vocabulary.{◌≡◌, ℕ, List, None, Some, refl, sym, ap, ◌∙◌, subst, arith, asked, ArePartsOf, IsVerdictOnInput, judged, no_input, IsVerdict, accepted, refused, IsAccepted}
-use Rattle.fencecheck.proofs.Vocabulary.{handed_in}
+use Rattle.fencecheck.proofs.Vocabulary.{◌≡◌, ℕ, List, None, Some, refl, sym, ap, ◌∙◌, subst, arith, asked, ArePartsOf, IsVerdictOnInput, judged, no_input, IsVerdict, accepted, refused, IsAccepted, handed_in}
 use Rattle.gap_sets.specs.Order.{total}
 use Rattle.cert_check.specs.Certificates.{IsValidCertificate}
 use Rattle.report.specs.Answers.{accepted_line}

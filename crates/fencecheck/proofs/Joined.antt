@@ -1,7 +1,6 @@
 -- Where a certificate starts in bytes of which a front was read first.
-use Rattle.fencecheck.proofs.Vocabulary.{◌≡◌, ◌⊎◌, ℕ, ◌+◌, ◌<◌, ◌≤◌, Bool, true, false, List, [], ◌++◌, Option, Some, None, IsTrue, length, take, drop, refl, sym, ap, ◌∙◌, subst, inl, inr}
-use Rattle.fencecheck.proofs.Vocabulary.{append_assoc, arith, codes, nat_eq, HoldsBytes, IsReadFault, ReadsOn, TakesBytes, TakesUpTo, AppendsRest, CERTIFICATE_LIMIT, FRONT_LIMIT, BeginsLine, StartsAt}
-use Rattle.fencecheck.proofs.Vocabulary.{IsCertificateStart, AreJoined, ArePartsOf, IsTooLongInput, ReadsEnough}
+use Rattle.fencecheck.proofs.Vocabulary.{◌≡◌, ◌⊎◌, ℕ, ◌+◌, ◌<◌, ◌≤◌, Bool, true, false, List, [], ◌++◌, Option, Some, None, IsTrue, length, take, drop, refl, sym, ap, ◌∙◌, subst, inl, inr, append_assoc, arith, codes, nat_eq, HoldsBytes, IsReadFault, ReadsOn}
+use Rattle.fencecheck.proofs.Vocabulary.{TakesBytes, TakesUpTo, AppendsRest, CERTIFICATE_LIMIT, FRONT_LIMIT, BeginsLine, StartsAt, IsCertificateStart, AreJoined, ArePartsOf, IsTooLongInput, ReadsEnough}
 use Rattle.std.specs.List.{starts_with}
 use lib.Pointwise.{pointwise}
 use Rattle.std.specs.Io.KnownBytes.{Consumes, IsAtEnd}

@@ -1,6 +1,5 @@
 -- When the program prints how it is called.
-use Rattle.fencecheck.proofs.Vocabulary.{◌≡◌, ◌==◌, ◌||◌, ℕ, true, false, true≢false, List, [], ◌∷◌, Option, length, map, refl, sym, ◌∙◌, codes, nat_lt, asks_version, version_line, ReadsForVerdict}
-use Rattle.fencecheck.proofs.Vocabulary.{IsCheckOutput, IsUsage, misused, version}
+use Rattle.fencecheck.proofs.Vocabulary.{◌≡◌, ◌==◌, ◌||◌, ℕ, true, false, true≢false, List, [], ◌∷◌, Option, length, map, refl, sym, ◌∙◌, codes, nat_lt, asks_version, version_line, ReadsForVerdict, IsCheckOutput, IsUsage, misused, version}
 use Rattle.std.proofs.lemmas.Slice.Eq.{bytes_eq-Decides}
 
 -- the version, where the one word asks for it, and nothing is read then

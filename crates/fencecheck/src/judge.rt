@@ -1,13 +1,13 @@
 //! The verdict on the texts of a program, a certificate and costs.
 
-ghost use Rattle.std.specs.Prelude.{◌≡◌, IfOk, IfErr, OnOk, option_map};
+ghost use Rattle.std.specs.Prelude.{◌≡◌, ℕ, List, IfOk, IfErr, OnOk, option_map};
 ghost use Rattle.gap_sets.specs.Order.{total};
 ghost use Rattle.tso_program.specs.Shown.{asked};
 ghost use Rattle.report.specs.Outcomes.{Headline};
 ghost use Rattle.cert_check.specs.Certificates.{IsValidCertificate};
 ghost use Rattle.cert_check.specs.Faults.{CheckFaultIs};
 ghost use Rattle.report.specs.Answers.{accepted_line};
-ghost use Rattle.fencecheck.specs.Verdicts.{handed_in, IsAccepted, IsRefused, refusal_line};
+ghost use Rattle.fencecheck.specs.Verdicts.{handed_in, IsAccepted, IsRefused, refusal_line, Spell};
 
 use cert_check::{CheckFault, check};
 use cert_forest::{CertFault, Certificate, Shows, read_cert};
@@ -75,6 +75,31 @@ fn checked_line(
     }
 }
 
+/// Judges a certificate for a program: the line that accepts it, or why it isn't accepted. The costs are judged first, then
+/// what the certificate shows.
+fn judge_certificate(
+    alloc: Global,
+    litmus: &Litmus<Program>,
+    certificate: &Certificate,
+    costs: Option<&[u8]>,
+) -> Result<Vec<u8>, Refusal>
+    ensures accepted { (source claim : List ℕ) → Spell source claim litmus.now certificate.now → IfOk result (λ line. IsAccepted source claim (option_map (λ text. text.now) costs.entry) line.items) }
+    ensures refused { (source claim : List ℕ) → Spell source claim litmus.now certificate.now → IfErr result (IsRefused source claim (option_map (λ text. text.now) costs.entry)) }
+{
+    let costs = match given_costs(alloc, costs, &litmus.program) {
+        Ok(costs) => costs,
+        Err(fault) => return Err(Refusal::Costs(fault)),
+    };
+    let shown = match handed_in(litmus, &certificate.shown) {
+        Ok(shown) => shown,
+        Err(_) => return Err(Refusal::Certificate(CertFault::OutOfMemory)),
+    };
+    match checked_line(alloc, &litmus.program, &shown, &costs, certificate) {
+        Ok(line) => Ok(line),
+        Err(fault) => Err(Refusal::Check(fault)),
+    }
+}
+
 /// Judges a certificate for the program of a litmus text: the line that accepts it, or why it isn't accepted. The litmus
 /// text is judged first, then the certificate's text, the costs, and what the certificate shows.
 pub fn judge(
@@ -94,16 +119,5 @@ pub fn judge(
         Ok(certificate) => certificate,
         Err(fault) => return Err(Refusal::Certificate(fault)),
     };
-    let costs = match given_costs(alloc, costs, &litmus.program) {
-        Ok(costs) => costs,
-        Err(fault) => return Err(Refusal::Costs(fault)),
-    };
-    let shown = match handed_in(&litmus, &certificate.shown) {
-        Ok(shown) => shown,
-        Err(_) => return Err(Refusal::Certificate(CertFault::OutOfMemory)),
-    };
-    match checked_line(alloc, &litmus.program, &shown, &costs, &certificate) {
-        Ok(line) => Ok(line),
-        Err(fault) => Err(Refusal::Check(fault)),
-    }
+    judge_certificate(alloc, &litmus, &certificate, costs)
 }
