@@ -1,6 +1,5 @@
 -- Gaps that a program has are all there.
-use Rattle.placed_text.proofs.Vocabulary.{◌≡◌, ◌<◌, ℕ, Bool, true, false, List, [], ◌∷◌, None, find, nat_le, arith, refl, filter, range_with_len, nat_tests, Listing, SetOfGaps, gap_count}
-use Rattle.placed_text.proofs.Vocabulary.{numbers_of_set, first_missing, MAX_GAPS}
+use Rattle.placed_text.proofs.Vocabulary.{◌≡◌, ◌<◌, ℕ, Bool, true, false, List, [], ◌∷◌, None, find, nat_le, arith, refl, filter, range_with_len, nat_tests, Listing, SetOfGaps, gap_count, numbers_of_set, first_missing, MAX_GAPS}
 use Rattle.std.specs.FinSet as set
 use Rattle.cover_solver.specs.Outcomes.{AreGapsOf}
 

@@ -1,6 +1,6 @@
 -- What is reported of texts, from what their parts are.
-use Rattle.placed_text.proofs.Vocabulary.{◌≡◌, ◌∙◌, ℕ, List, Option, Some, None, ap, length, subst, unwrap_or, length-replicate, Listing, Shown, asked, shown_as, question_of, gap_count, answer_line}
-use Rattle.placed_text.proofs.Vocabulary.{IsPlacement, AreWrittenTexts, HasNoPlacedText, TellsWhy, Litmus, AreGiven, IsPlacedSource, IsPlacedText, HasNoProgram, HasNoCosts, HasNoPlacement, IsWhyText}
+use Rattle.placed_text.proofs.Vocabulary.{◌≡◌, ◌∙◌, ℕ, List, Option, Some, None, ap, length, subst, unwrap_or, length-replicate, Listing, Shown, asked, shown_as, question_of, gap_count, answer_line, IsPlacement, AreWrittenTexts, HasNoPlacedText, TellsWhy}
+use Rattle.placed_text.proofs.Vocabulary.{Litmus, AreGiven, IsPlacedSource, IsPlacedText, HasNoProgram, HasNoCosts, HasNoPlacement, IsWhyText}
 use Rattle.std.proofs.lemmas.List.FromFn.{length-map-range_with_len}
 use Rattle.tso_program.specs.declared.shown.ShownKind.{ShownKind}
 use Rattle.litmus_text.specs.{Texts.IsLitmus, CostTexts.said_of}

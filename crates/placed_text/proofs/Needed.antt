@@ -1,6 +1,5 @@
 -- The answer without one of its gaps doesn't serve.
-use Rattle.placed_text.proofs.Vocabulary.{◌≡◌, ◌≢◌, ◌<◌, ◌≤◌, ◌&&◌, ℕ, Bool, true, false, All, List, length, refl, sym, ap, subst, ◌∙◌, eq-eqb, SetOfGaps, IsGapSet, Question, Serves, gap_count}
-use Rattle.placed_text.proofs.Vocabulary.{IsTheAnswer}
+use Rattle.placed_text.proofs.Vocabulary.{◌≡◌, ◌≢◌, ◌<◌, ◌≤◌, ◌&&◌, ℕ, Bool, true, false, All, List, length, refl, sym, ap, subst, ◌∙◌, eq-eqb, SetOfGaps, IsGapSet, Question, Serves, gap_count, IsTheAnswer}
 use Rattle.std.specs.Cmp.{nat_cmp_total, unsigned_tied}
 use Rattle.std.specs.FinSet as set
 use Rattle.gap_sets.specs.CostLists.{IsCostList}

@@ -1,8 +1,7 @@
 -- Reasons one after the other.
-use Rattle.placed_text.proofs.Vocabulary.{◌≡◌, ◌∙◌, ◌==◌, ◌<◌, ℕ, suc, Bool, List, [], ◌∷◌, ◌++◌, true, false, arith, length, ap, refl, sym, subst, map, concat, filter, range_with_len, nat_tests}
-use Rattle.placed_text.proofs.Vocabulary.{append-nil, map-append, SetOfGaps, IsGapSet, Question, asked, Listing, Shown, Label, Without, TellsRun, TellsWhy, printed_of, numbers_of_set, MAX_GAPS}
-use Rattle.placed_text.proofs.Vocabulary.{gaps_in, show, IsForeignRun, IsReplayOf, IsShownRun, Litmus, PassesNoneOf, Told, IsReason, AreReasons, told_lines, TellsReasons, none_line, reasons_or_none}
-use Rattle.placed_text.proofs.Vocabulary.{IsReasonText}
+use Rattle.placed_text.proofs.Vocabulary.{◌≡◌, ◌∙◌, ◌==◌, ◌<◌, ℕ, suc, Bool, List, [], ◌∷◌, ◌++◌, true, false, arith, length, ap, refl, sym, subst, map, concat, filter, range_with_len, nat_tests, append-nil, map-append, SetOfGaps, IsGapSet, Question, asked}
+use Rattle.placed_text.proofs.Vocabulary.{Listing, Shown, Label, Without, TellsRun, TellsWhy, printed_of, numbers_of_set, MAX_GAPS, gaps_in, show, IsForeignRun, IsReplayOf, IsShownRun, Litmus, PassesNoneOf, Told, IsReason, AreReasons, told_lines, TellsReasons}
+use Rattle.placed_text.proofs.Vocabulary.{none_line, reasons_or_none, IsReasonText}
 use Rattle.std.proofs.lemmas.List.Folds.{concat-append}
 use Rattle.std.specs.FinSet as set
 use Rattle.tso_program.specs.{declared.outcome.Outcome.Outcome, declared.shown.Shown.TheVariants.All}

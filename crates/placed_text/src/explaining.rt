@@ -1,21 +1,21 @@
 //! Why the fences of a placement in the program of a text are needed.
-ghost use Rattle.std.specs.Prelude.{◌≡◌, IfErr, IfOk, OnOk, length, option_map};
+ghost use Rattle.std.specs.Prelude.{◌≡◌, ◌<◌, ◌++◌, ◌∷◌, [], true, IfErr, IfOk, OnOk, length, option_map};
+ghost use Rattle.std.specs.FinSet as set;
 ghost use Rattle.gap_sets.specs.Gaps.{numbers_of_set};
+ghost use Rattle.gap_sets.specs.declared.gap_set.TheConstants.{MAX_GAPS};
 ghost use Rattle.tso_program.specs.Listings.{gap_count};
 ghost use Rattle.tso_program.specs.Shown.{asked};
 ghost use Rattle.tso_machine.specs.Outcomes.{IsTheAnswer};
 ghost use Rattle.report.specs.Answers.{answer_line};
 ghost use Rattle.fence_place.specs.Faults.{AreTooFewOrMany};
 ghost use Rattle.placed_text.specs.TextFaults.{HasNoPlacedText};
-ghost use Rattle.placed_text.specs.WhyTexts.{none_line, reasons_or_none, IsWhyText, TellsReasons, TellsWhy};
+ghost use Rattle.placed_text.specs.WhyTexts.{none_line, reasons_or_none, IsReason, IsWhyText, TellsReasons, TellsWhy};
 
 use crate::TextFault;
-use crate::placing::{Found, PlacedSource, placed_source};
-use crate::reasons::{push_graph, reason_of, run_without};
+use crate::placing::{PlacedSource, placed_source};
+use crate::reasons::{Reason, push_graph, reason_of, run_without};
 use crate::watched::Effort;
-use cover_solver::Solver;
 use documents::why_document;
-use gap_sets::{Costs, GapSet};
 use json_text::JsonArray;
 use litmus_text::Litmus;
 use report::answer_line;
@@ -40,38 +40,63 @@ pub struct WhyText {
 #[derive(Drop)]
 struct Explanation {
     lines: Vec<u8>,
-    graph: Vec<u8>,
+    graph: RunGraph,
     runs: JsonArray,
 }
 
-/// Why each gap of the answer is needed.
-fn reasons(
-    alloc: Global,
-    litmus: &Litmus<Program>,
-    shown: &Shown,
-    costs: &Costs,
-    solver: &Solver,
-    set: &GapSet,
-) -> Result<Explanation, AllocError>
-    requires question { solver.now.question ≡ asked litmus.now.program shown.now }
-    requires answer { IsTheAnswer solver.now.question costs.now set.now }
-    requires one_each { length costs.now ≡ gap_count solver.now.question.program.threads }
-    ensures { IfOk result (λ reasons. TellsReasons litmus.now shown.now set.now (numbers_of_set set.now) reasons.lines.items reasons.runs) }
+impl Explanation {
+    /// Adds why a gap is needed.
+    fn push(
+        &mut self,
+        alloc: Global,
+        litmus: &Litmus<Program>,
+        gap: u8,
+        reason: Reason,
+    ) -> Result<(), AllocError>
+        ensures lines { OnOk result (self.new.lines.items ≡ self.old.lines.items ++ reason.lines.items) }
+        ensures runs { OnOk result (self.new.runs ≡ self.old.runs ++ reason.run ∷ []) }
+    {
+        push_graph(alloc, &mut self.graph, litmus, gap, &reason.steps)?;
+        self.lines.extend_from_slice(&reason.lines)?;
+        self.runs.add(reason.run)
+    }
+}
+
+/// Why a gap of the answer is needed.
+fn reason_for(alloc: Global, placed: &PlacedSource, gap: u8) -> Result<Reason, AllocError>
+    requires question { placed.now.found.solver.question ≡ asked placed.now.source.program placed.now.shown }
+    requires answer { IsTheAnswer placed.now.found.solver.question placed.now.costs placed.now.found.placed.set }
+    requires one_each { length placed.now.costs ≡ gap_count placed.now.found.solver.question.program.threads }
+    requires gap { gap < MAX_GAPS }
+    requires held { set.contains placed.now.found.placed.set gap ≡ true }
+    ensures { IfOk result (λ reason. IsReason placed.now.source placed.now.shown placed.now.found.placed.set gap (reason.lines.items, reason.run)) }
 {
+    let set = placed.found.placed.set;
+    let run = run_without(&placed.found.solver, &placed.costs, &set, gap)?;
+    reason_of(alloc, &placed.source, &placed.shown, &set, gap, &run)
+}
+
+/// Why each gap of the answer is needed.
+fn reasons(alloc: Global, placed: &PlacedSource) -> Result<Explanation, AllocError>
+    requires question { placed.now.found.solver.question ≡ asked placed.now.source.program placed.now.shown }
+    requires answer { IsTheAnswer placed.now.found.solver.question placed.now.costs placed.now.found.placed.set }
+    requires one_each { length placed.now.costs ≡ gap_count placed.now.found.solver.question.program.threads }
+    ensures { IfOk result (λ told. TellsReasons placed.now.source placed.now.shown placed.now.found.placed.set (numbers_of_set placed.now.found.placed.set) told.lines.items told.runs) }
+{
+    let set = placed.found.placed.set;
     // For the proof alone: a set has gap numbers.
     let _ = set.len();
-    let mut lines = Vec::new(alloc);
-    let mut graph = RunGraph::new(alloc)?;
-    let mut runs = JsonArray::new(alloc);
+    let graph = RunGraph::new(alloc)?;
+    let mut told = Explanation {
+        lines: Vec::new(alloc),
+        graph,
+        runs: JsonArray::new(alloc),
+    };
     for gap in set.iter() {
-        let run = run_without(solver, costs, set, gap)?;
-        let reason = reason_of(alloc, litmus, shown, set, gap, &run)?;
-        push_graph(alloc, &mut graph, litmus, gap, &reason.steps)?;
-        lines.extend_from_slice(&reason.lines)?;
-        runs.add(reason.run)?;
+        let reason = reason_for(alloc, placed, gap)?;
+        told.push(alloc, &placed.source, gap, reason)?;
     }
-    let graph = graph.into_text()?;
-    Ok(Explanation { lines, graph, runs })
+    Ok(told)
 }
 
 /// That no gap is needed.
@@ -97,29 +122,30 @@ fn reasons_or_none(alloc: Global, shown: &Shown, reasons: Vec<u8>) -> Result<Vec
 }
 
 /// The answer line, and why each gap of the answer is needed.
-fn explained(
-    alloc: Global,
-    litmus: &Litmus<Program>,
-    shown: &Shown,
-    costs: &Costs,
-    found: &Found,
-) -> Result<WhyText, AllocError>
-    requires question { found.now.solver.question ≡ asked litmus.now.program shown.now }
-    requires answer { IsTheAnswer found.now.solver.question costs.now found.now.placed.set }
-    requires one_each { length costs.now ≡ gap_count found.now.solver.question.program.threads }
-    ensures { IfOk result (λ told. TellsWhy litmus.now shown.now costs.now found.now.placed.set (answer_line litmus.now.program shown.now found.now.placed.set found.now.placed.cost) told.lines.items told.document.items) }
+fn explained(alloc: Global, placed: &PlacedSource) -> Result<WhyText, AllocError>
+    requires question { placed.now.found.solver.question ≡ asked placed.now.source.program placed.now.shown }
+    requires answer { IsTheAnswer placed.now.found.solver.question placed.now.costs placed.now.found.placed.set }
+    requires one_each { length placed.now.costs ≡ gap_count placed.now.found.solver.question.program.threads }
+    ensures { IfOk result (λ told. TellsWhy placed.now.source placed.now.shown placed.now.costs placed.now.found.placed.set (answer_line placed.now.source.program placed.now.shown placed.now.found.placed.set placed.now.found.placed.cost) told.lines.items told.document.items) }
 {
+    let PlacedSource {
+        source,
+        costs,
+        shown,
+        found,
+    } = placed;
     let set = found.placed.set;
-    let reasons = reasons(alloc, litmus, shown, costs, &found.solver, &set)?;
+    let reasons = reasons(alloc, placed)?;
     let Explanation {
         lines: each,
         graph,
         runs,
     } = reasons;
     let said = reasons_or_none(alloc, shown, each)?;
-    let document = why_document(alloc, litmus, shown, costs, &set, runs)?;
-    let mut lines = answer_line(alloc, &litmus.program, shown, set, found.placed.cost)?;
+    let document = why_document(alloc, source, shown, costs, &set, runs)?;
+    let mut lines = answer_line(alloc, &source.program, shown, set, found.placed.cost)?;
     lines.extend_from_slice(&said)?;
+    let graph = graph.into_text()?;
     Ok(WhyText {
         lines,
         graph,
@@ -143,13 +169,7 @@ pub fn why_text<R: Threads + Wait + Sync>(
     ensures fault { IfErr result (HasNoPlacedText litmus.now (option_map (λ text. text.now) costs.entry) effort.workers) }
 {
     let placed = placed_source(rt, alloc, litmus, costs, kind, effort)?;
-    let PlacedSource {
-        source,
-        costs,
-        shown,
-        found,
-    } = placed;
-    match explained(alloc, &source, &shown, &costs, &found) {
+    match explained(alloc, &placed) {
         Ok(reasons) => Ok(reasons),
         Err(_) => Err(TextFault::OutOfMemory),
     }

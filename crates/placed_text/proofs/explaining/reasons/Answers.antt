@@ -3,20 +3,24 @@ use Rattle.placed_text.proofs.ReasonTexts.{AreHeld, first_held, numbers_are_held
 use Rattle.placed_text.proofs.explaining.reasons.Goals as goal
 
 pub loop-gap-init : goal.loop-gap-init
-loop-gap-init c = record {
-  told = ([], tt, c.new-lines.ensures.items, c.new-runs.ensures);
-  to_come = subst (AreHeld c.args.set.now) (sym (c.into_iter-gap-iterator.ensures.into_iter_gives ∙ c.iter-gap-items.ensures.value)) (numbers_are_held c.args.set.now c.len.ensures.gaps);
-}
+loop-gap-init c =
+    let set = c.args.placed.now.found.placed.set in
+    record {
+      told = ([], tt, c.new-2.ensures.items, c.new-3.ensures);
+      to_come = subst (AreHeld set) (sym (c.into_iter-gap-iterator.ensures.into_iter_gives ∙ c.iter-gap-items.ensures.value)) (numbers_are_held set c.len.ensures.gaps);
+    }
 
-pub run_without-requires-clause-gap : goal.run_without-requires-clause-gap
-run_without-requires-clause-gap c = (first_held c.args.set.now c.loop-gap.gap-iterator c.in-Some.gap c.next.new.self c.in-Some.ensures.steps c.loop-gap.invariant.to_come).0.1
+pub reason_for-requires-clause-gap : goal.reason_for-requires-clause-gap
+reason_for-requires-clause-gap c = (first_held c.args.placed.now.found.placed.set c.loop-gap.gap-iterator c.in-Some.gap c.next.new.self c.in-Some.ensures.steps c.loop-gap.invariant.to_come).0.1
 
-pub run_without-requires-clause-held : goal.run_without-requires-clause-held
-run_without-requires-clause-held c = (first_held c.args.set.now c.loop-gap.gap-iterator c.in-Some.gap c.next.new.self c.in-Some.ensures.steps c.loop-gap.invariant.to_come).0.0
+pub reason_for-requires-clause-held : goal.reason_for-requires-clause-held
+reason_for-requires-clause-held c = (first_held c.args.placed.now.found.placed.set c.loop-gap.gap-iterator c.in-Some.gap c.next.new.self c.in-Some.ensures.steps c.loop-gap.invariant.to_come).0.0
 
 pub loop-gap-preserved : goal.loop-gap-preserved
-loop-gap-preserved c = record {
-  told = rw (c.in_ok-add.ensures, c.in_ok-extend_from_slice.ensures.items, c.deref-in-loop-gap.ensures.value)
-      (tells_more c.args.litmus.now c.args.shown.now c.args.set.now c.loop-gap.yielded c.loop-gap.lines.items c.loop-gap.runs c.in-Some.gap (c.in_ok-reason.reason.lines.items, c.in_ok-reason.reason.run) c.loop-gap.invariant.told c.in_ok-reason.ensures);
-  to_come = (first_held c.args.set.now c.loop-gap.gap-iterator c.in-Some.gap c.next.new.self c.in-Some.ensures.steps c.loop-gap.invariant.to_come).1;
-}
+loop-gap-preserved c =
+    let placed = c.args.placed.now in
+    record {
+      told = rw (c.in_ok-push.ensures.lines, c.in_ok-push.ensures.runs)
+          (tells_more placed.source placed.shown placed.found.placed.set c.loop-gap.yielded c.loop-gap.told.lines.items c.loop-gap.told.runs c.in-Some.gap (c.in_ok-reason.reason.lines.items, c.in_ok-reason.reason.run) c.loop-gap.invariant.told c.in_ok-reason.ensures);
+      to_come = (first_held placed.found.placed.set c.loop-gap.gap-iterator c.in-Some.gap c.next.new.self c.in-Some.ensures.steps c.loop-gap.invariant.to_come).1;
+    }
