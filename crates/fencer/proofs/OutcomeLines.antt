@@ -1,6 +1,5 @@
 -- The lines of outcomes with their runs, one more.
-use Rattle.fencer.proofs.Vocabulary.{◌≡◌, ◌∙◌, ℕ, suc, zero, ◌+◌, ◌<◌, List, [], ◌∷◌, ◌++◌, length, take, get_or, refl, sym, ap, arith, append_assoc, append-nil, Shown, Label, outcome_lines}
-use Rattle.fencer.proofs.Vocabulary.{run_line_at, outcome_line, printed_labels}
+use Rattle.fencer.proofs.Vocabulary.{◌≡◌, ◌∙◌, ℕ, suc, zero, ◌+◌, ◌<◌, List, [], ◌∷◌, ◌++◌, length, take, get_or, refl, sym, ap, arith, append_assoc, append-nil, Shown, Label, outcome_lines, run_line_at, outcome_line, printed_labels}
 use Rattle.tso_program.specs.declared.outcome.Outcome.{Outcome}
 use Rattle.litmus_text.specs.Names.{TextNames}
 

@@ -1,7 +1,6 @@
 -- What the program prints, with words and without.
-use Rattle.fencer.proofs.Vocabulary.{◌≡◌, ◌==◌, ℕ, ◌+◌, zero, suc, Bool, true, false, List, [], ◌∷◌, ◌⊎◌, Option, Contains, length, map, arith, inl, inr, refl, subst, sym, ◌&&◌, codes, nat_lt}
-use Rattle.fencer.proofs.Vocabulary.{TEXT_LIMIT, IsUtf8Refusal, asks_version, IsNoCommand, IsReadFault, TakesOfLine, HasTooLongLine, IsReply, IsReplyToInput, IsOutput, KeepFilesOf, KeepOtherFiles}
-use Rattle.fencer.proofs.Vocabulary.{LineAsksToWrite, ReadsForWords, ReadsForInput, ReadsFor, no_command}
+use Rattle.fencer.proofs.Vocabulary.{◌≡◌, ◌==◌, ℕ, ◌+◌, zero, suc, Bool, true, false, List, [], ◌∷◌, ◌⊎◌, Option, Contains, length, map, arith, inl, inr, refl, subst, sym, ◌&&◌, codes, nat_lt, TEXT_LIMIT, IsUtf8Refusal, asks_version, IsNoCommand, IsReadFault}
+use Rattle.fencer.proofs.Vocabulary.{TakesOfLine, HasTooLongLine, IsReply, IsReplyToInput, IsOutput, KeepFilesOf, KeepOtherFiles, LineAsksToWrite, ReadsForWords, ReadsForInput, ReadsFor, no_command}
 use Rattle.std.specs.Str.{IsAscii, IsUtf8, bytes_eq}
 use Rattle.std.specs.List.{list_all}
 use Rattle.std.proofs.lemmas.Str.{IsUtf8-from_ascii}

@@ -52,6 +52,10 @@ HasNoRun model labels bytes (refusal.Run fault) = (litmus : Litmus Listing) × I
 HasNoRun model labels bytes (refusal.Replay fault) = IsRefusedReplay model labels bytes fault
 HasNoRun model labels bytes (refusal.Solve fault) = ⊥
 
+-- this holds of each text that spells the program
+abbrev pub OfEachText : Litmus Listing → (List ℕ → Type 0) → Type 0
+OfEachText litmus Holds = (bytes : List ℕ) → IsLitmus bytes litmus → Holds bytes
+
 -- the lines of a run, with status 0
 abbrev pub ShowsRun : Model → List ℕ → List ℕ → ℕ → List ℕ → Type 0
 ShowsRun model labels bytes status lines = (status ≡ 0) × PrintsRun model labels bytes lines

@@ -3,6 +3,7 @@
 ghost use Rattle.std.specs.Prelude.{◌≡◌, IfErr, IfOk, length, option_map, string_bytes};
 ghost use Rattle.program_streams.specs.Streams.{Prints};
 ghost use Rattle.tso_program.specs.Listings.{gap_count};
+ghost use Rattle.litmus_text.specs.Texts.{IsLitmus};
 ghost use Rattle.program_streams.specs.Files.{ReadsOfInput};
 ghost use Rattle.fencer.specs.GapTexts.{AreGaps, AreGapsOfTexts, HasNoGaps, IsGapText, PrintsGaps, costs_shown};
 
@@ -49,17 +50,31 @@ fn written_gaps(
     }
 }
 
+/// What is printed of the gaps of the program that the litmus text spells.
+fn lines_of_program(
+    alloc: Global,
+    template: bool,
+    texts: &Texts,
+    source: &Litmus<Program>,
+) -> Result<Vec<u8>, TextFault>
+    requires { IsLitmus texts.now.litmus.items source.now }
+    ensures lines { IfOk result (λ lines. PrintsGaps template texts.now.litmus.items (option_map (λ text. text.items) texts.now.costs) lines.items) }
+    ensures fault { IfErr result (HasNoGaps texts.now.litmus.items (option_map (λ text. text.items) texts.now.costs)) }
+{
+    let costs = read_gap_costs(alloc, texts.costs.as_deref(), &source.program)?;
+    match written_gaps(alloc, template, texts, source, &costs) {
+        Ok(lines) => Ok(lines),
+        Err(_) => Err(TextFault::OutOfMemory),
+    }
+}
+
 /// What is printed of the gaps of the program of a text.
 fn gap_lines(alloc: Global, template: bool, texts: &Texts) -> Result<Vec<u8>, TextFault>
     ensures lines { IfOk result (λ lines. PrintsGaps template texts.now.litmus.items (option_map (λ text. text.items) texts.now.costs) lines.items) }
     ensures fault { IfErr result (HasNoGaps texts.now.litmus.items (option_map (λ text. text.items) texts.now.costs)) }
 {
     let source = read_program(alloc, &texts.litmus)?;
-    let costs = read_gap_costs(alloc, texts.costs.as_deref(), &source.program)?;
-    match written_gaps(alloc, template, texts, &source, &costs) {
-        Ok(lines) => Ok(lines),
-        Err(_) => Err(TextFault::OutOfMemory),
-    }
+    lines_of_program(alloc, template, texts, &source)
 }
 
 /// Judges texts, prints what is asked of their gaps, and returns the status.

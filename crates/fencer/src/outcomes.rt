@@ -1,12 +1,13 @@
 //! Outcomes: the lines of a program's list, or why there is no list.
 
-ghost use Rattle.std.specs.Prelude.{◌≡◌, ◌++◌, IfOk, IfErr, OnOk, string_bytes};
+ghost use Rattle.std.specs.Prelude.{◌≡◌, ◌++◌, ℕ, List, IfOk, IfErr, OnOk, string_bytes};
 ghost use Rattle.std.specs.FinSet as set;
 ghost use Rattle.tso_program.specs.Shown.{asked as question};
 ghost use Rattle.tso_machine.specs.Modes.{machine_of_model};
 ghost use Rattle.program_streams.specs.Streams.{Prints};
 ghost use Rattle.program_streams.specs.Files.{ReadsOfInput};
 ghost use Rattle.litmus_text.specs.Shown.{shown_as};
+ghost use Rattle.litmus_text.specs.Texts.{IsLitmus};
 ghost use Rattle.cover_solver.specs.declared.fault.SolveFault.TheVariants as solve;
 ghost use Rattle.fencer.specs.Outcomes.{listed_kind, list_text as lines_of_list, list_status, run_line_at, ListsOutcomes, ListsRuns, PrintsOutcomes, HasNoList, AreOutcomes, TellsOutcomes};
 
@@ -130,6 +131,27 @@ fn listed_shown(litmus: &Litmus<Program>, observed: bool) -> Shown
     if observed { litmus.shown() } else { Shown::All }
 }
 
+/// The lines of a program's outcomes, with their status.
+fn reply_for<T: Threads + Sync>(
+    rt: &T,
+    alloc: Global,
+    litmus: &Litmus<Program>,
+    asked: &OutcomeQuery,
+    progress: Progress,
+) -> Result<Reply, Refusal>
+    ensures list { (bytes : List ℕ) → IsLitmus bytes litmus.now → IfOk result (λ reply. PrintsOutcomes asked.now bytes reply.status reply.lines.items) }
+    ensures refused { (bytes : List ℕ) → IsLitmus bytes litmus.now → IfErr result (HasNoList bytes) }
+{
+    let shown = listed_shown(litmus, asked.observed);
+    let ahead = report_ahead(alloc, &litmus.program, progress.asked(asked.progress));
+    let list = listed(rt, alloc, asked, &litmus.program, &shown, &ahead)?;
+    let status = list_status(asked.check, litmus, &list.outcomes);
+    match list_text(alloc, asked, litmus, &shown, &list) {
+        Ok(lines) => Ok(Reply { lines, status }),
+        Err(_) => Err(Refusal::Solve(SolveFault::OutOfMemory)),
+    }
+}
+
 /// The lines of the outcomes of the program that a text spells, with their status.
 fn outcomes_reply<T: Threads + Sync>(
     rt: &T,
@@ -142,14 +164,7 @@ fn outcomes_reply<T: Threads + Sync>(
     ensures refused { IfErr result (HasNoList bytes.now) }
 {
     let litmus = read_litmus(alloc, bytes)?;
-    let shown = listed_shown(&litmus, asked.observed);
-    let ahead = report_ahead(alloc, &litmus.program, progress.asked(asked.progress));
-    let list = listed(rt, alloc, asked, &litmus.program, &shown, &ahead)?;
-    let status = list_status(asked.check, &litmus, &list.outcomes);
-    match list_text(alloc, asked, &litmus, &shown, &list) {
-        Ok(lines) => Ok(Reply { lines, status }),
-        Err(_) => Err(Refusal::Solve(SolveFault::OutOfMemory)),
-    }
+    reply_for(rt, alloc, &litmus, asked, progress)
 }
 
 /// Lists the outcomes of the program of a litmus file, prints the answer, and returns the status.

@@ -5,7 +5,7 @@ ghost use Rattle.tso_machine.specs.RunTexts.{IsRunText, RunFaultIs};
 ghost use Rattle.report.specs.Answers.{outcome_line, passed_line};
 ghost use Rattle.program_streams.specs.Streams.{Prints};
 ghost use Rattle.program_streams.specs.Files.{ReadsOfInput};
-ghost use Rattle.fencer.specs.Replays.{label_words_text, HasNoRun, IsReplay, ShowsRun};
+ghost use Rattle.fencer.specs.Replays.{label_words_text, HasNoRun, IsReplay, OfEachText, ShowsRun};
 
 use crate::advice::{Subject, unread_advice, unread_litmus};
 use crate::refusals::{Refusal, Reply, print_answer};
@@ -58,8 +58,26 @@ pub(crate) fn ended_lines(
     Ok(lines)
 }
 
+/// The lines of the run that label words spell in a program. The labels are judged before the replay.
+fn run_lines(
+    alloc: Global,
+    litmus: &Litmus<Program>,
+    model: Model,
+    labels: &[String],
+) -> Result<Reply, Refusal>
+    ensures run { IfOk result (λ reply. OfEachText litmus.now (λ bytes. ShowsRun model (label_words_text labels.now) bytes reply.status reply.lines.items)) }
+    ensures refused { IfErr result (λ why. OfEachText litmus.now (λ bytes. HasNoRun model (label_words_text labels.now) bytes why)) }
+{
+    let steps = steps_of(alloc, labels)?;
+    let ended = replay(alloc, &litmus.program, &GapSet::empty(), model, &steps)?;
+    match ended_lines(alloc, litmus, &ended) {
+        Ok(lines) => Ok(Reply { lines, status: 0 }),
+        Err(_) => Err(Refusal::Replay(ReplayFault::OutOfMemory)),
+    }
+}
+
 /// The lines of the run that label words spell in the program that a text spells. The text is judged
-/// before the labels, and these before the replay.
+/// before the labels.
 fn replay_lines(
     alloc: Global,
     bytes: &[u8],
@@ -70,12 +88,7 @@ fn replay_lines(
     ensures refused { IfErr result (HasNoRun model (label_words_text labels.now) bytes.now) }
 {
     let litmus = read_litmus(alloc, bytes)?;
-    let steps = steps_of(alloc, labels)?;
-    let ended = replay(alloc, &litmus.program, &GapSet::empty(), model, &steps)?;
-    match ended_lines(alloc, &litmus, &ended) {
-        Ok(lines) => Ok(Reply { lines, status: 0 }),
-        Err(_) => Err(Refusal::Replay(ReplayFault::OutOfMemory)),
-    }
+    run_lines(alloc, &litmus, model, labels)
 }
 
 /// Replays label words on the program of a litmus file, prints the answer, and returns the status.

@@ -9,7 +9,7 @@ ghost use Rattle.report.specs.Answers.{outcome_line, passed_line};
 ghost use Rattle.program_streams.specs.Streams.{Prints};
 ghost use Rattle.program_streams.specs.Files.{ReadsOfInput};
 ghost use Rattle.fencer.specs.Deliveries.{KeepFilesBut};
-ghost use Rattle.fencer.specs.Replays.{label_words_text, HasNoRun};
+ghost use Rattle.fencer.specs.Replays.{label_words_text, HasNoRun, OfEachText};
 ghost use Rattle.documents.specs.Documents.{IsTraceDocument};
 ghost use Rattle.fencer_words.specs.CommandFiles.{name_of};
 ghost use Rattle.fencer.specs.Traces.{DeliversTrace, PrintsTrace, IsTrace, IsTraceOf};
@@ -106,22 +106,21 @@ struct Said {
     graph: Vec<u8>,
 }
 
-/// The lines of the run that label words spell in the program that a text spells, its document and its graph. The text is
-/// judged before the labels, and these before the replay.
-fn trace_of(alloc: Global, bytes: &[u8], run: &Run) -> Result<Said, Refusal>
-    ensures run { IfOk result (λ said. PrintsTrace run.now.model (label_words_text run.now.labels.items) bytes.now said.lines.items said.document.items) }
-    ensures refused { IfErr result (HasNoRun run.now.model (label_words_text run.now.labels.items) bytes.now) }
+/// The lines of the run that label words spell in a program, its document and its graph. The labels are judged before the
+/// replay.
+fn run_said(alloc: Global, litmus: &Litmus<Program>, run: &Run) -> Result<Said, Refusal>
+    ensures run { IfOk result (λ said. OfEachText litmus.now (λ bytes. PrintsTrace run.now.model (label_words_text run.now.labels.items) bytes said.lines.items said.document.items)) }
+    ensures refused { IfErr result (λ why. OfEachText litmus.now (λ bytes. HasNoRun run.now.model (label_words_text run.now.labels.items) bytes why)) }
 {
-    let litmus = read_litmus(alloc, bytes)?;
     let labels = steps_of(alloc, run.labels.as_slice())?;
     let ended = replay(alloc, &litmus.program, &GapSet::empty(), run.model, &labels)?;
-    let drawings = drawings_of(alloc, &litmus, run.model, &labels, &ended)?;
+    let drawings = drawings_of(alloc, litmus, run.model, &labels, &ended)?;
     let Drawings {
         table,
         graph,
         document,
     } = drawings;
-    match traced_lines(alloc, table, &litmus, &ended) {
+    match traced_lines(alloc, table, litmus, &ended) {
         Ok(lines) => Ok(Said {
             lines,
             document,
@@ -129,6 +128,16 @@ fn trace_of(alloc: Global, bytes: &[u8], run: &Run) -> Result<Said, Refusal>
         }),
         Err(_) => Err(Refusal::Replay(ReplayFault::OutOfMemory)),
     }
+}
+
+/// The lines of the run that label words spell in the program that a text spells, its document and its graph. The text is
+/// judged before the labels.
+fn trace_of(alloc: Global, bytes: &[u8], run: &Run) -> Result<Said, Refusal>
+    ensures run { IfOk result (λ said. PrintsTrace run.now.model (label_words_text run.now.labels.items) bytes.now said.lines.items said.document.items) }
+    ensures refused { IfErr result (HasNoRun run.now.model (label_words_text run.now.labels.items) bytes.now) }
+{
+    let litmus = read_litmus(alloc, bytes)?;
+    run_said(alloc, &litmus, run)
 }
 
 /// What is delivered of a run.

@@ -1,12 +1,12 @@
 use Rattle.fencer.proofs.Vocabulary.{refl}
-use Rattle.fencer.proofs.replays.replay_lines.Goals as goal
+use Rattle.fencer.proofs.replays.run_lines.Goals as goal
 
 pub returns-in-Ok-clause-run : goal.returns-in-Ok-clause-run
-returns-in-Ok-clause-run c = (
+returns-in-Ok-clause-run c bytes spelled = (
   refl,
   record {
-    litmus = c.in_ok-litmus.litmus;
-    spelled = c.in_ok-litmus.ensures.found;
+    litmus = c.args.litmus.now;
+    spelled = spelled;
     steps = c.in_ok-steps.steps.items;
     read = c.in_ok-steps.ensures.found;
     outcome = c.in_ok-ended.ended.outcome;

@@ -1,18 +1,18 @@
 use Rattle.fencer.proofs.Vocabulary.{subst, Shown, machine_of_model, ListsOutcomes, ListsRuns, TellsOutcomes}
 use Rattle.std.specs.FinSet as set
 use Rattle.tso_program.specs.Shown.{asked}
-use Rattle.fencer.proofs.outcomes.outcomes_reply.Goals as goal
+use Rattle.fencer.proofs.outcomes.reply_for.Goals as goal
 
 pub returns-in-Ok-clause-list : goal.returns-in-Ok-clause-list
-returns-in-Ok-clause-list g c =
+returns-in-Ok-clause-list g c bytes spelled =
     let query = c.args.asked.now in
-    let litmus = c.in_ok-litmus.litmus in
+    let litmus = c.args.litmus.now in
     let outcomes = c.in_ok-list.list.outcomes.items in
     let runs = c.in_ok-list.list.runs in
     let machine = machine_of_model litmus.program set.empty query.model in
     record {
       litmus = litmus;
-      spelled = c.in_ok-litmus.ensures.found;
+      spelled = spelled;
       outcomes = outcomes;
       listed = subst (λ (s : Shown). ListsOutcomes (asked litmus.program s) machine outcomes) c.listed_shown-shown.ensures c.in_ok-list.ensures.list;
       runs = runs;
