@@ -6,7 +6,8 @@ use crate::hunts::Hand;
 use crate::refusal::HuntRefusal;
 use crate::scene::Scene;
 use crate::search::labels_of;
-use cover_solver::{ForeignRun, Oracle, SeqTable, Served, Solver, Verdict};
+use crate::verdicts::served_on;
+use cover_solver::{ForeignRun, SeqTable, Served};
 use hunt_board::{Hunt, PostFault, ROW_CELLS};
 use solver_calls::set_in;
 use std::alloc::{AllocError, Global};
@@ -28,11 +29,7 @@ pub fn served_by(alloc: Global, table: &SeqTable, gaps: &[u8]) -> Result<Served,
     ensures { IfOk result (λ served. served.question ≡ table.now.question) }
 {
     let set = set_in(table.program(), gap_set_of(alloc, gaps)?)?;
-    let solver = Solver::new(alloc, table.program(), table)?;
-    match solver.ask(&set)? {
-        Verdict::Serves(served) => Ok(served),
-        Verdict::Foreign(_) => Err(HuntRefusal::Call),
-    }
+    served_on(alloc, table, &set)
 }
 
 /// The run of these labels.
@@ -82,6 +79,23 @@ fn is_posted_again(
     }
 }
 
+/// Posts a copy of the run, where the seat's row has a cell left.
+fn post_copy(
+    alloc: Global,
+    hunt: &Hunt,
+    hand: &mut Hand,
+    run: &ForeignRun,
+) -> Result<(), HuntRefusal>
+    requires question { run.now.question ≡ hunt.now.question }
+    requires sound { IsSound hunt.now hand.old }
+    ensures { IsSound hunt.now hand.new }
+{
+    match is_posted(hunt, hand, run.copy(alloc)?) {
+        Ok(_) => Ok(()),
+        Err(_) => Err(HuntRefusal::Memory(AllocError)),
+    }
+}
+
 impl Scene<'_> {
     /// Lowers the ceiling to what the set of these gaps costs, where it serves.
     pub fn lower(&self, hand: &mut Hand, gaps: &[u8]) -> Result<(), HuntRefusal>
@@ -118,9 +132,7 @@ impl Scene<'_> {
     {
         let run = run_by(self.alloc, self.table, labels)?;
         for _ in 0..ROW_CELLS {
-            if is_posted(self.hunt, hand, run.copy(self.alloc)?).is_err() {
-                return Err(HuntRefusal::Memory(AllocError));
-            }
+            post_copy(self.alloc, self.hunt, hand, &run)?;
         }
         Ok(())
     }

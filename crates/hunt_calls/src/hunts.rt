@@ -1,22 +1,23 @@
 //! A hunt of one seat by its calls, one for each word of a script, at whose end the hunt is closed.
-ghost use Rattle.std.specs.Prelude.{◌≡◌, IfOk, Some};
+ghost use Rattle.std.specs.Prelude.{◌≡◌, ◌∷◌, [], IfOk, None, Some};
 ghost use Rattle.tso_machine.specs.Outcomes.{AreGapsOf};
 ghost use Rattle.cover_solver.specs.Facts.{IsForeignValue};
-ghost use Rattle.cover_solver.specs.Verdicts.{IsVerdictOf, PassesNoneOf};
-ghost use Rattle.hunt_board.specs.Seats.{IsOf};
+ghost use Rattle.cover_solver.specs.Verdicts.{PassesNoneOf};
+ghost use Rattle.hunt_board.specs.Seats.{IsFresh, IsOf};
 ghost use Rattle.hunt_board.specs.Settlings.{IsLawfulSettling};
 ghost use Rattle.hunt_calls.specs.Hunts.{IsSound};
 
 use crate::beside::{push_ceiling, push_look, push_posted};
+use crate::records::push_set;
 use crate::refusal::HuntRefusal;
 use crate::scene::Scene;
-use crate::search::{labels_of, push_region};
+use crate::search::{labels_of, new_search, push_region};
 use crate::settlings::cut;
-use cover_solver::{ForeignRun, Oracle, SeqTable, Solver, Verdict};
+use crate::verdicts::verdict_on;
+use cover_solver::{ForeignRun, SeqTable, Verdict};
 use gap_sets::{GapSet, Region};
 use hunt_board::{Event, Hunt, HuntSeat, Next, Posted, Receipt, Settling};
-use search_core::SearchTree;
-use solver_calls::{equal_costs, passes_none};
+use solver_calls::passes_none;
 use std::alloc::{AllocError, Global};
 use std::sync::Wait;
 use text_calls::{named, push_gaps_after, split_at_byte};
@@ -92,15 +93,6 @@ pub fn run_past(
     Ok(run)
 }
 
-/// What the solver says of the node.
-fn by_solver(alloc: Global, table: &SeqTable, node: &Region) -> Result<Verdict, HuntRefusal>
-    requires { AreGapsOf table.now.question.program node.now.must }
-    ensures { IfOk result (IsVerdictOf table.now.question node.now.must) }
-{
-    let solver = Solver::new(alloc, table.program(), table)?;
-    Ok(solver.ask(&node.must)?)
-}
-
 pub fn push_receipt(receipt: &Receipt, printed: &mut String) -> Result<(), AllocError> {
     write!(printed, "seat {} ", receipt.seat)?;
     match receipt.event {
@@ -162,7 +154,7 @@ impl Scene<'_> {
             return Ok(Settling::Asked(Verdict::Foreign(run)));
         }
         if name == b"ask".as_slice() {
-            return Ok(Settling::Asked(by_solver(self.alloc, self.table, node)?));
+            return Ok(Settling::Asked(verdict_on(self.alloc, self.table, &node.must)?));
         }
         if name == b"best".as_slice() && seat.has_as_good(self.hunt.costs(), &node.must) {
             return Ok(Settling::Best);
@@ -242,6 +234,15 @@ impl Scene<'_> {
     }
 }
 
+/// The seat alone in a list.
+fn alone(alloc: Global, seat: HuntSeat) -> Result<Vec<HuntSeat>, AllocError>
+    ensures { IfOk result (λ seats. seats.items ≡ seat ∷ []) }
+{
+    let mut seats = Vec::new(alloc);
+    seats.push(seat)?;
+    Ok(seats)
+}
+
 /// The set that the hunt ends with.
 fn push_closed(
     alloc: Global,
@@ -252,11 +253,33 @@ fn push_closed(
 ) -> Result<(), HuntRefusal>
     requires { IsOf hunt seat }
 {
-    let mut seats = Vec::new(alloc);
-    seats.push(seat)?;
+    let seats = alone(alloc, seat)?;
     let finished = hunt.close(seats, receipts)?;
-    push_gaps_after("set", &finished.served().set(), printed)?;
-    Ok(printed.push('\n')?)
+    Ok(push_set(&finished, printed)?)
+}
+
+/// A hunt by one seat for the best set of gaps, each of which costs 1.
+fn hunt_alone(alloc: Global, table: &SeqTable) -> Result<(Hunt, HuntSeat), HuntRefusal>
+    ensures hunt { IfOk result (λ made. made.0.question ≡ table.now.question) }
+    ensures seat { IfOk result (λ made. IsFresh made.0 made.1) }
+{
+    let tree = new_search(alloc, table, 1)?;
+    let (hunt, mut seats) = Hunt::new(alloc, tree, 1)?;
+    match seats.pop() {
+        Some(seat) => Ok((hunt, seat)),
+        None => Err(HuntRefusal::Call),
+    }
+}
+
+/// What a script starts with: a seat, and nothing settled or posted.
+fn new_hand(alloc: Global, seat: HuntSeat) -> Result<Hand, AllocError>
+    ensures { IfOk result (λ hand. (hand.seat ≡ seat) × (hand.posted ≡ None)) }
+{
+    Ok(Hand {
+        seat,
+        receipts: Vec::with_capacity(alloc, FEW)?,
+        posted: None,
+    })
 }
 
 /// A hunt for the best set of gaps, each of which costs 1, by one seat, and what is in hand after a script.
@@ -269,17 +292,8 @@ pub fn hunt_by<W: Wait>(
 ) -> Result<(Hunt, Hand), HuntRefusal>
     ensures { IfOk result (λ made. IsSound made.0 made.1) }
 {
-    let costs = equal_costs(alloc, table)?;
-    let tree = SearchTree::new(alloc, table, &costs, 1)?;
-    let (hunt, mut seats) = Hunt::new(alloc, tree, 1)?;
-    let Some(seat) = seats.pop() else {
-        return Err(HuntRefusal::Call);
-    };
-    let mut hand = Hand {
-        seat,
-        receipts: Vec::with_capacity(alloc, FEW)?,
-        posted: None,
-    };
+    let (hunt, seat) = hunt_alone(alloc, table)?;
+    let mut hand = new_hand(alloc, seat)?;
     let scene = Scene {
         alloc,
         table,

@@ -17,6 +17,7 @@ mod refusal;
 mod scene;
 mod search;
 mod settlings;
+mod verdicts;
 
 pub use answers::{HuntCall, push_of_hunt};
 pub use exchanges::push_exchanged;

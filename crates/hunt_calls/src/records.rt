@@ -27,9 +27,14 @@ fn push_nodes(finished: &Finished, printed: &mut String) -> Result<(), AllocErro
     Ok(())
 }
 
+/// The set that the search ends with.
+pub fn push_set(finished: &Finished, printed: &mut String) -> Result<(), AllocError> {
+    push_gaps_after("set", &finished.served().set(), printed)?;
+    printed.push('\n')
+}
+
 /// The answer, then each node.
 pub fn push_record(finished: &Finished, printed: &mut String) -> Result<(), AllocError> {
-    push_gaps_after("set", &finished.served().set(), printed)?;
-    printed.push('\n')?;
+    push_set(finished, printed)?;
     push_nodes(finished, printed)
 }

@@ -1,11 +1,12 @@
 //! A search by its events, one for each word of a script.
-ghost use Rattle.std.specs.Prelude.{◌≡◌, ◌<◌};
-ghost use Rattle.search_core.specs.States.{IsSameSearch};
+ghost use Rattle.std.specs.Prelude.{◌≡◌, ◌<◌, IfOk, IfSome};
+ghost use Rattle.search_core.specs.States.{IsSameSearch, IsSeatCount, IsStart};
 
 use crate::ceilings::{Making, made};
 use crate::records::push_record;
 use crate::refusal::HuntRefusal;
-use cover_solver::{ForeignRun, Oracle, SeqTable, Served, Solver, Verdict};
+use crate::verdicts::served_on;
+use cover_solver::{ForeignRun, SeqTable, Served};
 use gap_sets::Region;
 use search_core::{Reason, SearchTree};
 use solver_calls::equal_costs;
@@ -98,10 +99,7 @@ fn confirm(
     let Some(node) = tree.held(seat) else {
         return Err(HuntRefusal::Call);
     };
-    let solver = Solver::new(alloc, table.program(), table)?;
-    let Verdict::Serves(served) = solver.ask(&node.must)? else {
-        return Err(HuntRefusal::Call);
-    };
+    let served = served_on(alloc, table, &node.must)?;
     Ok(tree.confirm(seat, served)?)
 }
 
@@ -227,6 +225,16 @@ fn push_script(
     Ok(())
 }
 
+/// A search by so many seats for the best set of gaps, each of which costs 1.
+pub fn new_search(alloc: Global, table: &SeqTable, seats: u8) -> Result<SearchTree, HuntRefusal>
+    requires { IsSeatCount seats }
+    ensures start { IfOk result IsStart }
+    ensures parts { IfOk result (λ tree. (tree.question ≡ table.now.question) × (tree.seats ≡ seats)) }
+{
+    let costs = equal_costs(alloc, table)?;
+    Ok(SearchTree::new(alloc, table, &costs, seats)?)
+}
+
 /// The lines of a script over the search for the best set of gaps, each of which costs 1.
 pub fn push_searched(
     alloc: Global,
@@ -234,9 +242,27 @@ pub fn push_searched(
     script: &[&[u8]],
     printed: &mut String,
 ) -> Result<(), HuntRefusal> {
-    let costs = equal_costs(alloc, table)?;
-    let mut tree = SearchTree::new(alloc, table, &costs, SEATS)?;
+    let mut tree = new_search(alloc, table, SEATS)?;
     Ok(push_script(alloc, table, &mut tree, script, printed)?)
+}
+
+/// The record of a search that is done. Of one that is not, it says so, and hands it back.
+fn push_if_finished(
+    tree: SearchTree,
+    printed: &mut String,
+) -> Result<Option<SearchTree>, AllocError>
+    ensures { IfOk result (λ back. IfSome back (λ left. left ≡ tree)) }
+{
+    match tree.finish() {
+        Ok(finished) => {
+            push_record(&finished, printed)?;
+            Ok(None)
+        }
+        Err(tree) => {
+            printed.push_str("not finished\n")?;
+            Ok(Some(tree))
+        }
+    }
 }
 
 /// The record of a search that is done. One that is not goes on by the script, as it is handed back.
@@ -250,16 +276,11 @@ fn push_finished(
     requires seats { tree.seats ≡ 2 }
     requires of_table { tree.question ≡ table.now.question }
 {
-    let mut tree = match tree.finish() {
-        Ok(finished) => return push_record(&finished, printed),
-        Err(tree) => tree,
-    };
-    printed.push_str("not finished\n")?;
-    push_script(alloc, table, &mut tree, script, printed)?;
-    match tree.finish() {
-        Ok(finished) => push_record(&finished, printed),
-        Err(_) => printed.push_str("not finished\n"),
+    if let Some(mut tree) = push_if_finished(tree, printed)? {
+        push_script(alloc, table, &mut tree, script, printed)?;
+        let _ = push_if_finished(tree, printed)?;
     }
+    Ok(())
 }
 
 /// The lines of the words before `then` over a search, and its record where it is done; or else those of the words after
@@ -271,8 +292,7 @@ pub fn push_records(
     printed: &mut String,
 ) -> Result<(), HuntRefusal> {
     let (script, rest) = words.split_at(place_of_then(words)?);
-    let costs = equal_costs(alloc, table)?;
-    let mut tree = SearchTree::new(alloc, table, &costs, SEATS)?;
+    let mut tree = new_search(alloc, table, SEATS)?;
     push_script(alloc, table, &mut tree, script, printed)?;
     Ok(push_finished(alloc, table, tree, rest.split_at(1).1, printed)?)
 }

@@ -3,13 +3,12 @@ ghost use Rattle.std.specs.Prelude.{◌≡◌, ◌<◌, false, IfOk, MatchOption
 ghost use Rattle.gap_sets.specs.Order.{total};
 ghost use Rattle.search_core.specs.Ceilings.{IsCeilingOf};
 ghost use Rattle.hunt_board.specs.Seats.{IsOf};
-ghost use Rattle.hunt_board.specs.Settlings.{MaySettle};
-ghost use Rattle.hunt_calls.specs.Hunts.{IsSound};
+ghost use Rattle.hunt_calls.specs.Hunts.{IsSound, MaySplit};
 
 use crate::hunts::{Hand, held, push_receipt, run_past};
 use crate::refusal::HuntRefusal;
 use crate::scene::Scene;
-use cover_solver::Verdict;
+use cover_solver::{ForeignRun, Verdict};
 use gap_sets::Region;
 use hunt_board::{Hunt, HuntSeat, Settling};
 use search_core::Ceiling;
@@ -31,19 +30,20 @@ fn ceiling_below(hunt: &Hunt, seat: &mut HuntSeat, node: &Region) -> Result<Ceil
     }
 }
 
-/// Settles the seat's node, keeps the receipt and prints it. Whether there was memory for it.
-fn is_settled<W: Wait>(
+/// Settles the seat's node by the run, keeps the receipt and prints it. Whether there was memory for it.
+fn is_split<W: Wait>(
     wait: &W,
     hunt: &Hunt,
     hand: &mut Hand,
-    settling: Settling,
+    run: ForeignRun,
     printed: &mut String,
 ) -> Result<bool, HuntRefusal>
     requires sound { IsSound hunt.now hand.old }
-    requires lawful { MaySettle hunt.now hand.old.seat settling }
+    requires splits { MaySplit hunt.now hand.old.seat run }
     ensures sound { IsSound hunt.now hand.new }
     ensures refused { IfOk result (λ done. done ≡ false → hand.new.seat ≡ hand.old.seat) }
 {
+    let settling = Settling::Asked(Verdict::Foreign(run));
     match hunt.settle(wait, &mut hand.seat, settling) {
         Ok(receipt) => {
             hand.receipts.push(receipt)?;
@@ -51,6 +51,26 @@ fn is_settled<W: Wait>(
             Ok(true)
         }
         Err(_) => Ok(false),
+    }
+}
+
+/// Says that memory was refused, and settles the seat's node by the copy of the run.
+fn split_by_copy<W: Wait>(
+    wait: &W,
+    hunt: &Hunt,
+    hand: &mut Hand,
+    copy: ForeignRun,
+    printed: &mut String,
+) -> Result<(), HuntRefusal>
+    requires sound { IsSound hunt.now hand.old }
+    requires splits { MaySplit hunt.now hand.old.seat copy }
+    ensures { IsSound hunt.now hand.new }
+{
+    printed.push_str("refused settle\n")?;
+    if is_split(wait, hunt, hand, copy, printed)? {
+        Ok(())
+    } else {
+        Err(HuntRefusal::Memory(AllocError))
     }
 }
 
@@ -72,6 +92,21 @@ pub fn cut<W: Wait>(
 }
 
 impl Scene<'_> {
+    /// The run of these labels, where it splits the seat's node, and a copy of it.
+    fn run_twice(
+        &self,
+        seat: &HuntSeat,
+        labels: &[u8],
+    ) -> Result<(ForeignRun, ForeignRun), HuntRefusal>
+        ensures run { IfOk result (λ made. MaySplit self.now.hunt.now seat.now made.0) }
+        ensures copy { IfOk result (λ made. MaySplit self.now.hunt.now seat.now made.1) }
+    {
+        let node = held(seat)?;
+        let run = run_past(self.alloc, self.table, &node, labels)?;
+        let copy = run.copy(self.alloc)?;
+        Ok((run, copy))
+    }
+
     /// Settles the seat's node by the run of these labels. Where memory is refused, it prints so and settles the node by a copy
     /// of the run that was made before.
     pub fn settle_again<W: Wait>(
@@ -84,18 +119,10 @@ impl Scene<'_> {
         requires { IsSound self.now.hunt.now hand.old }
         ensures { IsSound self.now.hunt.now hand.new }
     {
-        let node = held(&hand.seat)?;
-        let run = run_past(self.alloc, self.table, &node, labels)?;
-        let copy = Settling::Asked(Verdict::Foreign(run.copy(self.alloc)?));
-        let settling = Settling::Asked(Verdict::Foreign(run));
-        if is_settled(wait, self.hunt, hand, settling, printed)? {
+        let (run, copy) = self.run_twice(&hand.seat, labels)?;
+        if is_split(wait, self.hunt, hand, run, printed)? {
             return Ok(());
         }
-        printed.push_str("refused settle\n")?;
-        if is_settled(wait, self.hunt, hand, copy, printed)? {
-            Ok(())
-        } else {
-            Err(HuntRefusal::Memory(AllocError))
-        }
+        split_by_copy(wait, self.hunt, hand, copy, printed)
     }
 }

@@ -12,7 +12,7 @@ use std::alloc::{AllocError, Global};
 use std::sync::Wait;
 use std::sync::atomic::{AtomicBool, AtomicU64, Ordering};
 use std::thread::Threads;
-use text_calls::{byte_at, labels_from, push_gaps_after};
+use text_calls::{labels_from, push_gaps_after};
 
 /// How many times the second question looks whether the third has begun.
 const MOST_LOOKS: u64 = 1_000_000_000;
@@ -94,7 +94,6 @@ pub fn push_gated<R: Threads + Wait + Sync>(
     printed: &mut String,
 ) -> Result<(), PlaceRefusal> {
     let gate = new_gate(alloc, table, words)?;
-    let workers = byte_at(words, 0)?;
-    let set = set_by(rt, alloc, call, table, &gate, workers)?;
+    let set = set_by(rt, alloc, call, table, &gate, words)?;
     Ok(push_lines(&set, &gate, printed)?)
 }

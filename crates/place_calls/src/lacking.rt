@@ -9,7 +9,7 @@ use std::alloc::Global;
 use std::sync::Wait;
 use std::sync::atomic::{AtomicUsize, Ordering};
 use std::thread::Threads;
-use text_calls::{byte_at, named, push_gaps_after};
+use text_calls::{named, push_gaps_after};
 
 /// What becomes of a question, by its name.
 const ANSWERS: [(&[u8], Option<SolveFault>); 3] = [
@@ -71,8 +71,7 @@ pub fn push_lacking<R: Threads + Wait + Sync>(
     printed: &mut String,
 ) -> Result<(), PlaceRefusal> {
     let lacking = new_lacking(alloc, table, words)?;
-    let workers = byte_at(words, 0)?;
-    let set = set_by(rt, alloc, call, table, &lacking, workers)?;
+    let set = set_by(rt, alloc, call, table, &lacking, words)?;
     push_gaps_after("set", &set, printed)?;
     Ok(printed.push('\n')?)
 }

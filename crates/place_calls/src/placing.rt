@@ -3,7 +3,7 @@ ghost use Rattle.std.specs.Prelude.{◌≡◌, false, IfOk};
 
 use crate::refusal::PlaceRefusal;
 use cover_solver::{Oracle, SeqTable, SolveFault, Solver, Verdict};
-use fence_place::{Placed, hunt_with, place};
+use fence_place::{PlaceFault, Placed, hunt_with, place};
 use gap_sets::{Costs, GapSet};
 use solver_calls::equal_costs;
 use std::alloc::{AllocError, Global};
@@ -44,28 +44,55 @@ pub enum PlacerCall {
     Hunt,
 }
 
-/// The best set of gaps, each of which costs 1, as a number of workers find it.
+/// The set that is placed.
+fn placed_set<R: Threads + Wait + Sync, O: Oracle>(
+    rt: &R,
+    alloc: Global,
+    oracle: &O,
+    table: &SeqTable,
+    costs: &Costs,
+    workers: u8,
+) -> Result<GapSet, PlaceFault>
+    requires question { O.question oracle.now ≡ table.now.question }
+    requires may { O.may_be_asked oracle.now }
+{
+    let placed = place(rt, alloc, oracle, table, costs, workers)?;
+    Ok(placed.set)
+}
+
+/// The set that one hunt finds, without another search where it does not close.
+fn hunted_set<R: Threads + Wait + Sync, O: Oracle>(
+    rt: &R,
+    alloc: Global,
+    oracle: &O,
+    table: &SeqTable,
+    costs: &Costs,
+    workers: u8,
+) -> Result<GapSet, PlaceFault>
+    requires question { O.question oracle.now ≡ table.now.question }
+    requires may { O.may_be_asked oracle.now }
+{
+    let finished = hunt_with(rt, alloc, oracle, table, costs, workers)?;
+    Ok(finished.served().set())
+}
+
+/// The best set of gaps, each of which costs 1, as workers find it: the first word is their number.
 pub fn set_by<R: Threads + Wait + Sync, O: Oracle>(
     rt: &R,
     alloc: Global,
     call: PlacerCall,
     table: &SeqTable,
     oracle: &O,
-    workers: u8,
+    words: &[&[u8]],
 ) -> Result<GapSet, PlaceRefusal>
     requires question { O.question oracle.now ≡ table.now.question }
     requires may { O.may_be_asked oracle.now }
 {
+    let workers = byte_at(words, 0)?;
     let costs = equal_costs(alloc, table)?;
     match call {
-        PlacerCall::Place => {
-            let placed = place(rt, alloc, oracle, table, &costs, workers)?;
-            Ok(placed.set)
-        }
-        PlacerCall::Hunt => {
-            let finished = hunt_with(rt, alloc, oracle, table, &costs, workers)?;
-            Ok(finished.served().set())
-        }
+        PlacerCall::Place => Ok(placed_set(rt, alloc, oracle, table, &costs, workers)?),
+        PlacerCall::Hunt => Ok(hunted_set(rt, alloc, oracle, table, &costs, workers)?),
     }
 }
 
@@ -118,6 +145,21 @@ fn placed_by<R: Threads + Wait + Sync>(
     Ok(place(rt, alloc, solver, table, &costs, workers)?)
 }
 
+/// The lines of what is placed by this solver.
+fn push_placed_by<R: Threads + Wait + Sync>(
+    rt: &R,
+    alloc: Global,
+    table: &SeqTable,
+    solver: &Counting,
+    words: &[&[u8]],
+    printed: &mut String,
+) -> Result<(), PlaceRefusal>
+    requires { solver.now.solver.question ≡ table.now.question }
+{
+    let placed = placed_by(rt, alloc, table, solver, words)?;
+    Ok(push_lines(&placed, solver, printed)?)
+}
+
 /// Places fences, and says how many sets the solver was asked about.
 pub fn push_placed<R: Threads + Wait + Sync>(
     rt: &R,
@@ -127,12 +169,10 @@ pub fn push_placed<R: Threads + Wait + Sync>(
     printed: &mut String,
 ) -> Result<(), PlaceRefusal> {
     let solver = new_counting(alloc, table)?;
-    let placed = placed_by(rt, alloc, table, &solver, words)?;
-    Ok(push_lines(&placed, &solver, printed)?)
+    push_placed_by(rt, alloc, table, &solver, words, printed)
 }
 
-/// What one hunt finds, without another search where it does not close: the first word is the number of workers, and the
-/// costs of the gaps may follow.
+/// What one hunt finds by this solver: the first word is the number of workers, and the costs of the gaps may follow.
 fn hunted_with<R: Threads + Wait + Sync>(
     rt: &R,
     alloc: Global,
@@ -144,8 +184,18 @@ fn hunted_with<R: Threads + Wait + Sync>(
 {
     let workers = byte_at(words, 0)?;
     let costs = costs_of(alloc, table, words)?;
-    let finished = hunt_with(rt, alloc, solver, table, &costs, workers)?;
-    Ok(finished.served().set())
+    Ok(hunted_set(rt, alloc, solver, table, &costs, workers)?)
+}
+
+/// The same, by a solver of the table.
+fn hunted<R: Threads + Wait + Sync>(
+    rt: &R,
+    alloc: Global,
+    table: &SeqTable,
+    words: &[&[u8]],
+) -> Result<GapSet, PlaceRefusal> {
+    let solver = Solver::new(alloc, table.program(), table)?;
+    hunted_with(rt, alloc, table, &solver, words)
 }
 
 /// The set that one hunt finds.
@@ -156,8 +206,7 @@ pub fn push_hunted_with<R: Threads + Wait + Sync>(
     words: &[&[u8]],
     printed: &mut String,
 ) -> Result<(), PlaceRefusal> {
-    let solver = Solver::new(alloc, table.program(), table)?;
-    let set = hunted_with(rt, alloc, table, &solver, words)?;
+    let set = hunted(rt, alloc, table, words)?;
     push_gaps_after("set", &set, printed)?;
     Ok(printed.push('\n')?)
 }

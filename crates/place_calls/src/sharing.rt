@@ -14,7 +14,7 @@ use std::alloc::{AllocError, Global};
 use std::sync::Wait;
 use std::sync::atomic::{AtomicU64, Ordering};
 use std::thread::Threads;
-use text_calls::{byte_at, labels_from, place_of_then, push_gaps_after};
+use text_calls::{labels_from, place_of_then, push_gaps_after};
 
 /// A solver, two runs by which it answers where they pass no gap of the set, and how many questions each answered.
 #[derive(Drop)]
@@ -107,7 +107,6 @@ pub fn push_shared<R: Threads + Wait + Sync>(
     printed: &mut String,
 ) -> Result<(), PlaceRefusal> {
     let runs = new_runs(alloc, table, words)?;
-    let workers = byte_at(words, 0)?;
-    let set = set_by(rt, alloc, call, table, &runs, workers)?;
+    let set = set_by(rt, alloc, call, table, &runs, words)?;
     Ok(push_lines(&set, &runs, printed)?)
 }

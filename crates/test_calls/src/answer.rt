@@ -2,8 +2,9 @@
 
 use crate::calls::{CALLS, Call, TableCall};
 use crate::refusal::Refusal;
+use cover_solver::SeqTable;
 use hunt_calls::{push_exchanged, push_of_hunt};
-use litmus_text::{Litmus, read_litmus};
+use litmus_text::{Litmus, NameTable, read_litmus};
 use place_calls::push_of_place;
 use solver_calls::{options, push_of_solver, push_sketch, table_of};
 use std::alloc::{AllocError, Global};
@@ -15,8 +16,32 @@ use tso_program::Program;
 /// So many bytes are printed without another allocation.
 const ROOM: usize = 4_096;
 
-/// The answer to a call with the sequential outcomes of a test.
+/// A program's names and its sequential outcomes.
+#[derive(Clone, Copy)]
+struct Test<'a> {
+    names: &'a NameTable,
+    table: &'a SeqTable,
+}
+
+/// The answer to a call with these outcomes.
 fn push_of_test<R: Threads + Wait + Sync>(
+    rt: &R,
+    alloc: Global,
+    call: TableCall,
+    words: &[&[u8]],
+    test: &Test<'_>,
+    printed: &mut String,
+) -> Result<(), Refusal> {
+    let Test { names, table } = *test;
+    match call {
+        TableCall::Solver(call) => Ok(push_of_solver(alloc, call, words, names, table, printed)?),
+        TableCall::Hunt(call) => Ok(push_of_hunt(rt, alloc, call, words, table, printed)?),
+        TableCall::Place(call) => Ok(push_of_place(rt, alloc, call, words, table, printed)?),
+    }
+}
+
+/// The answer to a call with the sequential outcomes of a program, of which the first word may say what is shown.
+fn push_of_program<R: Threads + Wait + Sync>(
     rt: &R,
     alloc: Global,
     call: TableCall,
@@ -25,12 +50,12 @@ fn push_of_test<R: Threads + Wait + Sync>(
     printed: &mut String,
 ) -> Result<(), Refusal> {
     let (kind, words) = options(words);
-    let (names, table) = (&litmus.names, table_of(alloc, litmus, kind)?);
-    match call {
-        TableCall::Solver(call) => Ok(push_of_solver(alloc, call, words, names, &table, printed)?),
-        TableCall::Hunt(call) => Ok(push_of_hunt(rt, alloc, call, words, &table, printed)?),
-        TableCall::Place(call) => Ok(push_of_place(rt, alloc, call, words, &table, printed)?),
-    }
+    let table = table_of(alloc, litmus, kind)?;
+    let test = Test {
+        names: &litmus.names,
+        table: &table,
+    };
+    push_of_test(rt, alloc, call, words, &test, printed)
 }
 
 /// The answer to a call with the sequential outcomes of a litmus text.
@@ -43,7 +68,7 @@ fn push_of_table<R: Threads + Wait + Sync>(
     printed: &mut String,
 ) -> Result<(), Refusal> {
     let litmus = read_litmus(alloc, text)?;
-    push_of_test(rt, alloc, call, words, &litmus, printed)
+    push_of_program(rt, alloc, call, words, &litmus, printed)
 }
 
 /// The answer to a call with a litmus text.
