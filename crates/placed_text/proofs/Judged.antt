@@ -1,11 +1,10 @@
 -- What is reported of texts, from what their parts are.
-use Rattle.placed_text.proofs.Vocabulary.{◌≡◌, ◌∙◌, ℕ, List, Option, Some, None, ap, length, subst, unwrap_or, length-replicate, Listing, Shown, asked, shown_as, question_of, gap_count, answer_line, IsPlacement, AreWrittenTexts, HasNoPlacedText, TellsWhy}
+use Rattle.placed_text.proofs.Vocabulary.{◌≡◌, ◌∙◌, ℕ, List, Option, Some, None, ap, length, subst, unwrap_or, length-replicate, Listing, Shown, asked, shown_as, question_of, gap_count, answer_line, certified, IsPlacement, AreWrittenTexts, HasNoPlacedText, TellsWhy}
 use Rattle.placed_text.proofs.Vocabulary.{Litmus, AreGiven, IsPlacedSource, IsPlacedText, HasNoProgram, HasNoCosts, HasNoPlacement, IsWhyText}
 use Rattle.std.proofs.lemmas.List.FromFn.{length-map-range_with_len}
 use Rattle.tso_program.specs.declared.shown.ShownKind.{ShownKind}
 use Rattle.litmus_text.specs.{Texts.IsLitmus, CostTexts.said_of}
-use Rattle.placed_text.specs.{declared.fault.TextFault.TextFault, declared.placing.PlacedSource.PlacedSource, declared.writing.CertifiedSet.CertifiedSet, declared.writing.PlacedText.PlacedText}
-use Rattle.cert_forest.specs.Texts.{certificate_text}
+use Rattle.placed_text.specs.{declared.fault.TextFault.TextFault, declared.placing.PlacedSource.PlacedSource, declared.writing.PlacedText.PlacedText}
 use Rattle.placed_text.specs.declared.fault.TextFault.TheVariants as fault
 
 -- each gap has a cost
@@ -19,14 +18,13 @@ module _ (litmus : List ℕ) (costs : Option (List ℕ)) where
   placement_of kind from is = subst (λ (shown : Shown). IsPlacement (asked from.source.program shown) from.costs from.found.placed) is.shown is.placement
 
   -- from what is written of it
-  pub placed_text : (kind : ShownKind) (from : PlacedSource) (certificate : List ℕ) (texts : PlacedText) → IsPlacedSource litmus costs kind from → certificate ≡ certificate_text from.found.placed.certificate
-      → AreWrittenTexts from.source from.shown from.costs (record { set = from.found.placed.set; cost = from.found.placed.cost; certificate = certificate }) texts → IsPlacedText litmus costs kind texts
-  placed_text kind from certificate texts of_texts spelled are_written =
+  pub placed_text : (kind : ShownKind) (from : PlacedSource) (texts : PlacedText) → IsPlacedSource litmus costs kind from
+      → AreWrittenTexts from.source from.shown from.costs (certified from.found.placed) texts → IsPlacedText litmus costs kind texts
+  placed_text kind from texts of_texts are_written =
       let source = from.source in
       let placed = from.found.placed in
-      let certified : CertifiedSet = record { set = placed.set; cost = placed.cost; certificate = certificate } in
       let is = placement_of kind from of_texts in
-      let written = subst (λ (shown : Shown). AreWrittenTexts source shown from.costs certified texts) of_texts.shown are_written in
+      let written = subst (λ (shown : Shown). AreWrittenTexts source shown from.costs (certified placed) texts) of_texts.shown are_written in
       record {
         source = source;
         of_text = of_texts.of_text;
@@ -40,7 +38,7 @@ module _ (litmus : List ℕ) (costs : Option (List ℕ)) where
         line = subst (λ (cost : ℕ). texts.answer.items ≡ answer_line source.program (shown_as source kind) placed.set cost) is.cost written.line;
         certificate = record {
           claimed = placed.certificate;
-          of_text = record { spelled = written.certificate ∙ spelled; within = is.proof.within };
+          of_text = record { spelled = written.certificate; within = is.proof.within };
           claims = is.same_set;
           valid = is.proof.valid;
         };

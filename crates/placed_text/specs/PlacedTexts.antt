@@ -16,6 +16,8 @@ use Rattle.cert_forest.specs.Certificates.{Certificate}
 use Rattle.cert_forest.specs.Limits.{IsCertificate}
 use Rattle.cover_solver.specs.Certificates.{IsValidCertificate}
 use Rattle.report.specs.Answers.{answer_line}
+use Rattle.cert_forest.specs.Texts.{certificate_text}
+use Rattle.fence_place.specs.declared.placing.Placed.{Placed}
 use Rattle.fence_place.specs.Placements.{IsPlacement}
 use Rattle.placed_text.specs.declared.placing.PlacedSource.{PlacedSource}
 use Rattle.placed_text.specs.declared.writing.CertifiedSet.{CertifiedSet}
@@ -55,6 +57,10 @@ pub record IsPlacedSource (litmus : List ℕ) (costs : Option (List ℕ)) (kind 
   pub shown : placed.shown ≡ shown_as placed.source kind
   pub solver : placed.found.solver.question ≡ asked placed.source.program placed.shown
   pub placement : IsPlacement (asked placed.source.program placed.shown) placed.costs placed.found.placed
+
+-- the set that is placed, with the text of its certificate
+abbrev pub certified : Placed → CertifiedSet
+certified placed = record { set = placed.set; cost = placed.cost; certificate = certificate_text placed.certificate }
 
 -- the texts of what is placed
 pub record AreWrittenTexts (source : Litmus Listing) (shown : Shown) (costs : List ℕ) (placed : CertifiedSet) (texts : PlacedText) : Type 0 where

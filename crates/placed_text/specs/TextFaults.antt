@@ -50,3 +50,7 @@ HasNoPlacedText litmus costs workers (fault.CostText why) = (source : Litmus Lis
 HasNoPlacedText litmus costs workers fault.Workers =
     (source : Litmus Listing) × (gap_costs : List ℕ) × IsLitmus litmus source × AreGiven source.program costs gap_costs × AreTooFewOrMany workers
 HasNoPlacedText litmus costs workers fault.OutOfMemory = ⊤
+
+-- Why there are no texts where each litmus text in question stands for this.
+abbrev pub HasNoTextOf : Litmus Listing → Option (List ℕ) → ℕ → TextFault → Type 0
+HasNoTextOf source costs workers why = (litmus : List ℕ) → IsLitmus litmus source → HasNoPlacedText litmus costs workers why

@@ -1,11 +1,14 @@
 //! Fences placed in the program of a text.
-ghost use Rattle.std.specs.Prelude.{◌≡◌, IfErr, IfOk, OnOk, length, option_map};
+ghost use Rattle.std.specs.Prelude.{◌≡◌, None, IfErr, IfOk, OnOk, length, option_map};
 ghost use Rattle.tso_program.specs.Listings.{gap_count};
+ghost use Rattle.tso_program.specs.Fences.{first_missing};
 ghost use Rattle.tso_program.specs.Shown.{asked};
+ghost use Rattle.litmus_text.specs.GivenCosts.{AreGiven};
+ghost use Rattle.litmus_text.specs.Shown.{shown_as};
 ghost use Rattle.fence_place.specs.Faults.{AreTooFewOrMany};
 ghost use Rattle.fence_place.specs.Placements.{IsPlacement};
-ghost use Rattle.placed_text.specs.PlacedTexts.{IsPlacedSource, IsPlacedText};
-ghost use Rattle.placed_text.specs.TextFaults.{HasNoPlacement, HasNoPlacedText};
+ghost use Rattle.placed_text.specs.PlacedTexts.{certified, AreWrittenTexts, IsPlacedSource, IsPlacedText};
+ghost use Rattle.placed_text.specs.TextFaults.{HasNoPlacement, HasNoPlacedText, HasNoTextOf};
 
 use crate::TextFault;
 use crate::ahead::report_ahead;
@@ -13,11 +16,11 @@ use crate::reading::{read_gap_costs, read_program, shown_of};
 use crate::watched::{Effort, Watched, report_outcomes};
 use crate::writing::{CertifiedSet, PlacedText, write_placed};
 use cert_pages::write_pages;
-use cover_solver::{SolveFault, Solver, sequential_watched};
+use cover_solver::{SeqTable, SolveFault, Solver, sequential_watched};
 use fence_place::{PlaceFault, Placed, place};
 use gap_sets::Costs;
 use litmus_text::Litmus;
-use std::alloc::Global;
+use std::alloc::{AllocError, Global};
 use std::sync::Wait;
 use std::sync::atomic::AtomicU64;
 use std::thread::Threads;
@@ -30,6 +33,14 @@ pub(crate) struct Found {
     pub(crate) solver: Solver,
 }
 
+/// The costs of a program's gaps, what is shown of its outcomes, and what is placed in it.
+#[derive(Drop)]
+struct PlacedIn {
+    costs: Costs,
+    shown: Shown,
+    found: Found,
+}
+
 /// What the texts stand for, what is shown of outcomes, and what is placed in the program.
 #[derive(Drop)]
 pub(crate) struct PlacedSource {
@@ -37,6 +48,60 @@ pub(crate) struct PlacedSource {
     pub(crate) costs: Costs,
     pub(crate) shown: Shown,
     pub(crate) found: Found,
+}
+
+/// Finds the best set of a program's gaps that serves, by a solver of its outcomes, and reports how many sets are asked about.
+fn placed_by<R: Threads + Wait + Sync>(
+    rt: &R,
+    alloc: Global,
+    solver: &Solver,
+    table: &SeqTable,
+    costs: &Costs,
+    effort: Effort,
+) -> Result<Placed, TextFault>
+    requires question { solver.now.question ≡ table.now.question }
+    requires one_each { length costs.now ≡ gap_count table.now.question.program.threads }
+    ensures placed { IfOk result (IsPlacement table.now.question costs.now) }
+    ensures workers { OnOk result (¬ AreTooFewOrMany effort.workers) }
+    ensures fault { IfErr result (HasNoPlacement effort.workers) }
+{
+    let watched = Watched {
+        rt,
+        solver,
+        costs,
+        alloc,
+        effort,
+        asked: AtomicU64::new(0),
+    };
+    match place(rt, alloc, &watched, table, costs, effort.workers) {
+        Ok(placed) => Ok(placed),
+        Err(PlaceFault::OutOfMemory) => Err(TextFault::OutOfMemory),
+        Err(PlaceFault::Workers) => Err(TextFault::Workers),
+        Err(PlaceFault::Costs | PlaceFault::NotCertified | PlaceFault::Board) => unreachable!(),
+    }
+}
+
+/// What is placed in a program of which this is the table, by a solver of the table.
+fn found_by<R: Threads + Wait + Sync>(
+    rt: &R,
+    alloc: Global,
+    program: &Program,
+    table: &SeqTable,
+    costs: &Costs,
+    effort: Effort,
+) -> Result<Found, TextFault>
+    requires program { table.now.question.program ≡ program.now }
+    requires one_each { length costs.now ≡ gap_count table.now.question.program.threads }
+    ensures placed { IfOk result (λ found. IsPlacement table.now.question costs.now found.placed) }
+    ensures solver { IfOk result (λ found. found.solver.question ≡ table.now.question) }
+    ensures workers { OnOk result (¬ AreTooFewOrMany effort.workers) }
+    ensures fault { IfErr result (HasNoPlacement effort.workers) }
+{
+    let Ok(solver) = Solver::new(alloc, program, table) else {
+        return Err(TextFault::OutOfMemory);
+    };
+    let placed = placed_by(rt, alloc, &solver, table, costs, effort)?;
+    Ok(Found { placed, solver })
 }
 
 /// Finds the best set of a program's gaps that serves, by a solver of its own, and reports how far it is.
@@ -62,27 +127,35 @@ fn place_gaps<R: Threads + Wait + Sync>(
     };
     let progress = ahead.progress();
     report_outcomes(alloc, progress, table.outcomes().len());
-    let Ok(solver) = Solver::new(alloc, program, &table) else {
-        return Err(TextFault::OutOfMemory);
-    };
     let workers = effort.workers;
-    let placed = {
-        let watched = Watched {
-            rt,
-            solver: &solver,
-            costs,
-            alloc,
-            effort: Effort { workers, progress },
-            asked: AtomicU64::new(0),
-        };
-        place(rt, alloc, &watched, &table, costs, workers)
-    };
-    match placed {
-        Ok(placed) => Ok(Found { placed, solver }),
-        Err(PlaceFault::OutOfMemory) => Err(TextFault::OutOfMemory),
-        Err(PlaceFault::Workers) => Err(TextFault::Workers),
-        Err(PlaceFault::Costs | PlaceFault::NotCertified | PlaceFault::Board) => unreachable!(),
-    }
+    let effort = Effort { workers, progress };
+    found_by(rt, alloc, program, &table, costs, effort)
+}
+
+/// Reads costs of the gaps of a litmus text's program, and finds what is placed in it.
+fn placed_in<R: Threads + Wait + Sync>(
+    rt: &R,
+    alloc: Global,
+    source: &Litmus<Program>,
+    costs: Option<&[u8]>,
+    kind: ShownKind,
+    effort: Effort,
+) -> Result<PlacedIn, TextFault>
+    ensures given { IfOk result (λ placed. AreGiven source.now.program (option_map (λ text. text.now) costs.entry) placed.costs) }
+    ensures shown { IfOk result (λ placed. placed.shown ≡ shown_as source.now kind) }
+    ensures solver { IfOk result (λ placed. placed.found.solver.question ≡ asked source.now.program placed.shown) }
+    ensures placement { IfOk result (λ placed. IsPlacement (asked source.now.program placed.shown) placed.costs placed.found.placed) }
+    ensures workers { OnOk result (¬ AreTooFewOrMany effort.workers) }
+    ensures fault { IfErr result (HasNoTextOf source.now (option_map (λ text. text.now) costs.entry) effort.workers) }
+{
+    let costs = read_gap_costs(alloc, costs, &source.program)?;
+    let shown = shown_of(source, kind)?;
+    let found = place_gaps(rt, alloc, &source.program, &shown, &costs, effort)?;
+    Ok(PlacedIn {
+        costs,
+        shown,
+        found,
+    })
 }
 
 /// Reads a litmus text and costs, and finds what [`place_text`] writes and [`crate::why_text`] explains.
@@ -99,15 +172,64 @@ pub(crate) fn placed_source<R: Threads + Wait + Sync>(
     ensures fault { IfErr result (HasNoPlacedText litmus.now (option_map (λ text. text.now) costs.entry) effort.workers) }
 {
     let source = read_program(alloc, litmus)?;
-    let costs = read_gap_costs(alloc, costs, &source.program)?;
-    let shown = shown_of(&source, kind)?;
-    let found = place_gaps(rt, alloc, &source.program, &shown, &costs, effort)?;
+    let placed = placed_in(rt, alloc, &source, costs, kind, effort)?;
+    let PlacedIn {
+        costs,
+        shown,
+        found,
+    } = placed;
     Ok(PlacedSource {
         source,
         costs,
         shown,
         found,
     })
+}
+
+/// The set that is placed, with the text of its certificate.
+fn certified_set<R: Threads + Wait + Sync>(
+    rt: &R,
+    alloc: Global,
+    workers: u8,
+    found: Found,
+) -> Result<CertifiedSet, AllocError>
+    ensures { IfOk result (λ made. made ≡ certified found.placed) }
+{
+    // What the solver keeps is as large as a tree of the certificate: it goes before the text is made.
+    let Found { placed, solver } = found;
+    drop(solver);
+    let Placed {
+        set,
+        cost,
+        certificate,
+    } = placed;
+    let threads = usize::from(workers.max(1));
+    let certificate = write_pages(rt, alloc, threads, certificate)?;
+    Ok(CertifiedSet {
+        set,
+        cost,
+        certificate,
+    })
+}
+
+/// The texts of what is placed in a program.
+fn placed_texts<R: Threads + Wait + Sync>(
+    rt: &R,
+    alloc: Global,
+    workers: u8,
+    placed: PlacedSource,
+) -> Result<PlacedText, AllocError>
+    requires { first_missing placed.source.program placed.found.placed.set ≡ None }
+    ensures { IfOk result (AreWrittenTexts placed.source placed.shown placed.costs (certified placed.found.placed)) }
+{
+    let PlacedSource {
+        source,
+        costs,
+        shown,
+        found,
+    } = placed;
+    let certified = certified_set(rt, alloc, workers, found)?;
+    write_placed(alloc, &source, &shown, &costs, certified)
 }
 
 /// Places fences in the program of a litmus text, where its gaps cost what a text of costs says, and 1
@@ -129,30 +251,7 @@ pub fn place_text<R: Threads + Wait + Sync>(
     ensures fault { IfErr result (HasNoPlacedText litmus.now (option_map (λ text. text.now) costs.entry) effort.workers) }
 {
     let placed = placed_source(rt, alloc, litmus, costs, kind, effort)?;
-    let PlacedSource {
-        source,
-        costs,
-        shown,
-        found,
-    } = placed;
-    // What the solver keeps is as large as a tree of the certificate: it goes before the text is made.
-    let Found { placed, solver } = found;
-    drop(solver);
-    let Placed {
-        set,
-        cost,
-        certificate,
-    } = placed;
-    let threads = usize::from(effort.workers.max(1));
-    let Ok(certificate) = write_pages(rt, alloc, threads, certificate) else {
-        return Err(TextFault::OutOfMemory);
-    };
-    let certified = CertifiedSet {
-        set,
-        cost,
-        certificate,
-    };
-    match write_placed(alloc, &source, &shown, &costs, certified) {
+    match placed_texts(rt, alloc, effort.workers, placed) {
         Ok(texts) => Ok(texts),
         Err(_) => Err(TextFault::OutOfMemory),
     }
