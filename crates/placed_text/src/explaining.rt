@@ -153,6 +153,20 @@ fn explained(alloc: Global, placed: &PlacedSource) -> Result<WhyText, AllocError
     })
 }
 
+/// What is said of the answer, where memory suffices.
+fn told(alloc: Global, placed: &PlacedSource) -> Result<WhyText, TextFault>
+    requires question { placed.now.found.solver.question ≡ asked placed.now.source.program placed.now.shown }
+    requires answer { IsTheAnswer placed.now.found.solver.question placed.now.costs placed.now.found.placed.set }
+    requires one_each { length placed.now.costs ≡ gap_count placed.now.found.solver.question.program.threads }
+    ensures told { IfOk result (λ told. TellsWhy placed.now.source placed.now.shown placed.now.costs placed.now.found.placed.set (answer_line placed.now.source.program placed.now.shown placed.now.found.placed.set placed.now.found.placed.cost) told.lines.items told.document.items) }
+    ensures fault { IfErr result (λ why. why ≡ TextFault.OutOfMemory) }
+{
+    match explained(alloc, placed) {
+        Ok(reasons) => Ok(reasons),
+        Err(_) => Err(TextFault::OutOfMemory),
+    }
+}
+
 /// Places fences in the program of a litmus text as [`crate::place_text`] does, and says why each of them is
 /// needed: after the answer line, for each gap of the answer a run with the other gaps fenced, whose outcome no
 /// sequential run has. The graph has these runs, and the document says what the lines say.
@@ -169,8 +183,7 @@ pub fn why_text<R: Threads + Wait + Sync>(
     ensures fault { IfErr result (HasNoPlacedText litmus.now (option_map (λ text. text.now) costs.entry) effort.workers) }
 {
     let placed = placed_source(rt, alloc, litmus, costs, kind, effort)?;
-    match explained(alloc, &placed) {
-        Ok(reasons) => Ok(reasons),
-        Err(_) => Err(TextFault::OutOfMemory),
-    }
+    let reasons = told(alloc, &placed);
+    drop(placed);
+    reasons
 }
