@@ -58,17 +58,11 @@ fn add_message(
 ) -> Result<(), AllocError>
     ensures { OnOk result (AddsMembers object.old object.new) }
 {
-    let file = string_or_null(alloc, message.file)?;
-    let line = number_or_null(alloc, message.line)?;
-    let column = number_or_null(alloc, message.column)?;
-    let word = string_or_null(alloc, message.word)?;
-    let text = string_or_null(alloc, message.text)?;
-    object.add("file", file)?;
-    object.add("line", line)?;
-    object.add("column", column)?;
-    object.add("word", word)?;
-    object.add("message", text)?;
-    Ok(())
+    object.add("file", string_or_null(alloc, message.file)?)?;
+    object.add("line", number_or_null(alloc, message.line)?)?;
+    object.add("column", number_or_null(alloc, message.column)?)?;
+    object.add("word", string_or_null(alloc, message.word)?)?;
+    object.add("message", string_or_null(alloc, message.text)?)
 }
 
 /// The document of a refusal: the line of standard output without `refused ` and its end, and the parts of what is said about it.
