@@ -3,7 +3,7 @@
 use crate::named::{location, number};
 use json_text::{JsonArray, JsonObject, JsonText};
 use litmus_text::{Litmus, NameTable};
-use run_views::{Edge, Event, Relation, candidate_of};
+use run_views::{Candidate, Edge, Event, Relation, candidate_of};
 use std::alloc::{AllocError, Global};
 use tso_machine::Step;
 use tso_program::Program;
@@ -69,6 +69,21 @@ fn add_relation(
     object.add(relation.name(), pairs(alloc, names, edges, relation)?)
 }
 
+/// Adds the edges of each relation, and the cycle.
+fn add_candidate(
+    alloc: Global,
+    object: &mut JsonObject,
+    names: &NameTable,
+    candidate: &Candidate,
+) -> Result<(), AllocError> {
+    let edges = &candidate.edges;
+    add_relation(alloc, object, names, edges, Relation::ProgramOrder)?;
+    add_relation(alloc, object, names, edges, Relation::ReadsFrom)?;
+    add_relation(alloc, object, names, edges, Relation::Coherence)?;
+    add_relation(alloc, object, names, edges, Relation::FromReads)?;
+    object.add("cycle", stages(alloc, names, &candidate.cycle)?)
+}
+
 /// The candidate execution of the steps of a run, with the cycle that the run's graph has.
 pub(crate) fn execution_value(
     alloc: Global,
@@ -77,13 +92,7 @@ pub(crate) fn execution_value(
     gap: Option<u8>,
 ) -> Result<JsonText, AllocError> {
     let candidate = candidate_of(alloc, litmus, steps, gap)?;
-    let names = &litmus.names;
-    let edges = &candidate.edges;
     let mut object = JsonObject::new(alloc);
-    add_relation(alloc, &mut object, names, edges, Relation::ProgramOrder)?;
-    add_relation(alloc, &mut object, names, edges, Relation::ReadsFrom)?;
-    add_relation(alloc, &mut object, names, edges, Relation::Coherence)?;
-    add_relation(alloc, &mut object, names, edges, Relation::FromReads)?;
-    object.add("cycle", stages(alloc, names, &candidate.cycle)?)?;
+    add_candidate(alloc, &mut object, &litmus.names, &candidate)?;
     object.into_json()
 }
