@@ -1,7 +1,7 @@
 -- What many proofs of this crate speak of, imported once.
 pub use Rattle.std.proofs.Common.{List, [], ap, append_assoc, arith, codes, get_or, map, refl, subst, sym, take, ℕ, ◌++◌, ◌∙◌, ◌∷◌, ◌≡◌}
 pub use Rattle.std.proofs.lemmas.List.{map-append, map_more}
-pub use Rattle.std.proofs.lemmas.Result.{IfOk-weaker}
+pub use Rattle.std.proofs.lemmas.Result.{IfOk-weaker, on_ok_weaker}
 pub use Rattle.std.specs.List.{flat_map, range_with_len}
 pub use Rattle.std.specs.Prelude.{slice_index}
 pub use Rattle.json_text.specs.Texts.{array_text, member, object_text, quoted, truth_text}
@@ -13,6 +13,5 @@ pub use Rattle.tso_machine.specs.declared.stepping.Step.{Step}
 pub use Rattle.tso_program.specs.declared.listing.Listing.{Listing}
 pub use Rattle.documents.specs.Documents.{IsDocument, TellsHeading, document_of}
 pub use Rattle.documents.specs.Parts.{gap_value, gaps_array, is_observed, location_value, location_values, outcome_array, outcomes_array, quoted_gap, register_value, register_values, thread_values}
-pub use Rattle.documents.specs.Runs.{HasLabel, HaveLabels, labels_array, setting_member, step_text}
+pub use Rattle.documents.specs.Runs.{HasLabel, HaveLabels, StepPart, labels_array, setting_member, step_text}
 pub use Rattle.documents.specs.declared.run.Setting.TheVariants.{Machine}
-pub use Rattle.documents.specs.declared.step.StepPart.{StepPart}

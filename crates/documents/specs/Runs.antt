@@ -1,5 +1,5 @@
 -- What documents say of runs.
-use Rattle.std.specs.Prelude.{◌≡◌, ℕ, List, [], ◌∷◌, codes, map}
+use Rattle.std.specs.Prelude.{◌≡◌, ℕ, List, [], ◌∷◌, ◌++◌, codes, map}
 use Rattle.gap_sets.specs.Gaps.{SetOfGaps}
 use Rattle.tso_program.specs.declared.listing.Listing.{Listing}
 use Rattle.tso_program.specs.declared.outcome.Outcome.{Outcome}
@@ -12,19 +12,44 @@ use Rattle.tso_program.specs.Truth.{truth}
 use Rattle.report.specs.Litmus.{Litmus}
 use Rattle.json_text.specs.Texts.{quoted, array_text, member, object_text, truth_text}
 use Rattle.documents.specs.declared.run.Setting.{Setting, TheVariants.Without, TheVariants.Machine}
-use Rattle.documents.specs.declared.step.StepPart.{StepPart}
 use Rattle.documents.specs.Parts.{quoted_gap, gaps_array, outcome_array}
 
 -- ---- steps
 
+-- what is said of a step
+pub record StepPart : Type 0 where
+  pub label : List ℕ
+  pub instruction : List ℕ
+  pub reads : List ℕ
+  pub stores : List ℕ
+  pub reaches : List ℕ
+  pub buffer : List ℕ
+  pub memory : List ℕ
+  pub registers : List ℕ
+
+abbrev pub step_members : StepPart → List (List ℕ)
+step_members part =
+    member (codes "label") part.label ∷ member (codes "instruction") part.instruction ∷ member (codes "reads") part.reads ∷ member (codes "stores") part.stores
+    ∷ member (codes "reaches") part.reaches ∷ member (codes "buffer") part.buffer ∷ member (codes "memory") part.memory ∷ member (codes "registers") part.registers ∷ []
+
 abbrev pub step_text : StepPart → List ℕ
-step_text part =
-    object_text (member (codes "label") part.label ∷ member (codes "instruction") part.instruction ∷ member (codes "reads") part.reads ∷ member (codes "stores") part.stores
-    ∷ member (codes "reaches") part.reaches ∷ member (codes "buffer") part.buffer ∷ member (codes "memory") part.memory ∷ member (codes "registers") part.registers ∷ [])
+step_text part = object_text (step_members part)
 
 -- a step with this label
 abbrev pub HasLabel : Label → StepPart → Type 0
 HasLabel label part = part.label ≡ quoted (spelling label)
+
+-- the second members are the first and those of a step with this label
+pub record AddsStep (label : Label) (before after : List (List ℕ)) : Type 0 where
+  pub part : StepPart
+  pub has : HasLabel label part
+  pub added : after ≡ before ++ step_members part
+
+-- the text is that of a step with this label
+pub record TellsStep (label : Label) (text : List ℕ) : Type 0 where
+  pub part : StepPart
+  pub has : HasLabel label part
+  pub printed : text ≡ step_text part
 
 -- a step for each label
 abbrev pub HaveLabels : List Label → List StepPart → Type 0
@@ -56,6 +81,12 @@ abbrev pub setting_member : Listing → Setting → List ℕ
 setting_member p (Without gap) = member (codes "without") (quoted_gap p.threads gap)
 setting_member p (Machine model) = member (codes "model") (quoted (model_name model))
 
+-- what a run leaves as far as it is shown, whether that meets the condition's formula, and the gaps that the run passes
+abbrev pub ended_members : Litmus Listing → Shown → Outcome → SetOfGaps → List (List ℕ)
+ended_members source shown outcome passed =
+    member (codes "outcome") (outcome_array source.names shown outcome) ∷ member (codes "meets_condition") (truth_text (truth outcome source.condition.formula))
+    ∷ member (codes "passed") (gaps_array source.program.threads passed) ∷ []
+
 -- The text of a run: which one it is, a step for each of its labels, what is shown of what it leaves, whether that meets the
 -- condition's formula, the gaps that it passes, and its candidate execution.
 pub record TellsRun (source : Litmus Listing) (shown : Shown) (setting : Setting) (labels : List Label) (outcome : Outcome) (passed : SetOfGaps) (text : List ℕ) : Type 0 where
@@ -63,5 +94,4 @@ pub record TellsRun (source : Litmus Listing) (shown : Shown) (setting : Setting
   pub each : TellsSteps labels steps
   pub execution : List ℕ
   pub printed : text ≡ object_text (setting_member source.program setting ∷ member (codes "steps") steps
-      ∷ member (codes "outcome") (outcome_array source.names shown outcome) ∷ member (codes "meets_condition") (truth_text (truth outcome source.condition.formula))
-      ∷ member (codes "passed") (gaps_array source.program.threads passed) ∷ member (codes "execution") execution ∷ [])
+      ∷ (ended_members source shown outcome passed ++ member (codes "execution") execution ∷ []))

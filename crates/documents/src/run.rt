@@ -1,7 +1,7 @@
 //! Runs.
 ghost use Rattle.std.specs.Prelude.{◌≡◌, ◌++◌, ◌∷◌, [], IfOk, OnOk, map};
 ghost use Rattle.tso_program.specs.declared.listing.Listing.{Listing};
-ghost use Rattle.documents.specs.Runs.{model_name, setting_member, TellsRun};
+ghost use Rattle.documents.specs.Runs.{ended_members, model_name, setting_member, TellsRun};
 
 use crate::execution::execution_value;
 use crate::named::{gap_name, gap_names};
@@ -69,6 +69,27 @@ fn add_setting(
     }
 }
 
+/// Adds what a run leaves as far as it is shown, whether that meets the condition's formula, and the gaps that the run
+/// passes.
+fn add_ended(
+    alloc: Global,
+    object: &mut JsonObject,
+    litmus: &Litmus<Program>,
+    shown: &Shown,
+    ended: &Ended,
+) -> Result<(), AllocError>
+    ensures { OnOk result (object.new ≡ object.old ++ ended_members litmus.now shown.now ended.now.outcome ended.now.passed) }
+{
+    let outcome = &ended.outcome;
+    let meets = holds(&litmus.condition, outcome);
+    object.add(
+        "outcome",
+        outcome_array(alloc, &litmus.names, shown, outcome)?,
+    )?;
+    object.add("meets_condition", JsonText::truth(alloc, meets)?)?;
+    object.add("passed", gap_names(alloc, &litmus.program, &ended.passed)?)
+}
+
 /// What is said of a run of a litmus text's program: its steps, what it leaves as far as it is shown, whether that meets
 /// the condition's formula, the gaps that it passes, and its candidate execution.
 pub fn run_value(
@@ -81,17 +102,11 @@ pub fn run_value(
 ) -> Result<JsonText, AllocError>
     ensures { IfOk result (TellsRun litmus.now shown.now setting (map (λ step. step.label) steps.now) ended.now.outcome ended.now.passed) }
 {
-    let each = steps_array(alloc, litmus, steps)?;
-    let outcome = outcome_array(alloc, &litmus.names, shown, &ended.outcome)?;
-    let meets = JsonText::truth(alloc, holds(&litmus.condition, &ended.outcome))?;
-    let passed = gap_names(alloc, &litmus.program, &ended.passed)?;
-    let execution = execution_value(alloc, litmus, steps, setting.gap())?;
     let mut object = JsonObject::new(alloc);
     add_setting(alloc, &mut object, &litmus.program, setting)?;
-    object.add("steps", each)?;
-    object.add("outcome", outcome)?;
-    object.add("meets_condition", meets)?;
-    object.add("passed", passed)?;
+    object.add("steps", steps_array(alloc, litmus, steps)?)?;
+    add_ended(alloc, &mut object, litmus, shown, ended)?;
+    let execution = execution_value(alloc, litmus, steps, setting.gap())?;
     object.add("execution", execution)?;
     object.into_json()
 }

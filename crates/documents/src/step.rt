@@ -1,6 +1,6 @@
 //! The steps of a run.
-ghost use Rattle.std.specs.Prelude.{◌≡◌, IfOk, map};
-ghost use Rattle.documents.specs.Runs.{step_text, HasLabel, TellsSteps};
+ghost use Rattle.std.specs.Prelude.{IfOk, OnOk, map};
+ghost use Rattle.documents.specs.Runs.{AddsStep, TellsStep, TellsSteps};
 
 use crate::label::label_text;
 use crate::named::located;
@@ -11,19 +11,6 @@ use run_views::{action_of, waits, written};
 use std::alloc::{AllocError, Global};
 use tso_machine::{Label, Pending, Step};
 use tso_program::{Action, Program};
-
-/// What is said of a step.
-#[derive(Drop)]
-pub(crate) struct StepPart {
-    label: JsonText,
-    instruction: JsonText,
-    reads: JsonText,
-    stores: JsonText,
-    reaches: JsonText,
-    buffer: JsonText,
-    memory: JsonText,
-    registers: JsonText,
-}
 
 /// The number of the instruction that a step executes, if it executes one.
 fn instruction(alloc: Global, step: &Step) -> Result<JsonText, AllocError> {
@@ -94,61 +81,42 @@ fn buffer(alloc: Global, names: &NameTable, waiting: &[Pending]) -> Result<JsonT
     array.into_json()
 }
 
-/// What is said of a step, after which memory holds this.
-fn step_part(
+/// Adds what is said of a step, after which memory holds this.
+fn add_step(
     alloc: Global,
+    object: &mut JsonObject,
     litmus: &Litmus<Program>,
     step: &Step,
     memory: &[u32],
-) -> Result<StepPart, AllocError>
-    ensures { IfOk result (HasLabel step.now.label) }
+) -> Result<(), AllocError>
+    ensures { OnOk result (AddsStep step.now.label object.old object.new) }
 {
     let names = &litmus.names;
     let after = &step.after;
     let thread = step.label.thread() as usize;
-    let label = label_text(alloc, step.label)?;
-    let instruction = instruction(alloc, step)?;
-    let reads = reads(alloc, litmus, step)?;
-    let stores = stores(alloc, litmus, step)?;
-    let reaches = reaches(alloc, names, written(&litmus.program, step))?;
-    let buffer = buffer(alloc, names, after.waiting.as_slice())?;
-    let memory = values(alloc, memory)?;
-    let registers = register_values(alloc, names, thread, after.local.registers)?;
-    Ok(StepPart {
-        label,
-        instruction,
-        reads,
-        stores,
-        reaches,
-        buffer,
-        memory,
-        registers,
-    })
+    let reached = written(&litmus.program, step);
+    let held = after.local.registers;
+    object.add("label", label_text(alloc, step.label)?)?;
+    object.add("instruction", instruction(alloc, step)?)?;
+    object.add("reads", reads(alloc, litmus, step)?)?;
+    object.add("stores", stores(alloc, litmus, step)?)?;
+    object.add("reaches", reaches(alloc, names, reached)?)?;
+    object.add("buffer", buffer(alloc, names, after.waiting.as_slice())?)?;
+    object.add("memory", values(alloc, memory)?)?;
+    object.add("registers", register_values(alloc, names, thread, held)?)
 }
 
-/// The step's object.
-fn step_text(alloc: Global, part: StepPart) -> Result<JsonText, AllocError>
-    ensures { IfOk result (λ json. json ≡ step_text part) }
+/// The object of a step, after which memory holds this.
+fn step_value(
+    alloc: Global,
+    litmus: &Litmus<Program>,
+    step: &Step,
+    memory: &[u32],
+) -> Result<JsonText, AllocError>
+    ensures { IfOk result (TellsStep step.now.label) }
 {
-    let StepPart {
-        label,
-        instruction,
-        reads,
-        stores,
-        reaches,
-        buffer,
-        memory,
-        registers,
-    } = part;
     let mut object = JsonObject::new(alloc);
-    object.add("label", label)?;
-    object.add("instruction", instruction)?;
-    object.add("reads", reads)?;
-    object.add("stores", stores)?;
-    object.add("reaches", reaches)?;
-    object.add("buffer", buffer)?;
-    object.add("memory", memory)?;
-    object.add("registers", registers)?;
+    add_step(alloc, &mut object, litmus, step, memory)?;
     object.into_json()
 }
 
@@ -173,8 +141,7 @@ pub(crate) fn steps_array(
     let mut array = JsonArray::new(alloc);
     for step in steps {
         reach(memory.as_mut_slice(), written(&litmus.program, step));
-        let part = step_part(alloc, litmus, step, &memory)?;
-        array.add(step_text(alloc, part)?)?;
+        array.add(step_value(alloc, litmus, step, &memory)?)?;
     }
     array.into_json()
 }

@@ -3,6 +3,5 @@ use Rattle.documents.proofs.run.run_value.Goals as goal
 
 pub returns : goal.returns
 returns c =
-    let last = rw (c.in_ok-add-4.ensures, c.in_ok-add-3.ensures, c.in_ok-add-2.ensures, c.in_ok-add.ensures, c.in_ok-add_setting.ensures, c.new-object.ensures, c.in_ok-outcome.ensures, c.in_ok-meets.ensures, c.holds.ensures, c.in_ok-passed.ensures)
-    at c.in_ok-add-5.ensures in
-    IfOk-weaker c.into_json.result _ _ (λ json is. record { steps = c.in_ok-each.each; each = c.in_ok-each.ensures; execution = c.in_ok-execution.execution; printed = is ∙ ap object_text last }) c.into_json.ensures
+    let last = rw (c.in_ok-add_ended.ensures, c.in_ok-add.ensures, c.in_ok-add_setting.ensures, c.new-object.ensures) at c.in_ok-add-2.ensures in
+    IfOk-weaker c.into_json.result _ _ (λ json is. record { steps = c.in_ok-steps_array.field-0; each = c.in_ok-steps_array.ensures; execution = c.in_ok-execution.execution; printed = is ∙ ap object_text last }) c.into_json.ensures

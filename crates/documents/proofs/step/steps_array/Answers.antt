@@ -13,11 +13,12 @@ loop-step-preserved c =
     let d = c.step-item.result in
     let label : Step → Label = λ step. step.label in
     let parts = c.loop-step.invariant.0 in
-    let part = c.in_ok-part.part in
-    let has : HasLabel (label (get_or steps i d)) part = subst (λ (s : Step). HasLabel s.label part) c.step-item.is c.in_ok-part.ensures in (
+    let told = c.in_ok-step_value.ensures in
+    let part = told.part in
+    let has : HasLabel (label (get_or steps i d)) part = subst (λ (s : Step). HasLabel s.label part) c.step-item.is told.has in (
       parts ++ part ∷ [],
       rw (map_more label steps i d c.loop-step-test.true) (one_more_step (map label (take i steps)) parts (label (get_or steps i d)) part c.loop-step.invariant.1 has),
-      c.in_ok-add.ensures ∙ ap (λ (json : List ℕ). c.loop-step.array ++ json ∷ []) c.in_ok-step_text.ensures
+      c.in_ok-add.ensures ∙ ap (λ (json : List ℕ). c.loop-step.array ++ json ∷ []) told.printed
           ∙ ap (λ (texts : List (List ℕ)). texts ++ step_text part ∷ []) c.loop-step.invariant.2 ∙ sym (map-append step_text parts (part ∷ [])),
     )
 
