@@ -9,9 +9,8 @@ use Rattle.tso_machine.specs.declared.label.Model.{Model}
 use Rattle.report.specs.Litmus.{Litmus}
 use Rattle.report.specs.Observations.{frequency, is_true_of}
 use Rattle.json_text.specs.Texts.{quoted, array_text, member, object_text, truth_text}
-use Rattle.documents.specs.declared.program.ProgramPart.{ProgramPart}
 use Rattle.documents.specs.declared.run.Setting.TheVariants.{Machine}
-use Rattle.documents.specs.Parts.{program_members, IsProgram, answer_members, is_observed, outcomes_array}
+use Rattle.documents.specs.Parts.{ProgramPart, program_members, IsProgram, answer_members, is_observed, outcomes_array}
 use Rattle.documents.specs.Runs.{setting_member, TellsRun, runs_array}
 
 -- the version

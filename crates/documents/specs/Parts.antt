@@ -16,7 +16,6 @@ use Rattle.tso_program.specs.Shown.{shows_register, shows_location}
 use Rattle.report.specs.Litmus.{Litmus}
 use Rattle.report.specs.Names.{TextNames, all_registers, register_name, is_named}
 use Rattle.json_text.specs.Texts.{quoted, array_text, member, object_text, truth_text}
-use Rattle.documents.specs.declared.program.ProgramPart.{ProgramPart}
 
 -- ---- gaps
 
@@ -96,14 +95,26 @@ condition_members (Only names) = []
 condition_members (Truth f) = member (codes "condition") (truth_text true) ∷ []
 
 -- the set, what it costs, and what tells outcomes apart, where not all does
+abbrev pub set_members : Listing → Shown → List ℕ → SetOfGaps → List (List ℕ)
+set_members p shown costs gaps =
+    member (codes "set") (gaps_array p.threads gaps) ∷ member (codes "cost") (decimal (total costs gaps)) ∷ member (codes "observed") (truth_text (is_observed shown)) ∷ condition_members shown
+
 abbrev pub answer_value : Listing → Shown → List ℕ → SetOfGaps → List ℕ
-answer_value p shown costs gaps =
-    object_text (member (codes "set") (gaps_array p.threads gaps) ∷ member (codes "cost") (decimal (total costs gaps)) ∷ member (codes "observed") (truth_text (is_observed shown)) ∷ condition_members shown)
+answer_value p shown costs gaps = object_text (set_members p shown costs gaps)
 
 abbrev pub answer_members : Listing → Shown → List ℕ → SetOfGaps → List (List ℕ)
 answer_members p shown costs gaps = member (codes "gaps") (costs_array p.threads costs) ∷ member (codes "answer") (answer_value p shown costs gaps) ∷ []
 
 -- ---- the program
+
+-- what is said of a program
+pub record ProgramPart : Type 0 where
+  pub test : List ℕ
+  pub condition : List ℕ
+  pub locations : List ℕ
+  pub registers : List ℕ
+  pub initial : List ℕ
+  pub threads : List ℕ
 
 abbrev pub program_members : ProgramPart → List (List ℕ)
 program_members part =

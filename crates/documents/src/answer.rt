@@ -1,7 +1,7 @@
 //! The answer of a placement.
 ghost use Rattle.std.specs.Prelude.{◌≡◌, ◌++◌, ◌<◌, ◌≤◌, IfOk, OnOk, length};
 ghost use Rattle.gap_sets.specs.Order.{total};
-ghost use Rattle.documents.specs.Parts.{gap_value, costs_array, is_observed, condition_members, answer_value, answer_members};
+ghost use Rattle.documents.specs.Parts.{gap_value, costs_array, is_observed, condition_members, set_members, answer_value, answer_members};
 
 use crate::named::{gap_name, gap_names};
 use gap_sets::{Costs, GapSet};
@@ -53,6 +53,23 @@ fn add_condition(alloc: Global, object: &mut JsonObject, shown: &Shown) -> Resul
     }
 }
 
+/// Adds the set that is the answer, what it costs, and what tells outcomes apart.
+fn add_set(
+    alloc: Global,
+    object: &mut JsonObject,
+    program: &Program,
+    shown: &Shown,
+    costs: &Costs,
+    set: &GapSet,
+) -> Result<(), AllocError>
+    ensures { OnOk result (object.new ≡ object.old ++ set_members program.now shown.now costs.now set.now) }
+{
+    object.add("set", gap_names(alloc, program, set)?)?;
+    object.add("cost", JsonText::number(alloc, costs.total(set))?)?;
+    object.add("observed", JsonText::truth(alloc, is_observed(shown))?)?;
+    add_condition(alloc, object, shown)
+}
+
 /// The set that is the answer, and what it costs.
 fn answer_value(
     alloc: Global,
@@ -64,10 +81,7 @@ fn answer_value(
     ensures { IfOk result (λ json. json ≡ answer_value program.now shown.now costs.now set.now) }
 {
     let mut object = JsonObject::new(alloc);
-    object.add("set", gap_names(alloc, program, set)?)?;
-    object.add("cost", JsonText::number(alloc, costs.total(set))?)?;
-    object.add("observed", JsonText::truth(alloc, is_observed(shown))?)?;
-    add_condition(alloc, &mut object, shown)?;
+    add_set(alloc, &mut object, program, shown, costs, set)?;
     object.into_json()
 }
 

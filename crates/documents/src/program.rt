@@ -1,7 +1,7 @@
 //! The program, as it is written.
-ghost use Rattle.std.specs.Prelude.{◌≡◌, ◌++◌, IfOk, OnOk, map};
+ghost use Rattle.std.specs.Prelude.{◌≡◌, IfOk, OnOk, map};
 ghost use Rattle.json_text.specs.Texts.{quoted, array_text};
-ghost use Rattle.documents.specs.Parts.{program_members, IsProgram, TellsProgram};
+ghost use Rattle.documents.specs.Parts.{TellsProgram};
 
 use crate::named::location;
 use gap_sets::GapSet;
@@ -9,17 +9,6 @@ use json_text::{JsonArray, JsonObject, JsonText};
 use litmus_text::{Label, Litmus, NameTable, push_code, push_condition, register_name};
 use std::alloc::{AllocError, Global};
 use tso_program::{Program, Reg, Thread};
-
-/// What is said of a program.
-#[derive(Drop)]
-pub(crate) struct ProgramPart {
-    test: JsonText,
-    condition: JsonText,
-    locations: JsonText,
-    registers: JsonText,
-    initial: JsonText,
-    threads: JsonText,
-}
 
 /// The condition, in canonical text.
 fn condition_text(alloc: Global, litmus: &Litmus<Program>) -> Result<JsonText, AllocError> {
@@ -122,11 +111,10 @@ fn labels_at(alloc: Global, labels: &[Label], position: usize) -> Result<JsonTex
     array.into_json()
 }
 
-/// An instruction of a thread with its labels.
-fn instruction(
+/// An instruction of a thread, in canonical text.
+fn code_text(
     alloc: Global,
     litmus: &Litmus<Program>,
-    labels: &[Label],
     thread: u8,
     place: usize,
 ) -> Result<JsonText, AllocError> {
@@ -138,9 +126,20 @@ fn instruction(
     if let Some(code) = code {
         push_code(&mut text, litmus, &GapSet::empty(), thread, code)?;
     }
+    JsonText::string(alloc, &text)
+}
+
+/// An instruction of a thread with its labels.
+fn instruction(
+    alloc: Global,
+    litmus: &Litmus<Program>,
+    labels: &[Label],
+    thread: u8,
+    place: usize,
+) -> Result<JsonText, AllocError> {
     let mut object = JsonObject::new(alloc);
     object.add("labels", labels_at(alloc, labels, place)?)?;
-    object.add("text", JsonText::string(alloc, &text)?)?;
+    object.add("text", code_text(alloc, litmus, thread, place)?)?;
     object.into_json()
 }
 
@@ -188,49 +187,6 @@ fn thread_values(alloc: Global, litmus: &Litmus<Program>) -> Result<JsonText, Al
     array.into_json()
 }
 
-/// What is said of the program of a litmus text.
-fn program_part(alloc: Global, litmus: &Litmus<Program>) -> Result<ProgramPart, AllocError>
-    ensures { IfOk result (IsProgram litmus.now) }
-{
-    let names = &litmus.names;
-    let threads = litmus.program.threads().len();
-    let test = JsonText::string(alloc, litmus.name.as_slice())?;
-    let condition = condition_text(alloc, litmus)?;
-    let locations = location_names(alloc, names)?;
-    let registers = all_register_names(alloc, names, threads)?;
-    let initial = initial_values(alloc, litmus)?;
-    let threads = thread_values(alloc, litmus)?;
-    Ok(ProgramPart {
-        test,
-        condition,
-        locations,
-        registers,
-        initial,
-        threads,
-    })
-}
-
-/// Adds what is said of a program.
-fn add_part(object: &mut JsonObject, part: ProgramPart) -> Result<(), AllocError>
-    ensures { OnOk result (object.new ≡ object.old ++ program_members part) }
-{
-    let ProgramPart {
-        test,
-        condition,
-        locations,
-        registers,
-        initial,
-        threads,
-    } = part;
-    object.add("test", test)?;
-    object.add("condition", condition)?;
-    object.add("locations", locations)?;
-    object.add("registers", registers)?;
-    object.add("initial", initial)?;
-    object.add("threads", threads)?;
-    Ok(())
-}
-
 /// Adds what is said of the program of a litmus text.
 pub(crate) fn add_program(
     alloc: Global,
@@ -239,7 +195,12 @@ pub(crate) fn add_program(
 ) -> Result<(), AllocError>
     ensures { OnOk result (TellsProgram litmus.now object.old object.new) }
 {
-    let part = program_part(alloc, litmus)?;
-    add_part(object, part)?;
-    Ok(())
+    let names = &litmus.names;
+    let threads = litmus.program.threads().len();
+    object.add("test", JsonText::string(alloc, litmus.name.as_slice())?)?;
+    object.add("condition", condition_text(alloc, litmus)?)?;
+    object.add("locations", location_names(alloc, names)?)?;
+    object.add("registers", all_register_names(alloc, names, threads)?)?;
+    object.add("initial", initial_values(alloc, litmus)?)?;
+    object.add("threads", thread_values(alloc, litmus)?)
 }
