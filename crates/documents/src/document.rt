@@ -122,6 +122,27 @@ fn observation(
     JsonText::string(alloc, word.as_bytes())
 }
 
+/// Adds the machine, its outcomes as far as they are shown, and what they show of the condition.
+fn add_outcomes(
+    alloc: Global,
+    object: &mut JsonObject,
+    litmus: &Litmus<Program>,
+    shown: &Shown,
+    model: Model,
+    outcomes: &[Outcome],
+) -> Result<(), AllocError>
+    ensures { OnOk result (object.new ≡ object.old ++ outcomes_members litmus.now shown.now model outcomes.now) }
+{
+    let condition = &litmus.condition;
+    add_model(alloc, object, model)?;
+    object.add("observed", JsonText::truth(alloc, is_observed(shown))?)?;
+    let list = outcomes_array(alloc, &litmus.names, shown, outcomes)?;
+    object.add("outcomes", list)?;
+    object.add("observation", observation(alloc, condition, outcomes)?)?;
+    let holds = is_true_of(condition, outcomes);
+    object.add("holds", JsonText::truth(alloc, holds)?)
+}
+
 /// The object of the document of a program's outcomes in a machine.
 fn outcomes_object(
     alloc: Global,
@@ -132,17 +153,8 @@ fn outcomes_object(
 ) -> Result<JsonObject, AllocError>
     ensures { IfOk result (TellsMembers litmus.now (codes "outcomes") (outcomes_members litmus.now shown.now model outcomes.now)) }
 {
-    let condition = &litmus.condition;
-    let observed = JsonText::truth(alloc, is_observed(shown))?;
-    let list = outcomes_array(alloc, &litmus.names, shown, outcomes)?;
-    let often = observation(alloc, condition, outcomes)?;
-    let holds = JsonText::truth(alloc, is_true_of(condition, outcomes))?;
     let mut object = begun(alloc, b"outcomes", litmus)?;
-    add_model(alloc, &mut object, model)?;
-    object.add("observed", observed)?;
-    object.add("outcomes", list)?;
-    object.add("observation", often)?;
-    object.add("holds", holds)?;
+    add_outcomes(alloc, &mut object, litmus, shown, model, outcomes)?;
     Ok(object)
 }
 
