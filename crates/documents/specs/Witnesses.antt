@@ -1,5 +1,5 @@
 -- The document of a run of which the condition's formula has some truth.
-use Rattle.std.specs.Prelude.{ℕ, List, [], ◌∷◌, Option, Some, None, codes}
+use Rattle.std.specs.Prelude.{ℕ, List, [], ◌∷◌, ◌++◌, Option, Some, None, codes}
 use Rattle.tso_program.specs.declared.listing.Listing.{Listing}
 use Rattle.report.specs.Litmus.{Litmus}
 use Rattle.json_text.specs.Texts.{member, null_text, truth_text}
@@ -14,11 +14,14 @@ abbrev pub run_or_null : Option (List ℕ) → List ℕ
 run_or_null None = null_text
 run_or_null (Some run) = run
 
--- which run is sought, and the text of one, if there is one
+-- which run is sought
+abbrev pub sought_members : Listing → Sought → List (List ℕ)
+sought_members p sought =
+    setting_member p (Machine sought.model) ∷ member (codes "fences") (gaps_array p.threads sought.fences) ∷ member (codes "meets_condition") (truth_text sought.meets) ∷ []
+
+-- and the text of one, if there is one
 abbrev pub witness_members : Listing → Sought → Option (List ℕ) → List (List ℕ)
-witness_members p sought run =
-    setting_member p (Machine sought.model) ∷ member (codes "fences") (gaps_array p.threads sought.fences)
-    ∷ member (codes "meets_condition") (truth_text sought.meets) ∷ member (codes "run") (run_or_null run) ∷ []
+witness_members p sought run = sought_members p sought ++ member (codes "run") (run_or_null run) ∷ []
 
 abbrev pub IsWitnessDocument : Litmus Listing → Sought → Option (List ℕ) → List ℕ → Type 0
 IsWitnessDocument source sought run = IsDocument source (codes "witness") (witness_members source.program sought run)

@@ -1,8 +1,8 @@
 //! The document of a run of which the condition's formula has some truth.
 
-ghost use Rattle.std.specs.Prelude.{◌≡◌, IfOk};
+ghost use Rattle.std.specs.Prelude.{◌≡◌, ◌++◌, IfOk, OnOk};
 ghost use Rattle.json_text.specs.Safe.{IsSafe};
-ghost use Rattle.documents.specs.Witnesses.{run_or_null, IsWitnessDocument};
+ghost use Rattle.documents.specs.Witnesses.{run_or_null, sought_members, IsWitnessDocument};
 
 use crate::document::{begun, document_of};
 use crate::named::gap_names;
@@ -32,6 +32,20 @@ fn run_or_null(alloc: Global, run: Option<JsonText>) -> Result<JsonText, AllocEr
     }
 }
 
+/// Adds which run is sought.
+fn add_sought(
+    alloc: Global,
+    object: &mut JsonObject,
+    program: &Program,
+    sought: Sought,
+) -> Result<(), AllocError>
+    ensures { OnOk result (object.new ≡ object.old ++ sought_members program.now sought) }
+{
+    add_model(alloc, object, sought.model)?;
+    object.add("fences", gap_names(alloc, program, &sought.fences)?)?;
+    object.add("meets_condition", JsonText::truth(alloc, sought.meets)?)
+}
+
 /// The document of a run that is sought, if there is one.
 pub fn witness_document(
     alloc: Global,
@@ -42,18 +56,9 @@ pub fn witness_document(
     ensures told { IfOk result (λ document. IsWitnessDocument litmus.now sought run document.items) }
     ensures safe { IfOk result (λ document. IsSafe document.items) }
 {
-    let Sought {
-        model,
-        fences,
-        meets,
-    } = sought;
-    let gaps = gap_names(alloc, &litmus.program, &fences)?;
-    let asked = JsonText::truth(alloc, meets)?;
     let run = run_or_null(alloc, run)?;
     let mut object = begun(alloc, b"witness", litmus)?;
-    add_model(alloc, &mut object, model)?;
-    object.add("fences", gaps)?;
-    object.add("meets_condition", asked)?;
+    add_sought(alloc, &mut object, &litmus.program, sought)?;
     object.add("run", run)?;
     document_of(object)
 }
