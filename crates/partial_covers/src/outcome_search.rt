@@ -75,7 +75,7 @@ pub fn all_outcomes<W: Watch>(
 /// The partial cover of the sketch with no choice, and the outcomes over which it is.
 fn partial_of_all<'a, W: Watch>(
     sought: &Search<'a>,
-    start: SearchStart,
+    mut start: SearchStart,
     watch: &W,
 ) -> Result<Covering<'a>, AllocError>
     requires { (none : IndexValue) → IsCoveredStart sought.now.program.now sought.now.shown.now (Open none sought.now.mode) start }
@@ -87,17 +87,12 @@ fn partial_of_all<'a, W: Watch>(
     // For the proof alone: what holds of every program is known where its threads are read.
     let _ = sought.program.threads();
     let alloc = sought.alloc;
-    let SearchStart {
-        mut sketch,
-        plan,
-        mut covers,
-    } = start;
     let joins = JoinWatch {
         whole: watch,
-        has_parts: !covers.is_empty(),
+        has_parts: !start.covers.is_empty(),
     };
     let mut all = Covering::none(alloc, sought.shown, sought.mode, Vec::new(alloc));
-    all.cover_first(&mut sketch, &plan, &mut covers, &joins)?;
+    all.cover_first(&mut start.sketch, &start.plan, &mut start.covers, &joins)?;
     all.kept.shrink();
     Ok(all)
 }
