@@ -21,7 +21,7 @@ pub enum SolverCall {
 fn verdict(alloc: Global, table: &SeqTable, words: &[&[u8]]) -> Result<Verdict, SolverRefusal> {
     let set = set_in(table.program(), gaps_of(table.program(), words))?;
     let solver = Solver::new(alloc, table.program(), table)?;
-    Ok(solver.ask(&set)?)
+    solver.ask(&set).map_err(SolverRefusal::from)
 }
 
 fn push_verdict(
@@ -45,7 +45,7 @@ fn push_asked(
     printed: &mut String,
 ) -> Result<(), SolverRefusal> {
     let verdict = verdict(alloc, table, words)?;
-    Ok(push_verdict(alloc, names, &verdict, printed)?)
+    push_verdict(alloc, names, &verdict, printed).map_err(SolverRefusal::from)
 }
 
 /// The foreign run of the labels that words spell.
@@ -62,7 +62,7 @@ fn push_foreign(
     printed: &mut String,
 ) -> Result<(), SolverRefusal> {
     let run = foreign(alloc, table, words)?;
-    Ok(push_foreign_run(alloc, names, &run, printed)?)
+    push_foreign_run(alloc, names, &run, printed).map_err(SolverRefusal::from)
 }
 
 /// The answer to a call with the sequential outcomes.
