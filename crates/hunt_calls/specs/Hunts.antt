@@ -16,5 +16,5 @@ pub record IsSound (h : HuntView) (hand : Hand) : Type 0 where
   pub posted : IfSome hand.posted (IsInCell h.cells)
 
 -- the seat holds a node that the run splits
-abbrev pub MaySplit : HuntView → SeatView → Foreign → Type 0
-MaySplit h s run = MaySettle h s (Asked (verdict.Foreign run))
+abbrev pub MaySplitHeld : HuntView → SeatView → Foreign → Type 0
+MaySplitHeld h s run = MaySettle h s (Asked (verdict.Foreign run))

@@ -3,7 +3,7 @@ ghost use Rattle.std.specs.Prelude.{◌≡◌, ◌<◌, false, IfOk, MatchOption
 ghost use Rattle.gap_sets.specs.Order.{total};
 ghost use Rattle.search_core.specs.Ceilings.{IsCeilingOf};
 ghost use Rattle.hunt_board.specs.Seats.{IsOf};
-ghost use Rattle.hunt_calls.specs.Hunts.{IsSound, MaySplit};
+ghost use Rattle.hunt_calls.specs.Hunts.{IsSound, MaySplitHeld};
 
 use crate::hunts::{Hand, held, push_receipt, run_past};
 use crate::refusal::HuntRefusal;
@@ -39,7 +39,7 @@ fn is_split<W: Wait>(
     printed: &mut String,
 ) -> Result<bool, HuntRefusal>
     requires sound { IsSound hunt.now hand.old }
-    requires splits { MaySplit hunt.now hand.old.seat run }
+    requires splits { MaySplitHeld hunt.now hand.old.seat run }
     ensures sound { IsSound hunt.now hand.new }
     ensures refused { IfOk result (λ done. done ≡ false → hand.new.seat ≡ hand.old.seat) }
 {
@@ -63,7 +63,7 @@ fn split_by_copy<W: Wait>(
     printed: &mut String,
 ) -> Result<(), HuntRefusal>
     requires sound { IsSound hunt.now hand.old }
-    requires splits { MaySplit hunt.now hand.old.seat copy }
+    requires splits { MaySplitHeld hunt.now hand.old.seat copy }
     ensures { IsSound hunt.now hand.new }
 {
     printed.push_str("refused settle\n")?;
@@ -98,8 +98,8 @@ impl Scene<'_> {
         seat: &HuntSeat,
         labels: &[u8],
     ) -> Result<(ForeignRun, ForeignRun), HuntRefusal>
-        ensures run { IfOk result (λ made. MaySplit self.now.hunt.now seat.now made.0) }
-        ensures copy { IfOk result (λ made. MaySplit self.now.hunt.now seat.now made.1) }
+        ensures run { IfOk result (λ made. MaySplitHeld self.now.hunt.now seat.now made.0) }
+        ensures copy { IfOk result (λ made. MaySplitHeld self.now.hunt.now seat.now made.1) }
     {
         let node = held(seat)?;
         let run = run_past(self.alloc, self.table, &node, labels)?;
