@@ -90,9 +90,8 @@ pub fn certificate_proves_answer(program: &Program, shown: &Shown, costs: &Costs
     ensures told { (gaps : SetOfGaps) (cost : ℕ) → Headline (asked program.now shown.now) costs.now gaps → cost ≡ total costs.now gaps
         → (gaps ≡ the_answer (asked program.now shown.now) costs.now) × (cost ≡ least_cost (asked program.now shown.now) costs.now) }
 {
-    // For the proof alone: what holds of every program and of all costs is known where they are called.
-    let _ = program.threads();
-    let _ = costs.len();
+    program.recall_facts();
+    costs.recall_facts();
     a_valid_certificate_proves_the_headline();
     the_headline_tells_the_answer();
 }

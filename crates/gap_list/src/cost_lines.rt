@@ -46,7 +46,7 @@ pub fn cost_file(alloc: Global, program: &Program, costs: &Costs) -> Result<Vec<
     // It is read as these costs.
     ensures read { IfOk result (λ text. IsCostText text.items program.now.threads costs.now) }
 {
-    // For the proof alone: the costs and the program are within their limits.
-    let _ = (costs.len(), program.threads().len());
+    program.recall_facts();
+    costs.recall_facts();
     entries(alloc, program, costs)
 }

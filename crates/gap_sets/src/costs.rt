@@ -100,6 +100,13 @@ impl Costs {
         self.list.len()
     }
 
+    /// For a proof alone: recalls what holds of every list of costs.
+    pub fn recall_facts(&self)
+        ensures limits { IsCostList self.now }
+    {
+        let _ = self.len();
+    }
+
     /// Whether no gap has a cost.
     pub fn is_empty(&self) -> bool
         ensures { IsTrue result ↔ (self.now ≡ []) }

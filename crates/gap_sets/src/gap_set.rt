@@ -107,6 +107,13 @@ impl GapSet {
         self.bits.count_ones()
     }
 
+    /// For a proof alone: recalls what holds of every set.
+    pub fn recall_facts(&self)
+        ensures gaps { IsGapSet self.now }
+    {
+        let _ = self.len();
+    }
+
     /// Whether no gap is in the set.
     pub fn is_empty(&self) -> bool
         ensures { IsTrue result ↔ (self.now ≡ set.empty) }

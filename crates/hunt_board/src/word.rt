@@ -109,8 +109,7 @@ impl CeilingWord {
         ensures least { ceiling_number result ≤ seat.old.least }
         ensures seat { seat.new ≡ with_least seat.old (ceiling_number result) }
     {
-        // For the proof alone: that jumps lead forward is known where the threads are read.
-        let _ = program.threads();
+        program.recall_facts();
         Ceiling::at(program, shown, costs, self.load(seat))
     }
 
@@ -120,9 +119,8 @@ impl CeilingWord {
         requires problem { self.now.table.shared.key ≡ problem served.now.question costs.now }
         ensures { HasLowered seat.old seat.new (total costs.now served.now.gaps) }
     {
-        // For the proof alone: that the set serves, and that jumps lead forward, is known where these are read.
         let program = served.program();
-        let _ = program.threads();
+        program.recall_facts();
         let to = costs.total(&served.set());
         self.lower_to(seat, to);
     }

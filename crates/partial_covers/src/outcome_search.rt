@@ -50,8 +50,7 @@ pub fn all_outcomes<W: Watch>(
     ensures tree { IfOk result (λ all. IsWholeCover (asked sought.now.program.now sought.now.shown.now) (machine_of_mode sought.now.program.now sought.now.mode) all.found.outcomes.items all.tree) }
     ensures exact { IfOk result (λ all. (o : Outcome) → Contains all.found.outcomes.items o ↔ AllowsShown (asked sought.now.program.now sought.now.shown.now) (machine_of_mode sought.now.program.now sought.now.mode) o) }
 {
-    // For the proof alone: what holds of every program is known where its threads are read.
-    let _ = sought.program.threads();
+    sought.program.recall_facts();
     let found = partial_of_all(sought, start, watch)?;
     let Covering {
         mut outcomes,
@@ -84,8 +83,7 @@ fn partial_of_all<'a, W: Watch>(
     ensures open { IfOk result (λ all. (found : IndexValue) × (all.outcomes ≡ Open found sought.now.mode)) }
     ensures kept { IfOk result (λ all. IsPartialCover sought.now.program.now sought.now.shown.now (by_number all.outcomes) all.kept) }
 {
-    // For the proof alone: what holds of every program is known where its threads are read.
-    let _ = sought.program.threads();
+    sought.program.recall_facts();
     let alloc = sought.alloc;
     let joins = JoinWatch {
         whole: watch,

@@ -84,8 +84,7 @@ fn reasons(alloc: Global, placed: &PlacedSource) -> Result<Explanation, AllocErr
     ensures { IfOk result (λ told. TellsReasons placed.now.source placed.now.shown placed.now.found.placed.set (numbers_of_set placed.now.found.placed.set) told.lines.items told.runs) }
 {
     let set = placed.found.placed.set;
-    // For the proof alone: a set has gap numbers.
-    let _ = set.len();
+    set.recall_facts();
     let graph = RunGraph::new(alloc)?;
     let mut told = Explanation {
         lines: Vec::new(alloc),

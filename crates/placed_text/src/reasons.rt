@@ -49,8 +49,8 @@ pub(crate) fn run_without(
     ensures foreign { IfOk result facts.IsForeignValue }
     ensures avoids { IfOk result (PassesNoneOf (set.remove gaps.now gap)) }
 {
-    // For the proof alone: no gap is free, and a set has gap numbers.
-    let _ = (costs.len(), gaps.len());
+    costs.recall_facts();
+    gaps.recall_facts();
     match solver.ask(&gaps.without(gap)) {
         Ok(Verdict::Foreign(run)) => Ok(run),
         Ok(Verdict::Serves(_)) => unreachable!(),

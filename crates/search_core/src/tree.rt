@@ -68,11 +68,9 @@ impl SearchTree {
         ensures start { IfOk result IsStart }
         ensures parts { IfOk result (λ tree. (tree.question ≡ table.now.question) × (tree.costs ≡ costs.now) × (tree.seats ≡ seats)) }
     {
-        // For the proof alone: what holds of every program and of every list of costs is known where the
-        // threads, and how many costs there are, are read.
         let program = table.program();
-        let _ = program.threads();
-        let _ = costs.len();
+        program.recall_facts();
+        costs.recall_facts();
         let mut entries = Vec::new(alloc);
         entries.push(Entry {
             node: Region::all(),

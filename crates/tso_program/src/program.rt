@@ -68,6 +68,13 @@ impl Program {
         self.listing.threads.as_slice()
     }
 
+    /// For a proof alone: recalls what holds of every program.
+    pub fn recall_facts(&self)
+        ensures within { IsWithinLimits self.now.threads self.now.memory }
+    {
+        let _ = self.threads();
+    }
+
     /// What the locations hold at first.
     pub fn memory(&self) -> &[u32]
         ensures value { result.now ≡ self.now.memory }

@@ -8,5 +8,5 @@ returns-clause-read c =
     let program = c.args.program.now in
     let costs = c.args.costs.now in
     IfOk-weaker c.entries.result _ _
-    (λ text is. subst (λ (bytes : List ℕ). IsCostText bytes program.threads costs) (sym is) (cost_file_is_read program.threads program.memory costs c.threads.ensures.within c.len.ensures.limits c.requires))
+    (λ text is. subst (λ (bytes : List ℕ). IsCostText bytes program.threads costs) (sym is) (cost_file_is_read program.threads program.memory costs c.recall_facts.ensures.within c.recall_facts-2.ensures.limits c.requires))
     c.entries.ensures

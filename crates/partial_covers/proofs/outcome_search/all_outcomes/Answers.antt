@@ -31,7 +31,7 @@ returns-clause-exact g c =
     let found = c.in-Open.found in
     let tree = c.in-Ok.tree in
     let whole = subst (λ (outcomes : KnownOutcomes). IsWholeCover q mode (by_number outcomes) tree) c.in-Open.is c.in-Ok.ensures.tree in
-    exactly_allowed q mode found.runs found.outcomes.items tree c.threads.ensures.within.shared.forward_jumps (returns-clause-runs g c) whole.valid
+    exactly_allowed q mode found.runs found.outcomes.items tree c.recall_facts.ensures.within.shared.forward_jumps (returns-clause-runs g c) whole.valid
 
 pub unreachable-requires : goal.unreachable-requires
 unreachable-requires g c =

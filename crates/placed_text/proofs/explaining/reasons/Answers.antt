@@ -7,7 +7,7 @@ loop-gap-init c =
     let set = c.args.placed.now.found.placed.set in
     record {
       told = ([], tt, c.new-2.ensures.items, c.new-3.ensures);
-      to_come = subst (AreHeld set) (sym (c.into_iter-gap-iterator.ensures.into_iter_gives ∙ c.iter-gap-items.ensures.value)) (numbers_are_held set c.len.ensures.gaps);
+      to_come = subst (AreHeld set) (sym (c.into_iter-gap-iterator.ensures.into_iter_gives ∙ c.iter-gap-items.ensures.value)) (numbers_are_held set c.recall_facts.ensures.gaps);
     }
 
 pub reason_for-requires-clause-gap : goal.reason_for-requires-clause-gap

@@ -15,5 +15,5 @@ ask-requires-clause-gaps c = rw c.without.ensures (λ other held. c.requires.ans
 
 pub unreachable-requires : goal.unreachable-requires
 unreachable-requires c =
-    each_is_needed c.args.solver.now.question c.args.costs.now c.args.gaps.now c.args.gap c.len.ensures.limits c.requires.one_each c.len-2.ensures.gaps c.requires.answer c.requires.held
+    each_is_needed c.args.solver.now.question c.args.costs.now c.args.gaps.now c.args.gap c.recall_facts.ensures.limits c.requires.one_each c.recall_facts-2.ensures.gaps c.requires.answer c.requires.held
     (serves_of c.args.solver.now.question (set.remove c.args.gaps.now c.args.gap) c.in-Ok-Serves.field-0 _ c.in-Ok-Serves.field-0-is (rw c.without.ensures at c.in-Ok-Serves.ensures.verdict))

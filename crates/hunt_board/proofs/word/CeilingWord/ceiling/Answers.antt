@@ -9,5 +9,5 @@ as_ceiling q costs (Some cost) forward above = (least_ceiling q costs cost forwa
 pub at-requires : goal.at-requires
 at-requires c =
     let q = asked c.args.program.now c.args.shown.now in
-    as_ceiling q c.args.costs.now c.load.result c.threads.ensures.within.shared.forward_jumps
+    as_ceiling q c.args.costs.now c.load.result c.recall_facts.ensures.within.shared.forward_jumps
     (subst (λ p. IfSome c.load.result (λ cost. goal_of p ≤ cost)) c.requires.problem c.load.ensures.goal)

@@ -14,8 +14,8 @@ start p q costs list seats entries root e f within have seats_are same is =
 
 begun : (c : goal.In_ok-copy-3) → IsStart (record { question = asked c.in_ok-copy.field-0 c.in_ok-copy-2.field-0; costs = c.in_ok-copy-3.field-0; seats = c.args.seats; entries = c.push.new.self.items; best = None })
 begun c = start c.args.table.now.question (asked c.in_ok-copy.field-0 c.in_ok-copy-2.field-0) c.args.costs.now c.in_ok-copy-3.field-0 c.args.seats c.push.new.self.items c.all.result
-    (λ i. asked ((c.in_ok-copy.ensures ∙ c.program-program.ensures.value) i) ((c.in_ok-copy-2.ensures ∙ c.shown.ensures) i)) c.in_ok-copy-3.ensures (subst (λ (p : Listing). IsWithinLimits p.threads p.memory) c.program-program.ensures.value c.threads.ensures.within)
-    (have c.args.table.now.question.program c.args.costs.now c.requires.one_each c.len.ensures.limits) c.requires.seats c.all.ensures
+    (λ i. asked ((c.in_ok-copy.ensures ∙ c.program-program.ensures.value) i) ((c.in_ok-copy-2.ensures ∙ c.shown.ensures) i)) c.in_ok-copy-3.ensures (subst (λ (p : Listing). IsWithinLimits p.threads p.memory) c.program-program.ensures.value c.recall_facts.ensures.within)
+    (have c.args.table.now.question.program c.args.costs.now c.requires.one_each c.recall_facts-2.ensures.limits) c.requires.seats c.all.ensures
     (c.in_ok-push.ensures.items ∙ ap (λ l. l ++ entry c.all.result 0 Open ∷ []) c.new-entries.ensures.items)
 
 pub invariant_of-result : goal.invariant_of-result
