@@ -83,8 +83,8 @@ pub fn start_alone(sought: &Search) -> Result<SearchStart, AllocError>
     })
 }
 
-/// A search whose parts are searched in at most so many threads, which share a watch. Where one can't be started, the
-/// others search its parts.
+/// A search whose parts are searched in at most so many threads, no more than there are parts, which share a watch.
+/// Where one can't be started, the others search its parts.
 pub fn start_by<R: Threads + Sync, W: Watch + Sync>(
     rt: &R,
     workers: u8,
@@ -100,7 +100,7 @@ pub fn start_by<R: Threads + Sync, W: Watch + Sync>(
     } = cut(sought)?;
     let covers = match &plan {
         Some(plan) => {
-            let threads = usize::from(workers).max(1);
+            let threads = usize::from(workers).min(parts.len()).max(1);
             search_by(rt, threads, sought, plan, &queue_of(&parts), watch)?
         }
         None => Vec::new(sought.alloc),

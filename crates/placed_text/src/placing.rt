@@ -72,6 +72,7 @@ fn placed_by<R: Threads + Wait + Sync>(
         alloc,
         effort,
         asked: AtomicU64::new(0),
+        asking: AtomicU64::new(0),
     };
     match place(rt, alloc, &watched, table, costs, effort.workers) {
         Ok(placed) => Ok(placed),

@@ -16,7 +16,8 @@ pub struct Effort {
     pub progress: Progress,
 }
 
-/// A solver that reports how many sets it is asked about. Threads share its searches.
+/// A solver that reports how many sets it is asked about. Threads share its searches: as many as there are workers, or
+/// where several workers ask, each a part of them.
 #[derive(Drop)]
 pub(crate) struct Watched<'a, R> {
     pub(crate) rt: &'a R,
@@ -24,7 +25,10 @@ pub(crate) struct Watched<'a, R> {
     pub(crate) costs: &'a Costs,
     pub(crate) alloc: Global,
     pub(crate) effort: Effort,
+    /// How many sets were asked about.
     pub(crate) asked: AtomicU64,
+    /// How many are asked about now.
+    pub(crate) asking: AtomicU64,
 }
 
 impl<R> Watched<'_, R> {
@@ -39,6 +43,13 @@ impl<R> Watched<'_, R> {
                 .progress
                 .report(asked_line(self.alloc, asked, cost, self.effort.workers));
         }
+    }
+
+    /// How many threads a question gets while so many others are asked.
+    fn threads_beside(&self, others: u64) -> u8 {
+        let workers = u64::from(self.effort.workers);
+        let share = workers.checked_div(others.saturating_add(1)).unwrap_or(1);
+        u8::try_from(share.max(1)).unwrap_or(1)
     }
 }
 
@@ -55,7 +66,12 @@ impl<R: Threads + Sync> Oracle for Watched<'_, R> {
         if self.effort.progress.is_shown() {
             self.report(set);
         }
-        self.solver.ask_by(self.rt, self.effort.workers, set)
+        let others = self.asking.fetch_add(1, Ordering::SeqCst);
+        let verdict = self
+            .solver
+            .ask_by(self.rt, self.threads_beside(others), set);
+        self.asking.fetch_sub(1, Ordering::SeqCst);
+        verdict
     }
 }
 
