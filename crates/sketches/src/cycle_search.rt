@@ -24,8 +24,7 @@ impl Sketch {
         ensures accesses { IfOk result (λ found. IfSome found (λ cycle. AreFewAccesses self.now cycle.1.items)) }
         ensures refused { OnErr result (HasCycle self.now) }
     {
-        // For the proof alone: what holds of every sketch is known where a field of it is read.
-        let _ = &self.program;
+        self.recall_facts();
         self.first_cycle()
     }
 

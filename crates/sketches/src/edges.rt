@@ -17,8 +17,7 @@ impl Sketch {
         ensures edge { IsTrue result ↔ KnownEdgeOfMode self.now.program (mode_in self.now) self.now.chosen kind from to }
         ensures sound { IsTrue result → IsEdgeOfEach self.now kind from to }
     {
-        // For the proof alone: what holds of every sketch is known where a field of it is read.
-        let _ = &self.program;
+        self.recall_facts();
         self.has_edge(kind, from, to)
     }
 
@@ -56,8 +55,7 @@ impl Sketch {
         ensures accesses { IsTrue result → (e : Event) → Contains events.now e → IsAccess self.now.program (mode_in self.now) (given_to self.now.chosen) e }
         ensures refuted { IsTrue result → IsRefuted self.now }
     {
-        // For the proof alone: what holds of every sketch is known where a field of it is read.
-        let _ = &self.program;
+        self.recall_facts();
         self.leads_round(kind, events)
     }
 

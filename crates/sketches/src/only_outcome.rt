@@ -48,7 +48,7 @@ impl Sketch {
         ensures end { IfOk result (λ end. MatchOption end (NeedNotEnd self.now shown.now) (MustEndSo self.now shown.now)) }
         ensures completions { IfOk result (λ end. IfSome end (EndsOnlyAs self.now shown.now)) }
     {
-        let _ = &self.program;
+        self.recall_facts();
         match self.last_values(shown) {
             Some(values) => Ok(Some(self.end_with(shown, &values)?)),
             None => Ok(None),
@@ -60,7 +60,7 @@ impl Sketch {
         ensures end { IfOk result (λ end. MatchOption end (NeedNotEnd self.now (Truth formula.now)) (MustEndSo self.now (Truth formula.now))) }
         ensures completions { IfOk result (λ end. IfSome end (EndsOnlyAs self.now (Truth formula.now))) }
     {
-        let _ = &self.program;
+        self.recall_facts();
         let known = self.parts().knows(self.alloc, formula)?;
         if known.is_true {
             return Ok(Some(Outcome::told(self.alloc, true)?));
