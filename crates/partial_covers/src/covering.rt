@@ -238,7 +238,6 @@ impl Covering<'_> {
                 choices,
                 after,
             } => {
-                // For the proof alone, as above.
                 own.recall_facts();
                 self.kept.push_values(t, choices.len())?;
                 for (i, next) in after.iter().enumerate() {

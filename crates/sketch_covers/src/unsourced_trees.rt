@@ -52,7 +52,6 @@ fn push_leaf(
     ensures closes { IfOk result (λ all. IsTrue all → Closes _t others.now (Full trace.now) nodes.old.items nodes.new.items) }
     ensures begins { OnOk result (Begins nodes.old.items nodes.new.items) }
 {
-    // For the proof alone, as above.
     trace.sketch.recall_facts();
     match trace.tally.lacking(others) {
         Some(read) => {
