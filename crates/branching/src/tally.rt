@@ -47,14 +47,7 @@ impl Tally {
     pub fn of_others(alloc: Global, sketch: &Sketch, t: u8) -> Result<Tally, AllocError>
         ensures { IfOk result (IsTallyOf sketch.now (IsOther t)) }
     {
-        let mut tally = Tally::none(alloc);
-        let threads = sketch.program().threads().len() as u8;
-        for other in 0..threads {
-            if other != t {
-                tally.add_thread(sketch, other)?;
-            }
-        }
-        Ok(tally)
+        Tally::of_rest(alloc, sketch, t, t)
     }
 
     /// Of the accesses of all threads but two.
