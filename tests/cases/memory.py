@@ -6,6 +6,7 @@ import os
 import re
 from concurrent.futures import ThreadPoolExecutor
 
+from cases.parts import EXCHANGES
 from cases.progress import reads
 from harness import (
     EXAMPLES, FENCECHECK, FENCER, TEST_CALLS, PreloadedCases, bytes_of, called, example, failing_in_turn, in_data, lines, run, same, tell, watched,
@@ -37,44 +38,56 @@ def refused_allocations(library, name, words, given, right, lawful, program=FENC
     tell(f"{name}: the refusals end", False)
 
 
-def refused_to_threads(library, folder, test, workers, right, lawful):
-    """So many allocations of a placement by several threads refused in turn. Which one that is changes from run to run, so each is tried whatever a run met."""
-    given, name = example(test + ".litmus"), f"the placement of {test} with {workers} workers"
+def refused_by_number(library, name, words, numbers, given, right, lawful, folder=None):
+    """What a command line by several threads answers where one of these allocations is refused, and whether it came; with a folder, also that the certificate
+    of an answer is accepted. Which allocation has a number changes from run to run, so each is tried whatever a run met."""
     accepted = (0, re.sub(rb"^answer ", b"accepted ", right[1].split(b"\n")[0]) + b"\n")
 
     def tried(nth):
-        certificate = os.path.join(folder, f"{workers}-{nth}")
-        words = ["place", "--workers", str(workers), "--certificate", certificate, "-"]
-        found, met = watched(library, nth, words, given, FENCER)
-        judged = run(["-", certificate], given, FENCECHECK) if found == right else accepted
+        certificate = os.path.join(folder, str(nth)) if folder else ""
+        found, met = watched(library, nth, [*words, *(["--certificate", certificate] if folder else [])], given, FENCER)
+        judged = run(["-", certificate], given, FENCECHECK) if folder and found == right else accepted
         if os.path.exists(certificate):
             os.remove(certificate)
         return nth, found, met, judged
 
     with ThreadPoolExecutor() as pool:
-        tries = list(pool.map(tried, range(1, MOST_REFUSED + 1)))
+        tries = list(pool.map(tried, numbers))
     for nth, found, met, judged in tries:
         tell(f"{name}, allocation {nth} refused", found == right or (met and found in lawful), found, f"{right!r}, or a refusal for lack of memory")
-        same(f"{name}, its certificate with allocation {nth} refused", judged, accepted)
-    tell(f"{name}: one is refused memory for its search", (1, b"refused place 5 OutOfMemory\n") in (found for _, found, _, _ in tries))
+        if folder:
+            same(f"{name}, its certificate with allocation {nth} refused", judged, accepted)
+    return [(found, met) for _, found, met, _ in tries]
 
 
-def parts_refused(library):
-    """Allocations of a search that three threads make in parts, refused in turn. A part that is refused memory is searched once more, so there is an answer then."""
-    name, given, words = "the outcomes of a search in parts", reads(5, 5, 4).encode(), ["outcomes", "--runs", "--workers", "3", "-"]
-    right, lawful = run(words, given), lawful_lines("solve 2 OutOfMemory")
+def refused_to_threads(library, folder, test, workers, right, lawful):
+    """So many allocations of a placement by several threads refused in turn."""
+    name, words = f"the placement of {test} with {workers} workers", ["place", "--workers", str(workers), "-"]
+    tries = refused_by_number(library, name, words, range(1, MOST_REFUSED + 1), example(test + ".litmus"), right, lawful, folder)
+    tell(f"{name}: one is refused memory for its search", (1, b"refused place 5 OutOfMemory\n") in (found for found, _ in tries))
+
+
+def refused_in_parts(library, name, words, given, lawful, refusal, folder=None):
+    """Allocations of a search that three threads make in parts, refused in turn: each of the first, and then fewer. A part that is refused memory is searched
+    once more, so there is an answer then."""
+    right = run(words, given)
     tell(name, right[0] == 0, right)
     numbers = [*range(1, FIRST_REFUSED)]
     while numbers[-1] < MOST_IN_PARTS:
         numbers.append(int(numbers[-1] * FURTHER) + 1)
-    with ThreadPoolExecutor() as pool:
-        tries = list(zip(numbers, pool.map(lambda nth: watched(library, nth, words, given, FENCER), numbers)))
-    for nth, (found, met) in tries:
-        tell(f"{name}, allocation {nth} refused", found == right or (met and found in lawful), found, f"{right!r}, or a refusal for lack of memory")
-    answers = {met: {found for _, (found, its) in tries if its == met} for met in (True, False)}
-    tell(f"{name}: a refusal that ends it", (1, b"refused solve 2 OutOfMemory\n") in answers[True])
+    tries = refused_by_number(library, name, [*words, "--workers", "3"], numbers, given, right, lawful, folder)
+    answers = {met: {found for found, its in tries if its == met} for met in (True, False)}
+    tell(f"{name}: a refusal that ends it", (1, refusal) in answers[True])
     tell(f"{name}: a refusal after which there is an answer", right in answers[True])
     same(f"{name}: the refusals end", answers[False], {right})
+
+
+def parts_refused(library, folder):
+    """Lists of outcomes of both models, and a placement with its certificate, whose searches are made in parts."""
+    given = reads(5, 5, 4).encode()
+    for words in (["outcomes", "--runs", "-"], ["outcomes", "--model", "sequential", "-"]):
+        refused_in_parts(library, f"{' '.join(words)} in parts", words, given, lawful_lines("solve 2 OutOfMemory"), b"refused solve 2 OutOfMemory\n")
+    refused_in_parts(library, "a placement in parts", ["place", "-"], EXCHANGES.encode(), PLACED_LAWFULLY, b"refused place 5 OutOfMemory\n", folder)
 
 
 def lawful_lines(*told):
@@ -224,8 +237,8 @@ class Memory(PreloadedCases):
         replays_refused(self.library)
 
     def test_parts(self):
-        """A search that is cut into parts, by three workers."""
-        parts_refused(self.library)
+        """Searches that are cut into parts, by three workers: of both models, and for a placement with its certificate."""
+        parts_refused(self.library, self.folder)
 
     def test_placements(self):
         """Placements by one worker and by several, and reasons."""

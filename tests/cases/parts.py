@@ -1,18 +1,20 @@
-"""Parts: searches that are long enough to be cut into parts. Whatever the number of workers, the same list with the same runs, and the same answer.
+"""Parts: searches that are long enough to be cut into parts. Whatever the number of workers, the same list with the same runs, and the same answer with
+the same trees.
 
 The outcomes are those that `judges/machine.py` finds by walking the machine's states, and each run leaves the outcome that is printed before it.
 """
+import hashlib
 import os
 import re
 import tempfile
 
 from cases.outcomes import listed_runs
 from cases.progress import read_program, reads
-from harness import FENCECHECK, MODELS, Cases, run, same, tell, write
+from harness import FENCECHECK, MODELS, Cases, bytes_of, in_data, lines, run, same, tell, write
 from judges import machine
 from judges.texts import test_of
 
-WORKERS = (1, 2, 3, 32)
+WORKERS = (1, 2, 3, 8, 32)
 TWO_THREADS = """X86 two-threads
 { }
  P0          | P1          ;
@@ -53,17 +55,28 @@ def listed(name, source):
         listed_runs(test, name, source, model, ["--workers", "3"])
 
 
-def placed(name, litmus, folder):
-    """Answers, and what the checker says of their certificates."""
-    certificate = os.path.join(folder, "certificate")
+def settled(certificate):
+    """What a certificate has whatever the number of workers, up to the tree of the sequential outcomes and of the tree for the set: of each its bytes and a
+    hash. Another worker may be the first to show that a set doesn't serve, so the other runs and the gap tree may differ."""
+    front, _, rest = certificate.partition(b"\nruns ")
+    fenced = next((line for line in rest.split(b"\n") if line.startswith(b"fenced ")), b"")
+    return [(len(part), hashlib.sha256(part).hexdigest()) for part in (front, fenced) if part]
+
+
+def placed(name, litmus):
+    """Answers by several numbers of workers, and their certificates."""
     for options in ([], ["--observed"]):
         alone = run(["place", *options, litmus])
         accepted = re.sub(rb"^answer ", b"accepted ", alone[1].split(b"\n")[0]) + b"\n"
+        trees = {}
         for workers in WORKERS:
             what = f"the answer for {name} {options} with {workers} workers"
-            found = run(["place", *options, "--workers", str(workers), "--certificate", certificate, litmus])
-            tell(what, found == alone and alone[0] == 0, found, alone)
-            same(f"{what}: its certificate", run([litmus, certificate], program=FENCECHECK), (0, accepted))
+            with tempfile.NamedTemporaryFile() as certificate:
+                found = run(["place", *options, "--workers", str(workers), "--certificate", certificate.name, litmus])
+                tell(what, found == alone and alone[0] == 0, found, alone)
+                same(f"{what}: its certificate", run([litmus, certificate.name], program=FENCECHECK), (0, accepted))
+                trees[workers] = settled(bytes_of(certificate.name))
+            tell(f"{what}: its trees", trees[workers] == trees[1] and len(trees[1]) == 2, trees[workers], trees[1])
 
 
 class Parts(Cases):
@@ -77,14 +90,19 @@ class Parts(Cases):
                 tell(f"{name} is cut into parts", count >= CUT, count, f"at least {CUT} combinations")
 
     def test_lists(self):
-        """Lists of outcomes with their runs, by 1, 2, 3 and 32 workers, and by the machine."""
+        """Lists of outcomes with their runs, by 1, 2, 3, 8 and 32 workers, and by the machine."""
         for name, text in PROGRAMS:
             listed(name, text.encode())
 
     def test_answers(self):
-        """Answers by 1, 2, 3 and 32 workers, and their certificates."""
+        """Answers by 1, 2, 3, 8 and 32 workers, their certificates, and the trees in these."""
         for name, text in PROGRAMS:
             with tempfile.TemporaryDirectory() as folder:
                 litmus = os.path.join(folder, "made.litmus")
                 write(litmus, text.encode())
-                placed(name, litmus, folder)
+                placed(name, litmus)
+
+    def test_asked(self):
+        """The same of the programs of `asks.tsv`, of which most are not cut."""
+        for file, _, _ in lines("asks.tsv"):
+            placed(os.path.basename(file), in_data(file))
