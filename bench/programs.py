@@ -1,4 +1,10 @@
-"""Litmus tests for measurements: the classical ones, and random ones from a seed, of loads and stores alone or of every kind of instruction."""
+"""Litmus tests for measurements: the classical ones, and random ones from a seed, of loads and stores alone or of every kind of instruction.
+
+A random test has a name, FAMILY-ACCESSES-THREADS-NUMBER: `random-15-3-0` has loads and stores of 1 or 2, 15 accesses and three threads, and is the first of
+its kind. In the family `exchanges` there are also locked exchanges, stores of registers and first values, so that a location may have each value of the
+program. `r` and `x` stand for the two families.
+"""
+FAMILIES = ("random", "exchanges")
 REGISTERS = ("EAX", "EBX", "ECX", "EDX", "ESI", "EDI")
 JUMPS = ("JE", "JNE", "JNE", "JMP")
 
@@ -59,6 +65,23 @@ def exchanging(seed, shape, locations):
 
 def one_of(random, values):
     return values[next(random) % len(values)]
+
+
+def made(family, accesses, threads, number):
+    """The test of such a family, number of accesses, number of threads, and number among its kind."""
+    lengths = [accesses // threads + (t < accesses % threads) for t in range(threads)]
+    seed, shape = 1_000 * accesses + 100 * threads + number, (threads, max(lengths))
+    code, first = exchanging(seed, shape, "xyz") if family == "exchanges" else (mixed(seed, shape, "xyz"), ())
+    return litmus([part[:length] for part, length in zip(code, lengths)], first)
+
+
+def named(name):
+    """The test of a name."""
+    word, *counts = name.split("-")
+    family = {"r": "random", "x": "exchanges"}.get(word, word)
+    if family not in FAMILIES or len(counts) != 3 or not all(count.isdigit() for count in counts):
+        raise ValueError(f"no test is named {name}, but {', '.join(FAMILIES)} with -ACCESSES-THREADS-NUMBER")
+    return made(family, *map(int, counts))
 
 
 def instruction(random, locations):
