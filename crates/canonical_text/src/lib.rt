@@ -1,7 +1,7 @@
-//! The canonical text of a litmus test with its fences: one spelling, which is read back; and that of an outcome.
+//! The canonical text of a litmus test with its fences, and that of an outcome.
 //!
-//! It stands apart from the reader, since the law that what is written is read again needs both its grammar
-//! and its meaning.
+//! A test has one spelling, which is read back. The writer stands apart from the reader, since the law that what is
+//! written is read again needs both its grammar and its meaning.
 //!
 //! Begin with `write_litmus`, `write_outcome` and `canonical_text_is_read`. Free to change: how the text is
 //! gathered. The spelling itself is a definition (`specs/Spelling.antt`, `specs/Canonical.antt`). Relied on:

@@ -1,12 +1,11 @@
 //! The text of a certificate, in pages.
 //!
 //! A long text is written page by page, so that what a search has freed is used again, and no byte is copied when
-//! it grows. `cert_forest` has the text's definition, and reads it.
+//! it grows. The words of a long tree are written part by part, which threads share. `cert_forest` has the text's
+//! definition, and reads it.
 //!
-//! The words of a long tree are written part by part, which threads share.
-//!
-//! Begin with `write_pages`. Free to change: how long a page is, and how a tree is shared out. Relied on: the pages
-//! hold the certificate's text, in order.
+//! Begin with `write_pages` and `write_cert`, which are all that the crate hands out. Free to change: how long a
+//! page is, and how a tree is shared out. Relied on: the pages hold the certificate's text, in order.
 #![tactic(auto)]
 
 mod draft;

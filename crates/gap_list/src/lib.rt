@@ -2,10 +2,10 @@
 //!
 //! What `fencer gaps` prints.
 //!
-//! Begin with `gap_list` and `cost_file`. Free to change: how the number of an instruction's line is found
-//! (`text_lines.rt`), of which no clause speaks. Relied on: the list has exactly a line for each gap,
-//! ascending, with the instruction after it and its cost; the cost file is read as the costs that it was made
-//! of.
+//! Begin with `gap_list` and `cost_file`, which are all that the crate hands out. Free to change: how the number of
+//! an instruction's line is found (`text_lines.rt`), of which no clause speaks. Relied on: the list has exactly a
+//! line for each gap, ascending, with the instruction after it and its cost; the cost file is read as the costs
+//! that it was made of.
 #![tactic(auto)]
 
 mod cost_lines;

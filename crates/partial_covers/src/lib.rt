@@ -1,4 +1,4 @@
-//! Cover trees of programs with holes, made once with no gap fenced, and filled for each machine.
+//! Cover trees of programs with holes: made once with no gap fenced, filled for each machine.
 //!
 //! A long search is cut into parts, which threads may search. Each part has outcomes and a partial cover of
 //! its own, and the parts are joined in their order.

@@ -1,15 +1,12 @@
-//! From a litmus text and costs to the answer line, the fenced program, a certificate, and a run that each fence prevents.
+//! From a litmus text and costs to the answer's texts, and to a run that each fence prevents.
 //!
-//! Above `fence_place`, so that a caller who has a program needs no texts. Which registers and locations
-//! count is a `ShownKind`. A run that is shown passes no other gap of the answer, and no sequential run leaves
-//! what it leaves.
+//! The texts are the answer line, the fenced program, the certificate and the document. A run that is shown passes
+//! no other gap of the answer, and no sequential run leaves what it leaves.
 //!
-//! Begin with `place_text`, `why_text` and `read_program`. Free to change: what is reported on the way, by a
-//! wrapper round the solver (`ahead.rt`, `watched.rt`); which run is shown, its table and its graph. Relied on:
-//! the headline holds of the set for the program and the costs of the texts, and all that is written says the
-//! same of it (`IsPlacedText` in `specs/PlacedTexts.antt`). For exactly the gaps of the answer, in order, the
-//! labels are a run with no gap fenced and one with the other gaps fenced, and no sequential run shows its
-//! outcome (`IsWhyText` in `specs/WhyTexts.antt`).
+//! Begin with `place_text`, `why_text` and `read_program`. Free to change: what is reported on the way (`ahead.rt`,
+//! `watched.rt`), and which run is shown, its table and its graph. Relied on: the headline holds of the set for the
+//! program and the costs of the texts, all that is written says the same of it (`IsPlacedText`), and for exactly
+//! the gaps of the answer, in order, the labels are such a run (`IsWhyText`).
 #![tactic(auto)]
 
 mod ahead;

@@ -1,4 +1,4 @@
-//! Sketches without rows: what is chosen in them, and what follows from it by look-ups in lists.
+//! Sketches without rows: what is chosen in them, and what follows by look-ups in lists.
 //!
 //! `Parts` are what a sketch consists of, rows aside: its program, its mode, what its threads do, and its sources
 //! and orders. They answer by the definitions: what an event reads and writes, which edges are known, the sources

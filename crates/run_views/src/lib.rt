@@ -1,7 +1,7 @@
-//! What a run looks like: its table, a line a step, and its candidate execution as a graph for Graphviz.
+//! What a run looks like: its table, a line a step, and its graph for Graphviz.
 //!
-//! For people. Both are worked out from the steps of `tso_machine::steps` alone, so they show runs of both
-//! machines and need no sketch.
+//! For people. The graph is of the run's candidate execution. Both are worked out from the steps of
+//! `tso_machine::steps` alone, so they show runs of both machines and need no sketch.
 //!
 //! Begin with `run_table`, `RunGraph` and `candidate_of`. Free to change: everything; no contract speaks of the
 //! bytes of a table or a graph. `tests/judges/traces.py` compares tables with the states of another program, and

@@ -1,14 +1,13 @@
 //! Cover trees of sketches in which each read has its value, over lists of outcomes.
 //!
-//! A list is closed, or open for the outcomes of one machine. A complete sketch may end as an outcome that an
-//! open list lacks. Then the list takes the outcome that the same choices have in the list's own machine, if
-//! they have a run there. Nodes get other numbers, or the union of the sequential machine, in place. A tree
-//! over the values of a thread is made of bits alone where a read without a source closes each of its traces.
+//! A list is closed, or open for the outcomes of one machine. Where a complete sketch ends as an outcome that an open
+//! list lacks, the list takes the outcome that the same choices have in its own machine, if they have a run there.
+//! A tree over a thread's values is made of bits alone where each of its traces has a read without a source.
 //!
-//! Begin with `KnownOutcomes`, `cover_whole` and `known_leaf`. Free to change: which cycle or which known
-//! outcome closes a sketch (`leaf.rt`), and whether a child takes its parent's place (`cover.rt`). Relied on:
-//! a tree is valid and within the limits of a certificate's text, an open list grows by outcomes of its own
-//! machine alone, each with a run, and each outcome keeps its number.
+//! Begin with `KnownOutcomes`, `cover_whole` and `known_leaf`. Free to change: which cycle or known outcome closes a
+//! sketch (`leaf.rt`), and whether a child takes its parent's place (`cover.rt`). Relied on: a tree is valid and
+//! within the limits of a certificate's text, an open list grows by outcomes of its own machine alone, each with a
+//! run, and each outcome keeps its number.
 #![tactic(auto)]
 
 mod access_ids;

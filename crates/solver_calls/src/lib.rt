@@ -3,9 +3,9 @@
 //! It promises nothing beyond safety, but for what a call of the libraries below asks for: a set of the
 //! program's gaps, a run that passes none of them.
 //!
-//! Begin with `push_of_solver`, `push_sketch`, `table_of` and `options`. Free to change: all that is printed,
-//! together with `tests/data/solver.tsv`, and the calls of sketches with `tests/data/calls.tsv` and
-//! `tests/judges/candidates.py`. Relied on: `hunt_calls` and `place_calls` take tables, costs and sets from here.
+//! Begin with `push_of_solver`, `push_sketch` and `table_of`. Free to change: all that is printed, together with
+//! `tests/data/solver.tsv`, and the calls of sketches with `tests/data/calls.tsv` and `tests/judges/candidates.py`.
+//! Relied on: `hunt_calls` and `place_calls` take tables, costs and sets from here.
 #![tactic(auto)]
 
 mod lines;

@@ -5,8 +5,8 @@
 //! word `--observed` may stand, for what the litmus text names, or `--condition`, for the truth of its
 //! condition. `tests/data/calls.tsv` and `tests/data/solver.tsv` have one input in each line.
 //!
-//! Begin with `answer` and the table `CALLS`. Free to change: anything, together with these cases. Relied on:
-//! nothing stands above it; it is proved once, so that a case costs milliseconds.
+//! Begin with `main`, `answer` and the table `CALLS`. Free to change: anything, together with these cases.
+//! Relied on: nothing stands above it; it is proved once, so that a case costs milliseconds.
 #![tactic(auto)]
 
 mod answer;

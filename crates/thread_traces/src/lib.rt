@@ -1,15 +1,12 @@
 //! What a thread does under given values: its trace, and the order of its accesses.
 //!
 //! A thread is walked until a read lacks a value. Its trace has its accesses with their sections, its state where
-//! it stops, and in rows of bits the program order that each union keeps. Also here: which values a location may
-//! hold, and how many combinations of traces lie ahead of a search for outcomes.
+//! it stops, and in rows of bits the program order that each union keeps.
 //!
-//! Begin with `thread_trace_of`, `SharedTrace` and `trace_combinations`. Free to change: what is kept beside a
-//! trace, which bits stand for what a thread writes (`write_bits.rt`), which traces are known again and where
-//! (`trace_tree.rt`), and where the counting of a thread gives up. Relied on: a trace is that of the definitions,
-//! its rows have just the kept program order, a value that is written has its bit, and the values of a location are
-//! all that it may hold, ascending. On the number of combinations no proof above rests; `fencer place --progress`
-//! prints it.
+//! Begin with `thread_trace_of`, `SharedTrace` and `trace_combinations`. Free to change: what is kept beside a trace
+//! (`write_bits.rt`), which traces are known again (`trace_tree.rt`), and how far combinations of traces are counted.
+//! Relied on: a trace is that of the definitions, its rows have just the kept program order, a value that is written
+//! has its bit, and the values of a location are all that it may hold, ascending.
 #![tactic(auto)]
 
 mod combinations;
