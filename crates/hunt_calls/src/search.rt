@@ -19,7 +19,7 @@ const SEATS: u8 = 2;
 
 /// What a seat does.
 #[derive(Clone, Copy)]
-enum Event {
+enum SearchEvent {
     Take,
     Split,
     Cut,
@@ -31,20 +31,20 @@ enum Event {
 /// What a word names: what a seat does, and the labels or gaps that it does it by.
 #[derive(Clone, Copy)]
 struct Act<'a> {
-    event: Event,
+    event: SearchEvent,
     seat: u8,
     labels: &'a [u8],
 }
 
-const EVENTS: [(&[u8], Event); 8] = [
-    (b"take", Event::Take),
-    (b"split", Event::Split),
-    (b"cut", Event::Cut),
-    (b"none", Event::CutBy(Making::None)),
-    (b"of", Event::CutBy(Making::Of)),
-    (b"at", Event::CutBy(Making::At)),
-    (b"confirm", Event::Confirm),
-    (b"give", Event::GiveBack),
+const EVENTS: [(&[u8], SearchEvent); 8] = [
+    (b"take", SearchEvent::Take),
+    (b"split", SearchEvent::Split),
+    (b"cut", SearchEvent::Cut),
+    (b"none", SearchEvent::CutBy(Making::None)),
+    (b"of", SearchEvent::CutBy(Making::Of)),
+    (b"at", SearchEvent::CutBy(Making::At)),
+    (b"confirm", SearchEvent::Confirm),
+    (b"give", SearchEvent::GiveBack),
 ];
 
 pub fn push_region(region: &Region, printed: &mut String) -> Result<(), AllocError> {
@@ -116,26 +116,26 @@ fn push_event(
     ensures { IsSameSearch tree.old tree.new }
 {
     let done = match act.event {
-        Event::Take => return take(tree, act.seat, printed),
-        Event::Split => {
+        SearchEvent::Take => return take(tree, act.seat, printed),
+        SearchEvent::Split => {
             split(alloc, table, tree, act.seat, act.labels)?;
             "split\n"
         }
-        Event::Cut => {
+        SearchEvent::Cut => {
             tree.cut(act.seat, Reason::Best)?;
             "cut\n"
         }
-        Event::CutBy(making) => {
+        SearchEvent::CutBy(making) => {
             let ceiling = made(alloc, table, tree, making, act.labels)?;
             write!(printed, "ceiling {:?}\n", ceiling.cost())?;
             tree.cut(act.seat, Reason::Ceiling(ceiling))?;
             "cut\n"
         }
-        Event::Confirm => {
+        SearchEvent::Confirm => {
             confirm(alloc, table, tree, act.seat)?;
             "confirmed\n"
         }
-        Event::GiveBack => {
+        SearchEvent::GiveBack => {
             tree.give_back(act.seat)?;
             "given back\n"
         }
