@@ -35,7 +35,7 @@ pub struct Hand {
 
 /// What a word names beside the ways to settle a node.
 #[derive(Clone, Copy)]
-enum Step {
+enum HuntStep {
     Next,
     GiveBack,
     Drop,
@@ -49,18 +49,18 @@ enum Step {
     Look,
 }
 
-const STEPS: [(&[u8], Step); 11] = [
-    (b"next", Step::Next),
-    (b"give", Step::GiveBack),
-    (b"drop", Step::Drop),
-    (b"settle", Step::Again),
-    (b"cut", Step::Cut),
-    (b"ceiling", Step::Ceiling),
-    (b"lower", Step::Lower),
-    (b"post", Step::Post),
-    (b"fill", Step::Fill),
-    (b"posted", Step::Posted),
-    (b"look", Step::Look),
+const STEPS: [(&[u8], HuntStep); 11] = [
+    (b"next", HuntStep::Next),
+    (b"give", HuntStep::GiveBack),
+    (b"drop", HuntStep::Drop),
+    (b"settle", HuntStep::Again),
+    (b"cut", HuntStep::Cut),
+    (b"ceiling", HuntStep::Ceiling),
+    (b"lower", HuntStep::Lower),
+    (b"post", HuntStep::Post),
+    (b"fill", HuntStep::Fill),
+    (b"posted", HuntStep::Posted),
+    (b"look", HuntStep::Look),
 ];
 
 /// The node that the seat holds.
@@ -196,20 +196,20 @@ impl Scene<'_> {
             return self.settle(wait, hand, word, printed);
         };
         match step {
-            Step::Next => push_next(wait, self.hunt, hand, printed),
-            Step::GiveBack => give_back(wait, self.hunt, hand, printed),
-            Step::Drop => {
+            HuntStep::Next => push_next(wait, self.hunt, hand, printed),
+            HuntStep::GiveBack => give_back(wait, self.hunt, hand, printed),
+            HuntStep::Drop => {
                 let _ = hand.receipts.pop();
                 Ok(())
             }
-            Step::Again => self.settle_again(wait, hand, rest, printed),
-            Step::Cut => cut(wait, self.hunt, hand, printed),
-            Step::Ceiling => Ok(push_ceiling(self.hunt, hand, printed)?),
-            Step::Lower => self.lower(hand, rest),
-            Step::Post => self.post(hand, rest, printed),
-            Step::Fill => self.fill(hand, rest),
-            Step::Posted => push_posted(self.alloc, self.hunt, hand, printed),
-            Step::Look => push_look(self.alloc, self.hunt, rest, printed),
+            HuntStep::Again => self.settle_again(wait, hand, rest, printed),
+            HuntStep::Cut => cut(wait, self.hunt, hand, printed),
+            HuntStep::Ceiling => Ok(push_ceiling(self.hunt, hand, printed)?),
+            HuntStep::Lower => self.lower(hand, rest),
+            HuntStep::Post => self.post(hand, rest, printed),
+            HuntStep::Fill => self.fill(hand, rest),
+            HuntStep::Posted => push_posted(self.alloc, self.hunt, hand, printed),
+            HuntStep::Look => push_look(self.alloc, self.hunt, rest, printed),
         }
     }
 
