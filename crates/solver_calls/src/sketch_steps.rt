@@ -18,7 +18,7 @@ use tso_program::{Outcome, Program, Shown};
 
 /// A call of a sketch, by its name.
 #[derive(Clone, Copy)]
-enum Step {
+enum SketchStep {
     New,
     Memory,
     Mode,
@@ -61,29 +61,29 @@ enum Two {
     Before,
 }
 
-const STEPS: [(&[u8], Step); 22] = [
-    (b"new", Step::New),
-    (b"memory", Step::Memory),
-    (b"mode", Step::Mode),
-    (b"whole", Step::Whole),
-    (b"copy", Step::Copy),
-    (b"find-cycle", Step::FindCycle),
-    (b"run", Step::Run),
-    (b"run-for", Step::RunFor),
-    (b"give", Step::Give),
-    (b"must-end", Step::MustEnd),
-    (b"next", Step::OfNumber(Number::Next)),
-    (b"values", Step::OfNumber(Number::Values)),
-    (b"given", Step::OfNumber(Number::Given)),
-    (b"accesses", Step::OfNumber(Number::Accesses)),
-    (b"access", Step::OfEvent(One::Access)),
-    (b"sources", Step::OfEvent(One::Sources)),
-    (b"source", Step::OfEvent(One::Source)),
-    (b"choose", Step::OfEvents(Two::Choose)),
-    (b"order", Step::OfEvents(Two::Order)),
-    (b"before", Step::OfEvents(Two::Before)),
-    (b"is-edge", Step::IsEdge),
-    (b"is-cycle", Step::IsCycle),
+const STEPS: [(&[u8], SketchStep); 22] = [
+    (b"new", SketchStep::New),
+    (b"memory", SketchStep::Memory),
+    (b"mode", SketchStep::Mode),
+    (b"whole", SketchStep::Whole),
+    (b"copy", SketchStep::Copy),
+    (b"find-cycle", SketchStep::FindCycle),
+    (b"run", SketchStep::Run),
+    (b"run-for", SketchStep::RunFor),
+    (b"give", SketchStep::Give),
+    (b"must-end", SketchStep::MustEnd),
+    (b"next", SketchStep::OfNumber(Number::Next)),
+    (b"values", SketchStep::OfNumber(Number::Values)),
+    (b"given", SketchStep::OfNumber(Number::Given)),
+    (b"accesses", SketchStep::OfNumber(Number::Accesses)),
+    (b"access", SketchStep::OfEvent(One::Access)),
+    (b"sources", SketchStep::OfEvent(One::Sources)),
+    (b"source", SketchStep::OfEvent(One::Source)),
+    (b"choose", SketchStep::OfEvents(Two::Choose)),
+    (b"order", SketchStep::OfEvents(Two::Order)),
+    (b"before", SketchStep::OfEvents(Two::Before)),
+    (b"is-edge", SketchStep::IsEdge),
+    (b"is-cycle", SketchStep::IsCycle),
 ];
 
 /// The unions of relations, by their letters in certificates.
@@ -317,26 +317,31 @@ fn push_must_end(
 fn push_step(
     alloc: Global,
     sketch: &mut Sketch,
-    step: Step,
+    step: SketchStep,
     words: &[&[u8]],
     printed: &mut String,
 ) -> Result<(), SolverRefusal> {
     match step {
-        Step::New => Ok(begin_anew(alloc, sketch)?),
-        Step::Memory => Ok(write!(printed, "{:?}", sketch.program().memory())?),
-        Step::Mode => Ok(write!(printed, "{:?}", sketch.mode())?),
-        Step::Whole => Ok(write!(printed, "{}", sketch.is_whole())?),
-        Step::Copy => Ok(replace(sketch)?),
-        Step::FindCycle => Ok(push_cycle(sketch, printed)?),
-        Step::Run => push_run(alloc, sketch, None, printed),
-        Step::RunFor => push_run(alloc, sketch, Some(byte_at(words, 0)?), printed),
-        Step::Give => push_give(sketch, words, printed),
-        Step::MustEnd => push_must_end(alloc, sketch, words, printed),
-        Step::OfNumber(step) => Ok(push_of_number(sketch, step, byte_at(words, 0)?, printed)?),
-        Step::OfEvent(step) => Ok(push_of_event(sketch, step, event_at(words, 0)?, printed)?),
-        Step::OfEvents(step) => push_of_two(sketch, step, words, printed),
-        Step::IsEdge => push_is_edge(sketch, words, printed),
-        Step::IsCycle => push_is_cycle(alloc, sketch, words, printed),
+        SketchStep::New => Ok(begin_anew(alloc, sketch)?),
+        SketchStep::Memory => Ok(write!(printed, "{:?}", sketch.program().memory())?),
+        SketchStep::Mode => Ok(write!(printed, "{:?}", sketch.mode())?),
+        SketchStep::Whole => Ok(write!(printed, "{}", sketch.is_whole())?),
+        SketchStep::Copy => Ok(replace(sketch)?),
+        SketchStep::FindCycle => Ok(push_cycle(sketch, printed)?),
+        SketchStep::Run => push_run(alloc, sketch, None, printed),
+        SketchStep::RunFor => push_run(alloc, sketch, Some(byte_at(words, 0)?), printed),
+        SketchStep::Give => push_give(sketch, words, printed),
+        SketchStep::MustEnd => push_must_end(alloc, sketch, words, printed),
+        SketchStep::OfNumber(step) => Ok(push_of_number(
+            sketch,
+            step,
+            byte_at(words, 0)?,
+            printed,
+        )?),
+        SketchStep::OfEvent(step) => Ok(push_of_event(sketch, step, event_at(words, 0)?, printed)?),
+        SketchStep::OfEvents(step) => push_of_two(sketch, step, words, printed),
+        SketchStep::IsEdge => push_is_edge(sketch, words, printed),
+        SketchStep::IsCycle => push_is_cycle(alloc, sketch, words, printed),
     }
 }
 
