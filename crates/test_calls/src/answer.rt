@@ -1,7 +1,7 @@
 //! What is printed for an input.
 
 use crate::calls::{CALLS, Call, TableCall};
-use crate::refusal::Refusal;
+use crate::refusal::CallRefusal;
 use cover_solver::SeqTable;
 use hunt_calls::{push_exchanged, push_of_hunt};
 use litmus_text::{Litmus, NameTable, read_litmus};
@@ -31,7 +31,7 @@ fn push_of_test<R: Threads + Wait + Sync>(
     words: &[&[u8]],
     test: &Test<'_>,
     printed: &mut String,
-) -> Result<(), Refusal> {
+) -> Result<(), CallRefusal> {
     let Test { names, table } = *test;
     match call {
         TableCall::Solver(call) => Ok(push_of_solver(alloc, call, words, names, table, printed)?),
@@ -48,7 +48,7 @@ fn push_of_program<R: Threads + Wait + Sync>(
     words: &[&[u8]],
     litmus: &Litmus<Program>,
     printed: &mut String,
-) -> Result<(), Refusal> {
+) -> Result<(), CallRefusal> {
     let (kind, words) = options(words);
     let table = table_of(alloc, litmus, kind)?;
     let test = Test {
@@ -66,7 +66,7 @@ fn push_of_table<R: Threads + Wait + Sync>(
     words: &[&[u8]],
     text: &[u8],
     printed: &mut String,
-) -> Result<(), Refusal> {
+) -> Result<(), CallRefusal> {
     let litmus = read_litmus(alloc, text)?;
     push_of_program(rt, alloc, call, words, &litmus, printed)
 }
@@ -78,7 +78,7 @@ fn push_read(
     words: &[&[u8]],
     text: &[u8],
     printed: &mut String,
-) -> Result<(), Refusal> {
+) -> Result<(), CallRefusal> {
     let litmus = read_litmus(alloc, text)?;
     Ok(push_of_litmus(alloc, call, words, &litmus, printed)?)
 }
@@ -89,7 +89,7 @@ fn push_steps(
     words: &[&[u8]],
     text: &[u8],
     printed: &mut String,
-) -> Result<(), Refusal> {
+) -> Result<(), CallRefusal> {
     let litmus = read_litmus(alloc, text)?;
     Ok(push_sketch(alloc, words, &litmus.program, printed)?)
 }
@@ -102,7 +102,7 @@ fn push_of_call<R: Threads + Wait + Sync>(
     words: &[&[u8]],
     text: &[u8],
     printed: &mut String,
-) -> Result<(), Refusal> {
+) -> Result<(), CallRefusal> {
     match call {
         Call::Text(call) => Ok(push_of_text(alloc, call, words, text, printed)?),
         Call::Litmus(call) => push_read(alloc, call, words, text, printed),
@@ -119,9 +119,9 @@ fn push_of_words<R: Threads + Wait + Sync>(
     words: &[&[u8]],
     text: &[u8],
     printed: &mut String,
-) -> Result<(), Refusal> {
+) -> Result<(), CallRefusal> {
     let Some((name, words)) = words.split_first() else {
-        return Err(Refusal::Call);
+        return Err(CallRefusal::Call);
     };
     let call = named(&CALLS, name)?;
     push_of_call(rt, alloc, call, words, text, printed)
@@ -132,7 +132,7 @@ fn push_answer<R: Threads + Wait + Sync>(
     alloc: Global,
     input: &[u8],
     printed: &mut String,
-) -> Result<(), Refusal> {
+) -> Result<(), CallRefusal> {
     let (line, text) = split_line(input);
     let words = words_of(alloc, line)?;
     push_of_words(rt, alloc, words.as_slice(), text, printed)

@@ -10,7 +10,7 @@ use thiserror::Error;
 
 /// A refusal by the call, or `Call`, where the first line is not a call.
 #[derive(Clone, Copy, Debug, Error)]
-pub enum Refusal {
+pub enum CallRefusal {
     #[error("call")]
     Call,
     #[error("memory")]
