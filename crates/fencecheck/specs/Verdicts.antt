@@ -24,8 +24,8 @@ use Rattle.report.specs.Answers.{accepted_line}
 use Rattle.report.specs.CertificateLines.{certificate_line}
 use Rattle.report.specs.CheckLines.{check_line}
 use Rattle.report.specs.Faults.{litmus_line, costs_line}
-use Rattle.fencecheck.specs.declared.judge.Refusal.{Refusal}
-use Rattle.fencecheck.specs.declared.judge.Refusal.TheVariants as refusal
+use Rattle.fencecheck.specs.declared.judge.Rejection.{Rejection}
+use Rattle.fencecheck.specs.declared.judge.Rejection.TheVariants as rejection
 
 -- the first text is a program's, and the second this certificate's
 pub record Spell (litmus certificate : List ℕ) (program : Litmus Listing) (claimed : Certificate) : Type 0 where
@@ -68,24 +68,24 @@ pub record IsNoCertificate (text : List ℕ) (fault : CertFault) : Type 0 where
 
 -- Why a certificate is refused: the litmus text is judged first, then the certificate's text, the costs, and what the
 -- certificate shows.
-abbrev pub IsRefused : List ℕ → List ℕ → Option (List ℕ) → Refusal → Type 0
-IsRefused litmus certificate costs (refusal.Litmus fault) = litmus_texts.IsNoLitmus litmus fault
-IsRefused litmus certificate costs (refusal.Certificate fault) =
+abbrev pub IsRefused : List ℕ → List ℕ → Option (List ℕ) → Rejection → Type 0
+IsRefused litmus certificate costs (rejection.Litmus fault) = litmus_texts.IsNoLitmus litmus fault
+IsRefused litmus certificate costs (rejection.Certificate fault) =
     (program : Litmus Listing) × litmus_texts.IsLitmus litmus program × IsNoCertificate certificate fault
-IsRefused litmus certificate costs (refusal.Costs fault) =
+IsRefused litmus certificate costs (rejection.Costs fault) =
     (program : Litmus Listing) × (claimed : Certificate) × Spell litmus certificate program claimed × AreNotGiven program.program costs fault
-IsRefused litmus certificate costs (refusal.Check fault) =
+IsRefused litmus certificate costs (rejection.Check fault) =
     (program : Litmus Listing) × (claimed : Certificate) × (gap_costs : List ℕ) × Spell litmus certificate program claimed
     × AreGiven program.program costs gap_costs × CheckFaultIs (asked program.program (handed_in program claimed.shown)) gap_costs claimed fault
 
 -- the line of a refusal
-abbrev pub refusal_line : Refusal → List ℕ
-refusal_line (refusal.Litmus fault) = litmus_line fault
-refusal_line (refusal.Certificate fault) = certificate_line fault
-refusal_line (refusal.Costs fault) = costs_line fault
-refusal_line (refusal.Check fault) = check_line fault
+abbrev pub refusal_line : Rejection → List ℕ
+refusal_line (rejection.Litmus fault) = litmus_line fault
+refusal_line (rejection.Certificate fault) = certificate_line fault
+refusal_line (rejection.Costs fault) = costs_line fault
+refusal_line (rejection.Check fault) = check_line fault
 
 -- what is printed, with its status: the line that accepts, or that of a refusal
 pub data IsVerdict (litmus certificate : List ℕ) (costs : Option (List ℕ)) : ℕ → List ℕ → Type 0 where
   accepted : (line : List ℕ) → IsAccepted litmus certificate costs line → IsVerdict litmus certificate costs 0 line
-  refused : (why : Refusal) → IsRefused litmus certificate costs why → IsVerdict litmus certificate costs 1 (refusal_line why)
+  refused : (why : Rejection) → IsRefused litmus certificate costs why → IsVerdict litmus certificate costs 1 (refusal_line why)

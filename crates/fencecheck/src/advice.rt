@@ -3,7 +3,7 @@
 ghost use Rattle.std.specs.Prelude.{◌≡◌};
 
 use crate::command::{JOINED, Names};
-use crate::judge::Refusal;
+use crate::judge::Rejection;
 use messages::{
     Message, STDIN, Source, certificate_message, check_message, costs_message, file_or_input,
     litmus_message, unread_message,
@@ -58,22 +58,22 @@ fn certificate_source<'a>(subject: &Subject<'a>) -> Source<'a> {
 fn refusal_message(
     alloc: Global,
     subject: &Subject<'_>,
-    why: &Refusal,
+    why: &Rejection,
 ) -> Result<Message, AllocError> {
     match why {
-        Refusal::Litmus(fault) => {
+        Rejection::Litmus(fault) => {
             let name = file_or_input(subject.names.litmus);
             litmus_message(alloc, Source::new(name, subject.litmus), *fault)
         }
-        Refusal::Certificate(fault) => {
+        Rejection::Certificate(fault) => {
             certificate_message(alloc, certificate_source(subject), *fault)
         }
-        Refusal::Costs(fault) => {
+        Rejection::Costs(fault) => {
             let costs = subject.costs.unwrap_or(b"");
             let source = Source::new(subject.names.costs.unwrap_or(""), costs);
             costs_message(alloc, source, *fault, subject.litmus)
         }
-        Refusal::Check(fault) => check_message(alloc, certificate_source(subject), fault),
+        Rejection::Check(fault) => check_message(alloc, certificate_source(subject), fault),
     }
 }
 
@@ -81,7 +81,7 @@ fn refusal_message(
 pub(crate) fn refusal_advice(
     alloc: Global,
     subject: Subject<'_>,
-    why: &Refusal,
+    why: &Rejection,
 ) -> Result<Vec<u8>, AllocError> {
     refusal_message(alloc, &subject, why)?.written(alloc)
 }

@@ -20,7 +20,7 @@ use tso_program::{Program, Shown, ShownKind};
 
 /// Why a certificate isn't accepted.
 #[derive(Debug, Drop)]
-pub enum Refusal {
+pub enum Rejection {
     /// The first text isn't a litmus text.
     Litmus(ReadFault),
     /// The second isn't a certificate's.
@@ -32,14 +32,14 @@ pub enum Refusal {
 }
 
 /// The line of a refusal.
-pub fn refusal_line(alloc: Global, refusal: &Refusal) -> Result<Vec<u8>, AllocError>
+pub fn refusal_line(alloc: Global, refusal: &Rejection) -> Result<Vec<u8>, AllocError>
     ensures { IfOk result (λ line. line.items ≡ refusal_line refusal.now) }
 {
     match refusal {
-        Refusal::Litmus(fault) => litmus_line(alloc, *fault),
-        Refusal::Certificate(fault) => certificate_line(alloc, *fault),
-        Refusal::Costs(fault) => costs_line(alloc, *fault),
-        Refusal::Check(fault) => check_line(alloc, fault),
+        Rejection::Litmus(fault) => litmus_line(alloc, *fault),
+        Rejection::Certificate(fault) => certificate_line(alloc, *fault),
+        Rejection::Costs(fault) => costs_line(alloc, *fault),
+        Rejection::Check(fault) => check_line(alloc, fault),
     }
 }
 
@@ -82,21 +82,21 @@ fn judge_certificate(
     litmus: &Litmus<Program>,
     certificate: &Certificate,
     costs: Option<&[u8]>,
-) -> Result<Vec<u8>, Refusal>
+) -> Result<Vec<u8>, Rejection>
     ensures accepted { (source claim : List ℕ) → Spell source claim litmus.now certificate.now → IfOk result (λ line. IsAccepted source claim (option_map (λ text. text.now) costs.entry) line.items) }
     ensures refused { (source claim : List ℕ) → Spell source claim litmus.now certificate.now → IfErr result (IsRefused source claim (option_map (λ text. text.now) costs.entry)) }
 {
     let costs = match given_costs(alloc, costs, &litmus.program) {
         Ok(costs) => costs,
-        Err(fault) => return Err(Refusal::Costs(fault)),
+        Err(fault) => return Err(Rejection::Costs(fault)),
     };
     let shown = match handed_in(litmus, &certificate.shown) {
         Ok(shown) => shown,
-        Err(_) => return Err(Refusal::Certificate(CertFault::OutOfMemory)),
+        Err(_) => return Err(Rejection::Certificate(CertFault::OutOfMemory)),
     };
     match checked_line(alloc, &litmus.program, &shown, &costs, certificate) {
         Ok(line) => Ok(line),
-        Err(fault) => Err(Refusal::Check(fault)),
+        Err(fault) => Err(Rejection::Check(fault)),
     }
 }
 
@@ -107,17 +107,17 @@ pub fn judge(
     litmus: &[u8],
     certificate: &[u8],
     costs: Option<&[u8]>,
-) -> Result<Vec<u8>, Refusal>
+) -> Result<Vec<u8>, Rejection>
     ensures accepted { IfOk result (λ line. IsAccepted litmus.now certificate.now (option_map (λ text. text.now) costs.entry) line.items) }
     ensures refused { IfErr result (IsRefused litmus.now certificate.now (option_map (λ text. text.now) costs.entry)) }
 {
     let litmus = match read_litmus(alloc, litmus) {
         Ok(litmus) => litmus,
-        Err(fault) => return Err(Refusal::Litmus(fault)),
+        Err(fault) => return Err(Rejection::Litmus(fault)),
     };
     let certificate = match read_cert(alloc, certificate) {
         Ok(certificate) => certificate,
-        Err(fault) => return Err(Refusal::Certificate(fault)),
+        Err(fault) => return Err(Rejection::Certificate(fault)),
     };
     judge_certificate(alloc, &litmus, &certificate, costs)
 }
