@@ -24,8 +24,8 @@ use Rattle.report.specs.Answers.{printed_labels, outcome_line}
 use Rattle.documents.specs.Documents.{IsOutcomesDocument, IsOutcomesWithRunsDocument}
 use Rattle.report.specs.Observations.{is_true_of, observation_line, condition_line}
 use Rattle.fencer_words.specs.declared.job.OutcomeQuery.{OutcomeQuery}
-use Rattle.fencer.specs.declared.refusals.Refusal.{Refusal}
-use Rattle.fencer.specs.declared.refusals.Refusal.TheVariants as refusal
+use Rattle.fencer.specs.declared.refusals.AnswerFault.{AnswerFault}
+use Rattle.fencer.specs.declared.refusals.AnswerFault.TheVariants as answer_fault
 use Rattle.fencer.specs.Statuses.{check_status}
 use Rattle.fencer.specs.TextAnswers.{IsAnswerTo}
 
@@ -84,11 +84,11 @@ pub record PrintsOutcomes (q : OutcomeQuery) (bytes : List ℕ) (status : ℕ) (
   pub ends : status ≡ list_status q.check litmus outcomes
 
 -- why there is no list: the text is no litmus text, or memory was wanting
-abbrev pub HasNoList : List ℕ → Refusal → Type 0
-HasNoList bytes (refusal.Litmus fault) = IsNoLitmus bytes fault
-HasNoList bytes (refusal.Run fault) = ⊥
-HasNoList bytes (refusal.Replay fault) = ⊥
-HasNoList bytes (refusal.Solve fault) = (litmus : Litmus Listing) × IsLitmus bytes litmus × (fault ≡ solve.OutOfMemory)
+abbrev pub HasNoList : List ℕ → AnswerFault → Type 0
+HasNoList bytes (answer_fault.Litmus fault) = IsNoLitmus bytes fault
+HasNoList bytes (answer_fault.Run fault) = ⊥
+HasNoList bytes (answer_fault.Replay fault) = ⊥
+HasNoList bytes (answer_fault.Solve fault) = (litmus : Litmus Listing) × IsLitmus bytes litmus × (fault ≡ solve.OutOfMemory)
 
 -- the answer to a question for outcomes, with its status: the lines of the list, or the line of a refusal
 abbrev pub AreOutcomes : OutcomeQuery → Option (List ℕ) → (List ℕ → Option (List ℕ)) → ℕ → List ℕ → Type 0

@@ -3,8 +3,8 @@ use Rattle.std.specs.Prelude.{◌≡◌, ℕ, Bool, List, Result, Ok, Err, codes
 use Rattle.cover_solver.specs.declared.fault.SolveFault.{SolveFault}
 use Rattle.cover_solver.specs.declared.fault.SolveFault.TheVariants as solve
 use Rattle.report.specs.Faults.{refused, litmus_line, replay_line, run_line}
-use Rattle.fencer.specs.declared.refusals.Refusal.{Refusal}
-use Rattle.fencer.specs.declared.refusals.Refusal.TheVariants as refusal
+use Rattle.fencer.specs.declared.refusals.AnswerFault.{AnswerFault}
+use Rattle.fencer.specs.declared.refusals.AnswerFault.TheVariants as answer_fault
 use Rattle.fencer.specs.declared.refusals.Reply.{Reply}
 use Rattle.fencer.specs.Refused.{RefusalSays}
 
@@ -13,13 +13,13 @@ solve_line solve.NoRun = refused (codes "solve 1 NoRun")
 solve_line solve.OutOfMemory = refused (codes "solve 2 OutOfMemory")
 
 -- the line of a refusal
-abbrev pub refusal_line : Refusal → List ℕ
-refusal_line (refusal.Litmus fault) = litmus_line fault
-refusal_line (refusal.Run fault) = run_line fault
-refusal_line (refusal.Replay fault) = replay_line fault
-refusal_line (refusal.Solve fault) = solve_line fault
+abbrev pub refusal_line : AnswerFault → List ℕ
+refusal_line (answer_fault.Litmus fault) = litmus_line fault
+refusal_line (answer_fault.Run fault) = run_line fault
+refusal_line (answer_fault.Replay fault) = replay_line fault
+refusal_line (answer_fault.Solve fault) = solve_line fault
 
 -- what is printed, with its status: the lines of an answer, or the line of a refusal or its document
-abbrev pub IsTold : Bool → Result Reply Refusal → ℕ → List ℕ → Type 0
+abbrev pub IsTold : Bool → Result Reply AnswerFault → ℕ → List ℕ → Type 0
 IsTold json (Ok reply) status text = (status ≡ reply.status) × (text ≡ reply.lines.items)
 IsTold json (Err why) status text = (status ≡ 1) × RefusalSays json (refusal_line why) text

@@ -17,8 +17,8 @@ use Rattle.tso_machine.specs.RunTexts.{IsRunText, RunFaultIs}
 use Rattle.litmus_text.specs.Litmus.{Litmus}
 use Rattle.litmus_text.specs.Texts.{IsLitmus, IsNoLitmus}
 use Rattle.report.specs.Answers.{outcome_line, passed_line}
-use Rattle.fencer.specs.declared.refusals.Refusal.{Refusal}
-use Rattle.fencer.specs.declared.refusals.Refusal.TheVariants as refusal
+use Rattle.fencer.specs.declared.refusals.AnswerFault.{AnswerFault}
+use Rattle.fencer.specs.declared.refusals.AnswerFault.TheVariants as answer_fault
 use Rattle.fencer.specs.TextAnswers.{IsAnswerTo}
 
 -- label words as one text, each after a space
@@ -46,11 +46,11 @@ pub record IsRefusedReplay (model : Model) (labels bytes : List ℕ) (fault : Re
   pub why : ReplayFaultIs litmus.program (machine_of_model litmus.program set.empty model) steps fault
 
 -- why a text and labels have no replay: the text is judged before the labels, and these before the run
-abbrev pub HasNoRun : Model → List ℕ → List ℕ → Refusal → Type 0
-HasNoRun model labels bytes (refusal.Litmus fault) = IsNoLitmus bytes fault
-HasNoRun model labels bytes (refusal.Run fault) = (litmus : Litmus Listing) × IsLitmus bytes litmus × RunFaultIs labels fault
-HasNoRun model labels bytes (refusal.Replay fault) = IsRefusedReplay model labels bytes fault
-HasNoRun model labels bytes (refusal.Solve fault) = ⊥
+abbrev pub HasNoRun : Model → List ℕ → List ℕ → AnswerFault → Type 0
+HasNoRun model labels bytes (answer_fault.Litmus fault) = IsNoLitmus bytes fault
+HasNoRun model labels bytes (answer_fault.Run fault) = (litmus : Litmus Listing) × IsLitmus bytes litmus × RunFaultIs labels fault
+HasNoRun model labels bytes (answer_fault.Replay fault) = IsRefusedReplay model labels bytes fault
+HasNoRun model labels bytes (answer_fault.Solve fault) = ⊥
 
 -- this holds of each text that spells the program
 abbrev pub OfEachText : Litmus Listing → (List ℕ → Type 0) → Type 0

@@ -9,7 +9,7 @@ use Rattle.fencer_words.specs.CommandFiles.{name_of}
 use Rattle.documents.specs.Documents.{IsTraceDocument}
 use Rattle.tso_machine.specs.declared.label.Model.{Model}
 use Rattle.fencer.specs.declared.delivery.Answer.{Answer}
-use Rattle.fencer.specs.declared.refusals.Refusal.{Refusal}
+use Rattle.fencer.specs.declared.refusals.AnswerFault.{AnswerFault}
 use Rattle.fencer.specs.Deliveries.{IsDelivered, KeepAllFiles}
 use Rattle.fencer.specs.Documented.{DeliversDocument}
 use Rattle.fencer.specs.Refusals.{refusal_line}
@@ -39,7 +39,7 @@ pub record DeliversTrace (q : TraceQuery) (bytes : List ℕ) (answer : Answer) :
 pub data IsTraceOf (q : TraceQuery) (bytes : List ℕ) (files left : List ℕ → Option (List ℕ)) : ℕ → List ℕ → Type 0 where
   traced : (answer : Answer) (status : ℕ) (text : List ℕ) → DeliversTrace q bytes answer
       → IsDelivered (name_of q.page) (name_of q.graph) left answer status text → IsTraceOf q bytes files left status text
-  refused_for : (why : Refusal) (text : List ℕ) → HasNoRun q.run.model (label_words_text q.run.labels.items) bytes why → RefusalSays q.json (refusal_line why) text → KeepAllFiles files left → IsTraceOf q bytes files left 1 text
+  refused_for : (why : AnswerFault) (text : List ℕ) → HasNoRun q.run.model (label_words_text q.run.labels.items) bytes why → RefusalSays q.json (refusal_line why) text → KeepAllFiles files left → IsTraceOf q bytes files left 1 text
 
 -- the answer to a trace; or why its file isn't read, and then no file is changed
 pub data IsTrace (q : TraceQuery) (input : Option (List ℕ)) (files left : List ℕ → Option (List ℕ)) : ℕ → List ℕ → Type 0 where

@@ -2,7 +2,7 @@
 
 ghost use Rattle.std.specs.Prelude.{◌≡◌};
 
-use crate::refusals::Refusal;
+use crate::refusals::AnswerFault;
 use crate::texts::Texts;
 use messages::{
     Message, Source, costs_message, fence_message, file_or_input, litmus_message, replay_message,
@@ -54,14 +54,14 @@ pub(crate) fn unwritten_advice(alloc: Global, name: Option<&str>) -> Result<Mess
 pub(crate) fn refusal_advice(
     alloc: Global,
     subject: Subject<'_>,
-    why: Refusal,
+    why: AnswerFault,
 ) -> Result<Message, AllocError> {
     let Subject { name, text, labels } = subject;
     match why {
-        Refusal::Litmus(fault) => litmus_message(alloc, Source::new(name, text), fault),
-        Refusal::Run(fault) => run_message(alloc, name, labels, fault),
-        Refusal::Replay(fault) => replay_message(alloc, name, labels, fault),
-        Refusal::Solve(fault) => {
+        AnswerFault::Litmus(fault) => litmus_message(alloc, Source::new(name, text), fault),
+        AnswerFault::Run(fault) => run_message(alloc, name, labels, fault),
+        AnswerFault::Replay(fault) => replay_message(alloc, name, labels, fault),
+        AnswerFault::Solve(fault) => {
             let text = format!(in alloc; "{fault}")?;
             Message::of_file(alloc, name, text.as_str())
         }

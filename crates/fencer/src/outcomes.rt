@@ -12,7 +12,7 @@ ghost use Rattle.cover_solver.specs.declared.fault.SolveFault.TheVariants as sol
 ghost use Rattle.fencer.specs.Outcomes.{listed_kind, list_text as lines_of_list, list_status, run_line_at, ListsOutcomes, ListsRuns, PrintsOutcomes, HasNoList, AreOutcomes, TellsOutcomes};
 
 use crate::advice::{Subject, unread_advice, unread_litmus};
-use crate::refusals::{Refusal, Reply, print_answer};
+use crate::refusals::{AnswerFault, Reply, print_answer};
 use crate::refused::tell_refusal;
 use crate::status::check_status;
 use cert_forest::Runs;
@@ -138,7 +138,7 @@ fn reply_for<T: Threads + Sync>(
     litmus: &Litmus<Program>,
     asked: &OutcomeQuery,
     progress: Progress,
-) -> Result<Reply, Refusal>
+) -> Result<Reply, AnswerFault>
     ensures list { (bytes : List ℕ) → IsLitmus bytes litmus.now → IfOk result (λ reply. PrintsOutcomes asked.now bytes reply.status reply.lines.items) }
     ensures refused { (bytes : List ℕ) → IsLitmus bytes litmus.now → IfErr result (HasNoList bytes) }
 {
@@ -148,7 +148,7 @@ fn reply_for<T: Threads + Sync>(
     let status = list_status(asked.check, litmus, &list.outcomes);
     match list_text(alloc, asked, litmus, &shown, &list) {
         Ok(lines) => Ok(Reply { lines, status }),
-        Err(_) => Err(Refusal::Solve(SolveFault::OutOfMemory)),
+        Err(_) => Err(AnswerFault::Solve(SolveFault::OutOfMemory)),
     }
 }
 
@@ -159,7 +159,7 @@ fn outcomes_reply<T: Threads + Sync>(
     bytes: &[u8],
     asked: &OutcomeQuery,
     progress: Progress,
-) -> Result<Reply, Refusal>
+) -> Result<Reply, AnswerFault>
     ensures list { IfOk result (λ reply. PrintsOutcomes asked.now bytes.now reply.status reply.lines.items) }
     ensures refused { IfErr result (HasNoList bytes.now) }
 {

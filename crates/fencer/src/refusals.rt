@@ -2,7 +2,7 @@
 
 ghost use Rattle.std.specs.Prelude.{◌≡◌, IfOk};
 ghost use Rattle.program_streams.specs.Streams.{Prints};
-ghost use Rattle.fencer.specs.declared.refusals.Refusal.TheVariants as refusal;
+ghost use Rattle.fencer.specs.declared.refusals.AnswerFault.TheVariants as answer_fault;
 ghost use Rattle.fencer.specs.Refusals.{refusal_line, solve_line, IsTold};
 
 use crate::advice::{Subject, refusal_advice};
@@ -16,7 +16,7 @@ use tso_machine::{ReplayFault, RunFault};
 
 /// Why there is no answer.
 #[derive(Clone, Copy, PartialEq, Eq, Debug)]
-pub enum Refusal {
+pub enum AnswerFault {
     /// The text isn't a litmus text.
     Litmus(ReadFault),
     /// The labels aren't those of a run.
@@ -27,35 +27,35 @@ pub enum Refusal {
     Solve(SolveFault),
 }
 
-impl From<ReadFault> for Refusal {
-    ghost from_gives = { λ fault why. why ≡ refusal.Litmus fault };
+impl From<ReadFault> for AnswerFault {
+    ghost from_gives = { λ fault why. why ≡ answer_fault.Litmus fault };
 
-    fn from(fault: ReadFault) -> Refusal {
-        Refusal::Litmus(fault)
+    fn from(fault: ReadFault) -> AnswerFault {
+        AnswerFault::Litmus(fault)
     }
 }
 
-impl From<RunFault> for Refusal {
-    ghost from_gives = { λ fault why. why ≡ refusal.Run fault };
+impl From<RunFault> for AnswerFault {
+    ghost from_gives = { λ fault why. why ≡ answer_fault.Run fault };
 
-    fn from(fault: RunFault) -> Refusal {
-        Refusal::Run(fault)
+    fn from(fault: RunFault) -> AnswerFault {
+        AnswerFault::Run(fault)
     }
 }
 
-impl From<ReplayFault> for Refusal {
-    ghost from_gives = { λ fault why. why ≡ refusal.Replay fault };
+impl From<ReplayFault> for AnswerFault {
+    ghost from_gives = { λ fault why. why ≡ answer_fault.Replay fault };
 
-    fn from(fault: ReplayFault) -> Refusal {
-        Refusal::Replay(fault)
+    fn from(fault: ReplayFault) -> AnswerFault {
+        AnswerFault::Replay(fault)
     }
 }
 
-impl From<SolveFault> for Refusal {
-    ghost from_gives = { λ fault why. why ≡ refusal.Solve fault };
+impl From<SolveFault> for AnswerFault {
+    ghost from_gives = { λ fault why. why ≡ answer_fault.Solve fault };
 
-    fn from(fault: SolveFault) -> Refusal {
-        Refusal::Solve(fault)
+    fn from(fault: SolveFault) -> AnswerFault {
+        AnswerFault::Solve(fault)
     }
 }
 
@@ -70,14 +70,14 @@ pub(crate) fn solve_line(alloc: Global, fault: SolveFault) -> Result<Vec<u8>, Al
 }
 
 /// The line of a refusal.
-pub(crate) fn refusal_line(alloc: Global, why: Refusal) -> Result<Vec<u8>, AllocError>
+pub(crate) fn refusal_line(alloc: Global, why: AnswerFault) -> Result<Vec<u8>, AllocError>
     ensures { IfOk result (λ line. line.items ≡ refusal_line why) }
 {
     match why {
-        Refusal::Litmus(fault) => litmus_line(alloc, fault),
-        Refusal::Run(fault) => run_line(alloc, fault),
-        Refusal::Replay(fault) => replay_line(alloc, fault),
-        Refusal::Solve(fault) => solve_line(alloc, fault),
+        AnswerFault::Litmus(fault) => litmus_line(alloc, fault),
+        AnswerFault::Run(fault) => run_line(alloc, fault),
+        AnswerFault::Replay(fault) => replay_line(alloc, fault),
+        AnswerFault::Solve(fault) => solve_line(alloc, fault),
     }
 }
 
@@ -94,7 +94,7 @@ pub fn print_answer<W: Console>(
     alloc: Global,
     json: bool,
     subject: Subject<'_>,
-    answer: Result<Reply, Refusal>,
+    answer: Result<Reply, AnswerFault>,
     output: &mut W,
 ) -> u8
     ensures { Prints (IsTold json answer) (W.contents output.old) (W.contents output.new) result }

@@ -8,7 +8,7 @@ ghost use Rattle.program_streams.specs.Files.{ReadsOfInput};
 ghost use Rattle.fencer.specs.Replays.{label_words_text, HasNoRun, IsReplay, OfEachText, ShowsRun};
 
 use crate::advice::{Subject, unread_advice, unread_litmus};
-use crate::refusals::{Refusal, Reply, print_answer};
+use crate::refusals::{AnswerFault, Reply, print_answer};
 use crate::refused::tell_refusal;
 use fencer_words::Run;
 use gap_sets::GapSet;
@@ -64,7 +64,7 @@ fn run_lines(
     litmus: &Litmus<Program>,
     model: Model,
     labels: &[String],
-) -> Result<Reply, Refusal>
+) -> Result<Reply, AnswerFault>
     ensures run { IfOk result (λ reply. OfEachText litmus.now (λ bytes. ShowsRun model (label_words_text labels.now) bytes reply.status reply.lines.items)) }
     ensures refused { IfErr result (λ why. OfEachText litmus.now (λ bytes. HasNoRun model (label_words_text labels.now) bytes why)) }
 {
@@ -72,7 +72,7 @@ fn run_lines(
     let ended = replay(alloc, &litmus.program, &GapSet::empty(), model, &steps)?;
     match ended_lines(alloc, litmus, &ended) {
         Ok(lines) => Ok(Reply { lines, status: 0 }),
-        Err(_) => Err(Refusal::Replay(ReplayFault::OutOfMemory)),
+        Err(_) => Err(AnswerFault::Replay(ReplayFault::OutOfMemory)),
     }
 }
 
@@ -83,7 +83,7 @@ fn replay_lines(
     bytes: &[u8],
     model: Model,
     labels: &[String],
-) -> Result<Reply, Refusal>
+) -> Result<Reply, AnswerFault>
     ensures run { IfOk result (λ reply. ShowsRun model (label_words_text labels.now) bytes.now reply.status reply.lines.items) }
     ensures refused { IfErr result (HasNoRun model (label_words_text labels.now) bytes.now) }
 {

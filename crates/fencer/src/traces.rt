@@ -17,7 +17,7 @@ ghost use Rattle.fencer.specs.Traces.{DeliversTrace, PrintsTrace, IsTrace, IsTra
 use crate::advice::{Subject, refusal_advice, unread_advice, unread_litmus};
 use crate::delivery::{Answer, deliver};
 use crate::documented::documented;
-use crate::refusals::{Refusal, refusal_line};
+use crate::refusals::{AnswerFault, refusal_line};
 use crate::refused::tell_refusal;
 use crate::replays::{ended_lines, steps_of};
 use documents::trace_document;
@@ -108,7 +108,7 @@ struct Said {
 
 /// The lines of the run that label words spell in a program, its document and its graph. The labels are judged before the
 /// replay.
-fn run_said(alloc: Global, litmus: &Litmus<Program>, run: &Run) -> Result<Said, Refusal>
+fn run_said(alloc: Global, litmus: &Litmus<Program>, run: &Run) -> Result<Said, AnswerFault>
     ensures run { IfOk result (λ said. OfEachText litmus.now (λ bytes. PrintsTrace run.now.model (label_words_text run.now.labels.items) bytes said.lines.items said.document.items)) }
     ensures refused { IfErr result (λ why. OfEachText litmus.now (λ bytes. HasNoRun run.now.model (label_words_text run.now.labels.items) bytes why)) }
 {
@@ -126,13 +126,13 @@ fn run_said(alloc: Global, litmus: &Litmus<Program>, run: &Run) -> Result<Said, 
             document,
             graph,
         }),
-        Err(_) => Err(Refusal::Replay(ReplayFault::OutOfMemory)),
+        Err(_) => Err(AnswerFault::Replay(ReplayFault::OutOfMemory)),
     }
 }
 
 /// The lines of the run that label words spell in the program that a text spells, its document and its graph. The text is
 /// judged before the labels.
-fn trace_of(alloc: Global, bytes: &[u8], run: &Run) -> Result<Said, Refusal>
+fn trace_of(alloc: Global, bytes: &[u8], run: &Run) -> Result<Said, AnswerFault>
     ensures run { IfOk result (λ said. PrintsTrace run.now.model (label_words_text run.now.labels.items) bytes.now said.lines.items said.document.items) }
     ensures refused { IfErr result (HasNoRun run.now.model (label_words_text run.now.labels.items) bytes.now) }
 {
@@ -141,7 +141,7 @@ fn trace_of(alloc: Global, bytes: &[u8], run: &Run) -> Result<Said, Refusal>
 }
 
 /// What is delivered of a run.
-fn trace_answer(alloc: Global, bytes: &[u8], asked: &TraceQuery) -> Result<Answer, Refusal>
+fn trace_answer(alloc: Global, bytes: &[u8], asked: &TraceQuery) -> Result<Answer, AnswerFault>
     ensures told { IfOk result (DeliversTrace asked.now bytes.now) }
     ensures refused { IfErr result (HasNoRun asked.now.run.model (label_words_text asked.now.run.labels.items) bytes.now) }
 {
@@ -160,7 +160,7 @@ fn trace_answer(alloc: Global, bytes: &[u8], asked: &TraceQuery) -> Result<Answe
         graph,
     ) {
         Ok(answer) => Ok(answer),
-        Err(_) => Err(Refusal::Replay(ReplayFault::OutOfMemory)),
+        Err(_) => Err(AnswerFault::Replay(ReplayFault::OutOfMemory)),
     }
 }
 
