@@ -13,7 +13,7 @@ use std::alloc::{AllocError, Global};
 
 /// The texts that are judged, with the names of their files.
 #[derive(Clone, Copy, Debug)]
-pub(crate) struct Subject<'a> {
+pub(crate) struct JudgedTexts<'a> {
     pub(crate) names: Names<'a>,
     pub(crate) litmus: &'a [u8],
     pub(crate) certificate: &'a [u8],
@@ -47,7 +47,7 @@ pub(crate) fn unread_input_advice(alloc: Global, fault: FileFault) -> Result<Vec
 }
 
 /// The certificate; where it is read from the input it stands after the litmus text.
-fn certificate_source<'a>(subject: &Subject<'a>) -> Source<'a> {
+fn certificate_source<'a>(subject: &JudgedTexts<'a>) -> Source<'a> {
     if subject.names.certificate == JOINED.certificate {
         Source::after(STDIN, subject.litmus, subject.certificate)
     } else {
@@ -57,7 +57,7 @@ fn certificate_source<'a>(subject: &Subject<'a>) -> Source<'a> {
 
 fn refusal_message(
     alloc: Global,
-    subject: &Subject<'_>,
+    subject: &JudgedTexts<'_>,
     why: &Rejection,
 ) -> Result<Message, AllocError> {
     match why {
@@ -80,7 +80,7 @@ fn refusal_message(
 /// Why a certificate isn't accepted.
 pub(crate) fn refusal_advice(
     alloc: Global,
-    subject: Subject<'_>,
+    subject: JudgedTexts<'_>,
     why: &Rejection,
 ) -> Result<Vec<u8>, AllocError> {
     refusal_message(alloc, &subject, why)?.written(alloc)

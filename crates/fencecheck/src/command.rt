@@ -8,7 +8,7 @@ ghost use Rattle.fencecheck.specs.Replies.{usage_text, AreOfFiles, IsFilesFault,
 ghost use Rattle.fencecheck.specs.Inputs.{ReadsEnough, ReadsForVerdict};
 ghost use Rattle.fencecheck.specs.Internal.Names.{file_names_of};
 
-use crate::advice::{Subject, refusal_advice, unread, unread_advice, unread_input_advice};
+use crate::advice::{JudgedTexts, refusal_advice, unread, unread_advice, unread_input_advice};
 use crate::judge::{judge, refusal_line};
 use crate::parts::{CERTIFICATE_LIMIT, read_joined};
 use messages::{STDIN, file_or_input};
@@ -53,7 +53,7 @@ fn print_verdict<W: Console>(
     match judge(alloc, litmus, certificate, costs) {
         Ok(line) => print(output, Ok(line), 0),
         Err(refusal) => {
-            let subject = Subject {
+            let subject = JudgedTexts {
                 names,
                 litmus,
                 certificate,
