@@ -15,7 +15,7 @@ use witness_text::WitnessFault;
 
 /// What an answer is asked about: the text of a litmus file, and labels where there are any.
 #[derive(Clone, Copy, Debug)]
-pub(crate) struct Subject<'a> {
+pub(crate) struct AskedText<'a> {
     pub(crate) name: &'a str,
     pub(crate) text: &'a [u8],
     pub(crate) labels: &'a [String],
@@ -53,10 +53,10 @@ pub(crate) fn unwritten_advice(alloc: Global, name: Option<&str>) -> Result<Mess
 /// Why there is no answer.
 pub(crate) fn refusal_advice(
     alloc: Global,
-    subject: Subject<'_>,
+    subject: AskedText<'_>,
     why: AnswerFault,
 ) -> Result<Message, AllocError> {
-    let Subject { name, text, labels } = subject;
+    let AskedText { name, text, labels } = subject;
     match why {
         AnswerFault::Litmus(fault) => litmus_message(alloc, Source::new(name, text), fault),
         AnswerFault::Run(fault) => run_message(alloc, name, labels, fault),

@@ -11,7 +11,7 @@ ghost use Rattle.litmus_text.specs.Texts.{IsLitmus};
 ghost use Rattle.cover_solver.specs.declared.fault.SolveFault.TheVariants as solve;
 ghost use Rattle.fencer.specs.Outcomes.{listed_kind, list_text as lines_of_list, list_status, run_line_at, ListsOutcomes, ListsRuns, PrintsOutcomes, HasNoList, AreOutcomes, TellsOutcomes};
 
-use crate::advice::{Subject, unread_advice, unread_litmus};
+use crate::advice::{AskedText, unread_advice, unread_litmus};
 use crate::refusals::{AnswerFault, Reply, print_answer};
 use crate::refused::tell_refusal;
 use crate::status::check_status;
@@ -182,7 +182,7 @@ pub fn run_outcomes<T: Threads + Sync, S: FileStore, R: Read, W: Console>(
     let litmus = asked.litmus.as_str();
     match named_bytes(alloc, files, litmus, input, TEXT_LIMIT) {
         Ok(bytes) => {
-            let subject = Subject {
+            let subject = AskedText {
                 name: file_or_input(litmus),
                 text: &bytes,
                 labels: &[],

@@ -5,7 +5,7 @@ ghost use Rattle.program_streams.specs.Streams.{Prints};
 ghost use Rattle.fencer.specs.declared.refusals.AnswerFault.TheVariants as answer_fault;
 ghost use Rattle.fencer.specs.Refusals.{refusal_line, solve_line, IsTold};
 
-use crate::advice::{Subject, refusal_advice};
+use crate::advice::{AskedText, refusal_advice};
 use crate::refused::tell_refusal;
 use cover_solver::SolveFault;
 use litmus_text::ReadFault;
@@ -93,7 +93,7 @@ pub struct Reply {
 pub fn print_answer<W: Console>(
     alloc: Global,
     json: bool,
-    subject: Subject<'_>,
+    subject: AskedText<'_>,
     answer: Result<Reply, AnswerFault>,
     output: &mut W,
 ) -> u8

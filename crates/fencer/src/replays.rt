@@ -7,7 +7,7 @@ ghost use Rattle.program_streams.specs.Streams.{Prints};
 ghost use Rattle.program_streams.specs.Files.{ReadsOfInput};
 ghost use Rattle.fencer.specs.Replays.{label_words_text, HasNoRun, IsReplay, OfEachText, ShowsRun};
 
-use crate::advice::{Subject, unread_advice, unread_litmus};
+use crate::advice::{AskedText, unread_advice, unread_litmus};
 use crate::refusals::{AnswerFault, Reply, print_answer};
 use crate::refused::tell_refusal;
 use fencer_words::Run;
@@ -106,7 +106,7 @@ pub fn run_replay<S: FileStore, R: Read, W: Console>(
         Ok(bytes) => print_answer(
             alloc,
             false,
-            Subject {
+            AskedText {
                 name: file_or_input(asked.litmus.as_str()),
                 text: &bytes,
                 labels: asked.labels.as_slice(),

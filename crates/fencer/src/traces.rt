@@ -14,7 +14,7 @@ ghost use Rattle.documents.specs.Documents.{IsTraceDocument};
 ghost use Rattle.fencer_words.specs.CommandFiles.{name_of};
 ghost use Rattle.fencer.specs.Traces.{DeliversTrace, PrintsTrace, IsTrace, IsTraceOf};
 
-use crate::advice::{Subject, refusal_advice, unread_advice, unread_litmus};
+use crate::advice::{AskedText, refusal_advice, unread_advice, unread_litmus};
 use crate::delivery::{Answer, deliver};
 use crate::documented::documented;
 use crate::refusals::{AnswerFault, refusal_line};
@@ -180,7 +180,7 @@ fn trace_text<S: WritableFileStore, W: Console>(
     match trace_answer(alloc, bytes, asked) {
         Ok(answer) => deliver(alloc, files, page, graph, answer, output),
         Err(why) => {
-            let subject = Subject {
+            let subject = AskedText {
                 name: file_or_input(asked.run.litmus.as_str()),
                 text: bytes,
                 labels: asked.run.labels.as_slice(),
