@@ -3,16 +3,16 @@
 use crate::named::{location, number};
 use json_text::{JsonArray, JsonObject, JsonText};
 use litmus_text::{Litmus, NameTable};
-use run_views::{Candidate, Edge, Event, Relation, candidate_of};
+use run_views::{Candidate, Edge, Relation, RunEvent, candidate_of};
 use std::alloc::{AllocError, Global};
 use tso_machine::Step;
 use tso_program::Program;
 
 /// An access by the number of its step, an initial write by its location's name.
-fn event_value(alloc: Global, names: &NameTable, event: Event) -> Result<JsonText, AllocError> {
+fn event_value(alloc: Global, names: &NameTable, event: RunEvent) -> Result<JsonText, AllocError> {
     match event {
-        Event::Initial(place) => location(alloc, names, place),
-        Event::Access(step) => number(alloc, step),
+        RunEvent::Initial(place) => location(alloc, names, place),
+        RunEvent::Access(step) => number(alloc, step),
     }
 }
 

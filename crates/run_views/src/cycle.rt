@@ -1,7 +1,7 @@
 //! A cycle of edges, which sequential consistency forbids.
 
 use crate::edges::Edge;
-use crate::events::{Access, Event};
+use crate::events::{Access, RunEvent};
 use std::alloc::{AllocError, Global};
 
 /// An edge by which a search reaches an event for the first time.
@@ -12,7 +12,7 @@ struct Visit {
     before: Option<usize>,
 }
 
-fn is_reached(visits: &[Visit], event: Event) -> bool {
+fn is_reached(visits: &[Visit], event: RunEvent) -> bool {
     for visit in visits {
         if visit.edge.to == event {
             return true;
@@ -25,7 +25,7 @@ fn is_reached(visits: &[Visit], event: Event) -> bool {
 fn visit_next(
     visits: &mut Vec<Visit>,
     edges: &[Edge],
-    from: Event,
+    from: RunEvent,
     before: Option<usize>,
 ) -> Result<(), AllocError> {
     for edge in edges {
@@ -40,7 +40,7 @@ fn visit_next(
 }
 
 /// The visits of each event that a path leads to from an event, the nearest first.
-fn visits_from(alloc: Global, edges: &[Edge], start: Event) -> Result<Vec<Visit>, AllocError> {
+fn visits_from(alloc: Global, edges: &[Edge], start: RunEvent) -> Result<Vec<Visit>, AllocError> {
     let mut visits: Vec<Visit> = Vec::new(alloc);
     visit_next(&mut visits, edges, start, None)?;
     for number in 0..edges.len() {
@@ -53,7 +53,7 @@ fn visits_from(alloc: Global, edges: &[Edge], start: Event) -> Result<Vec<Visit>
 }
 
 /// The number of the visit that reaches an event.
-fn visit_of(visits: &[Visit], event: Event) -> Option<usize> {
+fn visit_of(visits: &[Visit], event: RunEvent) -> Option<usize> {
     for (number, visit) in visits.iter().enumerate() {
         if visit.edge.to == event {
             return Some(number);
@@ -66,8 +66,8 @@ fn visit_of(visits: &[Visit], event: Event) -> Option<usize> {
 fn shortest_path(
     alloc: Global,
     edges: &[Edge],
-    from: Event,
-    to: Event,
+    from: RunEvent,
+    to: RunEvent,
 ) -> Result<Vec<Edge>, AllocError> {
     let visits = visits_from(alloc, edges, from)?;
     let mut path = Vec::new(alloc);
@@ -94,7 +94,7 @@ fn shortest_cycle(
 ) -> Result<Vec<Edge>, AllocError> {
     let mut shortest = Vec::new(alloc);
     for access in accesses {
-        let event = Event::Access(access.step);
+        let event = RunEvent::Access(access.step);
         let cycle = shortest_path(alloc, edges, event, event)?;
         if shortest.is_empty() || (!cycle.is_empty() && cycle.len() < shortest.len()) {
             shortest = cycle;
@@ -108,7 +108,7 @@ fn first_access(edges: &[Edge]) -> usize {
     let mut first = 0;
     let mut earliest = usize::MAX;
     for (place, edge) in edges.iter().enumerate() {
-        if let Event::Access(step) = edge.from {
+        if let RunEvent::Access(step) = edge.from {
             if step < earliest {
                 first = place;
                 earliest = step;

@@ -1,6 +1,6 @@
 //! The edges of a candidate execution.
 
-use crate::events::{Access, Event, Execution, write_before};
+use crate::events::{Access, Execution, RunEvent, write_before};
 use std::alloc::{AllocError, Global};
 
 /// The relation of which an edge is.
@@ -29,17 +29,17 @@ impl Relation {
 /// A pair of a relation.
 #[derive(Clone, Copy, PartialEq, Eq, Debug)]
 pub struct Edge {
-    pub from: Event,
-    pub to: Event,
+    pub from: RunEvent,
+    pub to: RunEvent,
     pub relation: Relation,
 }
 
 /// The last access of the same thread before an access.
-fn access_before(accesses: &[Access], access: &Access) -> Option<Event> {
+fn access_before(accesses: &[Access], access: &Access) -> Option<RunEvent> {
     let mut last = None;
     for other in accesses {
         if other.thread == access.thread && other.step < access.step {
-            last = Some(Event::Access(other.step));
+            last = Some(RunEvent::Access(other.step));
         }
     }
     last
@@ -50,7 +50,7 @@ fn push_program_order(edges: &mut Vec<Edge>, accesses: &[Access]) -> Result<(), 
         if let Some(from) = access_before(accesses, access) {
             edges.push(Edge {
                 from,
-                to: Event::Access(access.step),
+                to: RunEvent::Access(access.step),
                 relation: Relation::ProgramOrder,
             })?;
         }
@@ -63,7 +63,7 @@ fn push_reads_from(edges: &mut Vec<Edge>, accesses: &[Access]) -> Result<(), All
         if let Some(from) = access.source {
             edges.push(Edge {
                 from,
-                to: Event::Access(access.step),
+                to: RunEvent::Access(access.step),
                 relation: Relation::ReadsFrom,
             })?;
         }
@@ -75,7 +75,7 @@ fn push_coherence(edges: &mut Vec<Edge>, execution: &Execution) -> Result<(), Al
     for store in &execution.in_memory {
         edges.push(Edge {
             from: write_before(&execution.in_memory, *store),
-            to: Event::Access(store.step),
+            to: RunEvent::Access(store.step),
             relation: Relation::Coherence,
         })?;
     }
@@ -83,7 +83,7 @@ fn push_coherence(edges: &mut Vec<Edge>, execution: &Execution) -> Result<(), Al
 }
 
 /// The write that reaches memory next after a write of the same location.
-fn next_write(edges: &[Edge], write: Event) -> Option<Event> {
+fn next_write(edges: &[Edge], write: RunEvent) -> Option<RunEvent> {
     for edge in edges {
         if edge.relation == Relation::Coherence && edge.from == write {
             return Some(edge.to);
@@ -95,7 +95,7 @@ fn next_write(edges: &[Edge], write: Event) -> Option<Event> {
 /// The edge from a read to the write after the one that it reads from. An XCHG that reads the write just before its own
 /// has none: that edge would lead to itself.
 fn from_read(edges: &[Edge], access: &Access) -> Option<Edge> {
-    let from = Event::Access(access.step);
+    let from = RunEvent::Access(access.step);
     let to = next_write(edges, access.source?)?;
     if to == from {
         return None;
@@ -128,7 +128,7 @@ pub(crate) fn edges_of(alloc: Global, execution: &Execution) -> Result<Vec<Edge>
 }
 
 /// The edge of program order that leads to an event.
-fn order_into(edges: &[Edge], to: Event) -> Option<Edge> {
+fn order_into(edges: &[Edge], to: RunEvent) -> Option<Edge> {
     for edge in edges {
         if edge.relation == Relation::ProgramOrder && edge.to == to {
             return Some(*edge);
@@ -146,7 +146,7 @@ pub(crate) fn edge_over(
 ) -> Option<Edge> {
     for access in accesses {
         if access.thread == thread && access.instruction >= instruction {
-            let to = Event::Access(access.step);
+            let to = RunEvent::Access(access.step);
             return order_into(edges, to);
         }
     }

@@ -8,7 +8,7 @@ use tso_program::{Action, Program};
 
 /// An event of a candidate execution.
 #[derive(Clone, Copy, PartialEq, Eq, Debug)]
-pub enum Event {
+pub enum RunEvent {
     /// The initial write of a location.
     Initial(usize),
     /// The access of a step, by the step's number.
@@ -25,7 +25,7 @@ pub(crate) struct Access {
     /// The instruction as it is written, what it reads and what it writes.
     pub(crate) text: Vec<u8>,
     /// The write that it reads from, if it reads.
-    pub(crate) source: Option<Event>,
+    pub(crate) source: Option<RunEvent>,
 }
 
 /// A write of a step.
@@ -98,11 +98,11 @@ fn access_text(
 }
 
 /// The last of some writes to a location, or its initial write.
-fn last_write(stores: &[Store], location: usize) -> Event {
-    let mut last = Event::Initial(location);
+fn last_write(stores: &[Store], location: usize) -> RunEvent {
+    let mut last = RunEvent::Initial(location);
     for store in stores {
         if store.location == location {
-            last = Event::Access(store.step);
+            last = RunEvent::Access(store.step);
         }
     }
     last
@@ -146,9 +146,9 @@ impl Execution {
     }
 
     /// The write that a thread reads from.
-    fn source(&self, thread: u8, location: usize) -> Event {
+    fn source(&self, thread: u8, location: usize) -> RunEvent {
         match self.newest_waiting(thread, location) {
-            Some(store) => Event::Access(store.step),
+            Some(store) => RunEvent::Access(store.step),
             None => last_write(&self.in_memory, location),
         }
     }
@@ -224,14 +224,14 @@ pub(crate) fn execution_of(
 }
 
 /// The write of the same location that reached memory last before a write, or the initial one.
-pub(crate) fn write_before(in_memory: &[Store], store: Store) -> Event {
-    let mut last = Event::Initial(store.location);
+pub(crate) fn write_before(in_memory: &[Store], store: Store) -> RunEvent {
+    let mut last = RunEvent::Initial(store.location);
     for other in in_memory {
         if *other == store {
             return last;
         }
         if other.location == store.location {
-            last = Event::Access(other.step);
+            last = RunEvent::Access(other.step);
         }
     }
     last

@@ -3,7 +3,7 @@
 use crate::candidate::{Candidate, candidate_of};
 use crate::cells::push_value;
 use crate::edges::{Edge, Relation};
-use crate::events::{Access, Event};
+use crate::events::{Access, RunEvent};
 use litmus_text::{Litmus, NameTable, location_name};
 use std::alloc::{AllocError, Global};
 use tso_machine::Step;
@@ -28,15 +28,15 @@ fn push_event(
     out: &mut Vec<u8>,
     names: &NameTable,
     run: usize,
-    event: Event,
+    event: RunEvent,
 ) -> Result<(), AllocError> {
     match event {
-        Event::Initial(location) => {
+        RunEvent::Initial(location) => {
             let text = format!(in alloc; "run{run}_init_")?;
             out.extend_from_slice(text.as_bytes())?;
             out.extend_from_slice(location_name(names, location))?;
         }
-        Event::Access(step) => {
+        RunEvent::Access(step) => {
             let text = format!(in alloc; "run{run}_step{step}")?;
             out.extend_from_slice(text.as_bytes())?;
         }
@@ -44,7 +44,7 @@ fn push_event(
     Ok(())
 }
 
-fn is_used(edges: &[Edge], event: Event) -> bool {
+fn is_used(edges: &[Edge], event: RunEvent) -> bool {
     for edge in edges {
         if edge.from == event {
             return true;
@@ -62,7 +62,7 @@ fn push_initial_writes(
     edges: &[Edge],
 ) -> Result<(), AllocError> {
     for (location, value) in litmus.program.memory().iter().enumerate() {
-        let event = Event::Initial(location);
+        let event = RunEvent::Initial(location);
         if is_used(edges, event) {
             out.extend_from_slice(b"    ")?;
             push_event(alloc, out, &litmus.names, run, event)?;
@@ -86,7 +86,7 @@ fn push_accesses(
     for access in accesses {
         if access.thread as usize == thread {
             out.extend_from_slice(b"      ")?;
-            push_event(alloc, out, names, run, Event::Access(access.step))?;
+            push_event(alloc, out, names, run, RunEvent::Access(access.step))?;
             out.extend_from_slice(b" [label=\"")?;
             out.extend_from_slice(&access.text)?;
             out.extend_from_slice(b"\"];\n")?;
@@ -116,7 +116,7 @@ fn push_threads(
 
 /// Whether an edge counts for the rows of the picture: program order leads down, and initial writes are at the top.
 fn leads_down(edge: &Edge) -> bool {
-    edge.relation == Relation::ProgramOrder || matches!(edge.from, Event::Initial(_))
+    edge.relation == Relation::ProgramOrder || matches!(edge.from, RunEvent::Initial(_))
 }
 
 fn push_edge(

@@ -20,6 +20,6 @@ mod table;
 pub use candidate::{Candidate, candidate_of};
 pub use cells::{action_of, waits, written};
 pub use edges::{Edge, Relation};
-pub use events::Event;
+pub use events::RunEvent;
 pub use graph::RunGraph;
 pub use table::run_table;
