@@ -1,7 +1,7 @@
 -- Workers of a hunt: what they know, and why they end.
 use Rattle.fence_place.proofs.Vocabulary.{◌≡◌, ◌∙◌, Bool, true, false, ℕ, List, Option, Some, refl, sym, subst, Worker, PlaceFault, All, IfSome, slice_get, slice_index_or, All-get_or, slice_get_within, get_or_from_slice_get, HuntView, HasStopped, MayStop}
 use Rattle.fence_place.proofs.Vocabulary.{NoneLacksRun, FaultIsAfter, lacks_run_for}
-use Rattle.fence_place.specs.{declared.worker.Stop.Stop, declared.worker.Stop.TheVariants.NoRun, Faults.MayHuntFail}
+use Rattle.fence_place.specs.{declared.worker.StopReason.StopReason, declared.worker.StopReason.TheVariants.NoRun, Faults.MayHuntFail}
 use Rattle.fence_place.specs.declared.fault.PlaceFault.TheVariants as fault
 
 -- what holds of each element holds of the one at a place
@@ -12,7 +12,7 @@ element P xs place x at all = subst P (get_or_from_slice_get xs place x x at) (A
 pub read_at : {X : Type 0} (xs : List X) (place : ℕ) (x y d : X) → slice_get xs place ≡ Some x → y ≡ slice_index_or xs place d → x ≡ y
 read_at xs place x y d at is = sym (is ∙ get_or_from_slice_get xs place x d at)
 
-none_lacked : (stop : Option Stop) → IfSome stop (MayStop false) → lacks_run_for stop ≡ false
+none_lacked : (stop : Option StopReason) → IfSome stop (MayStop false) → lacks_run_for stop ≡ false
 none_lacked (Some NoRun) may = sym may
 none_lacked stop may = refl
 

@@ -19,7 +19,7 @@ use std::sync::Wait;
 
 /// Why a worker gives its node back. But for `Later` it ends then.
 #[derive(Clone, Copy, Debug, PartialEq, Eq)]
-pub(crate) enum Stop {
+pub(crate) enum StopReason {
     /// A cheaper set was asked about, so a better node may be open now.
     Later,
     /// Another worker has confirmed a set that no open node betters, and settles what is left.
@@ -35,7 +35,7 @@ pub(crate) struct Worker {
     pub(crate) seat: HuntSeat,
     pub(crate) known: Vec<ForeignRun>,
     pub(crate) receipts: Vec<Receipt>,
-    pub(crate) stop: Option<Stop>,
+    pub(crate) stop: Option<StopReason>,
 }
 
 impl Worker {
@@ -58,7 +58,7 @@ impl Worker {
         ensures { result ≡ lacks_run self.now }
     {
         match self.stop {
-            Some(Stop::NoRun) => true,
+            Some(StopReason::NoRun) => true,
             _ => false,
         }
     }
@@ -66,7 +66,7 @@ impl Worker {
     /// Whether there was no memory.
     pub(crate) fn lacks_memory(&self) -> bool {
         match self.stop {
-            Some(Stop::OutOfMemory) => true,
+            Some(StopReason::OutOfMemory) => true,
             _ => false,
         }
     }
@@ -98,7 +98,7 @@ pub(crate) fn work<W: Wait, O: Oracle>(
         };
         if let Err(stop) = settle(wait, shared, oracle, worker, &node) {
             shared.hunt.give_back(wait, &mut worker.seat);
-            if stop != Stop::Later {
+            if stop != StopReason::Later {
                 worker.stop = Some(stop);
                 break;
             }
@@ -113,7 +113,7 @@ fn settle<W: Wait, O: Oracle>(
     oracle: &O,
     worker: &mut Worker,
     node: &Region,
-) -> Result<(), Stop>
+) -> Result<(), StopReason>
     requires node { IsToSettle (O.question oracle.now) shared.now.hunt worker.old node.now }
     requires may { O.may_be_asked oracle.now }
     ensures { HasDealtWith shared.now.hunt (O.may_lack_runs oracle.now) worker.old worker.new node.now result }
@@ -180,20 +180,20 @@ fn keep_receipt<W: Wait>(
     hunt: &Hunt,
     worker: &mut Worker,
     settling: Settling,
-) -> Result<(), Stop>
+) -> Result<(), StopReason>
     requires of { IsOf hunt.now worker.old.seat }
     requires lawful { MaySettle hunt.now worker.old.seat settling }
     ensures of { IsOf hunt.now worker.new.seat }
     ensures settled { OnOk result (worker.new.seat.node ≡ None) }
     ensures held { OnErr result (worker.new.seat ≡ worker.old.seat) }
-    ensures fault { IfErr result (λ stop. stop ≡ Stop.OutOfMemory) }
+    ensures fault { IfErr result (λ stop. stop ≡ StopReason.OutOfMemory) }
     ensures same { (worker.new.known ≡ worker.old.known) × (worker.new.stop ≡ worker.old.stop) }
 {
     if worker.receipts.reserve(1).is_err() {
-        return Err(Stop::OutOfMemory);
+        return Err(StopReason::OutOfMemory);
     }
     let Ok(receipt) = hunt.settle(wait, &mut worker.seat, settling) else {
-        return Err(Stop::OutOfMemory);
+        return Err(StopReason::OutOfMemory);
     };
     worker.receipts.push_reserved(receipt);
     Ok(())
@@ -206,7 +206,7 @@ fn settle_in_turn<W: Wait, O: Oracle>(
     oracle: &O,
     worker: &mut Worker,
     node: &Region,
-) -> Result<(), Stop>
+) -> Result<(), StopReason>
     requires node { IsToSettle (O.question oracle.now) shared.now.hunt worker.old node.now }
     requires may { O.may_be_asked oracle.now }
     ensures { HasDealtWith shared.now.hunt (O.may_lack_runs oracle.now) worker.old worker.new node.now result }
@@ -215,8 +215,8 @@ fn settle_in_turn<W: Wait, O: Oracle>(
     let costs = shared.hunt.costs();
     match shared.turns.begin(wait, costs, seat, &node.must) {
         Turn::Now => {}
-        Turn::Later => return Err(Stop::Later),
-        Turn::Never => return Err(Stop::Beaten),
+        Turn::Later => return Err(StopReason::Later),
+        Turn::Never => return Err(StopReason::Beaten),
     }
     let settled = settle_by_oracle(wait, shared, oracle, worker, node);
     shared.turns.end(wait, costs, seat, worker.seat.best());
@@ -230,7 +230,7 @@ fn settle_by_oracle<W: Wait, O: Oracle>(
     oracle: &O,
     worker: &mut Worker,
     node: &Region,
-) -> Result<(), Stop>
+) -> Result<(), StopReason>
     requires node { IsToSettle (O.question oracle.now) shared.now.hunt worker.old node.now }
     requires may { O.may_be_asked oracle.now }
     ensures { HasDealtWith shared.now.hunt (O.may_lack_runs oracle.now) worker.old worker.new node.now result }
@@ -259,7 +259,7 @@ fn keep(known: &mut Vec<ForeignRun>, run: ForeignRun)
 }
 
 /// What the oracle says of a set, or why the worker stops.
-fn ask<O: Oracle>(oracle: &O, set: &GapSet) -> Result<Verdict, Stop>
+fn ask<O: Oracle>(oracle: &O, set: &GapSet) -> Result<Verdict, StopReason>
     requires gaps { AreGapsOf (O.question oracle.now).program set.now }
     requires may { O.may_be_asked oracle.now }
     ensures verdict { IfOk result (IsVerdictOf (O.question oracle.now) set.now) }
@@ -267,7 +267,7 @@ fn ask<O: Oracle>(oracle: &O, set: &GapSet) -> Result<Verdict, Stop>
 {
     match oracle.ask(set) {
         Ok(verdict) => Ok(verdict),
-        Err(SolveFault::NoRun) => Err(Stop::NoRun),
-        Err(SolveFault::OutOfMemory) => Err(Stop::OutOfMemory),
+        Err(SolveFault::NoRun) => Err(StopReason::NoRun),
+        Err(SolveFault::OutOfMemory) => Err(StopReason::OutOfMemory),
     }
 }

@@ -7,7 +7,7 @@ use Rattle.cover_solver.specs.Facts.{AreOf}
 use Rattle.hunt_board.specs.Seats.{HuntView, IsOf}
 use Rattle.fence_place.specs.declared.fault.PlaceFault.{PlaceFault}
 use Rattle.fence_place.specs.declared.fault.PlaceFault.TheVariants as fault
-use Rattle.fence_place.specs.declared.worker.Stop.{Stop, TheVariants.NoRun}
+use Rattle.fence_place.specs.declared.worker.StopReason.{StopReason, TheVariants.NoRun}
 use Rattle.fence_place.specs.declared.worker.Worker.{Worker}
 
 -- the worker's seat is of the hunt and holds this node or none, and the runs that it knows are of the hunt's question
@@ -21,7 +21,7 @@ abbrev pub IsReadyWorker : HuntView → Worker → Type 0
 IsReadyWorker h w = IsAt h w None × (w.stop ≡ None)
 
 -- the oracle lacks a run only where it may
-abbrev pub MayStop : Bool → Stop → Type 0
+abbrev pub MayStop : Bool → StopReason → Type 0
 MayStop may_lack_runs NoRun = may_lack_runs ≡ true
 MayStop may_lack_runs stop = Unit {0}
 
@@ -37,7 +37,7 @@ pub record IsStillAt (h : HuntView) (before after : Worker) (n : Region) : Type 
   pub stop : after.stop ≡ before.stop
 
 -- the worker has settled this node, or it still holds it and has cause to give it back; it has not ended since
-pub record HasDealtWith (h : HuntView) (may_lack_runs : Bool) (before after : Worker) (n : Region) (r : Result (Unit {0}) Stop) : Type 0 where
+pub record HasDealtWith (h : HuntView) (may_lack_runs : Bool) (before after : Worker) (n : Region) (r : Result (Unit {0}) StopReason) : Type 0 where
   pub settled : OnOk r (IsAt h after None)
   pub held : OnErr r (IsAt h after (Some n))
   pub fault : IfErr r (MayStop may_lack_runs)
@@ -48,7 +48,7 @@ abbrev pub HasStopped : HuntView → Bool → Worker → Type 0
 HasStopped h may_lack_runs w = IsAt h w None × IfSome w.stop (MayStop may_lack_runs)
 
 -- whether it ended since the oracle lacked a run
-abbrev pub lacks_run_for : Option Stop → Bool
+abbrev pub lacks_run_for : Option StopReason → Bool
 lacks_run_for (Some NoRun) = true
 lacks_run_for stop = false
 

@@ -6,7 +6,7 @@ use Rattle.cover_solver.proofs.foreign_run.ForeignRun.TheSendSync as run
 use Rattle.hunt_board.proofs.Crossing.{seat_send}
 use Rattle.hunt_board.proofs.settling.Receipt.TheSendSync as receipt
 use Rattle.fence_place.specs.contracts.worker.Worker as worker
-use Rattle.fence_place.proofs.worker.Stop.TheSendSync as stop
+use Rattle.fence_place.proofs.worker.StopReason.TheSendSync as stop
 use Rattle.fence_place.proofs.hunting.work_all.Goals as goal
 
 -- a worker holds a seat, runs, receipts, and why it stops, and each may go to another thread
