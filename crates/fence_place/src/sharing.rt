@@ -32,7 +32,7 @@ pub(crate) fn ceiling_below(hunt: &Hunt, seat: &mut HuntSeat, set: &GapSet) -> O
 
 /// Where a run is posted, and how many nodes it opens.
 #[derive(Clone, Copy, Debug)]
-struct Place {
+struct RunPlace {
     seat: u8,
     index: usize,
     opens: usize,
@@ -51,7 +51,7 @@ pub(crate) fn copy_of_posted(alloc: Global, hunt: &Hunt, node: &Region) -> Optio
 }
 
 /// Of the posted runs that pass no gap which the node's sets must have, one that opens the fewest nodes.
-fn posted_run(hunt: &Hunt, node: &Region) -> Option<Place> {
+fn posted_run(hunt: &Hunt, node: &Region) -> Option<RunPlace> {
     let mut best = None;
     for seat in 0..MAX_WORKERS {
         best = better_in_row(hunt, seat, node, best);
@@ -60,7 +60,12 @@ fn posted_run(hunt: &Hunt, node: &Region) -> Option<Place> {
 }
 
 /// The same, of those in a seat's row and one found before.
-fn better_in_row(hunt: &Hunt, seat: u8, node: &Region, found: Option<Place>) -> Option<Place> {
+fn better_in_row(
+    hunt: &Hunt,
+    seat: u8,
+    node: &Region,
+    found: Option<RunPlace>,
+) -> Option<RunPlace> {
     let mut best = found;
     for index in 0..ROW_CELLS {
         let Some(run) = hunt.look(seat, index) else {
@@ -68,7 +73,7 @@ fn better_in_row(hunt: &Hunt, seat: u8, node: &Region, found: Option<Place>) -> 
         };
         let opens = count_open(run.passed(), node.never);
         if best.is_none_or(|best| opens < best.opens) && may_split(run, node) {
-            best = Some(Place { seat, index, opens });
+            best = Some(RunPlace { seat, index, opens });
         }
     }
     best
