@@ -1,6 +1,6 @@
 -- Parts of a tree's text.
 use Rattle.cert_pages.proofs.Vocabulary.{◌≡◌, ℕ, zero, suc, ◌+◌, ◌-◌, ◌<◌, ◌≤◌, List, [], ◌∷◌, ◌++◌, length, take, drop, refl, sym, ap, ◌∙◌, subst, append_assoc, arith, append-nil, drop_all, take_all, IfSome, Option, Some, slice_index_or, Cover, CoverNode}
-use Rattle.cert_pages.proofs.Vocabulary.{IsNext, children_of, root_of, spell_all, next_is_shorter, Part, trees_text, IsWritten, LeadTo, WriteFrom}
+use Rattle.cert_pages.proofs.Vocabulary.{IsNext, children_of, root_of, spell_all, next_is_shorter, TreePart, trees_text, IsWritten, LeadTo, WriteFrom}
 unfoldable use Rattle.cert_pages.specs.Parts.{after}
 
 -- ---- so many nodes of trees
@@ -47,12 +47,12 @@ after_is_shorter (suc m) (t ∷ ts) some lt = omega (arith, after_no_longer m (c
 -- ---- parts one after another
 
 -- one part more
-pub one_part_more : (ts : List Cover) (parts : List Part) (part : Part) (mid next : List Cover) → LeadTo ts parts mid → part.start ≡ mid → next ≡ after part.nodes mid → LeadTo ts (parts ++ part ∷ []) next
+pub one_part_more : (ts : List Cover) (parts : List TreePart) (part : TreePart) (mid next : List Cover) → LeadTo ts parts mid → part.start ≡ mid → next ≡ after part.nodes mid → LeadTo ts (parts ++ part ∷ []) next
 one_part_more ts [] part mid next led start e = (start ∙ sym led, ap (after part.nodes) led ∙ sym e)
 one_part_more ts (p ∷ parts) part mid next led start e = (led.0, one_part_more (after p.nodes ts) parts part mid next led.1 start e)
 
 -- each of them is written
-pub all_written : (ts left : List Cover) (old new : List Part) → LeadTo ts old left → length new ≡ length old → ((i : ℕ) (d : Part) → i < length old → IsWritten (slice_index_or old i d) (slice_index_or new i d)) → WriteFrom ts new left
+pub all_written : (ts left : List Cover) (old new : List TreePart) → LeadTo ts old left → length new ≡ length old → ((i : ℕ) (d : TreePart) → i < length old → IsWritten (slice_index_or old i d) (slice_index_or new i d)) → WriteFrom ts new left
 all_written ts left [] [] led count each = led
 all_written ts left [] (n ∷ new) led count each = absurd (omega (arith, count))
 all_written ts left (o ∷ old) [] led count each = absurd (omega (arith, count))
@@ -63,24 +63,24 @@ all_written ts left (o ∷ old) (n ∷ new) led count each = (
 )
 
 -- the last of some parts
-last_part : (ts left : List Cover) (parts : List Part) (part : Part) → WriteFrom ts (parts ++ part ∷ []) left → (mid : List Cover) × WriteFrom ts parts mid × IfSome part.text (λ text. text ++ trees_text left ≡ trees_text mid)
+last_part : (ts left : List Cover) (parts : List TreePart) (part : TreePart) → WriteFrom ts (parts ++ part ∷ []) left → (mid : List Cover) × WriteFrom ts parts mid × IfSome part.text (λ text. text ++ trees_text left ≡ trees_text mid)
 last_part ts left [] part (next, written, e) = (ts, refl, subst (λ (us : List Cover). IfSome part.text (λ text. text ++ trees_text us ≡ trees_text ts)) e written)
 last_part ts left (p ∷ parts) part (next, written, others) = let rest = last_part next left parts part others in (rest.0, (next, written, rest.1), rest.2)
 
 -- the text is that of the parts
-abbrev pub IsTextOf : List Part → List ℕ → Type 0
+abbrev pub IsTextOf : List TreePart → List ℕ → Type 0
 IsTextOf parts text = (ts left : List Cover) → WriteFrom ts parts left → text ++ trees_text left ≡ trees_text ts
 
 pub no_part : IsTextOf [] []
 no_part ts left is = ap trees_text (sym is)
 
-pub one_part : (parts : List Part) (part : Part) (text words : List ℕ) → part.text ≡ Some words → IsTextOf parts text → IsTextOf (parts ++ part ∷ []) (text ++ words)
+pub one_part : (parts : List TreePart) (part : TreePart) (text words : List ℕ) → part.text ≡ Some words → IsTextOf parts text → IsTextOf (parts ++ part ∷ []) (text ++ words)
 one_part parts part text words is so ts left write =
     let last = last_part ts left parts part write in
     append_assoc text words (trees_text left)
     ∙ ap (λ (w : List ℕ). text ++ w) (subst (λ (found : Option (List ℕ)). IfSome found (λ found. found ++ trees_text left ≡ trees_text last.0)) is last.2) ∙ so ts last.0 last.1
 
-pub all_parts : (parts : List Part) (text : List ℕ) (ts : List Cover) → IsTextOf parts text → WriteFrom ts parts [] → text ≡ trees_text ts
+pub all_parts : (parts : List TreePart) (text : List ℕ) (ts : List Cover) → IsTextOf parts text → WriteFrom ts parts [] → text ≡ trees_text ts
 all_parts parts text ts so write = sym (append-nil text) ∙ so ts [] write
 
 -- as many are written back as there were

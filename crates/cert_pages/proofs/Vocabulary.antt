@@ -20,4 +20,4 @@ pub use Rattle.tso_machine.specs.RunTexts.{spelling}
 pub use Rattle.cert_pages.specs.Drafts.{draft_text}
 pub use Rattle.cert_pages.specs.Parts.{AreWritten, IsWritten, LeadTo, WriteFrom, trees_text}
 unfoldable pub use Rattle.cert_pages.specs.Parts.{after}
-pub use Rattle.cert_pages.specs.declared.parts.Part.{Part}
+pub use Rattle.cert_pages.specs.declared.parts.TreePart.{TreePart}

@@ -20,7 +20,7 @@ const PART_NODES: usize = 32_768;
 
 /// Some of a tree's nodes, in order, to be written by themselves.
 #[derive(Drop)]
-pub(crate) struct Part<'a> {
+pub(crate) struct TreePart<'a> {
     /// A walk that comes to the part next.
     start: Walk<'a>,
     nodes: usize,
@@ -28,7 +28,7 @@ pub(crate) struct Part<'a> {
     text: Option<Pages>,
 }
 
-impl Part<'_> {
+impl TreePart<'_> {
     /// Writes the part.
     fn write(&mut self, alloc: Global)
         ensures { IsWritten self.old self.new }
@@ -84,7 +84,7 @@ fn pass_nodes(walk: &mut Walk<'_>, nodes: usize)
 }
 
 /// The parts of a tree, none of them written.
-fn parts_of<'a>(alloc: Global, tree: &'a CoverTree) -> Result<Vec<Part<'a>>, AllocError>
+fn parts_of<'a>(alloc: Global, tree: &'a CoverTree) -> Result<Vec<TreePart<'a>>, AllocError>
     ensures { IfOk result (λ parts. LeadTo (tree.now ∷ []) parts.items []) }
 {
     let mut parts = Vec::new(alloc);
@@ -92,7 +92,7 @@ fn parts_of<'a>(alloc: Global, tree: &'a CoverTree) -> Result<Vec<Part<'a>>, All
     while !walk.is_done() {
         let start = walk.ahead();
         pass_nodes(&mut walk, PART_NODES);
-        parts.push(Part {
+        parts.push(TreePart {
             start,
             nodes: PART_NODES,
             text: None,
@@ -102,7 +102,7 @@ fn parts_of<'a>(alloc: Global, tree: &'a CoverTree) -> Result<Vec<Part<'a>>, All
 }
 
 /// Writes each of the parts, in at most so many threads.
-fn write_parts<R: Threads + Sync>(rt: &R, alloc: Global, threads: usize, parts: &mut [Part<'_>])
+fn write_parts<R: Threads + Sync>(rt: &R, alloc: Global, threads: usize, parts: &mut [TreePart<'_>])
     requires { 0 < threads }
     ensures { AreWritten parts.old parts.new }
 {
@@ -118,7 +118,7 @@ fn write_parts<R: Threads + Sync>(rt: &R, alloc: Global, threads: usize, parts: 
 
 /// The words of parts that are written, in their order.
 #[tactic(auto, using(crate::proofs::PartLaws::all_parts))]
-fn joined(alloc: Global, parts: Vec<Part<'_>>) -> Result<Pages, AllocError>
+fn joined(alloc: Global, parts: Vec<TreePart<'_>>) -> Result<Pages, AllocError>
     ensures { IfOk result (λ text. (ts : List Cover) → WriteFrom ts parts.entry.items [] → text ≡ trees_text ts) }
 {
     let mut text = Pages::new(alloc);

@@ -1,4 +1,4 @@
-use Rattle.cert_pages.proofs.Vocabulary.{◌∷◌, [], ◌<◌, length, subst, sym, List, arith, Cover, spell_all, Part, LeadTo}
+use Rattle.cert_pages.proofs.Vocabulary.{◌∷◌, [], ◌<◌, length, subst, sym, List, arith, Cover, spell_all, TreePart, LeadTo}
 use Rattle.std.proofs.lemmas.Bool.{iff_false}
 use Rattle.cert_pages.proofs.PartLaws.{after_is_shorter, one_part_more}
 use Rattle.cert_pages.proofs.parts.parts_of.Goals as goal
@@ -10,5 +10,5 @@ loop-walk-smaller c =
 
 pub loop-walk-preserved : goal.loop-walk-preserved
 loop-walk-preserved c =
-    subst (λ (parts : List Part). LeadTo (c.args.tree.now ∷ []) parts c.pass_nodes.new.walk) (sym c.in_ok-push.ensures.items)
+    subst (λ (parts : List TreePart). LeadTo (c.args.tree.now ∷ []) parts c.pass_nodes.new.walk) (sym c.in_ok-push.ensures.items)
     (one_part_more (c.args.tree.now ∷ []) c.loop-walk.parts.items _ c.loop-walk.walk c.pass_nodes.new.walk c.loop-walk.invariant c.ahead-start.ensures c.pass_nodes.ensures)
