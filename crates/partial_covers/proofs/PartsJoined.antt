@@ -1,6 +1,6 @@
 -- Parts of a search, while the list of outcomes grows and choices are made, and the cover of one beside the rest.
 use Rattle.partial_covers.proofs.Vocabulary.{◌≡◌, Bool, true, false, ℕ, ◌+◌, ◌<◌, ◌≤◌, List, [], ◌∷◌, ◌++◌, Option, Some, None, get_or, take, drop, length, map, arith, sym, ap, ◌∙◌, subst, All, MatchOption, if◌then◌else◌, append-nil, take_all, drop_all}
-use Rattle.partial_covers.proofs.Vocabulary.{All-nil, All-push, Mode, IsWhole, Outcome, Shown, Question, asked, ProgramSketch, mode_in, with_chosen, NEAR_RUNS, Choice, sketch_with, KnownOutcomes, PartCover, Part, HasNumber, Item, renumbered_item, after}
+use Rattle.partial_covers.proofs.Vocabulary.{All-nil, All-push, Mode, IsWhole, Outcome, Shown, Question, asked, ProgramSketch, mode_in, with_chosen, NEAR_RUNS, Choice, sketch_with, KnownOutcomes, PartCover, SearchPart, HasNumber, Item, renumbered_item, after}
 use Rattle.partial_covers.proofs.Vocabulary.{PushesPartialAt, StaysOf, LastThread, Plan, IsOfOther, IsLast, IsPartOf, IsPlanned, AreRunsFor, IsMadeAt, IsCoverFor, AreCoversFor, AreOwnParts, AreFoundIn, IfJoined, IsFoundIn, first_sketch, MayChoose}
 use Rattle.partial_covers.proofs.Vocabulary.{MayChooseAll, sequential, Listing, before_next}
 use Rattle.sketch_covers.specs.{declared.outcome_index.OutcomeIndex.OutcomeIndex, declared.known_outcomes.KnownOutcomes.TheVariants.Closed, declared.known_outcomes.KnownOutcomes.TheVariants.Open}
@@ -42,7 +42,7 @@ module _ (s : ProgramSketch) (shown : Shown) (outcomes : List Outcome) (path : L
   not_joined is joined = subst (IfJoined s shown outcomes path before now) is joined
 
 -- the part after a choice of another thread
-module _ (root : ProgramSketch) (last : LastThread) (part new : Part) (is : IsPartOf root last part) where
+module _ (root : ProgramSketch) (last : LastThread) (part new : SearchPart) (is : IsPartOf root last part) where
   pub part_next : (c : Choice) → IsOfOther last.thread c → MayChoose (sequential part.sketch) c → new.path.items ≡ part.path.items ++ c ∷ [] → new.sketch ≡ with_chosen part.sketch (sketch_with part.sketch.chosen c) → IsPartOf root last new
   part_next c other one path sketch = record {
     leads = ap (after root) path ∙ after_more root part.path.items c ∙ ap (λ (k : ProgramSketch). with_chosen k (sketch_with k.chosen c)) is.leads ∙ sym sketch;
@@ -52,12 +52,12 @@ module _ (root : ProgramSketch) (last : LastThread) (part new : Part) (is : IsPa
   }
 
 -- each part of a search that is cut is as it must be
-pub parts_cut : (p : Listing) (s : ProgramSketch) (plan : Option Plan) (one : Plan) (parts : List Part) → s ≡ first_sketch p → plan ≡ Some one → IsPlanned s plan parts → AreOwnParts p one.last parts
+pub parts_cut : (p : Listing) (s : ProgramSketch) (plan : Option Plan) (one : Plan) (parts : List SearchPart) → s ≡ first_sketch p → plan ≡ Some one → IsPlanned s plan parts → AreOwnParts p one.last parts
 parts_cut p s plan one parts begins is planned i d h =
     subst (λ (r : ProgramSketch). IsPartOf r one.last (get_or parts i d)) begins ((subst (λ (o : Option Plan). IsPlanned s o parts) is planned).1 i d h)
 
 -- a part of a program's search
-module _ (p : Listing) (last : LastThread) (part : Part) (is : IsPartOf (first_sketch p) last part) where
+module _ (p : Listing) (last : LastThread) (part : SearchPart) (is : IsPartOf (first_sketch p) last part) where
   -- the sketch has that program
   pub own_part : IsPartOf (first_sketch part.sketch.program) last part
   own_part = subst (λ (l : Listing). IsPartOf (first_sketch l) last part) (sym (same_program (first_sketch p) part.path.items) ∙ ap (λ (k : ProgramSketch). k.program) is.leads) is
@@ -75,7 +75,7 @@ covers_begun p s shown none mode covers begins found i d h = record { root = fir
 pub no_covers : (s : ProgramSketch) (shown : Shown) (outcomes : KnownOutcomes) → AreCoversFor s shown outcomes [] []
 no_covers s shown outcomes = All-nil (IsCoverFor s shown outcomes [])
 
-pub planned_last : (s : ProgramSketch) (plan : Option Plan) (parts : List Part) → IsPlanned s plan parts → MatchOption plan (IsWhole s.program (mode_in s) s.chosen) (λ plan. IsLast s plan.last)
+pub planned_last : (s : ProgramSketch) (plan : Option Plan) (parts : List SearchPart) → IsPlanned s plan parts → MatchOption plan (IsWhole s.program (mode_in s) s.chosen) (λ plan. IsLast s plan.last)
 planned_last s (Some plan) parts planned = planned.0
 planned_last s None parts planned = planned.0
 

@@ -81,7 +81,7 @@ pub use Rattle.partial_covers.specs.PartialCovers.{items_before, items_of, parti
 pub use Rattle.partial_covers.specs.Parts.{AreCoversFor, AreFoundIn, AreLeftOf, AreOwnParts, AreRunsFor, IfJoined, IsCoverFor, IsFoundIn, IsMadeAt, IsPartOf, IsPlanned, first_sketch}
 pub use Rattle.partial_covers.specs.declared.covering.Covering.{Covering}
 pub use Rattle.partial_covers.specs.declared.hole_trees.HoleTree.{HoleTree}
-pub use Rattle.partial_covers.specs.declared.part.Part.{Part}
+pub use Rattle.partial_covers.specs.declared.part.SearchPart.{SearchPart}
 pub use Rattle.partial_covers.specs.declared.part.PartCover.{PartCover}
 pub use Rattle.partial_covers.specs.declared.partial_cover.PartialCover.{PartialCover}
 pub use Rattle.partial_covers.specs.declared.partial_cover.Piece.{Piece}

@@ -14,7 +14,7 @@ use Rattle.cover_judge.specs.declared.choice.Choice.{Choice}
 use Rattle.sketch_covers.specs.declared.outcome_index.OutcomeIndex.{OutcomeIndex}
 use Rattle.sketch_covers.specs.declared.known_outcomes.KnownOutcomes.{KnownOutcomes, TheVariants.Closed, TheVariants.Open}
 use Rattle.partial_covers.specs.declared.part.PartCover.{PartCover}
-use Rattle.partial_covers.specs.declared.part.Part.{Part}
+use Rattle.partial_covers.specs.declared.part.SearchPart.{SearchPart}
 use Rattle.branching.specs.declared.plan.LastThread.{LastThread}
 use Rattle.branching.specs.declared.plan.Plan.{Plan}
 use Rattle.partial_covers.specs.declared.searching.CutSearch.{CutSearch}
@@ -58,7 +58,7 @@ IfJoined s shown outcomes path old new true = PushesPartialAt s shown outcomes p
 IfJoined s shown outcomes path old new false = new ≡ old
 
 -- the part's path leads to its sketch, in which the last thread has no value yet; its choices may be made in the sequential machine
-pub record IsPartOf (root : ProgramSketch) (last : LastThread) (part : Part) : Type 0 where
+pub record IsPartOf (root : ProgramSketch) (last : LastThread) (part : SearchPart) : Type 0 where
   pub leads : after root part.path.items ≡ part.sketch
   pub may : MayChooseAll (sequential root) part.path.items
   pub before : IsBeforeLast part.sketch last
@@ -67,7 +67,7 @@ pub record IsPartOf (root : ProgramSketch) (last : LastThread) (part : Part) : T
 abbrev pub first_sketch : Listing → ProgramSketch
 first_sketch p = nothing_chosen p (modes.Fenced set.empty)
 
-abbrev pub AreOwnParts : Listing → LastThread → List Part → Type 0
+abbrev pub AreOwnParts : Listing → LastThread → List SearchPart → Type 0
 AreOwnParts p last parts = All (IsPartOf (first_sketch p) last) parts
 
 -- the cover at this place has the path
@@ -82,7 +82,7 @@ abbrev pub AreFoundIn : Listing → Shown → Mode → List PartCover → Type 0
 AreFoundIn p shown mode covers = All (IsFoundIn p shown mode) covers
 
 -- the program's sketch with nothing chosen, a plan for it if there is a thread, and parts of its search
-abbrev pub IsPlanned : ProgramSketch → Option Plan → List Part → Type 0
+abbrev pub IsPlanned : ProgramSketch → Option Plan → List SearchPart → Type 0
 IsPlanned s (Some plan) parts = IsLast s plan.last × All (IsPartOf s plan.last) parts
 IsPlanned s None parts = IsWhole s.program (mode_in s) s.chosen × (parts ≡ [])
 

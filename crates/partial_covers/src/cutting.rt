@@ -4,7 +4,7 @@ ghost use Rattle.sketches.specs.ProgramSketches.{ProgramSketch};
 ghost use Rattle.partial_covers.specs.Parts.{IsPartOf};
 ghost use Rattle.branching.specs.Plans.{IsBeforeLast};
 
-use crate::part::Part;
+use crate::part::SearchPart;
 use branching::{OpenChoice, Plan, choices_of};
 use sketches::Sketch;
 use std::alloc::{AllocError, Global};
@@ -25,7 +25,7 @@ pub(crate) fn parts_of(
     sketch: &Sketch,
     plan: &Plan,
     shown: &Shown,
-) -> Result<Vec<Part>, AllocError>
+) -> Result<Vec<SearchPart>, AllocError>
     requires { IsBeforeLast sketch.now plan.now.last }
     ensures { IfOk result (λ parts. All (IsPartOf sketch.now plan.now.last) parts.items) }
 {
@@ -33,7 +33,7 @@ pub(crate) fn parts_of(
     if !is_cut(sketch, plan, shown) {
         return Ok(parts);
     }
-    parts.push(Part::whole(alloc, sketch)?)?;
+    parts.push(SearchPart::whole(alloc, sketch)?)?;
     for _ in 0..MOST_CUTS {
         if parts.len() >= ENOUGH_PARTS {
             break;
@@ -53,7 +53,7 @@ fn is_cut(sketch: &Sketch, plan: &Plan, shown: &Shown) -> bool {
 }
 
 /// The parts, each cut by the values of the next read.
-fn cut_each(alloc: Global, plan: &Plan, parts: &[Part]) -> Result<Vec<Part>, AllocError>
+fn cut_each(alloc: Global, plan: &Plan, parts: &[SearchPart]) -> Result<Vec<SearchPart>, AllocError>
     ensures { IfOk result (λ smaller. (root : ProgramSketch) → All (IsPartOf root plan.now.last) parts.now → All (IsPartOf root plan.now.last) smaller.items) }
 {
     let mut smaller = Vec::new(alloc);
@@ -67,8 +67,8 @@ fn cut_each(alloc: Global, plan: &Plan, parts: &[Part]) -> Result<Vec<Part>, All
 fn push_cut(
     alloc: Global,
     plan: &Plan,
-    part: &Part,
-    smaller: &mut Vec<Part>,
+    part: &SearchPart,
+    smaller: &mut Vec<SearchPart>,
 ) -> Result<(), AllocError>
     ensures { OnOk result ((root : ProgramSketch) → IsPartOf root plan.now.last part.now → All (IsPartOf root plan.now.last) smaller.old.items → All (IsPartOf root plan.now.last) smaller.new.items) }
 {

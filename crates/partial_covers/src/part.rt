@@ -22,7 +22,7 @@ use std::alloc::{AllocError, Global};
 
 /// A part of a search: the sketch to which choices lead.
 #[derive(Drop)]
-pub(crate) struct Part {
+pub(crate) struct SearchPart {
     pub(crate) path: Vec<Choice>,
     pub(crate) sketch: Sketch,
 }
@@ -36,38 +36,38 @@ pub struct PartCover {
     pub kept: PartialCover,
 }
 
-impl Part {
+impl SearchPart {
     /// The part that is the whole search.
-    pub(crate) fn whole(alloc: Global, sketch: &Sketch) -> Result<Part, AllocError>
+    pub(crate) fn whole(alloc: Global, sketch: &Sketch) -> Result<SearchPart, AllocError>
         ensures path { IfOk result (λ part. part.path.items ≡ []) }
         ensures sketch { IfOk result (λ part. part.sketch ≡ sketch.now) }
     {
-        Ok(Part {
+        Ok(SearchPart {
             path: Vec::new(alloc),
             sketch: sketch.copy()?,
         })
     }
 
     /// The part after one more choice.
-    pub(crate) fn after(&self, alloc: Global, choice: Choice) -> Result<Part, AllocError>
+    pub(crate) fn after(&self, alloc: Global, choice: Choice) -> Result<SearchPart, AllocError>
         requires { choices.MayChoose self.now.sketch choice }
         ensures path { IfOk result (λ part. part.path.items ≡ self.now.path.items ++ choice ∷ []) }
         ensures sketch { IfOk result (λ part. part.sketch ≡ with_chosen self.now.sketch (choices.sketch_with self.now.sketch.chosen choice)) }
     {
         let mut path = Vec::from_slice(alloc, &self.path)?;
         path.push(choice)?;
-        Ok(Part {
+        Ok(SearchPart {
             path,
             sketch: sketch_with(&self.sketch, choice)?,
         })
     }
 
     /// The same part, with a program of its own.
-    pub(crate) fn apart(&self, alloc: Global) -> Result<Part, AllocError>
+    pub(crate) fn apart(&self, alloc: Global) -> Result<SearchPart, AllocError>
         ensures path { IfOk result (λ part. part.path.items ≡ self.now.path.items) }
         ensures sketch { IfOk result (λ part. part.sketch ≡ self.now.sketch) }
     {
-        Ok(Part {
+        Ok(SearchPart {
             path: Vec::from_slice(alloc, &self.path)?,
             sketch: self.sketch.apart()?,
         })

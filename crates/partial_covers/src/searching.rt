@@ -8,7 +8,7 @@ ghost use Rattle.sketch_covers.specs.declared.known_outcomes.KnownOutcomes.TheVa
 ghost use Rattle.partial_covers.specs.Parts.{AreFoundIn, AreOwnParts, IsReady, IsCoveredStart};
 
 use crate::cutting::parts_of;
-use crate::part::{Part, PartCover};
+use crate::part::{PartCover, SearchPart};
 use crate::watch::{PartWatch, Unwatched, Watch};
 use branching::{Plan, plan_for};
 use gap_sets::GapSet;
@@ -43,19 +43,19 @@ pub struct Search<'a> {
 struct CutSearch {
     sketch: Sketch,
     plan: Option<Plan>,
-    parts: Vec<Part>,
+    parts: Vec<SearchPart>,
 }
 
 /// Parts of a search, of which each thread takes the next.
 #[derive(Drop)]
 struct PartQueue<'a> {
-    parts: &'a [Part],
+    parts: &'a [SearchPart],
     taken: AtomicU64,
 }
 
 impl PartQueue<'_> {
     /// The next part, if there is one. Each part is taken once.
-    fn take(&self) -> Option<&Part>
+    fn take(&self) -> Option<&SearchPart>
         ensures { IfSome result (λ part. Contains self.now.parts.now part.now) }
     {
         let place = self.taken.fetch_add(1, Ordering::SeqCst);
@@ -131,7 +131,7 @@ fn cut(sought: &Search) -> Result<CutSearch, AllocError>
 }
 
 /// The parts, of which none is taken.
-fn queue_of(parts: &[Part]) -> PartQueue<'_>
+fn queue_of(parts: &[SearchPart]) -> PartQueue<'_>
     ensures { result.parts.now ≡ parts.now }
 {
     PartQueue {

@@ -2,7 +2,7 @@ use Rattle.partial_covers.proofs.Vocabulary.{[], get_or, sym, subst, Listing, as
 use Rattle.std.specs.FinSet as set
 use Rattle.tso_machine.specs.declared.mode.Mode.TheVariants as modes
 use Rattle.partial_covers.proofs.{PartialNodes.on_both, HolesFilled.hole_leads, FilledParts.part_refilled}
-use Rattle.partial_covers.proofs.part.Part.fill.Goals as goal
+use Rattle.partial_covers.proofs.part.SearchPart.fill.Goals as goal
 
 pub fill_holes-requires-clause-holes : goal.fill_holes-requires-clause-holes
 fill_holes-requires-clause-holes g c i d here =

@@ -1,6 +1,6 @@
 use Rattle.partial_covers.proofs.Vocabulary.{[], ◌∙◌, sym, subst, Shown, asked, KnownOutcomes, Grows, by_number, AreInOrder, runs_found, items_of, PushesPartialAt, grows_twice}
 use Rattle.partial_covers.proofs.{CoveringSteps.grows_from, CoveringSteps.tree_from, PartsJoined.own_part, PartsJoined.found_in}
-use Rattle.partial_covers.proofs.part.Part.own_cover.Goals as goal
+use Rattle.partial_covers.proofs.part.SearchPart.own_cover.Goals as goal
 
 pub cover_values-requires-clause-before : goal.cover_values-requires-clause-before
 cover_values-requires-clause-before g c = c.requires.before
