@@ -6,5 +6,5 @@ pub mod OneMoreChoice
 pub mod Rounds
 pub mod AccessesNamed
 pub mod Tallied
-pub mod TraceTrees
+pub mod ValueTrees
 pub mod Planned

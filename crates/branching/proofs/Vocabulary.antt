@@ -28,7 +28,7 @@ pub use Rattle.branching.specs.ChoicesLeft.{AreWritesInOrder, HasEachSource, IsE
 pub use Rattle.branching.specs.OpenChoices.{IsOpen}
 pub use Rattle.branching.specs.Plans.{AreOthersFull, AreTracesOf, IsOtherOpen}
 pub use Rattle.branching.specs.Tallies.{HasBit, IsNeither, IsOldOrOf, IsOther, IsTalliedRead, IsTallyOf, IsThisThread, KeepsBits, TakesThread}
-pub use Rattle.branching.specs.Traces.{AreTraceTrees, IsTraceTree, Traces, root, trace_trees, traces}
+pub use Rattle.branching.specs.Traces.{AreValueTrees, IsValueTree, Traces, root, trace_trees, traces}
 pub use Rattle.branching.specs.declared.preference.RatedChoice.{RatedChoice}
 pub use Rattle.branching.specs.declared.reads_writes.ReadValue.{ReadValue}
 pub use Rattle.branching.specs.declared.reads_writes.WholeAccesses.{WholeAccesses}

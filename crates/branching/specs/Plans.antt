@@ -9,18 +9,18 @@ use Rattle.cover_judge.specs.Choices.{IsValueOpen}
 use Rattle.branching.specs.declared.plan.LastThread.{LastThread}
 use Rattle.branching.specs.declared.plan.ThreadTraces.{ThreadTraces}
 use Rattle.branching.specs.Combinations.{AreAlike}
-use Rattle.branching.specs.Traces.{traces, root, IsTraceTree}
+use Rattle.branching.specs.Traces.{traces, root, IsValueTree}
 
 -- a thread of the sketch's program, with what it does from its values in the sketch on
 pub record AreTracesOf (s : ProgramSketch) (x : ThreadTraces) : Type 0 where
   pub there : x.thread < length s.program.threads
-  pub tree : IsTraceTree x.thread (traces x.tree)
+  pub tree : IsValueTree x.thread (traces x.tree)
   pub root_is : root (traces x.tree) ≡ s
 
 -- the same of the last thread, and of the one before it
 pub record IsLast (s : ProgramSketch) (last : LastThread) : Type 0 where
   pub there : last.thread < length s.program.threads
-  pub tree : IsTraceTree last.thread (traces last.tree)
+  pub tree : IsValueTree last.thread (traces last.tree)
   pub root_is : root (traces last.tree) ≡ s
   pub before : IfSome last.before (AreTracesOf s)
 
@@ -34,7 +34,7 @@ AreOthersFull s t = (u : ℕ) → IsOtherOpen s t u → ⊥
 -- a thread of the sketch's program, with what it does from no value on
 pub record AreTracesFor (s : ProgramSketch) (x : ThreadTraces) : Type 0 where
   pub there : x.thread < length s.program.threads
-  pub tree : IsTraceTree x.thread (traces x.tree)
+  pub tree : IsValueTree x.thread (traces x.tree)
   pub alike : AreAlike (root (traces x.tree)) s
   pub start : given_to (root (traces x.tree)).chosen x.thread ≡ []
 
@@ -43,7 +43,7 @@ pub record IsBeforeLast (s : ProgramSketch) (last : LastThread) : Type 0 where
   pub alone : HasValuesAlone s.chosen
   pub none : given_to s.chosen last.thread ≡ []
   pub there : last.thread < length s.program.threads
-  pub tree : IsTraceTree last.thread (traces last.tree)
+  pub tree : IsValueTree last.thread (traces last.tree)
   pub alike : AreAlike (root (traces last.tree)) s
   pub start : given_to (root (traces last.tree)).chosen last.thread ≡ []
   pub before : IfSome last.before (AreTracesFor s)

@@ -4,9 +4,9 @@ use Rattle.sketches.specs.ProgramSketches.{ProgramSketch, with_chosen}
 use Rattle.cover_judge.specs.declared.choice.Choice.{Choice}
 use Rattle.cover_judge.specs.Choices.{IsValueOpen, AreValueChoices, MayChooseEach, sketch_with}
 use Rattle.branching.specs.declared.traces.FullTrace.{FullTrace}
-use Rattle.branching.specs.declared.traces.TraceTree.{TraceTree}
-use Rattle.branching.specs.declared.traces.TraceTree.TheOpen as t
-use Rattle.branching.specs.declared.traces.TraceTree.TheFolds.{fold-TraceTree}
+use Rattle.branching.specs.declared.traces.ValueTree.{ValueTree}
+use Rattle.branching.specs.declared.traces.ValueTree.TheOpen as t
+use Rattle.branching.specs.declared.traces.ValueTree.TheFolds.{fold-ValueTree}
 use Rattle.branching.specs.Tallies.{IsTallyOf, IsThisThread}
 
 -- the traces of a thread, without where they lie in memory, and several in order
@@ -24,12 +24,12 @@ trace_trees [] = NoTraces
 trace_trees (t ∷ ts) = MoreTraces t (trace_trees ts)
 
 -- one node, with what each child stands for in its place
-abbrev pub trace_node : t.TraceTree-F Traces → Traces
+abbrev pub trace_node : t.ValueTree-F Traces → Traces
 trace_node (t.Read sketch choices after) = Read sketch choices.items (trace_trees after.items)
 trace_node (t.Full trace) = Full trace
 
-abbrev pub traces : TraceTree → Traces
-traces = fold-TraceTree Traces trace_node
+abbrev pub traces : ValueTree → Traces
+traces = fold-ValueTree Traces trace_node
 
 -- the sketch of the first node
 abbrev pub root : Traces → ProgramSketch
@@ -48,13 +48,13 @@ pub record IsFullTrace (t : ℕ) (trace : FullTrace) : Type 0 where
 
 abbrev mutual
   -- a tree for each value of thread t's next read, or a full trace
-  pub IsTraceTree : ℕ → Traces → Type 0
-  IsTraceTree t (Read s choices after) = AreValueChoices s t choices × MayChooseEach s choices × AreTraceTrees t s after choices
-  IsTraceTree t (Full trace) = IsFullTrace t trace
+  pub IsValueTree : ℕ → Traces → Type 0
+  IsValueTree t (Read s choices after) = AreValueChoices s t choices × MayChooseEach s choices × AreValueTrees t s after choices
+  IsValueTree t (Full trace) = IsFullTrace t trace
 
   -- as many trees as choices, each at the sketch after its choice
-  pub AreTraceTrees : ℕ → ProgramSketch → Several → List Choice → Type 0
-  AreTraceTrees t s NoTraces [] = Unit {0}
-  AreTraceTrees t s NoTraces (c ∷ cs) = ⊥
-  AreTraceTrees t s (MoreTraces tree trees) [] = ⊥
-  AreTraceTrees t s (MoreTraces tree trees) (c ∷ cs) = (root tree ≡ with_chosen s (sketch_with s.chosen c)) × IsTraceTree t tree × AreTraceTrees t s trees cs
+  pub AreValueTrees : ℕ → ProgramSketch → Several → List Choice → Type 0
+  AreValueTrees t s NoTraces [] = Unit {0}
+  AreValueTrees t s NoTraces (c ∷ cs) = ⊥
+  AreValueTrees t s (MoreTraces tree trees) [] = ⊥
+  AreValueTrees t s (MoreTraces tree trees) (c ∷ cs) = (root tree ≡ with_chosen s (sketch_with s.chosen c)) × IsValueTree t tree × AreValueTrees t s trees cs

@@ -1,6 +1,6 @@
 //! How large the tree of what a thread does is.
 
-use crate::traces::TraceTree;
+use crate::traces::ValueTree;
 use cover_judge::Choice;
 use std::alloc::{AllocError, Global};
 
@@ -80,15 +80,15 @@ fn values_of(alloc: Global, choices: &[Choice]) -> Result<Vec<u32>, AllocError> 
 
 /// The size of a tree.
 #[cycle(size_of)]
-pub(crate) fn size_of(alloc: Global, tree: &TraceTree) -> Result<TraceSize, AllocError> {
+pub(crate) fn size_of(alloc: Global, tree: &ValueTree) -> Result<TraceSize, AllocError> {
     match tree {
-        TraceTree::Read { choices, after, .. } => {
+        ValueTree::Read { choices, after, .. } => {
             let mut size = TraceSize::of_read(alloc, values_of(alloc, choices)?);
             for next in after {
                 size.add(size_of(alloc, next)?)?;
             }
             Ok(size)
         }
-        TraceTree::Full(_) => Ok(TraceSize::of_one(alloc)),
+        ValueTree::Full(_) => Ok(TraceSize::of_one(alloc)),
     }
 }

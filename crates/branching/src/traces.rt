@@ -1,7 +1,7 @@
 //! What one thread does under the values that its reads may take, worked out once.
 ghost use Rattle.std.specs.Prelude.{◌≡◌, IfOk, map};
 ghost use Rattle.cover_judge.specs.Choices.{IsValueOpen, MayChooseEach};
-ghost use Rattle.branching.specs.Traces.{traces, trace_trees, root, IsTraceTree, AreTraceTrees, IsFullTrace};
+ghost use Rattle.branching.specs.Traces.{traces, trace_trees, root, IsValueTree, AreValueTrees, IsFullTrace};
 
 use crate::tally::Tally;
 use cover_judge::{Choice, sketch_with, value_choices};
@@ -10,13 +10,13 @@ use std::alloc::{AllocError, Global};
 
 /// What a thread does from some given values on. The sketches have values for this thread alone.
 #[derive(Drop)]
-pub enum TraceTree {
+pub enum ValueTree {
     /// The thread has a next read: these choices give it its values, and these trees follow them. The
     /// sketch is kept for the proof alone.
     Read {
         sketch: Sketch,
         choices: Vec<Choice>,
-        after: Vec<TraceTree>,
+        after: Vec<ValueTree>,
     },
     /// Each of the thread's reads has its value.
     Full(FullTrace),
@@ -30,41 +30,41 @@ pub struct FullTrace {
 }
 
 /// What thread t does from its values in the sketch on.
-#[cycle(trace_tree)]
-pub(crate) fn trace_tree(alloc: Global, sketch: &Sketch, t: u8) -> Result<TraceTree, AllocError>
-    ensures tree { IfOk result (λ tree. IsTraceTree t (traces tree)) }
+#[cycle(value_tree)]
+pub(crate) fn value_tree(alloc: Global, sketch: &Sketch, t: u8) -> Result<ValueTree, AllocError>
+    ensures tree { IfOk result (λ tree. IsValueTree t (traces tree)) }
     ensures root { IfOk result (λ tree. root (traces tree) ≡ sketch.now) }
 {
     sketch.recall_facts();
     match value_choices(alloc, sketch, t)? {
         Some(choices) => {
             let after = trees_after(alloc, sketch, t, &choices)?;
-            Ok(TraceTree::Read {
+            Ok(ValueTree::Read {
                 sketch: sketch.copy()?,
                 choices,
                 after,
             })
         }
-        None => Ok(TraceTree::Full(full_trace(alloc, sketch, t)?)),
+        None => Ok(ValueTree::Full(full_trace(alloc, sketch, t)?)),
     }
 }
 
 /// The same after each of the choices.
-#[cycle(trace_tree)]
+#[cycle(value_tree)]
 fn trees_after(
     alloc: Global,
     sketch: &Sketch,
     t: u8,
     choices: &[Choice],
-) -> Result<Vec<TraceTree>, AllocError>
+) -> Result<Vec<ValueTree>, AllocError>
     requires { MayChooseEach sketch.now choices.now }
-    ensures { IfOk result (λ after. AreTraceTrees t sketch.now (trace_trees (map traces after.items)) choices.now) }
+    ensures { IfOk result (λ after. AreValueTrees t sketch.now (trace_trees (map traces after.items)) choices.now) }
 {
     sketch.recall_facts();
     let mut after = Vec::new(alloc);
     for choice in choices {
         let next = sketch_with(sketch, *choice)?;
-        after.push(trace_tree(alloc, &next, t)?)?;
+        after.push(value_tree(alloc, &next, t)?)?;
     }
     Ok(after)
 }

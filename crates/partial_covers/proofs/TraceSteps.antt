@@ -1,15 +1,15 @@
 -- Covers for the values of a thread at the first node of its traces, put after the rest one by one.
-use Rattle.partial_covers.proofs.Vocabulary.{◌≡◌, ◌∙◌, ◌<◌, ◌≤◌, ◌+◌, ◌-◌, ◌++◌, List, [], ◌∷◌, ℕ, Vec, Global, get_or, length, map, take, refl, sym, ap, subst, arith, take_all, asked, same_default, ProgramSketch, IsLawful, HasValuesAlone, Choice, TraceTree}
-use Rattle.partial_covers.proofs.Vocabulary.{IsTraceTree, AreAlike, with_root, Traces, Read, root, traces, trace_trees, first_choices, AreInOrder, grows_none, Covering, Covers, CoversEach, Has, items_of, PartialCover, as_many_here, choices_here, are_here}
+use Rattle.partial_covers.proofs.Vocabulary.{◌≡◌, ◌∙◌, ◌<◌, ◌≤◌, ◌+◌, ◌-◌, ◌++◌, List, [], ◌∷◌, ℕ, Vec, Global, get_or, length, map, take, refl, sym, ap, subst, arith, take_all, asked, same_default, ProgramSketch, IsLawful, HasValuesAlone, Choice, ValueTree}
+use Rattle.partial_covers.proofs.Vocabulary.{IsValueTree, AreAlike, with_root, Traces, Read, root, traces, trace_trees, first_choices, AreInOrder, grows_none, Covering, Covers, CoversEach, Has, items_of, PartialCover, as_many_here, choices_here, are_here}
 use Rattle.partial_covers.proofs.Vocabulary.{child_at}
 use Rattle.cert_forest.specs.Node.TheVariants as node
 use Rattle.cover_judge.specs.declared.choice.Choice.TheVariants as choice
 use Rattle.partial_covers.proofs.CoveringSteps.{covers_values, each_more}
 
-module _ (s : ProgramSketch) (t : ℕ) (alone : HasValuesAlone s.chosen) (there : t < length s.program.threads) (lawful : IsLawful s) (u : ProgramSketch) (own : IsLawful u) (choices : List Choice) (below : List TraceTree)
-    (x : Traces) (is : x ≡ Read u choices (trace_trees (map traces below))) (tree : IsTraceTree t x) (alike : AreAlike (root x) s) (old new : Covering) (i : ℕ) where
+module _ (s : ProgramSketch) (t : ℕ) (alone : HasValuesAlone s.chosen) (there : t < length s.program.threads) (lawful : IsLawful s) (u : ProgramSketch) (own : IsLawful u) (choices : List Choice) (below : List ValueTree)
+    (x : Traces) (is : x ≡ Read u choices (trace_trees (map traces below))) (tree : IsValueTree t x) (alike : AreAlike (root x) s) (old new : Covering) (i : ℕ) where
   -- one more
-  pub trace_more : (item : TraceTree) → i < length below → item ≡ get_or below i item → (picked : Choice) → picked ≡ get_or choices i picked → (now : Covering) (longer rest : Vec Choice Global) → longer.items ≡ now.path.items ++ picked ∷ []
+  pub trace_more : (item : ValueTree) → i < length below → item ≡ get_or below i item → (picked : Choice) → picked ≡ get_or choices i picked → (now : Covering) (longer rest : Vec Choice Global) → longer.items ≡ now.path.items ++ picked ∷ []
       → (n : ℕ) → rest.items ≡ take n new.path.items → n ≡ length new.path.items - 1 → CoversEach (with_root t s x) (take i (first_choices x)) old now → Covers (with_root t s (traces item)) (record now { path = longer }) new
       → CoversEach (with_root t s x) (take (i + 1) (first_choices x)) old (record new { path = rest })
   trace_more item here at picked picks now longer rest pushed n popped count before made =

@@ -13,13 +13,13 @@ pub use Rattle.branching.proofs.Rounds.{fewer_rounds, rounds}
 pub use Rattle.branching.specs.Combinations.{AreAlike, IsBase, IsRest, with_root, with_trace}
 pub use Rattle.branching.specs.Plans.{AreOfOthers, IsBeforeLast, IsLast, IsOfOther}
 pub use Rattle.branching.specs.Tallies.{HasBit, IsOther, IsTalliedRead, Joins}
-pub use Rattle.branching.specs.Traces.{IsFullTrace, IsTraceTree, Read, Traces, first_choices, root, trace_node, trace_trees, traces}
+pub use Rattle.branching.specs.Traces.{IsFullTrace, IsValueTree, Read, Traces, first_choices, root, trace_node, trace_trees, traces}
 pub use Rattle.branching.specs.declared.plan.LastThread.{LastThread}
 pub use Rattle.branching.specs.declared.plan.Plan.{Plan}
 pub use Rattle.branching.specs.declared.reads_writes.ReadValue.{ReadValue}
 pub use Rattle.branching.specs.declared.tally.Tally.{Tally}
-pub use Rattle.branching.specs.declared.traces.TraceTree.{TraceTree}
-pub use Rattle.branching.specs.declared.traces.TraceTree.TheFolds.{fold-roll-TraceTree, fold_out-TraceTree}
+pub use Rattle.branching.specs.declared.traces.ValueTree.{ValueTree}
+pub use Rattle.branching.specs.declared.traces.ValueTree.TheFolds.{fold-roll-ValueTree, fold_out-ValueTree}
 pub use Rattle.candidate_executions.proofs.Sketches.GivenValues.{given_other, given_same, reads_there}
 pub use Rattle.candidate_executions.specs.Candidates.{Writes}
 pub use Rattle.candidate_executions.specs.Sketches.{IsWhole, Sketch, empty_sketch, given_to, next_read, with_pair, with_source, with_value}

@@ -7,7 +7,7 @@ ghost use Rattle.sketches.specs.ProgramSketches.{nothing_chosen, mode_in};
 ghost use Rattle.cover_judge.specs.Choices.{MayChooseEach};
 ghost use Rattle.branching.specs.Combinations.{AreAlike, IsBase, with_root, with_trace};
 ghost use Rattle.branching.specs.Plans.{IsLast, IsBeforeLast, IsOtherOpen, AreOfOthers, AreOthersFull};
-ghost use Rattle.branching.specs.Traces.{traces, root, IsTraceTree, IsFullTrace};
+ghost use Rattle.branching.specs.Traces.{traces, root, IsValueTree, IsFullTrace};
 ghost use Rattle.sketch_covers.specs.declared.outcome_index.OutcomeIndex.{OutcomeIndex as IndexValue};
 ghost use Rattle.sketch_covers.specs.declared.known_outcomes.KnownOutcomes.TheVariants.{Open};
 ghost use Rattle.sketch_covers.specs.KnownOutcomes.{AreInOrder, HasRunOfEach};
@@ -20,7 +20,7 @@ use crate::joining::{join, take_cover};
 use crate::part::PartCover;
 use crate::partial_cover::PartialCover;
 use crate::watch::Watch;
-use branching::{FullTrace, OpenChoice, Plan, Tally, TraceTree, choices_of};
+use branching::{FullTrace, OpenChoice, Plan, Tally, ValueTree, choices_of};
 use cert_forest::Node;
 use cover_judge::{Choice, sketch_with};
 use sketch_covers::{KnownOutcomes, OutcomeIndex, Stop, cover_whole, known_leaf};
@@ -222,18 +222,18 @@ impl Covering<'_> {
         sketch: &Sketch,
         others: &Tally,
         t: u8,
-        tree: &TraceTree,
+        tree: &ValueTree,
         watch: &W,
     ) -> Result<(), AllocError>
         requires in_order { AreInOrder self.old.outcomes }
         requires base { IsBase t sketch.now others.now }
-        requires tree { IsTraceTree t (traces tree.now) }
+        requires tree { IsValueTree t (traces tree.now) }
         requires alike { AreAlike (root (traces tree.now)) sketch.now }
         ensures { OnOk result (Covers (with_root t sketch.now (traces tree.now)) self.old self.new) }
     {
         sketch.recall_facts();
         match tree {
-            TraceTree::Read {
+            ValueTree::Read {
                 sketch: own,
                 choices,
                 after,
@@ -247,7 +247,7 @@ impl Covering<'_> {
                 }
                 Ok(())
             }
-            TraceTree::Full(trace) => self.cover_trace(sketch, others, t, trace, watch),
+            ValueTree::Full(trace) => self.cover_trace(sketch, others, t, trace, watch),
         }
     }
 

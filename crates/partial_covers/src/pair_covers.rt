@@ -3,14 +3,14 @@
 ghost use Rattle.std.specs.Prelude.{OnOk};
 ghost use Rattle.branching.specs.Combinations.{AreAlike, with_root, with_trace};
 ghost use Rattle.branching.specs.Plans.{IsBeforeLast, IsBeforeNext};
-ghost use Rattle.branching.specs.Traces.{traces, root, IsTraceTree, IsFullTrace};
+ghost use Rattle.branching.specs.Traces.{traces, root, IsValueTree, IsFullTrace};
 ghost use Rattle.sketch_covers.specs.KnownOutcomes.{AreInOrder};
 ghost use Rattle.partial_covers.specs.Coverings.{Covers};
 ghost use Rattle.partial_covers.specs.OpenPairs.{IsPair};
 
 use crate::covering::Covering;
 use crate::watch::Watch;
-use branching::{FullTrace, LastThread, Tally, ThreadTraces, TraceTree};
+use branching::{FullTrace, LastThread, Tally, ThreadTraces, ValueTree};
 use sketch_covers::push_unsourced;
 use sketches::Sketch;
 use std::alloc::AllocError;
@@ -56,18 +56,18 @@ impl Covering<'_> {
     fn cover_pair<W: Watch>(
         &mut self,
         pair: &OpenPair,
-        tree: &TraceTree,
+        tree: &ValueTree,
         watch: &W,
     ) -> Result<(), AllocError>
         requires in_order { AreInOrder self.old.outcomes }
         requires pair { IsPair pair.now }
-        requires tree { IsTraceTree pair.now.thread (traces tree.now) }
+        requires tree { IsValueTree pair.now.thread (traces tree.now) }
         requires alike { AreAlike (root (traces tree.now)) pair.now.sketch.now }
         ensures { OnOk result (Covers (with_root pair.now.thread pair.now.sketch.now (traces tree.now)) self.old self.new) }
     {
         pair.sketch.recall_facts();
         match tree {
-            TraceTree::Read {
+            ValueTree::Read {
                 sketch: own,
                 choices,
                 after,
@@ -81,7 +81,7 @@ impl Covering<'_> {
                 }
                 Ok(())
             }
-            TraceTree::Full(trace) => self.cover_after(pair, trace, watch),
+            ValueTree::Full(trace) => self.cover_after(pair, trace, watch),
         }
     }
 

@@ -1,20 +1,20 @@
 -- The nodes of a thread's traces, at a sketch in which the other threads have their values.
 use Rattle.sketch_covers.proofs.Vocabulary.{◌≡◌, ℕ, ◌<◌, List, get_or, length, map, sym, ap, subst, arith, ◌^◌, length-map, Outcome, Shown, ProgramSketch, with_chosen, IsLawful, HaveAllRegisters, HasValuesAlone, Cover, Choice, IsValueOpen, AreValueChoices}
-use Rattle.sketch_covers.proofs.Vocabulary.{sketch_with, TraceTree, AreAlike, with_root, IsCoverAt, IsCoverAfter, Traces, Read, traces, trace_trees, root, first_choices, IsTraceTree, next_is_open, as_many_trees, child_tree}
+use Rattle.sketch_covers.proofs.Vocabulary.{sketch_with, ValueTree, AreAlike, with_root, IsCoverAt, IsCoverAfter, Traces, Read, traces, trace_trees, root, first_choices, IsValueTree, next_is_open, as_many_trees, child_tree}
 use Rattle.sketch_covers.proofs.{Nodes.few_choices, CombinedCovers.child_alike, CombinedCovers.child_cover, CombinedCovers.child_parts, CombinedSketches.lawful_merged, CombinedSketches.values_merged}
 use Rattle.cover_judge.specs.declared.choice.Choice.TheVariants as choice
 use Rattle.branching.specs.declared.open_choice.OpenChoice.TheVariants as left
 
-module _ (s : ProgramSketch) (t : ℕ) (alone : HasValuesAlone s.chosen) (there : t < length s.program.threads) (lawful : IsLawful s) (u : ProgramSketch) (own : IsLawful u) (choices : List Choice) (after : List TraceTree)
-    (x : Traces) (is : x ≡ Read u choices (trace_trees (map traces after))) (is_tree : IsTraceTree t x) (is_alike : AreAlike (root x) s) (shown : Shown) where
+module _ (s : ProgramSketch) (t : ℕ) (alone : HasValuesAlone s.chosen) (there : t < length s.program.threads) (lawful : IsLawful s) (u : ProgramSketch) (own : IsLawful u) (choices : List Choice) (after : List ValueTree)
+    (x : Traces) (is : x ≡ Read u choices (trace_trees (map traces after))) (is_tree : IsValueTree t x) (is_alike : AreAlike (root x) s) (shown : Shown) where
   abbrev node : Traces
   node = Read u choices (trace_trees (map traces after))
 
   abbrev merged : ProgramSketch
   merged = with_root t s node
 
-  tree : IsTraceTree t node
-  tree = subst (IsTraceTree t) is is_tree
+  tree : IsValueTree t node
+  tree = subst (IsValueTree t) is is_tree
 
   alike : AreAlike u s
   alike = subst (λ (y : Traces). AreAlike (root y) s) is is_alike
@@ -29,17 +29,17 @@ module _ (s : ProgramSketch) (t : ℕ) (alone : HasValuesAlone s.chosen) (there 
   as_many = (let many = as_many_trees t u (map traces after) choices tree.2 in let long = length-map after traces in omega arith)
 
   -- the child at a place
-  module _ (i : ℕ) (item : TraceTree) (here : i < length after) (at : item ≡ get_or after i item) where
+  module _ (i : ℕ) (item : ValueTree) (here : i < length after) (at : item ≡ get_or after i item) where
     abbrev ch : Choice
     ch = get_or choices i (choice.Value 0 0)
 
-    child : (root (traces item) ≡ with_chosen u (sketch_with u.chosen ch)) × IsTraceTree t (traces item)
+    child : (root (traces item) ≡ with_chosen u (sketch_with u.chosen ch)) × IsValueTree t (traces item)
     child = child_tree t u choices after tree.2 i item (choice.Value 0 0) here at
 
     below : i < length choices
     below = (let many = as_many in omega arith)
 
-    pub child_meets : IsTraceTree t (traces item) × AreAlike (root (traces item)) s
+    pub child_meets : IsValueTree t (traces item) × AreAlike (root (traces item)) s
     child_meets = (child.1, child_alike s u t lawful alone there own alike choices tree.0 i (choice.Value 0 0) below (traces item) child.0)
 
     -- the sketch at it

@@ -1,6 +1,6 @@
 -- Trees in which a read without a source closes each full trace of a thread, node by node.
 use Rattle.sketch_covers.proofs.Vocabulary.{◌≡◌, ℕ, ◌+◌, ◌<◌, ◌≤◌, List, [], ◌∷◌, ◌++◌, get_or, length, map, refl, ap, ◌∙◌, subst, append_assoc, ◌^◌, Outcome, Shown, ProgramSketch, IsLawful, HaveAllRegisters, choices_few, Node, Choice, AreValueChoices}
-use Rattle.sketch_covers.proofs.Vocabulary.{next_is_open, Tally, TraceTree, with_root, IsCoverAt, IsCoverAfter, Begins, Traces, Read, traces, trace_trees, root, first_choices, IsTraceTree, Takes, Closes}
+use Rattle.sketch_covers.proofs.Vocabulary.{next_is_open, Tally, ValueTree, with_root, IsCoverAt, IsCoverAfter, Begins, Traces, Read, traces, trace_trees, root, first_choices, IsValueTree, Takes, Closes}
 use Rattle.sketch_covers.proofs.{Nodes.few_choices, Covering.Covering, Covering.none_covered, Covering.one_covered, Covering.all_covered, Covering.pushes_as}
 use Rattle.sketch_covers.proofs.TraceNodes.{as_many_here, are_here, child_meets, cover_at, lawful_at, open_here}
 use Rattle.tso_program.specs.declared.shown.Shown.{TheVariants.All}
@@ -24,13 +24,13 @@ abbrev pub ClosesSome : ℕ → Tally → Traces → ℕ → List Node → List 
 ClosesSome t others x i old new = (s : ProgramSketch) (shown : Shown) (outcomes : List Outcome) → Takes t others (root x) s →
     Covering (with_root t s x) shown (first_choices x) (root_over t x) old outcomes i new
 
-module _ (t : ℕ) (others : Tally) (u : ProgramSketch) (own : IsLawful u) (choices : List Choice) (after : List TraceTree) (x : Traces) (is : x ≡ Read u choices (trace_trees (map traces after))) (is_tree : IsTraceTree t x) where
+module _ (t : ℕ) (others : Tally) (u : ProgramSketch) (own : IsLawful u) (choices : List Choice) (after : List ValueTree) (x : Traces) (is : x ≡ Read u choices (trace_trees (map traces after))) (is_tree : IsValueTree t x) where
   pub closes_none : (old new : List Node) → new ≡ old ++ root_over t x ∷ [] → ClosesSome t others x 0 old new
   closes_none old new pushed s shown outcomes takes =
       let lawful = lawful_at s t takes.base.alone takes.base.there takes.lawful u own choices after x is is_tree takes.alike shown in
       none_covered (with_root t s x) shown lawful (first_choices x) (root_over t x) old outcomes new (choices_few (with_root t s x) lawful) pushed
 
-  pub closes_more : (i : ℕ) (item : TraceTree) (old now new : List Node) → i < length after → item ≡ get_or after i item → ClosesSome t others x i old now → Closes t others (traces item) now new → ClosesSome t others x (i + 1) old new
+  pub closes_more : (i : ℕ) (item : ValueTree) (old now new : List Node) → i < length after → item ≡ get_or after i item → ClosesSome t others x i old now → Closes t others (traces item) now new → ClosesSome t others x (i + 1) old new
   closes_more i item old now new here at so more s shown outcomes takes =
       let lawful = lawful_at s t takes.base.alone takes.base.there takes.lawful u own choices after x is is_tree takes.alike shown in
       let many = as_many_here s t takes.base.alone takes.base.there takes.lawful u own choices after x is is_tree takes.alike shown in

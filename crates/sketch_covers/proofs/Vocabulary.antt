@@ -15,18 +15,18 @@ pub use Rattle.std.specs.Prelude.{Err, IfErr, MatchOption, Ok, Result, ◌^◌}
 pub use Rattle.std.specs.Result.{IsErrAnd}
 pub use Rattle.std.specs.declared.cmp.Ordering.TheVariants.{Equal, Greater, Less}
 pub use Rattle.branching.proofs.Rounds.{counted_after, fewer_rounds, rounds}
-pub use Rattle.branching.proofs.TraceTrees.{as_many_trees, child_tree, get_mapped}
+pub use Rattle.branching.proofs.ValueTrees.{as_many_trees, child_tree, get_mapped}
 pub use Rattle.branching.specs.Combinations.{AreAlike, IsRest, with_root}
 pub use Rattle.branching.specs.OpenChoices.{AreChoicesOf, IsOpen}
 pub use Rattle.branching.specs.Plans.{AreOfOthers, AreTracesFor, AreTracesOf, IsBeforeLast, IsBeforeNext, IsLast, IsOfOther}
 pub use Rattle.branching.specs.Tallies.{HasBit, IsNeither, IsOther, IsTalliedRead, IsTallyOf, IsThisThread, LacksWriteOfBoth}
-pub use Rattle.branching.specs.Traces.{IsTraceTree, Read, Traces, first_choices, root, trace_node, trace_trees, traces}
+pub use Rattle.branching.specs.Traces.{IsValueTree, Read, Traces, first_choices, root, trace_node, trace_trees, traces}
 pub use Rattle.branching.specs.declared.open_choice.OpenChoice.{OpenChoice}
 pub use Rattle.branching.specs.declared.plan.LastThread.{LastThread}
 pub use Rattle.branching.specs.declared.reads_writes.ReadValue.{ReadValue}
 pub use Rattle.branching.specs.declared.tally.Tally.{Tally}
-pub use Rattle.branching.specs.declared.traces.TraceTree.{TraceTree}
-pub use Rattle.branching.specs.declared.traces.TraceTree.TheFolds.{fold-roll-TraceTree, fold_out-TraceTree}
+pub use Rattle.branching.specs.declared.traces.ValueTree.{ValueTree}
+pub use Rattle.branching.specs.declared.traces.ValueTree.TheFolds.{fold-roll-ValueTree, fold_out-ValueTree}
 pub use Rattle.candidate_executions.proofs.Sketches.GivenValues.{none_given, reads_there}
 pub use Rattle.candidate_executions.specs.Candidates.{Writes}
 pub use Rattle.candidate_executions.specs.Sketches.{IsKnownCycle, IsSourceOf, IsWhole, empty_sketch, given_to, next_read, read_by, with_value}

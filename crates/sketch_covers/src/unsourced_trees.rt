@@ -1,10 +1,10 @@
 //! Trees over the values of the last thread where a read without a source closes each full trace.
 ghost use Rattle.std.specs.Prelude.{IsTrue, IfOk, OnOk};
 ghost use Rattle.sketch_covers.specs.Pushing.{Begins};
-ghost use Rattle.branching.specs.Traces.{Full, traces, IsTraceTree, IsFullTrace};
+ghost use Rattle.branching.specs.Traces.{Full, traces, IsValueTree, IsFullTrace};
 ghost use Rattle.sketch_covers.specs.UnsourcedTraces.{Closes};
 
-use branching::{FullTrace, Tally, TraceTree};
+use branching::{FullTrace, Tally, ValueTree};
 use cert_forest::Node;
 use std::alloc::AllocError;
 
@@ -15,14 +15,14 @@ pub fn push_unsourced(
     nodes: &mut Vec<Node>,
     others: &Tally,
     t: u8,
-    tree: &TraceTree,
+    tree: &ValueTree,
 ) -> Result<bool, AllocError>
-    requires { IsTraceTree t (traces tree.now) }
+    requires { IsValueTree t (traces tree.now) }
     ensures closes { IfOk result (λ all. IsTrue all → Closes t others.now (traces tree.now) nodes.old.items nodes.new.items) }
     ensures begins { OnOk result (Begins nodes.old.items nodes.new.items) }
 {
     match tree {
-        TraceTree::Read {
+        ValueTree::Read {
             sketch,
             choices,
             after,
@@ -37,7 +37,7 @@ pub fn push_unsourced(
             }
             Ok(true)
         }
-        TraceTree::Full(trace) => push_leaf(nodes, others, t, trace),
+        ValueTree::Full(trace) => push_leaf(nodes, others, t, trace),
     }
 }
 
