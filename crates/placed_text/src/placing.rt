@@ -28,7 +28,7 @@ use tso_program::{Program, Shown, ShownKind};
 
 /// What is placed in a program, and the solver that was asked.
 #[derive(Drop)]
-pub(crate) struct Found {
+pub(crate) struct SolvedPlacement {
     pub(crate) placed: Placed,
     pub(crate) solver: Solver,
 }
@@ -38,7 +38,7 @@ pub(crate) struct Found {
 struct PlacedIn {
     costs: Costs,
     shown: Shown,
-    found: Found,
+    found: SolvedPlacement,
 }
 
 /// What the texts stand for, what is shown of outcomes, and what is placed in the program.
@@ -47,7 +47,7 @@ pub(crate) struct PlacedSource {
     pub(crate) source: Litmus<Program>,
     pub(crate) costs: Costs,
     pub(crate) shown: Shown,
-    pub(crate) found: Found,
+    pub(crate) found: SolvedPlacement,
 }
 
 /// Finds the best set of a program's gaps that serves, by a solver of its outcomes, and reports how many sets are asked about.
@@ -90,7 +90,7 @@ fn found_by<R: Threads + Wait + Sync>(
     table: &SeqTable,
     costs: &Costs,
     effort: Effort,
-) -> Result<Found, TextFault>
+) -> Result<SolvedPlacement, TextFault>
     requires program { table.now.question.program ≡ program.now }
     requires one_each { length costs.now ≡ gap_count table.now.question.program.threads }
     ensures placed { IfOk result (λ found. IsPlacement table.now.question costs.now found.placed) }
@@ -102,7 +102,7 @@ fn found_by<R: Threads + Wait + Sync>(
         return Err(TextFault::OutOfMemory);
     };
     let placed = placed_by(rt, alloc, &solver, table, costs, effort)?;
-    Ok(Found { placed, solver })
+    Ok(SolvedPlacement { placed, solver })
 }
 
 /// Finds the best set of a program's gaps that serves, by a solver of its own, and reports how far it is.
@@ -113,7 +113,7 @@ fn place_gaps<R: Threads + Wait + Sync>(
     shown: &Shown,
     costs: &Costs,
     effort: Effort,
-) -> Result<Found, TextFault>
+) -> Result<SolvedPlacement, TextFault>
     requires { length costs.now ≡ gap_count program.now.threads }
     ensures placed { IfOk result (λ found. IsPlacement (asked program.now shown.now) costs.now found.placed) }
     ensures solver { IfOk result (λ found. found.solver.question ≡ asked program.now shown.now) }
@@ -192,12 +192,12 @@ fn certified_set<R: Threads + Wait + Sync>(
     rt: &R,
     alloc: Global,
     workers: u8,
-    found: Found,
+    found: SolvedPlacement,
 ) -> Result<CertifiedSet, AllocError>
     ensures { IfOk result (λ made. made ≡ certified found.placed) }
 {
     // What the solver keeps is as large as a tree of the certificate: it goes before the text is made.
-    let Found { placed, solver } = found;
+    let SolvedPlacement { placed, solver } = found;
     drop(solver);
     let Placed {
         set,
