@@ -35,7 +35,7 @@ pub(crate) struct SolvedPlacement {
 
 /// The costs of a program's gaps, what is shown of its outcomes, and what is placed in it.
 #[derive(Drop)]
-struct PlacedIn {
+struct ProgramPlacement {
     costs: Costs,
     shown: Shown,
     found: SolvedPlacement,
@@ -141,7 +141,7 @@ fn placed_in<R: Threads + Wait + Sync>(
     costs: Option<&[u8]>,
     kind: ShownKind,
     effort: Effort,
-) -> Result<PlacedIn, TextFault>
+) -> Result<ProgramPlacement, TextFault>
     ensures given { IfOk result (λ placed. AreGiven source.now.program (option_map (λ text. text.now) costs.entry) placed.costs) }
     ensures shown { IfOk result (λ placed. placed.shown ≡ shown_as source.now kind) }
     ensures solver { IfOk result (λ placed. placed.found.solver.question ≡ asked source.now.program placed.shown) }
@@ -152,7 +152,7 @@ fn placed_in<R: Threads + Wait + Sync>(
     let costs = read_gap_costs(alloc, costs, &source.program)?;
     let shown = shown_of(source, kind)?;
     let found = place_gaps(rt, alloc, &source.program, &shown, &costs, effort)?;
-    Ok(PlacedIn {
+    Ok(ProgramPlacement {
         costs,
         shown,
         found,
@@ -174,7 +174,7 @@ pub(crate) fn placed_source<R: Threads + Wait + Sync>(
 {
     let source = read_program(alloc, litmus)?;
     let placed = placed_in(rt, alloc, &source, costs, kind, effort)?;
-    let PlacedIn {
+    let ProgramPlacement {
         costs,
         shown,
         found,
