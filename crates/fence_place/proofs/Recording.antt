@@ -1,16 +1,16 @@
 -- What the record says of each node, and the runs of its splits.
 use Rattle.fence_place.proofs.Vocabulary.{◌≡◌, ◌≢◌, ◌⊎◌, Contains, ℕ, zero, suc, ◌+◌, ◌<◌, true, List, [], ◌∷◌, ◌++◌, Some, length, refl, sym, ap, ◌∙◌, subst, inl, inr, arith, Contains-get_or, each_one, get_either, slice_get, same_Some, slice_get_within}
-use Rattle.fence_place.proofs.Vocabulary.{open_gaps, Label, Gap, gap_trees_of, Foreign, Entry, Status, Event, facts_of, is_closed_status, Outcome, finished_state, IsOutcome, IsEventOf, IsSettledAs, IsFirstChild, get_longer, get_behind, AreNumbersOf}
+use Rattle.fence_place.proofs.Vocabulary.{open_gaps, Label, Gap, gap_trees_of, Foreign, Entry, Status, SettledEvent, facts_of, is_closed_status, Outcome, finished_state, IsOutcome, IsEventOf, IsSettledAs, IsFirstChild, get_longer, get_behind, AreNumbersOf}
 use Rattle.fence_place.proofs.Vocabulary.{AreSplitRuns, AreDistinct, ListsRun, is_there, is_new, ListsEvent, IsRecorded, AreRecorded}
 use Rattle.std.proofs.lemmas.List.Quantifiers.{all_pairs_push}
 use Rattle.search_core.specs.declared.entry.Status.TheVariants as status
-use Rattle.search_core.specs.declared.finished.Event.TheVariants as event
+use Rattle.search_core.specs.declared.finished.SettledEvent.TheVariants as event
 use Rattle.search_core.specs.declared.finished.Settled.{Settled}
 use Rattle.hunt_board.proofs.Walks as walks
 pub use Rattle.hunt_board.proofs.Walks.{split_event}
 
 -- any other says that the node is closed
-pub other_event : (s : Status) (v : Event) → ((run : _) → v ≡ event.Split run → ⊥) → IsEventOf s v → is_closed_status s ≡ true
+pub other_event : (s : Status) (v : SettledEvent) → ((run : _) → v ≡ event.Split run → ⊥) → IsEventOf s v → is_closed_status s ≡ true
 other_event (status.Split f first) (event.Split run) other h = absurd (other run refl)
 other_event status.Cut v other h = refl
 other_event status.Confirmed v other h = refl
@@ -66,17 +66,17 @@ module _ (labels : List Label) (number : ℕ) (runs after : List (List Label)) w
   once_more (is_new fresh last same) once =
       subst AreDistinct (sym same) (all_pairs_push (λ a b. a ≢ b) runs labels once (λ k d within is. fresh (subst (Contains runs) is (Contains-get_or runs k d within))))
 
-pub still_distinct : (v : Event) (number : ℕ) (runs after : List (List Label)) → ListsEvent v number runs after → AreDistinct runs → AreDistinct after
+pub still_distinct : (v : SettledEvent) (number : ℕ) (runs after : List (List Label)) → ListsEvent v number runs after → AreDistinct runs → AreDistinct after
 still_distinct (event.Split run) number runs after h once = once_more run.now.labels number runs after h once
 still_distinct v number runs after h once = subst AreDistinct (sym h) once
 
 module _ (entries : List Entry) (runs after : List (List Label)) (numbers : List ℕ) (number : ℕ) (e : Entry) (settled : Settled) (there : slice_get entries (length numbers) ≡ Some e) (is : IsSettledAs e settled)
     (listed : ListsEvent settled.event number runs after) where
-  event_stays : (v : Event) → ListsEvent v number runs after → (k : ℕ) (l : List Label) → slice_get runs k ≡ Some l → slice_get after k ≡ Some l
+  event_stays : (v : SettledEvent) → ListsEvent v number runs after → (k : ℕ) (l : List Label) → slice_get runs k ≡ Some l → slice_get after k ≡ Some l
   event_stays (event.Split run) h k l at = stays run.now.labels number runs after h k l at
   event_stays v h k l at = subst (λ (r : List (List Label)). slice_get r k ≡ Some l) (sym h) at
 
-  here_now : (s : Status) (v : Event) → ListsEvent v number runs after → IsEventOf s v → (f : Foreign) (first : ℕ) → s ≡ status.Split f first → slice_get after number ≡ Some f.labels
+  here_now : (s : Status) (v : SettledEvent) → ListsEvent v number runs after → IsEventOf s v → (f : Foreign) (first : ℕ) → s ≡ status.Split f first → slice_get after number ≡ Some f.labels
   here_now s (event.Split run) lists h f first split = let g : run.now ≡ f = subst (λ (t : Status). IsEventOf t (event.Split run)) split h in
       has_number run.now.labels number runs after lists ∙ ap (λ (x : Foreign). Some x.labels) g
   here_now s v lists h f first split = absurd (subst (λ (t : Status). IsEventOf t v) split h)
@@ -93,7 +93,7 @@ module _ (entries : List Entry) (runs after : List (List Label)) (numbers : List
   pub of_nodes_more : AreSplitRuns entries runs → AreSplitRuns entries after
   of_nodes_more so = by_event settled.event listed is.is_event
     where
-      by_event : (v : Event) → ListsEvent v number runs after → IsEventOf e.status v → AreSplitRuns entries after
+      by_event : (v : SettledEvent) → ListsEvent v number runs after → IsEventOf e.status v → AreSplitRuns entries after
       by_event (event.Split run) lists h = λ k labels at. elim (no_other run.now.labels number runs after lists k labels at) [
         | inl old ↦ so k labels old
         | inr new ↦ (let s = split_event e.status (event.Split run) run refl h in

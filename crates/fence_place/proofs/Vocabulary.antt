@@ -42,7 +42,7 @@ pub use Rattle.search_core.specs.States.{HasNoOpen, IsDone, IsStart, SearchState
 pub use Rattle.search_core.specs.Work.{undecided, work_left}
 pub use Rattle.search_core.specs.declared.entry.Entry.{Entry}
 pub use Rattle.search_core.specs.declared.entry.Status.{Status}
-pub use Rattle.search_core.specs.declared.finished.Event.{Event}
+pub use Rattle.search_core.specs.declared.finished.SettledEvent.{SettledEvent}
 pub use Rattle.tso_program.specs.Fences.{Gaps, gaps_in}
 pub use Rattle.tso_program.specs.Limits.{IsWithinLimits}
 pub use Rattle.tso_program.specs.Shown.{Question, asked}

@@ -9,8 +9,8 @@ use Rattle.cert_forest.specs.GapNodes.{spell_gap, spell_gaps}
 use Rattle.cover_solver.specs.Facts.{Foreign}
 use Rattle.search_core.specs.declared.entry.Entry.{Entry}
 use Rattle.search_core.specs.declared.entry.Status.TheVariants as status
-use Rattle.search_core.specs.declared.finished.Event.{Event}
-use Rattle.search_core.specs.declared.finished.Event.TheVariants as event
+use Rattle.search_core.specs.declared.finished.SettledEvent.{SettledEvent}
+use Rattle.search_core.specs.declared.finished.SettledEvent.TheVariants as event
 use Rattle.search_core.specs.Entries.{is_closed}
 
 -- the run of the split node at this place has this number
@@ -31,7 +31,7 @@ pub data ListsRun (labels : List Label) (number : ℕ) (runs after : List (List 
   is_new : ¬ Contains runs labels → number ≡ length runs → after ≡ runs ++ labels ∷ [] → ListsRun labels number runs after
 
 -- the runs, and that of a split among them
-abbrev pub ListsEvent : Event → ℕ → List (List Label) → List (List Label) → Type 0
+abbrev pub ListsEvent : SettledEvent → ℕ → List (List Label) → List (List Label) → Type 0
 ListsEvent (event.Split run) number runs after = ListsRun run.now.labels number runs after
 ListsEvent v number runs after = after ≡ runs
 

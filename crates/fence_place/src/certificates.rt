@@ -8,7 +8,7 @@ ghost use Rattle.fence_place.specs.Proofs.{IsProof};
 use crate::gaps::count_open;
 use cert_forest::{Certificate, GapNode, GapTree, Runs, Shows};
 use cover_solver::SeqTable;
-use search_core::{Event, Finished};
+use search_core::{Finished, SettledEvent};
 use std::alloc::{AllocError, Global};
 use tso_program::Shown;
 
@@ -82,10 +82,10 @@ fn listed_runs(alloc: Global, finished: &Finished) -> Result<(Runs, Vec<usize>),
 
 /// The number of the run of a split, which is put after the others where none of them is equal to it. A
 /// node that isn't split has any number.
-fn run_number(runs: &mut Runs, event: Event<'_>) -> Result<usize, AllocError>
+fn run_number(runs: &mut Runs, event: SettledEvent<'_>) -> Result<usize, AllocError>
     ensures { IfOk result (λ number. ListsEvent event.entry number runs.old runs.new) }
 {
-    let Event::Split(run) = event else {
+    let SettledEvent::Split(run) = event else {
         return Ok(0);
     };
     if let Some(number) = runs.position(run.labels()) {
@@ -124,7 +124,7 @@ fn push_tree(
     let Some(settled) = finished.settled(number) else {
         unreachable!()
     };
-    let Event::Split(run) = settled.event else {
+    let SettledEvent::Split(run) = settled.event else {
         nodes.push(GapNode::Bound)?;
         return Ok(());
     };

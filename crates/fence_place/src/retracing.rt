@@ -12,7 +12,7 @@ ghost use Rattle.fence_place.specs.Internal.Searches.{IsOfQuestion, IsSearchFor}
 use crate::searching::search;
 use cover_solver::{ForeignRun, Oracle, SeqTable, Served, SolveFault, Verdict};
 use gap_sets::{Costs, GapSet};
-use search_core::{Event, Finished};
+use search_core::{Finished, SettledEvent};
 use std::alloc::{AllocError, Global};
 
 /// Of one set it knows that it serves, and it has no run.
@@ -91,10 +91,14 @@ fn runs_of(alloc: Global, finished: &Finished) -> Result<Vec<ForeignRun>, AllocE
 }
 
 /// Adds a copy of the run of a split, where none of the runs passes the same gaps.
-fn add_run(alloc: Global, runs: &mut Vec<ForeignRun>, event: Event<'_>) -> Result<(), AllocError>
+fn add_run(
+    alloc: Global,
+    runs: &mut Vec<ForeignRun>,
+    event: SettledEvent<'_>,
+) -> Result<(), AllocError>
     ensures { OnOk result ((q : Question) → IsOfQuestion q event.entry → AreOf q runs.old.items → AreOf q runs.new.items) }
 {
-    let Event::Split(run) = event else {
+    let SettledEvent::Split(run) = event else {
         return Ok(());
     };
     if is_one_like(runs, run) {

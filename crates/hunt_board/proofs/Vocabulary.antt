@@ -22,7 +22,7 @@ pub use Rattle.search_core.specs.Records.{IsEventOf, IsFirstChild, IsOutcome, Is
 pub use Rattle.search_core.specs.States.{HasInHand, SearchState}
 pub use Rattle.search_core.specs.declared.entry.Entry.{Entry}
 pub use Rattle.search_core.specs.declared.entry.Status.{Status, TheVariants.Confirmed, TheVariants.Cut, TheVariants.Open, TheVariants.Split}
-pub use Rattle.search_core.specs.declared.finished.Event.{Event}
+pub use Rattle.search_core.specs.declared.finished.SettledEvent.{SettledEvent}
 pub use Rattle.search_core.specs.declared.finished.Settled.{Settled}
 pub use Rattle.tso_program.specs.Limits.{IsWithinLimits, JumpForward}
 pub use Rattle.tso_program.specs.Shown.{Question, asked}

@@ -1,8 +1,8 @@
 -- The walk through the record of a search.
 use Rattle.hunt_board.proofs.Vocabulary.{◌≡◌, ℕ, zero, suc, ◌+◌, ◌<◌, List, [], ◌∷◌, Option, Some, None, refl, sym, ap, ◌∙◌, subst, arith, length, slice_get, same_Some, slice_get_within, SetOfGaps, open_gaps, child_regions, with_gap, without_gap, Region}
-use Rattle.hunt_board.proofs.Vocabulary.{Foreign, Entry, Status, Settled, facts_of, Outcome, finished_state, IsOutcome, IsEventOf, IsSettledAs, IsFirstChild, Event}
+use Rattle.hunt_board.proofs.Vocabulary.{Foreign, Entry, Status, Settled, facts_of, Outcome, finished_state, IsOutcome, IsEventOf, IsSettledAs, IsFirstChild, SettledEvent}
 use Rattle.search_core.specs.declared.entry.Status.TheVariants as status
-use Rattle.search_core.specs.declared.finished.Event.TheVariants as event
+use Rattle.search_core.specs.declared.finished.SettledEvent.TheVariants as event
 
 -- where no number is found
 pub none_there : (found : Option ℕ) → ((x : ℕ) → found ≡ Some x → ⊥) → found ≡ None
@@ -28,8 +28,8 @@ kids_there o is place first number e f there split h =
     )
 
 -- the record of a split says which run it was
-pub split_event : (s : Status) (v : Event) (run : _) → v ≡ event.Split run → IsEventOf s v → (f : Foreign) × (first : ℕ) × (s ≡ status.Split f first) × (run.now ≡ f)
-split_event s v run e h = by_status s (subst (λ (u : Event). IsEventOf s u) e h)
+pub split_event : (s : Status) (v : SettledEvent) (run : _) → v ≡ event.Split run → IsEventOf s v → (f : Foreign) × (first : ℕ) × (s ≡ status.Split f first) × (run.now ≡ f)
+split_event s v run e h = by_status s (subst (λ (u : SettledEvent). IsEventOf s u) e h)
   where
     by_status : (t : Status) → IsEventOf t (event.Split run) → (f : Foreign) × (first : ℕ) × (t ≡ status.Split f first) × (run.now ≡ f)
     by_status (status.Split f first) h = (f, first, refl, h)

@@ -9,7 +9,7 @@ ghost use Rattle.hunt_board.specs.Internal.Settled.{IsSameEvent, SaysSame};
 
 use crate::{CloseFault, Event, Receipt};
 use gap_sets::{GapSet, Region};
-use search_core::{Finished, Settled};
+use search_core::{Finished, Settled, SettledEvent};
 use std::alloc::{AllocError, Global};
 
 /// Whether the receipts name the whole record: each is of a node that was settled so, no two are of one node,
@@ -72,13 +72,13 @@ fn is_receipt_of(settled: &Settled<'_>, receipt: &Receipt) -> bool
 }
 
 /// Whether the events are the same, of a split by the gaps that its run passes.
-fn is_same_event(recorded: search_core::Event<'_>, event: &Event) -> bool
+fn is_same_event(recorded: SettledEvent<'_>, event: &Event) -> bool
     ensures { IsTrue result ↔ IsSameEvent recorded.entry event.now }
 {
     match (recorded, event) {
-        (search_core::Event::Split(run), Event::Split(passed)) => run.passed().same(passed),
-        (search_core::Event::Cut, Event::Cut) => true,
-        (search_core::Event::Confirmed, Event::Confirmed) => true,
+        (SettledEvent::Split(run), Event::Split(passed)) => run.passed().same(passed),
+        (SettledEvent::Cut, Event::Cut) => true,
+        (SettledEvent::Confirmed, Event::Confirmed) => true,
         _ => false,
     }
 }
@@ -109,7 +109,7 @@ fn child_of(finished: &Finished, place: usize, node: &Region) -> Option<usize>
     let Some(settled) = finished.settled(place) else {
         return None;
     };
-    let search_core::Event::Split(run) = settled.event else {
+    let SettledEvent::Split(run) = settled.event else {
         return None;
     };
     let Some(first) = finished.first_child(place) else {

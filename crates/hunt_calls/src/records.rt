@@ -1,6 +1,6 @@
 //! What a search leaves once it is done.
 
-use search_core::{Event, Finished, Settled};
+use search_core::{Finished, Settled, SettledEvent};
 use std::alloc::AllocError;
 use text_calls::push_gaps_after;
 
@@ -10,9 +10,9 @@ fn push_settled(settled: &Settled<'_>, printed: &mut String) -> Result<(), Alloc
     push_gaps_after(" never", &settled.node.never, printed)?;
     write!(printed, " seat {} ", settled.seat)?;
     match settled.event {
-        Event::Split(run) => push_gaps_after("split passed", &run.passed(), printed)?,
-        Event::Cut => printed.push_str("cut")?,
-        Event::Confirmed => printed.push_str("confirmed")?,
+        SettledEvent::Split(run) => push_gaps_after("split passed", &run.passed(), printed)?,
+        SettledEvent::Cut => printed.push_str("cut")?,
+        SettledEvent::Confirmed => printed.push_str("confirmed")?,
     }
     printed.push('\n')
 }

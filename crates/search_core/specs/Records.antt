@@ -4,8 +4,8 @@ use Rattle.tso_program.specs.Shown.{Question}
 use Rattle.cover_solver.specs.Facts.{Foreign, Serving}
 use Rattle.search_core.specs.declared.entry.Entry.{Entry}
 use Rattle.search_core.specs.declared.entry.Status.{Status, TheVariants.Split, TheVariants.Cut, TheVariants.Confirmed}
-use Rattle.search_core.specs.declared.finished.Event.{Event}
-use Rattle.search_core.specs.declared.finished.Event.TheVariants as event
+use Rattle.search_core.specs.declared.finished.SettledEvent.{SettledEvent}
+use Rattle.search_core.specs.declared.finished.SettledEvent.TheVariants as event
 use Rattle.search_core.specs.declared.finished.Settled.{Settled}
 use Rattle.search_core.specs.States.{SearchState, IsDone}
 use Rattle.search_core.specs.Histories.{IsReached}
@@ -26,7 +26,7 @@ pub record IsOutcome (f : Outcome) : Type 0 where
   pub reached : IsReached (finished_state f)
   pub done : IsDone (finished_state f)
 
-abbrev pub IsEventOf : Status → Event → Type 0
+abbrev pub IsEventOf : Status → SettledEvent → Type 0
 IsEventOf (Split f first) (event.Split run) = run.now ≡ f
 IsEventOf Cut event.Cut = Unit {0}
 IsEventOf Confirmed event.Confirmed = Unit {0}

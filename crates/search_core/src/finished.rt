@@ -43,7 +43,7 @@ impl Model for Finished {
 
 /// How a node was settled.
 #[derive(Clone, Copy)]
-pub enum Event<'a> {
+pub enum SettledEvent<'a> {
     /// By this run.
     Split(&'a ForeignRun),
     Cut,
@@ -55,7 +55,7 @@ pub enum Event<'a> {
 pub struct Settled<'a> {
     pub node: Region,
     pub seat: u8,
-    pub event: Event<'a>,
+    pub event: SettledEvent<'a>,
 }
 
 impl Finished {
@@ -114,9 +114,9 @@ impl Finished {
     {
         let entry = self.entries.get(number)?;
         let event = match &entry.status {
-            Status::Split(run, _) => Event::Split(run),
-            Status::Cut => Event::Cut,
-            Status::Confirmed => Event::Confirmed,
+            Status::Split(run, _) => SettledEvent::Split(run),
+            Status::Cut => SettledEvent::Cut,
+            Status::Confirmed => SettledEvent::Confirmed,
             Status::Open | Status::Held => unreachable!(),
         };
         Some(Settled {

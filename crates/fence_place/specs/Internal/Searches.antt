@@ -6,8 +6,8 @@ use Rattle.cover_solver.specs.Outcomes.{AreGapsOf}
 use Rattle.cover_solver.specs.declared.fault.SolveFault.{SolveFault}
 use Rattle.cover_solver.specs.Facts.{Foreign, AreOf}
 use Rattle.search_core.specs.declared.entry.Entry.{Entry}
-use Rattle.search_core.specs.declared.finished.Event.{Event}
-use Rattle.search_core.specs.declared.finished.Event.TheVariants as event
+use Rattle.search_core.specs.declared.finished.SettledEvent.{SettledEvent}
+use Rattle.search_core.specs.declared.finished.SettledEvent.TheVariants as event
 use Rattle.search_core.specs.Entries.{is_held_status}
 use Rattle.search_core.specs.States.{SearchState, HasInHand, IsSameSearch}
 use Rattle.search_core.specs.Events.{IsSettling}
@@ -19,7 +19,7 @@ abbrev pub NothingIsHeld : SearchState → Type 0
 NothingIsHeld s = (place : ℕ) (e : Entry) → slice_get s.entries place ≡ Some e → is_held_status e.status ≡ false
 
 -- the run of a split is of the question
-abbrev pub IsOfQuestion : Question → Event → Type 0
+abbrev pub IsOfQuestion : Question → SettledEvent → Type 0
 IsOfQuestion q (event.Split run) = run.now.question ≡ q
 IsOfQuestion q v = Unit {0}
 
