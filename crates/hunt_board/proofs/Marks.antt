@@ -3,8 +3,8 @@ use Rattle.hunt_board.proofs.Vocabulary.{◌≡◌, ◌≢◌, ℕ, zero, suc, �
 use Rattle.hunt_board.proofs.Vocabulary.{same_Some, none-some, slice_get_within, slice_get_read, get_or_from_slice_get, cases_lt, slice_get, ℕ_discrete, Entry, Foreign, Status, Split, Cut, Confirmed, Settled, IsEventOf, IsSettledAs, Receipt, WalkLeads}
 use Rattle.hunt_board.proofs.Vocabulary.{StandsOnlyAt, get_here, get_else, get_old, HasMark, IsMarked, IsNotMarked, get_or-replicate, length-replicate, SettledEvent, IsReceiptEvent as IsEventTold, IsReceiptOf, Stands, StandApart, NameAll, IsFirstWrong}
 use Rattle.search_core.specs.declared.finished.SettledEvent.TheVariants as recorded
-use Rattle.hunt_board.specs.{declared.settling.Event.Event, Internal.Settled.IsSameEvent, Internal.Settled.SaysSame}
-use Rattle.hunt_board.specs.declared.settling.Event.TheVariants as event
+use Rattle.hunt_board.specs.{declared.settling.ReceiptEvent.ReceiptEvent, Internal.Settled.IsSameEvent, Internal.Settled.SaysSame}
+use Rattle.hunt_board.specs.declared.settling.ReceiptEvent.TheVariants as event
 use Rattle.hunt_board.proofs.Found.{same_end}
 
 -- what is at a place of a list's front
@@ -145,7 +145,7 @@ fresh_marks entries receipts marks n all is = subst (λ l. AreMarked entries rec
 })
 
 -- the same event, by what the record says of it
-same_event : (s : Status) (v : SettledEvent) (w : Event) → IsEventOf s v → IsSameEvent v w ↔ IsEventTold s w
+same_event : (s : Status) (v : SettledEvent) (w : ReceiptEvent) → IsEventOf s v → IsSameEvent v w ↔ IsEventTold s w
 same_event (Split f first) (recorded.Split run) (event.Split passed) h = ((λ g. ap (λ (x : Foreign). x.passed) (sym h) ∙ g), (λ g. ap (λ (x : Foreign). x.passed) h ∙ g))
 same_event (Split f first) (recorded.Split run) w h = ((λ g. absurd g), (λ g. absurd g))
 same_event Cut recorded.Cut w h = ((λ g. g), (λ g. g))

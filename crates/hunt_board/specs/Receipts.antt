@@ -3,15 +3,15 @@ use Rattle.std.specs.Prelude.{◌≡◌, ◌≢◌, ◌⊎◌, ◌<◌, ℕ, Lis
 use Rattle.search_core.specs.declared.entry.Entry.{Entry}
 use Rattle.search_core.specs.declared.entry.Status.{Status, TheVariants.Split, TheVariants.Cut, TheVariants.Confirmed}
 use Rattle.search_core.specs.Records.{Outcome, IsOutcome}
-use Rattle.hunt_board.specs.declared.settling.Event.{Event}
-use Rattle.hunt_board.specs.declared.settling.Event.TheVariants as event
+use Rattle.hunt_board.specs.declared.settling.ReceiptEvent.{ReceiptEvent}
+use Rattle.hunt_board.specs.declared.settling.ReceiptEvent.TheVariants as event
 use Rattle.hunt_board.specs.declared.settling.Receipt.{Receipt}
 use Rattle.hunt_board.specs.declared.fault.CloseFault.{CloseFault}
 use Rattle.hunt_board.specs.declared.fault.CloseFault.TheVariants as fault
 use Rattle.hunt_board.specs.Seats.{HuntView}
 
 -- so the node was settled; of a split the event has the gaps that its run passes
-abbrev pub IsReceiptEvent : Status → Event → Type 0
+abbrev pub IsReceiptEvent : Status → ReceiptEvent → Type 0
 IsReceiptEvent (Split run first) (event.Split passed) = run.passed ≡ passed
 IsReceiptEvent Cut event.Cut = Unit {0}
 IsReceiptEvent Confirmed event.Confirmed = Unit {0}

@@ -8,8 +8,8 @@ use Rattle.cover_solver.specs.declared.oracle.Verdict.TheVariants as verdict
 use Rattle.search_core.specs.Ceilings.{IsCeilingOf}
 use Rattle.search_core.specs.Events.{IsBeatenBy, IsBestAfter}
 use Rattle.hunt_board.specs.declared.settling.Settling.{Settling, TheVariants.Asked, TheVariants.Cut, TheVariants.Best}
-use Rattle.hunt_board.specs.declared.settling.Event.{Event}
-use Rattle.hunt_board.specs.declared.settling.Event.TheVariants as event
+use Rattle.hunt_board.specs.declared.settling.ReceiptEvent.{ReceiptEvent}
+use Rattle.hunt_board.specs.declared.settling.ReceiptEvent.TheVariants as event
 use Rattle.hunt_board.specs.declared.settling.Receipt.{Receipt}
 use Rattle.hunt_board.specs.declared.settling.Next.{Next, TheVariants.Work, TheVariants.Done}
 use Rattle.hunt_board.specs.Seats.{HuntView, SeatView, holding_node, with_best}
@@ -26,7 +26,7 @@ abbrev pub MaySettle : HuntView → SeatView → Settling → Type 0
 MaySettle h s how = MatchOption s.node ⊥ (λ n. IsLawfulSettling h s.best n how)
 
 -- what becomes of the node
-abbrev pub settling_event : Settling → Event
+abbrev pub settling_event : Settling → ReceiptEvent
 settling_event (Asked (verdict.Foreign run)) = event.Split run.passed
 settling_event (Asked (verdict.Serves served)) = event.Confirmed
 settling_event (Cut ceiling) = event.Cut

@@ -25,4 +25,4 @@ pub use cells::{PostFault, Posted, ROW_CELLS};
 pub use fault::CloseFault;
 pub use hunt::Hunt;
 pub use seat::HuntSeat;
-pub use settling::{Event, Next, Receipt, Settling};
+pub use settling::{Next, Receipt, ReceiptEvent, Settling};

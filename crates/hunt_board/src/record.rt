@@ -7,7 +7,7 @@ ghost use Rattle.hunt_board.specs.Internal.Marks.{IsMarked, IsNotMarked, RecordF
 ghost use Rattle.hunt_board.specs.Internal.Places.{WalkLeads, StandsOnlyAt, child_of, number_of_child};
 ghost use Rattle.hunt_board.specs.Internal.Settled.{IsSameEvent, SaysSame};
 
-use crate::{CloseFault, Event, Receipt};
+use crate::{CloseFault, Receipt, ReceiptEvent};
 use gap_sets::{GapSet, Region};
 use search_core::{Finished, Settled, SettledEvent};
 use std::alloc::{AllocError, Global};
@@ -72,13 +72,13 @@ fn is_receipt_of(settled: &Settled<'_>, receipt: &Receipt) -> bool
 }
 
 /// Whether the events are the same, of a split by the gaps that its run passes.
-fn is_same_event(recorded: SettledEvent<'_>, event: &Event) -> bool
+fn is_same_event(recorded: SettledEvent<'_>, event: &ReceiptEvent) -> bool
     ensures { IsTrue result ↔ IsSameEvent recorded.entry event.now }
 {
     match (recorded, event) {
-        (SettledEvent::Split(run), Event::Split(passed)) => run.passed().same(passed),
-        (SettledEvent::Cut, Event::Cut) => true,
-        (SettledEvent::Confirmed, Event::Confirmed) => true,
+        (SettledEvent::Split(run), ReceiptEvent::Split(passed)) => run.passed().same(passed),
+        (SettledEvent::Cut, ReceiptEvent::Cut) => true,
+        (SettledEvent::Confirmed, ReceiptEvent::Confirmed) => true,
         _ => false,
     }
 }

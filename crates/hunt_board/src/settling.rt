@@ -19,7 +19,7 @@ pub enum Settling {
 
 /// What became of a settled node.
 #[derive(Clone, Copy, Debug)]
-pub enum Event {
+pub enum ReceiptEvent {
     /// It was split by a run that passes these gaps.
     Split(GapSet),
     Cut,
@@ -31,7 +31,7 @@ pub enum Event {
 pub struct Receipt {
     pub seat: u8,
     pub node: Region,
-    pub event: Event,
+    pub event: ReceiptEvent,
 }
 
 /// What there is to do.
@@ -45,13 +45,13 @@ pub enum Next {
 
 impl Settling {
     /// What becomes of the node.
-    pub(crate) fn event(&self) -> Event
+    pub(crate) fn event(&self) -> ReceiptEvent
         ensures { result ≡ settling_event self.now }
     {
         match self {
-            Settling::Asked(Verdict::Foreign(run)) => Event::Split(run.passed()),
-            Settling::Asked(Verdict::Serves(_)) => Event::Confirmed,
-            Settling::Cut(_) | Settling::Best => Event::Cut,
+            Settling::Asked(Verdict::Foreign(run)) => ReceiptEvent::Split(run.passed()),
+            Settling::Asked(Verdict::Serves(_)) => ReceiptEvent::Confirmed,
+            Settling::Cut(_) | Settling::Best => ReceiptEvent::Cut,
         }
     }
 }

@@ -16,7 +16,7 @@ use crate::settlings::cut;
 use crate::verdicts::verdict_on;
 use cover_solver::{ForeignRun, SeqTable, Verdict};
 use gap_sets::{GapSet, Region};
-use hunt_board::{Event, Hunt, HuntSeat, Next, Posted, Receipt, Settling};
+use hunt_board::{Hunt, HuntSeat, Next, Posted, Receipt, ReceiptEvent, Settling};
 use solver_calls::passes_none;
 use std::alloc::{AllocError, Global};
 use std::sync::Wait;
@@ -96,9 +96,9 @@ pub fn run_past(
 pub fn push_receipt(receipt: &Receipt, printed: &mut String) -> Result<(), AllocError> {
     write!(printed, "seat {} ", receipt.seat)?;
     match receipt.event {
-        Event::Split(passed) => push_gaps_after("split passed", &passed, printed)?,
-        Event::Cut => printed.push_str("cut")?,
-        Event::Confirmed => printed.push_str("confirmed")?,
+        ReceiptEvent::Split(passed) => push_gaps_after("split passed", &passed, printed)?,
+        ReceiptEvent::Cut => printed.push_str("cut")?,
+        ReceiptEvent::Confirmed => printed.push_str("confirmed")?,
     }
     printed.push('\n')
 }

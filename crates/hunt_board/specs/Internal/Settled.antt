@@ -3,8 +3,8 @@ use Rattle.std.specs.Prelude.{◌≡◌}
 use Rattle.search_core.specs.declared.finished.SettledEvent.{SettledEvent}
 use Rattle.search_core.specs.declared.finished.SettledEvent.TheVariants as recorded
 use Rattle.search_core.specs.declared.finished.Settled.{Settled}
-use Rattle.hunt_board.specs.declared.settling.Event.{Event as ReceiptEvent}
-use Rattle.hunt_board.specs.declared.settling.Event.TheVariants as event
+use Rattle.hunt_board.specs.declared.settling.ReceiptEvent.{ReceiptEvent}
+use Rattle.hunt_board.specs.declared.settling.ReceiptEvent.TheVariants as event
 use Rattle.hunt_board.specs.declared.settling.Receipt.{Receipt}
 
 -- the events are the same; of a split the gaps that its run passes are
