@@ -11,7 +11,7 @@ use std::marker::Model;
 
 /// Which access of a node.
 #[derive(Clone, Copy, Debug)]
-enum Place {
+enum AccessPlace {
     First,
     Second,
     Third,
@@ -22,7 +22,7 @@ enum Place {
 pub struct Events<'a> {
     /// The nodes from that of the next access on; those after the cycle may follow.
     left: &'a [Node],
-    place: Place,
+    place: AccessPlace,
 }
 
 impl<'a> Model for Events<'a> {
@@ -43,7 +43,7 @@ impl<'a> Events<'a> {
     {
         Events {
             left: nodes,
-            place: Place::First,
+            place: AccessPlace::First,
         }
     }
 
@@ -71,28 +71,28 @@ impl<'a> Iterator for Events<'a> {
 }
 
 /// The accesses after that of the first node at this place.
-fn after<'a>(place: Place, nodes: &'a [Node], node: Node, others: &'a [Node]) -> Events<'a>
+fn after<'a>(place: AccessPlace, nodes: &'a [Node], node: Node, others: &'a [Node]) -> Events<'a>
     requires { nodes.now ≡ node ∷ others.now }
     ensures { IfSome (slice_get (gathered node []) (gone_before place)) (λ access. drop (gone_before place) (events_of nodes.now) ≡ access ∷ result) }
 {
     match place {
-        Place::First => Events {
+        AccessPlace::First => Events {
             left: nodes,
-            place: Place::Second,
+            place: AccessPlace::Second,
         },
-        Place::Second => Events {
+        AccessPlace::Second => Events {
             left: nodes,
-            place: Place::Third,
+            place: AccessPlace::Third,
         },
-        Place::Third => Events {
+        AccessPlace::Third => Events {
             left: if is_earlier(node) { others } else { &[] },
-            place: Place::First,
+            place: AccessPlace::First,
         },
     }
 }
 
 /// The access of a node at this place.
-fn access_at(node: Node, place: Place) -> Option<AccessId>
+fn access_at(node: Node, place: AccessPlace) -> Option<AccessId>
     ensures { result ≡ slice_get (gathered node []) (gone_before place) }
 {
     match node {
@@ -103,17 +103,17 @@ fn access_at(node: Node, place: Place) -> Option<AccessId>
             third,
             ..
         } => match place {
-            Place::First => Some(first),
-            Place::Second => Some(second),
-            Place::Third => Some(third),
+            AccessPlace::First => Some(first),
+            AccessPlace::Second => Some(second),
+            AccessPlace::Third => Some(third),
         },
         Node::LastTwo { first, second, .. } => match place {
-            Place::First => Some(first),
-            Place::Second => Some(second),
-            Place::Third => None,
+            AccessPlace::First => Some(first),
+            AccessPlace::Second => Some(second),
+            AccessPlace::Third => None,
         },
         Node::LastOne { first, .. } => match place {
-            Place::First => Some(first),
+            AccessPlace::First => Some(first),
             _ => None,
         },
         _ => None,
@@ -121,13 +121,13 @@ fn access_at(node: Node, place: Place) -> Option<AccessId>
 }
 
 /// How many accesses come before one at this place.
-fn gone(place: Place) -> usize
+fn gone(place: AccessPlace) -> usize
     ensures { result ≡ gone_before place }
 {
     match place {
-        Place::First => 0,
-        Place::Second => 1,
-        Place::Third => 2,
+        AccessPlace::First => 0,
+        AccessPlace::Second => 1,
+        AccessPlace::Third => 2,
     }
 }
 
