@@ -14,7 +14,7 @@ use Rattle.cover_solver.specs.declared.fault.ForeignFault.TheVariants as foreign
 use Rattle.fence_laws.proofs.GapsAvoided.{fenced_runs_avoid}
 use Rattle.cert_forest.specs.{Trees.Cover, NodeConstants.NEAR_RUNS}
 use Rattle.sketch_covers.specs.{OutcomeNumbers.AreFoundOf, declared.ascending_outcomes.AscendingOutcomes.AscendingOutcomes, declared.outcome_index.OutcomeIndex.OutcomeIndex, Covers.IsWholeCover}
-use Rattle.sketch_covers.specs.{KnownOutcomes.StopIs, declared.known_outcomes.KnownOutcomes.TheVariants.Closed, declared.stop.Stop.Stop}
+use Rattle.sketch_covers.specs.{KnownOutcomes.StopIs, declared.known_outcomes.KnownOutcomes.TheVariants.Closed, declared.stop.SearchStop.SearchStop}
 use Rattle.partial_covers.proofs.{RenumberedTrees.whole_renumbered, HoleTrees.stop_lacks}
 use Rattle.tso_program.proofs.OutcomesOrdered.{one_way}
 use Rattle.std.specs.declared.cmp.Ordering.TheVariants.{Less}
@@ -103,12 +103,12 @@ replays_unfenced q gaps labels o why is_run fault =
     let again = unfenced_run q gaps labels o is_run in no_fault q.program (StoreBufferMachine no_gaps) labels again.0 why again.1 fault
 
 -- why a search stops, said of the question, the set and the list
-pub lacks_moved : {T : Type 0} → (found : Result T Stop) (q other : Question) (mode : Mode) (gaps : SetOfGaps) (os outcomes : List Outcome) → q ≡ other → mode ≡ modes.Fenced gaps → os ≡ outcomes →
+pub lacks_moved : {T : Type 0} → (found : Result T SearchStop) (q other : Question) (mode : Mode) (gaps : SetOfGaps) (os outcomes : List Outcome) → q ≡ other → mode ≡ modes.Fenced gaps → os ≡ outcomes →
     IfErr found (StopLacks q (machine_of_mode q.program mode) os) → IfErr found (StopLacks other (StoreBufferMachine (gaps_in other.program gaps)) outcomes)
 lacks_moved found q other mode gaps os outcomes same is listed stop =
     subst (λ (xs : List Outcome). IfErr found (StopLacks other (StoreBufferMachine (gaps_in other.program gaps)) xs)) listed
     (subst (λ (m : Mode). IfErr found (StopLacks other (machine_of_mode other.program m) os)) is (subst (λ (r : Question). IfErr found (StopLacks r (machine_of_mode r.program mode) os)) same stop))
 
-pub stop_lacks_if : {T : Type 0} → (found : Result T Stop) (q : Question) (machine : Machine) (outcomes : Bor (List Outcome)) → IfErr found (StopIs q machine (Closed outcomes)) → IfErr found (StopLacks q machine outcomes.now)
+pub stop_lacks_if : {T : Type 0} → (found : Result T SearchStop) (q : Question) (machine : Machine) (outcomes : Bor (List Outcome)) → IfErr found (StopIs q machine (Closed outcomes)) → IfErr found (StopLacks q machine outcomes.now)
 stop_lacks_if (Ok tree) q machine outcomes is = tt
 stop_lacks_if (Err why) q machine outcomes is = stop_lacks q machine outcomes why is

@@ -1,12 +1,12 @@
 -- What is found for the holes of a partial cover, a few at a time.
 use Rattle.partial_covers.proofs.Vocabulary.{◌≡◌, ℕ, suc, ◌+◌, ◌-◌, ◌<◌, ◌≤◌, List, [], ◌∷◌, ◌++◌, get_or, length, sym, ap, ◌∙◌, subst, arith, get_or_append_left, length-append, All, Outcome, Shown, Question, Machine, ProgramSketch, Node, Cover, Choice, Piece}
-use Rattle.partial_covers.proofs.Vocabulary.{LeadsToWhole, StopIs, Pushes, Stop, HoleTree, AreFoundFrom, AreHolesFrom, AreSearchedHoles, IsFoundAfter, StopLacks}
+use Rattle.partial_covers.proofs.Vocabulary.{LeadsToWhole, StopIs, Pushes, SearchStop, HoleTree, AreFoundFrom, AreHolesFrom, AreSearchedHoles, IsFoundAfter, StopLacks}
 use Rattle.std.proofs.Math.Seq.{get_or-append_seam}
-use Rattle.sketch_covers.specs.declared.stop.Stop.TheVariants as stop
+use Rattle.sketch_covers.specs.declared.stop.SearchStop.TheVariants as stop
 use Rattle.sketch_covers.specs.declared.known_outcomes.KnownOutcomes.{TheVariants.Closed}
 
 -- why a search by a closed list stops
-pub stop_lacks : (q : Question) (machine : Machine) (outcomes : _) (why : Stop) → StopIs q machine (Closed outcomes) why → StopLacks q machine outcomes.now why
+pub stop_lacks : (q : Question) (machine : Machine) (outcomes : _) (why : SearchStop) → StopIs q machine (Closed outcomes) why → StopLacks q machine outcomes.now why
 stop_lacks q machine outcomes (stop.New run sketch) is = is
 stop_lacks q machine outcomes stop.OutOfMemory is = tt
 

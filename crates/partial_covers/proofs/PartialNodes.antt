@@ -1,6 +1,6 @@
 -- Partial covers, node by node.
 use Rattle.partial_covers.proofs.Vocabulary.{◌≡◌, ◌≤◌, Bool, true, false, ℕ, List, [], ◌∷◌, ◌++◌, length, map, take, refl, sym, ap, ◌∙◌, subst, append_assoc, Result, Ok, Err, OnOk, map-append, append-nil, Outcome, Shown, IsWhole, ProgramSketch, mode_in}
-use Rattle.partial_covers.proofs.Vocabulary.{IsLawful, Node, spell, Choice, Piece, IsCoverAt, Item, Has, Lacks, Closed, Hole, items_before, PushesPartialAt, choice_count, most_choices, Stop, OnTold, Pushes, IfKnown, leaf_cover}
+use Rattle.partial_covers.proofs.Vocabulary.{IsLawful, Node, spell, Choice, Piece, IsCoverAt, Item, Has, Lacks, Closed, Hole, items_before, PushesPartialAt, choice_count, most_choices, SearchStop, OnTold, Pushes, IfKnown, leaf_cover}
 use Rattle.sketch_covers.proofs.Leaves.{known_pushed, unknown_same}
 
 -- nodes after the last piece
@@ -74,5 +74,5 @@ on_both (Ok v) P Q R follows one other = follows one other
 on_both (Err e) P Q R follows one other = tt
 
 -- what is said of a search that stops, by why it stops
-pub told_as : (why other : Stop) (P : Type 0) → why ≡ other → OnTold {T = ℕ} (Err why) P → OnTold {T = ℕ} (Err other) P
-told_as why other P is told = subst (λ (w : Stop). OnTold {T = ℕ} (Err w) P) is told
+pub told_as : (why other : SearchStop) (P : Type 0) → why ≡ other → OnTold {T = ℕ} (Err why) P → OnTold {T = ℕ} (Err other) P
+told_as why other P is told = subst (λ (w : SearchStop). OnTold {T = ℕ} (Err w) P) is told

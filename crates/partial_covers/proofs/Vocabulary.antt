@@ -55,7 +55,7 @@ pub use Rattle.sketch_covers.specs.OutcomeNumbers.{ArePlacesOf, HasNumber, Keeps
 pub use Rattle.sketch_covers.specs.Pushing.{BeginsIfNew, IfKnown, Pushes}
 pub use Rattle.sketch_covers.specs.UnsourcedTraces.{Takes}
 pub use Rattle.sketch_covers.specs.declared.known_outcomes.KnownOutcomes.{KnownOutcomes, TheVariants.Open}
-pub use Rattle.sketch_covers.specs.declared.stop.Stop.{Stop}
+pub use Rattle.sketch_covers.specs.declared.stop.SearchStop.{SearchStop}
 pub use Rattle.sketches.proofs.ChoicesCounted.{choices_few}
 pub use Rattle.sketches.proofs.Lawful.{good_of, values_from}
 pub use Rattle.sketches.proofs.Lookups.{same_default}

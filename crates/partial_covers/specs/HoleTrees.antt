@@ -14,8 +14,8 @@ use Rattle.cert_forest.specs.Nodes.{spell}
 use Rattle.cover_judge.specs.declared.choice.Choice.{Choice}
 use Rattle.sketch_covers.specs.Covers.{IsCoverAt}
 use Rattle.sketch_covers.specs.Pushing.{Pushes}
-use Rattle.sketch_covers.specs.declared.stop.Stop.{Stop}
-use Rattle.sketch_covers.specs.declared.stop.Stop.TheVariants as stop
+use Rattle.sketch_covers.specs.declared.stop.SearchStop.{SearchStop}
+use Rattle.sketch_covers.specs.declared.stop.SearchStop.TheVariants as stop
 use Rattle.sketch_covers.specs.NodeChanges.{sequential_node}
 use Rattle.partial_covers.specs.PartialCovers.{AreEach, Item, Has, Lacks, after}
 use Rattle.partial_covers.specs.declared.partial_cover.Piece.{Piece}
@@ -33,7 +33,7 @@ Filled s shown outcomes (Has x ∷ items) nodes = (more : List Node) × (nodes �
 Filled s shown outcomes (Lacks path filling ∷ items) nodes = (tree : Cover) × (more : List Node) × IsCoverAt (after s path) shown outcomes tree × (nodes ≡ spell tree ++ more) × Filled s shown outcomes items more
 
 -- why there is no tree: a run of the machine leaves an outcome that the list lacks, or memory is out
-abbrev pub StopLacks : Question → Machine → List Outcome → Stop → Type 0
+abbrev pub StopLacks : Question → Machine → List Outcome → SearchStop → Type 0
 StopLacks q mode outcomes (stop.New run sketch) = IsShownRun q mode run.labels.items run.outcome × (Contains outcomes run.outcome → ⊥)
 StopLacks q mode outcomes stop.OutOfMemory = Unit {0}
 

@@ -23,7 +23,7 @@ use crate::watch::Watch;
 use branching::{FullTrace, OpenChoice, Plan, Tally, ValueTree, choices_of};
 use cert_forest::Node;
 use cover_judge::{Choice, sketch_with};
-use sketch_covers::{KnownOutcomes, OutcomeIndex, Stop, cover_whole, known_leaf};
+use sketch_covers::{KnownOutcomes, OutcomeIndex, SearchStop, cover_whole, known_leaf};
 use sketches::{Mode, Sketch};
 use std::alloc::{AllocError, Global};
 use tso_program::Shown;
@@ -301,13 +301,13 @@ impl Covering<'_> {
                 watch.done(1, self.outcomes.count());
                 Ok(())
             }
-            Err(Stop::New { run, sketch }) => {
+            Err(SearchStop::New { run, sketch }) => {
                 self.kept.nodes.truncate(start);
                 let run = self.passed.keep(self.alloc, run.labels, sketch)?;
                 let none = Vec::new(self.alloc);
                 self.kept.push_hole(self.alloc, &self.path, run, none)
             }
-            Err(Stop::OutOfMemory) => Err(AllocError),
+            Err(SearchStop::OutOfMemory) => Err(AllocError),
         }
     }
 }

@@ -16,7 +16,7 @@ use crate::searching::Search;
 use crate::watch::Watch;
 use cert_forest::Node;
 use cover_judge::{Choice, choose};
-use sketch_covers::{KnownOutcomes, Stop, cover_whole, sequential_node};
+use sketch_covers::{KnownOutcomes, SearchStop, cover_whole, sequential_node};
 use sketches::{Mode, Sketch};
 use std::alloc::AllocError;
 
@@ -26,7 +26,7 @@ pub(crate) fn fill<W: Watch>(
     kept: &PartialCover,
     outcomes: &mut KnownOutcomes,
     watch: &W,
-) -> Result<Vec<Node>, Stop>
+) -> Result<Vec<Node>, SearchStop>
     requires in_order { AreInOrder outcomes.old }
     requires kept { IsPartialCover sought.now.program.now sought.now.shown.now (by_number outcomes.old) kept.now }
     ensures grows { OnOk result (Grows (asked sought.now.program.now sought.now.shown.now) outcomes.old outcomes.new) }
@@ -53,7 +53,7 @@ fn push_tree<W: Watch>(
     outcomes: &mut KnownOutcomes,
     nodes: &mut Vec<Node>,
     watch: &W,
-) -> Result<(), Stop>
+) -> Result<(), SearchStop>
     requires in_order { AreInOrder outcomes.old }
     requires leads { LeadsToWhole empty.now piece.now.path.items }
     requires filled { IsFilling (after empty.now piece.now.path.items) sought.now.shown.now (by_number outcomes.old) piece.now.filling.items }

@@ -16,7 +16,7 @@ use crate::partial_cover::{PartialCover, Piece};
 use crate::searching::Search;
 use cert_forest::Node;
 use cover_judge::Choice;
-use sketch_covers::{KnownOutcomes, Stop, cover_whole};
+use sketch_covers::{KnownOutcomes, SearchStop, cover_whole};
 use sketches::{Mode, Sketch};
 use std::alloc::{AllocError, Global};
 use std::thread::{self, Threads};
@@ -31,7 +31,7 @@ pub(crate) struct HoleTree {
     /// The choices that lead to the hole.
     pub(crate) path: Vec<Choice>,
     /// The nodes of a tree, or why there is none. Until it is searched, that memory is out.
-    pub(crate) found: Result<Vec<Node>, Stop>,
+    pub(crate) found: Result<Vec<Node>, SearchStop>,
 }
 
 impl HoleTree {
@@ -51,7 +51,7 @@ impl HoleTree {
         empty: &Sketch,
         shown: &Shown,
         outcomes: &[Outcome],
-    ) -> Result<Vec<Node>, Stop>
+    ) -> Result<Vec<Node>, SearchStop>
         requires leads { LeadsToWhole empty.now self.now.path.items }
         requires ascend { Ascend outcomes.now }
         ensures tree { IfOk result (λ nodes. Pushes (IsCoverAt (after empty.now self.now.path.items) shown.now outcomes.now) [] nodes.items) }
@@ -74,7 +74,7 @@ pub(crate) fn fill_by<R: Threads + Sync>(
     sought: &Search,
     kept: &PartialCover,
     outcomes: &[Outcome],
-) -> Result<Vec<Node>, Stop>
+) -> Result<Vec<Node>, SearchStop>
     requires threads { 0 < threads }
     requires ascend { Ascend outcomes.now }
     requires kept { IsPartialCover sought.now.program.now sought.now.shown.now outcomes.now kept.now }
@@ -112,7 +112,7 @@ fn holes_from(alloc: Global, pieces: &[Piece], from: usize) -> Result<Vec<HoleTr
     for k in 0..to - from {
         holes.push(HoleTree {
             path: Vec::from_slice(alloc, &pieces[to - 1 - k].path)?,
-            found: Err(Stop::OutOfMemory),
+            found: Err(SearchStop::OutOfMemory),
         })?;
     }
     Ok(holes)

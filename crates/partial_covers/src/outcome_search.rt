@@ -21,7 +21,7 @@ use crate::partial_cover::{PartialCover, forget_fillings};
 use crate::searching::{Search, SearchStart};
 use crate::watch::{JoinWatch, Watch};
 use cert_forest::CoverTree;
-use sketch_covers::{KnownOutcomes, OutcomeIndex, Stop};
+use sketch_covers::{KnownOutcomes, OutcomeIndex, SearchStop};
 use std::alloc::AllocError;
 use std::thread::Threads;
 use tso_program::Outcome;
@@ -59,8 +59,8 @@ pub fn all_outcomes<W: Watch>(
     } = found;
     let tree = match cover_all(sought, &kept, &mut outcomes, watch) {
         Ok(tree) => tree,
-        Err(Stop::OutOfMemory) => return Err(AllocError),
-        Err(Stop::New { .. }) => unreachable!(),
+        Err(SearchStop::OutOfMemory) => return Err(AllocError),
+        Err(SearchStop::New { .. }) => unreachable!(),
     };
     kept.filled_count = kept.count();
     forget_fillings(sought.alloc, &mut kept.pieces);
@@ -101,7 +101,7 @@ pub fn cover_all<W: Watch>(
     tree: &PartialCover,
     outcomes: &mut KnownOutcomes,
     watch: &W,
-) -> Result<CoverTree, Stop>
+) -> Result<CoverTree, SearchStop>
     requires in_order { AreInOrder outcomes.old }
     requires kept { IsPartialCover sought.now.program.now sought.now.shown.now (by_number outcomes.old) tree.now }
     ensures grows { OnOk result (Grows (asked sought.now.program.now sought.now.shown.now) outcomes.old outcomes.new) }
@@ -119,7 +119,7 @@ pub fn cover_closed_by<R: Threads + Sync>(
     sought: &Search,
     tree: &PartialCover,
     outcomes: &[Outcome],
-) -> Result<CoverTree, Stop>
+) -> Result<CoverTree, SearchStop>
     requires ascend { Ascend outcomes.now }
     requires kept { IsPartialCover sought.now.program.now sought.now.shown.now outcomes.now tree.now }
     ensures tree { IfOk result (λ tree. IsWholeCover (asked sought.now.program.now sought.now.shown.now) (machine_of_mode sought.now.program.now sought.now.mode) outcomes.now tree) }

@@ -1,7 +1,7 @@
 -- The outcomes that a search has found are all in one mode.
-use Rattle.sketch_covers.proofs.Vocabulary.{◌≡◌, List, Contains, Bor, Box, Global, refl, sym, ◌∙◌, subst, Outcome, Machine, machine_of_mode, Question, Sketch, MadeRun, Stop, OutcomeIndex, KnownOutcomes, Closed, Open, AreRunsOf, HasRunOfEach, StaysOf, StopIs}
+use Rattle.sketch_covers.proofs.Vocabulary.{◌≡◌, List, Contains, Bor, Box, Global, refl, sym, ◌∙◌, subst, Outcome, Machine, machine_of_mode, Question, Sketch, MadeRun, SearchStop, OutcomeIndex, KnownOutcomes, Closed, Open, AreRunsOf, HasRunOfEach, StaysOf, StopIs}
 use Rattle.tso_machine.specs.declared.mode.Mode as own
-use Rattle.sketch_covers.specs.declared.stop.Stop.TheVariants as stop
+use Rattle.sketch_covers.specs.declared.stop.SearchStop.TheVariants as stop
 
 -- the list is open, and each of its outcomes is what is shown of that of its run in this mode
 abbrev HasRunsIn : Question → own.Mode → KnownOutcomes → Type 0
@@ -22,6 +22,6 @@ never_new q mode found old new run sketch first stays is =
     (subst (λ (o : KnownOutcomes). StopIs q (machine_of_mode q.program mode) o (stop.New run sketch)) same is) refl
 
 -- a search by a closed list stops at a run whose outcome is not in it
-pub not_listed : (q : Question) (machine : Machine) (outcomes : Bor (List Outcome)) (why : Stop) (run : MadeRun) (sketch : Box Sketch Global) → why ≡ stop.New run sketch → StopIs q machine (Closed outcomes) why →
+pub not_listed : (q : Question) (machine : Machine) (outcomes : Bor (List Outcome)) (why : SearchStop) (run : MadeRun) (sketch : Box Sketch Global) → why ≡ stop.New run sketch → StopIs q machine (Closed outcomes) why →
     Contains outcomes.now run.outcome → ⊥
 not_listed q machine outcomes why run sketch same is = (subst (StopIs q machine (Closed outcomes)) same is).1

@@ -1,10 +1,10 @@
 -- Trees for the choices at a node, put after other nodes one by one.
 use Rattle.sketch_covers.proofs.Vocabulary.{◌≡◌, ℕ, ◌+◌, ◌<◌, ◌≤◌, List, [], ◌∷◌, ◌++◌, length, take, drop, get_or, refl, ap, sym, ◌∙◌, subst, arith, append_assoc, append-nil, length-append, take_all, Result, Ok, Err, IfErr, IsErrAnd, remove_range, Outcome}
-use Rattle.sketch_covers.proofs.Vocabulary.{Shown, ProgramSketch, IsLawful, HaveAllRegisters, choice_count, most_choices, AccessId, Node, Cover, Value, Source, Order, Cycle, Known, Choice, OpenChoice, Stop, AreChoicesOf, IsOpen, IsCoverAt, IsCoverAfter}
+use Rattle.sketch_covers.proofs.Vocabulary.{Shown, ProgramSketch, IsLawful, HaveAllRegisters, choice_count, most_choices, AccessId, Node, Cover, Value, Source, Order, Cycle, Known, Choice, OpenChoice, SearchStop, AreChoicesOf, IsOpen, IsCoverAt, IsCoverAfter}
 use Rattle.sketch_covers.proofs.Vocabulary.{AreCoversAfter, tree_over, node_over, KeepsNumbers, spell, spell_all, tree_of, IsTree, covers_count, cycle_some, known_some, is_tree, tree_again, spelled_append, child_instead, Pushes, Begins, BeginsIfNew, listed}
 use Rattle.cert_forest.specs.Node.TheVariants as node
 use Rattle.branching.specs.declared.open_choice.OpenChoice.TheVariants as left
-use Rattle.sketch_covers.specs.declared.stop.Stop.TheVariants as stop
+use Rattle.sketch_covers.specs.declared.stop.SearchStop.TheVariants as stop
 use Rattle.sketch_covers.proofs.{Growing.covers_still, Nodes.as_many_choices, Nodes.covers_more, Nodes.covers_none, Nodes.node_cover}
 
 -- what is pushed after what was pushed
@@ -13,11 +13,11 @@ begins_twice old now new root trees pushed (more, is) =
     ((root ∷ spell_all trees) ++ more, is ∙ ap (λ (xs : List Node). xs ++ more) pushed ∙ append_assoc old (root ∷ spell_all trees) more)
 
 -- so where a search stops as a part of it did
-stays_on : (why : Stop) (old now new : List Node) (root : Node) (trees : List Cover) → now ≡ old ++ root ∷ spell_all trees → BeginsIfNew now new why → BeginsIfNew old new why
+stays_on : (why : SearchStop) (old now new : List Node) (root : Node) (trees : List Cover) → now ≡ old ++ root ∷ spell_all trees → BeginsIfNew now new why → BeginsIfNew old new why
 stays_on (stop.New run sketch) old now new root trees pushed begins = begins_twice old now new root trees pushed begins
 stays_on stop.OutOfMemory old now new root trees pushed begins = tt
 
-pub stays_as : {U : Type 0} (why : Stop) (result : Result U Stop) (old now new : List Node) (root : Node) (trees : List Cover) → now ≡ old ++ root ∷ spell_all trees → IsErrAnd result (λ other. other ≡ why)
+pub stays_as : {U : Type 0} (why : SearchStop) (result : Result U SearchStop) (old now new : List Node) (root : Node) (trees : List Cover) → now ≡ old ++ root ∷ spell_all trees → IsErrAnd result (λ other. other ≡ why)
     → BeginsIfNew now new why → IfErr result (BeginsIfNew old new)
 stays_as why (Ok made) old now new root trees pushed same begins = absurd same
 stays_as why (Err other) old now new root trees pushed same begins = subst (BeginsIfNew old new) (sym same) (stays_on why old now new root trees pushed begins)

@@ -1,10 +1,10 @@
 -- Lists of outcomes that grow, and the trees over them.
 use Rattle.sketch_covers.proofs.Vocabulary.{◌≡◌, List, [], ◌∷◌, map, refl, sym, subst, Result, Ok, Err, IfErr, IsErrAnd, Outcome, Shown, Question, asked, Machine, machine_of_mode, ProgramSketch, mode_in, with_chosen, event_of, IsValidCover, AreValidCovers}
-use Rattle.sketch_covers.proofs.Vocabulary.{Choice, sketch_with, moved, Stop, OutcomeIndex, KnownOutcomes, Closed, Open, AreCoversAfter, KeepsNumbers, IsInOrder, AreRunsOf, Cover, Value, Source, Order, Cycle, Known, Covers, NoCover, MoreCovers, covers_of}
+use Rattle.sketch_covers.proofs.Vocabulary.{Choice, sketch_with, moved, SearchStop, OutcomeIndex, KnownOutcomes, Closed, Open, AreCoversAfter, KeepsNumbers, IsInOrder, AreRunsOf, Cover, Value, Source, Order, Cycle, Known, Covers, NoCover, MoreCovers, covers_of}
 use Rattle.sketch_covers.proofs.Vocabulary.{AreInOrder, StaysOf, StopIs, Grows, OnTold}
 use Rattle.tso_machine.specs.declared.mode.Mode as own
 use Rattle.candidate_executions.specs.Sketches.{Sketch, with_value, with_source, with_pair}
-use Rattle.sketch_covers.specs.declared.stop.Stop.TheVariants as stop
+use Rattle.sketch_covers.specs.declared.stop.SearchStop.TheVariants as stop
 
 stays : (outcomes : KnownOutcomes) → StaysOf outcomes outcomes
 stays (Closed outcomes) = refl
@@ -30,7 +30,7 @@ module _ (q : Question) where
   }
 
 -- an open list that found more stops for what it did before
-stops_open : (q : Question) (machine : Machine) (mode : own.Mode) (old new : OutcomeIndex) (why : Stop) → StopIs q machine (Open new mode) why → StopIs q machine (Open old mode) why
+stops_open : (q : Question) (machine : Machine) (mode : own.Mode) (old new : OutcomeIndex) (why : SearchStop) → StopIs q machine (Open new mode) why → StopIs q machine (Open old mode) why
 stops_open q machine mode old new (stop.New run sketch) is = is
 stops_open q machine mode old new stop.OutOfMemory is = tt
 
@@ -40,14 +40,14 @@ module _ (q : Question) (mode : own.Mode) (old new : OutcomeIndex) (in_order : I
   pub grows_open : Grows q (Open old mode) (Open new mode)
   grows_open = record { in_order = in_order; keeps = keeps; runs = runs; stays = (new, refl); stops = λ machine why is. stops_open q machine mode old new why is }
 
-stopped : (T U : Type 0) (why : Stop) (P Q : Type 0) → (P → Q) → OnTold {T = T} (Err why) P → OnTold {T = U} (Err why) Q
+stopped : (T U : Type 0) (why : SearchStop) (P Q : Type 0) → (P → Q) → OnTold {T = T} (Err why) P → OnTold {T = U} (Err why) Q
 stopped T U (stop.New run sketch) P Q follows part = follows part
 stopped T U stop.OutOfMemory P Q follows part = tt
 
 -- a search that stops as a part of it did
-pub stops_as : (T U : Type 0) (why : Stop) (result : Result U Stop) (P Q : Type 0) → IsErrAnd result (λ other. other ≡ why) → (P → Q) → OnTold {T = T} (Err why) P → OnTold result Q
+pub stops_as : (T U : Type 0) (why : SearchStop) (result : Result U SearchStop) (P Q : Type 0) → IsErrAnd result (λ other. other ≡ why) → (P → Q) → OnTold {T = T} (Err why) P → OnTold result Q
 stops_as T U why (Ok made) P Q same follows part = absurd same
-stops_as T U why (Err other) P Q same follows part = subst (λ (w : Stop). OnTold {T = U} (Err w) Q) (sym same) (stopped T U why P Q follows part)
+stops_as T U why (Err other) P Q same follows part = subst (λ (w : SearchStop). OnTold {T = U} (Err w) Q) (sym same) (stopped T U why P Q follows part)
 
 -- memory stops any search
 pub memory_stops : (q : Question) (machine : Machine) (outcomes : KnownOutcomes) → StopIs q machine outcomes stop.OutOfMemory
@@ -55,7 +55,7 @@ memory_stops q machine (Closed outcomes) = tt
 memory_stops q machine (Open found of) = tt
 
 -- so for what is said of why it stops
-pub stops_for : {U : Type 0} (why : Stop) (result : Result U Stop) (Q : Stop → Type 0) → IsErrAnd result (λ other. other ≡ why) → Q why → IfErr result Q
+pub stops_for : {U : Type 0} (why : SearchStop) (result : Result U SearchStop) (Q : SearchStop → Type 0) → IsErrAnd result (λ other. other ≡ why) → Q why → IfErr result Q
 stops_for why (Ok made) Q same is = absurd same
 stops_for why (Err other) Q same is = subst Q (sym same) is
 

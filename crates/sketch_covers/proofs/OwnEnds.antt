@@ -3,7 +3,7 @@ use Rattle.sketch_covers.proofs.Vocabulary.{Box, Global, ◌≡◌, ℕ, List, O
 use Rattle.sketch_covers.proofs.Vocabulary.{KnownOutcomes, Closed, Open, IsEndNotListed, HasNumber, IsShownRunOf, by_number, StopIs, HasOwnEnd}
 use Rattle.tso_machine.specs.declared.mode.Mode as own
 use Rattle.sketches.specs.Known.{HasNoCycle}
-use Rattle.sketch_covers.specs.declared.stop.Stop.TheVariants as stop
+use Rattle.sketch_covers.specs.declared.stop.SearchStop.TheVariants as stop
 
 -- an outcome with a number is in the list
 pub numbered_is_listed : (outcomes : List Outcome) (n : ℕ) (o : Outcome) → HasNumber outcomes n o → Contains outcomes o

@@ -80,4 +80,4 @@ pub use Rattle.sketch_covers.specs.ShownRuns.{IsShownRunOf}
 pub use Rattle.sketch_covers.specs.UnsourcedTraces.{Closes, Takes}
 pub use Rattle.sketch_covers.specs.declared.known_outcomes.KnownOutcomes.{KnownOutcomes, TheVariants.Closed, TheVariants.Open}
 pub use Rattle.sketch_covers.specs.declared.outcome_index.OutcomeIndex.{OutcomeIndex}
-pub use Rattle.sketch_covers.specs.declared.stop.Stop.{Stop}
+pub use Rattle.sketch_covers.specs.declared.stop.SearchStop.{SearchStop}

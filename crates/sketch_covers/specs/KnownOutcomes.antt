@@ -8,8 +8,8 @@ use Rattle.tso_machine.specs.Modes.{machine_of_mode}
 use Rattle.tso_machine.specs.Outcomes.{IsShownRun}
 use Rattle.candidate_executions.specs.Sketches.{MustEndAs}
 use Rattle.sketches.specs.ProgramSketches.{ProgramSketch, mode_in}
-use Rattle.sketch_covers.specs.declared.stop.Stop.{Stop}
-use Rattle.sketch_covers.specs.declared.stop.Stop.TheVariants as stop
+use Rattle.sketch_covers.specs.declared.stop.SearchStop.{SearchStop}
+use Rattle.sketch_covers.specs.declared.stop.SearchStop.TheVariants as stop
 use Rattle.sketch_covers.specs.declared.outcome_index.OutcomeIndex.{OutcomeIndex}
 use Rattle.sketch_covers.specs.declared.known_outcomes.KnownOutcomes.{KnownOutcomes, TheVariants.Closed, TheVariants.Open}
 use Rattle.sketch_covers.specs.OutcomeNumbers.{IsInOrder, KeepsNumbers, AreRunsOf}
@@ -36,7 +36,7 @@ HasOwnEnd s shown (Closed outcomes) = Unit {0}
 HasOwnEnd s shown (Open found mode) = machine_of_mode s.program mode ≡ mode_in s → (o : Outcome) × MustEndAs (asked s.program shown) (mode_in s) s.chosen o × Contains found.outcomes.items o
 
 -- why no tree is found in a mode: a closed list lacks the outcome of a run, and an open list is open for another mode
-abbrev pub StopIs : Question → Machine → KnownOutcomes → Stop → Type 0
+abbrev pub StopIs : Question → Machine → KnownOutcomes → SearchStop → Type 0
 StopIs q mode (Closed outcomes) (stop.New run sketch) = IsShownRun q mode run.labels.items run.outcome × (Contains outcomes.now run.outcome → ⊥)
 StopIs q mode (Closed outcomes) stop.OutOfMemory = Unit {0}
 StopIs q mode (Open found of) (stop.New run sketch) = machine_of_mode q.program of ≡ mode → ⊥
@@ -53,10 +53,10 @@ pub record Grows (q : Question) (old new : KnownOutcomes) : Type 0 where
   pub keeps : KeepsNumbers (by_number old) (by_number new)
   pub runs : HasRunOfEach q old → HasRunOfEach q new
   pub stays : StaysOf old new
-  pub stops : (mode : Machine) (why : Stop) → StopIs q mode new why → StopIs q mode old why
+  pub stops : (mode : Machine) (why : SearchStop) → StopIs q mode new why → StopIs q mode old why
 
 -- this holds unless memory is out
-abbrev pub OnTold : {T : Type 0} → Result T Stop → Type 0 → Type 0
+abbrev pub OnTold : {T : Type 0} → Result T SearchStop → Type 0 → Type 0
 OnTold (Ok made) P = P
 OnTold (Err (stop.New run sketch)) P = P
 OnTold (Err stop.OutOfMemory) P = Unit {0}

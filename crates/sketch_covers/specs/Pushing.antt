@@ -7,8 +7,8 @@ use Rattle.cert_forest.specs.Node.{Node}
 use Rattle.cert_forest.specs.Trees.{Cover}
 use Rattle.cert_forest.specs.Nodes.{spell}
 use Rattle.cover_judge.specs.Judged.{IsValidAt}
-use Rattle.sketch_covers.specs.declared.stop.Stop.{Stop}
-use Rattle.sketch_covers.specs.declared.stop.Stop.TheVariants as stop
+use Rattle.sketch_covers.specs.declared.stop.SearchStop.{SearchStop}
+use Rattle.sketch_covers.specs.declared.stop.SearchStop.TheVariants as stop
 use Rattle.sketch_covers.specs.Covers.{IsEndNotListed, IsLeafAt, IsUnsettled}
 
 -- the nodes of a tree with the property come after the old ones
@@ -22,7 +22,7 @@ abbrev pub Begins : List Node → List Node → Type 0
 Begins old new = (more : List Node) × (new ≡ old ++ more)
 
 -- the old ones are there if a run stops the search
-abbrev pub BeginsIfNew : List Node → List Node → Stop → Type 0
+abbrev pub BeginsIfNew : List Node → List Node → SearchStop → Type 0
 BeginsIfNew old new (stop.New run sketch) = Begins old new
 BeginsIfNew old new stop.OutOfMemory = Unit {0}
 

@@ -17,7 +17,7 @@ ghost use Rattle.branching.specs.Accesses.{AreAccessesOf};
 use crate::known_outcomes::KnownOutcomes;
 use crate::leaf::{known, leaf};
 use crate::run::shown_run;
-use crate::stop::Stop;
+use crate::stop::SearchStop;
 use branching::{Branch, OpenChoice, WholeAccesses, next_branch, whole_accesses};
 use cert_forest::{Node, Walk, push_known, take_out};
 use cover_judge::{Choice, TreeFault, choose, judge};
@@ -33,7 +33,7 @@ pub fn cover_whole(
     shown: &Shown,
     outcomes: &mut KnownOutcomes,
     nodes: &mut Vec<Node>,
-) -> Result<(), Stop>
+) -> Result<(), SearchStop>
     requires in_order { AreInOrder outcomes.old }
     requires whole { IsWhole sketch.old.program (mode_in sketch.old) sketch.old.chosen }
     ensures kept { sketch.new ≡ sketch.old }
@@ -67,7 +67,7 @@ impl TreeSearch<'_> {
         sketch: &mut Sketch,
         outcomes: &mut KnownOutcomes,
         nodes: &mut Vec<Node>,
-    ) -> Result<(), Stop>
+    ) -> Result<(), SearchStop>
         requires in_order { AreInOrder outcomes.old }
         requires accesses { AreAccessesOf sketch.old self.now.accesses }
         ensures kept { sketch.new ≡ sketch.old }
@@ -99,7 +99,7 @@ impl TreeSearch<'_> {
         sketch: &Sketch,
         outcomes: &mut KnownOutcomes,
         nodes: &mut Vec<Node>,
-    ) -> Result<(), Stop>
+    ) -> Result<(), SearchStop>
         requires in_order { AreInOrder outcomes.old }
         requires complete { IsComplete sketch.now }
         requires unsettled { IsUnsettled sketch.now self.now.shown.now (by_number outcomes.old) }
@@ -115,7 +115,7 @@ impl TreeSearch<'_> {
                 push_known(nodes, number as u64)?;
                 Ok(())
             }
-            None => Err(Stop::New {
+            None => Err(SearchStop::New {
                 run: shown_run(self.alloc, sketch, self.shown)?,
                 sketch: Box::new(self.alloc, sketch.copy()?)?,
             }),
@@ -131,7 +131,7 @@ impl TreeSearch<'_> {
         branch: &Branch,
         outcomes: &mut KnownOutcomes,
         nodes: &mut Vec<Node>,
-    ) -> Result<(), Stop>
+    ) -> Result<(), SearchStop>
         requires in_order { AreInOrder outcomes.old }
         requires accesses { AreAccessesOf sketch.old self.now.accesses }
         requires branch { IsBranch sketch.old branch.now }
@@ -162,7 +162,7 @@ impl TreeSearch<'_> {
         choice: Choice,
         outcomes: &mut KnownOutcomes,
         nodes: &mut Vec<Node>,
-    ) -> Result<(), Stop>
+    ) -> Result<(), SearchStop>
         requires in_order { AreInOrder outcomes.old }
         requires accesses { AreAccessesOf sketch.old self.now.accesses }
         requires may { MayChoose sketch.old choice }

@@ -33,5 +33,5 @@ pub use leaf::known_leaf;
 pub use outcome_index::OutcomeIndex;
 pub use renumbering::renumber;
 pub use sequential_nodes::sequential_node;
-pub use stop::Stop;
+pub use stop::SearchStop;
 pub use unsourced_trees::push_unsourced;

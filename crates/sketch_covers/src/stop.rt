@@ -1,6 +1,6 @@
 //! Why a search for a cover tree ends without one.
 ghost use Rattle.std.specs.Prelude.{◌≡◌};
-ghost use Rattle.sketch_covers.specs.declared.stop.Stop.TheVariants as stop;
+ghost use Rattle.sketch_covers.specs.declared.stop.SearchStop.TheVariants as stop;
 
 use run_maker::MadeRun;
 use sketches::Sketch;
@@ -8,24 +8,24 @@ use std::alloc::{AllocError, AllocFailed};
 
 /// Why a search for a tree ends without one.
 #[derive(Drop)]
-pub enum Stop {
+pub enum SearchStop {
     /// A run has an outcome that is not in the list. The sketch is complete, and the run is one of it.
     New { run: MadeRun, sketch: Box<Sketch> },
     OutOfMemory,
 }
 
-impl From<AllocError> for Stop {
+impl From<AllocError> for SearchStop {
     ghost from_gives = { λ _ why. why ≡ stop.OutOfMemory };
 
-    fn from(_error: AllocError) -> Stop {
-        Stop::OutOfMemory
+    fn from(_error: AllocError) -> SearchStop {
+        SearchStop::OutOfMemory
     }
 }
 
-impl<T: Drop> From<AllocFailed<T>> for Stop {
+impl<T: Drop> From<AllocFailed<T>> for SearchStop {
     ghost from_gives = { λ _ why. why ≡ stop.OutOfMemory };
 
-    fn from(_error: AllocFailed<T>) -> Stop {
-        Stop::OutOfMemory
+    fn from(_error: AllocFailed<T>) -> SearchStop {
+        SearchStop::OutOfMemory
     }
 }

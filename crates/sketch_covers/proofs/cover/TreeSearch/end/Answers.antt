@@ -1,6 +1,6 @@
 use Rattle.sketch_covers.proofs.Vocabulary.{subst, refl, arith, MatchOption, Known, asked, mode_in, MustEndAsNumber, IsEndNotListed, by_number}
 use Rattle.sketch_covers.proofs.{Neat.neat_known, Nodes.leaf_cover, OwnEnds.stops_new}
-use Rattle.sketch_covers.specs.declared.stop.Stop.TheVariants as stop
+use Rattle.sketch_covers.specs.declared.stop.SearchStop.TheVariants as stop
 use Rattle.sketch_covers.proofs.cover.TreeSearch.end.Goals as goal
 
 pub returns-in_ok-new-in-None-clause-stop : goal.returns-in_ok-new-in-None-clause-stop
