@@ -13,7 +13,7 @@ ghost use Rattle.placed_text.specs.WhyTexts.{none_line, reasons_or_none, IsReaso
 
 use crate::TextFault;
 use crate::placing::{PlacedSource, placed_source};
-use crate::reasons::{Reason, push_graph, reason_of, run_without};
+use crate::reasons::{GapReason, push_graph, reason_of, run_without};
 use crate::watched::Effort;
 use documents::why_document;
 use json_text::JsonArray;
@@ -51,7 +51,7 @@ impl Explanation {
         alloc: Global,
         litmus: &Litmus<Program>,
         gap: u8,
-        reason: Reason,
+        reason: GapReason,
     ) -> Result<(), AllocError>
         ensures lines { OnOk result (self.new.lines.items ≡ self.old.lines.items ++ reason.lines.items) }
         ensures runs { OnOk result (self.new.runs ≡ self.old.runs ++ reason.run ∷ []) }
@@ -63,7 +63,7 @@ impl Explanation {
 }
 
 /// Why a gap of the answer is needed.
-fn reason_for(alloc: Global, placed: &PlacedSource, gap: u8) -> Result<Reason, AllocError>
+fn reason_for(alloc: Global, placed: &PlacedSource, gap: u8) -> Result<GapReason, AllocError>
     requires question { placed.now.found.solver.question ≡ asked placed.now.source.program placed.now.shown }
     requires answer { IsTheAnswer placed.now.found.solver.question placed.now.costs placed.now.found.placed.set }
     requires one_each { length placed.now.costs ≡ gap_count placed.now.found.solver.question.program.threads }

@@ -25,7 +25,7 @@ use tso_program::{Program, Shown};
 
 /// Why a gap is needed.
 #[derive(Drop)]
-pub(crate) struct Reason {
+pub(crate) struct GapReason {
     /// What is printed.
     pub(crate) lines: Vec<u8>,
     /// What the document says of the run.
@@ -199,7 +199,7 @@ pub(crate) fn reason_of(
     gaps: &GapSet,
     gap: u8,
     run: &ForeignRun,
-) -> Result<Reason, AllocError>
+) -> Result<GapReason, AllocError>
     requires question { run.now.question ≡ asked litmus.now.program shown.now }
     requires foreign { facts.IsForeignValue run.now }
     requires avoids { PassesNoneOf (set.remove gaps.now gap) run.now }
@@ -214,7 +214,7 @@ pub(crate) fn reason_of(
     let printed = printed_of(shown);
     let setting = Setting::Without(gap);
     let said = run_value(alloc, litmus, &printed, setting, &steps, &ended)?;
-    Ok(Reason {
+    Ok(GapReason {
         lines,
         run: said,
         steps,
