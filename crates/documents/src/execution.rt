@@ -3,7 +3,7 @@
 use crate::named::{location, number};
 use json_text::{JsonArray, JsonObject, JsonText};
 use litmus_text::{Litmus, NameTable};
-use run_views::{Candidate, Edge, Relation, RunEvent, candidate_of};
+use run_views::{Candidate, Edge, EdgeRelation, RunEvent, candidate_of};
 use std::alloc::{AllocError, Global};
 use tso_machine::Step;
 use tso_program::Program;
@@ -29,7 +29,7 @@ fn pairs(
     alloc: Global,
     names: &NameTable,
     edges: &[Edge],
-    relation: Relation,
+    relation: EdgeRelation,
 ) -> Result<JsonText, AllocError> {
     let mut array = JsonArray::new(alloc);
     for edge in edges {
@@ -64,7 +64,7 @@ fn add_relation(
     object: &mut JsonObject,
     names: &NameTable,
     edges: &[Edge],
-    relation: Relation,
+    relation: EdgeRelation,
 ) -> Result<(), AllocError> {
     object.add(relation.name(), pairs(alloc, names, edges, relation)?)
 }
@@ -77,10 +77,10 @@ fn add_candidate(
     candidate: &Candidate,
 ) -> Result<(), AllocError> {
     let edges = &candidate.edges;
-    add_relation(alloc, object, names, edges, Relation::ProgramOrder)?;
-    add_relation(alloc, object, names, edges, Relation::ReadsFrom)?;
-    add_relation(alloc, object, names, edges, Relation::Coherence)?;
-    add_relation(alloc, object, names, edges, Relation::FromReads)?;
+    add_relation(alloc, object, names, edges, EdgeRelation::ProgramOrder)?;
+    add_relation(alloc, object, names, edges, EdgeRelation::ReadsFrom)?;
+    add_relation(alloc, object, names, edges, EdgeRelation::Coherence)?;
+    add_relation(alloc, object, names, edges, EdgeRelation::FromReads)?;
     object.add("cycle", stages(alloc, names, &candidate.cycle)?)
 }
 

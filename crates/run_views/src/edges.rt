@@ -5,7 +5,7 @@ use std::alloc::{AllocError, Global};
 
 /// The relation of which an edge is.
 #[derive(Clone, Copy, PartialEq, Eq, Debug)]
-pub enum Relation {
+pub enum EdgeRelation {
     ProgramOrder,
     ReadsFrom,
     /// The order in which the writes of a location reach memory.
@@ -14,14 +14,14 @@ pub enum Relation {
     FromReads,
 }
 
-impl Relation {
+impl EdgeRelation {
     /// Its short name.
     pub fn name(self) -> &'static str {
         match self {
-            Relation::ProgramOrder => "po",
-            Relation::ReadsFrom => "rf",
-            Relation::Coherence => "co",
-            Relation::FromReads => "fr",
+            EdgeRelation::ProgramOrder => "po",
+            EdgeRelation::ReadsFrom => "rf",
+            EdgeRelation::Coherence => "co",
+            EdgeRelation::FromReads => "fr",
         }
     }
 }
@@ -31,7 +31,7 @@ impl Relation {
 pub struct Edge {
     pub from: RunEvent,
     pub to: RunEvent,
-    pub relation: Relation,
+    pub relation: EdgeRelation,
 }
 
 /// The last access of the same thread before an access.
@@ -51,7 +51,7 @@ fn push_program_order(edges: &mut Vec<Edge>, accesses: &[Access]) -> Result<(), 
             edges.push(Edge {
                 from,
                 to: RunEvent::Access(access.step),
-                relation: Relation::ProgramOrder,
+                relation: EdgeRelation::ProgramOrder,
             })?;
         }
     }
@@ -64,7 +64,7 @@ fn push_reads_from(edges: &mut Vec<Edge>, accesses: &[Access]) -> Result<(), All
             edges.push(Edge {
                 from,
                 to: RunEvent::Access(access.step),
-                relation: Relation::ReadsFrom,
+                relation: EdgeRelation::ReadsFrom,
             })?;
         }
     }
@@ -76,7 +76,7 @@ fn push_coherence(edges: &mut Vec<Edge>, execution: &Execution) -> Result<(), Al
         edges.push(Edge {
             from: write_before(&execution.in_memory, *store),
             to: RunEvent::Access(store.step),
-            relation: Relation::Coherence,
+            relation: EdgeRelation::Coherence,
         })?;
     }
     Ok(())
@@ -85,7 +85,7 @@ fn push_coherence(edges: &mut Vec<Edge>, execution: &Execution) -> Result<(), Al
 /// The write that reaches memory next after a write of the same location.
 fn next_write(edges: &[Edge], write: RunEvent) -> Option<RunEvent> {
     for edge in edges {
-        if edge.relation == Relation::Coherence && edge.from == write {
+        if edge.relation == EdgeRelation::Coherence && edge.from == write {
             return Some(edge.to);
         }
     }
@@ -103,7 +103,7 @@ fn from_read(edges: &[Edge], access: &Access) -> Option<Edge> {
     Some(Edge {
         from,
         to,
-        relation: Relation::FromReads,
+        relation: EdgeRelation::FromReads,
     })
 }
 
@@ -130,7 +130,7 @@ pub(crate) fn edges_of(alloc: Global, execution: &Execution) -> Result<Vec<Edge>
 /// The edge of program order that leads to an event.
 fn order_into(edges: &[Edge], to: RunEvent) -> Option<Edge> {
     for edge in edges {
-        if edge.relation == Relation::ProgramOrder && edge.to == to {
+        if edge.relation == EdgeRelation::ProgramOrder && edge.to == to {
             return Some(*edge);
         }
     }

@@ -2,7 +2,7 @@
 
 use crate::candidate::{Candidate, candidate_of};
 use crate::cells::push_value;
-use crate::edges::{Edge, Relation};
+use crate::edges::{Edge, EdgeRelation};
 use crate::events::{Access, RunEvent};
 use litmus_text::{Litmus, NameTable, location_name};
 use std::alloc::{AllocError, Global};
@@ -116,7 +116,7 @@ fn push_threads(
 
 /// Whether an edge counts for the rows of the picture: program order leads down, and initial writes are at the top.
 fn leads_down(edge: &Edge) -> bool {
-    edge.relation == Relation::ProgramOrder || matches!(edge.from, RunEvent::Initial(_))
+    edge.relation == EdgeRelation::ProgramOrder || matches!(edge.from, RunEvent::Initial(_))
 }
 
 fn push_edge(

@@ -19,7 +19,7 @@ mod table;
 
 pub use candidate::{Candidate, candidate_of};
 pub use cells::{action_of, waits, written};
-pub use edges::{Edge, Relation};
+pub use edges::{Edge, EdgeRelation};
 pub use events::RunEvent;
 pub use graph::RunGraph;
 pub use table::run_table;
