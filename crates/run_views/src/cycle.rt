@@ -1,7 +1,7 @@
 //! A cycle of edges, which sequential consistency forbids.
 
 use crate::edges::Edge;
-use crate::events::{Access, RunEvent};
+use crate::events::{RunAccess, RunEvent};
 use std::alloc::{AllocError, Global};
 
 /// An edge by which a search reaches an event for the first time.
@@ -90,7 +90,7 @@ fn shortest_path(
 fn shortest_cycle(
     alloc: Global,
     edges: &[Edge],
-    accesses: &[Access],
+    accesses: &[RunAccess],
 ) -> Result<Vec<Edge>, AllocError> {
     let mut shortest = Vec::new(alloc);
     for access in accesses {
@@ -137,7 +137,7 @@ fn cycle_over(alloc: Global, edges: &[Edge], over: Edge) -> Result<Vec<Edge>, Al
 pub(crate) fn forbidden_cycle(
     alloc: Global,
     edges: &[Edge],
-    accesses: &[Access],
+    accesses: &[RunAccess],
     over: Option<Edge>,
 ) -> Result<Vec<Edge>, AllocError> {
     let shortest = shortest_cycle(alloc, edges, accesses)?;

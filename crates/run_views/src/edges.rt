@@ -1,6 +1,6 @@
 //! The edges of a candidate execution.
 
-use crate::events::{Access, Execution, RunEvent, write_before};
+use crate::events::{Execution, RunAccess, RunEvent, write_before};
 use std::alloc::{AllocError, Global};
 
 /// The relation of which an edge is.
@@ -35,7 +35,7 @@ pub struct Edge {
 }
 
 /// The last access of the same thread before an access.
-fn access_before(accesses: &[Access], access: &Access) -> Option<RunEvent> {
+fn access_before(accesses: &[RunAccess], access: &RunAccess) -> Option<RunEvent> {
     let mut last = None;
     for other in accesses {
         if other.thread == access.thread && other.step < access.step {
@@ -45,7 +45,7 @@ fn access_before(accesses: &[Access], access: &Access) -> Option<RunEvent> {
     last
 }
 
-fn push_program_order(edges: &mut Vec<Edge>, accesses: &[Access]) -> Result<(), AllocError> {
+fn push_program_order(edges: &mut Vec<Edge>, accesses: &[RunAccess]) -> Result<(), AllocError> {
     for access in accesses {
         if let Some(from) = access_before(accesses, access) {
             edges.push(Edge {
@@ -58,7 +58,7 @@ fn push_program_order(edges: &mut Vec<Edge>, accesses: &[Access]) -> Result<(), 
     Ok(())
 }
 
-fn push_reads_from(edges: &mut Vec<Edge>, accesses: &[Access]) -> Result<(), AllocError> {
+fn push_reads_from(edges: &mut Vec<Edge>, accesses: &[RunAccess]) -> Result<(), AllocError> {
     for access in accesses {
         if let Some(from) = access.source {
             edges.push(Edge {
@@ -94,7 +94,7 @@ fn next_write(edges: &[Edge], write: RunEvent) -> Option<RunEvent> {
 
 /// The edge from a read to the write after the one that it reads from. An XCHG that reads the write just before its own
 /// has none: that edge would lead to itself.
-fn from_read(edges: &[Edge], access: &Access) -> Option<Edge> {
+fn from_read(edges: &[Edge], access: &RunAccess) -> Option<Edge> {
     let from = RunEvent::Access(access.step);
     let to = next_write(edges, access.source?)?;
     if to == from {
@@ -108,7 +108,7 @@ fn from_read(edges: &[Edge], access: &Access) -> Option<Edge> {
 }
 
 /// Adds the edges from reads to edges among which those of coherence are.
-fn push_from_reads(edges: &mut Vec<Edge>, accesses: &[Access]) -> Result<(), AllocError> {
+fn push_from_reads(edges: &mut Vec<Edge>, accesses: &[RunAccess]) -> Result<(), AllocError> {
     for access in accesses {
         if let Some(edge) = from_read(edges, access) {
             edges.push(edge)?;
@@ -140,7 +140,7 @@ fn order_into(edges: &[Edge], to: RunEvent) -> Option<Edge> {
 /// The edge of program order that leads over the gap before an instruction of a thread, if there is one.
 pub(crate) fn edge_over(
     edges: &[Edge],
-    accesses: &[Access],
+    accesses: &[RunAccess],
     thread: u8,
     instruction: u8,
 ) -> Option<Edge> {

@@ -17,7 +17,7 @@ pub enum RunEvent {
 
 /// An instruction that reads or writes memory. XCHG is one access, which does both.
 #[derive(Debug, Drop)]
-pub(crate) struct Access {
+pub(crate) struct RunAccess {
     pub(crate) step: usize,
     pub(crate) thread: u8,
     /// The number of the instruction in its thread.
@@ -112,7 +112,7 @@ fn last_write(stores: &[Store], location: usize) -> RunEvent {
 #[derive(Debug, Drop)]
 pub(crate) struct Execution {
     /// The accesses, in the order in which they are executed.
-    pub(crate) accesses: Vec<Access>,
+    pub(crate) accesses: Vec<RunAccess>,
     /// The writes, in the order in which they are executed.
     stores: Vec<Store>,
     /// The writes that are in memory, in the order in which they reached it.
@@ -167,7 +167,7 @@ impl Execution {
             Some(_) => Some(self.source(thread, location)),
             None => None,
         };
-        self.accesses.push(Access {
+        self.accesses.push(RunAccess {
             step: number,
             thread,
             instruction: step.before.local.place,

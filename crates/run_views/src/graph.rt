@@ -3,7 +3,7 @@
 use crate::candidate::{Candidate, candidate_of};
 use crate::cells::push_value;
 use crate::edges::{Edge, EdgeRelation};
-use crate::events::{Access, RunEvent};
+use crate::events::{RunAccess, RunEvent};
 use litmus_text::{Litmus, NameTable, location_name};
 use std::alloc::{AllocError, Global};
 use tso_machine::Step;
@@ -80,7 +80,7 @@ fn push_accesses(
     out: &mut Vec<u8>,
     names: &NameTable,
     run: usize,
-    accesses: &[Access],
+    accesses: &[RunAccess],
     thread: usize,
 ) -> Result<(), AllocError> {
     for access in accesses {
@@ -101,7 +101,7 @@ fn push_threads(
     out: &mut Vec<u8>,
     litmus: &Litmus<Program>,
     run: usize,
-    accesses: &[Access],
+    accesses: &[RunAccess],
 ) -> Result<(), AllocError> {
     for thread in 0..litmus.program.threads().len() {
         let text = format!(in alloc;
