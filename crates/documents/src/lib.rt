@@ -22,6 +22,6 @@ mod witness;
 pub use document::{
     outcomes_document, outcomes_with_runs_document, placed_document, trace_document, why_document,
 };
-pub use refusal::{Message, refusal_document};
+pub use refusal::{RefusalMessage, refusal_document};
 pub use run::{Setting, run_value};
 pub use witness::{Sought, witness_document};

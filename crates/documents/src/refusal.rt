@@ -9,7 +9,7 @@ use std::alloc::{AllocError, Global};
 
 /// What is said about a refusal beside its line.
 #[derive(Clone, Copy, Debug)]
-pub struct Message<'a> {
+pub struct RefusalMessage<'a> {
     /// The file's name.
     pub file: &'a [u8],
     /// The line, from 1, where one is known.
@@ -54,7 +54,7 @@ fn reason_of(line: &[u8]) -> &[u8]
 fn add_message(
     alloc: Global,
     object: &mut JsonObject,
-    message: &Message<'_>,
+    message: &RefusalMessage<'_>,
 ) -> Result<(), AllocError>
     ensures { OnOk result (AddsMembers object.old object.new) }
 {
@@ -69,7 +69,7 @@ fn add_message(
 pub fn refusal_document(
     alloc: Global,
     line: &[u8],
-    message: &Message<'_>,
+    message: &RefusalMessage<'_>,
 ) -> Result<Vec<u8>, AllocError>
     ensures told { IfOk result (λ document. IsRefusalDocument line.now document.items) }
     ensures safe { IfOk result (λ document. IsSafe document.items) }

@@ -4,22 +4,22 @@ ghost use Rattle.std.specs.Prelude.{IfOk, IsOkAnd};
 ghost use Rattle.program_streams.specs.Streams.{Prints};
 ghost use Rattle.fencer.specs.Refused.{PrintsRefusal, RefusalSays};
 
-use documents::{Message as Said, refusal_document};
+use documents::{RefusalMessage, refusal_document};
 use messages::Message;
 use program_streams::{Console, refuse};
 use std::alloc::{AllocError, Global};
 
 /// What a document says of a message. Of one that could not be made it says nothing.
-fn said_of(message: &Result<Message, AllocError>) -> Said<'_> {
+fn said_of(message: &Result<Message, AllocError>) -> RefusalMessage<'_> {
     match message {
-        Ok(message) => Said {
+        Ok(message) => RefusalMessage {
             file: message.file.as_bytes(),
             line: message.line,
             column: message.column,
             word: message.word.as_bytes(),
             text: message.text.as_bytes(),
         },
-        Err(_) => Said {
+        Err(_) => RefusalMessage {
             file: b"",
             line: None,
             column: None,
