@@ -2,7 +2,7 @@
 
 ghost use Rattle.std.specs.Prelude.{◌≡◌};
 
-use crate::command::{JOINED, Names};
+use crate::command::{InputNames, JOINED};
 use crate::judge::Rejection;
 use messages::{
     Message, STDIN, Source, certificate_message, check_message, costs_message, file_or_input,
@@ -14,7 +14,7 @@ use std::alloc::{AllocError, Global};
 /// The texts that are judged, with the names of their files.
 #[derive(Clone, Copy, Debug)]
 pub(crate) struct JudgedTexts<'a> {
-    pub(crate) names: Names<'a>,
+    pub(crate) names: InputNames<'a>,
     pub(crate) litmus: &'a [u8],
     pub(crate) certificate: &'a [u8],
     pub(crate) costs: Option<&'a [u8]>,

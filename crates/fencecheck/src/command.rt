@@ -42,7 +42,7 @@ fn usage_text(alloc: Global) -> Result<Vec<u8>, AllocError>
 /// Judges a certificate, prints the verdict, and returns the status.
 fn print_verdict<W: Console>(
     alloc: Global,
-    names: Names<'_>,
+    names: InputNames<'_>,
     litmus: &[u8],
     certificate: &[u8],
     costs: Option<&[u8]>,
@@ -84,14 +84,14 @@ fn run_input<R: Read, W: Console>(alloc: Global, input: &mut R, output: &mut W) 
 
 /// The names of files.
 #[derive(Clone, Copy, Debug)]
-pub(crate) struct Names<'a> {
+pub(crate) struct InputNames<'a> {
     pub(crate) litmus: &'a str,
     pub(crate) certificate: &'a str,
     pub(crate) costs: Option<&'a str>,
 }
 
 /// The names of texts that are read from the input, one after the other.
-pub(crate) const JOINED: Names<'static> = Names {
+pub(crate) const JOINED: InputNames<'static> = InputNames {
     litmus: "-",
     certificate: STDIN,
     costs: None,
@@ -109,7 +109,7 @@ struct Texts {
 fn texts_of<'a, S: FileStore, R: Read>(
     alloc: Global,
     files: &S,
-    names: Names<'a>,
+    names: InputNames<'a>,
     input: &mut R,
 ) -> Result<Texts, UnreadFile<'a>>
     ensures texts { IfOk result (λ texts. AreOfFiles (file_names_of names.entry) (R.remaining input.old) (S.held files.now) texts.litmus.items texts.certificate.items (option_map (λ text. text.items) texts.costs)) }
@@ -135,7 +135,7 @@ fn texts_of<'a, S: FileStore, R: Read>(
 }
 
 /// Judges texts, and prints the verdict.
-fn tell_texts<W: Console>(alloc: Global, names: Names<'_>, texts: &Texts, output: &mut W) -> u8
+fn tell_texts<W: Console>(alloc: Global, names: InputNames<'_>, texts: &Texts, output: &mut W) -> u8
     ensures { Prints (IsVerdict texts.now.litmus.items texts.now.certificate.items (option_map (λ text. text.items) texts.now.costs)) (W.contents output.old) (W.contents output.new) result }
 {
     let costs = texts.costs.as_deref();
@@ -153,7 +153,7 @@ fn tell_texts<W: Console>(alloc: Global, names: Names<'_>, texts: &Texts, output
 fn run_files<S: FileStore, R: Read, W: Console>(
     alloc: Global,
     files: &S,
-    names: Names<'_>,
+    names: InputNames<'_>,
     input: &mut R,
     output: &mut W,
 ) -> u8
@@ -201,12 +201,12 @@ pub fn run_command<S: FileStore, R: Read, W: Console>(
     }
     let names = match words {
         [] => return run_input(alloc, input, output),
-        [litmus, certificate] => Names {
+        [litmus, certificate] => InputNames {
             litmus: litmus.as_str(),
             certificate: certificate.as_str(),
             costs: None,
         },
-        [litmus, certificate, costs] => Names {
+        [litmus, certificate, costs] => InputNames {
             litmus: litmus.as_str(),
             certificate: certificate.as_str(),
             costs: Some(costs.as_str()),
