@@ -6,7 +6,7 @@ ghost use Rattle.text_tokens.specs.Steps.{Gives};
 ghost use Rattle.cert_forest.specs.Internal.Reading.{is_no_stop, access_tail, access_of, access_at};
 
 use cert_trees::AccessId;
-use cert_words::{Refusal, Wrong, digit_within, ends_word, refused_unless_cut, word};
+use cert_words::{WordRefusal, Wrong, digit_within, ends_word, refused_unless_cut, word};
 use text_tokens::{are_digits, plain_number};
 
 /// How many bytes stand before a full stop.
@@ -83,7 +83,7 @@ fn short_access(bytes: &[u8]) -> Option<(AccessId, &[u8])>
 
 /// A space, and the name of an access.
 #[tactic(auto, unfolding(crate::specs::Internal::Reading::access_at))]
-pub(crate) fn access(bytes: &[u8]) -> Result<(AccessId, &[u8]), Refusal>
+pub(crate) fn access(bytes: &[u8]) -> Result<(AccessId, &[u8]), WordRefusal>
     ensures { Gives (λ x. (x.0, x.1.now)) result (access_at bytes.now) }
 {
     if let Some((access, rest)) = short_access(bytes) {

@@ -3,7 +3,7 @@
 ghost use Rattle.std.specs.Prelude.{◌≡◌, ℕ};
 ghost use Rattle.cert_forest.specs.declared.fault.CertFault.TheVariants.{Trailing};
 
-use cert_words::{Refusal, Wrong};
+use cert_words::{WordRefusal, Wrong};
 use thiserror::Error;
 
 /// Why bytes are no certificate's text: the first fault from left to right. A place is a byte's offset, from 0.
@@ -38,7 +38,7 @@ pub enum CertFault {
 }
 
 /// The fault that reports a refusal in a text of so many bytes.
-pub(crate) fn fault_of(refusal: Refusal, len: usize) -> CertFault
+pub(crate) fn fault_of(refusal: WordRefusal, len: usize) -> CertFault
     ensures { (place : ℕ) → result ≡ Trailing place → ⊥ }
 {
     let place = len.saturating_sub(refusal.left);

@@ -9,12 +9,12 @@ ghost use Rattle.cert_forest.specs.Internal.Reading.{split_at, gap_at, gap_line_
 
 use crate::cover_tree::too_deep;
 use cert_trees::{GapNode, GapTree, MAX_GAP_DEPTH};
-use cert_words::{Refusal, Stop, Wrong, count, end, letter, name, number, refused_word};
+use cert_words::{Stop, WordRefusal, Wrong, count, end, letter, name, number, refused_word};
 use std::alloc::Global;
 
 /// The run of a split, and how many children it has.
 #[tactic(auto, unfolding(crate::specs::Internal::Reading::split_at))]
-fn split(bytes: &[u8]) -> Result<(u64, u32, &[u8]), Refusal>
+fn split(bytes: &[u8]) -> Result<(u64, u32, &[u8]), WordRefusal>
     ensures { Gives (λ x. ((x.0, x.1), x.2.now)) result (split_at bytes.now) }
 {
     let (run, rest) = number(u64::MAX, bytes)?;

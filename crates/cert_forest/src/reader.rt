@@ -20,7 +20,8 @@ use crate::gap_tree::gap_line;
 use crate::runs::runs;
 use crate::shown::head;
 use cert_words::{
-    Refusal, Stop, Wrong, begins_word, can_become, end, name, number, refused, refused_unless_cut,
+    Stop, WordRefusal, Wrong, begins_word, can_become, end, name, number, refused,
+    refused_unless_cut,
 };
 use gap_sets::{GapSet, MAX_GAPS};
 use std::alloc::Global;
@@ -31,7 +32,7 @@ const LAST_GAP: u64 = MAX_GAPS as u64 - 1;
 
 /// What is wrong with a gap that is below the least which may stand there. Where nothing follows it and more digits
 /// can make it one that may, the bytes have ended.
-fn below_least(gap: u8, least: u8, bytes: &[u8], rest: &[u8]) -> Refusal
+fn below_least(gap: u8, least: u8, bytes: &[u8], rest: &[u8]) -> WordRefusal
     ensures ended { rest.now ≡ [] → CanBecome gap least (MAX_GAPS - 1) → result ≡ record { wrong = Wrong.Ended; left = 0 } }
     ensures token { ((rest.now ≡ []) × CanBecome gap least (MAX_GAPS - 1) → ⊥) → result ≡ record { wrong = Wrong.Token; left = length bytes.now - 1 } }
 {
@@ -40,7 +41,7 @@ fn below_least(gap: u8, least: u8, bytes: &[u8], rest: &[u8]) -> Refusal
 }
 
 /// A gap's number.
-fn gap_number(bytes: &[u8]) -> Result<(u8, &[u8]), Refusal>
+fn gap_number(bytes: &[u8]) -> Result<(u8, &[u8]), WordRefusal>
     ensures gives { Gives (λ x. (x.0, x.1.now)) result (gap_number_at bytes.now) }
     ensures below { IfOk result (λ x. x.0 < MAX_GAPS) }
 {
@@ -50,7 +51,7 @@ fn gap_number(bytes: &[u8]) -> Result<(u8, &[u8]), Refusal>
 
 /// A gap's number, where the least that may stand there is this one. Where none may, and the bytes end after the
 /// space, the space can't stand there.
-fn next_gap(least: u8, bytes: &[u8]) -> Result<(u8, &[u8]), Refusal>
+fn next_gap(least: u8, bytes: &[u8]) -> Result<(u8, &[u8]), WordRefusal>
     ensures gives { Gives (λ x. (x.0, x.1.now)) result (gap_number_at bytes.now) }
     ensures below { IfOk result (λ x. x.0 < MAX_GAPS) }
 {
@@ -65,7 +66,7 @@ fn next_gap(least: u8, bytes: &[u8]) -> Result<(u8, &[u8]), Refusal>
 }
 
 /// What is wrong with a word after `MAX_GAPS` gaps.
-fn after_all(bytes: &[u8]) -> Refusal {
+fn after_all(bytes: &[u8]) -> WordRefusal {
     match next_gap(MAX_GAPS, bytes) {
         Ok((gap, rest)) => below_least(gap, MAX_GAPS, bytes, rest),
         Err(refusal) => refusal,
@@ -73,7 +74,7 @@ fn after_all(bytes: &[u8]) -> Refusal {
 }
 
 /// The gaps of the set, ascending, as long as words follow.
-fn gaps(bytes: &[u8]) -> Result<(GapSet, &[u8]), Refusal>
+fn gaps(bytes: &[u8]) -> Result<(GapSet, &[u8]), WordRefusal>
     ensures { Gives (λ x. (x.0, x.1.now)) result (ascending_at gap_number_at MAX_GAPS 0 set.empty bytes.now) }
 {
     let mut found = GapSet::empty();
@@ -98,7 +99,7 @@ fn gaps(bytes: &[u8]) -> Result<(GapSet, &[u8]), Refusal>
 }
 
 #[tactic(auto, unfolding(crate::specs::Internal::Reading::set_at))]
-fn set_line(bytes: &[u8]) -> Result<(GapSet, &[u8]), Refusal>
+fn set_line(bytes: &[u8]) -> Result<(GapSet, &[u8]), WordRefusal>
     ensures { Gives (λ x. (x.0, x.1.now)) result (set_at bytes.now) }
 {
     let rest = name(b"set", bytes)?;
@@ -112,7 +113,7 @@ fn set_line(bytes: &[u8]) -> Result<(GapSet, &[u8]), Refusal>
 }
 
 #[tactic(auto, unfolding(crate::specs::Internal::Reading::cost_at))]
-fn cost(bytes: &[u8]) -> Result<(u64, &[u8]), Refusal>
+fn cost(bytes: &[u8]) -> Result<(u64, &[u8]), WordRefusal>
     ensures { Gives (λ x. (x.0, x.1.now)) result (cost_at bytes.now) }
 {
     let rest = name(b"cost", bytes)?;

@@ -10,7 +10,7 @@ use crate::access::access;
 use candidate_executions::Kind;
 use cert_trees::{AccessId, Node, push_known};
 use cert_words::{
-    Refusal, Stop, Wrong, count, digit_within, ends_word, letter, number, refused_word,
+    Stop, WordRefusal, Wrong, count, digit_within, ends_word, letter, number, refused_word,
 };
 
 fn kind_of(letter: u8) -> Option<Kind>
@@ -28,7 +28,7 @@ fn kind_of(letter: u8) -> Option<Kind>
 }
 
 #[tactic(auto, unfolding(crate::specs::Internal::Reading::kind_at))]
-fn kind(bytes: &[u8]) -> Result<(Kind, &[u8]), Refusal>
+fn kind(bytes: &[u8]) -> Result<(Kind, &[u8]), WordRefusal>
     ensures { Gives (λ x. (x.0, x.1.now)) result (kind_at bytes.now) }
 {
     let (letter, rest) = letter(bytes)?;
@@ -40,7 +40,7 @@ fn kind(bytes: &[u8]) -> Result<(Kind, &[u8]), Refusal>
 
 /// A thread, and the number of its next read's values.
 #[tactic(auto, unfolding(crate::specs::Internal::Reading::value_head_at))]
-fn value_words(bytes: &[u8]) -> Result<(u64, u64, &[u8]), Refusal>
+fn value_words(bytes: &[u8]) -> Result<(u64, u64, &[u8]), WordRefusal>
     ensures { Gives (λ x. (ValueHead x.0 x.1, x.2.now)) result (value_head_at bytes.now) }
 {
     let (thread, rest) = number(255, bytes)?;
@@ -50,7 +50,7 @@ fn value_words(bytes: &[u8]) -> Result<(u64, u64, &[u8]), Refusal>
 
 /// A read, and the number of its sources.
 #[tactic(auto, unfolding(crate::specs::Internal::Reading::source_head_at))]
-fn source_words(bytes: &[u8]) -> Result<(AccessId, u64, &[u8]), Refusal>
+fn source_words(bytes: &[u8]) -> Result<(AccessId, u64, &[u8]), WordRefusal>
     ensures { Gives (λ x. (SourceHead x.0 x.1, x.2.now)) result (source_head_at bytes.now) }
 {
     let (read, rest) = access(bytes)?;
@@ -60,7 +60,7 @@ fn source_words(bytes: &[u8]) -> Result<(AccessId, u64, &[u8]), Refusal>
 
 /// Two writes.
 #[tactic(auto, unfolding(crate::specs::Internal::Reading::order_head_at))]
-fn order_words(bytes: &[u8]) -> Result<(AccessId, AccessId, &[u8]), Refusal>
+fn order_words(bytes: &[u8]) -> Result<(AccessId, AccessId, &[u8]), WordRefusal>
     ensures { Gives (λ x. (OrderHead x.0 x.1, x.2.now)) result (order_head_at bytes.now) }
 {
     let (first, rest) = access(bytes)?;
@@ -145,7 +145,7 @@ fn last_events<'t>(
 
 /// Three accesses.
 #[tactic(auto, unfolding(crate::specs::Internal::Reading::three_at))]
-fn three(bytes: &[u8]) -> Result<(AccessId, AccessId, AccessId, &[u8]), Refusal>
+fn three(bytes: &[u8]) -> Result<(AccessId, AccessId, AccessId, &[u8]), WordRefusal>
     ensures { Gives (λ x. ((x.0, x.1, x.2), x.3.now)) result (three_at bytes.now) }
 {
     let (first, rest) = access(bytes)?;

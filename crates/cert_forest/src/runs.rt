@@ -8,7 +8,7 @@ ghost use Rattle.cert_forest.specs.Internal.Reading.{label_word_at, run_labels_a
 
 use crate::run_list::Runs;
 use cert_words::{
-    MAX_COUNT, Refusal, Stop, Wrong, begins_word, end, first_word, name, number, refused,
+    MAX_COUNT, Stop, WordRefusal, Wrong, begins_word, end, first_word, name, number, refused,
     refused_unless_cut, refused_word, word,
 };
 use std::alloc::Global;
@@ -32,7 +32,7 @@ fn fault_of(word: &[u8]) -> (Wrong, bool) {
 
 /// A space, and a label.
 #[tactic(auto, unfolding(crate::specs::Internal::Reading::label_word_at))]
-fn label(bytes: &[u8]) -> Result<(Label, &[u8]), Refusal>
+fn label(bytes: &[u8]) -> Result<(Label, &[u8]), WordRefusal>
     ensures { Gives (λ x. (x.0, x.1.now)) result (label_word_at bytes.now) }
 {
     let (word, rest) = word(bytes)?;
@@ -46,7 +46,7 @@ fn label(bytes: &[u8]) -> Result<(Label, &[u8]), Refusal>
 }
 
 /// What is wrong where one label more than there may be begins.
-fn one_too_many(bytes: &[u8]) -> Refusal {
+fn one_too_many(bytes: &[u8]) -> WordRefusal {
     match bytes.split_first() {
         None => refused(Wrong::Ended, 0),
         Some((_, after)) => {

@@ -9,7 +9,7 @@ ghost use Rattle.cert_forest.specs.Internal.Reading.{digit_of, shown_location, r
 use crate::Shows;
 use crate::access::stop_len;
 use cert_words::{
-    Refusal, Wrong, begins_word, end, name, refused, refused_unless_cut, refused_word, word,
+    WordRefusal, Wrong, begins_word, end, name, refused, refused_unless_cut, refused_word, word,
 };
 use text_tokens::{are_digits, plain_number};
 use tso_program::{MAX_LOCATIONS, MAX_THREADS, Names, PLACES, REGISTER_PLACES, REGISTERS};
@@ -127,7 +127,7 @@ fn is_register(names: &[u8], is_cut: bool) -> bool {
 }
 
 /// What is wrong where the bytes end after a space: the space can't stand where no place may follow.
-fn after_space(least: u8) -> Refusal {
+fn after_space(least: u8) -> WordRefusal {
     if least < MAX_PLACES {
         refused(Wrong::Ended, 0)
     } else {
@@ -137,7 +137,7 @@ fn after_space(least: u8) -> Refusal {
 
 /// A space, and the word of a place, which is to be the least or a later one.
 #[tactic(auto, unfolding(crate::specs::Internal::Reading::place_word_at))]
-fn place(least: u8, bytes: &[u8]) -> Result<(u8, &[u8]), Refusal>
+fn place(least: u8, bytes: &[u8]) -> Result<(u8, &[u8]), WordRefusal>
     ensures gives { Gives (λ x. (x.0, x.1.now)) result (place_word_at bytes.now) }
     ensures below { IfOk result (λ x. x.0 < PLACES) }
 {
@@ -155,7 +155,7 @@ fn place(least: u8, bytes: &[u8]) -> Result<(u8, &[u8]), Refusal>
 }
 
 /// The registers and locations at ascending places, as long as words follow.
-fn places(bytes: &[u8]) -> Result<(Names, &[u8]), Refusal>
+fn places(bytes: &[u8]) -> Result<(Names, &[u8]), WordRefusal>
     ensures { Gives (λ x. (x.0, x.1.now)) result (ascending_at place_word_at PLACES 0 set.empty bytes.now) }
 {
     let mut found = Names::none();
@@ -180,7 +180,7 @@ fn places(bytes: &[u8]) -> Result<(Names, &[u8]), Refusal>
 }
 
 /// What is wrong with a word after `MAX_PLACES` places.
-fn after_all(bytes: &[u8]) -> Refusal {
+fn after_all(bytes: &[u8]) -> WordRefusal {
     match place(MAX_PLACES, bytes) {
         Ok(_) => refused_word(Wrong::Token, bytes),
         Err(refusal) => refusal,
@@ -188,7 +188,7 @@ fn after_all(bytes: &[u8]) -> Refusal {
 }
 
 #[tactic(auto, unfolding(crate::specs::Internal::Reading::shown_line_at))]
-fn shown_line(bytes: &[u8]) -> Result<(Names, &[u8]), Refusal>
+fn shown_line(bytes: &[u8]) -> Result<(Names, &[u8]), WordRefusal>
     ensures { Gives (λ x. (x.0, x.1.now)) result (shown_line_at bytes.now) }
 {
     let rest = name(b"shown", bytes)?;
@@ -203,7 +203,7 @@ fn shown_line(bytes: &[u8]) -> Result<(Names, &[u8]), Refusal>
 
 /// The line `shown condition`.
 #[tactic(auto, unfolding(crate::specs::Internal::Reading::condition_line_at))]
-fn condition_line(bytes: &[u8]) -> Result<&[u8], Refusal>
+fn condition_line(bytes: &[u8]) -> Result<&[u8], WordRefusal>
     ensures { Gives (λ x. x.now) result (condition_line_at bytes.now) }
 {
     let text = name(b"shown", bytes)?;
@@ -226,7 +226,7 @@ fn is_condition_begun(bytes: &[u8]) -> bool {
 
 /// The second word of the first line: whether a line of what is shown follows.
 #[tactic(auto, unfolding(crate::specs::Internal::Reading::version_at))]
-fn version(bytes: &[u8]) -> Result<(bool, &[u8]), Refusal>
+fn version(bytes: &[u8]) -> Result<(bool, &[u8]), WordRefusal>
     ensures { Gives (λ x. (x.0, x.1.now)) result (version_at bytes.now) }
 {
     let (word, rest) = word(bytes)?;
@@ -240,7 +240,7 @@ fn version(bytes: &[u8]) -> Result<(bool, &[u8]), Refusal>
 }
 
 #[tactic(auto, unfolding(crate::specs::Internal::Reading::header_at))]
-fn first_line(bytes: &[u8]) -> Result<(bool, &[u8]), Refusal>
+fn first_line(bytes: &[u8]) -> Result<(bool, &[u8]), WordRefusal>
     ensures { Gives (λ x. (x.0, x.1.now)) result (header_at bytes.now) }
 {
     let rest = name(b"FENCECERT", bytes)?;
@@ -250,7 +250,7 @@ fn first_line(bytes: &[u8]) -> Result<(bool, &[u8]), Refusal>
 }
 
 /// The first line, which says what the text is.
-fn header(bytes: &[u8]) -> Result<(bool, &[u8]), Refusal>
+fn header(bytes: &[u8]) -> Result<(bool, &[u8]), WordRefusal>
     ensures { Gives (λ x. (x.0, x.1.now)) result (header_at bytes.now) }
 {
     match first_line(bytes) {
@@ -267,7 +267,7 @@ fn header(bytes: &[u8]) -> Result<(bool, &[u8]), Refusal>
 
 /// What is shown, by the first line and in the second version the next one.
 #[tactic(auto, unfolding(crate::specs::Internal::Reading::shown_at))]
-pub(crate) fn head(bytes: &[u8]) -> Result<(Shows, &[u8]), Refusal>
+pub(crate) fn head(bytes: &[u8]) -> Result<(Shows, &[u8]), WordRefusal>
     ensures { Gives (λ x. (x.0, x.1.now)) result (shown_at bytes.now) }
 {
     let (is_second, rest) = header(bytes)?;

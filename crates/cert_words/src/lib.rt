@@ -15,5 +15,5 @@ mod words;
 
 pub use completions::can_become;
 pub use numbers::{MAX_COUNT, count, digit_within, number};
-pub use refusal::{Refusal, Stop, Wrong, refused, refused_unless_cut, refused_word};
+pub use refusal::{Stop, WordRefusal, Wrong, refused, refused_unless_cut, refused_word};
 pub use words::{begins_word, end, ends_word, first_word, letter, name, word};

@@ -5,7 +5,7 @@ ghost use Rattle.text_tokens.specs.Numbers.{plain_number_at};
 ghost use Rattle.text_tokens.specs.Steps.{Gives};
 ghost use Rattle.cert_words.specs.Words.{number_within_at, count_at};
 
-use crate::refusal::{Refusal, Wrong, refused_unless_cut, refused_word};
+use crate::refusal::{WordRefusal, Wrong, refused_unless_cut, refused_word};
 use crate::words::{short_word, word};
 use text_tokens::{are_digits, plain_number};
 
@@ -26,7 +26,7 @@ pub fn digit_within(limit: u64, byte: u8) -> Option<u64>
 
 /// A space, and a number up to the limit.
 #[tactic(auto, unfolding(crate::specs::Words::number_within_at))]
-pub fn number(limit: u64, bytes: &[u8]) -> Result<(u64, &[u8]), Refusal>
+pub fn number(limit: u64, bytes: &[u8]) -> Result<(u64, &[u8]), WordRefusal>
     ensures gives { Gives (λ x. (x.0, x.1.now)) result (number_within_at limit bytes.now) }
     ensures within { IfOk result (λ x. x.0 ≤ limit) }
 {
@@ -50,7 +50,7 @@ pub fn number(limit: u64, bytes: &[u8]) -> Result<(u64, &[u8]), Refusal>
 
 /// A space, and a number of children or events.
 #[tactic(auto, unfolding(crate::specs::Words::count_at))]
-pub fn count(bytes: &[u8]) -> Result<(u64, &[u8]), Refusal>
+pub fn count(bytes: &[u8]) -> Result<(u64, &[u8]), WordRefusal>
     ensures { Gives (λ x. (x.0, x.1.now)) result (count_at bytes.now) }
 {
     let (count, rest) = number(u64::MAX, bytes)?;

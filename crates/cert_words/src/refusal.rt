@@ -25,22 +25,22 @@ pub enum Wrong {
 
 /// The first word that can't stand where it does.
 #[derive(Clone, Copy, Debug, PartialEq, Eq)]
-pub struct Refusal {
+pub struct WordRefusal {
     pub wrong: Wrong,
     /// How many bytes are left there, the word's own included.
     pub left: usize,
 }
 
 /// Something is wrong where so many bytes are left.
-pub fn refused(wrong: Wrong, left: usize) -> Refusal
+pub fn refused(wrong: Wrong, left: usize) -> WordRefusal
     ensures wrong { result.wrong ≡ wrong }
     ensures left { result.left ≡ left }
 {
-    Refusal { wrong, left }
+    WordRefusal { wrong, left }
 }
 
 /// Something is wrong with the word after the space with which the bytes begin.
-pub fn refused_word(wrong: Wrong, bytes: &[u8]) -> Refusal
+pub fn refused_word(wrong: Wrong, bytes: &[u8]) -> WordRefusal
     ensures wrong { result.wrong ≡ wrong }
     ensures left { result.left ≡ length bytes.now - 1 }
 {
@@ -49,7 +49,7 @@ pub fn refused_word(wrong: Wrong, bytes: &[u8]) -> Refusal
 
 /// What is wrong with a word that is not of its kind, with the rest after it. Where nothing follows it and it could
 /// have gone on, the bytes have ended.
-pub fn refused_unless_cut(wrong: Wrong, could_go_on: bool, bytes: &[u8], rest: &[u8]) -> Refusal
+pub fn refused_unless_cut(wrong: Wrong, could_go_on: bool, bytes: &[u8], rest: &[u8]) -> WordRefusal
     ensures wrong { result.wrong ≡ (if length rest.now == 0 && could_go_on then Wrong.Ended else wrong) }
     ensures left { result.left ≡ (if length rest.now == 0 && could_go_on then 0 else length bytes.now - 1) }
 {
@@ -64,15 +64,15 @@ pub fn refused_unless_cut(wrong: Wrong, could_go_on: bool, bytes: &[u8], rest: &
 #[derive(Clone, Copy, Debug, PartialEq, Eq, Error)]
 pub enum Stop {
     #[error("the text is refused: {0:?}")]
-    Refused(Refusal),
+    Refused(WordRefusal),
     #[error("out of memory")]
     OutOfMemory,
 }
 
-impl From<Refusal> for Stop {
+impl From<WordRefusal> for Stop {
     ghost from_gives = { λ r e. e ≡ Refused r };
 
-    fn from(refusal: Refusal) -> Stop {
+    fn from(refusal: WordRefusal) -> Stop {
         Stop::Refused(refusal)
     }
 }

@@ -5,7 +5,7 @@ ghost use Rattle.std.specs.List.{prefix_len};
 ghost use Rattle.text_tokens.specs.Steps.{Gives};
 ghost use Rattle.cert_words.specs.Words.{is_inner, front, after_word, word_at, line_name_at, end_at, begins_word, ends_word, letter_of, letter_at};
 
-use crate::refusal::{Refusal, Wrong, refused, refused_unless_cut};
+use crate::refusal::{WordRefusal, Wrong, refused, refused_unless_cut};
 
 /// Whether the byte stands inside a word.
 fn is_inner(byte: u8) -> bool
@@ -59,7 +59,7 @@ pub(crate) fn short_word(bytes: &[u8]) -> Option<(u8, &[u8])>
 
 /// A space, and the word after it.
 #[tactic(auto, unfolding(crate::specs::Words::word_at))]
-pub fn word(bytes: &[u8]) -> Result<(&[u8], &[u8]), Refusal>
+pub fn word(bytes: &[u8]) -> Result<(&[u8], &[u8]), WordRefusal>
     ensures { Gives (λ x. (x.0.now, x.1.now)) result (word_at bytes.now) }
 {
     match bytes.split_first() {
@@ -76,7 +76,7 @@ pub fn word(bytes: &[u8]) -> Result<(&[u8], &[u8]), Refusal>
 
 /// The first word of a line, which is known.
 #[tactic(auto, unfolding(crate::specs::Words::line_name_at))]
-pub fn name<'t>(name: &[u8], bytes: &'t [u8]) -> Result<&'t [u8], Refusal>
+pub fn name<'t>(name: &[u8], bytes: &'t [u8]) -> Result<&'t [u8], WordRefusal>
     ensures { Gives (λ x. x.now) result (line_name_at name.now bytes.now) }
 {
     let (word, rest) = first_word(bytes);
@@ -91,7 +91,7 @@ pub fn name<'t>(name: &[u8], bytes: &'t [u8]) -> Result<&'t [u8], Refusal>
 
 /// The end of a line.
 #[tactic(auto, unfolding(crate::specs::Words::end_at))]
-pub fn end(bytes: &[u8]) -> Result<&[u8], Refusal>
+pub fn end(bytes: &[u8]) -> Result<&[u8], WordRefusal>
     ensures { Gives (λ x. x.now) result (end_at bytes.now) }
 {
     match bytes.split_first() {
@@ -128,7 +128,7 @@ fn letter_of(word: &[u8]) -> Option<u8>
 
 /// A word of one byte.
 #[tactic(auto, unfolding(crate::specs::Words::letter_at))]
-pub fn letter(bytes: &[u8]) -> Result<(u8, &[u8]), Refusal>
+pub fn letter(bytes: &[u8]) -> Result<(u8, &[u8]), WordRefusal>
     ensures { Gives (λ x. (x.0, x.1.now)) result (letter_at bytes.now) }
 {
     if let Some((letter, rest)) = short_word(bytes) {
