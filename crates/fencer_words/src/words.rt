@@ -119,13 +119,18 @@ fn job_met(alloc: Global, matches: &ArgMatches<'_>) -> Result<Option<Job>, Alloc
     }
 }
 
+/// An error of the command line.
+fn command_error(alloc: Global, kind: ErrorKind, text: &str) -> Result<Error, AllocError> {
+    command(alloc)?.error(kind, text)
+}
+
 /// Why a subcommand that was met asks for no job.
 fn no_job(alloc: Global, matches: &ArgMatches<'_>) -> Result<Error, AllocError> {
     match matches.subcommand() {
         Some((_, inner)) if asks_twice(inner) => {
-            command(alloc)?.error(ErrorKind::ArgumentConflict, TWICE)
+            command_error(alloc, ErrorKind::ArgumentConflict, TWICE)
         }
-        _ => command(alloc)?.error(ErrorKind::ValueValidation, FENCES),
+        _ => command_error(alloc, ErrorKind::ValueValidation, FENCES),
     }
 }
 
@@ -141,16 +146,15 @@ fn job_named(alloc: Global, words: &[String]) -> Result<Job, Error>
     }
 }
 
-/// The job, unless it writes a file which it reads, or a file twice.
-fn job_apart(alloc: Global, job: Job) -> Result<Job, Error>
-    ensures same { IfOk result (λ same. same ≡ job) }
-    ensures apart { OnOk result (has_clash (files_of job) ≡ false) }
-    ensures clashing { IfErr result (λ error. has_clash (files_of job) ≡ true) }
+/// Refuses a job that writes a file which it reads, or a file twice.
+fn check_files(alloc: Global, job: &Job) -> Result<(), Error>
+    ensures apart { OnOk result (has_clash (files_of job.now) ≡ false) }
+    ensures clashing { IfErr result (λ error. has_clash (files_of job.now) ≡ true) }
 {
-    if has_clash(files_of(&job)) {
-        Err(command(alloc)?.error(ErrorKind::ArgumentConflict, CLASH)?)
+    if has_clash(files_of(job)) {
+        Err(command_error(alloc, ErrorKind::ArgumentConflict, CLASH)?)
     } else {
-        Ok(job)
+        Ok(())
     }
 }
 
@@ -159,8 +163,7 @@ pub fn read_words(alloc: Global, words: &[String]) -> Result<Job, Error>
     ensures job { IfOk result (AsksFor (map string_bytes words.now)) }
     ensures refused { IfErr result (λ error. (kind_of error ≡ ErrorKind.OutOfMemory) ⊎ IsNoCommand (map string_bytes words.now)) }
 {
-    match job_named(alloc, words) {
-        Ok(job) => job_apart(alloc, job),
-        Err(error) => Err(error),
-    }
+    let job = job_named(alloc, words)?;
+    check_files(alloc, &job)?;
+    Ok(job)
 }

@@ -1,7 +1,8 @@
-use Rattle.fencer_words.proofs.Vocabulary.{inr, clashing}
-use Rattle.std.proofs.lemmas.Result.{IfErr-weaker}
+use Rattle.fencer_words.proofs.Vocabulary.{◌≡◌, ◌⊎◌, inr, map, string_bytes, kind_of, clashing, Error, OutOfMemory, IsNoCommand}
+use Rattle.clap.proofs.TakesLemmas.{passed_up}
 use Rattle.fencer_words.proofs.words.read_words.Goals as goal
 
-pub returns-in-Ok-clause-refused : goal.returns-in-Ok-clause-refused
-returns-in-Ok-clause-refused c =
-    IfErr-weaker c.job_apart.result _ _ (λ error clash. inr (clashing c.in-Ok.job c.in-Ok.ensures.job clash)) c.job_apart.ensures.clashing
+pub returns-in_err-check_files-clause-refused : goal.returns-in_err-check_files-clause-refused
+returns-in_err-check_files-clause-refused c =
+    passed_up c.from_residual-in_err-check_files.result c.in_err-check_files.field-0.0 (λ (error : Error). (kind_of error ≡ OutOfMemory) ⊎ IsNoCommand (map string_bytes c.args.words.now))
+    c.from_residual-in_err-check_files.ensures.1 (inr (clashing c.in_ok-job.job c.in_ok-job.ensures.job c.in_err-check_files.ensures.clashing))
