@@ -83,6 +83,21 @@ fn push_lines(set: &GapSet, gate: &Gate, printed: &mut String) -> Result<(), All
     write!(printed, "\nthird {has_third}\nlate {is_late}\n")
 }
 
+/// The set that workers find by a gate, and whether its second question was held until the third began.
+fn push_set_by<R: Threads + Wait + Sync>(
+    rt: &R,
+    call: PlacerCall,
+    table: &SeqTable,
+    gate: &Gate,
+    words: &[&[u8]],
+    printed: &mut String,
+) -> Result<(), PlaceRefusal>
+    requires { gate.now.solver.question ≡ table.now.question }
+{
+    let set = set_by(rt, gate.alloc, call, table, gate, words)?;
+    Ok(push_lines(&set, gate, printed)?)
+}
+
 /// The set that a number of workers find, where the solver answers its first question by a run of these labels, and whether a
 /// third question began while the second was held.
 pub fn push_gated<R: Threads + Wait + Sync>(
@@ -94,6 +109,5 @@ pub fn push_gated<R: Threads + Wait + Sync>(
     printed: &mut String,
 ) -> Result<(), PlaceRefusal> {
     let gate = new_gate(alloc, table, words)?;
-    let set = set_by(rt, alloc, call, table, &gate, words)?;
-    Ok(push_lines(&set, &gate, printed)?)
+    push_set_by(rt, call, table, &gate, words, printed)
 }

@@ -61,6 +61,18 @@ fn new_lacking(alloc: Global, table: &SeqTable, words: &[&[u8]]) -> Result<Lacki
     })
 }
 
+/// The set that workers find by a solver that lacks the answers that the words name.
+fn set_lacking<R: Threads + Wait + Sync>(
+    rt: &R,
+    alloc: Global,
+    call: PlacerCall,
+    table: &SeqTable,
+    words: &[&[u8]],
+) -> Result<GapSet, PlaceRefusal> {
+    let lacking = new_lacking(alloc, table, words)?;
+    set_by(rt, alloc, call, table, &lacking, words)
+}
+
 /// The set that a number of workers find, where the solver has no answer to some of its first questions.
 pub fn push_lacking<R: Threads + Wait + Sync>(
     rt: &R,
@@ -70,8 +82,7 @@ pub fn push_lacking<R: Threads + Wait + Sync>(
     words: &[&[u8]],
     printed: &mut String,
 ) -> Result<(), PlaceRefusal> {
-    let lacking = new_lacking(alloc, table, words)?;
-    let set = set_by(rt, alloc, call, table, &lacking, words)?;
+    let set = set_lacking(rt, alloc, call, table, words)?;
     push_gaps_after("set", &set, printed)?;
     Ok(printed.push('\n')?)
 }

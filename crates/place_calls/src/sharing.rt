@@ -74,16 +74,33 @@ fn run_from(
     Ok(ForeignRun::new(alloc, table, labels.as_slice())?)
 }
 
+/// The two runs of the labels that come after the first word of each of these lists.
+fn runs_from(
+    alloc: Global,
+    table: &SeqTable,
+    first: &[&[u8]],
+    second: &[&[u8]],
+) -> Result<(ForeignRun, ForeignRun), PlaceRefusal>
+    ensures first { IfOk result (λ runs. runs.0.question ≡ table.now.question) }
+    ensures second { IfOk result (λ runs. runs.1.question ≡ table.now.question) }
+{
+    let first = run_from(alloc, table, first, 1)?;
+    let second = run_from(alloc, table, second, 1)?;
+    Ok((first, second))
+}
+
 fn new_runs(alloc: Global, table: &SeqTable, words: &[&[u8]]) -> Result<TwoRuns, PlaceRefusal>
     ensures { IfOk result (λ runs. runs.solver.question ≡ table.now.question) }
 {
     let then = place_of_then(words)?;
     let (first, second) = words.split_at(then);
+    let solver = Solver::new(alloc, table.program(), table)?;
+    let (first, second) = runs_from(alloc, table, first, second)?;
     Ok(TwoRuns {
         alloc,
-        solver: Solver::new(alloc, table.program(), table)?,
-        first: run_from(alloc, table, first, 1)?,
-        second: run_from(alloc, table, second, 1)?,
+        solver,
+        first,
+        second,
         by_first: AtomicU64::new(0),
         by_second: AtomicU64::new(0),
     })
@@ -94,6 +111,21 @@ fn push_lines(set: &GapSet, runs: &TwoRuns, printed: &mut String) -> Result<(), 
     let by_second = runs.by_second.load(Ordering::SeqCst);
     push_gaps_after("set", set, printed)?;
     write!(printed, "\nfirst {by_first}\nsecond {by_second}\n")
+}
+
+/// The set that workers find by a solver with two runs, and how many questions each of them answered.
+fn push_set_by<R: Threads + Wait + Sync>(
+    rt: &R,
+    call: PlacerCall,
+    table: &SeqTable,
+    runs: &TwoRuns,
+    words: &[&[u8]],
+    printed: &mut String,
+) -> Result<(), PlaceRefusal>
+    requires { runs.now.solver.question ≡ table.now.question }
+{
+    let set = set_by(rt, runs.alloc, call, table, runs, words)?;
+    Ok(push_lines(&set, runs, printed)?)
 }
 
 /// The set that a number of workers find, where the solver has these two runs at hand, and how many questions each of them
@@ -107,6 +139,5 @@ pub fn push_shared<R: Threads + Wait + Sync>(
     printed: &mut String,
 ) -> Result<(), PlaceRefusal> {
     let runs = new_runs(alloc, table, words)?;
-    let set = set_by(rt, alloc, call, table, &runs, words)?;
-    Ok(push_lines(&set, &runs, printed)?)
+    push_set_by(rt, call, table, &runs, words, printed)
 }
