@@ -73,7 +73,7 @@ fn push_judged(
 ) -> Result<(), TextRefusal> {
     let certificate = read_cert(alloc, text)?;
     let judged = check(alloc, program, &Shown::All, costs, &certificate);
-    Ok(push_judgment(alloc, judged, printed)?)
+    push_judgment(alloc, judged, printed).map_err(TextRefusal::from)
 }
 
 /// What the checker says of a certificate, for a test of which everything is shown, and the costs that are given.

@@ -41,16 +41,21 @@ fn threads_of(alloc: Global, code: &[Instr]) -> Result<Vec<Thread>, AllocError> 
     Ok(threads)
 }
 
+/// The program of a thread with this code, over two locations that hold 0.
+fn program_of(alloc: Global, code: &[Instr]) -> Result<Program, TextRefusal> {
+    let threads = threads_of(alloc, code)?;
+    let memory = Vec::from_slice(alloc, &[0, 0])?;
+    Program::new(alloc, threads, memory).map_err(TextRefusal::from)
+}
+
 /// A program that no litmus text spells.
 pub fn push_program(
     alloc: Global,
     words: &[&[u8]],
     printed: &mut String,
 ) -> Result<(), TextRefusal> {
-    let code = named(&CODES, word_at(words, 0)?)?;
-    let threads = threads_of(alloc, code)?;
-    let program = Program::new(alloc, threads, Vec::from_slice(alloc, &[0, 0])?)?;
-    Ok(write!(printed, "threads {:?}\n", program.threads())?)
+    let program = program_of(alloc, named(&CODES, word_at(words, 0)?)?)?;
+    write!(printed, "threads {:?}\n", program.threads()).map_err(TextRefusal::from)
 }
 
 /// What a program says of the gap before an instruction of a thread, and of a gap.

@@ -126,5 +126,5 @@ pub fn push_read_fenced(
     printed: &mut String,
 ) -> Result<(), TextRefusal> {
     let litmus = read_fenced(alloc, text)?;
-    Ok(push_fenced(alloc, &litmus, printed)?)
+    push_fenced(alloc, &litmus, printed).map_err(TextRefusal::from)
 }
