@@ -13,8 +13,8 @@ use Rattle.tree_laws.proofs.{Lists.found_is_here, ListedOutcomes.fenced_tree_ser
 use Rattle.cover_solver.specs.declared.fault.ForeignFault.TheVariants as foreign
 use Rattle.fence_laws.proofs.GapsAvoided.{fenced_runs_avoid}
 use Rattle.cert_forest.specs.{Trees.Cover, NodeConstants.NEAR_RUNS}
-use Rattle.sketch_covers.specs.{OutcomeNumbers.AreFoundOf, declared.ascending_outcomes.AscendingOutcomes.AscendingOutcomes, declared.outcome_index.OutcomeIndex.OutcomeIndex, Covers.IsWholeCover}
-use Rattle.sketch_covers.specs.{KnownOutcomes.StopIs, declared.known_outcomes.KnownOutcomes.TheVariants.Closed, declared.stop.SearchStop.SearchStop}
+use Rattle.partial_covers.specs.{OutcomeNumbers.AreFoundOf, AscendingOutcomes.AscendingOutcomes, OutcomeIndex.OutcomeIndex, Covers.IsWholeCover}
+use Rattle.partial_covers.specs.{KnownOutcomes.StopIs, KnownOutcomesValue.TheVariants.Closed, SearchStop.SearchStop}
 use Rattle.partial_covers.proofs.{RenumberedTrees.whole_renumbered, HoleTrees.stop_lacks}
 use Rattle.tso_program.proofs.OutcomesOrdered.{one_way}
 use Rattle.std.specs.declared.cmp.Ordering.TheVariants.{Less}

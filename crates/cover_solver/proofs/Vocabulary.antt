@@ -7,9 +7,9 @@ pub use Rattle.partial_covers.proofs.Answered.{if_ok}
 pub use Rattle.partial_covers.proofs.OtherNumbers.{renumbered}
 pub use Rattle.partial_covers.specs.PartialCovers.{IsPartialCover, items_of, renumbered_item}
 pub use Rattle.partial_covers.specs.declared.partial_cover.PartialCover.{PartialCover}
-pub use Rattle.sketch_covers.proofs.Inserted.{not_there}
-pub use Rattle.sketch_covers.specs.Ascending.{BelongsAt}
-pub use Rattle.sketch_covers.specs.OutcomeNumbers.{ArePlacesOf, AreRunsOf, place_in}
+pub use Rattle.partial_covers.proofs.Inserted.{not_there}
+pub use Rattle.partial_covers.specs.Ascending.{BelongsAt}
+pub use Rattle.partial_covers.specs.OutcomeNumbers.{ArePlacesOf, AreRunsOf, place_in}
 pub use Rattle.tso_machine.specs.Faults.{ReplayFaultIs}
 pub use Rattle.tso_machine.specs.Machine.{IsRun, Machine, SequentialMachine, StoreBufferMachine, no_gaps, outcome_at}
 pub use Rattle.tso_machine.specs.Modes.{ArePassed, machine_of_mode}

@@ -22,3 +22,7 @@ pub mod FencingIsTheMachine
 pub mod OneAnswer
 pub mod HeadlineIsTheAnswer
 pub mod PartsServed
+-- words of the crates below, passed on
+pub use Rattle.tso_machine.proofs.Runs
+pub use Rattle.tso_machine.proofs.Kept
+pub use Rattle.tso_machine.proofs.KnownTruths

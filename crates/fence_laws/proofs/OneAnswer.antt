@@ -1,7 +1,7 @@
 -- No two sets are both the answer.
 use Rattle.fence_laws.proofs.Vocabulary.{ℕ, ◌≤◌, List, inl, inr, arith, Listing, Question, gap_count, SetOfGaps, IsGapSet, Better, AreGapsOf, LeavesOutcome, IsTheAnswer, TheAnswerIsTheOnlyOne}
-use Rattle.gap_sets.proofs.Orders.{decided}
-use Rattle.gap_sets.specs.declared.gap_set.TheConstants.{MAX_GAPS}
+use Rattle.tso_machine.proofs.Orders.{decided}
+use Rattle.tso_machine.specs.GapSetConstants.{MAX_GAPS}
 
 -- the gaps of a program within the limits have numbers below `MAX_GAPS`
 small : (p : Listing) (s : SetOfGaps) → gap_count p.threads ≤ MAX_GAPS → AreGapsOf p s → IsGapSet s

@@ -1,8 +1,8 @@
 -- What holds where more is shown holds where a part of it is.
 use Rattle.fence_laws.proofs.Vocabulary.{Bool, refl, sym, ap, ◌∙◌, inl, inr, Listing, Outcome, Shown, gaps_in, Machine, SequentialMachine, StoreBufferMachine, AllowsShown, LeavesOutcome, cases_lt, total, show, told, asked, WhatServesServesEachPart}
 use Rattle.fence_laws.proofs.Vocabulary.{WhatServesServesTheTruth, AnObservedAnswerCostsNoMore, ATruthsAnswerCostsNoMore, LeavesTruth, AServedTruthIsKept}
-use Rattle.tso_program.specs.{declared.shown.Shown.TheVariants.Truth, declared.atom.Atom.Atom, Tree.Tree, Truth.truth, Laws.IsReadOff}
-use Rattle.tso_program.proofs.ReadOff.{truth_read_off, told_apart}
+use Rattle.tso_machine.specs.{ShownValue.TheVariants.Truth, Atom.Atom, Tree.Tree, Truth.truth, ProgramLaws.IsReadOff}
+use Rattle.tso_machine.proofs.ReadOff.{truth_read_off, told_apart}
 
 module _ (p : Listing) (small large : Shown) (part : IsReadOff small large) where
   -- where one machine shows no more than another, it shows no more of a part

@@ -3,7 +3,7 @@ use Rattle.fence_laws.proofs.Vocabulary.{◌≡◌, ℕ, ◌<◌, ◌≤◌, Boo
 use Rattle.fence_laws.proofs.Vocabulary.{Jmp, Listing, Local, Action, Stop, Go, Wait, Read, Write, Swap, act, jumped, JumpForward, Label, Exec, Flush, Pending, action, instr_at, code_of, no_gaps, put, StoreBufferMachine, State, buffered, step, run, is_empty}
 use Rattle.fence_laws.proofs.Vocabulary.{from_some, passes_at, passes, or_cases as either}
 use Rattle.std.proofs.lemmas.Bool.Decides.{nat_tests}
-use Rattle.tso_program.specs.Instructions.{target_of}
+use Rattle.tso_machine.specs.Instructions.{target_of}
 use Rattle.fence_laws.proofs.{ChangedAt.put_other, ChangedAt.put_each, StepCases.exec_by, StepCases.flush_by}
 
 -- where an action leads is not the first instruction

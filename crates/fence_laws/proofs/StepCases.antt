@@ -1,7 +1,7 @@
 -- The steps of the store buffer machine, by cases.
 use Rattle.fence_laws.proofs.Vocabulary.{◌≡◌, ℕ, Bool, true, false, List, [], ◌∷◌, ◌++◌, Option, Some, option_and_then, refl, Listing, Local, Action, Stop, Go, Wait, Read, Write, Swap, action, loaded, Gaps, put, StoreBufferMachine, State, newest, found}
 use Rattle.fence_laws.proofs.Vocabulary.{when_empty, past_gap, buffered, flushed, step, Exec, Flush, Pending}
-use Rattle.tso_program.specs.declared.instruction.Reg.{Reg}
+use Rattle.tso_machine.specs.Reg.{Reg}
 
 module _ (last : State) (K : State → Option State) where
   -- a gap was passed with nothing waiting, or was not fenced

@@ -5,7 +5,7 @@ use Rattle.hunt_board.proofs.Vocabulary.{StandsOnlyAt, ends, goes, child_by, chi
 use Rattle.std.specs.Option.{option_map}
 use Rattle.std.specs.FinSet as set
 use Rattle.std.proofs.lemmas.List.Kept.{AllPairs-from_increasing}
-use Rattle.cover_solver.proofs.{Lists.first_is_here, Lists.later_is_here, Regions.new_or_old, Regions.true_or_false, Regions.in_root}
+use Rattle.search_core.proofs.{Lists.first_is_here, Lists.later_is_here, Regions.new_or_old, Regions.true_or_false, Regions.in_root}
 use Rattle.search_core.proofs.{Sets.small_set, Working.kept_old, Working.has_new, Working.not_again, Working.later}
 use Rattle.hunt_board.proofs.Parents.{IsChildAt, HaveParents, parents_of}
 

@@ -6,8 +6,8 @@ pub use Rattle.std.proofs.lemmas.List.{get_or-replicate, length-replicate, map-i
 pub use Rattle.std.proofs.lemmas.Option.{get_or_from_slice_get, none-some, same_Some, slice_get_read, slice_get_within}
 pub use Rattle.std.specs.List.{AllPairs, filter, position_from, range_with_len}
 pub use Rattle.std.specs.Prelude.{All, IfErr, IfSome, IsErrAnd, OnErr, OnOk, slice_get, slice_index, slice_set, ◌↔◌}
-pub use Rattle.cover_solver.proofs.OpenGaps.{open_ascending, open_exact}
-pub use Rattle.cover_solver.specs.Facts.{Foreign, Serving}
+pub use Rattle.search_core.proofs.OpenGaps.{open_ascending, open_exact}
+pub use Rattle.search_core.specs.Facts.{Foreign, Serving}
 pub use Rattle.gap_sets.specs.Gaps.{IsGapSet, SetOfGaps}
 pub use Rattle.gap_sets.specs.Order.{Better, total}
 pub use Rattle.gap_sets.specs.Regions.{HasNoneOf, IsInRegion, all_sets, child_regions, is_free, open_gaps, with_gap, without_gap}

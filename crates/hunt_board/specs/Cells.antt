@@ -1,6 +1,6 @@
 -- Cells by their names, and runs that were posted in them.
 use Rattle.std.specs.Prelude.{◌≡◌, ℕ, ◌+◌, ◌*◌, ◌<◌, nat_lt, List, length, Option, Some, None, slice_get, if◌then◌else◌}
-use Rattle.cover_solver.specs.Facts.{Foreign}
+use Rattle.search_core.specs.Facts.{Foreign}
 use Rattle.hunt_board.specs.declared.cells.PostFault.{PostFault, TheVariants.RowFull, TheVariants.Refused}
 use Rattle.hunt_board.specs.declared.cells.TheConstants.{ROW_CELLS}
 

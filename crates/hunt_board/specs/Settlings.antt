@@ -2,9 +2,9 @@
 use Rattle.std.specs.Prelude.{◌≡◌, ◌<◌, ℕ, List, Option, Some, None, MatchOption}
 use Rattle.gap_sets.specs.Order.{total}
 use Rattle.gap_sets.specs.declared.region.Region.{Region}
-use Rattle.cover_solver.specs.Facts as facts
-use Rattle.cover_solver.specs.Verdicts.{IsVerdictOf}
-use Rattle.cover_solver.specs.declared.oracle.Verdict.TheVariants as verdict
+use Rattle.search_core.specs.Facts as facts
+use Rattle.search_core.specs.Verdicts.{IsVerdictOf}
+use Rattle.search_core.specs.Verdict.TheVariants as verdict
 use Rattle.search_core.specs.Ceilings.{IsCeilingOf}
 use Rattle.search_core.specs.Events.{IsBeatenBy, IsBestAfter}
 use Rattle.hunt_board.specs.declared.settling.Settling.{Settling, TheVariants.Asked, TheVariants.Cut, TheVariants.Best}

@@ -1,12 +1,12 @@
 //! Runs that seats post for all: rows of cells, each set once.
 ghost use Rattle.std.specs.Prelude.{◌≡◌, ◌<◌, ◌≤◌, ◌*◌, ◌+◌, Some, None, Err, IfOk, IfErr, IfSome, length, map};
 ghost use Rattle.tso_program.specs.Shown.{asked};
-ghost use Rattle.cover_solver.specs.Facts.{IsForeignValue};
+ghost use Rattle.search_core.specs.Facts.{IsForeignValue};
 ghost use Rattle.once_cell.specs.Once.{cell_name};
 ghost use Rattle.hunt_board.specs.Cells.{IsInCell, IsThere, cell_place, run_in};
 
-use cover_solver::ForeignRun;
 use once_cell::race::{Note, OnceBox};
+use search_core::ForeignRun;
 use std::alloc::{AllocError, AllocFailed, Global};
 use std::marker::Model;
 use tso_program::{Program, Shown};

@@ -8,9 +8,8 @@ ghost use Rattle.hunt_board.specs.Settlings.{IsByRun};
 ghost use Rattle.hunt_board.specs.Internal.Events.{IsLawfulThere, IsEventOfSettling};
 
 use crate::Settling;
-use cover_solver::Verdict;
 use gap_sets::Region;
-use search_core::{Ceiling, Reason, SearchTree};
+use search_core::{Ceiling, Reason, SearchTree, Verdict};
 use std::alloc::AllocError;
 
 /// Whether no node is open, and some is held.

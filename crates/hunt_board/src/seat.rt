@@ -2,7 +2,7 @@
 ghost use Rattle.std.specs.Prelude.{◌≡◌, false, min, Some, None, IfSome, IsTrue, MatchOption};
 ghost use Rattle.gap_sets.specs.Order.{Better};
 ghost use Rattle.gap_sets.specs.declared.region.Region.{Region};
-ghost use Rattle.cover_solver.specs.Facts.{Serving, IsServing};
+ghost use Rattle.search_core.specs.Facts.{Serving, IsServing};
 ghost use Rattle.search_core.specs.Events.{IsBeatenBy, IsBestAfter};
 ghost use Rattle.hunt_board.specs.Seats.{SeatView, holding_node, with_best, with_known};
 ghost use Rattle.hunt_board.specs.Settlings.{IsOwnBestAfter};
@@ -11,8 +11,8 @@ ghost use Rattle.hunt_board.specs.Internal.Confirmed.{serving_of, newer, IsKept}
 
 use crate::settling::Settling;
 use crate::word::{CeilingWord, WordSeat};
-use cover_solver::{Served, Verdict};
 use gap_sets::{Costs, GapSet, Region};
+use search_core::{Served, Verdict};
 use std::marker::Model;
 use std::snapshot::Snapshot;
 
@@ -44,7 +44,7 @@ impl Model for HuntSeat {
     ghost use Rattle.gap_sets.specs.contracts.gap_set.GapSet as gap_set;
     ghost use Rattle.std.specs.Coded.{codes};
     ghost use Rattle.tso_program.specs.Nodes.{tree_code};
-    ghost use Rattle.cover_solver.specs.CoverCodes.{coded_cover};
+    ghost use Rattle.search_core.specs.CoverCodes.{coded_cover};
 
     ghost coded = { Prim.hlevel (codes, gap_set.the_row.coded, coded_cover, tree_code) };
 

@@ -2,9 +2,8 @@
 ghost use Rattle.std.specs.Prelude.{◌≡◌};
 ghost use Rattle.hunt_board.specs.Settlings.{settling_event};
 
-use cover_solver::Verdict;
 use gap_sets::{GapSet, Region};
-use search_core::Ceiling;
+use search_core::{Ceiling, Verdict};
 
 /// How the node that a seat holds is to be settled.
 #[derive(Drop)]

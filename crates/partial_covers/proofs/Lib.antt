@@ -22,3 +22,4 @@ pub mod CoveringSteps
 pub mod TraceSteps
 -- words of the crates below, passed on
 pub use Rattle.cover_judge.proofs.Answered
+pub use Rattle.sketch_covers.proofs.Inserted

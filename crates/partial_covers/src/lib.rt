@@ -30,4 +30,7 @@ pub use part::PartCover;
 pub use partial_cover::{PartialCover, Piece};
 pub use renumbering::renumber_partial;
 pub use searching::{Search, SearchStart, start_alone, start_by};
+pub use sketch_covers::{
+    KnownOutcomes, OutcomeIndex, SearchStop, in_ascending_order, place_of, renumber,
+};
 pub use watch::{Unwatched, Watch};

@@ -20,6 +20,7 @@ mod subject;
 mod tree;
 
 pub use ceiling::{Ceiling, Reason};
+pub use cover_solver::{ForeignRun, Served, Verdict};
 pub use fault::TreeFault;
 pub use finished::{Finished, Settled, SettledEvent};
 pub use laws::{

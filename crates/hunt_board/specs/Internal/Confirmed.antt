@@ -1,6 +1,6 @@
 -- What a confirmed set in memory stands for.
 use Rattle.std.specs.Prelude.{◌≡◌, Option, Some, None}
-use Rattle.cover_solver.specs.Facts.{Serving, IsServing}
+use Rattle.search_core.specs.Facts.{Serving, IsServing}
 use Rattle.hunt_board.specs.declared.seat.Confirmed.{Confirmed}
 
 abbrev pub serving_of : Option Confirmed → Option Serving

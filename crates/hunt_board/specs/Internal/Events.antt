@@ -3,8 +3,8 @@ use Rattle.std.specs.Prelude.{◌≡◌, ◌⊎◌, ◌<◌, ℕ, List, MatchOpt
 use Rattle.gap_sets.specs.Order.{total}
 use Rattle.gap_sets.specs.declared.region.Region.{Region}
 use Rattle.tso_program.specs.Shown.{Question}
-use Rattle.cover_solver.specs.Verdicts.{IsVerdictOf}
-use Rattle.cover_solver.specs.declared.oracle.Verdict.TheVariants.{Foreign, Serves}
+use Rattle.search_core.specs.Verdicts.{IsVerdictOf}
+use Rattle.search_core.specs.Verdict.TheVariants.{Foreign, Serves}
 use Rattle.search_core.specs.Ceilings.{IsCeilingOf}
 use Rattle.search_core.specs.States.{SearchState}
 use Rattle.search_core.specs.Events.{Splits, Cuts, Confirms, IsBeaten}
