@@ -3,7 +3,7 @@ ghost use Rattle.std.specs.Prelude.{◌≡◌, IfOk, IfErr, MatchOption, Contain
 ghost use Rattle.tso_machine.specs.Modes.{machine_of_mode};
 ghost use Rattle.tso_machine.specs.Machine.{Machine};
 ghost use Rattle.tso_machine.specs.Outcomes.{IsShownRun};
-ghost use Rattle.tso_program.specs.Shown.{Question, told};
+ghost use Rattle.tso_program.specs.Shown.{Question};
 ghost use Rattle.partial_covers.specs.OutcomeNumbers.{IsInOrder, AreRunsOf};
 ghost use Rattle.cover_solver.specs.Witnesses.{IsWitness, HasNoWitness};
 
@@ -34,20 +34,20 @@ pub fn witness(
     };
     let start = start_alone(&search)?;
     let all = all_outcomes(&search, start, &Unwatched)?;
-    Ok(run_of(alloc, &all.found, truth)?)
+    let told = Outcome::told(alloc, truth)?;
+    Ok(run_of(alloc, &all.found, &told)?)
 }
 
-/// The run that is found with this truth.
+/// The run of an outcome that is found.
 fn run_of(
     alloc: Global,
     found: &OutcomeIndex,
-    truth: bool,
+    outcome: &Outcome,
 ) -> Result<Option<Vec<Label>>, AllocError>
     requires { IsInOrder found.now }
-    ensures { IfOk result (λ run. MatchOption run (Contains found.now.outcomes.items (told truth) → ⊥) (λ labels. (q : Question) (machine : Machine) → AreRunsOf q machine found.now.runs found.now.outcomes.items → IsShownRun q machine labels.items (told truth))) }
+    ensures { IfOk result (λ run. MatchOption run (Contains found.now.outcomes.items outcome.now → ⊥) (λ labels. (q : Question) (machine : Machine) → AreRunsOf q machine found.now.runs found.now.outcomes.items → IsShownRun q machine labels.items outcome.now)) }
 {
-    let told = Outcome::told(alloc, truth)?;
-    match found.run_of(&told) {
+    match found.run_of(outcome) {
         Some(labels) => Ok(Some(Vec::from_slice(alloc, labels)?)),
         None => Ok(None),
     }

@@ -1,4 +1,4 @@
-use Rattle.cover_solver.proofs.Vocabulary.{refl, machine_of_mode, told}
+use Rattle.cover_solver.proofs.Vocabulary.{machine_of_mode}
 use Rattle.cover_solver.proofs.Witnessed.{found_or_none}
 use Rattle.cover_solver.proofs.witnesses.witness.Goals as goal
 
@@ -6,5 +6,5 @@ pub returns-clause-found : goal.returns-clause-found
 returns-clause-found c =
     let p = c.args.program.now in
     let f = c.in_ok-copy.field-0 in
-    found_or_none p (machine_of_mode p c.args.mode) c.args.formula.now f c.args.truth (told c.args.truth) c.in_ok-all.all.found.runs c.in_ok-all.all.found.outcomes.items c.in_ok-copy.ensures refl
+    found_or_none p (machine_of_mode p c.args.mode) c.args.formula.now f c.args.truth c.in_ok-told.told c.in_ok-all.all.found.runs c.in_ok-all.all.found.outcomes.items c.in_ok-copy.ensures c.in_ok-told.ensures
     c.in_ok-all.ensures.exact c.in_ok-all.ensures.runs c.in_ok-run_of.field-0 c.in_ok-run_of.ensures

@@ -13,17 +13,17 @@ of-requires-clause-foreign c =
     let list = subst (λ (a : Asked). IsListOf a.question a.outcomes) c.self.view_is c.self.invariant.0 in
     let again = subst (λ (q : Question). IsShownRun q (StoreBufferMachine no_gaps) labels found) question
     (subst (λ ls. IsShownRun (asked c.self.inside.program shown) (StoreBufferMachine no_gaps) ls found) c.deref.ensures.value c.in-Ok.ensures.replay.is_run) in
-    subst (λ (q : Question). IsForeignRun q labels found) (sym (same_question (asked c.self.inside.program shown) c.in_ok-program.program c.in_ok-shown.shown c.in_ok-program.ensures c.in_ok-shown.ensures ∙ question))
+    subst (λ (q : Question). IsForeignRun q labels found) (sym (same_question (asked c.self.inside.program shown) c.in_ok-program-in-Ok.program c.in_ok-shown-in-Ok.shown c.in_ok-program-in-Ok.ensures c.in_ok-shown-in-Ok.ensures ∙ question))
     (foreign_again s.question c.args.set.now s.outcomes labels c.args.run.outcome found c.in-Ok.ended.passed list c.requires.is_run c.requires.new again)
 
 pub of-requires-clause-passed : goal.of-requires-clause-passed
 of-requires-clause-passed c =
     let labels = c.args.run.labels.items in
-    subst (λ p. ArePassed p (StoreBufferMachine no_gaps) labels c.in-Ok.ended.passed) (sym c.in_ok-program.ensures)
+    subst (λ p. ArePassed p (StoreBufferMachine no_gaps) labels c.in-Ok.ended.passed) (sym c.in_ok-program-in-Ok.ensures)
     (subst (λ ls. ArePassed c.self.inside.program (StoreBufferMachine no_gaps) ls c.in-Ok.ended.passed) c.deref.ensures.value c.in-Ok.ensures.replay.passed)
 
-pub returns-in-Ok : goal.returns-in-Ok
-returns-in-Ok c =
+pub returns-in_ok-shown-in-Ok : goal.returns-in_ok-shown-in-Ok
+returns-in_ok-shown-in-Ok c =
     let s = c.args.self.now in
     let labels = c.args.run.labels.items in
     let shown = c.self.inside.shown in
@@ -35,7 +35,7 @@ returns-in-Ok c =
     (subst (λ ls. IsShownRun (asked c.self.inside.program shown) (StoreBufferMachine no_gaps) ls found) c.deref.ensures.value c.in-Ok.ensures.replay.is_run) in
     let are = subst (λ (q : Question). ArePassed q.program (StoreBufferMachine no_gaps) labels passed) question
     (subst (λ ls. ArePassed c.self.inside.program (StoreBufferMachine no_gaps) ls passed) c.deref.ensures.value c.in-Ok.ensures.replay.passed) in (
-      c.of.ensures.question ∙ same_question (asked c.self.inside.program shown) c.in_ok-program.program c.in_ok-shown.shown c.in_ok-program.ensures c.in_ok-shown.ensures ∙ question,
+      c.of.ensures.question ∙ same_question (asked c.self.inside.program shown) c.in_ok-program-in-Ok.program c.in_ok-shown-in-Ok.shown c.in_ok-program-in-Ok.ensures c.in_ok-shown-in-Ok.ensures ∙ question,
       c.of.ensures.foreign,
       (λ gap passes. passes_none s.question c.args.set.now s.outcomes labels c.args.run.outcome found passed list c.requires.is_run c.requires.new again are gap
           (subst (λ gaps. set.contains gaps gap ≡ true) c.of.ensures.passed passes)),
