@@ -13,7 +13,7 @@ use cover_judge::event_of;
 use sketches::{Event, Sketch};
 
 /// Something that is left to be chosen.
-#[derive(Clone, Copy, Debug)]
+#[derive(Clone, Copy)]
 pub enum OpenChoice {
     /// The value of a thread's next read.
     Value(u8),

@@ -12,7 +12,7 @@ use sketches::{Event, Sketch};
 use std::alloc::{AllocError, Global};
 
 /// A read, with its location and its value.
-#[derive(Clone, Copy, Debug)]
+#[derive(Clone, Copy)]
 pub struct ReadValue {
     pub read: AccessId,
     pub location: u8,
@@ -20,7 +20,7 @@ pub struct ReadValue {
 }
 
 /// A write, with its location and its value.
-#[derive(Clone, Copy, Debug)]
+#[derive(Clone, Copy)]
 pub struct WrittenValue {
     pub write: AccessId,
     pub location: u8,

@@ -36,7 +36,7 @@ use tso_machine::Model;
 use tso_program::{Outcome, Program, Shown};
 
 /// What a certificate shows: a set of gaps is the answer, and this is its cost.
-#[derive(Clone, Copy, Debug)]
+#[derive(Clone, Copy)]
 pub struct Accepted {
     pub set: GapSet,
     pub cost: u64,

@@ -51,7 +51,7 @@ impl From<AllocError> for CheckFault {
 }
 
 /// Why runs aren't all replayed: the first that is not a run.
-#[derive(Debug, Drop)]
+#[derive(Drop)]
 pub(crate) enum RunsFault {
     NoRun(usize),
     OutOfMemory,

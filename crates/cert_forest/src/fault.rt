@@ -7,7 +7,7 @@ use cert_words::{WordRefusal, Wrong};
 use thiserror::Error;
 
 /// Why bytes are no certificate's text: the first fault from left to right. A place is a byte's offset, from 0.
-#[derive(Clone, Copy, Debug, PartialEq, Eq, Error)]
+#[derive(Clone, Copy, Debug, Error)]
 pub enum CertFault {
     /// The first line can't become `FENCECERT 1` or `FENCECERT 2`.
     #[error("the first line is neither `FENCECERT 1` nor `FENCECERT 2`")]

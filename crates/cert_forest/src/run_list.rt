@@ -7,7 +7,7 @@ use std::marker::Model;
 use tso_machine::Label;
 
 /// Runs in order, each by its labels. They lie flat: the labels of all runs one after another, and where each run ends.
-#[derive(Debug, Drop)]
+#[derive(Drop)]
 pub struct Runs {
     labels: Vec<Label>,
     ends: Vec<usize>,
@@ -112,7 +112,7 @@ impl Runs {
 }
 
 /// The runs that are still to come, in order.
-#[derive(Debug, Drop)]
+#[derive(Drop)]
 pub struct RunIter<'a> {
     /// Those of all runs.
     labels: &'a [Label],

@@ -15,7 +15,7 @@ const PAGE_BYTES: usize = 32_768;
 const NODE_BYTES: usize = 512;
 
 /// What is written so far: the pages that are full, and the one that is being filled.
-#[derive(Debug, Drop)]
+#[derive(Drop)]
 pub(crate) struct Draft {
     alloc: Global,
     full: Pages,

@@ -10,7 +10,7 @@ use candidate_executions::Kind;
 use std::marker::Model;
 
 /// Which access of a node.
-#[derive(Clone, Copy, Debug)]
+#[derive(Clone, Copy)]
 enum AccessPlace {
     First,
     Second,
@@ -18,7 +18,7 @@ enum AccessPlace {
 }
 
 /// The accesses of a cycle that are still to come, in order.
-#[derive(Debug, Drop)]
+#[derive(Drop)]
 pub struct Events<'a> {
     /// The nodes from that of the next access on; those after the cycle may follow.
     left: &'a [Node],

@@ -7,7 +7,7 @@ use crate::node::GapNode;
 use std::marker::Model;
 
 /// The gap trees that are still to come, in order. Of the first one its root may be gone, and then its children come.
-#[derive(Debug, Drop)]
+#[derive(Drop)]
 pub struct GapWalk<'a> {
     left: &'a [GapNode],
 }

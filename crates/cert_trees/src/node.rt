@@ -67,7 +67,7 @@ pub enum Node {
 const _: () = prove!(size_of::<Node>() == 8);
 
 /// A node of a gap tree. A node comes before its children, and these come in order.
-#[derive(Clone, Copy, Debug, PartialEq, Eq)]
+#[derive(Clone, Copy)]
 pub enum GapNode {
     /// So many children follow. The foreign run with this number, from 0, passes no gap that the region's sets must have: there
     /// is a child for each gap that it passes and that the sets may have.

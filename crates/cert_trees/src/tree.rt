@@ -50,7 +50,7 @@ impl Model for CoverTree {
 
 /// A tree that shows that no set of gaps in a region is better and serves. It is seen as a tree, and lies in memory as a
 /// cover tree does: as a list of plain nodes, each before its children, which copies share.
-#[derive(Debug, Drop)]
+#[derive(Drop)]
 pub struct GapTree {
     nodes: Arc<Vec<GapNode>>,
 }

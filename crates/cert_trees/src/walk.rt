@@ -11,7 +11,7 @@ use candidate_executions::Kind;
 use std::marker::Model;
 
 /// A node of a cover tree, without its children.
-#[derive(Debug, Drop)]
+#[derive(Drop)]
 pub enum CoverNode<'a> {
     /// The next read of a thread takes one of its values: so many children, one for each value.
     Value { thread: u8, count: u32 },
@@ -26,7 +26,7 @@ pub enum CoverNode<'a> {
 }
 
 /// The trees that are still to come, in order. Of the first one its root may be gone, and then its children come.
-#[derive(Debug, Drop)]
+#[derive(Drop)]
 pub struct Walk<'a> {
     left: &'a [Node],
 }

@@ -7,7 +7,7 @@ use std::alloc::{AllocError, AllocFailed};
 use thiserror::Error;
 
 /// What is wrong with a word, or with the separator in its place.
-#[derive(Clone, Copy, Debug, PartialEq, Eq)]
+#[derive(Clone, Copy, Debug)]
 pub enum Wrong {
     /// The text is not any of these at all.
     Header,
@@ -24,7 +24,7 @@ pub enum Wrong {
 }
 
 /// The first word that can't stand where it does.
-#[derive(Clone, Copy, Debug, PartialEq, Eq)]
+#[derive(Clone, Copy, Debug)]
 pub struct WordRefusal {
     pub wrong: Wrong,
     /// How many bytes are left there, the word's own included.
@@ -61,7 +61,7 @@ pub fn refused_unless_cut(wrong: Wrong, could_go_on: bool, bytes: &[u8], rest: &
 }
 
 /// Why reading stopped.
-#[derive(Clone, Copy, Debug, PartialEq, Eq, Error)]
+#[derive(Clone, Copy, Debug, Error)]
 pub enum Stop {
     #[error("the text is refused: {0:?}")]
     Refused(WordRefusal),

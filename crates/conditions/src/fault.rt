@@ -6,7 +6,7 @@ use std::alloc::{AllocError, AllocFailed};
 use thiserror::Error;
 
 /// Why tokens could not be read as a formula.
-#[derive(Clone, Copy, Debug, PartialEq, Eq, Error)]
+#[derive(Clone, Copy, Debug, Error)]
 pub enum FormulaFault {
     /// No formula begins with the tokens up to and with the one of this index, from 0. It is the number of tokens where all of
     /// them begin a formula and more are needed.

@@ -9,7 +9,7 @@ use std::alloc::AllocError;
 use tso_program::Node;
 
 /// What waits for its right operand, or for its `)`.
-#[derive(Clone, Copy, Debug, PartialEq, Eq)]
+#[derive(Clone, Copy)]
 pub enum Waiting {
     Not,
     And,

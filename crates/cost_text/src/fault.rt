@@ -7,7 +7,7 @@ use std::alloc::{AllocError, AllocFailed};
 use thiserror::Error;
 
 /// Why a text of costs could not be read, with the number of the line where it shows.
-#[derive(Clone, Copy, PartialEq, Eq, Debug, Error)]
+#[derive(Clone, Copy, Debug, Error)]
 pub enum CostTextFault {
     /// The line with this number, from 1, is neither blank nor `t:k`, spaces or tabs, and a cost.
     #[error("line {0} is neither blank nor a gap with its cost")]

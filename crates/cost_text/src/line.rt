@@ -8,7 +8,7 @@ ghost use Rattle.cost_text.specs.Internal.TextReading.{digits_of};
 use text_tokens::{are_line_spaces, blanks_len, digits_len, line_spaces_len};
 
 /// The digits of what a line says: what the gap before this instruction of this thread costs.
-#[derive(Clone, Copy, Debug)]
+#[derive(Clone, Copy)]
 pub(crate) struct CostLine<'a> {
     pub(crate) thread: &'a [u8],
     pub(crate) instruction: &'a [u8],

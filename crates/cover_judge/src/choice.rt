@@ -10,7 +10,7 @@ use sketches::{Sketch, SketchFault};
 use std::alloc::{AllocError, Global};
 
 /// A choice in a sketch.
-#[derive(Clone, Copy, Debug)]
+#[derive(Clone, Copy)]
 pub enum Choice {
     /// The next read of a thread takes a value.
     Value(u8, u32),

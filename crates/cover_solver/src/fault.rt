@@ -8,7 +8,7 @@ use thiserror::Error;
 use tso_machine::ReplayFault;
 
 /// Why a search has no answer.
-#[derive(Clone, Copy, PartialEq, Eq, Debug, Error)]
+#[derive(Clone, Copy, Debug, Error)]
 pub enum SolveFault {
     /// A candidate execution without a cycle has no run. No call of this crate answers this.
     #[error("a candidate execution without a cycle has no run")]
@@ -34,7 +34,7 @@ impl<T: Drop> From<AllocFailed<T>> for SolveFault {
 }
 
 /// Why labels are no foreign run.
-#[derive(Clone, Copy, PartialEq, Eq, Debug, Error)]
+#[derive(Clone, Copy, Debug, Error)]
 pub enum ForeignFault {
     /// They are no run of the store buffer machine with no gap fenced.
     #[error("the labels are not a run: {0}")]

@@ -20,7 +20,7 @@ use tso_machine::Model;
 use tso_program::{Outcome, Program, Shown};
 
 /// Outcomes, each with a run that leaves it.
-#[derive(Debug, Drop)]
+#[derive(Drop)]
 pub struct OutcomeList {
     /// Ascending, each of them once.
     pub outcomes: Vec<Outcome>,

@@ -8,7 +8,7 @@ use json_text::{JsonObject, JsonText};
 use std::alloc::{AllocError, Global};
 
 /// What is said about a refusal beside its line.
-#[derive(Clone, Copy, Debug)]
+#[derive(Clone, Copy)]
 pub struct RefusalMessage<'a> {
     /// The file's name.
     pub file: &'a [u8],

@@ -14,7 +14,7 @@ use tso_machine::{Ended, Model, Step};
 use tso_program::{Program, Shown};
 
 /// Which run it is.
-#[derive(Clone, Copy, PartialEq, Eq, Debug)]
+#[derive(Clone, Copy)]
 pub enum Setting {
     /// The run for which this gap of an answer is needed.
     Without(u8),

@@ -15,7 +15,7 @@ use tso_machine::Model;
 use tso_program::Program;
 
 /// Which run is sought: one of a machine with these gaps fenced, whose outcome meets the condition's formula or does not.
-#[derive(Clone, Copy, Debug)]
+#[derive(Clone, Copy)]
 pub struct Sought {
     pub model: Model,
     pub fences: GapSet,

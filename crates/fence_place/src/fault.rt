@@ -6,7 +6,7 @@ use std::alloc::{AllocError, AllocFailed};
 use thiserror::Error;
 
 /// Why nothing is placed, or a hunt finds nothing. [`crate::place`] answers neither `NotCertified` nor `Board`.
-#[derive(Clone, Copy, Debug, PartialEq, Eq, Error)]
+#[derive(Clone, Copy, Debug, Error)]
 pub enum PlaceFault {
     /// There are no workers, or more than `MAX_WORKERS`.
     #[error("the number of workers is not from 1 to 32")]

@@ -26,7 +26,7 @@ use std::sync::Wait;
 use std::thread::Threads;
 
 /// The answer: the best set of gaps that serves, its cost, and a certificate of both.
-#[derive(Debug, Drop)]
+#[derive(Drop)]
 pub struct Placed {
     pub set: GapSet,
     pub cost: u64,

@@ -31,7 +31,7 @@ pub(crate) fn ceiling_below(hunt: &Hunt, seat: &mut HuntSeat, set: &GapSet) -> O
 }
 
 /// Where a run is posted, and how many nodes it opens.
-#[derive(Clone, Copy, Debug)]
+#[derive(Clone, Copy)]
 struct RunPlace {
     seat: u8,
     index: usize,

@@ -51,7 +51,7 @@ impl Asking {
 }
 
 /// When a seat may ask.
-#[derive(Clone, Copy, Debug, PartialEq, Eq)]
+#[derive(Clone, Copy)]
 pub(crate) enum Turn {
     Now,
     /// A cheaper set was asked about, so a better node may be open now.

@@ -18,7 +18,7 @@ use std::alloc::Global;
 use std::sync::Wait;
 
 /// Why a worker gives its node back. But for `Later` it ends then.
-#[derive(Clone, Copy, Debug, PartialEq, Eq)]
+#[derive(Clone, Copy)]
 pub(crate) enum StopReason {
     /// A cheaper set was asked about, so a better node may be open now.
     Later,

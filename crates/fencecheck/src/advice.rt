@@ -12,7 +12,7 @@ use program_streams::{FileFault, FileStore, UnreadFile};
 use std::alloc::{AllocError, Global};
 
 /// The texts that are judged, with the names of their files.
-#[derive(Clone, Copy, Debug)]
+#[derive(Clone, Copy)]
 pub(crate) struct JudgedTexts<'a> {
     pub(crate) names: InputNames<'a>,
     pub(crate) litmus: &'a [u8],

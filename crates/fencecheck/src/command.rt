@@ -83,7 +83,7 @@ fn run_input<R: Read, W: Console>(alloc: Global, input: &mut R, output: &mut W) 
 }
 
 /// The names of files.
-#[derive(Clone, Copy, Debug)]
+#[derive(Clone, Copy)]
 pub(crate) struct InputNames<'a> {
     pub(crate) litmus: &'a str,
     pub(crate) certificate: &'a str,
@@ -98,7 +98,7 @@ pub(crate) const JOINED: InputNames<'static> = InputNames {
 };
 
 /// What files hold.
-#[derive(Debug, Drop)]
+#[derive(Drop)]
 struct Texts {
     litmus: Vec<u8>,
     certificate: Vec<u8>,

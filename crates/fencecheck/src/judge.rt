@@ -19,7 +19,7 @@ use std::alloc::{AllocError, Global};
 use tso_program::{Program, Shown, ShownKind};
 
 /// Why a certificate isn't accepted.
-#[derive(Debug, Drop)]
+#[derive(Drop)]
 pub enum Rejection {
     /// The first text isn't a litmus text.
     Litmus(ReadFault),

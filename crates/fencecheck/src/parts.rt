@@ -48,7 +48,7 @@ fn certificate_start(bytes: &[u8]) -> usize
 }
 
 /// An input that was read, and where the certificate starts in it.
-#[derive(Debug, Drop)]
+#[derive(Drop)]
 pub(crate) struct Joined {
     pub(crate) bytes: Vec<u8>,
     pub(crate) start: usize,

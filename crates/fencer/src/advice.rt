@@ -14,7 +14,7 @@ use std::alloc::{AllocError, Global};
 use witness_text::WitnessFault;
 
 /// What an answer is asked about: the text of a litmus file, and labels where there are any.
-#[derive(Clone, Copy, Debug)]
+#[derive(Clone, Copy)]
 pub(crate) struct AskedText<'a> {
     pub(crate) name: &'a str,
     pub(crate) text: &'a [u8],

@@ -12,7 +12,7 @@ use std::alloc::Global;
 
 /// What is printed, with its status, and what is written to each of two files, where it is named. Where one can't be
 /// written, that is reported as a line or as a document.
-#[derive(Debug, Drop)]
+#[derive(Drop)]
 pub(crate) struct Answer {
     pub(crate) lines: Vec<u8>,
     pub(crate) status: u8,

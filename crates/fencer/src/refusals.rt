@@ -15,7 +15,7 @@ use std::alloc::{AllocError, Global};
 use tso_machine::{ReplayFault, RunFault};
 
 /// Why there is no answer.
-#[derive(Clone, Copy, PartialEq, Eq, Debug)]
+#[derive(Clone, Copy)]
 pub enum AnswerFault {
     /// The text isn't a litmus text.
     Litmus(ReadFault),
@@ -82,7 +82,7 @@ pub(crate) fn refusal_line(alloc: Global, why: AnswerFault) -> Result<Vec<u8>, A
 }
 
 /// The lines of an answer, with their status.
-#[derive(Debug, Drop)]
+#[derive(Drop)]
 pub struct Reply {
     pub lines: Vec<u8>,
     pub status: u8,

@@ -10,7 +10,7 @@ use std::alloc::Global;
 use std::io::Read;
 
 /// What the files hold that are read.
-#[derive(Debug, Drop)]
+#[derive(Drop)]
 pub(crate) struct Texts {
     pub(crate) litmus: Vec<u8>,
     pub(crate) costs: Option<Vec<u8>>,

@@ -33,7 +33,7 @@ use tso_machine::{Ended, Label, Model, ReplayFault, Step, replay, steps};
 use tso_program::Program;
 
 /// What is drawn of a run, and its document.
-#[derive(Debug, Drop)]
+#[derive(Drop)]
 struct Drawings {
     table: Vec<u8>,
     graph: Vec<u8>,
@@ -99,7 +99,7 @@ fn traced_lines(
 }
 
 /// What is said of a run, as text and as a document, with its graph.
-#[derive(Debug, Drop)]
+#[derive(Drop)]
 struct Said {
     lines: Vec<u8>,
     document: Vec<u8>,

@@ -7,7 +7,7 @@ ghost use Rattle.fencer_words.specs.Internal.Names.{kept_names};
 use crate::job::Job;
 
 /// The names of the files that a job reads, and of those that it writes, where they are named.
-#[derive(Clone, Copy, Debug)]
+#[derive(Clone, Copy)]
 pub(crate) struct FileNames<'a> {
     pub(crate) litmus: Option<&'a str>,
     pub(crate) costs: Option<&'a str>,

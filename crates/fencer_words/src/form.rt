@@ -16,7 +16,7 @@ use clap::Command;
 use std::alloc::{AllocError, Global};
 
 /// The form of a command.
-#[derive(Clone, Copy, Debug)]
+#[derive(Clone, Copy)]
 pub enum Form {
     Replay,
     Outcomes,

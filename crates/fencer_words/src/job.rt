@@ -5,7 +5,7 @@ use tso_machine::Model;
 use tso_program::ShownKind;
 
 /// A run that is asked about. The file is given by its name.
-#[derive(Debug, Drop)]
+#[derive(Drop)]
 pub struct Run {
     pub model: Model,
     pub litmus: String,
@@ -13,7 +13,7 @@ pub struct Run {
 }
 
 /// A placement of fences that is asked for. Files are given by their names.
-#[derive(Debug, Drop)]
+#[derive(Drop)]
 pub struct Placement {
     /// The file of the gaps' costs; without one each gap costs 1.
     pub costs: Option<String>,
@@ -36,7 +36,7 @@ pub struct Placement {
 
 /// Reasons that are asked for: a run for each fence of a placement, which itself writes nothing. Files are given by their
 /// names.
-#[derive(Debug, Drop)]
+#[derive(Drop)]
 pub struct WhyQuery {
     pub placement: Placement,
     /// The file to which the graphs of the runs are written.
@@ -46,7 +46,7 @@ pub struct WhyQuery {
 }
 
 /// A table of a run that is asked for. Files are given by their names.
-#[derive(Debug, Drop)]
+#[derive(Drop)]
 pub struct TraceQuery {
     pub run: Run,
     /// The file to which the run's graph is written.
@@ -58,7 +58,7 @@ pub struct TraceQuery {
 }
 
 /// A list of outcomes that is asked for. The file is given by its name.
-#[derive(Debug, Drop)]
+#[derive(Drop)]
 pub struct OutcomeQuery {
     pub model: Model,
     /// How many workers search: 1 to `MAX_WORKERS`.
@@ -77,7 +77,7 @@ pub struct OutcomeQuery {
 }
 
 /// A run of which the condition's formula has some truth, which is asked for. Files are given by their names.
-#[derive(Debug, Drop)]
+#[derive(Drop)]
 pub struct WitnessQuery {
     pub model: Model,
     /// Show a run whose outcome meets the formula, or one whose outcome does not.
@@ -94,7 +94,7 @@ pub struct WitnessQuery {
 }
 
 /// A list of gaps that is asked for. Files are given by their names.
-#[derive(Debug, Drop)]
+#[derive(Drop)]
 pub struct GapQuery {
     /// The file of the gaps' costs; without one each gap costs 1.
     pub costs: Option<String>,
@@ -104,7 +104,7 @@ pub struct GapQuery {
 }
 
 /// What a command line asks for. `-` as LITMUS is the program's input.
-#[derive(Debug, Drop)]
+#[derive(Drop)]
 pub enum Job {
     /// Replay labels on the program of a litmus file.
     Replay(Run),

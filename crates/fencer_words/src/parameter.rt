@@ -54,7 +54,7 @@ pub struct Models<'a> {
 }
 
 /// A parameter of a command.
-#[derive(Clone, Copy, Debug)]
+#[derive(Clone, Copy)]
 pub enum Parameter {
     Certificate,
     /// `--check` of a placement.

@@ -16,7 +16,7 @@ use thiserror::Error;
 pub const MAX_COST: u32 = 1_000_000;
 
 /// Why a list of numbers is no list of costs, by number and name, with the gap.
-#[derive(Clone, Copy, Debug, PartialEq, Eq, Error)]
+#[derive(Clone, Copy, Debug, Error)]
 pub enum CostFault {
     /// The gap of this number, from 0, costs nothing.
     #[error("gap number {0} costs nothing")]
@@ -55,7 +55,7 @@ impl<T: Drop> From<AllocFailed<T>> for CostFault {
 /// What each gap costs, by the gap's number. The list never changes and is shared by all copies.
 ///
 /// Only `new` and `copy` take memory.
-#[derive(Drop, Debug)]
+#[derive(Drop)]
 pub struct Costs {
     list: Arc<Vec<u32>>,
 }

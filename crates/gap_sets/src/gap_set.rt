@@ -160,7 +160,7 @@ impl Eq for GapSet {
 }
 
 /// The gaps of a set that are still to come, ascending.
-#[derive(Drop, Debug)]
+#[derive(Drop)]
 pub struct Gaps {
     left: u128,
 }

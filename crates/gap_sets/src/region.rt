@@ -7,7 +7,7 @@ use crate::gap_set::GapSet;
 
 /// The sets of gaps that hold each gap of one set and no gap of another. A search for the best set splits regions
 /// until it knows what each holds.
-#[derive(Clone, Copy, Debug)]
+#[derive(Clone, Copy)]
 pub struct Region {
     /// The gaps that each set of the region holds.
     pub must: GapSet,

@@ -17,7 +17,7 @@ pub enum Settling {
 }
 
 /// What became of a settled node.
-#[derive(Clone, Copy, Debug)]
+#[derive(Clone, Copy)]
 pub enum ReceiptEvent {
     /// It was split by a run that passes these gaps.
     Split(GapSet),
@@ -26,7 +26,7 @@ pub enum ReceiptEvent {
 }
 
 /// Says which seat settled which node, and how.
-#[derive(Clone, Copy, Debug)]
+#[derive(Clone, Copy)]
 pub struct Receipt {
     pub seat: u8,
     pub node: Region,
@@ -34,7 +34,7 @@ pub struct Receipt {
 }
 
 /// What there is to do.
-#[derive(Clone, Copy, Debug)]
+#[derive(Clone, Copy)]
 pub enum Next {
     /// The seat holds this node now.
     Work(Region),

@@ -7,7 +7,7 @@ use thiserror::Error;
 
 /// Why a sketch refuses a call. Of several causes the first in the order `NotWhole`,
 /// `NotSameLocation`, `NotASource`, `AlreadyChosen` is reported.
-#[derive(Clone, Copy, PartialEq, Eq, Debug, Error)]
+#[derive(Clone, Copy, Debug, Error)]
 pub enum SketchFault {
     /// Some read has no value yet.
     #[error("some read has no value yet")]

@@ -3,14 +3,14 @@ ghost use Rattle.std.specs.Prelude.{◌≡◌, false, not};
 ghost use Rattle.known_edges.specs.KnownTruths.{joined};
 
 /// What is known of a truth. Both are known of a sketch in which no write may be a location's last.
-#[derive(Clone, Copy, PartialEq, Eq, Debug)]
+#[derive(Clone, Copy)]
 pub struct Knowledge {
     pub is_true: bool,
     pub is_false: bool,
 }
 
 /// What is known of a left operand whose right one is being read.
-#[derive(Clone, Copy, Debug)]
+#[derive(Clone, Copy)]
 pub enum Left {
     OfAnd(Knowledge),
     OfOr(Knowledge),

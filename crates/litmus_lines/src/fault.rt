@@ -2,7 +2,7 @@
 use thiserror::Error;
 
 /// Why the lines before the initial values could not be read, with the line where it shows.
-#[derive(Clone, Copy, PartialEq, Eq, Debug, Error)]
+#[derive(Clone, Copy, Debug, Error)]
 pub enum LineFault {
     /// A line, by its number from 1, that cannot stand where it does.
     #[error("line {0} can't stand before the initial values")]

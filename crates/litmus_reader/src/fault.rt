@@ -9,7 +9,7 @@ use thiserror::Error;
 use tso_program::ProgramFault;
 
 /// Why a litmus text could not be read, with the line where it shows.
-#[derive(Clone, Copy, PartialEq, Eq, Debug, Error)]
+#[derive(Clone, Copy, Debug, Error)]
 pub enum ReadFault {
     /// The first byte that is no UTF-8 stands on this line, as each line here counted from 1.
     #[error("line {0} has a byte that is not UTF-8")]

@@ -10,7 +10,7 @@ use std::alloc::{AllocError, Global};
 use tso_program::Reg;
 
 /// A place that a text asks to be shown: a location by its number, or a register of a thread.
-#[derive(Clone, Copy, PartialEq, Eq, Debug)]
+#[derive(Clone, Copy, Debug)]
 pub enum Observed {
     Location(u32),
     Register(u32, Reg),

@@ -17,7 +17,7 @@ use std::alloc::Global;
 use text_tokens::Token;
 
 /// What a text says before its condition. Names are borrowed from the tokens.
-#[derive(Debug, Drop)]
+#[derive(Drop)]
 pub struct Body<'t> {
     pub entries: Vec<Entry<'t>>,
     pub threads: usize,

@@ -16,7 +16,7 @@ use std::alloc::Global;
 use text_tokens::{Mark, Token, begins};
 
 /// What follows the rows. Names are borrowed from the tokens.
-#[derive(Debug, Drop)]
+#[derive(Drop)]
 pub struct Ending<'t> {
     /// The places behind `locations`, in order, repetitions included.
     pub observed: Vec<Place<'t>>,

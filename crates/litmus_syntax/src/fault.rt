@@ -7,7 +7,7 @@ use std::alloc::{AllocError, AllocFailed};
 use thiserror::Error;
 
 /// The part of a text in which a token cannot stand, or what is wrong with the token itself.
-#[derive(Clone, Copy, Debug, PartialEq, Eq)]
+#[derive(Clone, Copy, Debug)]
 pub enum Part {
     /// What stands before the initial values, or the header row.
     Header,
@@ -30,7 +30,7 @@ pub enum Part {
 }
 
 /// The first token that cannot stand where it does.
-#[derive(Clone, Copy, Debug, PartialEq, Eq)]
+#[derive(Clone, Copy, Debug)]
 pub struct Refusal {
     pub part: Part,
     /// How many tokens are left there, the refused one included; 0 at the end of the tokens.
@@ -38,7 +38,7 @@ pub struct Refusal {
 }
 
 /// Why tokens could not be read.
-#[derive(Clone, Copy, Debug, PartialEq, Eq, Error)]
+#[derive(Clone, Copy, Debug, Error)]
 pub enum SyntaxFault {
     #[error("the tokens are refused: {0:?}")]
     Refused(Refusal),

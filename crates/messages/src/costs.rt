@@ -10,7 +10,7 @@ use text_tokens::{are_digits, line_spaces_len};
 use tso_program::Program;
 
 /// The offsets of what a line of a cost file says, in its text.
-#[derive(Clone, Copy, Debug)]
+#[derive(Clone, Copy)]
 struct Pieces {
     gap: usize,
     cost: usize,

@@ -10,7 +10,7 @@ const WORD_LIMIT: usize = 40;
 pub const STDIN: &str = "<stdin>";
 
 /// What is said about a refusal.
-#[derive(Debug, Drop)]
+#[derive(Drop)]
 pub struct Message {
     /// The file's name, or [`STDIN`].
     pub file: String,

@@ -3,7 +3,7 @@
 use text_tokens::is_white_space;
 
 /// A text with the name of its file, and with the number of its first line.
-#[derive(Clone, Copy, Debug)]
+#[derive(Clone, Copy)]
 pub struct Source<'a> {
     pub name: &'a str,
     pub text: &'a [u8],
@@ -44,7 +44,7 @@ impl<'a> Source<'a> {
 }
 
 /// A line and a column, both from 1. A column is a character of UTF-8.
-#[derive(Clone, Copy, Debug, PartialEq, Eq)]
+#[derive(Clone, Copy)]
 pub(crate) struct Position {
     pub(crate) line: usize,
     pub(crate) column: usize,

@@ -8,7 +8,7 @@ use text_tokens::{
 };
 
 /// A token that can't stand where it does.
-#[derive(Clone, Copy, Debug)]
+#[derive(Clone, Copy)]
 pub(crate) struct Spot<'t> {
     pub(crate) part: Part,
     /// The offset of its first byte.

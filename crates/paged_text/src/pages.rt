@@ -7,7 +7,7 @@ use std::alloc::{AllocError, Global};
 use std::marker::Model;
 
 /// A text in pages: blocks of bytes, one after another.
-#[derive(Debug, Drop)]
+#[derive(Drop)]
 pub struct Pages {
     pages: Vec<Vec<u8>>,
 }

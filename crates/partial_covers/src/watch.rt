@@ -15,7 +15,7 @@ pub trait Watch {
 }
 
 /// Follows nothing.
-#[derive(Clone, Copy, Debug)]
+#[derive(Clone, Copy)]
 pub struct Unwatched;
 
 impl Watch for Unwatched {

@@ -26,7 +26,7 @@ use std::thread::Threads;
 use tso_program::{Program, Shown, ShownKind};
 
 /// Why the gaps of an answer are needed.
-#[derive(Debug, Drop)]
+#[derive(Drop)]
 pub struct WhyText {
     /// What is printed.
     pub lines: Vec<u8>,

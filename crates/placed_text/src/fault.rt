@@ -5,7 +5,7 @@ use thiserror::Error;
 
 /// Why nothing is placed in the program of a text. Where memory runs out, that is `OutOfMemory`, and no inner
 /// fault.
-#[derive(Clone, Copy, Debug, PartialEq, Eq, Error)]
+#[derive(Clone, Copy, Debug, Error)]
 pub enum TextFault {
     /// The text isn't a litmus text.
     #[error("the litmus text: {0}")]

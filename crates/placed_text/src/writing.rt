@@ -12,7 +12,7 @@ use std::alloc::{AllocError, Global};
 use tso_program::{FenceFault, Program, Shown};
 
 /// The texts of what is placed.
-#[derive(Debug, Drop)]
+#[derive(Drop)]
 pub struct PlacedText {
     /// The program with its fences, in canonical text.
     pub program: Vec<u8>,

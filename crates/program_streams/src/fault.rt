@@ -6,7 +6,7 @@ ghost use Rattle.program_streams.specs.FileLines.{file_line};
 use std::alloc::{AllocError, Global};
 
 /// Why a file could not be used.
-#[derive(Clone, Copy, PartialEq, Eq, Debug)]
+#[derive(Clone, Copy)]
 pub enum FileFault {
     /// It can't be opened, a read fails, or there is no memory for its bytes.
     Read,
@@ -17,7 +17,7 @@ pub enum FileFault {
 }
 
 /// A file that could not be read, where `-` is the input.
-#[derive(Clone, Copy, Debug)]
+#[derive(Clone, Copy)]
 pub struct UnreadFile<'a> {
     pub name: &'a str,
     /// The most bytes that are read of it.

@@ -17,7 +17,7 @@ use std::rt::Files;
 pub const TEXT_LIMIT: usize = 1_048_576;
 
 /// What stands in the way of reading a file, as far as the system says.
-#[derive(Clone, Copy, PartialEq, Eq, Debug)]
+#[derive(Clone, Copy)]
 pub enum Obstacle {
     /// There is no such file.
     Missing,

@@ -5,7 +5,7 @@ use std::alloc::AllocError;
 use std::io::{IsTerminal, Stderr};
 
 /// Which searches are reported on.
-#[derive(Clone, Copy, PartialEq, Eq, Debug)]
+#[derive(Clone, Copy)]
 enum Reported {
     Nothing,
     LongSearches,

@@ -8,7 +8,7 @@ ghost use Rattle.program_streams.specs.declared.words.LineFault.TheVariants.{Not
 use std::alloc::{AllocError, AllocFailed, Global};
 
 /// Why a line gives no words.
-#[derive(Clone, Copy, PartialEq, Eq, Debug)]
+#[derive(Clone, Copy)]
 pub enum LineFault {
     NotUtf8,
     OutOfMemory,

@@ -9,7 +9,7 @@ use tso_machine::Step;
 use tso_program::Program;
 
 /// The edges between the events of a run, and a cycle of them that sequential consistency forbids.
-#[derive(Debug, Drop)]
+#[derive(Drop)]
 pub struct Candidate {
     pub(crate) execution: Execution,
     /// Each relation by its nearest pairs.

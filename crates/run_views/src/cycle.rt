@@ -5,7 +5,7 @@ use crate::events::{RunAccess, RunEvent};
 use std::alloc::{AllocError, Global};
 
 /// An edge by which a search reaches an event for the first time.
-#[derive(Clone, Copy, PartialEq, Eq, Debug)]
+#[derive(Clone, Copy)]
 struct Visit {
     edge: Edge,
     /// The number of the visit before it; none where the search starts.

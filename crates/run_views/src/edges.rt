@@ -4,7 +4,7 @@ use crate::events::{Execution, RunAccess, RunEvent, write_before};
 use std::alloc::{AllocError, Global};
 
 /// The relation of which an edge is.
-#[derive(Clone, Copy, PartialEq, Eq, Debug)]
+#[derive(Clone, Copy, PartialEq, Eq)]
 pub enum EdgeRelation {
     ProgramOrder,
     ReadsFrom,
@@ -27,7 +27,7 @@ impl EdgeRelation {
 }
 
 /// A pair of a relation.
-#[derive(Clone, Copy, PartialEq, Eq, Debug)]
+#[derive(Clone, Copy, PartialEq, Eq)]
 pub struct Edge {
     pub from: RunEvent,
     pub to: RunEvent,

@@ -7,7 +7,7 @@ use tso_machine::Step;
 use tso_program::{Action, Program};
 
 /// An event of a candidate execution.
-#[derive(Clone, Copy, PartialEq, Eq, Debug)]
+#[derive(Clone, Copy, PartialEq, Eq)]
 pub enum RunEvent {
     /// The initial write of a location.
     Initial(usize),
@@ -16,7 +16,7 @@ pub enum RunEvent {
 }
 
 /// An instruction that reads or writes memory. XCHG is one access, which does both.
-#[derive(Debug, Drop)]
+#[derive(Drop)]
 pub(crate) struct RunAccess {
     pub(crate) step: usize,
     pub(crate) thread: u8,
@@ -29,7 +29,7 @@ pub(crate) struct RunAccess {
 }
 
 /// A write of a step.
-#[derive(Clone, Copy, PartialEq, Eq, Debug)]
+#[derive(Clone, Copy, PartialEq, Eq)]
 pub(crate) struct Store {
     pub(crate) step: usize,
     thread: u8,
@@ -37,7 +37,7 @@ pub(crate) struct Store {
 }
 
 /// The values that a step reads from a location and writes to it.
-#[derive(Clone, Copy, PartialEq, Eq, Debug)]
+#[derive(Clone, Copy)]
 struct Effect {
     location: usize,
     read: Option<u32>,
@@ -109,7 +109,7 @@ fn last_write(stores: &[Store], location: usize) -> RunEvent {
 }
 
 /// What the steps of a run have done.
-#[derive(Debug, Drop)]
+#[derive(Drop)]
 pub(crate) struct Execution {
     /// The accesses, in the order in which they are executed.
     pub(crate) accesses: Vec<RunAccess>,

@@ -158,7 +158,7 @@ fn push_edges(
 }
 
 /// A graph of the candidate executions of runs, a cluster each.
-#[derive(Debug, Drop)]
+#[derive(Drop)]
 pub struct RunGraph {
     text: Vec<u8>,
     runs: usize,

@@ -24,7 +24,7 @@ use std::alloc::{AllocError, Global};
 use tso_program::{Outcome, Shown};
 
 /// The outcomes that the leaves of a tree may name, by their numbers.
-#[derive(Debug, Drop)]
+#[derive(Drop)]
 pub enum KnownOutcomes<'a> {
     /// These alone. They ascend, and the number of an outcome is its place.
     Closed(&'a [Outcome]),

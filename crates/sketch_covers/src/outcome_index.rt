@@ -19,7 +19,7 @@ use tso_program::Outcome;
 const MOST_NUMBERED: usize = NEAR_RUNS as usize;
 
 /// Outcomes, each with its number and a run: they are looked up in ascending order.
-#[derive(Debug, Drop)]
+#[derive(Drop)]
 pub struct OutcomeIndex {
     /// In the order in which they are found. A tree names an outcome by its number, which is its place here.
     pub outcomes: Vec<Outcome>,

@@ -18,7 +18,7 @@ use std::alloc::{AllocError, Global};
 use std::marker::Model;
 
 /// The tokens of a text, each with the line where it begins; what is unfinished has the line where the text stops.
-#[derive(Debug, Drop)]
+#[derive(Drop)]
 pub struct Tokens {
     tokens: Vec<Token>,
     lines: Vec<u32>,
@@ -47,7 +47,7 @@ impl Tokens {
 }
 
 /// A token as it lies in the text.
-#[derive(Clone, Copy, Debug)]
+#[derive(Clone, Copy)]
 enum Lexeme<'a> {
     Word(&'a [u8]),
     Number(u32),
@@ -55,7 +55,7 @@ enum Lexeme<'a> {
 }
 
 /// What stands at the front of a text, and what follows it: white space or a comment, a token, or neither.
-#[derive(Clone, Copy, Debug)]
+#[derive(Clone, Copy)]
 enum Front<'a> {
     Space(&'a [u8]),
     Token(Lexeme<'a>, &'a [u8]),

@@ -4,7 +4,7 @@ ghost use Rattle.std.specs.Prelude.{◌≡◌};
 ghost use Rattle.text_tokens.specs.Marks.{mark_text};
 
 /// A token of one or two bytes that are neither letters nor digits.
-#[derive(Clone, Copy, Debug, PartialEq, Eq)]
+#[derive(Clone, Copy, Debug)]
 pub enum Mark {
     OpenBrace,
     CloseBrace,
@@ -51,7 +51,7 @@ impl Mark {
 }
 
 /// Why no token stands where one would have to begin.
-#[derive(Clone, Copy, Debug, PartialEq, Eq)]
+#[derive(Clone, Copy, Debug)]
 pub enum Bad {
     /// Digits past 4294967295, or digits with a letter or `_` behind them.
     Number,
@@ -64,7 +64,7 @@ pub enum Bad {
 }
 
 /// A token, with a word of its own.
-#[derive(Debug, Drop)]
+#[derive(Drop)]
 pub enum Token {
     Word(Vec<u8>),
     Number(u32),

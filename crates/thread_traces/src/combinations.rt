@@ -12,7 +12,7 @@ use tso_program::{Local, Program};
 const MOST_TRACES: u64 = 10_000_000;
 
 /// How many combinations of traces there are.
-#[derive(Clone, Copy, PartialEq, Eq, Debug)]
+#[derive(Clone, Copy)]
 pub enum Combinations {
     Exactly(u64),
     /// So many, or more: a thread has more than ten million traces, or the number is past 64 bits.

@@ -23,7 +23,7 @@ impl Label {
 }
 
 /// Which machine runs a program.
-#[derive(Clone, Copy, PartialEq, Eq, Debug)]
+#[derive(Clone, Copy)]
 pub enum Model {
     /// Stores take effect at once.
     Sequential,
@@ -32,7 +32,7 @@ pub enum Model {
 }
 
 /// Why a step isn't possible.
-#[derive(Clone, Copy, PartialEq, Eq, Debug)]
+#[derive(Clone, Copy)]
 pub enum Cause {
     NoSuchThread,
     AtEnd,
@@ -48,7 +48,7 @@ pub(crate) enum StepFault {
 }
 
 /// A store that waits in a buffer.
-#[derive(Clone, Copy, PartialEq, Eq, Debug)]
+#[derive(Clone, Copy)]
 pub struct Pending {
     pub location: u8,
     pub value: u32,

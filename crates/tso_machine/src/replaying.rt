@@ -28,7 +28,7 @@ pub struct Ended {
 }
 
 /// Why labels aren't a run, by number and name. Steps are counted from 0.
-#[derive(Clone, Copy, PartialEq, Eq, Debug, Error)]
+#[derive(Clone, Copy, Debug, Error)]
 pub enum ReplayFault {
     /// The step with this index, from 0, is of a thread that the program hasn't.
     #[error("step {0} is of a thread that the program lacks")]

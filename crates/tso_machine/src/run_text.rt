@@ -13,7 +13,7 @@ use text_tokens::{is_white_space, plain_number_up_to};
 use thiserror::Error;
 
 /// Why a text is no run.
-#[derive(Clone, Copy, Debug, PartialEq, Eq, Error)]
+#[derive(Clone, Copy, Debug, Error)]
 pub enum RunFault {
     /// The word with this index, from 0, is no label.
     #[error("word {0} is not a label")]

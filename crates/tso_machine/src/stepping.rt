@@ -17,14 +17,14 @@ use std::alloc::Global;
 use tso_program::{Items, Local, Program};
 
 /// A thread within a run: its own state, and its stores that wait, the oldest first.
-#[derive(Debug, Drop)]
+#[derive(Drop)]
 pub struct ThreadState {
     pub local: Local,
     pub waiting: Items<Pending>,
 }
 
 /// A step of a run, with its thread before it and after it.
-#[derive(Debug, Drop)]
+#[derive(Drop)]
 pub struct Step {
     pub label: Label,
     pub before: ThreadState,

@@ -6,7 +6,7 @@ use crate::{Instr, REGISTERS, Reg};
 
 /// What belongs to one thread alone: the number of its next instruction, its registers, its zero
 /// flag.
-#[derive(Clone, Copy, PartialEq, Eq, Debug)]
+#[derive(Clone, Copy, Debug)]
 pub struct Local {
     pub place: u8,
     pub registers: [u32; REGISTERS],
@@ -14,7 +14,7 @@ pub struct Local {
 }
 
 /// What a thread does next, each with its own state afterwards.
-#[derive(Clone, Copy, PartialEq, Eq, Debug)]
+#[derive(Clone, Copy, Debug)]
 pub enum Action {
     /// Nothing: the thread is at its end.
     Stop,

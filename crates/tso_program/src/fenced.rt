@@ -18,7 +18,7 @@ use std::sync::Arc;
 use thiserror::Error;
 
 /// Why a program can't be fenced.
-#[derive(Clone, Copy, PartialEq, Eq, Debug, Error)]
+#[derive(Clone, Copy, Debug, Error)]
 pub enum FenceFault {
     /// The least gap of the set that the program lacks, by its number from 0.
     #[error("the program lacks gap number {0}")]

@@ -25,7 +25,7 @@ pub const MAX_ACCESSES: usize = 32;
 pub const MAX_WORKERS: u8 = 32;
 
 /// Why threads and initial values make no program: the first of these that applies.
-#[derive(Clone, Copy, PartialEq, Eq, Debug, Error)]
+#[derive(Clone, Copy, Debug, Error)]
 pub enum ProgramFault {
     #[error("there is no thread")]
     NoThreads,

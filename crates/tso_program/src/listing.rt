@@ -9,7 +9,7 @@ pub struct Thread {
 }
 
 /// Threads, and what the locations hold at first, without limits.
-#[derive(PartialEq, Eq, Debug, Drop)]
+#[derive(Drop)]
 pub struct Listing {
     pub threads: Items<Thread>,
     pub memory: Items<u32>,

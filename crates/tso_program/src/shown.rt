@@ -20,7 +20,7 @@ pub const REGISTER_PLACES: usize = REGISTERS * MAX_THREADS;
 pub const PLACES: usize = REGISTER_PLACES + MAX_LOCATIONS;
 
 /// A set of registers, each of a thread, and of locations. No call of it takes memory.
-#[derive(Clone, Copy, Debug)]
+#[derive(Clone, Copy)]
 pub struct Names {
     /// By their places, of which there are `PLACES`: those of registers by thread and number, then those of
     /// locations.
@@ -56,7 +56,7 @@ pub enum Shown {
 }
 
 /// The kinds of what is shown.
-#[derive(Clone, Copy, Debug)]
+#[derive(Clone, Copy)]
 pub enum ShownKind {
     /// Whole outcomes.
     Whole,

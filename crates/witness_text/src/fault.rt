@@ -9,7 +9,7 @@ use std::alloc::AllocError;
 use thiserror::Error;
 
 /// Why no run of a litmus text's program is shown.
-#[derive(Clone, Copy, PartialEq, Eq, Debug, Error)]
+#[derive(Clone, Copy, Debug, Error)]
 pub enum WitnessFault {
     /// The text isn't a litmus text.
     #[error("{0}")]

@@ -28,7 +28,7 @@ use tso_machine::{Ended, Label, Mode, Model, Step, replay, steps};
 use tso_program::{Program, Shown};
 
 /// What is said of a run of which the condition's formula has some truth, or that there is none.
-#[derive(Debug, Drop)]
+#[derive(Drop)]
 pub struct WitnessText {
     /// What is printed.
     pub lines: Vec<u8>,
