@@ -9,6 +9,7 @@
 #![tactic(auto)]
 
 mod lines;
+mod made_runs;
 mod questions;
 mod refusal;
 mod sketch_steps;

@@ -2,18 +2,15 @@
 //!
 //! A step is a call's name and its arguments, with `:` between them. `1` is the initial write of location 1 and `0.1` is
 //! access 1 of thread 0. Each step prints a line.
-ghost use Rattle.sketches.specs.Known.{HasNoCycle};
 
+use crate::made_runs::push_run;
 use crate::refusal::SolverRefusal;
-use gap_sets::GapSet;
-use run_maker::{MadeRun, make_run, make_run_for};
 use sketches::{Event, Kind, Mode, Sketch};
 use std::alloc::{AllocError, Global};
 use text_calls::{
-    TextRefusal, byte_at, byte_of, gap_set_of, named, number_of, outcome_of, parts_of, push_gaps,
-    push_outcome, split_at_byte, word_at,
+    TextRefusal, byte_at, byte_of, gap_set_of, named, number_of, outcome_of, parts_of,
+    split_at_byte, word_at,
 };
-use tso_machine::replay;
 use tso_program::{Outcome, Program, Shown};
 
 /// A call of a sketch, by its name.
@@ -155,59 +152,6 @@ fn push_cycle(sketch: &Sketch, printed: &mut String) -> Result<(), AllocError> {
     };
     let is_cycle = sketch.is_cycle(kind, events.as_slice());
     write!(printed, "{kind:?} {is_cycle}")
-}
-
-/// The outcome of the run that is made of a sketch, if the run is replayed to it. Answers the gaps that it passes.
-fn push_replayed(
-    alloc: Global,
-    sketch: &Sketch,
-    made: &MadeRun,
-    printed: &mut String,
-) -> Result<GapSet, SolverRefusal> {
-    let (model, gaps) = sketch.mode().model_and_gaps();
-    let ended = replay(
-        alloc,
-        sketch.program(),
-        &gaps,
-        model,
-        made.labels.as_slice(),
-    )?;
-    if ended.outcome != made.outcome {
-        printed.push_str("other")?;
-        return Ok(ended.passed);
-    }
-    push_outcome(&made.outcome, printed)?;
-    Ok(ended.passed)
-}
-
-/// The run that is made for a thread, with the gaps that it passes. If no thread is named, the run that is made.
-fn push_made(
-    alloc: Global,
-    sketch: &Sketch,
-    thread: Option<u8>,
-    printed: &mut String,
-) -> Result<(), SolverRefusal>
-    requires { HasNoCycle sketch.now }
-{
-    let Some(t) = thread else {
-        push_replayed(alloc, sketch, &make_run(alloc, sketch)?, printed)?;
-        return Ok(());
-    };
-    let passed = push_replayed(alloc, sketch, &make_run_for(alloc, sketch, t)?, printed)?;
-    printed.push_str("\npassed ")?;
-    Ok(push_gaps(alloc, &passed, printed)?)
-}
-
-fn push_run(
-    alloc: Global,
-    sketch: &Sketch,
-    thread: Option<u8>,
-    printed: &mut String,
-) -> Result<(), SolverRefusal> {
-    match sketch.find_cycle()? {
-        Some(_) => Ok(printed.push_str("cycle")?),
-        None => push_made(alloc, sketch, thread, printed),
-    }
 }
 
 /// A copy takes the sketch's place.
