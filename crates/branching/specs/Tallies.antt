@@ -65,6 +65,11 @@ pub record TakesThread (s : ProgramSketch) (t : ℕ) (old new : Tally) : Type 0 
   pub kept : KeepsBits old.written new.written
   pub written : (i l v : ℕ) → Writes (access_in s) (At t i) l v → HasBit new.written l v
 
+-- a read of the tally whose value none of its own accesses writes
+pub record IsLostIn (tally : Tally) (r : ReadValue) : Type 0 where
+  pub here : Contains tally.reads.items r
+  pub unwritten : HasBit tally.written r.location r.value → ⊥
+
 -- the read is one of these, and what it reads has no bit in either
 pub record LacksWrite (reads : List ReadValue) (one other : List ℕ) (read : AccessId) : Type 0 where
   pub tallied : ReadValue

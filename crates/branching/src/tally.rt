@@ -5,7 +5,7 @@
 ghost use Rattle.std.specs.Prelude.{◌≡◌, ◌≢◌, ◌<◌, ◌≤◌, ◌↔◌, ◌⊎◌, ◌%◌, ℕ, [], Some, None, IsTrue, IfOk, OnOk, IfSome, slice_index, length};
 ghost use Rattle.bit_rows.specs.Rows.{RowHas};
 ghost use Rattle.bit_rows.specs.declared.row.TheConstants.{ROW_BITS};
-ghost use Rattle.branching.specs.Tallies.{HasBit, IsTallyOf, IsThisThread, IsOther, IsNeither, Joins, TakesAccess, TakesThread, LacksWrite, LacksWriteOfBoth};
+ghost use Rattle.branching.specs.Tallies.{HasBit, IsTallyOf, IsThisThread, IsOther, IsNeither, Joins, TakesAccess, TakesThread, IsLostIn, LacksWrite, LacksWriteOfBoth};
 
 use crate::reads_writes::ReadValue;
 use bit_rows::{ROW_BITS, has, joined, put_rows, with};
@@ -121,6 +121,18 @@ impl Tally {
         Ok(())
     }
 
+    /// The first read whose value no access of the tally writes.
+    pub fn lost(&self) -> Option<ReadValue>
+        ensures { IfSome result (IsLostIn self.now) }
+    {
+        for tallied in &self.reads {
+            if !is_marked(&self.written, tallied.location, tallied.value) {
+                return Some(*tallied);
+            }
+        }
+        None
+    }
+
     /// A read of one of the two tallies that lacks its write in both.
     pub fn lacking(&self, other: &Tally) -> Option<AccessId>
         ensures { IfSome result (LacksWriteOfBoth self.now other.now) }
@@ -128,6 +140,19 @@ impl Tally {
         match lacking_of(&self.reads, &self.written, &other.written) {
             Some(read) => Some(read),
             None => lacking_of(&other.reads, &self.written, &other.written),
+        }
+    }
+
+    /// The same, first of all the lost read of the other tally.
+    pub fn lacking_first(&self, other: &Tally, lost: Option<ReadValue>) -> Option<AccessId>
+        requires { IfSome lost (IsLostIn other.now) }
+        ensures { IfSome result (LacksWriteOfBoth self.now other.now) }
+    {
+        match lost {
+            Some(tallied) if !is_marked(&self.written, tallied.location, tallied.value) => {
+                Some(tallied.read)
+            }
+            _ => self.lacking(other),
         }
     }
 }

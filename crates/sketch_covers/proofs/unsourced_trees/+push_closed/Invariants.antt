@@ -1,6 +1,6 @@
 use Rattle.sketch_covers.proofs.Vocabulary.{Begins, traces}
 use Rattle.sketch_covers.proofs.UnsourcedTrees.{ClosesSome}
-use Rattle.sketch_covers.proofs.unsourced_trees.+push_unsourced.Given as goal
+use Rattle.sketch_covers.proofs.unsourced_trees.+push_closed.Given as goal
 
 -- after the node come trees for the first values
 abbrev pub invariant-loop-next : goal.invariant-loop-next

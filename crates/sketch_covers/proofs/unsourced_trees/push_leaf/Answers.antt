@@ -7,9 +7,9 @@ returns-in_ok-push-in-Some-clause-closes c does s shown outcomes takes =
     let u = c.args.trace.now.sketch in
     let own = c.recall_facts.ensures.lawful in
     let base = takes.base in
-    let whole = whole_merged s u c.args._t takes.lawful base.alone base.there own takes.alike c.requires.full base.full in
+    let whole = whole_merged s u c.args._t takes.lawful base.alone base.there own takes.alike c.requires.trace.full base.full in
     record {
       tree = Source c.in-Some.read NoCover;
-      is = unsourced_cover s u c.args._t takes.lawful base.alone base.there own takes.alike c.args.trace.now.tally c.args.others.now c.requires.tally base.tally shown outcomes takes.registers whole c.in-Some.read c.in-Some.ensures;
+      is = unsourced_cover s u c.args._t takes.lawful base.alone base.there own takes.alike c.args.trace.now.tally c.args.others.now c.requires.trace.tally base.tally shown outcomes takes.registers whole c.in-Some.read c.in-Some.ensures;
       pushed = c.in_ok-push-in-Some.ensures.items;
     }
