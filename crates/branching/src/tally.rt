@@ -143,7 +143,7 @@ impl Tally {
         }
     }
 
-    /// The same, first of all the lost read of the other tally.
+    /// A read of one of the two tallies that lacks its write in both, first of all the lost one of the other tally.
     pub fn lacking_first(&self, other: &Tally, lost: Option<ReadValue>) -> Option<AccessId>
         requires { IfSome lost (IsLostIn other.now) }
         ensures { IfSome result (LacksWriteOfBoth self.now other.now) }
