@@ -32,7 +32,7 @@ loop-next-init t c =
 pub push_closed-requires : goal.push_closed-requires
 push_closed-requires t c = (
   search (rules, views.the_lemmas),
-  (let choices = c.in-Read.choices in
+  ((let choices = c.in-Read.choices in
       let below = c.in-Read.after.items in
       let i = c.loop-next.next-index in
       let item = c.next-item.result in
@@ -40,8 +40,7 @@ push_closed-requires t c = (
       let tree = subst (IsValueTree c.args.t) is c.requires.tree in
       let here = subst (λ (xs : List ValueTree). i < length xs) c.deref-next-items.ensures.value c.loop-next-test.true in
       let at_item = subst (λ (xs : List ValueTree). item ≡ get_or xs i item) c.deref-next-items.ensures.value c.next-item.is in
-      (child_tree c.args.t c.in-Read.sketch choices.items below tree.2 i item (choice.Value 0 0) here at_item).1),
-  c.requires.lost,
+      (child_tree c.args.t c.in-Read.sketch choices.items below tree.2 i item (choice.Value 0 0) here at_item).1), c.requires.lost),
 )
 
 pub loop-next-preserved : goal.loop-next-preserved
