@@ -59,7 +59,7 @@ class Messages(Cases):
         for rows, line in (
             (ROW * 33, "SB.litmus:3: there are more than 32 accesses to memory"),
             ("MFENCE |  ;\n" * 65, "SB.litmus:3: thread 0 has too many instructions"),
-            ("A" * 41 + " |  ;\n", f"SB.litmus:4:1: {'A' * 40}.. is no instruction that is read; these are MOV, XCHG, MFENCE, CMP, JE, JNE and JMP"),
+            ("A" * 41 + " |  ;\n", f"SB.litmus:4:1: {'A' * 40}.. is no instruction that is read; these are MOV, XCHG, MFENCE, CMP, JE, JNE and JMP, and a label ends with `:`"),
         ):
             refused(["outcomes", "SB.litmus"], {**files, "SB.litmus": text % rows.encode()}, line)
         threads = b"X86 t\n{ }\nP0|P1|P2|P3|P4|P5|P6|P7;\n" + b"MFENCE|MFENCE|MFENCE|MFENCE|MFENCE|MFENCE|MFENCE|MFENCE;\n" * 18 + b"exists (true)\n"
@@ -76,3 +76,18 @@ class Messages(Cases):
         """An answer, a bad command line and a call for help say nothing."""
         for words in (["outcomes", "SB.litmus"], ["place", "SB.litmus"], ["--help"], ["place"], ["fencecheck", "SB.litmus", "SB.cert"], ["fencecheck", "SB.litmus"]):
             same(f"nothing is said of {' '.join(words)}", outputs(words, EXAMPLES, b"")[2], b"")
+
+    def test_idle_names(self):
+        """An answer that rests on the condition names what the condition names and no instruction uses; other answers say nothing of it."""
+        location = "the condition names aa, which no instruction reads or writes: it keeps its first value"
+        register = "the condition names 1:EBX, to which thread 1 writes nothing: it keeps its first value"
+        files = example_texts()
+        for condition, said in (("aa=1", location), ("0:EAX=0 /\\ ~(x=1 \\/ aa=0)", location), ("1:EBX=0", register), ("x=1 /\\ 1:EAX=0", "")):
+            text = changed(files["SB.litmus"], b"0:EAX=0 /\\ 1:EAX=0", condition.encode())
+            for words in ("outcomes", "outcomes --json", "witness", "place --condition", "why --condition --json", "place", "place --observed", "gaps"):
+                rests = "--condition" in words or words.startswith(("outcomes", "witness"))
+                line = f"<stdin>: {said}\n".encode() if said and rests else b""
+                status, printed, told = outputs([*words.split(), "-"], EXAMPLES, text)
+                tell(f"{words} of {condition} says {line!r}", status == 0 and told == line, (status, told))
+                with open("/dev/full", "wb") as full:
+                    same(f"{words} of {condition}, where that can't be written", outputs([*words.split(), "-"], EXAMPLES, text, full)[:2], (status, printed))

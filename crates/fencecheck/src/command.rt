@@ -176,8 +176,8 @@ fn is_misused(words: &[String]) -> bool
     words.len() == 1 || words.len() > 3
 }
 
-/// The program: it judges the certificate of the files that the words name, prints the verdict on one line, and
-/// returns its status. With no words it judges what the reader gives. It reads no more of the reader than shows that a
+/// The program: it judges the certificate of the files that the arguments name, prints the verdict on one line, and
+/// returns its status. With no arguments it judges what the reader gives. It reads no more of the reader than shows that a
 /// part of it is too long.
 ///
 /// Status 0 means that the certificate is accepted and the line is written. Status 1 is a refusal, reported on one

@@ -4,13 +4,15 @@ ghost use Rattle.std.specs.Prelude.{◌≡◌};
 
 use crate::refusals::AnswerFault;
 use crate::texts::Texts;
+use fencer_words::Placement;
 use messages::{
-    Message, Source, costs_message, fence_message, file_or_input, litmus_message, replay_message,
-    run_message, unread_message, unwritten_message,
+    Message, Source, costs_message, fence_message, file_or_input, idle_name_message,
+    litmus_message, replay_message, run_message, unread_message, unwritten_message,
 };
 use placed_text::TextFault;
-use program_streams::{FileFault, FileStore, TEXT_LIMIT, UnreadFile};
+use program_streams::{Console, FileFault, FileStore, TEXT_LIMIT, UnreadFile};
 use std::alloc::{AllocError, Global};
+use tso_program::ShownKind;
 use witness_text::WitnessFault;
 
 /// What an answer is asked about: the text of a litmus file, and labels where there are any.
@@ -107,5 +109,34 @@ pub(crate) fn text_fault_advice(
             let text = format!(in alloc; "{fault}")?;
             Message::of_file(alloc, name, text.as_str())
         }
+    }
+}
+
+/// What is said of a name in the condition that no instruction uses, and nothing if there is none.
+fn idle_name_advice(alloc: Global, litmus: &str, text: &[u8]) -> Result<Vec<u8>, AllocError> {
+    match idle_name_message(alloc, file_or_input(litmus), text)? {
+        Some(message) => message.written(alloc),
+        None => Ok(Vec::new(alloc)),
+    }
+}
+
+/// Tells of a name in the condition of a litmus text that no instruction uses, as one that is misspelt.
+pub(crate) fn tell_idle_name<W: Console>(alloc: Global, litmus: &str, text: &[u8], output: &mut W)
+    ensures { W.contents output.new ≡ W.contents output.old }
+{
+    output.tell(idle_name_advice(alloc, litmus, text));
+}
+
+/// The same where the truth of the condition is compared.
+pub(crate) fn tell_idle_name_compared<W: Console>(
+    alloc: Global,
+    asked: &Placement,
+    text: &[u8],
+    output: &mut W,
+)
+    ensures { W.contents output.new ≡ W.contents output.old }
+{
+    if let ShownKind::Condition = asked.kind {
+        tell_idle_name(alloc, asked.litmus.as_str(), text, output);
     }
 }

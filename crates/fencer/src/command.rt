@@ -32,7 +32,7 @@ use std::thread::Threads;
 /// The program's name.
 const NAME: &str = "fencer";
 
-/// What `clap` tells of words that are no command: why, or the help that they call for.
+/// What `clap` says of arguments that are no command: why, or the help that they call for.
 fn error_text(alloc: Global, error: &Error) -> Result<Vec<u8>, AllocError>
     ensures { IfOk result (λ text. EndsLine text.items) }
 {
@@ -66,7 +66,7 @@ fn run_job<T: Threads + Wait + Sync, S: WritableFileStore, R: Read, W: Console>(
     }
 }
 
-/// Does what words ask for, and answers the status.
+/// Does what arguments ask for, and answers the status.
 fn run_words<T: Threads + Wait + Sync, S: WritableFileStore, R: Read, W: Console>(
     rt: &T,
     alloc: Global,
@@ -91,7 +91,7 @@ fn run_words<T: Threads + Wait + Sync, S: WritableFileStore, R: Read, W: Console
     }
 }
 
-/// The program: it does what the words after its name ask for, and answers its status. With no words
+/// The program: it does what its arguments ask for, and answers its status. With no arguments
 /// they are those of the input's first line, separated by spaces, and the rest of the input is `-`. It reads no more of
 /// the input than shows that the line or the litmus file is too long.
 ///
@@ -100,7 +100,7 @@ fn run_words<T: Threads + Wait + Sync, S: WritableFileStore, R: Read, W: Console
 /// wait for one another, and a search for outcomes starts threads; nothing else does either.
 ///
 /// Status 0 means that the whole answer is written, and status 3 that it is and that a check which is asked for finds a fault. Status 1
-/// is a refusal, reported by one line, a writer that fails or takes no byte, and out of memory for the words or for that line, with
+/// is a refusal, reported by one line, a writer that fails or takes no byte, and out of memory for the arguments or for that line, with
 /// nothing written. Status 2 is a bad command line or a call for help, reported on the writer too.
 pub fn run_command<T: Threads + Wait + Sync, S: WritableFileStore, R: Read, W: Console>(
     rt: &T,

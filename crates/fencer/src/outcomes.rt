@@ -11,7 +11,7 @@ ghost use Rattle.litmus_text.specs.Texts.{IsLitmus};
 ghost use Rattle.cover_solver.specs.declared.fault.SolveFault.TheVariants as solve;
 ghost use Rattle.fencer.specs.Outcomes.{listed_kind, list_text as lines_of_list, list_status, run_line_at, ListsOutcomes, ListsRuns, PrintsOutcomes, HasNoList, AreOutcomes, TellsOutcomes};
 
-use crate::advice::{AskedText, unread_advice, unread_litmus};
+use crate::advice::{AskedText, tell_idle_name, unread_advice, unread_litmus};
 use crate::refusals::{AnswerFault, Reply, print_answer};
 use crate::refused::tell_refusal;
 use crate::status::check_status;
@@ -188,7 +188,9 @@ pub fn run_outcomes<T: Threads + Sync, S: FileStore, R: Read, W: Console>(
                 labels: &[],
             };
             let reply = outcomes_reply(rt, alloc, &bytes, asked, output.progress());
-            print_answer(alloc, asked.json, subject, reply, output)
+            let status = print_answer(alloc, asked.json, subject, reply, output);
+            tell_idle_name(alloc, litmus, &bytes, output);
+            status
         }
         Err(fault) => {
             let message = unread_advice(alloc, files, unread_litmus(litmus, fault));

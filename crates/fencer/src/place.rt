@@ -8,7 +8,7 @@ ghost use Rattle.fencer_words.specs.CommandFiles.{name_of};
 ghost use Rattle.fencer.specs.Deliveries.{KeepFilesBut};
 ghost use Rattle.fencer.specs.Placements.{text_fault_line, DeliversTexts, IsJudged, IsPlaced, PrintsPlacement};
 
-use crate::advice::{text_fault_advice, unread_advice};
+use crate::advice::{tell_idle_name_compared, text_fault_advice, unread_advice};
 use crate::delivery::{Answer, deliver};
 use crate::documented::printed;
 use crate::refused::tell_refusal;
@@ -129,7 +129,11 @@ pub fn run_place<T: Threads + Wait + Sync, S: WritableFileStore, R: Read, W: Con
 {
     let costs = asked.costs.as_deref();
     match read_texts(alloc, &*files, asked.litmus.as_str(), costs, input) {
-        Ok(texts) => place_texts(rt, alloc, files, asked, &texts, output),
+        Ok(texts) => {
+            let status = place_texts(rt, alloc, files, asked, &texts, output);
+            tell_idle_name_compared(alloc, asked, &texts.litmus, output);
+            status
+        }
         Err(file) => {
             let message = unread_advice(alloc, &*files, file);
             tell_refusal(

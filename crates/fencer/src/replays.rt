@@ -21,7 +21,7 @@ use std::io::Read;
 use tso_machine::{Ended, Label, Model, ReplayFault, RunFault, read_run, replay};
 use tso_program::{Program, Shown};
 
-/// The label words, each after a space.
+/// The labels, each after a space.
 fn run_text(alloc: Global, words: &[String]) -> Result<Vec<u8>, AllocError>
     ensures { IfOk result (λ text. text.items ≡ label_words_text words.now) }
 {
@@ -33,7 +33,7 @@ fn run_text(alloc: Global, words: &[String]) -> Result<Vec<u8>, AllocError>
     Ok(text)
 }
 
-/// The steps that label words spell.
+/// The steps that labels spell.
 pub(crate) fn steps_of(alloc: Global, words: &[String]) -> Result<Vec<Label>, RunFault>
     ensures found { IfOk result (λ steps. IsRunText (label_words_text words.now) steps.items) }
     ensures err { IfErr result (RunFaultIs (label_words_text words.now)) }
@@ -58,7 +58,7 @@ pub(crate) fn ended_lines(
     Ok(lines)
 }
 
-/// The lines of the run that label words spell in a program. The labels are judged before the replay.
+/// The lines of the run that labels spell in a program. The labels are judged before the replay.
 fn run_lines(
     alloc: Global,
     litmus: &Litmus<Program>,
@@ -76,7 +76,7 @@ fn run_lines(
     }
 }
 
-/// The lines of the run that label words spell in the program that a text spells. The text is judged
+/// The lines of the run that labels spell in the program that a text spells. The text is judged
 /// before the labels.
 fn replay_lines(
     alloc: Global,
@@ -91,7 +91,7 @@ fn replay_lines(
     run_lines(alloc, &litmus, model, labels)
 }
 
-/// Replays label words on the program of a litmus file, prints the answer, and returns the status.
+/// Replays labels on the program of a litmus file, prints the answer, and returns the status.
 pub fn run_replay<S: FileStore, R: Read, W: Console>(
     alloc: Global,
     files: &S,

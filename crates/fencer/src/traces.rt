@@ -106,7 +106,7 @@ struct Said {
     graph: Vec<u8>,
 }
 
-/// The lines of the run that label words spell in a program, its document and its graph. The labels are judged before the
+/// The lines of the run that labels spell in a program, its document and its graph. The labels are judged before the
 /// replay.
 fn run_said(alloc: Global, litmus: &Litmus<Program>, run: &Run) -> Result<Said, AnswerFault>
     ensures run { IfOk result (λ said. OfEachText litmus.now (λ bytes. PrintsTrace run.now.model (label_words_text run.now.labels.items) bytes said.lines.items said.document.items)) }
@@ -130,7 +130,7 @@ fn run_said(alloc: Global, litmus: &Litmus<Program>, run: &Run) -> Result<Said, 
     }
 }
 
-/// The lines of the run that label words spell in the program that a text spells, its document and its graph. The text is
+/// The lines of the run that labels spell in the program that a text spells, its document and its graph. The text is
 /// judged before the labels.
 fn trace_of(alloc: Global, bytes: &[u8], run: &Run) -> Result<Said, AnswerFault>
     ensures run { IfOk result (λ said. PrintsTrace run.now.model (label_words_text run.now.labels.items) bytes.now said.lines.items said.document.items) }
@@ -191,7 +191,7 @@ fn trace_text<S: WritableFileStore, W: Console>(
     }
 }
 
-/// Shows the steps of label words on the program of a litmus file as a table, writes their page and their graph to files if
+/// Shows the steps of labels on the program of a litmus file as a table, writes their page and their graph to files if
 /// they are named, prints the answer, and returns the status.
 pub fn run_trace<S: WritableFileStore, R: Read, W: Console>(
     alloc: Global,

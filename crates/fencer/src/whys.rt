@@ -8,7 +8,7 @@ ghost use Rattle.fencer.specs.Deliveries.{KeepFilesBut};
 ghost use Rattle.fencer_words.specs.CommandFiles.{name_of};
 ghost use Rattle.fencer.specs.Whys.{Explains, IsExplained, IsExplainedText};
 
-use crate::advice::{text_fault_advice, unread_advice};
+use crate::advice::{tell_idle_name_compared, text_fault_advice, unread_advice};
 use crate::delivery::{Answer, deliver};
 use crate::documented::documented;
 use crate::place::text_fault_line;
@@ -105,7 +105,11 @@ pub fn run_why<T: Threads + Wait + Sync, S: WritableFileStore, R: Read, W: Conso
     let litmus = asked.placement.litmus.as_str();
     let costs = asked.placement.costs.as_deref();
     match read_texts(alloc, &*files, litmus, costs, input) {
-        Ok(texts) => explain_texts(rt, alloc, files, asked, &texts, output),
+        Ok(texts) => {
+            let status = explain_texts(rt, alloc, files, asked, &texts, output);
+            tell_idle_name_compared(alloc, &asked.placement, &texts.litmus, output);
+            status
+        }
         Err(file) => {
             let message = unread_advice(alloc, &*files, file);
             tell_refusal(

@@ -8,7 +8,7 @@ ghost use Rattle.witness_text.specs.WitnessTexts.{HasNoWitnessText};
 ghost use Rattle.fencer.specs.Deliveries.{KeepFilesBut};
 ghost use Rattle.fencer.specs.Witnesses.{no_gap_text, witness_line, IsWitnessOf, IsWitnessShown, ShowsWitness};
 
-use crate::advice::{unread_advice, unread_litmus, witness_advice};
+use crate::advice::{tell_idle_name, unread_advice, unread_litmus, witness_advice};
 use crate::delivery::{Answer, deliver};
 use crate::documented::documented;
 use crate::refusals::solve_line;
@@ -107,7 +107,11 @@ pub fn run_witness<S: WritableFileStore, R: Read, W: Console>(
 {
     let litmus = asked.litmus.as_str();
     match named_bytes(alloc, &*files, litmus, input, TEXT_LIMIT) {
-        Ok(bytes) => show_witness(alloc, files, asked, &bytes, output),
+        Ok(bytes) => {
+            let status = show_witness(alloc, files, asked, &bytes, output);
+            tell_idle_name(alloc, litmus, &bytes, output);
+            status
+        }
         Err(fault) => {
             let message = unread_advice(alloc, &*files, unread_litmus(litmus, fault));
             tell_refusal(alloc, asked.json, file_line(alloc, fault), message, output)

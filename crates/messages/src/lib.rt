@@ -1,4 +1,4 @@
-//! What is said to people of a refusal: where it is, what stands there and what could.
+//! What is said to people of a refusal, and of a name that may be misspelt.
 //!
 //! Tables of words without semantics. A message goes to standard error, after the line `refused ..` for
 //! scripts.
@@ -12,6 +12,7 @@ mod certificates;
 mod costs;
 mod fences;
 mod files;
+mod idle_names;
 mod labels;
 mod litmus;
 mod message;
@@ -25,6 +26,7 @@ pub use certificates::{certificate_message, check_message};
 pub use costs::costs_message;
 pub use fences::fence_message;
 pub use files::{unread_message, unwritten_message};
+pub use idle_names::idle_name_message;
 pub use labels::{replay_message, run_message};
 pub use litmus::litmus_message;
 pub use message::{Message, STDIN, file_or_input};

@@ -35,6 +35,8 @@ const FIRST_LINES: &[(&str, &str)] = &[
         "X86\t",
         "is followed by one name without spaces, and nothing else",
     ),
+    ("X86\n", "is followed by a name, as `X86 SB`"),
+    ("X86\r", "is followed by a name, as `X86 SB`"),
     ("x86", "is written X86"),
 ];
 
@@ -116,11 +118,12 @@ fn skipped_message(
             let blanks = line_spaces_len(from(source.text, start));
             let offset = start.saturating_add(blanks);
             let word = word_at(line_of(from(source.text, offset)));
-            let said = "cannot stand here; before `{` stand lines in quotes and lines `NAME=..`";
+            let said =
+                "cannot stand here; initial values come next, `{ }` at least, and before them lines in quotes or `NAME=..`";
             Message::at_word(alloc, source, offset, word, said)
         }
         _ => {
-            let said = "ends before `{`, where initial values begin";
+            let said = "ends before its initial values, which are `{ }` at least";
             Message::at_word(alloc, source, source.text.len(), b"", said)
         }
     }

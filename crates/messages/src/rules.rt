@@ -81,11 +81,11 @@ const INSTRUCTION: &str = "\
 ; # <not_exists> # is not read; a condition is `exists`, `~exists` or `forall`, and a formula
 ; # EXIST EXISTS EXSTS EXITS FORALL FORBID FORBIDDEN ALLOWED REQUIRED NEVER ALWAYS SOMETIMES ASSERT # is not read; a condition is `exists`, `~exists` or `forall`, and a formula
 | ; : # INC DEC ADD SUB AND OR XOR NEG NOT MUL IMUL DIV SHL SHR SAL SAR LEA TEST # is arithmetic, which is not read; MOV, XCHG, MFENCE, CMP, JE, JNE and JMP are
-| ; : # LOCK CMPXCHG XADD # is not read; of locked instructions XCHG is, which is written without LOCK
+| ; : # LOCK CMPXCHG XADD # is not read; the one locked instruction is XCHG, without LOCK (docs/guide.md says what it stands for)
 | ; : # SFENCE LFENCE # is not read; it orders nothing that this machine leaves unordered, so leave it out
 | ; : # JZ JNZ # is not read; write JE or JNE
 | ; : # MOVB MOVW MOVL MOVQ MOVD MOVNTI # is not read; write MOV, which moves 32 bits
-| ; : # <word> # is no instruction that is read; these are MOV, XCHG, MFENCE, CMP, JE, JNE and JMP
+| ; : # <word> # is no instruction that is read; these are MOV, XCHG, MFENCE, CMP, JE, JNE and JMP, and a label ends with `:`
 | ; : # # cannot stand here; a cell is empty, or has labels `NAME:` and an instruction
 # # cannot stand here; after an instruction `|` or `;` does
 ";
@@ -118,7 +118,8 @@ const CONDITION: &str = "\
 = # > # cannot stand here; `a => b` is not read, write `not a \\/ b`
 # => # cannot stand here; `a => b` is not read, write `not a \\/ b`
 # != ! <> < <= > >= == = # cannot stand here; values are compared by `=` alone, write `not x=1` for `x!=1`
-# | & && # cannot stand here; `/\\` is and, `\\/` is or
+# | & && , and or # cannot stand here; `/\\` is and, `\\/` is or
+P0 P1 P2 P3 P4 P5 P6 P7 # : # cannot stand here; a register is written with its thread's number, as `0:EAX`
 = # # is no number; a register or location on both sides (`0:EBX=x`) is not read
 : # # is no register; these are EAX, EBX, ECX, EDX, ESI and EDI
 ( [ ; /\\ \\/ ~ not exists forall # <number> # is no thread of the header row

@@ -1,4 +1,4 @@
-//! The words of a program's own command line.
+//! The arguments of a program's own command line.
 
 ghost use Rattle.std.specs.Prelude.{◌≡◌, IfErr, OnOk};
 ghost use Rattle.program_streams.specs.Streams.{Prints};
@@ -13,7 +13,7 @@ fn words_after_name<R: Env + AllocGlobal>(rt: &R) -> io::Result<Vec<String>> {
     Ok(env::args(rt)?.skip(1).collect(rt.alloc())?)
 }
 
-/// The words after the program's name. If they are not available, the status: 1 where memory runs out, and then
+/// The arguments after the program's name. If they are not available, the status: 1 where memory runs out, and then
 /// nothing is printed; 2 where a word is not UTF-8, and then a line says so.
 pub fn given_words<R: Env + AllocGlobal, W: Write>(
     rt: &R,

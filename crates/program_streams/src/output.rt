@@ -22,7 +22,7 @@ pub fn print<W: Write>(output: &mut W, text: Result<Vec<u8>, AllocError>, status
     }
 }
 
-/// Why the words of a command line aren't read: they are not UTF-8.
+/// Why the arguments of a command line aren't read: they are not UTF-8.
 fn utf8_line(alloc: Global) -> Result<Vec<u8>, AllocError>
     ensures { IfOk result (λ line. line.items ≡ utf8_line) }
 {

@@ -1,4 +1,4 @@
-use Rattle.fencer.proofs.Vocabulary.{string_bytes, file_line, prints_more, IsTold, no_file, AreOutcomes, HasNoList, PrintsOutcomes}
+use Rattle.fencer.proofs.Vocabulary.{sym, string_bytes, file_line, prints_more, IsTold, no_file, AreOutcomes, HasNoList, PrintsOutcomes}
 use Rattle.fencer.proofs.{PrintedRefusals.prints_refusal, Told.told_answer}
 use Rattle.fencer.proofs.outcomes.run_outcomes.Goals as goal
 
@@ -7,10 +7,10 @@ returns-in-Ok-clause-told g c =
     let input = g.R.Read.remaining c.args.input.now in
     let files = g.S.FileStore.held c.args.files.now in
     let asked = c.args.asked.now in
-    prints_more (IsTold c.args.asked.now.json c.outcomes_reply-reply.result) (AreOutcomes asked input files) _ _ c.print_answer.result
+    prints_more (IsTold c.args.asked.now.json c.outcomes_reply-reply.result) (AreOutcomes asked input files) _ _ c.print_answer-status.result
     (told_answer (PrintsOutcomes asked) HasNoList asked.json (string_bytes asked.litmus) input files c.in-Ok.bytes.items (rw c.as_str-litmus.ensures.value at c.in-Ok.ensures.whole) c.outcomes_reply-reply.result
     (rw c.deref-in-Ok.ensures.value at c.outcomes_reply-reply.ensures.list) (rw c.deref-in-Ok.ensures.value at c.outcomes_reply-reply.ensures.refused))
-    c.print_answer.ensures
+    (rw (sym c.tell_idle_name.ensures) at c.print_answer-status.ensures)
 
 pub returns-in-Err-clause-told : goal.returns-in-Err-clause-told
 returns-in-Err-clause-told g c =

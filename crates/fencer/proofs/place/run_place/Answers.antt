@@ -1,10 +1,10 @@
-use Rattle.fencer.proofs.Vocabulary.{refl, option_map, prints_more, file_line, of_texts, no_texts}
+use Rattle.fencer.proofs.Vocabulary.{sym, refl, option_map, prints_more, file_line, of_texts, no_texts}
 use Rattle.fencer.proofs.PrintedRefusals.{prints_refusal}
 use Rattle.fencer.proofs.place.run_place.Goals as goal
 
 pub returns-in-Ok-clause-told : goal.returns-in-Ok-clause-told
 returns-in-Ok-clause-told g c =
-    prints_more _ _ _ _ c.place_texts.result (λ status text is. of_texts c.in-Ok.texts.litmus.items (option_map (λ text. text.items) c.in-Ok.texts.costs) status text (rw (c.as_str.ensures.value, c.as_deref-costs.ensures.value) at c.in-Ok.ensures.texts) is) c.place_texts.ensures.told
+    prints_more _ _ _ _ c.place_texts-status.result (λ status text is. of_texts c.in-Ok.texts.litmus.items (option_map (λ text. text.items) c.in-Ok.texts.costs) status text (rw (c.as_str.ensures.value, c.as_deref-costs.ensures.value) at c.in-Ok.ensures.texts) is) (rw (sym c.tell_idle_name_compared.ensures) at c.place_texts-status.ensures.told)
 
 pub returns-in-Err-clause-told : goal.returns-in-Err-clause-told
 returns-in-Err-clause-told g c =

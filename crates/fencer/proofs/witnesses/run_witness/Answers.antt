@@ -1,10 +1,10 @@
-use Rattle.fencer.proofs.Vocabulary.{refl, prints_more, file_line, of_text, no_text}
+use Rattle.fencer.proofs.Vocabulary.{sym, refl, prints_more, file_line, of_text, no_text}
 use Rattle.fencer.proofs.PrintedRefusals.{prints_refusal}
 use Rattle.fencer.proofs.witnesses.run_witness.Goals as goal
 
 pub returns-in-Ok-clause-told : goal.returns-in-Ok-clause-told
 returns-in-Ok-clause-told g c =
-    prints_more _ _ _ _ c.show_witness.result (λ status text is. of_text c.in-Ok.bytes.items status text (rw c.as_str-litmus.ensures.value at c.in-Ok.ensures.whole) is) (rw c.deref.ensures.value at c.show_witness.ensures.told)
+    prints_more _ _ _ _ c.show_witness-status.result (λ status text is. of_text c.in-Ok.bytes.items status text (rw c.as_str-litmus.ensures.value at c.in-Ok.ensures.whole) is) (rw (c.deref-status.ensures.value, sym c.tell_idle_name.ensures) at c.show_witness-status.ensures.told)
 
 pub returns-in-Err-clause-told : goal.returns-in-Err-clause-told
 returns-in-Err-clause-told g c =

@@ -1,0 +1,110 @@
+//! Names in a condition that no instruction uses, as one that is misspelt.
+
+use crate::message::{Message, shown_word};
+use litmus_reader::{NameTable, location_name, read_litmus, register_name};
+use std::alloc::{AllocError, Global};
+use tso_program::{Atom, Instr, Node, Program, Reg, Thread};
+
+/// That the condition of a litmus text names a location that no instruction reads or writes, or a register to which its
+/// thread writes nothing, with the first such name. `None` if it names none, or the text is not read.
+pub fn idle_name_message(
+    alloc: Global,
+    file: &str,
+    text: &[u8],
+) -> Result<Option<Message>, AllocError> {
+    let Ok(litmus) = read_litmus(alloc, text) else {
+        return Ok(None);
+    };
+    for node in litmus.condition.formula.nodes() {
+        if let Some(atom) = idle_atom(&litmus.program, *node) {
+            let said = said_of_atom(alloc, &litmus.names, atom)?;
+            return Ok(Some(Message::of_file(alloc, file, said.as_str())?));
+        }
+    }
+    Ok(None)
+}
+
+/// The atom of a node, if no instruction uses what it names.
+fn idle_atom(program: &Program, node: Node) -> Option<Atom> {
+    match node {
+        Node::Atom(atom) if is_idle(program.threads(), atom) => Some(atom),
+        _ => None,
+    }
+}
+
+/// Whether no instruction uses what an atom names.
+fn is_idle(threads: &[Thread], atom: Atom) -> bool {
+    match atom {
+        Atom::Location { location, .. } => !is_accessed(threads, location),
+        Atom::Register {
+            thread,
+            register,
+            ..
+        } => match threads.get(thread as usize) {
+            Some(thread) => !is_written(thread, register),
+            None => false,
+        },
+    }
+}
+
+/// Whether some instruction reads or writes the location of this number.
+fn is_accessed(threads: &[Thread], location: u32) -> bool {
+    for thread in threads {
+        if accesses(thread, location) {
+            return true;
+        }
+    }
+    false
+}
+
+fn accesses(thread: &Thread, location: u32) -> bool {
+    for instruction in thread.code.as_slice() {
+        if instruction.location().map(u32::from) == Some(location) {
+            return true;
+        }
+    }
+    false
+}
+
+/// Whether some instruction of the thread writes to the register.
+fn is_written(thread: &Thread, register: Reg) -> bool {
+    for instruction in thread.code.as_slice() {
+        if written_by(*instruction) == Some(register) {
+            return true;
+        }
+    }
+    false
+}
+
+/// The register to which an instruction writes.
+fn written_by(instruction: Instr) -> Option<Reg> {
+    match instruction {
+        Instr::LoadImm(register, _)
+        | Instr::Copy(register, _)
+        | Instr::Load(register, _)
+        | Instr::Xchg(_, register) => Some(register),
+        _ => None,
+    }
+}
+
+/// What is said of an atom that names what no instruction uses.
+fn said_of_atom(alloc: Global, names: &NameTable, atom: Atom) -> Result<String, AllocError> {
+    match atom {
+        Atom::Location { location, .. } => {
+            let name = shown_word(alloc, location_name(names, location as usize))?;
+            format!(in alloc;
+                "the condition names {name}, which no instruction reads or writes: it keeps its first value"
+            )
+        }
+        Atom::Register {
+            thread,
+            register,
+            ..
+        } => {
+            let name = register_name(register);
+            format!(in alloc;
+                "the condition names {thread}:{name}, to which thread {thread} writes nothing: it keeps its first value"
+            )
+        }
+    }
+}
