@@ -126,6 +126,19 @@ class Sources(Cases):
             ran = subprocess.run([os.path.join(TOP, "docs", maker), "--check"], capture_output=True, text=True, timeout=120)
             tell(f"what docs/{maker} makes is committed", ran.returncode == 0, ran.stdout + ran.stderr)
 
+    def test_definitions(self):
+        """docs/trust.md counts the definitions as docs/list-definitions does."""
+        text, all_lines = bytes_of(os.path.join(TOP, "docs", "trust.md")).decode(), 0
+        for names in re.findall(r"`docs/list-definitions ([\w. ]+)`", text):
+            ran = subprocess.run([os.path.join(TOP, "docs", "list-definitions"), *names.split()], capture_output=True, text=True, timeout=120)
+            counts = re.search(r"^(\d+) definitions, (\d+) lines$", ran.stdout, re.M)
+            definitions, lines_of = map(int, counts.groups()) if counts else (0, 0)
+            if " " in names:
+                counted = f"These are {lines_of - all_lines} lines of definitions" in text
+            else:
+                counted, all_lines = f"{definitions} definitions* | | *{lines_of}*" in text, max(all_lines, lines_of)
+            tell(f"docs/trust.md counts what {names} rests on", ran.returncode == 0 and counted, (definitions, lines_of, ran.stderr))
+
     def test_lengths(self):
         """Paragraphs, entries and cells of documents are short, and so is what is promised of each crate."""
         for path in all_documents():
