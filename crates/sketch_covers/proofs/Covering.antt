@@ -1,6 +1,6 @@
 -- Trees for the choices at a node, put after other nodes one by one.
 use Rattle.sketch_covers.proofs.Vocabulary.{◌≡◌, ℕ, ◌+◌, ◌<◌, ◌≤◌, List, [], ◌∷◌, ◌++◌, length, take, drop, get_or, refl, ap, sym, ◌∙◌, subst, arith, append_assoc, append-nil, length-append, take_all, Result, Ok, Err, IfErr, IsErrAnd, remove_range, Outcome}
-use Rattle.sketch_covers.proofs.Vocabulary.{Shown, ProgramSketch, IsLawful, HaveAllRegisters, choice_count, most_choices, AccessId, Node, Cover, Value, Source, Order, Cycle, Known, Choice, OpenChoice, SearchStop, AreChoicesOf, IsOpen, IsCoverAt, IsCoverAfter}
+use Rattle.sketch_covers.proofs.Vocabulary.{Shown, ProgramSketch, IsLawful, HaveAllRegisters, choice_count, most_choices, AccessId, Node, Cover, Cycle, Known, Choice, OpenChoice, SearchStop, AreChoicesOf, IsOpen, IsCoverAt, IsCoverAfter}
 use Rattle.sketch_covers.proofs.Vocabulary.{AreCoversAfter, tree_over, node_over, KeepsNumbers, spell, spell_all, tree_of, IsTree, covers_count, cycle_some, known_some, is_tree, tree_again, spelled_append, child_instead, Pushes, Begins, BeginsIfNew, listed}
 use Rattle.cert_forest.specs.Node.TheVariants as node
 use Rattle.branching.specs.declared.open_choice.OpenChoice.TheVariants as left

@@ -32,15 +32,18 @@ loop-next-init t c =
 pub push_closed-requires : goal.push_closed-requires
 push_closed-requires t c = (
   search (rules, views.the_lemmas),
-  ((let choices = c.in-Read.choices in
-      let below = c.in-Read.after.items in
-      let i = c.loop-next.next-index in
-      let item = c.next-item.result in
-      let is : traces c.args.tree.now ≡ Read c.in-Read.sketch c.in-Read.choices.items (trace_trees (map traces c.in-Read.after.items)) = search (rules, views.the_lemmas, fold-roll-ValueTree Traces trace_node, fold_out-ValueTree Traces trace_node) in
-      let tree = subst (IsValueTree c.args.t) is c.requires.tree in
-      let here = subst (λ (xs : List ValueTree). i < length xs) c.deref-next-items.ensures.value c.loop-next-test.true in
-      let at_item = subst (λ (xs : List ValueTree). item ≡ get_or xs i item) c.deref-next-items.ensures.value c.next-item.is in
-      (child_tree c.args.t c.in-Read.sketch choices.items below tree.2 i item (choice.Value 0 0) here at_item).1), c.requires.lost),
+  (
+    (let choices = c.in-Read.choices in
+        let below = c.in-Read.after.items in
+        let i = c.loop-next.next-index in
+        let item = c.next-item.result in
+        let is : traces c.args.tree.now ≡ Read c.in-Read.sketch c.in-Read.choices.items (trace_trees (map traces c.in-Read.after.items)) = search (rules, views.the_lemmas, fold-roll-ValueTree Traces trace_node, fold_out-ValueTree Traces trace_node) in
+        let tree = subst (IsValueTree c.args.t) is c.requires.tree in
+        let here = subst (λ (xs : List ValueTree). i < length xs) c.deref-next-items.ensures.value c.loop-next-test.true in
+        let at_item = subst (λ (xs : List ValueTree). item ≡ get_or xs i item) c.deref-next-items.ensures.value c.next-item.is in
+        (child_tree c.args.t c.in-Read.sketch choices.items below tree.2 i item (choice.Value 0 0) here at_item).1),
+    c.requires.lost,
+  ),
 )
 
 pub loop-next-preserved : goal.loop-next-preserved
