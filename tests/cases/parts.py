@@ -37,8 +37,20 @@ EXCHANGES = """X86 exchanges
  MOV ECX,[y]  |              |             ;
 exists (0:EAX=2 /\\ 1:EAX=1)
 """
+# each thread's two stores stay in order: 8! / (2! 2! 2! 2!) orders
+ORDERS = """X86 orders
+{ }
+ P0          | P1          | P2          | P3          ;
+ MOV [x],$1  | MOV [x],$1  | MOV [x],$1  | MOV [x],$1  ;
+ MOV [x],$2  | MOV [x],$2  | MOV [x],$2  | MOV [x],$2  ;
+ MOV EAX,[x] | MOV EAX,[x] | MOV EAX,[x] | MOV EAX,[x] ;
+exists (0:EAX=1 /\\ 1:EAX=1)
+"""
+WRITE_ORDERS = 2520
 CUT = 10_000
-PROGRAMS = (("reads", reads(5, 5, 5)), ("two threads", TWO_THREADS), ("exchanges", EXCHANGES))
+CUT_BY_ORDERS = 200_000
+LONG = (("reads", reads(5, 5, 5)), ("two threads", TWO_THREADS), ("exchanges", EXCHANGES))
+PROGRAMS = (*LONG, ("orders", ORDERS))
 
 
 def listed(name, source):
@@ -81,13 +93,17 @@ def placed(name, litmus):
 
 class Parts(Cases):
     def test_cut(self):
-        """The programs are long enough to be cut into parts."""
+        """The programs are long enough to be cut into parts: by the combinations of their traces, or by these times the orders of their writes."""
         with tempfile.TemporaryDirectory() as folder:
             litmus = os.path.join(folder, "made.litmus")
-            for name, text in PROGRAMS:
+            for name, text in LONG:
                 write(litmus, text.encode())
                 count = read_program(litmus).combinations()
                 tell(f"{name} is cut into parts", count >= CUT, count, f"at least {CUT} combinations")
+            write(litmus, ORDERS.encode())
+            count = read_program(litmus).combinations()
+            wanted = f"fewer than {CUT} combinations, and {CUT_BY_ORDERS} with {WRITE_ORDERS} orders"
+            tell("orders is cut into parts", count < CUT and count * WRITE_ORDERS >= CUT_BY_ORDERS, count, wanted)
 
     def test_lists(self):
         """Lists of outcomes with their runs, by 1, 2, 3, 8 and 32 workers, and by the machine."""

@@ -6,13 +6,13 @@ import resource
 import struct
 import tempfile
 
-from cases.parts import EXCHANGES, TWO_THREADS
+from cases.parts import EXCHANGES, ORDERS, TWO_THREADS
 from harness import MODELS, PreloadedCases, example, run, same, tell
 
 WORKERS = 3
 # an equal share of three workers' work is two thirds; a machine with other work may give it to them otherwise
 LEAST_SHARE = 0.1
-LONG = (("two threads", TWO_THREADS), ("exchanges", EXCHANGES))
+LONG = (("two threads", TWO_THREADS), ("exchanges", EXCHANGES), ("orders", ORDERS))
 SHORT = ("SB", "MP", "n6", "IRIW", "nothing")
 # how many threads a command may have at a time: the workers of a hunt, and those that search for them
 COMMANDS = (

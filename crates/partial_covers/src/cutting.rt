@@ -5,13 +5,17 @@ ghost use Rattle.partial_covers.specs.Parts.{IsPartOf};
 ghost use Rattle.branching.specs.Plans.{IsBeforeLast};
 
 use crate::part::SearchPart;
+use crate::write_orders::write_orders;
 use branching::{OpenChoice, Plan, choices_of};
 use sketches::Sketch;
 use std::alloc::{AllocError, Global};
-use tso_program::Shown;
+use tso_program::{Program, Shown};
 
-/// A search of fewer combinations of traces is not cut.
+/// A search of so many combinations of traces is cut.
 const MANY_COMBINATIONS: u64 = 10_000;
+
+/// A search is cut too if its combinations times the orders of its writes are so many.
+const MANY_ORDERED_COMBINATIONS: u64 = 200_000;
 
 /// A search is cut until it has so many parts.
 const ENOUGH_PARTS: usize = 16;
@@ -48,8 +52,14 @@ pub(crate) fn parts_of(
 fn is_cut(sketch: &Sketch, plan: &Plan, shown: &Shown) -> bool {
     match shown {
         Shown::Truth(_) => false,
-        Shown::All | Shown::Only(_) => plan.combinations(sketch) >= MANY_COMBINATIONS,
+        Shown::All | Shown::Only(_) => is_long(plan.combinations(sketch), sketch.program()),
     }
+}
+
+/// Whether a search of so many combinations of a program's traces takes long enough for threads to gain by it.
+fn is_long(combinations: u64, program: &Program) -> bool {
+    combinations >= MANY_COMBINATIONS
+        || combinations.saturating_mul(write_orders(program)) >= MANY_ORDERED_COMBINATIONS
 }
 
 /// The parts, each cut by the values of the next read.

@@ -22,8 +22,14 @@ use std::alloc::{AllocError, Global};
 use std::thread::{self, Threads};
 use tso_program::{Outcome, Shown};
 
-/// So many holes are searched before their trees are put together.
-const BATCH: usize = 256;
+/// So many holes at most are searched before their trees are put together.
+const MOST_AT_ONCE: usize = 256;
+
+/// How many threads a search may use. Other searches may begin and end meanwhile. No clause rests on it.
+pub trait ThreadShare {
+    /// So many threads now; it may change between calls. 0 means 1.
+    fn threads(&self) -> usize;
+}
 
 /// A hole, and what a search finds in its place.
 #[derive(Drop)]
@@ -44,7 +50,8 @@ impl HoleTree {
         self.found = self.tree(alloc, empty, shown, outcomes);
     }
 
-    /// The nodes of a tree over the outcomes.
+    /// The nodes of a tree over the outcomes. The search has a program of its own: threads that count the uses of one program
+    /// wait for each other.
     fn tree(
         &self,
         alloc: Global,
@@ -57,7 +64,7 @@ impl HoleTree {
         ensures tree { IfOk result (λ nodes. Pushes (IsCoverAt (after empty.now self.now.path.items) shown.now outcomes.now) [] nodes.items) }
         ensures stop { IfErr result (StopLacks (asked empty.now.program shown.now) (mode_in empty.now) outcomes.now) }
     {
-        let mut sketch = empty.copy()?;
+        let mut sketch = empty.apart()?;
         choose_all(&mut sketch, &self.path)?;
         let mut nodes = Vec::new(alloc);
         let mut known = KnownOutcomes::Closed(outcomes);
@@ -66,16 +73,15 @@ impl HoleTree {
     }
 }
 
-/// The nodes of a tree for a mode: those of the partial cover, and another tree over the outcomes in place of each hole. At
-/// most so many threads search for these.
-pub(crate) fn fill_by<R: Threads + Sync>(
+/// The nodes of a tree for a mode: those of the partial cover, and another tree over the outcomes in place of each hole.
+/// Threads search for these; `share` says how many, for each row of holes.
+pub(crate) fn fill_by<R: Threads + Sync, S: ThreadShare>(
     rt: &R,
-    threads: usize,
+    share: &S,
     sought: &Search,
     kept: &PartialCover,
     outcomes: &[Outcome],
 ) -> Result<Vec<Node>, SearchStop>
-    requires threads { 0 < threads }
     requires ascend { Ascend outcomes.now }
     requires kept { IsPartialCover sought.now.program.now sought.now.shown.now outcomes.now kept.now }
     ensures tree { IfOk result (λ nodes. Pushes (IsCoverAt (nothing_chosen sought.now.program.now sought.now.mode) sought.now.shown.now outcomes.now) [] nodes.items) }
@@ -88,7 +94,8 @@ pub(crate) fn fill_by<R: Threads + Sync>(
     let mut holes = Vec::new(alloc);
     for i in 0..kept.pieces.len() {
         if holes.is_empty() {
-            holes = holes_from(alloc, &kept.pieces, i)?;
+            let threads = share.threads().max(1);
+            holes = holes_from(alloc, &kept.pieces, i, at_once(i, threads))?;
             search_holes(rt, threads, holes.as_mut_slice(), &empty, sought, outcomes);
         }
         let Some(hole) = holes.pop() else {
@@ -102,12 +109,27 @@ pub(crate) fn fill_by<R: Threads + Sync>(
     Ok(nodes)
 }
 
-/// The next holes of pieces from a place on, the last of them first.
-fn holes_from(alloc: Global, pieces: &[Piece], from: usize) -> Result<Vec<HoleTree>, AllocError>
-    requires { from < length pieces.now }
+/// How many holes the next row has after so many: one for each thread, or as many as there are trees, since a hole that has none
+/// ends the search.
+fn at_once(searched: usize, threads: usize) -> usize
+    requires { 0 < threads }
+    ensures { 0 < result }
+{
+    searched.max(threads).min(MOST_AT_ONCE)
+}
+
+/// The next holes of pieces from a place on, of so many or all, the last of them first.
+fn holes_from(
+    alloc: Global,
+    pieces: &[Piece],
+    from: usize,
+    most: usize,
+) -> Result<Vec<HoleTree>, AllocError>
+    requires within { from < length pieces.now }
+    requires some { 0 < most }
     ensures { IfOk result (λ holes. AreHolesFrom pieces.now from holes.items) }
 {
-    let to = pieces.len().min(from.saturating_add(BATCH));
+    let to = pieces.len().min(from.saturating_add(most));
     let mut holes = Vec::with_capacity(alloc, to - from)?;
     for k in 0..to - from {
         holes.push(HoleTree {

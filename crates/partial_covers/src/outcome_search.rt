@@ -16,7 +16,7 @@ ghost use Rattle.sketch_covers.specs.declared.known_outcomes.KnownOutcomes.TheVa
 
 use crate::covering::Covering;
 use crate::filling::fill;
-use crate::hole_trees::fill_by;
+use crate::hole_trees::{ThreadShare, fill_by};
 use crate::partial_cover::{PartialCover, forget_fillings};
 use crate::searching::{Search, SearchStart};
 use crate::watch::{JoinWatch, Watch};
@@ -112,10 +112,11 @@ pub fn cover_all<W: Watch>(
     Ok(CoverTree::of_nodes(sought.alloc, nodes)?)
 }
 
-/// The same over a closed list, where at most so many threads search for the trees in place of the holes.
-pub fn cover_closed_by<R: Threads + Sync>(
+/// The same over a closed list, where threads search for the trees in place of the holes; `share` says how many, for each row of
+/// holes.
+pub fn cover_closed_by<R: Threads + Sync, S: ThreadShare>(
     rt: &R,
-    workers: u8,
+    share: &S,
     sought: &Search,
     tree: &PartialCover,
     outcomes: &[Outcome],
@@ -125,7 +126,6 @@ pub fn cover_closed_by<R: Threads + Sync>(
     ensures tree { IfOk result (λ tree. IsWholeCover (asked sought.now.program.now sought.now.shown.now) (machine_of_mode sought.now.program.now sought.now.mode) outcomes.now tree) }
     ensures stop { IfErr result (StopLacks (asked sought.now.program.now sought.now.shown.now) (machine_of_mode sought.now.program.now sought.now.mode) outcomes.now) }
 {
-    let threads = usize::from(workers).max(1);
-    let nodes = fill_by(rt, threads, sought, tree, outcomes)?;
+    let nodes = fill_by(rt, share, sought, tree, outcomes)?;
     Ok(CoverTree::of_nodes(sought.alloc, nodes)?)
 }

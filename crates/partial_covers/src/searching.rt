@@ -9,6 +9,7 @@ ghost use Rattle.partial_covers.specs.Parts.{AreFoundIn, AreOwnParts, IsReady, I
 
 use crate::cutting::parts_of;
 use crate::part::{PartCover, SearchPart};
+use crate::part_order::part_order;
 use crate::watch::{PartWatch, Unwatched, Watch};
 use branching::{Plan, plan_for};
 use gap_sets::GapSet;
@@ -44,12 +45,16 @@ struct CutSearch {
     sketch: Sketch,
     plan: Option<Plan>,
     parts: Vec<SearchPart>,
+    /// The places of the parts, in the order in which they are taken.
+    order: Vec<usize>,
 }
 
 /// Parts of a search, of which each thread takes the next.
 #[derive(Drop)]
 struct PartQueue<'a> {
     parts: &'a [SearchPart],
+    /// The places of the parts, in the order in which they are taken.
+    order: &'a [usize],
     taken: AtomicU64,
 }
 
@@ -58,8 +63,9 @@ impl PartQueue<'_> {
     fn take(&self) -> Option<&SearchPart>
         ensures { IfSome result (λ part. Contains self.now.parts.now part.now) }
     {
-        let place = self.taken.fetch_add(1, Ordering::SeqCst);
-        self.parts.get(place as usize)
+        let taken = self.taken.fetch_add(1, Ordering::SeqCst);
+        let place = self.order.get(taken as usize)?;
+        self.parts.get(*place)
     }
 }
 
@@ -71,9 +77,10 @@ pub fn start_alone(sought: &Search) -> Result<SearchStart, AllocError>
         sketch,
         plan,
         parts,
+        order,
     } = cut(sought)?;
     let covers = match &plan {
-        Some(plan) => search_untaken(sought, plan, &queue_of(&parts), &Unwatched),
+        Some(plan) => search_untaken(sought, plan, &queue_of(&parts, &order), &Unwatched),
         None => Vec::new(sought.alloc),
     };
     Ok(SearchStart {
@@ -97,11 +104,12 @@ pub fn start_by<R: Threads + Sync, W: Watch + Sync>(
         sketch,
         plan,
         parts,
+        order,
     } = cut(sought)?;
     let covers = match &plan {
         Some(plan) => {
             let threads = usize::from(workers).min(parts.len()).max(1);
-            search_by(rt, threads, sought, plan, &queue_of(&parts), watch)?
+            search_by(rt, threads, sought, plan, &queue_of(&parts, &order), watch)?
         }
         None => Vec::new(sought.alloc),
     };
@@ -123,19 +131,22 @@ fn cut(sought: &Search) -> Result<CutSearch, AllocError>
         Some(plan) => parts_of(alloc, &sketch, plan, sought.shown)?,
         None => Vec::new(alloc),
     };
+    let order = part_order(alloc, &parts)?;
     Ok(CutSearch {
         sketch,
         plan,
         parts,
+        order,
     })
 }
 
 /// The parts, of which none is taken.
-fn queue_of(parts: &[SearchPart]) -> PartQueue<'_>
+fn queue_of<'a>(parts: &'a [SearchPart], order: &'a [usize]) -> PartQueue<'a>
     ensures { result.parts.now ≡ parts.now }
 {
     PartQueue {
         parts,
+        order,
         taken: AtomicU64::new(0),
     }
 }

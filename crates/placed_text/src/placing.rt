@@ -1,5 +1,5 @@
 //! Fences placed in the program of a text.
-ghost use Rattle.std.specs.Prelude.{◌≡◌, None, IfErr, IfOk, OnOk, length, option_map};
+ghost use Rattle.std.specs.Prelude.{◌≡◌, ◌≤◌, ◌↔◌, None, IfErr, IfOk, OnOk, length, option_map};
 ghost use Rattle.tso_program.specs.Listings.{gap_count};
 ghost use Rattle.tso_program.specs.Fences.{first_missing};
 ghost use Rattle.tso_program.specs.Shown.{asked};
@@ -24,7 +24,10 @@ use std::alloc::{AllocError, Global};
 use std::sync::Wait;
 use std::sync::atomic::AtomicU64;
 use std::thread::Threads;
-use tso_program::{Program, Shown, ShownKind};
+use tso_program::{MAX_WORKERS, Program, Shown, ShownKind};
+
+/// From so many holes on threads share one question at a time.
+const MANY_HOLES: usize = 64;
 
 /// What is placed in a program, and the solver that was asked.
 #[derive(Drop)]
@@ -48,6 +51,19 @@ pub(crate) struct PlacedSource {
     pub(crate) costs: Costs,
     pub(crate) shown: Shown,
     pub(crate) found: SolvedPlacement,
+}
+
+/// How many of these workers ask. One does if questions have many holes, which threads share: others would ask about other sets of
+/// the same cost, in vain where the first serves. A refused number of workers is returned unchanged.
+fn askers(workers: u8, holes: usize) -> u8
+    ensures refused { AreTooFewOrMany result ↔ AreTooFewOrMany workers }
+    ensures most { result ≤ workers }
+{
+    if holes >= MANY_HOLES && workers != 0 && workers <= MAX_WORKERS {
+        1
+    } else {
+        workers
+    }
 }
 
 /// Finds the best set of a program's gaps that serves, by a solver of its outcomes, and reports how many sets are asked about.
@@ -74,7 +90,8 @@ fn placed_by<R: Threads + Wait + Sync>(
         asked: AtomicU64::new(0),
         asking: AtomicU64::new(0),
     };
-    match place(rt, alloc, &watched, table, costs, effort.workers) {
+    let asker_count = askers(effort.workers, solver.hole_count());
+    match place(rt, alloc, &watched, table, costs, asker_count) {
         Ok(placed) => Ok(placed),
         Err(PlaceFault::OutOfMemory) => Err(TextFault::OutOfMemory),
         Err(PlaceFault::Workers) => Err(TextFault::Workers),

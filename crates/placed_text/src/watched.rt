@@ -1,7 +1,7 @@
-//! How far a placement is, reported to people. No clause rests on it.
+//! How threads share the questions of a placement, and how far it is, reported to people. No clause rests on it.
 ghost use Rattle.std.specs.Prelude.{false};
 
-use cover_solver::{Oracle, SolveFault, Solver, Verdict};
+use cover_solver::{Oracle, SolveFault, Solver, ThreadShare, Verdict};
 use gap_sets::{Costs, GapSet};
 use program_streams::Progress;
 use std::alloc::{AllocError, Global};
@@ -44,12 +44,14 @@ impl<R> Watched<'_, R> {
                 .report(asked_line(self.alloc, asked, cost, self.effort.workers));
         }
     }
+}
 
-    /// How many threads a question gets while so many others are asked.
-    fn threads_beside(&self, others: u64) -> u8 {
-        let workers = u64::from(self.effort.workers);
-        let share = workers.checked_div(others.saturating_add(1)).unwrap_or(1);
-        u8::try_from(share.max(1)).unwrap_or(1)
+impl<R> ThreadShare for Watched<'_, R> {
+    /// A part of the workers' threads for each set that is asked about now.
+    fn threads(&self) -> usize {
+        let asking = self.asking.load(Ordering::SeqCst);
+        let share = u64::from(self.effort.workers).checked_div(asking);
+        share.unwrap_or(1) as usize
     }
 }
 
@@ -66,10 +68,8 @@ impl<R: Threads + Sync> Oracle for Watched<'_, R> {
         if self.effort.progress.is_shown() {
             self.report(set);
         }
-        let others = self.asking.fetch_add(1, Ordering::SeqCst);
-        let verdict = self
-            .solver
-            .ask_by(self.rt, self.threads_beside(others), set);
+        self.asking.fetch_add(1, Ordering::SeqCst);
+        let verdict = self.solver.ask_by(self.rt, self, set);
         self.asking.fetch_sub(1, Ordering::SeqCst);
         verdict
     }
