@@ -80,14 +80,17 @@ const ROW: &str = "\
 const INSTRUCTION: &str = "\
 ; # <not_exists> # is not read; a condition is `exists`, `~exists` or `forall`, and a formula
 ; # EXIST EXISTS EXSTS EXITS FORALL FORBID FORBIDDEN ALLOWED REQUIRED NEVER ALWAYS SOMETIMES ASSERT # is not read; a condition is `exists`, `~exists` or `forall`, and a formula
-| ; : # INC DEC ADD SUB AND OR XOR NEG NOT MUL IMUL DIV SHL SHR SAL SAR LEA TEST # is arithmetic, which is not read; MOV, XCHG, MFENCE, CMP, JE, JNE and JMP are
+| ; : # INC DEC ADD SUB AND OR XOR NEG NOT MUL IMUL DIV SHL SHR SAL SAR LEA TEST # is arithmetic, which is not read; write a branch for each value (docs/guide.md)
 | ; : # LOCK CMPXCHG XADD # is not read; the one locked instruction is XCHG, without LOCK (docs/guide.md says what it stands for)
 | ; : # SFENCE LFENCE # is not read; it orders nothing that this machine leaves unordered, so leave it out
-| ; : # JZ JNZ # is not read; write JE or JNE
+| ; : # JZ # is not read; write JE
+| ; : # JNZ # is not read; write JNE
+| ; : # JL JLE JNL JNLE JG JGE JNG JNGE JB JBE JNB JNBE JA JAE JNA JNAE JC JNC JS JNS JO JNO JP JNP # is not read; compare with each value, and jump by JE or JNE
+| ; : # WHILE FOR DO LOOP GOTO IF ELSE REPEAT UNTIL # is no instruction; loops are not read, write a fixed number of tries (docs/guide.md)
 | ; : # MOVB MOVW MOVL MOVQ MOVD MOVNTI # is not read; write MOV, which moves 32 bits
 | ; : # <word> # is no instruction that is read; these are MOV, XCHG, MFENCE, CMP, JE, JNE and JMP, and a label ends with `:`
 | ; : # # cannot stand here; a cell is empty, or has labels `NAME:` and an instruction
-# # cannot stand here; after an instruction `|` or `;` does
+# # cannot stand here; after an instruction `|` or `;` does, at the end of a row `;`
 ";
 
 /// Operands.
@@ -97,7 +100,9 @@ const OPERAND: &str = "\
 [ # # is no location's name; addresses in registers are not read
 $ # # is no number
 JE JNE JMP # # cannot stand here; a jump names a label of its thread
+CMP # [ # cannot stand here; CMP compares registers and numbers, so load the location first, as `MOV EAX,[x]`
 CMP # # is no register; CMP compares a register with a register or a number
+, # [ # cannot stand here; load the location into a register first, as `MOV EAX,[x]`
 , # EAX EBX ECX EDX ESI EDI # cannot stand here; XCHG is `[x],REG` or `REG,[x]`
 MOV XCHG , # <word> # is no register; these are EAX, EBX, ECX, EDX, ESI and EDI, and a location is written `[x]`
 MOV XCHG # # cannot stand here; the first operand is a register or a location `[x]`
@@ -108,7 +113,7 @@ MOV XCHG # # cannot stand here; the first operand is a register or a location `[
 /// Labels, and the names to which jumps lead.
 const LABEL: &str = "\
 # locations exists forall filter not true false # cannot be the name of a label
-JE JNE JMP # # is no label of this thread
+JE JNE JMP # # is no label of this thread; it stands in the thread's own column as `NAME:`, before an instruction or at the end
 # # is a label of this thread already
 ";
 
@@ -117,11 +122,13 @@ const CONDITION: &str = "\
 # filter # is not read; join its formula to that of the condition
 = # > # cannot stand here; `a => b` is not read, write `not a \\/ b`
 # => # cannot stand here; `a => b` is not read, write `not a \\/ b`
+= # = # cannot stand here; `==` is written `=`
 # != ! <> < <= > >= == = # cannot stand here; values are compared by `=` alone, write `not x=1` for `x!=1`
 # | & && , and or # cannot stand here; `/\\` is and, `\\/` is or
 P0 P1 P2 P3 P4 P5 P6 P7 # : # cannot stand here; a register is written with its thread's number, as `0:EAX`
 = # # is no number; a register or location on both sides (`0:EBX=x`) is not read
 : # # is no register; these are EAX, EBX, ECX, EDX, ESI and EDI
+# : # cannot stand here; a register is written with its thread's number, as `0:EAX`, and a value is a number alone
 ( [ ; /\\ \\/ ~ not exists forall # <number> # is no thread of the header row
 ( /\\ \\/ ~ not exists forall # # cannot stand here; `0:EAX=1`, `x=1`, `[x]=1`, `true`, `false`, `not` or `(` does
 locations # # cannot stand here; the list of locations begins with `[`
