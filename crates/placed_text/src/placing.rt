@@ -29,6 +29,9 @@ use tso_program::{MAX_WORKERS, Program, Shown, ShownKind};
 /// From so many holes on threads share one question at a time.
 const MANY_HOLES: usize = 64;
 
+/// The same from so many nodes of a tree on.
+const MANY_NODES: usize = 100_000;
+
 /// What is placed in a program, and the solver that was asked.
 #[derive(Drop)]
 pub(crate) struct SolvedPlacement {
@@ -53,13 +56,15 @@ pub(crate) struct PlacedSource {
     pub(crate) found: SolvedPlacement,
 }
 
-/// How many of these workers ask. One does if questions have many holes, which threads share: others would ask about other sets of
-/// the same cost, in vain where the first serves. A refused number of workers is returned unchanged.
-fn askers(workers: u8, holes: usize) -> u8
+/// How many of these workers ask. One does if questions have many holes, which threads share, or trees many nodes: others would ask
+/// about other sets of the same cost, in vain where the first serves, and make a tree each. A refused number of workers is returned
+/// unchanged.
+fn askers(workers: u8, solver: &Solver) -> u8
     ensures refused { AreTooFewOrMany result ↔ AreTooFewOrMany workers }
     ensures most { result ≤ workers }
 {
-    if holes >= MANY_HOLES && workers != 0 && workers <= MAX_WORKERS {
+    let is_large = solver.hole_count() >= MANY_HOLES || solver.node_count() >= MANY_NODES;
+    if is_large && workers != 0 && workers <= MAX_WORKERS {
         1
     } else {
         workers
@@ -90,7 +95,7 @@ fn placed_by<R: Threads + Wait + Sync>(
         asked: AtomicU64::new(0),
         asking: AtomicU64::new(0),
     };
-    let asker_count = askers(effort.workers, solver.hole_count());
+    let asker_count = askers(effort.workers, solver);
     match place(rt, alloc, &watched, table, costs, asker_count) {
         Ok(placed) => Ok(placed),
         Err(PlaceFault::OutOfMemory) => Err(TextFault::OutOfMemory),
