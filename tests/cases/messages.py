@@ -7,6 +7,7 @@ from harness import EXAMPLES, LIMIT, PROGRAMS, Cases, example, lines, same, tell
 
 FILES = ("SB.litmus", "SB.cert", "n6.litmus")
 ROW = "MOV [x],$1 |  ;\n"
+FAILS = b"fencer: the condition fails without store buffers too: no fence mends it\n"
 ALONE = "is a location of its own, and stands here alone:"
 # three names of locations, of which the second and the third are stored to once; where the message is, and what it says
 NEAR_NAMES = (
@@ -122,3 +123,14 @@ class Messages(Cases):
                 status, _, told = outputs([*words.split(), "-"], EXAMPLES, text)
                 wanted = b"" if words == "gaps" else line
                 tell(f"{words} of {names} says {wanted!r}", (status, told) == (0, wanted), (status, told))
+
+    def test_failures(self):
+        """With `--condition` it is said where a `~exists` or a `forall` fails sequentially, and some sequential run keeps it."""
+        text = example_texts()["SB.litmus"]
+        for formula, both in (("0:EAX=0 /\\ 1:EAX=0", False), ("0:EAX=0", True), ("x=1", False), ("not 1:EAX=1", True)):
+            for quantifier in ("exists", "~exists", "forall"):
+                given = changed(text, b"exists (0:EAX=0 /\\ 1:EAX=0)", f"{quantifier} ({formula})".encode())
+                for words in ("place", "why --observed", "place --condition", "why --condition --json", "place --condition --workers 2"):
+                    status, _, told = outputs([*words.split(), "-"], EXAMPLES, given)
+                    line = FAILS if both and quantifier != "exists" and "--condition" in words else b""
+                    tell(f"{words} of {quantifier} {formula} says {line!r}", (status, told) == (0, line), (status, told))
