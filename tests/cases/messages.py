@@ -7,6 +7,21 @@ from harness import EXAMPLES, LIMIT, PROGRAMS, Cases, example, lines, same, tell
 
 FILES = ("SB.litmus", "SB.cert", "n6.litmus")
 ROW = "MOV [x],$1 |  ;\n"
+FAILS = b"fencer: the condition fails without store buffers too: no fence mends it\n"
+ALONE = "is a location of its own, and stands here alone:"
+# three names of locations, of which the second and the third are stored to once; where the message is, and what it says
+NEAR_NAMES = (
+    ("turn tunr f", "7:6", f"tunr {ALONE} turn is another one"),
+    ("turn turnn f", "7:6", f"turnn {ALONE} turn is another one"),
+    ("turn urn f", "7:6", f"urn {ALONE} turn is another one"),
+    ("turn f tirn", "8:6", f"tirn {ALONE} turn is another one"),
+    ("in f inn", "8:6", f"inn {ALONE} in is another one"),
+    ("turn turn0 turn1", "", ""),
+    ("turn TURN f", "", ""),
+    ("turn tnru trun0", "", ""),
+    ("x y z", "", ""),
+    ("in is f", "", ""),
+)
 
 
 def outputs(words, folder, given, error=subprocess.PIPE):
@@ -41,6 +56,13 @@ def refused(words, files, line):
 def example_texts():
     """The files that stand in the folder of a call."""
     return {name: example(name) for name in FILES}
+
+
+def named(names):
+    """A program of two threads with locations of these names: each loads and stores the first, and the first thread stores to the others."""
+    first, second, third = (name.encode() for name in names.split())
+    rows = b"MOV [%b],$1 | MOV EAX,[%b] ;\nMOV EAX,[%b] | MOV [%b],$2 ;\nMFENCE | ;\nMOV [%b],$1 | ;\nMOV [%b],$1 | ;\n"
+    return b"X86 named\n{ }\nP0 | P1 ;\n" + rows % (first, first, first, first, second, third) + b"~exists (0:EAX=3)\n"
 
 
 class Messages(Cases):
@@ -91,3 +113,24 @@ class Messages(Cases):
                 tell(f"{words} of {condition} says {line!r}", status == 0 and told == line, (status, told))
                 with open("/dev/full", "wb") as full:
                     same(f"{words} of {condition}, where that can't be written", outputs([*words.split(), "-"], EXAMPLES, text, full)[:2], (status, printed))
+
+    def test_near_names(self):
+        """An answer names a location whose name stands once in the text and is close to another's; `gaps` says nothing of it."""
+        for names, place, said in NEAR_NAMES:
+            text = named(names)
+            line = f"<stdin>:{place}: {said}\n".encode() if said else b""
+            for words in ("outcomes", "witness --json", "place", "place --observed --json", "place --condition", "why", "gaps"):
+                status, _, told = outputs([*words.split(), "-"], EXAMPLES, text)
+                wanted = b"" if words == "gaps" else line
+                tell(f"{words} of {names} says {wanted!r}", (status, told) == (0, wanted), (status, told))
+
+    def test_failures(self):
+        """With `--condition` it is said where a `~exists` or a `forall` fails sequentially, and some sequential run keeps it."""
+        text = example_texts()["SB.litmus"]
+        for formula, both in (("0:EAX=0 /\\ 1:EAX=0", False), ("0:EAX=0", True), ("x=1", False), ("not 1:EAX=1", True)):
+            for quantifier in ("exists", "~exists", "forall"):
+                given = changed(text, b"exists (0:EAX=0 /\\ 1:EAX=0)", f"{quantifier} ({formula})".encode())
+                for words in ("place", "why --observed", "place --condition", "why --condition --json", "place --condition --workers 2"):
+                    status, _, told = outputs([*words.split(), "-"], EXAMPLES, given)
+                    line = FAILS if both and quantifier != "exists" and "--condition" in words else b""
+                    tell(f"{words} of {quantifier} {formula} says {line!r}", (status, told) == (0, line), (status, told))

@@ -89,7 +89,8 @@ const INSTRUCTION: &str = "\
 | ; : # WHILE FOR DO LOOP GOTO IF ELSE REPEAT UNTIL # is no instruction; loops are not read, write a fixed number of tries (docs/guide.md)
 | ; : # MOVB MOVW MOVL MOVQ MOVD MOVNTI # is not read; write MOV, which moves 32 bits
 | ; : # <word> # is no instruction that is read; these are MOV, XCHG, MFENCE, CMP, JE, JNE and JMP, and a label ends with `:`
-| ; : # # cannot stand here; a cell is empty, or has labels `NAME:` and an instruction
+| ; # # cannot stand here; a cell is empty, or has labels `NAME:` and an instruction
+: # # cannot stand here; after a label an instruction, `|` or `;` does, at the end of a row `;`
 # # cannot stand here; after an instruction `|` or `;` does, at the end of a row `;`
 ";
 

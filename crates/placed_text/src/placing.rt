@@ -13,7 +13,7 @@ ghost use Rattle.placed_text.specs.TextFaults.{HasNoPlacement, HasNoPlacedText, 
 use crate::TextFault;
 use crate::ahead::report_ahead;
 use crate::reading::{read_gap_costs, read_program, shown_of};
-use crate::watched::{Effort, Watched, report_outcomes};
+use crate::watched::{Effort, Watched, report_failure, report_outcomes};
 use crate::writing::{CertifiedSet, PlacedText, write_placed};
 use cert_pages::write_pages;
 use cover_solver::{SeqTable, SolveFault, Solver, sequential_watched};
@@ -174,6 +174,9 @@ fn placed_in<R: Threads + Wait + Sync>(
     let costs = read_gap_costs(alloc, costs, &source.program)?;
     let shown = shown_of(source, kind)?;
     let found = place_gaps(rt, alloc, &source.program, &shown, &costs, effort)?;
+    let truths = found.placed.certificate.seq_runs.len();
+    let quantifier = source.condition.quantifier;
+    report_failure(alloc, effort.progress, &shown, quantifier, truths);
     Ok(ProgramPlacement {
         costs,
         shown,

@@ -3,10 +3,12 @@ ghost use Rattle.std.specs.Prelude.{false};
 
 use cover_solver::{Oracle, SolveFault, Solver, ThreadShare, Verdict};
 use gap_sets::{Costs, GapSet};
+use litmus_text::Quantifier;
 use program_streams::Progress;
 use std::alloc::{AllocError, Global};
 use std::sync::atomic::{AtomicU64, Ordering};
 use std::thread::Threads;
+use tso_program::Shown;
 
 /// How fences are searched for.
 #[derive(Clone, Copy)]
@@ -94,4 +96,32 @@ pub(crate) fn report_outcomes(alloc: Global, progress: Progress, count: usize) {
 
 fn outcomes_line(alloc: Global, count: usize) -> Result<Vec<u8>, AllocError> {
     Ok(format!(in alloc; "fencer: sequential outcomes: {count}\n")?.into_bytes())
+}
+
+/// Reports that a condition fails on the sequential machine, if its truth is shown and runs of this machine have both truths:
+/// no fence is needed for its verdict then, and none mends it. That is reported where no progress is, too.
+pub(crate) fn report_failure(
+    alloc: Global,
+    progress: Progress,
+    shown: &Shown,
+    quantifier: Quantifier,
+    truths: usize,
+) {
+    if let Shown::Truth(_) = shown {
+        if truths > 1 && !is_exists(quantifier) {
+            progress.asked(true).report(failure_line(alloc));
+        }
+    }
+}
+
+fn is_exists(quantifier: Quantifier) -> bool {
+    match quantifier {
+        Quantifier::Exists => true,
+        Quantifier::NotExists | Quantifier::Forall => false,
+    }
+}
+
+fn failure_line(alloc: Global) -> Result<Vec<u8>, AllocError> {
+    let line = b"fencer: the condition fails without store buffers too: no fence mends it\n";
+    Vec::from_slice(alloc, line)
 }

@@ -1,0 +1,89 @@
+//! Locations whose name stands once in a text and is close to another one, as one that is misspelt.
+
+use crate::message::{Message, shown_word};
+use crate::source::{Source, from};
+use crate::tokens::word_at;
+use litmus_reader::{NameTable, location_name, read_litmus};
+use std::alloc::{AllocError, Global};
+use text_tokens::is_word_byte;
+
+/// The fewest bytes of the longer one of two names that are close: short names are close to each other by chance.
+const LONGER: usize = 3;
+
+/// That the name of a location stands once in a litmus text and is close to another location's, with the first such
+/// name. `None` if there is none, or the text is not read.
+pub fn near_name_message(alloc: Global, source: Source<'_>) -> Result<Option<Message>, AllocError> {
+    let Ok(litmus) = read_litmus(alloc, source.text) else {
+        return Ok(None);
+    };
+    for number in 0..litmus.names.locations() {
+        let name = location_name(&litmus.names, number);
+        if let (Some(near), Some(offset)) = (
+            near_name(&litmus.names, name),
+            only_place(source.text, name),
+        ) {
+            let near = shown_word(alloc, near)?;
+            let said = format!(in alloc;
+                "is a location of its own, and stands here alone: {near} is another one"
+            )?;
+            return Ok(Some(Message::at_word(alloc, source, offset, name, said.as_str())?));
+        }
+    }
+    Ok(None)
+}
+
+/// The first location's name that is close to this one.
+fn near_name<'t>(names: &'t NameTable, name: &[u8]) -> Option<&'t [u8]> {
+    for number in 0..names.locations() {
+        let other = location_name(names, number);
+        if are_near(name, other) {
+            return Some(other);
+        }
+    }
+    None
+}
+
+/// Where a word begins that stands once in a text.
+fn only_place(text: &[u8], name: &[u8]) -> Option<usize> {
+    let mut place = None;
+    let mut begins = true;
+    for (offset, byte) in text.iter().enumerate() {
+        if begins && word_at(from(text, offset)) == name {
+            if place.is_some() {
+                return None;
+            }
+            place = Some(offset);
+        }
+        begins = !is_word_byte(*byte);
+    }
+    place
+}
+
+/// Whether one letter of a name is changed, dropped or added in the other, or two that follow each other are swapped.
+fn are_near(name: &[u8], other: &[u8]) -> bool {
+    let pairs = name.iter().zip(other.iter());
+    let same = pairs.take_while(|pair| pair.0 == pair.1).count();
+    let name_rest = from(name, same);
+    let other_rest = from(other, same);
+    name.len().max(other.len()) >= LONGER && are_rests_near(name_rest, other_rest)
+}
+
+/// The same of what follows the bytes with which both begin.
+fn are_rests_near(name: &[u8], other: &[u8]) -> bool {
+    let name_letter = begins_with_letter(name);
+    let other_letter = begins_with_letter(other);
+    let name_rest = from(name, 1);
+    let other_rest = from(other, 1);
+    (name_letter && name_rest == other)
+        || (other_letter && other_rest == name)
+        || (name_letter && other_letter && (name_rest == other_rest || are_swapped(name, other)))
+}
+
+fn begins_with_letter(name: &[u8]) -> bool {
+    name.iter().take(1).any(|byte| byte.is_ascii_alphabetic())
+}
+
+/// Whether the first two bytes are swapped, and all later ones are the same.
+fn are_swapped(name: &[u8], other: &[u8]) -> bool {
+    name.get(0) == other.get(1) && name.get(1) == other.get(0) && from(name, 2) == from(other, 2)
+}
