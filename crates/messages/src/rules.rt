@@ -83,6 +83,7 @@ const INSTRUCTION: &str = "\
 | ; : # INC DEC ADD SUB AND OR XOR NEG NOT MUL IMUL DIV SHL SHR SAL SAR LEA TEST # is arithmetic, which is not read; write a branch for each value (docs/guide.md)
 | ; : # LOCK CMPXCHG XADD # is not read; the one locked instruction is XCHG, without LOCK (docs/guide.md says what it stands for)
 | ; : # SFENCE LFENCE # is not read; it orders nothing that this machine leaves unordered, so leave it out
+| ; : # PAUSE NOP # is not read; it changes no value and orders nothing, so leave it out
 | ; : # JZ # is not read; write JE
 | ; : # JNZ # is not read; write JNE
 | ; : # JL JLE JNL JNLE JG JGE JNG JNGE JB JBE JNB JNBE JA JAE JNA JNAE JC JNC JS JNS JO JNO JP JNP # is not read; compare with each value, and jump by JE or JNE
