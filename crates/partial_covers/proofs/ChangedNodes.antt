@@ -1,5 +1,5 @@
 -- Trees whose nodes are changed in place.
-use Rattle.partial_covers.proofs.Vocabulary.{◌≡◌, ℕ, ◌+◌, ◌<◌, List, [], ◌∷◌, ◌++◌, map, true, refl, ap, sym, ◌∙◌, inl, inr, nat_lt, cases_Bool, lt-ltb, map-append, NEAR_RUNS, changed, each_changed, changed_node, renumbered_node, Kind, AccessId, cycle_nodes}
+use Rattle.partial_covers.proofs.Vocabulary.{◌≡◌, ℕ, ◌<◌, List, [], ◌∷◌, ◌++◌, map, true, refl, ap, sym, ◌∙◌, inl, inr, nat_lt, cases_Bool, lt-ltb, map-append, NEAR_RUNS, changed, each_changed, changed_node, renumbered_node, Kind, AccessId, cycle_nodes}
 use Rattle.partial_covers.proofs.Vocabulary.{spell, spell_row, known_nodes}
 use Rattle.cert_forest.specs.Node.TheVariants as node
 use Rattle.cert_forest.specs.Trees.{Cover, Value, Source, Order, Cycle, Known, Covers, NoCover, MoreCovers}

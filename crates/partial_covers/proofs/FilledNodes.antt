@@ -1,5 +1,5 @@
 -- Nodes that stand for a partial cover: copies of nodes, and the nodes of other trees in place of the holes.
-use Rattle.partial_covers.proofs.Vocabulary.{◌≡◌, ℕ, suc, ◌+◌, ◌<◌, List, [], ◌∷◌, ◌++◌, get_or, length, map, take, Contains, refl, sym, ap, ◌∙◌, subst, arith, append_assoc, append-nil, take_more, Listing, Outcome, Shown, Mode, machine_of_mode, ProgramSketch}
+use Rattle.partial_covers.proofs.Vocabulary.{nodes_in, ◌≡◌, ℕ, suc, ◌+◌, ◌<◌, List, [], ◌∷◌, ◌++◌, get_or, length, map, take, Contains, refl, sym, ap, ◌∙◌, subst, arith, append_assoc, append-nil, take_more, Listing, Outcome, Shown, Mode, machine_of_mode, ProgramSketch}
 use Rattle.partial_covers.proofs.Vocabulary.{mode_in, nothing_chosen, IsLawful, HaveAllRegisters, choices_few, Node, count_covers, in_mode, first_is_here, later_is_here, Choice, AreValueChoices, MayChoose, next_is_open, PartialCover, Piece, copied_in}
 use Rattle.partial_covers.proofs.Vocabulary.{KeepsNumbers, Item, Has, Lacks, PartialTree, Closed, Values, Hole, PartialTrees, NoPartial, MorePartial, count_partial, spell_partial, spell_partial_row, items_before, items_of, after, IsPartialAfter}
 use Rattle.partial_covers.proofs.Vocabulary.{ArePartialAfter, IsPartialCover, unfenced, Pushes, still_valid, cover_next, covers_none, node_cover, Cover, Value, covers_of, spell, spell_all, IsCoverAt, AreCoversAfter, copied, Filled, changed_node, kind_in}
@@ -68,15 +68,15 @@ module _ (s : ProgramSketch) (shown : Shown) where
 
   -- a piece more: copies, and a tree in place of its hole
   pub more_pieces : (before outcomes : List Outcome) (pieces : List Piece) (i : ℕ) (d : Piece) (old mid new : List Node) → i < length pieces → KeepsNumbers before outcomes
-      → Filled s shown before (items_before (take i pieces)) old → mid ≡ old ++ copied_in s.mode (get_or pieces i d).nodes.items → Pushes (IsCoverAt (after s (get_or pieces i d).path.items) shown outcomes) mid new
+      → Filled s shown before (items_before (take i pieces)) old → mid ≡ old ++ copied_in s.mode (nodes_in (get_or pieces i d).nodes) → Pushes (IsCoverAt (after s (get_or pieces i d).path.items) shown outcomes) mid new
       → Filled s shown outcomes (items_before (take (i + 1) pieces)) new
   more_pieces before outcomes pieces i d old mid new here keeps so copies tree =
       let p = get_or pieces i d in
       let items = items_before (take i pieces) in
-      let copied_too = more_copies outcomes items old mid p.nodes.items (filled_still before outcomes keeps items old so) copies in
-      let all = filled_append outcomes (items ++ map Has p.nodes.items) (Lacks p.path.items p.filling.items ∷ []) mid (spell tree.tree) copied_too (filled_hole outcomes p.path.items p.filling.items tree.tree tree.is) in
+      let copied_too = more_copies outcomes items old mid (nodes_in p.nodes) (filled_still before outcomes keeps items old so) copies in
+      let all = filled_append outcomes (items ++ map Has (nodes_in p.nodes)) (Lacks p.path.items p.filling.items ∷ []) mid (spell tree.tree) copied_too (filled_hole outcomes p.path.items p.filling.items tree.tree tree.is) in
       subst (λ (xs : List Item). Filled s shown outcomes xs new) (sym (ap items_before (take_more pieces i d here) ∙ pieces_pushed (take i pieces) p))
-      (subst (Filled s shown outcomes ((items ++ map Has p.nodes.items) ++ Lacks p.path.items p.filling.items ∷ [])) (sym tree.pushed) all)
+      (subst (Filled s shown outcomes ((items ++ map Has (nodes_in p.nodes)) ++ Lacks p.path.items p.filling.items ∷ [])) (sym tree.pushed) all)
 
   -- ---- it is a tree
 

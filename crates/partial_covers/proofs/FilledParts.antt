@@ -1,5 +1,5 @@
 -- Partial covers whose holes get other fillings.
-use Rattle.partial_covers.proofs.Vocabulary.{◌≡◌, ℕ, suc, List, [], ◌∷◌, ◌++◌, map, refl, sym, ap, ◌∙◌, subst, arith, append_assoc, append-nil, IsCoverAt, Pushes, Outcome, Shown, ProgramSketch, with_chosen, Node, spell, Choice, sketch_with, Piece}
+use Rattle.partial_covers.proofs.Vocabulary.{nodes_in, ◌≡◌, ℕ, suc, List, [], ◌∷◌, ◌++◌, map, refl, sym, ap, ◌∙◌, subst, arith, append_assoc, append-nil, IsCoverAt, Pushes, Outcome, Shown, ProgramSketch, with_chosen, Node, spell, Choice, sketch_with, Piece}
 use Rattle.partial_covers.proofs.Vocabulary.{KeepsNumbers, IsFilling, sequential, AreFilled, IsFilled, Item, Has, Lacks, PartialTree, Closed, Values, Hole, PartialTrees, NoPartial, MorePartial, count_partial, spell_partial, spell_partial_row, items_before}
 use Rattle.partial_covers.proofs.Vocabulary.{after, IsPartialAfter, ArePartialAfter, PushesPartial, PushesPartialAt}
 use Rattle.cert_forest.specs.Node.TheVariants as node
@@ -63,10 +63,10 @@ module _ (root : ProgramSketch) (shown : Shown) (outcomes : List Outcome) where
       let before = items_before ps ++ map Has nodes in
       let now = items_before qs ++ map Has nodes in
       let valid = in_any (after root path) shown outcomes filling (subst (λ (k : ProgramSketch). IsFilling k shown outcomes filling) (after_sequential root path) first.filling) in
-      let one = refills_nodes p.nodes.items (Lacks path p.filling.items ∷ before) (Lacks path filling ∷ now) (filling, now, valid, refl, rest) in
-      subst (λ (xs : List Item). Refills xs ((map Has q.nodes.items ++ Lacks q.path.items filling ∷ items_before qs) ++ map Has nodes)) (sym (append_assoc (map Has p.nodes.items) (Lacks path p.filling.items ∷ items_before ps) (map Has nodes)))
-      (subst (Refills (map Has p.nodes.items ++ Lacks path p.filling.items ∷ before))
-      ((λ i. map Has ((sym first.nodes) i) ++ Lacks ((sym first.path) i) filling ∷ now) ∙ sym (append_assoc (map Has q.nodes.items) (Lacks q.path.items filling ∷ items_before qs) (map Has nodes))) one)
+      let one = refills_nodes (nodes_in p.nodes) (Lacks path p.filling.items ∷ before) (Lacks path filling ∷ now) (filling, now, valid, refl, rest) in
+      subst (λ (xs : List Item). Refills xs ((map Has (nodes_in q.nodes) ++ Lacks q.path.items filling ∷ items_before qs) ++ map Has nodes)) (sym (append_assoc (map Has (nodes_in p.nodes)) (Lacks path p.filling.items ∷ items_before ps) (map Has nodes)))
+      (subst (Refills (map Has (nodes_in p.nodes) ++ Lacks path p.filling.items ∷ before))
+      ((λ i. map Has ((sym first.nodes) i) ++ Lacks ((sym first.path) i) filling ∷ now) ∙ sym (append_assoc (map Has (nodes_in q.nodes)) (Lacks q.path.items filling ∷ items_before qs) (map Has nodes))) one)
   refills_pieces old new nodes filled = absurd (let same = filled.as_many in omega arith)
 
   nodes_first : (xs : List Node) (items new : List Item) → Refills (map Has xs ++ items) new → (others : List Item) × (new ≡ map Has xs ++ others) × Refills items others

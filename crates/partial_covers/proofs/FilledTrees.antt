@@ -5,7 +5,6 @@ use Rattle.std.specs.FinSet as set
 use Rattle.std.specs.Ordering.{nat_cmp}
 use Rattle.tso_machine.specs.declared.mode.Mode as own
 use Rattle.tso_machine.specs.declared.mode.Mode.TheVariants as modes
-use Rattle.cover_judge.specs.declared.choice.Choice.TheVariants as choice
 use Rattle.partial_covers.proofs.TighterTrees.{neat_in_mode, depth_in_mode}
 
 -- the empty set has no gap

@@ -1,5 +1,5 @@
 -- What is known of the holes of a partial cover: the choices of each lead to a sketch in which each read has its value, and its filling is valid there.
-use Rattle.partial_covers.proofs.Vocabulary.{ℕ, zero, suc, ◌<◌, List, [], ◌∷◌, ◌++◌, get_or, length, map, sym, ◌∙◌, subst, arith, append_assoc, Contains, append-nil, Outcome, Shown, IsWhole, ProgramSketch, mode_in, Node, spell, Choice, AreValueChoices}
+use Rattle.partial_covers.proofs.Vocabulary.{nodes_in, ℕ, zero, suc, ◌<◌, List, [], ◌∷◌, ◌++◌, get_or, length, map, sym, ◌∙◌, subst, arith, append_assoc, Contains, append-nil, Outcome, Shown, IsWhole, ProgramSketch, mode_in, Node, spell, Choice, AreValueChoices}
 use Rattle.partial_covers.proofs.Vocabulary.{MayChoose, first_is_here, later_is_here, Piece, Item, Has, Lacks, PartialTree, Closed, Values, Hole, PartialTrees, NoPartial, MorePartial, spell_partial, spell_partial_row, items_before, after, IsPartialAfter}
 use Rattle.partial_covers.proofs.Vocabulary.{ArePartialAfter, PushesPartial, MayChooseAll, unfenced, IsFilling, LeadsToWhole}
 use Rattle.cover_judge.specs.declared.choice.Choice.TheVariants as choice
@@ -33,12 +33,12 @@ module _ (s : ProgramSketch) (shown : Shown) (outcomes : List Outcome) where
   hole_at : (pieces : List Piece) (i : ℕ) (d : Piece) (items : List Item) → i < length pieces → AllLead (items_before pieces ++ items) → IsHole (get_or pieces i d).path.items (get_or pieces i d).filling.items
   hole_at [] i d items here lead = absurd (omega arith)
   hole_at (p ∷ ps) zero d items here lead =
-      (past_nodes p.nodes.items (Lacks p.path.items p.filling.items ∷ (items_before ps ++ items))
-      (subst AllLead (append_assoc (map Has p.nodes.items) (Lacks p.path.items p.filling.items ∷ items_before ps) items) lead)).0
+      (past_nodes (nodes_in p.nodes) (Lacks p.path.items p.filling.items ∷ (items_before ps ++ items))
+      (subst AllLead (append_assoc (map Has (nodes_in p.nodes)) (Lacks p.path.items p.filling.items ∷ items_before ps) items) lead)).0
   hole_at (p ∷ ps) (suc i) d items here lead =
       hole_at ps i d items (omega arith)
-      (past_nodes p.nodes.items (Lacks p.path.items p.filling.items ∷ (items_before ps ++ items))
-      (subst AllLead (append_assoc (map Has p.nodes.items) (Lacks p.path.items p.filling.items ∷ items_before ps) items) lead)).1
+      (past_nodes (nodes_in p.nodes) (Lacks p.path.items p.filling.items ∷ (items_before ps ++ items))
+      (subst AllLead (append_assoc (map Has (nodes_in p.nodes)) (Lacks p.path.items p.filling.items ∷ items_before ps) items) lead)).1
 
   mutual
     tree_leads : (path : List Choice) (tree : PartialTree) (items : List Item) → MayChooseAll s path → IsPartialAfter (unfenced s) shown outcomes path tree → AllLead items → AllLead (spell_partial tree ++ items)

@@ -1,6 +1,7 @@
 -- what many proofs speak of
 mod Vocabulary
 pub mod ReplacedItems
+pub mod JoinedBlocks
 pub mod ChangedNodes
 pub mod PartialNodes
 pub mod PartialRows

@@ -2,8 +2,6 @@
 use Rattle.partial_covers.proofs.Vocabulary.{◌≡◌, ℕ, suc, ◌+◌, ◌<◌, List, [], ◌∷◌, ◌++◌, get_or, length, take, refl, sym, ap, ◌∙◌, subst, append_assoc, take_more, append-nil, Outcome, Shown, ProgramSketch, mode_in, with_chosen, Choice, AreValueChoices}
 use Rattle.partial_covers.proofs.Vocabulary.{sketch_with, KeepsNumbers, Cover, IsCoverAt, IsFilling, Node, sequential, still_valid, Item, Has, PartialTree, Closed, Values, Hole, PartialTrees, NoPartial, MorePartial, partial_of, count_partial, spell_partial}
 use Rattle.partial_covers.proofs.Vocabulary.{spell_partial_row, after, IsPartialAfter, ArePartialAfter, PushesPartial, PushesPartialRow}
-use Rattle.std.specs.FinSet as set
-use Rattle.tso_machine.specs.declared.mode.Mode.TheVariants as modes
 use Rattle.cert_forest.specs.Node.TheVariants as node
 
 -- one choice more

@@ -1,5 +1,5 @@
 -- Parts of a search, while the list of outcomes grows and choices are made, and the cover of one beside the rest.
-use Rattle.partial_covers.proofs.Vocabulary.{◌≡◌, Bool, true, false, ℕ, ◌+◌, ◌<◌, ◌≤◌, List, [], ◌∷◌, ◌++◌, Option, Some, None, get_or, take, drop, length, map, arith, sym, ap, ◌∙◌, subst, All, MatchOption, if◌then◌else◌, append-nil, take_all, drop_all}
+use Rattle.partial_covers.proofs.Vocabulary.{◌≡◌, Bool, true, false, ℕ, ◌<◌, ◌≤◌, List, [], ◌∷◌, ◌++◌, Option, Some, None, get_or, take, drop, length, map, arith, sym, ap, ◌∙◌, subst, All, MatchOption, if◌then◌else◌, append-nil, take_all, drop_all}
 use Rattle.partial_covers.proofs.Vocabulary.{All-nil, All-push, Mode, IsWhole, Outcome, Shown, Question, asked, ProgramSketch, mode_in, with_chosen, NEAR_RUNS, Choice, sketch_with, KnownOutcomes, PartCover, SearchPart, HasNumber, Item, renumbered_item, after}
 use Rattle.partial_covers.proofs.Vocabulary.{PushesPartialAt, StaysOf, LastThread, Plan, IsOfOther, IsLast, IsPartOf, IsPlanned, AreRunsFor, IsMadeAt, IsCoverFor, AreCoversFor, AreOwnParts, AreFoundIn, IfJoined, IsFoundIn, first_sketch, MayChoose}
 use Rattle.partial_covers.proofs.Vocabulary.{MayChooseAll, sequential, Listing, before_next}
@@ -17,6 +17,11 @@ module _ (shown : Shown) (old new : KnownOutcomes) (stays : StaysOf old new) whe
 
   pub covers_still : (s : ProgramSketch) (path : List Choice) (covers : List PartCover) → AreCoversFor s shown old path covers → AreCoversFor s shown new path covers
   covers_still s path covers are i d h = (let p = are i d h in record { root = p.root; leads = p.leads; is = made_still _ _ _ p.is })
+
+-- the cover of the part to whose path it is
+pub made_here : (s : ProgramSketch) (shown : Shown) (outcomes : KnownOutcomes) (path : List Choice) (cover : PartCover) → IsCoverFor s shown outcomes path cover → cover.path.items ≡ path → IsMadeAt s shown outcomes path cover
+made_here s shown outcomes path cover is same =
+    subst (λ (k : ProgramSketch). IsMadeAt k shown outcomes path cover) is.leads (subst (λ (cs : List Choice). IsMadeAt (after is.root cs) shown outcomes cs cover) same is.is)
 
 -- a choice more
 pub covers_after : (s next : ProgramSketch) (shown : Shown) (outcomes : KnownOutcomes) (path : List Choice) (c : Choice) (covers : List PartCover) → next ≡ with_chosen s (sketch_with s.chosen c) → AreCoversFor s shown outcomes path covers

@@ -75,6 +75,7 @@ pub use Rattle.tso_program.specs.declared.shown.Shown.{Shown}
 pub use Rattle.partial_covers.specs.Coverings.{Covers, CoversEach, CoversIf}
 pub use Rattle.partial_covers.specs.Fillings.{IsFilling, sequential}
 pub use Rattle.partial_covers.specs.HoleTrees.{AreFoundFrom, AreHolesFrom, AreSearchedHoles, Filled, IsFoundAfter, StopLacks, copied}
+pub use Rattle.partial_covers.specs.NodeBlocks.{joined, nodes_in}
 pub use Rattle.partial_covers.specs.PartialCovers.{AreEach, AreFilled, ArePartialAfter, Closed, Has, Hole, IsFilled, IsPartialAfter, IsPartialCover, IsPieceRenumbered, Item, Lacks, LeadsToWhole}
 pub use Rattle.partial_covers.specs.PartialCovers.{MayChooseAll, MorePartial, NoPartial, PartialTree, PartialTrees, PushesPartial, PushesPartialAt, PushesPartialRow, Values, after, count_partial}
 pub use Rattle.partial_covers.specs.PartialCovers.{items_before, items_of, partial_of, renumbered_item, spell_partial, spell_partial_row, unfenced}

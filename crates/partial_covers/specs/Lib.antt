@@ -1,3 +1,4 @@
+pub mod NodeBlocks
 pub mod Parts
 pub mod PartialCovers
 pub mod Fillings

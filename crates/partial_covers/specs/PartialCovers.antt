@@ -16,6 +16,7 @@ use Rattle.cover_judge.specs.Choices.{AreValueChoices, MayChoose, sketch_with}
 use Rattle.sketch_covers.specs.NodeChanges.{renumbered_node}
 use Rattle.partial_covers.specs.Fillings.{IsFilling}
 use Rattle.sketch_covers.specs.Covers.{IsCoverAt}
+use Rattle.partial_covers.specs.NodeBlocks.{nodes_in}
 use Rattle.partial_covers.specs.declared.partial_cover.PartialCover.{PartialCover}
 use Rattle.partial_covers.specs.declared.partial_cover.Piece.{Piece}
 
@@ -58,10 +59,10 @@ abbrev mutual
 -- how it lies in memory
 abbrev pub items_before : List Piece → List Item
 items_before [] = []
-items_before (p ∷ ps) = map Has p.nodes.items ++ Lacks p.path.items p.filling.items ∷ items_before ps
+items_before (p ∷ ps) = map Has (nodes_in p.nodes) ++ Lacks p.path.items p.filling.items ∷ items_before ps
 
 abbrev pub items_of : PartialCover → List Item
-items_of kept = items_before kept.pieces.items ++ map Has kept.nodes.items
+items_of kept = items_before kept.pieces.items ++ map Has (nodes_in kept.nodes)
 
 -- a run gets another number
 abbrev pub renumbered_item : (ℕ → ℕ) → Item → Item
@@ -70,7 +71,7 @@ renumbered_item place (Lacks path filling) = Lacks path (map (renumbered_node pl
 
 -- a piece has other numbers, and its path stays
 pub record IsPieceRenumbered (place : ℕ → ℕ) (old new : Piece) : Type 0 where
-  pub nodes : new.nodes.items ≡ map (renumbered_node place) old.nodes.items
+  pub nodes : nodes_in new.nodes ≡ map (renumbered_node place) (nodes_in old.nodes)
   pub path : new.path.items ≡ old.path.items
   pub filling : new.filling.items ≡ map (renumbered_node place) old.filling.items
 
@@ -128,7 +129,7 @@ pub record LeadsToWhole (s : ProgramSketch) (path : List Choice) : Type 0 where
 
 -- the piece is as it was, but for its filling
 pub record IsFilled (s : ProgramSketch) (shown : Shown) (outcomes : List Outcome) (old new : Piece) : Type 0 where
-  pub nodes : new.nodes.items ≡ old.nodes.items
+  pub nodes : nodes_in new.nodes ≡ nodes_in old.nodes
   pub path : new.path.items ≡ old.path.items
   pub filling : IsFilling (after s old.path.items) shown outcomes new.filling.items
 

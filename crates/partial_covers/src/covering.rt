@@ -104,7 +104,12 @@ impl Covering<'_> {
         ensures covers { OnOk result (Covers sketch.now self.old self.new) }
     {
         sketch.recall_facts();
-        if known_leaf(sketch, self.shown, &self.outcomes, &mut self.kept.nodes)? {
+        if known_leaf(
+            sketch,
+            self.shown,
+            &self.outcomes,
+            &mut self.kept.nodes.last,
+        )? {
             watch.done(plan.combinations(sketch), self.outcomes.count());
             return Ok(());
         }
@@ -271,7 +276,7 @@ impl Covering<'_> {
         match trace.tally.lacking(others) {
             Some(read) => {
                 watch.done(1, self.outcomes.count());
-                self.kept.nodes.push(Node::Source { read, count: 0 })?;
+                self.kept.nodes.last.push(Node::Source { read, count: 0 })?;
                 Ok(())
             }
             None => {
@@ -288,13 +293,13 @@ impl Covering<'_> {
         ensures same { sketch.new ≡ sketch.old }
         ensures covers { OnOk result (Covers sketch.old self.old self.new) }
     {
-        let start = self.kept.nodes.len();
+        let start = self.kept.nodes.last.len();
         let covered = cover_whole(
             self.alloc,
             sketch,
             self.shown,
             &mut self.outcomes,
-            &mut self.kept.nodes,
+            &mut self.kept.nodes.last,
         );
         match covered {
             Ok(()) => {
@@ -302,7 +307,7 @@ impl Covering<'_> {
                 Ok(())
             }
             Err(SearchStop::New { run, sketch }) => {
-                self.kept.nodes.truncate(start);
+                self.kept.nodes.last.truncate(start);
                 let run = self.passed.keep(self.alloc, run.labels, sketch)?;
                 let none = Vec::new(self.alloc);
                 self.kept.push_hole(self.alloc, &self.path, run, none)

@@ -7,10 +7,12 @@ ghost use Rattle.sketches.specs.ProgramSketches.{mode_in, nothing_chosen};
 ghost use Rattle.sketch_covers.specs.NodeChanges.{sequential_node, copied_in};
 ghost use Rattle.sketch_covers.specs.Covers.{IsCoverAt};
 ghost use Rattle.partial_covers.specs.Fillings.{IsFilling};
+ghost use Rattle.partial_covers.specs.NodeBlocks.{nodes_in};
 ghost use Rattle.partial_covers.specs.PartialCovers.{IsPartialCover, after, LeadsToWhole, MayChooseAll};
 ghost use Rattle.sketch_covers.specs.KnownOutcomes.{by_number, AreInOrder, Grows, StopIs};
 ghost use Rattle.sketch_covers.specs.Pushing.{Pushes};
 
+use crate::node_blocks::NodeBlocks;
 use crate::partial_cover::{PartialCover, Piece};
 use crate::searching::Search;
 use crate::watch::Watch;
@@ -96,14 +98,24 @@ pub(crate) fn choose_all(sketch: &mut Sketch, choices: &[Choice]) -> Result<(), 
 /// Puts copies of the nodes for a mode after others: the known edges of the sequential machine are of one kind.
 pub(crate) fn push_copies(
     nodes: &mut Vec<Node>,
-    kept: &[Node],
+    kept: &NodeBlocks,
     mode: Mode,
 ) -> Result<(), AllocError>
-    ensures { OnOk result (nodes.new.items ≡ nodes.old.items ++ copied_in mode kept.now) }
+    ensures { OnOk result (nodes.new.items ≡ nodes.old.items ++ copied_in mode (nodes_in kept.now)) }
+{
+    for block in &kept.blocks {
+        push_block(nodes, block, &mode)?;
+    }
+    push_block(nodes, &kept.last, &mode)
+}
+
+/// The same of one block.
+fn push_block(nodes: &mut Vec<Node>, block: &[Node], mode: &Mode) -> Result<(), AllocError>
+    ensures { OnOk result (nodes.new.items ≡ nodes.old.items ++ copied_in mode.now block.now) }
 {
     match mode {
-        Mode::Sequential => push_in_sequence(nodes, kept),
-        Mode::Fenced(_) => nodes.extend_from_slice(kept),
+        Mode::Sequential => push_in_sequence(nodes, block),
+        Mode::Fenced(_) => nodes.extend_from_slice(block),
     }
 }
 

@@ -16,6 +16,7 @@ mod filling;
 mod hole_run;
 mod hole_trees;
 mod joining;
+mod node_blocks;
 mod outcome_search;
 mod pair_covers;
 mod part;
@@ -29,6 +30,7 @@ mod write_orders;
 
 pub use hole_run::HoleRun;
 pub use hole_trees::ThreadShare;
+pub use node_blocks::NodeBlocks;
 pub use outcome_search::{OutcomeCover, all_outcomes, cover_all, cover_closed_by};
 pub use part::PartCover;
 pub use partial_cover::{PartialCover, Piece};

@@ -104,12 +104,12 @@ impl Covering<'_> {
         let others = pair
             .rest
             .with_thread(self.alloc, pair.thread, &trace.tally)?;
-        let start = self.kept.nodes.len();
-        if push_unsourced(&mut self.kept.nodes, &others, last.thread, &last.tree)? {
+        let start = self.kept.nodes.last.len();
+        if push_unsourced(&mut self.kept.nodes.last, &others, last.thread, &last.tree)? {
             watch.done(last.traces, self.outcomes.count());
             return Ok(());
         }
-        self.kept.nodes.truncate(start);
+        self.kept.nodes.last.truncate(start);
         let merged = pair.sketch.with_thread(pair.thread, &trace.sketch)?;
         self.cover_traces(&merged, &others, last.thread, &last.tree, watch)
     }

@@ -4,13 +4,14 @@ ghost use Rattle.cert_forest.specs.Node.TheVariants as node;
 ghost use Rattle.tso_program.specs.declared.outcome.Outcome.{Outcome as OutcomeValue};
 ghost use Rattle.tso_program.specs.declared.shown.Shown.{Shown as ShownValue};
 ghost use Rattle.sketches.specs.ProgramSketches.{ProgramSketch};
+ghost use Rattle.partial_covers.specs.NodeBlocks.{nodes_in};
 ghost use Rattle.partial_covers.specs.PartialCovers.{items_of, AreFilled, Has, IsFilled, Lacks};
 
 use crate::hole_run::HoleRun;
+use crate::node_blocks::NodeBlocks;
 use cert_forest::Node;
 use cover_judge::Choice;
 use std::alloc::{AllocError, Global};
-use std::mem;
 
 /// A cover tree over the values of all reads with no gap fenced, but for its holes.
 #[derive(Drop)]
@@ -18,7 +19,7 @@ pub struct PartialCover {
     /// The nodes up to each hole, in order.
     pub pieces: Vec<Piece>,
     /// The nodes after the last hole.
-    pub nodes: Vec<Node>,
+    pub nodes: NodeBlocks,
     /// How many nodes the sequential machine's tree has, once it is made; 0 before. Other trees have about as many.
     pub filled_count: usize,
 }
@@ -26,7 +27,7 @@ pub struct PartialCover {
 /// Nodes, and a hole after them: a place where a tree lacks. Each read has its value there.
 #[derive(Drop)]
 pub struct Piece {
-    pub nodes: Vec<Node>,
+    pub nodes: NodeBlocks,
     /// The values that lead to the hole.
     pub path: Vec<Choice>,
     /// None where the run of a hole before passes only gaps that this hole's run passes too.
@@ -42,7 +43,7 @@ impl PartialCover {
     {
         PartialCover {
             pieces: Vec::new(alloc),
-            nodes: Vec::new(alloc),
+            nodes: NodeBlocks::none(alloc),
             filled_count: 0,
         }
     }
@@ -53,7 +54,7 @@ impl PartialCover {
         ensures { OnOk result (items_of self.new ≡ items_of self.old ++ Has (node.Value thread choices) ∷ []) }
     {
         let count = choices as u32;
-        self.nodes.push(Node::Value { thread, count })?;
+        self.nodes.last.push(Node::Value { thread, count })?;
         Ok(())
     }
 
@@ -68,8 +69,8 @@ impl PartialCover {
         ensures { OnOk result (items_of self.new ≡ items_of self.old ++ Lacks path.now filling.items ∷ []) }
     {
         let path = Vec::from_slice(alloc, path)?;
-        self.nodes.shrink_to_fit();
-        let nodes = mem::replace(&mut self.nodes, Vec::new(alloc));
+        self.nodes.shrink();
+        let nodes = self.nodes.take(alloc);
         self.pieces.push(Piece {
             nodes,
             path,
@@ -79,7 +80,7 @@ impl PartialCover {
         Ok(())
     }
 
-    /// Puts the cover of a part after the rest.
+    /// Puts the cover of a part after the rest. No node is copied: those before and after the holes stay as they lie in memory.
     pub(crate) fn append(&mut self, alloc: Global, part: PartialCover) -> Result<(), AllocError>
         ensures { OnOk result (items_of self.new ≡ items_of self.old ++ items_of part) }
     {
@@ -87,55 +88,44 @@ impl PartialCover {
         for piece in pieces {
             self.push_piece(alloc, piece)?;
         }
-        self.nodes.extend_from_slice(&nodes)
-    }
-
-    /// Puts a piece after the nodes. It is copied only where nodes stand before it.
-    fn push_piece(&mut self, alloc: Global, piece: Piece) -> Result<(), AllocError>
-        ensures { OnOk result (items_of self.new ≡ items_of self.old ++ map Has piece.nodes.items ++ Lacks piece.path.items piece.filling.items ∷ []) }
-    {
-        if self.nodes.is_empty() {
-            self.move_piece(piece)
-        } else {
-            self.copy_piece(alloc, piece)
-        }
-    }
-
-    /// Puts a piece after the others, as it lies in memory.
-    fn move_piece(&mut self, piece: Piece) -> Result<(), AllocError>
-        requires { self.old.nodes.items ≡ [] }
-        ensures { OnOk result (items_of self.new ≡ items_of self.old ++ map Has piece.nodes.items ++ Lacks piece.path.items piece.filling.items ∷ []) }
-    {
-        self.pieces.push(piece)?;
-        Ok(())
+        self.nodes.append(alloc, nodes)?;
+        // A node that comes next would make a list of many nodes grow.
+        self.nodes.end_block(alloc)
     }
 
     /// Puts a piece after the nodes, with these before its own.
-    fn copy_piece(&mut self, alloc: Global, piece: Piece) -> Result<(), AllocError>
-        ensures { OnOk result (items_of self.new ≡ items_of self.old ++ map Has piece.nodes.items ++ Lacks piece.path.items piece.filling.items ∷ []) }
+    fn push_piece(&mut self, alloc: Global, piece: Piece) -> Result<(), AllocError>
+        ensures { OnOk result (items_of self.new ≡ items_of self.old ++ map Has (nodes_in piece.nodes) ++ Lacks piece.path.items piece.filling.items ∷ []) }
     {
         let Piece {
-            nodes,
+            nodes: own,
             path,
             run,
             filling,
         } = piece;
-        self.nodes.extend_from_slice(&nodes)?;
-        self.push_hole(alloc, &path, run, filling)
+        let mut nodes = self.nodes.take(alloc);
+        nodes.append(alloc, own)?;
+        self.pieces.push(Piece {
+            nodes,
+            path,
+            run,
+            filling,
+        })?;
+        Ok(())
     }
 
     /// Gives back the memory that the last nodes do not need.
     pub(crate) fn shrink(&mut self)
         ensures { items_of self.new ≡ items_of self.old }
     {
-        self.nodes.shrink_to_fit();
+        self.nodes.shrink();
     }
 
     /// How many nodes there are, with those of the fillings.
     pub(crate) fn count(&self) -> usize {
-        let mut count = self.nodes.len();
+        let mut count = self.nodes.count();
         for piece in &self.pieces {
-            count = count.saturating_add(piece.nodes.len());
+            count = count.saturating_add(piece.nodes.count());
             count = count.saturating_add(piece.filling.len());
         }
         count
@@ -144,7 +134,20 @@ impl PartialCover {
     /// Room for the nodes of a tree in which the holes are filled. A list that outgrows its room lies twice in memory.
     pub(crate) fn room(&self) -> usize {
         let count = self.count().max(self.filled_count);
+        if self.is_filled() {
+            return count;
+        }
         count.saturating_add(count / 8)
+    }
+
+    /// Whether each hole has its filling.
+    fn is_filled(&self) -> bool {
+        for piece in &self.pieces {
+            if piece.filling.is_empty() {
+                return false;
+            }
+        }
+        true
     }
 }
 

@@ -11,7 +11,7 @@ pub fn renumber_partial(kept: &mut PartialCover, places: &[u32])
     ensures { items_of kept.new ≡ map (renumbered_item (place_in places.now)) (items_of kept.old) }
 {
     renumber_pieces(&mut kept.pieces, places);
-    renumber(&mut kept.nodes, places);
+    kept.nodes.renumber(places);
 }
 
 fn renumber_pieces(pieces: &mut Vec<Piece>, places: &[u32])
@@ -25,6 +25,6 @@ fn renumber_pieces(pieces: &mut Vec<Piece>, places: &[u32])
 fn renumber_piece(piece: &mut Piece, places: &[u32])
     ensures { IsPieceRenumbered (place_in places.now) piece.old piece.new }
 {
-    renumber(&mut piece.nodes, places);
+    piece.nodes.renumber(places);
     renumber(&mut piece.filling, places);
 }

@@ -1,4 +1,4 @@
-use Rattle.partial_covers.proofs.Vocabulary.{◌≡◌, ◌<◌, ◌≤◌, List, [], ◌++◌, get_or, length, sym, ap, ◌∙◌, subst, take_all, asked, IsLawful, ProgramSketch, mode_in, nothing_chosen, HaveAllRegisters, Piece, copied_in, IsCoverAt, items_before, after, by_number}
+use Rattle.partial_covers.proofs.Vocabulary.{nodes_in, ◌≡◌, ◌<◌, ◌≤◌, List, [], ◌++◌, get_or, length, sym, ap, ◌∙◌, subst, take_all, asked, IsLawful, ProgramSketch, mode_in, nothing_chosen, HaveAllRegisters, Piece, copied_in, IsCoverAt, items_before, after, by_number}
 use Rattle.partial_covers.proofs.Vocabulary.{Grows, IsFilling, LeadsToWhole, StopIs, Pushes, Filled, grows_none, grows_twice, stops_for}
 use Rattle.partial_covers.proofs.{FilledNodes.more_copies, FilledNodes.more_pieces, FilledNodes.whole_filled, HolesFilled.IsHole, HolesFilled.hole_leads, PartialRows.filling_still}
 use Rattle.partial_covers.proofs.filling.fill.Goals as goal
@@ -19,7 +19,7 @@ push_tree-requires-clause-leads g c =
     let item = c.piece-item.result in
     let here = subst (λ (xs : List Piece). i < length xs) c.deref-piece-items.ensures.value c.loop-piece-test.true in
     let at = subst (λ (xs : List Piece). item ≡ get_or xs i item) c.deref-piece-items.ensures.value c.piece-item.is in
-    let hole = subst (λ (p : Piece). IsHole root shown outcomes p.path.items p.filling.items) (sym at) (hole_leads root shown outcomes [] kept.pieces.items kept.nodes.items i item tt c.requires.kept here) in
+    let hole = subst (λ (p : Piece). IsHole root shown outcomes p.path.items p.filling.items) (sym at) (hole_leads root shown outcomes [] kept.pieces.items (nodes_in kept.nodes) i item tt c.requires.kept here) in
     subst (λ (s : ProgramSketch). LeadsToWhole s item.path.items) (sym c.in_ok-empty.ensures.empty) hole.leads
 
 pub push_tree-requires-clause-filled : goal.push_tree-requires-clause-filled
@@ -35,7 +35,7 @@ push_tree-requires-clause-filled g c =
     let filling = item.filling.items in
     let here = subst (λ (xs : List Piece). i < length xs) c.deref-piece-items.ensures.value c.loop-piece-test.true in
     let at = subst (λ (xs : List Piece). item ≡ get_or xs i item) c.deref-piece-items.ensures.value c.piece-item.is in
-    let hole = subst (λ (p : Piece). IsHole root shown outcomes p.path.items p.filling.items) (sym at) (hole_leads root shown outcomes [] kept.pieces.items kept.nodes.items i item tt c.requires.kept here) in
+    let hole = subst (λ (p : Piece). IsHole root shown outcomes p.path.items p.filling.items) (sym at) (hole_leads root shown outcomes [] kept.pieces.items (nodes_in kept.nodes) i item tt c.requires.kept here) in
     subst (λ (s : ProgramSketch). IsFilling (after s path) shown mid filling) (sym c.in_ok-empty.ensures.empty)
     (filling_still (after root path) shown outcomes mid c.loop-piece.invariant.grows.keeps filling hole.filled)
 
@@ -57,12 +57,12 @@ loop-piece-preserved g c =
     let grows = subst (λ (s : ProgramSketch). Grows (asked s.program shown) mid new) start c.in_ok-push_tree.ensures.grows in
     let old = c.loop-piece.nodes.items in
     let own : c.mode.result ≡ mode = c.mode.ensures ∙ ap (λ (s : ProgramSketch). s.mode) start in
-    let copies : c.push_copies.new.nodes.items ≡ old ++ copied_in mode item.nodes.items = c.in_ok-push_copies.ensures ∙ (λ k. old ++ copied_in (own k) (c.deref.ensures.value k)) in
+    let copies : c.push_copies.new.nodes.items ≡ old ++ copied_in mode (nodes_in item.nodes) = c.in_ok-push_copies.ensures ∙ (λ k. old ++ copied_in (own k) (nodes_in item.nodes)) in
     let tree = subst (λ (s : ProgramSketch). Pushes (IsCoverAt (after s item.path.items) shown (by_number new)) c.push_copies.new.nodes.items c.push_tree.new.nodes.items) start c.in_ok-push_tree.ensures.tree in
     record {
       grows = grows_twice (asked p shown) c.args.outcomes.now mid new inv.grows grows;
       nodes = more_pieces root shown (by_number mid) (by_number new) pieces i item old c.push_copies.new.nodes.items c.push_tree.new.nodes.items here grows.keeps inv.nodes
-          (copies ∙ ap (λ (q : Piece). old ++ copied_in mode q.nodes.items) at)
+          (copies ∙ ap (λ (q : Piece). old ++ copied_in mode (nodes_in q.nodes)) at)
           (subst (λ (q : Piece). Pushes (IsCoverAt (after root q.path.items) shown (by_number new)) c.push_copies.new.nodes.items c.push_tree.new.nodes.items) at tree);
     }
 
@@ -90,8 +90,8 @@ returns-clause-tree g c =
     let old = c.loop-piece.nodes.items in
     let before = subst (λ (xs : List Piece). Filled root shown outs (items_before xs) old) (take_all i kept.pieces.items past) inv.nodes in
     let own : c.mode-2.result ≡ mode = c.mode-2.ensures ∙ ap (λ (s : ProgramSketch). s.mode) c.in_ok-empty.ensures.empty in
-    let whole = more_copies root shown outs (items_before kept.pieces.items) old c.push_copies-2.new.nodes.items kept.nodes.items before
-    (c.in_ok-push_copies-2.ensures ∙ (λ k. old ++ copied_in (own k) (c.deref-2.ensures.value k))) in
+    let whole = more_copies root shown outs (items_before kept.pieces.items) old c.push_copies-2.new.nodes.items (nodes_in kept.nodes) before
+    (c.in_ok-push_copies-2.ensures ∙ (λ k. old ++ copied_in (own k) (nodes_in kept.nodes))) in
     whole_filled p mode shown (by_number c.args.outcomes.now) outs kept c.push_copies-2.new.nodes.items
     (subst IsLawful c.in_ok-empty.ensures.empty c.recall_facts.ensures.lawful) (subst (λ (s : ProgramSketch). HaveAllRegisters s.program.threads) c.in_ok-empty.ensures.empty c.recall_facts.ensures.registers)
     inv.grows.keeps c.requires.kept whole

@@ -1,4 +1,4 @@
-use Rattle.partial_covers.proofs.Vocabulary.{◌≡◌, ◌<◌, ◌≤◌, List, [], ◌∷◌, ◌++◌, Vec, Global, get_or, length, sym, ap, ◌∙◌, subst, arith, IfOk, IfErr, option_to_list, take_all, asked, IsLawful, ProgramSketch, mode_in, nothing_chosen, HaveAllRegisters, Piece}
+use Rattle.partial_covers.proofs.Vocabulary.{nodes_in, ◌≡◌, ◌<◌, ◌≤◌, List, [], ◌∷◌, ◌++◌, Vec, Global, get_or, length, sym, ap, ◌∙◌, subst, arith, IfOk, IfErr, option_to_list, take_all, asked, IsLawful, ProgramSketch, mode_in, nothing_chosen, HaveAllRegisters, Piece}
 use Rattle.partial_covers.proofs.Vocabulary.{copied_in, IsCoverAt, items_before, after, LeadsToWhole, Pushes, stops_for, HoleTree, AreFoundFrom, AreHolesFrom, AreSearchedHoles, Filled, StopLacks}
 use Rattle.partial_covers.proofs.{FilledNodes.more_copies, FilledNodes.more_pieces, FilledNodes.whole_filled, HolesFilled.hole_leads}
 use Rattle.partial_covers.proofs.{HoleTrees.after_others, HoleTrees.some_piece, HoleTrees.next_lead, HoleTrees.next_found, HoleTrees.last_found, HoleTrees.rest_found, PartsJoined.written_back}
@@ -17,7 +17,7 @@ search_holes-requires-clause-lead g c κs within =
     let p = some_piece pieces (omega arith) in
     let holes = c.in_ok-holes.holes.items in
     let are = subst (λ (xs : List Piece). AreHolesFrom xs i holes) c.deref.ensures.value c.in_ok-holes.ensures in
-    let lead = next_lead root shown outcomes pieces i holes p are (λ j there. (hole_leads root shown outcomes [] pieces kept.nodes.items j p tt c.requires.kept there).leads) in
+    let lead = next_lead root shown outcomes pieces i holes p are (λ j there. (hole_leads root shown outcomes [] pieces (nodes_in kept.nodes) j p tt c.requires.kept there).leads) in
     subst (λ (xs : List HoleTree). (k : _) (d : HoleTree) → k < length xs → LeadsToWhole c.in_ok-empty.empty (get_or xs k d).path.items) (sym c.as_mut_slice.ensures.value)
     (λ k d there. subst (λ (s : ProgramSketch). LeadsToWhole s (get_or holes k d).path.items) (sym c.in_ok-empty.ensures.empty) (lead k d there))
 
@@ -52,13 +52,13 @@ loop-i-preserved g c =
     let at : item ≡ get_or pieces i item = c.index.ensures in
     let old = c.loop-i.nodes.items in
     let own : c.mode.result ≡ mode = c.mode.ensures ∙ ap (λ (s : ProgramSketch). s.mode) start in
-    let copies : c.push_copies.new.nodes.items ≡ old ++ copied_in mode item.nodes.items = c.in_ok-push_copies.ensures ∙ (λ k. old ++ copied_in (own k) (c.deref-in-loop-i.ensures.value k)) in
+    let copies : c.push_copies.new.nodes.items ≡ old ++ copied_in mode (nodes_in item.nodes) = c.in_ok-push_copies.ensures ∙ (λ k. old ++ copied_in (own k) (nodes_in item.nodes)) in
     let path = (get_or pieces i item).path.items in
     let tree = subst (λ r. IfOk r (λ nodes. Pushes (IsCoverAt (after root path) shown outcomes) [] nodes.items)) c.in_ok-tree.was (last_found root shown outcomes pieces i rest hole item all).tree in
-    let pushed = after_others c.push_copies.new.nodes.items c.extend_from_slice.new.self.items c.in_ok-tree.tree.items tree (c.in_ok-extend_from_slice.ensures.items ∙ (λ k. c.push_copies.new.nodes.items ++ c.deref-in-loop-i-2.ensures.value k)) in
+    let pushed = after_others c.push_copies.new.nodes.items c.extend_from_slice.new.self.items c.in_ok-tree.tree.items tree (c.in_ok-extend_from_slice.ensures.items ∙ (λ k. c.push_copies.new.nodes.items ++ c.deref-in-loop-i.ensures.value k)) in
     record {
       nodes = more_pieces root shown outcomes outcomes pieces i item old c.push_copies.new.nodes.items c.extend_from_slice.new.self.items here (λ n o there. there) inv.nodes
-          (copies ∙ ap (λ (q : Piece). old ++ copied_in mode q.nodes.items) at) pushed;
+          (copies ∙ ap (λ (q : Piece). old ++ copied_in mode (nodes_in q.nodes)) at) pushed;
       holes = rest_found root shown outcomes pieces i rest hole all;
     }
 
@@ -106,8 +106,8 @@ returns-clause-tree g c =
     let old = c.loop-i.nodes.items in
     let before = subst (λ (xs : List Piece). Filled root shown outcomes (items_before xs) old) (take_all i kept.pieces.items past) c.loop-i.invariant.nodes in
     let own : c.mode-2.result ≡ mode = c.mode-2.ensures ∙ ap (λ (s : ProgramSketch). s.mode) c.in_ok-empty.ensures.empty in
-    let whole = more_copies root shown outcomes (items_before kept.pieces.items) old c.push_copies-2.new.nodes.items kept.nodes.items before
-    (c.in_ok-push_copies-2.ensures ∙ (λ k. old ++ copied_in (own k) (c.deref-2.ensures.value k))) in
+    let whole = more_copies root shown outcomes (items_before kept.pieces.items) old c.push_copies-2.new.nodes.items (nodes_in kept.nodes) before
+    (c.in_ok-push_copies-2.ensures ∙ (λ k. old ++ copied_in (own k) (nodes_in kept.nodes))) in
     whole_filled p mode shown outcomes outcomes kept c.push_copies-2.new.nodes.items
     (subst IsLawful c.in_ok-empty.ensures.empty c.recall_facts.ensures.lawful) (subst (λ (s : ProgramSketch). HaveAllRegisters s.program.threads) c.in_ok-empty.ensures.empty c.recall_facts.ensures.registers)
     (λ n o there. there) c.requires.kept whole

@@ -1,8 +1,8 @@
-use Rattle.partial_covers.proofs.Vocabulary.{place_in}
+use Rattle.partial_covers.proofs.Vocabulary.{nodes_in, place_in}
 use Rattle.partial_covers.proofs.PartialRenumbered.{items_renumbered}
 use Rattle.partial_covers.proofs.renumbering.renumber_partial.Goals as goal
 
 pub returns : goal.returns
 returns c =
     let kept = c.args.kept.now in
-    items_renumbered (place_in c.args.places.now) kept.pieces.items c.renumber_pieces.new.pieces.items kept.nodes.items c.renumber.new.nodes.items c.renumber_pieces.ensures c.renumber.ensures
+    items_renumbered (place_in c.args.places.now) kept.pieces.items c.renumber_pieces.new.pieces.items (nodes_in kept.nodes) (nodes_in c.renumber.new.self) c.renumber_pieces.ensures c.renumber.ensures

@@ -6,6 +6,7 @@ use Rattle.branching.specs.declared.open_choice.OpenChoice.TheVariants as left
 use Rattle.partial_covers.proofs.CoveringSteps.{covers_next, covers_values, covers_joined, each_none, each_more}
 use Rattle.partial_covers.proofs.PartialNodes.{on_ok, pushes_closed, nodes_same, leaf_pushed}
 use Rattle.partial_covers.proofs.PartsJoined.{covers_still, covers_after, not_joined}
+use Rattle.partial_covers.proofs.JoinedBlocks.{with_last}
 use Rattle.partial_covers.proofs.covering.Covering.+cover_values.Goals as goal
 
 pub cover_each_value-cover_values-requires : goal.cover_each_value-cover_values-requires
@@ -124,8 +125,8 @@ cover_values-returns-in-Some-clause-covers g t c =
     let mid = c.join_part.new.self in
     let new = c.cover_next.new.self in
     let joined = c.in_ok-join_part.ensures.covers in
-    let same = nodes_same s old.shown.now (by_number old.outcomes) old.kept.pieces.items old.kept.nodes.items c.known_leaf.new.nodes.items c.in_ok-known_leaf.field-0 c.if-branch.false c.in_ok-known_leaf.ensures in
-    let still = not_joined s old.shown.now (by_number mid.outcomes) old.path.items (items_of (record old.kept { nodes = c.known_leaf.new.nodes })) (items_of mid.kept) c.in_ok-join_part.field-0 c.if-branch-2.false joined.tree ∙ same in
+    let same = nodes_same s old.shown.now (by_number old.outcomes) old.kept c.known_leaf.new.nodes c.in_ok-known_leaf.field-0 c.if-branch.false c.in_ok-known_leaf.ensures in
+    let still = not_joined s old.shown.now (by_number mid.outcomes) old.path.items (items_of (with_last old.kept c.known_leaf.new.nodes)) (items_of mid.kept) c.in_ok-join_part.field-0 c.if-branch-2.false joined.tree ∙ same in
     on_ok c.cover_next.result (Covers s mid new) (Covers s old new) (covers_next s old mid new joined.shown joined.path joined.grows still) c.cover_next.ensures.covers
 
 pub cover_values-returns-in-Some-clause-left : goal.cover_values-returns-in-Some-clause-left
@@ -139,8 +140,8 @@ cover_values-returns-in-None-clause-covers g t c =
     let mid = c.join_part.new.self in
     let new = c.cover_last.new.self in
     let joined = c.in_ok-join_part.ensures.covers in
-    let same = nodes_same s old.shown.now (by_number old.outcomes) old.kept.pieces.items old.kept.nodes.items c.known_leaf.new.nodes.items c.in_ok-known_leaf.field-0 c.if-branch.false c.in_ok-known_leaf.ensures in
-    let still = not_joined s old.shown.now (by_number mid.outcomes) old.path.items (items_of (record old.kept { nodes = c.known_leaf.new.nodes })) (items_of mid.kept) c.in_ok-join_part.field-0 c.if-branch-2.false joined.tree ∙ same in
+    let same = nodes_same s old.shown.now (by_number old.outcomes) old.kept c.known_leaf.new.nodes c.in_ok-known_leaf.field-0 c.if-branch.false c.in_ok-known_leaf.ensures in
+    let still = not_joined s old.shown.now (by_number mid.outcomes) old.path.items (items_of (with_last old.kept c.known_leaf.new.nodes)) (items_of mid.kept) c.in_ok-join_part.field-0 c.if-branch-2.false joined.tree ∙ same in
     on_ok c.cover_last.result (Covers s mid new) (Covers s old new) (covers_next s old mid new joined.shown joined.path joined.grows still) c.cover_last.ensures
 
 pub cover_values-returns-then-branch-clause-covers : goal.cover_values-returns-then-branch-clause-covers
@@ -152,14 +153,14 @@ cover_values-returns-then-branch-clause-covers g t c =
       shown = refl;
       path = refl;
       grows = grows_none (asked s.program old.shown.now) old.outcomes c.requires.in_order;
-      tree = pushes_closed s old.shown.now (by_number old.outcomes) old.path.items old.kept.pieces.items old.kept.nodes.items nodes
-          (leaf_pushed s old.shown.now (by_number old.outcomes) c.recall_facts.ensures.lawful c.recall_facts.ensures.few old.kept.nodes.items nodes c.in_ok-known_leaf.field-0 c.if-branch.true c.in_ok-known_leaf.ensures);
+      tree = pushes_closed s old.shown.now (by_number old.outcomes) old.path.items old.kept c.known_leaf.new.nodes
+          (leaf_pushed s old.shown.now (by_number old.outcomes) c.recall_facts.ensures.lawful c.recall_facts.ensures.few old.kept.nodes.last.items nodes c.in_ok-known_leaf.field-0 c.if-branch.true c.in_ok-known_leaf.ensures);
     }
 
 pub cover_values-returns-then-branch-2-clause-covers : goal.cover_values-returns-then-branch-2-clause-covers
 cover_values-returns-then-branch-2-clause-covers g t c =
     let s = c.args.sketch.now in
     let old = c.args.self.now in
-    let same = nodes_same s old.shown.now (by_number old.outcomes) old.kept.pieces.items old.kept.nodes.items c.known_leaf.new.nodes.items c.in_ok-known_leaf.field-0 c.if-branch.false c.in_ok-known_leaf.ensures in
-    covers_joined s old (record old { kept = record old.kept { nodes = c.known_leaf.new.nodes } }) c.join_part.new.self c.in_ok-join_part.field-0 c.if-branch-2.true refl refl
+    let same = nodes_same s old.shown.now (by_number old.outcomes) old.kept c.known_leaf.new.nodes c.in_ok-known_leaf.field-0 c.if-branch.false c.in_ok-known_leaf.ensures in
+    covers_joined s old (record old { kept = with_last old.kept c.known_leaf.new.nodes }) c.join_part.new.self c.in_ok-join_part.field-0 c.if-branch-2.true refl refl
     (grows_none (asked s.program old.shown.now) old.outcomes c.requires.in_order) same c.in_ok-join_part.ensures.covers

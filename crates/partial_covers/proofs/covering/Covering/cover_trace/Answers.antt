@@ -22,7 +22,7 @@ returns-in_ok-push-in-Some g c =
       shown = refl;
       path = refl;
       grows = grows_none (asked s.program old.shown.now) old.outcomes c.requires.in_order;
-      tree = pushes_closed (with_trace c.args.t s c.args.trace.now) old.shown.now outs old.path.items old.kept.pieces.items old.kept.nodes.items c.push.new.self.items (record {
+      tree = pushes_closed (with_trace c.args.t s c.args.trace.now) old.shown.now outs old.path.items old.kept c.push.new.self (record {
         tree = Source c.in-Some.read NoCover;
         is = unsourced_cover s u c.args.t lawful base.alone base.there own c.requires.alike c.args.trace.now.tally c.args.others.now c.requires.trace.tally base.tally
             old.shown.now outs c.recall_facts.ensures.registers whole c.in-Some.read c.in-Some.ensures;

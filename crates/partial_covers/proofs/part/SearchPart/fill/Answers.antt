@@ -1,4 +1,4 @@
-use Rattle.partial_covers.proofs.Vocabulary.{[], get_or, sym, subst, Listing, asked, Grows, by_number, nothing_chosen, items_of, PushesPartialAt, LeadsToWhole, AreFilled, sequential, OnOk, grows_none}
+use Rattle.partial_covers.proofs.Vocabulary.{nodes_in, [], get_or, sym, subst, Listing, asked, Grows, by_number, nothing_chosen, items_of, PushesPartialAt, LeadsToWhole, AreFilled, sequential, OnOk, grows_none}
 use Rattle.std.specs.FinSet as set
 use Rattle.tso_machine.specs.declared.mode.Mode.TheVariants as modes
 use Rattle.partial_covers.proofs.{PartialNodes.on_both, HolesFilled.hole_leads, FilledParts.part_refilled}
@@ -13,7 +13,7 @@ fill_holes-requires-clause-holes g c i d here =
     let outcomes = by_number old.outcomes in
     let has = c.requires.kept root c.requires.leads in
     subst (λ (l : Listing). LeadsToWhole (nothing_chosen l modes.Sequential) (get_or old.kept.pieces.items i d).path.items) (sym c.program.ensures.value)
-    (hole_leads (nothing_chosen p modes.Sequential) old.shown.now outcomes part.path.items old.kept.pieces.items old.kept.nodes.items i d c.requires.may has here).leads
+    (hole_leads (nothing_chosen p modes.Sequential) old.shown.now outcomes part.path.items old.kept.pieces.items (nodes_in old.kept.nodes) i d c.requires.may has here).leads
 
 pub returns-clause-grows : goal.returns-clause-grows
 returns-clause-grows g c =
@@ -33,7 +33,7 @@ returns-clause-kept g c =
     let filled = subst (λ (l : Listing). OnOk c.fill_holes.result (AreFilled (nothing_chosen l modes.Sequential) old.shown.now outcomes before now.items)) c.program.ensures.value c.fill_holes.ensures.filled in
     on_both c.fill_holes.result (Grows (asked p old.shown.now) old.outcomes c.fill_holes.new.outcomes) (AreFilled (sequential root) old.shown.now outcomes before now.items)
     (PushesPartialAt part.sketch old.shown.now outcomes part.path.items [] (items_of (record old.kept { pieces = now })))
-    (λ grows are. part_refilled root part.sketch old.shown.now (by_number old.outcomes) outcomes part.path.items before now.items old.kept.nodes.items grows.keeps c.requires.leads are c.requires.kept)
+    (λ grows are. part_refilled root part.sketch old.shown.now (by_number old.outcomes) outcomes part.path.items before now.items (nodes_in old.kept.nodes) grows.keeps c.requires.leads are c.requires.kept)
     grown filled
 
 pub returns-then-not-are_sequential-clause-grows : goal.returns-then-not-are_sequential-clause-grows
