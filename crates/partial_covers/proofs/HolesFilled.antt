@@ -1,5 +1,5 @@
 -- What is known of the holes of a partial cover: the choices of each lead to a sketch in which each read has its value, and its filling is valid there.
-use Rattle.partial_covers.proofs.Vocabulary.{nodes_in, ℕ, zero, suc, ◌<◌, List, [], ◌∷◌, ◌++◌, get_or, length, map, sym, ◌∙◌, subst, arith, append_assoc, Contains, append-nil, Outcome, Shown, IsWhole, ProgramSketch, mode_in, Node, spell, Choice, AreValueChoices}
+use Rattle.partial_covers.proofs.Vocabulary.{All, ℕ, zero, suc, ◌<◌, List, [], ◌∷◌, ◌++◌, get_or, length, map, sym, ◌∙◌, subst, arith, append_assoc, Contains, append-nil, Outcome, Shown, IsWhole, ProgramSketch, mode_in, Node, spell, Choice, AreValueChoices, nodes_in}
 use Rattle.partial_covers.proofs.Vocabulary.{MayChoose, first_is_here, later_is_here, Piece, Item, Has, Lacks, PartialTree, Closed, Values, Hole, PartialTrees, NoPartial, MorePartial, spell_partial, spell_partial_row, items_before, after, IsPartialAfter}
 use Rattle.partial_covers.proofs.Vocabulary.{ArePartialAfter, PushesPartial, MayChooseAll, unfenced, IsFilling, LeadsToWhole}
 use Rattle.cover_judge.specs.declared.choice.Choice.TheVariants as choice
@@ -74,3 +74,6 @@ module _ (s : ProgramSketch) (shown : Shown) (outcomes : List Outcome) where
       → IsHole (get_or pieces i d).path.items (get_or pieces i d).filling.items
   hole_leads path pieces nodes i d may is here =
       hole_at pieces i d (map Has nodes) here (subst AllLead (append-nil (spell_partial is.tree) ∙ sym is.pushed) (tree_leads path is.tree [] may is.is tt))
+
+  pub holes_lead : (pieces : List Piece) (nodes : List Node) → PushesPartial (unfenced s) shown outcomes [] [] (items_before pieces ++ map Has nodes) → All (λ (piece : Piece). LeadsToWhole s piece.path.items) pieces
+  holes_lead pieces nodes is i d here = (hole_leads [] pieces nodes i d tt is here).leads

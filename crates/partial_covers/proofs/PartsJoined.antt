@@ -1,6 +1,6 @@
 -- Parts of a search, while the list of outcomes grows and choices are made, and the cover of one beside the rest.
-use Rattle.partial_covers.proofs.Vocabulary.{◌≡◌, Bool, true, false, ℕ, ◌<◌, ◌≤◌, List, [], ◌∷◌, ◌++◌, Option, Some, None, get_or, take, drop, length, map, arith, sym, ap, ◌∙◌, subst, All, MatchOption, if◌then◌else◌, append-nil, take_all, drop_all}
-use Rattle.partial_covers.proofs.Vocabulary.{All-nil, All-push, Mode, IsWhole, Outcome, Shown, Question, asked, ProgramSketch, mode_in, with_chosen, NEAR_RUNS, Choice, sketch_with, KnownOutcomes, PartCover, SearchPart, HasNumber, Item, renumbered_item, after}
+use Rattle.partial_covers.proofs.Vocabulary.{◌≡◌, Bool, true, false, ℕ, suc, ◌+◌, ◌<◌, ◌≤◌, List, [], ◌∷◌, ◌++◌, Option, Some, None, get_or, take, drop, length, map, arith, sym, ap, ◌∙◌, subst, All, MatchOption, if◌then◌else◌, append-nil, take_all, drop_all}
+use Rattle.partial_covers.proofs.Vocabulary.{All-append, All-nil, All-push, flat_map, flat_map-append, Mode, IsWhole, Outcome, Shown, Question, asked, ProgramSketch, mode_in, with_chosen, NEAR_RUNS, Choice, sketch_with, KnownOutcomes, PartCover, SearchPart, HasNumber, Item, renumbered_item, after}
 use Rattle.partial_covers.proofs.Vocabulary.{PushesPartialAt, StaysOf, LastThread, Plan, IsOfOther, IsLast, IsPartOf, IsPlanned, AreRunsFor, IsMadeAt, IsCoverFor, AreCoversFor, AreOwnParts, AreFoundIn, IfJoined, IsFoundIn, first_sketch, MayChoose}
 use Rattle.partial_covers.proofs.Vocabulary.{MayChooseAll, sequential, Listing, before_next}
 use Rattle.sketch_covers.specs.{declared.outcome_index.OutcomeIndex.OutcomeIndex, declared.known_outcomes.KnownOutcomes.TheVariants.Closed, declared.known_outcomes.KnownOutcomes.TheVariants.Open}
@@ -92,3 +92,16 @@ pushed_or_not P false old new x by all one = subst (All P) (sym by) all
 -- as many are written back as there were
 pub written_back : {T : Type 0} → (old new : List T) (n : ℕ) → n ≡ length old → length new ≡ length old → take n (new ++ drop (length new) old) ≡ new
 written_back old new n same many = ap (λ xs. take n (new ++ xs)) (drop_all (length new) old (omega arith)) ∙ ap (take n) (append-nil new) ∙ take_all n new (omega arith)
+
+-- lists are joined, one after another
+module _ {A T : Type 0} where
+  pub one_joined : (before : List A) (one : A) (old new : List T) (f : A → List T) → old ≡ flat_map f before → new ≡ old ++ f one → new ≡ flat_map f (before ++ one ∷ [])
+  one_joined before one old new f so by = by ∙ ap (λ xs. xs ++ f one) so ∙ ap (λ xs. flat_map f before ++ xs) (sym (append-nil (f one))) ∙ sym (flat_map-append f before (one ∷ []))
+
+  pub none_left : (before lists : List A) (all : List T) (f : A → List T) → all ≡ flat_map f before → before ≡ lists → all ≡ flat_map f lists
+  none_left before lists all f so end = so ∙ ap (flat_map f) end
+
+  -- what holds of each item of each list holds of each item of the whole
+  pub all_joined : (P : T → Type 0) (lists : List A) (f : A → List T) → All (λ list. All P (f list)) lists → All P (flat_map f lists)
+  all_joined P [] f all = All-nil P
+  all_joined P (l ∷ ls) f all = All-append P (f l) (flat_map f ls) (all 0 l (omega arith)) (all_joined P ls f (λ k d here. all (suc k) d (omega arith)))

@@ -4,9 +4,11 @@ pub use Rattle.std.proofs.Common.{option_to_list, refl, rules, subst, suc, sym, 
 pub use Rattle.std.proofs.Math.ListN.{set}
 pub use Rattle.std.proofs.lemmas.Bool.{cases_Bool, cases_eq, lt-ltb}
 pub use Rattle.std.proofs.lemmas.List.{append-nil, drop_all, get_or-set_other, get_or-set_same, get_or_append_left, length-append, map-append, map-id, same_lists, take_all, take_more}
-pub use Rattle.std.proofs.lemmas.List.Elements.{All-append, All-nil, All-pop, All-push}
+pub use Rattle.std.proofs.lemmas.List.Concat.{flat_map-append}
+pub use Rattle.std.proofs.lemmas.List.Elements.{All-append, All-nil, All-push}
 pub use Rattle.std.proofs.lemmas.Option.{same_Some, slice_get_read, slice_get_within}
 pub use Rattle.std.proofs.lemmas.Simd.{map-map}
+pub use Rattle.std.specs.List.{flat_map}
 pub use Rattle.std.specs.Option.{MatchOption, option_map_or}
 pub use Rattle.std.specs.Prelude.{All, Err, Ok, OnOk, Result, if◌then◌else◌, max, nat_lt, ◌^◌}
 pub use Rattle.branching.proofs.Rounds.{fewer_rounds, rounds}
@@ -74,14 +76,14 @@ pub use Rattle.tso_program.specs.declared.outcome.Outcome.{Outcome}
 pub use Rattle.tso_program.specs.declared.shown.Shown.{Shown}
 pub use Rattle.partial_covers.specs.Coverings.{Covers, CoversEach, CoversIf}
 pub use Rattle.partial_covers.specs.Fillings.{IsFilling, sequential}
-pub use Rattle.partial_covers.specs.HoleTrees.{AreFoundFrom, AreHolesFrom, AreSearchedHoles, Filled, IsFoundAfter, StopLacks, copied}
+pub use Rattle.partial_covers.specs.HoleTrees.{AreFoundFor, Filled, IsFoundAfter, IsFoundAt, StopLacks, copied}
 pub use Rattle.partial_covers.specs.NodeBlocks.{joined, nodes_in}
 pub use Rattle.partial_covers.specs.PartialCovers.{AreEach, AreFilled, ArePartialAfter, Closed, Has, Hole, IsFilled, IsPartialAfter, IsPartialCover, IsPieceRenumbered, Item, Lacks, LeadsToWhole}
 pub use Rattle.partial_covers.specs.PartialCovers.{MayChooseAll, MorePartial, NoPartial, PartialTree, PartialTrees, PushesPartial, PushesPartialAt, PushesPartialRow, Values, after, count_partial}
 pub use Rattle.partial_covers.specs.PartialCovers.{items_before, items_of, partial_of, renumbered_item, spell_partial, spell_partial_row, unfenced}
 pub use Rattle.partial_covers.specs.Parts.{AreCoversFor, AreFoundIn, AreLeftOf, AreOwnParts, AreRunsFor, IfJoined, IsCoverFor, IsFoundIn, IsMadeAt, IsPartOf, IsPlanned, first_sketch}
 pub use Rattle.partial_covers.specs.declared.covering.Covering.{Covering}
-pub use Rattle.partial_covers.specs.declared.hole_trees.HoleTree.{HoleTree}
+pub use Rattle.partial_covers.specs.declared.hole_queue.FoundHole.{FoundHole}
 pub use Rattle.partial_covers.specs.declared.part.SearchPart.{SearchPart}
 pub use Rattle.partial_covers.specs.declared.part.PartCover.{PartCover}
 pub use Rattle.partial_covers.specs.declared.partial_cover.PartialCover.{PartialCover}

@@ -1,5 +1,6 @@
 -- Trees in place of the holes of a partial cover, over a closed list of outcomes.
-use Rattle.std.specs.Prelude.{◌≡◌, ◌+◌, ◌<◌, ◌≤◌, ℕ, suc, List, [], ◌∷◌, ◌++◌, Contains, IfErr, IfOk, length, slice_index_or}
+use Rattle.std.specs.Prelude.{◌≡◌, ℕ, List, [], ◌∷◌, ◌++◌, All, Contains, Result, IfErr, IfOk, slice_index_or}
+use Rattle.std.specs.Global.{Vec}
 use Rattle.tso_program.specs.declared.outcome.Outcome.{Outcome}
 use Rattle.tso_program.specs.declared.shown.Shown.{Shown}
 use Rattle.tso_program.specs.Shown.{Question, asked}
@@ -17,9 +18,9 @@ use Rattle.sketch_covers.specs.Pushing.{Pushes}
 use Rattle.sketch_covers.specs.declared.stop.SearchStop.{SearchStop}
 use Rattle.sketch_covers.specs.declared.stop.SearchStop.TheVariants as stop
 use Rattle.sketch_covers.specs.NodeChanges.{sequential_node}
-use Rattle.partial_covers.specs.PartialCovers.{AreEach, Item, Has, Lacks, after}
+use Rattle.partial_covers.specs.PartialCovers.{Item, Has, Lacks, after}
 use Rattle.partial_covers.specs.declared.partial_cover.Piece.{Piece}
-use Rattle.partial_covers.specs.declared.hole_trees.HoleTree.{HoleTree}
+use Rattle.partial_covers.specs.declared.hole_queue.FoundHole.{FoundHole}
 
 -- a copy of a node for a mode
 abbrev pub copied : Mode → Node → Node
@@ -37,27 +38,15 @@ abbrev pub StopLacks : Question → Machine → List Outcome → SearchStop → 
 StopLacks q mode outcomes (stop.New run sketch) = IsShownRun q mode run.labels.items run.outcome × (Contains outcomes run.outcome → ⊥)
 StopLacks q mode outcomes stop.OutOfMemory = Unit {0}
 
--- what is found for a hole after a path: the nodes of a tree that is valid there, or why there is none
-pub record IsFoundAfter (s : ProgramSketch) (shown : Shown) (outcomes : List Outcome) (path : List Choice) (hole : HoleTree) : Type 0 where
-  pub tree : IfOk hole.found (λ nodes. Pushes (IsCoverAt (after s path) shown outcomes) [] nodes.items)
-  pub stop : IfErr hole.found (StopLacks (asked s.program shown) (mode_in s) outcomes)
+-- what is found after a path: the nodes of a tree that is valid there, or why there is none
+pub record IsFoundAfter (s : ProgramSketch) (shown : Shown) (outcomes : List Outcome) (path : List Choice) (found : Result (Vec Node) SearchStop) : Type 0 where
+  pub tree : IfOk found (λ nodes. Pushes (IsCoverAt (after s path) shown outcomes) [] nodes.items)
+  pub stop : IfErr found (StopLacks (asked s.program shown) (mode_in s) outcomes)
 
--- the hole is searched
-pub record IsSearchedHole (s : ProgramSketch) (shown : Shown) (outcomes : List Outcome) (old new : HoleTree) : Type 0 where
-  pub path : new.path.items ≡ old.path.items
-  pub found : IsFoundAfter s shown outcomes old.path.items new
+-- what is found for the hole of the piece at a place
+abbrev pub IsFoundAt : ProgramSketch → Shown → List Outcome → List Piece → ℕ → Result (Vec Node) SearchStop → Type 0
+IsFoundAt s shown outcomes pieces place found = (p : Piece) → IsFoundAfter s shown outcomes (slice_index_or pieces place p).path.items found
 
--- so each of several
-abbrev pub AreSearchedHoles : ProgramSketch → Shown → List Outcome → List HoleTree → List HoleTree → Type 0
-AreSearchedHoles s shown outcomes = AreEach (IsSearchedHole s shown outcomes)
-
--- some holes of the pieces from a place on, the last of them first
-pub record AreHolesFrom (pieces : List Piece) (from : ℕ) (holes : List HoleTree) : Type 0 where
-  pub some : 0 < length holes
-  pub within : from + length holes ≤ length pieces
-  pub each : (k j : ℕ) (d : HoleTree) (p : Piece) → k < length holes → suc (k + j) ≡ from + length holes → (slice_index_or holes k d).path.items ≡ (slice_index_or pieces j p).path.items
-
--- what is found for these, or for those that are left
-pub record AreFoundFrom (s : ProgramSketch) (shown : Shown) (outcomes : List Outcome) (pieces : List Piece) (from : ℕ) (holes : List HoleTree) : Type 0 where
-  pub within : from + length holes ≤ length pieces
-  pub each : (k j : ℕ) (d : HoleTree) (p : Piece) → k < length holes → suc (k + j) ≡ from + length holes → IsFoundAfter s shown outcomes (slice_index_or pieces j p).path.items (slice_index_or holes k d)
+-- so for several holes
+abbrev pub AreFoundFor : ProgramSketch → Shown → List Outcome → List Piece → List FoundHole → Type 0
+AreFoundFor s shown outcomes pieces holes = All (λ hole. IsFoundAt s shown outcomes pieces hole.place hole.found) holes

@@ -5,7 +5,7 @@
 //!
 //! Begin with `start_by`, `all_outcomes` and `cover_closed_by`. Free to change: where a search is cut (`cutting.rt`),
 //! in which order its parts are taken (`part_order.rt`), who searches the parts and the holes, and how many holes at
-//! once (`searching.rt`, `hole_trees.rt`), which runs holes keep (`hole_run.rt`), and what a watch is given
+//! once (`searching.rt`, `hole_queue.rt`, `hole_trees.rt`), which runs holes keep (`hole_run.rt`), and what a watch is given
 //! (`watch.rt`). Relied on: a partial cover holds in each machine but for its holes, each read has its value at a
 //! hole, a filled tree is valid, and a search that stops has a run whose outcome the list lacks.
 #![tactic(auto)]
@@ -13,6 +13,7 @@
 mod covering;
 mod cutting;
 mod filling;
+mod hole_queue;
 mod hole_run;
 mod hole_trees;
 mod joining;

@@ -1,8 +1,6 @@
 //! The search of the parts of a search, by one thread or by several. What is found is the same.
-ghost use Rattle.std.specs.Prelude.{◌≡◌, ◌<◌, All, Contains, IfOk, IfSome, length};
-ghost use Rattle.tso_program.specs.declared.listing.Listing.{Listing as ListingValue};
-ghost use Rattle.tso_program.specs.declared.shown.Shown.{Shown as ShownValue};
-ghost use Rattle.tso_machine.specs.declared.mode.Mode.{Mode as ModeValue};
+ghost use Rattle.std.specs.Prelude.{◌≡◌, ◌<◌, Contains, IfOk, IfSome, length};
+ghost use Rattle.std.specs.List.{flat_map};
 ghost use Rattle.sketch_covers.specs.declared.outcome_index.OutcomeIndex.{OutcomeIndex};
 ghost use Rattle.sketch_covers.specs.declared.known_outcomes.KnownOutcomes.TheVariants.{Open};
 ghost use Rattle.partial_covers.specs.Parts.{AreFoundIn, AreOwnParts, IsReady, IsCoveredStart};
@@ -212,13 +210,13 @@ fn empty_lists(alloc: Global, count: usize) -> Result<Vec<Vec<PartCover>>, Alloc
     Ok(lists)
 }
 
-/// The covers of all lists, in one.
-fn joined(alloc: Global, lists: Vec<Vec<PartCover>>) -> Result<Vec<PartCover>, AllocError>
-    ensures { IfOk result (λ covers. (p : ListingValue) (shown : ShownValue) (mode : ModeValue) → All (λ list. AreFoundIn p shown mode list.items) lists.items → AreFoundIn p shown mode covers.items) }
+/// The items of all lists, in one.
+pub(crate) fn joined<T: Drop>(alloc: Global, lists: Vec<Vec<T>>) -> Result<Vec<T>, AllocError>
+    ensures { IfOk result (λ all. all.items ≡ flat_map (λ list. list.items) lists.items) }
 {
-    let mut covers = Vec::new(alloc);
+    let mut all = Vec::new(alloc);
     for mut list in lists {
-        covers.append(&mut list)?;
+        all.append(&mut list)?;
     }
-    Ok(covers)
+    Ok(all)
 }

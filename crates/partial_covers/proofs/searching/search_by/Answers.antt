@@ -1,6 +1,6 @@
-use Rattle.partial_covers.proofs.Vocabulary.{◌≡◌, Vec, Global, length, ap, sym, subst, arith, All, PartCover, AreFoundIn}
+use Rattle.partial_covers.proofs.Vocabulary.{◌≡◌, Vec, Global, length, ap, sym, subst, arith, All, PartCover, AreFoundIn, IsFoundIn}
 use Rattle.std.proofs.lemmas.Result.{IfOk-weaker}
-use Rattle.partial_covers.proofs.PartsJoined.{written_back}
+use Rattle.partial_covers.proofs.PartsJoined.{all_joined, written_back}
 use Rattle.partial_covers.proofs.searching.search_by.Goals as goal
 
 pub returns : goal.returns
@@ -15,4 +15,5 @@ returns g c =
     let many : length new ≡ length lists.items = search in
     let each : All found new = λ i d here.
     (let at = (c.for_each_mut.ensures i d (let same = ap length c.as_mut_slice.ensures.value in omega (arith, many))).1 in subst found at.left at.call) in
-    IfOk-weaker c.joined.result _ (λ (covers : Vec PartCover Global). found covers) (λ covers h. h p shown mode (subst (All found) (sym (written_back lists.items new lists.len long many)) each)) c.joined.ensures
+    let all = subst (All found) (sym (written_back lists.items new lists.len long many)) each in
+    IfOk-weaker c.joined.result _ (λ (covers : Vec PartCover Global). found covers) (λ covers is. subst (AreFoundIn p shown mode) (sym is) (all_joined (IsFoundIn p shown mode) _ (λ (l : Vec PartCover Global). l.items) all)) c.joined.ensures

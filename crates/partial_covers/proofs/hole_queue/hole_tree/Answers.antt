@@ -1,14 +1,14 @@
 use Rattle.partial_covers.proofs.Vocabulary.{◌≡◌, ◌∙◌, subst, asked, Listing, Machine, ProgramSketch, mode_in, after, stops_for, StopLacks}
 use Rattle.partial_covers.proofs.{ChoicesMade.same_program, ChoicesMade.same_machine, HoleTrees.stop_lacks}
-use Rattle.partial_covers.proofs.hole_trees.HoleTree.tree.Goals as goal
+use Rattle.partial_covers.proofs.hole_queue.hole_tree.Goals as goal
 
 pub returns-in_err-cover_whole-clause-stop : goal.returns-in_err-cover_whole-clause-stop
 returns-in_err-cover_whole-clause-stop c =
     let empty = c.args.empty.now in
-    let shown = c.args.shown.now in
-    let path = c.args.self.now.path.items in
+    let shown = c.args.sought.now.shown.now in
+    let path = c.args.path.now in
     let outcomes = c.args.outcomes.now in
-    let reached : c.choose_all.new.sketch ≡ after empty path = c.in_ok-choose_all.ensures ∙ (λ k. after (c.in_ok-sketch.ensures k) (c.deref.ensures.value k)) in
+    let reached : c.choose_all.new.sketch ≡ after empty path = c.in_ok-choose_all.ensures ∙ (λ k. after (c.in_ok-sketch.ensures k) path) in
     let why = c.in_err-cover_whole.field-0.0 in
     let lacks = stop_lacks (asked c.choose_all.new.sketch.program shown) (mode_in c.choose_all.new.sketch) c.args.outcomes why c.in_err-cover_whole.ensures.stop in
     let there = subst (λ (n : ProgramSketch). StopLacks (asked n.program shown) (mode_in n) outcomes why) reached lacks in
