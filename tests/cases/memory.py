@@ -147,6 +147,7 @@ def placements_refused(library, folder):
         tell(f"the placement of {test}", right[0] == 0, right)
         words = ["place", *options, "--certificate", certificate, "-"]
         refused_allocations(library, f"the placement of {test}", words, given, right, PLACED_LAWFULLY, certified=certificate)
+        refused_allocations(library, f"the placement of {test} without a certificate", ["place", *options, "-"], given, right, PLACED_LAWFULLY)
         for workers in () if options else (2, 8):
             refused_to_threads(library, folder, test, workers, right, PLACED_LAWFULLY)
     for file, costs, line in (

@@ -1,6 +1,6 @@
 -- What is printed for a placement, and what its files hold. `files` says what files hold before it, and `left` what they hold
 -- afterwards, where that is known.
-use Rattle.std.specs.Prelude.{◌≡◌, ℕ, Bool, List, ◌++◌, Option, codes, nat_lt, string_bytes}
+use Rattle.std.specs.Prelude.{◌≡◌, ℕ, Bool, List, ◌++◌, Option, None, Some, codes, nat_lt, string_bytes}
 use Rattle.std.specs.FinSet as set
 use Rattle.program_streams.specs.declared.fault.FileFault.{FileFault}
 use Rattle.program_streams.specs.FileLines.{file_line}
@@ -9,8 +9,8 @@ use Rattle.fencer_words.specs.declared.job.Placement.{Placement}
 use Rattle.fencer_words.specs.CommandFiles.{name_of}
 use Rattle.placed_text.specs.declared.fault.TextFault.{TextFault}
 use Rattle.placed_text.specs.declared.fault.TextFault.TheVariants as fault
-use Rattle.placed_text.specs.declared.writing.PlacedText.{PlacedText}
-use Rattle.placed_text.specs.PlacedTexts.{IsPlacedText}
+use Rattle.placed_text.specs.declared.writing.AnswerText.{AnswerText}
+use Rattle.placed_text.specs.PlacedTexts.{IsAnswerText, IsPlacedText}
 use Rattle.placed_text.specs.TextFaults.{HasNoPlacedText}
 use Rattle.report.specs.Faults.{refused, litmus_line, costs_line}
 use Rattle.fencer.specs.declared.delivery.Answer.{Answer}
@@ -29,27 +29,33 @@ text_fault_line (fault.CostText why) = costs_line why
 text_fault_line fault.Workers = refused (codes "place 1 Workers")
 text_fault_line fault.OutOfMemory = refused (codes "place 5 OutOfMemory")
 
+-- the texts tell what is placed in the program of a litmus text, and where a file is named for the certificate, its text is one
+abbrev pub AreTextsFor : Option (List ℕ) → List ℕ → Option (List ℕ) → ShownKind → AnswerText → List ℕ → Type 0
+AreTextsFor None litmus costs kind texts certificate = IsAnswerText litmus costs kind texts
+AreTextsFor (Some name) litmus costs kind texts certificate = IsPlacedText litmus costs kind (record { texts = texts; certificate = certificate })
+
 -- What is delivered of what is placed: the lines are the answer and the program with its fences, or the document in their place;
 -- the first file that is written has the program, the second the certificate; with a check the status is 3 where the answer has a
 -- gap.
-pub record DeliversTexts (texts : PlacedText) (check json : Bool) (answer : Answer) : Type 0 where
+pub record DeliversTexts (texts : AnswerText) (certificate : List ℕ) (check json : Bool) (answer : Answer) : Type 0 where
   pub printed : answer.lines.items ≡ either json (texts.answer.items ++ texts.program.items) texts.document.items
   pub ends : answer.status ≡ check_status check (nat_lt 0 (set.len texts.gaps))
   pub as_asked : answer.json ≡ json
   pub program : answer.first ≡ texts.program.items
-  pub proof : answer.second ≡ texts.certificate
+  pub proof : answer.second ≡ certificate
 
 -- what is delivered of what is placed in the program of a litmus text
-pub record PrintsPlacement (litmus : List ℕ) (costs : Option (List ℕ)) (kind : ShownKind) (check json : Bool) (answer : Answer) : Type 0 where
-  pub texts : PlacedText
-  pub placed : IsPlacedText litmus costs kind texts
-  pub delivered : DeliversTexts texts check json answer
+pub record PrintsPlacement (q : Placement) (litmus : List ℕ) (costs : Option (List ℕ)) (answer : Answer) : Type 0 where
+  pub texts : AnswerText
+  pub certificate : List ℕ
+  pub placed : AreTextsFor (name_of q.certificate) litmus costs q.kind texts certificate
+  pub delivered : DeliversTexts texts certificate q.check q.json answer
 
 -- ---- answers, each with its status
 
 -- the answer to texts; or why there is no answer, and then no file is changed
 pub data IsJudged (q : Placement) (litmus : List ℕ) (costs : Option (List ℕ)) (files left : List ℕ → Option (List ℕ)) : ℕ → List ℕ → Type 0 where
-  placed : (answer : Answer) (status : ℕ) (text : List ℕ) → PrintsPlacement litmus costs q.kind q.check q.json answer
+  placed : (answer : Answer) (status : ℕ) (text : List ℕ) → PrintsPlacement q litmus costs answer
       → IsDelivered (name_of q.output) (name_of q.certificate) left answer status text → IsJudged q litmus costs files left status text
   refused_for : (why : TextFault) (text : List ℕ) → HasNoPlacedText litmus costs q.workers why → RefusalSays q.json (text_fault_line why) text → KeepAllFiles files left → IsJudged q litmus costs files left 1 text
 

@@ -6,7 +6,7 @@ ghost use Rattle.program_streams.specs.Files.{ReadsOfInput};
 ghost use Rattle.placed_text.specs.TextFaults.{HasNoPlacedText};
 ghost use Rattle.fencer_words.specs.CommandFiles.{name_of};
 ghost use Rattle.fencer.specs.Deliveries.{KeepFilesBut};
-ghost use Rattle.fencer.specs.Placements.{text_fault_line, DeliversTexts, IsJudged, IsPlaced, PrintsPlacement};
+ghost use Rattle.fencer.specs.Placements.{text_fault_line, AreTextsFor, DeliversTexts, IsJudged, IsPlaced, PrintsPlacement};
 
 use crate::advice::{tell_idle_name_compared, text_fault_advice, unread_advice};
 use crate::delivery::{Answer, deliver};
@@ -16,7 +16,7 @@ use crate::status::check_status;
 use crate::texts::{Texts, read_texts};
 use fencer_words::Placement;
 use paged_text::Pages;
-use placed_text::{Effort, PlacedText, TextFault, place_text};
+use placed_text::{AnswerText, Effort, TextFault, answer_text, place_text};
 use program_streams::{Console, Progress, TEXT_LIMIT, WritableFileStore, file_line};
 use report::{costs_line, litmus_line};
 use std::alloc::{AllocError, Global};
@@ -36,24 +36,56 @@ pub(crate) fn text_fault_line(alloc: Global, fault: TextFault) -> Result<Vec<u8>
     }
 }
 
+/// What is placed in the program of a text; where a file is named for the certificate, with its text.
+fn texts_for<T: Threads + Wait + Sync>(
+    rt: &T,
+    alloc: Global,
+    asked: &Placement,
+    texts: &Texts,
+    progress: Progress,
+) -> Result<(AnswerText, Pages), TextFault>
+    ensures placed { IfOk result (λ found. AreTextsFor (name_of asked.now.certificate) texts.now.litmus.items (option_map (λ text. text.items) texts.now.costs) asked.now.kind found.0 found.1) }
+    ensures fault { IfErr result (HasNoPlacedText texts.now.litmus.items (option_map (λ text. text.items) texts.now.costs) asked.now.workers) }
+{
+    let costs = texts.costs.as_deref();
+    let effort = Effort {
+        workers: asked.workers,
+        progress: progress.asked(asked.progress),
+    };
+    match asked.certificate.as_deref() {
+        Some(_) => {
+            let placed = place_text(rt, alloc, &texts.litmus, costs, asked.kind, effort)?;
+            Ok((placed.texts, placed.certificate))
+        }
+        None => {
+            let told = answer_text(rt, alloc, &texts.litmus, costs, asked.kind, effort)?;
+            Ok((told, Pages::new(alloc)))
+        }
+    }
+}
+
 /// The answer line, followed by the program's text, or the document; with a check the status says whether the answer has
 /// a gap.
-fn joined(alloc: Global, texts: PlacedText, check: bool, json: bool) -> Result<Answer, AllocError>
-    ensures answer { IfOk result (DeliversTexts texts check json) }
+fn joined(
+    alloc: Global,
+    asked: &Placement,
+    texts: AnswerText,
+    certificate: Pages,
+) -> Result<Answer, AllocError>
+    ensures answer { IfOk result (DeliversTexts texts certificate asked.now.check asked.now.json) }
 {
-    let PlacedText {
+    let AnswerText {
         program,
         answer,
-        certificate,
         gaps,
         document,
     } = texts;
     let mut lines = answer;
     lines.extend_from_slice(&program)?;
     Ok(Answer {
-        lines: printed(json, lines, document),
-        status: check_status(check, gaps.len() > 0),
-        json,
+        lines: printed(asked.json, lines, document),
+        status: check_status(asked.check, gaps.len() > 0),
+        json: asked.json,
         first: Pages::of(alloc, program)?,
         second: certificate,
     })
@@ -67,16 +99,11 @@ fn answer_of<T: Threads + Wait + Sync>(
     texts: &Texts,
     progress: Progress,
 ) -> Result<Answer, TextFault>
-    ensures placed { IfOk result (λ answer. PrintsPlacement texts.now.litmus.items (option_map (λ text. text.items) texts.now.costs) asked.now.kind asked.now.check asked.now.json answer) }
+    ensures placed { IfOk result (PrintsPlacement asked.now texts.now.litmus.items (option_map (λ text. text.items) texts.now.costs)) }
     ensures fault { IfErr result (HasNoPlacedText texts.now.litmus.items (option_map (λ text. text.items) texts.now.costs) asked.now.workers) }
 {
-    let costs = texts.costs.as_deref();
-    let effort = Effort {
-        workers: asked.workers,
-        progress: progress.asked(asked.progress),
-    };
-    let placed = place_text(rt, alloc, &texts.litmus, costs, asked.kind, effort)?;
-    match joined(alloc, placed, asked.check, asked.json) {
+    let (told, certificate) = texts_for(rt, alloc, asked, texts, progress)?;
+    match joined(alloc, asked, told, certificate) {
         Ok(answer) => Ok(answer),
         Err(_) => Err(TextFault::OutOfMemory),
     }

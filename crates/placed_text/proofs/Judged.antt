@@ -1,10 +1,11 @@
 -- What is reported of texts, from what their parts are.
-use Rattle.placed_text.proofs.Vocabulary.{◌≡◌, ◌∙◌, ℕ, List, Option, Some, None, ap, length, subst, unwrap_or, length-replicate, Listing, Shown, asked, shown_as, question_of, gap_count, answer_line, certified, IsPlacement, AreWrittenTexts, HasNoPlacedText, TellsWhy}
-use Rattle.placed_text.proofs.Vocabulary.{Litmus, AreGiven, IsPlacedSource, IsPlacedText, HasNoProgram, HasNoCosts, HasNoPlacement, IsWhyText}
+use Rattle.placed_text.proofs.Vocabulary.{◌≡◌, ◌∙◌, ℕ, List, Option, Some, None, ap, length, subst, unwrap_or, length-replicate, Listing, Shown, asked, shown_as, question_of, gap_count, answer_line, IsPlacement, AreTextsOf, AreWrittenTexts, HasNoPlacedText, TellsWhy}
+use Rattle.placed_text.proofs.Vocabulary.{Litmus, AreGiven, IsAnswerText, IsPlacedSource, IsPlacedText, HasNoProgram, HasNoCosts, HasNoPlacement, IsWhyText}
 use Rattle.std.proofs.lemmas.List.FromFn.{length-map-range_with_len}
 use Rattle.tso_program.specs.declared.shown.ShownKind.{ShownKind}
 use Rattle.litmus_text.specs.{Texts.IsLitmus, CostTexts.said_of}
-use Rattle.placed_text.specs.{declared.fault.TextFault.TextFault, declared.placing.PlacedSource.PlacedSource, declared.writing.PlacedText.PlacedText}
+use Rattle.cert_forest.specs.Texts.{certificate_text}
+use Rattle.placed_text.specs.{declared.fault.TextFault.TextFault, declared.placing.PlacedSource.PlacedSource, declared.writing.AnswerText.AnswerText, declared.writing.PlacedText.PlacedText}
 use Rattle.placed_text.specs.declared.fault.TextFault.TheVariants as fault
 
 -- each gap has a cost
@@ -18,13 +19,12 @@ module _ (litmus : List ℕ) (costs : Option (List ℕ)) where
   placement_of kind from is = subst (λ (shown : Shown). IsPlacement (asked from.source.program shown) from.costs from.found.placed) is.shown is.placement
 
   -- from what is written of it
-  pub placed_text : (kind : ShownKind) (from : PlacedSource) (texts : PlacedText) → IsPlacedSource litmus costs kind from
-      → AreWrittenTexts from.source from.shown from.costs (certified from.found.placed) texts → IsPlacedText litmus costs kind texts
-  placed_text kind from texts of_texts are_written =
+  pub answer_text : (kind : ShownKind) (from : PlacedSource) (texts : AnswerText) → IsPlacedSource litmus costs kind from → AreTextsOf from texts → IsAnswerText litmus costs kind texts
+  answer_text kind from texts of_texts are_written =
       let source = from.source in
       let placed = from.found.placed in
       let is = placement_of kind from of_texts in
-      let written = subst (λ (shown : Shown). AreWrittenTexts source shown from.costs (certified placed) texts) of_texts.shown are_written in
+      let written = subst (λ (shown : Shown). AreWrittenTexts source shown from.costs placed.set placed.cost texts) of_texts.shown are_written in
       record {
         source = source;
         of_text = of_texts.of_text;
@@ -36,14 +36,24 @@ module _ (litmus : List ℕ) (costs : Option (List ℕ)) where
         program = written.program;
         again = written.again litmus of_texts.of_text;
         line = subst (λ (cost : ℕ). texts.answer.items ≡ answer_line source.program (shown_as source kind) placed.set cost) is.cost written.line;
+        document = written.document;
+        set = written.set;
+      }
+
+  -- and from that with the text of its certificate
+  pub placed_text : (kind : ShownKind) (from : PlacedSource) (placed : PlacedText) → IsPlacedSource litmus costs kind from → AreTextsOf from placed.texts
+      → placed.certificate ≡ certificate_text from.found.placed.certificate → IsPlacedText litmus costs kind placed
+  unfolding answer_text
+  placed_text kind from placed of_texts are_written spelled =
+      let is = placement_of kind from of_texts in
+      record {
+        told = answer_text kind from placed.texts of_texts are_written;
         certificate = record {
-          claimed = placed.certificate;
-          of_text = record { spelled = written.certificate; within = is.proof.within };
+          claimed = from.found.placed.certificate;
+          of_text = record { spelled = spelled; within = is.proof.within };
           claims = is.same_set;
           valid = is.proof.valid;
         };
-        document = written.document;
-        set = written.set;
       }
 
   -- from the reasons that are given for it

@@ -16,11 +16,9 @@ use Rattle.cert_forest.specs.Certificates.{Certificate}
 use Rattle.cert_forest.specs.Limits.{IsCertificate}
 use Rattle.cover_solver.specs.Certificates.{IsValidCertificate}
 use Rattle.report.specs.Answers.{answer_line}
-use Rattle.cert_forest.specs.Texts.{certificate_text}
-use Rattle.fence_place.specs.declared.placing.Placed.{Placed}
 use Rattle.fence_place.specs.Placements.{IsPlacement}
 use Rattle.placed_text.specs.declared.placing.PlacedSource.{PlacedSource}
-use Rattle.placed_text.specs.declared.writing.CertifiedSet.{CertifiedSet}
+use Rattle.placed_text.specs.declared.writing.AnswerText.{AnswerText}
 use Rattle.placed_text.specs.declared.writing.PlacedText.{PlacedText}
 use Rattle.litmus_text.specs.Shown.{shown_as, question_of}
 
@@ -33,9 +31,8 @@ pub record IsCertificateOf (q : Question) (costs : List ℕ) (gaps : SetOfGaps) 
 
 -- What the texts tell: the litmus text stands for this program, its gaps have these costs, these gaps are the answer, so that
 -- the headline holds of them; the program's text is the canonical one with an MFENCE in each of them, and is read as that
--- program; the line is made of them and of their total, the certificate is one of them, the document says the same of them, and
--- the set has them.
-pub record IsPlacedText (litmus : List ℕ) (costs : Option (List ℕ)) (kind : ShownKind) (texts : PlacedText) : Type 0 where
+-- program; the line is made of them and of their total, the document says the same of them, and the set has them.
+pub record IsAnswerText (litmus : List ℕ) (costs : Option (List ℕ)) (kind : ShownKind) (texts : AnswerText) : Type 0 where
   pub source : Litmus Listing
   pub of_text : IsLitmus litmus source
   pub gap_costs : List ℕ
@@ -46,9 +43,13 @@ pub record IsPlacedText (litmus : List ℕ) (costs : Option (List ℕ)) (kind : 
   pub program : texts.program.items ≡ canonical_text (litmus_fenced_at gaps source)
   pub again : IsFencedLitmus texts.program.items (litmus_fenced_at gaps source)
   pub line : texts.answer.items ≡ answer_line source.program (shown_as source kind) gaps (total gap_costs gaps)
-  pub certificate : IsCertificateOf (question_of source kind) gap_costs gaps texts.certificate
   pub document : IsPlacedDocument source (shown_as source kind) gap_costs gaps texts.program.items texts.document.items
   pub set : texts.gaps ≡ gaps
+
+-- what the texts tell of an answer, of whose gaps the certificate is
+pub record IsPlacedText (litmus : List ℕ) (costs : Option (List ℕ)) (kind : ShownKind) (placed : PlacedText) : Type 0 where
+  pub told : IsAnswerText litmus costs kind placed.texts
+  pub certificate : IsCertificateOf (question_of told.source kind) told.gap_costs told.gaps placed.certificate
 
 -- what the texts stand for, what is shown of outcomes, and what is placed in the program, by a solver of its question
 pub record IsPlacedSource (litmus : List ℕ) (costs : Option (List ℕ)) (kind : ShownKind) (placed : PlacedSource) : Type 0 where
@@ -58,15 +59,14 @@ pub record IsPlacedSource (litmus : List ℕ) (costs : Option (List ℕ)) (kind 
   pub solver : placed.found.solver.question ≡ asked placed.source.program placed.shown
   pub placement : IsPlacement (asked placed.source.program placed.shown) placed.costs placed.found.placed
 
--- the set that is placed, with the text of its certificate
-abbrev pub certified : Placed → CertifiedSet
-certified placed = record { set = placed.set; cost = placed.cost; certificate = certificate_text placed.certificate }
+-- the texts of an answer: these gaps of a program, at this cost
+pub record AreWrittenTexts (source : Litmus Listing) (shown : Shown) (costs : List ℕ) (gaps : SetOfGaps) (cost : ℕ) (texts : AnswerText) : Type 0 where
+  pub program : texts.program.items ≡ canonical_text (litmus_fenced_at gaps source)
+  pub again : (text : List ℕ) → IsLitmus text source → IsFencedLitmus texts.program.items (litmus_fenced_at gaps source)
+  pub line : texts.answer.items ≡ answer_line source.program shown gaps cost
+  pub document : IsPlacedDocument source shown costs gaps texts.program.items texts.document.items
+  pub set : texts.gaps ≡ gaps
 
--- the texts of what is placed
-pub record AreWrittenTexts (source : Litmus Listing) (shown : Shown) (costs : List ℕ) (placed : CertifiedSet) (texts : PlacedText) : Type 0 where
-  pub program : texts.program.items ≡ canonical_text (litmus_fenced_at placed.set source)
-  pub again : (text : List ℕ) → IsLitmus text source → IsFencedLitmus texts.program.items (litmus_fenced_at placed.set source)
-  pub line : texts.answer.items ≡ answer_line source.program shown placed.set placed.cost
-  pub certificate : texts.certificate ≡ placed.certificate
-  pub document : IsPlacedDocument source shown costs placed.set texts.program.items texts.document.items
-  pub set : texts.gaps ≡ placed.set
+-- those of what is placed
+abbrev pub AreTextsOf : PlacedSource → AnswerText → Type 0
+AreTextsOf from = AreWrittenTexts from.source from.shown from.costs from.found.placed.set from.found.placed.cost

@@ -166,7 +166,7 @@ fn told(alloc: Global, placed: &PlacedSource) -> Result<WhyText, TextFault>
     }
 }
 
-/// Places fences in the program of a litmus text as [`crate::place_text`] does, and says why each of them is
+/// Places fences in the program of a litmus text as [`crate::answer_text`] does, and says why each of them is
 /// needed: after the answer line, for each gap of the answer a run with the other gaps fenced, whose outcome no
 /// sequential run has. The graph has these runs, and the document says what the lines say.
 pub fn why_text<R: Threads + Wait + Sync>(

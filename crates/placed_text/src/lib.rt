@@ -1,9 +1,9 @@
 //! From a litmus text and costs to the answer's texts, and to a run that each fence prevents.
 //!
-//! The texts are the answer line, the fenced program, the certificate and the document. A run that is shown passes
-//! no other gap of the answer, and no sequential run leaves what it leaves.
+//! The texts are the answer line, the fenced program and the document, and where it is asked for the certificate. A
+//! run that is shown passes no other gap of the answer, and no sequential run leaves what it leaves.
 //!
-//! Begin with `place_text`, `why_text` and `read_program`. Free to change: what is reported on the way (`ahead.rt`,
+//! Begin with `answer_text`, `place_text` and `why_text`. Free to change: what is reported on the way (`ahead.rt`,
 //! `watched.rt`), how many workers ask (`askers`), and which run is shown, its table and its graph. Relied on: the
 //! headline holds of the set for the program and the costs of the texts, all that is written says the same of it
 //! (`IsPlacedText`), and for exactly the gaps of the answer, in order, the labels are such a run (`IsWhyText`).
@@ -21,7 +21,7 @@ mod writing;
 pub use ahead::{Ahead, report_ahead};
 pub use explaining::{WhyText, why_text};
 pub use fault::TextFault;
-pub use placing::place_text;
+pub use placing::{answer_text, place_text};
 pub use reading::{read_gap_costs, read_program};
 pub use watched::Effort;
-pub use writing::PlacedText;
+pub use writing::{AnswerText, PlacedText};

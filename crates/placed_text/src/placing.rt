@@ -5,16 +5,17 @@ ghost use Rattle.tso_program.specs.Fences.{first_missing};
 ghost use Rattle.tso_program.specs.Shown.{asked};
 ghost use Rattle.litmus_text.specs.GivenCosts.{AreGiven};
 ghost use Rattle.litmus_text.specs.Shown.{shown_as};
+ghost use Rattle.cert_forest.specs.Texts.{certificate_text};
 ghost use Rattle.fence_place.specs.Faults.{AreTooFewOrMany};
 ghost use Rattle.fence_place.specs.Placements.{IsPlacement};
-ghost use Rattle.placed_text.specs.PlacedTexts.{certified, AreWrittenTexts, IsPlacedSource, IsPlacedText};
+ghost use Rattle.placed_text.specs.PlacedTexts.{AreTextsOf, IsAnswerText, IsPlacedSource, IsPlacedText};
 ghost use Rattle.placed_text.specs.TextFaults.{HasNoPlacement, HasNoPlacedText, HasNoTextOf};
 
 use crate::TextFault;
 use crate::ahead::report_ahead;
 use crate::reading::{read_gap_costs, read_program, shown_of};
 use crate::watched::{Effort, Watched, report_failure, report_outcomes};
-use crate::writing::{CertifiedSet, PlacedText, write_placed};
+use crate::writing::{AnswerText, PlacedText, write_answer};
 use cert_pages::write_pages;
 use cover_solver::{SeqTable, SolveFault, Solver, sequential_watched};
 use fence_place::{PlaceFault, Placed, place};
@@ -37,6 +38,17 @@ const MANY_NODES: usize = 100_000;
 pub(crate) struct SolvedPlacement {
     pub(crate) placed: Placed,
     pub(crate) solver: Solver,
+}
+
+impl SolvedPlacement {
+    /// What is placed. What the solver keeps is as large as a tree of the certificate: it goes before texts are made.
+    fn into_placed(self) -> Placed
+        ensures { result ≡ self.placed }
+    {
+        let SolvedPlacement { placed, solver } = self;
+        drop(solver);
+        placed
+    }
 }
 
 /// The costs of a program's gaps, what is shown of its outcomes, and what is placed in it.
@@ -184,7 +196,7 @@ fn placed_in<R: Threads + Wait + Sync>(
     })
 }
 
-/// Reads a litmus text and costs, and finds what [`place_text`] writes and [`crate::why_text`] explains.
+/// Reads a litmus text and costs, and finds what [`answer_text`] and [`place_text`] write and [`crate::why_text`] explains.
 pub(crate) fn placed_source<R: Threads + Wait + Sync>(
     rt: &R,
     alloc: Global,
@@ -212,41 +224,10 @@ pub(crate) fn placed_source<R: Threads + Wait + Sync>(
     })
 }
 
-/// The set that is placed, with the text of its certificate.
-fn certified_set<R: Threads + Wait + Sync>(
-    rt: &R,
-    alloc: Global,
-    workers: u8,
-    found: SolvedPlacement,
-) -> Result<CertifiedSet, AllocError>
-    ensures { IfOk result (λ made. made ≡ certified found.placed) }
-{
-    // What the solver keeps is as large as a tree of the certificate: it goes before the text is made.
-    let SolvedPlacement { placed, solver } = found;
-    drop(solver);
-    let Placed {
-        set,
-        cost,
-        certificate,
-    } = placed;
-    let threads = usize::from(workers.max(1));
-    let certificate = write_pages(rt, alloc, threads, certificate)?;
-    Ok(CertifiedSet {
-        set,
-        cost,
-        certificate,
-    })
-}
-
-/// The texts of what is placed in a program.
-fn placed_texts<R: Threads + Wait + Sync>(
-    rt: &R,
-    alloc: Global,
-    workers: u8,
-    placed: PlacedSource,
-) -> Result<PlacedText, AllocError>
+/// The texts of the answer in a program. The certificate goes before they are made.
+fn answer_texts(alloc: Global, placed: PlacedSource) -> Result<AnswerText, AllocError>
     requires { first_missing placed.source.program placed.found.placed.set ≡ None }
-    ensures { IfOk result (AreWrittenTexts placed.source placed.shown placed.costs (certified placed.found.placed)) }
+    ensures { IfOk result (AreTextsOf placed) }
 {
     let PlacedSource {
         source,
@@ -254,8 +235,41 @@ fn placed_texts<R: Threads + Wait + Sync>(
         shown,
         found,
     } = placed;
-    let certified = certified_set(rt, alloc, workers, found)?;
-    write_placed(alloc, &source, &shown, &costs, certified)
+    let Placed {
+        set,
+        cost,
+        certificate,
+    } = found.into_placed();
+    drop(certificate);
+    write_answer(alloc, &source, &shown, &costs, &set, cost)
+}
+
+/// The texts of the answer in a program, and the text of its certificate, which goes as it is written.
+fn placed_texts<R: Threads + Sync>(
+    rt: &R,
+    alloc: Global,
+    workers: u8,
+    placed: PlacedSource,
+) -> Result<PlacedText, AllocError>
+    requires { first_missing placed.source.program placed.found.placed.set ≡ None }
+    ensures texts { IfOk result (λ written. AreTextsOf placed written.texts) }
+    ensures certificate { IfOk result (λ written. written.certificate ≡ certificate_text placed.found.placed.certificate) }
+{
+    let PlacedSource {
+        source,
+        costs,
+        shown,
+        found,
+    } = placed;
+    let Placed {
+        set,
+        cost,
+        certificate,
+    } = found.into_placed();
+    let threads = usize::from(workers.max(1));
+    let certificate = write_pages(rt, alloc, threads, certificate)?;
+    let texts = write_answer(alloc, &source, &shown, &costs, &set, cost)?;
+    Ok(PlacedText { texts, certificate })
 }
 
 /// Places fences in the program of a litmus text, where its gaps cost what a text of costs says, and 1
@@ -263,7 +277,28 @@ fn placed_texts<R: Threads + Wait + Sync>(
 /// others. What is shown of outcomes, by its kind, tells them apart.
 ///
 /// The litmus text is judged first, then the costs, then the number of workers. With `rt` workers start threads
-/// and wait for one another ([`fence_place::place`]), and write the certificate. [`Effort`] says where it reports how far it is.
+/// and wait for one another ([`fence_place::place`]). [`Effort`] says where it reports how far it is.
+pub fn answer_text<R: Threads + Wait + Sync>(
+    rt: &R,
+    alloc: Global,
+    litmus: &[u8],
+    costs: Option<&[u8]>,
+    kind: ShownKind,
+    effort: Effort,
+) -> Result<AnswerText, TextFault>
+    ensures told { IfOk result (IsAnswerText litmus.now (option_map (λ text. text.now) costs.entry) kind) }
+    ensures workers { OnOk result (¬ AreTooFewOrMany effort.workers) }
+    ensures fault { IfErr result (HasNoPlacedText litmus.now (option_map (λ text. text.now) costs.entry) effort.workers) }
+{
+    let placed = placed_source(rt, alloc, litmus, costs, kind, effort)?;
+    match answer_texts(alloc, placed) {
+        Ok(texts) => Ok(texts),
+        Err(_) => Err(TextFault::OutOfMemory),
+    }
+}
+
+/// Places fences in the program of a litmus text as [`answer_text`] does, and writes the certificate too, by the threads of
+/// its workers.
 pub fn place_text<R: Threads + Wait + Sync>(
     rt: &R,
     alloc: Global,

@@ -11,56 +11,48 @@ use report::answer_line;
 use std::alloc::{AllocError, Global};
 use tso_program::{FenceFault, Program, Shown};
 
-/// The texts of what is placed.
+/// The texts of an answer.
 #[derive(Drop)]
-pub struct PlacedText {
+pub struct AnswerText {
     /// The program with its fences, in canonical text.
     pub program: Vec<u8>,
     /// The line of the answer.
     pub answer: Vec<u8>,
-    /// The certificate of the answer.
-    pub certificate: Pages,
     /// What is said of the answer, as JSON.
     pub document: Vec<u8>,
     /// The gaps of the answer.
     pub gaps: GapSet,
 }
 
-/// The gaps that are the answer, their cost, and the text of a certificate of them.
+/// The texts of an answer, and the text of its certificate.
 #[derive(Drop)]
-pub(crate) struct CertifiedSet {
-    pub(crate) set: GapSet,
-    pub(crate) cost: u64,
-    pub(crate) certificate: Pages,
+pub struct PlacedText {
+    pub texts: AnswerText,
+    pub certificate: Pages,
 }
 
-/// Writes what is placed, where the text of its certificate is there.
-pub(crate) fn write_placed(
+/// Writes the texts of an answer: these gaps of a program, at this cost.
+pub(crate) fn write_answer(
     alloc: Global,
     litmus: &Litmus<Program>,
     shown: &Shown,
     costs: &Costs,
-    certified: CertifiedSet,
-) -> Result<PlacedText, AllocError>
-    requires { first_missing litmus.now.program certified.set ≡ None }
-    ensures { IfOk result (AreWrittenTexts litmus.now shown.now costs.now certified) }
+    set: &GapSet,
+    cost: u64,
+) -> Result<AnswerText, AllocError>
+    requires { first_missing litmus.now.program set.now ≡ None }
+    ensures { IfOk result (AreWrittenTexts litmus.now shown.now costs.now set.now cost) }
 {
-    let CertifiedSet {
-        set,
-        cost,
-        certificate,
-    } = certified;
-    let program = match write_litmus(alloc, litmus, &set) {
+    let program = match write_litmus(alloc, litmus, set) {
         Ok(program) => program,
         Err(FenceFault::NoSuchGap(_)) => unreachable!(),
         Err(FenceFault::OutOfMemory) => return Err(AllocError),
     };
-    let document = placed_document(alloc, litmus, shown, costs, &set, &program)?;
-    Ok(PlacedText {
+    let document = placed_document(alloc, litmus, shown, costs, set, &program)?;
+    Ok(AnswerText {
         program,
-        answer: answer_line(alloc, &litmus.program, shown, set, cost)?,
-        certificate,
+        answer: answer_line(alloc, &litmus.program, shown, *set, cost)?,
         document,
-        gaps: set,
+        gaps: *set,
     })
 }

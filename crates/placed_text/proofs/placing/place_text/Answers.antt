@@ -11,4 +11,4 @@ placed_texts-requires-after_bounds g c =
 
 pub returns-in-Ok-clause-placed : goal.returns-in-Ok-clause-placed
 returns-in-Ok-clause-placed g c =
-    judged.placed_text c.args.litmus.now (option_map (λ text. text.now) c.args.costs) c.args.kind c.in_ok-placed.placed c.in-Ok.texts c.in_ok-placed.ensures.placed c.in-Ok.ensures
+    judged.placed_text c.args.litmus.now (option_map (λ text. text.now) c.args.costs) c.args.kind c.in_ok-placed.placed c.in-Ok.texts c.in_ok-placed.ensures.placed c.in-Ok.ensures.texts c.in-Ok.ensures.certificate

@@ -1,12 +1,11 @@
 use Rattle.placed_text.proofs.Vocabulary.{refl}
-use Rattle.placed_text.proofs.writing.write_placed.Goals as goal
+use Rattle.placed_text.proofs.writing.write_answer.Goals as goal
 
 pub returns : goal.returns
 returns c = record {
   program = c.in-Ok.ensures.text;
   again = c.in-Ok.ensures.again;
   line = c.in_ok-answer_line.ensures;
-  certificate = refl;
   document = rw c.deref.ensures.value at c.in_ok-document.ensures.told;
   set = refl;
 }
