@@ -79,7 +79,7 @@ returns-in_err-tree-clause-stop g c =
     let result = c.tree_at.result in
     let i = c.loop-i.i in
     let found = subst (λ (s : ProgramSketch). IsFoundAt s shown outcomes c.args.kept.now.pieces.items i result) c.in_ok-empty.ensures.empty
-        (subst (λ (xs : List Piece). IsFoundAt c.in_ok-empty.empty shown outcomes xs i result) c.deref-in-loop-i-2.ensures.value c.tree_at.ensures.found) in
+    (subst (λ (xs : List Piece). IsFoundAt c.in_ok-empty.empty shown outcomes xs i result) c.deref-in-loop-i-2.ensures.value c.tree_at.ensures.found) in
     let lacks = subst (λ r. IfErr r (StopLacks (asked root.program shown) (mode_in root) outcomes)) c.in_err-tree.was (found c.index.result.now).stop in
     stops_for c.in_err-tree.field-0.0 c.from_residual-in_err-tree.result (StopLacks (asked root.program shown) (mode_in root) outcomes) c.from_residual-in_err-tree.ensures.1 lacks
 
