@@ -4,6 +4,7 @@ pub mod Inserted
 pub mod Numbered
 pub mod Growing
 pub mod Covering
+pub mod Judging
 pub mod OwnEnds
 pub mod SameMachine
 pub mod AllOutcomes

@@ -72,12 +72,14 @@ pub use Rattle.tso_program.specs.declared.outcome.Outcome.{Outcome}
 pub use Rattle.tso_program.specs.declared.shown.Shown.{Shown}
 pub use Rattle.sketch_covers.specs.Ascending.{Ascend, BelongsAt}
 pub use Rattle.sketch_covers.specs.Covers.{AreCoversAfter, AreNeat, IsCoverAfter, IsCoverAt, IsEndNotListed, IsLeafAt, IsNeat, IsWholeCover, node_over, tree_over}
+pub use Rattle.sketch_covers.specs.CoveredSketches.{IsCoveredAt, IsStillValid, IsTaken, IsValid, IsWithinLimitsAt}
 pub use Rattle.sketch_covers.specs.KnownOutcomes.{AreInOrder, Grows, HasOwnEnd, HasRunOfEach, OnTold, StaysOf, StopIs, by_number}
 pub use Rattle.sketch_covers.specs.NodeChanges.{renumbered_node}
 pub use Rattle.sketch_covers.specs.OutcomeNumbers.{ArePlacesOf, AreRunsOf, HasNumber, IsInOrder, IsRunOf, Keeps, KeepsNumbers, ascending, numbered, place_in, with_first}
-pub use Rattle.sketch_covers.specs.Pushing.{Begins, BeginsIfNew, IfKnown, IsTaken, Pushes}
+pub use Rattle.sketch_covers.specs.Pushing.{Begins, BeginsIfNew, IfKnown, Pushes}
 pub use Rattle.sketch_covers.specs.ShownRuns.{IsShownRunOf}
 pub use Rattle.sketch_covers.specs.UnsourcedTraces.{Closes, Takes}
+pub use Rattle.sketch_covers.specs.declared.covered.Covered.{Covered}
 pub use Rattle.sketch_covers.specs.declared.known_outcomes.KnownOutcomes.{KnownOutcomes, TheVariants.Closed, TheVariants.Open}
 pub use Rattle.sketch_covers.specs.declared.outcome_index.OutcomeIndex.{OutcomeIndex}
 pub use Rattle.sketch_covers.specs.declared.stop.SearchStop.{SearchStop}

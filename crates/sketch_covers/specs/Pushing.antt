@@ -6,7 +6,6 @@ use Rattle.sketches.specs.ProgramSketches.{ProgramSketch}
 use Rattle.cert_forest.specs.Node.{Node}
 use Rattle.cert_forest.specs.Trees.{Cover}
 use Rattle.cert_forest.specs.Nodes.{spell}
-use Rattle.cover_judge.specs.Judged.{IsValidAt}
 use Rattle.sketch_covers.specs.declared.stop.SearchStop.{SearchStop}
 use Rattle.sketch_covers.specs.declared.stop.SearchStop.TheVariants as stop
 use Rattle.sketch_covers.specs.Covers.{IsEndNotListed, IsLeafAt, IsUnsettled}
@@ -35,8 +34,3 @@ IfKnown s shown outcomes old new false = IsEndNotListed s shown outcomes × (new
 abbrev pub IfLeaf : ProgramSketch → Shown → List Outcome → List Node → List Node → Bool → Type 0
 IfLeaf s shown outcomes old new true = Pushes (IsLeafAt s shown outcomes) old new
 IfLeaf s shown outcomes old new false = IsUnsettled s shown outcomes × (new ≡ old)
-
--- the tree is valid at the sketch and has moved, or all is as before
-abbrev pub IsTaken : ProgramSketch → Shown → List Outcome → Cover → List Node → List Node → List Node → Bool → Type 0
-IsTaken s shown outcomes tree old moved new true = IsValidAt s shown outcomes tree × (new ≡ moved)
-IsTaken s shown outcomes tree old moved new false = new ≡ old

@@ -1,6 +1,6 @@
 //! The search for a cover tree over a list of outcomes. Where it comes to a new outcome, an open list adds
 //! that of the same choices in its own mode. A new outcome that the list then still lacks ends the search.
-ghost use Rattle.std.specs.Prelude.{◌≡◌, ◌≤◌, ◌<◌, ◌^◌, IfOk, IfErr, OnOk, IsTrue, drop, length};
+ghost use Rattle.std.specs.Prelude.{◌≡◌, ◌≤◌, ◌<◌, ◌^◌, None, IfOk, IfErr, OnOk, IsTrue, false, take, drop, length};
 ghost use Rattle.std.specs.List.{remove_range};
 ghost use Rattle.tso_program.specs.Shown.{asked};
 ghost use Rattle.candidate_executions.specs.Sketches.{IsWhole};
@@ -8,14 +8,18 @@ ghost use Rattle.sketches.specs.ProgramSketches.{mode_in, with_chosen};
 ghost use Rattle.sketches.specs.Complete.{IsComplete};
 ghost use Rattle.cert_forest.specs.Nodes.{tree_of, IsTree};
 ghost use Rattle.cover_judge.specs.Choices.{sketch_with, MayChoose};
+ghost use Rattle.cover_judge.specs.Judged.{IsValidAt};
 ghost use Rattle.branching.specs.OpenChoices.{IsBranch};
 ghost use Rattle.sketch_covers.specs.Covers.{IsCoverAt, IsUnsettled, node_over};
+ghost use Rattle.sketch_covers.specs.CoveredSketches.{IsCoveredAt, IsTaken, IsValid};
 ghost use Rattle.sketch_covers.specs.KnownOutcomes.{by_number, AreInOrder, Grows, OnTold, StopIs};
-ghost use Rattle.sketch_covers.specs.Pushing.{Pushes, BeginsIfNew, IsTaken};
+ghost use Rattle.sketch_covers.specs.Pushing.{Pushes, BeginsIfNew};
 ghost use Rattle.branching.specs.Accesses.{AreAccessesOf};
 
+use crate::covered::Covered;
 use crate::known_outcomes::KnownOutcomes;
-use crate::leaf::{known, leaf};
+use crate::leaf::{FoundLeaf, known, leaf};
+use crate::needs::{ChoicePath, Needs};
 use crate::run::shown_run;
 use crate::stop::SearchStop;
 use branching::{Branch, OpenChoice, WholeAccesses, next_branch, whole_accesses};
@@ -42,12 +46,18 @@ pub fn cover_whole(
     ensures stop { IfErr result (StopIs (asked sketch.old.program shown.now) (mode_in sketch.old) outcomes.old) }
     ensures stays { IfErr result (BeginsIfNew nodes.old.items nodes.new.items) }
 {
+    let accesses = whole_accesses(alloc, sketch)?;
     let search = TreeSearch {
         alloc,
         shown,
-        accesses: whole_accesses(alloc, sketch)?,
+        accesses: &accesses,
+        hinted: true,
     };
-    search.cover_from(sketch, outcomes, nodes)
+    let mut path = ChoicePath::none(alloc);
+    match search.cover_to(None, sketch, &mut path, outcomes, nodes)? {
+        Covered::Valid(_) => Ok(()),
+        Covered::Unjudged(_) => unreachable!(),
+    }
 }
 
 /// A search for a tree of a sketch in which each read has its value: what is shown of a run, and what the sketch reads
@@ -56,7 +66,9 @@ pub fn cover_whole(
 struct TreeSearch<'a> {
     alloc: Global,
     shown: &'a Shown,
-    accesses: WholeAccesses,
+    accesses: &'a WholeAccesses,
+    /// Whether it works out which choices a tree needs, so that a tree is judged once, where it ends up.
+    hinted: bool,
 }
 
 impl TreeSearch<'_> {
@@ -65,30 +77,33 @@ impl TreeSearch<'_> {
     fn cover_from(
         &self,
         sketch: &mut Sketch,
+        path: &mut ChoicePath,
         outcomes: &mut KnownOutcomes,
         nodes: &mut Vec<Node>,
-    ) -> Result<(), SearchStop>
+    ) -> Result<Covered, SearchStop>
         requires in_order { AreInOrder outcomes.old }
-        requires accesses { AreAccessesOf sketch.old self.now.accesses }
+        requires accesses { AreAccessesOf sketch.old self.now.accesses.now }
         ensures kept { sketch.new ≡ sketch.old }
         ensures grows { OnTold result (Grows (asked sketch.old.program self.now.shown.now) outcomes.old outcomes.new) }
-        ensures tree { OnOk result (Pushes (IsCoverAt sketch.old self.now.shown.now (by_number outcomes.new)) nodes.old.items nodes.new.items) }
+        ensures tree { IfOk result (λ covered. Pushes (IsCoveredAt covered sketch.old self.now.shown.now (by_number outcomes.new)) nodes.old.items nodes.new.items) }
+        ensures plain { self.now.hinted ≡ false → IfOk result IsValid }
         ensures stop { IfErr result (StopIs (asked sketch.old.program self.now.shown.now) (mode_in sketch.old) outcomes.old) }
         ensures stays { IfErr result (BeginsIfNew nodes.old.items nodes.new.items) }
     {
         sketch.recall_facts();
-        if leaf(self.alloc, sketch, self.shown, outcomes, nodes)? {
-            return Ok(());
+        if let Some(leaf) = leaf(self.alloc, sketch, self.shown, outcomes, nodes)? {
+            let needs = self.needs_of(&leaf, path, outcomes.as_slice());
+            return Ok(Covered::Valid(needs));
         }
         match next_branch(
             self.alloc,
             sketch,
-            &self.accesses,
+            self.accesses,
             self.shown,
             outcomes.ordered(),
         )? {
-            Some(branch) => self.cover_over(sketch, &branch, outcomes, nodes),
-            None => self.end(sketch, outcomes, nodes),
+            Some(branch) => self.cover_over(sketch, &branch, path, outcomes, nodes),
+            None => self.end(sketch, path, outcomes, nodes),
         }
     }
 
@@ -97,23 +112,26 @@ impl TreeSearch<'_> {
     fn end(
         &self,
         sketch: &Sketch,
+        path: &ChoicePath,
         outcomes: &mut KnownOutcomes,
         nodes: &mut Vec<Node>,
-    ) -> Result<(), SearchStop>
+    ) -> Result<Covered, SearchStop>
         requires in_order { AreInOrder outcomes.old }
         requires complete { IsComplete sketch.now }
         requires unsettled { IsUnsettled sketch.now self.now.shown.now (by_number outcomes.old) }
         ensures grows { OnTold result (Grows (asked sketch.now.program self.now.shown.now) outcomes.old outcomes.new) }
-        ensures tree { OnOk result (Pushes (IsCoverAt sketch.now self.now.shown.now (by_number outcomes.new)) nodes.old.items nodes.new.items) }
+        ensures tree { IfOk result (λ covered. Pushes (IsCoveredAt covered sketch.now self.now.shown.now (by_number outcomes.new)) nodes.old.items nodes.new.items) }
+        ensures plain { IfOk result IsValid }
         ensures stop { IfErr result (StopIs (asked sketch.now.program self.now.shown.now) (mode_in sketch.now) outcomes.old) }
         ensures stays { IfErr result (BeginsIfNew nodes.old.items nodes.new.items) }
     {
         sketch.recall_facts();
-        outcomes.add(self.alloc, sketch, &self.accesses, self.shown)?;
+        outcomes.add(self.alloc, sketch, self.accesses, self.shown)?;
         match known(sketch, self.shown, outcomes)? {
             Some(number) => {
                 push_known(nodes, number as u64)?;
-                Ok(())
+                let needs = self.needs_of(&FoundLeaf::Known(number), path, outcomes.as_slice());
+                Ok(Covered::Valid(needs))
             }
             None => Err(SearchStop::New {
                 run: shown_run(self.alloc, sketch, self.shown)?,
@@ -122,97 +140,234 @@ impl TreeSearch<'_> {
         }
     }
 
-    /// Puts the node over the choices and a tree for the sketch after each of them after the other nodes, up to one that is
-    /// valid without its choice: then no other is needed, and it takes the place of the node.
+    /// What a leaf needs.
+    fn needs_of(&self, leaf: &FoundLeaf, path: &ChoicePath, outcomes: &[Outcome]) -> Needs {
+        if !self.hinted {
+            return Needs::unknown();
+        }
+        match leaf {
+            FoundLeaf::Known(number) => match outcomes.get(*number) {
+                Some(end) => path.needs_of_end(self.accesses, self.shown, end),
+                None => Needs::unknown(),
+            },
+            FoundLeaf::Cycle(events) => path.needs_of_cycle(self.accesses, events),
+        }
+    }
+
+    /// Puts the node over the choices and a tree for the sketch after each of them after the other nodes, up to one that
+    /// does not need its choice: then no other is needed, and it takes the place of the node.
     #[cycle(cover)]
     fn cover_over(
         &self,
         sketch: &mut Sketch,
         branch: &Branch,
+        path: &mut ChoicePath,
         outcomes: &mut KnownOutcomes,
         nodes: &mut Vec<Node>,
-    ) -> Result<(), SearchStop>
+    ) -> Result<Covered, SearchStop>
         requires in_order { AreInOrder outcomes.old }
-        requires accesses { AreAccessesOf sketch.old self.now.accesses }
+        requires accesses { AreAccessesOf sketch.old self.now.accesses.now }
         requires branch { IsBranch sketch.old branch.now }
         ensures kept { sketch.new ≡ sketch.old }
         ensures grows { OnTold result (Grows (asked sketch.old.program self.now.shown.now) outcomes.old outcomes.new) }
-        ensures tree { OnOk result (Pushes (IsCoverAt sketch.old self.now.shown.now (by_number outcomes.new)) nodes.old.items nodes.new.items) }
+        ensures tree { IfOk result (λ covered. Pushes (IsCoveredAt covered sketch.old self.now.shown.now (by_number outcomes.new)) nodes.old.items nodes.new.items) }
+        ensures plain { self.now.hinted ≡ false → IfOk result IsValid }
         ensures stop { IfErr result (StopIs (asked sketch.old.program self.now.shown.now) (mode_in sketch.old) outcomes.old) }
         ensures stays { IfErr result (BeginsIfNew nodes.old.items nodes.new.items) }
     {
         sketch.recall_facts();
         let root = nodes.len();
         nodes.push(node_of(branch))?;
+        let mut needs = Needs::nothing();
         for choice in &branch.choices {
             let child = nodes.len();
-            self.cover_after(sketch, *choice, outcomes, nodes)?;
-            if self.take_place(nodes, root, child, sketch, outcomes.as_slice())? {
-                return Ok(());
+            let covered = self.cover_after(sketch, *choice, path, outcomes, nodes)?;
+            if self.take_place(nodes, root, child, covered, sketch, outcomes.as_slice())? {
+                return Ok(covered);
             }
+            needs.add(&covered.needs());
         }
-        Ok(())
+        Ok(Covered::Valid(needs))
     }
 
-    /// Puts a tree for the sketch after a choice, which is taken back, after the other nodes.
+    /// Puts a tree for the sketch after a choice, which is taken back, after the other nodes. What it needs is said without
+    /// the choice.
     #[cycle(cover)]
     fn cover_after(
         &self,
         sketch: &mut Sketch,
         choice: Choice,
+        path: &mut ChoicePath,
         outcomes: &mut KnownOutcomes,
         nodes: &mut Vec<Node>,
-    ) -> Result<(), SearchStop>
+    ) -> Result<Covered, SearchStop>
         requires in_order { AreInOrder outcomes.old }
-        requires accesses { AreAccessesOf sketch.old self.now.accesses }
+        requires accesses { AreAccessesOf sketch.old self.now.accesses.now }
         requires may { MayChoose sketch.old choice }
         ensures kept { sketch.new ≡ sketch.old }
         ensures grows { OnTold result (Grows (asked sketch.old.program self.now.shown.now) outcomes.old outcomes.new) }
-        ensures tree { OnOk result (Pushes (IsCoverAt (with_chosen sketch.old (sketch_with sketch.old.chosen choice)) self.now.shown.now (by_number outcomes.new)) nodes.old.items nodes.new.items) }
+        ensures tree { IfOk result (λ covered. Pushes (IsCoveredAt covered (with_chosen sketch.old (sketch_with sketch.old.chosen choice)) self.now.shown.now (by_number outcomes.new)) nodes.old.items nodes.new.items) }
+        ensures plain { self.now.hinted ≡ false → IfOk result IsValid }
         ensures stop { IfErr result (StopIs (asked sketch.old.program self.now.shown.now) (mode_in sketch.old) outcomes.old) }
         ensures stays { IfErr result (BeginsIfNew nodes.old.items nodes.new.items) }
     {
         sketch.recall_facts();
         let mark = sketch.mark()?;
+        let number = path.push(choice)?;
         choose(sketch, choice)?;
-        let covered = self.cover_from(sketch, outcomes, nodes);
+        let covered = self.cover_to(Some(number), sketch, path, outcomes, nodes);
+        path.pop();
         sketch.go_back(mark);
         covered
     }
 
-    /// Whether the last tree, that of a child, is valid at the open sketch of its parent, whose node is the root. If it is, it
-    /// takes the root's place, and the earlier children are gone. A cycle is not: it would have closed the sketch.
+    /// Puts a tree for the sketch after the other nodes: one that does not need the last choice, as far as is known, or
+    /// a valid one. Where there is no last choice it is valid.
+    #[cycle(cover)]
+    fn cover_to(
+        &self,
+        last: Option<usize>,
+        sketch: &mut Sketch,
+        path: &mut ChoicePath,
+        outcomes: &mut KnownOutcomes,
+        nodes: &mut Vec<Node>,
+    ) -> Result<Covered, SearchStop>
+        requires in_order { AreInOrder outcomes.old }
+        requires accesses { AreAccessesOf sketch.old self.now.accesses.now }
+        ensures kept { sketch.new ≡ sketch.old }
+        ensures grows { OnTold result (Grows (asked sketch.old.program self.now.shown.now) outcomes.old outcomes.new) }
+        ensures tree { IfOk result (λ covered. Pushes (IsCoveredAt covered sketch.old self.now.shown.now (by_number outcomes.new)) nodes.old.items nodes.new.items) }
+        ensures plain { self.now.hinted ≡ false → IfOk result IsValid }
+        ensures whole { last ≡ None → IfOk result IsValid }
+        ensures stop { IfErr result (StopIs (asked sketch.old.program self.now.shown.now) (mode_in sketch.old) outcomes.old) }
+        ensures stays { IfErr result (BeginsIfNew nodes.old.items nodes.new.items) }
+    {
+        let start = nodes.len();
+        let covered = self.cover_from(sketch, path, outcomes, nodes)?;
+        if let Some(needs) = self.needs_without(last, covered.needs()) {
+            return Ok(Covered::Unjudged(needs));
+        }
+        let needs = self.settle(covered, start, sketch, path, outcomes, nodes)?;
+        Ok(Covered::Valid(needs_above(last, needs)))
+    }
+
+    /// What a tree needs that does not need the last choice, as far as is known.
+    fn needs_without(&self, last: Option<usize>, needs: Needs) -> Option<Needs>
+        ensures plain { self.now.hinted ≡ false → result ≡ None }
+        ensures whole { last ≡ None → result ≡ None }
+    {
+        if !self.hinted {
+            return None;
+        }
+        match last {
+            Some(number) => needs.without(number),
+            None => None,
+        }
+    }
+
+    /// Judges the last tree, whose root is the node `start`, unless it is valid. If it is wrong, a tree of a search that
+    /// judges each step takes its place.
+    #[cycle(cover)]
+    fn settle(
+        &self,
+        covered: Covered,
+        start: usize,
+        sketch: &mut Sketch,
+        path: &mut ChoicePath,
+        outcomes: &mut KnownOutcomes,
+        nodes: &mut Vec<Node>,
+    ) -> Result<Needs, SearchStop>
+        requires in_order { AreInOrder outcomes.old }
+        requires accesses { AreAccessesOf sketch.old self.now.accesses.now }
+        requires start { start ≤ length nodes.old.items }
+        requires tree { Pushes (IsCoveredAt covered sketch.old self.now.shown.now (by_number outcomes.old)) (take start nodes.old.items) nodes.old.items }
+        ensures kept { sketch.new ≡ sketch.old }
+        ensures grows { OnTold result (Grows (asked sketch.old.program self.now.shown.now) outcomes.old outcomes.new) }
+        ensures tree { OnOk result (Pushes (IsCoverAt sketch.old self.now.shown.now (by_number outcomes.new)) (take start nodes.old.items) nodes.new.items) }
+        ensures stop { IfErr result (StopIs (asked sketch.old.program self.now.shown.now) (mode_in sketch.old) outcomes.old) }
+        ensures stays { IfErr result (BeginsIfNew (take start nodes.old.items) nodes.new.items) }
+    {
+        let needs = covered.needs();
+        if covered.is_valid() {
+            return Ok(needs);
+        }
+        if self.is_judged_valid(nodes, start, sketch, outcomes.as_slice())? {
+            return Ok(needs);
+        }
+        nodes.truncate(start);
+        let plain = TreeSearch {
+            alloc: self.alloc,
+            shown: self.shown,
+            accesses: self.accesses,
+            hinted: false,
+        };
+        match plain.cover_from(sketch, path, outcomes, nodes)? {
+            Covered::Valid(needs) => Ok(needs),
+            Covered::Unjudged(_) => unreachable!(),
+        }
+    }
+
+    /// Whether the last tree, that of a child, needs its choice no more: the parent's node is the root. If it is so, it takes
+    /// the root's place, and the earlier children are gone. Where it is not known what it needs, it is judged at the
+    /// parent's sketch.
     fn take_place(
         &self,
         nodes: &mut Vec<Node>,
         root: usize,
         child: usize,
+        covered: Covered,
         sketch: &Sketch,
         outcomes: &[Outcome],
     ) -> Result<bool, AllocError>
         requires order { root ≤ child }
         requires within { child < length nodes.old.items }
         requires tree { IsTree (drop child nodes.old.items) }
-        ensures taken { IfOk result (IsTaken sketch.now self.now.shown.now outcomes.now (tree_of (drop child nodes.old.items)) nodes.old.items (remove_range nodes.old.items root child) nodes.new.items) }
+        ensures taken { IfOk result (λ taken. IsTaken covered sketch.now self.now.shown.now outcomes.now (tree_of (drop child nodes.old.items)) nodes.old.items (remove_range nodes.old.items root child) nodes.new.items taken) }
     {
-        if is_cycle(&nodes[child]) {
-            return Ok(false);
+        if covered.is_valid() {
+            if !covered.needs().is_unknown() || is_cycle(&nodes[child]) {
+                return Ok(false);
+            }
+            if !self.is_judged_valid(nodes, child, sketch, outcomes)? {
+                return Ok(false);
+            }
         }
+        take_out(nodes, root, child);
+        Ok(true)
+    }
+
+    /// Whether the last tree, whose root is the node `start`, is valid at the sketch.
+    fn is_judged_valid(
+        &self,
+        nodes: &[Node],
+        start: usize,
+        sketch: &Sketch,
+        outcomes: &[Outcome],
+    ) -> Result<bool, AllocError>
+        requires within { start < length nodes.now }
+        requires tree { IsTree (drop start nodes.now) }
+        ensures { IfOk result (λ valid. IsTrue valid → IsValidAt sketch.now self.now.shown.now outcomes.now (tree_of (drop start nodes.now))) }
+    {
         let judged = judge(
             self.alloc,
-            &mut Walk::over(&nodes[child..]),
+            &mut Walk::over(&nodes[start..]),
             sketch,
             self.shown,
             outcomes,
         );
         match judged {
-            Ok(()) => {
-                take_out(nodes, root, child);
-                Ok(true)
-            }
+            Ok(()) => Ok(true),
             Err(TreeFault::Wrong(_)) => Ok(false),
             Err(TreeFault::OutOfMemory) => Err(AllocError),
         }
+    }
+}
+
+/// What a tree needs above the node over the last choice.
+fn needs_above(last: Option<usize>, needs: Needs) -> Needs {
+    match last {
+        Some(number) => needs.above(number),
+        None => needs,
     }
 }
 

@@ -1,5 +1,5 @@
 //! What closes a sketch at once.
-ghost use Rattle.std.specs.Prelude.{IfOk, OnOk, MatchOption, List};
+ghost use Rattle.std.specs.Prelude.{IfOk, OnOk, MatchOption, List, is_some};
 ghost use Rattle.tso_program.specs.declared.outcome.Outcome.{Outcome};
 ghost use Rattle.tso_program.specs.declared.shown.Shown.{Shown};
 ghost use Rattle.tso_program.specs.Shown.{asked};
@@ -15,32 +15,41 @@ ghost use Rattle.sketch_covers.specs.Pushing.{Pushes, IfKnown, IfLeaf};
 use crate::access_ids::accesses_of;
 use crate::known_outcomes::KnownOutcomes;
 use candidate_executions::{Event, Kind};
-use cert_forest::{Node, push_cycle, push_known};
+use cert_forest::{AccessId, Node, push_cycle, push_known};
 use sketches::Sketch;
 use std::alloc::{AllocError, Global};
 use tso_program::Shown;
 
-/// Puts the leaf of a sketch that must end as an outcome of the list, or has a cycle, after the other nodes. Answers
-/// whether there is one.
+/// A leaf of a tree.
+#[derive(Drop)]
+pub(crate) enum FoundLeaf {
+    /// The number of the outcome as which a sketch must end.
+    Known(usize),
+    /// The accesses of a cycle.
+    Cycle(Vec<AccessId>),
+}
+
+/// Puts the leaf of a sketch that must end as an outcome of the list, or has a cycle, after the other nodes. `None` if
+/// there is none.
 pub(crate) fn leaf(
     alloc: Global,
     sketch: &Sketch,
     shown: &Shown,
     outcomes: &KnownOutcomes,
     nodes: &mut Vec<Node>,
-) -> Result<bool, AllocError>
+) -> Result<Option<FoundLeaf>, AllocError>
     requires { AreInOrder outcomes.now }
-    ensures { IfOk result (IfLeaf sketch.now shown.now (by_number outcomes.now) nodes.old.items nodes.new.items) }
+    ensures { IfOk result (λ leaf. IfLeaf sketch.now shown.now (by_number outcomes.now) nodes.old.items nodes.new.items (is_some leaf)) }
 {
-    if known_leaf(sketch, shown, outcomes, nodes)? {
-        return Ok(true);
+    if let Some(number) = known(sketch, shown, outcomes)? {
+        push_known(nodes, number as u64)?;
+        return Ok(Some(FoundLeaf::Known(number)));
     }
     match sketch.find_cycle()? {
-        Some((kind, events)) => {
-            cycle(alloc, sketch, kind, &events, nodes)?;
-            Ok(true)
-        }
-        None => Ok(false),
+        Some((kind, events)) => Ok(Some(FoundLeaf::Cycle(cycle(
+            alloc, sketch, kind, &events, nodes,
+        )?))),
+        None => Ok(None),
     }
 }
 
@@ -78,19 +87,20 @@ pub(crate) fn known(
     }
 }
 
-/// Puts the leaf of a cycle after the other nodes.
+/// Puts the leaf of a cycle after the other nodes, and answers its accesses.
 fn cycle(
     alloc: Global,
     sketch: &Sketch,
     kind: Kind,
     events: &[Event],
     nodes: &mut Vec<Node>,
-) -> Result<(), AllocError>
+) -> Result<Vec<AccessId>, AllocError>
     requires cycle { IsSimpleCycle sketch.now kind events.now }
     requires accesses { AreFewAccesses sketch.now events.now }
     ensures { OnOk result ((shown : Shown) (outcomes : List Outcome) → Pushes (IsLeafAt sketch.now shown outcomes) nodes.old.items nodes.new.items) }
 {
     sketch.recall_facts();
-    push_cycle(nodes, kind, &accesses_of(alloc, events)?)?;
-    Ok(())
+    let accesses = accesses_of(alloc, events)?;
+    push_cycle(nodes, kind, &accesses)?;
+    Ok(accesses)
 }

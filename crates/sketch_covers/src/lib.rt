@@ -5,17 +5,19 @@
 //! A tree over a thread's values is made of bits alone where each of its traces has a read without a source.
 //!
 //! Begin with `KnownOutcomes`, `cover_whole` and `known_leaf`. Free to change: which cycle or known outcome closes a
-//! sketch (`leaf.rt`), and whether a child takes its parent's place (`cover.rt`). Relied on: a tree is valid and
-//! within the limits of a certificate's text, an open list grows by outcomes of its own machine alone, each with a
-//! run, and each outcome keeps its number.
+//! sketch (`leaf.rt`), whether a child takes its parent's place (`cover.rt`), and which choices a tree is held to need
+//! (`needs.rt`). Relied on: a tree is valid and within the limits of a certificate's text, an open list grows by
+//! outcomes of its own machine alone, each with a run, and each outcome keeps its number.
 #![tactic(auto)]
 
 mod access_ids;
 mod ascending;
 mod ascending_outcomes;
 mod cover;
+mod covered;
 mod known_outcomes;
 mod leaf;
+mod needs;
 mod outcome_index;
 mod renumbering;
 mod run;

@@ -1,15 +1,22 @@
 use Rattle.sketch_covers.proofs.Vocabulary.{◌≡◌, ◌+◌, length, asked, node_over, by_number, Grows, rounds}
+use Rattle.std.specs.Prelude.{◌*◌}
 use Rattle.sketch_covers.proofs.Covering.{Covering}
 use Rattle.sketch_covers.proofs.cover.TreeSearch.+cover.Given as goal
 
 abbrev pub decreases-cover_from : goal.decreases-cover_from
-decreases-cover_from l = rounds l.sketch.now + 2
+decreases-cover_from l = 2 * rounds l.sketch.now + 2
 
 abbrev pub decreases-cover_over : goal.decreases-cover_over
-decreases-cover_over l = rounds l.sketch.now + 1
+decreases-cover_over l = 2 * rounds l.sketch.now + 1
+
+abbrev pub decreases-cover_to : goal.decreases-cover_to
+decreases-cover_to l = 2 * rounds l.sketch.now + 4
+
+abbrev pub decreases-settle : goal.decreases-settle
+decreases-settle l = 2 * rounds l.sketch.now + 3
 
 abbrev pub decreases-cover_after : goal.decreases-cover_after
-decreases-cover_after l = rounds l.sketch.now
+decreases-cover_after l = 2 * rounds l.sketch.now
 
 -- the sketch is as before, the list has grown, and after the root come valid trees over it after the choices so far
 abbrev pub invariant-cover_over-loop-choice : goal.invariant-cover_over-loop-choice
