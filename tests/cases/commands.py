@@ -55,6 +55,7 @@ FAULTS = (
     ("a call for the help of witness", ["witness", "--help"], b"", b""),
     ("no litmus file of a witness", ["witness"], b"", b"error: the following required arguments were not provided:\n  <LITMUS>\n"),
     ("fences twice", ["witness", "--fences", "0:1", "--fences", "1:1", "-"], b"", b"error: the argument '--fences <"),
+    ("fences of the sequential machine", ["witness", "--model", "sequential", "--fences", "0:1", "-"], b"", b"error: --fences and --model sequential cannot both be given: no fence matters there\n"),
     ("workers of a witness", ["witness", "--workers", "2", "-"], b"", b"error: unexpected argument '--workers' found\n"),
 )
 NO_FENCES = (

@@ -1,6 +1,6 @@
 -- What command lines ask for. `clap` reads them: its `subcommand_of` gives the subcommand that words name, with the rows
 -- of its values.
-use Rattle.std.specs.Prelude.{◌≡◌, ◌≢◌, ◌⊎◌, ℕ, ◌≤◌, Bool, true, false, List, [], ◌∷◌, Some, None, Contains, codes, map, not, option_map, string_bytes, unwrap_or, fold, if◌then◌else◌, ◌&&◌}
+use Rattle.std.specs.Prelude.{◌≡◌, ◌≢◌, ◌⊎◌, ℕ, ◌≤◌, Bool, true, false, List, [], ◌∷◌, Some, None, Contains, codes, is_some, map, not, option_map, string_bytes, unwrap_or, fold, if◌then◌else◌, ◌&&◌}
 use Rattle.std.specs.Option.{option_map_or}
 use Rattle.std.specs.Str.{IsUtf8, bytes_eq}
 use Rattle.std.specs.Str.Parse.{digits_value, without_leading_plus}
@@ -174,13 +174,18 @@ kind_in rows = if is_flagged (codes "condition") rows then kind.Condition else (
 abbrev pub asks_twice : List Row → Bool
 asks_twice rows = is_flagged (codes "observed") rows && is_flagged (codes "condition") rows
 
+-- fences are given for the sequential machine, in which none matters
+abbrev pub fences_in_vain : List Row → Bool
+fences_in_vain rows = has_value (codes "model") (codes "sequential") rows && is_some (first_of (codes "fences") rows)
+
 -- `--fences` has a value that lists no places
 abbrev pub LacksPlaces : List Row → Type 0
 LacksPlaces rows = (text : Text) × (first_of (codes "fences") rows ≡ Some text) × places.ListsNoPlaces text
 
--- the rows of a command that asks for nothing: for two comparisons of outcomes, or for fences at no places
+-- the rows of a command that asks for nothing: for two comparisons of outcomes, for fences of the sequential machine, or for fences
+-- at no places
 abbrev pub AsksForNothing : List Row → Type 0
-AsksForNothing rows = (asks_twice rows ≡ true) ⊎ LacksPlaces rows
+AsksForNothing rows = (asks_twice rows ≡ true) ⊎ (fences_in_vain rows ≡ true) ⊎ LacksPlaces rows
 
 -- how many workers a text asks for, from 1 to the most; `clap` refuses a text that is no such number
 pub record AreWorkers (text : Text) (workers : ℕ) : Type 0 where
@@ -254,7 +259,8 @@ IsJobOf name rows (Witness asked) =
     × (asked.json ≡ is_flagged (codes "json") rows)
     × (string_bytes asked.litmus ≡ text_in (codes "litmus") rows)
 
--- the arguments name the job: `clap` finds no fault in them, and they ask for one comparison of outcomes
+-- the arguments name the job: `clap` finds no fault in them, they ask for one comparison of outcomes, and for no fences of the
+-- sequential machine
 pub record Names (words : List Text) (job : Job) : Type 0 where
   pub models : ModelNames
   pub are_models : AreModels models
@@ -263,6 +269,7 @@ pub record Names (words : List Text) (job : Job) : Type 0 where
   pub no_fault : fault_of (fencer_app models) words ≡ []
   pub read : subcommand_of (fencer_app models) words ≡ Some (name, rows)
   pub once : asks_twice rows ≡ false
+  pub not_in_vain : fences_in_vain rows ≡ false
   pub asked : IsJobOf name rows job
 
 -- the arguments ask for the job: they name it, and the files that it writes are none that it reads, and apart
@@ -271,7 +278,8 @@ pub record AsksFor (words : List Text) (job : Job) : Type 0 where
   pub apart : has_clash (files_of job) ≡ false
 
 -- The arguments are no command: one of them is no UTF-8; `clap` finds a fault in them, as which it takes a call for help; they ask
--- for two comparisons of outcomes, or for fences at what are no places; or they name a job that writes a file which it reads, or a file twice.
+-- for two comparisons of outcomes, for fences of the sequential machine, or for fences at what are no places; or they name a job
+-- that writes a file which it reads, or a file twice.
 pub data IsNoCommand (words : List Text) : Type 0 where
   no_utf8 : (word : Text) → Contains words word → (IsUtf8 word → ⊥) → IsNoCommand words
   faulty : (models : ModelNames) → AreModels models → fault_of (fencer_app models) words ≢ [] → IsNoCommand words

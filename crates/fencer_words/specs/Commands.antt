@@ -5,7 +5,7 @@ use Rattle.clap.specs.declared.builder.command.Command.{Command}
 use Rattle.clap.specs.declared.builder.command.Command.TheViews.{out-Command}
 use Rattle.clap.specs.declared.parser.matches.ArgMatches.{ArgMatches}
 use Rattle.fencer_words.specs.declared.job.Job.{Job}
-use Rattle.fencer_words.specs.CommandLines.{ModelNames, AreModels, AsksForNothing, IsJobOf, asks_twice, command_names, fencer_app}
+use Rattle.fencer_words.specs.CommandLines.{ModelNames, AreModels, AsksForNothing, IsJobOf, asks_twice, command_names, fencer_app, fences_in_vain}
 
 -- the command is this one, and has no argument that its subcommands share
 pub record IsBuiltAs (app : App) (command : Command) : Type 0 where
@@ -24,6 +24,7 @@ pub record IsJobMet (matches : ArgMatches) (job : Job) : Type 0 where
   pub rows : List Row
   pub met : subcommand_rows_of matches ≡ Some (name, rows)
   pub once : asks_twice rows ≡ false
+  pub not_in_vain : fences_in_vain rows ≡ false
   pub asked : IsJobOf name rows job
 
 -- the parse met none of the commands but one that asks for nothing

@@ -52,7 +52,7 @@ pub fn text_given(
 }
 
 /// Whether an argument has this value.
-fn has_value(matches: &ArgMatches<'_>, id: &str, wanted: &str) -> bool
+pub fn has_value(matches: &ArgMatches<'_>, id: &str, wanted: &str) -> bool
     ensures { result ≡ has_value id.now wanted.now (rows_of (found_of matches.now)) }
 {
     match value_of(matches, id) {

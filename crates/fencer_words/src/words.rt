@@ -3,10 +3,10 @@
 ghost use Rattle.std.specs.Prelude.{◌≡◌, ◌⊎◌, true, false, Contains, IfErr, IfOk, IfNone, IfSome, OnOk, map, string_bytes};
 ghost use Rattle.clap.specs.Words.{found_of, kind_of, rows_of};
 ghost use Rattle.fencer_words.specs.CommandFiles.{files_of, has_clash};
-ghost use Rattle.fencer_words.specs.CommandLines.{asks_twice, command_names, commands_app, AreModels, AsksFor, IsJobOf, IsNoCommand, LacksPlaces, Names};
+ghost use Rattle.fencer_words.specs.CommandLines.{asks_twice, command_names, commands_app, fences_in_vain, AreModels, AsksFor, IsJobOf, IsNoCommand, LacksPlaces, Names};
 ghost use Rattle.fencer_words.specs.Commands.{IsBuiltAs, IsFencerCommand, IsJobMet, MeetsNoJob};
 
-use crate::arguments::is_flagged;
+use crate::arguments::{has_value, is_flagged, value_of};
 use crate::files::{files_of, has_clash};
 use crate::form::{Form, described_command};
 use crate::gaps::gaps_job;
@@ -41,6 +41,9 @@ Example: fencer place examples/SB.litmus";
 const CLASH: &str = "a file that is written must not be one that is read, nor be written twice";
 
 const TWICE: &str = "--observed and --condition cannot both be given";
+
+const IN_VAIN: &str =
+    "--fences and --model sequential cannot both be given: no fence matters there";
 
 const FENCES: &str = "--fences takes gaps with commas between them, each once, as 0:1,1:1";
 
@@ -102,6 +105,13 @@ fn asks_twice(matches: &ArgMatches<'_>) -> bool
     is_flagged(matches, "observed") && is_flagged(matches, "condition")
 }
 
+/// Whether fences are given for the sequential machine, in which none matters.
+fn fences_in_vain(matches: &ArgMatches<'_>) -> bool
+    ensures { result ≡ fences_in_vain (rows_of (found_of matches.now)) }
+{
+    has_value(matches, "model", "sequential") && value_of(matches, "fences").is_some()
+}
+
 /// The job of the subcommand that was met, unless that asks for nothing.
 fn job_met(alloc: Global, matches: &ArgMatches<'_>) -> Result<Option<Job>, AllocError>
     ensures some { IfOk result (λ job. IfSome job (IsJobMet matches.now)) }
@@ -109,7 +119,7 @@ fn job_met(alloc: Global, matches: &ArgMatches<'_>) -> Result<Option<Job>, Alloc
 {
     match matches.subcommand() {
         Some((name, inner)) => {
-            if asks_twice(inner) {
+            if asks_twice(inner) || fences_in_vain(inner) {
                 Ok(None)
             } else {
                 job_of(alloc, name, inner)
@@ -129,6 +139,9 @@ fn no_job(alloc: Global, matches: &ArgMatches<'_>) -> Result<Error, AllocError> 
     match matches.subcommand() {
         Some((_, inner)) if asks_twice(inner) => {
             command_error(alloc, ErrorKind::ArgumentConflict, TWICE)
+        }
+        Some((_, inner)) if fences_in_vain(inner) => {
+            command_error(alloc, ErrorKind::ArgumentConflict, IN_VAIN)
         }
         _ => command_error(alloc, ErrorKind::ValueValidation, FENCES),
     }

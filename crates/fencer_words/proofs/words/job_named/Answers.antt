@@ -25,6 +25,7 @@ returns-in-Some-clause-job c =
       no_fault = none;
       read = reads app made.models words c.in_ok-matches.matches made.built.shape none c.in_ok-matches.ensures.matches job.name job.rows job.met;
       once = job.once;
+      not_in_vain = job.not_in_vain;
       asked = job.asked;
     }
 
