@@ -1,7 +1,7 @@
 //! Names in a condition that no instruction uses, as one that is misspelt.
 
 use crate::message::{Message, shown_word};
-use litmus_reader::{NameTable, location_name, read_litmus, register_name};
+use litmus_reader::{Litmus, NameTable, location_name, read_litmus, register_name};
 use std::alloc::{AllocError, Global};
 use tso_program::{Atom, Instr, Node, Program, Reg, Thread};
 
@@ -12,9 +12,18 @@ pub fn idle_name_message(
     file: &str,
     text: &[u8],
 ) -> Result<Option<Message>, AllocError> {
-    let Ok(litmus) = read_litmus(alloc, text) else {
-        return Ok(None);
-    };
+    match read_litmus(alloc, text) {
+        Ok(litmus) => idle_name_of(alloc, file, &litmus),
+        Err(_) => Ok(None),
+    }
+}
+
+/// The same of a test that is read.
+fn idle_name_of(
+    alloc: Global,
+    file: &str,
+    litmus: &Litmus<Program>,
+) -> Result<Option<Message>, AllocError> {
     for node in litmus.condition.formula.nodes() {
         if let Some(atom) = idle_atom(&litmus.program, *node) {
             let said = said_of_atom(alloc, &litmus.names, atom)?;

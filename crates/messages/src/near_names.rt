@@ -13,13 +13,22 @@ const LONGER: usize = 3;
 /// That the name of a location stands once in a litmus text and is close to another location's, with the first such
 /// name. `None` if there is none, or the text is not read.
 pub fn near_name_message(alloc: Global, source: Source<'_>) -> Result<Option<Message>, AllocError> {
-    let Ok(litmus) = read_litmus(alloc, source.text) else {
-        return Ok(None);
-    };
-    for number in 0..litmus.names.locations() {
-        let name = location_name(&litmus.names, number);
+    match read_litmus(alloc, source.text) {
+        Ok(litmus) => near_name_of(alloc, source, &litmus.names),
+        Err(_) => Ok(None),
+    }
+}
+
+/// The same by the names of a test that is read.
+fn near_name_of(
+    alloc: Global,
+    source: Source<'_>,
+    names: &NameTable,
+) -> Result<Option<Message>, AllocError> {
+    for number in 0..names.locations() {
+        let name = location_name(names, number);
         if let (Some(near), Some(offset)) = (
-            near_name(&litmus.names, name),
+            near_name(names, name),
             only_place(source.text, name),
         ) {
             let near = shown_word(alloc, near)?;
