@@ -13,13 +13,13 @@ use Rattle.tree_laws.proofs.{Lists.found_is_here, ListedOutcomes.fenced_tree_ser
 use Rattle.cover_solver.specs.declared.fault.ForeignFault.TheVariants as foreign
 use Rattle.fence_laws.proofs.GapsAvoided.{fenced_runs_avoid}
 use Rattle.cert_forest.specs.{Trees.Cover, NodeConstants.NEAR_RUNS}
-use Rattle.partial_covers.specs.{OutcomeNumbers.AreFoundOf, AscendingOutcomes.AscendingOutcomes, OutcomeIndex.OutcomeIndex, Covers.IsWholeCover}
-use Rattle.partial_covers.specs.{KnownOutcomes.StopIs, KnownOutcomesValue.TheVariants.Closed, SearchStop.SearchStop}
-use Rattle.partial_covers.proofs.{RenumberedTrees.whole_renumbered, HoleTrees.stop_lacks}
+use Rattle.outcome_search.specs.{OutcomeNumbers.AreFoundOf, AscendingOutcomes.AscendingOutcomes, OutcomeIndex.OutcomeIndex, Covers.IsWholeCover}
+use Rattle.outcome_search.specs.{KnownOutcomes.StopIs, KnownOutcomesValue.TheVariants.Closed, SearchStop.SearchStop}
+use Rattle.outcome_search.proofs.{RenumberedTrees.whole_renumbered, HoleTrees.stop_lacks}
 use Rattle.tso_program.proofs.OutcomesOrdered.{one_way}
 use Rattle.std.specs.declared.cmp.Ordering.TheVariants.{Less}
 use Rattle.tso_machine.specs.declared.mode.Mode.TheVariants as modes
-use Rattle.partial_covers.specs.HoleTrees.{StopLacks}
+use Rattle.outcome_search.specs.HoleTrees.{StopLacks}
 
 -- a question by its parts
 pub same_question : (q : Question) (p : Listing) (shown : Shown) → p ≡ q.program → shown ≡ q.shown → asked p shown ≡ q

@@ -3,13 +3,13 @@ pub use Rattle.std.proofs.Common.{Bool, Bor, Contains, IsTrue, List, None, Optio
 pub use Rattle.std.specs.Arc.{arc_value}
 pub use Rattle.std.specs.Global.{Vec}
 pub use Rattle.std.specs.Prelude.{Err, IfErr, IfOk, MatchOption, Ok, Result, is_ok}
-pub use Rattle.partial_covers.proofs.Answered.{if_ok}
-pub use Rattle.partial_covers.proofs.OtherNumbers.{renumbered}
-pub use Rattle.partial_covers.specs.PartialCovers.{IsPartialCover, items_of, renumbered_item}
-pub use Rattle.partial_covers.specs.declared.partial_cover.PartialCover.{PartialCover}
-pub use Rattle.partial_covers.proofs.Inserted.{not_there}
-pub use Rattle.partial_covers.specs.Ascending.{BelongsAt}
-pub use Rattle.partial_covers.specs.OutcomeNumbers.{ArePlacesOf, AreRunsOf, place_in}
+pub use Rattle.outcome_search.proofs.Answered.{if_ok}
+pub use Rattle.outcome_search.proofs.OtherNumbers.{renumbered}
+pub use Rattle.outcome_search.specs.PartialCovers.{IsPartialCover, items_of, renumbered_item}
+pub use Rattle.outcome_search.specs.PartialCover.{PartialCover}
+pub use Rattle.outcome_search.proofs.Inserted.{not_there}
+pub use Rattle.outcome_search.specs.Ascending.{BelongsAt}
+pub use Rattle.outcome_search.specs.OutcomeNumbers.{ArePlacesOf, AreRunsOf, place_in}
 pub use Rattle.tso_machine.specs.Faults.{ReplayFaultIs}
 pub use Rattle.tso_machine.specs.Machine.{IsRun, Machine, SequentialMachine, StoreBufferMachine, no_gaps, outcome_at}
 pub use Rattle.tso_machine.specs.Modes.{ArePassed, machine_of_mode}

@@ -9,7 +9,7 @@ use crate::fault::ForeignFault;
 use crate::foreign_run::ForeignRun;
 use crate::table::SeqTable;
 use gap_sets::GapSet;
-use partial_covers::{HoleRun, PartialCover};
+use outcome_search::{HoleRun, PartialCover};
 use run_maker::{MakeFault, make_run_for};
 use sketches::Sketch;
 use std::alloc::{AllocError, Global};

@@ -24,7 +24,7 @@ pub use fault::{ForeignFault, SolveFault};
 pub use foreign_run::ForeignRun;
 pub use oracle::{Oracle, Verdict};
 pub use outcome_list::{OutcomeList, SoughtOutcomes, outcomes, outcomes_with_runs};
-pub use partial_covers::{ThreadShare, Watch};
+pub use outcome_search::{ThreadShare, Watch};
 pub use served::Served;
 pub use solver::Solver;
 pub use table::{SeqTable, sequential, sequential_watched};

@@ -5,12 +5,12 @@ ghost use Rattle.tso_program.specs.declared.outcome.Outcome.{Outcome};
 ghost use Rattle.tso_program.specs.Shown.{asked};
 ghost use Rattle.tso_machine.specs.Outcomes.{AllowsShown};
 ghost use Rattle.tso_machine.specs.Modes.{machine_of_model};
-ghost use Rattle.partial_covers.specs.OutcomeNumbers.{AreRunsOf};
-ghost use Rattle.partial_covers.specs.Ascending.{Ascend};
+ghost use Rattle.outcome_search.specs.OutcomeNumbers.{AreRunsOf};
+ghost use Rattle.outcome_search.specs.Ascending.{Ascend};
 
 use crate::fault::SolveFault;
 use cert_forest::Runs;
-use partial_covers::{
+use outcome_search::{
     Search, Unwatched, Watch, all_outcomes, in_ascending_order, start_alone, start_by,
 };
 use sketches::Mode;

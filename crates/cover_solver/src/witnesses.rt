@@ -4,11 +4,11 @@ ghost use Rattle.tso_machine.specs.Modes.{machine_of_mode};
 ghost use Rattle.tso_machine.specs.Machine.{Machine};
 ghost use Rattle.tso_machine.specs.Outcomes.{IsShownRun};
 ghost use Rattle.tso_program.specs.Shown.{Question};
-ghost use Rattle.partial_covers.specs.OutcomeNumbers.{IsInOrder, AreRunsOf};
+ghost use Rattle.outcome_search.specs.OutcomeNumbers.{IsInOrder, AreRunsOf};
 ghost use Rattle.cover_solver.specs.Witnesses.{IsWitness, HasNoWitness};
 
 use crate::fault::SolveFault;
-use partial_covers::{OutcomeIndex, Search, Unwatched, all_outcomes, start_alone};
+use outcome_search::{OutcomeIndex, Search, Unwatched, all_outcomes, start_alone};
 use sketches::Mode;
 use std::alloc::{AllocError, Global};
 use tso_machine::Label;

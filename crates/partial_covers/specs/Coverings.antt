@@ -6,7 +6,7 @@ use Rattle.cover_judge.specs.declared.choice.Choice.{Choice}
 use Rattle.sketch_covers.specs.KnownOutcomes.{by_number, Grows}
 use Rattle.partial_covers.specs.declared.covering.Covering.{Covering}
 use Rattle.partial_covers.specs.PartialCovers.{items_of, PushesPartialAt, PushesPartialRowAt}
-use Rattle.partial_covers.specs.Parts.{IfJoined}
+use Rattle.partial_covers.specs.PartCovers.{IfJoined}
 
 -- what is shown and the path are as before, the list has grown, and the cover of the sketch comes after the rest
 pub record Covers (s : ProgramSketch) (old new : Covering) : Type 0 where

@@ -1,17 +1,6 @@
 pub mod NodeBlocks
-pub mod Parts
-pub mod PartialCovers
 pub mod Fillings
+pub mod PartialCovers
+pub mod PartCovers
 pub mod Coverings
 pub mod OpenPairs
-pub mod HoleTrees
--- words of the crates below, passed on
-pub use Rattle.sketch_covers.specs.Ascending
-pub use Rattle.sketch_covers.specs.Covers
-pub use Rattle.sketch_covers.specs.KnownOutcomes
-pub use Rattle.sketch_covers.specs.NodeChanges
-pub use Rattle.sketch_covers.specs.OutcomeNumbers
-pub use Rattle.sketch_covers.specs.declared.ascending_outcomes.AscendingOutcomes
-pub use Rattle.sketch_covers.specs.declared.known_outcomes.KnownOutcomes as KnownOutcomesValue
-pub use Rattle.sketch_covers.specs.declared.outcome_index.OutcomeIndex
-pub use Rattle.sketch_covers.specs.declared.stop.SearchStop

@@ -13,11 +13,11 @@ ghost use Rattle.sketch_covers.specs.declared.known_outcomes.KnownOutcomes.TheVa
 ghost use Rattle.sketch_covers.specs.KnownOutcomes.{AreInOrder, HasRunOfEach};
 ghost use Rattle.partial_covers.specs.Coverings.{Covers, CoversEach, CoversIf};
 ghost use Rattle.partial_covers.specs.PartialCovers.{items_of};
-ghost use Rattle.partial_covers.specs.Parts.{AreCoversFor, AreLeftOf};
+ghost use Rattle.partial_covers.specs.PartCovers.{AreCoversFor, AreLeftOf};
 
 use crate::hole_run::PassedGaps;
 use crate::joining::{join, take_cover};
-use crate::part::PartCover;
+use crate::part_cover::PartCover;
 use crate::partial_cover::PartialCover;
 use crate::watch::Watch;
 use branching::{FullTrace, OpenChoice, Plan, Tally, ValueTree, choices_of};
@@ -30,24 +30,20 @@ use tso_program::Shown;
 
 /// What a search for outcomes has so far: the outcomes, the cover over them, and the path to the next sketch.
 #[derive(Drop)]
-pub(crate) struct Covering<'a> {
-    pub(crate) alloc: Global,
-    pub(crate) shown: &'a Shown,
-    pub(crate) outcomes: KnownOutcomes<'a>,
-    pub(crate) kept: PartialCover,
-    pub(crate) path: Vec<Choice>,
+pub struct Covering<'a> {
+    pub alloc: Global,
+    pub shown: &'a Shown,
+    pub outcomes: KnownOutcomes<'a>,
+    pub kept: PartialCover,
+    /// The choices that lead to the next sketch.
+    pub path: Vec<Choice>,
     /// What the runs of holes pass.
-    pub(crate) passed: PassedGaps,
+    passed: PassedGaps,
 }
 
 impl<'a> Covering<'a> {
     /// Nothing yet, where the path leads. The list is open for outcomes of the mode.
-    pub(crate) fn none(
-        alloc: Global,
-        shown: &'a Shown,
-        mode: Mode,
-        path: Vec<Choice>,
-    ) -> Covering<'a>
+    pub fn none(alloc: Global, shown: &'a Shown, mode: Mode, path: Vec<Choice>) -> Covering<'a>
         ensures shown { result.shown.now ≡ shown.now }
         ensures path { result.path.items ≡ path.items }
         ensures kept { items_of result.kept ≡ [] }
@@ -69,7 +65,7 @@ impl<'a> Covering<'a> {
 
 impl Covering<'_> {
     /// Covers a sketch with no choice.
-    pub(crate) fn cover_first<W: Watch>(
+    pub fn cover_first<W: Watch>(
         &mut self,
         sketch: &mut Sketch,
         plan: &Option<Plan>,
@@ -90,7 +86,7 @@ impl Covering<'_> {
 
     /// Covers a sketch in which the last thread has no value yet. The cover of a part is taken from there.
     #[cycle(cover_values)]
-    pub(crate) fn cover_values<W: Watch>(
+    pub fn cover_values<W: Watch>(
         &mut self,
         sketch: &Sketch,
         plan: &Plan,

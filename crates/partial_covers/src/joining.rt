@@ -8,9 +8,9 @@ ghost use Rattle.cover_judge.specs.declared.choice.Choice.{Choice as ChoiceValue
 ghost use Rattle.sketch_covers.specs.declared.known_outcomes.KnownOutcomes.{KnownOutcomes as KnownValue};
 ghost use Rattle.sketch_covers.specs.OutcomeNumbers.{IsInOrder, KeepsNumbers, AreRunsOf};
 ghost use Rattle.partial_covers.specs.PartialCovers.{items_of, PushesPartialAt};
-ghost use Rattle.partial_covers.specs.Parts.{IsMadeAt, AreCoversFor, AreLeftOf, IsPathAt};
+ghost use Rattle.partial_covers.specs.PartCovers.{IsMadeAt, AreCoversFor, AreLeftOf, IsPathAt};
 
-use crate::part::PartCover;
+use crate::part_cover::PartCover;
 use crate::partial_cover::PartialCover;
 use crate::renumbering::renumber_partial;
 use cover_judge::Choice;

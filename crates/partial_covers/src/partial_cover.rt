@@ -115,14 +115,14 @@ impl PartialCover {
     }
 
     /// Gives back the memory that the last nodes do not need.
-    pub(crate) fn shrink(&mut self)
+    pub fn shrink(&mut self)
         ensures { items_of self.new ≡ items_of self.old }
     {
         self.nodes.shrink();
     }
 
     /// How many nodes there are, with those of the fillings.
-    pub(crate) fn count(&self) -> usize {
+    pub fn count(&self) -> usize {
         let mut count = self.nodes.count();
         for piece in &self.pieces {
             count = count.saturating_add(piece.nodes.count());
@@ -132,7 +132,7 @@ impl PartialCover {
     }
 
     /// Room for the nodes of a tree in which the holes are filled. A list that outgrows its room lies twice in memory.
-    pub(crate) fn room(&self) -> usize {
+    pub fn room(&self) -> usize {
         let count = self.count().max(self.filled_count);
         if self.is_filled() {
             return count;
@@ -152,7 +152,7 @@ impl PartialCover {
 }
 
 /// Leaves no hole filled.
-pub(crate) fn forget_fillings(alloc: Global, pieces: &mut Vec<Piece>)
+pub fn forget_fillings(alloc: Global, pieces: &mut Vec<Piece>)
     ensures { (s : ProgramSketch) (shown : ShownValue) (outcomes : List OutcomeValue) → AreFilled s shown outcomes pieces.old.items pieces.new.items }
 {
     for i in 0..pieces.len() {

@@ -1,10 +1,5 @@
 //! Who follows a search for outcomes. No clause rests on it.
 
-use std::cell::Cell;
-
-/// A part reports what is done in steps of so many combinations.
-const STEP: u64 = 1024;
-
 /// Follows how much of a search is done. The threads of a search share it.
 pub trait Watch {
     /// So many more combinations of traces are done, and a part of the search has found so many outcomes by now.
@@ -20,57 +15,6 @@ pub struct Unwatched;
 
 impl Watch for Unwatched {
     fn done(&self, _combinations: u64, _outcomes: usize) {}
-
-    fn finished(&self, _outcomes: usize) {}
-}
-
-/// Follows a part of a search, in one thread, and reports to the watch of the whole search.
-#[derive(Drop)]
-pub(crate) struct PartWatch<'a, W: Watch> {
-    whole: &'a W,
-    /// What is done and not reported yet.
-    unreported: Cell<u64>,
-}
-
-impl<'a, W: Watch> PartWatch<'a, W> {
-    pub(crate) fn new(whole: &'a W) -> PartWatch<'a, W> {
-        PartWatch {
-            whole,
-            unreported: Cell::new(0),
-        }
-    }
-}
-
-impl<W: Watch> Watch for PartWatch<'_, W> {
-    fn done(&self, combinations: u64, outcomes: usize) {
-        let done = self.unreported.get().saturating_add(combinations);
-        if done < STEP {
-            self.unreported.set(done);
-        } else {
-            self.unreported.set(0);
-            self.whole.done(done, outcomes);
-        }
-    }
-
-    fn finished(&self, outcomes: usize) {
-        self.whole.done(self.unreported.get(), outcomes);
-        self.unreported.set(0);
-    }
-}
-
-/// Follows how parts are joined. What is done of them is reported already.
-#[derive(Drop)]
-pub(crate) struct JoinWatch<'a, W: Watch> {
-    pub(crate) whole: &'a W,
-    pub(crate) has_parts: bool,
-}
-
-impl<W: Watch> Watch for JoinWatch<'_, W> {
-    fn done(&self, combinations: u64, outcomes: usize) {
-        if !self.has_parts {
-            self.whole.done(combinations, outcomes);
-        }
-    }
 
     fn finished(&self, _outcomes: usize) {}
 }

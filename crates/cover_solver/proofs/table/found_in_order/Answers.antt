@@ -1,7 +1,7 @@
 use Rattle.cover_solver.proofs.Vocabulary.{List, ℕ, map, refl, ◌∙◌, ap, asked, place_in, renumbered, items_of, renumbered_item, SequentialMachine}
 use Rattle.cert_forest.proofs.NodeLaws.{is_tree, same_tree}
-use Rattle.partial_covers.specs.NodeChanges.{renumbered_node}
-use Rattle.partial_covers.proofs.PartialRenumbered.{table_renumbered, tree_renumbered}
+use Rattle.outcome_search.specs.NodeChanges.{renumbered_node}
+use Rattle.outcome_search.proofs.PartialRenumbered.{table_renumbered, tree_renumbered}
 use Rattle.cover_solver.proofs.Tables.{still_exact, table_of}
 use Rattle.cover_solver.proofs.table.found_in_order.Goals as goal
 

@@ -1,0 +1,128 @@
+//! Cover trees in one mode, made of a partial cover by filling its holes.
+ghost use Rattle.std.specs.Prelude.{◌≡◌, [], ◌++◌, IfOk, IfErr, IsTrue, OnOk, map};
+ghost use Rattle.tso_program.specs.Shown.{asked};
+ghost use Rattle.tso_machine.specs.Modes.{machine_of_mode};
+ghost use Rattle.tso_machine.specs.declared.mode.Mode.TheVariants as modes;
+ghost use Rattle.sketches.specs.ProgramSketches.{mode_in, nothing_chosen};
+ghost use Rattle.sketch_covers.specs.NodeChanges.{sequential_node, copied_in};
+ghost use Rattle.sketch_covers.specs.Covers.{IsCoverAt};
+ghost use Rattle.partial_covers.specs.Fillings.{IsFilling};
+ghost use Rattle.partial_covers.specs.NodeBlocks.{nodes_in};
+ghost use Rattle.partial_covers.specs.PartialCovers.{IsPartialCover, after, LeadsToWhole, MayChooseAll};
+ghost use Rattle.sketch_covers.specs.KnownOutcomes.{by_number, AreInOrder, Grows, StopIs};
+ghost use Rattle.sketch_covers.specs.Pushing.{Pushes};
+
+use crate::searching::Search;
+use cert_forest::Node;
+use cover_judge::{Choice, choose};
+use partial_covers::{NodeBlocks, PartialCover, Piece, Watch};
+use sketch_covers::{KnownOutcomes, SearchStop, cover_whole, sequential_node};
+use sketches::{Mode, Sketch};
+use std::alloc::AllocError;
+
+/// The nodes of a tree for a mode: those of the partial cover, and another tree in place of each hole.
+pub(crate) fn fill<W: Watch>(
+    sought: &Search,
+    kept: &PartialCover,
+    outcomes: &mut KnownOutcomes,
+    watch: &W,
+) -> Result<Vec<Node>, SearchStop>
+    requires in_order { AreInOrder outcomes.old }
+    requires kept { IsPartialCover sought.now.program.now sought.now.shown.now (by_number outcomes.old) kept.now }
+    ensures grows { OnOk result (Grows (asked sought.now.program.now sought.now.shown.now) outcomes.old outcomes.new) }
+    ensures tree { IfOk result (λ nodes. Pushes (IsCoverAt (nothing_chosen sought.now.program.now sought.now.mode) sought.now.shown.now (by_number outcomes.new)) [] nodes.items) }
+    ensures stop { IfErr result (StopIs (asked sought.now.program.now sought.now.shown.now) (machine_of_mode sought.now.program.now sought.now.mode) outcomes.old) }
+{
+    let empty = Sketch::new(sought.alloc, sought.program, sought.mode)?;
+    empty.recall_facts();
+    let mut nodes = Vec::with_capacity(sought.alloc, kept.room())?;
+    for piece in &kept.pieces {
+        push_copies(&mut nodes, &piece.nodes, empty.mode())?;
+        push_tree(sought, &empty, piece, outcomes, &mut nodes, watch)?;
+    }
+    push_copies(&mut nodes, &kept.nodes, empty.mode())?;
+    Ok(nodes)
+}
+
+/// Puts the tree in place of a piece's hole after the nodes: its filling, if that is for the mode, or else the tree of a
+/// search. The sketch has no choice.
+fn push_tree<W: Watch>(
+    sought: &Search,
+    empty: &Sketch,
+    piece: &Piece,
+    outcomes: &mut KnownOutcomes,
+    nodes: &mut Vec<Node>,
+    watch: &W,
+) -> Result<(), SearchStop>
+    requires in_order { AreInOrder outcomes.old }
+    requires leads { LeadsToWhole empty.now piece.now.path.items }
+    requires filled { IsFilling (after empty.now piece.now.path.items) sought.now.shown.now (by_number outcomes.old) piece.now.filling.items }
+    ensures grows { OnOk result (Grows (asked empty.now.program sought.now.shown.now) outcomes.old outcomes.new) }
+    ensures tree { OnOk result (Pushes (IsCoverAt (after empty.now piece.now.path.items) sought.now.shown.now (by_number outcomes.new)) nodes.old.items nodes.new.items) }
+    ensures stop { IfErr result (StopIs (asked empty.now.program sought.now.shown.now) (mode_in empty.now) outcomes.old) }
+{
+    if is_filled(piece, empty.mode()) {
+        nodes.extend_from_slice(&piece.filling)?;
+        return Ok(());
+    }
+    let mut sketch = empty.copy()?;
+    choose_all(&mut sketch, &piece.path)?;
+    cover_whole(sought.alloc, &mut sketch, sought.shown, outcomes, nodes)?;
+    watch.done(1, outcomes.count());
+    Ok(())
+}
+
+/// Whether the piece has a filling for the mode.
+fn is_filled(piece: &Piece, mode: Mode) -> bool
+    ensures { IsTrue result → (mode ≡ modes.Sequential) × (piece.now.filling.items ≡ [] → ⊥) }
+{
+    match mode {
+        Mode::Sequential => !piece.filling.is_empty(),
+        Mode::Fenced(_) => false,
+    }
+}
+
+/// Makes the choices, one after another.
+pub(crate) fn choose_all(sketch: &mut Sketch, choices: &[Choice]) -> Result<(), AllocError>
+    requires { MayChooseAll sketch.old choices.now }
+    ensures { OnOk result (sketch.new ≡ after sketch.old choices.now) }
+{
+    for choice in choices {
+        choose(sketch, *choice)?;
+    }
+    Ok(())
+}
+
+/// Puts copies of the nodes for a mode after others: the known edges of the sequential machine are of one kind.
+pub(crate) fn push_copies(
+    nodes: &mut Vec<Node>,
+    kept: &NodeBlocks,
+    mode: Mode,
+) -> Result<(), AllocError>
+    ensures { OnOk result (nodes.new.items ≡ nodes.old.items ++ copied_in mode (nodes_in kept.now)) }
+{
+    for block in &kept.blocks {
+        push_block(nodes, block, &mode)?;
+    }
+    push_block(nodes, &kept.last, &mode)
+}
+
+/// The same of one block.
+fn push_block(nodes: &mut Vec<Node>, block: &[Node], mode: &Mode) -> Result<(), AllocError>
+    ensures { OnOk result (nodes.new.items ≡ nodes.old.items ++ copied_in mode.now block.now) }
+{
+    match mode {
+        Mode::Sequential => push_in_sequence(nodes, block),
+        Mode::Fenced(_) => nodes.extend_from_slice(block),
+    }
+}
+
+/// Puts copies of the nodes for the sequential machine after others.
+fn push_in_sequence(nodes: &mut Vec<Node>, kept: &[Node]) -> Result<(), AllocError>
+    ensures { OnOk result (nodes.new.items ≡ nodes.old.items ++ map sequential_node kept.now) }
+{
+    for node in kept {
+        nodes.push(sequential_node(*node))?;
+    }
+    Ok(())
+}

@@ -1,0 +1,223 @@
+//! The search of the parts of a search, by one thread or by several. What is found is the same.
+ghost use Rattle.std.specs.Prelude.{◌≡◌, ◌<◌, Contains, IfOk, IfSome, length};
+ghost use Rattle.std.specs.List.{flat_map};
+ghost use Rattle.sketch_covers.specs.declared.outcome_index.OutcomeIndex.{OutcomeIndex};
+ghost use Rattle.sketch_covers.specs.declared.known_outcomes.KnownOutcomes.TheVariants.{Open};
+ghost use Rattle.outcome_search.specs.SearchParts.{AreFoundIn, AreOwnParts, IsReady, IsCoveredStart};
+
+use crate::cutting::parts_of;
+use crate::part::SearchPart;
+use crate::part_order::part_order;
+use crate::part_watch::PartWatch;
+use branching::{Plan, plan_for};
+use gap_sets::GapSet;
+use partial_covers::{PartCover, Unwatched, Watch};
+use sketches::{Mode, Sketch};
+use std::alloc::{AllocError, Global};
+use std::sync::atomic::{AtomicU64, Ordering};
+use std::thread::{self, Threads};
+use tso_program::{Program, Shown};
+
+/// What a search begins with.
+#[derive(Drop)]
+pub struct SearchStart {
+    /// With no gap fenced, and no choice.
+    pub sketch: Sketch,
+    /// `None` if there is no thread.
+    pub plan: Option<Plan>,
+    /// The covers of parts, in any order. None where the search is not cut.
+    pub covers: Vec<PartCover>,
+}
+
+/// What is searched: all outcomes of a program in a mode, as far as they are shown.
+#[derive(Drop)]
+pub struct Search<'a> {
+    pub alloc: Global,
+    pub program: &'a Program,
+    pub shown: &'a Shown,
+    pub mode: Mode,
+}
+
+/// A search that is cut, before its parts are searched.
+#[derive(Drop)]
+struct CutSearch {
+    sketch: Sketch,
+    plan: Option<Plan>,
+    parts: Vec<SearchPart>,
+    /// The places of the parts, in the order in which they are taken.
+    order: Vec<usize>,
+}
+
+/// Parts of a search, of which each thread takes the next.
+#[derive(Drop)]
+struct PartQueue<'a> {
+    parts: &'a [SearchPart],
+    /// The places of the parts, in the order in which they are taken.
+    order: &'a [usize],
+    taken: AtomicU64,
+}
+
+impl PartQueue<'_> {
+    /// The next part, if there is one. Each part is taken once.
+    fn take(&self) -> Option<&SearchPart>
+        ensures { IfSome result (λ part. Contains self.now.parts.now part.now) }
+    {
+        let taken = self.taken.fetch_add(1, Ordering::SeqCst);
+        let place = self.order.get(taken as usize)?;
+        self.parts.get(*place)
+    }
+}
+
+/// A search whose parts are searched one after another.
+pub fn start_alone(sought: &Search) -> Result<SearchStart, AllocError>
+    ensures { IfOk result (λ start. (none : OutcomeIndex) → IsCoveredStart sought.now.program.now sought.now.shown.now (Open none sought.now.mode) start) }
+{
+    let CutSearch {
+        sketch,
+        plan,
+        parts,
+        order,
+    } = cut(sought)?;
+    let covers = match &plan {
+        Some(plan) => search_untaken(sought, plan, &queue_of(&parts, &order), &Unwatched),
+        None => Vec::new(sought.alloc),
+    };
+    Ok(SearchStart {
+        sketch,
+        plan,
+        covers,
+    })
+}
+
+/// A search whose parts are searched in at most so many threads, no more than there are parts, which share a watch.
+/// Where one can't be started, the others search its parts.
+pub fn start_by<R: Threads + Sync, W: Watch + Sync>(
+    rt: &R,
+    workers: u8,
+    sought: &Search,
+    watch: &W,
+) -> Result<SearchStart, AllocError>
+    ensures { IfOk result (λ start. (none : OutcomeIndex) → IsCoveredStart sought.now.program.now sought.now.shown.now (Open none sought.now.mode) start) }
+{
+    let CutSearch {
+        sketch,
+        plan,
+        parts,
+        order,
+    } = cut(sought)?;
+    let covers = match &plan {
+        Some(plan) => {
+            let threads = usize::from(workers).min(parts.len()).max(1);
+            search_by(rt, threads, sought, plan, &queue_of(&parts, &order), watch)?
+        }
+        None => Vec::new(sought.alloc),
+    };
+    Ok(SearchStart {
+        sketch,
+        plan,
+        covers,
+    })
+}
+
+/// A search whose parts have no cover yet.
+fn cut(sought: &Search) -> Result<CutSearch, AllocError>
+    ensures { IfOk result (IsReady sought.now.program.now) }
+{
+    let alloc = sought.alloc;
+    let sketch = Sketch::new(alloc, sought.program, Mode::Fenced(GapSet::empty()))?;
+    let plan = plan_for(alloc, &sketch)?;
+    let parts = match &plan {
+        Some(plan) => parts_of(alloc, &sketch, plan, sought.shown)?,
+        None => Vec::new(alloc),
+    };
+    let order = part_order(alloc, &parts)?;
+    Ok(CutSearch {
+        sketch,
+        plan,
+        parts,
+        order,
+    })
+}
+
+/// The parts, of which none is taken.
+fn queue_of<'a>(parts: &'a [SearchPart], order: &'a [usize]) -> PartQueue<'a>
+    ensures { result.parts.now ≡ parts.now }
+{
+    PartQueue {
+        parts,
+        order,
+        taken: AtomicU64::new(0),
+    }
+}
+
+/// The covers of the parts that are left, found in at most so many threads.
+fn search_by<R: Threads + Sync, W: Watch + Sync>(
+    rt: &R,
+    threads: usize,
+    sought: &Search,
+    plan: &Plan,
+    queue: &PartQueue,
+    watch: &W,
+) -> Result<Vec<PartCover>, AllocError>
+    requires threads { 0 < threads }
+    requires parts { AreOwnParts sought.now.program.now plan.now.last queue.now.parts.now }
+    ensures { IfOk result (λ covers. AreFoundIn sought.now.program.now sought.now.shown.now sought.now.mode covers.items) }
+{
+    let mut lists = empty_lists(sought.alloc, threads)?;
+    thread::for_each_mut(
+        rt,
+        lists.as_mut_slice(),
+        threads,
+        &|_, covers|
+            requires { AreOwnParts sought.now.program.now plan.now.last queue.now.parts.now }
+            ensures { AreFoundIn sought.entry.now.program.now sought.entry.now.shown.now sought.entry.now.mode covers.exit.now.items }
+        { *covers = search_untaken(sought, plan, queue, watch) },
+    );
+    joined(sought.alloc, lists)
+}
+
+/// Takes parts until none is left. Their covers, but for those for which there is no memory.
+fn search_untaken<W: Watch>(
+    sought: &Search,
+    plan: &Plan,
+    queue: &PartQueue,
+    watch: &W,
+) -> Vec<PartCover>
+    requires { AreOwnParts sought.now.program.now plan.now.last queue.now.parts.now }
+    ensures { AreFoundIn sought.now.program.now sought.now.shown.now sought.now.mode result.items }
+{
+    let mut covers = Vec::new(sought.alloc);
+    for _ in 0..queue.parts.len() {
+        let Some(part) = queue.take() else {
+            break;
+        };
+        // Where memory is refused, the part is searched once more when the covers are joined.
+        let own = PartWatch::new(watch);
+        if let Ok(cover) = part.cover(sought, plan, &own) {
+            let _ = covers.push(cover);
+        }
+    }
+    covers
+}
+
+/// So many lists with nothing in them.
+fn empty_lists(alloc: Global, count: usize) -> Result<Vec<Vec<PartCover>>, AllocError>
+    ensures { IfOk result (λ lists. length lists.items ≡ count) }
+{
+    let mut lists = Vec::with_capacity(alloc, count)?;
+    for _ in 0..count {
+        lists.push(Vec::new(alloc))?;
+    }
+    Ok(lists)
+}
+
+/// The items of all lists, in one.
+pub(crate) fn joined<T: Drop>(alloc: Global, lists: Vec<Vec<T>>) -> Result<Vec<T>, AllocError>
+    ensures { IfOk result (λ all. all.items ≡ flat_map (λ list. list.items) lists.items) }
+{
+    let mut all = Vec::new(alloc);
+    for mut list in lists {
+        all.append(&mut list)?;
+    }
+    Ok(all)
+}

@@ -1,6 +1,0 @@
-use Rattle.partial_covers.proofs.Vocabulary.{All, IsPartOf}
-use Rattle.partial_covers.proofs.cutting.parts_of.Given as goal
-
--- these are parts of the sketch's search
-abbrev pub invariant-loop : goal.invariant-loop
-invariant-loop l = All (IsPartOf l.sketch l.plan.last) l.parts.items
