@@ -1,7 +1,7 @@
 -- What is known of the holes of a partial cover: the choices of each lead to a sketch in which each read has its value, and its filling is valid there.
 use Rattle.outcome_search.proofs.Vocabulary.{All, ℕ, zero, suc, ◌<◌, List, [], ◌∷◌, ◌++◌, get_or, length, map, sym, ◌∙◌, subst, arith, append_assoc, Contains, append-nil, Outcome, Shown, IsWhole, ProgramSketch, mode_in, Node, spell, Choice, AreValueChoices, nodes_in}
 use Rattle.outcome_search.proofs.Vocabulary.{MayChoose, first_is_here, later_is_here, Piece, Item, Has, Lacks, PartialTree, Closed, Values, Hole, PartialTrees, NoPartial, MorePartial, spell_partial, spell_partial_row, items_before, after, IsPartialAfter}
-use Rattle.outcome_search.proofs.Vocabulary.{ArePartialAfter, PushesPartial, MayChooseAll, unfenced, IsFilling, LeadsToWhole}
+use Rattle.outcome_search.proofs.Vocabulary.{ArePartialAfter, PushesPartial, MayChooseAll, unfenced, IsFilling, IsHole, HaveHoles, LeadsToWhole}
 use Rattle.cover_judge.specs.declared.choice.Choice.TheVariants as choice
 use Rattle.partial_covers.proofs.{ChoicesMade.after_unfenced, ChoicesMade.may_more}
 use Rattle.outcome_search.proofs.{FilledTrees.whole_sketch_in_mode, FilledTrees.choices_in_mode}
@@ -13,14 +13,10 @@ filling_in_any k shown outcomes (x ∷ xs) filled = filled
 
 module _ (s : ProgramSketch) (shown : Shown) (outcomes : List Outcome) where
   -- a hole's choices lead to such a sketch, and its filling is valid there
-  pub record IsHole (path : List Choice) (filling : List Node) : Type 0 where
-    pub leads : LeadsToWhole s path
-    pub filled : IsFilling (after s path) shown outcomes filling
-
   abbrev AllLead : List Item → Type 0
   AllLead [] = Unit {0}
   AllLead (Has x ∷ items) = AllLead items
-  AllLead (Lacks path filling ∷ items) = IsHole path filling × AllLead items
+  AllLead (Lacks path filling ∷ items) = IsHole s shown outcomes path filling × AllLead items
 
   before_nodes : (xs : List Node) (items : List Item) → AllLead items → AllLead (map Has xs ++ items)
   before_nodes [] items lead = lead
@@ -31,7 +27,7 @@ module _ (s : ProgramSketch) (shown : Shown) (outcomes : List Outcome) where
   past_nodes (x ∷ xs) items lead = past_nodes xs items lead
 
   -- the hole of a piece
-  hole_at : (pieces : List Piece) (i : ℕ) (d : Piece) (items : List Item) → i < length pieces → AllLead (items_before pieces ++ items) → IsHole (get_or pieces i d).path.items (get_or pieces i d).filling.items
+  hole_at : (pieces : List Piece) (i : ℕ) (d : Piece) (items : List Item) → i < length pieces → AllLead (items_before pieces ++ items) → IsHole s shown outcomes (get_or pieces i d).path.items (get_or pieces i d).filling.items
   hole_at [] i d items here lead = absurd (omega arith)
   hole_at (p ∷ ps) zero d items here lead =
       (past_nodes (nodes_in p.nodes) (Lacks p.path.items p.filling.items ∷ (items_before ps ++ items))
@@ -72,9 +68,12 @@ module _ (s : ProgramSketch) (shown : Shown) (outcomes : List Outcome) where
 
   -- so each hole of a partial cover after a path
   pub hole_leads : (path : List Choice) (pieces : List Piece) (nodes : List Node) (i : ℕ) (d : Piece) → MayChooseAll s path → PushesPartial (unfenced s) shown outcomes path [] (items_before pieces ++ map Has nodes) → i < length pieces
-      → IsHole (get_or pieces i d).path.items (get_or pieces i d).filling.items
+      → IsHole s shown outcomes (get_or pieces i d).path.items (get_or pieces i d).filling.items
   hole_leads path pieces nodes i d may is here =
       hole_at pieces i d (map Has nodes) here (subst AllLead (append-nil (spell_partial is.tree) ∙ sym is.pushed) (tree_leads path is.tree [] may is.is tt))
 
   pub holes_lead : (pieces : List Piece) (nodes : List Node) → PushesPartial (unfenced s) shown outcomes [] [] (items_before pieces ++ map Has nodes) → All (λ (piece : Piece). LeadsToWhole s piece.path.items) pieces
   holes_lead pieces nodes is i d here = (hole_leads [] pieces nodes i d tt is here).leads
+
+  pub each_hole : (pieces : List Piece) (nodes : List Node) → PushesPartial (unfenced s) shown outcomes [] [] (items_before pieces ++ map Has nodes) → HaveHoles s shown outcomes pieces
+  each_hole pieces nodes is i d here = hole_leads [] pieces nodes i d tt is here

@@ -1,5 +1,5 @@
 -- Parts of a search while choices are made, and what is found for them.
-use Rattle.outcome_search.proofs.Vocabulary.{◌≡◌, Bool, true, false, ℕ, suc, ◌+◌, List, [], ◌∷◌, ◌++◌, Option, Some, None, get_or, take, drop, length, arith, sym, ap, ◌∙◌, subst, All, MatchOption, if◌then◌else◌, append-nil, take_all, drop_all}
+use Rattle.outcome_search.proofs.Vocabulary.{◌≡◌, Bool, true, false, ℕ, suc, List, [], ◌∷◌, ◌++◌, Option, Some, None, get_or, take, drop, length, arith, sym, ap, ◌∙◌, subst, All, MatchOption, if◌then◌else◌, append-nil, take_all, drop_all}
 use Rattle.outcome_search.proofs.Vocabulary.{All-append, All-nil, All-push, flat_map, flat_map-append, Mode, IsWhole, Shown, ProgramSketch, mode_in, with_chosen, Choice, sketch_with, KnownOutcomes, PartCover, SearchPart, after}
 use Rattle.outcome_search.proofs.Vocabulary.{LastThread, Plan, IsOfOther, IsLast, IsPartOf, IsPlanned, IsMadeAt, IsCoverFor, AreCoversFor, AreOwnParts, AreFoundIn, IsFoundIn, first_sketch, MayChoose}
 use Rattle.outcome_search.proofs.Vocabulary.{MayChooseAll, sequential, Listing, before_next}

@@ -54,14 +54,15 @@ pub use Rattle.tso_program.specs.declared.listing.Listing.{Listing}
 pub use Rattle.tso_program.specs.declared.outcome.Outcome.{Outcome}
 pub use Rattle.tso_program.specs.declared.shown.Shown.{Shown}
 pub use Rattle.partial_covers.specs.Fillings.{IsFilling, sequential}
-pub use Rattle.outcome_search.specs.HoleTrees.{AreFoundFor, Filled, IsFoundAfter, IsFoundAt, StopLacks, copied}
+pub use Rattle.outcome_search.specs.HoleTrees.{AreFoundFor, Filled, HaveHoles, IsFoundAt, IsHole, MaySearch, StopLacks, copied}
 pub use Rattle.partial_covers.specs.NodeBlocks.{joined, nodes_in}
 pub use Rattle.partial_covers.specs.PartialCovers.{AreFilled, ArePartialAfter, Closed, Has, Hole, IsFilled, IsPartialAfter, IsPartialCover, Item, Lacks, LeadsToWhole}
 pub use Rattle.partial_covers.specs.PartialCovers.{MayChooseAll, MorePartial, NoPartial, PartialTree, PartialTrees, PushesPartial, PushesPartialAt, Values, after, count_partial}
 pub use Rattle.partial_covers.specs.PartialCovers.{items_before, items_of, spell_partial, spell_partial_row, unfenced}
 pub use Rattle.partial_covers.specs.PartCovers.{AreCoversFor, IsCoverFor, IsMadeAt}
 pub use Rattle.outcome_search.specs.SearchParts.{AreFoundIn, AreOwnParts, IsFoundIn, IsPartOf, IsPlanned, first_sketch}
-pub use Rattle.outcome_search.specs.declared.hole_queue.FoundHole.{FoundHole}
+pub use Rattle.outcome_search.specs.declared.hole_row.FoundHole.{FoundHole}
+pub use Rattle.outcome_search.specs.declared.hole_search.HoleSearch.{HoleSearch}
 pub use Rattle.outcome_search.specs.declared.part.SearchPart.{SearchPart}
 pub use Rattle.partial_covers.specs.declared.part_cover.PartCover.{PartCover}
 pub use Rattle.partial_covers.specs.declared.partial_cover.PartialCover.{PartialCover}

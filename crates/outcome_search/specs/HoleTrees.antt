@@ -17,10 +17,13 @@ use Rattle.sketch_covers.specs.Covers.{IsCoverAt}
 use Rattle.sketch_covers.specs.Pushing.{Pushes}
 use Rattle.sketch_covers.specs.declared.stop.SearchStop.{SearchStop}
 use Rattle.sketch_covers.specs.declared.stop.SearchStop.TheVariants as stop
+use Rattle.sketch_covers.specs.Ascending.{Ascend}
 use Rattle.sketch_covers.specs.NodeChanges.{sequential_node}
-use Rattle.partial_covers.specs.PartialCovers.{Item, Has, Lacks, after}
+use Rattle.partial_covers.specs.Fillings.{IsFilling}
+use Rattle.partial_covers.specs.PartialCovers.{Item, Has, Lacks, LeadsToWhole, after}
 use Rattle.partial_covers.specs.declared.partial_cover.Piece.{Piece}
-use Rattle.outcome_search.specs.declared.hole_queue.FoundHole.{FoundHole}
+use Rattle.outcome_search.specs.declared.hole_row.FoundHole.{FoundHole}
+use Rattle.outcome_search.specs.declared.hole_search.HoleSearch.{HoleSearch}
 
 -- a copy of a node for a mode
 abbrev pub copied : Mode → Node → Node
@@ -33,20 +36,30 @@ Filled s shown outcomes [] nodes = nodes ≡ []
 Filled s shown outcomes (Has x ∷ items) nodes = (more : List Node) × (nodes ≡ copied s.mode x ∷ more) × Filled s shown outcomes items more
 Filled s shown outcomes (Lacks path filling ∷ items) nodes = (tree : Cover) × (more : List Node) × IsCoverAt (after s path) shown outcomes tree × (nodes ≡ spell tree ++ more) × Filled s shown outcomes items more
 
+-- a hole: the path leads to values of all reads, and the filling is one for the place there
+pub record IsHole (s : ProgramSketch) (shown : Shown) (outcomes : List Outcome) (path : List Choice) (filling : List Node) : Type 0 where
+  pub leads : LeadsToWhole s path
+  pub filled : IsFilling (after s path) shown outcomes filling
+
+-- so each piece has one
+abbrev pub HaveHoles : ProgramSketch → Shown → List Outcome → List Piece → Type 0
+HaveHoles s shown outcomes pieces = All (λ piece. IsHole s shown outcomes piece.path.items piece.filling.items) pieces
+
 -- why there is no tree: a run of the machine leaves an outcome that the list lacks, or memory is out
 abbrev pub StopLacks : Question → Machine → List Outcome → SearchStop → Type 0
 StopLacks q mode outcomes (stop.New run sketch) = IsShownRun q mode run.labels.items run.outcome × (Contains outcomes run.outcome → ⊥)
 StopLacks q mode outcomes stop.OutOfMemory = Unit {0}
 
--- what is found after a path: the nodes of a tree that is valid there, or why there is none
-pub record IsFoundAfter (s : ProgramSketch) (shown : Shown) (outcomes : List Outcome) (path : List Choice) (found : Result (Vec Node) SearchStop) : Type 0 where
-  pub tree : IfOk found (λ nodes. Pushes (IsCoverAt (after s path) shown outcomes) [] nodes.items)
-  pub stop : IfErr found (StopLacks (asked s.program shown) (mode_in s) outcomes)
+-- the path of each piece leads to values of all reads, and the list ascends
+pub record MaySearch (search : HoleSearch) : Type 0 where
+  pub lead : All (λ piece. LeadsToWhole search.empty.now piece.path.items) search.pieces.now
+  pub ascend : Ascend search.outcomes.now
 
--- what is found for the hole of the piece at a place
-abbrev pub IsFoundAt : ProgramSketch → Shown → List Outcome → List Piece → ℕ → Result (Vec Node) SearchStop → Type 0
-IsFoundAt s shown outcomes pieces place found = (p : Piece) → IsFoundAfter s shown outcomes (slice_index_or pieces place p).path.items found
+-- what is found for the hole of the piece at a place: the nodes of a tree that is valid after the piece's path, or why there is none
+pub record IsFoundAt (search : HoleSearch) (place : ℕ) (found : Result (Vec Node) SearchStop) : Type 0 where
+  pub tree : (d : Piece) → IfOk found (λ nodes. Pushes (IsCoverAt (after search.empty.now (slice_index_or search.pieces.now place d).path.items) search.sought.now.shown.now search.outcomes.now) [] nodes.items)
+  pub stop : IfErr found (StopLacks (asked search.empty.now.program search.sought.now.shown.now) (mode_in search.empty.now) search.outcomes.now)
 
 -- so for several holes
-abbrev pub AreFoundFor : ProgramSketch → Shown → List Outcome → List Piece → List FoundHole → Type 0
-AreFoundFor s shown outcomes pieces holes = All (λ hole. IsFoundAt s shown outcomes pieces hole.place hole.found) holes
+abbrev pub AreFoundFor : HoleSearch → List FoundHole → Type 0
+AreFoundFor search holes = All (λ hole. IsFoundAt search hole.place hole.found) holes

@@ -15,6 +15,7 @@ use Rattle.branching.specs.declared.plan.LastThread.{LastThread}
 use Rattle.branching.specs.declared.plan.Plan.{Plan}
 use Rattle.outcome_search.specs.declared.searching.CutSearch.{CutSearch}
 use Rattle.outcome_search.specs.declared.searching.SearchStart.{SearchStart}
+use Rattle.partial_covers.specs.PartCovers.{AreCoversFor, IsCoverFrom}
 use Rattle.partial_covers.specs.PartialCovers.{after, MayChooseAll}
 use Rattle.partial_covers.specs.Fillings.{sequential}
 use Rattle.branching.specs.Plans.{IsLast, IsBeforeLast}

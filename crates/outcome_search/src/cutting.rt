@@ -17,8 +17,8 @@ const MANY_COMBINATIONS: u64 = 10_000;
 /// A search is cut too if its combinations times the orders of its writes are so many.
 const MANY_ORDERED_COMBINATIONS: u64 = 200_000;
 
-/// A search is cut until it has so many parts.
-const ENOUGH_PARTS: usize = 16;
+/// A search is cut until it has so many parts. The longest of them then keeps a thread busy alone for a short while only.
+const ENOUGH_PARTS: usize = 32;
 
 /// Each part is cut at most so many times.
 const MOST_CUTS: usize = 16;

@@ -8,7 +8,8 @@ ghost use Rattle.sketch_covers.specs.NodeChanges.{sequential_node, copied_in};
 ghost use Rattle.sketch_covers.specs.Covers.{IsCoverAt};
 ghost use Rattle.partial_covers.specs.Fillings.{IsFilling};
 ghost use Rattle.partial_covers.specs.NodeBlocks.{nodes_in};
-ghost use Rattle.partial_covers.specs.PartialCovers.{IsPartialCover, after, LeadsToWhole, MayChooseAll};
+ghost use Rattle.partial_covers.specs.PartialCovers.{IsPartialCover, after, items_before, LeadsToWhole, MayChooseAll};
+ghost use Rattle.outcome_search.specs.HoleTrees.{Filled, HaveHoles};
 ghost use Rattle.sketch_covers.specs.KnownOutcomes.{by_number, AreInOrder, Grows, StopIs};
 ghost use Rattle.sketch_covers.specs.Pushing.{Pushes};
 
@@ -36,12 +37,33 @@ pub(crate) fn fill<W: Watch>(
     let empty = Sketch::new(sought.alloc, sought.program, sought.mode)?;
     empty.recall_facts();
     let mut nodes = Vec::with_capacity(sought.alloc, kept.room())?;
-    for piece in &kept.pieces {
-        push_copies(&mut nodes, &piece.nodes, empty.mode())?;
-        push_tree(sought, &empty, piece, outcomes, &mut nodes, watch)?;
-    }
+    push_pieces(sought, &empty, &kept.pieces, outcomes, &mut nodes, watch)?;
     push_copies(&mut nodes, &kept.nodes, empty.mode())?;
     Ok(nodes)
+}
+
+/// Puts copies of the pieces' nodes after one another, and after each piece's nodes those of a tree in place of its hole. The sketch
+/// has no choice.
+fn push_pieces<W: Watch>(
+    sought: &Search,
+    empty: &Sketch,
+    pieces: &[Piece],
+    outcomes: &mut KnownOutcomes,
+    nodes: &mut Vec<Node>,
+    watch: &W,
+) -> Result<(), SearchStop>
+    requires in_order { AreInOrder outcomes.old }
+    requires holes { HaveHoles empty.now sought.now.shown.now (by_number outcomes.old) pieces.now }
+    requires none { nodes.old.items ≡ [] }
+    ensures grows { OnOk result (Grows (asked empty.now.program sought.now.shown.now) outcomes.old outcomes.new) }
+    ensures filled { OnOk result (Filled empty.now sought.now.shown.now (by_number outcomes.new) (items_before pieces.now) nodes.new.items) }
+    ensures stop { IfErr result (StopIs (asked empty.now.program sought.now.shown.now) (mode_in empty.now) outcomes.old) }
+{
+    for piece in pieces {
+        push_copies(nodes, &piece.nodes, empty.mode())?;
+        push_tree(sought, empty, piece, outcomes, nodes, watch)?;
+    }
+    Ok(())
 }
 
 /// Puts the tree in place of a piece's hole after the nodes: its filling, if that is for the mode, or else the tree of a

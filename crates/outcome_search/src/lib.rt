@@ -4,25 +4,26 @@
 //! are joined in the order of the parts. A tree for a machine is a partial cover whose holes are filled, and threads may search
 //! for what fills them.
 //!
-//! Begin with `start_by`, `all_outcomes` and `cover_closed_by`. Free to change: where a search is cut (`cutting.rt`), in which
-//! order its parts are taken (`part_order.rt`), who searches the parts and the holes, and how many holes at once
-//! (`searching.rt`, `hole_queue.rt`, `hole_trees.rt`). Relied on: a filled tree is valid, and a search that stops has a run
+//! Begin with `start_by`, `all_outcomes` and `cover_closed_by`. Free to change: where a search is cut (`cutting.rt`), who
+//! searches the parts and the holes, in which order, and how many holes at once (`searching.rt`, `hole_queue.rt`,
+//! `hole_search.rt`). Relied on: a filled tree is valid, and a search that stops has a run
 //! whose outcome the list lacks.
 #![tactic(auto)]
 
 mod cutting;
 mod filling;
 mod hole_queue;
+mod hole_row;
+mod hole_search;
 mod hole_trees;
 mod outcome_cover;
 mod part;
 mod part_holes;
-mod part_order;
 mod part_watch;
 mod searching;
 mod write_orders;
 
-pub use hole_trees::ThreadShare;
+pub use hole_search::ThreadShare;
 pub use outcome_cover::{OutcomeCover, all_outcomes, cover_all, cover_closed_by};
 pub use partial_covers::{
     HoleRun, NodeBlocks, PartCover, PartialCover, Piece, Unwatched, Watch, renumber_partial,

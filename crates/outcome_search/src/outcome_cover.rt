@@ -15,7 +15,8 @@ ghost use Rattle.sketch_covers.specs.KnownOutcomes.{by_number, AreInOrder, HasRu
 ghost use Rattle.sketch_covers.specs.declared.known_outcomes.KnownOutcomes.TheVariants.{Open};
 
 use crate::filling::fill;
-use crate::hole_trees::{ThreadShare, fill_by};
+use crate::hole_search::ThreadShare;
+use crate::hole_trees::fill_by;
 use crate::part_watch::JoinWatch;
 use crate::searching::{Search, SearchStart};
 use cert_forest::CoverTree;

@@ -1,5 +1,5 @@
 //! The search of the parts of a search, by one thread or by several. What is found is the same.
-ghost use Rattle.std.specs.Prelude.{◌≡◌, ◌<◌, Contains, IfOk, IfSome, length};
+ghost use Rattle.std.specs.Prelude.{◌≡◌, ◌<◌, Contains, IfOk, IfSome};
 ghost use Rattle.std.specs.List.{flat_map};
 ghost use Rattle.sketch_covers.specs.declared.outcome_index.OutcomeIndex.{OutcomeIndex};
 ghost use Rattle.sketch_covers.specs.declared.known_outcomes.KnownOutcomes.TheVariants.{Open};
@@ -7,14 +7,13 @@ ghost use Rattle.outcome_search.specs.SearchParts.{AreFoundIn, AreOwnParts, IsRe
 
 use crate::cutting::parts_of;
 use crate::part::SearchPart;
-use crate::part_order::part_order;
 use crate::part_watch::PartWatch;
 use branching::{Plan, plan_for};
 use gap_sets::GapSet;
 use partial_covers::{PartCover, Unwatched, Watch};
 use sketches::{Mode, Sketch};
 use std::alloc::{AllocError, Global};
-use std::sync::atomic::{AtomicU64, Ordering};
+use std::sync::atomic::{AtomicUsize, Ordering};
 use std::thread::{self, Threads};
 use tso_program::{Program, Shown};
 
@@ -44,17 +43,14 @@ struct CutSearch {
     sketch: Sketch,
     plan: Option<Plan>,
     parts: Vec<SearchPart>,
-    /// The places of the parts, in the order in which they are taken.
-    order: Vec<usize>,
 }
 
 /// Parts of a search, of which each thread takes the next.
 #[derive(Drop)]
 struct PartQueue<'a> {
     parts: &'a [SearchPart],
-    /// The places of the parts, in the order in which they are taken.
-    order: &'a [usize],
-    taken: AtomicU64,
+    /// How many are taken. It passes their number.
+    taken: AtomicUsize,
 }
 
 impl PartQueue<'_> {
@@ -62,9 +58,8 @@ impl PartQueue<'_> {
     fn take(&self) -> Option<&SearchPart>
         ensures { IfSome result (λ part. Contains self.now.parts.now part.now) }
     {
-        let taken = self.taken.fetch_add(1, Ordering::SeqCst);
-        let place = self.order.get(taken as usize)?;
-        self.parts.get(*place)
+        let place = self.taken.fetch_add(1, Ordering::SeqCst);
+        self.parts.get(place)
     }
 }
 
@@ -76,10 +71,9 @@ pub fn start_alone(sought: &Search) -> Result<SearchStart, AllocError>
         sketch,
         plan,
         parts,
-        order,
     } = cut(sought)?;
     let covers = match &plan {
-        Some(plan) => search_untaken(sought, plan, &queue_of(&parts, &order), &Unwatched),
+        Some(plan) => search_untaken(sought, plan, &queue_of(&parts), &Unwatched),
         None => Vec::new(sought.alloc),
     };
     Ok(SearchStart {
@@ -103,12 +97,11 @@ pub fn start_by<R: Threads + Sync, W: Watch + Sync>(
         sketch,
         plan,
         parts,
-        order,
     } = cut(sought)?;
     let covers = match &plan {
         Some(plan) => {
             let threads = usize::from(workers).min(parts.len()).max(1);
-            search_by(rt, threads, sought, plan, &queue_of(&parts, &order), watch)?
+            search_by(rt, threads, sought, plan, &queue_of(&parts), watch)?
         }
         None => Vec::new(sought.alloc),
     };
@@ -130,23 +123,20 @@ fn cut(sought: &Search) -> Result<CutSearch, AllocError>
         Some(plan) => parts_of(alloc, &sketch, plan, sought.shown)?,
         None => Vec::new(alloc),
     };
-    let order = part_order(alloc, &parts)?;
     Ok(CutSearch {
         sketch,
         plan,
         parts,
-        order,
     })
 }
 
 /// The parts, of which none is taken.
-fn queue_of<'a>(parts: &'a [SearchPart], order: &'a [usize]) -> PartQueue<'a>
+fn queue_of(parts: &[SearchPart]) -> PartQueue<'_>
     ensures { result.parts.now ≡ parts.now }
 {
     PartQueue {
         parts,
-        order,
-        taken: AtomicU64::new(0),
+        taken: AtomicUsize::new(0),
     }
 }
 
@@ -163,16 +153,15 @@ fn search_by<R: Threads + Sync, W: Watch + Sync>(
     requires parts { AreOwnParts sought.now.program.now plan.now.last queue.now.parts.now }
     ensures { IfOk result (λ covers. AreFoundIn sought.now.program.now sought.now.shown.now sought.now.mode covers.items) }
 {
-    let mut lists = empty_lists(sought.alloc, threads)?;
-    thread::for_each_mut(
+    let lists = thread::map_indices(
         rt,
-        lists.as_mut_slice(),
+        sought.alloc,
         threads,
-        &|_, covers|
+        &|_|
             requires { AreOwnParts sought.now.program.now plan.now.last queue.now.parts.now }
-            ensures { AreFoundIn sought.entry.now.program.now sought.entry.now.shown.now sought.entry.now.mode covers.exit.now.items }
-        { *covers = search_untaken(sought, plan, queue, watch) },
-    );
+            ensures { AreFoundIn sought.entry.now.program.now sought.entry.now.shown.now sought.entry.now.mode result.items }
+        { search_untaken(sought, plan, queue, watch) },
+    )?;
     joined(sought.alloc, lists)
 }
 
@@ -198,17 +187,6 @@ fn search_untaken<W: Watch>(
         }
     }
     covers
-}
-
-/// So many lists with nothing in them.
-fn empty_lists(alloc: Global, count: usize) -> Result<Vec<Vec<PartCover>>, AllocError>
-    ensures { IfOk result (λ lists. length lists.items ≡ count) }
-{
-    let mut lists = Vec::with_capacity(alloc, count)?;
-    for _ in 0..count {
-        lists.push(Vec::new(alloc))?;
-    }
-    Ok(lists)
 }
 
 /// The items of all lists, in one.

@@ -34,7 +34,7 @@ fn writes_to(thread: &Thread, location: usize) -> u64 {
 }
 
 /// Whether the instruction writes to the location.
-pub(crate) fn is_write_to(instr: Instr, location: usize) -> bool {
+fn is_write_to(instr: Instr, location: usize) -> bool {
     match instr {
         Instr::StoreImm(place, _) | Instr::Store(place, _) | Instr::Xchg(place, _) => {
             usize::from(place) == location

@@ -1,5 +1,5 @@
 -- Parts of a search, while the list of outcomes grows and choices are made, and the cover of one beside the rest.
-use Rattle.partial_covers.proofs.Vocabulary.{◌≡◌, Bool, true, false, ℕ, ◌+◌, ◌<◌, ◌≤◌, List, [], ◌∷◌, ◌++◌, length, map, sym, ap, ◌∙◌, subst}
+use Rattle.partial_covers.proofs.Vocabulary.{◌≡◌, Bool, true, false, ℕ, ◌<◌, ◌≤◌, List, [], ◌∷◌, ◌++◌, length, map, sym, ap, ◌∙◌, subst}
 use Rattle.partial_covers.proofs.Vocabulary.{Outcome, Shown, Question, asked, ProgramSketch, with_chosen, NEAR_RUNS, Choice, sketch_with, KnownOutcomes, PartCover, HasNumber, Item, renumbered_item, after}
 use Rattle.partial_covers.proofs.Vocabulary.{PushesPartialAt, StaysOf, AreRunsFor, IsMadeAt, IsCoverFor, AreCoversFor, IfJoined}
 use Rattle.sketch_covers.specs.{declared.outcome_index.OutcomeIndex.OutcomeIndex, declared.known_outcomes.KnownOutcomes.TheVariants.Closed, declared.known_outcomes.KnownOutcomes.TheVariants.Open}

@@ -1,9 +1,0 @@
-use Rattle.outcome_search.proofs.Vocabulary.{take, asked, nothing_chosen, items_before, by_number, Grows, Filled}
-use Rattle.outcome_search.proofs.filling.fill.Given as goal
-
--- the list has grown, and the nodes stand for the pieces so far
-abbrev pub invariant-loop-piece : goal.invariant-loop-piece
-invariant-loop-piece g l = record {
-  grows : Grows (asked l.sought.program.now l.sought.shown.now) l.fn.outcomes l.outcomes;
-  nodes : Filled (nothing_chosen l.sought.program.now l.sought.mode) l.sought.shown.now (by_number l.outcomes) (items_before (take l.piece-index l.kept.pieces.items)) l.nodes.items;
-}
