@@ -81,39 +81,34 @@ impl Hunt {
         ensures hunt { IfOk result (λ made. (made.0.question ≡ tree.question) × (made.0.costs ≡ tree.costs)) }
         ensures seats { IfOk result (λ made. AreFresh made.0 seats made.1.items) }
     {
-        let (word, mut first) = CeilingWord::new(
-            alloc,
-            tree.program(),
-            tree.shown(),
-            tree.costs(),
-        )?;
-        let row = seats_of(alloc, &word, &mut first, seats)?;
-        let hunt = Hunt::over(alloc, tree, word, RunCells::new(alloc, seats)?)?;
-        Ok((hunt, row))
+        let (parts, row) = parts_of(alloc, &tree, seats)?;
+        Ok((Hunt::over(alloc, tree, parts), row))
     }
 
     /// The hunt through the tree, with what stands beside its lock.
-    fn over(
-        alloc: Global,
-        tree: SearchTree,
-        word: CeilingWord,
-        rows: RunCells,
-    ) -> Result<Hunt, AllocError>
-        requires { word.table.shared.key ≡ problem tree.question tree.costs }
-        ensures question { IfOk result (λ hunt. hunt.question ≡ tree.question) }
-        ensures costs { IfOk result (λ hunt. hunt.costs ≡ tree.costs) }
-        ensures word { IfOk result (λ hunt. word_of hunt ≡ word_with word.table.shared.key word.table.shared.table_id) }
+    fn over(alloc: Global, tree: SearchTree, parts: HuntParts) -> Hunt
+        requires { parts.word.table.shared.key ≡ problem (asked parts.program parts.shown) parts.costs }
+        ensures question { result.question ≡ asked parts.program parts.shown }
+        ensures costs { result.costs ≡ parts.costs }
+        ensures word { word_of result ≡ word_with parts.word.table.shared.key parts.word.table.shared.table_id }
     {
-        Ok(Hunt {
+        let HuntParts {
+            program,
+            shown,
+            costs,
+            word,
+            rows,
+        } = parts;
+        Hunt {
             alloc,
-            program: tree.program().copy()?,
-            shown: tree.shown().copy()?,
-            costs: tree.costs().copy()?,
+            program,
+            shown,
+            costs,
             word,
             rows,
             tree: Mutex::new(tree),
             opened: Condvar::new(),
-        })
+        }
     }
 
     /// What each gap costs.
@@ -358,6 +353,65 @@ impl Hunt {
             None => false,
         }
     }
+}
+
+/// What stands beside the lock of a hunt.
+#[derive(Drop)]
+struct HuntParts {
+    program: Program,
+    shown: Shown,
+    costs: Costs,
+    word: CeilingWord,
+    rows: RunCells,
+}
+
+/// What stands beside the lock of a hunt through the tree, and the hunt's seats.
+fn parts_of(
+    alloc: Global,
+    tree: &SearchTree,
+    seats: u8,
+) -> Result<(HuntParts, Vec<HuntSeat>), AllocError>
+    ensures question { IfOk result (λ made. asked made.0.program made.0.shown ≡ tree.now.question) }
+    ensures costs { IfOk result (λ made. made.0.costs ≡ tree.now.costs) }
+    ensures word { IfOk result (λ made. made.0.word.table.shared.key ≡ problem tree.now.question tree.now.costs) }
+    ensures seats { IfOk result (λ made. (h : HuntView) → word_of h ≡ word_with made.0.word.table.shared.key made.0.word.table.shared.table_id → AreFresh h seats made.1.items) }
+{
+    let (program, shown, costs) = problem_of(tree)?;
+    let rows = RunCells::new(alloc, seats)?;
+    let (word, row) = seated_word(alloc, tree, seats)?;
+    let parts = HuntParts {
+        program,
+        shown,
+        costs,
+        word,
+        rows,
+    };
+    Ok((parts, row))
+}
+
+/// What is searched, in copies of its own: the program, what is shown of its outcomes, and what gaps cost.
+fn problem_of(tree: &SearchTree) -> Result<(Program, Shown, Costs), AllocError>
+    ensures question { IfOk result (λ made. asked made.0 made.1 ≡ tree.now.question) }
+    ensures costs { IfOk result (λ made. made.2 ≡ tree.now.costs) }
+{
+    let program = tree.program().copy()?;
+    let shown = tree.shown().copy()?;
+    let costs = tree.costs().copy()?;
+    Ok((program, shown, costs))
+}
+
+/// A ceiling word for the tree's problem, and the seats of a hunt at it.
+fn seated_word(
+    alloc: Global,
+    tree: &SearchTree,
+    seats: u8,
+) -> Result<(CeilingWord, Vec<HuntSeat>), AllocError>
+    ensures word { IfOk result (λ made. made.0.table.shared.key ≡ problem tree.now.question tree.now.costs) }
+    ensures seats { IfOk result (λ made. (h : HuntView) → word_of h ≡ word_with made.0.table.shared.key made.0.table.shared.table_id → AreFresh h seats made.1.items) }
+{
+    let (word, mut first) = CeilingWord::new(alloc, tree.program(), tree.shown(), tree.costs())?;
+    let row = seats_of(alloc, &word, &mut first, seats)?;
+    Ok((word, row))
 }
 
 /// The seats of a hunt, by number. Each knows of the ceiling word what the first seat there knows.
