@@ -4,6 +4,7 @@ ghost use Rattle.std.specs.Prelude.{◌≡◌, ℕ, List, IfOk, IfErr, OnOk, opt
 ghost use Rattle.gap_sets.specs.Order.{total};
 ghost use Rattle.tso_program.specs.Shown.{asked};
 ghost use Rattle.report.specs.Outcomes.{Headline};
+ghost use Rattle.litmus_reader.specs.Texts.{IsLitmus};
 ghost use Rattle.cert_check.specs.Certificates.{IsValidCertificate};
 ghost use Rattle.cert_check.specs.Faults.{CheckFaultIs};
 ghost use Rattle.report.specs.Answers.{accepted_line};
@@ -100,6 +101,22 @@ fn judge_certificate(
     }
 }
 
+/// Judges the text of a certificate for a litmus text that is read. The certificate's text is judged first.
+fn judge_read(
+    alloc: Global,
+    litmus: &Litmus<Program>,
+    certificate: &[u8],
+    costs: Option<&[u8]>,
+) -> Result<Vec<u8>, Rejection>
+    ensures accepted { (source : List ℕ) → IsLitmus source litmus.now → IfOk result (λ line. IsAccepted source certificate.now (option_map (λ text. text.now) costs.entry) line.items) }
+    ensures refused { (source : List ℕ) → IsLitmus source litmus.now → IfErr result (IsRefused source certificate.now (option_map (λ text. text.now) costs.entry)) }
+{
+    match read_cert(alloc, certificate) {
+        Ok(claimed) => judge_certificate(alloc, litmus, &claimed, costs),
+        Err(fault) => Err(Rejection::Certificate(fault)),
+    }
+}
+
 /// Judges a certificate for the program of a litmus text: the line that accepts it, or why it isn't accepted. The litmus
 /// text is judged first, then the certificate's text, the costs, and what the certificate shows.
 pub fn judge(
@@ -111,13 +128,8 @@ pub fn judge(
     ensures accepted { IfOk result (λ line. IsAccepted litmus.now certificate.now (option_map (λ text. text.now) costs.entry) line.items) }
     ensures refused { IfErr result (IsRefused litmus.now certificate.now (option_map (λ text. text.now) costs.entry)) }
 {
-    let litmus = match read_litmus(alloc, litmus) {
-        Ok(litmus) => litmus,
-        Err(fault) => return Err(Rejection::Litmus(fault)),
-    };
-    let certificate = match read_cert(alloc, certificate) {
-        Ok(certificate) => certificate,
-        Err(fault) => return Err(Rejection::Certificate(fault)),
-    };
-    judge_certificate(alloc, &litmus, &certificate, costs)
+    match read_litmus(alloc, litmus) {
+        Ok(litmus) => judge_read(alloc, &litmus, certificate, costs),
+        Err(fault) => Err(Rejection::Litmus(fault)),
+    }
 }
