@@ -1,5 +1,5 @@
 //! Fences placed in the program of a text.
-ghost use Rattle.std.specs.Prelude.{◌≡◌, ◌≤◌, ◌↔◌, None, IfErr, IfOk, OnOk, length, option_map};
+ghost use Rattle.std.specs.Prelude.{◌≡◌, ◌<◌, ◌≤◌, ◌↔◌, None, IfErr, IfOk, OnOk, length, option_map};
 ghost use Rattle.tso_program.specs.Listings.{gap_count};
 ghost use Rattle.tso_program.specs.Fences.{first_missing};
 ghost use Rattle.tso_program.specs.Shown.{asked};
@@ -8,7 +8,7 @@ ghost use Rattle.litmus_text.specs.Shown.{shown_as};
 ghost use Rattle.cert_forest.specs.Texts.{certificate_text};
 ghost use Rattle.fence_place.specs.Faults.{AreTooFewOrMany};
 ghost use Rattle.fence_place.specs.Placements.{IsPlacement};
-ghost use Rattle.placed_text.specs.PlacedTexts.{AreTextsOf, IsAnswerText, IsPlacedSource, IsPlacedText};
+ghost use Rattle.placed_text.specs.PlacedTexts.{AreTextsOf, AreWrittenTexts, IsAnswerText, IsPlacedSource, IsPlacedText};
 ghost use Rattle.placed_text.specs.TextFaults.{HasNoPlacement, HasNoPlacedText, HasNoTextOf};
 
 use crate::TextFault;
@@ -16,10 +16,11 @@ use crate::ahead::report_ahead;
 use crate::reading::{read_gap_costs, read_program, shown_of};
 use crate::watched::{Effort, Watched, report_failure, report_outcomes};
 use crate::writing::{AnswerText, PlacedText, write_answer};
+use cert_forest::Certificate;
 use cert_pages::write_pages;
 use cover_solver::{SeqTable, SolveFault, Solver, sequential_watched};
 use fence_place::{PlaceFault, Placed, place};
-use gap_sets::Costs;
+use gap_sets::{Costs, GapSet};
 use litmus_text::Litmus;
 use std::alloc::{AllocError, Global};
 use std::sync::Wait;
@@ -224,24 +225,63 @@ pub(crate) fn placed_source<R: Threads + Wait + Sync>(
     })
 }
 
+/// What the texts of an answer are made of.
+#[derive(Drop)]
+struct PlacedAnswer {
+    source: Litmus<Program>,
+    costs: Costs,
+    shown: Shown,
+    set: GapSet,
+    cost: u64,
+}
+
+impl PlacedSource {
+    /// What the texts of the answer are made of, and its certificate. What the solver keeps goes.
+    fn into_answer(self) -> (PlacedAnswer, Certificate)
+        ensures source { result.0.source ≡ self.source }
+        ensures costs { result.0.costs ≡ self.costs }
+        ensures shown { result.0.shown ≡ self.shown }
+        ensures set { result.0.set ≡ self.found.placed.set }
+        ensures cost { result.0.cost ≡ self.found.placed.cost }
+        ensures certificate { result.1 ≡ self.found.placed.certificate }
+    {
+        let PlacedSource {
+            source,
+            costs,
+            shown,
+            found,
+        } = self;
+        let Placed {
+            set,
+            cost,
+            certificate,
+        } = found.into_placed();
+        let answer = PlacedAnswer {
+            source,
+            costs,
+            shown,
+            set,
+            cost,
+        };
+        (answer, certificate)
+    }
+}
+
 /// The texts of the answer in a program. The certificate goes before they are made.
 fn answer_texts(alloc: Global, placed: PlacedSource) -> Result<AnswerText, AllocError>
     requires { first_missing placed.source.program placed.found.placed.set ≡ None }
     ensures { IfOk result (AreTextsOf placed) }
 {
-    let PlacedSource {
-        source,
-        costs,
-        shown,
-        found,
-    } = placed;
-    let Placed {
-        set,
-        cost,
-        certificate,
-    } = found.into_placed();
+    let (answer, certificate) = placed.into_answer();
     drop(certificate);
-    write_answer(alloc, &source, &shown, &costs, &set, cost)
+    write_answer(
+        alloc,
+        &answer.source,
+        &answer.shown,
+        &answer.costs,
+        &answer.set,
+        answer.cost,
+    )
 }
 
 /// The texts of the answer in a program, and the text of its certificate, which goes as it is written.
@@ -255,20 +295,33 @@ fn placed_texts<R: Threads + Sync>(
     ensures texts { IfOk result (λ written. AreTextsOf placed written.texts) }
     ensures certificate { IfOk result (λ written. written.certificate ≡ certificate_text placed.found.placed.certificate) }
 {
-    let PlacedSource {
-        source,
-        costs,
-        shown,
-        found,
-    } = placed;
-    let Placed {
-        set,
-        cost,
-        certificate,
-    } = found.into_placed();
     let threads = usize::from(workers.max(1));
+    let (answer, certificate) = placed.into_answer();
+    written_texts(rt, alloc, threads, certificate, &answer)
+}
+
+/// The same of what the texts are made of, and of the certificate.
+fn written_texts<R: Threads + Sync>(
+    rt: &R,
+    alloc: Global,
+    threads: usize,
+    certificate: Certificate,
+    answer: &PlacedAnswer,
+) -> Result<PlacedText, AllocError>
+    requires threads { 0 < threads }
+    requires gaps { first_missing answer.now.source.program answer.now.set ≡ None }
+    ensures texts { IfOk result (λ written. AreWrittenTexts answer.now.source answer.now.shown answer.now.costs answer.now.set answer.now.cost written.texts) }
+    ensures certificate { IfOk result (λ written. written.certificate ≡ certificate_text certificate) }
+{
     let certificate = write_pages(rt, alloc, threads, certificate)?;
-    let texts = write_answer(alloc, &source, &shown, &costs, &set, cost)?;
+    let texts = write_answer(
+        alloc,
+        &answer.source,
+        &answer.shown,
+        &answer.costs,
+        &answer.set,
+        answer.cost,
+    )?;
     Ok(PlacedText { texts, certificate })
 }
 
