@@ -8,6 +8,8 @@ ghost use Rattle.program_streams.specs.Streams.{Prints};
 ghost use Rattle.program_streams.specs.Files.{ReadsOfInput};
 ghost use Rattle.litmus_text.specs.Shown.{shown_as};
 ghost use Rattle.litmus_text.specs.Texts.{IsLitmus};
+ghost use Rattle.report.specs.Answers.{outcome_line};
+ghost use Rattle.report.specs.Observations.{observation_line, condition_line};
 ghost use Rattle.cover_solver.specs.declared.fault.SolveFault.TheVariants as solve;
 ghost use Rattle.fencer.specs.Outcomes.{listed_kind, list_text as lines_of_list, list_status, run_line_at, ListsOutcomes, ListsRuns, PrintsOutcomes, HasNoList, AreOutcomes, TellsOutcomes};
 
@@ -19,7 +21,7 @@ use cert_forest::Runs;
 use cover_solver::{OutcomeList, SolveFault, SoughtOutcomes, outcomes_with_runs};
 use documents::{outcomes_document, outcomes_with_runs_document};
 use fencer_words::OutcomeQuery;
-use litmus_text::{Litmus, read_litmus};
+use litmus_text::{Condition, Litmus, NameTable, read_litmus};
 use messages::file_or_input;
 use placed_text::{Ahead, report_ahead};
 use program_streams::{Console, FileStore, Progress, TEXT_LIMIT, file_line, named_bytes};
@@ -44,6 +46,34 @@ fn push_run(
     Ok(())
 }
 
+/// The line of an outcome, as far as it is shown.
+fn push_outcome(
+    alloc: Global,
+    lines: &mut Vec<u8>,
+    names: &NameTable,
+    shown: &Shown,
+    outcome: &Outcome,
+) -> Result<(), AllocError>
+    ensures { OnOk result (lines.new.items ≡ lines.old.items ++ outcome_line names.now shown.now outcome.now) }
+{
+    lines.extend_from_slice(&outcome_line(alloc, names, shown, outcome)?)?;
+    Ok(())
+}
+
+/// The lines of what outcomes show of a condition.
+fn push_observation(
+    alloc: Global,
+    lines: &mut Vec<u8>,
+    condition: &Condition,
+    outcomes: &[Outcome],
+) -> Result<(), AllocError>
+    ensures { OnOk result (lines.new.items ≡ lines.old.items ++ observation_line condition.now outcomes.now ++ condition_line condition.now outcomes.now) }
+{
+    lines.extend_from_slice(&observation_line(alloc, condition, outcomes)?)?;
+    lines.extend_from_slice(&condition_line(alloc, condition, outcomes)?)?;
+    Ok(())
+}
+
 /// How many outcomes there are, each of them as far as it is shown, with its run if there is one, and what they show of
 /// the condition.
 fn list_lines(
@@ -58,12 +88,10 @@ fn list_lines(
     let count = outcomes.len();
     let mut lines = format!(in alloc; "outcomes {count}\n")?.into_bytes();
     for (number, outcome) in outcomes.iter().enumerate() {
-        let line = outcome_line(alloc, &litmus.names, shown, outcome)?;
-        lines.extend_from_slice(&line)?;
+        push_outcome(alloc, &mut lines, &litmus.names, shown, outcome)?;
         push_run(alloc, &mut lines, &list.runs, number)?;
     }
-    lines.extend_from_slice(&observation_line(alloc, &litmus.condition, outcomes)?)?;
-    lines.extend_from_slice(&condition_line(alloc, &litmus.condition, outcomes)?)?;
+    push_observation(alloc, &mut lines, &litmus.condition, outcomes)?;
     Ok(lines)
 }
 

@@ -10,7 +10,7 @@ loop-number-preserved c =
     let runs = c.args.list.now.runs in
     let i = c.loop-number.number in
     let outcome = c.index-outcomes-number.result in
-    let line = c.deref.ensures.value ∙ c.in_ok-line.ensures ∙ ap (outcome_line names shown) c.index-outcomes-number.is in
+    let line = ap (outcome_line names shown) c.index-outcomes-number.is in
     c.in_ok-push_run.ensures
-    ∙ ap (λ (bs : List ℕ). bs ++ run_line_at runs i) (c.in_ok-extend_from_slice.ensures.items ∙ ap₂ (λ (xs ys : List ℕ). xs ++ ys) c.loop-number.invariant line)
+    ∙ ap (λ (bs : List ℕ). bs ++ run_line_at runs i) (c.in_ok-push_outcome.ensures ∙ ap₂ (λ (xs ys : List ℕ). xs ++ ys) c.loop-number.invariant line)
     ∙ one_more_outcome names shown c.into_bytes-lines.result.items outcomes runs i outcome c.loop-number-test.true
