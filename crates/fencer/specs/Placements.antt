@@ -29,7 +29,7 @@ text_fault_line (fault.CostText why) = costs_line why
 text_fault_line fault.Workers = refused (codes "place 1 Workers")
 text_fault_line fault.OutOfMemory = refused (codes "place 5 OutOfMemory")
 
--- the texts tell what is placed in the program of a litmus text, and where a file is named for the certificate, its text is one
+-- the texts say what is placed in the program of a litmus text, and where a file is named for the certificate, its text is one
 abbrev pub AreTextsFor : Option (List ℕ) → List ℕ → Option (List ℕ) → ShownKind → AnswerText → List ℕ → Type 0
 AreTextsFor None litmus costs kind texts certificate = IsAnswerText litmus costs kind texts
 AreTextsFor (Some name) litmus costs kind texts certificate = IsPlacedText litmus costs kind (record { texts = texts; certificate = certificate })

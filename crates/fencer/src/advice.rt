@@ -8,7 +8,6 @@ use fencer_words::Placement;
 use messages::{
     Message, Source, costs_message, fence_message, file_or_input, idle_name_message,
     litmus_message, near_name_message, replay_message, run_message, unread_message,
-    unwritten_message,
 };
 use placed_text::TextFault;
 use program_streams::{Console, FileFault, FileStore, TEXT_LIMIT, UnreadFile};
@@ -46,11 +45,6 @@ pub(crate) fn unread_advice<S: FileStore>(
     file: UnreadFile<'_>,
 ) -> Result<Message, AllocError> {
     unread_message(alloc, file, files.obstacle(file.name))
-}
-
-/// That a file is not written.
-pub(crate) fn unwritten_advice(alloc: Global, name: Option<&str>) -> Result<Message, AllocError> {
-    unwritten_message(alloc, name.unwrap_or(""))
 }
 
 /// Why there is no answer.

@@ -4,8 +4,8 @@ ghost use Rattle.std.specs.Prelude.{◌≡◌, ◌⊎◌, IfErr, IsSome, OnErr, 
 ghost use Rattle.program_streams.specs.Streams.{Prints};
 ghost use Rattle.fencer.specs.Deliveries.{HoldsFile, HoldsFiles, KeepFiles, KeepFilesBut, IsDelivered};
 
-use crate::advice::unwritten_advice;
 use crate::refused::tell_refusal;
+use messages::unwritten_message;
 use paged_text::Pages;
 use program_streams::{Console, FileFault, WritableFileStore, file_line, print};
 use std::alloc::Global;
@@ -76,7 +76,7 @@ pub(crate) fn deliver<S: WritableFileStore, W: Console>(
             print(output, Ok(lines), status)
         }
         Err(name) => {
-            let message = unwritten_advice(alloc, name);
+            let message = unwritten_message(alloc, name.unwrap_or(""));
             tell_refusal(
                 alloc,
                 answer.json,

@@ -16,7 +16,7 @@ ghost use Rattle.sketch_covers.specs.KnownOutcomes.{by_number, AreInOrder, Grows
 ghost use Rattle.sketch_covers.specs.Pushing.{Pushes, BeginsIfNew};
 ghost use Rattle.branching.specs.Accesses.{AreAccessesOf};
 
-use crate::covered::Covered;
+use crate::covered::{Covered, LastTree};
 use crate::known_outcomes::KnownOutcomes;
 use crate::leaf::{FoundLeaf, known, leaf};
 use crate::needs::{ChoicePath, Needs};
@@ -180,9 +180,10 @@ impl TreeSearch<'_> {
         nodes.push(node_of(branch))?;
         let mut needs = Needs::nothing();
         for choice in &branch.choices {
-            let child = nodes.len();
+            let start = nodes.len();
             let covered = self.cover_after(sketch, *choice, path, outcomes, nodes)?;
-            if self.take_place(nodes, root, child, covered, sketch, outcomes.as_slice())? {
+            let child = LastTree { start, covered };
+            if self.take_place(nodes, root, child, sketch, outcomes.as_slice())? {
                 return Ok(covered);
             }
             needs.add(&covered.needs());
@@ -247,7 +248,8 @@ impl TreeSearch<'_> {
         if let Some(needs) = self.needs_without(last, covered.needs()) {
             return Ok(Covered::Unjudged(needs));
         }
-        let needs = self.settle(covered, start, sketch, path, outcomes, nodes)?;
+        let last_tree = LastTree { start, covered };
+        let needs = self.settle(last_tree, sketch, path, outcomes, nodes)?;
         Ok(Covered::Valid(needs_above(last, needs)))
     }
 
@@ -265,13 +267,11 @@ impl TreeSearch<'_> {
         }
     }
 
-    /// Judges the last tree, whose root is the node `start`, unless it is valid. If it is wrong, a tree of a search that
-    /// judges each step takes its place.
+    /// Judges the last tree, unless it is valid. If it is wrong, a tree of a search that judges each step takes its place.
     #[cycle(cover)]
     fn settle(
         &self,
-        covered: Covered,
-        start: usize,
+        last: LastTree,
         sketch: &mut Sketch,
         path: &mut ChoicePath,
         outcomes: &mut KnownOutcomes,
@@ -279,22 +279,22 @@ impl TreeSearch<'_> {
     ) -> Result<Needs, SearchStop>
         requires in_order { AreInOrder outcomes.old }
         requires accesses { AreAccessesOf sketch.old self.now.accesses.now }
-        requires start { start ≤ length nodes.old.items }
-        requires tree { Pushes (IsCoveredAt covered sketch.old self.now.shown.now (by_number outcomes.old)) (take start nodes.old.items) nodes.old.items }
+        requires start { last.start ≤ length nodes.old.items }
+        requires tree { Pushes (IsCoveredAt last.covered sketch.old self.now.shown.now (by_number outcomes.old)) (take last.start nodes.old.items) nodes.old.items }
         ensures kept { sketch.new ≡ sketch.old }
         ensures grows { OnTold result (Grows (asked sketch.old.program self.now.shown.now) outcomes.old outcomes.new) }
-        ensures tree { OnOk result (Pushes (IsCoverAt sketch.old self.now.shown.now (by_number outcomes.new)) (take start nodes.old.items) nodes.new.items) }
+        ensures tree { OnOk result (Pushes (IsCoverAt sketch.old self.now.shown.now (by_number outcomes.new)) (take last.start nodes.old.items) nodes.new.items) }
         ensures stop { IfErr result (StopIs (asked sketch.old.program self.now.shown.now) (mode_in sketch.old) outcomes.old) }
-        ensures stays { IfErr result (BeginsIfNew (take start nodes.old.items) nodes.new.items) }
+        ensures stays { IfErr result (BeginsIfNew (take last.start nodes.old.items) nodes.new.items) }
     {
-        let needs = covered.needs();
-        if covered.is_valid() {
+        let needs = last.covered.needs();
+        if last.covered.is_valid() {
             return Ok(needs);
         }
-        if self.is_judged_valid(nodes, start, sketch, outcomes.as_slice())? {
+        if self.is_judged_valid(nodes, last.start, sketch, outcomes.as_slice())? {
             return Ok(needs);
         }
-        nodes.truncate(start);
+        nodes.truncate(last.start);
         let plain = TreeSearch {
             alloc: self.alloc,
             shown: self.shown,
@@ -314,25 +314,24 @@ impl TreeSearch<'_> {
         &self,
         nodes: &mut Vec<Node>,
         root: usize,
-        child: usize,
-        covered: Covered,
+        child: LastTree,
         sketch: &Sketch,
         outcomes: &[Outcome],
     ) -> Result<bool, AllocError>
-        requires order { root ≤ child }
-        requires within { child < length nodes.old.items }
-        requires tree { IsTree (drop child nodes.old.items) }
-        ensures taken { IfOk result (λ taken. IsTaken covered sketch.now self.now.shown.now outcomes.now (tree_of (drop child nodes.old.items)) nodes.old.items (remove_range nodes.old.items root child) nodes.new.items taken) }
+        requires order { root ≤ child.start }
+        requires within { child.start < length nodes.old.items }
+        requires tree { IsTree (drop child.start nodes.old.items) }
+        ensures taken { IfOk result (λ taken. IsTaken child.covered sketch.now self.now.shown.now outcomes.now (tree_of (drop child.start nodes.old.items)) nodes.old.items (remove_range nodes.old.items root child.start) nodes.new.items taken) }
     {
-        if covered.is_valid() {
-            if !covered.needs().is_unknown() || is_cycle(&nodes[child]) {
+        if child.covered.is_valid() {
+            if !child.covered.needs().is_unknown() || is_cycle(&nodes[child.start]) {
                 return Ok(false);
             }
-            if !self.is_judged_valid(nodes, child, sketch, outcomes)? {
+            if !self.is_judged_valid(nodes, child.start, sketch, outcomes)? {
                 return Ok(false);
             }
         }
-        take_out(nodes, root, child);
+        take_out(nodes, root, child.start);
         Ok(true)
     }
 

@@ -13,6 +13,14 @@ pub(crate) enum Covered {
     Unjudged(Needs),
 }
 
+/// The last tree among nodes.
+#[derive(Clone, Copy)]
+pub(crate) struct LastTree {
+    /// The place of its root.
+    pub(crate) start: usize,
+    pub(crate) covered: Covered,
+}
+
 impl Covered {
     /// Which choices it needs.
     pub(crate) fn needs(self) -> Needs {

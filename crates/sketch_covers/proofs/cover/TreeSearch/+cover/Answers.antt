@@ -73,9 +73,9 @@ cover_over-take_place-requires-clause-within t c =
     let i = c.loop-choice.choice-index in
     let d = choice.Value 0 0 in
     let ch = get_or choices i d in
-    let at = c.len-child.result in
+    let at = c.len-start.result in
     let inv = c.loop-choice.invariant in
-    let place : at ≡ length now = omega (arith, c.len-child.ensures, c.loop-choice.nodes.ok.0) in
+    let place : at ≡ length now = omega (arith, c.len-start.ensures, c.loop-choice.nodes.ok.0) in
     let cov = c.in_ok-covered.covered in
     let P : Cover → Type 0 = IsCoveredAt cov (with_chosen s (sketch_with s.chosen ch)) shown outs in
     let is_list = c.deref-choice-items.ensures.value in
@@ -99,9 +99,9 @@ cover_over-take_place-requires-clause-tree t c =
     let i = c.loop-choice.choice-index in
     let d = choice.Value 0 0 in
     let ch = get_or choices i d in
-    let at = c.len-child.result in
+    let at = c.len-start.result in
     let inv = c.loop-choice.invariant in
-    let place : at ≡ length now = omega (arith, c.len-child.ensures, c.loop-choice.nodes.ok.0) in
+    let place : at ≡ length now = omega (arith, c.len-start.ensures, c.loop-choice.nodes.ok.0) in
     let cov = c.in_ok-covered.covered in
     let P : Cover → Type 0 = IsCoveredAt cov (with_chosen s (sketch_with s.chosen ch)) shown outs in
     let is_list = c.deref-choice-items.ensures.value in
@@ -125,9 +125,9 @@ cover_over-returns-then-branch-clause-tree t c =
     let i = c.loop-choice.choice-index in
     let d = choice.Value 0 0 in
     let ch = get_or choices i d in
-    let at = c.len-child.result in
+    let at = c.len-start.result in
     let inv = c.loop-choice.invariant in
-    let place : at ≡ length now = omega (arith, c.len-child.ensures, c.loop-choice.nodes.ok.0) in
+    let place : at ≡ length now = omega (arith, c.len-start.ensures, c.loop-choice.nodes.ok.0) in
     let cov = c.in_ok-covered.covered in
     let P : Cover → Type 0 = IsCoveredAt cov (with_chosen s (sketch_with s.chosen ch)) shown outs in
     let is_list = c.deref-choice-items.ensures.value in
@@ -161,9 +161,9 @@ cover_over-loop-choice-preserved t c =
     let i = c.loop-choice.choice-index in
     let d = choice.Value 0 0 in
     let ch = get_or choices i d in
-    let at = c.len-child.result in
+    let at = c.len-start.result in
     let inv = c.loop-choice.invariant in
-    let place : at ≡ length now = omega (arith, c.len-child.ensures, c.loop-choice.nodes.ok.0) in
+    let place : at ≡ length now = omega (arith, c.len-start.ensures, c.loop-choice.nodes.ok.0) in
     let cov = c.in_ok-covered.covered in
     let P : Cover → Type 0 = IsCoveredAt cov (with_chosen s (sketch_with s.chosen ch)) shown outs in
     let is_list = c.deref-choice-items.ensures.value in
@@ -192,15 +192,15 @@ cover_over-returns-clause-tree t c =
 pub settle-is_judged_valid-requires-clause-within : goal.settle-is_judged_valid-requires-clause-within
 settle-is_judged_valid-requires-clause-within t c =
     let now = c.args.nodes.now.items in
-    let start = c.args.start in
-    let P : Cover → Type 0 = IsCoveredAt c.args.covered c.args.sketch.now c.args.self.now.shown.now (by_number c.args.outcomes.now) in
+    let start = c.args.last.start in
+    let P : Cover → Type 0 = IsCoveredAt c.args.last.covered c.args.sketch.now c.args.self.now.shown.now (by_number c.args.outcomes.now) in
     subst (λ (xs : List Node). start < length xs) (sym c.deref.ensures.value) (child_fits (take start now) now P start (sym (length-take-le start now c.requires.start)) c.requires.tree)
 
 pub settle-is_judged_valid-requires-clause-tree : goal.settle-is_judged_valid-requires-clause-tree
 settle-is_judged_valid-requires-clause-tree t c =
     let now = c.args.nodes.now.items in
-    let start = c.args.start in
-    let P : Cover → Type 0 = IsCoveredAt c.args.covered c.args.sketch.now c.args.self.now.shown.now (by_number c.args.outcomes.now) in
+    let start = c.args.last.start in
+    let P : Cover → Type 0 = IsCoveredAt c.args.last.covered c.args.sketch.now c.args.self.now.shown.now (by_number c.args.outcomes.now) in
     subst (λ (xs : List Node). IsTree (drop start xs)) (sym c.deref.ensures.value) (child_is_tree (take start now) now P start (sym (length-take-le start now c.requires.start)) c.requires.tree)
 
 pub settle-returns-then-is_valid-clause-grows : goal.settle-returns-then-is_valid-clause-grows
@@ -215,10 +215,10 @@ settle-returns-then-branch-clause-tree t c =
     let shown = c.args.self.now.shown.now in
     let outs = by_number c.args.outcomes.now in
     let now = c.args.nodes.now.items in
-    let start = c.args.start in
-    let P : Cover → Type 0 = IsCoveredAt c.args.covered s shown outs in
+    let start = c.args.last.start in
+    let P : Cover → Type 0 = IsCoveredAt c.args.last.covered s shown outs in
     let more = c.requires.tree in
     let valid_of : List Outcome → List Node → Type 0 = λ os xs. IsValidAt s shown os (tree_of (drop start xs)) in
     let judged : valid_of outs now = subst (valid_of outs) c.deref.ensures.value (subst (λ (os : List Outcome). valid_of os c.deref.result.now) c.as_slice.ensures (c.in_ok-is_judged_valid.ensures c.if-branch.true)) in
     let valid = subst (IsValidAt s shown outs) (child_is (take start now) now P start (sym (length-take-le start now c.requires.start)) more) judged in
-    record { tree = more.tree; is = cover_judged s shown outs more.tree c.args.covered valid more.is; pushed = more.pushed }
+    record { tree = more.tree; is = cover_judged s shown outs more.tree c.args.last.covered valid more.is; pushed = more.pushed }
