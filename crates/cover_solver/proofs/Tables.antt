@@ -1,6 +1,6 @@
 -- What trees and runs say of tables, sets and foreign runs.
 use Rattle.cover_solver.proofs.Vocabulary.{◌≡◌, ◌↔◌, ℕ, ◌<◌, Bool, true, false, IsTrue, List, Some, Contains, slice_get, sym, ap, ◌∙◌, subst, arith, Result, Ok, Err, IfOk, IfErr, is_ok, Question, show, asked, ForeignFaultIs, of_replay, Machine}
-use Rattle.cover_solver.proofs.Vocabulary.{SequentialMachine, StoreBufferMachine, no_gaps, outcome_at, IsRun, IsSequentialTable, IsListOf, IsServing, AreRunsOf, place_in, ArePlacesOf, Bor, machine_of_mode, Listing, Outcome, Shown, JumpForward, Label}
+use Rattle.cover_solver.proofs.Vocabulary.{SequentialMachine, StoreBufferMachine, no_gaps, outcome_at, IsRun, IsSequentialTable, IsListOf, IsServing, AreRunsOf, place_in, ArePlacesOf, machine_of_mode, Listing, Outcome, Shown, JumpForward, Label}
 use Rattle.cover_solver.proofs.Vocabulary.{ReplayFaultIs, ArePassed, AllowsShown, IsShownRun, IsForeignRun, renumbered, BelongsAt, not_there}
 use Rattle.std.specs.FinSet as set
 use Rattle.std.proofs.lemmas.Option.{same_Some}
@@ -14,12 +14,11 @@ use Rattle.cover_solver.specs.declared.fault.ForeignFault.TheVariants as foreign
 use Rattle.fence_laws.proofs.GapsAvoided.{fenced_runs_avoid}
 use Rattle.cert_forest.specs.{Trees.Cover, NodeConstants.NEAR_RUNS}
 use Rattle.outcome_search.specs.{OutcomeNumbers.AreFoundOf, AscendingOutcomes.AscendingOutcomes, OutcomeIndex.OutcomeIndex, Covers.IsWholeCover}
-use Rattle.outcome_search.specs.{KnownOutcomes.StopIs, KnownOutcomesValue.TheVariants.Closed, SearchStop.SearchStop}
-use Rattle.outcome_search.proofs.{RenumberedTrees.whole_renumbered, HoleTrees.stop_lacks}
+use Rattle.outcome_search.specs.{KnownOutcomes.StopLacks, SearchStop.SearchStop}
+use Rattle.outcome_search.proofs.{RenumberedTrees.whole_renumbered}
 use Rattle.tso_program.proofs.OutcomesOrdered.{one_way}
 use Rattle.std.specs.declared.cmp.Ordering.TheVariants.{Less}
 use Rattle.tso_machine.specs.declared.mode.Mode.TheVariants as modes
-use Rattle.outcome_search.specs.HoleTrees.{StopLacks}
 
 -- a question by its parts
 pub same_question : (q : Question) (p : Listing) (shown : Shown) → p ≡ q.program → shown ≡ q.shown → asked p shown ≡ q
@@ -108,7 +107,3 @@ pub lacks_moved : {T : Type 0} → (found : Result T SearchStop) (q other : Ques
 lacks_moved found q other mode gaps os outcomes same is listed stop =
     subst (λ (xs : List Outcome). IfErr found (StopLacks other (StoreBufferMachine (gaps_in other.program gaps)) xs)) listed
     (subst (λ (m : Mode). IfErr found (StopLacks other (machine_of_mode other.program m) os)) is (subst (λ (r : Question). IfErr found (StopLacks r (machine_of_mode r.program mode) os)) same stop))
-
-pub stop_lacks_if : {T : Type 0} → (found : Result T SearchStop) (q : Question) (machine : Machine) (outcomes : Bor (List Outcome)) → IfErr found (StopIs q machine (Closed outcomes)) → IfErr found (StopLacks q machine outcomes.now)
-stop_lacks_if (Ok tree) q machine outcomes is = tt
-stop_lacks_if (Err why) q machine outcomes is = stop_lacks q machine outcomes why is

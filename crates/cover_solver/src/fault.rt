@@ -10,8 +10,8 @@ use tso_machine::ReplayFault;
 /// Why a search has no answer.
 #[derive(Clone, Copy, Debug, Error)]
 pub enum SolveFault {
-    /// A candidate execution without a cycle has no run. No call of this crate answers this.
-    #[error("a candidate execution without a cycle has no run")]
+    /// The oracle has no run for the set, and does not know that it serves. No call of this crate answers this.
+    #[error("the oracle has no run for the set")]
     NoRun,
     #[error("out of memory")]
     OutOfMemory,

@@ -29,6 +29,7 @@ pub trait Oracle: Sync {
     /// What must hold of it to be asked. Of one that shares a search among threads: that they may share what starts them.
     ghost may_be_asked: { Self → Type 0 };
 
+    /// Says that the set serves, or gives a foreign run that passes no gap of it.
     fn ask(&self, set: &GapSet) -> Result<Verdict, SolveFault>
         requires gaps { AreGapsOf (question self.now).program set.now }
         requires may { may_be_asked self.now }

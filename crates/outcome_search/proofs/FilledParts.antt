@@ -1,6 +1,6 @@
 -- Partial covers whose holes get other fillings.
-use Rattle.outcome_search.proofs.Vocabulary.{nodes_in, ◌≡◌, ℕ, suc, List, [], ◌∷◌, ◌++◌, map, refl, sym, ap, ◌∙◌, subst, arith, append_assoc, append-nil, IsCoverAt, Pushes, Outcome, Shown, ProgramSketch, with_chosen, Node, spell, Choice, sketch_with, Piece}
-use Rattle.outcome_search.proofs.Vocabulary.{KeepsNumbers, IsFilling, sequential, AreFilled, IsFilled, Item, Has, Lacks, PartialTree, Closed, Values, Hole, PartialTrees, NoPartial, MorePartial, count_partial, spell_partial, spell_partial_row, items_before}
+use Rattle.outcome_search.proofs.Vocabulary.{nodes_in, get_or, ◌≡◌, ℕ, suc, List, [], ◌∷◌, ◌++◌, map, refl, sym, ap, ◌∙◌, subst, arith, append_assoc, append-nil, IsCoverAt, Pushes, Outcome, Shown, ProgramSketch, with_chosen, Node, spell, Choice, sketch_with, Piece}
+use Rattle.outcome_search.proofs.Vocabulary.{KeepsNumbers, IsFilling, sequential, AreEach, AreFilled, IsFilled, IsForgotten, Item, Has, Lacks, PartialTree, Closed, Values, Hole, PartialTrees, NoPartial, MorePartial, count_partial, spell_partial, spell_partial_row, items_before}
 use Rattle.outcome_search.proofs.Vocabulary.{after, IsPartialAfter, ArePartialAfter, PushesPartial, PushesPartialAt}
 use Rattle.cert_forest.specs.Node.TheVariants as node
 use Rattle.partial_covers.proofs.{ChoicesMade.after_sequential, PartialRows.after_more, PartialRows.filling_still, PartialRows.partial_still}
@@ -34,7 +34,16 @@ filling_pushed k shown outcomes (x ∷ xs) old new same full filled by = record 
 }
 
 pub filled_still : (s : ProgramSketch) (shown : Shown) (before outcomes : List Outcome) → KeepsNumbers before outcomes → (a b : Piece) → IsFilled s shown before a b → IsFilled s shown outcomes a b
-filled_still s shown before outcomes keeps a b is = record { nodes = is.nodes; path = is.path; filling = filling_still (after s a.path.items) shown before outcomes keeps b.filling.items is.filling }
+filled_still s shown before outcomes keeps a b is = record { nodes = is.nodes; path = is.path; run = is.run; filling = filling_still (after s a.path.items) shown before outcomes keeps b.filling.items is.filling }
+
+-- pieces without fillings
+pub forgotten_filled : (s : ProgramSketch) (shown : Shown) (outcomes : List Outcome) (old new : List Piece) → AreEach IsForgotten old new → AreFilled s shown outcomes old new
+forgotten_filled s shown outcomes old new are = record {
+  as_many = are.as_many;
+  each = λ i d here.
+      let is = are.each i d here in
+      record { nodes = is.nodes; path = is.path; run = is.run; filling = subst (IsFilling (after s (get_or old i d).path.items) shown outcomes) (sym is.filling) tt };
+}
 
 module _ (root : ProgramSketch) (shown : Shown) (outcomes : List Outcome) where
   -- the same nodes, and holes at the same places with valid fillings

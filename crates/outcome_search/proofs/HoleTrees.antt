@@ -1,13 +1,6 @@
 -- What is found for the holes of a partial cover.
-use Rattle.outcome_search.proofs.Vocabulary.{◌≡◌, ℕ, ◌<◌, length, same_default, Global, ◌++◌, ap, ◌∙◌, List, [], Vec, Result, get_or, subst, Question, Machine, mode_in, asked, Node, Cover, Choice, Piece, IfOk, IfErr, IsCoverAt, after}
-use Rattle.outcome_search.proofs.Vocabulary.{StopIs, Pushes, SearchStop, HoleSearch, IsFoundAt, StopLacks}
-use Rattle.sketch_covers.specs.declared.stop.SearchStop.TheVariants as stop
-use Rattle.sketch_covers.specs.declared.known_outcomes.KnownOutcomes.{TheVariants.Closed}
-
--- why a search by a closed list stops
-pub stop_lacks : (q : Question) (machine : Machine) (outcomes : _) (why : SearchStop) → StopIs q machine (Closed outcomes) why → StopLacks q machine outcomes.now why
-stop_lacks q machine outcomes (stop.New run sketch) is = is
-stop_lacks q machine outcomes stop.OutOfMemory is = tt
+use Rattle.outcome_search.proofs.Vocabulary.{◌≡◌, ℕ, ◌<◌, length, same_default, Global, ◌++◌, ap, ◌∙◌, List, [], Vec, Result, get_or, subst, mode_in, asked, Node, Cover, Choice, Piece, IfOk, IfErr, IsCoverAt, after}
+use Rattle.outcome_search.proofs.Vocabulary.{Pushes, SearchStop, HoleSearch, IsFoundAt, StopLacks}
 
 -- a tree's nodes come after others
 pub after_others : {P : Cover → Type 0} → (old new nodes : List Node) → Pushes P [] nodes → new ≡ old ++ nodes → Pushes P old new

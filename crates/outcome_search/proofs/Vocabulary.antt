@@ -8,7 +8,7 @@ pub use Rattle.std.proofs.lemmas.List.Elements.{All-append, All-nil, All-push}
 pub use Rattle.std.proofs.lemmas.Option.{same_Some}
 pub use Rattle.std.specs.List.{flat_map}
 pub use Rattle.std.specs.Option.{MatchOption, option_map_or}
-pub use Rattle.std.specs.Prelude.{All, OnOk, Result, if◌then◌else◌}
+pub use Rattle.std.specs.Prelude.{All, Err, Ok, OnOk, Result, if◌then◌else◌}
 pub use Rattle.branching.specs.Plans.{AreOfOthers, IsLast, IsOfOther}
 pub use Rattle.branching.specs.declared.plan.LastThread.{LastThread}
 pub use Rattle.branching.specs.declared.plan.Plan.{Plan}
@@ -33,7 +33,7 @@ pub use Rattle.sketch_covers.proofs.CombinedCovers.{before_next, of_others}
 pub use Rattle.sketch_covers.proofs.Growing.{grows_none, grows_twice, memory_stops, still_valid, stops_for}
 pub use Rattle.sketch_covers.proofs.Nodes.{cover_first, cover_next, covers_none, node_cover}
 pub use Rattle.sketch_covers.specs.Covers.{AreCoversAfter, IsCoverAt, IsWholeCover}
-pub use Rattle.sketch_covers.specs.KnownOutcomes.{AreInOrder, Grows, HasRunOfEach, StaysOf, StopIs, by_number}
+pub use Rattle.sketch_covers.specs.KnownOutcomes.{AreInOrder, Grows, HasRunOfEach, OnTold, StaysOf, StopIs, StopLacks, by_number}
 pub use Rattle.sketch_covers.specs.NodeChanges.{changed_node, copied_in, sequential_node}
 pub use Rattle.sketch_covers.specs.OutcomeNumbers.{KeepsNumbers}
 pub use Rattle.sketch_covers.specs.Pushing.{Pushes}
@@ -54,9 +54,9 @@ pub use Rattle.tso_program.specs.declared.listing.Listing.{Listing}
 pub use Rattle.tso_program.specs.declared.outcome.Outcome.{Outcome}
 pub use Rattle.tso_program.specs.declared.shown.Shown.{Shown}
 pub use Rattle.partial_covers.specs.Fillings.{IsFilling, sequential}
-pub use Rattle.outcome_search.specs.HoleTrees.{AreFoundFor, Filled, HaveHoles, IsFoundAt, IsHole, MaySearch, StopLacks, copied}
+pub use Rattle.outcome_search.specs.HoleTrees.{AreFoundFor, Filled, HaveHoles, IsFoundAt, IsHole, MaySearch, copied}
 pub use Rattle.partial_covers.specs.NodeBlocks.{joined, nodes_in}
-pub use Rattle.partial_covers.specs.PartialCovers.{AreFilled, ArePartialAfter, Closed, Has, Hole, IsFilled, IsPartialAfter, IsPartialCover, Item, Lacks, LeadsToWhole}
+pub use Rattle.partial_covers.specs.PartialCovers.{AreEach, AreFilled, ArePartialAfter, Closed, Has, Hole, IsFilled, IsForgotten, IsPartialAfter, IsPartialCover, Item, Lacks, LeadsToWhole}
 pub use Rattle.partial_covers.specs.PartialCovers.{MayChooseAll, MorePartial, NoPartial, PartialTree, PartialTrees, PushesPartial, PushesPartialAt, Values, after, count_partial}
 pub use Rattle.partial_covers.specs.PartialCovers.{items_before, items_of, spell_partial, spell_partial_row, unfenced}
 pub use Rattle.partial_covers.specs.PartCovers.{AreCoversFor, IsCoverFor, IsMadeAt}

@@ -1,13 +1,11 @@
 -- Trees in place of the holes of a partial cover, over a closed list of outcomes.
-use Rattle.std.specs.Prelude.{◌≡◌, ℕ, List, [], ◌∷◌, ◌++◌, All, Contains, Result, IfErr, IfOk, slice_index_or}
+use Rattle.std.specs.Prelude.{◌≡◌, ℕ, List, [], ◌∷◌, ◌++◌, All, Result, IfErr, IfOk, slice_index_or}
 use Rattle.std.specs.Global.{Vec}
 use Rattle.tso_program.specs.declared.outcome.Outcome.{Outcome}
 use Rattle.tso_program.specs.declared.shown.Shown.{Shown}
-use Rattle.tso_program.specs.Shown.{Question, asked}
+use Rattle.tso_program.specs.Shown.{asked}
 use Rattle.tso_machine.specs.declared.mode.Mode.{Mode}
 use Rattle.tso_machine.specs.declared.mode.Mode.TheVariants as modes
-use Rattle.tso_machine.specs.Machine.{Machine}
-use Rattle.tso_machine.specs.Outcomes.{IsShownRun}
 use Rattle.sketches.specs.ProgramSketches.{ProgramSketch, mode_in}
 use Rattle.cert_forest.specs.Node.{Node}
 use Rattle.cert_forest.specs.Trees.{Cover}
@@ -16,8 +14,8 @@ use Rattle.cover_judge.specs.declared.choice.Choice.{Choice}
 use Rattle.sketch_covers.specs.Covers.{IsCoverAt}
 use Rattle.sketch_covers.specs.Pushing.{Pushes}
 use Rattle.sketch_covers.specs.declared.stop.SearchStop.{SearchStop}
-use Rattle.sketch_covers.specs.declared.stop.SearchStop.TheVariants as stop
 use Rattle.sketch_covers.specs.Ascending.{Ascend}
+use Rattle.sketch_covers.specs.KnownOutcomes.{StopLacks}
 use Rattle.sketch_covers.specs.NodeChanges.{sequential_node}
 use Rattle.partial_covers.specs.Fillings.{IsFilling}
 use Rattle.partial_covers.specs.PartialCovers.{Item, Has, Lacks, LeadsToWhole, after}
@@ -44,11 +42,6 @@ pub record IsHole (s : ProgramSketch) (shown : Shown) (outcomes : List Outcome) 
 -- so each piece has one
 abbrev pub HaveHoles : ProgramSketch → Shown → List Outcome → List Piece → Type 0
 HaveHoles s shown outcomes pieces = All (λ piece. IsHole s shown outcomes piece.path.items piece.filling.items) pieces
-
--- why there is no tree: a run of the machine leaves an outcome that the list lacks, or memory is out
-abbrev pub StopLacks : Question → Machine → List Outcome → SearchStop → Type 0
-StopLacks q mode outcomes (stop.New run sketch) = IsShownRun q mode run.labels.items run.outcome × (Contains outcomes run.outcome → ⊥)
-StopLacks q mode outcomes stop.OutOfMemory = Unit {0}
 
 -- the path of each piece leads to values of all reads, and the list ascends
 pub record MaySearch (search : HoleSearch) : Type 0 where

@@ -1,25 +1,22 @@
 //! Cover trees in one mode, made of a partial cover by filling its holes.
-ghost use Rattle.std.specs.Prelude.{◌≡◌, [], ◌++◌, IfOk, IfErr, IsTrue, OnOk, map};
+ghost use Rattle.std.specs.Prelude.{◌≡◌, [], IfOk, IfErr, IsTrue, OnOk};
 ghost use Rattle.tso_program.specs.Shown.{asked};
 ghost use Rattle.tso_machine.specs.Modes.{machine_of_mode};
 ghost use Rattle.tso_machine.specs.declared.mode.Mode.TheVariants as modes;
 ghost use Rattle.sketches.specs.ProgramSketches.{mode_in, nothing_chosen};
-ghost use Rattle.sketch_covers.specs.NodeChanges.{sequential_node, copied_in};
 ghost use Rattle.sketch_covers.specs.Covers.{IsCoverAt};
 ghost use Rattle.partial_covers.specs.Fillings.{IsFilling};
-ghost use Rattle.partial_covers.specs.NodeBlocks.{nodes_in};
-ghost use Rattle.partial_covers.specs.PartialCovers.{IsPartialCover, after, items_before, LeadsToWhole, MayChooseAll};
+ghost use Rattle.partial_covers.specs.PartialCovers.{IsPartialCover, after, items_before, LeadsToWhole};
 ghost use Rattle.outcome_search.specs.HoleTrees.{Filled, HaveHoles};
 ghost use Rattle.sketch_covers.specs.KnownOutcomes.{by_number, AreInOrder, Grows, StopIs};
 ghost use Rattle.sketch_covers.specs.Pushing.{Pushes};
 
+use crate::path_cover::cover_after;
 use crate::searching::Search;
 use cert_forest::Node;
-use cover_judge::{Choice, choose};
-use partial_covers::{NodeBlocks, PartialCover, Piece, Watch};
-use sketch_covers::{KnownOutcomes, SearchStop, cover_whole, sequential_node};
+use partial_covers::{PartialCover, Piece, Watch};
+use sketch_covers::{KnownOutcomes, SearchStop};
 use sketches::{Mode, Sketch};
-use std::alloc::AllocError;
 
 /// The nodes of a tree for a mode: those of the partial cover, and another tree in place of each hole.
 pub(crate) fn fill<W: Watch>(
@@ -38,7 +35,7 @@ pub(crate) fn fill<W: Watch>(
     empty.recall_facts();
     let mut nodes = Vec::with_capacity(sought.alloc, kept.room())?;
     push_pieces(sought, &empty, &kept.pieces, outcomes, &mut nodes, watch)?;
-    push_copies(&mut nodes, &kept.nodes, empty.mode())?;
+    kept.nodes.push_copies(&mut nodes, empty.mode())?;
     Ok(nodes)
 }
 
@@ -60,7 +57,7 @@ fn push_pieces<W: Watch>(
     ensures stop { IfErr result (StopIs (asked empty.now.program sought.now.shown.now) (mode_in empty.now) outcomes.old) }
 {
     for piece in pieces {
-        push_copies(nodes, &piece.nodes, empty.mode())?;
+        piece.nodes.push_copies(nodes, empty.mode())?;
         push_tree(sought, empty, piece, outcomes, nodes, watch)?;
     }
     Ok(())
@@ -87,9 +84,15 @@ fn push_tree<W: Watch>(
         nodes.extend_from_slice(&piece.filling)?;
         return Ok(());
     }
-    let mut sketch = empty.copy()?;
-    choose_all(&mut sketch, &piece.path)?;
-    cover_whole(sought.alloc, &mut sketch, sought.shown, outcomes, nodes)?;
+    let sketch = empty.copy()?;
+    cover_after(
+        sought.alloc,
+        sketch,
+        &piece.path,
+        sought.shown,
+        outcomes,
+        nodes,
+    )?;
     watch.done(1, outcomes.count());
     Ok(())
 }
@@ -102,49 +105,4 @@ fn is_filled(piece: &Piece, mode: Mode) -> bool
         Mode::Sequential => !piece.filling.is_empty(),
         Mode::Fenced(_) => false,
     }
-}
-
-/// Makes the choices, one after another.
-pub(crate) fn choose_all(sketch: &mut Sketch, choices: &[Choice]) -> Result<(), AllocError>
-    requires { MayChooseAll sketch.old choices.now }
-    ensures { OnOk result (sketch.new ≡ after sketch.old choices.now) }
-{
-    for choice in choices {
-        choose(sketch, *choice)?;
-    }
-    Ok(())
-}
-
-/// Puts copies of the nodes for a mode after others: the known edges of the sequential machine are of one kind.
-pub(crate) fn push_copies(
-    nodes: &mut Vec<Node>,
-    kept: &NodeBlocks,
-    mode: Mode,
-) -> Result<(), AllocError>
-    ensures { OnOk result (nodes.new.items ≡ nodes.old.items ++ copied_in mode (nodes_in kept.now)) }
-{
-    for block in &kept.blocks {
-        push_block(nodes, block, &mode)?;
-    }
-    push_block(nodes, &kept.last, &mode)
-}
-
-/// The same of one block.
-fn push_block(nodes: &mut Vec<Node>, block: &[Node], mode: &Mode) -> Result<(), AllocError>
-    ensures { OnOk result (nodes.new.items ≡ nodes.old.items ++ copied_in mode.now block.now) }
-{
-    match mode {
-        Mode::Sequential => push_in_sequence(nodes, block),
-        Mode::Fenced(_) => nodes.extend_from_slice(block),
-    }
-}
-
-/// Puts copies of the nodes for the sequential machine after others.
-fn push_in_sequence(nodes: &mut Vec<Node>, kept: &[Node]) -> Result<(), AllocError>
-    ensures { OnOk result (nodes.new.items ≡ nodes.old.items ++ map sequential_node kept.now) }
-{
-    for node in kept {
-        nodes.push(sequential_node(*node))?;
-    }
-    Ok(())
 }

@@ -4,19 +4,20 @@ ghost use Rattle.tso_program.specs.Shown.{asked};
 ghost use Rattle.sketches.specs.ProgramSketches.{mode_in};
 ghost use Rattle.sketch_covers.specs.Ascending.{Ascend};
 ghost use Rattle.sketch_covers.specs.Covers.{IsCoverAt};
+ghost use Rattle.sketch_covers.specs.KnownOutcomes.{StopLacks};
 ghost use Rattle.sketch_covers.specs.Pushing.{Pushes};
 ghost use Rattle.partial_covers.specs.declared.partial_cover.Piece.{Piece as PieceValue};
 ghost use Rattle.partial_covers.specs.PartialCovers.{LeadsToWhole, after, items_before};
-ghost use Rattle.outcome_search.specs.HoleTrees.{AreFoundFor, Filled, IsFoundAt, MaySearch, StopLacks};
+ghost use Rattle.outcome_search.specs.HoleTrees.{AreFoundFor, Filled, IsFoundAt, MaySearch};
 
-use crate::filling::{choose_all, push_copies};
 use crate::hole_queue::HoleQueue;
 use crate::hole_row::{FoundHole, HoleRow};
+use crate::path_cover::cover_after;
 use crate::searching::{Search, joined};
 use cert_forest::Node;
 use cover_judge::Choice;
 use partial_covers::Piece;
-use sketch_covers::{KnownOutcomes, SearchStop, cover_whole};
+use sketch_covers::{KnownOutcomes, SearchStop};
 use sketches::Sketch;
 use std::alloc::AllocError;
 use std::thread::{self, Threads};
@@ -63,7 +64,7 @@ impl HoleSearch<'_> {
         let mut row = HoleRow::none(self.sought.alloc);
         for (place, piece) in self.pieces.iter().enumerate() {
             self.reach(rt, share, place, &mut row)?;
-            push_copies(nodes, &piece.nodes, self.empty.mode())?;
+            piece.nodes.push_copies(nodes, self.empty.mode())?;
             self.push_tree(place, &mut row, nodes)?;
         }
         Ok(())
@@ -87,7 +88,7 @@ impl HoleSearch<'_> {
         Ok(())
     }
 
-    /// What is found for the holes of the row from a place on, in so many threads.
+    /// What is found for the holes of the row from a place on, in at most so many threads, no more than there are holes.
     fn row_from<R: Threads + Sync>(
         &self,
         rt: &R,
@@ -97,7 +98,9 @@ impl HoleSearch<'_> {
         requires may { MaySearch self.now }
         ensures { IfOk result (λ row. AreFoundFor self.now row.found.items) }
     {
-        let end = from.saturating_add(at_once(from, threads));
+        let left = self.pieces.len().saturating_sub(from);
+        let threads = threads.min(left).max(1);
+        let end = from.saturating_add(at_once(from, threads).min(left));
         let queue = HoleQueue::new(from, end);
         let lists = thread::map_indices(
             rt,
@@ -183,19 +186,19 @@ impl HoleSearch<'_> {
     }
 
     /// The nodes of a tree over the outcomes, after choices in a sketch with none.
-    fn tree_from(&self, mut sketch: Sketch, path: &[Choice]) -> Result<Vec<Node>, SearchStop>
+    fn tree_from(&self, sketch: Sketch, path: &[Choice]) -> Result<Vec<Node>, SearchStop>
         requires leads { LeadsToWhole sketch path.now }
         requires ascend { Ascend self.now.outcomes.now }
         ensures tree { IfOk result (λ nodes. Pushes (IsCoverAt (after sketch path.now) self.now.sought.now.shown.now self.now.outcomes.now) [] nodes.items) }
         ensures stop { IfErr result (StopLacks (asked sketch.program self.now.sought.now.shown.now) (mode_in sketch) self.now.outcomes.now) }
     {
-        choose_all(&mut sketch, path)?;
         let alloc = self.sought.alloc;
         let mut nodes = Vec::new(alloc);
         let mut known = KnownOutcomes::Closed(self.outcomes);
-        cover_whole(
+        cover_after(
             alloc,
-            &mut sketch,
+            sketch,
+            path,
             self.sought.shown,
             &mut known,
             &mut nodes,

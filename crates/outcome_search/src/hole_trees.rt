@@ -5,11 +5,10 @@ ghost use Rattle.tso_machine.specs.Modes.{machine_of_mode};
 ghost use Rattle.sketches.specs.ProgramSketches.{nothing_chosen};
 ghost use Rattle.sketch_covers.specs.Ascending.{Ascend};
 ghost use Rattle.sketch_covers.specs.Covers.{IsCoverAt};
+ghost use Rattle.sketch_covers.specs.KnownOutcomes.{StopLacks};
 ghost use Rattle.sketch_covers.specs.Pushing.{Pushes};
 ghost use Rattle.partial_covers.specs.PartialCovers.{IsPartialCover};
-ghost use Rattle.outcome_search.specs.HoleTrees.{StopLacks};
 
-use crate::filling::push_copies;
 use crate::hole_search::{HoleSearch, ThreadShare};
 use crate::searching::Search;
 use cert_forest::Node;
@@ -43,6 +42,6 @@ pub(crate) fn fill_by<R: Threads + Sync, S: ThreadShare>(
     };
     let mut nodes = Vec::with_capacity(sought.alloc, kept.room())?;
     search.push_pieces(rt, share, &mut nodes)?;
-    push_copies(&mut nodes, &kept.nodes, empty.mode())?;
+    kept.nodes.push_copies(&mut nodes, empty.mode())?;
     Ok(nodes)
 }

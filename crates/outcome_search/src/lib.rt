@@ -20,6 +20,7 @@ mod outcome_cover;
 mod part;
 mod part_holes;
 mod part_watch;
+mod path_cover;
 mod searching;
 mod write_orders;
 

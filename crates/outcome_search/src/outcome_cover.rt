@@ -8,10 +8,9 @@ ghost use Rattle.sketch_covers.specs.Covers.{IsWholeCover};
 ghost use Rattle.sketch_covers.specs.OutcomeNumbers.{IsInOrder, AreRunsOf};
 ghost use Rattle.partial_covers.specs.PartialCovers.{IsPartialCover};
 ghost use Rattle.sketch_covers.specs.declared.outcome_index.OutcomeIndex.{OutcomeIndex as IndexValue};
-ghost use Rattle.outcome_search.specs.HoleTrees.{StopLacks};
 ghost use Rattle.outcome_search.specs.SearchParts.{IsCoveredStart};
 ghost use Rattle.sketch_covers.specs.Ascending.{Ascend};
-ghost use Rattle.sketch_covers.specs.KnownOutcomes.{by_number, AreInOrder, HasRunOfEach, Grows, StopIs};
+ghost use Rattle.sketch_covers.specs.KnownOutcomes.{by_number, AreInOrder, HasRunOfEach, Grows, StopIs, StopLacks};
 ghost use Rattle.sketch_covers.specs.declared.known_outcomes.KnownOutcomes.TheVariants.{Open};
 
 use crate::filling::fill;
@@ -62,7 +61,7 @@ pub fn all_outcomes<W: Watch>(
         Err(SearchStop::OutOfMemory) => return Err(AllocError),
         Err(SearchStop::New { .. }) => unreachable!(),
     };
-    kept.filled_count = kept.count();
+    kept.filled_count = tree.nodes().len();
     forget_fillings(sought.alloc, &mut kept.pieces);
     watch.finished(outcomes.count());
     match outcomes {

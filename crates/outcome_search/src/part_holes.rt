@@ -6,9 +6,9 @@ ghost use Rattle.sketches.specs.ProgramSketches.{nothing_chosen};
 ghost use Rattle.partial_covers.specs.PartialCovers.{AreFilled, IsFilled, LeadsToWhole};
 ghost use Rattle.sketch_covers.specs.KnownOutcomes.{by_number, AreInOrder, Grows};
 
-use crate::filling::choose_all;
+use crate::path_cover::cover_after;
 use partial_covers::{Piece, Watch};
-use sketch_covers::{KnownOutcomes, cover_whole};
+use sketch_covers::KnownOutcomes;
 use sketches::{Mode, Sketch};
 use std::alloc::{AllocError, Global};
 use tso_program::{Program, Shown};
@@ -49,11 +49,10 @@ fn fill_hole(
     ensures grows { OnOk result (Grows (asked empty.now.program shown.now) outcomes.old outcomes.new) }
     ensures filled { OnOk result (IsFilled empty.now shown.now (by_number outcomes.new) piece.old piece.new) }
 {
-    let mut sketch = empty.copy()?;
-    choose_all(&mut sketch, &piece.path)?;
+    let sketch = empty.copy()?;
     let mut nodes = Vec::new(alloc);
     // The list takes each outcome of the sequential machine, so only memory stops this.
-    match cover_whole(alloc, &mut sketch, shown, outcomes, &mut nodes) {
+    match cover_after(alloc, sketch, &piece.path, shown, outcomes, &mut nodes) {
         Ok(()) => {
             nodes.shrink_to_fit();
             piece.filling = nodes;

@@ -1,6 +1,6 @@
 -- Partial covers, node by node.
 use Rattle.partial_covers.proofs.Vocabulary.{nodes_in, ◌≡◌, ◌≤◌, Bool, true, false, ℕ, List, [], ◌∷◌, ◌++◌, length, map, take, refl, sym, ap, ◌∙◌, subst, append_assoc, Result, Ok, Err, OnOk, map-append, append-nil, Outcome, Shown, IsWhole, ProgramSketch, mode_in}
-use Rattle.partial_covers.proofs.Vocabulary.{IsLawful, Node, spell, Choice, Piece, IsCoverAt, Item, Has, Lacks, Closed, Hole, items_before, PushesPartialAt, choice_count, most_choices, SearchStop, OnTold, Pushes, IfKnown, leaf_cover}
+use Rattle.partial_covers.proofs.Vocabulary.{IsLawful, Node, spell, Choice, Piece, IsCoverAt, Item, Has, Lacks, Closed, Hole, items_before, runs_of, PushesPartialAt, choice_count, most_choices, SearchStop, OnTold, Pushes, IfKnown, leaf_cover}
 use Rattle.partial_covers.proofs.Vocabulary.{Vec, Global, PartialCover, joined, items_of}
 use Rattle.partial_covers.proofs.JoinedBlocks.{with_last}
 use Rattle.sketch_covers.proofs.Leaves.{known_pushed, unknown_same}
@@ -65,6 +65,10 @@ pub piece_pushed : (old new : List Piece) (piece : Piece) (nodes none : List Nod
 piece_pushed old new piece nodes none path pushed here empty leads =
     (λ i. items_before (pushed i) ++ map Has (empty i)) ∙ append-nil (items_before (old ++ piece ∷ [])) ∙ pieces_pushed old piece
     ∙ (λ i. (items_before old ++ map Has (here i)) ++ Lacks (leads i) piece.filling.items ∷ [])
+
+-- and its run after the others
+pub runs_pushed : (old new : List Piece) (piece : Piece) → new ≡ old ++ piece ∷ [] → runs_of new ≡ runs_of old ++ piece.run ∷ []
+runs_pushed old new piece pushed = ap runs_of pushed ∙ map-append _ old (piece ∷ [])
 
 -- the nodes so far come before those of a piece
 pub piece_joined : (old new : List Piece) (piece : Piece) (nodes own none : List Node) → new ≡ old ++ piece ∷ [] → nodes_in piece.nodes ≡ nodes ++ own → none ≡ [] →

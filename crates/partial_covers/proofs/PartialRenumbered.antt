@@ -1,6 +1,6 @@
 -- Partial covers with other numbers for their outcomes.
 use Rattle.partial_covers.proofs.Vocabulary.{nodes_in, ◌≡◌, ℕ, suc, ◌<◌, ◌≤◌, List, [], ◌∷◌, ◌++◌, map, length, refl, sym, ap, ◌∙◌, subst, arith, map-map, ◌^◌, map-append, Listing, Outcome, Shown, asked, SequentialMachine, empty_sketch, ProgramSketch, mode_in}
-use Rattle.partial_covers.proofs.Vocabulary.{nothing_chosen, Node, NEAR_RUNS, spell, Cover, Choice, PartialCover, Piece, renumbered_node, IsWholeCover, Item, Has, Lacks, renumbered_item, AreEach, IsPieceRenumbered, PartialTree, Closed, Values, Hole}
+use Rattle.partial_covers.proofs.Vocabulary.{nothing_chosen, Node, NEAR_RUNS, spell, Cover, Choice, PartialCover, Piece, renumbered_node, IsWholeCover, Item, Has, Lacks, renumbered_item, runs_of, AreEach, IsPieceRenumbered, PartialTree, Closed, Values, Hole}
 use Rattle.partial_covers.proofs.Vocabulary.{PartialTrees, NoPartial, MorePartial, count_partial, spell_partial, spell_partial_row, items_before, items_of, after, sequential, IsFilling, IsPartialAfter, ArePartialAfter, IsPartialCover, HasNumber, place_in}
 use Rattle.partial_covers.proofs.Vocabulary.{ArePlacesOf}
 use Rattle.std.specs.FinSet as set
@@ -24,6 +24,16 @@ pieces_renumbered place (p ∷ ps) (q ∷ qs) are =
     ∙ ap (λ (xs : List Item). xs ++ Lacks p.path.items (map (renumbered_node place) p.filling.items) ∷ map (renumbered_item place) (items_before ps)) (sym (map_has place (nodes_in p.nodes)))
     ∙ sym (map-append (renumbered_item place) (map Has (nodes_in p.nodes)) (Lacks p.path.items p.filling.items ∷ items_before ps))
 pieces_renumbered place old new are = absurd (let same = are.as_many in omega arith)
+
+-- their runs stay
+pub runs_same : (place : ℕ → ℕ) (old new : List Piece) → AreEach (IsPieceRenumbered place) old new → runs_of new ≡ runs_of old
+runs_same place [] [] are = refl
+runs_same place (p ∷ ps) (q ∷ qs) are =
+    let same = are.as_many in
+    let first = are.each 0 p (omega arith) in
+    let rest = runs_same place ps qs (record { as_many = omega arith; each = λ k d h. are.each (suc k) d (omega arith) }) in
+    λ i. first.run i ∷ rest i
+runs_same place old new are = absurd (let same = are.as_many in omega arith)
 
 pub items_renumbered : (place : ℕ → ℕ) (old new : List Piece) (xs ys : List Node) → items_before new ≡ map (renumbered_item place) (items_before old) → ys ≡ map (renumbered_node place) xs →
     items_before new ++ map Has ys ≡ map (renumbered_item place) (items_before old ++ map Has xs)

@@ -41,7 +41,7 @@ pub use Rattle.sketch_covers.proofs.Nodes.{few_choices, leaf_cover}
 pub use Rattle.sketch_covers.proofs.TraceNodes.{are_here, as_many, as_many_here, child_at, child_meets, choices_here, few_here}
 pub use Rattle.sketch_covers.specs.Covers.{AreNeat, IsCoverAt, IsNeat, IsWholeCover}
 pub use Rattle.sketch_covers.specs.KnownOutcomes.{AreInOrder, Grows, OnTold, StaysOf, by_number}
-pub use Rattle.sketch_covers.specs.NodeChanges.{changed_node, copied_in, renumbered_node}
+pub use Rattle.sketch_covers.specs.NodeChanges.{changed_node, copied_in, renumbered_node, sequential_node}
 pub use Rattle.sketch_covers.specs.OutcomeNumbers.{ArePlacesOf, HasNumber, KeepsNumbers, place_in}
 pub use Rattle.sketch_covers.specs.Pushing.{BeginsIfNew, IfKnown, Pushes}
 pub use Rattle.sketch_covers.specs.UnsourcedTraces.{Takes}
@@ -63,7 +63,8 @@ pub use Rattle.tso_program.specs.declared.shown.Shown.{Shown}
 pub use Rattle.partial_covers.specs.Coverings.{Covers, CoversEach, CoversIf}
 pub use Rattle.partial_covers.specs.Fillings.{IsFilling, sequential}
 pub use Rattle.partial_covers.specs.NodeBlocks.{joined, nodes_in}
-pub use Rattle.partial_covers.specs.PartialCovers.{AreEach, ArePartialAfter, Closed, Has, Hole, IsFilled, IsPartialAfter, IsPartialCover, IsPieceRenumbered, Item, Lacks}
+pub use Rattle.partial_covers.specs.declared.hole_run.HoleRun.{HoleRun}
+pub use Rattle.partial_covers.specs.PartialCovers.{AreEach, ArePartialAfter, Closed, Has, Hole, IsForgotten, IsPartialAfter, IsPartialCover, IsPieceRenumbered, Item, Lacks, runs_of}
 pub use Rattle.partial_covers.specs.PartialCovers.{MayChooseAll, MorePartial, NoPartial, PartialTree, PartialTrees, PushesPartial, PushesPartialAt, PushesPartialRow, Values, after, count_partial}
 pub use Rattle.partial_covers.specs.PartialCovers.{items_before, items_of, partial_of, renumbered_item, spell_partial, spell_partial_row, unfenced}
 pub use Rattle.partial_covers.specs.PartCovers.{AreCoversFor, AreLeftOf, AreRunsFor, IfJoined, IsCoverFor, IsMadeAt}

@@ -1,5 +1,5 @@
 -- Cover trees with holes, of a search with no gap fenced.
-use Rattle.std.specs.Prelude.{◌≡◌, ◌<◌, ℕ, suc, List, [], ◌∷◌, ◌++◌, length, map, slice_index_or}
+use Rattle.std.specs.Prelude.{◌≡◌, ◌<◌, ℕ, suc, List, [], ◌∷◌, ◌++◌, Option, length, map, slice_index_or}
 use Rattle.std.specs.FinSet as set
 use Rattle.tso_program.specs.declared.listing.Listing.{Listing}
 use Rattle.tso_program.specs.declared.outcome.Outcome.{Outcome}
@@ -17,6 +17,7 @@ use Rattle.sketch_covers.specs.NodeChanges.{renumbered_node}
 use Rattle.partial_covers.specs.Fillings.{IsFilling}
 use Rattle.sketch_covers.specs.Covers.{IsCoverAt}
 use Rattle.partial_covers.specs.NodeBlocks.{nodes_in}
+use Rattle.partial_covers.specs.declared.hole_run.HoleRun.{HoleRun}
 use Rattle.partial_covers.specs.declared.partial_cover.PartialCover.{PartialCover}
 use Rattle.partial_covers.specs.declared.partial_cover.Piece.{Piece}
 
@@ -69,10 +70,15 @@ abbrev pub renumbered_item : (ℕ → ℕ) → Item → Item
 renumbered_item place (Has x) = Has (renumbered_node place x)
 renumbered_item place (Lacks path filling) = Lacks path (map (renumbered_node place) filling)
 
--- a piece has other numbers, and its path stays
+-- the runs of the holes, in order
+abbrev pub runs_of : List Piece → List (Option HoleRun)
+runs_of pieces = map (λ p. p.run) pieces
+
+-- a piece has other numbers, and its path and its run stay
 pub record IsPieceRenumbered (place : ℕ → ℕ) (old new : Piece) : Type 0 where
   pub nodes : nodes_in new.nodes ≡ map (renumbered_node place) (nodes_in old.nodes)
   pub path : new.path.items ≡ old.path.items
+  pub run : new.run ≡ old.run
   pub filling : new.filling.items ≡ map (renumbered_node place) old.filling.items
 
 -- ---- what holds of it
@@ -131,6 +137,7 @@ pub record LeadsToWhole (s : ProgramSketch) (path : List Choice) : Type 0 where
 pub record IsFilled (s : ProgramSketch) (shown : Shown) (outcomes : List Outcome) (old new : Piece) : Type 0 where
   pub nodes : nodes_in new.nodes ≡ nodes_in old.nodes
   pub path : new.path.items ≡ old.path.items
+  pub run : new.run ≡ old.run
   pub filling : IsFilling (after s old.path.items) shown outcomes new.filling.items
 
 -- as many as before, each of which became as it must
@@ -138,7 +145,14 @@ pub record AreEach {A : Type 0} (R : A → A → Type 0) (old new : List A) : Ty
   pub as_many : length new ≡ length old
   pub each : (i : ℕ) (d : A) → i < length old → R (slice_index_or old i d) (slice_index_or new i d)
 
--- so are several pieces
+-- the piece is as it was, but has no filling
+pub record IsForgotten (old new : Piece) : Type 0 where
+  pub nodes : nodes_in new.nodes ≡ nodes_in old.nodes
+  pub path : new.path.items ≡ old.path.items
+  pub run : new.run ≡ old.run
+  pub filling : new.filling.items ≡ []
+
+-- several pieces are filled
 abbrev pub AreFilled : ProgramSketch → Shown → List Outcome → List Piece → List Piece → Type 0
 AreFilled s shown outcomes = AreEach (IsFilled s shown outcomes)
 

@@ -3,7 +3,7 @@
 ghost use Rattle.std.specs.Prelude.{◌≡◌, [], IfOk, OnOk, MatchOption};
 ghost use Rattle.tso_program.specs.Shown.{Question};
 ghost use Rattle.candidate_executions.specs.Sketches.{IsWhole};
-ghost use Rattle.sketches.specs.ProgramSketches.{nothing_chosen, mode_in};
+ghost use Rattle.sketches.specs.ProgramSketches.{ProgramSketch, nothing_chosen, mode_in};
 ghost use Rattle.cover_judge.specs.Choices.{MayChooseEach};
 ghost use Rattle.branching.specs.Combinations.{AreAlike, IsBase, with_root, with_trace};
 ghost use Rattle.branching.specs.Plans.{IsLast, IsBeforeLast, IsOtherOpen, AreOfOthers, AreOthersFull};
@@ -109,7 +109,7 @@ impl Covering<'_> {
             watch.done(plan.combinations(sketch), self.outcomes.count());
             return Ok(());
         }
-        if self.join_part(sketch, covers)? {
+        if self.join_part(covers)? {
             return Ok(());
         }
         match plan.next_thread(sketch) {
@@ -175,15 +175,11 @@ impl Covering<'_> {
     }
 
     /// Takes the cover of the part to which the path leads, if there is one, and answers whether it did.
-    fn join_part(
-        &mut self,
-        _sketch: &Sketch,
-        covers: &mut Vec<PartCover>,
-    ) -> Result<bool, AllocError>
+    fn join_part(&mut self, covers: &mut Vec<PartCover>) -> Result<bool, AllocError>
         requires in_order { AreInOrder self.old.outcomes }
-        requires parts { AreCoversFor _sketch.now self.old.shown.now self.old.outcomes self.old.path.items covers.old.items }
+        requires parts { (s : ProgramSketch) × AreCoversFor s self.old.shown.now self.old.outcomes self.old.path.items covers.old.items }
         ensures left { OnOk result (AreLeftOf covers.old.items covers.new.items) }
-        ensures covers { IfOk result (CoversIf _sketch.now self.old self.new) }
+        ensures covers { (s : ProgramSketch) → AreCoversFor s self.old.shown.now self.old.outcomes self.old.path.items covers.old.items → IfOk result (CoversIf s self.old self.new) }
     {
         let KnownOutcomes::Open { found, .. } = &mut self.outcomes else {
             return Ok(false);

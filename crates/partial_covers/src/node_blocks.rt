@@ -1,11 +1,12 @@
 //! Nodes of a tree in blocks. When others come after them, no node is copied.
 ghost use Rattle.std.specs.Prelude.{◌≡◌, [], ◌++◌, OnOk, map};
-ghost use Rattle.sketch_covers.specs.NodeChanges.{renumbered_node};
+ghost use Rattle.sketch_covers.specs.NodeChanges.{copied_in, renumbered_node, sequential_node};
 ghost use Rattle.sketch_covers.specs.OutcomeNumbers.{place_in};
 ghost use Rattle.partial_covers.specs.NodeBlocks.{joined, nodes_in};
 
 use cert_forest::Node;
-use sketch_covers::renumber;
+use sketch_covers::{renumber, sequential_node};
+use sketches::Mode;
 use std::alloc::{AllocError, Global};
 use std::mem;
 
@@ -13,9 +14,9 @@ use std::mem;
 #[derive(Drop)]
 pub struct NodeBlocks {
     /// The blocks before the last one.
-    pub blocks: Vec<Vec<Node>>,
+    pub(crate) blocks: Vec<Vec<Node>>,
     /// The last block, which may grow.
-    pub last: Vec<Node>,
+    pub(crate) last: Vec<Node>,
 }
 
 impl NodeBlocks {
@@ -77,6 +78,16 @@ impl NodeBlocks {
         count
     }
 
+    /// Puts copies of the nodes for a mode after others: the known edges of the sequential machine are of one kind.
+    pub fn push_copies(&self, nodes: &mut Vec<Node>, mode: Mode) -> Result<(), AllocError>
+        ensures { OnOk result (nodes.new.items ≡ nodes.old.items ++ copied_in mode (nodes_in self.now)) }
+    {
+        for block in &self.blocks {
+            push_block(nodes, block, &mode)?;
+        }
+        push_block(nodes, &self.last, &mode)
+    }
+
     /// Puts for each outcome's number the one that stands at its place in the list. The numbers have one node each.
     pub(crate) fn renumber(&mut self, places: &[u32])
         ensures { nodes_in self.new ≡ map (renumbered_node (place_in places.now)) (nodes_in self.old) }
@@ -92,4 +103,24 @@ fn renumber_blocks(blocks: &mut Vec<Vec<Node>>, places: &[u32])
     for i in 0..blocks.len() {
         renumber(&mut blocks[i], places);
     }
+}
+
+/// Puts copies of the nodes of a block for a mode after others.
+fn push_block(nodes: &mut Vec<Node>, block: &[Node], mode: &Mode) -> Result<(), AllocError>
+    ensures { OnOk result (nodes.new.items ≡ nodes.old.items ++ copied_in mode.now block.now) }
+{
+    match mode {
+        Mode::Sequential => push_in_sequence(nodes, block),
+        Mode::Fenced(_) => nodes.extend_from_slice(block),
+    }
+}
+
+/// Puts copies of the nodes for the sequential machine after others.
+fn push_in_sequence(nodes: &mut Vec<Node>, block: &[Node]) -> Result<(), AllocError>
+    ensures { OnOk result (nodes.new.items ≡ nodes.old.items ++ map sequential_node block.now) }
+{
+    for node in block {
+        nodes.push(sequential_node(*node))?;
+    }
+    Ok(())
 }

@@ -1,11 +1,8 @@
 //! Partial covers: cover trees with holes, that are made with no gap fenced. They hold with any gaps fenced, and in the sequential machine, since a tighter machine only has more known edges.
 ghost use Rattle.std.specs.Prelude.{◌≡◌, List, [], ◌∷◌, ◌++◌, ◌<◌, ◌^◌, OnOk, map};
 ghost use Rattle.cert_forest.specs.Node.TheVariants as node;
-ghost use Rattle.tso_program.specs.declared.outcome.Outcome.{Outcome as OutcomeValue};
-ghost use Rattle.tso_program.specs.declared.shown.Shown.{Shown as ShownValue};
-ghost use Rattle.sketches.specs.ProgramSketches.{ProgramSketch};
 ghost use Rattle.partial_covers.specs.NodeBlocks.{nodes_in};
-ghost use Rattle.partial_covers.specs.PartialCovers.{items_of, AreFilled, Has, IsFilled, Lacks};
+ghost use Rattle.partial_covers.specs.PartialCovers.{items_of, runs_of, AreEach, Has, IsForgotten, Lacks};
 
 use crate::hole_run::HoleRun;
 use crate::node_blocks::NodeBlocks;
@@ -20,7 +17,8 @@ pub struct PartialCover {
     pub pieces: Vec<Piece>,
     /// The nodes after the last hole.
     pub nodes: NodeBlocks,
-    /// How many nodes the sequential machine's tree has, once it is made; 0 before. Other trees have about as many.
+    /// How many nodes the tree has that the search made of it, once it is made; 0 before. Trees for other machines have about as many.
+    /// No clause rests on it.
     pub filled_count: usize,
 }
 
@@ -58,7 +56,7 @@ impl PartialCover {
         Ok(())
     }
 
-    /// Puts a hole with its filling after the nodes.
+    /// Puts a hole with its run and its filling after the nodes.
     pub(crate) fn push_hole(
         &mut self,
         alloc: Global,
@@ -66,7 +64,8 @@ impl PartialCover {
         run: Option<HoleRun>,
         filling: Vec<Node>,
     ) -> Result<(), AllocError>
-        ensures { OnOk result (items_of self.new ≡ items_of self.old ++ Lacks path.now filling.items ∷ []) }
+        ensures items { OnOk result (items_of self.new ≡ items_of self.old ++ Lacks path.now filling.items ∷ []) }
+        ensures runs { OnOk result (runs_of self.new.pieces.items ≡ runs_of self.old.pieces.items ++ run ∷ []) }
     {
         let path = Vec::from_slice(alloc, path)?;
         self.nodes.shrink();
@@ -82,7 +81,8 @@ impl PartialCover {
 
     /// Puts the cover of a part after the rest. No node is copied: those before and after the holes stay as they lie in memory.
     pub(crate) fn append(&mut self, alloc: Global, part: PartialCover) -> Result<(), AllocError>
-        ensures { OnOk result (items_of self.new ≡ items_of self.old ++ items_of part) }
+        ensures items { OnOk result (items_of self.new ≡ items_of self.old ++ items_of part) }
+        ensures runs { OnOk result (runs_of self.new.pieces.items ≡ runs_of self.old.pieces.items ++ runs_of part.pieces.items) }
     {
         let PartialCover { pieces, nodes, .. } = part;
         for piece in pieces {
@@ -95,7 +95,8 @@ impl PartialCover {
 
     /// Puts a piece after the nodes, with these before its own.
     fn push_piece(&mut self, alloc: Global, piece: Piece) -> Result<(), AllocError>
-        ensures { OnOk result (items_of self.new ≡ items_of self.old ++ map Has (nodes_in piece.nodes) ++ Lacks piece.path.items piece.filling.items ∷ []) }
+        ensures items { OnOk result (items_of self.new ≡ items_of self.old ++ map Has (nodes_in piece.nodes) ++ Lacks piece.path.items piece.filling.items ∷ []) }
+        ensures runs { OnOk result (runs_of self.new.pieces.items ≡ runs_of self.old.pieces.items ++ piece.run ∷ []) }
     {
         let Piece {
             nodes: own,
@@ -116,12 +117,13 @@ impl PartialCover {
 
     /// Gives back the memory that the last nodes do not need.
     pub fn shrink(&mut self)
-        ensures { items_of self.new ≡ items_of self.old }
+        ensures items { items_of self.new ≡ items_of self.old }
+        ensures pieces { self.new.pieces ≡ self.old.pieces }
     {
         self.nodes.shrink();
     }
 
-    /// How many nodes there are, with those of the fillings.
+    /// How many nodes there are, with those of the fillings. No clause rests on it.
     pub fn count(&self) -> usize {
         let mut count = self.nodes.count();
         for piece in &self.pieces {
@@ -131,7 +133,8 @@ impl PartialCover {
         count
     }
 
-    /// Room for the nodes of a tree in which the holes are filled. A list that outgrows its room lies twice in memory.
+    /// Room for the nodes of a tree in which the holes are filled. A list that outgrows its room lies twice in memory. No clause rests
+    /// on it.
     pub fn room(&self) -> usize {
         let count = self.count().max(self.filled_count);
         if self.is_filled() {
@@ -153,7 +156,7 @@ impl PartialCover {
 
 /// Leaves no hole filled.
 pub fn forget_fillings(alloc: Global, pieces: &mut Vec<Piece>)
-    ensures { (s : ProgramSketch) (shown : ShownValue) (outcomes : List OutcomeValue) → AreFilled s shown outcomes pieces.old.items pieces.new.items }
+    ensures { AreEach IsForgotten pieces.old.items pieces.new.items }
 {
     for i in 0..pieces.len() {
         forget_filling(alloc, &mut pieces[i]);
@@ -161,7 +164,7 @@ pub fn forget_fillings(alloc: Global, pieces: &mut Vec<Piece>)
 }
 
 fn forget_filling(alloc: Global, piece: &mut Piece)
-    ensures { (s : ProgramSketch) (shown : ShownValue) (outcomes : List OutcomeValue) → IsFilled s shown outcomes piece.old piece.new }
+    ensures { IsForgotten piece.old piece.new }
 {
     piece.filling = Vec::new(alloc);
 }

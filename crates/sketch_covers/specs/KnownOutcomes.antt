@@ -35,10 +35,14 @@ abbrev pub HasOwnEnd : ProgramSketch → Shown → KnownOutcomes → Type 0
 HasOwnEnd s shown (Closed outcomes) = Unit {0}
 HasOwnEnd s shown (Open found mode) = machine_of_mode s.program mode ≡ mode_in s → (o : Outcome) × MustEndAs (asked s.program shown) (mode_in s) s.chosen o × Contains found.outcomes.items o
 
+-- why there is no tree over a list: a run of the machine leaves an outcome that it lacks, or memory is out
+abbrev pub StopLacks : Question → Machine → List Outcome → SearchStop → Type 0
+StopLacks q mode outcomes (stop.New run sketch) = IsShownRun q mode run.labels.items run.outcome × (Contains outcomes run.outcome → ⊥)
+StopLacks q mode outcomes stop.OutOfMemory = Unit {0}
+
 -- why no tree is found in a mode: a closed list lacks the outcome of a run, and an open list is open for another mode
 abbrev pub StopIs : Question → Machine → KnownOutcomes → SearchStop → Type 0
-StopIs q mode (Closed outcomes) (stop.New run sketch) = IsShownRun q mode run.labels.items run.outcome × (Contains outcomes.now run.outcome → ⊥)
-StopIs q mode (Closed outcomes) stop.OutOfMemory = Unit {0}
+StopIs q mode (Closed outcomes) why = StopLacks q mode outcomes.now why
 StopIs q mode (Open found of) (stop.New run sketch) = machine_of_mode q.program of ≡ mode → ⊥
 StopIs q mode (Open found of) stop.OutOfMemory = Unit {0}
 

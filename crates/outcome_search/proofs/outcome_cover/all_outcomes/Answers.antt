@@ -1,8 +1,8 @@
-use Rattle.outcome_search.proofs.Vocabulary.{nodes_in, [], refl, subst, asked, machine_of_mode, KnownOutcomes, IsWholeCover, by_number, StopIs, grows_none, nothing_chosen, sequential, IsPartialCover, runs_found, never_new}
+use Rattle.outcome_search.proofs.Vocabulary.{nodes_in, [], length, refl, subst, asked, machine_of_mode, KnownOutcomes, IsWholeCover, by_number, StopIs, grows_none, nothing_chosen, sequential, IsPartialCover, runs_found, never_new}
 use Rattle.std.specs.FinSet as set
 use Rattle.tso_machine.specs.declared.mode.Mode.TheVariants as modes
 use Rattle.sketch_covers.proofs.Listing.{exactly_allowed}
-use Rattle.outcome_search.proofs.FilledParts.{refilled}
+use Rattle.outcome_search.proofs.FilledParts.{forgotten_filled, refilled}
 use Rattle.outcome_search.proofs.outcome_cover.all_outcomes.Goals as goal
 
 pub returns-clause-runs : goal.returns-clause-runs
@@ -20,8 +20,8 @@ returns-clause-kept g c =
     let root = nothing_chosen p (modes.Fenced set.empty) in
     let pieces = c.forget_fillings.new.pieces in
     let outcomes = by_number c.cover_all.new.outcomes in
-    subst (λ (outcomes : KnownOutcomes). IsPartialCover p shown (by_number outcomes) (record made { pieces = pieces; filled_count = c.count.result })) c.in-Open.is
-    (refilled root shown outcomes root (by_number c.in_ok-found.found.outcomes) [] made.pieces.items pieces.items (nodes_in made.nodes) c.in-Ok.ensures.grows.keeps refl (c.forget_fillings.ensures (sequential root) shown outcomes) c.in_ok-found.ensures.kept)
+    subst (λ (outcomes : KnownOutcomes). IsPartialCover p shown (by_number outcomes) (record made { pieces = pieces; filled_count = length c.nodes.result.now })) c.in-Open.is
+    (refilled root shown outcomes root (by_number c.in_ok-found.found.outcomes) [] made.pieces.items pieces.items (nodes_in made.nodes) c.in-Ok.ensures.grows.keeps refl (forgotten_filled (sequential root) shown outcomes made.pieces.items pieces.items c.forget_fillings.ensures) c.in_ok-found.ensures.kept)
 
 pub returns-clause-exact : goal.returns-clause-exact
 returns-clause-exact g c =

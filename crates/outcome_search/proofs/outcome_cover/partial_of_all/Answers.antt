@@ -42,4 +42,4 @@ returns-clause-kept g c =
     let shown = c.args.sought.now.shown.now in
     let root = nothing_chosen c.args.sought.now.program.now (modes.Fenced set.empty) in
     let tree = tree_from c.args.start.sketch shown c.none-all.result new begins.shown c.in_ok-cover_first.ensures [] (begins.path ∙ c.new.ensures.items) begins.kept in
-    subst (PushesPartial root shown (by_number new.outcomes) [] []) (sym c.shrink.ensures) (tree root (sym (c.requires begins.open.0).sketch))
+    subst (PushesPartial root shown (by_number new.outcomes) [] []) (sym c.shrink.ensures.items) (tree root (sym (c.requires begins.open.0).sketch))

@@ -1,9 +1,5 @@
-use Rattle.partial_covers.proofs.Vocabulary.{refl, sym, subst, IsFilling, after}
+use Rattle.partial_covers.proofs.Vocabulary.{refl}
 use Rattle.partial_covers.proofs.partial_cover.forget_filling.Goals as goal
 
 pub returns : goal.returns
-returns c s shown outcomes = record {
-  nodes = refl;
-  path = refl;
-  filling = subst (IsFilling (after s c.args.piece.now.path.items) shown outcomes) (sym c.new.ensures.items) tt;
-}
+returns c = record { nodes = refl; path = refl; run = refl; filling = c.new.ensures.items }

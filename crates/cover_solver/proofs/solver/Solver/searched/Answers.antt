@@ -1,5 +1,5 @@
-use Rattle.cover_solver.proofs.Vocabulary.{ap, ◌∙◌, asked, machine_of_mode, Asked, Outcome, Vec}
-use Rattle.cover_solver.proofs.Tables.{lacks_moved, stop_lacks_if}
+use Rattle.cover_solver.proofs.Vocabulary.{ap, ◌∙◌, asked, Asked, Outcome, Vec}
+use Rattle.cover_solver.proofs.Tables.{lacks_moved}
 use Rattle.cover_solver.proofs.solver.Solver.searched.Goals as goal
 
 pub verdict-requires-clause-stop : goal.verdict-requires-clause-stop
@@ -8,4 +8,4 @@ verdict-requires-clause-stop c =
     let search = c.search-search.result in
     let q = asked search.program.now search.shown.now in
     let listed = c.deref-2.ensures.value ∙ ap (λ (v : Vec Outcome). v.items) c.deref.ensures ∙ ap (λ (a : Asked). a.outcomes) c.self.view_is in
-    lacks_moved c.cover_all-found.result q s.question search.mode c.args.set.now c.deref-2.result.now s.outcomes c.search-search.ensures.question c.search-search.ensures.mode listed (stop_lacks_if c.cover_all-found.result q (machine_of_mode q.program search.mode) c.deref-2.result c.cover_all-found.ensures.stop)
+    lacks_moved c.cover_all-found.result q s.question search.mode c.args.set.now c.deref-2.result.now s.outcomes c.search-search.ensures.question c.search-search.ensures.mode listed c.cover_all-found.ensures.stop

@@ -23,7 +23,7 @@ fill-requires-clause-kept g c =
     let new = c.cover_values.new.self in
     let made = c.in_ok-cover_values.ensures.covers in
     let path = c.args.self.now.path.items in
-    subst (PushesPartialAt s new.shown.now (by_number new.outcomes) path []) (sym c.shrink.ensures)
+    subst (PushesPartialAt s new.shown.now (by_number new.outcomes) path []) (sym c.shrink.ensures.items)
     (tree_from s new.shown.now none new (sym made.shown) made path (begins.path ∙ c.in_ok-path.ensures.items ∙ c.deref.ensures.value) begins.kept)
 
 pub returns : goal.returns

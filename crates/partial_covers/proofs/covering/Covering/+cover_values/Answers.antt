@@ -65,7 +65,7 @@ cover_values-cover_next-requires g t c κs within =
     let old = c.args.self.now in
     let mid = c.join_part.new.self in
     let parts = c.join_part.new.covers.items in
-    let joined = c.in_ok-join_part.ensures.covers in
+    let joined = c.in_ok-join_part.ensures.covers c.args.sketch.now c.requires.parts in
     let still = covers_still old.shown.now old.outcomes mid.outcomes joined.grows.stays s old.path.items parts (c.in_ok-join_part.ensures.left s old.shown.now old.outcomes old.path.items c.requires.parts) in (
       omega arith,
       (
@@ -124,7 +124,7 @@ cover_values-returns-in-Some-clause-covers g t c =
     let old = c.args.self.now in
     let mid = c.join_part.new.self in
     let new = c.cover_next.new.self in
-    let joined = c.in_ok-join_part.ensures.covers in
+    let joined = c.in_ok-join_part.ensures.covers c.args.sketch.now c.requires.parts in
     let same = nodes_same s old.shown.now (by_number old.outcomes) old.kept c.known_leaf.new.nodes c.in_ok-known_leaf.field-0 c.if-branch.false c.in_ok-known_leaf.ensures in
     let still = not_joined s old.shown.now (by_number mid.outcomes) old.path.items (items_of (with_last old.kept c.known_leaf.new.nodes)) (items_of mid.kept) c.in_ok-join_part.field-0 c.if-branch-2.false joined.tree ∙ same in
     on_ok c.cover_next.result (Covers s mid new) (Covers s old new) (covers_next s old mid new joined.shown joined.path joined.grows still) c.cover_next.ensures.covers
@@ -139,7 +139,7 @@ cover_values-returns-in-None-clause-covers g t c =
     let old = c.args.self.now in
     let mid = c.join_part.new.self in
     let new = c.cover_last.new.self in
-    let joined = c.in_ok-join_part.ensures.covers in
+    let joined = c.in_ok-join_part.ensures.covers c.args.sketch.now c.requires.parts in
     let same = nodes_same s old.shown.now (by_number old.outcomes) old.kept c.known_leaf.new.nodes c.in_ok-known_leaf.field-0 c.if-branch.false c.in_ok-known_leaf.ensures in
     let still = not_joined s old.shown.now (by_number mid.outcomes) old.path.items (items_of (with_last old.kept c.known_leaf.new.nodes)) (items_of mid.kept) c.in_ok-join_part.field-0 c.if-branch-2.false joined.tree ∙ same in
     on_ok c.cover_last.result (Covers s mid new) (Covers s old new) (covers_next s old mid new joined.shown joined.path joined.grows still) c.cover_last.ensures
@@ -163,4 +163,4 @@ cover_values-returns-then-branch-2-clause-covers g t c =
     let old = c.args.self.now in
     let same = nodes_same s old.shown.now (by_number old.outcomes) old.kept c.known_leaf.new.nodes c.in_ok-known_leaf.field-0 c.if-branch.false c.in_ok-known_leaf.ensures in
     covers_joined s old (record old { kept = with_last old.kept c.known_leaf.new.nodes }) c.join_part.new.self c.in_ok-join_part.field-0 c.if-branch-2.true refl refl
-    (grows_none (asked s.program old.shown.now) old.outcomes c.requires.in_order) same c.in_ok-join_part.ensures.covers
+    (grows_none (asked s.program old.shown.now) old.outcomes c.requires.in_order) same (c.in_ok-join_part.ensures.covers s c.requires.parts)

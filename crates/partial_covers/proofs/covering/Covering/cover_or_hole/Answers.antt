@@ -27,4 +27,4 @@ returns-in_ok-run-in-Err-New-clause-covers g c =
       grows = told_as c.in-Err-New.field-0 _ (Grows (asked s.program old.shown.now) old.outcomes c.cover_whole-covered.new.outcomes) c.in-Err-New.field-0-is c.in-Err-New.ensures.grows;
       tree = pushes_hole s old.shown.now (by_number c.cover_whole-covered.new.outcomes) old.path.items (items_of old.kept) (items_of c.push_hole.new.self) c.requires.whole
           (is ∙ (λ i. last_same old.kept c.truncate.new.self back i ++ Lacks (c.deref.ensures.value i) (c.new-none.ensures.items i) ∷ []));
-    }) c.push_hole.ensures
+    }) c.push_hole.ensures.items

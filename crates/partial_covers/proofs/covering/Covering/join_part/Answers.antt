@@ -3,20 +3,19 @@ use Rattle.partial_covers.proofs.covering.Covering.join_part.Goals as goal
 
 pub join-requires-clause-made : goal.join-requires-clause-made
 join-requires-clause-made c =
-    let s = c.args._sketch.now in
+    let s = c.requires.parts.0 in
     let old = c.args.self.now in
-    let parts = subst (λ (cs : List Choice). AreCoversFor s old.shown.now old.outcomes cs c.args.covers.now.items) (sym c.deref.ensures.value) c.requires.parts in
+    let parts = subst (λ (cs : List Choice). AreCoversFor s old.shown.now old.outcomes cs c.args.covers.now.items) (sym c.deref.ensures.value) c.requires.parts.1 in
     (c.in-Some.ensures.made s old.shown.now old.outcomes parts).in_order
 
 pub returns-in_ok-join-in-Some-clause-covers : goal.returns-in_ok-join-in-Some-clause-covers
-returns-in_ok-join-in-Some-clause-covers c =
-    let s = c.args._sketch.now in
+returns-in_ok-join-in-Some-clause-covers c s are =
     let old = c.args.self.now in
     let q = asked s.program old.shown.now in
     let mode = c.in-Open.mode in
     let new = c.join.new.found in
     let made = c.in-Some.made in
-    let parts = subst (λ (cs : List Choice). AreCoversFor s old.shown.now old.outcomes cs c.args.covers.now.items) (sym c.deref.ensures.value) c.requires.parts in
+    let parts = subst (λ (cs : List Choice). AreCoversFor s old.shown.now old.outcomes cs c.args.covers.now.items) (sym c.deref.ensures.value) are in
     let is = subst (λ (cs : List Choice). IsMadeAt s old.shown.now old.outcomes cs made) c.deref.ensures.value (c.in-Some.ensures.made s old.shown.now old.outcomes parts) in
     let theirs = subst (λ (o : KnownOutcomes). AreRunsFor q o made.found) c.in-Open.is is.runs in
     record {
@@ -28,9 +27,9 @@ returns-in_ok-join-in-Some-clause-covers c =
     }
 
 pub returns-in-None-clause-covers : goal.returns-in-None-clause-covers
-returns-in-None-clause-covers c =
+returns-in-None-clause-covers c s are =
     let old = c.args.self.now in
-    let q = asked c.args._sketch.now.program old.shown.now in
+    let q = asked s.program old.shown.now in
     record {
       shown = refl;
       path = refl;

@@ -1,7 +1,7 @@
 use Rattle.outcome_search.proofs.Vocabulary.{get_or, sym, ap, ◌∙◌, subst, ProgramSketch, with_chosen, MayChoose, sketch_with}
 use Rattle.cover_judge.specs.declared.choice.Choice.TheVariants as choice
 use Rattle.partial_covers.proofs.ChoicesMade.{may_at, one_made, all_made}
-use Rattle.outcome_search.proofs.filling.choose_all.Goals as goal
+use Rattle.outcome_search.proofs.path_cover.choose_all.Goals as goal
 
 pub choose-requires : goal.choose-requires
 choose-requires c =

@@ -1,5 +1,5 @@
 use Rattle.outcome_search.proofs.Vocabulary.{◌≡◌, take, after}
-use Rattle.outcome_search.proofs.filling.choose_all.Given as goal
+use Rattle.outcome_search.proofs.path_cover.choose_all.Given as goal
 
 -- the choices so far are made
 abbrev pub invariant-loop-choice : goal.invariant-loop-choice
