@@ -35,9 +35,7 @@ MayHuntFail may_lack_runs why = ⊥
 
 -- of a hunt: it is about the arguments, or the hunt fails
 abbrev pub HuntFaultIs : Listing → List ℕ → ℕ → Bool → PlaceFault → Type 0
-HuntFaultIs p costs workers may_lack_runs fault.Workers = AreTooFewOrMany workers
-HuntFaultIs p costs workers may_lack_runs fault.Costs = (¬ AreTooFewOrMany workers) × HasOtherLength p costs
-HuntFaultIs p costs workers may_lack_runs why = MayHuntFail may_lack_runs why
+HuntFaultIs p costs workers may_lack_runs why = ArgumentFaultIs p costs workers why ⊎ MayHuntFail may_lack_runs why
 
 -- of a placement: it is about the arguments, or memory runs out
 abbrev pub PlaceFaultIs : Listing → List ℕ → ℕ → PlaceFault → Type 0

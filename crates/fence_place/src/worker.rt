@@ -22,7 +22,7 @@ use std::sync::Wait;
 pub(crate) enum StopReason {
     /// A cheaper set was asked about, so a better node may be open now.
     Later,
-    /// Another worker has confirmed a set that no open node betters, and settles what is left.
+    /// Another worker has confirmed a set that this node's isn't better than, and settles what is left.
     Beaten,
     /// The oracle lacks a run.
     NoRun,

@@ -5,7 +5,7 @@ ghost use Rattle.hunt_board.specs.declared.fault.CloseFault.TheVariants.{OutOfMe
 use std::alloc::{AllocError, AllocFailed};
 use thiserror::Error;
 
-/// Why a hunt doesn't end with an answer, by number and name.
+/// Why a hunt doesn't end with an answer.
 #[derive(Clone, Copy, Debug, Error)]
 pub enum CloseFault {
     /// Some node is open or held.

@@ -13,7 +13,7 @@ use Rattle.search_core.specs.Ceilings.{IsBound, IsCeilingOf}
 use Rattle.search_core.specs.States.{SearchState, HoldsNode, HoldsNothing, HasNoOpen}
 use Rattle.search_core.specs.Events.{IsBeatenBy}
 
--- the ceiling is of the search's program and costs
+-- the ceiling is of the search's question and costs
 abbrev pub IsReasonOf : SearchState → Reason → Type 0
 IsReasonOf s reason.Best = Unit {0}
 IsReasonOf s (reason.Ceiling ceiling) = IsCeilingOf s.question s.costs ceiling
