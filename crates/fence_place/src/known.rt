@@ -2,7 +2,7 @@
 //!
 //! A split needs a run that passes no gap of the node's `must`, and any such run will do: so before it asks, a
 //! search looks for one among the runs that it knows.
-ghost use Rattle.std.specs.Prelude.{◌≡◌, IfSome, IsTrue, Some, slice_get};
+ghost use Rattle.std.specs.Prelude.{◌≡◌, ◌↔◌, IfSome, IsTrue, Some, slice_get};
 ghost use Rattle.cover_solver.specs.Facts.{Foreign};
 ghost use Rattle.cover_solver.specs.Verdicts.{PassesNoneOf};
 
@@ -29,7 +29,7 @@ pub(crate) fn known_run(known: &[ForeignRun], node: &Region) -> Option<usize>
 
 /// Whether the run passes no gap which the node's sets must have.
 pub(crate) fn may_split(run: &ForeignRun, node: &Region) -> bool
-    ensures { IsTrue result → PassesNoneOf node.now.must run.now }
+    ensures { IsTrue result ↔ PassesNoneOf node.now.must run.now }
 {
     !run.passed().meets(&node.must)
 }

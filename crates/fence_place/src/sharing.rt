@@ -30,11 +30,10 @@ pub(crate) fn ceiling_below(hunt: &Hunt, seat: &mut HuntSeat, set: &GapSet) -> O
     }
 }
 
-/// Where a run is posted, and how many nodes it opens.
+/// A posted run that splits a node, and how many nodes it opens.
 #[derive(Clone, Copy)]
-struct RunPlace {
-    seat: u8,
-    index: usize,
+struct SplittingRun<'a> {
+    run: &'a ForeignRun,
     opens: usize,
 }
 
@@ -42,16 +41,13 @@ struct RunPlace {
 pub(crate) fn copy_of_posted(alloc: Global, hunt: &Hunt, node: &Region) -> Option<ForeignRun>
     ensures { IfSome result (CanSplit hunt.now.question node.now) }
 {
-    let place = posted_run(hunt, node)?;
-    let run = hunt.look(place.seat, place.index)?;
-    if !may_split(run, node) {
-        return None;
-    }
-    run.copy(alloc).ok()
+    posted_run(hunt, node)?.run.copy(alloc).ok()
 }
 
-/// Of the posted runs that pass no gap which the node's sets must have, one that opens the fewest nodes.
-fn posted_run(hunt: &Hunt, node: &Region) -> Option<RunPlace> {
+/// Of the posted runs that split the node, one that opens the fewest nodes.
+fn posted_run<'a>(hunt: &'a Hunt, node: &Region) -> Option<SplittingRun<'a>>
+    ensures { IfSome result (λ best. CanSplit hunt.now.question node.now best.run.now) }
+{
     let mut best = None;
     for seat in 0..MAX_WORKERS {
         best = better_in_row(hunt, seat, node, best);
@@ -60,12 +56,15 @@ fn posted_run(hunt: &Hunt, node: &Region) -> Option<RunPlace> {
 }
 
 /// The same, of those in a seat's row and one found before.
-fn better_in_row(
-    hunt: &Hunt,
+fn better_in_row<'a>(
+    hunt: &'a Hunt,
     seat: u8,
     node: &Region,
-    found: Option<RunPlace>,
-) -> Option<RunPlace> {
+    found: Option<SplittingRun<'a>>,
+) -> Option<SplittingRun<'a>>
+    requires { IfSome found (λ best. CanSplit hunt.now.question node.now best.run.now) }
+    ensures { IfSome result (λ best. CanSplit hunt.now.question node.now best.run.now) }
+{
     let mut best = found;
     for index in 0..ROW_CELLS {
         let Some(run) = hunt.look(seat, index) else {
@@ -73,7 +72,7 @@ fn better_in_row(
         };
         let opens = count_open(run.passed(), node.never);
         if best.is_none_or(|best| opens < best.opens) && may_split(run, node) {
-            best = Some(RunPlace { seat, index, opens });
+            best = Some(SplittingRun { run, opens });
         }
     }
     best

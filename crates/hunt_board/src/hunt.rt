@@ -343,7 +343,7 @@ impl Hunt {
 
     /// Whether it is, and the seat holds this node.
     fn is_held(&self, tree: &SearchTree, seat: u8, node: &Region) -> bool
-        ensures { IsTrue result → IsFor self.now tree.now seat × HoldsOnly tree.now seat node.now }
+        ensures { IsTrue result ↔ (IsFor self.now tree.now seat × HoldsOnly tree.now seat node.now) }
     {
         if !self.is_for(tree, seat) {
             return false;
