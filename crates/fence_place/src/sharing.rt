@@ -1,9 +1,8 @@
 //! What workers share without waiting for one another: a ceiling, and the runs that they were given.
-ghost use Rattle.std.specs.Prelude.{◌≡◌, ◌<◌, IfSome, MatchOption};
+ghost use Rattle.std.specs.Prelude.{◌≡◌, IfSome};
 ghost use Rattle.gap_sets.specs.Gaps.{SetOfGaps};
-ghost use Rattle.gap_sets.specs.Order.{total};
 ghost use Rattle.cover_solver.specs.Verdicts.{IsVerdictOf};
-ghost use Rattle.search_core.specs.Ceilings.{IsCeilingOf};
+ghost use Rattle.search_core.specs.Ceilings.{IsAboveCeiling, IsCeilingOf};
 ghost use Rattle.hunt_board.specs.Seats.{IsOf};
 ghost use Rattle.fence_place.specs.Internal.Sharing.{CanSplit, HasShared};
 
@@ -20,7 +19,7 @@ use tso_program::MAX_WORKERS;
 pub(crate) fn ceiling_below(hunt: &Hunt, seat: &mut HuntSeat, set: &GapSet) -> Option<Ceiling>
     requires { IsOf hunt.now seat.old }
     ensures ceiling { IfSome result (IsCeilingOf hunt.now.question hunt.now.costs) }
-    ensures below { IfSome result (λ c. MatchOption c ⊥ (λ bound. bound.cost < total hunt.now.costs set.now)) }
+    ensures below { IfSome result (IsAboveCeiling hunt.now.costs set.now) }
     ensures shared { HasShared hunt.now seat.old seat.new }
 {
     let ceiling = hunt.ceiling(seat);

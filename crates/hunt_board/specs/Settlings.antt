@@ -1,11 +1,10 @@
 -- Which settlings are lawful, and what they do.
-use Rattle.std.specs.Prelude.{◌≡◌, ◌<◌, ℕ, List, Option, Some, None, MatchOption}
-use Rattle.gap_sets.specs.Order.{total}
+use Rattle.std.specs.Prelude.{◌≡◌, ℕ, List, Option, Some, None, MatchOption}
 use Rattle.gap_sets.specs.declared.region.Region.{Region}
 use Rattle.search_core.specs.Facts as facts
 use Rattle.search_core.specs.Verdicts.{IsVerdictOf}
 use Rattle.search_core.specs.Verdict.TheVariants as verdict
-use Rattle.search_core.specs.Ceilings.{IsCeilingOf}
+use Rattle.search_core.specs.Ceilings.{IsAboveCeiling, IsCeilingOf}
 use Rattle.search_core.specs.Events.{IsBeatenBy, IsBestAfter}
 use Rattle.hunt_board.specs.declared.settling.Settling.{Settling, TheVariants.Asked, TheVariants.Cut, TheVariants.Best}
 use Rattle.hunt_board.specs.declared.settling.ReceiptEvent.{ReceiptEvent}
@@ -18,7 +17,7 @@ use Rattle.hunt_board.specs.Seats.{HuntView, SeatView, holding_node, with_best}
 -- than; or that is not better than the seat's best set
 abbrev pub IsLawfulSettling : HuntView → Option facts.Serving → Region → Settling → Type 0
 IsLawfulSettling h best n (Asked said) = IsVerdictOf h.question n.must said
-IsLawfulSettling h best n (Cut ceiling) = IsCeilingOf h.question h.costs ceiling × MatchOption ceiling ⊥ (λ bound. bound.cost < total h.costs n.must)
+IsLawfulSettling h best n (Cut ceiling) = IsCeilingOf h.question h.costs ceiling × IsAboveCeiling h.costs n.must ceiling
 IsLawfulSettling h best n Best = IsBeatenBy h.costs best n.must
 
 -- the seat holds a node for which the settling is lawful

@@ -1,7 +1,6 @@
 //! What a call does to the tree under the lock.
-ghost use Rattle.std.specs.Prelude.{◌≡◌, ◌↔◌, ◌⊎◌, ◌<◌, MatchOption, IsTrue, OnOk, OnErr};
-ghost use Rattle.gap_sets.specs.Order.{total};
-ghost use Rattle.search_core.specs.Ceilings.{IsCeilingOf};
+ghost use Rattle.std.specs.Prelude.{◌≡◌, ◌↔◌, ◌⊎◌, IsTrue, OnOk, OnErr};
+ghost use Rattle.search_core.specs.Ceilings.{IsAboveCeiling, IsCeilingOf};
 ghost use Rattle.search_core.specs.Events.{Cuts, IsBeaten};
 ghost use Rattle.search_core.specs.States.{HasInHand, HasNoOpen, IsDone};
 ghost use Rattle.hunt_board.specs.Settlings.{IsByRun};
@@ -53,7 +52,7 @@ pub(crate) fn settle_node(
 fn cut_node(tree: &mut SearchTree, seat: u8, node: &Region, ceiling: Ceiling)
     requires in_hand { HasInHand tree.old seat node.now }
     requires of_search { IsCeilingOf tree.old.question tree.old.costs ceiling }
-    requires too_dear { MatchOption ceiling ⊥ (λ bound. bound.cost < total tree.old.costs node.now.must) }
+    requires too_dear { IsAboveCeiling tree.old.costs node.now.must ceiling }
     ensures { Cuts tree.old tree.new seat }
 {
     match tree.cut(seat, Reason::Ceiling(ceiling)) {

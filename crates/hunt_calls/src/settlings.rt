@@ -1,7 +1,6 @@
 //! Ways to settle the node of a hunt's seat that a script asks for by a word of their own.
-ghost use Rattle.std.specs.Prelude.{◌≡◌, ◌<◌, false, IfOk, MatchOption};
-ghost use Rattle.gap_sets.specs.Order.{total};
-ghost use Rattle.search_core.specs.Ceilings.{IsCeilingOf};
+ghost use Rattle.std.specs.Prelude.{◌≡◌, false, IfOk};
+ghost use Rattle.search_core.specs.Ceilings.{IsAboveCeiling, IsCeilingOf};
 ghost use Rattle.hunt_board.specs.Seats.{IsOf};
 ghost use Rattle.hunt_calls.specs.Hunts.{IsSound, MaySplitHeld};
 
@@ -21,7 +20,7 @@ fn ceiling_below(hunt: &Hunt, seat: &mut HuntSeat, node: &Region) -> Result<Ceil
     ensures of { IsOf hunt.now seat.new }
     ensures same { (seat.new.node ≡ seat.old.node) × (seat.new.best ≡ seat.old.best) }
     ensures ceiling { IfOk result (IsCeilingOf hunt.now.question hunt.now.costs) }
-    ensures below { IfOk result (λ c. MatchOption c ⊥ (λ bound. bound.cost < total hunt.now.costs node.now.must)) }
+    ensures below { IfOk result (IsAboveCeiling hunt.now.costs node.now.must) }
 {
     let ceiling = hunt.ceiling(seat);
     match ceiling.cost() {

@@ -1,7 +1,7 @@
 -- The events of the calls.
-use Rattle.search_core.proofs.Vocabulary.{◌≡◌, ◌⊎◌, ℕ, ◌<◌, List, ◌++◌, Option, Some, None, sym, ap, ◌∙◌, subst, inl, inr, length, slice_get, slice_set, IfSome, MatchOption, slice_get_within, total, Region, Question, AreGapsOf, Foreign, Serving}
+use Rattle.search_core.proofs.Vocabulary.{◌≡◌, ◌⊎◌, ℕ, ◌<◌, List, ◌++◌, Option, Some, None, sym, ap, ◌∙◌, subst, inl, inr, length, slice_get, slice_set, IfSome, slice_get_within, Region, Question, AreGapsOf, Foreign, Serving}
 use Rattle.search_core.proofs.Vocabulary.{IsForeignValue, IsServing, PassesNoneOf, Entry, Open, Held, Split, Cut, Confirmed, Reason, children, entry, IsReached, Bound, IsCeiling, IsBound, IsCeilingOf, SearchState, IsOpenAt, IsHeldAt, HoldsNode, HoldsNothing}
-use Rattle.search_core.proofs.Vocabulary.{HoldsOnly, HasNoOpen, open_entries, IsBeaten, IsTooDear, IsBestAfter, TakesNode, GivesBack, Splits, Cuts, Confirms, IsReasonOf, HasBound, CutsMust}
+use Rattle.search_core.proofs.Vocabulary.{HoldsOnly, HasNoOpen, open_entries, IsBeaten, IsTooDear, IsBestAfter, TakesNode, GivesBack, Splits, Cuts, Confirms, IsReasonOf, HasBound, CutsMust, IsAboveCeiling}
 use Rattle.search_core.specs.declared.ceiling.Reason.TheVariants as reason
 use Rattle.search_core.proofs.{Kept.facts_of, OneNode.only_node}
 
@@ -86,6 +86,6 @@ pub why_cut : (s : SearchState) (why : Reason) (n : Region) → IsReasonOf s why
 why_cut s reason.Best n of bound cuts = inl cuts
 why_cut s (reason.Ceiling ceiling) n of bound cuts = inr (by_ceiling ceiling of bound cuts)
   where
-    by_ceiling : (c : Option Bound) → IsCeilingOf s.question s.costs c → IfSome c IsBound → MatchOption c ⊥ (λ b. b.cost < total s.costs n.must) → IsTooDear s n
+    by_ceiling : (c : Option Bound) → IsCeilingOf s.question s.costs c → IfSome c IsBound → IsAboveCeiling s.costs n.must c → IsTooDear s n
     by_ceiling None of bound cuts = absurd cuts
     by_ceiling (Some b) of bound cuts = (b.cost, subst (λ (l : List ℕ). IsCeiling s.question l b.cost) of.1 (subst (λ (q : Question). IsCeiling q b.costs b.cost) of.0 bound), cuts)

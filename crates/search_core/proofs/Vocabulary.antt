@@ -37,7 +37,7 @@ pub use Rattle.tso_program.specs.Limits.{IsWithinLimits}
 pub use Rattle.tso_program.specs.Listings.{gap_count, gap_number}
 pub use Rattle.tso_program.specs.Shown.{Question, asked}
 pub use Rattle.tso_program.specs.declared.listing.Listing.{Listing}
-pub use Rattle.search_core.specs.Ceilings.{Bound, IsBound, IsCeiling, IsCeilingOf}
+pub use Rattle.search_core.specs.Ceilings.{Bound, IsAboveCeiling, IsBound, IsCeiling, IsCeilingOf}
 pub use Rattle.search_core.specs.Children.{children}
 pub use Rattle.search_core.specs.Entries.{entry, is_closed, is_held_by, is_held_status, is_live, is_live_status, is_open, is_open_status}
 pub use Rattle.search_core.specs.Events.{Confirms, Cuts, GivesBack, IsBeaten, IsBeatenBy, IsBestAfter, IsEvent, IsSettling, IsTooDear, MaySplit, Splits, TakesNode, by_confirm, by_cut, by_split}

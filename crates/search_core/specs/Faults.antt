@@ -1,15 +1,14 @@
 -- Why a call of the search is refused.
-use Rattle.std.specs.Prelude.{◌≡◌, ℕ, ◌<◌, true, List, Option, IfSome, MatchOption}
+use Rattle.std.specs.Prelude.{◌≡◌, ℕ, true, List, Option, IfSome}
 use Rattle.std.specs.FinSet as set
 use Rattle.gap_sets.specs.Gaps.{SetOfGaps}
-use Rattle.gap_sets.specs.Order.{total}
 use Rattle.gap_sets.specs.declared.region.Region.{Region}
 use Rattle.cover_solver.specs.Facts.{Serving}
 use Rattle.search_core.specs.declared.ceiling.Reason.{Reason}
 use Rattle.search_core.specs.declared.ceiling.Reason.TheVariants as reason
 use Rattle.search_core.specs.declared.fault.TreeFault.{TreeFault}
 use Rattle.search_core.specs.declared.fault.TreeFault.TheVariants.{NothingOpen, SeatHolds, SeatHoldsNothing, Hit, StillBetter, OutOfMemory}
-use Rattle.search_core.specs.Ceilings.{IsBound, IsCeilingOf}
+use Rattle.search_core.specs.Ceilings.{IsAboveCeiling, IsBound, IsCeilingOf}
 use Rattle.search_core.specs.States.{SearchState, HoldsNode, HoldsNothing, HasNoOpen}
 use Rattle.search_core.specs.Events.{IsBeatenBy}
 
@@ -26,7 +25,7 @@ HasBound (reason.Ceiling ceiling) = IfSome ceiling IsBound
 -- the reason cuts the nodes whose sets must have these gaps
 abbrev pub CutsMust : List ℕ → Option Serving → Reason → SetOfGaps → Type 0
 CutsMust costs best reason.Best must = IsBeatenBy costs best must
-CutsMust costs best (reason.Ceiling ceiling) must = MatchOption ceiling ⊥ (λ b. b.cost < total costs must)
+CutsMust costs best (reason.Ceiling ceiling) must = IsAboveCeiling costs must ceiling
 
 abbrev pub CutsNode : SearchState → Reason → Region → Type 0
 CutsNode s why n = CutsMust s.costs s.best why n.must

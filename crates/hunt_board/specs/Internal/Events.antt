@@ -1,11 +1,10 @@
 -- What a call does to the tree under the lock.
-use Rattle.std.specs.Prelude.{◌≡◌, ◌⊎◌, ◌<◌, ℕ, List, MatchOption}
-use Rattle.gap_sets.specs.Order.{total}
+use Rattle.std.specs.Prelude.{◌≡◌, ◌⊎◌, ◌<◌, ℕ, List}
 use Rattle.gap_sets.specs.declared.region.Region.{Region}
 use Rattle.tso_program.specs.Shown.{Question}
 use Rattle.search_core.specs.Verdicts.{IsVerdictOf}
 use Rattle.search_core.specs.Verdict.TheVariants.{Foreign, Serves}
-use Rattle.search_core.specs.Ceilings.{IsCeilingOf}
+use Rattle.search_core.specs.Ceilings.{IsAboveCeiling, IsCeilingOf}
 use Rattle.search_core.specs.States.{SearchState}
 use Rattle.search_core.specs.Events.{Splits, Cuts, Confirms, IsBeaten}
 use Rattle.hunt_board.specs.declared.settling.Settling.{Settling, TheVariants.Asked, TheVariants.Cut, TheVariants.Best}
@@ -20,7 +19,7 @@ pub record IsFor (h : HuntView) (s : SearchState) (seat : ℕ) : Type 0 where
 -- the settling is lawful for the node; of the best set the tree decides
 abbrev pub IsLawfulThere : Question → List ℕ → Region → Settling → Type 0
 IsLawfulThere q costs n (Asked said) = IsVerdictOf q n.must said
-IsLawfulThere q costs n (Cut ceiling) = IsCeilingOf q costs ceiling × MatchOption ceiling ⊥ (λ bound. bound.cost < total costs n.must)
+IsLawfulThere q costs n (Cut ceiling) = IsCeilingOf q costs ceiling × IsAboveCeiling costs n.must ceiling
 IsLawfulThere q costs n Best = Unit {0}
 
 -- the settling of the seat's node is this event; where the tree's best set does not cut the node, that of the seat does nothing
