@@ -1,6 +1,6 @@
 -- The certificate of a search that is done is valid, and within the limits of a text.
 use Rattle.fence_place.proofs.Vocabulary.{◌≡◌, ℕ, ◌*◌, ◌<◌, ◌≤◌, ◌^◌, suc, List, [], ◌∷◌, All, Some, length, sym, ap, ◌∙◌, subst, arith, get_or, recursion_from_All, slice_get, AllByRecursion, slice_get-get_or, SetOfGaps, IsGapSet, total, all_sets, MAX_GAPS}
-use Rattle.fence_place.proofs.Vocabulary.{Question, IsWithinLimits, Label, Certificate, shows_of, IsValidGap, undecided, Outcome, finished_state, IsOutcome, Facts, facts_of, AreNumbersOf, AreSplitRuns, IsRecorded, IsProof, Machine, SequentialMachine}
+use Rattle.fence_place.proofs.Vocabulary.{Question, IsWithinLimits, Label, Certificate, shows_of, IsValidGap, undecided, Outcome, finished_state, IsOutcome, Facts, facts_of, AreSplitRuns, IsRecorded, IsProof, Machine, SequentialMachine}
 use Rattle.fence_place.proofs.Vocabulary.{StoreBufferMachine, no_gaps, IsTheAnswer, IsShownRun, IsSequentialOutcome, AreGapsOf, Cover, IsGapTo, gap_depth, IsRunOutside, IsValidCertificate, AreSequentialRuns, Table, Foreign, IsSequentialTable, IsListOf}
 use Rattle.fence_place.proofs.Vocabulary.{IsServing, IsForeignValue, few_undecided, gaps_in as gaps_of_set}
 use Rattle.gap_sets.specs.declared.costs.TheConstants.{MAX_COST}
@@ -18,7 +18,7 @@ sequential_short q (r ∷ rs) [] within each = absurd each
 sequential_short q (r ∷ rs) (o ∷ os) within each = (short_run q.program SequentialMachine r each.0.0 within each.0.1, sequential_short q rs os within each.1)
 
 -- what holds of a certificate that is made from a table and a search
-pub record IsMade (t : Table) (o : Outcome) (numbers : List ℕ) (c : Certificate) : Type 0 where
+pub record IsMade (t : Table) (o : Outcome) (c : Certificate) : Type 0 where
   pub same_shown : c.shown ≡ shows_of t.question.shown
   pub places : limits.AreShownPlaces c.shown
   pub same_gaps : c.gaps ≡ o.served.gaps
@@ -26,9 +26,8 @@ pub record IsMade (t : Table) (o : Outcome) (numbers : List ℕ) (c : Certificat
   pub seq_runs : c.seq_runs ≡ t.runs
   pub seq_tree : c.seq_tree ≡ t.tree
   pub fenced_tree : c.fenced_tree ≡ o.served.tree
-  pub numbered : AreNumbersOf o.entries c.runs numbers
   pub of_nodes : AreSplitRuns o.entries c.runs
-  pub recorded : IsRecorded o.entries numbers c.gap_tree 0
+  pub recorded : IsRecorded o.entries c.runs c.gap_tree 0
   pub few_runs : length c.runs < 2 ^ 64
   pub few_seq_runs : length c.seq_runs < 2 ^ 64
 
@@ -36,8 +35,8 @@ pub record IsMade (t : Table) (o : Outcome) (numbers : List ℕ) (c : Certificat
 tree_small : (q : Question) (mode : Machine) (outcomes : List machine.Outcome) (tree : Cover) → IsWholeCover q mode outcomes tree → limits.IsCoverTo MAX_COVER_DEPTH tree
 tree_small q mode outcomes tree is = let shallow = is.shallow in (omega arith, is.neat.numbers)
 
-module _ (t : Table) (o : Outcome) (numbers : List ℕ) (c : Certificate) (table : IsSequentialTable t) (outcome : IsOutcome o) (serving : IsServing o.served) (low : c.cost ≤ MAX_GAPS * MAX_COST)
-    (same : t.question ≡ o.question) (of_served : o.served.question ≡ o.question) (answer : IsTheAnswer o.question o.costs o.served.gaps) (made : IsMade t o numbers c) where
+module _ (t : Table) (o : Outcome) (c : Certificate) (table : IsSequentialTable t) (outcome : IsOutcome o) (serving : IsServing o.served) (low : c.cost ≤ MAX_GAPS * MAX_COST)
+    (same : t.question ≡ o.question) (of_served : o.served.question ≡ o.question) (answer : IsTheAnswer o.question o.costs o.served.gaps) (made : IsMade t o c) where
   facts : Facts (finished_state o)
   facts = facts_of (finished_state o) outcome.reached
 
@@ -70,8 +69,8 @@ module _ (t : Table) (o : Outcome) (numbers : List ℕ) (c : Certificate) (table
       (subst (λ (g : SetOfGaps). IsWholeCover o.question (StoreBufferMachine (gaps_of_set o.question.program g)) t.outcomes o.served.tree) (sym made.same_gaps)
       (subst (λ (q : Question). IsWholeCover q (StoreBufferMachine (gaps_of_set q.program o.served.gaps)) t.outcomes o.served.tree) of_served here))
 
-  gap_tree_fine : IsFine (finished_state o) facts o.served.gaps answer c.runs numbers made.numbered c.gap_tree all_sets
-  gap_tree_fine = fine (finished_state o) facts o.served.gaps answer c.runs numbers made.numbered made.few_runs c.gap_tree 0 all_sets made.recorded facts.root
+  gap_tree_fine : IsFine (finished_state o) facts o.served.gaps answer c.runs c.gap_tree all_sets
+  gap_tree_fine = fine (finished_state o) facts o.served.gaps answer c.runs made.few_runs c.gap_tree 0 all_sets made.recorded facts.root
 
   is_valid : IsValidCertificate o.question o.costs c
   is_valid = record {

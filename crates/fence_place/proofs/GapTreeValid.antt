@@ -1,6 +1,6 @@
 -- The gap tree of the record of a search that is done is valid for its answer, and within the limits of a text.
 use Rattle.fence_place.proofs.Vocabulary.{◌≡◌, ℕ, suc, ◌+◌, ◌<◌, ◌≤◌, ◌^◌, List, [], ◌∷◌, Some, length, max, refl, sym, ap, ◌∙◌, subst, arith, slice_get, same_Some, slice_get_within, SetOfGaps, Region, Question, Label, IsTheAnswer, Gap, Split, Bound, GapTrees}
-use Rattle.fence_place.proofs.Vocabulary.{NoGap, MoreGaps, count_gaps, Foreign, Entry, SearchState, Facts, AreNumbersOf, IsRecorded, AreRecorded, MAX_GAPS, undecided, Each, few_open, without_gap, child_regions, open_gaps, gap_depth, gaps_depth, HasGapNumbers}
+use Rattle.fence_place.proofs.Vocabulary.{NoGap, MoreGaps, count_gaps, Foreign, Entry, SearchState, Facts, IsRecorded, AreRecorded, MAX_GAPS, undecided, Each, few_open, without_gap, child_regions, open_gaps, gap_depth, gaps_depth, HasGapNumbers}
 use Rattle.fence_place.proofs.Vocabulary.{HaveGapNumbers, IsSplitBy, IsValidGap, AreValidGaps, open_exact, open_ascending, HasNode, IsSplitAt, kids_less, open_undecided, small_set}
 use Rattle.std.proofs.lemmas.List.Kept.{AllPairs-from_increasing}
 use Rattle.fence_place.proofs.Bounds.{bounded}
@@ -10,7 +10,7 @@ pub as_many : (n : Region) (gaps : List ℕ) → length (child_regions n gaps) �
 as_many n [] = refl
 as_many n (gap ∷ gaps) = let e = as_many (without_gap n gap) gaps in omega arith
 
-module _ (s : SearchState) (facts : Facts s) (answer : SetOfGaps) (is_answer : IsTheAnswer s.question s.costs answer) (runs : List (List Label)) (numbers : List ℕ) (listed : AreNumbersOf s.entries runs numbers) where
+module _ (s : SearchState) (facts : Facts s) (answer : SetOfGaps) (is_answer : IsTheAnswer s.question s.costs answer) (runs : List (List Label)) where
   -- the gaps of a split are those that the run passes and that the sets may have
   split_by : (n : Region) (place first number : ℕ) (f : Foreign) → IsSplitAt s.question s.entries place n f first → slice_get runs number ≡ Some f.labels →
       IsSplitBy s.question.program runs n number (open_gaps f.passed n.never)
@@ -47,7 +47,7 @@ module _ (s : SearchState) (facts : Facts s) (answer : SetOfGaps) (is_answer : I
 
   module _ (few : length runs < 2 ^ 64) where
     mutual
-      pub fine : (tree : Gap) (place : ℕ) (n : Region) → IsRecorded s.entries numbers tree place → HasNode s.entries place n → IsFine tree n
+      pub fine : (tree : Gap) (place : ℕ) (n : Region) → IsRecorded s.entries runs tree place → HasNode s.entries place n → IsFine tree n
       fine Bound place n (e, there, closed) has =
           let same : e ≡ has.here = same_Some e has.here (sym there ∙ has.there) in
           let is : e.node ≡ n = ap (λ (x : Entry). x.node) same ∙ has.is_node in
@@ -56,23 +56,22 @@ module _ (s : SearchState) (facts : Facts s) (answer : SetOfGaps) (is_answer : I
             deep = omega arith;
             small_numbers = tt;
           })
-      fine (Split number kids) place n (e, f, first, there, split, numbered, recorded) has =
+      fine (Split number kids) place n (e, f, first, there, split, runs_at, recorded) has =
           let same : e ≡ has.here = same_Some e has.here (sym there ∙ has.there) in
           let is : e.node ≡ n = ap (λ (x : Entry). x.node) same ∙ has.is_node in
           let at = facts.split place e f first there split in
           let gaps = open_gaps f.passed e.node.never in
-          let runs_at = (listed place number numbered).runs_at e f first there split in
           let small = small_set s.question facts.within f at.of_question at.foreign in
           let less = kids_less e.node gaps (AllPairs-from_increasing gaps (open_ascending f.passed e.node.never)) (open_undecided f.passed e.node small at.passes_none) in
           let each : AreFine (undecided e.node) kids (child_regions e.node gaps) =
-          each_fine (undecided e.node) kids first (child_regions e.node gaps) (subst (λ count. AreRecorded s.entries numbers kids first count) (sym (as_many e.node gaps)) recorded) at.kids less in
+          each_fine (undecided e.node) kids first (child_regions e.node gaps) (subst (λ count. AreRecorded s.entries runs kids first count) (sym (as_many e.node gaps)) recorded) at.kids less in
           let deep : gaps_depth kids ≤ undecided e.node = each.deep in
           let count : count_gaps kids ≡ length gaps = each.as_many ∙ as_many e.node gaps in
           let up : length gaps ≤ MAX_GAPS = few_open f.passed e.node.never in
           let within : number < length runs = slice_get_within runs number f.labels runs_at in
           subst (IsFine (Split number kids)) is (record { valid = (gaps, split_by e.node place first number f at runs_at, each.valid); deep = omega arith; small_numbers = (omega arith, omega arith, each.small_numbers) })
 
-      each_fine : (depth : ℕ) (ts : GapTrees) (first : ℕ) (ns : List Region) → AreRecorded s.entries numbers ts first (length ns) →
+      each_fine : (depth : ℕ) (ts : GapTrees) (first : ℕ) (ns : List Region) → AreRecorded s.entries runs ts first (length ns) →
           ((j : ℕ) (c : Region) → slice_get ns j ≡ Some c → HasNode s.entries (first + j) c) → Each (λ (c : Region). undecided c < depth) ns → AreFine depth ts ns
       each_fine depth NoGap first [] recorded has less = record { valid = tt; deep = omega arith; as_many = refl; small_numbers = tt }
       each_fine depth (MoreGaps t ts) first (c ∷ cs) recorded has less =

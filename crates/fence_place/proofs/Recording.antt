@@ -32,14 +32,14 @@ kids_there o is place first e f there split = (
 )
 
 -- one tree more
-pub recorded_more : (entries : List Entry) (numbers : List ℕ) (ts : List Gap) (t : Gap) (first i : ℕ) → AreRecorded entries numbers (gap_trees_of ts) first i → IsRecorded entries numbers t (first + i) →
-    AreRecorded entries numbers (gap_trees_of (ts ++ t ∷ [])) first (i + 1)
-recorded_more entries numbers [] t first zero so h = (subst (IsRecorded entries numbers t) (omega arith) h, tt)
-recorded_more entries numbers (x ∷ xs) t first (suc i) so h =
+pub recorded_more : (entries : List Entry) (runs : List (List Label)) (ts : List Gap) (t : Gap) (first i : ℕ) → AreRecorded entries runs (gap_trees_of ts) first i → IsRecorded entries runs t (first + i) →
+    AreRecorded entries runs (gap_trees_of (ts ++ t ∷ [])) first (i + 1)
+recorded_more entries runs [] t first zero so h = (subst (IsRecorded entries runs t) (omega arith) h, tt)
+recorded_more entries runs (x ∷ xs) t first (suc i) so h =
     let e : suc i + 1 ≡ suc (i + 1) = omega arith in
-    subst (λ n. AreRecorded entries numbers (gap_trees_of (x ∷ xs ++ t ∷ [])) first n) (sym e)
-    (so.0, recorded_more entries numbers xs t (first + 1) i so.1 (subst (IsRecorded entries numbers t) (omega arith) h))
-recorded_more entries numbers ts t first i so h = absurd so
+    subst (λ n. AreRecorded entries runs (gap_trees_of (x ∷ xs ++ t ∷ [])) first n) (sym e)
+    (so.0, recorded_more entries runs xs t (first + 1) i so.1 (subst (IsRecorded entries runs t) (omega arith) h))
+recorded_more entries runs ts t first i so h = absurd so
 
 module _ (labels : List Label) (number : ℕ) (runs after : List (List Label)) where
   -- the runs so far stay

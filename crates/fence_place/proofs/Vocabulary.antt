@@ -8,7 +8,7 @@ pub use Rattle.std.specs.List.{AllByRecursion, filter}
 pub use Rattle.std.specs.Prelude.{All, IfErr, IfOk, IfSome, not, slice_get, slice_index_or}
 pub use Rattle.std.specs.declared.result.Result.{Result}
 pub use Rattle.cert_check.proofs.Answered.{if_ok, on_ok}
-pub use Rattle.cert_forest.proofs.GapNodeLaws.{is_gap_tree, listed_gaps, same_gap}
+pub use Rattle.cert_forest.proofs.GapNodeLaws.{gaps_count, is_gap_tree, listed_gaps, same_gap}
 pub use Rattle.cert_forest.specs.Certificates.{Certificate}
 pub use Rattle.cert_forest.specs.GapNode.{GapNode}
 pub use Rattle.cert_forest.specs.GapNodes.{spell_gap, spell_gaps}
@@ -48,9 +48,10 @@ pub use Rattle.tso_program.specs.Limits.{IsWithinLimits}
 pub use Rattle.tso_program.specs.Shown.{Question, asked}
 pub use Rattle.tso_program.specs.declared.listing.Listing.{Listing}
 pub use Rattle.tso_program.specs.declared.shown.Shown.{Shown}
+pub use Rattle.fence_place.specs.Internal.Recording.{AreNumbersOf, IsNumbered, ListsEvent, ListsRun, PushesRecorded, PushesRecords, is_new, is_there}
 pub use Rattle.fence_place.specs.Internal.Searches.{HasSettled, IsAtRest, IsOfQuestion, NothingIsHeld}
 pub use Rattle.fence_place.specs.Internal.Workers.{FaultIsAfter, HasStopped, IsReadyWorker, MayStop, NoneLacksRun, lacks_run, lacks_run_for}
 pub use Rattle.fence_place.specs.Proofs.{IsProof}
-pub use Rattle.fence_place.specs.Recorded.{AreDistinct, AreNumbersOf, AreRecorded, AreSplitRuns, IsRecorded, ListsEvent, ListsRun, PushesRecorded, PushesRecords, is_new, is_there}
+pub use Rattle.fence_place.specs.Recorded.{AreDistinct, AreRecorded, AreSplitRuns, IsRecorded}
 pub use Rattle.fence_place.specs.declared.fault.PlaceFault.{PlaceFault}
 pub use Rattle.fence_place.specs.declared.worker.Worker.{Worker}

@@ -2,8 +2,9 @@
 ghost use Rattle.std.specs.Prelude.{◌≡◌, ◌<◌, ◌+◌, ℕ, IfOk, OnOk, length};
 ghost use Rattle.cert_forest.specs.Limits.{AreShownPlaces};
 ghost use Rattle.cert_forest.specs.Shows.{shows_of};
-ghost use Rattle.fence_place.specs.Recorded.{AreNumbersOf, AreSplitRuns, AreDistinct, ListsEvent, IsRecorded, PushesRecorded, PushesRecords};
+ghost use Rattle.fence_place.specs.Recorded.{AreSplitRuns, AreDistinct, IsRecorded};
 ghost use Rattle.fence_place.specs.Proofs.{IsProof};
+ghost use Rattle.fence_place.specs.Internal.Recording.{AreNumbersOf, ListsEvent, IsNumbered, PushesRecorded, PushesRecords};
 
 use crate::gaps::count_open;
 use cert_forest::{Certificate, GapNode, GapTree, Runs, Shows};
@@ -21,8 +22,12 @@ pub fn certify(
 ) -> Result<Certificate, AllocError>
     requires { table.now.question ≡ finished.now.question }
     ensures set { IfOk result (λ certificate. certificate.gaps ≡ finished.now.served.gaps) }
-    ensures proof { IfOk result (IsProof finished.now.question finished.now.costs) }
+    ensures sequential { IfOk result (λ certificate. (certificate.seq_runs ≡ table.now.runs) × (certificate.seq_tree ≡ table.now.tree)) }
+    ensures fenced { IfOk result (λ certificate. certificate.fenced_tree ≡ finished.now.served.tree) }
+    ensures runs { IfOk result (λ certificate. AreSplitRuns finished.now.entries certificate.runs) }
     ensures once { IfOk result (λ certificate. AreDistinct certificate.runs) }
+    ensures record { IfOk result (λ certificate. IsRecorded finished.now.entries certificate.runs certificate.gap_tree 0) }
+    ensures proof { IfOk result (IsProof finished.now.question finished.now.costs) }
 {
     let served = finished.served();
     let shown = table.shown();
@@ -96,11 +101,11 @@ fn run_number(runs: &mut Runs, event: SettledEvent<'_>) -> Result<usize, AllocEr
     Ok(number)
 }
 
-/// What became of the first node and of its descendants.
+/// What became of the first node and of its descendants, with these numbers for runs.
 fn gap_tree(alloc: Global, finished: &Finished, numbers: &[usize]) -> Result<GapTree, AllocError>
     requires as_many { length numbers.now ≡ length finished.now.entries }
     requires there { 0 < length numbers.now }
-    ensures { IfOk result (λ tree. IsRecorded finished.now.entries numbers.now tree 0) }
+    ensures { IfOk result (λ tree. IsNumbered finished.now.entries numbers.now tree 0) }
 {
     let mut nodes = Vec::new(alloc);
     push_tree(finished, numbers, 0, &mut nodes)?;

@@ -1,7 +1,14 @@
-use Rattle.fence_place.proofs.Vocabulary.{◌≡◌, ◌∙◌, ◌<◌, ◌^◌, ℕ, List, length, sym, ap, subst, total, Label, Certificate, AreShownPlaces, shows_of, Serving, IsServing, IsRecorded, IsProof}
+use Rattle.fence_place.proofs.Vocabulary.{◌≡◌, ◌∙◌, ◌<◌, ◌^◌, ℕ, List, length, sym, ap, subst, total, Label, Certificate, AreShownPlaces, shows_of, Serving, IsServing, Entry, Gap, AreSplitRuns, AreNumbersOf, IsNumbered, IsRecorded, IsProof}
 use Rattle.std.specs.Arc.{arc_value}
 use Rattle.fence_place.proofs.CertificateMade.{is_proof}
 use Rattle.fence_place.proofs.certificates.certify.Goals as goal
+
+-- with the runs as they are listed the tree is the record
+recorded : (entries : List Entry) (here numbers : List ℕ) (runs : List (List Label)) (tree : Gap) → here ≡ numbers → IsNumbered entries here tree 0 → AreNumbersOf entries runs numbers → IsRecorded entries runs tree 0
+recorded entries here numbers runs tree same is are = subst (λ (ns : List ℕ). IsNumbered entries ns tree 0) same is runs are
+
+pub returns-clause-runs : goal.returns-clause-runs
+returns-clause-runs c = subst (λ (runs : List (List Label)). AreSplitRuns c.args.finished.now.entries runs) (sym c.runs.view_is) c.in_ok-runs.ensures.runs
 
 pub returns-clause-proof : goal.returns-clause-proof
 returns-clause-proof c =
@@ -22,7 +29,7 @@ returns-clause-proof c =
       gap_tree = c.in_ok-gap_tree.gap_tree;
     } in
     subst (λ (runs : List (List Label)). IsProof o.question o.costs (with_runs runs)) (sym c.runs.view_is)
-    (is_proof t o c.in_ok-runs.numbers.items (with_runs c.in_ok-runs.runs)
+    (is_proof t o (with_runs c.in_ok-runs.runs)
     c.recall_facts.ensures.table c.served-served.ensures.outcome (subst IsServing is_served c.recall_facts-2.ensures.serving) low c.requires c.served-served.ensures.answer.0 c.served-served.ensures.answer.1
     (record {
       same_shown = c.of-shows.ensures ∙ ap shows_of c.shown-shown.ensures;
@@ -32,9 +39,8 @@ returns-clause-proof c =
       seq_runs = c.in_ok-seq_runs.ensures;
       seq_tree = c.in_ok-copy.ensures ∙ c.tree.ensures;
       fenced_tree = c.in_ok-copy-2.ensures ∙ c.tree-2.ensures ∙ ap (λ (s : Serving). s.tree) is_served;
-      numbered = c.in_ok-runs.ensures.numbers;
       of_nodes = c.in_ok-runs.ensures.runs;
-      recorded = subst (λ (ns : List ℕ). IsRecorded o.entries ns c.in_ok-gap_tree.gap_tree 0) c.deref.ensures.value c.in_ok-gap_tree.ensures;
+      recorded = recorded o.entries _ c.in_ok-runs.numbers.items c.in_ok-runs.runs c.in_ok-gap_tree.gap_tree c.deref.ensures.value c.in_ok-gap_tree.ensures c.in_ok-runs.ensures.numbers;
       few_runs = c.len.ensures.few;
       few_seq_runs = subst (λ (runs : List (List Label)). length runs < 2 ^ 64) c.deref-2.ensures c.len-2.ensures.few;
     }))
