@@ -30,6 +30,6 @@ pub use native.Mathlib.Decide.{ℕ_discrete}
 pub use Rattle.hunt_board.specs.Internal.Marks.{HasMark, IsMarked, IsNotMarked, RecordFaultIs}
 pub use Rattle.hunt_board.specs.Internal.Places.{StandsOnlyAt, WalkLeads, child_by, child_in, child_of, ends, goes, number_of_child}
 pub use Rattle.hunt_board.specs.Receipts.{CloseFaultIs, IsFirstWrong, IsReceiptEvent, IsReceiptOf, NameAll, StandApart, Stands}
-pub use Rattle.hunt_board.specs.Seats.{AreFresh, HuntView, IsFresh, SeatView, word_of}
-pub use Rattle.hunt_board.specs.Word.{Fits, IsAbove, IsSeatOf, Known, Loaded, Lowered, Ruled, Word, both, goal_of, knows, no_ceiling, spent, word_with}
+pub use Rattle.hunt_board.specs.Seats.{AreFresh, AreFreshAt, HuntView, IsFresh, SeatView, word_of}
+pub use Rattle.hunt_board.specs.Word.{Fits, IsAbove, IsSeatOf, Known, Loaded, Lowered, Ruled, Word, both, goal_of, knows, no_ceiling, spent}
 pub use Rattle.hunt_board.specs.declared.settling.Receipt.{Receipt}

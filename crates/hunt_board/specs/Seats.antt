@@ -55,3 +55,7 @@ IsFresh h s = IsOf h s × (s.node ≡ None) × (s.best ≡ None) × (s.known.lea
 pub record AreFresh (h : HuntView) (count : ℕ) (seats : List SeatView) : Type 0 where
   pub each : All (IsFresh h) seats
   pub numbers : map (λ s. s.number) seats ≡ range_with_len 0 count
+
+-- so many seats, fresh for each hunt with this word
+abbrev pub AreFreshAt : Word → ℕ → List SeatView → Type 0
+AreFreshAt w count seats = (h : HuntView) → word_of h ≡ w → AreFresh h count seats

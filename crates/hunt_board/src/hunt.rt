@@ -10,10 +10,10 @@ ghost use Rattle.search_core.specs.Events.{TakesNode};
 ghost use Rattle.search_core.specs.Records.{IsOutcome};
 ghost use Rattle.hunt_board.specs.Cells.{IsInCell, IsThere, cell_place, run_in};
 ghost use Rattle.hunt_board.specs.declared.cells.TheConstants.{ROW_CELLS};
-ghost use Rattle.hunt_board.specs.Seats.{HuntView, IsOf, AreFresh, word_of, holding_node, with_known, with_posted};
+ghost use Rattle.hunt_board.specs.Seats.{IsOf, AreFresh, AreFreshAt, word_of, holding_node, with_known, with_posted};
 ghost use Rattle.hunt_board.specs.Settlings.{MaySettle, IsByRun, IsSettled, IsReceiptFor, node_of};
 ghost use Rattle.hunt_board.specs.Receipts.{NameAll, CloseFaultIs};
-ghost use Rattle.hunt_board.specs.Word.{IsSeatOf, no_ceiling, ceiling_number, with_least, word_with};
+ghost use Rattle.hunt_board.specs.Word.{IsSeatOf, no_ceiling, ceiling_number, with_least};
 ghost use Rattle.hunt_board.specs.Internal.Events.{IsFor, IsLawfulThere};
 
 use crate::cells::{PostFault, Posted, RunCells};
@@ -64,9 +64,9 @@ impl Model for Hunt {
     ghost use Rattle.once_cell.specs.Once.{cell_name};
     ghost use Rattle.search_core.specs.Ceilings.{problem};
 
-    ghost view = { λ h. record { question = asked h.program h.shown; costs = h.costs; table = h.word.table.shared.table_id; cells = map cell_name h.rows.cells.items } };
+    ghost view = { λ h. record { question = asked h.program h.shown; costs = h.costs; table = h.word.table; cells = map cell_name h.rows.cells.items } };
 
-    ghost invariant = { λ h. h.word.table.shared.key ≡ problem (asked h.program h.shown) h.costs };
+    ghost invariant = { λ h. h.word.problem ≡ problem (asked h.program h.shown) h.costs };
 }
 
 impl Hunt {
@@ -87,10 +87,10 @@ impl Hunt {
 
     /// The hunt through the tree, with what stands beside its lock.
     fn over(alloc: Global, tree: SearchTree, parts: HuntParts) -> Hunt
-        requires { parts.word.table.shared.key ≡ problem (asked parts.program parts.shown) parts.costs }
+        requires { parts.word.problem ≡ problem (asked parts.program parts.shown) parts.costs }
         ensures question { result.question ≡ asked parts.program parts.shown }
         ensures costs { result.costs ≡ parts.costs }
-        ensures word { word_of result ≡ word_with parts.word.table.shared.key parts.word.table.shared.table_id }
+        ensures word { word_of result ≡ parts.word }
     {
         let HuntParts {
             program,
@@ -373,8 +373,8 @@ fn parts_of(
 ) -> Result<(HuntParts, Vec<HuntSeat>), AllocError>
     ensures question { IfOk result (λ made. asked made.0.program made.0.shown ≡ tree.now.question) }
     ensures costs { IfOk result (λ made. made.0.costs ≡ tree.now.costs) }
-    ensures word { IfOk result (λ made. made.0.word.table.shared.key ≡ problem tree.now.question tree.now.costs) }
-    ensures seats { IfOk result (λ made. (h : HuntView) → word_of h ≡ word_with made.0.word.table.shared.key made.0.word.table.shared.table_id → AreFresh h seats made.1.items) }
+    ensures word { IfOk result (λ made. made.0.word.problem ≡ problem tree.now.question tree.now.costs) }
+    ensures seats { IfOk result (λ made. AreFreshAt made.0.word seats made.1.items) }
 {
     let (program, shown, costs) = problem_of(tree)?;
     let rows = RunCells::new(alloc, seats)?;
@@ -406,8 +406,8 @@ fn seated_word(
     tree: &SearchTree,
     seats: u8,
 ) -> Result<(CeilingWord, Vec<HuntSeat>), AllocError>
-    ensures word { IfOk result (λ made. made.0.table.shared.key ≡ problem tree.now.question tree.now.costs) }
-    ensures seats { IfOk result (λ made. (h : HuntView) → word_of h ≡ word_with made.0.table.shared.key made.0.table.shared.table_id → AreFresh h seats made.1.items) }
+    ensures word { IfOk result (λ made. made.0.problem ≡ problem tree.now.question tree.now.costs) }
+    ensures seats { IfOk result (λ made. AreFreshAt made.0 seats made.1.items) }
 {
     let (word, mut first) = CeilingWord::new(alloc, tree.program(), tree.shown(), tree.costs())?;
     let row = seats_of(alloc, &word, &mut first, seats)?;
@@ -421,9 +421,9 @@ fn seats_of(
     first: &mut WordSeat,
     seats: u8,
 ) -> Result<Vec<HuntSeat>, AllocError>
-    requires of { IsSeatOf (word_with word.now.table.shared.key word.now.table.shared.table_id) first.old }
+    requires of { IsSeatOf word.now first.old }
     requires least { first.old.least ≡ no_ceiling }
-    ensures { IfOk result (λ row. (h : HuntView) → word_of h ≡ word_with word.now.table.shared.key word.now.table.shared.table_id → AreFresh h seats row.items) }
+    ensures { IfOk result (λ row. AreFreshAt word.now seats row.items) }
 {
     let mut row = Vec::with_capacity(alloc, usize::from(seats))?;
     for number in 0..seats {
@@ -434,7 +434,7 @@ fn seats_of(
 
 /// All seats are taken in, and with the last one what they know of the word is gone.
 fn join_all(word: &CeilingWord, mut seats: Vec<HuntSeat>)
-    requires { All (λ seat. IsSeatOf (word_with word.now.table.shared.key word.now.table.shared.table_id) seat.known) seats.items }
+    requires { All (λ seat. IsSeatOf word.now seat.known) seats.items }
 {
     let Some(mut last) = seats.pop() else {
         return;

@@ -6,7 +6,7 @@ ghost use Rattle.search_core.specs.Facts.{Serving, IsServing};
 ghost use Rattle.search_core.specs.Events.{IsBeatenBy, IsBestAfter};
 ghost use Rattle.hunt_board.specs.Seats.{SeatView, holding_node, with_best, with_known};
 ghost use Rattle.hunt_board.specs.Settlings.{IsOwnBestAfter};
-ghost use Rattle.hunt_board.specs.Word.{IsSeatOf, with_least, word_with};
+ghost use Rattle.hunt_board.specs.Word.{IsSeatOf, with_least};
 ghost use Rattle.hunt_board.specs.Internal.Confirmed.{serving_of, newer, IsKept};
 
 use crate::settling::Settling;
@@ -142,8 +142,8 @@ impl HuntSeat {
 
     /// What another seat knows of the ceiling word, this one knows too; the other is spent.
     pub(crate) fn take_in(&mut self, word: &CeilingWord, other: HuntSeat)
-        requires of { IsSeatOf (word_with word.now.table.shared.key word.now.table.shared.table_id) self.old.known }
-        requires other { IsSeatOf (word_with word.now.table.shared.key word.now.table.shared.table_id) other.known }
+        requires of { IsSeatOf word.now self.old.known }
+        requires other { IsSeatOf word.now other.known }
         ensures { self.new ≡ with_known self.old (with_least self.old.known (min self.old.known.least other.known.least)) }
     {
         let HuntSeat {

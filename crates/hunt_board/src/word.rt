@@ -3,7 +3,7 @@ ghost use Rattle.std.specs.Prelude.{◌≡◌, ◌≤◌, IfOk, IfSome, min};
 ghost use Rattle.gap_sets.specs.Order.{total};
 ghost use Rattle.tso_program.specs.Shown.{asked};
 ghost use Rattle.search_core.specs.Ceilings.{IsCeilingOf, problem};
-ghost use Rattle.hunt_board.specs.Word.{HasLowered, IsSeatOf, goal_of, no_ceiling, ceiling_number, number_of, with_least, word_with};
+ghost use Rattle.hunt_board.specs.Word.{HasLowered, IsSeatOf, goal_of, no_ceiling, ceiling_number, number_of, with_least};
 
 use crate::rule::{View, WordRule};
 use crate::steps;
@@ -19,6 +19,20 @@ use tso_program::{Program, Shown};
 #[derive(Drop)]
 pub struct CeilingWord {
     table: Table<u8, View, Subject, WordRule, Global>,
+}
+
+impl Model for CeilingWord {
+    ghost use Rattle.hunt_board.specs.Word.{Word, word_with};
+
+    ghost Value = { Word };
+
+    ghost use Rattle.gap_sets.specs.contracts.gap_set.GapSet as gap_set;
+    ghost use Rattle.std.specs.Coded.{codes};
+    ghost use Rattle.tso_program.specs.Nodes.{tree_code};
+
+    ghost coded = { Prim.hlevel (codes, gap_set.the_row.coded, tree_code) };
+
+    ghost view = { λ w. word_with w.table.shared.key w.table.shared.table_id };
 }
 
 /// What one worker has of the word. It takes no bytes.
@@ -46,8 +60,8 @@ impl CeilingWord {
         shown: &Shown,
         costs: &Costs,
     ) -> Result<(CeilingWord, WordSeat), AllocError>
-        ensures word { IfOk result (λ r. r.0.table.shared.key ≡ problem (asked program.now shown.now) costs.now) }
-        ensures seat { IfOk result (λ r. IsSeatOf (word_with r.0.table.shared.key r.0.table.shared.table_id) r.1 × (r.1.least ≡ no_ceiling)) }
+        ensures word { IfOk result (λ r. r.0.problem ≡ problem (asked program.now shown.now) costs.now) }
+        ensures seat { IfOk result (λ r. IsSeatOf r.0 r.1 × (r.1.least ≡ no_ceiling)) }
     {
         let subject = Subject::of(program, shown, costs);
         let (table, seat) = Table::of_words(alloc, &[u64::MAX], &subject)?;
@@ -56,7 +70,7 @@ impl CeilingWord {
 
     /// A second seat, which knows as much.
     pub fn split(&self, seat: &mut WordSeat) -> WordSeat
-        requires { IsSeatOf (word_with self.now.table.shared.key self.now.table.shared.table_id) seat.old }
+        requires { IsSeatOf self.now seat.old }
         ensures same { seat.new ≡ seat.old }
         ensures made { result ≡ seat.old }
     {
@@ -67,8 +81,8 @@ impl CeilingWord {
 
     /// Takes another seat in, which is spent.
     pub fn join(&self, seat: &mut WordSeat, other: WordSeat)
-        requires seat { IsSeatOf (word_with self.now.table.shared.key self.now.table.shared.table_id) seat.old }
-        requires other { IsSeatOf (word_with self.now.table.shared.key self.now.table.shared.table_id) other }
+        requires seat { IsSeatOf self.now seat.old }
+        requires other { IsSeatOf self.now other }
         ensures { seat.new ≡ with_least seat.old (min seat.old.least other.least) }
     {
         steps::join(&self.table.shared, &mut seat.seat, other.seat);
@@ -76,9 +90,9 @@ impl CeilingWord {
 
     /// What the word holds: none, or a cost that isn't below the answer's.
     fn load(&self, seat: &mut WordSeat) -> Option<u64>
-        requires { IsSeatOf (word_with self.now.table.shared.key self.now.table.shared.table_id) seat.old }
+        requires { IsSeatOf self.now seat.old }
         ensures least { number_of result ≤ seat.old.least }
-        ensures goal { IfSome result (λ cost. goal_of self.now.table.shared.key ≤ cost) }
+        ensures goal { IfSome result (λ cost. goal_of self.now.problem ≤ cost) }
         ensures seat { seat.new ≡ with_least seat.old (number_of result) }
     {
         let found = steps::load(&self.table.shared, &mut seat.seat);
@@ -87,8 +101,8 @@ impl CeilingWord {
 
     /// Lowers the word, where it is higher.
     fn lower_to(&self, seat: &mut WordSeat, to: u64)
-        requires seat { IsSeatOf (word_with self.now.table.shared.key self.now.table.shared.table_id) seat.old }
-        requires goal { goal_of self.now.table.shared.key ≤ to }
+        requires seat { IsSeatOf self.now seat.old }
+        requires goal { goal_of self.now.problem ≤ to }
         ensures { HasLowered seat.old seat.new to }
     {
         steps::lower(&self.table.shared, &mut seat.seat, to);
@@ -102,8 +116,8 @@ impl CeilingWord {
         shown: &Shown,
         costs: &Costs,
     ) -> Ceiling
-        requires seat { IsSeatOf (word_with self.now.table.shared.key self.now.table.shared.table_id) seat.old }
-        requires problem { self.now.table.shared.key ≡ problem (asked program.now shown.now) costs.now }
+        requires seat { IsSeatOf self.now seat.old }
+        requires problem { self.now.problem ≡ problem (asked program.now shown.now) costs.now }
         ensures of { IsCeilingOf (asked program.now shown.now) costs.now result }
         ensures least { ceiling_number result ≤ seat.old.least }
         ensures seat { seat.new ≡ with_least seat.old (ceiling_number result) }
@@ -114,8 +128,8 @@ impl CeilingWord {
 
     /// Lowers the word to what a serving set costs, where it is higher.
     pub fn lower(&self, seat: &mut WordSeat, served: &Served, costs: &Costs)
-        requires seat { IsSeatOf (word_with self.now.table.shared.key self.now.table.shared.table_id) seat.old }
-        requires problem { self.now.table.shared.key ≡ problem served.now.question costs.now }
+        requires seat { IsSeatOf self.now seat.old }
+        requires problem { self.now.problem ≡ problem served.now.question costs.now }
         ensures { HasLowered seat.old seat.new (total costs.now served.now.gaps) }
     {
         let program = served.program();

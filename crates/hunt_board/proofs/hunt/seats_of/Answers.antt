@@ -1,4 +1,4 @@
-use Rattle.hunt_board.proofs.Vocabulary.{◌≡◌, ◌+◌, ◌++◌, ◌∷◌, [], ℕ, List, sym, ap, ◌∙◌, subst, arith, SeatView, AreFresh, Known, IsSeatOf, word_with}
+use Rattle.hunt_board.proofs.Vocabulary.{◌≡◌, ◌+◌, ◌++◌, ◌∷◌, [], ℕ, List, sym, ap, ◌∙◌, subst, arith, SeatView, AreFresh, Known, IsSeatOf}
 use Rattle.hunt_board.proofs.Fresh.{one_more_fresh}
 use Rattle.hunt_board.proofs.hunt.seats_of.Goals as goal
 
@@ -6,7 +6,7 @@ pub loop-number-preserved : goal.loop-number-preserved
 loop-number-preserved c =
     let row = c.loop-number.row.items in
     let first = c.loop-number.first in
-    let word_is = word_with c.args.word.now.table.shared.key c.args.word.now.table.shared.table_id in
+    let word_is = c.args.word.now in
     let is = c.loop-number.invariant in
     let items = c.in_ok-push.ensures.items ∙ ap (λ (s : SeatView). row ++ s ∷ []) c.new.ensures in (
       (λ h word.

@@ -9,4 +9,4 @@ lower_to-requires-clause-goal c =
     let least : goal_of (problem s.question costs) ≤ total costs s.gaps =
     (least_ceiling s.question costs (total costs s.gaps) within.shared.forward_jumps).0 (costs_so s costs c.program-program.ensures.serving) in
     let to : c.total-to.result ≡ total costs s.gaps = c.total-to.ensures.value ∙ ap (total costs) c.set.ensures in
-    subst (λ n. goal_of c.args.self.now.table.shared.key ≤ n) (sym to) (subst (λ k. goal_of k ≤ total costs s.gaps) (sym c.requires.problem) least)
+    subst (λ n. goal_of c.args.self.now.problem ≤ n) (sym to) (subst (λ k. goal_of k ≤ total costs s.gaps) (sym c.requires.problem) least)
