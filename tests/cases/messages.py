@@ -22,6 +22,29 @@ NEAR_NAMES = (
     ("x y z", "", ""),
     ("in is f", "", ""),
 )
+NEVER, ALWAYS = "stands before any CMP of its thread: it never jumps", "stands before any CMP of its thread: it always jumps"
+UNWRITTEN = "is compared, and nothing of its thread writes it: it holds 0"
+# initial values, and rows from line 5 on, after thread 0 stored to x and thread 1 loaded it into EAX; where the message is, and what it says
+SLIPS = (
+    ("", "JE END | ;\nEND: | ;", "5:1", f"JE {NEVER}"),
+    ("", " | jne END ;\n | END: ;", "5:4", f"jne {ALWAYS}"),
+    ("", "A: JNE END | ;\nMOV [x],$2 | ;\nEND: | ;", "5:4", f"JNE {ALWAYS}"),
+    ("", "MOV EAX,$1 | JNE END ;\nCMP EAX,$1 | END: ;", "5:14", f"JNE {ALWAYS}"),
+    ("", " | JE END ;\n | END: CMP EAX,$1 ;", "5:4", f"JE {NEVER}"),
+    ("", " | CMP EAX,$1 ;\n | JE END ;\n | END: ;", "", ""),
+    ("", " | JMP END ;\n | END: ;", "", ""),
+    ("", " | CMP ESI,$0 ;", "5:8", f"ESI {UNWRITTEN}"),
+    ("", " | CMP EAX,edi ;", "5:12", f"edi {UNWRITTEN}"),
+    ("", "CMP EBX,ECX | ;", "5:5", f"EBX {UNWRITTEN}"),
+    ("1:ESI=0", " | CMP ESI,$0 ;", "", ""),
+    ("0:ESI=1", " | CMP ESI,$0 ;", "5:8", f"ESI {UNWRITTEN}"),
+    ("", "MOV ESI,$1 | CMP ESI,$0 ;", "5:18", f"ESI {UNWRITTEN}"),
+    ("", " | CMP ESI,$0 ;\n | MOV ESI,$1 ;", "", ""),
+    ("", " | MOV ESI,EAX ;\n | CMP ESI,$0 ;", "", ""),
+    ("", " | XCHG [x],ESI ;\n | CMP ESI,EAX ;", "", ""),
+    ("", "CMP ESI,$0 | JE END ;\n | END: ;", "5:14", f"JE {NEVER}"),
+    ("", "MOV [turn],$1 | CMP ESI,$0 ;\nMOV [turn],$1 | ;\nMOV [tunr],$1 | ;", "5:21", f"ESI {UNWRITTEN}"),
+)
 
 
 def outputs(words, folder, given, error=subprocess.PIPE):
@@ -123,6 +146,18 @@ class Messages(Cases):
                 status, _, told = outputs([*words.split(), "-"], EXAMPLES, text)
                 wanted = b"" if words == "gaps" else line
                 tell(f"{words} of {names} says {wanted!r}", (status, told) == (0, wanted), (status, told))
+
+    def test_slips(self):
+        """An answer names a jump before any CMP of its thread, or a compared register that nothing writes; a name in the condition comes before them."""
+        for initial, rows, place, said in SLIPS:
+            text = f"X86 slips\n{{ {initial} }}\nP0 | P1 ;\nMOV [x],$1 | MOV EAX,[x] ;\n{rows}\n"
+            line = f"<stdin>:{place}: {said}\n".encode() if said else b""
+            for words in ("outcomes", "witness --json", "place", "place --observed --json", "place --condition", "why", "gaps"):
+                status, _, told = outputs([*words.split(), "-"], EXAMPLES, f"{text}exists (x=1)\n".encode())
+                wanted = b"" if words == "gaps" else line
+                tell(f"{words} of {rows!r} with {{ {initial} }} says {wanted!r}", (status, told) == (0, wanted), (status, told))
+            told = outputs(["outcomes", "-"], EXAMPLES, f"{text}exists (aa=1)\n".encode())[2]
+            same(f"outcomes of {rows!r} with {{ {initial} }} where the condition names aa", told, b"<stdin>: the condition names aa, which no instruction reads or writes: it keeps its first value\n")
 
     def test_failures(self):
         """With `--condition` it is said where a `~exists` or a `forall` fails sequentially, and some sequential run keeps it."""

@@ -7,7 +7,7 @@ use crate::texts::Texts;
 use fencer_words::Placement;
 use messages::{
     Message, Source, costs_message, fence_message, file_or_input, idle_name_message,
-    litmus_message, near_name_message, replay_message, run_message, unread_message,
+    litmus_message, replay_message, run_message, slip_message, unread_message,
 };
 use placed_text::TextFault;
 use program_streams::{Console, FileFault, FileStore, TEXT_LIMIT, UnreadFile};
@@ -107,30 +107,30 @@ pub(crate) fn text_fault_advice(
     }
 }
 
-/// What is said of a location whose name may be misspelt, and nothing if there is none.
-fn near_name_advice(alloc: Global, litmus: &str, text: &[u8]) -> Result<Vec<u8>, AllocError> {
-    match near_name_message(alloc, Source::new(file_or_input(litmus), text))? {
+/// What is said of an instruction or a location's name that may be a slip, and nothing if there is none.
+fn slip_advice(alloc: Global, litmus: &str, text: &[u8]) -> Result<Vec<u8>, AllocError> {
+    match slip_message(alloc, Source::new(file_or_input(litmus), text))? {
         Some(message) => message.written(alloc),
         None => Ok(Vec::new(alloc)),
     }
 }
 
-/// What is said of a name in the condition that no instruction uses, or else of a location whose name may be misspelt.
+/// What is said of a name in the condition that no instruction uses, or else of what may be a slip elsewhere.
 fn idle_name_advice(alloc: Global, litmus: &str, text: &[u8]) -> Result<Vec<u8>, AllocError> {
     match idle_name_message(alloc, file_or_input(litmus), text)? {
         Some(message) => message.written(alloc),
-        None => near_name_advice(alloc, litmus, text),
+        None => slip_advice(alloc, litmus, text),
     }
 }
 
-/// Tells of a name in a litmus text that may be misspelt: first of one in the condition that no instruction uses.
+/// Tells of what may be a slip in a litmus text: first of a name in the condition that no instruction uses.
 pub(crate) fn tell_idle_name<W: Console>(alloc: Global, litmus: &str, text: &[u8], output: &mut W)
     ensures { W.contents output.new ≡ W.contents output.old }
 {
     output.tell(idle_name_advice(alloc, litmus, text));
 }
 
-/// The same; of one in the condition where its truth is compared alone.
+/// The same; of a name in the condition where its truth is compared alone.
 pub(crate) fn tell_idle_name_compared<W: Console>(
     alloc: Global,
     asked: &Placement,
@@ -142,7 +142,7 @@ pub(crate) fn tell_idle_name_compared<W: Console>(
     let litmus = asked.litmus.as_str();
     let advice = match asked.kind {
         ShownKind::Condition => idle_name_advice(alloc, litmus, text),
-        _ => near_name_advice(alloc, litmus, text),
+        _ => slip_advice(alloc, litmus, text),
     };
     output.tell(advice);
 }

@@ -1,4 +1,4 @@
-//! What is said to people of a refusal, and of a name that may be misspelt.
+//! What is said to people of a refusal, and of a slip in a text that is read.
 //!
 //! Tables of words without semantics. A message goes to standard error, after the line `refused ..` for
 //! scripts.
@@ -12,13 +12,16 @@ mod certificates;
 mod costs;
 mod fences;
 mod files;
+mod idle_jumps;
 mod idle_names;
+mod idle_registers;
 mod labels;
 mod litmus;
 mod message;
 mod near_names;
 mod refusals;
 mod rules;
+mod slips;
 mod source;
 mod text_end;
 mod tokens;
@@ -31,5 +34,5 @@ pub use idle_names::idle_name_message;
 pub use labels::{replay_message, run_message};
 pub use litmus::litmus_message;
 pub use message::{Message, STDIN, file_or_input};
-pub use near_names::near_name_message;
+pub use slips::slip_message;
 pub use source::Source;

@@ -3,7 +3,7 @@
 use crate::message::{Message, shown_word};
 use crate::source::{Source, from};
 use crate::tokens::word_at;
-use litmus_reader::{NameTable, location_name, read_litmus};
+use litmus_reader::{NameTable, location_name};
 use std::alloc::{AllocError, Global};
 use text_tokens::is_word_byte;
 
@@ -11,16 +11,8 @@ use text_tokens::is_word_byte;
 const LONGER: usize = 3;
 
 /// That the name of a location stands once in a litmus text and is close to another location's, with the first such
-/// name. `None` if there is none, or the text is not read.
-pub fn near_name_message(alloc: Global, source: Source<'_>) -> Result<Option<Message>, AllocError> {
-    match read_litmus(alloc, source.text) {
-        Ok(litmus) => near_name_of(alloc, source, &litmus.names),
-        Err(_) => Ok(None),
-    }
-}
-
-/// The same by the names of a test that is read.
-fn near_name_of(
+/// name, by the names of the text as it is read. `None` if there is none.
+pub(crate) fn near_name_of(
     alloc: Global,
     source: Source<'_>,
     names: &NameTable,

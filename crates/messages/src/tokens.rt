@@ -23,6 +23,14 @@ pub(crate) struct Spot<'t> {
     pub(crate) kind: &'static [u8],
 }
 
+/// What is said of a token of a text that is read, after the token itself.
+#[derive(Clone, Copy)]
+pub(crate) struct Remark {
+    /// How many tokens are left there, this one included.
+    pub(crate) left: usize,
+    pub(crate) said: &'static str,
+}
+
 /// The refused one of the tokens of a text, which begins at an offset of the whole one.
 pub(crate) fn spot_of<'t>(
     text: &'t [u8],

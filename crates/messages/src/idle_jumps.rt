@@ -1,0 +1,43 @@
+//! Jumps on a comparison that no CMP has made.
+
+use crate::tokens::Remark;
+use litmus_syntax::{Cell, Code};
+
+/// What is said of the first JE or JNE of the rows that stands before any CMP of its thread. Jumps lead forward alone, so
+/// the flag is then as it was at first.
+pub(crate) fn idle_jump(rows: &[Vec<Cell<'_>>], threads: usize) -> Option<Remark> {
+    for thread in 0..threads {
+        if let Some(remark) = idle_jump_of(rows, thread) {
+            return Some(remark);
+        }
+    }
+    None
+}
+
+/// The same of one thread.
+fn idle_jump_of(rows: &[Vec<Cell<'_>>], thread: usize) -> Option<Remark> {
+    for row in rows {
+        if let Some(cell) = row.get(thread) {
+            match cell.code {
+                Some(Code::CmpImm(..) | Code::CmpReg(..)) => return None,
+                Some(code) => {
+                    if let Some(said) = said_of_jump(code) {
+                        let left = cell.left;
+                        return Some(Remark { left, said });
+                    }
+                }
+                None => {}
+            }
+        }
+    }
+    None
+}
+
+/// What is said of a jump on a comparison, where none was made.
+fn said_of_jump(code: Code<'_>) -> Option<&'static str> {
+    match code {
+        Code::Je(_) => Some("stands before any CMP of its thread: it never jumps"),
+        Code::Jne(_) => Some("stands before any CMP of its thread: it always jumps"),
+        _ => None,
+    }
+}
