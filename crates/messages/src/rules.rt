@@ -73,7 +73,7 @@ int long char unsigned int32_t int64_t uint32_t uint64_t volatile # # cannot sta
 
 /// The end of a row.
 const ROW: &str = "\
-# # ends a row with another number of cells than the header row has
+# # ends a row with another number of cells than the header row has; each row has a cell for each thread, an empty one keeps its `|` (`MOV [x],$1 | ;`), and a second instruction of a thread stands in the next row
 ";
 
 /// What stands in a cell, but operands.
@@ -99,16 +99,20 @@ const INSTRUCTION: &str = "\
 const OPERAND: &str = "\
 # RAX RBX RCX RDX RSI RDI RBP RSP AX BX CX DX AL BL CL DL EBP ESP # is not read; registers are EAX, EBX, ECX, EDX, ESI and EDI
 # BYTE WORD DWORD QWORD PTR # is not read; write `[x]`, of which 32 bits are read and written
-[ # # is no location's name; addresses in registers are not read
+[ # locations exists forall filter not true false # is a word of the format, and cannot be the name of a location
+[ # # is no location's name; an address is a location's name alone: write a branch for each value of the pointer or index (docs/guide.md)
 $ # # is no number
 JE JNE JMP # # cannot stand here; a jump names a label of its thread
 CMP # [ # cannot stand here; CMP compares registers and numbers, so load the location first, as `MOV EAX,[x]`
 CMP # # is no register; CMP compares a register with a register or a number
 , # [ # cannot stand here; load the location into a register first, as `MOV EAX,[x]`
+, # $ <number> # cannot stand here; XCHG takes a register: `MOV EAX,$1` before it, then `XCHG [x],EAX`
 , # EAX EBX ECX EDX ESI EDI # cannot stand here; XCHG is `[x],REG` or `REG,[x]`
 MOV XCHG , # <word> # is no register; these are EAX, EBX, ECX, EDX, ESI and EDI, and a location is written `[x]`
 MOV XCHG # # cannot stand here; the first operand is a register or a location `[x]`
 , # # cannot stand here; MOV is `REG,$1`, `REG,REG`, `REG,[x]`, `[x],$1` or `[x],REG`, XCHG `[x],REG` or `REG,[x]`, CMP `REG,$1` or `REG,REG`
+EAX EBX ECX EDX ESI EDI ] # + * <negative> # cannot stand here; after an operand `,` does, and no arithmetic is read
+# + * <negative> # cannot stand here; an address is a location's name alone: write a branch for each value of the pointer or index (docs/guide.md)
 # # cannot stand here; after an operand `,` does, and after a location's name `]`
 ";
 
@@ -121,6 +125,7 @@ JE JNE JMP # # is no label of this thread; it stands in the thread's own column 
 
 /// What follows the rows.
 const CONDITION: &str = "\
+<first_tilde> # # cannot stand here; `exists` comes after this `~`: a condition is `exists`, `~exists` or `forall`, and a formula
 # filter # is not read; join its formula to that of the condition
 = # > # cannot stand here; `a => b` is not read, write `not a \\/ b`
 # => # cannot stand here; `a => b` is not read, write `not a \\/ b`
@@ -151,6 +156,7 @@ const ENDED: &str = "\
 # <unfinished> # begins what does not end: a comment, `/\\` or `\\/`
 # <in_values> # ends in its initial values: `}` is missing
 = # # ends after `=`: a number is missing
+<first_tilde> # # ends after `~`: `exists` and a formula are missing
 exists forall not ~ ( /\\ \\/ # # ends in its condition: a formula is missing, as `0:EAX=1`
 # <in_parentheses> # ends in its condition: `)` is missing
 # <in_condition> # ends in its condition: `=` and a number are missing

@@ -17,7 +17,7 @@ pub(crate) struct Spot<'t> {
     pub(crate) word: &'t [u8],
     /// The bytes that a message shows: those of the token, and of a word after it that belongs to it.
     pub(crate) shown: &'t [u8],
-    /// The bytes of the token before it.
+    /// The bytes of the token before it; of a `~` with which a condition begins its kind, in angle brackets.
     pub(crate) before: &'t [u8],
     /// What kind of token it is, in angle brackets.
     pub(crate) kind: &'static [u8],
@@ -47,7 +47,7 @@ pub(crate) fn spot_of<'t>(
         offset: offset.saturating_add(text.len().saturating_sub(rest.len())),
         word,
         shown,
-        before: token_before(text, tokens, index),
+        before: kind_before(text, tokens, index),
         kind: match tokens.get(index) {
             Some(token) => kind_of(token, word, shown),
             None => end_kind(tokens),
@@ -73,6 +73,21 @@ fn two_words<'t>(text: &'t [u8], word: &'t [u8]) -> &'t [u8] {
     } else {
         word
     }
+}
+
+/// The bytes of the token before the one with this index, or its kind if it is a `~` with which a condition begins.
+fn kind_before<'t>(text: &'t [u8], tokens: &[Token], index: usize) -> &'t [u8] {
+    let before = token_before(text, tokens, index);
+    if before.starts_with(b"~") && ends_rows(token_before(text, tokens, index.saturating_sub(1))) {
+        b"<first_tilde>"
+    } else {
+        before
+    }
+}
+
+/// Whether a condition begins after this token: one that ends a row, or the list of locations.
+fn ends_rows(token: &[u8]) -> bool {
+    token.starts_with(b";") || token.starts_with(b"]")
 }
 
 /// The bytes of the token before the one with this index.
