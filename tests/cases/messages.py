@@ -103,7 +103,7 @@ class Messages(Cases):
         text = b"X86 t\n{ }\nP0 | P1 ;\n%bexists (true)\n"
         for rows, line in (
             (ROW * 33, "SB.litmus:3: there are more than 32 accesses to memory"),
-            ("MFENCE |  ;\n" * 65, "SB.litmus:3: thread 0 has too many instructions"),
+            ("MFENCE |  ;\n" * 65, "SB.litmus:3: thread 0 has more than 64 instructions"),
             ("A" * 41 + " |  ;\n", f"SB.litmus:4:1: {'A' * 40}.. is no instruction that is read; these are MOV, XCHG, MFENCE, CMP, JE, JNE and JMP, and a label ends with `:`"),
         ):
             refused(["outcomes", "SB.litmus"], {**files, "SB.litmus": text % rows.encode()}, line)

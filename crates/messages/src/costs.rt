@@ -46,7 +46,12 @@ fn is_number(bytes: &[u8]) -> bool {
 
 /// What is said of a line that is not of the form of a cost line.
 fn line_message(alloc: Global, source: Source<'_>, pieces: Pieces) -> Result<Message, AllocError> {
-    let (offset, said) = if !is_gap(source.piece(pieces.gap)) {
+    let (offset, said) = if source.piece(pieces.gap).starts_with(b"#") {
+        (
+            pieces.gap,
+            "begins a comment, which a cost file cannot have",
+        )
+    } else if !is_gap(source.piece(pieces.gap)) {
         (
             pieces.gap,
             "is no gap; a line is a gap and its cost, as `0:1 5`",
@@ -57,7 +62,10 @@ fn line_message(alloc: Global, source: Source<'_>, pieces: Pieces) -> Result<Mes
             "is no cost; a line is a gap and its cost, as `0:1 5`",
         )
     } else {
-        (pieces.more, "cannot stand after a cost")
+        (
+            pieces.more,
+            "cannot stand after a cost; a cost file has no comments",
+        )
     };
     let piece = source.piece(offset);
     let word = if piece.is_empty() { b"\n" } else { piece };

@@ -11,7 +11,7 @@ use litmus_syntax::{Part, Refusal, read_body};
 use std::alloc::{AllocError, Global};
 use std::str;
 use text_tokens::{Token, lex, line_spaces_len};
-use tso_program::ProgramFault;
+use tso_program::{MAX_INSTRUCTIONS, MAX_LOCATIONS, ProgramFault};
 
 /// What is said of a first line that begins so.
 const FIRST_LINES: &[(&str, &str)] = &[
@@ -164,8 +164,21 @@ fn program_message(
             return backward_message(alloc, source, tokens.as_slice(), rest, left);
         }
     }
-    let text = format!(in alloc; "{fault}")?;
+    let text = limit_text(alloc, fault)?;
     Message::at_line(alloc, source, line as usize, text.as_str())
+}
+
+/// What is said of a limit that a program breaks.
+fn limit_text(alloc: Global, fault: ProgramFault) -> Result<String, AllocError> {
+    match fault {
+        ProgramFault::TooLong(thread) => {
+            format!(in alloc; "thread {thread} has more than {MAX_INSTRUCTIONS} instructions")
+        }
+        ProgramFault::Locations => format!(in alloc;
+            "there are more than {MAX_LOCATIONS} locations; those of the initial values, `locations` and the condition count too"
+        ),
+        _ => format!(in alloc; "{fault}"),
+    }
 }
 
 /// What is said of a jump back, where so many tokens are left at its mnemonic.
