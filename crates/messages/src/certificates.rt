@@ -67,13 +67,26 @@ fn line_at_fault(fault: &CheckFault) -> (&'static [u8], usize) {
     }
 }
 
+/// What an author may do, after a fault of a certificate that was not made for these texts.
+fn said_of_origin(fault: &CheckFault) -> &'static str {
+    match fault {
+        CheckFault::Cost => {
+            "; a certificate made with `--costs FILE` needs the same FILE as third argument"
+        }
+        CheckFault::Set | CheckFault::SequentialRun(_) | CheckFault::Run(_) => {
+            "; the certificate may be of another or an older text: write it anew with `fencer place --certificate`"
+        }
+        _ => "",
+    }
+}
+
 /// Why a certificate doesn't show what it claims, with its line; a node is named by its path.
 pub fn check_message(
     alloc: Global,
     source: Source<'_>,
     fault: &CheckFault,
 ) -> Result<Message, AllocError> {
-    let text = format!(in alloc; "{fault}")?;
+    let text = format!(in alloc; "{fault}{}", said_of_origin(fault))?;
     if matches!(fault, CheckFault::OutOfMemory) {
         return Message::of_file(alloc, source.name, text.as_str());
     }
