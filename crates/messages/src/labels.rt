@@ -77,13 +77,18 @@ pub fn replay_message(
     match fault {
         ReplayFault::NoSuchThread(step)
         | ReplayFault::AtEnd(step)
-        | ReplayFault::BufferEmpty(step)
         | ReplayFault::FenceWaits(step) => {
             let said = format!(in alloc; ": {fault}")?;
             label_message(alloc, labels, step, said.as_str())
         }
+        ReplayFault::BufferEmpty(step) => {
+            let said = format!(in alloc; ": {fault}; the sequential machine has no f steps")?;
+            label_message(alloc, labels, step, said.as_str())
+        }
         ReplayFault::NotEnded(_) => {
-            let said = format!(in alloc; "{fault}")?;
+            let said = format!(in alloc;
+                "{fault}: labels must lead to the end of every thread and empty every buffer; `fencer witness` and `fencer outcomes --runs` print such labels"
+            )?;
             Message::of_file(alloc, LABELS, said.as_str())
         }
         ReplayFault::OutOfMemory => Message::of_file(alloc, name, "out of memory"),
