@@ -58,6 +58,7 @@ cp "$PROGRAM" "$2"
 WHY = "{0}: unproved, since the proved build is {1}; ./build makes it in half an hour to an hour on 4 processors\n"
 MADE = "{0}: the unproved build takes a minute or two on an idle machine, and is kept until the sources change\n"
 STAGES = "{0}: translates the sources\n"
+UNPROVED = "{0}: unproved build\n"
 
 
 def write(path, text, mode=0o644):
@@ -201,7 +202,7 @@ class Scripts(Cases):
                 status, _, said = clone.call(name, "--help")
                 tell(f"an unproved build of {name} is made", status == 2 and said.startswith(made), (status, said))
             _, _, said = clone.call("fencer", "place", "SB.litmus")
-            tell("nothing is said of a build that is kept", said == "" and clone.tries() == 2, (clone.tries(), said))
+            tell("a build that is kept says what it is", said == UNPROVED.format("fencer") and clone.tries() == 2, (clone.tries(), said))
             clone.edit_proof("fencer", 4_000_000_000)
             called_as_given(clone, "unproved")
             same("an unproved build is made once", clone.tries(), 2)
@@ -246,7 +247,7 @@ class Scripts(Cases):
         with cloned() as clone:
             clone.call("fencer", "--help", given={"FAULTY": "-Os"})
             status, found, said = clone.call("fencer", "place", "SB.litmus")
-            tell("a compiler that refuses the level", (status, said) == (0, "") and found.startswith("answer "), (status, found, said))
+            tell("a compiler that refuses the level", (status, said) == (0, UNPROVED.format("fencer")) and found.startswith("answer "), (status, found, said))
         with cloned() as clone:
             status, found, said = clone.call("fencer", "place", "SB.litmus", given={"REFUSED": "1"})
             tell("sources with a fault", (status, found) == (2, "") and said.endswith("error: no such type\n"), (status, found, said))
@@ -319,7 +320,7 @@ class Scripts(Cases):
                 tell(f"others may use {os.path.basename(path)}", mode & 0o055 == 0o055, oct(mode))
             if os.getuid() == 0 and subprocess.run(["test", "-x", clone.top], **another).returncode == 0:
                 found = clone.call("fencer", "outcomes", "SB.litmus", **another)
-                tell("another user runs the build", (found[0], found[2]) == (0, ""), found)
+                tell("another user runs the build", (found[0], found[2]) == (0, UNPROVED.format("fencer")), found)
 
     def test_progress(self):
         """On a terminal one line counts the seconds, and is taken away."""
@@ -329,5 +330,5 @@ class Scripts(Cases):
             os.close(terminal)
             said = os.read(leader, 4096).decode()
             os.close(leader)
-            shown = "\rfencer: translates the sources, " in said and said.endswith("\r\033[K")
+            shown = "\rfencer: translates the sources, " in said and said.rstrip().endswith("\r\033[Kfencer: unproved build")
             tell("the progress on a terminal", shown, said)
