@@ -22,6 +22,15 @@ NEAR_NAMES = (
     ("x y z", "", ""),
     ("in is f", "", ""),
 )
+# arguments of `fencecheck` that name no litmus file with its certificate, and what is said of them
+MISUSES = (
+    ("SB.litmus", "the certificate is missing"),
+    ("-", "the certificate is missing"),
+    ("--costs", "--costs is no option; the cost file is the third argument"),
+    ("--costs x SB.litmus SB.cert", "--costs is no option; the cost file is the third argument"),
+    ("SB.litmus SB.cert --costs=x y", "--costs=x is no option; the cost file is the third argument"),
+    ("SB.litmus SB.cert x y", "there are more than three arguments"),
+)
 NEVER, ALWAYS = "stands before any CMP of its thread: it never jumps", "stands before any CMP of its thread: it always jumps"
 UNWRITTEN = "is compared, and nothing of its thread writes it: it holds 0"
 # initial values, and rows from line 5 on, after thread 0 stored to x and thread 1 loaded it into EAX; where the message is, and what it says
@@ -118,9 +127,19 @@ class Messages(Cases):
         refused(["fencecheck", "SB.litmus", "SB.cert"], {**files, "SB.cert": deep}, line)
 
     def test_answers(self):
-        """An answer, a bad command line and a call for help say nothing."""
-        for words in (["outcomes", "SB.litmus"], ["place", "SB.litmus"], ["--help"], ["place"], ["fencecheck", "SB.litmus", "SB.cert"], ["fencecheck", "SB.litmus"]):
+        """An answer, a bad command line of `fencer` and a call for help say nothing."""
+        for words in (["outcomes", "SB.litmus"], ["place", "SB.litmus"], ["--help"], ["place"], ["fencecheck", "SB.litmus", "SB.cert"], ["fencecheck", "--help"], ["fencecheck", "-h"]):
             same(f"nothing is said of {' '.join(words)}", outputs(words, EXAMPLES, b"")[2], b"")
+
+    def test_misuses(self):
+        """Where arguments name no litmus file with its certificate, `fencecheck` says why, and prints its usage whether or not that can be written."""
+        usage = outputs(["fencecheck", "--help"], EXAMPLES, b"")[:2]
+        for words, said in MISUSES:
+            words = ["fencecheck", *words.split()]
+            found = outputs(words, EXAMPLES, b"")
+            same(f"what is said of {' '.join(words)}", found, (2, usage[1], f"error: {said}\n".encode()))
+            with open("/dev/full", "wb") as full:
+                same(f"{' '.join(words)}, where that can't be written", outputs(words, EXAMPLES, b"", full)[:2], usage)
 
     def test_idle_names(self):
         """An answer that rests on the condition names what the condition names and no instruction uses; other answers say nothing of it."""

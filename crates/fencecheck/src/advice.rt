@@ -6,9 +6,9 @@ use crate::command::{InputNames, JOINED};
 use crate::judge::Rejection;
 use messages::{
     Message, STDIN, Source, certificate_message, check_message, costs_message, file_or_input,
-    litmus_message, unread_message,
+    litmus_message, misuse_line, unread_message,
 };
-use program_streams::{FileFault, FileStore, UnreadFile};
+use program_streams::{Console, FileFault, FileStore, UnreadFile};
 use std::alloc::{AllocError, Global};
 
 /// The texts that are judged, with the names of their files.
@@ -34,6 +34,13 @@ pub(crate) fn unread_advice<S: FileStore>(
     file: UnreadFile<'_>,
 ) -> Result<Vec<u8>, AllocError> {
     unread_message(alloc, file, files.obstacle(file.name))?.written(alloc)
+}
+
+/// Tells why arguments name no litmus file with its certificate; nothing of a call for help.
+pub(crate) fn tell_misuse<W: Console>(alloc: Global, words: &[String], output: &mut W)
+    ensures { W.contents output.new ≡ W.contents output.old }
+{
+    output.tell(misuse_line(alloc, words));
 }
 
 /// Why an input of a litmus text and a certificate is not read.

@@ -8,7 +8,9 @@ ghost use Rattle.fencecheck.specs.Replies.{usage_text, AreOfFiles, IsFilesFault,
 ghost use Rattle.fencecheck.specs.Inputs.{ReadsEnough, ReadsForVerdict};
 ghost use Rattle.fencecheck.specs.Internal.Names.{file_names_of};
 
-use crate::advice::{JudgedTexts, refusal_advice, unread, unread_advice, unread_input_advice};
+use crate::advice::{
+    JudgedTexts, refusal_advice, tell_misuse, unread, unread_advice, unread_input_advice,
+};
 use crate::judge::{judge, refusal_line};
 use crate::parts::{CERTIFICATE_LIMIT, read_joined};
 use messages::{STDIN, file_or_input};
@@ -197,6 +199,7 @@ pub fn run_command<S: FileStore, R: Read, W: Console>(
         return print(output, version_line(alloc, NAME), 0);
     }
     if is_misused(words) {
+        tell_misuse(alloc, words, output);
         return print(output, usage_text(alloc), 2);
     }
     let names = match words {

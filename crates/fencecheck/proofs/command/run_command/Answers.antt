@@ -17,7 +17,7 @@ returns-then-is_misused-clause-printed g c =
     let files = g.S.FileStore.held c.args.files.now in
     prints_more IsUsage (IsCheckOutput (map string_bytes c.args.words.now) input files) _ _ c.print-then-is_misused.result
     (usage_output string_bytes c.args.words.now input files (sym c.asks_version.ensures ∙ c.if-asks_version.false) (sym c.is_misused.ensures ∙ c.if-is_misused.true)).0
-    (prints_line c.usage_text.result 2 usage_text IsUsage _ _ c.print-then-is_misused.result (refl, refl) c.usage_text.ensures c.print-then-is_misused.ensures)
+    (prints_line c.usage_text.result 2 usage_text IsUsage _ _ c.print-then-is_misused.result (refl, refl) c.usage_text.ensures (rw c.tell_misuse.ensures at c.print-then-is_misused.ensures))
 
 pub returns-then-is_misused-clause-read : goal.returns-then-is_misused-clause-read
 returns-then-is_misused-clause-read g c =
