@@ -12,6 +12,8 @@ from harness import MODELS, PreloadedCases, example, run, same, tell
 WORKERS = 3
 # an equal share of three workers' work is two thirds; a machine with other work may give it to them otherwise
 LEAST_SHARE = 0.1
+# how often a call is made at most whose threads got less
+TRIES = 10
 LONG = (("two threads", TWO_THREADS), ("exchanges", EXCHANGES), ("orders", ORDERS))
 SHORT = ("SB", "MP", "n6", "IRIW", "nothing")
 # how many threads a command may have at a time: the workers of a hunt, and those that search for them
@@ -41,6 +43,15 @@ def marked(library, words, given):
     return found, most, took / (seconds_of_calls() - before)
 
 
+def shared(library, words, given):
+    """The same of a call by several workers. It is made again where the threads that it started got little of a machine with other work."""
+    for _ in range(TRIES):
+        found, most, share = marked(library, [*words, "--workers", str(WORKERS)], given)
+        if share >= LEAST_SHARE:
+            break
+    return found, most, share
+
+
 class Threads(PreloadedCases):
     source = "mark_threads.c"
 
@@ -51,7 +62,7 @@ class Threads(PreloadedCases):
                 what, words = f"{' '.join(command)} of {name}", [*command, "-"]
                 alone, most, _ = marked(self.library, words, text.encode())
                 same(f"{what} by one worker, threads", most, 1)
-                found, most, share = marked(self.library, [*words, "--workers", str(WORKERS)], text.encode())
+                found, most, share = shared(self.library, words, text.encode())
                 tell(f"{what} by {WORKERS} workers", found == alone and found[0] == 0, found, alone)
                 tell(f"{what} by {WORKERS} workers, threads", 1 < most <= limit, most, f"2 to {limit}")
                 tell(f"{what} by {WORKERS} workers, their share", share >= LEAST_SHARE, share, f"at least {LEAST_SHARE}")

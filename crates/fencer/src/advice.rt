@@ -6,11 +6,12 @@ use crate::refusals::AnswerFault;
 use crate::texts::Texts;
 use fencer_words::Placement;
 use messages::{
-    Message, Source, costs_message, fence_message, file_or_input, idle_name_message,
-    litmus_message, replay_message, run_message, slip_message, unread_message,
+    Message, Source, costs_message, fence_message, file_or_input, litmus_message, replay_message,
+    run_message, unread_message,
 };
 use placed_text::TextFault;
 use program_streams::{Console, FileFault, FileStore, TEXT_LIMIT, UnreadFile};
+use slips::slip_message;
 use std::alloc::{AllocError, Global};
 use tso_program::ShownKind;
 use witness_text::WitnessFault;
@@ -107,19 +108,17 @@ pub(crate) fn text_fault_advice(
     }
 }
 
-/// What is said of an instruction or a location's name that may be a slip, and nothing if there is none.
-fn slip_advice(alloc: Global, litmus: &str, text: &[u8]) -> Result<Vec<u8>, AllocError> {
-    match slip_message(alloc, Source::new(file_or_input(litmus), text))? {
+/// What is said of the first slip that a litmus text may have, and nothing if there is none.
+fn slip_advice(
+    alloc: Global,
+    litmus: &str,
+    text: &[u8],
+    condition_counts: bool,
+) -> Result<Vec<u8>, AllocError> {
+    let source = Source::new(file_or_input(litmus), text);
+    match slip_message(alloc, source, condition_counts)? {
         Some(message) => message.written(alloc),
         None => Ok(Vec::new(alloc)),
-    }
-}
-
-/// What is said of a name in the condition that no instruction uses, or else of what may be a slip elsewhere.
-fn idle_name_advice(alloc: Global, litmus: &str, text: &[u8]) -> Result<Vec<u8>, AllocError> {
-    match idle_name_message(alloc, file_or_input(litmus), text)? {
-        Some(message) => message.written(alloc),
-        None => slip_advice(alloc, litmus, text),
     }
 }
 
@@ -127,7 +126,7 @@ fn idle_name_advice(alloc: Global, litmus: &str, text: &[u8]) -> Result<Vec<u8>,
 pub(crate) fn tell_idle_name<W: Console>(alloc: Global, litmus: &str, text: &[u8], output: &mut W)
     ensures { W.contents output.new ≡ W.contents output.old }
 {
-    output.tell(idle_name_advice(alloc, litmus, text));
+    output.tell(slip_advice(alloc, litmus, text, true));
 }
 
 /// The same; of a name in the condition where its truth is compared alone.
@@ -139,10 +138,7 @@ pub(crate) fn tell_idle_name_compared<W: Console>(
 )
     ensures { W.contents output.new ≡ W.contents output.old }
 {
-    let litmus = asked.litmus.as_str();
-    let advice = match asked.kind {
-        ShownKind::Condition => idle_name_advice(alloc, litmus, text),
-        _ => slip_advice(alloc, litmus, text),
-    };
+    let condition_counts = matches!(asked.kind, ShownKind::Condition);
+    let advice = slip_advice(alloc, asked.litmus.as_str(), text, condition_counts);
     output.tell(advice);
 }

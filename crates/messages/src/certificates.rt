@@ -1,7 +1,7 @@
 //! Certificates that can't be read, or don't show what they claim.
 
 use crate::message::Message;
-use crate::source::{Source, from};
+use crate::source::{Source, bytes_from};
 use cert_check::CheckFault;
 use cert_forest::CertFault;
 use std::alloc::{AllocError, Global};
@@ -14,7 +14,7 @@ fn byte_message(
     said: &str,
 ) -> Result<Message, AllocError> {
     let piece = source.piece(offset);
-    let rest = from(source.text, offset);
+    let rest = bytes_from(source.text, offset);
     let word = if piece.is_empty() {
         rest.split_at(rest.len().min(1)).0
     } else {

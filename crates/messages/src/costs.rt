@@ -1,7 +1,7 @@
 //! Cost files that can't be read.
 
 use crate::message::{Message, shown_word};
-use crate::source::{Source, from, line_start};
+use crate::source::{Source, bytes_from, line_start};
 use cost_text::CostTextFault;
 use gap_sets::CostFault;
 use litmus_reader::read_litmus;
@@ -21,12 +21,12 @@ struct Pieces {
 /// The offset of the next piece after the one at an offset.
 fn next_piece(source: Source<'_>, offset: usize) -> usize {
     let after = offset.saturating_add(source.piece(offset).len());
-    after.saturating_add(line_spaces_len(from(source.text, after)))
+    after.saturating_add(line_spaces_len(bytes_from(source.text, after)))
 }
 
 fn pieces_of(source: Source<'_>, line: usize) -> Pieces {
     let start = line_start(source.text, line);
-    let gap = start.saturating_add(line_spaces_len(from(source.text, start)));
+    let gap = start.saturating_add(line_spaces_len(bytes_from(source.text, start)));
     let cost = next_piece(source, gap);
     let more = next_piece(source, cost);
     Pieces { gap, cost, more }

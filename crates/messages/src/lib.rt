@@ -1,4 +1,4 @@
-//! What is said to people of a refusal, and of a slip in a text that is read.
+//! What is said to people of a refusal.
 //!
 //! Tables of words without semantics. A message goes to standard error, after the line `refused ..` for
 //! scripts.
@@ -12,17 +12,12 @@ mod certificates;
 mod costs;
 mod fences;
 mod files;
-mod idle_jumps;
-mod idle_names;
-mod idle_registers;
 mod labels;
 mod litmus;
 mod message;
 mod misuses;
-mod near_names;
 mod refusals;
 mod rules;
-mod slips;
 mod source;
 mod text_end;
 mod tokens;
@@ -31,10 +26,9 @@ pub use certificates::{certificate_message, check_message};
 pub use costs::costs_message;
 pub use fences::fence_message;
 pub use files::{unread_message, unwritten_message};
-pub use idle_names::idle_name_message;
 pub use labels::{replay_message, run_message};
 pub use litmus::litmus_message;
-pub use message::{Message, STDIN, file_or_input};
+pub use message::{Message, STDIN, file_or_input, shown_word};
 pub use misuses::misuse_line;
-pub use slips::slip_message;
-pub use source::Source;
+pub use source::{Source, bytes_from};
+pub use tokens::word_at;

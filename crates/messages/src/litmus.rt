@@ -3,7 +3,7 @@
 use crate::message::{Message, shown_word};
 use crate::refusals::{instruction_left, refusal_of};
 use crate::rules::said_of;
-use crate::source::{Source, from, line_of, line_start};
+use crate::source::{Source, bytes_from, line_of, line_start};
 use crate::tokens::{spot_of, word_at};
 use litmus_lines::{read_first_line, skip_lines};
 use litmus_reader::ReadFault;
@@ -62,7 +62,7 @@ fn utf8_message(alloc: Global, source: Source<'_>) -> Result<Message, AllocError
         Ok(_) => 0,
         Err(error) => error.valid_up_to(),
     };
-    let rest = from(source.text, offset);
+    let rest = bytes_from(source.text, offset);
     let byte = rest.split_at(rest.len().min(1)).0;
     Message::at_word(alloc, source, offset, byte, "is not UTF-8")
 }
@@ -115,9 +115,9 @@ fn skipped_message(
     match fault {
         ReadFault::Header(line) => {
             let start = line_start(source.text, line as usize);
-            let blanks = line_spaces_len(from(source.text, start));
+            let blanks = line_spaces_len(bytes_from(source.text, start));
             let offset = start.saturating_add(blanks);
-            let word = word_at(line_of(from(source.text, offset)));
+            let word = word_at(line_of(bytes_from(source.text, offset)));
             let said =
                 "cannot stand here; initial values come next, `{ }` at least, and before them lines in quotes or `NAME=..`";
             Message::at_word(alloc, source, offset, word, said)

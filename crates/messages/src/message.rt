@@ -1,7 +1,10 @@
 //! Messages.
 
 use crate::source::Source;
+use crate::tokens::spot_of;
+use litmus_syntax::{Part, Refusal};
 use std::alloc::{AllocError, Global};
+use text_tokens::Token;
 
 /// The most bytes of a word that a message shows.
 const WORD_LIMIT: usize = 40;
@@ -50,7 +53,7 @@ impl Message {
     }
 
     /// What is said about the word at an offset: the sentence begins with the word.
-    pub(crate) fn at_word(
+    pub fn at_word(
         alloc: Global,
         source: Source<'_>,
         offset: usize,
@@ -67,6 +70,24 @@ impl Message {
             word: shown,
             text,
         })
+    }
+
+    /// The same about a token of a part of the text, of whose tokens so many are left there, this one included.
+    pub fn at_token(
+        alloc: Global,
+        source: Source<'_>,
+        part: &[u8],
+        tokens: &[Token],
+        left: usize,
+        said: &str,
+    ) -> Result<Message, AllocError> {
+        let offset = source.text.len().saturating_sub(part.len());
+        let refusal = Refusal {
+            part: Part::Instruction,
+            left,
+        };
+        let spot = spot_of(part, tokens, refusal, offset);
+        Message::at_word(alloc, source, spot.offset, spot.word, said)
     }
 
     /// The message as one line: `FILE:LINE:COLUMN: TEXT`, without what is not known.
@@ -93,7 +114,7 @@ pub fn file_or_input(name: &str) -> &str {
 }
 
 /// The first bytes of a word, or of two, with `\xHH` for those that are not printable ASCII.
-pub(crate) fn shown_word(alloc: Global, word: &[u8]) -> Result<String, AllocError> {
+pub fn shown_word(alloc: Global, word: &[u8]) -> Result<String, AllocError> {
     let mut shown = String::new(alloc);
     for byte in word.iter().take(WORD_LIMIT) {
         if byte.is_ascii_graphic() || (*byte == b' ' && !shown.is_empty()) {

@@ -39,7 +39,7 @@ impl<'a> Source<'a> {
 
     /// The bytes from an offset on, up to white space.
     pub(crate) fn piece(&self, offset: usize) -> &'a [u8] {
-        piece_of(from(self.text, offset))
+        piece_of(bytes_from(self.text, offset))
     }
 }
 
@@ -71,7 +71,7 @@ fn position_after(before: &[u8], first_line: usize) -> Position {
 }
 
 /// The bytes from an offset on.
-pub(crate) fn from(text: &[u8], offset: usize) -> &[u8] {
+pub fn bytes_from(text: &[u8], offset: usize) -> &[u8] {
     text.split_at(offset.min(text.len())).1
 }
 

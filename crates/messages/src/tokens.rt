@@ -1,6 +1,6 @@
 //! Tokens of a litmus text, as they lie in it.
 
-use crate::source::{continues_character, from};
+use crate::source::{bytes_from, continues_character};
 use crate::text_end::end_kind;
 use litmus_syntax::{Part, Refusal};
 use text_tokens::{
@@ -21,14 +21,6 @@ pub(crate) struct Spot<'t> {
     pub(crate) before: &'t [u8],
     /// What kind of token it is, in angle brackets.
     pub(crate) kind: &'static [u8],
-}
-
-/// What is said of a token of a text that is read, after the token itself.
-#[derive(Clone, Copy)]
-pub(crate) struct Remark {
-    /// How many tokens are left there, this one included.
-    pub(crate) left: usize,
-    pub(crate) said: &'static str,
 }
 
 /// The refused one of the tokens of a text, which begins at an offset of the whole one.
@@ -58,9 +50,9 @@ pub(crate) fn spot_of<'t>(
 /// The word with which a text begins, with the one after it where they belong together: LOCK and its instruction, and the
 /// quantifier `not exists`.
 fn two_words<'t>(text: &'t [u8], word: &'t [u8]) -> &'t [u8] {
-    let rest = from(text, word.len());
+    let rest = bytes_from(text, word.len());
     let blanks = line_spaces_len(rest);
-    let after = from(rest, blanks);
+    let after = bytes_from(rest, blanks);
     let second = after.split_at(letters_len(after).min(after.len())).0;
     let begins = word.eq_ignore_ascii_case(b"LOCK") && !second.is_empty();
     let is_quantifier = word.eq_ignore_ascii_case(b"NOT") && second.eq_ignore_ascii_case(b"EXISTS");
@@ -104,7 +96,7 @@ fn token_before<'t>(text: &'t [u8], tokens: &[Token], index: usize) -> &'t [u8] 
 fn from_token<'t>(text: &'t [u8], tokens: &[Token], index: usize) -> &'t [u8] {
     let mut rest = without_space(text);
     for token in tokens.iter().take(index) {
-        rest = without_space(from(rest, token_len(token, rest)));
+        rest = without_space(bytes_from(rest, token_len(token, rest)));
     }
     rest
 }
@@ -129,15 +121,15 @@ fn without_space(text: &[u8]) -> &[u8] {
                 .iter()
                 .take_while(|byte| is_white_space(**byte))
                 .count();
-            from(text, len)
+            bytes_from(text, len)
         }
     }
 }
 
 /// The word with which a text begins: letters and digits, signs of comparison or of a connective, or one character.
-pub(crate) fn word_at(text: &[u8]) -> &[u8] {
+pub fn word_at(text: &[u8]) -> &[u8] {
     let signs = text.iter().take_while(|byte| is_sign(**byte)).count();
-    let letters = letters_len(from(text, signs));
+    let letters = letters_len(bytes_from(text, signs));
     let len = if signs == 0 || text.starts_with(b"-") {
         signs.saturating_add(letters)
     } else {
@@ -157,7 +149,7 @@ fn letters_len(text: &[u8]) -> usize {
 
 /// How many bytes the first character takes.
 fn character_len(text: &[u8]) -> usize {
-    let later = from(text, 1)
+    let later = bytes_from(text, 1)
         .iter()
         .take_while(|byte| continues_character(**byte))
         .count();

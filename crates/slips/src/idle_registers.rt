@@ -1,6 +1,6 @@
 //! Registers that are compared, and that nothing of their thread writes.
 
-use crate::tokens::Remark;
+use crate::slip::Remark;
 use litmus_syntax::{Body, Cell, Code, Entry, Place};
 use tso_program::Reg;
 

@@ -1,9 +1,7 @@
 //! Locations whose name stands once in a text and is close to another one, as one that is misspelt.
 
-use crate::message::{Message, shown_word};
-use crate::source::{Source, from};
-use crate::tokens::word_at;
 use litmus_reader::{NameTable, location_name};
+use messages::{Message, Source, bytes_from, shown_word, word_at};
 use std::alloc::{AllocError, Global};
 use text_tokens::is_word_byte;
 
@@ -49,7 +47,7 @@ fn only_place(text: &[u8], name: &[u8]) -> Option<usize> {
     let mut place = None;
     let mut begins = true;
     for (offset, byte) in text.iter().enumerate() {
-        if begins && word_at(from(text, offset)) == name {
+        if begins && word_at(bytes_from(text, offset)) == name {
             if place.is_some() {
                 return None;
             }
@@ -64,8 +62,8 @@ fn only_place(text: &[u8], name: &[u8]) -> Option<usize> {
 fn are_near(name: &[u8], other: &[u8]) -> bool {
     let pairs = name.iter().zip(other.iter());
     let same = pairs.take_while(|pair| pair.0 == pair.1).count();
-    let name_rest = from(name, same);
-    let other_rest = from(other, same);
+    let name_rest = bytes_from(name, same);
+    let other_rest = bytes_from(other, same);
     name.len().max(other.len()) >= LONGER && are_rests_near(name_rest, other_rest)
 }
 
@@ -73,8 +71,8 @@ fn are_near(name: &[u8], other: &[u8]) -> bool {
 fn are_rests_near(name: &[u8], other: &[u8]) -> bool {
     let name_letter = begins_with_letter(name);
     let other_letter = begins_with_letter(other);
-    let name_rest = from(name, 1);
-    let other_rest = from(other, 1);
+    let name_rest = bytes_from(name, 1);
+    let other_rest = bytes_from(other, 1);
     (name_letter && name_rest == other)
         || (other_letter && other_rest == name)
         || (name_letter && other_letter && (name_rest == other_rest || are_swapped(name, other)))
@@ -86,5 +84,7 @@ fn begins_with_letter(name: &[u8]) -> bool {
 
 /// Whether the first two bytes are swapped, and all later ones are the same.
 fn are_swapped(name: &[u8], other: &[u8]) -> bool {
-    name.get(0) == other.get(1) && name.get(1) == other.get(0) && from(name, 2) == from(other, 2)
+    name.get(0) == other.get(1)
+        && name.get(1) == other.get(0)
+        && bytes_from(name, 2) == bytes_from(other, 2)
 }

@@ -1,25 +1,13 @@
 //! Names in a condition that no instruction uses, as one that is misspelt.
 
-use crate::message::{Message, shown_word};
-use litmus_reader::{Litmus, NameTable, location_name, read_litmus, register_name};
+use litmus_reader::{Litmus, NameTable, location_name, register_name};
+use messages::{Message, shown_word};
 use std::alloc::{AllocError, Global};
 use tso_program::{Atom, Instr, Node, Program, Reg, Thread};
 
-/// That the condition of a litmus text names a location that no instruction reads or writes, or a register to which its
-/// thread writes nothing, with the first such name. `None` if it names none, or the text is not read.
-pub fn idle_name_message(
-    alloc: Global,
-    file: &str,
-    text: &[u8],
-) -> Result<Option<Message>, AllocError> {
-    match read_litmus(alloc, text) {
-        Ok(litmus) => idle_name_of(alloc, file, &litmus),
-        Err(_) => Ok(None),
-    }
-}
-
-/// The same of a test that is read.
-fn idle_name_of(
+/// That the condition of a litmus test names a location that no instruction reads or writes, or a register to which its
+/// thread writes nothing, with the first such name. `None` if it names none.
+pub(crate) fn idle_name_of(
     alloc: Global,
     file: &str,
     litmus: &Litmus<Program>,

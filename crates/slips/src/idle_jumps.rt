@@ -1,6 +1,6 @@
 //! Jumps on a comparison that no CMP has made.
 
-use crate::tokens::Remark;
+use crate::slip::Remark;
 use litmus_syntax::{Cell, Code};
 
 /// What is said of the first JE or JNE of the rows that stands before any CMP of its thread. Jumps lead forward alone, so
