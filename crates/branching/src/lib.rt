@@ -26,5 +26,4 @@ pub use ordered_outcomes::OrderedOutcomes;
 pub use plan::{LastThread, Plan, ThreadTraces, plan_for};
 pub use reads_writes::{ReadValue, WholeAccesses, WrittenValue, whole_accesses};
 pub use tally::Tally;
-pub use trace_size::TraceSize;
 pub use traces::{FullTrace, ValueTree};

@@ -6,9 +6,9 @@ use std::alloc::{AllocError, Global};
 
 /// How large a tree is, and each tree under it.
 #[derive(Drop)]
-pub struct TraceSize {
-    pub nodes: u64,
-    pub traces: u64,
+pub(crate) struct TraceSize {
+    pub(crate) nodes: u64,
+    pub(crate) traces: u64,
     /// The values of the next read.
     values: Vec<u32>,
     /// The sizes of the trees after them.
@@ -91,4 +91,19 @@ pub(crate) fn size_of(alloc: Global, tree: &ValueTree) -> Result<TraceSize, Allo
         }
         ValueTree::Full(_) => Ok(TraceSize::of_one(alloc)),
     }
+}
+
+/// The same sizes.
+#[cycle(same_sizes)]
+pub(crate) fn same_sizes(alloc: Global, sizes: &[TraceSize]) -> Result<Vec<TraceSize>, AllocError> {
+    let mut copies = Vec::with_capacity(alloc, sizes.len())?;
+    for size in sizes {
+        copies.push(TraceSize {
+            nodes: size.nodes,
+            traces: size.traces,
+            values: Vec::from_slice(alloc, &size.values)?,
+            after: same_sizes(alloc, &size.after)?,
+        })?;
+    }
+    Ok(copies)
 }

@@ -61,7 +61,7 @@ fn trees_after(
     ensures { IfOk result (λ after. AreValueTrees t sketch.now (trace_trees (map traces after.items)) choices.now) }
 {
     sketch.recall_facts();
-    let mut after = Vec::new(alloc);
+    let mut after = Vec::with_capacity(alloc, choices.len())?;
     for choice in choices {
         let next = sketch_with(sketch, *choice)?;
         after.push(value_tree(alloc, &next, t)?)?;

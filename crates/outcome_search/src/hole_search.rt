@@ -174,8 +174,8 @@ impl HoleSearch<'_> {
         }
     }
 
-    /// What a search finds for the hole of the piece at a place. It has a program of its own: threads that count the uses of one
-    /// program wait for each other.
+    /// What a search finds for the hole of the piece at a place. It has a program and traces of its own: threads that count the uses of
+    /// one wait for each other.
     fn tree_of(&self, place: usize) -> Result<Vec<Node>, SearchStop>
         requires may { MaySearch self.now }
         requires within { place < length self.now.pieces.now }

@@ -51,7 +51,7 @@ impl SearchPart {
         })
     }
 
-    /// The same part, with a program of its own.
+    /// The same part, over a sketch that shares nothing with this one's.
     pub(crate) fn apart(&self, alloc: Global) -> Result<SearchPart, AllocError>
         ensures path { IfOk result (λ part. part.path.items ≡ self.now.path.items) }
         ensures sketch { IfOk result (λ part. part.sketch ≡ self.now.sketch) }
@@ -62,7 +62,8 @@ impl SearchPart {
         })
     }
 
-    /// The part's cover, over a program of its own: threads that count the uses of one program wait for each other.
+    /// The part's cover, over a sketch that shares nothing with those of other parts: threads that count the uses of one program, or of
+    /// one trace, wait for each other.
     pub(crate) fn cover<W: Watch>(
         &self,
         sought: &Search,

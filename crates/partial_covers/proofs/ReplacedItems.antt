@@ -1,5 +1,8 @@
 -- Items of a list that are replaced one after another.
-use Rattle.partial_covers.proofs.Vocabulary.{◌≡◌, ℕ, ◌+◌, ◌<◌, ◌≤◌, List, get_or, length, length-set, refl, sym, ◌∙◌, subst, inl, inr, arith, set, cases_eq, get_or-set_other, get_or-set_same, same_default, AreEach}
+use Rattle.std.specs.Prelude.{drop}
+use Rattle.std.proofs.lemmas.List.{get_or-append_right, set-append_right}
+use Rattle.sketch_covers.proofs.ChangedItems.{changed_step}
+use Rattle.partial_covers.proofs.Vocabulary.{◌≡◌, ℕ, ◌+◌, ◌-◌, ◌<◌, ◌≤◌, List, ◌++◌, ap, get_or, length, length-set, map, refl, sym, ◌∙◌, subst, take, inl, inr, arith, set, cases_eq, get_or-set_other, get_or-set_same, same_default, AreEach}
 
 -- the items before a place are as they must be, and the later ones as they were
 pub record IsReplaced {A : Type 0} (R : A → A → Type 0) (old now : List A) (i : ℕ) : Type 0 where
@@ -34,3 +37,15 @@ module _ {A : Type 0} (R : A → A → Type 0) (old : List A) where
         ];
         left = λ k d above. get_or-set_other now i k new d (omega arith) ∙ so.left k d (omega arith);
       }
+
+-- of items after others, one more is changed
+pub changed_after : {A : Type 0} (f : A → A) (before xs now : List A) (i : ℕ) (x y : A) → length before ≤ i → i - length before < length xs
+    → now ≡ before ++ (map f (take (i - length before) xs) ++ drop (i - length before) xs) → x ≡ get_or now i x → y ≡ f x
+    → set now i y ≡ before ++ (map f (take (i + 1 - length before) xs) ++ drop (i + 1 - length before) xs)
+changed_after {A} f before xs now i x y past here so at is =
+    let k = i - length before in
+    let left = map f (take k xs) ++ drop k xs in
+    let item : x ≡ get_or left k x = at ∙ ap (λ (zs : List A). get_or zs i x) so ∙ get_or-append_right before left (length before) i x refl past in
+    let next : k + 1 ≡ i + 1 - length before = omega arith in
+    ap (λ (zs : List A). set zs i y) so ∙ set-append_right before left (length before) i y refl past
+    ∙ ap (λ (zs : List A). before ++ zs) (sym (changed_step f xs left k x y here refl item is) ∙ ap (λ (n : ℕ). map f (take n xs) ++ drop n xs) next)

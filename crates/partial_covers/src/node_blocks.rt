@@ -119,8 +119,10 @@ fn push_block(nodes: &mut Vec<Node>, block: &[Node], mode: &Mode) -> Result<(), 
 fn push_in_sequence(nodes: &mut Vec<Node>, block: &[Node]) -> Result<(), AllocError>
     ensures { OnOk result (nodes.new.items ≡ nodes.old.items ++ map sequential_node block.now) }
 {
-    for node in block {
-        nodes.push(sequential_node(*node))?;
+    let start = nodes.len();
+    nodes.extend_from_slice(block)?;
+    for i in start..nodes.len() {
+        nodes[i] = sequential_node(nodes[i]);
     }
     Ok(())
 }

@@ -109,15 +109,17 @@ impl Sketch {
         })
     }
 
-    /// An equal sketch, with a program of its own.
+    /// An equal sketch that shares nothing with this one: threads that count the uses of one program, or of one trace, wait for each
+    /// other.
     pub fn apart(&self) -> Result<Sketch, AllocError>
         ensures { IfOk result (λ other. other ≡ self.now) }
     {
+        let traces = self.traces.apart(self.alloc)?;
         Ok(Sketch {
             alloc: self.alloc,
             program: self.program.apart(self.alloc)?,
             mode: self.mode,
-            traces: Arc::try_clone(&self.traces)?,
+            traces: Arc::new(self.alloc, traces)?,
             sources: with_room(self.alloc, self.sources.as_slice())?,
             pairs: with_room(self.alloc, self.pairs.as_slice())?,
             rows: self.rows.copy(),

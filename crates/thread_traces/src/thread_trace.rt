@@ -26,6 +26,22 @@ pub struct ThreadTrace {
     pub next: Option<u8>,
 }
 
+impl ThreadTrace {
+    /// The same trace.
+    fn copy(&self, alloc: Global) -> Result<ThreadTrace, AllocError>
+        ensures { IfOk result (λ other. other ≡ self.now) }
+    {
+        let given = Vec::from_slice(alloc, self.given.as_slice())?;
+        let accesses = Vec::from_slice(alloc, self.accesses.as_slice())?;
+        Ok(ThreadTrace {
+            given: Items::of(given),
+            accesses: Items::of(accesses),
+            last: self.last,
+            next: self.next,
+        })
+    }
+}
+
 /// A thread's trace, and in rows the program order of each union between its accesses, by their
 /// indices; and the bits of what it writes.
 #[derive(Drop)]
@@ -128,6 +144,24 @@ impl SharedTrace {
     {
         Ok(SharedTrace {
             ordered: Arc::try_clone(&self.ordered)?,
+        })
+    }
+
+    /// An equal trace that shares nothing with this one: threads that count the uses of one trace wait for each other.
+    pub fn apart(&self, alloc: Global) -> Result<SharedTrace, AllocError>
+        ensures { IfOk result (λ other. other ≡ self.now) }
+    {
+        let ordered = &self.ordered;
+        let trace = ordered.trace.copy(alloc)?;
+        let own = OrderedTrace {
+            trace,
+            written: ordered.written,
+            sequential: ordered.sequential,
+            location: ordered.location,
+            global: ordered.global,
+        };
+        Ok(SharedTrace {
+            ordered: Arc::new(alloc, own)?,
         })
     }
 
