@@ -92,18 +92,3 @@ pub(crate) fn size_of(alloc: Global, tree: &ValueTree) -> Result<TraceSize, Allo
         ValueTree::Full(_) => Ok(TraceSize::of_one(alloc)),
     }
 }
-
-/// The same sizes.
-#[cycle(same_sizes)]
-pub(crate) fn same_sizes(alloc: Global, sizes: &[TraceSize]) -> Result<Vec<TraceSize>, AllocError> {
-    let mut copies = Vec::with_capacity(alloc, sizes.len())?;
-    for size in sizes {
-        copies.push(TraceSize {
-            nodes: size.nodes,
-            traces: size.traces,
-            values: Vec::from_slice(alloc, &size.values)?,
-            after: same_sizes(alloc, &size.after)?,
-        })?;
-    }
-    Ok(copies)
-}

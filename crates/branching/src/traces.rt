@@ -5,16 +5,17 @@ ghost use Rattle.branching.specs.Traces.{traces, trace_trees, root, IsValueTree,
 
 use crate::tally::Tally;
 use cover_judge::{Choice, sketch_with, value_choices};
-use sketches::Sketch;
+use sketches::{CompactSketch, Sketch};
 use std::alloc::{AllocError, Global};
 
-/// What a thread does from some given values on. The sketches have values for this thread alone.
+/// What a thread does from some given values on. The sketches have values for this thread alone; each node keeps one, so they are
+/// compact.
 #[derive(Drop)]
 pub enum ValueTree {
     /// The thread has a next read: these choices give it its values, and these trees follow them. The
     /// sketch is kept for the proof alone.
     Read {
-        sketch: Sketch,
+        sketch: CompactSketch,
         choices: Vec<Choice>,
         after: Vec<ValueTree>,
     },
@@ -25,7 +26,7 @@ pub enum ValueTree {
 /// A thread each of whose reads has its value, with what it reads and writes.
 #[derive(Drop)]
 pub struct FullTrace {
-    pub sketch: Sketch,
+    pub sketch: CompactSketch,
     pub tally: Tally,
 }
 
@@ -40,7 +41,7 @@ pub(crate) fn value_tree(alloc: Global, sketch: &Sketch, t: u8) -> Result<ValueT
         Some(choices) => {
             let after = trees_after(alloc, sketch, t, &choices)?;
             Ok(ValueTree::Read {
-                sketch: sketch.copy()?,
+                sketch: sketch.compact()?,
                 choices,
                 after,
             })
@@ -76,7 +77,7 @@ fn full_trace(alloc: Global, sketch: &Sketch, t: u8) -> Result<FullTrace, AllocE
     ensures sketch { IfOk result (λ trace. trace.sketch ≡ sketch.now) }
 {
     Ok(FullTrace {
-        sketch: sketch.copy()?,
+        sketch: sketch.compact()?,
         tally: Tally::of_thread(alloc, sketch, t)?,
     })
 }

@@ -1,13 +1,8 @@
 -- Parts of a search while choices are made, and what is found for them.
-use Rattle.outcome_search.proofs.Vocabulary.{◌≡◌, ◌<◌, Bool, true, false, ℕ, suc, refl, given_to, List, [], ◌∷◌, ◌++◌, Option, Some, None, get_or, take, drop, length, arith, sym, ap, ◌∙◌, subst, All, MatchOption, if◌then◌else◌, append-nil, take_all, drop_all}
+use Rattle.outcome_search.proofs.Vocabulary.{◌≡◌, Bool, true, false, ℕ, suc, List, [], ◌∷◌, ◌++◌, Option, Some, None, get_or, take, drop, length, arith, sym, ap, ◌∙◌, subst, All, MatchOption, if◌then◌else◌, append-nil, take_all, drop_all}
 use Rattle.outcome_search.proofs.Vocabulary.{All-append, All-nil, All-push, flat_map, flat_map-append, Mode, IsWhole, Shown, ProgramSketch, mode_in, with_chosen, Choice, sketch_with, KnownOutcomes, PartCover, SearchPart, after}
 use Rattle.outcome_search.proofs.Vocabulary.{LastThread, Plan, IsOfOther, IsLast, IsPartOf, IsPlanned, IsMadeAt, IsCoverFor, AreCoversFor, AreOwnParts, AreFoundIn, IsFoundIn, first_sketch, MayChoose}
 use Rattle.outcome_search.proofs.Vocabulary.{MayChooseAll, sequential, Listing, before_next}
-use Rattle.std.proofs.lemmas.Option.{IfSome_then}
-use Rattle.std.specs.FinSet as set
-use Rattle.tso_machine.specs.declared.mode.Mode.TheVariants as modes
-use Rattle.branching.specs.{Combinations.AreAlike, Plans.IsBeforeLast, declared.plan.ThreadTraces.ThreadTraces}
-use Rattle.sketch_covers.proofs.CombinedCovers.{before_first}
 use Rattle.sketch_covers.specs.{declared.outcome_index.OutcomeIndex.OutcomeIndex, declared.known_outcomes.KnownOutcomes.TheVariants.Open}
 use Rattle.partial_covers.proofs.{PartialRows.after_more, ChoicesMade.after_sequential, ChoicesMade.may_more, ChoicesMade.same_program}
 
@@ -20,34 +15,6 @@ module _ (root : ProgramSketch) (last : LastThread) (part new : SearchPart) (is 
         (may_more (sequential root) part.path.items c is.may (subst (λ (k : ProgramSketch). MayChoose k c) (sym (after_sequential root part.path.items ∙ ap sequential is.leads)) one));
     before = before_next part.sketch new.sketch last c other sketch is.before;
   }
-
--- what a plan says that is worked out once more, of the sketch with which the search begins, it says of a part too
-module _ (p : Listing) (last own : LastThread) (is : IsLast (first_sketch p) last) (other : IsLast (first_sketch p) own) (same : own.thread ≡ last.thread) where
-  before_apart : (n : ProgramSketch) → IsBeforeLast n last → IsBeforeLast n own
-  before_apart n before =
-      let first = before_first p (modes.Fenced set.empty) (first_sketch p) own refl other in
-      let alike : AreAlike (first_sketch p) n = record { program = ap (λ (k : ProgramSketch). k.program) (sym is.root_is) ∙ before.alike.program; mode = ap (λ (k : ProgramSketch). k.mode) (sym is.root_is) ∙ before.alike.mode } in
-      record {
-        alone = before.alone;
-        none = ap (given_to n.chosen) same ∙ before.none;
-        there = subst (λ (t : ℕ). t < length n.program.threads) (sym same) before.there;
-        tree = first.tree;
-        alike = record { program = first.alike.program ∙ alike.program; mode = first.alike.mode ∙ alike.mode };
-        start = first.start;
-        before = IfSome_then own.before first.before (λ (x : ThreadTraces) are. record {
-          there = subst (λ (l : Listing). x.thread < length l.threads) alike.program are.there;
-          tree = are.tree;
-          alike = record { program = are.alike.program ∙ alike.program; mode = are.alike.mode ∙ alike.mode };
-          start = are.start;
-        });
-      }
-
-  pub own_parts : (parts : List SearchPart) → AreOwnParts p last parts → AreOwnParts p own parts
-  own_parts parts are i d h = record { leads = (are i d h).leads; may = (are i d h).may; before = before_apart (get_or parts i d).sketch (are i d h).before }
-
--- the plan of a search that is cut is of the sketch with which it begins
-pub plan_cut : (p : Listing) (s : ProgramSketch) (plan : Option Plan) (one : Plan) (parts : List SearchPart) → s ≡ first_sketch p → plan ≡ Some one → IsPlanned s plan parts → IsLast (first_sketch p) one.last
-plan_cut p s plan one parts begins is planned = subst (λ (r : ProgramSketch). IsLast r one.last) begins (subst (λ (o : Option Plan). IsPlanned s o parts) is planned).0
 
 -- each part of a search that is cut is as it must be
 pub parts_cut : (p : Listing) (s : ProgramSketch) (plan : Option Plan) (one : Plan) (parts : List SearchPart) → s ≡ first_sketch p → plan ≡ Some one → IsPlanned s plan parts → AreOwnParts p one.last parts

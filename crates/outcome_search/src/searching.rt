@@ -3,8 +3,7 @@ ghost use Rattle.std.specs.Prelude.{◌≡◌, ◌<◌, Contains, IfOk, IfSome};
 ghost use Rattle.std.specs.List.{flat_map};
 ghost use Rattle.sketch_covers.specs.declared.outcome_index.OutcomeIndex.{OutcomeIndex};
 ghost use Rattle.sketch_covers.specs.declared.known_outcomes.KnownOutcomes.TheVariants.{Open};
-ghost use Rattle.branching.specs.Plans.{IsLast};
-ghost use Rattle.outcome_search.specs.SearchParts.{AreFoundIn, AreOwnParts, IsReady, IsCoveredStart, first_sketch};
+ghost use Rattle.outcome_search.specs.SearchParts.{AreFoundIn, AreOwnParts, IsReady, IsCoveredStart};
 
 use crate::cutting::parts_of;
 use crate::part::SearchPart;
@@ -141,7 +140,7 @@ fn queue_of(parts: &[SearchPart]) -> PartQueue<'_>
     }
 }
 
-/// The covers of the parts that are left, found in at most so many threads. All but one of them have a plan of their own.
+/// The covers of the parts that are left, found in at most so many threads.
 fn search_by<R: Threads + Sync, W: Watch + Sync>(
     rt: &R,
     threads: usize,
@@ -151,7 +150,6 @@ fn search_by<R: Threads + Sync, W: Watch + Sync>(
     watch: &W,
 ) -> Result<Vec<PartCover>, AllocError>
     requires threads { 0 < threads }
-    requires plan { IsLast (first_sketch sought.now.program.now) plan.now.last }
     requires parts { AreOwnParts sought.now.program.now plan.now.last queue.now.parts.now }
     ensures { IfOk result (λ covers. AreFoundIn sought.now.program.now sought.now.shown.now sought.now.mode covers.items) }
 {
@@ -159,48 +157,12 @@ fn search_by<R: Threads + Sync, W: Watch + Sync>(
         rt,
         sought.alloc,
         threads,
-        &|thread|
-            requires plan { IsLast (first_sketch sought.now.program.now) plan.now.last }
-            requires parts { AreOwnParts sought.now.program.now plan.now.last queue.now.parts.now }
+        &|_|
+            requires { AreOwnParts sought.now.program.now plan.now.last queue.now.parts.now }
             ensures { AreFoundIn sought.entry.now.program.now sought.entry.now.shown.now sought.entry.now.mode result.items }
-        {
-            if thread == 0 {
-                search_untaken(sought, plan, queue, watch)
-            } else {
-                search_apart(sought, plan, queue, watch)
-            }
-        },
+        { search_untaken(sought, plan, queue, watch) },
     )?;
     joined(sought.alloc, lists)
-}
-
-/// Takes parts until none is left, by a plan of its own. Their covers, but for those for which there is no memory.
-fn search_apart<W: Watch>(
-    sought: &Search,
-    plan: &Plan,
-    queue: &PartQueue,
-    watch: &W,
-) -> Vec<PartCover>
-    requires plan { IsLast (first_sketch sought.now.program.now) plan.now.last }
-    requires parts { AreOwnParts sought.now.program.now plan.now.last queue.now.parts.now }
-    ensures { AreFoundIn sought.now.program.now sought.now.shown.now sought.now.mode result.items }
-{
-    match plan_apart(sought, plan) {
-        Ok(own) => search_untaken(sought, &own, queue, watch),
-        Err(_) => Vec::new(sought.alloc),
-    }
-}
-
-/// The same plan, over a program of its own.
-fn plan_apart(sought: &Search, plan: &Plan) -> Result<Plan, AllocError>
-    requires { IsLast (first_sketch sought.now.program.now) plan.now.last }
-    ensures last { IfOk result (λ own. IsLast (first_sketch sought.now.program.now) own.last) }
-    ensures thread { IfOk result (λ own. own.last.thread ≡ plan.now.last.thread) }
-{
-    let alloc = sought.alloc;
-    let program = sought.program.apart(alloc)?;
-    let first = Sketch::new(alloc, &program, Mode::Fenced(GapSet::empty()))?;
-    plan.apart(alloc, &first)
 }
 
 /// Takes parts until none is left. Their covers, but for those for which there is no memory.

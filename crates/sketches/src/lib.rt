@@ -11,6 +11,7 @@
 #![tactic(auto)]
 
 mod choices;
+mod compact_sketch;
 mod complete;
 mod cycle_search;
 mod edges;
@@ -21,6 +22,7 @@ mod sketch;
 mod thread_values;
 
 pub use candidate_executions::{Access, Event, Kind};
+pub use compact_sketch::CompactSketch;
 pub use known_edges::SketchFault;
 pub use mark::Mark;
 pub use rowless_sketches::{RowlessSketch, ValueMark};

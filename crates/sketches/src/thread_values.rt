@@ -4,14 +4,15 @@ ghost use Rattle.candidate_executions.specs.Sketches.{given_to};
 ghost use Rattle.known_edges.specs.ProgramSketches.{with_chosen};
 ghost use Rattle.rowless_sketches.specs.ThreadValues.{with_values, HasValuesAlone};
 
-use crate::Sketch;
+use crate::{CompactSketch, Sketch};
 use known_edges::copied;
 use std::alloc::AllocError;
 
 impl Sketch {
-    /// This sketch with the values that thread t's reads have in the other one, in place of its own.
-    /// What the thread does under them is shared, and not worked out again.
-    pub fn with_thread(&self, t: u8, other: &Sketch) -> Result<Sketch, AllocError>
+    /// This sketch with the values that thread t's reads have in the other one, in place of its own. What the thread does under them
+    /// is copied, and not worked out again: the other sketch may be one of all threads of a search, which wait for each other where they
+    /// count the uses of one trace.
+    pub fn with_thread(&self, t: u8, other: &CompactSketch) -> Result<Sketch, AllocError>
         requires there { t < length self.now.program.threads }
         requires program { other.now.program ≡ self.now.program }
         requires mode { other.now.mode ≡ self.now.mode }
@@ -19,7 +20,8 @@ impl Sketch {
         ensures { IfOk result (λ sketch. sketch ≡ with_chosen self.now (with_values self.now.chosen t (given_to other.now.chosen t))) }
     {
         let place = t as usize;
-        let thread_trace = other.traces.thread_traces()[place].copy()?;
+        let theirs = other.thread_traces.as_slice();
+        let thread_trace = theirs[place].apart(self.alloc)?;
         let mut thread_traces = copied(self.alloc, self.traces.thread_traces())?;
         thread_traces[place] = thread_trace;
         Sketch::of_traces(self.alloc, &self.program, self.mode, thread_traces)

@@ -1,12 +1,7 @@
 use Rattle.outcome_search.proofs.Vocabulary.{[], Vec, Global, ◌∙◌, sym, subst, Open, PartCover, AreCoversFor, AreOwnParts}
-use Rattle.outcome_search.proofs.SearchParts.{parts_cut, plan_cut, covers_begun, no_covers, planned_last}
+use Rattle.outcome_search.proofs.SearchParts.{parts_cut, covers_begun, no_covers, planned_last}
 use Rattle.outcome_search.proofs.searching.start_by.Goals as goal
 use Rattle.outcome_search.proofs.searching.start_by.Goals.{in-Some+in_ok-covers-in-Some, in-None}
-
-pub search_by-requires-clause-plan : goal.search_by-requires-clause-plan
-search_by-requires-clause-plan g c κs within =
-    let first = c.in_ok-sketch.field-0 in
-    plan_cut c.args.sought.now.program.now first.sketch first.plan c.in-Some.plan first.parts.items c.in_ok-sketch.ensures.sketch c.in-Some.is c.in_ok-sketch.ensures.planned
 
 pub search_by-requires-clause-parts : goal.search_by-requires-clause-parts
 search_by-requires-clause-parts g c κs within =
