@@ -131,7 +131,7 @@ fn cost_message(
     Message::at_word(alloc, source, pieces.cost, source.piece(pieces.cost), said)
 }
 
-/// Why a text is none of costs for the program of a litmus text.
+/// Why a text does not give costs for the program of a litmus text.
 pub fn costs_message(
     alloc: Global,
     source: Source<'_>,

@@ -51,7 +51,7 @@ fn label_message(
     Ok(message)
 }
 
-/// Why a text is none of labels.
+/// Why a text is no list of labels.
 pub fn run_message(
     alloc: Global,
     name: &str,

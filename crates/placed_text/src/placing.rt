@@ -267,6 +267,23 @@ impl PlacedSource {
     }
 }
 
+impl PlacedAnswer {
+    /// The texts of the answer.
+    fn texts(&self, alloc: Global) -> Result<AnswerText, AllocError>
+        requires { first_missing self.now.source.program self.now.set ≡ None }
+        ensures { IfOk result (AreWrittenTexts self.now.source self.now.shown self.now.costs self.now.set self.now.cost) }
+    {
+        write_answer(
+            alloc,
+            &self.source,
+            &self.shown,
+            &self.costs,
+            &self.set,
+            self.cost,
+        )
+    }
+}
+
 /// The texts of the answer in a program. The certificate goes before they are made.
 fn answer_texts(alloc: Global, placed: PlacedSource) -> Result<AnswerText, AllocError>
     requires { first_missing placed.source.program placed.found.placed.set ≡ None }
@@ -274,14 +291,7 @@ fn answer_texts(alloc: Global, placed: PlacedSource) -> Result<AnswerText, Alloc
 {
     let (answer, certificate) = placed.into_answer();
     drop(certificate);
-    write_answer(
-        alloc,
-        &answer.source,
-        &answer.shown,
-        &answer.costs,
-        &answer.set,
-        answer.cost,
-    )
+    answer.texts(alloc)
 }
 
 /// The texts of the answer in a program, and the text of its certificate, which goes as it is written.
@@ -314,14 +324,7 @@ fn written_texts<R: Threads + Sync>(
     ensures certificate { IfOk result (λ written. written.certificate ≡ certificate_text certificate) }
 {
     let certificate = write_pages(rt, alloc, threads, certificate)?;
-    let texts = write_answer(
-        alloc,
-        &answer.source,
-        &answer.shown,
-        &answer.costs,
-        &answer.set,
-        answer.cost,
-    )?;
+    let texts = answer.texts(alloc)?;
     Ok(PlacedText { texts, certificate })
 }
 
