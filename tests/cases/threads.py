@@ -5,6 +5,7 @@ A library that stands before the C library's own calls marks the start of each t
 import resource
 import struct
 import tempfile
+import time
 
 from cases.parts import EXCHANGES, ORDERS, TWO_THREADS
 from harness import MODELS, PreloadedCases, example, run, same, tell
@@ -12,8 +13,9 @@ from harness import MODELS, PreloadedCases, example, run, same, tell
 WORKERS = 3
 # an equal share of three workers' work is two thirds; a machine with other work may give it to them otherwise
 LEAST_SHARE = 0.1
-# how often a call is made at most whose threads got less
-TRIES = 10
+# how often a call is made at most whose threads got less, and the seconds between two calls: some take no more than a few milliseconds
+TRIES = 50
+PAUSE = 0.1
 LONG = (("two threads", TWO_THREADS), ("exchanges", EXCHANGES), ("orders", ORDERS))
 SHORT = ("SB", "MP", "n6", "IRIW", "nothing")
 # how many threads a command may have at a time: the workers of a hunt, and those that search for them
@@ -49,6 +51,7 @@ def shared(library, words, given):
         found, most, share = marked(library, [*words, "--workers", str(WORKERS)], given)
         if share >= LEAST_SHARE:
             break
+        time.sleep(PAUSE)
     return found, most, share
 
 
