@@ -15,7 +15,7 @@ use thiserror::Error;
 /// The most that a gap may cost.
 pub const MAX_COST: u32 = 1_000_000;
 
-/// Why a list of numbers is no list of costs, by number and name, with the gap.
+/// Why a list of numbers is no list of costs.
 #[derive(Clone, Copy, Debug, Error)]
 pub enum CostFault {
     /// The gap of this number, from 0, costs nothing.

@@ -10,8 +10,8 @@ use std::alloc::AllocError;
 
 impl Sketch {
     /// This sketch with the values that thread t's reads have in the other one, in place of its own. What the thread does under them
-    /// is copied, and not worked out again: the other sketch may be one of all threads of a search, which wait for each other where they
-    /// count the uses of one trace.
+    /// is copied, neither worked out again nor shared: all threads of a search may have the other sketch in common, and would wait for
+    /// each other where they count the uses of one trace.
     pub fn with_thread(&self, t: u8, other: &CompactSketch) -> Result<Sketch, AllocError>
         requires there { t < length self.now.program.threads }
         requires program { other.now.program ≡ self.now.program }

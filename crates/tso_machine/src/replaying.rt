@@ -27,7 +27,7 @@ pub struct Ended {
     pub passed: GapSet,
 }
 
-/// Why labels aren't a run, by number and name. Steps are counted from 0.
+/// Why a list of labels is no run. Steps are counted from 0.
 #[derive(Clone, Copy, Debug, Error)]
 pub enum ReplayFault {
     /// The step with this index, from 0, is of a thread that the program hasn't.
