@@ -1,8 +1,8 @@
-use Rattle.cover_judge.proofs.Vocabulary.{◌↔◌, ◌≡◌, Some, Contains, sym, ap, ◌∙◌, map, subst, Event, IsSourceOf, IsWhole, mode_in, event_of, IsRead}
+use Rattle.branching.proofs.Vocabulary.{◌↔◌, ◌≡◌, Some, Contains, sym, ap, ◌∙◌, map, subst, Event, IsSourceOf, IsWhole, mode_in, event_of, IsRead}
 use Rattle.candidate_executions.proofs.Orders.Lists.{some_value}
-use Rattle.cover_judge.specs.declared.choice.Choice.TheVariants as choice
+use Rattle.tree_laws.specs.declared.choice.Choice.TheVariants as choice
 use Rattle.cover_judge.proofs.ChoicesJudged.{sources_are, sources_may, no_source}
-use Rattle.cover_judge.proofs.choice.source_choices.Goals as goal
+use Rattle.branching.proofs.choice.source_choices.Goals as goal
 
 pub returns-then-is_some-clause-sources : goal.returns-then-is_some-clause-sources
 returns-then-is_some-clause-sources c open_read =

@@ -1,31 +1,13 @@
-//! What branches in a sketch.
-ghost use Rattle.std.specs.Prelude.{◌≡◌, IfOk, OnOk, OnErr, IfSome, MatchOption, map};
-ghost use Rattle.sketches.specs.ProgramSketches.{with_chosen};
-ghost use Rattle.tree_laws.specs.CoverTrees as trees;
-ghost use Rattle.cover_judge.specs.Choices.{sketch_with, MayChoose, MayChooseEach, IsValueOpen, IsSourceOpen, AreValueChoices, AreSourceChoices};
+//! Choices made in a sketch, and those that there are.
+ghost use Rattle.std.specs.Prelude.{◌≡◌, IfOk, OnOk, OnErr, IfSome, MatchOption};
+ghost use Rattle.program_sketches.specs.ProgramSketches.{with_chosen};
+ghost use Rattle.tree_laws.specs.CoverTrees.{sketch_with};
+ghost use Rattle.cover_judge.specs.Choices.{MayChoose, MayChooseEach, IsValueOpen, IsSourceOpen, AreValueChoices, AreSourceChoices};
 
-use candidate_executions::Event;
-use cert_forest::AccessId;
+use cert_trees::AccessId;
+use cover_judge::{Choice, each_source, each_value, event_of};
 use sketches::{Sketch, SketchFault};
 use std::alloc::{AllocError, Global};
-
-/// A choice in a sketch.
-#[derive(Clone, Copy)]
-pub enum Choice {
-    /// The next read of a thread takes a value.
-    Value(u8, u32),
-    /// A read takes a source.
-    Source(AccessId, Event),
-    /// The first write comes before the second.
-    Order(AccessId, AccessId),
-}
-
-/// The access as an event.
-pub fn event_of(access: AccessId) -> Event
-    ensures { result ≡ trees.event_of access }
-{
-    Event::Access(access.thread, access.access)
-}
 
 /// The sketch with one more choice.
 pub fn sketch_with(sketch: &Sketch, choice: Choice) -> Result<Sketch, AllocError>
@@ -70,15 +52,6 @@ pub fn value_choices(
     Ok(Some(each_value(alloc, t, &values)?))
 }
 
-fn each_value(alloc: Global, t: u8, values: &[u32]) -> Result<Vec<Choice>, AllocError>
-    ensures { IfOk result (λ choices. choices.items ≡ map (Choice.Value t) values.now) }
-{
-    values
-        .iter()
-        .map(|value| Choice::Value(t, *value))
-        .collect(alloc)
-}
-
 /// The sources of a read that has none yet: the initial write first, then by thread and access. `None` if
 /// the access is no read without a source, or if some read has no value yet.
 pub fn source_choices(
@@ -97,13 +70,4 @@ pub fn source_choices(
         Err(SketchFault::OutOfMemory) => Err(AllocError),
         Err(_) => Ok(None),
     }
-}
-
-fn each_source(alloc: Global, read: AccessId, sources: &[Event]) -> Result<Vec<Choice>, AllocError>
-    ensures { IfOk result (λ choices. choices.items ≡ map (Choice.Source read) sources.now) }
-{
-    sources
-        .iter()
-        .map(|source| Choice::Source(read, *source))
-        .collect(alloc)
 }

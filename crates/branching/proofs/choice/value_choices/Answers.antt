@@ -1,7 +1,7 @@
-use Rattle.cover_judge.proofs.Vocabulary.{sym, ap, ◌∙◌, map}
-use Rattle.cover_judge.specs.declared.choice.Choice.TheVariants as choice
+use Rattle.branching.proofs.Vocabulary.{sym, ap, ◌∙◌, map}
+use Rattle.tree_laws.specs.declared.choice.Choice.TheVariants as choice
 use Rattle.cover_judge.proofs.ChoicesJudged.{values_may}
-use Rattle.cover_judge.proofs.choice.value_choices.Goals as goal
+use Rattle.branching.proofs.choice.value_choices.Goals as goal
 
 pub returns-clause-values : goal.returns-clause-values
 returns-clause-values c = record {

@@ -1,5 +1,6 @@
-use Rattle.cover_judge.proofs.Vocabulary.{sym, ◌∙◌, subst, same_Some, IsValueOf, MayChoose}
-use Rattle.cover_judge.proofs.choice.choose.Goals as goal
+use Rattle.branching.proofs.Vocabulary.{sym, ◌∙◌, subst, same_Some, MayChoose}
+use Rattle.candidate_executions.specs.Values.{IsValueOf}
+use Rattle.branching.proofs.choice.choose.Goals as goal
 
 pub give_value-chosen-requires-clause-value : goal.give_value-chosen-requires-clause-value
 give_value-chosen-requires-clause-value c =
