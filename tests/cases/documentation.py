@@ -1,9 +1,11 @@
 """Documentation: what a reader of the documents does first, the commands that they show, the inputs that get a refusal, and what is made of the sources.
 
-The scripts in docs/ make the map of the crates with their table, the drawings, and the table of promises. The drawings are made of texts. Where such a text
-says `of: LITMUS WHAT`, it has a line of the certificate that `fencer place` makes, or a run of `fencer why`.
+The scripts in docs/ make the map of the crates with their table, the drawings, and the links between documents; one compares the page of promises with the
+contracts. The drawings are made of texts. Where such a text says `of: LITMUS WHAT`, it has a line of the certificate that `fencer place` makes, or a run of
+`fencer why`.
 """
 import fnmatch
+import functools
 import glob
 import os
 import re
@@ -14,11 +16,25 @@ import tempfile
 from harness import EXAMPLES, PROGRAMS, TOP, Cases, bytes_of, in_data, run, same, tell, write
 
 PRINTED = ("answer ", "accepted ", "refused ", "outcome: ", "outcomes ", "passed", "without ", "run ", "Every ", "No ", "observation ", "condition ", "usage: ", "error: ")
-MAKERS = ("make-map", "make-drawings", "make-promises")
+MAKERS = ("make-map", "make-drawings", "make-links")
+# claims that the page of promises does not make, each in place of one that it makes, and what is said of it
+FALSE_CLAIMS = (
+    ("`Costs::new` (`value`, `refused`)", "`Costs::new` (`value`, `never_refused`)", "gap_sets: Costs::new has no clause never_refused"),
+    ("`Costs::total` (`value`)", "`Costs::sum` (`value`)", "gap_sets: no contract of Costs::sum"),
+    ("Each call of `GapSet`", "Each call of `GapList`", "gap_sets: no GapList"),
+    ("- `gap_sets`: ", "- `gap_lists`: ", "gap_sets: it has no entry"),
+    ("| `gap_sets` | `GapSet::has`", "| `gap_list` | `GapSet::has`", "gap_sets: no row names its contracts"),
+)
+# what the checker does without: what says so of each, and the line of code that begins it
+APART = (
+    ("rows of bits", "pub struct Relation"), ("a search for cycles", "pub fn find_cycle"), ("a writer of canonical texts", "pub fn write_litmus"),
+    ("choices of what comes next", "pub fn next_branch"), ("a maker of runs", "pub fn make_run"), ("an oracle", "pub trait Oracle"),
+)
 MOST_WORDS = 120
 MOST_WORDS_OF_A_CRATE = 60
-# a file or a folder in a document's text: from the top, or any file of these kinds
+# in a document's text: a file or a folder from the top, a name in a file, any file of these kinds
 FROM_TOP = re.compile(r"`(?:\./)?((?:tests|bench|docs|examples|crates|\.ci)/[\w./-]+)[ `]")
+IN_FILE = re.compile(r"`((?:\w+::)*\w+)` (?:in |\()`([\w/]+/[\w.]+\.(?:rt|antt|py))`")
 OF_A_KIND = re.compile(r"`([\w+-][\w.+-]*(?:/[\w.+-]+)+\.(?:rt|antt|py|tsv|md|txt|js|litmus|cert|svg))`")
 
 
@@ -77,10 +93,37 @@ def lost_files(path):
     return sorted(elsewhere | {it for it in from_top if not os.path.exists(os.path.join(TOP, it))})
 
 
+@functools.cache
+def words_of(crate):
+    """The words of a crate's code and definitions."""
+    paths = [path for folder in ("src", "specs") for path in glob.glob(os.path.join(crate, folder, "**"), recursive=True) if os.path.isfile(path)]
+    return {word for path in paths for word in re.findall(r"\w+", bytes_of(path).decode())}
+
+
+def has_name(document, file, name):
+    """Whether the file of this name, at the top, under `crates` or beside the document, has each word of the name. A file that is elsewhere is not looked at."""
+    places = [os.path.join(folder, file) for folder in (TOP, os.path.join(TOP, "crates"), os.path.dirname(document))]
+    found = next((place for place in places if os.path.isfile(place)), None)
+    return found is None or set(name.split("::")) <= set(re.findall(r"\w+", bytes_of(found).decode()))
+
+
 def long_paragraphs(path):
     """How the paragraphs, entries and cells of a document begin that have too many words."""
     texts = re.split(r"\n(?=\n|\||\s*(?:-|\d+\.) )|(?<=[^|]) \| ", bytes_of(path).decode())
     return [text.strip()[:60] for text in texts if len(text.split()) > MOST_WORDS and not text.strip("\n").startswith("    ")]
+
+
+def lost_at_ends(text):
+    """The files at the ends of a document's entries and of its rows that are not there. A name alone is in the folder of the one before."""
+    ends = re.findall(r"\(((?:`[\w./-]+`(?:, | in )?)+)\)$", text, re.M) + re.findall(r"^\|.*\| ((?:`[\w./-]+`(?:, )?)+) \|$", text, re.M)
+    for end in ends:
+        folder = TOP
+        for file in re.findall(r"`([\w-]*[./][\w./-]*)`", end):
+            places = [os.path.join(it, file) for it in (TOP, os.path.join(TOP, "crates"), folder)]
+            found = next((it for it in places if os.path.exists(it)), None)
+            if found is None:
+                yield file
+            folder = os.path.dirname(found or TOP)
 
 
 def lost_names(root):
@@ -122,10 +165,39 @@ class Sources(Cases):
     needs_programs = False
 
     def test_made(self):
-        """What the makers in docs/ make is committed: the map, the drawings, the table of promises."""
+        """What the makers in docs/ make is committed: the map, the drawings, the links between documents."""
         for maker in MAKERS:
             ran = subprocess.run([os.path.join(TOP, "docs", maker), "--check"], capture_output=True, text=True, timeout=120)
             tell(f"what docs/{maker} makes is committed", ran.returncode == 0, ran.stdout + ran.stderr)
+
+    def test_promises(self):
+        """docs/promises.md names no function and no clause that its crate lacks, and each crate; a page that does is found."""
+        page, script = (os.path.join(TOP, "docs", it) for it in ("promises.md", "make-promises"))
+        ran = subprocess.run([script, "--check"], capture_output=True, text=True, timeout=120)
+        same("what docs/promises.md names is there", (ran.returncode, ran.stdout, ran.stderr), (0, "", ""))
+        text = bytes_of(page).decode()
+        for claim, other, said in FALSE_CLAIMS:
+            with tempfile.NamedTemporaryFile(suffix=".md") as changed:
+                write(changed.name, text.replace(claim, other).encode())
+                ran = subprocess.run([script, "--check", changed.name], capture_output=True, text=True, timeout=120)
+            found = text.count(claim) == 1 and ran.returncode == 1 and f"{changed.name}, {said}" in ran.stdout.splitlines()
+            tell(f"a page with {other} is found", found, (ran.returncode, ran.stdout, ran.stderr), said)
+
+    def test_toolchain(self):
+        """README.md alone names the releases of the toolchain with which the gate has passed."""
+        naming = [os.path.relpath(path, TOP) for path in all_documents() if "rattle-kit" in bytes_of(path).decode()]
+        same("the documents that name the toolchain's releases", naming, ["README.md"])
+
+    def test_checker(self):
+        """fencecheck is built over nothing that searches, and over nothing that writes a litmus text, as README.md says."""
+        ran = subprocess.run([os.path.join(TOP, "docs", "make-map"), "--below", "fencecheck"], capture_output=True, text=True, timeout=120)
+        paths = [path for crate in ran.stdout.split() for path in glob.glob(os.path.join(TOP, "crates", crate, "src", "**", "*.rt"), recursive=True)]
+        tell("the crates below fencecheck are found", ran.returncode == 0 and len(paths) > 50, ran.stdout + ran.stderr)
+        everywhere = glob.glob(os.path.join(TOP, "crates", "*", "src", "**", "*.rt"), recursive=True)
+        for what, code in APART:
+            begun = [path for path in everywhere if re.search(rf"^ *{code}\b", bytes_of(path).decode(), re.M)]
+            found = [os.path.relpath(path, TOP) for path in begun if path in paths]
+            tell(f"fencecheck is built over no {what.removeprefix('a ').removeprefix('an ')}", begun and not found, found or "it is nowhere")
 
     def test_definitions(self):
         """docs/trust.md counts the definitions as docs/list-definitions does."""
@@ -155,6 +227,31 @@ class Sources(Cases):
         for path in all_documents():
             lost = lost_files(path)
             tell(f"the files that {os.path.relpath(path, TOP)} names are there", not lost, lost)
+
+    def test_decisions(self):
+        """Each entry of docs/DECISIONS.md ends with files that are there."""
+        lost = list(lost_at_ends(bytes_of(os.path.join(TOP, "docs", "DECISIONS.md")).decode()))
+        tell("the files at the ends of docs/DECISIONS.md are there", not lost, lost)
+
+    def test_surface(self):
+        """Each call of the public surface, in the table of docs/DECISIONS.md, is in the crate of its row, or in the crate where the row says that it stands."""
+        table = bytes_of(os.path.join(TOP, "docs", "DECISIONS.md")).decode().partition("| Crate | Call | Stands in |")[2].partition("\n\n")[0]
+        crate = ""
+        for named, calls, stands_in in re.findall(r"^\| (?:`(\w+)` )?\| (`.*) \| (?:`(\w+)` )?\|$", table, re.M):
+            crate = named or crate
+            names = {name for pair in re.findall(r"(\w+)\(|`(\w+)`", calls) for name in pair if name}
+            lost = sorted(name for name in names if name not in words_of(os.path.join(TOP, "crates", stands_in or crate)))
+            tell(f"{calls[:40]} .. of {crate} is there", not lost, lost)
+
+    def test_names(self):
+        """The names that a document gives with their crate or their file, as `fence_laws::all_gaps_serve` or `lex` in `text_tokens/src/lexer.rt`, are there."""
+        crates = {os.path.basename(path): path for path in glob.glob(os.path.join(TOP, "crates", "*"))}
+        for path in all_documents():
+            text = bytes_of(path).decode()
+            named = {tuple(it.split("::")) for it in re.findall(r"`(\w+(?:::\w+)+)`", text)}
+            lost = ["::".join(it) for it in sorted(named) if it[0] in crates and not set(it[1:]) <= words_of(crates[it[0]])]
+            lost += [f"{name} in {file}" for name, file in IN_FILE.findall(text) if not has_name(path, file, name)]
+            tell(f"the names of code in {os.path.relpath(path, TOP)} are there", not lost, lost)
 
     def test_heads(self):
         """The names with which the head of a crate says to begin are there."""

@@ -76,7 +76,8 @@ def refused(words, files, line):
             write(os.path.join(folder, name), text)
         given = files["SB.litmus"] + (b"" if len(words) > 1 else files["SB.cert"])
         status, printed, said = outputs(words, folder, given)
-        name = f"the message of {' '.join(words)}: {line[:80]}"
+        spelled = " ".join(words).encode("unicode_escape").decode()
+        name = f"the message of {spelled}: {line[:80]}"
         begun = b'{"format":' if "--json" in words else b"refused "
         right = status == 1 and printed.startswith(begun) and printed.count(b"\n") == 1
         tell(name, right and said == line.encode() + b"\n", f"{said!r} with {status} {printed!r}", repr(line))
@@ -103,8 +104,9 @@ class Messages(Cases):
         for words, name, old, new, line in lines("messages.tsv"):
             files = example_texts()
             if name:
+                name = text_of(name).decode()
                 files[name] = changed(files.get(name, b""), text_of(old), text_of(new))
-            refused(words.split(" "), files, text_of(line).decode())
+            refused(text_of(words).decode().split(" "), files, text_of(line).decode())
 
     def test_limits(self):
         """Texts that are past a limit, and words that are too long to be shown."""

@@ -274,7 +274,7 @@ class Scripts(Cases):
             for tool in ("bash", "env", "dirname", "realpath", "sed", "find"):
                 os.symlink(shutil.which(tool), os.path.join(tools, tool))
             missing = (
-                ": rt is not on the path; it compiles and proves the programs. Install the toolchain rattle-kit-13f and add its folder bin to PATH."
+                ": rt is not on the path; it compiles and proves the programs. Install the toolchain that README.md names and add its folder bin to PATH."
                 " It is not published with this repository; without it you need a package that someone with it made by ./package\n"
             )
             for name, *words in (("fencer", "--help"), ("fencecheck", "--help"), ("build",)):

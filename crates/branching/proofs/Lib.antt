@@ -1,5 +1,6 @@
 -- what many proofs speak of
 mod Vocabulary
+pub mod AfterChoices
 pub mod NothingLeft
 pub mod TakenIn
 pub mod OneMoreChoice

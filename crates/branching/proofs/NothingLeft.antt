@@ -4,8 +4,8 @@ use Rattle.branching.proofs.Vocabulary.{ProgramSketch, mode_in, trace_in, access
 use Rattle.branching.proofs.Vocabulary.{other_way, turned, same_default, IsComplete, HasItsSource, IsOrderedWith, read_there, first_there, second_there, IsReadValue, IsWrittenValue, NamesWrite, AreAccessesOf, HasEachSource, AreWritesInOrder, IsEachInOrder}
 use Rattle.tso_program.specs.declared.listing.Thread.{Thread}
 use Rattle.cover_judge.specs.Sketches as sketches
-use Rattle.cover_judge.specs.declared.choice.Choice.TheVariants as choice
-use Rattle.sketches.proofs.TracesKept.{no_action}
+use Rattle.tree_laws.specs.declared.choice.Choice.TheVariants as choice
+use Rattle.thread_traces.proofs.TracesKept.{no_action}
 use Rattle.branching.proofs.AccessesNamed.{id_of}
 
 -- two writes of a list are in order, whatever stands for those past its end

@@ -1,9 +1,9 @@
 -- How many steps a search has left: a choice is one more of those that a sketch can have.
 use Rattle.branching.proofs.Vocabulary.{◌≡◌, ℕ, ◌+◌, ◌-◌, ◌*◌, ◌<◌, ◌≤◌, ap, ◌∙◌, arith, ProgramSketch, mode_in, with_chosen, event_of, Choice, sketch_with, MayChoose, choice_count, most_choices}
 use Rattle.cover_judge.proofs.GivenValues.{reads_there}
-use Rattle.sketches.specs.Kept.{IsLawful}
+use Rattle.program_sketches.specs.Kept.{IsLawful}
 use Rattle.branching.proofs.OneMoreChoice.{value_counted, source_counted, pair_counted}
-use Rattle.cover_judge.specs.declared.choice.Choice.TheVariants as choice
+use Rattle.tree_laws.specs.declared.choice.Choice.TheVariants as choice
 
 -- a choice is one more
 pub counted_after : (s : ProgramSketch) (c : Choice) → IsLawful s → MayChoose s c → choice_count (with_chosen s (sketch_with s.chosen c)) ≡ choice_count s + 1

@@ -3,7 +3,7 @@ use Rattle.branching.proofs.Vocabulary.{◌≡◌, ◌⊎◌, ℕ, List, [], ◌
 use Rattle.branching.proofs.Vocabulary.{WrittenValue, WholeAccesses, IsReadValue, NamesRead, IsWrittenValue, IsWrite, NamesWrite, IsItself, TakesIn}
 use Rattle.std.proofs.lemmas.List.Elements.{All-push, Contains-append_left, Contains-push}
 use Rattle.cover_judge.specs.Access.{Access}
-use Rattle.sketches.proofs.Accesses.{none_past}
+use Rattle.program_sketches.proofs.Traced.{none_past}
 
 -- what an access reads is taken in, and the writes stay the same
 pub record TakesRead (s : ProgramSketch) (a : AccessId) (old new : WholeAccesses) : Type 0 where

@@ -1,6 +1,6 @@
 -- Tallies, thread by thread.
 use Rattle.branching.proofs.Vocabulary.{◌≡◌, ◌⊎◌, ℕ, ◌%◌, List, [], Contains, sym, subst, inl, inr, ROW_BITS, At, Writes, ProgramSketch, access_in, ReadValue, IsTallyOf, IsTalliedRead, TakesThread, IsOldOrOf}
-use Rattle.sketches.proofs.Lawful.{none_in}
+use Rattle.program_sketches.proofs.Lawful.{none_in}
 use Rattle.branching.specs.declared.tally.Tally.{Tally}
 
 -- of no thread

@@ -4,8 +4,8 @@ use Rattle.cover_judge.specs.Access.{Access}
 use Rattle.cover_judge.specs.Event.{Event, TheVariants.Initial, TheVariants.Access as At}
 use Rattle.cover_judge.specs.Candidates.{Writes}
 use Rattle.cover_judge.specs.Sketches.{IsWhole}
-use Rattle.sketches.specs.ProgramSketches.{ProgramSketch, mode_in, access_in}
-use Rattle.sketches.specs.Choices.{IsRead}
+use Rattle.program_sketches.specs.ProgramSketches.{ProgramSketch, mode_in, access_in}
+use Rattle.program_sketches.specs.Choices.{IsRead}
 use Rattle.cert_trees.specs.declared.tree.AccessId.{AccessId}
 use Rattle.cover_judge.specs.CoverTrees.{event_of}
 use Rattle.branching.specs.declared.reads_writes.ReadValue.{ReadValue}

@@ -1,7 +1,7 @@
 -- What it says of a sketch that nothing is left to be chosen.
 use Rattle.std.specs.Prelude.{ℕ, ◌<◌, List, Contains, length, slice_index_or}
 use Rattle.std.specs.List.{AllPairs}
-use Rattle.sketches.specs.ProgramSketches.{ProgramSketch}
+use Rattle.program_sketches.specs.ProgramSketches.{ProgramSketch}
 use Rattle.sketches.specs.Complete.{HasItsSource, IsOrderedWith}
 use Rattle.cover_judge.specs.CoverTrees.{event_of}
 use Rattle.branching.specs.declared.reads_writes.ReadValue.{ReadValue}

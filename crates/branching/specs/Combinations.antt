@@ -1,8 +1,8 @@
 -- Sketches in which one thread takes its values from another sketch.
 use Rattle.std.specs.Prelude.{◌≡◌, ◌≢◌, ◌<◌, ℕ, length}
 use Rattle.cover_judge.specs.Sketches.{given_to}
-use Rattle.sketches.specs.ProgramSketches.{ProgramSketch, with_chosen}
-use Rattle.sketches.specs.ThreadValues.{with_values, HasValuesAlone}
+use Rattle.program_sketches.specs.ProgramSketches.{ProgramSketch, with_chosen}
+use Rattle.rowless_sketches.specs.ThreadValues.{with_values, HasValuesAlone}
 use Rattle.cover_judge.specs.Choices.{IsValueOpen}
 use Rattle.branching.specs.declared.tally.Tally.{Tally}
 use Rattle.branching.specs.declared.traces.FullTrace.{FullTrace}

@@ -1,15 +1,12 @@
--- What is left to be chosen in a sketch, and the choices that there are.
-use Rattle.std.specs.Prelude.{◌≡◌, List, [], ◌∷◌}
+-- What is left to be chosen in a sketch.
 use Rattle.cover_judge.specs.Event.{Event}
 use Rattle.cover_judge.specs.Sketches.{IsPair}
-use Rattle.sketches.specs.ProgramSketches.{ProgramSketch, mode_in}
-use Rattle.sketches.specs.Choices.{IsRead, HasSource, IsOrdered, MayFollow}
+use Rattle.program_sketches.specs.ProgramSketches.{ProgramSketch, mode_in}
+use Rattle.program_sketches.specs.Choices.{IsRead, HasSource, IsOrdered, MayFollow}
 use Rattle.cover_judge.specs.CoverTrees.{event_of}
-use Rattle.cover_judge.specs.declared.choice.Choice.{Choice}
-use Rattle.cover_judge.specs.declared.choice.Choice.TheVariants as choice
-use Rattle.cover_judge.specs.Choices.{IsValueOpen, IsSourceOpen, AreValueChoices, AreSourceChoices, MayChooseEach}
+use Rattle.cover_judge.specs.Choices.{IsValueOpen, IsSourceOpen, AreChoicesOf, MayChooseEach}
 use Rattle.branching.specs.declared.branch.Branch.{Branch}
-use Rattle.branching.specs.declared.open_choice.OpenChoice.{OpenChoice, TheVariants.Value, TheVariants.Source, TheVariants.Order}
+use Rattle.tree_laws.specs.declared.choice.OpenChoice.{OpenChoice, TheVariants.Value, TheVariants.Source, TheVariants.Order}
 
 -- the event is a read that has no source
 pub record NeedsSource (s : ProgramSketch) (e : Event) : Type 0 where
@@ -26,12 +23,6 @@ abbrev pub IsOpen : ProgramSketch → OpenChoice → Type 0
 IsOpen s (Value t) = IsValueOpen s t
 IsOpen s (Source read) = IsSourceOpen s read
 IsOpen s (Order first second) = MayFollow s (event_of first) (event_of second)
-
--- these are the choices: each value, each source, or both orders
-abbrev pub AreChoicesOf : ProgramSketch → OpenChoice → List Choice → Type 0
-AreChoicesOf s (Value t) choices = AreValueChoices s t choices
-AreChoicesOf s (Source read) choices = AreSourceChoices s read choices
-AreChoicesOf s (Order first second) choices = choices ≡ choice.Order first second ∷ choice.Order second first ∷ []
 
 -- it is left to be chosen, these are its choices, and each of them may be made
 pub record IsBranch (s : ProgramSketch) (branch : Branch) : Type 0 where

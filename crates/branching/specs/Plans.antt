@@ -1,10 +1,10 @@
 -- Which thread gets its values last.
 use Rattle.std.specs.Prelude.{◌≡◌, ◌≢◌, ◌<◌, ℕ, List, [], All, IfSome, length}
 use Rattle.cover_judge.specs.Sketches.{given_to}
-use Rattle.sketches.specs.ProgramSketches.{ProgramSketch}
-use Rattle.sketches.specs.ThreadValues.{HasValuesAlone}
-use Rattle.cover_judge.specs.declared.choice.Choice.{Choice}
-use Rattle.cover_judge.specs.declared.choice.Choice.TheVariants as choice
+use Rattle.program_sketches.specs.ProgramSketches.{ProgramSketch}
+use Rattle.rowless_sketches.specs.ThreadValues.{HasValuesAlone}
+use Rattle.tree_laws.specs.declared.choice.Choice.{Choice}
+use Rattle.tree_laws.specs.declared.choice.Choice.TheVariants as choice
 use Rattle.cover_judge.specs.Choices.{IsValueOpen}
 use Rattle.branching.specs.declared.plan.LastThread.{LastThread}
 use Rattle.branching.specs.declared.plan.ThreadTraces.{ThreadTraces}

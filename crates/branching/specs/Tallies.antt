@@ -5,7 +5,7 @@ use Rattle.bit_rows.specs.declared.row.TheConstants.{ROW_BITS}
 use Rattle.cover_judge.specs.Access.{Access}
 use Rattle.cover_judge.specs.Event.TheVariants.{Access as At}
 use Rattle.cover_judge.specs.Candidates.{Writes}
-use Rattle.sketches.specs.ProgramSketches.{ProgramSketch, access_in}
+use Rattle.program_sketches.specs.ProgramSketches.{ProgramSketch, access_in}
 use Rattle.cert_trees.specs.declared.tree.AccessId.{AccessId}
 use Rattle.cover_judge.specs.CoverTrees.{event_of}
 use Rattle.branching.specs.declared.reads_writes.ReadValue.{ReadValue}

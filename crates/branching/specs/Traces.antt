@@ -1,8 +1,9 @@
 -- What one thread does under the values that its reads may take.
 use Rattle.std.specs.Prelude.{◌≡◌, ℕ, List, [], ◌∷◌}
-use Rattle.sketches.specs.ProgramSketches.{ProgramSketch, with_chosen}
-use Rattle.cover_judge.specs.declared.choice.Choice.{Choice}
-use Rattle.cover_judge.specs.Choices.{IsValueOpen, AreValueChoices, MayChooseEach, sketch_with}
+use Rattle.program_sketches.specs.ProgramSketches.{ProgramSketch, with_chosen}
+use Rattle.tree_laws.specs.declared.choice.Choice.{Choice}
+use Rattle.cover_judge.specs.Choices.{IsValueOpen, AreValueChoices, MayChooseEach}
+use Rattle.tree_laws.specs.CoverTrees.{sketch_with}
 use Rattle.branching.specs.declared.traces.FullTrace.{FullTrace}
 use Rattle.branching.specs.declared.traces.ValueTree.{ValueTree}
 use Rattle.branching.specs.declared.traces.ValueTree.TheOpen as t

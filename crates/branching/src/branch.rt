@@ -1,16 +1,16 @@
 //! Branches: what is chosen next, and its choices.
-ghost use Rattle.std.specs.Prelude.{◌≡◌, IfOk, MatchOption, [], ◌∷◌};
+ghost use Rattle.std.specs.Prelude.{IfOk, MatchOption};
 ghost use Rattle.sketches.specs.Complete.{IsComplete};
 ghost use Rattle.cover_judge.specs.Choices.{MayChooseEach};
-ghost use Rattle.branching.specs.OpenChoices.{IsOpen, IsBranch, AreChoicesOf};
+ghost use Rattle.branching.specs.OpenChoices.{IsOpen, IsBranch};
+ghost use Rattle.cover_judge.specs.Choices.{AreChoicesOf};
 ghost use Rattle.branching.specs.Accesses.{AreAccessesOf};
 
-use crate::open_choice::OpenChoice;
+use crate::choice::{source_choices, value_choices};
 use crate::ordered_outcomes::OrderedOutcomes;
 use crate::preference::preferred;
 use crate::reads_writes::WholeAccesses;
-use cert_trees::AccessId;
-use cover_judge::{Choice, source_choices, value_choices};
+use cover_judge::{Choice, OpenChoice, both_orders};
 use sketches::Sketch;
 use std::alloc::{AllocError, Global};
 use tso_program::Shown;
@@ -69,11 +69,4 @@ pub fn choices_of(
         },
         OpenChoice::Order(first, second) => both_orders(alloc, first, second),
     }
-}
-
-fn both_orders(alloc: Global, first: AccessId, second: AccessId) -> Result<Vec<Choice>, AllocError>
-    ensures { IfOk result (λ choices. choices.items ≡ Choice.Order first second ∷ Choice.Order second first ∷ []) }
-{
-    let orders = [Choice::Order(first, second), Choice::Order(second, first)];
-    Vec::from_slice(alloc, orders.as_slice())
 }

@@ -10,6 +10,7 @@
 #![tactic(auto)]
 
 mod branch;
+mod choice;
 mod ends;
 mod open_choice;
 mod ordered_outcomes;
@@ -21,7 +22,7 @@ mod trace_size;
 mod traces;
 
 pub use branch::{Branch, choices_of, next_branch};
-pub use open_choice::OpenChoice;
+pub use choice::{choose, sketch_with, source_choices, value_choices};
 pub use ordered_outcomes::OrderedOutcomes;
 pub use plan::{LastThread, Plan, ThreadTraces, plan_for};
 pub use reads_writes::{ReadValue, WholeAccesses, WrittenValue, whole_accesses};

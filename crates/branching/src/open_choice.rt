@@ -1,7 +1,7 @@
 //! What is left to be chosen in a sketch.
 ghost use Rattle.std.specs.Prelude.{◌≡◌, ◌↔◌, IsTrue, false};
 ghost use Rattle.cover_judge.specs.CoverTrees as trees;
-ghost use Rattle.sketches.specs.Choices.{IsOrdered};
+ghost use Rattle.program_sketches.specs.Choices.{IsOrdered};
 ghost use Rattle.sketches.specs.Complete.{HasItsSource};
 ghost use Rattle.branching.specs.OpenChoices.{NeedsSource, NeedsOrder};
 ghost use Rattle.branching.specs.Accesses.{IsReadValue, IsWrittenValue};
@@ -11,17 +11,6 @@ use crate::reads_writes::{ReadValue, WrittenValue};
 use cert_trees::AccessId;
 use cover_judge::event_of;
 use sketches::{Event, Sketch};
-
-/// Something that is left to be chosen.
-#[derive(Clone, Copy)]
-pub enum OpenChoice {
-    /// The value of a thread's next read.
-    Value(u8),
-    /// The source of a read.
-    Source(AccessId),
-    /// The order of two writes to one location.
-    Order(AccessId, AccessId),
-}
 
 /// Whether a read has no source.
 pub(crate) fn needs_source(sketch: &Sketch, read: ReadValue) -> bool

@@ -2,8 +2,8 @@
 //! that it is left to be chosen.
 ghost use Rattle.std.specs.Prelude.{◌≡◌, ◌<◌, None, IsTrue, IsSome, IfSome, MatchOption, All, length};
 ghost use Rattle.cover_judge.specs.Sketches.{IsWhole};
-ghost use Rattle.sketches.specs.ProgramSketches.{ProgramSketch, mode_in};
-ghost use Rattle.sketches.specs.Choices.{MayRead};
+ghost use Rattle.program_sketches.specs.ProgramSketches.{ProgramSketch, mode_in};
+ghost use Rattle.program_sketches.specs.Choices.{MayRead};
 ghost use Rattle.sketches.specs.Complete.{IsComplete};
 ghost use Rattle.cover_judge.specs.CoverTrees as trees;
 ghost use Rattle.cover_judge.specs.Choices.{MayChoose, IsSourceOpen};
@@ -12,11 +12,11 @@ ghost use Rattle.branching.specs.Accesses.{IsReadValue, IsWrittenValue, AreAcces
 ghost use Rattle.branching.specs.ChoicesLeft.{HasEachSource, IsInOrderWithLater, IsEachInOrder};
 
 use crate::ends::{SketchEnds, is_listed_without, sketch_ends};
-use crate::open_choice::{OpenChoice, needs_order, needs_source};
+use crate::open_choice::{needs_order, needs_source};
 use crate::ordered_outcomes::OrderedOutcomes;
 use crate::reads_writes::{ReadValue, WholeAccesses, WrittenValue, gives, gives_at_first};
 use cert_trees::AccessId;
-use cover_judge::{Choice, event_of};
+use cover_judge::{Choice, OpenChoice, event_of};
 use sketches::{Event, Sketch};
 use tso_program::Shown;
 
@@ -222,7 +222,7 @@ fn merit_of_sources(sketch: &Sketch, writes: &[WrittenValue], read: ReadValue, b
     merit
 }
 
-/// The same of the initial write alone.
+/// The merit of the initial write as a read's source.
 fn merit_of_initial(sketch: &Sketch, read: ReadValue, best: Merit) -> Merit
     requires is_open { IsSourceOpen sketch.now read.read }
     requires read { IsReadValue sketch.now read }
@@ -283,7 +283,7 @@ impl OrderRating<'_> {
         best
     }
 
-    /// The same of the orders of the write at this place and the later ones.
+    /// The better of the best so far and the orders of the write at this place and the later ones.
     fn with_orders(&self, place: usize, best: Option<RatedChoice>) -> Option<RatedChoice>
         requires accesses { AreAccessesOf self.now.sketch.now self.now.accesses.now }
         requires place { place < length self.now.accesses.now.writes.items }

@@ -1,7 +1,7 @@
 //! Reads and writes of a sketch, with their locations and their values.
 ghost use Rattle.std.specs.Prelude.{◌≡◌, [], IsTrue, IfOk, OnOk, IfSome, All};
 ghost use Rattle.cover_judge.specs.Sketches.{IsSourceOf, IsWhole};
-ghost use Rattle.sketches.specs.ProgramSketches.{ProgramSketch, mode_in};
+ghost use Rattle.program_sketches.specs.ProgramSketches.{ProgramSketch, mode_in};
 ghost use Rattle.cover_judge.specs.CoverTrees as trees;
 ghost use Rattle.branching.specs.Accesses.{IsReadValue, IsWrittenValue, AreAccessesOf, IsItself, IsOfItsThread, TakesIn};
 

@@ -3,8 +3,9 @@ ghost use Rattle.std.specs.Prelude.{◌≡◌, IfOk, map};
 ghost use Rattle.cover_judge.specs.Choices.{IsValueOpen, MayChooseEach};
 ghost use Rattle.branching.specs.Traces.{traces, trace_trees, root, IsValueTree, AreValueTrees, IsFullTrace};
 
+use crate::choice::{sketch_with, value_choices};
 use crate::tally::Tally;
-use cover_judge::{Choice, sketch_with, value_choices};
+use cover_judge::Choice;
 use sketches::{CompactSketch, Sketch};
 use std::alloc::{AllocError, Global};
 
@@ -50,7 +51,7 @@ pub(crate) fn value_tree(alloc: Global, sketch: &Sketch, t: u8) -> Result<ValueT
     }
 }
 
-/// The same after each of the choices.
+/// What thread t does after each of the choices.
 #[cycle(value_tree)]
 fn trees_after(
     alloc: Global,

@@ -12,7 +12,6 @@ pub mod AsciiTexts
 pub mod PrintedIsRead
 pub mod TextsGrow
 pub mod Lists
-pub mod Joined
 pub mod ToldCode
 pub mod SaidSigns
 pub mod NamedByText

@@ -7,7 +7,7 @@ pub use Rattle.std.proofs.lemmas.Bool.{and_from, and_parts, cases_Bool, cases_eq
 pub use Rattle.std.proofs.lemmas.Bool.Decides.{Decides-eqb, nat_tests, same_from_decides}
 pub use Rattle.std.proofs.lemmas.Fmt.{IsAscii-decimal, decimal_digit, decimal_nonempty, digits_decimal}
 pub use Rattle.std.proofs.lemmas.Grind.{flat_map-append, fold-append}
-pub use Rattle.std.proofs.lemmas.List.{append-nil, drop_more, flat_map_more, get_or-map, get_or_past, length-map, length-take, length-take-le, map-append, map_more, map_push, take_more}
+pub use Rattle.std.proofs.lemmas.List.{append-nil, drop_more, get_or-map, get_or_past, length-map, length-take-le, map-append, map_more, map_push, take_more}
 pub use Rattle.std.proofs.lemmas.List.Elements.{All-from_recursion, filter_map-append, recursion_from_All}
 pub use Rattle.std.proofs.lemmas.List.Folds.{flat_map-map, list_any-append}
 pub use Rattle.std.proofs.lemmas.List.FromFn.{fill_by_all, get_or-map-range_with_len, length-map-range_with_len, length-range_with_len, map-range_with_len_more}
@@ -17,8 +17,7 @@ pub use Rattle.std.proofs.lemmas.Slice.Eq.{bytes_eq-Decides}
 pub use Rattle.std.proofs.lemmas.Str.{IsAscii-append, IsUtf8-from_ascii}
 pub use Rattle.std.specs.Char.{is_ascii_digit}
 pub use Rattle.std.specs.Fmt.{decimal}
-pub use Rattle.std.specs.Global.{Vec}
-pub use Rattle.std.specs.List.{AllByRecursion, cons_option, filter_map, find, flat_map, join_with_byte, list_all, list_any, range_with_len}
+pub use Rattle.std.specs.List.{AllByRecursion, cons_option, filter_map, find, flat_map, list_all, list_any, range_with_len}
 unfoldable pub use Rattle.std.specs.List.{IsDistinct}
 pub use Rattle.std.specs.Option.{IfSome, option_map_or, option_to_list}
 pub use Rattle.std.specs.Prelude.{IfOk, OnOk, if◌then◌else◌, is_some, nat_lt, option_and_then, option_map, slice_get, slice_index, slice_index_or}
@@ -32,7 +31,6 @@ pub use Rattle.litmus_reader.proofs.NamesOnce.{Stands, in_order_once, number_at,
 pub use Rattle.litmus_reader.proofs.NumberLaws.{own}
 pub use Rattle.litmus_reader.specs.Bytes.{is_letter, is_word_byte}
 pub use Rattle.litmus_reader.specs.FirstLine.{AreVisible, IsFirstLine, is_visible}
-pub use Rattle.litmus_reader.specs.Internal.Filling.{texts}
 pub use Rattle.litmus_reader.specs.Labels.{JumpsAreFound, all_labels, are_found, column, is_found, jump_of, label_in, labels_behind, position_in, size, thread_labels}
 pub use Rattle.litmus_reader.specs.Lexing.{BeginsWith, BeginsWithAll, IsWord, NoWordGoesOn, comment, none, token, white_space}
 pub use Rattle.litmus_reader.specs.Mark.{Mark}
@@ -66,7 +64,6 @@ pub use Rattle.canonical_text.specs.Canonical.{atom_named, body_of, canonical_te
 pub use Rattle.canonical_text.specs.Canonical.{location_entry, location_name_at, most_cells, moved_label, moved_labels, named_at, named_entry, own_labels, place_named, register_entries, row_of}
 pub use Rattle.canonical_text.specs.Canonical.{rows_of, sign_named, signs_named, thread_entries}
 pub use Rattle.canonical_text.specs.Laws.{CanonicalTextIsRead, HasParts, PrintedPartsAreRead}
-pub use Rattle.canonical_text.specs.Outcomes.{location_items, named_item, register_items, shown_item, thread_items}
 pub use Rattle.canonical_text.specs.Printable.{ArePrintable, IsLabelName, IsLocationName, IsPrintable, IsPrintableCell, IsPrintableCode, IsPrintableContent, IsPrintableEnding, IsPrintableEntry}
 pub use Rattle.canonical_text.specs.Printable.{IsPrintablePlace, IsPrintableRow, IsPrintableSign, IsTextNumber, SignsAreApart, begins_with_a_word}
 pub use Rattle.canonical_text.specs.Spelling.{bar, body_pieces, cell_pieces, code_pieces, column_pieces, condition_pieces, ending_pieces, entry_pieces, gap, header_pieces, heading, initial_pieces}

@@ -1,6 +1,5 @@
 pub mod Spelling
 pub mod Printable
 pub mod Canonical
-pub mod Outcomes
 pub mod Laws
 pub mod Example

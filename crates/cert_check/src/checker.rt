@@ -26,13 +26,12 @@ use crate::fault::RunsFault;
 use crate::gap::{Bounds, judge_gap_tree};
 use crate::runs::{first_outcome_listed, replay_all};
 use cert_forest::{Certificate, Shows};
-use cover_judge::TreeFault;
+use cover_judge::NodeFault;
 use gap_sets::{Costs, GapSet, Region};
-use sketches::Mode;
 use std::alloc::Global;
 use the_answer::the_headline_tells_the_answer;
 use tree_laws::a_valid_certificate_proves_the_headline;
-use tso_machine::Model;
+use tso_machine::{Mode, Model};
 use tso_program::{Outcome, Program, Shown};
 
 /// What a certificate shows: a set of gaps is the answer, and this is its cost.
@@ -178,8 +177,8 @@ fn sequential_list(
         &listed,
     ) {
         Ok(()) => Ok(listed),
-        Err(TreeFault::Wrong(path)) => Err(CheckFault::SequentialTree(path)),
-        Err(TreeFault::OutOfMemory) => Err(CheckFault::OutOfMemory),
+        Err(NodeFault::Wrong(path)) => Err(CheckFault::SequentialTree(path)),
+        Err(NodeFault::OutOfMemory) => Err(CheckFault::OutOfMemory),
     }
 }
 
@@ -230,8 +229,8 @@ fn check_fenced(
         listed,
     ) {
         Ok(()) => Ok(()),
-        Err(TreeFault::Wrong(path)) => Err(CheckFault::FencedTree(path)),
-        Err(TreeFault::OutOfMemory) => Err(CheckFault::OutOfMemory),
+        Err(NodeFault::Wrong(path)) => Err(CheckFault::FencedTree(path)),
+        Err(NodeFault::OutOfMemory) => Err(CheckFault::OutOfMemory),
     }
 }
 
@@ -254,7 +253,7 @@ fn check_gaps(
     };
     match judge_gap_tree(alloc, &certificate.gap_tree, &Region::all(), &bounds) {
         Ok(()) => Ok(()),
-        Err(TreeFault::Wrong(path)) => Err(CheckFault::GapTree(path)),
-        Err(TreeFault::OutOfMemory) => Err(CheckFault::OutOfMemory),
+        Err(NodeFault::Wrong(path)) => Err(CheckFault::GapTree(path)),
+        Err(NodeFault::OutOfMemory) => Err(CheckFault::OutOfMemory),
     }
 }

@@ -15,7 +15,7 @@ ghost use Rattle.cert_check.specs.Internal.Children.{AreValidIn, IsWrongChildIn}
 
 use crate::runs::passed_by;
 use cert_forest::{GapNode, GapTree, GapWalk};
-use cover_judge::TreeFault;
+use cover_judge::NodeFault;
 use gap_sets::{Costs, GapSet, Region};
 use std::alloc::Global;
 
@@ -34,7 +34,7 @@ pub(crate) fn judge_gap_tree(
     tree: &GapTree,
     region: &Region,
     bounds: &Bounds,
-) -> Result<(), TreeFault>
+) -> Result<(), NodeFault>
     ensures valid { (p : Listing) (runs : List (List Label)) → HavePassed p runs bounds.now.passed.now
         → OnOk result (IsValidGap p bounds.now.costs.now bounds.now.answer runs tree.now region.now) }
     ensures wrong { (p : Listing) (runs : List (List Label)) → HavePassed p runs bounds.now.passed.now
@@ -51,7 +51,7 @@ fn judge_gap(
     walk: &mut GapWalk<'_>,
     region: &Region,
     bounds: &Bounds,
-) -> Result<(), TreeFault>
+) -> Result<(), NodeFault>
     requires { 0 < length walk.old }
     ensures after { OnOk result (walk.new ≡ drop 1 walk.old) }
     ensures valid { (p : Listing) (runs : List (List Label)) → HavePassed p runs bounds.now.passed.now
@@ -74,7 +74,7 @@ fn judge_split(
     walk: &mut GapWalk<'_>,
     region: &Region,
     bounds: &Bounds,
-) -> Result<(), TreeFault>
+) -> Result<(), NodeFault>
     requires { count ≤ length walk.old }
     ensures after { OnOk result (walk.new ≡ drop count walk.old) }
     ensures valid { (p : Listing) (runs : List (List Label)) → HavePassed p runs bounds.now.passed.now
@@ -94,7 +94,7 @@ fn judge_gaps(
     region: &Region,
     gaps: GapSet,
     bounds: &Bounds,
-) -> Result<(), TreeFault>
+) -> Result<(), NodeFault>
     requires { length (numbers_of_set gaps) ≤ length walk.old }
     ensures after { OnOk result (walk.new ≡ drop (length (numbers_of_set gaps)) walk.old) }
     ensures valid { (p : Listing) (runs : List (List Label)) → HavePassed p runs bounds.now.passed.now
@@ -118,7 +118,7 @@ fn judge_gap_child(
     region: &Region,
     number: usize,
     bounds: &Bounds,
-) -> Result<(), TreeFault>
+) -> Result<(), NodeFault>
     requires { 0 < length walk.old }
     ensures after { OnOk result (walk.new ≡ drop 1 walk.old) }
     ensures valid { (p : Listing) (runs : List (List Label)) → HavePassed p runs bounds.now.passed.now
@@ -134,12 +134,12 @@ fn judge_gap_child(
 }
 
 /// Judges that what the sets of the region must have is not better than the answer.
-fn judge_bound(alloc: Global, region: &Region, bounds: &Bounds) -> Result<(), TreeFault>
+fn judge_bound(alloc: Global, region: &Region, bounds: &Bounds) -> Result<(), NodeFault>
     ensures bound { OnOk result (Better bounds.now.costs.now region.now.must bounds.now.answer → ⊥) }
     ensures wrong { IfErr result (IfWrong (IsAtRoot (Better bounds.now.costs.now region.now.must bounds.now.answer))) }
 {
     if bounds.costs.better(&region.must, &bounds.answer) {
-        Err(TreeFault::at_root(alloc))
+        Err(NodeFault::at_root(alloc))
     } else {
         Ok(())
     }
@@ -153,7 +153,7 @@ fn split_gaps(
     region: &Region,
     count: u32,
     passed: &[GapSet],
-) -> Result<GapSet, TreeFault>
+) -> Result<GapSet, NodeFault>
     ensures split { (p : Listing) (labels : List (List Label)) → HavePassed p labels passed.now
         → IfOk result (λ gaps. IsSplitBy p labels region.now run (numbers_of_set gaps)) }
     ensures as_many { IfOk result (λ gaps. count ≡ length (numbers_of_set gaps)) }
@@ -161,14 +161,14 @@ fn split_gaps(
         → IfErr result (IfWrong (IsAtRoot (HasNoSplit p labels region.now run count))) }
 {
     let Some(passed) = passed_by(passed, run) else {
-        return Err(TreeFault::at_root(alloc));
+        return Err(NodeFault::at_root(alloc));
     };
     if passed.meets(&region.must) {
-        return Err(TreeFault::at_root(alloc));
+        return Err(NodeFault::at_root(alloc));
     }
     let gaps = open_gaps(passed, region.never);
     if gaps.len() != count {
-        return Err(TreeFault::at_root(alloc));
+        return Err(NodeFault::at_root(alloc));
     }
     Ok(gaps)
 }

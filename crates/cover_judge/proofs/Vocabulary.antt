@@ -1,7 +1,7 @@
 -- What many proofs of this crate speak of, imported once.
 pub use Rattle.std.proofs.Common.{All, Contains, IsSome, List, MatchOption, None, Option, Some, [], ap, arith, drop, drop-cons, false, get_or, inl, inr, length, map, refl, slice_get, subst, suc, sym}
 pub use Rattle.std.proofs.Common.{take, true, zero, ℕ, ◌*◌, ◌+◌, ◌<◌, ◌↔◌, ◌∙◌, ◌∷◌, ◌≡◌, ◌≤◌}
-pub use Rattle.std.proofs.lemmas.List.{append-nil, drop_all, get_or-map, length-drop, length-map, length-take-le}
+pub use Rattle.std.proofs.lemmas.List.{append-nil, drop_all, length-drop, length-map, length-take-le}
 pub use Rattle.std.proofs.lemmas.Option.{same_Some}
 pub use Rattle.std.specs.Global.{Vec}
 pub use Rattle.std.specs.List.{AllPairs, flat_map}
@@ -16,17 +16,19 @@ pub use Rattle.cert_forest.specs.AccessId.{AccessId}
 pub use Rattle.cert_forest.specs.Machine.{Machine}
 pub use Rattle.cert_forest.specs.Nodes.{first_tree, spell_all}
 pub use Rattle.cert_forest.specs.Trees.{Cover, Covers, Cycle, Known, MoreCovers, NoCover, Order, Source, Value, count_covers, covers_of}
-pub use Rattle.sketches.specs.Choices.{HasSource, IsRead}
-pub use Rattle.sketches.specs.ProgramSketches.{ProgramSketch, mode_in, with_chosen}
-pub use Rattle.sketches.specs.RowlessSketches.{AreSources, IsFree, LacksSource}
-pub use Rattle.tree_laws.proofs.OneList.{one_list_of_sources, one_list_of_values}
-pub use Rattle.tree_laws.specs.CoverTrees.{AreValidCovers, HasNextValues, HasNoOrder, HasSources, IsValidCover, MustEndAsNumber, event_of}
+pub use Rattle.program_sketches.specs.Choices.{HasSource, IsRead}
+pub use Rattle.program_sketches.specs.ProgramSketches.{ProgramSketch, mode_in, with_chosen}
+pub use Rattle.rowless_sketches.specs.RowlessSketches.{AreSources, IsFree, IsValueMarkOf, LacksSource}
+pub use Rattle.tree_laws.proofs.OneList.{one_list_of_choices}
+pub use Rattle.tree_laws.specs.CoverTrees.{AfterChoices, AreChoices, AreTwo, AreValidCovers, HasNextValues, HasNoOrder, HasSources, IsValidCover, MustEndAsNumber, event_of, sketch_with}
+pub use Rattle.tree_laws.specs.declared.choice.Choice.{Choice}
+pub use Rattle.tree_laws.specs.declared.choice.OpenChoice.{OpenChoice}
 pub use Rattle.tso_program.specs.Shown.{Question, asked}
 pub use Rattle.tso_program.specs.declared.listing.Listing.{Listing}
 pub use Rattle.tso_program.specs.declared.outcome.Outcome.{Outcome}
 pub use Rattle.tso_program.specs.declared.shown.Shown.{Shown}
-pub use Rattle.cover_judge.specs.Choices.{AreSourceChoices, AreValueChoices, IsSourceOpen, IsValueOpen, MayChoose, MayChooseEach, sketch_with}
-pub use Rattle.cover_judge.specs.CoverDefects.{FirstWrongCover, FirstWrongCoverChild, HasNoSources, HasNoValues}
-pub use Rattle.cover_judge.specs.Judged.{AreValidAfter, IfWrong, IsAtRoot, IsBelow, IsFrom, IsValidAfter, IsWrongAt, IsWrongChild}
-pub use Rattle.cover_judge.specs.declared.choice.Choice.{Choice}
-pub use Rattle.cover_judge.specs.declared.fault.TreeFault.{TreeFault, TheVariants.OutOfMemory, TheVariants.Wrong}
+pub use Rattle.cover_judge.specs.ChoiceMarks.{IsChoiceMarkOf}
+pub use Rattle.cover_judge.specs.Choices.{AreChoicesOf, AreSourceChoices, AreValueChoices, IsSourceOpen, IsValueOpen, MayChoose, MayChooseEach}
+pub use Rattle.cover_judge.specs.CoverDefects.{FirstWrongCover, FirstWrongCoverChild, FirstWrongOfTwo, HasNotSoMany, IsWrongNode}
+pub use Rattle.cover_judge.specs.Judged.{AreValidAfter, AreValidFor, IfWrong, IsAtRoot, IsBelow, IsFrom, IsValidAfter, IsWrongAt, IsWrongChild, IsWrongFor}
+pub use Rattle.cover_judge.specs.declared.fault.NodeFault.{NodeFault, TheVariants.OutOfMemory, TheVariants.Wrong}

@@ -1,19 +1,14 @@
--- What branches in a sketch: what may be chosen, and what the sketch is after a choice.
-use Rattle.std.specs.Prelude.{◌≡◌, ℕ, List, Some, IsSome, All, map}
-use Rattle.candidate_executions.specs.declared.event.Event.{Event}
+-- What branches in a sketch: what is open, what may be chosen, and the choices that there are.
+use Rattle.std.specs.Prelude.{◌≡◌, ℕ, List, Some, IsSome, All}
 use Rattle.candidate_executions.specs.Values.{IsValueOf}
-use Rattle.candidate_executions.specs.Sketches.{Sketch, with_value, with_source, with_pair, next_read, IsWhole}
-use Rattle.sketches.specs.Choices.{IsRead, HasSource, MayRead, MayFollow}
-use Rattle.sketches.specs.ProgramSketches.{ProgramSketch, mode_in}
+use Rattle.candidate_executions.specs.Sketches.{next_read, IsWhole}
+use Rattle.program_sketches.specs.Choices.{IsRead, HasSource, MayRead, MayFollow}
+use Rattle.program_sketches.specs.ProgramSketches.{ProgramSketch, mode_in}
 use Rattle.cert_forest.specs.AccessId.{AccessId}
-use Rattle.tree_laws.specs.CoverTrees.{event_of, HasNextValues, HasSources}
-use Rattle.cover_judge.specs.declared.choice.Choice.{Choice, TheVariants.Value, TheVariants.Source, TheVariants.Order}
-
--- the sketch with the choice
-abbrev pub sketch_with : Sketch → Choice → Sketch
-sketch_with k (Value t v) = with_value k t v
-sketch_with k (Source read source) = with_source k (event_of read) source
-sketch_with k (Order first second) = with_pair k (event_of first) (event_of second)
+use Rattle.tree_laws.specs.declared.choice.Choice.{Choice, TheVariants.Value, TheVariants.Source, TheVariants.Order}
+use Rattle.tree_laws.specs.declared.choice.OpenChoice.{OpenChoice}
+use Rattle.tree_laws.specs.CoverTrees as trees
+use Rattle.tree_laws.specs.CoverTrees.{event_of}
 
 -- thread t has a next read
 abbrev pub IsValueOpen : ProgramSketch → ℕ → Type 0
@@ -37,13 +32,13 @@ pub record MayChooseEach (s : ProgramSketch) (choices : List Choice) : Type 0 wh
   pub each : All (MayChoose s) choices
 
 -- these choices give thread t's next read its values, ascending
-pub record AreValueChoices (s : ProgramSketch) (t : ℕ) (choices : List Choice) : Type 0 where
-  pub values : List ℕ
-  pub next : HasNextValues s.program (mode_in s) s.chosen t values
-  pub each : choices ≡ map (Value t) values
+abbrev pub AreValueChoices : ProgramSketch → ℕ → List Choice → Type 0
+AreValueChoices s t choices = trees.AreValueChoices s.program (mode_in s) s.chosen t choices
 
 -- these choices give a read its sources, in their order
-pub record AreSourceChoices (s : ProgramSketch) (read : AccessId) (choices : List Choice) : Type 0 where
-  pub sources : List Event
-  pub next : HasSources s.program (mode_in s) s.chosen (event_of read) sources
-  pub each : choices ≡ map (Source read) sources
+abbrev pub AreSourceChoices : ProgramSketch → AccessId → List Choice → Type 0
+AreSourceChoices s read choices = trees.AreSourceChoices s.program (mode_in s) s.chosen read choices
+
+-- it is left to be chosen, and these are its choices: each value, each source, or both orders
+abbrev pub AreChoicesOf : ProgramSketch → OpenChoice → List Choice → Type 0
+AreChoicesOf s next choices = trees.AreChoices s.program (mode_in s) s.chosen next choices

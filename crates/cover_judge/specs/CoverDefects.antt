@@ -4,57 +4,39 @@ use Rattle.tso_program.specs.declared.listing.Listing.{Listing}
 use Rattle.tso_program.specs.declared.outcome.Outcome.{Outcome}
 use Rattle.tso_program.specs.Shown.{Question}
 use Rattle.cert_forest.specs.Machine.{Machine}
-use Rattle.candidate_executions.specs.declared.event.Event.{Event}
-use Rattle.candidate_executions.specs.Sketches.{Sketch, with_value, with_source, with_pair, IsKnownCycle}
+use Rattle.candidate_executions.specs.Sketches.{Sketch, IsKnownCycle}
 use Rattle.cert_forest.specs.Trees.{Cover, Value, Source, Order, Cycle, Known, Covers, NoCover, MoreCovers, count_covers}
-use Rattle.tree_laws.specs.CoverTrees.{event_of, HasNextValues, HasSources, HasNoOrder, MustEndAsNumber, IsValidCover}
+use Rattle.tree_laws.specs.declared.choice.OpenChoice.{OpenChoice}
+use Rattle.tree_laws.specs.declared.choice.OpenChoice.TheVariants as left
+use Rattle.tree_laws.specs.CoverTrees.{event_of, AfterChoices, MustEndAsNumber, IsValidCover}
 
-module _ (p : Listing) (mode : Machine) where
-  -- thread t has no next read, or its location has not so many values
-  abbrev pub HasNoValues : Sketch → ℕ → ℕ → Type 0
-  HasNoValues k t count = (values : List ℕ) → HasNextValues p mode k t values → count ≡ length values → ⊥
+module _ (p : Listing) (mode : Machine) (k : Sketch) (next : OpenChoice) (count : ℕ) where
+  -- it is not left to be chosen, or has not so many choices
+  abbrev pub HasNotSoMany : Type 0
+  HasNotSoMany = AfterChoices p mode k next (λ ks. count ≡ length ks) → ⊥
 
-  -- no source is to be chosen for e, or there are not so many
-  abbrev pub HasNoSources : Sketch → Event → ℕ → Type 0
-  HasNoSources k e count = (sources : List Event) → HasSources p mode k e sources → count ≡ length sources → ⊥
+  -- a node with so many children is wrong, or a child is the first one that has a wrong node
+  abbrev pub IsWrongNode : (List Sketch → ℕ → List ℕ → Type 0) → List ℕ → Type 0
+  IsWrongNode IsWrongChild [] = HasNotSoMany
+  IsWrongNode IsWrongChild (number ∷ path) = AfterChoices p mode k next (λ ks. (count ≡ length ks) × IsWrongChild ks number path)
+
+-- of two trees at their sketches, the one of this number is the first one that has a wrong node
+abbrev pub FirstWrongOfTwo : (Sketch → List ℕ → Type 0) → (Sketch → Type 0) → (Sketch → List ℕ → Type 0) → List Sketch → ℕ → List ℕ → Type 0
+FirstWrongOfTwo FirstWrong IsFirstValid OtherWrong (k ∷ (j ∷ [])) zero path = FirstWrong k path
+FirstWrongOfTwo FirstWrong IsFirstValid OtherWrong (k ∷ (j ∷ [])) (suc zero) path = IsFirstValid k × OtherWrong j path
+FirstWrongOfTwo FirstWrong IsFirstValid OtherWrong ks number path = ⊥
 
 module _ (q : Question) (mode : Machine) (outcomes : List Outcome) where
-  -- the root is wrong at the sketch, whatever its children say: its number of children is not that of the values or sources, or what it says does not hold
-  abbrev pub HasWrongCoverRoot : Cover → Sketch → Type 0
-  HasWrongCoverRoot (Value t children) k = HasNoValues q.program mode k t (count_covers children)
-  HasWrongCoverRoot (Source read children) k = HasNoSources q.program mode k (event_of read) (count_covers children)
-  HasWrongCoverRoot (Order first second first_before second_before) k = HasNoOrder q.program mode k (event_of first) (event_of second) → ⊥
-  HasWrongCoverRoot (Cycle kind events) k = IsKnownCycle q.program mode k kind (map event_of events) → ⊥
-  HasWrongCoverRoot (Known number) k = MustEndAsNumber q mode outcomes k number → ⊥
-
-  -- of two children, the one of this number is the first that is wrong
-  abbrev pub FirstOfTwo : ℕ → Type 0 → Type 0 → Type 0 → Type 0
-  FirstOfTwo zero first_wrong first_valid second_wrong = first_wrong
-  FirstOfTwo (suc zero) first_wrong first_valid second_wrong = first_valid × second_wrong
-  FirstOfTwo (suc (suc number)) first_wrong first_valid second_wrong = ⊥
-
   abbrev mutual
     -- The node at this path is wrong, and none before it is: each node above it is right, and the trees of the children before it are valid.
     pub FirstWrongCover : Cover → Sketch → List ℕ → Type 0
-    FirstWrongCover (Value t children) k [] = HasWrongCoverRoot (Value t children) k
-    FirstWrongCover (Value t children) k (number ∷ path) =
-        (values : List ℕ) × HasNextValues q.program mode k t values × (count_covers children ≡ length values)
-        × FirstWrongCoverChild children (map (with_value k t) values) number path
-    FirstWrongCover (Source read children) k [] = HasWrongCoverRoot (Source read children) k
-    FirstWrongCover (Source read children) k (number ∷ path) =
-        (sources : List Event) × HasSources q.program mode k (event_of read) sources × (count_covers children ≡ length sources)
-        × FirstWrongCoverChild children (map (with_source k (event_of read)) sources) number path
-    FirstWrongCover (Order first second first_before second_before) k [] = HasWrongCoverRoot (Order first second first_before second_before) k
-    FirstWrongCover (Order first second first_before second_before) k (number ∷ path) =
-        HasNoOrder q.program mode k (event_of first) (event_of second)
-        × FirstOfTwo number
-        (FirstWrongCover first_before (with_pair k (event_of first) (event_of second)) path)
-        (IsValidCover q mode outcomes first_before (with_pair k (event_of first) (event_of second)))
-        (FirstWrongCover second_before (with_pair k (event_of second) (event_of first)) path)
-    FirstWrongCover (Cycle kind events) k [] = HasWrongCoverRoot (Cycle kind events) k
-    FirstWrongCover (Cycle kind events) k (number ∷ path) = ⊥
-    FirstWrongCover (Known number) k [] = HasWrongCoverRoot (Known number) k
-    FirstWrongCover (Known number) k (child ∷ path) = ⊥
+    FirstWrongCover (Value t children) k path = IsWrongNode q.program mode k (left.Value t) (count_covers children) (λ ks n rest. FirstWrongCoverChild children ks n rest) path
+    FirstWrongCover (Source read children) k path = IsWrongNode q.program mode k (left.Source read) (count_covers children) (λ ks n rest. FirstWrongCoverChild children ks n rest) path
+    FirstWrongCover (Order first second one other) k path =
+        IsWrongNode q.program mode k (left.Order first second) 2
+        (FirstWrongOfTwo (λ j rest. FirstWrongCover one j rest) (IsValidCover q mode outcomes one) (λ j rest. FirstWrongCover other j rest)) path
+    FirstWrongCover (Cycle kind events) k path = (path ≡ []) × (IsKnownCycle q.program mode k kind (map event_of events) → ⊥)
+    FirstWrongCover (Known number) k path = (path ≡ []) × (MustEndAsNumber q mode outcomes k number → ⊥)
 
     -- the child of this number has the first wrong node, at this path from it
     pub FirstWrongCoverChild : Covers → List Sketch → ℕ → List ℕ → Type 0

@@ -4,16 +4,16 @@ use Rattle.tso_program.specs.declared.outcome.Outcome.{Outcome}
 use Rattle.tso_program.specs.declared.shown.Shown.{Shown}
 use Rattle.tso_program.specs.Shown.{asked}
 use Rattle.candidate_executions.specs.Sketches.{Sketch}
-use Rattle.sketches.specs.ProgramSketches.{ProgramSketch, mode_in}
-use Rattle.cert_forest.specs.Trees.{Cover, covers_of}
-use Rattle.tree_laws.specs.CoverTrees.{IsValidCover, AreValidCovers}
-use Rattle.cover_judge.specs.declared.choice.Choice.{Choice}
-use Rattle.cover_judge.specs.declared.fault.TreeFault.{TreeFault, TheVariants.Wrong, TheVariants.OutOfMemory}
+use Rattle.program_sketches.specs.ProgramSketches.{ProgramSketch, mode_in}
+use Rattle.cert_forest.specs.Trees.{Cover, covers_of, count_covers}
+use Rattle.tree_laws.specs.declared.choice.Choice.{Choice}
+use Rattle.tree_laws.specs.declared.choice.OpenChoice.{OpenChoice}
+use Rattle.tree_laws.specs.CoverTrees.{sketch_with, AfterChoices, IsValidCover, AreValidCovers}
+use Rattle.cover_judge.specs.declared.fault.NodeFault.{NodeFault, TheVariants.Wrong, TheVariants.OutOfMemory}
 use Rattle.cover_judge.specs.CoverDefects as covers
-use Rattle.cover_judge.specs.Choices.{sketch_with}
 
 -- the path of the fault has the property; out of memory says nothing
-abbrev pub IfWrong : (List ℕ → Type 0) → TreeFault → Type 0
+abbrev pub IfWrong : (List ℕ → Type 0) → NodeFault → Type 0
 IfWrong P (Wrong path) = P path
 IfWrong P OutOfMemory = Unit {0}
 
@@ -27,7 +27,7 @@ IsBelow P [] = ⊥
 IsBelow P (number ∷ path) = P number path
 
 -- the same path, from the parent
-abbrev pub IsFrom : ℕ → TreeFault → TreeFault → Type 0
+abbrev pub IsFrom : ℕ → NodeFault → NodeFault → Type 0
 IsFrom number (Wrong path) (Wrong other) = other ≡ number ∷ path
 IsFrom number OutOfMemory (Wrong other) = ⊥
 IsFrom number fault OutOfMemory = Unit {0}
@@ -51,3 +51,12 @@ module _ (shown : Shown) (outcomes : List Outcome) (s : ProgramSketch) where
   abbrev pub IsWrongChild : List Cover → List Choice → ℕ → List ℕ → Type 0
   IsWrongChild trees choices number path =
       covers.FirstWrongCoverChild (asked s.program shown) (mode_in s) outcomes (covers_of trees) (map (sketch_with s.chosen) choices) number path
+
+  -- the trees are valid after the choices of what is open, in order
+  abbrev pub AreValidFor : OpenChoice → List Cover → Type 0
+  AreValidFor next trees = AfterChoices s.program (mode_in s) s.chosen next (AreValidCovers (asked s.program shown) (mode_in s) outcomes (covers_of trees))
+
+  -- they are not as many as the choices, or one is the first that has a wrong node
+  abbrev pub IsWrongFor : OpenChoice → List Cover → List ℕ → Type 0
+  IsWrongFor next trees path =
+      covers.IsWrongNode s.program (mode_in s) s.chosen next (count_covers (covers_of trees)) (covers.FirstWrongCoverChild (asked s.program shown) (mode_in s) outcomes (covers_of trees)) path

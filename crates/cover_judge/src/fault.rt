@@ -1,6 +1,6 @@
 //! Why a tree isn't valid.
 ghost use Rattle.std.specs.Prelude.{◌≡◌, []};
-ghost use Rattle.cover_judge.specs.declared.fault.TreeFault.TheVariants.{OutOfMemory};
+ghost use Rattle.cover_judge.specs.declared.fault.NodeFault.TheVariants.{OutOfMemory};
 ghost use Rattle.cover_judge.specs.Judged.{IsFrom};
 
 use crate::Path;
@@ -9,7 +9,7 @@ use thiserror::Error;
 
 /// Why a tree isn't valid: its first wrong node. A node comes before its children.
 #[derive(Debug, Drop, Error)]
-pub enum TreeFault {
+pub enum NodeFault {
     /// The node of this path is wrong.
     #[error("node {0} is not valid")]
     Wrong(Path),
@@ -17,32 +17,32 @@ pub enum TreeFault {
     OutOfMemory,
 }
 
-impl TreeFault {
+impl NodeFault {
     /// The root is wrong.
-    pub fn at_root(alloc: Global) -> TreeFault
-        ensures { result ≡ TreeFault.Wrong [] }
+    pub fn at_root(alloc: Global) -> NodeFault
+        ensures { result ≡ NodeFault.Wrong [] }
     {
-        TreeFault::Wrong(Path::root(alloc))
+        NodeFault::Wrong(Path::root(alloc))
     }
 
-    /// The same fault, from the parent of the tree as its child of this number.
-    pub fn from_parent(self, number: usize) -> TreeFault
+    /// This fault as its path begins at the tree's parent, whose child of this number the tree is.
+    pub fn from_parent(self, number: usize) -> NodeFault
         ensures { IsFrom number self result }
     {
         match self {
-            TreeFault::Wrong(path) => match path.from_parent(number) {
-                Ok(path) => TreeFault::Wrong(path),
-                Err(_) => TreeFault::OutOfMemory,
+            NodeFault::Wrong(path) => match path.from_parent(number) {
+                Ok(path) => NodeFault::Wrong(path),
+                Err(_) => NodeFault::OutOfMemory,
             },
-            TreeFault::OutOfMemory => TreeFault::OutOfMemory,
+            NodeFault::OutOfMemory => NodeFault::OutOfMemory,
         }
     }
 }
 
-impl From<AllocError> for TreeFault {
+impl From<AllocError> for NodeFault {
     ghost from_gives = { λ _ fault. fault ≡ OutOfMemory };
 
-    fn from(_error: AllocError) -> TreeFault {
-        TreeFault::OutOfMemory
+    fn from(_error: AllocError) -> NodeFault {
+        NodeFault::OutOfMemory
     }
 }

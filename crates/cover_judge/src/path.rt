@@ -31,7 +31,7 @@ impl Path {
         }
     }
 
-    /// The same place, from the parent of the tree as its child of this number.
+    /// This place as its path begins at the tree's parent, whose child of this number the tree is.
     pub fn from_parent(self, number: usize) -> Result<Path, AllocError>
         ensures { IfOk result (λ path. path ≡ number ∷ self) }
     {

@@ -1,28 +1,22 @@
--- What trees and runs say of tables, sets and foreign runs.
-use Rattle.cover_solver.proofs.Vocabulary.{◌≡◌, ◌↔◌, ℕ, ◌<◌, Bool, true, false, IsTrue, List, Some, Contains, slice_get, sym, ap, ◌∙◌, subst, arith, Result, Ok, Err, IfOk, IfErr, is_ok, Question, show, asked, ForeignFaultIs, of_replay, Machine}
-use Rattle.cover_solver.proofs.Vocabulary.{SequentialMachine, StoreBufferMachine, no_gaps, outcome_at, IsRun, IsSequentialTable, IsListOf, IsServing, AreRunsOf, place_in, ArePlacesOf, machine_of_mode, Listing, Outcome, Shown, JumpForward, Label}
-use Rattle.cover_solver.proofs.Vocabulary.{ReplayFaultIs, ArePassed, AllowsShown, IsShownRun, IsForeignRun, renumbered, BelongsAt, not_there}
+-- What trees and runs say of tables and of sets that serve.
+use Rattle.cover_solver.proofs.Vocabulary.{◌≡◌, ◌↔◌, ℕ, ◌<◌, true, List, Contains, sym, ◌∙◌, subst, arith, Result, IfErr, Question, asked, AreRunsOf, place_in, ArePlacesOf, machine_of_mode, Listing, Outcome, Shown, JumpForward, Label, Machine}
+use Rattle.cover_solver.proofs.Vocabulary.{SequentialMachine, StoreBufferMachine, no_gaps, IsSequentialTable, IsListOf, IsServing, ReplayFaultIs, ArePassed, AllowsShown, IsShownRun, IsForeignRun, renumbered, one_outcome, same_question}
 use Rattle.std.specs.FinSet as set
-use Rattle.std.proofs.lemmas.Option.{same_Some}
 use Rattle.gap_sets.specs.Gaps.{SetOfGaps}
 use Rattle.tso_program.specs.{Fences.gaps_in, Ordered.outcome_cmp}
 use Rattle.tso_machine.specs.{declared.replaying.ReplayFault.ReplayFault, declared.mode.Mode.Mode}
 use Rattle.tso_machine.specs.declared.replaying.ReplayFault.TheVariants as replays
 use Rattle.tso_machine.proofs.Refused.{no_fault}
-use Rattle.tree_laws.proofs.{Lists.found_is_here, ListedOutcomes.fenced_tree_serves, OneList.one_list}
-use Rattle.cover_solver.specs.declared.fault.ForeignFault.TheVariants as foreign
+use Rattle.tree_laws.proofs.{ListedOutcomes.fenced_tree_serves, OneList.one_list}
+use Rattle.tree_laws.specs.Covers.{IsWholeCover}
 use Rattle.fence_laws.proofs.GapsAvoided.{fenced_runs_avoid}
 use Rattle.cert_forest.specs.{Trees.Cover, NodeConstants.NEAR_RUNS}
-use Rattle.outcome_search.specs.{OutcomeNumbers.AreFoundOf, AscendingOutcomes.AscendingOutcomes, OutcomeIndex.OutcomeIndex, Covers.IsWholeCover}
+use Rattle.outcome_search.specs.{OutcomeNumbers.AreFoundOf, AscendingOutcomes.AscendingOutcomes, OutcomeIndex.OutcomeIndex}
 use Rattle.outcome_search.specs.{KnownOutcomes.StopLacks, SearchStop.SearchStop}
 use Rattle.outcome_search.proofs.{RenumberedTrees.whole_renumbered}
 use Rattle.tso_program.proofs.OutcomesOrdered.{one_way}
 use Rattle.std.specs.declared.cmp.Ordering.TheVariants.{Less}
 use Rattle.tso_machine.specs.declared.mode.Mode.TheVariants as modes
-
--- a question by its parts
-pub same_question : (q : Question) (p : Listing) (shown : Shown) → p ≡ q.program → shown ≡ q.shown → asked p shown ≡ q
-same_question q p shown program is = λ i. record { program = program i; shown = is i }
 
 -- the table of all sequential outcomes, by a tree that names them in another order
 pub table_of : (p other : Listing) (shown copied : Shown) (known outcomes : List Outcome) (runs : List (List Label)) (places : List ℕ) (before tree : Cover) → other ≡ p → copied ≡ shown → ((n : ℕ) → place_in places n < NEAR_RUNS) → IsListOf (asked p shown) outcomes →
@@ -51,15 +45,6 @@ serving_is q gaps outcomes tree forward list is = record {
   tree = λ others are. subst (λ os. IsWholeCover q (StoreBufferMachine (gaps_in q.program gaps)) os tree) (one_list_of_outcomes q outcomes others list are) is;
 }
 
--- a run has one outcome
-pub one_end : (p : Listing) (mode : Machine) (labels : List Label) (a b : Outcome) → IsRun p mode labels a → IsRun p mode labels b → a ≡ b
-one_end p mode labels a b (last, run, ends, is) (other, again, finished, same) =
-    is ∙ ap (outcome_at p) (same_Some last other (sym run ∙ again)) ∙ sym same
-
--- and so one thing is shown of it
-pub one_outcome : (q : Question) (mode : Machine) (labels : List Label) (a b : Outcome) → IsShownRun q mode labels a → IsShownRun q mode labels b → a ≡ b
-one_outcome q mode labels a b (whole, is_run, shown) (other, again, same) = shown ∙ ap (show q.shown) (one_end q.program mode labels whole other is_run again) ∙ sym same
-
 -- a run with the set fenced is one with no gap fenced
 unfenced_run : (q : Question) (gaps : SetOfGaps) (labels : List Label) (o : Outcome) → IsShownRun q (StoreBufferMachine (gaps_in q.program gaps)) labels o → IsShownRun q (StoreBufferMachine no_gaps) labels o
 unfenced_run q gaps labels o (whole, is_run, shown) = (whole, ((fenced_runs_avoid q.program gaps labels whole).0 is_run).0, shown)
@@ -75,25 +60,6 @@ module _ (q : Question) (gaps : SetOfGaps) (outcomes : List Outcome) (labels : L
 
   pub passes_none : ArePassed q.program (StoreBufferMachine no_gaps) labels passed → (gap : ℕ) → set.contains passed gap ≡ true → set.contains gaps gap ≡ true → ⊥
   passes_none are gap passes held = ((fenced_runs_avoid q.program gaps labels is_run.0).0 is_run.1).1 gap held ((are gap).0 passes)
-
--- an outcome has a place in a list exactly if it is one of it
-pub found_by : (outcomes : List Outcome) (o : Outcome) (place : Result ℕ ℕ) (b : Bool) → IfOk place (λ n. slice_get outcomes n ≡ Some o) → IfErr place (BelongsAt outcomes o) → b ≡ is_ok place →
-    IsTrue b ↔ Contains outcomes o
-found_by outcomes o (Ok n) b at none is = ((λ yes. found_is_here outcomes n o at), (λ has. is))
-found_by outcomes o (Err n) b at belongs is = ((λ yes. (let no : false ≡ true = sym is ∙ yes in absurd cc)), (λ has. absurd (not_there outcomes o n belongs has)))
-
--- what a replay that is refused says of a foreign run
-pub fault_of_foreign : (q : Question) (labels : List Label) (why : ReplayFault) → ReplayFaultIs q.program (StoreBufferMachine no_gaps) labels why → ForeignFaultIs q labels (of_replay why)
-fault_of_foreign q labels (replays.NoSuchThread n) h = (h, (λ same. absurd cc))
-fault_of_foreign q labels (replays.AtEnd n) h = (h, (λ same. absurd cc))
-fault_of_foreign q labels (replays.BufferEmpty n) h = (h, (λ same. absurd cc))
-fault_of_foreign q labels (replays.FenceWaits n) h = (h, (λ same. absurd cc))
-fault_of_foreign q labels (replays.NotEnded n) h = (h, (λ same. absurd cc))
-fault_of_foreign q labels replays.OutOfMemory h = tt
-
--- a foreign run is refused only when out of memory
-pub no_fault_of_foreign : (q : Question) (labels : List Label) (why : ReplayFault) (o : Outcome) → ReplayFaultIs q.program (StoreBufferMachine no_gaps) labels why → IsForeignRun q labels o → of_replay why ≡ foreign.OutOfMemory
-no_fault_of_foreign q labels why o h run = ap of_replay (no_fault q.program (StoreBufferMachine no_gaps) labels run.is_run.0 why run.is_run.1 h)
 
 -- a run with the set fenced replays with no gap fenced: nothing but out of memory refuses
 pub replays_unfenced : (q : Question) (gaps : SetOfGaps) (labels : List Label) (o : Outcome) (why : ReplayFault) → IsShownRun q (StoreBufferMachine (gaps_in q.program gaps)) labels o →

@@ -3,12 +3,10 @@ pub use Rattle.std.proofs.Common.{Bool, Bor, Contains, IsTrue, List, None, Optio
 pub use Rattle.std.specs.Arc.{arc_value}
 pub use Rattle.std.specs.Global.{Vec}
 pub use Rattle.std.specs.Prelude.{Err, IfErr, IfOk, MatchOption, Ok, Result, is_ok}
-pub use Rattle.outcome_search.proofs.Answered.{if_ok}
+pub use Rattle.std.proofs.lemmas.Result.{IfOk-weaker as if_ok}
 pub use Rattle.outcome_search.proofs.OtherNumbers.{renumbered}
 pub use Rattle.outcome_search.specs.PartialCovers.{IsPartialCover, items_of, renumbered_item}
 pub use Rattle.outcome_search.specs.PartialCover.{PartialCover}
-pub use Rattle.outcome_search.proofs.Inserted.{not_there}
-pub use Rattle.outcome_search.specs.Ascending.{BelongsAt}
 pub use Rattle.outcome_search.specs.OutcomeNumbers.{ArePlacesOf, AreRunsOf, place_in}
 pub use Rattle.tso_machine.specs.Faults.{ReplayFaultIs}
 pub use Rattle.tso_machine.specs.Machine.{IsRun, Machine, SequentialMachine, StoreBufferMachine, no_gaps, outcome_at}
@@ -20,5 +18,6 @@ pub use Rattle.tso_program.specs.Shown.{Question, asked, show, told}
 pub use Rattle.tso_program.specs.declared.listing.Listing.{Listing}
 pub use Rattle.tso_program.specs.declared.outcome.Outcome.{Outcome}
 pub use Rattle.tso_program.specs.declared.shown.Shown.{Shown}
-pub use Rattle.cover_solver.specs.Facts.{AreOf, Asked, Foreign, IsForeignValue, IsListOf, IsSequentialTable, IsServing, Table}
-pub use Rattle.cover_solver.specs.ForeignFaults.{ForeignFaultIs, of_replay}
+pub use Rattle.oracle.proofs.ForeignRuns.{one_outcome, same_question}
+pub use Rattle.oracle.specs.Facts.{AreOf, Foreign, IsForeignValue, IsListOf, IsSequentialTable, IsServing, Table}
+pub use Rattle.cover_solver.specs.Solvers.{Asked}

@@ -3,12 +3,10 @@
 //! Each hole has a run with no gap fenced, and most of these runs are foreign. A foreign run answers the question
 //! about each set of which it passes no gap, without a search.
 ghost use Rattle.std.specs.Prelude.{◌≤◌, IfOk, OnOk, length};
-ghost use Rattle.cover_solver.specs.Facts.{AreOf};
+ghost use Rattle.oracle.specs.Facts.{AreOf};
 
-use crate::fault::ForeignFault;
-use crate::foreign_run::ForeignRun;
-use crate::table::SeqTable;
 use gap_sets::GapSet;
+use oracle::{ForeignFault, ForeignRun, SeqTable};
 use outcome_search::{HoleRun, PartialCover};
 use run_maker::{MakeFault, make_run_for};
 use sketches::Sketch;

@@ -10,22 +10,15 @@
 //! set, and a set that serves has a valid tree.
 #![tactic(auto)]
 
-mod fault;
-mod foreign_run;
 mod hole_runs;
-mod oracle;
 mod outcome_list;
-mod served;
 mod solver;
 mod table;
 mod witnesses;
 
-pub use fault::{ForeignFault, SolveFault};
-pub use foreign_run::ForeignRun;
-pub use oracle::{Oracle, Verdict};
+pub use oracle::{ForeignFault, ForeignRun, Oracle, SeqTable, Served, SolveFault, Verdict};
 pub use outcome_list::{OutcomeList, SoughtOutcomes, outcomes, outcomes_with_runs};
 pub use outcome_search::{ThreadShare, Watch};
-pub use served::Served;
 pub use solver::Solver;
-pub use table::{SeqTable, sequential, sequential_watched};
+pub use table::{SearchedTable, sequential, sequential_watched};
 pub use witnesses::witness;

@@ -6,10 +6,10 @@ ghost use Rattle.tso_program.specs.Shown.{asked};
 ghost use Rattle.tso_machine.specs.Outcomes.{AllowsShown};
 ghost use Rattle.tso_machine.specs.Modes.{machine_of_model};
 ghost use Rattle.outcome_search.specs.OutcomeNumbers.{AreRunsOf};
-ghost use Rattle.outcome_search.specs.Ascending.{Ascend};
+ghost use Rattle.tree_laws.specs.Ascending.{Ascend};
 
-use crate::fault::SolveFault;
 use cert_forest::Runs;
+use oracle::SolveFault;
 use outcome_search::{
     Search, Unwatched, Watch, all_outcomes, in_ascending_order, start_alone, start_by,
 };

@@ -4,7 +4,7 @@ ghost use Rattle.tso_machine.specs.Modes.{machine_of_mode};
 ghost use Rattle.outcome_search.specs.OutcomeNumbers.{IsInOrder, IsRunOf};
 ghost use Rattle.cover_solver.specs.Witnesses.{IsWitness, HasNoWitness};
 
-use crate::fault::SolveFault;
+use oracle::SolveFault;
 use outcome_search::{OutcomeIndex, Search, Unwatched, all_outcomes, start_alone};
 use sketches::Mode;
 use std::alloc::{AllocError, Global};

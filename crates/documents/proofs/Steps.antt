@@ -1,12 +1,12 @@
 -- Steps, one more; and the labels of the steps of a run.
-use Rattle.documents.proofs.Vocabulary.{◌≡◌, List, [], ◌∷◌, ◌++◌, map, refl, Listing, Label, Step, StepPart, HasLabel, HaveLabels}
+use Rattle.documents.proofs.Vocabulary.{◌≡◌, List, [], ◌∷◌, ◌++◌, map, refl, Listing, Label, Step, StepPart, IsStep, AreStepsOf}
 use Rattle.tso_machine.specs.{Machine.Machine, Machine.State, Steps.AreSteps}
 
-pub one_more_step : (labels : List Label) (parts : List StepPart) (label : Label) (part : StepPart) → HaveLabels labels parts → HasLabel label part → HaveLabels (labels ++ label ∷ []) (parts ++ part ∷ [])
-one_more_step [] [] label part have has = (has, tt)
-one_more_step [] (first ∷ parts) label part have has = absurd have
-one_more_step (first ∷ labels) [] label part have has = absurd have
-one_more_step (first ∷ labels) (one ∷ parts) label part have has = (have.0, one_more_step labels parts label part have.1 has)
+pub one_more_step : (labels : List Label) (parts : List StepPart) (label : Label) (part : StepPart) → AreStepsOf labels parts → IsStep label part → AreStepsOf (labels ++ label ∷ []) (parts ++ part ∷ [])
+one_more_step [] [] label part are is = (is, tt)
+one_more_step [] (first ∷ parts) label part are is = absurd are
+one_more_step (first ∷ labels) [] label part are is = absurd are
+one_more_step (first ∷ labels) (one ∷ parts) label part are is = (are.0, one_more_step labels parts label part are.1 is)
 
 -- the steps that labels make have these labels
 pub labels_of_steps : (p : Listing) (machine : Machine) (s : State) (labels : List Label) (steps : List Step) → AreSteps p machine s labels steps → map (λ step. step.label) steps ≡ labels

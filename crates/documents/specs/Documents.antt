@@ -1,5 +1,6 @@
 -- The documents of the commands.
-use Rattle.std.specs.Prelude.{◌≡◌, ℕ, ◌-◌, List, [], ◌∷◌, ◌++◌, codes, drop, length, min, take}
+use Rattle.std.specs.Prelude.{◌≡◌, ℕ, ◌-◌, List, [], ◌∷◌, ◌++◌, Option, Some, None, codes, drop, length, min, take}
+use Rattle.std.specs.Fmt.{decimal}
 use Rattle.gap_sets.specs.Gaps.{SetOfGaps}
 use Rattle.tso_program.specs.declared.listing.Listing.{Listing}
 use Rattle.tso_program.specs.declared.outcome.Outcome.{Outcome}
@@ -8,7 +9,8 @@ use Rattle.tso_machine.specs.declared.label.Label.{Label}
 use Rattle.tso_machine.specs.declared.label.Model.{Model}
 use Rattle.report.specs.Litmus.{Litmus}
 use Rattle.report.specs.Observations.{frequency, is_true_of}
-use Rattle.json_text.specs.Texts.{quoted, array_text, member, object_text, truth_text}
+use Rattle.json_text.specs.Texts.{quoted, array_text, member, object_text, null_text, truth_text}
+use Rattle.json_text.specs.Values.{IsJsonLine}
 use Rattle.documents.specs.declared.run.Setting.TheVariants.{Machine}
 use Rattle.documents.specs.Parts.{ProgramPart, program_members, IsProgram, answer_members, is_observed, outcomes_array}
 use Rattle.documents.specs.Runs.{setting_member, TellsRun, runs_array}
@@ -36,11 +38,12 @@ pub record TellsMembers (source : Litmus Listing) (command : List ℕ) (members 
   pub heading : TellsHeading source command first
   pub printed : all ≡ first ++ members
 
--- the document of a command: what is said of the program, and then these members
+-- the document of a command: what is said of the program, and then these members, as one line of JSON
 pub record IsDocument (source : Litmus Listing) (command : List ℕ) (members : List (List ℕ)) (text : List ℕ) : Type 0 where
   pub part : ProgramPart
   pub is : IsProgram source part
   pub printed : text ≡ document_of (command_members command part ++ members)
+  pub json : IsJsonLine text
 
 -- of a placement: the gaps with their costs, the answer, and the text of the fenced program
 abbrev pub IsPlacedDocument : Litmus Listing → Shown → List ℕ → SetOfGaps → List ℕ → List ℕ → Type 0
@@ -73,10 +76,29 @@ abbrev pub IsOutcomesWithRunsDocument : Litmus Listing → Shown → Model → L
 IsOutcomesWithRunsDocument source shown model outcomes runs =
     IsDocument source (codes "outcomes") (outcomes_members source shown model outcomes ++ member (codes "runs") (runs_array runs) ∷ [])
 
--- the second members are the first and more
-pub record AddsMembers (before after : List (List ℕ)) : Type 0 where
-  pub members : List (List ℕ)
-  pub added : after ≡ before ++ members
+-- what is said about a refusal beside its line: the file's name, the line and the column from 1, the word that stands there,
+-- and what is wrong
+pub record Remark : Type 0 where
+  pub file : List ℕ
+  pub line : Option ℕ
+  pub column : Option ℕ
+  pub word : List ℕ
+  pub message : List ℕ
+
+-- a number, if there is one
+abbrev pub number_or_null : Option ℕ → List ℕ
+number_or_null None = null_text
+number_or_null (Some number) = decimal number
+
+-- a string, or none where it has no byte
+abbrev pub string_or_null : List ℕ → List ℕ
+string_or_null [] = null_text
+string_or_null (byte ∷ bytes) = quoted (byte ∷ bytes)
+
+abbrev pub remark_members : Remark → List (List ℕ)
+remark_members remark =
+    member (codes "file") (string_or_null remark.file) ∷ member (codes "line") (number_or_null remark.line) ∷ member (codes "column") (number_or_null remark.column)
+    ∷ member (codes "word") (string_or_null remark.word) ∷ member (codes "message") (string_or_null remark.message) ∷ []
 
 -- what the line of a refusal says after `refused `, without its end
 abbrev pub after_refused : List ℕ → List ℕ
@@ -85,7 +107,12 @@ after_refused line = drop (min (length line) 8) line
 abbrev pub reason_of : List ℕ → List ℕ
 reason_of line = take (length (after_refused line) - 1) (after_refused line)
 
--- of a refusal, with the reason that the line of standard output gives
+-- of a refusal, with the reason that the line of standard output gives, and what is said about it
+abbrev pub refusal_text : List ℕ → Remark → List ℕ
+refusal_text line remark = document_of (format_member ∷ member (codes "refused") (quoted (reason_of line)) ∷ remark_members remark)
+
+-- the same with some remark, as one line of JSON
 pub record IsRefusalDocument (line text : List ℕ) : Type 0 where
-  pub members : List (List ℕ)
-  pub printed : text ≡ document_of (format_member ∷ member (codes "refused") (quoted (reason_of line)) ∷ members)
+  pub remark : Remark
+  pub printed : text ≡ refusal_text line remark
+  pub json : IsJsonLine text

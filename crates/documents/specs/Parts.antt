@@ -16,6 +16,7 @@ use Rattle.tso_program.specs.Shown.{shows_register, shows_location}
 use Rattle.report.specs.Litmus.{Litmus}
 use Rattle.report.specs.Names.{TextNames, all_registers, register_name, is_named}
 use Rattle.json_text.specs.Texts.{quoted, array_text, member, object_text, truth_text}
+use Rattle.json_text.specs.Values.{IsJson}
 
 -- ---- gaps
 
@@ -121,10 +122,14 @@ program_members part =
     member (codes "test") part.test ∷ member (codes "condition") part.condition ∷ member (codes "locations") part.locations
     ∷ member (codes "registers") part.registers ∷ member (codes "initial") part.initial ∷ member (codes "threads") part.threads ∷ []
 
--- the test's name is that of the text, and the locations are its locations, by number
+-- the test's name is that of the text, the locations are its locations, by number, and the rest is JSON
 pub record IsProgram (source : Litmus Listing) (part : ProgramPart) : Type 0 where
   pub test : part.test ≡ quoted source.name
+  pub condition : IsJson part.condition
   pub locations : part.locations ≡ array_text (map quoted source.names.locations)
+  pub registers : IsJson part.registers
+  pub initial : IsJson part.initial
+  pub threads : IsJson part.threads
 
 -- the second members are the first and those of a program
 pub record TellsProgram (source : Litmus Listing) (before after : List (List ℕ)) : Type 0 where

@@ -11,6 +11,7 @@ use Rattle.tso_machine.specs.RunTexts.{spelling}
 use Rattle.tso_program.specs.Truth.{truth}
 use Rattle.report.specs.Litmus.{Litmus}
 use Rattle.json_text.specs.Texts.{quoted, array_text, member, object_text, truth_text}
+use Rattle.json_text.specs.Values.{IsJson}
 use Rattle.documents.specs.declared.run.Setting.{Setting, TheVariants.Without, TheVariants.Machine}
 use Rattle.documents.specs.Parts.{quoted_gap, gaps_array, outcome_array}
 
@@ -35,32 +36,39 @@ step_members part =
 abbrev pub step_text : StepPart → List ℕ
 step_text part = object_text (step_members part)
 
--- a step with this label
-abbrev pub HasLabel : Label → StepPart → Type 0
-HasLabel label part = part.label ≡ quoted (spelling label)
+-- the part's label is this one, and the rest is JSON
+pub record IsStep (label : Label) (part : StepPart) : Type 0 where
+  pub labelled : part.label ≡ quoted (spelling label)
+  pub instruction : IsJson part.instruction
+  pub reads : IsJson part.reads
+  pub stores : IsJson part.stores
+  pub reaches : IsJson part.reaches
+  pub buffer : IsJson part.buffer
+  pub memory : IsJson part.memory
+  pub registers : IsJson part.registers
 
 -- the second members are the first and those of a step with this label
 pub record AddsStep (label : Label) (before after : List (List ℕ)) : Type 0 where
   pub part : StepPart
-  pub has : HasLabel label part
+  pub is : IsStep label part
   pub added : after ≡ before ++ step_members part
 
 -- the text is that of a step with this label
 pub record TellsStep (label : Label) (text : List ℕ) : Type 0 where
   pub part : StepPart
-  pub has : HasLabel label part
+  pub is : IsStep label part
   pub printed : text ≡ step_text part
 
 -- a step for each label
-abbrev pub HaveLabels : List Label → List StepPart → Type 0
-HaveLabels [] [] = Unit {0}
-HaveLabels [] (part ∷ parts) = ⊥
-HaveLabels (label ∷ labels) [] = ⊥
-HaveLabels (label ∷ labels) (part ∷ parts) = HasLabel label part × HaveLabels labels parts
+abbrev pub AreStepsOf : List Label → List StepPart → Type 0
+AreStepsOf [] [] = Unit {0}
+AreStepsOf [] (part ∷ parts) = ⊥
+AreStepsOf (label ∷ labels) [] = ⊥
+AreStepsOf (label ∷ labels) (part ∷ parts) = IsStep label part × AreStepsOf labels parts
 
 -- the text has a step for each label
 abbrev pub TellsSteps : List Label → List ℕ → Type 0
-TellsSteps labels text = (parts : List StepPart) × HaveLabels labels parts × (text ≡ array_text (map step_text parts))
+TellsSteps labels text = (parts : List StepPart) × AreStepsOf labels parts × (text ≡ array_text (map step_text parts))
 
 -- ---- runs
 
@@ -88,10 +96,11 @@ ended_members source shown outcome passed =
     ∷ member (codes "passed") (gaps_array source.program.threads passed) ∷ []
 
 -- The text of a run: which one it is, a step for each of its labels, what is shown of what it leaves, whether that meets the
--- condition's formula, the gaps that it passes, and its candidate execution.
+-- condition's formula, the gaps that it passes, and its candidate execution, which is JSON.
 pub record TellsRun (source : Litmus Listing) (shown : Shown) (setting : Setting) (labels : List Label) (outcome : Outcome) (passed : SetOfGaps) (text : List ℕ) : Type 0 where
   pub steps : List ℕ
   pub each : TellsSteps labels steps
   pub execution : List ℕ
+  pub json : IsJson execution
   pub printed : text ≡ object_text (setting_member source.program setting ∷ member (codes "steps") steps
       ∷ (ended_members source shown outcome passed ++ member (codes "execution") execution ∷ []))

@@ -2,6 +2,7 @@
 ghost use Rattle.std.specs.Prelude.{◌≡◌, ◌∷◌, ◌++◌, [], IfOk, OnOk, codes, map};
 ghost use Rattle.json_text.specs.Safe.{IsSafe};
 ghost use Rattle.json_text.specs.Texts.{quoted};
+ghost use Rattle.json_text.specs.Values.{IsJsonLine};
 ghost use Rattle.report.specs.Observations.{frequency};
 ghost use Rattle.documents.specs.Documents.{document_of, format_member, IsWhyDocument, IsPlacedDocument, IsTraceDocument, outcomes_members, IsOutcomesDocument, IsOutcomesWithRunsDocument, TellsHeading, TellsMembers};
 
@@ -46,6 +47,7 @@ pub(crate) fn begun(
 /// A document, which is one line.
 pub(crate) fn document_of(object: JsonObject) -> Result<Vec<u8>, AllocError>
     ensures text { IfOk result (λ document. document.items ≡ document_of object) }
+    ensures json { IfOk result (λ document. IsJsonLine document.items) }
     ensures safe { IfOk result (λ document. IsSafe document.items) }
 {
     let text = object.into_json()?;
@@ -64,6 +66,7 @@ pub fn placed_document(
     fenced: &[u8],
 ) -> Result<Vec<u8>, AllocError>
     ensures told { IfOk result (λ document. IsPlacedDocument litmus.now shown.now costs.now set.now fenced.now document.items) }
+    ensures json { IfOk result (λ document. IsJsonLine document.items) }
     ensures safe { IfOk result (λ document. IsSafe document.items) }
 {
     let mut object = begun(alloc, b"place", litmus)?;
@@ -83,6 +86,7 @@ pub fn why_document(
     runs: JsonArray,
 ) -> Result<Vec<u8>, AllocError>
     ensures told { IfOk result (λ document. IsWhyDocument litmus.now shown.now costs.now set.now runs document.items) }
+    ensures json { IfOk result (λ document. IsJsonLine document.items) }
     ensures safe { IfOk result (λ document. IsSafe document.items) }
 {
     let mut object = begun(alloc, b"why", litmus)?;
@@ -101,6 +105,7 @@ pub fn trace_document(
     ended: &Ended,
 ) -> Result<Vec<u8>, AllocError>
     ensures told { IfOk result (λ document. IsTraceDocument litmus.now model (map (λ step. step.label) steps.now) ended.now.outcome ended.now.passed document.items) }
+    ensures json { IfOk result (λ document. IsJsonLine document.items) }
     ensures safe { IfOk result (λ document. IsSafe document.items) }
 {
     let setting = Setting::Machine(model);
@@ -167,13 +172,14 @@ pub fn outcomes_document(
     outcomes: &[Outcome],
 ) -> Result<Vec<u8>, AllocError>
     ensures told { IfOk result (λ document. IsOutcomesDocument litmus.now shown.now model outcomes.now document.items) }
+    ensures json { IfOk result (λ document. IsJsonLine document.items) }
     ensures safe { IfOk result (λ document. IsSafe document.items) }
 {
     let object = outcomes_object(alloc, litmus, shown, model, outcomes)?;
     document_of(object)
 }
 
-/// The same with the labels of runs, one for each outcome.
+/// The document of a program's outcomes in a machine, with the labels of a run of each.
 pub fn outcomes_with_runs_document(
     alloc: Global,
     litmus: &Litmus<Program>,
@@ -183,6 +189,7 @@ pub fn outcomes_with_runs_document(
     runs: &Runs,
 ) -> Result<Vec<u8>, AllocError>
     ensures told { IfOk result (λ document. IsOutcomesWithRunsDocument litmus.now shown.now model outcomes.now runs.now document.items) }
+    ensures json { IfOk result (λ document. IsJsonLine document.items) }
     ensures safe { IfOk result (λ document. IsSafe document.items) }
 {
     let mut object = outcomes_object(alloc, litmus, shown, model, outcomes)?;

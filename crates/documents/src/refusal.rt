@@ -1,7 +1,8 @@
 //! Refusals.
-ghost use Rattle.std.specs.Prelude.{◌≡◌, IfOk, OnOk};
+ghost use Rattle.std.specs.Prelude.{◌≡◌, ◌++◌, IfOk, OnOk};
 ghost use Rattle.json_text.specs.Safe.{IsSafe};
-ghost use Rattle.documents.specs.Documents.{reason_of, AddsMembers, IsRefusalDocument};
+ghost use Rattle.json_text.specs.Values.{IsJsonLine};
+ghost use Rattle.documents.specs.Documents.{number_or_null, string_or_null, reason_of, refusal_text, remark_members, IsRefusalDocument};
 
 use crate::document::{add_format, document_of};
 use json_text::{JsonObject, JsonText};
@@ -23,7 +24,9 @@ pub struct RefusalMessage<'a> {
 }
 
 /// A number, if there is one.
-fn number_or_null(alloc: Global, number: Option<usize>) -> Result<JsonText, AllocError> {
+fn number_or_null(alloc: Global, number: Option<usize>) -> Result<JsonText, AllocError>
+    ensures { IfOk result (λ json. json ≡ number_or_null number) }
+{
     match number {
         Some(number) => JsonText::number(alloc, number as u64),
         None => JsonText::null(alloc),
@@ -31,7 +34,9 @@ fn number_or_null(alloc: Global, number: Option<usize>) -> Result<JsonText, Allo
 }
 
 /// A string, or none if it has no byte.
-fn string_or_null(alloc: Global, text: &[u8]) -> Result<JsonText, AllocError> {
+fn string_or_null(alloc: Global, text: &[u8]) -> Result<JsonText, AllocError>
+    ensures { IfOk result (λ json. json ≡ string_or_null text.now) }
+{
     if text.is_empty() {
         JsonText::null(alloc)
     } else {
@@ -56,7 +61,7 @@ fn add_message(
     object: &mut JsonObject,
     message: &RefusalMessage<'_>,
 ) -> Result<(), AllocError>
-    ensures { OnOk result (AddsMembers object.old object.new) }
+    ensures { OnOk result (object.new ≡ object.old ++ remark_members (record { file = message.now.file.now; line = message.now.line; column = message.now.column; word = message.now.word.now; message = message.now.text.now })) }
 {
     object.add("file", string_or_null(alloc, message.file)?)?;
     object.add("line", number_or_null(alloc, message.line)?)?;
@@ -71,7 +76,9 @@ pub fn refusal_document(
     line: &[u8],
     message: &RefusalMessage<'_>,
 ) -> Result<Vec<u8>, AllocError>
+    ensures text { IfOk result (λ document. document.items ≡ refusal_text line.now (record { file = message.now.file.now; line = message.now.line; column = message.now.column; word = message.now.word.now; message = message.now.text.now })) }
     ensures told { IfOk result (λ document. IsRefusalDocument line.now document.items) }
+    ensures json { IfOk result (λ document. IsJsonLine document.items) }
     ensures safe { IfOk result (λ document. IsSafe document.items) }
 {
     let mut object = JsonObject::new(alloc);

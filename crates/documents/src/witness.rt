@@ -2,6 +2,7 @@
 
 ghost use Rattle.std.specs.Prelude.{◌≡◌, ◌++◌, IfOk, OnOk};
 ghost use Rattle.json_text.specs.Safe.{IsSafe};
+ghost use Rattle.json_text.specs.Values.{IsJsonLine};
 ghost use Rattle.documents.specs.Witnesses.{run_or_null, sought_members, IsWitnessDocument};
 
 use crate::document::{begun, document_of};
@@ -54,6 +55,7 @@ pub fn witness_document(
     run: Option<JsonText>,
 ) -> Result<Vec<u8>, AllocError>
     ensures told { IfOk result (λ document. IsWitnessDocument litmus.now sought run document.items) }
+    ensures json { IfOk result (λ document. IsJsonLine document.items) }
     ensures safe { IfOk result (λ document. IsSafe document.items) }
 {
     let run = run_or_null(alloc, run)?;

@@ -7,7 +7,7 @@ use Rattle.gap_sets.specs.declared.costs.TheConstants.{MAX_COST}
 use Rattle.tso_program.specs.declared.outcome.Outcome as machine
 use Rattle.cert_forest.specs.TreeConstants.{MAX_COVER_DEPTH, MAX_GAP_DEPTH}
 use Rattle.cert_forest.specs.Limits as limits
-use Rattle.cover_solver.specs.Covers.{IsWholeCover}
+use Rattle.tree_laws.specs.Covers.{IsWholeCover}
 use Rattle.fence_place.proofs.{GapTreeValid.IsFine, GapTreeValid.fine, ShortRuns.short_run}
 
 -- sequential runs are short

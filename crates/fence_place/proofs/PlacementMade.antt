@@ -1,6 +1,6 @@
 -- A certificate that is made with its proof, its set and its cost are a placement.
 use Rattle.fence_place.proofs.Vocabulary.{◌≡◌, ◌∙◌, ℕ, List, sym, ap, subst, SetOfGaps, total, Listing, Shown, Certificate, IsValidCertificate, IsProof, AreDistinct, Question, asked, Headline, IsTheAnswer}
-use Rattle.cover_solver.specs.Laws.{IsProved}
+use Rattle.tree_laws.specs.Laws.{IsProved}
 use Rattle.search_core.specs.Answers.{the_answer, least_cost}
 use Rattle.fence_place.specs.{declared.placing.Placed.Placed, Placements.IsPlacement}
 

@@ -3,8 +3,9 @@ use Rattle.fence_place.proofs.Vocabulary.{◌≡◌, ℕ, ◌+◌, ◌*◌, ◌<
 use Rattle.fence_place.proofs.Vocabulary.{Machine, SequentialMachine, StoreBufferMachine, State, put, direct, buffered, past_gap, step, run, start, IsRun}
 use Rattle.tso_program.specs.{declared.outcome.Outcome.Outcome, declared.action.Action.TheVariants.Stop, declared.limits.TheConstants.MAX_THREADS, declared.limits.TheConstants.MAX_INSTRUCTIONS}
 use Rattle.tso_program.specs.Listings.{action}
-use Rattle.cover_solver.specs.{Label.TheVariants.Exec, Label.TheVariants.Flush, RunTexts.IsLabel}
-use Rattle.cover_solver.proofs.{Runs.no_action, Runs.no_stores, ChangedAt.put_other, StepCases.exec_by, StepCases.flush_by}
+use Rattle.tso_machine.specs.{declared.label.Label.TheVariants.Exec, declared.label.Label.TheVariants.Flush, RunTexts.IsLabel}
+use Rattle.tso_machine.proofs.Runs.{no_action, no_stores}
+use Rattle.fence_laws.proofs.{ChangedAt.put_other, StepCases.exec_by, StepCases.flush_by}
 use Rattle.search_core.proofs.RunsAreShort.{every_run_is_short}
 use Rattle.cert_forest.specs.Limits as limits
 

@@ -15,14 +15,14 @@ pub use Rattle.cert_forest.specs.GapNodes.{spell_gap, spell_gaps}
 pub use Rattle.cert_forest.specs.Limits.{AreShownPlaces, HasGapNumbers, HaveGapNumbers, IsGapTo, gap_depth, gaps_depth}
 pub use Rattle.cert_forest.specs.Shows.{shows_of}
 pub use Rattle.cert_forest.specs.Trees.{Bound, Cover, Gap, GapTrees, MoreGaps, NoGap, Split, count_gaps, gap_trees_of}
-pub use Rattle.cover_solver.proofs.OpenGaps.{few_open, open_ascending, open_exact}
-pub use Rattle.cover_solver.specs.Certificates.{AreSequentialRuns, IsRunOutside, IsValidCertificate}
-pub use Rattle.cover_solver.specs.Facts.{AreOf, Foreign, IsForeignValue, IsListOf, IsSequentialTable, IsServing, Serving, Table}
-pub use Rattle.cover_solver.specs.GapTrees.{AreValidGaps, IsSplitBy, IsValidGap}
-pub use Rattle.cover_solver.specs.Label.{Label}
-pub use Rattle.cover_solver.specs.Machine.{IsRun, Machine, SequentialMachine, State, StoreBufferMachine, buffered, direct, no_gaps, past_gap, put, run, start, step}
-pub use Rattle.cover_solver.specs.Outcomes.{AreGapsOf, Headline, IsSequentialOutcome, IsShownRun, IsTheAnswer}
-pub use Rattle.cover_solver.specs.Verdicts.{IsVerdictOf, PassesNoneOf}
+pub use Rattle.tree_laws.proofs.OpenGaps.{few_open, open_ascending, open_exact}
+pub use Rattle.tree_laws.specs.Certificates.{AreSequentialRuns, IsRunOutside, IsValidCertificate}
+pub use Rattle.oracle.specs.Facts.{AreOf, Foreign, IsForeignValue, IsListOf, IsSequentialTable, IsServing, Serving, Table}
+pub use Rattle.tree_laws.specs.GapTrees.{AreValidGaps, IsSplitBy, IsValidGap}
+pub use Rattle.tso_machine.specs.declared.label.Label.{Label}
+pub use Rattle.tso_machine.specs.Machine.{IsRun, Machine, SequentialMachine, State, StoreBufferMachine, buffered, direct, no_gaps, past_gap, put, run, start, step}
+pub use Rattle.tso_machine.specs.Outcomes.{AreGapsOf, Headline, IsSequentialOutcome, IsShownRun, IsTheAnswer}
+pub use Rattle.oracle.specs.Verdicts.{IsVerdictOf, PassesNoneOf}
 pub use Rattle.gap_sets.specs.Gaps.{IsGapSet, SetOfGaps}
 pub use Rattle.gap_sets.specs.Order.{Better}
 unfoldable pub use Rattle.gap_sets.specs.Order.{total}

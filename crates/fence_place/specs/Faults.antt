@@ -3,8 +3,8 @@ use Rattle.std.specs.Prelude.{◌≡◌, ◌≢◌, ◌⊎◌, ℕ, ◌<◌, Boo
 use Rattle.tso_program.specs.declared.listing.Listing.{Listing}
 use Rattle.tso_program.specs.declared.limits.TheConstants.{MAX_WORKERS}
 use Rattle.tso_program.specs.Listings.{gap_count}
-use Rattle.cover_solver.specs.declared.fault.SolveFault.{SolveFault}
-use Rattle.cover_solver.specs.declared.fault.SolveFault.TheVariants as solve
+use Rattle.oracle.specs.declared.fault.SolveFault.{SolveFault}
+use Rattle.oracle.specs.declared.fault.SolveFault.TheVariants as solve
 use Rattle.fence_place.specs.declared.fault.PlaceFault.{PlaceFault}
 use Rattle.fence_place.specs.declared.fault.PlaceFault.TheVariants as fault
 

@@ -2,7 +2,7 @@
 use Rattle.std.specs.Prelude.{◌≡◌, ℕ, List}
 use Rattle.gap_sets.specs.Order.{total}
 use Rattle.tso_program.specs.Shown.{Question}
-use Rattle.cover_solver.specs.Outcomes.{Headline, IsTheAnswer}
+use Rattle.tso_machine.specs.Outcomes.{Headline, IsTheAnswer}
 use Rattle.search_core.specs.Answers.{the_answer, least_cost}
 use Rattle.fence_place.specs.declared.placing.Placed.{Placed}
 use Rattle.fence_place.specs.Proofs.{IsProof}

@@ -2,9 +2,9 @@
 use Rattle.std.specs.Prelude.{◌≡◌, ◌≢◌, ℕ, zero, suc, ◌+◌, true, List, Some, slice_get, length}
 use Rattle.std.specs.List.{AllPairs}
 use Rattle.gap_sets.specs.Regions.{open_gaps}
-use Rattle.cover_solver.specs.Label.{Label}
+use Rattle.tso_machine.specs.declared.label.Label.{Label}
 use Rattle.cert_forest.specs.Trees.{Gap, Split, Bound, GapTrees, NoGap, MoreGaps}
-use Rattle.cover_solver.specs.Facts.{Foreign}
+use Rattle.oracle.specs.Facts.{Foreign}
 use Rattle.search_core.specs.declared.entry.Entry.{Entry}
 use Rattle.search_core.specs.declared.entry.Status.TheVariants as status
 use Rattle.search_core.specs.Entries.{is_closed}

@@ -5,8 +5,8 @@ ghost use Rattle.search_core.specs.States.{IsSeatCount};
 ghost use Rattle.fence_place.specs.Faults.{AreTooFewOrMany, HasOtherLength, ArgumentFaultIs};
 
 use crate::PlaceFault;
-use cover_solver::SeqTable;
 use gap_sets::Costs;
+use oracle::SeqTable;
 use tso_program::MAX_WORKERS;
 
 /// Refuses a number of workers that can't be, and a list of costs that hasn't one for each gap.

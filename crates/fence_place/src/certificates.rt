@@ -8,7 +8,7 @@ ghost use Rattle.fence_place.specs.Internal.Recording.{AreNumbersOf, ListsEvent,
 
 use crate::gaps::count_open;
 use cert_forest::{Certificate, GapNode, GapTree, Runs, Shows};
-use cover_solver::SeqTable;
+use oracle::SeqTable;
 use search_core::{Finished, SettledEvent};
 use std::alloc::{AllocError, Global};
 use tso_program::Shown;
@@ -145,7 +145,7 @@ fn push_tree(
     push_trees(finished, numbers, first, count, nodes)
 }
 
-/// The same of so many nodes from this number on.
+/// Puts the trees of so many nodes after the others, from the node with this number on.
 #[cycle(push_tree)]
 fn push_trees(
     finished: &Finished,

@@ -1,6 +1,6 @@
 //! The hunt: workers round one search.
 ghost use Rattle.std.specs.Prelude.{◌≡◌, ◌↔◌, All, Err, IfErr, IfOk, IfSome, IsTrue};
-ghost use Rattle.cover_solver.specs.Outcomes.{IsTheAnswer};
+ghost use Rattle.tso_machine.specs.Outcomes.{IsTheAnswer};
 ghost use Rattle.search_core.specs.States.{IsStart};
 ghost use Rattle.hunt_board.specs.Seats.{IsOf, IsFresh};
 ghost use Rattle.fence_place.specs.Faults.{AreTooFewOrMany, HasOtherLength, HuntFaultIs, MayHuntFail};
@@ -11,9 +11,9 @@ use crate::PlaceFault;
 use crate::arguments::judge_arguments;
 use crate::turns::Turns;
 use crate::worker::{SharedHunt, Worker, work};
-use cover_solver::{Oracle, SeqTable};
 use gap_sets::Costs;
 use hunt_board::{CloseFault, Hunt, HuntSeat, Receipt};
+use oracle::{Oracle, SeqTable};
 use search_core::{Finished, SearchTree};
 use std::alloc::{AllocError, Global};
 use std::sync::Wait;
@@ -48,7 +48,7 @@ pub fn hunt_with<R: Threads + Wait + Sync, O: Oracle>(
     Ok(finished)
 }
 
-/// The same from the start of a search, by a worker for each of its seats.
+/// Searches for the best set of gaps that serves from the start of a search tree, by a worker for each of its seats.
 pub(crate) fn hunt<R: Threads + Wait + Sync, O: Oracle>(
     rt: &R,
     alloc: Global,

@@ -3,12 +3,12 @@
 //! A split needs a run that passes no gap of the node's `must`, and any such run will do: so before it asks, a
 //! search looks for one among the runs that it knows.
 ghost use Rattle.std.specs.Prelude.{◌≡◌, ◌↔◌, IfSome, IsTrue, Some, slice_get};
-ghost use Rattle.cover_solver.specs.Facts.{Foreign};
-ghost use Rattle.cover_solver.specs.Verdicts.{PassesNoneOf};
+ghost use Rattle.oracle.specs.Facts.{Foreign};
+ghost use Rattle.oracle.specs.Verdicts.{PassesNoneOf};
 
 use crate::gaps::count_open;
-use cover_solver::ForeignRun;
 use gap_sets::Region;
+use oracle::ForeignRun;
 
 /// Of the known runs that pass no gap which the node's sets must have, the place of one that opens the
 /// fewest nodes.

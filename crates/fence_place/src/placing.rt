@@ -1,7 +1,7 @@
 //! Placing fences.
-ghost use Rattle.std.specs.Prelude.{◌≡◌, IfOk, IfErr, Err, length};
+ghost use Rattle.std.specs.Prelude.{◌≡◌, false, IfOk, IfErr, Err, length};
 ghost use Rattle.tso_program.specs.Listings.{gap_count};
-ghost use Rattle.cover_solver.specs.Outcomes.{Headline, IsTheAnswer};
+ghost use Rattle.tso_machine.specs.Outcomes.{Headline, IsTheAnswer};
 ghost use Rattle.search_core.specs.Answers.{the_answer, least_cost};
 ghost use Rattle.gap_sets.specs.Order.{total};
 ghost use Rattle.fence_place.specs.Placements.{IsPlacement};
@@ -18,8 +18,8 @@ use crate::retracing::retraced;
 use crate::searching::search;
 use cert_check::certificate_proves_answer;
 use cert_forest::Certificate;
-use cover_solver::{Oracle, SeqTable, SolveFault, Solver};
 use gap_sets::{Costs, GapSet};
+use oracle::{Oracle, SeqTable, SolveFault};
 use search_core::{Finished, SearchTree};
 use std::alloc::{AllocError, Global};
 use std::sync::Wait;
@@ -33,6 +33,13 @@ pub struct Placed {
     pub certificate: Certificate,
 }
 
+/// Who is asked: an oracle, and another one, which lacks no run, by which a search is made again.
+#[derive(Drop)]
+pub struct Oracles<'a, O, S> {
+    pub first: &'a O,
+    pub again: &'a S,
+}
+
 /// Finds the best set of gaps that serves, by asking an oracle, with a certificate that the checker
 /// accepts.
 ///
@@ -42,18 +49,21 @@ pub struct Placed {
 /// the source has.
 /// This holds for every oracle that keeps its law, and for any number of workers.
 ///
-/// It hunts as [`crate::hunt_with`] does. Where the oracle lacks a run, or the record of the hunt doesn't close, it
-/// searches again on the caller's thread, by a solver of its own.
-pub fn place<R: Threads + Wait + Sync, O: Oracle>(
+/// It hunts as [`crate::hunt_with`] does, by the first oracle. Where that lacks a run, or the record of the hunt doesn't
+/// close, it searches again on the caller's thread, by the other one.
+pub fn place<R: Threads + Wait + Sync, O: Oracle, S: Oracle>(
     rt: &R,
     alloc: Global,
-    oracle: &O,
+    oracles: Oracles<'_, O, S>,
     table: &SeqTable,
     costs: &Costs,
     workers: u8,
 ) -> Result<Placed, PlaceFault>
-    requires question { O.question oracle.now ≡ table.now.question }
-    requires may { O.may_be_asked oracle.now }
+    requires question { O.question oracles.first.now ≡ table.now.question }
+    requires may { O.may_be_asked oracles.first.now }
+    requires again { S.question oracles.again.now ≡ table.now.question }
+    requires again_may { S.may_be_asked oracles.again.now }
+    requires again_has_runs { S.may_lack_runs oracles.again.now ≡ false }
     ensures headline { IfOk result (λ placed. Headline table.now.question costs.now placed.set) }
     ensures cost { IfOk result (λ placed. placed.cost ≡ total costs.now placed.set) }
 
@@ -74,22 +84,26 @@ pub fn place<R: Threads + Wait + Sync, O: Oracle>(
 {
     judge_arguments(table, costs, workers)?;
     let tree = SearchTree::new(alloc, table, costs, workers)?;
-    let hunted = hunt(rt, alloc, oracle, tree);
-    Ok(placement(alloc, table, costs, hunted)?)
+    let hunted = hunt(rt, alloc, oracles.first, tree);
+    Ok(placement(alloc, oracles.again, table, costs, hunted)?)
 }
 
 /// The answer and its certificate, by what a hunt found or else by a search that is made again.
-fn placement(
+fn placement<S: Oracle>(
     alloc: Global,
+    again: &S,
     table: &SeqTable,
     costs: &Costs,
     hunted: Result<Finished, PlaceFault>,
 ) -> Result<Placed, AllocError>
+    requires question { S.question again.now ≡ table.now.question }
+    requires may { S.may_be_asked again.now }
+    requires has_runs { S.may_lack_runs again.now ≡ false }
     requires one_each { length costs.now ≡ gap_count table.now.question.program.threads }
     requires hunted { IfOk hunted (IsSearchFor table.now.question costs.now) }
     ensures { IfOk result (IsPlacement table.now.question costs.now) }
 {
-    let finished = searched(alloc, table, costs, hunted)?;
+    let finished = searched(alloc, again, table, costs, hunted)?;
     let certificate = certify(alloc, table, &finished)?;
     // For the proof alone: the certificate is valid, so its set is the answer.
     certificate_proves_answer(table.program(), table.shown(), costs);
@@ -101,12 +115,16 @@ fn placement(
 }
 
 /// What a hunt found, retraced; or where it failed for another cause than memory the search that is made again.
-fn searched(
+fn searched<S: Oracle>(
     alloc: Global,
+    again: &S,
     table: &SeqTable,
     costs: &Costs,
     hunted: Result<Finished, PlaceFault>,
 ) -> Result<Finished, AllocError>
+    requires question { S.question again.now ≡ table.now.question }
+    requires may { S.may_be_asked again.now }
+    requires has_runs { S.may_lack_runs again.now ≡ false }
     requires one_each { length costs.now ≡ gap_count table.now.question.program.threads }
     requires hunted { IfOk hunted (IsSearchFor table.now.question costs.now) }
     ensures { IfOk result (IsSearchFor table.now.question costs.now) }
@@ -114,17 +132,24 @@ fn searched(
     match hunted {
         Ok(finished) => Ok(retraced(alloc, table, costs, finished)),
         Err(PlaceFault::OutOfMemory) => Err(AllocError),
-        Err(_) => search_again(alloc, table, costs),
+        Err(_) => search_again(alloc, again, table, costs),
     }
 }
 
-/// The search by one seat on the caller's thread, by a solver of its own, which lacks no run.
-fn search_again(alloc: Global, table: &SeqTable, costs: &Costs) -> Result<Finished, AllocError>
-    requires { length costs.now ≡ gap_count table.now.question.program.threads }
+/// The search by one seat on the caller's thread, by an oracle that lacks no run.
+fn search_again<S: Oracle>(
+    alloc: Global,
+    again: &S,
+    table: &SeqTable,
+    costs: &Costs,
+) -> Result<Finished, AllocError>
+    requires question { S.question again.now ≡ table.now.question }
+    requires may { S.may_be_asked again.now }
+    requires has_runs { S.may_lack_runs again.now ≡ false }
+    requires one_each { length costs.now ≡ gap_count table.now.question.program.threads }
     ensures { IfOk result (IsSearchFor table.now.question costs.now) }
 {
-    let solver = Solver::new(alloc, table.program(), table)?;
-    match search(alloc, &solver, table, costs, Vec::new(alloc)) {
+    match search(alloc, again, table, costs, Vec::new(alloc)) {
         Ok(finished) => Ok(finished),
         Err(SolveFault::OutOfMemory) => Err(AllocError),
         Err(SolveFault::NoRun) => unreachable!(),

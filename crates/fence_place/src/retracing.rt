@@ -6,12 +6,12 @@
 ghost use Rattle.std.specs.Prelude.{◌≡◌, true, IfOk, OnOk, length};
 ghost use Rattle.tso_program.specs.Shown.{Question};
 ghost use Rattle.tso_program.specs.Listings.{gap_count};
-ghost use Rattle.cover_solver.specs.Facts.{AreOf};
+ghost use Rattle.oracle.specs.Facts.{AreOf};
 ghost use Rattle.fence_place.specs.Internal.Searches.{IsOfQuestion, IsSearchFor};
 
 use crate::searching::search;
-use cover_solver::{ForeignRun, Oracle, SeqTable, Served, SolveFault, Verdict};
 use gap_sets::{Costs, GapSet};
+use oracle::{ForeignRun, Oracle, SeqTable, Served, SolveFault, Verdict};
 use search_core::{Finished, SettledEvent};
 use std::alloc::{AllocError, Global};
 

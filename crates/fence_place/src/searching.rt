@@ -6,15 +6,15 @@
 //! serves is the answer, and no further ask finds one: how often it asks is tested, and no clause says it.
 ghost use Rattle.std.specs.Prelude.{◌≡◌, ◌<◌, true, false, IfOk, IfErr, OnOk, length};
 ghost use Rattle.tso_program.specs.Listings.{gap_count};
-ghost use Rattle.cover_solver.specs.Facts.{AreOf};
+ghost use Rattle.oracle.specs.Facts.{AreOf};
 ghost use Rattle.search_core.specs.States.{IsDone, IsSameSearch};
 ghost use Rattle.search_core.specs.Work.{work_left};
 ghost use Rattle.fence_place.specs.Faults.{MaySearchFail};
 ghost use Rattle.fence_place.specs.Internal.Searches.{HasSettled, IsAtRest, IsReadyToSettle, IsSearchFor};
 
 use crate::known::known_run;
-use cover_solver::{ForeignRun, Oracle, SeqTable, SolveFault, Verdict};
 use gap_sets::{Costs, Region};
+use oracle::{ForeignRun, Oracle, SeqTable, SolveFault, Verdict};
 use search_core::{Finished, Reason, SearchTree, TreeFault, settling_lessens_the_work};
 use std::alloc::Global;
 

@@ -1,16 +1,16 @@
 //! What workers share without waiting for one another: a ceiling, and the runs that they were given.
 ghost use Rattle.std.specs.Prelude.{◌≡◌, IfSome};
 ghost use Rattle.gap_sets.specs.Gaps.{SetOfGaps};
-ghost use Rattle.cover_solver.specs.Verdicts.{IsVerdictOf};
+ghost use Rattle.oracle.specs.Verdicts.{IsVerdictOf};
 ghost use Rattle.search_core.specs.Ceilings.{IsAboveCeiling, IsCeilingOf};
 ghost use Rattle.hunt_board.specs.Seats.{IsOf};
 ghost use Rattle.fence_place.specs.Internal.Sharing.{CanSplit, HasShared};
 
 use crate::gaps::count_open;
 use crate::known::may_split;
-use cover_solver::{ForeignRun, Served, Verdict};
 use gap_sets::{GapSet, Region};
 use hunt_board::{Hunt, HuntSeat, PostFault, ROW_CELLS};
+use oracle::{ForeignRun, Served, Verdict};
 use search_core::Ceiling;
 use std::alloc::Global;
 use tso_program::MAX_WORKERS;
@@ -54,7 +54,7 @@ fn posted_run<'a>(hunt: &'a Hunt, node: &Region) -> Option<SplittingRun<'a>>
     best
 }
 
-/// The same, of those in a seat's row and one found before.
+/// Of the posted runs in a seat's row that split the node, and one found before, one that opens the fewest nodes.
 fn better_in_row<'a>(
     hunt: &'a Hunt,
     seat: u8,

@@ -1,8 +1,8 @@
 //! One worker of a hunt.
 ghost use Rattle.std.specs.Prelude.{◌≡◌, ◌⊎◌, ◌++◌, ◌∷◌, [], Some, None, ℕ, IfErr, IfOk, IfSome, OnErr, OnOk, slice_get};
-ghost use Rattle.cover_solver.specs.Outcomes.{AreGapsOf};
-ghost use Rattle.cover_solver.specs.Facts.{AreOf, IsForeignValue};
-ghost use Rattle.cover_solver.specs.Verdicts.{IsVerdictOf, PassesNoneOf};
+ghost use Rattle.tso_machine.specs.Outcomes.{AreGapsOf};
+ghost use Rattle.oracle.specs.Facts.{AreOf, IsForeignValue};
+ghost use Rattle.oracle.specs.Verdicts.{IsVerdictOf, PassesNoneOf};
 ghost use Rattle.hunt_board.specs.Seats.{IsOf};
 ghost use Rattle.hunt_board.specs.Settlings.{IsLawfulSettling, MaySettle};
 ghost use Rattle.fence_place.specs.Internal.Sharing.{CanSplit};
@@ -11,9 +11,9 @@ ghost use Rattle.fence_place.specs.Internal.Workers.{HasDealtWith, HasStopped, I
 use crate::known::known_run;
 use crate::sharing::{ceiling_below, copy_of_posted, share};
 use crate::turns::{Turn, Turns};
-use cover_solver::{ForeignRun, Oracle, SolveFault, Verdict};
 use gap_sets::{GapSet, Region};
 use hunt_board::{Hunt, HuntSeat, Next, Receipt, Settling};
+use oracle::{ForeignRun, Oracle, SolveFault, Verdict};
 use std::alloc::Global;
 use std::sync::Wait;
 

@@ -15,9 +15,9 @@ use Rattle.tso_machine.specs.Modes.{machine_of_model}
 use Rattle.tso_machine.specs.Outcomes.{AllowsShown}
 use Rattle.litmus_text.specs.Litmus.{Litmus}
 use Rattle.litmus_text.specs.Texts.{IsLitmus, IsNoLitmus}
-use Rattle.cover_solver.specs.declared.fault.SolveFault.TheVariants as solve
+use Rattle.oracle.specs.declared.fault.SolveFault.TheVariants as solve
 use Rattle.cover_solver.specs.OutcomeNumbers.{AreRunsOf}
-use Rattle.cover_solver.specs.Ascending.{Ascend}
+use Rattle.tree_laws.specs.Ascending.{Ascend}
 use Rattle.litmus_text.specs.Names.{TextNames}
 use Rattle.litmus_text.specs.Shown.{shown_as, question_of}
 use Rattle.report.specs.Answers.{printed_labels, outcome_line}

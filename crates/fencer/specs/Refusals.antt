@@ -1,7 +1,7 @@
 -- Why there is no answer, and how an answer is printed.
 use Rattle.std.specs.Prelude.{◌≡◌, ℕ, Bool, List, Result, Ok, Err, codes}
-use Rattle.cover_solver.specs.declared.fault.SolveFault.{SolveFault}
-use Rattle.cover_solver.specs.declared.fault.SolveFault.TheVariants as solve
+use Rattle.oracle.specs.declared.fault.SolveFault.{SolveFault}
+use Rattle.oracle.specs.declared.fault.SolveFault.TheVariants as solve
 use Rattle.report.specs.Faults.{refused, litmus_line, replay_line, run_line}
 use Rattle.fencer.specs.declared.refusals.AnswerFault.{AnswerFault}
 use Rattle.fencer.specs.declared.refusals.AnswerFault.TheVariants as answer_fault

@@ -7,7 +7,7 @@ use Rattle.program_streams.specs.Files.{AreOfFile, IsFileFault}
 use Rattle.program_streams.specs.FileLines.{file_line}
 use Rattle.fencer_words.specs.declared.job.WitnessQuery.{WitnessQuery}
 use Rattle.fencer_words.specs.CommandFiles.{name_of}
-use Rattle.cover_solver.specs.declared.fault.SolveFault.TheVariants as solve
+use Rattle.oracle.specs.declared.fault.SolveFault.TheVariants as solve
 use Rattle.report.specs.Faults.{refused, litmus_line}
 use Rattle.witness_text.specs.declared.fault.WitnessFault.{WitnessFault}
 use Rattle.witness_text.specs.declared.fault.WitnessFault.TheVariants as fault

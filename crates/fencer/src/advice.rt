@@ -129,7 +129,7 @@ pub(crate) fn tell_idle_name<W: Console>(alloc: Global, litmus: &str, text: &[u8
     output.tell(slip_advice(alloc, litmus, text, true));
 }
 
-/// The same; of a name in the condition where its truth is compared alone.
+/// Tells of what may be a slip in a litmus text; of a name in the condition where the condition's truth is compared alone.
 pub(crate) fn tell_idle_name_compared<W: Console>(
     alloc: Global,
     asked: &Placement,

@@ -21,7 +21,7 @@ use clap::Error;
 use clap::error::ErrorKind;
 use fencer_words::{Job, read_words};
 use program_streams::{
-    Console, LineFault, TEXT_LIMIT, WritableFileStore, asks_version, file_line, line_words, print,
+    Console, TEXT_LIMIT, WordsFault, WritableFileStore, asks_version, file_line, line_words, print,
     read_line_up_to, refuse_words, version_line,
 };
 use std::alloc::{AllocError, Global};
@@ -126,7 +126,7 @@ pub fn run_command<T: Threads + Wait + Sync, S: WritableFileStore, R: Read, W: C
     };
     match line_words(alloc, &line) {
         Ok(words) => run_words(rt, alloc, files, words.as_slice(), input, output),
-        Err(LineFault::NotUtf8) => refuse_words(alloc, output),
-        Err(LineFault::OutOfMemory) => 1,
+        Err(WordsFault::NotUtf8) => refuse_words(alloc, output),
+        Err(WordsFault::OutOfMemory) => 1,
     }
 }

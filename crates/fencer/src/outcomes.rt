@@ -10,7 +10,7 @@ ghost use Rattle.litmus_text.specs.Shown.{shown_as};
 ghost use Rattle.litmus_text.specs.Texts.{IsLitmus};
 ghost use Rattle.report.specs.Answers.{outcome_line};
 ghost use Rattle.report.specs.Observations.{observation_line, condition_line};
-ghost use Rattle.cover_solver.specs.declared.fault.SolveFault.TheVariants as solve;
+ghost use Rattle.oracle.specs.declared.fault.SolveFault.TheVariants as solve;
 ghost use Rattle.fencer.specs.Outcomes.{listed_kind, list_text as lines_of_list, list_status, run_line_at, ListsOutcomes, ListsRuns, PrintsOutcomes, HasNoList, AreOutcomes, TellsOutcomes};
 
 use crate::advice::{AskedText, tell_idle_name, unread_advice, unread_litmus};

@@ -1,8 +1,8 @@
 -- What a script over a hunt has in hand.
 use Rattle.std.specs.Prelude.{IfSome}
 use Rattle.tso_machine.specs.Outcomes.{AreGapsOf}
-use Rattle.cover_solver.specs.Facts.{Foreign}
-use Rattle.cover_solver.specs.declared.oracle.Verdict.TheVariants as verdict
+use Rattle.oracle.specs.Facts.{Foreign}
+use Rattle.oracle.specs.declared.oracle.Verdict.TheVariants as verdict
 use Rattle.hunt_board.specs.Cells.{IsInCell}
 use Rattle.hunt_board.specs.Seats.{HuntView, SeatView, IsOf}
 use Rattle.hunt_board.specs.Settlings.{MaySettle}

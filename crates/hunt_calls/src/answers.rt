@@ -1,10 +1,10 @@
 //! The answers to the calls.
 
 use crate::hunts::push_hunted;
+use crate::inquiry::Inquiry;
 use crate::refusal::HuntRefusal;
 use crate::search::{push_records, push_searched};
-use cover_solver::SeqTable;
-use std::alloc::Global;
+use oracle::Oracle;
 use std::sync::Wait;
 
 /// A call with the sequential outcomes, by its name.
@@ -15,18 +15,19 @@ pub enum HuntCall {
     Hunt,
 }
 
-/// The answer to a call with the sequential outcomes.
-pub fn push_of_hunt<W: Wait>(
+/// The answer to a call with the sequential outcomes and an oracle.
+pub fn push_of_hunt<W: Wait, O: Oracle>(
     wait: &W,
-    alloc: Global,
     call: HuntCall,
     words: &[&[u8]],
-    table: &SeqTable,
+    inquiry: &Inquiry<'_, O>,
     printed: &mut String,
-) -> Result<(), HuntRefusal> {
+) -> Result<(), HuntRefusal>
+    requires { O.may_be_asked inquiry.now.oracle.now }
+{
     match call {
-        HuntCall::Search => push_searched(alloc, table, words, printed),
-        HuntCall::Records => push_records(alloc, table, words, printed),
-        HuntCall::Hunt => push_hunted(wait, alloc, table, words, printed),
+        HuntCall::Search => push_searched(inquiry, words, printed),
+        HuntCall::Records => push_records(inquiry, words, printed),
+        HuntCall::Hunt => push_hunted(wait, inquiry, words, printed),
     }
 }

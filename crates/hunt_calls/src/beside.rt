@@ -6,12 +6,10 @@ use crate::hunts::Hand;
 use crate::refusal::HuntRefusal;
 use crate::scene::Scene;
 use crate::search::labels_of;
-use crate::verdicts::served_on;
-use cover_solver::{ForeignRun, SeqTable, Served};
 use hunt_board::{Hunt, PostFault, ROW_CELLS};
-use solver_calls::set_in;
+use oracle::{ForeignRun, Oracle, SeqTable};
 use std::alloc::{AllocError, Global};
-use text_calls::{byte_of, gap_set_of, number_of, push_gaps_after, push_run, split_at_byte};
+use text_calls::{byte_of, number_of, push_gaps_after, push_run, split_at_byte};
 
 /// The hunt's ceiling.
 pub fn push_ceiling(hunt: &Hunt, hand: &mut Hand, printed: &mut String) -> Result<(), AllocError>
@@ -22,14 +20,6 @@ pub fn push_ceiling(hunt: &Hunt, hand: &mut Hand, printed: &mut String) -> Resul
         Some(cost) => write!(printed, "ceiling {cost}\n"),
         None => printed.push_str("ceiling none\n"),
     }
-}
-
-/// The set of these gaps, where it serves.
-pub fn served_by(alloc: Global, table: &SeqTable, gaps: &[u8]) -> Result<Served, HuntRefusal>
-    ensures { IfOk result (λ served. served.question ≡ table.now.question) }
-{
-    let set = set_in(table.program(), gap_set_of(alloc, gaps)?)?;
-    served_on(alloc, table, &set)
 }
 
 /// The run of these labels.
@@ -57,7 +47,8 @@ fn is_posted(hunt: &Hunt, hand: &mut Hand, run: ForeignRun) -> Result<bool, Fore
     }
 }
 
-/// The same. Where memory is refused, it prints so and posts the run that was handed back.
+/// Posts the run. Whether the seat's row had a cell left; where memory is refused, it prints so and posts the run that was
+/// handed back.
 fn is_posted_again(
     hunt: &Hunt,
     hand: &mut Hand,
@@ -96,13 +87,14 @@ fn post_copy(
     }
 }
 
-impl Scene<'_> {
+impl<O: Oracle> Scene<'_, O> {
     /// Lowers the ceiling to what the set of these gaps costs, where it serves.
     pub fn lower(&self, hand: &mut Hand, gaps: &[u8]) -> Result<(), HuntRefusal>
-        requires { IsSound self.now.hunt.now hand.old }
+        requires may { O.may_be_asked self.now.inquiry.now.oracle.now }
+        requires sound { IsSound self.now.hunt.now hand.old }
         ensures { IsSound self.now.hunt.now hand.new }
     {
-        let served = served_by(self.alloc, self.table, gaps)?;
+        let served = self.inquiry.served_by(gaps)?;
         self.hunt.lower(&mut hand.seat, &served);
         Ok(())
     }
@@ -117,7 +109,7 @@ impl Scene<'_> {
         requires { IsSound self.now.hunt.now hand.old }
         ensures { IsSound self.now.hunt.now hand.new }
     {
-        let run = run_by(self.alloc, self.table, labels)?;
+        let run = run_by(self.inquiry.alloc, self.inquiry.table, labels)?;
         if is_posted_again(self.hunt, hand, run, printed)? {
             Ok(printed.push_str("posted\n")?)
         } else {
@@ -130,9 +122,9 @@ impl Scene<'_> {
         requires { IsSound self.now.hunt.now hand.old }
         ensures { IsSound self.now.hunt.now hand.new }
     {
-        let run = run_by(self.alloc, self.table, labels)?;
+        let run = run_by(self.inquiry.alloc, self.inquiry.table, labels)?;
         for _ in 0..ROW_CELLS {
-            post_copy(self.alloc, self.hunt, hand, &run)?;
+            post_copy(self.inquiry.alloc, self.hunt, hand, &run)?;
         }
         Ok(())
     }

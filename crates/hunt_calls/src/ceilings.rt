@@ -2,11 +2,10 @@
 ghost use Rattle.std.specs.Prelude.{◌≡◌, IfOk};
 ghost use Rattle.search_core.specs.Ceilings.{IsCeilingOf};
 
-use crate::beside::served_by;
+use crate::inquiry::Inquiry;
 use crate::refusal::HuntRefusal;
-use cover_solver::SeqTable;
+use oracle::Oracle;
 use search_core::{Ceiling, SearchTree};
-use std::alloc::Global;
 
 /// How a ceiling is made.
 #[derive(Clone, Copy)]
@@ -20,18 +19,18 @@ pub enum Making {
 }
 
 /// What the set of these gaps costs, where it serves.
-fn ceiling_of(
-    alloc: Global,
-    table: &SeqTable,
+fn ceiling_of<O: Oracle>(
+    inquiry: &Inquiry<'_, O>,
     tree: &SearchTree,
     gaps: &[u8],
 ) -> Result<Ceiling, HuntRefusal>
-    requires { tree.now.question ≡ table.now.question }
+    requires may { O.may_be_asked inquiry.now.oracle.now }
+    requires of_table { tree.now.question ≡ inquiry.now.table.now.question }
     ensures { IfOk result (IsCeilingOf tree.now.question tree.now.costs) }
 {
-    let served = served_by(alloc, table, gaps)?;
+    let served = inquiry.served_by(gaps)?;
     let costs = tree.costs();
-    if costs.len() != usize::from(table.program().gaps()) {
+    if costs.len() != usize::from(inquiry.table.program().gaps()) {
         return Err(HuntRefusal::Call);
     }
     Ok(Ceiling::of(&served, costs))
@@ -47,19 +46,19 @@ fn at_cost_of(tree: &SearchTree, ceiling: &Ceiling) -> Ceiling
 }
 
 /// A ceiling that is made in this way, of the set of these gaps where it is of one.
-pub fn made(
-    alloc: Global,
-    table: &SeqTable,
+pub fn made<O: Oracle>(
+    inquiry: &Inquiry<'_, O>,
     tree: &SearchTree,
     making: Making,
     gaps: &[u8],
 ) -> Result<Ceiling, HuntRefusal>
-    requires { tree.now.question ≡ table.now.question }
+    requires may { O.may_be_asked inquiry.now.oracle.now }
+    requires of_table { tree.now.question ≡ inquiry.now.table.now.question }
     ensures { IfOk result (IsCeilingOf tree.now.question tree.now.costs) }
 {
     match making {
         Making::None => Ok(Ceiling::none()),
-        Making::Of => ceiling_of(alloc, table, tree, gaps),
-        Making::At => Ok(at_cost_of(tree, &ceiling_of(alloc, table, tree, gaps)?)),
+        Making::Of => ceiling_of(inquiry, tree, gaps),
+        Making::At => Ok(at_cost_of(tree, &ceiling_of(inquiry, tree, gaps)?)),
     }
 }

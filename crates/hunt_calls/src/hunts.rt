@@ -1,26 +1,25 @@
 //! A hunt of one seat by its calls, one for each word of a script, at whose end the hunt is closed.
 ghost use Rattle.std.specs.Prelude.{◌≡◌, ◌∷◌, [], IfOk, None, Some};
 ghost use Rattle.tso_machine.specs.Outcomes.{AreGapsOf};
-ghost use Rattle.cover_solver.specs.Facts.{IsForeignValue};
-ghost use Rattle.cover_solver.specs.Verdicts.{PassesNoneOf};
+ghost use Rattle.oracle.specs.Facts.{IsForeignValue};
+ghost use Rattle.oracle.specs.Verdicts.{PassesNoneOf};
 ghost use Rattle.hunt_board.specs.Seats.{IsFresh, IsOf};
 ghost use Rattle.hunt_board.specs.Settlings.{IsLawfulSettling};
 ghost use Rattle.hunt_calls.specs.Hunts.{IsSound};
 
 use crate::beside::{push_ceiling, push_look, push_posted};
+use crate::inquiry::Inquiry;
 use crate::records::push_set;
 use crate::refusal::HuntRefusal;
 use crate::scene::Scene;
 use crate::search::{labels_of, new_search, push_region};
 use crate::settlings::cut;
-use crate::verdicts::verdict_on;
-use cover_solver::{ForeignRun, SeqTable, Verdict};
 use gap_sets::{GapSet, Region};
 use hunt_board::{Hunt, HuntSeat, Next, Posted, Receipt, ReceiptEvent, Settling};
-use solver_calls::passes_none;
+use oracle::{ForeignRun, Oracle, SeqTable, Verdict};
 use std::alloc::{AllocError, Global};
 use std::sync::Wait;
-use text_calls::{named, push_gaps_after, split_at_byte};
+use text_calls::{named, passes_none, push_gaps_after, split_at_byte};
 
 /// So many receipts are kept without another allocation.
 const FEW: usize = 8;
@@ -137,24 +136,25 @@ fn give_back<W: Wait>(
     Ok(printed.push_str("given back\n")?)
 }
 
-impl Scene<'_> {
-    /// How a word settles the node: by the run of the labels, by what the solver says, or by the best set that the seat has confirmed.
+impl<O: Oracle> Scene<'_, O> {
+    /// How a word settles the node: by the run of the labels, by what the oracle says, or by the best set that the seat has confirmed.
     fn settling_of(
         &self,
         seat: &HuntSeat,
         node: &Region,
         word: &[u8],
     ) -> Result<Settling, HuntRefusal>
-        requires { AreGapsOf self.now.hunt.now.question.program node.now.must }
+        requires may { O.may_be_asked self.now.inquiry.now.oracle.now }
+        requires gaps { AreGapsOf self.now.hunt.now.question.program node.now.must }
         ensures { IfOk result (IsLawfulSettling self.now.hunt.now seat.now.best node.now) }
     {
         let (name, labels) = split_at_byte(word, b':');
         if name == b"split".as_slice() {
-            let run = run_past(self.alloc, self.table, node, labels)?;
+            let run = run_past(self.inquiry.alloc, self.inquiry.table, node, labels)?;
             return Ok(Settling::Asked(Verdict::Foreign(run)));
         }
         if name == b"ask".as_slice() {
-            return Ok(Settling::Asked(verdict_on(self.alloc, self.table, &node.must)?));
+            return Ok(Settling::Asked(self.inquiry.verdict_on(&node.must)?));
         }
         if name == b"best".as_slice() && seat.has_as_good(self.hunt.costs(), &node.must) {
             return Ok(Settling::Best);
@@ -170,7 +170,8 @@ impl Scene<'_> {
         word: &[u8],
         printed: &mut String,
     ) -> Result<(), HuntRefusal>
-        requires { IsSound self.now.hunt.now hand.old }
+        requires may { O.may_be_asked self.now.inquiry.now.oracle.now }
+        requires sound { IsSound self.now.hunt.now hand.old }
         ensures { IsSound self.now.hunt.now hand.new }
     {
         let node = held(&hand.seat)?;
@@ -188,7 +189,8 @@ impl Scene<'_> {
         word: &[u8],
         printed: &mut String,
     ) -> Result<(), HuntRefusal>
-        requires { IsSound self.now.hunt.now hand.old }
+        requires may { O.may_be_asked self.now.inquiry.now.oracle.now }
+        requires sound { IsSound self.now.hunt.now hand.old }
         ensures { IsSound self.now.hunt.now hand.new }
     {
         let (name, rest) = split_at_byte(word, b':');
@@ -208,8 +210,8 @@ impl Scene<'_> {
             HuntStep::Lower => self.lower(hand, rest),
             HuntStep::Post => self.post(hand, rest, printed),
             HuntStep::Fill => self.fill(hand, rest),
-            HuntStep::Posted => push_posted(self.alloc, self.hunt, hand, printed),
-            HuntStep::Look => push_look(self.alloc, self.hunt, rest, printed),
+            HuntStep::Posted => push_posted(self.inquiry.alloc, self.hunt, hand, printed),
+            HuntStep::Look => push_look(self.inquiry.alloc, self.hunt, rest, printed),
         }
     }
 
@@ -221,7 +223,8 @@ impl Scene<'_> {
         script: &[&[u8]],
         printed: &mut String,
     ) -> Result<(), AllocError>
-        requires { IsSound self.now.hunt.now hand.old }
+        requires may { O.may_be_asked self.now.inquiry.now.oracle.now }
+        requires sound { IsSound self.now.hunt.now hand.old }
         ensures { IsSound self.now.hunt.now hand.new }
     {
         for word in script {
@@ -283,20 +286,19 @@ fn new_hand(alloc: Global, seat: HuntSeat) -> Result<Hand, AllocError>
 }
 
 /// A hunt for the best set of gaps, each of which costs 1, by one seat, and what is in hand after a script.
-pub fn hunt_by<W: Wait>(
+pub fn hunt_by<W: Wait, O: Oracle>(
     wait: &W,
-    alloc: Global,
-    table: &SeqTable,
+    inquiry: &Inquiry<'_, O>,
     script: &[&[u8]],
     printed: &mut String,
 ) -> Result<(Hunt, Hand), HuntRefusal>
+    requires { O.may_be_asked inquiry.now.oracle.now }
     ensures { IfOk result (λ made. IsSound made.0 made.1) }
 {
-    let (hunt, seat) = hunt_alone(alloc, table)?;
-    let mut hand = new_hand(alloc, seat)?;
+    let (hunt, seat) = hunt_alone(inquiry.alloc, inquiry.table)?;
+    let mut hand = new_hand(inquiry.alloc, seat)?;
     let scene = Scene {
-        alloc,
-        table,
+        inquiry,
         hunt: &hunt,
     };
     scene.push_script(wait, &mut hand, script, printed)?;
@@ -324,13 +326,14 @@ pub fn push_end(
 }
 
 /// The lines of a script over a hunt, and what the hunt ends with.
-pub fn push_hunted<W: Wait>(
+pub fn push_hunted<W: Wait, O: Oracle>(
     wait: &W,
-    alloc: Global,
-    table: &SeqTable,
+    inquiry: &Inquiry<'_, O>,
     script: &[&[u8]],
     printed: &mut String,
-) -> Result<(), HuntRefusal> {
-    let (hunt, hand) = hunt_by(wait, alloc, table, script, printed)?;
-    push_end(alloc, hunt, hand, printed)
+) -> Result<(), HuntRefusal>
+    requires { O.may_be_asked inquiry.now.oracle.now }
+{
+    let (hunt, hand) = hunt_by(wait, inquiry, script, printed)?;
+    push_end(inquiry.alloc, hunt, hand, printed)
 }

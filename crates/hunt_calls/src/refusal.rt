@@ -1,10 +1,8 @@
 //! Why a call has no other answer.
 
-use cover_solver::{ForeignFault, SolveFault};
 use hunt_board::CloseFault;
-use litmus_text::ReadFault;
+use oracle::{ForeignFault, SolveFault};
 use search_core::TreeFault;
-use solver_calls::SolverRefusal;
 use std::alloc::AllocError;
 use text_calls::TextRefusal;
 use thiserror::Error;
@@ -18,10 +16,6 @@ pub enum HuntRefusal {
     Memory(#[from(alloc)] AllocError),
     #[error("{0}")]
     Text(#[from] TextRefusal),
-    #[error("{0}")]
-    Solver(#[from] SolverRefusal),
-    #[error("litmus {0:?}")]
-    Litmus(#[from] ReadFault),
     #[error("solve {0:?}")]
     Solve(#[from] SolveFault),
     #[error("foreign {0:?}")]

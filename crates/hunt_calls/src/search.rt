@@ -3,15 +3,16 @@ ghost use Rattle.std.specs.Prelude.{◌≡◌, ◌<◌, IfOk, IfSome};
 ghost use Rattle.search_core.specs.States.{IsSameSearch, IsSeatCount, IsStart};
 
 use crate::ceilings::{Making, made};
+use crate::inquiry::Inquiry;
 use crate::records::push_record;
 use crate::refusal::HuntRefusal;
-use crate::verdicts::served_on;
-use cover_solver::{ForeignRun, SeqTable, Served};
 use gap_sets::Region;
+use oracle::{ForeignRun, Oracle, SeqTable, Served};
 use search_core::{Reason, SearchTree};
-use solver_calls::equal_costs;
 use std::alloc::{AllocError, Global};
-use text_calls::{labels_from, named, parts_of, place_of_then, push_gaps_after, split_at_byte};
+use text_calls::{
+    equal_costs, labels_from, named, parts_of, place_of_then, push_gaps_after, split_at_byte,
+};
 use tso_machine::Label;
 
 /// How many seats the search has.
@@ -86,39 +87,39 @@ fn split(
 }
 
 /// The seat's node is confirmed, if the gaps that its sets must have serve.
-fn confirm(
-    alloc: Global,
-    table: &SeqTable,
+fn confirm<O: Oracle>(
+    inquiry: &Inquiry<'_, O>,
     tree: &mut SearchTree,
     seat: u8,
 ) -> Result<(), HuntRefusal>
     requires seat { seat < tree.old.seats }
-    requires of_table { tree.old.question ≡ table.now.question }
+    requires may { O.may_be_asked inquiry.now.oracle.now }
+    requires of_table { tree.old.question ≡ inquiry.now.table.now.question }
     ensures { IsSameSearch tree.old tree.new }
 {
     let Some(node) = tree.held(seat) else {
         return Err(HuntRefusal::Call);
     };
-    let served = served_on(alloc, table, &node.must)?;
+    let served = inquiry.served_on(&node.must)?;
     Ok(tree.confirm(seat, served)?)
 }
 
 /// Does what a word names, and prints what became of it.
-fn push_event(
-    alloc: Global,
-    table: &SeqTable,
+fn push_event<O: Oracle>(
+    inquiry: &Inquiry<'_, O>,
     tree: &mut SearchTree,
     act: &Act<'_>,
     printed: &mut String,
 ) -> Result<(), HuntRefusal>
     requires seat { act.now.seat < tree.old.seats }
-    requires of_table { tree.old.question ≡ table.now.question }
+    requires may { O.may_be_asked inquiry.now.oracle.now }
+    requires of_table { tree.old.question ≡ inquiry.now.table.now.question }
     ensures { IsSameSearch tree.old tree.new }
 {
     let done = match act.event {
         SearchEvent::Take => return take(tree, act.seat, printed),
         SearchEvent::Split => {
-            split(alloc, table, tree, act.seat, act.labels)?;
+            split(inquiry.alloc, inquiry.table, tree, act.seat, act.labels)?;
             "split\n"
         }
         SearchEvent::Cut => {
@@ -126,13 +127,13 @@ fn push_event(
             "cut\n"
         }
         SearchEvent::CutBy(making) => {
-            let ceiling = made(alloc, table, tree, making, act.labels)?;
+            let ceiling = made(inquiry, tree, making, act.labels)?;
             write!(printed, "ceiling {:?}\n", ceiling.cost())?;
             tree.cut(act.seat, Reason::Ceiling(ceiling))?;
             "cut\n"
         }
         SearchEvent::Confirm => {
-            confirm(alloc, table, tree, act.seat)?;
+            confirm(inquiry, tree, act.seat)?;
             "confirmed\n"
         }
         SearchEvent::GiveBack => {
@@ -144,15 +145,15 @@ fn push_event(
 }
 
 /// Does what a word names: the event, the seat's number as its last digit, and labels or gaps after a colon.
-fn push_step(
-    alloc: Global,
-    table: &SeqTable,
+fn push_step<O: Oracle>(
+    inquiry: &Inquiry<'_, O>,
     tree: &mut SearchTree,
     word: &[u8],
     printed: &mut String,
 ) -> Result<(), HuntRefusal>
     requires seats { tree.old.seats ≡ 2 }
-    requires of_table { tree.old.question ≡ table.now.question }
+    requires may { O.may_be_asked inquiry.now.oracle.now }
+    requires of_table { tree.old.question ≡ inquiry.now.table.now.question }
     ensures { IsSameSearch tree.old tree.new }
 {
     let (first, labels) = split_at_byte(word, b':');
@@ -168,7 +169,7 @@ fn push_step(
         seat,
         labels,
     };
-    push_event(alloc, table, tree, &act, printed)
+    push_event(inquiry, tree, &act, printed)
 }
 
 /// The answer, if the search is done.
@@ -183,15 +184,15 @@ fn push_answer(answer: Option<&Served>, printed: &mut String) -> Result<(), Allo
 }
 
 /// The lines of a word: the answer, or what became of an event.
-fn push_word(
-    alloc: Global,
-    table: &SeqTable,
+fn push_word<O: Oracle>(
+    inquiry: &Inquiry<'_, O>,
     tree: &mut SearchTree,
     word: &[u8],
     printed: &mut String,
 ) -> Result<(), AllocError>
     requires seats { tree.old.seats ≡ 2 }
-    requires of_table { tree.old.question ≡ table.now.question }
+    requires may { O.may_be_asked inquiry.now.oracle.now }
+    requires of_table { tree.old.question ≡ inquiry.now.table.now.question }
     ensures { IsSameSearch tree.old tree.new }
 {
     if word == b"answer".as_slice() {
@@ -200,27 +201,27 @@ fn push_word(
     if word == b"done".as_slice() {
         return write!(printed, "done {}\n", tree.is_done());
     }
-    match push_step(alloc, table, tree, word, printed) {
+    match push_step(inquiry, tree, word, printed) {
         Ok(()) => Ok(()),
         Err(refusal) => write!(printed, "refused {refusal}\n"),
     }
 }
 
 /// The lines of a script.
-fn push_script(
-    alloc: Global,
-    table: &SeqTable,
+fn push_script<O: Oracle>(
+    inquiry: &Inquiry<'_, O>,
     tree: &mut SearchTree,
     script: &[&[u8]],
     printed: &mut String,
 ) -> Result<(), AllocError>
     requires seats { tree.old.seats ≡ 2 }
-    requires of_table { tree.old.question ≡ table.now.question }
+    requires may { O.may_be_asked inquiry.now.oracle.now }
+    requires of_table { tree.old.question ≡ inquiry.now.table.now.question }
     ensures seats { tree.new.seats ≡ 2 }
-    ensures of_table { tree.new.question ≡ table.now.question }
+    ensures of_table { tree.new.question ≡ inquiry.now.table.now.question }
 {
     for word in script {
-        push_word(alloc, table, tree, word, printed)?;
+        push_word(inquiry, tree, word, printed)?;
     }
     Ok(())
 }
@@ -236,14 +237,15 @@ pub fn new_search(alloc: Global, table: &SeqTable, seats: u8) -> Result<SearchTr
 }
 
 /// The lines of a script over the search for the best set of gaps, each of which costs 1.
-pub fn push_searched(
-    alloc: Global,
-    table: &SeqTable,
+pub fn push_searched<O: Oracle>(
+    inquiry: &Inquiry<'_, O>,
     script: &[&[u8]],
     printed: &mut String,
-) -> Result<(), HuntRefusal> {
-    let mut tree = new_search(alloc, table, SEATS)?;
-    Ok(push_script(alloc, table, &mut tree, script, printed)?)
+) -> Result<(), HuntRefusal>
+    requires { O.may_be_asked inquiry.now.oracle.now }
+{
+    let mut tree = new_search(inquiry.alloc, inquiry.table, SEATS)?;
+    Ok(push_script(inquiry, &mut tree, script, printed)?)
 }
 
 /// The record of a search that is done. Of one that is not, it says so, and hands it back.
@@ -266,18 +268,18 @@ fn push_if_finished(
 }
 
 /// The record of a search that is done. One that is not goes on by the script, as it is handed back.
-fn push_finished(
-    alloc: Global,
-    table: &SeqTable,
+fn push_finished<O: Oracle>(
+    inquiry: &Inquiry<'_, O>,
     tree: SearchTree,
     script: &[&[u8]],
     printed: &mut String,
 ) -> Result<(), AllocError>
     requires seats { tree.seats ≡ 2 }
-    requires of_table { tree.question ≡ table.now.question }
+    requires may { O.may_be_asked inquiry.now.oracle.now }
+    requires of_table { tree.question ≡ inquiry.now.table.now.question }
 {
     if let Some(mut tree) = push_if_finished(tree, printed)? {
-        push_script(alloc, table, &mut tree, script, printed)?;
+        push_script(inquiry, &mut tree, script, printed)?;
         let _ = push_if_finished(tree, printed)?;
     }
     Ok(())
@@ -285,14 +287,15 @@ fn push_finished(
 
 /// The lines of the words before `then` over a search, and its record where it is done; or else those of the words after
 /// it, and the record then.
-pub fn push_records(
-    alloc: Global,
-    table: &SeqTable,
+pub fn push_records<O: Oracle>(
+    inquiry: &Inquiry<'_, O>,
     words: &[&[u8]],
     printed: &mut String,
-) -> Result<(), HuntRefusal> {
+) -> Result<(), HuntRefusal>
+    requires { O.may_be_asked inquiry.now.oracle.now }
+{
     let (script, rest) = words.split_at(place_of_then(words)?);
-    let mut tree = new_search(alloc, table, SEATS)?;
-    push_script(alloc, table, &mut tree, script, printed)?;
-    Ok(push_finished(alloc, table, tree, rest.split_at(1).1, printed)?)
+    let mut tree = new_search(inquiry.alloc, inquiry.table, SEATS)?;
+    push_script(inquiry, &mut tree, script, printed)?;
+    Ok(push_finished(inquiry, tree, rest.split_at(1).1, printed)?)
 }

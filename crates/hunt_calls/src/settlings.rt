@@ -7,9 +7,9 @@ ghost use Rattle.hunt_calls.specs.Hunts.{IsSound, MaySplitHeld};
 use crate::hunts::{Hand, held, push_receipt, run_past};
 use crate::refusal::HuntRefusal;
 use crate::scene::Scene;
-use cover_solver::{ForeignRun, Verdict};
 use gap_sets::Region;
 use hunt_board::{Hunt, HuntSeat, Settling};
+use oracle::{ForeignRun, Oracle, Verdict};
 use search_core::Ceiling;
 use std::alloc::AllocError;
 use std::sync::Wait;
@@ -90,7 +90,7 @@ pub fn cut<W: Wait>(
     Ok(push_receipt(&receipt, printed)?)
 }
 
-impl Scene<'_> {
+impl<O: Oracle> Scene<'_, O> {
     /// The run of these labels, where it splits the seat's node, and a copy of it.
     fn run_twice(
         &self,
@@ -101,8 +101,8 @@ impl Scene<'_> {
         ensures copy { IfOk result (λ made. MaySplitHeld self.now.hunt.now seat.now made.1) }
     {
         let node = held(seat)?;
-        let run = run_past(self.alloc, self.table, &node, labels)?;
-        let copy = run.copy(self.alloc)?;
+        let run = run_past(self.inquiry.alloc, self.inquiry.table, &node, labels)?;
+        let copy = run.copy(self.inquiry.alloc)?;
         Ok((run, copy))
     }
 

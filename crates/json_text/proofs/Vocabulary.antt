@@ -5,7 +5,7 @@ pub use Rattle.std.proofs.lemmas.Bool.Decides.{nat_tests}
 pub use Rattle.std.proofs.lemmas.List.{append-nil, get_or-map, length-map, map-append, take_more}
 pub use Rattle.std.specs.Global.{Vec}
 pub use Rattle.std.specs.List.{flat_map}
-pub use Rattle.std.specs.Prelude.{if◌then◌else◌, nat_lt}
+pub use Rattle.std.specs.Prelude.{None, Option, Some, if◌then◌else◌, nat_lt, ◌==◌, ◌||◌, ◌≤◌}
 pub use Rattle.json_text.specs.Internal.Lists.{bytes_of_each}
 pub use Rattle.json_text.specs.Safe.{IsSafe}
 pub use Rattle.json_text.specs.Texts.{after_comma, array_text, enclosed, hex_digit, member, needs_backslash, needs_number, object_text, quoted, unicode_escape, with_commas}

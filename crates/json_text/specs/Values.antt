@@ -1,5 +1,7 @@
--- Values of JSON, and which texts are JSON. Numbers are whole and below 2 ^ 64.
-use Rattle.std.specs.Prelude.{◌≡◌, ℕ, ◌<◌, ◌^◌, Bool, List, [], ◌∷◌}
+-- Values of JSON (RFC 8259, section 3), how each is written, and which texts are JSON. No space stands between the parts of a text
+-- (section 2). Numbers are whole and below 2 ^ 64 (section 6). A byte of a string from 0x80 on stands in the text as it is, so a text
+-- is UTF-8 (section 8.1) where its strings are.
+use Rattle.std.specs.Prelude.{◌≡◌, ℕ, ◌<◌, ◌^◌, Bool, List, [], ◌∷◌, ◌++◌}
 use Rattle.std.specs.Fmt.{decimal}
 use Rattle.json_text.specs.Texts.{quoted, array_text, member, object_text, null_text, truth_text}
 
@@ -42,6 +44,12 @@ abbrev mutual
 pub record IsJson (text : List ℕ) : Type 0 where
   pub value : Json
   pub is : text ≡ written value
+
+-- the line is the text of a value and its end, which is white space after the value (section 2)
+pub record IsJsonLine (line : List ℕ) : Type 0 where
+  pub text : List ℕ
+  pub json : IsJson text
+  pub ended : line ≡ text ++ 10 ∷ []
 
 -- the texts are those of values
 pub record AreJson (texts : List (List ℕ)) : Type 0 where

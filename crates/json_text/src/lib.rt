@@ -10,9 +10,11 @@
 mod array;
 mod escape;
 mod json;
+mod laws;
 mod listed;
 mod object;
 
 pub use array::JsonArray;
 pub use json::JsonText;
+pub use laws::{no_object_closes_early, the_example_is_written};
 pub use object::JsonObject;

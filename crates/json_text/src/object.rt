@@ -1,6 +1,7 @@
 //! Objects.
 ghost use Rattle.std.specs.Prelude.{◌≡◌, ◌∷◌, ◌++◌, [], IfOk, OnOk};
 ghost use Rattle.json_text.specs.Texts.{member, object_text};
+ghost use Rattle.json_text.specs.Values.{IsJson};
 
 use crate::escape::push_quoted;
 use crate::json::JsonText;
@@ -49,9 +50,10 @@ impl JsonObject {
         }
     }
 
-    /// One more member.
+    /// One more member. Its value is JSON, as each `JsonText` is.
     pub fn add(&mut self, name: &str, value: JsonText) -> Result<(), AllocError>
-        ensures { OnOk result (self.new ≡ self.old ++ member name.now value ∷ []) }
+        ensures text { OnOk result (self.new ≡ self.old ++ member name.now value ∷ []) }
+        ensures json { IsJson value }
     {
         let text = member(self.alloc, name, value.as_bytes())?;
         self.members.push(text)?;

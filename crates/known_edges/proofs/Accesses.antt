@@ -91,9 +91,6 @@ grown_threads thread_traces old new next t n q g exact ordered = record {
   ordered = λ pairs. ordered (g.ordered pairs);
 }
 
-pub none_past : (s : ProgramSketch) (u i : ℕ) → length s.program.threads ≤ u → i < length (trace_in s u).accesses → ⊥
-none_past s u i h l = none_past_by s.program (mode_in s) (given_to s.chosen) u i h l
-
 pub no_trace : (thread_traces : List ThreadTrace) (u i : ℕ) → length thread_traces ≤ u → i < length (accesses_at thread_traces u) → ⊥
 no_trace thread_traces u i h l =
     let gone : accesses_at thread_traces u ≡ [] = ap (λ o. option_map_or (λ (c : ThreadTrace). c.accesses) o []) (slice_get_past thread_traces u h) in

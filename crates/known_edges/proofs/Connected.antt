@@ -3,7 +3,7 @@ use Rattle.known_edges.proofs.Vocabulary.{◌≡◌, ◌≢◌, ◌↔◌, ◌�
 use Rattle.known_edges.proofs.Vocabulary.{IsOfMode, SameThread, IsBefore, with_source, with_pair, KnownEdgeOfMode, Mode, Sequential, Fenced, machine_of_mode, ProgramSketch, mode_in, access_in, with_chosen, IsLawful, SourcePart, MayRead, MayFollow, IsRowOf}
 use Rattle.known_edges.proofs.Vocabulary.{AreRowsOf, ReadsBut, main_kind}
 use Rattle.candidate_executions.specs.declared.event.Kind.TheVariants as union
-use Rattle.known_edges.proofs.KnownParts.{Parts4, to_relates, of_relates}
+use Rattle.program_sketches.proofs.KnownParts.{Parts4, to_relates, of_relates}
 use Rattle.candidate_executions.proofs.Sketches.KnownEdges.{each}
 pub use Rattle.known_edges.proofs.Unchosen.{order_precedes}
 

@@ -1,17 +1,9 @@
 -- what many proofs speak of
 mod Vocabulary
-pub mod Lookups
-pub mod TracesKept
-pub mod Chosen
-pub mod GivenUsed
-pub mod Lawful
-pub mod KnownParts
 pub mod Cycles
 pub mod NumberWalks
 pub mod Accesses
 pub mod Found
-pub mod ChoicesCounted
-pub mod BranchesCounted
 pub mod Unchosen
 pub mod Masks
 pub mod InThreadOrder

@@ -3,7 +3,7 @@ use Rattle.known_edges.proofs.Vocabulary.{◌≡◌, ℕ, zero, suc, ◌<◌, Bo
 use Rattle.known_edges.proofs.Vocabulary.{IsWithinLimits, action, instr_at, code_of, start_of, Access, Event, Initial, At, given_to, Trace, trace, traced, entered, fenced_gaps, load_of, store_of, exchange_of, Mode, ThreadTrace, ProgramSketch, mode_in, view_of}
 use Rattle.known_edges.proofs.Vocabulary.{KeepsTraces, HaveLocations, act, loaded, IsLocated}
 use Rattle.tso_program.proofs.Located.{act_located}
-use Rattle.known_edges.proofs.Numbered.{accesses_same}
+use Rattle.program_sketches.proofs.Traced.{accesses_same}
 
 -- each of the accesses is of one of so many locations
 abbrev pub StayWithin : ℕ → List Access → Type 0

@@ -4,9 +4,11 @@ use Rattle.known_edges.proofs.Vocabulary.{same_Some, IsIn, RowHas, MAX_THREADS, 
 use Rattle.known_edges.proofs.Vocabulary.{access_in, view_of, KeepsTraces, IsInitialWrite, accesses_at, traced_access, IsOfThreads, AreAccesses, EachEnds, FitRow, AreRowsOf, HasWrites, IsRowOf, IsWriteAt, main_kind, union_rows, some_value, of_some}
 use Rattle.known_edges.proofs.Vocabulary.{slice_index, Writes, IsAccess, IsWhole, given_to, next_read, IsOrdered}
 use Rattle.candidate_executions.specs.declared.event.Kind.TheVariants as union
-use Rattle.known_edges.specs.Writes.{HasLater, IsLastWith, IsWritten}
-use Rattle.known_edges.proofs.{TracesKept.trace_accesses, TracesKept.no_accesses, TracesKept.no_trace, TracesKept.trace_next, TracesKept.past_next, Connected.HasNumber, ChoicesCounted.few_accesses}
-use Rattle.known_edges.proofs.BranchesCounted.{not_before_itself}
+use Rattle.program_sketches.proofs.Traced.{is_access, access_same}
+use Rattle.program_sketches.specs.Writes.{HasLater, IsLastWith, IsWritten}
+use Rattle.program_sketches.proofs.{TracesKept.trace_accesses, TracesKept.no_accesses, TracesKept.no_trace, TracesKept.trace_next, TracesKept.past_next, ChoicesCounted.few_accesses}
+use Rattle.known_edges.proofs.Connected.{HasNumber}
+use Rattle.program_sketches.proofs.BranchesCounted.{not_before_itself}
 
 -- what stands in the rows at two numbers
 pub at_numbers : (events : List Event) (R : Event → Event → Type 0) (rows : List ℕ) (d e : ℕ) (x y : Event) → AreRowsOf events R rows →
@@ -36,21 +38,6 @@ module _ (p : Listing) (mode : Mode) (thread_traces : List ThreadTrace) (sources
   abbrev s : ProgramSketch
   s = view_of p mode thread_traces sources pairs
 
-  pub accesses_same : (t : ℕ) → accesses_at thread_traces t ≡ (trace_in s t).accesses
-  accesses_same t = go (slice_get thread_traces t) refl
-    where
-      go : (o : Option ThreadTrace) → slice_get thread_traces t ≡ o → accesses_at thread_traces t ≡ (trace_in s t).accesses
-      go (Some c) e = ap (λ q. option_map_or (λ (x : ThreadTrace). x.accesses) q []) e ∙ sym (trace_accesses p mode thread_traces sources pairs kept t c e)
-      go None e = ap (λ q. option_map_or (λ (x : ThreadTrace). x.accesses) q []) e ∙ sym (no_accesses p mode thread_traces sources pairs kept t e)
-
-  pub is_access : (e : Event) → IsAccess s.program (mode_in s) (given_to s.chosen) e ↔ IsOfThreads thread_traces e
-  is_access (Initial l) = (λ h. h, λ h. h)
-  is_access (At t i) = let same = ap length (accesses_same t) in (λ h. omega arith, λ h. omega arith)
-
-  pub access_same : (e : Event) → IsOfThreads thread_traces e → traced_access thread_traces e ≡ access_in s e
-  access_same (Initial l) h = absurd h
-  access_same (At t i) h = ap (λ xs. slice_get xs i) (accesses_same t)
-
   -- a write that is not the initial one is an access
   writes_access : (e : Event) (l v : ℕ) → Writes (access_in s) e l v → (e ≡ Initial l → ⊥) → IsAccess s.program (mode_in s) (given_to s.chosen) e
   writes_access (Initial m) l v w other = absurd (other (ap (λ n. Initial n) (ap (λ (x : Access). x.location) (same_Some _ w.0 w.1) ∙ w.2)))
@@ -68,28 +55,16 @@ module _ (p : Listing) (mode : Mode) (thread_traces : List ThreadTrace) (sources
       go (Some c) e = let short = (kept.traces_are t c e).few in let same = ap (λ q. length (option_map_or (λ (x : ThreadTrace). x.accesses) q [])) e in omega arith
       go None e = let same = ap (λ q. length (option_map_or (λ (x : ThreadTrace). x.accesses) q [])) e in omega arith
 
-  -- once each read has its value, each thread has come to its end
-  pub whole_ends : IsWhole s.program (mode_in s) s.chosen → EachEnds thread_traces
-  whole_ends whole t c at = (kept.traces_are t c at).next ∙ sym (trace_next p mode thread_traces sources pairs kept t c at) ∙ whole t
-
-  -- and the other way round
-  pub ends_whole : EachEnds thread_traces → IsWhole s.program (mode_in s) s.chosen
-  ends_whole ends t = go (slice_get thread_traces t) refl
-    where
-      go : (o : Option ThreadTrace) → slice_get thread_traces t ≡ o → next_read s.program (mode_in s) s.chosen t ≡ None
-      go (Some c) e = trace_next p mode thread_traces sources pairs kept t c e ∙ sym (kept.traces_are t c e).next ∙ ends t c e
-      go None e = past_next p mode thread_traces sources pairs kept t (no_trace p mode thread_traces sources pairs kept t e)
-
   -- accesses that come by thread and index are few
   pub fit_row : FitRow thread_traces
   fit_row events ordered each =
       let few = (few_accesses s kept.lawful events (λ i j d h l same. not_before_itself _ (subst (λ e. ComesBefore e (get_or events j d)) same (ordered i j d h l)))
-      (λ e has. (is_access e).1 (each e has))).few in
+      (λ e has. (is_access p mode thread_traces sources pairs kept e).1 (each e has))).few in
       omega arith
 
   module _ (events : List Event) (accesses : AreAccesses thread_traces events) where
     pub access_number : (e : Event) → IsAccess s.program (mode_in s) (given_to s.chosen) e → HasNumber events e
-    access_number e h = number_of events e ((accesses.exact e).1 ((is_access e).0 h))
+    access_number e h = number_of events e ((accesses.exact e).1 ((is_access p mode thread_traces sources pairs kept e).0 h))
 
   -- both writes of a chosen pair have numbers
   pub chosen_numbers : (events : List Event) → (IsWhole s.program (mode_in s) s.chosen → AreAccesses thread_traces events) → (d e : Event) → Contains pairs (d, e) → HasNumber events d × HasNumber events e
@@ -121,27 +96,27 @@ module _ (p : Listing) (mode : Mode) (thread_traces : List ThreadTrace) (sources
   write_at l (Initial m) (y, a, q, w) = absurd (cc)
   write_at l (At t i) (y, a, q, w) =
       let (v, r) = some_value y.written w in
-      (t, (i, (v, (y, sym (access_same (At t i) (slice_get_within _ i y a)) ∙ a, q, r))))
+      (t, (i, (v, (y, sym (access_same p mode thread_traces sources pairs kept (At t i) (slice_get_within _ i y a)) ∙ a, q, r))))
 
   -- the row of a location's writes has a number where some access writes the location
   pub written_test : (events : List Event) (row l : ℕ) (b : Bool) → AreAccesses thread_traces events → IsRowOf events (IsWriteAt thread_traces l) row → (IsTrue b ↔ ((k : ℕ) × IsIn row k)) → IsTrue b ↔ IsWritten s l
   written_test events row l b accesses is_row test = (
     λ h. (let (k, there) = test.0 h in let (x, at, write) = (is_row k).0 there in write_at l x write),
     λ (t, (i, (v, w))).
-        let there = (is_access (At t i)).0 (slice_get_within _ i w.0 w.1) in
+        let there = (is_access p mode thread_traces sources pairs kept (At t i)).0 (slice_get_within _ i w.0 w.1) in
         let (k, at) = number_of events (At t i) ((accesses.exact (At t i)).1 there) in
-        test.1 (k, (is_row k).1 (At t i, at, (w.0, access_same (At t i) there ∙ w.1, w.2, of_some w.0.written v w.3))),
+        test.1 (k, (is_row k).1 (At t i, at, (w.0, access_same p mode thread_traces sources pairs kept (At t i) there ∙ w.1, w.2, of_some w.0.written v w.3))),
   )
 
   -- an access outside the row of the writes is the last write of no location
   pub never_last : (events : List Event) (row d : ℕ) (x : Event) → HasWrites thread_traces events row → IsOfThreads thread_traces x → slice_get events d ≡ Some x → (IsIn row d → ⊥) → (l v : ℕ) → IsLastWith s l v x → ⊥
   never_last events row d x holds own at none l v last =
       let w = last.0 in
-      none (holds l d x at (w.0, access_same x own ∙ w.1, w.2, of_some w.0.written v w.3))
+      none (holds l d x at (w.0, access_same p mode thread_traces sources pairs kept x own ∙ w.1, w.2, of_some w.0.written v w.3))
 
   -- the numbered events are the accesses, once each read has its value
   pub number_exact : (events : List Event) → AreAccesses thread_traces events → (e : Event) → Contains events e ↔ IsAccess s.program (mode_in s) (given_to s.chosen) e
-  number_exact events accesses e = (λ h. (is_access e).1 ((accesses.exact e).0 h), λ h. (accesses.exact e).1 ((is_access e).0 h))
+  number_exact events accesses e = (λ h. (is_access p mode thread_traces sources pairs kept e).1 ((accesses.exact e).0 h), λ h. (accesses.exact e).1 ((is_access p mode thread_traces sources pairs kept e).0 h))
 
 -- an event with a number is an access
 pub number_access : (thread_traces : List ThreadTrace) (events : List Event) → ((e : Event) → Contains events e → IsOfThreads thread_traces e) → (e : Event) → HasNumber events e → IsOfThreads thread_traces e

@@ -4,7 +4,8 @@ use Rattle.known_edges.proofs.Vocabulary.{machine_of_mode, Access, Event, At, Ki
 use Rattle.known_edges.proofs.Vocabulary.{AreOfSketch}
 use Rattle.candidate_executions.specs.declared.event.Kind.TheVariants as union
 use Rattle.candidate_executions.proofs.Sections.SectionsRise.{least, from_section}
-use Rattle.known_edges.proofs.{Numbered.accesses_same, Unchosen.precedes_then}
+use Rattle.program_sketches.proofs.Traced.{accesses_same}
+use Rattle.known_edges.proofs.Unchosen.{precedes_then}
 
 -- the second's section is not below the first's, and above it after an exchange
 abbrev pub Rises : Access → Access → Type 0

@@ -3,9 +3,11 @@ use Rattle.known_edges.proofs.Vocabulary.{get_some, ◌≡◌, ◌↔◌, ◌⊎
 use Rattle.known_edges.proofs.Vocabulary.{with_source, with_pair, KnownEdgeOfMode, Mode, Sequential, Fenced, SourceRows, OrderRows, ThreadTrace, ProgramSketch, mode_in, access_in, with_chosen, view_of, KeepsTraces, MayRead, MayFollow, accesses_at}
 use Rattle.known_edges.proofs.Vocabulary.{traced_access, IsOfThreads, IsRowOf, AreRowsOf, InOrder, IsWriteAt, ReadsBut, IsAfter, HasOrder, AreSourceRows, AreOrderRows, IsRepresented, main_kind}
 use Rattle.candidate_executions.specs.declared.event.Kind.TheVariants as union
-use Rattle.known_edges.proofs.{KnownParts.to_relates, Chosen.source_kept, Chosen.pair_kept, Masks.row_joined, Masks.row_by}
+use Rattle.program_sketches.proofs.{KnownParts.to_relates, Chosen.source_kept, Chosen.pair_kept}
+use Rattle.known_edges.proofs.Masks.{row_joined, row_by}
 use Rattle.known_edges.proofs.Connected.{HasNumber, connected, main_of_mode, global_of_mode, Earlier, pair_edges, pair_pairs, After, Step, source_edges}
-use Rattle.known_edges.proofs.{Numbered.access_same, Numbered.is_access, Numbered.chosen_numbers, Numbered.number_access, Numbered.whole_ends, Unchosen.only_order}
+use Rattle.program_sketches.proofs.Traced.{access_same, is_access, whole_ends}
+use Rattle.known_edges.proofs.{Numbered.chosen_numbers, Numbered.number_access, Unchosen.only_order}
 
 -- the same rows, told in other words
 pub rows_by : (events : List Event) (R S : Event → Event → Type 0) (rows : List ℕ) → ((x y : Event) → HasNumber events x → HasNumber events y → R x y ↔ S x y) →

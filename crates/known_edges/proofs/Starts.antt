@@ -1,7 +1,8 @@
 -- The numbers of accesses: the start of a thread, and an index in it.
 use Rattle.known_edges.proofs.Vocabulary.{◌≡◌, ◌↔◌, ◌⊎◌, ℕ, ◌+◌, ◌<◌, ◌≤◌, List, [], ◌∷◌, ◌++◌, Some, Contains, slice_get, set, length, refl, sym, ap, ◌∙◌, inl, inr, arith, AllPairs, cases_lt, cases_eq, slice_get_within, same_Some, IsIn, none_in_zero, Event}
 use Rattle.known_edges.proofs.Vocabulary.{Initial, At, get_cases, get_set_same, get_set_other, ComesBefore, ThreadTrace, IsRowOf, AreAccesses, AreBeyond, AreCounts, AreNumbered, AreStarts, FitRow, IsEarly, IsOfThreads}
-use Rattle.known_edges.proofs.{Accesses.IsBelow, BranchesCounted.not_before_itself, InThreadOrder.before_in, Numbered.number_of, Numbered.contained}
+use Rattle.program_sketches.proofs.BranchesCounted.{not_before_itself}
+use Rattle.known_edges.proofs.{Accesses.IsBelow, InThreadOrder.before_in, Numbered.number_of, Numbered.contained}
 
 -- traces of which each read has a value get all numbers
 pub numbered_all : (thread_traces : List ThreadTrace) (events : List Event) → FitRow thread_traces → AreAccesses thread_traces events → AreNumbered thread_traces events

@@ -1,7 +1,12 @@
--- The rows of one thread's accesses, moved up to the numbers of all accesses.
-use Rattle.known_edges.proofs.Vocabulary.{◌≡◌, ◌↔◌, ℕ, ◌+◌, ◌<◌, ◌≤◌, List, Some, slice_get, Bool, length, refl, sym, ap, ◌∙◌, subst, inl, inr, arith, cases_lt, slice_get_within, same_Some, IsIn, ROW_BITS, Event, Initial, At, Kind, ThreadTrace, IsLaterIn}
+-- The rows of one thread's accesses, and these moved up to the numbers of all accesses.
+use Rattle.known_edges.proofs.Vocabulary.{◌≡◌, ◌↔◌, ℕ, ◌+◌, ◌<◌, ◌≤◌, List, Some, slice_get, Bool, length, refl, sym, ap, ◌∙◌, subst, inl, inr, arith, cases_lt, slice_get_within, same_Some, IsIn, ROW_BITS, Access, Event, Initial, At, Kind, ThreadTrace, IsLaterIn}
 use Rattle.known_edges.proofs.Vocabulary.{accesses_at, traced_access, AreAccesses, AreStarts, InOrder, IsRowOf, KeepsTraceNumbers, NumberedTraces}
-use Rattle.known_edges.proofs.{Accesses.no_trace, KnownParts.order_part, Numbered.number_of, Numbered.contained}
+use Rattle.program_sketches.proofs.KnownParts.{order_part}
+use Rattle.known_edges.proofs.{Accesses.no_trace, Numbered.number_of, Numbered.contained}
+
+-- the row has the accesses with indices below n that come after access i
+abbrev pub IsLaterBelow : Kind → List Access → ℕ → ℕ → ℕ → Type 0
+IsLaterBelow kind accesses i n row = (j : ℕ) → IsIn row j ↔ ((j < n) × IsLaterIn kind accesses i j)
 
 module _ (thread_traces : List ThreadTrace) (events : List Event) (starts : List ℕ) (accesses : AreAccesses thread_traces events) (are : AreStarts events starts) (few : length events ≤ ROW_BITS) where
   -- the number of an access by that of another of its thread
@@ -40,6 +45,8 @@ pub record IsPlaced (thread_traces : List ThreadTrace) (events : List Event) (d 
   pub here : slice_get events d ≡ Some (At t i)
   pub accesses : AreAccesses thread_traces events
   pub there : t < length thread_traces
+  pub within : i < length (accesses_at thread_traces t)
+  pub short : length (accesses_at thread_traces t) ≤ ROW_BITS
   pub start : ℕ
   pub sum : start + i ≡ d
   pub low : d < ROW_BITS
@@ -52,9 +59,19 @@ placed thread_traces events whole starts counts written x d t i e keeps is at sa
     let (start, at_start, sum) = keeps.starts_are d t i here in
     let few = keeps.numbered.few in
     let within = slice_get_within events d (At t i) here in
+    let accesses = keeps.numbered.not_some (At t i) has in
     record {
       here = here;
-      accesses = keeps.numbered.not_some (At t i) has;
+      accesses = accesses;
+      within = keeps.numbered.of_threads (At t i) has;
+      short = elim (cases_lt ROW_BITS (length (accesses_at thread_traces t))) [
+        | inl more ↦ absurd
+            (let (k, at_k) = number_of events (At t ROW_BITS) ((accesses.exact (At t ROW_BITS)).1 more) in
+            let (first, there, sum_k) = keeps.starts_are k t ROW_BITS at_k in
+            let inside = slice_get_within events k (At t ROW_BITS) at_k in
+            omega arith)
+        | inr few ↦ omega arith
+      ];
       there = elim (cases_lt t (length thread_traces)) [ inl l ↦ l | inr g ↦ absurd (no_trace thread_traces t i g (keeps.numbered.of_threads (At t i) has)) ];
       start = start;
       sum = sum;

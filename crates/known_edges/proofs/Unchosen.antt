@@ -2,7 +2,8 @@
 use Rattle.known_edges.proofs.Vocabulary.{◌⊎◌, suc, List, [], ◌∷◌, Contains, refl, ◌∙◌, subst, inl, inr, arith, Access, Event, Initial, At, Kind, Leads, Precedes, IsBefore, KnownRelates, KnownEdgeOfMode, IsKnownCycle, IsWhole, given_to, IsAccess}
 use Rattle.known_edges.proofs.Vocabulary.{ProgramSketch, mode_in, IsLawful, HasNoCycle, OrderPart, SourcePart}
 use Rattle.candidate_executions.specs.declared.event.Kind.TheVariants as union
-use Rattle.known_edges.proofs.{KnownParts.of_relates, Found.cycle_of_accesses}
+use Rattle.program_sketches.proofs.KnownParts.{of_relates}
+use Rattle.known_edges.proofs.Found.{cycle_of_accesses}
 
 -- the program order of a union is program order
 pub order_precedes : (kind : Kind) (d : Event) (x : Access) (e : Event) (y : Access) → OrderPart kind d x e y → Precedes d e

@@ -1,10 +1,3 @@
-pub mod ProgramSketches
-pub mod Kept
-pub mod Known
-pub mod Choices
-pub mod FewAccesses
-pub mod Writes
-pub mod Sizes
 pub mod Rows
+pub mod ThreadOrder
 pub mod Rounds
-pub mod KnownTruths

@@ -13,31 +13,18 @@ use Rattle.tso_machine.specs.declared.mode.Mode.{Mode, TheVariants.Sequential, T
 use Rattle.thread_traces.specs.declared.thread_trace.ThreadTrace.{ThreadTrace}
 use Rattle.known_edges.specs.declared.edge_rows.SourceRows.{SourceRows}
 use Rattle.known_edges.specs.declared.edge_rows.OrderRows.{OrderRows}
-use Rattle.known_edges.specs.ProgramSketches.{ProgramSketch, mode_in}
-use Rattle.known_edges.specs.Known.{OrderPart}
-use Rattle.known_edges.specs.Kept.{view_of, KeepsTraces}
+use Rattle.program_sketches.specs.ProgramSketches.{ProgramSketch, mode_in}
+use Rattle.program_sketches.specs.Known.{OrderPart}
+use Rattle.program_sketches.specs.Kept.{view_of, KeepsTraces}
+use Rattle.program_sketches.specs.TracedAccesses.{accesses_at, traced_access, IsOfThreads, EachEnds}
 use Rattle.bit_rows.specs.declared.row.TheConstants.{ROW_BITS}
 use Rattle.tso_program.specs.declared.limits.TheConstants.{MAX_LOCATIONS}
 use Rattle.candidate_executions.specs.Sketches.{KnownEdgeOfMode, IsWhole}
-
--- the accesses of thread t, none where there is no such thread
-abbrev pub accesses_at : List ThreadTrace → ℕ → List Access
-accesses_at thread_traces t = option_map_or (λ (c : ThreadTrace). c.accesses) (slice_get thread_traces t) []
-
--- what an access reads and writes
-abbrev pub traced_access : List ThreadTrace → Event → Option Access
-traced_access thread_traces (Initial l) = None
-traced_access thread_traces (At t i) = slice_get (accesses_at thread_traces t) i
 
 -- one of thread t's first n accesses
 abbrev pub IsEarly : ℕ → ℕ → Event → Type 0
 IsEarly t n (Initial l) = ⊥
 IsEarly t n (At u i) = (u ≡ t) × (i < n)
-
--- an access of some thread
-abbrev pub IsOfThreads : List ThreadTrace → Event → Type 0
-IsOfThreads thread_traces (Initial l) = ⊥
-IsOfThreads thread_traces (At t i) = i < length (accesses_at thread_traces t)
 
 -- all accesses, by thread and index
 pub record AreAccesses (thread_traces : List ThreadTrace) (events : List Event) : Type 0 where
@@ -100,10 +87,6 @@ union_rows _ main global = main
 pub record NumberedTraces : Type 0 where
   pub thread_traces : List ThreadTrace
   pub events : List Event
-
--- each thread has come to its end: no read is without a value
-abbrev pub EachEnds : List ThreadTrace → Type 0
-EachEnds thread_traces = (t : ℕ) (c : ThreadTrace) → slice_get thread_traces t ≡ Some c → c.next ≡ None
 
 -- the traces are those of some sketch
 abbrev pub AreOfSketch : List ThreadTrace → Type 0

@@ -7,10 +7,10 @@ ghost use Rattle.known_edges.specs.Rows.{IsRowOf, IsWriteAt, ReadsBut, IsAlike, 
 ghost use Rattle.tso_machine.specs.declared.mode.Mode.TheVariants.{Sequential};
 ghost use Rattle.candidate_executions.specs.Consistency.{SameThread};
 
-use crate::event_pairs::{is_one_thread, is_same};
 use crate::numbered_traces::Traces;
 use bit_rows::{ROW_BITS, has, joined, lowest};
 use candidate_executions::Event;
+use program_sketches::{is_one_thread, is_same};
 use tso_machine::Mode;
 
 /// The reads that have the event as their source, but for one.

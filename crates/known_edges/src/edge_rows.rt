@@ -3,9 +3,9 @@ ghost use Rattle.std.specs.Prelude.{◌≡◌, ◌↔◌, ◌≤◌, [], ◌∷�
 ghost use Rattle.bit_rows.specs.declared.row.TheConstants.{ROW_BITS};
 ghost use Rattle.tso_program.specs.declared.listing.Listing.{Listing};
 ghost use Rattle.candidate_executions.specs.declared.event.Event.{Event};
-ghost use Rattle.known_edges.specs.Kept.{view_of};
-ghost use Rattle.known_edges.specs.Choices.{MayRead, MayFollow};
-ghost use Rattle.known_edges.specs.Known.{HasCycle};
+ghost use Rattle.program_sketches.specs.Kept.{view_of};
+ghost use Rattle.program_sketches.specs.Choices.{MayRead, MayFollow};
+ghost use Rattle.program_sketches.specs.Known.{HasCycle};
 ghost use Rattle.known_edges.specs.Rows.{union_rows, IsAlike, AreSourceRows, AreOrderRows, IsRepresented, ClosesOnce, ClosesTwice};
 
 use crate::access_rows::{if_far, if_fenced, readers_of, writes_after};
@@ -43,7 +43,7 @@ pub(crate) struct OrderRows {
 }
 
 impl EdgeRows {
-    /// The same rows.
+    /// A copy of the rows.
     pub fn copy(&self) -> EdgeRows
         ensures { result ≡ self.now }
     {
@@ -126,7 +126,8 @@ impl EdgeRows {
         }
     }
 
-    /// The same if the first row were connected to the second.
+    /// Whether the global union would have a path back to where it began if the first row were connected to the
+    /// second. Sequential mode has no global union.
     fn global_closes(&self, mode: &Mode, from: u32, to: u32) -> bool
         ensures { ClosesOnce mode.now self.now.global from to result }
     {

@@ -6,11 +6,14 @@ ghost use Rattle.bit_rows.specs.Rows.{IsIn, RowHas};
 ghost use Rattle.bit_rows.specs.declared.row.TheConstants.{ROW_BITS};
 ghost use Rattle.candidate_executions.specs.declared.event.Event.{Event};
 ghost use Rattle.candidate_executions.specs.Events.{ComesBefore};
-ghost use Rattle.known_edges.specs.Known.{IsInitialWrite};
-ghost use Rattle.known_edges.specs.Rows.{accesses_at, traced_access, AreAccesses, AreBeyond, AreCounts, HaveLocations, AreNumbered, AreOfSketch, AreStarts, AreWriteRows, EachEnds, FitRow, HasWrites, IsEarly, IsOfThreads, IsRowOf, IsWriteAt, InOrder, AreRowsOf};
+ghost use Rattle.program_sketches.specs.Known.{IsInitialWrite};
+ghost use Rattle.program_sketches.specs.TracedAccesses.{accesses_at, traced_access, EachEnds, IsOfThreads};
+ghost use Rattle.known_edges.specs.Rows.{AreAccesses, AreBeyond, AreCounts, HaveLocations, AreNumbered, AreOfSketch, AreStarts, AreWriteRows, FitRow, HasWrites, IsEarly, IsRowOf, IsWriteAt, InOrder, AreRowsOf};
 
+use crate::thread_rows::later_than;
 use bit_rows::{ROW_BITS, Relation, joined, raised, with};
-use candidate_executions::{Access, Event, Kind};
+use candidate_executions::{Event, Kind};
+use program_sketches::{access_at, each_ends};
 use std::alloc::{AllocError, Global};
 use std::marker::Model;
 use thread_traces::SharedTrace;
@@ -155,7 +158,8 @@ impl Traces {
             Event::Access(t, i) => {
                 let start = number - i as usize;
                 let thread_traces = self.thread_traces.as_slice();
-                raised(thread_traces[t as usize].later(kind, i), start as u8)
+                let accesses = thread_traces[t as usize].trace().accesses.as_slice();
+                raised(later_than(kind, accesses, i as usize), start as u8)
             }
         }
     }
@@ -201,17 +205,6 @@ fn joined_all(rows: &[u32]) -> u32
     all
 }
 
-/// The same traces.
-pub fn copied(alloc: Global, thread_traces: &[SharedTrace]) -> Result<Vec<SharedTrace>, AllocError>
-    ensures { IfOk result (λ copies. copies.items ≡ thread_traces.now) }
-{
-    let mut copies = Vec::with_capacity(alloc, thread_traces.len())?;
-    for thread_trace in thread_traces {
-        copies.push(thread_trace.copy()?)?;
-    }
-    Ok(copies)
-}
-
 /// Equal traces, which share nothing with these.
 fn each_apart(alloc: Global, thread_traces: &[SharedTrace]) -> Result<Vec<SharedTrace>, AllocError>
     ensures { IfOk result (λ copies. copies.items ≡ thread_traces.now) }
@@ -221,18 +214,6 @@ fn each_apart(alloc: Global, thread_traces: &[SharedTrace]) -> Result<Vec<Shared
         copies.push(thread_trace.apart(alloc)?)?;
     }
     Ok(copies)
-}
-
-/// Whether each thread has come to its end, so that no read is without a value.
-pub fn each_ends(thread_traces: &[SharedTrace]) -> bool
-    ensures { IsTrue result ↔ EachEnds thread_traces.now }
-{
-    for thread_trace in thread_traces {
-        if thread_trace.trace().next.is_some() {
-            return false;
-        }
-    }
-    true
 }
 
 /// Lists all accesses, the numbers at which the threads begin, and how many accesses they have.
@@ -325,17 +306,4 @@ fn push_thread(accesses: u8, t: u8, events: &mut Vec<Event>) -> Result<(), Alloc
         events.push(Event::Access(t, i))?;
     }
     Ok(())
-}
-
-/// What an access reads and writes.
-pub fn access_at(thread_traces: &[SharedTrace], event: Event) -> Option<Access>
-    ensures { result ≡ traced_access thread_traces.now event }
-{
-    match event {
-        Event::Initial(_) => None,
-        Event::Access(t, i) => match thread_traces.get(t as usize) {
-            Some(thread_trace) => thread_trace.access(i),
-            None => None,
-        },
-    }
 }

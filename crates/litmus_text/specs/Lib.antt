@@ -3,7 +3,7 @@ pub use Rattle.canonical_text.specs.Canonical
 pub use Rattle.tso_program.specs.Truth
 pub use Rattle.cost_text.specs.CostTexts
 pub use Rattle.cost_text.specs.GivenCosts
-pub use Rattle.canonical_text.specs.Outcomes
+pub use Rattle.outcome_text.specs.Outcomes
 pub use Rattle.litmus_reader.specs.Shown
 pub use Rattle.litmus_reader.specs.Texts
 pub use Rattle.tso_program.specs.Fences

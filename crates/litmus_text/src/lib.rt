@@ -9,7 +9,7 @@
 
 pub use canonical_text::{
     canonical_text_is_read, printed_parts_are_read, push_code, push_condition,
-    store_buffering_is_written, write_litmus, write_outcome,
+    store_buffering_is_written, write_litmus,
 };
 pub use conditions::{Atom, Condition, Formula, Quantifier, holds};
 pub use cost_text::{CostTextFault, given_costs, read_costs};
@@ -18,6 +18,7 @@ pub use litmus_reader::{
     Label, Litmus, NameTable, Observed, ReadFault, location_name, read_fenced, read_litmus,
     register_name, store_buffering_is_read, texts_name_few_locations,
 };
+pub use outcome_text::write_outcome;
 pub use tso_program::{
     FenceFault, FencedProgram, Items, Names, Outcome, Program, ProgramFault, Reg, Shown,
 };

@@ -8,7 +8,9 @@
 //! safe; a message that can't be made or written leaves the answer as it is.
 #![tactic(auto)]
 
+mod cell_rules;
 mod certificates;
+mod condition_rules;
 mod costs;
 mod fences;
 mod files;
@@ -17,6 +19,7 @@ mod litmus;
 mod message;
 mod misuses;
 mod refusals;
+mod rule;
 mod rules;
 mod source;
 mod text_end;

@@ -72,7 +72,7 @@ impl Message {
         })
     }
 
-    /// The same about a token of a part of the text, of whose tokens so many are left there, this one included.
+    /// What is said about a token of a part of the text, of whose tokens so many are left there, this one included.
     pub fn at_token(
         alloc: Global,
         source: Source<'_>,
@@ -100,12 +100,35 @@ impl Message {
         } = self;
         let text = self.text.as_str();
         let written = match (line, column) {
-            (Some(line), Some(column)) => format!(in alloc; "{file}:{line}:{column}: {text}\n")?,
-            (Some(line), None) => format!(in alloc; "{file}:{line}: {text}\n")?,
-            _ => format!(in alloc; "{file}: {text}\n")?,
+            (Some(line), Some(column)) => format!(in alloc; "{file}:{line}:{column}: {text}")?,
+            (Some(line), None) => format!(in alloc; "{file}:{line}: {text}")?,
+            _ => format!(in alloc; "{file}: {text}")?,
         };
-        Ok(written.into_bytes())
+        Ok(one_line(alloc, written.as_str())?.into_bytes())
     }
+}
+
+/// A text as one line, with `\xHH` for each byte of a control character, so that a file's name cannot end it.
+fn one_line(alloc: Global, text: &str) -> Result<String, AllocError> {
+    let mut line = String::new(alloc);
+    for character in text.chars() {
+        if character.is_control() {
+            push_escaped(&mut line, character)?;
+        } else {
+            line.push(character)?;
+        }
+    }
+    line.push('\n')?;
+    Ok(line)
+}
+
+/// Puts `\xHH` for each byte of a character at the end of a line.
+fn push_escaped(line: &mut String, character: char) -> Result<(), AllocError> {
+    let mut bytes = [0; 4];
+    for byte in character.encode_utf8(&mut bytes).as_bytes() {
+        write!(line, "\\x{byte:02x}")?;
+    }
+    Ok(())
 }
 
 /// The name for people of a file, where `-` is standard input.

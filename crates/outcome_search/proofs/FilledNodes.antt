@@ -6,8 +6,8 @@ use Rattle.outcome_search.proofs.Vocabulary.{ArePartialAfter, IsPartialCover, un
 use Rattle.outcome_search.proofs.Vocabulary.{covers_count, listed}
 use Rattle.tso_machine.specs.declared.mode.Mode.TheVariants as modes
 use Rattle.cert_forest.specs.Node.TheVariants as node
-use Rattle.cover_judge.specs.declared.choice.Choice.TheVariants as choice
-use Rattle.branching.specs.declared.open_choice.OpenChoice.TheVariants as left
+use Rattle.tree_laws.specs.declared.choice.Choice.TheVariants as choice
+use Rattle.tree_laws.specs.declared.choice.OpenChoice.TheVariants as left
 use Rattle.partial_covers.proofs.{ChangedNodes.spelled_in, ChoicesMade.same_program, ChoicesMade.same_mode, ChoicesMade.after_unfenced}
 use Rattle.outcome_search.proofs.{FilledTrees.cover_in_mode, FilledTrees.choices_in_mode}
 use Rattle.partial_covers.proofs.{PartialNodes.pieces_pushed, PartialRows.after_more, PartialRows.partial_still}

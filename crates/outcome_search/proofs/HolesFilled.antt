@@ -2,7 +2,7 @@
 use Rattle.outcome_search.proofs.Vocabulary.{All, ℕ, zero, suc, ◌<◌, List, [], ◌∷◌, ◌++◌, get_or, length, map, sym, ◌∙◌, subst, arith, append_assoc, Contains, append-nil, Outcome, Shown, IsWhole, ProgramSketch, mode_in, Node, spell, Choice, AreValueChoices, nodes_in}
 use Rattle.outcome_search.proofs.Vocabulary.{MayChoose, first_is_here, later_is_here, Piece, Item, Has, Lacks, PartialTree, Closed, Values, Hole, PartialTrees, NoPartial, MorePartial, spell_partial, spell_partial_row, items_before, after, IsPartialAfter}
 use Rattle.outcome_search.proofs.Vocabulary.{ArePartialAfter, PushesPartial, MayChooseAll, unfenced, IsFilling, IsHole, HaveHoles, LeadsToWhole}
-use Rattle.cover_judge.specs.declared.choice.Choice.TheVariants as choice
+use Rattle.tree_laws.specs.declared.choice.Choice.TheVariants as choice
 use Rattle.partial_covers.proofs.{ChoicesMade.after_unfenced, ChoicesMade.may_more}
 use Rattle.outcome_search.proofs.{FilledTrees.whole_sketch_in_mode, FilledTrees.choices_in_mode}
 

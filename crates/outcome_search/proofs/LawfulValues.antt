@@ -2,7 +2,7 @@
 use Rattle.outcome_search.proofs.Vocabulary.{◌≡◌, ◌⊎◌, ℕ, ◌<◌, ◌++◌, List, [], ◌∷◌, Option, Some, None, IsSome, Contains, length, refl, sym, ◌∙◌, subst, inl, inr, arith, cases_eq, same_Some, action, code_of, start_of, Event, trace, fenced_gaps, IsValueOf}
 use Rattle.outcome_search.proofs.Vocabulary.{given_to, with_value, next_read, IsLawful, ProgramSketch, mode_in, trace_in, with_chosen, given_same, given_other, reads_there, good_of, values_from}
 use Rattle.candidate_executions.proofs.{FromRuns.StepsSuffice.advance, Sketches.Choices.a_value_keeps_a_sketch}
-use Rattle.sketches.proofs.GivenUsed.{Good, good_more}
+use Rattle.program_sketches.proofs.GivenUsed.{Good, good_more}
 
 module _ (s : ProgramSketch) (t v l : ℕ) (lawful : IsLawful s) (next : next_read s.program (mode_in s) s.chosen t ≡ Some l) (fits : IsValueOf s.program l v) where
   abbrev more : ProgramSketch

@@ -8,8 +8,6 @@ pub mod HoleTrees
 pub mod FilledParts
 pub mod SearchParts
 -- words of the crates below, passed on
-pub use Rattle.cover_judge.proofs.Answered
-pub use Rattle.sketch_covers.proofs.Inserted
 pub use Rattle.partial_covers.proofs.OtherNumbers
 pub use Rattle.partial_covers.proofs.PartialRenumbered
 pub use Rattle.partial_covers.proofs.RenumberedTrees

@@ -24,27 +24,29 @@ pub use Rattle.cert_forest.specs.Trees.{Cover, Value, count_covers, covers_of}
 pub use Rattle.cover_judge.proofs.ChoicesJudged.{next_is_open, values_may}
 pub use Rattle.cover_judge.proofs.Lists.{first_is_here, later_is_here}
 pub use Rattle.cover_judge.proofs.TighterModes.{tighter_keeps_cover, tighter_keeps_values, tighter_keeps_whole}
-pub use Rattle.cover_judge.specs.Choices.{AreValueChoices, MayChoose, MayChooseEach, sketch_with}
+pub use Rattle.cover_judge.specs.Choices.{AreValueChoices, MayChoose, MayChooseEach}
+pub use Rattle.tree_laws.specs.CoverTrees.{sketch_with}
 pub use Rattle.cover_judge.specs.TighterModes.{IsNoLooser, in_mode, kind_in}
-pub use Rattle.cover_judge.specs.declared.choice.Choice.{Choice}
+pub use Rattle.tree_laws.specs.declared.choice.Choice.{Choice}
 pub use Rattle.gap_sets.specs.Gaps.{SetOfGaps}
 pub use Rattle.sketch_covers.proofs.AllOutcomes.{never_new, runs_found}
 pub use Rattle.sketch_covers.proofs.CombinedCovers.{before_next, of_others}
 pub use Rattle.sketch_covers.proofs.Growing.{grows_none, grows_twice, memory_stops, still_valid, stops_for}
 pub use Rattle.sketch_covers.proofs.Nodes.{cover_first, cover_next, covers_none, node_cover}
-pub use Rattle.sketch_covers.specs.Covers.{AreCoversAfter, IsCoverAt, IsWholeCover}
+pub use Rattle.sketch_covers.specs.Covers.{AreCoversAfter, IsCoverAt}
+pub use Rattle.tree_laws.specs.Covers.{IsWholeCover}
 pub use Rattle.sketch_covers.specs.KnownOutcomes.{AreInOrder, Grows, HasRunOfEach, OnTold, StaysOf, StopIs, StopLacks, by_number}
 pub use Rattle.sketch_covers.specs.NodeChanges.{changed_node, copied_in, sequential_node}
 pub use Rattle.sketch_covers.specs.OutcomeNumbers.{KeepsNumbers}
 pub use Rattle.sketch_covers.specs.Pushing.{Pushes}
 pub use Rattle.sketch_covers.specs.declared.known_outcomes.KnownOutcomes.{KnownOutcomes, TheVariants.Open}
 pub use Rattle.sketch_covers.specs.declared.stop.SearchStop.{SearchStop}
-pub use Rattle.sketches.proofs.ChoicesCounted.{choices_few}
-pub use Rattle.sketches.proofs.Lawful.{good_of, values_from}
-pub use Rattle.sketches.proofs.Lookups.{same_default}
-pub use Rattle.sketches.specs.Kept.{IsLawful}
-pub use Rattle.sketches.specs.ProgramSketches.{ProgramSketch, mode_in, nothing_chosen, trace_in, with_chosen}
-pub use Rattle.sketches.specs.Sizes.{HaveAllRegisters}
+pub use Rattle.program_sketches.proofs.ChoicesCounted.{choices_few}
+pub use Rattle.program_sketches.proofs.Lawful.{good_of, values_from}
+pub use Rattle.program_sketches.proofs.Lookups.{same_default}
+pub use Rattle.program_sketches.specs.Kept.{IsLawful}
+pub use Rattle.program_sketches.specs.ProgramSketches.{ProgramSketch, mode_in, nothing_chosen, trace_in, with_chosen}
+pub use Rattle.program_sketches.specs.Sizes.{HaveAllRegisters}
 pub use Rattle.tso_machine.specs.Machine.{Machine, SequentialMachine}
 pub use Rattle.tso_machine.specs.Modes.{machine_of_mode}
 pub use Rattle.tso_machine.specs.declared.mode.Mode.{Mode}

@@ -6,15 +6,15 @@ use Rattle.tso_program.specs.declared.shown.Shown.{Shown}
 use Rattle.tso_program.specs.Shown.{asked}
 use Rattle.tso_machine.specs.declared.mode.Mode.{Mode}
 use Rattle.tso_machine.specs.declared.mode.Mode.TheVariants as modes
-use Rattle.sketches.specs.ProgramSketches.{ProgramSketch, mode_in}
+use Rattle.program_sketches.specs.ProgramSketches.{ProgramSketch, mode_in}
 use Rattle.cert_forest.specs.Node.{Node}
 use Rattle.cert_forest.specs.Trees.{Cover}
 use Rattle.cert_forest.specs.Nodes.{spell}
-use Rattle.cover_judge.specs.declared.choice.Choice.{Choice}
+use Rattle.tree_laws.specs.declared.choice.Choice.{Choice}
 use Rattle.sketch_covers.specs.Covers.{IsCoverAt}
 use Rattle.sketch_covers.specs.Pushing.{Pushes}
 use Rattle.sketch_covers.specs.declared.stop.SearchStop.{SearchStop}
-use Rattle.sketch_covers.specs.Ascending.{Ascend}
+use Rattle.tree_laws.specs.Ascending.{Ascend}
 use Rattle.sketch_covers.specs.KnownOutcomes.{StopLacks}
 use Rattle.sketch_covers.specs.NodeChanges.{sequential_node}
 use Rattle.partial_covers.specs.Fillings.{IsFilling}

@@ -1,8 +1,6 @@
 pub mod SearchParts
 pub mod HoleTrees
 -- words of the crates below, passed on
-pub use Rattle.sketch_covers.specs.Ascending
-pub use Rattle.sketch_covers.specs.Covers
 pub use Rattle.sketch_covers.specs.KnownOutcomes
 pub use Rattle.sketch_covers.specs.NodeChanges
 pub use Rattle.sketch_covers.specs.OutcomeNumbers

@@ -6,7 +6,7 @@ use Rattle.std.specs.FinSet as set
 use Rattle.tso_program.specs.declared.listing.Listing.{Listing}
 use Rattle.tso_machine.specs.declared.mode.Mode.TheVariants as modes
 use Rattle.candidate_executions.specs.Sketches.{IsWhole}
-use Rattle.sketches.specs.ProgramSketches.{ProgramSketch, mode_in, nothing_chosen}
+use Rattle.program_sketches.specs.ProgramSketches.{ProgramSketch, mode_in, nothing_chosen}
 use Rattle.sketch_covers.specs.declared.outcome_index.OutcomeIndex.{OutcomeIndex}
 use Rattle.sketch_covers.specs.declared.known_outcomes.KnownOutcomes.{KnownOutcomes, TheVariants.Open}
 use Rattle.partial_covers.specs.declared.part_cover.PartCover.{PartCover}

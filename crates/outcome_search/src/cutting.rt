@@ -1,12 +1,13 @@
 //! How a search is cut into parts. It does not depend on who works on them.
 ghost use Rattle.std.specs.Prelude.{IfOk, OnOk, All};
-ghost use Rattle.sketches.specs.ProgramSketches.{ProgramSketch};
+ghost use Rattle.program_sketches.specs.ProgramSketches.{ProgramSketch};
 ghost use Rattle.outcome_search.specs.SearchParts.{IsPartOf};
 ghost use Rattle.branching.specs.Plans.{IsBeforeLast};
 
 use crate::part::SearchPart;
 use crate::write_orders::write_orders;
-use branching::{OpenChoice, Plan, choices_of};
+use branching::{Plan, choices_of};
+use cover_judge::OpenChoice;
 use sketches::Sketch;
 use std::alloc::{AllocError, Global};
 use tso_program::{Program, Shown};

@@ -3,7 +3,7 @@ ghost use Rattle.std.specs.Prelude.{◌≡◌, [], IfOk, IfErr, IsTrue, OnOk};
 ghost use Rattle.tso_program.specs.Shown.{asked};
 ghost use Rattle.tso_machine.specs.Modes.{machine_of_mode};
 ghost use Rattle.tso_machine.specs.declared.mode.Mode.TheVariants as modes;
-ghost use Rattle.sketches.specs.ProgramSketches.{mode_in, nothing_chosen};
+ghost use Rattle.program_sketches.specs.ProgramSketches.{mode_in, nothing_chosen};
 ghost use Rattle.sketch_covers.specs.Covers.{IsCoverAt};
 ghost use Rattle.partial_covers.specs.Fillings.{IsFilling};
 ghost use Rattle.partial_covers.specs.PartialCovers.{IsPartialCover, after, items_before, LeadsToWhole};

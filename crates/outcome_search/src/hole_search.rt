@@ -1,8 +1,8 @@
 //! Holes of a partial cover, each searched by itself for a tree over a closed list of outcomes. Threads may share them.
 ghost use Rattle.std.specs.Prelude.{◌≡◌, [], ◌<◌, IfOk, IfErr, OnOk, length, slice_index_or};
 ghost use Rattle.tso_program.specs.Shown.{asked};
-ghost use Rattle.sketches.specs.ProgramSketches.{mode_in};
-ghost use Rattle.sketch_covers.specs.Ascending.{Ascend};
+ghost use Rattle.program_sketches.specs.ProgramSketches.{mode_in};
+ghost use Rattle.tree_laws.specs.Ascending.{Ascend};
 ghost use Rattle.sketch_covers.specs.Covers.{IsCoverAt};
 ghost use Rattle.sketch_covers.specs.KnownOutcomes.{StopLacks};
 ghost use Rattle.sketch_covers.specs.Pushing.{Pushes};

@@ -2,8 +2,8 @@
 ghost use Rattle.std.specs.Prelude.{[], IfOk, IfErr};
 ghost use Rattle.tso_program.specs.Shown.{asked};
 ghost use Rattle.tso_machine.specs.Modes.{machine_of_mode};
-ghost use Rattle.sketches.specs.ProgramSketches.{nothing_chosen};
-ghost use Rattle.sketch_covers.specs.Ascending.{Ascend};
+ghost use Rattle.program_sketches.specs.ProgramSketches.{nothing_chosen};
+ghost use Rattle.tree_laws.specs.Ascending.{Ascend};
 ghost use Rattle.sketch_covers.specs.Covers.{IsCoverAt};
 ghost use Rattle.sketch_covers.specs.KnownOutcomes.{StopLacks};
 ghost use Rattle.sketch_covers.specs.Pushing.{Pushes};

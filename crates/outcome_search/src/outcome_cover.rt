@@ -4,12 +4,12 @@ ghost use Rattle.tso_program.specs.declared.outcome.Outcome.{Outcome};
 ghost use Rattle.tso_program.specs.Shown.{Question, asked};
 ghost use Rattle.tso_machine.specs.Outcomes.{AllowsShown};
 ghost use Rattle.tso_machine.specs.Modes.{machine_of_mode};
-ghost use Rattle.sketch_covers.specs.Covers.{IsWholeCover};
+ghost use Rattle.tree_laws.specs.Covers.{IsWholeCover};
 ghost use Rattle.sketch_covers.specs.OutcomeNumbers.{IsInOrder, AreRunsOf};
 ghost use Rattle.partial_covers.specs.PartialCovers.{IsPartialCover};
 ghost use Rattle.sketch_covers.specs.declared.outcome_index.OutcomeIndex.{OutcomeIndex as IndexValue};
 ghost use Rattle.outcome_search.specs.SearchParts.{IsCoveredStart};
-ghost use Rattle.sketch_covers.specs.Ascending.{Ascend};
+ghost use Rattle.tree_laws.specs.Ascending.{Ascend};
 ghost use Rattle.sketch_covers.specs.KnownOutcomes.{by_number, AreInOrder, HasRunOfEach, Grows, StopIs, StopLacks};
 ghost use Rattle.sketch_covers.specs.declared.known_outcomes.KnownOutcomes.TheVariants.{Open};
 
@@ -111,8 +111,8 @@ pub fn cover_all<W: Watch>(
     Ok(CoverTree::of_nodes(sought.alloc, nodes)?)
 }
 
-/// The same over a closed list, where threads search for the trees in place of the holes; `share` says how many, for each row of
-/// holes.
+/// A tree for the sketch with no choice in a mode, made of a partial cover over a closed list of outcomes. Threads search for
+/// the trees in place of the holes; `share` says how many, for each row of holes.
 pub fn cover_closed_by<R: Threads + Sync, S: ThreadShare>(
     rt: &R,
     share: &S,

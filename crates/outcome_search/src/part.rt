@@ -3,7 +3,8 @@ ghost use Rattle.std.specs.Prelude.{◌≡◌, ◌∷◌, ◌++◌, [], IfOk, On
 ghost use Rattle.std.specs.FinSet as set;
 ghost use Rattle.tso_program.specs.Shown.{asked};
 ghost use Rattle.tso_machine.specs.declared.mode.Mode.TheVariants as modes;
-ghost use Rattle.sketches.specs.ProgramSketches.{nothing_chosen, with_chosen};
+ghost use Rattle.program_sketches.specs.ProgramSketches.{nothing_chosen, with_chosen};
+ghost use Rattle.tree_laws.specs.CoverTrees as trees;
 ghost use Rattle.cover_judge.specs.Choices as choices;
 ghost use Rattle.sketch_covers.specs.KnownOutcomes.{by_number, AreInOrder, Grows};
 ghost use Rattle.partial_covers.specs.PartialCovers.{items_of, after, MayChooseAll, PushesPartialAt};
@@ -11,8 +12,8 @@ ghost use Rattle.outcome_search.specs.SearchParts.{IsFoundIn, IsPartOf, first_sk
 
 use crate::part_holes::fill_holes;
 use crate::searching::Search;
-use branching::Plan;
-use cover_judge::{Choice, sketch_with};
+use branching::{Plan, sketch_with};
+use cover_judge::Choice;
 use partial_covers::{Covering, PartCover, Watch};
 use sketch_covers::KnownOutcomes;
 use sketches::{Mode, Sketch};
@@ -41,7 +42,7 @@ impl SearchPart {
     pub(crate) fn after(&self, alloc: Global, choice: Choice) -> Result<SearchPart, AllocError>
         requires { choices.MayChoose self.now.sketch choice }
         ensures path { IfOk result (λ part. part.path.items ≡ self.now.path.items ++ choice ∷ []) }
-        ensures sketch { IfOk result (λ part. part.sketch ≡ with_chosen self.now.sketch (choices.sketch_with self.now.sketch.chosen choice)) }
+        ensures sketch { IfOk result (λ part. part.sketch ≡ with_chosen self.now.sketch (trees.sketch_with self.now.sketch.chosen choice)) }
     {
         let mut path = Vec::from_slice(alloc, &self.path)?;
         path.push(choice)?;
@@ -51,7 +52,7 @@ impl SearchPart {
         })
     }
 
-    /// The same part, over a sketch that shares nothing with this one's.
+    /// A copy of the part, over a sketch that shares nothing with this one's.
     pub(crate) fn apart(&self, alloc: Global) -> Result<SearchPart, AllocError>
         ensures path { IfOk result (λ part. part.path.items ≡ self.now.path.items) }
         ensures sketch { IfOk result (λ part. part.sketch ≡ self.now.sketch) }

@@ -2,7 +2,7 @@
 ghost use Rattle.std.specs.Prelude.{◌≡◌, All, OnOk};
 ghost use Rattle.tso_machine.specs.declared.mode.Mode.TheVariants as modes;
 ghost use Rattle.tso_program.specs.Shown.{asked};
-ghost use Rattle.sketches.specs.ProgramSketches.{nothing_chosen};
+ghost use Rattle.program_sketches.specs.ProgramSketches.{nothing_chosen};
 ghost use Rattle.partial_covers.specs.PartialCovers.{AreFilled, IsFilled, LeadsToWhole};
 ghost use Rattle.sketch_covers.specs.KnownOutcomes.{by_number, AreInOrder, Grows};
 

@@ -1,14 +1,15 @@
 //! The tree of a sketch to which choices lead.
 ghost use Rattle.std.specs.Prelude.{◌≡◌, IfErr, OnOk};
 ghost use Rattle.tso_program.specs.Shown.{asked};
-ghost use Rattle.sketches.specs.ProgramSketches.{mode_in};
+ghost use Rattle.program_sketches.specs.ProgramSketches.{mode_in};
 ghost use Rattle.sketch_covers.specs.Covers.{IsCoverAt};
 ghost use Rattle.sketch_covers.specs.KnownOutcomes.{by_number, AreInOrder, Grows, StopIs};
 ghost use Rattle.sketch_covers.specs.Pushing.{Pushes};
 ghost use Rattle.partial_covers.specs.PartialCovers.{after, LeadsToWhole, MayChooseAll};
 
+use branching::choose;
 use cert_forest::Node;
-use cover_judge::{Choice, choose};
+use cover_judge::Choice;
 use sketch_covers::{KnownOutcomes, SearchStop, cover_whole};
 use sketches::Sketch;
 use std::alloc::{AllocError, Global};

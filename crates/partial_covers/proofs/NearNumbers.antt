@@ -1,15 +1,20 @@
 -- The numbers of a valid tree over a list with a node for each number.
-use Rattle.partial_covers.proofs.Vocabulary.{◌≤◌, List, [], ◌∷◌, length, map, arith, slice_get_within, Outcome, Question, Machine, Sketch, with_value, with_source, with_pair, NEAR_RUNS, event_of, IsValidCover, AreValidCovers}
+use Rattle.partial_covers.proofs.Vocabulary.{◌≤◌, List, [], ◌∷◌, length, map, arith, slice_get_within, Outcome, Question, Machine, Sketch, NEAR_RUNS, IsValidCover, AreValidCovers}
+use Rattle.tree_laws.specs.CoverTrees.{AreTwo, sketch_with}
 use Rattle.cert_forest.specs.Trees.{Cover, Value, Source, Order, Cycle, Known, Covers, NoCover, MoreCovers}
 use Rattle.partial_covers.proofs.OtherNumbers.{IsNear, AreNear}
+
+both_near : (P Q : Sketch → Type 0) (R S : Type 0) → ((k : Sketch) → P k → R) → ((k : Sketch) → Q k → S) → (ks : List Sketch) → AreTwo P Q ks → R × S
+both_near P Q R S first second (k ∷ (j ∷ [])) (one, other) = (first k one, second j other)
+both_near P Q R S first second ks both = absurd both
 
 module _ (q : Question) (mode : Machine) (outcomes : List Outcome) (few : length outcomes ≤ NEAR_RUNS) where
   mutual
     pub valid_near : (tree : Cover) (k : Sketch) → IsValidCover q mode outcomes tree k → IsNear tree
-    valid_near (Value t trees) k (values, has, valid) = valid_each_near trees (map (with_value k t) values) valid
-    valid_near (Source read trees) k (sources, has, valid) = valid_each_near trees (map (with_source k (event_of read)) sources) valid
-    valid_near (Order first second one other) k (has, before, after) =
-        (valid_near one (with_pair k (event_of first) (event_of second)) before, valid_near other (with_pair k (event_of second) (event_of first)) after)
+    valid_near (Value t trees) k (choices, are, valid) = valid_each_near trees (map (sketch_with k) choices) valid
+    valid_near (Source read trees) k (choices, are, valid) = valid_each_near trees (map (sketch_with k) choices) valid
+    valid_near (Order first second one other) k (choices, are, valid) =
+        both_near (IsValidCover q mode outcomes one) (IsValidCover q mode outcomes other) (IsNear one) (IsNear other) (valid_near one) (valid_near other) (map (sketch_with k) choices) valid
     valid_near (Cycle kind events) k known = tt
     valid_near (Known number) k must = (let within = slice_get_within outcomes number must.outcome must.is_outcome in omega arith)
 

@@ -78,10 +78,6 @@ piece_joined old new piece nodes own none pushed here empty =
     (λ i. items_before (pushed i) ++ map Has (empty i)) ∙ append-nil (items_before (old ++ piece ∷ [])) ∙ pieces_pushed old piece
     ∙ ap (λ (xs : List Item). xs ++ hole) (items_pushed old nodes (nodes_in piece.nodes) own here)
 
-pub on_ok : {T E : Type 0} (r : Result T E) (P Q : Type 0) → (P → Q) → OnOk r P → OnOk r Q
-on_ok (Ok v) P Q follows is = follows is
-on_ok (Err e) P Q follows is = tt
-
 pub on_both : {T E : Type 0} (r : Result T E) (P Q R : Type 0) → (P → Q → R) → OnOk r P → OnOk r Q → OnOk r R
 on_both (Ok v) P Q R follows one other = follows one other
 on_both (Err e) P Q R follows one other = tt

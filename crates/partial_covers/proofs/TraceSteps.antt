@@ -3,7 +3,7 @@ use Rattle.partial_covers.proofs.Vocabulary.{◌≡◌, ◌∙◌, ◌<◌, ◌�
 use Rattle.partial_covers.proofs.Vocabulary.{IsValueTree, AreAlike, with_root, Traces, Read, root, traces, trace_trees, first_choices, AreInOrder, grows_none, Covering, Covers, CoversEach, Has, items_of, PartialCover, as_many_here, choices_here, are_here}
 use Rattle.partial_covers.proofs.Vocabulary.{child_at}
 use Rattle.cert_forest.specs.Node.TheVariants as node
-use Rattle.cover_judge.specs.declared.choice.Choice.TheVariants as choice
+use Rattle.tree_laws.specs.declared.choice.Choice.TheVariants as choice
 use Rattle.partial_covers.proofs.CoveringSteps.{covers_values, each_more}
 
 module _ (s : ProgramSketch) (t : ℕ) (alone : HasValuesAlone s.chosen) (there : t < length s.program.threads) (lawful : IsLawful s) (u : ProgramSketch) (own : IsLawful u) (choices : List Choice) (below : List ValueTree)

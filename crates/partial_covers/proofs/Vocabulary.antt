@@ -30,16 +30,18 @@ pub use Rattle.cert_forest.specs.NodeConstants.{NEAR_RUNS}
 pub use Rattle.cert_forest.specs.Nodes.{cycle_nodes, known_nodes, spell, spell_row}
 pub use Rattle.cert_forest.specs.Trees.{Cover, NoCover, Source, count_covers}
 pub use Rattle.cover_judge.proofs.TighterModes.{renumbered_is_valid}
-pub use Rattle.cover_judge.specs.Choices.{AreValueChoices, IsValueOpen, MayChoose, MayChooseEach, sketch_with}
+pub use Rattle.cover_judge.specs.Choices.{AreValueChoices, IsValueOpen, MayChoose, MayChooseEach}
+pub use Rattle.tree_laws.specs.CoverTrees.{sketch_with}
 pub use Rattle.cover_judge.specs.CoverTrees.{AreValidCovers, IsValidCover, event_of}
 pub use Rattle.cover_judge.specs.TighterModes.{changed, each_changed, in_mode, kind_in}
-pub use Rattle.cover_judge.specs.declared.choice.Choice.{Choice}
+pub use Rattle.tree_laws.specs.declared.choice.Choice.{Choice}
 pub use Rattle.sketch_covers.proofs.CombinedCovers.{at_its_start, at_start, before_first, before_next, of_others, rest_of, traces_still}
 pub use Rattle.sketch_covers.proofs.CombinedSketches.{access_elsewhere, access_here, lawful_merged, next_elsewhere, next_here, read_elsewhere, read_here, unsourced_cover, whole_merged}
 pub use Rattle.sketch_covers.proofs.Growing.{grows_after, grows_none, grows_open, grows_twice, still_valid}
 pub use Rattle.sketch_covers.proofs.Nodes.{few_choices, leaf_cover}
 pub use Rattle.sketch_covers.proofs.TraceNodes.{are_here, as_many, as_many_here, child_at, child_meets, choices_here, few_here}
-pub use Rattle.sketch_covers.specs.Covers.{AreNeat, IsCoverAt, IsNeat, IsWholeCover}
+pub use Rattle.sketch_covers.specs.Covers.{IsCoverAt}
+pub use Rattle.tree_laws.specs.Covers.{AreNeat, IsNeat, IsWholeCover}
 pub use Rattle.sketch_covers.specs.KnownOutcomes.{AreInOrder, Grows, OnTold, StaysOf, by_number}
 pub use Rattle.sketch_covers.specs.NodeChanges.{changed_node, copied_in, renumbered_node, sequential_node}
 pub use Rattle.sketch_covers.specs.OutcomeNumbers.{ArePlacesOf, HasNumber, KeepsNumbers, place_in}
@@ -47,12 +49,12 @@ pub use Rattle.sketch_covers.specs.Pushing.{BeginsIfNew, IfKnown, Pushes}
 pub use Rattle.sketch_covers.specs.UnsourcedTraces.{Takes}
 pub use Rattle.sketch_covers.specs.declared.known_outcomes.KnownOutcomes.{KnownOutcomes, TheVariants.Open}
 pub use Rattle.sketch_covers.specs.declared.stop.SearchStop.{SearchStop}
-pub use Rattle.sketches.proofs.Lookups.{same_default}
-pub use Rattle.sketches.proofs.ThreadValues.{values_elsewhere}
-pub use Rattle.sketches.specs.Kept.{IsLawful}
-pub use Rattle.sketches.specs.ProgramSketches.{ProgramSketch, access_in, mode_in, nothing_chosen, with_chosen}
-pub use Rattle.sketches.specs.Sizes.{choice_count, most_choices}
-pub use Rattle.sketches.specs.ThreadValues.{HasValuesAlone, with_values}
+pub use Rattle.program_sketches.proofs.Lookups.{same_default}
+pub use Rattle.rowless_sketches.proofs.ThreadValues.{values_elsewhere}
+pub use Rattle.program_sketches.specs.Kept.{IsLawful}
+pub use Rattle.program_sketches.specs.ProgramSketches.{ProgramSketch, access_in, mode_in, nothing_chosen, with_chosen}
+pub use Rattle.program_sketches.specs.Sizes.{choice_count, most_choices}
+pub use Rattle.rowless_sketches.specs.ThreadValues.{HasValuesAlone, with_values}
 pub use Rattle.tso_machine.specs.Machine.{Machine, SequentialMachine}
 pub use Rattle.tso_machine.specs.Modes.{machine_of_mode}
 pub use Rattle.tso_machine.specs.declared.mode.Mode.{Mode}

@@ -1,8 +1,8 @@
 -- What a step of a search for outcomes does to what the search has so far.
 use Rattle.std.specs.Prelude.{◌≡◌, Bool, List}
 use Rattle.tso_program.specs.Shown.{asked}
-use Rattle.sketches.specs.ProgramSketches.{ProgramSketch}
-use Rattle.cover_judge.specs.declared.choice.Choice.{Choice}
+use Rattle.program_sketches.specs.ProgramSketches.{ProgramSketch}
+use Rattle.tree_laws.specs.declared.choice.Choice.{Choice}
 use Rattle.sketch_covers.specs.KnownOutcomes.{by_number, Grows}
 use Rattle.partial_covers.specs.declared.covering.Covering.{Covering}
 use Rattle.partial_covers.specs.PartialCovers.{items_of, PushesPartialAt, PushesPartialRowAt}

@@ -3,7 +3,7 @@ use Rattle.std.specs.Prelude.{List, [], ◌∷◌}
 use Rattle.tso_program.specs.declared.outcome.Outcome.{Outcome}
 use Rattle.tso_program.specs.declared.shown.Shown.{Shown}
 use Rattle.tso_machine.specs.declared.mode.Mode.TheVariants as modes
-use Rattle.sketches.specs.ProgramSketches.{ProgramSketch}
+use Rattle.program_sketches.specs.ProgramSketches.{ProgramSketch}
 use Rattle.cert_forest.specs.Node.{Node}
 use Rattle.sketch_covers.specs.Covers.{IsCoverAt}
 use Rattle.sketch_covers.specs.Pushing.{Pushes}

@@ -4,8 +4,8 @@ use Rattle.tso_program.specs.declared.outcome.Outcome.{Outcome}
 use Rattle.tso_program.specs.declared.shown.Shown.{Shown}
 use Rattle.tso_program.specs.Shown.{Question, asked}
 use Rattle.tso_machine.specs.Modes.{machine_of_mode}
-use Rattle.sketches.specs.ProgramSketches.{ProgramSketch}
-use Rattle.cover_judge.specs.declared.choice.Choice.{Choice}
+use Rattle.program_sketches.specs.ProgramSketches.{ProgramSketch}
+use Rattle.tree_laws.specs.declared.choice.Choice.{Choice}
 use Rattle.sketch_covers.specs.declared.outcome_index.OutcomeIndex.{OutcomeIndex}
 use Rattle.sketch_covers.specs.declared.known_outcomes.KnownOutcomes.{KnownOutcomes, TheVariants.Closed, TheVariants.Open}
 use Rattle.partial_covers.specs.declared.part_cover.PartCover.{PartCover}

@@ -6,13 +6,14 @@ use Rattle.tso_program.specs.declared.outcome.Outcome.{Outcome}
 use Rattle.tso_program.specs.declared.shown.Shown.{Shown}
 use Rattle.tso_machine.specs.declared.mode.Mode.TheVariants as modes
 use Rattle.candidate_executions.specs.Sketches.{IsWhole}
-use Rattle.sketches.specs.ProgramSketches.{ProgramSketch, mode_in, nothing_chosen, with_chosen}
+use Rattle.program_sketches.specs.ProgramSketches.{ProgramSketch, mode_in, nothing_chosen, with_chosen}
 use Rattle.cert_forest.specs.Node.{Node}
 use Rattle.cert_forest.specs.Node.TheVariants as node
 use Rattle.cert_forest.specs.Trees.{Cover}
 use Rattle.cert_forest.specs.Nodes.{spell}
-use Rattle.cover_judge.specs.declared.choice.Choice.{Choice}
-use Rattle.cover_judge.specs.Choices.{AreValueChoices, MayChoose, sketch_with}
+use Rattle.tree_laws.specs.declared.choice.Choice.{Choice}
+use Rattle.cover_judge.specs.Choices.{AreValueChoices, MayChoose}
+use Rattle.tree_laws.specs.CoverTrees.{sketch_with}
 use Rattle.sketch_covers.specs.NodeChanges.{renumbered_node}
 use Rattle.partial_covers.specs.Fillings.{IsFilling}
 use Rattle.sketch_covers.specs.Covers.{IsCoverAt}

@@ -3,7 +3,7 @@
 ghost use Rattle.std.specs.Prelude.{◌≡◌, [], IfOk, OnOk, MatchOption};
 ghost use Rattle.tso_program.specs.Shown.{Question};
 ghost use Rattle.candidate_executions.specs.Sketches.{IsWhole};
-ghost use Rattle.sketches.specs.ProgramSketches.{ProgramSketch, nothing_chosen, mode_in};
+ghost use Rattle.program_sketches.specs.ProgramSketches.{ProgramSketch, nothing_chosen, mode_in};
 ghost use Rattle.cover_judge.specs.Choices.{MayChooseEach};
 ghost use Rattle.branching.specs.Combinations.{AreAlike, IsBase, with_root, with_trace};
 ghost use Rattle.branching.specs.Plans.{IsLast, IsBeforeLast, IsOtherOpen, AreOfOthers, AreOthersFull};
@@ -20,9 +20,9 @@ use crate::joining::{join, take_cover};
 use crate::part_cover::PartCover;
 use crate::partial_cover::PartialCover;
 use crate::watch::Watch;
-use branching::{FullTrace, OpenChoice, Plan, Tally, ValueTree, choices_of};
+use branching::{FullTrace, Plan, Tally, ValueTree, choices_of, sketch_with};
 use cert_forest::Node;
-use cover_judge::{Choice, sketch_with};
+use cover_judge::{Choice, OpenChoice};
 use sketch_covers::{KnownOutcomes, OutcomeIndex, SearchStop, cover_whole, known_leaf};
 use sketches::{Mode, Sketch};
 use std::alloc::{AllocError, Global};
@@ -146,7 +146,7 @@ impl Covering<'_> {
         self.cover_each_value(sketch, plan, &choices, covers, watch)
     }
 
-    /// The same after each of the choices.
+    /// Covers a sketch after each of the choices of thread t's next value.
     #[cycle(cover_values)]
     fn cover_each_value<W: Watch>(
         &mut self,

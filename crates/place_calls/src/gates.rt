@@ -6,7 +6,8 @@ ghost use Rattle.tso_program.specs.Nodes.{tree_code};
 
 use crate::placing::{PlacerCall, set_by};
 use crate::refusal::PlaceRefusal;
-use cover_solver::{ForeignRun, Oracle, SeqTable, SolveFault, Solver, Verdict};
+use cover_solver::{ForeignRun, Oracle, SearchedTable, SeqTable, SolveFault, Solver, Verdict};
+use fence_place::Oracles;
 use gap_sets::GapSet;
 use std::alloc::{AllocError, Global};
 use std::sync::Wait;
@@ -61,14 +62,15 @@ impl Oracle for Gate {
     }
 }
 
-fn new_gate(alloc: Global, table: &SeqTable, words: &[&[u8]]) -> Result<Gate, PlaceRefusal>
-    ensures { IfOk result (λ gate. gate.solver.question ≡ table.now.question) }
+fn new_gate(alloc: Global, searched: &SearchedTable, words: &[&[u8]]) -> Result<Gate, PlaceRefusal>
+    ensures { IfOk result (λ gate. gate.solver.question ≡ searched.now.question) }
 {
     let labels = labels_from(alloc, words, 1)?;
+    let table = searched.table();
     let first = ForeignRun::new(alloc, table, labels.as_slice())?;
     Ok(Gate {
         alloc,
-        solver: Solver::new(alloc, table.program(), table)?,
+        solver: Solver::new(alloc, table.program(), searched)?,
         first,
         asked: AtomicU64::new(0),
         has_third: AtomicBool::new(false),
@@ -94,7 +96,11 @@ fn push_set_by<R: Threads + Wait + Sync>(
 ) -> Result<(), PlaceRefusal>
     requires { gate.now.solver.question ≡ table.now.question }
 {
-    let set = set_by(rt, gate.alloc, call, table, gate, words)?;
+    let oracles = Oracles {
+        first: gate,
+        again: &gate.solver,
+    };
+    let set = set_by(rt, gate.alloc, call, table, oracles, words)?;
     Ok(push_lines(&set, gate, printed)?)
 }
 
@@ -104,10 +110,10 @@ pub fn push_gated<R: Threads + Wait + Sync>(
     rt: &R,
     alloc: Global,
     call: PlacerCall,
-    table: &SeqTable,
+    searched: &SearchedTable,
     words: &[&[u8]],
     printed: &mut String,
 ) -> Result<(), PlaceRefusal> {
-    let gate = new_gate(alloc, table, words)?;
-    push_set_by(rt, call, table, &gate, words, printed)
+    let gate = new_gate(alloc, searched, words)?;
+    push_set_by(rt, call, searched.table(), &gate, words, printed)
 }

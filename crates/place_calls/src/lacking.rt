@@ -3,7 +3,8 @@ ghost use Rattle.std.specs.Prelude.{◌≡◌, true, IfOk};
 
 use crate::placing::{PlacerCall, set_by};
 use crate::refusal::PlaceRefusal;
-use cover_solver::{Oracle, SeqTable, SolveFault, Solver, Verdict};
+use cover_solver::{Oracle, SearchedTable, SolveFault, Solver, Verdict};
+use fence_place::Oracles;
 use gap_sets::GapSet;
 use std::alloc::Global;
 use std::sync::Wait;
@@ -51,11 +52,15 @@ fn faults_of(alloc: Global, words: &[&[u8]]) -> Result<Vec<Option<SolveFault>>, 
     Ok(faults)
 }
 
-fn new_lacking(alloc: Global, table: &SeqTable, words: &[&[u8]]) -> Result<Lacking, PlaceRefusal>
-    ensures { IfOk result (λ lacking. lacking.solver.question ≡ table.now.question) }
+fn new_lacking(
+    alloc: Global,
+    searched: &SearchedTable,
+    words: &[&[u8]],
+) -> Result<Lacking, PlaceRefusal>
+    ensures { IfOk result (λ lacking. lacking.solver.question ≡ searched.now.question) }
 {
     Ok(Lacking {
-        solver: Solver::new(alloc, table.program(), table)?,
+        solver: Solver::new(alloc, searched.table().program(), searched)?,
         faults: faults_of(alloc, words)?,
         asked: AtomicUsize::new(0),
     })
@@ -66,11 +71,15 @@ fn set_lacking<R: Threads + Wait + Sync>(
     rt: &R,
     alloc: Global,
     call: PlacerCall,
-    table: &SeqTable,
+    searched: &SearchedTable,
     words: &[&[u8]],
 ) -> Result<GapSet, PlaceRefusal> {
-    let lacking = new_lacking(alloc, table, words)?;
-    set_by(rt, alloc, call, table, &lacking, words)
+    let lacking = new_lacking(alloc, searched, words)?;
+    let oracles = Oracles {
+        first: &lacking,
+        again: &lacking.solver,
+    };
+    set_by(rt, alloc, call, searched.table(), oracles, words)
 }
 
 /// The set that a number of workers find, where the solver has no answer to some of its first questions.
@@ -78,11 +87,11 @@ pub fn push_lacking<R: Threads + Wait + Sync>(
     rt: &R,
     alloc: Global,
     call: PlacerCall,
-    table: &SeqTable,
+    searched: &SearchedTable,
     words: &[&[u8]],
     printed: &mut String,
 ) -> Result<(), PlaceRefusal> {
-    let set = set_lacking(rt, alloc, call, table, words)?;
+    let set = set_lacking(rt, alloc, call, searched, words)?;
     push_gaps_after("set", &set, printed)?;
     Ok(printed.push('\n')?)
 }

@@ -2,15 +2,14 @@
 ghost use Rattle.std.specs.Prelude.{◌≡◌, false, IfOk};
 
 use crate::refusal::PlaceRefusal;
-use cover_solver::{Oracle, SeqTable, SolveFault, Solver, Verdict};
-use fence_place::{PlaceFault, Placed, hunt_with, place};
+use cover_solver::{Oracle, SearchedTable, SeqTable, SolveFault, Solver, Verdict};
+use fence_place::{Oracles, PlaceFault, Placed, hunt_with, place};
 use gap_sets::{Costs, GapSet};
-use solver_calls::equal_costs;
 use std::alloc::{AllocError, Global};
 use std::sync::Wait;
 use std::sync::atomic::{AtomicU64, Ordering};
 use std::thread::Threads;
-use text_calls::{byte_at, number_of, push_gaps_after};
+use text_calls::{byte_at, equal_costs, number_of, push_gaps_after};
 
 /// A solver, how many sets it was asked about, and how many of them serve.
 #[derive(Drop)]
@@ -48,15 +47,16 @@ pub enum PlacerCall {
 fn placed_set<R: Threads + Wait + Sync, O: Oracle>(
     rt: &R,
     alloc: Global,
-    oracle: &O,
+    oracles: Oracles<'_, O, Solver>,
     table: &SeqTable,
     costs: &Costs,
     workers: u8,
 ) -> Result<GapSet, PlaceFault>
-    requires question { O.question oracle.now ≡ table.now.question }
-    requires may { O.may_be_asked oracle.now }
+    requires question { O.question oracles.first.now ≡ table.now.question }
+    requires may { O.may_be_asked oracles.first.now }
+    requires again { oracles.again.now.question ≡ table.now.question }
 {
-    let placed = place(rt, alloc, oracle, table, costs, workers)?;
+    let placed = place(rt, alloc, oracles, table, costs, workers)?;
     Ok(placed.set)
 }
 
@@ -82,17 +82,18 @@ pub fn set_by<R: Threads + Wait + Sync, O: Oracle>(
     alloc: Global,
     call: PlacerCall,
     table: &SeqTable,
-    oracle: &O,
+    oracles: Oracles<'_, O, Solver>,
     words: &[&[u8]],
 ) -> Result<GapSet, PlaceRefusal>
-    requires question { O.question oracle.now ≡ table.now.question }
-    requires may { O.may_be_asked oracle.now }
+    requires question { O.question oracles.first.now ≡ table.now.question }
+    requires may { O.may_be_asked oracles.first.now }
+    requires again { oracles.again.now.question ≡ table.now.question }
 {
     let workers = byte_at(words, 0)?;
     let costs = equal_costs(alloc, table)?;
     match call {
-        PlacerCall::Place => Ok(placed_set(rt, alloc, oracle, table, &costs, workers)?),
-        PlacerCall::Hunt => Ok(hunted_set(rt, alloc, oracle, table, &costs, workers)?),
+        PlacerCall::Place => Ok(placed_set(rt, alloc, oracles, table, &costs, workers)?),
+        PlacerCall::Hunt => Ok(hunted_set(rt, alloc, oracles.first, table, &costs, workers)?),
     }
 }
 
@@ -120,11 +121,11 @@ fn push_lines(placed: &Placed, solver: &Counting, printed: &mut String) -> Resul
     )
 }
 
-fn new_counting(alloc: Global, table: &SeqTable) -> Result<Counting, PlaceRefusal>
-    ensures { IfOk result (λ counting. counting.solver.question ≡ table.now.question) }
+fn new_counting(alloc: Global, searched: &SearchedTable) -> Result<Counting, PlaceRefusal>
+    ensures { IfOk result (λ counting. counting.solver.question ≡ searched.now.question) }
 {
     Ok(Counting {
-        solver: Solver::new(alloc, table.program(), table)?,
+        solver: Solver::new(alloc, searched.table().program(), searched)?,
         asked: AtomicU64::new(0),
         serve: AtomicU64::new(0),
     })
@@ -142,7 +143,11 @@ fn placed_by<R: Threads + Wait + Sync>(
 {
     let workers = byte_at(words, 0)?;
     let costs = costs_of(alloc, table, words)?;
-    Ok(place(rt, alloc, solver, table, &costs, workers)?)
+    let oracles = Oracles {
+        first: solver,
+        again: &solver.solver,
+    };
+    Ok(place(rt, alloc, oracles, table, &costs, workers)?)
 }
 
 /// The lines of what is placed by this solver.
@@ -164,12 +169,12 @@ fn push_placed_by<R: Threads + Wait + Sync>(
 pub fn push_placed<R: Threads + Wait + Sync>(
     rt: &R,
     alloc: Global,
-    table: &SeqTable,
+    searched: &SearchedTable,
     words: &[&[u8]],
     printed: &mut String,
 ) -> Result<(), PlaceRefusal> {
-    let solver = new_counting(alloc, table)?;
-    push_placed_by(rt, alloc, table, &solver, words, printed)
+    let solver = new_counting(alloc, searched)?;
+    push_placed_by(rt, alloc, searched.table(), &solver, words, printed)
 }
 
 /// What one hunt finds by this solver: the first word is the number of workers, and the costs of the gaps may follow.
@@ -187,14 +192,16 @@ fn hunted_with<R: Threads + Wait + Sync>(
     Ok(hunted_set(rt, alloc, solver, table, &costs, workers)?)
 }
 
-/// The same, by a solver of the table.
+/// What one hunt finds by a solver of the table: the first word is the number of workers, and the costs of the gaps may
+/// follow.
 fn hunted<R: Threads + Wait + Sync>(
     rt: &R,
     alloc: Global,
-    table: &SeqTable,
+    searched: &SearchedTable,
     words: &[&[u8]],
 ) -> Result<GapSet, PlaceRefusal> {
-    let solver = Solver::new(alloc, table.program(), table)?;
+    let table = searched.table();
+    let solver = Solver::new(alloc, table.program(), searched)?;
     hunted_with(rt, alloc, table, &solver, words)
 }
 
@@ -202,11 +209,11 @@ fn hunted<R: Threads + Wait + Sync>(
 pub fn push_hunted_with<R: Threads + Wait + Sync>(
     rt: &R,
     alloc: Global,
-    table: &SeqTable,
+    searched: &SearchedTable,
     words: &[&[u8]],
     printed: &mut String,
 ) -> Result<(), PlaceRefusal> {
-    let set = hunted(rt, alloc, table, words)?;
+    let set = hunted(rt, alloc, searched, words)?;
     push_gaps_after("set", &set, printed)?;
     Ok(printed.push('\n')?)
 }

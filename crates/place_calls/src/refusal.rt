@@ -3,20 +3,25 @@
 use cover_solver::{ForeignFault, SolveFault};
 use fence_place::PlaceFault;
 use gap_sets::CostFault;
-use solver_calls::SolverRefusal;
+use hunt_calls::HuntRefusal;
+use litmus_text::ReadFault;
 use std::alloc::AllocError;
 use text_calls::TextRefusal;
 use thiserror::Error;
 
-/// A refusal by the call.
+/// A refusal by the call, or `Call`, where a script leaves no receipt.
 #[derive(Clone, Copy, Debug, Error)]
 pub enum PlaceRefusal {
+    #[error("call")]
+    Call,
     #[error("memory")]
     Memory(#[from(alloc)] AllocError),
     #[error("{0}")]
     Text(#[from] TextRefusal),
     #[error("{0}")]
-    Solver(#[from] SolverRefusal),
+    Hunt(#[from] HuntRefusal),
+    #[error("litmus {0:?}")]
+    Litmus(#[from] ReadFault),
     #[error("costs {0:?}")]
     Costs(#[from] CostFault),
     #[error("solve {0:?}")]

@@ -1,20 +1,20 @@
 //! Placing fences by a solver that has two runs at hand.
 ghost use Rattle.std.specs.Prelude.{◌≡◌, false, IfOk, IfSome};
-ghost use Rattle.cover_solver.specs.Verdicts.{IsVerdictOf};
+ghost use Rattle.oracle.specs.Verdicts.{IsVerdictOf};
 ghost use Rattle.std.specs.Coded.{codes};
 ghost use Rattle.tso_program.specs.contracts.shown.Names as names;
 ghost use Rattle.tso_program.specs.Nodes.{tree_code};
 
 use crate::placing::{PlacerCall, set_by};
 use crate::refusal::PlaceRefusal;
-use cover_solver::{ForeignRun, Oracle, SeqTable, SolveFault, Solver, Verdict};
+use cover_solver::{ForeignRun, Oracle, SearchedTable, SeqTable, SolveFault, Solver, Verdict};
+use fence_place::Oracles;
 use gap_sets::GapSet;
-use solver_calls::passes_none;
 use std::alloc::{AllocError, Global};
 use std::sync::Wait;
 use std::sync::atomic::{AtomicU64, Ordering};
 use std::thread::Threads;
-use text_calls::{labels_from, place_of_then, push_gaps_after};
+use text_calls::{labels_from, passes_none, place_of_then, push_gaps_after};
 
 /// A solver, two runs by which it answers where they pass no gap of the set, and how many questions each answered.
 #[derive(Drop)]
@@ -89,12 +89,17 @@ fn runs_from(
     Ok((first, second))
 }
 
-fn new_runs(alloc: Global, table: &SeqTable, words: &[&[u8]]) -> Result<TwoRuns, PlaceRefusal>
-    ensures { IfOk result (λ runs. runs.solver.question ≡ table.now.question) }
+fn new_runs(
+    alloc: Global,
+    searched: &SearchedTable,
+    words: &[&[u8]],
+) -> Result<TwoRuns, PlaceRefusal>
+    ensures { IfOk result (λ runs. runs.solver.question ≡ searched.now.question) }
 {
     let then = place_of_then(words)?;
     let (first, second) = words.split_at(then);
-    let solver = Solver::new(alloc, table.program(), table)?;
+    let table = searched.table();
+    let solver = Solver::new(alloc, table.program(), searched)?;
     let (first, second) = runs_from(alloc, table, first, second)?;
     Ok(TwoRuns {
         alloc,
@@ -124,7 +129,11 @@ fn push_set_by<R: Threads + Wait + Sync>(
 ) -> Result<(), PlaceRefusal>
     requires { runs.now.solver.question ≡ table.now.question }
 {
-    let set = set_by(rt, runs.alloc, call, table, runs, words)?;
+    let oracles = Oracles {
+        first: runs,
+        again: &runs.solver,
+    };
+    let set = set_by(rt, runs.alloc, call, table, oracles, words)?;
     Ok(push_lines(&set, runs, printed)?)
 }
 
@@ -134,10 +143,10 @@ pub fn push_shared<R: Threads + Wait + Sync>(
     rt: &R,
     alloc: Global,
     call: PlacerCall,
-    table: &SeqTable,
+    searched: &SearchedTable,
     words: &[&[u8]],
     printed: &mut String,
 ) -> Result<(), PlaceRefusal> {
-    let runs = new_runs(alloc, table, words)?;
-    push_set_by(rt, call, table, &runs, words, printed)
+    let runs = new_runs(alloc, searched, words)?;
+    push_set_by(rt, call, searched.table(), &runs, words, printed)
 }

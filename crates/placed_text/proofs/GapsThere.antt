@@ -1,7 +1,7 @@
 -- Gaps that a program has are all there.
 use Rattle.placed_text.proofs.Vocabulary.{◌≡◌, ◌<◌, ℕ, Bool, true, false, List, [], ◌∷◌, None, find, nat_le, arith, refl, filter, range_with_len, nat_tests, Listing, SetOfGaps, gap_count, numbers_of_set, first_missing, MAX_GAPS}
 use Rattle.std.specs.FinSet as set
-use Rattle.cover_solver.specs.Outcomes.{AreGapsOf}
+use Rattle.tso_machine.specs.Outcomes.{AreGapsOf}
 
 not_above : (n gap : ℕ) → gap < n → nat_le n gap ≡ false
 not_above n gap below = grind (arith, nat_tests)

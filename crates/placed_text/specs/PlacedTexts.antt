@@ -6,7 +6,7 @@ use Rattle.tso_program.specs.declared.listing.Listing.{Listing}
 use Rattle.tso_program.specs.declared.shown.Shown.{Shown}
 use Rattle.tso_program.specs.declared.shown.ShownKind.{ShownKind}
 use Rattle.tso_program.specs.Shown.{Question, asked}
-use Rattle.cover_solver.specs.Outcomes.{Headline, IsTheAnswer}
+use Rattle.tso_machine.specs.Outcomes.{Headline, IsTheAnswer}
 use Rattle.litmus_text.specs.Litmus.{Litmus}
 use Rattle.litmus_text.specs.Texts.{IsLitmus, IsFencedLitmus}
 use Rattle.litmus_text.specs.Canonical.{canonical_text, litmus_fenced_at}
@@ -14,7 +14,7 @@ use Rattle.litmus_text.specs.GivenCosts.{AreGiven}
 use Rattle.documents.specs.Documents.{IsPlacedDocument}
 use Rattle.cert_forest.specs.Certificates.{Certificate}
 use Rattle.cert_forest.specs.Limits.{IsCertificate}
-use Rattle.cover_solver.specs.Certificates.{IsValidCertificate}
+use Rattle.tree_laws.specs.Certificates.{IsValidCertificate}
 use Rattle.report.specs.Answers.{answer_line}
 use Rattle.fence_place.specs.Placements.{IsPlacement}
 use Rattle.placed_text.specs.declared.placing.PlacedSource.{PlacedSource}

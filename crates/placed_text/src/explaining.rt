@@ -32,7 +32,7 @@ pub struct WhyText {
     pub lines: Vec<u8>,
     /// The candidate executions of the runs, as a graph in Graphviz's language.
     pub graph: Vec<u8>,
-    /// The same, as JSON.
+    /// What is printed with `--json`.
     pub document: Vec<u8>,
 }
 

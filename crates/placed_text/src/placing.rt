@@ -18,8 +18,8 @@ use crate::watched::{Effort, Watched, report_failure, report_outcomes};
 use crate::writing::{AnswerText, PlacedText, write_answer};
 use cert_forest::Certificate;
 use cert_pages::write_pages;
-use cover_solver::{SeqTable, SolveFault, Solver, sequential_watched};
-use fence_place::{PlaceFault, Placed, place};
+use cover_solver::{SearchedTable, SeqTable, SolveFault, Solver, sequential_watched};
+use fence_place::{Oracles, PlaceFault, Placed, place};
 use gap_sets::{Costs, GapSet};
 use litmus_text::Litmus;
 use std::alloc::{AllocError, Global};
@@ -31,7 +31,7 @@ use tso_program::{MAX_WORKERS, Program, Shown, ShownKind};
 /// From so many holes on threads share one question at a time.
 const MANY_HOLES: usize = 64;
 
-/// The same from so many nodes of a tree on.
+/// From so many nodes of a tree on threads share one question at a time.
 const MANY_NODES: usize = 100_000;
 
 /// What is placed in a program, and the solver that was asked.
@@ -109,7 +109,11 @@ fn placed_by<R: Threads + Wait + Sync>(
         asking: AtomicU64::new(0),
     };
     let asker_count = askers(effort.workers, solver);
-    match place(rt, alloc, &watched, table, costs, asker_count) {
+    let oracles = Oracles {
+        first: &watched,
+        again: solver,
+    };
+    match place(rt, alloc, oracles, table, costs, asker_count) {
         Ok(placed) => Ok(placed),
         Err(PlaceFault::OutOfMemory) => Err(TextFault::OutOfMemory),
         Err(PlaceFault::Workers) => Err(TextFault::Workers),
@@ -122,21 +126,21 @@ fn found_by<R: Threads + Wait + Sync>(
     rt: &R,
     alloc: Global,
     program: &Program,
-    table: &SeqTable,
+    searched: &SearchedTable,
     costs: &Costs,
     effort: Effort,
 ) -> Result<SolvedPlacement, TextFault>
-    requires program { table.now.question.program ≡ program.now }
-    requires one_each { length costs.now ≡ gap_count table.now.question.program.threads }
-    ensures placed { IfOk result (λ found. IsPlacement table.now.question costs.now found.placed) }
-    ensures solver { IfOk result (λ found. found.solver.question ≡ table.now.question) }
+    requires program { searched.now.question.program ≡ program.now }
+    requires one_each { length costs.now ≡ gap_count searched.now.question.program.threads }
+    ensures placed { IfOk result (λ found. IsPlacement searched.now.question costs.now found.placed) }
+    ensures solver { IfOk result (λ found. found.solver.question ≡ searched.now.question) }
     ensures workers { OnOk result (¬ AreTooFewOrMany effort.workers) }
     ensures fault { IfErr result (HasNoPlacement effort.workers) }
 {
-    let Ok(solver) = Solver::new(alloc, program, table) else {
+    let Ok(solver) = Solver::new(alloc, program, searched) else {
         return Err(TextFault::OutOfMemory);
     };
-    let placed = placed_by(rt, alloc, &solver, table, costs, effort)?;
+    let placed = placed_by(rt, alloc, &solver, searched.table(), costs, effort)?;
     Ok(SolvedPlacement { placed, solver })
 }
 
@@ -156,16 +160,16 @@ fn place_gaps<R: Threads + Wait + Sync>(
     ensures fault { IfErr result (HasNoPlacement effort.workers) }
 {
     let ahead = report_ahead(alloc, program, effort.progress);
-    let table = match sequential_watched(rt, alloc, program, shown, effort.workers, &ahead) {
-        Ok(table) => table,
+    let searched = match sequential_watched(rt, alloc, program, shown, effort.workers, &ahead) {
+        Ok(searched) => searched,
         Err(SolveFault::OutOfMemory) => return Err(TextFault::OutOfMemory),
         Err(SolveFault::NoRun) => unreachable!(),
     };
     let progress = ahead.progress();
-    report_outcomes(alloc, progress, table.outcomes().len());
+    report_outcomes(alloc, progress, searched.table().outcomes().len());
     let workers = effort.workers;
     let effort = Effort { workers, progress };
-    found_by(rt, alloc, program, &table, costs, effort)
+    found_by(rt, alloc, program, &searched, costs, effort)
 }
 
 /// Reads costs of the gaps of a litmus text's program, and finds what is placed in it.
@@ -310,7 +314,7 @@ fn placed_texts<R: Threads + Sync>(
     written_texts(rt, alloc, threads, certificate, &answer)
 }
 
-/// The same of what the texts are made of, and of the certificate.
+/// The texts of the answer, of what they are made of, and the text of the certificate, which goes as it is written.
 fn written_texts<R: Threads + Sync>(
     rt: &R,
     alloc: Global,

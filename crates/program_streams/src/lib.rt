@@ -28,4 +28,4 @@ pub use output::{print, refuse_words};
 pub use progress::Progress;
 pub use streams::{read_line_up_to, read_on, read_rest_up_to, read_up_to, write_bytes};
 pub use version::{VERSION, asks_version, version_line};
-pub use words::{LineFault, line_words};
+pub use words::{WordsFault, line_words};

@@ -41,7 +41,7 @@ impl Progress {
         }
     }
 
-    /// The same, and for each search where that is asked for.
+    /// In this place, and for each search where that is asked for.
     pub fn asked(self, asked: bool) -> Progress {
         let mut progress = self;
         if asked {
@@ -50,7 +50,7 @@ impl Progress {
         progress
     }
 
-    /// The same for one search: each line of it is reported, or none.
+    /// In this place, for one search: each line of it is reported, or none.
     pub fn of_search(self, is_long: bool) -> Progress {
         let mut progress = self;
         progress.reported = match self.reported {

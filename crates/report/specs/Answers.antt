@@ -8,7 +8,7 @@ use Rattle.tso_program.specs.declared.shown.Shown.{Shown, TheVariants.All, TheVa
 use Rattle.tso_machine.specs.declared.label.Label.{Label}
 use Rattle.tso_machine.specs.RunTexts.{run_text}
 use Rattle.litmus_reader.specs.Names.{TextNames}
-use Rattle.canonical_text.specs.Outcomes.{outcome_text}
+use Rattle.outcome_text.specs.Outcomes.{outcome_text}
 use Rattle.report.specs.Places.{gap_text, gaps_text}
 
 -- a text after a space, or nothing where there is no text

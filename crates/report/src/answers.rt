@@ -4,9 +4,9 @@ ghost use Rattle.std.specs.Prelude.{◌≡◌, ◌++◌, IfOk, OnOk, codes};
 ghost use Rattle.report.specs.Answers.{after_space, printed_labels, outcome_line, passed_line, without_line, shown_word, set_line, answer_line};
 
 use crate::places::{push_gap, push_gaps};
-use canonical_text::write_outcome;
 use gap_sets::GapSet;
 use litmus_reader::NameTable;
+use outcome_text::write_outcome;
 use std::alloc::{AllocError, Global};
 use tso_machine::{Label, write_run};
 use tso_program::{Outcome, Program, Shown};

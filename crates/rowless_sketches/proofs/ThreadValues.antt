@@ -4,7 +4,7 @@ use Rattle.rowless_sketches.proofs.Vocabulary.{Mode, machine_of_mode, Event, IsV
 use Rattle.rowless_sketches.proofs.Vocabulary.{KeepsTraces, IsLawful, good_of, values_from, none_chosen, new_kept_by, given_set, given_at}
 use Rattle.tso_program.specs.Listings.{action, code_of, start_of}
 use Rattle.candidate_executions.specs.Traces.{trace, fenced_gaps}
-use Rattle.known_edges.proofs.GivenUsed.{Good}
+use Rattle.program_sketches.proofs.GivenUsed.{Good}
 
 module _ (k : Sketch) (t : ℕ) (given : List ℕ) where
   pub values_here : t < length k.given → given_to (with_values k t given) t ≡ given

@@ -16,20 +16,20 @@ pub use Rattle.candidate_executions.specs.Sketches.{EndsAs, EndsInValues, IsBefo
 pub use Rattle.candidate_executions.specs.Values.{IsValueOf}
 pub use Rattle.candidate_executions.specs.declared.access.Access.{Access}
 pub use Rattle.candidate_executions.specs.declared.event.Event.{Event, TheVariants.Access as At, TheVariants.Initial}
-pub use Rattle.known_edges.proofs.Accesses.{none_past}
-pub use Rattle.known_edges.proofs.Chosen.{found_source, has_source_by, once, pair_kept, source_kept}
-pub use Rattle.known_edges.proofs.KnownParts.{last_part, pair_by, to_relates}
-pub use Rattle.known_edges.proofs.Lawful.{given_at, given_set, good_of, more_kept, more_parts, new_kept_by, none_chosen, none_in, values_from}
-pub use Rattle.known_edges.proofs.Lookups.{each_index}
-pub use Rattle.known_edges.proofs.Numbered.{accesses_same, ends_whole, whole_ends}
-pub use Rattle.known_edges.proofs.TracesKept.{no_accesses, no_trace, past_next, reads_there, trace_accesses, trace_last, trace_next}
-pub use Rattle.known_edges.specs.Choices.{IsRead, MayFollow, MayRead, ReadsThisValue}
-pub use Rattle.known_edges.specs.Kept.{AreOtherTwo, IsLawful, KeepsTraces, given_in, given_lists, view_of}
-pub use Rattle.known_edges.specs.Known.{IsInitialWrite}
-pub use Rattle.known_edges.specs.ProgramSketches.{ProgramSketch, access_in, mode_in, trace_in, with_chosen}
-pub use Rattle.known_edges.specs.Rows.{EachEnds, traced_access}
-pub use Rattle.known_edges.specs.Writes.{HasLater, IsLastWith, IsWritten, IsWrittenBy, WritesTo}
-pub use Rattle.known_edges.specs.declared.known_truth.Knowledge.{Knowledge}
+pub use Rattle.program_sketches.proofs.Traced.{none_past}
+pub use Rattle.program_sketches.proofs.Chosen.{found_source, has_source_by, once, pair_kept, source_kept}
+pub use Rattle.program_sketches.proofs.KnownParts.{last_part, pair_by, to_relates}
+pub use Rattle.program_sketches.proofs.Lawful.{given_at, given_set, good_of, more_kept, more_parts, new_kept_by, none_chosen, none_in, values_from}
+pub use Rattle.program_sketches.proofs.Lookups.{each_index}
+pub use Rattle.program_sketches.proofs.Traced.{accesses_same, ends_whole, whole_ends}
+pub use Rattle.program_sketches.proofs.TracesKept.{no_accesses, no_trace, past_next, reads_there, trace_accesses, trace_last, trace_next}
+pub use Rattle.program_sketches.specs.Choices.{IsRead, MayFollow, MayRead, ReadsThisValue}
+pub use Rattle.program_sketches.specs.Kept.{AreOtherTwo, IsLawful, KeepsTraces, given_in, given_lists, view_of}
+pub use Rattle.program_sketches.specs.Known.{IsInitialWrite}
+pub use Rattle.program_sketches.specs.ProgramSketches.{ProgramSketch, access_in, mode_in, trace_in, with_chosen}
+pub use Rattle.program_sketches.specs.TracedAccesses.{EachEnds, traced_access}
+pub use Rattle.program_sketches.specs.Writes.{HasLater, IsLastWith, IsWritten, IsWrittenBy, WritesTo}
+pub use Rattle.program_sketches.specs.declared.known_truth.Knowledge.{Knowledge}
 pub use Rattle.thread_traces.proofs.KnownParts.{no, not_by, of_some, yes}
 pub use Rattle.thread_traces.proofs.ValuesGiven.{given_back}
 pub use Rattle.thread_traces.specs.ThreadTraces.{IsThreadTraceOf}

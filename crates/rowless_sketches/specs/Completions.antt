@@ -10,8 +10,8 @@ use Rattle.candidate_executions.specs.declared.event.Kind.{Kind}
 use Rattle.candidate_executions.specs.Candidates.{Candidate, HasOutcome}
 use Rattle.candidate_executions.specs.Consistency.{Edge}
 use Rattle.candidate_executions.specs.Sketches.{IsConsistentCompletion, MustEndAs}
-use Rattle.known_edges.specs.ProgramSketches.{ProgramSketch, mode_in}
-use Rattle.known_edges.specs.Known.{HasNoCycle}
+use Rattle.program_sketches.specs.ProgramSketches.{ProgramSketch, mode_in}
+use Rattle.program_sketches.specs.Known.{HasNoCycle}
 
 -- some consistent completion has the outcome
 abbrev pub HasCompletion : ProgramSketch → Outcome → Type 0

@@ -6,8 +6,8 @@ use Rattle.tso_program.specs.Shown.{shown_value}
 use Rattle.candidate_executions.specs.declared.event.Event.{Event, TheVariants.Access as At}
 use Rattle.candidate_executions.specs.Candidates.{IsAccess}
 use Rattle.candidate_executions.specs.Sketches.{given_to}
-use Rattle.known_edges.specs.ProgramSketches.{ProgramSketch, mode_in, trace_in}
-use Rattle.known_edges.specs.Writes.{IsLastWith}
+use Rattle.program_sketches.specs.ProgramSketches.{ProgramSketch, mode_in, trace_in}
+use Rattle.program_sketches.specs.Writes.{IsLastWith}
 
 -- the registers where the threads stop
 abbrev pub final_registers : ProgramSketch → List (List ℕ)

@@ -3,8 +3,8 @@ use Rattle.std.specs.Prelude.{◌↔◌, Bool, true, false, IsTrue}
 use Rattle.tso_program.specs.declared.atom.Atom.{Atom}
 use Rattle.tso_program.specs.Tree.{Tree, KnownBy}
 use Rattle.candidate_executions.specs.Sketches.{KnownAtom}
-use Rattle.known_edges.specs.declared.known_truth.Knowledge.{Knowledge}
-use Rattle.known_edges.specs.ProgramSketches.{ProgramSketch, mode_in}
+use Rattle.program_sketches.specs.declared.known_truth.Knowledge.{Knowledge}
+use Rattle.program_sketches.specs.ProgramSketches.{ProgramSketch, mode_in}
 
 -- the formula is known to be so
 abbrev pub IsKnownTruth : ProgramSketch → Tree Atom → Bool → Type 0

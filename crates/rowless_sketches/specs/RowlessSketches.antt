@@ -5,9 +5,9 @@ use Rattle.candidate_executions.specs.declared.event.Event.{Event}
 use Rattle.candidate_executions.specs.Events.{ComesBefore}
 use Rattle.candidate_executions.specs.Sketches.{IsWhole, IsSourceOf}
 use Rattle.thread_traces.specs.declared.thread_trace.ThreadTrace.{ThreadTrace}
-use Rattle.known_edges.specs.ProgramSketches.{ProgramSketch, mode_in}
-use Rattle.known_edges.specs.Kept.{view_of, given_in, KeepsTraces}
-use Rattle.known_edges.specs.Choices.{IsRead, HasSource}
+use Rattle.program_sketches.specs.ProgramSketches.{ProgramSketch, mode_in}
+use Rattle.program_sketches.specs.Kept.{view_of, given_in, KeepsTraces}
+use Rattle.program_sketches.specs.Choices.{IsRead, HasSource}
 use Rattle.tso_program.specs.declared.listing.Listing.{Listing}
 use Rattle.tso_machine.specs.declared.mode.Mode.{Mode}
 use Rattle.thread_traces.specs.declared.trace_tree.TraceTree.{TraceTree}

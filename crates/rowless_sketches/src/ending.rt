@@ -3,14 +3,14 @@ ghost use Rattle.std.specs.Prelude.{◌≡◌, ◌↔◌, ◌<◌, ℕ, Some, If
 ghost use Rattle.tso_program.specs.Shown.{show_registers, asked, ShowsValues};
 ghost use Rattle.candidate_executions.specs.declared.event.Event.{Event};
 ghost use Rattle.rowless_sketches.specs.Endings.{final_registers, IsOwn, HasEnds, HasEndOf};
-ghost use Rattle.known_edges.specs.Writes.{HasLater, WritesTo, IsWritten, IsWrittenBy};
-ghost use Rattle.known_edges.specs.ProgramSketches.{trace_in, mode_in, access_in};
-ghost use Rattle.known_edges.specs.Known.{IsInitialWrite};
+ghost use Rattle.program_sketches.specs.Writes.{HasLater, WritesTo, IsWritten, IsWrittenBy};
+ghost use Rattle.program_sketches.specs.ProgramSketches.{trace_in, mode_in, access_in};
+ghost use Rattle.program_sketches.specs.Known.{IsInitialWrite};
 ghost use Rattle.candidate_executions.specs.Sketches.{EndsInValues, EndsInTruth, MustEndAs, IsWhole};
 
 use crate::parts::Parts;
 use candidate_executions::{Access, Event};
-use known_edges::is_same;
+use program_sketches::is_same;
 use std::alloc::{AllocError, Global};
 use thread_traces::is_write_to;
 use tso_program::{Formula, Outcome, REGISTERS, Shown};
@@ -35,7 +35,7 @@ impl Parts<'_> {
         }
     }
 
-    /// The same where values are shown.
+    /// Whether the outcome is shown of each completion, where values are shown.
     fn ends_whole(&self, shown: &Shown, outcome: &Outcome) -> bool
         ensures { IsTrue result ↔ (IsWhole self.now.program (mode_in self.now) self.now.chosen × EndsInValues self.now.program (mode_in self.now) self.now.chosen shown.now outcome.now) }
     {
@@ -45,7 +45,7 @@ impl Parts<'_> {
         self.ends_in(shown, outcome)
     }
 
-    /// The same of a sketch in which each read has its value.
+    /// Whether the outcome is shown of each completion of a sketch in which each read has its value.
     fn ends_in(&self, shown: &Shown, outcome: &Outcome) -> bool
         ensures { IsTrue result ↔ EndsInValues self.now.program (mode_in self.now) self.now.chosen shown.now outcome.now }
     {
@@ -55,7 +55,7 @@ impl Parts<'_> {
         self.has_registers(shown, outcome.registers.as_slice())
     }
 
-    /// The same where a formula's truth is shown.
+    /// Whether the outcome is shown of each completion, where a formula's truth is shown.
     fn ends_told(
         &self,
         alloc: Global,
@@ -83,7 +83,8 @@ impl Parts<'_> {
         self.has_initial_ends(shown, memory) && self.has_ends(shown, memory)
     }
 
-    /// The same of the initial writes alone.
+    /// Whether the memory has the value of each initial write that may be the last of its location, as far as it is
+    /// shown.
     fn has_initial_ends(&self, shown: &Shown, memory: &[u32]) -> bool
         requires long { length memory.now ≡ length self.now.program.memory }
         ensures { IsTrue result ↔ ((l : ℕ) → l < length memory.now → HasEndOf self.now shown.now memory.now (Event.Initial l)) }
@@ -97,7 +98,8 @@ impl Parts<'_> {
         true
     }
 
-    /// The same of the accesses alone.
+    /// Whether the memory has the value of each access that may be the last write of its location, as far as it is
+    /// shown.
     fn has_ends(&self, shown: &Shown, memory: &[u32]) -> bool
         requires long { length memory.now ≡ length self.now.program.memory }
         ensures { IsTrue result ↔ ((e : Event) → IsOwn self.now e → HasEndOf self.now shown.now memory.now e) }
@@ -111,7 +113,8 @@ impl Parts<'_> {
         true
     }
 
-    /// The same of one thread's accesses.
+    /// Whether the memory has the value of each access of a thread that may be the last write of its location, as far
+    /// as it is shown.
     fn thread_has_ends(&self, t: u8, shown: &Shown, memory: &[u32]) -> bool
         requires long { length memory.now ≡ length self.now.program.memory }
         ensures { IsTrue result ↔ ((i : ℕ) → i < length (trace_in self.now t).accesses → HasEndOf self.now shown.now memory.now (Event.Access t i)) }
@@ -124,7 +127,8 @@ impl Parts<'_> {
         true
     }
 
-    /// The same of an event, which reads and writes as x.
+    /// Whether the memory has what an event writes, which reads and writes as x, if it may be the last write of its
+    /// location, as far as it is shown.
     fn has_end(&self, event: Event, x: Access, shown: &Shown, memory: &[u32]) -> bool
         requires access { access_in self.now event ≡ Some x }
         requires other { IsInitialWrite event → ⊥ }

@@ -9,16 +9,16 @@ ghost use Rattle.tso_program.specs.Truth.{is_true_at, is_value};
 ghost use Rattle.tso_program.specs.Instructions.{number};
 ghost use Rattle.candidate_executions.specs.Sketches.{next_read};
 ghost use Rattle.rowless_sketches.specs.Endings.{final_registers, MayBe, MayBeBy, IsOfThread};
-ghost use Rattle.known_edges.specs.Writes.{IsLastWith};
-ghost use Rattle.known_edges.specs.Known.{IsInitialWrite};
+ghost use Rattle.program_sketches.specs.Writes.{IsLastWith};
+ghost use Rattle.program_sketches.specs.Known.{IsInitialWrite};
 ghost use Rattle.rowless_sketches.specs.Internal.KnownWalk.{after_node, KnowsAll};
-ghost use Rattle.known_edges.specs.KnownTruths.{joined};
+ghost use Rattle.program_sketches.specs.KnownTruths.{joined};
 ghost use Rattle.rowless_sketches.specs.Knowledge.{Knows};
-ghost use Rattle.known_edges.specs.ProgramSketches.{mode_in, access_in};
+ghost use Rattle.program_sketches.specs.ProgramSketches.{mode_in, access_in};
 
 use crate::parts::Parts;
 use candidate_executions::{Access, Event};
-use known_edges::{Knowledge, Left, joined, negated, settled, unsettled};
+use program_sketches::{Knowledge, Left, joined, negated, settled, unsettled};
 use std::alloc::{AllocError, Global};
 use thread_traces::thread_trace_at;
 use tso_program::{Atom, Formula, Node, REGISTERS, Reg};
@@ -145,7 +145,7 @@ impl Parts<'_> {
         is_so(initial, value, is) && !self.is_written(location as u8)
     }
 
-    /// The same of a write of thread t.
+    /// Whether a write of thread t that may be the location's last writes a value that is this one, or is not.
     fn may_be_by(&self, t: u8, location: u32, value: u32, is: bool) -> bool
         requires there { location < length self.now.program.memory }
         ensures { IsTrue result ↔ MayBeBy self.now location value is (IsOfThread t) }

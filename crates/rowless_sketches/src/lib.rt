@@ -4,7 +4,7 @@
 //! and orders. They answer by the definitions: what an event reads and writes, which edges are known, the sources
 //! of a read, what is known of a formula, and whether an outcome is sure. A `RowlessSketch` owns such parts.
 //!
-//! Begin with `Parts`, `RowlessSketch::of_parts` and `RowlessSketch::give_value`. Free to change: how a source or
+//! Begin with `Parts`, `RowlessSketch::new` and `RowlessSketch::give_value`. Free to change: how a source or
 //! an order is looked up, and what is remembered of a thread under its values (`next_trace.rt`). Relied on: each
 //! choice, each known edge and each end is exactly that of the definitions; what is taken back leaves the sketch
 //! as it was.

@@ -5,13 +5,13 @@ ghost use Rattle.candidate_executions.specs.declared.event.Event.{Event};
 ghost use Rattle.candidate_executions.specs.Consistency.{IsOfMode};
 ghost use Rattle.candidate_executions.specs.Sketches as sketches;
 ghost use Rattle.candidate_executions.specs.Sketches.{IsBefore, IsPair, IsSourceOf, KnownFromReads, KnownRelates, KnownEdge, KnownEdgeOfMode};
-ghost use Rattle.known_edges.specs.ProgramSketches.{mode_in, access_in, trace_in};
-ghost use Rattle.known_edges.specs.Choices.{HasSource, IsOrdered};
-ghost use Rattle.known_edges.specs.Known.{SourcePart};
+ghost use Rattle.program_sketches.specs.ProgramSketches.{mode_in, access_in, trace_in};
+ghost use Rattle.program_sketches.specs.Choices.{HasSource, IsOrdered};
+ghost use Rattle.program_sketches.specs.Known.{SourcePart};
 
 use crate::Mode;
 use candidate_executions::{Access, Event, Kind};
-use known_edges::{
+use program_sketches::{
     each_ends, has_pair, is_initial, is_one_thread, is_same, keeps_order, write_together,
 };
 use std::marker::Model;
@@ -29,7 +29,7 @@ pub struct Parts<'a> {
 }
 
 impl<'a> Model for Parts<'a> {
-    ghost use Rattle.known_edges.specs.ProgramSketches.{ProgramSketch};
+    ghost use Rattle.program_sketches.specs.ProgramSketches.{ProgramSketch};
 
     ghost Value = { ProgramSketch };
 
@@ -38,7 +38,7 @@ impl<'a> Model for Parts<'a> {
 
     ghost coded = { Prim.hlevel (codes, gap_set.the_row.coded) };
 
-    ghost use Rattle.known_edges.specs.Kept.{view_of, KeepsTraces};
+    ghost use Rattle.program_sketches.specs.Kept.{view_of, KeepsTraces};
 
     ghost view = { λ s. view_of s.program.now s.mode.now s.thread_traces.now s.sources.now s.pairs.now };
 

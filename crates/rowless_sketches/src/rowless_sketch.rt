@@ -6,22 +6,22 @@ ghost use Rattle.std.specs.List.Sorted.{IsStrictlyIncreasing};
 ghost use Rattle.candidate_executions.specs.declared.event.Event.{Event};
 ghost use Rattle.candidate_executions.specs.Sketches as sketches;
 ghost use Rattle.candidate_executions.specs.Values.{IsValueOf};
-ghost use Rattle.known_edges.specs.Choices.{HasSource, MayRead, MayFollow};
-ghost use Rattle.known_edges.specs.ProgramSketches.{ProgramSketch, mode_in, with_chosen};
+ghost use Rattle.program_sketches.specs.Choices.{HasSource, MayRead, MayFollow};
+ghost use Rattle.program_sketches.specs.ProgramSketches.{ProgramSketch, mode_in, nothing_chosen, with_chosen};
 ghost use Rattle.tso_program.specs.Shown.{asked, ShowsValues};
 ghost use Rattle.rowless_sketches.specs.Completions.{EndsOnlyAs};
 ghost use Rattle.rowless_sketches.specs.RowlessSketches.{AreSomeLists, AreSources, IsFree, IsValueMarkOf, LacksSource};
 
-use crate::SharedValues;
 use crate::next_trace::{Base, trace_after};
 use crate::parts::Parts;
+use crate::{Mode, SharedValues};
 use candidate_executions::{Event, Kind};
-use known_edges::{copied, with_room};
+use program_sketches::{copied, first_traces, with_room};
 use std::alloc::{AllocError, Global};
 use std::marker::Model;
 use std::mem;
 use thread_traces::{SharedTrace, TraceTree, value_lists};
-use tso_program::{Outcome, Shown};
+use tso_program::{Outcome, Program, Shown};
 
 /// A sketch without rows: values, sources and orders are chosen in it and taken back, and a known edge is looked
 /// up by its definition.
@@ -51,7 +51,7 @@ impl Model for ValueMark {
 }
 
 impl Model for RowlessSketch {
-    ghost use Rattle.known_edges.specs.ProgramSketches.{ProgramSketch};
+    ghost use Rattle.program_sketches.specs.ProgramSketches.{ProgramSketch};
 
     ghost Value = { ProgramSketch };
 
@@ -60,7 +60,7 @@ impl Model for RowlessSketch {
 
     ghost coded = { Prim.hlevel (codes, gap_set.the_row.coded) };
 
-    ghost use Rattle.known_edges.specs.Kept.{view_of};
+    ghost use Rattle.program_sketches.specs.Kept.{view_of};
     ghost use Rattle.rowless_sketches.specs.RowlessSketches.{KeepsChoices};
 
     ghost view = { λ s. view_of s.base.program s.base.mode s.thread_traces.items s.sources.items s.pairs.items };
@@ -69,6 +69,23 @@ impl Model for RowlessSketch {
 }
 
 impl RowlessSketch {
+    /// A sketch with nothing chosen.
+    pub fn new(alloc: Global, program: &Program, mode: Mode) -> Result<RowlessSketch, AllocError>
+        ensures { IfOk result (λ sketch. sketch ≡ nothing_chosen program.now mode) }
+    {
+        let thread_traces = first_traces(alloc, program, mode)?;
+        RowlessSketch::of_parts(
+            alloc,
+            &Parts {
+                program,
+                mode: &mode,
+                thread_traces: thread_traces.as_slice(),
+                sources: &[],
+                pairs: &[],
+            },
+        )
+    }
+
     /// The sketch that has these parts. Where each read has its value it lists no values.
     pub fn of_parts(alloc: Global, parts: &Parts<'_>) -> Result<RowlessSketch, AllocError>
         ensures { IfOk result (λ own. own ≡ parts.now) }

@@ -4,14 +4,14 @@ ghost use Rattle.std.specs.List.{AllPairs};
 ghost use Rattle.candidate_executions.specs.declared.event.Event.{Event};
 ghost use Rattle.candidate_executions.specs.Events.{ComesBefore};
 ghost use Rattle.candidate_executions.specs.Sketches.{IsSourceOf, IsWhole};
-ghost use Rattle.known_edges.specs.ProgramSketches.{mode_in};
-ghost use Rattle.known_edges.specs.Choices.{IsRead, ReadsThisValue};
+ghost use Rattle.program_sketches.specs.ProgramSketches.{mode_in};
+ghost use Rattle.program_sketches.specs.Choices.{IsRead, ReadsThisValue};
 ghost use Rattle.rowless_sketches.specs.RowlessSketches.{LacksSource, AreSources};
 ghost use Rattle.rowless_sketches.specs.Internal.SourcesListed.{AreListedTo};
 
 use crate::parts::Parts;
 use candidate_executions::{Access, Event};
-use known_edges::{access_at, each_ends};
+use program_sketches::{access_at, each_ends};
 use std::alloc::{AllocError, Global};
 use thread_traces::{is_value, writes_any};
 

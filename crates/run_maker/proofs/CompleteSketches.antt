@@ -13,8 +13,12 @@ use Rattle.candidate_executions.specs.declared.event.Kind.TheVariants as union
 use Rattle.candidate_executions.specs.{Traces.fenced_gaps, RunCandidates.IsCandidateOf}
 use Rattle.candidate_executions.proofs.{ToRuns.CandidatesAreRuns.every_order, Candidates.LastWrites.one_end, Candidates.LastWrites.ends_with, ToRuns.Linear.contains_in, ToRuns.Linear.pairs_ordered}
 use Rattle.candidate_executions.proofs.{Sketches.MoreValues.end_or_read, FromRuns.StepsSuffice.advance, Orders.WiderRelations.acyclic_narrower}
-use Rattle.sketches.specs.{Kept.IsLawful, Completions.MustEndSo, Complete.IsComplete}
-use Rattle.sketches.proofs.{Chosen.once, Ends.ends_only, LastWrites.of_followed, LastWrites.pair_edge, Completeness.first_there, Completeness.second_there}
+use Rattle.program_sketches.specs.Kept.{IsLawful}
+use Rattle.rowless_sketches.specs.Completions.{MustEndSo}
+use Rattle.sketches.specs.Complete.{IsComplete}
+use Rattle.program_sketches.proofs.Chosen.{once}
+use Rattle.rowless_sketches.proofs.Ends.{ends_only}
+use Rattle.sketches.proofs.{LastWrites.of_followed, LastWrites.pair_edge, Completeness.first_there, Completeness.second_there}
 use Rattle.run_maker.proofs.PlacesInOrder.{place, place_before, place_same, chosen, chosen_is}
 
 consistent_by : (p : Listing) (m : Machine) (c : Candidate) → ((kind : Kind) → IsOfMode m kind → IsAcyclic (Edge p m c kind)) → IsConsistent p m c

@@ -16,10 +16,10 @@ pub use Rattle.candidate_executions.specs.Sketches.{Completes, EndsAs, EndsInVal
 pub use Rattle.candidate_executions.specs.declared.access.Access.{Access}
 pub use Rattle.candidate_executions.specs.declared.event.Event.{Event, TheVariants.Access as At, TheVariants.Initial}
 pub use Rattle.candidate_executions.specs.declared.event.Kind.{Kind}
-pub use Rattle.sketches.proofs.Lookups.{each_more, empty_list}
+pub use Rattle.program_sketches.proofs.Lookups.{each_more, empty_list}
 pub use Rattle.sketches.specs.Cycles.{EachGoesOn, IsEnd, IsSuccessor}
-pub use Rattle.sketches.specs.Known.{HasNoCycle}
-pub use Rattle.sketches.specs.ProgramSketches.{ProgramSketch, access_in, mode_in, trace_in}
+pub use Rattle.program_sketches.specs.Known.{HasNoCycle}
+pub use Rattle.program_sketches.specs.ProgramSketches.{ProgramSketch, access_in, mode_in, trace_in}
 pub use Rattle.tso_machine.specs.Machine.{IsRun, Machine, SequentialMachine, StoreBufferMachine, put}
 pub use Rattle.tso_machine.specs.Modes.{machine_of_mode}
 pub use Rattle.tso_machine.specs.declared.label.Label.{Label}

@@ -1,24 +1,18 @@
 //! The table of a run.
+ghost use Rattle.std.specs.Prelude.{◌≡◌, ◌++◌, IfOk, OnOk, length, replicate};
+ghost use Rattle.run_views.specs.Tables.{cell_at, cells_of, columns, headings, line_of, lines_of, or_dash, padding, rows_of, table_text, width, widths};
 
 use crate::cells::{
     effect_cell, instruction_cell, label_cell, memory_cell, thread_cell, waiting_cell,
 };
 use litmus_text::Litmus;
 use std::alloc::{AllocError, Global};
+use std::marker::Model;
 use tso_machine::Step;
 use tso_program::Program;
 
 /// How many columns the table has.
 const COLUMNS: usize = 6;
-
-static HEADINGS: [&str; COLUMNS] = [
-    "step",
-    "thread",
-    "instruction",
-    "reads and stores",
-    "still waits",
-    "reaches memory",
-];
 
 /// A line of the table: what stands in each of its columns.
 #[derive(Drop)]
@@ -26,17 +20,45 @@ struct Row {
     cells: Vec<Vec<u8>>,
 }
 
-/// The line of headings.
-fn heading(alloc: Global) -> Result<Row, AllocError> {
-    let mut cells = Vec::new(alloc);
-    for word in HEADINGS.as_slice() {
-        cells.push(Vec::from_slice(alloc, word.as_bytes())?)?;
+impl Model for Row {
+    ghost use Rattle.std.specs.Prelude.{map};
+    ghost use Rattle.run_views.specs.Tables.{Cells};
+
+    ghost Value = { Cells };
+
+    ghost view = { λ row. map (λ cell. cell.items) row.cells.items };
+}
+
+impl Row {
+    /// What stands in a column.
+    fn cell(&self, column: usize) -> &[u8]
+        ensures { result.now ≡ cell_at self.now column }
+    {
+        match self.cells.get(column) {
+            Some(cell) => cell,
+            None => b"",
+        }
     }
+}
+
+/// The line of headings.
+fn heading(alloc: Global) -> Result<Row, AllocError>
+    ensures { IfOk result (λ row. row ≡ headings) }
+{
+    let mut cells = Vec::new(alloc);
+    cells.push(Vec::from_slice(alloc, b"step")?)?;
+    cells.push(Vec::from_slice(alloc, b"thread")?)?;
+    cells.push(Vec::from_slice(alloc, b"instruction")?)?;
+    cells.push(Vec::from_slice(alloc, b"reads and stores")?)?;
+    cells.push(Vec::from_slice(alloc, b"still waits")?)?;
+    cells.push(Vec::from_slice(alloc, b"reaches memory")?)?;
     Ok(Row { cells })
 }
 
 /// The cell, or `-` in place of one that is empty.
-fn or_dash(alloc: Global, cell: Vec<u8>) -> Result<Vec<u8>, AllocError> {
+fn or_dash(alloc: Global, cell: Vec<u8>) -> Result<Vec<u8>, AllocError>
+    ensures { IfOk result (λ text. text.items ≡ or_dash cell.items) }
+{
     if cell.is_empty() {
         Vec::from_slice(alloc, b"-")
     } else {
@@ -45,7 +67,9 @@ fn or_dash(alloc: Global, cell: Vec<u8>) -> Result<Vec<u8>, AllocError> {
 }
 
 /// The line of a step.
-fn row_of(alloc: Global, litmus: &Litmus<Program>, step: &Step) -> Result<Row, AllocError> {
+fn row_of(alloc: Global, litmus: &Litmus<Program>, step: &Step) -> Result<Row, AllocError>
+    ensures { IfOk result (λ row. row ≡ cells_of litmus.now step.now) }
+{
     let mut cells = Vec::new(alloc);
     cells.push(label_cell(alloc, step)?)?;
     cells.push(thread_cell(alloc, step)?)?;
@@ -57,11 +81,9 @@ fn row_of(alloc: Global, litmus: &Litmus<Program>, step: &Step) -> Result<Row, A
 }
 
 /// The line of headings, and a line of each step.
-fn rows_of(
-    alloc: Global,
-    litmus: &Litmus<Program>,
-    steps: &[Step],
-) -> Result<Vec<Row>, AllocError> {
+fn rows_of(alloc: Global, litmus: &Litmus<Program>, steps: &[Step]) -> Result<Vec<Row>, AllocError>
+    ensures { IfOk result (λ rows. rows.items ≡ rows_of litmus.now steps.now) }
+{
     let mut rows = Vec::new(alloc);
     rows.push(heading(alloc)?)?;
     for step in steps {
@@ -71,17 +93,20 @@ fn rows_of(
 }
 
 /// How many bytes the longest cell of a column has.
-fn width(rows: &[Row], column: usize) -> usize {
+fn width(rows: &[Row], column: usize) -> usize
+    ensures { result ≡ width rows.now column }
+{
     let mut most = 0;
     for row in rows {
-        if let Some(cell) = row.cells.get(column) {
-            most = most.max(cell.len());
-        }
+        most = most.max(row.cell(column).len());
     }
     most
 }
 
-fn widths(alloc: Global, rows: &[Row]) -> Result<Vec<usize>, AllocError> {
+/// The widths of the columns.
+fn widths(alloc: Global, rows: &[Row]) -> Result<Vec<usize>, AllocError>
+    ensures { IfOk result (λ all. all.items ≡ widths rows.now) }
+{
     let mut all = Vec::new(alloc);
     for column in 0..COLUMNS {
         all.push(width(rows, column))?;
@@ -89,23 +114,49 @@ fn widths(alloc: Global, rows: &[Row]) -> Result<Vec<usize>, AllocError> {
     Ok(all)
 }
 
-fn push_spaces(out: &mut Vec<u8>, count: usize) -> Result<(), AllocError> {
+fn push_spaces(out: &mut Vec<u8>, count: usize) -> Result<(), AllocError>
+    ensures { OnOk result (out.new.items ≡ out.old.items ++ replicate count 32) }
+{
     for _ in 0..count {
         out.push(b' ')?;
     }
     Ok(())
 }
 
-/// The cells, each in its column, with two spaces after the longest one of each column but the last.
-fn push_row(out: &mut Vec<u8>, row: &Row, widths: &[usize]) -> Result<(), AllocError> {
-    let mut before: usize = 0;
-    for (cell, width) in row.cells.iter().zip(widths.iter()) {
-        push_spaces(out, before)?;
-        out.extend_from_slice(cell)?;
-        before = (*width).saturating_sub(cell.len()).saturating_add(2);
+/// A cell, and after it two spaces more than its column's longest cell needs; the last one has none after it.
+fn push_cell(out: &mut Vec<u8>, cell: &[u8], width: usize, is_last: bool) -> Result<(), AllocError>
+    ensures { OnOk result (out.new.items ≡ out.old.items ++ cell.now ++ padding width cell.now is_last) }
+{
+    out.extend_from_slice(cell)?;
+    if !is_last {
+        push_spaces(out, width.saturating_sub(cell.len()))?;
+        out.extend_from_slice(b"  ")?;
+    }
+    Ok(())
+}
+
+/// The cells, each in its column.
+fn push_row(out: &mut Vec<u8>, row: &Row, widths: &[usize]) -> Result<(), AllocError>
+    requires { length widths.now ≡ columns }
+    ensures { OnOk result (out.new.items ≡ out.old.items ++ line_of widths.now row.now) }
+{
+    for column in 0..COLUMNS {
+        push_cell(out, row.cell(column), widths[column], column + 1 == COLUMNS)?;
     }
     out.push(b'\n')?;
     Ok(())
+}
+
+/// The lines, their cells in columns.
+fn lines_of(alloc: Global, rows: &[Row]) -> Result<Vec<u8>, AllocError>
+    ensures { IfOk result (λ lines. lines.items ≡ lines_of rows.now) }
+{
+    let widths = widths(alloc, rows)?;
+    let mut out = Vec::new(alloc);
+    for row in rows {
+        push_row(&mut out, row, widths.as_slice())?;
+    }
+    Ok(out)
 }
 
 /// The table of the steps of a run of a litmus text's program: a line of headings, and a line a step, with its label, its
@@ -115,12 +166,9 @@ pub fn run_table(
     alloc: Global,
     litmus: &Litmus<Program>,
     steps: &[Step],
-) -> Result<Vec<u8>, AllocError> {
+) -> Result<Vec<u8>, AllocError>
+    ensures { IfOk result (λ table. table.items ≡ table_text litmus.now steps.now) }
+{
     let rows = rows_of(alloc, litmus, steps)?;
-    let widths = widths(alloc, &rows)?;
-    let mut out = Vec::new(alloc);
-    for row in &rows {
-        push_row(&mut out, row, &widths)?;
-    }
-    Ok(out)
+    lines_of(alloc, rows.as_slice())
 }

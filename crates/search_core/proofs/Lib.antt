@@ -17,6 +17,6 @@ pub mod WorkLaws
 pub mod Refusals
 -- words of the crates below, passed on
 pub use Rattle.candidate_executions.proofs.FromRuns.RunsAreShort
-pub use Rattle.cover_solver.proofs.Lists
-pub use Rattle.cover_solver.proofs.OpenGaps
-pub use Rattle.cover_solver.proofs.Regions
+pub use Rattle.tree_laws.proofs.Lists
+pub use Rattle.tree_laws.proofs.OpenGaps
+pub use Rattle.tree_laws.proofs.Regions

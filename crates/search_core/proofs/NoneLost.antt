@@ -3,7 +3,7 @@ use Rattle.search_core.proofs.Vocabulary.{◌≡◌, ◌⊎◌, ℕ, ◌<◌, �
 use Rattle.search_core.proofs.Vocabulary.{IsWithinLimits, LeavesOutcome, AreGapsOf, Foreign, Serving, IsForeignValue, Entry, Open, children, entry, is_live, IsCeiling, IsBeatenBy, IsBestAfter, IsLive, IsUndercut, open_exact, IsInRegion, HasNoneOf, open_gaps}
 use Rattle.search_core.proofs.Vocabulary.{not_itself, chained, HaveCosts, split_loses_no_set, true_or_false}
 use Rattle.std.specs.FinSet as set
-use Rattle.cover_solver.proofs.{BetterSets.still_better, AvoidedGaps.Avoids, AvoidedGaps.leaves_outcome}
+use Rattle.tree_laws.proofs.{BetterSets.still_better, AvoidedGaps.Avoids, AvoidedGaps.leaves_outcome}
 use Rattle.search_core.proofs.{Sets.no_dearer, Sets.small_set, Changes.Change, Changes.changed, Changes.is_there, Changes.moved, Changes.follows}
 
 module _ (q : Question) (costs : List ℕ) (within : IsWithinLimits q.program.threads q.program.memory) (have : HaveCosts q.program costs) where

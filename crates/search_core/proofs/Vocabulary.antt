@@ -13,14 +13,14 @@ pub use Rattle.std.specs.List.{AllPairs, filter, range_with_len}
 pub use Rattle.std.specs.Option.{is_some, option_copied, option_map, option_map_or}
 pub use Rattle.std.specs.Ordering.{eq_by_cmp, nat_cmp}
 pub use Rattle.std.specs.Prelude.{IfNone, IfSome, MatchOption, slice_get, slice_set, ◌↔◌}
-pub use Rattle.cover_solver.proofs.Filtered.{any_has, has_any, of_filter, to_filter}
-pub use Rattle.cover_solver.proofs.Lists.{first_is_here, later_is_here}
-pub use Rattle.cover_solver.proofs.OpenGaps.{few_open, open_ascending, open_exact}
-pub use Rattle.cover_solver.proofs.Regions.{in_root, new_or_old, split_loses_no_set, true_or_false}
-pub use Rattle.cover_solver.specs.Facts.{Foreign, IsForeignValue, IsServing, Serving}
-pub use Rattle.cover_solver.specs.GapTrees.{HaveCosts}
-pub use Rattle.cover_solver.specs.Outcomes.{AreGapsOf, IsSequentialOutcome, IsStoreBufferOutcome, IsTheAnswer, LeavesOutcome, Serves}
-pub use Rattle.cover_solver.specs.Verdicts.{PassesNoneOf}
+pub use Rattle.tree_laws.proofs.Filtered.{any_has, has_any, of_filter, to_filter}
+pub use Rattle.tree_laws.proofs.Lists.{first_is_here, later_is_here}
+pub use Rattle.tree_laws.proofs.OpenGaps.{few_open, open_ascending, open_exact}
+pub use Rattle.tree_laws.proofs.Regions.{in_root, new_or_old, split_loses_no_set, true_or_false}
+pub use Rattle.oracle.specs.Facts.{Foreign, IsForeignValue, IsServing, Serving}
+pub use Rattle.tree_laws.specs.GapTrees.{HaveCosts}
+pub use Rattle.tso_machine.specs.Outcomes.{AreGapsOf, IsSequentialOutcome, IsStoreBufferOutcome, IsTheAnswer, LeavesOutcome, Serves}
+pub use Rattle.oracle.specs.Verdicts.{PassesNoneOf}
 pub use Rattle.gap_sets.proofs.Orders.{chained, decided, not_itself}
 pub use Rattle.gap_sets.specs.Gaps.{IsGapSet, SetOfGaps, have_same_gaps}
 unfoldable pub use Rattle.gap_sets.specs.Gaps.{numbers_of_set}

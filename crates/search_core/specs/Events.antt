@@ -3,8 +3,8 @@ use Rattle.std.specs.Prelude.{◌≡◌, ◌⊎◌, ℕ, ◌<◌, List, ◌++◌
 use Rattle.gap_sets.specs.Gaps.{SetOfGaps}
 use Rattle.gap_sets.specs.Order.{total, Better}
 use Rattle.gap_sets.specs.declared.region.Region.{Region}
-use Rattle.cover_solver.specs.Facts.{Foreign, Serving, IsForeignValue, IsServing}
-use Rattle.cover_solver.specs.Verdicts.{PassesNoneOf}
+use Rattle.oracle.specs.Facts.{Foreign, Serving, IsForeignValue, IsServing}
+use Rattle.oracle.specs.Verdicts.{PassesNoneOf}
 use Rattle.search_core.specs.declared.entry.Entry.{Entry}
 use Rattle.search_core.specs.declared.entry.Status.TheVariants.{Open, Held, Split, Cut, Confirmed}
 use Rattle.search_core.specs.Children.{children}

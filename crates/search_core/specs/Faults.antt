@@ -3,7 +3,7 @@ use Rattle.std.specs.Prelude.{◌≡◌, ℕ, true, List, Option, IfSome}
 use Rattle.std.specs.FinSet as set
 use Rattle.gap_sets.specs.Gaps.{SetOfGaps}
 use Rattle.gap_sets.specs.declared.region.Region.{Region}
-use Rattle.cover_solver.specs.Facts.{Serving}
+use Rattle.oracle.specs.Facts.{Serving}
 use Rattle.search_core.specs.declared.ceiling.Reason.{Reason}
 use Rattle.search_core.specs.declared.ceiling.Reason.TheVariants as reason
 use Rattle.search_core.specs.declared.fault.TreeFault.{TreeFault}

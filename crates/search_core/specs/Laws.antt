@@ -6,9 +6,9 @@ use Rattle.gap_sets.specs.Regions.{IsInRegion}
 use Rattle.gap_sets.specs.declared.region.Region.{Region}
 use Rattle.tso_program.specs.Shown.{Question}
 use Rattle.tso_program.specs.Limits.{JumpForward}
-use Rattle.cover_solver.specs.Outcomes.{Serves, LeavesOutcome, AreGapsOf, IsTheAnswer}
+use Rattle.tso_machine.specs.Outcomes.{Serves, LeavesOutcome, AreGapsOf, IsTheAnswer}
 use Rattle.the_answer.specs.Answers.{least_cost}
-use Rattle.cover_solver.specs.Facts.{Serving}
+use Rattle.oracle.specs.Facts.{Serving}
 use Rattle.search_core.specs.declared.entry.Entry.{Entry}
 use Rattle.search_core.specs.Entries.{is_live}
 use Rattle.search_core.specs.Ceilings.{IsCeiling}

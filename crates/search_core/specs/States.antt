@@ -5,8 +5,8 @@ use Rattle.gap_sets.specs.declared.region.Region.{Region}
 use Rattle.tso_program.specs.Shown.{Question}
 use Rattle.tso_program.specs.declared.limits.TheConstants.{MAX_WORKERS}
 use Rattle.tso_program.specs.Limits.{IsWithinLimits}
-use Rattle.cover_solver.specs.GapTrees.{HaveCosts}
-use Rattle.cover_solver.specs.Facts.{Serving}
+use Rattle.tree_laws.specs.GapTrees.{HaveCosts}
+use Rattle.oracle.specs.Facts.{Serving}
 use Rattle.search_core.specs.declared.entry.Entry.{Entry}
 use Rattle.search_core.specs.declared.entry.Status.TheVariants.{Open}
 use Rattle.search_core.specs.Entries.{entry, is_open, is_held_by, is_live}

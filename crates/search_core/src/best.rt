@@ -1,12 +1,12 @@
 //! What the best set so far, or a ceiling, says of a set.
 ghost use Rattle.std.specs.Prelude.{◌≡◌, ◌↔◌, false, Some, IfSome, IsTrue};
 ghost use Rattle.gap_sets.specs.Order.{Better};
-ghost use Rattle.cover_solver.specs.Facts.{Serving, IsServing};
+ghost use Rattle.oracle.specs.Facts.{Serving, IsServing};
 ghost use Rattle.search_core.specs.Faults.{CutsMust, HasBound};
 
 use crate::Reason;
-use cover_solver::Served;
 use gap_sets::{Costs, GapSet};
+use oracle::Served;
 
 /// Whether the reason cuts the nodes whose sets must have these gaps.
 pub(crate) fn cuts(costs: &Costs, best: &Option<Served>, reason: &Reason, must: &GapSet) -> bool

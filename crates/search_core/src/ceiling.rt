@@ -6,8 +6,8 @@ ghost use Rattle.tso_program.specs.Shown.{asked};
 ghost use Rattle.search_core.specs.Ceilings.{IsBound, IsCeiling};
 
 use crate::Subject;
-use cover_solver::Served;
 use gap_sets::Costs;
+use oracle::Served;
 use std::marker::Model;
 use tso_program::{Program, Shown};
 

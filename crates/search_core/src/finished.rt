@@ -1,11 +1,11 @@
 //! A search that is done.
 ghost use Rattle.std.specs.Prelude.{◌≡◌, ℕ, Some, None, IfSome, IfNone, MatchOption, slice_get, length};
-ghost use Rattle.cover_solver.specs.Outcomes.{IsTheAnswer};
+ghost use Rattle.tso_machine.specs.Outcomes.{IsTheAnswer};
 ghost use Rattle.search_core.specs.Records.{IsOutcome, IsSettledAs, IsFirstChild};
 
 use crate::entry::{Entry, Status};
-use cover_solver::{ForeignRun, Served};
 use gap_sets::{Costs, Region};
+use oracle::{ForeignRun, Served};
 use std::marker::Model;
 use tso_program::{Program, Shown};
 
@@ -29,7 +29,7 @@ impl Model for Finished {
     ghost use Rattle.gap_sets.specs.contracts.gap_set.GapSet as gap_set;
     ghost use Rattle.std.specs.Coded.{codes};
     ghost use Rattle.tso_program.specs.Nodes.{tree_code};
-    ghost use Rattle.cover_solver.specs.CoverCodes.{coded_cover};
+    ghost use Rattle.cert_forest.specs.CoverCodes.{coded_cover};
 
     ghost coded = { Prim.hlevel (codes, gap_set.the_row.coded, coded_cover, tree_code) };
 

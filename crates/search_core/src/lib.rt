@@ -20,12 +20,12 @@ mod subject;
 mod tree;
 
 pub use ceiling::{Ceiling, Reason};
-pub use cover_solver::{ForeignRun, Served, Verdict};
 pub use fault::TreeFault;
 pub use finished::{Finished, Settled, SettledEvent};
 pub use laws::{
     a_done_state_has_the_answer, a_seat_holds_one_node, settling_lessens_the_work,
     the_answer_is_never_lost, the_least_cost_is_the_least_ceiling,
 };
+pub use oracle::{ForeignRun, Served, Verdict};
 pub use subject::Subject;
 pub use tree::{MAX_SEATS, SearchTree};

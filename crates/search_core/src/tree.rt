@@ -2,7 +2,7 @@
 ghost use Rattle.std.specs.Prelude.{◌≡◌, ◌↔◌, ◌<◌, ℕ, Some, IfSome, IfNone, IfOk, IfErr, OnOk, OnErr, IsTrue, MatchOption, length};
 ghost use Rattle.gap_sets.specs.declared.region.Region.{Region};
 ghost use Rattle.tso_program.specs.Listings.{gap_count};
-ghost use Rattle.cover_solver.specs.Outcomes.{AreGapsOf, IsTheAnswer};
+ghost use Rattle.tso_machine.specs.Outcomes.{AreGapsOf, IsTheAnswer};
 ghost use Rattle.search_core.specs.States.{HoldsNothing, HoldsOnly, HoldsNode, HasNoOpen, IsDone, IsSameSearch, IsSeatCount, IsStart};
 ghost use Rattle.search_core.specs.Events.{TakesNode, GivesBack, Splits, Cuts, Confirms, MaySplit, MayConfirm};
 ghost use Rattle.search_core.specs.Faults.{IsReasonOf, IsCutBy, TakeFaultIs, SplitFaultIs, CutFaultIs, IsWithoutNode};
@@ -13,8 +13,8 @@ use crate::best::{cuts, is_better};
 use crate::entries::{all_settled, best_open, find_held, mark, none_open, open_children};
 use crate::entry::{Entry, Status};
 use crate::{Finished, Reason, TreeFault};
-use cover_solver::{ForeignRun, SeqTable, Served};
 use gap_sets::{Costs, Region};
+use oracle::{ForeignRun, SeqTable, Served};
 use std::alloc::{AllocError, Global};
 use std::marker::Model;
 use tso_program::{MAX_WORKERS, Program, Shown};
@@ -42,7 +42,7 @@ impl Model for SearchTree {
     ghost use Rattle.gap_sets.specs.contracts.gap_set.GapSet as gap_set;
     ghost use Rattle.std.specs.Coded.{codes};
     ghost use Rattle.tso_program.specs.Nodes.{tree_code};
-    ghost use Rattle.cover_solver.specs.CoverCodes.{coded_cover};
+    ghost use Rattle.cert_forest.specs.CoverCodes.{coded_cover};
 
     ghost coded = { Prim.hlevel (codes, gap_set.the_row.coded, coded_cover, tree_code) };
 

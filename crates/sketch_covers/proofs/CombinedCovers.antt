@@ -5,7 +5,7 @@ use Rattle.sketch_covers.proofs.Vocabulary.{LastThread, Tally, AreAlike, IsRest,
 use Rattle.sketch_covers.proofs.Vocabulary.{IsNeither, get_mapped}
 use Rattle.sketch_covers.proofs.{Nodes.cover_next, CombinedSketches.lawful_merged, CombinedSketches.values_merged, CombinedSketches.one_more_value}
 use Rattle.candidate_executions.specs.Sketches.{Sketch}
-use Rattle.cover_judge.specs.declared.choice.Choice.TheVariants as choice
+use Rattle.tree_laws.specs.declared.choice.Choice.TheVariants as choice
 use Rattle.branching.specs.declared.plan.ThreadTraces.{ThreadTraces}
 
 -- each choice gives the thread one of the values

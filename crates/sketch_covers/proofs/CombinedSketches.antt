@@ -6,7 +6,7 @@ use Rattle.sketch_covers.proofs.Vocabulary.{next_read, IsSourceOf, IsWhole, none
 use Rattle.sketch_covers.proofs.Vocabulary.{IsThisThread, IsOther, LacksWriteOfBoth}
 use Rattle.sketch_covers.proofs.Nodes.{covers_none, node_cover}
 use Rattle.candidate_executions.specs.declared.access.Access.{Access}
-use Rattle.branching.specs.declared.open_choice.OpenChoice.TheVariants as left
+use Rattle.tree_laws.specs.declared.choice.OpenChoice.TheVariants as left
 
 none_when : (o : Option ℕ) → (IsSome o → ⊥) → o ≡ None
 none_when None closed = refl

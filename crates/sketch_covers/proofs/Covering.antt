@@ -3,7 +3,7 @@ use Rattle.sketch_covers.proofs.Vocabulary.{◌≡◌, ℕ, ◌+◌, ◌<◌, �
 use Rattle.sketch_covers.proofs.Vocabulary.{Shown, ProgramSketch, IsLawful, HaveAllRegisters, choice_count, most_choices, AccessId, Node, Cover, Cycle, Known, Choice, OpenChoice, SearchStop, AreChoicesOf, IsOpen, IsCoverAt, IsCoverAfter}
 use Rattle.sketch_covers.proofs.Vocabulary.{AreCoversAfter, tree_over, node_over, KeepsNumbers, spell, spell_all, tree_of, IsTree, covers_count, cycle_some, known_some, is_tree, tree_again, spelled_append, child_instead, Pushes, Begins, BeginsIfNew, listed}
 use Rattle.cert_forest.specs.Node.TheVariants as node
-use Rattle.branching.specs.declared.open_choice.OpenChoice.TheVariants as left
+use Rattle.tree_laws.specs.declared.choice.OpenChoice.TheVariants as left
 use Rattle.sketch_covers.specs.declared.stop.SearchStop.TheVariants as stop
 use Rattle.sketch_covers.proofs.{Growing.covers_still, Nodes.as_many_choices, Nodes.covers_more, Nodes.covers_none, Nodes.node_cover}
 
@@ -49,7 +49,7 @@ module _ (s : ProgramSketch) (shown : Shown) (lawful : IsLawful s) (choices : Li
   over_spelled outcomes (left.Value t) trees are covers = λ k. node.Value t ((covers_count trees ∙ as_many_choices s shown outcomes lawful choices trees covers) k) ∷ listed trees k
   over_spelled outcomes (left.Source read) trees are covers = λ k. node.Source read ((covers_count trees ∙ as_many_choices s shown outcomes lawful choices trees covers) k) ∷ listed trees k
   over_spelled outcomes (left.Order first second) trees are covers =
-      two_spelled first second trees (as_many_choices s shown outcomes lawful choices trees covers ∙ ap length are)
+      two_spelled first second trees (as_many_choices s shown outcomes lawful choices trees covers ∙ ap length are.both)
 
   module _ (root : Node) (old : List Node) where
     pub none_covered : (outcomes : List Outcome) (new : List Node) → choice_count s ≤ most_choices → new ≡ old ++ root ∷ [] → Covering s shown choices root old outcomes 0 new

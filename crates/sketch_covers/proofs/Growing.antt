@@ -1,9 +1,10 @@
 -- Lists of outcomes that grow, and the trees over them.
-use Rattle.sketch_covers.proofs.Vocabulary.{◌≡◌, List, [], ◌∷◌, map, refl, sym, subst, Result, Ok, Err, IfErr, IsErrAnd, Outcome, Shown, Question, asked, Machine, machine_of_mode, ProgramSketch, mode_in, with_chosen, event_of, IsValidCover, AreValidCovers}
+use Rattle.sketch_covers.proofs.Vocabulary.{◌≡◌, List, [], ◌∷◌, map, refl, sym, subst, Result, Ok, Err, IfErr, IsErrAnd, Outcome, Shown, Question, asked, Machine, machine_of_mode, ProgramSketch, mode_in, with_chosen, IsValidCover, AreValidCovers}
 use Rattle.sketch_covers.proofs.Vocabulary.{Choice, sketch_with, moved, SearchStop, OutcomeIndex, KnownOutcomes, Closed, Open, AreCoversAfter, KeepsNumbers, IsInOrder, AreRunsOf, Cover, Value, Source, Order, Cycle, Known, Covers, NoCover, MoreCovers, covers_of}
 use Rattle.sketch_covers.proofs.Vocabulary.{AreInOrder, StaysOf, StopIs, Grows, OnTold}
 use Rattle.tso_machine.specs.declared.mode.Mode as own
-use Rattle.candidate_executions.specs.Sketches.{Sketch, with_value, with_source, with_pair}
+use Rattle.candidate_executions.specs.Sketches.{Sketch}
+use Rattle.tree_laws.proofs.TighterModes.{both_kept}
 use Rattle.sketch_covers.specs.declared.stop.SearchStop.TheVariants as stop
 
 stays : (outcomes : KnownOutcomes) → StaysOf outcomes outcomes
@@ -63,13 +64,10 @@ stops_for why (Err other) Q same is = subst Q (sym same) is
 module _ (q : Question) (mode : Machine) (old new : List Outcome) (keeps : KeepsNumbers old new) where
   mutual
     pub still_valid : (tree : Cover) (k : Sketch) → IsValidCover q mode old tree k → IsValidCover q mode new tree k
-    still_valid (Value t trees) k (values, has, valid) = (values, has, still_valid_each trees (map (with_value k t) values) valid)
-    still_valid (Source read trees) k (sources, has, valid) = (sources, has, still_valid_each trees (map (with_source k (event_of read)) sources) valid)
-    still_valid (Order first second one other) k (has, before, after) = (
-      has,
-      still_valid one (with_pair k (event_of first) (event_of second)) before,
-      still_valid other (with_pair k (event_of second) (event_of first)) after,
-    )
+    still_valid (Value t trees) k (choices, are, valid) = (choices, are, still_valid_each trees (map (sketch_with k) choices) valid)
+    still_valid (Source read trees) k (choices, are, valid) = (choices, are, still_valid_each trees (map (sketch_with k) choices) valid)
+    still_valid (Order first second one other) k (choices, are, valid) =
+        (choices, are, both_kept (IsValidCover q mode old one) (IsValidCover q mode old other) (IsValidCover q mode new one) (IsValidCover q mode new other) (still_valid one) (still_valid other) (map (sketch_with k) choices) valid)
     still_valid (Cycle kind events) k known = known
     still_valid (Known number) k must = record { outcome = must.outcome; is_outcome = keeps number must.outcome must.is_outcome; must_end = must.must_end }
 

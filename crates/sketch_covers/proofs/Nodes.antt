@@ -3,15 +3,15 @@ use Rattle.sketch_covers.proofs.Vocabulary.{◌≡◌, ℕ, suc, ◌+◌, ◌<�
 use Rattle.sketch_covers.proofs.Vocabulary.{choice_count, most_choices, HaveAllRegisters, AccessId, Cover, Value, Source, Order, covers_of, event_of, IsValidCover, AreValidCovers, Choice, moved, OpenChoice, IsOpen, AreChoicesOf, ProgramSketch, mode_in}
 use Rattle.sketch_covers.proofs.Vocabulary.{nothing_chosen, with_chosen, covers_count, sketch_with, MayChoose, IsValueOpen, AreValueChoices, AreSourceChoices, IsValidAt, IsNeat, AreNeat, IsLeafAt, IsCoverAt, IsCoverAfter, AreCoversAfter, IsWholeCover}
 use Rattle.sketch_covers.proofs.Vocabulary.{tree_over, counted_after, reads_there, no_order}
-use Rattle.std.proofs.lemmas.Simd.{map-map}
 use Rattle.candidate_executions.specs.{Sketches.Sketch, Sketches.given_to, Candidates.IsAccess}
 use Rattle.tso_machine.specs.declared.mode.Mode as own
-use Rattle.sketches.specs.Choices.{MayFollow}
-use Rattle.sketches.proofs.{ChoicesCounted.event_small, BranchesCounted.few_values, BranchesCounted.few_sources, Completeness.read_there, Completeness.first_there, Completeness.second_there}
+use Rattle.program_sketches.specs.Choices.{MayFollow}
+use Rattle.program_sketches.proofs.{ChoicesCounted.event_small, BranchesCounted.few_values, BranchesCounted.few_sources}
+use Rattle.sketches.proofs.Completeness.{read_there, first_there, second_there}
 use Rattle.cert_forest.specs.Limits as limits
 use Rattle.cert_forest.specs.Limits.{cover_depth, covers_depth}
-use Rattle.cover_judge.specs.declared.choice.Choice.TheVariants as choice
-use Rattle.branching.specs.declared.open_choice.OpenChoice.TheVariants as left
+use Rattle.tree_laws.specs.declared.choice.Choice.TheVariants as choice
+use Rattle.tree_laws.specs.declared.choice.OpenChoice.TheVariants as left
 
 -- as many trees as sketches
 as_many : (s : ProgramSketch) (shown : Shown) (outcomes : List Outcome) (trees : List Cover) (ks : List Sketch) → AreValidCovers (asked s.program shown) (mode_in s) outcomes (covers_of trees) ks → length trees ≡ length ks
@@ -32,11 +32,7 @@ module _ (s : ProgramSketch) (shown : Shown) (outcomes : List Outcome) (lawful :
   value_cover : (t : ℕ) (choices : List Choice) (trees : List Cover) → HaveAllRegisters s.program.threads → IsValueOpen s t → AreValueChoices s t choices → AreCoversAfter s shown outcomes choices trees →
       IsCoverAt s shown outcomes (Value t (covers_of trees))
   value_cover t choices trees six is_open are covers = record {
-    valid = (
-      are.values,
-      are.next,
-      subst (AreValidCovers (asked s.program shown) (mode_in s) outcomes (covers_of trees)) (ap (map (sketch_with s.chosen)) are.each ∙ map-map (sketch_with s.chosen) (choice.Value t) are.values) covers.valid,
-    );
+    valid = (choices, are, covers.valid);
     neat = record {
       numbers = (
         (let there = reads_there s.program (mode_in s) s.chosen t are.next.location are.next.next in let few = lawful.within.shared.few_threads in omega arith),
@@ -54,11 +50,7 @@ module _ (s : ProgramSketch) (shown : Shown) (outcomes : List Outcome) (lawful :
   source_cover : (read : AccessId) (choices : List Choice) (trees : List Cover) → IsAccess s.program (mode_in s) (given_to s.chosen) (event_of read) → AreSourceChoices s read choices → AreCoversAfter s shown outcomes choices trees →
       IsCoverAt s shown outcomes (Source read (covers_of trees))
   source_cover read choices trees is are covers = record {
-    valid = (
-      are.sources,
-      are.next,
-      subst (AreValidCovers (asked s.program shown) (mode_in s) outcomes (covers_of trees)) (ap (map (sketch_with s.chosen)) are.each ∙ map-map (sketch_with s.chosen) (choice.Source read) are.sources) covers.valid,
-    );
+    valid = (choices, are, covers.valid);
     neat = record {
       numbers = (
         named_small s read lawful is,
@@ -76,7 +68,11 @@ module _ (s : ProgramSketch) (shown : Shown) (outcomes : List Outcome) (lawful :
   order_cover : (first second : AccessId) (one other : Cover) → MayFollow s (event_of first) (event_of second) →
       AreCoversAfter s shown outcomes (choice.Order first second ∷ choice.Order second first ∷ []) (one ∷ (other ∷ [])) → IsCoverAt s shown outcomes (Order first second one other)
   order_cover first second one other may covers = record {
-    valid = (no_order s (event_of first) (event_of second) may, covers.valid.0, covers.valid.1.0);
+    valid = (
+      choice.Order first second ∷ choice.Order second first ∷ [],
+      record { free = no_order s (event_of first) (event_of second) may; both = refl },
+      (covers.valid.0, covers.valid.1.0),
+    );
     neat = record {
       numbers = (
         named_small s first lawful (first_there s (event_of first) (event_of second) may.is_pair),
@@ -101,7 +97,7 @@ module _ (s : ProgramSketch) (shown : Shown) (outcomes : List Outcome) (lawful :
       IsCoverAt s shown outcomes (tree_over next trees)
   node_cover (left.Value t) choices trees six is_open are covers = value_cover t choices trees six is_open are covers
   node_cover (left.Source read) choices trees six is_open are covers = source_cover read choices trees (read_there s (event_of read) is_open.is_read) are covers
-  node_cover (left.Order first second) choices trees six is_open are covers = two_trees first second trees is_open (subst (λ cs. AreCoversAfter s shown outcomes cs trees) are covers)
+  node_cover (left.Order first second) choices trees six is_open are covers = two_trees first second trees is_open (subst (λ cs. AreCoversAfter s shown outcomes cs trees) are.both covers)
 
   -- they are few
   pub few_choices : (next : OpenChoice) (choices : List Choice) → HaveAllRegisters s.program.threads → IsOpen s next → AreChoicesOf s next choices → length choices < 2 ^ 32
@@ -113,7 +109,7 @@ module _ (s : ProgramSketch) (shown : Shown) (outcomes : List Outcome) (lawful :
       let few = few_sources s.program (mode_in s) s.chosen (event_of read) lawful.within are.sources are.next.in_order (λ e. (are.next.exact e).0) in
       let long = ap length are.each ∙ length-map are.sources (choice.Source read) in
       omega arith
-  few_choices (left.Order first second) choices six is_open are = omega (arith, ap length are)
+  few_choices (left.Order first second) choices six is_open are = omega (arith, ap length are.both)
 
   -- a leaf is a tree
   pub leaf_cover : (tree : Cover) → choice_count s ≤ most_choices → IsLeafAt s shown outcomes tree → IsCoverAt s shown outcomes tree

@@ -4,7 +4,8 @@ use Rattle.sketch_covers.proofs.Vocabulary.{lit<, ◌≡◌, ℕ, zero, suc, ◌
 use Rattle.sketch_covers.proofs.Vocabulary.{slice_get_within, slice_get-get_or, get_or_from_slice_get, unwrap_or-slice_get, ◌^◌, AllZip, insert, cases_lt, length-insert, Option, Outcome, Label, OutcomeIndex, HasNumber, KeepsNumbers, IsInOrder, ascending}
 use Rattle.sketch_covers.proofs.Vocabulary.{numbered, place_in, with_first, Ascend, BelongsAt, none_here, first_or_later, get_or-append, get_or-enumerate_from, length-enumerate_from, enumerate_from, AllZip-long}
 use Rattle.std.proofs.lemmas.List.Elements.{Contains-append_cases}
-use Rattle.sketch_covers.proofs.Inserted.{ascend_insert, has_insert, keeps_insert, zip_insert, not_there}
+use Rattle.sketch_covers.proofs.Inserted.{ascend_insert, has_insert, keeps_insert, zip_insert}
+use Rattle.tree_laws.proofs.AscendingSearched.{not_there}
 
 pub push_long : {A : Type 0} (xs : List A) (x : A) → length (xs ++ x ∷ []) ≡ length xs + 1
 push_long xs x = length-append xs (x ∷ [])

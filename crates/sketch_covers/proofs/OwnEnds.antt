@@ -2,7 +2,7 @@
 use Rattle.sketch_covers.proofs.Vocabulary.{Box, Global, ◌≡◌, ℕ, List, Option, None, Some, IfSome, Contains, subst, slice_get_within, get_or_from_slice_get, Outcome, Shown, asked, Listing, machine_of_mode, IsShownRun, ProgramSketch, mode_in, Sketch, MadeRun}
 use Rattle.sketch_covers.proofs.Vocabulary.{KnownOutcomes, Closed, Open, IsEndNotListed, HasNumber, IsShownRunOf, by_number, StopIs, HasOwnEnd}
 use Rattle.tso_machine.specs.declared.mode.Mode as own
-use Rattle.sketches.specs.Known.{HasNoCycle}
+use Rattle.program_sketches.specs.Known.{HasNoCycle}
 use Rattle.sketch_covers.specs.declared.stop.SearchStop.TheVariants as stop
 
 -- an outcome with a number is in the list

@@ -2,8 +2,8 @@
 use Rattle.sketch_covers.proofs.Vocabulary.{◌≡◌, ℕ, ◌<◌, List, get_or, length, map, sym, ap, subst, arith, ◌^◌, length-map, Outcome, Shown, ProgramSketch, with_chosen, IsLawful, HaveAllRegisters, HasValuesAlone, Cover, Choice, IsValueOpen, AreValueChoices}
 use Rattle.sketch_covers.proofs.Vocabulary.{sketch_with, ValueTree, AreAlike, with_root, IsCoverAt, IsCoverAfter, Traces, Read, traces, trace_trees, root, first_choices, IsValueTree, next_is_open, as_many_trees, child_tree}
 use Rattle.sketch_covers.proofs.{Nodes.few_choices, CombinedCovers.child_alike, CombinedCovers.child_cover, CombinedCovers.child_parts, CombinedSketches.lawful_merged, CombinedSketches.values_merged}
-use Rattle.cover_judge.specs.declared.choice.Choice.TheVariants as choice
-use Rattle.branching.specs.declared.open_choice.OpenChoice.TheVariants as left
+use Rattle.tree_laws.specs.declared.choice.Choice.TheVariants as choice
+use Rattle.tree_laws.specs.declared.choice.OpenChoice.TheVariants as left
 
 module _ (s : ProgramSketch) (t : ℕ) (alone : HasValuesAlone s.chosen) (there : t < length s.program.threads) (lawful : IsLawful s) (u : ProgramSketch) (own : IsLawful u) (choices : List Choice) (after : List ValueTree)
     (x : Traces) (is : x ≡ Read u choices (trace_trees (map traces after))) (is_tree : IsValueTree t x) (is_alike : AreAlike (root x) s) (shown : Shown) where

@@ -5,8 +5,8 @@ use Rattle.sketch_covers.proofs.{Nodes.few_choices, Covering.Covering, Covering.
 use Rattle.sketch_covers.proofs.TraceNodes.{as_many_here, are_here, child_meets, cover_at, lawful_at, open_here}
 use Rattle.tso_program.specs.declared.shown.Shown.{TheVariants.All}
 use Rattle.cert_forest.specs.Node.TheVariants as node
-use Rattle.cover_judge.specs.declared.choice.Choice.TheVariants as choice
-use Rattle.branching.specs.declared.open_choice.OpenChoice.TheVariants as left
+use Rattle.tree_laws.specs.declared.choice.Choice.TheVariants as choice
+use Rattle.tree_laws.specs.declared.choice.OpenChoice.TheVariants as left
 
 -- the values of a read are few
 pub few_own : (u : ProgramSketch) (t : ℕ) (choices : List Choice) → IsLawful u → HaveAllRegisters u.program.threads → AreValueChoices u t choices → length choices < 2 ^ 32

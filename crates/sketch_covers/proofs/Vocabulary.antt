@@ -17,11 +17,12 @@ pub use Rattle.std.specs.declared.cmp.Ordering.TheVariants.{Equal, Greater, Less
 pub use Rattle.branching.proofs.Rounds.{counted_after, fewer_rounds, rounds}
 pub use Rattle.branching.proofs.ValueTrees.{as_many_trees, child_tree, get_mapped}
 pub use Rattle.branching.specs.Combinations.{AreAlike, IsRest, with_root}
-pub use Rattle.branching.specs.OpenChoices.{AreChoicesOf, IsOpen}
+pub use Rattle.branching.specs.OpenChoices.{IsOpen}
+pub use Rattle.cover_judge.specs.Choices.{AreChoicesOf}
 pub use Rattle.branching.specs.Plans.{AreOfOthers, AreTracesFor, AreTracesOf, IsBeforeLast, IsBeforeNext, IsLast, IsOfOther}
 pub use Rattle.branching.specs.Tallies.{HasBit, IsNeither, IsOther, IsTalliedRead, IsTallyOf, IsThisThread, LacksWriteOfBoth}
 pub use Rattle.branching.specs.Traces.{IsValueTree, Read, Traces, first_choices, root, trace_node, trace_trees, traces}
-pub use Rattle.branching.specs.declared.open_choice.OpenChoice.{OpenChoice}
+pub use Rattle.tree_laws.specs.declared.choice.OpenChoice.{OpenChoice}
 pub use Rattle.branching.specs.declared.plan.LastThread.{LastThread}
 pub use Rattle.branching.specs.declared.reads_writes.ReadValue.{ReadValue}
 pub use Rattle.branching.specs.declared.tally.Tally.{Tally}
@@ -41,22 +42,24 @@ pub use Rattle.cert_forest.specs.Nodes.{IsTree, spell, spell_all, tree_of}
 pub use Rattle.cert_forest.specs.Trees.{Cover, Covers, Cycle, Known, MoreCovers, NoCover, Order, Source, Value, covers_of}
 pub use Rattle.cover_judge.proofs.ChoicesJudged.{next_is_open, no_order, source_is_open, values_may}
 pub use Rattle.cover_judge.proofs.Lists.{first_is_here, first_or_later, later_is_here, none_here}
-pub use Rattle.cover_judge.proofs.SketchesAfter.{comes_after, moved}
-pub use Rattle.cover_judge.specs.Choices.{AreSourceChoices, AreValueChoices, IsValueOpen, MayChoose, sketch_with}
+pub use Rattle.branching.proofs.AfterChoices.{comes_after}
+pub use Rattle.cover_judge.proofs.SketchesAfter.{moved}
+pub use Rattle.cover_judge.specs.Choices.{AreSourceChoices, AreValueChoices, IsValueOpen, MayChoose}
+pub use Rattle.tree_laws.specs.CoverTrees.{sketch_with}
 pub use Rattle.cover_judge.specs.CoverTrees.{AreValidCovers, IsCovered, IsValidCover, MustEndAsNumber, event_of}
 pub use Rattle.cover_judge.specs.Judged.{IsValidAt}
-pub use Rattle.cover_judge.specs.declared.choice.Choice.{Choice}
+pub use Rattle.tree_laws.specs.declared.choice.Choice.{Choice}
 pub use Rattle.run_maker.specs.declared.run.MadeRun.{MadeRun}
-pub use Rattle.sketches.proofs.ChoicesCounted.{choices_few}
-pub use Rattle.sketches.proofs.Lawful.{none_in}
-pub use Rattle.sketches.proofs.ThreadValues.{merged_lawful, values_alone, values_elsewhere, values_here}
-pub use Rattle.sketches.specs.Completions.{MustEndSo, NeedNotEnd}
+pub use Rattle.program_sketches.proofs.ChoicesCounted.{choices_few}
+pub use Rattle.program_sketches.proofs.Lawful.{none_in}
+pub use Rattle.rowless_sketches.proofs.ThreadValues.{merged_lawful, values_alone, values_elsewhere, values_here}
+pub use Rattle.rowless_sketches.specs.Completions.{MustEndSo, NeedNotEnd}
 pub use Rattle.sketches.specs.Cycles.{IsSimpleCycle}
-pub use Rattle.sketches.specs.FewAccesses.{AreFewAccesses, HasSmallNumbers}
-pub use Rattle.sketches.specs.Kept.{IsLawful}
-pub use Rattle.sketches.specs.ProgramSketches.{ProgramSketch, access_in, mode_in, nothing_chosen, trace_in, with_chosen}
-pub use Rattle.sketches.specs.Sizes.{HaveAllRegisters, choice_count, most_choices}
-pub use Rattle.sketches.specs.ThreadValues.{HasValuesAlone, with_values}
+pub use Rattle.program_sketches.specs.FewAccesses.{AreFewAccesses, HasSmallNumbers}
+pub use Rattle.program_sketches.specs.Kept.{IsLawful}
+pub use Rattle.program_sketches.specs.ProgramSketches.{ProgramSketch, access_in, mode_in, nothing_chosen, trace_in, with_chosen}
+pub use Rattle.program_sketches.specs.Sizes.{HaveAllRegisters, choice_count, most_choices}
+pub use Rattle.rowless_sketches.specs.ThreadValues.{HasValuesAlone, with_values}
 pub use Rattle.sketches.specs.declared.sketch.Sketch.{Sketch}
 pub use Rattle.tso_machine.specs.Machine.{Machine, SequentialMachine, StoreBufferMachine, no_gaps}
 pub use Rattle.tso_machine.specs.Modes.{machine_of_mode}
@@ -70,8 +73,9 @@ pub use Rattle.tso_program.specs.Shown.{Question, asked, show}
 pub use Rattle.tso_program.specs.declared.listing.Listing.{Listing}
 pub use Rattle.tso_program.specs.declared.outcome.Outcome.{Outcome}
 pub use Rattle.tso_program.specs.declared.shown.Shown.{Shown}
-pub use Rattle.sketch_covers.specs.Ascending.{Ascend, BelongsAt}
-pub use Rattle.sketch_covers.specs.Covers.{AreCoversAfter, AreNeat, IsCoverAfter, IsCoverAt, IsEndNotListed, IsLeafAt, IsNeat, IsWholeCover, node_over, tree_over}
+pub use Rattle.tree_laws.specs.Ascending.{Ascend, BelongsAt}
+pub use Rattle.sketch_covers.specs.Covers.{AreCoversAfter, IsCoverAfter, IsCoverAt, IsEndNotListed, IsLeafAt, node_over, tree_over}
+pub use Rattle.tree_laws.specs.Covers.{AreNeat, IsNeat, IsWholeCover}
 pub use Rattle.sketch_covers.specs.CoveredSketches.{IsCoveredAt, IsStillValid, IsTaken, IsValid, IsWithinLimitsAt}
 pub use Rattle.sketch_covers.specs.KnownOutcomes.{AreInOrder, Grows, HasOwnEnd, HasRunOfEach, OnTold, StaysOf, StopIs, by_number}
 pub use Rattle.sketch_covers.specs.NodeChanges.{renumbered_node}

@@ -2,15 +2,16 @@
 use Rattle.std.specs.Prelude.{◌≡◌, ◌+◌, ◌≤◌, Bool, true, false, List}
 use Rattle.tso_program.specs.declared.outcome.Outcome.{Outcome}
 use Rattle.tso_program.specs.declared.shown.Shown.{Shown}
-use Rattle.sketches.specs.ProgramSketches.{ProgramSketch}
-use Rattle.sketches.specs.Sizes.{choice_count, most_choices}
+use Rattle.program_sketches.specs.ProgramSketches.{ProgramSketch}
+use Rattle.program_sketches.specs.Sizes.{choice_count, most_choices}
 use Rattle.cert_forest.specs.Node.{Node}
 use Rattle.cert_forest.specs.Trees.{Cover}
 use Rattle.cert_forest.specs.Limits.{cover_depth}
 use Rattle.cover_judge.specs.Judged.{IsValidAt}
 use Rattle.sketch_covers.specs.declared.covered.Covered.{Covered}
 use Rattle.sketch_covers.specs.declared.covered.Covered.TheVariants as covered
-use Rattle.sketch_covers.specs.Covers.{IsNeat, IsCoverAt}
+use Rattle.sketch_covers.specs.Covers.{IsCoverAt}
+use Rattle.tree_laws.specs.Covers.{IsNeat}
 
 -- a tree within the limits of a certificate, with no more levels than a valid one at the sketch has
 pub record IsWithinLimitsAt (s : ProgramSketch) (tree : Cover) : Type 0 where

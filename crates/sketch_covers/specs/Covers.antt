@@ -1,47 +1,23 @@
 -- Valid trees within the limits of a certificate.
-use Rattle.std.specs.Prelude.{◌≡◌, ◌≢◌, ◌+◌, ◌≤◌, ℕ, List, [], ◌∷◌, Contains, map}
-use Rattle.std.specs.List.{AllPairs}
+use Rattle.std.specs.Prelude.{◌≡◌, ◌+◌, ◌≤◌, ℕ, List, [], ◌∷◌, Contains, map}
 use Rattle.tso_program.specs.declared.outcome.Outcome.{Outcome}
 use Rattle.tso_program.specs.declared.shown.Shown.{Shown}
-use Rattle.tso_program.specs.Shown.{Question, asked}
-use Rattle.tso_machine.specs.Machine.{Machine}
-use Rattle.candidate_executions.specs.Sketches.{empty_sketch, MustEndAs}
-use Rattle.sketches.specs.ProgramSketches.{ProgramSketch, mode_in}
-use Rattle.sketches.specs.Known.{HasNoCycle}
-use Rattle.sketches.specs.Sizes.{choice_count, most_choices}
-use Rattle.cert_forest.specs.Trees.{Cover, Value, Source, Order, Cycle, Known, Covers, NoCover, MoreCovers, covers_of}
-use Rattle.cert_forest.specs.Limits.{cover_depth, covers_depth, HasNumbers, HaveNumbers}
+use Rattle.tso_program.specs.Shown.{asked}
+use Rattle.candidate_executions.specs.Sketches.{MustEndAs}
+use Rattle.program_sketches.specs.ProgramSketches.{ProgramSketch, mode_in}
+use Rattle.program_sketches.specs.Known.{HasNoCycle}
+use Rattle.program_sketches.specs.Sizes.{choice_count, most_choices}
+use Rattle.cert_forest.specs.Trees.{Cover, Value, Source, Order, Known, covers_of}
+use Rattle.cert_forest.specs.Limits.{cover_depth, covers_depth}
 use Rattle.cert_forest.specs.Node.{Node}
 use Rattle.cert_forest.specs.Node.TheVariants as node
+use Rattle.tree_laws.specs.Covers.{IsNeat, AreNeat}
 use Rattle.cover_judge.specs.CoverTrees.{IsValidCover, AreValidCovers}
-use Rattle.cover_judge.specs.declared.choice.Choice.{Choice}
-use Rattle.cover_judge.specs.Choices.{sketch_with}
+use Rattle.tree_laws.specs.declared.choice.Choice.{Choice}
+use Rattle.tree_laws.specs.CoverTrees.{sketch_with}
 use Rattle.cover_judge.specs.Judged.{IsValidAt}
-use Rattle.branching.specs.declared.open_choice.OpenChoice.{OpenChoice}
-use Rattle.branching.specs.declared.open_choice.OpenChoice.TheVariants as left
-
--- no cycle of the tree has an event twice
-abbrev mutual
-  pub HasSimpleCycles : Cover → Type 0
-  HasSimpleCycles (Value t trees) = HaveSimpleCycles trees
-  HasSimpleCycles (Source read trees) = HaveSimpleCycles trees
-  HasSimpleCycles (Order first second one other) = HasSimpleCycles one × HasSimpleCycles other
-  HasSimpleCycles (Cycle kind events) = AllPairs (λ a b. a ≢ b) events
-  HasSimpleCycles (Known number) = Unit {0}
-
-  pub HaveSimpleCycles : Covers → Type 0
-  HaveSimpleCycles NoCover = Unit {0}
-  HaveSimpleCycles (MoreCovers tree trees) = HasSimpleCycles tree × HaveSimpleCycles trees
-
--- the tree's numbers are those of a certificate's text, and no cycle has an event twice
-pub record IsNeat (tree : Cover) : Type 0 where
-  pub numbers : HasNumbers tree
-  pub simple : HasSimpleCycles tree
-
--- the same of several trees
-pub record AreNeat (trees : Covers) : Type 0 where
-  pub numbers : HaveNumbers trees
-  pub simple : HaveSimpleCycles trees
+use Rattle.tree_laws.specs.declared.choice.OpenChoice.{OpenChoice}
+use Rattle.tree_laws.specs.declared.choice.OpenChoice.TheVariants as left
 
 -- no outcome as which the sketch must end is in the list
 abbrev pub IsEndNotListed : ProgramSketch → Shown → List Outcome → Type 0
@@ -89,9 +65,3 @@ abbrev pub node_over : OpenChoice → ℕ → Node
 node_over (left.Value t) count = node.Value t count
 node_over (left.Source read) count = node.Source read count
 node_over (left.Order first second) count = node.Order first second
-
--- a valid tree at the sketch with no choice
-pub record IsWholeCover (q : Question) (mode : Machine) (outcomes : List Outcome) (tree : Cover) : Type 0 where
-  pub valid : IsValidCover q mode outcomes tree (empty_sketch q.program)
-  pub neat : IsNeat tree
-  pub shallow : cover_depth tree ≤ most_choices + 1

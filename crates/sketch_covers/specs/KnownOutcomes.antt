@@ -7,13 +7,13 @@ use Rattle.tso_machine.specs.Machine.{Machine}
 use Rattle.tso_machine.specs.Modes.{machine_of_mode}
 use Rattle.tso_machine.specs.Outcomes.{IsShownRun}
 use Rattle.candidate_executions.specs.Sketches.{MustEndAs}
-use Rattle.sketches.specs.ProgramSketches.{ProgramSketch, mode_in}
+use Rattle.program_sketches.specs.ProgramSketches.{ProgramSketch, mode_in}
 use Rattle.sketch_covers.specs.declared.stop.SearchStop.{SearchStop}
 use Rattle.sketch_covers.specs.declared.stop.SearchStop.TheVariants as stop
 use Rattle.sketch_covers.specs.declared.outcome_index.OutcomeIndex.{OutcomeIndex}
 use Rattle.sketch_covers.specs.declared.known_outcomes.KnownOutcomes.{KnownOutcomes, TheVariants.Closed, TheVariants.Open}
 use Rattle.sketch_covers.specs.OutcomeNumbers.{IsInOrder, KeepsNumbers, AreRunsOf}
-use Rattle.sketch_covers.specs.Ascending.{Ascend}
+use Rattle.tree_laws.specs.Ascending.{Ascend}
 
 -- the outcomes, in the order of their numbers
 abbrev pub by_number : KnownOutcomes → List Outcome

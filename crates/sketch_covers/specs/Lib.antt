@@ -1,4 +1,3 @@
-pub mod Ascending
 pub mod OutcomeNumbers
 pub mod KnownOutcomes
 pub mod Covers

@@ -9,7 +9,7 @@ use Rattle.tso_machine.specs.Outcomes.{IsShownRun}
 use Rattle.cert_forest.specs.NodeConstants.{NEAR_RUNS}
 use Rattle.sketch_covers.specs.declared.outcome_index.OutcomeIndex.{OutcomeIndex}
 use Rattle.sketch_covers.specs.declared.ascending_outcomes.AscendingOutcomes.{AscendingOutcomes}
-use Rattle.sketch_covers.specs.Ascending.{Ascend}
+use Rattle.tree_laws.specs.Ascending.{Ascend}
 
 -- the outcome has this number in the list
 abbrev pub HasNumber : List Outcome → ℕ → Outcome → Type 0

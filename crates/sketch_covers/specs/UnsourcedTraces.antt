@@ -2,9 +2,9 @@
 use Rattle.std.specs.Prelude.{ℕ, List}
 use Rattle.tso_program.specs.declared.outcome.Outcome.{Outcome}
 use Rattle.tso_program.specs.declared.shown.Shown.{Shown}
-use Rattle.sketches.specs.Kept.{IsLawful}
-use Rattle.sketches.specs.ProgramSketches.{ProgramSketch}
-use Rattle.sketches.specs.Sizes.{HaveAllRegisters}
+use Rattle.program_sketches.specs.Kept.{IsLawful}
+use Rattle.program_sketches.specs.ProgramSketches.{ProgramSketch}
+use Rattle.program_sketches.specs.Sizes.{HaveAllRegisters}
 use Rattle.cert_forest.specs.Node.{Node}
 use Rattle.branching.specs.declared.tally.Tally.{Tally}
 use Rattle.branching.specs.Combinations.{AreAlike, IsBase, with_root}

@@ -1,6 +1,6 @@
 //! Lists of outcomes that ascend.
 ghost use Rattle.std.specs.Prelude.{◌≡◌, IfOk, IfErr, Some, slice_get};
-ghost use Rattle.sketch_covers.specs.Ascending.{Ascend, BelongsAt};
+ghost use Rattle.tree_laws.specs.Ascending.{Ascend, BelongsAt};
 
 use tso_program::Outcome;
 

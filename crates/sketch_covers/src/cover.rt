@@ -4,11 +4,12 @@ ghost use Rattle.std.specs.Prelude.{◌≡◌, ◌≤◌, ◌<◌, ◌^◌, None
 ghost use Rattle.std.specs.List.{remove_range};
 ghost use Rattle.tso_program.specs.Shown.{asked};
 ghost use Rattle.candidate_executions.specs.Sketches.{IsWhole};
-ghost use Rattle.sketches.specs.ProgramSketches.{mode_in, with_chosen};
+ghost use Rattle.program_sketches.specs.ProgramSketches.{mode_in, with_chosen};
 ghost use Rattle.sketches.specs.Complete.{IsComplete};
-ghost use Rattle.cert_forest.specs.Nodes.{tree_of, IsTree};
-ghost use Rattle.cover_judge.specs.Choices.{sketch_with, MayChoose};
-ghost use Rattle.cover_judge.specs.Judged.{IsValidAt};
+ghost use Rattle.cert_forest.specs.Nodes.{tree_of, IsTree, first_tree};
+ghost use Rattle.cover_judge.specs.Choices.{MayChoose};
+ghost use Rattle.tree_laws.specs.CoverTrees.{sketch_with};
+ghost use Rattle.cover_judge.specs.Judged.{IsValidAt, IsValidAfter};
 ghost use Rattle.branching.specs.OpenChoices.{IsBranch};
 ghost use Rattle.sketch_covers.specs.Covers.{IsCoverAt, IsUnsettled, node_over};
 ghost use Rattle.sketch_covers.specs.CoveredSketches.{IsCoveredAt, IsTaken, IsValid};
@@ -22,9 +23,9 @@ use crate::leaf::{FoundLeaf, known, leaf};
 use crate::needs::{ChoicePath, Needs};
 use crate::run::shown_run;
 use crate::stop::SearchStop;
-use branching::{Branch, OpenChoice, WholeAccesses, next_branch, whole_accesses};
+use branching::{Branch, WholeAccesses, choose, next_branch, whole_accesses};
 use cert_forest::{Node, Walk, push_known, take_out};
-use cover_judge::{Choice, TreeFault, choose, judge};
+use cover_judge::{Choice, NodeFault, OpenChoice, judge};
 use sketches::Sketch;
 use std::alloc::{AllocError, Global};
 use tso_program::{Outcome, Shown};
@@ -347,7 +348,7 @@ impl TreeSearch<'_> {
         requires tree { IsTree (drop start nodes.now) }
         ensures { IfOk result (λ valid. IsTrue valid → IsValidAt sketch.now self.now.shown.now outcomes.now (tree_of (drop start nodes.now))) }
     {
-        let judged = judge(
+        let judged = judge_apart(
             self.alloc,
             &mut Walk::over(&nodes[start..]),
             sketch,
@@ -356,10 +357,25 @@ impl TreeSearch<'_> {
         );
         match judged {
             Ok(()) => Ok(true),
-            Err(TreeFault::Wrong(_)) => Ok(false),
-            Err(TreeFault::OutOfMemory) => Err(AllocError),
+            Err(NodeFault::Wrong(_)) => Ok(false),
+            Err(NodeFault::OutOfMemory) => Err(AllocError),
         }
     }
+}
+
+/// Judges the first tree of a walk at the sketch, in a sketch without rows that is made for it.
+fn judge_apart(
+    alloc: Global,
+    walk: &mut Walk<'_>,
+    sketch: &Sketch,
+    shown: &Shown,
+    outcomes: &[Outcome],
+) -> Result<(), NodeFault>
+    requires { 0 < length walk.old }
+    ensures { OnOk result (IsValidAfter shown.now outcomes.now sketch.now (first_tree walk.old) sketch.now.chosen) }
+{
+    let mut own = sketch.rowless()?;
+    judge(alloc, walk, &mut own, shown, outcomes)
 }
 
 /// What a tree needs above the node over the last choice.

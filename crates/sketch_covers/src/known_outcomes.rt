@@ -4,13 +4,13 @@ ghost use Rattle.std.specs.Option.{IsSomeAnd};
 ghost use Rattle.tso_program.specs.Shown.{asked};
 ghost use Rattle.tso_machine.specs.Modes.{machine_of_mode};
 ghost use Rattle.tso_machine.specs.Outcomes.{IsShownRun};
-ghost use Rattle.sketches.specs.ProgramSketches.{mode_in};
+ghost use Rattle.program_sketches.specs.ProgramSketches.{mode_in};
 ghost use Rattle.sketches.specs.Complete.{IsComplete};
-ghost use Rattle.sketches.specs.Known.{HasNoCycle};
+ghost use Rattle.program_sketches.specs.Known.{HasNoCycle};
 ghost use Rattle.sketch_covers.specs.OutcomeNumbers.{HasNumber};
 ghost use Rattle.sketch_covers.specs.ShownRuns.{IsShownRunOf};
 ghost use Rattle.sketch_covers.specs.KnownOutcomes.{by_number, AreInOrder, Grows, HasOwnEnd};
-ghost use Rattle.sketch_covers.specs.Ascending.{Ascend};
+ghost use Rattle.tree_laws.specs.Ascending.{Ascend};
 
 use crate::ascending::place_of;
 use crate::outcome_index::OutcomeIndex;
@@ -51,7 +51,7 @@ impl KnownOutcomes<'_> {
         }
     }
 
-    /// The same outcomes, ascending.
+    /// The outcomes, ascending.
     pub(crate) fn ordered(&self) -> OrderedOutcomes<'_> {
         match self {
             KnownOutcomes::Closed(outcomes) => OrderedOutcomes {

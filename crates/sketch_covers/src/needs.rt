@@ -81,7 +81,7 @@ impl Needs {
         }
     }
 
-    /// The same of a row of two choices or more.
+    /// Adds that one choice of a row of two or more is needed.
     fn add_row(&mut self, row: u64) {
         for place in 0..ROWS {
             let own = self.some[place];

@@ -5,7 +5,7 @@ ghost use Rattle.tso_program.specs.Shown.{Question};
 ghost use Rattle.tso_program.specs.Ordered.{outcome_cmp};
 ghost use Rattle.tso_machine.specs.Machine.{Machine};
 ghost use Rattle.tso_machine.specs.Outcomes.{IsShownRun};
-ghost use Rattle.sketch_covers.specs.Ascending.{BelongsAt};
+ghost use Rattle.tree_laws.specs.Ascending.{BelongsAt};
 ghost use Rattle.sketch_covers.specs.OutcomeNumbers.{ascending, IsInOrder, HasNumber, KeepsNumbers, AreRunsOf, ArePlacesOf, IsRunOf, place_in};
 
 use branching::OrderedOutcomes;

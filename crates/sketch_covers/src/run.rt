@@ -1,6 +1,6 @@
 //! Runs of complete sketches, as far as their outcomes are shown.
 ghost use Rattle.std.specs.Prelude.{◌≡◌, IfOk, MatchOption};
-ghost use Rattle.sketches.specs.Known.{HasNoCycle};
+ghost use Rattle.program_sketches.specs.Known.{HasNoCycle};
 ghost use Rattle.sketches.specs.Complete.{IsComplete};
 ghost use Rattle.tso_program.specs.Shown.{show};
 ghost use Rattle.sketch_covers.specs.ShownRuns.{IsShownRunOf};
@@ -26,7 +26,7 @@ pub(crate) fn shown_run(
     }
 }
 
-/// The same of a sketch that need not be complete. `None` if it is not.
+/// A run of a sketch, with what is shown of its outcome. `None` if the sketch is not complete.
 pub(crate) fn run_if_complete(
     alloc: Global,
     sketch: &Sketch,

@@ -2,8 +2,8 @@
 ghost use Rattle.std.specs.Prelude.{◌≡◌, IfOk, OnOk};
 ghost use Rattle.branching.specs.Combinations.{AreAlike};
 
-use branching::{ReadValue, WholeAccesses, WrittenValue};
-use cover_judge::{Choice, choose, event_of, value_choices};
+use branching::{ReadValue, WholeAccesses, WrittenValue, choose, value_choices};
+use cover_judge::{Choice, event_of};
 use sketches::{Mode, Sketch, SketchFault};
 use std::alloc::{AllocError, Global};
 

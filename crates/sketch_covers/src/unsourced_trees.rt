@@ -24,8 +24,9 @@ pub fn push_unsourced(
     push_closed(nodes, others, others.lost(), t, tree)
 }
 
-/// The same, with a read of the other threads whose value none of them writes, where there is one: it closes each full
-/// trace in which thread t doesn't write the value either.
+/// Puts the tree over the values of thread t after the other nodes, as `push_unsourced` does. `lost` is a read of the other
+/// threads whose value none of them writes, where there is one: it closes each full trace in which thread t doesn't write
+/// the value either.
 #[cycle(push_closed)]
 fn push_closed(
     nodes: &mut Vec<Node>,
@@ -59,7 +60,8 @@ fn push_closed(
     }
 }
 
-/// The same of a full trace.
+/// Puts the leaf of a full trace after the other nodes, and answers that it did; or that the trace has no read without a
+/// source.
 fn push_leaf(
     nodes: &mut Vec<Node>,
     others: &Tally,

@@ -1,6 +1,6 @@
 -- Where a search for cycles begins and ends.
 use Rattle.sketches.proofs.Vocabulary.{List, Option, Some, None, IfSome, MatchOption, Vec, Global, Event, Kind, ProgramSketch, IsLawful, cycle_of_accesses, IsSimpleCycle, few_accesses}
-use Rattle.known_edges.specs.FewAccesses.{AreFewAccesses}
+use Rattle.program_sketches.specs.FewAccesses.{AreFewAccesses}
 
 -- a cycle with no event twice is short
 pub simple_few : (s : ProgramSketch) (kind : Kind) (es : List Event) → IsLawful s → IsSimpleCycle s kind es → AreFewAccesses s es

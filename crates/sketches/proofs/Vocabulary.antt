@@ -22,23 +22,26 @@ pub use Rattle.candidate_executions.specs.Values.{IsValueOf}
 pub use Rattle.candidate_executions.specs.declared.access.Access.{Access}
 pub use Rattle.candidate_executions.specs.declared.event.Event.{Event, TheVariants.Access as At, TheVariants.Initial}
 pub use Rattle.candidate_executions.specs.declared.event.Kind.{Kind}
-pub use Rattle.known_edges.proofs.BranchesCounted.{few_sources, few_values}
-pub use Rattle.known_edges.proofs.ChoicesCounted.{choices_few, events, events_has, few_accesses}
-pub use Rattle.known_edges.proofs.Chosen.{has_source_by}
+pub use Rattle.program_sketches.proofs.BranchesCounted.{few_sources, few_values}
+pub use Rattle.program_sketches.proofs.ChoicesCounted.{choices_few, events, events_has, few_accesses}
+pub use Rattle.program_sketches.proofs.Chosen.{has_source_by}
 pub use Rattle.known_edges.proofs.Found.{cycle_of_accesses, none_fenced, none_sequential}
-pub use Rattle.known_edges.proofs.Lawful.{made_more, more_kept, more_parts, new_kept, new_kept_by, new_parts, none_chosen, none_in, unchosen}
-pub use Rattle.known_edges.proofs.Lookups.{each_more, none_by, on_err_by}
-pub use Rattle.known_edges.proofs.Numbered.{access_number, access_same, at_numbers, chosen_numbers, contained, courses_few, courses_short, ends_whole, is_access, later_test, never_last, number_access}
-pub use Rattle.known_edges.proofs.Numbered.{number_exact, number_own, ordered_numbers, rows_of_kind, whole_ends, written_test}
+pub use Rattle.program_sketches.proofs.Lawful.{made_more, more_kept, more_parts, new_kept, new_kept_by, new_parts, none_chosen, none_in, unchosen}
+pub use Rattle.program_sketches.proofs.Lookups.{each_more, none_by, on_err_by}
+pub use Rattle.known_edges.proofs.Numbered.{access_number, at_numbers, chosen_numbers, contained, courses_few, courses_short, later_test, never_last, number_access}
+pub use Rattle.program_sketches.proofs.Traced.{access_same, ends_whole, is_access}
+pub use Rattle.known_edges.proofs.Numbered.{number_exact, number_own, ordered_numbers, rows_of_kind, written_test}
+pub use Rattle.program_sketches.proofs.Traced.{whole_ends}
 pub use Rattle.known_edges.proofs.RowsKept.{begun, later_empty}
-pub use Rattle.known_edges.proofs.TracesKept.{reads_there, six_registers}
-pub use Rattle.known_edges.specs.Choices.{IsOrdered, IsRead, IsValueWritten, MayFollow, MayRead, ReadsThisValue}
-pub use Rattle.known_edges.specs.Kept.{IsLawful, KeepsTraces, view_of}
-pub use Rattle.known_edges.specs.Known.{HasCycle, HasNoCycle}
-pub use Rattle.known_edges.specs.ProgramSketches.{ProgramSketch, access_in, mode_in, nothing_chosen, trace_in, with_chosen}
-pub use Rattle.known_edges.specs.Rows.{AreAccesses, EachEnds, HasWrites, IsOfThreads, IsRepresented, IsRowOf, IsWriteAt, NumberedTraces, accesses_at, traced_access, union_rows}
-pub use Rattle.known_edges.specs.Sizes.{HaveAllRegisters}
-pub use Rattle.known_edges.specs.Writes.{HasLater, IsLastWith, IsWritten, WritesTo}
+pub use Rattle.program_sketches.proofs.TracesKept.{reads_there, six_registers}
+pub use Rattle.program_sketches.specs.Choices.{IsOrdered, IsRead, IsValueWritten, MayFollow, MayRead, ReadsThisValue}
+pub use Rattle.program_sketches.specs.Kept.{IsLawful, KeepsTraces, view_of}
+pub use Rattle.program_sketches.specs.Known.{HasCycle, HasNoCycle}
+pub use Rattle.program_sketches.specs.ProgramSketches.{ProgramSketch, access_in, mode_in, nothing_chosen, trace_in, with_chosen}
+pub use Rattle.program_sketches.specs.TracedAccesses.{EachEnds, IsOfThreads, accesses_at, traced_access}
+pub use Rattle.known_edges.specs.Rows.{AreAccesses, HasWrites, IsRepresented, IsRowOf, IsWriteAt, NumberedTraces, union_rows}
+pub use Rattle.program_sketches.specs.Sizes.{HaveAllRegisters}
+pub use Rattle.program_sketches.specs.Writes.{HasLater, IsLastWith, IsWritten, WritesTo}
 pub use Rattle.rowless_sketches.proofs.Ends.{ends_only, in_values, last_by, of_values, registers_shown}
 pub use Rattle.rowless_sketches.specs.Completions.{EachRunCompletes, IsEdgeOfEach, IsRefuted, MustEndSo, NeedNotEnd}
 pub use Rattle.rowless_sketches.specs.Endings.{EndsSo, HasEnds, IsOwn, SketchMayEndWith, final_registers}

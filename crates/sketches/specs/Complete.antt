@@ -1,8 +1,8 @@
 -- Complete sketches.
 use Rattle.candidate_executions.specs.declared.event.Event.{Event}
 use Rattle.candidate_executions.specs.Sketches.{IsPair, IsWhole}
-use Rattle.known_edges.specs.ProgramSketches.{ProgramSketch, mode_in}
-use Rattle.known_edges.specs.Choices.{IsRead, HasSource, IsOrdered}
+use Rattle.program_sketches.specs.ProgramSketches.{ProgramSketch, mode_in}
+use Rattle.program_sketches.specs.Choices.{IsRead, HasSource, IsOrdered}
 
 -- a read has its source
 abbrev pub HasItsSource : ProgramSketch → Event → Type 0

@@ -3,7 +3,7 @@ use Rattle.std.specs.Prelude.{◌≢◌, List, Contains}
 use Rattle.std.specs.List.{AllPairs}
 use Rattle.candidate_executions.specs.declared.event.Event.{Event}
 use Rattle.candidate_executions.specs.declared.event.Kind.{Kind}
-use Rattle.known_edges.specs.ProgramSketches.{ProgramSketch, mode_in}
+use Rattle.program_sketches.specs.ProgramSketches.{ProgramSketch, mode_in}
 use Rattle.candidate_executions.specs.Sketches.{IsKnownCycle}
 
 -- a known cycle with no event twice

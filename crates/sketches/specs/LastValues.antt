@@ -4,8 +4,8 @@ use Rattle.tso_program.specs.declared.limits.TheConstants.{MAX_LOCATIONS}
 use Rattle.tso_program.specs.declared.shown.Shown.{Shown}
 use Rattle.tso_program.specs.Shown.{shown_value}
 use Rattle.candidate_executions.specs.declared.event.Event.{Event}
-use Rattle.known_edges.specs.ProgramSketches.{ProgramSketch}
-use Rattle.known_edges.specs.Writes.{IsLastWith}
+use Rattle.program_sketches.specs.ProgramSketches.{ProgramSketch}
+use Rattle.program_sketches.specs.Writes.{IsLastWith}
 use Rattle.rowless_sketches.specs.Endings.{SketchMayEndWith}
 
 -- a write of which P holds and that may be the last of the location writes the value

@@ -1,8 +1,8 @@
 -- Marks of sketches: what a mark keeps, and which sketches come after it.
 use Rattle.std.specs.Prelude.{◌≡◌, ◌++◌, ℕ, List, length}
 use Rattle.candidate_executions.specs.declared.event.Event.{Event}
-use Rattle.known_edges.specs.ProgramSketches.{ProgramSketch}
-use Rattle.known_edges.specs.Kept.{view_of}
+use Rattle.program_sketches.specs.ProgramSketches.{ProgramSketch}
+use Rattle.program_sketches.specs.Kept.{view_of}
 use Rattle.known_edges.specs.Rows.{NumberedTraces, IsRepresented}
 
 -- what is kept of a sketch: what its threads do, how many sources and orders it has chosen, and the rows of its edges

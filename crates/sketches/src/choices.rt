@@ -2,12 +2,12 @@
 ghost use Rattle.std.specs.Prelude.{◌≡◌, ◌↔◌, ◌⊎◌, ◌<◌, ◌≤◌, ℕ, IsTrue, Some, MatchOption, IfOk, OnOk, OnErr, IfErr, Contains, length};
 ghost use Rattle.std.specs.List.{AllPairs};
 ghost use Rattle.candidate_executions.specs.declared.event.Event.{Event};
-ghost use Rattle.known_edges.specs.ProgramSketches.{mode_in, with_chosen};
-ghost use Rattle.known_edges.specs.Choices.{IsRead, ReadsThisValue, IsValueWritten, SourcesFaultIs, HasSource, IsOrdered, MayRead, MayFollow, SourceFaultIs, OrderFaultIs};
+ghost use Rattle.program_sketches.specs.ProgramSketches.{mode_in, with_chosen};
+ghost use Rattle.program_sketches.specs.Choices.{IsRead, ReadsThisValue, IsValueWritten, SourcesFaultIs, HasSource, IsOrdered, MayRead, MayFollow, SourceFaultIs, OrderFaultIs};
 ghost use Rattle.candidate_executions.specs.Events.{ComesBefore};
 ghost use Rattle.candidate_executions.specs.Sketches.{IsSourceOf, IsPair, IsWhole, with_source, with_pair};
-ghost use Rattle.known_edges.specs.Known.{HasCycle};
-ghost use Rattle.known_edges.specs.Sizes.{most_sources};
+ghost use Rattle.program_sketches.specs.Known.{HasCycle};
+ghost use Rattle.program_sketches.specs.Sizes.{most_sources};
 ghost use Rattle.sketches.specs.Internal.Listed.{FollowInOrder, HasNumberIn};
 ghost use Rattle.bit_rows.specs.Rows.{IsIn};
 

@@ -1,11 +1,11 @@
 //! Sketches that take little memory.
 ghost use Rattle.std.specs.Prelude.{◌≡◌, ◌≤◌, IfOk};
-ghost use Rattle.known_edges.specs.Kept.{IsLawful};
-ghost use Rattle.known_edges.specs.Sizes.{choice_count, most_choices, HaveAllRegisters};
+ghost use Rattle.program_sketches.specs.Kept.{IsLawful};
+ghost use Rattle.program_sketches.specs.Sizes.{choice_count, most_choices, HaveAllRegisters};
 
 use crate::{Mode, Sketch};
 use candidate_executions::Event;
-use known_edges::copied;
+use program_sketches::copied;
 use std::alloc::AllocError;
 use std::marker::Model;
 use thread_traces::SharedTrace;
@@ -22,7 +22,7 @@ pub struct CompactSketch {
 }
 
 impl Model for CompactSketch {
-    ghost use Rattle.known_edges.specs.ProgramSketches.{ProgramSketch};
+    ghost use Rattle.program_sketches.specs.ProgramSketches.{ProgramSketch};
 
     ghost Value = { ProgramSketch };
 
@@ -31,7 +31,7 @@ impl Model for CompactSketch {
 
     ghost coded = { Prim.hlevel (codes, gap_set.the_row.coded) };
 
-    ghost use Rattle.known_edges.specs.Kept.{view_of, KeepsTraces};
+    ghost use Rattle.program_sketches.specs.Kept.{view_of, KeepsTraces};
 
     ghost view = { λ s. view_of s.program s.mode s.thread_traces.items s.sources.items s.pairs.items };
 
@@ -50,7 +50,7 @@ impl CompactSketch {
 }
 
 impl Sketch {
-    /// The same sketch, in little memory.
+    /// A copy of the sketch, in little memory.
     pub fn compact(&self) -> Result<CompactSketch, AllocError>
         ensures { IfOk result (λ own. own ≡ self.now) }
     {

@@ -5,8 +5,8 @@ ghost use Rattle.candidate_executions.specs.declared.event.Event.{Event};
 ghost use Rattle.candidate_executions.specs.Events.{ComesBefore};
 ghost use Rattle.candidate_executions.specs.Candidates.{IsAccess};
 ghost use Rattle.candidate_executions.specs.Sketches.{given_to, IsWhole};
-ghost use Rattle.known_edges.specs.ProgramSketches.{mode_in};
-ghost use Rattle.known_edges.specs.Choices.{IsRead, HasSource, IsOrdered};
+ghost use Rattle.program_sketches.specs.ProgramSketches.{mode_in};
+ghost use Rattle.program_sketches.specs.Choices.{IsRead, HasSource, IsOrdered};
 ghost use Rattle.sketches.specs.Complete.{IsComplete, HasItsSource, IsOrderedWith};
 
 use crate::Sketch;

@@ -3,13 +3,13 @@ ghost use Rattle.std.specs.Prelude.{◌⊎◌, ◌↔◌, List, IfOk, IfSome, On
 ghost use Rattle.std.specs.List.{AllPairs};
 ghost use Rattle.candidate_executions.specs.declared.event.Event.{Event};
 ghost use Rattle.candidate_executions.specs.Events.{ComesBefore};
-ghost use Rattle.known_edges.specs.Known.{HasCycle, HasNoCycle, IsInitialWrite};
+ghost use Rattle.program_sketches.specs.Known.{HasCycle, HasNoCycle, IsInitialWrite};
 ghost use Rattle.candidate_executions.specs.Consistency.{IsOfMode};
 ghost use Rattle.candidate_executions.specs.Candidates.{IsAccess};
 ghost use Rattle.candidate_executions.specs.Sketches.{IsKnownCycle, given_to};
-ghost use Rattle.known_edges.specs.ProgramSketches.{mode_in};
+ghost use Rattle.program_sketches.specs.ProgramSketches.{mode_in};
 ghost use Rattle.sketches.specs.Cycles.{IsSimpleCycle};
-ghost use Rattle.known_edges.specs.FewAccesses.{AreFewAccesses};
+ghost use Rattle.program_sketches.specs.FewAccesses.{AreFewAccesses};
 
 use crate::{Mode, Sketch};
 use candidate_executions::{Event, Kind};
@@ -42,7 +42,7 @@ impl Sketch {
         }
     }
 
-    /// The same for one union. Its rows say whether there is a cycle; before each read has its value
+    /// A cycle of one union, where it has one. Its rows say whether there is a cycle; before each read has its value
     /// they may lack accesses, and nothing but program order is known.
     fn find_cycle_of(&self, kind: Kind) -> Result<Option<(Kind, Vec<Event>)>, AllocError>
         requires { IsOfMode (mode_in self.now) kind }

@@ -4,7 +4,7 @@ ghost use Rattle.candidate_executions.specs.declared.event.Event.{Event};
 ghost use Rattle.candidate_executions.specs.Consistency.{IsOfMode, Leads};
 ghost use Rattle.candidate_executions.specs.Sketches.{KnownEdge, KnownEdgeOfMode, IsKnownCycle, given_to};
 ghost use Rattle.candidate_executions.specs.Candidates.{IsAccess};
-ghost use Rattle.known_edges.specs.ProgramSketches.{mode_in};
+ghost use Rattle.program_sketches.specs.ProgramSketches.{mode_in};
 ghost use Rattle.rowless_sketches.specs.Completions.{IsEdgeOfEach, IsRefuted};
 
 use crate::Sketch;
@@ -34,7 +34,8 @@ impl Sketch {
         }
     }
 
-    /// The same, looked up among what is chosen.
+    /// Whether an edge of the union is known to lead from the first event to the second, looked up among what is
+    /// chosen.
     fn comes_first(&self, kind: Kind, from: Event, to: Event) -> bool
         ensures { IsTrue result ↔ KnownEdge self.now.program (mode_in self.now) self.now.chosen kind from to }
     {

@@ -3,16 +3,16 @@ ghost use Rattle.std.specs.Prelude.{◌≡◌, ◌↔◌, ◌<◌, ◌++◌, ◌
 ghost use Rattle.candidate_executions.specs.declared.event.Event.{Event};
 ghost use Rattle.candidate_executions.specs.Sketches.{IsWhole, MayBeLast};
 ghost use Rattle.tso_program.specs.declared.limits.TheConstants.{MAX_LOCATIONS};
-ghost use Rattle.known_edges.specs.Known.{IsInitialWrite};
-ghost use Rattle.known_edges.specs.ProgramSketches.{mode_in, trace_in};
+ghost use Rattle.program_sketches.specs.Known.{IsInitialWrite};
+ghost use Rattle.program_sketches.specs.ProgramSketches.{mode_in, trace_in};
 ghost use Rattle.rowless_sketches.specs.Endings.{IsOwn};
 ghost use Rattle.sketches.specs.LastValues.{Differ, AreLastValues};
-ghost use Rattle.known_edges.specs.Writes.{HasLater, IsLastWith, IsWritten};
+ghost use Rattle.program_sketches.specs.Writes.{HasLater, IsLastWith, IsWritten};
 
 use crate::Sketch;
 use bit_rows::{has, has_any};
 use candidate_executions::Event;
-use known_edges::is_same;
+use program_sketches::is_same;
 use tso_program::{MAX_LOCATIONS, REGISTERS, Shown};
 
 impl Sketch {

@@ -23,9 +23,8 @@ mod thread_values;
 
 pub use candidate_executions::{Access, Event, Kind};
 pub use compact_sketch::CompactSketch;
-pub use known_edges::SketchFault;
 pub use mark::Mark;
-pub use rowless_sketches::{RowlessSketch, ValueMark};
+pub use program_sketches::SketchFault;
 pub use sketch::Sketch;
 pub use thread_traces::SharedValues;
 pub use tso_machine::Mode;

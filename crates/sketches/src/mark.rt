@@ -1,6 +1,6 @@
 //! Marks: what a sketch has chosen at one time, to go back to.
 ghost use Rattle.std.specs.Prelude.{◌≡◌, IfOk};
-ghost use Rattle.known_edges.specs.ProgramSketches.{ProgramSketch};
+ghost use Rattle.program_sketches.specs.ProgramSketches.{ProgramSketch};
 ghost use Rattle.sketches.specs.Marks.{IsMarkOf, ComesAfter};
 
 use crate::Sketch;

@@ -3,7 +3,7 @@ ghost use Rattle.std.specs.Prelude.{◌≡◌, ◌<◌, ℕ, IfOk, IfSome, Match
 ghost use Rattle.tso_program.specs.Shown.{show_registers, ShowsValues};
 ghost use Rattle.tso_program.specs.declared.shown.Shown.TheVariants.{Truth};
 ghost use Rattle.candidate_executions.specs.Sketches.{IsWhole};
-ghost use Rattle.known_edges.specs.ProgramSketches.{mode_in};
+ghost use Rattle.program_sketches.specs.ProgramSketches.{mode_in};
 ghost use Rattle.rowless_sketches.specs.Completions.{MustEndSo, NeedNotEnd, EndsOnlyAs};
 ghost use Rattle.rowless_sketches.specs.Endings.{final_registers, IsOwn, EndsSo};
 ghost use Rattle.sketches.specs.LastValues.{IsLastValue, AreLastValues};

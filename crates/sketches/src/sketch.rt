@@ -2,23 +2,24 @@
 ghost use Rattle.std.specs.Prelude.{[], ◌≡◌, ◌↔◌, ℕ, Some, None, IsTrue, IsSome, IfSome, IfOk, ◌<◌, OnOk, OnErr, IfErr, Contains, length, ◌≤◌};
 ghost use Rattle.candidate_executions.specs.declared.event.Event.{Event};
 ghost use Rattle.candidate_executions.specs.Sketches as sketches;
-ghost use Rattle.known_edges.specs.ProgramSketches.{ProgramSketch, mode_in, trace_in, access_in, nothing_chosen, with_chosen};
+ghost use Rattle.program_sketches.specs.ProgramSketches.{ProgramSketch, mode_in, trace_in, access_in, nothing_chosen, with_chosen};
 ghost use Rattle.std.specs.List.Sorted.{IsStrictlyIncreasing};
 ghost use Rattle.candidate_executions.specs.Values.{IsValueOf};
-ghost use Rattle.known_edges.specs.Kept.{IsLawful, KeepsTraces, view_of};
-ghost use Rattle.known_edges.specs.Sizes.{choice_count, most_choices, most_values, HaveAllRegisters};
+ghost use Rattle.program_sketches.specs.Kept.{IsLawful, KeepsTraces, view_of};
+ghost use Rattle.program_sketches.specs.Sizes.{choice_count, most_choices, most_values, HaveAllRegisters};
 ghost use Rattle.rowless_sketches.specs.Completions.{EachRunCompletes};
 
 use crate::{Mode, SketchFault};
 use bit_rows::{ROW_BITS, has};
 use candidate_executions::{Access, Event};
-use known_edges::{EdgeRows, Traces, copied, in_order, with_room};
+use known_edges::{EdgeRows, Traces, in_order};
+use program_sketches::{copied, first_traces, with_room};
 use rowless_sketches::{Parts, RowlessSketch, initial_write};
 use std::alloc::{AllocError, Global};
 use std::marker::Model;
 use std::sync::Arc;
 use thread_traces::{SharedTrace, thread_trace_of, values_of};
-use tso_program::{Items, Program};
+use tso_program::Program;
 
 /// A partly chosen candidate execution of a program: values for the first reads of each thread, then
 /// sources for reads, and an order between writes to one location. It keeps the allocator that it was
@@ -35,7 +36,7 @@ pub struct Sketch {
 }
 
 impl Model for Sketch {
-    ghost use Rattle.known_edges.specs.ProgramSketches.{ProgramSketch};
+    ghost use Rattle.program_sketches.specs.ProgramSketches.{ProgramSketch};
 
     ghost Value = { ProgramSketch };
 
@@ -44,7 +45,7 @@ impl Model for Sketch {
 
     ghost coded = { Prim.hlevel (codes, gap_set.the_row.coded) };
 
-    ghost use Rattle.known_edges.specs.Kept.{view_of};
+    ghost use Rattle.program_sketches.specs.Kept.{view_of};
     ghost use Rattle.known_edges.specs.Rows.{IsRepresented};
     ghost use Rattle.std.specs.Arc.{arc_value};
 
@@ -59,13 +60,7 @@ impl Sketch {
         ensures empty { IfOk result (λ sketch. sketch ≡ nothing_chosen program.now mode) }
         ensures runs { IfOk result EachRunCompletes }
     {
-        let threads = program.threads().len();
-        let mut thread_traces = Vec::with_capacity(alloc, threads)?;
-        for t in 0..threads as u8 {
-            let given = Items::of(Vec::new(alloc));
-            thread_traces.push(thread_trace_of(alloc, program, mode, t, given)?)?;
-        }
-        Sketch::of_traces(alloc, program, mode, thread_traces)
+        Sketch::of_traces(alloc, program, mode, first_traces(alloc, program, mode)?)
     }
 
     /// The sketch in which the threads do this, and no source and no order is chosen.

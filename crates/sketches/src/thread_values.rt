@@ -1,11 +1,11 @@
 //! The values of one thread, from one sketch to another.
 ghost use Rattle.std.specs.Prelude.{◌≡◌, ◌<◌, IfOk, length};
 ghost use Rattle.candidate_executions.specs.Sketches.{given_to};
-ghost use Rattle.known_edges.specs.ProgramSketches.{with_chosen};
+ghost use Rattle.program_sketches.specs.ProgramSketches.{with_chosen};
 ghost use Rattle.rowless_sketches.specs.ThreadValues.{with_values, HasValuesAlone};
 
 use crate::{CompactSketch, Sketch};
-use known_edges::copied;
+use program_sketches::copied;
 use std::alloc::AllocError;
 
 impl Sketch {

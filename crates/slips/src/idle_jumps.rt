@@ -14,7 +14,7 @@ pub(crate) fn idle_jump(rows: &[Vec<Cell<'_>>], threads: usize) -> Option<Remark
     None
 }
 
-/// The same of one thread.
+/// What is said of the first JE or JNE of one thread that stands before any CMP of it.
 fn idle_jump_of(rows: &[Vec<Cell<'_>>], thread: usize) -> Option<Remark> {
     for row in rows {
         if let Some(cell) = row.get(thread) {

@@ -15,7 +15,7 @@ pub(crate) fn idle_register(body: &Body<'_>) -> Option<Remark> {
     None
 }
 
-/// The same of one thread.
+/// What is said of the first register that a CMP of one thread names, to which the thread writes nothing.
 fn idle_register_of(body: &Body<'_>, thread: usize) -> Option<Remark> {
     for row in &body.rows {
         if let Some(cell) = row.get(thread) {
@@ -27,7 +27,8 @@ fn idle_register_of(body: &Body<'_>, thread: usize) -> Option<Remark> {
     None
 }
 
-/// The same of one instruction. The first operand of a CMP is one token after its mnemonic, the second three.
+/// What is said of the first register that a CMP names, to which its thread writes nothing. The first operand of a CMP is
+/// one token after its mnemonic, the second three.
 fn idle_operand(body: &Body<'_>, thread: usize, cell: &Cell<'_>) -> Option<Remark> {
     let (first, second) = compared_by(cell)?;
     let after = if !is_given(body, thread, first) {

@@ -67,7 +67,7 @@ fn are_near(name: &[u8], other: &[u8]) -> bool {
     name.len().max(other.len()) >= LONGER && are_rests_near(name_rest, other_rest)
 }
 
-/// The same of what follows the bytes with which both begin.
+/// Whether what follows the bytes with which both names begin differs so.
 fn are_rests_near(name: &[u8], other: &[u8]) -> bool {
     let name_letter = begins_with_letter(name);
     let other_letter = begins_with_letter(other);

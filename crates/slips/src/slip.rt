@@ -38,7 +38,7 @@ pub fn slip_message(
     }
 }
 
-/// The same of the program alone.
+/// What is said of the first slip in the program, of which the condition is no part.
 fn program_slip(
     alloc: Global,
     source: Source<'_>,

@@ -1,5 +1,5 @@
 //! The runs that are made of a sketch, each with the outcome to which it is replayed.
-ghost use Rattle.sketches.specs.Known.{HasNoCycle};
+ghost use Rattle.program_sketches.specs.Known.{HasNoCycle};
 
 use crate::refusal::SolverRefusal;
 use gap_sets::GapSet;

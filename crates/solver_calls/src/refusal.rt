@@ -1,7 +1,6 @@
 //! Why a call has no other answer.
 
 use cover_solver::{ForeignFault, SolveFault};
-use gap_sets::CostFault;
 use run_maker::MakeFault;
 use sketches::SketchFault;
 use std::alloc::AllocError;
@@ -9,17 +8,13 @@ use text_calls::TextRefusal;
 use thiserror::Error;
 use tso_machine::ReplayFault;
 
-/// A refusal by the call, or `Gap`, where the program lacks one of the gaps.
+/// A refusal by the call.
 #[derive(Clone, Copy, Debug, Error)]
 pub enum SolverRefusal {
-    #[error("gap")]
-    Gap,
     #[error("memory")]
     Memory(#[from(alloc)] AllocError),
     #[error("{0}")]
     Text(#[from] TextRefusal),
-    #[error("costs {0:?}")]
-    Costs(#[from] CostFault),
     #[error("sketch {0:?}")]
     Sketch(#[from] SketchFault),
     #[error("make {0:?}")]

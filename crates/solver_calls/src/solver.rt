@@ -1,12 +1,11 @@
 //! Calls of `cover_solver`.
 
 use crate::lines::{push_foreign_run, push_serving, push_table};
-use crate::questions::set_in;
 use crate::refusal::SolverRefusal;
-use cover_solver::{ForeignRun, Oracle, SeqTable, Solver, Verdict, sequential};
+use cover_solver::{ForeignRun, Oracle, SearchedTable, SeqTable, Solver, Verdict, sequential};
 use litmus_text::{Litmus, NameTable};
 use std::alloc::{AllocError, Global};
-use text_calls::{gaps_of, labels_from};
+use text_calls::{gaps_of, labels_from, set_in};
 use tso_program::{Program, ShownKind};
 
 /// A call with the sequential outcomes, by its name.
@@ -18,9 +17,14 @@ pub enum SolverCall {
 }
 
 /// What the solver says of the gaps that words name.
-fn verdict(alloc: Global, table: &SeqTable, words: &[&[u8]]) -> Result<Verdict, SolverRefusal> {
-    let set = set_in(table.program(), gaps_of(table.program(), words))?;
-    let solver = Solver::new(alloc, table.program(), table)?;
+fn verdict(
+    alloc: Global,
+    searched: &SearchedTable,
+    words: &[&[u8]],
+) -> Result<Verdict, SolverRefusal> {
+    let program = searched.table().program();
+    let set = set_in(program, gaps_of(program, words))?;
+    let solver = Solver::new(alloc, program, searched)?;
     solver.ask(&set).map_err(SolverRefusal::from)
 }
 
@@ -40,11 +44,11 @@ fn push_verdict(
 fn push_asked(
     alloc: Global,
     names: &NameTable,
-    table: &SeqTable,
+    searched: &SearchedTable,
     words: &[&[u8]],
     printed: &mut String,
 ) -> Result<(), SolverRefusal> {
-    let verdict = verdict(alloc, table, words)?;
+    let verdict = verdict(alloc, searched, words)?;
     push_verdict(alloc, names, &verdict, printed).map_err(SolverRefusal::from)
 }
 
@@ -71,12 +75,13 @@ pub fn push_of_solver(
     call: SolverCall,
     words: &[&[u8]],
     names: &NameTable,
-    table: &SeqTable,
+    searched: &SearchedTable,
     printed: &mut String,
 ) -> Result<(), SolverRefusal> {
+    let table = searched.table();
     match call {
         SolverCall::Sequential => Ok(push_table(alloc, names, table, printed)?),
-        SolverCall::Ask => push_asked(alloc, names, table, words, printed),
+        SolverCall::Ask => push_asked(alloc, names, searched, words, printed),
         SolverCall::Foreign => push_foreign(alloc, names, table, words, printed),
     }
 }
@@ -97,7 +102,7 @@ pub fn table_of(
     alloc: Global,
     litmus: &Litmus<Program>,
     kind: ShownKind,
-) -> Result<SeqTable, SolverRefusal> {
+) -> Result<SearchedTable, SolverRefusal> {
     let shown = litmus.shown_as(kind)?;
     Ok(sequential(alloc, &litmus.program, &shown)?)
 }

@@ -2,10 +2,9 @@
 
 use crate::calls::{CALLS, Call, TableCall};
 use crate::refusal::CallRefusal;
-use cover_solver::SeqTable;
-use hunt_calls::{push_exchanged, push_of_hunt};
+use cover_solver::SearchedTable;
 use litmus_text::{Litmus, NameTable, read_litmus};
-use place_calls::push_of_place;
+use place_calls::{push_exchanged, push_of_hunt, push_of_place};
 use solver_calls::{options, push_of_solver, push_sketch, table_of};
 use std::alloc::{AllocError, Global};
 use std::sync::Wait;
@@ -20,7 +19,7 @@ const ROOM: usize = 4_096;
 #[derive(Clone, Copy)]
 struct Test<'a> {
     names: &'a NameTable,
-    table: &'a SeqTable,
+    table: &'a SearchedTable,
 }
 
 /// The answer to a call with these outcomes.

@@ -1,6 +1,5 @@
 //! Why a call has no other answer.
 
-use hunt_calls::HuntRefusal;
 use litmus_text::ReadFault;
 use place_calls::PlaceRefusal;
 use solver_calls::SolverRefusal;
@@ -21,8 +20,6 @@ pub enum CallRefusal {
     Text(#[from] TextRefusal),
     #[error("{0}")]
     Solver(#[from] SolverRefusal),
-    #[error("{0}")]
-    Hunt(#[from] HuntRefusal),
     #[error("{0}")]
     Place(#[from] PlaceRefusal),
 }

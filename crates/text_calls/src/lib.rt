@@ -17,6 +17,7 @@ mod lines;
 mod machines;
 mod observations;
 mod programs;
+mod questions;
 mod refusal;
 mod sets;
 mod syntax;
@@ -32,5 +33,6 @@ pub use input::{
 };
 pub use lines::{push_gaps_after, push_run};
 pub use machines::{labels_from, outcome_of, push_outcome};
+pub use questions::{equal_costs, passes_none, set_in};
 pub use refusal::TextRefusal;
 pub use sets::push_gaps;

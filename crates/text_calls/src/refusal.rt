@@ -10,11 +10,13 @@ use thiserror::Error;
 use tso_machine::{ReplayFault, RunFault};
 use tso_program::{FenceFault, ProgramFault};
 
-/// A refusal by the call, or `Call`, where the words are not those of a call.
+/// A refusal by the call, `Call`, where the words are not those of a call, or `Gap`, where the program lacks one of the gaps.
 #[derive(Clone, Copy, Debug, Error)]
 pub enum TextRefusal {
     #[error("call")]
     Call,
+    #[error("gap")]
+    Gap,
     #[error("memory")]
     Memory(#[from(alloc)] AllocError),
     #[error("costs {0:?}")]

@@ -9,6 +9,5 @@ pub mod Gathered
 pub mod KnownValues
 pub mod AccessesCounted
 pub mod EventsCounted
-pub mod ThreadRows
 pub mod ValuesGiven
 pub mod TraceTrees

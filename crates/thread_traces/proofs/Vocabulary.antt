@@ -10,8 +10,6 @@ pub use Rattle.std.proofs.lemmas.Option.{get_or_from_slice_get, same_Some, slice
 pub use Rattle.std.specs.List.{AllPairs, remove}
 pub use Rattle.std.specs.Option.{is_some, option_map_or}
 pub use Rattle.std.specs.Prelude.{IfNone, OnErr, slice_index, unwrap_or}
-pub use Rattle.bit_rows.specs.Rows.{IsIn}
-pub use Rattle.bit_rows.specs.declared.row.TheConstants.{ROW_BITS}
 pub use Rattle.candidate_executions.proofs.Orders.Lists.{first_is_here, get_cases, get_set_other, get_set_same, get_some, later_is_here}
 pub use Rattle.candidate_executions.specs.Traces.{Trace, entered, fenced_gaps, stopped, trace, trace_by, traced}
 pub use Rattle.candidate_executions.specs.Values.{IsImmediate, IsKnown, IsValueOf, Occurs, TakesRegister}
@@ -35,7 +33,7 @@ pub use Rattle.thread_traces.specs.ThreadTraces.{GoesOn, IsThreadTraceOf, first_
 pub use Rattle.thread_traces.specs.TraceCounts.{CountSays, IsCountUpTo, combination_count, trace_count, values_at}
 pub use Rattle.thread_traces.specs.TraceTrees.{AreNodes, AreNodesOf, IsAt, IsChildOf, IsGivenMore, IsNextPlace, IsTraceTree}
 pub use Rattle.thread_traces.specs.ValueLists.{IsValueList}
-pub use Rattle.thread_traces.specs.WriteBits.{write_bit}
+pub use Rattle.thread_traces.specs.WriteBits.{HasBit, write_bit}
 pub use Rattle.thread_traces.specs.declared.thread_trace.ThreadTrace.{ThreadTrace}
 pub use Rattle.thread_traces.specs.declared.trace_tree.TraceNode.{TraceNode}
 pub use Rattle.thread_traces.specs.declared.trace_tree.TracePlace.{TracePlace}

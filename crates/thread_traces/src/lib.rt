@@ -1,12 +1,12 @@
 //! What a thread does under given values: its trace, and the order of its accesses.
 //!
-//! A thread is walked until a read lacks a value. Its trace has its accesses with their sections, its state where
-//! it stops, and in rows of bits the program order that each union keeps.
+//! A thread is walked until a read lacks a value. Its trace has its accesses with their sections, and its state where
+//! it stops. `is_kept_by` says which program order between two accesses each union keeps.
 //!
 //! Begin with `thread_trace_of`, `SharedTrace` and `trace_combinations`. Free to change: what is kept beside a trace
 //! (`write_bits.rt`), which traces are known again (`trace_tree.rt`), and how far combinations of traces are counted.
-//! Relied on: a trace is that of the definitions, its rows have just the kept program order, a value that is written
-//! has its bit, and the values of a location are all that it may hold, ascending.
+//! Relied on: a trace is that of the definitions, `SharedTrace::writes` misses no value that is written, and the values
+//! of a location are all that it may hold, ascending.
 #![tactic(auto)]
 
 mod combinations;

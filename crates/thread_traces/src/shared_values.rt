@@ -39,7 +39,7 @@ impl SharedValues {
         self.values.as_slice()
     }
 
-    /// The same values.
+    /// A copy of the values, which both share.
     pub fn copy(&self) -> Result<SharedValues, AllocError>
         ensures { IfOk result (λ other. other ≡ self.now) }
     {

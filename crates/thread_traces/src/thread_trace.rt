@@ -1,16 +1,11 @@
 //! What one thread does under its given values.
-ghost use Rattle.std.specs.Prelude.{◌≡◌, ◌↔◌, ◌<◌, ◌≤◌, ◌+◌, ℕ, [], ◌∷◌, ◌++◌, length, slice_get, Some, IsTrue, IfOk, None};
+ghost use Rattle.std.specs.Prelude.{◌≡◌, ℕ, [], ◌∷◌, ◌++◌, slice_get, Some, IsTrue, IfOk};
 ghost use Rattle.candidate_executions.specs.declared.access.Access.{Access};
-ghost use Rattle.bit_rows.specs.Rows.{IsIn};
-ghost use Rattle.bit_rows.specs.declared.row.TheConstants.{ROW_BITS};
-ghost use Rattle.thread_traces.specs.ThreadOrder.{IsLaterIn};
 ghost use Rattle.std.specs.Option.{option_copied};
 
-use crate::thread_order::thread_order;
-use crate::write_bits::{write_bit, write_bits};
+use crate::write_bits::{WRITE_BITS, write_bit, write_bits};
 use crate::writes::writes_value;
-use bit_rows::{ROW_BITS, has};
-use candidate_executions::{Access, Kind};
+use candidate_executions::Access;
 use std::alloc::{AllocError, Global};
 use std::marker::Model;
 use std::sync::Arc;
@@ -27,7 +22,7 @@ pub struct ThreadTrace {
 }
 
 impl ThreadTrace {
-    /// The same trace.
+    /// A copy of the trace.
     fn copy(&self, alloc: Global) -> Result<ThreadTrace, AllocError>
         ensures { IfOk result (λ other. other ≡ self.now) }
     {
@@ -42,21 +37,17 @@ impl ThreadTrace {
     }
 }
 
-/// A thread's trace, and in rows the program order of each union between its accesses, by their
-/// indices; and the bits of what it writes.
+/// A thread's trace, and the bits of what it writes.
 #[derive(Drop)]
-struct OrderedTrace {
+struct MarkedTrace {
     trace: ThreadTrace,
-    written: u32,
-    sequential: [u32; ROW_BITS],
-    location: [u32; ROW_BITS],
-    global: [u32; ROW_BITS],
+    written: [bool; WRITE_BITS],
 }
 
 /// A thread's trace that sketches share. It never changes, and a copy takes no memory.
 #[derive(Drop)]
 pub struct SharedTrace {
-    ordered: Arc<OrderedTrace>,
+    marked: Arc<MarkedTrace>,
 }
 
 impl Model for SharedTrace {
@@ -65,33 +56,22 @@ impl Model for SharedTrace {
 
     ghost Value = { ThreadTrace };
 
-    ghost use Rattle.thread_traces.specs.ThreadOrder.{KeepsOrders};
+    ghost use Rattle.thread_traces.specs.WriteBits.{HaveBits};
 
-    ghost view = { λ t. (arc_value t.ordered).trace };
+    ghost view = { λ t. (arc_value t.marked).trace };
 
-    ghost invariant = { λ t. KeepsOrders (arc_value t.ordered) };
+    ghost invariant = { λ t. HaveBits (arc_value t.marked).trace.accesses (arc_value t.marked).written };
 }
 
 impl SharedTrace {
-    /// A trace, with its rows and its bits.
+    /// A trace, with its bits.
     pub fn new(alloc: Global, trace: ThreadTrace) -> Result<SharedTrace, AllocError>
-        requires { length trace.accesses ≤ ROW_BITS }
         ensures { IfOk result (λ shared. shared ≡ trace) }
     {
-        let accesses = trace.accesses.as_slice();
-        let sequential = thread_order(Kind::Sequential, accesses);
-        let location = thread_order(Kind::Location, accesses);
-        let global = thread_order(Kind::Global, accesses);
-        let written = write_bits(accesses);
-        let ordered = OrderedTrace {
-            trace,
-            written,
-            sequential,
-            location,
-            global,
-        };
+        let written = write_bits(trace.accesses.as_slice());
+        let marked = MarkedTrace { trace, written };
         Ok(SharedTrace {
-            ordered: Arc::new(alloc, ordered)?,
+            marked: Arc::new(alloc, marked)?,
         })
     }
 
@@ -99,14 +79,14 @@ impl SharedTrace {
     pub fn trace(&self) -> &ThreadTrace
         ensures { result.now ≡ self.now }
     {
-        &self.ordered.trace
+        &self.marked.trace
     }
 
     /// What access i of the thread reads and writes.
     pub fn access(&self, i: u8) -> Option<Access>
         ensures { result ≡ slice_get self.now.accesses i }
     {
-        self.ordered
+        self.marked
             .trace
             .accesses
             .as_slice()
@@ -118,32 +98,19 @@ impl SharedTrace {
     pub fn writes(&self, location: u8, value: u32) -> bool
         ensures { (i : ℕ) (x : Access) → slice_get self.now.accesses i ≡ Some x → x.location ≡ location → x.written ≡ Some value → IsTrue result }
     {
-        let ordered = &self.ordered;
-        if !has(ordered.written, write_bit(location, value)) {
+        let marked = &self.marked;
+        if !marked.written[write_bit(location, value)] {
             return false;
         }
-        writes_value(ordered.trace.accesses.as_slice(), location, value)
+        writes_value(marked.trace.accesses.as_slice(), location, value)
     }
 
-    /// The later accesses to which the union has program order from access i, by their indices.
-    pub fn later(&self, kind: Kind, i: u8) -> u32
-        requires { i < ROW_BITS }
-        ensures { (j : ℕ) → IsIn result j ↔ IsLaterIn kind self.now.accesses i j }
-    {
-        let ordered = &self.ordered;
-        match kind {
-            Kind::Sequential => ordered.sequential[i as usize],
-            Kind::Location => ordered.location[i as usize],
-            Kind::Global => ordered.global[i as usize],
-        }
-    }
-
-    /// The same trace.
+    /// A copy of the trace, which both share.
     pub fn copy(&self) -> Result<SharedTrace, AllocError>
         ensures { IfOk result (λ other. other ≡ self.now) }
     {
         Ok(SharedTrace {
-            ordered: Arc::try_clone(&self.ordered)?,
+            marked: Arc::try_clone(&self.marked)?,
         })
     }
 
@@ -151,17 +118,13 @@ impl SharedTrace {
     pub fn apart(&self, alloc: Global) -> Result<SharedTrace, AllocError>
         ensures { IfOk result (λ other. other ≡ self.now) }
     {
-        let ordered = &self.ordered;
-        let trace = ordered.trace.copy(alloc)?;
-        let own = OrderedTrace {
-            trace,
-            written: ordered.written,
-            sequential: ordered.sequential,
-            location: ordered.location,
-            global: ordered.global,
+        let marked = &self.marked;
+        let own = MarkedTrace {
+            trace: marked.trace.copy(alloc)?,
+            written: marked.written,
         };
         Ok(SharedTrace {
-            ordered: Arc::new(alloc, own)?,
+            marked: Arc::new(alloc, own)?,
         })
     }
 
@@ -169,7 +132,7 @@ impl SharedTrace {
     pub fn with_given(&self, alloc: Global, value: u32) -> Result<Items<u32>, AllocError>
         ensures { IfOk result (λ given. given ≡ self.now.given ++ value ∷ []) }
     {
-        let given = self.ordered.trace.given.as_slice();
+        let given = self.marked.trace.given.as_slice();
         let mut more = Vec::with_capacity(alloc, given.len() + 1)?;
         more.extend_from_slice(given)?;
         more.push(value)?;

@@ -51,7 +51,7 @@ pub(crate) fn count_from(thread: &CountedThread<'_>, local: Local, steps: usize,
     }
 }
 
-/// The same after a read, which takes each value of its location in turn.
+/// How many traces the thread has from a read on, which takes each value of its location in turn.
 #[cycle(count_from)]
 fn count_after(
     thread: &CountedThread<'_>,

@@ -1,9 +1,11 @@
 -- A valid cover tree at a sketch covers it: each completion has made the choice of one of the children, or is closed by a cycle, or ends as its leaf says.
-use Rattle.tree_laws.proofs.Vocabulary.{ℕ, List, [], ◌∷◌, Contains, map, sym, inl, inr, Listing, Outcome, Question, JumpForward, Machine, Event, Kind, Cover, Value, Source, Order, Cycle, Known, Covers, NoCover, MoreCovers, event_of, HasNextValues, HasSources}
-use Rattle.tree_laws.proofs.Vocabulary.{HasNoOrder, MustEndAsNumber, IsValidCover, AreValidCovers, IsCovered, Candidate, Sketch, Completes, IsConsistentCompletion, IsSketch, IsPair, with_value, with_source, with_pair, IsKnownCycle, some_value}
+use Rattle.tree_laws.proofs.Vocabulary.{ℕ, List, [], ◌∷◌, Contains, map, sym, subst, inl, inr, Listing, Outcome, Question, JumpForward, Machine, Event, Kind, Cover, Value, Source, Order, Cycle, Known, Covers, NoCover, MoreCovers, event_of, Choice, OpenChoice, AreChoices, AreTwo, sketch_with}
+use Rattle.tree_laws.proofs.Vocabulary.{MustEndAsNumber, IsValidCover, AreValidCovers, IsCovered, Candidate, Sketch, Completes, IsConsistentCompletion, IsSketch, IsPair, with_value, with_source, with_pair, IsKnownCycle, some_value}
 use Rattle.tree_laws.proofs.Vocabulary.{a_value_keeps_a_sketch, a_source_keeps_a_sketch, a_pair_keeps_a_sketch, each_has_a_value, each_has_a_source, each_has_an_order, AValidCoverCovers}
+use Rattle.tree_laws.specs.declared.choice.Choice.TheVariants as choice
+use Rattle.tree_laws.specs.declared.choice.OpenChoice.TheVariants as left
 use Rattle.candidate_executions.proofs.{Sketches.KnownCycles.known_cycle_refutes, Sketches.MustEnd.each_ends_so}
-use Rattle.tree_laws.proofs.Lists.{none_here, mapped, found_is_here, each_more}
+use Rattle.tree_laws.proofs.Lists.{none_here, first_is_here, later_is_here, mapped, found_is_here, each_more}
 
 -- a completion of one sketch that completes another
 of_other : (p : Listing) (mode : Machine) (k j : Sketch) (c : Candidate) → IsConsistentCompletion p mode k c → Completes j c → IsConsistentCompletion p mode j c
@@ -23,24 +25,33 @@ module _ (q : Question) (mode : Machine) (outcomes : List Outcome) (forward : Ju
   abbrev pub EachCovered : List Sketch → Type 0
   EachCovered ks = (k : Sketch) → Contains ks k → Covered k
 
-  pub by_values : (k : Sketch) (t : ℕ) (values : List ℕ) → HasNextValues p mode k t values → EachCovered (map (with_value k t) values) → Covered k
-  by_values k t values has each fits c is =
-      let (v, is_value, completes) = each_has_a_value p mode k c t has.location forward fits is.is_candidate is.completes has.next in
-      each (with_value k t v) (mapped (with_value k t) values v ((has.exact v).1 is_value))
-      (a_value_keeps_a_sketch p mode k t has.location v forward fits has.next) c (of_other p mode k (with_value k t v) c is completes)
+  -- the sketch after one of the choices is covered
+  after_one : (k : Sketch) (choices : List Choice) (c : Choice) → EachCovered (map (sketch_with k) choices) → Contains choices c → Covered (sketch_with k c)
+  after_one k choices c each here = each (sketch_with k c) (mapped (sketch_with k) choices c here)
 
-  pub by_sources : (k : Sketch) (e : Event) (sources : List Event) → HasSources p mode k e sources → EachCovered (map (with_source k e) sources) → Covered k
-  by_sources k e sources has each fits c is =
+  by_choices : (k : Sketch) (next : OpenChoice) (choices : List Choice) → AreChoices p mode k next choices → EachCovered (map (sketch_with k) choices) → Covered k
+  by_choices k (left.Value t) choices are each fits c is =
+      let (v, is_value, completes) = each_has_a_value p mode k c t are.next.location forward fits is.is_candidate is.completes are.next.next in
+      let here = mapped (choice.Value t) are.values v ((are.next.exact v).1 is_value) in
+      after_one k choices (choice.Value t v) each (subst (λ cs. Contains cs (choice.Value t v)) (sym are.each) here)
+      (a_value_keeps_a_sketch p mode k t are.next.location v forward fits are.next.next) c (of_other p mode k (with_value k t v) c is completes)
+  by_choices k (left.Source read) choices are each fits c is =
+      let e = event_of read in
+      let has = are.next in
       let (v, reads) = some_value has.access.read has.is_read in
       let (is_source, completes) = each_has_a_source p mode k c e has.access v forward fits is.is_candidate is.completes has.whole has.is_access reads in
-      each (with_source k e (c.source e)) (mapped (with_source k e) sources (c.source e) ((has.exact (c.source e)).1 is_source))
+      let here = mapped (choice.Source read) are.sources (c.source e) ((has.exact (c.source e)).1 is_source) in
+      after_one k choices (choice.Source read (c.source e)) each (subst (λ cs. Contains cs (choice.Source read (c.source e))) (sym are.each) here)
       (a_source_keeps_a_sketch p mode k e (c.source e) fits is_source) c (of_other p mode k (with_source k e (c.source e)) c is completes)
-
-  pub by_order : (k : Sketch) (d e : Event) → HasNoOrder p mode k d e → Covered (with_pair k d e) → Covered (with_pair k e d) → Covered k
-  by_order k d e has first second fits c is =
-      elim (each_has_an_order p mode k c d e fits is.is_candidate is.completes has.is_pair) [
-        | inl before ↦ first (a_pair_keeps_a_sketch p mode k d e fits has.is_pair) c (of_other p mode k (with_pair k d e) c is before)
-        | inr after ↦ second (a_pair_keeps_a_sketch p mode k e d fits (turned p mode k d e has.is_pair)) c (of_other p mode k (with_pair k e d) c is after)
+  by_choices k (left.Order first second) choices are each fits c is =
+      let d = event_of first in
+      let e = event_of second in
+      let pair = are.free.is_pair in
+      let both = subst (λ cs. EachCovered (map (sketch_with k) cs)) are.both each in
+      elim (each_has_an_order p mode k c d e fits is.is_candidate is.completes pair) [
+        | inl before ↦ both (with_pair k d e) (first_is_here (with_pair k d e) (with_pair k e d ∷ [])) (a_pair_keeps_a_sketch p mode k d e fits pair) c (of_other p mode k (with_pair k d e) c is before)
+        | inr after ↦ both (with_pair k e d) (later_is_here (with_pair k d e) (with_pair k e d ∷ []) (with_pair k e d) (first_is_here (with_pair k e d) []))
+            (a_pair_keeps_a_sketch p mode k e d fits (turned p mode k d e pair)) c (of_other p mode k (with_pair k e d) c is after)
       ]
 
   by_cycle : (k : Sketch) (kind : Kind) (es : List Event) → IsKnownCycle p mode k kind es → Covered k
@@ -53,15 +64,16 @@ module _ (q : Question) (mode : Machine) (outcomes : List Outcome) (forward : Ju
     each_ends_so q mode k c must.outcome forward fits is.is_candidate is.completes must.must_end,
   )
 
+  each_of_two : (P Q : Sketch → Type 0) → ((k : Sketch) → P k → Covered k) → ((k : Sketch) → Q k → Covered k) → (ks : List Sketch) → AreTwo P Q ks → EachCovered ks
+  each_of_two P Q first second (k ∷ (j ∷ [])) (one, other) = each_more Covered k (j ∷ []) (first k one) (each_more Covered j [] (second j other) (λ i here. absurd (none_here i here)))
+  each_of_two P Q first second ks valid = absurd valid
+
   mutual
     covered : (tree : Cover) (k : Sketch) → IsValidCover q mode outcomes tree k → Covered k
-    covered (Value t children) k (values, has, valid) = by_values k t values has (each_covered children (map (with_value k t) values) valid)
-    covered (Source read children) k (sources, has, valid) =
-        by_sources k (event_of read) sources has (each_covered children (map (with_source k (event_of read)) sources) valid)
-    covered (Order first second first_before second_before) k (has, before, after) =
-        by_order k (event_of first) (event_of second) has
-        (covered first_before (with_pair k (event_of first) (event_of second)) before)
-        (covered second_before (with_pair k (event_of second) (event_of first)) after)
+    covered (Value t children) k (choices, are, valid) = by_choices k (left.Value t) choices are (each_covered children (map (sketch_with k) choices) valid)
+    covered (Source read children) k (choices, are, valid) = by_choices k (left.Source read) choices are (each_covered children (map (sketch_with k) choices) valid)
+    covered (Order first second one other) k (choices, are, valid) =
+        by_choices k (left.Order first second) choices are (each_of_two (IsValidCover q mode outcomes one) (IsValidCover q mode outcomes other) (covered one) (covered other) (map (sketch_with k) choices) valid)
     covered (Cycle kind events) k known = by_cycle k kind (map event_of events) known
     covered (Known number) k must = by_outcome k number must
 

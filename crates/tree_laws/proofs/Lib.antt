@@ -4,6 +4,7 @@ pub mod Lists
 pub mod Filtered
 pub mod OneList
 pub mod InOrder
+pub mod AscendingSearched
 -- cover trees
 pub mod CoveredSketches
 pub mod ListedOutcomes

@@ -1,6 +1,8 @@
 -- What a node's children are for is determined: two lists in order with the same elements are the same.
-use Rattle.tree_laws.proofs.Vocabulary.{◌≡◌, ◌↔◌, ℕ, suc, ◌<◌, List, [], ◌∷◌, Contains, refl, sym, ◌∙◌, subst, inl, inr, arith, AllPairs, IsStrictlyIncreasing, same_Some, Event, Initial, At, IsValueOf, IsSourceOf, ComesBefore, AllPairs-from_increasing}
-use Rattle.tree_laws.proofs.Vocabulary.{IsOpenGap, TheValuesAreOneList, TheSourcesAreOneList, TheGapsAreOneList}
+use Rattle.tree_laws.proofs.Vocabulary.{◌≡◌, ◌↔◌, ℕ, suc, ◌<◌, List, [], ◌∷◌, Contains, map, refl, sym, ap, ◌∙◌, subst, inl, inr, arith, AllPairs, IsStrictlyIncreasing, same_Some, Event, Initial, At, IsValueOf, IsSourceOf, ComesBefore, AllPairs-from_increasing}
+use Rattle.tree_laws.proofs.Vocabulary.{IsOpenGap, event_of, TheValuesAreOneList, TheSourcesAreOneList, TheChoicesAreOneList, TheGapsAreOneList}
+use Rattle.tree_laws.specs.declared.choice.Choice.TheVariants as choice
+use Rattle.tree_laws.specs.declared.choice.OpenChoice.TheVariants as left
 use Rattle.tree_laws.proofs.Lists.{none_here, first_or_later, first_is_here, later_is_here}
 
 module _ {A : Type 0} (R : A → A → Type 0) (one_way : (x y : A) → R x y → R y x → ⊥) where
@@ -59,6 +61,13 @@ one_list_of_values p mode k t xs ys left right = one_list_of_numbers (IsValueOf 
 
 pub one_list_of_sources : TheSourcesAreOneList
 one_list_of_sources p mode k e xs ys left right = one_list_of ComesBefore comes_one_way (λ s. IsSourceOf p mode k s e) xs ys left.in_order right.in_order left.exact right.exact
+
+-- so the choices of what is open are one list
+pub one_list_of_choices : TheChoicesAreOneList
+one_list_of_choices p mode k (left.Value t) xs ys one other = one.each ∙ ap (map (choice.Value t)) (one_list_of_values p mode k t one.values other.values one.next other.next) ∙ sym other.each
+one_list_of_choices p mode k (left.Source read) xs ys one other =
+    one.each ∙ ap (map (choice.Source read)) (one_list_of_sources p mode k (event_of read) one.sources other.sources one.next other.next) ∙ sym other.each
+one_list_of_choices p mode k (left.Order first second) xs ys one other = one.both ∙ sym other.both
 
 pub one_list_of_gaps : TheGapsAreOneList
 one_list_of_gaps p runs n number xs ys left right = one_list_of_numbers (IsOpenGap p left.labels n.never) xs ys left.ascending right.ascending left.exact

@@ -1,7 +1,10 @@
 -- Store buffering: its cover tree is valid in each mode, given the cycle of the mode.
 use Rattle.tree_laws.proofs.Vocabulary.{◌≢◌, is_some, ◌≡◌, ℕ, zero, suc, ◌<◌, List, [], ◌∷◌, Some, Contains, slice_get, slice_index, map, refl, sym, ap, ◌∙◌, subst, inl, inr, arith, lit<, AllPairs, same_Some, Outcome, All, Machine, Access, Event, Initial, At}
-use Rattle.tree_laws.proofs.Vocabulary.{Kind, access_by, Writes, Sketch, empty_sketch, given_to, IsStrictlyIncreasing, IsKnownCycle, with_value, with_source, IsSourceOf, MayBeLast, MustEndAs, ComesBefore, event_of, MustEndAsNumber, HasNextValues, HasSources}
+use Rattle.tree_laws.proofs.Vocabulary.{Kind, access_by, Writes, Sketch, empty_sketch, given_to, IsStrictlyIncreasing, IsKnownCycle, with_value, with_source, IsSourceOf, MayBeLast, MustEndAs, ComesBefore, event_of, MustEndAsNumber, HasNextValues, HasSources, AreChoices}
 use Rattle.tree_laws.proofs.Vocabulary.{IsValidCover, Question, asked, store_buffering, ends_with, around, cover_of}
+use Rattle.cert_forest.specs.{AccessId.AccessId, StoreBuffering.access}
+use Rattle.tree_laws.specs.declared.choice.Choice.TheVariants as choice
+use Rattle.tree_laws.specs.declared.choice.OpenChoice.TheVariants as left
 use Rattle.tree_laws.proofs.Lists.{none_here, first_or_later, first_is_here}
 use Rattle.tree_laws.proofs.StoreBufferingValues.{zero_one, values, both, whole, writes_one, writes_initial}
 
@@ -144,13 +147,31 @@ module _ (mode : Machine) where
   abbrev pub read_twice : Sketch
   read_twice = with_source read_once (At 1 1) (Initial 0)
 
+  -- the choices of a thread's next read, and of a read with one source
+  by_zero_one : (t : ℕ) (k : Sketch) → HasNextValues store_buffering mode k t zero_one → AreChoices store_buffering mode k (left.Value t) (map (choice.Value t) zero_one)
+  by_zero_one t k next = record { values = zero_one; next = next; each = refl }
+
+  by_one : (read : AccessId) (source : Event) (k : Sketch) → HasSources store_buffering mode k (event_of read) (source ∷ []) → AreChoices store_buffering mode k (left.Source read) (choice.Source read source ∷ [])
+  by_one read source k next = record { sources = source ∷ []; next = next; each = refl }
+
   pub cover_is_valid : (kind : Kind) → IsKnownCycle store_buffering mode read_twice kind (map event_of around) → IsValidCover question mode outcomes (cover_of kind) (empty_sketch store_buffering)
   cover_is_valid kind cycle = (
-    zero_one,
-    first_next,
+    map (choice.Value 0) zero_one,
+    by_zero_one 0 (empty_sketch store_buffering) first_next,
     (
-      (zero_one, second_next 0, ((Initial 1 ∷ [], first_source, ((Initial 0 ∷ [], second_source, (cycle, tt)), tt)), (known 0 0 1 refl, tt))),
-      ((zero_one, second_next 1, (known 1 1 0 refl, (known 2 1 1 refl, tt))), tt),
+      (
+        map (choice.Value 1) zero_one,
+        by_zero_one 1 (with_value (empty_sketch store_buffering) 0 0) (second_next 0),
+        (
+          (
+            choice.Source (access 0 1) (Initial 1) ∷ [],
+            by_one (access 0 1) (Initial 1) (both 0 0) first_source,
+            ((choice.Source (access 1 1) (Initial 0) ∷ [], by_one (access 1 1) (Initial 0) read_once second_source, (cycle, tt)), tt),
+          ),
+          (known 0 0 1 refl, tt),
+        ),
+      ),
+      ((map (choice.Value 1) zero_one, by_zero_one 1 (with_value (empty_sketch store_buffering) 0 1) (second_next 1), (known 1 1 0 refl, (known 2 1 1 refl, tt))), tt),
     ),
   )
     where

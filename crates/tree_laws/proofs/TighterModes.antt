@@ -1,13 +1,14 @@
 -- A cover tree that is valid in a mode is valid in each tighter one: of what is known of a sketch only sections change, and of two modes with gaps fenced they come no closer.
 use Rattle.tree_laws.proofs.Vocabulary.{◌≡◌, ◌⊎◌, ℕ, Bool, List, [], ◌∷◌, Some, slice_get, IsSome, map, length, sym, ap, ◌∙◌, subst, inl, inr, range_with_len, Local, Listing, Outcome, Machine, SequentialMachine, StoreBufferMachine, Access, Event, Initial, At}
-use Rattle.tree_laws.proofs.Vocabulary.{Kind, access_by, Writes, Cover, Value, Source, Order, Cycle, Known, Covers, NoCover, MoreCovers, event_of, HasNextValues, HasSources, HasNoOrder, IsValidCover, AreValidCovers, Truth, Question, show_registers, action}
-use Rattle.tree_laws.proofs.Vocabulary.{start_of, code_of, Gaps, trace_by, Sketch, given_to, IsSourceOf, IsPair, with_value, with_source, with_pair, read_by, next_read, IsWhole, MayBeLast, stopped, EndsInValues, KnownAtom, EndsAs, MustEndAs, IsBefore}
+use Rattle.tree_laws.proofs.Vocabulary.{Kind, access_by, Writes, Cover, Value, Source, Order, Cycle, Known, Covers, NoCover, MoreCovers, event_of, Choice, OpenChoice, AreChoices, AreTwo, sketch_with, HasNextValues, HasSources, HasNoOrder, IsValidCover, AreValidCovers, Truth, Question, show_registers, action}
+use Rattle.tree_laws.proofs.Vocabulary.{start_of, code_of, Gaps, trace_by, Sketch, given_to, IsSourceOf, IsPair, read_by, next_read, IsWhole, MayBeLast, stopped, EndsInValues, KnownAtom, EndsAs, MustEndAs, IsBefore}
 use Rattle.tree_laws.proofs.Vocabulary.{KnownFromReads, KnownRelates, KnownEdgeOfMode, IsKnownCycle, ATighterModeKeepsACover, ATighterModeKeepsTheValues, ATighterModeKeepsAWholeSketch, bare, threads_alike, also, writes}
 use mathlib.Core.Path.{fun_ext}
 use Rattle.tso_program.specs.{declared.shown.Shown.Shown, declared.atom.Atom.Atom, Truth.is_true_at}
 use Rattle.tso_program.specs.declared.atom.Atom.TheVariants as atom
 use Rattle.tso_program.proofs.KnownTruths.{known_more}
 use Rattle.candidate_executions.specs.declared.event.Kind.TheVariants as union
+use Rattle.tree_laws.specs.declared.choice.OpenChoice.TheVariants as left
 use Rattle.candidate_executions.specs.Consistency.{Precedes, KeepsOrder, IsOfMode}
 use Rattle.candidate_executions.proofs.Orders.WiderRelations.{cycle_wider}
 use Rattle.tree_laws.specs.TighterModes.{AreGapsAmong, IsNoLooser, kind_in, changed, each_changed}
@@ -98,6 +99,11 @@ module _ (p : Listing) (loose tight : Machine) (tighter : IsNoLooser loose tight
   order_forth : (d e : Event) → HasNoOrder p loose k d e → HasNoOrder p tight k d e
   order_forth d e has = record { whole = whole_forth has.whole; is_pair = pair_forth d e has.is_pair; free = has.free }
 
+  choices_forth : (next : OpenChoice) (choices : List Choice) → AreChoices p loose k next choices → AreChoices p tight k next choices
+  choices_forth (left.Value t) choices are = record { values = are.values; next = values_forth t are.values are.next; each = are.each }
+  choices_forth (left.Source read) choices are = record { sources = are.sources; next = sources_forth (event_of read) are.sources are.next; each = are.each }
+  choices_forth (left.Order first second) choices are = record { free = order_forth (event_of first) (event_of second) are.free; both = are.both }
+
   written_back : (e : Event) (l v : ℕ) → Writes (access_by p tight (given_to k)) e l v → Writes (access_by p loose (given_to k)) e l v
   written_back = writes p (given_to k) tight loose
 
@@ -121,6 +127,11 @@ module _ (p : Listing) (loose tight : Machine) (tighter : IsNoLooser loose tight
 
   cycle_forth : (kind : Kind) (es : List Event) → IsKnownCycle p loose k kind es → IsKnownCycle p tight k (kind_in tight kind) es
   cycle_forth kind = cycle_wider (KnownEdgeOfMode p loose k kind) (KnownEdgeOfMode p tight k (kind_in tight kind)) (edge_forth kind)
+
+-- what holds of two sketches
+pub both_kept : (P Q R S : Sketch → Type 0) → ((k : Sketch) → P k → R k) → ((k : Sketch) → Q k → S k) → (ks : List Sketch) → AreTwo P Q ks → AreTwo R S ks
+both_kept P Q R S first second (k ∷ (j ∷ [])) (one, other) = (first k one, second j other)
+both_kept P Q R S first second ks both = absurd both
 
 module _ (q : Question) (loose tight : Machine) (tighter : IsNoLooser loose tight) where
   abbrev p : Listing
@@ -163,14 +174,12 @@ module _ (q : Question) (loose tight : Machine) (tighter : IsNoLooser loose tigh
       (moves : (n : ℕ) (o : Outcome) → slice_get old n ≡ Some o → slice_get new (place n) ≡ Some o) where
     mutual
       pub kept : (tree : Cover) (k : Sketch) → IsValidCover q loose old tree k → IsValidCover q tight new (changed kinds place tree) k
-      kept (Value t children) k (values, has, valid) =
-          (values, values_forth p loose tight tighter k t values has, each_kept children (map (with_value k t) values) valid)
-      kept (Source read children) k (sources, has, valid) =
-          (sources, sources_forth p loose tight tighter k (event_of read) sources has, each_kept children (map (with_source k (event_of read)) sources) valid)
-      kept (Order one other one_before other_before) k (has, before, after) = (
-        order_forth p loose tight tighter k (event_of one) (event_of other) has,
-        kept one_before (with_pair k (event_of one) (event_of other)) before,
-        kept other_before (with_pair k (event_of other) (event_of one)) after,
+      kept (Value t children) k (choices, are, valid) = (choices, choices_forth p loose tight tighter k (left.Value t) choices are, each_kept children (map (sketch_with k) choices) valid)
+      kept (Source read children) k (choices, are, valid) = (choices, choices_forth p loose tight tighter k (left.Source read) choices are, each_kept children (map (sketch_with k) choices) valid)
+      kept (Order first second one other) k (choices, are, valid) = (
+        choices,
+        choices_forth p loose tight tighter k (left.Order first second) choices are,
+        both_kept (IsValidCover q loose old one) (IsValidCover q loose old other) (IsValidCover q tight new (changed kinds place one)) (IsValidCover q tight new (changed kinds place other)) (kept one) (kept other) (map (sketch_with k) choices) valid,
       )
       kept (Cycle kind events) k cycle = cycles k kind (map event_of events) cycle
       kept (Known number) k must = record { outcome = must.outcome; is_outcome = moves number must.outcome must.is_outcome; must_end = must_end k must.outcome must.must_end }

@@ -47,9 +47,11 @@ pub use Rattle.tso_program.specs.declared.listing.Listing.{Listing}
 pub use Rattle.tso_program.specs.declared.outcome.Outcome.{Outcome}
 pub use Rattle.tso_program.specs.declared.shown.Shown.TheVariants.{All, Truth}
 pub use Rattle.tree_laws.specs.Certificates.{AreSequentialRuns, IsRunOutside, IsValidCertificate}
-pub use Rattle.tree_laws.specs.CoverTrees.{AreValidCovers, HasNextValues, HasNoOrder, HasSources, IsCovered, IsValidCover, MustEndAsNumber, event_of}
+pub use Rattle.tree_laws.specs.CoverTrees.{AreChoices, AreTwo, AreValidCovers, HasNextValues, HasNoOrder, HasSources, IsCovered, IsValidCover, MustEndAsNumber, event_of, sketch_with}
 pub use Rattle.tree_laws.specs.GapTrees.{AreValidGaps, EachBetterOfRegionLeavesOutcome, HaveCosts, IsOpenGap, IsSplitBy, IsValidGap, PassesGap}
 pub use Rattle.tree_laws.specs.Laws.{ACoveredListHasEachOutcome, ASplitLosesNoSet, ATighterModeKeepsACover, ATighterModeKeepsAWholeSketch, ATighterModeKeepsTheValues, AValidCertificateProves}
 pub use Rattle.tree_laws.specs.Laws.{AValidCoverCovers, AValidFencedTreeServes, AValidGapTreeLeavesNoBetter, AValidTreeMakesTheSequentialList, CoversAreJudgedInOrder, GapsAreJudgedInOrder, IsForeign}
-pub use Rattle.tree_laws.specs.Laws.{IsSequentialList, SoNoServingSetIsBetter, TheGapsAreOneList, TheRootHasEverySet, TheSourcesAreOneList, TheValuesAreOneList}
+pub use Rattle.tree_laws.specs.Laws.{IsSequentialList, SoNoServingSetIsBetter, TheChoicesAreOneList, TheGapsAreOneList, TheRootHasEverySet, TheSourcesAreOneList, TheValuesAreOneList}
+pub use Rattle.tree_laws.specs.declared.choice.Choice.{Choice}
+pub use Rattle.tree_laws.specs.declared.choice.OpenChoice.{OpenChoice}
 pub use Rattle.tree_laws.specs.StoreBuffering.{StoreBufferingIsCertified, costs}

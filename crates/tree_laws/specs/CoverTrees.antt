@@ -1,4 +1,4 @@
--- Trees that show the outcome of each completion of a sketch: when they are valid, and what they mean (this project's own definitions; docs/definitions.md).
+-- Trees that show the outcome of each completion of a sketch: which choices there are, when the trees are valid, and what they mean (this project's own definitions; docs/definitions.md).
 use Rattle.std.specs.Prelude.{◌≡◌, ◌↔◌, ◌⊎◌, ℕ, List, [], ◌∷◌, Some, IsSome, Contains, slice_get, map}
 use Rattle.std.specs.List.{AllPairs}
 use Rattle.std.specs.List.Sorted.{IsStrictlyIncreasing}
@@ -14,6 +14,10 @@ use Rattle.candidate_executions.specs.Candidates.{Candidate, access_by, HasShown
 use Rattle.candidate_executions.specs.Sketches.{Sketch, given_to, IsConsistentCompletion, IsSourceOf, IsPair, with_value, with_source, with_pair, next_read, IsWhole, MustEndAs, IsKnownCycle}
 use Rattle.cert_forest.specs.AccessId.{AccessId}
 use Rattle.cert_forest.specs.Trees.{Cover, Value, Source, Order, Cycle, Known, Covers, NoCover, MoreCovers}
+use Rattle.tree_laws.specs.declared.choice.Choice.{Choice}
+use Rattle.tree_laws.specs.declared.choice.Choice.TheVariants as choice
+use Rattle.tree_laws.specs.declared.choice.OpenChoice.{OpenChoice}
+use Rattle.tree_laws.specs.declared.choice.OpenChoice.TheVariants as left
 
 abbrev pub event_of : AccessId → Event
 event_of a = At a.thread a.access
@@ -42,6 +46,45 @@ module _ (p : Listing) (mode : Machine) where
     pub is_pair : IsPair p mode k d e
     pub free : ¬ (Contains k.pairs (d, e) ⊎ Contains k.pairs (e, d))
 
+-- the sketch with the choice
+abbrev pub sketch_with : Sketch → Choice → Sketch
+sketch_with k (choice.Value t v) = with_value k t v
+sketch_with k (choice.Source read source) = with_source k (event_of read) source
+sketch_with k (choice.Order first second) = with_pair k (event_of first) (event_of second)
+
+module _ (p : Listing) (mode : Machine) (k : Sketch) where
+  -- these choices give thread t's next read its values, ascending
+  pub record AreValueChoices (t : ℕ) (choices : List Choice) : Type 0 where
+    pub values : List ℕ
+    pub next : HasNextValues p mode k t values
+    pub each : choices ≡ map (choice.Value t) values
+
+  -- these choices give a read its sources, in their order
+  pub record AreSourceChoices (read : AccessId) (choices : List Choice) : Type 0 where
+    pub sources : List Event
+    pub next : HasSources p mode k (event_of read) sources
+    pub each : choices ≡ map (choice.Source read) sources
+
+  -- these choices are both orders of two writes that have none
+  pub record AreOrderChoices (first second : AccessId) (choices : List Choice) : Type 0 where
+    pub free : HasNoOrder p mode k (event_of first) (event_of second)
+    pub both : choices ≡ choice.Order first second ∷ choice.Order second first ∷ []
+
+  -- it is left to be chosen, and these are its choices, in order
+  abbrev pub AreChoices : OpenChoice → List Choice → Type 0
+  AreChoices (left.Value t) choices = AreValueChoices t choices
+  AreChoices (left.Source read) choices = AreSourceChoices read choices
+  AreChoices (left.Order first second) choices = AreOrderChoices first second choices
+
+  -- it is left to be chosen, and the sketches after its choices, in order, have the property
+  abbrev pub AfterChoices : OpenChoice → (List Sketch → Type 0) → Type 0
+  AfterChoices next P = (choices : List Choice) × AreChoices next choices × P (map (sketch_with k) choices)
+
+-- of two sketches the first has the one property, and the second the other
+abbrev pub AreTwo : (Sketch → Type 0) → (Sketch → Type 0) → List Sketch → Type 0
+AreTwo P Q (k ∷ (j ∷ [])) = P k × Q j
+AreTwo P Q ks = ⊥
+
 module _ (q : Question) (mode : Machine) (outcomes : List Outcome) where
   -- the sketch must end as the outcome of this number
   pub record MustEndAsNumber (k : Sketch) (number : ℕ) : Type 0 where
@@ -50,16 +93,12 @@ module _ (q : Question) (mode : Machine) (outcomes : List Outcome) where
     pub must_end : MustEndAs q mode k outcome
 
   abbrev mutual
-    -- The tree is valid at the sketch: a child for each value or source, under that choice; a child for each order of two
-    -- writes; a cycle of known edges; or an outcome as which the sketch must end.
+    -- The tree is valid at the sketch: a child for each choice of a value, a source or an order, valid after it; a cycle of
+    -- known edges; or an outcome as which the sketch must end.
     pub IsValidCover : Cover → Sketch → Type 0
-    IsValidCover (Value t children) k = (values : List ℕ) × HasNextValues q.program mode k t values × AreValidCovers children (map (with_value k t) values)
-    IsValidCover (Source read children) k =
-        (sources : List Event) × HasSources q.program mode k (event_of read) sources × AreValidCovers children (map (with_source k (event_of read)) sources)
-    IsValidCover (Order first second first_before second_before) k =
-        HasNoOrder q.program mode k (event_of first) (event_of second)
-        × IsValidCover first_before (with_pair k (event_of first) (event_of second))
-        × IsValidCover second_before (with_pair k (event_of second) (event_of first))
+    IsValidCover (Value t children) k = AfterChoices q.program mode k (left.Value t) (λ ks. AreValidCovers children ks)
+    IsValidCover (Source read children) k = AfterChoices q.program mode k (left.Source read) (λ ks. AreValidCovers children ks)
+    IsValidCover (Order first second one other) k = AfterChoices q.program mode k (left.Order first second) (AreTwo (λ j. IsValidCover one j) (λ j. IsValidCover other j))
     IsValidCover (Cycle kind events) k = IsKnownCycle q.program mode k kind (map event_of events)
     IsValidCover (Known number) k = MustEndAsNumber k number
 

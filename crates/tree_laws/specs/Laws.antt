@@ -15,7 +15,9 @@ use Rattle.tso_machine.specs.Outcomes.{AllowsShown, IsSequentialOutcome, Serves,
 use Rattle.candidate_executions.specs.declared.event.Event.{Event}
 use Rattle.candidate_executions.specs.Sketches.{Sketch, empty_sketch, IsSketch, IsWhole}
 use Rattle.cert_forest.specs.Trees.{Cover, Gap, covers_of, gap_trees_of}
-use Rattle.tree_laws.specs.CoverTrees.{HasNextValues, HasSources, IsValidCover, AreValidCovers, IsCovered}
+use Rattle.tree_laws.specs.declared.choice.Choice.{Choice}
+use Rattle.tree_laws.specs.declared.choice.OpenChoice.{OpenChoice}
+use Rattle.tree_laws.specs.CoverTrees.{HasNextValues, HasSources, AreChoices, IsValidCover, AreValidCovers, IsCovered}
 use Rattle.tree_laws.specs.TighterModes.{IsNoLooser, in_mode}
 use Rattle.tree_laws.specs.GapTrees.{IsSplitBy, IsValidGap, AreValidGaps, EachBetterOfRegionLeavesOutcome, NoServingSetIsBetter, HaveCosts}
 use Rattle.cert_forest.specs.Certificates.{Certificate}
@@ -104,6 +106,11 @@ TheValuesAreOneList = (p : Listing) (mode : Machine) (k : Sketch) (t : ℕ) (xs 
 abbrev pub TheSourcesAreOneList : Type 0
 TheSourcesAreOneList = (p : Listing) (mode : Machine) (k : Sketch) (e : Event) (xs ys : List Event) →
     HasSources p mode k e xs → HasSources p mode k e ys → xs ≡ ys
+
+-- so the choices of what is open, whatever is
+abbrev pub TheChoicesAreOneList : Type 0
+TheChoicesAreOneList = (p : Listing) (mode : Machine) (k : Sketch) (next : OpenChoice) (xs ys : List Choice) →
+    AreChoices p mode k next xs → AreChoices p mode k next ys → xs ≡ ys
 
 -- the gaps that split a region
 abbrev pub TheGapsAreOneList : Type 0

@@ -1,4 +1,6 @@
+pub mod Ascending
 pub mod CoverTrees
+pub mod Covers
 pub mod TighterModes
 pub mod GapTrees
 pub mod Certificates

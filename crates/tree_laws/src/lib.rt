@@ -1,7 +1,7 @@
 //! When a certificate's trees are valid, and that a valid certificate proves the headline.
 //!
-//! Laws alone. The definitions in `specs/` are those of validity: a change there changes which certificates
-//! are accepted.
+//! Laws, and the choices of which a cover tree's nodes speak. The definitions in `specs/` are those of validity: a
+//! change there changes which certificates are accepted.
 //!
 //! Begin with `a_valid_certificate_proves_the_headline`, `a_valid_cover_tree_covers` and
 //! `a_valid_gap_tree_leaves_no_better`. Free to change: the proofs. Relied on: the checker judges these
@@ -9,8 +9,10 @@
 //! valid with any gaps fenced (`a_tighter_mode_keeps_a_cover`), which lets the solver search once.
 #![tactic(auto)]
 
+mod choice;
 mod laws;
 
+pub use choice::{Choice, OpenChoice, event_of};
 pub use laws::{
     a_split_loses_no_set, a_tighter_mode_keeps_a_cover, a_valid_certificate_proves_the_headline,
     a_valid_cover_tree_covers, a_valid_fenced_tree_serves, a_valid_gap_tree_leaves_no_better,

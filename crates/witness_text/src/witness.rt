@@ -34,7 +34,7 @@ pub struct WitnessText {
     pub lines: Vec<u8>,
     /// The candidate execution of the run, as a graph in Graphviz's language.
     pub graph: Vec<u8>,
-    /// The same, as JSON.
+    /// What is printed with `--json`.
     pub document: Vec<u8>,
 }
 

@@ -1,7 +1,7 @@
 -- How the runs of a record are listed, and how its gap tree is put together.
 use Rattle.std.specs.Prelude.{◌≡◌, ℕ, List, [], ◌∷◌, ◌++◌, Some, slice_get, length, Contains}
-use Rattle.cover_solver.specs.Label.{Label}
-use Rattle.cover_solver.specs.Facts.{Foreign}
+use Rattle.tso_machine.specs.declared.label.Label.{Label}
+use Rattle.oracle.specs.Facts.{Foreign}
 use Rattle.cert_forest.specs.GapNode.{GapNode}
 use Rattle.cert_forest.specs.Trees.{Gap, gap_trees_of}
 use Rattle.cert_forest.specs.GapNodes.{spell_gap, spell_gaps}

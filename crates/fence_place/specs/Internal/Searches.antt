@@ -2,9 +2,9 @@
 use Rattle.std.specs.Prelude.{◌≡◌, ◌<◌, ℕ, Bool, false, List, Some, Result, IfErr, OnOk, slice_get}
 use Rattle.gap_sets.specs.declared.region.Region.{Region}
 use Rattle.tso_program.specs.Shown.{Question}
-use Rattle.cover_solver.specs.Outcomes.{AreGapsOf}
-use Rattle.cover_solver.specs.declared.fault.SolveFault.{SolveFault}
-use Rattle.cover_solver.specs.Facts.{Foreign, AreOf}
+use Rattle.tso_machine.specs.Outcomes.{AreGapsOf}
+use Rattle.oracle.specs.declared.fault.SolveFault.{SolveFault}
+use Rattle.oracle.specs.Facts.{Foreign, AreOf}
 use Rattle.search_core.specs.declared.entry.Entry.{Entry}
 use Rattle.search_core.specs.declared.finished.SettledEvent.{SettledEvent}
 use Rattle.search_core.specs.declared.finished.SettledEvent.TheVariants as event

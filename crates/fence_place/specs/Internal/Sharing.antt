@@ -2,9 +2,9 @@
 use Rattle.std.specs.Prelude.{◌≡◌}
 use Rattle.gap_sets.specs.declared.region.Region.{Region}
 use Rattle.tso_program.specs.Shown.{Question}
-use Rattle.cover_solver.specs.declared.oracle.Verdict.TheVariants as verdict
-use Rattle.cover_solver.specs.Facts as facts
-use Rattle.cover_solver.specs.Verdicts.{IsVerdictOf}
+use Rattle.oracle.specs.declared.oracle.Verdict.TheVariants as verdict
+use Rattle.oracle.specs.Facts as facts
+use Rattle.oracle.specs.Verdicts.{IsVerdictOf}
 use Rattle.hunt_board.specs.Seats.{HuntView, SeatView, IsOf}
 
 -- the seat is of the hunt, and its number, its node and its best set are as before

@@ -2,8 +2,8 @@
 use Rattle.std.specs.Prelude.{◌≡◌, Bool, true, false, ℕ, List, Option, Some, None, IfSome, Result, IfErr, OnOk, OnErr, slice_get}
 use Rattle.gap_sets.specs.declared.region.Region.{Region}
 use Rattle.tso_program.specs.Shown.{Question}
-use Rattle.cover_solver.specs.Outcomes.{AreGapsOf}
-use Rattle.cover_solver.specs.Facts.{AreOf}
+use Rattle.tso_machine.specs.Outcomes.{AreGapsOf}
+use Rattle.oracle.specs.Facts.{AreOf}
 use Rattle.hunt_board.specs.Seats.{HuntView, IsOf}
 use Rattle.fence_place.specs.declared.fault.PlaceFault.{PlaceFault}
 use Rattle.fence_place.specs.declared.fault.PlaceFault.TheVariants as fault

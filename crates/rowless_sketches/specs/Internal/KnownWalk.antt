@@ -6,9 +6,9 @@ use Rattle.tso_program.specs.declared.node.Node.TheVariants as node
 use Rattle.tso_program.specs.Tree.{Tree}
 use Rattle.tso_program.specs.Tree as tree
 use Rattle.tso_program.specs.Nodes.{Half, AndOf, OrOf}
-use Rattle.known_edges.specs.declared.known_truth.Knowledge.{Knowledge}
-use Rattle.known_edges.specs.declared.known_truth.Left.{Left, TheVariants.OfAnd, TheVariants.OfOr}
-use Rattle.known_edges.specs.ProgramSketches.{ProgramSketch}
+use Rattle.program_sketches.specs.declared.known_truth.Knowledge.{Knowledge}
+use Rattle.program_sketches.specs.declared.known_truth.Left.{Left, TheVariants.OfAnd, TheVariants.OfOr}
+use Rattle.program_sketches.specs.ProgramSketches.{ProgramSketch}
 use Rattle.rowless_sketches.specs.Knowledge.{Knows}
 
 -- the part that was read last, and the left operands that wait, after one node more

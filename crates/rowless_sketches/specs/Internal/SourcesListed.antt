@@ -4,7 +4,7 @@ use Rattle.std.specs.List.{AllPairs}
 use Rattle.candidate_executions.specs.declared.event.Event.{Event, TheVariants.Access as At}
 use Rattle.candidate_executions.specs.Events.{ComesBefore}
 use Rattle.candidate_executions.specs.Sketches.{IsSourceOf}
-use Rattle.known_edges.specs.ProgramSketches.{ProgramSketch, mode_in}
+use Rattle.program_sketches.specs.ProgramSketches.{ProgramSketch, mode_in}
 
 -- those that come before access i of thread t, in their order
 pub record AreListedTo (s : ProgramSketch) (read : Event) (t i : ℕ) (listed : List Event) : Type 0 where

@@ -1,7 +1,15 @@
-use Rattle.branching.proofs.Vocabulary.{subst, MayChooseEach, IsOpen}
-use Rattle.cover_judge.proofs.Answered.{if_ok}
+use Rattle.std.specs.Prelude.{IfOk}
+use Rattle.branching.proofs.Vocabulary.{sym, subst, MayChooseEach, IsOpen, event_of}
+use Rattle.cover_judge.proofs.{Answered.if_ok, ChoicesJudged.no_order}
+use Rattle.cover_judge.specs.Choices.{AreChoicesOf}
+use Rattle.tree_laws.specs.declared.choice.OpenChoice.TheVariants as left
 use Rattle.branching.proofs.NothingLeft.{both_may}
 use Rattle.branching.proofs.branch.choices_of.Goals as goal
+
+pub returns-in-Order-clause-choices : goal.returns-in-Order-clause-choices
+returns-in-Order-clause-choices c = subst (λ next. IfOk c.both_orders.result (λ choices. AreChoicesOf c.args.sketch.now next choices.items)) (sym c.in-Order.is)
+    (if_ok c.both_orders.result _ (λ choices. AreChoicesOf c.args.sketch.now (left.Order c.in-Order.first c.in-Order.second) choices.items)
+    (λ choices same. record { free = no_order c.args.sketch.now (event_of c.in-Order.first) (event_of c.in-Order.second) (subst (IsOpen c.args.sketch.now) c.in-Order.is c.requires); both = same }) c.both_orders.ensures)
 
 pub returns-in-Order-clause-may : goal.returns-in-Order-clause-may
 returns-in-Order-clause-may c = if_ok c.both_orders.result _ (λ choices. MayChooseEach c.args.sketch.now choices.items)

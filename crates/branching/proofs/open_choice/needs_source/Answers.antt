@@ -1,6 +1,6 @@
 use Rattle.branching.proofs.Vocabulary.{◌≡◌, ◌↔◌, ℕ, Option, Some, Contains, true, false, not, IsSome, refl, sym, subst, ap, ◌∙◌, Event, event_of}
 use Rattle.std.specs.Option.{is_some}
-use Rattle.sketches.proofs.Chosen.{has_source_by}
+use Rattle.program_sketches.proofs.Chosen.{has_source_by}
 use Rattle.branching.proofs.open_choice.needs_source.Goals as goal
 
 pub returns-clause-needs : goal.returns-clause-needs

@@ -1,5 +1,5 @@
 use Rattle.branching.proofs.Vocabulary.{get_or, ◌∙◌, arith}
-use Rattle.cover_judge.specs.declared.choice.Choice.TheVariants as choice
+use Rattle.tree_laws.specs.declared.choice.Choice.TheVariants as choice
 use Rattle.branching.proofs.{Rounds.fewer_rounds, ValueTrees.child_more}
 use Rattle.branching.proofs.traces.+value_tree.Goals as goal
 

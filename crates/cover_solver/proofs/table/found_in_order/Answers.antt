@@ -1,6 +1,6 @@
 use Rattle.cover_solver.proofs.Vocabulary.{◌↔◌, Contains, List, ℕ, map, refl, ◌∙◌, ap, subst, asked, machine_of_mode, AllowsShown, AreRunsOf, Outcome, place_in, renumbered, items_of, renumbered_item, SequentialMachine}
 use Rattle.tso_machine.specs.declared.mode.Mode.{Mode}
-use Rattle.outcome_search.specs.Covers.{IsWholeCover}
+use Rattle.tree_laws.specs.Covers.{IsWholeCover}
 use Rattle.cert_forest.proofs.NodeLaws.{is_tree, same_tree}
 use Rattle.outcome_search.specs.NodeChanges.{renumbered_node}
 use Rattle.outcome_search.proofs.PartialRenumbered.{table_renumbered, tree_renumbered}

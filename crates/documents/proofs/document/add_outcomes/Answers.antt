@@ -1,5 +1,5 @@
 use Rattle.documents.proofs.Vocabulary.{ℕ, List, [], ◌∷◌, codes, quoted, member, on_ok_weaker, truth_text, Machine, setting_member, is_observed, outcomes_array}
-use Rattle.report.specs.Observations.{frequency, is_true_of}
+use Rattle.report.specs.Observations.{frequency}
 use Rattle.documents.proofs.Told.{added}
 use Rattle.documents.proofs.document.add_outcomes.Goals as goal
 
@@ -13,7 +13,7 @@ returns c =
     let observed : List ℕ = member (codes "observed") (truth_text (is_observed c.args.shown.now)) in
     let list : List ℕ = member (codes "outcomes") (outcomes_array litmus.names c.args.shown.now all) in
     let often : List ℕ = member (codes "observation") (quoted (frequency formula all)) in
-    let two = added first (model ∷ []) observed _ _ (c.in_ok-add_model.ensures litmus.program) (rw (c.in_ok-truth.ensures, c.is_observed.ensures) at c.in_ok-add.ensures) in
-    let three = added first (model ∷ observed ∷ []) list _ _ two (rw c.in_ok-list.ensures at c.in_ok-add-2.ensures) in
-    let four = added first (model ∷ observed ∷ list ∷ []) often _ _ three (rw c.in_ok-observation.ensures at c.in_ok-add-3.ensures) in
-    on_ok_weaker c.add-4.result (λ more. added first (model ∷ observed ∷ list ∷ often ∷ []) _ _ _ four (rw (c.in_ok-truth-2.ensures, c.is_true_of-holds.ensures) at more)) c.add-4.ensures
+    let two = added first (model ∷ []) observed _ _ (c.in_ok-add_model.ensures litmus.program) (rw (c.in_ok-truth.ensures, c.is_observed.ensures) at c.in_ok-add.ensures.text) in
+    let three = added first (model ∷ observed ∷ []) list _ _ two (rw c.in_ok-list.ensures at c.in_ok-add-2.ensures.text) in
+    let four = added first (model ∷ observed ∷ list ∷ []) often _ _ three (rw c.in_ok-observation.ensures at c.in_ok-add-3.ensures.text) in
+    on_ok_weaker c.add-4.result (λ more. added first (model ∷ observed ∷ list ∷ often ∷ []) _ _ _ four (rw (c.in_ok-truth-2.ensures, c.is_true_of-holds.ensures) at more)) c.add-4.ensures.text

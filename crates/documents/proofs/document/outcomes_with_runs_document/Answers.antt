@@ -1,9 +1,8 @@
-use Rattle.documents.proofs.Vocabulary.{IfOk-weaker}
-use Rattle.documents.proofs.Told.{added, document_with}
+use Rattle.documents.proofs.Told.{added, made_with}
 use Rattle.documents.proofs.document.outcomes_with_runs_document.Goals as goal
 
 pub returns-clause-told : goal.returns-clause-told
 returns-clause-told c =
     let object = c.in_ok-object.ensures in
-    let last = added object.first _ _ _ _ object.printed (rw c.in_ok-runs.ensures at c.in_ok-add.ensures) in
-    IfOk-weaker c.document_of.result _ _ (λ document is. document_with _ _ object.first _ _ _ object.heading last is) c.document_of.ensures.text
+    let last = added object.first _ _ _ _ object.printed (rw c.in_ok-runs.ensures at c.in_ok-add.ensures.text) in
+    made_with _ _ object.first _ _ c.document_of.result object.heading last c.document_of.ensures.text c.document_of.ensures.json

@@ -1,8 +1,7 @@
-use Rattle.documents.proofs.Vocabulary.{IfOk-weaker}
-use Rattle.documents.proofs.Told.{added, document_with}
+use Rattle.documents.proofs.Told.{added, made_with}
 use Rattle.documents.proofs.document.why_document.Goals as goal
 
 pub returns-clause-told : goal.returns-clause-told
 returns-clause-told c =
-    let last = added _ _ _ _ _ c.in_ok-add_answer.ensures (rw c.in_ok-runs.ensures at c.in_ok-add.ensures) in
-    IfOk-weaker c.document_of.result _ _ (λ document is. document_with _ _ _ _ _ _ c.in_ok-object.ensures last is) c.document_of.ensures.text
+    let last = added _ _ _ _ _ c.in_ok-add_answer.ensures (rw c.in_ok-runs.ensures at c.in_ok-add.ensures.text) in
+    made_with _ _ _ _ _ c.document_of.result c.in_ok-object.ensures last c.document_of.ensures.text c.document_of.ensures.json

@@ -1,4 +1,4 @@
-use Rattle.documents.proofs.Vocabulary.{ℕ, List, [], ◌∷◌, codes, member, on_ok_weaker, truth_text, Machine, setting_member, gaps_array}
+use Rattle.documents.proofs.Vocabulary.{ℕ, List, [], ◌∷◌, codes, member, on_ok_weaker, Machine, setting_member, gaps_array}
 use Rattle.documents.proofs.Told.{added}
 use Rattle.documents.proofs.witness.add_sought.Goals as goal
 
@@ -9,5 +9,5 @@ returns c =
     let first : List (List ℕ) = c.args.object.now in
     let model : List ℕ = setting_member program (Machine sought.model) in
     let fences : List ℕ = member (codes "fences") (gaps_array program.threads sought.fences) in
-    let two = added first (model ∷ []) fences _ _ (c.in_ok-add_model.ensures program) (rw c.in_ok-gap_names.ensures at c.in_ok-add.ensures) in
-    on_ok_weaker c.add-2.result (λ more. added first (model ∷ fences ∷ []) _ _ _ two (rw c.in_ok-truth.ensures at more)) c.add-2.ensures
+    let two = added first (model ∷ []) fences _ _ (c.in_ok-add_model.ensures program) (rw c.in_ok-gap_names.ensures at c.in_ok-add.ensures.text) in
+    on_ok_weaker c.add-2.result (λ more. added first (model ∷ fences ∷ []) _ _ _ two (rw c.in_ok-truth.ensures at more)) c.add-2.ensures.text

@@ -2,7 +2,7 @@ use denote.Exit.{no}
 use denote.Param.Send.{IsSend, param_send, arg_send, recorded_send, struct_send, sendable}
 use denote.Struct.Declared.{shape}
 use Rattle.std.proofs.Crossing.{crosses}
-use Rattle.cover_solver.proofs.foreign_run.ForeignRun.TheSendSync as run
+use Rattle.oracle.proofs.foreign_run.ForeignRun.TheSendSync as run
 use Rattle.hunt_board.proofs.Crossing.{seat_send}
 use Rattle.hunt_board.proofs.settling.Receipt.TheSendSync as receipt
 use Rattle.fence_place.specs.contracts.worker.Worker as worker

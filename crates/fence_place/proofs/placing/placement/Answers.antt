@@ -3,7 +3,7 @@ use Rattle.fence_place.proofs.PlacementMade.{is_placement}
 use Rattle.fence_place.proofs.placing.placement.Goals as goal
 
 pub returns : goal.returns
-returns c =
+returns g c =
     let q = c.args.table.now.question in
     let costs = c.args.costs.now in
     let made = c.in_ok-certificate.certificate in

@@ -1,6 +1,7 @@
 use Rattle.known_edges.proofs.Vocabulary.{◌∙◌, [], length, length-set, sym, ap, subst, refl, arith, slice_get_within, At, ThreadTrace, IsGrown, grown_none, below_is}
 use Rattle.known_edges.proofs.Accesses.{IsBelow, grown_threads, grown_all, grown_alone, before_thread, below_none, below_of, accesses_read}
-use Rattle.known_edges.proofs.{Lawful.none_in, InThreadOrder.none_ordered, Starts.starts_more, Starts.counts_more}
+use Rattle.program_sketches.proofs.Lawful.{none_in}
+use Rattle.known_edges.proofs.{InThreadOrder.none_ordered, Starts.starts_more, Starts.counts_more}
 use Rattle.known_edges.proofs.numbered_traces.number_accesses.Goals as goal
 
 pub loop-t-init : goal.loop-t-init

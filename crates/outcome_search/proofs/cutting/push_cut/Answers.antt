@@ -1,6 +1,6 @@
 use Rattle.outcome_search.proofs.Vocabulary.{get_or, sym, subst, All-push, All, IsPartOf, AreOfOthers, sequential, MayChooseEach, of_others}
 use Rattle.outcome_search.proofs.{FilledTrees.values_in_sequence, SearchParts.part_next}
-use Rattle.cover_judge.specs.declared.choice.Choice.TheVariants as choice
+use Rattle.tree_laws.specs.declared.choice.Choice.TheVariants as choice
 use Rattle.outcome_search.proofs.cutting.push_cut.Goals as goal
 
 pub loop-choice-preserved : goal.loop-choice-preserved

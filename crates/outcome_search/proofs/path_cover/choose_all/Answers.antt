@@ -1,5 +1,5 @@
 use Rattle.outcome_search.proofs.Vocabulary.{get_or, sym, ap, ◌∙◌, subst, ProgramSketch, with_chosen, MayChoose, sketch_with}
-use Rattle.cover_judge.specs.declared.choice.Choice.TheVariants as choice
+use Rattle.tree_laws.specs.declared.choice.Choice.TheVariants as choice
 use Rattle.partial_covers.proofs.ChoicesMade.{may_at, one_made, all_made}
 use Rattle.outcome_search.proofs.path_cover.choose_all.Goals as goal
 

@@ -1,5 +1,6 @@
 use Rattle.partial_covers.proofs.Vocabulary.{List, ℕ, ◌++◌, map, ap, ◌∙◌, place_in, Item, items_of, renumbered_item}
-use Rattle.partial_covers.proofs.{PartialNodes.on_ok, PartsJoined.part_renumbered}
+use Rattle.partial_covers.proofs.PartsJoined.{part_renumbered}
+use Rattle.cover_judge.proofs.Answered.{on_ok}
 use Rattle.partial_covers.proofs.joining.join.Goals as goal
 
 pub returns-clause-tree : goal.returns-clause-tree

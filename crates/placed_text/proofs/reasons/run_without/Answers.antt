@@ -1,7 +1,7 @@
 use Rattle.placed_text.proofs.Vocabulary.{◌≡◌, subst, SetOfGaps, Question, Serves, IsVerdictOf}
 use Rattle.std.specs.FinSet as set
-use Rattle.cover_solver.specs.{declared.oracle.Verdict.Verdict, Facts.Serving}
-use Rattle.cover_solver.specs.declared.oracle.Verdict.TheVariants as verdict
+use Rattle.oracle.specs.{declared.oracle.Verdict.Verdict, Facts.Serving}
+use Rattle.oracle.specs.declared.oracle.Verdict.TheVariants as verdict
 use Rattle.placed_text.proofs.Needed.{each_is_needed, kept}
 use Rattle.placed_text.proofs.reasons.run_without.Goals as goal
 

@@ -1,4 +1,4 @@
-use Rattle.sketch_covers.proofs.Inserted.{searched}
+use Rattle.tree_laws.proofs.AscendingSearched.{searched}
 use Rattle.sketch_covers.proofs.ascending.place_of.Goals as goal
 
 pub returns-clause-there : goal.returns-clause-there

@@ -1,4 +1,4 @@
-use Rattle.sketch_covers.proofs.Inserted.{not_there}
+use Rattle.tree_laws.proofs.AscendingSearched.{not_there}
 use Rattle.sketch_covers.proofs.known_outcomes.number_in.Goals as goal
 
 pub returns-in-Err : goal.returns-in-Err

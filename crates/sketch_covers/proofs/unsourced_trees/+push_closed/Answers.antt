@@ -1,7 +1,7 @@
 use Rattle.sketch_covers.proofs.Vocabulary.{◌≡◌, ◌∙◌, ◌<◌, ◌≤◌, ◌++◌, List, ◌∷◌, [], ℕ, get_or, length, map, ap, subst, arith, rules, ValueTree, fold-roll-ValueTree, fold_out-ValueTree, Traces, Read, traces, trace_node, trace_trees, first_choices, IsValueTree}
 use Rattle.sketch_covers.proofs.Vocabulary.{child_tree}
 use Rattle.cert_forest.specs.Node.TheVariants as node
-use Rattle.cover_judge.specs.declared.choice.Choice.TheVariants as choice
+use Rattle.tree_laws.specs.declared.choice.Choice.TheVariants as choice
 use Rattle.branching.specs.declared.traces.ValueTree.TheViews as views
 use Rattle.sketch_covers.proofs.UnsourcedTrees.{root_over, few_own, begins_after, closes_none, closes_more, closes_all}
 use Rattle.sketch_covers.proofs.unsourced_trees.+push_closed.Goals as goal

@@ -1,7 +1,7 @@
 use Rattle.std.proofs.Common.{Contains, ◌∙◌, sym, subst}
 use Rattle.std.proofs.lemmas.Bool.{eqb-true}
 use Rattle.std.proofs.lemmas.Option.{same_Some}
-use Rattle.sketches.specs.Values.{IsValueOf}
+use Rattle.candidate_executions.specs.Values.{IsValueOf}
 use Rattle.solver_calls.proofs.sketch_steps.give.Goals as goal
 
 pub give_value-requires-clause-value : goal.give_value-requires-clause-value

@@ -1,6 +1,6 @@
-use Rattle.cover_solver.proofs.Vocabulary.{◌≡◌, true, sym, subst, ap, ◌∙◌, Question, asked, StoreBufferMachine, no_gaps, ReplayFaultIs, ArePassed, IsShownRun, IsForeignRun, Asked, IsListOf}
+use Rattle.cover_solver.proofs.Vocabulary.{◌≡◌, true, sym, subst, ap, ◌∙◌, Question, asked, StoreBufferMachine, no_gaps, ReplayFaultIs, ArePassed, IsShownRun, IsForeignRun, Asked, IsListOf, same_question}
 use Rattle.std.specs.FinSet as set
-use Rattle.cover_solver.proofs.Tables.{foreign_again, passes_none, replays_unfenced, same_question}
+use Rattle.cover_solver.proofs.Tables.{foreign_again, passes_none, replays_unfenced}
 use Rattle.cover_solver.proofs.solver.Solver.foreign.Goals as goal
 
 pub of-requires-clause-foreign : goal.of-requires-clause-foreign

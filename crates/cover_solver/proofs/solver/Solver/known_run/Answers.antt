@@ -1,6 +1,6 @@
 use Rattle.cover_solver.proofs.Vocabulary.{◌≡◌, ◌∙◌, true, sym, ap, subst, asked, AreOf, Asked, Foreign, IsForeignValue}
 use Rattle.std.specs.FinSet as set
-use Rattle.sketches.proofs.KnownParts.{not_by}
+use Rattle.thread_traces.proofs.KnownParts.{not_by}
 use Rattle.cover_solver.proofs.solver.Solver.known_run.Goals as goal
 
 pub returns-then-not-meets : goal.returns-then-not-meets

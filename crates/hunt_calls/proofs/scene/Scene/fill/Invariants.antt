@@ -3,4 +3,4 @@ use Rattle.hunt_calls.proofs.scene.Scene.fill.Given as goal
 
 -- what is in hand stays sound
 abbrev pub invariant-loop : goal.invariant-loop
-invariant-loop l = IsSound l.self.hunt.now l.hand
+invariant-loop g l = IsSound l.self.hunt.now l.hand

@@ -1,10 +1,11 @@
 use Rattle.partial_covers.proofs.Vocabulary.{◌≡◌, ℕ, List, [], ◌∷◌, ◌++◌, ◌∙◌, get_or, length, refl, sym, ap, subst, arith, Shown, asked, Choice, AreOfOthers, by_number, grows_none, few_choices, Covering, Covers, CoversEach, Has, items_of, AreCoversFor}
 use Rattle.partial_covers.proofs.Vocabulary.{MayChooseEach, fewer_rounds, before_next, of_others}
 use Rattle.cert_forest.specs.Node.TheVariants as node
-use Rattle.cover_judge.specs.declared.choice.Choice.TheVariants as choice
-use Rattle.branching.specs.declared.open_choice.OpenChoice.TheVariants as left
+use Rattle.tree_laws.specs.declared.choice.Choice.TheVariants as choice
+use Rattle.tree_laws.specs.declared.choice.OpenChoice.TheVariants as left
 use Rattle.partial_covers.proofs.CoveringSteps.{covers_next, covers_values, covers_joined, each_none, each_more}
-use Rattle.partial_covers.proofs.PartialNodes.{on_ok, pushes_closed, nodes_same, leaf_pushed}
+use Rattle.partial_covers.proofs.PartialNodes.{pushes_closed, nodes_same, leaf_pushed}
+use Rattle.cover_judge.proofs.Answered.{on_ok}
 use Rattle.partial_covers.proofs.PartsJoined.{covers_still, covers_after, not_joined}
 use Rattle.partial_covers.proofs.JoinedBlocks.{with_last}
 use Rattle.partial_covers.proofs.covering.Covering.+cover_values.Goals as goal

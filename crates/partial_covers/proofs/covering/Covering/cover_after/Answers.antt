@@ -1,6 +1,7 @@
 use Rattle.partial_covers.proofs.Vocabulary.{◌≡◌, ◌∙◌, refl, sym, subst, arith, asked, IsLawful, ProgramSketch, AreAlike, IsBase, with_root, with_trace, traces, root, IsCoverAt, by_number, Pushes, grows_none, Covering, Covers}
 use Rattle.partial_covers.proofs.Vocabulary.{Takes, at_start, lawful_merged}
-use Rattle.partial_covers.proofs.{CoveringSteps.covers_next, PartialNodes.pushes_closed, PartialNodes.on_ok, PartialNodes.taken_back, PartialNodes.last_same, PairSketches.last_after, PairSketches.base_after}
+use Rattle.partial_covers.proofs.{CoveringSteps.covers_next, PartialNodes.pushes_closed, PartialNodes.taken_back, PartialNodes.last_same, PairSketches.last_after, PairSketches.base_after}
+use Rattle.cover_judge.proofs.Answered.{on_ok}
 use Rattle.partial_covers.proofs.JoinedBlocks.{with_last}
 use Rattle.partial_covers.proofs.covering.Covering.cover_after.Goals as goal
 

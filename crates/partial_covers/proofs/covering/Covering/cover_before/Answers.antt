@@ -1,5 +1,5 @@
 use Rattle.partial_covers.proofs.Vocabulary.{subst, ProgramSketch, with_root, traces, Covers, at_its_start, rest_of}
-use Rattle.partial_covers.proofs.PartialNodes.{on_ok}
+use Rattle.cover_judge.proofs.Answered.{on_ok}
 use Rattle.partial_covers.proofs.covering.Covering.cover_before.Goals as goal
 
 pub cover_pair-requires-clause-pair : goal.cover_pair-requires-clause-pair

@@ -1,5 +1,6 @@
 use Rattle.partial_covers.proofs.Vocabulary.{◌≡◌, ◌∷◌, [], ◌++◌, ◌∙◌, List, refl, subst, arith, asked, by_number, Grows, Covers, Item, Lacks, items_of, BeginsIfNew}
-use Rattle.partial_covers.proofs.PartialNodes.{pushes_closed, pushes_hole, taken_back, last_same, on_ok, told_as}
+use Rattle.partial_covers.proofs.PartialNodes.{pushes_closed, pushes_hole, taken_back, last_same, told_as}
+use Rattle.cover_judge.proofs.Answered.{on_ok}
 use Rattle.partial_covers.proofs.JoinedBlocks.{with_last}
 use Rattle.partial_covers.proofs.covering.Covering.cover_or_hole.Goals as goal
 

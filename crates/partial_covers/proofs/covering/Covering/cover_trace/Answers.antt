@@ -1,5 +1,6 @@
 use Rattle.partial_covers.proofs.Vocabulary.{refl, sym, subst, asked, IsWhole, ProgramSketch, mode_in, Source, NoCover, with_trace, by_number, Covers, grows_none, whole_merged, unsourced_cover}
-use Rattle.partial_covers.proofs.PartialNodes.{pushes_closed, on_ok}
+use Rattle.partial_covers.proofs.PartialNodes.{pushes_closed}
+use Rattle.cover_judge.proofs.Answered.{on_ok}
 use Rattle.partial_covers.proofs.covering.Covering.cover_trace.Goals as goal
 
 pub cover_or_hole-requires-clause-whole : goal.cover_or_hole-requires-clause-whole

@@ -1,6 +1,6 @@
 use Rattle.partial_covers.proofs.Vocabulary.{◌≡◌, ◌<◌, ◌≤◌, List, ◌++◌, Vec, Global, get_or, length, take, sym, ap, ◌∙◌, subst, take_all, Node, copied_in, joined}
 use Rattle.partial_covers.proofs.JoinedBlocks.{copies_more, joined_next, no_copies}
-use Rattle.partial_covers.proofs.PartialNodes.{on_ok}
+use Rattle.cover_judge.proofs.Answered.{on_ok}
 use Rattle.partial_covers.proofs.node_blocks.NodeBlocks.push_copies.Goals as goal
 
 pub loop-block-init : goal.loop-block-init

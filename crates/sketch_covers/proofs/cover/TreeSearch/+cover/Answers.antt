@@ -1,7 +1,7 @@
 use Rattle.sketch_covers.proofs.Vocabulary.{◌≡◌, ◌∙◌, ◌+◌, ◌<◌, ◌≤◌, ◌++◌, ◌∷◌, [], take, Bool, List, true, false, Err, get_or, drop, length, refl, sym, ap, subst, arith, remove_range, Outcome, asked, ProgramSketch, with_chosen, Node, Cover, tree_of, IsTree, Choice}
 use Rattle.sketch_covers.proofs.Vocabulary.{sketch_with, IsValidAt, IsCoverAfter, node_over, by_number, Grows, OnTold, comes_after, Pushes, IsCoveredAt, IsStillValid, IsTaken, fewer_rounds}
 use Rattle.std.proofs.lemmas.List.{length-take-le}
-use Rattle.cover_judge.specs.declared.choice.Choice.TheVariants as choice
+use Rattle.tree_laws.specs.declared.choice.Choice.TheVariants as choice
 use Rattle.sketch_covers.proofs.{Growing.grows_none, Growing.grows_twice, Growing.stops_as, Nodes.cover_next, Nodes.few_choices}
 use Rattle.sketch_covers.proofs.Covering.{Covering, none_covered, one_covered, all_covered, child_is_tree, child_fits, child_placed, child_is, pushes_as, stays_as}
 use Rattle.sketch_covers.proofs.Judging.{cover_of, cover_judged, covered_without}

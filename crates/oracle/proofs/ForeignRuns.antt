@@ -1,0 +1,44 @@
+-- What a table and a replay say of foreign runs.
+use Rattle.oracle.proofs.Vocabulary.{◌≡◌, ◌↔◌, ℕ, Bool, true, false, IsTrue, List, Some, Contains, slice_get, sym, ap, ◌∙◌, Result, Ok, Err, IfOk, IfErr, is_ok, Question, asked, Machine, StoreBufferMachine, no_gaps, IsRun, Listing, Outcome, Shown, Label}
+use Rattle.oracle.proofs.Vocabulary.{ReplayFaultIs, IsShownRun, IsForeignRun, ForeignFaultIs, of_replay}
+use Rattle.std.proofs.lemmas.Option.{same_Some}
+use Rattle.tso_program.specs.Shown.{show}
+use Rattle.tso_machine.specs.Machine.{outcome_at}
+use Rattle.tso_machine.specs.declared.replaying.ReplayFault.{ReplayFault}
+use Rattle.tso_machine.specs.declared.replaying.ReplayFault.TheVariants as replays
+use Rattle.tso_machine.proofs.Refused.{no_fault}
+use Rattle.tree_laws.specs.Ascending.{BelongsAt}
+use Rattle.tree_laws.proofs.{Lists.found_is_here, AscendingSearched.not_there}
+use Rattle.oracle.specs.declared.fault.ForeignFault.TheVariants as foreign
+
+-- a question by its parts
+pub same_question : (q : Question) (p : Listing) (shown : Shown) → p ≡ q.program → shown ≡ q.shown → asked p shown ≡ q
+same_question q p shown program is = λ i. record { program = program i; shown = is i }
+
+-- a run has one outcome
+pub one_end : (p : Listing) (mode : Machine) (labels : List Label) (a b : Outcome) → IsRun p mode labels a → IsRun p mode labels b → a ≡ b
+one_end p mode labels a b (last, run, ends, is) (other, again, finished, same) =
+    is ∙ ap (outcome_at p) (same_Some last other (sym run ∙ again)) ∙ sym same
+
+-- and so one thing is shown of it
+pub one_outcome : (q : Question) (mode : Machine) (labels : List Label) (a b : Outcome) → IsShownRun q mode labels a → IsShownRun q mode labels b → a ≡ b
+one_outcome q mode labels a b (whole, is_run, shown) (other, again, same) = shown ∙ ap (show q.shown) (one_end q.program mode labels whole other is_run again) ∙ sym same
+
+-- an outcome has a place in a list exactly if it is one of it
+pub found_by : (outcomes : List Outcome) (o : Outcome) (place : Result ℕ ℕ) (b : Bool) → IfOk place (λ n. slice_get outcomes n ≡ Some o) → IfErr place (BelongsAt outcomes o) → b ≡ is_ok place →
+    IsTrue b ↔ Contains outcomes o
+found_by outcomes o (Ok n) b at none is = ((λ yes. found_is_here outcomes n o at), (λ has. is))
+found_by outcomes o (Err n) b at belongs is = ((λ yes. (let no : false ≡ true = sym is ∙ yes in absurd cc)), (λ has. absurd (not_there outcomes o n belongs has)))
+
+-- what a replay that is refused says of a foreign run
+pub fault_of_foreign : (q : Question) (labels : List Label) (why : ReplayFault) → ReplayFaultIs q.program (StoreBufferMachine no_gaps) labels why → ForeignFaultIs q labels (of_replay why)
+fault_of_foreign q labels (replays.NoSuchThread n) h = (h, (λ same. absurd cc))
+fault_of_foreign q labels (replays.AtEnd n) h = (h, (λ same. absurd cc))
+fault_of_foreign q labels (replays.BufferEmpty n) h = (h, (λ same. absurd cc))
+fault_of_foreign q labels (replays.FenceWaits n) h = (h, (λ same. absurd cc))
+fault_of_foreign q labels (replays.NotEnded n) h = (h, (λ same. absurd cc))
+fault_of_foreign q labels replays.OutOfMemory h = tt
+
+-- a foreign run is refused only when out of memory
+pub no_fault_of_foreign : (q : Question) (labels : List Label) (why : ReplayFault) (o : Outcome) → ReplayFaultIs q.program (StoreBufferMachine no_gaps) labels why → IsForeignRun q labels o → of_replay why ≡ foreign.OutOfMemory
+no_fault_of_foreign q labels why o h run = ap of_replay (no_fault q.program (StoreBufferMachine no_gaps) labels run.is_run.0 why run.is_run.1 h)

@@ -1,0 +1,159 @@
+//! Runs that leave an outcome which no sequential run has.
+ghost use Rattle.std.specs.Prelude.{◌≡◌, IfOk, IfErr, IsOkUnless};
+ghost use Rattle.tso_program.specs.declared.outcome.Outcome.{Outcome};
+ghost use Rattle.tso_program.specs.Shown.{asked};
+ghost use Rattle.tso_machine.specs.Machine.{StoreBufferMachine, no_gaps};
+ghost use Rattle.tso_machine.specs.Modes.{ArePassed};
+ghost use Rattle.tso_machine.specs.Outcomes.{IsShownRun, IsForeignRun};
+ghost use Rattle.oracle.specs.Facts.{IsForeignValue};
+ghost use Rattle.oracle.specs.ForeignFaults.{ForeignFaultIs, of_replay};
+
+use crate::fault::ForeignFault;
+use crate::table::SeqTable;
+use gap_sets::GapSet;
+use std::alloc::{AllocError, Global};
+use std::marker;
+use tso_machine::{Ended, Label, Model, ReplayFault, replay_shown};
+use tso_program::{Outcome, Program, Shown};
+
+/// A run of a program under x86-TSO, with no gap fenced, of whose outcome something else is shown than
+/// of that of any sequential run.
+#[derive(Drop)]
+pub struct ForeignRun {
+    program: Program,
+    shown: Shown,
+    labels: Vec<Label>,
+    outcome: Outcome,
+    passed: GapSet,
+}
+
+impl marker::Model for ForeignRun {
+    ghost use Rattle.oracle.specs.Facts.{Foreign};
+
+    ghost Value = { Foreign };
+
+    ghost use Rattle.gap_sets.specs.contracts.gap_set.GapSet as gap_set;
+    ghost use Rattle.std.specs.Coded.{codes};
+    ghost use Rattle.tso_program.specs.Nodes.{tree_code};
+
+    ghost coded = { Prim.hlevel (codes, gap_set.the_row.coded, tree_code) };
+
+    ghost use Rattle.oracle.specs.Facts.{IsForeignValue};
+    ghost use Rattle.tso_program.specs.Shown.{asked};
+
+    ghost view = { λ r. record { question = asked r.program r.shown; labels = r.labels.items; outcome = r.outcome; passed = r.passed } };
+
+    ghost invariant = { λ r. IsForeignValue (record { question = asked r.program r.shown; labels = r.labels.items; outcome = r.outcome; passed = r.passed }) };
+}
+
+impl ForeignRun {
+    /// The run of these labels, where they are a foreign run of the table's question.
+    pub fn new(
+        alloc: Global,
+        table: &SeqTable,
+        labels: &[Label],
+    ) -> Result<ForeignRun, ForeignFault>
+        ensures question { IfOk result (λ run. run.question ≡ table.now.question) }
+        ensures labels { IfOk result (λ run. run.labels ≡ labels.now) }
+        ensures foreign { IfOk result IsForeignValue }
+        ensures fault { IfErr result (ForeignFaultIs table.now.question labels.now) }
+        ensures exact { (o : Outcome) → IsForeignRun table.now.question labels.now o → IsOkUnless result ForeignFault.OutOfMemory }
+    {
+        let program = table.program();
+        let shown = table.shown();
+        match replay_shown(alloc, program, shown, Model::Buffered, labels) {
+            Ok(ended) => {
+                if table.has(&ended.outcome) {
+                    return Err(ForeignFault::Sequential);
+                }
+                let labels = Vec::from_slice(alloc, labels)?;
+                Ok(ForeignRun::of(program.copy()?, shown.copy()?, labels, ended))
+            }
+            Err(fault) => Err(replay_fault(fault)),
+        }
+    }
+
+    /// The run with what its replay gave, as far as that is shown.
+    pub fn of(program: Program, shown: Shown, labels: Vec<Label>, ended: Ended) -> ForeignRun
+        requires foreign { IsForeignRun (asked program shown) labels.items ended.outcome }
+        requires passed { ArePassed program (StoreBufferMachine no_gaps) labels.items ended.passed }
+        ensures question { result.question ≡ asked program shown }
+        ensures labels { result.labels ≡ labels.items }
+        ensures passed { result.passed ≡ ended.passed }
+        ensures foreign { IsForeignValue result }
+    {
+        ForeignRun {
+            program,
+            shown,
+            labels,
+            outcome: ended.outcome,
+            passed: ended.passed,
+        }
+    }
+
+    /// The program.
+    pub fn program(&self) -> &Program
+        ensures value { result.now ≡ self.now.question.program }
+        ensures foreign { IsForeignValue self.now }
+    {
+        &self.program
+    }
+
+    /// For a proof alone: recalls what holds of every run.
+    pub fn recall_facts(&self)
+        ensures foreign { IsForeignValue self.now }
+    {
+        let _ = self.program();
+    }
+
+    /// What is shown of the outcomes.
+    pub fn shown(&self) -> &Shown
+        ensures { result.now ≡ self.now.question.shown }
+    {
+        &self.shown
+    }
+
+    /// The steps of the run.
+    pub fn labels(&self) -> &[Label]
+        ensures { result.now ≡ self.now.labels }
+    {
+        &self.labels
+    }
+
+    /// What is shown of what the run leaves.
+    pub fn outcome(&self) -> &Outcome
+        ensures { result.now ≡ self.now.outcome }
+    {
+        &self.outcome
+    }
+
+    /// The gaps that the run passes.
+    pub fn passed(&self) -> GapSet
+        ensures { result ≡ self.now.passed }
+    {
+        self.passed
+    }
+
+    /// An equal run.
+    pub fn copy(&self, alloc: Global) -> Result<ForeignRun, AllocError>
+        ensures { IfOk result (λ other. other ≡ self.now) }
+    {
+        Ok(ForeignRun {
+            program: self.program.copy()?,
+            shown: self.shown.copy()?,
+            labels: Vec::from_slice(alloc, &self.labels)?,
+            outcome: self.outcome.copy(alloc)?,
+            passed: self.passed,
+        })
+    }
+}
+
+/// The fault of labels whose replay has this one.
+fn replay_fault(fault: ReplayFault) -> ForeignFault
+    ensures { result ≡ of_replay fault }
+{
+    match fault {
+        ReplayFault::OutOfMemory => ForeignFault::OutOfMemory,
+        _ => ForeignFault::Replay(fault),
+    }
+}

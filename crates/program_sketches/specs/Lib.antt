@@ -1,0 +1,9 @@
+pub mod ProgramSketches
+pub mod Kept
+pub mod Known
+pub mod Choices
+pub mod FewAccesses
+pub mod Writes
+pub mod Sizes
+pub mod TracedAccesses
+pub mod KnownTruths
