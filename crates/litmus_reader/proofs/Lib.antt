@@ -6,6 +6,7 @@ pub mod Filled
 pub mod NamesOnce
 pub mod FirstValues
 pub mod Faults
+pub mod Fronts
 pub mod Elements
 pub mod Positions
 pub mod Targets

@@ -3,6 +3,7 @@ pub mod Places
 pub mod Labels
 pub mod Meaning
 pub mod Faults
+pub mod Fronts
 pub mod Texts
 pub mod Shown
 pub mod Laws
