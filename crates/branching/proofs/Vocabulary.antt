@@ -15,12 +15,12 @@ pub use Rattle.cover_judge.specs.CoverTrees.{event_of}
 pub use Rattle.cover_judge.specs.Event.{Event, TheVariants.Access as At, TheVariants.Initial}
 pub use Rattle.cover_judge.specs.Sketches.{IsPair, IsSourceOf, IsWhole, given_to, with_pair, with_source, with_value}
 pub use Rattle.tree_laws.specs.declared.choice.Choice.{Choice}
-pub use Rattle.sketches.proofs.Completeness.{first_there, read_there, second_there}
+pub use Rattle.exec_axioms.proofs.Completeness.{first_there, read_there, second_there}
 pub use Rattle.rowless_sketches.proofs.Ends.{thread_within, write_within}
 pub use Rattle.thread_traces.proofs.KnownParts.{not_by}
 pub use Rattle.program_sketches.proofs.Lookups.{each_index, same_default}
 pub use Rattle.program_sketches.specs.Choices.{IsOrdered, IsRead, MayFollow}
-pub use Rattle.sketches.specs.Complete.{HasItsSource, IsComplete, IsOrderedWith}
+pub use Rattle.exec_axioms.specs.Complete.{HasItsSource, IsComplete, IsOrderedWith}
 pub use Rattle.program_sketches.specs.ProgramSketches.{ProgramSketch, access_in, mode_in, trace_in, with_chosen}
 pub use Rattle.program_sketches.specs.Sizes.{choice_count, most_choices}
 pub use Rattle.tso_program.specs.declared.listing.Listing.{Listing}

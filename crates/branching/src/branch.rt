@@ -1,6 +1,6 @@
 //! Branches: what is chosen next, and its choices.
 ghost use Rattle.std.specs.Prelude.{IfOk, MatchOption};
-ghost use Rattle.sketches.specs.Complete.{IsComplete};
+ghost use Rattle.exec_axioms.specs.Complete.{IsComplete};
 ghost use Rattle.cover_judge.specs.Choices.{MayChooseEach};
 ghost use Rattle.branching.specs.OpenChoices.{IsOpen, IsBranch};
 ghost use Rattle.cover_judge.specs.Choices.{AreChoicesOf};
@@ -11,7 +11,7 @@ use crate::ordered_outcomes::OrderedOutcomes;
 use crate::preference::preferred;
 use crate::reads_writes::WholeAccesses;
 use cover_judge::{Choice, OpenChoice, both_orders};
-use sketches::Sketch;
+use exec_axioms::Sketch;
 use std::alloc::{AllocError, Global};
 use tso_program::Shown;
 

@@ -6,7 +6,7 @@ ghost use Rattle.cover_judge.specs.Choices.{MayChoose, MayChooseEach, IsValueOpe
 
 use cert_trees::AccessId;
 use cover_judge::{Choice, each_source, each_value, event_of};
-use sketches::{Sketch, SketchFault};
+use exec_axioms::{Sketch, SketchFault};
 use std::alloc::{AllocError, Global};
 
 /// The sketch with one more choice.

@@ -8,7 +8,7 @@ ghost use Rattle.branching.specs.Accesses.{IsReadValue, IsWrittenValue, AreAcces
 use bit_rows::ROW_BITS;
 use cert_trees::AccessId;
 use cover_judge::event_of;
-use sketches::{Event, Sketch};
+use exec_axioms::{Event, Sketch};
 use std::alloc::{AllocError, Global};
 
 /// A read, with its location and its value.

@@ -11,7 +11,7 @@ use crate::reads_writes::ReadValue;
 use bit_rows::{ROW_BITS, has, joined, put_rows, with};
 use cert_trees::AccessId;
 use cover_judge::event_of;
-use sketches::{Access, Event, Sketch};
+use exec_axioms::{Access, Event, Sketch};
 use std::alloc::{AllocError, Global};
 
 /// What some threads read and write.

@@ -1,13 +1,13 @@
 -- What ties candidate executions to the machines, and what shows how their definitions are to be read.
 use Rattle.std.specs.Prelude.{◌≡◌, ◌≢◌, ◌↔◌, ◌⊎◌, ℕ, ◌<◌, ◌≤◌, ◌+◌, ◌*◌, List, Some, None, IsSome, Contains, length}
-use Rattle.fence_laws.specs.Listing.{Listing}
-use Rattle.fence_laws.specs.Outcome.{Outcome}
-use Rattle.fence_laws.specs.Shown.{Question}
-use Rattle.fence_laws.specs.Listings.{action, code_of}
-use Rattle.fence_laws.specs.Limits.{JumpForward}
-use Rattle.fence_laws.specs.Fences.{Gaps}
-use Rattle.fence_laws.specs.Label.{Label}
-use Rattle.fence_laws.specs.Machine.{Machine, StoreBufferMachine, IsRun}
+use Rattle.tso_machine.specs.Listing.{Listing}
+use Rattle.tso_machine.specs.Outcome.{Outcome}
+use Rattle.tso_machine.specs.Shown.{Question}
+use Rattle.tso_machine.specs.Listings.{action, code_of}
+use Rattle.tso_machine.specs.Limits.{JumpForward}
+use Rattle.tso_machine.specs.Fences.{Gaps}
+use Rattle.tso_machine.specs.declared.label.Label.{Label}
+use Rattle.tso_machine.specs.Machine.{Machine, StoreBufferMachine, IsRun}
 use Rattle.candidate_executions.specs.declared.access.Access.{Access}
 use Rattle.candidate_executions.specs.declared.event.Event.{Event, TheVariants.Initial, TheVariants.Access as At}
 use Rattle.candidate_executions.specs.declared.event.Kind.{Kind}

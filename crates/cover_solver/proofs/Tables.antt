@@ -9,7 +9,7 @@ use Rattle.tso_machine.specs.declared.replaying.ReplayFault.TheVariants as repla
 use Rattle.tso_machine.proofs.Refused.{no_fault}
 use Rattle.tree_laws.proofs.{ListedOutcomes.fenced_tree_serves, OneList.one_list}
 use Rattle.tree_laws.specs.Covers.{IsWholeCover}
-use Rattle.fence_laws.proofs.GapsAvoided.{fenced_runs_avoid}
+use Rattle.tso_machine.proofs.GapsAvoided.{fenced_runs_avoid}
 use Rattle.cert_forest.specs.{Trees.Cover, NodeConstants.NEAR_RUNS}
 use Rattle.outcome_search.specs.{OutcomeNumbers.AreFoundOf, AscendingOutcomes.AscendingOutcomes, OutcomeIndex.OutcomeIndex}
 use Rattle.outcome_search.specs.{KnownOutcomes.StopLacks, SearchStop.SearchStop}

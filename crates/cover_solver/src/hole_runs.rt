@@ -9,7 +9,7 @@ use gap_sets::GapSet;
 use oracle::{ForeignFault, ForeignRun, SeqTable};
 use outcome_search::{HoleRun, PartialCover};
 use run_maker::{MakeFault, make_run_for};
-use sketches::Sketch;
+use exec_axioms::Sketch;
 use std::alloc::{AllocError, Global};
 use tso_machine::Label;
 

@@ -13,7 +13,7 @@ use oracle::SolveFault;
 use outcome_search::{
     Search, Unwatched, Watch, all_outcomes, in_ascending_order, start_alone, start_by,
 };
-use sketches::Mode;
+use exec_axioms::Mode;
 use std::alloc::Global;
 use std::thread::Threads;
 use tso_machine::Model;

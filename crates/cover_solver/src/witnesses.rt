@@ -6,7 +6,7 @@ ghost use Rattle.cover_solver.specs.Witnesses.{IsWitness, HasNoWitness};
 
 use oracle::SolveFault;
 use outcome_search::{OutcomeIndex, Search, Unwatched, all_outcomes, start_alone};
-use sketches::Mode;
+use exec_axioms::Mode;
 use std::alloc::{AllocError, Global};
 use tso_machine::Label;
 use tso_program::{Formula, Outcome, Program, Shown};

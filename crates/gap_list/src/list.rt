@@ -5,7 +5,7 @@ ghost use Rattle.tso_program.specs.Listings.{instr_at};
 ghost use Rattle.gap_list.specs.Lists.{cost_part, gap_line, instruction_part, IsGapList};
 
 use crate::text_lines::gap_lines;
-use canonical_text::push_code;
+use litmus_text::push_code;
 use gap_sets::{Costs, GapSet};
 use litmus_reader::Litmus;
 use std::alloc::{AllocError, Global};

@@ -16,7 +16,7 @@ use crate::searching::Search;
 use cert_forest::Node;
 use partial_covers::{PartialCover, Piece, Watch};
 use sketch_covers::{KnownOutcomes, SearchStop};
-use sketches::{Mode, Sketch};
+use exec_axioms::{Mode, Sketch};
 
 /// The nodes of a tree for a mode: those of the partial cover, and another tree in place of each hole.
 pub(crate) fn fill<W: Watch>(

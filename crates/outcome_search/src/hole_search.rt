@@ -18,7 +18,7 @@ use cert_forest::Node;
 use cover_judge::Choice;
 use partial_covers::Piece;
 use sketch_covers::{KnownOutcomes, SearchStop};
-use sketches::Sketch;
+use exec_axioms::Sketch;
 use std::alloc::AllocError;
 use std::thread::{self, Threads};
 use tso_program::Outcome;

@@ -14,7 +14,7 @@ use crate::searching::Search;
 use cert_forest::Node;
 use partial_covers::PartialCover;
 use sketch_covers::SearchStop;
-use sketches::Sketch;
+use exec_axioms::Sketch;
 use std::thread::Threads;
 use tso_program::Outcome;
 

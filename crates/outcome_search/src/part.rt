@@ -16,7 +16,7 @@ use branching::{Plan, sketch_with};
 use cover_judge::Choice;
 use partial_covers::{Covering, PartCover, Watch};
 use sketch_covers::KnownOutcomes;
-use sketches::{Mode, Sketch};
+use exec_axioms::{Mode, Sketch};
 use std::alloc::{AllocError, Global};
 
 /// A part of a search: the sketch to which choices lead.

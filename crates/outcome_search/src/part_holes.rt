@@ -9,7 +9,7 @@ ghost use Rattle.sketch_covers.specs.KnownOutcomes.{by_number, AreInOrder, Grows
 use crate::path_cover::cover_after;
 use partial_covers::{Piece, Watch};
 use sketch_covers::KnownOutcomes;
-use sketches::{Mode, Sketch};
+use exec_axioms::{Mode, Sketch};
 use std::alloc::{AllocError, Global};
 use tso_program::{Program, Shown};
 

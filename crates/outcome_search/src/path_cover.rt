@@ -11,7 +11,7 @@ use branching::choose;
 use cert_forest::Node;
 use cover_judge::Choice;
 use sketch_covers::{KnownOutcomes, SearchStop, cover_whole};
-use sketches::Sketch;
+use exec_axioms::Sketch;
 use std::alloc::{AllocError, Global};
 use tso_program::Shown;
 

@@ -11,7 +11,7 @@ use crate::part_watch::PartWatch;
 use branching::{Plan, plan_for};
 use gap_sets::GapSet;
 use partial_covers::{PartCover, Unwatched, Watch};
-use sketches::{Mode, Sketch};
+use exec_axioms::{Mode, Sketch};
 use std::alloc::{AllocError, Global};
 use std::sync::atomic::{AtomicUsize, Ordering};
 use std::thread::{self, Threads};

@@ -24,7 +24,7 @@ use branching::{FullTrace, Plan, Tally, ValueTree, choices_of, sketch_with};
 use cert_forest::Node;
 use cover_judge::{Choice, OpenChoice};
 use sketch_covers::{KnownOutcomes, OutcomeIndex, SearchStop, cover_whole, known_leaf};
-use sketches::{Mode, Sketch};
+use exec_axioms::{Mode, Sketch};
 use std::alloc::{AllocError, Global};
 use tso_program::Shown;
 

@@ -6,7 +6,7 @@ ghost use Rattle.partial_covers.specs.NodeBlocks.{joined, nodes_in};
 
 use cert_forest::Node;
 use sketch_covers::{renumber, sequential_node};
-use sketches::Mode;
+use exec_axioms::Mode;
 use std::alloc::{AllocError, Global};
 use std::mem;
 

@@ -12,7 +12,7 @@ use crate::covering::Covering;
 use crate::watch::Watch;
 use branching::{FullTrace, LastThread, Tally, ThreadTraces, ValueTree};
 use sketch_covers::push_unsourced;
-use sketches::Sketch;
+use exec_axioms::Sketch;
 use std::alloc::AllocError;
 
 /// A sketch in which all threads but two have their values.

@@ -7,7 +7,7 @@ use Rattle.std.specs.FinSet as set
 use Rattle.tso_program.specs.{declared.outcome.Outcome.Outcome, declared.shown.Shown.TheVariants.All}
 use Rattle.tso_machine.specs.{declared.label.Model.TheVariants.Buffered, declared.replaying.Ended.Ended, Machine.StoreBufferMachine, Machine.no_gaps, Machine.IsRun}
 use Rattle.tso_machine.proofs.Refused.{one_outcome}
-use Rattle.fence_laws.proofs.GapsAvoided.{passed_gaps_tell}
+use Rattle.tso_machine.proofs.GapsAvoided.{passed_gaps_tell}
 use Rattle.oracle.specs.Facts as facts
 use Rattle.documents.specs.Documents.{IsWhyDocument}
 

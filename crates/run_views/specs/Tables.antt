@@ -21,7 +21,7 @@ use Rattle.litmus_text.specs.Litmus.{Litmus}
 use Rattle.litmus_text.specs.Names.{TextNames}
 use Rattle.litmus_text.specs.Canonical.{code_named, litmus_fenced_at, own_labels}
 use Rattle.litmus_reader.specs.Pieces.{text_of}
-use Rattle.canonical_text.specs.Spelling.{code_pieces}
+use Rattle.litmus_text.specs.Spelling.{code_pieces}
 
 -- ---- what a step does
 

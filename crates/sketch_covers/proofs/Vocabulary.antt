@@ -54,13 +54,13 @@ pub use Rattle.program_sketches.proofs.ChoicesCounted.{choices_few}
 pub use Rattle.program_sketches.proofs.Lawful.{none_in}
 pub use Rattle.rowless_sketches.proofs.ThreadValues.{merged_lawful, values_alone, values_elsewhere, values_here}
 pub use Rattle.rowless_sketches.specs.Completions.{MustEndSo, NeedNotEnd}
-pub use Rattle.sketches.specs.Cycles.{IsSimpleCycle}
+pub use Rattle.exec_axioms.specs.Cycles.{IsSimpleCycle}
 pub use Rattle.program_sketches.specs.FewAccesses.{AreFewAccesses, HasSmallNumbers}
 pub use Rattle.program_sketches.specs.Kept.{IsLawful}
 pub use Rattle.program_sketches.specs.ProgramSketches.{ProgramSketch, access_in, mode_in, nothing_chosen, trace_in, with_chosen}
 pub use Rattle.program_sketches.specs.Sizes.{HaveAllRegisters, choice_count, most_choices}
 pub use Rattle.rowless_sketches.specs.ThreadValues.{HasValuesAlone, with_values}
-pub use Rattle.sketches.specs.declared.sketch.Sketch.{Sketch}
+pub use Rattle.exec_axioms.specs.declared.sketch.Sketch.{Sketch}
 pub use Rattle.tso_machine.specs.Machine.{Machine, SequentialMachine, StoreBufferMachine, no_gaps}
 pub use Rattle.tso_machine.specs.Modes.{machine_of_mode}
 pub use Rattle.tso_machine.specs.Outcomes.{AllowsShown, IsShownRun}

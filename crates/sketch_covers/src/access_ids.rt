@@ -5,7 +5,7 @@ ghost use Rattle.cover_judge.specs.CoverTrees.{event_of};
 ghost use Rattle.branching.specs.Accesses.{IsOfThread};
 
 use cert_forest::AccessId;
-use sketches::Event;
+use exec_axioms::Event;
 use std::alloc::{AllocError, Global};
 
 /// Events of threads as accesses.

@@ -5,7 +5,7 @@ ghost use Rattle.tso_program.specs.declared.shown.Shown.{Shown};
 ghost use Rattle.tso_program.specs.Shown.{asked};
 ghost use Rattle.program_sketches.specs.ProgramSketches.{mode_in};
 ghost use Rattle.program_sketches.specs.Known.{HasNoCycle};
-ghost use Rattle.sketches.specs.Cycles.{IsSimpleCycle};
+ghost use Rattle.exec_axioms.specs.Cycles.{IsSimpleCycle};
 ghost use Rattle.program_sketches.specs.FewAccesses.{AreFewAccesses};
 ghost use Rattle.cover_judge.specs.CoverTrees.{MustEndAsNumber};
 ghost use Rattle.sketch_covers.specs.Covers.{IsLeafAt, IsEndNotListed};
@@ -16,7 +16,7 @@ use crate::access_ids::accesses_of;
 use crate::known_outcomes::KnownOutcomes;
 use candidate_executions::{Event, Kind};
 use cert_forest::{AccessId, Node, push_cycle, push_known};
-use sketches::Sketch;
+use exec_axioms::Sketch;
 use std::alloc::{AllocError, Global};
 use tso_program::Shown;
 

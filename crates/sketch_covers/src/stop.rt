@@ -3,7 +3,7 @@ ghost use Rattle.std.specs.Prelude.{◌≡◌};
 ghost use Rattle.sketch_covers.specs.declared.stop.SearchStop.TheVariants as stop;
 
 use run_maker::MadeRun;
-use sketches::Sketch;
+use exec_axioms::Sketch;
 use std::alloc::{AllocError, AllocFailed};
 
 /// Why a search for a tree ends without one.

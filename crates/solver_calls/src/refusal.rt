@@ -2,7 +2,7 @@
 
 use cover_solver::{ForeignFault, SolveFault};
 use run_maker::MakeFault;
-use sketches::SketchFault;
+use exec_axioms::SketchFault;
 use std::alloc::AllocError;
 use text_calls::TextRefusal;
 use thiserror::Error;

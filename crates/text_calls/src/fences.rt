@@ -1,8 +1,8 @@
-//! Calls of `canonical_text`.
+//! Calls of `litmus_text`.
 
 use crate::input::{byte_of, push_bytes, split_at_byte};
 use crate::refusal::TextRefusal;
-use canonical_text::write_litmus;
+use litmus_text::write_litmus;
 use gap_sets::{GapSet, MAX_GAPS};
 use litmus_text::Litmus;
 use std::alloc::Global;

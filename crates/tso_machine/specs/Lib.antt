@@ -3,6 +3,7 @@ pub mod Modes
 pub mod Outcomes
 pub mod Faults
 pub mod Laws
+pub mod FenceLaws
 pub mod RunTexts
 pub mod Steps
 pub mod Examples

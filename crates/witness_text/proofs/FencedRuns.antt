@@ -6,7 +6,7 @@ use Rattle.tso_program.specs.Fences.{Gaps}
 use Rattle.tso_machine.specs.{declared.label.Model.Model, declared.replaying.Ended.Ended}
 use Rattle.tso_machine.specs.declared.label.Model.TheVariants as models
 use Rattle.tso_machine.proofs.Unfenced.{empty_fences_nothing}
-use Rattle.fence_laws.proofs.GapsAvoided.{fenced_runs_avoid}
+use Rattle.tso_machine.proofs.GapsAvoided.{fenced_runs_avoid}
 use Rattle.litmus_text.specs.Litmus.{Litmus}
 use Rattle.documents.specs.{declared.run.Setting.TheVariants.Machine as OfMachine, declared.witness.Sought.Sought}
 use Rattle.witness_text.specs.Internal.Replays.{IsReplayed}
