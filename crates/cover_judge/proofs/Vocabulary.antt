@@ -23,7 +23,8 @@ pub use Rattle.tree_laws.proofs.OneList.{one_list_of_choices}
 pub use Rattle.tree_laws.specs.CoverTrees.{AfterChoices, AreChoices, AreTwo, AreValidCovers, HasNextValues, HasNoOrder, HasSources, IsValidCover, MustEndAsNumber, event_of, sketch_with}
 pub use Rattle.tree_laws.specs.declared.choice.Choice.{Choice}
 pub use Rattle.tree_laws.specs.declared.choice.OpenChoice.{OpenChoice}
-pub use Rattle.tso_program.specs.Shown.{Question, asked}
+pub use Rattle.tso_program.specs.Shown.{asked}
+pub use Rattle.tso_program.specs.declared.question.Question.{Question}
 pub use Rattle.tso_program.specs.declared.listing.Listing.{Listing}
 pub use Rattle.tso_program.specs.declared.outcome.Outcome.{Outcome}
 pub use Rattle.tso_program.specs.declared.shown.Shown.{Shown}

@@ -1,7 +1,7 @@
 -- What is placed.
 use Rattle.std.specs.Prelude.{◌≡◌, ℕ, List}
 use Rattle.gap_sets.specs.Order.{total}
-use Rattle.tso_program.specs.Shown.{Question}
+use Rattle.tso_program.specs.declared.question.Question.{Question}
 use Rattle.tso_machine.specs.Outcomes.{Headline, IsTheAnswer}
 use Rattle.search_core.specs.Answers.{the_answer, least_cost}
 use Rattle.fence_place.specs.declared.placing.Placed.{Placed}

@@ -3,7 +3,7 @@ use Rattle.std.specs.Prelude.{◌≡◌, ℕ, List, Option, None, All, IfSome, m
 use Rattle.std.specs.List.{range_with_len}
 use Rattle.atomic_table.specs.Seated.{TableId}
 use Rattle.gap_sets.specs.declared.region.Region.{Region}
-use Rattle.tso_program.specs.Shown.{Question}
+use Rattle.tso_program.specs.declared.question.Question.{Question}
 use Rattle.search_core.specs.Facts.{Serving}
 use Rattle.search_core.specs.Ceilings.{problem}
 use Rattle.hunt_board.specs.Word.{Word, Known, IsSeatOf, no_ceiling, word_with}

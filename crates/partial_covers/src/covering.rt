@@ -1,7 +1,7 @@
 //! What a search for outcomes has so far, and how it goes on: over the values of all reads, a thread at a time, up to
 //! a sketch that must end as an outcome of the list. The sketches have no gap fenced.
 ghost use Rattle.std.specs.Prelude.{◌≡◌, [], IfOk, OnOk, MatchOption};
-ghost use Rattle.tso_program.specs.Shown.{Question};
+ghost use Rattle.tso_program.specs.declared.question.Question.{Question};
 ghost use Rattle.candidate_executions.specs.Sketches.{IsWhole};
 ghost use Rattle.program_sketches.specs.ProgramSketches.{ProgramSketch, nothing_chosen, mode_in};
 ghost use Rattle.cover_judge.specs.Choices.{MayChooseEach};

@@ -20,7 +20,8 @@ pub use Rattle.tso_machine.specs.Outcomes.{IsForeignRun, IsReplayOf, IsShownRun,
 pub use Rattle.tso_machine.specs.declared.label.Label.{Label}
 pub use Rattle.tso_program.specs.Fences.{first_missing, gaps_in}
 pub use Rattle.tso_program.specs.Listings.{gap_count}
-pub use Rattle.tso_program.specs.Shown.{Question, asked, show}
+pub use Rattle.tso_program.specs.Shown.{asked, show}
+pub use Rattle.tso_program.specs.declared.question.Question.{Question}
 pub use Rattle.tso_program.specs.declared.listing.Listing.{Listing}
 pub use Rattle.tso_program.specs.declared.shown.Shown.{Shown}
 pub use Rattle.placed_text.specs.PlacedTexts.{AreTextsOf, AreWrittenTexts, IsAnswerText, IsPlacedSource, IsPlacedText}

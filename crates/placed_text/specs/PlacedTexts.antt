@@ -5,7 +5,8 @@ use Rattle.gap_sets.specs.Order.{total}
 use Rattle.tso_program.specs.declared.listing.Listing.{Listing}
 use Rattle.tso_program.specs.declared.shown.Shown.{Shown}
 use Rattle.tso_program.specs.declared.shown.ShownKind.{ShownKind}
-use Rattle.tso_program.specs.Shown.{Question, asked}
+use Rattle.tso_program.specs.Shown.{asked}
+use Rattle.tso_program.specs.declared.question.Question.{Question}
 use Rattle.tso_machine.specs.Outcomes.{Headline, IsTheAnswer}
 use Rattle.litmus_text.specs.Litmus.{Litmus}
 use Rattle.litmus_text.specs.Texts.{IsLitmus, IsFencedLitmus}

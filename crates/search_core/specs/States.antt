@@ -2,7 +2,7 @@
 use Rattle.std.specs.Prelude.{◌≡◌, ◌≤◌, ◌<◌, ℕ, true, false, List, [], ◌∷◌, Option, Some, None, slice_get, slice_set}
 use Rattle.gap_sets.specs.Regions.{all_sets}
 use Rattle.gap_sets.specs.declared.region.Region.{Region}
-use Rattle.tso_program.specs.Shown.{Question}
+use Rattle.tso_program.specs.declared.question.Question.{Question}
 use Rattle.tso_program.specs.declared.limits.TheConstants.{MAX_WORKERS}
 use Rattle.tso_program.specs.Limits.{IsWithinLimits}
 use Rattle.tree_laws.specs.GapTrees.{HaveCosts}

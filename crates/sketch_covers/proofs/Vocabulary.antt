@@ -69,7 +69,8 @@ pub use Rattle.tso_machine.specs.declared.mode.Mode.{Mode}
 pub use Rattle.tso_program.proofs.OutcomesOrdered.{equal_itself, exact_outcomes, outcomes_ordered}
 pub use Rattle.tso_program.specs.Listings.{action, code_of, start_of}
 pub use Rattle.tso_program.specs.Ordered.{outcome_cmp}
-pub use Rattle.tso_program.specs.Shown.{Question, asked, show}
+pub use Rattle.tso_program.specs.Shown.{asked, show}
+pub use Rattle.tso_program.specs.declared.question.Question.{Question}
 pub use Rattle.tso_program.specs.declared.listing.Listing.{Listing}
 pub use Rattle.tso_program.specs.declared.outcome.Outcome.{Outcome}
 pub use Rattle.tso_program.specs.declared.shown.Shown.{Shown}

@@ -1,7 +1,7 @@
 //! The outcomes that a search has found so far, with their numbers and their runs.
 ghost use Rattle.std.specs.Prelude.{◌≡◌, ◌<◌, ℕ, IfOk, IfErr, OnOk, MatchOption, Contains, length, slice_index_or};
 ghost use Rattle.tso_program.specs.declared.outcome.Outcome.{Outcome as OutcomeValue};
-ghost use Rattle.tso_program.specs.Shown.{Question};
+ghost use Rattle.tso_program.specs.declared.question.Question.{Question};
 ghost use Rattle.tso_program.specs.Ordered.{outcome_cmp};
 ghost use Rattle.tso_machine.specs.Machine.{Machine};
 ghost use Rattle.tso_machine.specs.Outcomes.{IsShownRun};

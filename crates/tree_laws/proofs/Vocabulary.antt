@@ -40,7 +40,8 @@ pub use Rattle.tso_machine.specs.declared.label.Label.{Label}
 pub use Rattle.tso_program.specs.Fences.{Gaps, gaps_in}
 pub use Rattle.tso_program.specs.Limits.{IsWithinLimits, JumpForward}
 pub use Rattle.tso_program.specs.Listings.{action, code_of, gap_count, gap_number, instr_at, start_of}
-pub use Rattle.tso_program.specs.Shown.{Question, asked, show, show_registers}
+pub use Rattle.tso_program.specs.Shown.{asked, show, show_registers}
+pub use Rattle.tso_program.specs.declared.question.Question.{Question}
 pub use Rattle.tso_program.specs.declared.action.Action.TheVariants.{Go, Read, Stop, Swap, Wait, Write}
 pub use Rattle.tso_program.specs.declared.action.Local.{Local}
 pub use Rattle.tso_program.specs.declared.listing.Listing.{Listing}

@@ -7,7 +7,7 @@ use Rattle.gap_sets.specs.Order.{Better}
 use Rattle.gap_sets.specs.Regions.{IsInRegion, child_regions}
 use Rattle.gap_sets.specs.declared.region.Region.{Region}
 use Rattle.tso_program.specs.declared.listing.Listing.{Listing}
-use Rattle.tso_program.specs.Shown.{Question}
+use Rattle.tso_program.specs.declared.question.Question.{Question}
 use Rattle.tso_program.specs.Listings.{gap_count}
 use Rattle.tso_machine.specs.declared.label.Label.{Label}
 use Rattle.tso_machine.specs.Machine.{StoreBufferMachine, no_gaps, start}

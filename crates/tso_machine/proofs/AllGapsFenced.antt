@@ -2,7 +2,7 @@
 use Rattle.tso_machine.specs.Gaps.{SetOfGaps}
 use Rattle.tso_machine.specs.Listing.{Listing}
 use Rattle.tso_machine.specs.Outcome.{Outcome}
-use Rattle.tso_machine.specs.Shown.{Question}
+use Rattle.tso_program.specs.declared.question.Question.{Question}
 use Rattle.tso_machine.specs.Fences.{gaps_in}
 use Rattle.tso_machine.specs.Limits.{JumpForward}
 use Rattle.tso_machine.specs.Machine.{start}

@@ -10,7 +10,8 @@ use Rattle.tso_machine.specs.Outcome.{Outcome}
 use Rattle.tso_machine.specs.Actions.{act}
 use Rattle.tso_machine.specs.Fences.{Gaps, place_of, moved, fence}
 use Rattle.tso_machine.specs.ShownValue.{Shown}
-use Rattle.tso_machine.specs.Shown.{Question, asked}
+use Rattle.tso_machine.specs.Shown.{asked}
+use Rattle.tso_program.specs.declared.question.Question.{Question}
 use Rattle.tso_machine.specs.Listings.{action, instr_at, start_of}
 use Rattle.tso_machine.specs.Machine.{Machine, no_gaps, State, start, outcome_at, HasEnded, Allows}
 use Rattle.tso_machine.specs.Outcomes.{AllowsShown, fenced_at}

@@ -1,7 +1,7 @@
 -- What the headline says of fenced programs, the answer says of sets of fenced gaps.
 use Rattle.std.proofs.Common.{ℕ, List}
 use Rattle.tso_machine.specs.Gaps.{SetOfGaps}
-use Rattle.tso_machine.specs.Shown.{Question}
+use Rattle.tso_program.specs.declared.question.Question.{Question}
 use Rattle.tso_machine.specs.Fences.{gaps_in}
 use Rattle.tso_machine.specs.Outcomes.{IsTheAnswer, Headline}
 use Rattle.tso_machine.specs.FenceLaws.{TheHeadlineIsTheAnswer}

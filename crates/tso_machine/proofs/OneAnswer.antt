@@ -1,7 +1,7 @@
 -- No two sets are both the answer.
 use Rattle.std.proofs.Common.{ℕ, ◌≤◌, List, inl, inr, arith}
 use Rattle.tso_machine.specs.Listing.{Listing}
-use Rattle.tso_machine.specs.Shown.{Question}
+use Rattle.tso_program.specs.declared.question.Question.{Question}
 use Rattle.tso_machine.specs.Listings.{gap_count}
 use Rattle.tso_machine.specs.Gaps.{SetOfGaps, IsGapSet}
 use Rattle.tso_machine.specs.Order.{Better}

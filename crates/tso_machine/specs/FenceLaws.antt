@@ -6,7 +6,8 @@ use Rattle.tso_machine.specs.Order.{total}
 use Rattle.tso_machine.specs.Listing.{Listing}
 use Rattle.tso_machine.specs.Outcome.{Outcome}
 use Rattle.tso_machine.specs.ShownValue.{Shown, TheVariants.All, TheVariants.Truth}
-use Rattle.tso_machine.specs.Shown.{Question, asked, ShowsValues}
+use Rattle.tso_machine.specs.Shown.{asked, ShowsValues}
+use Rattle.tso_program.specs.declared.question.Question.{Question}
 use Rattle.tso_machine.specs.Atom.{Atom}
 use Rattle.tso_machine.specs.Tree.{Tree}
 use Rattle.tso_machine.specs.Truth.{truth}

@@ -5,7 +5,8 @@ use Rattle.gap_sets.specs.Gaps.{SetOfGaps}
 use Rattle.gap_sets.specs.Order.{Better}
 use Rattle.tso_program.specs.declared.listing.Listing.{Listing}
 use Rattle.tso_program.specs.declared.outcome.Outcome.{Outcome}
-use Rattle.tso_program.specs.Shown.{Question, show}
+use Rattle.tso_program.specs.Shown.{show}
+use Rattle.tso_program.specs.declared.question.Question.{Question}
 use Rattle.tso_program.specs.Listings.{gap_count}
 use Rattle.tso_program.specs.Fences.{Gaps, gaps_in, fence}
 use Rattle.tso_machine.specs.declared.label.Label.{Label}

@@ -24,6 +24,7 @@ mod named;
 mod node;
 mod outcome;
 mod program;
+mod question;
 mod shown;
 
 pub use action::{Action, Local};
@@ -44,4 +45,5 @@ pub use named::{with_location, with_register};
 pub use node::Node;
 pub use outcome::Outcome;
 pub use program::Program;
+pub use question::Question;
 pub use shown::{Names, PLACES, REGISTER_PLACES, Shown, ShownKind};
