@@ -2,7 +2,7 @@
 use Rattle.std.specs.Prelude.{◌≡◌, ◌≢◌, ◌↔◌, ◌⊎◌, ℕ, ◌<◌, ◌≤◌, ◌+◌, ◌*◌, List, Some, None, IsSome, Contains, length}
 use Rattle.tso_machine.specs.Listing.{Listing}
 use Rattle.tso_machine.specs.Outcome.{Outcome}
-use Rattle.tso_program.specs.declared.question.Question.{Question}
+use Rattle.tso_machine.specs.Question.{Question}
 use Rattle.tso_machine.specs.Listings.{action, code_of}
 use Rattle.tso_machine.specs.Limits.{JumpForward}
 use Rattle.tso_machine.specs.Fences.{Gaps}

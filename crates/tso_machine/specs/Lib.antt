@@ -29,4 +29,5 @@ pub use Rattle.tso_program.specs.declared.instruction.Reg
 pub use Rattle.tso_program.specs.declared.listing.Listing
 pub use Rattle.tso_program.specs.declared.listing.Thread
 pub use Rattle.tso_program.specs.declared.outcome.Outcome
+pub use Rattle.tso_program.specs.declared.question.Question
 pub use Rattle.tso_program.specs.declared.shown.Shown as ShownValue

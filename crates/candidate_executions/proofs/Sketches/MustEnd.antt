@@ -4,7 +4,7 @@ use Rattle.candidate_executions.proofs.Vocabulary.{slice_get-get_or, slice_get_p
 use Rattle.candidate_executions.proofs.Vocabulary.{Candidate, access, access_by, Writes, IsCandidate, EndsWith, HasOutcome, HasShownOutcome, EachCompletionEndsSo}
 use Rattle.tso_machine.specs.{ShownValue.Shown, ShownValue.TheVariants.Truth, Atom.Atom, Truth.is_true_at, Truth.is_value}
 use Rattle.tso_machine.specs.Shown.{shown_value, show_registers, show_memory, shown_values, show, told}
-use Rattle.tso_program.specs.declared.question.Question.{Question}
+use Rattle.tso_machine.specs.Question.{Question}
 use Rattle.tso_machine.specs.Atom.TheVariants as atom
 use Rattle.tso_machine.proofs.{KnownTruths.known_is_true, Kept.memory_by}
 use Rattle.candidate_executions.specs.Sketches.{Sketch, given_to, Completes, IsSketch, MayBeLast, stopped, MayEndWith, EndsInValues, KnownAtom, EndsAs, IsWhole, MustEndAs, next_read}
