@@ -42,7 +42,7 @@ pub use limits::{
 };
 pub use listing::{Listing, Thread};
 pub use named::{with_location, with_register};
-pub use node::Node;
+pub use node::FormulaNode;
 pub use outcome::Outcome;
 pub use program::Program;
 pub use question::Question;
