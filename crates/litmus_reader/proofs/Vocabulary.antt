@@ -56,5 +56,5 @@ pub use Rattle.litmus_reader.specs.Places.{cell_places, cells_places, entry_plac
 pub use Rattle.litmus_reader.specs.Shown.{ShowsNamedLocations, ShowsNamedRegisters, shown_by, with_place, with_places}
 pub use Rattle.litmus_reader.specs.Texts.{AreParts, BreaksFirst, Means, RefusesBy, StandsFor, StandsForNothing}
 pub use Rattle.litmus_reader.specs.declared.fault.ReadFault.{ReadFault, TheVariants.NotUtf8, TheVariants.OutOfMemory, TheVariants.Program}
-pub use Rattle.litmus_reader.specs.declared.label.Label.{Label}
+pub use Rattle.litmus_reader.specs.declared.label.CodeLabel.{CodeLabel}
 pub use Rattle.litmus_reader.specs.declared.litmus.Litmus.{Litmus}

@@ -15,7 +15,7 @@ ghost use Rattle.litmus_reader.specs.Internal.Reading.{Found, IsSyntaxFault, Rea
 use crate::condition::read_formula;
 use crate::fault::ReadFault;
 use crate::jumps::{lost_jump, targets_of};
-use crate::label::{Label, all_labels};
+use crate::label::{CodeLabel, all_labels};
 use crate::lines::{fault_at, header_line};
 use crate::litmus::Litmus;
 use crate::names::NameTable;
@@ -58,7 +58,7 @@ fn jumping(
     tokens: &Tokens,
     names: &NameTable,
     body: &Body<'_>,
-    labels: &[Items<Label>],
+    labels: &[Items<CodeLabel>],
 ) -> Result<Listing, ReadFault>
     requires { labels.now ≡ all_labels (body_view body.now) }
     ensures made { IfOk result (λ listing. listing ≡ listing_by (byte_in names.now.locations) byte_at (length names.now.locations) (body_view body.now)) }

@@ -2,7 +2,7 @@
 use Rattle.litmus_text.proofs.Vocabulary.{◌≡◌, ℕ, ◌+◌, ◌*◌, ◌<◌, ◌≤◌, suc, Bool, true, List, [], ◌∷◌, ◌++◌, length, map, get_or, Option, refl, sym, ap, ◌∙◌, subst, inl, inr, arith, AllByRecursion, IsDistinct, list_all, list_any, flat_map, filter_map}
 use Rattle.litmus_text.proofs.Vocabulary.{cons_option, range_with_len, option_map_or, bytes_eq, cases_Bool, cases_lt, slice_get-get_or, slice_get_past, fill_by_all, length-map-range_with_len, bytes_eq-Decides, Tok, Reg, Thread, Listing, code_of, Tree}
 use Rattle.litmus_text.proofs.Vocabulary.{tree_map, Spells, Sum, enclosed_signs_of, PlaceView, Location, Register, EntryView, CellView, BodyView, SignView, EndingView, NoneTwice, all_names, same_place, AreVisible, TextNames, all_registers, number_in}
-use Rattle.litmus_text.proofs.Vocabulary.{entry_place, row_places, sign_places, places, location_name, is_register, names_of, names_among, is_named, Label, column, labels_behind, thread_labels, all_labels, position_in, are_found, JumpsAreFound, entries_of}
+use Rattle.litmus_text.proofs.Vocabulary.{entry_place, row_places, sign_places, places, location_name, is_register, names_of, names_among, is_named, CodeLabel, column, labels_behind, thread_labels, all_labels, position_in, are_found, JumpsAreFound, entries_of}
 use Rattle.litmus_text.proofs.Vocabulary.{own_labels, moved_labels, body_of, place_named, signs_named, ending_of, litmus_fenced_at, canonical_text, IsTextNumber, IsPrintablePlace, IsPrintableEntry, IsPrintableRow, IsPrintable, IsPrintableSign, ArePrintable}
 use Rattle.litmus_text.proofs.Vocabulary.{IsPrintableEnding, Gaps, gaps_in, fence, fenced_threads, same_count, fencing_stays_within_limits, first_value, memory_of, registers_of, thread_read, listing_of, observed_of, numbered_atom, condition_of, AreParts}
 use Rattle.litmus_text.proofs.Vocabulary.{Means, StandsFor, IsFencedLitmus, in_order_once, HasParts, CanonicalTextIsRead, MAX_THREADS}
@@ -54,7 +54,7 @@ places_again names named once [] h = refl
 places_again names named once (p ∷ ps) h =
     ap (λ (q : PlaceView). q ∷ map (place_named names) (map (observed_of (number_in names)) ps)) (place_again names named once p h.0) ∙ ap (λ (qs : List PlaceView). p ∷ qs) (places_again names named once ps h.1)
 
-same_labels_count : (gaps : Gaps) (t : ℕ) (labels : List (List Label)) → length (moved_labels gaps t labels) ≡ length labels
+same_labels_count : (gaps : Gaps) (t : ℕ) (labels : List (List CodeLabel)) → length (moved_labels gaps t labels) ≡ length labels
 same_labels_count gaps t [] = refl
 same_labels_count gaps t (ls ∷ labels) = ap suc (same_labels_count gaps (t + 1) labels)
 
@@ -77,7 +77,7 @@ module _ (b : BodyView) (e : EndingView) (f : Tree Said) (text : IsGoodText b e 
   abbrev threads : List Thread
   threads = fenced_threads gaps 0 (map (thread_read (number_in locations) b) (range_with_len 0 b.threads))
 
-  abbrev labels : List (List Label)
+  abbrev labels : List (List CodeLabel)
   labels = moved_labels gaps 0 (all_labels b)
 
   abbrev body : BodyView
@@ -161,7 +161,7 @@ module _ (b : BodyView) (e : EndingView) (f : Tree Said) (text : IsGoodText b e 
     none_twice = subst NoneTwice (sym entries_placed) (places_once locations (6 * 0) (6 * length threads) (threads_places named 0 (length threads)) once rising);
     rows = body_rows;
     labels_once = rows_once body.rows (λ t. elim (cases_lt t (length threads)) [
-      | inl lt ↦ subst (λ (ls : List Label). NoneTwice (map label_name ls)) (sym (own_again t lt)) ((names_once locations named once gaps b text.rows known_parts.0 text.jumps text.labels_once) t)
+      | inl lt ↦ subst (λ (ls : List CodeLabel). NoneTwice (map label_name ls)) (sym (own_again t lt)) ((names_once locations named once gaps b text.rows known_parts.0 text.jumps text.labels_once) t)
       | inr le ↦ subst (λ (cs : List CellView). NoneTwice (map label_name (labels_behind 0 cs))) (sym (no_cell body.rows t body_rows le)) tt
     ]);
   }
@@ -234,7 +234,7 @@ module _ (b : BodyView) (e : EndingView) (f : Tree Said) (text : IsGoodText b e 
   same_thread t d lt =
       let code : (get_or threads t d).code ≡ meaning.code_in (number_in locations) (position_in (thread_labels body.rows t)) body.rows t =
       sym (ap (λ (o : Option Thread). option_map_or (λ (thread : Thread). thread.code) o []) (slice_get-get_or threads t d lt)) ∙ sym (code_again locations named labels threads told t lt)
-      ∙ ap (λ (ls : List Label). meaning.code_in (number_in locations) (position_in ls) body.rows t) (sym (own_again t lt)) in
+      ∙ ap (λ (ls : List CodeLabel). meaning.code_in (number_in locations) (position_in ls) body.rows t) (sym (own_again t lt)) in
       let values : (get_or threads t d).registers ≡ registers_of body.entries t = registers_at held t threads d lt registers ∙ (λ i. map (λ r. register_value t r lt i) all_registers) in
       λ i. record { code = code i; registers = values i }
 
@@ -248,7 +248,7 @@ module _ (b : BodyView) (e : EndingView) (f : Tree Said) (text : IsGoodText b e 
       → StandsFor (canonical_text (record (source name b e f) { program = program; labels = labels })) (record (source name b e f) { program = program; labels = labels })
   stands name visible =
       let h : HasParts (canonical_text (record (source name b e f) { program = program; labels = labels })) name body ending = printed_is_read name body ending visible body_printable ending_printable in
-      let jumps : JumpsAreFound body = subst (λ (ls : List (List Label)). list_all (are_found ls 0) body.rows ≡ true) same_labels (rows_found locations named labels threads told may_stand) in
+      let jumps : JumpsAreFound body = subst (λ (ls : List (List CodeLabel)). list_all (are_found ls 0) body.rows ≡ true) same_labels (rows_found locations named labels threads told may_stand) in
       let spells : Spells Sum f (map meaning.sign_of signs) [] = subst (λ (vs : List SignView). Spells Sum f (map meaning.sign_of vs) []) (sym signs_told) (spelled_again f) in
       record {
         lines = h.lines;

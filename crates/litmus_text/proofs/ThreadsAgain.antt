@@ -1,7 +1,7 @@
 -- The threads of the fenced program, told by the canonical text.
 use Rattle.litmus_text.proofs.Vocabulary.{◌≡◌, ℕ, ◌+◌, ◌<◌, ◌≤◌, zero, suc, List, [], ◌∷◌, length, map, get_or, Option, refl, sym, ap, ◌∙◌, subst, inl, inr, arith, slice_index_or, AllByRecursion, IsDistinct, flat_map, range_with_len, option_map_or, column}
 use Rattle.litmus_text.proofs.Vocabulary.{bytes_eq, cases_lt, slice_get_past, length-map-range_with_len, get_or-map-range_with_len, Instr, Thread, code_of, Gaps, place_of, fenced_code, fenced_threads, PlaceView, Register, BodyView, NoneTwice, all_names}
-use Rattle.litmus_text.proofs.Vocabulary.{all_registers, number_in, row_places, Label, thread_labels, all_labels, position_in, JumpsAreFound, first_value, thread_read, own_labels, moved_label, moved_labels, IsLabelName, map-map, IsPrintableRow, get_or_past}
+use Rattle.litmus_text.proofs.Vocabulary.{all_registers, number_in, row_places, CodeLabel, thread_labels, all_labels, position_in, JumpsAreFound, first_value, thread_read, own_labels, moved_label, moved_labels, IsLabelName, map-map, IsPrintableRow, get_or_past}
 use Rattle.litmus_text.proofs.Vocabulary.{fenced_code_of, ends, labels_in_rows}
 use Rattle.litmus_reader.specs.Meaning as meaning
 use Rattle.litmus_text.proofs.{LabelPlaces.moved_of, LabelsNamed.label_name, LabelsNamed.AreGoodLabels, LabelsNamed.Ascending, LabelsOnce.thread_own, LabelsOnce.once_in_thread}
@@ -19,7 +19,7 @@ module _ (names : List (List ℕ)) (named : Named) (once : IsDistinct bytes_eq n
   threads = fenced_threads gaps 0 source
 
   -- the labels, where their fences are
-  abbrev labels : List (List Label)
+  abbrev labels : List (List CodeLabel)
   labels = moved_labels gaps 0 (all_labels b)
 
   abbrev positions : ℕ → List ℕ → ℕ
@@ -41,13 +41,13 @@ module _ (names : List (List ℕ)) (named : Named) (once : IsDistinct bytes_eq n
       moved_of gaps t (all_labels b) ∙ ap (map (moved_label (gaps t))) (get_or_past (all_labels b) t [] past)
 
   -- what holds of each thread's moved labels holds of all
-  each_thread : (P : ℕ → List Label → Type 0) → ((t : ℕ) → t < b.threads → P t (map (moved_label (gaps t)) (thread_labels b.rows t))) → ((t : ℕ) → P t []) → (t : ℕ) → P t (own_labels labels t)
+  each_thread : (P : ℕ → List CodeLabel → Type 0) → ((t : ℕ) → t < b.threads → P t (map (moved_label (gaps t)) (thread_labels b.rows t))) → ((t : ℕ) → P t []) → (t : ℕ) → P t (own_labels labels t)
   each_thread P there none t = elim (cases_lt t b.threads) [ inl lt ↦ subst (P t) (sym (own_is t lt)) (there t lt) | inr le ↦ subst (P t) (sym (own_past t le)) (none t) ]
 
   pub good : (t : ℕ) → AreGoodLabels (own_labels labels t)
   good =
       each_thread (λ t. AreGoodLabels) (λ t lt.
-      all_mapped (λ (l : Label). IsLabelName l.name) (λ (l : Label). IsLabelName l.name) (moved_label (gaps t)) (λ l good. good) (thread_labels b.rows t)
+      all_mapped (λ (l : CodeLabel). IsLabelName l.name) (λ (l : CodeLabel). IsLabelName l.name) (moved_label (gaps t)) (λ l good. good) (thread_labels b.rows t)
       (behind_good 0 (column b.rows t) (column_printable b.threads b.rows t printable))) (λ t. tt)
 
   pub names_once : (t : ℕ) → NoneTwice (map label_name (own_labels labels t))

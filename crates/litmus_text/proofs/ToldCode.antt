@@ -1,7 +1,7 @@
 -- Code that a text tells: with names of locations and labels it can be printed, and stands for the same code again. Fences too.
 use Rattle.litmus_text.proofs.Vocabulary.{◌≡◌, ℕ, ◌+◌, ◌<◌, ◌≤◌, zero, suc, Bool, true, false, List, [], ◌∷◌, ◌++◌, length, map, Option, Some, None, refl, sym, ap, ◌∙◌, subst, arith, slice_get, slice_index_or, nat_lt, is_some, option_map, option_and_then}
 use Rattle.litmus_text.proofs.Vocabulary.{if◌then◌else◌, AllByRecursion, IsDistinct, list_all, list_any, flat_map, filter_map, cons_option, range_with_len, option_map_or, bytes_eq, length-map, length-range_with_len, Instr, Thread, code_of, instr_at}
-use Rattle.litmus_text.proofs.Vocabulary.{PlaceView, Location, Register, CodeView, Load, StoreImm, Store, Xchg, Fence, Je, Jne, Jmp, CellView, NoneTwice, number_in, code_places, cell_places, cells_places, row_places, Label, instruction_of, instruction_in}
+use Rattle.litmus_text.proofs.Vocabulary.{PlaceView, Location, Register, CodeView, Load, StoreImm, Store, Xchg, Fence, Je, Jne, Jmp, CellView, NoneTwice, number_in, code_places, cell_places, cells_places, row_places, CodeLabel, instruction_of, instruction_in}
 use Rattle.litmus_text.proofs.Vocabulary.{location_name_at, label_names_at, label_name_at, own_labels, moved_label, code_named, cell_of, row_of, most_cells, rows_of, IsLabelName, IsPrintableCode, IsPrintableContent, IsPrintableCell, IsPrintableRow}
 use Rattle.litmus_text.proofs.Vocabulary.{place_of, moved, fenced_code, label_in, position_in, jump_of, is_found, are_found, place_among, number_at, IfSome, and_from as both_true, and_parts}
 use Rattle.tso_program.specs.declared.instruction.Instr.TheVariants as instr
@@ -23,11 +23,11 @@ name_back names x once h =
     ap (location_name_at names) number ∙ sym own.2
 
 -- an instruction that jumps nowhere or to one of these labels
-abbrev pub JumpsAmong : List Label → Option CodeView → Type 0
+abbrev pub JumpsAmong : List CodeLabel → Option CodeView → Type 0
 JumpsAmong labels o = option_map_or (λ l. is_some (label_in labels l)) (option_and_then jump_of o) true ≡ true
 
-module _ (names : List (List ℕ)) (named : Named) (labels : List (List Label)) where
-  abbrev own : ℕ → List Label
+module _ (names : List (List ℕ)) (named : Named) (labels : List (List CodeLabel)) where
+  abbrev own : ℕ → List CodeLabel
   own t = own_labels labels t
 
   -- instruction i of thread t stands for code that can be printed, whose places are named, and that jumps to a label of the thread
@@ -41,13 +41,13 @@ module _ (names : List (List ℕ)) (named : Named) (labels : List (List Label)) 
 
   -- ---- what a text's code stands for, with its labels where their fences are
 
-  module _ (once : IsDistinct bytes_eq names) (t : ℕ) (gap : ℕ → Bool) (source : List Label) (same : own t ≡ map (moved_label gap) source)
+  module _ (once : IsDistinct bytes_eq names) (t : ℕ) (gap : ℕ → Bool) (source : List CodeLabel) (same : own t ≡ map (moved_label gap) source)
       (good : AreGoodLabels (own t)) (labels_once : NoneTwice (map label_name (own t))) where
     stands : (l : List ℕ) → is_some (label_in source l) ≡ true → SomeAt (own t) (place_of gap (position_in source l))
     stands l h =
         let place : ℕ = place_of gap (position_in source l) in
         let there : label_names_at (own t) place ≡ label_names_at source (position_in source l) =
-        ap (λ (ls : List Label). label_names_at ls place) same ∙ labels_moved gap source (position_in source l) place refl in
+        ap (λ (ls : List CodeLabel). label_names_at ls place) same ∙ labels_moved gap source (position_in source l) place refl in
         subst (λ (ns : List (List ℕ)). 0 < length ns) (sym there) (found_stands source l h)
 
     abbrev renamed : List ℕ → List ℕ
@@ -90,7 +90,7 @@ module _ (names : List (List ℕ)) (named : Named) (labels : List (List Label)) 
     told_cell None rest good' more = more
     told_cell (Some cell) rest good' more = told_content cell.code rest good'.0.0.1 good'.0.1 good'.1 more
 
-    module _ (all : List (List Label)) (mine : slice_index_or all t [] ≡ source) where
+    module _ (all : List (List CodeLabel)) (mine : slice_index_or all t [] ≡ source) where
       -- a cell of thread u
       abbrev IfGood : ℕ → CellView → Type 0
       IfGood u cell = IsGoodCell u cell × (is_found (slice_index_or all u []) cell ≡ true)
@@ -109,7 +109,7 @@ module _ (names : List (List ℕ)) (named : Named) (labels : List (List Label)) 
 
       tellable : (o : Option CellView) → IfSome o (IfGood t) → IfSome o IsTellable
       tellable None h = tt
-      tellable (Some cell) h = (h.0, subst (λ (ls : List Label). is_found ls cell ≡ true) mine h.1)
+      tellable (Some cell) h = (h.0, subst (λ (ls : List CodeLabel). is_found ls cell ≡ true) mine h.1)
 
       -- `IsToldMoved` holds of a text's code
       pub rows_told : (threads : ℕ) (rows : List (List CellView)) → AllByRecursion (IsPrintableRow threads) rows → AllByRecursion (IsKnown names named) (flat_map row_places rows)
@@ -196,7 +196,7 @@ module _ (names : List (List ℕ)) (named : Named) (labels : List (List Label)) 
   told_again t (Some i) told = ap (λ (c : CodeView). Some (instruction_of (number_in names) (position_in (own t)) c)) told.1 ∙ ap (λ (x : Instr). Some x) told.2
 
   -- how many cells code has, with the labels of its end
-  abbrev pub cells : List Label → List Instr → ℕ
+  abbrev pub cells : List CodeLabel → List Instr → ℕ
   cells ls code = length code + (if nat_lt 0 (length (label_names_at ls (length code))) then 1 else 0)
 
   within_from : (a t u : ℕ) (threads : List Thread) → a + t ≡ u → t < length threads → cells (own u) (code_of threads t) ≤ most_cells labels a threads

@@ -40,7 +40,7 @@ pub use Rattle.litmus_reader.specs.Pieces.{AreApart, AreApartBefore, CanStand, P
 pub use Rattle.litmus_reader.specs.Places.{cell_places, cells_places, code_places, entry_place, is_register, location_name, names_among, names_of, places, row_places, sign_places}
 pub use Rattle.litmus_reader.specs.Texts.{AreParts, IsFencedLitmus, Means, StandsFor}
 pub use Rattle.litmus_reader.specs.Tokens.{NoToken, Number, Sign, Tok, Word}
-pub use Rattle.litmus_reader.specs.declared.label.Label.{Label}
+pub use Rattle.litmus_reader.specs.declared.label.CodeLabel.{CodeLabel}
 pub use Rattle.litmus_reader.specs.declared.observed.Observed.{Observed}
 pub use Rattle.litmus_syntax.proofs.SeenLaws.{same_place_is, same_place_itself}
 pub use Rattle.litmus_syntax.specs.Grammar.{IsNoneOf, NoneTwice, labels_from, labels_in_rows, labels_in_rows as all_names, place_of_entry, row_labels}

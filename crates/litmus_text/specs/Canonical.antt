@@ -19,7 +19,7 @@ use Rattle.conditions.specs.Grammar as sign
 use Rattle.conditions.specs.Canonical.{enclosed_signs_of}
 use Rattle.litmus_syntax.specs.Views.{PlaceView, Location, Register, EntryView, CodeView, CellView, BodyView, SignView, EndingView}
 use Rattle.litmus_syntax.specs.Views as view
-use Rattle.litmus_reader.specs.declared.label.Label.{Label}
+use Rattle.litmus_reader.specs.declared.label.CodeLabel.{CodeLabel}
 use Rattle.litmus_reader.specs.declared.observed.Observed.{Observed}
 use Rattle.litmus_reader.specs.declared.observed.Observed.TheVariants as observed
 use Rattle.litmus_reader.specs.declared.litmus.Litmus.{Litmus}
@@ -59,25 +59,25 @@ entries_of names p = location_entries names.locations p.memory ++ register_entri
 -- ---- labels
 
 -- the label's name, if it stands at position k
-abbrev pub named_at : ℕ → Label → Option (List ℕ)
+abbrev pub named_at : ℕ → CodeLabel → Option (List ℕ)
 named_at k l = if l.position == k then Some l.name else None
 
 -- the names of the labels at position k, in text order
-abbrev pub label_names_at : List Label → ℕ → List (List ℕ)
+abbrev pub label_names_at : List CodeLabel → ℕ → List (List ℕ)
 label_names_at labels k = filter_map (named_at k) labels
 
 -- the name of the first of them; empty if there is no label
-abbrev pub label_name_at : List Label → ℕ → List ℕ
+abbrev pub label_name_at : List CodeLabel → ℕ → List ℕ
 label_name_at labels k = slice_index_or (label_names_at labels k) 0 []
 
 -- thread t's labels
-abbrev pub own_labels : List (List Label) → ℕ → List Label
+abbrev pub own_labels : List (List CodeLabel) → ℕ → List CodeLabel
 own_labels labels t = slice_index_or labels t []
 
 -- ---- rows
 
 -- an instruction with its location's name, or the name of the first label where it jumps to
-abbrev pub code_named : List (List ℕ) → List Label → Instr → CodeView
+abbrev pub code_named : List (List ℕ) → List CodeLabel → Instr → CodeView
 code_named names labels (instr.LoadImm r n) = view.LoadImm r n
 code_named names labels (instr.Copy r s) = view.Copy r s
 code_named names labels (instr.Load r l) = view.Load r (location_name_at names l)
@@ -92,29 +92,29 @@ code_named names labels (instr.Jne k) = view.Jne (label_name_at labels k)
 code_named names labels (instr.Jmp k) = view.Jmp (label_name_at labels k)
 
 -- the cell of thread t in row k: the labels at position k, and instruction k
-abbrev pub cell_of : List (List ℕ) → List (List Label) → List Thread → ℕ → ℕ → CellView
+abbrev pub cell_of : List (List ℕ) → List (List CodeLabel) → List Thread → ℕ → ℕ → CellView
 cell_of names labels threads k t = record {
   labels = label_names_at (own_labels labels t) k;
   code = option_map (code_named names (own_labels labels t)) (instr_at threads t k);
 }
 
-abbrev pub row_of : List (List ℕ) → List (List Label) → List Thread → ℕ → List CellView
+abbrev pub row_of : List (List ℕ) → List (List CodeLabel) → List Thread → ℕ → List CellView
 row_of names labels threads k = map (cell_of names labels threads k) (range_with_len 0 (length threads))
 
 -- how many cells a thread has: one for each instruction, and one for the labels of its end where it has such
-abbrev pub cell_count : List Label → Thread → ℕ
+abbrev pub cell_count : List CodeLabel → Thread → ℕ
 cell_count labels thread = length thread.code + (if nat_lt 0 (length (label_names_at labels (length thread.code))) then 1 else 0)
 
 -- how many cells the thread with most of them has, from thread t on
-abbrev pub most_cells : List (List Label) → ℕ → List Thread → ℕ
+abbrev pub most_cells : List (List CodeLabel) → ℕ → List Thread → ℕ
 most_cells labels t [] = 0
 most_cells labels t (thread ∷ threads) = max (cell_count (own_labels labels t) thread) (most_cells labels (t + 1) threads)
 
 -- as many rows as a thread has cells
-abbrev pub rows_of : List (List ℕ) → List (List Label) → List Thread → List (List CellView)
+abbrev pub rows_of : List (List ℕ) → List (List CodeLabel) → List Thread → List (List CellView)
 rows_of names labels threads = map (row_of names labels threads) (range_with_len 0 (most_cells labels 0 threads))
 
-abbrev pub body_of : TextNames → List (List Label) → Listing → BodyView
+abbrev pub body_of : TextNames → List (List CodeLabel) → Listing → BodyView
 body_of names labels p = record { entries = entries_of names p; threads = length p.threads; rows = rows_of names.locations labels p.threads }
 
 -- ---- what is observed
@@ -153,11 +153,11 @@ ending_of names shown condition =
 -- ---- the whole
 
 -- a label where its place lies in the fenced thread: at its fence, where a fence stands before its instruction
-abbrev pub moved_label : (ℕ → Bool) → Label → Label
+abbrev pub moved_label : (ℕ → Bool) → CodeLabel → CodeLabel
 moved_label gap l = record { name = l.name; position = place_of gap l.position }
 
 -- the labels of the threads from thread t on
-abbrev pub moved_labels : Gaps → ℕ → List (List Label) → List (List Label)
+abbrev pub moved_labels : Gaps → ℕ → List (List CodeLabel) → List (List CodeLabel)
 moved_labels gaps t [] = []
 moved_labels gaps t (labels ∷ more) = map (moved_label (gaps t)) labels ∷ moved_labels gaps (t + 1) more
 

@@ -7,7 +7,7 @@ ghost use Rattle.litmus_text.specs.Canonical.{label_names_at, label_name_at, own
 
 use crate::words::push_gap;
 use gap_sets::GapSet;
-use litmus_reader::{Label, Litmus};
+use litmus_reader::{CodeLabel, Litmus};
 use std::alloc::AllocError;
 use tso_program::{Items, Program};
 
@@ -34,7 +34,7 @@ fn position_at(program: &Program, gaps: &GapSet, t: u8, place: u8) -> Option<usi
 }
 
 /// The labels of a thread.
-fn labels_of(labels: &[Items<Label>], thread: usize) -> &[Label]
+fn labels_of(labels: &[Items<CodeLabel>], thread: usize) -> &[CodeLabel]
     ensures { result.now ≡ own_labels labels.now thread }
 {
     match labels.get(thread) {
@@ -44,7 +44,7 @@ fn labels_of(labels: &[Items<Label>], thread: usize) -> &[Label]
 }
 
 /// `NAME: NAME: ..`, the labels of a position; returns how many they are.
-fn push_own(out: &mut Vec<u8>, labels: &[Label], position: usize) -> Result<usize, AllocError>
+fn push_own(out: &mut Vec<u8>, labels: &[CodeLabel], position: usize) -> Result<usize, AllocError>
     ensures text { IfOk result (λ count. out.new.items ≡ out.old.items ++ text_of (joined_by gap (map label_pieces (label_names_at labels.now position)))) }
     ensures count { IfOk result (λ count. count ≡ length (label_names_at labels.now position)) }
 {
@@ -61,7 +61,7 @@ fn push_own(out: &mut Vec<u8>, labels: &[Label], position: usize) -> Result<usiz
 }
 
 /// The name of the first label of a position; `None` if it has no label.
-fn first_label(labels: &[Label], position: usize) -> &[u8]
+fn first_label(labels: &[CodeLabel], position: usize) -> &[u8]
     ensures { result.now ≡ label_name_at labels.now position }
 {
     for label in labels {
@@ -73,7 +73,7 @@ fn first_label(labels: &[Label], position: usize) -> &[u8]
 }
 
 /// Whether a label stands at the position.
-fn is_labelled(labels: &[Label], position: usize) -> bool
+fn is_labelled(labels: &[CodeLabel], position: usize) -> bool
     ensures { result ≡ nat_lt 0 (length (label_names_at labels.now position)) }
 {
     for label in labels {

@@ -31,7 +31,7 @@ pub use laws::{
     store_buffering_is_written,
 };
 pub use litmus_reader::{
-    Label, Litmus, NameTable, Observed, ReadFault, location_name, read_fenced, read_litmus,
+    CodeLabel, Litmus, NameTable, Observed, ReadFault, location_name, read_fenced, read_litmus,
     register_name, store_buffering_is_read, texts_name_few_locations,
 };
 pub use outcome_text::write_outcome;
