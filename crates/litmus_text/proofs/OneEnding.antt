@@ -4,13 +4,12 @@ use Rattle.std.proofs.lemmas.Option.{same_Some}
 use Rattle.text_tokens.specs.Tokens.{Tok}
 use Rattle.text_tokens.specs.Parts.{rest_of}
 use Rattle.litmus_syntax.specs.Phrases.{mark, Items}
-use Rattle.litmus_syntax.specs.Views.{PlaceView, Location, Register, SignView, EndingView}
+use Rattle.litmus_syntax.specs.Views.{SignView, EndingView}
 use Rattle.litmus_syntax.specs.Grammar.{IsPlace, separator, IsObservedItem, IsObserved}
-use Rattle.litmus_syntax.specs.Grammar.{IsQuantifier, IsSign, IsSigns, the_end, IsEnding}
-unfoldable use Rattle.litmus_syntax.specs.Reading.{place_at, place_among_at, quantifier_at, atom_at, sign_at}
+use Rattle.litmus_syntax.specs.Grammar.{IsSign, IsSigns, the_end, IsEnding}
+unfoldable use Rattle.litmus_syntax.specs.Reading.{place_at, place_among_at, atom_at, sign_at}
 use Rattle.text_tokens.specs.declared.token.Mark.TheVariants as the
-use Rattle.conditions.specs.declared.condition.Quantifier.{Quantifier, TheVariants.NotExists}
-use Rattle.litmus_syntax.proofs.{WordLaws.begins_word_again, WordLaws.separator_again, PlaceLaws.place_again, SignLaws.signs_are_read, EndingLaws.ending_is_read}
+use Rattle.litmus_syntax.proofs.{WordLaws.begins_word_again, WordLaws.separator_again, PlaceLaws.place_again, ObservedLaws.no_place, SignLaws.signs_are_read, EndingLaws.quantifier_again, EndingLaws.ending_is_read}
 use Rattle.litmus_text.proofs.OneOfEach.{One, Apart, one_read, only_one, mark_once, items_once}
 
 -- ---- what is observed
@@ -19,12 +18,6 @@ observed_item_once : (threads : ℕ) → One (IsObservedItem threads)
 observed_item_once threads ts p q rest other h g =
     let place = one_read IsPlace place_at place_again ts p q h.1.0 g.1.0 h.1.1 g.1.1 in
     (place.0, (same_Some rest other (sym (separator_again the.CloseBracket g.1.0 rest (λ e. cc) (subst (λ (z : List Tok). separator the.CloseBracket z rest) place.1 h.1.2)) ∙ separator_again the.CloseBracket g.1.0 other (λ e. cc) g.1.2)))
-
--- no place begins with `]`
-no_place : (p : PlaceView) (ts rest last : List Tok) → mark the.CloseBracket ts last → IsPlace p ts rest → ⊥
-no_place (Location x) ts rest last is (inl h) = let bad = sym is ∙ h.1 in cc
-no_place (Location x) ts rest last is (inr h) = let bad = sym is ∙ h.1 in cc
-no_place (Register t r) ts rest last is h = let bad = sym is ∙ h.1 in cc
 
 observed_apart : (threads : ℕ) → Apart (IsObservedItem threads) (mark the.CloseBracket)
 observed_apart threads ts rest other p h g = no_place p ts g.1.0 rest h g.1.1
@@ -39,13 +32,6 @@ observed_once threads ts ps qs rest other (inl h) (inl g) =
 observed_once threads ts ps qs rest other (inl h) (inr g) = let bad = sym g.1.1 ∙ begins_word_again (codes "locations") ts h.0 h.1 in absurd cc
 observed_once threads ts ps qs rest other (inr h) (inl g) = let bad = sym h.1.1 ∙ begins_word_again (codes "locations") ts g.0 g.1 in absurd cc
 observed_once threads ts ps qs rest other (inr h) (inr g) = (h.0 ∙ sym g.0, sym h.1.0 ∙ g.1.0)
-
--- ---- the quantifier
-
-quantifier_is_read : (q : Quantifier) (ts rest : List Tok) → IsQuantifier q ts rest → quantifier_at ts ≡ Some (q, rest)
-unfolding quantifier_at
-quantifier_is_read NotExists ts rest h = rw (h.1, h.2) refl
-quantifier_is_read q ts rest h = rw h refl
 
 -- ---- the signs
 
@@ -65,5 +51,5 @@ signs_once threads ts ss zs h g =
 pub ending_once : (threads : ℕ) (ts : List Tok) (e d : EndingView) → IsEnding threads e ts → IsEnding threads d ts → e ≡ d
 ending_once threads ts e d h g =
     let observed = only_one (IsObserved threads) (observed_once threads) e.observed ts h.0 h.1 in
-    let quantifier = quantifier_is_read e.quantifier h.0 h.2.0 h.2.1 in
+    let quantifier = quantifier_again e.quantifier h.0 h.2.0 h.2.1 in
     sym ((ending_is_read threads ts h.0 h.2.0 e.observed e.quantifier e.signs observed quantifier (h.2.2, λ zs i. signs_once threads h.2.0 zs e.signs i h.2.2)).1 d g)

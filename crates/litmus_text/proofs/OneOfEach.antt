@@ -5,14 +5,11 @@ use Rattle.text_tokens.specs.Tokens.{Tok}
 use Rattle.text_tokens.specs.Parts.{rest_of}
 use Rattle.litmus_syntax.specs.Phrases.{mark, Items, end, item}
 use Rattle.text_tokens.specs.declared.token.Mark.{Mark}
-use Rattle.litmus_syntax.proofs.ItemLaws.{Only}
+use Rattle.litmus_syntax.proofs.ItemLaws.{Only, pair_of}
 
 -- tokens begin with one value, and the same tokens follow it
 abbrev pub One : {X : Type 0} → (X → List Tok → List Tok → Type 0) → Type 0
 One {X} Item = (ts : List Tok) (x y : X) (rest other : List Tok) → Item x ts rest → Item y ts other → (x ≡ y) × (rest ≡ other)
-
-abbrev pair_of : {X : Type 0} → X → List Tok → X × List Tok
-pair_of x ts = (x, ts)
 
 -- what is read as the phrase says is the only one
 pub one_read : {X : Type 0} (Item : X → List Tok → List Tok → Type 0) (item_at : List Tok → Option (X × List Tok)) → ((x : X) (ts rest : List Tok) → Item x ts rest → item_at ts ≡ Some (pair_of x rest)) → One Item

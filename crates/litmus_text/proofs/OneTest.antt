@@ -12,7 +12,8 @@ use Rattle.conditions.specs.Grammar.{Spells, Sum}
 use Rattle.conditions.proofs.SpelledIsRead.{spells_one}
 use Rattle.litmus_reader.specs.{declared.litmus.Litmus.Litmus, Names.TextNames, Names.number_in, Places.names_of, Labels.all_labels}
 use Rattle.litmus_reader.specs.{Meaning.listing_of, Meaning.sign_of, Meaning.condition_of, Meaning.observed_of, Texts.AreParts, Texts.Means}
-use Rattle.litmus_text.proofs.{OneBody.body_once, OneEnding.ending_once, OneFront.first_line_once, OneFront.skipped_once}
+use Rattle.litmus_text.proofs.{OneBody.body_once, OneEnding.ending_once, OneFront.skipped_once}
+use Rattle.litmus_lines.proofs.FirstLineLaws.{first_line_once}
 use Rattle.text_tokens.proofs.OneReading.{only_whole}
 
 abbrev Formula : Type 0
