@@ -4,9 +4,9 @@ ghost use Rattle.tso_machine.specs.Modes.{machine_of_mode};
 ghost use Rattle.outcome_search.specs.OutcomeNumbers.{IsInOrder, IsRunOf};
 ghost use Rattle.cover_solver.specs.Witnesses.{IsWitness, HasNoWitness};
 
+use exec_axioms::Mode;
 use oracle::SolveFault;
 use outcome_search::{OutcomeIndex, Search, Unwatched, all_outcomes, start_alone};
-use exec_axioms::Mode;
 use std::alloc::{AllocError, Global};
 use tso_machine::Label;
 use tso_program::{Formula, Outcome, Program, Shown};

@@ -23,8 +23,9 @@ use crate::watch::Watch;
 use branching::{FullTrace, Plan, Tally, ValueTree, choices_of, sketch_with};
 use cert_forest::Node;
 use cover_judge::{Choice, OpenChoice};
-use sketch_covers::{KnownOutcomes, OutcomeIndex, SearchStop, cover_whole, known_leaf};
-use exec_axioms::{Mode, Sketch};
+use sketch_covers::{
+    KnownOutcomes, Mode, OutcomeIndex, SearchStop, Sketch, cover_whole, known_leaf,
+};
 use std::alloc::{AllocError, Global};
 use tso_program::Shown;
 

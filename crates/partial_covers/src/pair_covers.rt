@@ -11,8 +11,7 @@ ghost use Rattle.partial_covers.specs.OpenPairs.{IsPair};
 use crate::covering::Covering;
 use crate::watch::Watch;
 use branching::{FullTrace, LastThread, Tally, ThreadTraces, ValueTree};
-use sketch_covers::push_unsourced;
-use exec_axioms::Sketch;
+use sketch_covers::{Sketch, push_unsourced};
 use std::alloc::AllocError;
 
 /// A sketch in which all threads but two have their values.

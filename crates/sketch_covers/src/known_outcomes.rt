@@ -18,8 +18,8 @@ use crate::run::{run_if_complete, shown_run};
 use crate::same_choices::sketch_in;
 use crate::same_machine::have_same_machine;
 use branching::{OrderedOutcomes, WholeAccesses};
-use run_maker::MadeRun;
 use exec_axioms::{Mode, Sketch};
+use run_maker::MadeRun;
 use std::alloc::{AllocError, Global};
 use tso_program::{Outcome, Shown};
 

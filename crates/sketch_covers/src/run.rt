@@ -5,8 +5,8 @@ ghost use Rattle.exec_axioms.specs.Complete.{IsComplete};
 ghost use Rattle.tso_program.specs.Shown.{show};
 ghost use Rattle.sketch_covers.specs.ShownRuns.{IsShownRunOf};
 
-use run_maker::{MadeRun, MakeFault, make_run};
 use exec_axioms::Sketch;
+use run_maker::{MadeRun, MakeFault, make_run};
 use std::alloc::{AllocError, Global};
 use tso_program::Shown;
 
