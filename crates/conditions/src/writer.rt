@@ -100,7 +100,7 @@ pub fn tokens(alloc: Global, nodes: &[FormulaNode]) -> Result<Vec<Token>, AllocE
     Ok(tokens)
 }
 
-/// The same in parentheses, and no second ones.
+/// The canonical tokens of the formula that these nodes stand for, in parentheses, and no second ones.
 pub fn enclosed_tokens(alloc: Global, nodes: &[FormulaNode]) -> Result<Vec<Token>, AllocError>
     ensures { (f : Tree AtomValue) → nodes_of f ≡ nodes.now → IfOk result (λ tokens. map sign_of_token tokens.items ≡ enclosed_signs_of f) }
 {

@@ -171,7 +171,8 @@ impl Shown {
         }
     }
 
-    /// The same. A formula is shared, and refused where the count of its copies is full; nothing else is refused.
+    /// A copy of what is shown. A formula is shared, and refused where the count of its copies is full; nothing else is
+    /// refused.
     pub fn copy(&self) -> Result<Shown, AllocError>
         ensures { MatchResult result (λ other. other ≡ self.now) (λ _. ¬ ShowsValues self.now) }
     {
