@@ -17,7 +17,7 @@ pub record AreTracesOf (s : ProgramSketch) (x : ThreadTraces) : Type 0 where
   pub tree : IsValueTree x.thread (traces x.tree)
   pub root_is : root (traces x.tree) ≡ s
 
--- the same of the last thread, and of the one before it
+-- the last thread, and the one before it, with what each does from its values in the sketch on
 pub record IsLast (s : ProgramSketch) (last : LastThread) : Type 0 where
   pub there : last.thread < length s.program.threads
   pub tree : IsValueTree last.thread (traces last.tree)

@@ -27,7 +27,7 @@ abbrev pub IsLastValue : ProgramSketch → Shown → (Event → Type 0) → ℕ 
 IsLastValue s shown P l last = MatchOption last ((v : ℕ) → MayEndBy s P l v → ⊥)
     (λ u. ((v : ℕ) × MayEndBy s P l v) × ((v : ℕ) → MayEndBy s P l v → shown_value shown l v ≡ u))
 
--- the same for each location
+-- what is shown of those last writes, for each location
 pub record AreLastValues (s : ProgramSketch) (shown : Shown) (P : Event → Type 0) (values : List (Option ℕ)) : Type 0 where
   pub long : length values ≡ MAX_LOCATIONS
   pub each : (l : ℕ) → l < length s.program.memory → IsLastValue s shown P l (slice_index_or values l None)

@@ -54,7 +54,7 @@ cell_jump c = option_and_then jump_of c.code
 abbrev pub is_found : List CodeLabel → CellView → Bool
 is_found labels c = option_map_or (λ l. is_some (label_in labels l)) (cell_jump c) true
 
--- the same of cells, the first of which is thread t's, and of each thread's labels
+-- whether each cell jumps nowhere or to one of its thread's labels: the first cell is thread t's
 abbrev pub are_found : List (List CodeLabel) → ℕ → List CellView → Bool
 are_found labels t [] = true
 are_found labels t (c ∷ cs) = is_found (slice_index_or labels t []) c && are_found labels (t + 1) cs

@@ -84,6 +84,6 @@ pub record IsNoLitmus (text : List ℕ) (fault : ReadFault) : Type 0 where
   pub why : Refuses text fault
   pub none : (litmus : Litmus Listing) → IsLitmus text litmus → fault ≡ OutOfMemory
 
--- the same by the limits of a fenced program
+-- why bytes are not the litmus text of a fenced program
 abbrev pub RefusesFenced : List ℕ → ReadFault → Type 0
 RefusesFenced text fault = RefusesBy first_fenced_fault text fault

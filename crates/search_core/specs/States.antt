@@ -57,7 +57,7 @@ HasNoOpen s = (place : ℕ) (n : Region) → ¬ IsOpenAt s.entries place n
 abbrev pub IsDone : SearchState → Type 0
 IsDone s = (place : ℕ) (e : Entry) → slice_get s.entries place ≡ Some e → is_live e ≡ false
 
--- the same entries, but this one at its place
+-- the entries with this one at its place
 abbrev pub put_at : SearchState → ℕ → Entry → SearchState
 put_at s place e = record s { entries = slice_set s.entries place e }
 

@@ -28,7 +28,7 @@ pub record IsNeat (tree : Cover) : Type 0 where
   pub numbers : HasNumbers tree
   pub simple : HasSimpleCycles tree
 
--- the same of several trees
+-- the numbers of several trees are those of a certificate's text, and no cycle has an event twice
 pub record AreNeat (trees : Covers) : Type 0 where
   pub numbers : HaveNumbers trees
   pub simple : HaveSimpleCycles trees

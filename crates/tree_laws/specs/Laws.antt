@@ -92,7 +92,7 @@ abbrev pub CoversAreJudgedInOrder : Type 0
 CoversAreJudgedInOrder = (q : Question) (mode : Machine) (outcomes : List Outcome) (trees : List Cover) (ks : List Sketch) →
     AreValidCovers q mode outcomes (covers_of trees) ks ↔ AllZip (IsValidCover q mode outcomes) trees ks
 
--- the same of gap trees and regions
+-- gap trees in order are valid exactly where there are as many as regions, each valid at its own
 abbrev pub GapsAreJudgedInOrder : Type 0
 GapsAreJudgedInOrder = (p : Listing) (costs : List ℕ) (answer : SetOfGaps) (runs : List (List Label)) (trees : List Gap) (regions : List Region) →
     AreValidGaps p costs answer runs (gap_trees_of trees) regions ↔ AllZip (IsValidGap p costs answer runs) trees regions

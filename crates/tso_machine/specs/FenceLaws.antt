@@ -60,7 +60,7 @@ abbrev pub ARunThatPassesNothingIsSequential : Type 0
 ARunThatPassesNothingIsSequential = (q : Question) (labels : List Label) (o : Outcome) → JumpForward q.program.threads →
     IsShownRun q (StoreBufferMachine no_gaps) labels o → PassesNoGap q.program labels → IsSequentialOutcome q o
 
--- the same of a run whose passed gaps are the empty set
+-- a run whose passed gaps are the empty set has a sequential outcome
 abbrev pub ARunWithNothingPassedIsSequential : Type 0
 ARunWithNothingPassedIsSequential = (q : Question) (labels : List Label) (o : Outcome) → JumpForward q.program.threads →
     IsShownRun q (StoreBufferMachine no_gaps) labels o → ArePassed q.program (StoreBufferMachine no_gaps) labels set.empty → IsSequentialOutcome q o

@@ -66,7 +66,7 @@ pub record IsTheAnswer (q : Question) (costs : List ℕ) (gaps : SetOfGaps) : Ty
   pub serves : Serves q gaps
   pub least : EachBetterLeavesOutcome q costs gaps
 
--- the same question of the program with an MFENCE in each of these gaps
+-- the question of the program with an MFENCE in each of these gaps
 abbrev pub fenced_at : Gaps → Question → Question
 fenced_at gaps q = record q { program = fence gaps q.program }
 

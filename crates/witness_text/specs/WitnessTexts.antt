@@ -26,7 +26,7 @@ use Rattle.witness_text.specs.FencedGaps.{GapPlace, AreGapsAt, IsFirstWithoutGap
 abbrev pub machine_of : Listing → Sought → Machine
 machine_of p sought = machine_of_model p sought.fences sought.model
 
--- the same with no gap fenced
+-- the machine in which a run is sought, with no gap fenced
 abbrev pub unfenced_machine : Listing → Sought → Machine
 unfenced_machine p sought = machine_of_model p set.empty sought.model
 

@@ -38,7 +38,7 @@ with_label labels label = if is_some (label_in labels label.name) then labels el
 abbrev pub FindsAs : List CodeLabel → List CodeLabel → Type 0
 FindsAs found labels = (name : List ℕ) → label_in found name ≡ label_in labels name
 
--- the same of each thread's labels
+-- by each name each thread's labels give what that thread's others give
 abbrev pub FindAllAs : List (List CodeLabel) → List (List CodeLabel) → Type 0
 FindAllAs found labels = (length found ≡ length labels) × ((t : ℕ) → FindsAs (slice_index_or found t []) (slice_index_or labels t []))
 

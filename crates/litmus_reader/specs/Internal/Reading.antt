@@ -107,7 +107,7 @@ abbrev pub MakesProgram : Listing → Result Listing ReadFault → Type 0
 MakesProgram listing (Ok program) = (program ≡ listing) × IsWithinLimits listing.threads listing.memory
 MakesProgram listing (Err fault) = MatchFault fault ⊥ (λ limit. first_fault listing.threads listing.memory ≡ Some limit) ⊤ ⊥
 
--- the same by the limits of a fenced program
+-- the program of a listing within the limits of a fenced program, or the first of these that it breaks
 abbrev pub MakesFencedProgram : Listing → Result Listing ReadFault → Type 0
 MakesFencedProgram listing (Ok program) = (program ≡ listing) × IsWithinFencedLimits listing.threads listing.memory
 MakesFencedProgram listing (Err fault) = MatchFault fault ⊥ (λ limit. first_fenced_fault listing.threads listing.memory ≡ Some limit) ⊤ ⊥
