@@ -8,12 +8,12 @@ pub use Rattle.std.specs.Prelude.{IfSome}
 pub use Rattle.bit_rows.specs.declared.row.TheConstants.{ROW_BITS}
 pub use Rattle.cert_trees.specs.declared.tree.AccessId.{AccessId}
 pub use Rattle.cover_judge.proofs.ChoicesJudged.{other_way, turned}
-pub use Rattle.cover_judge.specs.Candidates.{IsAccess, Writes}
+pub use Rattle.candidate_executions.specs.Candidates.{IsAccess, Writes}
 pub use Rattle.cover_judge.specs.Choices.{MayChoose, MayChooseEach}
 pub use Rattle.tree_laws.specs.CoverTrees.{sketch_with}
-pub use Rattle.cover_judge.specs.CoverTrees.{event_of}
-pub use Rattle.cover_judge.specs.Event.{Event, TheVariants.Access as At, TheVariants.Initial}
-pub use Rattle.cover_judge.specs.Sketches.{IsPair, IsSourceOf, IsWhole, given_to, with_pair, with_source, with_value}
+pub use Rattle.tree_laws.specs.CoverTrees.{event_of}
+pub use Rattle.candidate_executions.specs.declared.event.Event.{Event, TheVariants.Access as At, TheVariants.Initial}
+pub use Rattle.candidate_executions.specs.Sketches.{IsPair, IsSourceOf, IsWhole, given_to, with_pair, with_source, with_value}
 pub use Rattle.tree_laws.specs.declared.choice.Choice.{Choice}
 pub use Rattle.exec_axioms.proofs.Completeness.{first_there, read_there, second_there}
 pub use Rattle.rowless_sketches.proofs.Ends.{thread_within, write_within}

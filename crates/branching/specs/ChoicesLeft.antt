@@ -3,7 +3,7 @@ use Rattle.std.specs.Prelude.{ℕ, ◌<◌, List, Contains, length, slice_index_
 use Rattle.std.specs.List.{AllPairs}
 use Rattle.program_sketches.specs.ProgramSketches.{ProgramSketch}
 use Rattle.exec_axioms.specs.Complete.{HasItsSource, IsOrderedWith}
-use Rattle.cover_judge.specs.CoverTrees.{event_of}
+use Rattle.tree_laws.specs.CoverTrees.{event_of}
 use Rattle.branching.specs.declared.reads_writes.ReadValue.{ReadValue}
 use Rattle.branching.specs.declared.reads_writes.WrittenValue.{WrittenValue}
 

@@ -1,6 +1,6 @@
 -- Which thread gets its values last.
 use Rattle.std.specs.Prelude.{◌≡◌, ◌≢◌, ◌<◌, ℕ, List, [], All, IfSome, length}
-use Rattle.cover_judge.specs.Sketches.{given_to}
+use Rattle.candidate_executions.specs.Sketches.{given_to}
 use Rattle.program_sketches.specs.ProgramSketches.{ProgramSketch}
 use Rattle.rowless_sketches.specs.ThreadValues.{HasValuesAlone}
 use Rattle.tree_laws.specs.declared.choice.Choice.{Choice}

@@ -2,12 +2,12 @@
 use Rattle.std.specs.Prelude.{◌≡◌, ◌≢◌, ◌⊎◌, ℕ, ◌%◌, List, Some, Contains, slice_index}
 use Rattle.bit_rows.specs.Rows.{RowHas}
 use Rattle.bit_rows.specs.declared.row.TheConstants.{ROW_BITS}
-use Rattle.cover_judge.specs.Access.{Access}
-use Rattle.cover_judge.specs.Event.TheVariants.{Access as At}
-use Rattle.cover_judge.specs.Candidates.{Writes}
+use Rattle.candidate_executions.specs.declared.access.Access.{Access}
+use Rattle.candidate_executions.specs.declared.event.Event.TheVariants.{Access as At}
+use Rattle.candidate_executions.specs.Candidates.{Writes}
 use Rattle.program_sketches.specs.ProgramSketches.{ProgramSketch, access_in}
 use Rattle.cert_trees.specs.declared.tree.AccessId.{AccessId}
-use Rattle.cover_judge.specs.CoverTrees.{event_of}
+use Rattle.tree_laws.specs.CoverTrees.{event_of}
 use Rattle.branching.specs.declared.reads_writes.ReadValue.{ReadValue}
 use Rattle.branching.specs.declared.tally.Tally.{Tally}
 

@@ -1,6 +1,6 @@
 //! What is left to be chosen in a sketch.
 ghost use Rattle.std.specs.Prelude.{◌≡◌, ◌↔◌, IsTrue, false};
-ghost use Rattle.cover_judge.specs.CoverTrees as trees;
+ghost use Rattle.tree_laws.specs.CoverTrees as trees;
 ghost use Rattle.program_sketches.specs.Choices.{IsOrdered};
 ghost use Rattle.exec_axioms.specs.Complete.{HasItsSource};
 ghost use Rattle.branching.specs.OpenChoices.{NeedsSource, NeedsOrder};

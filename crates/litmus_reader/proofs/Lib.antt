@@ -18,6 +18,3 @@ pub mod WholeTexts
 pub mod Meant
 pub mod ExampleLaws
 pub mod ShownPlaces
--- words of the crates below, passed on
-pub use Rattle.text_tokens.proofs.NumberLaws
-pub use Rattle.text_tokens.proofs.PieceLaws

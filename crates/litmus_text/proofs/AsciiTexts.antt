@@ -2,7 +2,7 @@
 use Rattle.litmus_text.proofs.Vocabulary.{◌≡◌, ℕ, ◌<◌, ◌^◌, Bool, true, List, [], ◌∷◌, ◌++◌, refl, codes, nat_lt, arith, and_parts, list_all, IsAscii-append, Mark, Tok, Word, Number, Sign, NoToken, heading, IsAscii, IsAscii-decimal, ltb-true, nat_tests}
 use Rattle.litmus_text.proofs.Vocabulary.{is_word_byte, Piece, Space, Part, token_text, text_of, CanStand, AreApartBefore, is_visible}
 use Rattle.std.proofs.lemmas.Str.Ascii.{IsAscii-nil, IsAscii-cons}
-use Rattle.litmus_reader.specs.{Mark.TheVariants.And, Marks.mark_text}
+use Rattle.text_tokens.specs.{declared.token.Mark.TheVariants.And, Marks.mark_text}
 
 -- bytes that pass a test that only ASCII passes
 ascii_by : (test : ℕ → Bool) → ((b : ℕ) → test b ≡ true → b < 128) → (bs : List ℕ) → list_all test bs ≡ true → IsAscii bs

@@ -3,7 +3,7 @@ use Rattle.litmus_text.proofs.Vocabulary.{◌≡◌, ℕ, ◌+◌, true, false, 
 use Rattle.litmus_text.proofs.Vocabulary.{Register, EntryView, CodeView, LoadImm, Copy, Load, StoreImm, Store, Xchg, Fence, CmpImm, CmpReg, Je, Jne, Jmp, CellView, BodyView, SignView, Atom, Const, Not, EndingView, ◌▸◌, mark, number, Items, end, item}
 use Rattle.litmus_text.proofs.Vocabulary.{IsTextNumber, IsLocationName, IsLabelName, IsPrintablePlace, IsPrintableEntry, IsPrintableCode, IsPrintableContent, IsPrintableCell, IsPrintableRow, IsPrintableSign, recursion_from_All, Phrase, ◌or◌, word, IsWord}
 use Rattle.litmus_text.proofs.Vocabulary.{BeginsWith, BeginsWithAll, none, white_space, comment, token}
-use Rattle.litmus_reader.specs.Mark.TheVariants as the
+use Rattle.text_tokens.specs.declared.token.Mark.TheVariants as the
 use Rattle.litmus_syntax.specs.Grammar.{register, name, memory, IsPlace, separator, IsEntryItem, NoneTwice, labels_in_rows, place_of_entry, HasThread, MoreColumns, last, column, immediate, comma, IsCode, IsLabelMark, IsContent, IsCell, IsNextCell, IsRow, before_ending, IsBody, IsObservedItem, IsObserved, IsQuantifier, IsSign, the_end, IsEnding}
 
 -- a token as texts have them

@@ -5,9 +5,9 @@ use Rattle.litmus_text.proofs.Vocabulary.{LoadImm, Copy, Load, StoreImm, Store, 
 use Rattle.litmus_text.proofs.Vocabulary.{IsPrintableCode, IsPrintableContent, IsPrintableCell, IsPrintableRow, IsPrintable, IsPrintableSign, begins_with_a_word, SignsAreApart, ArePrintable, IsPrintableEnding, digits_decimal, decimal_nonempty, IsWord}
 use Rattle.litmus_text.proofs.Vocabulary.{NoWordGoesOn, line_end, next, joined_by, bar, gap, valued_pieces, entry_pieces, initial_pieces, row_end, line_of, column_pieces, header_pieces, code_pieces, label_pieces, cell_pieces, row_pieces, body_pieces}
 use Rattle.litmus_text.proofs.Vocabulary.{observed_place_pieces, observed_pieces, sign_pieces, condition_pieces, ending_pieces, lines_pieces, sign, space}
-use Rattle.litmus_reader.specs.Comments.{opens}
+use Rattle.text_tokens.specs.Comments.{opens}
 use Rattle.litmus_text.proofs.{Lists.all_mapped, PiecesAppended.AreApartBefore-append, WordsWritten.register_word, WordsWritten.digits_in_word}
-use Rattle.litmus_reader.specs.Mark.TheVariants as the
+use Rattle.text_tokens.specs.declared.token.Mark.TheVariants as the
 
 -- pieces that can be written before whatever does not go on with a word
 abbrev pub IsApart : List Piece → Type 0

@@ -5,7 +5,7 @@ use Rattle.litmus_text.proofs.Vocabulary.{Jmp, CellView, BodyView, SignView, Ato
 use Rattle.litmus_text.proofs.Vocabulary.{IsPrintableSign, ArePrintable, IsPrintableEnding, All-from_recursion, mnemonic_of, opens_condition, Phrase, ◌▸◌, mark, number, begins_with_word, Items, end, item, space, line_end, sign, next, joined_by, bar, gap}
 use Rattle.litmus_text.proofs.Vocabulary.{place_pieces, valued_pieces, entry_pieces, initial_pieces, row_end, column_pieces, header_pieces, code_pieces, label_pieces, cell_pieces, row_pieces, observed_place_pieces, observed_pieces, sign_pieces}
 use Rattle.litmus_text.proofs.Vocabulary.{condition_pieces, ending_pieces, lines_pieces}
-use Rattle.litmus_reader.specs.Mark.TheVariants as the
+use Rattle.text_tokens.specs.declared.token.Mark.TheVariants as the
 use Rattle.litmus_syntax.specs.Grammar.{IsPlace, IsEntryItem, NoneTwice, place_of_entry, IsInitial, HasThread, MoreColumns, last, column, IsHeader, IsCode, IsLabelMark, IsContent, ends_cell, IsCell, IsNextCell, IsRow, ends_rows, before_ending, IsRows, IsBody, IsObservedItem, IsObserved, IsQuantifier, IsSign, the_end, IsSigns, IsEnding}
 use Rattle.litmus_text.proofs.{Lists.all_mapped, WordsWritten.register_named}
 

@@ -1,8 +1,9 @@
 -- Parts that can be printed are the parts of their canonical text.
 use Rattle.litmus_text.proofs.Vocabulary.{◌≡◌, ℕ, List, [], ◌∷◌, ◌++◌, codes, refl, ap, append_assoc, lit<, append-nil, text_of, tokens_of, AreApart, lines_pieces, ending_pieces, heading, IsUtf8-from_ascii, IsAscii-append, AreVisible, IsFirstLine}
 use Rattle.litmus_text.proofs.Vocabulary.{PrintedPartsAreRead}
-use Rattle.litmus_reader.proofs.PieceLaws.{pieces_lex}
-use Rattle.litmus_reader.specs.{Space.nothing, SkippedLines.brace}
+use Rattle.text_tokens.proofs.PieceLaws.{pieces_lex}
+use Rattle.text_tokens.specs.{Space.nothing}
+use Rattle.litmus_lines.specs.{SkippedLines.brace}
 use Rattle.litmus_text.proofs.{PiecesApart.lines_apart, PiecesRelated.body_related, PiecesRelated.ending_related, AsciiTexts.ascii_pieces, AsciiTexts.ascii_heading}
 
 -- the first line gives the name

@@ -3,7 +3,7 @@ use Rattle.litmus_text.proofs.Vocabulary.{◌≡◌, ℕ, ◌+◌, ◌<◌, suc,
 use Rattle.litmus_text.proofs.Vocabulary.{length-range_with_len, lt-ltb, Piece, text_of, Quantifier, PlaceView, EntryView, CodeView, SignView, Thread, TextNames, space, line_end, sign, next, joined_by, gap, code_pieces, label_pieces, cell_pieces}
 use Rattle.litmus_text.proofs.Vocabulary.{observed_place_pieces, observed_pieces, entry_pieces, initial_pieces, sign_pieces, quantifier_pieces, condition_pieces, thread_entries, register_entries, append-nil, take_more, map_more, map_push, drop_more}
 use Rattle.litmus_text.proofs.Vocabulary.{length-map, length-take-le, map-map, flat_map-append}
-use Rattle.litmus_reader.specs.Mark.TheVariants as the
+use Rattle.text_tokens.specs.declared.token.Mark.TheVariants as the
 use Rattle.litmus_text.proofs.PiecesAppended.{text_of-append}
 
 -- the texts of two lists of parts

@@ -28,18 +28,18 @@ pub use Rattle.conditions.specs.Tokens.{sign_of_token}
 pub use Rattle.conditions.specs.declared.condition.Quantifier.{Quantifier, TheVariants.Exists, TheVariants.NotExists}
 pub use Rattle.conditions.specs.declared.token.Token.{Token}
 pub use Rattle.litmus_reader.proofs.NamesOnce.{Stands, in_order_once, number_at, place_among, stand_from}
-pub use Rattle.litmus_reader.proofs.NumberLaws.{own}
-pub use Rattle.litmus_reader.specs.Bytes.{is_letter, is_word_byte}
-pub use Rattle.litmus_reader.specs.FirstLine.{AreVisible, IsFirstLine, is_visible}
+pub use Rattle.text_tokens.proofs.NumberLaws.{own}
+pub use Rattle.text_tokens.specs.Bytes.{is_letter, is_word_byte}
+pub use Rattle.litmus_lines.specs.FirstLine.{AreVisible, IsFirstLine, is_visible}
 pub use Rattle.litmus_reader.specs.Labels.{JumpsAreFound, all_labels, are_found, column, is_found, jump_of, label_in, labels_behind, position_in, size, thread_labels}
-pub use Rattle.litmus_reader.specs.Lexing.{BeginsWith, BeginsWithAll, IsWord, NoWordGoesOn, comment, none, token, white_space}
-pub use Rattle.litmus_reader.specs.Mark.{Mark}
+pub use Rattle.text_tokens.specs.Lexing.{BeginsWith, BeginsWithAll, IsWord, NoWordGoesOn, comment, none, token, white_space}
+pub use Rattle.text_tokens.specs.declared.token.Mark.{Mark}
 pub use Rattle.litmus_reader.specs.Meaning.{atom_of, condition_of, first_value, instruction_in, instruction_of, listing_of, memory_of, numbered_atom, observed_of, registers_of, thread_read}
 pub use Rattle.litmus_reader.specs.Names.{TextNames, all_registers, in_order, is_named, number_in, register_name, with_name}
-pub use Rattle.litmus_reader.specs.Pieces.{AreApart, AreApartBefore, CanStand, Part, Piece, Space, text_of, token_text, tokens_of}
+pub use Rattle.text_tokens.specs.Pieces.{AreApart, AreApartBefore, CanStand, Part, Piece, Space, text_of, token_text, tokens_of}
 pub use Rattle.litmus_reader.specs.Places.{cell_places, cells_places, code_places, entry_place, is_register, location_name, names_among, names_of, places, row_places, sign_places}
 pub use Rattle.litmus_reader.specs.Texts.{AreParts, IsFencedLitmus, Means, StandsFor}
-pub use Rattle.litmus_reader.specs.Tokens.{NoToken, Number, Sign, Tok, Word}
+pub use Rattle.text_tokens.specs.Tokens.{NoToken, Number, Sign, Tok, Word}
 pub use Rattle.litmus_reader.specs.declared.label.CodeLabel.{CodeLabel}
 pub use Rattle.litmus_reader.specs.declared.observed.Observed.{Observed}
 pub use Rattle.litmus_syntax.proofs.SeenLaws.{same_place_is, same_place_itself}

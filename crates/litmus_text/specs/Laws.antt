@@ -2,12 +2,12 @@
 use Rattle.std.specs.Prelude.{ℕ, List}
 use Rattle.std.specs.Str.{IsUtf8}
 use Rattle.gap_sets.specs.Gaps.{SetOfGaps}
-use Rattle.litmus_reader.specs.Tokens.{Tok}
-use Rattle.litmus_reader.specs.Lexing.{Lexes}
+use Rattle.text_tokens.specs.Tokens.{Tok}
+use Rattle.text_tokens.specs.Lexing.{Lexes}
 use Rattle.litmus_syntax.specs.Views.{BodyView, EndingView}
 use Rattle.litmus_syntax.specs.Grammar.{IsBody, IsEnding}
-use Rattle.litmus_reader.specs.FirstLine.{AreVisible, IsFirstLine}
-use Rattle.litmus_reader.specs.SkippedLines.{AreSkipped}
+use Rattle.litmus_lines.specs.FirstLine.{AreVisible, IsFirstLine}
+use Rattle.litmus_lines.specs.SkippedLines.{AreSkipped}
 use Rattle.tso_program.specs.declared.listing.Listing.{Listing}
 use Rattle.litmus_reader.specs.declared.litmus.Litmus.{Litmus}
 use Rattle.litmus_reader.specs.Texts.{IsLitmus, IsFencedLitmus}

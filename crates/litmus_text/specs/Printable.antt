@@ -1,7 +1,7 @@
 -- What can be printed, so that it is read again.
 use Rattle.std.specs.Prelude.{◌≡◌, ℕ, ◌<◌, ◌≤◌, Bool, true, false, List, [], ◌∷◌, map, length, Option, Some, None}
 use Rattle.std.specs.List.{AllByRecursion}
-use Rattle.litmus_reader.specs.Lexing.{IsWord}
+use Rattle.text_tokens.specs.Lexing.{IsWord}
 use Rattle.litmus_syntax.specs.Words.{is_name, is_label}
 use Rattle.litmus_syntax.specs.Views.{PlaceView, Location, Register, EntryView, CodeView, LoadImm, Load, StoreImm, Store, Xchg, CmpImm, Je, Jne, Jmp, CellView, BodyView, SignView, Atom, Const, Not, EndingView}
 use Rattle.litmus_syntax.specs.Grammar.{NoneTwice, place_of_entry, labels_in_rows}

@@ -2,10 +2,10 @@
 use Rattle.std.specs.Prelude.{ℕ, List, [], ◌∷◌, ◌++◌, map, codes, true, false}
 use Rattle.std.specs.List.{flat_map, range_with_len}
 use Rattle.std.specs.Option.{option_to_list}
-use Rattle.litmus_reader.specs.Mark.{Mark}
-use Rattle.litmus_reader.specs.Mark.TheVariants as the
-use Rattle.litmus_reader.specs.Tokens.{Word, Number, Sign}
-use Rattle.litmus_reader.specs.Pieces.{Piece, Space, Part, text_of}
+use Rattle.text_tokens.specs.declared.token.Mark.{Mark}
+use Rattle.text_tokens.specs.declared.token.Mark.TheVariants as the
+use Rattle.text_tokens.specs.Tokens.{Word, Number, Sign}
+use Rattle.text_tokens.specs.Pieces.{Piece, Space, Part, text_of}
 use Rattle.tso_program.specs.declared.instruction.Reg.{Reg}
 use Rattle.conditions.specs.declared.condition.Quantifier.{Quantifier, TheVariants.Exists, TheVariants.NotExists, TheVariants.Forall}
 use Rattle.litmus_syntax.specs.Words.{column_name}

@@ -1,6 +1,6 @@
 //! Instructions.
 ghost use Rattle.std.specs.Prelude.{◌≡◌, ◌++◌, ◌∷◌, OnOk, codes};
-ghost use Rattle.litmus_reader.specs.Pieces.{text_of};
+ghost use Rattle.text_tokens.specs.Pieces.{text_of};
 ghost use Rattle.tso_program.specs.Fences.{gaps_in};
 ghost use Rattle.litmus_reader.specs.Names.{register_name};
 ghost use Rattle.litmus_text.specs.Spelling.{memory_pieces, immediate_pieces, jump_pieces, code_pieces};

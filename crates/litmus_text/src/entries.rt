@@ -1,7 +1,7 @@
 //! The initial values.
 ghost use Rattle.std.specs.Prelude.{◌≡◌, ◌<◌, ◌≤◌, ◌++◌, OnOk, length};
 ghost use Rattle.std.specs.List.{flat_map};
-ghost use Rattle.litmus_reader.specs.Pieces.{text_of};
+ghost use Rattle.text_tokens.specs.Pieces.{text_of};
 ghost use Rattle.litmus_text.specs.Spelling.{entry_pieces, initial_pieces};
 ghost use Rattle.litmus_text.specs.Canonical.{location_entry, location_entries, named_entry, thread_entries, register_entries, entries_of};
 

@@ -1,7 +1,7 @@
 //! The condition.
 ghost use Rattle.std.specs.Prelude.{◌≡◌, ◌++◌, OnOk, map};
 ghost use Rattle.std.specs.List.{flat_map};
-ghost use Rattle.litmus_reader.specs.Pieces.{text_of};
+ghost use Rattle.text_tokens.specs.Pieces.{text_of};
 ghost use Rattle.conditions.specs.Tokens.{sign_of_token};
 ghost use Rattle.litmus_text.specs.Spelling.{sign_pieces, quantifier_pieces, condition_pieces};
 ghost use Rattle.litmus_text.specs.Canonical.{atom_named, sign_named, signs_named};

@@ -1,6 +1,6 @@
 //! The labels of a text, at their places among the fenced instructions.
 ghost use Rattle.std.specs.Prelude.{◌≡◌, ◌≢◌, ◌++◌, ℕ, IfOk, IfNone, IfSome, length, map, nat_lt};
-ghost use Rattle.litmus_reader.specs.Pieces.{text_of};
+ghost use Rattle.text_tokens.specs.Pieces.{text_of};
 ghost use Rattle.tso_program.specs.Fences.{gaps_in, place_of};
 ghost use Rattle.litmus_text.specs.Spelling.{gap, joined_by, label_pieces};
 ghost use Rattle.litmus_text.specs.Canonical.{label_names_at, label_name_at, own_labels, moved_labels};

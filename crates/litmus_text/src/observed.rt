@@ -1,6 +1,6 @@
 //! What is observed.
 ghost use Rattle.std.specs.Prelude.{◌≡◌, ◌++◌, OnOk, map};
-ghost use Rattle.litmus_reader.specs.Pieces.{text_of};
+ghost use Rattle.text_tokens.specs.Pieces.{text_of};
 ghost use Rattle.litmus_text.specs.Spelling.{observed_place_pieces, observed_pieces};
 ghost use Rattle.litmus_text.specs.Canonical.{place_named};
 

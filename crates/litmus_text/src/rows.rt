@@ -1,7 +1,7 @@
 //! The header row and the rows of instructions.
 ghost use Rattle.std.specs.Prelude.{◌≡◌, ◌<◌, ◌≤◌, ◌+◌, ◌++◌, [], OnOk, codes, length, if◌then◌else◌, nat_lt};
 ghost use Rattle.std.specs.List.{flat_map};
-ghost use Rattle.litmus_reader.specs.Pieces.{text_of};
+ghost use Rattle.text_tokens.specs.Pieces.{text_of};
 ghost use Rattle.tso_program.specs.Listings.{instr_at};
 ghost use Rattle.tso_program.specs.Fences.{gaps_in};
 ghost use Rattle.litmus_text.specs.Spelling.{bar, cell_pieces, row_pieces, header_pieces, column_pieces};

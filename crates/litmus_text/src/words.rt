@@ -1,6 +1,6 @@
 //! Words and numbers at the end of a text.
 ghost use Rattle.std.specs.Prelude.{◌≡◌, ◌++◌, [], OnOk, nat_lt, if◌then◌else◌};
-ghost use Rattle.litmus_reader.specs.Pieces.{text_of};
+ghost use Rattle.text_tokens.specs.Pieces.{text_of};
 ghost use Rattle.litmus_syntax.specs.Views.{Location, Register};
 ghost use Rattle.litmus_text.specs.Spelling.{register_pieces, valued_pieces, gap};
 ghost use Rattle.std.specs.Fmt.{decimal};

@@ -1,6 +1,6 @@
 //! The whole text.
 ghost use Rattle.std.specs.Prelude.{◌≡◌, ◌++◌, ℕ, OnOk, IfOk, IsOkUnless, List, None, Some, Err};
-ghost use Rattle.litmus_reader.specs.Pieces.{text_of};
+ghost use Rattle.text_tokens.specs.Pieces.{text_of};
 ghost use Rattle.tso_program.specs.Fences.{gaps_in, first_missing};
 ghost use Rattle.tso_program.specs.declared.fenced.FenceFault.TheVariants.{NoSuchGap, OutOfMemory};
 ghost use Rattle.litmus_reader.specs.Texts.{IsLitmus, IsFencedLitmus};

@@ -29,11 +29,11 @@ pub use Rattle.cert_forest.specs.Node.{Node}
 pub use Rattle.cert_forest.specs.NodeConstants.{NEAR_RUNS}
 pub use Rattle.cert_forest.specs.Nodes.{cycle_nodes, known_nodes, spell, spell_row}
 pub use Rattle.cert_forest.specs.Trees.{Cover, NoCover, Source, count_covers}
-pub use Rattle.cover_judge.proofs.TighterModes.{renumbered_is_valid}
+pub use Rattle.tree_laws.proofs.TighterModes.{renumbered_is_valid}
 pub use Rattle.cover_judge.specs.Choices.{AreValueChoices, IsValueOpen, MayChoose, MayChooseEach}
 pub use Rattle.tree_laws.specs.CoverTrees.{sketch_with}
-pub use Rattle.cover_judge.specs.CoverTrees.{AreValidCovers, IsValidCover, event_of}
-pub use Rattle.cover_judge.specs.TighterModes.{changed, each_changed, in_mode, kind_in}
+pub use Rattle.tree_laws.specs.CoverTrees.{AreValidCovers, IsValidCover, event_of}
+pub use Rattle.tree_laws.specs.TighterModes.{changed, each_changed, in_mode, kind_in}
 pub use Rattle.tree_laws.specs.declared.choice.Choice.{Choice}
 pub use Rattle.sketch_covers.proofs.CombinedCovers.{at_its_start, at_start, before_first, before_next, of_others, rest_of, traces_still}
 pub use Rattle.sketch_covers.proofs.CombinedSketches.{access_elsewhere, access_here, lawful_merged, next_elsewhere, next_here, read_elsewhere, read_here, unsourced_cover, whole_merged}

@@ -41,12 +41,12 @@ pub use Rattle.cert_forest.specs.Node.{Node}
 pub use Rattle.cert_forest.specs.Nodes.{IsTree, spell, spell_all, tree_of}
 pub use Rattle.cert_forest.specs.Trees.{Cover, Covers, Cycle, Known, MoreCovers, NoCover, Order, Source, Value, covers_of}
 pub use Rattle.cover_judge.proofs.ChoicesJudged.{next_is_open, no_order, source_is_open, values_may}
-pub use Rattle.cover_judge.proofs.Lists.{first_is_here, first_or_later, later_is_here, none_here}
+pub use Rattle.tree_laws.proofs.Lists.{first_is_here, first_or_later, later_is_here, none_here}
 pub use Rattle.branching.proofs.AfterChoices.{comes_after}
 pub use Rattle.cover_judge.proofs.SketchesAfter.{moved}
 pub use Rattle.cover_judge.specs.Choices.{AreSourceChoices, AreValueChoices, IsValueOpen, MayChoose}
 pub use Rattle.tree_laws.specs.CoverTrees.{sketch_with}
-pub use Rattle.cover_judge.specs.CoverTrees.{AreValidCovers, IsCovered, IsValidCover, MustEndAsNumber, event_of}
+pub use Rattle.tree_laws.specs.CoverTrees.{AreValidCovers, IsCovered, IsValidCover, MustEndAsNumber, event_of}
 pub use Rattle.cover_judge.specs.Judged.{IsValidAt}
 pub use Rattle.tree_laws.specs.declared.choice.Choice.{Choice}
 pub use Rattle.run_maker.specs.declared.run.MadeRun.{MadeRun}

@@ -12,7 +12,7 @@ use Rattle.cert_forest.specs.Limits.{cover_depth, covers_depth}
 use Rattle.cert_forest.specs.Node.{Node}
 use Rattle.cert_forest.specs.Node.TheVariants as node
 use Rattle.tree_laws.specs.Covers.{IsNeat, AreNeat}
-use Rattle.cover_judge.specs.CoverTrees.{IsValidCover, AreValidCovers}
+use Rattle.tree_laws.specs.CoverTrees.{IsValidCover, AreValidCovers}
 use Rattle.tree_laws.specs.declared.choice.Choice.{Choice}
 use Rattle.tree_laws.specs.CoverTrees.{sketch_with}
 use Rattle.cover_judge.specs.Judged.{IsValidAt}

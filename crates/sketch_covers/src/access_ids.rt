@@ -1,7 +1,7 @@
 //! Events of threads as accesses, as trees name them.
 ghost use Rattle.std.specs.Prelude.{◌≡◌, IfOk, Contains, map};
 ghost use Rattle.candidate_executions.specs.declared.event.Event.{Event};
-ghost use Rattle.cover_judge.specs.CoverTrees.{event_of};
+ghost use Rattle.tree_laws.specs.CoverTrees.{event_of};
 ghost use Rattle.branching.specs.Accesses.{IsOfThread};
 
 use cert_forest::AccessId;

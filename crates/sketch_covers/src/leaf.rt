@@ -7,7 +7,7 @@ ghost use Rattle.program_sketches.specs.ProgramSketches.{mode_in};
 ghost use Rattle.program_sketches.specs.Known.{HasNoCycle};
 ghost use Rattle.exec_axioms.specs.Cycles.{IsSimpleCycle};
 ghost use Rattle.program_sketches.specs.FewAccesses.{AreFewAccesses};
-ghost use Rattle.cover_judge.specs.CoverTrees.{MustEndAsNumber};
+ghost use Rattle.tree_laws.specs.CoverTrees.{MustEndAsNumber};
 ghost use Rattle.sketch_covers.specs.Covers.{IsLeafAt, IsEndNotListed};
 ghost use Rattle.sketch_covers.specs.KnownOutcomes.{by_number, AreInOrder};
 ghost use Rattle.sketch_covers.specs.Pushing.{Pushes, IfKnown, IfLeaf};

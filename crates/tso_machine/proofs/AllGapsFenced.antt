@@ -1,12 +1,12 @@
 -- With every gap fenced a run passes none, so its outcome is sequential.
-use Rattle.tso_machine.specs.Gaps.{SetOfGaps}
-use Rattle.tso_machine.specs.Listing.{Listing}
-use Rattle.tso_machine.specs.Outcome.{Outcome}
+use Rattle.gap_sets.specs.Gaps.{SetOfGaps}
+use Rattle.tso_program.specs.declared.listing.Listing.{Listing}
+use Rattle.tso_program.specs.declared.outcome.Outcome.{Outcome}
 use Rattle.tso_program.specs.declared.question.Question.{Question}
-use Rattle.tso_machine.specs.Fences.{gaps_in}
-use Rattle.tso_machine.specs.Limits.{JumpForward}
+use Rattle.tso_program.specs.Fences.{gaps_in}
+use Rattle.tso_program.specs.Limits.{JumpForward}
 use Rattle.tso_machine.specs.Machine.{start}
-use Rattle.tso_machine.proofs.Gaps.{gap_below}
+use Rattle.tso_program.proofs.Gaps.{gap_below}
 use Rattle.tso_machine.specs.Outcomes.{IsStoreBufferOutcome, IsSequentialOutcome}
 use Rattle.tso_machine.specs.FenceLaws.{HasEveryGapOf, AllGapsServe}
 use Rattle.tso_machine.proofs.{SequentialIsBuffered.sequential_is_allowed, NothingPassed.nothing_passed, UnfencedRuns.unfenced, GapsAvoided.fenced_run_passes_none}

@@ -1,12 +1,12 @@
 -- What a moved instruction does is what the instruction does, at the places of the fenced thread.
 use Rattle.std.proofs.Common.{◌≡◌, ℕ, ◌+◌, Bool, true, false, not, Option, Some, None, refl, ap}
-use Rattle.tso_machine.specs.Instr.{Instr}
-use Rattle.tso_machine.specs.Instr.TheVariants.{LoadImm, Copy, Load, StoreImm, Store, Xchg, Fence, CmpImm, CmpReg, Je, Jne, Jmp}
-use Rattle.tso_machine.specs.Local.{Local}
-use Rattle.tso_machine.specs.Action.{Action, TheVariants.Stop, TheVariants.Go, TheVariants.Wait, TheVariants.Read, TheVariants.Write, TheVariants.Swap}
-use Rattle.tso_machine.specs.Fences.{place_of}
-use Rattle.tso_machine.specs.Fences.{moved}
-use Rattle.tso_machine.specs.Actions.{act, loaded, compared, jumped, value_in}
+use Rattle.tso_program.specs.declared.instruction.Instr.{Instr}
+use Rattle.tso_program.specs.declared.instruction.Instr.TheVariants.{LoadImm, Copy, Load, StoreImm, Store, Xchg, Fence, CmpImm, CmpReg, Je, Jne, Jmp}
+use Rattle.tso_program.specs.declared.action.Local.{Local}
+use Rattle.tso_program.specs.declared.action.Action.{Action, TheVariants.Stop, TheVariants.Go, TheVariants.Wait, TheVariants.Read, TheVariants.Write, TheVariants.Swap}
+use Rattle.tso_program.specs.Fences.{place_of}
+use Rattle.tso_program.specs.Fences.{moved}
+use Rattle.tso_program.specs.Actions.{act, loaded, compared, jumped, value_in}
 
 -- the state at the same instruction of the fenced thread, before its fence
 abbrev pub placed : (ℕ → Bool) → Local → Local

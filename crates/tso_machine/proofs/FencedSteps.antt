@@ -1,15 +1,15 @@
 -- A step of the fenced program: its fence, or the step of the instruction.
 use Rattle.std.proofs.Common.{◌≡◌, ℕ, ◌+◌, Bool, true, false, List, [], ◌∷◌, ◌++◌, Option, Some, refl, sym, ap, ◌∙◌}
 use Rattle.std.specs.Option.{option_map}
-use Rattle.tso_machine.specs.Instr.{Instr}
-use Rattle.tso_machine.specs.Instr.TheVariants.{Fence}
-use Rattle.tso_machine.specs.Listing.{Listing}
-use Rattle.tso_machine.specs.Local.{Local}
-use Rattle.tso_machine.specs.Action.{Action, TheVariants.Stop, TheVariants.Go, TheVariants.Wait, TheVariants.Read, TheVariants.Write, TheVariants.Swap}
-use Rattle.tso_machine.specs.Actions.{act, loaded, onward}
-use Rattle.tso_machine.specs.Listings.{action, instr_at}
-use Rattle.tso_machine.specs.Fences.{Gaps}
-use Rattle.tso_machine.specs.Fences.{place_of, moved, fence}
+use Rattle.tso_program.specs.declared.instruction.Instr.{Instr}
+use Rattle.tso_program.specs.declared.instruction.Instr.TheVariants.{Fence}
+use Rattle.tso_program.specs.declared.listing.Listing.{Listing}
+use Rattle.tso_program.specs.declared.action.Local.{Local}
+use Rattle.tso_program.specs.declared.action.Action.{Action, TheVariants.Stop, TheVariants.Go, TheVariants.Wait, TheVariants.Read, TheVariants.Write, TheVariants.Swap}
+use Rattle.tso_program.specs.Actions.{act, loaded, onward}
+use Rattle.tso_program.specs.Listings.{action, instr_at}
+use Rattle.tso_program.specs.Fences.{Gaps}
+use Rattle.tso_program.specs.Fences.{place_of, moved, fence}
 use Rattle.tso_machine.specs.declared.label.Label.{TheVariants.Exec}
 use Rattle.tso_machine.specs.declared.label.Pending.{Pending}
 use Rattle.tso_machine.specs.Machine.{no_gaps, State, put, newest, found, when_empty, step}

@@ -2,18 +2,18 @@
 use Rattle.std.proofs.Common.{◌≡◌, ℕ, suc, ◌+◌, Bool, true, false, List, [], ◌∷◌, ◌++◌, Some, refl, sym, ap, ◌∙◌, subst, arith}
 use Rattle.std.specs.Option.{option_map}
 use Rattle.std.proofs.lemmas.Option.{option_and_then_some}
-use Rattle.tso_machine.specs.Instr.{Instr}
-use Rattle.tso_machine.specs.Instr.TheVariants.{Fence}
-use Rattle.tso_machine.specs.Listing.{Listing}
-use Rattle.tso_machine.specs.Local.{Local}
-use Rattle.tso_machine.specs.Action.{TheVariants.Wait}
-use Rattle.tso_machine.specs.Actions.{onward}
-use Rattle.tso_machine.specs.Listings.{action, instr_at}
-use Rattle.tso_machine.specs.Fences.{Gaps, place_of, moved}
-use Rattle.tso_machine.specs.Fences.{fence}
+use Rattle.tso_program.specs.declared.instruction.Instr.{Instr}
+use Rattle.tso_program.specs.declared.instruction.Instr.TheVariants.{Fence}
+use Rattle.tso_program.specs.declared.listing.Listing.{Listing}
+use Rattle.tso_program.specs.declared.action.Local.{Local}
+use Rattle.tso_program.specs.declared.action.Action.{TheVariants.Wait}
+use Rattle.tso_program.specs.Actions.{onward}
+use Rattle.tso_program.specs.Listings.{action, instr_at}
+use Rattle.tso_program.specs.Fences.{Gaps, place_of, moved}
+use Rattle.tso_program.specs.Fences.{fence}
 use Rattle.tso_machine.specs.declared.label.Label.{Label, TheVariants.Exec, TheVariants.Flush}
 use Rattle.tso_machine.specs.Machine.{no_gaps, State, put, when_empty, step, run}
-use Rattle.tso_machine.proofs.FencedPlaces.{first_of, instr_at_place, instr_after_fence}
+use Rattle.tso_program.proofs.FencedPlaces.{first_of, instr_at_place, instr_after_fence}
 use Rattle.std.specs.Prelude.{if◌then◌else◌}
 use Rattle.tso_machine.proofs.{ChangedAt.put_same, ChangedAt.put_other, ChangedAt.put_each, FencedActions.placed}
 use Rattle.tso_machine.proofs.EitherMachine.{mode_with, effect, NothingWaits, made, others_keep, run_first, stands_at, flush_made, flush_makes}

@@ -2,22 +2,22 @@
 use Rattle.std.proofs.Common.{◌≡◌, ◌↔◌, ℕ, ◌+◌, Bool, true, false, List, [], Option, Some, None, refl, sym, ap, ◌∙◌, subst, inl, inr, map, length}
 use Rattle.std.specs.List.{range_with_len}
 use mathlib.Core.Path.{fun_ext}
-use Rattle.tso_machine.specs.Instr.{Instr}
-use Rattle.tso_machine.specs.Listing.{Listing}
-use Rattle.tso_machine.specs.Local.{Local}
-use Rattle.tso_machine.specs.Action.{TheVariants.Stop}
-use Rattle.tso_machine.specs.Outcome.{Outcome}
-use Rattle.tso_machine.specs.Actions.{act}
-use Rattle.tso_machine.specs.Fences.{Gaps, place_of, moved, fence}
-use Rattle.tso_machine.specs.ShownValue.{Shown}
-use Rattle.tso_machine.specs.Shown.{asked}
+use Rattle.tso_program.specs.declared.instruction.Instr.{Instr}
+use Rattle.tso_program.specs.declared.listing.Listing.{Listing}
+use Rattle.tso_program.specs.declared.action.Local.{Local}
+use Rattle.tso_program.specs.declared.action.Action.{TheVariants.Stop}
+use Rattle.tso_program.specs.declared.outcome.Outcome.{Outcome}
+use Rattle.tso_program.specs.Actions.{act}
+use Rattle.tso_program.specs.Fences.{Gaps, place_of, moved, fence}
+use Rattle.tso_program.specs.declared.shown.Shown.{Shown}
+use Rattle.tso_program.specs.Shown.{asked}
 use Rattle.tso_program.specs.declared.question.Question.{Question}
-use Rattle.tso_machine.specs.Listings.{action, instr_at, start_of}
+use Rattle.tso_program.specs.Listings.{action, instr_at, start_of}
 use Rattle.tso_machine.specs.Machine.{Machine, no_gaps, State, start, outcome_at, HasEnded, Allows}
 use Rattle.tso_machine.specs.Outcomes.{AllowsShown, fenced_at}
 use Rattle.tso_machine.specs.FenceLaws.{FencingIsTheMachineWithGaps}
-use Rattle.tso_machine.proofs.FencedPlaces.{first_of, same_registers, same_count}
-use Rattle.tso_machine.proofs.FencedPlaces.{instr_at_place, instr_after_fence}
+use Rattle.tso_program.proofs.FencedPlaces.{first_of, same_registers, same_count}
+use Rattle.tso_program.proofs.FencedPlaces.{instr_at_place, instr_after_fence}
 use Rattle.tso_machine.proofs.{FencedActions.placed, FencedActions.stops_at_none, EitherMachine.mode_with, FencedSteps.with_locals, FencesInserted.Follow, FencesInserted.inserted}
 use Rattle.tso_machine.proofs.FencesDropped.{AllStand, dropped}
 

@@ -1,12 +1,12 @@
 -- A run is a run with a set of gaps fenced exactly where it passes none of them.
 use Rattle.std.proofs.Common.{◌≡◌, ℕ, Bool, true, false, List, Option, Some, None, refl, sym, ap, ◌∙◌}
-use Rattle.tso_machine.specs.Gaps.{SetOfGaps}
-use Rattle.tso_machine.specs.Listing.{Listing}
-use Rattle.tso_machine.specs.Fences.{gaps_in}
+use Rattle.gap_sets.specs.Gaps.{SetOfGaps}
+use Rattle.tso_program.specs.declared.listing.Listing.{Listing}
+use Rattle.tso_program.specs.Fences.{gaps_in}
 use Rattle.tso_machine.specs.declared.label.Label.{Label}
 use Rattle.tso_machine.specs.Machine.{StoreBufferMachine, no_gaps, State, start, run, passes}
 use Rattle.std.specs.Option.{option_map_or}
-use Rattle.tso_machine.specs.Listings.{gap_number}
+use Rattle.tso_program.specs.Listings.{gap_number}
 use Rattle.tso_machine.proofs.Avoided.{run_fenced, run_avoids}
 use Rattle.tso_machine.specs.FenceLaws.{PassesNoGapOf, FencedRunsPassNoGapOfTheSet, PassedGapsTellTheFencedRuns}
 use Rattle.std.specs.FinSet as set

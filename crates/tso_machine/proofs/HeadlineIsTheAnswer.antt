@@ -1,8 +1,8 @@
 -- What the headline says of fenced programs, the answer says of sets of fenced gaps.
 use Rattle.std.proofs.Common.{ℕ, List}
-use Rattle.tso_machine.specs.Gaps.{SetOfGaps}
+use Rattle.gap_sets.specs.Gaps.{SetOfGaps}
 use Rattle.tso_program.specs.declared.question.Question.{Question}
-use Rattle.tso_machine.specs.Fences.{gaps_in}
+use Rattle.tso_program.specs.Fences.{gaps_in}
 use Rattle.tso_machine.specs.Outcomes.{IsTheAnswer, Headline}
 use Rattle.tso_machine.specs.FenceLaws.{TheHeadlineIsTheAnswer}
 use Rattle.tso_machine.proofs.FencingIsTheMachine.{fencing_is_the_machine}

@@ -34,9 +34,5 @@ pub mod OneAnswer
 pub mod HeadlineIsTheAnswer
 pub mod PartsServed
 -- words of the crates below, passed on
-pub use Rattle.gap_sets.proofs.Orders
-pub use Rattle.tso_program.proofs.FencedPlaces
-pub use Rattle.tso_program.proofs.Gaps
 pub use Rattle.tso_program.proofs.Kept
 pub use Rattle.tso_program.proofs.KnownTruths
-pub use Rattle.tso_program.proofs.ReadOff

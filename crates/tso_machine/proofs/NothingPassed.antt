@@ -1,12 +1,12 @@
 -- A run that passes no gap waits at each place, and so has a sequential outcome.
 use Rattle.std.proofs.Common.{◌≡◌, ℕ, ◌+◌, ◌-◌, Bool, true, false, List, Some, refl, sym, ◌∙◌, take}
-use Rattle.tso_machine.specs.Listing.{Listing}
-use Rattle.tso_machine.specs.Listings.{gap_count}
-use Rattle.tso_machine.specs.Limits.{JumpForward}
+use Rattle.tso_program.specs.declared.listing.Listing.{Listing}
+use Rattle.tso_program.specs.Listings.{gap_count}
+use Rattle.tso_program.specs.Limits.{JumpForward}
 use Rattle.tso_machine.specs.declared.label.Label.{Label}
 use Rattle.tso_machine.specs.Machine.{no_gaps, StoreBufferMachine, State, run, start, passes}
 use Rattle.tso_machine.proofs.Avoided.{run_fenced}
-use Rattle.tso_machine.proofs.Gaps.{gap_is}
+use Rattle.tso_program.proofs.Gaps.{gap_is}
 use Rattle.tso_machine.specs.FenceLaws.{PassesNoGap}
 use Rattle.tso_machine.specs.FenceLaws.{ARunThatPassesNothingIsSequential, ARunWithNothingPassedIsSequential}
 use Rattle.std.specs.Ordering.{nat_cmp}

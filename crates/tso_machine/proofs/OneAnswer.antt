@@ -1,14 +1,14 @@
 -- No two sets are both the answer.
 use Rattle.std.proofs.Common.{ℕ, ◌≤◌, List, inl, inr, arith}
-use Rattle.tso_machine.specs.Listing.{Listing}
+use Rattle.tso_program.specs.declared.listing.Listing.{Listing}
 use Rattle.tso_program.specs.declared.question.Question.{Question}
-use Rattle.tso_machine.specs.Listings.{gap_count}
-use Rattle.tso_machine.specs.Gaps.{SetOfGaps, IsGapSet}
-use Rattle.tso_machine.specs.Order.{Better}
+use Rattle.tso_program.specs.Listings.{gap_count}
+use Rattle.gap_sets.specs.Gaps.{SetOfGaps, IsGapSet}
+use Rattle.gap_sets.specs.Order.{Better}
 use Rattle.tso_machine.specs.Outcomes.{AreGapsOf, LeavesOutcome, IsTheAnswer}
 use Rattle.tso_machine.specs.FenceLaws.{TheAnswerIsTheOnlyOne}
-use Rattle.tso_machine.proofs.Orders.{decided}
-use Rattle.tso_machine.specs.GapSetConstants.{MAX_GAPS}
+use Rattle.gap_sets.proofs.Orders.{decided}
+use Rattle.gap_sets.specs.declared.gap_set.TheConstants.{MAX_GAPS}
 
 -- the gaps of a program within the limits have numbers below `MAX_GAPS`
 small : (p : Listing) (s : SetOfGaps) → gap_count p.threads ≤ MAX_GAPS → AreGapsOf p s → IsGapSet s

@@ -1,18 +1,18 @@
 -- What holds where more is shown holds where a part of it is.
 use Rattle.std.proofs.Common.{Bool, refl, sym, ap, ◌∙◌, inl, inr}
-use Rattle.tso_machine.specs.Listing.{Listing}
-use Rattle.tso_machine.specs.Outcome.{Outcome}
-use Rattle.tso_machine.specs.ShownValue.{Shown}
-use Rattle.tso_machine.specs.Fences.{gaps_in}
+use Rattle.tso_program.specs.declared.listing.Listing.{Listing}
+use Rattle.tso_program.specs.declared.outcome.Outcome.{Outcome}
+use Rattle.tso_program.specs.declared.shown.Shown.{Shown}
+use Rattle.tso_program.specs.Fences.{gaps_in}
 use Rattle.tso_machine.specs.Machine.{Machine, SequentialMachine, StoreBufferMachine}
 use Rattle.tso_machine.specs.Outcomes.{AllowsShown, LeavesOutcome}
 use Rattle.std.proofs.lemmas.Bool.{cases_lt}
-use Rattle.tso_machine.specs.Order.{total}
-use Rattle.tso_machine.specs.Shown.{show, told, asked}
+use Rattle.gap_sets.specs.Order.{total}
+use Rattle.tso_program.specs.Shown.{show, told, asked}
 use Rattle.tso_machine.specs.FenceLaws.{WhatServesServesEachPart}
 use Rattle.tso_machine.specs.FenceLaws.{WhatServesServesTheTruth, AnObservedAnswerCostsNoMore, ATruthsAnswerCostsNoMore, LeavesTruth, AServedTruthIsKept}
-use Rattle.tso_machine.specs.{ShownValue.TheVariants.Truth, Atom.Atom, Tree.Tree, Truth.truth, ProgramLaws.IsReadOff}
-use Rattle.tso_machine.proofs.ReadOff.{truth_read_off, told_apart}
+use Rattle.tso_program.specs.{declared.shown.Shown.TheVariants.Truth, declared.atom.Atom.Atom, Tree.Tree, Truth.truth, Laws.IsReadOff}
+use Rattle.tso_program.proofs.ReadOff.{truth_read_off, told_apart}
 
 module _ (p : Listing) (small large : Shown) (part : IsReadOff small large) where
   -- where one machine shows no more than another, it shows no more of a part

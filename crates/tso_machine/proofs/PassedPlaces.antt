@@ -2,22 +2,22 @@
 use Rattle.std.proofs.Common.{◌≡◌, ℕ, ◌<◌, ◌≤◌, Bool, true, false, ◌&&◌, ◌||◌, ◌==◌, not, List, [], ◌∷◌, length, Option, Some, None, option_and_then, refl, sym, ap, ◌∙◌, subst, inl, inr, arith}
 use Rattle.std.proofs.lemmas.Option.{same_Some, slice_get_within}
 use Rattle.std.proofs.lemmas.Bool.{cases_eq}
-use Rattle.tso_machine.specs.Instr.{Instr}
-use Rattle.tso_machine.specs.Instr.TheVariants.{Je, Jne}
-use Rattle.tso_machine.specs.Instr.TheVariants.{Jmp}
-use Rattle.tso_machine.specs.Listing.{Listing}
-use Rattle.tso_machine.specs.Local.{Local}
-use Rattle.tso_machine.specs.Action.{Action, TheVariants.Stop, TheVariants.Go, TheVariants.Wait, TheVariants.Read, TheVariants.Write, TheVariants.Swap}
-use Rattle.tso_machine.specs.Actions.{act, jumped}
-use Rattle.tso_machine.specs.Limits.{JumpForward}
+use Rattle.tso_program.specs.declared.instruction.Instr.{Instr}
+use Rattle.tso_program.specs.declared.instruction.Instr.TheVariants.{Je, Jne}
+use Rattle.tso_program.specs.declared.instruction.Instr.TheVariants.{Jmp}
+use Rattle.tso_program.specs.declared.listing.Listing.{Listing}
+use Rattle.tso_program.specs.declared.action.Local.{Local}
+use Rattle.tso_program.specs.declared.action.Action.{Action, TheVariants.Stop, TheVariants.Go, TheVariants.Wait, TheVariants.Read, TheVariants.Write, TheVariants.Swap}
+use Rattle.tso_program.specs.Actions.{act, jumped}
+use Rattle.tso_program.specs.Limits.{JumpForward}
 use Rattle.tso_machine.specs.declared.label.Label.{Label, TheVariants.Exec, TheVariants.Flush}
 use Rattle.tso_machine.specs.declared.label.Pending.{Pending}
-use Rattle.tso_machine.specs.Listings.{action, instr_at, code_of}
+use Rattle.tso_program.specs.Listings.{action, instr_at, code_of}
 use Rattle.tso_machine.specs.Machine.{no_gaps, put, StoreBufferMachine, State, buffered, step, run, is_empty}
 use Rattle.tso_machine.specs.Machine.{from_some, passes_at, passes}
 use Rattle.std.proofs.lemmas.Bool.{or_cases as either}
 use Rattle.std.proofs.lemmas.Bool.Decides.{nat_tests}
-use Rattle.tso_machine.specs.Instructions.{target_of}
+use Rattle.tso_program.specs.Instructions.{target_of}
 use Rattle.tso_machine.proofs.{ChangedAt.put_other, ChangedAt.put_each, StepCases.exec_by, StepCases.flush_by}
 
 -- where an action leads is not the first instruction

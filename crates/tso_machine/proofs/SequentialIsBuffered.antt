@@ -1,11 +1,11 @@
 -- A sequential run is a run of the store buffer machine, each store flushed at once, whatever the gaps.
 use Rattle.std.proofs.Common.{◌≡◌, ℕ, Bool, true, false, List, [], ◌∷◌, ◌++◌, Option, Some, None, option_and_then, refl, sym, ap, ◌∙◌}
 use Rattle.std.proofs.lemmas.Option.{same_Some}
-use Rattle.tso_machine.specs.Listing.{Listing}
-use Rattle.tso_machine.specs.Local.{Local}
-use Rattle.tso_machine.specs.Action.{Action, TheVariants.Stop, TheVariants.Go, TheVariants.Write}
-use Rattle.tso_machine.specs.Listings.{action}
-use Rattle.tso_machine.specs.Fences.{Gaps}
+use Rattle.tso_program.specs.declared.listing.Listing.{Listing}
+use Rattle.tso_program.specs.declared.action.Local.{Local}
+use Rattle.tso_program.specs.declared.action.Action.{Action, TheVariants.Stop, TheVariants.Go, TheVariants.Write}
+use Rattle.tso_program.specs.Listings.{action}
+use Rattle.tso_program.specs.Fences.{Gaps}
 use Rattle.tso_machine.specs.Machine.{put, SequentialMachine, StoreBufferMachine}
 use Rattle.tso_machine.specs.Machine.{State, past_gap, buffered, flushed, direct, run, start}
 use Rattle.tso_machine.specs.declared.label.Label.{Label, TheVariants.Exec, TheVariants.Flush}

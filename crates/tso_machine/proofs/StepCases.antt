@@ -1,16 +1,16 @@
 -- The steps of the store buffer machine, by cases.
 use Rattle.std.proofs.Common.{◌≡◌, ℕ, Bool, true, false, List, [], ◌∷◌, ◌++◌, Option, Some, option_and_then, refl}
-use Rattle.tso_machine.specs.Listing.{Listing}
-use Rattle.tso_machine.specs.Local.{Local}
-use Rattle.tso_machine.specs.Action.{Action, TheVariants.Stop, TheVariants.Go, TheVariants.Wait, TheVariants.Read, TheVariants.Write, TheVariants.Swap}
-use Rattle.tso_machine.specs.Listings.{action}
-use Rattle.tso_machine.specs.Actions.{loaded}
-use Rattle.tso_machine.specs.Fences.{Gaps}
+use Rattle.tso_program.specs.declared.listing.Listing.{Listing}
+use Rattle.tso_program.specs.declared.action.Local.{Local}
+use Rattle.tso_program.specs.declared.action.Action.{Action, TheVariants.Stop, TheVariants.Go, TheVariants.Wait, TheVariants.Read, TheVariants.Write, TheVariants.Swap}
+use Rattle.tso_program.specs.Listings.{action}
+use Rattle.tso_program.specs.Actions.{loaded}
+use Rattle.tso_program.specs.Fences.{Gaps}
 use Rattle.tso_machine.specs.Machine.{put, StoreBufferMachine, State, newest, found}
 use Rattle.tso_machine.specs.Machine.{when_empty, past_gap, buffered, flushed, step}
 use Rattle.tso_machine.specs.declared.label.Label.{TheVariants.Exec, TheVariants.Flush}
 use Rattle.tso_machine.specs.declared.label.Pending.{Pending}
-use Rattle.tso_machine.specs.Reg.{Reg}
+use Rattle.tso_program.specs.declared.instruction.Reg.{Reg}
 
 module _ (last : State) (K : State → Option State) where
   -- a gap was passed with nothing waiting, or was not fenced

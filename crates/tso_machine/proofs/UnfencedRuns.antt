@@ -1,9 +1,9 @@
 -- A run with gaps fenced is a run with none fenced.
 use Rattle.std.proofs.Common.{◌≡◌, Bool, true, List, [], ◌∷◌, Option, Some, option_and_then, ap, ◌∙◌}
 use Rattle.std.proofs.lemmas.Option.{option_and_then_some}
-use Rattle.tso_machine.specs.Listing.{Listing}
-use Rattle.tso_machine.specs.Fences.{Gaps}
-use Rattle.tso_machine.specs.Listings.{action}
+use Rattle.tso_program.specs.declared.listing.Listing.{Listing}
+use Rattle.tso_program.specs.Fences.{Gaps}
+use Rattle.tso_program.specs.Listings.{action}
 use Rattle.tso_machine.specs.declared.label.Label.{Label, TheVariants.Exec, TheVariants.Flush}
 use Rattle.tso_machine.specs.declared.label.Pending.{Pending}
 use Rattle.tso_machine.specs.Machine.{no_gaps, StoreBufferMachine, State, past_gap, buffered, step, run}

@@ -2,13 +2,13 @@
 use Rattle.std.proofs.Common.{◌≡◌, ℕ, true, List, [], ◌∷◌, ◌++◌, ◌⊎◌, Some, option_and_then, refl, sym, ap, ◌∙◌, subst, inl, inr, map, length}
 use mathlib.Core.Path.{fun_ext}
 use Rattle.std.specs.List.{range_with_len}
-use Rattle.tso_machine.specs.Listing.{Listing}
-use Rattle.tso_machine.specs.Local.{Local}
-use Rattle.tso_machine.specs.Action.{TheVariants.Write}
-use Rattle.tso_machine.specs.Listings.{action}
-use Rattle.tso_machine.specs.Actions.{loaded}
-use Rattle.tso_machine.specs.Fences.{Gaps}
-use Rattle.tso_machine.specs.Outcome.{Outcome}
+use Rattle.tso_program.specs.declared.listing.Listing.{Listing}
+use Rattle.tso_program.specs.declared.action.Local.{Local}
+use Rattle.tso_program.specs.declared.action.Action.{TheVariants.Write}
+use Rattle.tso_program.specs.Listings.{action}
+use Rattle.tso_program.specs.Actions.{loaded}
+use Rattle.tso_program.specs.Fences.{Gaps}
+use Rattle.tso_program.specs.declared.outcome.Outcome.{Outcome}
 use Rattle.tso_machine.specs.declared.label.Label.{Label, TheVariants.Exec, TheVariants.Flush}
 use Rattle.tso_machine.specs.declared.label.Pending.{Pending}
 use Rattle.tso_machine.specs.Machine.{put, SequentialMachine, StoreBufferMachine, State, newest, found, direct, run, start, IsRun, outcome_at}

@@ -1,20 +1,20 @@
 -- What holds of every program, its runs and its fences.
 use Rattle.std.specs.Prelude.{◌≡◌, ◌↔◌, ℕ, ◌<◌, ◌≤◌, Bool, true, List}
 use Rattle.std.specs.FinSet as set
-use Rattle.tso_machine.specs.Gaps.{SetOfGaps}
-use Rattle.tso_machine.specs.Order.{total}
-use Rattle.tso_machine.specs.Listing.{Listing}
-use Rattle.tso_machine.specs.Outcome.{Outcome}
-use Rattle.tso_machine.specs.ShownValue.{Shown, TheVariants.All, TheVariants.Truth}
-use Rattle.tso_machine.specs.Shown.{asked, ShowsValues}
+use Rattle.gap_sets.specs.Gaps.{SetOfGaps}
+use Rattle.gap_sets.specs.Order.{total}
+use Rattle.tso_program.specs.declared.listing.Listing.{Listing}
+use Rattle.tso_program.specs.declared.outcome.Outcome.{Outcome}
+use Rattle.tso_program.specs.declared.shown.Shown.{Shown, TheVariants.All, TheVariants.Truth}
+use Rattle.tso_program.specs.Shown.{asked, ShowsValues}
 use Rattle.tso_program.specs.declared.question.Question.{Question}
-use Rattle.tso_machine.specs.Atom.{Atom}
-use Rattle.tso_machine.specs.Tree.{Tree}
-use Rattle.tso_machine.specs.Truth.{truth}
-use Rattle.tso_machine.specs.ProgramLaws.{IsReadOff, ShowsAtoms}
-use Rattle.tso_machine.specs.Listings.{gap_count}
-use Rattle.tso_machine.specs.Limits.{JumpForward, IsWithinLimits}
-use Rattle.tso_machine.specs.Fences.{Gaps, gaps_in}
+use Rattle.tso_program.specs.declared.atom.Atom.{Atom}
+use Rattle.tso_program.specs.Tree.{Tree}
+use Rattle.tso_program.specs.Truth.{truth}
+use Rattle.tso_program.specs.Laws.{IsReadOff, ShowsAtoms}
+use Rattle.tso_program.specs.Listings.{gap_count}
+use Rattle.tso_program.specs.Limits.{JumpForward, IsWithinLimits}
+use Rattle.tso_program.specs.Fences.{Gaps, gaps_in}
 use Rattle.tso_machine.specs.declared.label.Label.{Label}
 use Rattle.tso_machine.specs.Machine.{Machine, SequentialMachine, StoreBufferMachine, no_gaps, start, IsRun}
 use Rattle.tso_machine.specs.Modes.{Passes, ArePassed}

@@ -9,13 +9,9 @@ pub mod Steps
 pub mod Examples
 pub mod Internal
 -- words of the crates below, passed on
-pub use Rattle.gap_sets.specs.Gaps
-pub use Rattle.gap_sets.specs.Order
-pub use Rattle.gap_sets.specs.declared.gap_set.TheConstants as GapSetConstants
 pub use Rattle.tso_program.specs.Actions
 pub use Rattle.tso_program.specs.Fences
 pub use Rattle.tso_program.specs.Instructions
-pub use Rattle.tso_program.specs.Laws as ProgramLaws
 pub use Rattle.tso_program.specs.Limits
 pub use Rattle.tso_program.specs.Listings
 pub use Rattle.tso_program.specs.Shown

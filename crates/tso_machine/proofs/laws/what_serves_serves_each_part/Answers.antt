@@ -1,5 +1,5 @@
-use Rattle.tso_machine.specs.ShownValue.{TheVariants.All}
-use Rattle.tso_machine.proofs.Kept.{off_all}
+use Rattle.tso_program.specs.declared.shown.Shown.{TheVariants.All}
+use Rattle.tso_program.proofs.Kept.{off_all}
 use Rattle.tso_machine.proofs.PartsServed.{part_served, truth_served}
 use Rattle.tso_machine.proofs.laws.what_serves_serves_each_part.Goals as goal
 
