@@ -1,6 +1,7 @@
 -- Parts of a tree's text.
 use Rattle.cert_pages.proofs.Vocabulary.{◌≡◌, ℕ, zero, suc, ◌+◌, ◌-◌, ◌<◌, ◌≤◌, List, [], ◌∷◌, ◌++◌, length, take, drop, refl, sym, ap, ◌∙◌, subst, append_assoc, arith, append-nil, drop_all, take_all, IfSome, Option, Some, slice_index_or, Cover, CoverNode}
 use Rattle.cert_pages.proofs.Vocabulary.{IsNext, children_of, root_of, spell_all, next_is_shorter, TreePart, trees_text, IsWritten, LeadTo, WriteFrom}
+use Rattle.cert_forest.proofs.Loops.{one_less}
 unfoldable use Rattle.cert_pages.specs.Parts.{after}
 
 -- ---- so many nodes of trees
@@ -14,9 +15,6 @@ after_next : (m : ℕ) (ts next : List Cover) (node : CoverNode) → IsNext ts n
 unfolding after
 after_next m [] next node is = absurd is
 after_next m (t ∷ ts) next node (is, e) = ap (after m) (sym e)
-
-one_less : (n i : ℕ) → i < n → n - i ≡ suc (n - (i + 1))
-one_less n i lt = omega arith
 
 -- one node more
 pub one_more : (n i : ℕ) (ts next all : List Cover) (node : CoverNode) → i < n → IsNext ts node next → after (n - i) ts ≡ all → after (n - (i + 1)) next ≡ all

@@ -5,6 +5,7 @@ use Rattle.litmus_reader.proofs.Vocabulary.{IsWithinFencedLimits, first_long, fi
 use Rattle.litmus_reader.proofs.Vocabulary.{entry_atoms, last_said, registers_from, memory_from, thread_by, listing_by, MAX_THREADS, MAX_LOCATIONS, MAX_INSTRUCTIONS, MAX_FENCED_INSTRUCTIONS}
 use Rattle.tso_program.proofs.WithinLimits.{limits_are_the_refusals, fenced_limits_are_the_refusals}
 use Rattle.litmus_reader.proofs.{Filled.range_same, Positions.byte_is, Positions.code_count, Positions.position_same}
+use Rattle.tso_program.proofs.Found.{some_test}
 
 -- ---- few names
 
@@ -120,16 +121,12 @@ module _ (Within : List Thread → List ℕ → Type 0) (first : List Thread →
 
 -- ---- few names and short threads
 
-none_there : (b : Bool) (n : ℕ) → is_some (if b then Some n else None) ≡ false → b ≡ false
-none_there true n e = absurd cc
-none_there false n e = refl
-
 -- each thread is short
 short : (longest : ℕ) (f : ℕ → Thread) (n : ℕ) → is_some (first_long longest (map f (range_with_len 0 n))) ≡ false → (t : ℕ) → t < n → length (f t).code ≤ longest
 short longest f n none t lt =
     let xs = map f (range_with_len 0 n) in
     let passes : Thread → Bool = λ thread. not (nat_lt longest (length thread.code)) in
-    let all : length xs ≤ prefix_len passes xs = ltb-false (prefix_len passes xs) (length xs) (none_there (nat_lt (prefix_len passes xs) (length xs)) (prefix_len passes xs) none) in
+    let all : length xs ≤ prefix_len passes xs = ltb-false (prefix_len passes xs) (length xs) (some_test (nat_lt (prefix_len passes xs) (length xs)) (prefix_len passes xs) none) in
     let at : passes (get_or xs t (f t)) ≡ true = prefix_len_passes passes xs t (f t) (omega (arith, lt, all, length-map-range_with_len f 0 n)) in
     ltb-false longest (length (f t).code) (not-true (nat_lt longest (length (f t).code)) (ap passes (sym (get_or-map-range_with_len f 0 n t t (f t) lt (omega arith))) ∙ at))
 

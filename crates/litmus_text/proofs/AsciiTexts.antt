@@ -11,12 +11,12 @@ ascii_by test small (b ∷ bs) h =
     let parts = and_parts (test b) (list_all test bs) h in IsAscii-cons b bs (small b parts.0) (ascii_by test small bs parts.1)
 
 -- a text whose bytes are known
-known : (bs : List ℕ) → list_all (λ b. nat_lt b 128) bs ≡ true → IsAscii bs
-known bs h = ascii_by (λ b. nat_lt b 128) (λ b lt. ltb-true b 128 lt) bs h
+pub ascii_from : (bs : List ℕ) → list_all (λ b. nat_lt b 128) bs ≡ true → IsAscii bs
+ascii_from bs h = ascii_by (λ b. nat_lt b 128) (λ b lt. ltb-true b 128 lt) bs h
 
 ascii_mark : (m : Mark) → IsAscii (mark_text m)
-ascii_mark And = known (mark_text And) refl
-ascii_mark m = known (mark_text m) refl
+ascii_mark And = ascii_from (mark_text And) refl
+ascii_mark m = ascii_from (mark_text m) refl
 
 ascii_token : (t : Tok) (rest : List ℕ) → CanStand t rest → IsAscii (token_text t)
 ascii_token (Word w) rest h = ascii_by is_word_byte (λ b h. grind (arith, nat_tests)) w h.0.1
@@ -32,4 +32,4 @@ ascii_pieces (Part t ∷ ps) rest h = IsAscii-append (token_text t) (text_of ps)
 
 -- the first line is ASCII
 pub ascii_heading : (name : List ℕ) → list_all is_visible name ≡ true → IsAscii (heading name)
-ascii_heading name h = IsAscii-append (codes "X86 ") (name ++ 10 ∷ []) (known (codes "X86 ") refl) (IsAscii-append name (10 ∷ []) (ascii_by is_visible (λ b h. grind (arith, nat_tests)) name h) (known (10 ∷ []) refl))
+ascii_heading name h = IsAscii-append (codes "X86 ") (name ++ 10 ∷ []) (ascii_from (codes "X86 ") refl) (IsAscii-append name (10 ∷ []) (ascii_by is_visible (λ b h. grind (arith, nat_tests)) name h) (ascii_from (10 ∷ []) refl))

@@ -30,3 +30,5 @@ pub mod OneTest
 pub mod OneListOfCosts
 -- conditions and what they name
 pub mod NamesTell
+-- words of the crates below, passed on
+pub use Rattle.outcome_text.proofs.Joined

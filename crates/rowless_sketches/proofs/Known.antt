@@ -10,7 +10,7 @@ use Rattle.rowless_sketches.proofs.{OwnWrites.own_or_initial, OwnWrites.first_fr
 
 -- ---- tests of two truths
 
-no_some : (o : Option ℕ) → (IsSome o → ⊥) → o ≡ None
+pub no_some : (o : Option ℕ) → (IsSome o → ⊥) → o ≡ None
 no_some None none = refl
 no_some (Some x) none = absurd (none refl)
 

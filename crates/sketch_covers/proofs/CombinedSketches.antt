@@ -7,10 +7,7 @@ use Rattle.sketch_covers.proofs.Vocabulary.{IsThisThread, IsOther, LacksWriteOfB
 use Rattle.sketch_covers.proofs.Nodes.{covers_none, node_cover}
 use Rattle.candidate_executions.specs.declared.access.Access.{Access}
 use Rattle.tree_laws.specs.declared.choice.OpenChoice.TheVariants as left
-
-none_when : (o : Option ℕ) → (IsSome o → ⊥) → o ≡ None
-none_when None closed = refl
-none_when (Some n) closed = absurd (closed refl)
+use Rattle.rowless_sketches.proofs.Known.{no_some}
 
 module _ (s u : ProgramSketch) (t : ℕ) (lawful : IsLawful s) (alone : HasValuesAlone s.chosen) (there : t < length s.program.threads) (own : IsLawful u) (alike : AreAlike u s) where
   abbrev merged : ProgramSketch
@@ -69,8 +66,8 @@ module _ (s u : ProgramSketch) (t : ℕ) (lawful : IsLawful s) (alone : HasValue
   -- each read has its value where neither has a next read
   pub whole_merged : (IsValueOpen u t → ⊥) → ((v : ℕ) → v ≢ t → IsValueOpen s v → ⊥) → IsWhole merged.program (mode_in merged) merged.chosen
   whole_merged full others v = elim (cases_eq v t) [
-    | inl e ↦ subst (λ z. next_read merged.program (mode_in merged) merged.chosen z ≡ None) (sym e) (next_here ∙ none_when _ full)
-    | inr other ↦ next_elsewhere v other ∙ none_when _ (others v other)
+    | inl e ↦ subst (λ z. next_read merged.program (mode_in merged) merged.chosen z ≡ None) (sym e) (next_here ∙ no_some _ full)
+    | inr other ↦ next_elsewhere v other ∙ no_some _ (others v other)
   ]
 
   -- a read of the thread in its own sketch is one here, and so is one of another thread
