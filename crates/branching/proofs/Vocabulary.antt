@@ -24,11 +24,11 @@ pub use Rattle.exec_axioms.specs.Complete.{HasItsSource, IsComplete, IsOrderedWi
 pub use Rattle.program_sketches.specs.ProgramSketches.{ProgramSketch, access_in, mode_in, trace_in, with_chosen}
 pub use Rattle.program_sketches.specs.Sizes.{choice_count, most_choices}
 pub use Rattle.tso_program.specs.declared.listing.Listing.{Listing}
-pub use Rattle.branching.specs.Accesses.{AreAccessesOf, IsItself, IsOfThread, IsReadValue, IsWrite, IsWrittenValue, NamesRead, NamesWrite, TakesIn}
+pub use Rattle.branching.specs.Accesses.{AreAccessesOf, IsItself, IsThreadEvent, IsReadValue, IsWrite, IsWrittenValue, NamesRead, NamesWrite, TakesIn}
 pub use Rattle.branching.specs.ChoicesLeft.{AreWritesInOrder, HasEachSource, IsEachInOrder, IsInOrderWithLater}
 pub use Rattle.branching.specs.OpenChoices.{IsOpen}
 pub use Rattle.branching.specs.Plans.{AreOthersFull, AreTracesOf, IsOtherOpen}
-pub use Rattle.branching.specs.Tallies.{HasBit, IsNeither, IsOldOrOf, IsOther, IsTalliedRead, IsTallyOf, IsThisThread, KeepsBits, TakesThread}
+pub use Rattle.branching.specs.Tallies.{HasTallyBit, IsNeither, IsOldOrOf, IsOther, IsTalliedRead, IsTallyOf, IsThisThread, KeepsBits, TakesThread}
 pub use Rattle.branching.specs.Traces.{AreValueTrees, IsValueTree, Traces, root, trace_trees, traces}
 pub use Rattle.branching.specs.declared.preference.RatedChoice.{RatedChoice}
 pub use Rattle.branching.specs.declared.reads_writes.ReadValue.{ReadValue}

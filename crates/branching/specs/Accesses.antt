@@ -13,9 +13,9 @@ use Rattle.branching.specs.declared.reads_writes.WrittenValue.{WrittenValue}
 use Rattle.branching.specs.declared.reads_writes.WholeAccesses.{WholeAccesses}
 
 -- no initial write
-abbrev pub IsOfThread : Event → Type 0
-IsOfThread (Initial l) = ⊥
-IsOfThread (At t i) = Unit {0}
+abbrev pub IsThreadEvent : Event → Type 0
+IsThreadEvent (Initial l) = ⊥
+IsThreadEvent (At t i) = Unit {0}
 
 -- the access reads the value from the location
 pub record IsReadValue (s : ProgramSketch) (r : ReadValue) : Type 0 where

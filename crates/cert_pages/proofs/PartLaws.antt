@@ -1,6 +1,6 @@
 -- Parts of a tree's text.
 use Rattle.cert_pages.proofs.Vocabulary.{◌≡◌, ℕ, zero, suc, ◌+◌, ◌-◌, ◌<◌, ◌≤◌, List, [], ◌∷◌, ◌++◌, length, take, drop, refl, sym, ap, ◌∙◌, subst, append_assoc, arith, append-nil, drop_all, take_all, IfSome, Option, Some, slice_index_or, Cover, CoverNode}
-use Rattle.cert_pages.proofs.Vocabulary.{IsNext, children_of, root_of, spell_all, next_is_shorter, TreePart, trees_text, IsWritten, LeadTo, WriteFrom}
+use Rattle.cert_pages.proofs.Vocabulary.{IsNext, children_of, root_of, spell_all, next_is_shorter, TreePart, trees_text, IsPartWritten, LeadTo, WriteFrom}
 use Rattle.cert_forest.proofs.Loops.{one_less}
 unfoldable use Rattle.cert_pages.specs.Parts.{after}
 
@@ -50,7 +50,7 @@ one_part_more ts [] part mid next led start e = (start ∙ sym led, ap (after pa
 one_part_more ts (p ∷ parts) part mid next led start e = (led.0, one_part_more (after p.nodes ts) parts part mid next led.1 start e)
 
 -- each of them is written
-pub all_written : (ts left : List Cover) (old new : List TreePart) → LeadTo ts old left → length new ≡ length old → ((i : ℕ) (d : TreePart) → i < length old → IsWritten (slice_index_or old i d) (slice_index_or new i d)) → WriteFrom ts new left
+pub all_written : (ts left : List Cover) (old new : List TreePart) → LeadTo ts old left → length new ≡ length old → ((i : ℕ) (d : TreePart) → i < length old → IsPartWritten (slice_index_or old i d) (slice_index_or new i d)) → WriteFrom ts new left
 all_written ts left [] [] led count each = led
 all_written ts left [] (n ∷ new) led count each = absurd (omega (arith, count))
 all_written ts left (o ∷ old) [] led count each = absurd (omega (arith, count))

@@ -1,7 +1,7 @@
 //! Runs whose outcomes meet a formula.
 ghost use Rattle.std.specs.Prelude.{◌≡◌, IfOk, IfErr, MatchOption, Contains};
 ghost use Rattle.tso_machine.specs.Modes.{machine_of_mode};
-ghost use Rattle.outcome_search.specs.OutcomeNumbers.{IsInOrder, IsRunOf};
+ghost use Rattle.outcome_search.specs.OutcomeNumbers.{IsInOrder, IsKnownRun};
 ghost use Rattle.cover_solver.specs.Witnesses.{IsWitness, HasNoWitness};
 
 use exec_axioms::Mode;
@@ -42,7 +42,7 @@ fn run_of(
     outcome: &Outcome,
 ) -> Result<Option<Vec<Label>>, AllocError>
     requires { IsInOrder found.now }
-    ensures { IfOk result (λ run. MatchOption run (Contains found.now.outcomes.items outcome.now → ⊥) (λ labels. IsRunOf found.now labels.items outcome.now)) }
+    ensures { IfOk result (λ run. MatchOption run (Contains found.now.outcomes.items outcome.now → ⊥) (λ labels. IsKnownRun found.now labels.items outcome.now)) }
 {
     match found.run_of(outcome) {
         Some(labels) => Ok(Some(Vec::from_slice(alloc, labels)?)),

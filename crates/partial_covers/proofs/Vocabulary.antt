@@ -11,7 +11,7 @@ pub use Rattle.std.specs.Prelude.{Err, Ok, OnOk, Result, max, nat_lt, ◌^◌}
 pub use Rattle.branching.proofs.Rounds.{fewer_rounds, rounds}
 pub use Rattle.branching.specs.Combinations.{AreAlike, IsBase, IsRest, with_root, with_trace}
 pub use Rattle.branching.specs.Plans.{AreOfOthers, IsBeforeLast, IsLast}
-pub use Rattle.branching.specs.Tallies.{HasBit, IsOther, IsTalliedRead, Joins}
+pub use Rattle.branching.specs.Tallies.{HasTallyBit, IsOther, IsTalliedRead, Joins}
 pub use Rattle.branching.specs.Traces.{IsFullTrace, IsValueTree, Read, Traces, first_choices, root, trace_node, trace_trees, traces}
 pub use Rattle.branching.specs.declared.plan.LastThread.{LastThread}
 pub use Rattle.branching.specs.declared.plan.Plan.{Plan}

@@ -20,7 +20,7 @@ pub use Rattle.branching.specs.Combinations.{AreAlike, IsRest, with_root}
 pub use Rattle.branching.specs.OpenChoices.{IsOpen}
 pub use Rattle.cover_judge.specs.Choices.{AreChoicesOf}
 pub use Rattle.branching.specs.Plans.{AreOfOthers, AreTracesFor, AreTracesOf, IsBeforeLast, IsBeforeNext, IsLast, IsOfOther}
-pub use Rattle.branching.specs.Tallies.{HasBit, IsNeither, IsOther, IsTalliedRead, IsTallyOf, IsThisThread, LacksWriteOfBoth}
+pub use Rattle.branching.specs.Tallies.{HasTallyBit, IsNeither, IsOther, IsTalliedRead, IsTallyOf, IsThisThread, LacksWriteOfBoth}
 pub use Rattle.branching.specs.Traces.{IsValueTree, Read, Traces, first_choices, root, trace_node, trace_trees, traces}
 pub use Rattle.tree_laws.specs.declared.choice.OpenChoice.{OpenChoice}
 pub use Rattle.branching.specs.declared.plan.LastThread.{LastThread}
@@ -80,7 +80,7 @@ pub use Rattle.tree_laws.specs.Covers.{AreNeat, IsNeat, IsWholeCover}
 pub use Rattle.sketch_covers.specs.CoveredSketches.{IsCoveredAt, IsStillValid, IsTaken, IsValid, IsWithinLimitsAt}
 pub use Rattle.sketch_covers.specs.KnownOutcomes.{AreInOrder, Grows, HasOwnEnd, HasRunOfEach, OnTold, StaysOf, StopIs, by_number}
 pub use Rattle.sketch_covers.specs.NodeChanges.{renumbered_node}
-pub use Rattle.sketch_covers.specs.OutcomeNumbers.{ArePlacesOf, AreRunsOf, HasNumber, IsInOrder, IsRunOf, Keeps, KeepsNumbers, ascending, numbered, place_in, with_first}
+pub use Rattle.sketch_covers.specs.OutcomeNumbers.{ArePlacesOf, AreRunsOf, HasNumber, IsInOrder, IsKnownRun, Keeps, KeepsNumbers, ascending, numbered, place_in, with_first}
 pub use Rattle.sketch_covers.specs.Pushing.{Begins, BeginsIfNew, IfKnown, Pushes}
 pub use Rattle.sketch_covers.specs.ShownRuns.{IsShownRunOf}
 pub use Rattle.sketch_covers.specs.UnsourcedTraces.{Closes, Takes}
