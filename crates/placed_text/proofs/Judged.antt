@@ -1,5 +1,5 @@
 -- What is reported of texts, from what their parts are.
-use Rattle.placed_text.proofs.Vocabulary.{◌≡◌, ◌∙◌, ℕ, List, Option, Some, None, ap, length, subst, unwrap_or, length-replicate, Listing, Shown, asked, shown_as, question_of, gap_count, answer_line, IsPlacement, AreTextsOf, AreWrittenTexts, HasNoPlacedText, TellsWhy}
+use Rattle.placed_text.proofs.Vocabulary.{◌≡◌, ◌∙◌, ℕ, List, Option, Some, None, ap, length, refl, subst, unwrap_or, length-replicate, Listing, Shown, asked, shown_as, question_of, gap_count, answer_line, IsPlacement, AreTextsOf, AreWrittenTexts, HasNoPlacedText, TellsWhy}
 use Rattle.placed_text.proofs.Vocabulary.{Litmus, AreGiven, IsAnswerText, IsPlacedSource, IsPlacedText, HasNoProgram, HasNoCosts, HasNoPlacement, IsWhyText}
 use Rattle.std.proofs.lemmas.List.FromFn.{length-map-range_with_len}
 use Rattle.tso_program.specs.declared.shown.ShownKind.{ShownKind}
@@ -15,64 +15,64 @@ one_each p (Some text) costs is = ap length is.costs_are ∙ length-map-range_wi
 
 module _ (litmus : List ℕ) (costs : Option (List ℕ)) where
   -- what is placed is the answer to what the kind asks
-  placement_of : (kind : ShownKind) (from : PlacedSource) → IsPlacedSource litmus costs kind from → IsPlacement (question_of from.source kind) from.costs from.found.placed
-  placement_of kind from is = subst (λ (shown : Shown). IsPlacement (asked from.source.program shown) from.costs from.found.placed) is.shown is.placement
+  placement_of : (kind : ShownKind) (from : PlacedSource) → IsPlacedSource litmus costs kind from → IsPlacement (question_of from.source kind) from.costs from.found.certificate
+  placement_of kind from is = subst (λ (shown : Shown). IsPlacement (asked from.source.program shown) from.costs from.found.certificate) is.shown is.placement
 
   -- from what is written of it
   pub answer_text : (kind : ShownKind) (from : PlacedSource) (texts : AnswerText) → IsPlacedSource litmus costs kind from → AreTextsOf from texts → IsAnswerText litmus costs kind texts
   answer_text kind from texts of_texts are_written =
       let source = from.source in
-      let placed = from.found.placed in
+      let claimed = from.found.certificate in
       let is = placement_of kind from of_texts in
-      let written = subst (λ (shown : Shown). AreWrittenTexts source shown from.costs placed.set placed.cost texts) of_texts.shown are_written in
+      let written = subst (λ (shown : Shown). AreWrittenTexts source shown from.costs claimed.gaps claimed.cost texts) of_texts.shown are_written in
       record {
         source = source;
         of_text = of_texts.of_text;
         gap_costs = from.costs;
         given = of_texts.given;
-        gaps = placed.set;
+        gaps = claimed.gaps;
         answer = is.answer;
         headline = is.headline;
         program = written.program;
         again = written.again litmus of_texts.of_text;
-        line = subst (λ (cost : ℕ). texts.answer.items ≡ answer_line source.program (shown_as source kind) placed.set cost) is.cost written.line;
+        line = subst (λ (cost : ℕ). texts.answer.items ≡ answer_line source.program (shown_as source kind) claimed.gaps cost) is.cost written.line;
         document = written.document;
         set = written.set;
       }
 
   -- and from that with the text of its certificate
   pub placed_text : (kind : ShownKind) (from : PlacedSource) (placed : PlacedText) → IsPlacedSource litmus costs kind from → AreTextsOf from placed.texts
-      → placed.certificate ≡ certificate_text from.found.placed.certificate → IsPlacedText litmus costs kind placed
+      → placed.certificate ≡ certificate_text from.found.certificate → IsPlacedText litmus costs kind placed
   unfolding answer_text
   placed_text kind from placed of_texts are_written spelled =
       let is = placement_of kind from of_texts in
       record {
         told = answer_text kind from placed.texts of_texts are_written;
         certificate = record {
-          claimed = from.found.placed.certificate;
+          claimed = from.found.certificate;
           of_text = record { spelled = spelled; within = is.proof.within };
-          claims = is.same_set;
+          claims = refl;
           valid = is.proof.valid;
         };
       }
 
   -- from the reasons that are given for it
   pub why_text : (kind : ShownKind) (from : PlacedSource) (text document : List ℕ) → IsPlacedSource litmus costs kind from
-      → TellsWhy from.source from.shown from.costs from.found.placed.set (answer_line from.source.program from.shown from.found.placed.set from.found.placed.cost) text document → IsWhyText litmus costs kind text document
+      → TellsWhy from.source from.shown from.costs from.found.certificate.gaps (answer_line from.source.program from.shown from.found.certificate.gaps from.found.certificate.cost) text document → IsWhyText litmus costs kind text document
   why_text kind from text document of_texts tells =
       let source = from.source in
       let shown = shown_as source kind in
-      let placed = from.found.placed in
+      let claimed = from.found.certificate in
       let is = placement_of kind from of_texts in
       record {
         source = source;
         of_text = of_texts.of_text;
         gap_costs = from.costs;
         given = of_texts.given;
-        gaps = placed.set;
+        gaps = claimed.gaps;
         answer = is.answer;
-        told = subst (λ (cost : ℕ). TellsWhy source shown from.costs placed.set (answer_line source.program shown placed.set cost) text document) is.cost
-            (subst (λ (s : Shown). TellsWhy source s from.costs placed.set (answer_line source.program s placed.set placed.cost) text document) of_texts.shown tells);
+        told = subst (λ (cost : ℕ). TellsWhy source shown from.costs claimed.gaps (answer_line source.program shown claimed.gaps cost) text document) is.cost
+            (subst (λ (s : Shown). TellsWhy source s from.costs claimed.gaps (answer_line source.program s claimed.gaps claimed.cost) text document) of_texts.shown tells);
       }
 
   module _ (workers : ℕ) where

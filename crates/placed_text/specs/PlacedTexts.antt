@@ -58,7 +58,7 @@ pub record IsPlacedSource (litmus : List ℕ) (costs : Option (List ℕ)) (kind 
   pub given : AreGiven placed.source.program costs placed.costs
   pub shown : placed.shown ≡ shown_as placed.source kind
   pub solver : placed.found.solver.question ≡ asked placed.source.program placed.shown
-  pub placement : IsPlacement (asked placed.source.program placed.shown) placed.costs placed.found.placed
+  pub placement : IsPlacement (asked placed.source.program placed.shown) placed.costs placed.found.certificate
 
 -- the texts of an answer: these gaps of a program, at this cost
 pub record AreWrittenTexts (source : Litmus Listing) (shown : Shown) (costs : List ℕ) (gaps : SetOfGaps) (cost : ℕ) (texts : AnswerText) : Type 0 where
@@ -70,4 +70,4 @@ pub record AreWrittenTexts (source : Litmus Listing) (shown : Shown) (costs : Li
 
 -- those of what is placed
 abbrev pub AreTextsOf : PlacedSource → AnswerText → Type 0
-AreTextsOf from = AreWrittenTexts from.source from.shown from.costs from.found.placed.set from.found.placed.cost
+AreTextsOf from = AreWrittenTexts from.source from.shown from.costs from.found.certificate.gaps from.found.certificate.cost

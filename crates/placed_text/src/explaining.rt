@@ -65,13 +65,13 @@ impl Explanation {
 /// Why a gap of the answer is needed.
 fn reason_for(alloc: Global, placed: &PlacedSource, gap: u8) -> Result<GapReason, AllocError>
     requires question { placed.now.found.solver.question ≡ asked placed.now.source.program placed.now.shown }
-    requires answer { IsTheAnswer placed.now.found.solver.question placed.now.costs placed.now.found.placed.set }
+    requires answer { IsTheAnswer placed.now.found.solver.question placed.now.costs placed.now.found.certificate.gaps }
     requires one_each { length placed.now.costs ≡ gap_count placed.now.found.solver.question.program.threads }
     requires gap { gap < MAX_GAPS }
-    requires held { set.contains placed.now.found.placed.set gap ≡ true }
-    ensures { IfOk result (λ reason. IsReason placed.now.source placed.now.shown placed.now.found.placed.set gap (reason.lines.items, reason.run)) }
+    requires held { set.contains placed.now.found.certificate.gaps gap ≡ true }
+    ensures { IfOk result (λ reason. IsReason placed.now.source placed.now.shown placed.now.found.certificate.gaps gap (reason.lines.items, reason.run)) }
 {
-    let set = placed.found.placed.set;
+    let set = placed.found.certificate.set;
     let run = run_without(&placed.found.solver, &placed.costs, &set, gap)?;
     reason_of(alloc, &placed.source, &placed.shown, &set, gap, &run)
 }
@@ -79,11 +79,11 @@ fn reason_for(alloc: Global, placed: &PlacedSource, gap: u8) -> Result<GapReason
 /// Why each gap of the answer is needed.
 fn reasons(alloc: Global, placed: &PlacedSource) -> Result<Explanation, AllocError>
     requires question { placed.now.found.solver.question ≡ asked placed.now.source.program placed.now.shown }
-    requires answer { IsTheAnswer placed.now.found.solver.question placed.now.costs placed.now.found.placed.set }
+    requires answer { IsTheAnswer placed.now.found.solver.question placed.now.costs placed.now.found.certificate.gaps }
     requires one_each { length placed.now.costs ≡ gap_count placed.now.found.solver.question.program.threads }
-    ensures { IfOk result (λ told. TellsReasons placed.now.source placed.now.shown placed.now.found.placed.set (numbers_of_set placed.now.found.placed.set) told.lines.items told.runs) }
+    ensures { IfOk result (λ told. TellsReasons placed.now.source placed.now.shown placed.now.found.certificate.gaps (numbers_of_set placed.now.found.certificate.gaps) told.lines.items told.runs) }
 {
-    let set = placed.found.placed.set;
+    let set = placed.found.certificate.set;
     set.recall_facts();
     let graph = RunGraph::new(alloc)?;
     let mut told = Explanation {
@@ -123,9 +123,9 @@ fn reasons_or_none(alloc: Global, shown: &Shown, reasons: Vec<u8>) -> Result<Vec
 /// The answer line, and why each gap of the answer is needed.
 fn explained(alloc: Global, placed: &PlacedSource) -> Result<WhyText, AllocError>
     requires question { placed.now.found.solver.question ≡ asked placed.now.source.program placed.now.shown }
-    requires answer { IsTheAnswer placed.now.found.solver.question placed.now.costs placed.now.found.placed.set }
+    requires answer { IsTheAnswer placed.now.found.solver.question placed.now.costs placed.now.found.certificate.gaps }
     requires one_each { length placed.now.costs ≡ gap_count placed.now.found.solver.question.program.threads }
-    ensures { IfOk result (λ told. TellsWhy placed.now.source placed.now.shown placed.now.costs placed.now.found.placed.set (answer_line placed.now.source.program placed.now.shown placed.now.found.placed.set placed.now.found.placed.cost) told.lines.items told.document.items) }
+    ensures { IfOk result (λ told. TellsWhy placed.now.source placed.now.shown placed.now.costs placed.now.found.certificate.gaps (answer_line placed.now.source.program placed.now.shown placed.now.found.certificate.gaps placed.now.found.certificate.cost) told.lines.items told.document.items) }
 {
     let PlacedSource {
         source,
@@ -133,7 +133,7 @@ fn explained(alloc: Global, placed: &PlacedSource) -> Result<WhyText, AllocError
         shown,
         found,
     } = placed;
-    let set = found.placed.set;
+    let set = found.certificate.set;
     let reasons = reasons(alloc, placed)?;
     let Explanation {
         lines: each,
@@ -142,7 +142,7 @@ fn explained(alloc: Global, placed: &PlacedSource) -> Result<WhyText, AllocError
     } = reasons;
     let said = reasons_or_none(alloc, shown, each)?;
     let document = why_document(alloc, source, shown, costs, &set, runs)?;
-    let mut lines = answer_line(alloc, &source.program, shown, set, found.placed.cost)?;
+    let mut lines = answer_line(alloc, &source.program, shown, set, found.certificate.cost)?;
     lines.extend_from_slice(&said)?;
     let graph = graph.into_text()?;
     Ok(WhyText {
@@ -155,9 +155,9 @@ fn explained(alloc: Global, placed: &PlacedSource) -> Result<WhyText, AllocError
 /// What is said of the answer, where memory suffices.
 fn told(alloc: Global, placed: &PlacedSource) -> Result<WhyText, TextFault>
     requires question { placed.now.found.solver.question ≡ asked placed.now.source.program placed.now.shown }
-    requires answer { IsTheAnswer placed.now.found.solver.question placed.now.costs placed.now.found.placed.set }
+    requires answer { IsTheAnswer placed.now.found.solver.question placed.now.costs placed.now.found.certificate.gaps }
     requires one_each { length placed.now.costs ≡ gap_count placed.now.found.solver.question.program.threads }
-    ensures told { IfOk result (λ told. TellsWhy placed.now.source placed.now.shown placed.now.costs placed.now.found.placed.set (answer_line placed.now.source.program placed.now.shown placed.now.found.placed.set placed.now.found.placed.cost) told.lines.items told.document.items) }
+    ensures told { IfOk result (λ told. TellsWhy placed.now.source placed.now.shown placed.now.costs placed.now.found.certificate.gaps (answer_line placed.now.source.program placed.now.shown placed.now.found.certificate.gaps placed.now.found.certificate.cost) told.lines.items told.document.items) }
     ensures fault { IfErr result (λ why. why ≡ TextFault.OutOfMemory) }
 {
     match explained(alloc, placed) {

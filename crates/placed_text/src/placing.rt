@@ -19,7 +19,7 @@ use crate::writing::{AnswerText, PlacedText, write_answer};
 use cert_forest::Certificate;
 use cert_pages::write_pages;
 use cover_solver::{SearchedTable, SeqTable, SolveFault, Solver, sequential_watched};
-use fence_place::{Oracles, PlaceFault, Placed, place};
+use fence_place::{Oracles, PlaceFault, place};
 use gap_sets::{Costs, GapSet};
 use litmus_text::Litmus;
 use std::alloc::{AllocError, Global};
@@ -34,21 +34,24 @@ const MANY_HOLES: usize = 64;
 /// From so many nodes of a tree on threads share one question at a time.
 const MANY_NODES: usize = 100_000;
 
-/// What is placed in a program, and the solver that was asked.
+/// The certificate of what is placed in a program, and the solver that was asked.
 #[derive(Drop)]
 pub(crate) struct SolvedPlacement {
-    pub(crate) placed: Placed,
+    pub(crate) certificate: Certificate,
     pub(crate) solver: Solver,
 }
 
 impl SolvedPlacement {
-    /// What is placed. What the solver keeps is as large as a tree of the certificate: it goes before texts are made.
-    fn into_placed(self) -> Placed
-        ensures { result ≡ self.placed }
+    /// The certificate. What the solver keeps is as large as a tree of it: it goes before texts are made.
+    fn into_certificate(self) -> Certificate
+        ensures { result ≡ self.certificate }
     {
-        let SolvedPlacement { placed, solver } = self;
+        let SolvedPlacement {
+            certificate,
+            solver,
+        } = self;
         drop(solver);
-        placed
+        certificate
     }
 }
 
@@ -92,7 +95,7 @@ fn placed_by<R: Threads + Wait + Sync>(
     table: &SeqTable,
     costs: &Costs,
     effort: Effort,
-) -> Result<Placed, TextFault>
+) -> Result<Certificate, TextFault>
     requires question { solver.now.question ≡ table.now.question }
     requires one_each { length costs.now ≡ gap_count table.now.question.program.threads }
     ensures placed { IfOk result (IsPlacement table.now.question costs.now) }
@@ -114,7 +117,7 @@ fn placed_by<R: Threads + Wait + Sync>(
         again: solver,
     };
     match place(rt, alloc, oracles, table, costs, asker_count) {
-        Ok(placed) => Ok(placed),
+        Ok(certificate) => Ok(certificate),
         Err(PlaceFault::OutOfMemory) => Err(TextFault::OutOfMemory),
         Err(PlaceFault::Workers) => Err(TextFault::Workers),
         Err(PlaceFault::Costs | PlaceFault::NotCertified | PlaceFault::Board) => unreachable!(),
@@ -132,7 +135,7 @@ fn found_by<R: Threads + Wait + Sync>(
 ) -> Result<SolvedPlacement, TextFault>
     requires program { searched.now.question.program ≡ program.now }
     requires one_each { length costs.now ≡ gap_count searched.now.question.program.threads }
-    ensures placed { IfOk result (λ found. IsPlacement searched.now.question costs.now found.placed) }
+    ensures placed { IfOk result (λ found. IsPlacement searched.now.question costs.now found.certificate) }
     ensures solver { IfOk result (λ found. found.solver.question ≡ searched.now.question) }
     ensures workers { OnOk result (¬ AreTooFewOrMany effort.workers) }
     ensures fault { IfErr result (HasNoPlacement effort.workers) }
@@ -140,8 +143,11 @@ fn found_by<R: Threads + Wait + Sync>(
     let Ok(solver) = Solver::new(alloc, program, searched) else {
         return Err(TextFault::OutOfMemory);
     };
-    let placed = placed_by(rt, alloc, &solver, searched.table(), costs, effort)?;
-    Ok(SolvedPlacement { placed, solver })
+    let certificate = placed_by(rt, alloc, &solver, searched.table(), costs, effort)?;
+    Ok(SolvedPlacement {
+        certificate,
+        solver,
+    })
 }
 
 /// Finds the best set of a program's gaps that serves, by a solver of its own, and reports how far it is.
@@ -154,7 +160,7 @@ fn place_gaps<R: Threads + Wait + Sync>(
     effort: Effort,
 ) -> Result<SolvedPlacement, TextFault>
     requires { length costs.now ≡ gap_count program.now.threads }
-    ensures placed { IfOk result (λ found. IsPlacement (asked program.now shown.now) costs.now found.placed) }
+    ensures placed { IfOk result (λ found. IsPlacement (asked program.now shown.now) costs.now found.certificate) }
     ensures solver { IfOk result (λ found. found.solver.question ≡ asked program.now shown.now) }
     ensures workers { OnOk result (¬ AreTooFewOrMany effort.workers) }
     ensures fault { IfErr result (HasNoPlacement effort.workers) }
@@ -184,14 +190,14 @@ fn placed_in<R: Threads + Wait + Sync>(
     ensures given { IfOk result (λ placed. AreGiven source.now.program (option_map (λ text. text.now) costs.entry) placed.costs) }
     ensures shown { IfOk result (λ placed. placed.shown ≡ shown_as source.now kind) }
     ensures solver { IfOk result (λ placed. placed.found.solver.question ≡ asked source.now.program placed.shown) }
-    ensures placement { IfOk result (λ placed. IsPlacement (asked source.now.program placed.shown) placed.costs placed.found.placed) }
+    ensures placement { IfOk result (λ placed. IsPlacement (asked source.now.program placed.shown) placed.costs placed.found.certificate) }
     ensures workers { OnOk result (¬ AreTooFewOrMany effort.workers) }
     ensures fault { IfErr result (HasNoTextOf source.now (option_map (λ text. text.now) costs.entry) effort.workers) }
 {
     let costs = read_gap_costs(alloc, costs, &source.program)?;
     let shown = shown_of(source, kind)?;
     let found = place_gaps(rt, alloc, &source.program, &shown, &costs, effort)?;
-    let truths = found.placed.certificate.seq_runs.len();
+    let truths = found.certificate.seq_runs.len();
     let quantifier = source.condition.quantifier;
     report_failure(alloc, effort.progress, &shown, quantifier, truths);
     Ok(ProgramPlacement {
@@ -245,9 +251,9 @@ impl PlacedSource {
         ensures source { result.0.source ≡ self.source }
         ensures costs { result.0.costs ≡ self.costs }
         ensures shown { result.0.shown ≡ self.shown }
-        ensures set { result.0.set ≡ self.found.placed.set }
-        ensures cost { result.0.cost ≡ self.found.placed.cost }
-        ensures certificate { result.1 ≡ self.found.placed.certificate }
+        ensures set { result.0.set ≡ self.found.certificate.gaps }
+        ensures cost { result.0.cost ≡ self.found.certificate.cost }
+        ensures certificate { result.1 ≡ self.found.certificate }
     {
         let PlacedSource {
             source,
@@ -255,17 +261,13 @@ impl PlacedSource {
             shown,
             found,
         } = self;
-        let Placed {
-            set,
-            cost,
-            certificate,
-        } = found.into_placed();
+        let certificate = found.into_certificate();
         let answer = PlacedAnswer {
             source,
             costs,
             shown,
-            set,
-            cost,
+            set: certificate.set,
+            cost: certificate.cost,
         };
         (answer, certificate)
     }
@@ -290,7 +292,7 @@ impl PlacedAnswer {
 
 /// The texts of the answer in a program. The certificate goes before they are made.
 fn answer_texts(alloc: Global, placed: PlacedSource) -> Result<AnswerText, AllocError>
-    requires { first_missing placed.source.program placed.found.placed.set ≡ None }
+    requires { first_missing placed.source.program placed.found.certificate.gaps ≡ None }
     ensures { IfOk result (AreTextsOf placed) }
 {
     let (answer, certificate) = placed.into_answer();
@@ -305,9 +307,9 @@ fn placed_texts<R: Threads + Sync>(
     workers: u8,
     placed: PlacedSource,
 ) -> Result<PlacedText, AllocError>
-    requires { first_missing placed.source.program placed.found.placed.set ≡ None }
+    requires { first_missing placed.source.program placed.found.certificate.gaps ≡ None }
     ensures texts { IfOk result (λ written. AreTextsOf placed written.texts) }
-    ensures certificate { IfOk result (λ written. written.certificate ≡ certificate_text placed.found.placed.certificate) }
+    ensures certificate { IfOk result (λ written. written.certificate ≡ certificate_text placed.found.certificate) }
 {
     let threads = usize::from(workers.max(1));
     let (answer, certificate) = placed.into_answer();

@@ -6,7 +6,7 @@ use Rattle.placed_text.proofs.placing.answer_text.Goals as goal
 pub answer_texts-requires : goal.answer_texts-requires
 answer_texts-requires g c =
     let placed = c.in_ok-placed.placed in
-    let there : first_missing placed.source.program placed.found.placed.set ≡ None = none_missing placed.source.program placed.found.placed.set c.in_ok-placed.ensures.placed.placement.headline.of_program in
+    let there : first_missing placed.source.program placed.found.certificate.gaps ≡ None = none_missing placed.source.program placed.found.certificate.gaps c.in_ok-placed.ensures.placed.placement.headline.of_program in
     search rules
 
 pub returns-in-Ok-clause-told : goal.returns-in-Ok-clause-told

@@ -6,7 +6,7 @@ use Rattle.placed_text.proofs.placing.place_text.Goals as goal
 pub placed_texts-requires-after_bounds : goal.placed_texts-requires-after_bounds
 placed_texts-requires-after_bounds g c =
     let placed = c.in_ok-placed.placed in
-    let there : first_missing placed.source.program placed.found.placed.set ≡ None = none_missing placed.source.program placed.found.placed.set c.in_ok-placed.ensures.placed.placement.headline.of_program in
+    let there : first_missing placed.source.program placed.found.certificate.gaps ≡ None = none_missing placed.source.program placed.found.certificate.gaps c.in_ok-placed.ensures.placed.placement.headline.of_program in
     search rules
 
 pub returns-in-Ok-clause-placed : goal.returns-in-Ok-clause-placed
