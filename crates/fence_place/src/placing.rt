@@ -97,7 +97,8 @@ fn placement<S: Oracle>(
     let finished = searched(alloc, again, table, costs, hunted)?;
     let certificate = certify(alloc, table, &finished)?;
     // For the proof alone: the certificate is valid, so its set is the answer.
-    certificate_proves_answer(table.program(), table.shown(), costs);
+    let question = table.question();
+    certificate_proves_answer(&question.program, &question.shown, costs);
     Ok(certificate)
 }
 
