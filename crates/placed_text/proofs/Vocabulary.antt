@@ -26,4 +26,4 @@ pub use Rattle.tso_program.specs.declared.listing.Listing.{Listing}
 pub use Rattle.tso_program.specs.declared.shown.Shown.{Shown}
 pub use Rattle.placed_text.specs.PlacedTexts.{AreTextsOf, AreWrittenTexts, IsAnswerText, IsPlacedSource, IsPlacedText}
 pub use Rattle.placed_text.specs.TextFaults.{AreNoCosts, HasNoCosts, HasNoPlacedText, HasNoPlacement, HasNoProgram, HasNoTextOf}
-pub use Rattle.placed_text.specs.WhyTexts.{AreReasons, IsReason, IsReasonText, IsWhyText, TellsReasons, TellsWhy, Told, none_line, printed_of, reasons_or_none, told_lines}
+pub use Rattle.placed_text.specs.WhyTexts.{AreReasons, IsReason, IsReasonText, IsWhyText, TellsReasons, TellsWhy, Told, none_line, others_fenced, printed_of, reasons_or_none, told_lines}
