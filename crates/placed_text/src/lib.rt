@@ -4,9 +4,10 @@
 //! run that is shown passes no other gap of the answer, and no sequential run leaves what it leaves.
 //!
 //! Begin with `answer_text`, `place_text` and `why_text`. Free to change: what is reported on the way (`ahead.rt`,
-//! `watched.rt`), how many workers ask (`askers`), and which run is shown, its table and its graph. Relied on: the
-//! headline holds of the set for the program and the costs of the texts, all that is written says the same of it
-//! (`IsPlacedText`), and for exactly the gaps of the answer, in order, the labels are such a run (`IsWhyText`).
+//! `watched.rt`), how many workers ask (`askers`), and which run is shown, and its graph. Relied on: the headline
+//! holds of the set for the program and the costs of the texts, all that is written says the same of it
+//! (`IsPlacedText`), and for exactly the gaps of the answer, in order, labels and table are those of such a run
+//! (`IsWhyText`).
 #![tactic(auto)]
 
 mod ahead;

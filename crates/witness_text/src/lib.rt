@@ -4,8 +4,8 @@
 //!
 //! Begin with `witness_text`, `WitnessText` and `WitnessFault`. Free to change: which run is shown, and how
 //! its flushes are made early (`early_flushes.rt`), where each try is judged by its replay. Relied on: the
-//! run is one of that machine with this truth, or no run of it has it (`IsWitnessText` in
-//! `specs/WitnessTexts.antt`).
+//! run is one of that machine with this truth, and its table that of its steps, or no run of it has it
+//! (`IsWitnessText` in `specs/WitnessTexts.antt`).
 #![tactic(auto)]
 
 mod early_flushes;
