@@ -1,15 +1,26 @@
-//! The texts of what is placed.
-ghost use Rattle.std.specs.Prelude.{◌≡◌, None, IfOk};
+//! The texts of an answer, and of its certificate.
+ghost use Rattle.std.specs.Prelude.{◌≡◌, None, IfErr, IfOk, OnOk, option_map};
 ghost use Rattle.tso_program.specs.Fences.{first_missing};
-ghost use Rattle.placed_text.specs.PlacedTexts.{AreWrittenTexts};
+ghost use Rattle.cert_forest.specs.Texts.{certificate_text};
+ghost use Rattle.fence_place.specs.Faults.{AreTooFewOrMany};
+ghost use Rattle.placed_text.specs.PlacedTexts.{AreTextsOf, IsAnswerText, IsPlacedText};
+ghost use Rattle.placed_text.specs.TextFaults.{HasNoPlacedText};
 
+use crate::TextFault;
+use crate::placement::placement_of;
+use crate::problem::{Problem, read_problem};
+use crate::watched::Effort;
+use cert_forest::Certificate;
+use cert_pages::write_pages;
 use documents::placed_document;
-use gap_sets::{Costs, GapSet};
-use litmus_text::{Litmus, write_litmus};
+use gap_sets::GapSet;
+use litmus_text::write_litmus;
 use paged_text::Pages;
 use report::answer_line;
 use std::alloc::{AllocError, Global};
-use tso_program::{FenceFault, Program, Shown};
+use std::sync::Wait;
+use std::thread::Threads;
+use tso_program::{FenceFault, ShownKind};
 
 /// The texts of an answer.
 #[derive(Drop)]
@@ -31,28 +42,96 @@ pub struct PlacedText {
     pub certificate: Pages,
 }
 
-/// Writes the texts of an answer: these gaps of a program, at this cost.
-pub(crate) fn write_answer(
+/// Writes the texts of a problem's answer: these gaps, at this cost.
+fn write_answer(
     alloc: Global,
-    litmus: &Litmus<Program>,
-    shown: &Shown,
-    costs: &Costs,
-    set: &GapSet,
+    problem: &Problem,
+    gaps: &GapSet,
     cost: u64,
 ) -> Result<AnswerText, AllocError>
-    requires { first_missing litmus.now.program set.now ≡ None }
-    ensures { IfOk result (AreWrittenTexts litmus.now shown.now costs.now set.now cost) }
+    requires { first_missing problem.now.litmus.program gaps.now ≡ None }
+    ensures { IfOk result (AreTextsOf problem.now gaps.now cost) }
 {
-    let program = match write_litmus(alloc, litmus, set) {
+    let Problem {
+        litmus,
+        shown,
+        costs,
+    } = problem;
+    let program = match write_litmus(alloc, litmus, gaps) {
         Ok(program) => program,
         Err(FenceFault::NoSuchGap(_)) => unreachable!(),
         Err(FenceFault::OutOfMemory) => return Err(AllocError),
     };
-    let document = placed_document(alloc, litmus, shown, costs, set, &program)?;
+    let document = placed_document(alloc, litmus, shown, costs, gaps, &program)?;
     Ok(AnswerText {
         program,
-        answer: answer_line(alloc, &litmus.program, shown, *set, cost)?,
+        answer: answer_line(alloc, &litmus.program, shown, *gaps, cost)?,
         document,
-        gaps: *set,
+        gaps: *gaps,
     })
+}
+
+/// Writes the text of a certificate, which goes as it is written, and the texts of the problem's answer.
+fn write_placed<R: Threads + Sync>(
+    rt: &R,
+    alloc: Global,
+    workers: u8,
+    problem: &Problem,
+    certificate: Certificate,
+) -> Result<PlacedText, AllocError>
+    requires { first_missing problem.now.litmus.program certificate.gaps ≡ None }
+    ensures texts { IfOk result (λ written. AreTextsOf problem.now certificate.gaps certificate.cost written.texts) }
+    ensures certificate { IfOk result (λ written. written.certificate ≡ certificate_text certificate) }
+{
+    let gaps = certificate.set;
+    let cost = certificate.cost;
+    let threads = usize::from(workers.max(1));
+    let certificate = write_pages(rt, alloc, threads, certificate)?;
+    let texts = write_answer(alloc, problem, &gaps, cost)?;
+    Ok(PlacedText { texts, certificate })
+}
+
+/// Places fences in the program of a litmus text, where its gaps cost what a text of costs says, and 1
+/// each without one: the best set of gaps after which the program has its sequential outcomes and no
+/// others. What is shown of outcomes, by its kind, tells them apart.
+///
+/// The litmus text is judged first, then the costs, then the number of workers. With `rt` workers start threads
+/// and wait for one another ([`fence_place::place`]). [`Effort`] says where it reports how far it is.
+pub fn answer_text<R: Threads + Wait + Sync>(
+    rt: &R,
+    alloc: Global,
+    litmus: &[u8],
+    costs: Option<&[u8]>,
+    kind: ShownKind,
+    effort: Effort,
+) -> Result<AnswerText, TextFault>
+    ensures told { IfOk result (IsAnswerText litmus.now (option_map (λ text. text.now) costs.entry) kind) }
+    ensures workers { OnOk result (¬ AreTooFewOrMany effort.workers) }
+    ensures fault { IfErr result (HasNoPlacedText litmus.now (option_map (λ text. text.now) costs.entry) effort.workers) }
+{
+    let problem = read_problem(alloc, litmus, costs, kind)?;
+    let certificate = placement_of(rt, alloc, &problem, effort)?.into_certificate();
+    let gaps = certificate.set;
+    let cost = certificate.cost;
+    drop(certificate);
+    Ok(write_answer(alloc, &problem, &gaps, cost)?)
+}
+
+/// Places fences in the program of a litmus text as [`answer_text`] does, and writes the certificate too, by the threads of
+/// its workers.
+pub fn place_text<R: Threads + Wait + Sync>(
+    rt: &R,
+    alloc: Global,
+    litmus: &[u8],
+    costs: Option<&[u8]>,
+    kind: ShownKind,
+    effort: Effort,
+) -> Result<PlacedText, TextFault>
+    ensures placed { IfOk result (IsPlacedText litmus.now (option_map (λ text. text.now) costs.entry) kind) }
+    ensures workers { OnOk result (¬ AreTooFewOrMany effort.workers) }
+    ensures fault { IfErr result (HasNoPlacedText litmus.now (option_map (λ text. text.now) costs.entry) effort.workers) }
+{
+    let problem = read_problem(alloc, litmus, costs, kind)?;
+    let certificate = placement_of(rt, alloc, &problem, effort)?.into_certificate();
+    Ok(write_placed(rt, alloc, effort.workers, &problem, certificate)?)
 }

@@ -1,7 +1,7 @@
 use Rattle.placed_text.proofs.Vocabulary.{◌≡◌, ℕ, List, Option, Some, None, refl, option_map, Listing, AreNotGiven, AreNoCosts}
 use Rattle.litmus_text.specs.CostTextFault.{CostTextFault}
 use Rattle.litmus_text.specs.CostTextFault.TheVariants as cost_fault
-use Rattle.placed_text.proofs.reading.read_gap_costs.Goals as goal
+use Rattle.placed_text.proofs.problem.read_gap_costs.Goals as goal
 
 -- costs that aren't given, memory aside, are those of a text that gives none
 no_costs : (p : Listing) (text : Option (List ℕ)) (why : CostTextFault) → (why ≡ cost_fault.OutOfMemory → ⊥) → AreNotGiven p text why → AreNoCosts p text why
