@@ -1,10 +1,10 @@
 -- What is reported of texts, from what their parts are.
-use Rattle.placed_text.proofs.Vocabulary.{◌≡◌, ◌∙◌, ℕ, List, Option, Some, None, ap, length, refl, subst, unwrap_or, length-replicate, Listing, SetOfGaps, Shown, asked, shown_as, question_of, gap_count, answer_line, IsPlacement, AreTextsOf, HasNoPlacedText, TellsWhy}
-use Rattle.placed_text.proofs.Vocabulary.{Litmus, AreGiven, IsAnswerText, IsProblem, IsPlacedText, HasNoProgram, HasNoCosts, HasNoPlacement, HasNoProblem, IsWhyText, question_in}
+use Rattle.placed_text.proofs.Vocabulary.{◌≡◌, ◌∙◌, ℕ, List, Option, Some, None, ap, length, refl, subst, unwrap_or, length-replicate, Listing, SetOfGaps, Shown, asked, shown_as, question_of, gap_count, answer_line, IsPlacement, AreTextsOf, ArePlacedTextsOf, HasNoPlacedText, TellsWhy}
+use Rattle.placed_text.proofs.Vocabulary.{Litmus, AreGiven, IsAnswerText, IsProblem, IsPlacedText, HasNoProgram, HasNoCosts, HasNoPlacement, HasNoProblem, IsWhyText, OfItsPlacement, question_in}
 use Rattle.std.proofs.lemmas.List.FromFn.{length-map-range_with_len}
 use Rattle.tso_program.specs.declared.shown.ShownKind.{ShownKind}
 use Rattle.litmus_text.specs.{Texts.IsLitmus, CostTexts.said_of}
-use Rattle.cert_forest.specs.{Certificates.Certificate, Texts.certificate_text}
+use Rattle.cert_forest.specs.Certificates.{Certificate}
 use Rattle.documents.specs.Documents.{IsPlacedDocument}
 use Rattle.placed_text.specs.{declared.fault.TextFault.TextFault, declared.problem.Problem.Problem, declared.writing.AnswerText.AnswerText, declared.writing.PlacedText.PlacedText}
 use Rattle.placed_text.specs.declared.fault.TextFault.TheVariants as fault
@@ -15,18 +15,17 @@ one_each p None costs is = ap length is ∙ length-replicate (gap_count p.thread
 one_each p (Some text) costs is = ap length is.costs_are ∙ length-map-range_with_len (λ gap. unwrap_or (said_of is.entries gap) 1) 0 (gap_count p.threads)
 
 module _ (litmus : List ℕ) (costs : Option (List ℕ)) where
-  module _ (kind : ShownKind) (problem : Problem) (certificate : Certificate) where
+  module _ (kind : ShownKind) (problem : Problem) where
     -- what is placed is the answer to what the kind asks
-    placement_of : IsProblem litmus costs kind problem → IsPlacement (question_in problem) problem.costs certificate → IsPlacement (question_of problem.litmus kind) problem.costs certificate
-    placement_of of_texts is = subst (λ (shown : Shown). IsPlacement (asked problem.litmus.program shown) problem.costs certificate) of_texts.shown is
+    placement_of : (certificate : Certificate) → IsProblem litmus costs kind problem → IsPlacement (question_in problem) problem.costs certificate → IsPlacement (question_of problem.litmus kind) problem.costs certificate
+    placement_of certificate of_texts is = subst (λ (shown : Shown). IsPlacement (asked problem.litmus.program shown) problem.costs certificate) of_texts.shown is
 
     -- from what is written of it
-    pub answer_text : (texts : AnswerText) → IsProblem litmus costs kind problem → IsPlacement (question_in problem) problem.costs certificate
-        → AreTextsOf problem certificate.gaps certificate.cost texts → IsAnswerText litmus costs kind texts
-    answer_text texts of_texts placed written =
+    pub answer_text : (texts : AnswerText) → IsProblem litmus costs kind problem → OfItsPlacement problem (λ placed. AreTextsOf problem placed.gaps placed.cost texts) → IsAnswerText litmus costs kind texts
+    answer_text texts of_texts (certificate, placed, written) =
         let source = problem.litmus in
         let gaps = certificate.gaps in
-        let is = placement_of of_texts placed in
+        let is = placement_of certificate of_texts placed in
         record {
           source = source;
           of_text = of_texts.of_text;
@@ -44,29 +43,28 @@ module _ (litmus : List ℕ) (costs : Option (List ℕ)) where
         }
 
     -- and from that with the text of its certificate
-    pub placed_text : (placed : PlacedText) → IsProblem litmus costs kind problem → IsPlacement (question_in problem) problem.costs certificate
-        → AreTextsOf problem certificate.gaps certificate.cost placed.texts → placed.certificate ≡ certificate_text certificate → IsPlacedText litmus costs kind placed
+    pub placed_text : (written : PlacedText) → IsProblem litmus costs kind problem → OfItsPlacement problem (λ placed. ArePlacedTextsOf problem placed written) → IsPlacedText litmus costs kind written
     unfolding answer_text
-    placed_text placed of_texts is_placed written spelled =
-        let is = placement_of of_texts is_placed in
+    placed_text written of_texts (certificate, placed, are) =
+        let is = placement_of certificate of_texts placed in
         record {
-          told = answer_text placed.texts of_texts is_placed written;
+          told = answer_text written.texts of_texts (certificate, placed, are.texts);
           certificate = record {
             claimed = certificate;
-            of_text = record { spelled = spelled; within = is.proof.within };
+            of_text = record { spelled = are.spelled; within = is.proof.within };
             claims = refl;
             valid = is.proof.valid;
           };
         }
 
     -- from the reasons that are given for it
-    pub why_text : (text document : List ℕ) → IsProblem litmus costs kind problem → IsPlacement (question_in problem) problem.costs certificate
-        → TellsWhy problem.litmus problem.shown problem.costs certificate.gaps (answer_line problem.litmus.program problem.shown certificate.gaps certificate.cost) text document → IsWhyText litmus costs kind text document
-    why_text text document of_texts placed tells =
+    pub why_text : (text document : List ℕ) → IsProblem litmus costs kind problem
+        → OfItsPlacement problem (λ placed. TellsWhy problem.litmus problem.shown problem.costs placed.gaps (answer_line problem.litmus.program problem.shown placed.gaps placed.cost) text document) → IsWhyText litmus costs kind text document
+    why_text text document of_texts (certificate, placed, tells) =
         let source = problem.litmus in
         let shown = shown_as source kind in
         let gaps = certificate.gaps in
-        let is = placement_of of_texts placed in
+        let is = placement_of certificate of_texts placed in
         record {
           source = source;
           of_text = of_texts.of_text;

@@ -13,6 +13,7 @@ use Rattle.litmus_text.specs.GivenCosts.{AreGiven}
 use Rattle.documents.specs.Documents.{IsPlacedDocument}
 use Rattle.cert_forest.specs.Certificates.{Certificate}
 use Rattle.cert_forest.specs.Limits.{IsCertificate}
+use Rattle.cert_forest.specs.Texts.{certificate_text}
 use Rattle.tree_laws.specs.Certificates.{IsValidCertificate}
 use Rattle.report.specs.Answers.{answer_line}
 use Rattle.placed_text.specs.declared.problem.Problem.{Problem}
@@ -56,3 +57,8 @@ pub record AreTextsOf (problem : Problem) (gaps : SetOfGaps) (cost : ℕ) (texts
   pub line : texts.answer.items ≡ answer_line problem.litmus.program problem.shown gaps cost
   pub document : IsPlacedDocument problem.litmus problem.shown problem.costs gaps texts.program.items texts.document.items
   pub set : texts.gaps ≡ gaps
+
+-- the texts of the answer that a certificate proves, and the certificate's own
+pub record ArePlacedTextsOf (problem : Problem) (certificate : Certificate) (written : PlacedText) : Type 0 where
+  pub texts : AreTextsOf problem certificate.gaps certificate.cost written.texts
+  pub spelled : written.certificate ≡ certificate_text certificate

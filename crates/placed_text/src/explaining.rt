@@ -7,8 +7,8 @@ ghost use Rattle.tso_program.specs.Listings.{gap_count};
 ghost use Rattle.tso_machine.specs.Outcomes.{IsTheAnswer};
 ghost use Rattle.report.specs.Answers.{answer_line};
 ghost use Rattle.fence_place.specs.Faults.{AreTooFewOrMany};
-ghost use Rattle.placed_text.specs.Problems.{question_in};
-ghost use Rattle.placed_text.specs.TextFaults.{HasNoPlacedText};
+ghost use Rattle.placed_text.specs.Problems.{question_in, OfItsPlacement};
+ghost use Rattle.placed_text.specs.TextFaults.{HasNoPlacedText, HasNoPlacement};
 ghost use Rattle.placed_text.specs.WhyTexts.{none_line, reasons_or_none, IsReason, IsWhyText, TellsReasons, TellsWhy};
 
 use crate::TextFault;
@@ -167,6 +167,22 @@ fn explained(alloc: Global, problem: &Problem, placement: &Placement) -> Result<
     })
 }
 
+/// Places fences in the program of a problem, and says why each of them is needed.
+fn why_of<R: Threads + Wait + Sync>(
+    rt: &R,
+    alloc: Global,
+    problem: &Problem,
+    effort: Effort,
+) -> Result<WhyText, TextFault>
+    requires { length problem.now.costs ≡ gap_count problem.now.litmus.program.threads }
+    ensures told { IfOk result (λ told. OfItsPlacement problem.now (λ placed. TellsWhy problem.now.litmus problem.now.shown problem.now.costs placed.gaps (answer_line problem.now.litmus.program problem.now.shown placed.gaps placed.cost) told.lines.items told.document.items)) }
+    ensures workers { OnOk result (¬ AreTooFewOrMany effort.workers) }
+    ensures fault { IfErr result (HasNoPlacement effort.workers) }
+{
+    let placement = placement_of(rt, alloc, problem, effort)?;
+    Ok(explained(alloc, problem, &placement)?)
+}
+
 /// Places fences in the program of a litmus text as [`crate::answer_text`] does, and says why each of them is
 /// needed: after the answer line, for each gap of the answer a run with the other gaps fenced, whose outcome no
 /// sequential run has. The graph has these runs, and the document says what the lines say.
@@ -183,6 +199,5 @@ pub fn why_text<R: Threads + Wait + Sync>(
     ensures fault { IfErr result (HasNoPlacedText litmus.now (option_map (λ text. text.now) costs.entry) effort.workers) }
 {
     let problem = read_problem(alloc, litmus, costs, kind)?;
-    let placement = placement_of(rt, alloc, &problem, effort)?;
-    Ok(explained(alloc, &problem, &placement)?)
+    why_of(rt, alloc, &problem, effort)
 }

@@ -1,10 +1,11 @@
 //! The texts of an answer, and of its certificate.
-ghost use Rattle.std.specs.Prelude.{◌≡◌, None, IfErr, IfOk, OnOk, option_map};
+ghost use Rattle.std.specs.Prelude.{◌≡◌, None, IfErr, IfOk, OnOk, length, option_map};
 ghost use Rattle.tso_program.specs.Fences.{first_missing};
-ghost use Rattle.cert_forest.specs.Texts.{certificate_text};
+ghost use Rattle.tso_program.specs.Listings.{gap_count};
 ghost use Rattle.fence_place.specs.Faults.{AreTooFewOrMany};
-ghost use Rattle.placed_text.specs.PlacedTexts.{AreTextsOf, IsAnswerText, IsPlacedText};
-ghost use Rattle.placed_text.specs.TextFaults.{HasNoPlacedText};
+ghost use Rattle.placed_text.specs.PlacedTexts.{AreTextsOf, ArePlacedTextsOf, IsAnswerText, IsPlacedText};
+ghost use Rattle.placed_text.specs.Problems.{OfItsPlacement};
+ghost use Rattle.placed_text.specs.TextFaults.{HasNoPlacedText, HasNoPlacement};
 
 use crate::TextFault;
 use crate::placement::placement_of;
@@ -80,8 +81,7 @@ fn write_placed<R: Threads + Sync>(
     certificate: Certificate,
 ) -> Result<PlacedText, AllocError>
     requires { first_missing problem.now.litmus.program certificate.gaps ≡ None }
-    ensures texts { IfOk result (λ written. AreTextsOf problem.now certificate.gaps certificate.cost written.texts) }
-    ensures certificate { IfOk result (λ written. written.certificate ≡ certificate_text certificate) }
+    ensures { IfOk result (ArePlacedTextsOf problem.now certificate) }
 {
     let gaps = certificate.set;
     let cost = certificate.cost;
@@ -89,6 +89,43 @@ fn write_placed<R: Threads + Sync>(
     let certificate = write_pages(rt, alloc, threads, certificate)?;
     let texts = write_answer(alloc, problem, &gaps, cost)?;
     Ok(PlacedText { texts, certificate })
+}
+
+/// Places fences in the program of a problem, and writes the texts of the answer. The certificate goes before they are made.
+fn answer_of<R: Threads + Wait + Sync>(
+    rt: &R,
+    alloc: Global,
+    problem: &Problem,
+    effort: Effort,
+) -> Result<AnswerText, TextFault>
+    requires { length problem.now.costs ≡ gap_count problem.now.litmus.program.threads }
+    ensures told { IfOk result (λ texts. OfItsPlacement problem.now (λ placed. AreTextsOf problem.now placed.gaps placed.cost texts)) }
+    ensures workers { OnOk result (¬ AreTooFewOrMany effort.workers) }
+    ensures fault { IfErr result (HasNoPlacement effort.workers) }
+{
+    let placement = placement_of(rt, alloc, problem, effort)?;
+    let certificate = placement.into_certificate();
+    let gaps = certificate.set;
+    let cost = certificate.cost;
+    drop(certificate);
+    Ok(write_answer(alloc, problem, &gaps, cost)?)
+}
+
+/// Places fences in the program of a problem, and writes the texts of the answer and of its certificate.
+fn place_in<R: Threads + Wait + Sync>(
+    rt: &R,
+    alloc: Global,
+    problem: &Problem,
+    effort: Effort,
+) -> Result<PlacedText, TextFault>
+    requires { length problem.now.costs ≡ gap_count problem.now.litmus.program.threads }
+    ensures placed { IfOk result (λ written. OfItsPlacement problem.now (λ placed. ArePlacedTextsOf problem.now placed written)) }
+    ensures workers { OnOk result (¬ AreTooFewOrMany effort.workers) }
+    ensures fault { IfErr result (HasNoPlacement effort.workers) }
+{
+    let placement = placement_of(rt, alloc, problem, effort)?;
+    let certificate = placement.into_certificate();
+    Ok(write_placed(rt, alloc, effort.workers, problem, certificate)?)
 }
 
 /// Places fences in the program of a litmus text, where its gaps cost what a text of costs says, and 1
@@ -110,11 +147,7 @@ pub fn answer_text<R: Threads + Wait + Sync>(
     ensures fault { IfErr result (HasNoPlacedText litmus.now (option_map (λ text. text.now) costs.entry) effort.workers) }
 {
     let problem = read_problem(alloc, litmus, costs, kind)?;
-    let certificate = placement_of(rt, alloc, &problem, effort)?.into_certificate();
-    let gaps = certificate.set;
-    let cost = certificate.cost;
-    drop(certificate);
-    Ok(write_answer(alloc, &problem, &gaps, cost)?)
+    answer_of(rt, alloc, &problem, effort)
 }
 
 /// Places fences in the program of a litmus text as [`answer_text`] does, and writes the certificate too, by the threads of
@@ -132,6 +165,5 @@ pub fn place_text<R: Threads + Wait + Sync>(
     ensures fault { IfErr result (HasNoPlacedText litmus.now (option_map (λ text. text.now) costs.entry) effort.workers) }
 {
     let problem = read_problem(alloc, litmus, costs, kind)?;
-    let certificate = placement_of(rt, alloc, &problem, effort)?.into_certificate();
-    Ok(write_placed(rt, alloc, effort.workers, &problem, certificate)?)
+    place_in(rt, alloc, &problem, effort)
 }
