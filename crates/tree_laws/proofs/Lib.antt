@@ -13,8 +13,12 @@ pub mod TighterModes
 -- gap trees
 pub mod AvoidedGaps
 pub mod BetterSets
+pub mod MovedGaps
+pub mod BestOfEach
 pub mod OpenGaps
 pub mod Regions
+pub mod PassedGaps
+pub mod BoundedRegions
 pub mod NoBetterLeft
 -- certificates
 pub mod CertificateIsProof
@@ -24,4 +28,5 @@ pub mod StoreBufferingCovered
 pub mod StoreBufferingCycles
 pub mod StoreBufferingRuns
 pub mod StoreBufferingGaps
+pub mod StoreBufferingBounded
 pub mod StoreBufferingCertified

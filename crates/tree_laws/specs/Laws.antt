@@ -1,7 +1,8 @@
 -- What trees mean.
-use Rattle.std.specs.Prelude.{◌≡◌, ◌↔◌, ◌⊎◌, ℕ, ◌≤◌, List, Contains, All}
+use Rattle.std.specs.Prelude.{◌≡◌, ◌↔◌, ◌⊎◌, ℕ, ◌+◌, ◌≤◌, List, Contains, All, sum_by}
 use Rattle.std.specs.List.{AllZip}
 use Rattle.gap_sets.specs.Gaps.{SetOfGaps}
+use Rattle.gap_sets.specs.Order.{cost_of, total, Better}
 use Rattle.gap_sets.specs.Regions.{all_sets, IsInRegion, child_regions, HasNoneOf}
 use Rattle.gap_sets.specs.declared.region.Region.{Region}
 use Rattle.tso_program.specs.declared.listing.Listing.{Listing}
@@ -19,7 +20,8 @@ use Rattle.tree_laws.specs.declared.choice.Choice.{Choice}
 use Rattle.tree_laws.specs.declared.choice.OpenChoice.{OpenChoice}
 use Rattle.tree_laws.specs.CoverTrees.{HasNextValues, HasSources, AreChoices, IsValidCover, AreValidCovers, IsCovered}
 use Rattle.tree_laws.specs.TighterModes.{IsNoLooser, in_mode}
-use Rattle.tree_laws.specs.GapTrees.{IsSplitBy, IsValidGap, AreValidGaps, EachBetterOfRegionLeavesOutcome, NoServingSetIsBetter, HaveCosts}
+use Rattle.tree_laws.specs.Packings.{IsPacking, IsCheapestOf, with_gaps, HavePositiveCosts, MeetsEach}
+use Rattle.tree_laws.specs.GapTrees.{IsSplitBy, IsBoundBy, IsValidGap, AreValidGaps, EachBetterOfRegionLeavesOutcome, NoServingSetIsBetter, HaveCosts}
 use Rattle.cert_forest.specs.Certificates.{Certificate}
 use Rattle.tree_laws.specs.Certificates.{AreSequentialRuns, IsValidCertificate}
 
@@ -70,6 +72,24 @@ IsForeign q labels = (o : Outcome) × IsForeignRun q labels o
 abbrev pub ASplitLosesNoSet : Type 0
 ASplitLosesNoSet = (region : Region) (gaps : List ℕ) (other : SetOfGaps) → IsInRegion region other →
     ((child : Region) × Contains (child_regions region gaps) child × IsInRegion child other) ⊎ HasNoneOf other gaps
+
+-- of the sets that hold `must` and have a gap of each list of a packing, `must` with the cheapest gap of each is the best
+abbrev pub TheCheapestOfEachAreTheBest : Type 0
+TheCheapestOfEachAreTheBest = (costs : List ℕ) (must other : SetOfGaps) (lists : List (List ℕ)) (cheapest : List ℕ) →
+    HavePositiveCosts costs lists → IsPacking lists → MeetsEach costs must lists other → AllZip (IsCheapestOf costs) lists cheapest →
+    (with_gaps must cheapest ≡ other) ⊎ Better costs (with_gaps must cheapest) other
+
+-- so each of them costs at least what `must` and the cheapest gaps cost together
+abbrev pub EachCostsAtLeastTheSum : Type 0
+EachCostsAtLeastTheSum = (costs : List ℕ) (must other : SetOfGaps) (lists : List (List ℕ)) (cheapest : List ℕ) →
+    HavePositiveCosts costs lists → IsPacking lists → MeetsEach costs must lists other → AllZip (IsCheapestOf costs) lists cheapest →
+    total costs must + sum_by (cost_of costs) cheapest ≤ total costs other
+
+-- a bound by foreign runs says of its region that each better set leaves an outcome
+abbrev pub ABoundByRunsLeavesNoBetter : Type 0
+ABoundByRunsLeavesNoBetter = (q : Question) (costs : List ℕ) (answer : SetOfGaps) (runs : List (List Label)) (region : Region) (numbers : List ℕ) →
+    IsWithinLimits q.program.threads q.program.memory → HaveCosts q.program costs → All (IsForeign q) runs →
+    IsBoundBy q.program costs answer runs region numbers → EachBetterOfRegionLeavesOutcome q costs answer region
 
 -- a valid gap tree over foreign runs says of its region that each better set leaves an outcome
 abbrev pub AValidGapTreeLeavesNoBetter : Type 0

@@ -1,5 +1,5 @@
 //! The laws: each function's contract is a theorem, and calling it does nothing.
-ghost use Rattle.tree_laws.specs.Laws.{AValidCoverCovers, ACoveredListHasEachOutcome, AValidTreeMakesTheSequentialList, AValidFencedTreeServes, ATighterModeKeepsACover, ATighterModeKeepsTheValues, ATighterModeKeepsAWholeSketch, ASplitLosesNoSet, AValidGapTreeLeavesNoBetter, SoNoServingSetIsBetter, TheRootHasEverySet, AValidCertificateProves, CoversAreJudgedInOrder, GapsAreJudgedInOrder, TheValuesAreOneList, TheSourcesAreOneList, TheChoicesAreOneList, TheGapsAreOneList};
+ghost use Rattle.tree_laws.specs.Laws.{AValidCoverCovers, ACoveredListHasEachOutcome, AValidTreeMakesTheSequentialList, AValidFencedTreeServes, ATighterModeKeepsACover, ATighterModeKeepsTheValues, ATighterModeKeepsAWholeSketch, ASplitLosesNoSet, TheCheapestOfEachAreTheBest, EachCostsAtLeastTheSum, ABoundByRunsLeavesNoBetter, AValidGapTreeLeavesNoBetter, SoNoServingSetIsBetter, TheRootHasEverySet, AValidCertificateProves, CoversAreJudgedInOrder, GapsAreJudgedInOrder, TheValuesAreOneList, TheSourcesAreOneList, TheChoicesAreOneList, TheGapsAreOneList};
 ghost use Rattle.tree_laws.specs.StoreBuffering.{StoreBufferingIsCertified};
 
 /// Where a cover tree is valid at a sketch, each consistent completion of the sketch has an outcome of
@@ -31,6 +31,18 @@ pub fn a_tighter_mode_keeps_a_cover()
 /// The children of a region hold every set of it that has one of the gaps.
 pub fn a_split_loses_no_set()
     ensures { ASplitLosesNoSet }
+{}
+
+/// Of the sets that hold some gaps and have one of each list of a packing, the one with the cheapest of each
+/// list is the best.
+pub fn a_packing_bounds_each_set()
+    ensures best { TheCheapestOfEachAreTheBest }
+    ensures cost { EachCostsAtLeastTheSum }
+{}
+
+/// Where runs bound a region, each better set of it leaves an outcome that no sequential run has.
+pub fn a_bound_by_runs_leaves_no_better()
+    ensures { ABoundByRunsLeavesNoBetter }
 {}
 
 /// A valid gap tree over foreign runs says of each better set of its region which outcome it leaves, so that
