@@ -20,7 +20,7 @@ pub use Rattle.tso_machine.specs.Actions.{act, jumped, loaded}
 pub use Rattle.tso_machine.specs.Fences.{Gaps}
 pub use Rattle.tso_machine.specs.Instructions.{number}
 pub use Rattle.tso_machine.specs.Limits.{JumpForward}
-pub use Rattle.tso_machine.specs.Listings.{action, code_of, start_of}
+pub use Rattle.tso_machine.specs.Listings.{action, code_of, instr_at, start_of}
 pub use Rattle.tso_machine.specs.Action.{Action, TheVariants.Go, TheVariants.Read, TheVariants.Stop, TheVariants.Swap, TheVariants.Wait, TheVariants.Write}
 pub use Rattle.tso_machine.specs.Local.{Local}
 pub use Rattle.tso_machine.specs.Instr.{Instr}
@@ -33,9 +33,9 @@ pub use mathlib.Core.Path.{fun_ext}
 pub use Rattle.candidate_executions.specs.Candidates.{Candidate, EndsWith, HasOutcome, HasShownOutcome, IsCandidate, Writes, access, access_by, trace_of}
 pub use Rattle.candidate_executions.specs.Consistency.{Edge, FromReads, IsAcyclic, IsConsistent, IsCycle, IsOfMode, KeepsOrder, Leads, Precedes, ReadsFrom, Relates, SameThread, WriteOrder}
 pub use Rattle.candidate_executions.specs.Laws.{AKnownCycleIsACycle, AKnownEdgeIsAnEdge, APairKeepsASketch, ASourceKeepsASketch, AValueKeepsASketch, CyclesAreOfAccesses, EachCompletionEndsSo}
-pub use Rattle.candidate_executions.specs.Laws.{EachCompletionHasASource, EachCompletionHasAValue, EachCompletionHasAnOrder, EachCompletionHasTheValues, EmptyIsASketch, EveryCandidateCompletesEmpty}
+pub use Rattle.candidate_executions.specs.Laws.{EachCompletionHasASettledSource, EachCompletionHasASource, EachCompletionHasAValue, EachCompletionHasAnOrder, EachCompletionHasTheValues, EmptyIsASketch, EveryCandidateCompletesEmpty}
 pub use Rattle.candidate_executions.specs.Laws.{EveryCandidateIsARun, EveryOrderIsARun, EveryRunIsACandidate, EveryRunIsACompletion, EveryRunIsShort, HasItsCandidate, KeptOrderIsTold}
-pub use Rattle.candidate_executions.specs.Laws.{KnownCyclesAreOfAccesses, NoEdgeLeadsIntoInitial, NoKnownEdgeLeadsIntoInitial, OutcomesAreOne, SectionsTellFences}
+pub use Rattle.candidate_executions.specs.Laws.{KnownCyclesAreOfAccesses, NoEdgeLeadsIntoInitial, NoKnownEdgeLeadsIntoInitial, OutcomesAreOne, SectionsTellFences, WholeSketchesAreSettled}
 pub use Rattle.candidate_executions.specs.Orders.{IsOrder, Steps, counted, execs, flush_of, flushes, followed_union, labels_along, made_at, steps, steps_by, to_ends}
 pub use Rattle.candidate_executions.specs.Paths.{IsFenceOrExchange, IsParted, IsStepOf, LiesBetween, executed, is_access, path, path_of}
 pub use Rattle.candidate_executions.specs.RunCandidates.{ArriveInOrder, Arrives, IsCandidateOf, IsStored, Mark, Origins, ReadsValue, Takes, buffered_marks, buffered_origins, direct_marks}
@@ -43,6 +43,7 @@ pub use Rattle.candidate_executions.specs.RunCandidates.{direct_origins, first_o
 pub use Rattle.candidate_executions.specs.RunCandidates.{with_waiting}
 pub use Rattle.candidate_executions.specs.Sketches.{Completes, IsBefore, IsConsistentCompletion, IsKnownCycle, IsPair, IsPrefixOf, IsSketch, IsSourceOf, IsWhole, KnownEdge, KnownEdgeOfMode}
 pub use Rattle.candidate_executions.specs.Sketches.{KnownFromReads, KnownRelates, Sketch, empty_sketch, given_to, next_read, read_by, with_pair, with_source, with_value}
+pub use Rattle.candidate_executions.specs.Settled.{IsOfOther, IsSettled, MayStillWrite, MayStore}
 pub use Rattle.candidate_executions.specs.Traces.{Trace, entered, exchange_of, fenced_gaps, load_of, stopped, store_of, trace, trace_by, traced, with_access}
 pub use Rattle.candidate_executions.specs.Values.{IsKnown, IsValueOf}
 pub use Rattle.candidate_executions.specs.declared.access.Access.{Access}

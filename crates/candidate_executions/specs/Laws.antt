@@ -18,6 +18,7 @@ use Rattle.candidate_executions.specs.RunCandidates.{IsCandidateOf}
 use Rattle.candidate_executions.specs.Paths.{path_of, LiesBetween}
 use Rattle.candidate_executions.specs.Values.{IsValueOf}
 use Rattle.candidate_executions.specs.Sketches.{Sketch, empty_sketch, given_to, Completes, IsConsistentCompletion, IsSketch, IsSourceOf, IsPair, with_value, with_source, with_pair, next_read, IsWhole, MustEndAs, KnownEdge}
+use Rattle.candidate_executions.specs.Settled.{IsSettled}
 
 -- the labels have a consistent candidate, with the outcome
 abbrev pub HasItsCandidate : Listing → Machine → List Label → Outcome → Type 0
@@ -138,6 +139,16 @@ abbrev pub EachCompletionHasASource : Type 0
 EachCompletionHasASource = (p : Listing) (mode : Machine) (k : Sketch) (c : Candidate) (e : Event) (x : Access) (v : ℕ) → JumpForward p.threads →
     IsSketch p mode k → IsCandidate p mode c → Completes k c → IsWhole p mode k → access_by p mode (given_to k) e ≡ Some x → x.read ≡ Some v →
     IsSourceOf p mode k (c.source e) e × Completes (with_source k e (c.source e)) c
+
+-- a settled read's source in each consistent completion is one of its sources that are there, whatever the threads read next
+abbrev pub EachCompletionHasASettledSource : Type 0
+EachCompletionHasASettledSource = (p : Listing) (mode : Machine) (k : Sketch) (c : Candidate) (e : Event) (x : Access) (v : ℕ) → JumpForward p.threads →
+    IsSketch p mode k → IsConsistentCompletion p mode k c → IsSettled p mode k e → access_by p mode (given_to k) e ≡ Some x → x.read ≡ Some v →
+    IsSourceOf p mode k (c.source e) e × Completes (with_source k e (c.source e)) c
+
+-- where each read has its value, each is settled
+abbrev pub WholeSketchesAreSettled : Type 0
+WholeSketchesAreSettled = (p : Listing) (mode : Machine) (k : Sketch) (e : Event) → IsWhole p mode k → IsSettled p mode k e
 
 -- each completion orders two writes to one location
 abbrev pub EachCompletionHasAnOrder : Type 0
