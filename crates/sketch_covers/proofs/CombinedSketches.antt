@@ -130,7 +130,7 @@ module _ (s u : ProgramSketch) (t : ℕ) (lawful : IsLawful s) (alone : HasValue
       none_there whole read same = subst (λ (a : AccessId). AreSourceChoices merged a []) same (record {
         sources = [];
         next = record {
-          whole = whole;
+          allowed = whole;
           access = is.access;
           is_access = is.is_access;
           is_read = subst (λ (o : Option ℕ). IsSome o) (sym is.reads) refl;

@@ -10,6 +10,7 @@ pub mod CoveredSketches
 pub mod ListedOutcomes
 pub mod WiderTraces
 pub mod TighterModes
+pub mod EarlyCovers
 -- gap trees
 pub mod AvoidedGaps
 pub mod BetterSets
@@ -30,3 +31,4 @@ pub mod StoreBufferingRuns
 pub mod StoreBufferingGaps
 pub mod StoreBufferingBounded
 pub mod StoreBufferingCertified
+pub mod OwnStoreCovered

@@ -7,3 +7,4 @@ pub mod GapTrees
 pub mod Certificates
 pub mod Laws
 pub mod StoreBuffering
+pub mod OwnStore
