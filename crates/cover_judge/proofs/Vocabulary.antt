@@ -28,6 +28,7 @@ pub use Rattle.tso_program.specs.declared.question.Question.{Question}
 pub use Rattle.tso_program.specs.declared.listing.Listing.{Listing}
 pub use Rattle.tso_program.specs.declared.outcome.Outcome.{Outcome}
 pub use Rattle.tso_program.specs.declared.shown.Shown.{Shown}
+pub use Rattle.cover_judge.specs.ChoiceLists.{choices_in}
 pub use Rattle.cover_judge.specs.ChoiceMarks.{IsChoiceMarkOf}
 pub use Rattle.cover_judge.specs.Choices.{AreChoicesOf, AreSourceChoices, AreValueChoices, IsSourceOpen, IsValueOpen, MayChoose, MayChooseEach}
 pub use Rattle.cover_judge.specs.CoverDefects.{FirstWrongCover, FirstWrongCoverChild, FirstWrongOfTwo, HasNotSoMany, IsWrongNode}

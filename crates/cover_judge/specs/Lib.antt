@@ -1,4 +1,5 @@
 pub mod Choices
+pub mod ChoiceLists
 pub mod ChoiceMarks
 pub mod Paths
 pub mod CoverDefects
