@@ -17,7 +17,6 @@ use tree_laws::{Choice, OpenChoice};
 impl CoverJudge<'_> {
     /// Judges the children of a node, which come first in the walk: one for each choice of what is open.
     #[cycle(judge)]
-    #[inline(always)]
     pub(crate) fn judge_children(
         &self,
         next: OpenChoice,
@@ -37,7 +36,6 @@ impl CoverJudge<'_> {
 
     /// Judges trees in order, each at the sketch after its choice: they come first in the walk.
     #[cycle(judge)]
-    #[inline(always)]
     fn judge_each(
         &self,
         choices: &Choices,
@@ -62,7 +60,6 @@ impl CoverJudge<'_> {
 
     /// Judges the first tree of a walk at the sketch after a choice.
     #[cycle(judge)]
-    #[inline(always)]
     fn judge_after(
         &self,
         choice: Choice,

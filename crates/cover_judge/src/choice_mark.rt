@@ -19,7 +19,6 @@ pub(crate) enum ChoiceMark {
 }
 
 /// Makes a choice in the sketch.
-#[inline(always)]
 pub(crate) fn choose(sketch: &mut RowlessSketch, choice: Choice) -> Result<ChoiceMark, AllocError>
     requires { MayChoose sketch.old choice }
     ensures ok { OnOk result (sketch.new ≡ with_chosen sketch.old (sketch_with sketch.old.chosen choice)) }
@@ -43,7 +42,6 @@ pub(crate) fn choose(sketch: &mut RowlessSketch, choice: Choice) -> Result<Choic
 }
 
 /// Takes the choice back that was made last.
-#[inline(always)]
 pub(crate) fn take_back(sketch: &mut RowlessSketch, mark: ChoiceMark)
     requires { (earlier : ProgramSketch) × (choice : the_choice.Choice) × IsChoiceMarkOf mark earlier choice × (sketch.old ≡ with_chosen earlier (sketch_with earlier.chosen choice)) }
     ensures { (earlier : ProgramSketch) (choice : the_choice.Choice) → IsChoiceMarkOf mark earlier choice → sketch.old ≡ with_chosen earlier (sketch_with earlier.chosen choice) → sketch.new ≡ earlier }

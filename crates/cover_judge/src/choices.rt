@@ -27,7 +27,6 @@ pub(crate) enum Choices {
 
 impl Choices {
     /// How many they are.
-    #[inline(always)]
     pub(crate) fn len(&self) -> usize
         ensures { result ≡ length (choices_in self.now) }
     {
@@ -39,7 +38,6 @@ impl Choices {
     }
 
     /// The choice of this number, from 0.
-    #[inline(always)]
     pub(crate) fn at(&self, number: usize) -> Choice
         requires { number < length (choices_in self.now) }
         ensures { slice_get (choices_in self.now) number ≡ Some result }
@@ -59,7 +57,6 @@ impl Choices {
 }
 
 /// The choices of what is open, in order, where there are as many as this: the root is wrong where there are not.
-#[inline(always)]
 pub(crate) fn so_many_choices(
     alloc: Global,
     next: OpenChoice,
@@ -81,7 +78,6 @@ pub(crate) fn so_many_choices(
 
 /// The choices of what is open, in order, whether they are as many as this or not. `None` if it is not open. Most
 /// reads whose source is open in a tree have none, which takes no list.
-#[inline(always)]
 fn open_choices(
     alloc: Global,
     next: OpenChoice,
