@@ -46,6 +46,7 @@ pub use Rattle.tso_program.specs.declared.outcome.Outcome.{Outcome}
 pub use Rattle.cert_check.specs.Faults.{CheckFaultIs, HasEachOutcome, HasForeignRuns, HasHead, HasOutcomes, HasRightCost, HasRuns, HasServingSet, IsFirstWithout, IsRunOf}
 pub use Rattle.cert_check.specs.GapDefects.{FirstWrongGap, HasNoSplit}
 pub use Rattle.cert_check.specs.Internal.Children.{AreValidIn, IsWrongChildIn}
+pub use Rattle.cert_check.specs.Internal.Claims.{question_of}
 pub use Rattle.cert_check.specs.Internal.Replays.{AreReplaysOf, HavePassed, IsFaultFrom, IsNoRunAt, IsOutside, RunsFaultIs, borrowed_cmp}
 pub use Rattle.cert_check.specs.Laws.{TheFirstCheckFaultIsUnique, ValidCertificatesHaveNoFault}
 pub use Rattle.cert_check.specs.declared.fault.CheckFault.{CheckFault}

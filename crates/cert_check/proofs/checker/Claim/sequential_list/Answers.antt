@@ -1,4 +1,4 @@
-use Rattle.cert_check.proofs.checker.sequential_list.Goals as goal
+use Rattle.cert_check.proofs.checker.Claim.sequential_list.Goals as goal
 
 pub returns-in-Ok-judge_from_start-clause-replayed : goal.returns-in-Ok-judge_from_start-clause-replayed
 returns-in-Ok-judge_from_start-clause-replayed c = rw (← c.certificate.view_is) (rw c.deref.ensures at c.in-Ok.ensures.replays.are_runs)

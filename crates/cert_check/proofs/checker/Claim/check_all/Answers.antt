@@ -1,13 +1,13 @@
-use Rattle.cert_check.proofs.Vocabulary.{All, sym, subst, all_sets, asked, gaps_in, StoreBufferMachine, empty_sketch, IsValidCover, IsValidGap, IsRunOutside, IsValidCertificate, CheckFaultIs, HasServingSet, HasForeignRuns, HasEachOutcome, HavePassed, err_up}
+use Rattle.cert_check.proofs.Vocabulary.{All, sym, subst, all_sets, question_of, gaps_in, StoreBufferMachine, empty_sketch, IsValidCover, IsValidGap, IsRunOutside, IsValidCertificate, CheckFaultIs, HasServingSet, HasForeignRuns, HasEachOutcome, HavePassed, err_up}
 use Rattle.cert_check.proofs.Vocabulary.{on_ok}
 use Rattle.cert_check.proofs.{Assembled.assembled, FirstFaults.foreign_are_runs}
-use Rattle.cert_check.proofs.checker.check_all.Goals as goal
+use Rattle.cert_check.proofs.checker.Claim.check_all.Goals as goal
 
 pub returns-in_err-check_fenced-clause-fault : goal.returns-in_err-check_fenced-clause-fault
 returns-in_err-check_fenced-clause-fault c =
-    let q = asked c.args.program.now c.args.shown.now in
-    let costs = c.args.costs.now in
-    let claim = c.args.certificate.now in
+    let q = question_of c.args.self.now in
+    let costs = c.args.self.now.costs.now in
+    let claim = c.args.self.now.certificate.now in
     let outs = c.in_ok-listed.listed.items in
     let complete : HasEachOutcome q costs claim outs =
     record { listed = record { head = c.in_ok-check_head.ensures.ok; replayed = c.in_ok-listed.ensures.replayed }; sequential = c.in_ok-listed.ensures.sequential } in
@@ -21,9 +21,9 @@ returns-in_err-check_fenced-clause-fault c =
 
 pub returns : goal.returns
 returns c =
-    let q = asked c.args.program.now c.args.shown.now in
-    let costs = c.args.costs.now in
-    let claim = c.args.certificate.now in
+    let q = question_of c.args.self.now in
+    let costs = c.args.self.now.costs.now in
+    let claim = c.args.self.now.certificate.now in
     let outs = c.in_ok-listed.listed.items in
     let complete : HasEachOutcome q costs claim outs =
     record { listed = record { head = c.in_ok-check_head.ensures.ok; replayed = c.in_ok-listed.ensures.replayed }; sequential = c.in_ok-listed.ensures.sequential } in

@@ -1,10 +1,10 @@
-use Rattle.cert_check.proofs.Vocabulary.{asked, StoreBufferMachine, no_gaps, IsShownRun, IsRunOf}
+use Rattle.cert_check.proofs.Vocabulary.{question_of, StoreBufferMachine, no_gaps, IsShownRun, IsRunOf}
 use Rattle.cert_check.proofs.{Assembled.each_outside, Assembled.first_not_foreign, Replayed.zip_left, Replayed.of_shown}
-use Rattle.cert_check.proofs.checker.foreign_runs.Goals as goal
+use Rattle.cert_check.proofs.checker.Claim.foreign_runs.Goals as goal
 
 pub returns-in-Some-clause-fault : goal.returns-in-Some-clause-fault
 returns-in-Some-clause-fault c = rw (← c.certificate.view_is) (λ costs has.
-    let q = asked c.args.program.now c.args.shown.now in
+    let q = question_of c.args.self.now in
     let outcomes = c.in-Ok.replays.outcomes.items in
     let each = c.in-Ok.ensures.replays.are_runs in (
       c.args.listed.now,
@@ -14,5 +14,5 @@ returns-in-Some-clause-fault c = rw (← c.certificate.view_is) (λ costs has.
 
 pub returns-in-None-clause-foreign : goal.returns-in-None-clause-foreign
 returns-in-None-clause-foreign c =
-    rw (← c.certificate.view_is) (each_outside (asked c.args.program.now c.args.shown.now) c.args.listed.now _ c.in-Ok.replays.outcomes.items c.in-Ok.ensures.replays.are_runs
+    rw (← c.certificate.view_is) (each_outside (question_of c.args.self.now) c.args.listed.now _ c.in-Ok.replays.outcomes.items c.in-Ok.ensures.replays.are_runs
     (rw c.deref.ensures.value at (rw c.in-None.is at c.in_ok-known.ensures)))
