@@ -1,0 +1,3 @@
+pub mod RowsStep
+pub mod ToldRegisters
+pub mod DeadByRows
