@@ -1,3 +1,4 @@
 pub mod RowsStep
 pub mod ToldRegisters
 pub mod DeadByRows
+pub mod DroppedThreads

@@ -20,20 +20,8 @@ pub fn without_dead_loads(
     let tables = live_tables(alloc, program, shown)?;
     let threads = dropped_threads(alloc, program, tables.as_slice())?;
     let memory = Vec::from_slice(alloc, program.memory())?;
-    let slim = program_of(alloc, threads, memory)?;
-    Ok(slim)
-}
-
-/// The program of threads and initial values that are within the limits: nothing but memory is refused.
-fn program_of(
-    alloc: Global,
-    threads: Vec<Thread>,
-    memory: Vec<u32>,
-) -> Result<Program, AllocError>
-    ensures { IfOk result (λ program. program ≡ record { threads = threads.items; memory = memory.items }) }
-{
     match Program::new(alloc, threads, memory) {
-        Ok(program) => Ok(program),
+        Ok(slim) => Ok(slim),
         Err(_) => Err(AllocError),
     }
 }
