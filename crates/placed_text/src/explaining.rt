@@ -77,7 +77,7 @@ fn reason_for(
     requires held { set.contains placement.now.certificate.gaps gap ≡ true }
     ensures { IfOk result (λ reason. IsReason problem.now.litmus problem.now.shown placement.now.certificate.gaps gap (reason.lines.items, reason.run)) }
 {
-    let set = placement.certificate.set;
+    let set = placement.gaps();
     let run = run_without(&placement.solver, &problem.costs, &set, gap)?;
     reason_of(alloc, &problem.litmus, &problem.shown, &set, gap, &run)
 }
@@ -93,7 +93,7 @@ fn reasons(
     requires one_each { length problem.now.costs ≡ gap_count placement.now.solver.question.program.threads }
     ensures { IfOk result (λ told. TellsReasons problem.now.litmus problem.now.shown placement.now.certificate.gaps (numbers_of_set placement.now.certificate.gaps) told.lines.items told.runs) }
 {
-    let set = placement.certificate.set;
+    let set = placement.gaps();
     set.recall_facts();
     let graph = RunGraph::new(alloc)?;
     let mut told = Explanation {
@@ -142,7 +142,7 @@ fn explained(alloc: Global, problem: &Problem, placement: &Placement) -> Result<
         shown,
         costs,
     } = problem;
-    let set = placement.certificate.set;
+    let set = placement.gaps();
     let reasons = reasons(alloc, problem, placement)?;
     let Explanation {
         lines: each,
@@ -151,13 +151,7 @@ fn explained(alloc: Global, problem: &Problem, placement: &Placement) -> Result<
     } = reasons;
     let said = reasons_or_none(alloc, shown, each)?;
     let document = why_document(alloc, litmus, shown, costs, &set, runs)?;
-    let mut lines = answer_line(
-        alloc,
-        &litmus.program,
-        shown,
-        set,
-        placement.certificate.cost,
-    )?;
+    let mut lines = answer_line(alloc, &litmus.program, shown, set, placement.cost())?;
     lines.extend_from_slice(&said)?;
     let graph = graph.into_text()?;
     Ok(WhyText {

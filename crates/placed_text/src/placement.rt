@@ -13,7 +13,7 @@ use crate::watched::{Effort, Watched, report_failure, report_outcomes};
 use cert_forest::Certificate;
 use cover_solver::{SearchedTable, SeqTable, Solver, sequential_watched};
 use fence_place::{Oracles, PlaceFault, place};
-use gap_sets::Costs;
+use gap_sets::{Costs, GapSet};
 use std::alloc::Global;
 use std::sync::Wait;
 use std::sync::atomic::AtomicU64;
@@ -34,6 +34,20 @@ pub(crate) struct Placement {
 }
 
 impl Placement {
+    /// The gaps of the answer.
+    pub(crate) fn gaps(&self) -> GapSet
+        ensures { result ≡ self.now.certificate.gaps }
+    {
+        self.certificate.set
+    }
+
+    /// The cost of the answer.
+    pub(crate) fn cost(&self) -> u64
+        ensures { result ≡ self.now.certificate.cost }
+    {
+        self.certificate.cost
+    }
+
     /// The certificate. What the solver keeps is as large as a tree of it: it goes before texts are made.
     pub(crate) fn into_certificate(self) -> Certificate
         ensures { result ≡ self.certificate }

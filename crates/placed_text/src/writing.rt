@@ -104,10 +104,9 @@ fn answer_of<R: Threads + Wait + Sync>(
     ensures fault { IfErr result (HasNoPlacement effort.workers) }
 {
     let placement = placement_of(rt, alloc, problem, effort)?;
-    let certificate = placement.into_certificate();
-    let gaps = certificate.set;
-    let cost = certificate.cost;
-    drop(certificate);
+    let gaps = placement.gaps();
+    let cost = placement.cost();
+    drop(placement);
     Ok(write_answer(alloc, problem, &gaps, cost)?)
 }
 

@@ -4,10 +4,9 @@ use Rattle.placed_text.proofs.explaining.reasons.Goals as goal
 
 pub loop-gap-init : goal.loop-gap-init
 loop-gap-init c =
-    let set = c.args.placement.now.certificate.gaps in
     record {
       told = ([], tt, c.new-2.ensures.items, c.new-3.ensures);
-      to_come = subst (AreHeld set) (sym (c.into_iter-gap-iterator.ensures.into_iter_gives ∙ c.iter-gap-items.ensures.value)) (numbers_are_held set c.recall_facts.ensures.gaps);
+      to_come = rw (← c.gaps-set.ensures) (subst (AreHeld c.gaps-set.result) (sym (c.into_iter-gap-iterator.ensures.into_iter_gives ∙ c.iter-gap-items.ensures.value)) (numbers_are_held c.gaps-set.result c.recall_facts.ensures.gaps));
     }
 
 pub reason_for-requires-clause-gap : goal.reason_for-requires-clause-gap
