@@ -8,8 +8,7 @@ ghost use Rattle.oracle.specs.Facts.{AreOf};
 use exec_axioms::Sketch;
 use gap_sets::GapSet;
 use oracle::{ForeignFault, ForeignRun, SeqTable};
-use outcome_search::{HoleRun, PartialCover};
-use run_maker::{MakeFault, make_run_for};
+use outcome_search::{HoleRun, MakeFault, PartialCover, make_run_for};
 use std::alloc::{AllocError, Global};
 use tso_machine::Label;
 

@@ -98,7 +98,7 @@ module _ (costs : List ℕ) (few : length costs ≤ MAX_GAPS) (positive : All (�
       let low : t < length costs = All-contains (λ gap. gap < length costs) gaps t (All-head (All (λ gap. gap < length costs)) gaps lists each) here in
       let more = one_more costs must (set.insert must t) t (λ q differ. sym (put_in_beside must t q differ)) (omega arith) (All-head (HasNoneOf must) gaps lists beside t here) (put_in must t) in
       let rest = sums lists cheapest (set.insert must t) (All-tail (All (λ gap. gap < length costs)) gaps lists each) packing
-        (still_beside costs gaps lists t here others must (All-tail (HasNoneOf must) gaps lists beside)) picked in
+      (still_beside costs gaps lists t here others must (All-tail (HasNoneOf must) gaps lists beside)) picked in
       omega (arith, sum_by-cons (cost_of costs) t cheapest)
   sums lists cheapest must each packing beside picked = absurd picked
 

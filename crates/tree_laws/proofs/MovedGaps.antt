@@ -34,7 +34,7 @@ sum_more f p r a (suc n) gap alike low high out here =
       | inr now ↦
           let is : a ≡ gap = omega arith in
           let rest : sum_by f (filter p (range_with_len (a + 1) n)) ≡ sum_by f (filter r (range_with_len (a + 1) n)) =
-            ap (sum_by f) (filter_alike p r (a + 1) n (λ q above below. alike q (λ e. omega arith))) in
+          ap (sum_by f) (filter_alike p r (a + 1) n (λ q above below. alike q (λ e. omega arith))) in
           let none : cond (p a) (f a) 0 ≡ 0 = rw is (ap (λ t. cond t (f gap) 0) out) in
           let one : cond (r a) (f a) 0 ≡ f gap = rw is (ap (λ t. cond t (f gap) 0) here) in
           omega arith
@@ -86,7 +86,7 @@ module _ (costs : List ℕ) (s : SetOfGaps) (old new : ℕ) (has : set.contains 
       let without = set.remove s old in
       let before = one_more costs without s old (taken_out_beside s old) low (taken_out s old) has in
       let after = one_more costs without (in_place_of s old new) new (λ q other. sym (put_in_beside without new q other)) new_low
-        (taken_out_beside s old new (λ e. differ (sym e)) ∙ lacks) (in_place s old new) in
+      (taken_out_beside s old new (λ e. differ (sym e)) ∙ lacks) (in_place s old new) in
       omega arith
 
   least : new < old → HasLeastDifference (in_place_of s old new) s

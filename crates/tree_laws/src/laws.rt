@@ -1,6 +1,6 @@
 //! The laws: each function's contract is a theorem, and calling it does nothing.
 ghost use Rattle.tree_laws.specs.declared.rule.Rule.{Rule};
-ghost use Rattle.tree_laws.specs.Laws.{AValidCoverCovers, AWholeCoverIsAnEarlyCover, ACoveredListHasEachOutcome, AValidTreeMakesTheSequentialList, AValidFencedTreeServes, ATighterModeKeepsACover, ATighterModeKeepsTheValues, ATighterModeKeepsAWholeSketch, ATighterModeKeepsASettledRead, ASplitLosesNoSet, AValidGapTreeLeavesNoBetter, SoNoServingSetIsBetter, TheRootHasEverySet, AValidCertificateProves, CoversAreJudgedInOrder, GapsAreJudgedInOrder, TheValuesAreOneList, TheSourcesAreOneList, TheChoicesAreOneList, TheGapsAreOneList};
+ghost use Rattle.tree_laws.specs.Laws.{AValidCoverCovers, AWholeCoverIsAnEarlyCover, ACoveredListHasEachOutcome, AValidTreeMakesTheSequentialList, AValidFencedTreeServes, ATighterModeKeepsACover, ATighterModeKeepsTheValues, ATighterModeKeepsAWholeSketch, ATighterModeKeepsASettledRead, ASplitLosesNoSet, TheCheapestOfEachAreTheBest, EachCostsAtLeastTheSum, ABoundByRunsLeavesNoBetter, AValidGapTreeLeavesNoBetter, SoNoServingSetIsBetter, TheRootHasEverySet, AValidCertificateProves, CoversAreJudgedInOrder, GapsAreJudgedInOrder, TheValuesAreOneList, TheSourcesAreOneList, TheChoicesAreOneList, TheGapsAreOneList};
 ghost use Rattle.tree_laws.specs.StoreBuffering.{StoreBufferingIsCertified};
 ghost use Rattle.tree_laws.specs.OwnStore.{OwnStoreIsTold};
 
