@@ -244,7 +244,7 @@ class Sources(Cases):
             tell(f"{calls[:40]} .. of {crate} is there", not lost, lost)
 
     def test_names(self):
-        """The names that a document gives with their crate or their file, as `fence_laws::all_gaps_serve` or `lex` in `text_tokens/src/lexer.rt`, are there."""
+        """The names that a document gives with their crate or their file, as `tso_machine::all_gaps_serve` or `lex` in `text_tokens/src/lexer.rt`, are there."""
         crates = {os.path.basename(path): path for path in glob.glob(os.path.join(TOP, "crates", "*"))}
         for path in all_documents():
             text = bytes_of(path).decode()

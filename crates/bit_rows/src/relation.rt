@@ -51,7 +51,7 @@ impl Relation {
         }
     }
 
-    /// The same relation.
+    /// A copy of the relation.
     pub fn copy(&self) -> Relation
         ensures { result ≡ self.now }
     {
@@ -115,7 +115,8 @@ impl Relation {
         either(self.round, meets(reached(&self.reach, to), from))
     }
 
-    /// The same if two rows were connected so, and then two others.
+    /// Whether a path would lead back to where it began if each number of the first row were related to each of the
+    /// second, and each of the third to each of the fourth. The relation stays as it is.
     pub fn closes_twice(&self, from: u32, to: u32, then_from: u32, then_to: u32) -> bool
         ensures { (rows more : List ℕ) × AreConnected self.now from to rows × AreConnected rows then_from then_to more × (IsTrue result ↔ HasRound more) }
     {

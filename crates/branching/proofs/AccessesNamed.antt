@@ -1,8 +1,8 @@
 -- Events of threads, and the accesses that name them.
-use Rattle.branching.proofs.Vocabulary.{Event, Initial, At, IsAccess, given_to, ProgramSketch, mode_in, AccessId, IsOfThread}
+use Rattle.branching.proofs.Vocabulary.{Event, Initial, At, IsAccess, given_to, ProgramSketch, mode_in, AccessId, IsThreadEvent}
 
 -- an access is no initial write
-pub of_thread : (s : ProgramSketch) (e : Event) → IsAccess s.program (mode_in s) (given_to s.chosen) e → IsOfThread e
+pub of_thread : (s : ProgramSketch) (e : Event) → IsAccess s.program (mode_in s) (given_to s.chosen) e → IsThreadEvent e
 of_thread s (Initial l) h = h
 of_thread s (At t i) h = tt
 

@@ -1,7 +1,7 @@
 -- The sketch after a choice has all that was chosen, and the choice.
 use Rattle.branching.proofs.Vocabulary.{◌≡◌, [], ◌∷◌, refl, sym, subst, ProgramSketch, with_chosen, event_of, Choice, sketch_with}
 use Rattle.std.proofs.lemmas.List.{append-nil}
-use Rattle.sketches.specs.Marks.{ComesAfter}
+use Rattle.exec_axioms.specs.Marks.{ComesAfter}
 use Rattle.tree_laws.specs.declared.choice.Choice.TheVariants as choice
 
 -- a choice adds to what is chosen

@@ -3,7 +3,7 @@ use Rattle.branching.proofs.Vocabulary.{◌≡◌, ◌↔◌, ℕ, Bool, true, f
 use Rattle.branching.proofs.Vocabulary.{ProgramSketch, mode_in, trace_in, access_in, with_chosen, Choice, sketch_with, MayChoose, MayChooseEach, AccessId, event_of, ReadValue, WrittenValue, WholeAccesses, given_to, IsPair, IsWhole, IsOrdered, MayFollow}
 use Rattle.branching.proofs.Vocabulary.{other_way, turned, same_default, IsComplete, HasItsSource, IsOrderedWith, read_there, first_there, second_there, IsReadValue, IsWrittenValue, NamesWrite, AreAccessesOf, HasEachSource, AreWritesInOrder, IsEachInOrder}
 use Rattle.tso_program.specs.declared.listing.Thread.{Thread}
-use Rattle.cover_judge.specs.Sketches as sketches
+use Rattle.candidate_executions.specs.Sketches as sketches
 use Rattle.tree_laws.specs.declared.choice.Choice.TheVariants as choice
 use Rattle.thread_traces.proofs.TracesKept.{no_action}
 use Rattle.branching.proofs.AccessesNamed.{id_of}

@@ -1,6 +1,6 @@
 -- How many steps a search has left: a choice is one more of those that a sketch can have.
 use Rattle.branching.proofs.Vocabulary.{◌≡◌, ℕ, ◌+◌, ◌-◌, ◌*◌, ◌<◌, ◌≤◌, ap, ◌∙◌, arith, ProgramSketch, mode_in, with_chosen, event_of, Choice, sketch_with, MayChoose, choice_count, most_choices}
-use Rattle.cover_judge.proofs.GivenValues.{reads_there}
+use Rattle.candidate_executions.proofs.Sketches.GivenValues.{reads_there}
 use Rattle.program_sketches.specs.Kept.{IsLawful}
 use Rattle.branching.proofs.OneMoreChoice.{value_counted, source_counted, pair_counted}
 use Rattle.tree_laws.specs.declared.choice.Choice.TheVariants as choice

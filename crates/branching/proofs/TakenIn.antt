@@ -2,7 +2,7 @@
 use Rattle.branching.proofs.Vocabulary.{◌≡◌, ◌⊎◌, ℕ, List, [], ◌∷◌, ◌++◌, None, Some, IsSome, All, refl, sym, ap, ◌∙◌, subst, ◌<◌, length, inl, inr, arith, same_Some, cases_lt, ProgramSketch, access_in, trace_in, IsRead, AccessId, event_of, ReadValue}
 use Rattle.branching.proofs.Vocabulary.{WrittenValue, WholeAccesses, IsReadValue, NamesRead, IsWrittenValue, IsWrite, NamesWrite, IsItself, TakesIn}
 use Rattle.std.proofs.lemmas.List.Elements.{All-push, Contains-append_left, Contains-push}
-use Rattle.cover_judge.specs.Access.{Access}
+use Rattle.candidate_executions.specs.declared.access.Access.{Access}
 use Rattle.program_sketches.proofs.Traced.{none_past}
 
 -- what an access reads is taken in, and the writes stay the same

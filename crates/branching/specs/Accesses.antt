@@ -1,21 +1,21 @@
 -- Accesses, as trees name them.
 use Rattle.std.specs.Prelude.{◌≡◌, ℕ, List, Some, IfSome, All, Contains}
-use Rattle.cover_judge.specs.Access.{Access}
-use Rattle.cover_judge.specs.Event.{Event, TheVariants.Initial, TheVariants.Access as At}
-use Rattle.cover_judge.specs.Candidates.{Writes}
-use Rattle.cover_judge.specs.Sketches.{IsWhole}
+use Rattle.candidate_executions.specs.declared.access.Access.{Access}
+use Rattle.candidate_executions.specs.declared.event.Event.{Event, TheVariants.Initial, TheVariants.Access as At}
+use Rattle.candidate_executions.specs.Candidates.{Writes}
+use Rattle.candidate_executions.specs.Sketches.{IsWhole}
 use Rattle.program_sketches.specs.ProgramSketches.{ProgramSketch, mode_in, access_in}
 use Rattle.program_sketches.specs.Choices.{IsRead}
 use Rattle.cert_trees.specs.declared.tree.AccessId.{AccessId}
-use Rattle.cover_judge.specs.CoverTrees.{event_of}
+use Rattle.tree_laws.specs.CoverTrees.{event_of}
 use Rattle.branching.specs.declared.reads_writes.ReadValue.{ReadValue}
 use Rattle.branching.specs.declared.reads_writes.WrittenValue.{WrittenValue}
 use Rattle.branching.specs.declared.reads_writes.WholeAccesses.{WholeAccesses}
 
 -- no initial write
-abbrev pub IsOfThread : Event → Type 0
-IsOfThread (Initial l) = ⊥
-IsOfThread (At t i) = Unit {0}
+abbrev pub IsThreadEvent : Event → Type 0
+IsThreadEvent (Initial l) = ⊥
+IsThreadEvent (At t i) = Unit {0}
 
 -- the access reads the value from the location
 pub record IsReadValue (s : ProgramSketch) (r : ReadValue) : Type 0 where

@@ -2,8 +2,8 @@
 use Rattle.std.specs.Prelude.{ℕ, ◌<◌, List, Contains, length, slice_index_or}
 use Rattle.std.specs.List.{AllPairs}
 use Rattle.program_sketches.specs.ProgramSketches.{ProgramSketch}
-use Rattle.sketches.specs.Complete.{HasItsSource, IsOrderedWith}
-use Rattle.cover_judge.specs.CoverTrees.{event_of}
+use Rattle.exec_axioms.specs.Complete.{HasItsSource, IsOrderedWith}
+use Rattle.tree_laws.specs.CoverTrees.{event_of}
 use Rattle.branching.specs.declared.reads_writes.ReadValue.{ReadValue}
 use Rattle.branching.specs.declared.reads_writes.WrittenValue.{WrittenValue}
 

@@ -1,6 +1,6 @@
 -- Sketches in which one thread takes its values from another sketch.
 use Rattle.std.specs.Prelude.{◌≡◌, ◌≢◌, ◌<◌, ℕ, length}
-use Rattle.cover_judge.specs.Sketches.{given_to}
+use Rattle.candidate_executions.specs.Sketches.{given_to}
 use Rattle.program_sketches.specs.ProgramSketches.{ProgramSketch, with_chosen}
 use Rattle.rowless_sketches.specs.ThreadValues.{with_values, HasValuesAlone}
 use Rattle.cover_judge.specs.Choices.{IsValueOpen}

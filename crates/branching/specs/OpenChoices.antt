@@ -1,9 +1,9 @@
 -- What is left to be chosen in a sketch.
-use Rattle.cover_judge.specs.Event.{Event}
-use Rattle.cover_judge.specs.Sketches.{IsPair}
+use Rattle.candidate_executions.specs.declared.event.Event.{Event}
+use Rattle.candidate_executions.specs.Sketches.{IsPair}
 use Rattle.program_sketches.specs.ProgramSketches.{ProgramSketch, mode_in}
 use Rattle.program_sketches.specs.Choices.{IsRead, HasSource, IsOrdered, MayFollow}
-use Rattle.cover_judge.specs.CoverTrees.{event_of}
+use Rattle.tree_laws.specs.CoverTrees.{event_of}
 use Rattle.cover_judge.specs.Choices.{IsValueOpen, IsSourceOpen, AreChoicesOf, MayChooseEach}
 use Rattle.branching.specs.declared.branch.Branch.{Branch}
 use Rattle.tree_laws.specs.declared.choice.OpenChoice.{OpenChoice, TheVariants.Value, TheVariants.Source, TheVariants.Order}

@@ -1,6 +1,6 @@
 -- Which thread gets its values last.
 use Rattle.std.specs.Prelude.{◌≡◌, ◌≢◌, ◌<◌, ℕ, List, [], All, IfSome, length}
-use Rattle.cover_judge.specs.Sketches.{given_to}
+use Rattle.candidate_executions.specs.Sketches.{given_to}
 use Rattle.program_sketches.specs.ProgramSketches.{ProgramSketch}
 use Rattle.rowless_sketches.specs.ThreadValues.{HasValuesAlone}
 use Rattle.tree_laws.specs.declared.choice.Choice.{Choice}
@@ -17,7 +17,7 @@ pub record AreTracesOf (s : ProgramSketch) (x : ThreadTraces) : Type 0 where
   pub tree : IsValueTree x.thread (traces x.tree)
   pub root_is : root (traces x.tree) ≡ s
 
--- the same of the last thread, and of the one before it
+-- the last thread, and the one before it, with what each does from its values in the sketch on
 pub record IsLast (s : ProgramSketch) (last : LastThread) : Type 0 where
   pub there : last.thread < length s.program.threads
   pub tree : IsValueTree last.thread (traces last.tree)

@@ -2,18 +2,18 @@
 use Rattle.std.specs.Prelude.{◌≡◌, ◌≢◌, ◌⊎◌, ℕ, ◌%◌, List, Some, Contains, slice_index}
 use Rattle.bit_rows.specs.Rows.{RowHas}
 use Rattle.bit_rows.specs.declared.row.TheConstants.{ROW_BITS}
-use Rattle.cover_judge.specs.Access.{Access}
-use Rattle.cover_judge.specs.Event.TheVariants.{Access as At}
-use Rattle.cover_judge.specs.Candidates.{Writes}
+use Rattle.candidate_executions.specs.declared.access.Access.{Access}
+use Rattle.candidate_executions.specs.declared.event.Event.TheVariants.{Access as At}
+use Rattle.candidate_executions.specs.Candidates.{Writes}
 use Rattle.program_sketches.specs.ProgramSketches.{ProgramSketch, access_in}
 use Rattle.cert_trees.specs.declared.tree.AccessId.{AccessId}
-use Rattle.cover_judge.specs.CoverTrees.{event_of}
+use Rattle.tree_laws.specs.CoverTrees.{event_of}
 use Rattle.branching.specs.declared.reads_writes.ReadValue.{ReadValue}
 use Rattle.branching.specs.declared.tally.Tally.{Tally}
 
 -- the bit of the location with the value is set
-abbrev pub HasBit : List ℕ → ℕ → ℕ → Type 0
-HasBit rows l v = RowHas rows (l % ROW_BITS) (v % ROW_BITS)
+abbrev pub HasTallyBit : List ℕ → ℕ → ℕ → Type 0
+HasTallyBit rows l v = RowHas rows (l % ROW_BITS) (v % ROW_BITS)
 
 -- a read of the sketch with its location and its value, which is not the initial one
 pub record IsTalliedRead (s : ProgramSketch) (r : ReadValue) : Type 0 where
@@ -26,7 +26,7 @@ pub record IsTalliedRead (s : ProgramSketch) (r : ReadValue) : Type 0 where
 -- the reads are of these threads, and each write of theirs has its bit
 pub record IsTallyOf (s : ProgramSketch) (T : ℕ → Type 0) (tally : Tally) : Type 0 where
   pub reads : (r : ReadValue) → Contains tally.reads.items r → T r.read.thread × IsTalliedRead s r
-  pub written : (t i l v : ℕ) → T t → Writes (access_in s) (At t i) l v → HasBit tally.written l v
+  pub written : (t i l v : ℕ) → T t → Writes (access_in s) (At t i) l v → HasTallyBit tally.written l v
 
 -- thread t, and each other thread
 abbrev pub IsThisThread : ℕ → ℕ → Type 0
@@ -50,33 +50,33 @@ KeepsBits old new = (d e : ℕ) → RowHas old d e → RowHas new d e
 -- its reads are reads of the two, and it has the bits of both
 pub record Joins (a b new : Tally) : Type 0 where
   pub reads : (r : ReadValue) → Contains new.reads.items r → Contains a.reads.items r ⊎ Contains b.reads.items r
-  pub first : (l v : ℕ) → HasBit a.written l v → HasBit new.written l v
-  pub second : (l v : ℕ) → HasBit b.written l v → HasBit new.written l v
+  pub first : (l v : ℕ) → HasTallyBit a.written l v → HasTallyBit new.written l v
+  pub second : (l v : ℕ) → HasTallyBit b.written l v → HasTallyBit new.written l v
 
 -- an access is taken in
 pub record TakesAccess (s : ProgramSketch) (a : AccessId) (old new : Tally) : Type 0 where
   pub reads : (r : ReadValue) → Contains new.reads.items r → IsOldOrOf s a.thread old r
   pub kept : KeepsBits old.written new.written
-  pub written : (l v : ℕ) → Writes (access_in s) (event_of a) l v → HasBit new.written l v
+  pub written : (l v : ℕ) → Writes (access_in s) (event_of a) l v → HasTallyBit new.written l v
 
 -- all accesses of a thread are taken in
 pub record TakesThread (s : ProgramSketch) (t : ℕ) (old new : Tally) : Type 0 where
   pub reads : (r : ReadValue) → Contains new.reads.items r → IsOldOrOf s t old r
   pub kept : KeepsBits old.written new.written
-  pub written : (i l v : ℕ) → Writes (access_in s) (At t i) l v → HasBit new.written l v
+  pub written : (i l v : ℕ) → Writes (access_in s) (At t i) l v → HasTallyBit new.written l v
 
 -- a read of the tally whose value none of its own accesses writes
 pub record IsLostIn (tally : Tally) (r : ReadValue) : Type 0 where
   pub here : Contains tally.reads.items r
-  pub unwritten : HasBit tally.written r.location r.value → ⊥
+  pub unwritten : HasTallyBit tally.written r.location r.value → ⊥
 
 -- the read is one of these, and what it reads has no bit in either
 pub record LacksWrite (reads : List ReadValue) (one other : List ℕ) (read : AccessId) : Type 0 where
   pub tallied : ReadValue
   pub here : Contains reads tallied
   pub is : tallied.read ≡ read
-  pub not_one : HasBit one tallied.location tallied.value → ⊥
-  pub not_other : HasBit other tallied.location tallied.value → ⊥
+  pub not_one : HasTallyBit one tallied.location tallied.value → ⊥
+  pub not_other : HasTallyBit other tallied.location tallied.value → ⊥
 
 -- a read of one of the two that lacks its write in both
 abbrev pub LacksWriteOfBoth : Tally → Tally → AccessId → Type 0

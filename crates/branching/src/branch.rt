@@ -1,6 +1,6 @@
 //! Branches: what is chosen next, and its choices.
-ghost use Rattle.std.specs.Prelude.{IfOk, MatchOption};
-ghost use Rattle.sketches.specs.Complete.{IsComplete};
+ghost use Rattle.std.specs.Prelude.{◌≡◌, [], ◌∷◌, IfOk, MatchOption};
+ghost use Rattle.exec_axioms.specs.Complete.{IsComplete};
 ghost use Rattle.cover_judge.specs.Choices.{MayChooseEach};
 ghost use Rattle.branching.specs.OpenChoices.{IsOpen, IsBranch};
 ghost use Rattle.cover_judge.specs.Choices.{AreChoicesOf};
@@ -10,8 +10,9 @@ use crate::choice::{source_choices, value_choices};
 use crate::ordered_outcomes::OrderedOutcomes;
 use crate::preference::preferred;
 use crate::reads_writes::WholeAccesses;
-use cover_judge::{Choice, OpenChoice, both_orders};
-use sketches::Sketch;
+use cert_trees::AccessId;
+use cover_judge::{Choice, OpenChoice};
+use exec_axioms::Sketch;
 use std::alloc::{AllocError, Global};
 use tso_program::Shown;
 
@@ -69,4 +70,12 @@ pub fn choices_of(
         },
         OpenChoice::Order(first, second) => both_orders(alloc, first, second),
     }
+}
+
+/// Both orders of two writes.
+fn both_orders(alloc: Global, first: AccessId, second: AccessId) -> Result<Vec<Choice>, AllocError>
+    ensures { IfOk result (λ choices. choices.items ≡ Choice.Order first second ∷ Choice.Order second first ∷ []) }
+{
+    let orders = [Choice::Order(first, second), Choice::Order(second, first)];
+    Vec::from_slice(alloc, orders.as_slice())
 }

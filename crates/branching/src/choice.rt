@@ -1,12 +1,13 @@
 //! Choices made in a sketch, and those that there are.
-ghost use Rattle.std.specs.Prelude.{◌≡◌, IfOk, OnOk, OnErr, IfSome, MatchOption};
+ghost use Rattle.std.specs.Prelude.{◌≡◌, IfOk, OnOk, OnErr, IfSome, MatchOption, map};
 ghost use Rattle.program_sketches.specs.ProgramSketches.{with_chosen};
 ghost use Rattle.tree_laws.specs.CoverTrees.{sketch_with};
 ghost use Rattle.cover_judge.specs.Choices.{MayChoose, MayChooseEach, IsValueOpen, IsSourceOpen, AreValueChoices, AreSourceChoices};
 
+use candidate_executions::Event;
 use cert_trees::AccessId;
-use cover_judge::{Choice, each_source, each_value, event_of};
-use sketches::{Sketch, SketchFault};
+use cover_judge::{Choice, event_of};
+use exec_axioms::{Sketch, SketchFault};
 use std::alloc::{AllocError, Global};
 
 /// The sketch with one more choice.
@@ -70,4 +71,24 @@ pub fn source_choices(
         Err(SketchFault::OutOfMemory) => Err(AllocError),
         Err(_) => Ok(None),
     }
+}
+
+/// The values of a thread's next read, as choices.
+fn each_value(alloc: Global, thread: u8, values: &[u32]) -> Result<Vec<Choice>, AllocError>
+    ensures { IfOk result (λ choices. choices.items ≡ map (Choice.Value thread) values.now) }
+{
+    values
+        .iter()
+        .map(|value| Choice::Value(thread, *value))
+        .collect(alloc)
+}
+
+/// The sources of a read, as choices.
+fn each_source(alloc: Global, read: AccessId, sources: &[Event]) -> Result<Vec<Choice>, AllocError>
+    ensures { IfOk result (λ choices. choices.items ≡ map (Choice.Source read) sources.now) }
+{
+    sources
+        .iter()
+        .map(|source| Choice::Source(read, *source))
+        .collect(alloc)
 }

@@ -8,7 +8,7 @@ use crate::ordered_outcomes::OrderedOutcomes;
 use crate::reads_writes::{WholeAccesses, WrittenValue};
 use bit_rows::{ROW_BITS, has_any, joined, minus, with};
 use cover_judge::event_of;
-use sketches::Sketch;
+use exec_axioms::Sketch;
 use std::cmp::Ordering;
 use tso_program::{MAX_LOCATIONS, Outcome, REGISTERS, Shown};
 

@@ -1,11 +1,11 @@
 //! What is chosen first. The size of a tree depends on it, and nothing that is proved of the tree does but
 //! that it is left to be chosen.
 ghost use Rattle.std.specs.Prelude.{◌≡◌, ◌<◌, None, IsTrue, IsSome, IfSome, MatchOption, All, length};
-ghost use Rattle.cover_judge.specs.Sketches.{IsWhole};
+ghost use Rattle.candidate_executions.specs.Sketches.{IsWhole};
 ghost use Rattle.program_sketches.specs.ProgramSketches.{ProgramSketch, mode_in};
 ghost use Rattle.program_sketches.specs.Choices.{MayRead};
-ghost use Rattle.sketches.specs.Complete.{IsComplete};
-ghost use Rattle.cover_judge.specs.CoverTrees as trees;
+ghost use Rattle.exec_axioms.specs.Complete.{IsComplete};
+ghost use Rattle.tree_laws.specs.CoverTrees as trees;
 ghost use Rattle.cover_judge.specs.Choices.{MayChoose, IsSourceOpen};
 ghost use Rattle.branching.specs.OpenChoices.{IsOpen};
 ghost use Rattle.branching.specs.Accesses.{IsReadValue, IsWrittenValue, AreAccessesOf};
@@ -17,7 +17,7 @@ use crate::ordered_outcomes::OrderedOutcomes;
 use crate::reads_writes::{ReadValue, WholeAccesses, WrittenValue, gives, gives_at_first};
 use cert_trees::AccessId;
 use cover_judge::{Choice, OpenChoice, event_of};
-use sketches::{Event, Sketch};
+use exec_axioms::{Event, Sketch};
 use tso_program::Shown;
 
 /// How many children stay open after a choice, how many there are, and whether it is an order: the

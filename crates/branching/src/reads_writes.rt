@@ -1,14 +1,14 @@
 //! Reads and writes of a sketch, with their locations and their values.
 ghost use Rattle.std.specs.Prelude.{◌≡◌, [], IsTrue, IfOk, OnOk, IfSome, All};
-ghost use Rattle.cover_judge.specs.Sketches.{IsSourceOf, IsWhole};
+ghost use Rattle.candidate_executions.specs.Sketches.{IsSourceOf, IsWhole};
 ghost use Rattle.program_sketches.specs.ProgramSketches.{ProgramSketch, mode_in};
-ghost use Rattle.cover_judge.specs.CoverTrees as trees;
+ghost use Rattle.tree_laws.specs.CoverTrees as trees;
 ghost use Rattle.branching.specs.Accesses.{IsReadValue, IsWrittenValue, AreAccessesOf, IsItself, IsOfItsThread, TakesIn};
 
 use bit_rows::ROW_BITS;
 use cert_trees::AccessId;
 use cover_judge::event_of;
-use sketches::{Event, Sketch};
+use exec_axioms::{Event, Sketch};
 use std::alloc::{AllocError, Global};
 
 /// A read, with its location and its value.

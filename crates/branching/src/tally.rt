@@ -5,13 +5,13 @@
 ghost use Rattle.std.specs.Prelude.{◌≡◌, ◌≢◌, ◌<◌, ◌≤◌, ◌↔◌, ◌⊎◌, ◌%◌, ℕ, [], Some, None, IsTrue, IfOk, OnOk, IfSome, slice_index, length};
 ghost use Rattle.bit_rows.specs.Rows.{RowHas};
 ghost use Rattle.bit_rows.specs.declared.row.TheConstants.{ROW_BITS};
-ghost use Rattle.branching.specs.Tallies.{HasBit, IsTallyOf, IsThisThread, IsOther, IsNeither, Joins, TakesAccess, TakesThread, IsLostIn, LacksWrite, LacksWriteOfBoth};
+ghost use Rattle.branching.specs.Tallies.{HasTallyBit, IsTallyOf, IsThisThread, IsOther, IsNeither, Joins, TakesAccess, TakesThread, IsLostIn, LacksWrite, LacksWriteOfBoth};
 
 use crate::reads_writes::ReadValue;
 use bit_rows::{ROW_BITS, has, joined, put_rows, with};
 use cert_trees::AccessId;
 use cover_judge::event_of;
-use sketches::{Access, Event, Sketch};
+use exec_axioms::{Access, Event, Sketch};
 use std::alloc::{AllocError, Global};
 
 /// What some threads read and write.
@@ -199,7 +199,7 @@ fn mark(rows: &mut [u32], location: u8, value: u32)
 /// Whether a location with a value has its bit.
 fn is_marked(rows: &[u32], location: u8, value: u32) -> bool
     requires { length rows.now ≡ ROW_BITS }
-    ensures { IsTrue result ↔ HasBit rows.now location value }
+    ensures { IsTrue result ↔ HasTallyBit rows.now location value }
 {
     let row = rows[location as usize % ROW_BITS];
     has(row, (value % ROW_BITS as u32) as u8)
@@ -222,8 +222,8 @@ fn lacking_of(reads: &[ReadValue], one: &[u32], other: &[u32]) -> Option<AccessI
 fn lacks_write(tallied: &ReadValue, one: &[u32], other: &[u32]) -> bool
     requires one { length one.now ≡ ROW_BITS }
     requires other { length other.now ≡ ROW_BITS }
-    ensures one { IsTrue result → HasBit one.now tallied.now.location tallied.now.value → ⊥ }
-    ensures other { IsTrue result → HasBit other.now tallied.now.location tallied.now.value → ⊥ }
+    ensures one { IsTrue result → HasTallyBit one.now tallied.now.location tallied.now.value → ⊥ }
+    ensures other { IsTrue result → HasTallyBit other.now tallied.now.location tallied.now.value → ⊥ }
 {
     !is_marked(one, tallied.location, tallied.value)
         && !is_marked(other, tallied.location, tallied.value)

@@ -6,7 +6,7 @@ ghost use Rattle.branching.specs.Traces.{traces, trace_trees, root, IsValueTree,
 use crate::choice::{sketch_with, value_choices};
 use crate::tally::Tally;
 use cover_judge::Choice;
-use sketches::{CompactSketch, Sketch};
+use exec_axioms::{CompactSketch, Sketch};
 use std::alloc::{AllocError, Global};
 
 /// What a thread does from some given values on. The sketches have values for this thread alone; each node keeps one, so they are

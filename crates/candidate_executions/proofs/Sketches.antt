@@ -4,4 +4,6 @@ pub mod GivenValues
 pub mod KnownEdges
 pub mod KnownCycles
 pub mod Choices
+pub mod WritesAhead
+pub mod SettledSources
 pub mod MustEnd

@@ -11,31 +11,31 @@ pub use Rattle.std.proofs.lemmas.Option.{get_or_from_slice_get, same_Some, slice
 pub use Rattle.std.specs.List.{AllPairs, count_by, range_with_len}
 pub use Rattle.std.specs.Option.{option_map_or}
 pub use Rattle.std.specs.Prelude.{unwrap_or}
-pub use Rattle.fence_laws.proofs.StepCases.{exec_by, flush_by}
-pub use Rattle.fence_laws.specs.Machine.{HasEnded, IsRun, Machine, SequentialMachine, State, StoreBufferMachine, buffered, direct, flushed, found, newest, no_gaps, or_else, outcome_at, past_gap, put}
-pub use Rattle.fence_laws.specs.Machine.{run, start, step, when_empty}
-pub use Rattle.fence_laws.specs.Label.{Label, TheVariants.Exec, TheVariants.Flush}
-pub use Rattle.fence_laws.specs.Pending.{Pending}
-pub use Rattle.fence_laws.specs.Actions.{act, jumped, loaded}
-pub use Rattle.fence_laws.specs.Fences.{Gaps}
-pub use Rattle.fence_laws.specs.Instructions.{number}
-pub use Rattle.fence_laws.specs.Limits.{JumpForward}
-pub use Rattle.fence_laws.specs.Listings.{action, code_of, start_of}
-pub use Rattle.fence_laws.specs.Action.{Action, TheVariants.Go, TheVariants.Read, TheVariants.Stop, TheVariants.Swap, TheVariants.Wait, TheVariants.Write}
-pub use Rattle.fence_laws.specs.Local.{Local}
-pub use Rattle.fence_laws.specs.Instr.{Instr}
-pub use Rattle.fence_laws.specs.Instr.TheVariants.{Copy, Je, Jmp, Jne, LoadImm, Store, StoreImm, Xchg}
-pub use Rattle.fence_laws.specs.Reg.{Reg}
-pub use Rattle.fence_laws.specs.Listing.{Listing}
-pub use Rattle.fence_laws.specs.Thread.{Thread}
-pub use Rattle.fence_laws.specs.Outcome.{Outcome}
+pub use Rattle.tso_machine.proofs.StepCases.{exec_by, flush_by}
+pub use Rattle.tso_machine.specs.Machine.{HasEnded, IsRun, Machine, SequentialMachine, State, StoreBufferMachine, buffered, direct, flushed, found, newest, no_gaps, or_else, outcome_at, past_gap, put}
+pub use Rattle.tso_machine.specs.Machine.{run, start, step, when_empty}
+pub use Rattle.tso_machine.specs.declared.label.Label.{Label, TheVariants.Exec, TheVariants.Flush}
+pub use Rattle.tso_machine.specs.declared.label.Pending.{Pending}
+pub use Rattle.tso_machine.specs.Actions.{act, jumped, loaded}
+pub use Rattle.tso_machine.specs.Fences.{Gaps}
+pub use Rattle.tso_machine.specs.Instructions.{number}
+pub use Rattle.tso_machine.specs.Limits.{JumpForward}
+pub use Rattle.tso_machine.specs.Listings.{action, code_of, instr_at, start_of}
+pub use Rattle.tso_machine.specs.Action.{Action, TheVariants.Go, TheVariants.Read, TheVariants.Stop, TheVariants.Swap, TheVariants.Wait, TheVariants.Write}
+pub use Rattle.tso_machine.specs.Local.{Local}
+pub use Rattle.tso_machine.specs.Instr.{Instr}
+pub use Rattle.tso_machine.specs.Instr.TheVariants.{Copy, Je, Jmp, Jne, LoadImm, Store, StoreImm, Xchg}
+pub use Rattle.tso_machine.specs.Reg.{Reg}
+pub use Rattle.tso_machine.specs.Listing.{Listing}
+pub use Rattle.tso_machine.specs.Thread.{Thread}
+pub use Rattle.tso_machine.specs.Outcome.{Outcome}
 pub use mathlib.Core.Path.{fun_ext}
 pub use Rattle.candidate_executions.specs.Candidates.{Candidate, EndsWith, HasOutcome, HasShownOutcome, IsCandidate, Writes, access, access_by, trace_of}
 pub use Rattle.candidate_executions.specs.Consistency.{Edge, FromReads, IsAcyclic, IsConsistent, IsCycle, IsOfMode, KeepsOrder, Leads, Precedes, ReadsFrom, Relates, SameThread, WriteOrder}
 pub use Rattle.candidate_executions.specs.Laws.{AKnownCycleIsACycle, AKnownEdgeIsAnEdge, APairKeepsASketch, ASourceKeepsASketch, AValueKeepsASketch, CyclesAreOfAccesses, EachCompletionEndsSo}
-pub use Rattle.candidate_executions.specs.Laws.{EachCompletionHasASource, EachCompletionHasAValue, EachCompletionHasAnOrder, EachCompletionHasTheValues, EmptyIsASketch, EveryCandidateCompletesEmpty}
+pub use Rattle.candidate_executions.specs.Laws.{EachCompletionHasASettledSource, EachCompletionHasASource, EachCompletionHasAValue, EachCompletionHasAnOrder, EachCompletionHasTheValues, EmptyIsASketch, EveryCandidateCompletesEmpty}
 pub use Rattle.candidate_executions.specs.Laws.{EveryCandidateIsARun, EveryOrderIsARun, EveryRunIsACandidate, EveryRunIsACompletion, EveryRunIsShort, HasItsCandidate, KeptOrderIsTold}
-pub use Rattle.candidate_executions.specs.Laws.{KnownCyclesAreOfAccesses, NoEdgeLeadsIntoInitial, NoKnownEdgeLeadsIntoInitial, OutcomesAreOne, SectionsTellFences}
+pub use Rattle.candidate_executions.specs.Laws.{KnownCyclesAreOfAccesses, NoEdgeLeadsIntoInitial, NoKnownEdgeLeadsIntoInitial, OutcomesAreOne, SectionsTellFences, WholeSketchesAreSettled}
 pub use Rattle.candidate_executions.specs.Orders.{IsOrder, Steps, counted, execs, flush_of, flushes, followed_union, labels_along, made_at, steps, steps_by, to_ends}
 pub use Rattle.candidate_executions.specs.Paths.{IsFenceOrExchange, IsParted, IsStepOf, LiesBetween, executed, is_access, path, path_of}
 pub use Rattle.candidate_executions.specs.RunCandidates.{ArriveInOrder, Arrives, IsCandidateOf, IsStored, Mark, Origins, ReadsValue, Takes, buffered_marks, buffered_origins, direct_marks}
@@ -43,6 +43,7 @@ pub use Rattle.candidate_executions.specs.RunCandidates.{direct_origins, first_o
 pub use Rattle.candidate_executions.specs.RunCandidates.{with_waiting}
 pub use Rattle.candidate_executions.specs.Sketches.{Completes, IsBefore, IsConsistentCompletion, IsKnownCycle, IsPair, IsPrefixOf, IsSketch, IsSourceOf, IsWhole, KnownEdge, KnownEdgeOfMode}
 pub use Rattle.candidate_executions.specs.Sketches.{KnownFromReads, KnownRelates, Sketch, empty_sketch, given_to, next_read, read_by, with_pair, with_source, with_value}
+pub use Rattle.candidate_executions.specs.Settled.{IsOfOther, IsSettled, MayStillWrite, MayStore}
 pub use Rattle.candidate_executions.specs.Traces.{Trace, entered, exchange_of, fenced_gaps, load_of, stopped, store_of, trace, trace_by, traced, with_access}
 pub use Rattle.candidate_executions.specs.Values.{IsKnown, IsValueOf}
 pub use Rattle.candidate_executions.specs.declared.access.Access.{Access}

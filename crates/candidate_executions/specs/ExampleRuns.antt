@@ -1,7 +1,7 @@
 -- What runs of the literature's programs show: store buffering, n6 (Sewell et al., CACM 2010, section 2), and store buffering with a locked exchange.
 use Rattle.std.specs.Prelude.{◌≡◌, [], ◌∷◌}
-use Rattle.fence_laws.specs.Machine.{SequentialMachine, StoreBufferMachine, no_gaps}
-use Rattle.fence_laws.specs.Examples.{store_buffering, waiting_stores, in_turn, n6, n6_run, locked_exchange, locked_run}
+use Rattle.tso_machine.specs.Machine.{SequentialMachine, StoreBufferMachine, no_gaps}
+use Rattle.tso_machine.specs.Examples.{store_buffering, waiting_stores, in_turn, n6, n6_run, locked_exchange, locked_run}
 use Rattle.candidate_executions.specs.declared.event.Event.TheVariants.{Initial, Access as At}
 use Rattle.candidate_executions.specs.RunCandidates.{Takes, Arrives, marks_of}
 

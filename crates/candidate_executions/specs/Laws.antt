@@ -1,13 +1,13 @@
 -- What ties candidate executions to the machines, and what shows how their definitions are to be read.
 use Rattle.std.specs.Prelude.{◌≡◌, ◌≢◌, ◌↔◌, ◌⊎◌, ℕ, ◌<◌, ◌≤◌, ◌+◌, ◌*◌, List, Some, None, IsSome, Contains, length}
-use Rattle.fence_laws.specs.Listing.{Listing}
-use Rattle.fence_laws.specs.Outcome.{Outcome}
-use Rattle.fence_laws.specs.Shown.{Question}
-use Rattle.fence_laws.specs.Listings.{action, code_of}
-use Rattle.fence_laws.specs.Limits.{JumpForward}
-use Rattle.fence_laws.specs.Fences.{Gaps}
-use Rattle.fence_laws.specs.Label.{Label}
-use Rattle.fence_laws.specs.Machine.{Machine, StoreBufferMachine, IsRun}
+use Rattle.tso_machine.specs.Listing.{Listing}
+use Rattle.tso_machine.specs.Outcome.{Outcome}
+use Rattle.tso_machine.specs.Question.{Question}
+use Rattle.tso_machine.specs.Listings.{action, code_of}
+use Rattle.tso_machine.specs.Limits.{JumpForward}
+use Rattle.tso_machine.specs.Fences.{Gaps}
+use Rattle.tso_machine.specs.declared.label.Label.{Label}
+use Rattle.tso_machine.specs.Machine.{Machine, StoreBufferMachine, IsRun}
 use Rattle.candidate_executions.specs.declared.access.Access.{Access}
 use Rattle.candidate_executions.specs.declared.event.Event.{Event, TheVariants.Initial, TheVariants.Access as At}
 use Rattle.candidate_executions.specs.declared.event.Kind.{Kind}
@@ -18,6 +18,7 @@ use Rattle.candidate_executions.specs.RunCandidates.{IsCandidateOf}
 use Rattle.candidate_executions.specs.Paths.{path_of, LiesBetween}
 use Rattle.candidate_executions.specs.Values.{IsValueOf}
 use Rattle.candidate_executions.specs.Sketches.{Sketch, empty_sketch, given_to, Completes, IsConsistentCompletion, IsSketch, IsSourceOf, IsPair, with_value, with_source, with_pair, next_read, IsWhole, MustEndAs, KnownEdge}
+use Rattle.candidate_executions.specs.Settled.{IsSettled}
 
 -- the labels have a consistent candidate, with the outcome
 abbrev pub HasItsCandidate : Listing → Machine → List Label → Outcome → Type 0
@@ -138,6 +139,16 @@ abbrev pub EachCompletionHasASource : Type 0
 EachCompletionHasASource = (p : Listing) (mode : Machine) (k : Sketch) (c : Candidate) (e : Event) (x : Access) (v : ℕ) → JumpForward p.threads →
     IsSketch p mode k → IsCandidate p mode c → Completes k c → IsWhole p mode k → access_by p mode (given_to k) e ≡ Some x → x.read ≡ Some v →
     IsSourceOf p mode k (c.source e) e × Completes (with_source k e (c.source e)) c
+
+-- a settled read's source in each consistent completion is one of its sources that are there, whatever the threads read next
+abbrev pub EachCompletionHasASettledSource : Type 0
+EachCompletionHasASettledSource = (p : Listing) (mode : Machine) (k : Sketch) (c : Candidate) (e : Event) (x : Access) (v : ℕ) → JumpForward p.threads →
+    IsSketch p mode k → IsConsistentCompletion p mode k c → IsSettled p mode k e → access_by p mode (given_to k) e ≡ Some x → x.read ≡ Some v →
+    IsSourceOf p mode k (c.source e) e × Completes (with_source k e (c.source e)) c
+
+-- where each read has its value, each is settled
+abbrev pub WholeSketchesAreSettled : Type 0
+WholeSketchesAreSettled = (p : Listing) (mode : Machine) (k : Sketch) (e : Event) → IsWhole p mode k → IsSettled p mode k e
 
 -- each completion orders two writes to one location
 abbrev pub EachCompletionHasAnOrder : Type 0

@@ -1,11 +1,11 @@
 -- Which candidate a run has: the values that its reads take and the writes that they find, and the order in which its writes reach memory.
 use Rattle.std.specs.Prelude.{◌≡◌, ◌↔◌, ◌<◌, ℕ, suc, List, [], ◌∷◌, ◌++◌, Some, IsSome, Option, ◌==◌, if◌then◌else◌, Contains, AllPairs}
 use Rattle.std.specs.Option.{option_map_or}
-use Rattle.fence_laws.specs.Action.{Action, TheVariants.Read, TheVariants.Write, TheVariants.Swap}
-use Rattle.fence_laws.specs.Listing.{Listing}
-use Rattle.fence_laws.specs.Listings.{action}
-use Rattle.fence_laws.specs.Label.{Label, TheVariants.Exec, TheVariants.Flush}
-use Rattle.fence_laws.specs.Machine.{Machine, SequentialMachine, StoreBufferMachine, State, put, newest, found, step, start}
+use Rattle.tso_machine.specs.Action.{Action, TheVariants.Read, TheVariants.Write, TheVariants.Swap}
+use Rattle.tso_machine.specs.Listing.{Listing}
+use Rattle.tso_machine.specs.Listings.{action}
+use Rattle.tso_machine.specs.declared.label.Label.{Label, TheVariants.Exec, TheVariants.Flush}
+use Rattle.tso_machine.specs.Machine.{Machine, SequentialMachine, StoreBufferMachine, State, put, newest, found, step, start}
 use Rattle.candidate_executions.specs.declared.access.Access.{Access}
 use Rattle.candidate_executions.specs.declared.event.Event.{Event, TheVariants.Initial, TheVariants.Access as At}
 use Rattle.candidate_executions.specs.Candidates.{Candidate, access, Writes}

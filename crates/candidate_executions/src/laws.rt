@@ -1,6 +1,6 @@
 //! The laws of candidate executions: each function's contract is a theorem, and calling it does
 //! nothing.
-ghost use Rattle.candidate_executions.specs.Laws.{EveryRunIsACandidate, EveryRunIsACompletion, EveryCandidateIsARun, EveryOrderIsARun, EveryRunIsShort, SectionsTellFences, KeptOrderIsTold, NoEdgeLeadsIntoInitial, CyclesAreOfAccesses, EveryCandidateCompletesEmpty, EmptyIsASketch, AValueKeepsASketch, ASourceKeepsASketch, APairKeepsASketch, EachCompletionHasAValue, EachCompletionHasTheValues, EachCompletionHasASource, EachCompletionHasAnOrder, EachCompletionEndsSo, OutcomesAreOne, AKnownEdgeIsAnEdge, AKnownCycleIsACycle, NoKnownEdgeLeadsIntoInitial, KnownCyclesAreOfAccesses};
+ghost use Rattle.candidate_executions.specs.Laws.{EveryRunIsACandidate, EveryRunIsACompletion, EveryCandidateIsARun, EveryOrderIsARun, EveryRunIsShort, SectionsTellFences, KeptOrderIsTold, NoEdgeLeadsIntoInitial, CyclesAreOfAccesses, EveryCandidateCompletesEmpty, EmptyIsASketch, AValueKeepsASketch, ASourceKeepsASketch, APairKeepsASketch, EachCompletionHasAValue, EachCompletionHasTheValues, EachCompletionHasASource, EachCompletionHasASettledSource, WholeSketchesAreSettled, EachCompletionHasAnOrder, EachCompletionEndsSo, OutcomesAreOne, AKnownEdgeIsAnEdge, AKnownCycleIsACycle, NoKnownEdgeLeadsIntoInitial, KnownCyclesAreOfAccesses};
 ghost use Rattle.candidate_executions.specs.StoreBuffering.{StoreBufferingCandidates};
 ghost use Rattle.candidate_executions.specs.ExampleRuns.{RunsShowTheirMarks};
 
@@ -64,11 +64,14 @@ pub fn choices_keep_a_sketch()
 {}
 
 /// Whatever a sketch leaves open, each completion has chosen in one of the ways that a search goes
-/// through.
+/// through. A source may be chosen once each read has its value, or for a settled read: no other thread may
+/// still write what it has read.
 pub fn each_completion_has_chosen()
     ensures value { EachCompletionHasAValue }
     ensures values { EachCompletionHasTheValues }
     ensures source { EachCompletionHasASource }
+    ensures settled { EachCompletionHasASettledSource }
+    ensures whole { WholeSketchesAreSettled }
     ensures order { EachCompletionHasAnOrder }
 {}
 

@@ -1,8 +1,8 @@
 -- The gaps of one set that are not in another: as they are found, how many they are, and which.
-use Rattle.cert_check.proofs.Vocabulary.{◌≡◌, ◌↔◌, ℕ, zero, suc, cond, ◌+◌, Bool, true, false, not, ◌&&◌, ◌||◌, List, [], ◌∷◌, length, Contains, refl, sym, ap, ◌∙◌, arith, filter, range_with_len, nat_cmp, eq_by_cmp, and_parts, and_from, not-true}
+use Rattle.cert_check.proofs.Vocabulary.{◌≡◌, ◌↔◌, ℕ, Bool, true, false, not, ◌&&◌, ◌||◌, List, [], ◌∷◌, length, Contains, refl, sym, ap, ◌∙◌, arith, nat_cmp, eq_by_cmp, and_parts, and_from, not-true}
 use Rattle.cert_check.proofs.Vocabulary.{not_from_false, nat_cmp_total, nat_tests, MAX_GAPS, listed, unlisted, SetOfGaps, IsGapSet, numbers_of_set}
 use Rattle.std.specs.FinSet as set
-use Rattle.gap_sets.specs.Internal.BitsLaws.{any-below}
+use Rattle.gap_sets.proofs.Counted.{len-from_list}
 use Rattle.tree_laws.proofs.Filtered.{has_any, any_has}
 
 tied : (q g : ℕ) → eq_by_cmp nat_cmp q g ≡ true → q ≡ g
@@ -55,15 +55,6 @@ module _ (passed never : SetOfGaps) where
 
 -- ---- how many they are
 
-one_more : (t : Bool) (a : ℕ) (rest : List ℕ) → set.contains (set.from_list {R = nat_cmp} rest) a ≡ false → set.len (set.from_list {R = nat_cmp} rest) ≡ length rest
-    → set.len (set.from_list {R = nat_cmp} (cond t (a ∷ rest) rest)) ≡ length (cond t (a ∷ rest) rest)
-one_more true a rest absent len = set.len-insert nat_cmp_total (set.from_list rest) a ∙ rw absent (omega arith)
-one_more false a rest absent len = len
-
-filtered_len : (p : ℕ → Bool) (a n : ℕ) → set.len (set.from_list {R = nat_cmp} (filter p (range_with_len a n))) ≡ length (filter p (range_with_len a n))
-filtered_len p a zero = set.len-empty nat_cmp
-filtered_len p a (suc n) = one_more (p a) a _ (set.contains-from_list_nat _ a ∙ any-below p (a + 1) n a (omega arith)) (filtered_len p (a + 1) n)
-
 alike : (a b : Bool) → (a ≡ true → b ≡ true) → (b ≡ true → a ≡ true) → a ≡ b
 alike true b to back = sym (to refl)
 alike false true to back = back refl
@@ -78,7 +69,7 @@ of_listed s small = set.same_set nat_cmp_total set.nat_cmp-IsAntisymmetric (set.
 -- and it has as many gaps as it lists
 pub as_many_listed : (s : SetOfGaps) → IsGapSet s → set.len s ≡ length (numbers_of_set s)
 unfolding numbers_of_set
-as_many_listed s small = ap (λ (t : SetOfGaps). set.len t) (sym (of_listed s small)) ∙ filtered_len (set.contains s) 0 MAX_GAPS
+as_many_listed s small = ap (λ (t : SetOfGaps). set.len t) (sym (of_listed s small)) ∙ len-from_list (set.contains s) 0 MAX_GAPS
 
 -- ---- which they are
 

@@ -39,12 +39,14 @@ pub use Rattle.tso_machine.specs.Modes.{ArePassed, unfenced}
 pub use Rattle.tso_machine.specs.Outcomes.{AreGapsOf, IsReplayOf, IsShownRun}
 pub use Rattle.tso_machine.specs.declared.label.Label.{Label}
 pub use Rattle.tso_program.specs.Fences.{gaps_in}
-pub use Rattle.tso_program.specs.Shown.{Question, asked, show}
+pub use Rattle.tso_program.specs.Shown.{asked, show}
+pub use Rattle.tso_program.specs.declared.question.Question.{Question}
 pub use Rattle.tso_program.specs.declared.listing.Listing.{Listing}
 pub use Rattle.tso_program.specs.declared.outcome.Outcome.{Outcome}
 pub use Rattle.cert_check.specs.Faults.{CheckFaultIs, HasEachOutcome, HasForeignRuns, HasHead, HasOutcomes, HasRightCost, HasRuns, HasServingSet, IsFirstWithout, IsRunOf}
 pub use Rattle.cert_check.specs.GapDefects.{FirstWrongGap, HasNoSplit}
 pub use Rattle.cert_check.specs.Internal.Children.{AreValidIn, IsWrongChildIn}
+pub use Rattle.cert_check.specs.Internal.Claims.{question_of}
 pub use Rattle.cert_check.specs.Internal.Replays.{AreReplaysOf, HavePassed, IsFaultFrom, IsNoRunAt, IsOutside, RunsFaultIs, borrowed_cmp}
 pub use Rattle.cert_check.specs.Laws.{TheFirstCheckFaultIsUnique, ValidCertificatesHaveNoFault}
 pub use Rattle.cert_check.specs.declared.fault.CheckFault.{CheckFault}

@@ -1,6 +1,6 @@
 -- What the faults of certificates are: a valid one has none, and of any other one is the first.
 use Rattle.std.specs.Prelude.{◌≡◌, ◌⊎◌, ℕ, List}
-use Rattle.tso_program.specs.Shown.{Question}
+use Rattle.tso_program.specs.declared.question.Question.{Question}
 use Rattle.cert_forest.specs.Certificates.{Certificate}
 use Rattle.tree_laws.specs.Certificates.{IsValidCertificate}
 use Rattle.cert_check.specs.declared.fault.CheckFault.{CheckFault, TheVariants.OutOfMemory}

@@ -5,10 +5,14 @@ ghost use Rattle.gap_sets.specs.Order.{total};
 ghost use Rattle.gap_sets.specs.Regions.{all_sets};
 ghost use Rattle.tso_program.specs.declared.listing.Listing.{Listing};
 ghost use Rattle.tso_program.specs.declared.outcome.Outcome.{Outcome};
-ghost use Rattle.tso_program.specs.Shown.{Question, asked};
+ghost use Rattle.tso_program.specs.Shown.{asked};
+ghost use Rattle.tso_program.specs.declared.question.Question.{Question};
 ghost use Rattle.tso_program.specs.Fences.{gaps_in};
 ghost use Rattle.tso_machine.specs.Machine.{SequentialMachine, StoreBufferMachine};
+ghost use Rattle.tso_machine.specs.Modes.{machine_of_mode};
 ghost use Rattle.tso_machine.specs.Outcomes.{Headline, IsTheAnswer};
+ghost use Rattle.cover_judge.specs.CoverDefects.{FirstWrongCover};
+ghost use Rattle.cover_judge.specs.Judged.{IfWrong};
 ghost use Rattle.cover_judge.specs.Sketches.{empty_sketch};
 ghost use Rattle.tree_laws.specs.CoverTrees.{IsValidCover};
 ghost use Rattle.tree_laws.specs.GapTrees.{IsValidGap};
@@ -18,15 +22,15 @@ ghost use Rattle.cert_forest.specs.Certificates as specs;
 ghost use Rattle.tree_laws.specs.Certificates.{AreSequentialRuns, IsRunOutside, IsValidCertificate};
 ghost use Rattle.the_answer.specs.Answers.{the_answer, least_cost};
 ghost use Rattle.cert_check.specs.Faults.{CheckFaultIs, HasHead, HasEachOutcome, HasForeignRuns, HasServingSet};
+ghost use Rattle.cert_check.specs.Internal.Claims.{question_of};
 ghost use Rattle.cert_check.specs.Internal.Replays.{HavePassed};
 
 use crate::CheckFault;
-use crate::cover::judge_from_start;
 use crate::fault::RunsFault;
 use crate::gap::{Bounds, judge_gap_tree};
 use crate::runs::{first_outcome_listed, replay_all};
-use cert_forest::{Certificate, Shows};
-use cover_judge::NodeFault;
+use cert_forest::{Certificate, CoverTree, Shows};
+use cover_judge::{NodeFault, RowlessSketch, judge_cover};
 use gap_sets::{Costs, GapSet, Region};
 use std::alloc::Global;
 use the_answer::the_headline_tells_the_answer;
@@ -70,7 +74,14 @@ pub fn check(
     ensures accepts { IsValidCertificate (asked program.now shown.now) costs.now certificate.now → IsOkUnless result CheckFault.OutOfMemory }
     ensures fault { IfErr result (CheckFaultIs (asked program.now shown.now) costs.now certificate.now) }
 {
-    match check_all(alloc, program, shown, costs, certificate) {
+    let claim = Claim {
+        alloc,
+        program,
+        shown,
+        costs,
+        certificate,
+    };
+    match claim.check_all() {
         Ok(()) => {
             certificate_proves_answer(program, shown, costs);
             Ok(Accepted {
@@ -95,47 +106,131 @@ pub fn certificate_proves_answer(program: &Program, shown: &Shown, costs: &Costs
     the_headline_tells_the_answer();
 }
 
-/// Looks for the first fault.
-fn check_all(
+/// What is judged: a certificate for a program, what is shown of its outcomes, and the costs of its gaps.
+#[derive(Clone, Copy)]
+struct Claim<'a> {
     alloc: Global,
-    program: &Program,
-    shown: &Shown,
-    costs: &Costs,
-    certificate: &Certificate,
-) -> Result<(), CheckFault>
-    ensures valid { OnOk result (IsValidCertificate (asked program.now shown.now) costs.now certificate.now) }
-    ensures fault { IfErr result (CheckFaultIs (asked program.now shown.now) costs.now certificate.now) }
-{
-    check_head(program, shown, costs, certificate)?;
-    let listed = sequential_list(alloc, program, shown, certificate)?;
-    let passed = foreign_runs(alloc, program, shown, certificate, &listed)?;
-    check_fenced(alloc, program, shown, certificate, &listed)?;
-    check_gaps(alloc, costs, certificate, &passed)
+    program: &'a Program,
+    shown: &'a Shown,
+    costs: &'a Costs,
+    certificate: &'a Certificate,
 }
 
-/// Faults 10, 1 and 2.
-fn check_head(
-    program: &Program,
-    shown: &Shown,
-    costs: &Costs,
-    certificate: &Certificate,
-) -> Result<(), CheckFault>
-    ensures ok { OnOk result (HasHead (asked program.now shown.now) costs.now certificate.now) }
-    ensures fault { IfErr result (CheckFaultIs (asked program.now shown.now) costs.now certificate.now) }
-{
-    if !says_so(&certificate.shown, shown) {
-        return Err(CheckFault::Shown);
+impl Claim<'_> {
+    /// Looks for the first fault.
+    fn check_all(&self) -> Result<(), CheckFault>
+        ensures valid { OnOk result (IsValidCertificate (question_of self.now) self.now.costs.now self.now.certificate.now) }
+        ensures fault { IfErr result (CheckFaultIs (question_of self.now) self.now.costs.now self.now.certificate.now) }
+    {
+        self.check_head()?;
+        let listed = self.sequential_list()?;
+        let passed = self.foreign_runs(&listed)?;
+        self.check_fenced(&listed)?;
+        check_gaps(self.alloc, self.costs, self.certificate, &passed)
     }
-    if !program.all_gaps().holds_all(&certificate.set) {
-        return Err(CheckFault::Set);
+
+    /// Faults 10, 1 and 2.
+    fn check_head(&self) -> Result<(), CheckFault>
+        ensures ok { OnOk result (HasHead (question_of self.now) self.now.costs.now self.now.certificate.now) }
+        ensures fault { IfErr result (CheckFaultIs (question_of self.now) self.now.costs.now self.now.certificate.now) }
+    {
+        let certificate = self.certificate;
+        if !says_so(&certificate.shown, self.shown) {
+            return Err(CheckFault::Shown);
+        }
+        if !self.program.all_gaps().holds_all(&certificate.set) {
+            return Err(CheckFault::Set);
+        }
+        if self.costs.len() != self.program.gaps() as usize {
+            return Err(CheckFault::Cost);
+        }
+        if self.costs.total(&certificate.set) != certificate.cost {
+            return Err(CheckFault::Cost);
+        }
+        Ok(())
     }
-    if costs.len() != program.gaps() as usize {
-        return Err(CheckFault::Cost);
+
+    /// Faults 3 and 4: what is shown of the outcomes of the sequential runs, which are all sequential ones.
+    fn sequential_list(&self) -> Result<Vec<Outcome>, CheckFault>
+        ensures replayed { IfOk result (λ listed. AreSequentialRuns (question_of self.now) self.now.certificate.now.seq_runs listed.items) }
+        ensures sequential { IfOk result (λ listed. IsValidCover (question_of self.now) SequentialMachine listed.items self.now.certificate.now.seq_tree (empty_sketch self.now.program.now)) }
+        ensures fault { (costs : List ℕ) → HasHead (question_of self.now) costs self.now.certificate.now
+            → IfErr result (CheckFaultIs (question_of self.now) costs self.now.certificate.now) }
+    {
+        let Claim {
+            alloc,
+            program,
+            shown,
+            certificate,
+            ..
+        } = *self;
+        let runs = &certificate.seq_runs;
+        let listed = match replay_all(alloc, program, shown, Model::Sequential, runs) {
+            Ok(replays) => replays.outcomes,
+            Err(RunsFault::NoRun(number)) => return Err(CheckFault::SequentialRun(number)),
+            Err(RunsFault::OutOfMemory) => return Err(CheckFault::OutOfMemory),
+        };
+        match self.judge_from_start(Mode::Sequential, &certificate.seq_tree, &listed) {
+            Ok(()) => Ok(listed),
+            Err(NodeFault::Wrong(path)) => Err(CheckFault::SequentialTree(path)),
+            Err(NodeFault::OutOfMemory) => Err(CheckFault::OutOfMemory),
+        }
     }
-    if costs.total(&certificate.set) != certificate.cost {
-        return Err(CheckFault::Cost);
+
+    /// Faults 5 and 6: the gaps that the other runs pass, whose outcomes are not in the list.
+    fn foreign_runs(&self, listed: &[Outcome]) -> Result<Vec<GapSet>, CheckFault>
+        ensures passed { IfOk result (λ passed. HavePassed self.now.program.now self.now.certificate.now.runs passed.items) }
+        ensures foreign { OnOk result (All (IsRunOutside (question_of self.now) listed.now) self.now.certificate.now.runs) }
+        ensures fault { (costs : List ℕ) → HasEachOutcome (question_of self.now) costs self.now.certificate.now listed.now
+            → IfErr result (CheckFaultIs (question_of self.now) costs self.now.certificate.now) }
+    {
+        let Claim {
+            alloc,
+            program,
+            shown,
+            certificate,
+            ..
+        } = *self;
+        let replays = match replay_all(alloc, program, shown, Model::Buffered, &certificate.runs) {
+            Ok(replays) => replays,
+            Err(RunsFault::NoRun(number)) => return Err(CheckFault::Run(number)),
+            Err(RunsFault::OutOfMemory) => return Err(CheckFault::OutOfMemory),
+        };
+        let known = first_outcome_listed(alloc, &replays.outcomes, listed)?;
+        match known {
+            Some(number) => Err(CheckFault::NotForeign(number)),
+            None => Ok(replays.passed),
+        }
     }
-    Ok(())
+
+    /// Fault 7.
+    fn check_fenced(&self, listed: &[Outcome]) -> Result<(), CheckFault>
+        ensures fenced { OnOk result (IsValidCover (question_of self.now) (StoreBufferMachine (gaps_in self.now.program.now self.now.certificate.now.gaps)) listed.now self.now.certificate.now.fenced_tree (empty_sketch self.now.program.now)) }
+        ensures fault { (costs : List ℕ) → HasForeignRuns (question_of self.now) costs self.now.certificate.now listed.now
+            → IfErr result (CheckFaultIs (question_of self.now) costs self.now.certificate.now) }
+    {
+        let certificate = self.certificate;
+        let mode = Mode::Fenced(certificate.set);
+        match self.judge_from_start(mode, &certificate.fenced_tree, listed) {
+            Ok(()) => Ok(()),
+            Err(NodeFault::Wrong(path)) => Err(CheckFault::FencedTree(path)),
+            Err(NodeFault::OutOfMemory) => Err(CheckFault::OutOfMemory),
+        }
+    }
+
+    /// Judges a cover tree at the sketch with no choice, over these outcomes. It recurses as deep as the tree is.
+    fn judge_from_start(
+        &self,
+        mode: Mode,
+        tree: &CoverTree,
+        outcomes: &[Outcome],
+    ) -> Result<(), NodeFault>
+        ensures valid { OnOk result (IsValidCover (question_of self.now) (machine_of_mode self.now.program.now mode) outcomes.now tree.now (empty_sketch self.now.program.now)) }
+        ensures wrong { IfErr result (IfWrong (FirstWrongCover (question_of self.now) (machine_of_mode self.now.program.now mode) outcomes.now tree.now (empty_sketch self.now.program.now))) }
+    {
+        let mut sketch = RowlessSketch::new(self.alloc, self.program, mode)?;
+        judge_cover(self.alloc, tree, &mut sketch, self.shown, outcomes)
+    }
 }
 
 /// Whether a certificate says that this is shown.
@@ -143,95 +238,6 @@ fn says_so(shows: &Shows, shown: &Shown) -> bool
     ensures { IsTrue result ↔ (shows.now ≡ shows_of shown.now) }
 {
     shows.same(&Shows::of(shown))
-}
-
-/// Faults 3 and 4: what is shown of the outcomes of the sequential runs, which are all sequential ones.
-fn sequential_list(
-    alloc: Global,
-    program: &Program,
-    shown: &Shown,
-    certificate: &Certificate,
-) -> Result<Vec<Outcome>, CheckFault>
-    ensures replayed { IfOk result (λ listed. AreSequentialRuns (asked program.now shown.now) certificate.now.seq_runs listed.items) }
-    ensures sequential { IfOk result (λ listed. IsValidCover (asked program.now shown.now) SequentialMachine listed.items certificate.now.seq_tree (empty_sketch program.now)) }
-    ensures fault { (costs : List ℕ) → HasHead (asked program.now shown.now) costs certificate.now
-        → IfErr result (CheckFaultIs (asked program.now shown.now) costs certificate.now) }
-{
-    let listed = match replay_all(
-        alloc,
-        program,
-        shown,
-        Model::Sequential,
-        &certificate.seq_runs,
-    ) {
-        Ok(replays) => replays.outcomes,
-        Err(RunsFault::NoRun(number)) => return Err(CheckFault::SequentialRun(number)),
-        Err(RunsFault::OutOfMemory) => return Err(CheckFault::OutOfMemory),
-    };
-    match judge_from_start(
-        alloc,
-        program,
-        Mode::Sequential,
-        &certificate.seq_tree,
-        shown,
-        &listed,
-    ) {
-        Ok(()) => Ok(listed),
-        Err(NodeFault::Wrong(path)) => Err(CheckFault::SequentialTree(path)),
-        Err(NodeFault::OutOfMemory) => Err(CheckFault::OutOfMemory),
-    }
-}
-
-/// Faults 5 and 6: the gaps that the other runs pass, whose outcomes are not in the list.
-fn foreign_runs(
-    alloc: Global,
-    program: &Program,
-    shown: &Shown,
-    certificate: &Certificate,
-    listed: &[Outcome],
-) -> Result<Vec<GapSet>, CheckFault>
-    ensures passed { IfOk result (λ passed. HavePassed program.now certificate.now.runs passed.items) }
-    ensures foreign { OnOk result (All (IsRunOutside (asked program.now shown.now) listed.now) certificate.now.runs) }
-    ensures fault { (costs : List ℕ) → HasEachOutcome (asked program.now shown.now) costs certificate.now listed.now
-        → IfErr result (CheckFaultIs (asked program.now shown.now) costs certificate.now) }
-{
-    let replays = match replay_all(alloc, program, shown, Model::Buffered, &certificate.runs) {
-        Ok(replays) => replays,
-        Err(RunsFault::NoRun(number)) => return Err(CheckFault::Run(number)),
-        Err(RunsFault::OutOfMemory) => return Err(CheckFault::OutOfMemory),
-    };
-    let known = first_outcome_listed(alloc, &replays.outcomes, listed)?;
-    match known {
-        Some(number) => Err(CheckFault::NotForeign(number)),
-        None => Ok(replays.passed),
-    }
-}
-
-/// Fault 7.
-fn check_fenced(
-    alloc: Global,
-    program: &Program,
-    shown: &Shown,
-    certificate: &Certificate,
-    listed: &[Outcome],
-) -> Result<(), CheckFault>
-    ensures fenced { OnOk result (IsValidCover (asked program.now shown.now) (StoreBufferMachine (gaps_in program.now certificate.now.gaps)) listed.now certificate.now.fenced_tree (empty_sketch program.now)) }
-    ensures fault { (costs : List ℕ) → HasForeignRuns (asked program.now shown.now) costs certificate.now listed.now
-        → IfErr result (CheckFaultIs (asked program.now shown.now) costs certificate.now) }
-{
-    let mode = Mode::Fenced(certificate.set);
-    match judge_from_start(
-        alloc,
-        program,
-        mode,
-        &certificate.fenced_tree,
-        shown,
-        listed,
-    ) {
-        Ok(()) => Ok(()),
-        Err(NodeFault::Wrong(path)) => Err(CheckFault::FencedTree(path)),
-        Err(NodeFault::OutOfMemory) => Err(CheckFault::OutOfMemory),
-    }
 }
 
 /// Fault 8, by the gaps that the foreign runs pass.

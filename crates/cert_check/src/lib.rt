@@ -10,7 +10,6 @@
 #![tactic(auto)]
 
 mod checker;
-mod cover;
 mod fault;
 mod gap;
 mod laws;

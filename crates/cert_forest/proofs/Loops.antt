@@ -3,7 +3,7 @@ use Rattle.cert_forest.proofs.Vocabulary.{◌≡◌, ℕ, zero, suc, ◌+◌, �
 use Rattle.cert_forest.proofs.Vocabulary.{repeat_at, stops_for_memory, label_word_at, run_labels_at, ascending_at}
 use Rattle.std.specs.FinSet as set
 
-one_less : (n k : ℕ) → k < n → n - k ≡ suc (n - (k + 1))
+pub one_less : (n k : ℕ) → k < n → n - k ≡ suc (n - (k + 1))
 one_less n k lt = omega arith
 
 -- ---- so many values

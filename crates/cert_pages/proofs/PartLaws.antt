@@ -1,6 +1,7 @@
 -- Parts of a tree's text.
 use Rattle.cert_pages.proofs.Vocabulary.{◌≡◌, ℕ, zero, suc, ◌+◌, ◌-◌, ◌<◌, ◌≤◌, List, [], ◌∷◌, ◌++◌, length, take, drop, refl, sym, ap, ◌∙◌, subst, append_assoc, arith, append-nil, drop_all, take_all, IfSome, Option, Some, slice_index_or, Cover, CoverNode}
-use Rattle.cert_pages.proofs.Vocabulary.{IsNext, children_of, root_of, spell_all, next_is_shorter, TreePart, trees_text, IsWritten, LeadTo, WriteFrom}
+use Rattle.cert_pages.proofs.Vocabulary.{IsNext, children_of, root_of, spell_all, next_is_shorter, TreePart, trees_text, IsPartWritten, LeadTo, WriteFrom}
+use Rattle.cert_forest.proofs.Loops.{one_less}
 unfoldable use Rattle.cert_pages.specs.Parts.{after}
 
 -- ---- so many nodes of trees
@@ -14,9 +15,6 @@ after_next : (m : ℕ) (ts next : List Cover) (node : CoverNode) → IsNext ts n
 unfolding after
 after_next m [] next node is = absurd is
 after_next m (t ∷ ts) next node (is, e) = ap (after m) (sym e)
-
-one_less : (n i : ℕ) → i < n → n - i ≡ suc (n - (i + 1))
-one_less n i lt = omega arith
 
 -- one node more
 pub one_more : (n i : ℕ) (ts next all : List Cover) (node : CoverNode) → i < n → IsNext ts node next → after (n - i) ts ≡ all → after (n - (i + 1)) next ≡ all
@@ -52,7 +50,7 @@ one_part_more ts [] part mid next led start e = (start ∙ sym led, ap (after pa
 one_part_more ts (p ∷ parts) part mid next led start e = (led.0, one_part_more (after p.nodes ts) parts part mid next led.1 start e)
 
 -- each of them is written
-pub all_written : (ts left : List Cover) (old new : List TreePart) → LeadTo ts old left → length new ≡ length old → ((i : ℕ) (d : TreePart) → i < length old → IsWritten (slice_index_or old i d) (slice_index_or new i d)) → WriteFrom ts new left
+pub all_written : (ts left : List Cover) (old new : List TreePart) → LeadTo ts old left → length new ≡ length old → ((i : ℕ) (d : TreePart) → i < length old → IsPartWritten (slice_index_or old i d) (slice_index_or new i d)) → WriteFrom ts new left
 all_written ts left [] [] led count each = led
 all_written ts left [] (n ∷ new) led count each = absurd (omega (arith, count))
 all_written ts left (o ∷ old) [] led count each = absurd (omega (arith, count))

@@ -18,6 +18,6 @@ pub use Rattle.cert_words.specs.Lines.{line, spaced, texts_of}
 unfoldable pub use Rattle.gap_sets.specs.Gaps.{numbers_of_set}
 pub use Rattle.tso_machine.specs.RunTexts.{spelling}
 pub use Rattle.cert_pages.specs.Drafts.{draft_text}
-pub use Rattle.cert_pages.specs.Parts.{AreWritten, IsWritten, LeadTo, WriteFrom, trees_text}
+pub use Rattle.cert_pages.specs.Parts.{AreWritten, IsPartWritten, LeadTo, WriteFrom, trees_text}
 unfoldable pub use Rattle.cert_pages.specs.Parts.{after}
 pub use Rattle.cert_pages.specs.declared.parts.TreePart.{TreePart}

@@ -17,13 +17,13 @@ after (suc n) [] = []
 after (suc n) (t ∷ ts) = after n (children_of t ++ ts)
 
 -- a part has the text of its nodes, if it has one
-abbrev pub IsWritten : TreePart → TreePart → Type 0
-IsWritten old new = IfSome new.text (λ text. text ++ trees_text (after old.nodes old.start) ≡ trees_text old.start)
+abbrev pub IsPartWritten : TreePart → TreePart → Type 0
+IsPartWritten old new = IfSome new.text (λ text. text ++ trees_text (after old.nodes old.start) ≡ trees_text old.start)
 
 -- so each of several
 pub record AreWritten (old new : List TreePart) : Type 0 where
   pub as_many : length new ≡ length old
-  pub each : (i : ℕ) (d : TreePart) → i < length old → IsWritten (slice_index_or old i d) (slice_index_or new i d)
+  pub each : (i : ℕ) (d : TreePart) → i < length old → IsPartWritten (slice_index_or old i d) (slice_index_or new i d)
 
 -- parts of these trees, one after another, after which the others are left
 abbrev pub LeadTo : List Cover → List TreePart → List Cover → Type 0

@@ -3,7 +3,7 @@
 ghost use Rattle.std.specs.Prelude.{◌≡◌, ◌∷◌, ◌++◌, [], ◌<◌, IfOk, IfSome, List, OnOk, Some};
 ghost use Rattle.cert_forest.specs.Trees.{Cover};
 ghost use Rattle.cert_pages.specs.Drafts.{draft_text};
-ghost use Rattle.cert_pages.specs.Parts.{trees_text, after, IsWritten, AreWritten, LeadTo, WriteFrom};
+ghost use Rattle.cert_pages.specs.Parts.{trees_text, after, IsPartWritten, AreWritten, LeadTo, WriteFrom};
 
 use crate::draft::Draft;
 use crate::writer::write_node;
@@ -31,7 +31,7 @@ pub(crate) struct TreePart<'a> {
 impl TreePart<'_> {
     /// Writes the part.
     fn write(&mut self, alloc: Global)
-        ensures { IsWritten self.old self.new }
+        ensures { IsPartWritten self.old self.new }
     {
         self.text = self.pages(alloc).ok();
     }
@@ -111,7 +111,7 @@ fn write_parts<R: Threads + Sync>(rt: &R, alloc: Global, threads: usize, parts: 
         parts,
         threads,
         &|_, part|
-            ensures { IsWritten part.entry.now part.exit.now }
+            ensures { IsPartWritten part.entry.now part.exit.now }
         { part.write(alloc) },
     );
 }

@@ -239,7 +239,7 @@ pub fn write_pages<R: Threads + Sync>(
     out.into_pages()
 }
 
-/// The same in one block, and in this thread.
+/// The certificate's text in one block. This thread alone writes it.
 pub fn write_cert(alloc: Global, certificate: Certificate) -> Result<Vec<u8>, AllocError>
     ensures { IfOk result (λ text. text.items ≡ certificate_text certificate) }
 {

@@ -88,7 +88,7 @@ impl CoverTree {
         &self.nodes
     }
 
-    /// The same, in a list of their own: a copy where other trees share it.
+    /// The nodes that spell the tree, in a list of their own: a copy where other trees share it.
     pub fn into_nodes(self, alloc: Global) -> Result<Vec<Node>, AllocError>
         ensures { IfOk result (λ nodes. nodes.items ≡ spell self) }
     {

@@ -56,7 +56,7 @@ impl<'a> Walk<'a> {
         Walk { left: nodes }
     }
 
-    /// The same walk, to look ahead.
+    /// A walk over the trees that are left, to look ahead.
     pub fn ahead(&self) -> Walk<'a>
         ensures { result ≡ self.now }
     {

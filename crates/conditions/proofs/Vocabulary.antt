@@ -5,7 +5,7 @@ pub use Rattle.std.proofs.lemmas.List.{append-nil, at_drop_more, length-map, map
 pub use Rattle.tso_program.specs.Nodes.{formula_tree, nodes_of, tree_again}
 pub use Rattle.tso_program.specs.Tree.{Tree, tree_map}
 pub use Rattle.tso_program.specs.declared.atom.Atom.{Atom}
-pub use Rattle.tso_program.specs.declared.node.Node.{Node}
+pub use Rattle.tso_program.specs.declared.node.FormulaNode.{FormulaNode}
 pub use mathlib.Core.List.{reverse}
 pub use Rattle.conditions.specs.Grammar.{Class, Operand, Sign, Spells, Sum, Term, atom, conjunction, const, disjunction, negation, operand, parens, sign_map, term}
 pub use Rattle.conditions.specs.Internal.Unwind.{formula_tokens, left, opened, unwound}

@@ -12,10 +12,14 @@ use crate::fault::FormulaFault;
 use crate::stack::{Waiting, join, sum};
 use crate::token::Token;
 use std::alloc::{AllocError, Global};
-use tso_program::Node;
+use tso_program::FormulaNode;
 
 /// An operand of one node is read.
-fn operand(nodes: &mut Vec<Node>, stack: &mut Vec<Waiting>, node: Node) -> Result<(), AllocError>
+fn operand(
+    nodes: &mut Vec<FormulaNode>,
+    stack: &mut Vec<Waiting>,
+    node: FormulaNode,
+) -> Result<(), AllocError>
     ensures { (k : Before AtomValue) (f : Tree AtomValue) → nodes_of f ≡ node ∷ []
         → LiesBefore k nodes.old.items stack.old.items → IfOk result (λ _. LiesWith (joined k f) nodes.new.items stack.new.items) }
 {
@@ -26,7 +30,7 @@ fn operand(nodes: &mut Vec<Node>, stack: &mut Vec<Waiting>, node: Node) -> Resul
 
 /// The token of this index where an operand is wanted; whether one is wanted after it.
 fn read_operand(
-    nodes: &mut Vec<Node>,
+    nodes: &mut Vec<FormulaNode>,
     stack: &mut Vec<Waiting>,
     token: Token,
     at: usize,
@@ -36,11 +40,11 @@ fn read_operand(
 {
     match token {
         Token::Atom(atom) => {
-            operand(nodes, stack, Node::Atom(atom))?;
+            operand(nodes, stack, FormulaNode::Atom(atom))?;
             Ok(false)
         }
         Token::Const(constant) => {
-            operand(nodes, stack, Node::Const(constant))?;
+            operand(nodes, stack, FormulaNode::Const(constant))?;
             Ok(false)
         }
         Token::Not => {
@@ -57,7 +61,7 @@ fn read_operand(
 
 /// The token of this index after an operand; whether another operand is wanted after it.
 fn read_connective(
-    nodes: &mut Vec<Node>,
+    nodes: &mut Vec<FormulaNode>,
     stack: &mut Vec<Waiting>,
     token: Token,
     at: usize,
@@ -67,13 +71,13 @@ fn read_connective(
 {
     match token {
         Token::And => {
-            nodes.push(Node::And)?;
+            nodes.push(FormulaNode::And)?;
             stack.push(Waiting::And)?;
             Ok(true)
         }
         Token::Or => {
             sum(nodes, stack)?;
-            nodes.push(Node::Or)?;
+            nodes.push(FormulaNode::Or)?;
             stack.push(Waiting::Or)?;
             Ok(true)
         }
@@ -94,7 +98,7 @@ fn read_connective(
 }
 
 /// The nodes of the formula that the tokens spell.
-pub fn read(alloc: Global, tokens: &[Token]) -> Result<Vec<Node>, FormulaFault>
+pub fn read(alloc: Global, tokens: &[Token]) -> Result<Vec<FormulaNode>, FormulaFault>
     ensures read { IfOk result (λ nodes. IsFormulaTree (tree_read (map sign_of_token tokens.now)) nodes.items) }
     ensures refused { (at : ℕ) → result ≡ Err (Refused at) → SignsStopAt (map sign_of_token tokens.now) at }
 {

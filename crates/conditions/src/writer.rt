@@ -2,7 +2,7 @@
 ghost use Rattle.std.specs.Prelude.{◌≡◌, List, ◌∷◌, [], IfOk, map};
 ghost use mathlib.Core.List.{reverse};
 ghost use Rattle.tso_program.specs.declared.atom.Atom.{Atom as AtomValue};
-ghost use Rattle.tso_program.specs.declared.node.Node.{Node as NodeValue};
+ghost use Rattle.tso_program.specs.declared.node.FormulaNode.{FormulaNode as NodeValue};
 ghost use Rattle.tso_program.specs.Tree.{Tree};
 ghost use Rattle.conditions.specs.Tokens.{sign_of_token};
 ghost use Rattle.tso_program.specs.Nodes.{nodes_of};
@@ -12,7 +12,7 @@ ghost use Rattle.conditions.specs.Internal.Unwind.{formula_tokens, opened, left,
 use crate::prefix::Prefix;
 use crate::token::Token;
 use std::alloc::{AllocError, Global};
-use tso_program::Node;
+use tso_program::FormulaNode;
 
 /// What waits before an operand is written, last first.
 fn begin(tokens: &mut Vec<Token>, waiting: &mut Vec<Prefix>) -> Result<(), AllocError>
@@ -30,29 +30,33 @@ fn begin(tokens: &mut Vec<Token>, waiting: &mut Vec<Prefix>) -> Result<(), Alloc
 }
 
 /// One node, where the nodes after it are written.
-fn unwind(tokens: &mut Vec<Token>, waiting: &mut Vec<Prefix>, node: Node) -> Result<(), AllocError>
+fn unwind(
+    tokens: &mut Vec<Token>,
+    waiting: &mut Vec<Prefix>,
+    node: FormulaNode,
+) -> Result<(), AllocError>
     ensures { IfOk result (λ _. (xs : List NodeValue)
         → unwound (node ∷ xs) (reverse waiting.old.items) (reverse tokens.old.items) ≡ unwound xs (reverse waiting.new.items) (reverse tokens.new.items)) }
 {
     match node {
-        Node::Atom(atom) => {
+        FormulaNode::Atom(atom) => {
             tokens.push(Token::Atom(atom))?;
             begin(tokens, waiting)?;
         }
-        Node::Const(constant) => {
+        FormulaNode::Const(constant) => {
             tokens.push(Token::Const(constant))?;
             begin(tokens, waiting)?;
         }
-        Node::Not => {
+        FormulaNode::Not => {
             waiting.push(Prefix::Not)?;
         }
-        Node::And => {
+        FormulaNode::And => {
             tokens.push(Token::And)?;
         }
-        Node::Or => {
+        FormulaNode::Or => {
             tokens.push(Token::Or)?;
         }
-        Node::End => {
+        FormulaNode::End => {
             tokens.push(Token::Close)?;
             waiting.push(Prefix::Open)?;
             waiting.push(Prefix::Stop)?;
@@ -62,7 +66,11 @@ fn unwind(tokens: &mut Vec<Token>, waiting: &mut Vec<Prefix>, node: Node) -> Res
 }
 
 /// Appends the tokens of a formula to the others, last first.
-fn unwind_all(alloc: Global, nodes: &[Node], tokens: &mut Vec<Token>) -> Result<(), AllocError>
+fn unwind_all(
+    alloc: Global,
+    nodes: &[FormulaNode],
+    tokens: &mut Vec<Token>,
+) -> Result<(), AllocError>
     ensures { (f : Tree AtomValue) → nodes_of f ≡ nodes.now
         → IfOk result (λ _. reverse tokens.new.items ≡ formula_tokens f (reverse tokens.old.items)) }
 {
@@ -76,14 +84,14 @@ fn unwind_all(alloc: Global, nodes: &[Node], tokens: &mut Vec<Token>) -> Result<
 }
 
 /// Whether the nodes stand for a conjunction or a disjunction.
-fn is_joined(nodes: &[Node]) -> bool
+fn is_joined(nodes: &[FormulaNode]) -> bool
     ensures { (f : Tree AtomValue) → nodes_of f ≡ nodes.now → result ≡ is_joined f }
 {
-    matches!(nodes.last(), Some(Node::End))
+    matches!(nodes.last(), Some(FormulaNode::End))
 }
 
 /// The canonical tokens of the formula that these nodes stand for.
-pub fn tokens(alloc: Global, nodes: &[Node]) -> Result<Vec<Token>, AllocError>
+pub fn tokens(alloc: Global, nodes: &[FormulaNode]) -> Result<Vec<Token>, AllocError>
     ensures { (f : Tree AtomValue) → nodes_of f ≡ nodes.now → IfOk result (λ tokens. map sign_of_token tokens.items ≡ signs_of f) }
 {
     let mut tokens = Vec::new(alloc);
@@ -92,8 +100,8 @@ pub fn tokens(alloc: Global, nodes: &[Node]) -> Result<Vec<Token>, AllocError>
     Ok(tokens)
 }
 
-/// The same in parentheses, and no second ones.
-pub fn enclosed_tokens(alloc: Global, nodes: &[Node]) -> Result<Vec<Token>, AllocError>
+/// The canonical tokens of the formula that these nodes stand for, in parentheses, and no second ones.
+pub fn enclosed_tokens(alloc: Global, nodes: &[FormulaNode]) -> Result<Vec<Token>, AllocError>
     ensures { (f : Tree AtomValue) → nodes_of f ≡ nodes.now → IfOk result (λ tokens. map sign_of_token tokens.items ≡ enclosed_signs_of f) }
 {
     if is_joined(nodes) {

@@ -1,6 +1,6 @@
 -- Lines, one after the other, and that a text gives costs in one way.
 use Rattle.cost_text.proofs.Vocabulary.{◌≡◌, ℕ, ◌+◌, ◌<◌, ◌≤◌, List, [], ◌∷◌, ◌++◌, length, get_or, map, set, take, drop, Option, Some, None, refl, sym, ap, ◌∙◌, subst, arith, unwrap_or, IfSome, same_Some, append-nil, take-append-drop, take_more, drop_more}
-use Rattle.cost_text.proofs.Vocabulary.{length-take, CostFault, IsCostList, first_cost_fault, Thread, gap_count, gap_number, gap_below, CostTextFault, AreLineSpaces, Said, table_of, IsCostTable, IsNewEntry, IsTableOf, MAX_GAPS, Entry, IsCostEntry}
+use Rattle.cost_text.proofs.Vocabulary.{length-take, CostFault, IsCostList, first_cost_fault, Thread, gap_count, gap_number, gap_below, CostTextFault, AreLineSpaces, Said, table_of, IsCostTable, IsNewEntry, IsTableOfLines, MAX_GAPS, Entry, IsCostEntry}
 use Rattle.cost_text.proofs.Vocabulary.{ListsEntries, none, blank, entry, said_of, NoGapTwice, costs_of, GiveCosts, IsCostText, StandsAt, IsLineFault, IsRefusedAt, AreRefused, RefusesCosts, lines_of, IsOfNoCost, IsOfNoGap, IsRepeated, SaysNothing}
 use Rattle.cost_text.proofs.Vocabulary.{no_fault-from_IsCostList}
 use Rattle.cost_text.specs.declared.fault.CostTextFault.TheVariants as fault
@@ -18,15 +18,15 @@ entry_below : (threads : List Thread) (line : List ℕ) (e : Entry) → IsCostEn
 entry_below threads line e is = gap_below threads is.said.thread is.said.instruction e.gap is.gap
 
 -- before the first line
-pub first_table : (threads : List Thread) (table : List (Option ℕ)) → gap_count threads ≤ MAX_GAPS → table ≡ table_of (gap_count threads) [] → IsTableOf threads [] table
+pub first_table : (threads : List Thread) (table : List (Option ℕ)) → gap_count threads ≤ MAX_GAPS → table ≡ table_of (gap_count threads) [] → IsTableOfLines threads [] table
 first_table threads table few is = record { entries = []; given = record { lists = none; once = tt; within = no_costs (gap_count threads) few }; table_is = is }
 
 -- what a table of lines says of the one that is read next
-pub is_table : (threads : List Thread) (lines : List (List ℕ)) (table : List (Option ℕ)) (t : IsTableOf threads lines table) → IsCostTable threads t.entries table
+pub is_table : (threads : List Thread) (lines : List (List ℕ)) (table : List (Option ℕ)) (t : IsTableOfLines threads lines table) → IsCostTable threads t.entries table
 is_table threads lines table t = record { table_is = t.table_is; within = t.given.within }
 
 -- after a blank line
-pub blank_more : (threads : List Thread) (lines : List (List ℕ)) (i : ℕ) (line : List ℕ) (table : List (Option ℕ)) → i < length lines → line ≡ get_or lines i [] → AreLineSpaces line → IsTableOf threads (take i lines) table → IsTableOf threads (take (i + 1) lines) table
+pub blank_more : (threads : List Thread) (lines : List (List ℕ)) (i : ℕ) (line : List ℕ) (table : List (Option ℕ)) → i < length lines → line ≡ get_or lines i [] → AreLineSpaces line → IsTableOfLines threads (take i lines) table → IsTableOfLines threads (take (i + 1) lines) table
 blank_more threads lines i line table lt is blank_line t =
     let more : ListsEntries threads (take i lines ++ line ∷ []) (t.entries ++ []) = lists_more threads (take i lines) (line ∷ []) t.entries [] t.given.lists (blank blank_line none) in
     record {
@@ -36,8 +36,8 @@ blank_more threads lines i line table lt is blank_line t =
     }
 
 -- after an entry
-pub entry_more : (threads : List Thread) (lines : List (List ℕ)) (i : ℕ) (line : List ℕ) (table : List (Option ℕ)) (e : Entry) → i < length lines → line ≡ get_or lines i [] → (t : IsTableOf threads (take i lines) table)
-    → IsNewEntry threads t.entries line e → IsTableOf threads (take (i + 1) lines) (set table e.gap (Some e.cost))
+pub entry_more : (threads : List Thread) (lines : List (List ℕ)) (i : ℕ) (line : List ℕ) (table : List (Option ℕ)) (e : Entry) → i < length lines → line ≡ get_or lines i [] → (t : IsTableOfLines threads (take i lines) table)
+    → IsNewEntry threads t.entries line e → IsTableOfLines threads (take (i + 1) lines) (set table e.gap (Some e.cost))
 entry_more threads lines i line table e lt is t new =
     let below : e.gap < gap_count threads = entry_below threads line e new.is in
     let more : ListsEntries threads (take i lines ++ line ∷ []) (t.entries ++ e ∷ []) = lists_more threads (take i lines) (line ∷ []) t.entries (e ∷ []) t.given.lists (entry new.is none) in
@@ -52,7 +52,7 @@ entry_more threads lines i line table e lt is t new =
     }
 
 -- at a line that cannot stand
-stands_at : (threads : List Thread) (lines : List (List ℕ)) (i : ℕ) (line : List ℕ) (table : List (Option ℕ)) → i < length lines → line ≡ get_or lines i [] → (t : IsTableOf threads (take i lines) table)
+stands_at : (threads : List Thread) (lines : List (List ℕ)) (i : ℕ) (line : List ℕ) (table : List (Option ℕ)) → i < length lines → line ≡ get_or lines i [] → (t : IsTableOfLines threads (take i lines) table)
     → StandsAt lines threads (i + 1) line t.entries
 stands_at threads lines i line table lt is t = record {
   before = take i lines;
@@ -62,7 +62,7 @@ stands_at threads lines i line table lt is t = record {
   given = t.given;
 }
 
-pub refused_there : (threads : List Thread) (lines : List (List ℕ)) (i : ℕ) (line : List ℕ) (table : List (Option ℕ)) (why : CostTextFault) → i < length lines → line ≡ get_or lines i [] → (t : IsTableOf threads (take i lines) table)
+pub refused_there : (threads : List Thread) (lines : List (List ℕ)) (i : ℕ) (line : List ℕ) (table : List (Option ℕ)) (why : CostTextFault) → i < length lines → line ≡ get_or lines i [] → (t : IsTableOfLines threads (take i lines) table)
     → IsLineFault threads t.entries line (i + 1) why → AreRefused lines threads why
 refused_there threads lines i line table fault.OutOfMemory lt is t f = tt
 refused_there threads lines i line table why lt is t f = record { number = i + 1; line = line; entries = t.entries; stands = stands_at threads lines i line table lt is t; fault = f }
@@ -182,11 +182,11 @@ number_below threads t k None is = tt
 number_below threads t k (Some gap) is = gap_below threads t k gap (sym is)
 
 -- a table has a place for each gap
-pub table_long : (threads : List Thread) (lines : List (List ℕ)) (table : List (Option ℕ)) → IsTableOf threads lines table → length table ≡ gap_count threads
+pub table_long : (threads : List Thread) (lines : List (List ℕ)) (table : List (Option ℕ)) → IsTableOfLines threads lines table → length table ≡ gap_count threads
 table_long threads lines table t = ap length t.table_is ∙ length-table_of (gap_count threads) t.entries
 
 -- the costs of a table are those of its lines
-pub costs_found : (text : List ℕ) (threads : List Thread) (table : List (Option ℕ)) (costs : List ℕ) → IsTableOf threads (lines_of text) table → costs ≡ map (λ cost. unwrap_or cost 1) table → IsCostText text threads costs
+pub costs_found : (text : List ℕ) (threads : List Thread) (table : List (Option ℕ)) (costs : List ℕ) → IsTableOfLines threads (lines_of text) table → costs ≡ map (λ cost. unwrap_or cost 1) table → IsCostText text threads costs
 costs_found text threads table costs t is = record {
   entries = t.entries;
   given = t.given;

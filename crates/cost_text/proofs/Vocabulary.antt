@@ -23,5 +23,5 @@ pub use Rattle.cost_text.specs.CostTexts.{AreRefused, Entry, GiveCosts, IsCostEn
 pub use Rattle.cost_text.specs.CostTexts.{SaysNothing, StandsAt, blank, costs_of, entry, lines_of, none, said_of}
 pub use Rattle.cost_text.specs.Internal.LineReading.{AreAllDigits, Digits, after_line_spaces, said_by}
 unfoldable pub use Rattle.cost_text.specs.Internal.LineReading.{after_blanks, after_colon, digits_at, digits_in}
-pub use Rattle.cost_text.specs.Internal.TextReading.{IsCostTable, IsNewEntry, IsTableOf, cost_or_fault, digits_of, table_of}
+pub use Rattle.cost_text.specs.Internal.TextReading.{IsCostTable, IsNewEntry, IsTableOfLines, cost_or_fault, digits_of, table_of}
 pub use Rattle.cost_text.specs.declared.fault.CostTextFault.{CostTextFault}

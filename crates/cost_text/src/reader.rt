@@ -5,7 +5,7 @@ ghost use Rattle.cost_text.specs.declared.fault.CostTextFault.TheVariants.{OutOf
 ghost use Rattle.text_tokens.specs.Bytes.{AreLineSpaces};
 ghost use Rattle.cost_text.specs.CostTexts.{Entry, lines_of, IsCostText, IsLineFault, AreRefused, RefusesCosts};
 ghost use Rattle.cost_text.specs.Internal.LineReading.{AreAllDigits, said_by};
-ghost use Rattle.cost_text.specs.Internal.TextReading.{digits_of, cost_or_fault, table_of, IsCostTable, IsNewEntry, IsTableOf};
+ghost use Rattle.cost_text.specs.Internal.TextReading.{digits_of, cost_or_fault, table_of, IsCostTable, IsNewEntry, IsTableOfLines};
 
 use crate::fault::CostTextFault;
 use crate::line::{CostLine, cost_line};
@@ -86,7 +86,7 @@ fn table_of(
     program: &Program,
     lines: &[&[u8]],
 ) -> Result<Vec<Option<u32>>, CostTextFault>
-    ensures table { IfOk result (λ table. IsTableOf program.now.threads (map (λ line. line.now) lines.now) table.items) }
+    ensures table { IfOk result (λ table. IsTableOfLines program.now.threads (map (λ line. line.now) lines.now) table.items) }
     ensures refused { IfErr result (AreRefused (map (λ line. line.now) lines.now) program.now.threads) }
 {
     let mut table = empty_table(alloc, program.gaps())?;

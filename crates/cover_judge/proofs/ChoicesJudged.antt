@@ -33,10 +33,10 @@ other_way s d e may = record {
 
 -- writes that may be put in order are in none
 pub no_order : (s : ProgramSketch) (d e : Event) → choices.MayFollow s d e → HasNoOrder s.program (mode_in s) s.chosen d e
-no_order s d e may = record { whole = may.whole; is_pair = may.is_pair; free = may.free }
+no_order s d e may = record { allowed = may.whole; is_pair = may.is_pair; free = may.free }
 
 pub may_follow : (s : ProgramSketch) (d e : Event) → HasNoOrder s.program (mode_in s) s.chosen d e → choices.MayFollow s d e
-may_follow s d e has = record { whole = has.whole; is_pair = has.is_pair; free = has.free }
+may_follow s d e has = record { whole = has.allowed; is_pair = has.is_pair; free = has.free }
 
 -- the sketch takes each value of a next read
 pub values_may : (s : ProgramSketch) (t : ℕ) (cs : List Choice) → AreValueChoices s t cs → MayChooseEach s cs
@@ -50,7 +50,7 @@ pub sources_may : (s : ProgramSketch) (read : AccessId) (cs : List Choice) → A
 sources_may s read cs are = record {
   each = subst (All (MayChoose s)) (sym are.each) (All-map (MayChoose s) (choice.Source read) are.sources
       (All-weaker (Contains are.sources) (λ d. MayChoose s (choice.Source read d))
-      (λ d here. record { whole = are.next.whole; is_source = (are.next.exact d).0 here; free = λ (e, has). are.next.free e has })
+      (λ d here. record { whole = are.next.allowed; is_source = (are.next.exact d).0 here; free = λ (e, has). are.next.free e has })
       are.sources (All-contains_itself are.sources)));
 }
 
@@ -72,7 +72,7 @@ next_is_open s t values has = subst (λ (o : Option ℕ). IsSome o) (sym has.nex
 
 pub source_is_open : (s : ProgramSketch) (read : AccessId) (sources : List Event) → HasSources s.program (mode_in s) s.chosen (event_of read) sources → IsSourceOpen s read
 source_is_open s read sources has = record {
-  whole = has.whole;
+  whole = has.allowed;
   is_read = (has.access, has.is_access, has.is_read);
   free = λ (source, is). has.free source is;
 }
@@ -81,7 +81,7 @@ source_is_open s read sources has = record {
 pub sources_are : (s : ProgramSketch) (read : Event) (sources : List Event) → IsWhole s.program (mode_in s) s.chosen × choices.IsRead s read → (choices.HasSource s read → ⊥) →
     AllPairs ComesBefore sources → ((source : Event) → Contains sources source ↔ IsSourceOf s.program (mode_in s) s.chosen source read) → HasSources s.program (mode_in s) s.chosen read sources
 sources_are s read sources (whole, (x, is, reads)) free ordered exact = record {
-  whole = whole;
+  allowed = whole;
   access = x;
   is_access = is;
   is_read = reads;

@@ -23,10 +23,12 @@ pub use Rattle.tree_laws.proofs.OneList.{one_list_of_choices}
 pub use Rattle.tree_laws.specs.CoverTrees.{AfterChoices, AreChoices, AreTwo, AreValidCovers, HasNextValues, HasNoOrder, HasSources, IsValidCover, MustEndAsNumber, event_of, sketch_with}
 pub use Rattle.tree_laws.specs.declared.choice.Choice.{Choice}
 pub use Rattle.tree_laws.specs.declared.choice.OpenChoice.{OpenChoice}
-pub use Rattle.tso_program.specs.Shown.{Question, asked}
+pub use Rattle.tso_program.specs.Shown.{asked}
+pub use Rattle.tso_program.specs.declared.question.Question.{Question}
 pub use Rattle.tso_program.specs.declared.listing.Listing.{Listing}
 pub use Rattle.tso_program.specs.declared.outcome.Outcome.{Outcome}
 pub use Rattle.tso_program.specs.declared.shown.Shown.{Shown}
+pub use Rattle.cover_judge.specs.ChoiceLists.{choices_in}
 pub use Rattle.cover_judge.specs.ChoiceMarks.{IsChoiceMarkOf}
 pub use Rattle.cover_judge.specs.Choices.{AreChoicesOf, AreSourceChoices, AreValueChoices, IsSourceOpen, IsValueOpen, MayChoose, MayChooseEach}
 pub use Rattle.cover_judge.specs.CoverDefects.{FirstWrongCover, FirstWrongCoverChild, FirstWrongOfTwo, HasNotSoMany, IsWrongNode}

@@ -26,7 +26,7 @@ abbrev pub IsBelow : (ℕ → List ℕ → Type 0) → List ℕ → Type 0
 IsBelow P [] = ⊥
 IsBelow P (number ∷ path) = P number path
 
--- the same path, from the parent
+-- the path to a node, from its parent on
 abbrev pub IsFrom : ℕ → NodeFault → NodeFault → Type 0
 IsFrom number (Wrong path) (Wrong other) = other ≡ number ∷ path
 IsFrom number OutOfMemory (Wrong other) = ⊥

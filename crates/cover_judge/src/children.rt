@@ -2,11 +2,12 @@
 ghost use Rattle.std.specs.Prelude.{◌≡◌, ◌<◌, ◌≤◌, OnOk, IfErr, length, take, drop};
 ghost use Rattle.cert_forest.specs.Nodes.{first_tree};
 ghost use Rattle.cover_judge.specs.Choices.{MayChoose, MayChooseEach};
+ghost use Rattle.cover_judge.specs.ChoiceLists.{choices_in};
 ghost use Rattle.cover_judge.specs.Judged.{IfWrong, IsBelow, IsValidAfter, IsWrongAt, AreValidAfter, IsWrongChild, AreValidFor, IsWrongFor};
 ghost use Rattle.tree_laws.specs.CoverTrees.{sketch_with};
 
 use crate::choice_mark::{choose, take_back};
-use crate::choices::so_many_choices;
+use crate::choices::{Choices, so_many_choices};
 use crate::cover::CoverJudge;
 use crate::fault::NodeFault;
 use cert_forest::Walk;
@@ -37,19 +38,19 @@ impl CoverJudge<'_> {
     #[cycle(judge)]
     fn judge_each(
         &self,
-        choices: &[Choice],
+        choices: &Choices,
         walk: &mut Walk<'_>,
         sketch: &mut RowlessSketch,
     ) -> Result<(), NodeFault>
-        requires may { MayChooseEach sketch.old choices.now }
-        requires as_many { length choices.now ≤ length walk.old }
+        requires may { MayChooseEach sketch.old (choices_in choices.now) }
+        requires as_many { length (choices_in choices.now) ≤ length walk.old }
         ensures kept { sketch.new ≡ sketch.old }
-        ensures after { OnOk result (walk.new ≡ drop (length choices.now) walk.old) }
-        ensures valid { OnOk result (AreValidAfter self.now.shown.now self.now.outcomes.now sketch.old (take (length choices.now) walk.old) choices.now) }
-        ensures wrong { IfErr result (IfWrong (IsBelow (IsWrongChild self.now.shown.now self.now.outcomes.now sketch.old (take (length choices.now) walk.old) choices.now))) }
+        ensures after { OnOk result (walk.new ≡ drop (length (choices_in choices.now)) walk.old) }
+        ensures valid { OnOk result (AreValidAfter self.now.shown.now self.now.outcomes.now sketch.old (take (length (choices_in choices.now)) walk.old) (choices_in choices.now)) }
+        ensures wrong { IfErr result (IfWrong (IsBelow (IsWrongChild self.now.shown.now self.now.outcomes.now sketch.old (take (length (choices_in choices.now)) walk.old) (choices_in choices.now)))) }
     {
-        for (number, choice) in choices.iter().enumerate() {
-            match self.judge_after(*choice, walk, sketch) {
+        for number in 0..choices.len() {
+            match self.judge_after(choices.at(number), walk, sketch) {
                 Ok(()) => {}
                 Err(fault) => return Err(fault.from_parent(number)),
             }

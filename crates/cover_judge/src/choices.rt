@@ -1,17 +1,60 @@
 //! The choices that there are in a sketch, in order.
-ghost use Rattle.std.specs.Prelude.{◌≡◌, [], ◌∷◌, List, IfOk, IfErr, MatchOption, length, map};
+ghost use Rattle.std.specs.Prelude.{◌≡◌, ◌<◌, Some, List, IfOk, IfErr, MatchOption, length, slice_get};
 ghost use Rattle.program_sketches.specs.ProgramSketches.{mode_in};
 ghost use Rattle.tree_laws.specs.declared.choice.Choice as the_choice;
 ghost use Rattle.cover_judge.specs.Choices.{AreChoicesOf};
+ghost use Rattle.cover_judge.specs.ChoiceLists.{choices_in};
 ghost use Rattle.cover_judge.specs.CoverDefects.{HasNotSoMany};
 ghost use Rattle.cover_judge.specs.Judged.{IfWrong, IsAtRoot};
 
 use crate::fault::NodeFault;
 use candidate_executions::Event;
 use cert_forest::AccessId;
-use rowless_sketches::RowlessSketch;
+use rowless_sketches::{RowlessSketch, SharedValues};
 use std::alloc::{AllocError, Global};
 use tree_laws::{Choice, OpenChoice, event_of};
+
+/// The choices of something open, in order. Each is made where it is asked for, so they take no list of their own.
+#[derive(Drop)]
+pub(crate) enum Choices {
+    /// The next read of a thread takes one of these values.
+    Values(u8, SharedValues),
+    /// A read takes one of these sources.
+    Sources(AccessId, Vec<Event>),
+    /// Two writes come in this order, or in the other.
+    Orders(AccessId, AccessId),
+}
+
+impl Choices {
+    /// How many they are.
+    pub(crate) fn len(&self) -> usize
+        ensures { result ≡ length (choices_in self.now) }
+    {
+        match self {
+            Choices::Values(_, values) => values.as_slice().len(),
+            Choices::Sources(_, sources) => sources.len(),
+            Choices::Orders(_, _) => 2,
+        }
+    }
+
+    /// The choice of this number, from 0.
+    pub(crate) fn at(&self, number: usize) -> Choice
+        requires { number < length (choices_in self.now) }
+        ensures { slice_get (choices_in self.now) number ≡ Some result }
+    {
+        match self {
+            Choices::Values(thread, values) => Choice::Value(*thread, values.as_slice()[number]),
+            Choices::Sources(read, sources) => Choice::Source(*read, sources[number]),
+            Choices::Orders(first, second) => {
+                if number == 0 {
+                    Choice::Order(*first, *second)
+                } else {
+                    Choice::Order(*second, *first)
+                }
+            }
+        }
+    }
+}
 
 /// The choices of what is open, in order, where there are as many as this: the root is wrong where there are not.
 pub(crate) fn so_many_choices(
@@ -19,12 +62,12 @@ pub(crate) fn so_many_choices(
     next: OpenChoice,
     count: u32,
     sketch: &RowlessSketch,
-) -> Result<Vec<Choice>, NodeFault>
-    ensures choices { IfOk result (λ choices. AreChoicesOf sketch.now next choices.items) }
-    ensures many { IfOk result (λ choices. count ≡ length choices.items) }
+) -> Result<Choices, NodeFault>
+    ensures choices { IfOk result (λ choices. AreChoicesOf sketch.now next (choices_in choices)) }
+    ensures many { IfOk result (λ choices. count ≡ length (choices_in choices)) }
     ensures wrong { IfErr result (IfWrong (IsAtRoot (HasNotSoMany sketch.now.program (mode_in sketch.now) sketch.now.chosen next count))) }
 {
-    let Some(choices) = open_choices(alloc, next, sketch)? else {
+    let Some(choices) = open_choices(alloc, next, count, sketch)? else {
         return Err(NodeFault::at_root(alloc));
     };
     if choices.len() != count as usize {
@@ -33,14 +76,15 @@ pub(crate) fn so_many_choices(
     Ok(choices)
 }
 
-/// The choices of what is open, in order. `None` if it is not open. Most reads whose source is open in a tree
-/// have none, which takes no list.
+/// The choices of what is open, in order, whether they are as many as this or not. `None` if it is not open. Most
+/// reads whose source is open in a tree have none, which takes no list.
 fn open_choices(
     alloc: Global,
     next: OpenChoice,
+    count: u32,
     sketch: &RowlessSketch,
-) -> Result<Option<Vec<Choice>>, AllocError>
-    ensures { IfOk result (λ found. MatchOption found ((choices : List the_choice.Choice) → AreChoicesOf sketch.now next choices → ⊥) (λ choices. AreChoicesOf sketch.now next choices.items)) }
+) -> Result<Option<Choices>, AllocError>
+    ensures { IfOk result (λ found. MatchOption found ((choices : List the_choice.Choice) → AreChoicesOf sketch.now next choices → ⊥) (λ choices. AreChoicesOf sketch.now next (choices_in choices))) }
 {
     match next {
         OpenChoice::Value(thread) => {
@@ -48,58 +92,22 @@ fn open_choices(
                 return Ok(None);
             };
             let values = sketch.values_for(location)?;
-            Ok(Some(each_value(alloc, thread, values.as_slice())?))
+            Ok(Some(Choices::Values(thread, values)))
         }
         OpenChoice::Source(read) => {
-            if sketch.lacks_source(event_of(read)) {
-                return Ok(Some(Vec::new(alloc)));
+            if count == 0 && sketch.lacks_source(event_of(read)) {
+                return Ok(Some(Choices::Sources(read, Vec::new(alloc))));
             }
             let Some(sources) = sketch.sources_of(event_of(read))? else {
                 return Ok(None);
             };
-            Ok(Some(each_source(alloc, read, &sources)?))
+            Ok(Some(Choices::Sources(read, sources)))
         }
         OpenChoice::Order(first, second) => {
             if !sketch.is_order_open(event_of(first), event_of(second)) {
                 return Ok(None);
             }
-            Ok(Some(both_orders(alloc, first, second)?))
+            Ok(Some(Choices::Orders(first, second)))
         }
     }
-}
-
-/// The values of a thread's next read, as choices.
-pub fn each_value(alloc: Global, thread: u8, values: &[u32]) -> Result<Vec<Choice>, AllocError>
-    ensures { IfOk result (λ choices. choices.items ≡ map (Choice.Value thread) values.now) }
-{
-    values
-        .iter()
-        .map(|value| Choice::Value(thread, *value))
-        .collect(alloc)
-}
-
-/// The sources of a read, as choices.
-pub fn each_source(
-    alloc: Global,
-    read: AccessId,
-    sources: &[Event],
-) -> Result<Vec<Choice>, AllocError>
-    ensures { IfOk result (λ choices. choices.items ≡ map (Choice.Source read) sources.now) }
-{
-    sources
-        .iter()
-        .map(|source| Choice::Source(read, *source))
-        .collect(alloc)
-}
-
-/// Both orders of two writes.
-pub fn both_orders(
-    alloc: Global,
-    first: AccessId,
-    second: AccessId,
-) -> Result<Vec<Choice>, AllocError>
-    ensures { IfOk result (λ choices. choices.items ≡ Choice.Order first second ∷ Choice.Order second first ∷ []) }
-{
-    let orders = [Choice::Order(first, second), Choice::Order(second, first)];
-    Vec::from_slice(alloc, orders.as_slice())
 }

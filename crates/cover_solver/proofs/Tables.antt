@@ -1,6 +1,6 @@
 -- What trees and runs say of tables and of sets that serve.
 use Rattle.cover_solver.proofs.Vocabulary.{◌≡◌, ◌↔◌, ℕ, ◌<◌, true, List, Contains, sym, ◌∙◌, subst, arith, Result, IfErr, Question, asked, AreRunsOf, place_in, ArePlacesOf, machine_of_mode, Listing, Outcome, Shown, JumpForward, Label, Machine}
-use Rattle.cover_solver.proofs.Vocabulary.{SequentialMachine, StoreBufferMachine, no_gaps, IsSequentialTable, IsListOf, IsServing, ReplayFaultIs, ArePassed, AllowsShown, IsShownRun, IsForeignRun, renumbered, one_outcome, same_question}
+use Rattle.cover_solver.proofs.Vocabulary.{SequentialMachine, StoreBufferMachine, no_gaps, IsSequentialTable, IsListOf, IsServing, ReplayFaultIs, ArePassed, AllowsShown, IsShownRun, IsForeignRun, renumbered, one_outcome}
 use Rattle.std.specs.FinSet as set
 use Rattle.gap_sets.specs.Gaps.{SetOfGaps}
 use Rattle.tso_program.specs.{Fences.gaps_in, Ordered.outcome_cmp}
@@ -9,7 +9,7 @@ use Rattle.tso_machine.specs.declared.replaying.ReplayFault.TheVariants as repla
 use Rattle.tso_machine.proofs.Refused.{no_fault}
 use Rattle.tree_laws.proofs.{ListedOutcomes.fenced_tree_serves, OneList.one_list}
 use Rattle.tree_laws.specs.Covers.{IsWholeCover}
-use Rattle.fence_laws.proofs.GapsAvoided.{fenced_runs_avoid}
+use Rattle.tso_machine.proofs.GapsAvoided.{fenced_runs_avoid}
 use Rattle.cert_forest.specs.{Trees.Cover, NodeConstants.NEAR_RUNS}
 use Rattle.outcome_search.specs.{OutcomeNumbers.AreFoundOf, AscendingOutcomes.AscendingOutcomes, OutcomeIndex.OutcomeIndex}
 use Rattle.outcome_search.specs.{KnownOutcomes.StopLacks, SearchStop.SearchStop}
@@ -25,7 +25,7 @@ pub table_of : (p other : Listing) (shown copied : Shown) (known outcomes : List
 table_of p other shown copied known outcomes runs places before tree same alike small list are is moves made =
     let q = asked p shown in
     let whole = subst (IsWholeCover q SequentialMachine outcomes) (sym made) (whole_renumbered known outcomes (place_in places) (λ n h. let near = small n in omega arith) moves q SequentialMachine before is) in
-    subst (λ (r : Question). IsSequentialTable (record { question = r; outcomes = outcomes; runs = runs; tree = tree })) (sym (same_question q other copied same alike)) (record { listed = list; runs = are; tree = whole })
+    subst (λ (r : Question). IsSequentialTable (record { question = r; outcomes = outcomes; runs = runs; tree = tree })) (sym (λ i. asked (same i) (alike i))) (record { listed = list; runs = are; tree = whole })
 
 -- what is found is as exact in ascending order
 pub still_exact : (found : OutcomeIndex) (list : AscendingOutcomes) → AreFoundOf found list → (q : Question) (mode : Machine) → ((o : Outcome) → Contains found.outcomes.items o ↔ AllowsShown q mode o) →

@@ -14,10 +14,11 @@ pub use Rattle.tso_machine.specs.Modes.{ArePassed, machine_of_mode}
 pub use Rattle.tso_machine.specs.Outcomes.{AllowsShown, IsForeignRun, IsSequentialOutcome, IsShownRun}
 pub use Rattle.tso_machine.specs.declared.label.Label.{Label}
 pub use Rattle.tso_program.specs.Limits.{JumpForward}
-pub use Rattle.tso_program.specs.Shown.{Question, asked, show, told}
+pub use Rattle.tso_program.specs.Shown.{asked, show, told}
+pub use Rattle.tso_program.specs.declared.question.Question.{Question}
 pub use Rattle.tso_program.specs.declared.listing.Listing.{Listing}
 pub use Rattle.tso_program.specs.declared.outcome.Outcome.{Outcome}
 pub use Rattle.tso_program.specs.declared.shown.Shown.{Shown}
-pub use Rattle.oracle.proofs.ForeignRuns.{one_outcome, same_question}
+pub use Rattle.oracle.proofs.ForeignRuns.{one_outcome}
 pub use Rattle.oracle.specs.Facts.{AreOf, Foreign, IsForeignValue, IsListOf, IsSequentialTable, IsServing, Table}
 pub use Rattle.cover_solver.specs.Solvers.{Asked}

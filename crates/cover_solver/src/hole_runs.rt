@@ -5,11 +5,10 @@
 ghost use Rattle.std.specs.Prelude.{◌≤◌, IfOk, OnOk, length};
 ghost use Rattle.oracle.specs.Facts.{AreOf};
 
+use exec_axioms::Sketch;
 use gap_sets::GapSet;
 use oracle::{ForeignFault, ForeignRun, SeqTable};
-use outcome_search::{HoleRun, PartialCover};
-use run_maker::{MakeFault, make_run_for};
-use sketches::Sketch;
+use outcome_search::{HoleRun, MakeFault, PartialCover, make_run_for};
 use std::alloc::{AllocError, Global};
 use tso_machine::Label;
 

@@ -9,11 +9,11 @@ ghost use Rattle.outcome_search.specs.OutcomeNumbers.{AreRunsOf};
 ghost use Rattle.tree_laws.specs.Ascending.{Ascend};
 
 use cert_forest::Runs;
+use exec_axioms::Mode;
 use oracle::SolveFault;
 use outcome_search::{
     Search, Unwatched, Watch, all_outcomes, in_ascending_order, start_alone, start_by,
 };
-use sketches::Mode;
 use std::alloc::Global;
 use std::thread::Threads;
 use tso_machine::Model;

@@ -1,12 +1,12 @@
 //! Runs whose outcomes meet a formula.
 ghost use Rattle.std.specs.Prelude.{◌≡◌, IfOk, IfErr, MatchOption, Contains};
 ghost use Rattle.tso_machine.specs.Modes.{machine_of_mode};
-ghost use Rattle.outcome_search.specs.OutcomeNumbers.{IsInOrder, IsRunOf};
+ghost use Rattle.outcome_search.specs.OutcomeNumbers.{IsInOrder, IsKnownRun};
 ghost use Rattle.cover_solver.specs.Witnesses.{IsWitness, HasNoWitness};
 
+use exec_axioms::Mode;
 use oracle::SolveFault;
 use outcome_search::{OutcomeIndex, Search, Unwatched, all_outcomes, start_alone};
-use sketches::Mode;
 use std::alloc::{AllocError, Global};
 use tso_machine::Label;
 use tso_program::{Formula, Outcome, Program, Shown};
@@ -42,7 +42,7 @@ fn run_of(
     outcome: &Outcome,
 ) -> Result<Option<Vec<Label>>, AllocError>
     requires { IsInOrder found.now }
-    ensures { IfOk result (λ run. MatchOption run (Contains found.now.outcomes.items outcome.now → ⊥) (λ labels. IsRunOf found.now labels.items outcome.now)) }
+    ensures { IfOk result (λ run. MatchOption run (Contains found.now.outcomes.items outcome.now → ⊥) (λ labels. IsKnownRun found.now labels.items outcome.now)) }
 {
     match found.run_of(outcome) {
         Some(labels) => Ok(Some(Vec::from_slice(alloc, labels)?)),

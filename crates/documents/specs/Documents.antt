@@ -71,7 +71,7 @@ outcomes_members source shown model outcomes =
 abbrev pub IsOutcomesDocument : Litmus Listing → Shown → Model → List Outcome → List ℕ → Type 0
 IsOutcomesDocument source shown model outcomes = IsDocument source (codes "outcomes") (outcomes_members source shown model outcomes)
 
--- the same with the labels of runs
+-- of outcomes in a machine, with the labels of a run of each
 abbrev pub IsOutcomesWithRunsDocument : Litmus Listing → Shown → Model → List Outcome → List (List Label) → List ℕ → Type 0
 IsOutcomesWithRunsDocument source shown model outcomes runs =
     IsDocument source (codes "outcomes") (outcomes_members source shown model outcomes ++ member (codes "runs") (runs_array runs) ∷ [])
@@ -111,7 +111,7 @@ reason_of line = take (length (after_refused line) - 1) (after_refused line)
 abbrev pub refusal_text : List ℕ → Remark → List ℕ
 refusal_text line remark = document_of (format_member ∷ member (codes "refused") (quoted (reason_of line)) ∷ remark_members remark)
 
--- the same with some remark, as one line of JSON
+-- of a refusal with some remark, as one line of JSON
 pub record IsRefusalDocument (line text : List ℕ) : Type 0 where
   pub remark : Remark
   pub printed : text ≡ refusal_text line remark

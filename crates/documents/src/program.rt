@@ -6,7 +6,7 @@ ghost use Rattle.documents.specs.Parts.{TellsProgram};
 use crate::named::location;
 use gap_sets::GapSet;
 use json_text::{JsonArray, JsonObject, JsonText};
-use litmus_text::{Label, Litmus, NameTable, push_code, push_condition, register_name};
+use litmus_text::{CodeLabel, Litmus, NameTable, push_code, push_condition, register_name};
 use std::alloc::{AllocError, Global};
 use tso_program::{Program, Reg, Thread};
 
@@ -101,7 +101,7 @@ fn initial_values(alloc: Global, litmus: &Litmus<Program>) -> Result<JsonText, A
 }
 
 /// The labels of a position.
-fn labels_at(alloc: Global, labels: &[Label], position: usize) -> Result<JsonText, AllocError> {
+fn labels_at(alloc: Global, labels: &[CodeLabel], position: usize) -> Result<JsonText, AllocError> {
     let mut array = JsonArray::new(alloc);
     for label in labels {
         if label.position == position {
@@ -133,7 +133,7 @@ fn code_text(
 fn instruction(
     alloc: Global,
     litmus: &Litmus<Program>,
-    labels: &[Label],
+    labels: &[CodeLabel],
     thread: u8,
     place: usize,
 ) -> Result<JsonText, AllocError> {
@@ -147,7 +147,7 @@ fn instruction(
 fn instructions(
     alloc: Global,
     litmus: &Litmus<Program>,
-    labels: &[Label],
+    labels: &[CodeLabel],
     thread: u8,
     count: usize,
 ) -> Result<JsonText, AllocError> {
@@ -165,7 +165,7 @@ fn thread_value(
     thread: u8,
     count: usize,
 ) -> Result<JsonText, AllocError> {
-    let labels: &[Label] = match litmus.labels.as_slice().get(thread as usize) {
+    let labels: &[CodeLabel] = match litmus.labels.as_slice().get(thread as usize) {
         Some(labels) => labels.as_slice(),
         None => &[],
     };

@@ -45,7 +45,8 @@ pub use Rattle.search_core.specs.declared.entry.Status.{Status}
 pub use Rattle.search_core.specs.declared.finished.SettledEvent.{SettledEvent}
 pub use Rattle.tso_program.specs.Fences.{Gaps, gaps_in}
 pub use Rattle.tso_program.specs.Limits.{IsWithinLimits}
-pub use Rattle.tso_program.specs.Shown.{Question, asked}
+pub use Rattle.tso_program.specs.Shown.{asked}
+pub use Rattle.tso_program.specs.declared.question.Question.{Question}
 pub use Rattle.tso_program.specs.declared.listing.Listing.{Listing}
 pub use Rattle.tso_program.specs.declared.shown.Shown.{Shown}
 pub use Rattle.fence_place.specs.Internal.Recording.{AreNumbersOf, IsNumbered, ListsEvent, ListsRun, PushesRecorded, PushesRecords, is_new, is_there}

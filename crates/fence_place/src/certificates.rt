@@ -30,7 +30,7 @@ pub fn certify(
     ensures proof { IfOk result (IsProof finished.now.question finished.now.costs) }
 {
     let served = finished.served();
-    let shown = table.shown();
+    let shown = &table.question().shown;
     table.recall_facts();
     served.recall_facts();
     names_have_places(shown);

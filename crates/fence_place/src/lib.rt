@@ -25,4 +25,4 @@ mod worker;
 pub use certificates::certify;
 pub use fault::PlaceFault;
 pub use hunting::hunt_with;
-pub use placing::{Oracles, Placed, place};
+pub use placing::{Oracles, place};

@@ -18,20 +18,12 @@ use crate::retracing::retraced;
 use crate::searching::search;
 use cert_check::certificate_proves_answer;
 use cert_forest::Certificate;
-use gap_sets::{Costs, GapSet};
+use gap_sets::Costs;
 use oracle::{Oracle, SeqTable, SolveFault};
 use search_core::{Finished, SearchTree};
 use std::alloc::{AllocError, Global};
 use std::sync::Wait;
 use std::thread::Threads;
-
-/// The answer: the best set of gaps that serves, its cost, and a certificate of both.
-#[derive(Drop)]
-pub struct Placed {
-    pub set: GapSet,
-    pub cost: u64,
-    pub certificate: Certificate,
-}
 
 /// Who is asked: an oracle, and another one, which lacks no run, by which a search is made again.
 #[derive(Drop)]
@@ -40,10 +32,10 @@ pub struct Oracles<'a, O, S> {
     pub again: &'a S,
 }
 
-/// Finds the best set of gaps that serves, by asking an oracle, with a certificate that the checker
+/// Finds the best set of gaps that serves, by asking an oracle, and answers a certificate of it, which the checker
 /// accepts.
 ///
-/// Where it answers, the program with an MFENCE in each gap of the set has under x86-TSO exactly the source's
+/// Where it answers, the program with an MFENCE in each gap of the certificate's set has under x86-TSO exactly the source's
 /// sequentially consistent outcomes, as far as they are shown; with an MFENCE in each gap of any better set
 /// (cheaper, or as cheap and earlier in gap order) it leaves an outcome that no sequentially consistent run of
 /// the source has.
@@ -58,24 +50,23 @@ pub fn place<R: Threads + Wait + Sync, O: Oracle, S: Oracle>(
     table: &SeqTable,
     costs: &Costs,
     workers: u8,
-) -> Result<Placed, PlaceFault>
+) -> Result<Certificate, PlaceFault>
     requires question { O.question oracles.first.now ≡ table.now.question }
     requires may { O.may_be_asked oracles.first.now }
     requires again { S.question oracles.again.now ≡ table.now.question }
     requires again_may { S.may_be_asked oracles.again.now }
     requires again_has_runs { S.may_lack_runs oracles.again.now ≡ false }
-    ensures headline { IfOk result (λ placed. Headline table.now.question costs.now placed.set) }
-    ensures cost { IfOk result (λ placed. placed.cost ≡ total costs.now placed.set) }
+    ensures headline { IfOk result (λ certificate. Headline table.now.question costs.now certificate.gaps) }
+    ensures cost { IfOk result (λ certificate. certificate.cost ≡ total costs.now certificate.gaps) }
 
     // There is always an answer, which a definition computes: the set is that one, at the least cost.
-    ensures best { IfOk result (λ placed. placed.set ≡ the_answer table.now.question costs.now) }
-    ensures least { IfOk result (λ placed. placed.cost ≡ least_cost table.now.question costs.now) }
-    ensures answer { IfOk result (λ placed. IsTheAnswer table.now.question costs.now placed.set) }
+    ensures best { IfOk result (λ certificate. certificate.gaps ≡ the_answer table.now.question costs.now) }
+    ensures least { IfOk result (λ certificate. certificate.cost ≡ least_cost table.now.question costs.now) }
+    ensures answer { IfOk result (λ certificate. IsTheAnswer table.now.question costs.now certificate.gaps) }
 
-    // The certificate is of this set, proves it, and has each run once.
-    ensures set { IfOk result (λ placed. placed.certificate.gaps ≡ placed.set) }
-    ensures proof { IfOk result (λ placed. IsProof table.now.question costs.now placed.certificate) }
-    ensures once { IfOk result (λ placed. AreDistinct placed.certificate.runs) }
+    // The certificate proves it, and has each run once.
+    ensures proof { IfOk result (IsProof table.now.question costs.now) }
+    ensures once { IfOk result (λ certificate. AreDistinct certificate.runs) }
 
     // It refuses what can't be asked, and nothing else but for memory.
     ensures workers { AreTooFewOrMany workers → result ≡ Err PlaceFault.Workers }
@@ -88,14 +79,14 @@ pub fn place<R: Threads + Wait + Sync, O: Oracle, S: Oracle>(
     Ok(placement(alloc, oracles.again, table, costs, hunted)?)
 }
 
-/// The answer and its certificate, by what a hunt found or else by a search that is made again.
+/// The certificate of the answer, by what a hunt found or else by a search that is made again.
 fn placement<S: Oracle>(
     alloc: Global,
     again: &S,
     table: &SeqTable,
     costs: &Costs,
     hunted: Result<Finished, PlaceFault>,
-) -> Result<Placed, AllocError>
+) -> Result<Certificate, AllocError>
     requires question { S.question again.now ≡ table.now.question }
     requires may { S.may_be_asked again.now }
     requires has_runs { S.may_lack_runs again.now ≡ false }
@@ -106,12 +97,9 @@ fn placement<S: Oracle>(
     let finished = searched(alloc, again, table, costs, hunted)?;
     let certificate = certify(alloc, table, &finished)?;
     // For the proof alone: the certificate is valid, so its set is the answer.
-    certificate_proves_answer(table.program(), table.shown(), costs);
-    Ok(Placed {
-        set: certificate.set,
-        cost: certificate.cost,
-        certificate,
-    })
+    let question = table.question();
+    certificate_proves_answer(&question.program, &question.shown, costs);
+    Ok(certificate)
 }
 
 /// What a hunt found, retraced; or where it failed for another cause than memory the search that is made again.

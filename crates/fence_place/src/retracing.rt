@@ -4,7 +4,7 @@
 //! them. A search that knows them from the beginning mostly has far fewer nodes, and so has the gap tree of
 //! its certificate. It asks whether the answer serves, and nothing else. How many nodes it has no clause says.
 ghost use Rattle.std.specs.Prelude.{◌≡◌, true, IfOk, OnOk, length};
-ghost use Rattle.tso_program.specs.Shown.{Question};
+ghost use Rattle.tso_program.specs.declared.question.Question.{Question};
 ghost use Rattle.tso_program.specs.Listings.{gap_count};
 ghost use Rattle.oracle.specs.Facts.{AreOf};
 ghost use Rattle.fence_place.specs.Internal.Searches.{IsOfQuestion, IsSearchFor};

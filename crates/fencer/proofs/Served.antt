@@ -1,11 +1,9 @@
 -- What the program prints, with words and without.
-use Rattle.fencer.proofs.Vocabulary.{◌≡◌, ◌==◌, ℕ, ◌+◌, zero, suc, Bool, true, false, List, [], ◌∷◌, ◌⊎◌, Option, Contains, length, map, arith, inl, inr, refl, subst, sym, ◌&&◌, codes, nat_lt, TEXT_LIMIT, IsUtf8Refusal, asks_version, IsNoCommand, IsReadFault}
+use Rattle.fencer.proofs.Vocabulary.{◌≡◌, ◌==◌, ℕ, ◌+◌, zero, suc, Bool, true, false, List, [], ◌∷◌, ◌⊎◌, Option, Contains, length, map, arith, inl, inr, refl, subst, sym, ◌&&◌, codes, TEXT_LIMIT, IsUtf8Refusal, asks_version, IsNoCommand, IsReadFault}
 use Rattle.fencer.proofs.Vocabulary.{TakesOfLine, HasTooLongLine, IsReply, IsReplyToInput, IsOutput, KeepFilesOf, KeepOtherFiles, LineAsksToWrite, ReadsForWords, ReadsForInput, ReadsFor, no_command}
-use Rattle.std.specs.Str.{IsAscii, IsUtf8, bytes_eq}
-use Rattle.std.specs.List.{list_all}
+use Rattle.std.specs.Str.{IsUtf8, bytes_eq}
 use Rattle.std.proofs.lemmas.Str.{IsUtf8-from_ascii}
-use Rattle.std.proofs.lemmas.Str.Ascii.{IsAscii-cons, IsAscii-nil}
-use Rattle.std.proofs.lemmas.Bool.{ltb-true}
+use Rattle.litmus_text.proofs.AsciiTexts.{ascii_from}
 use Rattle.std.proofs.lemmas.Slice.Eq.{bytes_eq-Decides}
 use Rattle.std.proofs.lemmas.Bool.Decides.{nat_tests}
 use Rattle.clap.specs.Words.{Text}
@@ -69,10 +67,6 @@ utf8_reply words input files left status out no_version refused is = subst (λ (
 both : (a b : Bool) → (a && b) ≡ true → (a ≡ true) × (b ≡ true)
 both true b is = (refl, is)
 both false b is = absurd cc
-
-ascii_from : (bytes : List ℕ) → list_all (λ byte. nat_lt byte 128) bytes ≡ true → IsAscii bytes
-ascii_from [] small = IsAscii-nil
-ascii_from (byte ∷ bytes) small = let parts = both _ _ small in IsAscii-cons byte bytes (ltb-true byte 128 parts.0) (ascii_from bytes parts.1)
 
 version_is_utf8 : IsUtf8 (codes "--version")
 version_is_utf8 = IsUtf8-from_ascii (codes "--version") (ascii_from (codes "--version") refl)

@@ -100,7 +100,7 @@ pub record LineAsksToWrite (input : Option (List ℕ)) (name : List ℕ) : Type 
   pub taken : TakesLine input rest line
   pub asked : AsksToWrite (words_of line) name
 
--- the same of what the words after the program's name ask for, or of what the input does if there are no words
+-- each file keeps its bytes but those that the words after the program's name ask to write, or the input if there are no words
 abbrev pub KeepOtherFiles : List Text → Option (List ℕ) → (List ℕ → Option (List ℕ)) → (List ℕ → Option (List ℕ)) → Type 0
 KeepOtherFiles [] input files left = (name : List ℕ) → (LineAsksToWrite input name → ⊥) → left name ≡ files name
 KeepOtherFiles (word ∷ words) input files left = KeepFilesOf (word ∷ words) files left

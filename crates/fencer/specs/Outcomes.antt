@@ -7,7 +7,7 @@ use Rattle.tso_program.specs.declared.listing.Listing.{Listing}
 use Rattle.tso_program.specs.declared.outcome.Outcome.{Outcome}
 use Rattle.tso_program.specs.declared.shown.Shown.{Shown}
 use Rattle.tso_program.specs.declared.shown.ShownKind.{ShownKind, TheVariants.Whole, TheVariants.Observed}
-use Rattle.tso_program.specs.Shown.{Question}
+use Rattle.tso_program.specs.declared.question.Question.{Question}
 use Rattle.tso_machine.specs.declared.label.Label.{Label}
 use Rattle.tso_machine.specs.declared.label.Model.{Model}
 use Rattle.tso_machine.specs.Machine.{Machine}
@@ -16,7 +16,7 @@ use Rattle.tso_machine.specs.Outcomes.{AllowsShown}
 use Rattle.litmus_text.specs.Litmus.{Litmus}
 use Rattle.litmus_text.specs.Texts.{IsLitmus, IsNoLitmus}
 use Rattle.oracle.specs.declared.fault.SolveFault.TheVariants as solve
-use Rattle.cover_solver.specs.OutcomeNumbers.{AreRunsOf}
+use Rattle.witness_text.specs.OutcomeNumbers.{AreRunsOf}
 use Rattle.tree_laws.specs.Ascending.{Ascend}
 use Rattle.litmus_text.specs.Names.{TextNames}
 use Rattle.litmus_text.specs.Shown.{shown_as, question_of}

@@ -18,11 +18,11 @@ use crate::refusals::{AnswerFault, Reply, print_answer};
 use crate::refused::tell_refusal;
 use crate::status::check_status;
 use cert_forest::Runs;
-use cover_solver::{OutcomeList, SolveFault, SoughtOutcomes, outcomes_with_runs};
 use documents::{outcomes_document, outcomes_with_runs_document};
 use fencer_words::OutcomeQuery;
 use litmus_text::{Condition, Litmus, NameTable, read_litmus};
 use messages::file_or_input;
+use oracle::SolveFault;
 use placed_text::{Ahead, report_ahead};
 use program_streams::{Console, FileStore, Progress, TEXT_LIMIT, file_line, named_bytes};
 use report::{condition_line, is_true_of, labels_line, observation_line, outcome_line};
@@ -30,6 +30,7 @@ use std::alloc::{AllocError, Global};
 use std::io::Read;
 use std::thread::Threads;
 use tso_program::{Outcome, Program, Shown};
+use witness_text::{OutcomeList, SoughtOutcomes, outcomes_with_runs};
 
 /// The line of the run of this number, if there is one.
 fn push_run(

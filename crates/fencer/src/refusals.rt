@@ -7,8 +7,8 @@ ghost use Rattle.fencer.specs.Refusals.{refusal_line, solve_line, IsTold};
 
 use crate::advice::{AskedText, refusal_advice};
 use crate::refused::tell_refusal;
-use cover_solver::SolveFault;
 use litmus_text::ReadFault;
+use oracle::SolveFault;
 use program_streams::{Console, print};
 use report::{litmus_line, replay_line, run_line};
 use std::alloc::{AllocError, Global};

@@ -9,8 +9,8 @@ use Rattle.tso_program.specs.declared.instruction.Instr.{Instr}
 use Rattle.tso_program.specs.declared.listing.Listing.{Listing}
 use Rattle.tso_program.specs.Listings.{gap_count, gap_place, instr_at}
 use Rattle.litmus_reader.specs.declared.litmus.Litmus.{Litmus}
-use Rattle.canonical_text.specs.Spelling.{code_pieces}
-use Rattle.canonical_text.specs.Canonical.{code_named, litmus_fenced_at, own_labels}
+use Rattle.litmus_text.specs.Spelling.{code_pieces}
+use Rattle.litmus_text.specs.Canonical.{code_named, litmus_fenced_at, own_labels}
 
 -- an instruction of thread t, as it is written with no gap fenced
 abbrev pub code_text : Litmus Listing → ℕ → Instr → List ℕ

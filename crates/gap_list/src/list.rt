@@ -5,9 +5,9 @@ ghost use Rattle.tso_program.specs.Listings.{instr_at};
 ghost use Rattle.gap_list.specs.Lists.{cost_part, gap_line, instruction_part, IsGapList};
 
 use crate::text_lines::gap_lines;
-use canonical_text::push_code;
 use gap_sets::{Costs, GapSet};
 use litmus_reader::Litmus;
+use litmus_text::push_code;
 use std::alloc::{AllocError, Global};
 use tso_program::{Instr, Program};
 

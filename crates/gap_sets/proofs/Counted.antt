@@ -11,7 +11,7 @@ one_more true a rest absent len = set.len-insert nat_cmp_total (set.from_list re
 one_more false a rest absent len = len
 
 -- the numbers that pass are as many as their set
-len-from_list : (p : ℕ → Bool) (a n : ℕ) → set.len (set.from_list {R = nat_cmp} (filter p (range_with_len a n))) ≡ length (filter p (range_with_len a n))
+pub len-from_list : (p : ℕ → Bool) (a n : ℕ) → set.len (set.from_list {R = nat_cmp} (filter p (range_with_len a n))) ≡ length (filter p (range_with_len a n))
 len-from_list p a zero = set.len-empty nat_cmp
 len-from_list p a (suc n) = one_more (p a) a _ (set.contains-from_list_nat _ a ∙ any-below p (a + 1) n a (omega arith)) (len-from_list p (a + 1) n)
 

@@ -130,7 +130,7 @@ impl Costs {
         self.list.get(gap as usize).copied()
     }
 
-    /// The same costs. The list itself is shared.
+    /// A copy of the costs. The list itself is shared.
     pub fn copy(&self) -> Result<Costs, AllocError>
         ensures { IfOk result (λ costs. costs ≡ self.now) }
     {

@@ -25,7 +25,8 @@ pub use Rattle.search_core.specs.declared.entry.Status.{Status, TheVariants.Conf
 pub use Rattle.search_core.specs.declared.finished.SettledEvent.{SettledEvent}
 pub use Rattle.search_core.specs.declared.finished.Settled.{Settled}
 pub use Rattle.tso_program.specs.Limits.{IsWithinLimits, JumpForward}
-pub use Rattle.tso_program.specs.Shown.{Question, asked}
+pub use Rattle.tso_program.specs.Shown.{asked}
+pub use Rattle.tso_program.specs.declared.question.Question.{Question}
 pub use native.Mathlib.Decide.{ℕ_discrete}
 pub use Rattle.hunt_board.specs.Internal.Marks.{HasMark, IsMarked, IsNotMarked, RecordFaultIs}
 pub use Rattle.hunt_board.specs.Internal.Places.{StandsOnlyAt, WalkLeads, child_by, child_in, child_of, ends, goes, number_of_child}

@@ -3,7 +3,7 @@ use Rattle.std.specs.Prelude.{◌≡◌, ℕ, List, Option, None, All, IfSome, m
 use Rattle.std.specs.List.{range_with_len}
 use Rattle.atomic_table.specs.Seated.{TableId}
 use Rattle.gap_sets.specs.declared.region.Region.{Region}
-use Rattle.tso_program.specs.Shown.{Question}
+use Rattle.tso_program.specs.declared.question.Question.{Question}
 use Rattle.search_core.specs.Facts.{Serving}
 use Rattle.search_core.specs.Ceilings.{problem}
 use Rattle.hunt_board.specs.Word.{Word, Known, IsSeatOf, no_ceiling, word_with}
@@ -31,19 +31,19 @@ pub record SeatView : Type 0 where
 abbrev pub IsOf : HuntView → SeatView → Type 0
 IsOf h s = IsSeatOf (word_of h) s.known × IfSome s.best (λ best. best.question ≡ h.question)
 
--- the same seat, but for the node that it holds
+-- the seat, holding this node in place of its own
 abbrev pub holding_node : SeatView → Option Region → SeatView
 holding_node s node = record s { node = node }
 
--- the same seat, but for the best set
+-- the seat with another best set
 abbrev pub with_best : SeatView → Option Serving → SeatView
 with_best s best = record s { best = best }
 
--- the same seat, but for what it knows of the ceiling word
+-- the seat, knowing something else of the ceiling word
 abbrev pub with_known : SeatView → Known → SeatView
 with_known s known = record s { known = known }
 
--- the same seat, but for the number of runs that it has posted
+-- the seat with another number of posted runs
 abbrev pub with_posted : SeatView → ℕ → SeatView
 with_posted s posted = record s { posted = posted }
 

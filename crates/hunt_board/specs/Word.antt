@@ -17,7 +17,7 @@ abbrev pub number_of : Option ℕ → ℕ
 number_of None = no_ceiling
 number_of (Some cost) = cost
 
--- the same of a ceiling
+-- what the word holds for a ceiling, or for none
 abbrev pub ceiling_number : Option Bound → ℕ
 ceiling_number None = no_ceiling
 ceiling_number (Some bound) = bound.cost

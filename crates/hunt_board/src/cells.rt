@@ -1,6 +1,5 @@
 //! Runs that seats post for all: rows of cells, each set once.
-ghost use Rattle.std.specs.Prelude.{◌≡◌, ◌<◌, ◌≤◌, ◌*◌, ◌+◌, Some, None, Err, IfOk, IfErr, IfSome, length, map};
-ghost use Rattle.tso_program.specs.Shown.{asked};
+ghost use Rattle.std.specs.Prelude.{◌≡◌, ◌↔◌, ◌<◌, ◌≤◌, ◌*◌, ◌+◌, Some, None, Err, IfOk, IfErr, IfSome, IsTrue, length, map};
 ghost use Rattle.search_core.specs.Facts.{IsForeignValue};
 ghost use Rattle.once_cell.specs.Once.{cell_name};
 ghost use Rattle.hunt_board.specs.Cells.{IsInCell, IsThere, cell_place, run_in};
@@ -9,7 +8,7 @@ use once_cell::race::{Note, OnceBox};
 use search_core::ForeignRun;
 use std::alloc::{AllocError, AllocFailed, Global};
 use std::marker::Model;
-use tso_program::{Program, Shown};
+use tso_program::Question;
 
 /// How many cells a seat's row has.
 pub const ROW_CELLS: usize = 128;
@@ -108,25 +107,26 @@ impl RunCells {
         }
     }
 
-    /// The run in the cell of this index in a seat's row, where it is one of this program with this shown.
-    pub fn look(
-        &self,
-        seat: u8,
-        index: usize,
-        program: &Program,
-        shown: &Shown,
-    ) -> Option<&ForeignRun>
-        ensures of { IfSome result (λ run. run.now.question ≡ asked program.now shown.now) }
+    /// The run in the cell of this index in a seat's row, where it is one of this question.
+    pub fn look(&self, seat: u8, index: usize, question: &Question) -> Option<&ForeignRun>
+        ensures of { IfSome result (λ run. run.now.question ≡ question.now) }
         ensures foreign { IfSome result (λ run. IsForeignValue run.now) }
         ensures there { IfSome result (λ _. IsThere (map cell_name self.now.cells.items) seat index) }
     {
         let run = self.cells.get(place_of(seat, index)?)?.get()?;
-        if run.program().same(program) && run.shown().same(shown) {
+        if is_same(run.question(), question) {
             Some(run)
         } else {
             None
         }
     }
+}
+
+/// Whether two questions are the same.
+pub(crate) fn is_same(first: &Question, second: &Question) -> bool
+    ensures { IsTrue result ↔ (first.now ≡ second.now) }
+{
+    first.shown.same(&second.shown) && first.program.same(&second.program)
 }
 
 /// Sets a cell.

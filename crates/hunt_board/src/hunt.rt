@@ -1,7 +1,6 @@
 //! The hunt: a search that several workers share.
 ghost use Rattle.std.specs.Prelude.{◌≡◌, ◌↔◌, ◌<◌, ◌≤◌, ◌+◌, ℕ, Some, None, Err, All, IfOk, IfErr, IfSome, IfNone, OnOk, OnErr, IsSome, IsTrue};
 ghost use Rattle.gap_sets.specs.Order.{total};
-ghost use Rattle.tso_program.specs.Shown.{asked};
 ghost use Rattle.search_core.specs.Outcomes.{AreGapsOf, IsTheAnswer};
 ghost use Rattle.search_core.specs.Facts.{IsForeignValue};
 ghost use Rattle.search_core.specs.Ceilings.{IsCeilingOf, problem};
@@ -16,7 +15,7 @@ ghost use Rattle.hunt_board.specs.Receipts.{NameAll, CloseFaultIs};
 ghost use Rattle.hunt_board.specs.Word.{IsSeatOf, no_ceiling, ceiling_number, with_least};
 ghost use Rattle.hunt_board.specs.Internal.Events.{IsFor, IsLawfulThere};
 
-use crate::cells::{PostFault, Posted, RunCells};
+use crate::cells::{PostFault, Posted, RunCells, is_same};
 use crate::events::{is_waiting, settle_node};
 use crate::record::check_receipts;
 use crate::word::{CeilingWord, WordSeat};
@@ -26,7 +25,7 @@ use search_core::{Ceiling, Finished, ForeignRun, SearchTree, Served};
 use std::alloc::{AllocError, Global};
 use std::marker::Model;
 use std::sync::{Condvar, Mutex, Wait};
-use tso_program::{Program, Shown};
+use tso_program::Question;
 
 /// A search that several workers share, each from a seat of its own. The tree stands under one lock, and
 /// its type keeps that some history of events reached it.
@@ -39,8 +38,7 @@ use tso_program::{Program, Shown};
 #[derive(Drop)]
 pub struct Hunt {
     alloc: Global,
-    program: Program,
-    shown: Shown,
+    question: Question,
     costs: Costs,
     word: CeilingWord,
     rows: RunCells,
@@ -49,7 +47,6 @@ pub struct Hunt {
 }
 
 impl Model for Hunt {
-    ghost use Rattle.tso_program.specs.Shown.{asked};
     ghost use Rattle.hunt_board.specs.Seats.{HuntView};
 
     ghost Value = { HuntView };
@@ -64,9 +61,9 @@ impl Model for Hunt {
     ghost use Rattle.once_cell.specs.Once.{cell_name};
     ghost use Rattle.search_core.specs.Ceilings.{problem};
 
-    ghost view = { λ h. record { question = asked h.program h.shown; costs = h.costs; table = h.word.table; cells = map cell_name h.rows.cells.items } };
+    ghost view = { λ h. record { question = h.question; costs = h.costs; table = h.word.table; cells = map cell_name h.rows.cells.items } };
 
-    ghost invariant = { λ h. h.word.problem ≡ problem (asked h.program h.shown) h.costs };
+    ghost invariant = { λ h. h.word.problem ≡ problem h.question h.costs };
 }
 
 impl Hunt {
@@ -87,22 +84,20 @@ impl Hunt {
 
     /// The hunt through the tree, with what stands beside its lock.
     fn over(alloc: Global, tree: SearchTree, parts: HuntParts) -> Hunt
-        requires { parts.word.problem ≡ problem (asked parts.program parts.shown) parts.costs }
-        ensures question { result.question ≡ asked parts.program parts.shown }
+        requires { parts.word.problem ≡ problem parts.question parts.costs }
+        ensures question { result.question ≡ parts.question }
         ensures costs { result.costs ≡ parts.costs }
         ensures word { word_of result ≡ parts.word }
     {
         let HuntParts {
-            program,
-            shown,
+            question,
             costs,
             word,
             rows,
         } = parts;
         Hunt {
             alloc,
-            program,
-            shown,
+            question,
             costs,
             word,
             rows,
@@ -185,7 +180,7 @@ impl Hunt {
         ensures seat { seat.new ≡ with_known seat.old (with_least seat.old.known (ceiling_number result)) }
     {
         self.word
-            .ceiling(&mut seat.word, &self.program, &self.shown, &self.costs)
+            .ceiling(&mut seat.word, &self.question, &self.costs)
     }
 
     /// The ceiling is no higher than what the serving set costs from now on. Takes no memory and never waits.
@@ -232,7 +227,7 @@ impl Hunt {
         ensures foreign { IfSome result (λ run. IsForeignValue run.now) }
         ensures there { IfSome result (λ _. IsThere self.now.cells seat index) }
     {
-        self.rows.look(seat, index, &self.program, &self.shown)
+        self.rows.look(seat, index, &self.question)
     }
 
     /// Ends the hunt with the answer, where no node is left and the receipts name the whole record. A fault
@@ -261,8 +256,7 @@ impl Hunt {
     {
         let Hunt {
             alloc: _,
-            program,
-            shown,
+            question,
             costs,
             word,
             rows: _,
@@ -271,7 +265,7 @@ impl Hunt {
         } = self;
         join_all(&word, seats);
         let tree = tree.into_inner();
-        if !is_search_of(&tree, &program, &shown, &costs) {
+        if !is_search_of(&tree, &question, &costs) {
             return None;
         }
         tree.finish().ok()
@@ -338,7 +332,7 @@ impl Hunt {
     fn is_for(&self, tree: &SearchTree, seat: u8) -> bool
         ensures { IsTrue result ↔ IsFor self.now tree.now seat }
     {
-        seat < tree.seats() && is_search_of(tree, &self.program, &self.shown, &self.costs)
+        seat < tree.seats() && is_search_of(tree, &self.question, &self.costs)
     }
 
     /// Whether it is, and the seat holds this node.
@@ -358,8 +352,7 @@ impl Hunt {
 /// What stands beside the lock of a hunt.
 #[derive(Drop)]
 struct HuntParts {
-    program: Program,
-    shown: Shown,
+    question: Question,
     costs: Costs,
     word: CeilingWord,
     rows: RunCells,
@@ -371,33 +364,22 @@ fn parts_of(
     tree: &SearchTree,
     seats: u8,
 ) -> Result<(HuntParts, Vec<HuntSeat>), AllocError>
-    ensures question { IfOk result (λ made. asked made.0.program made.0.shown ≡ tree.now.question) }
+    ensures question { IfOk result (λ made. made.0.question ≡ tree.now.question) }
     ensures costs { IfOk result (λ made. made.0.costs ≡ tree.now.costs) }
     ensures word { IfOk result (λ made. made.0.word.problem ≡ problem tree.now.question tree.now.costs) }
     ensures seats { IfOk result (λ made. AreFreshAt made.0.word seats made.1.items) }
 {
-    let (program, shown, costs) = problem_of(tree)?;
+    let question = tree.question().copy()?;
+    let costs = tree.costs().copy()?;
     let rows = RunCells::new(alloc, seats)?;
     let (word, row) = seated_word(alloc, tree, seats)?;
     let parts = HuntParts {
-        program,
-        shown,
+        question,
         costs,
         word,
         rows,
     };
     Ok((parts, row))
-}
-
-/// What is searched, in copies of its own: the program, what is shown of its outcomes, and what gaps cost.
-fn problem_of(tree: &SearchTree) -> Result<(Program, Shown, Costs), AllocError>
-    ensures question { IfOk result (λ made. asked made.0 made.1 ≡ tree.now.question) }
-    ensures costs { IfOk result (λ made. made.2 ≡ tree.now.costs) }
-{
-    let program = tree.program().copy()?;
-    let shown = tree.shown().copy()?;
-    let costs = tree.costs().copy()?;
-    Ok((program, shown, costs))
 }
 
 /// A ceiling word for the tree's problem, and the seats of a hunt at it.
@@ -409,7 +391,7 @@ fn seated_word(
     ensures word { IfOk result (λ made. made.0.problem ≡ problem tree.now.question tree.now.costs) }
     ensures seats { IfOk result (λ made. AreFreshAt made.0 seats made.1.items) }
 {
-    let (word, mut first) = CeilingWord::new(alloc, tree.program(), tree.shown(), tree.costs())?;
+    let (word, mut first) = CeilingWord::new(alloc, tree.question(), tree.costs())?;
     let row = seats_of(alloc, &word, &mut first, seats)?;
     Ok((word, row))
 }
@@ -444,9 +426,9 @@ fn join_all(word: &CeilingWord, mut seats: Vec<HuntSeat>)
     }
 }
 
-/// Whether the tree is of this program with what is shown, and of these costs.
-fn is_search_of(tree: &SearchTree, program: &Program, shown: &Shown, costs: &Costs) -> bool
-    ensures { IsTrue result ↔ ((tree.now.question ≡ asked program.now shown.now) × (tree.now.costs ≡ costs.now)) }
+/// Whether the tree is of this question and of these costs.
+fn is_search_of(tree: &SearchTree, question: &Question, costs: &Costs) -> bool
+    ensures { IsTrue result ↔ ((tree.now.question ≡ question.now) × (tree.now.costs ≡ costs.now)) }
 {
-    tree.shown().same(shown) && tree.costs().same(costs) && tree.program().same(program)
+    is_same(tree.question(), question) && tree.costs().same(costs)
 }

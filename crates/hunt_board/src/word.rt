@@ -1,7 +1,6 @@
 //! The ceiling word: a number beside the lock, which workers read and lower without waiting.
 ghost use Rattle.std.specs.Prelude.{◌≡◌, ◌≤◌, IfOk, IfSome, min};
 ghost use Rattle.gap_sets.specs.Order.{total};
-ghost use Rattle.tso_program.specs.Shown.{asked};
 ghost use Rattle.search_core.specs.Ceilings.{IsCeilingOf, problem};
 ghost use Rattle.hunt_board.specs.Word.{HasLowered, IsSeatOf, goal_of, no_ceiling, ceiling_number, number_of, with_least};
 
@@ -13,7 +12,7 @@ use gap_sets::Costs;
 use search_core::{Ceiling, Served, Subject};
 use std::alloc::{AllocError, Global};
 use std::marker::Model;
-use tso_program::{Program, Shown};
+use tso_program::Question;
 
 /// The word: none, or a cost that some serving set doesn't pass. No call but `new` takes memory, and none waits.
 #[derive(Drop)]
@@ -56,14 +55,13 @@ impl CeilingWord {
     /// A word that holds no ceiling yet, with its first seat.
     pub fn new(
         alloc: Global,
-        program: &Program,
-        shown: &Shown,
+        question: &Question,
         costs: &Costs,
     ) -> Result<(CeilingWord, WordSeat), AllocError>
-        ensures word { IfOk result (λ r. r.0.problem ≡ problem (asked program.now shown.now) costs.now) }
+        ensures word { IfOk result (λ r. r.0.problem ≡ problem question.now costs.now) }
         ensures seat { IfOk result (λ r. IsSeatOf r.0 r.1 × (r.1.least ≡ no_ceiling)) }
     {
-        let subject = Subject::of(program, shown, costs);
+        let subject = Subject::of(&question.program, &question.shown, costs);
         let (table, seat) = Table::of_words(alloc, &[u64::MAX], &subject)?;
         Ok((CeilingWord { table }, WordSeat { seat }))
     }
@@ -108,20 +106,15 @@ impl CeilingWord {
         steps::lower(&self.table.shared, &mut seat.seat, to);
     }
 
-    /// What the word holds, as a ceiling of the program, what is shown and the costs.
-    pub fn ceiling(
-        &self,
-        seat: &mut WordSeat,
-        program: &Program,
-        shown: &Shown,
-        costs: &Costs,
-    ) -> Ceiling
+    /// What the word holds, as a ceiling of the question and the costs.
+    pub fn ceiling(&self, seat: &mut WordSeat, question: &Question, costs: &Costs) -> Ceiling
         requires seat { IsSeatOf self.now seat.old }
-        requires problem { self.now.problem ≡ problem (asked program.now shown.now) costs.now }
-        ensures of { IsCeilingOf (asked program.now shown.now) costs.now result }
+        requires problem { self.now.problem ≡ problem question.now costs.now }
+        ensures of { IsCeilingOf question.now costs.now result }
         ensures least { ceiling_number result ≤ seat.old.least }
         ensures seat { seat.new ≡ with_least seat.old (ceiling_number result) }
     {
+        let Question { program, shown } = question;
         program.recall_facts();
         Ceiling::at(program, shown, costs, self.load(seat))
     }

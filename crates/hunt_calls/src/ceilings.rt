@@ -6,6 +6,7 @@ use crate::inquiry::Inquiry;
 use crate::refusal::HuntRefusal;
 use oracle::Oracle;
 use search_core::{Ceiling, SearchTree};
+use tso_program::Question;
 
 /// How a ceiling is made.
 #[derive(Clone, Copy)]
@@ -42,7 +43,8 @@ fn at_cost_of(tree: &SearchTree, ceiling: &Ceiling) -> Ceiling
     ensures { IsCeilingOf tree.now.question tree.now.costs result }
 {
     let cost = ceiling.cost();
-    Ceiling::at(tree.program(), tree.shown(), tree.costs(), cost)
+    let Question { program, shown } = tree.question();
+    Ceiling::at(program, shown, tree.costs(), cost)
 }
 
 /// A ceiling that is made in this way, of the set of these gaps where it is of one.

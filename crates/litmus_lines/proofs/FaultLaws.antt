@@ -1,20 +1,21 @@
 -- The lines before the initial values are refused in one way.
-use Rattle.litmus_lines.proofs.Vocabulary.{◌≡◌, ◌⊎◌, ℕ, List, ◌∷◌, inl, inr, refl, sym, ap, ◌∙◌, subst, arith, white_space_back, comment_back, other_back, IsSkippedLine}
+use Rattle.litmus_lines.proofs.Vocabulary.{◌≡◌, ◌⊎◌, ℕ, true, false, List, ◌∷◌, inl, inr, refl, sym, ap, ◌∙◌, subst, arith, white_space_back, comment_back, other_back, IsSkippedLine}
 use Rattle.text_tokens.specs.Space.{IsAfterSpace, nothing, white_space, comment}
-use Rattle.litmus_lines.specs.{declared.fault.LineFault.LineFault, Faults.BeginsSkipped, Faults.nothing as none, Faults.line, Faults.RefusesLines, Faults.ended_at, Faults.fault_at}
+use Rattle.litmus_lines.specs.declared.fault.LineFault.TheVariants as fault
+use Rattle.litmus_lines.specs.{declared.fault.LineFault.LineFault, Faults.RefusesFirstLine, Faults.BeginsSkipped, Faults.nothing as none, Faults.line, Faults.RefusesLines, Faults.ended_at, Faults.fault_at}
 use Rattle.litmus_lines.proofs.SkippedLaws.{line_read, line_only}
 
 -- one text follows white space and comments
-space_one : (text a b : List ℕ) → IsAfterSpace text a → IsAfterSpace text b → a ≡ b
-space_one text a b (nothing k l) h = other_back text b k l h
-space_one (c ∷ text) a b (white_space k s) h = space_one text a b s (white_space_back (c ∷ text) b (omega arith) k h)
-space_one text a b (comment {others = us} k s) h = space_one us a b s (comment_back text us b k h)
+pub space_once : (text a b : List ℕ) → IsAfterSpace text a → IsAfterSpace text b → a ≡ b
+space_once text a b (nothing k l) h = other_back text b k l h
+space_once (c ∷ text) a b (white_space k s) h = space_once text a b s (white_space_back (c ∷ text) b (omega arith) k h)
+space_once text a b (comment {others = us} k s) h = space_once us a b s (comment_back text us b k h)
 
 -- and one follows a line that is skipped
 next_one : (text f g us vs : List ℕ) → IsAfterSpace text f → IsSkippedLine f us → IsAfterSpace text g → IsSkippedLine g vs → us ≡ vs
 next_one text f g us vs s h t i =
     let r = line_read f us h in
-    line_only f r.0 us vs r.1 (subst (λ (x : List ℕ). IsSkippedLine x vs) (sym (space_one text f g s t)) i)
+    line_only f r.0 us vs r.1 (subst (λ (x : List ℕ). IsSkippedLine x vs) (sym (space_once text f g s t)) i)
 
 -- no line that is skipped comes next
 abbrev Stops : List ℕ → Type 0
@@ -63,13 +64,13 @@ Told bytes rest a = (Open rest × (a ≡ ended_at bytes)) ⊎ Other bytes rest a
 told_stops : (bytes rest : List ℕ) (a : LineFault) → Told bytes rest a → Stops rest
 told_stops bytes rest a (inl h) = λ front others s l. h.0 front s
 told_stops bytes rest a (inr h) = λ front others s l.
-    h.2 others (subst (λ (x : List ℕ). IsSkippedLine x others) (space_one rest front h.0 s h.1) l)
+    h.2 others (subst (λ (x : List ℕ). IsSkippedLine x others) (space_once rest front h.0 s h.1) l)
 
 told_one : (bytes rest : List ℕ) (a b : LineFault) → Told bytes rest a → Told bytes rest b → a ≡ b
 told_one bytes rest a b (inl h) (inl g) = h.1 ∙ sym g.1
 told_one bytes rest a b (inl h) (inr g) = absurd (h.0 g.0 g.1)
 told_one bytes rest a b (inr h) (inl g) = absurd (g.0 h.0 h.1)
-told_one bytes rest a b (inr h) (inr g) = h.3 ∙ ap (fault_at bytes) (space_one rest h.0 g.0 h.1 g.1) ∙ sym g.3
+told_one bytes rest a b (inr h) (inr g) = h.3 ∙ ap (fault_at bytes) (space_once rest h.0 g.0 h.1 g.1) ∙ sym g.3
 
 pub same_fault : (bytes lines : List ℕ) (a b : LineFault) → RefusesLines bytes lines a → RefusesLines bytes lines b → a ≡ b
 same_fault bytes lines a b h g =
@@ -77,3 +78,10 @@ same_fault bytes lines a b h g =
     let on = leads_to lines h.0 g.0 h.1 g.1 (told_stops bytes g.0 b g.2) in
     let same : h.0 ≡ g.0 = same_or h.0 g.0 (first_or h.0 g.0 on) stops in
     told_one bytes g.0 a b (subst (λ (x : List ℕ). Told bytes x a) same h.2) g.2
+
+-- and a first line too
+pub same_first_fault : (text : List ℕ) (a b : LineFault) → RefusesFirstLine text a → RefusesFirstLine text b → a ≡ b
+same_first_fault text (fault.Ended l) (fault.Ended k) h g = ap fault.Ended (h.0 ∙ sym g.0)
+same_first_fault text (fault.Header l) (fault.Header k) h g = ap fault.Header (h.0 ∙ sym g.0)
+same_first_fault text (fault.Ended l) (fault.Header k) h g = let bad : true ≡ false = sym h.1 ∙ g.1 in cc
+same_first_fault text (fault.Header l) (fault.Ended k) h g = let bad : true ≡ false = sym g.1 ∙ h.1 in cc

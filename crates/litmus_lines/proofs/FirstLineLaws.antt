@@ -143,6 +143,14 @@ same_line o l m r s e h = let p : ◌≡◌ {A = List ℕ × List ℕ} (l, r) (m
 pub same_parts : (l m n k : List ℕ) → l ≡ m → heading_name l ≡ Some n → heading_name m ≡ Some k → n ≡ k
 same_parts l m n k same e h = let f = ap heading_name same in cc
 
+-- a text has one first line
+pub first_line_once : (text name other rest after : List ℕ) → IsFirstLine text name rest → IsFirstLine text other after → (name ≡ other) × (rest ≡ after)
+first_line_once text name other rest after h g =
+    let a = first_again text name rest h in
+    let b = first_again text other after g in
+    let same = same_line (line_at text) a.0 b.0 rest after a.1 b.1 in
+    (same_parts a.0 b.0 name other same.0 a.2 b.2, same.1)
+
 -- ---- where no first line is read
 
 pub no_end : (text : List ℕ) → None ≡ line_at text → list_all is_inside text ≡ true

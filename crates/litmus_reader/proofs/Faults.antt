@@ -1,7 +1,6 @@
 -- What is said of a fault, case by case.
-use Rattle.litmus_reader.proofs.Vocabulary.{◌≡◌, ◌≢◌, ◌∙◌, Option, Some, None, refl, sym, ap, ⊤, ProgramFault, LineFault, ReadFault, MatchFault, of_lines, NotUtf8, Program, OutOfMemory}
+use Rattle.litmus_reader.proofs.Vocabulary.{◌≡◌, ◌≢◌, ◌∙◌, Option, Some, None, refl, sym, ap, ⊤, ProgramFault, ReadFault, MatchFault, NotUtf8, Program, OutOfMemory}
 use Rattle.tso_program.specs.declared.limits.ProgramFault.{TheVariants.OutOfMemory as NoMemory}
-use Rattle.litmus_lines.specs.declared.fault.LineFault.TheVariants as line_fault
 
 -- what follows from it, case by case
 pub match_map : (fault : ReadFault) (U V : Type 0) (L K : ProgramFault → Type 0) (M N O P : Type 0) → (U → V) → ((limit : ProgramFault) → L limit → K limit) → (M → N) → (O → P)
@@ -17,11 +16,6 @@ match_memory (NotUtf8 line) U L M O u l o h = absurd (u h)
 match_memory (Program line limit) U L M O u l o h = absurd (l limit h)
 match_memory OutOfMemory U L M O u l o h = refl
 match_memory fault U L M O u l o h = absurd (o h)
-
--- a line before the initial values is a case of its own
-pub match_lines : (fault : LineFault) (U : Type 0) (L : ProgramFault → Type 0) (M O : Type 0) → O → MatchFault (of_lines fault) U L M O
-match_lines (line_fault.Header line) U L M O other = other
-match_lines (line_fault.Ended line) U L M O other = other
 
 -- a program's fault is the first limit that is broken, unless it is out of memory
 pub first_refused : (first : Option ProgramFault) (fault : ProgramFault) (read : ReadFault) → (first ≡ None → fault ≡ NoMemory) → ((limit : ProgramFault) → first ≡ Some limit → limit ≡ fault)

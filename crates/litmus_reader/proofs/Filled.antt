@@ -1,7 +1,7 @@
 -- The reader's tables hold what they should after each entry.
 use Rattle.litmus_reader.proofs.Vocabulary.{◌≡◌, ℕ, ◌<◌, Bool, true, false, List, [], ◌∷◌, ◌++◌, length, get_or, set, map, replicate, fold, refl, sym, ap, ◌∙◌, arith, inl, inr, cases_Bool, eqb-true, eqb-false, length-replicate, get_or-replicate, length-set}
 use Rattle.litmus_reader.proofs.Vocabulary.{get_or-set_same, get_or-set_other, ◌==◌, ◌&&◌, ◌||◌, min, if◌then◌else◌, option_map_or, range_with_len, filter_map, list_any, fold-append, fill_by_all, length-map-range_with_len, get_or-map-range_with_len, Reg}
-use Rattle.litmus_reader.proofs.Vocabulary.{number, Atom, PlaceView, Location, Register, BodyView, TextNames, all_registers, with_name, code_in, Label, thread_labels, all_labels, Eax, location_name, is_register, names_among, byte_at, FindAllAs, with_put}
+use Rattle.litmus_reader.proofs.Vocabulary.{number, Atom, PlaceView, Location, Register, BodyView, TextNames, all_registers, with_name, code_in, CodeLabel, thread_labels, all_labels, Eax, location_name, is_register, names_among, byte_at, FindAllAs, with_put}
 use Rattle.litmus_reader.proofs.Vocabulary.{no_names, noted, stored, with_initial, value_of, is_of_location, is_of_register, entry_atoms, memory_from, registers_from, thread_in, thread_by}
 use Rattle.std.proofs.Math.Bool.{or-false, or-true, or_assoc}
 use Rattle.tso_program.specs.declared.atom.Atom.TheVariants as atom
@@ -97,7 +97,7 @@ pub loaded_all : (n : ℕ) (atoms : List Atom) → fold with_initial (replicate 
 loaded_all n atoms = ap (λ (table : List (List ℕ)). fold with_initial table atoms) (all_same n (replicate 6 0)) ∙ changed_by_all (λ f. grid (λ t r. f (t, r)) n) with_initial (λ p v a. if is_of_register p.0 p.1 a then value_of a else v) (λ f a. loaded_grid (λ t r. f (t, r)) n a) (λ (_ : ℕ × Reg). 0) atoms
 
 -- threads with their registers and labels from tables
-pub threads_filled : (numbered : List ℕ → ℕ) (body : BodyView) (registers : List (List ℕ)) (found : List (List Label)) (atoms : List Atom) → atoms ≡ entry_atoms numbered body.entries
+pub threads_filled : (numbered : List ℕ → ℕ) (body : BodyView) (registers : List (List ℕ)) (found : List (List CodeLabel)) (atoms : List Atom) → atoms ≡ entry_atoms numbered body.entries
     → registers ≡ map (registers_from atoms) (range_with_len 0 body.threads) → FindAllAs found (all_labels body)
     → map (thread_in numbered body.rows registers found) (range_with_len 0 (length found)) ≡ map (thread_by numbered byte_at body) (range_with_len 0 body.threads)
 threads_filled numbered body registers found atoms said table known =

@@ -6,6 +6,7 @@ pub mod Filled
 pub mod NamesOnce
 pub mod FirstValues
 pub mod Faults
+pub mod Fronts
 pub mod Elements
 pub mod Positions
 pub mod Targets
@@ -17,6 +18,3 @@ pub mod WholeTexts
 pub mod Meant
 pub mod ExampleLaws
 pub mod ShownPlaces
--- words of the crates below, passed on
-pub use Rattle.text_tokens.proofs.NumberLaws
-pub use Rattle.text_tokens.proofs.PieceLaws

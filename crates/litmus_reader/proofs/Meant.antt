@@ -1,8 +1,8 @@
 -- From what was read of a text to what the text stands for.
-use Rattle.litmus_reader.proofs.Vocabulary.{◌≡◌, ℕ, ◌≤◌, false, List, length, Option, Some, None, refl, sym, ap, ◌∙◌, subst, arith, inl, inr, ⊤, is_some, map, filter_map, IsUtf8, cases_lt, cases_Bool, Thread, Listing, ProgramFault, Tok, Lexes, Litmus}
-use Rattle.litmus_reader.proofs.Vocabulary.{ReadFault, OutOfMemory, MatchFault, TextNames, number_in, byte_in, byte_at, listing_by, position_in, all_labels, first_long, AreSkipped, Means, StandsFor, StandsForNothing, IsReadOf, MAX_LOCATIONS, location_name}
+use Rattle.litmus_reader.proofs.Vocabulary.{◌≡◌, ℕ, ◌≤◌, false, List, length, Option, Some, None, refl, sym, ap, ◌∙◌, subst, arith, inl, inr, ⊤, is_some, map, filter_map, cases_lt, cases_Bool, Thread, Listing, ProgramFault, Tok, Lexes, Litmus}
+use Rattle.litmus_reader.proofs.Vocabulary.{ReadFault, OutOfMemory, MatchFault, TextNames, number_in, byte_in, byte_at, listing_by, position_in, all_labels, first_long, AreSkipped, Means, StandsFor, StandsForNothing, BreaksFirst, RefusesBy, IsReadOf, MAX_LOCATIONS, location_name}
 use Rattle.litmus_reader.proofs.Vocabulary.{places, names_of, listing_of, condition_of, observed_of}
-use Rattle.litmus_reader.proofs.{NamesOnce.in_order_once, NamesOnce.entries_stand, FirstValues.listing_filled, Faults.match_map, Faults.match_memory}
+use Rattle.litmus_reader.proofs.{NamesOnce.in_order_once, NamesOnce.entries_stand, FirstValues.listing_filled, Faults.match_map, Faults.match_memory, Fronts.front_read}
 use Rattle.litmus_reader.proofs.Numbered.{AreLimits, IsOver, byte_same, listing_same, memory_len, over_same, none_long}
 
 module _ (text : List ℕ) (read : Litmus Listing) (is : IsReadOf text read) where
@@ -112,9 +112,9 @@ module _ (text : List ℕ) (read : Litmus Listing) (is : IsReadOf text read) whe
         let not_broken : (limit : ProgramFault) → first read.program.threads read.program.memory ≡ Some limit → ⊥ = λ limit e. let bad : None ≡ Some limit = sym none ∙ sym same_first ∙ e in cc in
         match_memory fault ⊥ (λ limit. first read.program.threads read.program.memory ≡ Some limit) ⊤ ⊥ (λ x. x) not_broken (λ x. x) h
 
-    pub broken : (fault : ReadFault) → MatchFault fault ⊥ (λ limit. first read.program.threads read.program.memory ≡ Some limit) ⊤ ⊥
-        → MatchFault fault (IsUtf8 text → ⊥) (λ limit. (litmus : Litmus Listing) × StandsFor text litmus × (first litmus.program.threads litmus.program.memory ≡ Some limit)) ⊤ (StandsForNothing text)
-    broken fault h =
-        match_map fault ⊥ (IsUtf8 text → ⊥) (λ limit. first read.program.threads read.program.memory ≡ Some limit)
-        (λ limit. (litmus : Litmus Listing) × StandsFor text litmus × (first litmus.program.threads litmus.program.memory ≡ Some limit)) ⊤ ⊤ ⊥ (StandsForNothing text)
-        (λ x. absurd x) (λ limit e. (meant, stands, sym same_first ∙ e)) (λ x. x) (λ x. absurd x) h
+    pub broken : (fault : ReadFault) → MatchFault fault ⊥ (λ limit. first read.program.threads read.program.memory ≡ Some limit) ⊤ ⊥ → RefusesBy first text fault
+    broken fault h = inr (
+      front_read text read is,
+      match_map fault ⊥ ⊥ (λ limit. first read.program.threads read.program.memory ≡ Some limit) (BreaksFirst first text) ⊤ ⊤ ⊥ (StandsForNothing text)
+          (λ x. x) (λ limit e. (meant, stands, sym same_first ∙ e)) (λ x. x) (λ x. absurd x) h,
+    )

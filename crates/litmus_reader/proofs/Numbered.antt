@@ -1,10 +1,11 @@
 -- Locations' numbers as bytes serve as well: they are the numbers where there are few, and with many the same limit is broken.
 use Rattle.litmus_reader.proofs.Vocabulary.{◌≡◌, ℕ, ◌+◌, ◌<◌, ◌≤◌, Bool, true, false, cond, List, [], ◌∷◌, length, map, Option, Some, None, refl, sym, ap, ◌∙◌, arith, get_or, inl, inr, ◌⊎◌, ltb-false, not-true, prefix_len-le-length, NoThreads, TooManyThreads}
 use Rattle.litmus_reader.proofs.Vocabulary.{TooLong, Locations, prefix_len_passes, ◌==◌, nat_lt, not, is_some, unwrap_or, if◌then◌else◌, range_with_len, prefix_len, bytes_eq, lt-ltb, length-map-range_with_len, Thread, ProgramFault, IsWithinLimits}
-use Rattle.litmus_reader.proofs.Vocabulary.{IsWithinFencedLimits, first_long, first_fault, first_fenced_fault, BodyView, number_in, cases_Bool, get_or-map-range_with_len, Label, thread_labels, position_in, code_in, byte_in, byte_at, is_of_location}
+use Rattle.litmus_reader.proofs.Vocabulary.{IsWithinFencedLimits, first_long, first_fault, first_fenced_fault, BodyView, number_in, cases_Bool, get_or-map-range_with_len, CodeLabel, thread_labels, position_in, code_in, byte_in, byte_at, is_of_location}
 use Rattle.litmus_reader.proofs.Vocabulary.{entry_atoms, last_said, registers_from, memory_from, thread_by, listing_by, MAX_THREADS, MAX_LOCATIONS, MAX_INSTRUCTIONS, MAX_FENCED_INSTRUCTIONS}
 use Rattle.tso_program.proofs.WithinLimits.{limits_are_the_refusals, fenced_limits_are_the_refusals}
 use Rattle.litmus_reader.proofs.{Filled.range_same, Positions.byte_is, Positions.code_count, Positions.position_same}
+use Rattle.tso_program.proofs.Found.{some_test}
 
 -- ---- few names
 
@@ -72,14 +73,14 @@ prefix_same longest f g [] h = refl
 prefix_same longest f g (t ∷ ts) h = λ i. cond (not (nat_lt longest (h t i))) (1 + prefix_same longest f g ts h i) 0
 
 -- as many locations as names
-pub memory_len : (numbered : List ℕ → ℕ) (positioned : List Label → List ℕ → ℕ) (locations : ℕ) (body : BodyView) → length (listing_by numbered positioned locations body).memory ≡ locations
+pub memory_len : (numbered : List ℕ → ℕ) (positioned : List CodeLabel → List ℕ → ℕ) (locations : ℕ) (body : BodyView) → length (listing_by numbered positioned locations body).memory ≡ locations
 memory_len numbered positioned locations body = length-map-range_with_len (λ l. last_said (is_of_location l) (entry_atoms numbered body.entries)) 0 locations
 
 -- many locations, or a long thread
-abbrev pub IsOver : ℕ → (List ℕ → ℕ) → (List Label → List ℕ → ℕ) → ℕ → BodyView → Type 0
+abbrev pub IsOver : ℕ → (List ℕ → ℕ) → (List CodeLabel → List ℕ → ℕ) → ℕ → BodyView → Type 0
 IsOver longest numbered positioned locations body = (MAX_LOCATIONS < locations) ⊎ (is_some (first_long longest (listing_by numbered positioned locations body).threads) ≡ true)
 
-long_len : (longest : ℕ) (a b : List ℕ → ℕ) (p q : List Label → List ℕ → ℕ) (locations : ℕ) (body : BodyView)
+long_len : (longest : ℕ) (a b : List ℕ → ℕ) (p q : List CodeLabel → List ℕ → ℕ) (locations : ℕ) (body : BodyView)
     → first_long longest (listing_by a p locations body).threads ≡ first_long longest (listing_by b q locations body).threads
 long_len longest a b p q locations body =
     let f = thread_by a p body in
@@ -90,7 +91,7 @@ long_len longest a b p q locations body =
     λ i. cond (nat_lt (e i) (l i)) (Some (e i)) None
 
 module _ (Within : List Thread → List ℕ → Type 0) (first : List Thread → List ℕ → Option ProgramFault) (limits : AreLimits Within first) where
-  past_of : (numbered : List ℕ → ℕ) (positioned : List Label → List ℕ → ℕ) (locations : ℕ) (body : BodyView) → IsOver limits.longest numbered positioned locations body
+  past_of : (numbered : List ℕ → ℕ) (positioned : List CodeLabel → List ℕ → ℕ) (locations : ℕ) (body : BodyView) → IsOver limits.longest numbered positioned locations body
       → first (listing_by numbered positioned locations body).threads (listing_by numbered positioned locations body).memory
       ≡ past_fault body.threads (first_long limits.longest (listing_by numbered positioned locations body).threads)
   past_of numbered positioned locations body over =
@@ -102,7 +103,7 @@ module _ (Within : List Thread → List ℕ → Type 0) (first : List Thread →
       ]
 
   -- with many names or a long thread the first limit that is broken is the same, however they are numbered
-  pub over_same : (a b : List ℕ → ℕ) (p q : List Label → List ℕ → ℕ) (locations : ℕ) (body : BodyView) → IsOver limits.longest a p locations body
+  pub over_same : (a b : List ℕ → ℕ) (p q : List CodeLabel → List ℕ → ℕ) (locations : ℕ) (body : BodyView) → IsOver limits.longest a p locations body
       → first (listing_by a p locations body).threads (listing_by a p locations body).memory ≡ first (listing_by b q locations body).threads (listing_by b q locations body).memory
   over_same a b p q locations body over =
       let len = long_len limits.longest a b p q locations body in
@@ -120,16 +121,12 @@ module _ (Within : List Thread → List ℕ → Type 0) (first : List Thread →
 
 -- ---- few names and short threads
 
-none_there : (b : Bool) (n : ℕ) → is_some (if b then Some n else None) ≡ false → b ≡ false
-none_there true n e = absurd cc
-none_there false n e = refl
-
 -- each thread is short
 short : (longest : ℕ) (f : ℕ → Thread) (n : ℕ) → is_some (first_long longest (map f (range_with_len 0 n))) ≡ false → (t : ℕ) → t < n → length (f t).code ≤ longest
 short longest f n none t lt =
     let xs = map f (range_with_len 0 n) in
     let passes : Thread → Bool = λ thread. not (nat_lt longest (length thread.code)) in
-    let all : length xs ≤ prefix_len passes xs = ltb-false (prefix_len passes xs) (length xs) (none_there (nat_lt (prefix_len passes xs) (length xs)) (prefix_len passes xs) none) in
+    let all : length xs ≤ prefix_len passes xs = ltb-false (prefix_len passes xs) (length xs) (some_test (nat_lt (prefix_len passes xs) (length xs)) (prefix_len passes xs) none) in
     let at : passes (get_or xs t (f t)) ≡ true = prefix_len_passes passes xs t (f t) (omega (arith, lt, all, length-map-range_with_len f 0 n)) in
     ltb-false longest (length (f t).code) (not-true (nat_lt longest (length (f t).code)) (ap passes (sym (get_or-map-range_with_len f 0 n t t (f t) lt (omega arith))) ∙ at))
 

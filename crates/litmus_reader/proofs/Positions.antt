@@ -1,6 +1,6 @@
 -- Positions of labels as bytes: they are the positions where threads are short.
 use Rattle.litmus_reader.proofs.Vocabulary.{◌≡◌, ℕ, ◌+◌, ◌≤◌, Bool, true, false, cond, List, [], ◌∷◌, length, map, Option, Some, None, refl, arith, AllByRecursion, min, option_map, option_and_then, slice_get, find, cons_option, option_map_or, bytes_eq, Instr}
-use Rattle.litmus_reader.proofs.Vocabulary.{CodeView, CellView, Label, column, size, labels_behind, thread_labels, position_in, byte_at, instruction_of, code_in}
+use Rattle.litmus_reader.proofs.Vocabulary.{CodeView, CellView, CodeLabel, column, size, labels_behind, thread_labels, position_in, byte_at, instruction_of, code_in}
 use Rattle.litmus_reader.proofs.Elements.{all_more_so, all_of_both}
 
 -- how many instructions cells have
@@ -9,7 +9,7 @@ count [] = 0
 count (c ∷ cs) = size c + count cs
 
 -- the label stands at most behind so many instructions
-abbrev IsWithin : ℕ → Label → Type 0
+abbrev IsWithin : ℕ → CodeLabel → Type 0
 IsWithin n l = l.position ≤ n
 
 named_within : (n k : ℕ) (names : List (List ℕ)) → k ≤ n → AllByRecursion (IsWithin n) (map (λ l. record { name = l; position = k }) names)
@@ -23,11 +23,11 @@ labels_within k (c ∷ cs) =
     (named_within (k + (size c + count cs)) k c.labels (omega arith))
     (all_more_so (IsWithin (k + size c + count cs)) (IsWithin (k + (size c + count cs))) (λ l h. omega (arith, h)) (labels_behind (k + size c) cs) (labels_within (k + size c) cs))
 
-found_within : (n : ℕ) (b : Bool) (l : Label) (rest : Option Label) → l.position ≤ n → option_map_or (λ x. x.position) rest 0 ≤ n → option_map_or (λ x. x.position) (cond b (Some l) rest) 0 ≤ n
+found_within : (n : ℕ) (b : Bool) (l : CodeLabel) (rest : Option CodeLabel) → l.position ≤ n → option_map_or (λ x. x.position) rest 0 ≤ n → option_map_or (λ x. x.position) (cond b (Some l) rest) 0 ≤ n
 found_within n true l rest h g = h
 found_within n false l rest h g = g
 
-position_within : (n : ℕ) (ls : List Label) (name : List ℕ) → AllByRecursion (IsWithin n) ls → position_in ls name ≤ n
+position_within : (n : ℕ) (ls : List CodeLabel) (name : List ℕ) → AllByRecursion (IsWithin n) ls → position_in ls name ≤ n
 position_within n [] name h = omega arith
 position_within n (l ∷ ls) name h = found_within n (bytes_eq l.name name) l (find (λ x. bytes_eq x.name name) ls) h.0 (position_within n ls name h.1)
 

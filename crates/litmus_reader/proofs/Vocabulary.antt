@@ -45,15 +45,16 @@ pub use Rattle.tso_program.specs.declared.limits.TheConstants.{MAX_FENCED_INSTRU
 pub use Rattle.tso_program.specs.declared.listing.Listing.{Listing}
 pub use Rattle.tso_program.specs.declared.listing.Thread.{Thread}
 pub use Rattle.litmus_reader.specs.Faults.{IsOfAToken, MatchFault, of_lines}
+pub use Rattle.litmus_reader.specs.Fronts.{HasFront, IsNotUtf8, RefusesFront}
 pub use Rattle.litmus_reader.specs.Internal.Filling.{FindAllAs, FindsAs, byte_at, byte_in, entry_atoms, is_of_location, is_of_register, labels_in, last_said, listing_by, memory_from, no_names, noted}
 pub use Rattle.litmus_reader.specs.Internal.Filling.{registers_from, stored, texts, thread_by, thread_in, value_of, with_initial, with_label, with_put}
-pub use Rattle.litmus_reader.specs.Internal.Reading.{AreReadTokens, Found, HasNoParts, IsReadOf, IsSyntaxFault, ReadsOne, numbered_signs}
+pub use Rattle.litmus_reader.specs.Internal.Reading.{AreReadTokens, Found, HasNoParts, IsReadOf, IsSyntaxFault, ReadsOne, RefusesText, numbered_signs}
 pub use Rattle.litmus_reader.specs.Labels.{JumpsAreFound, all_labels, are_found, cell_jump, column, label_in, labels_behind, position_in, size, thread_labels}
 pub use Rattle.litmus_reader.specs.Meaning.{atom_of, code_in, condition_of, first_value, instruction_in, instruction_of, listing_of, memory_of, numbered_atom, observed_of, registers_of, sign_of}
 pub use Rattle.litmus_reader.specs.Names.{TextNames, all_registers, in_order, number_in, with_name}
 pub use Rattle.litmus_reader.specs.Places.{cell_places, cells_places, entry_place, is_register, location_name, names_among, names_of, places, row_places, sign_places}
 pub use Rattle.litmus_reader.specs.Shown.{ShowsNamedLocations, ShowsNamedRegisters, shown_by, with_place, with_places}
-pub use Rattle.litmus_reader.specs.Texts.{AreParts, BreaksFirst, Means, StandsFor, StandsForNothing}
+pub use Rattle.litmus_reader.specs.Texts.{AreParts, BreaksFirst, Means, RefusesBy, StandsFor, StandsForNothing}
 pub use Rattle.litmus_reader.specs.declared.fault.ReadFault.{ReadFault, TheVariants.NotUtf8, TheVariants.OutOfMemory, TheVariants.Program}
-pub use Rattle.litmus_reader.specs.declared.label.Label.{Label}
+pub use Rattle.litmus_reader.specs.declared.label.CodeLabel.{CodeLabel}
 pub use Rattle.litmus_reader.specs.declared.litmus.Litmus.{Litmus}

@@ -1,8 +1,8 @@
 -- What the first line, the skipped lines and the tokens of a text say of the whole text.
-use Rattle.litmus_reader.proofs.Vocabulary.{◌≡◌, ℕ, List, sym, ◌∙◌, subst, inl, ⊤, IsUtf8, Tok, AreAllTokens, Listing, ProgramFault, Litmus, ReadFault, OutOfMemory, MatchFault, of_lines, LineFault, AreSkipped, Means, StandsFor, StandsForNothing, AreReadTokens}
-use Rattle.litmus_reader.proofs.Vocabulary.{IsReadOf, HasNoParts, Lexes, LexesTo}
+use Rattle.litmus_reader.proofs.Vocabulary.{◌≡◌, ℕ, List, sym, ◌∙◌, subst, inl, inr, ⊤, IsUtf8, Tok, AreAllTokens, Listing, Litmus, ReadFault, MatchFault, AreSkipped, Means, StandsFor, StandsForNothing, AreReadTokens}
+use Rattle.litmus_reader.proofs.Vocabulary.{IsReadOf, HasNoParts, Lexes, LexesTo, RefusesText}
 use Rattle.litmus_lines.specs.FirstLine.{IsFirstLine}
-use Rattle.litmus_reader.proofs.{Faults.match_map, Faults.match_memory, Faults.match_lines, Whole.parts_whole}
+use Rattle.litmus_reader.proofs.{Faults.match_map, Whole.parts_whole}
 
 -- what first line, skipped lines and tokens were found
 pub record Split (text name lines others : List ℕ) (tokens : List Tok) : Type 0 where
@@ -41,26 +41,9 @@ no_parts text name lines others tokens split none litmus st =
     none m.body m.ending m.formula m.parts
 
 pub tokens_refused : (text name lines others : List ℕ) (tokens : List Tok) (fault : ReadFault) → Split text name lines others tokens → MatchFault fault ⊥ (λ _. ⊥) ⊤ (HasNoParts tokens)
-    → MatchFault fault (IsUtf8 text → ⊥) (λ _. ⊥) ⊤ (StandsForNothing text)
+    → RefusesText text fault
 tokens_refused text name lines others tokens fault split h =
-    match_map fault ⊥ (IsUtf8 text → ⊥) (λ _. ⊥) (λ _. ⊥) ⊤ ⊤ (HasNoParts tokens) (StandsForNothing text) (λ x. absurd x) (λ _ x. x) (λ x. x) (λ none. (split.utf8, no_parts text name lines others tokens split none)) h
-
-pub first_line_refused : (text : List ℕ) (fault : LineFault) → IsUtf8 text → ((name rest : List ℕ) → IsFirstLine text name rest → ⊥)
-    → MatchFault (of_lines fault) (IsUtf8 text → ⊥) (λ _. ⊥) ⊤ (StandsForNothing text)
-first_line_refused text fault utf8 none = match_lines fault (IsUtf8 text → ⊥) (λ _. ⊥) ⊤ (StandsForNothing text) (utf8, λ litmus st. none litmus.name st.lines st.first_line)
-
-pub skipped_lines_refused : (text name lines : List ℕ) (fault : LineFault) → IsUtf8 text → ((n rest : List ℕ) → IsFirstLine text n rest → (name ≡ n) × (lines ≡ rest))
-    → ((rest : List ℕ) → AreSkipped lines rest → ⊥) → MatchFault (of_lines fault) (IsUtf8 text → ⊥) (λ _. ⊥) ⊤ (StandsForNothing text)
-skipped_lines_refused text name lines fault utf8 first_only none =
-    match_lines fault (IsUtf8 text → ⊥) (λ _. ⊥) ⊤ (StandsForNothing text)
-    (utf8, λ litmus st. none st.others (subst (λ (l : List ℕ). AreSkipped l st.others) (sym (first_only litmus.name st.lines st.first_line).1) st.skipped))
-
--- ---- a reader of texts within limits, where nothing is read
-
-pub nothing_only : (text : List ℕ) (fault : ReadFault) (other : Litmus Listing) → MatchFault fault (IsUtf8 text → ⊥) (λ _. ⊥) ⊤ (StandsForNothing text) → StandsFor text other → fault ≡ OutOfMemory
-nothing_only text fault other h st = match_memory fault (IsUtf8 text → ⊥) (λ _. ⊥) ⊤ (StandsForNothing text) (λ none. none st.utf8) (λ _ x. x) (λ none. none.1 other st) h
-
-pub nothing_refused : (text : List ℕ) (fault : ReadFault) (Breaks : ProgramFault → Type 0) → MatchFault fault (IsUtf8 text → ⊥) (λ _. ⊥) ⊤ (StandsForNothing text)
-    → MatchFault fault (IsUtf8 text → ⊥) Breaks ⊤ (StandsForNothing text)
-nothing_refused text fault Breaks h =
-    match_map fault (IsUtf8 text → ⊥) (IsUtf8 text → ⊥) (λ _. ⊥) Breaks ⊤ ⊤ (StandsForNothing text) (StandsForNothing text) (λ x. x) (λ _ x. absurd x) (λ x. x) (λ x. x) h
+    inr (
+      record { name = name; lines = lines; others = others; utf8 = split.utf8; first_line = split.first_line; skipped = split.skipped },
+      match_map fault ⊥ ⊥ (λ _. ⊥) (λ _. ⊥) ⊤ ⊤ (HasNoParts tokens) (StandsForNothing text) (λ x. x) (λ _ x. x) (λ x. x) (λ none. (split.utf8, no_parts text name lines others tokens split none)) h,
+    )

@@ -3,19 +3,11 @@ pub mod Places
 pub mod Labels
 pub mod Meaning
 pub mod Faults
+pub mod Fronts
 pub mod Texts
 pub mod Shown
 pub mod Laws
 pub mod Example
 pub mod Internal
 -- words of the crates below, passed on
-pub use Rattle.litmus_lines.specs.FirstLine
-pub use Rattle.litmus_lines.specs.SkippedLines
-pub use Rattle.text_tokens.specs.Bytes
-pub use Rattle.text_tokens.specs.Comments
-pub use Rattle.text_tokens.specs.Lexing
-pub use Rattle.text_tokens.specs.Marks
 pub use Rattle.text_tokens.specs.Pieces
-pub use Rattle.text_tokens.specs.Space
-pub use Rattle.text_tokens.specs.Tokens
-pub use Rattle.text_tokens.specs.declared.token.Mark

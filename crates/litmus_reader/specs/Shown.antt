@@ -8,7 +8,8 @@ use Rattle.tso_program.specs.declared.shown.Shown.{Shown, TheVariants.All, TheVa
 use Rattle.tso_program.specs.declared.shown.ShownKind.{ShownKind}
 use Rattle.tso_program.specs.declared.shown.ShownKind.TheVariants as kind
 use Rattle.tso_program.specs.declared.listing.Listing.{Listing}
-use Rattle.tso_program.specs.Shown.{Question, asked, shows_register, shows_location}
+use Rattle.tso_program.specs.Shown.{asked, shows_register, shows_location}
+use Rattle.tso_program.specs.declared.question.Question.{Question}
 use Rattle.tso_program.specs.declared.atom.Atom.{Atom}
 use Rattle.tso_program.specs.Tree.{Tree}
 use Rattle.tso_program.specs.Named.{with_register, with_location, with_named, MentionsRegister, MentionsLocation}

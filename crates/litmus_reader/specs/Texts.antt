@@ -1,5 +1,5 @@
 -- Litmus texts, whole: what a text stands for.
-use Rattle.std.specs.Prelude.{◌≡◌, ℕ, List, [], map, Option, Some, ⊤}
+use Rattle.std.specs.Prelude.{◌≡◌, ◌⊎◌, ℕ, List, [], map, Option, Some, ⊤}
 use Rattle.std.specs.Str.{IsUtf8}
 use Rattle.tso_program.specs.declared.listing.Thread.{Thread}
 use Rattle.tso_program.specs.declared.listing.Listing.{Listing}
@@ -14,6 +14,7 @@ use Rattle.litmus_syntax.specs.Grammar.{IsBody, IsEnding}
 use Rattle.litmus_reader.specs.declared.litmus.Litmus.{Litmus}
 use Rattle.litmus_reader.specs.declared.fault.ReadFault.{ReadFault, TheVariants.OutOfMemory}
 use Rattle.litmus_reader.specs.Faults.{MatchFault}
+use Rattle.litmus_reader.specs.Fronts.{HasFront, RefusesFront}
 use Rattle.litmus_reader.specs.Names.{number_in}
 use Rattle.litmus_reader.specs.Places.{names_of}
 use Rattle.litmus_lines.specs.FirstLine.{IsFirstLine}
@@ -70,9 +71,10 @@ BreaksFirst first text limit = (litmus : Litmus Listing) × StandsFor text litmu
 abbrev pub StandsForNothing : List ℕ → Type 0
 StandsForNothing text = IsUtf8 text × ((litmus : Litmus Listing) → StandsFor text litmus → ⊥)
 
--- What a fault says of a text: it is not UTF-8; its program breaks that limit first; or it is UTF-8 and stands for no program.
+-- What a fault says of a text: it has no front, for the first cause and at its line; or it has one, and its program breaks
+-- that limit first, or it stands for no program.
 abbrev pub RefusesBy : (List Thread → List ℕ → Option ProgramFault) → List ℕ → ReadFault → Type 0
-RefusesBy first text fault = MatchFault fault (IsUtf8 text → ⊥) (BreaksFirst first text) ⊤ (StandsForNothing text)
+RefusesBy first text fault = RefusesFront text fault ⊎ (HasFront text × MatchFault fault ⊥ (BreaksFirst first text) ⊤ (StandsForNothing text))
 
 abbrev pub Refuses : List ℕ → ReadFault → Type 0
 Refuses text fault = RefusesBy first_fault text fault
@@ -82,6 +84,6 @@ pub record IsNoLitmus (text : List ℕ) (fault : ReadFault) : Type 0 where
   pub why : Refuses text fault
   pub none : (litmus : Litmus Listing) → IsLitmus text litmus → fault ≡ OutOfMemory
 
--- the same by the limits of a fenced program
+-- why bytes are not the litmus text of a fenced program
 abbrev pub RefusesFenced : List ℕ → ReadFault → Type 0
 RefusesFenced text fault = RefusesBy first_fenced_fault text fault

@@ -5,7 +5,7 @@ ghost use Rattle.litmus_syntax.specs.Views.{code_view, cell_view, row_view};
 ghost use Rattle.litmus_reader.specs.Labels.{label_in, jump_of, is_found, are_found};
 ghost use Rattle.litmus_reader.specs.Internal.Filling.{byte_at, with_label, FindsAs, FindAllAs};
 
-use crate::label::Label;
+use crate::label::CodeLabel;
 use indexmap::IndexMap;
 use litmus_syntax::{Cell, Code};
 use std::alloc::{AllocError, Global};
@@ -20,7 +20,7 @@ pub(crate) struct Targets {
 
 impl Model for Targets {
     ghost use Rattle.std.specs.Prelude.{List};
-    ghost use Rattle.litmus_reader.specs.declared.label.Label.{Label as LabelValue};
+    ghost use Rattle.litmus_reader.specs.declared.label.CodeLabel.{CodeLabel as LabelValue};
     ghost use Rattle.litmus_reader.specs.Internal.Filling.{labels_in};
 
     ghost Value = { List LabelValue };
@@ -30,7 +30,7 @@ impl Model for Targets {
 
 impl Targets {
     /// A label is added, if its name is new.
-    fn add(&mut self, alloc: Global, label: &Label) -> Result<(), AllocError>
+    fn add(&mut self, alloc: Global, label: &CodeLabel) -> Result<(), AllocError>
         ensures { OnOk result (self.new ≡ with_label self.old label.now) }
     {
         if self.find(label.name.as_slice()).is_none() {
@@ -40,7 +40,7 @@ impl Targets {
         Ok(())
     }
 
-    fn new(alloc: Global, labels: &[Label]) -> Result<Targets, AllocError>
+    fn new(alloc: Global, labels: &[CodeLabel]) -> Result<Targets, AllocError>
         ensures { IfOk result (λ targets. FindsAs targets labels.now) }
     {
         let mut targets = Targets {
@@ -69,7 +69,10 @@ impl Targets {
 }
 
 /// The labels of each thread, found by name.
-pub(crate) fn targets_of(alloc: Global, labels: &[Items<Label>]) -> Result<Vec<Targets>, AllocError>
+pub(crate) fn targets_of(
+    alloc: Global,
+    labels: &[Items<CodeLabel>],
+) -> Result<Vec<Targets>, AllocError>
     ensures { IfOk result (λ targets. FindAllAs targets.items labels.now) }
 {
     let mut targets = Vec::new(alloc);

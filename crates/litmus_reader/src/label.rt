@@ -9,7 +9,7 @@ use tso_program::Items;
 
 /// A label of a thread.
 #[derive(Drop)]
-pub struct Label {
+pub struct CodeLabel {
     pub name: Items<u8>,
     /// The number of the instruction that it stands before, in its thread; how many there are, if it stands at the end.
     pub position: usize,
@@ -18,7 +18,7 @@ pub struct Label {
 /// Adds the labels of a cell, which stand at this position.
 fn push_labels(
     alloc: Global,
-    labels: &mut Vec<Label>,
+    labels: &mut Vec<CodeLabel>,
     names: &[&[u8]],
     position: usize,
 ) -> Result<(), AllocError>
@@ -26,7 +26,7 @@ fn push_labels(
 {
     for name in names {
         let name = Items::of(Vec::from_slice(alloc, name)?);
-        labels.push(Label { name, position })?;
+        labels.push(CodeLabel { name, position })?;
     }
     Ok(())
 }
@@ -54,7 +54,7 @@ fn thread_labels(
     alloc: Global,
     rows: &[Vec<Cell<'_>>],
     thread: usize,
-) -> Result<Vec<Label>, AllocError>
+) -> Result<Vec<CodeLabel>, AllocError>
     ensures { IfOk result (λ labels. labels.items ≡ thread_labels (map row_view rows.now) thread) }
 {
     let mut labels = Vec::new(alloc);
@@ -69,7 +69,10 @@ fn thread_labels(
 }
 
 /// Each thread's labels, in text order.
-pub(crate) fn all_labels(alloc: Global, body: &Body<'_>) -> Result<Vec<Items<Label>>, AllocError>
+pub(crate) fn all_labels(
+    alloc: Global,
+    body: &Body<'_>,
+) -> Result<Vec<Items<CodeLabel>>, AllocError>
     ensures { IfOk result (λ labels. labels.items ≡ all_labels (body_view body.now)) }
 {
     let mut labels = Vec::new(alloc);

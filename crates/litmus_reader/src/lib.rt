@@ -24,7 +24,7 @@ mod reader;
 mod shown;
 
 pub use fault::ReadFault;
-pub use label::Label;
+pub use label::CodeLabel;
 pub use laws::{store_buffering_is_read, texts_name_few_locations};
 pub use litmus::Litmus;
 pub use names::{NameTable, location_name, register_name};

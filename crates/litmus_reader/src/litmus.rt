@@ -1,5 +1,5 @@
 //! What a litmus text stands for.
-use crate::label::Label;
+use crate::label::CodeLabel;
 use crate::names::NameTable;
 use crate::observed::Observed;
 use conditions::Condition;
@@ -16,5 +16,5 @@ pub struct Litmus<P> {
     /// The places behind `locations`, in order.
     pub observed: Items<Observed>,
     /// Each thread's labels, in text order.
-    pub labels: Items<Items<Label>>,
+    pub labels: Items<Items<CodeLabel>>,
 }

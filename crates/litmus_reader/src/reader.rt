@@ -1,11 +1,12 @@
 //! Reading a litmus text.
-ghost use Rattle.std.specs.Prelude.{◌≡◌, ◌≤◌, ⊤, ℕ, List, length, IfOk, IfErr, OnOk, OnErr, MatchResult};
+ghost use Rattle.std.specs.Prelude.{◌≡◌, ◌≤◌, ⊤, ℕ, List, length, IfOk, IfErr, OnOk, OnErr, IsErrOf, MatchResult};
 ghost use Rattle.std.specs.Str.{IsUtf8};
 ghost use Rattle.tso_program.specs.declared.listing.Listing.{Listing};
 ghost use Rattle.litmus_reader.specs.declared.litmus.Litmus.{Litmus as LitmusValue};
-ghost use Rattle.litmus_reader.specs.declared.fault.ReadFault.TheVariants.{OutOfMemory};
+ghost use Rattle.litmus_reader.specs.declared.fault.ReadFault.{ReadFault as Fault, TheVariants.OutOfMemory};
 ghost use Rattle.litmus_syntax.specs.Views.{body_view, ending_view};
 ghost use Rattle.litmus_reader.specs.Faults.{MatchFault};
+ghost use Rattle.litmus_reader.specs.Fronts.{IsNotUtf8, RefusesFront};
 ghost use Rattle.litmus_reader.specs.Labels.{all_labels, JumpsAreFound};
 ghost use Rattle.litmus_reader.specs.Internal.Filling.{byte_in, byte_at, listing_by};
 ghost use Rattle.litmus_reader.specs.Texts.{IsLitmus, IsFencedLitmus, Refuses, RefusesFenced};
@@ -14,7 +15,7 @@ ghost use Rattle.litmus_reader.specs.Internal.Reading.{Found, IsSyntaxFault, Rea
 use crate::condition::read_formula;
 use crate::fault::ReadFault;
 use crate::jumps::{lost_jump, targets_of};
-use crate::label::{Label, all_labels};
+use crate::label::{CodeLabel, all_labels};
 use crate::lines::{fault_at, header_line};
 use crate::litmus::Litmus;
 use crate::names::NameTable;
@@ -32,7 +33,7 @@ use tso_program::{FencedProgram, Items, Listing, Program};
 /// Whether the bytes are UTF-8; if not, the line of the first that isn't.
 fn check_utf8(bytes: &[u8]) -> Result<(), ReadFault>
     ensures ok { OnOk result (IsUtf8 bytes.now) }
-    ensures err { IfErr result (λ fault. MatchFault fault (IsUtf8 bytes.now → ⊥) (λ _. ⊥) ⊥ ⊥) }
+    ensures err { IfErr result (IsNotUtf8 bytes.now) }
 {
     match str::from_utf8(bytes) {
         Ok(_) => Ok(()),
@@ -57,7 +58,7 @@ fn jumping(
     tokens: &Tokens,
     names: &NameTable,
     body: &Body<'_>,
-    labels: &[Items<Label>],
+    labels: &[Items<CodeLabel>],
 ) -> Result<Listing, ReadFault>
     requires { labels.now ≡ all_labels (body_view body.now) }
     ensures made { IfOk result (λ listing. listing ≡ listing_by (byte_in names.now.locations) byte_at (length names.now.locations) (body_view body.now)) }
@@ -146,6 +147,7 @@ pub fn read_litmus(alloc: Global, bytes: &[u8]) -> Result<Litmus<Program>, ReadF
     ensures found { IfOk result (λ litmus. IsLitmus bytes.now litmus) }
     ensures only { (litmus : LitmusValue Listing) → IsLitmus bytes.now litmus
         → MatchResult result (λ read. read ≡ litmus) (λ fault. fault ≡ OutOfMemory) }
+    ensures front { (fault : Fault) → RefusesFront bytes.now fault → IsErrOf result fault }
     ensures refused { IfErr result (λ fault. Refuses bytes.now fault) }
 {
     let (read, line) = read_text(alloc, bytes)?;
@@ -165,6 +167,7 @@ pub fn read_fenced(alloc: Global, bytes: &[u8]) -> Result<Litmus<FencedProgram>,
     ensures found { IfOk result (λ litmus. IsFencedLitmus bytes.now litmus) }
     ensures only { (litmus : LitmusValue Listing) → IsFencedLitmus bytes.now litmus
         → MatchResult result (λ read. read ≡ litmus) (λ fault. fault ≡ OutOfMemory) }
+    ensures front { (fault : Fault) → RefusesFront bytes.now fault → IsErrOf result fault }
     ensures refused { IfErr result (λ fault. RefusesFenced bytes.now fault) }
 {
     let (read, line) = read_text(alloc, bytes)?;

@@ -1,6 +1,7 @@
 //! What a litmus text asks to be shown.
-ghost use Rattle.std.specs.Prelude.{◌≡◌, ◌≢◌, IfOk};
+ghost use Rattle.std.specs.Prelude.{◌≡◌, ◌≢◌, MatchResult};
 ghost use Rattle.tso_program.specs.declared.shown.Shown.TheVariants.{All};
+ghost use Rattle.tso_program.specs.declared.shown.ShownKind.TheVariants.{Condition};
 ghost use Rattle.litmus_reader.specs.Shown.{with_place, with_places, shown_as, shown_by, ShowsNamedRegisters, ShowsNamedLocations};
 
 use crate::litmus::Litmus;
@@ -48,9 +49,9 @@ impl<P> Litmus<P> {
     }
 
     /// What is shown of outcomes: all of them, what [`Litmus::shown`] gives, or whether the condition's formula is
-    /// true.
+    /// true. The formula is shared, and refused where the count of its copies is full; nothing else is refused.
     pub fn shown_as(&self, kind: ShownKind) -> Result<Shown, AllocError>
-        ensures { IfOk result (λ shown. shown ≡ shown_as self.now kind) }
+        ensures { MatchResult result (λ shown. shown ≡ shown_as self.now kind) (λ _. kind ≡ Condition) }
     {
         match kind {
             ShownKind::Whole => Ok(Shown::All),

@@ -24,7 +24,7 @@ quantifier_takes ts =
     tested (Quantifies ts) (begins_with_word (codes "forall") ts) _ _ (λ g. made (Quantifies ts) (keyword_at (codes "forall") ts) (λ rest. (Forall, rest)) (keyword_takes (codes "forall") ts))
     (λ g. made (Quantifies ts) (keyword_at (codes "exists") ts) (λ rest. (Exists, rest)) (keyword_takes (codes "exists") ts)))
 
-quantifier_again : (q : Quantifier) (ts rest : List Tok) → IsQuantifier q ts rest → quantifier_at ts ≡ Some (q, rest)
+pub quantifier_again : (q : Quantifier) (ts rest : List Tok) → IsQuantifier q ts rest → quantifier_at ts ≡ Some (q, rest)
 unfolding quantifier_at
 quantifier_again NotExists ts rest h = rw (h.1, h.2) refl
 quantifier_again q ts rest h = rw h refl

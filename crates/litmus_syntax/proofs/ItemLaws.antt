@@ -10,7 +10,7 @@ pub record IsRead {X : Type 0} (Item : X → List Tok → List Tok → Type 0) (
   pub takes : (ts : List Tok) (x : X × List Tok) → item_at ts ≡ Some x → Item x.0 ts x.1
   pub again : (x : X) (ts rest : List Tok) → Item x ts rest → item_at ts ≡ Some (x, rest)
 
-abbrev pair_of : {X : Type 0} → X → List Tok → X × List Tok
+abbrev pub pair_of : {X : Type 0} → X → List Tok → X × List Tok
 pair_of x ts = (x, ts)
 
 pub only_read : {X : Type 0} (Item : X → List Tok → List Tok → Type 0) (item_at : List Tok → Option (X × List Tok)) → IsRead Item item_at

@@ -34,7 +34,7 @@ items_are_read : (threads : ℕ) → IsRead (IsObservedItem threads) (observed_i
 items_are_read threads = record { takes = item_takes threads; again = item_again threads }
 
 -- no place begins with `]`
-no_place : (p : PlaceView) (ts rest last : List Tok) → mark the.CloseBracket ts last → IsPlace p ts rest → ⊥
+pub no_place : (p : PlaceView) (ts rest last : List Tok) → mark the.CloseBracket ts last → IsPlace p ts rest → ⊥
 no_place (Location x) ts rest last is (inl h) = let bad = sym is ∙ h.1 in cc
 no_place (Location x) ts rest last is (inr h) = let bad = sym is ∙ h.1 in cc
 no_place (Register t r) ts rest last is h = let bad = sym is ∙ h.1 in cc

@@ -9,12 +9,8 @@ const CELL: &[&str] = &["|", ";", ":"];
 pub(crate) const INSTRUCTION: &[Rule] = &[
     Rule {
         after: &[";"],
-        words: &["<not_exists>"],
-        said: "is not read; a condition is `exists`, `~exists` or `forall`, and a formula",
-    },
-    Rule {
-        after: &[";"],
         words: &[
+            "<not_exists>",
             "EXIST",
             "EXISTS",
             "EXSTS",

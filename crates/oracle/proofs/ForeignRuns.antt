@@ -1,5 +1,5 @@
 -- What a table and a replay say of foreign runs.
-use Rattle.oracle.proofs.Vocabulary.{◌≡◌, ◌↔◌, ℕ, Bool, true, false, IsTrue, List, Some, Contains, slice_get, sym, ap, ◌∙◌, Result, Ok, Err, IfOk, IfErr, is_ok, Question, asked, Machine, StoreBufferMachine, no_gaps, IsRun, Listing, Outcome, Shown, Label}
+use Rattle.oracle.proofs.Vocabulary.{◌≡◌, ◌↔◌, ℕ, Bool, true, false, IsTrue, List, Some, Contains, slice_get, sym, ap, ◌∙◌, Result, Ok, Err, IfOk, IfErr, is_ok, Question, Machine, StoreBufferMachine, no_gaps, IsRun, Listing, Outcome, Label}
 use Rattle.oracle.proofs.Vocabulary.{ReplayFaultIs, IsShownRun, IsForeignRun, ForeignFaultIs, of_replay}
 use Rattle.std.proofs.lemmas.Option.{same_Some}
 use Rattle.tso_program.specs.Shown.{show}
@@ -10,10 +10,6 @@ use Rattle.tso_machine.proofs.Refused.{no_fault}
 use Rattle.tree_laws.specs.Ascending.{BelongsAt}
 use Rattle.tree_laws.proofs.{Lists.found_is_here, AscendingSearched.not_there}
 use Rattle.oracle.specs.declared.fault.ForeignFault.TheVariants as foreign
-
--- a question by its parts
-pub same_question : (q : Question) (p : Listing) (shown : Shown) → p ≡ q.program → shown ≡ q.shown → asked p shown ≡ q
-same_question q p shown program is = λ i. record { program = program i; shown = is i }
 
 -- a run has one outcome
 pub one_end : (p : Listing) (mode : Machine) (labels : List Label) (a b : Outcome) → IsRun p mode labels a → IsRun p mode labels b → a ≡ b

@@ -8,7 +8,8 @@ pub use Rattle.tso_machine.specs.Machine.{IsRun, Machine, StoreBufferMachine, no
 pub use Rattle.tso_machine.specs.Modes.{ArePassed}
 pub use Rattle.tso_machine.specs.Outcomes.{IsForeignRun, IsSequentialOutcome, IsShownRun}
 pub use Rattle.tso_machine.specs.declared.label.Label.{Label}
-pub use Rattle.tso_program.specs.Shown.{Question, asked}
+pub use Rattle.tso_program.specs.Shown.{asked}
+pub use Rattle.tso_program.specs.declared.question.Question.{Question}
 pub use Rattle.tso_program.specs.declared.listing.Listing.{Listing}
 pub use Rattle.tso_program.specs.declared.outcome.Outcome.{Outcome}
 pub use Rattle.tso_program.specs.declared.shown.Shown.{Shown}

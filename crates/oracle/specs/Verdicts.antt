@@ -2,7 +2,7 @@
 use Rattle.std.specs.Prelude.{◌≡◌, ℕ, true}
 use Rattle.std.specs.FinSet as set
 use Rattle.gap_sets.specs.Gaps.{SetOfGaps}
-use Rattle.tso_program.specs.Shown.{Question}
+use Rattle.tso_program.specs.declared.question.Question.{Question}
 use Rattle.oracle.specs.declared.oracle.Verdict.{Verdict, TheVariants.Foreign, TheVariants.Serves}
 use Rattle.oracle.specs.Facts as facts
 

@@ -1,7 +1,6 @@
 //! Runs that leave an outcome which no sequential run has.
 ghost use Rattle.std.specs.Prelude.{◌≡◌, IfOk, IfErr, IsOkUnless};
 ghost use Rattle.tso_program.specs.declared.outcome.Outcome.{Outcome};
-ghost use Rattle.tso_program.specs.Shown.{asked};
 ghost use Rattle.tso_machine.specs.Machine.{StoreBufferMachine, no_gaps};
 ghost use Rattle.tso_machine.specs.Modes.{ArePassed};
 ghost use Rattle.tso_machine.specs.Outcomes.{IsShownRun, IsForeignRun};
@@ -14,14 +13,13 @@ use gap_sets::GapSet;
 use std::alloc::{AllocError, Global};
 use std::marker;
 use tso_machine::{Ended, Label, Model, ReplayFault, replay_shown};
-use tso_program::{Outcome, Program, Shown};
+use tso_program::{Outcome, Program, Question};
 
 /// A run of a program under x86-TSO, with no gap fenced, of whose outcome something else is shown than
 /// of that of any sequential run.
 #[derive(Drop)]
 pub struct ForeignRun {
-    program: Program,
-    shown: Shown,
+    question: Question,
     labels: Vec<Label>,
     outcome: Outcome,
     passed: GapSet,
@@ -39,11 +37,10 @@ impl marker::Model for ForeignRun {
     ghost coded = { Prim.hlevel (codes, gap_set.the_row.coded, tree_code) };
 
     ghost use Rattle.oracle.specs.Facts.{IsForeignValue};
-    ghost use Rattle.tso_program.specs.Shown.{asked};
 
-    ghost view = { λ r. record { question = asked r.program r.shown; labels = r.labels.items; outcome = r.outcome; passed = r.passed } };
+    ghost view = { λ r. record { question = r.question; labels = r.labels.items; outcome = r.outcome; passed = r.passed } };
 
-    ghost invariant = { λ r. IsForeignValue (record { question = asked r.program r.shown; labels = r.labels.items; outcome = r.outcome; passed = r.passed }) };
+    ghost invariant = { λ r. IsForeignValue (record { question = r.question; labels = r.labels.items; outcome = r.outcome; passed = r.passed }) };
 }
 
 impl ForeignRun {
@@ -59,36 +56,43 @@ impl ForeignRun {
         ensures fault { IfErr result (ForeignFaultIs table.now.question labels.now) }
         ensures exact { (o : Outcome) → IsForeignRun table.now.question labels.now o → IsOkUnless result ForeignFault.OutOfMemory }
     {
-        let program = table.program();
-        let shown = table.shown();
+        let question = table.question();
+        let Question { program, shown } = question;
         match replay_shown(alloc, program, shown, Model::Buffered, labels) {
             Ok(ended) => {
                 if table.has(&ended.outcome) {
                     return Err(ForeignFault::Sequential);
                 }
                 let labels = Vec::from_slice(alloc, labels)?;
-                Ok(ForeignRun::of(program.copy()?, shown.copy()?, labels, ended))
+                Ok(ForeignRun::of(question.copy()?, labels, ended))
             }
             Err(fault) => Err(replay_fault(fault)),
         }
     }
 
     /// The run with what its replay gave, as far as that is shown.
-    pub fn of(program: Program, shown: Shown, labels: Vec<Label>, ended: Ended) -> ForeignRun
-        requires foreign { IsForeignRun (asked program shown) labels.items ended.outcome }
-        requires passed { ArePassed program (StoreBufferMachine no_gaps) labels.items ended.passed }
-        ensures question { result.question ≡ asked program shown }
+    pub fn of(question: Question, labels: Vec<Label>, ended: Ended) -> ForeignRun
+        requires foreign { IsForeignRun question labels.items ended.outcome }
+        requires passed { ArePassed question.program (StoreBufferMachine no_gaps) labels.items ended.passed }
+        ensures question { result.question ≡ question }
         ensures labels { result.labels ≡ labels.items }
         ensures passed { result.passed ≡ ended.passed }
         ensures foreign { IsForeignValue result }
     {
         ForeignRun {
-            program,
-            shown,
+            question,
             labels,
             outcome: ended.outcome,
             passed: ended.passed,
         }
+    }
+
+    /// The question.
+    pub fn question(&self) -> &Question
+        ensures value { result.now ≡ self.now.question }
+        ensures foreign { IsForeignValue self.now }
+    {
+        &self.question
     }
 
     /// The program.
@@ -96,21 +100,14 @@ impl ForeignRun {
         ensures value { result.now ≡ self.now.question.program }
         ensures foreign { IsForeignValue self.now }
     {
-        &self.program
+        &self.question.program
     }
 
     /// For a proof alone: recalls what holds of every run.
     pub fn recall_facts(&self)
         ensures foreign { IsForeignValue self.now }
     {
-        let _ = self.program();
-    }
-
-    /// What is shown of the outcomes.
-    pub fn shown(&self) -> &Shown
-        ensures { result.now ≡ self.now.question.shown }
-    {
-        &self.shown
+        let _ = self.question();
     }
 
     /// The steps of the run.
@@ -139,8 +136,7 @@ impl ForeignRun {
         ensures { IfOk result (λ other. other ≡ self.now) }
     {
         Ok(ForeignRun {
-            program: self.program.copy()?,
-            shown: self.shown.copy()?,
+            question: self.question.copy()?,
             labels: Vec::from_slice(alloc, &self.labels)?,
             outcome: self.outcome.copy(alloc)?,
             passed: self.passed,

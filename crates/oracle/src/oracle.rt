@@ -1,6 +1,6 @@
 //! Who says of a set of gaps whether it serves.
 ghost use Rattle.std.specs.Prelude.{◌≡◌, Bool, true, IfOk, IfErr};
-ghost use Rattle.tso_program.specs.Shown.{Question};
+ghost use Rattle.tso_program.specs.declared.question.Question.{Question};
 ghost use Rattle.tso_machine.specs.Outcomes.{AreGapsOf};
 ghost use Rattle.oracle.specs.Verdicts.{IsVerdictOf};
 

@@ -1,19 +1,17 @@
 //! Sets of gaps that serve.
 ghost use Rattle.std.specs.Prelude.{◌≡◌, IfOk};
-ghost use Rattle.tso_program.specs.Shown.{asked};
 ghost use Rattle.oracle.specs.Facts.{IsServing};
 
 use cert_forest::CoverTree;
 use gap_sets::GapSet;
 use std::alloc::AllocError;
 use std::marker::Model;
-use tso_program::{Program, Shown};
+use tso_program::{Program, Question};
 
 /// A set of gaps that serves, with a cover tree that shows it.
 #[derive(Drop)]
 pub struct Served {
-    program: Program,
-    shown: Shown,
+    question: Question,
     set: GapSet,
     tree: CoverTree,
 }
@@ -31,27 +29,33 @@ impl Model for Served {
     ghost coded = { Prim.hlevel (codes, gap_set.the_row.coded, coded_cover, tree_code) };
 
     ghost use Rattle.oracle.specs.Facts.{IsServing};
-    ghost use Rattle.tso_program.specs.Shown.{asked};
 
-    ghost view = { λ s. record { question = asked s.program s.shown; gaps = s.set; tree = s.tree } };
+    ghost view = { λ s. record { question = s.question; gaps = s.set; tree = s.tree } };
 
-    ghost invariant = { λ s. IsServing (record { question = asked s.program s.shown; gaps = s.set; tree = s.tree }) };
+    ghost invariant = { λ s. IsServing (record { question = s.question; gaps = s.set; tree = s.tree }) };
 }
 
 impl Served {
     /// The set, which serves, with a tree that shows it.
-    pub fn new(program: Program, shown: Shown, set: GapSet, tree: CoverTree) -> Served
-        requires { IsServing (record { question = asked program shown; gaps = set; tree = tree }) }
-        ensures question { result.question ≡ asked program shown }
+    pub fn new(question: Question, set: GapSet, tree: CoverTree) -> Served
+        requires { IsServing (record { question = question; gaps = set; tree = tree }) }
+        ensures question { result.question ≡ question }
         ensures gaps { result.gaps ≡ set }
         ensures serving { IsServing result }
     {
         Served {
-            program,
-            shown,
+            question,
             set,
             tree,
         }
+    }
+
+    /// The question.
+    pub fn question(&self) -> &Question
+        ensures value { result.now ≡ self.now.question }
+        ensures serving { IsServing self.now }
+    {
+        &self.question
     }
 
     /// The program.
@@ -59,21 +63,14 @@ impl Served {
         ensures value { result.now ≡ self.now.question.program }
         ensures serving { IsServing self.now }
     {
-        &self.program
+        &self.question.program
     }
 
     /// For a proof alone: recalls what holds of every set that serves.
     pub fn recall_facts(&self)
         ensures serving { IsServing self.now }
     {
-        let _ = self.program();
-    }
-
-    /// What is shown of the outcomes.
-    pub fn shown(&self) -> &Shown
-        ensures { result.now ≡ self.now.question.shown }
-    {
-        &self.shown
+        let _ = self.question();
     }
 
     /// The set.
@@ -96,8 +93,7 @@ impl Served {
         ensures { IfOk result (λ other. other ≡ self.now) }
     {
         Ok(Served {
-            program: self.program.copy()?,
-            shown: self.shown.copy()?,
+            question: self.question.copy()?,
             set: self.set,
             tree: self.tree.copy()?,
         })

@@ -1,7 +1,6 @@
 //! The sequential outcomes of a program.
 ghost use Rattle.std.specs.Prelude.{◌≡◌, ◌↔◌, IfOk, IsTrue};
 ghost use Rattle.std.specs.Arc.{arc_value};
-ghost use Rattle.tso_program.specs.Shown.{asked};
 ghost use Rattle.tso_machine.specs.Outcomes.{IsSequentialOutcome};
 ghost use Rattle.oracle.specs.Facts.{IsSequentialTable};
 
@@ -9,14 +8,13 @@ use cert_forest::{CoverTree, Runs};
 use std::alloc::AllocError;
 use std::marker::Model;
 use std::sync::Arc;
-use tso_program::{Outcome, Program, Shown};
+use tso_program::{Outcome, Program, Question};
 
 /// The sequential outcomes of a program, as far as they are shown, ascending and each of them once, with
 /// a run of each and a cover tree that shows that there are no others.
 #[derive(Drop)]
 pub struct SeqTable {
-    program: Program,
-    shown: Shown,
+    question: Question,
     outcomes: Arc<Vec<Outcome>>,
     runs: Arc<Runs>,
     tree: CoverTree,
@@ -35,37 +33,42 @@ impl Model for SeqTable {
     ghost coded = { Prim.hlevel (codes, names.the_row.coded, coded_cover, tree_code) };
 
     ghost use Rattle.oracle.specs.Facts.{IsSequentialTable};
-    ghost use Rattle.tso_program.specs.Shown.{asked};
     ghost use Rattle.std.specs.Arc.{arc_value};
 
-    ghost view = { λ t. record { question = asked t.program t.shown; outcomes = (arc_value t.outcomes).items; runs = arc_value t.runs; tree = t.tree } };
+    ghost view = { λ t. record { question = t.question; outcomes = (arc_value t.outcomes).items; runs = arc_value t.runs; tree = t.tree } };
 
-    ghost invariant = { λ t. IsSequentialTable (record { question = asked t.program t.shown; outcomes = (arc_value t.outcomes).items; runs = arc_value t.runs; tree = t.tree }) };
+    ghost invariant = { λ t. IsSequentialTable (record { question = t.question; outcomes = (arc_value t.outcomes).items; runs = arc_value t.runs; tree = t.tree }) };
 }
 
 impl SeqTable {
     /// The table of a question's sequential outcomes, ascending, with a run of each and a tree that shows that there
     /// are no others.
     pub fn new(
-        program: Program,
-        shown: Shown,
+        question: Question,
         outcomes: Arc<Vec<Outcome>>,
         runs: Arc<Runs>,
         tree: CoverTree,
     ) -> SeqTable
-        requires { IsSequentialTable (record { question = asked program shown; outcomes = (arc_value outcomes).items; runs = arc_value runs; tree = tree }) }
-        ensures question { result.question ≡ asked program shown }
+        requires { IsSequentialTable (record { question = question; outcomes = (arc_value outcomes).items; runs = arc_value runs; tree = tree }) }
+        ensures question { result.question ≡ question }
         ensures outcomes { result.outcomes ≡ (arc_value outcomes).items }
         ensures runs { result.runs ≡ arc_value runs }
         ensures tree { result.tree ≡ tree }
     {
         SeqTable {
-            program,
-            shown,
+            question,
             outcomes,
             runs,
             tree,
         }
+    }
+
+    /// The question.
+    pub fn question(&self) -> &Question
+        ensures value { result.now ≡ self.now.question }
+        ensures table { IsSequentialTable self.now }
+    {
+        &self.question
     }
 
     /// The program.
@@ -73,21 +76,14 @@ impl SeqTable {
         ensures value { result.now ≡ self.now.question.program }
         ensures table { IsSequentialTable self.now }
     {
-        &self.program
+        &self.question.program
     }
 
     /// For a proof alone: recalls what holds of every table.
     pub fn recall_facts(&self)
         ensures table { IsSequentialTable self.now }
     {
-        let _ = self.program();
-    }
-
-    /// What is shown of the outcomes.
-    pub fn shown(&self) -> &Shown
-        ensures { result.now ≡ self.now.question.shown }
-    {
-        &self.shown
+        let _ = self.question();
     }
 
     /// The outcomes, ascending.

@@ -22,11 +22,11 @@ pub use Rattle.cert_forest.specs.Node.{Node}
 pub use Rattle.cert_forest.specs.Nodes.{spell, spell_all}
 pub use Rattle.cert_forest.specs.Trees.{Cover, Value, count_covers, covers_of}
 pub use Rattle.cover_judge.proofs.ChoicesJudged.{next_is_open, values_may}
-pub use Rattle.cover_judge.proofs.Lists.{first_is_here, later_is_here}
-pub use Rattle.cover_judge.proofs.TighterModes.{tighter_keeps_cover, tighter_keeps_values, tighter_keeps_whole}
+pub use Rattle.tree_laws.proofs.Lists.{first_is_here, later_is_here}
+pub use Rattle.tree_laws.proofs.TighterModes.{tighter_keeps_cover, tighter_keeps_values, tighter_keeps_whole}
 pub use Rattle.cover_judge.specs.Choices.{AreValueChoices, MayChoose, MayChooseEach}
 pub use Rattle.tree_laws.specs.CoverTrees.{sketch_with}
-pub use Rattle.cover_judge.specs.TighterModes.{IsNoLooser, in_mode, kind_in}
+pub use Rattle.tree_laws.specs.TighterModes.{IsNoLooser, in_mode, kind_in}
 pub use Rattle.tree_laws.specs.declared.choice.Choice.{Choice}
 pub use Rattle.gap_sets.specs.Gaps.{SetOfGaps}
 pub use Rattle.sketch_covers.proofs.AllOutcomes.{never_new, runs_found}
@@ -51,7 +51,8 @@ pub use Rattle.tso_machine.specs.Machine.{Machine, SequentialMachine}
 pub use Rattle.tso_machine.specs.Modes.{machine_of_mode}
 pub use Rattle.tso_machine.specs.declared.mode.Mode.{Mode}
 pub use Rattle.tso_program.specs.Listings.{action, code_of, gap_number, start_of}
-pub use Rattle.tso_program.specs.Shown.{Question, asked}
+pub use Rattle.tso_program.specs.Shown.{asked}
+pub use Rattle.tso_program.specs.declared.question.Question.{Question}
 pub use Rattle.tso_program.specs.declared.listing.Listing.{Listing}
 pub use Rattle.tso_program.specs.declared.outcome.Outcome.{Outcome}
 pub use Rattle.tso_program.specs.declared.shown.Shown.{Shown}

@@ -8,7 +8,7 @@ use crate::part::SearchPart;
 use crate::write_orders::write_orders;
 use branching::{Plan, choices_of};
 use cover_judge::OpenChoice;
-use sketches::Sketch;
+use exec_axioms::Sketch;
 use std::alloc::{AllocError, Global};
 use tso_program::{Program, Shown};
 

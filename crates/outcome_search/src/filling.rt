@@ -14,9 +14,9 @@ ghost use Rattle.sketch_covers.specs.Pushing.{Pushes};
 use crate::path_cover::cover_after;
 use crate::searching::Search;
 use cert_forest::Node;
+use exec_axioms::{Mode, Sketch};
 use partial_covers::{PartialCover, Piece, Watch};
 use sketch_covers::{KnownOutcomes, SearchStop};
-use sketches::{Mode, Sketch};
 
 /// The nodes of a tree for a mode: those of the partial cover, and another tree in place of each hole.
 pub(crate) fn fill<W: Watch>(

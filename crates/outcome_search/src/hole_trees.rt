@@ -12,9 +12,9 @@ ghost use Rattle.partial_covers.specs.PartialCovers.{IsPartialCover};
 use crate::hole_search::{HoleSearch, ThreadShare};
 use crate::searching::Search;
 use cert_forest::Node;
+use exec_axioms::Sketch;
 use partial_covers::PartialCover;
 use sketch_covers::SearchStop;
-use sketches::Sketch;
 use std::thread::Threads;
 use tso_program::Outcome;
 

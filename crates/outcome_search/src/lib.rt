@@ -31,5 +31,6 @@ pub use partial_covers::{
 };
 pub use searching::{Search, SearchStart, start_alone, start_by};
 pub use sketch_covers::{
-    KnownOutcomes, OutcomeIndex, SearchStop, in_ascending_order, place_of, renumber,
+    KnownOutcomes, MadeRun, MakeFault, OutcomeIndex, SearchStop, in_ascending_order, make_run_for,
+    place_of, renumber,
 };

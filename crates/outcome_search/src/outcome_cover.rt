@@ -1,7 +1,8 @@
 //! The search for all outcomes.
 ghost use Rattle.std.specs.Prelude.{◌≡◌, ◌↔◌, IfOk, IfErr, OnOk, Contains};
 ghost use Rattle.tso_program.specs.declared.outcome.Outcome.{Outcome};
-ghost use Rattle.tso_program.specs.Shown.{Question, asked};
+ghost use Rattle.tso_program.specs.Shown.{asked};
+ghost use Rattle.tso_program.specs.declared.question.Question.{Question};
 ghost use Rattle.tso_machine.specs.Outcomes.{AllowsShown};
 ghost use Rattle.tso_machine.specs.Modes.{machine_of_mode};
 ghost use Rattle.tree_laws.specs.Covers.{IsWholeCover};

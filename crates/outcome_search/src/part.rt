@@ -14,9 +14,9 @@ use crate::part_holes::fill_holes;
 use crate::searching::Search;
 use branching::{Plan, sketch_with};
 use cover_judge::Choice;
+use exec_axioms::{Mode, Sketch};
 use partial_covers::{Covering, PartCover, Watch};
 use sketch_covers::KnownOutcomes;
-use sketches::{Mode, Sketch};
 use std::alloc::{AllocError, Global};
 
 /// A part of a search: the sketch to which choices lead.

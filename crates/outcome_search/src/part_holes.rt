@@ -7,9 +7,9 @@ ghost use Rattle.partial_covers.specs.PartialCovers.{AreFilled, IsFilled, LeadsT
 ghost use Rattle.sketch_covers.specs.KnownOutcomes.{by_number, AreInOrder, Grows};
 
 use crate::path_cover::cover_after;
+use exec_axioms::{Mode, Sketch};
 use partial_covers::{Piece, Watch};
 use sketch_covers::KnownOutcomes;
-use sketches::{Mode, Sketch};
 use std::alloc::{AllocError, Global};
 use tso_program::{Program, Shown};
 

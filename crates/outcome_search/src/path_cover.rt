@@ -10,8 +10,8 @@ ghost use Rattle.partial_covers.specs.PartialCovers.{after, LeadsToWhole, MayCho
 use branching::choose;
 use cert_forest::Node;
 use cover_judge::Choice;
+use exec_axioms::Sketch;
 use sketch_covers::{KnownOutcomes, SearchStop, cover_whole};
-use sketches::Sketch;
 use std::alloc::{AllocError, Global};
 use tso_program::Shown;
 

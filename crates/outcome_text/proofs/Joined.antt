@@ -16,7 +16,7 @@ flat_range_more {A} f bs n =
     ∙ ap (λ (cs : List A). bs ++ cs) (flat_map-map f id (range_with_len 0 (n + 1)))
 
 -- one more piece behind those that are joined
-join_push : (w : List ℕ) (ws : List (List ℕ)) → 0 < length ws → join_with_byte 32 (ws ++ w ∷ []) ≡ join_with_byte 32 ws ++ (32 ∷ w)
+pub join_push : (w : List ℕ) (ws : List (List ℕ)) → 0 < length ws → join_with_byte 32 (ws ++ w ∷ []) ≡ join_with_byte 32 ws ++ (32 ∷ w)
 join_push w [] some = absurd (omega arith)
 join_push w (v ∷ []) some = refl
 join_push w (v ∷ u ∷ ws) some = ap (λ (x : List ℕ). v ++ (32 ∷ x)) (join_push w (u ∷ ws) (omega arith)) ∙ sym (append_assoc v (32 ∷ join_with_byte 32 (u ∷ ws)) (32 ∷ w))

@@ -1,6 +1,6 @@
 -- Sketches in which the thread before the last takes its values from another sketch.
 use Rattle.partial_covers.proofs.Vocabulary.{◌≢◌, ◌⊎◌, ℕ, Option, IsSome, Contains, sym, ◌∙◌, subst, inl, inr, cases_eq, At, Writes, given_to, ProgramSketch, access_in, IsLawful, with_values, values_elsewhere, IsValueOpen, LastThread, ReadValue, Tally}
-use Rattle.partial_covers.proofs.Vocabulary.{AreAlike, IsBase, IsRest, with_trace, IsBeforeLast, HasBit, IsTalliedRead, IsOther, Joins, IsFullTrace, traces_still, access_here, access_elsewhere, next_here, next_elsewhere, read_here, read_elsewhere}
+use Rattle.partial_covers.proofs.Vocabulary.{AreAlike, IsBase, IsRest, with_trace, IsBeforeLast, HasTallyBit, IsTalliedRead, IsOther, Joins, IsFullTrace, traces_still, access_here, access_elsewhere, next_here, next_elsewhere, read_here, read_elsewhere}
 use Rattle.branching.specs.declared.traces.FullTrace.{FullTrace}
 
 module _ (s : ProgramSketch) (t : ℕ) (last : LastThread) (rest : Tally) (trace : FullTrace) (lawful : IsLawful s) (own : IsLawful trace.sketch) (before : IsBeforeLast s last) (is : IsRest t last.thread s rest)
@@ -28,7 +28,7 @@ module _ (s : ProgramSketch) (t : ℕ) (last : LastThread) (rest : Tally) (trace
       | inr now ↦ (let (of_thread, tallied) = full.tally.reads r now in ((λ e. is.differ (sym of_thread ∙ e)), read_here s trace.sketch t lawful before.alone is.there own alike r of_thread tallied))
     ]
 
-    written_after : (v i l w : ℕ) → IsOther last.thread v → Writes (access_in merged) (At v i) l w → HasBit joined.written l w
+    written_after : (v i l w : ℕ) → IsOther last.thread v → Writes (access_in merged) (At v i) l w → HasTallyBit joined.written l w
     written_after v i l w other (x, at, loc, wrote) = elim (cases_eq v t) [
       | inl e ↦ joins.second l w (full.tally.written v i l w e (x, sym (access_here s trace.sketch t lawful before.alone is.there own alike v i e) ∙ at, loc, wrote))
       | inr differ ↦ joins.first l w (is.tally.written v i l w (differ, other) (x, sym (access_elsewhere s trace.sketch t lawful before.alone is.there own alike v i differ) ∙ at, loc, wrote))

@@ -11,7 +11,7 @@ pub use Rattle.std.specs.Prelude.{Err, Ok, OnOk, Result, max, nat_lt, ◌^◌}
 pub use Rattle.branching.proofs.Rounds.{fewer_rounds, rounds}
 pub use Rattle.branching.specs.Combinations.{AreAlike, IsBase, IsRest, with_root, with_trace}
 pub use Rattle.branching.specs.Plans.{AreOfOthers, IsBeforeLast, IsLast}
-pub use Rattle.branching.specs.Tallies.{HasBit, IsOther, IsTalliedRead, Joins}
+pub use Rattle.branching.specs.Tallies.{HasTallyBit, IsOther, IsTalliedRead, Joins}
 pub use Rattle.branching.specs.Traces.{IsFullTrace, IsValueTree, Read, Traces, first_choices, root, trace_node, trace_trees, traces}
 pub use Rattle.branching.specs.declared.plan.LastThread.{LastThread}
 pub use Rattle.branching.specs.declared.plan.Plan.{Plan}
@@ -29,11 +29,11 @@ pub use Rattle.cert_forest.specs.Node.{Node}
 pub use Rattle.cert_forest.specs.NodeConstants.{NEAR_RUNS}
 pub use Rattle.cert_forest.specs.Nodes.{cycle_nodes, known_nodes, spell, spell_row}
 pub use Rattle.cert_forest.specs.Trees.{Cover, NoCover, Source, count_covers}
-pub use Rattle.cover_judge.proofs.TighterModes.{renumbered_is_valid}
+pub use Rattle.tree_laws.proofs.TighterModes.{renumbered_is_valid}
 pub use Rattle.cover_judge.specs.Choices.{AreValueChoices, IsValueOpen, MayChoose, MayChooseEach}
 pub use Rattle.tree_laws.specs.CoverTrees.{sketch_with}
-pub use Rattle.cover_judge.specs.CoverTrees.{AreValidCovers, IsValidCover, event_of}
-pub use Rattle.cover_judge.specs.TighterModes.{changed, each_changed, in_mode, kind_in}
+pub use Rattle.tree_laws.specs.CoverTrees.{AreValidCovers, IsValidCover, event_of}
+pub use Rattle.tree_laws.specs.TighterModes.{changed, each_changed, in_mode, kind_in}
 pub use Rattle.tree_laws.specs.declared.choice.Choice.{Choice}
 pub use Rattle.sketch_covers.proofs.CombinedCovers.{at_its_start, at_start, before_first, before_next, of_others, rest_of, traces_still}
 pub use Rattle.sketch_covers.proofs.CombinedSketches.{access_elsewhere, access_here, lawful_merged, next_elsewhere, next_here, read_elsewhere, read_here, unsourced_cover, whole_merged}
@@ -58,7 +58,8 @@ pub use Rattle.rowless_sketches.specs.ThreadValues.{HasValuesAlone, with_values}
 pub use Rattle.tso_machine.specs.Machine.{Machine, SequentialMachine}
 pub use Rattle.tso_machine.specs.Modes.{machine_of_mode}
 pub use Rattle.tso_machine.specs.declared.mode.Mode.{Mode}
-pub use Rattle.tso_program.specs.Shown.{Question, asked}
+pub use Rattle.tso_program.specs.Shown.{asked}
+pub use Rattle.tso_program.specs.declared.question.Question.{Question}
 pub use Rattle.tso_program.specs.declared.listing.Listing.{Listing}
 pub use Rattle.tso_program.specs.declared.outcome.Outcome.{Outcome}
 pub use Rattle.tso_program.specs.declared.shown.Shown.{Shown}

@@ -15,14 +15,14 @@ pub record Covers (s : ProgramSketch) (old new : Covering) : Type 0 where
   pub grows : Grows (asked s.program old.shown.now) old.outcomes new.outcomes
   pub tree : PushesPartialAt s old.shown.now (by_number new.outcomes) old.path.items (items_of old.kept) (items_of new.kept)
 
--- the same, with covers after each of the choices
+-- what is shown and the path are as before, the list has grown, and covers after each of the choices come after the rest
 pub record CoversEach (s : ProgramSketch) (choices : List Choice) (old new : Covering) : Type 0 where
   pub shown : new.shown.now ≡ old.shown.now
   pub path : new.path.items ≡ old.path.items
   pub grows : Grows (asked s.program old.shown.now) old.outcomes new.outcomes
   pub row : PushesPartialRowAt s old.shown.now (by_number new.outcomes) old.path.items choices (items_of old.kept) (items_of new.kept)
 
--- the same, with the cover of the sketch, or with nothing
+-- what is shown and the path are as before, the list has grown, and the cover of the sketch, or nothing, comes after the rest
 pub record CoversIf (s : ProgramSketch) (old new : Covering) (covered : Bool) : Type 0 where
   pub shown : new.shown.now ≡ old.shown.now
   pub path : new.path.items ≡ old.path.items

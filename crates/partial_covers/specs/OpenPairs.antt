@@ -4,6 +4,6 @@ use Rattle.branching.specs.Plans.{IsBeforeLast}
 use Rattle.partial_covers.specs.declared.pair_covers.OpenPair.{OpenPair}
 
 -- the last thread has no value yet, and each thread but the two has all of its values
-pub record IsPair (pair : OpenPair) : Type 0 where
+pub record IsOpenPair (pair : OpenPair) : Type 0 where
   pub last : IsBeforeLast pair.sketch.now pair.last.now
   pub rest : IsRest pair.thread pair.last.now.thread pair.sketch.now pair.rest

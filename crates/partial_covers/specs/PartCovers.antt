@@ -2,7 +2,8 @@
 use Rattle.std.specs.Prelude.{◌≡◌, Bool, true, false, ℕ, List, [], Some, All, slice_get}
 use Rattle.tso_program.specs.declared.outcome.Outcome.{Outcome}
 use Rattle.tso_program.specs.declared.shown.Shown.{Shown}
-use Rattle.tso_program.specs.Shown.{Question, asked}
+use Rattle.tso_program.specs.Shown.{asked}
+use Rattle.tso_program.specs.declared.question.Question.{Question}
 use Rattle.tso_machine.specs.Modes.{machine_of_mode}
 use Rattle.program_sketches.specs.ProgramSketches.{ProgramSketch}
 use Rattle.tree_laws.specs.declared.choice.Choice.{Choice}

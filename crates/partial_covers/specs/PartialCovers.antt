@@ -111,7 +111,7 @@ pub record PushesPartial (s : ProgramSketch) (shown : Shown) (outcomes : List Ou
   pub is : IsPartialAfter s shown outcomes path tree
   pub pushed : new ≡ old ++ spell_partial tree
 
--- the same of partial covers after each of the choices
+-- the nodes and holes of partial covers after each of the choices come after the old ones
 pub record PushesPartialRow (s : ProgramSketch) (shown : Shown) (outcomes : List Outcome) (path choices : List Choice) (old new : List Item) : Type 0 where
   pub children : List PartialTree
   pub are : ArePartialAfter s shown outcomes path (partial_of children) choices

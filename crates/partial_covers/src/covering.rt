@@ -1,7 +1,7 @@
 //! What a search for outcomes has so far, and how it goes on: over the values of all reads, a thread at a time, up to
 //! a sketch that must end as an outcome of the list. The sketches have no gap fenced.
 ghost use Rattle.std.specs.Prelude.{◌≡◌, [], IfOk, OnOk, MatchOption};
-ghost use Rattle.tso_program.specs.Shown.{Question};
+ghost use Rattle.tso_program.specs.declared.question.Question.{Question};
 ghost use Rattle.candidate_executions.specs.Sketches.{IsWhole};
 ghost use Rattle.program_sketches.specs.ProgramSketches.{ProgramSketch, nothing_chosen, mode_in};
 ghost use Rattle.cover_judge.specs.Choices.{MayChooseEach};
@@ -23,8 +23,9 @@ use crate::watch::Watch;
 use branching::{FullTrace, Plan, Tally, ValueTree, choices_of, sketch_with};
 use cert_forest::Node;
 use cover_judge::{Choice, OpenChoice};
-use sketch_covers::{KnownOutcomes, OutcomeIndex, SearchStop, cover_whole, known_leaf};
-use sketches::{Mode, Sketch};
+use sketch_covers::{
+    KnownOutcomes, Mode, OutcomeIndex, SearchStop, Sketch, cover_whole, known_leaf,
+};
 use std::alloc::{AllocError, Global};
 use tso_program::Shown;
 

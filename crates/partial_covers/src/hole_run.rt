@@ -1,7 +1,7 @@
 //! Runs of holes. They answer questions without a search, so those are kept that may answer others than the runs before.
 
 use gap_sets::GapSet;
-use sketches::Sketch;
+use sketch_covers::Sketch;
 use std::alloc::{AllocError, Global};
 use tso_machine::{Label, Model, ReplayFault, replay};
 

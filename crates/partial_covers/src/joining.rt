@@ -1,7 +1,7 @@
 //! How the cover of a part comes to the rest: its outcomes, and then its nodes with their numbers there.
 ghost use Rattle.std.specs.Prelude.{◌≡◌, List, [], IsTrue, IfSome, OnOk};
 ghost use Rattle.tso_program.specs.declared.shown.Shown.{Shown as ShownValue};
-ghost use Rattle.tso_program.specs.Shown.{Question};
+ghost use Rattle.tso_program.specs.declared.question.Question.{Question};
 ghost use Rattle.tso_machine.specs.Machine.{Machine};
 ghost use Rattle.program_sketches.specs.ProgramSketches.{ProgramSketch};
 ghost use Rattle.tree_laws.specs.declared.choice.Choice.{Choice as ChoiceValue};

@@ -5,8 +5,7 @@ ghost use Rattle.sketch_covers.specs.OutcomeNumbers.{place_in};
 ghost use Rattle.partial_covers.specs.NodeBlocks.{joined, nodes_in};
 
 use cert_forest::Node;
-use sketch_covers::{renumber, sequential_node};
-use sketches::Mode;
+use sketch_covers::{Mode, renumber, sequential_node};
 use std::alloc::{AllocError, Global};
 use std::mem;
 

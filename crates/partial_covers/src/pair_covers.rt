@@ -6,13 +6,12 @@ ghost use Rattle.branching.specs.Plans.{IsBeforeLast, IsBeforeNext};
 ghost use Rattle.branching.specs.Traces.{traces, root, IsValueTree, IsFullTrace};
 ghost use Rattle.sketch_covers.specs.KnownOutcomes.{AreInOrder};
 ghost use Rattle.partial_covers.specs.Coverings.{Covers};
-ghost use Rattle.partial_covers.specs.OpenPairs.{IsPair};
+ghost use Rattle.partial_covers.specs.OpenPairs.{IsOpenPair};
 
 use crate::covering::Covering;
 use crate::watch::Watch;
 use branching::{FullTrace, LastThread, Tally, ThreadTraces, ValueTree};
-use sketch_covers::push_unsourced;
-use sketches::Sketch;
+use sketch_covers::{Sketch, push_unsourced};
 use std::alloc::AllocError;
 
 /// A sketch in which all threads but two have their values.
@@ -60,7 +59,7 @@ impl Covering<'_> {
         watch: &W,
     ) -> Result<(), AllocError>
         requires in_order { AreInOrder self.old.outcomes }
-        requires pair { IsPair pair.now }
+        requires pair { IsOpenPair pair.now }
         requires tree { IsValueTree pair.now.thread (traces tree.now) }
         requires alike { AreAlike (root (traces tree.now)) pair.now.sketch.now }
         ensures { OnOk result (Covers (with_root pair.now.thread pair.now.sketch.now (traces tree.now)) self.old self.new) }
@@ -93,7 +92,7 @@ impl Covering<'_> {
         watch: &W,
     ) -> Result<(), AllocError>
         requires in_order { AreInOrder self.old.outcomes }
-        requires pair { IsPair pair.now }
+        requires pair { IsOpenPair pair.now }
         requires trace { IsFullTrace pair.now.thread trace.now }
         requires alike { AreAlike trace.now.sketch pair.now.sketch.now }
         ensures { OnOk result (Covers (with_trace pair.now.thread pair.now.sketch.now trace.now) self.old self.new) }

@@ -2,8 +2,9 @@
 ghost use Rattle.std.specs.Prelude.{◌≡◌, false, IfOk};
 
 use crate::refusal::PlaceRefusal;
+use cert_forest::Certificate;
 use cover_solver::{Oracle, SearchedTable, SeqTable, SolveFault, Solver, Verdict};
-use fence_place::{Oracles, PlaceFault, Placed, hunt_with, place};
+use fence_place::{Oracles, PlaceFault, hunt_with, place};
 use gap_sets::{Costs, GapSet};
 use std::alloc::{AllocError, Global};
 use std::sync::Wait;
@@ -56,8 +57,8 @@ fn placed_set<R: Threads + Wait + Sync, O: Oracle>(
     requires may { O.may_be_asked oracles.first.now }
     requires again { oracles.again.now.question ≡ table.now.question }
 {
-    let placed = place(rt, alloc, oracles, table, costs, workers)?;
-    Ok(placed.set)
+    let certificate = place(rt, alloc, oracles, table, costs, workers)?;
+    Ok(certificate.set)
 }
 
 /// The set that one hunt finds, without another search where it does not close.
@@ -110,14 +111,18 @@ fn costs_of(alloc: Global, table: &SeqTable, words: &[&[u8]]) -> Result<Costs, P
 }
 
 /// The set that is placed and its cost, then how many sets the solver was asked about.
-fn push_lines(placed: &Placed, solver: &Counting, printed: &mut String) -> Result<(), AllocError> {
+fn push_lines(
+    certificate: &Certificate,
+    solver: &Counting,
+    printed: &mut String,
+) -> Result<(), AllocError> {
     let serve = solver.serve.load(Ordering::SeqCst);
     let asks = solver.asked.load(Ordering::SeqCst);
-    push_gaps_after("set", &placed.set, printed)?;
+    push_gaps_after("set", &certificate.set, printed)?;
     write!(
         printed,
         "\ncost {}\nserve {serve}\nasks {asks}\n",
-        placed.cost
+        certificate.cost
     )
 }
 
@@ -131,14 +136,14 @@ fn new_counting(alloc: Global, searched: &SearchedTable) -> Result<Counting, Pla
     })
 }
 
-/// What is placed: the first word is the number of workers, and the costs of the gaps may follow.
+/// The certificate of what is placed: the first word is the number of workers, and the costs of the gaps may follow.
 fn placed_by<R: Threads + Wait + Sync>(
     rt: &R,
     alloc: Global,
     table: &SeqTable,
     solver: &Counting,
     words: &[&[u8]],
-) -> Result<Placed, PlaceRefusal>
+) -> Result<Certificate, PlaceRefusal>
     requires { solver.now.solver.question ≡ table.now.question }
 {
     let workers = byte_at(words, 0)?;
@@ -161,8 +166,8 @@ fn push_placed_by<R: Threads + Wait + Sync>(
 ) -> Result<(), PlaceRefusal>
     requires { solver.now.solver.question ≡ table.now.question }
 {
-    let placed = placed_by(rt, alloc, table, solver, words)?;
-    Ok(push_lines(&placed, solver, printed)?)
+    let certificate = placed_by(rt, alloc, table, solver, words)?;
+    Ok(push_lines(&certificate, solver, printed)?)
 }
 
 /// Places fences, and says how many sets the solver was asked about.

@@ -1,11 +1,12 @@
 -- What is reported of texts, from what their parts are.
-use Rattle.placed_text.proofs.Vocabulary.{◌≡◌, ◌∙◌, ℕ, List, Option, Some, None, ap, length, subst, unwrap_or, length-replicate, Listing, Shown, asked, shown_as, question_of, gap_count, answer_line, IsPlacement, AreTextsOf, AreWrittenTexts, HasNoPlacedText, TellsWhy}
-use Rattle.placed_text.proofs.Vocabulary.{Litmus, AreGiven, IsAnswerText, IsPlacedSource, IsPlacedText, HasNoProgram, HasNoCosts, HasNoPlacement, IsWhyText}
+use Rattle.placed_text.proofs.Vocabulary.{◌≡◌, ◌∙◌, ℕ, List, Option, Some, None, ap, length, refl, subst, unwrap_or, length-replicate, Listing, SetOfGaps, Shown, asked, shown_as, question_of, gap_count, answer_line, IsPlacement, AreTextsOf, ArePlacedTextsOf, HasNoPlacedText, TellsWhy}
+use Rattle.placed_text.proofs.Vocabulary.{Litmus, AreGiven, IsAnswerText, IsProblem, IsPlacedText, HasNoProgram, HasNoCosts, HasNoPlacement, HasNoProblem, IsWhyText, OfItsPlacement, question_in}
 use Rattle.std.proofs.lemmas.List.FromFn.{length-map-range_with_len}
 use Rattle.tso_program.specs.declared.shown.ShownKind.{ShownKind}
 use Rattle.litmus_text.specs.{Texts.IsLitmus, CostTexts.said_of}
-use Rattle.cert_forest.specs.Texts.{certificate_text}
-use Rattle.placed_text.specs.{declared.fault.TextFault.TextFault, declared.placing.PlacedSource.PlacedSource, declared.writing.AnswerText.AnswerText, declared.writing.PlacedText.PlacedText}
+use Rattle.cert_forest.specs.Certificates.{Certificate}
+use Rattle.documents.specs.Documents.{IsPlacedDocument}
+use Rattle.placed_text.specs.{declared.fault.TextFault.TextFault, declared.problem.Problem.Problem, declared.writing.AnswerText.AnswerText, declared.writing.PlacedText.PlacedText}
 use Rattle.placed_text.specs.declared.fault.TextFault.TheVariants as fault
 
 -- each gap has a cost
@@ -14,85 +15,92 @@ one_each p None costs is = ap length is ∙ length-replicate (gap_count p.thread
 one_each p (Some text) costs is = ap length is.costs_are ∙ length-map-range_with_len (λ gap. unwrap_or (said_of is.entries gap) 1) 0 (gap_count p.threads)
 
 module _ (litmus : List ℕ) (costs : Option (List ℕ)) where
-  -- what is placed is the answer to what the kind asks
-  placement_of : (kind : ShownKind) (from : PlacedSource) → IsPlacedSource litmus costs kind from → IsPlacement (question_of from.source kind) from.costs from.found.placed
-  placement_of kind from is = subst (λ (shown : Shown). IsPlacement (asked from.source.program shown) from.costs from.found.placed) is.shown is.placement
+  module _ (kind : ShownKind) (problem : Problem) where
+    -- what is placed is the answer to what the kind asks
+    placement_of : (certificate : Certificate) → IsProblem litmus costs kind problem → IsPlacement (question_in problem) problem.costs certificate → IsPlacement (question_of problem.litmus kind) problem.costs certificate
+    placement_of certificate of_texts is = subst (λ (shown : Shown). IsPlacement (asked problem.litmus.program shown) problem.costs certificate) of_texts.shown is
 
-  -- from what is written of it
-  pub answer_text : (kind : ShownKind) (from : PlacedSource) (texts : AnswerText) → IsPlacedSource litmus costs kind from → AreTextsOf from texts → IsAnswerText litmus costs kind texts
-  answer_text kind from texts of_texts are_written =
-      let source = from.source in
-      let placed = from.found.placed in
-      let is = placement_of kind from of_texts in
-      let written = subst (λ (shown : Shown). AreWrittenTexts source shown from.costs placed.set placed.cost texts) of_texts.shown are_written in
-      record {
-        source = source;
-        of_text = of_texts.of_text;
-        gap_costs = from.costs;
-        given = of_texts.given;
-        gaps = placed.set;
-        answer = is.answer;
-        headline = is.headline;
-        program = written.program;
-        again = written.again litmus of_texts.of_text;
-        line = subst (λ (cost : ℕ). texts.answer.items ≡ answer_line source.program (shown_as source kind) placed.set cost) is.cost written.line;
-        document = written.document;
-        set = written.set;
-      }
+    -- from what is written of it
+    pub answer_text : (texts : AnswerText) → IsProblem litmus costs kind problem → OfItsPlacement problem (λ placed. AreTextsOf problem placed.gaps placed.cost texts) → IsAnswerText litmus costs kind texts
+    answer_text texts of_texts (certificate, placed, written) =
+        let source = problem.litmus in
+        let gaps = certificate.gaps in
+        let is = placement_of certificate of_texts placed in
+        record {
+          source = source;
+          of_text = of_texts.of_text;
+          gap_costs = problem.costs;
+          given = of_texts.given;
+          gaps = gaps;
+          answer = is.answer;
+          headline = is.headline;
+          program = written.program;
+          again = written.again litmus of_texts.of_text;
+          line = subst (λ (cost : ℕ). texts.answer.items ≡ answer_line source.program (shown_as source kind) gaps cost) is.cost
+              (subst (λ (shown : Shown). texts.answer.items ≡ answer_line source.program shown gaps certificate.cost) of_texts.shown written.line);
+          document = subst (λ (shown : Shown). IsPlacedDocument source shown problem.costs gaps texts.program.items texts.document.items) of_texts.shown written.document;
+          set = written.set;
+        }
 
-  -- and from that with the text of its certificate
-  pub placed_text : (kind : ShownKind) (from : PlacedSource) (placed : PlacedText) → IsPlacedSource litmus costs kind from → AreTextsOf from placed.texts
-      → placed.certificate ≡ certificate_text from.found.placed.certificate → IsPlacedText litmus costs kind placed
-  unfolding answer_text
-  placed_text kind from placed of_texts are_written spelled =
-      let is = placement_of kind from of_texts in
-      record {
-        told = answer_text kind from placed.texts of_texts are_written;
-        certificate = record {
-          claimed = from.found.placed.certificate;
-          of_text = record { spelled = spelled; within = is.proof.within };
-          claims = is.same_set;
-          valid = is.proof.valid;
-        };
-      }
+    -- and from that with the text of its certificate
+    pub placed_text : (written : PlacedText) → IsProblem litmus costs kind problem → OfItsPlacement problem (λ placed. ArePlacedTextsOf problem placed written) → IsPlacedText litmus costs kind written
+    unfolding answer_text
+    placed_text written of_texts (certificate, placed, are) =
+        let is = placement_of certificate of_texts placed in
+        record {
+          told = answer_text written.texts of_texts (certificate, placed, are.texts);
+          certificate = record {
+            claimed = certificate;
+            of_text = record { spelled = are.spelled; within = is.proof.within };
+            claims = refl;
+            valid = is.proof.valid;
+          };
+        }
 
-  -- from the reasons that are given for it
-  pub why_text : (kind : ShownKind) (from : PlacedSource) (text document : List ℕ) → IsPlacedSource litmus costs kind from
-      → TellsWhy from.source from.shown from.costs from.found.placed.set (answer_line from.source.program from.shown from.found.placed.set from.found.placed.cost) text document → IsWhyText litmus costs kind text document
-  why_text kind from text document of_texts tells =
-      let source = from.source in
-      let shown = shown_as source kind in
-      let placed = from.found.placed in
-      let is = placement_of kind from of_texts in
-      record {
-        source = source;
-        of_text = of_texts.of_text;
-        gap_costs = from.costs;
-        given = of_texts.given;
-        gaps = placed.set;
-        answer = is.answer;
-        told = subst (λ (cost : ℕ). TellsWhy source shown from.costs placed.set (answer_line source.program shown placed.set cost) text document) is.cost
-            (subst (λ (s : Shown). TellsWhy source s from.costs placed.set (answer_line source.program s placed.set placed.cost) text document) of_texts.shown tells);
-      }
+    -- from the reasons that are given for it
+    pub why_text : (text document : List ℕ) → IsProblem litmus costs kind problem
+        → OfItsPlacement problem (λ placed. TellsWhy problem.litmus problem.shown problem.costs placed.gaps (answer_line problem.litmus.program problem.shown placed.gaps placed.cost) text document) → IsWhyText litmus costs kind text document
+    why_text text document of_texts (certificate, placed, tells) =
+        let source = problem.litmus in
+        let shown = shown_as source kind in
+        let gaps = certificate.gaps in
+        let is = placement_of certificate of_texts placed in
+        record {
+          source = source;
+          of_text = of_texts.of_text;
+          gap_costs = problem.costs;
+          given = of_texts.given;
+          gaps = gaps;
+          answer = is.answer;
+          told = subst (λ (cost : ℕ). TellsWhy source shown problem.costs gaps (answer_line source.program shown gaps cost) text document) is.cost
+              (subst (λ (s : Shown). TellsWhy source s problem.costs gaps (answer_line source.program s gaps certificate.cost) text document) of_texts.shown tells);
+        }
+
+  -- the litmus text is no such text
+  pub no_program : (why : TextFault) → HasNoProgram litmus why → HasNoProblem litmus costs why
+  no_program (fault.Read why) is = is
+  no_program (fault.CostText why) is = absurd is
+  no_program fault.Workers is = absurd is
+  no_program fault.OutOfMemory is = tt
+
+  -- the costs are not given
+  pub no_costs : (source : Litmus Listing) (why : TextFault) → IsLitmus litmus source → HasNoCosts source.program costs why → HasNoProblem litmus costs why
+  no_costs source (fault.Read why) of_text is = absurd is
+  no_costs source (fault.CostText why) of_text is = (source, of_text, is)
+  no_costs source fault.Workers of_text is = absurd is
+  no_costs source fault.OutOfMemory of_text is = tt
 
   module _ (workers : ℕ) where
-    -- the litmus text is no such text
-    pub no_program : (why : TextFault) → HasNoProgram litmus why → HasNoPlacedText litmus costs workers why
-    no_program (fault.Read why) is = is
-    no_program (fault.CostText why) is = absurd is
-    no_program fault.Workers is = absurd is
-    no_program fault.OutOfMemory is = tt
+    -- where no problem is read nothing is placed
+    pub no_problem : (why : TextFault) → HasNoProblem litmus costs why → HasNoPlacedText litmus costs workers why
+    no_problem (fault.Read why) is = is
+    no_problem (fault.CostText why) is = is
+    no_problem fault.Workers is = absurd is
+    no_problem fault.OutOfMemory is = tt
 
-    -- the costs are not given
-    pub no_costs : (source : Litmus Listing) (why : TextFault) → IsLitmus litmus source → HasNoCosts source.program costs why → HasNoPlacedText litmus costs workers why
-    no_costs source (fault.Read why) of_text is = absurd is
-    no_costs source (fault.CostText why) of_text is = (source, of_text, is)
-    no_costs source fault.Workers of_text is = absurd is
-    no_costs source fault.OutOfMemory of_text is = tt
-
-    -- the number of workers is too small or too large
-    pub no_placement : (source : Litmus Listing) (gap_costs : List ℕ) (why : TextFault) → IsLitmus litmus source → AreGiven source.program costs gap_costs → HasNoPlacement workers why → HasNoPlacedText litmus costs workers why
-    no_placement source gap_costs (fault.Read why) of_text given is = absurd is
-    no_placement source gap_costs (fault.CostText why) of_text given is = absurd is
-    no_placement source gap_costs fault.Workers of_text given is = (source, gap_costs, of_text, given, is)
-    no_placement source gap_costs fault.OutOfMemory of_text given is = tt
+    -- nor where the number of workers is too small or too large
+    pub no_placement : (kind : ShownKind) (problem : Problem) (why : TextFault) → IsProblem litmus costs kind problem → HasNoPlacement workers why → HasNoPlacedText litmus costs workers why
+    no_placement kind problem (fault.Read why) of_texts is = absurd is
+    no_placement kind problem (fault.CostText why) of_texts is = absurd is
+    no_placement kind problem fault.Workers of_texts is = (problem.litmus, problem.costs, of_texts.of_text, of_texts.given, is)
+    no_placement kind problem fault.OutOfMemory of_texts is = tt

@@ -1,13 +1,16 @@
 -- Reasons one after the other.
 use Rattle.placed_text.proofs.Vocabulary.{◌≡◌, ◌∙◌, ◌==◌, ◌<◌, ℕ, suc, Bool, List, [], ◌∷◌, ◌++◌, true, false, arith, length, ap, refl, sym, subst, map, concat, filter, range_with_len, nat_tests, append-nil, map-append, SetOfGaps, IsGapSet, Question, asked}
 use Rattle.placed_text.proofs.Vocabulary.{Listing, Shown, Label, Without, TellsRun, TellsWhy, printed_of, numbers_of_set, MAX_GAPS, gaps_in, show, IsForeignRun, IsReplayOf, IsShownRun, Litmus, PassesNoneOf, Told, IsReason, AreReasons, told_lines, TellsReasons}
-use Rattle.placed_text.proofs.Vocabulary.{none_line, reasons_or_none, IsReasonText}
+use Rattle.placed_text.proofs.Vocabulary.{none_line, others_fenced, reasons_or_none, IsReasonText}
+use Rattle.run_views.specs.Tables.{IsTableOf, table_text}
+use Rattle.tso_machine.specs.declared.stepping.Step.{Step}
+use Rattle.tso_machine.specs.Steps.{AreSteps}
 use Rattle.std.proofs.lemmas.List.Folds.{concat-append}
 use Rattle.std.specs.FinSet as set
 use Rattle.tso_program.specs.{declared.outcome.Outcome.Outcome, declared.shown.Shown.TheVariants.All}
-use Rattle.tso_machine.specs.{declared.label.Model.TheVariants.Buffered, declared.replaying.Ended.Ended, Machine.StoreBufferMachine, Machine.no_gaps, Machine.IsRun}
+use Rattle.tso_machine.specs.{declared.label.Model.TheVariants.Buffered, declared.replaying.Ended.Ended, Machine.StoreBufferMachine, Machine.no_gaps, Machine.IsRun, Machine.start}
 use Rattle.tso_machine.proofs.Refused.{one_outcome}
-use Rattle.fence_laws.proofs.GapsAvoided.{passed_gaps_tell}
+use Rattle.tso_machine.proofs.GapsAvoided.{passed_gaps_tell}
 use Rattle.oracle.specs.Facts as facts
 use Rattle.documents.specs.Documents.{IsWhyDocument}
 
@@ -25,10 +28,17 @@ ends_in p labels ended replay = (let (whole, is_run, same) = replay.is_run in su
 shown_of_run : (q : Question) (labels : List Label) (o whole : Outcome) → IsShownRun q (StoreBufferMachine no_gaps) labels o → IsRun q.program (StoreBufferMachine no_gaps) labels whole → o ≡ show q.shown whole
 shown_of_run q labels o whole (ended, is_run, shows) ends = shows ∙ ap (λ (x : Outcome). show q.shown x) (one_outcome q.program (StoreBufferMachine no_gaps) labels ended whole is_run ends)
 
+-- the table of a run of a question is that of its steps in the question's program
+pub table_of : (source : Litmus Listing) (shown : Shown) (gaps : SetOfGaps) (gap : ℕ) (run : facts.Foreign) (steps : List Step) (table : List ℕ) → run.question ≡ asked source.program shown
+    → AreSteps run.question.program (others_fenced run.question.program gaps gap) (start run.question.program) run.labels steps → table ≡ table_text source steps
+    → IsTableOf source (others_fenced source.program gaps gap) run.labels table
+table_of source shown gaps gap run steps table of_question are is =
+    (steps, subst (λ (q : Question). AreSteps q.program (others_fenced q.program gaps gap) (start q.program) run.labels steps) of_question are, is)
+
 -- so its lines are a reason
 pub reason_of : (source : Litmus Listing) (shown : Shown) (gaps : SetOfGaps) (gap : ℕ) (run : facts.Foreign) (ended : Ended) (told : Told) → run.question ≡ asked source.program shown → facts.IsForeignValue run
     → PassesNoneOf (set.remove gaps gap) run → IsReplayOf (asked run.question.program All) Buffered run.labels ended
-    → IsReasonText source shown gap run.labels ended.outcome ended.passed told.0
+    → IsReasonText source shown gaps gap run.labels ended.outcome ended.passed told.0
     → TellsRun source (printed_of shown) (Without gap) run.labels ended.outcome ended.passed told.1 → IsReason source shown gaps gap told
 reason_of source shown gaps gap run ended told of_question is none replay printed document =
     let q = asked source.program shown in

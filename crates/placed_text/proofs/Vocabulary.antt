@@ -20,9 +20,11 @@ pub use Rattle.tso_machine.specs.Outcomes.{IsForeignRun, IsReplayOf, IsShownRun,
 pub use Rattle.tso_machine.specs.declared.label.Label.{Label}
 pub use Rattle.tso_program.specs.Fences.{first_missing, gaps_in}
 pub use Rattle.tso_program.specs.Listings.{gap_count}
-pub use Rattle.tso_program.specs.Shown.{Question, asked, show}
+pub use Rattle.tso_program.specs.Shown.{asked, show}
+pub use Rattle.tso_program.specs.declared.question.Question.{Question}
 pub use Rattle.tso_program.specs.declared.listing.Listing.{Listing}
 pub use Rattle.tso_program.specs.declared.shown.Shown.{Shown}
-pub use Rattle.placed_text.specs.PlacedTexts.{AreTextsOf, AreWrittenTexts, IsAnswerText, IsPlacedSource, IsPlacedText}
-pub use Rattle.placed_text.specs.TextFaults.{AreNoCosts, HasNoCosts, HasNoPlacedText, HasNoPlacement, HasNoProgram, HasNoTextOf}
-pub use Rattle.placed_text.specs.WhyTexts.{AreReasons, IsReason, IsReasonText, IsWhyText, TellsReasons, TellsWhy, Told, none_line, printed_of, reasons_or_none, told_lines}
+pub use Rattle.placed_text.specs.PlacedTexts.{ArePlacedTextsOf, AreTextsOf, IsAnswerText, IsPlacedText}
+pub use Rattle.placed_text.specs.Problems.{IsProblem, OfItsPlacement, question_in}
+pub use Rattle.placed_text.specs.TextFaults.{AreNoCosts, HasNoCosts, HasNoPlacedText, HasNoPlacement, HasNoProblem, HasNoProgram}
+pub use Rattle.placed_text.specs.WhyTexts.{AreReasons, IsReason, IsReasonText, IsWhyText, TellsReasons, TellsWhy, Told, none_line, others_fenced, printed_of, reasons_or_none, told_lines}

@@ -1,3 +1,4 @@
 pub mod PlacedTexts
+pub mod Problems
 pub mod TextFaults
 pub mod WhyTexts

@@ -3,9 +3,8 @@ use Rattle.std.specs.Prelude.{◌≡◌, ℕ, List, Option}
 use Rattle.gap_sets.specs.Gaps.{SetOfGaps}
 use Rattle.gap_sets.specs.Order.{total}
 use Rattle.tso_program.specs.declared.listing.Listing.{Listing}
-use Rattle.tso_program.specs.declared.shown.Shown.{Shown}
 use Rattle.tso_program.specs.declared.shown.ShownKind.{ShownKind}
-use Rattle.tso_program.specs.Shown.{Question, asked}
+use Rattle.tso_program.specs.declared.question.Question.{Question}
 use Rattle.tso_machine.specs.Outcomes.{Headline, IsTheAnswer}
 use Rattle.litmus_text.specs.Litmus.{Litmus}
 use Rattle.litmus_text.specs.Texts.{IsLitmus, IsFencedLitmus}
@@ -14,10 +13,10 @@ use Rattle.litmus_text.specs.GivenCosts.{AreGiven}
 use Rattle.documents.specs.Documents.{IsPlacedDocument}
 use Rattle.cert_forest.specs.Certificates.{Certificate}
 use Rattle.cert_forest.specs.Limits.{IsCertificate}
+use Rattle.cert_forest.specs.Texts.{certificate_text}
 use Rattle.tree_laws.specs.Certificates.{IsValidCertificate}
 use Rattle.report.specs.Answers.{answer_line}
-use Rattle.fence_place.specs.Placements.{IsPlacement}
-use Rattle.placed_text.specs.declared.placing.PlacedSource.{PlacedSource}
+use Rattle.placed_text.specs.declared.problem.Problem.{Problem}
 use Rattle.placed_text.specs.declared.writing.AnswerText.{AnswerText}
 use Rattle.placed_text.specs.declared.writing.PlacedText.{PlacedText}
 use Rattle.litmus_text.specs.Shown.{shown_as, question_of}
@@ -51,22 +50,15 @@ pub record IsPlacedText (litmus : List ℕ) (costs : Option (List ℕ)) (kind : 
   pub told : IsAnswerText litmus costs kind placed.texts
   pub certificate : IsCertificateOf (question_of told.source kind) told.gap_costs told.gaps placed.certificate
 
--- what the texts stand for, what is shown of outcomes, and what is placed in the program, by a solver of its question
-pub record IsPlacedSource (litmus : List ℕ) (costs : Option (List ℕ)) (kind : ShownKind) (placed : PlacedSource) : Type 0 where
-  pub of_text : IsLitmus litmus placed.source
-  pub given : AreGiven placed.source.program costs placed.costs
-  pub shown : placed.shown ≡ shown_as placed.source kind
-  pub solver : placed.found.solver.question ≡ asked placed.source.program placed.shown
-  pub placement : IsPlacement (asked placed.source.program placed.shown) placed.costs placed.found.placed
-
--- the texts of an answer: these gaps of a program, at this cost
-pub record AreWrittenTexts (source : Litmus Listing) (shown : Shown) (costs : List ℕ) (gaps : SetOfGaps) (cost : ℕ) (texts : AnswerText) : Type 0 where
-  pub program : texts.program.items ≡ canonical_text (litmus_fenced_at gaps source)
-  pub again : (text : List ℕ) → IsLitmus text source → IsFencedLitmus texts.program.items (litmus_fenced_at gaps source)
-  pub line : texts.answer.items ≡ answer_line source.program shown gaps cost
-  pub document : IsPlacedDocument source shown costs gaps texts.program.items texts.document.items
+-- the texts of a problem's answer: these gaps of its program, at this cost
+pub record AreTextsOf (problem : Problem) (gaps : SetOfGaps) (cost : ℕ) (texts : AnswerText) : Type 0 where
+  pub program : texts.program.items ≡ canonical_text (litmus_fenced_at gaps problem.litmus)
+  pub again : (text : List ℕ) → IsLitmus text problem.litmus → IsFencedLitmus texts.program.items (litmus_fenced_at gaps problem.litmus)
+  pub line : texts.answer.items ≡ answer_line problem.litmus.program problem.shown gaps cost
+  pub document : IsPlacedDocument problem.litmus problem.shown problem.costs gaps texts.program.items texts.document.items
   pub set : texts.gaps ≡ gaps
 
--- those of what is placed
-abbrev pub AreTextsOf : PlacedSource → AnswerText → Type 0
-AreTextsOf from = AreWrittenTexts from.source from.shown from.costs from.found.placed.set from.found.placed.cost
+-- the texts of the answer that a certificate proves, and the certificate's own
+pub record ArePlacedTextsOf (problem : Problem) (certificate : Certificate) (written : PlacedText) : Type 0 where
+  pub texts : AreTextsOf problem certificate.gaps certificate.cost written.texts
+  pub spelled : written.certificate ≡ certificate_text certificate

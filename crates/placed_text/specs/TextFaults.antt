@@ -37,6 +37,13 @@ HasNoCosts p costs (fault.CostText why) = AreNoCosts p costs why
 HasNoCosts p costs fault.Workers = ⊥
 HasNoCosts p costs fault.OutOfMemory = ⊤
 
+-- why no problem is read: the litmus text is judged first
+abbrev pub HasNoProblem : List ℕ → Option (List ℕ) → TextFault → Type 0
+HasNoProblem litmus costs (fault.Read why) = IsRefusedText litmus why
+HasNoProblem litmus costs (fault.CostText why) = (source : Litmus Listing) × IsLitmus litmus source × AreNoCosts source.program costs why
+HasNoProblem litmus costs fault.Workers = ⊥
+HasNoProblem litmus costs fault.OutOfMemory = ⊤
+
 abbrev pub HasNoPlacement : ℕ → TextFault → Type 0
 HasNoPlacement workers (fault.Read why) = ⊥
 HasNoPlacement workers (fault.CostText why) = ⊥
@@ -50,7 +57,3 @@ HasNoPlacedText litmus costs workers (fault.CostText why) = (source : Litmus Lis
 HasNoPlacedText litmus costs workers fault.Workers =
     (source : Litmus Listing) × (gap_costs : List ℕ) × IsLitmus litmus source × AreGiven source.program costs gap_costs × AreTooFewOrMany workers
 HasNoPlacedText litmus costs workers fault.OutOfMemory = ⊤
-
--- Why there are no texts where each litmus text in question stands for this.
-abbrev pub HasNoTextOf : Litmus Listing → Option (List ℕ) → ℕ → TextFault → Type 0
-HasNoTextOf source costs workers why = (litmus : List ℕ) → IsLitmus litmus source → HasNoPlacedText litmus costs workers why

@@ -11,7 +11,7 @@ use Rattle.tso_program.specs.declared.shown.ShownKind.{ShownKind}
 use Rattle.tso_program.specs.Fences.{gaps_in}
 use Rattle.tso_program.specs.Shown.{asked, show}
 use Rattle.tso_machine.specs.declared.label.Label.{Label}
-use Rattle.tso_machine.specs.Machine.{StoreBufferMachine, no_gaps, IsRun}
+use Rattle.tso_machine.specs.Machine.{Machine, StoreBufferMachine, no_gaps, IsRun}
 use Rattle.tso_machine.specs.Modes.{ArePassed}
 use Rattle.tso_machine.specs.Outcomes.{IsForeignRun, IsShownRun, IsTheAnswer}
 use Rattle.tso_program.specs.Truth.{truth}
@@ -20,6 +20,7 @@ use Rattle.litmus_text.specs.Texts.{IsLitmus}
 use Rattle.litmus_text.specs.Shown.{shown_as, question_of}
 use Rattle.litmus_text.specs.GivenCosts.{AreGiven}
 use Rattle.report.specs.Answers.{answer_line, printed_labels, outcome_line, passed_line, without_line}
+use Rattle.run_views.specs.Tables.{IsTableOf}
 use Rattle.documents.specs.declared.run.Setting.TheVariants.{Without}
 use Rattle.documents.specs.Documents.{IsWhyDocument}
 use Rattle.documents.specs.Runs.{TellsRun}
@@ -66,9 +67,14 @@ abbrev pub reason_text : Litmus Listing → Shown → ℕ → List Label → Lis
 reason_text source shown gap labels table outcome passed =
     without_line source.program gap ++ printed_labels labels ++ table ++ ending_text source shown outcome passed
 
--- the text is that of a run, with some table of it
-abbrev pub IsReasonText : Litmus Listing → Shown → ℕ → List Label → Outcome → SetOfGaps → List ℕ → Type 0
-IsReasonText source shown gap labels outcome passed text = (table : List ℕ) × (text ≡ reason_text source shown gap labels table outcome passed)
+-- store buffers, with the gaps of the set but this one fenced
+abbrev pub others_fenced : Listing → SetOfGaps → ℕ → Machine
+others_fenced p gaps gap = StoreBufferMachine (gaps_in p (set.remove gaps gap))
+
+-- the text is that of a run, with the table of its steps where the set's other gaps are fenced
+abbrev pub IsReasonText : Litmus Listing → Shown → SetOfGaps → ℕ → List Label → Outcome → SetOfGaps → List ℕ → Type 0
+IsReasonText source shown gaps gap labels outcome passed text =
+    (table : List ℕ) × IsTableOf source (others_fenced source.program gaps gap) labels table × (text ≡ reason_text source shown gap labels table outcome passed)
 
 -- the lines of a reason, and what the document says of its run
 abbrev pub Told : Type 0
@@ -81,10 +87,10 @@ pub record IsReason (source : Litmus Listing) (shown : Shown) (gaps : SetOfGaps)
   pub outcome : Outcome
   pub ends : IsRun source.program (StoreBufferMachine no_gaps) labels outcome
   pub foreign : IsForeignRun (asked source.program shown) labels (show shown outcome)
-  pub fenced : IsShownRun (asked source.program shown) (StoreBufferMachine (gaps_in source.program (set.remove gaps gap))) labels (show shown outcome)
+  pub fenced : IsShownRun (asked source.program shown) (others_fenced source.program gaps gap) labels (show shown outcome)
   pub passed : SetOfGaps
   pub passes : ArePassed source.program (StoreBufferMachine no_gaps) labels passed
-  pub printed : IsReasonText source shown gap labels outcome passed told.0
+  pub printed : IsReasonText source shown gaps gap labels outcome passed told.0
   pub document : TellsRun source (printed_of shown) (Without gap) labels outcome passed told.1
 
 -- one for each of these gaps, in order

@@ -4,15 +4,16 @@ ghost use Rattle.std.specs.FinSet as set;
 ghost use Rattle.gap_sets.specs.Gaps.{numbers_of_set};
 ghost use Rattle.gap_sets.specs.declared.gap_set.TheConstants.{MAX_GAPS};
 ghost use Rattle.tso_program.specs.Listings.{gap_count};
-ghost use Rattle.tso_program.specs.Shown.{asked};
 ghost use Rattle.tso_machine.specs.Outcomes.{IsTheAnswer};
 ghost use Rattle.report.specs.Answers.{answer_line};
 ghost use Rattle.fence_place.specs.Faults.{AreTooFewOrMany};
-ghost use Rattle.placed_text.specs.TextFaults.{HasNoPlacedText};
+ghost use Rattle.placed_text.specs.Problems.{question_in, OfItsPlacement};
+ghost use Rattle.placed_text.specs.TextFaults.{HasNoPlacedText, HasNoPlacement};
 ghost use Rattle.placed_text.specs.WhyTexts.{none_line, reasons_or_none, IsReason, IsWhyText, TellsReasons, TellsWhy};
 
 use crate::TextFault;
-use crate::placing::{PlacedSource, placed_source};
+use crate::placement::{Placement, placement_of};
+use crate::problem::{Problem, read_problem};
 use crate::reasons::{GapReason, push_graph, reason_of, run_without};
 use crate::watched::Effort;
 use documents::why_document;
@@ -63,27 +64,36 @@ impl Explanation {
 }
 
 /// Why a gap of the answer is needed.
-fn reason_for(alloc: Global, placed: &PlacedSource, gap: u8) -> Result<GapReason, AllocError>
-    requires question { placed.now.found.solver.question ≡ asked placed.now.source.program placed.now.shown }
-    requires answer { IsTheAnswer placed.now.found.solver.question placed.now.costs placed.now.found.placed.set }
-    requires one_each { length placed.now.costs ≡ gap_count placed.now.found.solver.question.program.threads }
+fn reason_for(
+    alloc: Global,
+    problem: &Problem,
+    placement: &Placement,
+    gap: u8,
+) -> Result<GapReason, AllocError>
+    requires question { placement.now.solver.question ≡ question_in problem.now }
+    requires answer { IsTheAnswer placement.now.solver.question problem.now.costs placement.now.certificate.gaps }
+    requires one_each { length problem.now.costs ≡ gap_count placement.now.solver.question.program.threads }
     requires gap { gap < MAX_GAPS }
-    requires held { set.contains placed.now.found.placed.set gap ≡ true }
-    ensures { IfOk result (λ reason. IsReason placed.now.source placed.now.shown placed.now.found.placed.set gap (reason.lines.items, reason.run)) }
+    requires held { set.contains placement.now.certificate.gaps gap ≡ true }
+    ensures { IfOk result (λ reason. IsReason problem.now.litmus problem.now.shown placement.now.certificate.gaps gap (reason.lines.items, reason.run)) }
 {
-    let set = placed.found.placed.set;
-    let run = run_without(&placed.found.solver, &placed.costs, &set, gap)?;
-    reason_of(alloc, &placed.source, &placed.shown, &set, gap, &run)
+    let set = placement.gaps();
+    let run = run_without(&placement.solver, &problem.costs, &set, gap)?;
+    reason_of(alloc, &problem.litmus, &problem.shown, &set, gap, &run)
 }
 
 /// Why each gap of the answer is needed.
-fn reasons(alloc: Global, placed: &PlacedSource) -> Result<Explanation, AllocError>
-    requires question { placed.now.found.solver.question ≡ asked placed.now.source.program placed.now.shown }
-    requires answer { IsTheAnswer placed.now.found.solver.question placed.now.costs placed.now.found.placed.set }
-    requires one_each { length placed.now.costs ≡ gap_count placed.now.found.solver.question.program.threads }
-    ensures { IfOk result (λ told. TellsReasons placed.now.source placed.now.shown placed.now.found.placed.set (numbers_of_set placed.now.found.placed.set) told.lines.items told.runs) }
+fn reasons(
+    alloc: Global,
+    problem: &Problem,
+    placement: &Placement,
+) -> Result<Explanation, AllocError>
+    requires question { placement.now.solver.question ≡ question_in problem.now }
+    requires answer { IsTheAnswer placement.now.solver.question problem.now.costs placement.now.certificate.gaps }
+    requires one_each { length problem.now.costs ≡ gap_count placement.now.solver.question.program.threads }
+    ensures { IfOk result (λ told. TellsReasons problem.now.litmus problem.now.shown placement.now.certificate.gaps (numbers_of_set placement.now.certificate.gaps) told.lines.items told.runs) }
 {
-    let set = placed.found.placed.set;
+    let set = placement.gaps();
     set.recall_facts();
     let graph = RunGraph::new(alloc)?;
     let mut told = Explanation {
@@ -92,8 +102,8 @@ fn reasons(alloc: Global, placed: &PlacedSource) -> Result<Explanation, AllocErr
         runs: JsonArray::new(alloc),
     };
     for gap in set.iter() {
-        let reason = reason_for(alloc, placed, gap)?;
-        told.push(alloc, &placed.source, gap, reason)?;
+        let reason = reason_for(alloc, problem, placement, gap)?;
+        told.push(alloc, &problem.litmus, gap, reason)?;
     }
     Ok(told)
 }
@@ -121,28 +131,27 @@ fn reasons_or_none(alloc: Global, shown: &Shown, reasons: Vec<u8>) -> Result<Vec
 }
 
 /// The answer line, and why each gap of the answer is needed.
-fn explained(alloc: Global, placed: &PlacedSource) -> Result<WhyText, AllocError>
-    requires question { placed.now.found.solver.question ≡ asked placed.now.source.program placed.now.shown }
-    requires answer { IsTheAnswer placed.now.found.solver.question placed.now.costs placed.now.found.placed.set }
-    requires one_each { length placed.now.costs ≡ gap_count placed.now.found.solver.question.program.threads }
-    ensures { IfOk result (λ told. TellsWhy placed.now.source placed.now.shown placed.now.costs placed.now.found.placed.set (answer_line placed.now.source.program placed.now.shown placed.now.found.placed.set placed.now.found.placed.cost) told.lines.items told.document.items) }
+fn explained(alloc: Global, problem: &Problem, placement: &Placement) -> Result<WhyText, AllocError>
+    requires question { placement.now.solver.question ≡ question_in problem.now }
+    requires answer { IsTheAnswer placement.now.solver.question problem.now.costs placement.now.certificate.gaps }
+    requires one_each { length problem.now.costs ≡ gap_count placement.now.solver.question.program.threads }
+    ensures { IfOk result (λ told. TellsWhy problem.now.litmus problem.now.shown problem.now.costs placement.now.certificate.gaps (answer_line problem.now.litmus.program problem.now.shown placement.now.certificate.gaps placement.now.certificate.cost) told.lines.items told.document.items) }
 {
-    let PlacedSource {
-        source,
-        costs,
+    let Problem {
+        litmus,
         shown,
-        found,
-    } = placed;
-    let set = found.placed.set;
-    let reasons = reasons(alloc, placed)?;
+        costs,
+    } = problem;
+    let set = placement.gaps();
+    let reasons = reasons(alloc, problem, placement)?;
     let Explanation {
         lines: each,
         graph,
         runs,
     } = reasons;
     let said = reasons_or_none(alloc, shown, each)?;
-    let document = why_document(alloc, source, shown, costs, &set, runs)?;
-    let mut lines = answer_line(alloc, &source.program, shown, set, found.placed.cost)?;
+    let document = why_document(alloc, litmus, shown, costs, &set, runs)?;
+    let mut lines = answer_line(alloc, &litmus.program, shown, set, placement.cost())?;
     lines.extend_from_slice(&said)?;
     let graph = graph.into_text()?;
     Ok(WhyText {
@@ -152,18 +161,20 @@ fn explained(alloc: Global, placed: &PlacedSource) -> Result<WhyText, AllocError
     })
 }
 
-/// What is said of the answer, where memory suffices.
-fn told(alloc: Global, placed: &PlacedSource) -> Result<WhyText, TextFault>
-    requires question { placed.now.found.solver.question ≡ asked placed.now.source.program placed.now.shown }
-    requires answer { IsTheAnswer placed.now.found.solver.question placed.now.costs placed.now.found.placed.set }
-    requires one_each { length placed.now.costs ≡ gap_count placed.now.found.solver.question.program.threads }
-    ensures told { IfOk result (λ told. TellsWhy placed.now.source placed.now.shown placed.now.costs placed.now.found.placed.set (answer_line placed.now.source.program placed.now.shown placed.now.found.placed.set placed.now.found.placed.cost) told.lines.items told.document.items) }
-    ensures fault { IfErr result (λ why. why ≡ TextFault.OutOfMemory) }
+/// Places fences in the program of a problem, and says why each of them is needed.
+fn why_of<R: Threads + Wait + Sync>(
+    rt: &R,
+    alloc: Global,
+    problem: &Problem,
+    effort: Effort,
+) -> Result<WhyText, TextFault>
+    requires { length problem.now.costs ≡ gap_count problem.now.litmus.program.threads }
+    ensures told { IfOk result (λ told. OfItsPlacement problem.now (λ placed. TellsWhy problem.now.litmus problem.now.shown problem.now.costs placed.gaps (answer_line problem.now.litmus.program problem.now.shown placed.gaps placed.cost) told.lines.items told.document.items)) }
+    ensures workers { OnOk result (¬ AreTooFewOrMany effort.workers) }
+    ensures fault { IfErr result (HasNoPlacement effort.workers) }
 {
-    match explained(alloc, placed) {
-        Ok(reasons) => Ok(reasons),
-        Err(_) => Err(TextFault::OutOfMemory),
-    }
+    let placement = placement_of(rt, alloc, problem, effort)?;
+    Ok(explained(alloc, problem, &placement)?)
 }
 
 /// Places fences in the program of a litmus text as [`crate::answer_text`] does, and says why each of them is
@@ -181,8 +192,6 @@ pub fn why_text<R: Threads + Wait + Sync>(
     ensures workers { OnOk result (¬ AreTooFewOrMany effort.workers) }
     ensures fault { IfErr result (HasNoPlacedText litmus.now (option_map (λ text. text.now) costs.entry) effort.workers) }
 {
-    let placed = placed_source(rt, alloc, litmus, costs, kind, effort)?;
-    let reasons = told(alloc, &placed);
-    drop(placed);
-    reasons
+    let problem = read_problem(alloc, litmus, costs, kind)?;
+    why_of(rt, alloc, &problem, effort)
 }

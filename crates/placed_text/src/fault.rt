@@ -1,6 +1,11 @@
 //! Why nothing is placed in the program of a text.
 
+ghost use Rattle.std.specs.Prelude.{◌≡◌};
+ghost use Rattle.placed_text.specs.declared.fault.TextFault.TheVariants.{OutOfMemory};
+
+use cover_solver::SolveFault;
 use litmus_text::{CostTextFault, ReadFault};
+use std::alloc::AllocError;
 use thiserror::Error;
 
 /// Why nothing is placed in the program of a text. Where memory runs out, that is `OutOfMemory`, and no inner
@@ -18,4 +23,20 @@ pub enum TextFault {
     Workers,
     #[error("out of memory")]
     OutOfMemory,
+}
+
+impl From<AllocError> for TextFault {
+    ghost from_gives = { λ _ why. why ≡ OutOfMemory };
+
+    fn from(_fault: AllocError) -> TextFault {
+        TextFault::OutOfMemory
+    }
+}
+
+impl From<SolveFault> for TextFault {
+    ghost from_gives = { λ _ why. why ≡ OutOfMemory };
+
+    fn from(_fault: SolveFault) -> TextFault {
+        TextFault::OutOfMemory
+    }
 }

@@ -5,12 +5,14 @@ ghost use Rattle.gap_sets.specs.declared.gap_set.TheConstants.{MAX_GAPS};
 ghost use Rattle.tso_program.specs.declared.shown.Shown.TheVariants.{All};
 ghost use Rattle.tso_program.specs.Shown.{asked};
 ghost use Rattle.tso_machine.specs.declared.label.Model.TheVariants.{Buffered};
+ghost use Rattle.tso_machine.specs.Machine.{start};
 ghost use Rattle.tso_machine.specs.Outcomes.{IsReplayOf, IsTheAnswer};
+ghost use Rattle.tso_machine.specs.Steps.{AreSteps};
 ghost use Rattle.oracle.specs.Facts as facts;
 ghost use Rattle.oracle.specs.Verdicts.{PassesNoneOf};
 ghost use Rattle.tso_program.specs.Listings.{gap_count};
 ghost use Rattle.report.specs.Answers.{printed_labels, without_line};
-ghost use Rattle.placed_text.specs.WhyTexts.{is_foreign, met_line, alone_line, foreign_lines, printed_of, ending_text, IsReason};
+ghost use Rattle.placed_text.specs.WhyTexts.{is_foreign, met_line, alone_line, foreign_lines, printed_of, ending_text, others_fenced, IsReason};
 
 use cover_solver::{ForeignRun, Oracle, Solver, Verdict};
 use documents::{Setting, run_value};
@@ -78,6 +80,7 @@ fn steps_of(
     run: &ForeignRun,
 ) -> Result<Vec<Step>, AllocError>
     requires gap { gap < MAX_GAPS }
+    ensures steps { IfOk result (λ steps. AreSteps run.now.question.program (others_fenced run.now.question.program gaps.now gap) (start run.now.question.program) run.now.labels steps.items) }
     ensures labels { IfOk result (λ steps. map (λ step. step.label) steps.items ≡ run.now.labels) }
 {
     let others = gaps.without(gap);

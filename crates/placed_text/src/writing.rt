@@ -1,15 +1,27 @@
-//! The texts of what is placed.
-ghost use Rattle.std.specs.Prelude.{◌≡◌, None, IfOk};
+//! The texts of an answer, and of its certificate.
+ghost use Rattle.std.specs.Prelude.{◌≡◌, None, IfErr, IfOk, OnOk, length, option_map};
 ghost use Rattle.tso_program.specs.Fences.{first_missing};
-ghost use Rattle.placed_text.specs.PlacedTexts.{AreWrittenTexts};
+ghost use Rattle.tso_program.specs.Listings.{gap_count};
+ghost use Rattle.fence_place.specs.Faults.{AreTooFewOrMany};
+ghost use Rattle.placed_text.specs.PlacedTexts.{AreTextsOf, ArePlacedTextsOf, IsAnswerText, IsPlacedText};
+ghost use Rattle.placed_text.specs.Problems.{OfItsPlacement};
+ghost use Rattle.placed_text.specs.TextFaults.{HasNoPlacedText, HasNoPlacement};
 
+use crate::TextFault;
+use crate::placement::placement_of;
+use crate::problem::{Problem, read_problem};
+use crate::watched::Effort;
+use cert_forest::Certificate;
+use cert_pages::write_pages;
 use documents::placed_document;
-use gap_sets::{Costs, GapSet};
-use litmus_text::{Litmus, write_litmus};
+use gap_sets::GapSet;
+use litmus_text::write_litmus;
 use paged_text::Pages;
 use report::answer_line;
 use std::alloc::{AllocError, Global};
-use tso_program::{FenceFault, Program, Shown};
+use std::sync::Wait;
+use std::thread::Threads;
+use tso_program::{FenceFault, ShownKind};
 
 /// The texts of an answer.
 #[derive(Drop)]
@@ -31,28 +43,126 @@ pub struct PlacedText {
     pub certificate: Pages,
 }
 
-/// Writes the texts of an answer: these gaps of a program, at this cost.
-pub(crate) fn write_answer(
+/// Writes the texts of a problem's answer: these gaps, at this cost.
+fn write_answer(
     alloc: Global,
-    litmus: &Litmus<Program>,
-    shown: &Shown,
-    costs: &Costs,
-    set: &GapSet,
+    problem: &Problem,
+    gaps: &GapSet,
     cost: u64,
 ) -> Result<AnswerText, AllocError>
-    requires { first_missing litmus.now.program set.now ≡ None }
-    ensures { IfOk result (AreWrittenTexts litmus.now shown.now costs.now set.now cost) }
+    requires { first_missing problem.now.litmus.program gaps.now ≡ None }
+    ensures { IfOk result (AreTextsOf problem.now gaps.now cost) }
 {
-    let program = match write_litmus(alloc, litmus, set) {
+    let Problem {
+        litmus,
+        shown,
+        costs,
+    } = problem;
+    let program = match write_litmus(alloc, litmus, gaps) {
         Ok(program) => program,
         Err(FenceFault::NoSuchGap(_)) => unreachable!(),
         Err(FenceFault::OutOfMemory) => return Err(AllocError),
     };
-    let document = placed_document(alloc, litmus, shown, costs, set, &program)?;
+    let document = placed_document(alloc, litmus, shown, costs, gaps, &program)?;
     Ok(AnswerText {
         program,
-        answer: answer_line(alloc, &litmus.program, shown, *set, cost)?,
+        answer: answer_line(alloc, &litmus.program, shown, *gaps, cost)?,
         document,
-        gaps: *set,
+        gaps: *gaps,
     })
+}
+
+/// Writes the text of a certificate, which goes as it is written, and the texts of the problem's answer.
+fn write_placed<R: Threads + Sync>(
+    rt: &R,
+    alloc: Global,
+    workers: u8,
+    problem: &Problem,
+    certificate: Certificate,
+) -> Result<PlacedText, AllocError>
+    requires { first_missing problem.now.litmus.program certificate.gaps ≡ None }
+    ensures { IfOk result (ArePlacedTextsOf problem.now certificate) }
+{
+    let gaps = certificate.set;
+    let cost = certificate.cost;
+    let threads = usize::from(workers.max(1));
+    let certificate = write_pages(rt, alloc, threads, certificate)?;
+    let texts = write_answer(alloc, problem, &gaps, cost)?;
+    Ok(PlacedText { texts, certificate })
+}
+
+/// Places fences in the program of a problem, and writes the texts of the answer. The certificate goes before they are made.
+fn answer_of<R: Threads + Wait + Sync>(
+    rt: &R,
+    alloc: Global,
+    problem: &Problem,
+    effort: Effort,
+) -> Result<AnswerText, TextFault>
+    requires { length problem.now.costs ≡ gap_count problem.now.litmus.program.threads }
+    ensures told { IfOk result (λ texts. OfItsPlacement problem.now (λ placed. AreTextsOf problem.now placed.gaps placed.cost texts)) }
+    ensures workers { OnOk result (¬ AreTooFewOrMany effort.workers) }
+    ensures fault { IfErr result (HasNoPlacement effort.workers) }
+{
+    let placement = placement_of(rt, alloc, problem, effort)?;
+    let gaps = placement.gaps();
+    let cost = placement.cost();
+    drop(placement);
+    Ok(write_answer(alloc, problem, &gaps, cost)?)
+}
+
+/// Places fences in the program of a problem, and writes the texts of the answer and of its certificate.
+fn place_in<R: Threads + Wait + Sync>(
+    rt: &R,
+    alloc: Global,
+    problem: &Problem,
+    effort: Effort,
+) -> Result<PlacedText, TextFault>
+    requires { length problem.now.costs ≡ gap_count problem.now.litmus.program.threads }
+    ensures placed { IfOk result (λ written. OfItsPlacement problem.now (λ placed. ArePlacedTextsOf problem.now placed written)) }
+    ensures workers { OnOk result (¬ AreTooFewOrMany effort.workers) }
+    ensures fault { IfErr result (HasNoPlacement effort.workers) }
+{
+    let placement = placement_of(rt, alloc, problem, effort)?;
+    let certificate = placement.into_certificate();
+    Ok(write_placed(rt, alloc, effort.workers, problem, certificate)?)
+}
+
+/// Places fences in the program of a litmus text, where its gaps cost what a text of costs says, and 1
+/// each without one: the best set of gaps after which the program has its sequential outcomes and no
+/// others. What is shown of outcomes, by its kind, tells them apart.
+///
+/// The litmus text is judged first, then the costs, then the number of workers. With `rt` workers start threads
+/// and wait for one another ([`fence_place::place`]). [`Effort`] says where it reports how far it is.
+pub fn answer_text<R: Threads + Wait + Sync>(
+    rt: &R,
+    alloc: Global,
+    litmus: &[u8],
+    costs: Option<&[u8]>,
+    kind: ShownKind,
+    effort: Effort,
+) -> Result<AnswerText, TextFault>
+    ensures told { IfOk result (IsAnswerText litmus.now (option_map (λ text. text.now) costs.entry) kind) }
+    ensures workers { OnOk result (¬ AreTooFewOrMany effort.workers) }
+    ensures fault { IfErr result (HasNoPlacedText litmus.now (option_map (λ text. text.now) costs.entry) effort.workers) }
+{
+    let problem = read_problem(alloc, litmus, costs, kind)?;
+    answer_of(rt, alloc, &problem, effort)
+}
+
+/// Places fences in the program of a litmus text as [`answer_text`] does, and writes the certificate too, by the threads of
+/// its workers.
+pub fn place_text<R: Threads + Wait + Sync>(
+    rt: &R,
+    alloc: Global,
+    litmus: &[u8],
+    costs: Option<&[u8]>,
+    kind: ShownKind,
+    effort: Effort,
+) -> Result<PlacedText, TextFault>
+    ensures placed { IfOk result (IsPlacedText litmus.now (option_map (λ text. text.now) costs.entry) kind) }
+    ensures workers { OnOk result (¬ AreTooFewOrMany effort.workers) }
+    ensures fault { IfErr result (HasNoPlacedText litmus.now (option_map (λ text. text.now) costs.entry) effort.workers) }
+{
+    let problem = read_problem(alloc, litmus, costs, kind)?;
+    place_in(rt, alloc, &problem, effort)
 }

@@ -18,7 +18,7 @@ use Rattle.cost_text.specs.declared.fault.CostTextFault.TheVariants as costs
 abbrev pub refused : List ℕ → List ℕ
 refused what = codes "refused " ++ what ++ 10 ∷ []
 
--- the same with a number
+-- the line of a refusal that ends with a number
 abbrev pub refused_at : List ℕ → ℕ → List ℕ
 refused_at what number = refused (what ++ 32 ∷ decimal number)
 

@@ -2,15 +2,15 @@
 use Rattle.rowless_sketches.proofs.Vocabulary.{◌≡◌, ◌↔◌, ℕ, ◌<◌, ◌≤◌, Bool, true, false, not, IsTrue, List, [], ◌∷◌, Option, Some, None, IsSome, get_or, length, drop, add-one, drop-cons, ◌+◌, Result, Ok, Err, IfOk, refl, sym, ap, ◌∙◌, subst, inl, inr, arith}
 use Rattle.rowless_sketches.proofs.Vocabulary.{slice_get, option_and_then, slice_get-get_or, slice_get_past, drop_all, Half, AndOf, OrOf, build, Atom, Tree, IsLawful, ProgramSketch, mode_in, trace_in, final_registers, next_read, IsKnownTruth, Knows}
 use Rattle.rowless_sketches.proofs.Vocabulary.{after_node, not-true as not_true, not_from_false as false_not, ◌==◌, slice_index, Access, Event, At, Initial, access_in, IsLastWith, HasLater, IsInitialWrite, IsOfThread, IsWritten, MayBe, MayBeBy, yes, no}
-use Rattle.tso_program.specs.{declared.instruction.Reg.Reg, Instructions.number, declared.node.Node.Node, Truth.is_true_at, Truth.is_value}
+use Rattle.tso_program.specs.{declared.instruction.Reg.Reg, Instructions.number, declared.node.FormulaNode.FormulaNode, Truth.is_true_at, Truth.is_value}
 use Rattle.tso_program.specs.declared.atom.Atom.TheVariants as atom
-use Rattle.tso_program.specs.declared.node.Node.TheVariants as node
+use Rattle.tso_program.specs.declared.node.FormulaNode.TheVariants as node
 use Rattle.tso_program.specs.Tree as tree
 use Rattle.rowless_sketches.proofs.{OwnWrites.own_or_initial, OwnWrites.first_free, Ends.final_at, Ends.final_long, Ends.last_by, Ends.write_within, Ends.thread_within}
 
 -- ---- tests of two truths
 
-no_some : (o : Option ℕ) → (IsSome o → ⊥) → o ≡ None
+pub no_some : (o : Option ℕ) → (IsSome o → ⊥) → o ≡ None
 no_some None none = refl
 no_some (Some x) none = absurd (none refl)
 
@@ -104,19 +104,19 @@ module _ (s : ProgramSketch) (l v : ℕ) (is : Bool) where
 
 -- ---- a walk over the nodes
 
-one_on : (f : Tree Atom) (hs : List Half) (x : Node) (xs : List Node) → build f hs (x ∷ xs) ≡ build (after_node x f hs).0 (after_node x f hs).1 xs
+one_on : (f : Tree Atom) (hs : List Half) (x : FormulaNode) (xs : List FormulaNode) → build f hs (x ∷ xs) ≡ build (after_node x f hs).0 (after_node x f hs).1 xs
 one_on f [] node.End xs = refl
 one_on f (AndOf g ∷ hs) node.End xs = refl
 one_on f (OrOf g ∷ hs) node.End xs = refl
 one_on f hs x xs = refl
 
-pub walk_on : (f : Tree Atom) (hs : List Half) (i : ℕ) (nodes : List Node) (d : Node) (all : Tree Atom) → i < length nodes → build f hs (drop i nodes) ≡ all →
+pub walk_on : (f : Tree Atom) (hs : List Half) (i : ℕ) (nodes : List FormulaNode) (d : FormulaNode) (all : Tree Atom) → i < length nodes → build f hs (drop i nodes) ≡ all →
     build (after_node (get_or nodes i d) f hs).0 (after_node (get_or nodes i d) f hs).1 (drop (i + 1) nodes) ≡ all
 walk_on f hs i nodes d all h is =
     let e : drop i nodes ≡ get_or nodes i d ∷ drop (i + 1) nodes = rw add-one (drop-cons nodes i d h) in
     sym (one_on f hs (get_or nodes i d) (drop (i + 1) nodes)) ∙ sym (ap (build f hs) e) ∙ is
 
-pub walked : (f : Tree Atom) (hs : List Half) (i : ℕ) (nodes : List Node) (all : Tree Atom) → length nodes ≤ i → build f hs (drop i nodes) ≡ all → f ≡ all
+pub walked : (f : Tree Atom) (hs : List Half) (i : ℕ) (nodes : List FormulaNode) (all : Tree Atom) → length nodes ≤ i → build f hs (drop i nodes) ≡ all → f ≡ all
 walked f hs i nodes all h is = sym (ap (build f hs) (drop_all i nodes h)) ∙ is
 
 -- what follows from the fact of a test follows from the test

@@ -1,5 +1,5 @@
 -- The sources of a read, listed thread by thread.
-use Rattle.rowless_sketches.proofs.Vocabulary.{◌≡◌, ◌↔◌, ◌⊎◌, ◌+◌, ℕ, ◌≤◌, List, [], Some, slice_get, length, Contains, refl, sym, ap, ◌∙◌, subst, inl, inr, arith, AllPairs, cases_lt, cases_eq, same_Some, slice_get_within, Listing, Mode, Access, Event}
+use Rattle.rowless_sketches.proofs.Vocabulary.{◌≡◌, ◌↔◌, ◌⊎◌, ◌+◌, ℕ, Bool, IsTrue, ◌≤◌, List, [], Some, slice_get, length, Contains, refl, sym, ap, ◌∙◌, subst, inl, inr, arith, AllPairs, cases_lt, cases_eq, same_Some, slice_get_within, Listing, Mode, Access, Event}
 use Rattle.rowless_sketches.proofs.Vocabulary.{Initial, At, ComesBefore, IsSourceOf, ThreadTrace, ProgramSketch, mode_in, trace_in, view_of, KeepsTraces, ReadsThisValue, IsRead, trace_accesses, none_in, IsWhole, AreListedTo, AreSources}
 
 module _ (s : ProgramSketch) (read : Event) where
@@ -117,6 +117,14 @@ module _ (s : ProgramSketch) (read : Event) where
         | inl less ↦ inl less
         | inr beyond ↦ absurd (past_gives t j (let none = ap length (past t beyond) in omega arith) gives)
       ]
+
+  -- an access that writes the value to the location is a source, unless it is the read itself
+  pub other_gives : (l v t i : ℕ) (y : Access) (b : Bool) → slice_get (trace_in s t).accesses i ≡ Some y → ReadsThisValue s read l v → (y.location ≡ l) × (y.written ≡ Some v) →
+      (IsTrue b ↔ (At t i ≡ read → ⊥)) → IsTrue b ↔ Gives (At t i)
+  other_gives l v t i y b here (own, at_read, reads, place) (same_place, written) other = (
+    λ is. (own, v, at_read, reads, other.0 is, (y, here, same_place ∙ sym place, written)),
+    λ (x, u, ax, rx, ne, writes). other.1 ne,
+  )
 
   -- an access that does not write the value to the location is no source
   pub unwritten_here : (l v t i : ℕ) (y : Access) → slice_get (trace_in s t).accesses i ≡ Some y → ReadsThisValue s read l v → ((y.location ≡ l) × (y.written ≡ Some v) → ⊥) → Gives (At t i) → ⊥

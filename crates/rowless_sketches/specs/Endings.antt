@@ -34,7 +34,7 @@ pub record HasEnds (s : ProgramSketch) (shown : Shown) (memory : List ℕ) : Typ
 abbrev pub MayBe : ProgramSketch → ℕ → ℕ → Bool → Type 0
 MayBe s l v is = (w : ℕ) × SketchMayEndWith s l w × ((w == v) ≡ is)
 
--- the same of a write of which P holds
+-- a write of which P holds, and that may be the last of the location, writes a value that is this one, or is not
 abbrev pub MayBeBy : ProgramSketch → ℕ → ℕ → Bool → (Event → Type 0) → Type 0
 MayBeBy s l v is P = (e : Event) × P e × ((w : ℕ) × IsLastWith s l w e × ((w == v) ≡ is))
 

@@ -21,7 +21,7 @@ use candidate_executions::{Access, Event};
 use program_sketches::{Knowledge, Left, joined, negated, settled, unsettled};
 use std::alloc::{AllocError, Global};
 use thread_traces::thread_trace_at;
-use tso_program::{Atom, Formula, Node, REGISTERS, Reg};
+use tso_program::{Atom, Formula, FormulaNode, REGISTERS, Reg};
 
 impl Parts<'_> {
     /// What is known of the formula's truth, whatever is chosen further. Only the left operands that wait for
@@ -41,7 +41,7 @@ impl Parts<'_> {
     /// What is known after one node more.
     fn knows_more(
         &self,
-        node: Node,
+        node: FormulaNode,
         value: Knowledge,
         waiting: &mut Vec<Left>,
     ) -> Result<Knowledge, AllocError>
@@ -49,18 +49,18 @@ impl Parts<'_> {
             → IfOk result (λ next. KnowsAll self.now (after_node node f hs) next waiting.new.items) }
     {
         match node {
-            Node::Atom(atom) => Ok(self.knows_atom(atom)),
-            Node::Const(constant) => Ok(settled(constant)),
-            Node::Not => Ok(negated(value)),
-            Node::And => {
+            FormulaNode::Atom(atom) => Ok(self.knows_atom(atom)),
+            FormulaNode::Const(constant) => Ok(settled(constant)),
+            FormulaNode::Not => Ok(negated(value)),
+            FormulaNode::And => {
                 waiting.push(Left::OfAnd(value))?;
                 Ok(value)
             }
-            Node::Or => {
+            FormulaNode::Or => {
                 waiting.push(Left::OfOr(value))?;
                 Ok(value)
             }
-            Node::End => match waiting.pop() {
+            FormulaNode::End => match waiting.pop() {
                 Some(left) => Ok(joined(left, value)),
                 None => Ok(value),
             },

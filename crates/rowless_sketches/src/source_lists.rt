@@ -11,7 +11,7 @@ ghost use Rattle.rowless_sketches.specs.Internal.SourcesListed.{AreListedTo};
 
 use crate::parts::Parts;
 use candidate_executions::{Access, Event};
-use program_sketches::{access_at, each_ends};
+use program_sketches::{access_at, each_ends, is_same};
 use std::alloc::{AllocError, Global};
 use thread_traces::{is_value, writes_any};
 
@@ -33,7 +33,8 @@ impl Parts<'_> {
         match self.location_and_value(read) {
             Some((location, value)) => {
                 let mut sources = Vec::new(alloc);
-                self.push_if_source(Event::Initial(location), read, &mut sources)?;
+                let initial = Event::Initial(location);
+                self.push_if_source(initial, self.is_source(initial, read), read, &mut sources)?;
                 self.push_sources(read, location, value, &mut sources)?;
                 Ok(Some(sources))
             }
@@ -83,23 +84,26 @@ impl Parts<'_> {
     {
         for (i, access) in self.accesses_of(t).iter().enumerate() {
             if writes_so(*access, location, value) {
-                self.push_if_source(Event::Access(t, i as u8), read, sources)?;
+                let event = Event::Access(t, i as u8);
+                self.push_if_source(event, is_other(event, read), read, sources)?;
             }
         }
         Ok(())
     }
 
-    /// Appends an event if it is a source of the read.
+    /// Appends an event if it is a source of the read, as is said.
     fn push_if_source(
         &self,
         event: Event,
+        is_source: bool,
         read: Event,
         sources: &mut Vec<Event>,
     ) -> Result<(), AllocError>
+        requires { IsTrue is_source ↔ IsSourceOf self.now.program (mode_in self.now) self.now.chosen event read }
         ensures exact { OnOk result ((e : Event) → Contains sources.new.items e ↔ (Contains sources.old.items e ⊎ ((event ≡ e) × IsSourceOf self.now.program (mode_in self.now) self.now.chosen e read))) }
         ensures ordered { OnOk result (AllPairs ComesBefore sources.old.items → ((e : Event) → Contains sources.old.items e → ComesBefore e event) → AllPairs ComesBefore sources.new.items) }
     {
-        if self.is_source(event, read) {
+        if is_source {
             sources.push(event)?;
         }
         Ok(())
@@ -140,4 +144,11 @@ fn writes_so(access: Access, location: u8, value: u32) -> bool
     ensures { IsTrue result ↔ ((access.location ≡ location) × (access.written ≡ Some value)) }
 {
     access.location == location && is_value(access.written, value)
+}
+
+/// Whether an event is another one than the read.
+fn is_other(event: Event, read: Event) -> bool
+    ensures { IsTrue result ↔ (event ≡ read → ⊥) }
+{
+    !is_same(event, read)
 }

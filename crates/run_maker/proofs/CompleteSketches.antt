@@ -15,10 +15,10 @@ use Rattle.candidate_executions.proofs.{ToRuns.CandidatesAreRuns.every_order, Ca
 use Rattle.candidate_executions.proofs.{Sketches.MoreValues.end_or_read, FromRuns.StepsSuffice.advance, Orders.WiderRelations.acyclic_narrower}
 use Rattle.program_sketches.specs.Kept.{IsLawful}
 use Rattle.rowless_sketches.specs.Completions.{MustEndSo}
-use Rattle.sketches.specs.Complete.{IsComplete}
+use Rattle.exec_axioms.specs.Complete.{IsComplete}
 use Rattle.program_sketches.proofs.Chosen.{once}
 use Rattle.rowless_sketches.proofs.Ends.{ends_only}
-use Rattle.sketches.proofs.{LastWrites.of_followed, LastWrites.pair_edge, Completeness.first_there, Completeness.second_there}
+use Rattle.exec_axioms.proofs.{LastWrites.of_followed, LastWrites.pair_edge, Completeness.first_there, Completeness.second_there}
 use Rattle.run_maker.proofs.PlacesInOrder.{place, place_before, place_same, chosen, chosen_is}
 
 consistent_by : (p : Listing) (m : Machine) (c : Candidate) → ((kind : Kind) → IsOfMode m kind → IsAcyclic (Edge p m c kind)) → IsConsistent p m c

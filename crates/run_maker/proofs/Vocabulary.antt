@@ -17,7 +17,7 @@ pub use Rattle.candidate_executions.specs.declared.access.Access.{Access}
 pub use Rattle.candidate_executions.specs.declared.event.Event.{Event, TheVariants.Access as At, TheVariants.Initial}
 pub use Rattle.candidate_executions.specs.declared.event.Kind.{Kind}
 pub use Rattle.program_sketches.proofs.Lookups.{each_more, empty_list}
-pub use Rattle.sketches.specs.Cycles.{EachGoesOn, IsEnd, IsSuccessor}
+pub use Rattle.exec_axioms.specs.Cycles.{EachGoesOn, IsEnd, IsSuccessor}
 pub use Rattle.program_sketches.specs.Known.{HasNoCycle}
 pub use Rattle.program_sketches.specs.ProgramSketches.{ProgramSketch, access_in, mode_in, trace_in}
 pub use Rattle.tso_machine.specs.Machine.{IsRun, Machine, SequentialMachine, StoreBufferMachine, put}

@@ -1,7 +1,7 @@
 //! An order of the accesses in which few of them come before earlier ones of their thread. A run
 //! follows it as far as the edges allow: no proof rests on it.
 
-use sketches::{Event, Kind, Sketch};
+use exec_axioms::{Event, Kind, Sketch};
 use std::alloc::{AllocError, Global};
 use tso_program::MAX_ACCESSES;
 

@@ -17,11 +17,11 @@ use Rattle.tso_machine.specs.Faults.{thread_of}
 use Rattle.tso_machine.specs.Machine.{Machine, start}
 use Rattle.tso_machine.specs.RunTexts.{spelling}
 use Rattle.tso_machine.specs.Steps.{AreSteps}
-use Rattle.litmus_text.specs.Litmus.{Litmus}
-use Rattle.litmus_text.specs.Names.{TextNames}
+use Rattle.litmus_reader.specs.declared.litmus.Litmus.{Litmus}
+use Rattle.litmus_reader.specs.Names.{TextNames}
 use Rattle.litmus_text.specs.Canonical.{code_named, litmus_fenced_at, own_labels}
 use Rattle.litmus_reader.specs.Pieces.{text_of}
-use Rattle.canonical_text.specs.Spelling.{code_pieces}
+use Rattle.litmus_text.specs.Spelling.{code_pieces}
 
 -- ---- what a step does
 

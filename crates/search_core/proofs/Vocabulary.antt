@@ -35,7 +35,8 @@ pub use Rattle.the_answer.specs.Answers.{the_answer}
 pub use Rattle.tso_program.proofs.Gaps.{gap_below}
 pub use Rattle.tso_program.specs.Limits.{IsWithinLimits}
 pub use Rattle.tso_program.specs.Listings.{gap_count, gap_number}
-pub use Rattle.tso_program.specs.Shown.{Question, asked}
+pub use Rattle.tso_program.specs.Shown.{asked}
+pub use Rattle.tso_program.specs.declared.question.Question.{Question}
 pub use Rattle.tso_program.specs.declared.listing.Listing.{Listing}
 pub use Rattle.search_core.specs.Ceilings.{Bound, IsAboveCeiling, IsBound, IsCeiling, IsCeilingOf}
 pub use Rattle.search_core.specs.Children.{children}

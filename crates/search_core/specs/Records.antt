@@ -1,6 +1,6 @@
 -- What a search that is done leaves.
 use Rattle.std.specs.Prelude.{◌≡◌, ℕ, List, Some, slice_get}
-use Rattle.tso_program.specs.Shown.{Question}
+use Rattle.tso_program.specs.declared.question.Question.{Question}
 use Rattle.oracle.specs.Facts.{Foreign, Serving}
 use Rattle.search_core.specs.declared.entry.Entry.{Entry}
 use Rattle.search_core.specs.declared.entry.Status.{Status, TheVariants.Split, TheVariants.Cut, TheVariants.Confirmed}

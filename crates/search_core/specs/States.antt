@@ -2,7 +2,7 @@
 use Rattle.std.specs.Prelude.{◌≡◌, ◌≤◌, ◌<◌, ℕ, true, false, List, [], ◌∷◌, Option, Some, None, slice_get, slice_set}
 use Rattle.gap_sets.specs.Regions.{all_sets}
 use Rattle.gap_sets.specs.declared.region.Region.{Region}
-use Rattle.tso_program.specs.Shown.{Question}
+use Rattle.tso_program.specs.declared.question.Question.{Question}
 use Rattle.tso_program.specs.declared.limits.TheConstants.{MAX_WORKERS}
 use Rattle.tso_program.specs.Limits.{IsWithinLimits}
 use Rattle.tree_laws.specs.GapTrees.{HaveCosts}
@@ -57,7 +57,7 @@ HasNoOpen s = (place : ℕ) (n : Region) → ¬ IsOpenAt s.entries place n
 abbrev pub IsDone : SearchState → Type 0
 IsDone s = (place : ℕ) (e : Entry) → slice_get s.entries place ≡ Some e → is_live e ≡ false
 
--- the same entries, but this one at its place
+-- the entries with this one at its place
 abbrev pub put_at : SearchState → ℕ → Entry → SearchState
 put_at s place e = record s { entries = slice_set s.entries place e }
 

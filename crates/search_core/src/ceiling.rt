@@ -57,7 +57,8 @@ impl Ceiling {
         ensures { result ≡ Some (record { question = served.now.question; costs = costs.now; cost = total costs.now served.now.gaps }) }
     {
         let cost = costs.total(&served.set());
-        Ceiling::at(served.program(), served.shown(), costs, Some(cost))
+        let question = served.question();
+        Ceiling::at(&question.program, &question.shown, costs, Some(cost))
     }
 
     /// None, or a cost that some serving set doesn't pass.

@@ -7,14 +7,13 @@ use crate::entry::{Entry, Status};
 use gap_sets::{Costs, Region};
 use oracle::{ForeignRun, Served};
 use std::marker::Model;
-use tso_program::{Program, Shown};
+use tso_program::{Program, Question};
 
 /// A search that is done: the answer, and the record of how each node was settled. No call of it takes
 /// memory.
 #[derive(Drop)]
 pub struct Finished {
-    pub(crate) program: Program,
-    pub(crate) shown: Shown,
+    pub(crate) question: Question,
     pub(crate) costs: Costs,
     pub(crate) seats: u8,
     pub(crate) entries: Vec<Entry>,
@@ -33,12 +32,11 @@ impl Model for Finished {
 
     ghost coded = { Prim.hlevel (codes, gap_set.the_row.coded, coded_cover, tree_code) };
 
-    ghost use Rattle.tso_program.specs.Shown.{asked};
     ghost use Rattle.search_core.specs.Records.{IsOutcome};
 
-    ghost view = { λ f. record { question = asked f.program f.shown; costs = f.costs; seats = f.seats; entries = f.entries.items; served = f.served } };
+    ghost view = { λ f. record { question = f.question; costs = f.costs; seats = f.seats; entries = f.entries.items; served = f.served } };
 
-    ghost invariant = { λ f. IsOutcome (record { question = asked f.program f.shown; costs = f.costs; seats = f.seats; entries = f.entries.items; served = f.served }) };
+    ghost invariant = { λ f. IsOutcome (record { question = f.question; costs = f.costs; seats = f.seats; entries = f.entries.items; served = f.served }) };
 }
 
 /// How a node was settled.
@@ -81,15 +79,7 @@ impl Finished {
         ensures value { result.now ≡ self.now.question.program }
         ensures outcome { IsOutcome self.now }
     {
-        &self.program
-    }
-
-    /// What is shown of outcomes.
-    pub fn shown(&self) -> &Shown
-        ensures value { result.now ≡ self.now.question.shown }
-        ensures outcome { IsOutcome self.now }
-    {
-        &self.shown
+        &self.question.program
     }
 
     /// What each gap costs.

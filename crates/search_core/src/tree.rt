@@ -17,7 +17,7 @@ use gap_sets::{Costs, Region};
 use oracle::{ForeignRun, SeqTable, Served};
 use std::alloc::{AllocError, Global};
 use std::marker::Model;
-use tso_program::{MAX_WORKERS, Program, Shown};
+use tso_program::{MAX_WORKERS, Question};
 
 /// The most seats that a search may have: one for each worker.
 pub const MAX_SEATS: u8 = MAX_WORKERS;
@@ -26,8 +26,7 @@ pub const MAX_SEATS: u8 = MAX_WORKERS;
 #[derive(Drop)]
 pub struct SearchTree {
     alloc: Global,
-    program: Program,
-    shown: Shown,
+    question: Question,
     costs: Costs,
     seats: u8,
     entries: Vec<Entry>,
@@ -46,12 +45,11 @@ impl Model for SearchTree {
 
     ghost coded = { Prim.hlevel (codes, gap_set.the_row.coded, coded_cover, tree_code) };
 
-    ghost use Rattle.tso_program.specs.Shown.{asked};
     ghost use Rattle.search_core.specs.Histories.{IsReached};
 
-    ghost view = { λ t. record { question = asked t.program t.shown; costs = t.costs; seats = t.seats; entries = t.entries.items; best = t.best } };
+    ghost view = { λ t. record { question = t.question; costs = t.costs; seats = t.seats; entries = t.entries.items; best = t.best } };
 
-    ghost invariant = { λ t. IsReached (record { question = asked t.program t.shown; costs = t.costs; seats = t.seats; entries = t.entries.items; best = t.best }) };
+    ghost invariant = { λ t. IsReached (record { question = t.question; costs = t.costs; seats = t.seats; entries = t.entries.items; best = t.best }) };
 }
 
 impl SearchTree {
@@ -68,8 +66,8 @@ impl SearchTree {
         ensures start { IfOk result IsStart }
         ensures parts { IfOk result (λ tree. (tree.question ≡ table.now.question) × (tree.costs ≡ costs.now) × (tree.seats ≡ seats)) }
     {
-        let program = table.program();
-        program.recall_facts();
+        let question = table.question();
+        question.program.recall_facts();
         costs.recall_facts();
         let mut entries = Vec::new(alloc);
         entries.push(Entry {
@@ -79,8 +77,7 @@ impl SearchTree {
         })?;
         Ok(SearchTree {
             alloc,
-            program: program.copy()?,
-            shown: table.shown().copy()?,
+            question: question.copy()?,
             costs: costs.copy()?,
             seats,
             entries,
@@ -88,27 +85,19 @@ impl SearchTree {
         })
     }
 
-    /// The program.
-    pub fn program(&self) -> &Program
-        ensures value { result.now ≡ self.now.question.program }
+    /// The question.
+    pub fn question(&self) -> &Question
+        ensures value { result.now ≡ self.now.question }
         ensures reached { IsReached self.now }
     {
-        &self.program
+        &self.question
     }
 
     /// For a proof alone: recalls what holds of every search.
     pub fn recall_facts(&self)
         ensures reached { IsReached self.now }
     {
-        let _ = self.program();
-    }
-
-    /// What is shown of outcomes.
-    pub fn shown(&self) -> &Shown
-        ensures value { result.now ≡ self.now.question.shown }
-        ensures reached { IsReached self.now }
-    {
-        &self.shown
+        let _ = self.question();
     }
 
     /// What each gap costs.
@@ -310,8 +299,7 @@ impl SearchTree {
         }
         let SearchTree {
             alloc: _,
-            program,
-            shown,
+            question,
             costs,
             seats,
             entries,
@@ -319,8 +307,7 @@ impl SearchTree {
         } = self;
         match best {
             Some(served) => Ok(Finished {
-                program,
-                shown,
+                question,
                 costs,
                 seats,
                 entries,

@@ -2,15 +2,12 @@
 use Rattle.std.proofs.Common.{◌≡◌, ◌≢◌, ◌⊎◌, ◌↔◌, ℕ, ◌<◌, List, [], ◌∷◌, ◌++◌, Option, Some, None, IsSome, Contains, slice_get, slice_index, set, length, refl, sym, ap, ◌∙◌, subst, inl, inr, arith}
 use Rattle.sketch_covers.proofs.Vocabulary.{cases_eq, same_Some, Listing, Outcome, Shown, action, code_of, start_of, Event, Writes, IsValueOf, machine_of_mode, Mode, ProgramSketch, mode_in, trace_in, access_in, with_chosen, IsLawful, HaveAllRegisters}
 use Rattle.sketch_covers.proofs.Vocabulary.{with_values, HasValuesAlone, choices_few, AccessId, Source, NoCover, event_of, Choice, ReadValue, Tally, AreAlike, IsCoverAt, Initial, Access as At, Trace, trace, fenced_gaps, given_to, with_value, read_by}
-use Rattle.sketch_covers.proofs.Vocabulary.{next_read, IsSourceOf, IsWhole, none_in, set-set, values_here, values_elsewhere, merged_lawful, values_alone, IsValueOpen, AreValueChoices, AreSourceChoices, source_is_open, HasBit, IsTallyOf, IsTalliedRead}
+use Rattle.sketch_covers.proofs.Vocabulary.{next_read, IsSourceOf, IsWhole, none_in, set-set, values_here, values_elsewhere, merged_lawful, values_alone, IsValueOpen, AreValueChoices, AreSourceChoices, source_is_open, HasTallyBit, IsTallyOf, IsTalliedRead}
 use Rattle.sketch_covers.proofs.Vocabulary.{IsThisThread, IsOther, LacksWriteOfBoth}
 use Rattle.sketch_covers.proofs.Nodes.{covers_none, node_cover}
 use Rattle.candidate_executions.specs.declared.access.Access.{Access}
 use Rattle.tree_laws.specs.declared.choice.OpenChoice.TheVariants as left
-
-none_when : (o : Option ℕ) → (IsSome o → ⊥) → o ≡ None
-none_when None closed = refl
-none_when (Some n) closed = absurd (closed refl)
+use Rattle.rowless_sketches.proofs.Known.{no_some}
 
 module _ (s u : ProgramSketch) (t : ℕ) (lawful : IsLawful s) (alone : HasValuesAlone s.chosen) (there : t < length s.program.threads) (own : IsLawful u) (alike : AreAlike u s) where
   abbrev merged : ProgramSketch
@@ -69,8 +66,8 @@ module _ (s u : ProgramSketch) (t : ℕ) (lawful : IsLawful s) (alone : HasValue
   -- each read has its value where neither has a next read
   pub whole_merged : (IsValueOpen u t → ⊥) → ((v : ℕ) → v ≢ t → IsValueOpen s v → ⊥) → IsWhole merged.program (mode_in merged) merged.chosen
   whole_merged full others v = elim (cases_eq v t) [
-    | inl e ↦ subst (λ z. next_read merged.program (mode_in merged) merged.chosen z ≡ None) (sym e) (next_here ∙ none_when _ full)
-    | inr other ↦ next_elsewhere v other ∙ none_when _ (others v other)
+    | inl e ↦ subst (λ z. next_read merged.program (mode_in merged) merged.chosen z ≡ None) (sym e) (next_here ∙ no_some _ full)
+    | inr other ↦ next_elsewhere v other ∙ no_some _ (others v other)
   ]
 
   -- a read of the thread in its own sketch is one here, and so is one of another thread
@@ -101,15 +98,15 @@ module _ (s u : ProgramSketch) (t : ℕ) (lawful : IsLawful s) (alone : HasValue
     tallied_elsewhere r here = (let (other, is) = other_tally.reads r here in read_elsewhere r other is)
 
     -- each write of a thread has its bit in one of the two
-    marked : (v i l w : ℕ) → Writes (access_in merged) (At v i) l w → HasBit mine.written l w ⊎ HasBit others.written l w
+    marked : (v i l w : ℕ) → Writes (access_in merged) (At v i) l w → HasTallyBit mine.written l w ⊎ HasTallyBit others.written l w
     marked v i l w (x, at, loc, is) = elim (cases_eq v t) [
       | inl e ↦ inl (own_tally.written v i l w e (x, sym (access_here v i e) ∙ at, loc, is))
       | inr other ↦ inr (other_tally.written v i l w other (x, sym (access_elsewhere v i other) ∙ at, loc, is))
     ]
 
-    module _ (r : ReadValue) (is : IsTalliedRead merged r) (not_mine : HasBit mine.written r.location r.value → ⊥) (not_others : HasBit others.written r.location r.value → ⊥) where
-      unmarked : (rows : List ℕ) (l w : ℕ) → (HasBit rows r.location r.value → ⊥) → r.location ≡ l → r.value ≡ w → HasBit rows l w → ⊥
-      unmarked rows l w none at same h = none (subst (λ (m : ℕ). HasBit rows m r.value) (sym at) (subst (λ (n : ℕ). HasBit rows l n) (sym same) h))
+    module _ (r : ReadValue) (is : IsTalliedRead merged r) (not_mine : HasTallyBit mine.written r.location r.value → ⊥) (not_others : HasTallyBit others.written r.location r.value → ⊥) where
+      unmarked : (rows : List ℕ) (l w : ℕ) → (HasTallyBit rows r.location r.value → ⊥) → r.location ≡ l → r.value ≡ w → HasTallyBit rows l w → ⊥
+      unmarked rows l w none at same h = none (subst (λ (m : ℕ). HasTallyBit rows m r.value) (sym at) (subst (λ (n : ℕ). HasTallyBit rows l n) (sym same) h))
 
       no_write : (d : Event) (l w : ℕ) → is.access.location ≡ l → r.value ≡ w → Writes (access_in merged) d l w → ⊥
       no_write (Initial m) l w at same (x, e, loc, wrote) =
@@ -133,7 +130,7 @@ module _ (s u : ProgramSketch) (t : ℕ) (lawful : IsLawful s) (alone : HasValue
       none_there whole read same = subst (λ (a : AccessId). AreSourceChoices merged a []) same (record {
         sources = [];
         next = record {
-          whole = whole;
+          allowed = whole;
           access = is.access;
           is_access = is.is_access;
           is_read = subst (λ (o : Option ℕ). IsSome o) (sym is.reads) refl;

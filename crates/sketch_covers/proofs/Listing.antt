@@ -3,7 +3,7 @@ use Rattle.sketch_covers.proofs.Vocabulary.{◌≡◌, ◌↔◌, ℕ, zero, suc
 use Rattle.sketch_covers.proofs.Vocabulary.{IsValidCover, IsCovered}
 use Rattle.tso_program.specs.Limits.{JumpForward}
 use Rattle.candidate_executions.proofs.Sketches.Choices.{empty_is_a_sketch}
-use Rattle.cover_judge.proofs.{CoveredSketches.valid_covers, ListedOutcomes.listed}
+use Rattle.tree_laws.proofs.{CoveredSketches.valid_covers, ListedOutcomes.listed}
 
 -- what stands beside a value of the second list
 pub zip_at_right : {A B : Type 0} (R : A → B → Type 0) (xs : List A) (ys : List B) (n : ℕ) (y : B) → AllZip R xs ys → slice_get ys n ≡ Some y → (x : A) × (slice_get xs n ≡ Some x) × R x y

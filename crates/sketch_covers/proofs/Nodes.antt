@@ -7,7 +7,7 @@ use Rattle.candidate_executions.specs.{Sketches.Sketch, Sketches.given_to, Candi
 use Rattle.tso_machine.specs.declared.mode.Mode as own
 use Rattle.program_sketches.specs.Choices.{MayFollow}
 use Rattle.program_sketches.proofs.{ChoicesCounted.event_small, BranchesCounted.few_values, BranchesCounted.few_sources}
-use Rattle.sketches.proofs.Completeness.{read_there, first_there, second_there}
+use Rattle.exec_axioms.proofs.Completeness.{read_there, first_there, second_there}
 use Rattle.cert_forest.specs.Limits as limits
 use Rattle.cert_forest.specs.Limits.{cover_depth, covers_depth}
 use Rattle.tree_laws.specs.declared.choice.Choice.TheVariants as choice

@@ -20,7 +20,7 @@ pub use Rattle.branching.specs.Combinations.{AreAlike, IsRest, with_root}
 pub use Rattle.branching.specs.OpenChoices.{IsOpen}
 pub use Rattle.cover_judge.specs.Choices.{AreChoicesOf}
 pub use Rattle.branching.specs.Plans.{AreOfOthers, AreTracesFor, AreTracesOf, IsBeforeLast, IsBeforeNext, IsLast, IsOfOther}
-pub use Rattle.branching.specs.Tallies.{HasBit, IsNeither, IsOther, IsTalliedRead, IsTallyOf, IsThisThread, LacksWriteOfBoth}
+pub use Rattle.branching.specs.Tallies.{HasTallyBit, IsNeither, IsOther, IsTalliedRead, IsTallyOf, IsThisThread, LacksWriteOfBoth}
 pub use Rattle.branching.specs.Traces.{IsValueTree, Read, Traces, first_choices, root, trace_node, trace_trees, traces}
 pub use Rattle.tree_laws.specs.declared.choice.OpenChoice.{OpenChoice}
 pub use Rattle.branching.specs.declared.plan.LastThread.{LastThread}
@@ -41,12 +41,12 @@ pub use Rattle.cert_forest.specs.Node.{Node}
 pub use Rattle.cert_forest.specs.Nodes.{IsTree, spell, spell_all, tree_of}
 pub use Rattle.cert_forest.specs.Trees.{Cover, Covers, Cycle, Known, MoreCovers, NoCover, Order, Source, Value, covers_of}
 pub use Rattle.cover_judge.proofs.ChoicesJudged.{next_is_open, no_order, source_is_open, values_may}
-pub use Rattle.cover_judge.proofs.Lists.{first_is_here, first_or_later, later_is_here, none_here}
+pub use Rattle.tree_laws.proofs.Lists.{first_is_here, first_or_later, later_is_here, none_here}
 pub use Rattle.branching.proofs.AfterChoices.{comes_after}
 pub use Rattle.cover_judge.proofs.SketchesAfter.{moved}
 pub use Rattle.cover_judge.specs.Choices.{AreSourceChoices, AreValueChoices, IsValueOpen, MayChoose}
 pub use Rattle.tree_laws.specs.CoverTrees.{sketch_with}
-pub use Rattle.cover_judge.specs.CoverTrees.{AreValidCovers, IsCovered, IsValidCover, MustEndAsNumber, event_of}
+pub use Rattle.tree_laws.specs.CoverTrees.{AreValidCovers, IsCovered, IsValidCover, MustEndAsNumber, event_of}
 pub use Rattle.cover_judge.specs.Judged.{IsValidAt}
 pub use Rattle.tree_laws.specs.declared.choice.Choice.{Choice}
 pub use Rattle.run_maker.specs.declared.run.MadeRun.{MadeRun}
@@ -54,13 +54,13 @@ pub use Rattle.program_sketches.proofs.ChoicesCounted.{choices_few}
 pub use Rattle.program_sketches.proofs.Lawful.{none_in}
 pub use Rattle.rowless_sketches.proofs.ThreadValues.{merged_lawful, values_alone, values_elsewhere, values_here}
 pub use Rattle.rowless_sketches.specs.Completions.{MustEndSo, NeedNotEnd}
-pub use Rattle.sketches.specs.Cycles.{IsSimpleCycle}
+pub use Rattle.exec_axioms.specs.Cycles.{IsSimpleCycle}
 pub use Rattle.program_sketches.specs.FewAccesses.{AreFewAccesses, HasSmallNumbers}
 pub use Rattle.program_sketches.specs.Kept.{IsLawful}
 pub use Rattle.program_sketches.specs.ProgramSketches.{ProgramSketch, access_in, mode_in, nothing_chosen, trace_in, with_chosen}
 pub use Rattle.program_sketches.specs.Sizes.{HaveAllRegisters, choice_count, most_choices}
 pub use Rattle.rowless_sketches.specs.ThreadValues.{HasValuesAlone, with_values}
-pub use Rattle.sketches.specs.declared.sketch.Sketch.{Sketch}
+pub use Rattle.exec_axioms.specs.declared.sketch.Sketch.{Sketch}
 pub use Rattle.tso_machine.specs.Machine.{Machine, SequentialMachine, StoreBufferMachine, no_gaps}
 pub use Rattle.tso_machine.specs.Modes.{machine_of_mode}
 pub use Rattle.tso_machine.specs.Outcomes.{AllowsShown, IsShownRun}
@@ -69,7 +69,8 @@ pub use Rattle.tso_machine.specs.declared.mode.Mode.{Mode}
 pub use Rattle.tso_program.proofs.OutcomesOrdered.{equal_itself, exact_outcomes, outcomes_ordered}
 pub use Rattle.tso_program.specs.Listings.{action, code_of, start_of}
 pub use Rattle.tso_program.specs.Ordered.{outcome_cmp}
-pub use Rattle.tso_program.specs.Shown.{Question, asked, show}
+pub use Rattle.tso_program.specs.Shown.{asked, show}
+pub use Rattle.tso_program.specs.declared.question.Question.{Question}
 pub use Rattle.tso_program.specs.declared.listing.Listing.{Listing}
 pub use Rattle.tso_program.specs.declared.outcome.Outcome.{Outcome}
 pub use Rattle.tso_program.specs.declared.shown.Shown.{Shown}
@@ -79,7 +80,7 @@ pub use Rattle.tree_laws.specs.Covers.{AreNeat, IsNeat, IsWholeCover}
 pub use Rattle.sketch_covers.specs.CoveredSketches.{IsCoveredAt, IsStillValid, IsTaken, IsValid, IsWithinLimitsAt}
 pub use Rattle.sketch_covers.specs.KnownOutcomes.{AreInOrder, Grows, HasOwnEnd, HasRunOfEach, OnTold, StaysOf, StopIs, by_number}
 pub use Rattle.sketch_covers.specs.NodeChanges.{renumbered_node}
-pub use Rattle.sketch_covers.specs.OutcomeNumbers.{ArePlacesOf, AreRunsOf, HasNumber, IsInOrder, IsRunOf, Keeps, KeepsNumbers, ascending, numbered, place_in, with_first}
+pub use Rattle.sketch_covers.specs.OutcomeNumbers.{ArePlacesOf, AreRunsOf, HasNumber, IsInOrder, IsKnownRun, Keeps, KeepsNumbers, ascending, numbered, place_in, with_first}
 pub use Rattle.sketch_covers.specs.Pushing.{Begins, BeginsIfNew, IfKnown, Pushes}
 pub use Rattle.sketch_covers.specs.ShownRuns.{IsShownRunOf}
 pub use Rattle.sketch_covers.specs.UnsourcedTraces.{Closes, Takes}

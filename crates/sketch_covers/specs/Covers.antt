@@ -12,7 +12,7 @@ use Rattle.cert_forest.specs.Limits.{cover_depth, covers_depth}
 use Rattle.cert_forest.specs.Node.{Node}
 use Rattle.cert_forest.specs.Node.TheVariants as node
 use Rattle.tree_laws.specs.Covers.{IsNeat, AreNeat}
-use Rattle.cover_judge.specs.CoverTrees.{IsValidCover, AreValidCovers}
+use Rattle.tree_laws.specs.CoverTrees.{IsValidCover, AreValidCovers}
 use Rattle.tree_laws.specs.declared.choice.Choice.{Choice}
 use Rattle.tree_laws.specs.CoverTrees.{sketch_with}
 use Rattle.cover_judge.specs.Judged.{IsValidAt}
@@ -40,13 +40,13 @@ pub record IsCoverAt (s : ProgramSketch) (shown : Shown) (outcomes : List Outcom
   pub neat : IsNeat tree
   pub shallow : cover_depth tree + choice_count s ≤ most_choices + 1
 
--- the same at the sketch after a choice
+-- a valid tree at the sketch after a choice, with as few levels
 pub record IsCoverAfter (s : ProgramSketch) (shown : Shown) (outcomes : List Outcome) (choice : Choice) (tree : Cover) : Type 0 where
   pub valid : IsValidCover (asked s.program shown) (mode_in s) outcomes tree (sketch_with s.chosen choice)
   pub neat : IsNeat tree
   pub shallow : cover_depth tree + choice_count s ≤ most_choices
 
--- the same of a tree for each choice
+-- a valid tree for each choice, at the sketch after it, with as few levels
 pub record AreCoversAfter (s : ProgramSketch) (shown : Shown) (outcomes : List Outcome) (choices : List Choice) (trees : List Cover) : Type 0 where
   pub valid : AreValidCovers (asked s.program shown) (mode_in s) outcomes (covers_of trees) (map (sketch_with s.chosen) choices)
   pub neat : AreNeat (covers_of trees)

@@ -2,7 +2,7 @@
 use Rattle.std.specs.Prelude.{◌≡◌, ◌<◌, ◌≤◌, ℕ, List, [], ◌∷◌, Option, Some, None, Contains, slice_get, unwrap_or, length}
 use Rattle.std.specs.List.{AllZip}
 use Rattle.tso_program.specs.declared.outcome.Outcome.{Outcome}
-use Rattle.tso_program.specs.Shown.{Question}
+use Rattle.tso_program.specs.declared.question.Question.{Question}
 use Rattle.tso_machine.specs.declared.label.Label.{Label}
 use Rattle.tso_machine.specs.Machine.{Machine}
 use Rattle.tso_machine.specs.Outcomes.{IsShownRun}
@@ -51,8 +51,8 @@ abbrev pub AreRunsOf : Question → Machine → List (List Label) → List Outco
 AreRunsOf q mode runs outcomes = AllZip (IsShownRun q mode) runs outcomes
 
 -- a run of the outcome, if the runs that are found are those of the outcomes
-abbrev pub IsRunOf : OutcomeIndex → List Label → Outcome → Type 0
-IsRunOf found labels o = (q : Question) (mode : Machine) → AreRunsOf q mode found.runs found.outcomes.items → IsShownRun q mode labels o
+abbrev pub IsKnownRun : OutcomeIndex → List Label → Outcome → Type 0
+IsKnownRun found labels o = (q : Question) (mode : Machine) → AreRunsOf q mode found.runs found.outcomes.items → IsShownRun q mode labels o
 
 -- a number of one list, and what stands for it at another
 abbrev pub place_in : List ℕ → ℕ → ℕ

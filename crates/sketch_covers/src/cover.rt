@@ -5,7 +5,7 @@ ghost use Rattle.std.specs.List.{remove_range};
 ghost use Rattle.tso_program.specs.Shown.{asked};
 ghost use Rattle.candidate_executions.specs.Sketches.{IsWhole};
 ghost use Rattle.program_sketches.specs.ProgramSketches.{mode_in, with_chosen};
-ghost use Rattle.sketches.specs.Complete.{IsComplete};
+ghost use Rattle.exec_axioms.specs.Complete.{IsComplete};
 ghost use Rattle.cert_forest.specs.Nodes.{tree_of, IsTree, first_tree};
 ghost use Rattle.cover_judge.specs.Choices.{MayChoose};
 ghost use Rattle.tree_laws.specs.CoverTrees.{sketch_with};
@@ -26,7 +26,7 @@ use crate::stop::SearchStop;
 use branching::{Branch, WholeAccesses, choose, next_branch, whole_accesses};
 use cert_forest::{Node, Walk, push_known, take_out};
 use cover_judge::{Choice, NodeFault, OpenChoice, judge};
-use sketches::Sketch;
+use exec_axioms::Sketch;
 use std::alloc::{AllocError, Global};
 use tso_program::{Outcome, Shown};
 

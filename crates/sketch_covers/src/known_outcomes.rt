@@ -5,7 +5,7 @@ ghost use Rattle.tso_program.specs.Shown.{asked};
 ghost use Rattle.tso_machine.specs.Modes.{machine_of_mode};
 ghost use Rattle.tso_machine.specs.Outcomes.{IsShownRun};
 ghost use Rattle.program_sketches.specs.ProgramSketches.{mode_in};
-ghost use Rattle.sketches.specs.Complete.{IsComplete};
+ghost use Rattle.exec_axioms.specs.Complete.{IsComplete};
 ghost use Rattle.program_sketches.specs.Known.{HasNoCycle};
 ghost use Rattle.sketch_covers.specs.OutcomeNumbers.{HasNumber};
 ghost use Rattle.sketch_covers.specs.ShownRuns.{IsShownRunOf};
@@ -18,8 +18,8 @@ use crate::run::{run_if_complete, shown_run};
 use crate::same_choices::sketch_in;
 use crate::same_machine::have_same_machine;
 use branching::{OrderedOutcomes, WholeAccesses};
+use exec_axioms::{Mode, Sketch};
 use run_maker::MadeRun;
-use sketches::{Mode, Sketch};
 use std::alloc::{AllocError, Global};
 use tso_program::{Outcome, Shown};
 

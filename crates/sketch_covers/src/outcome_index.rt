@@ -1,12 +1,12 @@
 //! The outcomes that a search has found so far, with their numbers and their runs.
 ghost use Rattle.std.specs.Prelude.{◌≡◌, ◌<◌, ℕ, IfOk, IfErr, OnOk, MatchOption, Contains, length, slice_index_or};
 ghost use Rattle.tso_program.specs.declared.outcome.Outcome.{Outcome as OutcomeValue};
-ghost use Rattle.tso_program.specs.Shown.{Question};
+ghost use Rattle.tso_program.specs.declared.question.Question.{Question};
 ghost use Rattle.tso_program.specs.Ordered.{outcome_cmp};
 ghost use Rattle.tso_machine.specs.Machine.{Machine};
 ghost use Rattle.tso_machine.specs.Outcomes.{IsShownRun};
 ghost use Rattle.tree_laws.specs.Ascending.{BelongsAt};
-ghost use Rattle.sketch_covers.specs.OutcomeNumbers.{ascending, IsInOrder, HasNumber, KeepsNumbers, AreRunsOf, ArePlacesOf, IsRunOf, place_in};
+ghost use Rattle.sketch_covers.specs.OutcomeNumbers.{ascending, IsInOrder, HasNumber, KeepsNumbers, AreRunsOf, ArePlacesOf, IsKnownRun, place_in};
 
 use branching::OrderedOutcomes;
 use cert_forest::{NEAR_RUNS, Runs};
@@ -64,7 +64,7 @@ impl OutcomeIndex {
     /// The run of an outcome. `None` if it is not there.
     pub fn run_of(&self, outcome: &Outcome) -> Option<&[Label]>
         requires { IsInOrder self.now }
-        ensures { MatchOption result (Contains self.now.outcomes.items outcome.now → ⊥) (λ labels. IsRunOf self.now labels.now outcome.now) }
+        ensures { MatchOption result (Contains self.now.outcomes.items outcome.now → ⊥) (λ labels. IsKnownRun self.now labels.now outcome.now) }
     {
         let number = self.number_of(outcome)?;
         self.runs.get(number)

@@ -1,12 +1,12 @@
 //! Runs of complete sketches, as far as their outcomes are shown.
 ghost use Rattle.std.specs.Prelude.{◌≡◌, IfOk, MatchOption};
 ghost use Rattle.program_sketches.specs.Known.{HasNoCycle};
-ghost use Rattle.sketches.specs.Complete.{IsComplete};
+ghost use Rattle.exec_axioms.specs.Complete.{IsComplete};
 ghost use Rattle.tso_program.specs.Shown.{show};
 ghost use Rattle.sketch_covers.specs.ShownRuns.{IsShownRunOf};
 
+use exec_axioms::Sketch;
 use run_maker::{MadeRun, MakeFault, make_run};
-use sketches::Sketch;
 use std::alloc::{AllocError, Global};
 use tso_program::Shown;
 

@@ -4,7 +4,7 @@ ghost use Rattle.branching.specs.Combinations.{AreAlike};
 
 use branching::{ReadValue, WholeAccesses, WrittenValue, choose, value_choices};
 use cover_judge::{Choice, event_of};
-use sketches::{Mode, Sketch, SketchFault};
+use exec_axioms::{Mode, Sketch, SketchFault};
 use std::alloc::{AllocError, Global};
 
 /// The sketch in a mode, with the same values, sources and orders. A choice that the mode does not allow is

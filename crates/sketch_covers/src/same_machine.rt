@@ -4,8 +4,8 @@ ghost use Rattle.tso_program.specs.Fences.{gaps_in};
 ghost use Rattle.tso_program.specs.Listings.{gap_number};
 ghost use Rattle.tso_machine.specs.Modes.{machine_of_mode};
 
+use exec_axioms::Mode;
 use gap_sets::GapSet;
-use sketches::Mode;
 use tso_program::Program;
 
 /// Whether two modes have the same machine for a program.

@@ -2,8 +2,8 @@
 ghost use Rattle.std.specs.Prelude.{◌≡◌};
 ghost use Rattle.sketch_covers.specs.declared.stop.SearchStop.TheVariants as stop;
 
+use exec_axioms::Sketch;
 use run_maker::MadeRun;
-use sketches::Sketch;
 use std::alloc::{AllocError, AllocFailed};
 
 /// Why a search for a tree ends without one.

@@ -3,7 +3,7 @@
 use litmus_reader::{Litmus, NameTable, location_name, register_name};
 use messages::{Message, shown_word};
 use std::alloc::{AllocError, Global};
-use tso_program::{Atom, Instr, Node, Program, Reg, Thread};
+use tso_program::{Atom, FormulaNode, Instr, Program, Reg, Thread};
 
 /// That the condition of a litmus test names a location that no instruction reads or writes, or a register to which its
 /// thread writes nothing, with the first such name. `None` if it names none.
@@ -22,9 +22,9 @@ pub(crate) fn idle_name_of(
 }
 
 /// The atom of a node, if no instruction uses what it names.
-fn idle_atom(program: &Program, node: Node) -> Option<Atom> {
+fn idle_atom(program: &Program, node: FormulaNode) -> Option<Atom> {
     match node {
-        Node::Atom(atom) if is_idle(program.threads(), atom) => Some(atom),
+        FormulaNode::Atom(atom) if is_idle(program.threads(), atom) => Some(atom),
         _ => None,
     }
 }

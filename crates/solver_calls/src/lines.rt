@@ -30,7 +30,7 @@ fn push_outcomes(
     for outcome in table.outcomes() {
         push_bytes(
             printed,
-            &outcome_line(alloc, names, table.shown(), outcome)?,
+            &outcome_line(alloc, names, &table.question().shown, outcome)?,
         )?;
     }
     Ok(())
@@ -58,7 +58,7 @@ pub fn push_foreign_run(
     printed.push_str("foreign\n")?;
     push_bytes(
         printed,
-        &outcome_line(alloc, names, run.shown(), run.outcome())?,
+        &outcome_line(alloc, names, &run.question().shown, run.outcome())?,
     )?;
     push_bytes(printed, &passed_line(alloc, run.program(), &run.passed())?)?;
     push_run(alloc, run.labels(), printed)

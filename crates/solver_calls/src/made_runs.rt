@@ -2,9 +2,9 @@
 ghost use Rattle.program_sketches.specs.Known.{HasNoCycle};
 
 use crate::refusal::SolverRefusal;
+use exec_axioms::Sketch;
 use gap_sets::GapSet;
 use run_maker::{MadeRun, make_run, make_run_for};
-use sketches::Sketch;
 use std::alloc::Global;
 use text_calls::{push_gaps, push_outcome};
 use tso_machine::replay;

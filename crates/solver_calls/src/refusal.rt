@@ -1,8 +1,8 @@
 //! Why a call has no other answer.
 
 use cover_solver::{ForeignFault, SolveFault};
+use exec_axioms::SketchFault;
 use run_maker::MakeFault;
-use sketches::SketchFault;
 use std::alloc::AllocError;
 use text_calls::TextRefusal;
 use thiserror::Error;

@@ -1,11 +1,11 @@
-//! Calls of `sketches` and `run_maker`: what a sketch answers at each step of a script.
+//! Calls of `exec_axioms` and `run_maker`: what a sketch answers at each step of a script.
 //!
 //! A step is a call's name and its arguments, with `:` between them. `1` is the initial write of location 1 and `0.1` is
 //! access 1 of thread 0. Each step prints a line.
 
 use crate::made_runs::push_run;
 use crate::refusal::SolverRefusal;
-use sketches::{Event, Kind, Mode, Sketch};
+use exec_axioms::{Event, Kind, Mode, Sketch};
 use std::alloc::{AllocError, Global};
 use text_calls::{
     TextRefusal, byte_at, byte_of, gap_set_of, named, number_of, outcome_of, parts_of,

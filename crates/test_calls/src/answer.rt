@@ -2,10 +2,9 @@
 
 use crate::calls::{CALLS, Call, TableCall};
 use crate::refusal::CallRefusal;
-use cover_solver::SearchedTable;
 use litmus_text::{Litmus, NameTable, read_litmus};
 use place_calls::{push_exchanged, push_of_hunt, push_of_place};
-use solver_calls::{options, push_of_solver, push_sketch, table_of};
+use solver_calls::{SearchedTable, options, push_of_solver, push_sketch, table_of};
 use std::alloc::{AllocError, Global};
 use std::sync::Wait;
 use std::thread::Threads;

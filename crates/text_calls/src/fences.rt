@@ -1,10 +1,9 @@
-//! Calls of `canonical_text`.
+//! Calls of `litmus_text`.
 
 use crate::input::{byte_of, push_bytes, split_at_byte};
 use crate::refusal::TextRefusal;
-use canonical_text::write_litmus;
 use gap_sets::{GapSet, MAX_GAPS};
-use litmus_text::Litmus;
+use litmus_text::{Litmus, write_litmus};
 use std::alloc::Global;
 use text_tokens::plain_number_up_to;
 use tso_program::Program;

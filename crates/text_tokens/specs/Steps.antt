@@ -19,7 +19,7 @@ FailsUnless false read = read ≡ None
 abbrev pub Fails : {Y E : Type 0} → (E → Bool) → E → Option Y → Type 0
 Fails ran_out e read = FailsUnless (ran_out e) read
 
--- the same as `Gives`, where memory can run out
+-- reading gives what the value is seen as, or nothing where there is a fault, unless that fault is out of memory
 abbrev pub GivesUnless : {X Y E : Type 0} → (E → Bool) → (X → Y) → Result X E → Option Y → Type 0
 GivesUnless ran_out view (Ok x) read = read ≡ Some (view x)
 GivesUnless ran_out view (Err e) read = Fails ran_out e read

@@ -47,7 +47,7 @@ pub fn plain_number(limit: u64, bytes: &[u8]) -> Option<u64>
     }
 }
 
-/// The same of 32 bits.
+/// The number of 32 bits up to the limit that is written so: in decimal digits, at least one, without leading zeros.
 pub fn plain_number_up_to(limit: u32, bytes: &[u8]) -> Option<u32>
     ensures value { result ≡ plain_number_at limit bytes.now }
     ensures found { IfSome result (λ n. (n ≤ limit) × (bytes.now ≡ decimal n)) }

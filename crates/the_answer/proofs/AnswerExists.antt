@@ -3,7 +3,7 @@ use Rattle.the_answer.proofs.Vocabulary.{◌≡◌, ℕ, zero, suc, ◌+◌, tru
 use Rattle.the_answer.proofs.Vocabulary.{does_serve, best_of, the_answer, IsTheAnswer, NonePasses, IsBest, TheAnswerExists, TheAnswerIsThatSet, TheHeadlineIsOfThatSet, NoServingSetCostsLess}
 use Rattle.std.specs.FinSet as set
 use Rattle.tso_program.proofs.Gaps.{none_below, one_more}
-use Rattle.fence_laws.proofs.{AllGapsFenced.all_serve, OneAnswer.one_answer, HeadlineIsTheAnswer.headline_is_the_answer}
+use Rattle.tso_machine.proofs.{AllGapsFenced.all_serve, OneAnswer.one_answer, HeadlineIsTheAnswer.headline_is_the_answer}
 use Rattle.the_answer.proofs.{Served.test_tells, Best.best_is_found}
 
 -- the set of the numbers below n

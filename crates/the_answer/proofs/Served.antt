@@ -5,7 +5,7 @@ use Rattle.std.proofs.lemmas.Cmp.{eq_by_cmp_equiv}
 use Rattle.std.proofs.lemmas.Map.Views.{Contains-from_any, list_any-from_Contains}
 use Rattle.tso_program.specs.Ordered.{outcome_cmp}
 use Rattle.tso_program.proofs.OutcomesOrdered.{outcomes_ordered, same_by_order}
-use Rattle.fence_laws.proofs.SequentialIsBuffered.{sequential_is_allowed}
+use Rattle.tso_machine.proofs.SequentialIsBuffered.{sequential_is_allowed}
 use Rattle.the_answer.proofs.{Lists.each_passes, Lists.all_pass, Lists.one_fails, RunsListed.outcomes_listed}
 
 -- whether an outcome is in a list

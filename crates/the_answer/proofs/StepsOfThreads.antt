@@ -4,7 +4,7 @@ use Rattle.the_answer.proofs.Vocabulary.{Machine, SequentialMachine, StoreBuffer
 use Rattle.std.proofs.Math.Nat.{le-max_left, le-max_right}
 use Rattle.tso_program.specs.{declared.instruction.Instr.Instr, declared.listing.Thread.Thread}
 use Rattle.candidate_executions.proofs.{Candidates.AllEvents.no_code, FromRuns.RunsAreShort.run_bound}
-use Rattle.fence_laws.proofs.{ChangedAt.put_other, EitherMachine.mode_with, EitherMachine.made, EitherMachine.others_keep, EitherMachine.stands_at, EitherMachine.stored, EitherMachine.flush_made}
+use Rattle.tso_machine.proofs.{ChangedAt.put_other, EitherMachine.mode_with, EitherMachine.made, EitherMachine.others_keep, EitherMachine.stands_at, EitherMachine.stored, EitherMachine.flush_made}
 
 -- nothing waits in the buffers of threads that the program has not
 abbrev pub NoOtherThread : Listing → State → Type 0

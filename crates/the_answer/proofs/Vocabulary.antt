@@ -21,7 +21,8 @@ pub use Rattle.tso_machine.specs.declared.label.Pending.{Pending}
 pub use Rattle.tso_program.specs.Fences.{Gaps, gaps_in}
 pub use Rattle.tso_program.specs.Limits.{JumpForward}
 pub use Rattle.tso_program.specs.Listings.{action, code_of, gap_count, gap_number, instr_at}
-pub use Rattle.tso_program.specs.Shown.{Question, show, value_if}
+pub use Rattle.tso_program.specs.Shown.{show, value_if}
+pub use Rattle.tso_program.specs.declared.question.Question.{Question}
 pub use Rattle.tso_program.specs.declared.listing.Listing.{Listing}
 pub use Rattle.tso_program.specs.declared.outcome.Outcome.{Outcome}
 pub use mathlib.Core.Path.{fun_ext}

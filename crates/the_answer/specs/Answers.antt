@@ -7,7 +7,7 @@ use Rattle.gap_sets.specs.Gaps.{SetOfGaps}
 use Rattle.gap_sets.specs.Order.{total}
 use Rattle.tso_program.specs.declared.outcome.Outcome.{Outcome}
 use Rattle.tso_program.specs.Ordered.{outcome_cmp}
-use Rattle.tso_program.specs.Shown.{Question}
+use Rattle.tso_program.specs.declared.question.Question.{Question}
 use Rattle.tso_program.specs.Listings.{gap_count}
 use Rattle.tso_program.specs.Fences.{gaps_in}
 use Rattle.tso_machine.specs.Machine.{SequentialMachine, StoreBufferMachine}

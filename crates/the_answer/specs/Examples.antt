@@ -5,7 +5,8 @@ use Rattle.gap_sets.specs.Laws.{these}
 use Rattle.tso_program.specs.declared.listing.Listing.{Listing}
 use Rattle.tso_program.specs.declared.shown.Shown.TheVariants.{All, Only}
 use Rattle.tso_program.specs.Names.{register_place}
-use Rattle.tso_program.specs.Shown.{Question, asked}
+use Rattle.tso_program.specs.Shown.{asked}
+use Rattle.tso_program.specs.declared.question.Question.{Question}
 use Rattle.tso_machine.specs.Examples.{store_buffering, r, n6, locked_exchange}
 use Rattle.the_answer.specs.Answers.{the_answer, least_cost}
 

@@ -7,7 +7,8 @@ use Rattle.tso_program.specs.declared.listing.Thread.{Thread}
 use Rattle.tso_program.specs.declared.listing.Listing.{Listing}
 use Rattle.tso_program.specs.declared.outcome.Outcome.{Outcome}
 use Rattle.tso_program.specs.Listings.{action}
-use Rattle.tso_program.specs.Shown.{Question, show}
+use Rattle.tso_program.specs.Shown.{show}
+use Rattle.tso_program.specs.declared.question.Question.{Question}
 use Rattle.tso_machine.specs.declared.label.Label.{Label, TheVariants.Exec, TheVariants.Flush}
 use Rattle.tso_machine.specs.Machine.{Machine, State, start, step, is_empty, outcome_at}
 

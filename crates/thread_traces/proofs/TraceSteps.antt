@@ -4,7 +4,7 @@ use Rattle.thread_traces.proofs.Vocabulary.{Machine, read_is, Local, Trace, trac
 use Rattle.thread_traces.specs.declared.walk.TraceSoFar.{TraceSoFar}
 
 -- one step less is left
-one_less : (n i : ℕ) → i < n → n - i ≡ suc (n - (i + 1))
+pub one_less : (n i : ℕ) → i < n → n - i ≡ suc (n - (i + 1))
 one_less n i h = omega arith
 
 -- what a thread does in its trace's next step leads to the rest of the trace

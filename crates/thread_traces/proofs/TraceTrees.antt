@@ -1,7 +1,7 @@
 -- Trees of traces, as their nodes and the places of threads change.
 use Rattle.thread_traces.proofs.Vocabulary.{◌≡◌, ◌≢◌, ℕ, ◌+◌, ◌<◌, ◌≤◌, List, [], ◌∷◌, ◌++◌, Option, Some, None, slice_get, set, length, refl, sym, ap, ◌∙◌, subst, inl, inr, arith, append-nil, length-append, length-set, cases_eq, eq-eqb, ne_eqb}
 use Rattle.thread_traces.proofs.Vocabulary.{slice_get_within, same_Some, get_cases, cond, eqb, Listing, machine_of_mode, ThreadTrace, IsThreadTraceOf, get_or, drop, get_set_same, get_set_other, get_some, append_assoc, IfNone, OnErr, Result, Ok, Err, TraceNode}
-use Rattle.thread_traces.proofs.Vocabulary.{TracePlace, AreNodes, AreNodesOf, IsAt, IsTraceTree, IsGivenMore, IsChildOf, IsNextPlace}
+use Rattle.thread_traces.proofs.Vocabulary.{TracePlace, AreNodes, AreNodesOf, IsTracePlace, IsTraceTree, IsGivenMore, IsChildOf, IsNextPlace}
 use Rattle.tso_machine.specs.declared.mode.Mode.{Mode}
 use Rattle.thread_traces.specs.declared.trace_tree.TraceTree.{TraceTree}
 
@@ -119,8 +119,8 @@ module _ (p : Listing) (mode : Mode) (threads : ℕ → ℕ) (values : ℕ → L
 -- ---- places
 
 -- a thread stays at its place, while nodes are added
-at_later : (threads later : ℕ → ℕ) (values latest : ℕ → List ℕ) (many most t : ℕ) (given same : List ℕ) (place : TracePlace) → IsAt threads values many t given place → many ≤ most →
-    ((i : ℕ) → i < many → later i ≡ threads i) → ((i : ℕ) → i < many → latest i ≡ values i) → same ≡ given → IsAt later latest most t same place
+at_later : (threads later : ℕ → ℕ) (values latest : ℕ → List ℕ) (many most t : ℕ) (given same : List ℕ) (place : TracePlace) → IsTracePlace threads values many t given place → many ≤ most →
+    ((i : ℕ) → i < many → later i ≡ threads i) → ((i : ℕ) → i < many → latest i ≡ values i) → same ≡ given → IsTracePlace later latest most t same place
 at_later threads later values latest many most t given same place is h first second e n at =
     let (below, thread, more, long, given_is) = is n at in
     (omega arith, first n below ∙ thread, more, long, e ∙ given_is ∙ ap (λ (g : List ℕ). g ++ more) (sym (second n below)))
@@ -169,12 +169,12 @@ module _ (p : Listing) (mode : Mode) (given : ℕ → List ℕ) (tree : TraceTre
   -- with a thread at another place, and all nodes that were there
   moved : (t : ℕ) (next : ℕ → List ℕ) → ((u : ℕ) → u ≢ t → next u ≡ given u) → (later : ℕ → ℕ) (latest : ℕ → List ℕ) (after : TraceTree) (to : TracePlace) → AreNodes p mode later latest after.nodes.items →
       length nodes ≤ length after.nodes.items → ((i : ℕ) → i < length nodes → later i ≡ is.threads i) → ((i : ℕ) → i < length nodes → latest i ≡ is.values i) →
-      after.places.items ≡ set tree.places.items t to → IsAt later latest (length after.nodes.items) t (next t) to → IsTraceTree p mode next after
+      after.places.items ≡ set tree.places.items t to → IsTracePlace later latest (length after.nodes.items) t (next t) to → IsTraceTree p mode next after
   moved t next others later latest after to are many first second places here = record {
     threads = later;
     values = latest;
     nodes_are = are;
-    places_are = λ u place at. put_at (λ u to. IsAt later latest (length after.nodes.items) u (next u) to) tree.places.items t to
+    places_are = λ u place at. put_at (λ u to. IsTracePlace later latest (length after.nodes.items) u (next u) to) tree.places.items t to
         (λ u place at ne. at_later is.threads later is.values latest (length nodes) (length after.nodes.items) u (given u) (next u) place (is.places_are u place at) many first second (others u ne))
         (λ inside. here) u place (ap (λ (xs : List TracePlace). slice_get xs u) (sym places) ∙ at);
   }

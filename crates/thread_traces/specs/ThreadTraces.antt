@@ -34,7 +34,7 @@ pub record IsTraceSoFarOf (p : Listing) (mode : Machine) (t : ℕ) (given : List
   pub few : length w.accesses ≤ MAX_ACCESSES
   pub registers : length (start_of p.threads t).registers ≡ 6
 
--- the same, with the values, and the location of the read where it stops
+-- the trace of thread t: the given values, its accesses under them, its state, and the location of the read where it stops
 pub record IsThreadTraceOf (p : Listing) (mode : Machine) (t : ℕ) (given : List ℕ) (c : ThreadTrace) : Type 0 where
   pub given_is : c.given ≡ given
   pub accesses : (trace_by p mode (λ u. given) t).accesses ≡ c.accesses

@@ -17,8 +17,8 @@ pub record AreNodes (p : Listing) (mode : Mode) (threads : ℕ → ℕ) (values 
   pub parents : (i q : ℕ) (x : TraceNode) → slice_get nodes i ≡ Some x → x.parent ≡ Some q → (q < i) × (threads i ≡ threads q) × (values i ≡ values q ++ x.value ∷ [])
 
 -- the thread, under these given values, is at its place: they are those of a node of the thread, and so many more
-abbrev pub IsAt : (threads : ℕ → ℕ) (values : ℕ → List ℕ) (nodes t : ℕ) → List ℕ → TracePlace → Type 0
-IsAt threads values nodes t given place = (n : ℕ) → place.node ≡ Some n →
+abbrev pub IsTracePlace : (threads : ℕ → ℕ) (values : ℕ → List ℕ) (nodes t : ℕ) → List ℕ → TracePlace → Type 0
+IsTracePlace threads values nodes t given place = (n : ℕ) → place.node ≡ Some n →
     (n < nodes) × (threads n ≡ t) × (more : List ℕ) × (length more ≡ place.beyond) × (given ≡ values n ++ more)
 
 -- a tree of a program's traces, with each thread at its place under its given values
@@ -26,7 +26,7 @@ pub record IsTraceTree (p : Listing) (mode : Mode) (given : ℕ → List ℕ) (t
   pub threads : ℕ → ℕ
   pub values : ℕ → List ℕ
   pub nodes_are : AreNodes p mode threads values tree.nodes.items
-  pub places_are : (t : ℕ) (place : TracePlace) → slice_get tree.places.items t ≡ Some place → IsAt threads values (length tree.nodes.items) t (given t) place
+  pub places_are : (t : ℕ) (place : TracePlace) → slice_get tree.places.items t ≡ Some place → IsTracePlace threads values (length tree.nodes.items) t (given t) place
 
 -- thread t is given one value more, and no other thread
 abbrev pub IsGivenMore : (ℕ → List ℕ) → ℕ → ℕ → (ℕ → List ℕ) → Type 0
@@ -37,13 +37,13 @@ abbrev pub IsChildOf : List TraceNode → ℕ → ℕ → ℕ → Type 0
 IsChildOf nodes parent value n = (x : TraceNode) × (slice_get nodes n ≡ Some x) × (x.parent ≡ Some parent) × (x.value ≡ value)
 
 -- the node stands for the other: it has its parent and its value, and no trace but its, or this one where it is the node of this number
-abbrev pub StandsFor : Option (ℕ × ThreadTrace) → ℕ → TraceNode → TraceNode → Type 0
-StandsFor back i x y = (x.parent ≡ y.parent) × (x.value ≡ y.value) × ((c : ThreadTrace) → x.trace ≡ Some c → (y.trace ≡ Some c) ⊎ (back ≡ Some (i, c)))
+abbrev pub NodeStandsFor : Option (ℕ × ThreadTrace) → ℕ → TraceNode → TraceNode → Type 0
+NodeStandsFor back i x y = (x.parent ≡ y.parent) × (x.value ≡ y.value) × ((c : ThreadTrace) → x.trace ≡ Some c → (y.trace ≡ Some c) ⊎ (back ≡ Some (i, c)))
 
 -- each of the new nodes stands for the old one of its number
 pub record AreNodesOf (old : List TraceNode) (back : Option (ℕ × ThreadTrace)) (new : List TraceNode) : Type 0 where
   pub many : length new ≡ length old
-  pub each : (i : ℕ) (x : TraceNode) → slice_get new i ≡ Some x → (y : TraceNode) × (slice_get old i ≡ Some y) × StandsFor back i x y
+  pub each : (i : ℕ) (x : TraceNode) → slice_get new i ≡ Some x → (y : TraceNode) × (slice_get old i ≡ Some y) × NodeStandsFor back i x y
 
 -- a node of this parent and value is new
 pub record IsPushed (old : List TraceNode) (parent value : ℕ) (new : List TraceNode) : Type 0 where

@@ -1,7 +1,7 @@
 -- The headline holds of the set of a valid certificate.
 use Rattle.std.proofs.Common.{ℕ, ◌≤◌, List, All}
 use Rattle.tree_laws.proofs.Vocabulary.{All-weaker, all_sets, Question, Outcome, IsWithinLimits, Label, IsRunOutside, IsValidCertificate, IsTheAnswer, IsSequentialList, IsForeign, AValidCertificateProves}
-use Rattle.fence_laws.proofs.HeadlineIsTheAnswer.{headline_is_the_answer}
+use Rattle.tso_machine.proofs.HeadlineIsTheAnswer.{headline_is_the_answer}
 use Rattle.cert_forest.specs.Certificates.{Certificate}
 use Rattle.tree_laws.proofs.{ListedOutcomes.sequential_list, ListedOutcomes.fenced_tree_serves, NoBetterLeft.no_better_left, NoBetterLeft.root_has_every_set}
 

@@ -1,7 +1,7 @@
 -- A valid cover tree at a sketch covers it: each completion has made the choice of one of the children, or is closed by a cycle, or ends as its leaf says.
-use Rattle.tree_laws.proofs.Vocabulary.{ℕ, List, [], ◌∷◌, Contains, map, sym, subst, inl, inr, Listing, Outcome, Question, JumpForward, Machine, Event, Kind, Cover, Value, Source, Order, Cycle, Known, Covers, NoCover, MoreCovers, event_of, Choice, OpenChoice, AreChoices, AreTwo, sketch_with}
-use Rattle.tree_laws.proofs.Vocabulary.{MustEndAsNumber, IsValidCover, AreValidCovers, IsCovered, Candidate, Sketch, Completes, IsConsistentCompletion, IsSketch, IsPair, with_value, with_source, with_pair, IsKnownCycle, some_value}
-use Rattle.tree_laws.proofs.Vocabulary.{a_value_keeps_a_sketch, a_source_keeps_a_sketch, a_pair_keeps_a_sketch, each_has_a_value, each_has_a_source, each_has_an_order, AValidCoverCovers}
+use Rattle.tree_laws.proofs.Vocabulary.{ℕ, List, [], ◌∷◌, Contains, map, sym, subst, inl, inr, Listing, Outcome, Question, JumpForward, Machine, Event, Kind, Cover, Value, Source, Order, Cycle, Known, Covers, NoCover, MoreCovers, event_of, Choice, OpenChoice, Rule, Whole, Early, AllowsSource, AreChoicesBy, AreTwo, sketch_with}
+use Rattle.tree_laws.proofs.Vocabulary.{MustEndAsNumber, IsValidCoverBy, AreValidCoversBy, IsCovered, Candidate, Sketch, Completes, IsConsistentCompletion, IsSketch, IsSettled, IsPair, with_value, with_source, with_pair, IsKnownCycle, some_value}
+use Rattle.tree_laws.proofs.Vocabulary.{a_value_keeps_a_sketch, a_source_keeps_a_sketch, a_pair_keeps_a_sketch, each_has_a_value, each_has_a_settled_source, each_has_an_order, whole_is_settled, AValidCoverCovers}
 use Rattle.tree_laws.specs.declared.choice.Choice.TheVariants as choice
 use Rattle.tree_laws.specs.declared.choice.OpenChoice.TheVariants as left
 use Rattle.candidate_executions.proofs.{Sketches.KnownCycles.known_cycle_refutes, Sketches.MustEnd.each_ends_so}
@@ -14,7 +14,12 @@ of_other p mode k j c is completes = record { is_candidate = is.is_candidate; co
 turned : (p : Listing) (mode : Machine) (k : Sketch) (d e : Event) → IsPair p mode k d e → IsPair p mode k e d
 turned p mode k d e (differ, (l, v, w, first, second, not_first, not_second)) = ((λ q. differ (sym q)), (l, w, v, second, first, not_second, not_first))
 
-module _ (q : Question) (mode : Machine) (outcomes : List Outcome) (forward : JumpForward q.program.threads) where
+-- a read that the rule lets take a source is settled
+pub is_settled : (rule : Rule) (p : Listing) (mode : Machine) (k : Sketch) (e : Event) → AllowsSource rule p mode k e → IsSettled p mode k e
+is_settled Whole p mode k e whole = whole_is_settled p mode k e whole
+is_settled Early p mode k e settled = settled
+
+module _ (rule : Rule) (q : Question) (mode : Machine) (outcomes : List Outcome) (forward : JumpForward q.program.threads) where
   abbrev p : Listing
   p = q.program
 
@@ -29,7 +34,7 @@ module _ (q : Question) (mode : Machine) (outcomes : List Outcome) (forward : Ju
   after_one : (k : Sketch) (choices : List Choice) (c : Choice) → EachCovered (map (sketch_with k) choices) → Contains choices c → Covered (sketch_with k c)
   after_one k choices c each here = each (sketch_with k c) (mapped (sketch_with k) choices c here)
 
-  by_choices : (k : Sketch) (next : OpenChoice) (choices : List Choice) → AreChoices p mode k next choices → EachCovered (map (sketch_with k) choices) → Covered k
+  by_choices : (k : Sketch) (next : OpenChoice) (choices : List Choice) → AreChoicesBy rule p mode k next choices → EachCovered (map (sketch_with k) choices) → Covered k
   by_choices k (left.Value t) choices are each fits c is =
       let (v, is_value, completes) = each_has_a_value p mode k c t are.next.location forward fits is.is_candidate is.completes are.next.next in
       let here = mapped (choice.Value t) are.values v ((are.next.exact v).1 is_value) in
@@ -39,7 +44,7 @@ module _ (q : Question) (mode : Machine) (outcomes : List Outcome) (forward : Ju
       let e = event_of read in
       let has = are.next in
       let (v, reads) = some_value has.access.read has.is_read in
-      let (is_source, completes) = each_has_a_source p mode k c e has.access v forward fits is.is_candidate is.completes has.whole has.is_access reads in
+      let (is_source, completes) = each_has_a_settled_source p mode k c e has.access v forward fits is (is_settled rule p mode k e has.allowed) has.is_access reads in
       let here = mapped (choice.Source read) are.sources (c.source e) ((has.exact (c.source e)).1 is_source) in
       after_one k choices (choice.Source read (c.source e)) each (subst (λ cs. Contains cs (choice.Source read (c.source e))) (sym are.each) here)
       (a_source_keeps_a_sketch p mode k e (c.source e) fits is_source) c (of_other p mode k (with_source k e (c.source e)) c is completes)
@@ -69,18 +74,21 @@ module _ (q : Question) (mode : Machine) (outcomes : List Outcome) (forward : Ju
   each_of_two P Q first second ks valid = absurd valid
 
   mutual
-    covered : (tree : Cover) (k : Sketch) → IsValidCover q mode outcomes tree k → Covered k
+    covered : (tree : Cover) (k : Sketch) → IsValidCoverBy rule q mode outcomes tree k → Covered k
     covered (Value t children) k (choices, are, valid) = by_choices k (left.Value t) choices are (each_covered children (map (sketch_with k) choices) valid)
     covered (Source read children) k (choices, are, valid) = by_choices k (left.Source read) choices are (each_covered children (map (sketch_with k) choices) valid)
     covered (Order first second one other) k (choices, are, valid) =
-        by_choices k (left.Order first second) choices are (each_of_two (IsValidCover q mode outcomes one) (IsValidCover q mode outcomes other) (covered one) (covered other) (map (sketch_with k) choices) valid)
+        by_choices k (left.Order first second) choices are (each_of_two (IsValidCoverBy rule q mode outcomes one) (IsValidCoverBy rule q mode outcomes other) (covered one) (covered other) (map (sketch_with k) choices) valid)
     covered (Cycle kind events) k known = by_cycle k kind (map event_of events) known
     covered (Known number) k must = by_outcome k number must
 
-    each_covered : (trees : Covers) (ks : List Sketch) → AreValidCovers q mode outcomes trees ks → EachCovered ks
+    each_covered : (trees : Covers) (ks : List Sketch) → AreValidCoversBy rule q mode outcomes trees ks → EachCovered ks
     each_covered NoCover [] valid = λ j here. absurd (none_here j here)
     each_covered (MoreCovers tree trees) (k ∷ ks) (now, later) = each_more Covered k ks (covered tree k now) (each_covered trees ks later)
     each_covered trees ks valid = absurd valid
 
-pub valid_covers : AValidCoverCovers
-valid_covers q mode outcomes tree k forward fits valid = covered q mode outcomes forward tree k valid fits
+pub valid_covers_by : (rule : Rule) → AValidCoverCovers rule
+valid_covers_by rule q mode outcomes tree k forward fits valid = covered rule q mode outcomes forward tree k valid fits
+
+pub valid_covers : AValidCoverCovers Whole
+valid_covers = valid_covers_by Whole

@@ -10,11 +10,16 @@ pub mod CoveredSketches
 pub mod ListedOutcomes
 pub mod WiderTraces
 pub mod TighterModes
+pub mod EarlyCovers
 -- gap trees
 pub mod AvoidedGaps
 pub mod BetterSets
+pub mod MovedGaps
+pub mod BestOfEach
 pub mod OpenGaps
 pub mod Regions
+pub mod PassedGaps
+pub mod BoundedRegions
 pub mod NoBetterLeft
 -- certificates
 pub mod CertificateIsProof
@@ -24,4 +29,6 @@ pub mod StoreBufferingCovered
 pub mod StoreBufferingCycles
 pub mod StoreBufferingRuns
 pub mod StoreBufferingGaps
+pub mod StoreBufferingBounded
 pub mod StoreBufferingCertified
+pub mod OwnStoreCovered

@@ -2,7 +2,7 @@
 use Rattle.tree_laws.proofs.Vocabulary.{List, [], ◌∷◌, Contains, sym, ap, ◌∙◌, subst, inl, inr, ◌≡◌, Outcome, gaps_in, JumpForward, Label, Machine, SequentialMachine, StoreBufferMachine, empty_sketch, Cover, IsValidCover, IsCovered, AreSequentialRuns}
 use Rattle.tree_laws.proofs.Vocabulary.{Question, show, IsShownRun, IsSequentialOutcome, empty_is_a_sketch, ACoveredListHasEachOutcome, AValidTreeMakesTheSequentialList, AValidFencedTreeServes}
 use Rattle.candidate_executions.proofs.{FromRuns.RunsAreCandidates.every_run_is_a_completion, Candidates.LastWrites.outcomes_are_one}
-use Rattle.fence_laws.proofs.SequentialIsBuffered.{sequential_is_allowed}
+use Rattle.tso_machine.proofs.SequentialIsBuffered.{sequential_is_allowed}
 use Rattle.tree_laws.proofs.{Lists.none_here, Lists.first_or_later, CoveredSketches.valid_covers}
 
 pub listed : ACoveredListHasEachOutcome

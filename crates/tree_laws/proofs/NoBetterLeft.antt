@@ -3,8 +3,8 @@ use Rattle.std.proofs.Common.{◌≡◌, ℕ, true, false, List, [], ◌∷◌, 
 use Rattle.std.specs.FinSet as set
 use Rattle.tree_laws.proofs.Vocabulary.{SetOfGaps, IsInRegion, child_regions, HasNoneOf, Region, Listing, Question, IsWithinLimits, Label, Gap, Split, Bound, GapTrees, NoGap, MoreGaps, IsSplitBy, IsValidGap, AreValidGaps, EachBetterOfRegionLeavesOutcome}
 use Rattle.tree_laws.proofs.Vocabulary.{HaveCosts, IsForeign, AValidGapTreeLeavesNoBetter, SoNoServingSetIsBetter, TheRootHasEverySet}
-use Rattle.tree_laws.proofs.{Lists.none_here, Lists.found_has, Lists.each_more, AvoidedGaps.Avoids, AvoidedGaps.leaves_outcome, BetterSets.still_better}
-use Rattle.tree_laws.proofs.Regions.{true_or_false, split_loses_no_set, in_root}
+use Rattle.tree_laws.proofs.{Lists.none_here, Lists.each_more, PassedGaps.missed_leaves, BetterSets.still_better}
+use Rattle.tree_laws.proofs.Regions.{split_loses_no_set, in_root}
 
 module _ (q : Question) (costs : List ℕ) (answer : SetOfGaps) where
   abbrev p : Listing
@@ -15,20 +15,11 @@ module _ (q : Question) (costs : List ℕ) (answer : SetOfGaps) where
   EachMeans ns = (n : Region) → Contains ns n → EachBetterOfRegionLeavesOutcome q costs answer n
 
   module _ (runs : List (List Label)) where
-    -- what the run passes and the set has is one of the gaps of the split
-    passes_none_of : (n : Region) (number : ℕ) (gaps : List ℕ) (split : IsSplitBy p runs n number gaps) (other : SetOfGaps) → IsInRegion n other → HasNoneOf other gaps →
-        Avoids p other split.labels
-    passes_none_of n number gaps split other inside none gap there passed = elim (true_or_false (set.contains n.never gap)) [
-      | inl never ↦ (let no : true ≡ false = sym there ∙ inside.avoids gap never in absurd cc)
-      | inr free ↦ (let no : true ≡ false = sym there ∙ none gap ((split.exact gap).1 (passed, free)) in absurd cc)
-    ]
-
     by_split : All (IsForeign q) runs → (n : Region) (number : ℕ) (gaps : List ℕ) → IsSplitBy p runs n number gaps → EachMeans (child_regions n gaps) →
         EachBetterOfRegionLeavesOutcome q costs answer n
     by_split foreign n number gaps split each other of_program inside better = elim (split_loses_no_set n gaps other inside) [
       | inl (child, here, in_child) ↦ each child here other of_program in_child better
-      | inr none ↦ (let (o, is_foreign) = found_has (IsForeign q) runs number split.labels split.is_run foreign in
-          leaves_outcome q other split.labels o is_foreign (passes_none_of n number gaps split other inside none))
+      | inr none ↦ missed_leaves q runs n number gaps split other inside foreign none
     ]
 
     module _ (within : IsWithinLimits p.threads p.memory) (have : HaveCosts p costs) (foreign : All (IsForeign q) runs) where

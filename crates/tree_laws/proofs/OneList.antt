@@ -1,6 +1,6 @@
 -- What a node's children are for is determined: two lists in order with the same elements are the same.
-use Rattle.tree_laws.proofs.Vocabulary.{◌≡◌, ◌↔◌, ℕ, suc, ◌<◌, List, [], ◌∷◌, Contains, map, refl, sym, ap, ◌∙◌, subst, inl, inr, arith, AllPairs, IsStrictlyIncreasing, same_Some, Event, Initial, At, IsValueOf, IsSourceOf, ComesBefore, AllPairs-from_increasing}
-use Rattle.tree_laws.proofs.Vocabulary.{IsOpenGap, event_of, TheValuesAreOneList, TheSourcesAreOneList, TheChoicesAreOneList, TheGapsAreOneList}
+use Rattle.tree_laws.proofs.Vocabulary.{◌≡◌, ◌↔◌, ℕ, suc, ◌<◌, List, [], ◌∷◌, Contains, map, refl, sym, ap, ◌∙◌, subst, inl, inr, arith, AllPairs, IsStrictlyIncreasing, same_Some, Event, Initial, At, IsSourceOf, ComesBefore, AllPairs-from_increasing}
+use Rattle.tree_laws.proofs.Vocabulary.{IsOpenGap, Rule, Whole, IsValueBy, event_of, TheValuesAreOneList, TheSourcesAreOneList, TheChoicesAreOneList, TheGapsAreOneList}
 use Rattle.tree_laws.specs.declared.choice.Choice.TheVariants as choice
 use Rattle.tree_laws.specs.declared.choice.OpenChoice.TheVariants as left
 use Rattle.tree_laws.proofs.Lists.{none_here, first_or_later, first_is_here, later_is_here}
@@ -55,19 +55,23 @@ comes_one_way (At t i) (At u j) (inr h) (inl back) = let same = h.0 in omega ari
 comes_one_way (At t i) (At u j) (inr h) (inr back) = let before = h.1 in let after = back.1 in omega arith
 comes_one_way d e g k = omega arith
 
-pub one_list_of_values : TheValuesAreOneList
-one_list_of_values p mode k t xs ys left right = one_list_of_numbers (IsValueOf p left.location) xs ys left.ascending right.ascending left.exact
-    (subst (λ (l : ℕ). (v : ℕ) → Contains ys v ↔ IsValueOf p l v) (same_Some right.location left.location (sym right.next ∙ left.next)) right.exact)
+pub one_list_of_values_by : (rule : Rule) → TheValuesAreOneList rule
+one_list_of_values_by rule p mode k t xs ys left right = one_list_of_numbers (IsValueBy rule p left.location) xs ys left.ascending right.ascending left.exact
+    (subst (λ (l : ℕ). (v : ℕ) → Contains ys v ↔ IsValueBy rule p l v) (same_Some right.location left.location (sym right.next ∙ left.next)) right.exact)
 
-pub one_list_of_sources : TheSourcesAreOneList
-one_list_of_sources p mode k e xs ys left right = one_list_of ComesBefore comes_one_way (λ s. IsSourceOf p mode k s e) xs ys left.in_order right.in_order left.exact right.exact
+pub one_list_of_sources_by : (rule : Rule) → TheSourcesAreOneList rule
+one_list_of_sources_by rule p mode k e xs ys left right = one_list_of ComesBefore comes_one_way (λ s. IsSourceOf p mode k s e) xs ys left.in_order right.in_order left.exact right.exact
 
 -- so the choices of what is open are one list
-pub one_list_of_choices : TheChoicesAreOneList
-one_list_of_choices p mode k (left.Value t) xs ys one other = one.each ∙ ap (map (choice.Value t)) (one_list_of_values p mode k t one.values other.values one.next other.next) ∙ sym other.each
-one_list_of_choices p mode k (left.Source read) xs ys one other =
-    one.each ∙ ap (map (choice.Source read)) (one_list_of_sources p mode k (event_of read) one.sources other.sources one.next other.next) ∙ sym other.each
-one_list_of_choices p mode k (left.Order first second) xs ys one other = one.both ∙ sym other.both
+pub one_list_of_choices_by : (rule : Rule) → TheChoicesAreOneList rule
+one_list_of_choices_by rule p mode k (left.Value t) xs ys one other =
+    one.each ∙ ap (map (choice.Value t)) (one_list_of_values_by rule p mode k t one.values other.values one.next other.next) ∙ sym other.each
+one_list_of_choices_by rule p mode k (left.Source read) xs ys one other =
+    one.each ∙ ap (map (choice.Source read)) (one_list_of_sources_by rule p mode k (event_of read) one.sources other.sources one.next other.next) ∙ sym other.each
+one_list_of_choices_by rule p mode k (left.Order first second) xs ys one other = one.both ∙ sym other.both
+
+pub one_list_of_choices : TheChoicesAreOneList Whole
+one_list_of_choices = one_list_of_choices_by Whole
 
 pub one_list_of_gaps : TheGapsAreOneList
 one_list_of_gaps p runs n number xs ys left right = one_list_of_numbers (IsOpenGap p left.labels n.never) xs ys left.ascending right.ascending left.exact

@@ -1,13 +1,10 @@
 -- The children of a region: a set of the region is in the child for the first of the gaps that it has.
-use Rattle.tree_laws.proofs.Vocabulary.{◌≡◌, ◌⊎◌, ◌||◌, ℕ, Bool, true, false, [], ◌∷◌, refl, sym, ◌∙◌, subst, inl, inr, arith, nat_cmp, eq_by_cmp, nat_cmp_total, nat_tests, SetOfGaps, all_sets, with_gap, without_gap, IsInRegion, child_regions, Region}
+use Rattle.tree_laws.proofs.Vocabulary.{◌≡◌, ◌⊎◌, ℕ, true, false, [], ◌∷◌, sym, ◌∙◌, subst, inl, inr, nat_cmp, nat_cmp_total, SetOfGaps, all_sets, with_gap, without_gap, IsInRegion, child_regions, Region}
 use Rattle.tree_laws.proofs.Vocabulary.{ASplitLosesNoSet}
 use Rattle.std.specs.FinSet as set
 use Rattle.tree_laws.proofs.Lists.{none_here, first_is_here, later_is_here, each_more}
 pub use Rattle.std.proofs.lemmas.Bool.{cases_Bool as true_or_false}
-
-tied : (q g : ℕ) (b : Bool) → (eq_by_cmp nat_cmp q g || b) ≡ true → (g ≡ q) ⊎ (b ≡ true)
-tied q g true h = inr refl
-tied q g false h = inl (grind (arith, nat_tests))
+use Rattle.tso_program.proofs.Places.{tied}
 
 -- a gap of a set with one more is that one or one of the others
 pub new_or_old : (s : SetOfGaps) (gap q : ℕ) → set.contains (set.insert s gap) q ≡ true → (gap ≡ q) ⊎ (set.contains s q ≡ true)

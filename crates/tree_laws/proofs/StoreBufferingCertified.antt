@@ -8,6 +8,7 @@ use Rattle.candidate_executions.specs.declared.event.Kind.TheVariants as union
 use Rattle.tree_laws.proofs.{Regions.new_or_old, CertificateIsProof.certificate_proves, StoreBufferingCovered.question, StoreBufferingCovered.outcomes, StoreBufferingCovered.cover_is_valid}
 use Rattle.tree_laws.proofs.{StoreBufferingCycles.both_fenced, StoreBufferingCycles.sequential_cycle, StoreBufferingCycles.fenced_cycle, StoreBufferingRuns.replayed, StoreBufferingRuns.all_outside}
 use Rattle.tree_laws.proofs.StoreBufferingGaps.{both_gaps, not_empty, gap_tree_is_valid}
+use Rattle.tree_laws.proofs.StoreBufferingBounded.{bounded}
 
 two_gaps : AreGapsOf store_buffering both_gaps
 two_gaps gap there = elim (new_or_old (set.insert set.empty 1) 0 gap there) [
@@ -36,4 +37,4 @@ each_costs : All (λ cost. 1 ≤ cost) costs
 each_costs = All-cons (λ cost. 1 ≤ cost) 1 (1 ∷ []) (omega arith) (All-cons (λ cost. 1 ≤ cost) 1 [] (omega arith) (All-nil (λ cost. 1 ≤ cost)))
 
 pub store_buffering_is_certified : StoreBufferingIsCertified
-store_buffering_is_certified = record { valid = valid; proved = certificate_proves question costs certificate within each_costs valid }
+store_buffering_is_certified = record { valid = valid; proved = certificate_proves question costs certificate within each_costs valid; bounded = bounded }

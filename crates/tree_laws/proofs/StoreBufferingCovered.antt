@@ -102,7 +102,7 @@ module _ (mode : Machine) where
 
     one_source : ReadsZero → HasSources store_buffering mode so_far e (Initial l ∷ [])
     one_source r = record {
-      whole = whole mode 0 0;
+      allowed = whole mode 0 0;
       access = r.access;
       is_access = r.is_access;
       is_read = ap is_some (sym r.zero_read);

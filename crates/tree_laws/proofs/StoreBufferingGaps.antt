@@ -17,7 +17,7 @@ not_empty gap h = let no_way : true ≡ false = sym h ∙ set.contains-empty nat
 none_ascend : IsStrictlyIncreasing []
 none_ascend k h = absurd (omega arith)
 
-one_ascends : (gap : ℕ) → IsStrictlyIncreasing (gap ∷ [])
+pub one_ascends : (gap : ℕ) → IsStrictlyIncreasing (gap ∷ [])
 one_ascends gap k h = absurd (omega arith)
 
 below_two : (gap : ℕ) → Contains zero_one gap → gap < 2
@@ -36,7 +36,7 @@ split_at_root = record {
 abbrev with_first : Region
 with_first = with_gap all_sets 0
 
-only_one : (gap : ℕ) → gap < 2 → (gap ≡ 0 → ⊥) → Contains (1 ∷ []) gap
+pub only_one : (gap : ℕ) → gap < 2 → (gap ≡ 0 → ⊥) → Contains (1 ∷ []) gap
 only_one zero h differ = absurd (differ refl)
 only_one (suc zero) h differ = first_is_here 1 []
 only_one (suc (suc gap)) h differ = absurd (omega arith)

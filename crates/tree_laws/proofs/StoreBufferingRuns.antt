@@ -82,6 +82,9 @@ both_passed (suc (suc gap)) h = absurd (omega arith)
 pub second_passed : PassesGap store_buffering second_waits 1
 second_passed = (1, 1, refl, refl)
 
+pub first_passed : PassesGap store_buffering first_waits 0
+first_passed = (0, 1, refl, refl)
+
 pub first_not_passed : ¬ PassesGap store_buffering second_waits 0
 first_not_passed = not_at_place second_waits 0 1 0 refl refl
 

@@ -1,8 +1,8 @@
 -- A cover tree that is valid in a mode is valid in each tighter one: of what is known of a sketch only sections change, and of two modes with gaps fenced they come no closer.
-use Rattle.tree_laws.proofs.Vocabulary.{◌≡◌, ◌⊎◌, ℕ, Bool, List, [], ◌∷◌, Some, slice_get, IsSome, map, length, sym, ap, ◌∙◌, subst, inl, inr, range_with_len, Local, Listing, Outcome, Machine, SequentialMachine, StoreBufferMachine, Access, Event, Initial, At}
-use Rattle.tree_laws.proofs.Vocabulary.{Kind, access_by, Writes, Cover, Value, Source, Order, Cycle, Known, Covers, NoCover, MoreCovers, event_of, Choice, OpenChoice, AreChoices, AreTwo, sketch_with, HasNextValues, HasSources, HasNoOrder, IsValidCover, AreValidCovers, Truth, Question, show_registers, action}
-use Rattle.tree_laws.proofs.Vocabulary.{start_of, code_of, Gaps, trace_by, Sketch, given_to, IsSourceOf, IsPair, read_by, next_read, IsWhole, MayBeLast, stopped, EndsInValues, KnownAtom, EndsAs, MustEndAs, IsBefore}
-use Rattle.tree_laws.proofs.Vocabulary.{KnownFromReads, KnownRelates, KnownEdgeOfMode, IsKnownCycle, ATighterModeKeepsACover, ATighterModeKeepsTheValues, ATighterModeKeepsAWholeSketch, bare, threads_alike, also, writes}
+use Rattle.tree_laws.proofs.Vocabulary.{◌≡◌, ◌⊎◌, ℕ, ◌≤◌, Bool, List, [], ◌∷◌, Option, Some, slice_get, IsSome, map, length, sym, ap, ◌∙◌, subst, inl, inr, range_with_len, Local, Listing, Outcome, Machine, SequentialMachine, StoreBufferMachine, Access, Event, Initial, At}
+use Rattle.tree_laws.proofs.Vocabulary.{Kind, access_by, Writes, Cover, Value, Source, Order, Cycle, Known, Covers, NoCover, MoreCovers, event_of, Choice, OpenChoice, Rule, Whole, Early, AllowsSource, AllowsOrder, AreChoicesBy, AreTwo, sketch_with, HasNextValuesBy, HasSourcesBy, HasNoOrderBy, IsValidCover, IsValidCoverBy, AreValidCoversBy, Truth, Question, show_registers, action}
+use Rattle.tree_laws.proofs.Vocabulary.{start_of, code_of, Gaps, trace_by, Sketch, given_to, IsSourceOf, IsPair, IsSettled, MayStillWrite, read_by, next_read, IsWhole, MayBeLast, stopped, EndsInValues, KnownAtom, EndsAs, MustEndAs, IsBefore}
+use Rattle.tree_laws.proofs.Vocabulary.{KnownFromReads, KnownRelates, KnownEdgeOfMode, IsKnownCycle, ATighterModeKeepsACover, ATighterModeKeepsTheValues, ATighterModeKeepsAWholeSketch, ATighterModeKeepsASettledRead, bare, threads_alike, also, writes}
 use mathlib.Core.Path.{fun_ext}
 use Rattle.tso_program.specs.{declared.shown.Shown.Shown, declared.atom.Atom.Atom, Truth.is_true_at}
 use Rattle.tso_program.specs.declared.atom.Atom.TheVariants as atom
@@ -81,28 +81,54 @@ module _ (p : Listing) (loose tight : Machine) (tighter : IsNoLooser loose tight
   whole_forth : IsWhole p loose k → IsWhole p tight k
   whole_forth whole t = same_next t ∙ whole t
 
-  values_forth : (t : ℕ) (values : List ℕ) → HasNextValues p loose k t values → HasNextValues p tight k t values
-  values_forth t values has = record { location = has.location; next = same_next t ∙ has.next; ascending = has.ascending; exact = has.exact }
+  -- a thread stops where it did, so what it may still write stays the same
+  still_writes : (u l v : ℕ) → MayStillWrite p tight k u l v → MayStillWrite p loose k u l v
+  still_writes u l v may = record {
+    goes_on = subst (λ (o : Option ℕ). IsSome o) (same_next u) may.goes_on;
+    place = may.place;
+    is_ahead = subst (λ (n : ℕ). n ≤ may.place) (sym (ap (λ (s : Local). s.place) (threads_alike p (given_to k) loose tight u).last)) may.is_ahead;
+    instruction = may.instruction;
+    is_there = may.is_there;
+    may_store = may.may_store;
+  }
 
-  sources_forth : (e : Event) (sources : List Event) → HasSources p loose k e sources → HasSources p tight k e sources
-  sources_forth e sources has =
-      let (y, there, same) = also p (given_to k) loose tight e has.access has.is_access in record {
-        whole = whole_forth has.whole;
-        access = y;
-        is_access = there;
-        is_read = subst (λ (z : Access). IsSome z.read) same has.is_read;
-        free = has.free;
-        in_order = has.in_order;
-        exact = λ s. ((λ here. source p k loose tight s e ((has.exact s).0 here)), (λ is. (has.exact s).1 (source p k tight loose s e is)));
-      }
+  settled_forth : (e : Event) → IsSettled p loose k e → IsSettled p tight k e
+  settled_forth e settled x v u there reads other may =
+      let (y, is, same) = also p (given_to k) tight loose e x there in
+      let still : MayStillWrite p loose k u y.location v = still_writes u y.location v (subst (λ (z : Access). MayStillWrite p tight k u z.location v) same may) in
+      settled y v u is (sym (ap (λ (z : Access). z.read) same) ∙ reads) other still
 
-  order_forth : (d e : Event) → HasNoOrder p loose k d e → HasNoOrder p tight k d e
-  order_forth d e has = record { whole = whole_forth has.whole; is_pair = pair_forth d e has.is_pair; free = has.free }
+  allowed_forth : (rule : Rule) (e : Event) → AllowsSource rule p loose k e → AllowsSource rule p tight k e
+  allowed_forth Whole e whole = whole_forth whole
+  allowed_forth Early e settled = settled_forth e settled
 
-  choices_forth : (next : OpenChoice) (choices : List Choice) → AreChoices p loose k next choices → AreChoices p tight k next choices
-  choices_forth (left.Value t) choices are = record { values = are.values; next = values_forth t are.values are.next; each = are.each }
-  choices_forth (left.Source read) choices are = record { sources = are.sources; next = sources_forth (event_of read) are.sources are.next; each = are.each }
-  choices_forth (left.Order first second) choices are = record { free = order_forth (event_of first) (event_of second) are.free; both = are.both }
+  order_allowed_forth : (rule : Rule) → AllowsOrder rule p loose k → AllowsOrder rule p tight k
+  order_allowed_forth Whole whole = whole_forth whole
+  order_allowed_forth Early always = always
+
+  module _ (rule : Rule) where
+    values_forth : (t : ℕ) (values : List ℕ) → HasNextValuesBy rule p loose k t values → HasNextValuesBy rule p tight k t values
+    values_forth t values has = record { location = has.location; next = same_next t ∙ has.next; ascending = has.ascending; exact = has.exact }
+
+    sources_forth : (e : Event) (sources : List Event) → HasSourcesBy rule p loose k e sources → HasSourcesBy rule p tight k e sources
+    sources_forth e sources has =
+        let (y, there, same) = also p (given_to k) loose tight e has.access has.is_access in record {
+          allowed = allowed_forth rule e has.allowed;
+          access = y;
+          is_access = there;
+          is_read = subst (λ (z : Access). IsSome z.read) same has.is_read;
+          free = has.free;
+          in_order = has.in_order;
+          exact = λ s. ((λ here. source p k loose tight s e ((has.exact s).0 here)), (λ is. (has.exact s).1 (source p k tight loose s e is)));
+        }
+
+    order_forth : (d e : Event) → HasNoOrderBy rule p loose k d e → HasNoOrderBy rule p tight k d e
+    order_forth d e has = record { allowed = order_allowed_forth rule has.allowed; is_pair = pair_forth d e has.is_pair; free = has.free }
+
+    choices_forth : (next : OpenChoice) (choices : List Choice) → AreChoicesBy rule p loose k next choices → AreChoicesBy rule p tight k next choices
+    choices_forth (left.Value t) choices are = record { values = are.values; next = values_forth t are.values are.next; each = are.each }
+    choices_forth (left.Source read) choices are = record { sources = are.sources; next = sources_forth (event_of read) are.sources are.next; each = are.each }
+    choices_forth (left.Order first second) choices are = record { free = order_forth (event_of first) (event_of second) are.free; both = are.both }
 
   written_back : (e : Event) (l v : ℕ) → Writes (access_by p tight (given_to k)) e l v → Writes (access_by p loose (given_to k)) e l v
   written_back = writes p (given_to k) tight loose
@@ -170,28 +196,31 @@ module _ (q : Question) (loose tight : Machine) (tighter : IsNoLooser loose tigh
   must_end k o must = ends_kept k o q.shown must
 
   -- with unions for cycles such that these stay cycles, and each outcome's number in another list
-  module _ (kinds : Kind → Kind) (cycles : (k : Sketch) (kind : Kind) (es : List Event) → IsKnownCycle p loose k kind es → IsKnownCycle p tight k (kinds kind) es) (old new : List Outcome) (place : ℕ → ℕ)
+  module _ (rule : Rule) (kinds : Kind → Kind) (cycles : (k : Sketch) (kind : Kind) (es : List Event) → IsKnownCycle p loose k kind es → IsKnownCycle p tight k (kinds kind) es) (old new : List Outcome) (place : ℕ → ℕ)
       (moves : (n : ℕ) (o : Outcome) → slice_get old n ≡ Some o → slice_get new (place n) ≡ Some o) where
     mutual
-      pub kept : (tree : Cover) (k : Sketch) → IsValidCover q loose old tree k → IsValidCover q tight new (changed kinds place tree) k
-      kept (Value t children) k (choices, are, valid) = (choices, choices_forth p loose tight tighter k (left.Value t) choices are, each_kept children (map (sketch_with k) choices) valid)
-      kept (Source read children) k (choices, are, valid) = (choices, choices_forth p loose tight tighter k (left.Source read) choices are, each_kept children (map (sketch_with k) choices) valid)
+      pub kept : (tree : Cover) (k : Sketch) → IsValidCoverBy rule q loose old tree k → IsValidCoverBy rule q tight new (changed kinds place tree) k
+      kept (Value t children) k (choices, are, valid) = (choices, choices_forth p loose tight tighter k rule (left.Value t) choices are, each_kept children (map (sketch_with k) choices) valid)
+      kept (Source read children) k (choices, are, valid) = (choices, choices_forth p loose tight tighter k rule (left.Source read) choices are, each_kept children (map (sketch_with k) choices) valid)
       kept (Order first second one other) k (choices, are, valid) = (
         choices,
-        choices_forth p loose tight tighter k (left.Order first second) choices are,
-        both_kept (IsValidCover q loose old one) (IsValidCover q loose old other) (IsValidCover q tight new (changed kinds place one)) (IsValidCover q tight new (changed kinds place other)) (kept one) (kept other) (map (sketch_with k) choices) valid,
+        choices_forth p loose tight tighter k rule (left.Order first second) choices are,
+        both_kept (IsValidCoverBy rule q loose old one) (IsValidCoverBy rule q loose old other) (IsValidCoverBy rule q tight new (changed kinds place one)) (IsValidCoverBy rule q tight new (changed kinds place other)) (kept one) (kept other) (map (sketch_with k) choices) valid,
       )
       kept (Cycle kind events) k cycle = cycles k kind (map event_of events) cycle
       kept (Known number) k must = record { outcome = must.outcome; is_outcome = moves number must.outcome must.is_outcome; must_end = must_end k must.outcome must.must_end }
 
-      each_kept : (trees : Covers) (ks : List Sketch) → AreValidCovers q loose old trees ks → AreValidCovers q tight new (each_changed kinds place trees) ks
+      each_kept : (trees : Covers) (ks : List Sketch) → AreValidCoversBy rule q loose old trees ks → AreValidCoversBy rule q tight new (each_changed kinds place trees) ks
       each_kept NoCover [] valid = valid
       each_kept (MoreCovers tree trees) (k ∷ ks) (now, later) = (kept tree k now, each_kept trees ks later)
       each_kept trees ks valid = absurd valid
 
-pub tighter_keeps_cover : ATighterModeKeepsACover
-tighter_keeps_cover q loose tight outcomes tree k tighter valid =
-    kept q loose tight tighter (kind_in tight) (λ k. cycle_forth q.program loose tight tighter k) outcomes outcomes (λ number. number) (λ n o is. is) tree k valid
+pub tighter_keeps_cover_by : (rule : Rule) → ATighterModeKeepsACover rule
+tighter_keeps_cover_by rule q loose tight outcomes tree k tighter valid =
+    kept q loose tight tighter rule (kind_in tight) (λ k. cycle_forth q.program loose tight tighter k) outcomes outcomes (λ number. number) (λ n o is. is) tree k valid
+
+pub tighter_keeps_cover : ATighterModeKeepsACover Whole
+tighter_keeps_cover = tighter_keeps_cover_by Whole
 
 -- no mode is looser than itself
 as_loose : (mode : Machine) → IsNoLooser mode mode
@@ -201,10 +230,16 @@ as_loose (StoreBufferMachine gaps) = λ t i fenced. fenced
 -- in the same mode, with other numbers
 pub renumbered_is_valid : (q : Question) (mode : Machine) (old new : List Outcome) (place : ℕ → ℕ) → ((n : ℕ) (o : Outcome) → slice_get old n ≡ Some o → slice_get new (place n) ≡ Some o) →
     (tree : Cover) (k : Sketch) → IsValidCover q mode old tree k → IsValidCover q mode new (changed (λ kind. kind) place tree) k
-renumbered_is_valid q mode = kept q mode mode (as_loose mode) (λ kind. kind) (λ k kind es cycle. cycle)
+renumbered_is_valid q mode = kept q mode mode (as_loose mode) Whole (λ kind. kind) (λ k kind es cycle. cycle)
 
-pub tighter_keeps_values : ATighterModeKeepsTheValues
-tighter_keeps_values p loose tight k t values tighter has = values_forth p loose tight tighter k t values has
+pub tighter_keeps_values_by : (rule : Rule) → ATighterModeKeepsTheValues rule
+tighter_keeps_values_by rule p loose tight k t values tighter has = values_forth p loose tight tighter k rule t values has
+
+pub tighter_keeps_values : ATighterModeKeepsTheValues Whole
+tighter_keeps_values = tighter_keeps_values_by Whole
 
 pub tighter_keeps_whole : ATighterModeKeepsAWholeSketch
 tighter_keeps_whole p loose tight k tighter whole = whole_forth p loose tight tighter k whole
+
+pub tighter_keeps_settled : ATighterModeKeepsASettledRead
+tighter_keeps_settled p loose tight k e tighter settled = settled_forth p loose tight tighter k e settled

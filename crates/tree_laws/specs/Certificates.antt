@@ -4,7 +4,7 @@ use Rattle.std.specs.List.{AllZip}
 use Rattle.gap_sets.specs.Order.{total}
 use Rattle.gap_sets.specs.Regions.{all_sets}
 use Rattle.tso_program.specs.declared.outcome.Outcome.{Outcome}
-use Rattle.tso_program.specs.Shown.{Question}
+use Rattle.tso_program.specs.declared.question.Question.{Question}
 use Rattle.tso_program.specs.Listings.{gap_count}
 use Rattle.tso_program.specs.Fences.{gaps_in}
 use Rattle.tso_machine.specs.declared.label.Label.{Label}

@@ -3,7 +3,7 @@ use Rattle.std.specs.Prelude.{◌≢◌, ◌+◌, ◌*◌, ◌/◌, ◌≤◌, �
 use Rattle.std.specs.List.{AllPairs}
 use Rattle.tso_program.specs.declared.limits.TheConstants.{MAX_ACCESSES}
 use Rattle.tso_program.specs.declared.outcome.Outcome.{Outcome}
-use Rattle.tso_program.specs.Shown.{Question}
+use Rattle.tso_program.specs.declared.question.Question.{Question}
 use Rattle.tso_machine.specs.Machine.{Machine}
 use Rattle.candidate_executions.specs.Sketches.{empty_sketch}
 use Rattle.cert_forest.specs.Trees.{Cover, Value, Source, Order, Cycle, Known, Covers, NoCover, MoreCovers}
@@ -28,7 +28,7 @@ pub record IsNeat (tree : Cover) : Type 0 where
   pub numbers : HasNumbers tree
   pub simple : HasSimpleCycles tree
 
--- the same of several trees
+-- the numbers of several trees are those of a certificate's text, and no cycle has an event twice
 pub record AreNeat (trees : Covers) : Type 0 where
   pub numbers : HaveNumbers trees
   pub simple : HaveSimpleCycles trees

@@ -1,5 +1,6 @@
 -- Trees that show that no better set of gaps serves: when they are valid, and what they mean (this project's own definitions; docs/definitions.md).
 use Rattle.std.specs.Prelude.{◌≡◌, ◌↔◌, ℕ, ◌≤◌, true, false, List, [], ◌∷◌, Some, Contains, slice_get, length, All}
+use Rattle.std.specs.List.{AllZip}
 use Rattle.std.specs.List.Sorted.{IsStrictlyIncreasing}
 use Rattle.std.specs.FinSet as set
 use Rattle.gap_sets.specs.Gaps.{SetOfGaps}
@@ -7,13 +8,14 @@ use Rattle.gap_sets.specs.Order.{Better}
 use Rattle.gap_sets.specs.Regions.{IsInRegion, child_regions}
 use Rattle.gap_sets.specs.declared.region.Region.{Region}
 use Rattle.tso_program.specs.declared.listing.Listing.{Listing}
-use Rattle.tso_program.specs.Shown.{Question}
+use Rattle.tso_program.specs.declared.question.Question.{Question}
 use Rattle.tso_program.specs.Listings.{gap_count}
 use Rattle.tso_machine.specs.declared.label.Label.{Label}
 use Rattle.tso_machine.specs.Machine.{StoreBufferMachine, no_gaps, start}
 use Rattle.tso_machine.specs.Modes.{Passes}
 use Rattle.tso_machine.specs.Outcomes.{Serves, LeavesOutcome, AreGapsOf}
 use Rattle.cert_forest.specs.Trees.{Gap, Split, Bound, GapTrees, NoGap, MoreGaps}
+use Rattle.tree_laws.specs.Packings.{IsPacking, IsCheapestOf, with_gaps}
 
 -- with no gap fenced, the labels pass the gap of this number
 abbrev pub PassesGap : Listing → List Label → ℕ → Type 0
@@ -33,6 +35,14 @@ module _ (p : Listing) (runs : List (List Label)) where
     pub exact : (gap : ℕ) → Contains gaps gap ↔ IsOpenGap p labels region.never gap
 
 module _ (p : Listing) (costs : List ℕ) (answer : SetOfGaps) (runs : List (List Label)) where
+  -- The runs of these numbers pass no gap of `must`, no two of them pass a common gap outside `never`, and `must` with the cheapest gap of each
+  -- outside `never` is not better than the answer. Where a run passes no gap outside `never` there is no such set: no set of the region serves.
+  pub record IsBoundBy (region : Region) (numbers : List ℕ) : Type 0 where
+    pub gaps : List (List ℕ)
+    pub each : AllZip (IsSplitBy p runs region) numbers gaps
+    pub apart : IsPacking gaps
+    pub not_better : (cheapest : List ℕ) → AllZip (IsCheapestOf costs) gaps cheapest → ¬ Better costs (with_gaps region.must cheapest) answer
+
   abbrev mutual
     -- the tree is valid for the region: a child for each gap that a run passes and that the sets may have, or nothing better than the answer is left
     pub IsValidGap : Gap → Region → Type 0

@@ -1,12 +1,13 @@
 -- What trees mean.
-use Rattle.std.specs.Prelude.{◌≡◌, ◌↔◌, ◌⊎◌, ℕ, ◌≤◌, List, Contains, All}
+use Rattle.std.specs.Prelude.{◌≡◌, ◌↔◌, ◌⊎◌, ℕ, ◌+◌, ◌≤◌, List, Contains, All, sum_by}
 use Rattle.std.specs.List.{AllZip}
 use Rattle.gap_sets.specs.Gaps.{SetOfGaps}
+use Rattle.gap_sets.specs.Order.{cost_of, total, Better}
 use Rattle.gap_sets.specs.Regions.{all_sets, IsInRegion, child_regions, HasNoneOf}
 use Rattle.gap_sets.specs.declared.region.Region.{Region}
 use Rattle.tso_program.specs.declared.listing.Listing.{Listing}
 use Rattle.tso_program.specs.declared.outcome.Outcome.{Outcome}
-use Rattle.tso_program.specs.Shown.{Question}
+use Rattle.tso_program.specs.declared.question.Question.{Question}
 use Rattle.tso_program.specs.Limits.{JumpForward, IsWithinLimits}
 use Rattle.tso_program.specs.Fences.{gaps_in}
 use Rattle.tso_machine.specs.declared.label.Label.{Label}
@@ -14,19 +15,27 @@ use Rattle.tso_machine.specs.Machine.{Machine, SequentialMachine, StoreBufferMac
 use Rattle.tso_machine.specs.Outcomes.{AllowsShown, IsSequentialOutcome, Serves, IsForeignRun, EachBetterLeavesOutcome, IsTheAnswer, Headline}
 use Rattle.candidate_executions.specs.declared.event.Event.{Event}
 use Rattle.candidate_executions.specs.Sketches.{Sketch, empty_sketch, IsSketch, IsWhole}
+use Rattle.candidate_executions.specs.Settled.{IsSettled}
 use Rattle.cert_forest.specs.Trees.{Cover, Gap, covers_of, gap_trees_of}
 use Rattle.tree_laws.specs.declared.choice.Choice.{Choice}
 use Rattle.tree_laws.specs.declared.choice.OpenChoice.{OpenChoice}
-use Rattle.tree_laws.specs.CoverTrees.{HasNextValues, HasSources, AreChoices, IsValidCover, AreValidCovers, IsCovered}
+use Rattle.tree_laws.specs.declared.rule.Rule.{Rule, TheVariants.Whole, TheVariants.Early}
+use Rattle.tree_laws.specs.CoverTrees.{HasNextValuesBy, HasSourcesBy, AreChoicesBy, IsValidCover, IsValidCoverBy, AreValidCoversBy, IsCovered}
 use Rattle.tree_laws.specs.TighterModes.{IsNoLooser, in_mode}
-use Rattle.tree_laws.specs.GapTrees.{IsSplitBy, IsValidGap, AreValidGaps, EachBetterOfRegionLeavesOutcome, NoServingSetIsBetter, HaveCosts}
+use Rattle.tree_laws.specs.Packings.{IsPacking, IsCheapestOf, with_gaps, HavePositiveCosts, MeetsEach}
+use Rattle.tree_laws.specs.GapTrees.{IsSplitBy, IsBoundBy, IsValidGap, AreValidGaps, EachBetterOfRegionLeavesOutcome, NoServingSetIsBetter, HaveCosts}
 use Rattle.cert_forest.specs.Certificates.{Certificate}
 use Rattle.tree_laws.specs.Certificates.{AreSequentialRuns, IsValidCertificate}
 
--- a valid cover tree at a sketch covers it
-abbrev pub AValidCoverCovers : Type 0
-AValidCoverCovers = (q : Question) (mode : Machine) (outcomes : List Outcome) (tree : Cover) (k : Sketch) → JumpForward q.program.threads →
-    IsSketch q.program mode k → IsValidCover q mode outcomes tree k → IsCovered q mode outcomes k
+-- a cover tree that is valid at a sketch by the rule covers it
+abbrev pub AValidCoverCovers : Rule → Type 0
+AValidCoverCovers rule = (q : Question) (mode : Machine) (outcomes : List Outcome) (tree : Cover) (k : Sketch) → JumpForward q.program.threads →
+    IsSketch q.program mode k → IsValidCoverBy rule q mode outcomes tree k → IsCovered q mode outcomes k
+
+-- A tree that chooses sources and orders only where each read has its value is a valid early tree: nothing is left there that may still write.
+abbrev pub AWholeCoverIsAnEarlyCover : Type 0
+AWholeCoverIsAnEarlyCover = (q : Question) (mode : Machine) (outcomes : List Outcome) (tree : Cover) (k : Sketch) →
+    IsValidCoverBy Whole q mode outcomes tree k → IsValidCoverBy Early q mode outcomes tree k
 
 -- where the sketch with no choice is covered, each outcome of the mode's machine is in the list
 abbrev pub ACoveredListHasEachOutcome : Type 0
@@ -49,18 +58,22 @@ AValidFencedTreeServes = (q : Question) (gaps : SetOfGaps) (outcomes : List Outc
 
 -- A cover tree that is valid in a mode is valid in each mode that is no looser, its cycles being of that mode's unions: known
 -- edges only grow.
-abbrev pub ATighterModeKeepsACover : Type 0
-ATighterModeKeepsACover = (q : Question) (loose tight : Machine) (outcomes : List Outcome) (tree : Cover) (k : Sketch) → IsNoLooser loose tight →
-    IsValidCover q loose outcomes tree k → IsValidCover q tight outcomes (in_mode tight tree) k
+abbrev pub ATighterModeKeepsACover : Rule → Type 0
+ATighterModeKeepsACover rule = (q : Question) (loose tight : Machine) (outcomes : List Outcome) (tree : Cover) (k : Sketch) → IsNoLooser loose tight →
+    IsValidCoverBy rule q loose outcomes tree k → IsValidCoverBy rule q tight outcomes (in_mode tight tree) k
 
 -- the values of a thread's next read stay the same
-abbrev pub ATighterModeKeepsTheValues : Type 0
-ATighterModeKeepsTheValues = (p : Listing) (loose tight : Machine) (k : Sketch) (t : ℕ) (values : List ℕ) → IsNoLooser loose tight →
-    HasNextValues p loose k t values → HasNextValues p tight k t values
+abbrev pub ATighterModeKeepsTheValues : Rule → Type 0
+ATighterModeKeepsTheValues rule = (p : Listing) (loose tight : Machine) (k : Sketch) (t : ℕ) (values : List ℕ) → IsNoLooser loose tight →
+    HasNextValuesBy rule p loose k t values → HasNextValuesBy rule p tight k t values
 
 -- a sketch in which each read has its value stays one
 abbrev pub ATighterModeKeepsAWholeSketch : Type 0
 ATighterModeKeepsAWholeSketch = (p : Listing) (loose tight : Machine) (k : Sketch) → IsNoLooser loose tight → IsWhole p loose k → IsWhole p tight k
+
+-- a settled read stays one
+abbrev pub ATighterModeKeepsASettledRead : Type 0
+ATighterModeKeepsASettledRead = (p : Listing) (loose tight : Machine) (k : Sketch) (e : Event) → IsNoLooser loose tight → IsSettled p loose k e → IsSettled p tight k e
 
 -- the labels are a foreign run
 abbrev pub IsForeign : Question → List Label → Type 0
@@ -70,6 +83,24 @@ IsForeign q labels = (o : Outcome) × IsForeignRun q labels o
 abbrev pub ASplitLosesNoSet : Type 0
 ASplitLosesNoSet = (region : Region) (gaps : List ℕ) (other : SetOfGaps) → IsInRegion region other →
     ((child : Region) × Contains (child_regions region gaps) child × IsInRegion child other) ⊎ HasNoneOf other gaps
+
+-- of the sets that hold `must` and have a gap of each list of a packing, `must` with the cheapest gap of each is the best
+abbrev pub TheCheapestOfEachAreTheBest : Type 0
+TheCheapestOfEachAreTheBest = (costs : List ℕ) (must other : SetOfGaps) (lists : List (List ℕ)) (cheapest : List ℕ) →
+    HavePositiveCosts costs lists → IsPacking lists → MeetsEach costs must lists other → AllZip (IsCheapestOf costs) lists cheapest →
+    (with_gaps must cheapest ≡ other) ⊎ Better costs (with_gaps must cheapest) other
+
+-- so each of them costs at least what `must` and the cheapest gaps cost together
+abbrev pub EachCostsAtLeastTheSum : Type 0
+EachCostsAtLeastTheSum = (costs : List ℕ) (must other : SetOfGaps) (lists : List (List ℕ)) (cheapest : List ℕ) →
+    HavePositiveCosts costs lists → IsPacking lists → MeetsEach costs must lists other → AllZip (IsCheapestOf costs) lists cheapest →
+    total costs must + sum_by (cost_of costs) cheapest ≤ total costs other
+
+-- a bound by foreign runs says of its region that each better set leaves an outcome
+abbrev pub ABoundByRunsLeavesNoBetter : Type 0
+ABoundByRunsLeavesNoBetter = (q : Question) (costs : List ℕ) (answer : SetOfGaps) (runs : List (List Label)) (region : Region) (numbers : List ℕ) →
+    IsWithinLimits q.program.threads q.program.memory → HaveCosts q.program costs → All (IsForeign q) runs →
+    IsBoundBy q.program costs answer runs region numbers → EachBetterOfRegionLeavesOutcome q costs answer region
 
 -- a valid gap tree over foreign runs says of its region that each better set leaves an outcome
 abbrev pub AValidGapTreeLeavesNoBetter : Type 0
@@ -88,29 +119,29 @@ TheRootHasEverySet = (q : Question) (costs : List ℕ) (answer : SetOfGaps) →
     EachBetterOfRegionLeavesOutcome q costs answer all_sets → EachBetterLeavesOutcome q costs answer
 
 -- trees in order are valid exactly where there are as many as sketches, each valid at its own
-abbrev pub CoversAreJudgedInOrder : Type 0
-CoversAreJudgedInOrder = (q : Question) (mode : Machine) (outcomes : List Outcome) (trees : List Cover) (ks : List Sketch) →
-    AreValidCovers q mode outcomes (covers_of trees) ks ↔ AllZip (IsValidCover q mode outcomes) trees ks
+abbrev pub CoversAreJudgedInOrder : Rule → Type 0
+CoversAreJudgedInOrder rule = (q : Question) (mode : Machine) (outcomes : List Outcome) (trees : List Cover) (ks : List Sketch) →
+    AreValidCoversBy rule q mode outcomes (covers_of trees) ks ↔ AllZip (IsValidCoverBy rule q mode outcomes) trees ks
 
--- the same of gap trees and regions
+-- gap trees in order are valid exactly where there are as many as regions, each valid at its own
 abbrev pub GapsAreJudgedInOrder : Type 0
 GapsAreJudgedInOrder = (p : Listing) (costs : List ℕ) (answer : SetOfGaps) (runs : List (List Label)) (trees : List Gap) (regions : List Region) →
     AreValidGaps p costs answer runs (gap_trees_of trees) regions ↔ AllZip (IsValidGap p costs answer runs) trees regions
 
 -- what the children of a node are for is determined, and so their number: the values of a read
-abbrev pub TheValuesAreOneList : Type 0
-TheValuesAreOneList = (p : Listing) (mode : Machine) (k : Sketch) (t : ℕ) (xs ys : List ℕ) →
-    HasNextValues p mode k t xs → HasNextValues p mode k t ys → xs ≡ ys
+abbrev pub TheValuesAreOneList : Rule → Type 0
+TheValuesAreOneList rule = (p : Listing) (mode : Machine) (k : Sketch) (t : ℕ) (xs ys : List ℕ) →
+    HasNextValuesBy rule p mode k t xs → HasNextValuesBy rule p mode k t ys → xs ≡ ys
 
 -- its sources
-abbrev pub TheSourcesAreOneList : Type 0
-TheSourcesAreOneList = (p : Listing) (mode : Machine) (k : Sketch) (e : Event) (xs ys : List Event) →
-    HasSources p mode k e xs → HasSources p mode k e ys → xs ≡ ys
+abbrev pub TheSourcesAreOneList : Rule → Type 0
+TheSourcesAreOneList rule = (p : Listing) (mode : Machine) (k : Sketch) (e : Event) (xs ys : List Event) →
+    HasSourcesBy rule p mode k e xs → HasSourcesBy rule p mode k e ys → xs ≡ ys
 
 -- so the choices of what is open, whatever is
-abbrev pub TheChoicesAreOneList : Type 0
-TheChoicesAreOneList = (p : Listing) (mode : Machine) (k : Sketch) (next : OpenChoice) (xs ys : List Choice) →
-    AreChoices p mode k next xs → AreChoices p mode k next ys → xs ≡ ys
+abbrev pub TheChoicesAreOneList : Rule → Type 0
+TheChoicesAreOneList rule = (p : Listing) (mode : Machine) (k : Sketch) (next : OpenChoice) (xs ys : List Choice) →
+    AreChoicesBy rule p mode k next xs → AreChoicesBy rule p mode k next ys → xs ≡ ys
 
 -- the gaps that split a region
 abbrev pub TheGapsAreOneList : Type 0

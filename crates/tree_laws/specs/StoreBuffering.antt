@@ -4,6 +4,8 @@ use Rattle.tso_program.specs.declared.shown.Shown.TheVariants.{All}
 use Rattle.tso_program.specs.Shown.{asked}
 use Rattle.tso_machine.specs.Examples.{store_buffering}
 use Rattle.cert_forest.specs.StoreBuffering.{certificate}
+use Rattle.gap_sets.specs.Regions.{all_sets}
+use Rattle.tree_laws.specs.GapTrees.{IsBoundBy}
 use Rattle.tree_laws.specs.Certificates.{IsValidCertificate}
 use Rattle.tree_laws.specs.Laws.{IsProved}
 
@@ -11,7 +13,8 @@ use Rattle.tree_laws.specs.Laws.{IsProved}
 abbrev pub costs : List ℕ
 costs = 1 ∷ 1 ∷ []
 
--- the certificate is valid, so both gaps are the answer
+-- the certificate is valid, so both gaps are the answer; and the two of its runs that pass one gap each bound all sets by themselves
 pub record StoreBufferingIsCertified : Type 0 where
   pub valid : IsValidCertificate (asked store_buffering All) costs certificate
   pub proved : IsProved (asked store_buffering All) costs certificate
+  pub bounded : IsBoundBy store_buffering costs certificate.gaps certificate.runs all_sets (1 ∷ 2 ∷ [])

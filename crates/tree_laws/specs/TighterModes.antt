@@ -22,7 +22,7 @@ abbrev pub kind_in : Machine → Kind → Kind
 kind_in SequentialMachine kind = union.Sequential
 kind_in (StoreBufferMachine gaps) kind = kind
 
--- the same tree, with other unions for its cycles and other numbers for its outcomes
+-- the tree, with other unions for its cycles and other numbers for its outcomes
 abbrev mutual
   pub changed : (Kind → Kind) → (ℕ → ℕ) → Cover → Cover
   changed kinds place (Value t trees) = Value t (each_changed kinds place trees)
@@ -35,6 +35,6 @@ abbrev mutual
   each_changed kinds place NoCover = NoCover
   each_changed kinds place (MoreCovers tree trees) = MoreCovers (changed kinds place tree) (each_changed kinds place trees)
 
--- the same tree, with cycles of the unions of the mode: one with gaps fenced has those of each other such mode
+-- the tree, with cycles of the unions of the mode: one with gaps fenced has those of each other such mode
 abbrev pub in_mode : Machine → Cover → Cover
 in_mode mode = changed (kind_in mode) (λ number. number)

@@ -1,11 +1,14 @@
 //! The laws: each function's contract is a theorem, and calling it does nothing.
-ghost use Rattle.tree_laws.specs.Laws.{AValidCoverCovers, ACoveredListHasEachOutcome, AValidTreeMakesTheSequentialList, AValidFencedTreeServes, ATighterModeKeepsACover, ATighterModeKeepsTheValues, ATighterModeKeepsAWholeSketch, ASplitLosesNoSet, AValidGapTreeLeavesNoBetter, SoNoServingSetIsBetter, TheRootHasEverySet, AValidCertificateProves, CoversAreJudgedInOrder, GapsAreJudgedInOrder, TheValuesAreOneList, TheSourcesAreOneList, TheChoicesAreOneList, TheGapsAreOneList};
+ghost use Rattle.tree_laws.specs.declared.rule.Rule.{Rule};
+ghost use Rattle.tree_laws.specs.Laws.{AValidCoverCovers, AWholeCoverIsAnEarlyCover, ACoveredListHasEachOutcome, AValidTreeMakesTheSequentialList, AValidFencedTreeServes, ATighterModeKeepsACover, ATighterModeKeepsTheValues, ATighterModeKeepsAWholeSketch, ATighterModeKeepsASettledRead, ASplitLosesNoSet, TheCheapestOfEachAreTheBest, EachCostsAtLeastTheSum, ABoundByRunsLeavesNoBetter, AValidGapTreeLeavesNoBetter, SoNoServingSetIsBetter, TheRootHasEverySet, AValidCertificateProves, CoversAreJudgedInOrder, GapsAreJudgedInOrder, TheValuesAreOneList, TheSourcesAreOneList, TheChoicesAreOneList, TheGapsAreOneList};
 ghost use Rattle.tree_laws.specs.StoreBuffering.{StoreBufferingIsCertified};
+ghost use Rattle.tree_laws.specs.OwnStore.{OwnStoreIsTold};
 
-/// Where a cover tree is valid at a sketch, each consistent completion of the sketch has an outcome of
-/// the list.
+/// Where a cover tree is valid at a sketch by a rule, each consistent completion of the sketch has an
+/// outcome of the list. A tree that is valid by the rule of whole sketches is valid by the early one.
 pub fn a_valid_cover_tree_covers()
-    ensures { AValidCoverCovers }
+    ensures covers { (rule : Rule) → AValidCoverCovers rule }
+    ensures early { AWholeCoverIsAnEarlyCover }
 {}
 
 /// Where a cover tree is valid at the sketch with no choice, the list has every outcome of the machine;
@@ -21,16 +24,29 @@ pub fn a_valid_fenced_tree_serves()
 {}
 
 /// A cover tree that is valid in a mode is valid in each mode that is no looser, as one of that mode. Which
-/// reads have a value, and the values of the next, stay the same.
+/// reads have a value, the values of the next, and which reads are settled stay the same.
 pub fn a_tighter_mode_keeps_a_cover()
-    ensures cover { ATighterModeKeepsACover }
-    ensures values { ATighterModeKeepsTheValues }
+    ensures cover { (rule : Rule) → ATighterModeKeepsACover rule }
+    ensures values { (rule : Rule) → ATighterModeKeepsTheValues rule }
     ensures whole { ATighterModeKeepsAWholeSketch }
+    ensures settled { ATighterModeKeepsASettledRead }
 {}
 
 /// The children of a region hold every set of it that has one of the gaps.
 pub fn a_split_loses_no_set()
     ensures { ASplitLosesNoSet }
+{}
+
+/// Of the sets that hold some gaps and have one of each list of a packing, the one with the cheapest of each
+/// list is the best.
+pub fn a_packing_bounds_each_set()
+    ensures best { TheCheapestOfEachAreTheBest }
+    ensures cost { EachCostsAtLeastTheSum }
+{}
+
+/// Where runs bound a region, each better set of it leaves an outcome that no sequential run has.
+pub fn a_bound_by_runs_leaves_no_better()
+    ensures { ABoundByRunsLeavesNoBetter }
 {}
 
 /// A valid gap tree over foreign runs says of each better set of its region which outcome it leaves, so that
@@ -43,16 +59,16 @@ pub fn a_valid_gap_tree_leaves_no_better()
 
 /// Children are judged in their order, each at its own sketch or for its own region.
 pub fn children_are_judged_in_order()
-    ensures covers { CoversAreJudgedInOrder }
+    ensures covers { (rule : Rule) → CoversAreJudgedInOrder rule }
     ensures gaps { GapsAreJudgedInOrder }
 {}
 
 /// What the children of a node are for is determined: a tree with another number of children is not
 /// valid.
 pub fn the_children_are_determined()
-    ensures values { TheValuesAreOneList }
-    ensures sources { TheSourcesAreOneList }
-    ensures choices { TheChoicesAreOneList }
+    ensures values { (rule : Rule) → TheValuesAreOneList rule }
+    ensures sources { (rule : Rule) → TheSourcesAreOneList rule }
+    ensures choices { (rule : Rule) → TheChoicesAreOneList rule }
     ensures gaps { TheGapsAreOneList }
 {}
 
@@ -64,4 +80,10 @@ pub fn a_valid_certificate_proves_the_headline()
 /// The definitions at store buffering: its certificate is valid, and both gaps are the answer.
 pub fn store_buffering_is_certified()
     ensures { StoreBufferingIsCertified }
+{}
+
+/// The definitions at a thread that loads what it has stored: an early tree closes before the other thread's
+/// load has a value, and isn't valid by the rule of whole sketches.
+pub fn own_store_is_told()
+    ensures { OwnStoreIsTold }
 {}

@@ -11,11 +11,14 @@
 
 mod choice;
 mod laws;
+mod rule;
 
 pub use choice::{Choice, OpenChoice, event_of};
 pub use laws::{
-    a_split_loses_no_set, a_tighter_mode_keeps_a_cover, a_valid_certificate_proves_the_headline,
+    a_bound_by_runs_leaves_no_better, a_packing_bounds_each_set, a_split_loses_no_set,
+    a_tighter_mode_keeps_a_cover, a_valid_certificate_proves_the_headline,
     a_valid_cover_tree_covers, a_valid_fenced_tree_serves, a_valid_gap_tree_leaves_no_better,
-    a_valid_tree_lists_every_outcome, children_are_judged_in_order, store_buffering_is_certified,
-    the_children_are_determined,
+    a_valid_tree_lists_every_outcome, children_are_judged_in_order, own_store_is_told,
+    store_buffering_is_certified, the_children_are_determined,
 };
+pub use rule::Rule;

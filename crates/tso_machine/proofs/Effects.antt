@@ -1,5 +1,5 @@
 -- What a step does to the machine's state, by what it does to a thread and to the memory.
-use Rattle.tso_machine.proofs.Vocabulary.{◌≡◌, ℕ, ◌<◌, Bool, true, false, ◌&&◌, ◌||◌, not, List, [], ◌∷◌, ◌++◌, Option, Some, None, option_and_then, Result, Ok, Err, length, length-set, refl, sym, ap, ◌∙◌, subst, slice_index, slice_set, OnOk, if◌then◌else◌}
+use Rattle.tso_machine.proofs.Vocabulary.{◌≡◌, ℕ, ◌<◌, Bool, true, false, ◌&&◌, ◌||◌, not, List, [], ◌∷◌, ◌++◌, Option, Some, None, option_and_then, length, length-set, refl, sym, ap, ◌∙◌, subst, slice_index, slice_set, if◌then◌else◌}
 use Rattle.tso_machine.proofs.Vocabulary.{nat_cmp, Exec, Pending, Model, Listing, Action, Stop, Go, Wait, Read, Write, Swap, action, machine_of_model, gaps_in, waits, loaded, IsLocated, put, State, newest, found, is_empty, when_empty, past_gap, buffered}
 use Rattle.tso_machine.proofs.Vocabulary.{direct, step, Core, Cores, core_at, state_of, AreLocated, FitsProgram, after_buffered, after_direct, after_action, same_Some as some_is}
 use Rattle.std.specs.FinSet as set
@@ -103,7 +103,3 @@ module _ (p : Listing) (gaps : set.FinSet nat_cmp) (model : Model) (s : Cores) (
       let within : IsLocated (length s.memory) (action p.threads t (core_at s.cores t).local) =
       subst (λ b. IsLocated (length s.memory) b) (sym (action_is n)) (subst (λ m. IsLocated m a) (sym fits.locations) w) in
       (exec_is s t n.thread p gaps model x within same, exec_fits s t n.thread p _ model _ x fits within same)
-
-pub on_ok : {A E : Type 0} (r : Result A E) (P Q : Type 0) → (P → Q) → OnOk r P → OnOk r Q
-on_ok (Ok u) P Q f h = f h
-on_ok (Err e) P Q f h = tt

@@ -11,10 +11,28 @@ pub mod Unfenced
 pub mod RunLabels
 pub mod RunsRead
 pub mod ExamplesTold
+-- functions changed at a place, and the steps of the machine by cases
+pub mod ChangedAt
+pub mod StepCases
+-- sequential runs and store buffers
+pub mod SequentialIsBuffered
+pub mod WaitingEverywhere
+pub mod PassedPlaces
+pub mod NothingPassed
+pub mod UnfencedRuns
+pub mod GapsAvoided
+pub mod AllGapsFenced
+-- fenced programs
+pub mod FencedActions
+pub mod EitherMachine
+pub mod FencedSteps
+pub mod FencesInserted
+pub mod FencesDropped
+pub mod FencingIsTheMachine
+-- the answer
+pub mod OneAnswer
+pub mod HeadlineIsTheAnswer
+pub mod PartsServed
 -- words of the crates below, passed on
-pub use Rattle.gap_sets.proofs.Orders
-pub use Rattle.tso_program.proofs.FencedPlaces
-pub use Rattle.tso_program.proofs.Gaps
 pub use Rattle.tso_program.proofs.Kept
 pub use Rattle.tso_program.proofs.KnownTruths
-pub use Rattle.tso_program.proofs.ReadOff

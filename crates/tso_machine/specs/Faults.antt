@@ -58,7 +58,7 @@ module _ (p : Listing) (mode : Machine) (s : State) where
   Applies BufferEmpty label = HasNoStore p s label
   Applies FenceWaits label = HasToWait label
 
-  -- the same of a step that wasn't made
+  -- why the step of this label wasn't made
   abbrev pub StepFaultIs : Label → StepFault → Type 0
   StepFaultIs label (step.Refused cause) = Applies cause label
   StepFaultIs label step.OutOfMemory = Unit {0}

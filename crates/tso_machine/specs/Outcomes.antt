@@ -5,7 +5,8 @@ use Rattle.gap_sets.specs.Gaps.{SetOfGaps}
 use Rattle.gap_sets.specs.Order.{Better}
 use Rattle.tso_program.specs.declared.listing.Listing.{Listing}
 use Rattle.tso_program.specs.declared.outcome.Outcome.{Outcome}
-use Rattle.tso_program.specs.Shown.{Question, show}
+use Rattle.tso_program.specs.Shown.{show}
+use Rattle.tso_program.specs.declared.question.Question.{Question}
 use Rattle.tso_program.specs.Listings.{gap_count}
 use Rattle.tso_program.specs.Fences.{Gaps, gaps_in, fence}
 use Rattle.tso_machine.specs.declared.label.Label.{Label}
@@ -65,7 +66,7 @@ pub record IsTheAnswer (q : Question) (costs : List ℕ) (gaps : SetOfGaps) : Ty
   pub serves : Serves q gaps
   pub least : EachBetterLeavesOutcome q costs gaps
 
--- the same question of the program with an MFENCE in each of these gaps
+-- the question of the program with an MFENCE in each of these gaps
 abbrev pub fenced_at : Gaps → Question → Question
 fenced_at gaps q = record q { program = fence gaps q.program }
 

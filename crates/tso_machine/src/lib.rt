@@ -5,9 +5,9 @@
 //!
 //! Begin with `replay`, `steps` and `read_run`. Free to change: how a replay keeps buffers and memory
 //! (`state.rt`, `cores.rt`). Relied on: a replay accepts exactly the runs, with their whole outcome and the
-//! gaps that they pass, and otherwise names the first step that is not possible; fences change a run exactly
-//! where it passes them (`fences_are_avoided`). `Headline` of `specs/Outcomes.antt` is what an accepted line
-//! says.
+//! gaps that they pass, and otherwise names the first step that is not possible; an MFENCE in the text and a
+//! gap at which the machine waits say the same (`fencing_is_the_machine_with_gaps`). `Headline` of
+//! `specs/Outcomes.antt` is what an accepted line says.
 #![tactic(auto)]
 
 mod cores;
@@ -21,8 +21,12 @@ mod stepping;
 
 pub use label::{Cause, Label, Model, Pending};
 pub use laws::{
-    all_shown_are_the_outcomes, examples_are_told, fences_are_avoided, runs_have_no_fault,
-    the_first_fault_is_unique,
+    a_run_that_passes_nothing_is_sequential, a_served_truth_is_kept, all_gaps_serve,
+    all_shown_are_the_outcomes, an_observed_answer_costs_no_more, examples_are_told,
+    fenced_runs_pass_no_gap_of_the_set, fences_are_avoided, fencing_is_the_machine_with_gaps,
+    programs_jump_forward, runs_have_no_fault, sequential_runs_are_allowed,
+    the_answer_is_the_only_one, the_first_fault_is_unique, the_headline_is_the_answer,
+    what_serves_serves_each_part,
 };
 pub use mode::Mode;
 pub use replaying::{Ended, ReplayFault, replay, replay_shown};

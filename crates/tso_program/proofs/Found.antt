@@ -38,7 +38,7 @@ not_past : (b : Bool) (n m : ℕ) → b ≡ false → nat_lt n m ≡ false → n
 not_past true n m e h = absurd cc
 not_past false n m e h = grind (arith, nat_tests)
 
-some_test : (b : Bool) (k : ℕ) → is_some (if b then Some k else None) ≡ false → b ≡ false
+pub some_test : (b : Bool) (k : ℕ) → is_some (if b then Some k else None) ≡ false → b ≡ false
 some_test true k e = cc
 some_test false k e = refl
 

@@ -7,7 +7,7 @@ use Rattle.std.proofs.Math.Nat.{div-add-mod, mod-lt}
 pub none_placed : ArePlaces set.empty
 none_placed place h = let no : true ≡ false = sym h ∙ set.contains-empty nat_cmp place in absurd cc
 
-tied : (place new : ℕ) (b : Bool) → (eq_by_cmp nat_cmp place new || b) ≡ true → (new ≡ place) ⊎ (b ≡ true)
+pub tied : (place new : ℕ) (b : Bool) → (eq_by_cmp nat_cmp place new || b) ≡ true → (new ≡ place) ⊎ (b ≡ true)
 tied place new true h = inr refl
 tied place new false h = inl (grind (arith, nat_tests))
 

@@ -37,7 +37,7 @@ pub use Rattle.tso_program.specs.declared.instruction.TheConstants.{REGISTERS}
 pub use Rattle.tso_program.specs.declared.limits.TheConstants.{MAX_ACCESSES, MAX_FENCED_INSTRUCTIONS, MAX_INSTRUCTIONS, MAX_LOCATIONS, MAX_THREADS}
 pub use Rattle.tso_program.specs.declared.listing.Listing.{Listing}
 pub use Rattle.tso_program.specs.declared.listing.Thread.{Thread}
-pub use Rattle.tso_program.specs.declared.node.Node.{Node}
+pub use Rattle.tso_program.specs.declared.node.FormulaNode.{FormulaNode}
 pub use Rattle.tso_program.specs.declared.outcome.Outcome.{Outcome}
 pub use Rattle.tso_program.specs.declared.shown.Shown.{Shown, TheVariants.All, TheVariants.Only, TheVariants.Truth}
 pub use Rattle.tso_program.specs.declared.shown.TheConstants.{PLACES, REGISTER_PLACES}

@@ -99,6 +99,6 @@ first_fenced_fault threads memory = first_true (shared_refusals MAX_FENCED_INSTR
 abbrev pub ProgramLimitsAreTheRefusals : Type 0
 ProgramLimitsAreTheRefusals = (threads : List Thread) (memory : List ℕ) → (first_fault threads memory ≡ None) ↔ IsWithinLimits threads memory
 
--- the same of fenced programs
+-- no refusal of a fenced program applies exactly within the limits of fenced programs
 abbrev pub FencedLimitsAreTheRefusals : Type 0
 FencedLimitsAreTheRefusals = (threads : List Thread) (memory : List ℕ) → (first_fenced_fault threads memory ≡ None) ↔ IsWithinFencedLimits threads memory

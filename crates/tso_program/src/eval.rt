@@ -7,36 +7,36 @@ ghost use Rattle.tso_program.specs.Nodes.{nodes_of};
 ghost use Rattle.tso_program.specs.Internal.Walk.{passed, seen};
 
 use crate::Outcome;
-use crate::node::Node;
+use crate::node::FormulaNode;
 
 /// How many `End`s are still to come, after a node that is passed over.
-fn passed(ends: usize, node: Node) -> usize
+fn passed(ends: usize, node: FormulaNode) -> usize
     requires { ends + 1 < 2 ^ 64 }
     ensures { result ≡ passed ends node }
 {
     match node {
-        Node::And | Node::Or => ends + 1,
-        Node::End => ends.saturating_sub(1),
+        FormulaNode::And | FormulaNode::Or => ends + 1,
+        FormulaNode::End => ends.saturating_sub(1),
         _ => ends,
     }
 }
 
 /// The value after a node, and how many `End`s to pass over: an operand that can't change the value is passed over.
-fn seen(outcome: &Outcome, value: bool, node: Node) -> (bool, usize)
+fn seen(outcome: &Outcome, value: bool, node: FormulaNode) -> (bool, usize)
     ensures { result ≡ seen outcome.now value node }
 {
     match node {
-        Node::Atom(atom) => (atom.is_true_at(outcome), 0),
-        Node::Const(constant) => (constant, 0),
-        Node::Not => (!value, 0),
-        Node::And => (value, if value { 0 } else { 1 }),
-        Node::Or => (value, if value { 1 } else { 0 }),
-        Node::End => (value, 0),
+        FormulaNode::Atom(atom) => (atom.is_true_at(outcome), 0),
+        FormulaNode::Const(constant) => (constant, 0),
+        FormulaNode::Not => (!value, 0),
+        FormulaNode::And => (value, if value { 0 } else { 1 }),
+        FormulaNode::Or => (value, if value { 1 } else { 0 }),
+        FormulaNode::End => (value, 0),
     }
 }
 
 /// Whether the formula that these nodes stand for is true at the outcome.
-pub fn holds(nodes: &[Node], outcome: &Outcome) -> bool
+pub fn holds(nodes: &[FormulaNode], outcome: &Outcome) -> bool
     ensures { (f : Tree AtomValue) → nodes_of f ≡ nodes.now → result ≡ truth outcome.now f }
 {
     let mut value = false;

@@ -24,6 +24,7 @@ mod named;
 mod node;
 mod outcome;
 mod program;
+mod question;
 mod shown;
 
 pub use action::{Action, Local};
@@ -41,7 +42,8 @@ pub use limits::{
 };
 pub use listing::{Listing, Thread};
 pub use named::{with_location, with_register};
-pub use node::Node;
+pub use node::FormulaNode;
 pub use outcome::Outcome;
 pub use program::Program;
+pub use question::Question;
 pub use shown::{Names, PLACES, REGISTER_PLACES, Shown, ShownKind};

@@ -1,5 +1,5 @@
 //! What is shown of an outcome.
-ghost use Rattle.std.specs.Prelude.{◌≡◌, ◌↔◌, ◌<◌, IsTrue, IfOk, length};
+ghost use Rattle.std.specs.Prelude.{◌≡◌, ◌↔◌, ◌<◌, IsTrue, MatchResult, length};
 ghost use Rattle.std.specs.FinSet as set;
 ghost use Rattle.tso_program.specs.Instructions.{number};
 ghost use Rattle.gap_sets.specs.Gaps.{numbers_of_set};
@@ -7,7 +7,7 @@ ghost use Rattle.tso_program.specs.Names.{register_place, location_place, ArePla
 ghost use Rattle.tso_program.specs.declared.instruction.TheConstants.{REGISTERS};
 ghost use Rattle.tso_program.specs.declared.limits.TheConstants.{MAX_THREADS, MAX_LOCATIONS};
 ghost use Rattle.tso_program.specs.declared.shown.TheConstants.{PLACES};
-ghost use Rattle.tso_program.specs.Shown.{shows_register, shows_location, value_if, shown_registers, shown_value};
+ghost use Rattle.tso_program.specs.Shown.{shows_register, shows_location, value_if, shown_registers, shown_value, ShowsValues};
 
 use crate::{Formula, MAX_LOCATIONS, MAX_THREADS, REGISTERS, Reg};
 use gap_sets::{GapSet, Gaps};
@@ -171,9 +171,10 @@ impl Shown {
         }
     }
 
-    /// The same. A formula is shared.
+    /// A copy of what is shown. A formula is shared, and refused where the count of its copies is full; nothing else is
+    /// refused.
     pub fn copy(&self) -> Result<Shown, AllocError>
-        ensures { IfOk result (λ other. other ≡ self.now) }
+        ensures { MatchResult result (λ other. other ≡ self.now) (λ _. ¬ ShowsValues self.now) }
     {
         match self {
             Shown::All => Ok(Shown::All),

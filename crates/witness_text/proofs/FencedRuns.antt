@@ -6,7 +6,7 @@ use Rattle.tso_program.specs.Fences.{Gaps}
 use Rattle.tso_machine.specs.{declared.label.Model.Model, declared.replaying.Ended.Ended}
 use Rattle.tso_machine.specs.declared.label.Model.TheVariants as models
 use Rattle.tso_machine.proofs.Unfenced.{empty_fences_nothing}
-use Rattle.fence_laws.proofs.GapsAvoided.{fenced_runs_avoid}
+use Rattle.tso_machine.proofs.GapsAvoided.{fenced_runs_avoid}
 use Rattle.litmus_text.specs.Litmus.{Litmus}
 use Rattle.documents.specs.{declared.run.Setting.TheVariants.Machine as OfMachine, declared.witness.Sought.Sought}
 use Rattle.witness_text.specs.Internal.Replays.{IsReplayed}
@@ -28,7 +28,7 @@ none_fenced p models.Buffered gaps labels o ended is_run replayed gap fenced pas
 -- what is said of its replay says it
 pub told_run : (source : Litmus Listing) (sought : Sought) (labels : List Label) (ended : Ended) (text run : List ℕ)
     → IsWitness source.program (machine_of source.program sought) source.condition.formula sought.meets labels → IsReplayed source.program sought.model labels ended
-    → IsShownRunText source labels ended.outcome ended.passed text → TellsRun source All (OfMachine sought.model) labels ended.outcome ended.passed run → TellsWitness source sought text run
+    → IsShownRunText source (unfenced_machine source.program sought) labels ended.outcome ended.passed text → TellsRun source All (OfMachine sought.model) labels ended.outcome ended.passed run → TellsWitness source sought text run
 told_run source sought labels ended text run (o, fenced, met) replayed printed document =
     let p = source.program in
     let same : o ≡ ended.outcome = one_outcome p (unfenced_machine p sought) labels o ended.outcome (unfenced_run p sought.model sought.fences labels o fenced) replayed.run in

@@ -14,6 +14,7 @@ use Rattle.litmus_text.specs.Litmus.{Litmus}
 use Rattle.litmus_text.specs.Texts.{IsLitmus, IsNoLitmus}
 use Rattle.cover_solver.specs.Witnesses.{HasNoWitness}
 use Rattle.report.specs.Answers.{printed_labels, outcome_line, passed_line}
+use Rattle.run_views.specs.Tables.{IsTableOf}
 use Rattle.documents.specs.declared.run.Setting.TheVariants.{Machine as OfMachine}
 use Rattle.documents.specs.declared.witness.Sought.{Sought}
 use Rattle.documents.specs.Runs.{TellsRun}
@@ -26,7 +27,7 @@ use Rattle.witness_text.specs.FencedGaps.{GapPlace, AreGapsAt, IsFirstWithoutGap
 abbrev pub machine_of : Listing → Sought → Machine
 machine_of p sought = machine_of_model p sought.fences sought.model
 
--- the same with no gap fenced
+-- the machine in which a run is sought, with no gap fenced
 abbrev pub unfenced_machine : Listing → Sought → Machine
 unfenced_machine p sought = machine_of_model p set.empty sought.model
 
@@ -34,9 +35,10 @@ unfenced_machine p sought = machine_of_model p set.empty sought.model
 abbrev pub shown_run_text : Litmus Listing → List Label → List ℕ → Outcome → SetOfGaps → List ℕ
 shown_run_text source labels table outcome passed = printed_labels labels ++ table ++ outcome_line source.names All outcome ++ passed_line source.program passed
 
--- the text is that of a run, with some table of it
-abbrev pub IsShownRunText : Litmus Listing → List Label → Outcome → SetOfGaps → List ℕ → Type 0
-IsShownRunText source labels outcome passed text = (table : List ℕ) × (text ≡ shown_run_text source labels table outcome passed)
+-- the text is that of a run, with the table of its steps in this machine
+abbrev pub IsShownRunText : Litmus Listing → Machine → List Label → Outcome → SetOfGaps → List ℕ → Type 0
+IsShownRunText source machine labels outcome passed text =
+    (table : List ℕ) × IsTableOf source machine labels table × (text ≡ shown_run_text source labels table outcome passed)
 
 -- that no run of the machine meets the formula, or that each does
 abbrev pub no_run_line : Bool → List ℕ
@@ -54,7 +56,7 @@ pub record TellsWitness (source : Litmus Listing) (sought : Sought) (text run : 
   pub passed : SetOfGaps
   pub passes : ArePassed source.program (unfenced_machine source.program sought) labels passed
   pub avoids : (gap : ℕ) → set.contains sought.fences gap ≡ true → set.contains passed gap ≡ true → ⊥
-  pub printed : IsShownRunText source labels outcome passed text
+  pub printed : IsShownRunText source (unfenced_machine source.program sought) labels outcome passed text
   pub document : TellsRun source All (OfMachine sought.model) labels outcome passed run
 
 -- the text and the document tell a run that is sought; or that no run of the machine is such

@@ -4,8 +4,8 @@
 //!
 //! Begin with `witness_text`, `WitnessText` and `WitnessFault`. Free to change: which run is shown, and how
 //! its flushes are made early (`early_flushes.rt`), where each try is judged by its replay. Relied on: the
-//! run is one of that machine with this truth, or no run of it has it (`IsWitnessText` in
-//! `specs/WitnessTexts.antt`).
+//! run is one of that machine with this truth, and its table that of its steps, or no run of it has it
+//! (`IsWitnessText` in `specs/WitnessTexts.antt`).
 #![tactic(auto)]
 
 mod early_flushes;
@@ -14,5 +14,6 @@ mod gaps;
 mod lines;
 mod witness;
 
+pub use cover_solver::{OutcomeList, SoughtOutcomes, outcomes_with_runs};
 pub use fault::WitnessFault;
 pub use witness::{WitnessText, witness_text};

@@ -5,8 +5,9 @@ ghost use Rattle.std.specs.FinSet as set;
 ghost use Rattle.tso_program.specs.declared.listing.Listing.{Listing};
 ghost use Rattle.tso_program.specs.declared.shown.Shown.TheVariants.{All};
 ghost use Rattle.tso_machine.specs.declared.label.Model.TheVariants as models;
-ghost use Rattle.tso_machine.specs.Machine.{IsRun};
+ghost use Rattle.tso_machine.specs.Machine.{IsRun, start};
 ghost use Rattle.tso_machine.specs.Modes.{machine_of_mode, machine_of_model, ArePassed};
+ghost use Rattle.tso_machine.specs.Steps.{AreSteps};
 ghost use Rattle.cover_solver.specs.Witnesses.{HasNoWitness, IsWitness};
 ghost use Rattle.documents.specs.declared.run.Setting.TheVariants.{Machine};
 ghost use Rattle.documents.specs.Runs.{TellsRun};
@@ -72,7 +73,8 @@ fn told(
     steps: &[Step],
     ended: &Ended,
 ) -> Result<RunText, AllocError>
-    ensures printed { IfOk result (λ told. IsShownRunText litmus.now labels.now ended.now.outcome ended.now.passed told.lines.items) }
+    requires steps { AreSteps litmus.now.program (machine_of_model litmus.now.program set.empty model) (start litmus.now.program) labels.now steps.now }
+    ensures printed { IfOk result (λ told. IsShownRunText litmus.now (machine_of_model litmus.now.program set.empty model) labels.now ended.now.outcome ended.now.passed told.lines.items) }
     ensures document { IfOk result (λ told. TellsRun litmus.now All (Machine model) (map (λ step. step.label) steps.now) ended.now.outcome ended.now.passed told.run) }
 {
     let table = run_table(alloc, litmus, steps)?;
@@ -98,6 +100,7 @@ fn replay_of(
     model: Model,
     labels: &[Label],
 ) -> Result<Replay, AllocError>
+    ensures steps { IfOk result (λ replay. AreSteps program.now (machine_of_model program.now set.empty model) (start program.now) labels.now replay.steps.items) }
     ensures labels { IfOk result (λ replay. map (λ step. step.label) replay.steps.items ≡ labels.now) }
     ensures ended { IfOk result (λ replay. IsReplayed program.now model labels.now replay.ended) }
 {

@@ -1,7 +1,7 @@
 -- Store buffering: both reads give 0 with no gap fenced, and neither sequentially nor with both gaps fenced.
 use Rattle.candidate_executions.proofs.Vocabulary.{◌≡◌, ◌≢◌, ℕ, zero, suc, ◌-◌, ◌<◌, ◌≤◌, ◌⊎◌, List, [], ◌∷◌, Some, None, slice_index, refl, sym, ap, ◌∙◌, subst, inl, inr, arith, lit<, same_Some, Stop, action, SequentialMachine, StoreBufferMachine, no_gaps}
 use Rattle.candidate_executions.proofs.Vocabulary.{Access, Event, Initial, At, trace_of, access, Writes, EndsWith, IsCandidate, HasOutcome, Precedes, KeepsOrder, ReadsFrom, WriteOrder, FromReads, IsCycle, Edge, IsConsistent}
-use Rattle.fence_laws.specs.Examples.{store_buffering}
+use Rattle.tso_machine.specs.Examples.{store_buffering}
 use Rattle.candidate_executions.specs.declared.event.Kind.TheVariants as union
 use Rattle.candidate_executions.specs.StoreBuffering.{both_zero, initial_source, both_gaps, zeros_read, StoreBufferingCandidates}
 use Rattle.candidate_executions.proofs.{Orders.ForwardIsAcyclic.Pair, Orders.ForwardIsAcyclic.Less, Orders.ForwardIsAcyclic.acyclic_by, Orders.Lists.not_some}

@@ -2,8 +2,8 @@
 use Rattle.candidate_executions.proofs.Vocabulary.{◌≡◌, ℕ, suc, List, [], ◌∷◌, ◌++◌, Option, Some, None, option_and_then, refl, sym, ap, ◌∙◌, Listing, Action, Stop, Go, Wait, Read, Write, Swap, action, Gaps, put, SequentialMachine, StoreBufferMachine, State}
 use Rattle.candidate_executions.proofs.Vocabulary.{newest, found, buffered, direct, run, Label, Exec, Flush, Pending, Event, At, Origins, Mark, Takes, Arrives, found_write, with_made, with_waiting, with_memory, buffered_origins, buffered_marks}
 use Rattle.candidate_executions.proofs.Vocabulary.{flushed_origins, flushed_marks, direct_origins, direct_marks, marks}
-use Rattle.fence_laws.proofs.ChangedAt.{put_same, put_back}
-use Rattle.fence_laws.proofs.SequentialIsBuffered.{exec_step, stored, stored_flushed, same_buffers}
+use Rattle.tso_machine.proofs.ChangedAt.{put_same, put_back}
+use Rattle.tso_machine.proofs.SequentialIsBuffered.{exec_step, stored, stored_flushed, same_buffers}
 use Rattle.candidate_executions.proofs.{FromRuns.MachineSteps.exec_ok, FromRuns.MarksAlong.marks_step}
 
 module _ (p : Listing) (gaps : Gaps) where

@@ -72,7 +72,7 @@ a_pair_keeps_a_sketch p mode k d e fits is = record {
 
 module _ (p : Listing) (mode : Machine) (k : Sketch) (c : Candidate) (fits : IsSketch p mode k) (is : IsCandidate p mode c) (completes : Completes k c) where
   -- one source more
-  more_sources : (e s : Event) → c.source e ≡ s → Completes (with_source k e s) c
+  pub more_sources : (e s : Event) → c.source e ≡ s → Completes (with_source k e s) c
   more_sources e s q = record {
     given = completes.given;
     sources = λ f z h. one_more (λ (y : Event × Event). c.source y.0 ≡ y.1) k.sources (e, s) (λ y. completes.sources y.0 y.1) q (f, z) h;

@@ -1,7 +1,7 @@
 -- The values given to the threads: none at first, and one more for one thread.
 use Rattle.candidate_executions.proofs.Vocabulary.{◌≡◌, ◌≢◌, ℕ, suc, ◌<◌, List, [], ◌∷◌, ◌++◌, Some, None, length, map, refl, sym, ap, ◌∙◌, inl, inr, append-nil, cases_eq, cases_lt, Thread, Listing, Machine, trace_by, slice_get, unwrap_or, Sketch}
 use Rattle.candidate_executions.proofs.Vocabulary.{empty_sketch, given_to, IsPrefixOf, with_value, read_by, next_read}
-use Rattle.fence_laws.proofs.Runs.{no_action}
+use Rattle.tso_machine.proofs.Runs.{no_action}
 use Rattle.candidate_executions.proofs.Orders.Lists.{get_set_same, get_set_other}
 
 -- no thread of the empty sketch has a value

@@ -6,7 +6,7 @@ use Rattle.std.specs.declared.cmp.Ordering.{Ordering}
 use Rattle.gap_sets.specs.Gaps.{SetOfGaps}
 use Rattle.tso_program.specs.declared.listing.Listing.{Listing}
 use Rattle.tso_program.specs.declared.outcome.Outcome.{Outcome}
-use Rattle.tso_program.specs.Shown.{Question}
+use Rattle.tso_program.specs.declared.question.Question.{Question}
 use Rattle.tso_program.specs.Ordered.{outcome_cmp}
 use Rattle.tso_machine.specs.declared.label.Label.{Label}
 use Rattle.tso_machine.specs.declared.label.Model.{Model}

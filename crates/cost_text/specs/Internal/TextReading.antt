@@ -34,7 +34,7 @@ pub record IsNewEntry (threads : List Thread) (entries : List Entry) (line : Lis
   pub within : entry.cost ≤ 1000000
 
 -- the table has what the lines say
-pub record IsTableOf (threads : List Thread) (lines : List (List ℕ)) (table : List (Option ℕ)) : Type 0 where
+pub record IsTableOfLines (threads : List Thread) (lines : List (List ℕ)) (table : List (Option ℕ)) : Type 0 where
   pub entries : List Entry
   pub given : GiveCosts threads lines entries
   pub table_is : table ≡ table_of (gap_count threads) entries

@@ -1,7 +1,7 @@
 -- What a search with an oracle needs and answers.
 use Rattle.std.specs.Prelude.{◌≡◌, ◌<◌, ℕ, Bool, false, List, Some, Result, IfErr, OnOk, slice_get}
 use Rattle.gap_sets.specs.declared.region.Region.{Region}
-use Rattle.tso_program.specs.Shown.{Question}
+use Rattle.tso_program.specs.declared.question.Question.{Question}
 use Rattle.tso_machine.specs.Outcomes.{AreGapsOf}
 use Rattle.oracle.specs.declared.fault.SolveFault.{SolveFault}
 use Rattle.oracle.specs.Facts.{Foreign, AreOf}

@@ -1,7 +1,7 @@
 -- What a seat is after its worker shared what it knows, and which runs split a node.
 use Rattle.std.specs.Prelude.{◌≡◌}
 use Rattle.gap_sets.specs.declared.region.Region.{Region}
-use Rattle.tso_program.specs.Shown.{Question}
+use Rattle.tso_program.specs.declared.question.Question.{Question}
 use Rattle.oracle.specs.declared.oracle.Verdict.TheVariants as verdict
 use Rattle.oracle.specs.Facts as facts
 use Rattle.oracle.specs.Verdicts.{IsVerdictOf}

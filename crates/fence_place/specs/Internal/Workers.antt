@@ -1,7 +1,7 @@
 -- Workers of a hunt.
 use Rattle.std.specs.Prelude.{◌≡◌, Bool, true, false, ℕ, List, Option, Some, None, IfSome, Result, IfErr, OnOk, OnErr, slice_get}
 use Rattle.gap_sets.specs.declared.region.Region.{Region}
-use Rattle.tso_program.specs.Shown.{Question}
+use Rattle.tso_program.specs.declared.question.Question.{Question}
 use Rattle.tso_machine.specs.Outcomes.{AreGapsOf}
 use Rattle.oracle.specs.Facts.{AreOf}
 use Rattle.hunt_board.specs.Seats.{HuntView, IsOf}

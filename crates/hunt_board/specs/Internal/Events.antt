@@ -1,7 +1,7 @@
 -- What a call does to the tree under the lock.
 use Rattle.std.specs.Prelude.{◌≡◌, ◌⊎◌, ◌<◌, ℕ, List}
 use Rattle.gap_sets.specs.declared.region.Region.{Region}
-use Rattle.tso_program.specs.Shown.{Question}
+use Rattle.tso_program.specs.declared.question.Question.{Question}
 use Rattle.search_core.specs.Verdicts.{IsVerdictOf}
 use Rattle.search_core.specs.Verdict.TheVariants.{Foreign, Serves}
 use Rattle.search_core.specs.Ceilings.{IsAboveCeiling, IsCeilingOf}

@@ -10,7 +10,7 @@ use Rattle.tso_program.specs.declared.atom.Atom.{Atom}
 use Rattle.tso_program.specs.declared.atom.Atom.TheVariants as atom
 use Rattle.litmus_syntax.specs.Views.{PlaceView, Location, Register, EntryView, CellView, BodyView}
 use Rattle.litmus_reader.specs.Names.{TextNames, all_registers, with_name, number_in}
-use Rattle.litmus_reader.specs.declared.label.Label.{Label}
+use Rattle.litmus_reader.specs.declared.label.CodeLabel.{CodeLabel}
 use Rattle.litmus_reader.specs.Labels.{thread_labels, label_in, position_in}
 use Rattle.litmus_reader.specs.Meaning.{atom_of, code_in}
 
@@ -23,23 +23,23 @@ abbrev pub byte_in : List (List ℕ) → List ℕ → ℕ
 byte_in names name = min 255 (number_in names name)
 
 -- a label's position as a byte: 255 past it
-abbrev pub byte_at : List Label → List ℕ → ℕ
+abbrev pub byte_at : List CodeLabel → List ℕ → ℕ
 byte_at labels name = min 255 (position_in labels name)
 
 -- the labels of a table of positions by name
-abbrev pub labels_in : List (Vec ℕ × ℕ) → List Label
+abbrev pub labels_in : List (Vec ℕ × ℕ) → List CodeLabel
 labels_in entries = map (λ e. record { name = e.0.items; position = e.1 }) entries
 
 -- the labels with this one, at the end where its name is new
-abbrev pub with_label : List Label → Label → List Label
+abbrev pub with_label : List CodeLabel → CodeLabel → List CodeLabel
 with_label labels label = if is_some (label_in labels label.name) then labels else labels ++ label ∷ []
 
 -- by each name these labels give what those give
-abbrev pub FindsAs : List Label → List Label → Type 0
+abbrev pub FindsAs : List CodeLabel → List CodeLabel → Type 0
 FindsAs found labels = (name : List ℕ) → label_in found name ≡ label_in labels name
 
--- the same of each thread's labels
-abbrev pub FindAllAs : List (List Label) → List (List Label) → Type 0
+-- by each name each thread's labels give what that thread's others give
+abbrev pub FindAllAs : List (List CodeLabel) → List (List CodeLabel) → Type 0
 FindAllAs found labels = (length found ≡ length labels) × ((t : ℕ) → FindsAs (slice_index_or found t []) (slice_index_or labels t []))
 
 -- a table with one value changed
@@ -101,17 +101,17 @@ registers_from atoms t = map (λ r. last_said (is_of_register t r) atoms) all_re
 -- ---- the program
 
 -- thread t, with its registers and labels from tables
-abbrev pub thread_in : (List ℕ → ℕ) → List (List CellView) → List (List ℕ) → List (List Label) → ℕ → Thread
+abbrev pub thread_in : (List ℕ → ℕ) → List (List CellView) → List (List ℕ) → List (List CodeLabel) → ℕ → Thread
 thread_in numbered rows registers labels t = record { code = code_in numbered (byte_at (slice_index_or labels t [])) rows t; registers = slice_index_or registers t (replicate 6 0) }
 
 abbrev pub listed : List Thread → List ℕ → Listing
 listed threads memory = record { threads = threads; memory = memory }
 
 -- thread t, with its registers after all initial values, and positions as given
-abbrev pub thread_by : (List ℕ → ℕ) → (List Label → List ℕ → ℕ) → BodyView → ℕ → Thread
+abbrev pub thread_by : (List ℕ → ℕ) → (List CodeLabel → List ℕ → ℕ) → BodyView → ℕ → Thread
 thread_by numbered positioned body t = record { code = code_in numbered (positioned (thread_labels body.rows t)) body.rows t; registers = registers_from (entry_atoms numbered body.entries) t }
 
 -- the program of so many locations
-abbrev pub listing_by : (List ℕ → ℕ) → (List Label → List ℕ → ℕ) → ℕ → BodyView → Listing
+abbrev pub listing_by : (List ℕ → ℕ) → (List CodeLabel → List ℕ → ℕ) → ℕ → BodyView → Listing
 listing_by numbered positioned locations body =
     listed (map (thread_by numbered positioned body) (range_with_len 0 body.threads)) (memory_from locations (entry_atoms numbered body.entries))

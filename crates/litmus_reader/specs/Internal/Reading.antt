@@ -1,5 +1,5 @@
 -- What the parts of the reader answer.
-use Rattle.std.specs.Prelude.{◌≡◌, ℕ, ⊤, List, map, length, Option, Some, None, Result, Ok, Err, MatchOption}
+use Rattle.std.specs.Prelude.{◌≡◌, ◌⊎◌, ℕ, ⊤, List, map, length, Option, Some, None, Result, Ok, Err, MatchOption}
 use Rattle.std.specs.Str.{IsUtf8}
 use Rattle.tso_program.specs.declared.listing.Listing.{Listing}
 use Rattle.tso_program.specs.Limits.{IsWithinLimits, IsWithinFencedLimits, first_fault, first_fenced_fault}
@@ -16,6 +16,7 @@ use Rattle.litmus_syntax.specs.Grammar.{IsBody, IsEnding}
 use Rattle.litmus_reader.specs.declared.litmus.Litmus.{Litmus}
 use Rattle.litmus_reader.specs.declared.fault.ReadFault.{ReadFault}
 use Rattle.litmus_reader.specs.Faults.{MatchFault}
+use Rattle.litmus_reader.specs.Fronts.{HasFront, RefusesFront}
 use Rattle.litmus_lines.specs.FirstLine.{IsFirstLine}
 use Rattle.litmus_lines.specs.SkippedLines.{AreSkipped}
 use Rattle.litmus_reader.specs.Places.{names_of}
@@ -90,10 +91,14 @@ pub record IsReadOf (text : List ℕ) (litmus : Litmus Listing) : Type 0 where
   pub lexes_only : (ts : List Tok) → Lexes others ts → tokens ≡ ts
   pub read : AreReadTokens tokens litmus
 
--- with the line of the header row; or the text stands for nothing
+-- a text without a front, or with one where it stands for nothing or memory ran out
+abbrev pub RefusesText : List ℕ → ReadFault → Type 0
+RefusesText text fault = RefusesFront text fault ⊎ (HasFront text × MatchFault fault ⊥ (λ _. ⊥) ⊤ (StandsForNothing text))
+
+-- with the line of the header row
 abbrev pub ReadsText : List ℕ → Result (Litmus Listing × ℕ) ReadFault → Type 0
 ReadsText text (Ok read) = IsReadOf text read.0
-ReadsText text (Err fault) = MatchFault fault (IsUtf8 text → ⊥) (λ _. ⊥) ⊤ (StandsForNothing text)
+ReadsText text (Err fault) = RefusesText text fault
 
 -- ---- the program
 
@@ -102,7 +107,7 @@ abbrev pub MakesProgram : Listing → Result Listing ReadFault → Type 0
 MakesProgram listing (Ok program) = (program ≡ listing) × IsWithinLimits listing.threads listing.memory
 MakesProgram listing (Err fault) = MatchFault fault ⊥ (λ limit. first_fault listing.threads listing.memory ≡ Some limit) ⊤ ⊥
 
--- the same by the limits of a fenced program
+-- the program of a listing within the limits of a fenced program, or the first of these that it breaks
 abbrev pub MakesFencedProgram : Listing → Result Listing ReadFault → Type 0
 MakesFencedProgram listing (Ok program) = (program ≡ listing) × IsWithinFencedLimits listing.threads listing.memory
 MakesFencedProgram listing (Err fault) = MatchFault fault ⊥ (λ limit. first_fenced_fault listing.threads listing.memory ≡ Some limit) ⊤ ⊥

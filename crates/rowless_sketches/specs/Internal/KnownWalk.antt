@@ -1,8 +1,8 @@
 -- A walk over the nodes of a formula, with what is known of the part that was read last, and of the left operands that wait.
 use Rattle.std.specs.Prelude.{◌≡◌, List, [], ◌∷◌, ◌++◌}
 use Rattle.tso_program.specs.declared.atom.Atom.{Atom}
-use Rattle.tso_program.specs.declared.node.Node.{Node}
-use Rattle.tso_program.specs.declared.node.Node.TheVariants as node
+use Rattle.tso_program.specs.declared.node.FormulaNode.{FormulaNode}
+use Rattle.tso_program.specs.declared.node.FormulaNode.TheVariants as node
 use Rattle.tso_program.specs.Tree.{Tree}
 use Rattle.tso_program.specs.Tree as tree
 use Rattle.tso_program.specs.Nodes.{Half, AndOf, OrOf}
@@ -12,7 +12,7 @@ use Rattle.program_sketches.specs.ProgramSketches.{ProgramSketch}
 use Rattle.rowless_sketches.specs.Knowledge.{Knows}
 
 -- the part that was read last, and the left operands that wait, after one node more
-abbrev pub after_node : Node → Tree Atom → List Half → Tree Atom × List Half
+abbrev pub after_node : FormulaNode → Tree Atom → List Half → Tree Atom × List Half
 after_node (node.Atom a) f hs = (tree.Atom a, hs)
 after_node (node.Const b) f hs = (tree.Const b, hs)
 after_node node.Not f hs = (tree.Not f, hs)

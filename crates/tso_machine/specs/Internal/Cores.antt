@@ -62,7 +62,7 @@ after_buffered (Read l to next) core memory = Some (record core { local = loaded
 after_buffered (Write l v next) core memory = Some (record { local = next; buffer = core.buffer ++ record { location = l; value = v } ∷ [] }, memory)
 after_buffered (Swap l v to next) core memory = Some (record core { local = loaded to (slice_index memory l) next }, slice_set memory l v)
 
--- the same where a store writes memory at once
+-- the thread and the memory after an action, where a store writes memory at once
 abbrev pub after_direct : Action → Core → List ℕ → Option (Core × List ℕ)
 after_direct Stop core memory = None
 after_direct (Go next) core memory = Some (record core { local = next }, memory)

@@ -1,4 +1,4 @@
-use Rattle.fence_place.proofs.Vocabulary.{◌≡◌, ◌∙◌, ◌<◌, ◌^◌, ℕ, List, length, sym, ap, subst, total, Label, Certificate, AreShownPlaces, shows_of, Serving, IsServing, Entry, Gap, AreSplitRuns, AreNumbersOf, IsNumbered, IsRecorded, IsProof}
+use Rattle.fence_place.proofs.Vocabulary.{◌≡◌, ◌∙◌, ◌<◌, ◌^◌, ℕ, List, length, sym, ap, subst, total, Label, Certificate, AreShownPlaces, Question, shows_of, Serving, IsServing, Entry, Gap, AreSplitRuns, AreNumbersOf, IsNumbered, IsRecorded, IsProof}
 use Rattle.std.specs.Arc.{arc_value}
 use Rattle.fence_place.proofs.CertificateMade.{is_proof}
 use Rattle.fence_place.proofs.certificates.certify.Goals as goal
@@ -32,7 +32,7 @@ returns-clause-proof c =
     (is_proof t o (with_runs c.in_ok-runs.runs)
     c.recall_facts.ensures.table c.served-served.ensures.outcome (subst IsServing is_served c.recall_facts-2.ensures.serving) low c.requires c.served-served.ensures.answer.0 c.served-served.ensures.answer.1
     (record {
-      same_shown = c.of-shows.ensures ∙ ap shows_of c.shown-shown.ensures;
+      same_shown = c.of-shows.ensures ∙ ap (λ (q : Question). shows_of q.shown) c.question.ensures.value;
       places = subst AreShownPlaces (sym c.of-shows.ensures) c.names_have_places.ensures;
       same_gaps = same_gaps;
       cost = cost;

@@ -1,4 +1,4 @@
-use Rattle.hunt_calls.proofs.Vocabulary.{◌≡◌, ℕ, List, Option, Some, None, IfSome, sym, subst, Question, asked}
+use Rattle.hunt_calls.proofs.Vocabulary.{◌≡◌, ℕ, List, Option, Some, None, IfSome, sym, subst, Question}
 use Rattle.std.specs.Prelude.{MatchOption}
 use Rattle.search_core.specs.Ceilings.{Bound, IsBound, IsCeiling, IsCeilingOf}
 use Rattle.hunt_calls.proofs.ceilings.at_cost_of.Goals as goal
@@ -15,8 +15,6 @@ pub at-requires : goal.at-requires
 at-requires c =
     let s = c.args.tree.now in
     let cost = c.cost-cost.result in
-    let question : Question = asked c.program.result.now c.shown.result.now in
-    let same : question ≡ s.question = λ i. asked (c.program.ensures.value i) (c.shown.ensures.value i) in
-    subst (λ (q : Question). IfSome cost (IsCeiling q c.costs.result.now)) (sym same)
+    subst (λ (q : Question). IfSome cost (IsCeiling q c.costs.result.now)) (sym c.question.ensures.value)
     (subst (λ (list : List ℕ). IfSome cost (IsCeiling s.question list)) (sym c.costs.ensures.value)
     (as_ceiling s.question s.costs c.args.ceiling.now cost c.requires c.cost-cost.ensures.value c.cost-cost.ensures.bound))

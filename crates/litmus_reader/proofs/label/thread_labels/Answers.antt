@@ -1,4 +1,4 @@
-use Rattle.litmus_reader.proofs.Vocabulary.{◌≡◌, ℕ, ◌+◌, List, ◌++◌, map, get_or, sym, ap, ◌∙◌, arith, slice_get, Vec, Cell, cell_view, row_view, Label}
+use Rattle.litmus_reader.proofs.Vocabulary.{◌≡◌, ℕ, ◌+◌, List, ◌++◌, map, get_or, sym, ap, ◌∙◌, arith, slice_get, Vec, Cell, cell_view, row_view, CodeLabel}
 use Rattle.std.proofs.lemmas.Simd.{map-map}
 use Rattle.litmus_reader.proofs.LabelRows.{behind, one_cell, no_cell}
 use Rattle.litmus_reader.proofs.label.thread_labels.Goals as goal
@@ -19,15 +19,15 @@ loop-row-preserved c =
           let cell = cell_view w.in-Some.cell.now in
           let names : w.push_labels.new.labels.items ≡ before ++ map (λ l. record { name = l; position = k }) cell.labels =
           w.in_ok-push_labels.ensures ∙ (λ j. before ++ map (λ name. record { name = name.now; position = k }) (w.as_slice-in-Some.ensures.value j))
-          ∙ ap (λ (ls : List Label). before ++ ls) (sym (map-map (λ l. record { name = l; position = k }) (λ l. l.now) w.in-Some.cell.now.labels.items)) in
-          let labels = ap (λ (v : Vec Label). v.items) w.labels-is ∙ names in
+          ∙ ap (λ (ls : List CodeLabel). before ++ ls) (sym (map-map (λ l. record { name = l; position = k }) (λ l. l.now) w.in-Some.cell.now.labels.items)) in
+          let labels = ap (λ (v : Vec CodeLabel). v.items) w.labels-is ∙ names in
           let position = w.position-is ∙ ap (λ (n : ℕ). k + n) w.size-position.ensures.value in
           record {
             few = omega (arith, w.position-is, w.size-position.ensures.small, c.loop-row.invariant.few);
             labels = (λ j. labels j ++ behind rows t (position j) (i + 1)) ∙ one_cell rows i t k row cell before c.loop-row-test.true (seen ∙ sym w.in-Some.ensures) ∙ c.loop-row.invariant.labels;
           }
       | in_default w ↦
-          let labels = ap (λ (v : Vec Label). v.items) w.labels-is in
+          let labels = ap (λ (v : Vec CodeLabel). v.items) w.labels-is in
           record {
             few = omega (arith, w.position-is, c.loop-row.invariant.few);
             labels = (λ j. labels j ++ behind rows t (w.position-is j) (i + 1)) ∙ no_cell rows i t k row before c.loop-row-test.true (seen ∙ sym w.in_default.ensures) ∙ c.loop-row.invariant.labels;

@@ -1,5 +1,5 @@
-use Rattle.litmus_reader.proofs.Vocabulary.{IsWithinLimits, first_fault, BreaksFirst, handed_on}
-use Rattle.litmus_reader.proofs.{Numbered.program_limits, WholeTexts.nothing_only, WholeTexts.nothing_refused, Meant.found, Meant.found_only, Meant.broken, Meant.broken_only}
+use Rattle.litmus_reader.proofs.Vocabulary.{◌∙◌, ap, Err, IsWithinLimits, first_fault, BreaksFirst, handed_on}
+use Rattle.litmus_reader.proofs.{Numbered.program_limits, Fronts.nothing_only, Fronts.nothing_refused, Fronts.nothing_front, Fronts.no_front, Fronts.front_read, Meant.found, Meant.found_only, Meant.broken, Meant.broken_only}
 use Rattle.litmus_reader.proofs.reader.read_litmus.Goals as goal
 
 pub returns-in_err-read-clause-refused : goal.returns-in_err-read-clause-refused
@@ -23,3 +23,13 @@ returns-clause-found c = found c.args.bytes.now c.in_ok-read.read c.in_ok-read.e
 
 pub returns-clause-only : goal.returns-clause-only
 returns-clause-only c litmus is = found_only c.args.bytes.now c.in_ok-read.read c.in_ok-read.ensures IsWithinLimits first_fault program_limits c.in_ok-program_of.field-0 litmus c.in_ok-program_of.ensures is.0
+
+pub returns-in_err-read-clause-front : goal.returns-in_err-read-clause-front
+returns-in_err-read-clause-front c fault refused =
+    handed_on c.from_residual.result c.from_residual.ensures.1 ∙ ap (λ f. Err f) (nothing_front c.args.bytes.now c.in_err-read.field-0.0 fault c.in_err-read.ensures refused)
+
+pub returns-in_err-program_of-clause-front : goal.returns-in_err-program_of-clause-front
+returns-in_err-program_of-clause-front c fault refused = absurd (no_front c.args.bytes.now fault refused (front_read c.args.bytes.now c.in_ok-read.read c.in_ok-read.ensures))
+
+pub returns-clause-front : goal.returns-clause-front
+returns-clause-front c fault refused = absurd (no_front c.args.bytes.now fault refused (front_read c.args.bytes.now c.in_ok-read.read c.in_ok-read.ensures))

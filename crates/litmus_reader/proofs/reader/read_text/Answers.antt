@@ -1,14 +1,14 @@
 use Rattle.litmus_reader.proofs.Vocabulary.{◌∙◌, handed_on}
-use Rattle.litmus_reader.proofs.WholeTexts.{Split, text_read, tokens_refused, first_line_refused, skipped_lines_refused}
+use Rattle.litmus_reader.proofs.{WholeTexts.Split, WholeTexts.text_read, WholeTexts.tokens_refused, Fronts.first_line_refused, Fronts.skipped_lines_refused}
 use Rattle.litmus_reader.proofs.reader.read_text.Goals as goal
 
 pub returns-in_err-name : goal.returns-in_err-name
-returns-in_err-name c = rw (handed_on c.from_residual-in_err-name.result c.from_residual-in_err-name.ensures.1) (first_line_refused c.args.bytes.now c.in_err-name.field-0.0 c.in_ok-check_utf8.ensures.ok c.in_err-name.ensures.only)
+returns-in_err-name c = rw (handed_on c.from_residual-in_err-name.result c.from_residual-in_err-name.ensures.1) (first_line_refused c.args.bytes.now c.in_err-name.field-0.0 c.in_ok-check_utf8.ensures.ok c.in_err-name.ensures.only c.in_err-name.ensures.refused)
 
 pub returns-in_err-others : goal.returns-in_err-others
 returns-in_err-others c =
     rw (handed_on c.from_residual-in_err-others.result c.from_residual-in_err-others.ensures.1)
-    (skipped_lines_refused c.args.bytes.now c.in_ok-name.name.now c.in_ok-name.lines.now c.in_err-others.field-0.0 c.in_ok-check_utf8.ensures.ok c.in_ok-name.ensures.only c.in_err-others.ensures.only)
+    (skipped_lines_refused c.args.bytes.now c.in_ok-name.name.now c.in_ok-name.lines.now c.in_err-others.field-0.0 c.in_ok-check_utf8.ensures.ok c.in_ok-name.ensures.found c.in_err-others.ensures.only c.in_err-others.ensures.refused)
 
 pub returns-in_err-litmus : goal.returns-in_err-litmus
 returns-in_err-litmus c =

@@ -8,4 +8,7 @@ use Rattle.placed_text.proofs.reasons.steps_of.Goals as goal
 pub returns-in-Ok : goal.returns-in-Ok
 returns-in-Ok c =
     let p = c.program.result.now in
-    record { labels = labels_of_steps p (machine_of_model p c.without-others.result models.Buffered) (machine.start p) _ _ c.in-Ok.ensures.steps ∙ c.labels.ensures }
+    record {
+      steps = rw (c.program.ensures.value, c.labels.ensures, c.without-others.ensures) at c.in-Ok.ensures.steps;
+      labels = labels_of_steps p (machine_of_model p c.without-others.result models.Buffered) (machine.start p) _ _ c.in-Ok.ensures.steps ∙ c.labels.ensures;
+    }

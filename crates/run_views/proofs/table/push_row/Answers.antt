@@ -1,6 +1,6 @@
 use Rattle.std.proofs.Common.{◌∙◌, ◌++◌, ℕ, List, ap, append_assoc}
 use Rattle.run_views.specs.Tables.{padded}
-use Rattle.run_views.proofs.Rows.{flat_range_more}
+use Rattle.litmus_text.proofs.Joined.{flat_range_more}
 use Rattle.run_views.proofs.table.push_row.Goals as goal
 
 pub loop-column-preserved : goal.loop-column-preserved

@@ -4,6 +4,9 @@ use Rattle.witness_text.proofs.Vocabulary.{machine_of_model}
 use Rattle.documents.proofs.Steps.{labels_of_steps}
 use Rattle.witness_text.proofs.witness.replay_of.Goals as goal
 
+pub returns-in-Ok-steps-clause-steps : goal.returns-in-Ok-steps-clause-steps
+returns-in-Ok-steps-clause-steps c = rw c.empty-none.ensures at c.in-Ok-steps.ensures.steps
+
 pub returns-in-Ok-steps-clause-labels : goal.returns-in-Ok-steps-clause-labels
 returns-in-Ok-steps-clause-labels c =
     let p = c.args.program.now in

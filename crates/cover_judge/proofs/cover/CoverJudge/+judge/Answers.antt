@@ -1,5 +1,4 @@
-use Rattle.cover_judge.proofs.Vocabulary.{take, length, sym, ap, ◌∙◌, subst, arith, MayChooseEach, length-take-le, first_tree, next_is_shorter, value_next, source_next, order_next}
-use Rattle.tree_laws.specs.declared.choice.Choice.TheVariants as choice
+use Rattle.cover_judge.proofs.Vocabulary.{take, length, ◌<◌, ◌∙◌, arith, length-take-le, choices_in, first_tree, next_is_shorter, value_next, source_next, order_next}
 use Rattle.cover_judge.proofs.{ChoicesJudged.choices_may, SketchesAfter.valid_after, SketchesAfter.wrong_after}
 use Rattle.cover_judge.proofs.CoverNodes.{valid_by_children, wrong_by_child, wrong_by_root, order_valid, order_wrong}
 use Rattle.cover_judge.proofs.CoverSteps.{judged_none, judged_more, judged_wrong, judged_all, past_all, next_may, next_some, not_longer}
@@ -14,46 +13,45 @@ judge_children-returns-in_err-choices-clause-wrong t c =
 
 pub judge_children-judge_each-requires : goal.judge_children-judge_each-requires
 judge_children-judge_each-requires t c =
-    let s = c.args.sketch.now in
-    let same = c.deref.ensures.value in
     let many = c.in_ok-choices.ensures.many in
-    let long = ap length same in
-    (omega arith, (subst (MayChooseEach s) (sym same) (choices_may s c.args.next c.in_ok-choices.choices.items c.in_ok-choices.ensures.choices), omega (arith, c.requires)))
+    (omega arith, (choices_may c.args.sketch.now c.args.next (choices_in c.in_ok-choices.choices) c.in_ok-choices.ensures.choices, omega (arith, c.requires)))
 
 pub judge_children-returns-clause-after : goal.judge_children-returns-clause-after
-judge_children-returns-clause-after t c = rw (c.deref.ensures.value, ← c.in_ok-choices.ensures.many) at c.judge_each.ensures.after
+judge_children-returns-clause-after t c = rw (← c.in_ok-choices.ensures.many) at c.judge_each.ensures.after
 
 pub judge_children-returns-clause-valid : goal.judge_children-returns-clause-valid
 judge_children-returns-clause-valid t c =
-    valid_by_children c.args.self.now.shown.now c.args.self.now.outcomes.now c.args.sketch.now c.args.next c.in_ok-choices.choices.items c.in_ok-choices.ensures.choices
-    c.judge_each.result (take c.args.count c.args.walk.now) (rw (c.deref.ensures.value, ← c.in_ok-choices.ensures.many) at c.judge_each.ensures.valid)
+    valid_by_children c.args.self.now.shown.now c.args.self.now.outcomes.now c.args.sketch.now c.args.next (choices_in c.in_ok-choices.choices) c.in_ok-choices.ensures.choices
+    c.judge_each.result (take c.args.count c.args.walk.now) (rw (← c.in_ok-choices.ensures.many) at c.judge_each.ensures.valid)
 
 pub judge_children-returns-clause-wrong : goal.judge_children-returns-clause-wrong
 judge_children-returns-clause-wrong t c =
     let many = length-take-le c.args.count c.args.walk.now c.requires ∙ c.in_ok-choices.ensures.many in
-    wrong_by_child c.args.self.now.shown.now c.args.self.now.outcomes.now c.args.sketch.now c.args.next c.in_ok-choices.choices.items c.in_ok-choices.ensures.choices
-    c.judge_each.result (take c.args.count c.args.walk.now) many (rw (c.deref.ensures.value, ← c.in_ok-choices.ensures.many) at c.judge_each.ensures.wrong)
+    wrong_by_child c.args.self.now.shown.now c.args.self.now.outcomes.now c.args.sketch.now c.args.next (choices_in c.in_ok-choices.choices) c.in_ok-choices.ensures.choices
+    c.judge_each.result (take c.args.count c.args.walk.now) many (rw (← c.in_ok-choices.ensures.many) at c.judge_each.ensures.wrong)
 
 pub judge_each-loop-number-init : goal.judge_each-loop-number-init
-judge_each-loop-number-init t c = judged_none c.args.self.now.shown.now c.args.self.now.outcomes.now c.args.sketch.now c.args.choices.now c.args.walk.now c.requires.as_many
+judge_each-loop-number-init t c = judged_none c.args.self.now.shown.now c.args.self.now.outcomes.now c.args.sketch.now (choices_in c.args.choices.now) c.args.walk.now c.requires.as_many
 
 pub judge_each-judge_after-requires : goal.judge_each-judge_after-requires
 judge_each-judge_after-requires t c =
     let is = c.loop-number.invariant in
-    let here = c.loop-number-test.true in
-    (omega (arith, not_longer is here), (next_may is here (choice.Value 0 0) c.requires.may, next_some is here))
+    let here : c.loop-number.number < length (choices_in c.args.choices.now) = omega (arith, c.loop-number-test.true, c.len-number-end.ensures) in
+    (omega (arith, not_longer is here), (next_may is here c.at.result c.at.ensures c.requires.may, next_some is here))
 
 pub judge_each-loop-number-preserved : goal.judge_each-loop-number-preserved
-judge_each-loop-number-preserved t c = judged_more c.loop-number.invariant c.loop-number-test.true (choice.Value 0 0) c.judge_after.ensures.kept c.in-Ok.ensures.after c.in-Ok.ensures.valid
+judge_each-loop-number-preserved t c =
+    judged_more c.loop-number.invariant (omega (arith, c.loop-number-test.true, c.len-number-end.ensures)) c.at.result c.at.ensures c.judge_after.ensures.kept c.in-Ok.ensures.after c.in-Ok.ensures.valid
 
 pub judge_each-returns-in-Err-clause-wrong : goal.judge_each-returns-in-Err-clause-wrong
-judge_each-returns-in-Err-clause-wrong t c = judged_wrong c.loop-number.invariant c.loop-number-test.true (choice.Value 0 0) c.in-Err.fault c.from_parent.result c.from_parent.ensures c.in-Err.ensures.wrong
+judge_each-returns-in-Err-clause-wrong t c =
+    judged_wrong c.loop-number.invariant (omega (arith, c.loop-number-test.true, c.len-number-end.ensures)) c.at.result c.at.ensures c.in-Err.fault c.from_parent.result c.from_parent.ensures c.in-Err.ensures.wrong
 
 pub judge_each-returns-clause-after : goal.judge_each-returns-clause-after
-judge_each-returns-clause-after t c = past_all c.loop-number.invariant (omega (arith, c.loop-number-test.false))
+judge_each-returns-clause-after t c = past_all c.loop-number.invariant (omega (arith, c.loop-number-test.false, c.len-number-end.ensures))
 
 pub judge_each-returns-clause-valid : goal.judge_each-returns-clause-valid
-judge_each-returns-clause-valid t c = judged_all c.loop-number.invariant c.loop-number-test.false
+judge_each-returns-clause-valid t c = judged_all c.loop-number.invariant (omega (arith, c.loop-number-test.false, c.len-number-end.ensures))
 
 -- ---- a choice that is made and taken back
 

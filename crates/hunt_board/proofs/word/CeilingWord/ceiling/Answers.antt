@@ -1,4 +1,4 @@
-use Rattle.hunt_board.proofs.Vocabulary.{◌≤◌, ℕ, List, Option, Some, None, IfSome, subst, Question, asked, least_ceiling, goal_of, JumpForward, IsCeiling, problem}
+use Rattle.hunt_board.proofs.Vocabulary.{◌≤◌, ℕ, List, Option, Some, None, IfSome, subst, Question, least_ceiling, goal_of, JumpForward, IsCeiling, problem}
 use Rattle.hunt_board.proofs.word.CeilingWord.ceiling.Goals as goal
 
 -- what isn't below the answer's cost is a ceiling
@@ -8,6 +8,6 @@ as_ceiling q costs (Some cost) forward above = (least_ceiling q costs cost forwa
 
 pub at-requires : goal.at-requires
 at-requires c =
-    let q = asked c.args.program.now c.args.shown.now in
+    let q = c.args.question.now in
     as_ceiling q c.args.costs.now c.load.result c.recall_facts.ensures.within.shared.forward_jumps
     (subst (λ p. IfSome c.load.result (λ cost. goal_of p ≤ cost)) c.requires.problem c.load.ensures.goal)

@@ -1,4 +1,4 @@
-use Rattle.oracle.proofs.Vocabulary.{◌∙◌, ◌↔◌, IsTrue, List, sym, ap, subst, asked, Question, Outcome, IsSequentialOutcome, Table, Vec}
+use Rattle.oracle.proofs.Vocabulary.{◌∙◌, ◌↔◌, IsTrue, List, sym, ap, subst, Question, Outcome, IsSequentialOutcome, Table, Vec}
 use Rattle.tree_laws.proofs.AscendingSearched.{searched}
 use Rattle.oracle.specs.Facts.{IsListOf}
 use Rattle.oracle.proofs.ForeignRuns.{found_by}
@@ -9,7 +9,7 @@ returns c =
     let o = c.args.outcome.now in
     let s = c.self.inside in
     let os = c.deref-2.result.now in
-    let list = subst (IsListOf (asked s.program s.shown)) (sym (c.deref-2.ensures.value ∙ ap (λ (v : Vec Outcome). v.items) c.deref.ensures)) c.self.invariant.listed in
+    let list = subst (IsListOf s.question) (sym (c.deref-2.ensures.value ∙ ap (λ (v : Vec Outcome). v.items) c.deref.ensures)) c.self.invariant.listed in
     let search = searched os o c.binary_search.result list.ascend c.binary_search.ensures.bound c.binary_search.ensures.position in
     let found = found_by os o c.binary_search.result c.is_ok.result search.there search.belongs c.is_ok.ensures.value in
     let exact = list.exact o in

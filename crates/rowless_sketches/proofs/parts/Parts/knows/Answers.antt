@@ -1,7 +1,7 @@
 use Rattle.rowless_sketches.proofs.Vocabulary.{◌≡◌, ◌∙◌, [], false, refl, sym, ap, subst, Atom, Tree, Knows, Knowledge, formula_tree, tree_again}
 use Rattle.tso_program.specs.declared.atom.Atom.TheVariants as atom
 use Rattle.tso_program.specs.declared.instruction.Reg.{TheVariants.Eax}
-use Rattle.tso_program.specs.declared.node.Node.TheVariants as node
+use Rattle.tso_program.specs.declared.node.FormulaNode.TheVariants as node
 use Rattle.tso_program.specs.Tree as tree
 use Rattle.rowless_sketches.proofs.Known.{knows_const, walk_on, walked}
 use Rattle.rowless_sketches.proofs.parts.Parts.knows.Goals as goal

@@ -1,7 +1,15 @@
 use Rattle.rowless_sketches.proofs.Vocabulary.{◌≡◌, ◌∙◌, ◌+◌, true, false, List, None, slice_get, length, get_or, ap, sym, subst, arith, Vec, slice_get-get_or, Access, Event, AreListedTo}
-use Rattle.rowless_sketches.proofs.SourceLists.{one_more, passed_over, next_thread, past_gives, unwritten_here}
+use Rattle.rowless_sketches.proofs.SourceLists.{one_more, other_gives, passed_over, next_thread, past_gives, unwritten_here}
 use Rattle.rowless_sketches.proofs.parts.Parts.push_sources_in.Goals as goal
 use Rattle.rowless_sketches.proofs.parts.Parts.push_sources_in.Goals.{then-writes_so+in_ok-push_if_source, else-writes_so}
+
+pub push_if_source-requires : goal.push_if_source-requires
+push_if_source-requires c =
+    let accesses = c.accesses_of-access-items.result.now in
+    let none : Access = record { section = 0; location = 0; read = None; written = None } in
+    let here = ap (λ (xs : List Access). slice_get xs c.loop-i.i) (sym c.accesses_of-access-items.ensures.value) ∙ slice_get-get_or accesses c.loop-i.i none c.loop-i-test.true in
+    other_gives c.args.self.now c.args.read c.args.location c.args.value c.args.t c.loop-i.i (get_or accesses c.loop-i.i none) c.is_other.result here c.requires
+    (c.writes_so.ensures.0 c.if-writes_so.true) c.is_other.ensures
 
 pub loop-i-preserved : goal.loop-i-preserved
 loop-i-preserved c h =

@@ -1,4 +1,4 @@
-use Rattle.search_core.proofs.Vocabulary.{◌≡◌, ◌∙◌, ap, sym, subst, total, Question, asked, IsCeiling}
+use Rattle.search_core.proofs.Vocabulary.{◌≡◌, ◌∙◌, ap, sym, subst, total, Question, IsCeiling}
 use Rattle.search_core.proofs.Bounds.{costs_so}
 use Rattle.search_core.proofs.ceiling.Ceiling.of.Goals as goal
 
@@ -7,6 +7,4 @@ at-requires c =
     let s = c.args.served.now in
     let costs = c.args.costs.now in
     let cost : c.total-cost.result ≡ total costs s.gaps = c.total-cost.ensures.value ∙ ap (total costs) c.set.ensures in
-    let question : Question = asked c.program.result.now c.shown.result.now in
-    let same : question ≡ s.question = λ i. asked (c.program.ensures.value i) (c.shown.ensures i) in
-    subst (IsCeiling question costs) (sym cost) (subst (λ (q : Question). IsCeiling q costs (total costs s.gaps)) (sym same) (costs_so s costs c.program.ensures.serving))
+    subst (IsCeiling c.question-question.result.now costs) (sym cost) (subst (λ (q : Question). IsCeiling q costs (total costs s.gaps)) (sym c.question-question.ensures.value) (costs_so s costs c.question-question.ensures.serving))

@@ -1,4 +1,4 @@
-use Rattle.search_core.proofs.Vocabulary.{◌≡◌, ◌∙◌, ℕ, List, [], ◌∷◌, ◌++◌, length, None, sym, ap, subst, refl, all_sets, Region, Listing, Question, asked, IsWithinLimits, gap_count, HaveCosts, Entry, Open, entry, starts, IsStart, IsSeatCount}
+use Rattle.search_core.proofs.Vocabulary.{◌≡◌, ◌∙◌, ℕ, List, [], ◌∷◌, ◌++◌, length, None, sym, ap, subst, refl, all_sets, Region, Listing, Question, IsWithinLimits, gap_count, HaveCosts, Entry, Open, entry, starts, IsStart, IsSeatCount}
 use Rattle.gap_sets.specs.CostLists.{IsCostList}
 use Rattle.search_core.proofs.tree.SearchTree.new.Goals as goal
 
@@ -12,9 +12,9 @@ start p q costs list seats entries root e f within have seats_are same is =
     (subst (λ (l : List ℕ). IsStart (record { question = p; costs = l; seats = seats; entries = entries; best = None })) (sym f)
     (record { within = within; have_costs = have; seats = seats_are; only_root = is ∙ ap (λ (r : Region). entry r 0 Open ∷ []) same; no_best = refl }))
 
-begun : (c : goal.In_ok-copy-3) → IsStart (record { question = asked c.in_ok-copy.field-0 c.in_ok-copy-2.field-0; costs = c.in_ok-copy-3.field-0; seats = c.args.seats; entries = c.push.new.self.items; best = None })
-begun c = start c.args.table.now.question (asked c.in_ok-copy.field-0 c.in_ok-copy-2.field-0) c.args.costs.now c.in_ok-copy-3.field-0 c.args.seats c.push.new.self.items c.all.result
-    (λ i. asked ((c.in_ok-copy.ensures ∙ c.program-program.ensures.value) i) ((c.in_ok-copy-2.ensures ∙ c.shown.ensures) i)) c.in_ok-copy-3.ensures (subst (λ (p : Listing). IsWithinLimits p.threads p.memory) c.program-program.ensures.value c.recall_facts.ensures.within)
+begun : (c : goal.In_ok-copy-2) → IsStart (record { question = c.in_ok-copy.field-0; costs = c.in_ok-copy-2.field-0; seats = c.args.seats; entries = c.push.new.self.items; best = None })
+begun c = start c.args.table.now.question c.in_ok-copy.field-0 c.args.costs.now c.in_ok-copy-2.field-0 c.args.seats c.push.new.self.items c.all.result
+    (c.in_ok-copy.ensures ∙ c.question-question.ensures.value) c.in_ok-copy-2.ensures (subst (λ (q : Question). IsWithinLimits q.program.threads q.program.memory) c.question-question.ensures.value c.recall_facts.ensures.within)
     (have c.args.table.now.question.program c.args.costs.now c.requires.one_each c.recall_facts-2.ensures.limits) c.requires.seats c.all.ensures
     (c.in_ok-push.ensures.items ∙ ap (λ l. l ++ entry c.all.result 0 Open ∷ []) c.new-entries.ensures.items)
 

@@ -1,5 +1,0 @@
-use Rattle.canonical_text.proofs.CanonicalIsRead.{canonical_is_read}
-use Rattle.canonical_text.proofs.laws.canonical_text_is_read.Goals as goal
-
-pub returns : goal.returns
-returns c = canonical_is_read

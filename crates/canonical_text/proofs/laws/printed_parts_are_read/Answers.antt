@@ -1,5 +1,0 @@
-use Rattle.canonical_text.proofs.PrintedIsRead.{printed_is_read}
-use Rattle.canonical_text.proofs.laws.printed_parts_are_read.Goals as goal
-
-pub returns : goal.returns
-returns c = printed_is_read

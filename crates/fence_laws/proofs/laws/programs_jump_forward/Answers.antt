@@ -1,4 +1,0 @@
-use Rattle.fence_laws.proofs.laws.programs_jump_forward.Goals as goal
-
-pub returns : goal.returns
-returns c = λ p within. within.shared.forward_jumps

@@ -1,5 +1,0 @@
-use Rattle.fence_laws.proofs.OneAnswer.{one_answer}
-use Rattle.fence_laws.proofs.laws.the_answer_is_the_only_one.Goals as goal
-
-pub returns : goal.returns
-returns c = one_answer

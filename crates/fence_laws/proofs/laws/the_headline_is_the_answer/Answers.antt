@@ -1,5 +1,0 @@
-use Rattle.fence_laws.proofs.HeadlineIsTheAnswer.{headline_is_the_answer}
-use Rattle.fence_laws.proofs.laws.the_headline_is_the_answer.Goals as goal
-
-pub returns : goal.returns
-returns c = headline_is_the_answer

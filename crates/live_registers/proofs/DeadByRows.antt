@@ -1,0 +1,70 @@
+-- The tables of live registers tell the dead loads.
+use Rattle.std.proofs.Common.{◌≡◌, ◌↔◌, ◌⊎◌, not, ℕ, zero, suc, ◌+◌, ◌<◌, Bool, true, false, List, [], ◌∷◌, ◌++◌, length, Option, Some, None, refl, sym, ap, ◌∙◌, subst, inl, inr, arith, slice_get, slice_index_or}
+use Rattle.std.proofs.lemmas.Bool.{cases_eq, cases_lt}
+use Rattle.std.proofs.lemmas.Option.{slice_get_within, slice_get_past}
+use Rattle.std.specs.Option.{option_map_or}
+use Rattle.tso_program.specs.declared.instruction.TheConstants.{REGISTERS}
+use Rattle.tso_program.specs.declared.instruction.Reg.{Reg, TheVariants.Eax, TheVariants.Ebx, TheVariants.Ecx, TheVariants.Edx, TheVariants.Esi, TheVariants.Edi}
+use Rattle.tso_program.specs.declared.instruction.Instr.{Instr}
+use Rattle.tso_program.specs.declared.instruction.Instr.TheVariants.{Load}
+use Rattle.tso_program.specs.declared.listing.Listing.{Listing}
+use Rattle.tso_program.specs.declared.listing.Thread.{Thread}
+use Rattle.tso_program.specs.declared.shown.Shown.{Shown}
+use Rattle.tso_program.specs.Instructions.{number}
+use Rattle.tso_program.specs.Listings.{code_of, instr_at}
+use Rattle.dataflow_laws.specs.DeadLoads.{IsDeadLoad, AreAllDead}
+use Rattle.live_registers.specs.LiveRows.{in_row, AreLiveTables}
+use Rattle.live_registers.specs.DeadPlaces.{is_dead, dead_by}
+use Rattle.live_registers.proofs.RowsStep.{not_of}
+
+number_small : (r : Reg) → number r < REGISTERS
+number_small Eax = omega arith
+number_small Ebx = omega arith
+number_small Ecx = omega arith
+number_small Edx = omega arith
+number_small Esi = omega arith
+number_small Edi = omega arith
+
+-- a thread with an instruction is one of the program's
+thread_there : (threads : List Thread) (t k : ℕ) (x : Instr) → instr_at threads t k ≡ Some x → t < length threads
+thread_there threads t k x at = elim (cases_lt t (length threads)) [
+  | inl h ↦ h
+  | inr h ↦ absurd (
+      let none : slice_get threads t ≡ None = slice_get_past threads t (omega arith) in
+      let empty : slice_get [] k ≡ Some x = ap (λ (o : Option Thread). slice_get (option_map_or (λ thread. thread.code) o []) k) (sym none) ∙ at in
+      cc)
+]
+
+not_both : (b : Bool) → not b ≡ true → b ≡ true → ⊥
+not_both true n e = cc
+not_both false n e = cc
+
+module _ (p : Listing) (shown : Shown) (tables : List (List (List Bool))) (are : AreLiveTables p shown tables) (t k : ℕ) where
+  abbrev after : List Bool
+  after = slice_index_or (slice_index_or tables t []) (k + 1) []
+
+  dead : (o : Option Instr) → instr_at p.threads t k ≡ o → is_dead o after ≡ true → IsDeadLoad p shown t k
+  dead (Some (Load r l)) at e =
+      let exact = (are.each t (thread_there p.threads t k (Load r l) at)).exact in
+      let within : k < length (code_of p.threads t) = slice_get_within (code_of p.threads t) k (Load r l) at in
+      (r, l, at, λ live. not_both (in_row after (number r)) e ((exact (k + 1) (number r) (omega arith) (omega arith) (number_small r)).1 live))
+  dead o at e = absurd cc
+
+  told : IsDeadLoad p shown t k → is_dead (instr_at p.threads t k) after ≡ true
+  told (r, l, at, none) =
+      let exact = (are.each t (thread_there p.threads t k (Load r l) at)).exact in
+      let within : k < length (code_of p.threads t) = slice_get_within (code_of p.threads t) k (Load r l) at in
+      ap (λ o. is_dead o after) at ∙ not_of (in_row after (number r)) (λ b. none ((exact (k + 1) (number r) (omega arith) (omega arith) (number_small r)).0 b))
+
+  pub dead_is : (dead_by p tables t k ≡ true) ↔ IsDeadLoad p shown t k
+  dead_is = (λ e. dead (instr_at p.threads t k) refl e, told)
+
+pub all_dead : (p : Listing) (shown : Shown) (tables : List (List (List Bool))) → AreLiveTables p shown tables → AreAllDead p shown (dead_by p tables)
+all_dead p shown tables are t k = dead_is p shown tables are t k
+
+-- one table more
+pub one_more : {A : Type 0} (P : ℕ → A → Type 0) (xs : List A) (x d : A) → ((u : ℕ) → u < length xs → P u (slice_index_or xs u d)) → P (length xs) x → (u : ℕ) → u < length xs + 1 → P u (slice_index_or (xs ++ x ∷ []) u d)
+one_more P [] x d old new zero h = new
+one_more P [] x d old new (suc u) h = absurd (omega arith)
+one_more P (y ∷ ys) x d old new zero h = old zero (omega arith)
+one_more P (y ∷ ys) x d old new (suc u) h = one_more (λ n. P (suc n)) ys x d (λ n less. old (suc n) (omega arith)) new u (omega arith)

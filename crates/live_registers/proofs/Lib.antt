@@ -1,0 +1,4 @@
+pub mod RowsStep
+pub mod ToldRegisters
+pub mod DeadByRows
+pub mod DroppedThreads

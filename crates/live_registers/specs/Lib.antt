@@ -1,0 +1,2 @@
+pub mod LiveRows
+pub mod DeadPlaces

@@ -1,0 +1,171 @@
+//! Which registers are live before each instruction of a thread.
+ghost use Rattle.std.specs.Prelude.{◌≡◌, ◌<◌, ◌≤◌, ◌+◌, ℕ, IfOk, Some, [], length, slice_index_or};
+ghost use Rattle.tso_program.specs.Instructions.{target_of};
+ghost use Rattle.tso_program.specs.Listings.{code_of};
+ghost use Rattle.tso_program.specs.declared.instruction.TheConstants.{REGISTERS};
+ghost use Rattle.tso_program.specs.declared.limits.TheConstants.{MAX_THREADS};
+ghost use Rattle.live_registers.specs.LiveRows.{is_used, is_set, falls, in_row, live_bit, told_by, AreTold, AreLive, AreLiveTables};
+
+use std::alloc::{AllocError, Global};
+use tso_program::{Instr, Items, Names, Program, REGISTERS, Shown};
+
+/// Whether an instruction takes the value of the register of this number.
+fn is_used(instr: Instr, i: usize) -> bool
+    ensures { result ≡ is_used instr i }
+{
+    match instr {
+        Instr::Copy(_, r) => r.index() == i,
+        Instr::Store(_, r) => r.index() == i,
+        Instr::Xchg(_, r) => r.index() == i,
+        Instr::CmpImm(r, _) => r.index() == i,
+        Instr::CmpReg(r, from) => r.index() == i || from.index() == i,
+        _ => false,
+    }
+}
+
+/// Whether an instruction puts a value into it.
+fn is_set(instr: Instr, i: usize) -> bool
+    ensures { result ≡ is_set instr i }
+{
+    match instr {
+        Instr::LoadImm(r, _) => r.index() == i,
+        Instr::Copy(r, _) => r.index() == i,
+        Instr::Load(r, _) => r.index() == i,
+        Instr::Xchg(_, r) => r.index() == i,
+        _ => false,
+    }
+}
+
+/// Whether the next instruction may follow.
+fn falls(instr: Instr) -> bool
+    ensures { result ≡ falls instr }
+{
+    !matches!(instr, Instr::Jmp(_))
+}
+
+/// Whether the register is live before an instruction, from whether it is at the next one and where it jumps to.
+fn live_bit(instr: Instr, i: usize, next: bool, target: bool) -> bool
+    ensures { result ≡ live_bit instr i next target }
+{
+    let after = (falls(instr) && next) || (instr.target().is_some() && target);
+    is_used(instr, i) || (!is_set(instr, i) && after)
+}
+
+/// The same of all six.
+fn row_before(instr: Instr, next: [bool; REGISTERS], target: [bool; REGISTERS]) -> [bool; REGISTERS]
+    ensures { (i : ℕ) → i < REGISTERS → in_row result i ≡ live_bit instr i (in_row next i) (in_row target i) }
+{
+    let mut row = [false; REGISTERS];
+    for i in 0..6 {
+        row[i] = live_bit(instr, i, next[i], target[i]);
+    }
+    row
+}
+
+/// The row of the place that an instruction jumps to; of one that doesn't jump, this one.
+fn target_row(
+    instr: Instr,
+    rows: &[[bool; REGISTERS]],
+    next: [bool; REGISTERS],
+) -> [bool; REGISTERS]
+    requires { (j : ℕ) → target_of instr ≡ Some j → j < length rows.now }
+    ensures { (j : ℕ) → target_of instr ≡ Some j → result ≡ slice_index_or rows.now j [] }
+{
+    match instr.target() {
+        Some(j) => rows[j as usize],
+        None => next,
+    }
+}
+
+/// The instructions of a thread.
+fn code_in(program: &Program, t: usize) -> &[Instr]
+    requires { t < length program.now.threads }
+    ensures { result.now ≡ code_of program.now.threads t }
+{
+    program.threads()[t].code.as_slice()
+}
+
+/// So many rows, each with the registers that are told.
+fn told_rows(
+    alloc: Global,
+    told: [bool; REGISTERS],
+    count: usize,
+) -> Result<Vec<[bool; REGISTERS]>, AllocError>
+    ensures long { IfOk result (λ rows. length rows.items ≡ count) }
+    ensures each { IfOk result (λ rows. (j : ℕ) → j < count → slice_index_or rows.items j [] ≡ told) }
+{
+    let mut rows = Vec::new(alloc);
+    for _i in 0..count {
+        rows.push(told)?;
+    }
+    Ok(rows)
+}
+
+/// What is shown, with the registers that a formula names in the place of its truth.
+fn told_by(shown: &Shown) -> Shown
+    ensures { result ≡ told_by shown.now }
+{
+    match shown {
+        Shown::All => Shown::All,
+        Shown::Only(names) => Shown::Only(*names),
+        Shown::Truth(formula) => Shown::Only(formula.with_named(Names::none())),
+    }
+}
+
+/// The registers of a thread that what is shown may tell.
+pub fn told_row(shown: &Shown, t: usize) -> [bool; REGISTERS]
+    requires { t < MAX_THREADS }
+    ensures { AreTold shown.now t result }
+{
+    let told = told_by(shown);
+    let mut row = [false; REGISTERS];
+    for i in 0..6 {
+        row[i] = told.shows_register(t, i);
+    }
+    row
+}
+
+/// What is live at each place of a thread, where these registers are told at its end.
+pub fn live_rows(
+    alloc: Global,
+    program: &Program,
+    shown: &Shown,
+    t: usize,
+    told: [bool; REGISTERS],
+) -> Result<Vec<[bool; REGISTERS]>, AllocError>
+    requires there { t < length program.now.threads }
+    requires told { AreTold shown.now t told }
+    ensures long { IfOk result (λ rows. length rows.items ≡ length (code_of program.now.threads t) + 1) }
+    ensures exact { IfOk result (λ rows. AreLive program.now shown.now t rows.items) }
+{
+    let _ = shown;
+    program.recall_facts();
+    let code = code_in(program, t);
+    let mut rows = told_rows(alloc, told, code.len() + 1)?;
+    for done in 0..code.len() {
+        let k = code.len() - 1 - done;
+        let instr = code[k];
+        let target = target_row(instr, rows.as_slice(), rows[k + 1]);
+        let row = row_before(instr, rows[k + 1], target);
+        rows[k] = row;
+    }
+    Ok(rows)
+}
+
+/// A table of rows for each thread, with what is live at each of its places.
+pub fn live_tables(
+    alloc: Global,
+    program: &Program,
+    shown: &Shown,
+) -> Result<Vec<Items<[bool; REGISTERS]>>, AllocError>
+    ensures { IfOk result (λ tables. AreLiveTables program.now shown.now tables.items) }
+{
+    program.recall_facts();
+    let mut tables = Vec::new(alloc);
+    for t in 0..program.threads().len() {
+        let told = told_row(shown, t);
+        let rows = live_rows(alloc, program, shown, t, told)?;
+        tables.push(Items::of(rows))?;
+    }
+    Ok(tables)
+}

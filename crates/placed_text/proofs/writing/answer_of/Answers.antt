@@ -1,0 +1,11 @@
+use Rattle.placed_text.proofs.Vocabulary.{rules}
+use Rattle.placed_text.proofs.GapsThere.{none_missing}
+use Rattle.placed_text.proofs.writing.answer_of.Goals as goal
+
+pub write_answer-requires : goal.write_answer-requires
+write_answer-requires g c =
+    let none = none_missing c.args.problem.now.litmus.program c.in_ok-placement.placement.certificate.gaps c.in_ok-placement.ensures.placement.headline.of_program in
+    rw c.gaps-gaps.ensures none
+
+pub returns-clause-told : goal.returns-clause-told
+returns-clause-told g c = (c.in_ok-placement.placement.certificate, c.in_ok-placement.ensures.placement, rw (c.gaps-gaps.ensures, c.cost-cost.ensures) at c.in_ok-write_answer.ensures)

@@ -1,0 +1,25 @@
+-- Placement problems, by the texts that they are read from.
+use Rattle.std.specs.Prelude.{◌≡◌, ℕ, List, Option}
+use Rattle.tso_program.specs.declared.question.Question.{Question}
+use Rattle.tso_program.specs.declared.shown.ShownKind.{ShownKind}
+use Rattle.tso_program.specs.Shown.{asked}
+use Rattle.litmus_text.specs.Texts.{IsLitmus}
+use Rattle.litmus_text.specs.Shown.{shown_as}
+use Rattle.litmus_text.specs.GivenCosts.{AreGiven}
+use Rattle.cert_forest.specs.Certificates.{Certificate}
+use Rattle.fence_place.specs.Placements.{IsPlacement}
+use Rattle.placed_text.specs.declared.problem.Problem.{Problem}
+
+-- what a problem asks of its program
+abbrev pub question_in : Problem → Question
+question_in problem = asked problem.litmus.program problem.shown
+
+-- the litmus text stands for the problem's test, its gaps have these costs, and what is shown is of the kind
+pub record IsProblem (litmus : List ℕ) (costs : Option (List ℕ)) (kind : ShownKind) (problem : Problem) : Type 0 where
+  pub of_text : IsLitmus litmus problem.litmus
+  pub given : AreGiven problem.litmus.program costs problem.costs
+  pub shown : problem.shown ≡ shown_as problem.litmus kind
+
+-- it holds of a certificate of the problem's answer
+abbrev pub OfItsPlacement : Problem → (Certificate → Type 0) → Type 0
+OfItsPlacement problem holds = (placed : Certificate) × IsPlacement (question_in problem) problem.costs placed × holds placed

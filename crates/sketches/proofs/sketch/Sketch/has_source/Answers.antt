@@ -1,5 +1,0 @@
-use Rattle.sketches.proofs.Vocabulary.{has_source_by}
-use Rattle.sketches.proofs.sketch.Sketch.has_source.Goals as goal
-
-pub returns : goal.returns
-returns c = has_source_by c.args.self.now c.args.read c.source.result c.is_some.result c.is_some.ensures c.source.ensures

@@ -1,6 +1,0 @@
--- A cost text gives the gaps of a program one list of costs.
-use Rattle.text_laws.proofs.Vocabulary.{Some, None, sym, ◌∙◌, costs_once, TheCostsAreOneList}
-
-pub given_costs_once : TheCostsAreOneList
-given_costs_once p None one other h g = h ∙ sym g
-given_costs_once p (Some text) one other h g = costs_once text p.threads one other h g
