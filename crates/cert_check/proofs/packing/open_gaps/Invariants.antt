@@ -1,5 +1,5 @@
 use Rattle.cert_check.proofs.OpenGaps.{AreOpenSoFar}
-use Rattle.cert_check.proofs.gap.open_gaps.Given as goal
+use Rattle.cert_check.proofs.packing.open_gaps.Given as goal
 
 -- the gaps so far, and those to come
 abbrev pub invariant-loop-gap : goal.invariant-loop-gap

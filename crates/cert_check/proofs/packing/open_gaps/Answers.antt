@@ -1,7 +1,7 @@
 use Rattle.cert_check.proofs.Vocabulary.{sym, ◌∙◌, ap, subst, nat_cmp}
 use Rattle.std.specs.FinSet as set
 use Rattle.cert_check.proofs.OpenGaps.{AreOpenSoFar, none_so_far, one_taken, one_left_out, none_to_come}
-use Rattle.cert_check.proofs.gap.open_gaps.Goals as goal
+use Rattle.cert_check.proofs.packing.open_gaps.Goals as goal
 
 pub loop-gap-init : goal.loop-gap-init
 loop-gap-init c =
