@@ -87,7 +87,7 @@ def parts_refused(library, folder):
     given = reads(5, 5, 4).encode()
     for words in (["outcomes", "--runs", "-"], ["outcomes", "--model", "sequential", "-"]):
         refused_in_parts(library, f"{' '.join(words)} in parts", words, given, lawful_lines("solve 2 OutOfMemory"), b"refused solve 2 OutOfMemory\n")
-    refused_in_parts(library, "a placement in parts", ["place", "-"], EXCHANGES.encode(), PLACED_LAWFULLY, b"refused place 5 OutOfMemory\n", folder)
+    refused_in_parts(library, "a placement in parts", ["place", "--trees", "whole", "-"], EXCHANGES.encode(), PLACED_LAWFULLY, b"refused place 5 OutOfMemory\n", folder)
 
 
 def lawful_lines(*told):
@@ -135,13 +135,14 @@ def replays_refused(library):
     refused_allocations(library, "a fence at no gap", ["witness", "--fences", "0:2", "-"], given, right, lawful)
 
 
+EARLY = ["--trees", "early"]
 PLACED_LAWFULLY = lawful_lines("costs 5 OutOfMemory", "place 5 OutOfMemory", "file 2 Write")
 
 
 def placements_refused(library, folder):
     """Placements, with costs too, and the reasons of an answer."""
     certificate = os.path.join(folder, "certificate")
-    for test, options in (("SB", []), ("n6", []), ("n6", ["--observed"]), ("SB", ["--condition"]), ("SB", ["--progress"])):
+    for test, options in (("SB", []), ("n6", []), ("n6", ["--observed"]), ("SB", ["--condition"]), ("SB", ["--progress"]), ("SB", EARLY), ("n6", EARLY)):
         given = example(test + ".litmus")
         right = run(["place", *options, "-"], given)
         tell(f"the placement of {test}", right[0] == 0, right)

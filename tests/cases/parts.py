@@ -77,7 +77,7 @@ def settled(certificate):
 
 def placed(name, litmus):
     """Answers by several numbers of workers, and their certificates."""
-    for options in ([], ["--observed"]):
+    for options in ([], ["--observed"], ["--trees", "whole"], ["--observed", "--trees", "whole"]):
         alone = run(["place", *options, litmus])
         accepted = re.sub(rb"^answer ", b"accepted ", alone[1].split(b"\n")[0]) + b"\n"
         trees = {}

@@ -41,8 +41,10 @@ SEARCHED = (
 )
 SHARED = (
     ["outcomes"], ["outcomes", "--observed"], ["outcomes", "--model", "sequential"], ["outcomes", "--workers", "3"],
-    ["place", "--observed"], ["place", "--observed", "--workers", "3"], ["place", "--condition"], ["why", "--condition"],
+    ["place", "--observed", "--trees", "whole"], ["place", "--observed", "--workers", "3", "--trees", "whole"],
+    ["place", "--condition", "--trees", "whole"], ["why", "--condition"],
 )
+PROPOSED = (["place"], ["place", "--observed"], ["place", "--condition", "--workers", "2"])
 
 
 class Program:
@@ -241,6 +243,20 @@ class Progress(Cases):
                     right, rest = shares(said[len(lines):], program.combinations(), searched_outcomes(path, command))
                     what = f"the share of {name} that is done by {' '.join(command)}"
                     tell(what, (found, silent, said[:len(lines)]) == (plain, [], lines) and right and not any(DONE.fullmatch(line) for line in rest), said)
+
+    def test_proposed(self):
+        """Where trees are early the sequential outcomes alone are reported, with `--progress`, and nothing on a terminal."""
+        with tempfile.TemporaryDirectory() as folder:
+            path = os.path.join(folder, "made.litmus")
+            with open(path, "w", encoding="ascii") as file:
+                file.write(JUMPS)
+            for command in PROPOSED:
+                plain, silent = ran([*command, path])
+                found, said = ran([*command, "--progress", path])
+                wanted = [f"fencer: sequential outcomes: {searched_outcomes(path, command)}"]
+                same(f"progress of {' '.join(command)} with early trees", (found, silent, said), (plain, [], wanted))
+            printed, said = on_terminal(["place", path])
+            same("early trees on a terminal", (said, printed), ([], ran(["place", path])[0][1]))
 
     def test_lost(self):
         """Standard error that is closed, or that takes nothing."""

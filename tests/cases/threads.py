@@ -20,7 +20,8 @@ LONG = (("two threads", TWO_THREADS), ("exchanges", EXCHANGES), ("orders", ORDER
 SHORT = ("SB", "MP", "n6", "IRIW", "nothing")
 # how many threads a command may have at a time: the workers of a hunt, and those that search for them
 COMMANDS = (
-    (["outcomes"], WORKERS), (["outcomes", "--model", "sequential"], WORKERS), (["place"], 2 * WORKERS + 1), (["place", "--observed"], 2 * WORKERS + 1),
+    (["outcomes"], WORKERS), (["outcomes", "--model", "sequential"], WORKERS),
+    (["place", "--trees", "whole"], 2 * WORKERS + 1), (["place", "--observed", "--trees", "whole"], 2 * WORKERS + 1),
 )
 
 

@@ -1,1 +1,2 @@
-"""What works out, apart from the programs, what they have to print: the two machines, candidate executions, tables, graphs, documents, conditions."""
+"""What works out, apart from the programs, what they have to print: the two machines, candidate executions, tables, graphs, documents, conditions,
+verdicts on certificates."""

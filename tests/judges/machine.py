@@ -87,15 +87,15 @@ def steps(test, fenced, buffered, state):
 def outcomes(test, model, gaps):
     """The outcomes, ascending; in the model `buffered` the gaps with these numbers are fenced."""
     fenced = {place for gap, place in enumerate(test.gaps()) if gap in gaps}
-    first = tuple((0, False, registers, ()) for registers in test.registers), test.memory
+    first = begun(test)
     seen, to_walk, found = {first}, [first], set()
     while to_walk:
         state = to_walk.pop()
         after = set(steps(test, fenced, model == "buffered", state)) - seen
         seen |= after
         to_walk += after
-        if all(place == len(code) and not waiting for (place, _, _, waiting), code in zip(state[0], test.code)):
-            found.add((tuple(registers for _, _, registers, _ in state[0]), state[1]))
+        if has_ended(test, state):
+            found.add(left(state))
     return sorted(found)
 
 
@@ -115,23 +115,49 @@ def run_in_turn(test, model):
     return labels + [f"f{t}" for t, thread in enumerate(threads) for _ in thread[3]]
 
 
+def begun(test):
+    """The state in which nothing is executed yet."""
+    return tuple((0, False, registers, ()) for registers in test.registers), test.memory
+
+
+def has_ended(test, state):
+    """Whether each thread has come to its end and no store waits."""
+    return all(place == len(code) and not waiting for (place, _, _, waiting), code in zip(state[0], test.code))
+
+
+def left(state):
+    """The outcome of a state in which a run has ended."""
+    return tuple(registers for _, _, registers, _ in state[0]), state[1]
+
+
+def stepped(test, fenced, buffered, state, label):
+    """The gap that a step passes, or None where it passes none, and the state after the step; nothing where the step isn't possible."""
+    (threads, memory), t = state, int(label[1:])
+    if t >= len(threads):
+        return None
+    place, flag, registers, waiting = threads[t]
+    if label[0] == "f":
+        return (None, (put(threads, t, (place, flag, registers, waiting[1:])), put(memory, *waiting[0]))) if waiting else None
+    if place == len(test.code[t]) or waiting and (t, place) in fenced:
+        return None
+    after = executed(test.code[t][place], threads[t], memory, buffered)
+    return after and ((t, place) if waiting else None, (put(threads, t, after[0]), after[1]))
+
+
+def replayed(test, labels, fenced, buffered):
+    """The outcome of a run with these gaps fenced and the gaps that it passes, as places; nothing where a step isn't possible or the run hasn't ended."""
+    state, passed = begun(test), set()
+    for label in labels:
+        step = stepped(test, fenced, buffered, state, label)
+        if step is None:
+            return None
+        gap, state = step
+        passed |= {gap} - {None}
+    return (left(state), passed) if has_ended(test, state) else None
+
+
 def end_of(test, labels, gaps, model="buffered"):
     """The outcome of a run, in the model `buffered` with the gaps with these numbers fenced; nothing where a step isn't possible there or the run hasn't ended."""
     fenced = {place for gap, place in enumerate(test.gaps()) if gap in gaps}
-    threads, memory = tuple((0, False, registers, ()) for registers in test.registers), test.memory
-    for label in labels:
-        t = int(label[1:])
-        place, flag, registers, waiting = threads[t]
-        if label[0] == "f":
-            if not waiting:
-                return None
-            threads, memory = put(threads, t, (place, flag, registers, waiting[1:])), put(memory, *waiting[0])
-        else:
-            if place == len(test.code[t]) or waiting and (t, place) in fenced:
-                return None
-            after = executed(test.code[t][place], threads[t], memory, model == "buffered")
-            if after is None:
-                return None
-            threads, memory = put(threads, t, after[0]), after[1]
-    ended = all(thread[0] == len(code) and not thread[3] for thread, code in zip(threads, test.code))
-    return (tuple(thread[2] for thread in threads), memory) if ended else None
+    run = replayed(test, labels, fenced, model == "buffered")
+    return run and run[0]

@@ -1,6 +1,6 @@
 -- A certificate that has a fault is not valid.
 use Rattle.cert_check.proofs.Vocabulary.{◌≡◌, ℕ, zero, suc, List, [], ◌∷◌, length, All, refl, sym, ap, ◌∙◌, subst, same_Some, SetOfGaps, without_gap, child_regions, Region, Listing, Outcome, Label, IsShownRun, Gap, Split, Bound, GapTrees, NoGap, MoreGaps}
-use Rattle.cert_check.proofs.Vocabulary.{IsValidCover, Certificate, AreSequentialRuns, IsRunOutside, IsValidCertificate, one_list_of_gaps, CheckFault, valid_is_not_wrong, IsRunOf, IsFirstWithout, CheckFaultIs, Question, show, Machine, SequentialMachine}
+use Rattle.cert_check.proofs.Vocabulary.{IsValidCoverBy, Certificate, AreSequentialRuns, IsRunOutside, IsValidCertificate, one_list_of_gaps, CheckFault, valid_is_not_wrong, IsRunOf, IsFirstWithout, CheckFaultIs, Question, show, Machine, SequentialMachine}
 use Rattle.cert_check.proofs.Vocabulary.{StoreBufferMachine, no_gaps, outcome_at, IsValidGap, AreValidGaps, ValidCertificatesHaveNoFault, count_gaps}
 use Rattle.tree_laws.proofs.Lists.{found_has}
 use Rattle.cert_check.specs.declared.fault.CheckFault.TheVariants as fault
@@ -49,8 +49,8 @@ module _ (p : Listing) (costs : List ℕ) (answer : SetOfGaps) (runs : List (Lis
     valid_gap_is_not_wrong (Split number children) n (child ∷ path) (numbers, split, valid) (others, split_too, many, wrong) =
         valid_gaps_have_no_wrong children (child_regions n others) child path
         (subst (λ gs. AreValidGaps p costs answer runs children (child_regions n gs)) (one_list_of_gaps p runs n number numbers others split split_too) valid) wrong
-    valid_gap_is_not_wrong Bound n [] valid wrong = valid wrong
-    valid_gap_is_not_wrong Bound n (child ∷ path) valid wrong = wrong
+    valid_gap_is_not_wrong (Bound numbers) n [] valid wrong = wrong valid
+    valid_gap_is_not_wrong (Bound numbers) n (child ∷ path) valid wrong = wrong
 
     valid_gaps_have_no_wrong : (trees : GapTrees) (ns : List Region) (child : ℕ) (path : List ℕ) → AreValidGaps p costs answer runs trees ns →
         gaps.FirstWrongGapChild p costs answer runs trees ns child path → ⊥
@@ -72,15 +72,15 @@ module _ (q : Question) (costs : List ℕ) (c : Certificate) (valid : IsValidCer
   no_fault (fault.SequentialRun n) wrong =
       absurd (none_without (IsRunOf p SequentialMachine) c.seq_runs n (zip_left (IsShownRun q SequentialMachine) (IsRunOf p SequentialMachine) (of_shown q SequentialMachine) c.seq_runs valid.outcomes valid.replayed) wrong.1)
   no_fault (fault.SequentialTree path) (outcomes, has, wrong) =
-      absurd (valid_is_not_wrong q SequentialMachine outcomes c.seq_tree _ path
-      (subst (λ os. IsValidCover q SequentialMachine os c.seq_tree _) (same_list outcomes has.replayed) valid.sequential) wrong)
+      absurd (valid_is_not_wrong c.rule q SequentialMachine outcomes c.seq_tree _ path
+      (subst (λ os. IsValidCoverBy c.rule q SequentialMachine os c.seq_tree _) (same_list outcomes has.replayed) valid.sequential) wrong)
   no_fault (fault.Run n) (outcomes, has, wrong) = absurd (none_without (IsRunOf p (StoreBufferMachine no_gaps)) c.runs n (foreign_are_runs q valid.outcomes c.runs valid.foreign) wrong)
   no_fault (fault.NotForeign n) (outcomes, has, wrong) =
       absurd (none_without (IsRunOutside q outcomes) c.runs n
       (subst (λ os. All (IsRunOutside q os) c.runs) (same_list outcomes has.complete.listed.replayed) valid.foreign) wrong)
   no_fault (fault.FencedTree path) (outcomes, has, wrong) =
-      absurd (valid_is_not_wrong q _ outcomes c.fenced_tree _ path
-      (subst (λ os. IsValidCover q _ os c.fenced_tree _) (same_list outcomes has.replayed.complete.listed.replayed) valid.fenced) wrong)
+      absurd (valid_is_not_wrong c.rule q _ outcomes c.fenced_tree _ path
+      (subst (λ os. IsValidCoverBy c.rule q _ os c.fenced_tree _) (same_list outcomes has.replayed.complete.listed.replayed) valid.fenced) wrong)
   no_fault (fault.GapTree path) (outcomes, has, wrong) = absurd (valid_gap_is_not_wrong p costs c.gaps c.runs c.gap_tree _ path valid.least wrong)
   no_fault fault.OutOfMemory wrong = refl
 

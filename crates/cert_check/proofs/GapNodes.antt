@@ -2,6 +2,8 @@
 use Rattle.cert_check.proofs.Vocabulary.{◌≡◌, ◌↔◌, ℕ, zero, suc, true, false, List, [], ◌∷◌, Some, None, length, Contains, slice_get, refl, sym, ap, ◌∙◌, subst, AllZip-left, AllZip, same_Some, SetOfGaps, Better, Region, Listing, Label, StoreBufferMachine}
 use Rattle.cert_check.proofs.Vocabulary.{no_gaps, ArePassed, Gap, Split, Bound, gap_trees_of, one_list_of_gaps, HasNoSplit, FirstWrongGap, AreValidIn, IsWrongChildIn, HavePassed, IsAtRoot, IsBelow, PassesGap, IsSplitBy, IsValidGap, gaps_count}
 use Rattle.std.specs.List.Sorted.{IsStrictlyIncreasing}
+use Rattle.tree_laws.specs.GapTrees.{IsBoundBy}
+use Rattle.tree_laws.proofs.BoundedRegions.{by_must}
 use Rattle.std.specs.FinSet as set
 use Rattle.std.specs.Option.{IsSomeAnd, MatchOption}
 
@@ -57,8 +59,11 @@ pub not_as_many : (p : Listing) (runs : List (List Label)) (region : Region) (n 
 not_as_many p runs region n count gaps split differ others other e = differ (ap length (one_list_of_gaps p runs region n gaps others split other) ∙ sym e)
 
 module _ (p : Listing) (costs : List ℕ) (answer : SetOfGaps) (runs : List (List Label)) (region : Region) where
-  pub bound_here : (path : List ℕ) → IsAtRoot (Better costs region.must answer) path → FirstWrongGap p costs answer runs Bound region path
-  bound_here path (at, better) = subst (FirstWrongGap p costs answer runs Bound region) (sym at) better
+  pub bound_here : (path : List ℕ) → IsAtRoot (Better costs region.must answer) path → FirstWrongGap p costs answer runs (Bound []) region path
+  bound_here path (at, better) = subst (FirstWrongGap p costs answer runs (Bound []) region) (sym at) (λ bound. (by_must p costs answer runs region).0 bound better)
+
+  pub runs_here : (numbers : List ℕ) (path : List ℕ) → IsAtRoot (¬ IsBoundBy p costs answer runs region numbers) path → FirstWrongGap p costs answer runs (Bound numbers) region path
+  runs_here numbers path (at, none) = subst (FirstWrongGap p costs answer runs (Bound numbers) region) (sym at) none
 
   module _ (n : ℕ) (trees : List Gap) where
     pub split_here : (path : List ℕ) → IsAtRoot (HasNoSplit p runs region n (length trees)) path → FirstWrongGap p costs answer runs (Split n (gap_trees_of trees)) region path

@@ -2,6 +2,8 @@
 mod Vocabulary
 -- gap trees
 pub mod OpenGaps
+pub mod PackedGaps
+pub mod PackedRuns
 pub mod GapNodes
 pub mod GapSteps
 -- runs

@@ -1,6 +1,6 @@
 -- The first fault of a certificate is one fault.
 use Rattle.cert_check.proofs.Vocabulary.{◌≡◌, ◌≢◌, ◌⊎◌, ℕ, zero, suc, ◌<◌, List, [], ◌∷◌, Some, All, slice_get, take, refl, sym, ap, ◌∙◌, subst, inl, inr, arith, SetOfGaps, all_sets, child_regions, Region, Listing, Outcome, gaps_in, Question, Label, Machine}
-use Rattle.cert_check.proofs.Vocabulary.{SequentialMachine, StoreBufferMachine, no_gaps, empty_sketch, IsValidCover, Certificate, AreSequentialRuns, IsRunOutside, one_list_of_gaps, CheckFault, FirstWrongCover, cases_lt, get_or-take, length-take}
+use Rattle.cert_check.proofs.Vocabulary.{SequentialMachine, StoreBufferMachine, no_gaps, empty_sketch, IsValidCoverBy, Certificate, AreSequentialRuns, IsRunOutside, one_list_of_gaps, CheckFault, FirstWrongCover, cases_lt, get_or-take, length-take}
 use Rattle.cert_check.proofs.Vocabulary.{slice_get_within, get_or_from_slice_get, IsShownRun, AreGapsOf, Cover, Gap, Split, Bound, GapTrees, MoreGaps, next_sibling, valid_is_not_wrong, one_wrong_node, IsRunOf, IsFirstWithout, HasRightCost, HasHead}
 use Rattle.cert_check.proofs.Vocabulary.{HasOutcomes, HasEachOutcome, HasRuns, HasForeignRuns, HasServingSet, CheckFaultIs, TheFirstCheckFaultIsUnique}
 use Rattle.cert_forest.specs.Shows.{shows_of}
@@ -31,8 +31,8 @@ module _ (p : Listing) (costs : List ℕ) (answer : SetOfGaps) (runs : List (Lis
     one_wrong_gap (Split number children) n (i ∷ path) (j ∷ other) (numbers, split, many, below) (others, split_too, many_too, below_too) =
         one_wrong_gap_child children (child_regions n numbers) i j path other below
         (subst (λ gs. gaps.FirstWrongGapChild p costs answer runs children (child_regions n gs) j other) (one_list_of_gaps p runs n number others numbers split_too split) below_too)
-    one_wrong_gap Bound n [] (j ∷ other) wrong also = absurd also
-    one_wrong_gap Bound n (i ∷ path) other wrong also = absurd wrong
+    one_wrong_gap (Bound numbers) n [] (j ∷ other) wrong also = absurd also
+    one_wrong_gap (Bound numbers) n (i ∷ path) other wrong also = absurd wrong
     one_wrong_gap tree n [] [] wrong also = refl
 
     one_wrong_gap_child : (trees : GapTrees) (ns : List Region) (i j : ℕ) (path other : List ℕ) → gaps.FirstWrongGapChild p costs answer runs trees ns i path →
@@ -73,20 +73,20 @@ module _ (q : Question) (costs : List ℕ) (c : Certificate) where
 
   -- the first wrong node of a cover tree, and a valid one
   abbrev WrongCover : Machine → Cover → List ℕ → Type 0
-  WrongCover mode tree path = OutcomesHave (λ outcomes. FirstWrongCover q mode outcomes tree (empty_sketch q.program) path)
+  WrongCover mode tree path = OutcomesHave (λ outcomes. FirstWrongCover c.rule q mode outcomes tree (empty_sketch q.program) path)
 
   abbrev RightCover : Machine → Cover → Type 0
-  RightCover mode tree = OutcomesHave (λ outcomes. IsValidCover q mode outcomes tree (empty_sketch q.program))
+  RightCover mode tree = OutcomesHave (λ outcomes. IsValidCoverBy c.rule q mode outcomes tree (empty_sketch q.program))
 
   one_path : (mode : Machine) (tree : Cover) (path other : List ℕ) → WrongCover mode tree path → WrongCover mode tree other → path ≡ other
   one_path mode tree path other wrong also =
-      let (outcomes, left, right) = have_both (λ os. FirstWrongCover q mode os tree (empty_sketch q.program) path) (λ os. FirstWrongCover q mode os tree (empty_sketch q.program) other) wrong also in
-      one_wrong_node q mode outcomes tree (empty_sketch q.program) path other left right
+      let (outcomes, left, right) = have_both (λ os. FirstWrongCover c.rule q mode os tree (empty_sketch q.program) path) (λ os. FirstWrongCover c.rule q mode os tree (empty_sketch q.program) other) wrong also in
+      one_wrong_node c.rule q mode outcomes tree (empty_sketch q.program) path other left right
 
   not_wrong : (mode : Machine) (tree : Cover) (path : List ℕ) → WrongCover mode tree path → RightCover mode tree → ⊥
   not_wrong mode tree path wrong valid =
-      let (outcomes, left, right) = have_both (λ os. FirstWrongCover q mode os tree (empty_sketch q.program) path) (λ os. IsValidCover q mode os tree (empty_sketch q.program)) wrong valid in
-      valid_is_not_wrong q mode outcomes tree (empty_sketch q.program) path right left
+      let (outcomes, left, right) = have_both (λ os. FirstWrongCover c.rule q mode os tree (empty_sketch q.program) path) (λ os. IsValidCoverBy c.rule q mode os tree (empty_sketch q.program)) wrong valid in
+      valid_is_not_wrong c.rule q mode outcomes tree (empty_sketch q.program) path right left
 
   -- the first run that is not foreign, and foreign runs
   abbrev NotForeign : ℕ → Type 0

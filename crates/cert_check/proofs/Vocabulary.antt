@@ -32,7 +32,7 @@ pub use Rattle.program_sketches.proofs.Lookups.{each_more, same_default}
 pub use Rattle.tree_laws.proofs.OneList.{one_list_of_gaps}
 pub use Rattle.tree_laws.proofs.OpenGaps.{few_gaps, listed, rising, unlisted}
 pub use Rattle.tree_laws.specs.Certificates.{AreSequentialRuns, IsRunOutside, IsValidCertificate}
-pub use Rattle.tree_laws.specs.CoverTrees.{IsValidCover}
+pub use Rattle.tree_laws.specs.CoverTrees.{IsValidCoverBy}
 pub use Rattle.tree_laws.specs.GapTrees.{AreValidGaps, IsSplitBy, IsValidGap, PassesGap}
 pub use Rattle.tso_machine.specs.Machine.{Machine, SequentialMachine, StoreBufferMachine, no_gaps, outcome_at}
 pub use Rattle.tso_machine.specs.Modes.{ArePassed, unfenced}

@@ -11,7 +11,7 @@ use Rattle.tso_machine.specs.declared.label.Label.{Label}
 use Rattle.tso_machine.specs.Machine.{Machine, SequentialMachine, StoreBufferMachine, no_gaps, IsRun}
 use Rattle.tso_machine.specs.Outcomes.{AreGapsOf}
 use Rattle.cover_judge.specs.Sketches.{empty_sketch}
-use Rattle.tree_laws.specs.CoverTrees.{IsValidCover}
+use Rattle.tree_laws.specs.CoverTrees.{IsValidCoverBy}
 use Rattle.cert_forest.specs.Certificates.{Certificate}
 use Rattle.cert_forest.specs.Shows.{shows_of}
 use Rattle.tree_laws.specs.Certificates.{AreSequentialRuns, IsRunOutside}
@@ -51,7 +51,7 @@ module _ (q : Question) (costs : List ℕ) (c : Certificate) where
     -- a valid tree shows that there are no other sequential outcomes
     pub record HasEachOutcome : Type 0 where
       pub listed : HasOutcomes
-      pub sequential : IsValidCover q SequentialMachine outcomes c.seq_tree (empty_sketch q.program)
+      pub sequential : IsValidCoverBy c.rule q SequentialMachine outcomes c.seq_tree (empty_sketch q.program)
 
     -- its other runs are runs of the store buffer machine with no gap fenced
     pub record HasRuns : Type 0 where
@@ -66,7 +66,7 @@ module _ (q : Question) (costs : List ℕ) (c : Certificate) where
     -- a valid tree shows that the set serves
     pub record HasServingSet : Type 0 where
       pub runs : HasForeignRuns
-      pub fenced : IsValidCover q (StoreBufferMachine (gaps_in q.program c.gaps)) outcomes c.fenced_tree (empty_sketch q.program)
+      pub fenced : IsValidCoverBy c.rule q (StoreBufferMachine (gaps_in q.program c.gaps)) outcomes c.fenced_tree (empty_sketch q.program)
 
   -- The fault is the first in their order, in which what is shown comes before the set. `OutOfMemory` says that these, the set and the cost
   -- are right: they are judged without memory.
@@ -75,10 +75,10 @@ module _ (q : Question) (costs : List ℕ) (c : Certificate) where
   CheckFaultIs fault.Set = (c.shown ≡ shows_of q.shown) × (AreGapsOf q.program c.gaps → ⊥)
   CheckFaultIs fault.Cost = (c.shown ≡ shows_of q.shown) × AreGapsOf q.program c.gaps × (HasRightCost → ⊥)
   CheckFaultIs (fault.SequentialRun number) = HasHead × IsFirstWithout (IsRunOf q.program SequentialMachine) c.seq_runs number
-  CheckFaultIs (fault.SequentialTree path) = (outcomes : List Outcome) × HasOutcomes outcomes × FirstWrongCover q SequentialMachine outcomes c.seq_tree (empty_sketch q.program) path
+  CheckFaultIs (fault.SequentialTree path) = (outcomes : List Outcome) × HasOutcomes outcomes × FirstWrongCover c.rule q SequentialMachine outcomes c.seq_tree (empty_sketch q.program) path
   CheckFaultIs (fault.Run number) = (outcomes : List Outcome) × HasEachOutcome outcomes × IsFirstWithout (IsRunOf q.program (StoreBufferMachine no_gaps)) c.runs number
   CheckFaultIs (fault.NotForeign number) = (outcomes : List Outcome) × HasRuns outcomes × IsFirstWithout (IsRunOutside q outcomes) c.runs number
   CheckFaultIs (fault.FencedTree path) =
-      (outcomes : List Outcome) × HasForeignRuns outcomes × FirstWrongCover q (StoreBufferMachine (gaps_in q.program c.gaps)) outcomes c.fenced_tree (empty_sketch q.program) path
+      (outcomes : List Outcome) × HasForeignRuns outcomes × FirstWrongCover c.rule q (StoreBufferMachine (gaps_in q.program c.gaps)) outcomes c.fenced_tree (empty_sketch q.program) path
   CheckFaultIs (fault.GapTree path) = (outcomes : List Outcome) × HasServingSet outcomes × FirstWrongGap q.program costs c.gaps c.runs c.gap_tree all_sets path
   CheckFaultIs fault.OutOfMemory = HasHead

@@ -1,13 +1,12 @@
 -- Which node of a gap tree is the first wrong one: a node is judged before its children, and the children in order.
 use Rattle.std.specs.Prelude.{◌≡◌, ℕ, zero, suc, List, [], ◌∷◌, length}
 use Rattle.gap_sets.specs.Gaps.{SetOfGaps}
-use Rattle.gap_sets.specs.Order.{Better}
 use Rattle.gap_sets.specs.Regions.{child_regions}
 use Rattle.gap_sets.specs.declared.region.Region.{Region}
 use Rattle.tso_program.specs.declared.listing.Listing.{Listing}
 use Rattle.tso_machine.specs.declared.label.Label.{Label}
 use Rattle.cert_forest.specs.Trees.{Gap, Split, Bound, GapTrees, NoGap, MoreGaps, count_gaps}
-use Rattle.tree_laws.specs.GapTrees.{IsSplitBy, IsValidGap}
+use Rattle.tree_laws.specs.GapTrees.{IsSplitBy, IsBoundBy, IsValidGap}
 
 -- the run of this number doesn't split the region into so many
 abbrev pub HasNoSplit : Listing → List (List Label) → Region → ℕ → ℕ → Type 0
@@ -17,7 +16,7 @@ module _ (p : Listing) (costs : List ℕ) (answer : SetOfGaps) (runs : List (Lis
   -- the root is wrong for the region, whatever its children say
   abbrev pub HasWrongGapRoot : Gap → Region → Type 0
   HasWrongGapRoot (Split number children) region = HasNoSplit p runs region number (count_gaps children)
-  HasWrongGapRoot Bound region = Better costs region.must answer
+  HasWrongGapRoot (Bound numbers) region = ¬ IsBoundBy p costs answer runs region numbers
 
   abbrev mutual
     -- The node at this path is wrong, and none before it is: each node above it is right, and the trees of the children before it are valid.
@@ -26,8 +25,8 @@ module _ (p : Listing) (costs : List ℕ) (answer : SetOfGaps) (runs : List (Lis
     FirstWrongGap (Split number children) region (child ∷ path) =
         (gaps : List ℕ) × IsSplitBy p runs region number gaps × (count_gaps children ≡ length gaps)
         × FirstWrongGapChild children (child_regions region gaps) child path
-    FirstWrongGap Bound region [] = HasWrongGapRoot Bound region
-    FirstWrongGap Bound region (child ∷ path) = ⊥
+    FirstWrongGap (Bound numbers) region [] = HasWrongGapRoot (Bound numbers) region
+    FirstWrongGap (Bound numbers) region (child ∷ path) = ⊥
 
     -- the child of this number has the first wrong node, at this path from it
     pub FirstWrongGapChild : GapTrees → List Region → ℕ → List ℕ → Type 0

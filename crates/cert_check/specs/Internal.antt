@@ -1,4 +1,5 @@
 -- What contracts of private functions and proofs cite; no public contract does.
 pub mod Children
 pub mod Claims
+pub mod Packed
 pub mod Replays

@@ -14,7 +14,7 @@ ghost use Rattle.tso_machine.specs.Outcomes.{Headline, IsTheAnswer};
 ghost use Rattle.cover_judge.specs.CoverDefects.{FirstWrongCover};
 ghost use Rattle.cover_judge.specs.Judged.{IfWrong};
 ghost use Rattle.cover_judge.specs.Sketches.{empty_sketch};
-ghost use Rattle.tree_laws.specs.CoverTrees.{IsValidCover};
+ghost use Rattle.tree_laws.specs.CoverTrees.{IsValidCoverBy};
 ghost use Rattle.tree_laws.specs.GapTrees.{IsValidGap};
 ghost use Rattle.tree_laws.specs.Laws.{IsProved};
 ghost use Rattle.cert_forest.specs.Shows.{shows_of};
@@ -153,7 +153,7 @@ impl Claim<'_> {
     /// Faults 3 and 4: what is shown of the outcomes of the sequential runs, which are all sequential ones.
     fn sequential_list(&self) -> Result<Vec<Outcome>, CheckFault>
         ensures replayed { IfOk result (λ listed. AreSequentialRuns (question_of self.now) self.now.certificate.now.seq_runs listed.items) }
-        ensures sequential { IfOk result (λ listed. IsValidCover (question_of self.now) SequentialMachine listed.items self.now.certificate.now.seq_tree (empty_sketch self.now.program.now)) }
+        ensures sequential { IfOk result (λ listed. IsValidCoverBy self.now.certificate.now.rule (question_of self.now) SequentialMachine listed.items self.now.certificate.now.seq_tree (empty_sketch self.now.program.now)) }
         ensures fault { (costs : List ℕ) → HasHead (question_of self.now) costs self.now.certificate.now
             → IfErr result (CheckFaultIs (question_of self.now) costs self.now.certificate.now) }
     {
@@ -205,7 +205,7 @@ impl Claim<'_> {
 
     /// Fault 7.
     fn check_fenced(&self, listed: &[Outcome]) -> Result<(), CheckFault>
-        ensures fenced { OnOk result (IsValidCover (question_of self.now) (StoreBufferMachine (gaps_in self.now.program.now self.now.certificate.now.gaps)) listed.now self.now.certificate.now.fenced_tree (empty_sketch self.now.program.now)) }
+        ensures fenced { OnOk result (IsValidCoverBy self.now.certificate.now.rule (question_of self.now) (StoreBufferMachine (gaps_in self.now.program.now self.now.certificate.now.gaps)) listed.now self.now.certificate.now.fenced_tree (empty_sketch self.now.program.now)) }
         ensures fault { (costs : List ℕ) → HasForeignRuns (question_of self.now) costs self.now.certificate.now listed.now
             → IfErr result (CheckFaultIs (question_of self.now) costs self.now.certificate.now) }
     {
@@ -225,11 +225,19 @@ impl Claim<'_> {
         tree: &CoverTree,
         outcomes: &[Outcome],
     ) -> Result<(), NodeFault>
-        ensures valid { OnOk result (IsValidCover (question_of self.now) (machine_of_mode self.now.program.now mode) outcomes.now tree.now (empty_sketch self.now.program.now)) }
-        ensures wrong { IfErr result (IfWrong (FirstWrongCover (question_of self.now) (machine_of_mode self.now.program.now mode) outcomes.now tree.now (empty_sketch self.now.program.now))) }
+        ensures valid { OnOk result (IsValidCoverBy self.now.certificate.now.rule (question_of self.now) (machine_of_mode self.now.program.now mode) outcomes.now tree.now (empty_sketch self.now.program.now)) }
+        ensures wrong { IfErr result (IfWrong (FirstWrongCover self.now.certificate.now.rule (question_of self.now) (machine_of_mode self.now.program.now mode) outcomes.now tree.now (empty_sketch self.now.program.now))) }
     {
+        let certificate = self.certificate;
         let mut sketch = RowlessSketch::new(self.alloc, self.program, mode)?;
-        judge_cover(self.alloc, tree, &mut sketch, self.shown, outcomes)
+        judge_cover(
+            self.alloc,
+            certificate.rule,
+            tree,
+            &mut sketch,
+            self.shown,
+            outcomes,
+        )
     }
 }
 

@@ -1,19 +1,19 @@
 //! Gap trees, judged node by node.
-ghost use Rattle.std.specs.Prelude.{◌≡◌, ℕ, List, ◌<◌, ◌≤◌, OnOk, IfOk, IfErr, length, take, drop};
-ghost use Rattle.std.specs.FinSet as set;
+ghost use Rattle.std.specs.Prelude.{◌≡◌, ◌↔◌, ◌∷◌, [], ℕ, List, ◌<◌, ◌≤◌, false, OnOk, IfOk, IfErr, IfSome, MatchOption, length, take, drop};
 ghost use Rattle.gap_sets.specs.Gaps.{numbers_of_set};
 ghost use Rattle.gap_sets.specs.Order.{Better};
 ghost use Rattle.tso_program.specs.declared.listing.Listing.{Listing};
 ghost use Rattle.tso_machine.specs.declared.label.Label.{Label};
 ghost use Rattle.cert_forest.specs.Trees.{Split, gap_trees_of};
-ghost use Rattle.cert_forest.specs.GapNodes.{first_gap};
-ghost use Rattle.tree_laws.specs.GapTrees.{IsSplitBy, IsValidGap};
+ghost use Rattle.cert_forest.specs.GapNodes.{first_gap, spell_gaps};
+ghost use Rattle.tree_laws.specs.GapTrees.{IsSplitBy, IsBoundBy, IsValidGap};
 ghost use Rattle.cert_check.specs.Internal.Replays.{HavePassed};
 ghost use Rattle.cert_check.specs.GapDefects.{HasNoSplit, FirstWrongGap};
 ghost use Rattle.cover_judge.specs.Judged.{IfWrong, IsAtRoot, IsBelow};
 ghost use Rattle.cert_check.specs.Internal.Children.{AreValidIn, IsWrongChildIn};
+ghost use Rattle.cert_check.specs.Internal.Packed.{runs_of, IsBoundTree, IsNextRun, IsBoundWith};
 
-use crate::runs::passed_by;
+use crate::packing::{Packing, run_gaps};
 use cert_forest::{GapNode, GapTree, GapWalk};
 use cover_judge::NodeFault;
 use gap_sets::{Costs, GapSet, Region};
@@ -61,6 +61,7 @@ fn judge_gap(
 {
     match walk.next_node() {
         GapNode::Bound => judge_bound(alloc, region, bounds),
+        GapNode::By { run } => judge_packing(alloc, run, walk, region, bounds),
         GapNode::Split { count, run } => judge_split(alloc, run, count, walk, region, bounds),
     }
 }
@@ -133,6 +134,77 @@ fn judge_gap_child(
     }
 }
 
+/// Judges a bound by runs, of which this is the first. The others come first in the walk.
+fn judge_packing(
+    alloc: Global,
+    first: u64,
+    walk: &mut GapWalk<'_>,
+    region: &Region,
+    bounds: &Bounds,
+) -> Result<(), NodeFault>
+    requires bound { IsBoundTree (first_gap walk.old) }
+    requires some { 0 < length walk.old }
+    ensures after { OnOk result (walk.new ≡ drop 1 walk.old) }
+    ensures valid { (p : Listing) (runs : List (List Label)) → HavePassed p runs bounds.now.passed.now
+        → OnOk result (IsBoundBy p bounds.now.costs.now bounds.now.answer runs region.now (first ∷ runs_of (first_gap walk.old))) }
+    ensures wrong { (p : Listing) (runs : List (List Label)) → HavePassed p runs bounds.now.passed.now
+        → IfErr result (IfWrong (IsAtRoot (¬ IsBoundBy p bounds.now.costs.now bounds.now.answer runs region.now (first ∷ runs_of (first_gap walk.old))))) }
+{
+    match packed_runs(first, walk, region, bounds) {
+        Some(packing) => judge_least(alloc, packing, bounds),
+        None => Err(NodeFault::at_root(alloc)),
+    }
+}
+
+/// This run and the others of a bound, which come first in the walk. `None` if one is not there, passes a gap that the
+/// sets must have, or has a gap in common with another.
+fn packed_runs(
+    first: u64,
+    walk: &mut GapWalk<'_>,
+    region: &Region,
+    bounds: &Bounds,
+) -> Option<Packing>
+    requires bound { IsBoundTree (first_gap walk.old) }
+    requires some { 0 < length walk.old }
+    ensures after { IfSome result (λ packing. walk.new ≡ drop 1 walk.old) }
+    ensures packed { (p : Listing) (runs : List (List Label)) → HavePassed p runs bounds.now.passed.now
+        → MatchOption result (¬ IsBoundBy p bounds.now.costs.now bounds.now.answer runs region.now (first ∷ runs_of (first_gap walk.old)))
+        (λ packing. IsBoundBy p bounds.now.costs.now bounds.now.answer runs region.now (first ∷ runs_of (first_gap walk.old)) ↔ IsBoundWith p bounds.now.costs.now bounds.now.answer runs region.now packing []) }
+{
+    let mut packing = Packing::of_region(region).with_run(first, region, bounds)?;
+    while let Some(run) = next_run(walk) {
+        packing = packing.with_run(run, region, bounds)?;
+    }
+    Some(packing)
+}
+
+/// The next run of the bound that comes first in the walk. `None` if it has no more, and then the walk is past it.
+fn next_run(walk: &mut GapWalk<'_>) -> Option<u64>
+    requires bound { IsBoundTree (first_gap walk.old) }
+    requires some { 0 < length walk.old }
+    ensures next { IsNextRun walk.old result walk.new }
+    ensures some { IfSome result (λ run. 0 < length walk.new) }
+    ensures shorter { length (spell_gaps walk.new) < length (spell_gaps walk.old) }
+{
+    match walk.next_node() {
+        GapNode::By { run } => Some(run),
+        GapNode::Bound => None,
+        GapNode::Split { .. } => None,
+    }
+}
+
+/// Judges that the least set of a packing is not better than the answer, or that a run has no gap.
+fn judge_least(alloc: Global, packing: Packing, bounds: &Bounds) -> Result<(), NodeFault>
+    ensures bound { OnOk result (packing.has_none ≡ false → ¬ Better bounds.now.costs.now packing.least bounds.now.answer) }
+    ensures wrong { IfErr result (IfWrong (IsAtRoot ((packing.has_none ≡ false) × Better bounds.now.costs.now packing.least bounds.now.answer))) }
+{
+    if !packing.has_none && bounds.costs.better(&packing.least, &bounds.answer) {
+        Err(NodeFault::at_root(alloc))
+    } else {
+        Ok(())
+    }
+}
+
 /// Judges that what the sets of the region must have is not better than the answer.
 fn judge_bound(alloc: Global, region: &Region, bounds: &Bounds) -> Result<(), NodeFault>
     ensures bound { OnOk result (Better bounds.now.costs.now region.now.must bounds.now.answer → ⊥) }
@@ -160,28 +232,11 @@ fn split_gaps(
     ensures wrong { (p : Listing) (labels : List (List Label)) → HavePassed p labels passed.now
         → IfErr result (IfWrong (IsAtRoot (HasNoSplit p labels region.now run count))) }
 {
-    let Some(passed) = passed_by(passed, run) else {
+    let Some(gaps) = run_gaps(run, region, passed) else {
         return Err(NodeFault::at_root(alloc));
     };
-    if passed.meets(&region.must) {
-        return Err(NodeFault::at_root(alloc));
-    }
-    let gaps = open_gaps(passed, region.never);
     if gaps.len() != count {
         return Err(NodeFault::at_root(alloc));
     }
     Ok(gaps)
-}
-
-/// The gaps of the first set that aren't in the second.
-fn open_gaps(passed: GapSet, never: GapSet) -> GapSet
-    ensures { result ≡ set.difference passed never }
-{
-    let mut gaps = GapSet::empty();
-    for gap in passed.iter() {
-        if !never.has(gap) {
-            gaps = gaps.with(gap);
-        }
-    }
-    gaps
 }

@@ -13,6 +13,7 @@ mod checker;
 mod fault;
 mod gap;
 mod laws;
+mod packing;
 mod runs;
 
 pub use checker::{Accepted, certificate_proves_answer, check};

@@ -1,5 +1,5 @@
--- The three certificates have their texts, and are within the limits.
-use Rattle.cert_forest.proofs.Vocabulary.{◌≡◌, [], ◌∷◌, lit<, lit≤, decimal, decimal_digit, Kind, MAX_GAPS, numbers_of_set, PLACES, MAX_COVER_DEPTH, IsCoverTo, HasNumbers, TheExamplesAreCertificates, either, observed_tree}
+-- The four certificates have their texts, and are within the limits.
+use Rattle.cert_forest.proofs.Vocabulary.{◌≡◌, refl, [], ◌∷◌, lit<, lit≤, decimal, decimal_digit, Kind, MAX_GAPS, numbers_of_set, PLACES, MAX_COVER_DEPTH, IsCoverTo, HasNumbers, TheExamplesAreCertificates, either, observed_tree}
 use Rattle.candidate_executions.specs.declared.event.Kind.TheVariants as kinds
 use Rattle.gap_sets.specs.Laws.{these}
 use Rattle.cert_forest.specs.StoreBuffering.{cover_of}
@@ -113,7 +113,7 @@ told = record {
         ),
       );
       fenced_tree = crossed_fits kinds.Global;
-      gap_tree = (lit≤ tt, (lit< tt, lit≤ tt, ((lit< tt, lit≤ tt, (tt, tt)), ((lit< tt, lit≤ tt, tt), tt))));
+      gap_tree = (lit≤ tt, (lit< tt, lit≤ tt, ((lit< tt, lit≤ tt, (refl, tt)), ((lit< tt, lit≤ tt, tt), tt))));
     };
   };
   nothing = record {
@@ -126,7 +126,7 @@ told = record {
       seq_tree = (lit≤ tt, lit< tt);
       runs = (lit< tt, tt);
       fenced_tree = (lit≤ tt, lit< tt);
-      gap_tree = (lit≤ tt, tt);
+      gap_tree = (lit≤ tt, refl);
     };
   };
   observed = record {
@@ -148,7 +148,44 @@ told = record {
       seq_tree = observed_fits;
       runs = (lit< tt, tt);
       fenced_tree = observed_fits;
-      gap_tree = (lit≤ tt, tt);
+      gap_tree = (lit≤ tt, refl);
+    };
+  };
+  bounded = record {
+    spelled = simp (both_gaps, d0, d1, d2, d3, d4);
+    within = record {
+      shown = tt;
+      gaps = ascending_are_below MAX_GAPS (0 ∷ (1 ∷ [])) both;
+      cost = lit< tt;
+      seq_runs = (
+        lit< tt,
+        (
+          (lit≤ tt, (lit< tt, (lit< tt, (lit< tt, (lit< tt, tt))))),
+          (
+            (lit≤ tt, (lit< tt, (lit< tt, (lit< tt, (lit< tt, tt))))),
+            (
+              (lit≤ tt, (lit< tt, (lit< tt, (lit< tt, (lit< tt, tt))))),
+              tt,
+            ),
+          ),
+        ),
+      );
+      seq_tree = crossed_fits kinds.Sequential;
+      runs = (
+        lit< tt,
+        (
+          (lit≤ tt, (lit< tt, (lit< tt, (lit< tt, (lit< tt, (lit< tt, (lit< tt, tt))))))),
+          (
+            (lit≤ tt, (lit< tt, (lit< tt, (lit< tt, (lit< tt, (lit< tt, (lit< tt, tt))))))),
+            (
+              (lit≤ tt, (lit< tt, (lit< tt, (lit< tt, (lit< tt, (lit< tt, (lit< tt, tt))))))),
+              tt,
+            ),
+          ),
+        ),
+      );
+      fenced_tree = crossed_fits kinds.Global;
+      gap_tree = (lit≤ tt, (lit≤ tt, (lit< tt, (lit< tt, tt))));
     };
   };
 }

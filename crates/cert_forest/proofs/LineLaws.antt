@@ -1,6 +1,6 @@
 -- Lines are read exactly.
 use Rattle.cert_forest.proofs.Vocabulary.{◌≡◌, ℕ, zero, suc, ◌-◌, ◌<◌, ◌≤◌, ◌^◌, true, List, [], ◌∷◌, ◌++◌, length, map, Option, Some, refl, sym, ap, subst, ◌∙◌, append_assoc, arith, inl, inr, codes, AllByRecursion, list_all, decimal, append-nil, Label}
-use Rattle.cert_forest.proofs.Vocabulary.{spelling, IsLabel, MAX_GAPS, SetOfGaps, IsGapSet, numbers_of_set, MAX_COUNT, MAX_COVER_DEPTH, MAX_GAP_DEPTH, Cover, Gap, texts_of, line, cover_words, gap_words, labels_line, runs_lines, ◌>>=◌, is_inner, line_name_at}
+use Rattle.cert_forest.proofs.Vocabulary.{spelling, IsLabel, MAX_GAPS, SetOfGaps, IsGapSet, numbers_of_set, MAX_COUNT, MAX_COVER_DEPTH, MAX_GAP_DEPTH, Rule, Cover, Gap, texts_of, line, cover_words, gap_words, labels_line, runs_lines, ◌>>=◌, is_inner, line_name_at}
 use Rattle.cert_forest.proofs.Vocabulary.{end_at, begins_word, number_within_at, repeat_at, label_word_at, run_labels_at, gap_number_at, ascending_at, run_at, runs_at, set_at, cost_at, cover_at, gap_at, cover_line_at, gap_line_at, bind_some, kept_out, by_test}
 use Rattle.cert_forest.proofs.Vocabulary.{same_Some, name_takes, name_again, end_takes, end_again, number_text, number_exact, below64, IsWrittenRun, AreRuns, IsCoverTo, IsGapTo, Starts, done_with, IsExact, repeat_takes, repeat_free}
 use Rattle.std.specs.FinSet as set
@@ -161,11 +161,11 @@ unfolding cover_line_at
 cover_line_again name t rest word fits =
     line_again (cover_at MAX_COVER_DEPTH) (cover_text t) name t rest word ((cover_exact MAX_COVER_DEPTH).starts t (10 ∷ rest) fits refl) ((cover_exact MAX_COVER_DEPTH).again t (10 ∷ rest) fits refl)
 
-pub gap_line_takes : (bytes : List ℕ) (x : Gap × List ℕ) → gap_line_at bytes ≡ Some x → (bytes ≡ line (codes "gaps") (gap_words x.0) ++ x.1) × IsGapTo MAX_GAP_DEPTH x.0
+pub gap_line_takes : (rule : Rule) (bytes : List ℕ) (x : Gap × List ℕ) → gap_line_at rule bytes ≡ Some x → (bytes ≡ line (codes "gaps") (gap_words rule x.0) ++ x.1) × IsGapTo rule MAX_GAP_DEPTH x.0
 unfolding gap_line_at
-gap_line_takes bytes x e = line_takes (gap_at MAX_GAP_DEPTH) gap_text (IsGapTo MAX_GAP_DEPTH) (gap_exact MAX_GAP_DEPTH).takes (codes "gaps") bytes x e
+gap_line_takes rule bytes x e = line_takes (gap_at rule MAX_GAP_DEPTH) (gap_text rule) (IsGapTo rule MAX_GAP_DEPTH) (gap_exact rule MAX_GAP_DEPTH).takes (codes "gaps") bytes x e
 
-pub gap_line_again : (t : Gap) (rest : List ℕ) → IsGapTo MAX_GAP_DEPTH t → gap_line_at (line (codes "gaps") (gap_words t) ++ rest) ≡ Some (t, rest)
+pub gap_line_again : (rule : Rule) (t : Gap) (rest : List ℕ) → IsGapTo rule MAX_GAP_DEPTH t → gap_line_at rule (line (codes "gaps") (gap_words rule t) ++ rest) ≡ Some (t, rest)
 unfolding gap_line_at
-gap_line_again t rest fits =
-    line_again (gap_at MAX_GAP_DEPTH) (gap_text t) (codes "gaps") t rest refl ((gap_exact MAX_GAP_DEPTH).starts t (10 ∷ rest) fits refl) ((gap_exact MAX_GAP_DEPTH).again t (10 ∷ rest) fits refl)
+gap_line_again rule t rest fits =
+    line_again (gap_at rule MAX_GAP_DEPTH) (gap_text rule t) (codes "gaps") t rest refl ((gap_exact rule MAX_GAP_DEPTH).starts t (10 ∷ rest) fits refl) ((gap_exact rule MAX_GAP_DEPTH).again t (10 ∷ rest) fits refl)

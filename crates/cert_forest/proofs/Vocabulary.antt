@@ -15,13 +15,14 @@ pub use Rattle.std.specs.Prelude.{codes, is_ok, max, nat_eq, nat_le, nat_lt, not
 pub use Rattle.candidate_executions.specs.declared.event.Kind.{Kind}
 pub use Rattle.cert_trees.proofs.GapNodeLaws.{gaps_count, is_gap_tree, listed_gaps, same_gap}
 pub use Rattle.cert_trees.proofs.NodeLaws.{covers_count, is_tree, same_tree}
-pub use Rattle.cert_trees.specs.GapNodes.{spell_gap, spell_gaps}
+pub use Rattle.cert_trees.specs.GapNodes.{bound_nodes, spell_gap, spell_gaps}
 pub use Rattle.cert_trees.specs.Nodes.{cycle_nodes, spell, spell_all}
 pub use Rattle.cert_trees.specs.Spelling.{spell_each}
 pub use Rattle.cert_trees.specs.Trees.{Bound, Cover, Covers, Cycle, Gap, GapTrees, Known, MoreCovers, MoreGaps, NoCover, NoGap, Order, Source, Split, Value, count_covers, count_gaps, cover_list}
 pub use Rattle.cert_trees.specs.Trees.{covers_of, gap_list, gap_trees_of}
 pub use Rattle.cert_trees.specs.declared.node.GapNode.{GapNode}
 pub use Rattle.cert_trees.specs.declared.node.Node.{Node}
+pub use Rattle.cert_trees.specs.declared.rule.Rule.{Rule, TheVariants.Early, TheVariants.Whole}
 pub use Rattle.cert_trees.specs.declared.tree.AccessId.{AccessId}
 pub use Rattle.cert_trees.specs.declared.tree.TheConstants.{MAX_COVER_DEPTH, MAX_GAP_DEPTH}
 pub use Rattle.cert_words.proofs.Steps.{IsExact, Starts, again_two, done_with, repeat_again, repeat_free, repeat_takes, starts_all, takes_two}
@@ -45,15 +46,16 @@ pub use Rattle.tso_program.specs.Names.{ArePlaces, location_place, register_plac
 pub use Rattle.tso_program.specs.declared.shown.TheConstants.{PLACES, REGISTER_PLACES}
 pub use Rattle.cert_forest.specs.Certificates.{Certificate}
 pub use Rattle.cert_forest.specs.FlatRuns.{AreEnds, runs_from}
-pub use Rattle.cert_forest.specs.Internal.Pushing.{PushesCycle, PushesRoot, PushesTree, PushesTrees, children_after, root_nodes}
-pub use Rattle.cert_forest.specs.Internal.Reading.{CycleHead, Head, KnownHead, OrderHead, SourceHead, ValueHead, access_tail, below_at, digit_of, gap_by, gap_number_at, head_by, is_no_stop, kind_of}
-pub use Rattle.cert_forest.specs.Internal.Reading.{or_condition, register_of, shown_location, shown_place, shown_words_at}
-unfoldable pub use Rattle.cert_forest.specs.Internal.Reading.{access_at, access_of, after_set_at, ascending_at, certificate_at, condition_line_at, cost_at, cover_at, cover_line_at, cycle_at, gap_at}
+pub use Rattle.cert_forest.specs.Internal.Pushing.{PushesCycle, PushesRoot, PushesTree, PushesTrees, children_after, root_nodes, run_nodes}
+pub use Rattle.cert_forest.specs.Internal.Reading.{CycleHead, Head, KnownHead, OrderHead, SourceHead, ValueHead, access_tail, below_at, bound_at, digit_of, gap_by, gap_number_at, head_by, is_no_stop, kind_of}
+pub use Rattle.cert_forest.specs.Internal.Reading.{or_all, or_condition, register_of, rule_of, run_number_at, shown_location, shown_place, shown_words_at}
+unfoldable pub use Rattle.cert_forest.specs.Internal.Reading.{access_at, access_of, after_set_at, ascending_at, bound_runs_at, certificate_at, cost_at, cover_at, cover_line_at, cycle_at, gap_at}
 unfoldable pub use Rattle.cert_forest.specs.Internal.Reading.{gap_line_at, head_at, header_at, kind_at, known_at, label_word_at, order_head_at, place_word_at, run_at, run_labels_at, runs_at, set_at}
-unfoldable pub use Rattle.cert_forest.specs.Internal.Reading.{shown_at, shown_line_at, source_head_at, split_at, three_at, value_head_at, version_at}
+unfoldable pub use Rattle.cert_forest.specs.Internal.Reading.{front_at, shown_line_at, source_head_at, split_at, three_at, value_head_at, version_at, word_line_at}
 pub use Rattle.cert_forest.specs.Laws.{NoTextBeginsAnother, OneCertificate, OneText, TheExamplesAreCertificates, either, observed_tree}
-pub use Rattle.cert_forest.specs.Limits.{AreRuns, AreShownPlaces, HasNumbers, HaveGapNumbers, HaveNumbers, IsAccessId, IsCertificate, IsCoverTo, IsGapTo, IsWithin, IsWrittenRun, cover_depth}
+pub use Rattle.cert_forest.specs.Limits.{AreBoundRuns, AreRuns, AreShownPlaces, HasNumbers, HaveGapNumbers, HaveNumbers, IsAccessId, IsCertificate, IsCoverTo, IsGapTo, IsWithin, IsWrittenRun, cover_depth}
 pub use Rattle.cert_forest.specs.Limits.{covers_depth, gap_depth, gaps_depth}
-pub use Rattle.cert_forest.specs.Texts.{access_word, certificate_text, cover_words, covers_words, gap_words, gaps_words, head_lines, kind_word, labels_line, location_word, place_word, register_word}
-pub use Rattle.cert_forest.specs.Texts.{runs_lines}
+pub use Rattle.cert_forest.specs.Texts.{access_word, bound_words, certificate_text, cover_words, covers_words, gap_words, gaps_words, head_lines, kind_word, labels_line, location_word, place_word, register_word}
+pub use Rattle.cert_forest.specs.Texts.{runs_lines, shown_line}
 pub use Rattle.cert_forest.specs.declared.shows.Shows.{Shows}
+pub use Rattle.cert_forest.specs.declared.version.Version.{Version}

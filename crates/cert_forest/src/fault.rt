@@ -9,8 +9,8 @@ use thiserror::Error;
 /// Why bytes are no certificate's text: the first fault from left to right. A place is a byte's offset, from 0.
 #[derive(Clone, Copy, Debug, Error)]
 pub enum CertFault {
-    /// The first line can't become `FENCECERT 1` or `FENCECERT 2`.
-    #[error("the first line is neither `FENCECERT 1` nor `FENCECERT 2`")]
+    /// The first line can't become `FENCECERT 1`, `FENCECERT 2` or `FENCECERT 4`.
+    #[error("the first line is neither `FENCECERT 1` nor `FENCECERT 2` nor `FENCECERT 4`")]
     Header,
     /// The token or the separator at this byte offset, from 0, can't stand there, or is no token. A gap, or a register or
     /// location that is shown, can't stand after one that isn't less.
@@ -22,9 +22,9 @@ pub enum CertFault {
     /// The node that begins at this byte offset, from 0, is deeper than its tree may be.
     #[error("the node at byte {0} is deeper than its tree may be")]
     TooDeep(usize),
-    /// A count of children or events past `MAX_COUNT` of `cert_words`, or one label more than that in a run, at this
+    /// A count of children, events or a bound's runs past `MAX_COUNT` of `cert_words`, or one label more than that in a run, at this
     /// byte offset, from 0.
-    #[error("at byte {0} there are more children, accesses or labels than there may be")]
+    #[error("at byte {0} there are more children, accesses, runs or labels than there may be")]
     TooMany(usize),
     /// The bytes end where more are needed, and some certificate's text goes on after them, as far as single tokens
     /// show.

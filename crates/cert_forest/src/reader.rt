@@ -19,6 +19,7 @@ use crate::fault::{CertFault, fault_of};
 use crate::gap_tree::gap_line;
 use crate::runs::runs;
 use crate::shown::head;
+use cert_trees::Rule;
 use cert_words::{
     Stop, WordRefusal, Wrong, begins_word, can_become, end, name, number, refused,
     refused_unless_cut,
@@ -128,8 +129,8 @@ fn first_certificate(alloc: Global, bytes: &[u8]) -> Result<(Certificate, &[u8])
     ensures { GivesUnless stops_for_memory (λ x. (x.0, x.1.now)) result (certificate_at bytes.now) }
 {
     match head(bytes) {
-        Ok((shown, rest)) => match set_line(rest) {
-            Ok((set, rest)) => after_set(alloc, shown, set, rest),
+        Ok((rule, shown, rest)) => match set_line(rest) {
+            Ok((set, rest)) => after_set(alloc, rule, shown, set, rest),
             Err(refusal) => Err(Stop::Refused(refusal)),
         },
         Err(refusal) => Err(Stop::Refused(refusal)),
@@ -140,19 +141,21 @@ fn first_certificate(alloc: Global, bytes: &[u8]) -> Result<(Certificate, &[u8])
 #[tactic(auto, unfolding(crate::specs::Internal::Reading::after_set_at))]
 fn after_set(
     alloc: Global,
+    rule: Rule,
     shown: Shows,
     set: GapSet,
     bytes: &[u8],
 ) -> Result<(Certificate, &[u8]), Stop>
-    ensures { GivesUnless stops_for_memory (λ x. (x.0, x.1.now)) result (after_set_at shown set bytes.now) }
+    ensures { GivesUnless stops_for_memory (λ x. (x.0, x.1.now)) result (after_set_at rule shown set bytes.now) }
 {
     let (cost, rest) = cost(bytes)?;
     let (seq_runs, rest) = runs(alloc, b"seq", rest)?;
     let (seq_tree, rest) = cover_line(alloc, b"tree", rest)?;
     let (runs, rest) = runs(alloc, b"runs", rest)?;
     let (fenced_tree, rest) = cover_line(alloc, b"fenced", rest)?;
-    let (gap_tree, rest) = gap_line(alloc, rest)?;
+    let (gap_tree, rest) = gap_line(alloc, rule, rest)?;
     let certificate = Certificate {
+        rule,
         shown,
         set,
         cost,

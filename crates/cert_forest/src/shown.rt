@@ -4,10 +4,13 @@ ghost use Rattle.std.specs.Prelude.{◌≡◌, ◌<◌, IfOk, IfSome};
 ghost use Rattle.std.specs.FinSet as set;
 ghost use Rattle.tso_program.specs.declared.shown.TheConstants.{PLACES};
 ghost use Rattle.text_tokens.specs.Steps.{Gives};
-ghost use Rattle.cert_forest.specs.Internal.Reading.{digit_of, shown_location, register_of, shown_place, place_word_at, ascending_at, shown_line_at, condition_line_at, version_at, header_at, shown_at};
+ghost use Rattle.cert_forest.specs.Internal.Reading.{digit_of, shown_location, register_of, shown_place, place_word_at, ascending_at, shown_line_at, word_line_at, or_condition, shown_words_at, front_at};
+ghost use Rattle.cert_forest.specs.declared.version.Version.TheVariants.{Fourth};
 
 use crate::Shows;
 use crate::access::stop_len;
+use crate::version::{Version, header, rule_of};
+use cert_trees::Rule;
 use cert_words::{
     WordRefusal, Wrong, begins_word, end, name, refused, refused_unless_cut, refused_word, word,
 };
@@ -16,6 +19,8 @@ use tso_program::{MAX_LOCATIONS, MAX_THREADS, Names, PLACES, REGISTER_PLACES, RE
 
 /// What stands in place of names where a condition's truth is shown.
 const CONDITION: &[u8; 9] = b"condition";
+/// What stands in place of names where all is shown.
+const ALL: &[u8; 3] = b"all";
 /// How many registers and locations can be named.
 const MAX_PLACES: u8 = PLACES as u8;
 /// How many registers can be named: their places come before those of locations.
@@ -201,88 +206,82 @@ fn shown_line(bytes: &[u8]) -> Result<(Names, &[u8]), WordRefusal>
     }
 }
 
-/// The line `shown condition`.
-#[tactic(auto, unfolding(crate::specs::Internal::Reading::condition_line_at))]
-fn condition_line(bytes: &[u8]) -> Result<&[u8], WordRefusal>
-    ensures { Gives (λ x. x.now) result (condition_line_at bytes.now) }
+/// The line `shown` with this word.
+#[tactic(auto, unfolding(crate::specs::Internal::Reading::word_line_at))]
+fn word_line<'t>(said: &[u8], bytes: &'t [u8]) -> Result<&'t [u8], WordRefusal>
+    ensures { Gives (λ x. x.now) result (word_line_at said.now bytes.now) }
 {
     let text = name(b"shown", bytes)?;
     let (word, rest) = word(text)?;
-    if word == CONDITION.as_slice() {
+    if word == said {
         let rest = end(rest)?;
         Ok(rest)
     } else {
-        Err(refused_unless_cut(Wrong::Token, CONDITION.starts_with(word), text, rest))
+        Err(refused_unless_cut(Wrong::Token, said.starts_with(word), text, rest))
     }
 }
 
-/// Whether the line goes on like `shown condition`.
-fn is_condition_begun(bytes: &[u8]) -> bool {
+/// Whether the line goes on like `shown` and a word that begins with this letter.
+fn is_begun(letter: u8, bytes: &[u8]) -> bool {
     match bytes {
-        [b's', b'h', b'o', b'w', b'n', b' ', b'c', ..] => true,
+        [b's', b'h', b'o', b'w', b'n', b' ', first, ..] => *first == letter,
         _ => false,
     }
 }
 
-/// The second word of the first line: whether a line of what is shown follows.
-#[tactic(auto, unfolding(crate::specs::Internal::Reading::version_at))]
-fn version(bytes: &[u8]) -> Result<(bool, &[u8]), WordRefusal>
-    ensures { Gives (λ x. (x.0, x.1.now)) result (version_at bytes.now) }
+/// The line of names, or else `shown condition`.
+fn names_or_condition(bytes: &[u8]) -> Result<(Shows, &[u8]), WordRefusal>
+    ensures { Gives (λ x. (x.0, x.1.now)) result (or_condition (shown_line_at bytes.now) bytes.now) }
 {
-    let (word, rest) = word(bytes)?;
-    if word == b"1".as_slice() {
-        Ok((false, rest))
-    } else if word == b"2".as_slice() {
-        Ok((true, rest))
-    } else {
-        Err(refused_unless_cut(Wrong::Token, word.is_empty(), bytes, rest))
-    }
-}
-
-#[tactic(auto, unfolding(crate::specs::Internal::Reading::header_at))]
-fn first_line(bytes: &[u8]) -> Result<(bool, &[u8]), WordRefusal>
-    ensures { Gives (λ x. (x.0, x.1.now)) result (header_at bytes.now) }
-{
-    let rest = name(b"FENCECERT", bytes)?;
-    let (is_second, rest) = version(rest)?;
-    let rest = end(rest)?;
-    Ok((is_second, rest))
-}
-
-/// The first line, which says what the text is.
-fn header(bytes: &[u8]) -> Result<(bool, &[u8]), WordRefusal>
-    ensures { Gives (λ x. (x.0, x.1.now)) result (header_at bytes.now) }
-{
-    match first_line(bytes) {
-        Ok((is_second, rest)) => Ok((is_second, rest)),
-        Err(refusal) => {
-            if refusal.wrong == Wrong::Ended {
-                Err(refusal)
-            } else {
-                Err(refused(Wrong::Header, 0))
-            }
-        }
-    }
-}
-
-/// What is shown, by the first line and in the second version the next one.
-#[tactic(auto, unfolding(crate::specs::Internal::Reading::shown_at))]
-pub(crate) fn head(bytes: &[u8]) -> Result<(Shows, &[u8]), WordRefusal>
-    ensures { Gives (λ x. (x.0, x.1.now)) result (shown_at bytes.now) }
-{
-    let (is_second, rest) = header(bytes)?;
-    if !is_second {
-        return Ok((Shows::All, rest));
-    }
-    match shown_line(rest) {
+    match shown_line(bytes) {
         Ok((names, rest)) => Ok((Shows::Only(names), rest)),
-        Err(refusal) => match condition_line(rest) {
+        Err(refusal) => match word_line(CONDITION, bytes) {
             Ok(rest) => Ok((Shows::Condition, rest)),
-            Err(other) => Err(if is_condition_begun(rest) {
+            Err(other) => Err(if is_begun(b'c', bytes) {
                 other
             } else {
                 refusal
             }),
         },
+    }
+}
+
+/// The line of names, or else `shown condition` or `shown all`.
+fn any_line(bytes: &[u8]) -> Result<(Shows, &[u8]), WordRefusal>
+    ensures { Gives (λ x. (x.0, x.1.now)) result (shown_words_at Fourth bytes.now) }
+{
+    match names_or_condition(bytes) {
+        Ok((shown, rest)) => Ok((shown, rest)),
+        Err(refusal) => match word_line(ALL, bytes) {
+            Ok(rest) => Ok((Shows::All, rest)),
+            Err(other) => Err(if is_begun(b'a', bytes) {
+                other
+            } else {
+                refusal
+            }),
+        },
+    }
+}
+
+/// What is shown: in the first version all, and in the others what a line says.
+fn shown(version: Version, bytes: &[u8]) -> Result<(Shows, &[u8]), WordRefusal>
+    ensures { Gives (λ x. (x.0, x.1.now)) result (shown_words_at version bytes.now) }
+{
+    match version {
+        Version::First => Ok((Shows::All, bytes)),
+        Version::Second => names_or_condition(bytes),
+        Version::Fourth => any_line(bytes),
+    }
+}
+
+/// The rule of the version that the first line says, and what is shown.
+#[tactic(auto, unfolding(crate::specs::Internal::Reading::front_at))]
+pub(crate) fn head(bytes: &[u8]) -> Result<(Rule, Shows, &[u8]), WordRefusal>
+    ensures { Gives (λ x. ((x.0, x.1), x.2.now)) result (front_at bytes.now) }
+{
+    let (version, rest) = header(bytes)?;
+    match shown(version, rest) {
+        Ok((shown, rest)) => Ok((rule_of(version), shown, rest)),
+        Err(refusal) => Err(refusal),
     }
 }

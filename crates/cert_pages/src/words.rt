@@ -7,11 +7,11 @@ ghost use Rattle.std.specs.Fmt.{decimal};
 ghost use Rattle.gap_sets.specs.Gaps.{numbers_of_set};
 ghost use Rattle.tso_machine.specs.RunTexts.{spelling};
 ghost use Rattle.cert_words.specs.Lines.{texts_of, spaced, line};
-ghost use Rattle.cert_forest.specs.Texts.{register_word, location_word, place_word, head_lines, access_word, kind_word, labels_line};
-ghost use Rattle.cert_pages.specs.NodeWords.{node_words, gap_node_words};
+ghost use Rattle.cert_forest.specs.Texts.{register_word, location_word, place_word, shown_line, head_lines, access_word, kind_word, labels_line};
+ghost use Rattle.cert_pages.specs.NodeWords.{node_words, gap_node_words, early_node_words};
 
 use candidate_executions::Kind;
-use cert_forest::{AccessId, CoverNode, Events, GapNode, Shows};
+use cert_forest::{AccessId, CoverNode, Events, GapNode, Rule, Shows};
 use gap_sets::GapSet;
 use itoa::Buffer;
 use std::alloc::AllocError;
@@ -194,16 +194,66 @@ pub(crate) fn push_node(out: &mut Vec<u8>, node: CoverNode<'_>) -> Result<(), Al
     }
 }
 
+fn push_split(out: &mut Vec<u8>, run: u64, count: u32) -> Result<(), AllocError>
+    ensures { OnOk result (out.new.items ≡ out.old.items ++ texts_of spaced (codes "P" ∷ (decimal run ∷ (decimal count ∷ [])))) }
+{
+    push_letter(out, b'P')?;
+    push_number(out, run)?;
+    push_number(out, u64::from(count))
+}
+
+/// The words of a node in the first two versions, which name no runs.
 pub(crate) fn push_gap_node(out: &mut Vec<u8>, node: GapNode) -> Result<(), AllocError>
     ensures { OnOk result (out.new.items ≡ out.old.items ++ texts_of spaced (gap_node_words node)) }
 {
     match node {
-        GapNode::Split { count, run } => {
-            push_letter(out, b'P')?;
-            push_number(out, run)?;
-            push_number(out, u64::from(count))
-        }
+        GapNode::Split { count, run } => push_split(out, run, count),
+        GapNode::By { .. } => Ok(()),
         GapNode::Bound => push_letter(out, b'B'),
+    }
+}
+
+/// A bound's letter, how many runs it names, and the first of them.
+fn push_first_run(out: &mut Vec<u8>, runs: usize, run: u64) -> Result<(), AllocError>
+    ensures { OnOk result (out.new.items ≡ out.old.items ++ texts_of spaced (codes "B" ∷ (decimal runs ∷ (decimal run ∷ [])))) }
+{
+    push_letter(out, b'B')?;
+    push_len(out, runs)?;
+    push_number(out, run)
+}
+
+/// A bound without runs.
+fn push_bare_bound(out: &mut Vec<u8>) -> Result<(), AllocError>
+    ensures { OnOk result (out.new.items ≡ out.old.items ++ texts_of spaced (codes "B" ∷ (decimal 0 ∷ []))) }
+{
+    push_letter(out, b'B')?;
+    push_number(out, 0)
+}
+
+/// The words of a node in the fourth version, where the first tree names so many runs. Inside a bound its letter and
+/// the number of its runs are written.
+pub(crate) fn push_early_node(
+    out: &mut Vec<u8>,
+    inside: bool,
+    runs: usize,
+    node: GapNode,
+) -> Result<(), AllocError>
+    ensures { OnOk result (out.new.items ≡ out.old.items ++ texts_of spaced (early_node_words inside runs node)) }
+{
+    match node {
+        GapNode::Split { count, run } => push_split(out, run, count),
+        GapNode::By { run } => {
+            if inside {
+                return push_number(out, run);
+            }
+            push_first_run(out, runs, run)
+        }
+        GapNode::Bound => {
+            if inside {
+                return Ok(());
+            }
+            push_bare_bound(out)
+        }
     }
 }
 
@@ -290,9 +340,19 @@ fn push_places(out: &mut Vec<u8>, names: &Names) -> Result<(), AllocError>
     Ok(())
 }
 
-/// The line that says what the text is, and that of what is shown, where not all is.
-pub(crate) fn push_head(out: &mut Vec<u8>, shown: &Shows) -> Result<(), AllocError>
-    ensures { OnOk result (out.new.items ≡ out.old.items ++ head_lines shown.now) }
+/// The line that says what the text is, and that of what is shown, where the version has one.
+pub(crate) fn push_head(out: &mut Vec<u8>, rule: Rule, shown: &Shows) -> Result<(), AllocError>
+    ensures { OnOk result (out.new.items ≡ out.old.items ++ head_lines rule shown.now) }
+{
+    match rule {
+        Rule::Whole => push_whole_head(out, shown),
+        Rule::Early => push_early_head(out, shown),
+    }
+}
+
+/// The first line, or the first two lines, of the first two versions.
+fn push_whole_head(out: &mut Vec<u8>, shown: &Shows) -> Result<(), AllocError>
+    ensures { OnOk result (out.new.items ≡ out.old.items ++ head_lines Rule.Whole shown.now) }
 {
     match shown {
         Shows::All => out.extend_from_slice(b"FENCECERT 1\n"),
@@ -303,10 +363,28 @@ pub(crate) fn push_head(out: &mut Vec<u8>, shown: &Shows) -> Result<(), AllocErr
 
 /// The two lines of the second version.
 fn push_second(out: &mut Vec<u8>, names: &Names) -> Result<(), AllocError>
-    ensures { OnOk result (out.new.items ≡ out.old.items ++ head_lines (Shows.Only names.now)) }
+    ensures { OnOk result (out.new.items ≡ out.old.items ++ head_lines Rule.Whole (Shows.Only names.now)) }
 {
     out.extend_from_slice(b"FENCECERT 2\n")?;
     push_shown(out, names)
+}
+
+/// The two lines of the fourth version.
+fn push_early_head(out: &mut Vec<u8>, shown: &Shows) -> Result<(), AllocError>
+    ensures { OnOk result (out.new.items ≡ out.old.items ++ head_lines Rule.Early shown.now) }
+{
+    out.extend_from_slice(b"FENCECERT 4\n")?;
+    push_shown_line(out, shown)
+}
+
+fn push_shown_line(out: &mut Vec<u8>, shown: &Shows) -> Result<(), AllocError>
+    ensures { OnOk result (out.new.items ≡ out.old.items ++ shown_line shown.now) }
+{
+    match shown {
+        Shows::All => out.extend_from_slice(b"shown all\n"),
+        Shows::Only(names) => push_shown(out, names),
+        Shows::Condition => out.extend_from_slice(b"shown condition\n"),
+    }
 }
 
 fn push_shown(out: &mut Vec<u8>, names: &Names) -> Result<(), AllocError>

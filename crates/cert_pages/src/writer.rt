@@ -6,13 +6,15 @@ ghost use Rattle.std.specs.Fmt.{decimal};
 ghost use Rattle.gap_sets.specs.Gaps.{numbers_of_set};
 ghost use Rattle.cert_words.specs.Lines.{texts_of, spaced, line};
 ghost use Rattle.cert_forest.specs.Texts.{head_lines, cover_words, gap_words, labels_line, runs_lines, certificate_text};
-ghost use Rattle.cert_pages.specs.NodeWords.{node_words, gap_node_words};
+ghost use Rattle.cert_pages.specs.NodeWords.{node_words, gap_node_words, early_node_words};
 ghost use Rattle.cert_pages.specs.Drafts.{draft_text};
 
 use crate::draft::Draft;
 use crate::parts::pages_ahead;
-use crate::words::{push_gap_node, push_head, push_len, push_node, push_run, push_set};
-use cert_forest::{Certificate, CoverNode, CoverTree, GapNode, GapTree, Runs, Shows};
+use crate::words::{
+    push_early_node, push_gap_node, push_head, push_len, push_node, push_run, push_set,
+};
+use cert_forest::{Certificate, CoverNode, CoverTree, GapNode, GapTree, Rule, Runs, Shows};
 use gap_sets::GapSet;
 use paged_text::Pages;
 use std::alloc::{AllocError, Global};
@@ -46,15 +48,52 @@ fn write_gap_node(out: &mut Draft, node: GapNode) -> Result<(), AllocError>
     out.turn()
 }
 
-/// The words of a tree, node by node: it does not recurse.
-fn write_gap(out: &mut Draft, tree: &GapTree) -> Result<(), AllocError>
-    ensures { OnOk result (draft_text out.new ≡ draft_text out.old ++ texts_of spaced (gap_words tree.now)) }
+/// The words of a tree in the first two versions, node by node: it does not recurse.
+fn write_whole_gap(out: &mut Draft, tree: &GapTree) -> Result<(), AllocError>
+    ensures { OnOk result (draft_text out.new ≡ draft_text out.old ++ texts_of spaced (gap_words Rule.Whole tree.now)) }
 {
     let mut walk = tree.walk();
     while !walk.is_done() {
         write_gap_node(out, walk.next_node())?;
     }
     Ok(())
+}
+
+fn write_early_node(
+    out: &mut Draft,
+    inside: bool,
+    runs: usize,
+    node: GapNode,
+) -> Result<(), AllocError>
+    ensures { OnOk result (draft_text out.new ≡ draft_text out.old ++ texts_of spaced (early_node_words inside runs node)) }
+{
+    push_early_node(&mut out.page, inside, runs, node)?;
+    out.turn()
+}
+
+/// The words of a tree in the fourth version, node by node: it does not recurse.
+fn write_early_gap(out: &mut Draft, tree: &GapTree) -> Result<(), AllocError>
+    ensures { OnOk result (draft_text out.new ≡ draft_text out.old ++ texts_of spaced (gap_words Rule.Early tree.now)) }
+{
+    let mut walk = tree.walk();
+    let mut inside = false;
+    while !walk.is_done() {
+        let runs = walk.bound_len();
+        let node = walk.next_node();
+        write_early_node(out, inside, runs, node)?;
+        inside = node.is_run();
+    }
+    Ok(())
+}
+
+/// The words of a tree.
+fn write_gap(out: &mut Draft, rule: Rule, tree: &GapTree) -> Result<(), AllocError>
+    ensures { OnOk result (draft_text out.new ≡ draft_text out.old ++ texts_of spaced (gap_words rule tree.now)) }
+{
+    match rule {
+        Rule::Whole => write_whole_gap(out, tree),
+        Rule::Early => write_early_gap(out, tree),
+    }
 }
 
 fn write_run(out: &mut Draft, labels: &[Label]) -> Result<(), AllocError>
@@ -100,34 +139,35 @@ fn write_set(out: &mut Draft, set: GapSet, cost: u64) -> Result<(), AllocError>
     out.turn()
 }
 
-fn write_gap_line(out: &mut Draft, tree: &GapTree) -> Result<(), AllocError>
-    ensures { OnOk result (draft_text out.new ≡ draft_text out.old ++ line (codes "gaps") (gap_words tree.now)) }
+fn write_gap_line(out: &mut Draft, rule: Rule, tree: &GapTree) -> Result<(), AllocError>
+    ensures { OnOk result (draft_text out.new ≡ draft_text out.old ++ line (codes "gaps") (gap_words rule tree.now)) }
 {
     out.push(b"gaps")?;
-    write_gap(out, tree)?;
+    write_gap(out, rule, tree)?;
     out.push(b"\n")
 }
 
-/// The line that says what the text is, and that of what is shown, where not all is.
-fn write_head(out: &mut Draft, shown: &Shows) -> Result<(), AllocError>
-    ensures { OnOk result (draft_text out.new ≡ draft_text out.old ++ head_lines shown.now) }
+/// The line that says what the text is, and that of what is shown, where the version has one.
+fn write_head(out: &mut Draft, rule: Rule, shown: &Shows) -> Result<(), AllocError>
+    ensures { OnOk result (draft_text out.new ≡ draft_text out.old ++ head_lines rule shown.now) }
 {
-    push_head(&mut out.page, shown)?;
+    push_head(&mut out.page, rule, shown)?;
     out.turn()
 }
 
 /// The lines before that of the first tree. The runs are let go.
 fn write_front(
     out: &mut Draft,
+    rule: Rule,
     shown: &Shows,
     set: GapSet,
     cost: u64,
     seq_runs: Arc<Runs>,
 ) -> Result<(), AllocError>
     ensures { OnOk result (draft_text out.new
-        ≡ draft_text out.old ++ (head_lines shown.now ++ (line (codes "set") (map decimal (numbers_of_set set)) ++ (line (codes "cost") (decimal cost ∷ []) ++ runs_lines (codes "seq") (arc_value seq_runs))))) }
+        ≡ draft_text out.old ++ (head_lines rule shown.now ++ (line (codes "set") (map decimal (numbers_of_set set)) ++ (line (codes "cost") (decimal cost ∷ []) ++ runs_lines (codes "seq") (arc_value seq_runs))))) }
 {
-    write_head(out, shown)?;
+    write_head(out, rule, shown)?;
     write_set(out, set, cost)?;
     write_runs(out, b"seq", &seq_runs)
 }
@@ -178,6 +218,7 @@ fn write_alone(out: &mut Draft, certificate: Certificate) -> Result<(), AllocErr
     ensures { OnOk result (draft_text out.new ≡ draft_text out.old ++ certificate_text certificate) }
 {
     let Certificate {
+        rule,
         shown,
         set,
         cost,
@@ -187,12 +228,12 @@ fn write_alone(out: &mut Draft, certificate: Certificate) -> Result<(), AllocErr
         fenced_tree,
         gap_tree,
     } = certificate;
-    write_front(out, &shown, set, cost, seq_runs)?;
+    write_front(out, rule, &shown, set, cost, seq_runs)?;
     write_cover_line(out, b"tree", seq_tree)?;
     write_runs(out, b"runs", &runs)?;
     drop(runs);
     write_cover_line(out, b"fenced", fenced_tree)?;
-    write_gap_line(out, &gap_tree)
+    write_gap_line(out, rule, &gap_tree)
 }
 
 /// Writes the certificate. Threads write its long trees. Its runs and its trees are let go, each once it is written.
@@ -206,6 +247,7 @@ fn write_shared<R: Threads + Sync>(
     ensures { OnOk result (draft_text out.new ≡ draft_text out.old ++ certificate_text certificate) }
 {
     let Certificate {
+        rule,
         shown,
         set,
         cost,
@@ -215,12 +257,12 @@ fn write_shared<R: Threads + Sync>(
         fenced_tree,
         gap_tree,
     } = certificate;
-    write_front(out, &shown, set, cost, seq_runs)?;
+    write_front(out, rule, &shown, set, cost, seq_runs)?;
     write_shared_line(rt, out, threads, b"tree", seq_tree)?;
     write_runs(out, b"runs", &runs)?;
     drop(runs);
     write_shared_line(rt, out, threads, b"fenced", fenced_tree)?;
-    write_gap_line(out, &gap_tree)
+    write_gap_line(out, rule, &gap_tree)
 }
 
 /// The certificate's text, beyond the limits of what is read too: `read_cert` reads the text of a certificate within

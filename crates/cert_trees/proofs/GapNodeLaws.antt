@@ -1,6 +1,6 @@
 -- Nodes give back the gap trees that they spell.
 use Rattle.cert_trees.proofs.Vocabulary.{◌≡◌, ℕ, suc, ◌<◌, ◌≤◌, List, [], ◌∷◌, ◌++◌, length, take, drop, refl, ap, sym, ◌∙◌, subst, append_assoc, arith, length-append, GapNode, Gap, Split, Bound, GapTrees, NoGap, MoreGaps, gap_trees_of, gap_list, count_gaps}
-use Rattle.cert_trees.proofs.Vocabulary.{gap_root_of, gap_children_of, IsNextGap, spell_gap, spell_gap_row, spell_gaps, gap_before, gap_trees_in, first_gap, gap_tree_of, IsGapTree, AreGapTrees}
+use Rattle.cert_trees.proofs.Vocabulary.{runs_first, bound_len, gap_root_of, gap_children_of, IsNextGap, spell_gap, spell_gap_row, spell_gaps, bound_nodes, bounded_by, gap_before, gap_trees_in, first_gap, gap_tree_of, IsGapTree, AreGapTrees}
 use Rattle.cert_trees.specs.declared.node.GapNode.TheVariants as node
 use Rattle.cert_trees.proofs.Spelled.{each_alone, each_append, GivesBack, each_again, are_spelled}
 
@@ -24,12 +24,16 @@ gaps_count (t ∷ ts) = ap suc (gaps_count ts)
 
 -- ---- trees
 
+bound_first : (runs : List ℕ) (xs : List GapNode) → gap_trees_in (bound_nodes runs ++ xs) ≡ Bound runs ∷ gap_trees_in xs
+bound_first [] xs = refl
+bound_first (run ∷ runs) xs = ap (bounded_by run) (bound_first runs xs)
+
 mutual
   pub gap_first : (t : Gap) (xs : List GapNode) → gap_trees_in (spell_gap t ++ xs) ≡ t ∷ gap_trees_in xs
   gap_first (Split run ts) xs =
       ap (gap_before (node.Split (count_gaps ts) run)) (row_first ts xs)
       ∙ (λ i. Split run (row_taken ts (gap_trees_in xs) i) ∷ row_dropped ts (gap_trees_in xs) i)
-  gap_first Bound xs = refl
+  gap_first (Bound runs) xs = bound_first runs xs
 
   pub row_first : (ts : GapTrees) (xs : List GapNode) → gap_trees_in (spell_gap_row ts ++ xs) ≡ gap_list ts ++ gap_trees_in xs
   row_first NoGap xs = refl
@@ -69,10 +73,14 @@ root_first (Split run children ∷ us) x xs e =
     let root : x ≡ node.Split (count_gaps children) run = cc in
     let others : xs ≡ spell_gap_row children ++ spell_gaps us = cc in
     (Split run children, us, refl, root, others ∙ below_row children us)
-root_first (Bound ∷ us) x xs e =
+root_first (Bound [] ∷ us) x xs e =
     let root : x ≡ node.Bound = cc in
     let others : xs ≡ spell_gaps us = cc in
-    (Bound, us, refl, root, others)
+    (Bound [], us, refl, root, others)
+root_first (Bound (run ∷ runs) ∷ us) x xs e =
+    let root : x ≡ node.By run = cc in
+    let others : xs ≡ bound_nodes runs ++ spell_gaps us = cc in
+    (Bound (run ∷ runs), us, refl, root, others)
 
 pub gap_shown : (x : GapNode) (xs : List GapNode) → AreGapTrees (x ∷ xs) → AreGapTrees xs × IsNextGap (gap_trees_in (x ∷ xs)) x (gap_trees_in xs)
 gap_shown x xs are =
@@ -82,7 +90,8 @@ gap_shown x xs are =
 
 shorter : (t : Gap) (ts : List Gap) → length (spell_gaps (gap_children_of t ++ ts)) < length (spell_gap t ++ spell_gaps ts)
 shorter (Split run children) ts = omega (arith, ap length (below_row children ts))
-shorter Bound ts = omega arith
+shorter (Bound []) ts = omega arith
+shorter (Bound (run ∷ runs)) ts = omega arith
 
 pub next_gap_is_shorter : (ts after : List Gap) (x : GapNode) → IsNextGap ts x after → length (spell_gaps after) < length (spell_gaps ts)
 next_gap_is_shorter [] after x next = absurd next
@@ -105,14 +114,48 @@ split_next (Split r cs ∷ us) run count after (is, e) =
     subst (IsSplitFirst run count (Split r cs ∷ us)) (sym e)
     (subst (λ (n : ℕ). IsSplitFirst run n (Split r cs ∷ us) (gap_list cs ++ us)) (sym many)
     (subst (λ (n : ℕ). IsSplitFirst n (count_gaps cs) (Split r cs ∷ us) (gap_list cs ++ us)) (sym same) (split_of r cs us)))
-split_next (Bound ∷ us) run count after (is, e) = absurd cc
+split_next (Bound [] ∷ us) run count after (is, e) = absurd cc
+split_next (Bound (r ∷ rs) ∷ us) run count after (is, e) = absurd cc
 
-pub bound_next : (ts : List Gap) (after : List Gap) → IsNextGap ts node.Bound after → (first_gap ts ≡ Bound) × (after ≡ drop 1 ts)
+pub bound_next : (ts : List Gap) (after : List Gap) → IsNextGap ts node.Bound after → (first_gap ts ≡ Bound []) × (after ≡ drop 1 ts)
 bound_next [] after next = absurd next
 bound_next (Split r cs ∷ us) after (is, e) = absurd cc
-bound_next (Bound ∷ us) after (is, e) = (refl, e)
+bound_next (Bound [] ∷ us) after (is, e) = (refl, e)
+bound_next (Bound (run ∷ runs) ∷ us) after (is, e) = absurd cc
+
+-- the next tree is the rest of a bound, after one of its runs
+pub record IsBoundFirst (run : ℕ) (ts after : List Gap) : Type 0 where
+  pub runs : List ℕ
+  pub first : first_gap ts ≡ Bound (run ∷ runs)
+  pub next : first_gap after ≡ Bound runs
+  pub rest : drop 1 after ≡ drop 1 ts
+  pub fits : 1 ≤ length after
+
+pub by_next : (ts : List Gap) (run : ℕ) (after : List Gap) → IsNextGap ts (node.By run) after → IsBoundFirst run ts after
+by_next [] run after next = absurd next
+by_next (Split r cs ∷ us) run after (is, e) = absurd cc
+by_next (Bound [] ∷ us) run after (is, e) = absurd cc
+by_next (Bound (r ∷ rs) ∷ us) run after (is, e) =
+    let same : run ≡ r = cc in
+    subst (IsBoundFirst run (Bound (r ∷ rs) ∷ us)) (sym e)
+    (subst (λ (n : ℕ). IsBoundFirst n (Bound (r ∷ rs) ∷ us) (Bound rs ∷ us)) (sym same) (record { runs = rs; first = refl; next = refl; rest = refl; fits = omega arith }))
 
 -- trees that were walked over
 pub gaps_no_longer : (k : ℕ) (ts : List Gap) → length (spell_gaps (drop k ts)) ≤ length (spell_gaps ts)
 gaps_no_longer (suc k) (t ∷ ts) = omega (arith, gaps_no_longer k ts, length-append (spell_gap t) (spell_gaps ts))
 gaps_no_longer k ts = omega arith
+
+-- ---- how many runs a bound names
+
+bound_runs_first : (runs : List ℕ) (xs : List GapNode) → runs_first (bound_nodes runs ++ xs) ≡ length runs
+bound_runs_first [] xs = refl
+bound_runs_first (run ∷ runs) xs = ap suc (bound_runs_first runs xs)
+
+first_runs : (ts : List Gap) → runs_first (spell_gaps ts) ≡ bound_len ts
+first_runs [] = refl
+first_runs (Split run children ∷ ts) = refl
+first_runs (Bound runs ∷ ts) = bound_runs_first runs (spell_gaps ts)
+
+-- the first tree names the runs that the nodes begin with
+pub runs_are_first : (xs : List GapNode) → AreGapTrees xs → runs_first xs ≡ bound_len (gap_trees_in xs)
+runs_are_first xs are = ap runs_first (sym are) ∙ first_runs (gap_trees_in xs)

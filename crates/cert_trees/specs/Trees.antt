@@ -20,7 +20,7 @@ mutual
 mutual
   pub data Gap : Type 0 where
     Split : ℕ → GapTrees → Gap
-    Bound : Gap
+    Bound : List ℕ → Gap
 
   pub data GapTrees : Type 0 where
     NoGap : GapTrees

@@ -1,7 +1,7 @@
 //! Walks over gap trees, node by node.
 ghost use Rattle.std.specs.Prelude.{◌≡◌, ◌↔◌, [], ◌<◌, IsTrue, length};
-ghost use Rattle.cert_trees.specs.GapNodes.{spell_gaps, AreGapTrees};
-ghost use Rattle.cert_trees.specs.Walks.{IsNextGap};
+ghost use Rattle.cert_trees.specs.GapNodes.{spell_gaps, runs_first, AreGapTrees};
+ghost use Rattle.cert_trees.specs.Walks.{IsNextGap, bound_len};
 
 use crate::node::GapNode;
 use std::marker::Model;
@@ -44,6 +44,13 @@ impl<'a> GapWalk<'a> {
         self.left.is_empty()
     }
 
+    /// How many runs the first tree names, where it is a bound.
+    pub fn bound_len(&self) -> usize
+        ensures { result ≡ bound_len self.now }
+    {
+        runs_first(self.left)
+    }
+
     /// The root of the first tree, whose children are then the first trees.
     pub fn next_node(&mut self) -> GapNode
         requires { 0 < length self.old }
@@ -57,4 +64,20 @@ impl<'a> GapWalk<'a> {
             None => unreachable!(),
         }
     }
+}
+
+/// With how many runs of a bound these nodes begin.
+fn runs_first(nodes: &[GapNode]) -> usize
+    ensures { result ≡ runs_first nodes.now }
+{
+    let mut count = 0;
+    let mut left = nodes;
+    while let Some((node, others)) = left.split_first() {
+        if !node.is_run() {
+            return count;
+        }
+        count += 1;
+        left = others;
+    }
+    count
 }

@@ -13,6 +13,7 @@ mod events;
 mod gap_walk;
 mod laws;
 mod node;
+mod rule;
 mod tree;
 mod walk;
 
@@ -20,5 +21,6 @@ pub use events::Events;
 pub use gap_walk::GapWalk;
 pub use laws::nodes_spell_one_tree;
 pub use node::{GapNode, NEAR_RUNS, Node, push_cycle, push_known, take_out};
+pub use rule::Rule;
 pub use tree::{AccessId, CoverTree, GapTree, MAX_COVER_DEPTH, MAX_GAP_DEPTH};
 pub use walk::{CoverNode, Walk};

@@ -2,6 +2,7 @@
 ghost use Rattle.std.specs.Prelude.{◌≡◌, ◌≤◌, ◌∷◌, [], ◌++◌, OnOk, length};
 ghost use Rattle.std.specs.List.{remove_range};
 ghost use Rattle.cert_trees.specs.Nodes.{cycle_nodes, spell};
+ghost use Rattle.cert_trees.specs.GapNodes.{is_run};
 ghost use Rattle.cert_trees.specs.Trees.{Cycle, Known};
 
 use crate::tree::AccessId;
@@ -72,11 +73,23 @@ pub enum GapNode {
     /// So many children follow. The foreign run with this number, from 0, passes no gap that the region's sets must have: there
     /// is a child for each gap that it passes and that the sets may have.
     Split { count: u32, run: u64 },
-    /// What the region's sets must have is not better than the certificate's set.
+    /// A run of a bound, with this number from 0. The other runs of the bound follow, and then `Bound`.
+    By { run: u64 },
+    /// The foreign runs before it bound the region: what its sets must have, with the cheapest gap of each that they may have, is
+    /// not better than the certificate's set.
     Bound,
 }
 
 const _: () = prove!(size_of::<GapNode>() == 16);
+
+impl GapNode {
+    /// Whether it is a run of a bound.
+    pub fn is_run(self) -> bool
+        ensures { result ≡ is_run self }
+    {
+        matches!(self, GapNode::By { .. })
+    }
+}
 
 /// Puts the nodes of a run's number after the others.
 pub fn push_known(nodes: &mut Vec<Node>, run: u64) -> Result<(), AllocError>

@@ -19,18 +19,20 @@ pub use Rattle.cert_forest.specs.Trees.{Cover, Covers, Cycle, Known, MoreCovers,
 pub use Rattle.program_sketches.specs.Choices.{HasSource, IsRead}
 pub use Rattle.program_sketches.specs.ProgramSketches.{ProgramSketch, mode_in, with_chosen}
 pub use Rattle.rowless_sketches.specs.RowlessSketches.{AreSources, IsFree, IsValueMarkOf, LacksSource}
-pub use Rattle.tree_laws.proofs.OneList.{one_list_of_choices}
-pub use Rattle.tree_laws.specs.CoverTrees.{AfterChoices, AreChoices, AreTwo, AreValidCovers, HasNextValues, HasNoOrder, HasSources, IsValidCover, MustEndAsNumber, event_of, sketch_with}
+pub use Rattle.tree_laws.proofs.OneList.{one_list_of_choices_by}
+pub use Rattle.tree_laws.specs.CoverTrees.{AfterChoicesBy, AllowsOrder, AllowsSource, AreChoicesBy, AreSourceChoicesBy, AreTwo, AreValidCoversBy, AreValueChoicesBy, HasNextValues, HasNoOrder, HasNoOrderBy, HasSources, HasSourcesBy, IsValidCoverBy}
+pub use Rattle.tree_laws.specs.CoverTrees.{MustEndAsNumber, event_of, sketch_with}
 pub use Rattle.tree_laws.specs.declared.choice.Choice.{Choice}
 pub use Rattle.tree_laws.specs.declared.choice.OpenChoice.{OpenChoice}
+pub use Rattle.tree_laws.specs.Rule.{Rule, TheVariants.Whole}
 pub use Rattle.tso_program.specs.Shown.{asked}
 pub use Rattle.tso_program.specs.declared.question.Question.{Question}
 pub use Rattle.tso_program.specs.declared.listing.Listing.{Listing}
 pub use Rattle.tso_program.specs.declared.outcome.Outcome.{Outcome}
 pub use Rattle.tso_program.specs.declared.shown.Shown.{Shown}
-pub use Rattle.cover_judge.specs.ChoiceLists.{choices_in}
+pub use Rattle.cover_judge.specs.ChoiceLists.{AreFreeSources, choices_in}
 pub use Rattle.cover_judge.specs.ChoiceMarks.{IsChoiceMarkOf}
-pub use Rattle.cover_judge.specs.Choices.{AreChoicesOf, AreSourceChoices, AreValueChoices, IsSourceOpen, IsValueOpen, MayChoose, MayChooseEach}
+pub use Rattle.cover_judge.specs.Choices.{AreChoicesOfBy, AreSourceChoices, AreValueChoices, CanChoose, CanChooseEach, IsSourceOpen, IsValueOpen, MayChoose, MayChooseEach}
 pub use Rattle.cover_judge.specs.CoverDefects.{FirstWrongCover, FirstWrongCoverChild, FirstWrongOfTwo, HasNotSoMany, IsWrongNode}
 pub use Rattle.cover_judge.specs.Judged.{AreValidAfter, AreValidFor, IfWrong, IsAtRoot, IsBelow, IsFrom, IsValidAfter, IsWrongAt, IsWrongChild, IsWrongFor}
 pub use Rattle.cover_judge.specs.declared.fault.NodeFault.{NodeFault, TheVariants.OutOfMemory, TheVariants.Wrong}

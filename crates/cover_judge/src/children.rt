@@ -1,7 +1,7 @@
 //! The children of nodes in cover trees, each judged at the sketch after its choice, which is taken back.
 ghost use Rattle.std.specs.Prelude.{◌≡◌, ◌<◌, ◌≤◌, OnOk, IfErr, length, take, drop};
 ghost use Rattle.cert_forest.specs.Nodes.{first_tree};
-ghost use Rattle.cover_judge.specs.Choices.{MayChoose, MayChooseEach};
+ghost use Rattle.cover_judge.specs.Choices.{CanChoose, CanChooseEach};
 ghost use Rattle.cover_judge.specs.ChoiceLists.{choices_in};
 ghost use Rattle.cover_judge.specs.Judged.{IfWrong, IsBelow, IsValidAfter, IsWrongAt, AreValidAfter, IsWrongChild, AreValidFor, IsWrongFor};
 ghost use Rattle.tree_laws.specs.CoverTrees.{sketch_with};
@@ -15,7 +15,7 @@ use rowless_sketches::RowlessSketch;
 use tree_laws::{Choice, OpenChoice};
 
 impl CoverJudge<'_> {
-    /// Judges the children of a node, which come first in the walk: one for each choice of what is open.
+    /// Judges the children of a node, which come first in the walk: one for each choice of what the rule leaves open.
     #[cycle(judge)]
     pub(crate) fn judge_children(
         &self,
@@ -27,10 +27,10 @@ impl CoverJudge<'_> {
         requires { count ≤ length walk.old }
         ensures kept { sketch.new ≡ sketch.old }
         ensures after { OnOk result (walk.new ≡ drop count walk.old) }
-        ensures valid { OnOk result (AreValidFor self.now.shown.now self.now.outcomes.now sketch.old next (take count walk.old)) }
-        ensures wrong { IfErr result (IfWrong (IsWrongFor self.now.shown.now self.now.outcomes.now sketch.old next (take count walk.old))) }
+        ensures valid { OnOk result (AreValidFor self.now.rule self.now.shown.now self.now.outcomes.now sketch.old next (take count walk.old)) }
+        ensures wrong { IfErr result (IfWrong (IsWrongFor self.now.rule self.now.shown.now self.now.outcomes.now sketch.old next (take count walk.old))) }
     {
-        let choices = so_many_choices(self.alloc, next, count, sketch)?;
+        let choices = so_many_choices(self.alloc, self.rule, next, count, sketch)?;
         self.judge_each(&choices, walk, sketch)
     }
 
@@ -42,12 +42,12 @@ impl CoverJudge<'_> {
         walk: &mut Walk<'_>,
         sketch: &mut RowlessSketch,
     ) -> Result<(), NodeFault>
-        requires may { MayChooseEach sketch.old (choices_in choices.now) }
+        requires can { CanChooseEach sketch.old (choices_in choices.now) }
         requires as_many { length (choices_in choices.now) ≤ length walk.old }
         ensures kept { sketch.new ≡ sketch.old }
         ensures after { OnOk result (walk.new ≡ drop (length (choices_in choices.now)) walk.old) }
-        ensures valid { OnOk result (AreValidAfter self.now.shown.now self.now.outcomes.now sketch.old (take (length (choices_in choices.now)) walk.old) (choices_in choices.now)) }
-        ensures wrong { IfErr result (IfWrong (IsBelow (IsWrongChild self.now.shown.now self.now.outcomes.now sketch.old (take (length (choices_in choices.now)) walk.old) (choices_in choices.now)))) }
+        ensures valid { OnOk result (AreValidAfter self.now.rule self.now.shown.now self.now.outcomes.now sketch.old (take (length (choices_in choices.now)) walk.old) (choices_in choices.now)) }
+        ensures wrong { IfErr result (IfWrong (IsBelow (IsWrongChild self.now.rule self.now.shown.now self.now.outcomes.now sketch.old (take (length (choices_in choices.now)) walk.old) (choices_in choices.now)))) }
     {
         for number in 0..choices.len() {
             match self.judge_after(choices.at(number), walk, sketch) {
@@ -66,12 +66,12 @@ impl CoverJudge<'_> {
         walk: &mut Walk<'_>,
         sketch: &mut RowlessSketch,
     ) -> Result<(), NodeFault>
-        requires may { MayChoose sketch.old choice }
+        requires can { CanChoose sketch.old choice }
         requires some { 0 < length walk.old }
         ensures kept { sketch.new ≡ sketch.old }
         ensures after { OnOk result (walk.new ≡ drop 1 walk.old) }
-        ensures valid { OnOk result (IsValidAfter self.now.shown.now self.now.outcomes.now sketch.old (first_tree walk.old) (sketch_with sketch.old.chosen choice)) }
-        ensures wrong { IfErr result (IfWrong (IsWrongAt self.now.shown.now self.now.outcomes.now sketch.old (first_tree walk.old) (sketch_with sketch.old.chosen choice))) }
+        ensures valid { OnOk result (IsValidAfter self.now.rule self.now.shown.now self.now.outcomes.now sketch.old (first_tree walk.old) (sketch_with sketch.old.chosen choice)) }
+        ensures wrong { IfErr result (IfWrong (IsWrongAt self.now.rule self.now.shown.now self.now.outcomes.now sketch.old (first_tree walk.old) (sketch_with sketch.old.chosen choice))) }
     {
         let mark = choose(sketch, choice)?;
         let judged = self.judge(walk, sketch);

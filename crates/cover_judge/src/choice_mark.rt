@@ -3,7 +3,7 @@ ghost use Rattle.std.specs.Prelude.{◌≡◌, IfOk, OnOk, OnErr};
 ghost use Rattle.program_sketches.specs.ProgramSketches.{ProgramSketch, with_chosen};
 ghost use Rattle.tree_laws.specs.declared.choice.Choice as the_choice;
 ghost use Rattle.tree_laws.specs.CoverTrees.{sketch_with};
-ghost use Rattle.cover_judge.specs.Choices.{MayChoose};
+ghost use Rattle.cover_judge.specs.Choices.{CanChoose};
 ghost use Rattle.cover_judge.specs.ChoiceMarks.{IsChoiceMarkOf};
 
 use rowless_sketches::{RowlessSketch, ValueMark};
@@ -20,7 +20,7 @@ pub(crate) enum ChoiceMark {
 
 /// Makes a choice in the sketch.
 pub(crate) fn choose(sketch: &mut RowlessSketch, choice: Choice) -> Result<ChoiceMark, AllocError>
-    requires { MayChoose sketch.old choice }
+    requires { CanChoose sketch.old choice }
     ensures ok { OnOk result (sketch.new ≡ with_chosen sketch.old (sketch_with sketch.old.chosen choice)) }
     ensures mark { IfOk result (λ mark. IsChoiceMarkOf mark sketch.old choice) }
     ensures err { OnErr result (sketch.new ≡ sketch.old) }

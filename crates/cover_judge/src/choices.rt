@@ -2,17 +2,20 @@
 ghost use Rattle.std.specs.Prelude.{◌≡◌, ◌<◌, Some, List, IfOk, IfErr, MatchOption, length, slice_get};
 ghost use Rattle.program_sketches.specs.ProgramSketches.{mode_in};
 ghost use Rattle.tree_laws.specs.declared.choice.Choice as the_choice;
-ghost use Rattle.cover_judge.specs.Choices.{AreChoicesOf};
-ghost use Rattle.cover_judge.specs.ChoiceLists.{choices_in};
+ghost use Rattle.tree_laws.specs.CoverTrees as trees;
+ghost use Rattle.rowless_sketches.specs.RowlessSketches.{IsFree};
+ghost use Rattle.cover_judge.specs.Choices.{AreChoicesOfBy};
+ghost use Rattle.cover_judge.specs.ChoiceLists.{AreFreeSources, choices_in};
 ghost use Rattle.cover_judge.specs.CoverDefects.{HasNotSoMany};
 ghost use Rattle.cover_judge.specs.Judged.{IfWrong, IsAtRoot};
 
+use crate::allowed::{allows_order, allows_source};
 use crate::fault::NodeFault;
 use candidate_executions::Event;
 use cert_forest::AccessId;
 use rowless_sketches::{RowlessSketch, SharedValues};
 use std::alloc::{AllocError, Global};
-use tree_laws::{Choice, OpenChoice, event_of};
+use tree_laws::{Choice, OpenChoice, Rule, event_of};
 
 /// The choices of something open, in order. Each is made where it is asked for, so they take no list of their own.
 #[derive(Drop)]
@@ -56,18 +59,20 @@ impl Choices {
     }
 }
 
-/// The choices of what is open, in order, where there are as many as this: the root is wrong where there are not.
+/// The choices of what the rule leaves open, in order, where there are as many as this: the root is wrong where there
+/// are not.
 pub(crate) fn so_many_choices(
     alloc: Global,
+    rule: Rule,
     next: OpenChoice,
     count: u32,
     sketch: &RowlessSketch,
 ) -> Result<Choices, NodeFault>
-    ensures choices { IfOk result (λ choices. AreChoicesOf sketch.now next (choices_in choices)) }
+    ensures choices { IfOk result (λ choices. AreChoicesOfBy rule sketch.now next (choices_in choices)) }
     ensures many { IfOk result (λ choices. count ≡ length (choices_in choices)) }
-    ensures wrong { IfErr result (IfWrong (IsAtRoot (HasNotSoMany sketch.now.program (mode_in sketch.now) sketch.now.chosen next count))) }
+    ensures wrong { IfErr result (IfWrong (IsAtRoot (HasNotSoMany rule sketch.now.program (mode_in sketch.now) sketch.now.chosen next count))) }
 {
-    let Some(choices) = open_choices(alloc, next, count, sketch)? else {
+    let Some(choices) = open_choices(alloc, rule, next, count, sketch)? else {
         return Err(NodeFault::at_root(alloc));
     };
     if choices.len() != count as usize {
@@ -76,15 +81,16 @@ pub(crate) fn so_many_choices(
     Ok(choices)
 }
 
-/// The choices of what is open, in order, whether they are as many as this or not. `None` if it is not open. Most
-/// reads whose source is open in a tree have none, which takes no list.
+/// The choices of what is open, in order, whether they are as many as this or not. `None` if the rule does not leave it
+/// open.
 fn open_choices(
     alloc: Global,
+    rule: Rule,
     next: OpenChoice,
     count: u32,
     sketch: &RowlessSketch,
 ) -> Result<Option<Choices>, AllocError>
-    ensures { IfOk result (λ found. MatchOption found ((choices : List the_choice.Choice) → AreChoicesOf sketch.now next choices → ⊥) (λ choices. AreChoicesOf sketch.now next (choices_in choices))) }
+    ensures { IfOk result (λ found. MatchOption found ((choices : List the_choice.Choice) → AreChoicesOfBy rule sketch.now next choices → ⊥) (λ choices. AreChoicesOfBy rule sketch.now next (choices_in choices))) }
 {
     match next {
         OpenChoice::Value(thread) => {
@@ -95,19 +101,38 @@ fn open_choices(
             Ok(Some(Choices::Values(thread, values)))
         }
         OpenChoice::Source(read) => {
-            if count == 0 && sketch.lacks_source(event_of(read)) {
-                return Ok(Some(Choices::Sources(read, Vec::new(alloc))));
-            }
-            let Some(sources) = sketch.sources_of(event_of(read))? else {
+            if !allows_source(rule, sketch, event_of(read)) {
                 return Ok(None);
-            };
-            Ok(Some(Choices::Sources(read, sources)))
+            }
+            open_sources(alloc, read, count, sketch)
         }
         OpenChoice::Order(first, second) => {
+            if !allows_order(rule, sketch) {
+                return Ok(None);
+            }
             if !sketch.is_order_open(event_of(first), event_of(second)) {
                 return Ok(None);
             }
             Ok(Some(Choices::Orders(first, second)))
         }
     }
+}
+
+/// The sources of a read that has its value and no source, as choices. `None` if it is no such read. Most reads whose
+/// source is open in a tree have none, which takes no list.
+fn open_sources(
+    alloc: Global,
+    read: AccessId,
+    count: u32,
+    sketch: &RowlessSketch,
+) -> Result<Option<Choices>, AllocError>
+    ensures { IfOk result (λ found. MatchOption found (IsFree sketch.now (trees.event_of read) → ⊥) (λ choices. AreFreeSources sketch.now read (choices_in choices))) }
+{
+    if count == 0 && sketch.lacks_source(event_of(read)) {
+        return Ok(Some(Choices::Sources(read, Vec::new(alloc))));
+    }
+    let Some(sources) = sketch.sources_of(event_of(read))? else {
+        return Ok(None);
+    };
+    Ok(Some(Choices::Sources(read, sources)))
 }

@@ -9,6 +9,7 @@ use Rattle.tso_machine.specs.declared.replaying.ReplayFault.TheVariants as repla
 use Rattle.tso_machine.proofs.Refused.{no_fault}
 use Rattle.tree_laws.proofs.{ListedOutcomes.fenced_tree_serves, OneList.one_list}
 use Rattle.tree_laws.specs.Covers.{IsWholeCover}
+use Rattle.cert_forest.specs.Rule.TheVariants.{Whole}
 use Rattle.tso_machine.proofs.GapsAvoided.{fenced_runs_avoid}
 use Rattle.cert_forest.specs.{Trees.Cover, NodeConstants.NEAR_RUNS}
 use Rattle.outcome_search.specs.{OutcomeNumbers.AreFoundOf, AscendingOutcomes.AscendingOutcomes, OutcomeIndex.OutcomeIndex}
@@ -41,7 +42,7 @@ one_list_of_outcomes q xs ys left right =
 pub serving_is : (q : Question) (gaps : SetOfGaps) (outcomes : List Outcome) (tree : Cover) → JumpForward q.program.threads → IsListOf q outcomes →
     IsWholeCover q (StoreBufferMachine (gaps_in q.program gaps)) outcomes tree → IsServing (record { question = q; gaps = gaps; tree = tree })
 serving_is q gaps outcomes tree forward list is = record {
-  serves = fenced_tree_serves q gaps outcomes tree forward list.exact is.valid;
+  serves = fenced_tree_serves Whole q gaps outcomes tree forward list.exact is.valid;
   tree = λ others are. subst (λ os. IsWholeCover q (StoreBufferMachine (gaps_in q.program gaps)) os tree) (one_list_of_outcomes q outcomes others list are) is;
 }
 

@@ -1,6 +1,6 @@
 //! Sketches that take little memory.
 ghost use Rattle.std.specs.Prelude.{◌≡◌, ◌≤◌, IfOk};
-ghost use Rattle.program_sketches.specs.Kept.{IsLawful};
+ghost use Rattle.program_sketches.specs.Kept.{HasValuesFirst, IsLawful};
 ghost use Rattle.program_sketches.specs.Sizes.{choice_count, most_choices, HaveAllRegisters};
 
 use crate::{Mode, Sketch};
@@ -31,17 +31,18 @@ impl Model for CompactSketch {
 
     ghost coded = { Prim.hlevel (codes, gap_set.the_row.coded) };
 
-    ghost use Rattle.program_sketches.specs.Kept.{view_of, KeepsTraces};
+    ghost use Rattle.program_sketches.specs.Kept.{view_of, KeepsValuesFirst};
 
     ghost view = { λ s. view_of s.program s.mode s.thread_traces.items s.sources.items s.pairs.items };
 
-    ghost invariant = { λ s. KeepsTraces s.program s.mode s.thread_traces.items s.sources.items s.pairs.items };
+    ghost invariant = { λ s. KeepsValuesFirst s.program s.mode s.thread_traces.items s.sources.items s.pairs.items };
 }
 
 impl CompactSketch {
     /// For a proof alone: recalls what holds of every sketch.
     pub fn recall_facts(&self)
         ensures lawful { IsLawful self.now }
+        ensures values_first { HasValuesFirst self.now }
         ensures few { choice_count self.now ≤ most_choices }
         ensures registers { HaveAllRegisters self.now.program.threads }
     {

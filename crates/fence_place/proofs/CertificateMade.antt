@@ -7,6 +7,7 @@ use Rattle.gap_sets.specs.declared.costs.TheConstants.{MAX_COST}
 use Rattle.tso_program.specs.declared.outcome.Outcome as machine
 use Rattle.cert_forest.specs.TreeConstants.{MAX_COVER_DEPTH, MAX_GAP_DEPTH}
 use Rattle.cert_forest.specs.Limits as limits
+use Rattle.cert_forest.specs.Rule.{Rule, TheVariants.Whole}
 use Rattle.tree_laws.specs.Covers.{IsWholeCover}
 use Rattle.fence_place.proofs.{GapTreeValid.IsFine, GapTreeValid.fine, ShortRuns.short_run}
 
@@ -19,6 +20,7 @@ sequential_short q (r ∷ rs) (o ∷ os) within each = (short_run q.program Sequ
 
 -- what holds of a certificate that is made from a table and a search
 pub record IsMade (t : Table) (o : Outcome) (c : Certificate) : Type 0 where
+  pub whole : c.rule ≡ Whole
   pub same_shown : c.shown ≡ shows_of t.question.shown
   pub places : limits.AreShownPlaces c.shown
   pub same_gaps : c.gaps ≡ o.served.gaps
@@ -81,17 +83,17 @@ module _ (t : Table) (o : Outcome) (c : Certificate) (table : IsSequentialTable 
     outcomes = t.outcomes;
     replayed = subst (λ (q : Question). AreSequentialRuns q c.seq_runs t.outcomes) same
         (subst (λ (r : List (List Label)). AreSequentialRuns t.question r t.outcomes) (sym made.seq_runs) table.runs);
-    sequential = table_tree.valid;
+    sequential = rw made.whole table_tree.valid;
     foreign = foreign;
-    fenced = fenced_tree.valid;
+    fenced = rw made.whole fenced_tree.valid;
     least = subst (λ (g : SetOfGaps). IsValidGap o.question.program o.costs g c.runs c.gap_tree all_sets) (sym made.same_gaps) gap_tree_fine.valid;
   }
 
-  gap_tree_small : IsGapTo MAX_GAP_DEPTH c.gap_tree
+  gap_tree_small : IsGapTo c.rule MAX_GAP_DEPTH c.gap_tree
   gap_tree_small =
       let few : undecided all_sets ≤ MAX_GAPS = few_undecided all_sets in
       let deep : gap_depth c.gap_tree ≤ suc (undecided all_sets) = gap_tree_fine.deep in
-      (at_most (gap_depth c.gap_tree) (undecided all_sets) deep few, gap_tree_fine.small_numbers)
+      (at_most (gap_depth c.gap_tree) (undecided all_sets) deep few, subst (λ (rule : Rule). limits.HasGapNumbers rule c.gap_tree) (sym made.whole) gap_tree_fine.small_numbers)
     where
       at_most : (d u : ℕ) → d ≤ suc u → u ≤ MAX_GAPS → d ≤ MAX_GAP_DEPTH
       at_most d u h i = omega arith

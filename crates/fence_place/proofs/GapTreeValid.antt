@@ -3,7 +3,9 @@ use Rattle.fence_place.proofs.Vocabulary.{◌≡◌, ℕ, suc, ◌+◌, ◌<◌,
 use Rattle.fence_place.proofs.Vocabulary.{NoGap, MoreGaps, count_gaps, Foreign, Entry, SearchState, Facts, IsRecorded, AreRecorded, MAX_GAPS, undecided, Each, few_open, without_gap, child_regions, open_gaps, gap_depth, gaps_depth, HasGapNumbers}
 use Rattle.fence_place.proofs.Vocabulary.{HaveGapNumbers, IsSplitBy, IsValidGap, AreValidGaps, open_exact, open_ascending, HasNode, IsSplitAt, kids_less, open_undecided, small_set}
 use Rattle.std.proofs.lemmas.List.Kept.{AllPairs-from_increasing}
+use Rattle.cert_forest.specs.Rule.TheVariants.{Whole}
 use Rattle.fence_place.proofs.Bounds.{bounded}
+use Rattle.tree_laws.proofs.BoundedRegions.{by_must}
 
 -- as many children as gaps
 pub as_many : (n : Region) (gaps : List ℕ) → length (child_regions n gaps) ≡ length gaps
@@ -34,13 +36,13 @@ module _ (s : SearchState) (facts : Facts s) (answer : SetOfGaps) (is_answer : I
   pub record IsFine (tree : Gap) (n : Region) : Type 0 where
     pub valid : Valid tree n
     pub deep : gap_depth tree ≤ suc (undecided n)
-    pub small_numbers : HasGapNumbers tree
+    pub small_numbers : HasGapNumbers Whole tree
 
   record AreFine (depth : ℕ) (ts : GapTrees) (ns : List Region) : Type 0 where
     valid : AreValidGaps s.question.program s.costs answer runs ts ns
     deep : gaps_depth ts ≤ depth
     as_many : count_gaps ts ≡ length ns
-    small_numbers : HaveGapNumbers ts
+    small_numbers : HaveGapNumbers Whole ts
 
   max_le : (a b c : ℕ) → a ≤ c → b ≤ c → max a b ≤ c
   max_le a b c h i = omega arith
@@ -48,13 +50,14 @@ module _ (s : SearchState) (facts : Facts s) (answer : SetOfGaps) (is_answer : I
   module _ (few : length runs < 2 ^ 64) where
     mutual
       pub fine : (tree : Gap) (place : ℕ) (n : Region) → IsRecorded s.entries runs tree place → HasNode s.entries place n → IsFine tree n
-      fine Bound place n (e, there, closed) has =
+      fine (Bound (number ∷ numbers)) place n recorded has = absurd recorded
+      fine (Bound []) place n (e, there, closed) has =
           let same : e ≡ has.here = same_Some e has.here (sym there ∙ has.there) in
           let is : e.node ≡ n = ap (λ (x : Entry). x.node) same ∙ has.is_node in
-          subst (IsFine Bound) is (record {
-            valid = bounded s.question s.costs e.node.must answer facts.within (facts.of_program place e there) is_answer (facts.closed place e there closed);
+          subst (IsFine (Bound [])) is (record {
+            valid = (by_must s.question.program s.costs answer runs e.node).1 (bounded s.question s.costs e.node.must answer facts.within (facts.of_program place e there) is_answer (facts.closed place e there closed));
             deep = omega arith;
-            small_numbers = tt;
+            small_numbers = refl;
           })
       fine (Split number kids) place n (e, f, first, there, split, runs_at, recorded) has =
           let same : e ≡ has.here = same_Some e has.here (sym there ∙ has.there) in

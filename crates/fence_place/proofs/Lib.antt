@@ -2,6 +2,7 @@
 mod Vocabulary
 pub mod Bounds
 pub mod GapTreeValid
+pub mod Distinct
 pub mod Recording
 pub mod RecordPushed
 pub mod ShortRuns

@@ -12,7 +12,7 @@ one_longer ts t i e = omega (arith, length-append ts (t ∷ []))
 
 module _ (entries : List Entry) (numbers : List ℕ) where
   pub bound_pushed : (place : ℕ) (e : Entry) (old new : List GapNode) → slice_get entries place ≡ Some e → is_closed e ≡ true → new ≡ old ++ node.Bound ∷ [] → PushesRecorded entries numbers place old new
-  bound_pushed place e old new there closed pushed = record { tree = Bound; recorded = λ runs are. (e, there, closed); pushed = pushed }
+  bound_pushed place e old new there closed pushed = record { tree = Bound []; recorded = λ runs are. (e, there, closed); pushed = pushed }
 
   pub split_pushed : (place run count : ℕ) (e : Entry) (f : Foreign) (first : ℕ) (old mid new : List GapNode) → slice_get entries place ≡ Some e → e.status ≡ status.Split f first → slice_get numbers place ≡ Some run
       → count ≡ length (open_gaps f.passed e.node.never) → mid ≡ old ++ node.Split count run ∷ [] → PushesRecords entries numbers first count mid new → PushesRecorded entries numbers place old new

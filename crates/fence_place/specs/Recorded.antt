@@ -1,5 +1,5 @@
 -- The record of a search as a certificate has it: the runs of its splits, and its gap tree.
-use Rattle.std.specs.Prelude.{◌≡◌, ◌≢◌, ℕ, zero, suc, ◌+◌, true, List, Some, slice_get, length}
+use Rattle.std.specs.Prelude.{◌≡◌, ◌≢◌, ℕ, zero, suc, ◌+◌, true, List, [], ◌∷◌, Some, slice_get, length}
 use Rattle.std.specs.List.{AllPairs}
 use Rattle.gap_sets.specs.Regions.{open_gaps}
 use Rattle.tso_machine.specs.declared.label.Label.{Label}
@@ -20,12 +20,13 @@ AreSplitRuns entries runs = (number : ℕ) (labels : List Label) → slice_get r
 
 module _ (entries : List Entry) (runs : List (List Label)) where
   abbrev mutual
-    -- the tree says what became of the node at this place and of its descendants: of a split node it has the number of the run, and of a closed one a bound
+    -- the tree says what became of the node at this place and of its descendants: of a split node it has the number of the run, and of a closed one a bound without runs
     pub IsRecorded : Gap → ℕ → Type 0
     IsRecorded (Split number children) place =
         (e : Entry) × (f : Foreign) × (first : ℕ) × (slice_get entries place ≡ Some e) × (e.status ≡ status.Split f first) × (slice_get runs number ≡ Some f.labels)
         × AreRecorded children first (length (open_gaps f.passed e.node.never))
-    IsRecorded Bound place = (e : Entry) × (slice_get entries place ≡ Some e) × (is_closed e ≡ true)
+    IsRecorded (Bound []) place = (e : Entry) × (slice_get entries place ≡ Some e) × (is_closed e ≡ true)
+    IsRecorded (Bound (number ∷ numbers)) place = ⊥
 
     -- so do so many trees, of the nodes from this place on
     pub AreRecorded : GapTrees → ℕ → ℕ → Type 0

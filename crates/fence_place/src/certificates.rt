@@ -7,7 +7,7 @@ ghost use Rattle.fence_place.specs.Proofs.{IsProof};
 ghost use Rattle.fence_place.specs.Internal.Recording.{AreNumbersOf, ListsEvent, IsNumbered, PushesRecorded, PushesRecords};
 
 use crate::gaps::count_open;
-use cert_forest::{Certificate, GapNode, GapTree, Runs, Shows};
+use cert_forest::{Certificate, GapNode, GapTree, Rule, Runs, Shows};
 use oracle::SeqTable;
 use search_core::{Finished, SettledEvent};
 use std::alloc::{AllocError, Global};
@@ -21,6 +21,7 @@ pub fn certify(
     finished: &Finished,
 ) -> Result<Certificate, AllocError>
     requires { table.now.question ≡ finished.now.question }
+    ensures rule { IfOk result (λ certificate. certificate.rule ≡ Rule.Whole) }
     ensures set { IfOk result (λ certificate. certificate.gaps ≡ finished.now.served.gaps) }
     ensures sequential { IfOk result (λ certificate. (certificate.seq_runs ≡ table.now.runs) × (certificate.seq_tree ≡ table.now.tree)) }
     ensures fenced { IfOk result (λ certificate. certificate.fenced_tree ≡ finished.now.served.tree) }
@@ -43,6 +44,7 @@ pub fn certify(
     let _ = runs.len();
     let _ = seq_runs.len();
     Ok(Certificate {
+        rule: Rule::Whole,
         shown: shows,
         set,
         cost: finished.costs().total(&set),

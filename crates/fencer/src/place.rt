@@ -50,6 +50,7 @@ fn texts_for<T: Threads + Wait + Sync>(
     let costs = texts.costs.as_deref();
     let effort = Effort {
         workers: asked.workers,
+        trees: asked.trees,
         progress: progress.asked(asked.progress),
     };
     match asked.certificate.as_deref() {

@@ -36,11 +36,13 @@ fn explained<T: Threads + Wait + Sync>(
     let Placement {
         kind,
         workers,
+        trees,
         json,
         ..
     } = &asked.placement;
     let effort = Effort {
         workers: *workers,
+        trees: *trees,
         progress: progress.asked(asked.placement.progress),
     };
     let costs = texts.costs.as_deref();

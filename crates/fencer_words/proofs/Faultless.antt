@@ -1,6 +1,6 @@
 -- Words in which `clap` finds no fault name a command.
 use Rattle.fencer_words.proofs.Vocabulary.{◌≡◌, ◌&&◌, ◌⊎◌, ◌∙◌, Bool, true, false, not, List, [], ◌∷◌, Option, Some, None, Contains, find, is_some, map, option_map, refl, sym, ap, subst, inl, inr, list_any, Error, OutOfMemory, MeetsNoJob, App, Row, Shape}
-use Rattle.fencer_words.proofs.Vocabulary.{Text, fault_of, is_simple, is_simple_and_free, kind_of, subcommand_of, subcommand_rows_of, HasKind, HasMatchesOf, IsAmong, Kinds, built, entered, label_of, names_of, rows_at, argument_words, ModelNames, AreModels}
+use Rattle.fencer_words.proofs.Vocabulary.{Text, fault_of, is_simple, is_simple_and_free, kind_of, subcommand_of, subcommand_rows_of, HasKind, HasMatchesOf, IsAmong, Kinds, built, entered, label_of, names_of, rows_at, argument_words, ChoiceNames, AreChoices}
 use Rattle.fencer_words.proofs.Vocabulary.{command_names, fencer_app, IsNoCommand, faulty, for_nothing}
 use Rattle.std.proofs.lemmas.List.Elements.{Contains-append_left, Contains-append_right, Contains-push}
 use Rattle.clap.specs.{Walk.answers_to, Walk.finished, Walk.settled, Walk.walk, Walk.walk_from, Walk.Held, Walk.nothing_held, Facts.explicit_source, Kinds.check_kinds, Kinds.or_else, Takes.is_given}
@@ -75,37 +75,37 @@ entered_among a (Some p) some =
     found_is (Some s) some = refl
 
 -- words without a fault name a command
-names_command : (models : ModelNames) (words : List Text) → fault_of (fencer_app models) words ≡ []
-    → (name : Text) × (rows : List Row) × Contains command_names name × (subcommand_of (fencer_app models) words ≡ Some (name, rows))
-names_command models words none =
-    entered_among (built (fencer_app models)) (stop (built (fencer_app models)) nothing_held (argument_words (fencer_app models) words))
-    (enters (built (fencer_app models)) nothing_held (argument_words (fencer_app models) words) refl none)
+names_command : (choices : ChoiceNames) (words : List Text) → fault_of (fencer_app choices) words ≡ []
+    → (name : Text) × (rows : List Row) × Contains command_names name × (subcommand_of (fencer_app choices) words ≡ Some (name, rows))
+names_command choices words none =
+    entered_among (built (fencer_app choices)) (stop (built (fencer_app choices)) nothing_held (argument_words (fencer_app choices) words))
+    (enters (built (fencer_app choices)) nothing_held (argument_words (fencer_app choices) words) refl none)
 
 -- where `clap` fails, memory was wanting or the words are no command
-pub no_command : (app : App) (models : ModelNames) (words : List Text) (error : Error) → AreModels models → app ≡ fencer_app models → (is_simple_and_free app ≡ true → HasKind (fault_of app words) error)
+pub no_command : (app : App) (choices : ChoiceNames) (words : List Text) (error : Error) → AreChoices choices → app ≡ fencer_app choices → (is_simple_and_free app ≡ true → HasKind (fault_of app words) error)
     → (kind_of error ≡ OutOfMemory) ⊎ IsNoCommand words
-no_command app models words error are_models is kinds =
+no_command app choices words error are_choices is kinds =
     elim (subst (λ (a : App). HasKind (fault_of a words) error) is (kinds (rw is refl))) [
       | inl memory ↦ inl memory
-      | inr among ↦ inr (faulty models are_models (λ none. subst (IsAmong (kind_of error)) none among))
+      | inr among ↦ inr (faulty choices are_choices (λ none. subst (IsAmong (kind_of error)) none among))
     ]
 
 -- where it succeeds, there is no fault
-pub no_fault : (app : App) (models : ModelNames) (words : List Text) → app ≡ fencer_app models → (is_simple_and_free app ≡ true → fault_of app words ≡ []) → fault_of (fencer_app models) words ≡ []
-no_fault app models words is none = subst (λ (a : App). fault_of a words ≡ []) is (none (rw is refl))
+pub no_fault : (app : App) (choices : ChoiceNames) (words : List Text) → app ≡ fencer_app choices → (is_simple_and_free app ≡ true → fault_of app words ≡ []) → fault_of (fencer_app choices) words ≡ []
+no_fault app choices words is none = subst (λ (a : App). fault_of a words ≡ []) is (none (rw is refl))
 
-simple : (app : App) (models : ModelNames) → app ≡ fencer_app models → is_simple app ≡ true
-simple app models is = subst (λ (a : App). is_simple a ≡ true) (sym is) refl
+simple : (app : App) (choices : ChoiceNames) → app ≡ fencer_app choices → is_simple app ≡ true
+simple app choices is = subst (λ (a : App). is_simple a ≡ true) (sym is) refl
 
 -- and its matches are those of a command
-module _ (app : App) (models : ModelNames) (words : List Text) (m : ArgMatches) (is : app ≡ fencer_app models) (none : fault_of (fencer_app models) words ≡ []) (matches : HasMatchesOf app words m) where
-  matched : subcommand_rows_of m ≡ subcommand_of (fencer_app models) words
-  matched = (matches (simple app models is)).1 ∙ ap (λ (a : App). subcommand_of a words) is
+module _ (app : App) (choices : ChoiceNames) (words : List Text) (m : ArgMatches) (is : app ≡ fencer_app choices) (none : fault_of (fencer_app choices) words ≡ []) (matches : HasMatchesOf app words m) where
+  matched : subcommand_rows_of m ≡ subcommand_of (fencer_app choices) words
+  matched = (matches (simple app choices is)).1 ∙ ap (λ (a : App). subcommand_of a words) is
 
   -- by its name and its rows
-  pub reads : (name : Text) (rows : List Row) → subcommand_rows_of m ≡ Some (name, rows) → subcommand_of (fencer_app models) words ≡ Some (name, rows)
+  pub reads : (name : Text) (rows : List Row) → subcommand_rows_of m ≡ Some (name, rows) → subcommand_of (fencer_app choices) words ≡ Some (name, rows)
   reads name rows found = sym matched ∙ found
 
   -- where it is that of no job, it asks for nothing
-  pub met_nothing : AreModels models → MeetsNoJob m → IsNoCommand words
-  met_nothing are_models none_met = (let one = names_command models words none in for_nothing models one.0 one.1 are_models one.3 (none_met one.0 one.1 (matched ∙ one.3) one.2))
+  pub met_nothing : AreChoices choices → MeetsNoJob m → IsNoCommand words
+  met_nothing are_choices none_met = (let one = names_command choices words none in for_nothing choices one.0 one.1 are_choices one.3 (none_met one.0 one.1 (matched ∙ one.3) one.2))

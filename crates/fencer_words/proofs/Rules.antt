@@ -1,12 +1,12 @@
 -- The rules of the arguments that are built for `clap`.
 use Rattle.fencer_words.proofs.Vocabulary.{◌≡◌, ◌∙◌, Bool, true, false, ◌||◌, [], ◌∷◌, Option, Some, ap, ap₂, codes, Bor, usize_max, Command, Command-F, with_rule, App, Rule, Text, AddsArg, AddsSubcommand, app_of, new_app, new_rule, rule_of, with_subcommand}
-use Rattle.fencer_words.proofs.Vocabulary.{app_of_fields, on_top, IsBuiltAs, ModelNames, named_rule, model_rule, label_rule, flag_rule}
+use Rattle.fencer_words.proofs.Vocabulary.{app_of_fields, on_top, IsBuiltAs, NameList, named_rule, model_rule, trees_rule, label_rule, flag_rule}
 use Rattle.clap.specs.{declared.builder.command.Command.TheViews.out-Command, declared.builder.action.ArgAction.TheVariants.Append, declared.builder.action.ArgAction.TheVariants.SetTrue}
 use Rattle.clap.specs.{declared.builder.arg.Arg.Arg, declared.builder.range.ValueRange.ValueRange, declared.builder.texts.Texts.TheVariants.One, declared.builder.value_parser.ValueParser.ValueParser}
 use Rattle.clap.specs.declared.builder.value_parser.ValueParser.TheVariants as parser
 
 -- an argument with a long name, a parser and a default value
-pub model_rule_of : (new long parsed done : Arg) (name value : Bor Text) (models : ModelNames)
+pub model_rule_of : (new long parsed done : Arg) (name value : Bor Text) (models : NameList)
     → rule_of new ≡ named_rule (codes "model")
     → long ≡ record new { long = Some name } → name.now ≡ codes "model"
     → parsed ≡ record long { value_parser = parsed.value_parser } → parsed.value_parser ≡ Some (parser.Names models)
@@ -21,6 +21,19 @@ model_rule_of new long parsed done name value models new_is long_is name_is pars
     ∙ ap₂ (λ (r : Rule) (t : Text). let s : Rule = record r { long = Some t } in s) new_is name_is)
     models_is)
     value_is
+
+-- an argument with a long name and a parser
+pub trees_rule_of : (new long done : Arg) (name : Bor Text) (names : NameList)
+    → rule_of new ≡ named_rule (codes "trees")
+    → long ≡ record new { long = Some name } → name.now ≡ codes "trees"
+    → done ≡ record long { value_parser = done.value_parser } → done.value_parser ≡ Some (parser.Names names)
+    → rule_of done ≡ trees_rule names
+trees_rule_of new long done name names new_is long_is name_is done_is names_is =
+    ap (λ (a : Arg). rule_of a) done_is
+    ∙ ap₂ (λ (r : Rule) (p : Option ValueParser). let s : Rule = record r { parser = p } in s)
+    (ap (λ (a : Arg). rule_of a) long_is
+    ∙ ap₂ (λ (r : Rule) (t : Text). let s : Rule = record r { long = Some t } in s) new_is name_is)
+    names_is
 
 -- an argument with a range of values and an action
 pub label_rule_of : (new ranged done : Arg) → rule_of new ≡ named_rule (codes "label")

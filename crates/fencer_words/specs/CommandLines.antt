@@ -1,6 +1,6 @@
 -- What command lines ask for. `clap` reads them: its `subcommand_of` gives the subcommand that words name, with the rows
 -- of its values.
-use Rattle.std.specs.Prelude.{◌≡◌, ◌≢◌, ◌⊎◌, ℕ, ◌≤◌, Bool, true, false, List, [], ◌∷◌, Some, None, Contains, codes, is_some, map, not, option_map, string_bytes, unwrap_or, fold, if◌then◌else◌, ◌&&◌}
+use Rattle.std.specs.Prelude.{◌≡◌, ◌≢◌, ◌⊎◌, ℕ, ◌≤◌, Bool, true, false, List, [], ◌∷◌, Option, Some, None, Contains, codes, is_some, map, not, option_map, string_bytes, unwrap_or, fold, if◌then◌else◌, ◌&&◌}
 use Rattle.std.specs.Option.{option_map_or}
 use Rattle.std.specs.Str.{IsUtf8, bytes_eq}
 use Rattle.std.specs.Str.Parse.{digits_value, without_leading_plus}
@@ -16,23 +16,31 @@ use Rattle.tso_program.specs.declared.shown.ShownKind.{ShownKind}
 use Rattle.tso_program.specs.declared.shown.ShownKind.TheVariants as kind
 use Rattle.fencer_words.specs.declared.form.Form.{Form}
 use Rattle.fencer_words.specs.declared.form.Form.TheVariants as form
+use Rattle.fencer_words.specs.declared.parameter.ChoiceNames.{ChoiceNames}
 use Rattle.fencer_words.specs.declared.parameter.Parameter.{Parameter}
-use Rattle.fencer_words.specs.declared.parameter.Parameter.TheVariants.{Certificate, CheckAnswer, CheckList, Condition, Costs, Fences, Graph, Graphs, Json, Labels, Litmus, Model, Not, Observed, Output, Page, Progress, Runs, Template, Workers}
+use Rattle.fencer_words.specs.declared.parameter.Parameter.TheVariants.{Certificate, CheckAnswer, CheckList, Condition, Costs, Fences, Graph, Graphs, Json, Labels, Litmus, Model, Not, Observed, Output, Page, Progress, Runs, Template, Trees, Workers}
 use Rattle.fencer_words.specs.declared.job.Job.{Job, TheVariants.Replay, TheVariants.Trace, TheVariants.Outcomes, TheVariants.Place, TheVariants.Why, TheVariants.Gaps, TheVariants.Witness}
 use Rattle.fencer_words.specs.declared.job.Run.{Run}
 use Rattle.fencer_words.specs.CommandFiles.{files_of, has_clash}
 use Rattle.fencer_words.specs.Places as places
 use Rattle.tso_program.specs.declared.limits.TheConstants.{MAX_WORKERS}
+use Rattle.cert_trees.specs.declared.rule.Rule.{Rule as TreeRule}
+use Rattle.cert_trees.specs.declared.rule.Rule.TheVariants.{Whole, Early}
 
 -- ---- arguments
 
 -- names among which a value is chosen, as `clap` keeps them
-abbrev pub ModelNames : Type 0
-ModelNames = Bor (List (Bor Text))
+abbrev pub NameList : Type 0
+NameList = Bor (List (Bor Text))
 
--- the names of the two models
-abbrev pub AreModels : ModelNames → Type 0
-AreModels names = map (λ (name : Bor Text). name.now) names.now ≡ codes "buffered" ∷ codes "sequential" ∷ []
+-- the list has these names
+abbrev pub HasNames : NameList → List Text → Type 0
+HasNames names texts = map (λ (name : Bor Text). name.now) names.now ≡ texts
+
+-- the names of the two models, and of the two rules of trees
+pub record AreChoices (names : ChoiceNames) : Type 0 where
+  pub models : HasNames names.models (codes "buffered" ∷ codes "sequential" ∷ [])
+  pub trees : HasNames names.trees (codes "whole" ∷ codes "early" ∷ [])
 
 -- an argument with one value, which help calls by a name
 abbrev pub named_rule : Text → Rule
@@ -43,11 +51,15 @@ abbrev pub value_rule : Text → Rule
 value_rule name = record (named_rule name) { long = Some name }
 
 -- `--model MODEL`
-abbrev pub model_rule : ModelNames → Rule
+abbrev pub model_rule : NameList → Rule
 model_rule models = record (value_rule (codes "model")) {
   parser = Some (parser.Names models);
   defaults = codes "buffered" ∷ [];
 }
+
+-- `--trees RULE`
+abbrev pub trees_rule : NameList → Rule
+trees_rule names = record (value_rule (codes "trees")) { parser = Some (parser.Names names) }
 
 -- `LITMUS`
 abbrev pub litmus_rule : Rule
@@ -72,27 +84,28 @@ workers_rule = record (value_rule (codes "workers")) {
 }
 
 -- as what `clap` reads each parameter
-abbrev pub rule_of_parameter : ModelNames → Parameter → Rule
-rule_of_parameter models Certificate = value_rule (codes "certificate")
-rule_of_parameter models CheckAnswer = flag_rule (codes "check")
-rule_of_parameter models CheckList = flag_rule (codes "check")
-rule_of_parameter models Condition = flag_rule (codes "condition")
-rule_of_parameter models Costs = value_rule (codes "costs")
-rule_of_parameter models Fences = value_rule (codes "fences")
-rule_of_parameter models Graph = value_rule (codes "dot")
-rule_of_parameter models Graphs = value_rule (codes "dot")
-rule_of_parameter models Json = flag_rule (codes "json")
-rule_of_parameter models Labels = label_rule
-rule_of_parameter models Litmus = litmus_rule
-rule_of_parameter models Model = model_rule models
-rule_of_parameter models Not = flag_rule (codes "not")
-rule_of_parameter models Observed = flag_rule (codes "observed")
-rule_of_parameter models Output = value_rule (codes "output")
-rule_of_parameter models Page = value_rule (codes "html")
-rule_of_parameter models Progress = flag_rule (codes "progress")
-rule_of_parameter models Runs = flag_rule (codes "runs")
-rule_of_parameter models Template = flag_rule (codes "template")
-rule_of_parameter models Workers = workers_rule
+abbrev pub rule_of_parameter : ChoiceNames → Parameter → Rule
+rule_of_parameter names Certificate = value_rule (codes "certificate")
+rule_of_parameter names CheckAnswer = flag_rule (codes "check")
+rule_of_parameter names CheckList = flag_rule (codes "check")
+rule_of_parameter names Condition = flag_rule (codes "condition")
+rule_of_parameter names Costs = value_rule (codes "costs")
+rule_of_parameter names Fences = value_rule (codes "fences")
+rule_of_parameter names Graph = value_rule (codes "dot")
+rule_of_parameter names Graphs = value_rule (codes "dot")
+rule_of_parameter names Json = flag_rule (codes "json")
+rule_of_parameter names Labels = label_rule
+rule_of_parameter names Litmus = litmus_rule
+rule_of_parameter names Model = model_rule names.models
+rule_of_parameter names Not = flag_rule (codes "not")
+rule_of_parameter names Observed = flag_rule (codes "observed")
+rule_of_parameter names Output = value_rule (codes "output")
+rule_of_parameter names Page = value_rule (codes "html")
+rule_of_parameter names Progress = flag_rule (codes "progress")
+rule_of_parameter names Runs = flag_rule (codes "runs")
+rule_of_parameter names Template = flag_rule (codes "template")
+rule_of_parameter names Trees = trees_rule names.trees
+rule_of_parameter names Workers = workers_rule
 
 -- ---- commands
 
@@ -114,31 +127,31 @@ name_of_form form.Witness = codes "witness"
 abbrev pub parameters_of : Form → List Parameter
 parameters_of form.Replay = Model ∷ Litmus ∷ Labels ∷ []
 parameters_of form.Outcomes = Model ∷ Workers ∷ Runs ∷ Observed ∷ CheckList ∷ Json ∷ Progress ∷ Litmus ∷ []
-parameters_of form.Place = Costs ∷ Workers ∷ Certificate ∷ Output ∷ Observed ∷ Condition ∷ CheckAnswer ∷ Json ∷ Progress ∷ Litmus ∷ []
+parameters_of form.Place = Costs ∷ Workers ∷ Trees ∷ Certificate ∷ Output ∷ Observed ∷ Condition ∷ CheckAnswer ∷ Json ∷ Progress ∷ Litmus ∷ []
 parameters_of form.Trace = Model ∷ Graph ∷ Page ∷ Json ∷ Litmus ∷ Labels ∷ []
 parameters_of form.Why = Costs ∷ Workers ∷ Graphs ∷ Page ∷ Observed ∷ Condition ∷ Json ∷ Progress ∷ Litmus ∷ []
 parameters_of form.Gaps = Costs ∷ Template ∷ Litmus ∷ []
 parameters_of form.Witness = Model ∷ Not ∷ Fences ∷ Graph ∷ Page ∷ Json ∷ Litmus ∷ []
 
 -- a command with one parameter more
-abbrev pub with_parameter : ModelNames → App → Parameter → App
-with_parameter models app parameter = with_rule app (rule_of_parameter models parameter)
+abbrev pub with_parameter : ChoiceNames → App → Parameter → App
+with_parameter names app parameter = with_rule app (rule_of_parameter names parameter)
 
 -- the command of a form
-abbrev pub app_of_form : ModelNames → Form → App
-app_of_form models form = fold (with_parameter models) (new_app (name_of_form form)) (parameters_of form)
+abbrev pub app_of_form : ChoiceNames → Form → App
+app_of_form names form = fold (with_parameter names) (new_app (name_of_form form)) (parameters_of form)
 
 -- a command line with one command more
-abbrev pub with_form : ModelNames → App → Form → App
-with_form models app form = with_subcommand app (app_of_form models form).top
+abbrev pub with_form : ChoiceNames → App → Form → App
+with_form names app form = with_subcommand app (app_of_form names form).top
 
 -- a command line is one of these commands, and nothing before it
 abbrev pub commands_app : App
 commands_app = on_top (λ s. record s { no_binary_name = true; subcommand_required = true; disable_help_subcommand = true }) (new_app (codes "fencer"))
 
 -- the program's whole command line, after its name
-abbrev pub fencer_app : ModelNames → App
-fencer_app models = fold (with_form models) commands_app forms
+abbrev pub fencer_app : ChoiceNames → App
+fencer_app names = fold (with_form names) commands_app forms
 
 -- the names of the commands
 abbrev pub command_names : List Text
@@ -165,6 +178,10 @@ is_flagged flag rows = has_value flag (codes "true") rows
 -- the model that is named
 abbrev pub model_in : List Row → machine.Model
 model_in rows = if has_value (codes "model") (codes "sequential") rows then Sequential else Buffered
+
+-- the rule of trees that is named, if one is
+abbrev pub trees_in : List Row → Option TreeRule
+trees_in rows = if has_value (codes "trees") (codes "whole") rows then Some Whole else (if has_value (codes "trees") (codes "early") rows then Some Early else None)
 
 -- what is compared of outcomes: whether the condition's formula is true, what is observed, or all
 abbrev pub kind_in : List Row → ShownKind
@@ -224,6 +241,7 @@ IsJobOf name rows (Place asked) =
     (name ≡ codes "place")
     × (option_map string_bytes asked.costs ≡ first_of (codes "costs") rows)
     × AreWorkers (text_in (codes "workers") rows) asked.workers
+    × (asked.trees ≡ trees_in rows)
     × (option_map string_bytes asked.certificate ≡ first_of (codes "certificate") rows)
     × (option_map string_bytes asked.output ≡ first_of (codes "output") rows)
     × (asked.kind ≡ kind_in rows)
@@ -235,6 +253,7 @@ IsJobOf name rows (Why asked) =
     (name ≡ codes "why")
     × (option_map string_bytes asked.placement.costs ≡ first_of (codes "costs") rows)
     × AreWorkers (text_in (codes "workers") rows) asked.placement.workers
+    × (asked.placement.trees ≡ None)
     × (asked.placement.certificate ≡ None)
     × (asked.placement.output ≡ None)
     × (asked.placement.kind ≡ kind_in rows)
@@ -262,12 +281,12 @@ IsJobOf name rows (Witness asked) =
 -- the arguments name the job: `clap` finds no fault in them, they ask for one comparison of outcomes, and for no fences of the
 -- sequential machine
 pub record Names (words : List Text) (job : Job) : Type 0 where
-  pub models : ModelNames
-  pub are_models : AreModels models
+  pub choices : ChoiceNames
+  pub are_choices : AreChoices choices
   pub name : Text
   pub rows : List Row
-  pub no_fault : fault_of (fencer_app models) words ≡ []
-  pub read : subcommand_of (fencer_app models) words ≡ Some (name, rows)
+  pub no_fault : fault_of (fencer_app choices) words ≡ []
+  pub read : subcommand_of (fencer_app choices) words ≡ Some (name, rows)
   pub once : asks_twice rows ≡ false
   pub not_in_vain : fences_in_vain rows ≡ false
   pub asked : IsJobOf name rows job
@@ -282,6 +301,6 @@ pub record AsksFor (words : List Text) (job : Job) : Type 0 where
 -- that writes a file which it reads, or a file twice.
 pub data IsNoCommand (words : List Text) : Type 0 where
   no_utf8 : (word : Text) → Contains words word → (IsUtf8 word → ⊥) → IsNoCommand words
-  faulty : (models : ModelNames) → AreModels models → fault_of (fencer_app models) words ≢ [] → IsNoCommand words
-  for_nothing : (models : ModelNames) (name : Text) (rows : List Row) → AreModels models → subcommand_of (fencer_app models) words ≡ Some (name, rows) → AsksForNothing rows → IsNoCommand words
+  faulty : (choices : ChoiceNames) → AreChoices choices → fault_of (fencer_app choices) words ≢ [] → IsNoCommand words
+  for_nothing : (choices : ChoiceNames) (name : Text) (rows : List Row) → AreChoices choices → subcommand_of (fencer_app choices) words ≡ Some (name, rows) → AsksForNothing rows → IsNoCommand words
   clashing : (job : Job) → Names words job → has_clash (files_of job) ≡ true → IsNoCommand words

@@ -5,18 +5,19 @@ use Rattle.clap.specs.declared.builder.command.Command.{Command}
 use Rattle.clap.specs.declared.builder.command.Command.TheViews.{out-Command}
 use Rattle.clap.specs.declared.parser.matches.ArgMatches.{ArgMatches}
 use Rattle.fencer_words.specs.declared.job.Job.{Job}
-use Rattle.fencer_words.specs.CommandLines.{ModelNames, AreModels, AsksForNothing, IsJobOf, asks_twice, command_names, fencer_app, fences_in_vain}
+use Rattle.fencer_words.specs.declared.parameter.ChoiceNames.{ChoiceNames}
+use Rattle.fencer_words.specs.CommandLines.{AreChoices, AsksForNothing, IsJobOf, asks_twice, command_names, fencer_app, fences_in_vain}
 
 -- the command is this one, and has no argument that its subcommands share
 pub record IsBuiltAs (app : App) (command : Command) : Type 0 where
   pub shape : app_of command ≡ app
   pub no_globals : (out-Command command).has_globals ≡ false
 
--- the command is the program's whole command line, with the names of the models
+-- the command is the program's whole command line, with the names among which values are chosen
 pub record IsFencerCommand (command : Command) : Type 0 where
-  pub models : ModelNames
-  pub are_models : AreModels models
-  pub built : IsBuiltAs (fencer_app models) command
+  pub choices : ChoiceNames
+  pub are_choices : AreChoices choices
+  pub built : IsBuiltAs (fencer_app choices) command
 
 -- the parse met a subcommand, and the job is its job
 pub record IsJobMet (matches : ArgMatches) (job : Job) : Type 0 where

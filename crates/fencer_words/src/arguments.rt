@@ -2,8 +2,9 @@
 
 ghost use Rattle.std.specs.Prelude.{◌≡◌, false, IfOk, codes, map, option_map, string_bytes, unwrap_or};
 ghost use Rattle.clap.specs.Words.{all_of, first_of, found_of, rows_of};
-ghost use Rattle.fencer_words.specs.CommandLines.{has_value, is_flagged, kind_in, model_in, text_in, AreWorkers};
+ghost use Rattle.fencer_words.specs.CommandLines.{has_value, is_flagged, kind_in, model_in, text_in, trees_in, AreWorkers};
 
+use cert_trees::Rule;
 use clap::ArgMatches;
 use std::alloc::{AllocError, Global};
 use tso_machine::Model;
@@ -89,6 +90,19 @@ pub fn model_in(matches: &ArgMatches<'_>) -> Model
         Model::Sequential
     } else {
         Model::Buffered
+    }
+}
+
+/// The rule of trees that is named, if one is.
+pub fn trees_in(matches: &ArgMatches<'_>) -> Option<Rule>
+    ensures { result ≡ trees_in (rows_of (found_of matches.now)) }
+{
+    if has_value(matches, "trees", "whole") {
+        Some(Rule::Whole)
+    } else if has_value(matches, "trees", "early") {
+        Some(Rule::Early)
+    } else {
+        None
     }
 }
 

@@ -6,10 +6,10 @@ ghost use Rattle.clap.specs.declared.builder.command.Command.TheViews.{out-Comma
 ghost use Rattle.fencer_words.specs.CommandLines.{app_of_form, forms, name_of_form, parameters_of};
 ghost use Rattle.fencer_words.specs.Commands.{IsBuiltAs};
 
-use crate::parameter::Models;
+use crate::parameter::ChoiceNames;
 use crate::parameter::Parameter::{
     self, Certificate, CheckAnswer, CheckList, Condition, Costs, Fences, Graph, Graphs, Json,
-    Labels, Litmus, Model, Not, Observed, Output, Page, Progress, Runs, Template, Workers,
+    Labels, Litmus, Model, Not, Observed, Output, Page, Progress, Runs, Template, Trees, Workers,
 };
 use crate::{gaps, outcomes, place, replay, trace, why, witness};
 use clap::Command;
@@ -69,6 +69,7 @@ impl Form {
             Form::Place => &[
                 Costs,
                 Workers,
+                Trees,
                 Certificate,
                 Output,
                 Observed,
@@ -100,14 +101,18 @@ impl Form {
         }
     }
 
-    /// The command, where the models have these names.
-    pub fn command<'a>(self, alloc: Global, models: Models<'a>) -> Result<Command<'a>, AllocError>
-        ensures { IfOk result (IsBuiltAs (app_of_form models.entry.names self)) }
+    /// The command, where values are chosen among these names.
+    pub fn command<'a>(
+        self,
+        alloc: Global,
+        names: ChoiceNames<'a>,
+    ) -> Result<Command<'a>, AllocError>
+        ensures { IfOk result (IsBuiltAs (app_of_form names.entry self)) }
     {
         let (first, last) = self.help();
         let mut command = described_command(alloc, self.name(), first, last);
         for parameter in self.parameters() {
-            command = command.arg(parameter.argument(alloc, models))?;
+            command = command.arg(parameter.argument(alloc, names))?;
         }
         Ok(command)
     }

@@ -1,5 +1,6 @@
 //! Jobs.
 
+use cert_trees::Rule;
 use std::alloc::Global;
 use tso_machine::Model;
 use tso_program::ShownKind;
@@ -19,6 +20,8 @@ pub struct Placement {
     pub costs: Option<String>,
     /// How many workers search: 1 to `MAX_WORKERS`.
     pub workers: u8,
+    /// By which rule the certificate's trees are made. Without one that depends on how large the program is.
+    pub trees: Option<Rule>,
     /// The file to which the certificate is written.
     pub certificate: Option<String>,
     /// The file to which the fenced program is written.

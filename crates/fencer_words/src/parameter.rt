@@ -2,7 +2,7 @@
 
 ghost use Rattle.std.specs.Prelude.{◌≡◌, false};
 ghost use Rattle.clap.specs.Words.{rule_of};
-ghost use Rattle.fencer_words.specs.CommandLines.{flag_rule, label_rule, litmus_rule, model_rule, named_rule, rule_of_parameter, value_rule, workers_rule};
+ghost use Rattle.fencer_words.specs.CommandLines.{flag_rule, label_rule, litmus_rule, model_rule, named_rule, rule_of_parameter, trees_rule, value_rule, workers_rule};
 
 use clap::builder::ValueParser;
 use clap::{Arg, ArgAction};
@@ -47,10 +47,15 @@ const RUNS_HELP: &str = "Print after each outcome a run that leaves it";
 
 const TEMPLATE_HELP: &str = "Print a cost file of all gaps instead; a gap costs 1 without --costs";
 
-/// The names of the models.
+const TREES_HELP: &str = "Make whole trees (certificate 1 or 2) or early ones (4); else by size";
+
+/// The names among which the values of parameters are chosen.
 #[derive(Clone, Copy)]
-pub struct Models<'a> {
-    pub names: &'a [&'a str],
+pub struct ChoiceNames<'a> {
+    /// Of the models.
+    pub models: &'a [&'a str],
+    /// Of the rules of trees.
+    pub trees: &'a [&'a str],
 }
 
 /// A parameter of a command.
@@ -80,13 +85,14 @@ pub enum Parameter {
     Progress,
     Runs,
     Template,
+    Trees,
     Workers,
 }
 
 impl Parameter {
-    /// As what `clap` reads it, where the models have these names.
-    pub fn argument<'a>(self, alloc: Global, models: Models<'a>) -> Arg<'a>
-        ensures rule { rule_of result ≡ rule_of_parameter models.entry.names self }
+    /// As what `clap` reads it, where values are chosen among these names.
+    pub fn argument<'a>(self, alloc: Global, names: ChoiceNames<'a>) -> Arg<'a>
+        ensures rule { rule_of result ≡ rule_of_parameter names.entry self }
         ensures own { result.global ≡ false }
     {
         match self {
@@ -101,7 +107,7 @@ impl Parameter {
             Parameter::Json => flag_arg(alloc, "json", JSON_HELP),
             Parameter::Labels => label_arg(alloc),
             Parameter::Litmus => litmus_arg(alloc),
-            Parameter::Model => model_arg(alloc, models.names),
+            Parameter::Model => model_arg(alloc, names.models),
             Parameter::Not => flag_arg(alloc, "not", NOT_HELP),
             Parameter::Observed => flag_arg(alloc, "observed", OBSERVED_HELP),
             Parameter::Output => file_arg(alloc, "output", OUTPUT_HELP),
@@ -109,6 +115,7 @@ impl Parameter {
             Parameter::Progress => flag_arg(alloc, "progress", PROGRESS_HELP),
             Parameter::Runs => flag_arg(alloc, "runs", RUNS_HELP),
             Parameter::Template => flag_arg(alloc, "template", TEMPLATE_HELP),
+            Parameter::Trees => trees_arg(alloc, names.trees),
             Parameter::Workers => workers_arg(alloc),
         }
     }
@@ -158,6 +165,16 @@ fn model_arg<'a>(alloc: Global, names: &'a [&'a str]) -> Arg<'a>
         .long("model")
         .value_parser(names)
         .default_value("buffered")
+}
+
+/// `--trees RULE`, of rules with these names.
+fn trees_arg<'a>(alloc: Global, names: &'a [&'a str]) -> Arg<'a>
+    ensures rule { rule_of result ≡ trees_rule names.entry }
+    ensures own { result.global ≡ false }
+{
+    named_arg(alloc, "trees", "RULE", TREES_HELP)
+        .long("trees")
+        .value_parser(names)
 }
 
 /// `--workers N`

@@ -1,10 +1,10 @@
-//! `place [--costs FILE] [--workers N] [--certificate FILE] [--output FILE] [--observed | --condition] [--check] [--json] [--progress] LITMUS`
+//! `place [--costs FILE] [--workers N] [--trees RULE] [--certificate FILE] [--output FILE] [--observed | --condition] [--check] [--json] [--progress] LITMUS`
 
 ghost use Rattle.std.specs.Prelude.{IfOk, codes};
 ghost use Rattle.clap.specs.Words.{found_of, rows_of};
 ghost use Rattle.fencer_words.specs.CommandLines.{IsJobOf};
 
-use crate::arguments::{is_flagged, kind_in, text_given, text_in, value_in, workers_of};
+use crate::arguments::{is_flagged, kind_in, text_given, text_in, trees_in, value_in, workers_of};
 use crate::job::{Job, Placement};
 use clap::ArgMatches;
 use std::alloc::{AllocError, Global};
@@ -31,6 +31,7 @@ pub fn place_job(alloc: Global, matches: &ArgMatches<'_>) -> Result<Job, AllocEr
     Ok(Job::Place(Placement {
         costs: text_given(alloc, matches, "costs")?,
         workers: workers_of(value_in(matches, "workers")),
+        trees: trees_in(matches),
         certificate: text_given(alloc, matches, "certificate")?,
         output: text_given(alloc, matches, "output")?,
         kind: kind_in(matches),

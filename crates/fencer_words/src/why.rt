@@ -31,6 +31,7 @@ pub fn why_job(alloc: Global, matches: &ArgMatches<'_>) -> Result<Job, AllocErro
     let placement = Placement {
         costs: text_given(alloc, matches, "costs")?,
         workers: workers_of(value_in(matches, "workers")),
+        trees: None,
         certificate: None,
         output: None,
         kind: kind_in(matches),

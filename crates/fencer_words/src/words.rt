@@ -3,7 +3,7 @@
 ghost use Rattle.std.specs.Prelude.{◌≡◌, ◌⊎◌, true, false, Contains, IfErr, IfOk, IfNone, IfSome, OnOk, map, string_bytes};
 ghost use Rattle.clap.specs.Words.{found_of, kind_of, rows_of};
 ghost use Rattle.fencer_words.specs.CommandFiles.{files_of, has_clash};
-ghost use Rattle.fencer_words.specs.CommandLines.{asks_twice, command_names, commands_app, fences_in_vain, AreModels, AsksFor, IsJobOf, IsNoCommand, LacksPlaces, Names};
+ghost use Rattle.fencer_words.specs.CommandLines.{asks_twice, command_names, commands_app, fences_in_vain, AreChoices, AsksFor, IsJobOf, IsNoCommand, LacksPlaces, Names};
 ghost use Rattle.fencer_words.specs.Commands.{IsBuiltAs, IsFencerCommand, IsJobMet, MeetsNoJob};
 
 use crate::arguments::{has_value, is_flagged, value_of};
@@ -12,7 +12,7 @@ use crate::form::{Form, described_command};
 use crate::gaps::gaps_job;
 use crate::job::Job;
 use crate::outcomes::outcomes_job;
-use crate::parameter::Models;
+use crate::parameter::ChoiceNames;
 use crate::place::place_job;
 use crate::replay::replay_job;
 use crate::trace::trace_job;
@@ -49,11 +49,16 @@ const FENCES: &str = "--fences takes gaps with commas between them, each once, a
 
 static MODELS: [&str; 2] = ["buffered", "sequential"];
 
-/// The names of the models.
-fn model_names<'a>() -> &'a [&'a str]
-    ensures { AreModels result }
+static RULES: [&str; 2] = ["whole", "early"];
+
+/// The names of the models, and of the rules of trees.
+fn choice_names<'a>() -> ChoiceNames<'a>
+    ensures { AreChoices result }
 {
-    MODELS.as_slice()
+    ChoiceNames {
+        models: MODELS.as_slice(),
+        trees: RULES.as_slice(),
+    }
 }
 
 /// The command line without a command.
@@ -71,12 +76,10 @@ fn commands<'a>(alloc: Global) -> Result<Command<'a>, AllocError>
 fn command<'a>(alloc: Global) -> Result<Command<'a>, AllocError>
     ensures { IfOk result IsFencerCommand }
 {
-    let models = Models {
-        names: model_names(),
-    };
+    let names = choice_names();
     let mut command = commands(alloc)?;
     for form in Form::all() {
-        command = command.subcommand(form.command(alloc, models)?)?;
+        command = command.subcommand(form.command(alloc, names)?)?;
     }
     Ok(command)
 }

@@ -1,7 +1,7 @@
 -- All accesses of a sketch, listed by thread and index.
 use Rattle.known_edges.proofs.Vocabulary.{◌≡◌, ◌↔◌, ◌⊎◌, ℕ, ◌+◌, ◌<◌, ◌≤◌, List, [], ◌∷◌, ◌++◌, get_or, length, Contains, refl, sym, ap, subst, inl, inr, arith, AllPairs, option_map_or, cases_lt, Contains-get_or, Contains-append_left, Contains-push}
-use Rattle.known_edges.proofs.Vocabulary.{Contains-push_cases, all_pairs_push, Event, Initial, At, ComesBefore, given_to, ThreadTrace, ProgramSketch, mode_in, trace_in, IsInitialWrite, accesses_at, IsEarly, IsOfThreads, AreAccesses, slice_get_past}
-use Rattle.known_edges.proofs.Vocabulary.{slice_get_read, IsGrown, later, none_past_by}
+use Rattle.known_edges.proofs.Vocabulary.{Contains-push_cases, all_pairs_push, Event, Initial, At, ComesBefore, ThreadTrace, IsInitialWrite, accesses_at, IsEarly, IsOfThreads, AreAccesses, slice_get_past}
+use Rattle.known_edges.proofs.Vocabulary.{slice_get_read, IsGrown, later}
 
 -- an access of one of the first n threads
 abbrev pub IsBelow : List ThreadTrace → ℕ → Event → Type 0

@@ -1,12 +1,12 @@
 -- Accesses by number: what the rows of a sketch say of its events.
 use Rattle.known_edges.proofs.Vocabulary.{◌≡◌, ◌↔◌, ℕ, Bool, IsTrue, List, [], Option, Some, None, Contains, slice_get, get_or, length, refl, sym, ap, ◌∙◌, subst, inl, inr, ◌≤◌, arith, option_map_or, slice_get_within, slice_get-get_or, get_or_from_slice_get}
-use Rattle.known_edges.proofs.Vocabulary.{same_Some, IsIn, RowHas, MAX_THREADS, MAX_INSTRUCTIONS, Listing, Access, Event, Initial, At, Kind, ComesBefore, IsOfMode, Mode, Sequential, Fenced, ThreadTrace, machine_of_mode, ProgramSketch, mode_in, trace_in}
-use Rattle.known_edges.proofs.Vocabulary.{access_in, view_of, KeepsTraces, IsInitialWrite, accesses_at, traced_access, IsOfThreads, AreAccesses, EachEnds, FitRow, AreRowsOf, HasWrites, IsRowOf, IsWriteAt, main_kind, union_rows, some_value, of_some}
-use Rattle.known_edges.proofs.Vocabulary.{slice_index, Writes, IsAccess, IsWhole, given_to, next_read, IsOrdered}
+use Rattle.known_edges.proofs.Vocabulary.{same_Some, IsIn, RowHas, MAX_THREADS, MAX_INSTRUCTIONS, Listing, Access, Event, Initial, At, Kind, ComesBefore, IsOfMode, Mode, Sequential, Fenced, ThreadTrace, machine_of_mode, ProgramSketch, mode_in}
+use Rattle.known_edges.proofs.Vocabulary.{access_in, view_of, HasValuesFirst, KeepsTraces, IsInitialWrite, accesses_at, IsOfThreads, AreAccesses, FitRow, AreRowsOf, HasWrites, IsRowOf, IsWriteAt, main_kind, union_rows, some_value, of_some}
+use Rattle.known_edges.proofs.Vocabulary.{slice_index, Writes, IsAccess, IsWhole, given_to, IsOrdered}
 use Rattle.candidate_executions.specs.declared.event.Kind.TheVariants as union
 use Rattle.program_sketches.proofs.Traced.{is_access, access_same}
 use Rattle.program_sketches.specs.Writes.{HasLater, IsLastWith, IsWritten}
-use Rattle.program_sketches.proofs.{TracesKept.trace_accesses, TracesKept.no_accesses, TracesKept.no_trace, TracesKept.trace_next, TracesKept.past_next, ChoicesCounted.few_accesses}
+use Rattle.program_sketches.proofs.{ChoicesCounted.few_accesses}
 use Rattle.known_edges.proofs.Connected.{HasNumber}
 use Rattle.program_sketches.proofs.BranchesCounted.{not_before_itself}
 
@@ -67,27 +67,27 @@ module _ (p : Listing) (mode : Mode) (thread_traces : List ThreadTrace) (sources
     access_number e h = number_of events e ((accesses.exact e).1 ((is_access p mode thread_traces sources pairs kept e).0 h))
 
   -- both writes of a chosen pair have numbers
-  pub chosen_numbers : (events : List Event) → (IsWhole s.program (mode_in s) s.chosen → AreAccesses thread_traces events) → (d e : Event) → Contains pairs (d, e) → HasNumber events d × HasNumber events e
-  chosen_numbers events all d e h =
+  pub chosen_numbers : (events : List Event) → HasValuesFirst s → (IsWhole s.program (mode_in s) s.chosen → AreAccesses thread_traces events) → (d e : Event) → Contains pairs (d, e) → HasNumber events d × HasNumber events e
+  chosen_numbers events first all d e h =
       let (l, v, u, w, w2, a, b) = (kept.lawful.is_sketch.pairs d e h).1 in
-      let accesses = all (kept.lawful.whole d e (inr h)) in
+      let accesses = all (first.whole d e (inr h)) in
       (access_number events accesses d (writes_access d l v w a), access_number events accesses e (writes_access e l u w2 b))
 
   -- so have two writes that are in order
-  pub ordered_numbers : (events : List Event) → (IsWhole s.program (mode_in s) s.chosen → AreAccesses thread_traces events) → (d e : Event) → IsOrdered s d e → HasNumber events d × HasNumber events e
-  ordered_numbers events all d e (inl h) = chosen_numbers events all d e h
-  ordered_numbers events all d e (inr h) = let numbers = chosen_numbers events all e d h in (numbers.1, numbers.0)
+  pub ordered_numbers : (events : List Event) → HasValuesFirst s → (IsWhole s.program (mode_in s) s.chosen → AreAccesses thread_traces events) → (d e : Event) → IsOrdered s d e → HasNumber events d × HasNumber events e
+  ordered_numbers events first all d e (inl h) = chosen_numbers events first all d e h
+  ordered_numbers events first all d e (inr h) = let numbers = chosen_numbers events first all e d h in (numbers.1, numbers.0)
 
   -- the row of an event has a number where a pair puts a write after the event
-  pub later_test : (events : List Event) (later : List ℕ) (d : ℕ) (x : Event) (b : Bool) → (IsWhole s.program (mode_in s) s.chosen → AreAccesses thread_traces events) → AreRowsOf events (λ d e. Contains pairs (d, e)) later →
+  pub later_test : (events : List Event) (later : List ℕ) (d : ℕ) (x : Event) (b : Bool) → HasValuesFirst s → (IsWhole s.program (mode_in s) s.chosen → AreAccesses thread_traces events) → AreRowsOf events (λ d e. Contains pairs (d, e)) later →
       slice_get events d ≡ Some x → (IsTrue b ↔ ((k : ℕ) × IsIn (slice_index later d) k)) → IsTrue b ↔ HasLater s x
-  later_test events later d x b all rows at test = (
+  later_test events later d x b first all rows at test = (
     λ t.
         let (k, there) = test.0 t in
         let (y, z, at_y, at_z, chosen) = (rows d k).0 there in
         (z, subst (λ e. Contains pairs (e, z)) (same_Some y x (sym at_y ∙ at)) chosen),
     λ (z, chosen).
-        let (k, at_k) = (chosen_numbers events all x z chosen).1 in
+        let (k, at_k) = (chosen_numbers events first all x z chosen).1 in
         test.1 (k, (at_numbers events (λ d e. Contains pairs (d, e)) later d k x z rows at at_k).1 chosen),
   )
 

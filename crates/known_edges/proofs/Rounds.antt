@@ -1,6 +1,6 @@
 -- Cycles of known edges, seen in the rows.
 use Rattle.known_edges.proofs.Vocabulary.{◌≡◌, ◌↔◌, ℕ, suc, List, [], ◌∷◌, Some, Contains, slice_get, refl, sym, ◌∙◌, subst, arith, same_Some, slice_get_within, Listing, Mode, Event, Kind, IsAccess, Leads, IsCycle, IsOfMode, KnownEdgeOfMode, IsKnownCycle}
-use Rattle.known_edges.proofs.Vocabulary.{IsWhole, given_to, ThreadTrace, ProgramSketch, mode_in, view_of, IsLawful, AreRowsOf, IsRepresented, union_rows, IsIn, RowHas, Reaches, HasRound, RowsLead as Path, AreRelated, HaveEvents, GoesOnIn}
+use Rattle.known_edges.proofs.Vocabulary.{IsWhole, given_to, ThreadTrace, ProgramSketch, mode_in, view_of, HasValuesFirst, IsLawful, AreRowsOf, IsRepresented, union_rows, IsIn, RowHas, Reaches, HasRound, RowsLead as Path, AreRelated, HaveEvents, GoesOnIn}
 use Rattle.bit_rows.proofs.Paths.{reaches_then}
 use Rattle.known_edges.proofs.{Connected.HasNumber, Numbered.at_numbers, Numbered.rows_of_kind, Numbered.access_number, Found.cycle_of_accesses, Unchosen.no_cycle_yet}
 
@@ -81,10 +81,13 @@ known_rows p mode thread_traces events sources pairs later main global represent
 pub no_round_no_cycle : (p : Listing) (mode : Mode) (thread_traces : List ThreadTrace) (events : List Event) (sources pairs : List (Event × Event)) (later main global : List ℕ) →
     IsRepresented p mode thread_traces events sources pairs later main global → (s : ProgramSketch) → view_of p mode thread_traces sources pairs ≡ s → (kind : Kind) → IsOfMode (mode_in s) kind →
     (rows : List ℕ) → rows ≡ union_rows kind main global → (HasRound rows → ⊥) → (es : List Event) → IsKnownCycle s.program (mode_in s) s.chosen kind es → ⊥
-no_round_no_cycle p mode thread_traces events sources pairs later main global represented s view kind of_mode rows same none es cycle = no_cycle_yet s lawful not_whole kind es cycle
+no_round_no_cycle p mode thread_traces events sources pairs later main global represented s view kind of_mode rows same none es cycle = no_cycle_yet s lawful first not_whole kind es cycle
   where
     lawful : IsLawful s
     lawful = subst (λ (s : ProgramSketch). IsLawful s) view represented.kept.lawful
+
+    first : HasValuesFirst s
+    first = subst (λ (s : ProgramSketch). HasValuesFirst s) view represented.values_first
 
     not_whole : IsWhole s.program (mode_in s) s.chosen → ⊥
     not_whole whole =

@@ -44,6 +44,7 @@ module _ (p : Listing) (mode : Mode) (thread_traces : List ThreadTrace) (events 
   pub begun : (later : List ℕ) → ((d e : ℕ) → RowHas later d e → ⊥) → IsRepresented p mode thread_traces events sources pairs later main global
   begun later empty = record {
     kept = kept;
+    values_first = record { whole = λ d e h. absurd (none d e h) };
     rows = record {
       all = λ whole. order.numbered.all (whole_ends p mode thread_traces sources pairs kept whole);
       of_threads = order.numbered.of_threads;
@@ -92,7 +93,8 @@ module _ (p : Listing) (mode : Mode) (thread_traces : List ThreadTrace) (events 
         AreConnected later rows.before rows.after later' → AreConnected main rows.earlier rows.after main' → AreConnected global outer rows.after global' →
         IsRepresented p mode thread_traces events sources (pairs ++ (first, second) ∷ []) later' main' global'
     pair_represented outer later' main' global' fenced put put_main put_global = record {
-      kept = pair_kept p mode thread_traces sources pairs is.kept first second may;
+      kept = pair_kept p mode thread_traces sources pairs is.kept first second (record { is_pair = may.is_pair; free = may.free });
+      values_first = record { whole = λ d e h. may.whole };
       rows = record {
         all = is.rows.all;
         of_threads = is.rows.of_threads;
@@ -141,7 +143,7 @@ module _ (p : Listing) (mode : Mode) (thread_traces : List ThreadTrace) (events 
           (each d).1 (
             elim before [
               | inl h ↦ absurd (subst (IsOfThreads thread_traces) from (number_access thread_traces events is.rows.of_threads source
-                  (chosen_numbers p mode thread_traces sources pairs is.kept events is.rows.all source x h).0))
+                  (chosen_numbers p mode thread_traces sources pairs is.kept events is.values_first is.rows.all source x h).0))
               | inr (q, other, wr) ↦ (x, at, (y, same ∙ ay, (let here : Initial y.location ≡ Initial l = sym q ∙ from in cc), wr))
             ],
             not_read reader d x of_reader at ne,
@@ -159,7 +161,7 @@ module _ (p : Listing) (mode : Mode) (thread_traces : List ThreadTrace) (events 
           let (a, ay) = there y (d, at_y) in
           (y, at_y, (a, ay, inl own, λ q. ((each d).0 h).1 ((of_reader d).1 (y, at_y, sym q))))),
       λ (x, at, (y, ay, before, ne)). elim before [
-        | inl h ↦ (let (k, at_k) = (chosen_numbers p mode thread_traces sources pairs is.kept events is.rows.all source x h).0 in
+        | inl h ↦ (let (k, at_k) = (chosen_numbers p mode thread_traces sources pairs is.kept events is.values_first is.rows.all source x h).0 in
             (each d).1 ((k, at_k, (is.rows.later_rows k d).1 (source, x, at_k, at, h)), not_read reader d x of_reader at ne))
         | inr (q, other, wr) ↦ absurd (let e : At t i ≡ Initial y.location = sym from ∙ q in cc)
       ],
@@ -231,7 +233,8 @@ module _ (p : Listing) (mode : Mode) (thread_traces : List ThreadTrace) (events 
           let of_near : IsRowOf events (λ e. (SameThread source read → ⊥) × (e ≡ source)) near =
           row_if events (λ e. e ≡ source) (λ e. (SameThread source read → ⊥) × (e ≡ source)) (SameThread source read → ⊥) rows.written near are.written if_far (λ x. (λ h. h, λ h. h)) in
           record {
-            kept = source_kept p mode thread_traces sources pairs is.kept read source may;
+            kept = source_kept p mode thread_traces sources pairs is.kept read source (record { is_source = may.is_source; free = may.free });
+            values_first = record { whole = λ d e h. may.whole };
             rows = record {
               all = is.rows.all;
               of_threads = is.rows.of_threads;

@@ -1,6 +1,6 @@
 -- What is known where neither a source nor an order is chosen: program order, which has no cycle.
 use Rattle.known_edges.proofs.Vocabulary.{◌⊎◌, suc, List, [], ◌∷◌, Contains, refl, ◌∙◌, subst, inl, inr, arith, Access, Event, Initial, At, Kind, Leads, Precedes, IsBefore, KnownRelates, KnownEdgeOfMode, IsKnownCycle, IsWhole, given_to, IsAccess}
-use Rattle.known_edges.proofs.Vocabulary.{ProgramSketch, mode_in, IsLawful, HasNoCycle, OrderPart, SourcePart}
+use Rattle.known_edges.proofs.Vocabulary.{ProgramSketch, mode_in, IsLawful, HasValuesFirst, HasNoCycle, OrderPart, SourcePart}
 use Rattle.candidate_executions.specs.declared.event.Kind.TheVariants as union
 use Rattle.program_sketches.proofs.KnownParts.{of_relates}
 use Rattle.known_edges.proofs.Found.{cycle_of_accesses}
@@ -50,5 +50,5 @@ module _ (s : ProgramSketch) (none : (d e : Event) → Contains s.chosen.sources
   never_round kind (e ∷ es) all h = not_itself e (way_precedes kind e es e (all e (0, omega arith, refl)) (λ f c. all f (suc c.0, (let l = c.1 in omega arith), c.2)) h)
 
 -- before each read has its value no known edges make a cycle
-pub no_cycle_yet : (s : ProgramSketch) → IsLawful s → (IsWhole s.program (mode_in s) s.chosen → ⊥) → HasNoCycle s
-no_cycle_yet s lawful not_whole kind es cycle = never_round s (λ d e h. not_whole (lawful.whole d e h)) kind es (cycle_of_accesses s kind es lawful cycle) cycle
+pub no_cycle_yet : (s : ProgramSketch) → IsLawful s → HasValuesFirst s → (IsWhole s.program (mode_in s) s.chosen → ⊥) → HasNoCycle s
+no_cycle_yet s lawful first not_whole kind es cycle = never_round s (λ d e h. not_whole (first.whole d e h)) kind es (cycle_of_accesses s kind es lawful cycle) cycle

@@ -39,7 +39,7 @@ pub use Rattle.tso_program.specs.declared.instruction.Instr.{Instr}
 pub use Rattle.tso_program.specs.declared.limits.TheConstants.{MAX_INSTRUCTIONS, MAX_LOCATIONS, MAX_THREADS}
 pub use Rattle.tso_program.specs.declared.listing.Listing.{Listing}
 pub use Rattle.program_sketches.specs.Choices.{IsOrdered, MayFollow, MayRead}
-pub use Rattle.program_sketches.specs.Kept.{IsLawful, KeepsTraces, view_of}
+pub use Rattle.program_sketches.specs.Kept.{HasValuesFirst, IsLawful, KeepsTraces, view_of}
 pub use Rattle.program_sketches.specs.Known.{HasCycle, HasNoCycle, IsInitialWrite, OrderPart, SourcePart}
 pub use Rattle.program_sketches.specs.ProgramSketches.{ProgramSketch, access_in, mode_in, trace_in, with_chosen}
 pub use Rattle.known_edges.specs.Rounds.{AreRelated, GoesOnIn, HaveEvents, IsRound}

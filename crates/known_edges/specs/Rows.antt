@@ -1,7 +1,6 @@
 -- Accesses by number, and what is kept of them in rows.
-use Rattle.std.specs.Prelude.{◌≡◌, ◌≢◌, ◌↔◌, ◌⊎◌, ◌+◌, ◌<◌, ◌≤◌, ℕ, Bool, IsTrue, List, [], Option, Some, None, IsSome, slice_get, slice_index, length, Contains}
+use Rattle.std.specs.Prelude.{◌≡◌, ◌≢◌, ◌↔◌, ◌⊎◌, ◌+◌, ◌<◌, ◌≤◌, ℕ, Bool, IsTrue, List, Some, IsSome, slice_get, slice_index, length, Contains}
 use Rattle.std.specs.List.{AllPairs}
-use Rattle.std.specs.Option.{option_map_or}
 use Rattle.bit_rows.specs.Rows.{IsIn, RowHas, AreConnected, HasRound}
 use Rattle.tso_program.specs.declared.listing.Listing.{Listing}
 use Rattle.candidate_executions.specs.declared.access.Access.{Access}
@@ -15,8 +14,8 @@ use Rattle.known_edges.specs.declared.edge_rows.SourceRows.{SourceRows}
 use Rattle.known_edges.specs.declared.edge_rows.OrderRows.{OrderRows}
 use Rattle.program_sketches.specs.ProgramSketches.{ProgramSketch, mode_in}
 use Rattle.program_sketches.specs.Known.{OrderPart}
-use Rattle.program_sketches.specs.Kept.{view_of, KeepsTraces}
-use Rattle.program_sketches.specs.TracedAccesses.{accesses_at, traced_access, IsOfThreads, EachEnds}
+use Rattle.program_sketches.specs.Kept.{view_of, KeepsTraces, HasValuesFirst}
+use Rattle.program_sketches.specs.TracedAccesses.{traced_access, IsOfThreads, EachEnds}
 use Rattle.bit_rows.specs.declared.row.TheConstants.{ROW_BITS}
 use Rattle.tso_program.specs.declared.limits.TheConstants.{MAX_LOCATIONS}
 use Rattle.candidate_executions.specs.Sketches.{KnownEdgeOfMode, IsWhole}
@@ -142,6 +141,7 @@ pub record HasRows (s : ProgramSketch) (thread_traces : List ThreadTrace) (event
 -- what the code keeps of a sketch
 pub record IsRepresented (p : Listing) (mode : Mode) (thread_traces : List ThreadTrace) (events : List Event) (sources pairs : List (Event × Event)) (later main global : List ℕ) : Type 0 where
   pub kept : KeepsTraces p mode thread_traces sources pairs
+  pub values_first : HasValuesFirst (view_of p mode thread_traces sources pairs)
   pub rows : HasRows (view_of p mode thread_traces sources pairs) thread_traces events later main global
 
 -- the rows of a read's source: those of the read and of the source, and the writes after the source but for the read

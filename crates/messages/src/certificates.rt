@@ -32,7 +32,7 @@ pub fn certificate_message(
     let (offset, said) = match fault {
         CertFault::Header => (
             0,
-            "cannot stand here; a certificate begins with `FENCECERT 1` or `FENCECERT 2`",
+            "cannot stand here; a certificate begins with `FENCECERT 1`, `FENCECERT 2` or `FENCECERT 4`",
         ),
         CertFault::Token(offset) => (offset, "cannot stand here (docs/formats.md)"),
         CertFault::Number(offset) => (offset, "has a leading zero, or is past its limit"),

@@ -1,5 +1,5 @@
 -- A lawful sketch stays so when it takes a value.
-use Rattle.outcome_search.proofs.Vocabulary.{◌≡◌, ◌⊎◌, ℕ, ◌<◌, ◌++◌, List, [], ◌∷◌, Option, Some, None, IsSome, Contains, length, refl, sym, ◌∙◌, subst, inl, inr, arith, cases_eq, same_Some, action, code_of, start_of, Event, trace, fenced_gaps, IsValueOf}
+use Rattle.outcome_search.proofs.Vocabulary.{◌≡◌, ℕ, ◌<◌, ◌++◌, List, [], ◌∷◌, Option, Some, IsSome, length, refl, sym, ◌∙◌, subst, inl, inr, arith, cases_eq, same_Some, action, code_of, start_of, trace, fenced_gaps, IsValueOf}
 use Rattle.outcome_search.proofs.Vocabulary.{given_to, with_value, next_read, IsLawful, ProgramSketch, mode_in, trace_in, with_chosen, given_same, given_other, reads_there, good_of, values_from}
 use Rattle.candidate_executions.proofs.{FromRuns.StepsSuffice.advance, Sketches.Choices.a_value_keeps_a_sketch}
 use Rattle.program_sketches.proofs.GivenUsed.{Good, good_more}
@@ -25,16 +25,11 @@ module _ (s : ProgramSketch) (t v l : ℕ) (lawful : IsLawful s) (next : next_re
     | inr other ↦ subst (traced_with u) (sym (given_other s.chosen t v u other)) (good_of s lawful u)
   ]
 
-  -- before each read has its value nothing else is chosen
-  unchosen : (d e : Event) → Contains s.chosen.sources (d, e) ⊎ Contains s.chosen.pairs (d, e) → ⊥
-  unchosen d e chosen = let none = lawful.whole d e chosen t in let no : None ≡ Some l = sym none ∙ next in cc
-
   pub lawful_value : IsLawful more
   lawful_value = record {
     within = lawful.within;
     is_sketch = a_value_keeps_a_sketch s.program (mode_in s) s.chosen t l v lawful.within.shared.forward_jumps lawful.is_sketch next;
     values = values_from more good_by;
-    whole = λ d e chosen. absurd (unchosen d e chosen);
     one_source = lawful.one_source;
     one_order = lawful.one_order;
   }

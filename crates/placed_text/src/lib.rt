@@ -1,6 +1,7 @@
 //! From a litmus text and costs to the answer's texts, and to a run that each fence prevents.
 //!
-//! The texts are the answer line, the fenced program and the document, and where it is asked for the certificate. A
+//! The texts are the answer line, the fenced program and the document, and where it is asked for the certificate. For a
+//! program of many combinations of traces a certificate is proposed, which the checker judges (`proposed.rt`). A
 //! run that is shown passes no other gap of the answer, and no sequential run leaves what it leaves.
 //!
 //! Begin with `answer_text`, `place_text` and `why_text`. Free to change: what is reported on the way (`ahead.rt`,
@@ -15,6 +16,7 @@ mod explaining;
 mod fault;
 mod placement;
 mod problem;
+mod proposed;
 mod reasons;
 mod watched;
 mod writing;

@@ -100,7 +100,7 @@ fn solve<R: Threads + Wait + Sync>(
     let searched = sequential_watched(rt, alloc, program, &problem.shown, workers, &ahead)?;
     let progress = ahead.progress();
     report_outcomes(alloc, progress, searched.table().outcomes().len());
-    let effort = Effort { workers, progress };
+    let effort = Effort { progress, ..effort };
     hunt(rt, alloc, problem, &searched, effort)
 }
 

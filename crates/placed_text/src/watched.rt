@@ -1,6 +1,7 @@
 //! How threads share the questions of a placement, and how far it is, reported to people. No clause rests on it.
 ghost use Rattle.std.specs.Prelude.{false};
 
+use cert_forest::Rule;
 use cover_solver::{Oracle, SolveFault, Solver, ThreadShare, Verdict};
 use gap_sets::{Costs, GapSet};
 use litmus_text::Quantifier;
@@ -14,6 +15,8 @@ use tso_program::Shown;
 #[derive(Clone, Copy)]
 pub struct Effort {
     pub workers: u8,
+    /// By which rule trees are made. Without one that depends on how large the program is.
+    pub trees: Option<Rule>,
     /// Where it is reported how far the search is.
     pub progress: Progress,
 }

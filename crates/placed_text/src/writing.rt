@@ -8,8 +8,8 @@ ghost use Rattle.placed_text.specs.Problems.{OfItsPlacement};
 ghost use Rattle.placed_text.specs.TextFaults.{HasNoPlacedText, HasNoPlacement};
 
 use crate::TextFault;
-use crate::placement::placement_of;
 use crate::problem::{Problem, read_problem};
+use crate::proposed::certificate_of;
 use crate::watched::Effort;
 use cert_forest::Certificate;
 use cert_pages::write_pages;
@@ -91,6 +91,20 @@ fn write_placed<R: Threads + Sync>(
     Ok(PlacedText { texts, certificate })
 }
 
+/// The gaps of a certificate's answer.
+fn gaps_of(certificate: &Certificate) -> GapSet
+    ensures { result ≡ certificate.now.gaps }
+{
+    certificate.set
+}
+
+/// The cost of a certificate's answer.
+fn cost_of(certificate: &Certificate) -> u64
+    ensures { result ≡ certificate.now.cost }
+{
+    certificate.cost
+}
+
 /// Places fences in the program of a problem, and writes the texts of the answer. The certificate goes before they are made.
 fn answer_of<R: Threads + Wait + Sync>(
     rt: &R,
@@ -103,10 +117,10 @@ fn answer_of<R: Threads + Wait + Sync>(
     ensures workers { OnOk result (¬ AreTooFewOrMany effort.workers) }
     ensures fault { IfErr result (HasNoPlacement effort.workers) }
 {
-    let placement = placement_of(rt, alloc, problem, effort)?;
-    let gaps = placement.gaps();
-    let cost = placement.cost();
-    drop(placement);
+    let certificate = certificate_of(rt, alloc, problem, effort)?;
+    let gaps = gaps_of(&certificate);
+    let cost = cost_of(&certificate);
+    drop(certificate);
     Ok(write_answer(alloc, problem, &gaps, cost)?)
 }
 
@@ -122,8 +136,7 @@ fn place_in<R: Threads + Wait + Sync>(
     ensures workers { OnOk result (¬ AreTooFewOrMany effort.workers) }
     ensures fault { IfErr result (HasNoPlacement effort.workers) }
 {
-    let placement = placement_of(rt, alloc, problem, effort)?;
-    let certificate = placement.into_certificate();
+    let certificate = certificate_of(rt, alloc, problem, effort)?;
     Ok(write_placed(rt, alloc, effort.workers, problem, certificate)?)
 }
 

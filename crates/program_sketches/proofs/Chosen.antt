@@ -1,6 +1,6 @@
 -- Chosen pairs, looked up.
 use Rattle.program_sketches.proofs.Vocabulary.{◌≡◌, ◌≢◌, ◌↔◌, ℕ, ◌<◌, Bool, true, false, IsTrue, List, [], ◌∷◌, ◌++◌, Option, Some, None, Contains, get_or, length, refl, sym, ap, ◌∙◌, subst, inl, inr, arith, AllPairs, is_some, cases_lt, Contains-get_or}
-use Rattle.program_sketches.proofs.Vocabulary.{all_pairs_push, Listing, Event, Mode, ThreadTrace, machine_of_mode, ProgramSketch, view_of, KeepsTraces, AreOtherTwo, same_Some, none-some, HasSource, MayRead, MayFollow}
+use Rattle.program_sketches.proofs.Vocabulary.{all_pairs_push, Listing, Event, Mode, ThreadTrace, machine_of_mode, ProgramSketch, view_of, KeepsTraces, AreOtherTwo, same_Some, none-some, HasSource, CanRead, CanFollow}
 use Rattle.candidate_executions.proofs.Sketches.Choices.{a_source_keeps_a_sketch, a_pair_keeps_a_sketch}
 use Rattle.program_sketches.proofs.Lookups.{same_default}
 
@@ -41,15 +41,14 @@ module _ (p : Listing) (mode : Mode) (thread_traces : List ThreadTrace) (sources
   s = view_of p mode thread_traces sources pairs
 
   -- a sketch with one more source
-  pub source_kept : (read source : Event) → MayRead s read source → KeepsTraces p mode thread_traces (sources ++ (read, source) ∷ []) pairs
-  source_kept read source may = record {
+  pub source_kept : (read source : Event) → CanRead s read source → KeepsTraces p mode thread_traces (sources ++ (read, source) ∷ []) pairs
+  source_kept read source can = record {
     lawful = record {
       within = kept.lawful.within;
-      is_sketch = a_source_keeps_a_sketch p (machine_of_mode p mode) s.chosen read source kept.lawful.is_sketch may.is_source;
+      is_sketch = a_source_keeps_a_sketch p (machine_of_mode p mode) s.chosen read source kept.lawful.is_sketch can.is_source;
       values = kept.lawful.values;
-      whole = λ d e h. may.whole;
       one_source = all_pairs_push (λ (a b : Event × Event). a.0 ≢ b.0) sources (read, source) kept.lawful.one_source
-          (λ k d l same. may.free ((get_or sources k d).1, subst (λ e. Contains sources (e, (get_or sources k d).1)) same (Contains-get_or sources k d l)));
+          (λ k d l same. can.free ((get_or sources k d).1, subst (λ e. Contains sources (e, (get_or sources k d).1)) same (Contains-get_or sources k d l)));
       one_order = kept.lawful.one_order;
     };
     one_each = kept.one_each;
@@ -57,17 +56,16 @@ module _ (p : Listing) (mode : Mode) (thread_traces : List ThreadTrace) (sources
   }
 
   -- a sketch with one more pair of writes
-  pub pair_kept : (first second : Event) → MayFollow s first second → KeepsTraces p mode thread_traces sources (pairs ++ (first, second) ∷ [])
-  pair_kept first second may = record {
+  pub pair_kept : (first second : Event) → CanFollow s first second → KeepsTraces p mode thread_traces sources (pairs ++ (first, second) ∷ [])
+  pair_kept first second can = record {
     lawful = record {
       within = kept.lawful.within;
-      is_sketch = a_pair_keeps_a_sketch p (machine_of_mode p mode) s.chosen first second kept.lawful.is_sketch may.is_pair;
+      is_sketch = a_pair_keeps_a_sketch p (machine_of_mode p mode) s.chosen first second kept.lawful.is_sketch can.is_pair;
       values = kept.lawful.values;
-      whole = λ d e h. may.whole;
       one_source = kept.lawful.one_source;
       one_order = all_pairs_push AreOtherTwo pairs (first, second) kept.lawful.one_order (λ k d l. (
-        λ same. may.free (inl (subst (Contains pairs) same (Contains-get_or pairs k d l))),
-        λ same. may.free (inr (subst (Contains pairs) same (Contains-get_or pairs k d l))),
+        λ same. can.free (inl (subst (Contains pairs) same (Contains-get_or pairs k d l))),
+        λ same. can.free (inr (subst (Contains pairs) same (Contains-get_or pairs k d l))),
       ));
     };
     one_each = kept.one_each;

@@ -1,7 +1,8 @@
 -- What a sketch keeps holds at the start, and after each value that is given.
 use Rattle.program_sketches.proofs.Vocabulary.{option_map, slice_get-map, unwrap_or, ◌≡◌, ◌≢◌, ◌⊎◌, ℕ, zero, suc, ◌<◌, List, [], ◌∷◌, ◌++◌, Some, None, IsSome, Contains, slice_get, set, map, length, refl, sym, ap, ◌∙◌, subst, inl, inr, arith, length-set, cases_eq}
 use Rattle.program_sketches.proofs.Vocabulary.{length-map, slice_get_within, same_Some, Thread, Listing, IsWithinLimits, action, code_of, start_of, Access, Event, Initial, At, IsValueOf, trace, fenced_gaps, get_cases, get_set_same, get_set_other, Mode, ThreadTrace}
-use Rattle.program_sketches.proofs.Vocabulary.{machine_of_mode, advance, ProgramSketch, trace_in, access_in, nothing_chosen, with_chosen, given_lists, given_in, view_of, KeepsTraces, IsLawful}
+use Rattle.program_sketches.proofs.Vocabulary.{machine_of_mode, advance, ProgramSketch, trace_in, access_in, nothing_chosen, with_chosen, given_lists, given_in, view_of, KeepsTraces, IsLawful, HasValuesFirst, mode_in, some_value}
+use Rattle.candidate_executions.proofs.Sketches.Choices.{a_value_keeps_a_sketch}
 use Rattle.candidate_executions.specs.Sketches as sketches
 use Rattle.thread_traces.specs.ThreadTraces.{IsThreadTraceOf}
 use Rattle.program_sketches.proofs.GivenUsed.{Good, good_begin, good_more}
@@ -45,7 +46,6 @@ module _ (p : Listing) (mode : Mode) (thread_traces : List ThreadTrace) (within 
         pairs = λ d e h. absurd (none_in _ h);
       };
       values = values_from (view_of p mode thread_traces [] []) good;
-      whole = λ d e h. elim h [ inl a ↦ absurd (none_in _ a) | inr a ↦ absurd (none_in _ a) ];
       one_source = λ i j d h l. absurd (omega arith);
       one_order = λ i j d h l. absurd (omega arith);
     };
@@ -106,10 +106,6 @@ module _ (p : Listing) (mode : Mode) (thread_traces : List ThreadTrace) (sources
     | inr ne ↦ subst (traced_with u) (sym (given_other u ne)) (good_of s kept.lawful u)
   ]
 
-  -- before the sketch is whole nothing else is chosen
-  pub unchosen : (d e : Event) → Contains sources (d, e) ⊎ Contains pairs (d, e) → ⊥
-  unchosen d e h = let none = kept.lawful.whole d e h t in let no : IsSome {T = ℕ} None = subst (λ o. IsSome o) none some in cc
-
   are : (u : ℕ) (c : ThreadTrace) → slice_get (set thread_traces t new) u ≡ Some c → IsThreadTraceOf p (machine_of_mode p mode) u c.given c
   are u c e = elim (cases_eq u t) [
     | inl q ↦ (let here : slice_get (set thread_traces t new) t ≡ Some c = subst (λ z. slice_get (set thread_traces t new) z ≡ Some c) q e in
@@ -119,29 +115,30 @@ module _ (p : Listing) (mode : Mode) (thread_traces : List ThreadTrace) (sources
     | inr ne ↦ kept.traces_are u c (sym (get_set_other thread_traces t new u ne) ∙ e)
   ]
 
+  pub more_parts : s' ≡ with_chosen s (sketches.with_value s.chosen t v)
+  more_parts = ap (λ given. record { program = p; mode = mode; chosen = record { given = given; sources = sources; pairs = pairs } })
+      (given_set thread_traces t new ∙ ap (set (given_lists thread_traces) t) (is.given_is ∙ ap (λ xs. xs ++ v ∷ []) (sym (given_at thread_traces t old there))))
+
+  -- what is chosen stays of the program
+  is_sketch_by : sketches.IsSketch p (machine_of_mode p mode) s'.chosen
+  is_sketch_by =
+      let (l, next) = some_value (sketches.next_read p (machine_of_mode p mode) s.chosen t) some in
+      subst (λ (k : ProgramSketch). sketches.IsSketch p (machine_of_mode p mode) k.chosen) (sym more_parts)
+      (a_value_keeps_a_sketch p (machine_of_mode p mode) s.chosen t l v kept.lawful.within.shared.forward_jumps kept.lawful.is_sketch next)
+
   -- a sketch with one more value
   pub more_kept : KeepsTraces p mode (set thread_traces t new) sources pairs
   more_kept = record {
     lawful = record {
       within = kept.lawful.within;
-      is_sketch = record {
-        each_thread = length-map (set thread_traces t new) (λ (c : ThreadTrace). c.given) ∙ length-set thread_traces t new ∙ kept.one_each;
-        used = λ u. (good_by u).used;
-        sources = λ e s h. absurd (unchosen e s (inl h));
-        pairs = λ d e h. absurd (unchosen d e (inr h));
-      };
+      is_sketch = is_sketch_by;
       values = values_from s' good_by;
-      whole = λ d e h. absurd (unchosen d e h);
       one_source = kept.lawful.one_source;
       one_order = kept.lawful.one_order;
     };
     one_each = length-set thread_traces t new ∙ kept.one_each;
     traces_are = are;
   }
-
-  pub more_parts : s' ≡ with_chosen s (sketches.with_value s.chosen t v)
-  more_parts = ap (λ given. record { program = p; mode = mode; chosen = record { given = given; sources = sources; pairs = pairs } })
-      (given_set thread_traces t new ∙ ap (set (given_lists thread_traces) t) (is.given_is ∙ ap (λ xs. xs ++ v ∷ []) (sym (given_at thread_traces t old there))))
 
 -- one thread more is made
 pub made_more : (p : Listing) (mode : Mode) (cs : List ThreadTrace) (t : ℕ) (given : List ℕ) (new : ThreadTrace) → length cs ≡ t →
@@ -159,6 +156,11 @@ pub new_kept_by : (p q : Listing) (mode : Mode) (thread_traces : List ThreadTrac
     KeepsTraces p mode thread_traces [] [] → KeepsTraces q mode thread_traces sources pairs
 new_kept_by p q mode thread_traces sources pairs e f g kept =
     subst (λ r. KeepsTraces r mode thread_traces sources pairs) (sym e) (subst (λ xs. KeepsTraces p mode thread_traces xs pairs) (sym f) (subst (λ xs. KeepsTraces p mode thread_traces [] xs) (sym g) kept))
+
+-- where values come first, nothing else is chosen before each read has its value
+pub unchosen : (s : ProgramSketch) → HasValuesFirst s → (t : ℕ) → IsSome (sketches.next_read s.program (mode_in s) s.chosen t) → (d e : Event) →
+    Contains s.chosen.sources (d, e) ⊎ Contains s.chosen.pairs (d, e) → ⊥
+unchosen s first t some d e h = let none = first.whole d e h t in let no : IsSome {T = ℕ} None = subst (λ o. IsSome o) none some in cc
 
 -- nothing is chosen in empty lists
 pub none_chosen : (sources pairs : List (Event × Event)) → sources ≡ [] → pairs ≡ [] → (d e : Event) → Contains sources (d, e) ⊎ Contains pairs (d, e) → ⊥

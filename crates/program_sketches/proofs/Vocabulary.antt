@@ -37,8 +37,8 @@ pub use Rattle.tso_program.specs.declared.instruction.Instr.{Instr}
 pub use Rattle.tso_program.specs.declared.limits.TheConstants.{MAX_ACCESSES}
 pub use Rattle.tso_program.specs.declared.listing.Listing.{Listing}
 pub use Rattle.tso_program.specs.declared.listing.Thread.{Thread}
-pub use Rattle.program_sketches.specs.Choices.{HasSource, MayFollow, MayRead}
-pub use Rattle.program_sketches.specs.Kept.{AreOtherTwo, IsLawful, KeepsTraces, given_in, given_lists, view_of}
+pub use Rattle.program_sketches.specs.Choices.{CanFollow, CanRead, HasSource}
+pub use Rattle.program_sketches.specs.Kept.{AreOtherTwo, HasValuesFirst, IsLawful, KeepsTraces, given_in, given_lists, view_of}
 pub use Rattle.program_sketches.specs.Known.{IsInitialWrite, OrderPart, SourcePart}
 pub use Rattle.program_sketches.specs.ProgramSketches.{ProgramSketch, access_in, mode_in, nothing_chosen, trace_in, with_chosen}
 pub use Rattle.program_sketches.specs.TracedAccesses.{EachEnds}

@@ -26,13 +26,23 @@ HasSource s read = (source : Event) × Contains s.chosen.sources (read, source)
 abbrev pub IsOrdered : ProgramSketch → Event → Event → Type 0
 IsOrdered s d e = Contains s.chosen.pairs (d, e) ⊎ Contains s.chosen.pairs (e, d)
 
--- a source may be chosen: each read has its value, it is one of the read's sources, and the read has none yet
+-- the read can take the source: it is one of its sources, and the read has none yet
+pub record CanRead (s : ProgramSketch) (read source : Event) : Type 0 where
+  pub is_source : IsSourceOf s.program (mode_in s) s.chosen source read
+  pub free : HasSource s read → ⊥
+
+-- the first can come before the second: they are two writes to one location, in no order yet
+pub record CanFollow (s : ProgramSketch) (d e : Event) : Type 0 where
+  pub is_pair : IsPair s.program (mode_in s) s.chosen d e
+  pub free : IsOrdered s d e → ⊥
+
+-- where values come first, a source may be chosen: each read has its value, it is one of the read's sources, and the read has none yet
 pub record MayRead (s : ProgramSketch) (read source : Event) : Type 0 where
   pub whole : IsWhole s.program (mode_in s) s.chosen
   pub is_source : IsSourceOf s.program (mode_in s) s.chosen source read
   pub free : HasSource s read → ⊥
 
--- an order may be chosen: each read has its value, they are two writes to one location, and they are in no order yet
+-- where values come first, an order may be chosen: each read has its value, they are two writes to one location, and they are in no order yet
 pub record MayFollow (s : ProgramSketch) (d e : Event) : Type 0 where
   pub whole : IsWhole s.program (mode_in s) s.chosen
   pub is_pair : IsPair s.program (mode_in s) s.chosen d e

@@ -23,12 +23,14 @@ pub record IsLawful (s : ProgramSketch) : Type 0 where
   pub is_sketch : IsSketch s.program (mode_in s) s.chosen
   -- a value that is given is one of its location's
   pub values : (e : Event) (x : Access) (v : ℕ) → access_in s e ≡ Some x → x.read ≡ Some v → IsValueOf s.program x.location v
-  -- sources and pairs are chosen once each read has its value
-  pub whole : (d e : Event) → Contains s.chosen.sources (d, e) ⊎ Contains s.chosen.pairs (d, e) → IsWhole s.program (mode_in s) s.chosen
   -- a read has one source
   pub one_source : AllPairs (λ (a b : Event × Event). a.0 ≢ b.0) s.chosen.sources
   -- two writes have one order
   pub one_order : AllPairs AreOtherTwo s.chosen.pairs
+
+-- values come first: sources and pairs are chosen once each read has its value
+pub record HasValuesFirst (s : ProgramSketch) : Type 0 where
+  pub whole : (d e : Event) → Contains s.chosen.sources (d, e) ⊎ Contains s.chosen.pairs (d, e) → IsWhole s.program (mode_in s) s.chosen
 
 -- the values given to each thread
 abbrev pub given_lists : List ThreadTrace → List (List ℕ)
@@ -47,3 +49,8 @@ pub record KeepsTraces (p : Listing) (mode : Mode) (thread_traces : List ThreadT
   pub lawful : IsLawful (view_of p mode thread_traces sources pairs)
   pub one_each : length thread_traces ≡ length p.threads
   pub traces_are : (t : ℕ) (c : ThreadTrace) → slice_get thread_traces t ≡ Some c → IsThreadTraceOf p (machine_of_mode p mode) t c.given c
+
+-- the same where values come first
+pub record KeepsValuesFirst (p : Listing) (mode : Mode) (thread_traces : List ThreadTrace) (sources pairs : List (Event × Event)) : Type 0 where
+  pub kept : KeepsTraces p mode thread_traces sources pairs
+  pub values_first : HasValuesFirst (view_of p mode thread_traces sources pairs)

@@ -1,6 +1,6 @@
--- What is kept where sources or orders are dropped from the end, and where nothing is chosen yet.
-use Rattle.rowless_sketches.proofs.Vocabulary.{◌≡◌, ◌≢◌, ◌⊎◌, ℕ, List, [], ◌∷◌, ◌++◌, Some, None, IsSome, Option, Contains, get_or, length, take, refl, sym, ap, ◌∙◌, subst, inl, inr, arith, option_to_list, get_or_append_left, length-append, length_push}
-use Rattle.rowless_sketches.proofs.Vocabulary.{AllPairs, Contains-append_left, Listing, Mode, Event, ThreadTrace, mode_in, view_of, KeepsTraces, next_read, AreOtherTwo}
+-- What is kept where sources or orders are dropped from the end.
+use Rattle.rowless_sketches.proofs.Vocabulary.{◌≡◌, ◌≢◌, ℕ, List, [], ◌∷◌, ◌++◌, Some, None, IsSome, Option, get_or, length, take, sym, ap, ◌∙◌, subst, arith, option_to_list, get_or_append_left, length-append, length_push}
+use Rattle.rowless_sketches.proofs.Vocabulary.{AllPairs, Contains-append_left, Listing, Mode, Event, ThreadTrace, KeepsTraces, AreOtherTwo}
 use Rattle.std.proofs.Math.Seq.{take-append_seam}
 
 -- what holds of each two of a list holds of each two of its first part
@@ -31,7 +31,6 @@ module _ (p : Listing) (mode : Mode) (thread_traces : List ThreadTrace) (sources
         pairs = kept.lawful.is_sketch.pairs;
       };
       values = kept.lawful.values;
-      whole = λ d e h. kept.lawful.whole d e (elim h [ inl a ↦ inl (Contains-append_left sources ys (d, e) a) | inr b ↦ inr b ]);
       one_source = first_pairs (λ (a b : Event × Event). a.0 ≢ b.0) sources ys kept.lawful.one_source;
       one_order = kept.lawful.one_order;
     };
@@ -50,25 +49,9 @@ module _ (p : Listing) (mode : Mode) (thread_traces : List ThreadTrace) (sources
         pairs = λ d e h. kept.lawful.is_sketch.pairs d e (Contains-append_left pairs ys (d, e) h);
       };
       values = kept.lawful.values;
-      whole = λ d e h. kept.lawful.whole d e (elim h [ inl a ↦ inl a | inr b ↦ inr (Contains-append_left pairs ys (d, e) b) ]);
       one_source = kept.lawful.one_source;
       one_order = first_pairs AreOtherTwo pairs ys kept.lawful.one_order;
     };
     one_each = kept.one_each;
     traces_are = kept.traces_are;
   }
-
-  -- while a read has no value nothing else is chosen
-  module _ (kept : KeepsTraces p mode thread_traces sources pairs) (t : ℕ) (reads : IsSome (next_read p (mode_in (view_of p mode thread_traces sources pairs)) (view_of p mode thread_traces sources pairs).chosen t)) where
-    none : (d e : Event) → Contains sources (d, e) ⊎ Contains pairs (d, e) → ⊥
-    none d e h = (let no : IsSome {T = ℕ} None = subst (λ (o : Option ℕ). IsSome o) (kept.lawful.whole d e h t) reads in cc)
-
-    no_elements : (xs : List (Event × Event)) → ((d e : Event) → Contains xs (d, e) → ⊥) → xs ≡ []
-    no_elements [] h = refl
-    no_elements ((d, e) ∷ xs) h = absurd (h d e (0, omega arith, refl))
-
-    pub no_sources : sources ≡ []
-    no_sources = no_elements sources (λ d e h. none d e (inl h))
-
-    pub no_pairs : pairs ≡ []
-    no_pairs = no_elements pairs (λ d e h. none d e (inr h))

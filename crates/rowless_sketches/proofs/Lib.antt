@@ -5,6 +5,7 @@ pub mod Ends
 pub mod Known
 pub mod MemoryEnds
 pub mod OwnWrites
+pub mod SettledReads
 pub mod SourceLists
 pub mod ThreadValues
 pub mod ValuesGiven

@@ -1,6 +1,6 @@
 -- The sources of a read, listed thread by thread.
 use Rattle.rowless_sketches.proofs.Vocabulary.{◌≡◌, ◌↔◌, ◌⊎◌, ◌+◌, ℕ, Bool, IsTrue, ◌≤◌, List, [], Some, slice_get, length, Contains, refl, sym, ap, ◌∙◌, subst, inl, inr, arith, AllPairs, cases_lt, cases_eq, same_Some, slice_get_within, Listing, Mode, Access, Event}
-use Rattle.rowless_sketches.proofs.Vocabulary.{Initial, At, ComesBefore, IsSourceOf, ThreadTrace, ProgramSketch, mode_in, trace_in, view_of, KeepsTraces, ReadsThisValue, IsRead, trace_accesses, none_in, IsWhole, AreListedTo, AreSources}
+use Rattle.rowless_sketches.proofs.Vocabulary.{Initial, At, ComesBefore, IsSourceOf, ThreadTrace, ProgramSketch, mode_in, trace_in, view_of, KeepsTraces, ReadsThisValue, IsRead, trace_accesses, none_in, AreListedTo, AreSources}
 
 module _ (s : ProgramSketch) (read : Event) where
   abbrev Gives : Event → Type 0
@@ -103,9 +103,8 @@ module _ (s : ProgramSketch) (read : Event) where
           ap (λ n. Initial n) (sym (own_place ∙ loc ∙ ap (λ (w : Access). w.location) is ∙ place))
 
   -- after all threads each source is listed
-  pub all_listed : (threads : ℕ) (listed : List Event) → IsWhole s.program (mode_in s) s.chosen → IsRead s read → ((t : ℕ) → threads ≤ t → (trace_in s t).accesses ≡ []) → AreListedTo s read threads 0 listed → AreSources s read listed
-  all_listed threads listed whole is_read past is = record {
-    whole = whole;
+  pub all_listed : (threads : ℕ) (listed : List Event) → IsRead s read → ((t : ℕ) → threads ≤ t → (trace_in s t).accesses ≡ []) → AreListedTo s read threads 0 listed → AreSources s read listed
+  all_listed threads listed is_read past is = record {
     is_read = is_read;
     exact = λ e. (λ h. ((is.exact e).0 h).1, λ gives. (is.exact e).1 (before e gives, gives));
     ordered = is.ordered;

@@ -47,10 +47,25 @@ module _ (s u : ProgramSketch) (t : ℕ) (lawful : IsLawful s) (alone : HasValue
       pairs = λ d e h. absurd (values_alone s.chosen alone d e (inr h));
     };
     values = values_from merged good_by;
-    whole = λ d e h. absurd (values_alone s.chosen alone d e h);
     one_source = lawful.one_source;
     one_order = lawful.one_order;
   }
+
+-- each trace is that of its thread, where one comes from another sketch
+module _ (p q : Listing) (mode other_mode : Mode) (thread_traces : List ThreadTrace) (program : q ≡ p) (same_mode : other_mode ≡ mode) (t : ℕ) (c : ThreadTrace)
+    (mine_are : (u : ℕ) (d : ThreadTrace) → slice_get thread_traces u ≡ Some d → IsThreadTraceOf p (machine_of_mode p mode) u d.given d)
+    (theirs : IsThreadTraceOf q (machine_of_mode q other_mode) t c.given c) (inside : t < length thread_traces) where
+  own : IsThreadTraceOf p (machine_of_mode p mode) t c.given c
+  own = subst (λ l. IsThreadTraceOf l (machine_of_mode l mode) t c.given c) program
+      (subst (λ m. IsThreadTraceOf q (machine_of_mode q m) t c.given c) same_mode theirs)
+
+  pub traces_merged : (u : ℕ) (d : ThreadTrace) → slice_get (set thread_traces t c) u ≡ Some d → IsThreadTraceOf p (machine_of_mode p mode) u d.given d
+  traces_merged u d e = elim (cases_eq u t) [
+    | inl q ↦ (let here : slice_get (set thread_traces t c) t ≡ Some d = subst (λ z. slice_get (set thread_traces t c) z ≡ Some d) q e in
+        let same : c ≡ d = same_Some c d (sym (get_set_same thread_traces t c inside) ∙ here) in
+        subst (λ z. IsThreadTraceOf p (machine_of_mode p mode) z d.given d) (sym q) (subst (λ (x : ThreadTrace). IsThreadTraceOf p (machine_of_mode p mode) t x.given x) same own))
+    | inr ne ↦ mine_are u d (sym (get_set_other thread_traces t c u ne) ∙ e)
+  ]
 
 module _ (p q : Listing) (mode other_mode : Mode) (thread_traces others : List ThreadTrace) (sources pairs other_sources other_pairs : List (Event × Event)) (kept : KeepsTraces p mode thread_traces sources pairs)
     (others_kept : KeepsTraces q other_mode others other_sources other_pairs) (program : q ≡ p) (same_mode : other_mode ≡ mode) (alone : HasValuesAlone (view_of p mode thread_traces sources pairs).chosen) (t : ℕ) (c : ThreadTrace)
@@ -69,23 +84,11 @@ module _ (p q : Listing) (mode other_mode : Mode) (thread_traces others : List T
   inside : t < length thread_traces
   inside = (let same = kept.one_each in omega arith)
 
-  own : IsThreadTraceOf p (machine_of_mode p mode) t c.given c
-  own = subst (λ l. IsThreadTraceOf l (machine_of_mode l mode) t c.given c) program
-      (subst (λ m. IsThreadTraceOf q (machine_of_mode q m) t c.given c) same_mode (others_kept.traces_are t c at))
-
-  are : (u : ℕ) (d : ThreadTrace) → slice_get (set thread_traces t c) u ≡ Some d → IsThreadTraceOf p (machine_of_mode p mode) u d.given d
-  are u d e = elim (cases_eq u t) [
-    | inl q ↦ (let here : slice_get (set thread_traces t c) t ≡ Some d = subst (λ z. slice_get (set thread_traces t c) z ≡ Some d) q e in
-        let same : c ≡ d = same_Some c d (sym (get_set_same thread_traces t c inside) ∙ here) in
-        subst (λ z. IsThreadTraceOf p (machine_of_mode p mode) z d.given d) (sym q) (subst (λ (x : ThreadTrace). IsThreadTraceOf p (machine_of_mode p mode) t x.given x) same own))
-    | inr ne ↦ kept.traces_are u d (sym (get_set_other thread_traces t c u ne) ∙ e)
-  ]
-
   pub merged_kept : KeepsTraces p mode (set thread_traces t c) sources pairs
   merged_kept = record {
     lawful = subst IsLawful (sym merged_parts) (merged_lawful mine their t kept.lawful alone others_kept.lawful program same_mode there);
     one_each = length-set thread_traces t c ∙ kept.one_each;
-    traces_are = are;
+    traces_are = traces_merged p q mode other_mode thread_traces program same_mode t c kept.traces_are (others_kept.traces_are t c at) inside;
   }
 
 -- with a copy of the program, where nothing but values is chosen

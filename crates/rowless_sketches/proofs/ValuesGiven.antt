@@ -1,8 +1,8 @@
 -- A value that is given and taken back, and reads that lack a source.
 use Rattle.rowless_sketches.proofs.Vocabulary.{◌≡◌, ℕ, ◌<◌, List, [], ◌∷◌, ◌++◌, Option, Some, None, IsSome, slice_get, slice_index, set, length, refl, sym, ap, ◌∙◌, subst, arith, same_Some, slice_get_within, Listing, Mode, Access, Event, Initial, At}
-use Rattle.rowless_sketches.proofs.Vocabulary.{ThreadTrace, ProgramSketch, mode_in, with_chosen, access_in, with_values, view_of, KeepsTraces, MarkedThread, IsValueMarkOf, LacksSource, EachEnds, traced_access, trace_accesses, no_accesses, given_to, with_value}
-use Rattle.rowless_sketches.proofs.Vocabulary.{IsSourceOf, ends_whole, accesses_same, given_back, ◌≢◌, unwrap_or, given_at, given_lists, given_set, get_set_other, get_set_same, length-map, given_in, IsGivenMore}
-use Rattle.rowless_sketches.proofs.ThreadValues.{merged_kept, merged_parts, values_here}
+use Rattle.rowless_sketches.proofs.Vocabulary.{ThreadTrace, ProgramSketch, mode_in, with_chosen, access_in, with_values, view_of, KeepsTraces, IsLawful, MarkedThread, IsValueMarkOf, LacksSource, traced_access, trace_accesses, no_accesses, given_to, with_value}
+use Rattle.rowless_sketches.proofs.Vocabulary.{IsSourceOf, accesses_same, given_back, length-set, ◌≢◌, unwrap_or, given_at, given_lists, given_set, get_set_other, get_set_same, length-map, given_in, IsGivenMore}
+use Rattle.rowless_sketches.proofs.ThreadValues.{traces_merged, values_here}
 
 -- ---- the values that threads are given, where one trace is changed
 
@@ -18,64 +18,40 @@ given_more thread_traces t value own next there is = (
 
 -- ---- a value that is taken back
 
-module _ (p : Listing) (mode : Mode) (thread_traces : List ThreadTrace) (kept : KeepsTraces p mode thread_traces [] []) (mark : MarkedThread) (earlier : ProgramSketch) (value : ℕ)
-    (is : IsValueMarkOf mark earlier) (now : view_of p mode thread_traces [] [] ≡ with_chosen earlier (with_value earlier.chosen mark.thread value)) where
+module _ (p : Listing) (mode : Mode) (thread_traces : List ThreadTrace) (sources pairs : List (Event × Event)) (kept : KeepsTraces p mode thread_traces sources pairs) (mark : MarkedThread) (earlier : ProgramSketch) (value : ℕ)
+    (is : IsValueMarkOf mark earlier) (now : view_of p mode thread_traces sources pairs ≡ with_chosen earlier (with_value earlier.chosen mark.thread value)) where
   program : earlier.program ≡ p
   program = ap (λ (s : ProgramSketch). s.program) (sym now)
 
   same_mode : earlier.mode ≡ mode
   same_mode = ap (λ (s : ProgramSketch). s.mode) (sym now)
 
-  others : KeepsTraces earlier.program earlier.mode is.traces [] []
-  others = is.kept
-
-  pub mark_there : mark.thread < length thread_traces
-  mark_there =
+  pub taken_there : mark.thread < length thread_traces
+  taken_there =
       let within = slice_get_within is.traces mark.thread mark.trace is.there in
       let each = is.kept.one_each in
       let own = kept.one_each in
       let same = ap (λ (q : Listing). length q.threads) program in
       omega arith
 
-  pub back_kept : KeepsTraces p mode (set thread_traces mark.thread mark.trace) [] []
-  back_kept =
-      let own = kept.one_each in
-      let there = mark_there in
-      merged_kept p earlier.program mode earlier.mode thread_traces is.traces [] [] [] [] kept others program same_mode (record { sources = refl; pairs = refl }) mark.thread mark.trace (omega arith) is.there
+  -- the values that the thread had
+  was : given_to earlier.chosen mark.thread ≡ mark.trace.given
+  was = ap (λ (s : ProgramSketch). given_to s.chosen mark.thread) is.seen ∙ given_at is.traces mark.thread mark.trace is.there
 
-  pub back_parts : view_of p mode (set thread_traces mark.thread mark.trace) [] [] ≡ earlier
-  back_parts =
-      let own = kept.one_each in
-      let there = mark_there in
-      merged_parts p earlier.program mode earlier.mode thread_traces is.traces [] [] [] [] kept others program same_mode (record { sources = refl; pairs = refl }) mark.thread mark.trace (omega arith) is.there
-      ∙ (λ i. with_chosen (now i) (with_values (now i).chosen mark.thread (given_to ((sym is.seen) i).chosen mark.thread)))
+  pub taken_parts : view_of p mode (set thread_traces mark.thread mark.trace) sources pairs ≡ earlier
+  taken_parts =
+      ap (λ given. record { program = p; mode = mode; chosen = record { given = given; sources = sources; pairs = pairs } })
+      (given_set thread_traces mark.thread mark.trace ∙ ap (set (given_lists thread_traces) mark.thread) (sym was))
+      ∙ (λ i. with_chosen (now i) (with_values (now i).chosen mark.thread (given_to earlier.chosen mark.thread)))
       ∙ ap (λ given. record { program = earlier.program; mode = earlier.mode; chosen = record { given = given; sources = earlier.chosen.sources; pairs = earlier.chosen.pairs } })
       (given_back earlier.chosen.given mark.thread (given_to earlier.chosen mark.thread ++ value ∷ []))
 
--- the same where the lists of sources and of orders are empty as the mark's sketch has them
-module _ (p : Listing) (mode : Mode) (thread_traces : List ThreadTrace) (sources pairs : List (Event × Event)) (kept : KeepsTraces p mode thread_traces sources pairs) (mark : MarkedThread) (earlier : ProgramSketch) (value : ℕ)
-    (is : IsValueMarkOf mark earlier) (now : view_of p mode thread_traces sources pairs ≡ with_chosen earlier (with_value earlier.chosen mark.thread value)) where
-  no_sources : sources ≡ []
-  no_sources = ap (λ (s : ProgramSketch). s.chosen.sources) now ∙ ap (λ (s : ProgramSketch). s.chosen.sources) is.seen
-
-  no_pairs : pairs ≡ []
-  no_pairs = ap (λ (s : ProgramSketch). s.chosen.pairs) now ∙ ap (λ (s : ProgramSketch). s.chosen.pairs) is.seen
-
-  alone : KeepsTraces p mode thread_traces [] []
-  alone = subst (λ (ys : List (Event × Event)). KeepsTraces p mode thread_traces [] ys) no_pairs (subst (λ (xs : List (Event × Event)). KeepsTraces p mode thread_traces xs pairs) no_sources kept)
-
-  same : view_of p mode thread_traces [] [] ≡ with_chosen earlier (with_value earlier.chosen mark.thread value)
-  same = (λ i. view_of p mode thread_traces ((sym no_sources) i) ((sym no_pairs) i)) ∙ now
-
   pub taken_kept : KeepsTraces p mode (set thread_traces mark.thread mark.trace) sources pairs
-  taken_kept = subst (λ (xs : List (Event × Event)). KeepsTraces p mode (set thread_traces mark.thread mark.trace) xs pairs) (sym no_sources)
-      (subst (λ (ys : List (Event × Event)). KeepsTraces p mode (set thread_traces mark.thread mark.trace) [] ys) (sym no_pairs) (back_kept p mode thread_traces alone mark earlier value is same))
-
-  pub taken_parts : view_of p mode (set thread_traces mark.thread mark.trace) sources pairs ≡ earlier
-  taken_parts = (λ i. view_of p mode (set thread_traces mark.thread mark.trace) (no_sources i) (no_pairs i)) ∙ back_parts p mode thread_traces alone mark earlier value is same
-
-  pub taken_there : mark.thread < length thread_traces
-  taken_there = mark_there p mode thread_traces alone mark earlier value is same
+  taken_kept = record {
+    lawful = subst IsLawful (sym is.seen ∙ sym taken_parts) is.kept.lawful;
+    one_each = length-set thread_traces mark.thread mark.trace ∙ kept.one_each;
+    traces_are = traces_merged p earlier.program mode earlier.mode thread_traces program same_mode mark.thread mark.trace kept.traces_are (is.kept.traces_are mark.thread mark.trace is.there) taken_there;
+  }
 
   -- the thread was given this value last
   pub taken_more : IsGivenMore (given_in (set thread_traces mark.thread mark.trace)) mark.thread value (given_in thread_traces)
@@ -85,15 +61,14 @@ module _ (p : Listing) (mode : Mode) (thread_traces : List ThreadTrace) (sources
       let one = ap (λ (s : ProgramSketch). length s.chosen.given) is.seen in
       let long = length-map is.traces (λ (c : ThreadTrace). c.given) in
       omega arith) in
-      let back = given_at (set thread_traces mark.thread mark.trace) mark.thread mark.trace (get_set_same thread_traces mark.thread mark.trace taken_there) in
-      let was : given_to earlier.chosen mark.thread ≡ mark.trace.given = ap (λ (s : ProgramSketch). given_to s.chosen mark.thread) is.seen ∙ given_at is.traces mark.thread mark.trace is.there in (
+      let back = given_at (set thread_traces mark.thread mark.trace) mark.thread mark.trace (get_set_same thread_traces mark.thread mark.trace taken_there) in (
         ap (λ (s : ProgramSketch). given_to s.chosen mark.thread) now ∙ values_here earlier.chosen mark.thread (given_to earlier.chosen mark.thread ++ value ∷ []) within ∙ ap (λ (g : List ℕ). g ++ value ∷ []) (was ∙ sym back),
         λ u ne. sym (given_other thread_traces mark.thread mark.trace u ne),
       )
 
 -- ---- a read that lacks a source
 
-module _ (p : Listing) (mode : Mode) (thread_traces : List ThreadTrace) (sources pairs : List (Event × Event)) (kept : KeepsTraces p mode thread_traces sources pairs) (ends : EachEnds thread_traces)
+module _ (p : Listing) (mode : Mode) (thread_traces : List ThreadTrace) (sources pairs : List (Event × Event)) (kept : KeepsTraces p mode thread_traces sources pairs)
     (read : Event) (x : Access) (value : ℕ) (at : traced_access thread_traces read ≡ Some x) (reads : x.read ≡ Some value)
     (not_first : slice_index p.memory x.location ≡ value → ⊥)
     (not_written : (t i : ℕ) (c : ThreadTrace) (y : Access) → slice_get thread_traces t ≡ Some c → slice_get c.accesses i ≡ Some y → y.location ≡ x.location → y.written ≡ Some value → ⊥) where
@@ -127,7 +102,6 @@ module _ (p : Listing) (mode : Mode) (thread_traces : List ThreadTrace) (sources
 
   pub lacks : LacksSource s read
   lacks = record {
-    whole = ends_whole p mode thread_traces sources pairs kept ends;
     is_read = (x, access_is read x at, subst (λ (o : Option ℕ). IsSome o) (sym reads) refl);
     free = λ (source, has). none source (kept.lawful.is_sketch.sources read source has);
     no_source = none;

@@ -23,7 +23,7 @@ pub use Rattle.program_sketches.proofs.Lawful.{given_at, given_set, good_of, mor
 pub use Rattle.program_sketches.proofs.Lookups.{each_index}
 pub use Rattle.program_sketches.proofs.Traced.{accesses_same, ends_whole, whole_ends}
 pub use Rattle.program_sketches.proofs.TracesKept.{no_accesses, no_trace, past_next, reads_there, trace_accesses, trace_last, trace_next}
-pub use Rattle.program_sketches.specs.Choices.{IsRead, MayFollow, MayRead, ReadsThisValue}
+pub use Rattle.program_sketches.specs.Choices.{CanFollow, CanRead, IsRead, ReadsThisValue}
 pub use Rattle.program_sketches.specs.Kept.{AreOtherTwo, IsLawful, KeepsTraces, given_in, given_lists, view_of}
 pub use Rattle.program_sketches.specs.Known.{IsInitialWrite}
 pub use Rattle.program_sketches.specs.ProgramSketches.{ProgramSketch, access_in, mode_in, trace_in, with_chosen}

@@ -1,9 +1,9 @@
 -- Sketches without rows.
-use Rattle.std.specs.Prelude.{◌≡◌, ◌↔◌, ℕ, List, [], Some, Contains, slice_get}
+use Rattle.std.specs.Prelude.{◌≡◌, ◌↔◌, ℕ, List, Some, Contains, slice_get}
 use Rattle.std.specs.List.{AllPairs}
 use Rattle.candidate_executions.specs.declared.event.Event.{Event}
 use Rattle.candidate_executions.specs.Events.{ComesBefore}
-use Rattle.candidate_executions.specs.Sketches.{IsWhole, IsSourceOf}
+use Rattle.candidate_executions.specs.Sketches.{IsSourceOf}
 use Rattle.thread_traces.specs.declared.thread_trace.ThreadTrace.{ThreadTrace}
 use Rattle.program_sketches.specs.ProgramSketches.{ProgramSketch, mode_in}
 use Rattle.program_sketches.specs.Kept.{view_of, given_in, KeepsTraces}
@@ -19,29 +19,26 @@ pub record MarkedThread : Type 0 where
   pub thread : ℕ
   pub trace : ThreadTrace
 
--- the mark is of a thread of the sketch, in which values alone are chosen
+-- the mark is of a thread of the sketch
 pub record IsValueMarkOf (mark : MarkedThread) (s : ProgramSketch) : Type 0 where
   pub traces : List ThreadTrace
-  pub seen : s ≡ view_of s.program s.mode traces [] []
-  pub kept : KeepsTraces s.program s.mode traces [] []
+  pub seen : s ≡ view_of s.program s.mode traces s.chosen.sources s.chosen.pairs
+  pub kept : KeepsTraces s.program s.mode traces s.chosen.sources s.chosen.pairs
   pub there : slice_get traces mark.thread ≡ Some mark.trace
 
 -- these are the sources of a read, in their order: the initial write first, then by thread and index
 pub record AreSources (s : ProgramSketch) (read : Event) (sources : List Event) : Type 0 where
-  pub whole : IsWhole s.program (mode_in s) s.chosen
   pub is_read : IsRead s read
   pub exact : (source : Event) → Contains sources source ↔ IsSourceOf s.program (mode_in s) s.chosen source read
   pub ordered : AllPairs ComesBefore sources
 
--- each read has its value, and this one has no source yet
+-- the event is a read that has its value, and no source yet
 pub record IsFree (s : ProgramSketch) (read : Event) : Type 0 where
-  pub whole : IsWhole s.program (mode_in s) s.chosen
   pub is_read : IsRead s read
   pub free : HasSource s read → ⊥
 
--- each read has its value, and no write gives this one its own
+-- the event is a read that has its value, which no write gives it
 pub record LacksSource (s : ProgramSketch) (read : Event) : Type 0 where
-  pub whole : IsWhole s.program (mode_in s) s.chosen
   pub is_read : IsRead s read
   pub free : HasSource s read → ⊥
   pub no_source : (source : Event) → IsSourceOf s.program (mode_in s) s.chosen source read → ⊥

@@ -5,8 +5,9 @@ ghost use Rattle.std.specs.Option.{option_copied};
 ghost use Rattle.std.specs.List.Sorted.{IsStrictlyIncreasing};
 ghost use Rattle.candidate_executions.specs.declared.event.Event.{Event};
 ghost use Rattle.candidate_executions.specs.Sketches as sketches;
+ghost use Rattle.candidate_executions.specs.Settled.{IsSettled};
 ghost use Rattle.candidate_executions.specs.Values.{IsValueOf};
-ghost use Rattle.program_sketches.specs.Choices.{HasSource, MayRead, MayFollow};
+ghost use Rattle.program_sketches.specs.Choices.{HasSource, CanRead, CanFollow};
 ghost use Rattle.program_sketches.specs.ProgramSketches.{ProgramSketch, mode_in, nothing_chosen, with_chosen};
 ghost use Rattle.tso_program.specs.Shown.{asked, ShowsValues};
 ghost use Rattle.rowless_sketches.specs.Completions.{EndsOnlyAs};
@@ -168,15 +169,29 @@ impl RowlessSketch {
         self.tree.leave(mark.thread, own);
     }
 
-    /// Whether each read has its value, and no write gives this read its own.
+    /// Whether each read has its value.
+    pub fn is_whole(&self) -> bool
+        ensures { IsTrue result ↔ sketches.IsWhole self.now.program (mode_in self.now) self.now.chosen }
+    {
+        self.parts().is_whole()
+    }
+
+    /// Whether no thread but the read's own may still write what the read has read. So it is of what is no read.
+    pub fn is_settled(&self, read: Event) -> bool
+        ensures { IsTrue result ↔ IsSettled self.now.program (mode_in self.now) self.now.chosen read }
+    {
+        self.parts().is_settled(read)
+    }
+
+    /// Whether the event is a read that has its value, which no write gives it.
     pub fn lacks_source(&self, read: Event) -> bool
         ensures { IsTrue result → LacksSource self.now read }
     {
         self.parts().lacks_source(read)
     }
 
-    /// The sources of a read that has none yet: the initial write first, then by thread and index. `None` if some
-    /// read has no value yet, or the event is no read without a source.
+    /// The sources of a read that has its value, and no source yet: the initial write first, then by thread and
+    /// index. `None` if the event is no such read.
     pub fn sources_of(&self, read: Event) -> Result<Option<Vec<Event>>, AllocError>
         ensures { IfOk result (λ found. MatchOption found (IsFree self.now read → ⊥) (λ sources. AreSources self.now read sources.items × (HasSource self.now read → ⊥))) }
     {
@@ -187,9 +202,9 @@ impl RowlessSketch {
         parts.sources_of(self.base.alloc, read)
     }
 
-    /// Chooses a read's source.
+    /// Chooses a read's source. Values may be given after it.
     pub fn choose_source(&mut self, read: Event, source: Event) -> Result<(), AllocError>
-        requires { MayRead self.old read source }
+        requires { CanRead self.old read source }
         ensures ok { OnOk result (self.new ≡ with_chosen self.old (sketches.with_source self.old.chosen read source)) }
         ensures err { OnErr result (self.new ≡ self.old) }
     {
@@ -204,23 +219,20 @@ impl RowlessSketch {
         let _ = self.sources.pop();
     }
 
-    /// Whether two accesses are writes to one location in no order yet, and each read has its value.
+    /// Whether two accesses are writes to one location in no order yet.
     pub fn is_order_open(&self, first: Event, second: Event) -> bool
-        ensures { IsTrue result ↔ MayFollow self.now first second }
+        ensures { IsTrue result ↔ CanFollow self.now first second }
     {
         let parts = self.parts();
-        if !parts.is_whole() {
-            return false;
-        }
         if !parts.is_pair(first, second) {
             return false;
         }
         !parts.is_ordered(first, second)
     }
 
-    /// Chooses that the first write comes before the second.
+    /// Chooses that the first write comes before the second. Values may be given after it.
     pub fn choose_order(&mut self, first: Event, second: Event) -> Result<(), AllocError>
-        requires { MayFollow self.old first second }
+        requires { CanFollow self.old first second }
         ensures ok { OnOk result (self.new ≡ with_chosen self.old (sketches.with_pair self.old.chosen first second)) }
         ensures err { OnErr result (self.new ≡ self.old) }
     {

@@ -3,7 +3,7 @@ ghost use Rattle.std.specs.Prelude.{◌≡◌, ◌↔◌, ◌⊎◌, ◌+◌, So
 ghost use Rattle.std.specs.List.{AllPairs};
 ghost use Rattle.candidate_executions.specs.declared.event.Event.{Event};
 ghost use Rattle.candidate_executions.specs.Events.{ComesBefore};
-ghost use Rattle.candidate_executions.specs.Sketches.{IsSourceOf, IsWhole};
+ghost use Rattle.candidate_executions.specs.Sketches.{IsSourceOf};
 ghost use Rattle.program_sketches.specs.ProgramSketches.{mode_in};
 ghost use Rattle.program_sketches.specs.Choices.{IsRead, ReadsThisValue};
 ghost use Rattle.rowless_sketches.specs.RowlessSketches.{LacksSource, AreSources};
@@ -11,25 +11,22 @@ ghost use Rattle.rowless_sketches.specs.Internal.SourcesListed.{AreListedTo};
 
 use crate::parts::Parts;
 use candidate_executions::{Access, Event};
-use program_sketches::{access_at, each_ends, is_same};
+use program_sketches::{access_at, is_same};
 use std::alloc::{AllocError, Global};
 use thread_traces::{is_value, writes_any};
 
 impl Parts<'_> {
-    /// The sources of a read: the initial write first, then by thread and index. `None` if some read has no value
-    /// yet, or the event is no read. Whether the read has a source already makes no difference.
+    /// The sources of a read that has its value: the initial write first, then by thread and index. `None` if the
+    /// event is no such read. Whether the read has a source already makes no difference.
     pub(crate) fn sources_of(
         &self,
         alloc: Global,
         read: Event,
     ) -> Result<Option<Vec<Event>>, AllocError>
-        ensures { IfOk result (λ found. MatchOption found (IsWhole self.now.program (mode_in self.now) self.now.chosen × IsRead self.now read → ⊥) (λ sources. AreSources self.now read sources.items)) }
+        ensures { IfOk result (λ found. MatchOption found (IsRead self.now read → ⊥) (λ sources. AreSources self.now read sources.items)) }
     {
         // For the proof alone: what holds of every sketch is known where a field of it is read.
         let _ = &self.program;
-        if !self.is_whole() {
-            return Ok(None);
-        }
         match self.location_and_value(read) {
             Some((location, value)) => {
                 let mut sources = Vec::new(alloc);
@@ -109,13 +106,10 @@ impl Parts<'_> {
         Ok(())
     }
 
-    /// Whether each read has its value, and no write gives this read its own.
+    /// Whether the event is a read that has its value, which no write gives it.
     pub(crate) fn lacks_source(&self, read: Event) -> bool
         ensures { IsTrue result → LacksSource self.now read }
     {
-        if !each_ends(self.thread_traces) {
-            return false;
-        }
         let Some(access) = access_at(self.thread_traces, read) else {
             return false;
         };

@@ -28,6 +28,7 @@ use cert_forest::{Node, Walk, push_known, take_out};
 use cover_judge::{Choice, NodeFault, OpenChoice, judge};
 use exec_axioms::Sketch;
 use std::alloc::{AllocError, Global};
+use tree_laws::Rule;
 use tso_program::{Outcome, Shown};
 
 /// Puts a tree for a sketch in which each read has its value after the other nodes. Where it ends without one, some of
@@ -372,10 +373,10 @@ fn judge_apart(
     outcomes: &[Outcome],
 ) -> Result<(), NodeFault>
     requires { 0 < length walk.old }
-    ensures { OnOk result (IsValidAfter shown.now outcomes.now sketch.now (first_tree walk.old) sketch.now.chosen) }
+    ensures { OnOk result (IsValidAfter Rule.Whole shown.now outcomes.now sketch.now (first_tree walk.old) sketch.now.chosen) }
 {
     let mut own = sketch.rowless()?;
-    judge(alloc, walk, &mut own, shown, outcomes)
+    judge(alloc, Rule::Whole, walk, &mut own, shown, outcomes)
 }
 
 /// What a tree needs above the node over the last choice.

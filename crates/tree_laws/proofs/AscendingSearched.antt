@@ -1,6 +1,6 @@
 -- What a binary search finds among outcomes that ascend.
-use Rattle.tree_laws.proofs.Vocabulary.{◌≡◌, ℕ, ◌+◌, ◌<◌, List, Contains, get_or, length, slice_get, sym, ap, ◌∙◌, inl, inr, arith, Outcome}
-use Rattle.std.specs.Prelude.{IfErr, IfOk, IsTrue, Ok, Err, Result, Some, is_ok, ◌↔◌}
+use Rattle.tree_laws.proofs.Vocabulary.{◌≡◌, ℕ, ◌+◌, List, Contains, get_or, length, slice_get, sym, ap, ◌∙◌, inl, inr, arith, Outcome}
+use Rattle.std.specs.Prelude.{IfErr, IfOk, Ok, Err, Result, Some}
 use Rattle.std.specs.List.Sorted.{IsSorted, IsSearchInRange, IsBinarySearchResult, IsNonDecreasingBy}
 use Rattle.std.specs.Ordering.{is_lt, ordering_index, ordering_reverse}
 use Rattle.std.specs.declared.cmp.Ordering.TheVariants.{Equal, Greater, Less}

@@ -1,14 +1,14 @@
 -- Of the sets that hold `must` and have a gap of each list of a packing, `must` with the cheapest gap of each is the best.
 use Rattle.std.proofs.Common.{sum_by}
 use Rattle.std.proofs.lemmas.List.Sums.{sum_by-cons}
-use Rattle.tree_laws.proofs.Vocabulary.{◌≡◌, ◌≢◌, ◌⊎◌, ℕ, ◌+◌, ◌<◌, ◌≤◌, Bool, true, false, List, [], ◌∷◌, length, Contains, refl, sym, ap, ◌∙◌, subst, inl, inr, arith, All-contains, cases_Bool, SetOfGaps, Better, HasNoneOf, MAX_GAPS}
+use Rattle.tree_laws.proofs.Vocabulary.{◌≡◌, ◌≢◌, ◌⊎◌, ℕ, ◌+◌, ◌<◌, ◌≤◌, true, false, List, [], ◌∷◌, length, Contains, sym, ap, ◌∙◌, subst, inl, inr, arith, All-contains, cases_Bool, SetOfGaps, Better, HasNoneOf, MAX_GAPS}
 use Rattle.std.specs.Prelude.{All}
 use Rattle.std.proofs.lemmas.Bool.Decides.{eqb_tells}
 use Rattle.std.proofs.lemmas.List.Elements.{All-head, All-tail}
 use Rattle.std.specs.List.{AllZip}
 use Rattle.std.specs.FinSet as set
 use Rattle.gap_sets.specs.Order.{cost_of, total}
-use Rattle.tree_laws.specs.Packings.{IsPacking, IsCheapestOf, with_gaps, HasOneOf, HavePositiveCosts, MeetsEach}
+use Rattle.tree_laws.specs.Packings.{IsPacking, IsCheapestOf, with_gaps, HasOneOf, MeetsEach}
 use Rattle.tree_laws.specs.Laws.{TheCheapestOfEachAreTheBest, EachCostsAtLeastTheSum}
 use Rattle.tree_laws.proofs.{BetterSets.no_worse, BetterSets.better_still, MovedGaps.one_more, MovedGaps.put_in, MovedGaps.put_in_beside, MovedGaps.in_place_of, MovedGaps.in_place, MovedGaps.beside_both, MovedGaps.better_in_place}
 

@@ -11,7 +11,7 @@ outside_is_foreign q outcomes labels list (o, is_run, outside) = (o, record { is
 
 module _ (q : Question) (costs : List ℕ) (c : Certificate) (within : IsWithinLimits q.program.threads q.program.memory) (positive : All (λ cost. 1 ≤ cost) costs) (valid : IsValidCertificate q costs c) where
   list : IsSequentialList q valid.outcomes
-  list = sequential_list q c.seq_runs valid.outcomes c.seq_tree within.shared.forward_jumps valid.replayed valid.sequential
+  list = sequential_list c.rule q c.seq_runs valid.outcomes c.seq_tree within.shared.forward_jumps valid.replayed valid.sequential
 
   foreign : All (IsForeign q) c.runs
   foreign = All-weaker (IsRunOutside q valid.outcomes) (IsForeign q) (λ labels. outside_is_foreign q valid.outcomes labels list) c.runs valid.foreign
@@ -19,7 +19,7 @@ module _ (q : Question) (costs : List ℕ) (c : Certificate) (within : IsWithinL
   is_answer : IsTheAnswer q costs c.gaps
   is_answer = record {
     of_program = valid.of_program;
-    serves = fenced_tree_serves q c.gaps valid.outcomes c.fenced_tree within.shared.forward_jumps list valid.fenced;
+    serves = fenced_tree_serves c.rule q c.gaps valid.outcomes c.fenced_tree within.shared.forward_jumps list valid.fenced;
     least = root_has_every_set q costs c.gaps
         (no_better_left q costs c.gaps c.runs c.gap_tree all_sets within (record { one_each = valid.one_cost_each; positive = positive }) foreign valid.least);
   }

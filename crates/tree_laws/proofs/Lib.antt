@@ -19,6 +19,8 @@ pub mod BestOfEach
 pub mod OpenGaps
 pub mod Regions
 pub mod PassedGaps
+pub mod CheapestGaps
+pub mod DecidedBounds
 pub mod BoundedRegions
 pub mod NoBetterLeft
 -- certificates

@@ -1,9 +1,8 @@
 -- A valid gap tree over foreign runs leaves no better serving set in its region.
-use Rattle.std.proofs.Common.{◌≡◌, ℕ, true, false, List, [], ◌∷◌, Contains, All, sym, ◌∙◌, inl, inr}
-use Rattle.std.specs.FinSet as set
-use Rattle.tree_laws.proofs.Vocabulary.{SetOfGaps, IsInRegion, child_regions, HasNoneOf, Region, Listing, Question, IsWithinLimits, Label, Gap, Split, Bound, GapTrees, NoGap, MoreGaps, IsSplitBy, IsValidGap, AreValidGaps, EachBetterOfRegionLeavesOutcome}
+use Rattle.std.proofs.Common.{ℕ, List, [], ◌∷◌, Contains, All, inl, inr}
+use Rattle.tree_laws.proofs.Vocabulary.{SetOfGaps, child_regions, Region, Listing, Question, IsWithinLimits, Label, Gap, Split, Bound, GapTrees, NoGap, MoreGaps, IsSplitBy, IsValidGap, AreValidGaps, EachBetterOfRegionLeavesOutcome}
 use Rattle.tree_laws.proofs.Vocabulary.{HaveCosts, IsForeign, AValidGapTreeLeavesNoBetter, SoNoServingSetIsBetter, TheRootHasEverySet}
-use Rattle.tree_laws.proofs.{Lists.none_here, Lists.each_more, PassedGaps.missed_leaves, BetterSets.still_better}
+use Rattle.tree_laws.proofs.{Lists.none_here, Lists.each_more, PassedGaps.missed_leaves, BoundedRegions.bounded}
 use Rattle.tree_laws.proofs.Regions.{split_loses_no_set, in_root}
 
 module _ (q : Question) (costs : List ℕ) (answer : SetOfGaps) where
@@ -26,7 +25,7 @@ module _ (q : Question) (costs : List ℕ) (answer : SetOfGaps) where
       mutual
         means : (tree : Gap) (n : Region) → IsValidGap p costs answer runs tree n → EachBetterOfRegionLeavesOutcome q costs answer n
         means (Split number children) n (gaps, split, valid) = by_split foreign n number gaps split (each_means children (child_regions n gaps) valid)
-        means Bound n not_better = λ other of_program inside better. absurd (not_better (still_better p costs within have n.must other answer of_program inside.holds better))
+        means (Bound numbers) n bound = bounded q costs answer runs n numbers within have foreign bound
 
         each_means : (trees : GapTrees) (ns : List Region) → AreValidGaps p costs answer runs trees ns → EachMeans ns
         each_means NoGap [] valid = λ n here. absurd (none_here n here)

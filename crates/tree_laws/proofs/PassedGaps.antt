@@ -1,6 +1,6 @@
 -- A foreign run that has no gap in common with a set of a region outside `never` leaves its outcome there.
 use Rattle.std.specs.Prelude.{All}
-use Rattle.tree_laws.proofs.Vocabulary.{◌≡◌, ℕ, true, false, List, sym, ◌∙◌, inl, inr, SetOfGaps, HasNoneOf, IsInRegion, Region, Listing, Question, Label, LeavesOutcome, IsSplitBy, IsForeign}
+use Rattle.tree_laws.proofs.Vocabulary.{◌≡◌, ℕ, true, false, List, sym, ◌∙◌, inl, inr, SetOfGaps, HasNoneOf, IsInRegion, Region, Question, Label, LeavesOutcome, IsSplitBy, IsForeign}
 use Rattle.std.specs.FinSet as set
 use Rattle.tree_laws.proofs.{Lists.found_has, AvoidedGaps.Avoids, AvoidedGaps.leaves_outcome, Regions.true_or_false}
 

@@ -6,6 +6,7 @@ use Rattle.tree_laws.proofs.{Lists.none_here, Lists.first_or_later, Lists.first_
 use Rattle.tree_laws.proofs.StoreBufferingValues.{zero_one, in_zero_one, of_zero_one}
 use Rattle.tree_laws.proofs.StoreBufferingRuns.{runs, passed_below, both_passed, second_passed, first_not_passed, second_not_passed}
 use Rattle.tree_laws.proofs.StoreBufferingCovered.{ascending as two_ascend}
+use Rattle.tree_laws.proofs.BoundedRegions.{by_must}
 
 abbrev pub both_gaps : SetOfGaps
 both_gaps = these (0 ∷ 1 ∷ [])
@@ -102,5 +103,9 @@ same_gaps = set.same_set nat_cmp_total set.nat_cmp-IsAntisymmetric _ _ (λ q.
 not_better : ¬ Better costs (set.insert (set.insert set.empty 0) 1) both_gaps
 not_better better = not_itself costs both_gaps (subst (λ (s : SetOfGaps). Better costs s both_gaps) same_gaps better)
 
+-- the sets that hold both gaps
+abbrev with_both : Region
+with_both = with_gap with_first 1
+
 pub gap_tree_is_valid : IsValidGap store_buffering costs both_gaps runs gap_tree all_sets
-gap_tree_is_valid = (zero_one, split_at_root, ((1 ∷ [], split_with_first, (not_better, tt)), (([], split_without_first, tt), tt)))
+gap_tree_is_valid = (zero_one, split_at_root, ((1 ∷ [], split_with_first, ((by_must store_buffering costs both_gaps runs with_both).1 not_better, tt)), (([], split_without_first, tt), tt)))

@@ -58,5 +58,5 @@ pub use Rattle.tree_laws.specs.Laws.{AValidCoverCovers, AWholeCoverIsAnEarlyCove
 pub use Rattle.tree_laws.specs.Laws.{IsSequentialList, SoNoServingSetIsBetter, TheChoicesAreOneList, TheGapsAreOneList, TheRootHasEverySet, TheSourcesAreOneList, TheValuesAreOneList}
 pub use Rattle.tree_laws.specs.declared.choice.Choice.{Choice}
 pub use Rattle.tree_laws.specs.declared.choice.OpenChoice.{OpenChoice}
-pub use Rattle.tree_laws.specs.declared.rule.Rule.{Rule, TheVariants.Early, TheVariants.Whole}
+pub use Rattle.cert_forest.specs.Rule.{Rule, TheVariants.Early, TheVariants.Whole}
 pub use Rattle.tree_laws.specs.StoreBuffering.{StoreBufferingIsCertified, costs}

@@ -13,7 +13,7 @@ use Rattle.tso_machine.specs.Outcomes.{IsShownRun, AreGapsOf}
 use Rattle.candidate_executions.specs.Sketches.{empty_sketch}
 use Rattle.cert_forest.specs.Certificates.{Certificate}
 use Rattle.cert_forest.specs.Shows.{shows_of}
-use Rattle.tree_laws.specs.CoverTrees.{IsValidCover}
+use Rattle.tree_laws.specs.CoverTrees.{IsValidCoverBy}
 use Rattle.tree_laws.specs.GapTrees.{IsValidGap}
 
 -- as many outcomes as runs, and each is what is shown of the outcome of its run of the sequential machine
@@ -24,7 +24,7 @@ AreSequentialRuns q runs outcomes = AllZip (IsShownRun q SequentialMachine) runs
 abbrev pub IsRunOutside : Question → List Outcome → List Label → Type 0
 IsRunOutside q outcomes labels = (o : Outcome) × IsShownRun q (StoreBufferMachine no_gaps) labels o × (¬ Contains outcomes o)
 
--- the certificate is valid for the question and the costs of the program's gaps
+-- the certificate is valid for the question and the costs of the program's gaps, its cover trees by its rule
 pub record IsValidCertificate (q : Question) (costs : List ℕ) (c : Certificate) : Type 0 where
   pub shown : c.shown ≡ shows_of q.shown
   pub of_program : AreGapsOf q.program c.gaps
@@ -32,7 +32,7 @@ pub record IsValidCertificate (q : Question) (costs : List ℕ) (c : Certificate
   pub cost : c.cost ≡ total costs c.gaps
   pub outcomes : List Outcome
   pub replayed : AreSequentialRuns q c.seq_runs outcomes
-  pub sequential : IsValidCover q SequentialMachine outcomes c.seq_tree (empty_sketch q.program)
+  pub sequential : IsValidCoverBy c.rule q SequentialMachine outcomes c.seq_tree (empty_sketch q.program)
   pub foreign : All (IsRunOutside q outcomes) c.runs
-  pub fenced : IsValidCover q (StoreBufferMachine (gaps_in q.program c.gaps)) outcomes c.fenced_tree (empty_sketch q.program)
+  pub fenced : IsValidCoverBy c.rule q (StoreBufferMachine (gaps_in q.program c.gaps)) outcomes c.fenced_tree (empty_sketch q.program)
   pub least : IsValidGap q.program costs c.gaps c.runs c.gap_tree all_sets

@@ -19,7 +19,7 @@ use Rattle.tree_laws.specs.declared.choice.Choice.{Choice}
 use Rattle.tree_laws.specs.declared.choice.Choice.TheVariants as choice
 use Rattle.tree_laws.specs.declared.choice.OpenChoice.{OpenChoice}
 use Rattle.tree_laws.specs.declared.choice.OpenChoice.TheVariants as left
-use Rattle.tree_laws.specs.declared.rule.Rule.{Rule, TheVariants.Whole, TheVariants.Early}
+use Rattle.cert_forest.specs.Rule.{Rule, TheVariants.Whole, TheVariants.Early}
 
 abbrev pub event_of : AccessId → Event
 event_of a = At a.thread a.access

@@ -44,10 +44,10 @@ module _ (p : Listing) (costs : List ℕ) (answer : SetOfGaps) (runs : List (Lis
     pub not_better : (cheapest : List ℕ) → AllZip (IsCheapestOf costs) gaps cheapest → ¬ Better costs (with_gaps region.must cheapest) answer
 
   abbrev mutual
-    -- the tree is valid for the region: a child for each gap that a run passes and that the sets may have, or nothing better than the answer is left
+    -- the tree is valid for the region: a child for each gap that a run passes and that the sets may have, or runs that bound the region
     pub IsValidGap : Gap → Region → Type 0
     IsValidGap (Split number children) region = (gaps : List ℕ) × IsSplitBy p runs region number gaps × AreValidGaps children (child_regions region gaps)
-    IsValidGap Bound region = ¬ Better costs region.must answer
+    IsValidGap (Bound numbers) region = IsBoundBy region numbers
 
     -- as many trees as regions, each valid for its own
     pub AreValidGaps : GapTrees → List Region → Type 0

@@ -1,5 +1,5 @@
 -- What trees mean.
-use Rattle.std.specs.Prelude.{◌≡◌, ◌↔◌, ◌⊎◌, ℕ, ◌+◌, ◌≤◌, List, Contains, All, sum_by}
+use Rattle.std.specs.Prelude.{◌≡◌, ◌↔◌, ◌⊎◌, ℕ, ◌+◌, ◌≤◌, List, [], Contains, All, sum_by}
 use Rattle.std.specs.List.{AllZip}
 use Rattle.gap_sets.specs.Gaps.{SetOfGaps}
 use Rattle.gap_sets.specs.Order.{cost_of, total, Better}
@@ -19,8 +19,8 @@ use Rattle.candidate_executions.specs.Settled.{IsSettled}
 use Rattle.cert_forest.specs.Trees.{Cover, Gap, covers_of, gap_trees_of}
 use Rattle.tree_laws.specs.declared.choice.Choice.{Choice}
 use Rattle.tree_laws.specs.declared.choice.OpenChoice.{OpenChoice}
-use Rattle.tree_laws.specs.declared.rule.Rule.{Rule, TheVariants.Whole, TheVariants.Early}
-use Rattle.tree_laws.specs.CoverTrees.{HasNextValuesBy, HasSourcesBy, AreChoicesBy, IsValidCover, IsValidCoverBy, AreValidCoversBy, IsCovered}
+use Rattle.cert_forest.specs.Rule.{Rule, TheVariants.Whole, TheVariants.Early}
+use Rattle.tree_laws.specs.CoverTrees.{HasNextValuesBy, HasSourcesBy, AreChoicesBy, IsValidCoverBy, AreValidCoversBy, IsCovered}
 use Rattle.tree_laws.specs.TighterModes.{IsNoLooser, in_mode}
 use Rattle.tree_laws.specs.Packings.{IsPacking, IsCheapestOf, with_gaps, HavePositiveCosts, MeetsEach}
 use Rattle.tree_laws.specs.GapTrees.{IsSplitBy, IsBoundBy, IsValidGap, AreValidGaps, EachBetterOfRegionLeavesOutcome, NoServingSetIsBetter, HaveCosts}
@@ -47,14 +47,14 @@ abbrev pub IsSequentialList : Question → List Outcome → Type 0
 IsSequentialList q outcomes = (o : Outcome) → Contains outcomes o ↔ IsSequentialOutcome q o
 
 -- sequential runs and a valid tree in sequential mode make the list of their outcomes the sequential outcomes
-abbrev pub AValidTreeMakesTheSequentialList : Type 0
-AValidTreeMakesTheSequentialList = (q : Question) (runs : List (List Label)) (outcomes : List Outcome) (tree : Cover) → JumpForward q.program.threads →
-    AreSequentialRuns q runs outcomes → IsValidCover q SequentialMachine outcomes tree (empty_sketch q.program) → IsSequentialList q outcomes
+abbrev pub AValidTreeMakesTheSequentialList : Rule → Type 0
+AValidTreeMakesTheSequentialList rule = (q : Question) (runs : List (List Label)) (outcomes : List Outcome) (tree : Cover) → JumpForward q.program.threads →
+    AreSequentialRuns q runs outcomes → IsValidCoverBy rule q SequentialMachine outcomes tree (empty_sketch q.program) → IsSequentialList q outcomes
 
 -- and a valid tree with the gaps of a set fenced, over that list, says that the set serves
-abbrev pub AValidFencedTreeServes : Type 0
-AValidFencedTreeServes = (q : Question) (gaps : SetOfGaps) (outcomes : List Outcome) (tree : Cover) → JumpForward q.program.threads →
-    IsSequentialList q outcomes → IsValidCover q (StoreBufferMachine (gaps_in q.program gaps)) outcomes tree (empty_sketch q.program) → Serves q gaps
+abbrev pub AValidFencedTreeServes : Rule → Type 0
+AValidFencedTreeServes rule = (q : Question) (gaps : SetOfGaps) (outcomes : List Outcome) (tree : Cover) → JumpForward q.program.threads →
+    IsSequentialList q outcomes → IsValidCoverBy rule q (StoreBufferMachine (gaps_in q.program gaps)) outcomes tree (empty_sketch q.program) → Serves q gaps
 
 -- A cover tree that is valid in a mode is valid in each mode that is no looser, its cycles being of that mode's unions: known
 -- edges only grow.
@@ -102,6 +102,11 @@ ABoundByRunsLeavesNoBetter = (q : Question) (costs : List ℕ) (answer : SetOfGa
     IsWithinLimits q.program.threads q.program.memory → HaveCosts q.program costs → All (IsForeign q) runs →
     IsBoundBy q.program costs answer runs region numbers → EachBetterOfRegionLeavesOutcome q costs answer region
 
+-- without runs `must` alone is compared
+abbrev pub NoRunsBoundByMust : Type 0
+NoRunsBoundByMust = (p : Listing) (costs : List ℕ) (answer : SetOfGaps) (runs : List (List Label)) (region : Region) →
+    IsBoundBy p costs answer runs region [] ↔ (¬ Better costs region.must answer)
+
 -- a valid gap tree over foreign runs says of its region that each better set leaves an outcome
 abbrev pub AValidGapTreeLeavesNoBetter : Type 0
 AValidGapTreeLeavesNoBetter = (q : Question) (costs : List ℕ) (answer : SetOfGaps) (runs : List (List Label)) (tree : Gap) (region : Region) →
@@ -148,7 +153,19 @@ abbrev pub TheGapsAreOneList : Type 0
 TheGapsAreOneList = (p : Listing) (runs : List (List Label)) (region : Region) (number : ℕ) (xs ys : List ℕ) →
     IsSplitBy p runs region number xs → IsSplitBy p runs region number ys → xs ≡ ys
 
--- the headline holds of the set of a valid certificate, and the set is the answer
+-- the cheapest gaps of lists
+abbrev pub TheCheapestAreOneList : Type 0
+TheCheapestAreOneList = (costs : List ℕ) (lists : List (List ℕ)) (xs ys : List ℕ) →
+    AllZip (IsCheapestOf costs) lists xs → AllZip (IsCheapestOf costs) lists ys → xs ≡ ys
+
+-- so whether runs bound a region: by the gaps that each of them passes outside `never`
+abbrev pub TheBoundIsDecided : Type 0
+TheBoundIsDecided = (p : Listing) (costs : List ℕ) (answer : SetOfGaps) (runs : List (List Label)) (region : Region) (numbers : List ℕ) (gaps : List (List ℕ)) →
+    AllZip (IsSplitBy p runs region) numbers gaps →
+    IsBoundBy p costs answer runs region numbers
+    ↔ (IsPacking gaps × ((cheapest : List ℕ) → AllZip (IsCheapestOf costs) gaps cheapest → ¬ Better costs (with_gaps region.must cheapest) answer))
+
+-- the headline holds of the set of a valid certificate, whichever rule it has, and the set is the answer
 pub record IsProved (q : Question) (costs : List ℕ) (c : Certificate) : Type 0 where
   pub headline : Headline q costs c.gaps
   pub answer : IsTheAnswer q costs c.gaps

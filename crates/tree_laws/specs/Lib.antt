@@ -8,3 +8,5 @@ pub mod Certificates
 pub mod Laws
 pub mod StoreBuffering
 pub mod OwnStore
+-- words of the crates below, passed on
+pub use Rattle.cert_forest.specs.Rule

@@ -13,7 +13,7 @@ use Rattle.candidate_executions.specs.declared.event.Kind.TheVariants as union
 use Rattle.candidate_executions.specs.Sketches.{empty_sketch}
 use Rattle.cert_forest.specs.Trees.{Cover, Value, Source, Cycle, Known}
 use Rattle.cert_forest.specs.StoreBuffering.{access, one_child, two_children}
-use Rattle.tree_laws.specs.declared.rule.Rule.TheVariants.{Whole, Early}
+use Rattle.cert_forest.specs.Rule.TheVariants.{Whole, Early}
 use Rattle.tree_laws.specs.CoverTrees.{IsValidCoverBy}
 use Rattle.tree_laws.specs.TighterModes.{in_mode}
 

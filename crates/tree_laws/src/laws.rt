@@ -1,6 +1,6 @@
 //! The laws: each function's contract is a theorem, and calling it does nothing.
-ghost use Rattle.tree_laws.specs.declared.rule.Rule.{Rule};
-ghost use Rattle.tree_laws.specs.Laws.{AValidCoverCovers, AWholeCoverIsAnEarlyCover, ACoveredListHasEachOutcome, AValidTreeMakesTheSequentialList, AValidFencedTreeServes, ATighterModeKeepsACover, ATighterModeKeepsTheValues, ATighterModeKeepsAWholeSketch, ATighterModeKeepsASettledRead, ASplitLosesNoSet, TheCheapestOfEachAreTheBest, EachCostsAtLeastTheSum, ABoundByRunsLeavesNoBetter, AValidGapTreeLeavesNoBetter, SoNoServingSetIsBetter, TheRootHasEverySet, AValidCertificateProves, CoversAreJudgedInOrder, GapsAreJudgedInOrder, TheValuesAreOneList, TheSourcesAreOneList, TheChoicesAreOneList, TheGapsAreOneList};
+ghost use Rattle.cert_forest.specs.Rule.{Rule};
+ghost use Rattle.tree_laws.specs.Laws.{AValidCoverCovers, AWholeCoverIsAnEarlyCover, ACoveredListHasEachOutcome, AValidTreeMakesTheSequentialList, AValidFencedTreeServes, ATighterModeKeepsACover, ATighterModeKeepsTheValues, ATighterModeKeepsAWholeSketch, ATighterModeKeepsASettledRead, ASplitLosesNoSet, TheCheapestOfEachAreTheBest, EachCostsAtLeastTheSum, ABoundByRunsLeavesNoBetter, NoRunsBoundByMust, AValidGapTreeLeavesNoBetter, SoNoServingSetIsBetter, TheRootHasEverySet, AValidCertificateProves, CoversAreJudgedInOrder, GapsAreJudgedInOrder, TheValuesAreOneList, TheSourcesAreOneList, TheChoicesAreOneList, TheGapsAreOneList, TheCheapestAreOneList, TheBoundIsDecided};
 ghost use Rattle.tree_laws.specs.StoreBuffering.{StoreBufferingIsCertified};
 ghost use Rattle.tree_laws.specs.OwnStore.{OwnStoreIsTold};
 
@@ -15,12 +15,12 @@ pub fn a_valid_cover_tree_covers()
 /// and where the list is that of sequential runs, it has the sequential outcomes and no others.
 pub fn a_valid_tree_lists_every_outcome()
     ensures each { ACoveredListHasEachOutcome }
-    ensures sequential { AValidTreeMakesTheSequentialList }
+    ensures sequential { (rule : Rule) → AValidTreeMakesTheSequentialList rule }
 {}
 
 /// A set of gaps with a valid cover tree over the sequential outcomes serves.
 pub fn a_valid_fenced_tree_serves()
-    ensures { AValidFencedTreeServes }
+    ensures { (rule : Rule) → AValidFencedTreeServes rule }
 {}
 
 /// A cover tree that is valid in a mode is valid in each mode that is no looser, as one of that mode. Which
@@ -44,9 +44,11 @@ pub fn a_packing_bounds_each_set()
     ensures cost { EachCostsAtLeastTheSum }
 {}
 
-/// Where runs bound a region, each better set of it leaves an outcome that no sequential run has.
+/// Where runs bound a region, each better set of it leaves an outcome that no sequential run has. No runs bound it
+/// exactly where what its sets must have is not better.
 pub fn a_bound_by_runs_leaves_no_better()
-    ensures { ABoundByRunsLeavesNoBetter }
+    ensures leaves { ABoundByRunsLeavesNoBetter }
+    ensures alone { NoRunsBoundByMust }
 {}
 
 /// A valid gap tree over foreign runs says of each better set of its region which outcome it leaves, so that
@@ -70,14 +72,17 @@ pub fn the_children_are_determined()
     ensures sources { (rule : Rule) → TheSourcesAreOneList rule }
     ensures choices { (rule : Rule) → TheChoicesAreOneList rule }
     ensures gaps { TheGapsAreOneList }
+    ensures cheapest { TheCheapestAreOneList }
+    ensures bound { TheBoundIsDecided }
 {}
 
-/// The headline holds of the set of a valid certificate, which is then the answer.
+/// The headline holds of the set of a valid certificate, whichever rule it has; the set is then the answer.
 pub fn a_valid_certificate_proves_the_headline()
     ensures { AValidCertificateProves }
 {}
 
-/// The definitions at store buffering: its certificate is valid, and both gaps are the answer.
+/// The definitions at store buffering: its certificate is valid, both gaps are the answer, and a gap tree of one
+/// bound by two runs is valid too.
 pub fn store_buffering_is_certified()
     ensures { StoreBufferingIsCertified }
 {}

@@ -11,8 +11,8 @@
 
 mod choice;
 mod laws;
-mod rule;
 
+pub use cert_forest::Rule;
 pub use choice::{Choice, OpenChoice, event_of};
 pub use laws::{
     a_bound_by_runs_leaves_no_better, a_packing_bounds_each_set, a_split_loses_no_set,
@@ -21,4 +21,3 @@ pub use laws::{
     a_valid_tree_lists_every_outcome, children_are_judged_in_order, own_store_is_told,
     store_buffering_is_certified, the_children_are_determined,
 };
-pub use rule::Rule;

@@ -1,7 +1,11 @@
-use Rattle.cert_check.proofs.Vocabulary.{◌≡◌, ◌∙◌, ℕ, suc, ◌+◌, ◌<◌, ◌≤◌, List, ◌∷◌, All, length, get_or, take, drop, refl, sym, ap, subst, arith, IfErr, OnOk, length-take-le, Gap, Split, Bound, gap_trees_of, first_gap, spell_gaps, numbers_of_set, Better}
+use Rattle.cert_check.proofs.Vocabulary.{◌≡◌, ◌∙◌, ℕ, suc, ◌+◌, ◌<◌, ◌≤◌, List, [], ◌∷◌, All, length, get_or, take, drop, refl, sym, ap, subst, arith, IfErr, OnOk, length-take-le, Gap, Split, Bound, gap_trees_of, first_gap, spell_gaps, numbers_of_set, Better}
 use Rattle.cert_check.proofs.Vocabulary.{MAX_GAPS, IsValidGap, IfWrong, IsAtRoot, IsBelow, HasNoSplit, FirstWrongGap, AreValidIn, IsWrongChildIn, few_gaps, err_up, if_err, on_ok, if_wrong, next_gap_is_shorter, split_next, bound_next, gaps_no_longer}
 use Rattle.cover_judge.proofs.CoverSteps.{left_some, walked_on}
-use Rattle.cert_check.proofs.GapNodes.{bound_here, split_here, split_below, split_valid}
+use Rattle.cert_forest.proofs.GapNodeLaws.{IsBoundFirst, by_next}
+use Rattle.tree_laws.specs.GapTrees.{IsBoundBy}
+use Rattle.tree_laws.proofs.BoundedRegions.{by_must}
+use Rattle.cert_check.specs.Internal.Packed.{runs_of, IsBoundTree}
+use Rattle.cert_check.proofs.GapNodes.{bound_here, runs_here, split_here, split_below, split_valid}
 use Rattle.cert_check.proofs.GapSteps.{IsLeft, all_left, go_on, stop_here, none_left_of}
 use Rattle.cert_check.proofs.gap.+judge_gap.Goals as goal
 
@@ -36,8 +40,11 @@ judge_gap-returns-in-Bound-clause-after t c =
 pub judge_gap-returns-in-Bound-clause-valid : goal.judge_gap-returns-in-Bound-clause-valid
 judge_gap-returns-in-Bound-clause-valid t c p runs each =
     let bounds = c.args.bounds.now in
+    let region = c.args.region.now in
     let next = bound_next c.args.walk.now c.next_node.new.self c.in-Bound.ensures in
-    subst (λ (tree : Gap). OnOk c.judge_bound.result (IsValidGap p bounds.costs.now bounds.answer runs tree c.args.region.now)) (sym next.0) c.judge_bound.ensures.bound
+    subst (λ (tree : Gap). OnOk c.judge_bound.result (IsValidGap p bounds.costs.now bounds.answer runs tree region)) (sym next.0)
+    (on_ok c.judge_bound.result (¬ Better bounds.costs.now region.must bounds.answer) (IsBoundBy p bounds.costs.now bounds.answer runs region [])
+    (by_must p bounds.costs.now bounds.answer runs region).1 c.judge_bound.ensures.bound)
 
 pub judge_gap-returns-in-Bound-clause-wrong : goal.judge_gap-returns-in-Bound-clause-wrong
 judge_gap-returns-in-Bound-clause-wrong t c p runs each =
@@ -45,9 +52,40 @@ judge_gap-returns-in-Bound-clause-wrong t c p runs each =
     let region = c.args.region.now in
     let next = bound_next c.args.walk.now c.next_node.new.self c.in-Bound.ensures in
     let At = IsAtRoot (Better bounds.costs.now region.must bounds.answer) in
-    let P = FirstWrongGap p bounds.costs.now bounds.answer runs Bound region in
+    let P = FirstWrongGap p bounds.costs.now bounds.answer runs (Bound []) region in
     subst (λ (tree : Gap). IfErr c.judge_bound.result (IfWrong (FirstWrongGap p bounds.costs.now bounds.answer runs tree region))) (sym next.0)
     (if_err c.judge_bound.result (IfWrong At) (IfWrong P) (λ fault. if_wrong At P fault (bound_here p bounds.costs.now bounds.answer runs region)) c.judge_bound.ensures.wrong)
+
+-- the first tree is a bound, of which one run is taken
+bound_is : (run : ℕ) (old new : List Gap) → IsBoundFirst run old new → first_gap old ≡ Bound (run ∷ runs_of (first_gap new))
+bound_is run old new is = is.first ∙ ap (λ (t : Gap). Bound (run ∷ runs_of t)) (sym is.next)
+
+pub judge_gap-judge_packing-requires : goal.judge_gap-judge_packing-requires
+judge_gap-judge_packing-requires t c =
+    let next = by_next c.args.walk.now c.in-By.run' c.next_node.new.self c.in-By.ensures in
+    record { bound = subst IsBoundTree (sym next.next) tt; some = next.fits }
+
+pub judge_gap-returns-in-By-clause-after : goal.judge_gap-returns-in-By-clause-after
+judge_gap-returns-in-By-clause-after t c =
+    let next = by_next c.args.walk.now c.in-By.run' c.next_node.new.self c.in-By.ensures in
+    on_ok c.judge_packing.result (c.judge_packing.new.walk ≡ drop 1 c.next_node.new.self) (c.judge_packing.new.walk ≡ drop 1 c.args.walk.now) (λ e. e ∙ next.rest) c.judge_packing.ensures.after
+
+pub judge_gap-returns-in-By-clause-valid : goal.judge_gap-returns-in-By-clause-valid
+judge_gap-returns-in-By-clause-valid t c p runs each =
+    let bounds = c.args.bounds.now in
+    let next = by_next c.args.walk.now c.in-By.run' c.next_node.new.self c.in-By.ensures in
+    subst (λ (tree : Gap). OnOk c.judge_packing.result (IsValidGap p bounds.costs.now bounds.answer runs tree c.args.region.now)) (sym (bound_is c.in-By.run' c.args.walk.now c.next_node.new.self next)) (c.judge_packing.ensures.valid p runs each)
+
+pub judge_gap-returns-in-By-clause-wrong : goal.judge_gap-returns-in-By-clause-wrong
+judge_gap-returns-in-By-clause-wrong t c p runs each =
+    let bounds = c.args.bounds.now in
+    let region = c.args.region.now in
+    let next = by_next c.args.walk.now c.in-By.run' c.next_node.new.self c.in-By.ensures in
+    let numbers = c.in-By.run' ∷ runs_of (first_gap c.next_node.new.self) in
+    let At = IsAtRoot (¬ IsBoundBy p bounds.costs.now bounds.answer runs region numbers) in
+    let P = FirstWrongGap p bounds.costs.now bounds.answer runs (Bound numbers) region in
+    subst (λ (tree : Gap). IfErr c.judge_packing.result (IfWrong (FirstWrongGap p bounds.costs.now bounds.answer runs tree region))) (sym (bound_is c.in-By.run' c.args.walk.now c.next_node.new.self next))
+    (if_err c.judge_packing.result (IfWrong At) (IfWrong P) (λ fault. if_wrong At P fault (runs_here p bounds.costs.now bounds.answer runs region numbers)) (c.judge_packing.ensures.wrong p runs each))
 
 pub judge_split-judge_gaps-requires : goal.judge_split-judge_gaps-requires
 judge_split-judge_gaps-requires t c =

@@ -9,4 +9,4 @@ abbrev pub decreases-gaps : goal.decreases-gaps
 decreases-gaps l = 2 * l.depth + 1
 
 abbrev pub invariant-gaps-loop : goal.invariant-gaps-loop
-invariant-gaps-loop l = PushedSoFar spell_gap (gap_at l.depth) l.count l.counter l.fn.nodes.items l.nodes.items l.bytes l.rest
+invariant-gaps-loop l = PushedSoFar spell_gap (gap_at l.rule l.depth) l.count l.counter l.fn.nodes.items l.nodes.items l.bytes l.rest

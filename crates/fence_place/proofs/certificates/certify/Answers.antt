@@ -1,5 +1,6 @@
-use Rattle.fence_place.proofs.Vocabulary.{◌≡◌, ◌∙◌, ◌<◌, ◌^◌, ℕ, List, length, sym, ap, subst, total, Label, Certificate, AreShownPlaces, Question, shows_of, Serving, IsServing, Entry, Gap, AreSplitRuns, AreNumbersOf, IsNumbered, IsRecorded, IsProof}
+use Rattle.fence_place.proofs.Vocabulary.{◌≡◌, ◌∙◌, ◌<◌, ◌^◌, ℕ, List, length, refl, sym, ap, subst, total, Label, Certificate, AreShownPlaces, Question, shows_of, Serving, IsServing, Entry, Gap, AreSplitRuns, AreNumbersOf, IsNumbered, IsRecorded, IsProof}
 use Rattle.std.specs.Arc.{arc_value}
+use Rattle.cert_forest.specs.Rule.TheVariants.{Whole}
 use Rattle.fence_place.proofs.CertificateMade.{is_proof}
 use Rattle.fence_place.proofs.certificates.certify.Goals as goal
 
@@ -19,6 +20,7 @@ returns-clause-proof c =
     let cost : c.total.result ≡ total o.costs c.set-set.result = c.total.ensures.value ∙ ap (λ (l : List ℕ). total l c.set-set.result) c.costs.ensures.value in
     let low = c.total.ensures.limit in
     let with_runs : List (List Label) → Certificate = λ (runs : List (List Label)). record {
+      rule = Whole;
       shown = c.of-shows.result;
       gaps = c.set-set.result;
       cost = c.total.result;
@@ -32,6 +34,7 @@ returns-clause-proof c =
     (is_proof t o (with_runs c.in_ok-runs.runs)
     c.recall_facts.ensures.table c.served-served.ensures.outcome (subst IsServing is_served c.recall_facts-2.ensures.serving) low c.requires c.served-served.ensures.answer.0 c.served-served.ensures.answer.1
     (record {
+      whole = refl;
       same_shown = c.of-shows.ensures ∙ ap (λ (q : Question). shows_of q.shown) c.question.ensures.value;
       places = subst AreShownPlaces (sym c.of-shows.ensures) c.names_have_places.ensures;
       same_gaps = same_gaps;

@@ -8,22 +8,22 @@ pub returns-in_err-matches-clause-refused : goal.returns-in_err-matches-clause-r
 returns-in_err-matches-clause-refused c =
     let made = c.in_ok-command.ensures in
     passed_up c.from_residual-in_err-matches.result c.in_err-matches.field-0.0 (λ (error : Error). (kind_of error ≡ OutOfMemory) ⊎ IsNoCommand (map string_bytes c.args.words.now)) c.from_residual-in_err-matches.ensures.1
-    (no_command (app_of c.in_ok-command.field-0) made.models (map string_bytes c.args.words.now) c.in_err-matches.field-0.0 made.are_models made.built.shape c.in_err-matches.ensures.kinds)
+    (no_command (app_of c.in_ok-command.field-0) made.choices (map string_bytes c.args.words.now) c.in_err-matches.field-0.0 made.are_choices made.built.shape c.in_err-matches.ensures.kinds)
 
 pub returns-in-Some-clause-job : goal.returns-in-Some-clause-job
 returns-in-Some-clause-job c =
     let made = c.in_ok-command.ensures in
     let words = map string_bytes c.args.words.now in
     let app = app_of c.in_ok-command.field-0 in
-    let none = no_fault app made.models words made.built.shape c.in_ok-matches.ensures.kinds in
+    let none = no_fault app made.choices words made.built.shape c.in_ok-matches.ensures.kinds in
     let job = subst (λ (o : Option Job). IfSome o (IsJobMet c.in_ok-matches.matches)) c.in-Some.is c.in_ok-job.ensures.some in
     record {
-      models = made.models;
-      are_models = made.are_models;
+      choices = made.choices;
+      are_choices = made.are_choices;
       name = job.name;
       rows = job.rows;
       no_fault = none;
-      read = reads app made.models words c.in_ok-matches.matches made.built.shape none c.in_ok-matches.ensures.matches job.name job.rows job.met;
+      read = reads app made.choices words c.in_ok-matches.matches made.built.shape none c.in_ok-matches.ensures.matches job.name job.rows job.met;
       once = job.once;
       not_in_vain = job.not_in_vain;
       asked = job.asked;
@@ -34,7 +34,7 @@ returns-clause-refused c =
     let made = c.in_ok-command.ensures in
     let words = map string_bytes c.args.words.now in
     let app = app_of c.in_ok-command.field-0 in
-    let none = no_fault app made.models words made.built.shape c.in_ok-matches.ensures.kinds in
-    let is_none = met_nothing app made.models words c.in_ok-matches.matches made.built.shape none c.in_ok-matches.ensures.matches made.are_models
+    let none = no_fault app made.choices words made.built.shape c.in_ok-matches.ensures.kinds in
+    let is_none = met_nothing app made.choices words c.in_ok-matches.matches made.built.shape none c.in_ok-matches.ensures.matches made.are_choices
     (subst (λ (o : Option Job). IfNone o (MeetsNoJob c.in_ok-matches.matches)) c.in-None.is c.in_ok-job.ensures.none) in
     inr is_none

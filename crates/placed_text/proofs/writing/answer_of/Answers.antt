@@ -4,8 +4,8 @@ use Rattle.placed_text.proofs.writing.answer_of.Goals as goal
 
 pub write_answer-requires : goal.write_answer-requires
 write_answer-requires g c =
-    let none = none_missing c.args.problem.now.litmus.program c.in_ok-placement.placement.certificate.gaps c.in_ok-placement.ensures.placement.headline.of_program in
-    rw c.gaps-gaps.ensures none
+    let none = none_missing c.args.problem.now.litmus.program c.in_ok-certificate.certificate.gaps c.in_ok-certificate.ensures.placement.headline.of_program in
+    rw c.gaps_of-gaps.ensures none
 
 pub returns-clause-told : goal.returns-clause-told
-returns-clause-told g c = (c.in_ok-placement.placement.certificate, c.in_ok-placement.ensures.placement, rw (c.gaps-gaps.ensures, c.cost-cost.ensures) at c.in_ok-write_answer.ensures)
+returns-clause-told g c = (c.in_ok-certificate.certificate, c.in_ok-certificate.ensures.placement, rw (c.gaps_of-gaps.ensures, c.cost_of-cost.ensures) at c.in_ok-write_answer.ensures)

@@ -1,4 +1,4 @@
-use Rattle.cert_check.proofs.Vocabulary.{All, sym, subst, all_sets, question_of, gaps_in, StoreBufferMachine, empty_sketch, IsValidCover, IsValidGap, IsRunOutside, IsValidCertificate, CheckFaultIs, HasServingSet, HasForeignRuns, HasEachOutcome, HavePassed, err_up}
+use Rattle.cert_check.proofs.Vocabulary.{All, sym, subst, all_sets, question_of, gaps_in, StoreBufferMachine, empty_sketch, IsValidCoverBy, IsValidGap, IsRunOutside, IsValidCertificate, CheckFaultIs, HasServingSet, HasForeignRuns, HasEachOutcome, HavePassed, err_up}
 use Rattle.cert_check.proofs.Vocabulary.{on_ok}
 use Rattle.cert_check.proofs.{Assembled.assembled, FirstFaults.foreign_are_runs}
 use Rattle.cert_check.proofs.checker.Claim.check_all.Goals as goal
@@ -34,7 +34,7 @@ returns c =
     } in
     let serving : HasServingSet q costs claim outs = record {
       runs = foreign;
-      fenced = subst (λ xs. IsValidCover q (StoreBufferMachine (gaps_in q.program claim.gaps)) xs claim.fenced_tree (empty_sketch q.program)) c.deref-2.ensures.value c.in_ok-check_fenced.ensures.fenced;
+      fenced = subst (λ xs. IsValidCoverBy claim.rule q (StoreBufferMachine (gaps_in q.program claim.gaps)) xs claim.fenced_tree (empty_sketch q.program)) c.deref-2.ensures.value c.in_ok-check_fenced.ensures.fenced;
     } in
     let passed = subst (HavePassed q.program claim.runs) (sym c.deref-3.ensures.value) c.in_ok-passed.ensures.passed in
     record {

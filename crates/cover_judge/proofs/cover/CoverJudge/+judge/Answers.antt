@@ -1,43 +1,43 @@
 use Rattle.cover_judge.proofs.Vocabulary.{take, length, ◌<◌, ◌∙◌, arith, length-take-le, choices_in, first_tree, next_is_shorter, value_next, source_next, order_next}
-use Rattle.cover_judge.proofs.{ChoicesJudged.choices_may, SketchesAfter.valid_after, SketchesAfter.wrong_after}
+use Rattle.cover_judge.proofs.{ChoicesJudged.choices_can, SketchesAfter.valid_after, SketchesAfter.wrong_after}
 use Rattle.cover_judge.proofs.CoverNodes.{valid_by_children, wrong_by_child, wrong_by_root, order_valid, order_wrong}
-use Rattle.cover_judge.proofs.CoverSteps.{judged_none, judged_more, judged_wrong, judged_all, past_all, next_may, next_some, not_longer}
+use Rattle.cover_judge.proofs.CoverSteps.{judged_none, judged_more, judged_wrong, judged_all, past_all, next_can, next_some, not_longer}
 use Rattle.cover_judge.proofs.cover.CoverJudge.+judge.Goals as goal
 
 -- ---- the children of a node
 
 pub judge_children-returns-in_err-choices-clause-wrong : goal.judge_children-returns-in_err-choices-clause-wrong
 judge_children-returns-in_err-choices-clause-wrong t c =
-    wrong_by_root c.args.self.now.shown.now c.args.self.now.outcomes.now c.args.sketch.now c.args.next
+    wrong_by_root c.args.self.now.rule c.args.self.now.shown.now c.args.self.now.outcomes.now c.args.sketch.now c.args.next
     c.from_residual.result c.in_err-choices.field-0.0 c.args.count c.args.walk.now c.requires c.from_residual.ensures.1 c.in_err-choices.ensures.wrong
 
 pub judge_children-judge_each-requires : goal.judge_children-judge_each-requires
 judge_children-judge_each-requires t c =
     let many = c.in_ok-choices.ensures.many in
-    (omega arith, (choices_may c.args.sketch.now c.args.next (choices_in c.in_ok-choices.choices) c.in_ok-choices.ensures.choices, omega (arith, c.requires)))
+    (omega arith, (choices_can c.args.self.now.rule c.args.sketch.now c.args.next (choices_in c.in_ok-choices.choices) c.in_ok-choices.ensures.choices, omega (arith, c.requires)))
 
 pub judge_children-returns-clause-after : goal.judge_children-returns-clause-after
 judge_children-returns-clause-after t c = rw (← c.in_ok-choices.ensures.many) at c.judge_each.ensures.after
 
 pub judge_children-returns-clause-valid : goal.judge_children-returns-clause-valid
 judge_children-returns-clause-valid t c =
-    valid_by_children c.args.self.now.shown.now c.args.self.now.outcomes.now c.args.sketch.now c.args.next (choices_in c.in_ok-choices.choices) c.in_ok-choices.ensures.choices
+    valid_by_children c.args.self.now.rule c.args.self.now.shown.now c.args.self.now.outcomes.now c.args.sketch.now c.args.next (choices_in c.in_ok-choices.choices) c.in_ok-choices.ensures.choices
     c.judge_each.result (take c.args.count c.args.walk.now) (rw (← c.in_ok-choices.ensures.many) at c.judge_each.ensures.valid)
 
 pub judge_children-returns-clause-wrong : goal.judge_children-returns-clause-wrong
 judge_children-returns-clause-wrong t c =
     let many = length-take-le c.args.count c.args.walk.now c.requires ∙ c.in_ok-choices.ensures.many in
-    wrong_by_child c.args.self.now.shown.now c.args.self.now.outcomes.now c.args.sketch.now c.args.next (choices_in c.in_ok-choices.choices) c.in_ok-choices.ensures.choices
+    wrong_by_child c.args.self.now.rule c.args.self.now.shown.now c.args.self.now.outcomes.now c.args.sketch.now c.args.next (choices_in c.in_ok-choices.choices) c.in_ok-choices.ensures.choices
     c.judge_each.result (take c.args.count c.args.walk.now) many (rw (← c.in_ok-choices.ensures.many) at c.judge_each.ensures.wrong)
 
 pub judge_each-loop-number-init : goal.judge_each-loop-number-init
-judge_each-loop-number-init t c = judged_none c.args.self.now.shown.now c.args.self.now.outcomes.now c.args.sketch.now (choices_in c.args.choices.now) c.args.walk.now c.requires.as_many
+judge_each-loop-number-init t c = judged_none c.args.self.now.rule c.args.self.now.shown.now c.args.self.now.outcomes.now c.args.sketch.now (choices_in c.args.choices.now) c.args.walk.now c.requires.as_many
 
 pub judge_each-judge_after-requires : goal.judge_each-judge_after-requires
 judge_each-judge_after-requires t c =
     let is = c.loop-number.invariant in
     let here : c.loop-number.number < length (choices_in c.args.choices.now) = omega (arith, c.loop-number-test.true, c.len-number-end.ensures) in
-    (omega (arith, not_longer is here), (next_may is here c.at.result c.at.ensures c.requires.may, next_some is here))
+    (omega (arith, not_longer is here), (next_can is here c.at.result c.at.ensures c.requires.can, next_some is here))
 
 pub judge_each-loop-number-preserved : goal.judge_each-loop-number-preserved
 judge_each-loop-number-preserved t c =
@@ -63,11 +63,11 @@ judge_after-returns-clause-kept t c = c.take_back.ensures c.args.sketch.now c.ar
 
 pub judge_after-returns-clause-valid : goal.judge_after-returns-clause-valid
 judge_after-returns-clause-valid t c =
-    valid_after c.args.self.now.shown.now c.args.self.now.outcomes.now c.args.sketch.now c.choose.new.sketch (first_tree c.args.walk.now) c.args.choice c.in_ok-mark.ensures.ok c.judge-judged.result c.judge-judged.ensures.valid
+    valid_after c.args.self.now.rule c.args.self.now.shown.now c.args.self.now.outcomes.now c.args.sketch.now c.choose.new.sketch (first_tree c.args.walk.now) c.args.choice c.in_ok-mark.ensures.ok c.judge-judged.result c.judge-judged.ensures.valid
 
 pub judge_after-returns-clause-wrong : goal.judge_after-returns-clause-wrong
 judge_after-returns-clause-wrong t c =
-    wrong_after c.args.self.now.shown.now c.args.self.now.outcomes.now c.args.sketch.now c.choose.new.sketch (first_tree c.args.walk.now) c.args.choice c.in_ok-mark.ensures.ok c.judge-judged.result c.judge-judged.ensures.wrong
+    wrong_after c.args.self.now.rule c.args.self.now.shown.now c.args.self.now.outcomes.now c.args.sketch.now c.choose.new.sketch (first_tree c.args.walk.now) c.args.choice c.in_ok-mark.ensures.ok c.judge-judged.result c.judge-judged.ensures.wrong
 
 -- ---- a node
 
@@ -127,9 +127,9 @@ judge-returns-in-Order-clause-after t c =
 pub judge-returns-in-Order-clause-valid : goal.judge-returns-in-Order-clause-valid
 judge-returns-in-Order-clause-valid t c =
     let next = order_next c.args.walk.now c.in-Order.first c.in-Order.second c.next_node.new.self c.in-Order.ensures in
-    rw next.first (order_valid c.args.self.now.shown.now c.args.self.now.outcomes.now c.args.sketch.now c.in-Order.first c.in-Order.second c.judge_children-in-Order.result c.next_node.new.self next.fits c.judge_children-in-Order.ensures.valid)
+    rw next.first (order_valid c.args.self.now.rule c.args.self.now.shown.now c.args.self.now.outcomes.now c.args.sketch.now c.in-Order.first c.in-Order.second c.judge_children-in-Order.result c.next_node.new.self next.fits c.judge_children-in-Order.ensures.valid)
 
 pub judge-returns-in-Order-clause-wrong : goal.judge-returns-in-Order-clause-wrong
 judge-returns-in-Order-clause-wrong t c =
     let next = order_next c.args.walk.now c.in-Order.first c.in-Order.second c.next_node.new.self c.in-Order.ensures in
-    rw next.first (order_wrong c.args.self.now.shown.now c.args.self.now.outcomes.now c.args.sketch.now c.in-Order.first c.in-Order.second c.judge_children-in-Order.result c.next_node.new.self next.fits c.judge_children-in-Order.ensures.wrong)
+    rw next.first (order_wrong c.args.self.now.rule c.args.self.now.shown.now c.args.self.now.outcomes.now c.args.sketch.now c.in-Order.first c.in-Order.second c.judge_children-in-Order.result c.next_node.new.self next.fits c.judge_children-in-Order.ensures.wrong)

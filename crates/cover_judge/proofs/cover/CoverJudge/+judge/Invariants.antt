@@ -17,4 +17,4 @@ decreases-judge_children l = 4 * length (spell_all l.walk.now) + 3
 
 -- so many children are judged
 abbrev pub invariant-judge_each-loop-number : goal.invariant-judge_each-loop-number
-invariant-judge_each-loop-number l = IsJudgedTo l.self.shown.now l.self.outcomes.now l.fn.sketch (choices_in l.choices) l.fn.walk l.number l.sketch l.walk
+invariant-judge_each-loop-number l = IsJudgedTo l.self.rule l.self.shown.now l.self.outcomes.now l.fn.sketch (choices_in l.choices) l.fn.walk l.number l.sketch l.walk

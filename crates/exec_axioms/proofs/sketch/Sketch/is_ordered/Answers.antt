@@ -19,7 +19,7 @@ pub returns-in_default : goal.returns-in_default
 returns-in_default c =
     let same = ap (λ (x : NumberedTraces). x.events) c.deref-2.ensures in
     no (IsOrdered c.args.self.now c.args.first c.args.second) (λ h.
-    let numbers = ordered_numbers c.self.inside.program c.self.inside.mode (arc_value c.self.inside.traces).thread_traces c.self.inside.sources.items c.self.inside.pairs.items c.self.invariant.kept (arc_value c.self.inside.traces).events c.self.invariant.rows.all c.args.first c.args.second
+    let numbers = ordered_numbers c.self.inside.program c.self.inside.mode (arc_value c.self.inside.traces).thread_traces c.self.inside.sources.items c.self.inside.pairs.items c.self.invariant.kept (arc_value c.self.inside.traces).events c.self.invariant.values_first c.self.invariant.rows.all c.args.first c.args.second
     (subst (λ (s : ProgramSketch). IsOrdered s c.args.first c.args.second) (sym c.self.view_is) h) in
     c.in_default.ensures' {u = tt} (subst (λ (es : List Event). Contains es c.args.second) (sym same) (contained (arc_value c.self.inside.traces).events c.args.second numbers.1)))
 
@@ -27,6 +27,6 @@ pub returns-in_default-2 : goal.returns-in_default-2
 returns-in_default-2 c =
     let same = ap (λ (x : NumberedTraces). x.events) c.deref.ensures in
     no (IsOrdered c.args.self.now c.args.first c.args.second) (λ h.
-    let numbers = ordered_numbers c.self.inside.program c.self.inside.mode (arc_value c.self.inside.traces).thread_traces c.self.inside.sources.items c.self.inside.pairs.items c.self.invariant.kept (arc_value c.self.inside.traces).events c.self.invariant.rows.all c.args.first c.args.second
+    let numbers = ordered_numbers c.self.inside.program c.self.inside.mode (arc_value c.self.inside.traces).thread_traces c.self.inside.sources.items c.self.inside.pairs.items c.self.invariant.kept (arc_value c.self.inside.traces).events c.self.invariant.values_first c.self.invariant.rows.all c.args.first c.args.second
     (subst (λ (s : ProgramSketch). IsOrdered s c.args.first c.args.second) (sym c.self.view_is) h) in
     MatchOption-at_none _ _ c.in_default.is-0 c.number_of.ensures (subst (λ (es : List Event). Contains es c.args.first) (sym same) (contained (arc_value c.self.inside.traces).events c.args.first numbers.0)))

@@ -19,7 +19,7 @@ keep_last-requires-clause-later c =
     let at = subst (λ (es : List Event). slice_get es c.loop-d.d ≡ Some x) same (slice_get-get_or c.events-events.result.now c.loop-d.d (Initial 0) c.loop-d-test.true) in
     subst (λ (s : ProgramSketch). IsTrue c.has_any-has_later.result ↔ HasLater s x) c.self.view_is
     (later_test c.self.inside.program c.self.inside.mode (arc_value c.self.inside.traces).thread_traces c.self.inside.sources.items c.self.inside.pairs.items c.self.invariant.kept (arc_value c.self.inside.traces).events c.self.inside.rows.later c.loop-d.d x
-    c.has_any-has_later.result c.self.invariant.rows.all c.self.invariant.rows.later_rows at c.has_any-has_later.ensures)
+    c.has_any-has_later.result c.self.invariant.values_first c.self.invariant.rows.all c.self.invariant.rows.later_rows at c.has_any-has_later.ensures)
 
 pub keep_last-requires-clause-written : goal.keep_last-requires-clause-written
 keep_last-requires-clause-written c none l v within last =

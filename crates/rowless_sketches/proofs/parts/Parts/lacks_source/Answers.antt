@@ -16,7 +16,7 @@ returns c t =
     let value = c.in-Some-read.value in
     let same = ap (λ (s : ProgramSketch). s.program.memory) c.self.view_is in
     subst (λ (s : ProgramSketch). LacksSource s c.args.read) c.self.view_is
-    (lacks p c.self.inside.mode.now c.self.inside.thread_traces.now c.self.inside.sources.now c.self.inside.pairs.now c.self.invariant (c.each_ends.ensures.0 c.if-not-each_ends.false) c.args.read x value
+    (lacks p c.self.inside.mode.now c.self.inside.thread_traces.now c.self.inside.sources.now c.self.inside.pairs.now c.self.invariant c.args.read x value
     (sym c.access_at.ensures ∙ c.in-Some.is) c.in-Some-read.is
     (λ e. both c.begins_with.result (c.begins_with.ensures (subst (λ (m : List ℕ). slice_index m x.location ≡ value) same e)) c.if-begins_with.false)
     (λ u i d y a b l w. negated c.writes_any.result t (c.writes_any.ensures u i d y a b l w)))

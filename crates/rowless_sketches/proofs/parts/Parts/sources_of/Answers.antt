@@ -16,7 +16,7 @@ returns-in_ok-push_sources-in-Some c =
     let many = ap (λ (k : ProgramSketch). length k.program.threads) c.self.view_is in
     ap (λ (k : ProgramSketch). (trace_in k t).accesses) (sym c.self.view_is)
     ∙ no_accesses c.self.inside.program.now c.self.inside.mode.now traces c.self.inside.sources.now c.self.inside.pairs.now c.self.invariant t (slice_get_past traces t (omega arith))) in
-    all_listed s read (length s.program.threads) c.push_sources.new.sources.items (c.is_whole.ensures.0 c.if-not-is_whole.false) (is_read_by s read c.in-Some.location c.in-Some.value reads) past
+    all_listed s read (length s.program.threads) c.push_sources.new.sources.items (is_read_by s read c.in-Some.location c.in-Some.value reads) past
     (c.in_ok-push_sources-in-Some.ensures
     (first_listed s read c.in-Some.location c.in-Some.value c.new-sources.result.items c.push_if_source.new.sources.items reads c.new-sources.ensures.items
     c.in_ok-push_if_source-in-Some.ensures.exact c.in_ok-push_if_source-in-Some.ensures.ordered))

@@ -1,9 +1,9 @@
-use Rattle.rowless_sketches.proofs.Vocabulary.{List, sym, subst, Event, ProgramSketch, KeepsTraces, MayFollow, pair_kept}
+use Rattle.rowless_sketches.proofs.Vocabulary.{List, sym, subst, Event, ProgramSketch, KeepsTraces, CanFollow, pair_kept}
 use Rattle.rowless_sketches.proofs.rowless_sketch.RowlessSketch.choose_order.Goals as goal
 
 pub invariant_of-self-2 : goal.invariant_of-self-2
 invariant_of-self-2 c =
-    let may = subst (λ (s : ProgramSketch). MayFollow s c.args.first c.args.second) (sym c.self.view_is) c.requires in
+    let may = subst (λ (s : ProgramSketch). CanFollow s c.args.first c.args.second) (sym c.self.view_is) c.requires in
     record {
       kept = subst (λ (xs : List (Event × Event)). KeepsTraces c.self.inside.base.program c.self.inside.base.mode c.self.inside.thread_traces.items c.self.inside.sources.items (xs)) (sym c.in_ok-push.ensures.items)
           (pair_kept c.self.inside.base.program c.self.inside.base.mode c.self.inside.thread_traces.items c.self.inside.sources.items c.self.inside.pairs.items c.self.invariant.kept c.args.first c.args.second may);

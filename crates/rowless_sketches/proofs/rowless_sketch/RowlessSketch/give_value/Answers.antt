@@ -1,7 +1,7 @@
-use Rattle.rowless_sketches.proofs.Vocabulary.{◌≡◌, ◌∙◌, ap, sym, subst, length, List, [], Some, IsSome, get_or, set, refl, ℕ, slice_get_read, Event, IsValueOf, ThreadTrace, ProgramSketch, mode_in, with_chosen, view_of, KeepsTraces, MarkedThread}
+use Rattle.rowless_sketches.proofs.Vocabulary.{◌≡◌, ◌∙◌, ap, sym, subst, length, List, Some, IsSome, get_or, set, refl, ℕ, slice_get_read, IsValueOf, ThreadTrace, ProgramSketch, mode_in, with_chosen, view_of, KeepsTraces, MarkedThread}
 use Rattle.rowless_sketches.proofs.Vocabulary.{IsValueMarkOf, reads_there, more_kept, more_parts, given_at, given_in, IsTraceTree}
 use Rattle.candidate_executions.specs.Sketches as sketches
-use Rattle.rowless_sketches.proofs.{ChoicesDropped.no_sources, ChoicesDropped.no_pairs, ValuesGiven.given_more}
+use Rattle.rowless_sketches.proofs.ValuesGiven.{given_more}
 use Rattle.rowless_sketches.proofs.rowless_sketch.RowlessSketch.give_value.Goals as goal
 
 pub invariant_of-self-2 : goal.invariant_of-self-2
@@ -63,7 +63,4 @@ returns-clause-mark c =
     let there = reads_there p mode traces sources pairs c.self.invariant.kept c.args.t some in
     let old = slice_get_read traces (length traces) c.args.t c.index_mut.result.now refl there c.index_mut.ensures.value ∙ ap Some (sym c.replace-trace.ensures.value) in
     let mark : MarkedThread = record { thread = c.args.t; trace = c.replace-trace.result } in
-    let first = no_sources p mode traces sources pairs c.self.invariant.kept c.args.t some in
-    let second = no_pairs p mode traces sources pairs c.self.invariant.kept c.args.t some in
-    let kept = subst (λ (ys : List (Event × Event)). KeepsTraces p mode traces [] ys) second (subst (λ (xs : List (Event × Event)). KeepsTraces p mode traces xs pairs) first c.self.invariant.kept) in
-    subst (λ (s : ProgramSketch). IsValueMarkOf mark s) c.self.view_is (record { traces = traces; seen = (λ i. view_of p mode traces (first i) (second i)); kept = kept; there = old })
+    subst (λ (s : ProgramSketch). IsValueMarkOf mark s) c.self.view_is (record { traces = traces; seen = refl; kept = c.self.invariant.kept; there = old })

@@ -1,0 +1,27 @@
+//! A search for early cover trees that proposes: what it proposes is judged by others.
+//!
+//! The search goes through the candidate executions of a program in one graph of events. A source is decided as soon as no
+//! other thread may still write the read's value, an order as soon as a cycle forces it, and a tree that does not rest on
+//! the last choice takes the place of the node above it (conflict-directed backjumping).
+//!
+//! Nothing is proved of this crate but that it is safe and ends. A tree that it proposes is judged by `cover_judge`, a
+//! run by its replay, and where a proposal is refused or lacking, the solver that is proved stands in. Begin with
+//! `propose_table` and `propose_verdict`. Free to change: all of it.
+#![tactic(auto)]
+
+mod conflict_set;
+mod conflicts;
+mod decisions;
+mod known_ends;
+mod known_outcomes;
+mod made_run;
+mod orders;
+mod proposals;
+mod settled;
+mod sources;
+mod trail;
+mod tree_search;
+mod truths;
+mod values;
+
+pub use proposals::{Proposal, ProposedTable, propose_table, propose_verdict};

@@ -1,0 +1,364 @@
+//! The search for a cover tree over a list of outcomes. Where it comes to a new outcome, an open list takes it. A new
+//! outcome that the list does not take ends the search.
+use crate::conflict_set::ConflictSet;
+use crate::conflicts::Conflicts;
+use crate::decisions::{choices_of, next_decision};
+use crate::known_ends::KnownEnds;
+use crate::known_outcomes::KnownOutcomes;
+use crate::made_run::shown_run;
+use crate::trail::Trail;
+use crate::truths::known_truth;
+use candidate_executions::Kind;
+use cert_forest::{AccessId, Node, push_cycle, push_known, take_out};
+use event_rows::{
+    Choice, Decision, EventGraph, Mark, PossibleWrites, is_in, reached_from, round_through,
+};
+use run_maker::MadeRun;
+use std::alloc::{AllocError, Global};
+use tso_machine::Mode;
+use tso_program::{Formula, Outcome, Program, Shown};
+
+/// How many steps a search goes at most.
+const MOST_STEPS: u64 = 1 << 22;
+
+/// How many choices a search makes one after another at most: no tree that is judged is deeper.
+const MOST_CHOICES: usize = 590;
+
+/// A node of the tree whose children are searched.
+#[derive(Drop)]
+struct Frame {
+    choices: Vec<Choice>,
+    /// How many choices are taken.
+    taken: usize,
+    /// The place of its node.
+    root: usize,
+    /// The place of the child that is searched.
+    start: usize,
+    /// What the children rest on so far.
+    conflicts: ConflictSet,
+}
+
+/// How a search ends.
+#[derive(Drop)]
+pub(crate) enum SearchEnd {
+    /// The nodes are a tree.
+    Covered,
+    /// This run has an outcome that is not in the list.
+    New(MadeRun),
+    /// It has gone as far as it may.
+    Stuck,
+}
+
+/// What is found where a search stands.
+#[derive(Drop)]
+enum Found {
+    /// A node, whose next child is to be searched.
+    Node,
+    /// A tree, which rests on these choices.
+    Tree(ConflictSet),
+    Ended(SearchEnd),
+}
+
+/// A search on its way: a graph with the choices that are made, the outcomes that are known, and the nodes of the tree so
+/// far.
+#[derive(Drop)]
+pub(crate) struct TreeSearch<'a> {
+    alloc: Global,
+    shown: &'a Shown,
+    writes: PossibleWrites,
+    graph: EventGraph,
+    trail: Trail,
+    ends: KnownEnds,
+    frames: Vec<Frame>,
+    /// For each of these the graph at its node.
+    marks: Vec<Mark>,
+    pub(crate) outcomes: KnownOutcomes<'a>,
+    pub(crate) nodes: Vec<Node>,
+}
+
+impl<'a> TreeSearch<'a> {
+    /// A search in which nothing is chosen.
+    pub(crate) fn new(
+        alloc: Global,
+        program: &Program,
+        shown: &'a Shown,
+        mode: Mode,
+        outcomes: KnownOutcomes<'a>,
+    ) -> Result<TreeSearch<'a>, AllocError> {
+        let graph = EventGraph::new(alloc, program, mode)?;
+        Ok(TreeSearch {
+            alloc,
+            shown,
+            writes: PossibleWrites::new(alloc, program)?,
+            trail: Trail::new(&graph),
+            graph,
+            ends: KnownEnds::none(alloc),
+            frames: Vec::new(alloc),
+            marks: Vec::new(alloc),
+            outcomes,
+            nodes: Vec::new(alloc),
+        })
+    }
+
+    /// Searches for a tree.
+    pub(crate) fn search(&mut self) -> Result<SearchEnd, AllocError> {
+        self.find_ends()?;
+        let mut found = self.visit()?;
+        for _ in 0..MOST_STEPS {
+            found = match found {
+                Found::Node => self.next_child()?,
+                Found::Tree(conflicts) => self.after_child(conflicts),
+                Found::Ended(end) => return Ok(end),
+            };
+        }
+        Ok(SearchEnd::Stuck)
+    }
+
+    /// Makes the next choice of the last node.
+    fn next_child(&mut self) -> Result<Found, AllocError> {
+        let Some(mut frame) = self.frames.pop() else {
+            return Ok(Found::Ended(SearchEnd::Stuck));
+        };
+        let depth = self.frames.len().min(MOST_CHOICES) as u16;
+        let choice = frame.choices.get(frame.taken).copied();
+        frame.taken = frame.taken.saturating_add(1);
+        frame.start = self.nodes.len();
+        self.frames.push(frame)?;
+        match choice {
+            Some(choice) => self.visit_after(depth, choice),
+            None => Ok(Found::Ended(SearchEnd::Stuck)),
+        }
+    }
+
+    /// Takes the last choice back, after which a tree rests on these. A tree that does not rest on the choice takes the
+    /// place of the node; else the node's next child comes, or the node is done.
+    fn after_child(&mut self, own: ConflictSet) -> Found {
+        let Some(mut frame) = self.frames.pop() else {
+            return Found::Ended(SearchEnd::Covered);
+        };
+        let depth = self.frames.len().min(MOST_CHOICES) as u16;
+        if let Some(mark) = self.marks.last() {
+            self.graph.go_back(mark);
+        }
+        if !own.has(depth) {
+            self.lift(frame.root, frame.start);
+            return self.done(own);
+        }
+        frame.conflicts.add_all(&own);
+        if frame.taken < frame.choices.len() {
+            return match self.frames.push(frame) {
+                Ok(()) => Found::Node,
+                Err(_) => Found::Ended(SearchEnd::Stuck),
+            };
+        }
+        let mut conflicts = frame.conflicts;
+        conflicts.remove(depth);
+        self.done(conflicts)
+    }
+
+    /// The last node is done: its tree rests on these choices.
+    fn done(&mut self, conflicts: ConflictSet) -> Found {
+        self.marks.truncate(self.frames.len());
+        Found::Tree(conflicts)
+    }
+
+    /// Puts the tree from a place on in the place of the node that stands before it.
+    fn lift(&mut self, root: usize, start: usize) {
+        if root <= start && start <= self.nodes.len() {
+            take_out(&mut self.nodes, root, start);
+        }
+    }
+
+    /// Makes a choice and sees what is there.
+    fn visit_after(&mut self, depth: u16, choice: Choice) -> Result<Found, AllocError> {
+        self.graph.choose(choice);
+        self.trail.put(depth, &self.graph, choice);
+        match choice {
+            Choice::Value { .. } => self.find_ends()?,
+            Choice::Source { read: at, .. } | Choice::Order { second: at, .. } => {
+                if self.graph.rows.has_round() {
+                    return self.cycle(at);
+                }
+            }
+        }
+        self.visit()
+    }
+
+    /// What is there: a leaf, or a node, which is put after the others.
+    fn visit(&mut self) -> Result<Found, AllocError> {
+        let is_whole = self.graph.is_whole();
+        let followed = self.graph.rows.followed();
+        if let Some(conflicts) = self.known_leaf(is_whole, followed)? {
+            return Ok(Found::Tree(conflicts));
+        }
+        let last = if is_whole {
+            self.ends.last_writes(followed)
+        } else {
+            0
+        };
+        match next_decision(&self.graph, &self.writes, last) {
+            Some(decision) => self.open_node(decision),
+            None => self.new_end(),
+        }
+    }
+
+    /// Puts the node of a decision after the others.
+    fn open_node(&mut self, decision: Decision) -> Result<Found, AllocError> {
+        let choices = choices_of(self.alloc, &self.graph, &self.writes, decision)?;
+        let conflicts = self.conflicts().of_node(decision);
+        let root = self.nodes.len();
+        let node = self.node_of(decision, choices.len());
+        self.nodes.push(node)?;
+        if choices.is_empty() {
+            return Ok(Found::Tree(conflicts));
+        }
+        if self.frames.len() >= MOST_CHOICES {
+            return Ok(Found::Ended(SearchEnd::Stuck));
+        }
+        let thread = match decision {
+            Decision::Value(t) => t,
+            _ => 0,
+        };
+        let mark = self.graph.mark(thread);
+        self.marks.push(mark)?;
+        self.frames.push(Frame {
+            choices,
+            taken: 0,
+            root,
+            start: root,
+            conflicts,
+        })?;
+        Ok(Found::Node)
+    }
+
+    /// The node of a decision with so many choices.
+    fn node_of(&self, decision: Decision, count: usize) -> Node {
+        let count = count.min(1 << 16) as u32;
+        match decision {
+            Decision::Value(thread) => Node::Value { thread, count },
+            Decision::Source(read) => Node::Source {
+                read: self.access_id(read),
+                count,
+            },
+            Decision::Order(first, second) => Node::Order {
+                first: self.access_id(first),
+                second: self.access_id(second),
+            },
+        }
+    }
+
+    fn access_id(&self, number: u8) -> AccessId {
+        AccessId {
+            thread: self.graph.numbering.thread(number),
+            access: self.graph.numbering.index(number),
+        }
+    }
+
+    /// Puts the leaf of a graph that must end as a known outcome after the other nodes. `None` if it need not.
+    fn known_leaf(
+        &mut self,
+        is_whole: bool,
+        followed: u32,
+    ) -> Result<Option<ConflictSet>, AllocError> {
+        if let Shown::Truth(formula) = self.shown {
+            return self.told_leaf(formula, is_whole, followed);
+        }
+        if !is_whole {
+            return Ok(None);
+        }
+        match self.ends.must_end(followed) {
+            Some(end) => {
+                push_known(&mut self.nodes, u64::from(end.number))?;
+                Ok(Some(self.conflicts().of_end(end.others)))
+            }
+            None => Ok(None),
+        }
+    }
+
+    /// Puts the leaf of a graph that must end with a known truth of the formula after the other nodes.
+    fn told_leaf(
+        &mut self,
+        formula: &Formula,
+        is_whole: bool,
+        followed: u32,
+    ) -> Result<Option<ConflictSet>, AllocError> {
+        let Some(truth) = known_truth(self.alloc, &self.graph, formula)? else {
+            return Ok(None);
+        };
+        let told = Outcome::told(self.alloc, truth)?;
+        let Some(number) = self.outcomes.number_of(&told) else {
+            return Ok(None);
+        };
+        push_known(&mut self.nodes, u64::from(number))?;
+        Ok(Some(if is_whole {
+            self.conflicts().of_end(followed)
+        } else {
+            self.conflicts().of_ended()
+        }))
+    }
+
+    /// Of a complete graph whose outcome is new: an open list takes it, and the graph has its leaf.
+    fn new_end(&mut self) -> Result<Found, AllocError> {
+        let Some(run) = shown_run(self.alloc, &self.graph, self.shown)? else {
+            return Ok(Found::Ended(SearchEnd::Stuck));
+        };
+        let KnownOutcomes::Open(found) = &mut self.outcomes else {
+            return Ok(Found::Ended(SearchEnd::New(run)));
+        };
+        let number = found.add(run)?;
+        if let Some(outcome) = found.outcomes.last() {
+            self.ends.add(&self.graph, self.shown, number, outcome)?;
+        }
+        push_known(&mut self.nodes, u64::from(number))?;
+        let followed = self.graph.rows.followed();
+        Ok(Found::Tree(match (self.shown, self.ends.must_end(followed)) {
+            (Shown::Truth(_), _) => self.conflicts().of_end(followed),
+            (_, Some(end)) => self.conflicts().of_end(end.others),
+            (_, None) => ConflictSet::all(),
+        }))
+    }
+
+    /// Once each read has its value, the known outcomes as which the graph may end.
+    fn find_ends(&mut self) -> Result<(), AllocError> {
+        if let Shown::Truth(_) = self.shown {
+            return Ok(());
+        }
+        if self.graph.is_whole() {
+            self.ends
+                .find(self.alloc, &self.graph, self.shown, &self.outcomes)?;
+        }
+        Ok(())
+    }
+
+    /// Puts the leaf of a cycle through an access after the other nodes.
+    fn cycle(&mut self, at: u8) -> Result<Found, AllocError> {
+        let kind = self.union_around(at);
+        let round = round_through(self.alloc, self.graph.rows.of_union(kind), at)?;
+        let mut accesses = Vec::with_capacity(self.alloc, round.len())?;
+        for number in &round {
+            accesses.push(self.access_id(*number))?;
+        }
+        push_cycle(&mut self.nodes, kind, &accesses)?;
+        Ok(Found::Tree(self.conflicts().of_cycle(kind, &round)))
+    }
+
+    /// The union that has a cycle through an access.
+    fn union_around(&self, at: u8) -> Kind {
+        match self.graph.mode() {
+            Mode::Sequential => Kind::Sequential,
+            Mode::Fenced(_) => if is_in(reached_from(&self.graph.rows.main, at), at) {
+                Kind::Location
+            } else {
+                Kind::Global
+            },
+        }
+    }
+
+    fn conflicts(&self) -> Conflicts<'_> {
+        Conflicts {
+            graph: &self.graph,
+            trail: &self.trail,
+            writes: &self.writes,
+        }
+    }
+}

@@ -1,9 +1,0 @@
-use Rattle.cert_pages.proofs.Vocabulary.{◌≡◌, ◌++◌, length, draft_text, texts_of, spell_gaps, gap_text}
-use Rattle.cert_pages.proofs.writer.write_gap.Given as goal
-
--- the text so far, and that of the trees to come
-abbrev pub invariant-loop-walk : goal.invariant-loop-walk
-invariant-loop-walk l = draft_text l.out ++ texts_of gap_text l.walk ≡ draft_text l.fn.out ++ gap_text l.tree
-
-abbrev pub decreases-loop-walk : goal.decreases-loop-walk
-decreases-loop-walk l = length (spell_gaps l.walk)

@@ -1,0 +1,124 @@
+//! The words of a gap tree: regions are bounded by runs, or split by one.
+use crate::hunt::Hunt;
+use crate::lines::{push_number, push_word};
+use gap_sets::{GapSet, Region};
+use hitting_sets::{excludes, lower_bound};
+use std::alloc::AllocError;
+
+/// How many nodes a gap tree has at most.
+const MOST_NODES: usize = 1 << 20;
+
+/// A run by its number, and the gaps that it passes and that the sets of a region may have.
+#[derive(Clone, Copy)]
+struct OpenRun {
+    number: usize,
+    gaps: GapSet,
+}
+
+/// The words of a gap tree that is to show that no better set than this serves. `None` if none is found.
+pub(crate) fn gap_words(hunt: &Hunt<'_>, set: &GapSet) -> Result<Option<Vec<u8>>, AllocError> {
+    let mut words = Vec::new(hunt.alloc);
+    let mut open = Vec::new(hunt.alloc);
+    open.push(Region::all())?;
+    for _ in 0..MOST_NODES {
+        let Some(region) = open.pop() else {
+            return Ok(Some(words));
+        };
+        if !push_bound(hunt, set, &region, &mut words)?
+            && !push_split(hunt, &region, &mut words, &mut open)?
+        {
+            return Ok(None);
+        }
+    }
+    Ok(None)
+}
+
+/// Adds a bound by runs, where they show that no set of the region is better. Whether they do.
+fn push_bound(
+    hunt: &Hunt<'_>,
+    set: &GapSet,
+    region: &Region,
+    words: &mut Vec<u8>,
+) -> Result<bool, AllocError> {
+    let Some(bound) = lower_bound(hunt.alloc, hunt.costs, region, &hunt.passed)? else {
+        return Ok(false);
+    };
+    if !excludes(hunt.costs, &bound, set) {
+        return Ok(false);
+    }
+    push_word(words, b"B")?;
+    push_number(words, bound.runs.len() as u64)?;
+    for run in &bound.runs {
+        push_number(words, u64::from(*run))?;
+    }
+    Ok(true)
+}
+
+/// Adds a split by the run with the fewest gaps, and opens its children. Whether there is one.
+fn push_split(
+    hunt: &Hunt<'_>,
+    region: &Region,
+    words: &mut Vec<u8>,
+    open: &mut Vec<Region>,
+) -> Result<bool, AllocError> {
+    let Some(run) = best_split(hunt, region) else {
+        return Ok(false);
+    };
+    push_word(words, b"P")?;
+    push_number(words, run.number as u64)?;
+    push_number(words, u64::from(run.gaps.len()))?;
+    open_children(hunt, region, &run.gaps, open)?;
+    Ok(true)
+}
+
+/// Puts the children of a split on a stack, the first of them on top.
+fn open_children(
+    hunt: &Hunt<'_>,
+    region: &Region,
+    gaps: &GapSet,
+    open: &mut Vec<Region>,
+) -> Result<(), AllocError> {
+    let mut children = Vec::new(hunt.alloc);
+    let mut rest = *region;
+    for gap in gaps.iter() {
+        children.push(rest.with(gap))?;
+        rest = rest.without(gap);
+    }
+    children.reverse();
+    open.append(&mut children)
+}
+
+/// The run that passes no gap that the region's sets must have, and the fewest that they may have.
+fn best_split(hunt: &Hunt<'_>, region: &Region) -> Option<OpenRun> {
+    let mut best: Option<OpenRun> = None;
+    for (number, passed) in hunt.passed.iter().enumerate() {
+        if !passed.meets(&region.must) {
+            let gaps = open_gaps(passed, &region.never);
+            best = Some(with_fewer(best, OpenRun { number, gaps }));
+        }
+    }
+    best
+}
+
+/// The run with fewer gaps, the first one where both have as many.
+fn with_fewer(best: Option<OpenRun>, other: OpenRun) -> OpenRun {
+    match best {
+        Some(run) => if run.gaps.len() <= other.gaps.len() {
+            run
+        } else {
+            other
+        },
+        None => other,
+    }
+}
+
+/// The gaps of a run that the sets may have.
+fn open_gaps(passed: &GapSet, never: &GapSet) -> GapSet {
+    let mut gaps = GapSet::empty();
+    for gap in passed.iter() {
+        if !never.has(gap) {
+            gaps = gaps.with(gap);
+        }
+    }
+    gaps
+}

@@ -1,0 +1,16 @@
+//! The text of a certificate that a search proposes.
+//!
+//! The search asks about the best set of gaps that meets each known foreign run, and learns a run where the set does not
+//! serve (implicit hitting sets). Its trees are early ones, and its gap tree bounds regions by runs.
+//!
+//! Nothing is proved of this crate but that it is safe and ends. Who uses what it proposes lets it be read and judged as
+//! `fencecheck` does with any file. Begin with `propose`. Free to change: all of it.
+#![tactic(auto)]
+
+mod cover_text;
+mod gap_text;
+mod hunt;
+mod lines;
+mod text;
+
+pub use text::propose;

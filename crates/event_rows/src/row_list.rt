@@ -1,0 +1,28 @@
+//! A row for each number.
+use bit_rows::ROW_BITS;
+
+/// A row for each number.
+#[derive(Clone, Copy)]
+pub struct RowList {
+    rows: [u32; ROW_BITS],
+}
+
+impl RowList {
+    /// Rows without numbers.
+    pub fn none() -> RowList {
+        RowList {
+            rows: [0; ROW_BITS],
+        }
+    }
+
+    /// The row of a number.
+    pub fn at(&self, number: u8) -> u32 {
+        self.rows[number as usize % 32]
+    }
+
+    /// Puts the numbers of a row into that of a number.
+    pub fn add(&mut self, number: u8, row: u32) {
+        let place = number as usize % 32;
+        self.rows[place] = self.rows[place] | row;
+    }
+}
