@@ -1,5 +1,5 @@
-"""Parts: searches that are long enough to be cut into parts. Whatever the number of workers, the same list with the same runs, and the same answer with
-the same trees.
+"""Large programs: of more than 16 combinations of traces. Their lists of outcomes with runs, and whatever the number of workers the same answer with the
+same trees.
 
 The outcomes are those that `judges/machine.py` finds by walking the machine's states, and each run leaves the outcome that is printed before it.
 """
@@ -8,6 +8,7 @@ import os
 import re
 import tempfile
 
+from cases.explanations import explained
 from cases.outcomes import listed_runs
 from cases.progress import read_program, reads
 from harness import FENCECHECK, MODELS, Cases, bytes_of, in_data, lines, run, same, tell, write
@@ -44,27 +45,23 @@ ORDERS = """X86 orders
  MOV [x],$1  | MOV [x],$1  | MOV [x],$1  | MOV [x],$1  ;
  MOV [x],$2  | MOV [x],$2  | MOV [x],$2  | MOV [x],$2  ;
  MOV EAX,[x] | MOV EAX,[x] | MOV EAX,[x] | MOV EAX,[x] ;
+ MOV EBX,[x] |             |             |             ;
 exists (0:EAX=1 /\\ 1:EAX=1)
 """
-WRITE_ORDERS = 2520
-CUT = 10_000
-CUT_BY_ORDERS = 200_000
-LONG = (("reads", reads(5, 5, 5)), ("two threads", TWO_THREADS), ("exchanges", EXCHANGES))
-PROGRAMS = (*LONG, ("orders", ORDERS))
+MOST_WHOLE = 16
+PROGRAMS = (("reads", reads(5, 5, 5)), ("two threads", TWO_THREADS), ("exchanges", EXCHANGES), ("orders", ORDERS))
 
 
 def listed(name, source):
-    """Lists with their runs, by several numbers of workers."""
+    """Lists with their runs."""
     test = test_of(source)
     for model in MODELS:
         words = ["outcomes", "--runs", "--model", model, "-"]
         alone = run(words, source)
-        for workers in WORKERS:
-            found = run([*words, "--workers", str(workers)], source)
-            tell(f"{model} outcomes of {name} with {workers} workers", found == alone and alone[0] == 0, found, alone)
+        same(f"{model} outcomes of {name} with workers", run([*words, "--workers", "8"], source), alone)
         walked = [test.line(outcome) for outcome in machine.outcomes(test, model, ())]
         same(f"{model} outcomes of {name} by the machine", [line + "\n" for line in alone[1].decode().splitlines() if line.startswith("outcome:")], walked)
-        listed_runs(test, name, source, model, ["--workers", "3"])
+        listed_runs(test, name, source, model, [])
 
 
 def settled(certificate):
@@ -91,22 +88,18 @@ def placed(name, litmus):
             tell(f"{what}: its trees", trees[workers] == trees[1] and len(trees[1]) == 2, trees[workers], trees[1])
 
 
-class Parts(Cases):
-    def test_cut(self):
-        """The programs are long enough to be cut into parts: by the combinations of their traces, or by these times the orders of their writes."""
-        with tempfile.TemporaryDirectory() as folder:
-            litmus = os.path.join(folder, "made.litmus")
-            for name, text in LONG:
+class Large(Cases):
+    def test_size(self):
+        """The programs are large."""
+        for name, text in PROGRAMS:
+            with tempfile.TemporaryDirectory() as folder:
+                litmus = os.path.join(folder, "made.litmus")
                 write(litmus, text.encode())
                 count = read_program(litmus).combinations()
-                tell(f"{name} is cut into parts", count >= CUT, count, f"at least {CUT} combinations")
-            write(litmus, ORDERS.encode())
-            count = read_program(litmus).combinations()
-            wanted = f"fewer than {CUT} combinations, and {CUT_BY_ORDERS} with {WRITE_ORDERS} orders"
-            tell("orders is cut into parts", count < CUT and count * WRITE_ORDERS >= CUT_BY_ORDERS, count, wanted)
+            tell(f"{name} is large", count > MOST_WHOLE, count, f"more than {MOST_WHOLE} combinations")
 
     def test_lists(self):
-        """Lists of outcomes with their runs, by 1, 2, 3, 8 and 32 workers, and by the machine."""
+        """Lists of outcomes with their runs, by the machine."""
         for name, text in PROGRAMS:
             listed(name, text.encode())
 
@@ -118,7 +111,16 @@ class Parts(Cases):
                 write(litmus, text.encode())
                 placed(name, litmus)
 
+    def test_reasons(self):
+        """Why the fences of their answers are needed."""
+        for name, text in PROGRAMS:
+            with tempfile.TemporaryDirectory() as folder:
+                litmus = os.path.join(folder, f"{name.replace(' ', '-')}.litmus")
+                write(litmus, text.encode())
+                for options in ([], ["--observed"], ["--condition"]):
+                    explained(litmus, options)
+
     def test_asked(self):
-        """The same of the programs of `asks.tsv`, of which most are not cut."""
+        """The same answers of the programs of `asks.tsv`, most of which are not large."""
         for file, _, _ in lines("asks.tsv"):
             placed(os.path.basename(file), in_data(file))
