@@ -38,7 +38,7 @@ class Conditions(Cases):
             source = bytes_of(litmus)
             with tempfile.TemporaryDirectory() as folder:
                 certificate = os.path.join(folder, "certificate")
-                run(["place", "--condition", "--certificate", certificate, litmus])
+                run(["place", "--trees", "whole", "--condition", "--certificate", certificate, litmus])
                 shown = bytes_of(certificate)
             head = b"FENCECERT 2\nshown condition\nset"
             tell(f"the head of the condition's certificate of {case}", shown.startswith(head), shown[:80], head)

@@ -28,7 +28,7 @@ FALSE_CLAIMS = (
 # what the checker does without: what says so of each, and the line of code that begins it
 APART = (
     ("rows of bits", "pub struct Relation"), ("a search for cycles", "pub fn find_cycle"), ("a writer of canonical texts", "pub fn write_litmus"),
-    ("choices of what comes next", "pub fn next_branch"), ("a maker of runs", "pub fn make_run"), ("an oracle", "pub trait Oracle"),
+    ("a search for trees", "pub struct Search"), ("a maker of runs", "pub fn make_run"), ("an oracle", "pub trait Oracle"),
 )
 MOST_WORDS = 120
 MOST_WORDS_OF_A_CRATE = 60

@@ -6,7 +6,7 @@ import os
 import re
 from concurrent.futures import ThreadPoolExecutor
 
-from cases.parts import EXCHANGES
+from cases.large import EXCHANGES
 from cases.progress import reads
 from harness import (
     EXAMPLES, FENCECHECK, FENCER, TEST_CALLS, PreloadedCases, bytes_of, called, example, failing_in_turn, in_data, lines, run, same, tell, watched,
@@ -16,10 +16,10 @@ from judges import documents
 
 MOST_ALLOCATIONS = 50_000
 MOST_REFUSED = 2_000
-# of a search in parts each of the first allocations is refused, and after it each that is so much further off than the one before
+# of a large program's search each of the first allocations is refused, and after it each that is so much further off than the one before
 FIRST_REFUSED = 200
 FURTHER = 1.1
-MOST_IN_PARTS = 1_000_000
+MOST_IN_LARGE = 10_000_000
 # lines that report a refusal for lack of memory
 REFUSED = r"(?:refused (?:memory|[a-z]+ (?:OutOfMemory|\S*\(.*OutOfMemory\)))|Err\(OutOfMemory\))"
 
@@ -67,27 +67,27 @@ def refused_to_threads(library, folder, test, workers, right, lawful):
     tell(f"{name}: one is refused memory for its search", (1, b"refused place 5 OutOfMemory\n") in (found for found, _ in tries))
 
 
-def refused_in_parts(library, name, words, given, lawful, refusal, folder=None):
-    """Allocations of a search that three threads make in parts, refused in turn: each of the first, and then fewer. A part that is refused memory is searched
-    once more, so there is an answer then."""
+def refused_here_and_there(library, name, words, given, lawful, refusal, folder=None):
+    """Allocations of a large program's search, refused in turn: each of the first, and then fewer."""
     right = run(words, given)
     tell(name, right[0] == 0, right)
     numbers = [*range(1, FIRST_REFUSED)]
-    while numbers[-1] < MOST_IN_PARTS:
+    while numbers[-1] < MOST_IN_LARGE:
         numbers.append(int(numbers[-1] * FURTHER) + 1)
-    tries = refused_by_number(library, name, [*words, "--workers", "3"], numbers, given, right, lawful, folder)
+    tries = refused_by_number(library, name, words, numbers, given, right, lawful, folder)
     answers = {met: {found for found, its in tries if its == met} for met in (True, False)}
     tell(f"{name}: a refusal that ends it", (1, refusal) in answers[True])
-    tell(f"{name}: a refusal after which there is an answer", right in answers[True])
     same(f"{name}: the refusals end", answers[False], {right})
 
 
-def parts_refused(library, folder):
-    """Lists of outcomes of both models, and a placement with its certificate, whose searches are made in parts."""
+def large_refused(library, folder):
+    """Lists of outcomes of both models, and placements with their certificates, of large programs."""
     given = reads(5, 5, 4).encode()
     for words in (["outcomes", "--runs", "-"], ["outcomes", "--model", "sequential", "-"]):
-        refused_in_parts(library, f"{' '.join(words)} in parts", words, given, lawful_lines("solve 2 OutOfMemory"), b"refused solve 2 OutOfMemory\n")
-    refused_in_parts(library, "a placement in parts", ["place", "--trees", "whole", "-"], EXCHANGES.encode(), PLACED_LAWFULLY, b"refused place 5 OutOfMemory\n", folder)
+        refused_here_and_there(library, f"{' '.join(words)} of a large program", words, given, lawful_lines("solve 2 OutOfMemory"), b"refused solve 2 OutOfMemory\n")
+    for options in ([], ["--trees", "whole"]):
+        name, words = f"a placement {' '.join(options)} of a large program", ["place", *options, "-"]
+        refused_here_and_there(library, name, words, EXCHANGES.encode(), PLACED_LAWFULLY, b"refused place 5 OutOfMemory\n", folder)
 
 
 def lawful_lines(*told):
@@ -238,9 +238,9 @@ class Memory(PreloadedCases):
         tell(f"{self.source} is built", self.library)
         replays_refused(self.library)
 
-    def test_parts(self):
-        """Searches that are cut into parts, by three workers: of both models, and for a placement with its certificate."""
-        parts_refused(self.library, self.folder)
+    def test_large(self):
+        """Large programs: lists of both models, and placements with their certificates."""
+        large_refused(self.library, self.folder)
 
     def test_placements(self):
         """Placements by one worker and by several, and reasons."""

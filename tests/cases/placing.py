@@ -72,7 +72,7 @@ class Placing(Cases):
             words = ["place", *options, *(["--costs", costs] if costs else []), "-"]
             same(f"{name}, from standard input", run(words, bytes_of(litmus)), (0, text))
             if shown[0]:
-                trees_compared(name, litmus, shown[0])
+                trees_compared(name, litmus, certificate_of(litmus, [*options, "--trees", "whole"], costs))
 
     def test_cut_certificates(self):
         """Each proper prefix of the certificate of a worked example has ended; of a long one every other."""

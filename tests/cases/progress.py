@@ -3,8 +3,6 @@
 The combinations of traces are worked out here alone, from the program that a document of `fencer outcomes --json` has.
 """
 import functools
-import glob
-import itertools
 import json
 import os
 import pty
@@ -17,9 +15,7 @@ from harness import EXAMPLES, FENCER, Cases, same, tell
 REGISTERS = ("EAX", "EBX", "ECX", "EDX", "ESI", "EDI")
 MOST_TRACES = 10_000_000
 MOST_CERTIFIED = 100_000_000
-LONG = 1_000_000
 WARNING = "fencer: warning: with more than 100000000 combinations the search may end without an answer or a certificate"
-DONE = re.compile(r"fencer: (\d+) % of the combinations are done; outcomes found: (\d+)")
 ASKED = re.compile(r"fencer: sets asked: (\d+)(?:; the answer costs at least (\d+))?")
 # threads whose traces have unlike lengths, so that a value of one read leaves more combinations than another
 JUMPS = """X86 jumps
@@ -39,12 +35,14 @@ SEARCHED = (
     ["outcomes"], ["outcomes", "--observed", "--check", "--json"], ["outcomes", "--workers", "4"],
     ["place"], ["place", "--workers", "4"], ["place", "--json", "--check"], ["why"],
 )
-SHARED = (
-    ["outcomes"], ["outcomes", "--observed"], ["outcomes", "--model", "sequential"], ["outcomes", "--workers", "3"],
-    ["place", "--observed", "--trees", "whole"], ["place", "--observed", "--workers", "3", "--trees", "whole"],
-    ["place", "--condition", "--trees", "whole"], ["why", "--condition"],
+WHOLE = (
+    ["place", "--trees", "whole"], ["place", "--observed", "--trees", "whole"], ["place", "--observed", "--workers", "3", "--trees", "whole"],
+    ["place", "--condition", "--trees", "whole"],
 )
-PROPOSED = (["place"], ["place", "--observed"], ["place", "--condition", "--workers", "2"])
+PROPOSED = (
+    ["place"], ["place", "--observed"], ["place", "--condition", "--workers", "2"], ["why"], ["why", "--condition"],
+    ["outcomes"], ["outcomes", "--observed"], ["outcomes", "--model", "sequential", "--runs"],
+)
 
 
 class Program:
@@ -129,17 +127,6 @@ def ahead(program):
     return [f"fencer: combinations of traces: {count}", *([WARNING] if count > MOST_CERTIFIED else [])]
 
 
-def shares(said, combinations, outcomes):
-    """Whether the lines at the front that say how many per cent are done, and how many outcomes are found, are right; and the other lines. The per cents
-    ascend, none of them twice, and end at 100; of few combinations only a share that a whole number of them is may be reported. The outcomes grow up to
-    those of the program."""
-    done = list(itertools.takewhile(bool, (DONE.fullmatch(line) for line in said)))
-    shares, found = [int(line[1]) for line in done], [int(line[2]) for line in done]
-    possible = {100 * count // combinations for count in range(1, combinations + 1)} if combinations < 10_000 else set(range(101))
-    right = shares == sorted(set(shares)) and shares[-1:] == [100] and set(shares) <= possible - {0} and found == sorted(found) and found[-1:] == [outcomes]
-    return right, said[len(done):]
-
-
 def ran(words, **more):
     """The status of a call, what it prints, and the lines on standard error."""
     call = subprocess.run([FENCER, *words], stdout=subprocess.PIPE, stderr=more.pop("stderr", subprocess.PIPE), timeout=120, **more)
@@ -151,11 +138,9 @@ def count_outcomes(path, *options):
     return int(ran(["outcomes", *options, path])[0][1].split()[1])
 
 
-def searched_outcomes(path, command):
-    """How many outcomes the search of a command finds: those of the machine that it is asked about, or the sequential ones, as far as they are shown. Of a
-    condition's truth there are as many as runs show, which the observation says."""
-    if command[0] == "outcomes":
-        return count_outcomes(path, *(option for option in command[1:] if option not in ("--check", "--json")))
+def sequential_outcomes(path, command):
+    """How many sequential outcomes a command finds, as far as they are shown. Of a condition's truth there are as many as runs show, which the observation
+    says."""
     if "--condition" in command:
         observation = re.search(rb"observation (\w+)", ran(["outcomes", "--model", "sequential", path])[0][1])[1]
         return 2 if observation == b"Sometimes" else 1
@@ -176,43 +161,41 @@ def check_search(said, sequential, cost, bounded):
     return doubled and bounds == sorted(bounds) and len(bounds) == (len(asked) if bounded else 0) and all(bound <= cost for bound in bounds)
 
 
-def searched(path):
-    """What is reported of one file, by each command."""
-    name, program = os.path.basename(path), read_program(path)
-    lines = ahead(program)
-    sequential = count_outcomes(path, "--model", "sequential")
-    for command in SEARCHED:
-        plain, silent = ran([*command, path])
-        found, said = ran([*command, "--progress", path])
-        what = f"progress of {' '.join(command)} {name}"
-        same(f"{what}: the answer is the same", (found, silent), (plain, []))
-        same(f"{what}: what lies ahead", said[:len(lines)], lines)
-        right, rest = shares(said[len(lines):], program.combinations(), searched_outcomes(path, command))
-        tell(f"{what}: the share that is done, and the outcomes found", right, said)
-        if command[0] == "outcomes":
-            same(f"{what}: nothing else", rest, [])
-        elif "--json" not in command:
-            cost = int(re.match(rb"answer cost (\d+)", plain[1])[1])
-            tell(f"{what}: the search", check_search(rest, sequential, cost, "4" not in command), rest)
+def searched(name, path, command):
+    """What is reported of a search over whole trees for a file, by one command."""
+    lines = ahead(read_program(path))
+    plain, silent = ran([*command, path])
+    found, said = ran([*command, "--progress", path])
+    what = f"progress of {' '.join(command)} {name}"
+    same(f"{what}: the answer is the same", (found, silent), (plain, []))
+    same(f"{what}: what lies ahead", said[:len(lines)], lines)
+    rest = said[len(lines):]
+    if command[0] == "outcomes":
+        same(f"{what}: nothing else", rest, [])
+    elif "--json" not in command:
+        cost = int(re.match(rb"answer (?:\w+ )?cost (\d+)", plain[1])[1])
+        tell(f"{what}: the search", check_search(rest, sequential_outcomes(path, command), cost, "--workers" not in command), rest)
 
 
-def on_terminal(words):
-    """What a call prints, and says on a terminal."""
+def on_terminal(words, most=None):
+    """What a call prints, and says on a terminal; it is ended after so many lines, if a number is given."""
     ours, theirs = pty.openpty()
     with subprocess.Popen([FENCER, *words], stdout=subprocess.PIPE, stderr=theirs) as call:
         os.close(theirs)
+        said = b""
+        while most is None or said.count(b"\n") < most:
+            try:
+                part = os.read(ours, 4096)
+            except OSError:
+                part = b""
+            if not part:
+                break
+            said += part
+        if most is not None:
+            call.kill()
         printed = call.stdout.read()
-    said = b""
-    while True:
-        try:
-            part = os.read(ours, 4096)
-        except OSError:
-            part = b""
-        if not part:
-            break
-        said += part
     os.close(ours)
-    return printed, said.decode().splitlines()
+    return printed, said.decode().splitlines()[:most]
 
 
 def reads(*threads):
@@ -222,41 +205,41 @@ def reads(*threads):
     return "X86 reads\n{ }\n" + " | ".join(f"P{t}" for t in range(len(threads))) + " ;\n" + rows + "exists (x=1)\n"
 
 
+def made(folder, text):
+    """A file of this text."""
+    path = os.path.join(folder, "made.litmus")
+    with open(path, "w", encoding="ascii") as file:
+        file.write(text)
+    return path
+
+
 class Progress(Cases):
     def test_searches(self):
-        """What is reported of each command's search, in examples and in algorithms of the atlas."""
-        for path in [*FILES, *sorted(glob.glob(os.path.join(EXAMPLES, "atlas", "Pet*.litmus")))]:
-            searched(path)
+        """What is reported of each command's search, in examples and in algorithms of the atlas that are not large."""
+        for path in [*FILES, *(os.path.join(EXAMPLES, "atlas", name + ".litmus") for name in ("Cilk-THE", "Wake-up", "n5"))]:
+            for command in SEARCHED:
+                searched(os.path.basename(path), path, command)
 
-    def test_shares(self):
-        """The share that is done where some values settle the outcome long before all reads have theirs."""
+    def test_whole(self):
+        """What is reported of large programs where trees are whole."""
         for name, text in (("jumps", JUMPS), ("reads", reads(5, 5, 5)), ("one thread", reads(12))):
             with tempfile.TemporaryDirectory() as folder:
-                path = os.path.join(folder, "made.litmus")
-                with open(path, "w", encoding="ascii") as file:
-                    file.write(text)
-                program = read_program(path)
-                lines = ahead(program)
-                for command in SHARED:
-                    plain, silent = ran([*command, path])
-                    found, said = ran([*command, "--progress", path])
-                    right, rest = shares(said[len(lines):], program.combinations(), searched_outcomes(path, command))
-                    what = f"the share of {name} that is done by {' '.join(command)}"
-                    tell(what, (found, silent, said[:len(lines)]) == (plain, [], lines) and right and not any(DONE.fullmatch(line) for line in rest), said)
+                path = made(folder, text)
+                for command in WHOLE:
+                    searched(name, path, command)
 
     def test_proposed(self):
-        """Where trees are early the sequential outcomes alone are reported, with `--progress`, and nothing on a terminal."""
+        """Where an answer is proposed the sequential outcomes alone are reported, with `--progress`, of a list nothing, and nothing on a terminal."""
         with tempfile.TemporaryDirectory() as folder:
-            path = os.path.join(folder, "made.litmus")
-            with open(path, "w", encoding="ascii") as file:
-                file.write(JUMPS)
+            path = made(folder, JUMPS)
             for command in PROPOSED:
                 plain, silent = ran([*command, path])
                 found, said = ran([*command, "--progress", path])
-                wanted = [f"fencer: sequential outcomes: {searched_outcomes(path, command)}"]
-                same(f"progress of {' '.join(command)} with early trees", (found, silent, said), (plain, [], wanted))
-            printed, said = on_terminal(["place", path])
-            same("early trees on a terminal", (said, printed), ([], ran(["place", path])[0][1]))
+                wanted = [] if command[0] == "outcomes" else [f"fencer: sequential outcomes: {sequential_outcomes(path, command)}"]
+                same(f"progress of {' '.join(command)} where an answer is proposed", (found, silent, said), (plain, [], wanted))
+            for command in ("outcomes", "place", "why"):
+                printed, said = on_terminal([command, path])
+                same(f"{command} on a terminal where an answer is proposed", (said, printed), ([], ran([command, path])[0][1]))
 
     def test_lost(self):
         """Standard error that is closed, or that takes nothing."""
@@ -274,24 +257,18 @@ class Progress(Cases):
         same("a short search says nothing on a terminal", on_terminal(["place", short])[1], [])
         tell("a short search is reported on a terminal where that is asked for", on_terminal(["place", "--progress", short])[1][:1] == ahead(read_program(short)))
         with tempfile.TemporaryDirectory() as folder:
-            path = os.path.join(folder, "long.litmus")
-            with open(path, "w", encoding="ascii") as file:
-                file.write(reads(10, 10))
+            path = made(folder, reads(10, 10))
             lines = ahead(read_program(path))
-            printed, said = on_terminal(["outcomes", path])
-            right, rest = shares(said[len(lines):], 2**20, count_outcomes(path))
-            tell("a long search is reported on a terminal", said[:len(lines)] == lines and right and rest == [] and printed == ran(["outcomes", path])[0][1], said)
+            same("a long search is reported on a terminal", on_terminal(["place", "--trees", "whole", path], len(lines))[1], lines)
 
     def test_endless(self):
         """Threads of more traces than are counted: what lies ahead is said before the search, which is ended here."""
         many = MOST_TRACES + 1
         for threads, count in (((24,), many), ((24, 3), 8 * many), ((13, 14), None)):
             with tempfile.TemporaryDirectory() as folder:
-                path = os.path.join(folder, "many.litmus")
-                with open(path, "w", encoding="ascii") as file:
-                    file.write(reads(*threads))
+                path = made(folder, reads(*threads))
                 wanted = [f"fencer: combinations of traces: {count} or more" if count else f"fencer: combinations of traces: {2 ** sum(threads)}", WARNING]
-                with subprocess.Popen([FENCER, "outcomes", "--progress", path], stdout=subprocess.DEVNULL, stderr=subprocess.PIPE) as call:
+                with subprocess.Popen([FENCER, *WHOLE[0], "--progress", path], stdout=subprocess.DEVNULL, stderr=subprocess.PIPE) as call:
                     said = [call.stderr.readline().decode().rstrip("\n") for _ in wanted]
                     call.kill()
                 same(f"what lies ahead of threads of {threads} reads", said, wanted)

@@ -4,6 +4,7 @@ import re
 
 from judges import machine
 from judges.certificate_texts import LOCATIONS_FROM, Refused, read
+from judges.data_flow import without_dead_loads
 from judges.sketches import Mode, empty_sketch
 
 RULES = {1: "whole", 2: "whole", 4: "early"}
@@ -65,6 +66,13 @@ class Question:
         self.places = every if asked == "all" else sorted(map(self.place_of, names))
         self.shown = asked if isinstance(asked, str) else self.places
 
+    def judged(self, version):
+        """The program by which a certificate of this version is judged: in version 4 without its dead loads."""
+        if RULES[version] == "whole":
+            return self.test
+        told = {self.place_of(name) for name, _ in atoms_of(self.formula)} if self.is_truth else self.places
+        return without_dead_loads(self.test, {(place // 6, machine.REGISTERS[place % 6]) for place in told if place < LOCATIONS_FROM})
+
     def place_of(self, name):
         """The place of a register or a location by its name in a condition."""
         if ":" not in name:
@@ -100,7 +108,7 @@ class Judge:
     """A certificate before a judge: the program with what is shown, and what each gap costs."""
 
     def __init__(self, question, costs, certificate):
-        self.question, self.test, self.costs, self.certificate = question, question.test, costs, certificate
+        self.question, self.test, self.costs, self.certificate = question, question.judged(certificate.version), costs, certificate
         self.rule = RULES[certificate.version]
         self.places = self.test.gaps()
         self.set = set(certificate.gaps)

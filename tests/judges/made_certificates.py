@@ -208,13 +208,13 @@ class Maker:
 
     def certificate(self, version, rule):
         """A certificate of this version whose cover trees follow the rule; `TooLong` is raised where one has too many nodes."""
-        draw, mode = self.draw, Mode(self.test, {self.places[gap] for gap in self.set})
+        draw, judged = self.draw, self.question.judged(version)
         seq = [draw.choice(runs) for runs in self.runs.values()]
         seq += [draw.choice(draw.choice(list(self.runs.values()))) for _ in range(draw.choice((0, 0, 1)))]
         draw.shuffle(seq)
         foreign = draw.sample(self.foreign, len(self.foreign))
         outcomes = [shown for _, shown in seq]
-        trees = [Cover(draw, self.question, rule, outcomes, it).nodes for it in (Mode(self.test), mode)]
+        trees = [Cover(draw, self.question, rule, outcomes, it).nodes for it in (Mode(judged), Mode(judged, {self.places[gap] for gap in self.set}))]
         gap_tree = []
         self.split(gap_tree, [passed for _, passed in foreign], frozenset(), frozenset(), version == 4)
         runs, head = [labels for labels, _ in foreign], (version, self.question.shown, sorted(self.set), total(self.costs, self.set))

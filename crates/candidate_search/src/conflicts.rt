@@ -1,6 +1,5 @@
 //! What leaves and nodes of a tree rest on.
 use crate::conflict_set::ConflictSet;
-use crate::sources::matching;
 use crate::trail::Trail;
 use candidate_executions::Kind;
 use event_rows::{Decision, EventGraph, PossibleWrites, each_in, first_numbers, is_in, shifted};
@@ -137,7 +136,7 @@ impl Conflicts<'_> {
     /// read's value as often as now, and might write it further or not as now.
     fn of_sources(&self, read: u8) -> ConflictSet {
         let mut set = self.trail.of_access(self.graph, read);
-        let found = matching(self.graph, read);
+        let found = self.graph.matching(read);
         for t in 0..self.graph.thread_count() {
             let given = self.values_needed(t, read, found);
             set.add_all(&self.trail.of_values(t, given));

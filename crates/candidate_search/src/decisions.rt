@@ -1,7 +1,7 @@
 //! Which decision comes next, and the choices that it leaves.
 use crate::orders::{OpenOrder, Wanted, best_order};
 use crate::settled::is_settled;
-use crate::sources::{OpenRead, matching, open_read, reads_initial};
+use crate::sources::{OpenRead, open_read, reads_initial};
 use crate::values::next_thread;
 use event_rows::{Choice, Decision, EventGraph, PossibleWrites, each_in};
 use std::alloc::{AllocError, Global};
@@ -35,7 +35,11 @@ pub(crate) fn next_decision(
 /// The better of a source and an order, and how many of its choices close nothing.
 fn better(read: Option<OpenRead>, order: Option<OpenOrder>) -> Option<(u32, Decision)> {
     match (read, order) {
-        (Some(read), Some(order)) => if is_better(read, order.open, 2) {
+        (Some(read), Some(order)) => if is_better(
+            read,
+            order.open,
+            order.followed.saturating_add(2),
+        ) {
             Some((read.open, Decision::Source(read.read)))
         } else {
             Some((order.open, Decision::Order(order.first, order.second)))
@@ -120,7 +124,7 @@ fn each_source(alloc: Global, graph: &EventGraph, read: u8) -> Result<Vec<Choice
     if reads_initial(graph, read) {
         choices.push(Choice::Source { read, write: None })?;
     }
-    for d in each_in(matching(graph, read)) {
+    for d in each_in(graph.matching(read)) {
         choices.push(Choice::Source {
             read,
             write: Some(d),

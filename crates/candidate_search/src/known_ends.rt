@@ -36,7 +36,8 @@ impl KnownEnds {
     ) -> Result<(), AllocError> {
         self.ends.truncate(0);
         let least = registers_alone(alloc, graph, shown)?;
-        for place in outcomes.place_after(&least)..outcomes.count() {
+        let mut place = outcomes.place_after(&least);
+        for _ in 0..outcomes.count() {
             let Some((number, outcome)) = outcomes.at(place) else {
                 return Ok(());
             };
@@ -44,6 +45,7 @@ impl KnownEnds {
                 return Ok(());
             }
             self.add(graph, shown, number, outcome)?;
+            place = outcomes.next(place);
         }
         Ok(())
     }

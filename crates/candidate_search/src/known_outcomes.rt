@@ -8,13 +8,24 @@ use tso_program::Outcome;
 /// How many outcomes a search finds at most.
 const MOST_OUTCOMES: usize = 1 << 24;
 
+/// How many numbers a block has at most.
+const BLOCK: usize = 512;
+
+/// A place in ascending order: a block, and the place in it.
+#[derive(Clone, Copy)]
+pub(crate) struct Place {
+    block: usize,
+    index: usize,
+}
+
 /// Outcomes that a search has found so far.
 #[derive(Drop)]
 pub(crate) struct FoundOutcomes {
+    alloc: Global,
     /// In the order in which they are found. A tree names an outcome by its number, which is its place here.
     pub(crate) outcomes: Vec<Outcome>,
-    /// The number of each, in ascending order of the outcomes.
-    pub(crate) numbers: Vec<u32>,
+    /// The number of each, in ascending order of the outcomes, in short blocks so that a new one moves few.
+    blocks: Vec<Vec<u32>>,
     /// A run of each, in the order of their numbers.
     pub(crate) runs: Runs,
 }
@@ -32,10 +43,20 @@ impl FoundOutcomes {
     /// No outcome yet.
     pub(crate) fn none(alloc: Global) -> FoundOutcomes {
         FoundOutcomes {
+            alloc,
             outcomes: Vec::new(alloc),
-            numbers: Vec::new(alloc),
+            blocks: Vec::new(alloc),
             runs: Runs::new(alloc),
         }
+    }
+
+    /// The number of each outcome, in ascending order of the outcomes.
+    pub(crate) fn numbers(&self) -> Result<Vec<u32>, AllocError> {
+        let mut numbers = Vec::with_capacity(self.alloc, self.outcomes.len())?;
+        for block in &self.blocks {
+            numbers.extend_from_slice(block)?;
+        }
+        Ok(numbers)
     }
 
     /// Adds a new outcome with its run, and answers its number.
@@ -44,35 +65,76 @@ impl FoundOutcomes {
             return Err(AllocError);
         }
         let number = self.outcomes.len() as u32;
-        let place = place_in(self.place_of(&run.outcome));
-        if place <= self.numbers.len() {
-            self.numbers.insert(place, number)?;
+        match self.place_of(&run.outcome) {
+            Ok(place) | Err(place) => self.put(place, number)?,
         }
         self.outcomes.push(run.outcome)?;
         self.runs.push(&run.labels)?;
         Ok(number)
     }
 
+    /// Puts a number at a place.
+    fn put(&mut self, place: Place, number: u32) -> Result<(), AllocError> {
+        if self.blocks.is_empty() {
+            self.blocks.push(Vec::new(self.alloc))?;
+        }
+        let Some(block) = self.blocks.get_mut(place.block) else {
+            return Ok(());
+        };
+        if place.index <= block.len() {
+            block.insert(place.index, number)?;
+        }
+        if block.len() > BLOCK {
+            let rest = block.split_off(BLOCK / 2)?;
+            let next = place.block.saturating_add(1);
+            if next <= self.blocks.len() {
+                self.blocks.insert(next, rest)?;
+            }
+        }
+        Ok(())
+    }
+
     /// The place of an outcome in ascending order, or else the place where it belongs.
-    fn place_of(&self, outcome: &Outcome) -> Result<usize, usize> {
+    fn place_of(&self, outcome: &Outcome) -> Result<Place, Place> {
+        let block = self.block_of(outcome);
         let mut low: usize = 0;
-        let mut high = self.numbers.len();
+        let mut high = match self.blocks.get(block) {
+            Some(numbers) => numbers.len(),
+            None => 0,
+        };
         for _ in 0..64 {
             if low >= high {
                 break;
             }
-            let middle = low + (high - low) / 2;
-            match self.compared(middle, outcome) {
-                Ordering::Less => low = middle + 1,
-                Ordering::Equal => return Ok(middle),
-                Ordering::Greater => high = middle,
+            let index = low + (high - low) / 2;
+            match self.compared(Place { block, index }, outcome) {
+                Ordering::Less => low = index + 1,
+                Ordering::Equal => return Ok(Place { block, index }),
+                Ordering::Greater => high = index,
             }
         }
-        Err(low)
+        Err(Place { block, index: low })
+    }
+
+    /// The last block whose first outcome is not greater than this one, or the first block.
+    fn block_of(&self, outcome: &Outcome) -> usize {
+        let mut low: usize = 0;
+        let mut high = self.blocks.len();
+        for _ in 0..64 {
+            if low >= high {
+                break;
+            }
+            let block = low + (high - low) / 2;
+            match self.compared(Place { block, index: 0 }, outcome) {
+                Ordering::Greater => high = block,
+                Ordering::Less | Ordering::Equal => low = block + 1,
+            }
+        }
+        low.saturating_sub(1)
     }
 
     /// How the outcome at a place in ascending order compares with another.
-    fn compared(&self, place: usize, outcome: &Outcome) -> Ordering {
+    fn compared(&self, place: Place, outcome: &Outcome) -> Ordering {
         match self.at(place) {
             Some((_, own)) => own.cmp(outcome),
             None => Ordering::Greater,
@@ -80,8 +142,8 @@ impl FoundOutcomes {
     }
 
     /// The outcome at a place in ascending order, with its number.
-    fn at(&self, place: usize) -> Option<(u32, &Outcome)> {
-        let number = *self.numbers.get(place)?;
+    fn at(&self, place: Place) -> Option<(u32, &Outcome)> {
+        let number = *self.blocks.get(place.block)?.get(place.index)?;
         Some((number, self.outcomes.get(number as usize)?))
     }
 }
@@ -99,41 +161,63 @@ impl KnownOutcomes<'_> {
     }
 
     /// The place of an outcome in ascending order, or else the place where it belongs.
-    fn place_of(&self, outcome: &Outcome) -> Result<usize, usize> {
+    fn place_of(&self, outcome: &Outcome) -> Result<Place, Place> {
         match self {
-            KnownOutcomes::Closed(outcomes) => outcomes.binary_search(outcome),
+            KnownOutcomes::Closed(outcomes) => match outcomes.binary_search(outcome) {
+                Ok(index) => Ok(Place { block: 0, index }),
+                Err(index) => Err(Place { block: 0, index }),
+            },
             KnownOutcomes::Open(found) => found.place_of(outcome),
         }
     }
 
     /// The place of the first outcome that is not less than this one, in ascending order.
-    pub(crate) fn place_after(&self, outcome: &Outcome) -> usize {
-        place_in(self.place_of(outcome))
+    pub(crate) fn place_after(&self, outcome: &Outcome) -> Place {
+        match self.place_of(outcome) {
+            Ok(place) | Err(place) => self.there_or_next(place),
+        }
+    }
+
+    /// The place after this one.
+    pub(crate) fn next(&self, place: Place) -> Place {
+        self.there_or_next(Place {
+            block: place.block,
+            index: place.index.saturating_add(1),
+        })
+    }
+
+    /// The place, or the first one of the next block where the place's block has no more.
+    fn there_or_next(&self, place: Place) -> Place {
+        if self.at(place).is_some() {
+            return place;
+        }
+        Place {
+            block: place.block.saturating_add(1),
+            index: 0,
+        }
     }
 
     /// How many outcomes there are.
     pub(crate) fn count(&self) -> usize {
         match self {
             KnownOutcomes::Closed(outcomes) => outcomes.len(),
-            KnownOutcomes::Open(found) => found.numbers.len(),
+            KnownOutcomes::Open(found) => found.outcomes.len(),
         }
     }
 
     /// The outcome at a place in ascending order, with its number.
-    pub(crate) fn at(&self, place: usize) -> Option<(u32, &Outcome)> {
+    pub(crate) fn at(&self, place: Place) -> Option<(u32, &Outcome)> {
         match self {
-            KnownOutcomes::Closed(outcomes) => Some((
-                place.min(MOST_OUTCOMES) as u32,
-                outcomes.get(place)?,
-            )),
+            KnownOutcomes::Closed(outcomes) => {
+                if place.block != 0 {
+                    return None;
+                }
+                Some((
+                    place.index.min(MOST_OUTCOMES) as u32,
+                    outcomes.get(place.index)?,
+                ))
+            }
             KnownOutcomes::Open(found) => found.at(place),
         }
-    }
-}
-
-/// A place that is found, or the one where what is sought belongs.
-fn place_in(found: Result<usize, usize>) -> usize {
-    match found {
-        Ok(place) | Err(place) => place,
     }
 }

@@ -6,7 +6,7 @@
 //!
 //! Nothing is proved of this crate but that it is safe and ends. A tree that it proposes is judged by `cover_judge`, a
 //! run by its replay, and where a proposal is refused or lacking, the solver that is proved stands in. Begin with
-//! `propose_table` and `propose_verdict`. Free to change: all of it.
+//! `propose_outcomes` and `propose_verdict`. Free to change: all of it.
 #![tactic(auto)]
 
 mod conflict_set;
@@ -17,6 +17,7 @@ mod known_outcomes;
 mod made_run;
 mod orders;
 mod proposals;
+mod sequential_run;
 mod settled;
 mod sources;
 mod trail;
@@ -24,4 +25,4 @@ mod tree_search;
 mod truths;
 mod values;
 
-pub use proposals::{Proposal, ProposedTable, propose_table, propose_verdict};
+pub use proposals::{Proposal, ProposedOutcomes, propose_outcomes, propose_verdict};

@@ -1,13 +1,27 @@
-//! Runs of complete graphs, by the sketches and the maker of runs that are proved.
+//! Runs of complete graphs.
+use crate::sequential_run::sequential_run;
 use candidate_executions::Event;
 use event_rows::{EventGraph, each_in};
 use exec_axioms::{Sketch, SketchFault};
 use run_maker::{MadeRun, MakeFault, make_run};
 use std::alloc::{AllocError, Global};
+use tso_machine::Mode;
 use tso_program::Shown;
 
 /// A run of a graph, with what is shown of its outcome. `None` if the graph is not complete, or has a cycle.
 pub(crate) fn shown_run(
+    alloc: Global,
+    graph: &EventGraph,
+    shown: &Shown,
+) -> Result<Option<MadeRun>, AllocError> {
+    match graph.mode() {
+        Mode::Sequential => Ok(Some(sequential_run(alloc, graph, shown)?)),
+        Mode::Fenced(_) => buffered_run(alloc, graph, shown),
+    }
+}
+
+/// A run with store buffers that passes few gaps, by the sketches and the maker of runs that are proved.
+fn buffered_run(
     alloc: Global,
     graph: &EventGraph,
     shown: &Shown,

@@ -1,5 +1,5 @@
 //! The sources of a read that are there, and how many of them close no cycle.
-use event_rows::{EventGraph, each_in, one};
+use event_rows::{EventGraph, each_in, one, reached_from};
 
 /// A read without a source, how many sources it has, and how many of them close no cycle.
 #[derive(Clone, Copy)]
@@ -7,18 +7,6 @@ pub(crate) struct OpenRead {
     pub(crate) read: u8,
     pub(crate) all: u32,
     pub(crate) open: u32,
-}
-
-/// The writes that are there of a read's value to its location, but for the read.
-pub(crate) fn matching(graph: &EventGraph, read: u8) -> u32 {
-    let access = graph.access(read);
-    let mut found = 0;
-    for d in each_in(graph.rows.written(access.location) & !one(read)) {
-        if writes_value(graph, d, access.read) {
-            found = found | one(d);
-        }
-    }
-    found
 }
 
 /// Whether an access writes the value, if there is one.
@@ -40,20 +28,29 @@ pub(crate) fn reads_initial(graph: &EventGraph, read: u8) -> bool {
 
 /// How many sources a read has, and how many of them close no cycle.
 pub(crate) fn open_read(graph: &EventGraph, read: u8) -> OpenRead {
-    let writes = matching(graph, read);
+    let writes = graph.matching(read);
+    let may_follow = graph.rows.not_before(read, written_elsewhere(graph, read));
     let mut all = writes.count_ones();
     let mut open: u32 = 0;
     if reads_initial(graph, read) {
         all = all.saturating_add(1);
-        open = open.saturating_add(u32::from(is_open(graph, read, None)));
+        open = u32::from(may_follow == written_elsewhere(graph, read));
     }
-    for d in each_in(writes) {
-        open = open.saturating_add(u32::from(is_open(graph, read, Some(d))));
+    for d in each_in(writes & !reached_by(graph, read)) {
+        let follow = graph.rows.later.at(d) & !one(read);
+        open = open.saturating_add(u32::from(follow & !may_follow == 0));
     }
     OpenRead { read, all, open }
 }
 
-/// Whether a source of a read closes no cycle.
-fn is_open(graph: &EventGraph, read: u8, write: Option<u8>) -> bool {
-    !graph.rows.closes_source(graph.read_source(read, write))
+/// The accesses that write a read's location, but for the read.
+fn written_elsewhere(graph: &EventGraph, read: u8) -> u32 {
+    graph.rows.written(graph.access(read).location) & !one(read)
+}
+
+/// The accesses to which a path leads from a read that a source of it would close: by the global union only those of other
+/// threads.
+fn reached_by(graph: &EventGraph, read: u8) -> u32 {
+    let own = graph.accesses_of(graph.numbering.thread(read));
+    reached_from(&graph.rows.main, read) | reached_from(&graph.rows.global, read) & !own
 }

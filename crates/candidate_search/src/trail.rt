@@ -13,8 +13,8 @@ const ENDED: u8 = u8::MAX;
 /// A thread after some of its values.
 #[derive(Clone, Copy)]
 struct Past {
-    /// The depth at which it got the last of them.
-    depth: u16,
+    /// The depths at which it got them.
+    depths: ConflictSet,
     /// How many accesses it has.
     accesses: u8,
     /// Where it stops.
@@ -37,7 +37,7 @@ impl Trail {
     /// That of a graph in which nothing is chosen.
     pub(crate) fn new(graph: &EventGraph) -> Trail {
         let past = Past {
-            depth: 0,
+            depths: ConflictSet::none(),
             accesses: 0,
             place: 0,
         };
@@ -48,7 +48,7 @@ impl Trail {
             orders: [[0; ROW_BITS]; ROW_BITS],
         };
         for t in 0..graph.thread_count() {
-            trail.put_past(graph, t, 0, 0);
+            trail.put_past(graph, t, ConflictSet::none(), 0);
         }
         trail
     }
@@ -57,9 +57,11 @@ impl Trail {
     pub(crate) fn put(&mut self, depth: u16, graph: &EventGraph, choice: Choice) {
         match choice {
             Choice::Value { thread, .. } => {
-                let state = graph.state(thread);
-                let before = self.past(thread, state.given.saturating_sub(1)).accesses;
-                self.put_past(graph, thread, depth, before);
+                let given = graph.state(thread).given;
+                let before = self.past(thread, given.saturating_sub(1));
+                let mut depths = before.depths;
+                depths.add(depth);
+                self.put_past(graph, thread, depths, before.accesses);
             }
             Choice::Source { read, .. } => self.sources[read as usize % 32] = depth,
             Choice::Order { first, second } => {
@@ -70,14 +72,14 @@ impl Trail {
     }
 
     /// Puts down where a thread stands: its accesses from this index on are there after its last value.
-    fn put_past(&mut self, graph: &EventGraph, t: u8, depth: u16, before: u8) {
+    fn put_past(&mut self, graph: &EventGraph, t: u8, depths: ConflictSet, before: u8) {
         let state = graph.state(t);
         for i in before..state.accesses {
             let number = graph.numbering.number(t, i);
             self.there_after[number as usize % 32] = state.given;
         }
         self.pasts[t as usize % 8][state.given as usize % 64] = Past {
-            depth,
+            depths,
             accesses: state.accesses,
             place: if state.next.is_some() {
                 state.last.place
@@ -93,11 +95,7 @@ impl Trail {
 
     /// The first values of a thread, so many.
     pub(crate) fn of_values(&self, t: u8, given: u8) -> ConflictSet {
-        let mut set = ConflictSet::none();
-        for count in 0..given {
-            set.add(self.past(t, count.saturating_add(1)).depth);
-        }
-        set
+        self.past(t, given).depths
     }
 
     /// The values after which an access is there.

@@ -19,7 +19,7 @@ use tso_machine::Mode;
 use tso_program::{Formula, Outcome, Program, Shown};
 
 /// How many steps a search goes at most.
-const MOST_STEPS: u64 = 1 << 22;
+const MOST_STEPS: u64 = 1 << 25;
 
 /// How many choices a search makes one after another at most: no tree that is judged is deeper.
 const MOST_CHOICES: usize = 590;
@@ -138,7 +138,7 @@ impl<'a> TreeSearch<'a> {
         };
         let depth = self.frames.len().min(MOST_CHOICES) as u16;
         if let Some(mark) = self.marks.last() {
-            self.graph.go_back(mark);
+            self.graph.take_back_values(mark);
         }
         if !own.has(depth) {
             self.lift(frame.root, frame.start);
@@ -146,14 +146,22 @@ impl<'a> TreeSearch<'a> {
         }
         frame.conflicts.add_all(&own);
         if frame.taken < frame.choices.len() {
-            return match self.frames.push(frame) {
-                Ok(()) => Found::Node,
-                Err(_) => Found::Ended(SearchEnd::Stuck),
-            };
+            return self.again_at(frame);
         }
         let mut conflicts = frame.conflicts;
         conflicts.remove(depth);
         self.done(conflicts)
+    }
+
+    /// Goes back to a node for its next child. After its last child the node above goes back.
+    fn again_at(&mut self, frame: Frame) -> Found {
+        if let Some(mark) = self.marks.last() {
+            self.graph.take_back_rows(mark);
+        }
+        match self.frames.push(frame) {
+            Ok(()) => Found::Node,
+            Err(_) => Found::Ended(SearchEnd::Stuck),
+        }
     }
 
     /// The last node is done: its tree rests on these choices.
@@ -187,7 +195,7 @@ impl<'a> TreeSearch<'a> {
     /// What is there: a leaf, or a node, which is put after the others.
     fn visit(&mut self) -> Result<Found, AllocError> {
         let is_whole = self.graph.is_whole();
-        let followed = self.graph.rows.followed();
+        let followed = self.graph.rows.followed;
         if let Some(conflicts) = self.known_leaf(is_whole, followed)? {
             return Ok(Found::Tree(conflicts));
         }
@@ -310,7 +318,7 @@ impl<'a> TreeSearch<'a> {
             self.ends.add(&self.graph, self.shown, number, outcome)?;
         }
         push_known(&mut self.nodes, u64::from(number))?;
-        let followed = self.graph.rows.followed();
+        let followed = self.graph.rows.followed;
         Ok(Found::Tree(match (self.shown, self.ends.must_end(followed)) {
             (Shown::Truth(_), _) => self.conflicts().of_end(followed),
             (_, Some(end)) => self.conflicts().of_end(end.others),

@@ -86,7 +86,7 @@ fn known_value(graph: &EventGraph, location: u8, value: u32) -> Knowledge {
         is_true: true,
         is_false: true,
     };
-    for d in each_in(written & !graph.rows.followed()) {
+    for d in each_in(written & !graph.rows.followed) {
         if graph.access(d).written == Some(value) {
             known.is_false = false;
         } else {

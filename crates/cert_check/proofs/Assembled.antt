@@ -1,5 +1,5 @@
 -- A certificate's parts put together.
-use Rattle.cert_check.proofs.Vocabulary.{ℕ, zero, suc, List, [], ◌∷◌, All, Contains, take, subst, arith, AllZip, all_sets, Question, Outcome, Label, StoreBufferMachine, no_gaps, IsShownRun, IsValidGap, Certificate, IsRunOutside, IsValidCertificate}
+use Rattle.cert_check.proofs.Vocabulary.{ℕ, zero, suc, List, [], ◌∷◌, All, Contains, take, subst, arith, AllZip, all_sets, Question, Outcome, Label, StoreBufferMachine, no_gaps, IsShownRun, IsValidGap, Certificate, IsRunOutside, IsValidCertificateOf}
 use Rattle.cert_check.proofs.Vocabulary.{IsFirstWithout, HasServingSet, IsOutside}
 use Rattle.cert_check.proofs.{GapNodes.labels_at, FirstFaults.one_outcome}
 
@@ -33,9 +33,9 @@ module _ (q : Question) (list : List Outcome) where
         before = each_outside (take n runs) (take n outcomes) (first_ones n runs outcomes each) first.before;
       }
 
--- a certificate whose parts are right is valid
+-- a certificate whose parts are right is valid for the question
 pub assembled : (q : Question) (costs : List ℕ) (c : Certificate) (outcomes : List Outcome) → HasServingSet q costs c outcomes →
-    IsValidGap q.program costs c.gaps c.runs c.gap_tree all_sets → IsValidCertificate q costs c
+    IsValidGap q.program costs c.gaps c.runs c.gap_tree all_sets → IsValidCertificateOf q costs c
 assembled q costs c outcomes has least = record {
   shown = has.runs.replayed.complete.listed.head.shown;
   of_program = has.runs.replayed.complete.listed.head.of_program;

@@ -1,7 +1,7 @@
 -- A certificate that has a fault is not valid.
 use Rattle.cert_check.proofs.Vocabulary.{◌≡◌, ℕ, zero, suc, List, [], ◌∷◌, length, All, refl, sym, ap, ◌∙◌, subst, same_Some, SetOfGaps, without_gap, child_regions, Region, Listing, Outcome, Label, IsShownRun, Gap, Split, Bound, GapTrees, NoGap, MoreGaps}
-use Rattle.cert_check.proofs.Vocabulary.{IsValidCoverBy, Certificate, AreSequentialRuns, IsRunOutside, IsValidCertificate, one_list_of_gaps, CheckFault, valid_is_not_wrong, IsRunOf, IsFirstWithout, CheckFaultIs, Question, show, Machine, SequentialMachine}
-use Rattle.cert_check.proofs.Vocabulary.{StoreBufferMachine, no_gaps, outcome_at, IsValidGap, AreValidGaps, ValidCertificatesHaveNoFault, count_gaps}
+use Rattle.cert_check.proofs.Vocabulary.{IsValidCoverBy, Certificate, AreSequentialRuns, IsRunOutside, IsValidCertificateOf, one_list_of_gaps, CheckFault, valid_is_not_wrong, IsRunOf, IsFirstWithout, IsFirstFault, Question, show, Machine, SequentialMachine}
+use Rattle.cert_check.proofs.Vocabulary.{StoreBufferMachine, no_gaps, outcome_at, IsValidGap, AreValidGaps, count_gaps}
 use Rattle.tree_laws.proofs.Lists.{found_has}
 use Rattle.cert_check.specs.declared.fault.CheckFault.TheVariants as fault
 use Rattle.cert_check.specs.GapDefects as gaps
@@ -58,14 +58,14 @@ module _ (p : Listing) (costs : List ℕ) (answer : SetOfGaps) (runs : List (Lis
     valid_gaps_have_no_wrong (MoreGaps tree trees) (n ∷ ns) (suc child) path valid wrong = valid_gaps_have_no_wrong trees ns child path valid.1 wrong.1
     valid_gaps_have_no_wrong trees ns child path valid wrong = wrong
 
-module _ (q : Question) (costs : List ℕ) (c : Certificate) (valid : IsValidCertificate q costs c) where
+module _ (q : Question) (costs : List ℕ) (c : Certificate) (valid : IsValidCertificateOf q costs c) where
   abbrev p : Listing
   p = q.program
 
   same_list : (outcomes : List Outcome) → AreSequentialRuns q c.seq_runs outcomes → valid.outcomes ≡ outcomes
   same_list outcomes replayed = one_list q c.seq_runs valid.outcomes outcomes valid.replayed replayed
 
-  no_fault : (why : CheckFault) → CheckFaultIs q costs c why → why ≡ fault.OutOfMemory
+  pub no_fault : (why : CheckFault) → IsFirstFault q costs c why → why ≡ fault.OutOfMemory
   no_fault fault.Shown wrong = absurd (wrong valid.shown)
   no_fault fault.Set wrong = absurd (wrong.1 valid.of_program)
   no_fault fault.Cost wrong = absurd (wrong.2 (valid.one_cost_each, valid.cost))
@@ -83,6 +83,3 @@ module _ (q : Question) (costs : List ℕ) (c : Certificate) (valid : IsValidCer
       (subst (λ os. IsValidCoverBy c.rule q _ os c.fenced_tree _) (same_list outcomes has.replayed.complete.listed.replayed) valid.fenced) wrong)
   no_fault (fault.GapTree path) (outcomes, has, wrong) = absurd (valid_gap_is_not_wrong p costs c.gaps c.runs c.gap_tree _ path valid.least wrong)
   no_fault fault.OutOfMemory wrong = refl
-
-pub valid_certificates_have_no_fault : ValidCertificatesHaveNoFault
-valid_certificates_have_no_fault q costs c why valid wrong = no_fault q costs c valid why wrong

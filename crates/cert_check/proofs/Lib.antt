@@ -14,6 +14,8 @@ pub mod Replayed
 pub mod SetAndCost
 pub mod FirstFaults
 pub mod OneFault
+pub mod JudgedFaults
 pub mod Assembled
 -- words of the crates below, passed on
 pub use Rattle.cover_judge.proofs.Answered
+pub use Rattle.tree_laws.proofs.RightClaims

@@ -2,7 +2,7 @@
 use Rattle.cert_check.proofs.Vocabulary.{◌≡◌, ◌≢◌, ◌⊎◌, ℕ, zero, suc, ◌<◌, List, [], ◌∷◌, Some, All, slice_get, take, refl, sym, ap, ◌∙◌, subst, inl, inr, arith, SetOfGaps, all_sets, child_regions, Region, Listing, Outcome, gaps_in, Question, Label, Machine}
 use Rattle.cert_check.proofs.Vocabulary.{SequentialMachine, StoreBufferMachine, no_gaps, empty_sketch, IsValidCoverBy, Certificate, AreSequentialRuns, IsRunOutside, one_list_of_gaps, CheckFault, FirstWrongCover, cases_lt, get_or-take, length-take}
 use Rattle.cert_check.proofs.Vocabulary.{slice_get_within, get_or_from_slice_get, IsShownRun, AreGapsOf, Cover, Gap, Split, Bound, GapTrees, MoreGaps, next_sibling, valid_is_not_wrong, one_wrong_node, IsRunOf, IsFirstWithout, HasRightCost, HasHead}
-use Rattle.cert_check.proofs.Vocabulary.{HasOutcomes, HasEachOutcome, HasRuns, HasForeignRuns, HasServingSet, CheckFaultIs, TheFirstCheckFaultIsUnique}
+use Rattle.cert_check.proofs.Vocabulary.{HasOutcomes, HasEachOutcome, HasRuns, HasForeignRuns, HasServingSet, IsFirstFault}
 use Rattle.cert_forest.specs.Shows.{shows_of}
 use Rattle.cert_check.specs.declared.fault.CheckFault.TheVariants as fault
 use Rattle.cert_check.specs.GapDefects as gaps
@@ -188,7 +188,7 @@ module _ (q : Question) (costs : List ℕ) (c : Certificate) where
   after_fenced : (why : CheckFault) (outcomes : List Outcome) → HasServingSet q costs c outcomes → OfGaps why → OfShown why
   after_fenced why outcomes has rest = after_foreign why outcomes has.runs (inr ((outcomes, has.runs.replayed.complete.listed.replayed, has.fenced), rest))
 
-  of_a_part : (why : CheckFault) → why ≢ fault.OutOfMemory → CheckFaultIs q costs c why → OfShown why
+  of_a_part : (why : CheckFault) → why ≢ fault.OutOfMemory → IsFirstFault q costs c why → OfShown why
   of_a_part fault.Shown known wrong = inl (tt, wrong, refl)
   of_a_part fault.Set known wrong = inr (wrong.0, inl (tt, wrong.1, refl))
   of_a_part fault.Cost known wrong = inr (wrong.0, inr (wrong.1, inl (tt, wrong.2, refl)))
@@ -208,11 +208,13 @@ memory_or_not : (why : CheckFault) → (why ≡ fault.OutOfMemory) ⊎ (why ≢ 
 memory_or_not fault.OutOfMemory = inl refl
 memory_or_not why = inr (λ e. cc)
 
-pub the_first_fault_is_unique : TheFirstCheckFaultIsUnique
-the_first_fault_is_unique q costs c why other wrong also = elim (memory_or_not why) [
-  | inl memory ↦ inr (inl memory, subst (CheckFaultIs q costs c) memory wrong)
+-- by one question there is one first fault, memory aside
+pub one_first_fault : (q : Question) (costs : List ℕ) (c : Certificate) (why other : CheckFault) → IsFirstFault q costs c why → IsFirstFault q costs c other →
+    (why ≡ other) ⊎ (((why ≡ fault.OutOfMemory) ⊎ (other ≡ fault.OutOfMemory)) × HasHead q costs c)
+one_first_fault q costs c why other wrong also = elim (memory_or_not why) [
+  | inl memory ↦ inr (inl memory, subst (IsFirstFault q costs c) memory wrong)
   | inr known ↦ elim (memory_or_not other) [
-    | inl memory ↦ inr (inr memory, subst (CheckFaultIs q costs c) memory also)
+    | inl memory ↦ inr (inr memory, subst (IsFirstFault q costs c) memory also)
     | inr known_too ↦ inl (one_of_shown q costs c why other (of_a_part q costs c why known wrong) (of_a_part q costs c other known_too also))
   ]
 ]

@@ -31,7 +31,7 @@ pub use Rattle.gap_sets.specs.declared.region.Region.{Region}
 pub use Rattle.program_sketches.proofs.Lookups.{each_more, same_default}
 pub use Rattle.tree_laws.proofs.OneList.{one_list_of_gaps}
 pub use Rattle.tree_laws.proofs.OpenGaps.{few_gaps, listed, rising, unlisted}
-pub use Rattle.tree_laws.specs.Certificates.{AreSequentialRuns, IsRunOutside, IsValidCertificate}
+pub use Rattle.tree_laws.specs.Certificates.{AreSequentialRuns, IsJudged, IsRunOutside, IsValidCertificate, IsValidCertificateOf}
 pub use Rattle.tree_laws.specs.CoverTrees.{IsValidCoverBy}
 pub use Rattle.tree_laws.specs.GapTrees.{AreValidGaps, IsSplitBy, IsValidGap, PassesGap}
 pub use Rattle.tso_machine.specs.Machine.{Machine, SequentialMachine, StoreBufferMachine, no_gaps, outcome_at}
@@ -43,7 +43,7 @@ pub use Rattle.tso_program.specs.Shown.{asked, show}
 pub use Rattle.tso_program.specs.declared.question.Question.{Question}
 pub use Rattle.tso_program.specs.declared.listing.Listing.{Listing}
 pub use Rattle.tso_program.specs.declared.outcome.Outcome.{Outcome}
-pub use Rattle.cert_check.specs.Faults.{CheckFaultIs, HasEachOutcome, HasForeignRuns, HasHead, HasOutcomes, HasRightCost, HasRuns, HasServingSet, IsFirstWithout, IsRunOf}
+pub use Rattle.cert_check.specs.Faults.{CheckFaultIs, HasEachOutcome, HasForeignRuns, HasHead, HasOutcomes, HasRightCost, HasRuns, HasServingSet, IsFirstFault, IsFirstWithout, IsRunOf}
 pub use Rattle.cert_check.specs.GapDefects.{FirstWrongGap, HasNoSplit}
 pub use Rattle.cert_check.specs.Internal.Children.{AreValidIn, IsWrongChildIn}
 pub use Rattle.cert_check.specs.Internal.Claims.{question_of}

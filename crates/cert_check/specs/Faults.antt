@@ -14,7 +14,7 @@ use Rattle.cover_judge.specs.Sketches.{empty_sketch}
 use Rattle.tree_laws.specs.CoverTrees.{IsValidCoverBy}
 use Rattle.cert_forest.specs.Certificates.{Certificate}
 use Rattle.cert_forest.specs.Shows.{shows_of}
-use Rattle.tree_laws.specs.Certificates.{AreSequentialRuns, IsRunOutside}
+use Rattle.tree_laws.specs.Certificates.{AreSequentialRuns, IsJudged, IsRunOutside}
 use Rattle.cert_check.specs.declared.fault.CheckFault.{CheckFault}
 use Rattle.cert_check.specs.declared.fault.CheckFault.TheVariants as fault
 use Rattle.cover_judge.specs.CoverDefects.{FirstWrongCover}
@@ -68,17 +68,26 @@ module _ (q : Question) (costs : List ℕ) (c : Certificate) where
       pub runs : HasForeignRuns
       pub fenced : IsValidCoverBy c.rule q (StoreBufferMachine (gaps_in q.program c.gaps)) outcomes c.fenced_tree (empty_sketch q.program)
 
-  -- The fault is the first in their order, in which what is shown comes before the set. `OutOfMemory` says that these, the set and the cost
-  -- are right: they are judged without memory.
-  abbrev pub CheckFaultIs : CheckFault → Type 0
-  CheckFaultIs fault.Shown = c.shown ≡ shows_of q.shown → ⊥
-  CheckFaultIs fault.Set = (c.shown ≡ shows_of q.shown) × (AreGapsOf q.program c.gaps → ⊥)
-  CheckFaultIs fault.Cost = (c.shown ≡ shows_of q.shown) × AreGapsOf q.program c.gaps × (HasRightCost → ⊥)
-  CheckFaultIs (fault.SequentialRun number) = HasHead × IsFirstWithout (IsRunOf q.program SequentialMachine) c.seq_runs number
-  CheckFaultIs (fault.SequentialTree path) = (outcomes : List Outcome) × HasOutcomes outcomes × FirstWrongCover c.rule q SequentialMachine outcomes c.seq_tree (empty_sketch q.program) path
-  CheckFaultIs (fault.Run number) = (outcomes : List Outcome) × HasEachOutcome outcomes × IsFirstWithout (IsRunOf q.program (StoreBufferMachine no_gaps)) c.runs number
-  CheckFaultIs (fault.NotForeign number) = (outcomes : List Outcome) × HasRuns outcomes × IsFirstWithout (IsRunOutside q outcomes) c.runs number
-  CheckFaultIs (fault.FencedTree path) =
+  -- The fault is the first in their order by this question: what is shown comes before the set. `OutOfMemory` says that these, the set and the
+  -- cost are right: they are judged without memory.
+  abbrev pub IsFirstFault : CheckFault → Type 0
+  IsFirstFault fault.Shown = c.shown ≡ shows_of q.shown → ⊥
+  IsFirstFault fault.Set = (c.shown ≡ shows_of q.shown) × (AreGapsOf q.program c.gaps → ⊥)
+  IsFirstFault fault.Cost = (c.shown ≡ shows_of q.shown) × AreGapsOf q.program c.gaps × (HasRightCost → ⊥)
+  IsFirstFault (fault.SequentialRun number) = HasHead × IsFirstWithout (IsRunOf q.program SequentialMachine) c.seq_runs number
+  IsFirstFault (fault.SequentialTree path) = (outcomes : List Outcome) × HasOutcomes outcomes × FirstWrongCover c.rule q SequentialMachine outcomes c.seq_tree (empty_sketch q.program) path
+  IsFirstFault (fault.Run number) = (outcomes : List Outcome) × HasEachOutcome outcomes × IsFirstWithout (IsRunOf q.program (StoreBufferMachine no_gaps)) c.runs number
+  IsFirstFault (fault.NotForeign number) = (outcomes : List Outcome) × HasRuns outcomes × IsFirstWithout (IsRunOutside q outcomes) c.runs number
+  IsFirstFault (fault.FencedTree path) =
       (outcomes : List Outcome) × HasForeignRuns outcomes × FirstWrongCover c.rule q (StoreBufferMachine (gaps_in q.program c.gaps)) outcomes c.fenced_tree (empty_sketch q.program) path
-  CheckFaultIs (fault.GapTree path) = (outcomes : List Outcome) × HasServingSet outcomes × FirstWrongGap q.program costs c.gaps c.runs c.gap_tree all_sets path
-  CheckFaultIs fault.OutOfMemory = HasHead
+  IsFirstFault (fault.GapTree path) = (outcomes : List Outcome) × HasServingSet outcomes × FirstWrongGap q.program costs c.gaps c.runs c.gap_tree all_sets path
+  IsFirstFault fault.OutOfMemory = HasHead
+
+-- The fault of a certificate: of what is shown, the set and the cost it is the first by the question itself, and of runs and trees by the question
+-- that the rule judges.
+abbrev pub CheckFaultIs : Question → List ℕ → Certificate → CheckFault → Type 0
+CheckFaultIs q costs c fault.Shown = IsFirstFault q costs c fault.Shown
+CheckFaultIs q costs c fault.Set = IsFirstFault q costs c fault.Set
+CheckFaultIs q costs c fault.Cost = IsFirstFault q costs c fault.Cost
+CheckFaultIs q costs c fault.OutOfMemory = IsFirstFault q costs c fault.OutOfMemory
+CheckFaultIs q costs c why = IsJudged c.rule q (λ judged. IsFirstFault judged costs c why)

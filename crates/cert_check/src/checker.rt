@@ -19,9 +19,10 @@ ghost use Rattle.tree_laws.specs.GapTrees.{IsValidGap};
 ghost use Rattle.tree_laws.specs.Laws.{IsProved};
 ghost use Rattle.cert_forest.specs.Shows.{shows_of};
 ghost use Rattle.cert_forest.specs.Certificates as specs;
-ghost use Rattle.tree_laws.specs.Certificates.{AreSequentialRuns, IsRunOutside, IsValidCertificate};
+ghost use Rattle.cert_forest.specs.Rule.{TheVariants.Early};
+ghost use Rattle.tree_laws.specs.Certificates.{AreSequentialRuns, IsRunOutside, IsValidCertificate, IsValidCertificateOf};
 ghost use Rattle.the_answer.specs.Answers.{the_answer, least_cost};
-ghost use Rattle.cert_check.specs.Faults.{CheckFaultIs, HasHead, HasEachOutcome, HasForeignRuns, HasServingSet};
+ghost use Rattle.cert_check.specs.Faults.{CheckFaultIs, IsFirstFault, HasHead, HasEachOutcome, HasForeignRuns, HasServingSet};
 ghost use Rattle.cert_check.specs.Internal.Claims.{question_of};
 ghost use Rattle.cert_check.specs.Internal.Replays.{HavePassed};
 
@@ -32,9 +33,10 @@ use crate::runs::{first_outcome_listed, replay_all};
 use cert_forest::{Certificate, CoverTree, Shows};
 use cover_judge::{NodeFault, RowlessSketch, judge_cover};
 use gap_sets::{Costs, GapSet, Region};
+use live_registers::without_dead_loads;
 use std::alloc::Global;
 use the_answer::the_headline_tells_the_answer;
-use tree_laws::a_valid_certificate_proves_the_headline;
+use tree_laws::{Rule, a_valid_certificate_proves_the_headline};
 use tso_machine::{Mode, Model};
 use tso_program::{Outcome, Program, Shown};
 
@@ -117,12 +119,43 @@ struct Claim<'a> {
 }
 
 impl Claim<'_> {
-    /// Looks for the first fault.
+    /// Looks for the first fault. A certificate of early trees is judged over the program without its dead loads.
     fn check_all(&self) -> Result<(), CheckFault>
         ensures valid { OnOk result (IsValidCertificate (question_of self.now) self.now.costs.now self.now.certificate.now) }
         ensures fault { IfErr result (CheckFaultIs (question_of self.now) self.now.costs.now self.now.certificate.now) }
     {
         self.check_head()?;
+        let certificate = self.certificate;
+        match certificate.rule {
+            Rule::Whole => self.check_proof(),
+            Rule::Early => self.check_without_dead_loads(),
+        }
+    }
+
+    /// Faults 3 to 8 of the program without its dead loads.
+    fn check_without_dead_loads(&self) -> Result<(), CheckFault>
+        requires early { self.now.certificate.now.rule ≡ Early }
+        requires head { HasHead (question_of self.now) self.now.costs.now self.now.certificate.now }
+        ensures valid { OnOk result (IsValidCertificate (question_of self.now) self.now.costs.now self.now.certificate.now) }
+        ensures fault { IfErr result (CheckFaultIs (question_of self.now) self.now.costs.now self.now.certificate.now) }
+    {
+        let slim = without_dead_loads(self.alloc, self.program, self.shown)?;
+        let claim = Claim {
+            alloc: self.alloc,
+            program: &slim,
+            shown: self.shown,
+            costs: self.costs,
+            certificate: self.certificate,
+        };
+        claim.check_proof()
+    }
+
+    /// Faults 3 to 8, by the program as it is.
+    fn check_proof(&self) -> Result<(), CheckFault>
+        requires head { HasHead (question_of self.now) self.now.costs.now self.now.certificate.now }
+        ensures valid { OnOk result (IsValidCertificateOf (question_of self.now) self.now.costs.now self.now.certificate.now) }
+        ensures fault { IfErr result (IsFirstFault (question_of self.now) self.now.costs.now self.now.certificate.now) }
+    {
         let listed = self.sequential_list()?;
         let passed = self.foreign_runs(&listed)?;
         self.check_fenced(&listed)?;
@@ -155,7 +188,7 @@ impl Claim<'_> {
         ensures replayed { IfOk result (λ listed. AreSequentialRuns (question_of self.now) self.now.certificate.now.seq_runs listed.items) }
         ensures sequential { IfOk result (λ listed. IsValidCoverBy self.now.certificate.now.rule (question_of self.now) SequentialMachine listed.items self.now.certificate.now.seq_tree (empty_sketch self.now.program.now)) }
         ensures fault { (costs : List ℕ) → HasHead (question_of self.now) costs self.now.certificate.now
-            → IfErr result (CheckFaultIs (question_of self.now) costs self.now.certificate.now) }
+            → IfErr result (IsFirstFault (question_of self.now) costs self.now.certificate.now) }
     {
         let Claim {
             alloc,
@@ -182,7 +215,7 @@ impl Claim<'_> {
         ensures passed { IfOk result (λ passed. HavePassed self.now.program.now self.now.certificate.now.runs passed.items) }
         ensures foreign { OnOk result (All (IsRunOutside (question_of self.now) listed.now) self.now.certificate.now.runs) }
         ensures fault { (costs : List ℕ) → HasEachOutcome (question_of self.now) costs self.now.certificate.now listed.now
-            → IfErr result (CheckFaultIs (question_of self.now) costs self.now.certificate.now) }
+            → IfErr result (IsFirstFault (question_of self.now) costs self.now.certificate.now) }
     {
         let Claim {
             alloc,
@@ -207,7 +240,7 @@ impl Claim<'_> {
     fn check_fenced(&self, listed: &[Outcome]) -> Result<(), CheckFault>
         ensures fenced { OnOk result (IsValidCoverBy self.now.certificate.now.rule (question_of self.now) (StoreBufferMachine (gaps_in self.now.program.now self.now.certificate.now.gaps)) listed.now self.now.certificate.now.fenced_tree (empty_sketch self.now.program.now)) }
         ensures fault { (costs : List ℕ) → HasForeignRuns (question_of self.now) costs self.now.certificate.now listed.now
-            → IfErr result (CheckFaultIs (question_of self.now) costs self.now.certificate.now) }
+            → IfErr result (IsFirstFault (question_of self.now) costs self.now.certificate.now) }
     {
         let certificate = self.certificate;
         let mode = Mode::Fenced(certificate.set);
@@ -258,7 +291,7 @@ fn check_gaps(
     ensures least { (p : Listing) → HavePassed p certificate.now.runs passed.now
         → OnOk result (IsValidGap p costs.now certificate.now.gaps certificate.now.runs certificate.now.gap_tree all_sets) }
     ensures fault { (q : Question) (outcomes : List Outcome) → HavePassed q.program certificate.now.runs passed.now
-        → HasServingSet q costs.now certificate.now outcomes → IfErr result (CheckFaultIs q costs.now certificate.now) }
+        → HasServingSet q costs.now certificate.now outcomes → IfErr result (IsFirstFault q costs.now certificate.now) }
 {
     let bounds = Bounds {
         costs,

@@ -4,13 +4,16 @@
 //! serve (implicit hitting sets). Its trees are early ones, and its gap tree bounds regions by runs.
 //!
 //! Nothing is proved of this crate but that it is safe and ends. Who uses what it proposes lets it be read and judged as
-//! `fencecheck` does with any file. Begin with `propose`. Free to change: all of it.
+//! `fencecheck` does with any file. Begin with `propose`; `is_large` says of which programs
+//! it is asked. Free to change: all of it.
 #![tactic(auto)]
 
 mod cover_text;
 mod gap_text;
 mod hunt;
 mod lines;
+mod size;
 mod text;
 
+pub use size::is_large;
 pub use text::propose;

@@ -1,6 +1,6 @@
 -- What trees and runs say of tables and of sets that serve.
-use Rattle.cover_solver.proofs.Vocabulary.{◌≡◌, ◌↔◌, ℕ, ◌<◌, true, List, Contains, sym, ◌∙◌, subst, arith, Result, IfErr, Question, asked, AreRunsOf, place_in, ArePlacesOf, machine_of_mode, Listing, Outcome, Shown, JumpForward, Label, Machine}
-use Rattle.cover_solver.proofs.Vocabulary.{SequentialMachine, StoreBufferMachine, no_gaps, IsSequentialTable, IsListOf, IsServing, ReplayFaultIs, ArePassed, AllowsShown, IsShownRun, IsForeignRun, renumbered, one_outcome}
+use Rattle.cover_solver.proofs.Vocabulary.{◌≡◌, ℕ, true, List, Contains, subst, Result, IfErr, Question, machine_of_mode, Outcome, JumpForward, Label}
+use Rattle.cover_solver.proofs.Vocabulary.{StoreBufferMachine, no_gaps, IsListOf, IsServing, ReplayFaultIs, ArePassed, IsShownRun, IsForeignRun, one_outcome}
 use Rattle.std.specs.FinSet as set
 use Rattle.gap_sets.specs.Gaps.{SetOfGaps}
 use Rattle.tso_program.specs.{Fences.gaps_in, Ordered.outcome_cmp}
@@ -11,27 +11,12 @@ use Rattle.tree_laws.proofs.{ListedOutcomes.fenced_tree_serves, OneList.one_list
 use Rattle.tree_laws.specs.Covers.{IsWholeCover}
 use Rattle.cert_forest.specs.Rule.TheVariants.{Whole}
 use Rattle.tso_machine.proofs.GapsAvoided.{fenced_runs_avoid}
-use Rattle.cert_forest.specs.{Trees.Cover, NodeConstants.NEAR_RUNS}
-use Rattle.outcome_search.specs.{OutcomeNumbers.AreFoundOf, AscendingOutcomes.AscendingOutcomes, OutcomeIndex.OutcomeIndex}
-use Rattle.outcome_search.specs.{KnownOutcomes.StopLacks, SearchStop.SearchStop}
-use Rattle.outcome_search.proofs.{RenumberedTrees.whole_renumbered}
+use Rattle.cert_forest.specs.Trees.{Cover}
+use Rattle.cover_search.specs.Stops.{StopLacks}
+use Rattle.cover_search.specs.declared.stop.SearchStop.{SearchStop}
 use Rattle.tso_program.proofs.OutcomesOrdered.{one_way}
 use Rattle.std.specs.declared.cmp.Ordering.TheVariants.{Less}
 use Rattle.tso_machine.specs.declared.mode.Mode.TheVariants as modes
-
--- the table of all sequential outcomes, by a tree that names them in another order
-pub table_of : (p other : Listing) (shown copied : Shown) (known outcomes : List Outcome) (runs : List (List Label)) (places : List ℕ) (before tree : Cover) → other ≡ p → copied ≡ shown → ((n : ℕ) → place_in places n < NEAR_RUNS) → IsListOf (asked p shown) outcomes →
-    AreRunsOf (asked p shown) SequentialMachine runs outcomes → IsWholeCover (asked p shown) SequentialMachine known before → ArePlacesOf known outcomes places → tree ≡ renumbered (place_in places) before →
-    IsSequentialTable (record { question = asked other copied; outcomes = outcomes; runs = runs; tree = tree })
-table_of p other shown copied known outcomes runs places before tree same alike small list are is moves made =
-    let q = asked p shown in
-    let whole = subst (IsWholeCover q SequentialMachine outcomes) (sym made) (whole_renumbered known outcomes (place_in places) (λ n h. let near = small n in omega arith) moves q SequentialMachine before is) in
-    subst (λ (r : Question). IsSequentialTable (record { question = r; outcomes = outcomes; runs = runs; tree = tree })) (sym (λ i. asked (same i) (alike i))) (record { listed = list; runs = are; tree = whole })
-
--- what is found is as exact in ascending order
-pub still_exact : (found : OutcomeIndex) (list : AscendingOutcomes) → AreFoundOf found list → (q : Question) (mode : Machine) → ((o : Outcome) → Contains found.outcomes.items o ↔ AllowsShown q mode o) →
-    (o : Outcome) → Contains list.outcomes.items o ↔ AllowsShown q mode o
-still_exact found list are q mode exact o = ((λ here. (exact o).0 (are.only o here)), (λ allows. are.all o ((exact o).1 allows)))
 
 -- there is one list of a question's sequential outcomes
 pub one_list_of_outcomes : (q : Question) (xs ys : List Outcome) → IsListOf q xs → IsListOf q ys → xs ≡ ys

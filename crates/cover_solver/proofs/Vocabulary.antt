@@ -4,10 +4,6 @@ pub use Rattle.std.specs.Arc.{arc_value}
 pub use Rattle.std.specs.Global.{Vec}
 pub use Rattle.std.specs.Prelude.{Err, IfErr, IfOk, MatchOption, Ok, Result, is_ok}
 pub use Rattle.std.proofs.lemmas.Result.{IfOk-weaker as if_ok}
-pub use Rattle.outcome_search.proofs.OtherNumbers.{renumbered}
-pub use Rattle.outcome_search.specs.PartialCovers.{IsPartialCover, items_of, renumbered_item}
-pub use Rattle.outcome_search.specs.PartialCover.{PartialCover}
-pub use Rattle.outcome_search.specs.OutcomeNumbers.{ArePlacesOf, AreRunsOf, place_in}
 pub use Rattle.tso_machine.specs.Faults.{ReplayFaultIs}
 pub use Rattle.tso_machine.specs.Machine.{IsRun, Machine, SequentialMachine, StoreBufferMachine, no_gaps, outcome_at}
 pub use Rattle.tso_machine.specs.Modes.{ArePassed, machine_of_mode}
@@ -22,3 +18,4 @@ pub use Rattle.tso_program.specs.declared.shown.Shown.{Shown}
 pub use Rattle.oracle.proofs.ForeignRuns.{one_outcome}
 pub use Rattle.oracle.specs.Facts.{AreOf, Foreign, IsForeignValue, IsListOf, IsSequentialTable, IsServing, Table}
 pub use Rattle.cover_solver.specs.Solvers.{Asked}
+pub use Rattle.cover_solver.specs.OutcomeLists.{AreFound, AreRunsOf, IsListOfAll}

@@ -4,18 +4,17 @@ ghost use Rattle.std.specs.FinSet as set;
 ghost use Rattle.tso_program.specs.declared.outcome.Outcome.{Outcome};
 ghost use Rattle.tso_program.specs.Shown.{asked};
 ghost use Rattle.tso_machine.specs.Outcomes.{AllowsShown};
-ghost use Rattle.tso_machine.specs.Modes.{machine_of_model};
-ghost use Rattle.outcome_search.specs.OutcomeNumbers.{AreRunsOf};
+ghost use Rattle.tso_machine.specs.Modes.{machine_of_mode, machine_of_model};
 ghost use Rattle.tree_laws.specs.Ascending.{Ascend};
+ghost use Rattle.cover_solver.specs.OutcomeLists.{AreRunsOf, IsListOfAll};
 
+use crate::found_outcomes::found_outcomes;
+use crate::proposed::proposed_outcomes;
 use cert_forest::Runs;
+use cover_search::Search;
 use exec_axioms::Mode;
 use oracle::SolveFault;
-use outcome_search::{
-    Search, Unwatched, Watch, all_outcomes, in_ascending_order, start_alone, start_by,
-};
-use std::alloc::Global;
-use std::thread::Threads;
+use std::alloc::{AllocError, Global};
 use tso_machine::Model;
 use tso_program::{Outcome, Program, Shown};
 
@@ -28,43 +27,25 @@ pub struct OutcomeList {
     pub runs: Runs,
 }
 
-/// Which outcomes are sought: those of a program under sequential consistency, or under x86-TSO with no gap fenced, as
-/// far as they are shown.
-#[derive(Drop)]
-pub struct SoughtOutcomes<'a> {
-    pub alloc: Global,
-    pub program: &'a Program,
-    pub model: Model,
-    pub shown: &'a Shown,
-}
-
-/// What is shown of the outcomes, ascending, each of them once and with a run that leaves it. A long search is in at most
-/// so many threads. A watch follows it.
-pub fn outcomes_with_runs<R: Threads + Sync, W: Watch + Sync>(
-    rt: &R,
-    workers: u8,
-    sought: &SoughtOutcomes,
-    watch: &W,
+/// What is shown of the outcomes of a program under sequential consistency, or under x86-TSO with no gap fenced, ascending,
+/// each of them once and with a run that leaves it.
+pub fn outcomes_with_runs(
+    alloc: Global,
+    program: &Program,
+    model: Model,
+    shown: &Shown,
 ) -> Result<OutcomeList, SolveFault>
     ensures ascend { IfOk result (λ list. Ascend list.outcomes.items) }
-    ensures runs { IfOk result (λ list. AreRunsOf (asked sought.now.program.now sought.now.shown.now) (machine_of_model sought.now.program.now set.empty sought.now.model) list.runs list.outcomes.items) }
+    ensures runs { IfOk result (λ list. AreRunsOf (asked program.now shown.now) (machine_of_model program.now set.empty model) list.runs list.outcomes.items) }
     ensures fault { IfErr result (λ fault. fault ≡ SolveFault.OutOfMemory) }
-    ensures exact { IfOk result (λ list. (o : Outcome) → Contains list.outcomes.items o ↔ AllowsShown (asked sought.now.program.now sought.now.shown.now) (machine_of_model sought.now.program.now set.empty sought.now.model) o) }
+    ensures exact { IfOk result (λ list. (o : Outcome) → Contains list.outcomes.items o ↔ AllowsShown (asked program.now shown.now) (machine_of_model program.now set.empty model) o) }
 {
-    let mode = Mode::unfenced(sought.model);
-    let search = Search {
-        alloc: sought.alloc,
-        program: sought.program,
-        shown: sought.shown,
-        mode,
-    };
-    let start = start_by(rt, workers, &search, watch)?;
-    let all = all_outcomes(&search, start, watch)?;
-    let listed = in_ascending_order(sought.alloc, all.found)?;
-    Ok(OutcomeList {
-        outcomes: listed.outcomes,
-        runs: listed.runs,
-    })
+    Ok(listed(&Search {
+        alloc,
+        program,
+        shown,
+        mode: Mode::unfenced(model),
+    })?)
 }
 
 /// What is shown of the outcomes of a program under sequential consistency, or under x86-TSO with no
@@ -79,14 +60,15 @@ pub fn outcomes(
     ensures fault { IfErr result (λ fault. fault ≡ SolveFault.OutOfMemory) }
     ensures exact { IfOk result (λ outcomes. (o : Outcome) → Contains outcomes.items o ↔ AllowsShown (asked program.now shown.now) (machine_of_model program.now set.empty model) o) }
 {
-    let mode = Mode::unfenced(model);
-    let search = Search {
-        alloc,
-        program,
-        shown,
-        mode,
-    };
-    let start = start_alone(&search)?;
-    let all = all_outcomes(&search, start, &Unwatched)?;
-    Ok(in_ascending_order(alloc, all.found)?.outcomes)
+    Ok(outcomes_with_runs(alloc, program, model, shown)?.outcomes)
+}
+
+/// All outcomes of a search: those that are proposed, or else those at which searches stop.
+pub(crate) fn listed(search: &Search) -> Result<OutcomeList, AllocError>
+    ensures { IfOk result (IsListOfAll (asked search.now.program.now search.now.shown.now) (machine_of_mode search.now.program.now search.now.mode)) }
+{
+    match proposed_outcomes(search.alloc, search.program, search.shown, search.mode)? {
+        Some(list) => Ok(list),
+        None => found_outcomes(search),
+    }
 }

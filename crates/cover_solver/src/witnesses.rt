@@ -1,12 +1,16 @@
 //! Runs whose outcomes meet a formula.
 ghost use Rattle.std.specs.Prelude.{◌≡◌, IfOk, IfErr, MatchOption, Contains};
+ghost use Rattle.tso_program.specs.declared.question.Question.{Question};
+ghost use Rattle.tso_machine.specs.Machine.{Machine};
 ghost use Rattle.tso_machine.specs.Modes.{machine_of_mode};
-ghost use Rattle.outcome_search.specs.OutcomeNumbers.{IsInOrder, IsKnownRun};
+ghost use Rattle.tree_laws.specs.Ascending.{Ascend};
+ghost use Rattle.cover_solver.specs.OutcomeLists.{AreRunsOf, IsListOfAll, IsRunIn};
 ghost use Rattle.cover_solver.specs.Witnesses.{IsWitness, HasNoWitness};
 
+use crate::outcome_list::{OutcomeList, listed};
+use cover_search::Search;
 use exec_axioms::Mode;
 use oracle::SolveFault;
-use outcome_search::{OutcomeIndex, Search, Unwatched, all_outcomes, start_alone};
 use std::alloc::{AllocError, Global};
 use tso_machine::Label;
 use tso_program::{Formula, Outcome, Program, Shown};
@@ -23,29 +27,30 @@ pub fn witness(
     ensures fault { IfErr result (λ fault. fault ≡ SolveFault.OutOfMemory) }
 {
     let shown = Shown::Truth(formula.copy()?);
-    let search = Search {
+    let list = listed(&Search {
         alloc,
         program,
         shown: &shown,
         mode,
-    };
-    let start = start_alone(&search)?;
-    let all = all_outcomes(&search, start, &Unwatched)?;
+    })?;
     let told = Outcome::told(alloc, truth)?;
-    Ok(run_of(alloc, &all.found, &told)?)
+    Ok(run_of(alloc, &list, &told)?)
 }
 
-/// The run of an outcome that is found.
+/// The run of an outcome of a list.
 fn run_of(
     alloc: Global,
-    found: &OutcomeIndex,
+    list: &OutcomeList,
     outcome: &Outcome,
 ) -> Result<Option<Vec<Label>>, AllocError>
-    requires { IsInOrder found.now }
-    ensures { IfOk result (λ run. MatchOption run (Contains found.now.outcomes.items outcome.now → ⊥) (λ labels. IsKnownRun found.now labels.items outcome.now)) }
+    requires { (q : Question) × (mode : Machine) × IsListOfAll q mode list.now }
+    ensures { IfOk result (λ run. MatchOption run (Contains list.now.outcomes.items outcome.now → ⊥) (λ labels. IsRunIn list.now labels.items outcome.now)) }
 {
-    match found.run_of(outcome) {
-        Some(labels) => Ok(Some(Vec::from_slice(alloc, labels)?)),
-        None => Ok(None),
+    match list.outcomes.binary_search(outcome) {
+        Ok(place) => match list.runs.get(place) {
+            Some(labels) => Ok(Some(Vec::from_slice(alloc, labels)?)),
+            None => unreachable!(),
+        },
+        Err(_) => Ok(None),
     }
 }

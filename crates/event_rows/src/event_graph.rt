@@ -1,7 +1,8 @@
 //! Partly chosen candidate executions.
 use crate::choice::Choice;
 use crate::numbering::Numbering;
-use crate::numbers::{one, shifted};
+use crate::numbers::{each_in, first_numbers, one, shifted};
+use crate::row_list::RowList;
 use crate::rows::{EventRows, ReadSource};
 use crate::thread_state::ThreadState;
 use bit_rows::ROW_BITS;
@@ -22,6 +23,10 @@ pub struct EventGraph {
     fenced: [u64; MAX_THREADS],
     threads: [ThreadState; MAX_THREADS],
     accesses: [Access; ROW_BITS],
+    /// How many instructions its thread has executed with each access.
+    steps: [u8; ROW_BITS],
+    /// For each read the writes of its value to its location, as far as they are there.
+    matches: RowList,
     /// For each read that has one the number of its source, or of none where that is the initial write.
     sources: [Option<u8>; ROW_BITS],
     pub rows: EventRows,
@@ -37,6 +42,8 @@ impl EventGraph {
             fenced: fenced_instructions(program, mode),
             threads: [ThreadState::new([0; REGISTERS]); MAX_THREADS],
             accesses: [no_access(); ROW_BITS],
+            steps: [0; ROW_BITS],
+            matches: RowList::none(),
             sources: [None; ROW_BITS],
             rows: EventRows::none(is_buffered(mode)),
         };
@@ -77,6 +84,25 @@ impl EventGraph {
         self.accesses[number as usize % 32]
     }
 
+    /// The writes that are there of a read's value to its location, but for the read.
+    pub fn matching(&self, read: u8) -> u32 {
+        let location = self.access(read).location;
+        self.matches.at(read) & self.rows.written(location) & !one(read)
+    }
+
+    /// The accesses of a thread.
+    pub fn accesses_of(&self, t: u8) -> u32 {
+        shifted(
+            first_numbers(self.state(t).accesses),
+            self.numbering.start(t),
+        )
+    }
+
+    /// How many instructions its thread executes up to an access, and with it.
+    pub fn steps_with(&self, number: u8) -> u8 {
+        self.steps[number as usize % 32]
+    }
+
     /// The write that is a read's source. `None` if that is the initial one.
     pub fn source(&self, read: u8) -> Option<u8> {
         self.sources[read as usize % 32]
@@ -102,7 +128,7 @@ impl EventGraph {
     }
 
     /// A read with a source.
-    pub fn read_source(&self, read: u8, write: Option<u8>) -> ReadSource {
+    fn read_source(&self, read: u8, write: Option<u8>) -> ReadSource {
         let own = self.numbering.thread(read);
         ReadSource {
             read,
@@ -150,6 +176,7 @@ impl EventGraph {
         let state = &mut self.threads[t as usize % 8];
         state.given = state.given.saturating_add(1);
         state.last = next;
+        state.steps = state.steps.saturating_add(1);
     }
 
     /// Follows a thread up to its next read, or to its end.
@@ -194,7 +221,9 @@ impl EventGraph {
 
     /// The thread goes on.
     fn go_to(&mut self, place: usize, next: Local) -> bool {
-        self.threads[place % 8].last = next;
+        let state = &mut self.threads[place % 8];
+        state.last = next;
+        state.steps = state.steps.saturating_add(1);
         true
     }
 
@@ -216,9 +245,24 @@ impl EventGraph {
             ),
         };
         self.accesses[number as usize % 32] = access;
+        self.steps[number as usize % 32] = state.steps.saturating_add(1);
         self.rows.add_access(number, access, main, global);
+        self.put_matches(number, access);
         let state = &mut self.threads[t as usize % 8];
         state.accesses = state.accesses.saturating_add(1);
+    }
+
+    /// Puts down which reads and writes of the location match an access.
+    fn put_matches(&mut self, number: u8, access: Access) {
+        for d in each_in(self.rows.present) {
+            let other = self.access(d);
+            if other.location == access.location {
+                let is_written = other.written.is_some() && other.written == access.read;
+                self.matches.put(number, d, is_written);
+                let is_read = other.read.is_some() && other.read == access.written;
+                self.matches.put(d, number, is_read);
+            }
+        }
     }
 
     /// The accesses of a thread from which a union keeps program order to one that comes after them.

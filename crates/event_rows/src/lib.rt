@@ -28,5 +28,5 @@ pub use numbers::{Numbers, each_in, first_numbers, is_in, one, shifted};
 pub use possible_writes::PossibleWrites;
 pub use round::{reached_from, round_through};
 pub use row_list::RowList;
-pub use rows::{EventRows, ReadSource};
+pub use rows::EventRows;
 pub use thread_state::ThreadState;

@@ -12,7 +12,7 @@ pub struct Mark {
 }
 
 impl EventGraph {
-    /// A mark to which the graph goes back after choices of sources, of orders, and of values of thread t.
+    /// A mark to which choices of sources, of orders, and of values of thread t may be taken back.
     pub fn mark(&self, t: u8) -> Mark {
         Mark {
             rows: self.rows.copy(),
@@ -21,9 +21,13 @@ impl EventGraph {
         }
     }
 
-    /// Takes back what was chosen after the mark.
-    pub fn go_back(&mut self, mark: &Mark) {
-        self.rows = mark.rows.copy();
+    /// Takes back the values that were chosen after the mark.
+    pub fn take_back_values(&mut self, mark: &Mark) {
         self.put_state(mark.thread, mark.state);
+    }
+
+    /// Takes back the accesses and the edges that came after the mark.
+    pub fn take_back_rows(&mut self, mark: &Mark) {
+        self.rows = mark.rows.copy();
     }
 }

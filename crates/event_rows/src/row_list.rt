@@ -1,4 +1,5 @@
 //! A row for each number.
+use crate::numbers::one;
 use bit_rows::ROW_BITS;
 
 /// A row for each number.
@@ -24,5 +25,12 @@ impl RowList {
     pub fn add(&mut self, number: u8, row: u32) {
         let place = number as usize % 32;
         self.rows[place] = self.rows[place] | row;
+    }
+
+    /// Puts a number into the row of another or takes it out.
+    pub fn put(&mut self, number: u8, other: u8, is_in: bool) {
+        let place = number as usize % 32;
+        let rest = self.rows[place] & !one(other);
+        self.rows[place] = if is_in { rest | one(other) } else { rest };
     }
 }

@@ -21,6 +21,8 @@ pub struct EventRows {
     pub later: RowList,
     /// For each write those that are chosen to come before it.
     pub earlier: RowList,
+    /// The writes after which another is chosen to come.
+    pub followed: u32,
     /// For each write the reads that have it as their source.
     pub readers: RowList,
     /// For each location the reads that have its initial write as their source.
@@ -60,6 +62,7 @@ impl EventRows {
             written: [0; MAX_LOCATIONS],
             later: RowList::none(),
             earlier: RowList::none(),
+            followed: 0,
             readers: RowList::none(),
             initial_readers: [0; MAX_LOCATIONS],
             main: Relation::empty(),
@@ -76,6 +79,7 @@ impl EventRows {
             written: self.written,
             later: self.later,
             earlier: self.earlier,
+            followed: self.followed,
             readers: self.readers,
             initial_readers: self.initial_readers,
             main: self.main.copy(),
@@ -89,7 +93,7 @@ impl EventRows {
     }
 
     /// The reads that have the initial write of a location as their source.
-    pub fn initial_readers(&self, location: u8) -> u32 {
+    fn initial_readers(&self, location: u8) -> u32 {
         self.initial_readers[location as usize % 8]
     }
 
@@ -165,17 +169,16 @@ impl EventRows {
         }
     }
 
-    /// Whether the edges of a read's source would close a cycle.
-    pub fn closes_source(&self, source: ReadSource) -> bool {
-        let rows = self.rows_of(source);
-        let closes = self
-            .main
-            .closes_twice(rows.written, rows.reader, rows.reader, rows.after);
-        if closes || !self.is_fenced {
-            return closes;
+    /// The writes of this row that may come after a read's source without a cycle: no path leads from them to the read.
+    pub fn not_before(&self, read: u8, writes: u32) -> u32 {
+        let mut row = 0;
+        for d in each_in(writes) {
+            let reached = reached_from(&self.main, d) | reached_from(&self.global, d);
+            if !is_in(reached, read) {
+                row = row | one(d);
+            }
         }
-        self.global
-            .closes_twice(rows.far, rows.reader, rows.reader, rows.after)
+        row
     }
 
     /// The first of two writes and the reads that have it as their source, but for the second.
@@ -187,6 +190,7 @@ impl EventRows {
     /// second.
     pub(crate) fn choose_order(&mut self, first: u8, second: u8) {
         let before = self.row_before(first, second);
+        self.followed = self.followed | one(first);
         self.later.add(first, one(second));
         self.earlier.add(second, one(first));
         self.connect(before, one(second));
@@ -195,8 +199,8 @@ impl EventRows {
     /// Whether the edges of an order of two writes would close a cycle.
     pub fn closes_order(&self, first: u8, second: u8) -> bool {
         let before = self.row_before(first, second);
-        let after = one(second);
-        self.main.closes(before, after) || (self.is_fenced && self.global.closes(before, after))
+        reached_from(&self.main, second) & before != 0
+            || reached_from(&self.global, second) & before != 0
     }
 
     /// The writes to a location that are in no order with one of them.
@@ -204,32 +208,4 @@ impl EventRows {
         let ordered = self.later.at(write) | self.earlier.at(write);
         self.written(location) & !one(write) & !ordered
     }
-
-    /// The writes after which another is chosen to come.
-    pub fn followed(&self) -> u32 {
-        let mut row = 0;
-        for d in each_in(self.present) {
-            if self.later.at(d) != 0 {
-                row = row | one(d);
-            }
-        }
-        row
-    }
-
-    /// Whether the edges of an order of two writes follow from known ones.
-    pub fn has_order(&self, first: u8, second: u8) -> bool {
-        let before = self.row_before(first, second);
-        all_reach(&self.main, before, second)
-            && (!self.is_fenced || all_reach(&self.global, before, second))
-    }
-}
-
-/// Whether paths lead from each number of a row to this one.
-fn all_reach(relation: &Relation, row: u32, to: u8) -> bool {
-    for d in each_in(row) {
-        if !is_in(reached_from(relation, d), to) {
-            return false;
-        }
-    }
-    true
 }

@@ -7,6 +7,8 @@ pub struct ThreadState {
     pub last: Local,
     /// The section of its next access.
     pub section: u8,
+    /// How many instructions it has executed.
+    pub steps: u8,
     /// How many accesses it has.
     pub accesses: u8,
     /// How many values it has been given.
@@ -27,6 +29,7 @@ impl ThreadState {
                 flag: false,
             },
             section: 0,
+            steps: 0,
             accesses: 0,
             given: 0,
             next: None,

@@ -46,7 +46,6 @@ pub use Rattle.rowless_sketches.proofs.Ends.{ends_only, in_values, last_by, of_v
 pub use Rattle.rowless_sketches.specs.Completions.{EachRunCompletes, IsEdgeOfEach, IsRefuted, MustEndSo, NeedNotEnd}
 pub use Rattle.rowless_sketches.specs.Endings.{EndsSo, HasEnds, IsOwn, SketchMayEndWith, final_registers}
 pub use Rattle.rowless_sketches.specs.Knowledge.{IsKnownTruth, Knows}
-pub use Rattle.rowless_sketches.specs.ThreadValues.{HasValuesAlone, with_values}
 pub use Rattle.thread_traces.proofs.KnownParts.{no, not_by, of_some, yes}
 pub use Rattle.thread_traces.proofs.Walks.{IsWalk, contains_remove, distinct_more, pairs_drop, path_drop, path_more, round, walk_begins}
 pub use Rattle.thread_traces.specs.ThreadTraces.{IsThreadTraceOf}

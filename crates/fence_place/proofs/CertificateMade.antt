@@ -1,7 +1,7 @@
 -- The certificate of a search that is done is valid, and within the limits of a text.
 use Rattle.fence_place.proofs.Vocabulary.{◌≡◌, ℕ, ◌*◌, ◌<◌, ◌≤◌, ◌^◌, suc, List, [], ◌∷◌, All, Some, length, sym, ap, ◌∙◌, subst, arith, get_or, recursion_from_All, slice_get, AllByRecursion, slice_get-get_or, SetOfGaps, IsGapSet, total, all_sets, MAX_GAPS}
 use Rattle.fence_place.proofs.Vocabulary.{Question, IsWithinLimits, Label, Certificate, shows_of, IsValidGap, undecided, Outcome, finished_state, IsOutcome, Facts, facts_of, AreSplitRuns, IsRecorded, IsProof, Machine, SequentialMachine}
-use Rattle.fence_place.proofs.Vocabulary.{StoreBufferMachine, no_gaps, IsTheAnswer, IsShownRun, IsSequentialOutcome, AreGapsOf, Cover, IsGapTo, gap_depth, IsRunOutside, IsValidCertificate, AreSequentialRuns, Table, Foreign, IsSequentialTable, IsListOf}
+use Rattle.fence_place.proofs.Vocabulary.{StoreBufferMachine, no_gaps, IsTheAnswer, IsShownRun, IsSequentialOutcome, AreGapsOf, Cover, IsGapTo, gap_depth, IsJudged, IsRunOutside, IsValidCertificate, IsValidCertificateOf, AreSequentialRuns, Table, Foreign, IsSequentialTable, IsListOf}
 use Rattle.fence_place.proofs.Vocabulary.{IsServing, IsForeignValue, few_undecided, gaps_in as gaps_of_set}
 use Rattle.gap_sets.specs.declared.costs.TheConstants.{MAX_COST}
 use Rattle.tso_program.specs.declared.outcome.Outcome as machine
@@ -74,8 +74,8 @@ module _ (t : Table) (o : Outcome) (c : Certificate) (table : IsSequentialTable 
   gap_tree_fine : IsFine (finished_state o) facts o.served.gaps answer c.runs c.gap_tree all_sets
   gap_tree_fine = fine (finished_state o) facts o.served.gaps answer c.runs made.few_runs c.gap_tree 0 all_sets made.recorded facts.root
 
-  is_valid : IsValidCertificate o.question o.costs c
-  is_valid = record {
+  valid_of : IsValidCertificateOf o.question o.costs c
+  valid_of = record {
     shown = made.same_shown ∙ ap (λ (q : Question). shows_of q.shown) same;
     of_program = subst (λ (g : SetOfGaps). AreGapsOf o.question.program g) (sym made.same_gaps) answer.of_program;
     one_cost_each = facts.have_costs.one_each;
@@ -88,6 +88,9 @@ module _ (t : Table) (o : Outcome) (c : Certificate) (table : IsSequentialTable 
     fenced = rw made.whole fenced_tree.valid;
     least = subst (λ (g : SetOfGaps). IsValidGap o.question.program o.costs g c.runs c.gap_tree all_sets) (sym made.same_gaps) gap_tree_fine.valid;
   }
+
+  is_valid : IsValidCertificate o.question o.costs c
+  is_valid = subst (λ (rule : Rule). IsJudged rule o.question (λ judged. IsValidCertificateOf judged o.costs c)) (sym made.whole) valid_of
 
   gap_tree_small : IsGapTo c.rule MAX_GAP_DEPTH c.gap_tree
   gap_tree_small =

@@ -16,7 +16,7 @@ pub use Rattle.cert_forest.specs.Limits.{AreShownPlaces, HasGapNumbers, HaveGapN
 pub use Rattle.cert_forest.specs.Shows.{shows_of}
 pub use Rattle.cert_forest.specs.Trees.{Bound, Cover, Gap, GapTrees, MoreGaps, NoGap, Split, count_gaps, gap_trees_of}
 pub use Rattle.tree_laws.proofs.OpenGaps.{few_open, open_ascending, open_exact}
-pub use Rattle.tree_laws.specs.Certificates.{AreSequentialRuns, IsRunOutside, IsValidCertificate}
+pub use Rattle.tree_laws.specs.Certificates.{AreSequentialRuns, IsJudged, IsRunOutside, IsValidCertificate, IsValidCertificateOf}
 pub use Rattle.oracle.specs.Facts.{AreOf, Foreign, IsForeignValue, IsListOf, IsSequentialTable, IsServing, Serving, Table}
 pub use Rattle.tree_laws.specs.GapTrees.{AreValidGaps, IsSplitBy, IsValidGap}
 pub use Rattle.tso_machine.specs.declared.label.Label.{Label}

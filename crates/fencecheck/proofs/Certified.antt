@@ -2,6 +2,7 @@
 use Rattle.fencecheck.proofs.Vocabulary.{◌≡◌, ℕ, List, None, Some, refl, sym, ap, ◌∙◌, subst, arith, asked, ArePartsOf, IsVerdictOnInput, judged, no_input, IsVerdict, accepted, refused, IsAccepted, handed_in}
 use Rattle.gap_sets.specs.Order.{total}
 use Rattle.cert_check.specs.Certificates.{IsValidCertificate}
+use Rattle.cert_check.proofs.RightClaims.{right_claim}
 use Rattle.report.specs.Answers.{accepted_line}
 use Rattle.fencecheck.specs.Laws.{IsCertified, AcceptedInputsAreCertified}
 
@@ -10,7 +11,8 @@ certified bytes litmus certificate line parts is =
     let told = is.told in
     let p = told.program.program in
     let claimed = is.claimed in
-    let same_shown = is.valid.shown in
+    let claim = right_claim (asked p told.shown) told.gap_costs claimed is.valid in
+    let same_shown = claim.shown in
     let as_asked = ap (handed_in told.program) same_shown ∙ told.as_asked in record {
       litmus = litmus;
       certificate = certificate;
@@ -23,7 +25,7 @@ certified bytes litmus certificate line parts is =
           (subst (λ shown. IsValidCertificate (asked p shown) told.gap_costs claimed) (sym as_asked) is.valid);
       printed = told.printed ∙ ap (λ shown. accepted_line p shown told.gaps (total told.gap_costs told.gaps)) (sym as_asked)
           ∙ ap (λ gaps. accepted_line p (handed_in told.program claimed.shown) gaps (total told.gap_costs gaps)) (sym is.claims)
-          ∙ ap (accepted_line p (handed_in told.program claimed.shown) claimed.gaps) (sym is.valid.cost);
+          ∙ ap (accepted_line p (handed_in told.program claimed.shown) claimed.gaps) (sym claim.cost);
     }
 
 of_verdict : (bytes litmus certificate line : List ℕ) (status : ℕ) → ArePartsOf bytes litmus certificate → IsVerdict litmus certificate None status line → status ≡ 0 → IsCertified bytes line

@@ -16,7 +16,7 @@ use Rattle.tso_machine.specs.Outcomes.{AllowsShown}
 use Rattle.litmus_text.specs.Litmus.{Litmus}
 use Rattle.litmus_text.specs.Texts.{IsLitmus, IsNoLitmus}
 use Rattle.oracle.specs.declared.fault.SolveFault.TheVariants as solve
-use Rattle.witness_text.specs.OutcomeNumbers.{AreRunsOf}
+use Rattle.witness_text.specs.OutcomeLists.{AreRunsOf}
 use Rattle.tree_laws.specs.Ascending.{Ascend}
 use Rattle.litmus_text.specs.Names.{TextNames}
 use Rattle.litmus_text.specs.Shown.{shown_as, question_of}

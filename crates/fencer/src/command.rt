@@ -58,7 +58,7 @@ fn run_job<T: Threads + Wait + Sync, S: WritableFileStore, R: Read, W: Console>(
     match job {
         Job::Replay(asked) => run_replay(alloc, &*files, asked, input, output),
         Job::Trace(asked) => run_trace(alloc, files, asked, input, output),
-        Job::Outcomes(asked) => run_outcomes(rt, alloc, &*files, asked, input, output),
+        Job::Outcomes(asked) => run_outcomes(alloc, &*files, asked, input, output),
         Job::Place(asked) => run_place(rt, alloc, files, asked, input, output),
         Job::Why(asked) => run_why(rt, alloc, files, asked, input, output),
         Job::Gaps(asked) => run_gaps(alloc, &*files, asked, input, output),
@@ -97,7 +97,7 @@ fn run_words<T: Threads + Wait + Sync, S: WritableFileStore, R: Read, W: Console
 ///
 /// Wherever any of a placement's answer is printed, the files that the arguments name hold its certificate and the fenced program;
 /// no file is changed but these, and those that they name for a page or for graphs. With `rt` the workers of a placement start threads and
-/// wait for one another, and a search for outcomes starts threads; nothing else does either.
+/// wait for one another; nothing else does either.
 ///
 /// Status 0 means that the whole answer is written, and status 3 that it is and that a check which is asked for finds a fault. Status 1
 /// is a refusal, reported by one line, a writer that fails or takes no byte, and out of memory for the arguments or for that line, with

@@ -1,9 +1,12 @@
 //! Outcomes: the lines of a program's list, or why there is no list.
 
-ghost use Rattle.std.specs.Prelude.{◌≡◌, ◌++◌, ℕ, List, IfOk, IfErr, OnOk, string_bytes};
+ghost use Rattle.std.specs.Prelude.{◌≡◌, ◌↔◌, ◌++◌, ℕ, List, IfOk, IfErr, IfSome, OnOk, Contains, string_bytes};
 ghost use Rattle.std.specs.FinSet as set;
 ghost use Rattle.tso_program.specs.Shown.{asked as question};
-ghost use Rattle.tso_machine.specs.Modes.{machine_of_model};
+ghost use Rattle.tso_program.specs.declared.outcome.Outcome.{Outcome};
+ghost use Rattle.tso_machine.specs.Modes.{machine_of_mode, machine_of_model};
+ghost use Rattle.tso_machine.specs.Outcomes.{AllowsShown};
+ghost use Rattle.tree_laws.specs.Ascending.{Ascend};
 ghost use Rattle.program_streams.specs.Streams.{Prints};
 ghost use Rattle.program_streams.specs.Files.{ReadsOfInput};
 ghost use Rattle.litmus_text.specs.Shown.{shown_as};
@@ -11,6 +14,7 @@ ghost use Rattle.litmus_text.specs.Texts.{IsLitmus};
 ghost use Rattle.report.specs.Answers.{outcome_line};
 ghost use Rattle.report.specs.Observations.{observation_line, condition_line};
 ghost use Rattle.oracle.specs.declared.fault.SolveFault.TheVariants as solve;
+ghost use Rattle.witness_text.specs.OutcomeLists.{AreRunsOf};
 ghost use Rattle.fencer.specs.Outcomes.{listed_kind, list_text as lines_of_list, list_status, run_line_at, ListsOutcomes, ListsRuns, PrintsOutcomes, HasNoList, AreOutcomes, TellsOutcomes};
 
 use crate::advice::{AskedText, tell_idle_name, unread_advice, unread_litmus};
@@ -18,19 +22,20 @@ use crate::refusals::{AnswerFault, Reply, print_answer};
 use crate::refused::tell_refusal;
 use crate::status::check_status;
 use cert_forest::Runs;
+use certificate_proposals::is_large;
 use documents::{outcomes_document, outcomes_with_runs_document};
 use fencer_words::OutcomeQuery;
 use litmus_text::{Condition, Litmus, NameTable, read_litmus};
 use messages::file_or_input;
 use oracle::SolveFault;
-use placed_text::{Ahead, report_ahead};
+use placed_text::report_ahead;
 use program_streams::{Console, FileStore, Progress, TEXT_LIMIT, file_line, named_bytes};
 use report::{condition_line, is_true_of, labels_line, observation_line, outcome_line};
 use std::alloc::{AllocError, Global};
 use std::io::Read;
-use std::thread::Threads;
+use tso_machine::{Mode, Model};
 use tso_program::{Outcome, Program, Shown};
-use witness_text::{OutcomeList, SoughtOutcomes, outcomes_with_runs};
+use witness_text::{OutcomeList, outcomes_with_runs, proposed_outcomes};
 
 /// The line of the run of this number, if there is one.
 fn push_run(
@@ -116,26 +121,61 @@ fn list_text(
     }
 }
 
+/// The outcomes that a quick search proposes, each with a run, where the program is large and the judge accepts them.
+fn proposed(
+    alloc: Global,
+    program: &Program,
+    shown: &Shown,
+    mode: Mode,
+) -> Result<Option<OutcomeList>, AllocError>
+    ensures ascend { IfOk result (λ found. IfSome found (λ list. Ascend list.outcomes.items)) }
+    ensures runs { IfOk result (λ found. IfSome found (λ list. AreRunsOf (question program.now shown.now) (machine_of_mode program.now mode) list.runs list.outcomes.items)) }
+    ensures exact { IfOk result (λ found. IfSome found (λ list. (o : Outcome) → Contains list.outcomes.items o ↔ AllowsShown (question program.now shown.now) (machine_of_mode program.now mode) o)) }
+{
+    if is_large(alloc, program)? {
+        proposed_outcomes(alloc, program, shown, mode)
+    } else {
+        Ok(None)
+    }
+}
+
+/// The outcomes of a program with no gap fenced, each with a run: those that are proposed, or else those that a search over
+/// whole trees finds. What lies ahead of that is reported.
+fn list_with_runs(
+    alloc: Global,
+    program: &Program,
+    shown: &Shown,
+    model: Model,
+    progress: Progress,
+) -> Result<OutcomeList, SolveFault>
+    ensures ascend { IfOk result (λ list. Ascend list.outcomes.items) }
+    ensures runs { IfOk result (λ list. AreRunsOf (question program.now shown.now) (machine_of_model program.now set.empty model) list.runs list.outcomes.items) }
+    ensures exact { IfOk result (λ list. (o : Outcome) → Contains list.outcomes.items o ↔ AllowsShown (question program.now shown.now) (machine_of_model program.now set.empty model) o) }
+    ensures fault { IfErr result (λ fault. fault ≡ solve.OutOfMemory) }
+{
+    let mode = Mode::unfenced(model);
+    match proposed(alloc, program, shown, mode)? {
+        Some(list) => Ok(list),
+        None => {
+            report_ahead(alloc, program, progress);
+            outcomes_with_runs(alloc, program, model, shown)
+        }
+    }
+}
+
 /// The outcomes of a program with no gap fenced, and a run of each if runs are asked for.
-fn listed<T: Threads + Sync>(
-    rt: &T,
+fn listed(
     alloc: Global,
     asked: &OutcomeQuery,
     program: &Program,
     shown: &Shown,
-    ahead: &Ahead,
+    progress: Progress,
 ) -> Result<OutcomeList, SolveFault>
     ensures list { IfOk result (λ list. ListsOutcomes (question program.now shown.now) (machine_of_model program.now set.empty asked.now.model) list.outcomes.items) }
     ensures runs { IfOk result (λ list. ListsRuns asked.now.runs (question program.now shown.now) (machine_of_model program.now set.empty asked.now.model) list.runs list.outcomes.items) }
     ensures fault { IfErr result (λ fault. fault ≡ solve.OutOfMemory) }
 {
-    let sought = SoughtOutcomes {
-        alloc,
-        program,
-        model: asked.model,
-        shown,
-    };
-    let list = outcomes_with_runs(rt, asked.workers, &sought, ahead)?;
+    let list = list_with_runs(alloc, program, shown, asked.model, progress)?;
     if asked.runs {
         Ok(list)
     } else {
@@ -161,8 +201,7 @@ fn listed_shown(litmus: &Litmus<Program>, observed: bool) -> Shown
 }
 
 /// The lines of a program's outcomes, with their status.
-fn reply_for<T: Threads + Sync>(
-    rt: &T,
+fn reply_for(
     alloc: Global,
     litmus: &Litmus<Program>,
     asked: &OutcomeQuery,
@@ -172,8 +211,8 @@ fn reply_for<T: Threads + Sync>(
     ensures refused { (bytes : List ℕ) → IsLitmus bytes litmus.now → IfErr result (HasNoList bytes) }
 {
     let shown = listed_shown(litmus, asked.observed);
-    let ahead = report_ahead(alloc, &litmus.program, progress.asked(asked.progress));
-    let list = listed(rt, alloc, asked, &litmus.program, &shown, &ahead)?;
+    let progress = progress.asked(asked.progress);
+    let list = listed(alloc, asked, &litmus.program, &shown, progress)?;
     let status = list_status(asked.check, litmus, &list.outcomes);
     match list_text(alloc, asked, litmus, &shown, &list) {
         Ok(lines) => Ok(Reply { lines, status }),
@@ -182,8 +221,7 @@ fn reply_for<T: Threads + Sync>(
 }
 
 /// The lines of the outcomes of the program that a text spells, with their status.
-fn outcomes_reply<T: Threads + Sync>(
-    rt: &T,
+fn outcomes_reply(
     alloc: Global,
     bytes: &[u8],
     asked: &OutcomeQuery,
@@ -193,12 +231,11 @@ fn outcomes_reply<T: Threads + Sync>(
     ensures refused { IfErr result (HasNoList bytes.now) }
 {
     let litmus = read_litmus(alloc, bytes)?;
-    reply_for(rt, alloc, &litmus, asked, progress)
+    reply_for(alloc, &litmus, asked, progress)
 }
 
 /// Lists the outcomes of the program of a litmus file, prints the answer, and returns the status.
-pub fn run_outcomes<T: Threads + Sync, S: FileStore, R: Read, W: Console>(
-    rt: &T,
+pub fn run_outcomes<S: FileStore, R: Read, W: Console>(
     alloc: Global,
     files: &S,
     asked: &OutcomeQuery,
@@ -216,7 +253,7 @@ pub fn run_outcomes<T: Threads + Sync, S: FileStore, R: Read, W: Console>(
                 text: &bytes,
                 labels: &[],
             };
-            let reply = outcomes_reply(rt, alloc, &bytes, asked, output.progress());
+            let reply = outcomes_reply(alloc, &bytes, asked, output.progress());
             let status = print_answer(alloc, asked.json, subject, reply, output);
             tell_idle_name(alloc, litmus, &bytes, output);
             status

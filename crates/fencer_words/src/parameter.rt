@@ -182,9 +182,14 @@ fn workers_arg<'a>(alloc: Global) -> Arg<'a>
     ensures rule { rule_of result ≡ workers_rule }
     ensures own { result.global ≡ false }
 {
-    value_arg(alloc, "workers", "N", "How many workers search, 1 to 32")
-        .value_parser(ValueParser::unsigned(1, MAX_WORKERS as u64))
-        .default_value("1")
+    value_arg(
+        alloc,
+        "workers",
+        "N",
+        "How many workers search for fences, 1 to 32",
+    )
+    .value_parser(ValueParser::unsigned(1, MAX_WORKERS as u64))
+    .default_value("1")
 }
 
 /// `LITMUS`

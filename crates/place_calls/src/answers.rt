@@ -6,7 +6,7 @@ use crate::placing::{PlacerCall, push_hunted_with, push_placed};
 use crate::refusal::PlaceRefusal;
 use crate::sharing::push_shared;
 use crate::verdicts::Verdicts;
-use cover_solver::SearchedTable;
+use cover_solver::SeqTable;
 use hunt_calls::HuntCall;
 use std::alloc::Global;
 use std::sync::Wait;
@@ -28,15 +28,15 @@ pub fn push_of_place<R: Threads + Wait + Sync>(
     alloc: Global,
     call: PlaceCall,
     words: &[&[u8]],
-    searched: &SearchedTable,
+    table: &SeqTable,
     printed: &mut String,
 ) -> Result<(), PlaceRefusal> {
     match call {
-        PlaceCall::Place => push_placed(rt, alloc, searched, words, printed),
-        PlaceCall::HuntWith => push_hunted_with(rt, alloc, searched, words, printed),
-        PlaceCall::Gated(call) => push_gated(rt, alloc, call, searched, words, printed),
-        PlaceCall::Shared(call) => push_shared(rt, alloc, call, searched, words, printed),
-        PlaceCall::Lacking(call) => push_lacking(rt, alloc, call, searched, words, printed),
+        PlaceCall::Place => push_placed(rt, alloc, table, words, printed),
+        PlaceCall::HuntWith => push_hunted_with(rt, alloc, table, words, printed),
+        PlaceCall::Gated(call) => push_gated(rt, alloc, call, table, words, printed),
+        PlaceCall::Shared(call) => push_shared(rt, alloc, call, table, words, printed),
+        PlaceCall::Lacking(call) => push_lacking(rt, alloc, call, table, words, printed),
     }
 }
 
@@ -46,10 +46,10 @@ pub fn push_of_hunt<W: Wait>(
     alloc: Global,
     call: HuntCall,
     words: &[&[u8]],
-    searched: &SearchedTable,
+    table: &SeqTable,
     printed: &mut String,
 ) -> Result<(), PlaceRefusal> {
-    let verdicts = Verdicts::new(alloc, searched);
+    let verdicts = Verdicts::new(alloc, table);
     let inquiry = verdicts.inquiry();
     Ok(hunt_calls::push_of_hunt(wait, call, words, &inquiry, printed)?)
 }

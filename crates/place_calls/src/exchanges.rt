@@ -3,7 +3,7 @@ ghost use Rattle.std.specs.Prelude.{◌≡◌};
 
 use crate::refusal::PlaceRefusal;
 use crate::verdicts::Verdicts;
-use cover_solver::{SearchedTable, sequential};
+use cover_solver::{SeqTable, sequential};
 use hunt_board::Receipt;
 use hunt_calls::{Hand, Inquiry, hunt_by, push_end};
 use litmus_text::read_litmus;
@@ -13,7 +13,7 @@ use text_calls::{place_of_then, split_at_byte};
 use tso_program::Shown;
 
 /// The sequential outcomes of a litmus text, all of them shown.
-fn table_of(alloc: Global, text: &[u8]) -> Result<SearchedTable, PlaceRefusal> {
+fn table_of(alloc: Global, text: &[u8]) -> Result<SeqTable, PlaceRefusal> {
     let litmus = read_litmus(alloc, text)?;
     Ok(sequential(alloc, &litmus.program, &Shown::All)?)
 }
@@ -64,7 +64,7 @@ fn push_of_tables<W: Wait>(
     wait: &W,
     alloc: Global,
     words: &[&[u8]],
-    tables: (&SearchedTable, &SearchedTable),
+    tables: (&SeqTable, &SeqTable),
     printed: &mut String,
 ) -> Result<(), PlaceRefusal> {
     let verdicts = Verdicts::new(alloc, tables.0);

@@ -6,7 +6,7 @@ ghost use Rattle.tso_program.specs.Nodes.{tree_code};
 
 use crate::placing::{PlacerCall, set_by};
 use crate::refusal::PlaceRefusal;
-use cover_solver::{ForeignRun, Oracle, SearchedTable, SeqTable, SolveFault, Solver, Verdict};
+use cover_solver::{ForeignRun, Oracle, SeqTable, SolveFault, Solver, Verdict};
 use fence_place::Oracles;
 use gap_sets::GapSet;
 use std::alloc::{AllocError, Global};
@@ -62,15 +62,14 @@ impl Oracle for Gate {
     }
 }
 
-fn new_gate(alloc: Global, searched: &SearchedTable, words: &[&[u8]]) -> Result<Gate, PlaceRefusal>
-    ensures { IfOk result (λ gate. gate.solver.question ≡ searched.now.question) }
+fn new_gate(alloc: Global, table: &SeqTable, words: &[&[u8]]) -> Result<Gate, PlaceRefusal>
+    ensures { IfOk result (λ gate. gate.solver.question ≡ table.now.question) }
 {
     let labels = labels_from(alloc, words, 1)?;
-    let table = searched.table();
     let first = ForeignRun::new(alloc, table, labels.as_slice())?;
     Ok(Gate {
         alloc,
-        solver: Solver::new(alloc, table.program(), searched)?,
+        solver: Solver::new(alloc, table.program(), table)?,
         first,
         asked: AtomicU64::new(0),
         has_third: AtomicBool::new(false),
@@ -110,10 +109,10 @@ pub fn push_gated<R: Threads + Wait + Sync>(
     rt: &R,
     alloc: Global,
     call: PlacerCall,
-    searched: &SearchedTable,
+    table: &SeqTable,
     words: &[&[u8]],
     printed: &mut String,
 ) -> Result<(), PlaceRefusal> {
-    let gate = new_gate(alloc, searched, words)?;
-    push_set_by(rt, call, searched.table(), &gate, words, printed)
+    let gate = new_gate(alloc, table, words)?;
+    push_set_by(rt, call, table, &gate, words, printed)
 }

@@ -3,7 +3,7 @@ ghost use Rattle.std.specs.Prelude.{◌≡◌, true, IfOk};
 
 use crate::placing::{PlacerCall, set_by};
 use crate::refusal::PlaceRefusal;
-use cover_solver::{Oracle, SearchedTable, SolveFault, Solver, Verdict};
+use cover_solver::{Oracle, SeqTable, SolveFault, Solver, Verdict};
 use fence_place::Oracles;
 use gap_sets::GapSet;
 use std::alloc::Global;
@@ -52,15 +52,11 @@ fn faults_of(alloc: Global, words: &[&[u8]]) -> Result<Vec<Option<SolveFault>>, 
     Ok(faults)
 }
 
-fn new_lacking(
-    alloc: Global,
-    searched: &SearchedTable,
-    words: &[&[u8]],
-) -> Result<Lacking, PlaceRefusal>
-    ensures { IfOk result (λ lacking. lacking.solver.question ≡ searched.now.question) }
+fn new_lacking(alloc: Global, table: &SeqTable, words: &[&[u8]]) -> Result<Lacking, PlaceRefusal>
+    ensures { IfOk result (λ lacking. lacking.solver.question ≡ table.now.question) }
 {
     Ok(Lacking {
-        solver: Solver::new(alloc, searched.table().program(), searched)?,
+        solver: Solver::new(alloc, table.program(), table)?,
         faults: faults_of(alloc, words)?,
         asked: AtomicUsize::new(0),
     })
@@ -71,15 +67,15 @@ fn set_lacking<R: Threads + Wait + Sync>(
     rt: &R,
     alloc: Global,
     call: PlacerCall,
-    searched: &SearchedTable,
+    table: &SeqTable,
     words: &[&[u8]],
 ) -> Result<GapSet, PlaceRefusal> {
-    let lacking = new_lacking(alloc, searched, words)?;
+    let lacking = new_lacking(alloc, table, words)?;
     let oracles = Oracles {
         first: &lacking,
         again: &lacking.solver,
     };
-    set_by(rt, alloc, call, searched.table(), oracles, words)
+    set_by(rt, alloc, call, table, oracles, words)
 }
 
 /// The set that a number of workers find, where the solver has no answer to some of its first questions.
@@ -87,11 +83,11 @@ pub fn push_lacking<R: Threads + Wait + Sync>(
     rt: &R,
     alloc: Global,
     call: PlacerCall,
-    searched: &SearchedTable,
+    table: &SeqTable,
     words: &[&[u8]],
     printed: &mut String,
 ) -> Result<(), PlaceRefusal> {
-    let set = set_lacking(rt, alloc, call, searched, words)?;
+    let set = set_lacking(rt, alloc, call, table, words)?;
     push_gaps_after("set", &set, printed)?;
     Ok(printed.push('\n')?)
 }

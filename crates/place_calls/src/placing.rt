@@ -3,7 +3,7 @@ ghost use Rattle.std.specs.Prelude.{◌≡◌, false, IfOk};
 
 use crate::refusal::PlaceRefusal;
 use cert_forest::Certificate;
-use cover_solver::{Oracle, SearchedTable, SeqTable, SolveFault, Solver, Verdict};
+use cover_solver::{Oracle, SeqTable, SolveFault, Solver, Verdict};
 use fence_place::{Oracles, PlaceFault, hunt_with, place};
 use gap_sets::{Costs, GapSet};
 use std::alloc::{AllocError, Global};
@@ -126,11 +126,11 @@ fn push_lines(
     )
 }
 
-fn new_counting(alloc: Global, searched: &SearchedTable) -> Result<Counting, PlaceRefusal>
-    ensures { IfOk result (λ counting. counting.solver.question ≡ searched.now.question) }
+fn new_counting(alloc: Global, table: &SeqTable) -> Result<Counting, PlaceRefusal>
+    ensures { IfOk result (λ counting. counting.solver.question ≡ table.now.question) }
 {
     Ok(Counting {
-        solver: Solver::new(alloc, searched.table().program(), searched)?,
+        solver: Solver::new(alloc, table.program(), table)?,
         asked: AtomicU64::new(0),
         serve: AtomicU64::new(0),
     })
@@ -174,12 +174,12 @@ fn push_placed_by<R: Threads + Wait + Sync>(
 pub fn push_placed<R: Threads + Wait + Sync>(
     rt: &R,
     alloc: Global,
-    searched: &SearchedTable,
+    table: &SeqTable,
     words: &[&[u8]],
     printed: &mut String,
 ) -> Result<(), PlaceRefusal> {
-    let solver = new_counting(alloc, searched)?;
-    push_placed_by(rt, alloc, searched.table(), &solver, words, printed)
+    let solver = new_counting(alloc, table)?;
+    push_placed_by(rt, alloc, table, &solver, words, printed)
 }
 
 /// What one hunt finds by this solver: the first word is the number of workers, and the costs of the gaps may follow.
@@ -202,11 +202,10 @@ fn hunted_with<R: Threads + Wait + Sync>(
 fn hunted<R: Threads + Wait + Sync>(
     rt: &R,
     alloc: Global,
-    searched: &SearchedTable,
+    table: &SeqTable,
     words: &[&[u8]],
 ) -> Result<GapSet, PlaceRefusal> {
-    let table = searched.table();
-    let solver = Solver::new(alloc, table.program(), searched)?;
+    let solver = Solver::new(alloc, table.program(), table)?;
     hunted_with(rt, alloc, table, &solver, words)
 }
 
@@ -214,11 +213,11 @@ fn hunted<R: Threads + Wait + Sync>(
 pub fn push_hunted_with<R: Threads + Wait + Sync>(
     rt: &R,
     alloc: Global,
-    searched: &SearchedTable,
+    table: &SeqTable,
     words: &[&[u8]],
     printed: &mut String,
 ) -> Result<(), PlaceRefusal> {
-    let set = hunted(rt, alloc, searched, words)?;
+    let set = hunted(rt, alloc, table, words)?;
     push_gaps_after("set", &set, printed)?;
     Ok(printed.push('\n')?)
 }

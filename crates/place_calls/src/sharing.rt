@@ -7,7 +7,7 @@ ghost use Rattle.tso_program.specs.Nodes.{tree_code};
 
 use crate::placing::{PlacerCall, set_by};
 use crate::refusal::PlaceRefusal;
-use cover_solver::{ForeignRun, Oracle, SearchedTable, SeqTable, SolveFault, Solver, Verdict};
+use cover_solver::{ForeignRun, Oracle, SeqTable, SolveFault, Solver, Verdict};
 use fence_place::Oracles;
 use gap_sets::GapSet;
 use std::alloc::{AllocError, Global};
@@ -89,17 +89,12 @@ fn runs_from(
     Ok((first, second))
 }
 
-fn new_runs(
-    alloc: Global,
-    searched: &SearchedTable,
-    words: &[&[u8]],
-) -> Result<TwoRuns, PlaceRefusal>
-    ensures { IfOk result (λ runs. runs.solver.question ≡ searched.now.question) }
+fn new_runs(alloc: Global, table: &SeqTable, words: &[&[u8]]) -> Result<TwoRuns, PlaceRefusal>
+    ensures { IfOk result (λ runs. runs.solver.question ≡ table.now.question) }
 {
     let then = place_of_then(words)?;
     let (first, second) = words.split_at(then);
-    let table = searched.table();
-    let solver = Solver::new(alloc, table.program(), searched)?;
+    let solver = Solver::new(alloc, table.program(), table)?;
     let (first, second) = runs_from(alloc, table, first, second)?;
     Ok(TwoRuns {
         alloc,
@@ -143,10 +138,10 @@ pub fn push_shared<R: Threads + Wait + Sync>(
     rt: &R,
     alloc: Global,
     call: PlacerCall,
-    searched: &SearchedTable,
+    table: &SeqTable,
     words: &[&[u8]],
     printed: &mut String,
 ) -> Result<(), PlaceRefusal> {
-    let runs = new_runs(alloc, searched, words)?;
-    push_set_by(rt, call, searched.table(), &runs, words, printed)
+    let runs = new_runs(alloc, table, words)?;
+    push_set_by(rt, call, table, &runs, words, printed)
 }

@@ -1,7 +1,7 @@
 //! What a solver says of a set, made anew for each question.
 ghost use Rattle.std.specs.Prelude.{◌≡◌, false};
 
-use cover_solver::{Oracle, SearchedTable, SolveFault, Solver, Verdict};
+use cover_solver::{Oracle, SeqTable, SolveFault, Solver, Verdict};
 use gap_sets::GapSet;
 use hunt_calls::Inquiry;
 use std::alloc::Global;
@@ -10,36 +10,36 @@ use std::alloc::Global;
 #[derive(Drop)]
 pub struct Verdicts<'a> {
     pub alloc: Global,
-    pub searched: &'a SearchedTable,
+    pub table: &'a SeqTable,
 }
 
 impl<'a> Verdicts<'a> {
-    pub fn new(alloc: Global, searched: &'a SearchedTable) -> Verdicts<'a>
-        ensures { result.searched ≡ searched.entry }
+    pub fn new(alloc: Global, table: &'a SeqTable) -> Verdicts<'a>
+        ensures { result.table ≡ table.entry }
     {
-        Verdicts { alloc, searched }
+        Verdicts { alloc, table }
     }
 
     /// Asks this of the table's question.
     pub fn inquiry(&self) -> Inquiry<'_, Verdicts<'a>> {
         Inquiry {
             alloc: self.alloc,
-            table: self.searched.table(),
+            table: self.table,
             oracle: self,
         }
     }
 }
 
 impl Oracle for Verdicts<'_> {
-    ghost question = { λ v. v.searched.now.question };
+    ghost question = { λ v. v.table.now.question };
 
     ghost may_lack_runs = { λ v. false };
 
     ghost may_be_asked = { λ v. Unit {0} };
 
     fn ask(&self, set: &GapSet) -> Result<Verdict, SolveFault> {
-        let program = self.searched.table().program();
-        let solver = Solver::new(self.alloc, program, self.searched)?;
+        let program = self.table.program();
+        let solver = Solver::new(self.alloc, program, self.table)?;
         solver.ask(set)
     }
 }

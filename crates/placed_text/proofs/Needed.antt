@@ -1,16 +1,18 @@
--- The answer without one of its gaps doesn't serve.
-use Rattle.placed_text.proofs.Vocabulary.{◌≡◌, ◌≢◌, ◌<◌, ◌≤◌, ◌&&◌, ℕ, Bool, true, false, All, List, length, refl, sym, ap, subst, ◌∙◌, eq-eqb, SetOfGaps, IsGapSet, Question, Serves, gap_count, IsTheAnswer}
+-- The answer without one of its gaps is better, so one of the certificate's runs passes none of the others.
+use Rattle.placed_text.proofs.Vocabulary.{◌≡◌, ◌≢◌, ◌<◌, ◌≤◌, ◌&&◌, ℕ, Bool, true, false, All, List, length, refl, sym, ap, subst, ◌∙◌, eq-eqb, SetOfGaps, IsGapSet, Question, gap_count}
 use Rattle.std.specs.Cmp.{nat_cmp_total, unsigned_tied}
 use Rattle.std.specs.FinSet as set
 use Rattle.gap_sets.specs.CostLists.{IsCostList}
 use Rattle.gap_sets.proofs.Subsets.{cheaper}
+use Rattle.cert_forest.specs.Certificates.{Certificate}
+use Rattle.tree_laws.specs.{GapTrees.SomePassesNone, Laws.IsProved}
 
 second : (v w : Bool) → (v && w) ≡ true → w ≡ true
 second true w e = e
 second false w e = absurd cc
 
 -- what is left holds no more
-pub kept : (gaps : SetOfGaps) (gap other : ℕ) → set.contains (set.remove gaps gap) other ≡ true → set.contains gaps other ≡ true
+kept : (gaps : SetOfGaps) (gap other : ℕ) → set.contains (set.remove gaps gap) other ≡ true → set.contains gaps other ≡ true
 kept gaps gap other there = second _ _ (sym (set.contains-remove nat_cmp_total gaps gap other) ∙ there)
 
 -- and not the gap itself
@@ -20,12 +22,11 @@ gone gaps gap = set.contains-remove nat_cmp_total gaps gap gap ∙ rw (unsigned_
 differs : (gaps : SetOfGaps) (gap : ℕ) → set.contains gaps gap ≡ true → set.remove gaps gap ≢ gaps
 differs gaps gap there same = let z : false ≡ true = sym (gone gaps gap) ∙ (ap (λ (s : SetOfGaps). set.contains s gap) same ∙ there) in cc
 
-pub each_is_needed : (q : Question) (costs : List ℕ) (gaps : SetOfGaps) (gap : ℕ) → IsCostList costs → length costs ≡ gap_count q.program.threads → IsGapSet gaps → IsTheAnswer q costs gaps
-    → set.contains gaps gap ≡ true → Serves q (set.remove gaps gap) → ⊥
-each_is_needed q costs gaps gap limits one_each small answer there serves =
-    let others = set.remove gaps gap in
-    let some : All (λ cost. 1 ≤ cost) costs = λ k d h. (limits.each k d h).0 in
-    let better = cheaper costs others gaps some small (λ g held. subst (λ (n : ℕ). g < n) (sym one_each) (answer.of_program g held))
-    (set.contains-is_subset nat_cmp_total others gaps (kept gaps gap)) (differs gaps gap there) in
-    let left = answer.least others (λ g held. answer.of_program g (kept gaps gap g held)) better in
-    left.foreign ((serves left.outcome).0 left.left)
+pub some_avoids : (q : Question) (costs : List ℕ) (c : Certificate) (gap : ℕ) → IsCostList costs → length costs ≡ gap_count q.program.threads → IsGapSet c.gaps → IsProved q costs c
+    → set.contains c.gaps gap ≡ true → SomePassesNone q.program c.runs (set.remove c.gaps gap)
+some_avoids q costs c gap limits one_each small proved there =
+    let others = set.remove c.gaps gap in
+    let of_program = proved.answer.of_program in
+    let positive : All (λ cost. 1 ≤ cost) costs = λ k d h. (limits.each k d h).0 in
+    proved.avoided others (λ g held. of_program g (kept c.gaps gap g held))
+    (cheaper costs others c.gaps positive small (λ g held. subst (λ (n : ℕ). g < n) (sym one_each) (of_program g held)) (set.contains-is_subset nat_cmp_total others c.gaps (kept c.gaps gap)) (differs c.gaps gap there))

@@ -1,24 +1,24 @@
 -- Reasons one after the other.
 use Rattle.placed_text.proofs.Vocabulary.{◌≡◌, ◌∙◌, ◌==◌, ◌<◌, ℕ, suc, Bool, List, [], ◌∷◌, ◌++◌, true, false, arith, length, ap, refl, sym, subst, map, concat, filter, range_with_len, nat_tests, append-nil, map-append, SetOfGaps, IsGapSet, Question, asked}
-use Rattle.placed_text.proofs.Vocabulary.{Listing, Shown, Label, Without, TellsRun, TellsWhy, printed_of, numbers_of_set, MAX_GAPS, gaps_in, show, IsForeignRun, IsReplayOf, IsShownRun, Litmus, PassesNoneOf, Told, IsReason, AreReasons, told_lines, TellsReasons}
-use Rattle.placed_text.proofs.Vocabulary.{none_line, others_fenced, reasons_or_none, IsReasonText}
-use Rattle.run_views.specs.Tables.{IsTableOf, table_text}
-use Rattle.tso_machine.specs.declared.stepping.Step.{Step}
-use Rattle.tso_machine.specs.Steps.{AreSteps}
+use Rattle.placed_text.proofs.Vocabulary.{Listing, Shown, Label, Without, TellsRun, TellsWhy, printed_of, numbers_of_set, MAX_GAPS, show, IsForeignRun, IsReplayOf, IsShownRun, Litmus, Told, IsReason, AreReasons, told_lines, TellsReasons}
+use Rattle.placed_text.proofs.Vocabulary.{none_line, reasons_or_none, IsReasonText}
 use Rattle.std.proofs.lemmas.List.Folds.{concat-append}
 use Rattle.std.specs.FinSet as set
 use Rattle.tso_program.specs.{declared.outcome.Outcome.Outcome, declared.shown.Shown.TheVariants.All}
-use Rattle.tso_machine.specs.{declared.label.Model.TheVariants.Buffered, declared.replaying.Ended.Ended, Machine.StoreBufferMachine, Machine.no_gaps, Machine.IsRun, Machine.start}
+use Rattle.tso_machine.specs.{declared.label.Model.TheVariants.Buffered, declared.replaying.Ended.Ended, FenceLaws.PassesNoGapOf, Machine.StoreBufferMachine, Machine.no_gaps, Machine.IsRun}
 use Rattle.tso_machine.proofs.Refused.{one_outcome}
-use Rattle.tso_machine.proofs.GapsAvoided.{passed_gaps_tell}
-use Rattle.oracle.specs.Facts as facts
+use Rattle.tso_machine.proofs.GapsAvoided.{fenced_runs_avoid}
+use Rattle.tree_laws.specs.Laws.{IsForeign}
 use Rattle.documents.specs.Documents.{IsWhyDocument}
 
--- a foreign run that passes none of some gaps is a run with these gaps fenced
-pub runs_fenced : (run : facts.Foreign) (gaps : SetOfGaps) → facts.IsForeignValue run → PassesNoneOf gaps run → IsShownRun run.question (StoreBufferMachine (gaps_in run.question.program gaps)) run.labels run.outcome
-runs_fenced run gaps is none =
-    let (whole, is_run, shows) = is.foreign.is_run in
-    (whole, (passed_gaps_tell run.question.program gaps run.passed run.labels whole is_run is.passed).1 none, shows)
+-- a run whose passed gaps are not in the set passes none of it; one of which some are does not
+pub passes_none : (p : Listing) (labels : List Label) (ended : Ended) (gaps : SetOfGaps) → IsReplayOf (asked p All) Buffered labels ended
+    → ((gap : ℕ) × (set.contains ended.passed gap ≡ true) × (set.contains gaps gap ≡ true) → ⊥) → PassesNoGapOf p gaps labels
+passes_none p labels ended gaps replay apart gap there passes = apart (gap, (replay.passed gap).1 passes, there)
+
+pub passes_one : (p : Listing) (labels : List Label) (ended : Ended) (gaps : SetOfGaps) → IsReplayOf (asked p All) Buffered labels ended
+    → (gap : ℕ) × (set.contains ended.passed gap ≡ true) × (set.contains gaps gap ≡ true) → PassesNoGapOf p gaps labels → ⊥
+passes_one p labels ended gaps replay (gap, passed, there) none = none gap there ((replay.passed gap).0 passed)
 
 -- a replay of which all is shown ends in its outcome
 ends_in : (p : Listing) (labels : List Label) (ended : Ended) → IsReplayOf (asked p All) Buffered labels ended → IsRun p (StoreBufferMachine no_gaps) labels ended.outcome
@@ -28,34 +28,22 @@ ends_in p labels ended replay = (let (whole, is_run, same) = replay.is_run in su
 shown_of_run : (q : Question) (labels : List Label) (o whole : Outcome) → IsShownRun q (StoreBufferMachine no_gaps) labels o → IsRun q.program (StoreBufferMachine no_gaps) labels whole → o ≡ show q.shown whole
 shown_of_run q labels o whole (ended, is_run, shows) ends = shows ∙ ap (λ (x : Outcome). show q.shown x) (one_outcome q.program (StoreBufferMachine no_gaps) labels ended whole is_run ends)
 
--- the table of a run of a question is that of its steps in the question's program
-pub table_of : (source : Litmus Listing) (shown : Shown) (gaps : SetOfGaps) (gap : ℕ) (run : facts.Foreign) (steps : List Step) (table : List ℕ) → run.question ≡ asked source.program shown
-    → AreSteps run.question.program (others_fenced run.question.program gaps gap) (start run.question.program) run.labels steps → table ≡ table_text source steps
-    → IsTableOf source (others_fenced source.program gaps gap) run.labels table
-table_of source shown gaps gap run steps table of_question are is =
-    (steps, subst (λ (q : Question). AreSteps q.program (others_fenced q.program gaps gap) (start q.program) run.labels steps) of_question are, is)
-
--- so its lines are a reason
-pub reason_of : (source : Litmus Listing) (shown : Shown) (gaps : SetOfGaps) (gap : ℕ) (run : facts.Foreign) (ended : Ended) (told : Told) → run.question ≡ asked source.program shown → facts.IsForeignValue run
-    → PassesNoneOf (set.remove gaps gap) run → IsReplayOf (asked run.question.program All) Buffered run.labels ended
-    → IsReasonText source shown gaps gap run.labels ended.outcome ended.passed told.0
-    → TellsRun source (printed_of shown) (Without gap) run.labels ended.outcome ended.passed told.1 → IsReason source shown gaps gap told
-reason_of source shown gaps gap run ended told of_question is none replay printed document =
+-- the lines of a foreign run that passes none of the set's other gaps are a reason
+pub reason_of : (source : Litmus Listing) (shown : Shown) (gaps : SetOfGaps) (gap : ℕ) (labels : List Label) (ended : Ended) (told : Told) → IsForeign (asked source.program shown) labels
+    → PassesNoGapOf source.program (set.remove gaps gap) labels → IsReplayOf (asked source.program All) Buffered labels ended
+    → IsReasonText source shown gaps gap labels ended.outcome ended.passed told.0
+    → TellsRun source (printed_of shown) (Without gap) labels ended.outcome ended.passed told.1 → IsReason source shown gaps gap told
+reason_of source shown gaps gap labels ended told (o, is) none replay printed document =
     let q = asked source.program shown in
-    let others = set.remove gaps gap in
-    let fenced = subst (λ (r : Question). IsShownRun r (StoreBufferMachine (gaps_in r.program others)) run.labels run.outcome) of_question (runs_fenced run others is none) in
-    let foreign = subst (λ (r : Question). IsForeignRun r run.labels run.outcome) of_question is.foreign in
-    let replayed = subst (λ (r : Question). IsReplayOf (asked r.program All) Buffered run.labels ended) of_question replay in
-    let ends = ends_in source.program run.labels ended replayed in
-    let same = shown_of_run q run.labels run.outcome ended.outcome foreign.is_run ends in
+    let ends = ends_in source.program labels ended replay in
     record {
-      labels = run.labels;
+      labels = labels;
       outcome = ended.outcome;
       ends = ends;
-      foreign = subst (λ (o : Outcome). IsForeignRun q run.labels o) same foreign;
-      fenced = subst (λ (o : Outcome). IsShownRun q (StoreBufferMachine (gaps_in source.program others)) run.labels o) same fenced;
+      foreign = subst (λ (o : Outcome). IsForeignRun q labels o) (shown_of_run q labels o ended.outcome is.is_run ends) is;
+      fenced = (ended.outcome, (fenced_runs_avoid source.program (set.remove gaps gap) labels ended.outcome).1 (ends, none), refl);
       passed = ended.passed;
-      passes = replayed.passed;
+      passes = replay.passed;
       printed = printed;
       document = document;
     }

@@ -5,7 +5,6 @@ pub use Rattle.std.proofs.lemmas.Bool.Decides.{nat_tests}
 pub use Rattle.std.proofs.lemmas.List.{append-nil, length-replicate, map-append}
 pub use Rattle.std.specs.List.{concat, range_with_len}
 pub use Rattle.std.specs.Prelude.{filter, map, option_map, unwrap_or}
-pub use Rattle.oracle.specs.Verdicts.{IsVerdictOf, PassesNoneOf}
 pub use Rattle.documents.specs.Runs.{TellsRun}
 pub use Rattle.documents.specs.declared.run.Setting.TheVariants.{Without}
 pub use Rattle.fence_place.specs.Placements.{IsPlacement}

@@ -4,7 +4,7 @@ ghost use Rattle.std.specs.FinSet as set;
 ghost use Rattle.gap_sets.specs.Gaps.{numbers_of_set};
 ghost use Rattle.gap_sets.specs.declared.gap_set.TheConstants.{MAX_GAPS};
 ghost use Rattle.tso_program.specs.Listings.{gap_count};
-ghost use Rattle.tso_machine.specs.Outcomes.{IsTheAnswer};
+ghost use Rattle.tree_laws.specs.Laws.{IsProved};
 ghost use Rattle.report.specs.Answers.{answer_line};
 ghost use Rattle.fence_place.specs.Faults.{AreTooFewOrMany};
 ghost use Rattle.placed_text.specs.Problems.{question_in, OfItsPlacement};
@@ -12,10 +12,13 @@ ghost use Rattle.placed_text.specs.TextFaults.{HasNoPlacedText, HasNoPlacement};
 ghost use Rattle.placed_text.specs.WhyTexts.{none_line, reasons_or_none, IsReason, IsWhyText, TellsReasons, TellsWhy};
 
 use crate::TextFault;
-use crate::placement::{Placement, placement_of};
 use crate::problem::{Problem, read_problem};
-use crate::reasons::{GapReason, push_graph, reason_of, run_without};
+use crate::proposed::certificate_of;
+use crate::reasons::{GapReason, push_graph, reason_of, run_avoiding};
 use crate::watched::Effort;
+use crate::writing::{cost_of, gaps_of};
+use cert_check::certificate_proves_answer;
+use cert_forest::Certificate;
 use documents::why_document;
 use json_text::JsonArray;
 use litmus_text::Litmus;
@@ -63,37 +66,43 @@ impl Explanation {
     }
 }
 
-/// Why a gap of the answer is needed.
+/// Why a gap of the answer is needed: a run of the certificate passes none of the others.
 fn reason_for(
     alloc: Global,
     problem: &Problem,
-    placement: &Placement,
+    certificate: &Certificate,
     gap: u8,
 ) -> Result<GapReason, AllocError>
-    requires question { placement.now.solver.question ≡ question_in problem.now }
-    requires answer { IsTheAnswer placement.now.solver.question problem.now.costs placement.now.certificate.gaps }
-    requires one_each { length problem.now.costs ≡ gap_count placement.now.solver.question.program.threads }
+    requires one_each { length problem.now.costs ≡ gap_count problem.now.litmus.program.threads }
+    requires proved { IsProved (question_in problem.now) problem.now.costs certificate.now }
     requires gap { gap < MAX_GAPS }
-    requires held { set.contains placement.now.certificate.gaps gap ≡ true }
-    ensures { IfOk result (λ reason. IsReason problem.now.litmus problem.now.shown placement.now.certificate.gaps gap (reason.lines.items, reason.run)) }
+    requires held { set.contains certificate.now.gaps gap ≡ true }
+    ensures { IfOk result (λ reason. IsReason problem.now.litmus problem.now.shown certificate.now.gaps gap (reason.lines.items, reason.run)) }
 {
-    let set = placement.gaps();
-    let run = run_without(&placement.solver, &problem.costs, &set, gap)?;
-    reason_of(alloc, &problem.litmus, &problem.shown, &set, gap, &run)
+    let Problem {
+        litmus,
+        shown,
+        costs,
+    } = problem;
+    let gaps = &certificate.set;
+    costs.recall_facts();
+    gaps.recall_facts();
+    let others = gaps.without(gap);
+    let run = run_avoiding(alloc, &litmus.program, &certificate.runs, &others)?;
+    reason_of(alloc, litmus, shown, gaps, gap, &run)
 }
 
 /// Why each gap of the answer is needed.
 fn reasons(
     alloc: Global,
     problem: &Problem,
-    placement: &Placement,
+    certificate: &Certificate,
 ) -> Result<Explanation, AllocError>
-    requires question { placement.now.solver.question ≡ question_in problem.now }
-    requires answer { IsTheAnswer placement.now.solver.question problem.now.costs placement.now.certificate.gaps }
-    requires one_each { length problem.now.costs ≡ gap_count placement.now.solver.question.program.threads }
-    ensures { IfOk result (λ told. TellsReasons problem.now.litmus problem.now.shown placement.now.certificate.gaps (numbers_of_set placement.now.certificate.gaps) told.lines.items told.runs) }
+    requires one_each { length problem.now.costs ≡ gap_count problem.now.litmus.program.threads }
+    requires proved { IsProved (question_in problem.now) problem.now.costs certificate.now }
+    ensures { IfOk result (λ told. TellsReasons problem.now.litmus problem.now.shown certificate.now.gaps (numbers_of_set certificate.now.gaps) told.lines.items told.runs) }
 {
-    let set = placement.gaps();
+    let set = gaps_of(certificate);
     set.recall_facts();
     let graph = RunGraph::new(alloc)?;
     let mut told = Explanation {
@@ -102,7 +111,7 @@ fn reasons(
         runs: JsonArray::new(alloc),
     };
     for gap in set.iter() {
-        let reason = reason_for(alloc, problem, placement, gap)?;
+        let reason = reason_for(alloc, problem, certificate, gap)?;
         told.push(alloc, &problem.litmus, gap, reason)?;
     }
     Ok(told)
@@ -131,19 +140,22 @@ fn reasons_or_none(alloc: Global, shown: &Shown, reasons: Vec<u8>) -> Result<Vec
 }
 
 /// The answer line, and why each gap of the answer is needed.
-fn explained(alloc: Global, problem: &Problem, placement: &Placement) -> Result<WhyText, AllocError>
-    requires question { placement.now.solver.question ≡ question_in problem.now }
-    requires answer { IsTheAnswer placement.now.solver.question problem.now.costs placement.now.certificate.gaps }
-    requires one_each { length problem.now.costs ≡ gap_count placement.now.solver.question.program.threads }
-    ensures { IfOk result (λ told. TellsWhy problem.now.litmus problem.now.shown problem.now.costs placement.now.certificate.gaps (answer_line problem.now.litmus.program problem.now.shown placement.now.certificate.gaps placement.now.certificate.cost) told.lines.items told.document.items) }
+fn explained(
+    alloc: Global,
+    problem: &Problem,
+    certificate: &Certificate,
+) -> Result<WhyText, AllocError>
+    requires one_each { length problem.now.costs ≡ gap_count problem.now.litmus.program.threads }
+    requires proved { IsProved (question_in problem.now) problem.now.costs certificate.now }
+    ensures { IfOk result (λ told. TellsWhy problem.now.litmus problem.now.shown problem.now.costs certificate.now.gaps (answer_line problem.now.litmus.program problem.now.shown certificate.now.gaps certificate.now.cost) told.lines.items told.document.items) }
 {
     let Problem {
         litmus,
         shown,
         costs,
     } = problem;
-    let set = placement.gaps();
-    let reasons = reasons(alloc, problem, placement)?;
+    let set = gaps_of(certificate);
+    let reasons = reasons(alloc, problem, certificate)?;
     let Explanation {
         lines: each,
         graph,
@@ -151,7 +163,7 @@ fn explained(alloc: Global, problem: &Problem, placement: &Placement) -> Result<
     } = reasons;
     let said = reasons_or_none(alloc, shown, each)?;
     let document = why_document(alloc, litmus, shown, costs, &set, runs)?;
-    let mut lines = answer_line(alloc, &litmus.program, shown, set, placement.cost())?;
+    let mut lines = answer_line(alloc, &litmus.program, shown, set, cost_of(certificate))?;
     lines.extend_from_slice(&said)?;
     let graph = graph.into_text()?;
     Ok(WhyText {
@@ -173,8 +185,10 @@ fn why_of<R: Threads + Wait + Sync>(
     ensures workers { OnOk result (¬ AreTooFewOrMany effort.workers) }
     ensures fault { IfErr result (HasNoPlacement effort.workers) }
 {
-    let placement = placement_of(rt, alloc, problem, effort)?;
-    Ok(explained(alloc, problem, &placement)?)
+    let certificate = certificate_of(rt, alloc, problem, effort)?;
+    // For the proof alone: the certificate is valid, so of each better set one of its runs passes no gap.
+    certificate_proves_answer(&problem.litmus.program, &problem.shown, &problem.costs);
+    Ok(explained(alloc, problem, &certificate)?)
 }
 
 /// Places fences in the program of a litmus text as [`crate::answer_text`] does, and says why each of them is

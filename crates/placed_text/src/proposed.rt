@@ -12,16 +12,13 @@ use crate::placement::placement_of;
 use crate::problem::Problem;
 use crate::watched::{Effort, report_failure, report_outcomes};
 use cert_forest::{Certificate, Rule};
-use certificate_proposals::propose;
+use certificate_proposals::{is_large, propose};
 use fence_place::accepted_proposal;
+use program_streams::Progress;
 use std::alloc::{AllocError, Global};
 use std::sync::Wait;
 use std::thread::Threads;
-use thread_traces::{Combinations, trace_combinations};
 use tso_program::{MAX_WORKERS, Program};
-
-/// For programs of more combinations of traces trees are early.
-const MOST_WHOLE: u64 = 1_000;
 
 /// The certificate of a problem's answer: the one that is proposed, or else that of the problem's placement.
 pub(crate) fn certificate_of<R: Threads + Wait + Sync>(
@@ -36,13 +33,16 @@ pub(crate) fn certificate_of<R: Threads + Wait + Sync>(
     ensures fault { IfErr result (HasNoPlacement effort.workers) }
 {
     judge_workers(effort.workers)?;
-    match proposed(alloc, problem, effort.trees)? {
+    let certificate = match proposed(alloc, problem, effort.trees)? {
         Some(certificate) => {
-            report(alloc, problem, &certificate, effort);
-            Ok(certificate)
+            let outcomes = certificate.seq_runs.len();
+            report_outcomes(alloc, effort.progress.of_search(false), outcomes);
+            certificate
         }
-        None => Ok(placement_of(rt, alloc, problem, effort)?.into_certificate()),
-    }
+        None => placement_of(rt, alloc, problem, effort)?,
+    };
+    report_verdict(alloc, problem, &certificate, effort.progress);
+    Ok(certificate)
 }
 
 /// Refuses a number of workers that can't be.
@@ -79,23 +79,18 @@ fn proposed(
     }
 }
 
-/// Whether trees are early: as it is asked for, or by how many combinations of traces the program has.
+/// Whether trees are early: as it is asked for, or where the program is large.
 fn are_early(alloc: Global, program: &Program, trees: Option<Rule>) -> Result<bool, AllocError> {
     match trees {
         Some(Rule::Whole) => Ok(false),
         Some(Rule::Early) => Ok(true),
-        None => match trace_combinations(alloc, program)? {
-            Combinations::Exactly(count) => Ok(count > MOST_WHOLE),
-            Combinations::AtLeast(_) => Ok(true),
-        },
+        None => is_large(alloc, program),
     }
 }
 
-/// Reports how many outcomes a certificate has, as of a short search, and whether the condition fails without store buffers
-/// too.
-fn report(alloc: Global, problem: &Problem, certificate: &Certificate, effort: Effort) {
-    let outcomes = certificate.seq_runs.len();
+/// Reports whether the condition fails without store buffers too.
+fn report_verdict(alloc: Global, problem: &Problem, certificate: &Certificate, progress: Progress) {
+    let truths = certificate.seq_runs.len();
     let quantifier = problem.litmus.condition.quantifier;
-    report_outcomes(alloc, effort.progress.of_search(false), outcomes);
-    report_failure(alloc, effort.progress, &problem.shown, quantifier, outcomes);
+    report_failure(alloc, progress, &problem.shown, quantifier, truths);
 }

@@ -1,22 +1,22 @@
 //! Why a gap of the answer is needed.
-ghost use Rattle.std.specs.Prelude.{◌≡◌, ◌<◌, ◌++◌, true, IfOk, OnOk, length, map};
+ghost use Rattle.std.specs.Prelude.{◌≡◌, ◌<◌, ◌++◌, IfOk, OnOk, Contains, map};
 ghost use Rattle.std.specs.FinSet as set;
 ghost use Rattle.gap_sets.specs.declared.gap_set.TheConstants.{MAX_GAPS};
 ghost use Rattle.tso_program.specs.declared.shown.Shown.TheVariants.{All};
 ghost use Rattle.tso_program.specs.Shown.{asked};
 ghost use Rattle.tso_machine.specs.declared.label.Model.TheVariants.{Buffered};
+ghost use Rattle.tso_machine.specs.FenceLaws.{PassesNoGapOf};
 ghost use Rattle.tso_machine.specs.Machine.{start};
-ghost use Rattle.tso_machine.specs.Outcomes.{IsReplayOf, IsTheAnswer};
+ghost use Rattle.tso_machine.specs.Outcomes.{IsReplayOf};
 ghost use Rattle.tso_machine.specs.Steps.{AreSteps};
-ghost use Rattle.oracle.specs.Facts as facts;
-ghost use Rattle.oracle.specs.Verdicts.{PassesNoneOf};
-ghost use Rattle.tso_program.specs.Listings.{gap_count};
+ghost use Rattle.tree_laws.specs.GapTrees.{SomePassesNone};
+ghost use Rattle.tree_laws.specs.Laws.{IsForeign};
 ghost use Rattle.report.specs.Answers.{printed_labels, without_line};
 ghost use Rattle.placed_text.specs.WhyTexts.{is_foreign, met_line, alone_line, foreign_lines, printed_of, ending_text, others_fenced, IsReason};
 
-use cover_solver::{ForeignRun, Oracle, Solver, Verdict};
+use cert_forest::Runs;
 use documents::{Setting, run_value};
-use gap_sets::{Costs, GapSet};
+use gap_sets::GapSet;
 use json_text::JsonText;
 use litmus_text::{Litmus, holds};
 use report::{labels_line, outcome_line, passed_line, without_line};
@@ -36,28 +36,32 @@ pub(crate) struct GapReason {
     pub(crate) steps: Vec<Step>,
 }
 
-/// The other gaps of the answer don't serve: a run that passes none of them.
-pub(crate) fn run_without(
-    solver: &Solver,
-    costs: &Costs,
+/// A run, what it leaves, all of it, and the gaps that it passes.
+#[derive(Drop)]
+pub(crate) struct EndedRun<'a> {
+    labels: &'a [Label],
+    ended: Ended,
+}
+
+/// The first of these runs that passes no gap of the set.
+pub(crate) fn run_avoiding<'a>(
+    alloc: Global,
+    program: &Program,
+    runs: &'a Runs,
     gaps: &GapSet,
-    gap: u8,
-) -> Result<ForeignRun, AllocError>
-    requires answer { IsTheAnswer solver.now.question costs.now gaps.now }
-    requires one_each { length costs.now ≡ gap_count solver.now.question.program.threads }
-    requires gap { gap < MAX_GAPS }
-    requires held { set.contains gaps.now gap ≡ true }
-    ensures question { IfOk result (λ run. run.question ≡ solver.now.question) }
-    ensures foreign { IfOk result facts.IsForeignValue }
-    ensures avoids { IfOk result (PassesNoneOf (set.remove gaps.now gap)) }
+) -> Result<EndedRun<'a>, AllocError>
+    requires { SomePassesNone program.now runs.now gaps.now }
+    ensures here { IfOk result (λ run. Contains runs.now run.labels.now) }
+    ensures ended { IfOk result (λ run. IsReplayOf (asked program.now All) Buffered run.labels.now run.ended) }
+    ensures avoids { IfOk result (λ run. PassesNoGapOf program.now gaps.now run.labels.now) }
 {
-    costs.recall_facts();
-    gaps.recall_facts();
-    match solver.ask(&gaps.without(gap)) {
-        Ok(Verdict::Foreign(run)) => Ok(run),
-        Ok(Verdict::Serves(_)) => unreachable!(),
-        Err(_) => Err(AllocError),
+    for labels in runs.iter() {
+        let ended = ended_of(alloc, program, labels)?;
+        if !ended.passed.meets(gaps) {
+            return Ok(EndedRun { labels, ended });
+        }
     }
+    unreachable!()
 }
 
 /// Adds a run to a graph, under the gap that it needs.
@@ -75,32 +79,27 @@ pub(crate) fn push_graph(
 /// The steps of a run, where the other gaps of the answer are fenced.
 fn steps_of(
     alloc: Global,
+    program: &Program,
     gaps: &GapSet,
     gap: u8,
-    run: &ForeignRun,
+    labels: &[Label],
 ) -> Result<Vec<Step>, AllocError>
-    requires gap { gap < MAX_GAPS }
-    ensures steps { IfOk result (λ steps. AreSteps run.now.question.program (others_fenced run.now.question.program gaps.now gap) (start run.now.question.program) run.now.labels steps.items) }
-    ensures labels { IfOk result (λ steps. map (λ step. step.label) steps.items ≡ run.now.labels) }
+    requires { gap < MAX_GAPS }
+    ensures steps { IfOk result (λ steps. AreSteps program.now (others_fenced program.now gaps.now gap) (start program.now) labels.now steps.items) }
+    ensures labels { IfOk result (λ steps. map (λ step. step.label) steps.items ≡ labels.now) }
 {
     let others = gaps.without(gap);
-    match steps(alloc, run.program(), &others, Model::Buffered, run.labels()) {
+    match steps(alloc, program, &others, Model::Buffered, labels) {
         Ok(steps) => Ok(steps),
         Err(_) => Err(AllocError),
     }
 }
 
 /// What a run leaves, all of it, and the gaps that it passes.
-fn ended_of(alloc: Global, run: &ForeignRun) -> Result<Ended, AllocError>
-    ensures { IfOk result (IsReplayOf (asked run.now.question.program All) Buffered run.now.labels) }
+fn ended_of(alloc: Global, program: &Program, labels: &[Label]) -> Result<Ended, AllocError>
+    ensures { IfOk result (IsReplayOf (asked program.now All) Buffered labels.now) }
 {
-    match replay_shown(
-        alloc,
-        run.program(),
-        &Shown::All,
-        Model::Buffered,
-        run.labels(),
-    ) {
+    match replay_shown(alloc, program, &Shown::All, Model::Buffered, labels) {
         Ok(ended) => Ok(ended),
         Err(_) => Err(AllocError),
     }
@@ -201,22 +200,22 @@ pub(crate) fn reason_of(
     shown: &Shown,
     gaps: &GapSet,
     gap: u8,
-    run: &ForeignRun,
+    run: &EndedRun<'_>,
 ) -> Result<GapReason, AllocError>
-    requires question { run.now.question ≡ asked litmus.now.program shown.now }
-    requires foreign { facts.IsForeignValue run.now }
-    requires avoids { PassesNoneOf (set.remove gaps.now gap) run.now }
     requires gap { gap < MAX_GAPS }
+    requires foreign { IsForeign (asked litmus.now.program shown.now) run.now.labels.now }
+    requires ended { IsReplayOf (asked litmus.now.program All) Buffered run.now.labels.now run.now.ended }
+    requires avoids { PassesNoGapOf litmus.now.program (set.remove gaps.now gap) run.now.labels.now }
     ensures { IfOk result (λ reason. IsReason litmus.now shown.now gaps.now gap (reason.lines.items, reason.run)) }
 {
-    let steps = steps_of(alloc, gaps, gap, run)?;
-    let ended = ended_of(alloc, run)?;
+    let EndedRun { labels, ended } = run;
+    let steps = steps_of(alloc, &litmus.program, gaps, gap, labels)?;
     let table = run_table(alloc, litmus, &steps)?;
-    let ending = ending_lines(alloc, litmus, shown, &ended)?;
-    let lines = lines_with(alloc, &litmus.program, gap, run.labels(), &table, &ending)?;
+    let ending = ending_lines(alloc, litmus, shown, ended)?;
+    let lines = lines_with(alloc, &litmus.program, gap, labels, &table, &ending)?;
     let printed = printed_of(shown);
     let setting = Setting::Without(gap);
-    let said = run_value(alloc, litmus, &printed, setting, &steps, &ended)?;
+    let said = run_value(alloc, litmus, &printed, setting, &steps, ended)?;
     Ok(GapReason {
         lines,
         run: said,

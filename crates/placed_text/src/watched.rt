@@ -1,14 +1,13 @@
-//! How threads share the questions of a placement, and how far it is, reported to people. No clause rests on it.
+//! How far a placement is, reported to people. No clause rests on it.
 ghost use Rattle.std.specs.Prelude.{false};
 
 use cert_forest::Rule;
-use cover_solver::{Oracle, SolveFault, Solver, ThreadShare, Verdict};
+use cover_solver::{Oracle, SolveFault, Solver, Verdict};
 use gap_sets::{Costs, GapSet};
 use litmus_text::Quantifier;
 use program_streams::Progress;
 use std::alloc::{AllocError, Global};
 use std::sync::atomic::{AtomicU64, Ordering};
-use std::thread::Threads;
 use tso_program::Shown;
 
 /// How fences are searched for.
@@ -21,22 +20,18 @@ pub struct Effort {
     pub progress: Progress,
 }
 
-/// A solver that reports how many sets it is asked about. Threads share its searches: as many as there are workers, or
-/// where several workers ask, each a part of them.
+/// A solver that reports how many sets it is asked about.
 #[derive(Drop)]
-pub(crate) struct Watched<'a, R> {
-    pub(crate) rt: &'a R,
+pub(crate) struct Watched<'a> {
     pub(crate) solver: &'a Solver,
     pub(crate) costs: &'a Costs,
     pub(crate) alloc: Global,
     pub(crate) effort: Effort,
     /// How many sets were asked about.
     pub(crate) asked: AtomicU64,
-    /// How many are asked about now.
-    pub(crate) asking: AtomicU64,
 }
 
-impl<R> Watched<'_, R> {
+impl Watched<'_> {
     /// Reports that a set is asked about, if so many sets were asked about that their number is a power of two. One worker
     /// asks about the sets in ascending order of their costs.
     fn report(&self, set: &GapSet) {
@@ -51,32 +46,18 @@ impl<R> Watched<'_, R> {
     }
 }
 
-impl<R> ThreadShare for Watched<'_, R> {
-    /// A part of the workers' threads for each set that is asked about now.
-    fn threads(&self) -> usize {
-        let asking = self.asking.load(Ordering::SeqCst);
-        let share = u64::from(self.effort.workers).checked_div(asking);
-        share.unwrap_or(1) as usize
-    }
-}
-
-impl<R: Threads + Sync> Oracle for Watched<'_, R> {
-    ghost use denote.Param.Send.{IsSync};
-
+impl Oracle for Watched<'_> {
     ghost question = { λ watched. watched.solver.now.question };
 
     ghost may_lack_runs = { λ watched. false };
 
-    ghost may_be_asked = { λ watched. IsSync R.row };
+    ghost may_be_asked = { λ watched. Unit {0} };
 
     fn ask(&self, set: &GapSet) -> Result<Verdict, SolveFault> {
         if self.effort.progress.is_shown() {
             self.report(set);
         }
-        self.asking.fetch_add(1, Ordering::SeqCst);
-        let verdict = self.solver.ask_by(self.rt, self, set);
-        self.asking.fetch_sub(1, Ordering::SeqCst);
-        verdict
+        self.solver.ask(set)
     }
 }
 

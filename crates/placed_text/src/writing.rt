@@ -92,14 +92,14 @@ fn write_placed<R: Threads + Sync>(
 }
 
 /// The gaps of a certificate's answer.
-fn gaps_of(certificate: &Certificate) -> GapSet
+pub(crate) fn gaps_of(certificate: &Certificate) -> GapSet
     ensures { result ≡ certificate.now.gaps }
 {
     certificate.set
 }
 
 /// The cost of a certificate's answer.
-fn cost_of(certificate: &Certificate) -> u64
+pub(crate) fn cost_of(certificate: &Certificate) -> u64
     ensures { result ≡ certificate.now.cost }
 {
     certificate.cost

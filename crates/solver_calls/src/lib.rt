@@ -13,7 +13,7 @@ mod refusal;
 mod sketch_steps;
 mod solver;
 
-pub use cover_solver::SearchedTable;
+pub use cover_solver::SeqTable;
 pub use refusal::SolverRefusal;
 pub use sketch_steps::push_sketch;
 pub use solver::{SolverCall, options, push_of_solver, table_of};

@@ -2,7 +2,7 @@
 
 use crate::lines::{push_foreign_run, push_serving, push_table};
 use crate::refusal::SolverRefusal;
-use cover_solver::{ForeignRun, Oracle, SearchedTable, SeqTable, Solver, Verdict, sequential};
+use cover_solver::{ForeignRun, Oracle, SeqTable, Solver, Verdict, sequential};
 use litmus_text::{Litmus, NameTable};
 use std::alloc::{AllocError, Global};
 use text_calls::{gaps_of, labels_from, set_in};
@@ -17,14 +17,10 @@ pub enum SolverCall {
 }
 
 /// What the solver says of the gaps that words name.
-fn verdict(
-    alloc: Global,
-    searched: &SearchedTable,
-    words: &[&[u8]],
-) -> Result<Verdict, SolverRefusal> {
-    let program = searched.table().program();
+fn verdict(alloc: Global, table: &SeqTable, words: &[&[u8]]) -> Result<Verdict, SolverRefusal> {
+    let program = table.program();
     let set = set_in(program, gaps_of(program, words))?;
-    let solver = Solver::new(alloc, program, searched)?;
+    let solver = Solver::new(alloc, program, table)?;
     solver.ask(&set).map_err(SolverRefusal::from)
 }
 
@@ -44,11 +40,11 @@ fn push_verdict(
 fn push_asked(
     alloc: Global,
     names: &NameTable,
-    searched: &SearchedTable,
+    table: &SeqTable,
     words: &[&[u8]],
     printed: &mut String,
 ) -> Result<(), SolverRefusal> {
-    let verdict = verdict(alloc, searched, words)?;
+    let verdict = verdict(alloc, table, words)?;
     push_verdict(alloc, names, &verdict, printed).map_err(SolverRefusal::from)
 }
 
@@ -75,13 +71,12 @@ pub fn push_of_solver(
     call: SolverCall,
     words: &[&[u8]],
     names: &NameTable,
-    searched: &SearchedTable,
+    table: &SeqTable,
     printed: &mut String,
 ) -> Result<(), SolverRefusal> {
-    let table = searched.table();
     match call {
         SolverCall::Sequential => Ok(push_table(alloc, names, table, printed)?),
-        SolverCall::Ask => push_asked(alloc, names, searched, words, printed),
+        SolverCall::Ask => push_asked(alloc, names, table, words, printed),
         SolverCall::Foreign => push_foreign(alloc, names, table, words, printed),
     }
 }
@@ -102,7 +97,7 @@ pub fn table_of(
     alloc: Global,
     litmus: &Litmus<Program>,
     kind: ShownKind,
-) -> Result<SearchedTable, SolverRefusal> {
+) -> Result<SeqTable, SolverRefusal> {
     let shown = litmus.shown_as(kind)?;
     Ok(sequential(alloc, &litmus.program, &shown)?)
 }

@@ -4,7 +4,7 @@ use crate::calls::{CALLS, Call, TableCall};
 use crate::refusal::CallRefusal;
 use litmus_text::{Litmus, NameTable, read_litmus};
 use place_calls::{push_exchanged, push_of_hunt, push_of_place};
-use solver_calls::{SearchedTable, options, push_of_solver, push_sketch, table_of};
+use solver_calls::{SeqTable, options, push_of_solver, push_sketch, table_of};
 use std::alloc::{AllocError, Global};
 use std::sync::Wait;
 use std::thread::Threads;
@@ -18,7 +18,7 @@ const ROOM: usize = 4_096;
 #[derive(Clone, Copy)]
 struct Test<'a> {
     names: &'a NameTable,
-    table: &'a SearchedTable,
+    table: &'a SeqTable,
 }
 
 /// The answer to a call with these outcomes.

@@ -1,28 +1,28 @@
--- Where foreign runs bound a region, each better set of it leaves an outcome that no sequential run has.
+-- Where runs bound a region, of each better set of it one of them passes no gap. Where they are foreign, it leaves an outcome that no sequential run has.
 use Rattle.std.specs.Prelude.{All}
 use Rattle.std.specs.List.{AllZip}
-use Rattle.tree_laws.proofs.Vocabulary.{◌≡◌, ◌⊎◌, ℕ, ◌<◌, List, [], ◌∷◌, length, Contains, sym, inl, inr, arith, refl, subst, All-nil, All-cons, All-weaker, All-contains_itself, SetOfGaps, HasNoneOf, IsInRegion, Region, Better, Listing, Question, Label, LeavesOutcome}
-use Rattle.tree_laws.proofs.Vocabulary.{HaveCosts, IsSplitBy, IsForeign}
+use Rattle.tree_laws.proofs.Vocabulary.{◌≡◌, ◌⊎◌, ℕ, ◌<◌, List, [], ◌∷◌, length, Contains, sym, inl, inr, arith, refl, subst, All-nil, All-cons, All-weaker, All-contains_itself, SetOfGaps, HasNoneOf, IsInRegion, Region, Better, Listing, IsWithinLimits, Label}
+use Rattle.tree_laws.proofs.Vocabulary.{HaveCosts, IsSplitBy, SomePassesNone, SomeRunAvoidsEachBetter}
 use Rattle.std.specs.FinSet as set
 use Rattle.tso_program.proofs.Gaps.{gap_below}
+use Rattle.tree_laws.specs.GapTrees.{IsBoundBy}
 use Rattle.tree_laws.specs.Packings.{IsCheapestOf, with_gaps, HasOneOf}
 use Rattle.tree_laws.specs.Laws.{ABoundByRunsLeavesNoBetter, NoRunsBoundByMust}
-use Rattle.tree_laws.proofs.{Regions.true_or_false, PassedGaps.missed_leaves, CheapestGaps.one_or_none, CheapestGaps.cheapest_of_each}
+use Rattle.tree_laws.proofs.{Regions.true_or_false, AvoidedGaps.avoided_leaves, PassedGaps.missed, CheapestGaps.one_or_none, CheapestGaps.cheapest_of_each}
 use Rattle.tree_laws.proofs.{BetterSets.few_costs, BetterSets.each_costs, BetterSets.better_still, BestOfEach.the_best_of_each}
 
-module _ (q : Question) (runs : List (List Label)) (n : Region) where
+module _ (p : Listing) (runs : List (List Label)) (n : Region) where
   abbrev AreSplitBy : List ℕ → List (List ℕ) → Type 0
-  AreSplitBy numbers lists = AllZip (IsSplitBy q.program runs n) numbers lists
+  AreSplitBy numbers lists = AllZip (IsSplitBy p runs n) numbers lists
 
-  -- a set of the region leaves an outcome of a run, or has a gap of each
-  left_or_met : All (IsForeign q) runs → (other : SetOfGaps) → IsInRegion n other → (numbers : List ℕ) (lists : List (List ℕ)) → AreSplitBy numbers lists →
-      LeavesOutcome q other ⊎ All (HasOneOf other) lists
-  left_or_met foreign other inside [] [] each = inr (All-nil (HasOneOf other))
-  left_or_met foreign other inside (number ∷ numbers) (gaps ∷ lists) (split, each) = elim (one_or_none other gaps) [
-    | inr none ↦ inl (missed_leaves q runs n number gaps split other inside foreign none)
-    | inl has ↦ elim (left_or_met foreign other inside numbers lists each) [ inl left ↦ inl left | inr meets ↦ inr (All-cons (HasOneOf other) gaps lists has meets) ]
+  -- a run passes no gap of a set of the region, or the set has a gap of each
+  missed_or_met : (other : SetOfGaps) → IsInRegion n other → (numbers : List ℕ) (lists : List (List ℕ)) → AreSplitBy numbers lists → SomePassesNone p runs other ⊎ All (HasOneOf other) lists
+  missed_or_met other inside [] [] each = inr (All-nil (HasOneOf other))
+  missed_or_met other inside (number ∷ numbers) (gaps ∷ lists) (split, each) = elim (one_or_none other gaps) [
+    | inr none ↦ inl (missed p runs n number gaps split other inside none)
+    | inl has ↦ elim (missed_or_met other inside numbers lists each) [ inl one ↦ inl one | inr meets ↦ inr (All-cons (HasOneOf other) gaps lists has meets) ]
   ]
-  left_or_met foreign other inside numbers lists each = absurd each
+  missed_or_met other inside numbers lists each = absurd each
 
   -- the gaps of the runs are not in `must`
   beside_must : (numbers : List ℕ) (lists : List (List ℕ)) → AreSplitBy numbers lists → All (HasNoneOf n.must) lists
@@ -37,34 +37,39 @@ module _ (q : Question) (runs : List (List Label)) (n : Region) where
   beside_must numbers lists each = absurd each
 
   -- they are gaps of the program
-  have_costs : (costs : List ℕ) → HaveCosts q.program costs → (numbers : List ℕ) (lists : List (List ℕ)) → AreSplitBy numbers lists → All (All (λ gap. gap < length costs)) lists
+  have_costs : (costs : List ℕ) → HaveCosts p costs → (numbers : List ℕ) (lists : List (List ℕ)) → AreSplitBy numbers lists → All (All (λ gap. gap < length costs)) lists
   have_costs costs have [] [] each = All-nil (All (λ gap. gap < length costs))
   have_costs costs have (number ∷ numbers) (gaps ∷ lists) (split, each) = All-cons (All (λ gap. gap < length costs)) gaps lists below (have_costs costs have numbers lists each)
     where
       has_cost : (gap : ℕ) → Contains gaps gap → gap < length costs
-      has_cost gap here = let (t, i, number_is, passed) = ((split.exact gap).0 here).0 in omega (arith, gap_below q.program.threads t i gap number_is, have.one_each)
+      has_cost gap here = let (t, i, number_is, passed) = ((split.exact gap).0 here).0 in omega (arith, gap_below p.threads t i gap number_is, have.one_each)
 
       below : All (λ gap. gap < length costs) gaps
       below = All-weaker (Contains gaps) (λ gap. gap < length costs) has_cost gaps (All-contains_itself gaps)
   have_costs costs have numbers lists each = absurd each
 
-pub bounded : ABoundByRunsLeavesNoBetter
-bounded q costs answer runs n numbers within have foreign bound other of_program inside better = elim (left_or_met q runs n foreign other inside numbers bound.gaps bound.each) [
-  | inl left ↦ left
+pub bound_avoids : (p : Listing) (costs : List ℕ) (answer : SetOfGaps) (runs : List (List Label)) (n : Region) (numbers : List ℕ) → IsWithinLimits p.threads p.memory → HaveCosts p costs → IsBoundBy p costs answer runs n numbers →
+    SomeRunAvoidsEachBetter p costs answer runs n
+bound_avoids p costs answer runs n numbers within have bound other of_program inside better = elim (missed_or_met p runs n other inside numbers bound.gaps bound.each) [
+  | inl one ↦ one
   | inr meets ↦
       let (cheapest, are) = cheapest_of_each costs other bound.gaps meets in
       let no_worse = the_best_of_each costs n.must other bound.gaps cheapest (record {
-        few = few_costs q.program costs within have;
+        few = few_costs p costs within have;
         positive = have.positive;
-        each = have_costs q runs n costs have numbers bound.gaps bound.each;
+        each = have_costs p runs n costs have numbers bound.gaps bound.each;
       }) bound.apart (record {
-        have_costs = each_costs q.program costs within have other of_program;
+        have_costs = each_costs p costs within have other of_program;
         holds = inside.holds;
-        beside = beside_must q runs n numbers bound.gaps bound.each;
+        beside = beside_must p runs n numbers bound.gaps bound.each;
         meets = meets;
       }) are in
       absurd (bound.not_better cheapest are (better_still costs (with_gaps n.must cheapest) other answer no_worse better))
 ]
+
+pub bounded : ABoundByRunsLeavesNoBetter
+bounded q costs answer runs n numbers within have foreign bound other of_program inside better =
+    avoided_leaves q runs other foreign (bound_avoids q.program costs answer runs n numbers within have bound other of_program inside better)
 
 -- ---- without runs
 

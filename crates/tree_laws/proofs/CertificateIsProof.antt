@@ -1,30 +1,65 @@
 -- The headline holds of the set of a valid certificate.
-use Rattle.std.proofs.Common.{ℕ, ◌≤◌, List, All}
-use Rattle.tree_laws.proofs.Vocabulary.{All-weaker, all_sets, Question, Outcome, IsWithinLimits, Label, IsRunOutside, IsValidCertificate, IsTheAnswer, IsSequentialList, IsForeign, AValidCertificateProves}
+use Rattle.std.proofs.Common.{ℕ, ◌<◌, ◌≤◌, ◌∙◌, List, All, sym, subst}
+use Rattle.tree_laws.proofs.Vocabulary.{All-weaker, SetOfGaps, Better, AreGapsOf, all_sets, asked, Question, Listing, Outcome, IsWithinLimits, Label, Rule, Whole, Early, StoreBufferMachine, no_gaps, IsRunOutside, IsJudged, IsValidCertificateOf, IsTheAnswer, IsSequentialList, IsForeign, SomePassesNone, AValidCertificateProves}
+use Rattle.tso_program.specs.declared.shown.Shown.{Shown}
 use Rattle.tso_machine.proofs.HeadlineIsTheAnswer.{headline_is_the_answer}
+use Rattle.dataflow_laws.specs.DeadLoads.{Places, drop_loads, AreDead}
+use Rattle.dataflow_laws.proofs.{DeadLoadsKept.answer_kept, DeadLoadsKept.foreign_kept, DeadLoadsKept.passes_kept, DroppedLimits.stay_within, DroppedPlaces.gaps_kept}
 use Rattle.cert_forest.specs.Certificates.{Certificate}
-use Rattle.tree_laws.proofs.{ListedOutcomes.sequential_list, ListedOutcomes.fenced_tree_serves, NoBetterLeft.no_better_left, NoBetterLeft.root_has_every_set}
+use Rattle.tree_laws.specs.Laws.{IsProved}
+use Rattle.tree_laws.proofs.{ListedOutcomes.sequential_list, ListedOutcomes.fenced_tree_serves, AvoidedGaps.avoided_leaves, NoBetterLeft.each_better_avoided, Regions.in_root}
 
 -- what is outside of the list of sequential outcomes is foreign
 outside_is_foreign : (q : Question) (outcomes : List Outcome) (labels : List Label) → IsSequentialList q outcomes → IsRunOutside q outcomes labels → IsForeign q labels
 outside_is_foreign q outcomes labels list (o, is_run, outside) = (o, record { is_run = is_run; foreign = λ sequential. outside ((list o).1 sequential) })
 
-module _ (q : Question) (costs : List ℕ) (c : Certificate) (within : IsWithinLimits q.program.threads q.program.memory) (positive : All (λ cost. 1 ≤ cost) costs) (valid : IsValidCertificate q costs c) where
+module _ (q : Question) (costs : List ℕ) (c : Certificate) (within : IsWithinLimits q.program.threads q.program.memory) (positive : All (λ cost. 1 ≤ cost) costs) (valid : IsValidCertificateOf q costs c) where
   list : IsSequentialList q valid.outcomes
   list = sequential_list c.rule q c.seq_runs valid.outcomes c.seq_tree within.shared.forward_jumps valid.replayed valid.sequential
 
   foreign : All (IsForeign q) c.runs
   foreign = All-weaker (IsRunOutside q valid.outcomes) (IsForeign q) (λ labels. outside_is_foreign q valid.outcomes labels list) c.runs valid.foreign
 
+  avoided : (other : SetOfGaps) → AreGapsOf q.program other → Better costs other c.gaps → SomePassesNone q.program c.runs other
+  avoided other of_program = each_better_avoided q.program costs c.gaps c.runs c.gap_tree all_sets within (record { one_each = valid.one_cost_each; positive = positive }) valid.least other of_program (in_root other)
+
   is_answer : IsTheAnswer q costs c.gaps
   is_answer = record {
     of_program = valid.of_program;
     serves = fenced_tree_serves c.rule q c.gaps valid.outcomes c.fenced_tree within.shared.forward_jumps list valid.fenced;
-    least = root_has_every_set q costs c.gaps
-        (no_better_left q costs c.gaps c.runs c.gap_tree all_sets within (record { one_each = valid.one_cost_each; positive = positive }) foreign valid.least);
+    least = λ other of_program better. avoided_leaves q c.runs other foreign (avoided other of_program better);
   }
 
+  proves : IsProved q costs c
+  proves = record { headline = (headline_is_the_answer q costs c.gaps).1 is_answer; answer = is_answer; foreign = foreign; avoided = avoided }
+
+-- what is proved of a question without dead loads is proved of the question itself
+module _ (p : Listing) (shown : Shown) (here : Places) (dead : AreDead p shown here) (costs : List ℕ) (c : Certificate) (proved : IsProved (asked (drop_loads here p) shown) costs c) where
+  own_answer : IsTheAnswer (asked p shown) costs c.gaps
+  own_answer = (answer_kept p shown here costs c.gaps dead).0 proved.answer
+
+  own_avoided : (other : SetOfGaps) → AreGapsOf p other → Better costs other c.gaps → SomePassesNone p c.runs other
+  own_avoided other of_program better =
+      let of_slim : AreGapsOf (drop_loads here p) other = λ gap there. subst (λ (n : ℕ). gap < n) (sym (gaps_kept p here).0) (of_program gap there) in
+      let (labels, run, none) = proved.avoided other of_slim better in
+      (labels, run, λ gap there (t, k, number, passed). none gap there (t, k, (gaps_kept p here).1 t k ∙ number, passes_kept p shown here (StoreBufferMachine no_gaps) labels t k dead ∙ passed))
+
+  kept : IsProved (asked p shown) costs c
+  kept = record {
+    headline = (headline_is_the_answer (asked p shown) costs c.gaps).1 own_answer;
+    answer = own_answer;
+    foreign = All-weaker (IsForeign (asked (drop_loads here p) shown)) (IsForeign (asked p shown)) (λ labels (o, is). (o, (foreign_kept p shown here labels o dead).0 is)) c.runs proved.foreign;
+    avoided = own_avoided;
+  }
+
+-- whichever question the rule judges
+judged_proves : (rule : Rule) (q : Question) (costs : List ℕ) (c : Certificate) → IsWithinLimits q.program.threads q.program.memory → All (λ cost. 1 ≤ cost) costs →
+    IsJudged rule q (λ judged. IsValidCertificateOf judged costs c) → IsProved q costs c
+judged_proves Whole q costs c within positive valid = proves q costs c within positive valid
+judged_proves Early q costs c within positive (slim, (here, are, is), valid) =
+    let few : IsWithinLimits slim.threads slim.memory = subst (λ (p : Listing). IsWithinLimits p.threads p.memory) (sym is) (stay_within q.program here within) in
+    kept q.program q.shown here (λ t k h. (are t k).0 h) costs c
+    (subst (λ (p : Listing). IsProved (asked p q.shown) costs c) is (proves (asked slim q.shown) costs c few positive valid))
+
 pub certificate_proves : AValidCertificateProves
-certificate_proves q costs c within positive valid =
-    let answer : IsTheAnswer q costs c.gaps = is_answer q costs c within positive valid in
-    record { headline = (headline_is_the_answer q costs c.gaps).1 answer; answer = answer }
+certificate_proves q costs c within positive valid = judged_proves c.rule q costs c within positive valid

@@ -24,6 +24,7 @@ pub mod DecidedBounds
 pub mod BoundedRegions
 pub mod NoBetterLeft
 -- certificates
+pub mod RightClaims
 pub mod CertificateIsProof
 -- the example
 pub mod StoreBufferingValues

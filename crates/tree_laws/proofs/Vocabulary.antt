@@ -49,12 +49,12 @@ pub use Rattle.tso_program.specs.declared.action.Local.{Local}
 pub use Rattle.tso_program.specs.declared.listing.Listing.{Listing}
 pub use Rattle.tso_program.specs.declared.outcome.Outcome.{Outcome}
 pub use Rattle.tso_program.specs.declared.shown.Shown.TheVariants.{All, Truth}
-pub use Rattle.tree_laws.specs.Certificates.{AreSequentialRuns, IsRunOutside, IsValidCertificate}
+pub use Rattle.tree_laws.specs.Certificates.{AreSequentialRuns, IsJudged, IsRunOutside, IsValidCertificate, IsValidCertificateOf}
 pub use Rattle.tree_laws.specs.CoverTrees.{AllowsOrder, AllowsSource, AreChoices, AreChoicesBy, AreTwo, AreValidCoversBy, HasNextValues, HasNextValuesBy, HasNoOrderBy, HasSources, HasSourcesBy}
 pub use Rattle.tree_laws.specs.CoverTrees.{IsCovered, IsValidCover, IsValidCoverBy, IsValueBy, MustEndAsNumber, event_of, sketch_with}
-pub use Rattle.tree_laws.specs.GapTrees.{AreValidGaps, EachBetterOfRegionLeavesOutcome, HaveCosts, IsOpenGap, IsSplitBy, IsValidGap, PassesGap}
+pub use Rattle.tree_laws.specs.GapTrees.{AreValidGaps, EachBetterOfRegionLeavesOutcome, HaveCosts, IsOpenGap, IsSplitBy, IsValidGap, PassesGap, SomePassesNone, SomeRunAvoidsEachBetter}
 pub use Rattle.tree_laws.specs.Laws.{ACoveredListHasEachOutcome, ASplitLosesNoSet, ATighterModeKeepsACover, ATighterModeKeepsASettledRead, ATighterModeKeepsAWholeSketch, ATighterModeKeepsTheValues, AValidCertificateProves}
-pub use Rattle.tree_laws.specs.Laws.{AValidCoverCovers, AWholeCoverIsAnEarlyCover, AValidFencedTreeServes, AValidGapTreeLeavesNoBetter, AValidTreeMakesTheSequentialList, CoversAreJudgedInOrder, GapsAreJudgedInOrder, IsForeign}
+pub use Rattle.tree_laws.specs.Laws.{AValidCoverCovers, AWholeCoverIsAnEarlyCover, AValidFencedTreeServes, AValidGapTreeAvoidsEachBetter, AValidGapTreeLeavesNoBetter, AValidTreeMakesTheSequentialList, CoversAreJudgedInOrder, GapsAreJudgedInOrder, IsForeign}
 pub use Rattle.tree_laws.specs.Laws.{IsSequentialList, SoNoServingSetIsBetter, TheChoicesAreOneList, TheGapsAreOneList, TheRootHasEverySet, TheSourcesAreOneList, TheValuesAreOneList}
 pub use Rattle.tree_laws.specs.declared.choice.Choice.{Choice}
 pub use Rattle.tree_laws.specs.declared.choice.OpenChoice.{OpenChoice}

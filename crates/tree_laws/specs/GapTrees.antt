@@ -13,6 +13,7 @@ use Rattle.tso_program.specs.Listings.{gap_count}
 use Rattle.tso_machine.specs.declared.label.Label.{Label}
 use Rattle.tso_machine.specs.Machine.{StoreBufferMachine, no_gaps, start}
 use Rattle.tso_machine.specs.Modes.{Passes}
+use Rattle.tso_machine.specs.FenceLaws.{PassesNoGapOf}
 use Rattle.tso_machine.specs.Outcomes.{Serves, LeavesOutcome, AreGapsOf}
 use Rattle.cert_forest.specs.Trees.{Gap, Split, Bound, GapTrees, NoGap, MoreGaps}
 use Rattle.tree_laws.specs.Packings.{IsPacking, IsCheapestOf, with_gaps}
@@ -24,6 +25,10 @@ PassesGap p labels gap = Passes p (StoreBufferMachine no_gaps) (start p) labels 
 -- the labels pass it, and it is outside `never`
 abbrev pub IsOpenGap : Listing → List Label → SetOfGaps → ℕ → Type 0
 IsOpenGap p labels never gap = PassesGap p labels gap × (set.contains never gap ≡ false)
+
+-- one of the runs passes no gap of the set
+abbrev pub SomePassesNone : Listing → List (List Label) → SetOfGaps → Type 0
+SomePassesNone p runs gaps = (labels : List Label) × Contains runs labels × PassesNoGapOf p gaps labels
 
 module _ (p : Listing) (runs : List (List Label)) where
   -- the run of this number passes no gap of `must`, and these are the gaps that it passes outside `never`, ascending
@@ -56,8 +61,12 @@ module _ (p : Listing) (costs : List ℕ) (answer : SetOfGaps) (runs : List (Lis
     AreValidGaps (MoreGaps tree trees) [] = ⊥
     AreValidGaps (MoreGaps tree trees) (region ∷ regions) = IsValidGap tree region × AreValidGaps trees regions
 
+  -- what a valid tree means: of each better set of the region one of the runs passes no gap
+  abbrev pub SomeRunAvoidsEachBetter : Region → Type 0
+  SomeRunAvoidsEachBetter region = (other : SetOfGaps) → AreGapsOf p other → IsInRegion region other → Better costs other answer → SomePassesNone p runs other
+
 module _ (q : Question) (costs : List ℕ) (answer : SetOfGaps) where
-  -- what a valid tree means: each better set of the region leaves an outcome that no sequential run has
+  -- so, where the runs are foreign, each better set of the region leaves an outcome that no sequential run has
   abbrev pub EachBetterOfRegionLeavesOutcome : Region → Type 0
   EachBetterOfRegionLeavesOutcome region =
       (other : SetOfGaps) → AreGapsOf q.program other → IsInRegion region other → Better costs other answer → LeavesOutcome q other

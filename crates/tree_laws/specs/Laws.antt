@@ -12,7 +12,7 @@ use Rattle.tso_program.specs.Limits.{JumpForward, IsWithinLimits}
 use Rattle.tso_program.specs.Fences.{gaps_in}
 use Rattle.tso_machine.specs.declared.label.Label.{Label}
 use Rattle.tso_machine.specs.Machine.{Machine, SequentialMachine, StoreBufferMachine}
-use Rattle.tso_machine.specs.Outcomes.{AllowsShown, IsSequentialOutcome, Serves, IsForeignRun, EachBetterLeavesOutcome, IsTheAnswer, Headline}
+use Rattle.tso_machine.specs.Outcomes.{AllowsShown, IsSequentialOutcome, Serves, IsForeignRun, AreGapsOf, EachBetterLeavesOutcome, IsTheAnswer, Headline}
 use Rattle.candidate_executions.specs.declared.event.Event.{Event}
 use Rattle.candidate_executions.specs.Sketches.{Sketch, empty_sketch, IsSketch, IsWhole}
 use Rattle.candidate_executions.specs.Settled.{IsSettled}
@@ -23,7 +23,7 @@ use Rattle.cert_forest.specs.Rule.{Rule, TheVariants.Whole, TheVariants.Early}
 use Rattle.tree_laws.specs.CoverTrees.{HasNextValuesBy, HasSourcesBy, AreChoicesBy, IsValidCoverBy, AreValidCoversBy, IsCovered}
 use Rattle.tree_laws.specs.TighterModes.{IsNoLooser, in_mode}
 use Rattle.tree_laws.specs.Packings.{IsPacking, IsCheapestOf, with_gaps, HavePositiveCosts, MeetsEach}
-use Rattle.tree_laws.specs.GapTrees.{IsSplitBy, IsBoundBy, IsValidGap, AreValidGaps, EachBetterOfRegionLeavesOutcome, NoServingSetIsBetter, HaveCosts}
+use Rattle.tree_laws.specs.GapTrees.{SomePassesNone, IsSplitBy, IsBoundBy, IsValidGap, AreValidGaps, SomeRunAvoidsEachBetter, EachBetterOfRegionLeavesOutcome, NoServingSetIsBetter, HaveCosts}
 use Rattle.cert_forest.specs.Certificates.{Certificate}
 use Rattle.tree_laws.specs.Certificates.{AreSequentialRuns, IsValidCertificate}
 
@@ -107,7 +107,12 @@ abbrev pub NoRunsBoundByMust : Type 0
 NoRunsBoundByMust = (p : Listing) (costs : List ℕ) (answer : SetOfGaps) (runs : List (List Label)) (region : Region) →
     IsBoundBy p costs answer runs region [] ↔ (¬ Better costs region.must answer)
 
--- a valid gap tree over foreign runs says of its region that each better set leaves an outcome
+-- a valid gap tree says of its region that of each better set one of the runs passes no gap
+abbrev pub AValidGapTreeAvoidsEachBetter : Type 0
+AValidGapTreeAvoidsEachBetter = (p : Listing) (costs : List ℕ) (answer : SetOfGaps) (runs : List (List Label)) (tree : Gap) (region : Region) →
+    IsWithinLimits p.threads p.memory → HaveCosts p costs → IsValidGap p costs answer runs tree region → SomeRunAvoidsEachBetter p costs answer runs region
+
+-- over foreign runs it says of its region that each better set leaves an outcome
 abbrev pub AValidGapTreeLeavesNoBetter : Type 0
 AValidGapTreeLeavesNoBetter = (q : Question) (costs : List ℕ) (answer : SetOfGaps) (runs : List (List Label)) (tree : Gap) (region : Region) →
     IsWithinLimits q.program.threads q.program.memory → HaveCosts q.program costs → All (IsForeign q) runs →
@@ -165,10 +170,12 @@ TheBoundIsDecided = (p : Listing) (costs : List ℕ) (answer : SetOfGaps) (runs 
     IsBoundBy p costs answer runs region numbers
     ↔ (IsPacking gaps × ((cheapest : List ℕ) → AllZip (IsCheapestOf costs) gaps cheapest → ¬ Better costs (with_gaps region.must cheapest) answer))
 
--- the headline holds of the set of a valid certificate, whichever rule it has, and the set is the answer
+-- the headline holds of the set of a valid certificate, whichever rule it has, and the set is the answer; its runs are foreign, and of each better set one of them passes no gap
 pub record IsProved (q : Question) (costs : List ℕ) (c : Certificate) : Type 0 where
   pub headline : Headline q costs c.gaps
   pub answer : IsTheAnswer q costs c.gaps
+  pub foreign : All (IsForeign q) c.runs
+  pub avoided : (other : SetOfGaps) → AreGapsOf q.program other → Better costs other c.gaps → SomePassesNone q.program c.runs other
 
 abbrev pub AValidCertificateProves : Type 0
 AValidCertificateProves = (q : Question) (costs : List ℕ) (c : Certificate) → IsWithinLimits q.program.threads q.program.memory →

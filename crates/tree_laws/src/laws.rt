@@ -1,6 +1,6 @@
 //! The laws: each function's contract is a theorem, and calling it does nothing.
 ghost use Rattle.cert_forest.specs.Rule.{Rule};
-ghost use Rattle.tree_laws.specs.Laws.{AValidCoverCovers, AWholeCoverIsAnEarlyCover, ACoveredListHasEachOutcome, AValidTreeMakesTheSequentialList, AValidFencedTreeServes, ATighterModeKeepsACover, ATighterModeKeepsTheValues, ATighterModeKeepsAWholeSketch, ATighterModeKeepsASettledRead, ASplitLosesNoSet, TheCheapestOfEachAreTheBest, EachCostsAtLeastTheSum, ABoundByRunsLeavesNoBetter, NoRunsBoundByMust, AValidGapTreeLeavesNoBetter, SoNoServingSetIsBetter, TheRootHasEverySet, AValidCertificateProves, CoversAreJudgedInOrder, GapsAreJudgedInOrder, TheValuesAreOneList, TheSourcesAreOneList, TheChoicesAreOneList, TheGapsAreOneList, TheCheapestAreOneList, TheBoundIsDecided};
+ghost use Rattle.tree_laws.specs.Laws.{AValidCoverCovers, AWholeCoverIsAnEarlyCover, ACoveredListHasEachOutcome, AValidTreeMakesTheSequentialList, AValidFencedTreeServes, ATighterModeKeepsACover, ATighterModeKeepsTheValues, ATighterModeKeepsAWholeSketch, ATighterModeKeepsASettledRead, ASplitLosesNoSet, TheCheapestOfEachAreTheBest, EachCostsAtLeastTheSum, ABoundByRunsLeavesNoBetter, NoRunsBoundByMust, AValidGapTreeAvoidsEachBetter, AValidGapTreeLeavesNoBetter, SoNoServingSetIsBetter, TheRootHasEverySet, AValidCertificateProves, CoversAreJudgedInOrder, GapsAreJudgedInOrder, TheValuesAreOneList, TheSourcesAreOneList, TheChoicesAreOneList, TheGapsAreOneList, TheCheapestAreOneList, TheBoundIsDecided};
 ghost use Rattle.tree_laws.specs.StoreBuffering.{StoreBufferingIsCertified};
 ghost use Rattle.tree_laws.specs.OwnStore.{OwnStoreIsTold};
 
@@ -51,9 +51,10 @@ pub fn a_bound_by_runs_leaves_no_better()
     ensures alone { NoRunsBoundByMust }
 {}
 
-/// A valid gap tree over foreign runs says of each better set of its region which outcome it leaves, so that
-/// none of them serves. At the root that is every set of the program's gaps.
+/// A valid gap tree says of each better set of its region which run passes none of its gaps. Where the runs are foreign
+/// the set leaves that run's outcome, so it does not serve. At the root that is every set of the program's gaps.
 pub fn a_valid_gap_tree_leaves_no_better()
+    ensures avoided { AValidGapTreeAvoidsEachBetter }
     ensures leaves { AValidGapTreeLeavesNoBetter }
     ensures serving { SoNoServingSetIsBetter }
     ensures root { TheRootHasEverySet }
@@ -76,7 +77,8 @@ pub fn the_children_are_determined()
     ensures bound { TheBoundIsDecided }
 {}
 
-/// The headline holds of the set of a valid certificate, whichever rule it has; the set is then the answer.
+/// The headline holds of the set of a valid certificate, whichever rule it has; the set is then the answer. Its runs
+/// are foreign, and of each better set one of them passes no gap.
 pub fn a_valid_certificate_proves_the_headline()
     ensures { AValidCertificateProves }
 {}

@@ -1,4 +1,4 @@
-use Rattle.cert_check.proofs.OneFault as faults
+use Rattle.cert_check.proofs.JudgedFaults as faults
 use Rattle.cert_check.proofs.laws.the_first_fault_is_unique.Goals as goal
 
 pub returns : goal.returns

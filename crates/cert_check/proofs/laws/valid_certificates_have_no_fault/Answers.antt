@@ -1,4 +1,4 @@
-use Rattle.cert_check.proofs.FirstFaults as faults
+use Rattle.cert_check.proofs.JudgedFaults as faults
 use Rattle.cert_check.proofs.laws.valid_certificates_have_no_fault.Goals as goal
 
 pub returns : goal.returns

@@ -1,19 +1,14 @@
 use Rattle.cover_solver.proofs.Vocabulary.{◌↔◌, Contains, subst, asked, Machine, machine_of_mode, AllowsShown, AreRunsOf}
-use Rattle.cover_solver.proofs.Tables.{still_exact}
 use Rattle.cover_solver.proofs.outcome_list.outcomes_with_runs.Goals as goal
 
 pub returns-clause-runs : goal.returns-clause-runs
-returns-clause-runs g c =
-    let p = c.args.sought.now.program.now in
-    let q = asked p c.args.sought.now.shown.now in
-    let listed = c.in_ok-listed.listed in
-    subst (λ (mode : Machine). AreRunsOf q mode listed.runs listed.outcomes.items) (c.unfenced-mode.ensures p)
-    (c.in_ok-listed.ensures.runs q (machine_of_mode p c.unfenced-mode.result) c.in_ok-all.ensures.runs)
+returns-clause-runs c =
+    let p = c.args.program.now in
+    let list = c.in_ok-listed.field-0 in
+    subst (λ (mode : Machine). AreRunsOf (asked p c.args.shown.now) mode list.runs list.outcomes.items) (c.unfenced.ensures p) c.in_ok-listed.ensures.runs
 
 pub returns-clause-exact : goal.returns-clause-exact
-returns-clause-exact g c o =
-    let p = c.args.sought.now.program.now in
-    let q = asked p c.args.sought.now.shown.now in
-    let listed = c.in_ok-listed.listed in
-    subst (λ (mode : Machine). Contains listed.outcomes.items o ↔ AllowsShown q mode o) (c.unfenced-mode.ensures p)
-    (still_exact c.in_ok-all.all.found listed c.in_ok-listed.ensures q (machine_of_mode p c.unfenced-mode.result) c.in_ok-all.ensures.exact o)
+returns-clause-exact c o =
+    let p = c.args.program.now in
+    let list = c.in_ok-listed.field-0 in
+    subst (λ (mode : Machine). Contains list.outcomes.items o ↔ AllowsShown (asked p c.args.shown.now) mode o) (c.unfenced.ensures p) (c.in_ok-listed.ensures.exact o)

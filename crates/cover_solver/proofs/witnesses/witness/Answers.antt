@@ -5,6 +5,6 @@ use Rattle.cover_solver.proofs.witnesses.witness.Goals as goal
 pub returns-clause-found : goal.returns-clause-found
 returns-clause-found c =
     let p = c.args.program.now in
-    let f = c.in_ok-copy.field-0 in
-    found_or_none p (machine_of_mode p c.args.mode) c.args.formula.now f c.args.truth c.in_ok-told.told c.in_ok-all.all.found.runs c.in_ok-all.all.found.outcomes.items c.in_ok-copy.ensures c.in_ok-told.ensures
-    c.in_ok-all.ensures.exact c.in_ok-all.ensures.runs c.in_ok-run_of.field-0 c.in_ok-run_of.ensures
+    let list = c.in_ok-list.list in
+    found_or_none p (machine_of_mode p c.args.mode) c.args.formula.now c.in_ok-copy.field-0 c.args.truth c.in_ok-told.told list.runs list.outcomes.items c.in_ok-copy.ensures c.in_ok-told.ensures
+    c.in_ok-list.ensures.exact c.in_ok-list.ensures.runs c.in_ok-run_of.field-0 c.in_ok-run_of.ensures

@@ -1,9 +1,7 @@
 use Rattle.placed_text.proofs.explaining.why_of.Goals as goal
 
-pub explained-requires : goal.explained-requires
-explained-requires g c =
-    let is = c.in_ok-placement.ensures in
-    record { question = is.solver; answer = rw is.solver is.placement.answer; one_each = rw is.solver c.requires }
+pub explained-requires-clause-proved : goal.explained-requires-clause-proved
+explained-requires-clause-proved g c = c.certificate_proves_answer.ensures.valid _ c.in_ok-certificate.ensures.placement.proof.valid
 
 pub returns-clause-told : goal.returns-clause-told
-returns-clause-told g c = (c.in_ok-placement.placement.certificate, c.in_ok-placement.ensures.placement, c.in_ok-explained.ensures)
+returns-clause-told g c = (c.in_ok-certificate.certificate, c.in_ok-certificate.ensures.placement, c.in_ok-explained.ensures)

@@ -1,4 +1,5 @@
 use Rattle.placed_text.proofs.Vocabulary.{◌≡◌, ◌∙◌, List, map, ap, subst, sym, Label, Without, TellsRun, others_fenced, printed_of}
+use Rattle.run_views.specs.Tables.{IsTableOf}
 use Rattle.tso_machine.specs.Machine.{start}
 use Rattle.tso_machine.specs.Steps.{AreSteps}
 use Rattle.tso_machine.specs.declared.stepping.Step.{Step}
@@ -7,15 +8,18 @@ use Rattle.placed_text.proofs.reasons.reason_of.Goals as goal
 
 pub returns : goal.returns
 returns c =
-    let run = c.args.run.now in
-    let ended = c.in_ok-ended.ended in
-    let labels : map (λ step. step.label) c.deref-4.result.now ≡ run.labels = ap (λ (steps : List Step). map (λ step. step.label) steps) c.deref-4.ensures.value ∙ c.in_ok-steps.ensures.labels in
-    let steps : AreSteps run.question.program (others_fenced run.question.program c.args.gaps.now c.args.gap) (start run.question.program) run.labels c.deref.result.now =
-    subst (λ (steps : List Step). AreSteps run.question.program (others_fenced run.question.program c.args.gaps.now c.args.gap) (start run.question.program) run.labels steps)
-    (sym c.deref.ensures.value) c.in_ok-steps.ensures.steps in
-    let table = texts.table_of c.args.litmus.now c.args.shown.now c.args.gaps.now c.args.gap run c.deref.result.now c.deref-2.result.now c.requires.question steps
-    (c.deref-2.ensures.value ∙ c.in_ok-table.ensures) in
-    texts.reason_of c.args.litmus.now c.args.shown.now c.args.gaps.now c.args.gap run ended (c.in_ok-lines.lines.items, c.in_ok-said.said) c.requires.question c.requires.foreign
-    c.requires.avoids c.in_ok-ended.ensures (c.deref-2.result.now, table, rw (c.labels.ensures, c.deref-3.ensures.value, c.in_ok-ending.ensures) at c.in_ok-lines.ensures)
-    (subst (λ (ls : List Label). TellsRun c.args.litmus.now (printed_of c.args.shown.now) (Without c.args.gap) ls ended.outcome ended.passed c.in_ok-said.said) labels
-    (rw c.printed_of-printed.ensures at c.in_ok-said.ensures))
+    let source = c.args.litmus.now in
+    let p = source.program in
+    let shown = c.args.shown.now in
+    let labels = c.args.run.now.labels.now in
+    let ended = c.args.run.now.ended in
+    let fenced = others_fenced p c.args.gaps.now c.args.gap in
+    let same : map (λ step. step.label) c.deref-4.result.now ≡ labels = ap (λ (steps : List Step). map (λ step. step.label) steps) c.deref-4.ensures.value ∙ c.in_ok-steps.ensures.labels in
+    let table : IsTableOf source fenced labels c.deref-2.result.now = (
+      c.deref.result.now,
+      subst (λ (steps : List Step). AreSteps p fenced (start p) labels steps) (sym c.deref.ensures.value) c.in_ok-steps.ensures.steps,
+      c.deref-2.ensures.value ∙ c.in_ok-table.ensures,
+    ) in
+    texts.reason_of source shown c.args.gaps.now c.args.gap labels ended (c.in_ok-lines.lines.items, c.in_ok-said.said) c.requires.foreign c.requires.avoids c.requires.ended
+    (c.deref-2.result.now, table, rw (c.deref-3.ensures.value, c.in_ok-ending.ensures) at c.in_ok-lines.ensures)
+    (subst (λ (ls : List Label). TellsRun source (printed_of shown) (Without c.args.gap) ls ended.outcome ended.passed c.in_ok-said.said) same (rw c.printed_of-printed.ensures at c.in_ok-said.ensures))

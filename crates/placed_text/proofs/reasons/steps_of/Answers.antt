@@ -1,4 +1,3 @@
-use Rattle.placed_text.proofs.Vocabulary.{◌∙◌}
 use Rattle.tso_machine.specs.declared.label.Model.TheVariants as models
 use Rattle.tso_machine.specs.Machine as machine
 use Rattle.tso_machine.specs.Modes.{machine_of_model}
@@ -7,8 +6,8 @@ use Rattle.placed_text.proofs.reasons.steps_of.Goals as goal
 
 pub returns-in-Ok : goal.returns-in-Ok
 returns-in-Ok c =
-    let p = c.program.result.now in
+    let p = c.args.program.now in
     record {
-      steps = rw (c.program.ensures.value, c.labels.ensures, c.without-others.ensures) at c.in-Ok.ensures.steps;
-      labels = labels_of_steps p (machine_of_model p c.without-others.result models.Buffered) (machine.start p) _ _ c.in-Ok.ensures.steps ∙ c.labels.ensures;
+      steps = rw c.without-others.ensures at c.in-Ok.ensures.steps;
+      labels = labels_of_steps p (machine_of_model p c.without-others.result models.Buffered) (machine.start p) _ _ c.in-Ok.ensures.steps;
     }

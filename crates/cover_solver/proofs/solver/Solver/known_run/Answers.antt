@@ -8,7 +8,7 @@ returns-then-not-meets c =
     let s = c.self.inside in
     let run = c.run-item.result in
     let same = c.in_ok-copy.ensures in
-    let are = subst (AreOf s.question) (sym c.deref-run-items.ensures.value) c.self.invariant.2 in (
+    let are = subst (AreOf s.question) (sym c.deref-run-items.ensures.value) c.self.invariant.1 in (
       ap (λ (f : Foreign). f.question) (same ∙ c.run-item.is) ∙ are c.loop-run.run-index run c.loop-run-test.true ∙ ap (λ (a : Asked). a.question) c.self.view_is,
       subst IsForeignValue (sym same) c.recall_facts.ensures.foreign,
       (λ gap passes there. not_by c.meets.result _ c.meets.ensures c.if-not-meets.true (gap, subst (λ p. set.contains p gap ≡ true) (ap (λ (f : Foreign). f.passed) same ∙ sym c.passed.ensures) passes, there)),

@@ -8,4 +8,4 @@ verdict-requires-clause-stop c =
     let search = c.search-search.result in
     let q = asked search.program.now search.shown.now in
     let listed = c.deref-2.ensures.value ∙ ap (λ (v : Vec Outcome). v.items) c.deref.ensures ∙ ap (λ (a : Asked). a.outcomes) c.self.view_is in
-    lacks_moved c.cover_all-found.result q s.question search.mode c.args.set.now c.deref-2.result.now s.outcomes c.search-search.ensures.question c.search-search.ensures.mode listed c.cover_all-found.ensures.stop
+    lacks_moved c.cover-found.result q s.question search.mode c.args.set.now c.deref-2.result.now s.outcomes c.search-search.ensures.question c.search-search.ensures.mode listed c.cover-found.ensures.stop

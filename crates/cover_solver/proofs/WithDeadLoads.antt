@@ -1,0 +1,54 @@
+-- What a program without its dead loads leaves, the program leaves.
+use Rattle.std.proofs.Common.{◌≡◌, ◌↔◌, List, [], ◌∷◌, Contains, refl, sym, ap, ◌∙◌, subst, false}
+use Rattle.std.specs.List.{AllZip}
+use Rattle.std.specs.FinSet as set
+use Rattle.std.specs.Option.{option_map_or}
+use mathlib.Core.Path.{fun_ext}
+use Rattle.tso_program.specs.Shown.{asked}
+use Rattle.tso_program.specs.declared.listing.Listing.{Listing}
+use Rattle.tso_program.specs.declared.outcome.Outcome.{Outcome}
+use Rattle.tso_program.specs.declared.shown.Shown.{Shown}
+use Rattle.tso_machine.specs.declared.label.Label.{Label}
+use Rattle.tso_machine.specs.declared.mode.Mode.{Mode}
+use Rattle.tso_machine.specs.declared.mode.Mode.TheVariants as modes
+use Rattle.tso_machine.specs.Machine.{Machine, StoreBufferMachine}
+use Rattle.tso_machine.specs.Modes.{machine_of_mode}
+use Rattle.tso_machine.specs.Outcomes.{AllowsShown, IsShownRun}
+use Rattle.dataflow_laws.specs.DeadLoads.{Places, drop_loads, AreDead, IsWithoutDeadLoads}
+use Rattle.dataflow_laws.specs.Laws.{DroppedLoadsKeepGaps, DeadLoadsKeepRuns, DeadLoadsKeepOutcomes}
+use Rattle.cover_solver.specs.OutcomeLists.{AreRunsOf}
+
+-- lists that are in step by one relation are so by a weaker one
+in_step : {A B : Type 0} (R Q : A → B → Type 0) → ((x : A) (y : B) → R x y → Q x y) → (xs : List A) (ys : List B) → AllZip R xs ys → AllZip Q xs ys
+in_step R Q weaker [] [] all = tt
+in_step R Q weaker [] (y ∷ ys) all = absurd all
+in_step R Q weaker (x ∷ xs) [] all = absurd all
+in_step R Q weaker (x ∷ xs) (y ∷ ys) all = (weaker x y all.0, in_step R Q weaker xs ys all.1)
+
+-- a mode has one machine, with those loads or without them
+one_machine : (p : Listing) (here : Places) (mode : Mode) → DroppedLoadsKeepGaps → machine_of_mode (drop_loads here p) mode ≡ machine_of_mode p mode
+one_machine p here modes.Sequential gaps = refl
+one_machine p here (modes.Fenced fenced) gaps = ap StoreBufferMachine (fun_ext (λ t. fun_ext (λ k. ap (λ n. option_map_or (set.contains fenced) n false) ((gaps p here).1 t k))))
+
+module _ (p slim : Listing) (shown : Shown) (mode : Mode) (without : IsWithoutDeadLoads p shown slim) (gaps : DroppedLoadsKeepGaps) where
+  dead : AreDead p shown without.0
+  dead t k is = (without.1 t k).0 is
+
+  machine : machine_of_mode slim mode ≡ machine_of_mode p mode
+  machine = ap (λ (r : Listing). machine_of_mode r mode) without.2 ∙ one_machine p without.0 mode gaps
+
+  pub runs_back : DeadLoadsKeepRuns → (runs : List (List Label)) (outcomes : List Outcome) → AreRunsOf (asked slim shown) (machine_of_mode slim mode) runs outcomes → AreRunsOf (asked p shown) (machine_of_mode p mode) runs outcomes
+  runs_back kept runs outcomes are =
+      in_step (IsShownRun (asked slim shown) (machine_of_mode slim mode)) (IsShownRun (asked p shown) (machine_of_mode p mode)) (λ labels o is.
+      (kept p shown without.0 (machine_of_mode p mode) labels o dead).0
+      (subst (λ (m : Machine). IsShownRun (asked (drop_loads without.0 p) shown) m labels o) machine (subst (λ (r : Listing). IsShownRun (asked r shown) (machine_of_mode slim mode) labels o) without.2 is)))
+      runs outcomes are
+
+  same_outcomes : DeadLoadsKeepOutcomes → (o : Outcome) → AllowsShown (asked slim shown) (machine_of_mode slim mode) o ↔ AllowsShown (asked p shown) (machine_of_mode p mode) o
+  same_outcomes kept o =
+      subst (λ (m : Machine). AllowsShown (asked slim shown) m o ↔ AllowsShown (asked p shown) (machine_of_mode p mode) o) (sym machine)
+      (subst (λ (r : Listing). AllowsShown (asked r shown) (machine_of_mode p mode) o ↔ AllowsShown (asked p shown) (machine_of_mode p mode) o) (sym without.2) (kept p shown without.0 (machine_of_mode p mode) o dead))
+
+  pub exact_back : DeadLoadsKeepOutcomes → (outcomes : List Outcome) → ((o : Outcome) → Contains outcomes o ↔ AllowsShown (asked slim shown) (machine_of_mode slim mode) o) →
+      (o : Outcome) → Contains outcomes o ↔ AllowsShown (asked p shown) (machine_of_mode p mode) o
+  exact_back kept outcomes exact o = (λ here. (same_outcomes kept o).0 ((exact o).0 here), λ allows. (exact o).1 ((same_outcomes kept o).1 allows))

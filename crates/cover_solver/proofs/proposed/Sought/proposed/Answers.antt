@@ -1,0 +1,8 @@
+use Rattle.cover_solver.specs.Sought.{question_of, machine_of}
+use Rattle.cover_solver.proofs.ProposedRuns.{exactly_allowed}
+use Rattle.cover_solver.proofs.proposed.Sought.proposed.Goals as goal
+
+pub returns-clause-exact : goal.returns-clause-exact
+returns-clause-exact c =
+    exactly_allowed (question_of c.args.self.now) (machine_of c.args.self.now) c.in-Some.proposed.runs c.in-Some-2.outcomes.items
+    (rw c.in-Some-2.is at c.in_ok-outcomes.ensures.runs) (rw c.deref-2.ensures.value at (c.in_ok-are_all.ensures c.if-not-branch.false))

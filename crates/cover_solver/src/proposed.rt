@@ -1,0 +1,147 @@
+//! Outcomes that a search for early trees proposes, and that are judged.
+ghost use Rattle.std.specs.Prelude.{◌≡◌, ◌↔◌, ◌++◌, ◌∷◌, [], IsTrue, IfOk, IfSome, Contains};
+ghost use Rattle.tso_program.specs.declared.outcome.Outcome.{Outcome};
+ghost use Rattle.tso_program.specs.Shown.{asked};
+ghost use Rattle.tso_machine.specs.Modes.{machine_of_mode};
+ghost use Rattle.tso_machine.specs.Outcomes.{AllowsShown, IsShownRun};
+ghost use Rattle.tree_laws.specs.Ascending.{Ascend};
+ghost use Rattle.cover_solver.specs.OutcomeLists.{AreRunsOf};
+ghost use Rattle.cover_solver.specs.Sought.{question_of, machine_of};
+
+use crate::outcome_list::OutcomeList;
+use crate::tree_nodes::are_trees;
+use candidate_search::{ProposedOutcomes, propose_outcomes};
+use cert_forest::{Node, Runs, Walk};
+use cover_judge::{NodeFault, RowlessSketch, judge};
+use dataflow_laws::{dead_loads_keep_outcomes, dead_loads_keep_runs, dropped_loads_keep_gaps};
+use live_registers::without_dead_loads;
+use std::alloc::{AllocError, Global};
+use tree_laws::{Rule, a_valid_cover_tree_covers, a_valid_tree_lists_every_outcome};
+use tso_machine::{Ended, Label, Mode, ReplayFault, replay};
+use tso_program::{Outcome, Program, Shown};
+
+/// The outcomes of the machine of a mode that a search for early trees proposes, where they are judged to be all.
+/// `None` where it gives up, or where what it proposes is wrong. The search is made without the program's dead loads.
+pub fn proposed_outcomes(
+    alloc: Global,
+    program: &Program,
+    shown: &Shown,
+    mode: Mode,
+) -> Result<Option<OutcomeList>, AllocError>
+    ensures ascend { IfOk result (λ found. IfSome found (λ list. Ascend list.outcomes.items)) }
+    ensures runs { IfOk result (λ found. IfSome found (λ list. AreRunsOf (asked program.now shown.now) (machine_of_mode program.now mode) list.runs list.outcomes.items)) }
+    ensures exact { IfOk result (λ found. IfSome found (λ list. (o : Outcome) → Contains list.outcomes.items o ↔ AllowsShown (asked program.now shown.now) (machine_of_mode program.now mode) o)) }
+{
+    let slim = without_dead_loads(alloc, program, shown)?;
+    dropped_loads_keep_gaps();
+    dead_loads_keep_runs();
+    dead_loads_keep_outcomes();
+    let sought = Sought {
+        alloc,
+        program: &slim,
+        shown,
+        mode,
+    };
+    sought.proposed()
+}
+
+/// A program, what is shown of its outcomes, and the mode in which these are sought.
+#[derive(Clone, Copy)]
+struct Sought<'a> {
+    alloc: Global,
+    program: &'a Program,
+    shown: &'a Shown,
+    mode: Mode,
+}
+
+impl Sought<'_> {
+    /// The outcomes that are proposed, where they are judged to be all.
+    fn proposed(&self) -> Result<Option<OutcomeList>, AllocError>
+        ensures ascend { IfOk result (λ found. IfSome found (λ list. Ascend list.outcomes.items)) }
+        ensures runs { IfOk result (λ found. IfSome found (λ list. AreRunsOf (question_of self.now) (machine_of self.now) list.runs list.outcomes.items)) }
+        ensures exact { IfOk result (λ found. IfSome found (λ list. (o : Outcome) → Contains list.outcomes.items o ↔ AllowsShown (question_of self.now) (machine_of self.now) o)) }
+    {
+        let Some(proposed) = propose_outcomes(self.alloc, self.program, self.shown, self.mode)?
+        else {
+            return Ok(None);
+        };
+        let ProposedOutcomes { runs, nodes, .. } = proposed;
+        let Some(outcomes) = self.outcomes_of(&runs)? else {
+            return Ok(None);
+        };
+        if !self.are_all(&nodes, &outcomes)? {
+            return Ok(None);
+        }
+        Ok(Some(OutcomeList { outcomes, runs }))
+    }
+
+    /// What is shown of the outcomes of runs. `None` if one is no run, or they do not ascend.
+    fn outcomes_of(&self, runs: &Runs) -> Result<Option<Vec<Outcome>>, AllocError>
+        ensures ascend { IfOk result (λ found. IfSome found (λ outcomes. Ascend outcomes.items)) }
+        ensures runs { IfOk result (λ found. IfSome found (λ outcomes. AreRunsOf (question_of self.now) (machine_of self.now) runs.now outcomes.items)) }
+    {
+        let mut outcomes = Vec::new(self.alloc);
+        for labels in runs {
+            let Some(outcome) = self.outcome_of(labels)? else {
+                return Ok(None);
+            };
+            if !comes_last(&outcomes, &outcome) {
+                return Ok(None);
+            }
+            outcomes.push(outcome)?;
+        }
+        Ok(Some(outcomes))
+    }
+
+    /// What is shown of the outcome of a run. `None` if the labels are no run.
+    fn outcome_of(&self, labels: &[Label]) -> Result<Option<Outcome>, AllocError>
+        ensures { IfOk result (λ found. IfSome found (IsShownRun (question_of self.now) (machine_of self.now) labels.now)) }
+    {
+        let (model, fenced) = self.mode.model_and_gaps();
+        match replay(self.alloc, self.program, &fenced, model, labels) {
+            Ok(Ended { mut outcome, .. }) => {
+                outcome.show(self.alloc, self.shown)?;
+                Ok(Some(outcome))
+            }
+            Err(ReplayFault::OutOfMemory) => Err(AllocError),
+            Err(_) => Ok(None),
+        }
+    }
+
+    /// Whether nodes are those of an early tree by which there are no other outcomes than these.
+    fn are_all(&self, nodes: &[Node], outcomes: &[Outcome]) -> Result<bool, AllocError>
+        ensures { IfOk result (λ all. IsTrue all → (o : Outcome) → AllowsShown (question_of self.now) (machine_of self.now) o → Contains outcomes.now o) }
+    {
+        if !are_trees(nodes) {
+            return Ok(false);
+        }
+        self.program.recall_facts();
+        a_valid_cover_tree_covers();
+        a_valid_tree_lists_every_outcome();
+        let mut sketch = RowlessSketch::new(self.alloc, self.program, self.mode)?;
+        let mut walk = Walk::over(nodes);
+        match judge(
+            self.alloc,
+            Rule::Early,
+            &mut walk,
+            &mut sketch,
+            self.shown,
+            outcomes,
+        ) {
+            Ok(()) => Ok(true),
+            Err(NodeFault::Wrong(_)) => Ok(false),
+            Err(NodeFault::OutOfMemory) => Err(AllocError),
+        }
+    }
+}
+
+/// Whether an outcome comes after each of a list that ascends.
+fn comes_last(outcomes: &[Outcome], outcome: &Outcome) -> bool
+    requires { Ascend outcomes.now }
+    ensures { IsTrue result → Ascend (outcomes.now ++ outcome.now ∷ []) }
+{
+    match outcomes.binary_search(outcome) {
+        Ok(_) => false,
+        Err(place) => place == outcomes.len(),
+    }
+}

@@ -1,5 +1,0 @@
-use Rattle.sketch_covers.proofs.Vocabulary.{◌≡◌, map, take, event_of}
-use Rattle.sketch_covers.proofs.access_ids.accesses_of.Given as goal
-
-abbrev pub invariant-loop-event : goal.invariant-loop-event
-invariant-loop-event l = map event_of l.accesses.items ≡ take l.event-index l.events
