@@ -1,35 +1,41 @@
 //! An order of the accesses in which few of them come before earlier ones of their thread. A run
 //! follows it as far as the edges allow: no proof rests on it.
 
-use exec_axioms::{Event, Kind, Sketch};
+use exec_axioms::{Event, Kind, Mode, Sketch};
+use program_sketches::is_one_thread;
 use std::alloc::{AllocError, Global};
 use tso_program::MAX_ACCESSES;
 
-/// The events, listed by thread and index, in an order that turns round as few pairs of a thread as it
-/// can: a run passes the gaps between a store and a later load that comes before it. Each two events of
-/// a thread keep their order where no edge forbids it. If a thread is named, its pairs are settled first.
-pub(crate) fn settled(
+/// The order that is wanted, as far as the edges allow. It is empty in the sequential machine: there no run passes
+/// a gap, so no order is better than another.
+pub(crate) fn preferred_order(
     alloc: Global,
     sketch: &Sketch,
     kind: Kind,
     events: &[Event],
-    thread: Option<u8>,
+) -> Result<Vec<Event>, AllocError> {
+    match sketch.mode() {
+        Mode::Sequential => Ok(Vec::new(alloc)),
+        Mode::Fenced(_) => with_few_turned(alloc, sketch, kind, events),
+    }
+}
+
+/// The events, listed by thread and index, in an order that turns round as few pairs of a thread as it
+/// can: a run passes the gaps between a store and a later load that comes before it. Each two events of
+/// a thread keep their order where no edge forbids it: first those that are furthest apart, since most gaps
+/// lie between them.
+fn with_few_turned(
+    alloc: Global,
+    sketch: &Sketch,
+    kind: Kind,
+    events: &[Event],
 ) -> Result<Vec<Event>, AllocError> {
     let mut rows = known_rows(alloc, sketch, kind, events)?;
     close(rows.as_mut_slice());
-    if thread.is_some() {
-        settle_pairs(rows.as_mut_slice(), events, thread);
-    }
-    settle_pairs(rows.as_mut_slice(), events, None);
-    by_count(alloc, rows.as_slice(), events)
-}
-
-/// Each two events of one thread, or of that which is named, keep their order where they can: first those that
-/// are furthest apart, since most gaps lie between them.
-fn settle_pairs(rows: &mut [u32], events: &[Event], thread: Option<u8>) {
     for distance in (1..events.len()).rev() {
-        settle(rows, events, distance, thread);
+        settle(rows.as_mut_slice(), events, distance);
     }
+    by_count(alloc, rows.as_slice(), events)
 }
 
 /// A row for each event: itself, and those from which an edge leads to it.
@@ -74,14 +80,11 @@ fn spread(rows: &mut [u32], first: usize, second: usize) {
     }
 }
 
-/// Each two events of one thread, or of that which is named, at this distance keep their order, unless that of
-/// `second` and `first` is settled.
-fn settle(rows: &mut [u32], events: &[Event], distance: usize, thread: Option<u8>) {
+/// Each two events of one thread at this distance keep their order, unless `second` is known to come before `first`.
+fn settle(rows: &mut [u32], events: &[Event], distance: usize) {
     for second in distance..events.len() {
         let first = second - distance;
-        if are_of_thread(events[first], events[second], thread)
-            && row_at(rows, first) & bit(second) == 0
-        {
+        if is_one_thread(events[first], events[second]) && row_at(rows, first) & bit(second) == 0 {
             spread(rows, first, second);
         }
     }
@@ -119,12 +122,4 @@ fn push_those(
 /// The bit of a place in a row, which has one for each access of a program.
 fn bit(place: usize) -> u32 {
     if place < MAX_ACCESSES { 1 << place } else { 0 }
-}
-
-/// Whether both are accesses of one thread, of that which is named if there is one.
-fn are_of_thread(a: Event, b: Event, thread: Option<u8>) -> bool {
-    match (a, b) {
-        (Event::Access(t, _), Event::Access(u, _)) => t == u && thread.is_none_or(|it| it == t),
-        _ => false,
-    }
 }
