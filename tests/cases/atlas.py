@@ -1,18 +1,21 @@
-"""The atlas: each row of the tables of docs/atlas.md, and its certificates in examples/atlas."""
+"""The atlas: each row of the tables of docs/atlas.md, and its certificates in examples/atlas and examples/large."""
 import os
 import re
 
-from harness import EXAMPLES, FENCECHECK, MODELS, TOP, Cases, bytes_of, expect, outcomes_in, run, same, tell
+from harness import EXAMPLES, FENCECHECK, MODELS, TOP, Cases, bytes_of, expect, lines, outcomes_in, run, same, tell
 from judges import machine
 from judges.texts import test_of
 
 FOLDER = os.path.join(EXAMPLES, "atlas")
+LARGE = os.path.join(EXAMPLES, "large")
 PAGE = os.path.join(TOP, "docs", "atlas.md")
 CELL = r"(`cost \d+ set[ \d:]*`|-)"
 ROW = re.compile(
     rf"^\| (\S+) \| (\d+) \| (\d+) \| (may happen|never) \| {CELL} \| {CELL} \| {CELL} \| [^|]* \| [^|]* "
     r"\| (\d+ \+ \d+ \+ \d+) \| (-|\d+ of \d+, \d+ of \d+) \|$", re.M)
 RUN = re.compile(r"^\| (\S+) \| `((?:[ef]\d ?)+)` \|$", re.M)
+LARGE_ROW = re.compile(rf"^\| (\S+) \| (\d+) \| (\d+) \| (\d+) \| (may happen|never) \| {CELL} \| {CELL} \| (\d+\.\d kB), (\d+\.\d kB) \|$", re.M)
+LARGEST = 200_000
 NODES = ("V", "S", "O", "C", "K", "P", "B")
 
 
@@ -20,12 +23,8 @@ def atlas_row(row):
     """One program of the atlas: its size, what its condition says in both machines, and the certificate of each answer. The names of its files."""
     name, accesses, gaps, without, *answers, nodes, seen = row
     named = os.path.join(FOLDER, name)
-    test = test_of(bytes_of(named + ".litmus"))
-    size = sum(it[0] in machine.ACCESSES for thread in test.code for it in thread), len(test.gaps())
-    same(f"the size of {name}", size, (int(accesses), int(gaps)))
-    for model, holds in (("sequential", True), ("buffered", without == "never")):
-        told = run(["outcomes", "--model", model, named + ".litmus"])[1].splitlines()[-1:]
-        same(f"the {model} condition of {name}", told, [b"condition holds" if holds else b"condition fails"])
+    same(f"the size of {name}", sizes_of(named + ".litmus")[1:], [accesses, gaps])
+    condition_of(name, named + ".litmus", without)
     files = [name + ".litmus"]
     for answer, kind, words in zip(answers, ("", "-observed", "-costs"), ("", "observed ", "")):
         if answer != "-":
@@ -37,6 +36,43 @@ def atlas_row(row):
     same(f"the condition's fences of {name}", found, f"answer condition {answers[1].strip('`')}")
     same(f"the nodes of {name}", nodes_of(bytes_of(named + ".cert").decode()), nodes)
     seen_of(name, seen, named + ".litmus", answers[0])
+    return files
+
+
+def sizes_of(litmus):
+    """How many threads, accesses and gaps a program has, as the page says it."""
+    test = test_of(bytes_of(litmus))
+    return [str(it) for it in (len(test.code), sum(it[0] in machine.ACCESSES for thread in test.code for it in thread), len(test.gaps()))]
+
+
+def condition_of(name, litmus, without):
+    """What the condition of a program says in both machines."""
+    for model, holds in (("sequential", True), ("buffered", without == "never")):
+        told = run(["outcomes", "--model", model, litmus])[1].splitlines()[-1:]
+        same(f"the {model} condition of {name}", told, [b"condition holds" if holds else b"condition fails"])
+
+
+def large_row(row, independent):
+    """One large program: its size, what its condition says in both machines, both answers, which are those of an independent program, and their
+    certificates. The names of its files."""
+    name, threads, accesses, gaps, without, *cells = row
+    named = os.path.join(LARGE, name)
+    litmus = named + ".litmus"
+    same(f"the size of {name}", sizes_of(litmus), [threads, accesses, gaps])
+    condition_of(name, litmus, without)
+    files = [name + ".litmus"]
+    for answer, other, size, kind in zip(cells[:2], independent, cells[2:], ([], ["--condition"])):
+        what = "".join(f" {it.strip('-')}" for it in kind)
+        tell(f"the{what} answer for {name} is the independent one", other in ("-", answer.strip("`")), answer, other)
+        found = run(["place", *kind, litmus])[1].decode().split("\n")[0]
+        same(f"the{what} answer for {name}", found, f"answer{what} {answer.strip('`')}")
+        certificate = f"{named}{''.join(it[1:] for it in kind)}.cert"
+        if os.path.exists(certificate):
+            expect(os.path.basename(certificate), [litmus, certificate], 0, f"{found.replace('answer', 'accepted', 1)}\n".encode(), program=FENCECHECK)
+            same(f"the size of {os.path.basename(certificate)}", f"{os.path.getsize(certificate) / 1000:.1f} kB", size)
+            files.append(os.path.basename(certificate))
+        else:
+            tell(f"{os.path.basename(certificate)} is too large to be kept", float(size.split()[0]) * 1000 > LARGEST, size)
     return files
 
 
@@ -60,6 +96,14 @@ class Atlas(Cases):
         """The checker accepts each answer of the table, and there are no other files than those of its rows."""
         rows = ROW.findall(bytes_of(PAGE).decode())
         same("the files of the atlas are those of its table", sorted(os.listdir(FOLDER)), sorted(file for row in rows for file in atlas_row(row)))
+
+    def test_large(self):
+        """Each answer of the table of large programs is given again, and by an independent program; the checker accepts its certificate."""
+        rows = LARGE_ROW.findall(bytes_of(PAGE).decode())
+        independent = {name: answers for name, *answers in lines("large_answers.tsv")}
+        same("the large programs are those of the independent answers", sorted(row[0] for row in rows), sorted(independent))
+        files = [file for row in rows for file in large_row(row, independent[row[0]])]
+        same("the files of the large programs are those of their table", sorted(os.listdir(LARGE)), sorted(files))
 
     def test_runs(self):
         """A run of each program that needs fences, to what must not happen."""

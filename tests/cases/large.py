@@ -48,7 +48,8 @@ ORDERS = """X86 orders
  MOV EBX,[x] |             |             |             ;
 exists (0:EAX=1 /\\ 1:EAX=1)
 """
-MOST_WHOLE = 16
+MOST_SEARCHED = 16
+MOST_WHOLE = 1_000
 PROGRAMS = (("reads", reads(5, 5, 5)), ("two threads", TWO_THREADS), ("exchanges", EXCHANGES), ("orders", ORDERS))
 
 
@@ -90,13 +91,17 @@ def placed(name, litmus):
 
 class Large(Cases):
     def test_size(self):
-        """The programs are large."""
+        """The programs are large. Their certificates are of version 1 or 2 up to 1,000 combinations of traces, and of version 4 above."""
         for name, text in PROGRAMS:
             with tempfile.TemporaryDirectory() as folder:
-                litmus = os.path.join(folder, "made.litmus")
+                litmus, certificate = (os.path.join(folder, "made." + kind) for kind in ("litmus", "cert"))
                 write(litmus, text.encode())
                 count = read_program(litmus).combinations()
-            tell(f"{name} is large", count > MOST_WHOLE, count, f"more than {MOST_WHOLE} combinations")
+                tell(f"{name} is large", count > MOST_SEARCHED, count, f"more than {MOST_SEARCHED} combinations")
+                for options, whole in (([], b"1"), (["--observed"], b"2")):
+                    run(["place", *options, "--certificate", certificate, litmus])
+                    version = bytes_of(certificate).split()[1]
+                    same(f"the version of the certificate of {name} {options}", version, b"4" if count > MOST_WHOLE else whole)
 
     def test_lists(self):
         """Lists of outcomes with their runs, by the machine."""

@@ -181,12 +181,13 @@ class Messages(Cases):
             same(f"outcomes of {rows!r} with {{ {initial} }} where the condition names aa", told, b"<stdin>: the condition names aa, which no instruction reads or writes: it keeps its first value\n")
 
     def test_failures(self):
-        """With `--condition` it is said where a `~exists` or a `forall` fails sequentially, and some sequential run keeps it."""
+        """It is said where some sequential run breaks a `~exists` or a `forall`."""
         text = example_texts()["SB.litmus"]
-        for formula, both in (("0:EAX=0 /\\ 1:EAX=0", False), ("0:EAX=0", True), ("x=1", False), ("not 1:EAX=1", True)):
-            for quantifier in ("exists", "~exists", "forall"):
+        never, always, either = (False,), (True,), (False, True)
+        for formula, truths in (("0:EAX=0 /\\ 1:EAX=0", never), ("0:EAX=0", either), ("x=1", always), ("not 1:EAX=1", either)):
+            for quantifier, breaking in (("exists", None), ("~exists", True), ("forall", False)):
                 given = changed(text, b"exists (0:EAX=0 /\\ 1:EAX=0)", f"{quantifier} ({formula})".encode())
+                line = FAILS if breaking in truths else b""
                 for words in ("place", "why --observed", "place --condition", "why --condition --json", "place --condition --workers 2"):
                     status, _, told = outputs([*words.split(), "-"], EXAMPLES, given)
-                    line = FAILS if both and quantifier != "exists" and "--condition" in words else b""
                     tell(f"{words} of {quantifier} {formula} says {line!r}", (status, told) == (0, line), (status, told))

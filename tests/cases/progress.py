@@ -14,6 +14,7 @@ from harness import EXAMPLES, FENCER, Cases, same, tell
 
 REGISTERS = ("EAX", "EBX", "ECX", "EDX", "ESI", "EDI")
 MOST_TRACES = 10_000_000
+MOST_SEARCHED = 16
 MOST_CERTIFIED = 100_000_000
 WARNING = "fencer: warning: with more than 100000000 combinations the search may end without an answer or a certificate"
 ASKED = re.compile(r"fencer: sets asked: (\d+)(?:; the answer costs at least (\d+))?")
@@ -39,6 +40,7 @@ WHOLE = (
     ["place", "--trees", "whole"], ["place", "--observed", "--trees", "whole"], ["place", "--observed", "--workers", "3", "--trees", "whole"],
     ["place", "--condition", "--trees", "whole"],
 )
+PLACED = (*WHOLE, ["place"], ["place", "--observed", "--workers", "2"], ["why"], ["why", "--condition"])
 PROPOSED = (
     ["place"], ["place", "--observed"], ["place", "--condition", "--workers", "2"], ["why"], ["why", "--condition"],
     ["outcomes"], ["outcomes", "--observed"], ["outcomes", "--model", "sequential", "--runs"],
@@ -221,15 +223,17 @@ class Progress(Cases):
                 searched(os.path.basename(path), path, command)
 
     def test_whole(self):
-        """What is reported of large programs where trees are whole."""
-        for name, text in (("jumps", JUMPS), ("reads", reads(5, 5, 5)), ("one thread", reads(12))):
+        """What is reported of large programs where trees are whole: where that is asked for, or of at most 1,000 combinations."""
+        for name, text, commands in (
+            ("jumps", JUMPS, WHOLE), ("reads", reads(5, 5, 5), WHOLE), ("one thread", reads(12), WHOLE), ("few reads", reads(5, 4), PLACED),
+        ):
             with tempfile.TemporaryDirectory() as folder:
                 path = made(folder, text)
-                for command in WHOLE:
+                for command in commands:
                     searched(name, path, command)
 
     def test_proposed(self):
-        """Where an answer is proposed the sequential outcomes alone are reported, with `--progress`, of a list nothing, and nothing on a terminal."""
+        """Where early trees are proposed the sequential outcomes alone are reported, with `--progress`, of a list nothing, and nothing on a terminal."""
         with tempfile.TemporaryDirectory() as folder:
             path = made(folder, JUMPS)
             for command in PROPOSED:
@@ -240,6 +244,17 @@ class Progress(Cases):
             for command in ("outcomes", "place", "why"):
                 printed, said = on_terminal([command, path])
                 same(f"{command} on a terminal where an answer is proposed", (said, printed), ([], ran([command, path])[0][1]))
+
+    def test_accepted(self):
+        """What is proposed for large programs of the atlas is accepted: no set is asked about by the proved search."""
+        atlas = os.path.join(EXAMPLES, "atlas")
+        for name in sorted(file for file in os.listdir(atlas) if file.endswith(".litmus")):
+            path = os.path.join(atlas, name)
+            if read_program(path).combinations() <= MOST_SEARCHED:
+                continue
+            for options in ([], ["--observed"], ["--condition"]):
+                asked = [line for line in ran(["place", "--progress", *options, path])[1] if ASKED.fullmatch(line)]
+                same(f"sets that are asked about for {name} {options}", asked, [])
 
     def test_lost(self):
         """Standard error that is closed, or that takes nothing."""

@@ -13,7 +13,7 @@ from judges.damage import KINDS
 from judges.made_certificates import Maker, TooLong, random_source
 from judges.texts import canonical_of, test_of
 
-CERTIFICATES, DAMAGED, SEED = 2000, 16, 48
+CERTIFICATES, DAMAGED, SEED = 2000, 16, 55
 # the versions and the rules by which cover trees are made; by `none` a read may take its source before it is settled
 MADE = ((4, "early"), (4, "whole"), (4, "none"), (1, "whole"), (1, "early"))
 # what the judge has to say of some of them, so that each fault is met

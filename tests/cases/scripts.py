@@ -193,6 +193,17 @@ def called_at_a_terminal(clone):
         tell(f"{name} with an input that is no terminal", "waits for its input" not in said, (status, said))
 
 
+def said_on_a_terminal(clone):
+    """What a call says on a terminal."""
+    leader, terminal = pty.openpty()
+    clone.call("fencer", "place", "SB.litmus", stderr=terminal)
+    os.write(terminal, b".")
+    os.close(terminal)
+    said = os.read(leader, 4096).decode()
+    os.close(leader)
+    return said.removesuffix(".")
+
+
 class Scripts(Cases):
     def test_builds(self):
         """Which build runs, when one is made, and what is said then."""
@@ -335,3 +346,16 @@ class Scripts(Cases):
             os.close(leader)
             shown = "\rfencer: translates the sources, " in said and said.rstrip().endswith("\r\033[Kfencer: unproved build")
             tell("the progress on a terminal", shown, said)
+
+    def test_once_a_day(self):
+        """On a terminal it is said once a day that a build is unproved, and again where the build is made anew."""
+        with cloned() as clone:
+            clone.call("fencer", "--help")
+            same("what is said first on a terminal", said_on_a_terminal(clone), "fencer: unproved build\r\n")
+            same("what is said again on that day", said_on_a_terminal(clone), "")
+            same("what is said where it is no terminal", clone.call("fencer", "place", "SB.litmus")[2], UNPROVED.format("fencer"))
+            write(clone.unproved("fencer") + ".said", "2001-02-03\n")
+            same("what is said on another day", said_on_a_terminal(clone), "fencer: unproved build\r\n")
+            os.utime(clone.unproved("fencer") + ".said", (1_000, 1_000))
+            same("what is said of a build that is made anew", said_on_a_terminal(clone), "fencer: unproved build\r\n")
+

@@ -11,8 +11,9 @@ from harness import MODELS, PreloadedCases, example, run, same, tell
 WORKERS = 3
 LARGE = (("two threads", TWO_THREADS), ("exchanges", EXCHANGES), ("orders", ORDERS))
 SMALL = ("SB", "MP", "n6", "IRIW", "nothing")
-# which commands start threads: those that hunt, and write the certificate's text
-COMMANDS = (["place", "--trees", "whole"], ["place", "--observed", "--trees", "whole"])
+HUNTED = ("SB", "R", "2+2W", "n6")
+# which commands start threads: those that hunt, where the program is not large
+COMMANDS = (["place"], ["place", "--observed"])
 
 
 def marked(library, words, given):
@@ -33,12 +34,13 @@ class Threads(PreloadedCases):
 
     def test_hunts(self):
         """Several threads hunt, and there are never more of them than workers."""
-        for name, text in LARGE:
+        for name in HUNTED:
+            source = example(name + ".litmus")
             for command in COMMANDS:
                 what, words = f"{' '.join(command)} of {name}", [*command, "-"]
-                alone, most = marked(self.library, words, text.encode())
+                alone, most = marked(self.library, words, source)
                 same(f"{what} by one worker, threads", most, 1)
-                found, most = marked(self.library, [*words, "--workers", str(WORKERS)], text.encode())
+                found, most = marked(self.library, [*words, "--workers", str(WORKERS)], source)
                 tell(f"{what} by {WORKERS} workers", found == alone and found[0] == 0, found, alone)
                 tell(f"{what} by {WORKERS} workers, threads", 1 < most <= WORKERS, most, f"2 to {WORKERS}")
 

@@ -126,7 +126,7 @@ class Judge:
         if None in ended:
             return "SequentialRun", ended.index(None)
         self.outcomes = [self.question.show(outcome) for outcome, _ in ended]
-        path = self.wrong_node(claimed.tree, empty_sketch(Mode(self.test)), self.sketches_below)
+        path = self.wrong_node(claimed.tree, empty_sketch(Mode(self.test, self.rule)), self.sketches_below)
         if path is not None:
             return "SequentialTree", path
         ended = [machine.replayed(self.test, labels, (), True) for labels in claimed.runs]
@@ -135,7 +135,7 @@ class Judge:
         foreign = [self.question.show(outcome) not in self.outcomes for outcome, _ in ended]
         if not all(foreign):
             return "NotForeign", foreign.index(False)
-        path = self.wrong_node(claimed.fenced, empty_sketch(Mode(self.test, {self.places[gap] for gap in self.set})), self.sketches_below)
+        path = self.wrong_node(claimed.fenced, empty_sketch(Mode(self.test, self.rule, {self.places[gap] for gap in self.set})), self.sketches_below)
         if path is not None:
             return "FencedTree", path
         self.passed = [{self.places.index(place) for place in passed} for _, passed in ended]

@@ -1,4 +1,4 @@
-"""What flows through a program, worked out here alone, as docs/definitions.md says it (*Early trees*): which loads are dead."""
+"""What flows through a program, worked out here alone, as docs/definitions.md says it (*Early trees*): which loads are dead, and which values a location may hold."""
 import copy
 
 from judges import machine
@@ -49,3 +49,41 @@ def without_dead_loads(test, told):
     slim = copy.copy(test)
     slim.code = [slim_code(code, {name for u, name in told if u == t}) for t, code in enumerate(test.code)]
     return slim
+
+
+def held_values(test):
+    """For each location the values that flow to it, ascending: from initial values and the numbers of MOVs, along instructions, whichever path leads there."""
+    locations, before = [{value} for value in test.memory], None
+    while locations != before:
+        before = [set(values) for values in locations]
+        for code, first in zip(test.code, test.registers):
+            flow_along(code, first, locations)
+    return [sorted(values) for values in locations]
+
+
+def flow_along(code, first, locations):
+    """Adds to the values of locations those that a thread hands to them, where its registers begin with these values."""
+    places = [{name: set() for name in machine.REGISTERS} for _ in range(len(code) + 1)]
+    places[0] = {name: {value} for name, value in zip(machine.REGISTERS, first)}
+    for k, instruction in enumerate(code):
+        after = handed_on(instruction, dict(places[k]), locations)
+        for j in leads_to(instruction, k):
+            places[j] = {name: values | after[name] for name, values in places[j].items()}
+
+
+def handed_on(instruction, held, locations):
+    """What registers may hold after an instruction, before which they may hold this; the instruction adds to the values of its location."""
+    name, words = instruction[0], words_of(instruction)
+    if name == "StoreImm":
+        locations[int(words[0])] |= {int(words[1])}
+    elif name in ("Store", "Xchg"):
+        locations[int(words[0])] |= held[words[1]]
+    if name == "LoadImm":
+        held[words[0]] = {int(words[1])}
+    elif name == "Copy":
+        held[words[0]] = held[words[1]]
+    elif name == "Load":
+        held[words[0]] = set(locations[int(words[1])])
+    elif name == "Xchg":
+        held[words[1]] = set(locations[int(words[0])])
+    return held

@@ -6,7 +6,7 @@ import itertools
 
 from judges import machine
 from judges.certificate_texts import Certificate, Node
-from judges.certificates import Question, accepted_line, is_better, total
+from judges.certificates import RULES, Question, accepted_line, is_better, total
 from judges.sketches import Mode, empty_sketch
 
 VALUES, NAMES, REGISTERS, SIGNS = (1, 1, 2), "xyz", ("EAX", "EBX"), ("/\\", "\\/")
@@ -214,7 +214,7 @@ class Maker:
         draw.shuffle(seq)
         foreign = draw.sample(self.foreign, len(self.foreign))
         outcomes = [shown for _, shown in seq]
-        trees = [Cover(draw, self.question, rule, outcomes, it).nodes for it in (Mode(judged), Mode(judged, {self.places[gap] for gap in self.set}))]
+        trees = [Cover(draw, self.question, rule, outcomes, it).nodes for it in (Mode(judged, RULES[version]), Mode(judged, RULES[version], {self.places[gap] for gap in self.set}))]
         gap_tree = []
         self.split(gap_tree, [passed for _, passed in foreign], frozenset(), frozenset(), version == 4)
         runs, head = [labels for labels, _ in foreign], (version, self.question.shown, sorted(self.set), total(self.costs, self.set))

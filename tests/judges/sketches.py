@@ -7,6 +7,7 @@ import functools
 import itertools
 
 from judges import machine
+from judges.data_flow import held_values
 
 INITIAL = -1
 READS, WRITES = ("Load", "Xchg"), ("Store", "StoreImm", "Xchg")
@@ -39,12 +40,13 @@ def may_store(instruction, location, value):
 
 
 class Mode:
-    """A program and its machine: the sequential one, or the store buffer machine with some gaps fenced, given as places."""
+    """A program and its machine: the sequential one, or the store buffer machine with some gaps fenced, given as places; and the values that a rule takes:
+    early those that a location may hold, else all of its values."""
 
-    def __init__(self, test, fenced=None):
+    def __init__(self, test, rule, fenced=None):
         self.test, self.fenced = test, fenced or set()
         self.unions = "s" if fenced is None else "lg"
-        self.values = [values_of(test, location) for location in range(len(test.memory))]
+        self.values = held_values(test) if rule == "early" else [values_of(test, location) for location in range(len(test.memory))]
         self.trace = functools.lru_cache(maxsize=None)(self.traced)
 
     def traced(self, t, given):

@@ -9,11 +9,13 @@ import time
 HERE = os.path.dirname(os.path.abspath(__file__))
 with open(os.path.join(HERE, "shown.js"), encoding="utf-8") as file:
     SHOWN = file.read()
-HEADS = ["#", "step", "thread", "instruction", "reads and stores", "still waits", "reaches memory"]
+HEADS = ["#", "step", "thread", "instruction", "what it does", "still waits", "reaches memory"]
 CONTROLS = ("button", "slider", "tab", "tabpanel", "checkbox", "region", "image", "table")
-WIDTHS = (1200, 500, 360)
+SIZES = ((1280, 720), (1920, 1080), (420, 900))
+SOME_STEPS = 6
+BESIDE = 4  # so many threads stand beside the texts
 SILENT = ("Runtime.exceptionThrown", "Log.entryAdded", "Runtime.consoleAPICalled")
-ADDRESS_DELAY = 0.6
+ADDRESS_DELAY = 5  # seconds at most
 
 
 class Wrong(Exception):
@@ -50,8 +52,27 @@ def listed(parts, last):
 
 
 def register_of(text):
-    """The register that a load or an exchange puts its value in."""
-    return next(word for word in text.split(" ", 1)[1].split(",") if word[0] != "[")
+    """The register that a load, an exchange or a move puts its value in, or None."""
+    if text is None or text.split(" ")[0] not in ("MOV", "XCHG"):
+        return None
+    operands = text.split(" ", 1)[1].split(",")
+    return next((word for word in (operands if text.startswith("XCHG") else operands[:1]) if word[0] != "["), None)
+
+
+class Truth:
+    """True, false, or not known yet."""
+
+    def __init__(self, value):
+        self.value = value
+
+    def __and__(self, other):
+        return Truth(False if False in (self.value, other.value) else None if None in (self.value, other.value) else True)
+
+    def __or__(self, other):
+        return ~(~self & ~other)
+
+    def __invert__(self):
+        return Truth(None if self.value is None else not self.value)
 
 
 class Run:
@@ -66,8 +87,72 @@ class Run:
         self.cycle = run["execution"]["cycle"]
         self.states = list(self.all_states())
         self.slots = [max([1] + [len(buffers[thread]) for _, _, buffers in self.states]) for thread in range(len(document["threads"]))]
+        self.sequential = run.get("model") == "sequential"
         if self.gap:
             self.find_gap()
+        self.decided = self.deciding_step()
+
+    def is_written(self, name, i):
+        """Whether a step writes a register or a location."""
+        thread, _, register = name.rpartition(":")
+        reaches = self.steps[i]["reaches"]
+        return bool(reaches) and reaches["location"] == name if not thread \
+            else self.threads[i] == int(thread) and register_of(self.text(i)) == register
+
+    def value(self, name):
+        thread, _, register = name.rpartition(":")
+        names, values = (self.document["registers"][int(thread)], self.states[-1][1][int(thread)]) if thread else \
+            (self.document["locations"], self.states[-1][0])
+        return dict(zip(names, values)).get(register, 0)
+
+    def truth(self, n):
+        """The truth of the condition's formula after n steps, of the values that no later step writes."""
+        def atom(found):
+            name, value = found[0].split("=")
+            comes = any(self.is_written(name, i) for i in range(n, len(self.steps)))
+            return f"Truth({None if comes else self.value(name) == int(value)})"
+        formula = self.document["condition"].split(" ", 1)[1].replace("/\\", "&").replace("\\/", "|")
+        formula = re.sub(r"[^\s()&|]+=\d+", atom, re.sub(r"\btrue\b(?!=)", "Truth(True)", re.sub(r"\bfalse\b(?!=)", "Truth(False)", formula)))
+        return eval(re.sub(r"\bnot\b", "~", formula), {"Truth": Truth}).value
+
+    def deciding_step(self):
+        """After how many steps the condition's truth is known, or None where it is before the first."""
+        found = next(n for n in range(len(self.states)) if self.truth(n) is not None)
+        same(self.truth(len(self.steps)), self.run["meets_condition"], self.where + ": the formula")
+        return found or None
+
+    def jump(self, i):
+        """The label that a step jumps to, or None."""
+        text, number = self.text(i), self.steps[i]["instruction"]
+        if text is None or text[0] != "J" or self.next_instruction(i + 1, self.threads[i]) == number + 1:
+            return None
+        return text.split(" ")[1]
+
+    def next_instruction(self, n, thread):
+        """What a thread executes next after n steps."""
+        coming = (self.steps[i]["instruction"] for i in range(n, len(self.steps)) if self.threads[i] == thread)
+        return next((number for number in coming if number is not None), len(self.document["threads"][thread]["instructions"]))
+
+    def breaks(self):
+        """Whether the run breaks the file's condition, shows what it asks for, or neither: None."""
+        quantifier, meets = self.document["condition"].split(" ")[0], self.run["meets_condition"]
+        return {("~exists", True): "breaks", ("forall", False): "breaks", ("exists", True): "meets"}.get((quantifier, meets))
+
+    def short(self, i):
+        """What a step does, in a few words."""
+        step, thread = self.steps[i], f"P{self.threads[i]}"
+        if step["instruction"] is None:
+            return f"{thread}'s store {assignment(step['reaches'])} reaches memory"
+        if step["reads"]:
+            return f"{thread} reads {assignment(step['reads'])}{' from its buffer' if step['reads']['from'] == 'buffer' else ''}" \
+                + (f" and stores {assignment(step['stores'])}" if step["stores"] else "")
+        if step["stores"]:
+            return f"{thread} stores {assignment(step['stores'])}{'' if step['reaches'] else ' in its buffer'}"
+        return f"{thread} jumps to {self.jump(i)}" if self.jump(i) else f"{thread} executes {self.text(i)}"
+
+    def place(self, n):
+        """What the slider says of a step."""
+        return f"step {n} of {len(self.steps)}: {self.short(n - 1)}" if n else "start"
 
     def all_states(self):
         """Memory, registers and buffers before the first step, and after each one."""
@@ -133,7 +218,7 @@ def check_step(run, n, page):
     memory, former = run.states[n][0], run.states[max(0, n - 1)][0]
     same(page["count"], f"Step {n} of {last}" if n else "Start", where + ": count")
     same(page["slider"], str(n), where + ": slider")
-    same(page["valueText"], f"step {n} of {last}" if n else "start", where + ": the slider's text")
+    same(page["valueText"], run.place(n), where + ": the slider's text")
     reached = step and step["reaches"] and step["reaches"]["location"]
     same(page["memory"], cells(run.document["locations"], memory, former, reached), where + ": memory")
     for thread, column in enumerate(page["threads"]):
@@ -155,16 +240,25 @@ def check_thread(run, n, thread, column):
     number = run.steps[n - 1]["instruction"] if mine else None
     now = [] if number is None else [f"{thread}:{number}"]
     same((column["now"], column["lit"]), (now, now), where + ": instruction")
-    same(column["full"], [assignment(store) for store in run.states[n][2][thread]], where + ": buffer, oldest first")
+    check_buffer(run, n, thread, column)
+    written = register_of(run.text(n - 1)) if mine else None
+    former = run.states[max(0, n - 1)][1][thread]
+    same(column["cells"], cells(run.document["registers"][thread], run.states[n][1][thread], former, written), where + ": registers")
+    executed = [run.steps[i]["instruction"] for i in range(n) if run.threads[i] == thread]
+    passed = [k for k in range(run.next_instruction(n, thread)) if f"{thread}:{k}" not in now]
+    same(column["done"], [f"{thread}:{k}" for k in passed if k in executed], where + ": what is done")
+    same(column["struck"], [f"{thread}:{k}" for k in passed if k not in executed], where + ": what is jumped over is struck out")
+
+
+def check_buffer(run, n, thread, column):
+    """What waits, what came in and what left; nothing in a run of the sequential machine."""
+    where, waiting, former = f"{run.where}, step {n}, P{thread}", run.states[n][2][thread], run.states[max(0, n - 1)][2][thread]
+    same(column["full"], [assignment(store) for store in waiting], where + ": buffer, oldest first")
     bottoms = [slot[3] for slot in column["slots"]]
     same(bottoms, sorted(bottoms, reverse=True), where + ": the oldest store is the lowest")
-    same(len(column["slots"]), run.slots[thread], where + ": slots")
-    loaded = register_of(run.text(n - 1)) if mine and run.steps[n - 1]["reads"] else None
-    former = run.states[max(0, n - 1)][1][thread]
-    same(column["cells"], cells(run.document["registers"][thread], run.states[n][1][thread], former, loaded), where + ": registers")
-    coming = [run.steps[i]["instruction"] for i in range(n, len(run.steps)) if run.threads[i] == thread and run.steps[i]["instruction"] is not None]
-    next_one = coming[0] if coming else len(run.document["threads"][thread]["instructions"])
-    same(column["done"], [f"{thread}:{k}" for k in range(next_one) if f"{thread}:{k}" not in now], where + ": what is done")
+    same(len(column["slots"]), 0 if run.sequential else run.slots[thread], where + ": slots")
+    same(column["came"], [assignment(waiting[-1])] if len(waiting) > len(former) else [], where + ": the store that came")
+    same("".join(column["left"]), assignment(former[0]) if len(waiting) < len(former) else "", where + ": the store that left")
 
 
 def check_words(run, n, said):
@@ -177,12 +271,14 @@ def check_words(run, n, said):
         return
     step, text = run.steps[n - 1], run.text(n - 1)
     right((text or assignment(step["reaches"])) in said, where + ", what")
+    same(re.findall(r"jumps to (\S+)\.", said), [run.jump(n - 1)] if run.jump(n - 1) else [], where + ", where it jumps to")
     for part in ("reads", "stores"):
         right(not step[part] or assignment(step[part]) in said, f"{where}, {part}")
     if step["reads"] and not step["stores"]:
         same("from its own store buffer" in said, step["reads"]["from"] == "buffer", where + ", from where")
     if step["stores"]:
         same("goes into its store buffer" in said, not step["reaches"], where + ", to where")
+    right(not run.sequential or "buffer" not in said, where + ", no buffer")
 
 
 def check_arrows(run, n, page):
@@ -213,13 +309,18 @@ def rows(run):
             does.append(f"reads {assignment(step['reads'])} from {'its buffer' if step['reads']['from'] == 'buffer' else 'memory'}")
         if step["stores"]:
             does.append("stores " + assignment(step["stores"]))
+        if run.jump(i):
+            does.append("jumps to " + run.jump(i))
+        mark = f" ← {run.gap}" if run.gap and i == run.passing else ""
+        waits = [] if run.sequential else [" ".join(map(assignment, step["buffer"])) or "–"]
         yield [str(i + 1), step["label"], f"P{run.threads[i]}", run.text(i) or "–", ", ".join(does) or "–",
-               " ".join(map(assignment, step["buffer"])) or "–", assignment(step["reaches"]) if step["reaches"] else "–"]
+               *waits, (assignment(step["reaches"]) if step["reaches"] else "–") + mark]
 
 
-def place_words(document, gap):
+def place_words(document, gap, more=""):
+    """An instruction with its thread, its gap and its line."""
     thread, number = gap_place(gap)
-    return f"before {document['threads'][thread]['instructions'][number]['text']} of P{thread}"
+    return f"before {document['threads'][thread]['instructions'][number]['text']} of P{thread} (gap {gap}, line {number}{more})"
 
 
 def verdict(run):
@@ -251,30 +352,54 @@ def check_run(run, page):
     document, where = run.document, run.where
     gaps = document["answer"]["set"] if run.gap else document.get("fences", [])
     cost = {gap["gap"]: gap["cost"] for gap in document.get("gaps", [])}
-    tabs = [[f"without the fence {place_words(document, gap)} ({gap})", "true" if gap == run.gap else "false", 0 if gap == run.gap else -1] for gap in gaps]
+    tabs = [[f"P{gap_place(gap)[0]} {gap}", f"without the fence {place_words(document, gap)}", "true" if gap == run.gap else "false",
+             0 if gap == run.gap else -1] for gap in gaps]
     same(page["tabs"], tabs if run.gap else [], where + ": tabs")
     fences = [[gap, f"MFENCE{' left out,' if gap == run.gap else ''}{f' cost {cost[gap]}' if cost else ''}", gap == run.gap, gap] for gap in gaps]
     same(page["fences"], fences, where + ": fences, each before its instruction")
     same(page["programs"], programs(document), where + ": program")
-    same((page["heads"], page["rows"]), (HEADS, list(rows(run))), where + ": table")
+    heads = [head for head in HEADS if not (run.sequential and head == "still waits")]
+    same((page["heads"], page["rows"]), (heads, list(rows(run))), where + ": table")
+    right(not run.sequential or "buffer" not in page["text"], where + ": no buffer on the sequential machine")
     same(page["commands"], [run.command()], where + ": command")
     same(page["pass"], run.passing if run.gap else -1, where + ": the row that passes the gap")
     end = f"step {len(run.steps)}The run ends with {run.outcome} "
     right(page["moments"][-1].startswith(end), where + ": how it ends")
+    check_decision(run, page["moments"])
     if not run.gap:
-        same(len(page["moments"]), 1, where + ": moments")
         said = f"It passes {', '.join(run.run['passed'])}." if run.run["passed"] else "It passes no gap."
-        return right(page["passed"][0].startswith(said), where + ": passed gaps")
+        return same([passed.startswith(said) for passed in page["passed"]], [] if run.sequential else [True], where + ": passed gaps")
+    right(place_words(document, run.gap) in page["title"], where + ": which fence is left out")
     first = f"step {run.passing + 1}P{gap_place(run.gap)[0]} goes on to {run.text(run.passing)} while"
-    right(page["moments"][0].startswith(first), where + ": the first moment")
+    found = [moment for moment in page["moments"] if moment.startswith(first)]
     reads = run.steps[run.passing]["reads"]
-    right(not reads or f"and reads {assignment(reads)}." in page["moments"][0], where + ": what is read there")
+    right(len(found) == 1 and (not reads or f"and reads {assignment(reads)}." in found[0]), where + ": the moment of the gap")
     alone = "condition" in document["answer"]
     said = end + verdict(run) + (document["condition"] if alone else " " + condition_words(document, run.run["meets_condition"]))
     right(page["moments"][-1].startswith(said), where + ": condition")
-    others = [f"{place_words(document, gap)} ({gap}, cost {cost[gap]})" for gap in run.run["passed"] if gap != run.gap]
+    keeps = not alone and run.breaks() is None
+    same("fewer fences may be enough: fencer why --condition LITMUS" in page["moments"][-1], keeps, where + ": whether the condition needs fewer")
+    others = [place_words(document, gap, f", cost {cost[gap]}") for gap in run.run["passed"] if gap != run.gap]
     same(page["also"], [f"A fence {listed(others, ' or ')} would prevent this run too."] if others else [], where + ": other gaps")
     return None
+
+
+def check_decision(run, moments):
+    """The step that breaks the condition, or meets it, is named; where the condition is asked about, the step that decides it."""
+    asked = run.document["command"] == "witness" or "condition" in run.document.get("answer", {})
+    says = {"breaks": f"This breaks the condition {run.document['condition']}.", "meets": f"This meets the condition {run.document['condition']}.",
+            None: f"From here on the formula of the condition is {str(run.run['meets_condition']).lower()}." if asked else None}[run.breaks()]
+    found = [moment for moment in moments[:-1] if says and moment.endswith(says)]
+    same(len(found), 1 if says and run.decided else 0, run.where + ": the step that decides the condition")
+    others = [moment for moment in moments[:-1] if "the condition" in moment and moment not in found]
+    same(others, [], run.where + ": no other step decides the condition")
+    if found:
+        right(re.match(rf"step {run.decided}(?!\d)", found[0]), f"{run.where}: it is step {run.decided}: {found[0]}")
+        reads, reaches = run.steps[run.decided - 1]["reads"], run.steps[run.decided - 1]["reaches"]
+        right(not reads or f"reads {assignment(reads)}" in found[0], run.where + ": what the deciding step reads")
+        right(reads or not reaches or assignment(reaches) in found[0], run.where + ": what reaches memory in the deciding step")
+    numbers = [int(re.match(r"step (\d+)", moment)[1]) for moment in moments]
+    same(numbers, sorted(numbers), run.where + ": the moments are in order")
 
 
 def check_graph(run, page, whole):
@@ -325,12 +450,50 @@ def check_presses(browser, run):
     presses = [(lambda: browser.key("ArrowLeft"), last - 1), (button(1), 0), (button(4), 1), (button(2), 0), (lambda: browser.key("End"), last),
                (lambda: browser.key("Home"), 0), (button(5), last), (lambda: browser.evaluate("document.querySelector('#step').focus()"), last),
                (lambda: browser.key("Home"), 0), (lambda: browser.key("ArrowRight"), 1), (lambda: browser.key("End"), last),
-               (lambda: browser.key("ArrowLeft"), last - 1), (lambda: browser.click("tbody tr:nth-child(2) td"), 2)]
+               (lambda: browser.key("ArrowLeft"), last - 1), (lambda: browser.click("tbody tr:nth-child(2) td"), 2),
+               (lambda: browser.key("ArrowRight"), 3)]
     if run.gap:
         presses.append((lambda: browser.click(".moments button"), run.passing + 1))
     for press, n in presses:
         press()
         check_step(run, n, shown(browser, "stepShown()"))
+    check_hints(browser, run)
+
+
+def check_hints(browser, run):
+    """The slider says what the step is that the mouse is over."""
+    last = len(run.steps)
+    left, top, width, height = browser.evaluate("(({ left, top, width, height }) => [left, top, width, height])(document.querySelector('#step').getBoundingClientRect())")
+    hint = "(bubble => bubble.checkVisibility() ? bubble.textContent : null)(document.querySelector('.bubble'))"
+    for n in (0, 1, last // 2, last):
+        browser.move(left + 8 + (width - 16) * n / last, top + height / 2)
+        same(browser.evaluate(hint), run.place(n), f"{run.where}: what the slider says of step {n}")
+    browser.move(left, top + height + 200)
+    same(browser.evaluate(hint), None, run.where + ": the slider says nothing where the mouse is elsewhere")
+
+
+def check_sizes(browser, run, thorough):
+    """In windows of each size: memory, buffers, registers and the executed instruction are in sight, at every step or at some of them,
+    nothing is cut off, the width is used, and the tabs take few rows."""
+    last = len(run.steps)
+    for width, height in SIZES:
+        browser.resize(width, height)
+        where, threads = f"{run.where} at {width} by {height}", len(run.document["threads"])
+        if width >= 1280 or threads <= BESIDE:
+            same(shown(browser, f"outOfSight({last}, {last if thorough else min(last, SOME_STEPS)})"), [], where + ": in sight")
+        same(shown(browser, "cutOff()"), [], where + ": nothing is cut off")
+        same(shown(browser, "emptyParts()"), [], where + ": the width is used")
+        same(shown(browser, "tabRows()") <= (1 if width >= 1280 else 3), True, where + ": rows of tabs")
+    browser.resize(*SIZES[0])
+
+
+def check_introduction(browser, where):
+    """What the page is about is folded, and unfolds."""
+    reads = "document.querySelector('.about p').checkVisibility()"
+    same(browser.evaluate(reads), False, where + ": the introduction is folded")
+    browser.click(".about summary")
+    same(browser.evaluate(reads), True, where + ": the introduction unfolds")
+    browser.click(".about summary")
 
 
 def check_answer(browser, document):
@@ -359,8 +522,10 @@ def check_address(browser, path, run):
     check_step(run, 2, shown(browser, "stepShown()"))
     same(browser.evaluate("document.querySelectorAll('.token').length"), 0, "no motion on opening")
     browser.key("ArrowLeft")
-    time.sleep(ADDRESS_DELAY)
-    same(browser.evaluate("location.hash"), f"#{run.gap or 'run'}/1", "address")
+    end, wanted = time.time() + ADDRESS_DELAY, f"#{run.gap or 'run'}/1"
+    while browser.evaluate("location.hash") != wanted and time.time() < end:
+        time.sleep(0.05)
+    same(browser.evaluate("location.hash"), wanted, "address")
 
 
 def check_looks(browser, path, run):
@@ -371,8 +536,8 @@ def check_looks(browser, path, run):
         wanted = not calm and bool(run.steps[0]["stores"] or run.steps[0]["reads"])
         same(shown(browser, "tokensOfStep()") > 0, wanted, f"{run.where}: motion, unwanted {calm}")
     for dark in (False, True):
-        for width in WIDTHS:
-            browser.open(path, f"{at}/0", width=width, dark=dark)
+        for width, height in SIZES:
+            browser.open(path, f"{at}/0", width=width, height=height, dark=dark)
             for n in (0, 2, last):
                 browser.evaluate(f"(() => {{ const slider = document.querySelector('#step'); slider.value = {n}; slider.dispatchEvent(new Event('input')); }})()")
                 same(shown(browser, "faintTexts()"), [], f"{run.where}: contrast at {width}, dark {dark}")
@@ -389,12 +554,21 @@ def check_looks(browser, path, run):
 
 def check_play(browser, path):
     browser.open(path, calm=True)
+    step = "document.querySelector('#step').value"
     browser.click(".controls button:nth-of-type(3)")
     time.sleep(2)
-    same(browser.evaluate("document.querySelector('#step').value"), "1", "play")
+    right(browser.evaluate(step) != "0", "play")
     browser.click(".controls button:nth-of-type(3)")
+    paused = browser.evaluate(step)
     time.sleep(2)
-    same(browser.evaluate("document.querySelector('#step').value"), "1", "pause")
+    same(browser.evaluate(step), paused, "pause")
+    for focused in ("body", "#tab0", "#step", ".table"):
+        browser.open(path, calm=True)
+        if focused != "body":
+            browser.evaluate(f"document.querySelector('{focused}').focus()")
+        for wanted in ("⏸ Pause", "▶ Play"):
+            browser.key(" ")
+            same(browser.evaluate("document.querySelector('.controls button:nth-of-type(3)').textContent"), wanted, f"Space at {focused}")
 
 
 def check_silence(browser):
@@ -453,6 +627,10 @@ def check_page(browser, path, document, thorough):
         if run.gap:
             browser.evaluate(f"document.querySelector('#tab{i}').click(), document.activeElement.blur()")
         check_whole_run(browser, run, thorough and i == 0)
+        if i == 0:
+            check_sizes(browser, run, thorough)
+    if runs:
+        check_introduction(browser, document["test"])
     if thorough and len(runs) > 1:
         check_tab_keys(browser, len(runs))
     check_silence(browser)

@@ -18,7 +18,11 @@ const threadShown = thread => ({
   now: found(thread, ".code [aria-current]").map(line => line.dataset.at),
   lit: found(thread, ".code .now").map(line => line.dataset.at),
   done: found(thread, ".code .done").map(line => line.dataset.at),
+  struck: found(thread, ".code .text").filter(text => getComputedStyle(text).textDecorationLine === "line-through")
+    .map(text => text.closest("[data-at]").dataset.at),
   full: textsOf(thread, ".slot.full"),
+  came: textsOf(thread, ".slot.moved"),
+  left: textsOf(thread, ".buffer s"),
   slots: found(thread, ".slot").map(boxOf),
   cells: cellsOf(thread),
   registers: found(thread, ".cell").map(boxOf),
@@ -83,11 +87,10 @@ const graphShown = () => ({
 
 // What is shown of the whole run.
 const pageShown = () => ({
-  title: document.title,
   heading: textOf(document.querySelector("h1")),
   lead: textOf(document.querySelector(".lead")),
   text: textOf(document.querySelector("main")),
-  tabs: found(document, "[role=tab]").map(tab => [textOf(tab), tab.getAttribute("aria-selected"), tab.tabIndex]),
+  tabs: found(document, "[role=tab]").map(tab => [textOf(tab), tab.getAttribute("aria-label"), tab.getAttribute("aria-selected"), tab.tabIndex]),
   panels: found(document, "[role=tabpanel]").length,
   controls: found(document, "input, table").length,
   fences: found(document, ".fence").map(fence =>
@@ -96,6 +99,7 @@ const pageShown = () => ({
   heads: textsOf(document, "th"),
   rows: found(document, "tbody tr").map(row => textsOf(row, "td")),
   pass: found(document, "tbody tr").findIndex(row => row.classList.contains("pass")),
+  title: found(document, ".wrong h2").map(textOf).join(""),
   moments: textsOf(document, ".moments li"),
   also: textsOf(document, ".also"),
   passed: textsOf(document, ".passed"),
@@ -103,6 +107,54 @@ const pageShown = () => ({
   scripts: document.scripts.length,
   foreign: found(document, "main b").filter(bold => !bold.closest(".cell, .cycle")).length + found(document, "main img").length,
 });
+
+// The boxes around an element that scroll.
+function scrollers(element) {
+  const boxes = [];
+  for (let at = element.parentElement; at !== document.body; at = at.parentElement) {
+    boxes.push(...getComputedStyle(at).overflowY === "visible" ? [] : [at]);
+  }
+  return boxes;
+}
+
+// Whether an element lies in the window, and in each of the boxes.
+function isInSight(element, boxes) {
+  const { left, top, right, bottom } = element.getBoundingClientRect();
+  const isIn = box => left >= box.left - 1 && top >= box.top - 1 && right <= box.right + 1 && bottom <= box.bottom + 1;
+  return [...boxes.map(box => box.getBoundingClientRect()), { left: 0, top: 0, right: innerWidth, bottom: innerHeight }].every(isIn);
+}
+
+// Cells, slots and executed instructions that are out of sight, with the step: after each of so many steps of a run.
+function outOfSight(last, steps) {
+  const slider = document.querySelector("#step");
+  const boxes = new Map(found(document, ".cell, .slot, .code li").map(element => [element, scrollers(element)]));
+  const hidden = [];
+  for (let i = 0; i <= steps; i++) {
+    slider.value = Math.round(i * last / steps);
+    slider.dispatchEvent(new Event("input"));
+    hidden.push(...found(document, ".cell, .slot, .code .now").filter(element => !isInSight(element, boxes.get(element)))
+      .map(element => `${slider.value}: ${textOf(element)}`));
+  }
+  return hidden;
+}
+
+// What does not fit in its box or in the window from left to right; the picture of the graph may be wider than its box.
+function cutOff() {
+  const cut = element => element.scrollWidth > element.clientWidth + 1 && getComputedStyle(element).overflowX !== "visible"
+    || element.getBoundingClientRect().right > innerWidth + 1;
+  return found(document, "main *").filter(element => !element.closest("svg, input, .bubble, .split > .scroll") && element.checkVisibility() && cut(element))
+    .map(element => `${element.tagName}.${element.className}`);
+}
+
+// The thirds of the window, from left to right, in which no card stands.
+function emptyParts() {
+  const cards = found(document, ".card").map(card => card.getBoundingClientRect());
+  return [0, 1, 2].filter(part => !cards.some(({ left, right }) => left < innerWidth * (part + 0.4) / 3 && right > innerWidth * (part + 0.6) / 3
+    || left >= innerWidth * part / 3 && right <= innerWidth * (part + 1) / 3));
+}
+
+// In how many rows the tabs stand.
+const tabRows = () => new Set(found(document, "[role=tab]").map(tab => tab.getBoundingClientRect().top)).size;
 
 const luminance = channels => {
   const [red, green, blue] = channels.slice(0, 3).map(value => value / 255)

@@ -20,5 +20,7 @@ pub mod StepsSuffice
 pub mod RunsAreShort
 pub mod RunsLeaveHistories
 pub mod SequentialIsBuffered
+pub mod KnownValues
 pub mod OtherSections
 pub mod RunsAreCandidates
+pub mod SameAccesses

@@ -32,10 +32,10 @@ pub use Rattle.tso_machine.specs.Outcome.{Outcome}
 pub use mathlib.Core.Path.{fun_ext}
 pub use Rattle.candidate_executions.specs.Candidates.{Candidate, EndsWith, HasOutcome, HasShownOutcome, IsCandidate, Writes, access, access_by, trace_of}
 pub use Rattle.candidate_executions.specs.Consistency.{Edge, FromReads, IsAcyclic, IsConsistent, IsCycle, IsOfMode, KeepsOrder, Leads, Precedes, ReadsFrom, Relates, SameThread, WriteOrder}
-pub use Rattle.candidate_executions.specs.Laws.{AKnownCycleIsACycle, AKnownEdgeIsAnEdge, APairKeepsASketch, ASourceKeepsASketch, AValueKeepsASketch, CyclesAreOfAccesses, EachCompletionEndsSo}
-pub use Rattle.candidate_executions.specs.Laws.{EachCompletionHasASettledSource, EachCompletionHasASource, EachCompletionHasAValue, EachCompletionHasAnOrder, EachCompletionHasTheValues, EmptyIsASketch, EveryCandidateCompletesEmpty}
-pub use Rattle.candidate_executions.specs.Laws.{EveryCandidateIsARun, EveryOrderIsARun, EveryRunIsACandidate, EveryRunIsACompletion, EveryRunIsShort, HasItsCandidate, KeptOrderIsTold}
-pub use Rattle.candidate_executions.specs.Laws.{KnownCyclesAreOfAccesses, NoEdgeLeadsIntoInitial, NoKnownEdgeLeadsIntoInitial, OutcomesAreOne, SectionsTellFences, WholeSketchesAreSettled}
+pub use Rattle.candidate_executions.specs.Laws.{AKnownCycleIsACycle, AKnownEdgeIsAnEdge, APairKeepsASketch, ASourceKeepsASketch, AValueKeepsASketch, ConsistentCandidatesReadHeldValues, CyclesAreOfAccesses, EachCompletionEndsSo}
+pub use Rattle.candidate_executions.specs.Laws.{EachCompletionHasASettledSource, EachCompletionHasASource, EachCompletionHasAValue, EachCompletionHasAnOrder, EachCompletionHasTheValues, EachConsistentCompletionHasAHeldValue, EmptyIsASketch, EveryCandidateCompletesEmpty}
+pub use Rattle.candidate_executions.specs.Laws.{EveryCandidateIsARun, EveryOrderIsARun, EveryRunIsACandidate, EveryRunIsACompletion, EveryRunIsShort, HasItsCandidate, HeldValuesAreValues, KeptOrderIsTold}
+pub use Rattle.candidate_executions.specs.Laws.{KnownCyclesAreOfAccesses, NoEdgeLeadsIntoInitial, NoKnownEdgeLeadsIntoInitial, OutcomesAreOne, ReadsHeldValues, SectionsTellFences, WholeSketchesAreSettled}
 pub use Rattle.candidate_executions.specs.Orders.{IsOrder, Steps, counted, execs, flush_of, flushes, followed_union, labels_along, made_at, steps, steps_by, to_ends}
 pub use Rattle.candidate_executions.specs.Paths.{IsFenceOrExchange, IsParted, IsStepOf, LiesBetween, executed, is_access, path, path_of}
 pub use Rattle.candidate_executions.specs.RunCandidates.{ArriveInOrder, Arrives, IsCandidateOf, IsStored, Mark, Origins, ReadsValue, Takes, buffered_marks, buffered_origins, direct_marks}
@@ -45,7 +45,7 @@ pub use Rattle.candidate_executions.specs.Sketches.{Completes, IsBefore, IsConsi
 pub use Rattle.candidate_executions.specs.Sketches.{KnownFromReads, KnownRelates, Sketch, empty_sketch, given_to, next_read, read_by, with_pair, with_source, with_value}
 pub use Rattle.candidate_executions.specs.Settled.{IsOfOther, IsSettled, MayStillWrite, MayStore}
 pub use Rattle.candidate_executions.specs.Traces.{Trace, entered, exchange_of, fenced_gaps, load_of, stopped, store_of, trace, trace_by, traced, with_access}
-pub use Rattle.candidate_executions.specs.Values.{IsKnown, IsValueOf}
+pub use Rattle.candidate_executions.specs.Values.{IsHeldValue, IsKnown, IsValueOf}
 pub use Rattle.candidate_executions.specs.declared.access.Access.{Access}
 pub use Rattle.candidate_executions.specs.declared.event.Event.{Event, TheVariants.Access as At, TheVariants.Initial}
 pub use Rattle.candidate_executions.specs.declared.event.Kind.{Kind}

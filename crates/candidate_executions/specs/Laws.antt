@@ -16,7 +16,7 @@ use Rattle.candidate_executions.specs.Consistency.{KeepsOrder, Edge, IsCycle, Is
 use Rattle.candidate_executions.specs.Orders.{labels_along, IsOrder}
 use Rattle.candidate_executions.specs.RunCandidates.{IsCandidateOf}
 use Rattle.candidate_executions.specs.Paths.{path_of, LiesBetween}
-use Rattle.candidate_executions.specs.Values.{IsValueOf}
+use Rattle.candidate_executions.specs.Values.{IsHeldValue, IsValueOf}
 use Rattle.candidate_executions.specs.Sketches.{Sketch, empty_sketch, given_to, Completes, IsConsistentCompletion, IsSketch, IsSourceOf, IsPair, with_value, with_source, with_pair, next_read, IsWhole, MustEndAs, KnownEdge}
 use Rattle.candidate_executions.specs.Settled.{IsSettled}
 
@@ -159,3 +159,21 @@ EachCompletionHasAnOrder = (p : Listing) (mode : Machine) (k : Sketch) (c : Cand
 abbrev pub EachCompletionEndsSo : Type 0
 EachCompletionEndsSo = (q : Question) (mode : Machine) (k : Sketch) (c : Candidate) (o : Outcome) → JumpForward q.program.threads →
     IsSketch q.program mode k → IsCandidate q.program mode c → Completes k c → MustEndAs q mode k o → HasShownOutcome q mode c o
+
+-- each value that a location may hold is one of its values
+abbrev pub HeldValuesAreValues : Type 0
+HeldValuesAreValues = (p : Listing) (l v : ℕ) → IsHeldValue p l v → IsValueOf p l v
+
+-- each read of the candidate takes a value that its location may hold
+abbrev pub ReadsHeldValues : Listing → Machine → Candidate → Type 0
+ReadsHeldValues p mode c = (e : Event) (x : Access) (v : ℕ) → access p mode c e ≡ Some x → x.read ≡ Some v → IsHeldValue p x.location v
+
+-- the reads of a consistent candidate do
+abbrev pub ConsistentCandidatesReadHeldValues : Type 0
+ConsistentCandidatesReadHeldValues = (p : Listing) (mode : Machine) (c : Candidate) → JumpForward p.threads → IsCandidate p mode c → IsConsistent p mode c →
+    ReadsHeldValues p mode c
+
+-- so each consistent completion gives a read that has no value yet one that its location may hold
+abbrev pub EachConsistentCompletionHasAHeldValue : Type 0
+EachConsistentCompletionHasAHeldValue = (p : Listing) (mode : Machine) (k : Sketch) (c : Candidate) (t l : ℕ) → JumpForward p.threads → IsSketch p mode k →
+    IsConsistentCompletion p mode k c → next_read p mode k t ≡ Some l → (v : ℕ) × IsHeldValue p l v × Completes (with_value k t v) c

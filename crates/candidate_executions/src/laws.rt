@@ -1,6 +1,6 @@
 //! The laws of candidate executions: each function's contract is a theorem, and calling it does
 //! nothing.
-ghost use Rattle.candidate_executions.specs.Laws.{EveryRunIsACandidate, EveryRunIsACompletion, EveryCandidateIsARun, EveryOrderIsARun, EveryRunIsShort, SectionsTellFences, KeptOrderIsTold, NoEdgeLeadsIntoInitial, CyclesAreOfAccesses, EveryCandidateCompletesEmpty, EmptyIsASketch, AValueKeepsASketch, ASourceKeepsASketch, APairKeepsASketch, EachCompletionHasAValue, EachCompletionHasTheValues, EachCompletionHasASource, EachCompletionHasASettledSource, WholeSketchesAreSettled, EachCompletionHasAnOrder, EachCompletionEndsSo, OutcomesAreOne, AKnownEdgeIsAnEdge, AKnownCycleIsACycle, NoKnownEdgeLeadsIntoInitial, KnownCyclesAreOfAccesses};
+ghost use Rattle.candidate_executions.specs.Laws.{EveryRunIsACandidate, EveryRunIsACompletion, EveryCandidateIsARun, EveryOrderIsARun, EveryRunIsShort, SectionsTellFences, KeptOrderIsTold, NoEdgeLeadsIntoInitial, CyclesAreOfAccesses, EveryCandidateCompletesEmpty, EmptyIsASketch, AValueKeepsASketch, ASourceKeepsASketch, APairKeepsASketch, EachCompletionHasAValue, EachCompletionHasTheValues, EachCompletionHasASource, EachCompletionHasASettledSource, WholeSketchesAreSettled, EachCompletionHasAnOrder, EachCompletionEndsSo, OutcomesAreOne, HeldValuesAreValues, ConsistentCandidatesReadHeldValues, EachConsistentCompletionHasAHeldValue, AKnownEdgeIsAnEdge, AKnownCycleIsACycle, NoKnownEdgeLeadsIntoInitial, KnownCyclesAreOfAccesses};
 ghost use Rattle.candidate_executions.specs.StoreBuffering.{StoreBufferingCandidates};
 ghost use Rattle.candidate_executions.specs.ExampleRuns.{RunsShowTheirMarks};
 
@@ -73,6 +73,14 @@ pub fn each_completion_has_chosen()
     ensures settled { EachCompletionHasASettledSource }
     ensures whole { WholeSketchesAreSettled }
     ensures order { EachCompletionHasAnOrder }
+{}
+
+/// The reads of a consistent candidate take values that their locations may hold, each of them one of its
+/// location's values. So a search for runs goes through the held values alone.
+pub fn consistent_candidates_read_held_values()
+    ensures values { HeldValuesAreValues }
+    ensures reads { ConsistentCandidatesReadHeldValues }
+    ensures next { EachConsistentCompletionHasAHeldValue }
 {}
 
 /// What is known of a sketch holds of each of its completions.

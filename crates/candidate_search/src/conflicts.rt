@@ -2,6 +2,7 @@
 use crate::conflict_set::ConflictSet;
 use crate::trail::Trail;
 use candidate_executions::Kind;
+use cert_forest::Rule;
 use event_rows::{Decision, EventGraph, PossibleWrites, each_in, first_numbers, is_in, shifted};
 use thread_traces::is_kept_by;
 
@@ -11,6 +12,7 @@ pub(crate) struct Conflicts<'a> {
     pub(crate) graph: &'a EventGraph,
     pub(crate) trail: &'a Trail,
     pub(crate) writes: &'a PossibleWrites,
+    pub(crate) rule: Rule,
 }
 
 impl Conflicts<'_> {
@@ -160,12 +162,16 @@ impl Conflicts<'_> {
         needed
     }
 
-    /// Which of the found writes thread t has after so many values, and whether it may still write the read's value.
+    /// Which of the found writes thread t has after so many values, and whether it may still write the read's value. What
+    /// the read's own thread writes after it is there in a whole tree alone.
     fn state_after(&self, t: u8, given: u8, read: u8, found: u32) -> (u32, bool) {
         let count = self.trail.accesses_after(t, given);
         let own = shifted(first_numbers(count), self.graph.numbering.start(t));
-        let may = t != self.graph.numbering.thread(read) && self.may_write(t, given, read);
-        (own & found, may)
+        let counts = match self.rule {
+            Rule::Whole => true,
+            Rule::Early => t != self.graph.numbering.thread(read),
+        };
+        (own & found, counts && self.may_write(t, given, read))
     }
 
     /// Whether thread t may still write the read's value after so many values.

@@ -2,17 +2,27 @@
 use crate::orders::{OpenOrder, Wanted, best_order};
 use crate::settled::is_settled;
 use crate::sources::{OpenRead, open_read, reads_initial};
-use crate::values::next_thread;
+use crate::values::{first_thread, next_thread};
+use cert_forest::Rule;
 use event_rows::{Choice, Decision, EventGraph, PossibleWrites, each_in};
 use std::alloc::{AllocError, Global};
 
-/// What is decided next in a graph without a cycle. `None` if nothing is left. `last` has the writes after which one
+/// What a rule decides next in a graph without a cycle. `None` if nothing is left. `last` has the writes after which one
 /// more must come for the graph to end as a known outcome.
 pub(crate) fn next_decision(
     graph: &EventGraph,
     writes: &PossibleWrites,
+    rule: Rule,
     last: u32,
 ) -> Option<Decision> {
+    match (rule, first_thread(graph)) {
+        (Rule::Whole, Some(t)) => Some(Decision::Value(t)),
+        _ => next_of_all(graph, writes, last),
+    }
+}
+
+/// What is decided next of values, sources and orders.
+fn next_of_all(graph: &EventGraph, writes: &PossibleWrites, last: u32) -> Option<Decision> {
     let is_whole = graph.is_whole();
     let read = best_read(graph, writes, is_whole);
     if let Some(OpenRead { read, open: 0, .. }) = read {

@@ -3,37 +3,40 @@
 use crate::conflict_set::ConflictSet;
 use crate::conflicts::Conflicts;
 use crate::decisions::{choices_of, next_decision};
+use crate::filling::{Branches, Stretch};
 use crate::known_ends::KnownEnds;
 use crate::known_outcomes::KnownOutcomes;
 use crate::made_run::shown_run;
+use crate::proposing_search::ProposingSearch;
+use crate::sources::read_of_nobody;
 use crate::trail::Trail;
 use crate::truths::known_truth;
 use candidate_executions::Kind;
-use cert_forest::{AccessId, Node, push_cycle, push_known, take_out};
-use event_rows::{
-    Choice, Decision, EventGraph, Mark, PossibleWrites, is_in, reached_from, round_through,
-};
+use cert_forest::{AccessId, Node, Rule, push_cycle, push_known, take_out};
+use event_rows::{Choice, Decision, EventGraph, Mark, is_in, reached_from, round_through};
 use run_maker::MadeRun;
-use std::alloc::{AllocError, Global};
+use std::alloc::AllocError;
 use tso_machine::Mode;
-use tso_program::{Formula, Outcome, Program, Shown};
+use tso_program::{Formula, Outcome, Shown};
 
-/// How many steps a search goes at most.
-const MOST_STEPS: u64 = 1 << 25;
+/// More steps than any machine makes: memory ends a search before.
+const MOST_STEPS: u64 = 1 << 56;
 
 /// How many choices a search makes one after another at most: no tree that is judged is deeper.
 const MOST_CHOICES: usize = 590;
 
 /// A node of the tree whose children are searched.
 #[derive(Drop)]
-struct Frame {
-    choices: Vec<Choice>,
+pub(crate) struct Frame {
+    pub(crate) choices: Vec<Choice>,
     /// How many choices are taken.
-    taken: usize,
+    pub(crate) taken: usize,
     /// The place of its node.
-    root: usize,
+    pub(crate) root: usize,
     /// The place of the child that is searched.
-    start: usize,
+    pub(crate) start: usize,
+    /// In a whole tree, the branches that come with the values of the node.
+    pub(crate) branches: Option<Branches>,
     /// What the children rest on so far.
     conflicts: ConflictSet,
 }
@@ -45,13 +48,13 @@ pub(crate) enum SearchEnd {
     Covered,
     /// This run has an outcome that is not in the list.
     New(MadeRun),
-    /// It has gone as far as it may.
+    /// It has no tree to go on with.
     Stuck,
 }
 
 /// What is found where a search stands.
 #[derive(Drop)]
-enum Found {
+pub(crate) enum Found {
     /// A node, whose next child is to be searched.
     Node,
     /// A tree, which rests on these choices.
@@ -63,33 +66,30 @@ enum Found {
 /// far.
 #[derive(Drop)]
 pub(crate) struct TreeSearch<'a> {
-    alloc: Global,
-    shown: &'a Shown,
-    writes: PossibleWrites,
+    pub(crate) asked: &'a ProposingSearch<'a>,
     graph: EventGraph,
     trail: Trail,
     ends: KnownEnds,
-    frames: Vec<Frame>,
+    pub(crate) frames: Vec<Frame>,
     /// For each of these the graph at its node.
     marks: Vec<Mark>,
     pub(crate) outcomes: KnownOutcomes<'a>,
     pub(crate) nodes: Vec<Node>,
+    /// In a whole tree, what stands below each end of the thread whose node was the last to be done, where that is the same.
+    pub(crate) below: Option<Stretch>,
 }
 
 impl<'a> TreeSearch<'a> {
     /// A search in which nothing is chosen.
     pub(crate) fn new(
-        alloc: Global,
-        program: &Program,
-        shown: &'a Shown,
+        asked: &'a ProposingSearch<'a>,
         mode: Mode,
         outcomes: KnownOutcomes<'a>,
     ) -> Result<TreeSearch<'a>, AllocError> {
-        let graph = EventGraph::new(alloc, program, mode)?;
+        let alloc = asked.alloc;
+        let graph = EventGraph::new(alloc, asked.program, mode)?;
         Ok(TreeSearch {
-            alloc,
-            shown,
-            writes: PossibleWrites::new(alloc, program)?,
+            asked,
             trail: Trail::new(&graph),
             graph,
             ends: KnownEnds::none(alloc),
@@ -97,6 +97,7 @@ impl<'a> TreeSearch<'a> {
             marks: Vec::new(alloc),
             outcomes,
             nodes: Vec::new(alloc),
+            below: None,
         })
     }
 
@@ -107,7 +108,7 @@ impl<'a> TreeSearch<'a> {
         for _ in 0..MOST_STEPS {
             found = match found {
                 Found::Node => self.next_child()?,
-                Found::Tree(conflicts) => self.after_child(conflicts),
+                Found::Tree(conflicts) => self.after_child(conflicts)?,
                 Found::Ended(end) => return Ok(end),
             };
         }
@@ -130,27 +131,32 @@ impl<'a> TreeSearch<'a> {
         }
     }
 
-    /// Takes the last choice back, after which a tree rests on these. A tree that does not rest on the choice takes the
-    /// place of the node; else the node's next child comes, or the node is done.
-    fn after_child(&mut self, own: ConflictSet) -> Found {
+    /// Takes the last choice back, after which a tree rests on these. Where it rests on the choice the node's next child
+    /// comes, or the node is done.
+    fn after_child(&mut self, own: ConflictSet) -> Result<Found, AllocError> {
         let Some(mut frame) = self.frames.pop() else {
-            return Found::Ended(SearchEnd::Covered);
+            return Ok(Found::Ended(SearchEnd::Covered));
         };
         let depth = self.frames.len().min(MOST_CHOICES) as u16;
         if let Some(mark) = self.marks.last() {
             self.graph.take_back_values(mark);
         }
         if !own.has(depth) {
-            self.lift(frame.root, frame.start);
-            return self.done(own);
+            if let Some(found) = self.without_choice(&mut frame, own)? {
+                return Ok(found);
+            }
         }
         frame.conflicts.add_all(&own);
         if frame.taken < frame.choices.len() {
-            return self.again_at(frame);
+            if let Some(branches) = frame.branches {
+                frame.branches = Some(self.next_branches(branches));
+            }
+            return Ok(self.again_at(frame));
         }
         let mut conflicts = frame.conflicts;
         conflicts.remove(depth);
-        self.done(conflicts)
+        self.below = None;
+        Ok(self.done(conflicts))
     }
 
     /// Goes back to a node for its next child. After its last child the node above goes back.
@@ -165,13 +171,13 @@ impl<'a> TreeSearch<'a> {
     }
 
     /// The last node is done: its tree rests on these choices.
-    fn done(&mut self, conflicts: ConflictSet) -> Found {
+    pub(crate) fn done(&mut self, conflicts: ConflictSet) -> Found {
         self.marks.truncate(self.frames.len());
         Found::Tree(conflicts)
     }
 
     /// Puts the tree from a place on in the place of the node that stands before it.
-    fn lift(&mut self, root: usize, start: usize) {
+    pub(crate) fn lift(&mut self, root: usize, start: usize) {
         if root <= start && start <= self.nodes.len() {
             take_out(&mut self.nodes, root, start);
         }
@@ -182,7 +188,12 @@ impl<'a> TreeSearch<'a> {
         self.graph.choose(choice);
         self.trail.put(depth, &self.graph, choice);
         match choice {
-            Choice::Value { .. } => self.find_ends()?,
+            Choice::Value { .. } => {
+                if let Some(read) = self.lost_read() {
+                    return self.open_node(Decision::Source(read));
+                }
+                self.find_ends()?;
+            }
             Choice::Source { read: at, .. } | Choice::Order { second: at, .. } => {
                 if self.graph.rows.has_round() {
                     return self.cycle(at);
@@ -190,6 +201,14 @@ impl<'a> TreeSearch<'a> {
             }
         }
         self.visit()
+    }
+
+    /// In a whole tree, once each read has its value: a read of a value that nobody writes.
+    fn lost_read(&self) -> Option<u8> {
+        match self.asked.rule {
+            Rule::Whole if self.graph.is_whole() => read_of_nobody(&self.graph),
+            _ => None,
+        }
     }
 
     /// What is there: a leaf, or a node, which is put after the others.
@@ -204,7 +223,7 @@ impl<'a> TreeSearch<'a> {
         } else {
             0
         };
-        match next_decision(&self.graph, &self.writes, last) {
+        match next_decision(&self.graph, &self.asked.writes, self.asked.rule, last) {
             Some(decision) => self.open_node(decision),
             None => self.new_end(),
         }
@@ -212,7 +231,7 @@ impl<'a> TreeSearch<'a> {
 
     /// Puts the node of a decision after the others.
     fn open_node(&mut self, decision: Decision) -> Result<Found, AllocError> {
-        let choices = choices_of(self.alloc, &self.graph, &self.writes, decision)?;
+        let choices = choices_of(self.asked.alloc, &self.graph, &self.asked.writes, decision)?;
         let conflicts = self.conflicts().of_node(decision);
         let root = self.nodes.len();
         let node = self.node_of(decision, choices.len());
@@ -229,11 +248,13 @@ impl<'a> TreeSearch<'a> {
         };
         let mark = self.graph.mark(thread);
         self.marks.push(mark)?;
+        let branches = self.branches_of(decision);
         self.frames.push(Frame {
             choices,
             taken: 0,
             root,
             start: root,
+            branches,
             conflicts,
         })?;
         Ok(Found::Node)
@@ -268,7 +289,7 @@ impl<'a> TreeSearch<'a> {
         is_whole: bool,
         followed: u32,
     ) -> Result<Option<ConflictSet>, AllocError> {
-        if let Shown::Truth(formula) = self.shown {
+        if let Shown::Truth(formula) = self.asked.shown {
             return self.told_leaf(formula, is_whole, followed);
         }
         if !is_whole {
@@ -290,10 +311,10 @@ impl<'a> TreeSearch<'a> {
         is_whole: bool,
         followed: u32,
     ) -> Result<Option<ConflictSet>, AllocError> {
-        let Some(truth) = known_truth(self.alloc, &self.graph, formula)? else {
+        let Some(truth) = known_truth(self.asked.alloc, &self.graph, formula)? else {
             return Ok(None);
         };
-        let told = Outcome::told(self.alloc, truth)?;
+        let told = Outcome::told(self.asked.alloc, truth)?;
         let Some(number) = self.outcomes.number_of(&told) else {
             return Ok(None);
         };
@@ -307,7 +328,7 @@ impl<'a> TreeSearch<'a> {
 
     /// Of a complete graph whose outcome is new: an open list takes it, and the graph has its leaf.
     fn new_end(&mut self) -> Result<Found, AllocError> {
-        let Some(run) = shown_run(self.alloc, &self.graph, self.shown)? else {
+        let Some(run) = shown_run(self.asked.alloc, &self.graph, self.asked.shown)? else {
             return Ok(Found::Ended(SearchEnd::Stuck));
         };
         let KnownOutcomes::Open(found) = &mut self.outcomes else {
@@ -315,11 +336,12 @@ impl<'a> TreeSearch<'a> {
         };
         let number = found.add(run)?;
         if let Some(outcome) = found.outcomes.last() {
-            self.ends.add(&self.graph, self.shown, number, outcome)?;
+            self.ends
+                .add(&self.graph, self.asked.shown, number, outcome)?;
         }
         push_known(&mut self.nodes, u64::from(number))?;
         let followed = self.graph.rows.followed;
-        Ok(Found::Tree(match (self.shown, self.ends.must_end(followed)) {
+        Ok(Found::Tree(match (self.asked.shown, self.ends.must_end(followed)) {
             (Shown::Truth(_), _) => self.conflicts().of_end(followed),
             (_, Some(end)) => self.conflicts().of_end(end.others),
             (_, None) => ConflictSet::all(),
@@ -328,12 +350,16 @@ impl<'a> TreeSearch<'a> {
 
     /// Once each read has its value, the known outcomes as which the graph may end.
     fn find_ends(&mut self) -> Result<(), AllocError> {
-        if let Shown::Truth(_) = self.shown {
+        if let Shown::Truth(_) = self.asked.shown {
             return Ok(());
         }
         if self.graph.is_whole() {
-            self.ends
-                .find(self.alloc, &self.graph, self.shown, &self.outcomes)?;
+            self.ends.find(
+                self.asked.alloc,
+                &self.graph,
+                self.asked.shown,
+                &self.outcomes,
+            )?;
         }
         Ok(())
     }
@@ -341,8 +367,8 @@ impl<'a> TreeSearch<'a> {
     /// Puts the leaf of a cycle through an access after the other nodes.
     fn cycle(&mut self, at: u8) -> Result<Found, AllocError> {
         let kind = self.union_around(at);
-        let round = round_through(self.alloc, self.graph.rows.of_union(kind), at)?;
-        let mut accesses = Vec::with_capacity(self.alloc, round.len())?;
+        let round = round_through(self.asked.alloc, self.graph.rows.of_union(kind), at)?;
+        let mut accesses = Vec::with_capacity(self.asked.alloc, round.len())?;
         for number in &round {
             accesses.push(self.access_id(*number))?;
         }
@@ -366,7 +392,8 @@ impl<'a> TreeSearch<'a> {
         Conflicts {
             graph: &self.graph,
             trail: &self.trail,
-            writes: &self.writes,
+            writes: &self.asked.writes,
+            rule: self.asked.rule,
         }
     }
 }

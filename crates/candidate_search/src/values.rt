@@ -26,6 +26,16 @@ struct Weight {
     open: u32,
 }
 
+/// The first thread whose next read has no value. `None` if each read has its value.
+pub(crate) fn first_thread(graph: &EventGraph) -> Option<u8> {
+    for t in 0..graph.thread_count() {
+        if graph.state(t).next.is_some() {
+            return Some(t);
+        }
+    }
+    None
+}
+
 /// The thread whose next read gets a value next. `None` if each read has its value.
 pub(crate) fn next_thread(graph: &EventGraph, writes: &PossibleWrites) -> Option<u8> {
     let waiting = waiting_reads(graph, writes);

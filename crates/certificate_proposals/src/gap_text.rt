@@ -1,12 +1,16 @@
 //! The words of a gap tree: regions are bounded by runs, or split by one.
 use crate::hunt::Hunt;
 use crate::lines::{push_number, push_word};
+use cert_forest::Rule;
 use gap_sets::{GapSet, Region};
 use hitting_sets::{excludes, lower_bound};
 use std::alloc::AllocError;
 
-/// How many nodes a gap tree has at most.
-const MOST_NODES: usize = 1 << 20;
+/// How many nodes a gap tree without bounds by runs has at most.
+const MOST_SPLIT: u64 = 1 << 14;
+
+/// More nodes than any machine holds: memory ends a tree with bounds by runs before.
+const MOST_BOUNDED: u64 = 1 << 56;
 
 /// A run by its number, and the gaps that it passes and that the sets of a region may have.
 #[derive(Clone, Copy)]
@@ -15,12 +19,16 @@ struct OpenRun {
     gaps: GapSet,
 }
 
-/// The words of a gap tree that is to show that no better set than this serves. `None` if none is found.
+/// The words of a gap tree that is to show that no better set than this serves. `None` if it would have too many nodes.
 pub(crate) fn gap_words(hunt: &Hunt<'_>, set: &GapSet) -> Result<Option<Vec<u8>>, AllocError> {
     let mut words = Vec::new(hunt.alloc);
     let mut open = Vec::new(hunt.alloc);
     open.push(Region::all())?;
-    for _ in 0..MOST_NODES {
+    let most = match hunt.rule {
+        Rule::Whole => MOST_SPLIT,
+        Rule::Early => MOST_BOUNDED,
+    };
+    for _ in 0..most {
         let Some(region) = open.pop() else {
             return Ok(Some(words));
         };
@@ -33,8 +41,35 @@ pub(crate) fn gap_words(hunt: &Hunt<'_>, set: &GapSet) -> Result<Option<Vec<u8>>
     Ok(None)
 }
 
-/// Adds a bound by runs, where they show that no set of the region is better. Whether they do.
+/// Adds a bound, where it shows that no set of the region is better. Whether it does.
 fn push_bound(
+    hunt: &Hunt<'_>,
+    set: &GapSet,
+    region: &Region,
+    words: &mut Vec<u8>,
+) -> Result<bool, AllocError> {
+    match hunt.rule {
+        Rule::Whole => push_bound_alone(hunt, set, region, words),
+        Rule::Early => push_bound_by_runs(hunt, set, region, words),
+    }
+}
+
+/// Adds a bound by what the region's sets must have, where that is not better. Whether it is not.
+fn push_bound_alone(
+    hunt: &Hunt<'_>,
+    set: &GapSet,
+    region: &Region,
+    words: &mut Vec<u8>,
+) -> Result<bool, AllocError> {
+    if hunt.costs.better(&region.must, set) {
+        return Ok(false);
+    }
+    push_word(words, b"B")?;
+    Ok(true)
+}
+
+/// Adds a bound by runs, where they show that no set of the region is better. Whether they do.
+fn push_bound_by_runs(
     hunt: &Hunt<'_>,
     set: &GapSet,
     region: &Region,

@@ -1,19 +1,21 @@
 //! The hunt for a best set of gaps that serves.
-use candidate_search::{Proposal, propose_verdict};
-use cert_forest::{Node, Runs};
-use gap_sets::{Costs, GapSet};
+use candidate_search::{Proposal, ProposingSearch};
+use cert_forest::{Node, Rule, Runs};
+use gap_sets::{Costs, GapSet, MAX_GAPS};
 use hitting_sets::best_hitting_set;
 use std::alloc::{AllocError, Global};
 use tso_machine::{Label, Model, ReplayFault, replay_shown};
 use tso_program::{Outcome, Program, Shown};
 
-/// How many sets are asked about at most.
-const MOST_QUESTIONS: usize = 4_096;
+/// More questions than any machine asks: memory ends a hunt before.
+const MOST_QUESTIONS: u64 = 1 << 56;
 
 /// Foreign runs that are known, and the gaps that each of them passes.
 #[derive(Drop)]
 pub(crate) struct Hunt<'a> {
     pub(crate) alloc: Global,
+    /// The rule of the certificate's trees.
+    pub(crate) rule: Rule,
     pub(crate) program: &'a Program,
     pub(crate) shown: &'a Shown,
     pub(crate) costs: &'a Costs,
@@ -30,12 +32,16 @@ pub(crate) struct ServedSet {
 
 impl Hunt<'_> {
     /// Asks about the best set that meets each known run, until one serves. `None` if the search gives up.
-    pub(crate) fn served(&mut self, outcomes: &[Outcome]) -> Result<Option<ServedSet>, AllocError> {
+    pub(crate) fn served(
+        &mut self,
+        search: &ProposingSearch<'_>,
+        outcomes: &[Outcome],
+    ) -> Result<Option<ServedSet>, AllocError> {
         for _ in 0..MOST_QUESTIONS {
             let Some(set) = best_hitting_set(self.alloc, self.costs, &self.passed)? else {
                 return Ok(None);
             };
-            match propose_verdict(self.alloc, self.program, self.shown, &set, outcomes)? {
+            match search.verdict(&set, outcomes)? {
                 Some(Proposal::Serves(nodes)) => return Ok(Some(ServedSet { set, nodes })),
                 Some(Proposal::Foreign(labels)) => {
                     if !self.learn(&labels, &set)? {
@@ -46,6 +52,35 @@ impl Hunt<'_> {
             }
         }
         Ok(None)
+    }
+
+    /// Asks of each gap of a set that no known run passes alone about all gaps but this one, and learns a run where they do
+    /// not serve: it passes this gap alone, so each set that serves has it.
+    pub(crate) fn learn_needed(
+        &mut self,
+        search: &ProposingSearch<'_>,
+        outcomes: &[Outcome],
+        set: &GapSet,
+    ) -> Result<(), AllocError> {
+        for gap in set.iter() {
+            if !self.is_needed(gap) {
+                let others = all_but(self.program, gap);
+                if let Some(Proposal::Foreign(labels)) = search.verdict(&others, outcomes)? {
+                    self.learn(&labels, &others)?;
+                }
+            }
+        }
+        Ok(())
+    }
+
+    /// Whether a known run passes this gap alone.
+    fn is_needed(&self, gap: u8) -> bool {
+        for passed in &self.passed {
+            if passed.has(gap) && passed.len() == 1 {
+                return true;
+            }
+        }
+        false
     }
 
     /// Adds a run, which is to pass no gap of a set. Whether it is one.
@@ -67,4 +102,15 @@ impl Hunt<'_> {
         self.passed.push(passed)?;
         Ok(true)
     }
+}
+
+/// All gaps of a program but one.
+fn all_but(program: &Program, gap: u8) -> GapSet {
+    let mut others = GapSet::empty();
+    for other in 0..program.gaps() {
+        if other != gap && other < MAX_GAPS {
+            others = others.with(other);
+        }
+    }
+    others
 }

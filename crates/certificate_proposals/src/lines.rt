@@ -1,15 +1,23 @@
 //! The lines of a certificate, and their words.
-use cert_forest::{Runs, Shows};
+use cert_forest::{Rule, Runs, Shows};
 use gap_sets::GapSet;
 use itoa::Buffer;
 use std::alloc::AllocError;
 use tso_machine::Label;
 use tso_program::{Names, REGISTER_PLACES, REGISTERS};
 
-/// A space, and a number.
+/// A space, and a number. Most have one digit.
 pub(crate) fn push_number(out: &mut Vec<u8>, number: u64) -> Result<(), AllocError> {
+    if number < 10 {
+        return out.extend_from_slice(&[b' ', digit(number)]);
+    }
     out.push(b' ')?;
     push_digits(out, number)
+}
+
+/// The number's one digit.
+fn digit(number: u64) -> u8 {
+    b'0' + (number % 10) as u8
 }
 
 fn push_digits(out: &mut Vec<u8>, number: u64) -> Result<(), AllocError> {
@@ -25,21 +33,37 @@ pub(crate) fn push_word(out: &mut Vec<u8>, word: &[u8]) -> Result<(), AllocError
 
 /// A space, and two numbers with a point between.
 pub(crate) fn push_pair(out: &mut Vec<u8>, first: u8, second: u8) -> Result<(), AllocError> {
+    if first < 10 && second < 10 {
+        let (first, second) = (digit(u64::from(first)), digit(u64::from(second)));
+        return out.extend_from_slice(&[b' ', first, b'.', second]);
+    }
     push_number(out, u64::from(first))?;
     out.push(b'.')?;
     push_digits(out, u64::from(second))
 }
 
-/// The two lines at the front.
-pub(crate) fn push_head(out: &mut Vec<u8>, shows: &Shows) -> Result<(), AllocError> {
-    out.extend_from_slice(b"FENCECERT 4\nshown")?;
-    match shows {
-        Shows::All => push_word(out, b"all")?,
-        Shows::Only(names) => push_names(out, names)?,
-        Shows::Condition => push_word(out, b"condition")?,
+/// The line of the version, which the rule of the trees decides, and that of what is shown. Version 1 has none, and shows
+/// all.
+pub(crate) fn push_head(out: &mut Vec<u8>, rule: Rule, shows: &Shows) -> Result<(), AllocError> {
+    out.extend_from_slice(b"FENCECERT")?;
+    match (rule, shows) {
+        (Rule::Whole, Shows::All) => push_number(out, 1)?,
+        (Rule::Whole, _) => push_shown(out, 2, shows)?,
+        (Rule::Early, _) => push_shown(out, 4, shows)?,
     }
     out.push(b'\n')?;
     Ok(())
+}
+
+/// A version, and on the next line what is shown.
+fn push_shown(out: &mut Vec<u8>, version: u64, shows: &Shows) -> Result<(), AllocError> {
+    push_number(out, version)?;
+    out.extend_from_slice(b"\nshown")?;
+    match shows {
+        Shows::All => push_word(out, b"all"),
+        Shows::Only(names) => push_names(out, names),
+        Shows::Condition => push_word(out, b"condition"),
+    }
 }
 
 fn push_names(out: &mut Vec<u8>, names: &Names) -> Result<(), AllocError> {

@@ -1,16 +1,46 @@
-//! For which programs an answer is proposed before one is searched for over whole trees.
+//! By which rule a certificate is proposed.
 
+use cert_forest::Rule;
 use std::alloc::{AllocError, Global};
 use thread_traces::{Combinations, trace_combinations};
 use tso_program::Program;
 
-/// The most combinations of traces of a program that is not large.
-const MOST_WHOLE: u64 = 16;
+/// The most combinations of traces of a program whose certificate is not proposed, but searched for.
+const MOST_SEARCHED: u64 = 16;
 
-/// Whether a program has so many combinations of traces that an early tree is sought before a whole one.
+/// The most combinations of traces of a program whose trees are whole, where no rule is asked for.
+const MOST_WHOLE: u64 = 1_000;
+
+/// Whether a program has so many combinations of traces that what answers it is proposed first.
 pub fn is_large(alloc: Global, program: &Program) -> Result<bool, AllocError> {
-    match trace_combinations(alloc, program)? {
-        Combinations::Exactly(count) => Ok(count > MOST_WHOLE),
-        Combinations::AtLeast(_) => Ok(true),
+    Ok(is_over(trace_combinations(alloc, program)?, MOST_SEARCHED))
+}
+
+/// The rule by which a program's certificate is proposed: the one that is asked for, or one by the program's size. `None`
+/// if none is proposed.
+pub fn proposed_rule(
+    alloc: Global,
+    program: &Program,
+    asked: Option<Rule>,
+) -> Result<Option<Rule>, AllocError> {
+    let combinations = trace_combinations(alloc, program)?;
+    let is_large = is_over(combinations, MOST_SEARCHED);
+    Ok(match asked {
+        Some(Rule::Early) => Some(Rule::Early),
+        Some(Rule::Whole) | None if !is_large => None,
+        Some(Rule::Whole) => Some(Rule::Whole),
+        None => Some(if is_over(combinations, MOST_WHOLE) {
+            Rule::Early
+        } else {
+            Rule::Whole
+        }),
+    })
+}
+
+/// Whether there are more combinations than that, or too many to be counted.
+fn is_over(combinations: Combinations, most: u64) -> bool {
+    match combinations {
+        Combinations::Exactly(count) => count > most,
+        Combinations::AtLeast(_) => true,
     }
 }

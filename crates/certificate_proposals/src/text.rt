@@ -3,40 +3,62 @@ use crate::cover_text::push_cover;
 use crate::gap_text::gap_words;
 use crate::hunt::{Hunt, ServedSet};
 use crate::lines::{push_head, push_runs, push_set};
-use candidate_search::{ProposedOutcomes, propose_outcomes};
-use cert_forest::{Runs, Shows};
+use candidate_search::{ProposedOutcomes, ProposingSearch};
+use cert_forest::{Rule, Runs, Shows};
 use gap_sets::Costs;
 use live_registers::without_dead_loads;
 use std::alloc::{AllocError, Global};
 use tso_machine::Mode;
 use tso_program::{Program, Shown};
 
-/// The text of a certificate of version 4 for a program, what is shown of its outcomes and the costs of its gaps, which
-/// nobody vouches for. `None` where the search gives up. Its trees are those of the program without its dead loads, whose
-/// runs are the program's, label by label.
+/// The text of a certificate for a program, what is shown of its outcomes and the costs of its gaps, which nobody vouches
+/// for. Whole trees are those of a certificate of version 1 or 2, early ones of version 4. `None` where the search gives
+/// up.
 pub fn propose(
     alloc: Global,
+    rule: Rule,
     program: &Program,
     shown: &Shown,
     costs: &Costs,
 ) -> Result<Option<Vec<u8>>, AllocError> {
-    let slim = without_dead_loads(alloc, program, shown)?;
-    let mode = Mode::Sequential;
-    let Some(sequential) = propose_outcomes(alloc, &slim, shown, mode)? else {
+    match rule {
+        Rule::Whole => text_over(alloc, rule, program, shown, costs),
+        Rule::Early => {
+            let slim = without_dead_loads(alloc, program, shown)?;
+            text_over(alloc, rule, &slim, shown, costs)
+        }
+    }
+}
+
+/// The text of a certificate whose trees are those of this program. Without its dead loads a program has the same runs,
+/// label by label.
+fn text_over(
+    alloc: Global,
+    rule: Rule,
+    program: &Program,
+    shown: &Shown,
+    costs: &Costs,
+) -> Result<Option<Vec<u8>>, AllocError> {
+    let search = ProposingSearch::new(alloc, rule, program, shown)?;
+    let Some(sequential) = search.outcomes(Mode::Sequential)? else {
         return Ok(None);
     };
     let mut hunt = Hunt {
         alloc,
-        program: &slim,
+        rule,
+        program,
         shown,
         costs,
         runs: Runs::new(alloc),
         passed: Vec::new(alloc),
     };
-    match hunt.served(&sequential.outcomes)? {
-        Some(served) => text_of(&hunt, &sequential, &served),
-        None => Ok(None),
+    let Some(served) = hunt.served(&search, &sequential.outcomes)? else {
+        return Ok(None);
+    };
+    if let Rule::Whole = rule {
+        hunt.learn_needed(&search, &sequential.outcomes, &served.set)?;
     }
+    text_of(&hunt, &sequential, &served)
 }
 
 /// The text of what a hunt has found. `None` if no gap tree is found.
@@ -49,7 +71,7 @@ fn text_of(
         return Ok(None);
     };
     let mut out = Vec::new(hunt.alloc);
-    push_head(&mut out, &Shows::of(hunt.shown))?;
+    push_head(&mut out, hunt.rule, &Shows::of(hunt.shown))?;
     push_set(&mut out, &served.set, hunt.costs.total(&served.set))?;
     push_runs(&mut out, b"seq", &sequential.runs)?;
     push_cover(&mut out, b"tree", &sequential.nodes)?;

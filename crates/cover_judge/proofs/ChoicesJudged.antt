@@ -7,6 +7,7 @@ use Rattle.std.proofs.lemmas.List.Elements.{All-cons, All-map, All-nil, All-cont
 use Rattle.cert_forest.specs.Machine as machine
 use Rattle.candidate_executions.specs.Events.{ComesBefore}
 use Rattle.program_sketches.specs.Choices as choices
+use Rattle.tree_laws.proofs.RuleValues.{is_value}
 use Rattle.cover_judge.specs.declared.choices.Choices.{Choices}
 use Rattle.tree_laws.specs.declared.choice.Choice.TheVariants as choice
 use Rattle.tree_laws.specs.declared.choice.OpenChoice.TheVariants as left
@@ -45,7 +46,7 @@ module _ (rule : Rule) (s : ProgramSketch) where
   values_can : (t : ℕ) (cs : List Choice) → AreValueChoicesBy rule s.program (mode_in s) s.chosen t cs → CanChooseEach s cs
   values_can t cs are = record {
     each = subst (All (CanChoose s)) (sym are.each) (All-map (CanChoose s) (choice.Value t) are.values
-        (All-weaker (Contains are.values) (λ v. CanChoose s (choice.Value t v)) (λ v here. (are.next.location, are.next.next, (are.next.exact v).0 here)) are.values (All-contains_itself are.values)));
+        (All-weaker (Contains are.values) (λ v. CanChoose s (choice.Value t v)) (λ v here. (are.next.location, are.next.next, is_value rule s.program are.next.location v ((are.next.exact v).0 here))) are.values (All-contains_itself are.values)));
   }
 
   -- and each source of a read that has none

@@ -4,5 +4,6 @@ pub mod ChoiceMarks
 pub mod Paths
 pub mod CoverDefects
 pub mod Judged
+pub mod RuleValues
 -- words of the crates below, passed on
 pub use Rattle.candidate_executions.specs.Sketches

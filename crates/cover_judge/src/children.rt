@@ -4,6 +4,7 @@ ghost use Rattle.cert_forest.specs.Nodes.{first_tree};
 ghost use Rattle.cover_judge.specs.Choices.{CanChoose, CanChooseEach};
 ghost use Rattle.cover_judge.specs.ChoiceLists.{choices_in};
 ghost use Rattle.cover_judge.specs.Judged.{IfWrong, IsBelow, IsValidAfter, IsWrongAt, AreValidAfter, IsWrongChild, AreValidFor, IsWrongFor};
+ghost use Rattle.cover_judge.specs.RuleValues.{AreListsBy};
 ghost use Rattle.tree_laws.specs.CoverTrees.{sketch_with};
 
 use crate::choice_mark::{choose, take_back};
@@ -24,13 +25,14 @@ impl CoverJudge<'_> {
         walk: &mut Walk<'_>,
         sketch: &mut RowlessSketch,
     ) -> Result<(), NodeFault>
-        requires { count ≤ length walk.old }
+        requires many { count ≤ length walk.old }
+        requires lists { AreListsBy self.now.rule sketch.old.program self.now.lists.now }
         ensures kept { sketch.new ≡ sketch.old }
         ensures after { OnOk result (walk.new ≡ drop count walk.old) }
         ensures valid { OnOk result (AreValidFor self.now.rule self.now.shown.now self.now.outcomes.now sketch.old next (take count walk.old)) }
         ensures wrong { IfErr result (IfWrong (IsWrongFor self.now.rule self.now.shown.now self.now.outcomes.now sketch.old next (take count walk.old))) }
     {
-        let choices = so_many_choices(self.alloc, self.rule, next, count, sketch)?;
+        let choices = so_many_choices(self.alloc, self.rule, self.lists, next, count, sketch)?;
         self.judge_each(&choices, walk, sketch)
     }
 
@@ -43,6 +45,7 @@ impl CoverJudge<'_> {
         sketch: &mut RowlessSketch,
     ) -> Result<(), NodeFault>
         requires can { CanChooseEach sketch.old (choices_in choices.now) }
+        requires lists { AreListsBy self.now.rule sketch.old.program self.now.lists.now }
         requires as_many { length (choices_in choices.now) ≤ length walk.old }
         ensures kept { sketch.new ≡ sketch.old }
         ensures after { OnOk result (walk.new ≡ drop (length (choices_in choices.now)) walk.old) }
@@ -67,6 +70,7 @@ impl CoverJudge<'_> {
         sketch: &mut RowlessSketch,
     ) -> Result<(), NodeFault>
         requires can { CanChoose sketch.old choice }
+        requires lists { AreListsBy self.now.rule sketch.old.program self.now.lists.now }
         requires some { 0 < length walk.old }
         ensures kept { sketch.new ≡ sketch.old }
         ensures after { OnOk result (walk.new ≡ drop 1 walk.old) }

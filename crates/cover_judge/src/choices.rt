@@ -8,9 +8,11 @@ ghost use Rattle.cover_judge.specs.Choices.{AreChoicesOfBy};
 ghost use Rattle.cover_judge.specs.ChoiceLists.{AreFreeSources, choices_in};
 ghost use Rattle.cover_judge.specs.CoverDefects.{HasNotSoMany};
 ghost use Rattle.cover_judge.specs.Judged.{IfWrong, IsAtRoot};
+ghost use Rattle.cover_judge.specs.RuleValues.{AreListsBy};
 
 use crate::allowed::{allows_order, allows_source};
 use crate::fault::NodeFault;
+use crate::values::values_by;
 use candidate_executions::Event;
 use cert_forest::AccessId;
 use rowless_sketches::{RowlessSketch, SharedValues};
@@ -64,15 +66,17 @@ impl Choices {
 pub(crate) fn so_many_choices(
     alloc: Global,
     rule: Rule,
+    lists: &[SharedValues],
     next: OpenChoice,
     count: u32,
     sketch: &RowlessSketch,
 ) -> Result<Choices, NodeFault>
+    requires lists { AreListsBy rule sketch.now.program lists.now }
     ensures choices { IfOk result (λ choices. AreChoicesOfBy rule sketch.now next (choices_in choices)) }
     ensures many { IfOk result (λ choices. count ≡ length (choices_in choices)) }
     ensures wrong { IfErr result (IfWrong (IsAtRoot (HasNotSoMany rule sketch.now.program (mode_in sketch.now) sketch.now.chosen next count))) }
 {
-    let Some(choices) = open_choices(alloc, rule, next, count, sketch)? else {
+    let Some(choices) = open_choices(alloc, rule, lists, next, count, sketch)? else {
         return Err(NodeFault::at_root(alloc));
     };
     if choices.len() != count as usize {
@@ -86,10 +90,12 @@ pub(crate) fn so_many_choices(
 fn open_choices(
     alloc: Global,
     rule: Rule,
+    lists: &[SharedValues],
     next: OpenChoice,
     count: u32,
     sketch: &RowlessSketch,
 ) -> Result<Option<Choices>, AllocError>
+    requires lists { AreListsBy rule sketch.now.program lists.now }
     ensures { IfOk result (λ found. MatchOption found ((choices : List the_choice.Choice) → AreChoicesOfBy rule sketch.now next choices → ⊥) (λ choices. AreChoicesOfBy rule sketch.now next (choices_in choices))) }
 {
     match next {
@@ -97,7 +103,7 @@ fn open_choices(
             let Some(location) = sketch.next_read(thread) else {
                 return Ok(None);
             };
-            let values = sketch.values_for(location)?;
+            let values = values_by(rule, lists, sketch, location)?;
             Ok(Some(Choices::Values(thread, values)))
         }
         OpenChoice::Source(read) => {

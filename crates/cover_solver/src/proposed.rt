@@ -10,7 +10,7 @@ ghost use Rattle.cover_solver.specs.Sought.{question_of, machine_of};
 
 use crate::outcome_list::OutcomeList;
 use crate::tree_nodes::are_trees;
-use candidate_search::{ProposedOutcomes, propose_outcomes};
+use candidate_search::{ProposedOutcomes, ProposingSearch};
 use cert_forest::{Node, Runs, Walk};
 use cover_judge::{NodeFault, RowlessSketch, judge};
 use dataflow_laws::{dead_loads_keep_outcomes, dead_loads_keep_runs, dropped_loads_keep_gaps};
@@ -61,8 +61,8 @@ impl Sought<'_> {
         ensures runs { IfOk result (λ found. IfSome found (λ list. AreRunsOf (question_of self.now) (machine_of self.now) list.runs list.outcomes.items)) }
         ensures exact { IfOk result (λ found. IfSome found (λ list. (o : Outcome) → Contains list.outcomes.items o ↔ AllowsShown (question_of self.now) (machine_of self.now) o)) }
     {
-        let Some(proposed) = propose_outcomes(self.alloc, self.program, self.shown, self.mode)?
-        else {
+        let search = ProposingSearch::new(self.alloc, Rule::Early, self.program, self.shown)?;
+        let Some(proposed) = search.outcomes(self.mode)? else {
             return Ok(None);
         };
         let ProposedOutcomes { runs, nodes, .. } = proposed;

@@ -1,10 +1,10 @@
-//! The values of each location, and which of them each thread may still write from an instruction on.
+//! The values that reads of each location take, and which of them each thread may still write from an instruction on.
 use std::alloc::{AllocError, Global};
-use thread_traces::{SharedValues, value_lists};
+use thread_traces::SharedValues;
 use tso_program::{Instr, MAX_LOCATIONS, MAX_THREADS, Program};
 
-/// The values that each location may hold, ascending, and for each of them and each thread the last instruction that may
-/// write it there.
+/// The values that reads of each location take, ascending, and for each of them and each thread the last instruction that
+/// may write it there.
 #[derive(Drop)]
 pub struct PossibleWrites {
     lists: Vec<SharedValues>,
@@ -16,9 +16,12 @@ pub struct PossibleWrites {
 }
 
 impl PossibleWrites {
-    /// Those of a program.
-    pub fn new(alloc: Global, program: &Program) -> Result<PossibleWrites, AllocError> {
-        let lists = value_lists(alloc, program)?;
+    /// Those of a program, by the values of each location.
+    pub fn new(
+        alloc: Global,
+        program: &Program,
+        lists: Vec<SharedValues>,
+    ) -> Result<PossibleWrites, AllocError> {
         let mut starts = [0; MAX_LOCATIONS];
         let mut ends = Vec::new(alloc);
         for (location, list) in lists.iter().enumerate() {

@@ -2,7 +2,7 @@
 pub use Rattle.std.proofs.Common.{Bool, Contains, Global, IsSome, IsTrue, List, MatchOption, None, Option, Some, Vec, [], ap, arith, drop, false, get_or, inl, inr, length, map, not, refl, rules, set}
 pub use Rattle.std.proofs.Common.{slice_get, subst, suc, sym, take, true, zero, ℕ, ◌++◌, ◌+◌, ◌<◌, ◌↔◌, ◌∙◌, ◌∷◌, ◌≡◌, ◌≢◌, ◌≤◌, ◌⊎◌}
 pub use Rattle.std.proofs.lemmas.Bool.{cases_eq, cases_lt}
-pub use Rattle.std.proofs.lemmas.List.{get_or-set_other, get_or-set_same, get_or_append_left, get_or_push, length-set, length_push, take_all, take_more}
+pub use Rattle.std.proofs.lemmas.List.{get_or-set_other, get_or-set_same, get_or_append_left, get_or_push, length-set, take_all, take_more}
 pub use Rattle.std.proofs.lemmas.List.Elements.{Contains-append_left, Contains-get_or, Contains-push, Contains-push_cases}
 pub use Rattle.std.proofs.lemmas.List.FromFn.{get_or-map-range_with_len, length-map-range_with_len}
 pub use Rattle.std.proofs.lemmas.Option.{MatchOption-at_none, get_or_from_slice_get, same_Some, slice_get-get_or, slice_get_past, slice_get_read, slice_get_within}
@@ -16,8 +16,8 @@ pub use Rattle.candidate_executions.proofs.Orders.Lists.{first_is_here, first_or
 pub use Rattle.candidate_executions.specs.Candidates.{IsAccess, Writes}
 pub use Rattle.candidate_executions.specs.Consistency.{IsCycle, IsOfMode, Leads}
 pub use Rattle.candidate_executions.specs.Events.{ComesBefore}
-pub use Rattle.candidate_executions.specs.Sketches.{EndsInValues, IsBefore, IsKnownCycle, IsPair, IsSourceOf, IsWhole, KnownAtom, KnownEdge, KnownEdgeOfMode, KnownRelates, MayBeLast, MustEndAs}
-pub use Rattle.candidate_executions.specs.Sketches.{given_to, with_pair, with_source}
+pub use Rattle.candidate_executions.specs.Sketches.{EndsInValues, IsBefore, IsKnownCycle, IsPair, IsSourceOf, IsWhole, KnownAtom, KnownEdge, KnownEdgeOfMode, KnownRelates, MustEndAs}
+pub use Rattle.candidate_executions.specs.Sketches.{given_to}
 pub use Rattle.candidate_executions.specs.Values.{IsValueOf}
 pub use Rattle.candidate_executions.specs.declared.access.Access.{Access}
 pub use Rattle.candidate_executions.specs.declared.event.Event.{Event, TheVariants.Access as At, TheVariants.Initial}
@@ -26,11 +26,11 @@ pub use Rattle.program_sketches.proofs.BranchesCounted.{few_sources, few_values}
 pub use Rattle.program_sketches.proofs.ChoicesCounted.{choices_few, events, events_has, few_accesses}
 pub use Rattle.program_sketches.proofs.Chosen.{has_source_by}
 pub use Rattle.known_edges.proofs.Found.{cycle_of_accesses, none_fenced, none_sequential}
-pub use Rattle.program_sketches.proofs.Lawful.{made_more, more_kept, more_parts, new_kept, new_kept_by, new_parts, none_chosen, none_in, unchosen}
+pub use Rattle.program_sketches.proofs.Lawful.{more_kept, more_parts, new_kept_by, none_chosen, none_in, unchosen}
 pub use Rattle.program_sketches.proofs.Lookups.{each_more, none_by, on_err_by}
 pub use Rattle.known_edges.proofs.Numbered.{access_number, at_numbers, chosen_numbers, contained, courses_few, courses_short, later_test, never_last, number_access}
 pub use Rattle.program_sketches.proofs.Traced.{access_same, ends_whole, is_access}
-pub use Rattle.known_edges.proofs.Numbered.{number_exact, number_own, ordered_numbers, rows_of_kind, written_test}
+pub use Rattle.known_edges.proofs.Numbered.{number_exact, number_own, ordered_numbers, rows_of_kind}
 pub use Rattle.program_sketches.proofs.Traced.{whole_ends}
 pub use Rattle.known_edges.proofs.RowsKept.{begun, later_empty}
 pub use Rattle.program_sketches.proofs.TracesKept.{reads_there, six_registers}
@@ -41,8 +41,8 @@ pub use Rattle.program_sketches.specs.ProgramSketches.{ProgramSketch, access_in,
 pub use Rattle.program_sketches.specs.TracedAccesses.{EachEnds, IsOfThreads, accesses_at, traced_access}
 pub use Rattle.known_edges.specs.Rows.{AreAccesses, HasWrites, IsRepresented, IsRowOf, IsWriteAt, NumberedTraces, union_rows}
 pub use Rattle.program_sketches.specs.Sizes.{HaveAllRegisters}
-pub use Rattle.program_sketches.specs.Writes.{HasLater, IsLastWith, IsWritten, WritesTo}
-pub use Rattle.rowless_sketches.proofs.Ends.{ends_only, in_values, last_by, of_values, registers_shown}
+pub use Rattle.program_sketches.specs.Writes.{HasLater, IsLastWith, WritesTo}
+pub use Rattle.rowless_sketches.proofs.Ends.{ends_only, in_values, of_values, registers_shown}
 pub use Rattle.rowless_sketches.specs.Completions.{EachRunCompletes, IsEdgeOfEach, IsRefuted, MustEndSo, NeedNotEnd}
 pub use Rattle.rowless_sketches.specs.Endings.{EndsSo, HasEnds, IsOwn, SketchMayEndWith, final_registers}
 pub use Rattle.rowless_sketches.specs.Knowledge.{IsKnownTruth, Knows}

@@ -16,4 +16,3 @@ pub mod Located
 pub mod Written
 pub mod RowsKept
 pub mod Rounds
-pub mod Closed

@@ -1,11 +1,11 @@
 -- Accesses by number: what the rows of a sketch say of its events.
 use Rattle.known_edges.proofs.Vocabulary.{◌≡◌, ◌↔◌, ℕ, Bool, IsTrue, List, [], Option, Some, None, Contains, slice_get, get_or, length, refl, sym, ap, ◌∙◌, subst, inl, inr, ◌≤◌, arith, option_map_or, slice_get_within, slice_get-get_or, get_or_from_slice_get}
 use Rattle.known_edges.proofs.Vocabulary.{same_Some, IsIn, RowHas, MAX_THREADS, MAX_INSTRUCTIONS, Listing, Access, Event, Initial, At, Kind, ComesBefore, IsOfMode, Mode, Sequential, Fenced, ThreadTrace, machine_of_mode, ProgramSketch, mode_in}
-use Rattle.known_edges.proofs.Vocabulary.{access_in, view_of, HasValuesFirst, KeepsTraces, IsInitialWrite, accesses_at, IsOfThreads, AreAccesses, FitRow, AreRowsOf, HasWrites, IsRowOf, IsWriteAt, main_kind, union_rows, some_value, of_some}
+use Rattle.known_edges.proofs.Vocabulary.{access_in, view_of, HasValuesFirst, KeepsTraces, IsInitialWrite, accesses_at, IsOfThreads, AreAccesses, FitRow, AreRowsOf, HasWrites, main_kind, union_rows, of_some}
 use Rattle.known_edges.proofs.Vocabulary.{slice_index, Writes, IsAccess, IsWhole, given_to, IsOrdered}
 use Rattle.candidate_executions.specs.declared.event.Kind.TheVariants as union
 use Rattle.program_sketches.proofs.Traced.{is_access, access_same}
-use Rattle.program_sketches.specs.Writes.{HasLater, IsLastWith, IsWritten}
+use Rattle.program_sketches.specs.Writes.{HasLater, IsLastWith}
 use Rattle.program_sketches.proofs.{ChoicesCounted.few_accesses}
 use Rattle.known_edges.proofs.Connected.{HasNumber}
 use Rattle.program_sketches.proofs.BranchesCounted.{not_before_itself}
@@ -89,23 +89,6 @@ module _ (p : Listing) (mode : Mode) (thread_traces : List ThreadTrace) (sources
     λ (z, chosen).
         let (k, at_k) = (chosen_numbers events first all x z chosen).1 in
         test.1 (k, (at_numbers events (λ d e. Contains pairs (d, e)) later d k x z rows at at_k).1 chosen),
-  )
-
-  -- an access that writes the location
-  write_at : (l : ℕ) (e : Event) → IsWriteAt thread_traces l e → IsWritten s l
-  write_at l (Initial m) (y, a, q, w) = absurd (cc)
-  write_at l (At t i) (y, a, q, w) =
-      let (v, r) = some_value y.written w in
-      (t, (i, (v, (y, sym (access_same p mode thread_traces sources pairs kept (At t i) (slice_get_within _ i y a)) ∙ a, q, r))))
-
-  -- the row of a location's writes has a number where some access writes the location
-  pub written_test : (events : List Event) (row l : ℕ) (b : Bool) → AreAccesses thread_traces events → IsRowOf events (IsWriteAt thread_traces l) row → (IsTrue b ↔ ((k : ℕ) × IsIn row k)) → IsTrue b ↔ IsWritten s l
-  written_test events row l b accesses is_row test = (
-    λ h. (let (k, there) = test.0 h in let (x, at, write) = (is_row k).0 there in write_at l x write),
-    λ (t, (i, (v, w))).
-        let there = (is_access p mode thread_traces sources pairs kept (At t i)).0 (slice_get_within _ i w.0 w.1) in
-        let (k, at) = number_of events (At t i) ((accesses.exact (At t i)).1 there) in
-        test.1 (k, (is_row k).1 (At t i, at, (w.0, access_same p mode thread_traces sources pairs kept (At t i) there ∙ w.1, w.2, of_some w.0.written v w.3))),
   )
 
   -- an access outside the row of the writes is the last write of no location

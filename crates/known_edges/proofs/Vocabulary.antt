@@ -1,6 +1,6 @@
 -- What many proofs of this crate speak of, imported once.
 pub use Rattle.std.proofs.Common.{Bool, Contains, IfSome, IsSome, IsTrue, List, None, Option, Some, [], add-one, ap, arith, drop, drop-cons, false, get_or, inl, inr, length}
-pub use Rattle.std.proofs.Common.{length-set, refl, set, slice_get, subst, suc, sym, take, true, zero, ℕ, ◌++◌, ◌+◌, ◌<◌, ◌↔◌, ◌∙◌, ◌∷◌, ◌≡◌, ◌≢◌, ◌≤◌, ◌⊎◌}
+pub use Rattle.std.proofs.Common.{length-set, refl, set, slice_get, subst, suc, sym, true, zero, ℕ, ◌++◌, ◌+◌, ◌<◌, ◌↔◌, ◌∙◌, ◌∷◌, ◌≡◌, ◌≢◌, ◌≤◌, ◌⊎◌}
 pub use Rattle.std.proofs.lemmas.Bool.{cases_eq, cases_lt}
 pub use Rattle.std.proofs.lemmas.List.{get_or-set_other, get_or-set_same, get_or_past, length_push}
 pub use Rattle.std.proofs.lemmas.List.Elements.{Contains-append_left, Contains-get_or, Contains-push, Contains-push_cases}
@@ -10,22 +10,22 @@ pub use Rattle.std.specs.List.{AllPairs}
 pub use Rattle.std.specs.Option.{option_map_or}
 pub use Rattle.std.specs.Prelude.{slice_index}
 pub use Rattle.bit_rows.proofs.Bits.{none_in_zero}
-pub use Rattle.bit_rows.proofs.Written.{are_connected, connected, zeros_are_empty}
+pub use Rattle.bit_rows.proofs.Written.{zeros_are_empty}
 pub use Rattle.bit_rows.specs.Rows.{AreConnected, HasRound, IsIn, IsTransitive, Reaches, RowHas, RowsLead}
 pub use Rattle.bit_rows.specs.declared.row.TheConstants.{ROW_BITS}
-pub use Rattle.candidate_executions.proofs.Orders.Lists.{get_cases, get_set_other, get_set_same, get_some, some_value}
+pub use Rattle.candidate_executions.proofs.Orders.Lists.{get_cases, get_set_other, get_set_same, get_some}
 pub use Rattle.candidate_executions.specs.Candidates.{IsAccess, Writes}
 pub use Rattle.candidate_executions.specs.Consistency.{IsCycle, IsOfMode, KeepsOrder, Leads, Precedes, SameThread}
 pub use Rattle.candidate_executions.specs.Events.{ComesBefore}
-pub use Rattle.candidate_executions.specs.Sketches.{IsBefore, IsKnownCycle, IsWhole, KnownEdgeOfMode, KnownRelates, given_to, next_read, with_pair}
+pub use Rattle.candidate_executions.specs.Sketches.{IsBefore, IsKnownCycle, IsWhole, KnownEdgeOfMode, KnownRelates, given_to, with_pair}
 pub use Rattle.candidate_executions.specs.Sketches.{with_source}
 pub use Rattle.candidate_executions.specs.Traces.{Trace, entered, exchange_of, fenced_gaps, load_of, store_of, trace, traced, with_access}
 pub use Rattle.candidate_executions.specs.declared.access.Access.{Access}
 pub use Rattle.candidate_executions.specs.declared.event.Event.{Event, TheVariants.Access as At, TheVariants.Initial}
 pub use Rattle.candidate_executions.specs.declared.event.Kind.{Kind}
 pub use Rattle.gap_sets.specs.Gaps.{SetOfGaps}
-pub use Rattle.thread_traces.proofs.Accesses.{IsGrown, below_is, grown_none, later, none_past_by}
-pub use Rattle.thread_traces.proofs.KnownParts.{not_by, of_some, yes}
+pub use Rattle.thread_traces.proofs.Accesses.{IsGrown, below_is, grown_none, later}
+pub use Rattle.thread_traces.proofs.KnownParts.{not_by, of_some}
 pub use Rattle.known_edges.specs.ThreadOrder.{IsLaterIn}
 pub use Rattle.thread_traces.specs.declared.thread_trace.ThreadTrace.{ThreadTrace}
 pub use Rattle.tso_machine.specs.Modes.{machine_of_mode}
@@ -40,11 +40,11 @@ pub use Rattle.tso_program.specs.declared.limits.TheConstants.{MAX_INSTRUCTIONS,
 pub use Rattle.tso_program.specs.declared.listing.Listing.{Listing}
 pub use Rattle.program_sketches.specs.Choices.{IsOrdered, MayFollow, MayRead}
 pub use Rattle.program_sketches.specs.Kept.{HasValuesFirst, IsLawful, KeepsTraces, view_of}
-pub use Rattle.program_sketches.specs.Known.{HasCycle, HasNoCycle, IsInitialWrite, OrderPart, SourcePart}
-pub use Rattle.program_sketches.specs.ProgramSketches.{ProgramSketch, access_in, mode_in, trace_in, with_chosen}
+pub use Rattle.program_sketches.specs.Known.{HasNoCycle, IsInitialWrite, OrderPart, SourcePart}
+pub use Rattle.program_sketches.specs.ProgramSketches.{ProgramSketch, access_in, mode_in, with_chosen}
 pub use Rattle.known_edges.specs.Rounds.{AreRelated, GoesOnIn, HaveEvents, IsRound}
 pub use Rattle.program_sketches.specs.TracedAccesses.{EachEnds}
-pub use Rattle.known_edges.specs.Rows.{AreAccesses, AreBeyond, AreCounts, AreNumbered, AreOfSketch, AreOrderRows, AreRowsOf, AreSourceRows, AreStarts, AreWriteRows, ClosesOnce, ClosesTwice}
+pub use Rattle.known_edges.specs.Rows.{AreAccesses, AreBeyond, AreCounts, AreNumbered, AreOfSketch, AreOrderRows, AreRowsOf, AreSourceRows, AreStarts, AreWriteRows}
 pub use Rattle.program_sketches.specs.TracedAccesses.{IsOfThreads}
 pub use Rattle.known_edges.specs.Rows.{FitRow, HasOrder, HasWrites, HaveLocations, InOrder, IsAfter, IsEarly, IsRepresented, IsRowOf, IsWriteAt, KeepsTraceNumbers, NumberedTraces}
 pub use Rattle.program_sketches.specs.TracedAccesses.{accesses_at, traced_access}

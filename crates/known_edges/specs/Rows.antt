@@ -1,7 +1,7 @@
 -- Accesses by number, and what is kept of them in rows.
 use Rattle.std.specs.Prelude.{◌≡◌, ◌≢◌, ◌↔◌, ◌⊎◌, ◌+◌, ◌<◌, ◌≤◌, ℕ, Bool, IsTrue, List, Some, IsSome, slice_get, slice_index, length, Contains}
 use Rattle.std.specs.List.{AllPairs}
-use Rattle.bit_rows.specs.Rows.{IsIn, RowHas, AreConnected, HasRound}
+use Rattle.bit_rows.specs.Rows.{IsIn, RowHas}
 use Rattle.tso_program.specs.declared.listing.Listing.{Listing}
 use Rattle.candidate_executions.specs.declared.access.Access.{Access}
 use Rattle.candidate_executions.specs.declared.event.Event.{Event, TheVariants.Initial, TheVariants.Access as At}
@@ -157,14 +157,3 @@ pub record AreOrderRows (events : List Event) (sources : List (Event × Event)) 
   pub after : IsRowOf events (λ e. e ≡ second) rows.after
   pub readers : IsRowOf events (ReadsBut sources first second) rows.readers
   pub earlier : (k : ℕ) → IsIn rows.earlier k ↔ (IsIn rows.before k ⊎ IsIn rows.readers k)
-
--- whether the rows of the global union, which sequential mode has not, have a round once one row is connected to another
-abbrev pub ClosesOnce : Mode → List ℕ → ℕ → ℕ → Bool → Type 0
-ClosesOnce Sequential global from to closes = IsTrue closes ↔ HasRound global
-ClosesOnce (Fenced gaps) global from to closes = (rows : List ℕ) × AreConnected global from to rows × (IsTrue closes ↔ HasRound rows)
-
--- and once that one is connected to a third
-abbrev pub ClosesTwice : Mode → List ℕ → ℕ → ℕ → ℕ → Bool → Type 0
-ClosesTwice Sequential global from through to closes = IsTrue closes ↔ HasRound global
-ClosesTwice (Fenced gaps) global from through to closes =
-    (rows more : List ℕ) × AreConnected global from through rows × AreConnected rows through to more × (IsTrue closes ↔ HasRound more)

@@ -1,12 +1,11 @@
 //! The known edges in rows, and what a choice adds to them.
-ghost use Rattle.std.specs.Prelude.{◌≡◌, ◌↔◌, ◌≤◌, [], ◌∷◌, ◌++◌, IsTrue, List, length};
+ghost use Rattle.std.specs.Prelude.{◌≡◌, ◌≤◌, [], ◌∷◌, ◌++◌, List, length};
 ghost use Rattle.bit_rows.specs.declared.row.TheConstants.{ROW_BITS};
 ghost use Rattle.tso_program.specs.declared.listing.Listing.{Listing};
 ghost use Rattle.candidate_executions.specs.declared.event.Event.{Event};
 ghost use Rattle.program_sketches.specs.Kept.{view_of};
 ghost use Rattle.program_sketches.specs.Choices.{MayRead, MayFollow};
-ghost use Rattle.program_sketches.specs.Known.{HasCycle};
-ghost use Rattle.known_edges.specs.Rows.{union_rows, IsAlike, AreSourceRows, AreOrderRows, IsRepresented, ClosesOnce, ClosesTwice};
+ghost use Rattle.known_edges.specs.Rows.{union_rows, IsAlike, AreSourceRows, AreOrderRows, IsRepresented};
 
 use crate::access_rows::{if_far, if_fenced, readers_of, writes_after};
 use crate::numbered_traces::Traces;
@@ -98,45 +97,6 @@ impl EdgeRows {
             .connect(if_fenced(*mode, rows.reader), rows.after);
     }
 
-    /// Whether a path of known edges would lead back to where it began if these edges were made.
-    pub fn closes_source(&self, mode: &Mode, traces: &Traces, read: Event, source: Event) -> bool
-        requires few { length traces.now.events ≤ ROW_BITS }
-        requires alike { IsAlike traces.now.events self.now.later }
-        ensures { (p : Listing) (sources pairs : List (Event × Event)) → IsRepresented p mode.now traces.now.thread_traces traces.now.events sources pairs self.now.later self.now.main self.now.global
-            → MayRead (view_of p mode.now traces.now.thread_traces sources pairs) read source
-            → IsTrue result ↔ HasCycle (view_of p mode.now traces.now.thread_traces (sources ++ (read, source) ∷ []) pairs) }
-    {
-        let rows = self.rows_of_source(traces, read, source);
-        let (reader, after) = (rows.reader, rows.after);
-        if self.main.closes_twice(rows.written, reader, reader, after) {
-            return true;
-        }
-        let far = if_far(source, read, rows.written);
-        self.global_closes_twice(mode, far, reader, after)
-    }
-
-    /// Whether the global union would have a path back to where it began if the first row were connected
-    /// to the second, and that to the third. Sequential mode has no global union.
-    fn global_closes_twice(&self, mode: &Mode, far: u32, reader: u32, after: u32) -> bool
-        ensures { ClosesTwice mode.now self.now.global far reader after result }
-    {
-        match mode {
-            Mode::Sequential => self.global.has_round(),
-            Mode::Fenced(_) => self.global.closes_twice(far, reader, reader, after),
-        }
-    }
-
-    /// Whether the global union would have a path back to where it began if the first row were connected to the
-    /// second. Sequential mode has no global union.
-    fn global_closes(&self, mode: &Mode, from: u32, to: u32) -> bool
-        ensures { ClosesOnce mode.now self.now.global from to result }
-    {
-        match mode {
-            Mode::Sequential => self.global.has_round(),
-            Mode::Fenced(_) => self.global.closes(from, to),
-        }
-    }
-
     /// The edges of an order of two writes: from the first, and from the reads that have it as their
     /// source, to the second.
     pub fn connect_order(
@@ -157,27 +117,6 @@ impl EdgeRows {
         self.main.connect(rows.earlier, rows.after);
         self.global
             .connect(if_fenced(*mode, rows.earlier), rows.after);
-    }
-
-    /// Whether a path of known edges would lead back to where it began if these edges were made.
-    pub fn closes_order(
-        &self,
-        mode: &Mode,
-        traces: &Traces,
-        sources: &[(Event, Event)],
-        first: Event,
-        second: Event,
-    ) -> bool
-        requires { length traces.now.events ≤ ROW_BITS }
-        ensures { (p : Listing) (pairs : List (Event × Event)) → IsRepresented p mode.now traces.now.thread_traces traces.now.events sources.now pairs self.now.later self.now.main self.now.global
-            → MayFollow (view_of p mode.now traces.now.thread_traces sources.now pairs) first second
-            → IsTrue result ↔ HasCycle (view_of p mode.now traces.now.thread_traces sources.now (pairs ++ (first, second) ∷ [])) }
-    {
-        let rows = rows_of_order(traces, sources, first, second);
-        if self.main.closes(rows.earlier, rows.after) {
-            return true;
-        }
-        self.global_closes(mode, rows.earlier, rows.after)
     }
 }
 

@@ -6,8 +6,7 @@
 //!
 //! Begin with `in_order`, `Traces` and `EdgeRows`. Free to change: how a number is found (`numbered_traces.rt`),
 //! what paths are kept, and which round is found (`round.rt`). Relied on: rows have exactly the known edges of the
-//! mode's unions between accesses, whichever choice was made last; whether a choice would close a cycle is
-//! answered without making it; a round has no event twice.
+//! mode's unions between accesses, whichever choice was made last; a round has no event twice.
 #![tactic(auto)]
 
 mod access_rows;

@@ -80,22 +80,6 @@ impl Traces {
         })
     }
 
-    /// Equal traces that share nothing with these.
-    pub fn apart(&self, alloc: Global) -> Result<Traces, AllocError>
-        ensures { IfOk result (λ other. other ≡ self.now) }
-    {
-        let thread_traces = each_apart(alloc, self.thread_traces.as_slice())?;
-        let events = Vec::from_slice(alloc, self.events.as_slice())?;
-        Ok(Traces {
-            thread_traces,
-            events,
-            whole: self.whole,
-            starts: self.starts,
-            counts: self.counts,
-            written: self.written,
-        })
-    }
-
     /// What the threads do.
     pub fn thread_traces(&self) -> &[SharedTrace]
         ensures { result.now ≡ self.now.thread_traces }
@@ -203,17 +187,6 @@ fn joined_all(rows: &[u32]) -> u32
         all = joined(all, *row);
     }
     all
-}
-
-/// Equal traces, which share nothing with these.
-fn each_apart(alloc: Global, thread_traces: &[SharedTrace]) -> Result<Vec<SharedTrace>, AllocError>
-    ensures { IfOk result (λ copies. copies.items ≡ thread_traces.now) }
-{
-    let mut copies = Vec::with_capacity(alloc, thread_traces.len())?;
-    for thread_trace in thread_traces {
-        copies.push(thread_trace.apart(alloc)?)?;
-    }
-    Ok(copies)
 }
 
 /// Lists all accesses, the numbers at which the threads begin, and how many accesses they have.

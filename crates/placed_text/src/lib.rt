@@ -18,6 +18,7 @@ mod placement;
 mod problem;
 mod proposed;
 mod reasons;
+mod verdict;
 mod watched;
 mod writing;
 

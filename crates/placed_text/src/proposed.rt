@@ -1,5 +1,5 @@
-//! The certificate of a problem's answer. For a program of many combinations of traces a search for early trees proposes it,
-//! and the checker judges what is proposed.
+//! The certificate of a problem's answer. For a program of many combinations of traces a search proposes it, and the checker
+//! judges what is proposed.
 ghost use Rattle.std.specs.Prelude.{◌≡◌, IfErr, IfOk, IfSome, OnOk, length};
 ghost use Rattle.tso_program.specs.Listings.{gap_count};
 ghost use Rattle.fence_place.specs.Faults.{AreTooFewOrMany};
@@ -8,17 +8,19 @@ ghost use Rattle.placed_text.specs.Problems.{question_in};
 ghost use Rattle.placed_text.specs.TextFaults.{HasNoPlacement};
 
 use crate::TextFault;
+use crate::ahead::report_ahead;
 use crate::placement::placement_of;
 use crate::problem::Problem;
-use crate::watched::{Effort, report_failure, report_outcomes};
+use crate::verdict::report_verdict;
+use crate::watched::{Effort, report_outcomes};
 use cert_forest::{Certificate, Rule};
-use certificate_proposals::{is_large, propose};
+use certificate_proposals::{propose, proposed_rule};
 use fence_place::accepted_proposal;
 use program_streams::Progress;
 use std::alloc::{AllocError, Global};
 use std::sync::Wait;
 use std::thread::Threads;
-use tso_program::{MAX_WORKERS, Program};
+use tso_program::MAX_WORKERS;
 
 /// The certificate of a problem's answer: the one that is proposed, or else that of the problem's placement.
 pub(crate) fn certificate_of<R: Threads + Wait + Sync>(
@@ -33,15 +35,16 @@ pub(crate) fn certificate_of<R: Threads + Wait + Sync>(
     ensures fault { IfErr result (HasNoPlacement effort.workers) }
 {
     judge_workers(effort.workers)?;
-    let certificate = match proposed(alloc, problem, effort.trees)? {
-        Some(certificate) => {
-            let outcomes = certificate.seq_runs.len();
-            report_outcomes(alloc, effort.progress.of_search(false), outcomes);
-            certificate
-        }
+    let certificate = match proposed(alloc, problem, effort)? {
+        Some(certificate) => certificate,
         None => placement_of(rt, alloc, problem, effort)?,
     };
-    report_verdict(alloc, problem, &certificate, effort.progress);
+    report_verdict(
+        alloc,
+        &problem.litmus,
+        &certificate.seq_runs,
+        effort.progress,
+    );
     Ok(certificate)
 }
 
@@ -56,11 +59,11 @@ fn judge_workers(workers: u8) -> Result<(), TextFault>
     Ok(())
 }
 
-/// The certificate that a search for early trees proposes, where trees are early and the checker accepts it.
+/// The certificate that a search proposes, where one is asked of it and the checker accepts it.
 fn proposed(
     alloc: Global,
     problem: &Problem,
-    trees: Option<Rule>,
+    effort: Effort,
 ) -> Result<Option<Certificate>, AllocError>
     ensures { IfOk result (λ found. IfSome found (IsPlacement (question_in problem.now) problem.now.costs)) }
 {
@@ -70,27 +73,23 @@ fn proposed(
         costs,
     } = problem;
     let program = &litmus.program;
-    if !are_early(alloc, program, trees)? {
+    let Some(rule) = proposed_rule(alloc, program, effort.trees)? else {
         return Ok(None);
+    };
+    let progress = match rule {
+        Rule::Whole => report_ahead(alloc, program, effort.progress),
+        Rule::Early => effort.progress.of_search(false),
+    };
+    let found = match (propose(alloc, rule, program, shown, costs)?, effort.trees) {
+        (None, None) => propose(alloc, Rule::Early, program, shown, costs)?,
+        (found, _) => found,
+    };
+    let Some(text) = found else {
+        return Ok(None);
+    };
+    let found = accepted_proposal(alloc, program, shown, costs, &text)?;
+    if let Some(certificate) = &found {
+        report_outcomes(alloc, progress, certificate.seq_runs.len());
     }
-    match propose(alloc, program, shown, costs)? {
-        Some(text) => accepted_proposal(alloc, program, shown, costs, &text),
-        None => Ok(None),
-    }
-}
-
-/// Whether trees are early: as it is asked for, or where the program is large.
-fn are_early(alloc: Global, program: &Program, trees: Option<Rule>) -> Result<bool, AllocError> {
-    match trees {
-        Some(Rule::Whole) => Ok(false),
-        Some(Rule::Early) => Ok(true),
-        None => is_large(alloc, program),
-    }
-}
-
-/// Reports whether the condition fails without store buffers too.
-fn report_verdict(alloc: Global, problem: &Problem, certificate: &Certificate, progress: Progress) {
-    let truths = certificate.seq_runs.len();
-    let quantifier = problem.litmus.condition.quantifier;
-    report_failure(alloc, progress, &problem.shown, quantifier, truths);
+    Ok(found)
 }

@@ -4,11 +4,9 @@ ghost use Rattle.std.specs.Prelude.{false};
 use cert_forest::Rule;
 use cover_solver::{Oracle, SolveFault, Solver, Verdict};
 use gap_sets::{Costs, GapSet};
-use litmus_text::Quantifier;
 use program_streams::Progress;
 use std::alloc::{AllocError, Global};
 use std::sync::atomic::{AtomicU64, Ordering};
-use tso_program::Shown;
 
 /// How fences are searched for.
 #[derive(Clone, Copy)]
@@ -80,32 +78,4 @@ pub(crate) fn report_outcomes(alloc: Global, progress: Progress, count: usize) {
 
 fn outcomes_line(alloc: Global, count: usize) -> Result<Vec<u8>, AllocError> {
     Ok(format!(in alloc; "fencer: sequential outcomes: {count}\n")?.into_bytes())
-}
-
-/// Reports that a condition fails on the sequential machine, if its truth is shown and runs of this machine have both truths:
-/// no fence is needed for its verdict then, and none mends it. That is reported where no progress is, too.
-pub(crate) fn report_failure(
-    alloc: Global,
-    progress: Progress,
-    shown: &Shown,
-    quantifier: Quantifier,
-    truths: usize,
-) {
-    if let Shown::Truth(_) = shown {
-        if truths > 1 && !is_exists(quantifier) {
-            progress.asked(true).report(failure_line(alloc));
-        }
-    }
-}
-
-fn is_exists(quantifier: Quantifier) -> bool {
-    match quantifier {
-        Quantifier::Exists => true,
-        Quantifier::NotExists | Quantifier::Forall => false,
-    }
-}
-
-fn failure_line(alloc: Global) -> Result<Vec<u8>, AllocError> {
-    let line = b"fencer: the condition fails without store buffers too: no fence mends it\n";
-    Vec::from_slice(alloc, line)
 }

@@ -8,7 +8,7 @@ use Rattle.tso_machine.specs.Machine.{Machine}
 use Rattle.thread_traces.specs.Immediates.{any_number}
 use Rattle.thread_traces.proofs.KnownValues.{known_all}
 use Rattle.tso_program.specs.declared.instruction.TheConstants.{REGISTERS}
-use Rattle.candidate_executions.proofs.FromRuns.StoredValues.{known_value}
+use Rattle.candidate_executions.proofs.FromRuns.KnownValues.{known_value}
 
 -- an instruction's number, 0 where it has none
 abbrev number_or_zero : Instr → ℕ

@@ -49,8 +49,3 @@ pub record KeepsTraces (p : Listing) (mode : Mode) (thread_traces : List ThreadT
   pub lawful : IsLawful (view_of p mode thread_traces sources pairs)
   pub one_each : length thread_traces ≡ length p.threads
   pub traces_are : (t : ℕ) (c : ThreadTrace) → slice_get thread_traces t ≡ Some c → IsThreadTraceOf p (machine_of_mode p mode) t c.given c
-
--- the same where values come first
-pub record KeepsValuesFirst (p : Listing) (mode : Mode) (thread_traces : List ThreadTrace) (sources pairs : List (Event × Event)) : Type 0 where
-  pub kept : KeepsTraces p mode thread_traces sources pairs
-  pub values_first : HasValuesFirst (view_of p mode thread_traces sources pairs)

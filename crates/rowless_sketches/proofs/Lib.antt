@@ -7,5 +7,4 @@ pub mod MemoryEnds
 pub mod OwnWrites
 pub mod SettledReads
 pub mod SourceLists
-pub mod ThreadValues
 pub mod ValuesGiven

@@ -1,8 +1,8 @@
 -- A value that is given and taken back, and reads that lack a source.
 use Rattle.rowless_sketches.proofs.Vocabulary.{◌≡◌, ℕ, ◌<◌, List, [], ◌∷◌, ◌++◌, Option, Some, None, IsSome, slice_get, slice_index, set, length, refl, sym, ap, ◌∙◌, subst, arith, same_Some, slice_get_within, Listing, Mode, Access, Event, Initial, At}
-use Rattle.rowless_sketches.proofs.Vocabulary.{ThreadTrace, ProgramSketch, mode_in, with_chosen, access_in, with_values, view_of, KeepsTraces, IsLawful, MarkedThread, IsValueMarkOf, LacksSource, traced_access, trace_accesses, no_accesses, given_to, with_value}
+use Rattle.rowless_sketches.proofs.Vocabulary.{ThreadTrace, ProgramSketch, mode_in, with_chosen, access_in, view_of, KeepsTraces, IsLawful, MarkedThread, IsValueMarkOf, LacksSource, traced_access, trace_accesses, no_accesses, given_to, with_value}
+use Rattle.rowless_sketches.proofs.Vocabulary.{inl, inr, cases_eq, get_or-set_same, unwrap_or-slice_get, Sketch, machine_of_mode, IsThreadTraceOf}
 use Rattle.rowless_sketches.proofs.Vocabulary.{IsSourceOf, accesses_same, given_back, length-set, ◌≢◌, unwrap_or, given_at, given_lists, given_set, get_set_other, get_set_same, length-map, given_in, IsGivenMore}
-use Rattle.rowless_sketches.proofs.ThreadValues.{traces_merged, values_here}
 
 -- ---- the values that threads are given, where one trace is changed
 
@@ -15,6 +15,31 @@ given_more thread_traces t value own next there is = (
   given_at (set thread_traces t next) t next (get_set_same thread_traces t next (slice_get_within thread_traces t own there)) ∙ is ∙ ap (λ (g : List ℕ). g ++ value ∷ []) (sym (given_at thread_traces t own there)),
   given_other thread_traces t next,
 )
+
+-- ---- a thread with other values
+
+-- thread t's reads have these values
+abbrev with_values : Sketch → ℕ → List ℕ → Sketch
+with_values k t given = record k { given = set k.given t given }
+
+values_here : (k : Sketch) (t : ℕ) (given : List ℕ) → t < length k.given → given_to (with_values k t given) t ≡ given
+values_here k t given h = unwrap_or-slice_get (set k.given t given) t [] ∙ get_or-set_same k.given t given [] h
+
+-- each trace is that of its thread, where one comes from another sketch
+module _ (p q : Listing) (mode other_mode : Mode) (thread_traces : List ThreadTrace) (program : q ≡ p) (same_mode : other_mode ≡ mode) (t : ℕ) (c : ThreadTrace)
+    (mine_are : (u : ℕ) (d : ThreadTrace) → slice_get thread_traces u ≡ Some d → IsThreadTraceOf p (machine_of_mode p mode) u d.given d)
+    (theirs : IsThreadTraceOf q (machine_of_mode q other_mode) t c.given c) (inside : t < length thread_traces) where
+  own : IsThreadTraceOf p (machine_of_mode p mode) t c.given c
+  own = subst (λ l. IsThreadTraceOf l (machine_of_mode l mode) t c.given c) program
+      (subst (λ m. IsThreadTraceOf q (machine_of_mode q m) t c.given c) same_mode theirs)
+
+  traces_merged : (u : ℕ) (d : ThreadTrace) → slice_get (set thread_traces t c) u ≡ Some d → IsThreadTraceOf p (machine_of_mode p mode) u d.given d
+  traces_merged u d e = elim (cases_eq u t) [
+    | inl q ↦ (let here : slice_get (set thread_traces t c) t ≡ Some d = subst (λ z. slice_get (set thread_traces t c) z ≡ Some d) q e in
+        let same : c ≡ d = same_Some c d (sym (get_set_same thread_traces t c inside) ∙ here) in
+        subst (λ z. IsThreadTraceOf p (machine_of_mode p mode) z d.given d) (sym q) (subst (λ (x : ThreadTrace). IsThreadTraceOf p (machine_of_mode p mode) t x.given x) same own))
+    | inr ne ↦ mine_are u d (sym (get_set_other thread_traces t c u ne) ∙ e)
+  ]
 
 -- ---- a value that is taken back
 

@@ -2,7 +2,7 @@
 pub use Rattle.std.proofs.Common.{Bool, Contains, Err, IfOk, IsSome, IsTrue, List, None, Ok, Option, Result, Some, [], add-one, ap, arith, drop, drop-cons, false, get_or, inl, inr, length, not, refl}
 pub use Rattle.std.proofs.Common.{set, slice_get, subst, sym, take, true, vec_len, ℕ, ◌++◌, ◌+◌, ◌<◌, ◌↔◌, ◌∙◌, ◌∷◌, ◌≡◌, ◌≢◌, ◌≤◌, ◌⊎◌}
 pub use Rattle.std.proofs.lemmas.Bool.{cases_eq, cases_lt, not-true, not_from_false}
-pub use Rattle.std.proofs.lemmas.List.{drop_all, get_or-set_other, get_or-set_same, get_or_append_left, length-append, length-map, length-set, length_push}
+pub use Rattle.std.proofs.lemmas.List.{drop_all, get_or-set_same, get_or_append_left, length-append, length-map, length-set, length_push}
 pub use Rattle.std.proofs.lemmas.List.Elements.{Contains-append_left, Contains-get_or}
 pub use Rattle.std.proofs.lemmas.List.FromFn.{get_or-map-range_with_len, length-map-range_with_len}
 pub use Rattle.std.proofs.lemmas.Option.{none-some, same_Some, slice_get-get_or, slice_get_past, slice_get_read, slice_get_within, unwrap_or-slice_get}
@@ -19,7 +19,7 @@ pub use Rattle.candidate_executions.specs.declared.event.Event.{Event, TheVarian
 pub use Rattle.program_sketches.proofs.Traced.{none_past}
 pub use Rattle.program_sketches.proofs.Chosen.{found_source, has_source_by, once, pair_kept, source_kept}
 pub use Rattle.program_sketches.proofs.KnownParts.{last_part, pair_by, to_relates}
-pub use Rattle.program_sketches.proofs.Lawful.{given_at, given_set, good_of, more_kept, more_parts, new_kept_by, none_chosen, none_in, values_from}
+pub use Rattle.program_sketches.proofs.Lawful.{given_at, given_set, more_kept, more_parts, none_in}
 pub use Rattle.program_sketches.proofs.Lookups.{each_index}
 pub use Rattle.program_sketches.proofs.Traced.{accesses_same, ends_whole, whole_ends}
 pub use Rattle.program_sketches.proofs.TracesKept.{no_accesses, no_trace, past_next, reads_there, trace_accesses, trace_last, trace_next}
@@ -27,7 +27,7 @@ pub use Rattle.program_sketches.specs.Choices.{CanFollow, CanRead, IsRead, Reads
 pub use Rattle.program_sketches.specs.Kept.{AreOtherTwo, IsLawful, KeepsTraces, given_in, given_lists, view_of}
 pub use Rattle.program_sketches.specs.Known.{IsInitialWrite}
 pub use Rattle.program_sketches.specs.ProgramSketches.{ProgramSketch, access_in, mode_in, trace_in, with_chosen}
-pub use Rattle.program_sketches.specs.TracedAccesses.{EachEnds, traced_access}
+pub use Rattle.program_sketches.specs.TracedAccesses.{traced_access}
 pub use Rattle.program_sketches.specs.Writes.{HasLater, IsLastWith, IsWritten, IsWrittenBy, WritesTo}
 pub use Rattle.program_sketches.specs.declared.known_truth.Knowledge.{Knowledge}
 pub use Rattle.thread_traces.proofs.KnownParts.{no, not_by, of_some, yes}
@@ -50,4 +50,3 @@ pub use Rattle.rowless_sketches.specs.Internal.KnownWalk.{KnowsAll, after_node}
 pub use Rattle.rowless_sketches.specs.Internal.SourcesListed.{AreListedTo}
 pub use Rattle.rowless_sketches.specs.Knowledge.{IsKnownTruth, Knows}
 pub use Rattle.rowless_sketches.specs.RowlessSketches.{AreSomeLists, AreSources, IsValueMarkOf, LacksSource, MarkedThread}
-pub use Rattle.rowless_sketches.specs.ThreadValues.{HasValuesAlone, with_values}

@@ -2,5 +2,4 @@ pub mod Completions
 pub mod Endings
 pub mod Knowledge
 pub mod RowlessSketches
-pub mod ThreadValues
 pub mod Internal

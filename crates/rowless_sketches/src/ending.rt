@@ -184,7 +184,7 @@ impl Parts<'_> {
     }
 
     /// Whether some access writes the location.
-    pub fn is_written(&self, location: u8) -> bool
+    pub(crate) fn is_written(&self, location: u8) -> bool
         ensures { IsTrue result ↔ IsWritten self.now location }
     {
         let threads = self.thread_traces.len() as u8;

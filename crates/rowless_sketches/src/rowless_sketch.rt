@@ -118,6 +118,13 @@ impl RowlessSketch {
         }
     }
 
+    /// The program.
+    pub fn program(&self) -> &Program
+        ensures { result.now ≡ self.now.program }
+    {
+        &self.base.program
+    }
+
     /// The location of thread t's first read that has no value yet.
     pub fn next_read(&self, t: u8) -> Option<u8>
         ensures value { result ≡ sketches.next_read self.now.program (mode_in self.now) self.now.chosen t }

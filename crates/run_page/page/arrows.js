@@ -77,16 +77,17 @@ function drawMove(machine, move, isFirstOfTwo, flies) {
   const label = assignment(move.value);
   machine.arrows.append(line);
   if (Math.abs(y2 - y1) > LABEL_HEIGHT) {
-    drawLabel(machine.arrows, label, labelSpot(machine, line, move, isFirstOfTwo));
+    drawLabel(machine, label, labelSpot(machine, line, move, isFirstOfTwo));
   }
   if (flies && !calm.matches) {
     fly(machine.stage, path, label);
   }
 }
 
-// Draws a label, above those that are there.
-function drawLabel(arrows, label, { x, y }) {
+// Draws a label, above those that are there, and inside of the stage.
+function drawLabel({ arrows, stage }, label, { x: middle, y }) {
   const width = label.length * 8 + 12;
+  const x = Math.max(width / 2, Math.min(stage.clientWidth - width / 2, middle));
   const isInTheWay = ({ x: left, y: top, width: size }) =>
     Math.abs(left + size / 2 - x) < (size + width) / 2 && Math.abs(top + 10 - y) < 20;
   const height = all(arrows, "rect").map(box => box.getBBox()).some(isInTheWay) ? y - 22 : y;

@@ -40,6 +40,10 @@ const SHORT_CODE = 24;
 
 const code = text => html("code", text.length > SHORT_CODE ? { class: "long" } : {}, text);
 
+// A command, whose words are not broken.
+const command = text => html("code", { class: "long" },
+  text.split(" ").flatMap((word, i) => [i > 0 ? " " : "", html("span", { class: "word" }, word)]));
+
 const threadName = thread => "P" + thread;
 
 // `x=1`, of a store or of what is read.
@@ -62,10 +66,11 @@ const fencedGaps = () => given.answer ? given.answer.set : given.fences ?? [];
 
 const instructionText = (thread, number) => given.threads[thread].instructions[number].text;
 
-// The instruction that a gap lies before, and its thread.
-function placeOf(gap) {
+// The instruction that a gap lies before, with its thread, the gap, the instruction's line as the page numbers it, and
+// what else is said of the gap.
+function placeOf(gap, more = "") {
   const [thread, number] = gapPlace(gap);
-  return [code(instructionText(thread, number)), " of " + threadName(thread)];
+  return [code(instructionText(thread, number)), ` of ${threadName(thread)} (gap ${gap}, line ${number}${more})`];
 }
 
 const outcomeText = run => run.outcome.map(({ name, value }) => `${name}=${value};`).join(" ");

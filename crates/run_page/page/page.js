@@ -32,6 +32,18 @@ function answerWords(gaps) {
   return ["A cheapest set of fences: ", fences, ...places, `. ${cost}; no cheaper set is enough.`];
 }
 
+// What a page is about, folded where it has a run to show.
+const about = (isOpen, ...says) => html("details", { class: "about soft", open: isOpen },
+  html("summary", {}, "What this is about, and how to read it"), says);
+
+const howToRead = [
+  "Next, the Left and Right keys and the slider step through the run; Space plays it. An arrow shows what a step moves; what ",
+  "it changes is outlined, with the former value struck out. Executed instructions are grey, those that were jumped over are ",
+  "struck out. Lines are numbered from 0 in each thread, so that gap 0:7 lies before line 7 of P0; ",
+];
+
+const gapsCommand = [command("fencer gaps LITMUS"), " names the lines of the file."];
+
 // The program alone, with its condition.
 const programBox = () =>
   region("program", "the program", html("h2", {}, "The program"), threadColumns(null),
@@ -43,22 +55,21 @@ function showNoFence() {
     html("h1", {}, `${given.test} needs no fence`),
     html("p", { class: "lead" }, `Every outcome is sequential${comparedWords()}: store buffers show nothing here that `
       + "would not happen if each instruction took effect at once."),
-    html("p", { class: "soft" }, introduction),
+    about(true, html("p", {}, introduction)),
     programBox());
 }
 
 function showAnswer(gaps) {
   const isOne = gaps.length === 1;
   document.title = `${given.test}: why ${isOne ? "a fence is" : "fences are"} needed`;
-  main.replaceChildren(
+  main.replaceChildren(html("header", {},
     html("h1", {}, `Why ${given.test} needs ${isOne ? "a fence" : gaps.length + " fences"}`),
     html("p", { class: "lead" }, answerWords(gaps)),
-    html("p", { class: "soft" }, introduction, " In a sequential run there are no store buffers: each instruction ",
-      `takes effect at once. With ${isOne ? "this fence" : "these fences"} the program has exactly the outcomes of its `,
-      `sequential runs${comparedWords()}.`),
-    html("p", { class: "choice" }, isOne
-      ? "Without it, this run becomes possible, and no sequential run has its outcome:"
-      : "Leave out one of them, and a run becomes possible whose outcome no sequential run has:"));
+    about(false,
+      html("p", {}, introduction, " In a sequential run there are no store buffers: each instruction ",
+        `takes effect at once. With ${isOne ? "this fence" : "these fences"} the program has exactly the outcomes of its `,
+        `sequential runs${comparedWords()}.`),
+      html("p", {}, howToRead, gapsCommand))));
   showRuns(given.runs.map(run => new Run(run)));
 }
 
@@ -67,8 +78,9 @@ function showRuns(runs) {
   const panel = html("div", { role: "tabpanel", id: "panel", "aria-labelledby": "tab0" });
   const tabs = runs.map(({ gap }, i) => html("button", {
     type: "button", role: "tab", id: "tab" + i, "aria-controls": "panel",
+    "aria-label": `without the fence before ${placeOf(gap).map(part => part.textContent ?? part).join("")}`,
     on: { click: () => pick(i, 0), keydown: event => pickByKey(event, i) },
-  }, "without the fence before ", ...placeOf(gap), html("small", {}, ` (${gap})`)));
+  }, `${threadName(gapPlace(gap)[0])} ${gap}`));
   let player = null;
 
   function pick(chosen, steps) {
@@ -96,7 +108,10 @@ function showRuns(runs) {
     }
   }
 
-  main.append(html("div", { role: "tablist", "aria-label": "the fences of the answer" }, tabs), panel);
+  main.classList.add(isBeside() ? "framed" : "stacked");
+  main.append(html("div", { class: "choice" }, html("span", {}, "Leave out"),
+    html("div", { role: "tablist", "aria-label": "the fences of the answer" }, tabs),
+    html("span", {}, "and a run becomes possible whose outcome no sequential run has.")), panel);
   const [gap, steps] = address();
   const named = runs.findIndex(run => run.gap === gap);
   pick(Math.max(0, named), named < 0 ? 0 : steps);
@@ -107,10 +122,11 @@ function showRuns(runs) {
 function showOneRun(heading, lead) {
   const player = new Player(new Run(given.run));
   document.title = `${given.test}: a run`;
-  main.replaceChildren(
+  main.classList.add(isBeside() ? "framed" : "stacked");
+  main.replaceChildren(html("header", {},
     html("h1", {}, heading),
     html("p", { class: "lead" }, lead),
-    html("p", { class: "soft" }, given.run.model === "buffered" ? introduction : ""),
+    about(false, given.run.model === "buffered" ? html("p", {}, introduction) : "", html("p", {}, howToRead, gapsCommand))),
     player.body);
   player.start(address()[1]);
   listenToKeys(() => player);
@@ -142,7 +158,7 @@ function showWitness() {
   main.replaceChildren(
     html("h1", {}, heading),
     html("p", { class: "lead" }, says, ...machineWords(), " meets the formula of the file's condition."),
-    html("p", { class: "soft" }, introduction),
+    about(true, given.model === "buffered" ? html("p", {}, introduction) : ""),
     programBox());
 }
 
@@ -152,21 +168,38 @@ function address() {
   return [gap, Number(steps) || 0];
 }
 
-// Steps by Left and Right anywhere, and by Home and End in the player, but not where the focused element has a use of
-// its own for them.
+// Whether an element has a use of its own for a key.
+function hasOwnUse(element, key) {
+  if (key === " ") {
+    return element.matches("button:not([role=tab]), summary, input[type=checkbox]");
+  }
+  const isScrolled = element.matches(".scroll") && element.scrollWidth > element.clientWidth;
+  return isScrolled || element.matches("input[type=range], [role=tab]");
+}
+
+// Steps by Left and Right anywhere, and by Home and End in the player, and plays by Space, but not where the focused
+// element has a use of its own for them.
 function listenToKeys(player) {
   document.addEventListener("keydown", event => {
-    const hasOwnUse = event.target.matches("input[type=range], .scroll, [role=tab]");
-    if (event.altKey || event.ctrlKey || event.metaKey || hasOwnUse) {
+    if (event.altKey || event.ctrlKey || event.metaKey || hasOwnUse(event.target, event.key)) {
       return;
     }
     const { at, run: { last } } = player();
     const inPlayer = event.target.closest(".player, .moments") !== null;
     const targets = { ArrowRight: at + 1, ArrowLeft: at - 1, ...(inPlayer ? { Home: 0, End: last } : {}) };
     const target = targets[event.key];
-    if (target !== undefined) {
+    if (event.key === " ") {
+      event.preventDefault();
+      player().turnPlaying();
+    } else if (target !== undefined) {
       event.preventDefault();
       player().step(target);
+    }
+  });
+  // Some browsers press a button when Space is let go.
+  document.addEventListener("keyup", event => {
+    if (event.key === " " && !hasOwnUse(event.target, " ")) {
+      event.preventDefault();
     }
   });
 }

@@ -3,23 +3,33 @@
 const PLAY_INTERVAL = 1800;
 const ADDRESS_DELAY = 400;
 
-// What the table says of a step, a cell each.
+// What the table says of a step, a cell each. Where nothing waits there is no cell for it.
 function stepCells(run, i) {
   const { label, instruction, reads, stores, reaches, buffer } = run.steps[i];
   const source = reads && (reads.from === "buffer" ? "its buffer" : "memory");
-  const effects = [reads && `reads ${assignment(reads)} from ${source}`, stores && `stores ${assignment(stores)}`];
+  const jump = run.jumpLabel(i);
+  const effects = [reads && `reads ${assignment(reads)} from ${source}`, stores && `stores ${assignment(stores)}`,
+    jump && `jumps to ${jump}`];
   return [
     String(i + 1),
     label,
     threadName(run.threads[i]),
     instruction === null ? "–" : run.text(i),
     effects.filter(Boolean).join(", ") || "–",
-    buffer.map(assignment).join(" ") || "–",
+    ...run.isSequential ? [] : [buffer.map(assignment).join(" ") || "–"],
     reaches ? assignment(reaches) : "–",
   ];
 }
 
-const TABLE_HEADS = ["#", "step", "thread", "instruction", "reads and stores", "still waits", "reaches memory"];
+const tableHeads = run => ["#", "step", "thread", "instruction", "what it does", ...run.isSequential ? [] : ["still waits"],
+  "reaches memory"];
+
+// A label, a thread and an instruction are not broken up to this length.
+const SHORT_CELL = 14;
+
+// What a place of the slider is: `step 5 of 12: P0 reads y=0`.
+const placeText = (run, steps) => steps === 0 ? "start"
+  : `step ${steps} of ${run.last}: ${shortWords(run, steps - 1).map(part => part.textContent ?? part).join("")}`;
 
 // A part of the page that a reader can scroll, also by keyboard.
 const region = (kind, label, ...children) =>
@@ -49,30 +59,63 @@ class Player {
     this.final = button("End", "End", () => this.step(this.run.last));
     this.slider = html("input", {
       type: "range", id: "step", min: 0, max: this.run.last, value: 0, "aria-label": "step of the run",
-      on: { input: () => this.step(Number(this.slider.value)) },
+      on: { input: () => this.step(Number(this.slider.value)), mousemove: event => this.hint(this.stepUnder(event)),
+        mouseleave: () => this.hint(null) },
     });
+    this.bubble = html("span", { class: "bubble", "aria-hidden": "true", hidden: true });
     this.count = html("span", { class: "count soft" });
     this.say = html("p", { class: "say", "aria-live": "polite" });
   }
 
-  // The parts in the order in which they are read. Where it is narrow, the machine stands beside the texts.
-  panel() {
-    const buttons = [this.first, this.back, this.play, this.forward, this.final];
-    const bar = html("section", { class: "card bar player", "aria-label": "player" },
-      html("div", { class: "controls" }, buttons, html("div", { class: "place" }, this.slider, this.count)), this.say);
-    const machine = html("div", { class: "right" }, bar, region("machine", "the machine", this.machine.stage));
-    const duo = html("div", { class: "duo" }, this.momentBox(), machine, this.table);
-    return html("div", { class: isNarrow() ? "panel side" : "panel" }, duo, this.graphBox());
+  // The step that the slider would go to from where the mouse is: its thumb is 16 pixels wide and stays inside.
+  stepUnder({ offsetX }) {
+    const share = (offsetX - 8) / (this.slider.clientWidth - 16);
+    return Math.round(Math.max(0, Math.min(1, share)) * this.run.last);
   }
 
-  // The moments that matter, each with buttons to its steps.
+  // Says above the slider what a step is.
+  hint(steps) {
+    this.bubble.hidden = steps === null;
+    if (steps !== null) {
+      this.bubble.textContent = placeText(this.run, steps);
+    }
+  }
+
+  // The parts in the order in which they are read. Where there is room, the machine fills the screen beside the texts.
+  panel() {
+    const buttons = [this.first, this.back, this.play, this.forward, this.final];
+    const place = html("div", { class: "place" }, html("div", { class: "track" }, this.slider, this.ticks(), this.bubble), this.count);
+    const bar = html("section", { class: "bar player", "aria-label": "player" },
+      html("div", { class: "controls" }, buttons, place), this.say);
+    this.view = html("div", { class: "card view" }, bar, region("machine", "the machine", this.machine.stage));
+    const texts = html("div", { class: "texts", role: "region", tabindex: 0, "aria-label": "the run in words" },
+      this.momentBox(), this.table, this.graphBox());
+    return html("div", { class: "panel" }, texts, this.view);
+  }
+
+  // The moments that matter, in the order of their first steps.
+  moments() {
+    const { run } = this;
+    const isCompared = run.gap !== null && !given.answer.condition;
+    const words = isCompared ? conditionWords(run.run) : [];
+    const end = { steps: [run.last], say: ["The run ends with ", ...verdictWords(run), ...words] };
+    return [...allMoments(run), end];
+  }
+
+  // Marks of the moments at the slider.
+  ticks() {
+    const steps = this.moments().slice(0, -1).flatMap(({ steps, isBad }) => steps.map(step => [step, isBad]));
+    return html("div", { class: "ticks", "aria-hidden": "true" }, steps.map(([step, isBad]) =>
+      html("span", { class: isBad ? "tick bad" : "tick", style: `--share: ${step / this.run.last}` })));
+  }
+
+  // The moments, each with buttons to its steps.
   momentBox() {
-    const end = { steps: [this.run.last], say: ["The run ends with ", ...verdictWords(this.run)] };
-    const lines = [...this.run.moments, end].map(({ steps, isBad, say }) => html("li", { class: isBad ? "bad" : "" },
+    const lines = this.moments().map(({ steps, isBad, say }) => html("li", { class: isBad ? "bad" : "" },
       html("span", { class: "where" }, steps.map(step => this.stepButton(step))), html("span", {}, say)));
-    const title = this.run.gap === null ? "How the run ends" : "What goes wrong without this fence";
-    return html("section", { class: "card wrong" }, html("h2", {}, title), html("ol", { class: "moments" }, lines),
-      this.otherGaps());
+    const title = this.run.gap === null ? ["How the run ends"]
+      : ["What goes wrong without the fence before ", ...placeOf(this.run.gap)];
+    return region("wrong", "what goes wrong", html("h2", {}, title), html("ol", { class: "moments" }, lines), this.otherGaps());
   }
 
   stepButton(step) {
@@ -82,36 +125,44 @@ class Player {
   // The other gaps that the run passes: a fence in one of them serves too, against this run.
   otherGaps() {
     const others = this.run.run.passed.filter(gap => gap !== this.run.gap);
+    if (this.run.isSequential) {
+      return "";
+    }
     if (this.run.gap === null) {
       const passed = others.length > 0 ? `It passes ${others.join(", ")}.` : "It passes no gap.";
       return html("p", { class: "soft note passed" }, passed,
         " A run passes a gap where its thread goes on with a store waiting; a fence there prevents the run.");
     }
-    const places = others.map(gap => html("span", {}, "before ", ...placeOf(gap), ` (${gap}, cost ${gapCost(gap)})`));
+    const places = others.map(gap => html("span", {}, "before ", ...placeOf(gap, `, cost ${gapCost(gap)}`)));
     return places.length === 0 ? ""
       : html("p", { class: "soft note also" }, "A fence ", ...listed(places, " or "), " would prevent this run too.");
   }
 
   row(i) {
-    const cells = stepCells(this.run, i).map(text => html("td", {}, text));
+    const cells = stepCells(this.run, i).map((text, column) =>
+      html("td", { class: column < 4 && text.length <= SHORT_CELL ? "word" : "" }, text));
+    if (i === this.run.pass) {
+      cells[cells.length - 1].append(html("small", { class: "out" }, ` ← ${this.run.gap}`));
+    }
     return html("tr", { class: i === this.run.pass ? "pass" : "", on: { click: () => this.step(i + 1) } }, cells);
   }
 
   tableBox() {
-    const heads = TABLE_HEADS.map(text => html("th", { scope: "col" }, text));
+    const heads = tableHeads(this.run).map(text => html("th", { scope: "col" }, text));
     const model = this.run.run.model === "sequential" ? "--model sequential " : "";
-    const command = `fencer trace ${model}LITMUS ${this.run.steps.map(step => step.label).join(" ")}`;
+    const text = `fencer trace ${model}LITMUS ${this.run.steps.map(step => step.label).join(" ")}`;
     return region("table", "the run as a table",
       html("table", {}, html("caption", {}, "The run, step by step"), html("thead", {}, html("tr", {}, heads)),
         html("tbody", {}, this.rows)),
-      html("p", { class: "soft note" }, "e0: P0 executes its next instruction. f0: the oldest store of P0's buffer ",
-        "reaches memory. This command shows the same run, with your file as LITMUS: ",
-        html("code", { class: "long command" }, command)));
+      html("p", { class: "soft note" }, "e0: P0 executes its next instruction. ",
+        this.run.isSequential ? "" : "f0: the oldest store of P0's buffer reaches memory. ",
+        this.run.gap === null ? "" : `← ${this.run.gap}: here the run passes the gap whose fence is left out. `,
+        "This command shows the same run, with your file as LITMUS: ", html("span", { class: "command" }, command(text))));
   }
 
   graphBox() {
     const title = this.run.gap === null ? "The candidate execution" : "Why no sequential run does this";
-    return html("section", { class: "card graph" }, html("h2", {}, title),
+    return region("graph", "the candidate execution in words", html("h2", {}, title),
       html("div", { class: "split" }, this.holder, html("div", {}, this.cycleBox(),
         html("p", { class: "soft" }, "po: program order. rf: a read reads from this write. co: the order in which ",
           "stores reach memory. fr: a read comes before the write that replaces what it read."),
@@ -152,14 +203,20 @@ class Player {
     this.drawGraph();
     this.show(steps);
     const redraw = () => drawArrows(this.machine, this.at, false);
-    new ResizeObserver(redraw).observe(this.machine.stage);
+    const resize = () => {
+      this.machine.fit();
+      this.machine.follow(this.at);
+      redraw();
+    };
+    new ResizeObserver(resize).observe(this.machine.stage);
     all(this.machine.stage, ".code").forEach(lines => lines.addEventListener("scroll", redraw));
   }
 
-  // Goes to a step that a reader asks for.
+  // Goes to a step that a reader asks for, with the machine in sight.
   step(steps) {
     this.stop();
     this.show(steps);
+    this.view.scrollIntoView({ block: "nearest" });
   }
 
   stop() {
@@ -199,7 +256,7 @@ class Player {
   showControls() {
     const { at, run: { last } } = this;
     this.slider.value = at;
-    this.slider.setAttribute("aria-valuetext", at > 0 ? `step ${at} of ${last}` : "start");
+    this.slider.setAttribute("aria-valuetext", placeText(this.run, at));
     this.count.textContent = at > 0 ? `Step ${at} of ${last}` : "Start";
     const end = at === last ? [html("span", { class: "verdict" }, " The outcome is "), ...verdictWords(this.run)] : [];
     this.say.replaceChildren(...stepWords(this.run, at), ...end);

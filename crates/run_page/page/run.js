@@ -13,6 +13,12 @@ class Run {
       this.findGap();
       this.findMoments();
     }
+    this.decided = decidingStep(this);
+  }
+
+  // Whether it is a run of the machine without store buffers.
+  get isSequential() {
+    return this.run.model === "sequential";
   }
 
   get last() {
@@ -43,6 +49,45 @@ class Run {
     const executes = (step, i) => i >= steps && this.threads[i] === thread && step.instruction !== null;
     const found = this.steps.find(executes);
     return found ? found.instruction : given.threads[thread].instructions.length;
+  }
+
+  // Whether a thread has jumped over an instruction in some steps.
+  isSkipped(steps, thread, number) {
+    const executes = (step, i) => i < steps && this.threads[i] === thread && step.instruction === number;
+    return number < this.next(steps, thread) && !this.steps.some(executes);
+  }
+
+  // The label that a step jumps to; null where it does not jump, or jumps to the next instruction.
+  jumpLabel(i) {
+    const { instruction } = this.steps[i];
+    const isJump = instruction !== null && this.text(i).startsWith("J");
+    return isJump && this.next(i + 1, this.threads[i]) !== instruction + 1 ? this.text(i).split(" ")[1] : null;
+  }
+
+  // The register that a step puts a value in: the operand of a load, an exchange or a move that is no location.
+  target(i) {
+    if (this.steps[i].instruction === null || !/^(MOV|XCHG) /.test(this.text(i))) {
+      return null;
+    }
+    const operands = this.text(i).split(" ")[1].split(",");
+    const isExchange = this.text(i).startsWith("XCHG");
+    return operands.slice(0, isExchange ? 2 : 1).find(operand => !operand.startsWith("[")) ?? null;
+  }
+
+  // After how many steps a register `0:EAX` or a location has its last value.
+  lastWrite(name) {
+    const [thread, register] = name.split(":");
+    return 1 + this.steps.findLastIndex((step, i) => register === undefined
+      ? step.reaches !== null && step.reaches.location === name
+      : this.threads[i] === Number(thread) && this.target(i) === register);
+  }
+
+  // What a register or a location holds in the end.
+  finalValue(name) {
+    const { memory, registers } = this.states[this.last];
+    const [thread, register] = name.split(":");
+    const values = register === undefined ? memory : registers[thread];
+    return values[(register === undefined ? given.locations : given.registers[thread]).indexOf(register ?? name)] ?? 0;
   }
 
   // Whether a step reads or stores.

@@ -42,11 +42,60 @@ function passingWords(run, late) {
   ];
 }
 
+// What a step does, in a few words.
+function shortWords(run, i) {
+  const { instruction, reads, stores, reaches } = run.steps[i];
+  const thread = threadName(run.threads[i]);
+  const label = run.jumpLabel(i);
+  if (instruction === null) {
+    return [`${thread}'s store `, code(assignment(reaches)), " reaches memory"];
+  }
+  if (reads) {
+    const from = reads.from === "buffer" ? [" from its buffer"] : [];
+    return [`${thread} reads `, code(assignment(reads)), ...from, ...stores ? [" and stores ", code(assignment(stores))] : []];
+  }
+  if (stores) {
+    return [`${thread} stores `, code(assignment(stores)), reaches ? "" : " in its buffer"];
+  }
+  return label === null ? [`${thread} executes `, code(run.text(i))] : [`${thread} jumps to `, code(label)];
+}
+
+// The moments with the step that decides the file's condition among them, in the order of their first steps.
+function allMoments(run) {
+  const says = decisionWords(run);
+  if (run.decided === null || says === null) {
+    return run.moments;
+  }
+  const isAlone = moment => moment.steps.length === 1 && moment.steps[0] === run.decided;
+  const same = run.moments.find(isAlone);
+  const say = [...same ? [...same.say, " "] : [...shortWords(run, run.decided - 1), ". "], ...says];
+  const others = run.moments.filter(moment => moment !== same);
+  return [...others, { steps: [run.decided], say, isBad: true }].sort((a, b) => a.steps[0] - b.steps[0]);
+}
+
+const quantifier = () => given.condition.split(" ")[0];
+
+// Whether a run breaks the file's condition: alone it can't break one with `exists`.
+const isBroken = run => quantifier() !== "exists" && run.run.meets_condition === (quantifier() === "~exists");
+
+// What is said of the step that decides the condition; null where the condition is neither broken nor met, and not asked
+// about.
+function decisionWords(run) {
+  if (isBroken(run)) {
+    return ["This breaks the condition ", code(given.condition), "."];
+  }
+  if (quantifier() === "exists" && run.run.meets_condition) {
+    return ["This meets the condition ", code(given.condition), "."];
+  }
+  const isAsked = given.command === "witness" || given.answer && given.answer.condition;
+  return isAsked ? [`From here on the formula of the condition is ${run.run.meets_condition}.`] : null;
+}
+
 // What happens in the last of some steps.
 function stepWords(run, steps) {
   if (steps === 0) {
-    return ["Before the first step: nothing has been executed, and the store buffers are empty. Press Next, or the",
-      " right arrow key."];
+    const empty = run.isSequential ? "" : ", and the store buffers are empty";
+    return [`Before the first step: nothing has been executed${empty}. Press Next, or the right arrow key; Space plays.`];
   }
   const i = steps - 1;
   const step = run.steps[i];
@@ -69,8 +118,8 @@ function effectWords(run, i) {
   const step = run.steps[i];
   const { reads, stores, reaches } = step;
   if (reads && stores) {
-    return [": with its buffer empty, it reads ", code(assignment(reads)), " and stores ", code(assignment(stores)),
-      " in memory, at once."];
+    return [run.isSequential ? ": it reads " : ": with its buffer empty, it reads ", code(assignment(reads)), " and stores ",
+      code(assignment(stores)), " in memory, at once."];
   }
   if (stores && reaches) {
     return [": ", code(assignment(stores)), " is in memory at once, where every thread sees it."];
@@ -99,39 +148,39 @@ function loadWords(run, i) {
 // An instruction that neither reads nor stores: where the run goes on tells whether a jump was taken.
 function localWords(run, i) {
   const text = run.text(i);
+  const label = run.jumpLabel(i);
   if (text === "MFENCE") {
-    return [": its store buffer is empty, so the fence lets it go on."];
+    return [run.isSequential ? ", which has nothing to wait for." : ": its store buffer is empty, so the fence lets it go on."];
   }
-  if (!text.startsWith("J")) {
-    return ["."];
+  if (label !== null) {
+    return [", and jumps to ", code(label), "."];
   }
-  const next = run.next(i + 1, run.threads[i]);
-  return [next === run.steps[i].instruction + 1 ? ", and goes on with the next instruction." : ", and jumps ahead."];
+  return [text.startsWith("J") ? ", and goes on with the next instruction." : "."];
 }
 
 // A condition that names a part of what is compared may be met sequentially too, with other final values.
-const elsewhere = ". The command fencer outcomes --model sequential says whether a sequential run does so too.";
+const elsewhere = () => [". The command ", command("fencer outcomes --model sequential"), " says whether a sequential run does so too."];
+
+// A run that keeps the condition shows no need of its fence for the condition alone.
+const fewer = () => ["; but registers or memory end as they sequentially cannot. For the condition alone fewer fences may be ",
+  "enough: ", command("fencer why --condition LITMUS"), " asks for those."];
 
 // Whether the run's outcome is what the file's condition is about.
 function conditionWords(run) {
   const condition = code(given.condition);
-  const quantifier = given.condition.split(" ")[0];
-  if (quantifier === "~exists") {
+  if (quantifier() === "~exists") {
     return run.meets_condition
-      ? ["It is what the file says must not happen: ", condition, elsewhere]
-      : ["What must not happen, ", condition, ", does not happen in this run; but registers or memory end as they ",
-        "sequentially cannot."];
+      ? ["It is what the file says must not happen: ", condition, ...elsewhere()]
+      : ["What must not happen, ", condition, ", does not happen in this run", ...fewer()];
   }
-  if (quantifier === "exists") {
+  if (quantifier() === "exists") {
     return run.meets_condition
-      ? ["It is what the file asks for: ", condition, elsewhere]
-      : ["It is not what the file asks for, ", condition, "; but registers or memory end as they ",
-        "sequentially cannot."];
+      ? ["It is what the file asks for: ", condition, ...elsewhere()]
+      : ["It is not what the file asks for, ", condition, ...fewer()];
   }
   return run.meets_condition
-    ? ["The file's condition, ", condition, ", is met by this run; but registers or memory end as they sequentially ",
-      "cannot."]
-    : ["It breaks the file's condition: ", condition, elsewhere];
+    ? ["The file's condition, ", condition, ", is met by this run", ...fewer()]
+    : ["It breaks the file's condition: ", condition, ...elsewhere()];
 }
 
 // Whether the run meets the formula of the file's condition, as no sequential run does.
@@ -150,8 +199,7 @@ function verdictWords(run) {
   if (given.answer.condition) {
     return [code(outcomeText(run.run)), html("span", { class: "verdict" }, aloneWords(run.run)), code(given.condition), "."];
   }
-  return [code(outcomeText(run.run)), html("span", { class: "verdict" }, " No sequential run has this outcome. "),
-    ...conditionWords(run.run)];
+  return [code(outcomeText(run.run)), html("span", { class: "verdict" }, " No sequential run has this outcome. ")];
 }
 
 // The cycle of the candidate execution, a sentence for each edge.

@@ -51,15 +51,19 @@ pub(crate) const HEAD: &[u8] = b"\
 /* Texts */\n\
 * { box-sizing: border-box; }\n\
 body { margin: 0; background: var(--bg); color: var(--ink); font: 16px/1.5 var(--sans); }\n\
-main { max-width: 78rem; margin: 0 auto; padding: 1.2rem 1rem 3rem; overflow-wrap: anywhere; }\n\
-h1 { font-size: 1.6rem; line-height: 1.25; margin: 0 0 0.5rem; }\n\
+main { max-width: 120rem; margin: 0 auto; padding: 0.8rem 1rem 2rem; overflow-wrap: anywhere; }\n\
+h1 { font-size: 1.5rem; line-height: 1.25; margin: 0 0 0.3rem; }\n\
 h2 { font-size: 1.05rem; margin: 0 0 0.5rem; }\n\
 h3, h4 { font-size: 0.85rem; margin: 0; }\n\
 p { margin: 0 0 0.6rem; max-width: 95ch; }\n\
-.lead { font-size: 1.15rem; }\n\
+.lead { font-size: 1.1rem; max-width: none; }\n\
+.about { margin: 0 0 0.5rem; }\n\
+.about p { margin: 0.3rem 0 0; }\n\
+summary { cursor: pointer; width: fit-content; }\n\
 .soft { color: var(--soft); }\n\
 .note { margin: 0.6rem 0 0; font-size: 0.9rem; }\n\
-.choice { margin: 0.9rem 0 0.3rem; font-weight: 600; }\n\
+.choice { display: flex; flex-wrap: wrap; gap: 0.3rem 0.6rem; align-items: center; margin: 0 0 0.6rem; }\n\
+.choice > span { font-weight: 600; }\n\
 .verdict { color: var(--bad); font-weight: 600; }\n\
 code, .code, table, .cell, .slot, svg text {\n\
 \x20 font-family: var(--mono);\n\
@@ -68,6 +72,7 @@ code, .code, table, .cell, .slot, svg text {\n\
 }\n\
 code { white-space: nowrap; }\n\
 .long { white-space: normal; }\n\
+.word { white-space: nowrap; }\n\
 .command { user-select: all; }\n\
 \n\
 /* Cards and controls */\n\
@@ -93,29 +98,78 @@ button {\n\
 button:hover { border-color: var(--now); }\n\
 button[aria-disabled=true] { color: var(--soft); cursor: default; border-style: dashed; }\n\
 :focus-visible { outline: 3px solid var(--now); outline-offset: 2px; }\n\
-[role=tablist] { display: flex; flex-wrap: wrap; gap: 0.4rem; margin: 0.2rem 0 0.9rem; align-items: center; }\n\
+[role=tablist] { display: flex; flex-wrap: wrap; gap: 0.3rem; align-items: center; }\n\
+[role=tab] { min-height: 1.9rem; padding: 0.1rem 0.6rem; border-radius: 99px; font-size: 0.9rem; }\n\
 [role=tab][aria-selected=true] { background: var(--now-bg); border-color: var(--now); font-weight: 600; }\n\
-[role=tab] small { color: var(--soft); font-weight: 400; }\n\
-.bar { position: sticky; top: 0; z-index: 3; }\n\
 .controls { display: flex; flex-wrap: wrap; gap: 0.4rem; align-items: center; }\n\
-.controls button { padding: 0.3rem 0.6rem; }\n\
-.place { display: flex; flex: 1 1 18rem; gap: 0.6rem; align-items: center; }\n\
-.place input { flex: 1; accent-color: var(--now); height: 2.2rem; margin: 0; min-width: 8rem; }\n\
+.controls button { padding: 0.2rem 0.6rem; min-height: 2rem; }\n\
+.place { display: flex; flex: 1 1 16rem; gap: 0.6rem; align-items: center; }\n\
+.track { position: relative; flex: 1; }\n\
+.track input { display: block; width: 100%; accent-color: var(--now); height: 2rem; margin: 0; min-width: 6rem; }\n\
+.ticks { position: absolute; inset: auto 8px 0; height: 6px; pointer-events: none; }\n\
+.tick { position: absolute; left: calc(100% * var(--share)); width: 2px; height: 6px; margin-left: -1px; background: var(--soft); }\n\
+.tick.bad { background: var(--bad); }\n\
+.bubble {\n\
+\x20 position: absolute;\n\
+\x20 bottom: 100%;\n\
+\x20 right: 0;\n\
+\x20 padding: 0.1rem 0.5rem;\n\
+\x20 border-radius: 6px;\n\
+\x20 background: var(--ink);\n\
+\x20 color: var(--card);\n\
+\x20 font-size: 0.85rem;\n\
+\x20 z-index: 4;\n\
+}\n\
 .count { min-width: 6.5rem; }\n\
-.say { margin: 0.5rem 0 0; min-height: 4.5em; max-width: none; }\n\
+.say { margin: 0.4rem 0 0.6rem; min-height: 3em; max-width: none; }\n\
 \n\
-/* The panel: one column, or the texts left and the machine right */\n\
-.panel, .duo, .right { min-width: 0; }\n\
-@media screen and (min-width: 62rem) {\n\
-\x20 .side .duo {\n\
-\x20   display: grid;\n\
-\x20   grid-template: auto 1fr / repeat(2, minmax(0, 1fr));\n\
-\x20   column-gap: 0.9rem;\n\
-\x20   align-items: start;\n\
-\x20 }\n\
-\x20 .side .wrong { grid-area: 1 / 1; }\n\
-\x20 .side .right { grid-area: 1 / 2 / span 2; }\n\
-\x20 .side .table { grid-area: 2 / 1; }\n\
+/* The panel: one column in which the machine is no higher than the screen */\n\
+.panel { display: flex; flex-direction: column; min-width: 0; }\n\
+.texts { display: contents; }\n\
+.wrong { order: 1; }\n\
+.view { order: 2; display: flex; flex-direction: column; }\n\
+.table { order: 3; }\n\
+.graph { order: 4; }\n\
+.view .machine { margin: -2px; padding: 2px; border: 0; display: flex; flex-direction: column; min-height: 0; overflow: auto; }\n\
+@media screen and (min-height: 36rem) {\n\
+\x20 .framed .view { max-height: calc(100vh - 1rem); }\n\
+}\n\
+@media screen and (min-width: 62rem) and (min-height: 36rem) {\n\
+\x20 .stacked .view { order: 0; max-height: calc(100vh - 11rem); }\n\
+}\n\
+\n\
+/* Where there is room, the whole page is one screen: the texts scroll beside the machine */\n\
+@media screen and (min-width: 62rem) and (min-height: 36rem) {\n\
+\x20 .framed { height: 100vh; display: flex; flex-direction: column; padding-bottom: 0.8rem; }\n\
+\x20 .framed header { display: grid; grid-template-columns: minmax(0, 1fr) auto; column-gap: 1rem; align-items: baseline; }\n\
+\x20 .framed .lead { grid-area: 2 / 1 / auto / span 2; }\n\
+\x20 .framed .about { grid-area: 1 / 2; margin: 0; }\n\
+\x20 .framed .about[open] { grid-area: 3 / 1 / auto / span 2; margin: 0 0 0.5rem; columns: 2; column-gap: 2rem; }\n\
+\x20 .framed .about summary { column-span: all; }\n\
+\x20 .framed .about p { break-inside: avoid; }\n\
+\x20 .framed [role=tabpanel] { display: flex; flex-direction: column; }\n\
+\x20 .framed [role=tabpanel], .framed .panel { flex: 1; min-height: 0; }\n\
+\x20 .framed .panel { display: grid; grid-template: minmax(0, 1fr) / minmax(0, 2fr) minmax(0, 3fr); gap: 0.8rem; }\n\
+\x20 .framed .texts { display: block; overflow-y: auto; }\n\
+\x20 .framed .view { align-self: start; max-height: 100%; margin: 0; }\n\
+\x20 .framed .code { max-height: none; }\n\
+\x20 .framed .texts .card:last-child { margin: 0; }\n\
+}\n\
+\n\
+/* On wide screens the table has a column of its own */\n\
+@media screen and (min-width: 100rem) and (min-height: 36rem) {\n\
+\x20 .framed .panel { grid-template: fit-content(60%) minmax(0, 1fr) / minmax(0, 5fr) minmax(0, 8fr) minmax(0, 6fr); }\n\
+\x20 .framed .texts { display: contents; }\n\
+\x20 .framed .card { margin: 0; }\n\
+\x20 .framed .wrong { grid-area: 1 / 1; overflow-y: auto; }\n\
+\x20 .framed .graph { grid-area: 2 / 1; overflow-y: auto; }\n\
+\x20 .framed .view { grid-area: 1 / 2 / span 2; }\n\
+\x20 .framed .table { grid-area: 1 / 3 / span 2; max-height: none; }\n\
+}\n\
+\n\
+/* A label names its thread: beside the machine, and on telephones, the table has no room to say it twice */\n\
+@media screen and (min-width: 62rem), (max-width: 40rem) {\n\
+\x20 th:nth-child(3), td:nth-child(3) { display: none; }\n\
 }\n\
 \n\
 /* The moments */\n\
@@ -126,21 +180,34 @@ button[aria-disabled=true] { color: var(--soft); cursor: default; border-style: 
 .moments [aria-current] { border-color: var(--now); background: var(--now-bg); }\n\
 .where { flex: none; display: grid; gap: 0.2rem; }\n\
 \n\
-/* The machine */\n\
-.stage { position: relative; display: grid; gap: 2.4rem; }\n\
-.threads { display: grid; gap: 0.8rem; align-items: end; }\n\
+/* The machine: where it is higher than its box, the lists of instructions scroll */\n\
+.stage {\n\
+\x20 position: relative;\n\
+\x20 display: grid;\n\
+\x20 grid-template-rows: minmax(calc(var(--rows) * (var(--row) + 0.6rem)), 1fr) auto;\n\
+\x20 gap: 2rem;\n\
+\x20 min-height: 0;\n\
+}\n\
+.threads {\n\
+\x20 display: grid;\n\
+\x20 grid-template-columns: repeat(auto-fit, minmax(max(9.4rem, 100% / var(--threads) - 0.6rem), 1fr));\n\
+\x20 grid-auto-rows: minmax(var(--row), 1fr);\n\
+\x20 gap: 0.6rem;\n\
+\x20 min-height: 0;\n\
+}\n\
 .thread {\n\
 \x20 container-type: inline-size;\n\
 \x20 border: 1px solid var(--line);\n\
 \x20 border-radius: 8px;\n\
-\x20 padding: 0.5rem;\n\
+\x20 padding: 0.4rem 0.5rem;\n\
 \x20 min-width: 0;\n\
+\x20 min-height: 0;\n\
 \x20 display: grid;\n\
-\x20 gap: 0.6rem;\n\
-\x20 align-self: stretch;\n\
-\x20 align-content: space-between;\n\
+\x20 grid-template-rows: minmax(0, 1fr);\n\
 }\n\
-.code { list-style: none; margin: 0.3rem 0 0; padding: 0; max-height: 27rem; overflow-y: auto; position: relative; }\n\
+.column { display: grid; grid-template-rows: minmax(5rem, 1fr) auto; gap: 0.5rem; min-height: 0; }\n\
+.program { display: flex; flex-direction: column; min-height: 0; }\n\
+.code { list-style: none; margin: 0.2rem 0 0; padding: 0; overflow-y: auto; position: relative; line-height: 1.35; }\n\
 .code li {\n\
 \x20 padding: 0.12rem 0.3rem 0.12rem 1.7rem;\n\
 \x20 position: relative;\n\
@@ -155,11 +222,14 @@ button[aria-disabled=true] { color: var(--soft); cursor: default; border-style: 
 \x20 text-align: right;\n\
 \x20 color: var(--soft);\n\
 }\n\
-.code .label, .code .done { color: var(--soft); }\n\
+.code .label, .code .done, .code .skipped { color: var(--soft); }\n\
+.code .skipped .text { text-decoration: line-through; }\n\
 .code .now { background: var(--now-bg); border-color: var(--now); color: var(--ink); font-weight: 600; }\n\
 .code .fence {\n\
 \x20 padding-left: 0.5rem;\n\
 \x20 margin: 0.1rem 0;\n\
+\x20 width: 0;\n\
+\x20 min-width: 100%; /* so that a list is as wide as its instructions */\n\
 \x20 background: var(--fence-bg);\n\
 \x20 border: 1px solid var(--fence);\n\
 \x20 color: var(--fence);\n\
@@ -169,7 +239,7 @@ button[aria-disabled=true] { color: var(--soft); cursor: default; border-style: 
 .code .passing { background: var(--bad-bg); }\n\
 .fence small { font-weight: 400; display: inline-block; }\n\
 .low { display: grid; grid-template-columns: minmax(0, 2fr) minmax(5.4rem, 3fr); gap: 0.5rem; }\n\
-.low h4 { font-size: 0.8rem; white-space: nowrap; }\n\
+.low h4 { font-size: 0.8rem; overflow-wrap: normal; }\n\
 .low .none { font-size: 0.8rem; margin: 0; }\n\
 .cells { display: flex; flex-wrap: wrap; gap: 0.4rem; margin: 0.2rem 0 0; padding: 0; list-style: none; }\n\
 .cell { border: 1px solid var(--line); border-radius: 5px; padding: 0.15rem 0.5rem; background: var(--card); }\n\
@@ -199,22 +269,34 @@ button[aria-disabled=true] { color: var(--soft); cursor: default; border-style: 
 \x20 text-align: center;\n\
 }\n\
 .slot.full { background: var(--wait-bg); color: var(--wait); border: 1px solid var(--wait); font-weight: 600; }\n\
+.slot.moved { border-color: var(--now); box-shadow: 0 0 0 1px var(--now); }\n\
+.buffer s { margin-left: 0.5em; overflow-wrap: anywhere; font-family: var(--mono); font-weight: 400; color: var(--soft); }\n\
 .memory {\n\
 \x20 border: 2px solid var(--ink);\n\
 \x20 border-radius: 8px;\n\
 \x20 padding: 0.5rem 0.7rem;\n\
 \x20 display: flex;\n\
-\x20 flex-direction: column-reverse;\n\
-\x20 gap: 0.4rem;\n\
+\x20 flex-wrap: wrap;\n\
+\x20 gap: 0.3rem 0.7rem;\n\
+\x20 align-items: center;\n\
 }\n\
-.memory h3 { text-align: center; }\n\
-.memory .cells { justify-content: space-evenly; }\n\
+.memory h3 { flex: 1 0 4.5rem; }\n\
+.memory .cells { flex: 6 1 15rem; justify-content: space-evenly; margin: 0; }\n\
 .memory .cell { font-size: 1.05em; padding: 0.3rem 0.9rem; }\n\
 \n\
+/* A wide column of the machine has the registers and the store buffer beside the program */\n\
+@container (min-width: 17rem) {\n\
+\x20 .column { grid-template: minmax(5rem, 1fr) / fit-content(65%) minmax(6rem, 1fr); column-gap: 0.8rem; }\n\
+\x20 .column .low { display: flex; flex-wrap: wrap; gap: 0.4rem; align-content: end; align-items: flex-end; }\n\
+\x20 .code { min-width: 9.5rem; }\n\
+\x20 .low .registers { flex: 1 1 5rem; }\n\
+\x20 .low .buffer { flex: 2 1 4.2rem; }\n\
+}\n\
+\n\
 /* A narrow column of the machine */\n\
-@container (max-width: 11.5rem) {\n\
-\x20 .low { grid-template-columns: minmax(3.6rem, auto) minmax(3.4rem, 1fr); gap: 0.3rem; }\n\
-\x20 .low h4 { white-space: normal; font-size: 0.75rem; overflow-wrap: normal; }\n\
+@container (max-width: 12rem) {\n\
+\x20 .low { grid-template-columns: minmax(3.4rem, 1fr) minmax(4.4rem, 1.3fr); gap: 0.3rem; }\n\
+\x20 .low h4 { font-size: 0.75rem; }\n\
 \x20 .low .cell, .slot { padding: 0.15rem 0.2rem; }\n\
 \x20 .buffer ol { padding: 2px; }\n\
 }\n\
@@ -238,19 +320,17 @@ button[aria-disabled=true] { color: var(--soft); cursor: default; border-style: 
 }\n\
 \n\
 /* The table: its head stays in sight, so its box has no padding above */\n\
-.table { max-height: 32rem; overflow-y: auto; padding-top: 0; }\n\
+.table { max-height: 28rem; overflow-y: auto; padding-top: 0; }\n\
 table { border-collapse: collapse; width: 100%; }\n\
 caption { text-align: left; font: 600 1.05rem/1.5 var(--sans); padding: 0.9rem 0 0.4rem; }\n\
 th, td {\n\
 \x20 text-align: left;\n\
-\x20 padding: 0.2rem 0.45rem;\n\
+\x20 padding: 0.15rem 0.35rem;\n\
 \x20 border-bottom: 1px solid var(--line);\n\
 \x20 vertical-align: top;\n\
-\x20 overflow-wrap: normal;\n\
-\x20 white-space: nowrap;\n\
 }\n\
-th { color: var(--soft); font-weight: 600; white-space: normal; position: sticky; top: 0; background: var(--card); }\n\
-td:nth-child(5) { white-space: normal; min-width: 10em; }\n\
+th { color: var(--soft); font-weight: 600; position: sticky; top: 0; background: var(--card); overflow-wrap: normal; }\n\
+.table .out { color: var(--bad); font-weight: 700; white-space: nowrap; }\n\
 tbody tr { cursor: pointer; }\n\
 tbody tr:hover { background: var(--bg); }\n\
 tr[aria-current] td { background: var(--now-bg); font-weight: 600; }\n\
@@ -281,9 +361,13 @@ tr.later td { color: var(--soft); }\n\
 \x20 .card { padding: 0.7rem 0.6rem; }\n\
 \x20 .table { padding-top: 0; max-height: 24rem; }\n\
 \x20 h1 { font-size: 1.3rem; }\n\
-\x20 .bar { position: static; }\n\
+\x20 .lead { font-size: 1rem; }\n\
+\x20 .say { font-size: 0.9rem; }\n\
+\x20 .stage { gap: 1.6rem; }\n\
 \x20 .slot { min-height: 1.6rem; }\n\
-\x20 th:nth-child(3), td:nth-child(3) { display: none; }\n\
+\x20 .memory { padding: 0.3rem 0.5rem 0.5rem; }\n\
+\x20 .memory h3 { flex-basis: 100%; }\n\
+\x20 .memory .cell { padding: 0.15rem 0.5rem; }\n\
 }\n\
 \n\
 /* Paper: white, without controls, and without arrows, since they are placed for the screen's layout */\n\
@@ -292,7 +376,6 @@ tr.later td { color: var(--soft); }\n\
 \x20 body { background: #fff; font-size: 1rem; }\n\
 \x20 * { print-color-adjust: exact; }\n\
 \x20 .controls, .pick, .arrows { display: none; }\n\
-\x20 .bar { position: static; }\n\
 \x20 .code, .table { max-height: none; }\n\
 \x20 .card { break-inside: avoid; }\n\
 }\n\
@@ -351,6 +434,10 @@ const SHORT_CODE = 24;\n\
 \n\
 const code = text => html(\"code\", text.length > SHORT_CODE ? { class: \"long\" } : {}, text);\n\
 \n\
+// A command, whose words are not broken.\n\
+const command = text => html(\"code\", { class: \"long\" },\n\
+\x20 text.split(\" \").flatMap((word, i) => [i > 0 ? \" \" : \"\", html(\"span\", { class: \"word\" }, word)]));\n\
+\n\
 const threadName = thread => \"P\" + thread;\n\
 \n\
 // `x=1`, of a store or of what is read.\n\
@@ -373,15 +460,93 @@ const fencedGaps = () => given.answer ? given.answer.set : given.fences ?? [];\n
 \n\
 const instructionText = (thread, number) => given.threads[thread].instructions[number].text;\n\
 \n\
-// The instruction that a gap lies before, and its thread.\n\
-function placeOf(gap) {\n\
+// The instruction that a gap lies before, with its thread, the gap, the instruction's line as the page numbers it, and\n\
+// what else is said of the gap.\n\
+function placeOf(gap, more = \"\") {\n\
 \x20 const [thread, number] = gapPlace(gap);\n\
-\x20 return [code(instructionText(thread, number)), \" of \" + threadName(thread)];\n\
+\x20 return [code(instructionText(thread, number)), ` of ${threadName(thread)} (gap ${gap}, line ${number}${more})`];\n\
 }\n\
 \n\
 const outcomeText = run => run.outcome.map(({ name, value }) => `${name}=${value};`).join(\" \");\n\
 \n\
 const initialText = location => `${location}=${given.initial.memory[given.locations.indexOf(location)]}`;\n\
+// The formula of the file's condition, as far as it takes to find the step that decides it. What the formula comes to is\n\
+// the document's to say.\n\
+\n\
+// Truths are true, false or null, which is not known.\n\
+const anyOf = truths => truths.includes(true) ? true : truths.includes(null) ? null : false;\n\
+const allOf = truths => truths.includes(false) ? false : truths.includes(null) ? null : true;\n\
+const opposite = truth => truth === null ? null : !truth;\n\
+\n\
+// A formula, read once: a function from the values of names to its truth.\n\
+class FormulaReader {\n\
+\x20 constructor(condition) {\n\
+\x20   this.signs = condition.slice(condition.indexOf(\" \")).match(/[()]|[^\\s()]+/g);\n\
+\x20   this.at = 0;\n\
+\x20 }\n\
+\n\
+\x20 takes(sign) {\n\
+\x20   const isNext = this.signs[this.at] === sign;\n\
+\x20   this.at += isNext ? 1 : 0;\n\
+\x20   return isNext;\n\
+\x20 }\n\
+\n\
+\x20 // Operands with this sign between them.\n\
+\x20 operands(sign, operand) {\n\
+\x20   const found = [operand()];\n\
+\x20   while (this.takes(sign)) {\n\
+\x20     found.push(operand());\n\
+\x20   }\n\
+\x20   return found;\n\
+\x20 }\n\
+\n\
+\x20 disjunction() {\n\
+\x20   const parts = this.operands(\"\\\\/\", () => this.conjunction());\n\
+\x20   return valueOf => anyOf(parts.map(part => part(valueOf)));\n\
+\x20 }\n\
+\n\
+\x20 conjunction() {\n\
+\x20   const parts = this.operands(\"/\\\\\", () => this.negation());\n\
+\x20   return valueOf => allOf(parts.map(part => part(valueOf)));\n\
+\x20 }\n\
+\n\
+\x20 negation() {\n\
+\x20   if (this.takes(\"not\")) {\n\
+\x20     const inner = this.negation();\n\
+\x20     return valueOf => opposite(inner(valueOf));\n\
+\x20   }\n\
+\x20   if (this.takes(\"(\")) {\n\
+\x20     const inner = this.disjunction();\n\
+\x20     this.takes(\")\");\n\
+\x20     return inner;\n\
+\x20   }\n\
+\x20   return this.atom();\n\
+\x20 }\n\
+\n\
+\x20 atom() {\n\
+\x20   const sign = this.signs[this.at++];\n\
+\x20   if (sign === \"true\" || sign === \"false\") {\n\
+\x20     return () => sign === \"true\";\n\
+\x20   }\n\
+\x20   const [name, value] = sign.split(\"=\");\n\
+\x20   return valueOf => {\n\
+\x20     const found = valueOf(name);\n\
+\x20     return found === null ? null : found === Number(value);\n\
+\x20   };\n\
+\x20 }\n\
+}\n\
+\n\
+const formulaOf = condition => new FormulaReader(condition).disjunction();\n\
+\n\
+// After how many steps of a run the formula is decided: from there on no write that comes changes its truth. A register\n\
+// or a location counts once its last write is made. Null where it is decided before the first step, or where the formula\n\
+// comes to something else than the document says.\n\
+function decidingStep(run) {\n\
+\x20 const truth = formulaOf(given.condition);\n\
+\x20 const truthAfter = steps => truth(name => run.lastWrite(name) <= steps ? run.finalValue(name) : null);\n\
+\x20 const decided = run.states.findIndex((_, steps) => truthAfter(steps) !== null);\n\
+\x20 return decided > 0 && truthAfter(run.last) === run.run.meets_condition ? decided : null;\n\
+}\n\
 // A run, as far as its steps show it: the state after each step, and the moments that matter. Nothing is executed\n\
 // here: each value comes from the document.\n\
 \n\
@@ -397,6 +562,12 @@ class Run {\n\
 \x20     this.findGap();\n\
 \x20     this.findMoments();\n\
 \x20   }\n\
+\x20   this.decided = decidingStep(this);\n\
+\x20 }\n\
+\n\
+\x20 // Whether it is a run of the machine without store buffers.\n\
+\x20 get isSequential() {\n\
+\x20   return this.run.model === \"sequential\";\n\
 \x20 }\n\
 \n\
 \x20 get last() {\n\
@@ -427,6 +598,45 @@ class Run {\n\
 \x20   const executes = (step, i) => i >= steps && this.threads[i] === thread && step.instruction !== null;\n\
 \x20   const found = this.steps.find(executes);\n\
 \x20   return found ? found.instruction : given.threads[thread].instructions.length;\n\
+\x20 }\n\
+\n\
+\x20 // Whether a thread has jumped over an instruction in some steps.\n\
+\x20 isSkipped(steps, thread, number) {\n\
+\x20   const executes = (step, i) => i < steps && this.threads[i] === thread && step.instruction === number;\n\
+\x20   return number < this.next(steps, thread) && !this.steps.some(executes);\n\
+\x20 }\n\
+\n\
+\x20 // The label that a step jumps to; null where it does not jump, or jumps to the next instruction.\n\
+\x20 jumpLabel(i) {\n\
+\x20   const { instruction } = this.steps[i];\n\
+\x20   const isJump = instruction !== null && this.text(i).startsWith(\"J\");\n\
+\x20   return isJump && this.next(i + 1, this.threads[i]) !== instruction + 1 ? this.text(i).split(\" \")[1] : null;\n\
+\x20 }\n\
+\n\
+\x20 // The register that a step puts a value in: the operand of a load, an exchange or a move that is no location.\n\
+\x20 target(i) {\n\
+\x20   if (this.steps[i].instruction === null || !/^(MOV|XCHG) /.test(this.text(i))) {\n\
+\x20     return null;\n\
+\x20   }\n\
+\x20   const operands = this.text(i).split(\" \")[1].split(\",\");\n\
+\x20   const isExchange = this.text(i).startsWith(\"XCHG\");\n\
+\x20   return operands.slice(0, isExchange ? 2 : 1).find(operand => !operand.startsWith(\"[\")) ?? null;\n\
+\x20 }\n\
+\n\
+\x20 // After how many steps a register `0:EAX` or a location has its last value.\n\
+\x20 lastWrite(name) {\n\
+\x20   const [thread, register] = name.split(\":\");\n\
+\x20   return 1 + this.steps.findLastIndex((step, i) => register === undefined\n\
+\x20     ? step.reaches !== null && step.reaches.location === name\n\
+\x20     : this.threads[i] === Number(thread) && this.target(i) === register);\n\
+\x20 }\n\
+\n\
+\x20 // What a register or a location holds in the end.\n\
+\x20 finalValue(name) {\n\
+\x20   const { memory, registers } = this.states[this.last];\n\
+\x20   const [thread, register] = name.split(\":\");\n\
+\x20   const values = register === undefined ? memory : registers[thread];\n\
+\x20   return values[(register === undefined ? given.locations : given.registers[thread]).indexOf(register ?? name)] ?? 0;\n\
 \x20 }\n\
 \n\
 \x20 // Whether a step reads or stores.\n\
@@ -532,11 +742,60 @@ function passingWords(run, late) {\n\
 \x20 ];\n\
 }\n\
 \n\
+// What a step does, in a few words.\n\
+function shortWords(run, i) {\n\
+\x20 const { instruction, reads, stores, reaches } = run.steps[i];\n\
+\x20 const thread = threadName(run.threads[i]);\n\
+\x20 const label = run.jumpLabel(i);\n\
+\x20 if (instruction === null) {\n\
+\x20   return [`${thread}'s store `, code(assignment(reaches)), \" reaches memory\"];\n\
+\x20 }\n\
+\x20 if (reads) {\n\
+\x20   const from = reads.from === \"buffer\" ? [\" from its buffer\"] : [];\n\
+\x20   return [`${thread} reads `, code(assignment(reads)), ...from, ...stores ? [\" and stores \", code(assignment(stores))] : []];\n\
+\x20 }\n\
+\x20 if (stores) {\n\
+\x20   return [`${thread} stores `, code(assignment(stores)), reaches ? \"\" : \" in its buffer\"];\n\
+\x20 }\n\
+\x20 return label === null ? [`${thread} executes `, code(run.text(i))] : [`${thread} jumps to `, code(label)];\n\
+}\n\
+\n\
+// The moments with the step that decides the file's condition among them, in the order of their first steps.\n\
+function allMoments(run) {\n\
+\x20 const says = decisionWords(run);\n\
+\x20 if (run.decided === null || says === null) {\n\
+\x20   return run.moments;\n\
+\x20 }\n\
+\x20 const isAlone = moment => moment.steps.length === 1 && moment.steps[0] === run.decided;\n\
+\x20 const same = run.moments.find(isAlone);\n\
+\x20 const say = [...same ? [...same.say, \" \"] : [...shortWords(run, run.decided - 1), \". \"], ...says];\n\
+\x20 const others = run.moments.filter(moment => moment !== same);\n\
+\x20 return [...others, { steps: [run.decided], say, isBad: true }].sort((a, b) => a.steps[0] - b.steps[0]);\n\
+}\n\
+\n\
+const quantifier = () => given.condition.split(\" \")[0];\n\
+\n\
+// Whether a run breaks the file's condition: alone it can't break one with `exists`.\n\
+const isBroken = run => quantifier() !== \"exists\" && run.run.meets_condition === (quantifier() === \"~exists\");\n\
+\n\
+// What is said of the step that decides the condition; null where the condition is neither broken nor met, and not asked\n\
+// about.\n\
+function decisionWords(run) {\n\
+\x20 if (isBroken(run)) {\n\
+\x20   return [\"This breaks the condition \", code(given.condition), \".\"];\n\
+\x20 }\n\
+\x20 if (quantifier() === \"exists\" && run.run.meets_condition) {\n\
+\x20   return [\"This meets the condition \", code(given.condition), \".\"];\n\
+\x20 }\n\
+\x20 const isAsked = given.command === \"witness\" || given.answer && given.answer.condition;\n\
+\x20 return isAsked ? [`From here on the formula of the condition is ${run.run.meets_condition}.`] : null;\n\
+}\n\
+\n\
 // What happens in the last of some steps.\n\
 function stepWords(run, steps) {\n\
 \x20 if (steps === 0) {\n\
-\x20   return [\"Before the first step: nothing has been executed, and the store buffers are empty. Press Next, or the\",\n\
-\x20     \" right arrow key.\"];\n\
+\x20   const empty = run.isSequential ? \"\" : \", and the store buffers are empty\";\n\
+\x20   return [`Before the first step: nothing has been executed${empty}. Press Next, or the right arrow key; Space plays.`];\n\
 \x20 }\n\
 \x20 const i = steps - 1;\n\
 \x20 const step = run.steps[i];\n\
@@ -559,8 +818,8 @@ function effectWords(run, i) {\n\
 \x20 const step = run.steps[i];\n\
 \x20 const { reads, stores, reaches } = step;\n\
 \x20 if (reads && stores) {\n\
-\x20   return [\": with its buffer empty, it reads \", code(assignment(reads)), \" and stores \", code(assignment(stores)),\n\
-\x20     \" in memory, at once.\"];\n\
+\x20   return [run.isSequential ? \": it reads \" : \": with its buffer empty, it reads \", code(assignment(reads)), \" and stores \",\n\
+\x20     code(assignment(stores)), \" in memory, at once.\"];\n\
 \x20 }\n\
 \x20 if (stores && reaches) {\n\
 \x20   return [\": \", code(assignment(stores)), \" is in memory at once, where every thread sees it.\"];\n\
@@ -589,39 +848,39 @@ function loadWords(run, i) {\n\
 // An instruction that neither reads nor stores: where the run goes on tells whether a jump was taken.\n\
 function localWords(run, i) {\n\
 \x20 const text = run.text(i);\n\
+\x20 const label = run.jumpLabel(i);\n\
 \x20 if (text === \"MFENCE\") {\n\
-\x20   return [\": its store buffer is empty, so the fence lets it go on.\"];\n\
+\x20   return [run.isSequential ? \", which has nothing to wait for.\" : \": its store buffer is empty, so the fence lets it go on.\"];\n\
 \x20 }\n\
-\x20 if (!text.startsWith(\"J\")) {\n\
-\x20   return [\".\"];\n\
+\x20 if (label !== null) {\n\
+\x20   return [\", and jumps to \", code(label), \".\"];\n\
 \x20 }\n\
-\x20 const next = run.next(i + 1, run.threads[i]);\n\
-\x20 return [next === run.steps[i].instruction + 1 ? \", and goes on with the next instruction.\" : \", and jumps ahead.\"];\n\
+\x20 return [text.startsWith(\"J\") ? \", and goes on with the next instruction.\" : \".\"];\n\
 }\n\
 \n\
 // A condition that names a part of what is compared may be met sequentially too, with other final values.\n\
-const elsewhere = \". The command fencer outcomes --model sequential says whether a sequential run does so too.\";\n\
+const elsewhere = () => [\". The command \", command(\"fencer outcomes --model sequential\"), \" says whether a sequential run does so too.\"];\n\
+\n\
+// A run that keeps the condition shows no need of its fence for the condition alone.\n\
+const fewer = () => [\"; but registers or memory end as they sequentially cannot. For the condition alone fewer fences may be \",\n\
+\x20 \"enough: \", command(\"fencer why --condition LITMUS\"), \" asks for those.\"];\n\
 \n\
 // Whether the run's outcome is what the file's condition is about.\n\
 function conditionWords(run) {\n\
 \x20 const condition = code(given.condition);\n\
-\x20 const quantifier = given.condition.split(\" \")[0];\n\
-\x20 if (quantifier === \"~exists\") {\n\
+\x20 if (quantifier() === \"~exists\") {\n\
 \x20   return run.meets_condition\n\
-\x20     ? [\"It is what the file says must not happen: \", condition, elsewhere]\n\
-\x20     : [\"What must not happen, \", condition, \", does not happen in this run; but registers or memory end as they \",\n\
-\x20       \"sequentially cannot.\"];\n\
+\x20     ? [\"It is what the file says must not happen: \", condition, ...elsewhere()]\n\
+\x20     : [\"What must not happen, \", condition, \", does not happen in this run\", ...fewer()];\n\
 \x20 }\n\
-\x20 if (quantifier === \"exists\") {\n\
+\x20 if (quantifier() === \"exists\") {\n\
 \x20   return run.meets_condition\n\
-\x20     ? [\"It is what the file asks for: \", condition, elsewhere]\n\
-\x20     : [\"It is not what the file asks for, \", condition, \"; but registers or memory end as they \",\n\
-\x20       \"sequentially cannot.\"];\n\
+\x20     ? [\"It is what the file asks for: \", condition, ...elsewhere()]\n\
+\x20     : [\"It is not what the file asks for, \", condition, ...fewer()];\n\
 \x20 }\n\
 \x20 return run.meets_condition\n\
-\x20   ? [\"The file's condition, \", condition, \", is met by this run; but registers or memory end as they sequentially \",\n\
-\x20     \"cannot.\"]\n\
-\x20   : [\"It breaks the file's condition: \", condition, elsewhere];\n\
+\x20   ? [\"The file's condition, \", condition, \", is met by this run\", ...fewer()]\n\
+\x20   : [\"It breaks the file's condition: \", condition, ...elsewhere()];\n\
 }\n\
 \n\
 // Whether the run meets the formula of the file's condition, as no sequential run does.\n\
@@ -640,8 +899,7 @@ function verdictWords(run) {\n\
 \x20 if (given.answer.condition) {\n\
 \x20   return [code(outcomeText(run.run)), html(\"span\", { class: \"verdict\" }, aloneWords(run.run)), code(given.condition), \".\"];\n\
 \x20 }\n\
-\x20 return [code(outcomeText(run.run)), html(\"span\", { class: \"verdict\" }, \" No sequential run has this outcome. \"),\n\
-\x20   ...conditionWords(run.run)];\n\
+\x20 return [code(outcomeText(run.run)), html(\"span\", { class: \"verdict\" }, \" No sequential run has this outcome. \")];\n\
 }\n\
 \n\
 // The cycle of the candidate execution, a sentence for each edge.\n\
@@ -670,8 +928,8 @@ function edgeWords(run, relation, from, target, to) {\n\
 \x20 return [\"reads \", code(assignment(reads)), \", so it comes before \", ...target, \", which stores \",\n\
 \x20   code(assignment(overwritten))];\n\
 }\n\
-// The machine as a picture: the program in a column for each thread, below it the thread's registers and its store\n\
-// buffer, and the memory at the bottom.\n\
+// The machine as a picture: the program in a column for each thread, beside or below it the thread's registers and its\n\
+// store buffer, and the memory at the bottom.\n\
 \n\
 // The cells of registers or locations, as a list.\n\
 const cellList = (label, names) =>\n\
@@ -683,7 +941,7 @@ function programLines({ instructions, end }, thread, leftOut) {\n\
 \x20 const lines = instructions.flatMap(({ labels, text }, number) => {\n\
 \x20   const gap = `${thread}:${number}`;\n\
 \x20   const label = html(\"span\", { class: \"label\" }, labels.map(name => name + \": \").join(\"\"));\n\
-\x20   const line = html(\"li\", { \"data-number\": number, \"data-at\": gap }, label, text);\n\
+\x20   const line = html(\"li\", { \"data-number\": number, \"data-at\": gap }, label, html(\"span\", { class: \"text\" }, text));\n\
 \x20   return fencedGaps().includes(gap) ? [fenceLine(gap, gap === leftOut), line] : [line];\n\
 \x20 });\n\
 \x20 if (end.length > 0) {\n\
@@ -701,46 +959,41 @@ function fenceLine(gap, isOut) {\n\
 \n\
 // A store buffer with room for as many stores as ever wait in it. Its newest store is at the top.\n\
 function bufferBox(thread, depth) {\n\
-\x20 return html(\"div\", { class: \"buffer\" }, html(\"h4\", {}, \"store buffer\"),\n\
+\x20 return html(\"div\", { class: \"buffer\" }, html(\"h4\", {}, \"store buffer\", html(\"s\")),\n\
 \x20   html(\"ol\", { \"aria-label\": `store buffer of ${threadName(thread)}, oldest first` },\n\
 \x20     Array.from({ length: depth }, () => html(\"li\", { class: \"slot\" }))));\n\
 }\n\
 \n\
 function registerBox(thread) {\n\
 \x20 const names = given.registers[thread];\n\
-\x20 return html(\"div\", {}, html(\"h4\", {}, \"registers\"),\n\
+\x20 return html(\"div\", { class: \"registers\" }, html(\"h4\", {}, \"registers\"),\n\
 \x20   names.length > 0 ? cellList(`registers of ${threadName(thread)}`, names)\n\
 \x20     : html(\"p\", { class: \"soft none\" }, \"none\"));\n\
+}\n\
+\n\
+// A thread's registers, and its store buffer where the machine has one.\n\
+function stateBoxes(run, thread) {\n\
+\x20 const depth = Math.max(1, ...run.states.map(state => state.buffers[thread].length));\n\
+\x20 return html(\"div\", { class: \"low\" }, registerBox(thread), run.isSequential ? \"\" : bufferBox(thread, depth));\n\
 }\n\
 \n\
 // A thread's column. Without a run it is the program alone.\n\
 function threadColumn(program, thread, run) {\n\
 \x20 const lines = programLines(program, thread, run ? run.gap : null);\n\
-\x20 const depth = run ? Math.max(1, ...run.states.map(state => state.buffers[thread].length)) : 0;\n\
 \x20 return html(\"section\", { class: \"thread\", \"aria-label\": \"thread \" + threadName(thread) },\n\
-\x20   html(\"div\", {}, html(\"h3\", {}, threadName(thread)), html(\"ol\", { class: \"code\" }, lines)),\n\
-\x20   run ? html(\"div\", { class: \"low\" }, registerBox(thread), bufferBox(thread, depth)) : \"\");\n\
+\x20   html(\"div\", { class: \"column\" },\n\
+\x20     html(\"div\", { class: \"program\" }, html(\"h3\", {}, threadName(thread)), html(\"ol\", { class: \"code\" }, lines)),\n\
+\x20     run ? stateBoxes(run, thread) : \"\"));\n\
 }\n\
 \n\
-function threadColumns(run) {\n\
-\x20 const style = `grid-template-columns: repeat(${given.threads.length}, minmax(9.4rem, 1fr))`;\n\
-\x20 return html(\"div\", { class: \"threads\", style },\n\
-\x20   given.threads.map((program, thread) => threadColumn(program, thread, run)));\n\
-}\n\
+// The columns stand in one row where it has room for them, and else in several.\n\
+const threadColumns = run => html(\"div\", { class: \"threads\", style: `--threads: ${given.threads.length}` },\n\
+\x20 given.threads.map((program, thread) => threadColumn(program, thread, run)));\n\
 \n\
-// Whether the columns have room in half the page: up to this many characters, with the numbers of the lines.\n\
-const HALF_PAGE = 68;\n\
+// Up to so many columns fit on a screen beside the texts.\n\
+const BESIDE = 4;\n\
 \n\
-function isNarrow() {\n\
-\x20 const texts = given.threads.flatMap(({ instructions }) => instructions.map(({ text }) => text.length + 4));\n\
-\x20 return given.threads.length * Math.max(0, ...texts) <= HALF_PAGE;\n\
-}\n\
-\n\
-// The register that a load or an exchange puts its value in: the operand that is no location.\n\
-function loadedRegister(run, i) {\n\
-\x20 const operands = run.text(i).split(\" \")[1].split(\",\");\n\
-\x20 return operands.find(operand => !operand.startsWith(\"[\"));\n\
-}\n\
+const isBeside = () => given.threads.length <= BESIDE;\n\
 \n\
 // Shows values in cells, each with its former value where it changes. The cell that is written is lit also where its\n\
 // value stays the same.\n\
@@ -753,13 +1006,17 @@ function showValues(cells, values, former, written) {\n\
 \x20 });\n\
 }\n\
 \n\
+// How much higher than its registers and its buffer a column is at least, in pixels: beside its program, and below it.\n\
+const BESIDE_PROGRAM = 16;\n\
+const BELOW_PROGRAM = 100;\n\
+\n\
 class Machine {\n\
 \x20 constructor(run) {\n\
 \x20   this.run = run;\n\
 \x20   this.columns = threadColumns(run);\n\
 \x20   this.threads = all(this.columns, \".thread\");\n\
 \x20   this.memory = html(\"section\", { class: \"memory\", \"aria-label\": \"memory\" },\n\
-\x20     html(\"h3\", {}, \"memory, shared by all threads\"), cellList(\"memory\", given.locations));\n\
+\x20     html(\"h3\", {}, \"memory\"), cellList(\"memory\", given.locations));\n\
 \x20   this.arrows = svg(\"svg\", { class: \"arrows\", \"aria-hidden\": \"true\" });\n\
 \x20   this.stage = html(\"div\", { class: \"stage\" }, this.columns, this.memory, this.arrows);\n\
 \x20 }\n\
@@ -776,34 +1033,67 @@ class Machine {\n\
 \x20   if (fence) {\n\
 \x20     fence.classList.toggle(\"passing\", steps > this.run.pass && steps <= this.run.arrival);\n\
 \x20   }\n\
+\x20   this.fit();\n\
+\x20   this.follow(steps);\n\
+\x20 }\n\
+\n\
+\x20 // Makes each row of columns high enough for registers and buffers, and for some lines where the program is above them.\n\
+\x20 fit() {\n\
+\x20   const needs = this.threads.map(column => {\n\
+\x20     const boxes = [...column.querySelector(\".low\").children].map(box => box.getBoundingClientRect());\n\
+\x20     const low = Math.max(...boxes.map(box => box.bottom)) - Math.min(...boxes.map(box => box.top));\n\
+\x20     return low + (boxes[0].left > column.querySelector(\".code\").getBoundingClientRect().right ? BESIDE_PROGRAM : BELOW_PROGRAM);\n\
+\x20   });\n\
+\x20   this.stage.style.setProperty(\"--row\", `${Math.ceil(Math.max(...needs))}px`);\n\
+\x20   this.stage.style.setProperty(\"--rows\", new Set(this.threads.map(column => column.offsetTop)).size);\n\
+\x20 }\n\
+\n\
+\x20 // Scrolls each list of instructions so that the one that is executed, or else the next one, stands in the middle.\n\
+\x20 follow(steps) {\n\
+\x20   this.threads.forEach((column, thread) => {\n\
+\x20     const lines = column.querySelector(\".code\");\n\
+\x20     const line = lines.querySelector(\".now\") ?? lines.querySelector(`[data-number=\"${this.run.next(steps, thread)}\"]`);\n\
+\x20     if (line !== null) {\n\
+\x20       lines.scrollTop = line.offsetTop + line.offsetHeight / 2 - lines.clientHeight / 2;\n\
+\x20     }\n\
+\x20   });\n\
 \x20 }\n\
 \n\
 \x20 showThread(column, thread, steps) {\n\
 \x20   const step = steps > 0 && this.run.threads[steps - 1] === thread ? this.run.steps[steps - 1] : null;\n\
 \x20   const former = this.run.states[Math.max(0, steps - 1)];\n\
 \x20   const state = this.run.states[steps];\n\
-\x20   this.showPlace(column, step ? step.instruction : null, this.run.next(steps, thread));\n\
-\x20   const buffer = state.buffers[thread];\n\
+\x20   this.showPlace(column, thread, step ? step.instruction : null, steps);\n\
+\x20   if (!this.run.isSequential) {\n\
+\x20     this.showBuffer(column, state.buffers[thread], former.buffers[thread]);\n\
+\x20   }\n\
+\x20   const written = step ? this.run.target(steps - 1) : null;\n\
+\x20   showValues(all(column, \".cell\"), state.registers[thread], former.registers[thread], written);\n\
+\x20 }\n\
+\n\
+\x20 // Shows the stores that wait, the one that came in lit, and the one that left struck out above them.\n\
+\x20 showBuffer(column, buffer, former) {\n\
 \x20   all(column, \".slot\").forEach((slot, i) => {\n\
 \x20     slot.textContent = i < buffer.length ? assignment(buffer[i]) : \"\";\n\
 \x20     slot.classList.toggle(\"full\", i < buffer.length);\n\
+\x20     slot.classList.toggle(\"moved\", buffer.length > former.length && i === buffer.length - 1);\n\
 \x20   });\n\
-\x20   const loaded = step && step.reads ? loadedRegister(this.run, steps - 1) : null;\n\
-\x20   showValues(all(column, \".cell\"), state.registers[thread], former.registers[thread], loaded);\n\
+\x20   column.querySelector(\".buffer s\").textContent = buffer.length < former.length ? assignment(former[0]) : \"\";\n\
 \x20 }\n\
 \n\
-\x20 // Lights the instruction that the step executes, and greys the ones before the next.\n\
-\x20 showPlace(column, executed, next) {\n\
+\x20 // Lights the instruction that the step executes, greys the ones that were executed, and strikes out the ones that were\n\
+\x20 // jumped over.\n\
+\x20 showPlace(column, thread, executed, steps) {\n\
 \x20   const lines = column.querySelector(\".code\");\n\
+\x20   const next = this.run.next(steps, thread);\n\
 \x20   all(lines, \"[data-at]\").forEach(line => {\n\
 \x20     const number = gapPlace(line.dataset.at)[1];\n\
 \x20     const isNow = number === executed;\n\
+\x20     const isSkipped = this.run.isSkipped(steps, thread, number);\n\
 \x20     line.classList.toggle(\"now\", isNow);\n\
-\x20     line.classList.toggle(\"done\", !isNow && number < next);\n\
+\x20     line.classList.toggle(\"done\", !isNow && !isSkipped && number < next);\n\
+\x20     line.classList.toggle(\"skipped\", isSkipped);\n\
 \x20     mark(line, isNow);\n\
-\x20     if (isNow) {\n\
-\x20       lines.scrollTop = Math.max(0, line.offsetTop - lines.clientHeight / 2);\n\
-\x20     }\n\
 \x20   });\n\
 \x20 }\n\
 }\n\
@@ -886,16 +1176,17 @@ function drawMove(machine, move, isFirstOfTwo, flies) {\n\
 \x20 const label = assignment(move.value);\n\
 \x20 machine.arrows.append(line);\n\
 \x20 if (Math.abs(y2 - y1) > LABEL_HEIGHT) {\n\
-\x20   drawLabel(machine.arrows, label, labelSpot(machine, line, move, isFirstOfTwo));\n\
+\x20   drawLabel(machine, label, labelSpot(machine, line, move, isFirstOfTwo));\n\
 \x20 }\n\
 \x20 if (flies && !calm.matches) {\n\
 \x20   fly(machine.stage, path, label);\n\
 \x20 }\n\
 }\n\
 \n\
-// Draws a label, above those that are there.\n\
-function drawLabel(arrows, label, { x, y }) {\n\
+// Draws a label, above those that are there, and inside of the stage.\n\
+function drawLabel({ arrows, stage }, label, { x: middle, y }) {\n\
 \x20 const width = label.length * 8 + 12;\n\
+\x20 const x = Math.max(width / 2, Math.min(stage.clientWidth - width / 2, middle));\n\
 \x20 const isInTheWay = ({ x: left, y: top, width: size }) =>\n\
 \x20   Math.abs(left + size / 2 - x) < (size + width) / 2 && Math.abs(top + 10 - y) < 20;\n\
 \x20 const height = all(arrows, \"rect\").map(box => box.getBBox()).some(isInTheWay) ? y - 22 : y;\n\
@@ -1135,23 +1426,33 @@ class Graph {\n\
 const PLAY_INTERVAL = 1800;\n\
 const ADDRESS_DELAY = 400;\n\
 \n\
-// What the table says of a step, a cell each.\n\
+// What the table says of a step, a cell each. Where nothing waits there is no cell for it.\n\
 function stepCells(run, i) {\n\
 \x20 const { label, instruction, reads, stores, reaches, buffer } = run.steps[i];\n\
 \x20 const source = reads && (reads.from === \"buffer\" ? \"its buffer\" : \"memory\");\n\
-\x20 const effects = [reads && `reads ${assignment(reads)} from ${source}`, stores && `stores ${assignment(stores)}`];\n\
+\x20 const jump = run.jumpLabel(i);\n\
+\x20 const effects = [reads && `reads ${assignment(reads)} from ${source}`, stores && `stores ${assignment(stores)}`,\n\
+\x20   jump && `jumps to ${jump}`];\n\
 \x20 return [\n\
 \x20   String(i + 1),\n\
 \x20   label,\n\
 \x20   threadName(run.threads[i]),\n\
 \x20   instruction === null ? \"\xe2\x80\x93\" : run.text(i),\n\
 \x20   effects.filter(Boolean).join(\", \") || \"\xe2\x80\x93\",\n\
-\x20   buffer.map(assignment).join(\" \") || \"\xe2\x80\x93\",\n\
+\x20   ...run.isSequential ? [] : [buffer.map(assignment).join(\" \") || \"\xe2\x80\x93\"],\n\
 \x20   reaches ? assignment(reaches) : \"\xe2\x80\x93\",\n\
 \x20 ];\n\
 }\n\
 \n\
-const TABLE_HEADS = [\"#\", \"step\", \"thread\", \"instruction\", \"reads and stores\", \"still waits\", \"reaches memory\"];\n\
+const tableHeads = run => [\"#\", \"step\", \"thread\", \"instruction\", \"what it does\", ...run.isSequential ? [] : [\"still waits\"],\n\
+\x20 \"reaches memory\"];\n\
+\n\
+// A label, a thread and an instruction are not broken up to this length.\n\
+const SHORT_CELL = 14;\n\
+\n\
+// What a place of the slider is: `step 5 of 12: P0 reads y=0`.\n\
+const placeText = (run, steps) => steps === 0 ? \"start\"\n\
+\x20 : `step ${steps} of ${run.last}: ${shortWords(run, steps - 1).map(part => part.textContent ?? part).join(\"\")}`;\n\
 \n\
 // A part of the page that a reader can scroll, also by keyboard.\n\
 const region = (kind, label, ...children) =>\n\
@@ -1181,30 +1482,63 @@ class Player {\n\
 \x20   this.final = button(\"End\", \"End\", () => this.step(this.run.last));\n\
 \x20   this.slider = html(\"input\", {\n\
 \x20     type: \"range\", id: \"step\", min: 0, max: this.run.last, value: 0, \"aria-label\": \"step of the run\",\n\
-\x20     on: { input: () => this.step(Number(this.slider.value)) },\n\
+\x20     on: { input: () => this.step(Number(this.slider.value)), mousemove: event => this.hint(this.stepUnder(event)),\n\
+\x20       mouseleave: () => this.hint(null) },\n\
 \x20   });\n\
+\x20   this.bubble = html(\"span\", { class: \"bubble\", \"aria-hidden\": \"true\", hidden: true });\n\
 \x20   this.count = html(\"span\", { class: \"count soft\" });\n\
 \x20   this.say = html(\"p\", { class: \"say\", \"aria-live\": \"polite\" });\n\
 \x20 }\n\
 \n\
-\x20 // The parts in the order in which they are read. Where it is narrow, the machine stands beside the texts.\n\
-\x20 panel() {\n\
-\x20   const buttons = [this.first, this.back, this.play, this.forward, this.final];\n\
-\x20   const bar = html(\"section\", { class: \"card bar player\", \"aria-label\": \"player\" },\n\
-\x20     html(\"div\", { class: \"controls\" }, buttons, html(\"div\", { class: \"place\" }, this.slider, this.count)), this.say);\n\
-\x20   const machine = html(\"div\", { class: \"right\" }, bar, region(\"machine\", \"the machine\", this.machine.stage));\n\
-\x20   const duo = html(\"div\", { class: \"duo\" }, this.momentBox(), machine, this.table);\n\
-\x20   return html(\"div\", { class: isNarrow() ? \"panel side\" : \"panel\" }, duo, this.graphBox());\n\
+\x20 // The step that the slider would go to from where the mouse is: its thumb is 16 pixels wide and stays inside.\n\
+\x20 stepUnder({ offsetX }) {\n\
+\x20   const share = (offsetX - 8) / (this.slider.clientWidth - 16);\n\
+\x20   return Math.round(Math.max(0, Math.min(1, share)) * this.run.last);\n\
 \x20 }\n\
 \n\
-\x20 // The moments that matter, each with buttons to its steps.\n\
+\x20 // Says above the slider what a step is.\n\
+\x20 hint(steps) {\n\
+\x20   this.bubble.hidden = steps === null;\n\
+\x20   if (steps !== null) {\n\
+\x20     this.bubble.textContent = placeText(this.run, steps);\n\
+\x20   }\n\
+\x20 }\n\
+\n\
+\x20 // The parts in the order in which they are read. Where there is room, the machine fills the screen beside the texts.\n\
+\x20 panel() {\n\
+\x20   const buttons = [this.first, this.back, this.play, this.forward, this.final];\n\
+\x20   const place = html(\"div\", { class: \"place\" }, html(\"div\", { class: \"track\" }, this.slider, this.ticks(), this.bubble), this.count);\n\
+\x20   const bar = html(\"section\", { class: \"bar player\", \"aria-label\": \"player\" },\n\
+\x20     html(\"div\", { class: \"controls\" }, buttons, place), this.say);\n\
+\x20   this.view = html(\"div\", { class: \"card view\" }, bar, region(\"machine\", \"the machine\", this.machine.stage));\n\
+\x20   const texts = html(\"div\", { class: \"texts\", role: \"region\", tabindex: 0, \"aria-label\": \"the run in words\" },\n\
+\x20     this.momentBox(), this.table, this.graphBox());\n\
+\x20   return html(\"div\", { class: \"panel\" }, texts, this.view);\n\
+\x20 }\n\
+\n\
+\x20 // The moments that matter, in the order of their first steps.\n\
+\x20 moments() {\n\
+\x20   const { run } = this;\n\
+\x20   const isCompared = run.gap !== null && !given.answer.condition;\n\
+\x20   const words = isCompared ? conditionWords(run.run) : [];\n\
+\x20   const end = { steps: [run.last], say: [\"The run ends with \", ...verdictWords(run), ...words] };\n\
+\x20   return [...allMoments(run), end];\n\
+\x20 }\n\
+\n\
+\x20 // Marks of the moments at the slider.\n\
+\x20 ticks() {\n\
+\x20   const steps = this.moments().slice(0, -1).flatMap(({ steps, isBad }) => steps.map(step => [step, isBad]));\n\
+\x20   return html(\"div\", { class: \"ticks\", \"aria-hidden\": \"true\" }, steps.map(([step, isBad]) =>\n\
+\x20     html(\"span\", { class: isBad ? \"tick bad\" : \"tick\", style: `--share: ${step / this.run.last}` })));\n\
+\x20 }\n\
+\n\
+\x20 // The moments, each with buttons to its steps.\n\
 \x20 momentBox() {\n\
-\x20   const end = { steps: [this.run.last], say: [\"The run ends with \", ...verdictWords(this.run)] };\n\
-\x20   const lines = [...this.run.moments, end].map(({ steps, isBad, say }) => html(\"li\", { class: isBad ? \"bad\" : \"\" },\n\
+\x20   const lines = this.moments().map(({ steps, isBad, say }) => html(\"li\", { class: isBad ? \"bad\" : \"\" },\n\
 \x20     html(\"span\", { class: \"where\" }, steps.map(step => this.stepButton(step))), html(\"span\", {}, say)));\n\
-\x20   const title = this.run.gap === null ? \"How the run ends\" : \"What goes wrong without this fence\";\n\
-\x20   return html(\"section\", { class: \"card wrong\" }, html(\"h2\", {}, title), html(\"ol\", { class: \"moments\" }, lines),\n\
-\x20     this.otherGaps());\n\
+\x20   const title = this.run.gap === null ? [\"How the run ends\"]\n\
+\x20     : [\"What goes wrong without the fence before \", ...placeOf(this.run.gap)];\n\
+\x20   return region(\"wrong\", \"what goes wrong\", html(\"h2\", {}, title), html(\"ol\", { class: \"moments\" }, lines), this.otherGaps());\n\
 \x20 }\n\
 \n\
 \x20 stepButton(step) {\n\
@@ -1214,36 +1548,44 @@ class Player {\n\
 \x20 // The other gaps that the run passes: a fence in one of them serves too, against this run.\n\
 \x20 otherGaps() {\n\
 \x20   const others = this.run.run.passed.filter(gap => gap !== this.run.gap);\n\
+\x20   if (this.run.isSequential) {\n\
+\x20     return \"\";\n\
+\x20   }\n\
 \x20   if (this.run.gap === null) {\n\
 \x20     const passed = others.length > 0 ? `It passes ${others.join(\", \")}.` : \"It passes no gap.\";\n\
 \x20     return html(\"p\", { class: \"soft note passed\" }, passed,\n\
 \x20       \" A run passes a gap where its thread goes on with a store waiting; a fence there prevents the run.\");\n\
 \x20   }\n\
-\x20   const places = others.map(gap => html(\"span\", {}, \"before \", ...placeOf(gap), ` (${gap}, cost ${gapCost(gap)})`));\n\
+\x20   const places = others.map(gap => html(\"span\", {}, \"before \", ...placeOf(gap, `, cost ${gapCost(gap)}`)));\n\
 \x20   return places.length === 0 ? \"\"\n\
 \x20     : html(\"p\", { class: \"soft note also\" }, \"A fence \", ...listed(places, \" or \"), \" would prevent this run too.\");\n\
 \x20 }\n\
 \n\
 \x20 row(i) {\n\
-\x20   const cells = stepCells(this.run, i).map(text => html(\"td\", {}, text));\n\
+\x20   const cells = stepCells(this.run, i).map((text, column) =>\n\
+\x20     html(\"td\", { class: column < 4 && text.length <= SHORT_CELL ? \"word\" : \"\" }, text));\n\
+\x20   if (i === this.run.pass) {\n\
+\x20     cells[cells.length - 1].append(html(\"small\", { class: \"out\" }, ` \xe2\x86\x90 ${this.run.gap}`));\n\
+\x20   }\n\
 \x20   return html(\"tr\", { class: i === this.run.pass ? \"pass\" : \"\", on: { click: () => this.step(i + 1) } }, cells);\n\
 \x20 }\n\
 \n\
 \x20 tableBox() {\n\
-\x20   const heads = TABLE_HEADS.map(text => html(\"th\", { scope: \"col\" }, text));\n\
+\x20   const heads = tableHeads(this.run).map(text => html(\"th\", { scope: \"col\" }, text));\n\
 \x20   const model = this.run.run.model === \"sequential\" ? \"--model sequential \" : \"\";\n\
-\x20   const command = `fencer trace ${model}LITMUS ${this.run.steps.map(step => step.label).join(\" \")}`;\n\
+\x20   const text = `fencer trace ${model}LITMUS ${this.run.steps.map(step => step.label).join(\" \")}`;\n\
 \x20   return region(\"table\", \"the run as a table\",\n\
 \x20     html(\"table\", {}, html(\"caption\", {}, \"The run, step by step\"), html(\"thead\", {}, html(\"tr\", {}, heads)),\n\
 \x20       html(\"tbody\", {}, this.rows)),\n\
-\x20     html(\"p\", { class: \"soft note\" }, \"e0: P0 executes its next instruction. f0: the oldest store of P0's buffer \",\n\
-\x20       \"reaches memory. This command shows the same run, with your file as LITMUS: \",\n\
-\x20       html(\"code\", { class: \"long command\" }, command)));\n\
+\x20     html(\"p\", { class: \"soft note\" }, \"e0: P0 executes its next instruction. \",\n\
+\x20       this.run.isSequential ? \"\" : \"f0: the oldest store of P0's buffer reaches memory. \",\n\
+\x20       this.run.gap === null ? \"\" : `\xe2\x86\x90 ${this.run.gap}: here the run passes the gap whose fence is left out. `,\n\
+\x20       \"This command shows the same run, with your file as LITMUS: \", html(\"span\", { class: \"command\" }, command(text))));\n\
 \x20 }\n\
 \n\
 \x20 graphBox() {\n\
 \x20   const title = this.run.gap === null ? \"The candidate execution\" : \"Why no sequential run does this\";\n\
-\x20   return html(\"section\", { class: \"card graph\" }, html(\"h2\", {}, title),\n\
+\x20   return region(\"graph\", \"the candidate execution in words\", html(\"h2\", {}, title),\n\
 \x20     html(\"div\", { class: \"split\" }, this.holder, html(\"div\", {}, this.cycleBox(),\n\
 \x20       html(\"p\", { class: \"soft\" }, \"po: program order. rf: a read reads from this write. co: the order in which \",\n\
 \x20         \"stores reach memory. fr: a read comes before the write that replaces what it read.\"),\n\
@@ -1284,14 +1626,20 @@ class Player {\n\
 \x20   this.drawGraph();\n\
 \x20   this.show(steps);\n\
 \x20   const redraw = () => drawArrows(this.machine, this.at, false);\n\
-\x20   new ResizeObserver(redraw).observe(this.machine.stage);\n\
+\x20   const resize = () => {\n\
+\x20     this.machine.fit();\n\
+\x20     this.machine.follow(this.at);\n\
+\x20     redraw();\n\
+\x20   };\n\
+\x20   new ResizeObserver(resize).observe(this.machine.stage);\n\
 \x20   all(this.machine.stage, \".code\").forEach(lines => lines.addEventListener(\"scroll\", redraw));\n\
 \x20 }\n\
 \n\
-\x20 // Goes to a step that a reader asks for.\n\
+\x20 // Goes to a step that a reader asks for, with the machine in sight.\n\
 \x20 step(steps) {\n\
 \x20   this.stop();\n\
 \x20   this.show(steps);\n\
+\x20   this.view.scrollIntoView({ block: \"nearest\" });\n\
 \x20 }\n\
 \n\
 \x20 stop() {\n\
@@ -1331,7 +1679,7 @@ class Player {\n\
 \x20 showControls() {\n\
 \x20   const { at, run: { last } } = this;\n\
 \x20   this.slider.value = at;\n\
-\x20   this.slider.setAttribute(\"aria-valuetext\", at > 0 ? `step ${at} of ${last}` : \"start\");\n\
+\x20   this.slider.setAttribute(\"aria-valuetext\", placeText(this.run, at));\n\
 \x20   this.count.textContent = at > 0 ? `Step ${at} of ${last}` : \"Start\";\n\
 \x20   const end = at === last ? [html(\"span\", { class: \"verdict\" }, \" The outcome is \"), ...verdictWords(this.run)] : [];\n\
 \x20   this.say.replaceChildren(...stepWords(this.run, at), ...end);\n\
@@ -1395,6 +1743,18 @@ function answerWords(gaps) {\n\
 \x20 return [\"A cheapest set of fences: \", fences, ...places, `. ${cost}; no cheaper set is enough.`];\n\
 }\n\
 \n\
+// What a page is about, folded where it has a run to show.\n\
+const about = (isOpen, ...says) => html(\"details\", { class: \"about soft\", open: isOpen },\n\
+\x20 html(\"summary\", {}, \"What this is about, and how to read it\"), says);\n\
+\n\
+const howToRead = [\n\
+\x20 \"Next, the Left and Right keys and the slider step through the run; Space plays it. An arrow shows what a step moves; what \",\n\
+\x20 \"it changes is outlined, with the former value struck out. Executed instructions are grey, those that were jumped over are \",\n\
+\x20 \"struck out. Lines are numbered from 0 in each thread, so that gap 0:7 lies before line 7 of P0; \",\n\
+];\n\
+\n\
+const gapsCommand = [command(\"fencer gaps LITMUS\"), \" names the lines of the file.\"];\n\
+\n\
 // The program alone, with its condition.\n\
 const programBox = () =>\n\
 \x20 region(\"program\", \"the program\", html(\"h2\", {}, \"The program\"), threadColumns(null),\n\
@@ -1406,22 +1766,21 @@ function showNoFence() {\n\
 \x20   html(\"h1\", {}, `${given.test} needs no fence`),\n\
 \x20   html(\"p\", { class: \"lead\" }, `Every outcome is sequential${comparedWords()}: store buffers show nothing here that `\n\
 \x20     + \"would not happen if each instruction took effect at once.\"),\n\
-\x20   html(\"p\", { class: \"soft\" }, introduction),\n\
+\x20   about(true, html(\"p\", {}, introduction)),\n\
 \x20   programBox());\n\
 }\n\
 \n\
 function showAnswer(gaps) {\n\
 \x20 const isOne = gaps.length === 1;\n\
 \x20 document.title = `${given.test}: why ${isOne ? \"a fence is\" : \"fences are\"} needed`;\n\
-\x20 main.replaceChildren(\n\
+\x20 main.replaceChildren(html(\"header\", {},\n\
 \x20   html(\"h1\", {}, `Why ${given.test} needs ${isOne ? \"a fence\" : gaps.length + \" fences\"}`),\n\
 \x20   html(\"p\", { class: \"lead\" }, answerWords(gaps)),\n\
-\x20   html(\"p\", { class: \"soft\" }, introduction, \" In a sequential run there are no store buffers: each instruction \",\n\
-\x20     `takes effect at once. With ${isOne ? \"this fence\" : \"these fences\"} the program has exactly the outcomes of its `,\n\
-\x20     `sequential runs${comparedWords()}.`),\n\
-\x20   html(\"p\", { class: \"choice\" }, isOne\n\
-\x20     ? \"Without it, this run becomes possible, and no sequential run has its outcome:\"\n\
-\x20     : \"Leave out one of them, and a run becomes possible whose outcome no sequential run has:\"));\n\
+\x20   about(false,\n\
+\x20     html(\"p\", {}, introduction, \" In a sequential run there are no store buffers: each instruction \",\n\
+\x20       `takes effect at once. With ${isOne ? \"this fence\" : \"these fences\"} the program has exactly the outcomes of its `,\n\
+\x20       `sequential runs${comparedWords()}.`),\n\
+\x20     html(\"p\", {}, howToRead, gapsCommand))));\n\
 \x20 showRuns(given.runs.map(run => new Run(run)));\n\
 }\n\
 \n\
@@ -1430,8 +1789,9 @@ function showRuns(runs) {\n\
 \x20 const panel = html(\"div\", { role: \"tabpanel\", id: \"panel\", \"aria-labelledby\": \"tab0\" });\n\
 \x20 const tabs = runs.map(({ gap }, i) => html(\"button\", {\n\
 \x20   type: \"button\", role: \"tab\", id: \"tab\" + i, \"aria-controls\": \"panel\",\n\
+\x20   \"aria-label\": `without the fence before ${placeOf(gap).map(part => part.textContent ?? part).join(\"\")}`,\n\
 \x20   on: { click: () => pick(i, 0), keydown: event => pickByKey(event, i) },\n\
-\x20 }, \"without the fence before \", ...placeOf(gap), html(\"small\", {}, ` (${gap})`)));\n\
+\x20 }, `${threadName(gapPlace(gap)[0])} ${gap}`));\n\
 \x20 let player = null;\n\
 \n\
 \x20 function pick(chosen, steps) {\n\
@@ -1459,7 +1819,10 @@ function showRuns(runs) {\n\
 \x20   }\n\
 \x20 }\n\
 \n\
-\x20 main.append(html(\"div\", { role: \"tablist\", \"aria-label\": \"the fences of the answer\" }, tabs), panel);\n\
+\x20 main.classList.add(isBeside() ? \"framed\" : \"stacked\");\n\
+\x20 main.append(html(\"div\", { class: \"choice\" }, html(\"span\", {}, \"Leave out\"),\n\
+\x20   html(\"div\", { role: \"tablist\", \"aria-label\": \"the fences of the answer\" }, tabs),\n\
+\x20   html(\"span\", {}, \"and a run becomes possible whose outcome no sequential run has.\")), panel);\n\
 \x20 const [gap, steps] = address();\n\
 \x20 const named = runs.findIndex(run => run.gap === gap);\n\
 \x20 pick(Math.max(0, named), named < 0 ? 0 : steps);\n\
@@ -1470,10 +1833,11 @@ function showRuns(runs) {\n\
 function showOneRun(heading, lead) {\n\
 \x20 const player = new Player(new Run(given.run));\n\
 \x20 document.title = `${given.test}: a run`;\n\
-\x20 main.replaceChildren(\n\
+\x20 main.classList.add(isBeside() ? \"framed\" : \"stacked\");\n\
+\x20 main.replaceChildren(html(\"header\", {},\n\
 \x20   html(\"h1\", {}, heading),\n\
 \x20   html(\"p\", { class: \"lead\" }, lead),\n\
-\x20   html(\"p\", { class: \"soft\" }, given.run.model === \"buffered\" ? introduction : \"\"),\n\
+\x20   about(false, given.run.model === \"buffered\" ? html(\"p\", {}, introduction) : \"\", html(\"p\", {}, howToRead, gapsCommand))),\n\
 \x20   player.body);\n\
 \x20 player.start(address()[1]);\n\
 \x20 listenToKeys(() => player);\n\
@@ -1505,7 +1869,7 @@ function showWitness() {\n\
 \x20 main.replaceChildren(\n\
 \x20   html(\"h1\", {}, heading),\n\
 \x20   html(\"p\", { class: \"lead\" }, says, ...machineWords(), \" meets the formula of the file's condition.\"),\n\
-\x20   html(\"p\", { class: \"soft\" }, introduction),\n\
+\x20   about(true, given.model === \"buffered\" ? html(\"p\", {}, introduction) : \"\"),\n\
 \x20   programBox());\n\
 }\n\
 \n\
@@ -1515,21 +1879,38 @@ function address() {\n\
 \x20 return [gap, Number(steps) || 0];\n\
 }\n\
 \n\
-// Steps by Left and Right anywhere, and by Home and End in the player, but not where the focused element has a use of\n\
-// its own for them.\n\
+// Whether an element has a use of its own for a key.\n\
+function hasOwnUse(element, key) {\n\
+\x20 if (key === \" \") {\n\
+\x20   return element.matches(\"button:not([role=tab]), summary, input[type=checkbox]\");\n\
+\x20 }\n\
+\x20 const isScrolled = element.matches(\".scroll\") && element.scrollWidth > element.clientWidth;\n\
+\x20 return isScrolled || element.matches(\"input[type=range], [role=tab]\");\n\
+}\n\
+\n\
+// Steps by Left and Right anywhere, and by Home and End in the player, and plays by Space, but not where the focused\n\
+// element has a use of its own for them.\n\
 function listenToKeys(player) {\n\
 \x20 document.addEventListener(\"keydown\", event => {\n\
-\x20   const hasOwnUse = event.target.matches(\"input[type=range], .scroll, [role=tab]\");\n\
-\x20   if (event.altKey || event.ctrlKey || event.metaKey || hasOwnUse) {\n\
+\x20   if (event.altKey || event.ctrlKey || event.metaKey || hasOwnUse(event.target, event.key)) {\n\
 \x20     return;\n\
 \x20   }\n\
 \x20   const { at, run: { last } } = player();\n\
 \x20   const inPlayer = event.target.closest(\".player, .moments\") !== null;\n\
 \x20   const targets = { ArrowRight: at + 1, ArrowLeft: at - 1, ...(inPlayer ? { Home: 0, End: last } : {}) };\n\
 \x20   const target = targets[event.key];\n\
-\x20   if (target !== undefined) {\n\
+\x20   if (event.key === \" \") {\n\
+\x20     event.preventDefault();\n\
+\x20     player().turnPlaying();\n\
+\x20   } else if (target !== undefined) {\n\
 \x20     event.preventDefault();\n\
 \x20     player().step(target);\n\
+\x20   }\n\
+\x20 });\n\
+\x20 // Some browsers press a button when Space is let go.\n\
+\x20 document.addEventListener(\"keyup\", event => {\n\
+\x20   if (event.key === \" \" && !hasOwnUse(event.target, \" \")) {\n\
+\x20     event.preventDefault();\n\
 \x20   }\n\
 \x20 });\n\
 }\n\

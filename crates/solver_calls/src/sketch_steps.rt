@@ -23,7 +23,6 @@ enum SketchStep {
     Copy,
     FindCycle,
     Run,
-    RunFor,
     Give,
     MustEnd,
     OfNumber(Number),
@@ -58,7 +57,7 @@ enum Two {
     Before,
 }
 
-const STEPS: [(&[u8], SketchStep); 22] = [
+const STEPS: [(&[u8], SketchStep); 21] = [
     (b"new", SketchStep::New),
     (b"memory", SketchStep::Memory),
     (b"mode", SketchStep::Mode),
@@ -66,7 +65,6 @@ const STEPS: [(&[u8], SketchStep); 22] = [
     (b"copy", SketchStep::Copy),
     (b"find-cycle", SketchStep::FindCycle),
     (b"run", SketchStep::Run),
-    (b"run-for", SketchStep::RunFor),
     (b"give", SketchStep::Give),
     (b"must-end", SketchStep::MustEnd),
     (b"next", SketchStep::OfNumber(Number::Next)),
@@ -272,8 +270,7 @@ fn push_step(
         SketchStep::Whole => Ok(write!(printed, "{}", sketch.is_whole())?),
         SketchStep::Copy => Ok(replace(sketch)?),
         SketchStep::FindCycle => Ok(push_cycle(sketch, printed)?),
-        SketchStep::Run => push_run(alloc, sketch, None, printed),
-        SketchStep::RunFor => push_run(alloc, sketch, Some(byte_at(words, 0)?), printed),
+        SketchStep::Run => push_run(alloc, sketch, printed),
         SketchStep::Give => push_give(sketch, words, printed),
         SketchStep::MustEnd => push_must_end(alloc, sketch, words, printed),
         SketchStep::OfNumber(step) => Ok(push_of_number(

@@ -4,7 +4,7 @@ use Rattle.std.specs.List.Sorted.{IsStrictlyIncreasing}
 use Rattle.tso_program.specs.declared.listing.Listing.{Listing}
 use Rattle.candidate_executions.specs.Values.{IsValueOf}
 
--- the values that the location may hold, ascending
+-- the values of the location, ascending
 pub record IsValueList (p : Listing) (location : ℕ) (values : List ℕ) : Type 0 where
   pub ascending : IsStrictlyIncreasing values
   pub exact : (v : ℕ) → Contains values v ↔ IsValueOf p location v

@@ -19,8 +19,8 @@ pub enum Combinations {
     AtLeast(u64),
 }
 
-/// In how many ways the traces of a program's threads may be combined, where each read takes each value that its location
-/// may hold. A search for the outcomes has to close each of these combinations.
+/// In how many ways the traces of a program's threads may be combined, where each read takes each value of its
+/// location. A search for the outcomes has to close each of these combinations.
 pub fn trace_combinations(alloc: Global, program: &Program) -> Result<Combinations, AllocError>
     ensures { IfOk result (AreCombinations program.now) }
 {

@@ -5,8 +5,8 @@
 //!
 //! Begin with `thread_trace_of`, `SharedTrace` and `trace_combinations`. Free to change: what is kept beside a trace
 //! (`write_bits.rt`), which traces are known again (`trace_tree.rt`), and how far combinations of traces are counted.
-//! Relied on: a trace is that of the definitions, `SharedTrace::writes` misses no value that is written, and the values
-//! of a location are all that it may hold, ascending.
+//! Relied on: traces and the values of a location are exactly those of the definitions, the values ascending, and
+//! `SharedTrace::writes` misses no value that is written.
 #![tactic(auto)]
 
 mod combinations;
@@ -22,7 +22,7 @@ mod write_bits;
 mod writes;
 
 pub use combinations::{Combinations, trace_combinations};
-pub use location_values::values_of;
+pub use location_values::{known_values, values_of};
 pub use shared_values::{SharedValues, value_lists};
 pub use thread_order::is_kept_by;
 pub use thread_trace::{SharedTrace, ThreadTrace, thread_trace_at};

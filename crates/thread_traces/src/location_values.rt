@@ -1,4 +1,4 @@
-//! The values that a location may hold.
+//! The values of a location, and the known values.
 ghost use Rattle.std.specs.Prelude.{◌≡◌, ◌≤◌, ◌↔◌, ◌⊎◌, ◌<◌, ℕ, [], IsTrue, IfOk, OnOk, Contains, length};
 ghost use Rattle.std.specs.List.Sorted.{IsStrictlyIncreasing};
 ghost use Rattle.candidate_executions.specs.Values.{IsValueOf, IsKnown};
@@ -7,15 +7,31 @@ ghost use Rattle.thread_traces.specs.Immediates.{stored_number, HasImmediate, St
 use std::alloc::{AllocError, Global};
 use tso_program::{Instr, MAX_ACCESSES, Program, Thread};
 
-/// The values that a location may hold, ascending: its initial value and the numbers stored to it; and
-/// where some instruction stores a register to it, or exchanges with it, also 0 and every number, initial
-/// register and initial value of the program.
+/// The values of a location, ascending: its initial value and the numbers stored to it; and where some
+/// instruction stores a register to it, or exchanges with it, also the known values.
 pub fn values_of(alloc: Global, program: &Program, location: u8) -> Result<Vec<u32>, AllocError>
     requires { location < length program.now.memory }
     ensures exact { IfOk result (λ values. (v : ℕ) → Contains values.items v ↔ IsValueOf program.now location v) }
     ensures ascending { IfOk result (λ values. IsStrictlyIncreasing values.items) }
 {
-    let mut values = gathered(alloc, program, location)?;
+    each_once(gathered(alloc, program, location)?)
+}
+
+/// The known values of a program, ascending: 0, and every number, initial register and initial value.
+pub fn known_values(alloc: Global, program: &Program) -> Result<Vec<u32>, AllocError>
+    ensures exact { IfOk result (λ values. (v : ℕ) → Contains values.items v ↔ IsKnown program.now v) }
+    ensures ascending { IfOk result (λ values. IsStrictlyIncreasing values.items) }
+{
+    let mut values = Vec::new(alloc);
+    push_known(program, &mut values)?;
+    each_once(values)
+}
+
+/// The values, ascending, each of them once.
+fn each_once(mut values: Vec<u32>) -> Result<Vec<u32>, AllocError>
+    ensures same { IfOk result (λ once. (v : ℕ) → Contains once.items v ↔ Contains values.items v) }
+    ensures ascending { IfOk result (λ once. IsStrictlyIncreasing once.items) }
+{
     values.sort()?;
     values.dedup();
     Ok(values)
@@ -39,7 +55,7 @@ fn gathered(alloc: Global, program: &Program, location: u8) -> Result<Vec<u32>, 
     Ok(values)
 }
 
-/// Appends what a register may hold to the values.
+/// Appends the known values of a program to the values.
 fn push_known(program: &Program, values: &mut Vec<u32>) -> Result<(), AllocError>
     ensures { OnOk result ((v : ℕ) → Contains values.new.items v ↔ (Contains values.old.items v ⊎ IsKnown program.now v)) }
 {

@@ -24,7 +24,8 @@ impl Model for SharedValues {
 }
 
 impl SharedValues {
-    fn of(alloc: Global, values: Vec<u32>) -> Result<SharedValues, AllocError>
+    /// The values, to be shared.
+    pub fn of(alloc: Global, values: Vec<u32>) -> Result<SharedValues, AllocError>
         ensures { IfOk result (λ shared. shared ≡ values.items) }
     {
         Ok(SharedValues {

@@ -21,22 +21,6 @@ pub struct ThreadTrace {
     pub next: Option<u8>,
 }
 
-impl ThreadTrace {
-    /// A copy of the trace.
-    fn copy(&self, alloc: Global) -> Result<ThreadTrace, AllocError>
-        ensures { IfOk result (λ other. other ≡ self.now) }
-    {
-        let given = Vec::from_slice(alloc, self.given.as_slice())?;
-        let accesses = Vec::from_slice(alloc, self.accesses.as_slice())?;
-        Ok(ThreadTrace {
-            given: Items::of(given),
-            accesses: Items::of(accesses),
-            last: self.last,
-            next: self.next,
-        })
-    }
-}
-
 /// A thread's trace, and the bits of what it writes.
 #[derive(Drop)]
 struct MarkedTrace {
@@ -111,20 +95,6 @@ impl SharedTrace {
     {
         Ok(SharedTrace {
             marked: Arc::try_clone(&self.marked)?,
-        })
-    }
-
-    /// An equal trace that shares nothing with this one: threads that count the uses of one trace wait for each other.
-    pub fn apart(&self, alloc: Global) -> Result<SharedTrace, AllocError>
-        ensures { IfOk result (λ other. other ≡ self.now) }
-    {
-        let marked = &self.marked;
-        let own = MarkedTrace {
-            trace: marked.trace.copy(alloc)?,
-            written: marked.written,
-        };
-        Ok(SharedTrace {
-            marked: Arc::new(alloc, own)?,
         })
     }
 

@@ -1,6 +1,6 @@
 -- A foreign run that passes no gap of a set leaves its outcome where the set is fenced.
 use Rattle.std.specs.Prelude.{All}
-use Rattle.tree_laws.proofs.Vocabulary.{List, subst, SetOfGaps, Outcome, Question, Label, IsForeign, IsForeignRun, LeavesOutcome, SomePassesNone}
+use Rattle.tree_laws.proofs.Vocabulary.{List, SetOfGaps, Outcome, Question, Label, IsForeign, IsForeignRun, LeavesOutcome, SomePassesNone}
 use Rattle.tso_machine.specs.FenceLaws.{PassesNoGapOf}
 use Rattle.tso_machine.proofs.GapsAvoided.{fenced_runs_avoid}
 use Rattle.std.proofs.lemmas.List.Elements.{All-contains}

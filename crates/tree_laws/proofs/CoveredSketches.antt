@@ -1,10 +1,11 @@
 -- A valid cover tree at a sketch covers it: each completion has made the choice of one of the children, or is closed by a cycle, or ends as its leaf says.
 use Rattle.tree_laws.proofs.Vocabulary.{ℕ, List, [], ◌∷◌, Contains, map, sym, subst, inl, inr, Listing, Outcome, Question, JumpForward, Machine, Event, Kind, Cover, Value, Source, Order, Cycle, Known, Covers, NoCover, MoreCovers, event_of, Choice, OpenChoice, Rule, Whole, Early, AllowsSource, AreChoicesBy, AreTwo, sketch_with}
 use Rattle.tree_laws.proofs.Vocabulary.{MustEndAsNumber, IsValidCoverBy, AreValidCoversBy, IsCovered, Candidate, Sketch, Completes, IsConsistentCompletion, IsSketch, IsSettled, IsPair, with_value, with_source, with_pair, IsKnownCycle, some_value}
-use Rattle.tree_laws.proofs.Vocabulary.{a_value_keeps_a_sketch, a_source_keeps_a_sketch, a_pair_keeps_a_sketch, each_has_a_value, each_has_a_settled_source, each_has_an_order, whole_is_settled, AValidCoverCovers}
+use Rattle.tree_laws.proofs.Vocabulary.{a_value_keeps_a_sketch, a_source_keeps_a_sketch, a_pair_keeps_a_sketch, each_has_a_settled_source, each_has_an_order, whole_is_settled, AValidCoverCovers}
 use Rattle.tree_laws.specs.declared.choice.Choice.TheVariants as choice
 use Rattle.tree_laws.specs.declared.choice.OpenChoice.TheVariants as left
 use Rattle.candidate_executions.proofs.{Sketches.KnownCycles.known_cycle_refutes, Sketches.MustEnd.each_ends_so}
+use Rattle.tree_laws.proofs.RuleValues.{each_has_a_value_by}
 use Rattle.tree_laws.proofs.Lists.{none_here, first_is_here, later_is_here, mapped, found_is_here, each_more}
 
 -- a completion of one sketch that completes another
@@ -36,7 +37,7 @@ module _ (rule : Rule) (q : Question) (mode : Machine) (outcomes : List Outcome)
 
   by_choices : (k : Sketch) (next : OpenChoice) (choices : List Choice) → AreChoicesBy rule p mode k next choices → EachCovered (map (sketch_with k) choices) → Covered k
   by_choices k (left.Value t) choices are each fits c is =
-      let (v, is_value, completes) = each_has_a_value p mode k c t are.next.location forward fits is.is_candidate is.completes are.next.next in
+      let (v, is_value, completes) = each_has_a_value_by rule p mode k c t are.next.location forward fits is are.next.next in
       let here = mapped (choice.Value t) are.values v ((are.next.exact v).1 is_value) in
       after_one k choices (choice.Value t v) each (subst (λ cs. Contains cs (choice.Value t v)) (sym are.each) here)
       (a_value_keeps_a_sketch p mode k t are.next.location v forward fits are.next.next) c (of_other p mode k (with_value k t v) c is completes)

@@ -6,11 +6,11 @@ pub mod OneList
 pub mod InOrder
 pub mod AscendingSearched
 -- cover trees
+pub mod RuleValues
 pub mod CoveredSketches
 pub mod ListedOutcomes
 pub mod WiderTraces
 pub mod TighterModes
-pub mod EarlyCovers
 -- gap trees
 pub mod AvoidedGaps
 pub mod BetterSets

@@ -1,12 +1,14 @@
 -- A thread that sees its own store: the early tree and that of whole sketches are valid in each mode.
 use Rattle.tree_laws.proofs.Vocabulary.{◌≡◌, ◌↔◌, ◌⊎◌, ℕ, zero, suc, ◌<◌, List, [], ◌∷◌, Some, None, Contains, slice_index, map, refl, sym, ap, ◌∙◌, subst, inl, inr, arith, lit<, AllPairs, same_Some, Machine, SequentialMachine, StoreBufferMachine}
 use Rattle.tree_laws.proofs.Vocabulary.{Access, Event, Initial, At, access_by, Writes, Sketch, empty_sketch, given_to, IsKnownCycle, with_source, IsSourceOf, IsSettled, IsWhole, MayBeLast, ComesBefore, MustEndAsNumber, HasSourcesBy}
-use Rattle.tree_laws.proofs.Vocabulary.{Rule, Whole, Early, AllowsSource, AreChoicesBy, IsValidCoverBy, AreValidCoversBy, sketch_with, next_read, IsStrictlyIncreasing, Value, Known, instr_at, Occurs, IsValueOf}
+use Rattle.tree_laws.proofs.Vocabulary.{Rule, Whole, Early, AllowsSource, AreChoicesBy, IsValidCoverBy, AreValidCoversBy, sketch_with, next_read, IsStrictlyIncreasing, Value, Known, instr_at, Occurs, IsHeldValue, IsValueBy, IsValueOf}
 use Rattle.cert_forest.specs.StoreBuffering.{access, one_child, two_children}
 use Rattle.tso_program.specs.declared.instruction.Reg.{Reg, TheVariants.Eax}
 use Rattle.tso_program.specs.declared.instruction.Instr.{Instr, TheVariants.Load, TheVariants.StoreImm, TheVariants.Store, TheVariants.Xchg}
 use Rattle.candidate_executions.specs.declared.event.Kind.TheVariants as union
 use Rattle.candidate_executions.specs.Settled.{MayStore}
+use Rattle.candidate_executions.proofs.FromRuns.KnownValues.{held_is_value}
+use Rattle.dataflow_laws.specs.HeldValues.{Location, Memory, Stored, Here}
 use Rattle.tree_laws.specs.declared.choice.Choice.{Choice}
 use Rattle.tree_laws.specs.declared.choice.Choice.TheVariants as choice
 use Rattle.tree_laws.specs.declared.choice.OpenChoice.TheVariants as left
@@ -60,6 +62,28 @@ values_of_y v = (there, back)
     back (inr (inl occurs)) = absurd (let z : 1 ≡ 0 = stores_to_x 1 v occurs in omega arith)
     back (inr (inr ((r, inl occurs), known))) = absurd (no_register_store 1 r occurs)
     back (inr (inr ((r, inr occurs), known))) = absurd (no_exchange 1 r occurs)
+
+-- each of them flows there
+held_in_x : (v : ℕ) → Contains zero_one v → IsHeldValue own_store 0 v
+held_in_x v here = elim (of_zero_one v here) [
+  | inl e ↦ subst (λ (w : ℕ). IsHeldValue own_store 0 w) (sym e) (Here (Location 0) 0 (Memory 0))
+  | inr e ↦ subst (λ (w : ℕ). IsHeldValue own_store 0 w) (sym e) (Here (Location 0) 1 (Stored 0 0 0 1 refl))
+]
+
+held_in_y : (v : ℕ) → Contains (0 ∷ []) v → IsHeldValue own_store 1 v
+held_in_y v here = elim (first_or_later 0 [] v here) [
+  | inl e ↦ subst (λ (w : ℕ). IsHeldValue own_store 1 w) e (Here (Location 1) 0 (Memory 1))
+  | inr rest ↦ absurd (none_here v rest)
+]
+
+-- so both rules take the same ones
+values_by_x : (rule : Rule) (v : ℕ) → Contains zero_one v ↔ IsValueBy rule own_store 0 v
+values_by_x Whole v = values_of_x v
+values_by_x Early v = (held_in_x v, λ held. (values_of_x v).1 (held_is_value own_store 0 v held))
+
+values_by_y : (rule : Rule) (v : ℕ) → Contains (0 ∷ []) v ↔ IsValueBy rule own_store 1 v
+values_by_y Whole v = values_of_y v
+values_by_y Early v = (held_in_y v, λ held. (values_of_y v).1 (held_is_value own_store 1 v held))
 
 zero_ascends : IsStrictlyIncreasing (0 ∷ [])
 zero_ascends i h = absurd (omega arith)
@@ -151,10 +175,10 @@ module _ (mode : Machine) where
 
   -- both values are chosen in each sketch
   first_values : (rule : Rule) → AreChoicesBy rule own_store mode (empty_sketch own_store) (left.Value 0) (map (choice.Value 0) zero_one)
-  first_values rule = record { values = zero_one; next = record { location = 0; next = refl; ascending = ascending; exact = values_of_x }; each = refl }
+  first_values rule = record { values = zero_one; next = record { location = 0; next = refl; ascending = ascending; exact = values_by_x rule }; each = refl }
 
   second_value : (rule : Rule) (a : ℕ) → AreChoicesBy rule own_store mode (gives a []) (left.Value 1) (map (choice.Value 1) (0 ∷ []))
-  second_value rule a = record { values = 0 ∷ []; next = record { location = 1; next = refl; ascending = zero_ascends; exact = values_of_y }; each = refl }
+  second_value rule a = record { values = 0 ∷ []; next = record { location = 1; next = refl; ascending = zero_ascends; exact = values_by_y rule }; each = refl }
 
   -- where the load gives 1 the outcome is shown
   not_last : MayBeLast own_store mode (gives 1 (0 ∷ [])) 0 (Initial 0) → ⊥

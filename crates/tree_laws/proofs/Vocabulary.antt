@@ -21,7 +21,7 @@ pub use Rattle.candidate_executions.specs.Settled.{IsSettled, MayStillWrite}
 pub use Rattle.candidate_executions.specs.Sketches.{Completes, EndsAs, EndsInValues, IsBefore, IsConsistentCompletion, IsKnownCycle, IsPair, IsSketch, IsSourceOf, IsWhole, KnownAtom, KnownEdgeOfMode}
 pub use Rattle.candidate_executions.specs.Sketches.{KnownFromReads, KnownRelates, MayBeLast, MustEndAs, Sketch, empty_sketch, given_to, next_read, read_by, stopped, with_pair, with_source, with_value}
 pub use Rattle.candidate_executions.specs.Traces.{entered, exchange_of, load_of, store_of, trace, trace_by, traced}
-pub use Rattle.candidate_executions.specs.Values.{IsValueOf, Occurs}
+pub use Rattle.candidate_executions.specs.Values.{IsHeldValue, IsValueOf, Occurs}
 pub use Rattle.candidate_executions.specs.declared.access.Access.{Access}
 pub use Rattle.candidate_executions.specs.declared.event.Event.{Event, TheVariants.Access as At, TheVariants.Initial}
 pub use Rattle.candidate_executions.specs.declared.event.Kind.{Kind}
@@ -54,7 +54,7 @@ pub use Rattle.tree_laws.specs.CoverTrees.{AllowsOrder, AllowsSource, AreChoices
 pub use Rattle.tree_laws.specs.CoverTrees.{IsCovered, IsValidCover, IsValidCoverBy, IsValueBy, MustEndAsNumber, event_of, sketch_with}
 pub use Rattle.tree_laws.specs.GapTrees.{AreValidGaps, EachBetterOfRegionLeavesOutcome, HaveCosts, IsOpenGap, IsSplitBy, IsValidGap, PassesGap, SomePassesNone, SomeRunAvoidsEachBetter}
 pub use Rattle.tree_laws.specs.Laws.{ACoveredListHasEachOutcome, ASplitLosesNoSet, ATighterModeKeepsACover, ATighterModeKeepsASettledRead, ATighterModeKeepsAWholeSketch, ATighterModeKeepsTheValues, AValidCertificateProves}
-pub use Rattle.tree_laws.specs.Laws.{AValidCoverCovers, AWholeCoverIsAnEarlyCover, AValidFencedTreeServes, AValidGapTreeAvoidsEachBetter, AValidGapTreeLeavesNoBetter, AValidTreeMakesTheSequentialList, CoversAreJudgedInOrder, GapsAreJudgedInOrder, IsForeign}
+pub use Rattle.tree_laws.specs.Laws.{AValidCoverCovers, AValidFencedTreeServes, AValidGapTreeAvoidsEachBetter, AValidGapTreeLeavesNoBetter, AValidTreeMakesTheSequentialList, CoversAreJudgedInOrder, GapsAreJudgedInOrder, IsForeign}
 pub use Rattle.tree_laws.specs.Laws.{IsSequentialList, SoNoServingSetIsBetter, TheChoicesAreOneList, TheGapsAreOneList, TheRootHasEverySet, TheSourcesAreOneList, TheValuesAreOneList}
 pub use Rattle.tree_laws.specs.declared.choice.Choice.{Choice}
 pub use Rattle.tree_laws.specs.declared.choice.OpenChoice.{OpenChoice}

@@ -9,7 +9,7 @@ use Rattle.tso_machine.specs.Machine.{Machine}
 use Rattle.candidate_executions.specs.declared.access.Access.{Access}
 use Rattle.candidate_executions.specs.declared.event.Event.{Event, TheVariants.Access as At}
 use Rattle.candidate_executions.specs.Events.{ComesBefore}
-use Rattle.candidate_executions.specs.Values.{IsValueOf}
+use Rattle.candidate_executions.specs.Values.{IsHeldValue, IsValueOf}
 use Rattle.candidate_executions.specs.Candidates.{Candidate, access_by, HasShownOutcome}
 use Rattle.candidate_executions.specs.Sketches.{Sketch, given_to, IsConsistentCompletion, IsSourceOf, IsPair, with_value, with_source, with_pair, next_read, IsWhole, MustEndAs, IsKnownCycle}
 use Rattle.candidate_executions.specs.Settled.{IsSettled}
@@ -24,9 +24,10 @@ use Rattle.cert_forest.specs.Rule.{Rule, TheVariants.Whole, TheVariants.Early}
 abbrev pub event_of : AccessId → Event
 event_of a = At a.thread a.access
 
--- the rule takes v as a value of the location
+-- the rule takes v as a value of the location: each of its values; early, each that it may hold
 abbrev pub IsValueBy : Rule → Listing → ℕ → ℕ → Type 0
-IsValueBy rule p l v = IsValueOf p l v
+IsValueBy Whole p l v = IsValueOf p l v
+IsValueBy Early p l v = IsHeldValue p l v
 
 -- the rule lets the read e take a source in the sketch: once each read has its value; early, once no other thread may still write what e has read
 abbrev pub AllowsSource : Rule → Listing → Machine → Sketch → Event → Type 0

@@ -19,7 +19,7 @@ use Rattle.candidate_executions.specs.Settled.{IsSettled}
 use Rattle.cert_forest.specs.Trees.{Cover, Gap, covers_of, gap_trees_of}
 use Rattle.tree_laws.specs.declared.choice.Choice.{Choice}
 use Rattle.tree_laws.specs.declared.choice.OpenChoice.{OpenChoice}
-use Rattle.cert_forest.specs.Rule.{Rule, TheVariants.Whole, TheVariants.Early}
+use Rattle.cert_forest.specs.Rule.{Rule}
 use Rattle.tree_laws.specs.CoverTrees.{HasNextValuesBy, HasSourcesBy, AreChoicesBy, IsValidCoverBy, AreValidCoversBy, IsCovered}
 use Rattle.tree_laws.specs.TighterModes.{IsNoLooser, in_mode}
 use Rattle.tree_laws.specs.Packings.{IsPacking, IsCheapestOf, with_gaps, HavePositiveCosts, MeetsEach}
@@ -31,11 +31,6 @@ use Rattle.tree_laws.specs.Certificates.{AreSequentialRuns, IsValidCertificate}
 abbrev pub AValidCoverCovers : Rule → Type 0
 AValidCoverCovers rule = (q : Question) (mode : Machine) (outcomes : List Outcome) (tree : Cover) (k : Sketch) → JumpForward q.program.threads →
     IsSketch q.program mode k → IsValidCoverBy rule q mode outcomes tree k → IsCovered q mode outcomes k
-
--- A tree that chooses sources and orders only where each read has its value is a valid early tree: nothing is left there that may still write.
-abbrev pub AWholeCoverIsAnEarlyCover : Type 0
-AWholeCoverIsAnEarlyCover = (q : Question) (mode : Machine) (outcomes : List Outcome) (tree : Cover) (k : Sketch) →
-    IsValidCoverBy Whole q mode outcomes tree k → IsValidCoverBy Early q mode outcomes tree k
 
 -- where the sketch with no choice is covered, each outcome of the mode's machine is in the list
 abbrev pub ACoveredListHasEachOutcome : Type 0

@@ -1,7 +1,7 @@
 -- Which gaps are fenced changes the sections of accesses and nothing else of a trace. So where sections don't count, a candidate of one mode is one of another.
 use Rattle.candidate_executions.proofs.Vocabulary.{◌≡◌, ℕ, zero, suc, Bool, List, ◌∷◌, Option, Some, None, IsSome, slice_get, option_map, map, refl, sym, ap, ap₂, ◌∙◌, subst, length, fun_ext, range_with_len, same_Some, slice_get-map, Listing, Local, Action}
 use Rattle.candidate_executions.proofs.Vocabulary.{Go, Wait, Read, Write, Swap, Outcome, loaded, action, start_of, code_of, Machine, Access, Event, Initial, At, Candidate, access, Writes, IsCandidate, HasOutcome, Relates, Edge, IsAcyclic, Mark, Arrives}
-use Rattle.candidate_executions.proofs.Vocabulary.{ReadsValue, IsStored, ArriveInOrder, IsValueOf, Trace, load_of, store_of, exchange_of, with_access, entered, traced, trace, fenced_gaps, trace_by, access_by}
+use Rattle.candidate_executions.proofs.Vocabulary.{ReadsValue, IsStored, ArriveInOrder, IsHeldValue, IsValueOf, ReadsHeldValues, Trace, load_of, store_of, exchange_of, with_access, entered, traced, trace, fenced_gaps, trace_by, access_by}
 use Rattle.candidate_executions.specs.declared.event.Kind.TheVariants as union
 use Rattle.candidate_executions.proofs.Orders.WiderRelations.{acyclic_narrower}
 
@@ -82,6 +82,11 @@ module _ (p : Listing) (c : Candidate) where
     ranks = λ d e l v w a b. is.ranks d e l v w (writes p c.given other mode d l v a) (writes p c.given other mode e l w b);
     initial = λ e l v a. is.initial e l v (writes p c.given other mode e l v a);
   }
+
+  pub held_too : (mode other : Machine) → ReadsHeldValues p mode c → ReadsHeldValues p other c
+  held_too mode other held e x v a r =
+      let (y, b, s) = also p c.given other mode e x a in
+      subst (λ (z : Access). IsHeldValue p z.location v) (sym s) (held e y v b (sym (ap (λ (z : Access). z.read) s) ∙ r))
 
   pub outcome_too : (mode other : Machine) (o : Outcome) → HasOutcome p mode c o → HasOutcome p other c o
   outcome_too mode other o out = record {

@@ -1,8 +1,8 @@
 -- Each run is a consistent candidate.
 use Rattle.candidate_executions.proofs.Vocabulary.{◌≡◌, ◌≢◌, ℕ, ◌<◌, ◌≤◌, true, List, [], ◌∷◌, Some, None, IsSome, Contains, slice_get, slice_index, option_map, map, refl, sym, ap, ap₂, ◌∙◌, subst, inl, inr, arith, length, lit<, fun_ext}
 use Rattle.candidate_executions.proofs.Vocabulary.{length-map-range_with_len, get_or-map-range_with_len, range_with_len, AllPairs, same_Some, slice_get-map, Listing, Stop, action, start_of, code_of, Gaps, Outcome, JumpForward, Label, Access, Event, Initial}
-use Rattle.candidate_executions.proofs.Vocabulary.{At, Candidate, trace_of, access, Writes, IsCandidate, EndsWith, HasOutcome, Trace, IsConsistent, IsValueOf, first_origins, Mark, Takes, Arrives, marks_of, ReadsValue, IsStored, ArriveInOrder, IsCandidateOf}
-use Rattle.candidate_executions.proofs.Vocabulary.{Machine, SequentialMachine, StoreBufferMachine, State, run, start, outcome_at, HasEnded, IsRun, EveryRunIsACandidate, EveryRunIsACompletion, HasItsCandidate}
+use Rattle.candidate_executions.proofs.Vocabulary.{At, Candidate, trace_of, access, Writes, IsCandidate, EndsWith, HasOutcome, Trace, IsConsistent, IsHeldValue, ReadsHeldValues, first_origins, Mark, Takes, Arrives, marks_of, ReadsValue, IsStored, ArriveInOrder, IsCandidateOf}
+use Rattle.candidate_executions.proofs.Vocabulary.{Machine, SequentialMachine, StoreBufferMachine, State, run, start, outcome_at, HasEnded, IsRun, EveryRunIsACandidate, EveryRunIsACompletion}
 use Rattle.candidate_executions.proofs.Sketches.KnownEdges.{completes_empty}
 use Rattle.candidate_executions.proofs.FromRuns.Histories.{Entry, History, Holds, Wrote, Good, Source}
 use Rattle.candidate_executions.proofs.FromRuns.CandidateOfHistory.{candidate_with, Shows, source_of_entry, moment_of_entry, moment_of}
@@ -12,8 +12,14 @@ use Rattle.candidate_executions.proofs.FromRuns.MarksOfHistories.{NewRead, NewWr
 use Rattle.candidate_executions.proofs.FromRuns.RunInvariant.{Inv}
 use Rattle.candidate_executions.proofs.FromRuns.RunsLeaveHistories.{values, accesses, Ending, Rest, played}
 use Rattle.candidate_executions.proofs.{FromRuns.StoredValues.valued_start, FromRuns.StepsSuffice.advance, FromRuns.StepsSuffice.fuel, FromRuns.SequentialIsBuffered.embed}
-use Rattle.candidate_executions.proofs.FromRuns.OtherSections.{reads_too, stored_too, in_order_too, candidate_too, outcome_too, acyclic_too}
+use Rattle.candidate_executions.proofs.FromRuns.KnownValues.{held_is_value}
+use Rattle.candidate_executions.proofs.FromRuns.OtherSections.{reads_too, stored_too, in_order_too, candidate_too, outcome_too, acyclic_too, held_too}
 use Rattle.candidate_executions.proofs.Sections.SectionsRise.{rising}
+
+-- the labels have a consistent candidate, with the outcome, whose reads take values that their locations may hold
+abbrev pub HasHeldCandidate : Listing → Machine → List Label → Outcome → Type 0
+HasHeldCandidate p mode labels o =
+    (c : Candidate) × IsCandidate p mode c × IsConsistent p mode c × HasOutcome p mode c o × IsCandidateOf p mode labels c × ReadsHeldValues p mode c
 
 nothing_held : {A : Type 0} (t i : ℕ) (e : Entry) → Holds (λ t. []) t i e → A
 nothing_held t i e a = absurd cc
@@ -132,16 +138,16 @@ module _ (p : Listing) (gaps : Gaps) (forward : JumpForward p.threads) (labels :
       let z = good.apart t i u j f g fh gh (sym (ap moment_of_entry fh) ∙ (q ∙ ap moment_of_entry gh)) in
       ap₂ At z.0 z.1
 
-  of_location : (e : Event) (x : Access) (v : ℕ) → access p mode c e ≡ Some x → x.read ≡ Some v → IsValueOf p x.location v
-  of_location (Initial l) x v a r = absurd (let z : x.read ≡ None = (shows.of_initial l x a).0 in let y : None ≡ Some v = sym z ∙ r in cc)
-  of_location (At t i) x v a r =
+  held_reads : ReadsHeldValues p mode c
+  held_reads (Initial l) x v a r = absurd (let z : x.read ≡ None = (shows.of_initial l x a).0 in let y : None ≡ Some v = sym z ∙ r in cc)
+  held_reads (At t i) x v a r =
       let (f, fh, fx) = at t i x a in
-      subst (λ (z : Access). IsValueOf p z.location v) (sym fx) (rest.values t i f v fh (sym (ap (λ (z : Access). z.read) fx) ∙ r))
+      subst (λ (z : Access). IsHeldValue p z.location v) (sym fx) (rest.values t i f v fh (sym (ap (λ (z : Access). z.read) fx) ∙ r))
 
   is_candidate : IsCandidate p mode c
   is_candidate = record {
     whole = λ t. rw (trace_is t) ((ended t).0, refl);
-    values = of_location;
+    values = λ e x v a r. held_is_value p x.location v (held_reads e x v a r);
     sources = sources;
     ranks = ranks;
     initial = λ e l v a. omega arith;
@@ -220,12 +226,12 @@ module _ (p : Listing) (gaps : Gaps) (forward : JumpForward p.threads) (labels :
     order = pairs_all (ArriveInOrder (access p mode c) c) (marks_of p mode labels) (lower (marks_of p mode labels) rest.tells.sorted);
   }
 
-  pub is_one : (c : Candidate) × IsCandidate p mode c × IsConsistent p mode c × HasOutcome p mode c (outcome_at p last) × IsCandidateOf p mode labels c
-  is_one = (c, is_candidate, consistent, has_outcome, is_candidate_of)
+  pub is_one : HasHeldCandidate p mode labels (outcome_at p last)
+  is_one = (c, is_candidate, consistent, has_outcome, is_candidate_of, held_reads)
 
-pub fenced_run : (p : Listing) (gaps : Gaps) (labels : List Label) (o : Outcome) → JumpForward p.threads → IsRun p (StoreBufferMachine gaps) labels o → HasItsCandidate p (StoreBufferMachine gaps) labels o
+pub fenced_run : (p : Listing) (gaps : Gaps) (labels : List Label) (o : Outcome) → JumpForward p.threads → IsRun p (StoreBufferMachine gaps) labels o → HasHeldCandidate p (StoreBufferMachine gaps) labels o
 fenced_run p gaps labels o forward r =
-    subst (λ z. HasItsCandidate p (StoreBufferMachine gaps) labels z) (sym r.3)
+    subst (λ z. HasHeldCandidate p (StoreBufferMachine gaps) labels z) (sym r.3)
     (is_one p gaps forward labels r.0 r.1 r.2)
 
 -- A sequential run is also one that waits at each gap, so all program order is kept. Of a sequential candidate no section counts.
@@ -268,24 +274,28 @@ module _ (p : Listing) (forward : JumpForward p.threads) (labels : List Label) (
         order = subst (λ ms. AllPairs (ArriveInOrder (access p SequentialMachine its) its) ms) (sym same) (λ i j d a b. in_order_too p its (StoreBufferMachine each_gap) SequentialMachine _ _ (x.order i j d a b));
       }
 
-  pub is_sequential_one : (js : List Label) → marks_of p SequentialMachine js ≡ marks_of p (StoreBufferMachine each_gap) labels → HasItsCandidate p SequentialMachine js (outcome_at p last)
+  pub is_sequential_one : (js : List Label) → marks_of p SequentialMachine js ≡ marks_of p (StoreBufferMachine each_gap) labels → HasHeldCandidate p SequentialMachine js (outcome_at p last)
   is_sequential_one js same = (
     its,
     candidate_too p its (StoreBufferMachine each_gap) SequentialMachine (is_candidate p each_gap forward labels last runs ended),
     is_sequential,
     outcome_too p its (StoreBufferMachine each_gap) SequentialMachine (outcome_at p last) (has_outcome p each_gap forward labels last runs ended),
     to_candidate_of js same,
+    held_too p its (StoreBufferMachine each_gap) SequentialMachine (held_reads p each_gap forward labels last runs ended),
   )
 
-pub sequential_run : (p : Listing) (labels : List Label) (o : Outcome) → JumpForward p.threads → IsRun p SequentialMachine labels o → HasItsCandidate p SequentialMachine labels o
+pub sequential_run : (p : Listing) (labels : List Label) (o : Outcome) → JumpForward p.threads → IsRun p SequentialMachine labels o → HasHeldCandidate p SequentialMachine labels o
 sequential_run p labels o forward r =
     let (js, s, same) = embed p each_gap r.0 labels (start p) first_origins (λ t. refl) (λ t. refl) r.1 in
-    subst (λ z. HasItsCandidate p SequentialMachine labels z) (sym r.3)
+    subst (λ z. HasHeldCandidate p SequentialMachine labels z) (sym r.3)
     (is_sequential_one p forward js r.0 s r.2 labels same)
 
+pub every_held_run : (p : Listing) (mode : Machine) (labels : List Label) (o : Outcome) → JumpForward p.threads → IsRun p mode labels o → HasHeldCandidate p mode labels o
+every_held_run p SequentialMachine labels o = sequential_run p labels o
+every_held_run p (StoreBufferMachine gaps) labels o = fenced_run p gaps labels o
+
 pub every_run : EveryRunIsACandidate
-every_run p SequentialMachine labels o = sequential_run p labels o
-every_run p (StoreBufferMachine gaps) labels o = fenced_run p gaps labels o
+every_run p mode labels o forward r = let (c, is, consistent, out, of, held) = every_held_run p mode labels o forward r in (c, is, consistent, out, of)
 
 pub every_run_is_a_completion : EveryRunIsACompletion
 every_run_is_a_completion p mode labels o forward r =

@@ -2,7 +2,7 @@
 use Rattle.candidate_executions.proofs.Vocabulary.{◌≡◌, ℕ, suc, ◌<◌, Bool, true, false, List, [], ◌∷◌, ◌++◌, ◌⊎◌, ◌↔◌, Option, Some, None, get_or, map, refl, sym, ap, ◌∙◌, subst, inl, inr, length, append-nil, slice_get, zero, arith, fun_ext, cases_eq}
 use Rattle.candidate_executions.proofs.Vocabulary.{cases_lt, slice_get-get_or, slice_get_within, same_Some, Listing, Local, Action, Go, Wait, Read, Write, Swap, action, loaded, Gaps, put, StoreBufferMachine, State, newest, found, when_empty, flushed, run}
 use Rattle.candidate_executions.proofs.Vocabulary.{Label, Exec, Flush, Pending, Access, Event, At, Origins, Mark, Takes, Arrives, found_write, with_made, with_waiting, with_memory, buffered_origins, buffered_marks, flushed_origins, flushed_marks, marks}
-use Rattle.candidate_executions.proofs.Vocabulary.{marks_at, origins_after, step, Trace, trace, with_access, entered, IsValueOf, exec_by, flush_by}
+use Rattle.candidate_executions.proofs.Vocabulary.{marks_at, origins_after, step, Trace, trace, with_access, entered, IsHeldValue, exec_by, flush_by}
 use Rattle.candidate_executions.proofs.{FromRuns.CandidateOfHistory.moment_of, FromRuns.MarksAlong.marks_step}
 use Rattle.candidate_executions.proofs.FromRuns.MarksOfHistories.{joined, Waits, Tells, IsShownAs, tells_end, tells_quiet, tells_flush, tells_entry, moment_old, same_joined, shown_load, shown_exchange, shown_store, waits_flush}
 use Rattle.candidate_executions.proofs.FromRuns.Histories.{Entry, History, Holds, Good}
@@ -56,7 +56,7 @@ module _ (p : Listing) (gaps : Gaps) (init : ℕ → ℕ) (last : State) where
     pub future : History
     pub traces : (t : ℕ) → (k : ℕ) × (plays t k (section t) (locals t) (values (future t)) ≡ whole t (future t))
     pub ends : Ends init (joined past future) last.memory
-    pub values : (t i : ℕ) (e : Entry) (v : ℕ) → Holds future t i e → e.access.read ≡ Some v → IsValueOf p e.access.location v
+    pub values : (t i : ℕ) (e : Entry) (v : ℕ) → Holds future t i e → e.access.read ≡ Some v → IsHeldValue p e.access.location v
     pub tells : Tells past future waiting n ms
 
   -- a store that has waited arrives
@@ -86,7 +86,7 @@ module _ (p : Listing) (gaps : Gaps) (init : ℕ → ℕ) (last : State) where
 
     pub rest_entry : (e : Entry) (section' : ℕ → ℕ) → (section' t ≡ m) → ((u : ℕ) → (u ≡ t → ⊥) → section' u ≡ section u) →
         ((k : ℕ) (given : List ℕ) → plays t (suc k) (section t) (locals t) (with_read e.access.read given) ≡ with_access e.access (plays t k m next given)) →
-        ((v : ℕ) → e.access.read ≡ Some v → IsValueOf p e.access.location v) → (later : ℕ → List (ℕ × Event)) (front : List Mark) → IsShownAs past t e waiting later n front →
+        ((v : ℕ) → e.access.read ≡ Some v → IsHeldValue p e.access.location v) → (later : ℕ → List (ℕ × Event)) (front : List Mark) → IsShownAs past t e waiting later n front →
         Rest (put locals t next) section' (with_entry past t e) later (suc n) ms → Rest locals section past waiting n (front ++ ms)
     rest_entry e section' here_is others step valued later front shown r = record {
       future = future;
@@ -96,15 +96,15 @@ module _ (p : Listing) (gaps : Gaps) (init : ℕ → ℕ) (last : State) where
       ];
       ends = subst (λ z. Ends init z last.memory) (same_joined past r.future t e) r.ends;
       tells = tells_entry past r.future t e waiting later n front ms shown r.tells;
-      values = put_each (λ u es. (i : ℕ) (d : Entry) (v : ℕ) → slice_get es i ≡ Some d → d.access.read ≡ Some v → IsValueOf p d.access.location v) r.future t (e ∷ r.future t) first (λ u q. r.values u);
+      values = put_each (λ u es. (i : ℕ) (d : Entry) (v : ℕ) → slice_get es i ≡ Some d → d.access.read ≡ Some v → IsHeldValue p d.access.location v) r.future t (e ∷ r.future t) first (λ u q. r.values u);
     }
       where
         future : History
         future = put r.future t (e ∷ r.future t)
 
-        first : (i : ℕ) (d : Entry) (v : ℕ) → slice_get (e ∷ r.future t) i ≡ Some d → d.access.read ≡ Some v → IsValueOf p d.access.location v
+        first : (i : ℕ) (d : Entry) (v : ℕ) → slice_get (e ∷ r.future t) i ≡ Some d → d.access.read ≡ Some v → IsHeldValue p d.access.location v
         first zero d v a b = let q : e ≡ d = same_Some e d a in
-            subst (λ (z : Entry). (v : ℕ) → z.access.read ≡ Some v → IsValueOf p z.access.location v) q valued v b
+            subst (λ (z : Entry). (v : ℕ) → z.access.read ≡ Some v → IsHeldValue p z.access.location v) q valued v b
         first (suc i) d v a b = r.values t i d v a b
 
         here : (k : ℕ) × (plays t k (section t) (locals t) (values (future t)) ≡ whole t (future t))
@@ -178,7 +178,7 @@ module _ (p : Listing) (gaps : Gaps) (init : ℕ → ℕ) (last : State) where
       (ap (buffered_marks s o t) e ∙ (λ i. Takes (At t (here i)) v (seen.found_is i) ∷ []))
       (rest_entry s.locals section past t (loaded to v next) (inside t) o.waiting n (marks p (StoreBufferMachine gaps) s' (with_made o t) ls) x (put section t (inside t)) (put_same section t (inside t)) (put_other section t (inside t))
       (λ k given. rw (put_same section t (inside t)) (rw e refl))
-      (λ x q. subst (λ z. IsValueOf p l z) (same_Some v x q) (found_value p s vd t l)) o.waiting first (shown_load past t x o.waiting n v refl refl)
+      (λ x q. subst (λ z. IsHeldValue p l z) (same_Some v x q) (found_value p s vd t l)) o.waiting first (shown_load past t x o.waiting n v refl refl)
       (played empty ls s' (with_made o t) (suc n) (put section t (inside t)) (with_entry past t x)
       (inv_load init past s.buffers s.memory o n (put section t (inside t)) t l v None ls inv1 w seen (inl refl) refl) (valued_loaded p s vd t l to next v (found_value p s vd t l) (knows (Read l to next) e)) r)))
       (λ l v next e g r.
@@ -214,7 +214,7 @@ module _ (p : Listing) (gaps : Gaps) (init : ℕ → ℕ) (last : State) where
       (rest_entry s.locals section past t (loaded to v next) (suc (inside t)) o.waiting n (marks p (StoreBufferMachine gaps) s' o' ls) x section2 (put_same (put section t (inside t)) t (suc (inside t)))
       (λ u q. put_other (put section t (inside t)) t (suc (inside t)) u q ∙ put_other section t (inside t) u q)
       (λ k given. rw (put_same section t (inside t)) (rw e refl))
-      (λ x q. subst (λ z. IsValueOf p l z) (same_Some v x q) (vd.stored l)) o.waiting first (shown_exchange past t x o.waiting n v refl refl refl)
+      (λ x q. subst (λ z. IsHeldValue p l z) (same_Some v x q) (vd.stored l)) o.waiting first (shown_exchange past t x o.waiting n v refl refl refl)
       (played empty ls s' o' (suc n) section2 (with_entry past t x)
       (inv_section init (with_entry past t x) s.buffers (put s.memory l w) o' (suc n) (put section t (inside t)) ls t (suc (inside t)) (inr b)
       (inv_swap init past s.buffers s.memory o n (put section t (inside t)) t l v (Some w) ls inv1 (o.memory l) seen (inr b) w refl)) (let k = knows (Swap l w to next) e in valued_memory p s vd t _ l w k.1 (valued_loaded p s vd t l to next v (vd.stored l) k.0)) r)))
@@ -225,5 +225,5 @@ module _ (p : Listing) (gaps : Gaps) (init : ℕ → ℕ) (last : State) where
       inside : ℕ → ℕ
       inside t = entered (gap t) (section t)
 
-      knows : (a : Action) → action p.threads t (s.locals t) ≡ a → Fair p a
+      knows : (a : Action) → action p.threads t (s.locals t) ≡ a → Fair p t a
       knows a e = fair_at p t (s.locals t) a (vd.registers t) e

@@ -110,10 +110,12 @@ module _ (p : Listing) (mode : Machine) (k : Sketch) (c : Candidate) (fits : IsS
     abbrev plays : ℕ → List ℕ → Trace
     plays t given = trace (action p.threads t) (fenced_gaps mode t) (length (code_of p.threads t)) 0 (start_of p.threads t) given
 
-    value : (t l : ℕ) → next_read p mode k t ≡ Some l → (v : ℕ) × IsValueOf p l v × Completes (with_value k t v) c
-    value t l next = let (rest, q) = completes.given t in go rest q
+    -- the next read's value, of which holds what does of each read's value
+    pub value : (P : ℕ → ℕ → Type 0) → ((e : Event) (x : Access) (v : ℕ) → access p mode c e ≡ Some x → x.read ≡ Some v → P x.location v) →
+        (t l : ℕ) → next_read p mode k t ≡ Some l → (v : ℕ) × P l v × Completes (with_value k t v) c
+    value P of_reads t l next = let (rest, q) = completes.given t in go rest q
       where
-        go : (rest : List ℕ) → given_to k t ++ rest ≡ c.given t → (v : ℕ) × IsValueOf p l v × Completes (with_value k t v) c
+        go : (rest : List ℕ) → given_to k t ++ rest ≡ c.given t → (v : ℕ) × P l v × Completes (with_value k t v) c
         go [] q = absurd (
             let same : given_to k t ≡ c.given t = sym (append-nil (given_to k t)) ∙ q in
             let reads : read_by (action p.threads t (plays t (c.given t)).last) ≡ Some l = subst (λ g. read_by (action p.threads t (plays t g).last) ≡ Some l) same next in
@@ -126,7 +128,7 @@ module _ (p : Listing) (mode : Machine) (k : Sketch) (c : Candidate) (fits : IsS
             let there : access p mode c (At t (length (plays t (given_to k t)).accesses)) ≡ Some takes.access =
             subst (λ g. slice_get (plays t g).accesses (length (plays t (given_to k t)).accesses) ≡ Some takes.access) q takes.there in (
               v,
-              subst (λ z. IsValueOf p z v) takes.location (is.values (At t (length (plays t (given_to k t)).accesses)) takes.access v there takes.value),
+              subst (λ z. P z v) takes.location (of_reads (At t (length (plays t (given_to k t)).accesses)) takes.access v there takes.value),
               more_values t v rest (there_by p mode k fits t l next) q,
             )
 
@@ -158,7 +160,7 @@ module _ (p : Listing) (mode : Machine) (k : Sketch) (c : Candidate) (fits : IsS
           ((x, v, a, r, s.0, subst (λ g. Writes (access_by p mode g) (c.source e) x.location v) all_given s.1), more_sources e (c.source e) refl)
 
 pub each_has_a_value : EachCompletionHasAValue
-each_has_a_value p mode k c t l forward fits is completes next = value p mode k c fits is completes forward t l next
+each_has_a_value p mode k c t l forward fits is completes next = value p mode k c fits is completes forward (IsValueOf p) is.values t l next
 
 pub each_has_the_values : EachCompletionHasTheValues
 each_has_the_values p mode k c forward fits is completes whole t = same_given p mode k c fits is completes forward whole t

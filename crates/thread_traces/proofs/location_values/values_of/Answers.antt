@@ -1,21 +1,7 @@
-use Rattle.thread_traces.proofs.Vocabulary.{Contains, sym, subst, eqb, Contains-permutation, IsPermutation-sym}
-use Rattle.std.specs.List.Sorted.{IsStrictlyIncreasing}
-use Rattle.std.proofs.lemmas.List.Filters.{dedup_is}
-use Rattle.std.proofs.lemmas.List.Kept.{Contains-dedup_nat, Contains-from_dedup}
-use Rattle.std.proofs.lemmas.Map.Keys.{IsStrictlyIncreasing-dedup}
+use Rattle.std.proofs.lemmas.Result.{IfOk-weaker}
 use Rattle.thread_traces.proofs.location_values.values_of.Goals as goal
 
 pub returns-clause-exact : goal.returns-clause-exact
 returns-clause-exact c =
-    let same = dedup_is eqb c.sort.new.self.items c.dedup.new.self.items c.dedup.ensures.filtered in
-    λ v. (
-      λ h. (c.in_ok-values.ensures v).0 (Contains-permutation c.sort.new.self.items c.in_ok-values.values.items v (IsPermutation-sym c.in_ok-values.values.items c.sort.new.self.items c.in_ok-sort.ensures.permutation)
-          (Contains-from_dedup eqb c.sort.new.self.items v (subst (λ xs. Contains xs v) same h))),
-      λ is. subst (λ xs. Contains xs v) (sym same) (Contains-dedup_nat c.sort.new.self.items v
-          (Contains-permutation c.in_ok-values.values.items c.sort.new.self.items v c.in_ok-sort.ensures.permutation ((c.in_ok-values.ensures v).1 is))),
-    )
-
-pub returns-clause-ascending : goal.returns-clause-ascending
-returns-clause-ascending c =
-    let same = dedup_is eqb c.sort.new.self.items c.dedup.new.self.items c.dedup.ensures.filtered in
-    subst (λ xs. IsStrictlyIncreasing xs) (sym same) (IsStrictlyIncreasing-dedup c.sort.new.self.items c.in_ok-sort.ensures.sorted)
+    let gathered = c.in_ok-gathered.ensures in
+    IfOk-weaker c.each_once.result _ _ (λ once same v. (λ h. (gathered v).0 ((same v).0 h), λ is. (same v).1 ((gathered v).1 is))) c.each_once.ensures.same

@@ -1,7 +1,7 @@
-use Rattle.cover_judge.proofs.Vocabulary.{take, length, ◌<◌, ◌∙◌, arith, length-take-le, choices_in, first_tree, next_is_shorter, value_next, source_next, order_next}
+use Rattle.cover_judge.proofs.Vocabulary.{take, length, sym, ◌<◌, ◌∙◌, arith, length-take-le, choices_in, first_tree, next_is_shorter, value_next, source_next, order_next}
 use Rattle.cover_judge.proofs.{ChoicesJudged.choices_can, SketchesAfter.valid_after, SketchesAfter.wrong_after}
 use Rattle.cover_judge.proofs.CoverNodes.{valid_by_children, wrong_by_child, wrong_by_root, order_valid, order_wrong}
-use Rattle.cover_judge.proofs.CoverSteps.{judged_none, judged_more, judged_wrong, judged_all, past_all, next_can, next_some, not_longer}
+use Rattle.cover_judge.proofs.CoverSteps.{lists_of, judged_none, judged_more, judged_wrong, judged_all, past_all, next_can, next_some, not_longer}
 use Rattle.cover_judge.proofs.cover.CoverJudge.+judge.Goals as goal
 
 -- ---- the children of a node
@@ -9,12 +9,12 @@ use Rattle.cover_judge.proofs.cover.CoverJudge.+judge.Goals as goal
 pub judge_children-returns-in_err-choices-clause-wrong : goal.judge_children-returns-in_err-choices-clause-wrong
 judge_children-returns-in_err-choices-clause-wrong t c =
     wrong_by_root c.args.self.now.rule c.args.self.now.shown.now c.args.self.now.outcomes.now c.args.sketch.now c.args.next
-    c.from_residual.result c.in_err-choices.field-0.0 c.args.count c.args.walk.now c.requires c.from_residual.ensures.1 c.in_err-choices.ensures.wrong
+    c.from_residual.result c.in_err-choices.field-0.0 c.args.count c.args.walk.now c.requires.many c.from_residual.ensures.1 c.in_err-choices.ensures.wrong
 
 pub judge_children-judge_each-requires : goal.judge_children-judge_each-requires
 judge_children-judge_each-requires t c =
     let many = c.in_ok-choices.ensures.many in
-    (omega arith, (choices_can c.args.self.now.rule c.args.sketch.now c.args.next (choices_in c.in_ok-choices.choices) c.in_ok-choices.ensures.choices, omega (arith, c.requires)))
+    (omega arith, (choices_can c.args.self.now.rule c.args.sketch.now c.args.next (choices_in c.in_ok-choices.choices) c.in_ok-choices.ensures.choices, (c.requires.lists, omega (arith, c.requires.many))))
 
 pub judge_children-returns-clause-after : goal.judge_children-returns-clause-after
 judge_children-returns-clause-after t c = rw (← c.in_ok-choices.ensures.many) at c.judge_each.ensures.after
@@ -26,7 +26,7 @@ judge_children-returns-clause-valid t c =
 
 pub judge_children-returns-clause-wrong : goal.judge_children-returns-clause-wrong
 judge_children-returns-clause-wrong t c =
-    let many = length-take-le c.args.count c.args.walk.now c.requires ∙ c.in_ok-choices.ensures.many in
+    let many = length-take-le c.args.count c.args.walk.now c.requires.many ∙ c.in_ok-choices.ensures.many in
     wrong_by_child c.args.self.now.rule c.args.self.now.shown.now c.args.self.now.outcomes.now c.args.sketch.now c.args.next (choices_in c.in_ok-choices.choices) c.in_ok-choices.ensures.choices
     c.judge_each.result (take c.args.count c.args.walk.now) many (rw (← c.in_ok-choices.ensures.many) at c.judge_each.ensures.wrong)
 
@@ -37,7 +37,7 @@ pub judge_each-judge_after-requires : goal.judge_each-judge_after-requires
 judge_each-judge_after-requires t c =
     let is = c.loop-number.invariant in
     let here : c.loop-number.number < length (choices_in c.args.choices.now) = omega (arith, c.loop-number-test.true, c.len-number-end.ensures) in
-    (omega (arith, not_longer is here), (next_can is here c.at.result c.at.ensures c.requires.can, next_some is here))
+    (omega (arith, not_longer is here), (next_can is here c.at.result c.at.ensures c.requires.can, (lists_of c.args.self.now.rule c.args.self.now.lists.now (sym is.kept) c.requires.lists, next_some is here)))
 
 pub judge_each-loop-number-preserved : goal.judge_each-loop-number-preserved
 judge_each-loop-number-preserved t c =
@@ -74,7 +74,7 @@ judge_after-returns-clause-wrong t c =
 pub judge-judge_children-requires : goal.judge-judge_children-requires
 judge-judge_children-requires t c = (
   omega (arith, next_is_shorter c.args.walk.now c.next_node.new.self c.next_node.result c.next_node.ensures),
-  (value_next c.args.walk.now c.in-Value.thread c.in-Value.count c.next_node.new.self c.in-Value.ensures).fits,
+  ((value_next c.args.walk.now c.in-Value.thread c.in-Value.count c.next_node.new.self c.in-Value.ensures).fits, c.requires.lists),
 )
 
 pub judge-returns-in-Value-clause-after : goal.judge-returns-in-Value-clause-after
@@ -95,7 +95,7 @@ judge-returns-in-Value-clause-wrong t c =
 pub judge-judge_children-requires-in-Source : goal.judge-judge_children-requires-in-Source
 judge-judge_children-requires-in-Source t c = (
   omega (arith, next_is_shorter c.args.walk.now c.next_node.new.self c.next_node.result c.next_node.ensures),
-  (source_next c.args.walk.now c.in-Source.read c.in-Source.count c.next_node.new.self c.in-Source.ensures).fits,
+  ((source_next c.args.walk.now c.in-Source.read c.in-Source.count c.next_node.new.self c.in-Source.ensures).fits, c.requires.lists),
 )
 
 pub judge-returns-in-Source-clause-after : goal.judge-returns-in-Source-clause-after
@@ -116,7 +116,7 @@ judge-returns-in-Source-clause-wrong t c =
 pub judge-judge_children-requires-in-Order : goal.judge-judge_children-requires-in-Order
 judge-judge_children-requires-in-Order t c = (
   omega (arith, next_is_shorter c.args.walk.now c.next_node.new.self c.next_node.result c.next_node.ensures),
-  (order_next c.args.walk.now c.in-Order.first c.in-Order.second c.next_node.new.self c.in-Order.ensures).fits,
+  ((order_next c.args.walk.now c.in-Order.first c.in-Order.second c.next_node.new.self c.in-Order.ensures).fits, c.requires.lists),
 )
 
 pub judge-returns-in-Order-clause-after : goal.judge-returns-in-Order-clause-after

@@ -1,0 +1,132 @@
+//! Trees that stand in a whole tree more than once.
+//!
+//! A whole tree decides sources and orders once each read has its value, so a tree that does not rest on a value can't take
+//! the place of the node above. It stands below each other value of that node, too.
+use crate::conflict_set::ConflictSet;
+use crate::shapes::Branch;
+use crate::tree_search::{Found, Frame, TreeSearch};
+use cert_forest::{Node, Rule};
+use event_rows::Decision;
+use std::alloc::AllocError;
+
+/// The branches of a thread that come with the values of a node.
+#[derive(Clone, Copy)]
+pub(crate) struct Branches {
+    thread: u8,
+    /// The place of the branch of the child that is searched.
+    child: usize,
+    /// The place after the branches of all children.
+    end: usize,
+}
+
+/// Nodes of a tree, by the places of the first and after the last.
+#[derive(Clone, Copy)]
+pub(crate) struct Stretch {
+    start: usize,
+    end: usize,
+}
+
+impl TreeSearch<'_> {
+    /// In a whole tree, the branches that come with the values of the node of a decision.
+    pub(crate) fn branches_of(&self, decision: Decision) -> Option<Branches> {
+        match (self.asked.rule, decision) {
+            (Rule::Whole, Decision::Value(t)) => {
+                let place = self.place_of(t);
+                Some(Branches {
+                    thread: t,
+                    child: place.saturating_add(1),
+                    end: self.asked.shapes.branch(t, place).next,
+                })
+            }
+            _ => None,
+        }
+    }
+
+    /// The place of the branch of a thread's next read.
+    fn place_of(&self, t: u8) -> usize {
+        match self.frames.last() {
+            Some(frame) => match frame.branches {
+                Some(above) if above.thread == t => above.child,
+                _ => 0,
+            },
+            None => 0,
+        }
+    }
+
+    /// The branches with the next child in place of the one that is searched.
+    pub(crate) fn next_branches(&self, branches: Branches) -> Branches {
+        Branches {
+            child: self.child_of(branches).next,
+            ..branches
+        }
+    }
+
+    /// The branch of the child that is searched.
+    fn child_of(&self, branches: Branches) -> Branch {
+        self.asked.shapes.branch(branches.thread, branches.child)
+    }
+
+    /// What is found where the last child's tree, which rests on these choices, does not rest on the choice above it: it
+    /// takes the place of the node, or stands in the children that are left, too. `None` where the children before rest on
+    /// more, or those that are left are to be searched.
+    pub(crate) fn without_choice(
+        &mut self,
+        frame: &mut Frame,
+        own: ConflictSet,
+    ) -> Result<Option<Found>, AllocError> {
+        let Some(branches) = frame.branches else {
+            self.lift(frame.root, frame.start);
+            return Ok(Some(self.done(own)));
+        };
+        if let Some(Node::Known { .. }) = self.nodes.get(frame.start) {
+            self.below = None;
+            self.lift(frame.root, frame.start);
+            return Ok(Some(self.done(own)));
+        }
+        let Some(below) = self.below_end(frame.start, branches) else {
+            return Ok(None);
+        };
+        self.fill(branches, below)?;
+        if frame.taken > 1 {
+            frame.taken = frame.choices.len();
+            return Ok(None);
+        }
+        self.below = Some(below);
+        Ok(Some(self.done(own)))
+    }
+
+    /// In the last child's tree, what stands below each end of the thread, where that is the same.
+    fn below_end(&self, start: usize, branches: Branches) -> Option<Stretch> {
+        if self.child_of(branches).values > 0 {
+            return self.below;
+        }
+        Some(Stretch {
+            start,
+            end: self.nodes.len(),
+        })
+    }
+
+    /// Puts the other children's branches after the nodes, with a copy of these nodes at each end of the thread.
+    fn fill(&mut self, branches: Branches, below: Stretch) -> Result<(), AllocError> {
+        let thread = branches.thread;
+        for place in self.next_branches(branches).child..branches.end {
+            let count = self.asked.shapes.branch(thread, place).values;
+            if count > 0 {
+                self.nodes.push(Node::Value { thread, count })?;
+            } else {
+                self.copy_nodes(below)?;
+            }
+        }
+        Ok(())
+    }
+
+    /// Puts a copy of nodes after all.
+    fn copy_nodes(&mut self, nodes: Stretch) -> Result<(), AllocError> {
+        for place in nodes.start..nodes.end {
+            if let Some(node) = self.nodes.get(place).copied() {
+                self.nodes.push(node)?;
+            }
+        }
+        Ok(())
+    }
+}
