@@ -158,7 +158,8 @@ def drawn_run(panel):
 def run_without(litmus, what):
     """The same of the run that `fencer why` prints after this line."""
     printed = run(["why", litmus])[1].decode()
-    return drawn_run(re.split(r"^without", printed.partition(what + "\n")[2], flags=re.M)[0])
+    plain = re.sub(r"  <- \d+:\d+$", "", printed, flags=re.M)
+    return drawn_run(re.split(r"^without", plain.partition(what + "\n")[2], flags=re.M)[0])
 
 
 class Sources(Cases):

@@ -64,7 +64,7 @@ def judge_reason(name, litmus, gaps, reason, sequential, often, shown):
     else:
         right = right and outcome == replayed[0]
     tell(f"{name}: the run that {gap} prevents", right, f"{reason!r}\n  {text!r}")
-    same(f"{name}: its table", "\n".join([*table, ""]).encode(), drawn(litmus, "buffered", labels))
+    same(f"{name}: its table", "\n".join([*table, ""]).encode(), drawn(litmus, "buffered", labels, gap))
     expect(f"{name}: its trace", ["trace", litmus, *labels], 0, drawn(litmus, "buffered", labels) + text)
     tell(f"{name}: its outcome", outcome not in sequential and end == "No sequential run has this outcome.", reason)
     last = {name: int(value) for name, value in (part.strip(";").split("=") for part in replayed[0].split()[1:])}

@@ -1,5 +1,7 @@
 """Messages: what the programs say on standard error, nothing with an answer, and one line for people after each line of a refusal."""
 import os
+import pty
+import select
 import subprocess
 import tempfile
 
@@ -8,14 +10,14 @@ from harness import EXAMPLES, LIMIT, PROGRAMS, Cases, example, lines, same, tell
 FILES = ("SB.litmus", "SB.cert", "n6.litmus")
 ROW = "MOV [x],$1 |  ;\n"
 FAILS = b"fencer: the condition fails without store buffers too: no fence mends it\n"
-ALONE = "is a location of its own, and stands here alone:"
+ALONE = "is a location that stands nowhere else: did you mean"
 # three names of locations, of which the second and the third are stored to once; where the message is, and what it says
 NEAR_NAMES = (
-    ("turn tunr f", "7:6", f"tunr {ALONE} turn is another one"),
-    ("turn turnn f", "7:6", f"turnn {ALONE} turn is another one"),
-    ("turn urn f", "7:6", f"urn {ALONE} turn is another one"),
-    ("turn f tirn", "8:6", f"tirn {ALONE} turn is another one"),
-    ("in f inn", "8:6", f"inn {ALONE} in is another one"),
+    ("turn tunr f", "7:6", f"tunr {ALONE} turn?"),
+    ("turn turnn f", "7:6", f"turnn {ALONE} turn?"),
+    ("turn urn f", "7:6", f"urn {ALONE} turn?"),
+    ("turn f tirn", "8:6", f"tirn {ALONE} turn?"),
+    ("in f inn", "8:6", f"inn {ALONE} in?"),
     ("turn turn0 turn1", "", ""),
     ("turn TURN f", "", ""),
     ("turn tnru trun0", "", ""),
@@ -30,6 +32,20 @@ MISUSES = (
     ("--costs x SB.litmus SB.cert", "--costs is no option; the cost file is the third argument"),
     ("SB.litmus SB.cert --costs=x y", "--costs=x is no option; the cost file is the third argument"),
     ("SB.litmus SB.cert x y", "there are more than three arguments"),
+)
+# arguments of `fencer` that are no command, and what they may mean
+HINTS = (
+    ("SB.litmus", "place SB.litmus"),
+    ("SB.litmus --json", "place SB.litmus"),
+    ("-", "place -"),
+    ("-V", "--version"),
+    ("version", "--version"),
+    ("help", "--help"),
+    ("help place", "place --help"),
+    ("help me", "--help"),
+    ("frobnicate", ""),
+    ("place SB.litmus MP.litmus", ""),
+    ("outcomes -V", ""),
 )
 NEVER, ALWAYS = "stands before any CMP of its thread: it never jumps", "stands before any CMP of its thread: it always jumps"
 UNWRITTEN = "is compared, and nothing of its thread writes it: it holds 0"
@@ -61,6 +77,24 @@ def outputs(words, folder, given, error=subprocess.PIPE):
     name, *words = words if words[:1] == ["fencecheck"] else ["fencer", *words]
     ran = subprocess.run([PROGRAMS[name], *words], cwd=folder, input=given, stdout=subprocess.PIPE, stderr=error, timeout=120)
     return ran.returncode, ran.stdout, ran.stderr
+
+
+def shown(words, given):
+    """What a call says on standard error, where that is a terminal."""
+    above, below = pty.openpty()
+    outputs(words, EXAMPLES, given, below)
+    os.close(below)
+    said = b""
+    while select.select([above], [], [], 0)[0]:
+        try:
+            part = os.read(above, 65536)
+        except OSError:
+            break
+        if not part:
+            break
+        said += part
+    os.close(above)
+    return said
 
 
 def changed(text, old, new):
@@ -113,13 +147,14 @@ class Messages(Cases):
         files = example_texts()
         text = b"X86 t\n{ }\nP0 | P1 ;\n%bexists (true)\n"
         for rows, line in (
-            (ROW * 33, "SB.litmus:3: there are more than 32 accesses to memory"),
-            ("MFENCE |  ;\n" * 65, "SB.litmus:3: thread 0 has more than 64 instructions"),
+            (ROW * 33, "SB.litmus:3: there are 33 accesses to memory, more than 32: 33 in thread 0"),
+            (" | MOV EAX,[x] ;\n" + "XCHG [y],EAX | MOV [x],EAX ;\n" * 16, "SB.litmus:3: there are 33 accesses to memory, more than 32: 16 in thread 0, 17 in thread 1"),
+            ("MFENCE |  ;\n" * 65, "SB.litmus:3: thread 0 has 65 instructions, more than 64"),
             ("A" * 41 + " |  ;\n", f"SB.litmus:4:1: {'A' * 40}.. is no instruction that is read; these are MOV, XCHG, MFENCE, CMP, JE, JNE and JMP, and a label ends with `:`"),
         ):
             refused(["outcomes", "SB.litmus"], {**files, "SB.litmus": text % rows.encode()}, line)
         threads = b"X86 t\n{ }\nP0|P1|P2|P3|P4|P5|P6|P7;\n" + b"MFENCE|MFENCE|MFENCE|MFENCE|MFENCE|MFENCE|MFENCE|MFENCE;\n" * 18 + b"exists (true)\n"
-        refused(["outcomes", "SB.litmus"], {**files, "SB.litmus": threads}, "SB.litmus:3: there are more than 128 gaps")
+        refused(["outcomes", "SB.litmus"], {**files, "SB.litmus": threads}, f"SB.litmus:3: there are 136 gaps, more than 128: {', '.join(f'17 in thread {thread}' for thread in range(8))}")
         long = {**files, "SB.litmus": files["SB.litmus"] + b" " * LIMIT}
         for words, name in ((["outcomes", "SB.litmus"], "SB.litmus"), (["outcomes", "-"], "<stdin>"), (["fencecheck", "-", "SB.cert"], "<stdin>")):
             refused(words, long, f"{name}: has more than {LIMIT} bytes, the most that are read")
@@ -158,6 +193,13 @@ class Messages(Cases):
                 with open("/dev/full", "wb") as full:
                     same(f"{words} of {condition}, where that can't be written", outputs([*words.split(), "-"], EXAMPLES, text, full)[:2], (status, printed))
 
+    def test_near_idle_names(self):
+        """Where the condition names a location that no instruction uses, and the text has another one with nearly this name, that one is named."""
+        text = named("flag fl f").replace(b"0:EAX=3", b"flg=1")
+        for words in ("outcomes", "witness", "place --condition"):
+            told = outputs([*words.split(), "-"], EXAMPLES, text)[2]
+            same(f"{words} where the condition names flg", told, b"<stdin>: the condition names flg, which no instruction reads or writes: did you mean flag?\n")
+
     def test_near_names(self):
         """An answer names a location whose name stands once in the text and is close to another's; `gaps` says nothing of it."""
         for names, place, said in NEAR_NAMES:
@@ -167,6 +209,32 @@ class Messages(Cases):
                 status, _, told = outputs([*words.split(), "-"], EXAMPLES, text)
                 wanted = b"" if words == "gaps" else line
                 tell(f"{words} of {names} says {wanted!r}", (status, told) == (0, wanted), (status, told))
+
+    def test_hints(self):
+        """Where arguments are no command of `fencer`, it says what they may mean, and prints the same error whether or not that can be written."""
+        for words, meant in HINTS:
+            line = f"fencer: did you mean `fencer {meant}`?\n".encode() if meant else b""
+            status, printed, told = outputs(words.split(), EXAMPLES, b"")
+            tell(f"what is said of fencer {words}", (status, printed[:7], told) == (2, b"error: ", line), (status, printed, told))
+            with open("/dev/full", "wb") as full:
+                same(f"fencer {words}, where that can't be written", outputs(words.split(), EXAMPLES, b"", full)[:2], (status, printed))
+
+    def test_terminal(self):
+        """On a terminal the line of the text stands below a message, with a `^` below the word."""
+        files = example_texts()
+        text = files["SB.litmus"]
+        for given, words, line, below in (
+            (changed(text, b"MOV EAX,[y]", b"INC EAX"), "place -", "<stdin>:5:1: INC is arithmetic, which is not read; write a branch for each value (docs/guide.md)", ("INC EAX | MOV EAX,[x] ;", "^")),
+            (changed(text, b"MOV [y],$1 ;", b"MOV [y],$1"), "outcomes -", "<stdin>:4:24: the end of the line stands where `;` is missing", ("MOV [x],$1 | MOV [y],$1", " " * 23 + "^")),
+            (changed(text, b"MOV [x],$1 |", b"\tMOV [x],$1 (* \xc3\xa9 *) INC EAX |"), "place -", "<stdin>:4:21: INC cannot stand here; after an instruction `|` or `;` does, at the end of a row `;`", (" MOV [x],$1 (* \\xc3\\xa9 *) INC EAX | MOV [y],$1 ;", " " * 27 + "^")),
+            (changed(text, b"MOV EAX,[y]", b"INC EAX (*" + b" " * 120 + b"*)"), "place -", "<stdin>:5:1: INC is arithmetic, which is not read; write a branch for each value (docs/guide.md)", ()),
+            (changed(text, b"MOV EAX,[y]", b"JE OUT"), "gaps -", "<stdin>:5:4: OUT is no label of this thread; it stands in the thread's own column as `NAME:`, before an instruction or at the end", ("JE OUT | MOV EAX,[x] ;", "   ^")),
+            (named("turn tunr f"), "outcomes -", f"<stdin>:7:6: tunr {ALONE} turn?", ("MOV [tunr],$1 | ;", "     ^")),
+            (b"", "outcomes nosuch", "nosuch: no such file", ()),
+            (changed(text, b"MOV EAX,[y]", b"INC EAX"), "fencecheck - SB.cert", "<stdin>:5:1: INC is arithmetic, which is not read; write a branch for each value (docs/guide.md)", ("INC EAX | MOV EAX,[x] ;", "^")),
+        ):
+            wanted = "".join(f"{part}\r\n" for part in (line, *below)).encode()
+            same(f"what a terminal shows of {words} where it says {line[:40]}", shown(words.split(), given), wanted)
 
     def test_slips(self):
         """An answer names a jump before any CMP of its thread, or a compared register that nothing writes; a name in the condition comes before them."""

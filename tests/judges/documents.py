@@ -148,6 +148,17 @@ def run_differs(document, run, first, table, outcome, passed):
     return not same or table_differs(document, run, table) or states_differ(document, run)
 
 
+def is_marked(run, table):
+    """Whether one row of the table is marked, that of the step which passes the gap."""
+    thread, number = run["without"].split(":")
+    wanted = [(step["label"], step["instruction"]) == (f"e{thread}", int(number)) for step in run["steps"]]
+    return [line.endswith("  <- " + run["without"]) for line in table] == [False, *wanted] and sum(wanted) == 1
+
+
+def without_mark(run, table):
+    return [line.removesuffix("  <- " + run["without"]) for line in table]
+
+
 def why_differs(document, text, dot):
     head, *reasons = text.split("without ")
     if answer_differs(document, head.split("\n")[0]) or [run["without"] for run in document["runs"]] != document["answer"]["set"]:
@@ -159,7 +170,7 @@ def why_differs(document, text, dot):
         gap, labels, *told, last, _ = reason.split("\n")
         said = ALONE if "condition" in document["answer"] else MET
         *table, outcome, passed = told if said is ALONE else told[:-1]
-        if run_differs(document, run, "without", table, outcome, passed) or graph_differs(run, drawn):
+        if not is_marked(run, table) or run_differs(document, run, "without", without_mark(run, table), outcome, passed) or graph_differs(run, drawn):
             return True
         if run["without"] != gap or labels.split()[1:] != [step["label"] for step in run["steps"]] or last != said[run["meets_condition"]]:
             return True

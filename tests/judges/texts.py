@@ -15,10 +15,10 @@ def canonical_of(source):
     return called("canonical ", source).decode()
 
 
-def drawn(litmus, model, labels):
+def drawn(litmus, model, labels, marked=None):
     """The table of a run of a litmus file, as `traces` draws it."""
     source = bytes_of(litmus)
-    return traces.table(test_of(source), canonical_of(source), model, labels).encode()
+    return traces.table(test_of(source), canonical_of(source), model, labels, marked).encode()
 
 
 def execution_of(litmus, model, labels):

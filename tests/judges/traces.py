@@ -38,8 +38,8 @@ def effect(test, code, before, after, memory):
     return "-", None
 
 
-def cells(test, written, model, labels):
-    """A line of cells for each label of a run."""
+def rows(test, written, model, labels):
+    """For each label of a run the gap that its step passes, as `0:1`, or None, and a line of cells."""
     threads, memory = tuple((0, False, first, ()) for first in test.registers), test.memory
     for label in labels:
         t = int(label[1:])
@@ -57,11 +57,19 @@ def cells(test, written, model, labels):
             memory = later
         threads = machine.put(threads, t, after)
         waiting = " ".join(f"{test.locations[location]}={value}" for location, value in after[3])
-        yield label, f"P{t}", instruction, reads, waiting or "-", reaches or "-"
+        passed = f"{t}:{before[0]}" if label[0] == "e" and before[3] else None
+        yield passed, (label, f"P{t}", instruction, reads, waiting or "-", reaches or "-")
 
 
-def table(test, canonical, model, labels):
-    """The lines of the table of a run's labels."""
-    rows = [HEADINGS, *cells(test, instructions(canonical), model, labels)]
-    widths = [max(len(row[column]) for row in rows) for column in range(len(HEADINGS))]
-    return "".join("  ".join(cell.ljust(width) for cell, width in zip(row, widths)).rstrip() + "\n" for row in rows)
+def cells(test, written, model, labels):
+    """A line of cells for each label of a run."""
+    for _, row in rows(test, written, model, labels):
+        yield row
+
+
+def table(test, canonical, model, labels, marked=None):
+    """The lines of the table of a run's labels. The row whose step passes this gap ends with its mark."""
+    lines = [(None, HEADINGS), *rows(test, instructions(canonical), model, labels)]
+    widths = [max(len(row[column]) for _, row in lines) for column in range(len(HEADINGS))]
+    return "".join("  ".join(cell.ljust(width) for cell, width in zip(row, widths)).rstrip() + (f"  <- {passed}" if passed and passed == marked else "")
+                   + "\n" for passed, row in lines)

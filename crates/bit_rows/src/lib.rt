@@ -4,9 +4,8 @@
 //! which a path leads from d, brought up to date with each edge, so that a cycle is seen without a search. No
 //! call takes memory.
 //!
-//! Begin with `Relation::connect`, `Relation::closes` and `Relation::on_cycles`. Free to change: how the rows
-//! are brought up to date, and what is kept beside them. Relied on: both lists of rows are exact, and whether
-//! more edges would close a path is answered exactly, with the relation as it was.
+//! Begin with `Relation::connect`, `Relation::has_round` and `Relation::on_cycles`. Free to change: how the rows
+//! are brought up to date, and what is kept beside them. Relied on: both lists of rows are exact.
 #![tactic(auto)]
 
 mod relation;

@@ -107,27 +107,6 @@ impl Relation {
         self.round
     }
 
-    /// Whether a path would lead back to where it began if each number of the first row were related to
-    /// each of the second. The relation stays as it is.
-    pub fn closes(&self, from: u32, to: u32) -> bool
-        ensures { (rows : List ℕ) × AreConnected self.now from to rows × (IsTrue result ↔ HasRound rows) }
-    {
-        either(self.round, meets(reached(&self.reach, to), from))
-    }
-
-    /// Whether a path would lead back to where it began if each number of the first row were related to each of the
-    /// second, and each of the third to each of the fourth. The relation stays as it is.
-    pub fn closes_twice(&self, from: u32, to: u32, then_from: u32, then_to: u32) -> bool
-        ensures { (rows more : List ℕ) × AreConnected self.now from to rows × AreConnected rows then_from then_to more × (IsTrue result ↔ HasRound more) }
-    {
-        let beyond = reached(&self.reach, to);
-        let then_beyond = reached(&self.reach, then_to);
-        let first = either(self.round, meets(beyond, from));
-        let second = meets(then_beyond, then_from);
-        let crossed = both(meets(beyond, then_from), meets(then_beyond, from));
-        either(either(first, second), crossed)
-    }
-
     /// The numbers that a path leads back to.
     pub fn on_cycles(&self) -> u32
         ensures { (d : ℕ) → IsIn result d ↔ Reaches self.now d d }
@@ -193,11 +172,4 @@ fn either(a: bool, b: bool) -> bool
     ensures { IsTrue result ↔ (IsTrue a ⊎ IsTrue b) }
 {
     a || b
-}
-
-/// Whether the two hold.
-fn both(a: bool, b: bool) -> bool
-    ensures { IsTrue result ↔ (IsTrue a × IsTrue b) }
-{
-    a && b
 }

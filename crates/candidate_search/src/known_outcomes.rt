@@ -73,6 +73,26 @@ impl FoundOutcomes {
         Ok(number)
     }
 
+    /// Adds those outcomes of another list that are new, and answers the number of each of its outcomes.
+    pub(crate) fn add_all(&mut self, other: FoundOutcomes) -> Result<Vec<u32>, AllocError> {
+        let mut numbers = Vec::with_capacity(self.alloc, other.outcomes.len())?;
+        for (place, outcome) in other.outcomes.into_iter().enumerate() {
+            let labels = Vec::from_slice(self.alloc, other.runs.get(place).unwrap_or(&[]))?;
+            numbers.push(self.number_for(MadeRun { labels, outcome })?)?;
+        }
+        Ok(numbers)
+    }
+
+    /// The number of a run's outcome, which is added if it is new.
+    fn number_for(&mut self, run: MadeRun) -> Result<u32, AllocError> {
+        if let Ok(place) = self.place_of(&run.outcome) {
+            if let Some((number, _)) = self.at(place) {
+                return Ok(number);
+            }
+        }
+        self.add(run)
+    }
+
     /// Puts a number at a place.
     fn put(&mut self, place: Place, number: u32) -> Result<(), AllocError> {
         if self.blocks.is_empty() {
@@ -145,6 +165,16 @@ impl FoundOutcomes {
     fn at(&self, place: Place) -> Option<(u32, &Outcome)> {
         let number = *self.blocks.get(place.block)?.get(place.index)?;
         Some((number, self.outcomes.get(number as usize)?))
+    }
+}
+
+impl<'a> KnownOutcomes<'a> {
+    /// Those that are listed, or else none yet.
+    pub(crate) fn listed(alloc: Global, listed: Option<&'a [Outcome]>) -> KnownOutcomes<'a> {
+        match listed {
+            Some(outcomes) => KnownOutcomes::Closed(outcomes),
+            None => KnownOutcomes::Open(FoundOutcomes::none(alloc)),
+        }
     }
 }
 

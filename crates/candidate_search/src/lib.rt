@@ -18,8 +18,10 @@ mod known_ends;
 mod known_outcomes;
 mod made_run;
 mod orders;
+mod parts;
 mod proposals;
 mod proposing_search;
+mod searched;
 mod sequential_run;
 mod settled;
 mod shapes;
@@ -30,4 +32,4 @@ mod truths;
 mod values;
 
 pub use proposals::{Proposal, ProposedOutcomes};
-pub use proposing_search::ProposingSearch;
+pub use proposing_search::{ProposingSearch, SearchPlan};

@@ -7,12 +7,23 @@ use std::alloc::{AllocError, Global};
 use thread_traces::value_lists;
 use tso_program::{Program, Shown};
 
+/// How a search is made.
+#[derive(Clone, Copy)]
+pub struct SearchPlan {
+    /// The rule of its trees.
+    pub rule: Rule,
+    /// How many threads search at most, where a search is long. One thread searches if there is none.
+    pub workers: u8,
+}
+
 /// A search that proposes outcomes, runs and trees of one program.
 #[derive(Drop)]
 pub struct ProposingSearch<'a> {
     pub(crate) alloc: Global,
     /// The rule of its trees.
     pub(crate) rule: Rule,
+    /// How many threads search.
+    pub(crate) workers: usize,
     pub(crate) program: &'a Program,
     pub(crate) shown: &'a Shown,
     /// The values that the rule takes, and where they may be written.
@@ -22,13 +33,14 @@ pub struct ProposingSearch<'a> {
 }
 
 impl<'a> ProposingSearch<'a> {
-    /// The search of a program for trees by a rule, with what is shown of its outcomes.
+    /// The search of a program by a plan, with what is shown of its outcomes.
     pub fn new(
         alloc: Global,
-        rule: Rule,
+        plan: SearchPlan,
         program: &'a Program,
         shown: &'a Shown,
     ) -> Result<ProposingSearch<'a>, AllocError> {
+        let SearchPlan { rule, workers } = plan;
         let lists = match rule {
             Rule::Whole => value_lists(alloc, program)?,
             Rule::Early => held_values(alloc, program)?,
@@ -41,6 +53,7 @@ impl<'a> ProposingSearch<'a> {
         Ok(ProposingSearch {
             alloc,
             rule,
+            workers: usize::from(workers.max(1)),
             program,
             shown,
             writes,

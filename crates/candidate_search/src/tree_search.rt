@@ -5,9 +5,10 @@ use crate::conflicts::Conflicts;
 use crate::decisions::{choices_of, next_decision};
 use crate::filling::{Branches, Stretch};
 use crate::known_ends::KnownEnds;
-use crate::known_outcomes::KnownOutcomes;
+use crate::known_outcomes::{FoundOutcomes, KnownOutcomes};
 use crate::made_run::shown_run;
 use crate::proposing_search::ProposingSearch;
+use crate::searched::Searched;
 use crate::sources::read_of_nobody;
 use crate::trail::Trail;
 use crate::truths::known_truth;
@@ -18,9 +19,6 @@ use run_maker::MadeRun;
 use std::alloc::AllocError;
 use tso_machine::Mode;
 use tso_program::{Formula, Outcome, Shown};
-
-/// More steps than any machine makes: memory ends a search before.
-const MOST_STEPS: u64 = 1 << 56;
 
 /// How many choices a search makes one after another at most: no tree that is judged is deeper.
 const MOST_CHOICES: usize = 590;
@@ -77,6 +75,8 @@ pub(crate) struct TreeSearch<'a> {
     pub(crate) nodes: Vec<Node>,
     /// In a whole tree, what stands below each end of the thread whose node was the last to be done, where that is the same.
     pub(crate) below: Option<Stretch>,
+    /// How many nodes are above the tree that is searched for.
+    above: usize,
 }
 
 impl<'a> TreeSearch<'a> {
@@ -98,21 +98,64 @@ impl<'a> TreeSearch<'a> {
             outcomes,
             nodes: Vec::new(alloc),
             below: None,
+            above: 0,
         })
     }
 
-    /// Searches for a tree.
-    pub(crate) fn search(&mut self) -> Result<SearchEnd, AllocError> {
+    /// Makes choices, given by their places at the nodes above, and answers what is found after them. The tree that is
+    /// searched for begins there.
+    pub(crate) fn begin(&mut self, choices: &[usize]) -> Result<Found, AllocError> {
         self.find_ends()?;
         let mut found = self.visit()?;
-        for _ in 0..MOST_STEPS {
+        for place in choices {
+            found = self.enter(*place)?;
+        }
+        self.above = choices.len();
+        Ok(found)
+    }
+
+    /// Goes to the child of the last node at a place. The nodes above it are left out.
+    fn enter(&mut self, place: usize) -> Result<Found, AllocError> {
+        let Some(mut frame) = self.frames.pop() else {
+            return Ok(Found::Ended(SearchEnd::Stuck));
+        };
+        frame.taken = place;
+        for _ in 0..place {
+            if let Some(branches) = frame.branches {
+                frame.branches = Some(self.next_branches(branches));
+            }
+        }
+        self.frames.push(frame)?;
+        self.nodes.truncate(0);
+        self.next_child()
+    }
+
+    /// Goes on for so many steps, or until the search ends.
+    pub(crate) fn go_on(&mut self, start: Found, steps: u64) -> Result<Found, AllocError> {
+        let mut found = start;
+        for _ in 0..steps {
             found = match found {
                 Found::Node => self.next_child()?,
                 Found::Tree(conflicts) => self.after_child(conflicts)?,
-                Found::Ended(end) => return Ok(end),
+                Found::Ended(end) => return Ok(Found::Ended(end)),
             };
         }
-        Ok(SearchEnd::Stuck)
+        Ok(found)
+    }
+
+    /// What the search has found, now that it has ended.
+    pub(crate) fn ended(self, end: SearchEnd) -> Searched {
+        let TreeSearch {
+            asked,
+            outcomes,
+            nodes,
+            ..
+        } = self;
+        let found = match outcomes {
+            KnownOutcomes::Open(found) => found,
+            KnownOutcomes::Closed(_) => FoundOutcomes::none(asked.alloc),
+        };
+        Searched { end, found, nodes }
     }
 
     /// Makes the next choice of the last node.
@@ -134,8 +177,11 @@ impl<'a> TreeSearch<'a> {
     /// Takes the last choice back, after which a tree rests on these. Where it rests on the choice the node's next child
     /// comes, or the node is done.
     fn after_child(&mut self, own: ConflictSet) -> Result<Found, AllocError> {
-        let Some(mut frame) = self.frames.pop() else {
+        if self.frames.len() <= self.above {
             return Ok(Found::Ended(SearchEnd::Covered));
+        }
+        let Some(mut frame) = self.frames.pop() else {
+            return Ok(Found::Ended(SearchEnd::Stuck));
         };
         let depth = self.frames.len().min(MOST_CHOICES) as u16;
         if let Some(mark) = self.marks.last() {

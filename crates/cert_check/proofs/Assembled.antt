@@ -1,7 +1,8 @@
 -- A certificate's parts put together.
 use Rattle.cert_check.proofs.Vocabulary.{ℕ, zero, suc, List, [], ◌∷◌, All, Contains, take, subst, arith, AllZip, all_sets, Question, Outcome, Label, StoreBufferMachine, no_gaps, IsShownRun, IsValidGap, Certificate, IsRunOutside, IsValidCertificateOf}
 use Rattle.cert_check.proofs.Vocabulary.{IsFirstWithout, HasServingSet, IsOutside}
-use Rattle.cert_check.proofs.{GapNodes.labels_at, FirstFaults.one_outcome}
+use Rattle.tso_machine.proofs.Refused.{one_shown}
+use Rattle.cert_check.proofs.{GapNodes.labels_at}
 
 module _ (q : Question) (list : List Outcome) where
   abbrev AreShownRuns : List (List Label) → List Outcome → Type 0
@@ -29,7 +30,7 @@ module _ (q : Question) (list : List Outcome) where
       record {
         value = labels;
         there = there;
-        without = λ (o, is_run, outside). first.without (subst (λ x. Contains list x → ⊥) (one_outcome q (StoreBufferMachine no_gaps) labels o first.value is_run is) outside);
+        without = λ (o, is_run, outside). first.without (subst (λ x. Contains list x → ⊥) (one_shown q (StoreBufferMachine no_gaps) labels o first.value is_run is) outside);
         before = each_outside (take n runs) (take n outcomes) (first_ones n runs outcomes each) first.before;
       }
 

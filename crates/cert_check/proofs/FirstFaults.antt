@@ -2,24 +2,19 @@
 use Rattle.cert_check.proofs.Vocabulary.{◌≡◌, ℕ, zero, suc, List, [], ◌∷◌, length, All, refl, sym, ap, ◌∙◌, subst, same_Some, SetOfGaps, without_gap, child_regions, Region, Listing, Outcome, Label, IsShownRun, Gap, Split, Bound, GapTrees, NoGap, MoreGaps}
 use Rattle.cert_check.proofs.Vocabulary.{IsValidCoverBy, Certificate, AreSequentialRuns, IsRunOutside, IsValidCertificateOf, one_list_of_gaps, CheckFault, valid_is_not_wrong, IsRunOf, IsFirstWithout, IsFirstFault, Question, show, Machine, SequentialMachine}
 use Rattle.cert_check.proofs.Vocabulary.{StoreBufferMachine, no_gaps, outcome_at, IsValidGap, AreValidGaps, count_gaps}
+use Rattle.tso_machine.proofs.Refused.{one_shown}
 use Rattle.tree_laws.proofs.Lists.{found_has}
 use Rattle.cert_check.specs.declared.fault.CheckFault.TheVariants as fault
 use Rattle.cert_check.specs.GapDefects as gaps
 use Rattle.cert_check.proofs.Replayed.{zip_left, of_shown}
 
--- a run has one outcome, and one is shown
-pub one_outcome : (q : Question) (mode : Machine) (labels : List Label) (o x : Outcome) → IsShownRun q mode labels o → IsShownRun q mode labels x → o ≡ x
-one_outcome q mode labels o x (whole, (last, runs, ended, at), shown) (other, (end, runs_too, ended_too, at_too), shown_too) =
-    let same : whole ≡ other = at ∙ ap (outcome_at q.program) (same_Some last end (sym runs ∙ runs_too)) ∙ sym at_too in
-    shown ∙ ap (show q.shown) same ∙ sym shown_too
-
--- so runs have one list of outcomes
+-- runs have one list of outcomes
 pub one_list : (q : Question) (runs : List (List Label)) (os xs : List Outcome) → AreSequentialRuns q runs os → AreSequentialRuns q runs xs → os ≡ xs
 one_list q [] [] [] left right = refl
 one_list q [] [] (x ∷ xs) left right = absurd right
 one_list q (run ∷ runs) (o ∷ os) [] left right = absurd right
 one_list q (run ∷ runs) (o ∷ os) (x ∷ xs) left right =
-    let first = one_outcome q SequentialMachine run o x left.0 right.0 in
+    let first = one_shown q SequentialMachine run o x left.0 right.0 in
     let rest = one_list q runs os xs left.1 right.1 in
     λ i. first i ∷ rest i
 one_list q runs os xs left right = absurd left

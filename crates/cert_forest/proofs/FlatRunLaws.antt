@@ -52,7 +52,7 @@ pub end_put : (start : ℕ) (ends : List ℕ) (last new : ℕ) → AreEnds start
 end_put start [] last new same within = (omega arith, refl)
 end_put start (end ∷ ends) last new (before, later) within = (before, end_put end ends last new later within)
 
--- the same of the two lists in memory, as they are after the run is put there
+-- after a run is put there, it is the last one that the two lists in memory hold
 pub runs_after : (ends after : List ℕ) (labels longer run : List Label) (len : ℕ) → AreEnds 0 ends (length labels) → longer ≡ labels ++ run → len ≡ length longer → after ≡ ends ++ len ∷ [] →
     runs_from 0 after longer ≡ runs_from 0 ends labels ++ run ∷ []
 runs_after ends after labels longer run len are longer_is len_is after_is =

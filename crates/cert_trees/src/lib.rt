@@ -5,7 +5,7 @@
 //! Contracts see the tree.
 //!
 //! Begin with `CoverTree`, `Node` and `Walk`. Free to change: the nodes (`node.rt`), but with the crates that push
-//! them: `cert_forest`, `sketch_covers`, `partial_covers` and `fence_place`. Relied on: nodes spell one tree
+//! them: `cert_forest`, `cover_search`, `candidate_search` and `fence_place`. Relied on: nodes spell one tree
 //! (`nodes_spell_one_tree`), and a walk shows the nodes of the tree that contracts see.
 #![tactic(auto)]
 

@@ -88,16 +88,6 @@ impl CoverTree {
         &self.nodes
     }
 
-    /// The nodes that spell the tree, in a list of their own: a copy where other trees share it.
-    pub fn into_nodes(self, alloc: Global) -> Result<Vec<Node>, AllocError>
-        ensures { IfOk result (λ nodes. nodes.items ≡ spell self) }
-    {
-        match Arc::try_unwrap(self.nodes) {
-            Ok(nodes) => Ok(nodes),
-            Err(shared) => Vec::from_slice(alloc, &shared),
-        }
-    }
-
     /// A walk over the tree.
     pub fn walk(&self) -> Walk<'_>
         ensures { result ≡ self.now ∷ [] }

@@ -67,7 +67,7 @@ repeat_again r t P er (x ∷ xs) found rest all st =
     let here : r (t x ++ (texts_of t xs ++ rest)) ≡ Some (x, texts_of t xs ++ rest) = er.again x (texts_of t xs ++ rest) all.0 (starts_all t P er.starts xs rest all.1 st) in
     rw (append_assoc (t x) (texts_of t xs) rest, here) (repeat_again r t P er xs (found ++ x ∷ []) rest all.1 st ∙ ap (done_with rest) (append_assoc found (x ∷ []) xs))
 
--- the same of values whose texts may stand before anything
+-- values whose texts may stand before anything are read again
 pub repeat_free : {A : Type 0} (r : List ℕ → Option (A × List ℕ)) (t : A → List ℕ) (P : A → Type 0) → ((x : A) (rest : List ℕ) → P x → r (t x ++ rest) ≡ Some (x, rest))
     → (xs found : List A) (rest : List ℕ) → AllByRecursion P xs → repeat_at r (length xs) found (texts_of t xs ++ rest) ≡ Some (found ++ xs, rest)
 repeat_free r t P again [] found rest all = ap (done_with rest) (sym (append-nil found))

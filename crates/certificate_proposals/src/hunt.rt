@@ -4,6 +4,7 @@ use cert_forest::{Node, Rule, Runs};
 use gap_sets::{Costs, GapSet, MAX_GAPS};
 use hitting_sets::best_hitting_set;
 use std::alloc::{AllocError, Global};
+use std::thread::Threads;
 use tso_machine::{Label, Model, ReplayFault, replay_shown};
 use tso_program::{Outcome, Program, Shown};
 
@@ -32,8 +33,9 @@ pub(crate) struct ServedSet {
 
 impl Hunt<'_> {
     /// Asks about the best set that meets each known run, until one serves. `None` if the search gives up.
-    pub(crate) fn served(
+    pub(crate) fn served<R: Threads + Sync>(
         &mut self,
+        rt: &R,
         search: &ProposingSearch<'_>,
         outcomes: &[Outcome],
     ) -> Result<Option<ServedSet>, AllocError> {
@@ -41,7 +43,7 @@ impl Hunt<'_> {
             let Some(set) = best_hitting_set(self.alloc, self.costs, &self.passed)? else {
                 return Ok(None);
             };
-            match search.verdict(&set, outcomes)? {
+            match search.verdict(rt, &set, outcomes)? {
                 Some(Proposal::Serves(nodes)) => return Ok(Some(ServedSet { set, nodes })),
                 Some(Proposal::Foreign(labels)) => {
                     if !self.learn(&labels, &set)? {
@@ -56,8 +58,9 @@ impl Hunt<'_> {
 
     /// Asks of each gap of a set that no known run passes alone about all gaps but this one, and learns a run where they do
     /// not serve: it passes this gap alone, so each set that serves has it.
-    pub(crate) fn learn_needed(
+    pub(crate) fn learn_needed<R: Threads + Sync>(
         &mut self,
+        rt: &R,
         search: &ProposingSearch<'_>,
         outcomes: &[Outcome],
         set: &GapSet,
@@ -65,7 +68,7 @@ impl Hunt<'_> {
         for gap in set.iter() {
             if !self.is_needed(gap) {
                 let others = all_but(self.program, gap);
-                if let Some(Proposal::Foreign(labels)) = search.verdict(&others, outcomes)? {
+                if let Some(Proposal::Foreign(labels)) = search.verdict(rt, &others, outcomes)? {
                     self.learn(&labels, &others)?;
                 }
             }

@@ -3,60 +3,63 @@ use crate::cover_text::push_cover;
 use crate::gap_text::gap_words;
 use crate::hunt::{Hunt, ServedSet};
 use crate::lines::{push_head, push_runs, push_set};
-use candidate_search::{ProposedOutcomes, ProposingSearch};
+use candidate_search::{ProposedOutcomes, ProposingSearch, SearchPlan};
 use cert_forest::{Rule, Runs, Shows};
 use gap_sets::Costs;
 use live_registers::without_dead_loads;
 use std::alloc::{AllocError, Global};
+use std::thread::Threads;
 use tso_machine::Mode;
 use tso_program::{Program, Shown};
 
 /// The text of a certificate for a program, what is shown of its outcomes and the costs of its gaps, which nobody vouches
 /// for. Whole trees are those of a certificate of version 1 or 2, early ones of version 4. `None` where the search gives
-/// up.
-pub fn propose(
+/// up. Threads share a long search, and the text does not depend on how many there are.
+pub fn propose<R: Threads + Sync>(
+    rt: &R,
     alloc: Global,
-    rule: Rule,
+    plan: SearchPlan,
     program: &Program,
     shown: &Shown,
     costs: &Costs,
 ) -> Result<Option<Vec<u8>>, AllocError> {
-    match rule {
-        Rule::Whole => text_over(alloc, rule, program, shown, costs),
+    match plan.rule {
+        Rule::Whole => text_over(rt, alloc, plan, program, shown, costs),
         Rule::Early => {
             let slim = without_dead_loads(alloc, program, shown)?;
-            text_over(alloc, rule, &slim, shown, costs)
+            text_over(rt, alloc, plan, &slim, shown, costs)
         }
     }
 }
 
 /// The text of a certificate whose trees are those of this program. Without its dead loads a program has the same runs,
 /// label by label.
-fn text_over(
+fn text_over<R: Threads + Sync>(
+    rt: &R,
     alloc: Global,
-    rule: Rule,
+    plan: SearchPlan,
     program: &Program,
     shown: &Shown,
     costs: &Costs,
 ) -> Result<Option<Vec<u8>>, AllocError> {
-    let search = ProposingSearch::new(alloc, rule, program, shown)?;
-    let Some(sequential) = search.outcomes(Mode::Sequential)? else {
+    let search = ProposingSearch::new(alloc, plan, program, shown)?;
+    let Some(sequential) = search.outcomes_by_threads(rt, Mode::Sequential)? else {
         return Ok(None);
     };
     let mut hunt = Hunt {
         alloc,
-        rule,
+        rule: plan.rule,
         program,
         shown,
         costs,
         runs: Runs::new(alloc),
         passed: Vec::new(alloc),
     };
-    let Some(served) = hunt.served(&search, &sequential.outcomes)? else {
+    let Some(served) = hunt.served(rt, &search, &sequential.outcomes)? else {
         return Ok(None);
     };
-    if let Rule::Whole = rule {
-        hunt.learn_needed(&search, &sequential.outcomes, &served.set)?;
+    if let Rule::Whole = plan.rule {
+        hunt.learn_needed(rt, &search, &sequential.outcomes, &served.set)?;
     }
     text_of(&hunt, &sequential, &served)
 }

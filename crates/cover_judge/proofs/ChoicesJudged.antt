@@ -7,6 +7,7 @@ use Rattle.std.proofs.lemmas.List.Elements.{All-cons, All-map, All-nil, All-cont
 use Rattle.cert_forest.specs.Machine as machine
 use Rattle.candidate_executions.specs.Events.{ComesBefore}
 use Rattle.program_sketches.specs.Choices as choices
+use Rattle.program_sketches.proofs.Lawful.{none_in}
 use Rattle.tree_laws.proofs.RuleValues.{is_value}
 use Rattle.cover_judge.specs.declared.choices.Choices.{Choices}
 use Rattle.tree_laws.specs.declared.choice.Choice.TheVariants as choice
@@ -143,9 +144,6 @@ sources_are s read sources (whole, is) free ordered exact = sources_are_by Whole
 
 -- ---- what is found of the sources of a read
 
-none_in : {A : Type 0} (x : A) → Contains [] x → ⊥
-none_in x h = let n = h.1 in omega arith
-
 -- a read whose value no write gives has no source to choose
 pub no_sources : (s : ProgramSketch) (read : AccessId) (cs : List Choice) → LacksSource s (event_of read) → cs ≡ [] → AreFreeSources s read cs
 no_sources s read cs lacks same = record {
@@ -177,7 +175,7 @@ module _ (s : ProgramSketch) (read : AccessId) (e : Event) (named : e ≡ event_
   pub found_none : found ≡ None → IsFree s (event_of read) → ⊥
   found_none is = subst (FoundSources s (event_of read)) is found_of
 
--- they tell the choices of its source, where the rule lets it take one
+-- they say the choices of its source, where the rule lets it take one
 pub found_choices : (rule : Rule) (s : ProgramSketch) (next : OpenChoice) (read : AccessId) → next ≡ left.Source read → AllowsSource rule s.program (mode_in s) s.chosen (event_of read) → (found : Option Choices) →
     MatchOption found (IsFree s (event_of read) → ⊥) (λ own. AreFreeSources s read (choices_in own)) →
     MatchOption found ((cs : List Choice) → AreChoicesOfBy rule s next cs → ⊥) (λ own. AreChoicesOfBy rule s next (choices_in own))

@@ -1,6 +1,6 @@
 -- What trees and runs say of tables and of sets that serve.
 use Rattle.cover_solver.proofs.Vocabulary.{◌≡◌, ℕ, true, List, Contains, subst, Result, IfErr, Question, machine_of_mode, Outcome, JumpForward, Label}
-use Rattle.cover_solver.proofs.Vocabulary.{StoreBufferMachine, no_gaps, IsListOf, IsServing, ReplayFaultIs, ArePassed, IsShownRun, IsForeignRun, one_outcome}
+use Rattle.cover_solver.proofs.Vocabulary.{StoreBufferMachine, no_gaps, IsListOf, IsServing, ReplayFaultIs, ArePassed, IsShownRun, IsForeignRun, one_shown}
 use Rattle.std.specs.FinSet as set
 use Rattle.gap_sets.specs.Gaps.{SetOfGaps}
 use Rattle.tso_program.specs.{Fences.gaps_in, Ordered.outcome_cmp}
@@ -41,7 +41,7 @@ module _ (q : Question) (gaps : SetOfGaps) (outcomes : List Outcome) (labels : L
   pub foreign_again : IsForeignRun q labels found
   foreign_again = record {
     is_run = again;
-    foreign = λ sequential. new (subst (Contains outcomes) (one_outcome q (StoreBufferMachine no_gaps) labels found o again (unfenced_run q gaps labels o is_run)) ((list.exact found).1 sequential));
+    foreign = λ sequential. new (subst (Contains outcomes) (one_shown q (StoreBufferMachine no_gaps) labels found o again (unfenced_run q gaps labels o is_run)) ((list.exact found).1 sequential));
   }
 
   pub passes_none : ArePassed q.program (StoreBufferMachine no_gaps) labels passed → (gap : ℕ) → set.contains passed gap ≡ true → set.contains gaps gap ≡ true → ⊥

@@ -15,7 +15,7 @@ pub use Rattle.tso_program.specs.declared.question.Question.{Question}
 pub use Rattle.tso_program.specs.declared.listing.Listing.{Listing}
 pub use Rattle.tso_program.specs.declared.outcome.Outcome.{Outcome}
 pub use Rattle.tso_program.specs.declared.shown.Shown.{Shown}
-pub use Rattle.oracle.proofs.ForeignRuns.{one_outcome}
+pub use Rattle.tso_machine.proofs.Refused.{one_shown}
 pub use Rattle.oracle.specs.Facts.{AreOf, Foreign, IsForeignValue, IsListOf, IsSequentialTable, IsServing, Table}
 pub use Rattle.cover_solver.specs.Solvers.{Asked}
 pub use Rattle.cover_solver.specs.OutcomeLists.{AreFound, AreRunsOf, IsListOfAll}

@@ -10,12 +10,13 @@ ghost use Rattle.cover_solver.specs.Sought.{question_of, machine_of};
 
 use crate::outcome_list::OutcomeList;
 use crate::tree_nodes::are_trees;
-use candidate_search::{ProposedOutcomes, ProposingSearch};
+use candidate_search::{ProposedOutcomes, ProposingSearch, SearchPlan};
 use cert_forest::{Node, Runs, Walk};
 use cover_judge::{NodeFault, RowlessSketch, judge};
 use dataflow_laws::{dead_loads_keep_outcomes, dead_loads_keep_runs, dropped_loads_keep_gaps};
 use live_registers::without_dead_loads;
 use std::alloc::{AllocError, Global};
+use std::thread::Threads;
 use tree_laws::{Rule, a_valid_cover_tree_covers, a_valid_tree_lists_every_outcome};
 use tso_machine::{Ended, Label, Mode, ReplayFault, replay};
 use tso_program::{Outcome, Program, Shown};
@@ -42,7 +43,35 @@ pub fn proposed_outcomes(
         shown,
         mode,
     };
-    sought.proposed()
+    let found = sought.search(1)?.outcomes(mode)?;
+    sought.judged(found)
+}
+
+/// The outcomes of the machine of a mode, as [`proposed_outcomes`] finds them. At most so many threads share a long search.
+pub fn outcomes_by_threads<R: Threads + Sync>(
+    rt: &R,
+    workers: u8,
+    alloc: Global,
+    program: &Program,
+    shown: &Shown,
+    mode: Mode,
+) -> Result<Option<OutcomeList>, AllocError>
+    ensures ascend { IfOk result (λ found. IfSome found (λ list. Ascend list.outcomes.items)) }
+    ensures runs { IfOk result (λ found. IfSome found (λ list. AreRunsOf (asked program.now shown.now) (machine_of_mode program.now mode) list.runs list.outcomes.items)) }
+    ensures exact { IfOk result (λ found. IfSome found (λ list. (o : Outcome) → Contains list.outcomes.items o ↔ AllowsShown (asked program.now shown.now) (machine_of_mode program.now mode) o)) }
+{
+    let slim = without_dead_loads(alloc, program, shown)?;
+    dropped_loads_keep_gaps();
+    dead_loads_keep_runs();
+    dead_loads_keep_outcomes();
+    let sought = Sought {
+        alloc,
+        program: &slim,
+        shown,
+        mode,
+    };
+    let found = sought.search(workers)?.outcomes_by_threads(rt, mode)?;
+    sought.judged(found)
 }
 
 /// A program, what is shown of its outcomes, and the mode in which these are sought.
@@ -55,14 +84,22 @@ struct Sought<'a> {
 }
 
 impl Sought<'_> {
+    /// A search for early trees, by at most so many threads.
+    fn search(&self, workers: u8) -> Result<ProposingSearch<'_>, AllocError> {
+        let plan = SearchPlan {
+            rule: Rule::Early,
+            workers,
+        };
+        ProposingSearch::new(self.alloc, plan, self.program, self.shown)
+    }
+
     /// The outcomes that are proposed, where they are judged to be all.
-    fn proposed(&self) -> Result<Option<OutcomeList>, AllocError>
+    fn judged(&self, found: Option<ProposedOutcomes>) -> Result<Option<OutcomeList>, AllocError>
         ensures ascend { IfOk result (λ found. IfSome found (λ list. Ascend list.outcomes.items)) }
         ensures runs { IfOk result (λ found. IfSome found (λ list. AreRunsOf (question_of self.now) (machine_of self.now) list.runs list.outcomes.items)) }
         ensures exact { IfOk result (λ found. IfSome found (λ list. (o : Outcome) → Contains list.outcomes.items o ↔ AllowsShown (question_of self.now) (machine_of self.now) o)) }
     {
-        let search = ProposingSearch::new(self.alloc, Rule::Early, self.program, self.shown)?;
-        let Some(proposed) = search.outcomes(self.mode)? else {
+        let Some(proposed) = found else {
             return Ok(None);
         };
         let ProposedOutcomes { runs, nodes, .. } = proposed;

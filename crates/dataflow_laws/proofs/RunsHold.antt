@@ -11,9 +11,9 @@ use Rattle.tso_machine.specs.declared.label.Pending.{Pending}
 use Rattle.tso_machine.specs.Machine.{Machine, SequentialMachine, StoreBufferMachine, State, put, or_else, newest, found, when_empty, past_gap, buffered, flushed, step, run, start}
 use Rattle.tso_machine.proofs.ChangedAt.{put_each}
 use Rattle.tso_machine.proofs.EitherMachine.{effect}
-use Rattle.dataflow_laws.specs.HeldValues.{Location, Memory, MayHold, Here, From}
+use Rattle.tso_machine.specs.HeldValues.{Location, Memory, MayHold, Here, From}
 use Rattle.dataflow_laws.specs.Laws.{RunsHoldWhatTheyMay, ClosedTablesHaveAll}
-use Rattle.dataflow_laws.proofs.ThreadsHold.{Knows, Fair, fair_at, knows_start}
+use Rattle.tso_machine.proofs.ThreadsHold.{Knows, Fair, fair_at, knows_start}
 
 module _ (p : Listing) where
   -- each store that waits has a value that its location may hold

@@ -17,7 +17,7 @@ document_with : (source : Litmus Listing) (command : List ℕ) (first members la
 document_with source command first members last text heading more is json =
     record { part = heading.part; is = heading.is; printed = is ∙ ap document_of (more ∙ ap (λ (ms : List (List ℕ)). ms ++ members) heading.printed); json = json }
 
--- the same of a document that is made, if it is
+-- a document that is made, if it is, has its heading and its members
 pub made_with : {Y : Type 0} (source : Litmus Listing) (command : List ℕ) (first members last : List (List ℕ)) (made : Result (Vec ℕ) Y) → TellsHeading source command first → last ≡ first ++ members
     → IfOk made (λ document. document.items ≡ document_of last) → IfOk made (λ document. IsJsonLine document.items) → IfOk made (λ document. IsDocument source command members document.items)
 made_with source command first members last (Ok document) heading more is json = document_with source command first members last document.items heading more is json

@@ -33,7 +33,7 @@ pub(crate) fn unread_advice<S: FileStore>(
     files: &S,
     file: UnreadFile<'_>,
 ) -> Result<Vec<u8>, AllocError> {
-    unread_message(alloc, file, files.obstacle(file.name))?.written(alloc)
+    unread_message(alloc, file, files.obstacle(file.name))?.written(alloc, false)
 }
 
 /// Tells why arguments name no litmus file with its certificate; nothing of a call for help.
@@ -50,7 +50,7 @@ pub(crate) fn unread_input_advice(alloc: Global, fault: FileFault) -> Result<Vec
             "has a litmus text or a certificate that is too long (docs/formats.md)",
         FileFault::Read | FileFault::Write => "cannot be read",
     };
-    Message::of_file(alloc, STDIN, text)?.written(alloc)
+    Message::of_file(alloc, STDIN, text)?.written(alloc, false)
 }
 
 /// The certificate; where it is read from the input it stands after the litmus text.
@@ -84,11 +84,12 @@ fn refusal_message(
     }
 }
 
-/// Why a certificate isn't accepted.
+/// Why a certificate isn't accepted; on a terminal with the line of the text.
 pub(crate) fn refusal_advice(
     alloc: Global,
     subject: JudgedTexts<'_>,
     why: &Rejection,
+    on_terminal: bool,
 ) -> Result<Vec<u8>, AllocError> {
-    refusal_message(alloc, &subject, why)?.written(alloc)
+    refusal_message(alloc, &subject, why)?.written(alloc, on_terminal)
 }

@@ -61,7 +61,8 @@ fn print_verdict<W: Console>(
                 certificate,
                 costs,
             };
-            let message = refusal_advice(alloc, subject, &refusal);
+            let on_terminal = output.progress().is_shown();
+            let message = refusal_advice(alloc, subject, &refusal, on_terminal);
             refuse(output, refusal_line(alloc, &refusal), message)
         }
     }

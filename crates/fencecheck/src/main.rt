@@ -19,7 +19,8 @@ use std::process::ExitCode;
 
 fn main(rt: HostRuntime) -> ExitCode {
     let mut input = rt.stdin();
-    let mut output = Outputs::new(rt.stdout(), rt.stderr(), Progress::none());
+    let progress = Progress::on(rt.stderr());
+    let mut output = Outputs::new(rt.stdout(), rt.stderr(), progress);
     let status = match given_words(&rt, &mut output) {
         Ok(words) => command::run_command(
             rt.alloc(),

@@ -12,7 +12,7 @@ pub prints_refusal : {E : Type 0} (json : Bool) (made : Result (Vec ℕ) E) (lin
 prints_refusal json made line A old new result may is told =
     prints_more (PrintsRefusal json made) A old new result (λ status text refused. subst (λ (s : ℕ). A s text) (sym refused.0) (may text (of_line json made line text is refused.1))) told
 
--- the same where the line is printed
+-- a refusal whose line is known is printed as a text
 pub prints_refused_line : {E : Type 0} (made : Result (Vec ℕ) E) (line : List ℕ) (A : ℕ → List ℕ → Type 0) (old new : Option (List ℕ)) (result : ℕ)
     → A 1 line → IfOk made (λ v. v.items ≡ line) → Prints (PrintsRefusal false made) old new result → Prints A old new result
 prints_refused_line made line A old new result may is told =

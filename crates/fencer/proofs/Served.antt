@@ -7,11 +7,9 @@ use Rattle.litmus_text.proofs.AsciiTexts.{ascii_from}
 use Rattle.std.proofs.lemmas.Slice.Eq.{bytes_eq-Decides}
 use Rattle.std.proofs.lemmas.Bool.Decides.{nat_tests}
 use Rattle.clap.specs.Words.{Text}
+use Rattle.placed_text.proofs.ReasonTexts.{not_zero}
 use Rattle.program_streams.specs.declared.fault.FileFault.{FileFault}
 use Rattle.program_streams.specs.declared.fault.FileFault.TheVariants as file
-
-not_zero : (n : ℕ) → (suc n == 0) ≡ true → ⊥
-not_zero n e = grind (arith, nat_tests)
 
 zero_is : (0 == 0) ≡ false → ⊥
 zero_is e = grind (arith, nat_tests)

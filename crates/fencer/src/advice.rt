@@ -6,8 +6,8 @@ use crate::refusals::AnswerFault;
 use crate::texts::Texts;
 use fencer_words::Placement;
 use messages::{
-    Message, Source, costs_message, fence_message, file_or_input, litmus_message, replay_message,
-    run_message, unread_message,
+    Message, Source, command_hint, costs_message, fence_message, file_or_input, litmus_message,
+    replay_message, run_message, unread_message,
 };
 use placed_text::TextFault;
 use program_streams::{Console, FileFault, FileStore, TEXT_LIMIT, UnreadFile};
@@ -108,16 +108,24 @@ pub(crate) fn text_fault_advice(
     }
 }
 
+/// Tells what arguments may mean that are no command.
+pub(crate) fn tell_hint<W: Console>(alloc: Global, words: &[String], output: &mut W)
+    ensures { W.contents output.new ≡ W.contents output.old }
+{
+    output.tell(command_hint(alloc, words));
+}
+
 /// What is said of the first slip that a litmus text may have, and nothing if there is none.
 fn slip_advice(
     alloc: Global,
     litmus: &str,
     text: &[u8],
     condition_counts: bool,
+    on_terminal: bool,
 ) -> Result<Vec<u8>, AllocError> {
     let source = Source::new(file_or_input(litmus), text);
     match slip_message(alloc, source, condition_counts)? {
-        Some(message) => message.written(alloc),
+        Some(message) => message.written(alloc, on_terminal),
         None => Ok(Vec::new(alloc)),
     }
 }
@@ -126,7 +134,8 @@ fn slip_advice(
 pub(crate) fn tell_idle_name<W: Console>(alloc: Global, litmus: &str, text: &[u8], output: &mut W)
     ensures { W.contents output.new ≡ W.contents output.old }
 {
-    output.tell(slip_advice(alloc, litmus, text, true));
+    let on_terminal = output.progress().is_shown();
+    output.tell(slip_advice(alloc, litmus, text, true, on_terminal));
 }
 
 /// Tells of what may be a slip in a litmus text; of a name in the condition where the condition's truth is compared alone.
@@ -139,6 +148,7 @@ pub(crate) fn tell_idle_name_compared<W: Console>(
     ensures { W.contents output.new ≡ W.contents output.old }
 {
     let condition_counts = matches!(asked.kind, ShownKind::Condition);
-    let advice = slip_advice(alloc, asked.litmus.as_str(), text, condition_counts);
-    output.tell(advice);
+    let on_terminal = output.progress().is_shown();
+    let litmus = asked.litmus.as_str();
+    output.tell(slip_advice(alloc, litmus, text, condition_counts, on_terminal));
 }

@@ -8,7 +8,7 @@ ghost use Rattle.fencer_words.specs.CommandFiles.{files_of};
 ghost use Rattle.fencer.specs.Deliveries.{KeepFilesBut};
 ghost use Rattle.fencer.specs.Answers.{litmus_of, IsAnswer, IsReply, IsOutput, KeepFilesOf, KeepOtherFiles, ReadsForWords, ReadsFor};
 
-use crate::advice::{unread_advice, unread_litmus};
+use crate::advice::{tell_hint, unread_advice, unread_litmus};
 use crate::gaps::run_gaps;
 use crate::outcomes::run_outcomes;
 use crate::place::run_place;
@@ -58,7 +58,7 @@ fn run_job<T: Threads + Wait + Sync, S: WritableFileStore, R: Read, W: Console>(
     match job {
         Job::Replay(asked) => run_replay(alloc, &*files, asked, input, output),
         Job::Trace(asked) => run_trace(alloc, files, asked, input, output),
-        Job::Outcomes(asked) => run_outcomes(alloc, &*files, asked, input, output),
+        Job::Outcomes(asked) => run_outcomes(rt, alloc, &*files, asked, input, output),
         Job::Place(asked) => run_place(rt, alloc, files, asked, input, output),
         Job::Why(asked) => run_why(rt, alloc, files, asked, input, output),
         Job::Gaps(asked) => run_gaps(alloc, &*files, asked, input, output),
@@ -86,7 +86,10 @@ fn run_words<T: Threads + Wait + Sync, S: WritableFileStore, R: Read, W: Console
         Ok(job) => run_job(rt, alloc, files, &job, input, output),
         Err(error) => match error.kind() {
             ErrorKind::OutOfMemory => 1,
-            _ => print(output, error_text(alloc, &error), 2),
+            _ => {
+                tell_hint(alloc, words, output);
+                print(output, error_text(alloc, &error), 2)
+            }
         },
     }
 }

@@ -33,9 +33,10 @@ use program_streams::{Console, FileStore, Progress, TEXT_LIMIT, file_line, named
 use report::{condition_line, is_true_of, labels_line, observation_line, outcome_line};
 use std::alloc::{AllocError, Global};
 use std::io::Read;
-use tso_machine::{Mode, Model};
+use std::thread::Threads;
+use tso_machine::Mode;
 use tso_program::{Outcome, Program, Shown};
-use witness_text::{OutcomeList, outcomes_with_runs, proposed_outcomes};
+use witness_text::{OutcomeList, outcomes_by_threads, outcomes_with_runs};
 
 /// The line of the run of this number, if there is one.
 fn push_run(
@@ -122,7 +123,9 @@ fn list_text(
 }
 
 /// The outcomes that a quick search proposes, each with a run, where the program is large and the judge accepts them.
-fn proposed(
+fn proposed<T: Threads + Sync>(
+    rt: &T,
+    workers: u8,
     alloc: Global,
     program: &Program,
     shown: &Shown,
@@ -133,7 +136,7 @@ fn proposed(
     ensures exact { IfOk result (λ found. IfSome found (λ list. (o : Outcome) → Contains list.outcomes.items o ↔ AllowsShown (question program.now shown.now) (machine_of_mode program.now mode) o)) }
 {
     if is_large(alloc, program)? {
-        proposed_outcomes(alloc, program, shown, mode)
+        outcomes_by_threads(rt, workers, alloc, program, shown, mode)
     } else {
         Ok(None)
     }
@@ -141,30 +144,32 @@ fn proposed(
 
 /// The outcomes of a program with no gap fenced, each with a run: those that are proposed, or else those that a search over
 /// whole trees finds. What lies ahead of that is reported.
-fn list_with_runs(
+fn list_with_runs<T: Threads + Sync>(
+    rt: &T,
     alloc: Global,
+    asked: &OutcomeQuery,
     program: &Program,
     shown: &Shown,
-    model: Model,
     progress: Progress,
 ) -> Result<OutcomeList, SolveFault>
     ensures ascend { IfOk result (λ list. Ascend list.outcomes.items) }
-    ensures runs { IfOk result (λ list. AreRunsOf (question program.now shown.now) (machine_of_model program.now set.empty model) list.runs list.outcomes.items) }
-    ensures exact { IfOk result (λ list. (o : Outcome) → Contains list.outcomes.items o ↔ AllowsShown (question program.now shown.now) (machine_of_model program.now set.empty model) o) }
+    ensures runs { IfOk result (λ list. AreRunsOf (question program.now shown.now) (machine_of_model program.now set.empty asked.now.model) list.runs list.outcomes.items) }
+    ensures exact { IfOk result (λ list. (o : Outcome) → Contains list.outcomes.items o ↔ AllowsShown (question program.now shown.now) (machine_of_model program.now set.empty asked.now.model) o) }
     ensures fault { IfErr result (λ fault. fault ≡ solve.OutOfMemory) }
 {
-    let mode = Mode::unfenced(model);
-    match proposed(alloc, program, shown, mode)? {
+    let mode = Mode::unfenced(asked.model);
+    match proposed(rt, asked.workers, alloc, program, shown, mode)? {
         Some(list) => Ok(list),
         None => {
             report_ahead(alloc, program, progress);
-            outcomes_with_runs(alloc, program, model, shown)
+            outcomes_with_runs(alloc, program, asked.model, shown)
         }
     }
 }
 
 /// The outcomes of a program with no gap fenced, and a run of each if runs are asked for.
-fn listed(
+fn listed<T: Threads + Sync>(
+    rt: &T,
     alloc: Global,
     asked: &OutcomeQuery,
     program: &Program,
@@ -175,7 +180,7 @@ fn listed(
     ensures runs { IfOk result (λ list. ListsRuns asked.now.runs (question program.now shown.now) (machine_of_model program.now set.empty asked.now.model) list.runs list.outcomes.items) }
     ensures fault { IfErr result (λ fault. fault ≡ solve.OutOfMemory) }
 {
-    let list = list_with_runs(alloc, program, shown, asked.model, progress)?;
+    let list = list_with_runs(rt, alloc, asked, program, shown, progress)?;
     if asked.runs {
         Ok(list)
     } else {
@@ -201,7 +206,8 @@ fn listed_shown(litmus: &Litmus<Program>, observed: bool) -> Shown
 }
 
 /// The lines of a program's outcomes, with their status.
-fn reply_for(
+fn reply_for<T: Threads + Sync>(
+    rt: &T,
     alloc: Global,
     litmus: &Litmus<Program>,
     asked: &OutcomeQuery,
@@ -212,7 +218,7 @@ fn reply_for(
 {
     let shown = listed_shown(litmus, asked.observed);
     let progress = progress.asked(asked.progress);
-    let list = listed(alloc, asked, &litmus.program, &shown, progress)?;
+    let list = listed(rt, alloc, asked, &litmus.program, &shown, progress)?;
     let status = list_status(asked.check, litmus, &list.outcomes);
     match list_text(alloc, asked, litmus, &shown, &list) {
         Ok(lines) => Ok(Reply { lines, status }),
@@ -221,7 +227,8 @@ fn reply_for(
 }
 
 /// The lines of the outcomes of the program that a text spells, with their status.
-fn outcomes_reply(
+fn outcomes_reply<T: Threads + Sync>(
+    rt: &T,
     alloc: Global,
     bytes: &[u8],
     asked: &OutcomeQuery,
@@ -231,11 +238,12 @@ fn outcomes_reply(
     ensures refused { IfErr result (HasNoList bytes.now) }
 {
     let litmus = read_litmus(alloc, bytes)?;
-    reply_for(alloc, &litmus, asked, progress)
+    reply_for(rt, alloc, &litmus, asked, progress)
 }
 
 /// Lists the outcomes of the program of a litmus file, prints the answer, and returns the status.
-pub fn run_outcomes<S: FileStore, R: Read, W: Console>(
+pub fn run_outcomes<T: Threads + Sync, S: FileStore, R: Read, W: Console>(
+    rt: &T,
     alloc: Global,
     files: &S,
     asked: &OutcomeQuery,
@@ -253,7 +261,7 @@ pub fn run_outcomes<S: FileStore, R: Read, W: Console>(
                 text: &bytes,
                 labels: &[],
             };
-            let reply = outcomes_reply(alloc, &bytes, asked, output.progress());
+            let reply = outcomes_reply(rt, alloc, &bytes, asked, output.progress());
             let status = print_answer(alloc, asked.json, subject, reply, output);
             tell_idle_name(alloc, litmus, &bytes, output);
             status

@@ -29,10 +29,14 @@ fn said_of(message: &Result<Message, AllocError>) -> RefusalMessage<'_> {
     }
 }
 
-/// The message as one line.
-fn written(alloc: Global, message: &Result<Message, AllocError>) -> Result<Vec<u8>, AllocError> {
+/// The message as one line, with the line of the text after it on a terminal.
+fn written(
+    alloc: Global,
+    message: &Result<Message, AllocError>,
+    on_terminal: bool,
+) -> Result<Vec<u8>, AllocError> {
     match message {
-        Ok(message) => message.written(alloc),
+        Ok(message) => message.written(alloc, on_terminal),
         Err(_) => Err(AllocError),
     }
 }
@@ -70,5 +74,6 @@ pub(crate) fn tell_refusal<W: Console>(
     ensures { Prints (PrintsRefusal json line) (W.contents output.old) (W.contents output.new) result }
 {
     let text = refusal_text(alloc, json, line, &message);
-    refuse(output, text, written(alloc, &message))
+    let told = written(alloc, &message, output.progress().is_shown());
+    refuse(output, text, told)
 }

@@ -73,10 +73,7 @@ fn drawings_of(
     ensures told { IfOk result (λ drawings. IsTraceDocument litmus.now model labels.now ended.now.outcome ended.now.passed drawings.document.items) }
     ensures fault { IfErr result (ReplayFaultIs litmus.now.program (machine_of_model litmus.now.program set.empty model) labels.now) }
 {
-    let steps = match steps(alloc, &litmus.program, &GapSet::empty(), model, labels) {
-        Ok(steps) => steps,
-        Err(fault) => return Err(fault),
-    };
+    let steps = steps(alloc, &litmus.program, &GapSet::empty(), model, labels)?;
     match drawn(alloc, litmus, model, &steps, ended) {
         Ok(drawings) => Ok(drawings),
         Err(_) => Err(ReplayFault::OutOfMemory),

@@ -14,8 +14,8 @@ pub const FIRST: &str =
 
 pub const LAST: &str = "\
 Prints `outcomes N`, a line `outcome: ..` for each in ascending order, with --runs each followed by
-a line `run LABEL ..`, and `observation ..` and `condition ..`. One thread searches, whatever the
-number of workers.
+a line `run LABEL ..`, and `observation ..` and `condition ..`. Threads share a long search, at
+most as many as there are workers.
 
 The status is 0 for an answer, 1 for a refusal (docs/formats.md explains each), 2 for a bad
 command line or this help, 3 with --check for a condition that fails.

@@ -37,7 +37,7 @@ pub sum-whole : (costs : List ℕ) (s : SetOfGaps) (left : List ℕ) (sum : ℕ)
 unfolding total
 sum-whole costs s left sum so_far none = let parts : sum_by (cost_of costs) left ≡ 0 = ap (sum_by (cost_of costs)) none in omega arith
 
--- the same of the total
+-- no total is above that of all gaps at the greatest cost
 pub total-limit : (costs : List ℕ) (s : SetOfGaps) → IsCostList costs → total costs s ≤ MAX_GAPS * MAX_COST
 unfolding total
 total-limit costs s list = sum-limit costs s list

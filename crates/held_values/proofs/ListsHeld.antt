@@ -6,7 +6,7 @@ use Rattle.std.proofs.lemmas.Slice.Zip.{all_zipped_more}
 use Rattle.std.specs.List.{AllZip}
 use Rattle.std.specs.List.Sorted.{IsStrictlyIncreasing}
 use Rattle.tso_program.specs.declared.listing.Listing.{Listing}
-use Rattle.dataflow_laws.specs.HeldValues.{Location, MayHold}
+use Rattle.tso_machine.specs.HeldValues.{Location, MayHold}
 use Rattle.candidate_executions.proofs.Orders.Lists.{none_here, first_or_later, first_is_here, later_is_here, get_cases}
 use Rattle.held_values.specs.HeldRows.{has, AreHolders}
 use Rattle.held_values.specs.HeldLists.{AreHolderRows, HasAll, IsHeldList, held_of}

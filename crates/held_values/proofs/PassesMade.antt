@@ -14,8 +14,9 @@ use Rattle.tso_program.specs.declared.listing.Thread.{Thread}
 use Rattle.tso_program.specs.Instructions.{number, location_of}
 use Rattle.tso_program.specs.Limits.{IsWithinLimits}
 use Rattle.tso_program.specs.Listings.{code_of, instr_at}
-use Rattle.dataflow_laws.specs.Liveness.{Sets, LeadsTo}
-use Rattle.dataflow_laws.specs.HeldValues.{Cell, Location, Register, Begins, Memory, First, Loaded, Stored, Absent, Flows, Keeps, Copies, Loads, Stores, Gives, Takes, MayHold, Here, From}
+use Rattle.tso_program.proofs.{Found.thread_there, Registers.small_number}
+use Rattle.tso_machine.specs.Effects.{Sets, LeadsTo}
+use Rattle.tso_machine.specs.HeldValues.{Cell, Location, Register, Begins, Memory, First, Loaded, Stored, Absent, Flows, Keeps, Copies, Loads, Stores, Gives, Takes, MayHold, Here, From}
 use Rattle.held_values.specs.HeldRows.{has, row_after, gives, with_bit, with_stored, AreSound, AreHeldRows, AreHolders, AreInitial, HaveGiven, IsPassed, IsPassedOn}
 use Rattle.held_values.proofs.Bits.{and_is, and_of, with_bit_is, with_bit_keeps, with_bit_has}
 use Rattle.held_values.proofs.RowsSpread.{row_of}
@@ -125,23 +126,6 @@ all_step p v n holders more next h one = record {
 
 -- ---- once nothing is added
 
-number_small : (r : Reg) → number r < REGISTERS
-number_small Eax = omega arith
-number_small Ebx = omega arith
-number_small Ecx = omega arith
-number_small Edx = omega arith
-number_small Esi = omega arith
-number_small Edi = omega arith
-
-thread_there : (threads : List Thread) (t k : ℕ) (x : Instr) → instr_at threads t k ≡ Some x → t < length threads
-thread_there threads t k x at = elim (cases_lt t (length threads)) [
-  | inl h ↦ h
-  | inr h ↦ absurd (
-      let none : slice_get threads t ≡ None = slice_get_past threads t (omega arith) in
-      let empty : slice_get [] k ≡ Some x = ap (λ (o : Option Thread). slice_get (option_map_or (λ thread. thread.code) o []) k) (sym none) ∙ at in
-      cc)
-]
-
 set_bit : (row : List Bool) (n : ℕ) (b : Bool) → n < length row → b ≡ true → has (slice_set row n b) n ≡ true
 set_bit row n b there e = get_or-set_same row n b false there ∙ e
 
@@ -184,7 +168,7 @@ module _ (p : Listing) (v : ℕ) (holders : List Bool) (within : IsWithinLimits 
   after t k j i x low at leads few b = (are t low).closed k j i x at leads few b
 
   sets : (t k : ℕ) (x : Instr) (r : Reg) (b : Bool) (low : t < length p.threads) → instr_at p.threads t k ≡ Some x → b ≡ true → has (slice_set (row_of (rows t low) k) (number r) b) (number r) ≡ true
-  sets t k x r b low at e = set_bit (row_of (rows t low) k) (number r) b (let six = wide t k x low at in let small = number_small r in omega (arith, six, small)) e
+  sets t k x r b low at e = set_bit (row_of (rows t low) k) (number r) b (let six = wide t k x low at in let small = small_number r in omega (arith, six, small)) e
 
   begins : (c : Cell) (w : ℕ) → Begins p c w → Claim c w
   begins c w (Memory l) = λ e low. initial.first l low e
@@ -195,15 +179,15 @@ module _ (p : Listing) (v : ℕ) (holders : List Bool) (within : IsWithinLimits 
 
   flows : (d c : Cell) (w : ℕ) → Flows p d c → Claim d w → Claim c w
   flows d c w (Keeps t k j i x at none leads) h = λ e low few. after t k j i x low at leads few (keep_bit v x (row_of (rows t low) k) holders i none (h e low few))
-  flows d c w (Copies t k r from at) h = λ e low few. after t k (k + 1) (number r) (Copy r from) low at refl few (sets t k (Copy r from) r (has (row_of (rows t low) k) (number from)) low at (h e low (number_small from)))
+  flows d c w (Copies t k r from at) h = λ e low few. after t k (k + 1) (number r) (Copy r from) low at refl few (sets t k (Copy r from) r (has (row_of (rows t low) k) (number from)) low at (h e low (small_number from)))
   flows d c w (Loads t k r l at) h = λ e low few. after t k (k + 1) (number r) (Load r l) low at refl few (sets t k (Load r l) r (has holders l) low at (h e (located t k l (Load r l) at refl).0))
   flows d c w (Takes t k l r at) h = λ e low few. after t k (k + 1) (number r) (Xchg l r) low at refl few (sets t k (Xchg l r) r (has holders l) low at (h e (located t k l (Xchg l r) at refl).0))
   flows d c w (Stores t k l r at) h = λ e low.
       let of = there t k (Store l r) at in
-      given t k l (Store l r) of at (located t k l (Store l r) at refl).1 (and_of (l == l) (has (row_of (rows t of) k) (number r)) (eq-eqb l l refl) (h e of (number_small r)))
+      given t k l (Store l r) of at (located t k l (Store l r) at refl).1 (and_of (l == l) (has (row_of (rows t of) k) (number r)) (eq-eqb l l refl) (h e of (small_number r)))
   flows d c w (Gives t k l r at) h = λ e low.
       let of = there t k (Xchg l r) at in
-      given t k l (Xchg l r) of at (located t k l (Xchg l r) at refl).1 (and_of (l == l) (has (row_of (rows t of) k) (number r)) (eq-eqb l l refl) (h e of (number_small r)))
+      given t k l (Xchg l r) of at (located t k l (Xchg l r) at refl).1 (and_of (l == l) (has (row_of (rows t of) k) (number r)) (eq-eqb l l refl) (h e of (small_number r)))
 
   holds : (c : Cell) (w : ℕ) → MayHold p c w → Claim c w
   holds c w (Here d u b) = begins d u b

@@ -11,8 +11,8 @@ use Rattle.tso_program.specs.declared.listing.Listing.{Listing}
 use Rattle.tso_program.specs.Instructions.{number, target_of}
 use Rattle.tso_program.specs.Limits.{IsWithinLimits}
 use Rattle.tso_program.specs.Listings.{code_of, instr_at, start_of}
-use Rattle.dataflow_laws.specs.Liveness.{Sets, LeadsTo}
-use Rattle.dataflow_laws.specs.HeldValues.{Location, Register, First, Loaded, Keeps, Copies, Loads, Takes, MayHold, Here, From}
+use Rattle.tso_machine.specs.Effects.{Sets, LeadsTo}
+use Rattle.tso_machine.specs.HeldValues.{Location, Register, First, Loaded, Keeps, Copies, Loads, Takes, MayHold, Here, From}
 use Rattle.held_values.specs.HeldRows.{has, first_row, no_row, row_after, spread, AreSound, AreHeldRows}
 use Rattle.held_values.proofs.Bits.{bit_case}
 use Rattle.held_values.proofs.RowsSpread.{row_of, AreWide, spread_is, spread_keeps, spread_has, spread_before, spread_long, spread_wide}

@@ -5,7 +5,7 @@ use Rattle.tso_program.specs.declared.instruction.TheConstants.{REGISTERS}
 use Rattle.tso_program.specs.declared.instruction.Instr.{Instr}
 use Rattle.tso_program.specs.declared.instruction.Instr.TheVariants.{Je, Jne, Jmp}
 use Rattle.tso_program.specs.Instructions.{target_of}
-use Rattle.dataflow_laws.specs.Liveness.{LeadsTo}
+use Rattle.tso_machine.specs.Effects.{LeadsTo}
 use Rattle.held_values.specs.HeldRows.{has, either, join, spread}
 use Rattle.held_values.proofs.Bits.{or_left, or_right, set_case, either_is, either_of}
 

@@ -3,7 +3,7 @@ use Rattle.std.specs.Prelude.{◌≡◌, ◌↔◌, ℕ, Bool, List, [], ◌∷�
 use Rattle.std.specs.List.{AllZip}
 use Rattle.std.specs.List.Sorted.{IsStrictlyIncreasing}
 use Rattle.tso_program.specs.declared.listing.Listing.{Listing}
-use Rattle.dataflow_laws.specs.HeldValues.{Cell, Location, MayHold}
+use Rattle.tso_machine.specs.HeldValues.{Cell, Location, MayHold}
 use Rattle.held_values.specs.HeldRows.{has, AreHolders}
 
 -- the values that the location may hold, ascending

@@ -7,8 +7,8 @@ use Rattle.tso_program.specs.declared.instruction.Instr.TheVariants.{LoadImm, Co
 use Rattle.tso_program.specs.declared.listing.Listing.{Listing}
 use Rattle.tso_program.specs.Instructions.{number}
 use Rattle.tso_program.specs.Listings.{code_of, instr_at, start_of}
-use Rattle.dataflow_laws.specs.Liveness.{LeadsTo}
-use Rattle.dataflow_laws.specs.HeldValues.{Location, Register, MayHold}
+use Rattle.tso_machine.specs.Effects.{LeadsTo}
+use Rattle.tso_machine.specs.HeldValues.{Location, Register, MayHold}
 
 -- whether a row has a bit
 abbrev pub has : List Bool → ℕ → Bool

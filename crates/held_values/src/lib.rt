@@ -5,7 +5,7 @@
 //!
 //! Begin with `held_values`. Free to change: in which order values and cells are gone through,
 //! and how tables lie in memory. Relied on: the list of a location has exactly the values that it may hold
-//! (`MayHold` of `dataflow_laws`), ascending.
+//! (`MayHold` of `tso_machine`), ascending.
 #![tactic(auto)]
 
 mod holders;

@@ -48,7 +48,7 @@ pub record AreMarked (entries : List Entry) (receipts : List Receipt) (marks : L
   pub named : (place : ℕ) (e : Entry) → slice_get marks place ≡ Some true → slice_get entries place ≡ Some e → (j : ℕ) × (r : Receipt) × (j < count) × (slice_get receipts j ≡ Some r) × IsReceiptOf e r
   pub as_many : marked marks ≡ count
 
--- the same of other marks
+-- a receipt's mark in a list of marks that says another word of it
 with_marks : (entries : List Entry) (r : Receipt) (marks after : List Bool) (a b : Bool) (m : HasMark entries r marks a) → slice_get after m.place ≡ Some b → HasMark entries r after b
 with_marks entries r marks after a b m has = record { place = m.place; leads = m.leads; entry = m.entry; there = m.there; is_receipt = m.is_receipt; has = has }
 
@@ -144,7 +144,7 @@ fresh_marks entries receipts marks n all is = subst (λ l. AreMarked entries rec
   as_many = none_marked n;
 })
 
--- the same event, by what the record says of it
+-- an event is that of a receipt just where the record says so
 same_event : (s : Status) (v : SettledEvent) (w : ReceiptEvent) → IsEventOf s v → IsSameEvent v w ↔ IsEventTold s w
 same_event (Split f first) (recorded.Split run) (event.Split passed) h = ((λ g. ap (λ (x : Foreign). x.passed) (sym h) ∙ g), (λ g. ap (λ (x : Foreign). x.passed) h ∙ g))
 same_event (Split f first) (recorded.Split run) w h = ((λ g. absurd g), (λ g. absurd g))

@@ -19,7 +19,7 @@ with_commas_at texts n d below =
     let few : length (take n texts) ≡ n = grind (arith, common_steps) in
     rw (take_more texts n d below) (with_commas_more (take n texts) (get_or texts n d) ∙ ap (λ (k : ℕ). with_commas (take n texts) ++ (comma_before k ++ get_or texts n d)) few)
 
--- the same after a first byte, in the order in which they are added
+-- texts with commas after a first byte, in the order in which they are added
 pub added_at : (first : ℕ) (texts : List (List ℕ)) (n : ℕ) (d so_far with_comma with_text : List ℕ) → n < length texts → so_far ≡ first ∷ with_commas (take n texts)
     → with_comma ≡ so_far ++ comma_before n → with_text ≡ with_comma ++ get_or texts n d → with_text ≡ first ∷ with_commas (take (n + 1) texts)
 added_at first texts n d so_far with_comma with_text below begun comma text =

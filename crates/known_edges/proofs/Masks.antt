@@ -28,7 +28,7 @@ row_joined events P Q S a b c of_a of_b each same d = (
   λ h. (each d).1 (elim ((same h.0).0 h.2) [ inl p ↦ inl ((of_a d).1 (h.0, h.1, p)) | inr p ↦ inr ((of_b d).1 (h.0, h.1, p)) ]),
 )
 
--- the same row, told in other words
+-- a row of a property is a row of another that the same events have
 pub row_by : (events : List Event) (P Q : Event → Type 0) (row : ℕ) → ((d : ℕ) (x : Event) → slice_get events d ≡ Some x → P x ↔ Q x) → IsRowOf events P row → IsRowOf events Q row
 row_by events P Q row same is d = (
   λ h. (let q = (is d).0 h in (q.0, q.1, (same d q.0 q.1).0 q.2)),

@@ -9,7 +9,7 @@ use Rattle.known_edges.proofs.Connected.{HasNumber, connected, main_of_mode, glo
 use Rattle.program_sketches.proofs.Traced.{access_same, is_access, whole_ends}
 use Rattle.known_edges.proofs.{Numbered.chosen_numbers, Numbered.number_access, Unchosen.only_order}
 
--- the same rows, told in other words
+-- rows of a relation are rows of another that holds of the same events
 pub rows_by : (events : List Event) (R S : Event → Event → Type 0) (rows : List ℕ) → ((x y : Event) → HasNumber events x → HasNumber events y → R x y ↔ S x y) →
     AreRowsOf events R rows → AreRowsOf events S rows
 rows_by events R S rows same are d e = (

@@ -7,7 +7,7 @@ use Rattle.tso_program.specs.{Names.register_place, Names.location_place, Named.
 use Rattle.conditions.proofs.Mentioned.{Has, IsWith, then_more, register_with_register, register_with_location, location_with_location, location_with_register, register_mentioned, location_mentioned}
 use Rattle.litmus_reader.specs.declared.observed.Observed.{Observed, TheVariants.Location, TheVariants.Register}
 
--- the same said in another way
+-- a list that grows by one place, where this is said of equal types
 said : (One Other : Type 0) (place : ℕ) (names more : set.FinSet nat_cmp) → (One → Other) → (Other → One) → IsWith One place names more → IsWith Other place names more
 said One Other place names more on back with_one = (
   λ h. elim (with_one.0 h) [ inl old ↦ inl old | inr one ↦ inr (on one) ],

@@ -21,7 +21,7 @@ one_read {X} Item item_at again ts x y rest other h g =
 pub only_one : {X : Type 0} (Item : X → List Tok → List Tok → Type 0) → One Item → (x : X) (ts rest : List Tok) → Item x ts rest → Only Item x ts rest
 only_one Item one x ts rest h = (h, λ y other g. one ts y x other rest g h)
 
--- the same tokens follow a mark
+-- only one list of tokens follows a mark
 pub mark_once : (m : Mark) (ts rest other : List Tok) → mark m ts rest → mark m ts other → rest ≡ other
 mark_once m ts rest other h g = ap rest_of (sym h ∙ g)
 

@@ -1,4 +1,4 @@
--- The tables of live registers tell the dead loads.
+-- The tables of live registers give the dead loads.
 use Rattle.std.proofs.Common.{◌≡◌, ◌↔◌, ◌⊎◌, not, ℕ, zero, suc, ◌+◌, ◌<◌, Bool, true, false, List, [], ◌∷◌, ◌++◌, length, Option, Some, None, refl, sym, ap, ◌∙◌, subst, inl, inr, arith, slice_get, slice_index_or}
 use Rattle.std.proofs.lemmas.Bool.{cases_eq, cases_lt}
 use Rattle.std.proofs.lemmas.Option.{slice_get_within, slice_get_past}
@@ -12,28 +12,11 @@ use Rattle.tso_program.specs.declared.listing.Thread.{Thread}
 use Rattle.tso_program.specs.declared.shown.Shown.{Shown}
 use Rattle.tso_program.specs.Instructions.{number}
 use Rattle.tso_program.specs.Listings.{code_of, instr_at}
+use Rattle.tso_program.proofs.{Found.thread_there, Registers.small_number}
 use Rattle.dataflow_laws.specs.DeadLoads.{IsDeadLoad, AreAllDead}
 use Rattle.live_registers.specs.LiveRows.{in_row, AreLiveTables}
 use Rattle.live_registers.specs.DeadPlaces.{is_dead, dead_by}
 use Rattle.live_registers.proofs.RowsStep.{not_of}
-
-number_small : (r : Reg) → number r < REGISTERS
-number_small Eax = omega arith
-number_small Ebx = omega arith
-number_small Ecx = omega arith
-number_small Edx = omega arith
-number_small Esi = omega arith
-number_small Edi = omega arith
-
--- a thread with an instruction is one of the program's
-thread_there : (threads : List Thread) (t k : ℕ) (x : Instr) → instr_at threads t k ≡ Some x → t < length threads
-thread_there threads t k x at = elim (cases_lt t (length threads)) [
-  | inl h ↦ h
-  | inr h ↦ absurd (
-      let none : slice_get threads t ≡ None = slice_get_past threads t (omega arith) in
-      let empty : slice_get [] k ≡ Some x = ap (λ (o : Option Thread). slice_get (option_map_or (λ thread. thread.code) o []) k) (sym none) ∙ at in
-      cc)
-]
 
 not_both : (b : Bool) → not b ≡ true → b ≡ true → ⊥
 not_both true n e = cc
@@ -47,14 +30,14 @@ module _ (p : Listing) (shown : Shown) (tables : List (List (List Bool))) (are :
   dead (Some (Load r l)) at e =
       let exact = (are.each t (thread_there p.threads t k (Load r l) at)).exact in
       let within : k < length (code_of p.threads t) = slice_get_within (code_of p.threads t) k (Load r l) at in
-      (r, l, at, λ live. not_both (in_row after (number r)) e ((exact (k + 1) (number r) (omega arith) (omega arith) (number_small r)).1 live))
+      (r, l, at, λ live. not_both (in_row after (number r)) e ((exact (k + 1) (number r) (omega arith) (omega arith) (small_number r)).1 live))
   dead o at e = absurd cc
 
   told : IsDeadLoad p shown t k → is_dead (instr_at p.threads t k) after ≡ true
   told (r, l, at, none) =
       let exact = (are.each t (thread_there p.threads t k (Load r l) at)).exact in
       let within : k < length (code_of p.threads t) = slice_get_within (code_of p.threads t) k (Load r l) at in
-      ap (λ o. is_dead o after) at ∙ not_of (in_row after (number r)) (λ b. none ((exact (k + 1) (number r) (omega arith) (omega arith) (number_small r)).0 b))
+      ap (λ o. is_dead o after) at ∙ not_of (in_row after (number r)) (λ b. none ((exact (k + 1) (number r) (omega arith) (omega arith) (small_number r)).0 b))
 
   pub dead_is : (dead_by p tables t k ≡ true) ↔ IsDeadLoad p shown t k
   dead_is = (λ e. dead (instr_at p.threads t k) refl e, told)

@@ -11,7 +11,8 @@ use Rattle.tso_program.specs.declared.shown.Shown.{Shown}
 use Rattle.tso_program.specs.Instructions.{number, target_of}
 use Rattle.tso_program.specs.Limits.{IsWithinLimits}
 use Rattle.tso_program.specs.Listings.{code_of, instr_at}
-use Rattle.dataflow_laws.specs.Liveness.{Uses, Sets, LeadsTo, Live}
+use Rattle.tso_machine.specs.Effects.{Sets, LeadsTo}
+use Rattle.dataflow_laws.specs.Liveness.{Uses, Live}
 use Rattle.dataflow_laws.proofs.LiveByPass.{told_by_what_follows, told_at_the_end}
 use Rattle.live_registers.specs.LiveRows.{is_used, is_set, falls, in_row, live_bit, AreTold, AreLiveFrom}
 
@@ -130,7 +131,7 @@ module _ (p : Listing) (shown : Shown) (t k : ℕ) (x : Instr) (at : instr_at p.
   )
 
 module _ (p : Listing) (shown : Shown) (t : ℕ) where
-  -- at first each row has what is told, which is exact at the end
+  -- at first each row has what counts at the end, which is exact there
   pub rows_begin : (told : List Bool) (rows : List (List Bool)) (n : ℕ) → AreTold shown t told → n ≡ length (code_of p.threads t) → ((j : ℕ) → j ≤ n → slice_index_or rows j [] ≡ told) →
       AreLiveFrom p shown t n rows
   rows_begin told rows n are long same j i from to few =

@@ -40,13 +40,13 @@ in_row row i = slice_index_or row i false
 abbrev pub live_bit : Instr → ℕ → Bool → Bool → Bool
 live_bit x i next target = is_used x i || (not (is_set x i) && ((falls x && next) || (is_some (target_of x) && target)))
 
--- a formula's truth tells the registers that the formula names
+-- a formula's truth depends on the registers that the formula names
 abbrev pub told_by : Shown → Shown
 told_by All = All
 told_by (Only names) = Only names
 told_by (Truth f) = Only (with_named set.empty f)
 
--- the row has the registers that are told at the end of thread t
+-- the row has the registers of thread t on which what is shown may depend
 abbrev pub AreTold : Shown → ℕ → List Bool → Type 0
 AreTold shown t row = (i : ℕ) → i < REGISTERS → (in_row row i ≡ true) ↔ Tells shown t i
 

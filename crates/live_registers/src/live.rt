@@ -51,7 +51,7 @@ fn live_bit(instr: Instr, i: usize, next: bool, target: bool) -> bool
     is_used(instr, i) || (!is_set(instr, i) && after)
 }
 
-/// The same of all six.
+/// Whether each of the six registers is live before an instruction.
 fn row_before(instr: Instr, next: [bool; REGISTERS], target: [bool; REGISTERS]) -> [bool; REGISTERS]
     ensures { (i : ℕ) → i < REGISTERS → in_row result i ≡ live_bit instr i (in_row next i) (in_row target i) }
 {
@@ -85,7 +85,7 @@ fn code_in(program: &Program, t: usize) -> &[Instr]
     program.threads()[t].code.as_slice()
 }
 
-/// So many rows, each with the registers that are told.
+/// So many rows, each with these registers.
 fn told_rows(
     alloc: Global,
     told: [bool; REGISTERS],
@@ -125,7 +125,7 @@ pub fn told_row(shown: &Shown, t: usize) -> [bool; REGISTERS]
     row
 }
 
-/// What is live at each place of a thread, where these registers are told at its end.
+/// What is live at each place of a thread, where these registers count at its end.
 pub fn live_rows(
     alloc: Global,
     program: &Program,

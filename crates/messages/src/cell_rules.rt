@@ -5,6 +5,9 @@ use crate::rule::{ANY, JUMPS, REGISTERS, RESERVED, Rule};
 /// What stands before an instruction or a label: the start of a cell, or a label.
 const CELL: &[&str] = &["|", ";", ":"];
 
+/// The words with which instructions begin.
+const MNEMONICS: &[&str] = &["MOV", "XCHG", "MFENCE", "CMP", "JE", "JNE", "JMP"];
+
 /// What stands in a cell, but operands.
 pub(crate) const INSTRUCTION: &[Rule] = &[
     Rule {
@@ -34,6 +37,11 @@ pub(crate) const INSTRUCTION: &[Rule] = &[
             "SHL", "SHR", "SAL", "SAR", "LEA", "TEST",
         ],
         said: "is arithmetic, which is not read; write a branch for each value (docs/guide.md)",
+    },
+    Rule {
+        after: CELL,
+        words: &["<idle_lock>"],
+        said: "is not read; with 0 it changes no value, and an MFENCE does the same",
     },
     Rule {
         after: CELL,
@@ -94,6 +102,11 @@ pub(crate) const INSTRUCTION: &[Rule] = &[
         after: &[":"],
         words: ANY,
         said: "cannot stand here; after a label an instruction, `|` or `;` does, at the end of a row `;`",
+    },
+    Rule {
+        after: ANY,
+        words: MNEMONICS,
+        said: "begins a second instruction in a cell; it stands in the next row, in the column of its thread",
     },
     Rule {
         after: ANY,

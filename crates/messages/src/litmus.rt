@@ -1,17 +1,19 @@
 //! Litmus texts that can't be read.
 
+use crate::limits::limit_text;
 use crate::message::{Message, shown_word};
 use crate::refusals::{instruction_left, refusal_of};
-use crate::rules::said_of;
+use crate::rows::row_message;
+use crate::rules::{COMMENT, said_of};
 use crate::source::{Source, bytes_from, line_of, line_start};
-use crate::tokens::{spot_of, word_at};
+use crate::tokens::{begins_foreign_comment, spot_of, word_at};
 use litmus_lines::{read_first_line, skip_lines};
 use litmus_reader::ReadFault;
 use litmus_syntax::{Part, Refusal, read_body};
 use std::alloc::{AllocError, Global};
 use std::str;
 use text_tokens::{Token, lex, line_spaces_len};
-use tso_program::{MAX_INSTRUCTIONS, MAX_LOCATIONS, ProgramFault};
+use tso_program::ProgramFault;
 
 /// What is said of a first line that begins so.
 const FIRST_LINES: &[(&str, &str)] = &[
@@ -22,6 +24,14 @@ const FIRST_LINES: &[(&str, &str)] = &[
     (
         "(*",
         "begins a comment, which cannot stand before the first line, `X86` and a name",
+    ),
+    (
+        "//",
+        "begins no comment; comments stand in `(* *)`, and none before the first line, `X86` and a name",
+    ),
+    (
+        "#",
+        "begins no comment; comments stand in `(* *)`, and none before the first line, `X86` and a name",
     ),
     (
         "X86_64",
@@ -106,6 +116,15 @@ fn lines_message(
     }
 }
 
+/// What is said of the word with which a line between the first one and `{` begins.
+fn said_of_skipped(line: &[u8]) -> &'static str {
+    if begins_foreign_comment(line) {
+        COMMENT
+    } else {
+        "cannot stand here; initial values come next, `{ }` at least, and before them lines in quotes or `NAME=..`"
+    }
+}
+
 /// What is said of a line between the first one and `{`.
 fn skipped_message(
     alloc: Global,
@@ -117,10 +136,8 @@ fn skipped_message(
             let start = line_start(source.text, line as usize);
             let blanks = line_spaces_len(bytes_from(source.text, start));
             let offset = start.saturating_add(blanks);
-            let word = word_at(line_of(bytes_from(source.text, offset)));
-            let said =
-                "cannot stand here; initial values come next, `{ }` at least, and before them lines in quotes or `NAME=..`";
-            Message::at_word(alloc, source, offset, word, said)
+            let line = line_of(bytes_from(source.text, offset));
+            Message::at_word(alloc, source, offset, word_at(line), said_of_skipped(line))
         }
         _ => {
             let said = "ends before its initial values, which are `{ }` at least";
@@ -144,7 +161,10 @@ fn tokens_message(
     match refusal_of(alloc, tokens.as_slice()) {
         Some(refusal) => {
             let spot = spot_of(rest, tokens.as_slice(), refusal, offset);
-            Message::at_word(alloc, source, spot.offset, spot.shown, said_of(&spot))
+            match row_message(alloc, source, tokens.as_slice(), refusal.left, &spot)? {
+                Some(message) => Ok(message),
+                None => Message::at_word(alloc, source, spot.offset, spot.shown, said_of(&spot)),
+            }
         }
         None => Message::of_file(alloc, source.name, "out of memory"),
     }
@@ -158,27 +178,14 @@ fn program_message(
     line: u32,
     fault: ProgramFault,
 ) -> Result<Message, AllocError> {
+    let tokens = lex(alloc, rest, 1)?;
     if let ProgramFault::BackwardJump(thread, instruction) = fault {
-        let tokens = lex(alloc, rest, 1)?;
         if let Some(left) = jump_left(alloc, tokens.as_slice(), thread, instruction) {
             return backward_message(alloc, source, tokens.as_slice(), rest, left);
         }
     }
-    let text = limit_text(alloc, fault)?;
+    let text = limit_text(alloc, tokens.as_slice(), fault)?;
     Message::at_line(alloc, source, line as usize, text.as_str())
-}
-
-/// What is said of a limit that a program breaks.
-fn limit_text(alloc: Global, fault: ProgramFault) -> Result<String, AllocError> {
-    match fault {
-        ProgramFault::TooLong(thread) => {
-            format!(in alloc; "thread {thread} has more than {MAX_INSTRUCTIONS} instructions")
-        }
-        ProgramFault::Locations => format!(in alloc;
-            "there are more than {MAX_LOCATIONS} locations; those of the initial values, `locations` and the condition count too"
-        ),
-        _ => format!(in alloc; "{fault}"),
-    }
 }
 
 /// What is said of a jump back, where so many tokens are left at its mnemonic.

@@ -1,5 +1,6 @@
 //! Messages.
 
+use crate::pointer::pointed_line;
 use crate::source::Source;
 use crate::tokens::spot_of;
 use litmus_syntax::{Part, Refusal};
@@ -25,6 +26,8 @@ pub struct Message {
     pub word: String,
     /// What is wrong, and what could stand there.
     pub text: String,
+    /// The line of the text with a `^` below the word, as two lines; nothing where no word of a text is meant.
+    pub pointed: String,
 }
 
 impl Message {
@@ -36,6 +39,7 @@ impl Message {
             column: None,
             word: String::new(alloc),
             text: String::from_str(alloc, text)?,
+            pointed: String::new(alloc),
         })
     }
 
@@ -69,6 +73,7 @@ impl Message {
             column: Some(position.column),
             word: shown,
             text,
+            pointed: pointed_line(alloc, source.text, offset)?,
         })
     }
 
@@ -90,8 +95,9 @@ impl Message {
         Message::at_word(alloc, source, spot.offset, spot.word, said)
     }
 
-    /// The message as one line: `FILE:LINE:COLUMN: TEXT`, without what is not known.
-    pub fn written(&self, alloc: Global) -> Result<Vec<u8>, AllocError> {
+    /// The message as one line: `FILE:LINE:COLUMN: TEXT`, without what is not known. A terminal shows the line of the
+    /// text after it, with a `^` below the word.
+    pub fn written(&self, alloc: Global, on_terminal: bool) -> Result<Vec<u8>, AllocError> {
         let Message {
             file,
             line,
@@ -104,7 +110,11 @@ impl Message {
             (Some(line), None) => format!(in alloc; "{file}:{line}: {text}")?,
             _ => format!(in alloc; "{file}: {text}")?,
         };
-        Ok(one_line(alloc, written.as_str())?.into_bytes())
+        let mut lines = one_line(alloc, written.as_str())?;
+        if on_terminal {
+            lines.push_str(self.pointed.as_str())?;
+        }
+        Ok(lines.into_bytes())
     }
 }
 

@@ -7,8 +7,14 @@ use crate::rule::{ANY, JUMPS, REGISTERS, RESERVED, Rule, first_said};
 use crate::tokens::Spot;
 use litmus_syntax::Part;
 
+/// What is said of a sign with which other languages begin comments.
+pub(crate) const COMMENT: &str = "begins no comment; comments stand in `(* *)`";
+
 /// What the tables say of a token.
 pub(crate) fn said_of(spot: &Spot<'_>) -> &'static str {
+    if spot.kind == b"<comment>".as_slice() {
+        return COMMENT;
+    }
     first_said(rules_of(spot.part), spot).unwrap_or("cannot stand here")
 }
 
@@ -16,7 +22,7 @@ fn rules_of(part: Part) -> &'static [Rule] {
     match part {
         Part::Header => HEADER,
         Part::Initial => INITIAL,
-        Part::Row => ROW,
+        Part::Row => &[],
         Part::Instruction => INSTRUCTION,
         Part::Operand => OPERAND,
         Part::Label => LABEL,
@@ -81,13 +87,6 @@ const INITIAL: &[Rule] = &[
         said: "cannot stand here; an initial value is `x=1`, `[x]=1` or `0:EAX=1`, with `;` between two",
     },
 ];
-
-/// The end of a row.
-const ROW: &[Rule] = &[Rule {
-    after: ANY,
-    words: ANY,
-    said: "ends a row with another number of cells than the header row has; each row has a cell for each thread, an empty one keeps its `|` (`MOV [x],$1 | ;`), and a second instruction of a thread stands in the next row",
-}];
 
 /// Labels, and the names to which jumps lead.
 const LABEL: &[Rule] = &[

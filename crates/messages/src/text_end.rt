@@ -22,7 +22,8 @@ fn count(tokens: &[Token], mark: Mark) -> usize {
     tokens.iter().filter(|token| is_mark(token, mark)).count()
 }
 
-fn is_mark(token: &Token, mark: Mark) -> bool {
+/// Whether the token is this mark.
+pub(crate) fn is_mark(token: &Token, mark: Mark) -> bool {
     match token {
         Token::Mark(own) => *own == mark,
         _ => false,

@@ -1,5 +1,6 @@
 //! Tokens of a litmus text, as they lie in it.
 
+use crate::locks::is_idle_lock;
 use crate::source::{bytes_from, continues_character};
 use crate::text_end::end_kind;
 use litmus_syntax::{Part, Refusal};
@@ -21,6 +22,8 @@ pub(crate) struct Spot<'t> {
     pub(crate) before: &'t [u8],
     /// What kind of token it is, in angle brackets.
     pub(crate) kind: &'static [u8],
+    /// Where the token before it ends, if the line ends between them.
+    pub(crate) line_end: Option<usize>,
 }
 
 /// The refused one of the tokens of a text, which begins at an offset of the whole one.
@@ -40,16 +43,53 @@ pub(crate) fn spot_of<'t>(
         word,
         shown,
         before: kind_before(text, tokens, index),
-        kind: match tokens.get(index) {
-            Some(token) => kind_of(token, word, shown),
-            None => end_kind(tokens),
+        kind: kind_at(tokens, index, rest, shown),
+        line_end: match line_end_before(text, tokens, index) {
+            Some(end) => Some(offset.saturating_add(end)),
+            None => None,
         },
     }
 }
 
-/// The word with which a text begins, with the one after it where they belong together: LOCK and its instruction, and the
-/// quantifier `not exists`.
+/// What kind of token the one with this index is, from which on the text is this one.
+fn kind_at(tokens: &[Token], index: usize, rest: &[u8], shown: &[u8]) -> &'static [u8] {
+    if begins_foreign_comment(rest) {
+        return b"<comment>";
+    }
+    if is_idle_lock(tokens.split_at(index.min(tokens.len())).1) {
+        return b"<idle_lock>";
+    }
+    match tokens.get(index) {
+        Some(token) => kind_of(token, word_at(rest), shown),
+        None => end_kind(tokens),
+    }
+}
+
+/// Whether a text begins with a sign with which other languages begin comments.
+pub(crate) fn begins_foreign_comment(text: &[u8]) -> bool {
+    text.starts_with(b"//") || text.starts_with(b"/*") || text.starts_with(b"#")
+}
+
+/// Where the token before the one with this index ends, if the line ends between them.
+fn line_end_before(text: &[u8], tokens: &[Token], index: usize) -> Option<usize> {
+    let before = from_token(text, tokens, index.saturating_sub(1));
+    let len = token_before(text, tokens, index).len();
+    let after = bytes_from(before, len);
+    let next = from_token(text, tokens, index);
+    let space = after.split_at(after.len().saturating_sub(next.len())).0;
+    if space.iter().any(|byte| *byte == b'\n') {
+        Some(text.len().saturating_sub(after.len()))
+    } else {
+        None
+    }
+}
+
+/// The word with which a text begins, with the one after it where they belong together: LOCK and its instruction, the
+/// quantifier `not exists`, and the two signs of a comment in C.
 fn two_words<'t>(text: &'t [u8], word: &'t [u8]) -> &'t [u8] {
+    if text.starts_with(b"/*") {
+        return text.split_at(text.len().min(2)).0;
+    }
     let rest = bytes_from(text, word.len());
     let blanks = line_spaces_len(rest);
     let after = bytes_from(rest, blanks);

@@ -11,15 +11,6 @@ use Rattle.tree_laws.specs.Ascending.{BelongsAt}
 use Rattle.tree_laws.proofs.{Lists.found_is_here, AscendingSearched.not_there}
 use Rattle.oracle.specs.declared.fault.ForeignFault.TheVariants as foreign
 
--- a run has one outcome
-pub one_end : (p : Listing) (mode : Machine) (labels : List Label) (a b : Outcome) → IsRun p mode labels a → IsRun p mode labels b → a ≡ b
-one_end p mode labels a b (last, run, ends, is) (other, again, finished, same) =
-    is ∙ ap (outcome_at p) (same_Some last other (sym run ∙ again)) ∙ sym same
-
--- and so one thing is shown of it
-pub one_outcome : (q : Question) (mode : Machine) (labels : List Label) (a b : Outcome) → IsShownRun q mode labels a → IsShownRun q mode labels b → a ≡ b
-one_outcome q mode labels a b (whole, is_run, shown) (other, again, same) = shown ∙ ap (show q.shown) (one_end q.program mode labels whole other is_run again) ∙ sym same
-
 -- an outcome has a place in a list exactly if it is one of it
 pub found_by : (outcomes : List Outcome) (o : Outcome) (place : Result ℕ ℕ) (b : Bool) → IfOk place (λ n. slice_get outcomes n ≡ Some o) → IfErr place (BelongsAt outcomes o) → b ≡ is_ok place →
     IsTrue b ↔ Contains outcomes o

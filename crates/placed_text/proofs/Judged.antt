@@ -1,5 +1,5 @@
 -- What is reported of texts, from what their parts are.
-use Rattle.placed_text.proofs.Vocabulary.{◌≡◌, ◌∙◌, ℕ, List, Option, Some, None, ap, length, refl, subst, unwrap_or, length-replicate, Listing, SetOfGaps, Shown, asked, shown_as, question_of, gap_count, answer_line, IsPlacement, AreTextsOf, ArePlacedTextsOf, HasNoPlacedText, TellsWhy}
+use Rattle.placed_text.proofs.Vocabulary.{◌≡◌, ◌∙◌, ℕ, List, Option, Some, None, ap, length, refl, subst, unwrap_or, length-replicate, Listing, Shown, asked, shown_as, question_of, gap_count, answer_line, IsPlacement, AreTextsOf, ArePlacedTextsOf, HasNoPlacedText, TellsWhy}
 use Rattle.placed_text.proofs.Vocabulary.{Litmus, AreGiven, IsAnswerText, IsProblem, IsPlacedText, HasNoProgram, HasNoCosts, HasNoPlacement, HasNoProblem, IsWhyText, OfItsPlacement, question_in}
 use Rattle.std.proofs.lemmas.List.FromFn.{length-map-range_with_len}
 use Rattle.tso_program.specs.declared.shown.ShownKind.{ShownKind}

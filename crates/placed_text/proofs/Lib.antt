@@ -3,4 +3,5 @@ mod Vocabulary
 pub mod GapsThere
 pub mod Judged
 pub mod Needed
+pub mod PassingSteps
 pub mod ReasonTexts

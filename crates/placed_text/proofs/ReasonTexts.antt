@@ -31,9 +31,9 @@ shown_of_run q labels o whole (ended, is_run, shows) ends = shows ∙ ap (λ (x 
 -- the lines of a foreign run that passes none of the set's other gaps are a reason
 pub reason_of : (source : Litmus Listing) (shown : Shown) (gaps : SetOfGaps) (gap : ℕ) (labels : List Label) (ended : Ended) (told : Told) → IsForeign (asked source.program shown) labels
     → PassesNoGapOf source.program (set.remove gaps gap) labels → IsReplayOf (asked source.program All) Buffered labels ended
-    → IsReasonText source shown gaps gap labels ended.outcome ended.passed told.0
+    → set.contains ended.passed gap ≡ true → IsReasonText source shown gaps gap labels ended.outcome ended.passed told.0
     → TellsRun source (printed_of shown) (Without gap) labels ended.outcome ended.passed told.1 → IsReason source shown gaps gap told
-reason_of source shown gaps gap labels ended told (o, is) none replay printed document =
+reason_of source shown gaps gap labels ended told (o, is) none replay passes_it printed document =
     let q = asked source.program shown in
     let ends = ends_in source.program labels ended replay in
     record {
@@ -44,6 +44,7 @@ reason_of source shown gaps gap labels ended told (o, is) none replay printed do
       fenced = (ended.outcome, (fenced_runs_avoid source.program (set.remove gaps gap) labels ended.outcome).1 (ends, none), refl);
       passed = ended.passed;
       passes = replay.passed;
+      passes_it = passes_it;
       printed = printed;
       document = document;
     }
@@ -80,7 +81,7 @@ says_why source shown costs gaps line all text document runs (reasons, each, lin
   told = subst (λ (rs : List (List ℕ)). IsWhyDocument source shown costs gaps rs document) are told;
 }
 
-not_zero : (n : ℕ) → (suc n == 0) ≡ true → ⊥
+pub not_zero : (n : ℕ) → (suc n == 0) ≡ true → ⊥
 not_zero n e = grind (arith, nat_tests)
 
 -- of a text without a byte, and of one with some

@@ -23,6 +23,7 @@ pub use Rattle.tso_program.specs.Shown.{asked, show}
 pub use Rattle.tso_program.specs.declared.question.Question.{Question}
 pub use Rattle.tso_program.specs.declared.listing.Listing.{Listing}
 pub use Rattle.tso_program.specs.declared.shown.Shown.{Shown}
+pub use Rattle.placed_text.specs.MarkedTables.{IsMarkedTableOf}
 pub use Rattle.placed_text.specs.PlacedTexts.{ArePlacedTextsOf, AreTextsOf, IsAnswerText, IsPlacedText}
 pub use Rattle.placed_text.specs.Problems.{IsProblem, OfItsPlacement, question_in}
 pub use Rattle.placed_text.specs.TextFaults.{AreNoCosts, HasNoCosts, HasNoPlacedText, HasNoPlacement, HasNoProblem, HasNoProgram}

@@ -1,3 +1,4 @@
+pub mod MarkedTables
 pub mod PlacedTexts
 pub mod Problems
 pub mod TextFaults

@@ -20,10 +20,10 @@ use Rattle.litmus_text.specs.Texts.{IsLitmus}
 use Rattle.litmus_text.specs.Shown.{shown_as, question_of}
 use Rattle.litmus_text.specs.GivenCosts.{AreGiven}
 use Rattle.report.specs.Answers.{answer_line, printed_labels, outcome_line, passed_line, without_line}
-use Rattle.run_views.specs.Tables.{IsTableOf}
 use Rattle.documents.specs.declared.run.Setting.TheVariants.{Without}
 use Rattle.documents.specs.Documents.{IsWhyDocument}
 use Rattle.documents.specs.Runs.{TellsRun}
+use Rattle.placed_text.specs.MarkedTables.{IsMarkedTableOf}
 
 -- what is said of an outcome that no sequential run has, and of an answer without a gap
 abbrev pub is_foreign : List ℕ
@@ -71,17 +71,18 @@ reason_text source shown gap labels table outcome passed =
 abbrev pub others_fenced : Listing → SetOfGaps → ℕ → Machine
 others_fenced p gaps gap = StoreBufferMachine (gaps_in p (set.remove gaps gap))
 
--- the text is that of a run, with the table of its steps where the set's other gaps are fenced
+-- the text is that of a run, with the table of its steps where the set's other gaps are fenced, in which the gap is marked
 abbrev pub IsReasonText : Litmus Listing → Shown → SetOfGaps → ℕ → List Label → Outcome → SetOfGaps → List ℕ → Type 0
 IsReasonText source shown gaps gap labels outcome passed text =
-    (table : List ℕ) × IsTableOf source (others_fenced source.program gaps gap) labels table × (text ≡ reason_text source shown gap labels table outcome passed)
+    (table : List ℕ) × IsMarkedTableOf source (others_fenced source.program gaps gap) labels gap table × (text ≡ reason_text source shown gap labels table outcome passed)
 
 -- the lines of a reason, and what the document says of its run
 abbrev pub Told : Type 0
 Told = List ℕ × List ℕ
 
 -- Why a gap of a set is needed: the lines have the labels of a run that is one with no gap fenced and with the set's other gaps
--- fenced, its outcome, of which is shown what no sequential run shows, and the gaps that it passes; the document says the same of it.
+-- fenced, its outcome, of which is shown what no sequential run shows, and the gaps that it passes, among them this one; the document says
+-- the same of it.
 pub record IsReason (source : Litmus Listing) (shown : Shown) (gaps : SetOfGaps) (gap : ℕ) (told : Told) : Type 0 where
   pub labels : List Label
   pub outcome : Outcome
@@ -90,6 +91,7 @@ pub record IsReason (source : Litmus Listing) (shown : Shown) (gaps : SetOfGaps)
   pub fenced : IsShownRun (asked source.program shown) (others_fenced source.program gaps gap) labels (show shown outcome)
   pub passed : SetOfGaps
   pub passes : ArePassed source.program (StoreBufferMachine no_gaps) labels passed
+  pub passes_it : set.contains passed gap ≡ true
   pub printed : IsReasonText source shown gaps gap labels outcome passed told.0
   pub document : TellsRun source (printed_of shown) (Without gap) labels outcome passed told.1
 

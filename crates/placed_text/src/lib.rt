@@ -14,6 +14,7 @@
 mod ahead;
 mod explaining;
 mod fault;
+mod marked_table;
 mod placement;
 mod problem;
 mod proposed;

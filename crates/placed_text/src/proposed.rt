@@ -14,7 +14,7 @@ use crate::problem::Problem;
 use crate::verdict::report_verdict;
 use crate::watched::{Effort, report_outcomes};
 use cert_forest::{Certificate, Rule};
-use certificate_proposals::{propose, proposed_rule};
+use certificate_proposals::{SearchPlan, propose, proposed_rule};
 use fence_place::accepted_proposal;
 use program_streams::Progress;
 use std::alloc::{AllocError, Global};
@@ -35,7 +35,7 @@ pub(crate) fn certificate_of<R: Threads + Wait + Sync>(
     ensures fault { IfErr result (HasNoPlacement effort.workers) }
 {
     judge_workers(effort.workers)?;
-    let certificate = match proposed(alloc, problem, effort)? {
+    let certificate = match proposed(rt, alloc, problem, effort)? {
         Some(certificate) => certificate,
         None => placement_of(rt, alloc, problem, effort)?,
     };
@@ -60,7 +60,8 @@ fn judge_workers(workers: u8) -> Result<(), TextFault>
 }
 
 /// The certificate that a search proposes, where one is asked of it and the checker accepts it.
-fn proposed(
+fn proposed<R: Threads + Sync>(
+    rt: &R,
     alloc: Global,
     problem: &Problem,
     effort: Effort,
@@ -80,8 +81,21 @@ fn proposed(
         Rule::Whole => report_ahead(alloc, program, effort.progress),
         Rule::Early => effort.progress.of_search(false),
     };
-    let found = match (propose(alloc, rule, program, shown, costs)?, effort.trees) {
-        (None, None) => propose(alloc, Rule::Early, program, shown, costs)?,
+    let plan = SearchPlan {
+        rule,
+        workers: effort.workers,
+    };
+    let found = match (
+        propose(rt, alloc, plan, program, shown, costs)?,
+        effort.trees,
+    ) {
+        (None, None) => {
+            let early = SearchPlan {
+                rule: Rule::Early,
+                ..plan
+            };
+            propose(rt, alloc, early, program, shown, costs)?
+        }
         (found, _) => found,
     };
     let Some(text) = found else {

@@ -1,5 +1,5 @@
 //! Why a gap of the answer is needed.
-ghost use Rattle.std.specs.Prelude.{◌≡◌, ◌<◌, ◌++◌, IfOk, OnOk, Contains, map};
+ghost use Rattle.std.specs.Prelude.{◌≡◌, ◌<◌, ◌++◌, true, IfOk, OnOk, Contains, map};
 ghost use Rattle.std.specs.FinSet as set;
 ghost use Rattle.gap_sets.specs.declared.gap_set.TheConstants.{MAX_GAPS};
 ghost use Rattle.tso_program.specs.declared.shown.Shown.TheVariants.{All};
@@ -14,6 +14,7 @@ ghost use Rattle.tree_laws.specs.Laws.{IsForeign};
 ghost use Rattle.report.specs.Answers.{printed_labels, without_line};
 ghost use Rattle.placed_text.specs.WhyTexts.{is_foreign, met_line, alone_line, foreign_lines, printed_of, ending_text, others_fenced, IsReason};
 
+use crate::marked_table::marked_table;
 use cert_forest::Runs;
 use documents::{Setting, run_value};
 use gap_sets::GapSet;
@@ -206,13 +207,15 @@ pub(crate) fn reason_of(
     requires foreign { IsForeign (asked litmus.now.program shown.now) run.now.labels.now }
     requires ended { IsReplayOf (asked litmus.now.program All) Buffered run.now.labels.now run.now.ended }
     requires avoids { PassesNoGapOf litmus.now.program (set.remove gaps.now gap) run.now.labels.now }
+    requires passes { set.contains run.now.ended.passed gap ≡ true }
     ensures { IfOk result (λ reason. IsReason litmus.now shown.now gaps.now gap (reason.lines.items, reason.run)) }
 {
     let EndedRun { labels, ended } = run;
     let steps = steps_of(alloc, &litmus.program, gaps, gap, labels)?;
     let table = run_table(alloc, litmus, &steps)?;
+    let marked = marked_table(alloc, &litmus.program, gap, &steps, &table)?;
     let ending = ending_lines(alloc, litmus, shown, ended)?;
-    let lines = lines_with(alloc, &litmus.program, gap, labels, &table, &ending)?;
+    let lines = lines_with(alloc, &litmus.program, gap, labels, &marked, &ending)?;
     let printed = printed_of(shown);
     let setting = Setting::Without(gap);
     let said = run_value(alloc, litmus, &printed, setting, &steps, ended)?;

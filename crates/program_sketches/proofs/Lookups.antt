@@ -16,7 +16,7 @@ each_more P xs i d h below here k x l q = elim (cases_lt k i) [
   | inr g ↦ (let same : k ≡ i = omega arith in subst P (same_default xs i d x h ∙ ap (λ n. get_or xs n x) (sym same) ∙ q) here)
 ]
 
--- the same of indices
+-- what holds below an index and at it holds below the next one
 pub each_index : (P : ℕ → Type 0) (i : ℕ) → ((k : ℕ) → k < i → P k) → P i → (k : ℕ) → k < i + 1 → P k
 each_index P i below here k l = elim (cases_lt k i) [ inl a ↦ below k a | inr g ↦ (let same : i ≡ k = omega arith in subst P same here) ]
 

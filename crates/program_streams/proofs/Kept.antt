@@ -13,7 +13,7 @@ kept f q [] i d lt pass = absurd (omega arith)
 kept f q (x ∷ xs) zero d lt pass = rw pass (0, omega arith, refl)
 kept f q (x ∷ xs) (suc i) d lt pass = more (q (f x)) (f x) (filter q (map f xs)) (f (get_or xs i d)) (kept f q xs i d (omega arith) pass)
 
--- the same in a list that is known to be that
+-- an element that passes is kept in a list that is known to be the filtered one
 pub kept_in : {X Y : Type 0} (f : X → Y) (q : Y → Bool) (xs : List X) (ys : List Y) (i : ℕ) (d : X) → map f xs ≡ ys → i < length xs → q (f (get_or xs i d)) ≡ true → Contains (filter q ys) (f (get_or xs i d))
 kept_in {Y = Y} f q xs ys i d is lt pass = subst (λ (zs : List Y). Contains (filter q zs) (f (get_or xs i d))) is (kept f q xs i d lt pass)
 

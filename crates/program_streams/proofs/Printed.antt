@@ -36,6 +36,6 @@ may_be (Err e) wanted A status out may is = absurd is.1
 pub prints_made : {E : Type 0} (text : Result (Vec ℕ) E) (wanted : ℕ) (A : ℕ → List ℕ → Type 0) (old new : Option (List ℕ)) (result : ℕ) → IfOk text (λ v. A wanted v.items) → Prints (IsMade text wanted) old new result → Prints A old new result
 prints_made text wanted A old new result may told = prints_more (IsMade text wanted) A old new result (λ status out is. may_be text wanted A status out may is) told
 
--- the same of a text that is known
+-- a text that is known is printed
 pub prints_line : {E : Type 0} (text : Result (Vec ℕ) E) (wanted : ℕ) (line : List ℕ) (A : ℕ → List ℕ → Type 0) (old new : Option (List ℕ)) (result : ℕ) → A wanted line → IfOk text (λ v. v.items ≡ line) → Prints (IsMade text wanted) old new result → Prints A old new result
 prints_line text wanted line A old new result may is told = prints_made text wanted A old new result (IfOk-weaker text _ _ (λ v same. subst (A wanted) (sym same) may) is) told

@@ -17,7 +17,7 @@ pub takes_more : (a b c : Option (List ℕ)) (before after part : List ℕ) (mos
 takes_more a b c before after part most room (bytes, taken, is) next within at =
     (bytes ++ part, reads_more a b c bytes part taken next, omega (arith, ap length is, length-append before bytes, length-append bytes part, within, at))
 
--- the same of two reads
+-- two reads, one after another, take at most as much as both may
 pub takes_both : (a b c : Option (List ℕ)) (n m k : ℕ) → TakesUpTo a b n → TakesUpTo b c m → n + m ≤ k → TakesUpTo a c k
 takes_both a b c n m k (bytes, taken, few) (more, next, few_too) within =
     (bytes ++ more, reads_more a b c bytes more taken next, omega (arith, few, few_too, within, length-append bytes more))

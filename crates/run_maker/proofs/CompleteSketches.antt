@@ -235,6 +235,6 @@ module _ (s : ProgramSketch) (lawful : IsLawful s) (whole : IsComplete s) (acycl
     only = λ other has. sym (ends_only s All end lawful (must_end All) has.0 other has.1 has.2);
   }
 
-  -- the same with the one outcome as which the sketch must end
+  -- the run ends as the one outcome as which the sketch must end
   pub run_with : (o : Outcome) → MustEndSo s All o → IsMadeRun s (labels_along p mode (given_to s.chosen) (λ t. 0) order) o
   run_with o so = subst (IsMadeRun s (labels_along p mode (given_to s.chosen) (λ t. 0) order)) (so.only acyclic end (must_end All)) run_of

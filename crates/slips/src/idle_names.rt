@@ -1,5 +1,6 @@
 //! Names in a condition that no instruction uses, as one that is misspelt.
 
+use crate::near_names::near_name;
 use litmus_reader::{Litmus, NameTable, location_name, register_name};
 use messages::{Message, shown_word};
 use std::alloc::{AllocError, Global};
@@ -88,10 +89,7 @@ fn written_by(instruction: Instr) -> Option<Reg> {
 fn said_of_atom(alloc: Global, names: &NameTable, atom: Atom) -> Result<String, AllocError> {
     match atom {
         Atom::Location { location, .. } => {
-            let name = shown_word(alloc, location_name(names, location as usize))?;
-            format!(in alloc;
-                "the condition names {name}, which no instruction reads or writes: it keeps its first value"
-            )
+            said_of_location(alloc, names, location_name(names, location as usize))
         }
         Atom::Register {
             thread,
@@ -103,5 +101,21 @@ fn said_of_atom(alloc: Global, names: &NameTable, atom: Atom) -> Result<String, 
                 "the condition names {thread}:{name}, to which thread {thread} writes nothing: it keeps its first value"
             )
         }
+    }
+}
+
+/// What is said of a location of this name, and of another one that may be meant.
+fn said_of_location(alloc: Global, names: &NameTable, name: &[u8]) -> Result<String, AllocError> {
+    let shown = shown_word(alloc, name)?;
+    match near_name(names, name) {
+        Some(near) => {
+            let near = shown_word(alloc, near)?;
+            format!(in alloc;
+                "the condition names {shown}, which no instruction reads or writes: did you mean {near}?"
+            )
+        }
+        None => format!(in alloc;
+            "the condition names {shown}, which no instruction reads or writes: it keeps its first value"
+        ),
     }
 }

@@ -23,7 +23,7 @@ pub(crate) fn near_name_of(
         ) {
             let near = shown_word(alloc, near)?;
             let said = format!(in alloc;
-                "is a location of its own, and stands here alone: {near} is another one"
+                "is a location that stands nowhere else: did you mean {near}?"
             )?;
             return Ok(Some(Message::at_word(alloc, source, offset, name, said.as_str())?));
         }
@@ -32,7 +32,7 @@ pub(crate) fn near_name_of(
 }
 
 /// The first location's name that is close to this one.
-fn near_name<'t>(names: &'t NameTable, name: &[u8]) -> Option<&'t [u8]> {
+pub(crate) fn near_name<'t>(names: &'t NameTable, name: &[u8]) -> Option<&'t [u8]> {
     for number in 0..names.locations() {
         let other = location_name(names, number);
         if are_near(name, other) {

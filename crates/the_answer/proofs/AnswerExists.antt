@@ -52,7 +52,7 @@ answer_is q costs gaps within = (
   (λ e. subst (IsTheAnswer q costs) (sym e) (answer_exists q costs within.shared.forward_jumps)),
 )
 
--- the same of the fenced program
+-- the headline holds of that set alone
 pub headline_is : TheHeadlineIsOfThatSet
 headline_is q costs gaps within = (
   (λ headline. (answer_is q costs gaps within).0 ((headline_is_the_answer q costs gaps).0 headline)),

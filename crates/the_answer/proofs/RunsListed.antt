@@ -117,7 +117,7 @@ whole_listed p mode o forward = (
       (is_listed p mode labels (most_labels p) (start p) last (λ t past. refl) (bounded p mode labels last forward leads) leads ended)),
 )
 
--- the same of what is shown of them
+-- what is shown of each run's outcome is listed
 pub outcomes_listed : OutcomesAreListed
 unfolding outcomes_of
 outcomes_listed q mode o forward = (

@@ -16,7 +16,7 @@ HasNumberBelow code location n v = (k : ℕ) × (x : Instr) × (k < n) × (slice
 abbrev pub HasCome : (ℕ → Type 0) → List ℕ → List ℕ → Type 0
 HasCome P old new = (v : ℕ) → Contains new v ↔ (Contains old v ⊎ P v)
 
--- the same values, told in other words
+-- values that come by a property come by another that has the same values
 pub come_by : (P Q : ℕ → Type 0) (old new : List ℕ) → ((v : ℕ) → P v ↔ Q v) → HasCome P old new → HasCome Q old new
 come_by P Q old new same come v = (
   λ h. elim ((come v).0 h) [ inl a ↦ inl a | inr p ↦ inr ((same v).0 p) ],

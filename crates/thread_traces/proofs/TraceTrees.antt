@@ -37,7 +37,7 @@ without_last (b ∷ base) more (y ∷ earlier) v e h =
 
 -- ---- labels: the thread and the values of each node, by its number
 
--- the same, but for one number
+-- a function changed at one number
 abbrev with_one : {A : Type 0} → (ℕ → A) → ℕ → A → ℕ → A
 with_one f n a i = cond (eqb i n) a (f i)
 

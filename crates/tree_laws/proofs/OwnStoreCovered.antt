@@ -8,7 +8,7 @@ use Rattle.tso_program.specs.declared.instruction.Instr.{Instr, TheVariants.Load
 use Rattle.candidate_executions.specs.declared.event.Kind.TheVariants as union
 use Rattle.candidate_executions.specs.Settled.{MayStore}
 use Rattle.candidate_executions.proofs.FromRuns.KnownValues.{held_is_value}
-use Rattle.dataflow_laws.specs.HeldValues.{Location, Memory, Stored, Here}
+use Rattle.tso_machine.specs.HeldValues.{Location, Memory, Stored, Here}
 use Rattle.tree_laws.specs.declared.choice.Choice.{Choice}
 use Rattle.tree_laws.specs.declared.choice.Choice.TheVariants as choice
 use Rattle.tree_laws.specs.declared.choice.OpenChoice.TheVariants as left

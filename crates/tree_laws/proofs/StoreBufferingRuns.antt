@@ -19,7 +19,7 @@ ended labels last runs first second (suc (suc t)) =
     let out : length store_buffering.threads ≤ suc (suc t) = omega arith in
     (no_action store_buffering (suc (suc t)) (last.locals (suc (suc t))) out, run_keeps store_buffering (suc (suc t)) out no_gaps labels (start store_buffering) last refl runs)
 
--- the same in the sequential machine, where no store waits
+-- in the sequential machine no store waits, so the run has ended
 ended_in_turn : (labels : List Label) (last : State) → run store_buffering SequentialMachine (start store_buffering) labels ≡ Some last →
     action store_buffering.threads 0 (last.locals 0) ≡ Stop → action store_buffering.threads 1 (last.locals 1) ≡ Stop → HasEnded store_buffering last
 ended_in_turn labels last runs first second t = (done t, ap (λ (f : ℕ → List Pending). f t) (no_stores store_buffering labels (start store_buffering) last runs))

@@ -9,7 +9,7 @@ pub record IsWider (n m : ℕ) (x y : Access) : Type 0 where
   pub rises : n ≤ x.section
   pub wider : x.section + m ≤ y.section + n
 
--- the same of lists, each access seen from the one before it
+-- each access of one list is wider than its fellow, seen from the one before it
 abbrev pub AreWider : ℕ → ℕ → List Access → List Access → Type 0
 AreWider n m [] [] = Unit {0}
 AreWider n m (x ∷ xs) (y ∷ ys) = IsWider n m x y × AreWider x.section y.section xs ys

@@ -131,7 +131,7 @@ module _ (rule : Rule) (q : Question) (mode : Machine) (outcomes : List Outcome)
     AreValidCoversBy (MoreCovers tree trees) [] = ⊥
     AreValidCoversBy (MoreCovers tree trees) (k ∷ ks) = IsValidCoverBy tree k × AreValidCoversBy trees ks
 
--- the same by the rule of whole sketches
+-- the values that are next by the rule of whole sketches
 abbrev pub HasNextValues : Listing → Machine → Sketch → ℕ → List ℕ → Type 0
 HasNextValues = HasNextValuesBy Whole
 

@@ -13,7 +13,7 @@ put_three P f g h t x y z here others u = elim (cases_eq u t) [
   | inr n ↦ rw (put_other f t x u n, put_other g t y u n, put_other h t z u n) (others u n)
 ]
 
--- the same of two, and of one
+-- two functions, or one, changed at one number
 pub put_both : {A B : Type 0} (P : ℕ → A → B → Type 0) (f : ℕ → A) (g : ℕ → B) (t : ℕ) (x : A) (y : B) → P t x y → ((u : ℕ) → (u ≡ t → ⊥) → P u (f u) (g u)) →
     (u : ℕ) → P u (put f t x u) (put g t y u)
 put_both P f g t x y here others = put_three (λ u a b c. P u a b) f g g t x y y here others

@@ -15,7 +15,7 @@ ended p labels last two r first second (suc (suc t)) =
     let out : length p.threads ≤ suc (suc t) = omega arith in
     (no_action p (suc (suc t)) (last.locals (suc (suc t))) out, run_keeps p (suc (suc t)) out no_gaps labels (start p) last refl r)
 
--- the same in the sequential machine, where no store waits
+-- in the sequential machine no store waits, so the run has ended
 ended_in_turn : (p : Listing) (labels : List Label) (last : State) → length p.threads ≡ 2 → run p SequentialMachine (start p) labels ≡ Some last → action p.threads 0 (last.locals 0) ≡ Stop → action p.threads 1 (last.locals 1) ≡ Stop → HasEnded p last
 ended_in_turn p labels last two r first second t = (done t, ap (λ (f : ℕ → List Pending). f t) (no_stores p labels (start p) last r))
   where

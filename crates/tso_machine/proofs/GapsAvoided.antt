@@ -38,7 +38,7 @@ fenced_runs_avoid p gaps labels o = (
   (λ ((last, r, ended, e), none). (last, run_fenced p (gaps_in p gaps) labels (start p) last r (avoids_places p gaps labels none), ended, e)),
 )
 
--- the same, where the gaps that the run passes are known as a set
+-- the gaps that a run passes, where they are known as a set, tell the fenced runs
 pub passed_gaps_tell : PassedGapsTellTheFencedRuns
 passed_gaps_tell p gaps passed labels o is_run are_passed = (
   (λ fenced gap there in_set. ((fenced_runs_avoid p gaps labels o).0 fenced).1 gap in_set ((are_passed gap).0 there)),

@@ -32,7 +32,7 @@ state_set s t x memory h = λ i. record {
   memory = slice_index memory;
 }
 
--- the same where no store came to wait
+-- a core moves, and no store has come to wait
 pub state_moved : (s : Cores) (t : ℕ) (x : Core) (memory : List ℕ) → t < length s.cores → x.buffer ≡ (core_at s.cores t).buffer →
     record { locals = put (state_of s).locals t x.local; buffers = (state_of s).buffers; memory = slice_index memory }
     ≡ state_of (record { cores = slice_set s.cores t x; memory = memory })

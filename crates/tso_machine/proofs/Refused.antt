@@ -2,6 +2,9 @@
 use Rattle.tso_machine.proofs.Vocabulary.{◌≡◌, ◌≢◌, ◌⊎◌, ℕ, zero, suc, ◌≤◌, take, length, Bool, true, false, List, [], ◌∷◌, ◌++◌, Option, Some, None, option_and_then, refl, ap, sym, ◌∙◌, subst, inl, inr, slice_get, cases_eq, Outcome, Label, Exec, Flush}
 use Rattle.tso_machine.proofs.Vocabulary.{Pending, Cause, NoSuchThread, AtEnd, BufferEmpty, FenceWaits, ReplayFault, Listing, Action, Stop, Wait, Write, Swap, action, waits, Applies, Stops, EndsEarly, ReplayFaultIs, put, Machine, SequentialMachine}
 use Rattle.tso_machine.proofs.Vocabulary.{StoreBufferMachine, State, start, step, run, buffered, direct, flushed, past_gap, when_empty, HasEnded, outcome_at, IsRun}
+use Rattle.tso_program.specs.Shown.{show}
+use Rattle.tso_program.specs.declared.question.Question.{Question}
+use Rattle.tso_machine.specs.Outcomes.{IsShownRun}
 use Rattle.tso_machine.specs.declared.replaying.ReplayFault.TheVariants as fault
 use Rattle.tso_machine.proofs.{Link.put_other, Runs.no_stores, Runs.no_action}
 
@@ -115,6 +118,10 @@ pub one_outcome : (p : Listing) (mode : Machine) (labels : List Label) (o o' : O
 one_outcome p mode labels o o' (last, r, ended, e) (last', r', ended', e') =
     let same : last ≡ last' = (let z : Some last ≡ Some last' = sym r ∙ r' in cc) in
     e ∙ ap (outcome_at p) same ∙ sym e'
+
+-- and one thing is shown of it
+pub one_shown : (q : Question) (mode : Machine) (labels : List Label) (o o' : Outcome) → IsShownRun q mode labels o → IsShownRun q mode labels o' → o ≡ o'
+one_shown q mode labels o o' (whole, is_run, shown) (other, again, same) = shown ∙ ap (show q.shown) (one_outcome q.program mode labels whole other is_run again) ∙ sym same
 
 pub no_fault : (p : Listing) (mode : Machine) (labels : List Label) (o : Outcome) (why : ReplayFault) → IsRun p mode labels o → ReplayFaultIs p mode labels why → why ≡ fault.OutOfMemory
 no_fault p mode labels o (fault.NoSuchThread n) (last, r, ended, e) f = not_both _ _ last (stops_none p mode labels n NoSuchThread f) r

@@ -1,4 +1,6 @@
 pub mod Machine
+pub mod Effects
+pub mod HeldValues
 pub mod Modes
 pub mod Outcomes
 pub mod Faults

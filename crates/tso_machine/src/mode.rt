@@ -17,14 +17,21 @@ pub enum Mode {
 }
 
 impl Mode {
+    /// The mode of a model, with these gaps fenced.
+    pub fn new(model: Model, gaps: GapSet) -> Mode
+        ensures { (p : Listing) → machine_of_mode p result ≡ machine_of_model p gaps model }
+    {
+        match model {
+            Model::Sequential => Mode::Sequential,
+            Model::Buffered => Mode::Fenced(gaps),
+        }
+    }
+
     /// The mode of a model, with no gap fenced.
     pub fn unfenced(model: Model) -> Mode
         ensures { (p : Listing) → machine_of_mode p result ≡ machine_of_model p set.empty model }
     {
-        match model {
-            Model::Sequential => Mode::Sequential,
-            Model::Buffered => Mode::Fenced(GapSet::empty()),
-        }
+        Mode::new(model, GapSet::empty())
     }
 
     /// The model, and the gaps that are fenced.

@@ -52,7 +52,7 @@ module _ (gap : ℕ → Bool) where
   at_second true x xs e = refl
   at_second false x xs e = absurd cc
 
-  -- the same by offset
+  -- an instruction of fenced code stands at its offset
   at_offset : (n k : ℕ) (xs : List Instr) → slice_get (fenced_code gap n xs) (offset n k) ≡ first_of (gap (n + k)) (slice_get xs k)
   at_offset n zero (x ∷ xs) = let e : n ≡ n + 0 = omega arith in at_first (gap n) x (fenced_code gap (n + 1) xs) ∙ ap (λ m. first_of (gap m) (Some x)) e
   at_offset n (suc k) (x ∷ xs) =

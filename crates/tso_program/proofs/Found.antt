@@ -1,6 +1,7 @@
 -- What is found in a list, and what it means that nothing is.
-use Rattle.tso_program.proofs.Vocabulary.{◌≡◌, ℕ, zero, suc, ◌+◌, Bool, true, false, List, [], ◌∷◌, length, Option, Some, None, refl, sym, ap, ◌∙◌, arith, not, nat_lt, slice_get, is_some, position, if◌then◌else◌, position_or_len, list_any, enumerate_from}
+use Rattle.tso_program.proofs.Vocabulary.{◌≡◌, ℕ, zero, suc, ◌+◌, ◌<◌, Bool, true, false, List, [], ◌∷◌, length, Option, Some, None, refl, sym, ap, ◌∙◌, arith, not, nat_lt, slice_get, is_some, position, if◌then◌else◌, position_or_len, list_any, enumerate_from}
 use Rattle.tso_program.proofs.Vocabulary.{option_map_or, nat_tests, Instr, Thread, code_of, instr_at, first_found}
+use Rattle.std.proofs.lemmas.Option.{slice_get_within}
 pub use Rattle.std.proofs.lemmas.Bool.{or_parts as neither}
 
 -- an instruction that is there stands in a thread that is there
@@ -10,6 +11,10 @@ instr_found threads t k x e = go (slice_get threads t) refl e
     go : (o : Option Thread) → slice_get threads t ≡ o → slice_get (option_map_or (λ thread. thread.code) o []) k ≡ Some x → (thread : Thread) × (slice_get threads t ≡ Some thread) × (slice_get thread.code k ≡ Some x)
     go (Some thread) is e = (thread, is, e)
     go None is e = absurd cc
+
+-- a thread with an instruction is one of the program's
+pub thread_there : (threads : List Thread) (t k : ℕ) (x : Instr) → instr_at threads t k ≡ Some x → t < length threads
+thread_there threads t k x e = let (thread, is, at) = instr_found threads t k x e in slice_get_within threads t thread is
 
 -- the code of a thread that is there
 pub code_found : (threads : List Thread) (t : ℕ) (thread : Thread) → slice_get threads t ≡ Some thread → code_of threads t ≡ thread.code
@@ -75,7 +80,7 @@ module _ {X : Type 0} (p : X → Bool) where
   none_any [] h = refl
   none_any (y ∷ ys) h = rw (h 0 y refl) (none_any ys (λ i x e. h (suc i) x e))
 
--- the same over threads
+-- what is found first over threads
 module _ (find : Thread → Option ℕ) where
   split_found : (b : Bool) (a : ℕ × ℕ) (rest : Option (ℕ × ℕ)) → is_some (if b then Some a else rest) ≡ false → (b ≡ false) × (is_some rest ≡ false)
   split_found true a rest e = absurd cc

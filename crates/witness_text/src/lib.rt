@@ -14,6 +14,6 @@ mod gaps;
 mod lines;
 mod witness;
 
-pub use cover_solver::{OutcomeList, outcomes_with_runs, proposed_outcomes};
+pub use cover_solver::{OutcomeList, outcomes_by_threads, outcomes_with_runs};
 pub use fault::WitnessFault;
 pub use witness::{WitnessText, witness_text};

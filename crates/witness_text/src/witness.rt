@@ -2,11 +2,10 @@
 
 ghost use Rattle.std.specs.Prelude.{◌≡◌, IfErr, IfOk, map};
 ghost use Rattle.std.specs.FinSet as set;
-ghost use Rattle.tso_program.specs.declared.listing.Listing.{Listing};
 ghost use Rattle.tso_program.specs.declared.shown.Shown.TheVariants.{All};
 ghost use Rattle.tso_machine.specs.declared.label.Model.TheVariants as models;
 ghost use Rattle.tso_machine.specs.Machine.{IsRun, start};
-ghost use Rattle.tso_machine.specs.Modes.{machine_of_mode, machine_of_model, ArePassed};
+ghost use Rattle.tso_machine.specs.Modes.{machine_of_model, ArePassed};
 ghost use Rattle.tso_machine.specs.Steps.{AreSteps};
 ghost use Rattle.cover_solver.specs.Witnesses.{HasNoWitness, IsWitness};
 ghost use Rattle.documents.specs.declared.run.Setting.TheVariants.{Machine};
@@ -52,16 +51,6 @@ struct RunText {
     lines: Vec<u8>,
     graph: Vec<u8>,
     run: JsonText,
-}
-
-/// The machine of a model with these gaps fenced.
-fn mode_of(model: Model, gaps: GapSet) -> Mode
-    ensures { (p : Listing) → machine_of_mode p result ≡ machine_of_model p gaps model }
-{
-    match model {
-        Model::Sequential => Mode::Sequential,
-        Model::Buffered => Mode::Fenced(gaps),
-    }
 }
 
 /// What is said of the steps of a run that ends so.
@@ -163,7 +152,7 @@ fn sought_text(
 ) -> Result<WitnessText, SolveFault>
     ensures { IfOk result (λ text. TellsSought litmus.now sought text.lines.items text.document.items) }
 {
-    let mode = mode_of(sought.model, sought.fences);
+    let mode = Mode::new(sought.model, sought.fences);
     let formula = &litmus.condition.formula;
     let found = witness(alloc, &litmus.program, mode, formula, sought.meets)?;
     match found {

@@ -54,7 +54,7 @@ module _ (R : Event → Event → Type 0) (x : Event) (closed : (d : Event) → 
   not_in_cycle (e ∷ es) r (zero, n, q) = no_end e es (subst (Leads R e es) q r)
   not_in_cycle (e ∷ es) r (suc k, n, q) = not_passed e e es r (k, omega arith, q)
 
--- the same of known edges
+-- no known edge leads into an initial write
 module _ (p : Listing) (mode : Machine) (k : Sketch) (fits : IsSketch p mode k) where
   no_before : (d : Event) (l : ℕ) (y : Access) → access_by p mode (given_to k) (Initial l) ≡ Some y → IsBefore k d (Initial l) y → ⊥
   no_before d l y b (inl h) = let (m, v, w, wd, we, nd, ne) = (fits.pairs d (Initial l) h).1 in

@@ -1,6 +1,6 @@
 -- Each value that a location may hold is one of the location's values, and each of those is known.
 use Rattle.candidate_executions.proofs.Vocabulary.{ℕ, refl, inl, inr, Listing, IsKnown, IsValueOf, HeldValuesAreValues}
-use Rattle.dataflow_laws.specs.HeldValues.{Cell, Location, Register, Begins, Memory, First, Loaded, Stored, Absent, Flows, Keeps, Copies, Loads, Stores, Gives, Takes, MayHold, Here, From}
+use Rattle.tso_machine.specs.HeldValues.{Cell, Location, Register, Begins, Memory, First, Loaded, Stored, Absent, Flows, Keeps, Copies, Loads, Stores, Gives, Takes, MayHold, Here, From}
 
 begins : (p : Listing) (c : Cell) (v : ℕ) → Begins p c v → IsKnown p v
 begins p c v (Memory l) = inr (inr (inr (l, refl)))

@@ -2,9 +2,9 @@
 use Rattle.candidate_executions.proofs.Vocabulary.{◌≡◌, ℕ, suc, List, [], ◌∷◌, ◌++◌, Option, Some, None, slice_get, slice_index, refl, sym, subst, inl, inr, Reg}
 use Rattle.candidate_executions.proofs.Vocabulary.{Listing, Local, start_of, loaded, put, State, newest, found, Pending, IsHeldValue}
 use Rattle.candidate_executions.proofs.{Orders.Lists.get_cases, Orders.Lists.put_each, FromRuns.NewestStore.newest_some}
-use Rattle.dataflow_laws.specs.HeldValues.{Memory, Here}
-use Rattle.dataflow_laws.proofs.ThreadsHold.{Knows, KnowsAfter, knows_start}
-pub use Rattle.dataflow_laws.proofs.ThreadsHold.{Fair, fair_at}
+use Rattle.tso_machine.specs.HeldValues.{Memory, Here}
+use Rattle.tso_machine.proofs.ThreadsHold.{Knows, KnowsAfter, knows_start}
+pub use Rattle.tso_machine.proofs.ThreadsHold.{Fair, fair_at}
 
 module _ (p : Listing) where
   -- registers, buffers and memory hold such values

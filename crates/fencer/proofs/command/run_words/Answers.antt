@@ -23,7 +23,7 @@ pub returns-clause-told : goal.returns-clause-told
 returns-clause-told g c =
     let refused = other c.in-Err.ensures.refused (λ memory. c.in_default.not-OutOfMemory (c.kind.ensures ∙ memory)) in
     prints_made c.error_text.result 2 _ _ _ c.print-in_default.result
-    (IfOk-weaker c.error_text.result _ _ (λ text ends. no_command text.items (sym c.asks_version.ensures ∙ c.if-asks_version.false) refused ends) c.error_text.ensures) c.print-in_default.ensures
+    (IfOk-weaker c.error_text.result _ _ (λ text ends. no_command text.items (sym c.asks_version.ensures ∙ c.if-asks_version.false) refused ends) c.error_text.ensures) (rw c.tell_hint.ensures at c.print-in_default.ensures)
 
 pub returns-in-Ok-clause-read : goal.returns-in-Ok-clause-read
 returns-in-Ok-clause-read g c = of_job c.in-Ok.job c.in-Ok.ensures.job c.run_job.ensures.read

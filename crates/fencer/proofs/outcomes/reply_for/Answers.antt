@@ -4,7 +4,7 @@ use Rattle.tso_program.specs.Shown.{asked}
 use Rattle.fencer.proofs.outcomes.reply_for.Goals as goal
 
 pub returns-in-Ok-clause-list : goal.returns-in-Ok-clause-list
-returns-in-Ok-clause-list c bytes spelled =
+returns-in-Ok-clause-list g c bytes spelled =
     let query = c.args.asked.now in
     let litmus = c.args.litmus.now in
     let outcomes = c.in_ok-list.list.outcomes.items in

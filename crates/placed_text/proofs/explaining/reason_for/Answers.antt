@@ -1,7 +1,7 @@
-use Rattle.placed_text.proofs.Vocabulary.{◌≡◌, true, subst, sym, question_in}
+use Rattle.placed_text.proofs.Vocabulary.{◌≡◌, true, subst, sym, Serves, question_in}
 use Rattle.std.specs.FinSet as set
 use Rattle.cert_forest.specs.Certificates.{Certificate}
-use Rattle.placed_text.proofs.Needed.{some_avoids}
+use Rattle.placed_text.proofs.Needed.{passes_it, some_avoids}
 use Rattle.std.proofs.lemmas.List.Elements.{All-contains}
 use Rattle.tree_laws.specs.Laws.{IsForeign, IsProved}
 use Rattle.placed_text.proofs.explaining.reason_for.Goals as goal
@@ -16,9 +16,14 @@ run_avoiding-requires c =
 pub reason_of-requires : goal.reason_of-requires
 reason_of-requires c =
     let found = c.in_ok-run.ensures in
+    let q = question_in c.args.problem.now in
+    let run = c.in_ok-run.run' in
+    let foreign = All-contains (IsForeign q) c.args.certificate.now.runs run.labels.now c.requires.proved.foreign (rw (← c.certificate.view_is) found.here) in
+    let avoids = rw c.without-others.ensures at found.avoids in
     record {
       gap = c.requires.gap;
-      foreign = All-contains (IsForeign (question_in c.args.problem.now)) c.args.certificate.now.runs c.in_ok-run.run'.labels.now c.requires.proved.foreign (rw (← c.certificate.view_is) found.here);
+      foreign = foreign;
       ended = found.ended;
-      avoids = rw c.without-others.ensures at found.avoids;
+      avoids = avoids;
+      passes = passes_it q c.certificate.inside.set c.args.gap run.labels.now run.ended (subst (λ (certificate : Certificate). Serves q certificate.gaps) (sym c.certificate.view_is) c.requires.proved.answer.serves) foreign found.ended avoids;
     }

@@ -1,8 +1,8 @@
-use Rattle.placed_text.proofs.Vocabulary.{◌≡◌, ◌∙◌, List, map, ap, subst, sym, Label, Without, TellsRun, others_fenced, printed_of}
-use Rattle.run_views.specs.Tables.{IsTableOf}
+use Rattle.placed_text.proofs.Vocabulary.{◌≡◌, ◌∙◌, List, map, ap, subst, Label, Without, TellsRun, gaps_in, others_fenced, printed_of}
+use Rattle.std.specs.FinSet as set
 use Rattle.tso_machine.specs.Machine.{start}
-use Rattle.tso_machine.specs.Steps.{AreSteps}
 use Rattle.tso_machine.specs.declared.stepping.Step.{Step}
+use Rattle.placed_text.proofs.PassingSteps.{marked_of, one_passes}
 use Rattle.placed_text.proofs.ReasonTexts as texts
 use Rattle.placed_text.proofs.reasons.reason_of.Goals as goal
 
@@ -14,12 +14,11 @@ returns c =
     let labels = c.args.run.now.labels.now in
     let ended = c.args.run.now.ended in
     let fenced = others_fenced p c.args.gaps.now c.args.gap in
-    let same : map (λ step. step.label) c.deref-4.result.now ≡ labels = ap (λ (steps : List Step). map (λ step. step.label) steps) c.deref-4.ensures.value ∙ c.in_ok-steps.ensures.labels in
-    let table : IsTableOf source fenced labels c.deref-2.result.now = (
-      c.deref.result.now,
-      subst (λ (steps : List Step). AreSteps p fenced (start p) labels steps) (sym c.deref.ensures.value) c.in_ok-steps.ensures.steps,
-      c.deref-2.ensures.value ∙ c.in_ok-table.ensures,
-    ) in
-    texts.reason_of source shown c.args.gaps.now c.args.gap labels ended (c.in_ok-lines.lines.items, c.in_ok-said.said) c.requires.foreign c.requires.avoids c.requires.ended
-    (c.deref-2.result.now, table, rw (c.deref-3.ensures.value, c.in_ok-ending.ensures) at c.in_ok-lines.ensures)
+    let same : map (λ step. step.label) c.deref-6.result.now ≡ labels = ap (λ (steps : List Step). map (λ step. step.label) steps) c.deref-6.ensures.value ∙ c.in_ok-steps.ensures.labels in
+    let (t, k, number, passed) = (c.requires.ended.passed c.args.gap).0 c.requires.passes in
+    let passing = one_passes p (gaps_in p (set.remove c.args.gaps.now c.args.gap)) c.args.gap (start p) labels c.in_ok-steps.steps.items t k number c.in_ok-steps.ensures.steps passed in
+    let table = marked_of source fenced labels c.args.gap c.in_ok-steps.steps.items c.deref.result.now c.deref-2.result.now c.deref-3.result.now c.in_ok-marked.marked.items c.deref-4.result.now
+    c.in_ok-steps.ensures.steps passing c.deref.ensures.value c.deref-2.ensures.value (c.deref-3.ensures.value ∙ c.in_ok-table.ensures) c.in_ok-marked.ensures c.deref-4.ensures.value in
+    texts.reason_of source shown c.args.gaps.now c.args.gap labels ended (c.in_ok-lines.lines.items, c.in_ok-said.said) c.requires.foreign c.requires.avoids c.requires.ended c.requires.passes
+    (c.deref-4.result.now, table, rw (c.deref-5.ensures.value, c.in_ok-ending.ensures) at c.in_ok-lines.ensures)
     (subst (λ (ls : List Label). TellsRun source (printed_of shown) (Without c.args.gap) ls ended.outcome ended.passed c.in_ok-said.said) same (rw c.printed_of-printed.ensures at c.in_ok-said.ensures))

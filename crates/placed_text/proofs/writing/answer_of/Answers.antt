@@ -1,4 +1,3 @@
-use Rattle.placed_text.proofs.Vocabulary.{rules}
 use Rattle.placed_text.proofs.GapsThere.{none_missing}
 use Rattle.placed_text.proofs.writing.answer_of.Goals as goal
 

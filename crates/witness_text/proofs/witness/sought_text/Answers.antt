@@ -6,4 +6,4 @@ none_text-requires c =
     let source = c.args.litmus.now in
     let sought = c.args.sought in
     let none = rw c.in-None.is at c.in_ok-found.ensures.found in
-    record { none = subst (λ (machine : Machine). HasNoWitness source.program machine source.condition.formula sought.meets) (c.mode_of-mode.ensures source.program) none }
+    record { none = subst (λ (machine : Machine). HasNoWitness source.program machine source.condition.formula sought.meets) (c.new-mode.ensures source.program) none }

@@ -1,5 +1,6 @@
 use Rattle.oracle.proofs.Vocabulary.{◌≡◌, true, false, sym, subst, ◌∙◌, Question, StoreBufferMachine, no_gaps, ArePassed, IsShownRun, IsForeignRun, IsSequentialOutcome, ReplayFaultIs, ForeignFaultIs}
-use Rattle.oracle.proofs.ForeignRuns.{fault_of_foreign, no_fault_of_foreign, one_outcome}
+use Rattle.tso_machine.proofs.Refused.{one_shown}
+use Rattle.oracle.proofs.ForeignRuns.{fault_of_foreign, no_fault_of_foreign}
 use Rattle.oracle.proofs.foreign_run.ForeignRun.new.Goals as goal
 
 pub returns-then-has-clause-fault : goal.returns-then-has-clause-fault
@@ -15,7 +16,7 @@ returns-then-has-clause-exact c o run =
     let found = c.in-Ok.ended.outcome in
     let q = c.args.table.now.question in
     let again = subst (λ (q : Question). IsShownRun q (StoreBufferMachine no_gaps) c.args.labels.now found) c.question-question.ensures.value c.in-Ok.ensures.replay.is_run in
-    absurd (run.foreign (subst (IsSequentialOutcome q) (one_outcome q (StoreBufferMachine no_gaps) c.args.labels.now found o again run.is_run) (c.has.ensures.0 c.if-has.true)))
+    absurd (run.foreign (subst (IsSequentialOutcome q) (one_shown q (StoreBufferMachine no_gaps) c.args.labels.now found o again run.is_run) (c.has.ensures.0 c.if-has.true)))
 
 pub of-requires-clause-foreign : goal.of-requires-clause-foreign
 of-requires-clause-foreign c =

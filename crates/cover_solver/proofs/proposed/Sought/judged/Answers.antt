@@ -1,6 +1,6 @@
 use Rattle.cover_solver.specs.Sought.{question_of, machine_of}
 use Rattle.cover_solver.proofs.ProposedRuns.{exactly_allowed}
-use Rattle.cover_solver.proofs.proposed.Sought.proposed.Goals as goal
+use Rattle.cover_solver.proofs.proposed.Sought.judged.Goals as goal
 
 pub returns-clause-exact : goal.returns-clause-exact
 returns-clause-exact c =

@@ -1,0 +1,66 @@
+//! What a search has found.
+use crate::known_outcomes::{FoundOutcomes, KnownOutcomes};
+use crate::proposing_search::ProposingSearch;
+use crate::tree_search::{Found, SearchEnd, TreeSearch};
+use cert_forest::Node;
+use std::alloc::{AllocError, Global};
+use tso_machine::Mode;
+use tso_program::Outcome;
+
+/// The end of a search, the outcomes that it has found, and the nodes of its tree.
+#[derive(Drop)]
+pub(crate) struct Searched {
+    pub(crate) end: SearchEnd,
+    /// None where the outcomes were listed before.
+    pub(crate) found: FoundOutcomes,
+    pub(crate) nodes: Vec<Node>,
+}
+
+impl Searched {
+    /// A tree of no node, over no outcome.
+    pub(crate) fn none(alloc: Global) -> Searched {
+        Searched {
+            end: SearchEnd::Covered,
+            found: FoundOutcomes::none(alloc),
+            nodes: Vec::new(alloc),
+        }
+    }
+
+    /// Adds what is found in the next part, unless a part before it has ended the question.
+    pub(crate) fn add(&mut self, part: Searched) -> Result<(), AllocError> {
+        let SearchEnd::Covered = &self.end else {
+            return Ok(());
+        };
+        let Searched { end, found, nodes } = part;
+        self.end = end;
+        let numbers = self.found.add_all(found)?;
+        self.nodes.append(&mut renumbered(nodes, &numbers))
+    }
+}
+
+/// Searches in one piece for so many steps at most. `None` if the search has not ended then.
+pub(crate) fn searched_within<'a>(
+    asked: &'a ProposingSearch<'a>,
+    mode: Mode,
+    listed: Option<&'a [Outcome]>,
+    steps: u64,
+) -> Result<Option<Searched>, AllocError> {
+    let outcomes = KnownOutcomes::listed(asked.alloc, listed);
+    let mut search = TreeSearch::new(asked, mode, outcomes)?;
+    let start = search.begin(&[])?;
+    match search.go_on(start, steps)? {
+        Found::Ended(end) => Ok(Some(search.ended(end))),
+        _ => Ok(None),
+    }
+}
+
+/// The nodes, with these numbers in place of those of their outcomes. A number stays where there is none for it.
+pub(crate) fn renumbered(mut nodes: Vec<Node>, numbers: &[u32]) -> Vec<Node> {
+    for i in 0..nodes.len() {
+        if let Node::Known { run } = nodes[i] {
+            let run = numbers.get(run as usize).copied().unwrap_or(run);
+            nodes[i] = Node::Known { run };
+        }
+    }
+    nodes
+}

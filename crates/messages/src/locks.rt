@@ -1,0 +1,36 @@
+//! Locked instructions that change nothing.
+
+use text_tokens::{Mark, Token, mark, number, word};
+
+/// The mnemonics of instructions that leave a value as it is where their second operand is 0.
+const IDLE_WITH_ZERO: &[&str] = &["ADD", "OR", "SUB", "XOR"];
+
+/// Whether these tokens begin with a locked instruction that leaves its location as it is, as `LOCK ADD [x],$0`.
+pub(crate) fn is_idle_lock(tokens: &[Token]) -> bool {
+    match locked(tokens) {
+        Some((mnemonic, value)) => value == 0 && is_idle_with_zero(mnemonic),
+        None => false,
+    }
+}
+
+fn is_idle_with_zero(mnemonic: &[u8]) -> bool {
+    IDLE_WITH_ZERO
+        .iter()
+        .any(|one| one.as_bytes().eq_ignore_ascii_case(mnemonic))
+}
+
+/// The mnemonic after LOCK, and the number that is its second operand after a location.
+fn locked(tokens: &[Token]) -> Option<(&[u8], u32)> {
+    let (lock, rest) = word(tokens)?;
+    if !lock.eq_ignore_ascii_case(b"LOCK") {
+        return None;
+    }
+    let (mnemonic, rest) = word(rest)?;
+    let rest = mark(rest, Mark::OpenBracket)?;
+    let (_, rest) = word(rest)?;
+    let rest = mark(rest, Mark::CloseBracket)?;
+    let rest = mark(rest, Mark::Comma)?;
+    let rest = mark(rest, Mark::Dollar).unwrap_or(rest);
+    let (value, _) = number(rest)?;
+    Some((mnemonic, value))
+}

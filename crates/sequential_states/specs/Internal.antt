@@ -1,0 +1,3 @@
+-- What contracts of private functions and proofs cite; no public contract does.
+pub mod Snapshots
+pub mod Lists

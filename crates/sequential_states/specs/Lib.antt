@@ -1,0 +1,3 @@
+pub mod Executions
+pub mod Examples
+pub mod Internal
