@@ -1,22 +1,22 @@
 """Commands: whole command lines, options, what `clap` says of bad ones, and what holds of every example.
 
-In `commands.tsv` `@place` and `@outcomes` stand for what the command prints without the option that it tries, `@program` for the program that `place`
-prints, `@certificate` for a certificate that `fencecheck` accepts, `@clash` and `@error` for an error of the command line.
+In `commands.tsv` `@place`, `@outcomes` and `@witness` stand for what the command prints without the option that it tries, `@program` for the program
+that `place` prints, `@source` for the litmus file, `@certificate` for a certificate that `fencecheck` accepts, `@clash` and `@error` for an error of the
+command line.
 """
 import os
-import re
 import shutil
 import subprocess
 import tempfile
 
 from harness import (
-    EXAMPLES, FENCECHECK, FENCER, PROGRAMS, Cases, bytes_of, example_files, expect, in_data, lines, printed, run, same, tell, write,
+    EXAMPLES, FENCECHECK, FENCER, PROGRAMS, Cases, bytes_of, example_files, expect, in_data, lines, printed, run, same, schemas, tell, write,
 )
 from judges import traces
-from judges.texts import canonical_of
+from judges.texts import canonical_of, instruction_lines
 
 CLASH = "error: a file that is written must not be one that is read, nor be written twice"
-TRIED = ("--check", "--output", "--certificate", "--workers")
+TRIED = ("--check", "--output", "--insert", "--certificate", "--workers")
 # bad command lines: a name, the arguments, standard input, and how the text of the error begins
 FAULTS = (
     ("an unknown command", ["search", "-"], b"", b"error: unrecognized subcommand 'search'\n"),
@@ -62,6 +62,7 @@ NO_FENCES = (
     "", ",", "0", "0:", ":1", "0:1,", ",0:1", "0:1,,1:1", "0:1:1", "00:1", "0:01", "+0:1", "0:-1", " 0:1", "0:1 ", "0:1, 1:1", "0:256", "256:1", "x:1",
     "0;1", "0:1,1:1,0:1",
 )
+FENCED = "witness", "outcomes"
 BAD_FENCES = b"error: --fences takes gaps with commas between them, each once, as 0:1,1:1\n"
 
 
@@ -81,6 +82,7 @@ class Folder:
 
     def run(self, program, words):
         ran = subprocess.run([PROGRAMS[program], *words], cwd=self.path, capture_output=True, timeout=120)
+        schemas.hold(words, ran.stdout)
         return ran.returncode, ran.stdout
 
     def written(self):
@@ -101,7 +103,7 @@ def without_options(words):
 
 
 def is_printed(folder, words, wanted, found):
-    if wanted in ("@place", "@outcomes"):
+    if wanted in ("@place", "@outcomes", "@witness"):
         return (0, found) == folder.run("fencer", without_options(words))
     if wanted == "@clash":
         return found.decode().startswith(CLASH)
@@ -113,6 +115,8 @@ def is_printed(folder, words, wanted, found):
 def is_written(folder, words, wanted, text):
     if wanted == "@program":
         return text == folder.run("fencer", without_options(words))[1].split(b"\n", 1)[1]
+    if wanted == "@source":
+        return text == folder.before[words[-1]]
     if not wanted.startswith("@"):
         return text == wanted.replace("\\n", "\n").encode()
     with tempfile.NamedTemporaryFile() as file:
@@ -121,30 +125,10 @@ def is_written(folder, words, wanted, text):
         return folder.run("fencecheck", [words[-1], file.name])[0] == 0
 
 
-def cells_of(text):
-    """Each thread's instructions with their lines, read from the text by its marks alone."""
-    def blank(found):
-        return re.sub(r"[^\n]", " ", found[0])
-    body = re.sub(r"\(\*.*?\*\)", blank, text, flags=re.S)
-    start = re.search(r"^[ \t]*P0[^;]*;", body, flags=re.M)
-    end = re.search(r"^\s*(exists|forall|locations|~)", body, flags=re.M)
-    threads = [[] for _ in start[0].split("|")]
-    place = start.end()
-    for row in body[place:end.start()].split(";")[:-1]:
-        at = place
-        for thread, cell in enumerate(row.split("|")):
-            code = re.search(r"[^\s].*", re.sub(r"\w+\s*:", blank, cell), flags=re.S)
-            if code:
-                threads[thread].append(1 + body[:at + code.start()].count("\n"))
-            at += len(cell) + 1
-        place += len(row) + 1
-    return threads
-
-
 def list_of(text, instructions, costs=None):
     """The list of the gaps: where each lies, the line of its instruction, the instruction, and its cost."""
     printed, gap = [], 0
-    for t, (numbers, codes) in enumerate(zip(cells_of(text), instructions)):
+    for t, (numbers, codes) in enumerate(zip(instruction_lines(text), instructions)):
         for k in range(1, len(numbers)):
             printed.append(f"{t}:{k} line {numbers[k]} {codes[k]}" + (f" cost {costs[gap]}" if costs else "") + "\n")
             gap += 1
@@ -205,7 +189,7 @@ class Commands(Cases):
 
     def test_faults(self):
         """Bad command lines: what `clap` says of them begins so, and ends with one line feed."""
-        fences = [(f"fences at {text!r}", ["witness", "--fences", text, "-"], b"", BAD_FENCES) for text in NO_FENCES]
+        fences = [(f"fences of {command} at {text!r}", [command, "--fences", text, "-"], b"", BAD_FENCES) for command in FENCED for text in NO_FENCES]
         for name, words, given, front in [*FAULTS, *fences, ("no first line", [], b"", b"")]:
             status, text = run(words, given)
             one_end = text.endswith(b"\n") and not text.endswith(b"\n\n")

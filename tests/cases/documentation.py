@@ -31,6 +31,7 @@ APART = (
     ("a search for trees", "pub struct Search"), ("a maker of runs", "pub fn make_run"), ("an oracle", "pub trait Oracle"),
 )
 MOST_WORDS = 120
+MOST_LINES = 120
 MOST_WORDS_OF_A_CRATE = 60
 # in a document's text: a file or a folder from the top, a name in a file, any file of these kinds
 FROM_TOP = re.compile(r"`(?:\./)?((?:tests|bench|docs|examples|crates|\.ci)/[\w./-]+)[ `]")
@@ -190,7 +191,7 @@ class Sources(Cases):
         same("the documents that name the toolchain's releases", naming, ["README.md"])
 
     def test_checker(self):
-        """fencecheck is built over nothing that searches, and over nothing that writes a litmus text, as README.md says."""
+        """fencecheck is built over nothing that searches, and over nothing that writes a litmus text, as docs/trust.md says."""
         ran = subprocess.run([os.path.join(TOP, "docs", "make-map"), "--below", "fencecheck"], capture_output=True, text=True, timeout=120)
         paths = [path for crate in ran.stdout.split() for path in glob.glob(os.path.join(TOP, "crates", crate, "src", "**", "*.rt"), recursive=True)]
         tell("the crates below fencecheck are found", ran.returncode == 0 and len(paths) > 50, ran.stdout + ran.stderr)
@@ -222,6 +223,13 @@ class Sources(Cases):
         crates = re.findall(r"^- `(\w+)`: (.*)$", promises.partition("## Command by command")[0], re.M)
         long = [crate for crate, words in crates if len(words.split()) > MOST_WORDS_OF_A_CRATE]
         tell(f"docs/promises.md has at most {MOST_WORDS_OF_A_CRATE} words of each crate", crates and not long, long)
+
+    def test_readme(self):
+        """README.md begins with two commands, the main job and the tests, and is short."""
+        text = bytes_of(os.path.join(TOP, "README.md")).decode()
+        first = re.search(r"\n\n((?:    .*\n)+)", text)[1]
+        same("the first commands of README.md", [line.partition("#")[0].strip() for line in first.splitlines()], ["./fencer place examples/SB.litmus", ".ci/run"])
+        tell(f"README.md has at most {MOST_LINES} lines", text.count("\n") <= MOST_LINES, text.count("\n"))
 
     def test_paths(self):
         """The files that a document names are there."""
@@ -289,6 +297,25 @@ class Documentation(Cases):
                 tell(f"{name}: its commands write no file that git shows", not written, written)
         shown = [command for command, _ in shown_commands(os.path.join(TOP, "README.md"))]
         tell("README.md shows how to begin", len(shown) >= 4, shown)
+
+    def test_help(self):
+        """docs/help.md is what docs/make-help makes of the programs."""
+        ran = subprocess.run([os.path.join(TOP, "docs", "make-help"), "--check"], capture_output=True, text=True, timeout=120)
+        tell("what docs/make-help makes is committed", ran.returncode == 0, ran.stdout + ran.stderr)
+
+    def test_ci(self):
+        """The script that the guide has for a CI ends with 0 where each condition holds and no fence is missing, and otherwise with 1."""
+        code = bytes_of(os.path.join(TOP, "docs", "guide.md")).decode().partition("    failed=0\n")
+        script = "".join(f"{line[4:]}\n" for line in (code[1] + code[2].partition("\n\n")[0]).splitlines())
+        for names, wanted in ((["Spinlock"], 0), (["Spinlock", "Peterson"], 1)):
+            with tempfile.TemporaryDirectory() as folder:
+                programs_in(folder)
+                os.mkdir(os.path.join(folder, "locks"))
+                for name in names:
+                    shutil.copy(os.path.join(EXAMPLES, "atlas", name + ".litmus"), os.path.join(folder, "locks"))
+                ran = subprocess.run(["bash", "-c", script], cwd=folder, stdin=subprocess.DEVNULL, capture_output=True, text=True, timeout=120)
+            said = [line for line in ran.stdout.splitlines() if "Peterson" in line]
+            tell(f"the script of a CI for {' and '.join(names)}", ran.returncode == wanted and len(said) == 2 * wanted, (ran.returncode, ran.stdout, ran.stderr), wanted)
 
     def test_tables(self):
         """Each row of the examples' tables: what its commands print has each line that the row shows."""

@@ -1,11 +1,13 @@
 """Documents: what the commands print with `--json` says what they print without, and what their graphs have."""
+import copy
 import itertools
+import json
 import os
 import tempfile
 
-from harness import MODELS, TOP, Cases, bytes_of, example_files, expect, in_data, run, tell
+from harness import MODELS, TOP, Cases, bytes_of, example, example_files, expect, in_data, run, same, schemas, tell
 from judges import documents, machine
-from judges.texts import canonical_of, test_of
+from judges.texts import canonical_of, instruction_lines, test_of
 
 
 def documented(words, litmus, labels=(), fences=None):
@@ -19,8 +21,60 @@ def documented(words, litmus, labels=(), fences=None):
             file = os.path.join(folder, "graph")
             run([command, "--dot", file, *options, litmus, *labels])
             graph = bytes_of(file).decode()
-    right = status == 0 and not documents.differs(printed_document, command, text, canonical_of(bytes_of(litmus)), graph, fences)
+    source = bytes_of(litmus)
+    lines = instruction_lines(source.decode())
+    right = status == 0 and not documents.differs(printed_document, command, text, canonical_of(source), lines, graph, fences)
     tell(f"the document of {' '.join(words)} {litmus}", right, repr(printed_document), f"what is printed without --json: {text!r}")
+
+
+# commands that print a document of each kind, of store buffering on the input; the last is refused
+KINDS = (
+    ("why", ()), ("place", ("--condition",)), ("trace", ("e0", "e1", "e0", "e1", "f0", "f1")), ("witness", ()), ("witness", ("--fences", "0:1,1:1")),
+    ("outcomes", ("--runs",)), ("gaps", ()), ("trace", ("e7",)),
+)
+# where which keyword is broken: the kind of document, the place of a value, and what stands there in place of it
+DAMAGE = (
+    ("type", "why", ("test",), 1),
+    ("type", "why", ("gaps",), {}),
+    ("type", "trace", ("run", "meets_condition"), 1),
+    ("type", "trace", ("run", "steps", 0, "instruction"), "0"),
+    ("type", "refusal", ("file",), False),
+    ("required", "why", ("answer", "cost"), None),
+    ("required", "refusal", ("message",), None),
+    ("additionalProperties", "place", ("more",), 0),
+    ("additionalProperties", "trace", ("run", "steps", 2, "reads", "more"), 0),
+    ("items", "place", ("gaps", 1, "cost"), "1"),
+    ("items", "outcomes", ("runs", 0, 0), "e9"),
+    ("enum", "trace", ("run", "model"), "weak"),
+    ("enum", "outcomes", ("observation",), "Often"),
+    ("const", "why", ("format",), "fencer 2"),
+    ("const", "place", ("answer", "condition"), 1),
+    ("pattern", "why", ("gaps", 0, "gap"), "0:0"),
+    ("pattern", "why", ("answer", "set", 0), "0:1\n"),
+    ("pattern", "outcomes", ("condition",), "never (x=1)"),
+    ("minimum", "why", ("answer", "cost"), -1),
+    ("minimum", "gaps", ("gaps", 0, "line"), 0),
+    ("required", "place", ("threads", 0, "instructions", 0, "line"), None),
+    ("maximum", "outcomes", ("outcomes", 0, 0, "value"), 2 ** 32),
+    ("oneOf", "witness", ("run",), {}),
+    ("oneOf", "trace", ("command",), "traces"),
+    ("oneOf", "trace", ("run", "steps", 0, "stores"), []),
+    ("$ref", "trace", ("run", "execution", "cycle"), [{"event": 0, "relation": "hb"}]),
+)
+
+
+def damaged(document, keyword, place, there):
+    """A document in which something else stands in a place; for `required` nothing does."""
+    document = copy.deepcopy(document)
+    *way, last = place
+    value = document
+    for name in way:
+        value = value[name]
+    if keyword == "required":
+        del value[last]
+    else:
+        value[last] = there
+    return document
 
 
 class JsonDocuments(Cases):
@@ -47,15 +101,47 @@ class JsonDocuments(Cases):
                 if model == "buffered" or not fences:
                     documented(["witness", "--model", model, *options, *(["--fences", ",".join(fences)] if fences else [])], litmus, fences=fences)
 
+    def test_gaps(self):
+        """The gaps of each example with costs of their own, and that a cost file that is asked for too changes nothing."""
+        for litmus in example_files():
+            with tempfile.NamedTemporaryFile() as file:
+                entries = run(["gaps", "--template", litmus])[1].splitlines()
+                file.write(b"".join(b"%s %d\n" % (entry.split(b" ")[0], 3 + number) for number, entry in enumerate(entries)))
+                file.flush()
+                documented(["gaps", "--costs", file.name], litmus)
+                same(f"the document of gaps --template {litmus}", run(["gaps", "--json", "--template", litmus]), run(["gaps", "--json", litmus]))
+
+    def test_fenced(self):
+        """The outcomes of each example with every second gap fenced, with runs and without."""
+        for litmus in example_files():
+            fences = [f"{t}:{k}" for t, k in test_of(bytes_of(litmus)).gaps()][::2]
+            for options in ([], ["--runs"], ["--observed"]) if fences else ():
+                documented(["outcomes", "--fences", ",".join(fences), *options], litmus, fences=fences)
+
     def test_shown(self):
         """The examples of docs/formats.md are what is printed."""
         for words, line in documents.examples(bytes_of(os.path.join(TOP, "docs", "formats.md")).decode()):
             named = [os.path.join(TOP, word) if word.endswith(".litmus") else word for word in words]
             expect(f"the example {' '.join(words)} of docs/formats.md", named, 1 if b'"refused"' in line else 0, line)
 
+    def test_schema(self):
+        """Each document that a case prints fits docs/fencer.schema.json, and one that is damaged in any way does not."""
+        printed = {}
+        for command, options in KINDS:
+            before = schemas.Held.count
+            words = [option for option in options if option.startswith("-") or ":" in option]
+            text = run([command, "--json", *words, "-", *(option for option in options if option not in words)], example("SB.litmus"))[1]
+            same(f"the document of {command} {' '.join(options)} is held against the schema", schemas.Held.count, before + 1)
+            document = json.loads(text)
+            same(f"the document of {command} {' '.join(options)} fits", schemas.document_faults(document), [])
+            printed.setdefault(schemas.kind(document), document)
+        for keyword, kind, place, there in DAMAGE:
+            found = schemas.document_faults(damaged(printed[kind], keyword, place, there))
+            tell(f"{keyword} at {place} of {kind}", bool(found), found, "a fault")
+
     def test_refusals(self):
         """The document of a refusal gives the reason that the line gives."""
-        for command in ("why", "place", "outcomes", "trace", "witness"):
+        for command in ("why", "place", "outcomes", "trace", "witness", "gaps"):
             litmus = in_data("none.litmus")
             status, text = run([command, litmus])
             told = run([command, "--json", litmus])

@@ -1,4 +1,4 @@
-"""Large programs: of more than 16 combinations of traces. Their lists of outcomes with runs, and whatever the number of workers the same answer with the
+"""Large programs: of more than 6 combinations of traces. Their lists of outcomes with runs, and whatever the number of workers the same answer with the
 same trees.
 
 The outcomes are those that `judges/machine.py` finds by walking the machine's states, and each run leaves the outcome that is printed before it.
@@ -48,7 +48,7 @@ ORDERS = """X86 orders
  MOV EBX,[x] |             |             |             ;
 exists (0:EAX=1 /\\ 1:EAX=1)
 """
-MOST_SEARCHED = 16
+MOST_SEARCHED = 6
 MOST_WHOLE = 1_000
 PROGRAMS = (("reads", reads(5, 5, 5)), ("two threads", TWO_THREADS), ("exchanges", EXCHANGES), ("orders", ORDERS))
 

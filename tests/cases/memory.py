@@ -121,6 +121,7 @@ def replays_refused(library):
     for test, words in (
         ("SB", ["outcomes", "-"]), ("n6", ["outcomes", "--observed", "-"]), ("SB", ["outcomes", "--progress", "-"]),
         ("SB", ["outcomes", "--runs", "-"]), ("n6", ["outcomes", "--runs", "--json", "--observed", "-"]),
+        ("SB", ["outcomes", "--fences", "0:1", "-"]), ("n6", ["outcomes", "--json", "--fences", "0:1,1:1", "-"]),
     ):
         given = example(test + ".litmus")
         right = run(words, given)
@@ -132,7 +133,8 @@ def replays_refused(library):
         tell(f"a run of {test} that is sought", right[0] == 0, right)
         refused_allocations(library, f"a run of {test} that is sought, {options}", words, given, right, lawful)
     given, right = example("SB.litmus"), (1, b"refused fences 1 NoSuchGap 0:2\n")
-    refused_allocations(library, "a fence at no gap", ["witness", "--fences", "0:2", "-"], given, right, lawful)
+    for command in ("witness", "outcomes"):
+        refused_allocations(library, f"a fence of {command} at no gap", [command, "--fences", "0:2", "-"], given, right, lawful)
 
 
 EARLY = ["--trees", "early"]
@@ -160,6 +162,9 @@ def placements_refused(library, folder):
         tell(f"the placement of {file} with costs", right[0] == 0 and right[1].startswith(line), right)
         words = ["place", "--costs", costs, "--certificate", certificate, "-"]
         refused_allocations(library, f"the placement of {file} with costs", words, given, right, PLACED_LAWFULLY, certified=certificate, costs=[costs])
+    given, text = example("SB.litmus"), os.path.join(folder, "text")
+    refused_allocations(library, "a text with its fences", ["place", "--insert", text, "-"], given, run(["place", "-"], given), PLACED_LAWFULLY)
+    same("a text with its fences, which is written", bytes_of(text).count(b"MFENCE"), 2)
     for test, options in (("n6", []), ("R", ["--condition"]), ("SB", ["--progress"])):
         given, words = example(test + ".litmus"), ["why", *options, "-"]
         right = run(words, given)

@@ -1,15 +1,21 @@
 """Messages: what the programs say on standard error, nothing with an answer, and one line for people after each line of a refusal."""
+import json
 import os
 import pty
+import re
 import select
 import subprocess
 import tempfile
 
-from harness import EXAMPLES, LIMIT, PROGRAMS, Cases, example, lines, same, tell, text_of, write
+from harness import EXAMPLES, LIMIT, PROGRAMS, Cases, example, example_files, lines, same, schemas, tell, text_of, write
 
 FILES = ("SB.litmus", "SB.cert", "n6.litmus")
 ROW = "MOV [x],$1 |  ;\n"
-FAILS = b"fencer: the condition fails without store buffers too: no fence mends it\n"
+# what is said where a `~exists` or a `forall` fails on the sequential machine, with the formula in the middle
+FAILS = {
+    "~exists": "fencer: what must not happen (%s) happens without store buffers too: no fence mends it\n",
+    "forall": "fencer: what must always hold (%s) fails without store buffers too: no fence mends it\n",
+}
 ALONE = "is a location that stands nowhere else: did you mean"
 # three names of locations, of which the second and the third are stored to once; where the message is, and what it says
 NEAR_NAMES = (
@@ -76,6 +82,7 @@ def outputs(words, folder, given, error=subprocess.PIPE):
     """The status of a call in a folder, what it prints, and what it says on standard error."""
     name, *words = words if words[:1] == ["fencecheck"] else ["fencer", *words]
     ran = subprocess.run([PROGRAMS[name], *words], cwd=folder, input=given, stdout=subprocess.PIPE, stderr=error, timeout=120)
+    schemas.hold(words, ran.stdout)
     return ran.returncode, ran.stdout, ran.stderr
 
 
@@ -236,6 +243,23 @@ class Messages(Cases):
             wanted = "".join(f"{part}\r\n" for part in (line, *below)).encode()
             same(f"what a terminal shows of {words} where it says {line[:40]}", shown(words.split(), given), wanted)
 
+    def test_fences(self):
+        """On a terminal `place` names each gap of its answer with its line and instruction, as `gaps` lists them; elsewhere, and where nothing is printed, it does not."""
+        for litmus in example_files():
+            for options in ([], ["--condition"], ["--json"]):
+                words = ["place", *options, litmus]
+                _, printed, _ = outputs(words, EXAMPLES, b"")
+                answer = json.loads(printed)["answer"]["set"] if options == ["--json"] else printed.split(b"\n")[0].decode().split(" set")[1].split()
+                listed = dict(line.split(" ", 1) for line in outputs(["gaps", litmus], EXAMPLES, b"")[1].decode().splitlines())
+                lines = [f"{gap} " + re.sub(r"^(line \d+)", r"\1, before", listed[gap]) for gap in answer]
+                told = [line for line in shown(words, b"").decode().split("\r\n") if re.match(r"\d+:\d+ line ", line)]
+                same(f"what a terminal shows of the fences of {os.path.basename(litmus)} {options}", told, lines)
+        sb = os.path.join(EXAMPLES, "SB.litmus")
+        same("the fences of SB on a terminal", shown(["place", sb], b""), b"0:1 line 5, before MOV EAX,[y]\r\n1:1 line 5, before MOV EAX,[x]\r\n")
+        same("the fences of SB where it is no terminal", outputs(["place", "--progress", sb], EXAMPLES, b"")[2].count(b"before"), 0)
+        same("the fences of an answer that is not kept", shown(["place", "--output", "none/file", sb], b""), b"none/file: cannot be written\r\n")
+        same("the fences of SB by why", shown(["why", sb], b""), b"")
+
     def test_slips(self):
         """An answer names a jump before any CMP of its thread, or a compared register that nothing writes; a name in the condition comes before them."""
         for initial, rows, place, said in SLIPS:
@@ -255,7 +279,7 @@ class Messages(Cases):
         for formula, truths in (("0:EAX=0 /\\ 1:EAX=0", never), ("0:EAX=0", either), ("x=1", always), ("not 1:EAX=1", either)):
             for quantifier, breaking in (("exists", None), ("~exists", True), ("forall", False)):
                 given = changed(text, b"exists (0:EAX=0 /\\ 1:EAX=0)", f"{quantifier} ({formula})".encode())
-                line = FAILS if breaking in truths else b""
+                line = (FAILS[quantifier] % formula).encode() if breaking in truths else b""
                 for words in ("place", "why --observed", "place --condition", "why --condition --json", "place --condition --workers 2"):
                     status, _, told = outputs([*words.split(), "-"], EXAMPLES, given)
                     tell(f"{words} of {quantifier} {formula} says {line!r}", (status, told) == (0, line), (status, told))

@@ -5,8 +5,8 @@ import random
 from harness import (
     MODELS, Cases, bytes_of, called, example_files, expect, in_data, lines, litmus_cases, outcomes_in, run, same, sources_of, tell, worked_files,
 )
-from judges import candidates, conditions, machine
-from judges.texts import test_of
+from judges import candidates, conditions, documents, machine
+from judges.texts import canonical_of, test_of
 
 MOST_GAPS = 128
 RANDOM_PROGRAMS = 200
@@ -39,9 +39,9 @@ def items_of(line):
     return line.split()[1:]
 
 
-def leaves(test, model, labels, outcome, observed):
+def leaves(test, model, labels, outcome, observed, fenced=()):
     """Whether a run of the machine with these labels leaves what the line of an outcome shows: all of it, or with `--observed` a part."""
-    end = machine.end_of(test, labels, (), model)
+    end = machine.end_of(test, labels, fenced, model)
     if end is None:
         return False
     shown, whole = items_of(outcome), items_of(test.line(end))
@@ -71,6 +71,24 @@ def listed_sources():
     yield from ((f"of a random program {number}", conditions.random_program(draw)) for number in range(RANDOM_PROGRAMS))
 
 
+def fenced_list(name, source, fenced):
+    """The outcomes of a program with the gaps of these numbers fenced, and what they show of its condition, as the machine's states give them; each
+    run that is listed is one of that machine."""
+    test, canonical = test_of(source), canonical_of(source)
+    places = [test.gaps()[gap] for gap in fenced]
+    words = ["outcomes", "--fences", ",".join(f"{t}:{k}" for t, k in places)]
+    walked, condition = machine.outcomes(test, "buffered", fenced), canonical.splitlines()[-1]
+    met = {documents.meets(condition, conditions.named(test, outcome)) for outcome in walked}
+    holds = {"exists": True in met, "~exists": True not in met, "forall": False not in met}[condition.split(" ")[0]]
+    often = "Sometimes" if len(met) > 1 else "Always" if True in met else "Never"
+    lines = [f"outcomes {len(walked)}\n", *map(test.line, walked), f"observation {often}\n", f"condition {'holds' if holds else 'fails'}\n"]
+    same(f"{' '.join(words)} {name}", run([*words, "--check", "-"], source), (0 if holds else 3, "".join(lines).encode()))
+    shown = run([*words, "--runs", "-"], source)[1].decode().splitlines()
+    pairs = list(zip(shown[1:-2:2], shown[2:-2:2]))
+    right = len(shown) == 3 + 2 * len(walked) and all(leaves(test, "buffered", items_of(labels), outcome, False, fenced) for outcome, labels in pairs)
+    tell(f"{' '.join(words)} {name} with runs", right and [f"{outcome}\n" for outcome, _ in pairs] == lines[1:-2], shown)
+
+
 class Outcomes(Cases):
     def test_two_ways(self):
         """Outcomes as an independent program gives them, and with some gaps fenced those on which candidates and the machine agree."""
@@ -96,6 +114,16 @@ class Outcomes(Cases):
             test = test_of(source)
             for model, options in itertools.product(MODELS, ([], ["--observed"])):
                 listed_runs(test, name, source, model, options)
+
+    def test_fenced(self):
+        """Outcomes with some gaps fenced and with all, of the examples and of random programs, as the machine's states give them."""
+        draw = random.Random(SEED)
+        programs = [(file, bytes_of(file)) for file in example_files()]
+        programs += [(f"of a random program {number}", conditions.random_program(draw)) for number in range(RANDOM_PROGRAMS)]
+        for name, source in programs:
+            gaps = range(len(test_of(source).gaps()))
+            for fenced in sorted({tuple(gaps), tuple(gap for gap in gaps if draw.random() < 0.4)} - {()}):
+                fenced_list(name, source, fenced)
 
     def test_worked(self):
         """The worked examples: with all gaps fenced each has its sequential outcomes, and with none it has those among others. Cycles are compared in

@@ -65,7 +65,7 @@ def unpacked(folder):
     there = all(os.path.exists(os.path.join(folder, it)) for it in named)
     tell("the documents that the package's README names", len(named) >= 5 and there, named)
     found = os.path.join(folder, "docs")
-    others = [it for it in sorted(os.listdir(found)) if os.path.isfile(os.path.join(found, it)) and not it.endswith((".md", ".svg"))]
+    others = [it for it in sorted(os.listdir(found)) if os.path.isfile(os.path.join(found, it)) and not it.endswith((".md", ".svg", ".json"))]
     same("the scripts among the package's documents", others, [])
     for example in sorted(os.listdir(EXAMPLES)):
         tell(f"the package has examples/{example}", os.path.exists(os.path.join(folder, "examples", example)))

@@ -10,11 +10,11 @@ import re
 import subprocess
 import tempfile
 
-from harness import EXAMPLES, FENCER, Cases, same, tell
+from harness import EXAMPLES, FENCER, Cases, same, schemas, tell
 
 REGISTERS = ("EAX", "EBX", "ECX", "EDX", "ESI", "EDI")
 MOST_TRACES = 10_000_000
-MOST_SEARCHED = 16
+MOST_SEARCHED = 6
 MOST_CERTIFIED = 100_000_000
 WARNING = "fencer: warning: with more than 100000000 combinations the search may end without an answer or a certificate"
 ASKED = re.compile(r"fencer: sets asked: (\d+)(?:; the answer costs at least (\d+))?")
@@ -31,7 +31,7 @@ JUMPS = """X86 jumps
  end:        | end:        |             ;
 exists (x=1)
 """
-FILES = [os.path.join(EXAMPLES, name + ".litmus") for name in ("SB", "MP", "R", "2+2W", "IRIW", "n6", "nothing")]
+FILES = [os.path.join(EXAMPLES, name + ".litmus") for name in ("SB", "MP", "R", "2+2W", "n6", "n6-observed", "nothing")]
 SEARCHED = (
     ["outcomes"], ["outcomes", "--observed", "--check", "--json"], ["outcomes", "--workers", "4"],
     ["place"], ["place", "--workers", "4"], ["place", "--json", "--check"], ["why"],
@@ -132,6 +132,7 @@ def ahead(program):
 def ran(words, **more):
     """The status of a call, what it prints, and the lines on standard error."""
     call = subprocess.run([FENCER, *words], stdout=subprocess.PIPE, stderr=more.pop("stderr", subprocess.PIPE), timeout=120, **more)
+    schemas.hold(words, call.stdout)
     return (call.returncode, call.stdout), (call.stderr or b"").decode().splitlines()
 
 
@@ -218,7 +219,7 @@ def made(folder, text):
 class Progress(Cases):
     def test_searches(self):
         """What is reported of each command's search, in examples and in algorithms of the atlas that are not large."""
-        for path in [*FILES, *(os.path.join(EXAMPLES, "atlas", name + ".litmus") for name in ("Cilk-THE", "Wake-up", "n5"))]:
+        for path in [*FILES, *(os.path.join(EXAMPLES, "atlas", name + ".litmus") for name in ("Cilk-THE", "Wake-up", "RCU-flag"))]:
             for command in SEARCHED:
                 searched(os.path.basename(path), path, command)
 
@@ -241,7 +242,7 @@ class Progress(Cases):
                 found, said = ran([*command, "--progress", path])
                 wanted = [] if command[0] == "outcomes" else [f"fencer: sequential outcomes: {sequential_outcomes(path, command)}"]
                 same(f"progress of {' '.join(command)} where an answer is proposed", (found, silent, said), (plain, [], wanted))
-            for command in ("outcomes", "place", "why"):
+            for command in ("outcomes", "why"):
                 printed, said = on_terminal([command, path])
                 same(f"{command} on a terminal where an answer is proposed", (said, printed), ([], ran([command, path])[0][1]))
 
@@ -269,7 +270,7 @@ class Progress(Cases):
     def test_terminals(self):
         """On a terminal long searches are reported, and short ones with `--progress` alone."""
         short = FILES[0]
-        same("a short search says nothing on a terminal", on_terminal(["place", short])[1], [])
+        same("a short search says nothing on a terminal", on_terminal(["outcomes", short])[1], [])
         tell("a short search is reported on a terminal where that is asked for", on_terminal(["place", "--progress", short])[1][:1] == ahead(read_program(short)))
         with tempfile.TemporaryDirectory() as folder:
             path = made(folder, reads(10, 10))

@@ -1,6 +1,7 @@
 """Scripts: the programs as they are called at the top, which build runs, how an unproved one is made, and what is said of it.
 
-The toolchain is a small imitation: its `rt try` calls its compiler twice, as a probe and with a sanitizer, and then runs the program.
+The toolchain is a small imitation: its `rt try` calls its compiler twice, as a probe and with a sanitizer, and then runs the program. Its `rt ci` leaves
+the programs where that of the toolchain leaves them.
 """
 import contextlib
 import os
@@ -14,14 +15,20 @@ import time
 
 from harness import EXAMPLES, PROGRAMS, TOP, Cases, same, tell, without_front
 
-SCRIPTS = ("fencer", "fencecheck", "build", "crates.txt", ".ci/program", ".ci/unproved")
+SCRIPTS = ("fencer", "fencecheck", "build", "crates.txt", "HANDLES", ".ci/program", ".ci/unproved")
 NOBODY = 65534
 RT = '''#!/usr/bin/env python3
-import os, signal, subprocess, sys, tempfile
-kit = os.path.dirname(os.path.dirname(os.path.realpath(__file__)))
+import os, shutil, signal, subprocess, sys, tempfile
+kit, name = os.path.dirname(os.path.dirname(os.path.realpath(__file__))), os.path.basename(os.getcwd())
 with open(os.environ["CALLS"], "a") as calls:
-    calls.write("try\\n")
-if "REFUSED" in os.environ:
+    calls.write(f"{sys.argv[1]}\\n")
+if sys.argv[1] == "ci":
+    subprocess.run(os.environ["BESIDE"], shell=True)
+    for it in ("fencer", "fencecheck"):
+        os.mkdir(f"crates/{it}/out")
+        shutil.copy(f"{os.environ['BUILT']}/{it}", f"crates/{it}/out/{it}")
+    sys.exit("REFUSED" in os.environ)
+if os.environ.get("REFUSED") == name:
     sys.exit("error: no such type")
 for number in (signal.SIGTERM, signal.SIGHUP, signal.SIGINT):
     signal.signal(number, lambda it, _: sys.exit(128 + it))
@@ -31,10 +38,10 @@ if [ -e "$compiler" ]; then
     "$compiler" -Werror -c -x ir module.bc -o module.o -fPIE -O0 || exit 1
     "$compiler" -Werror -c -x ir module.bc -o module.o -fPIE -O0 -fsanitize=address || exit 1
 fi
-cp "$PROGRAM" program && exec ./program "$@"
+cp "$BUILT/$NAME" program && exec ./program "$@"
 """
 with tempfile.TemporaryDirectory() as folder:
-    tool = subprocess.Popen(["sh", "-c", script, "sh", kit, *sys.argv[1:]], cwd=folder, start_new_session=True)
+    tool = subprocess.Popen(["sh", "-c", script, "sh", kit, *sys.argv[1:]], cwd=folder, env={**os.environ, "NAME": name}, start_new_session=True)
     try:
         tool.wait()
     finally:
@@ -42,7 +49,8 @@ with tempfile.TemporaryDirectory() as folder:
 '''
 CLANG = '''#!/bin/sh
 echo "clang $*" >>"$CALLS"
-if [ -n "${HANGS:-}" ]; then echo $$ >"$HANGS"; sleep 300; fi
+if [ -n "${HANGS:-}" ]; then echo $$ >>"$HANGS"; sleep 300; fi
+if [ "$NAME" = "${HELD:-}" ]; then until [ -e "$CALLS.go" ]; do sleep 0.02; done; fi
 case " $* " in *" $FAULTY "*) exit 1 ;; esac
 while [ $# -gt 1 ]; do
     [ "$1" != -o ] || output=$2
@@ -53,10 +61,12 @@ echo object >"$output"
 LINK = '''#!/bin/sh
 echo "link $*" >>"$CALLS"
 while [ "$1" != -o ]; do shift; done
-cp "$PROGRAM" "$2"
+name=${PWD##*/}
+cp "$BUILT/${name%%.*}" "$2"
 '''
 WHY = "{0}: unproved, since the proved build is {1}; ./build makes it in half an hour to an hour on 4 processors\n"
-MADE = "{0}: the unproved build takes a minute or two on an idle machine, and is kept until the sources change\n"
+MADE = "{0}: the unproved build takes 40 to 85 s with 4 idle processors, and is kept until the sources change; beside it that of {1} is made, if there is none\n"
+WAITS = "{0}: waits for the unproved build, which another call makes\n"
 STAGES = "{0}: translates the sources\n"
 UNPROVED = "{0}: unproved build\n"
 
@@ -78,17 +88,19 @@ class Clone:
     """A repository of the scripts and the folders of two crates, a folder of a caller's, and a toolchain's."""
 
     def __init__(self, folder):
-        self.programs, self.folder = dict(PROGRAMS), folder
-        self.top, self.caller, self.kit, self.calls, self.work = (
-            os.path.join(folder, it) for it in ("top", "caller", "kit", "calls", "work")
+        self.folder = folder
+        self.top, self.caller, self.kit, self.calls, self.work, self.built = (
+            os.path.join(folder, it) for it in ("top", "caller", "kit", "calls", "work", "built")
         )
         for file in SCRIPTS:
             os.makedirs(os.path.dirname(os.path.join(self.top, file)), exist_ok=True)
             shutil.copy(os.path.join(TOP, file), os.path.join(self.top, file))
         for name in PROGRAMS:
             self.edit(name, 1_000)
-        for it in (self.caller, self.work):
+        for it in (self.caller, self.work, self.built):
             os.mkdir(it)
+        for name, program in PROGRAMS.items():
+            os.symlink(program, os.path.join(self.built, name))
         shutil.copy(os.path.join(EXAMPLES, "SB.litmus"), self.caller)
         write(os.path.join(self.caller, "e0"), "X86 other\n")
         write(os.path.join(self.kit, "bin", "rt"), RT, 0o755)
@@ -118,11 +130,11 @@ class Clone:
     def put(self, name, seconds):
         """Puts a proved build there, of this time."""
         os.makedirs(os.path.dirname(self.proved(name)), exist_ok=True)
-        shutil.copy(self.programs[name], self.proved(name))
+        shutil.copy(os.path.join(self.built, name), self.proved(name))
         os.utime(self.proved(name), (seconds, seconds))
 
     def start(self, name, *words, by=None, path=None, **more):
-        given = {"CALLS": self.calls, "PROGRAM": self.programs.get(name, ""), "TMPDIR": self.work, "FAULTY": "none", **more.pop("given", {})}
+        given = {"CALLS": self.calls, "BUILT": self.built, "TMPDIR": self.work, "FAULTY": "none", "BESIDE": "", **more.pop("given", {})}
         environment = {**os.environ, **given}
         environment["PATH"] = path or os.path.join(self.kit, "bin") + os.pathsep + environment["PATH"]
         streams = {"stdin": subprocess.DEVNULL, "stdout": subprocess.PIPE, "stderr": subprocess.PIPE}
@@ -141,15 +153,21 @@ class Clone:
 
     def left(self):
         """What is left of a build in the folders that it uses, the kept builds apart."""
-        kept = [self.unproved(name) for name in self.programs]
+        kept = [it for name in PROGRAMS for it in (self.proved(name), self.unproved(name), self.unproved(name) + ".said")]
         found = [os.path.join(at, file) for top in (self.work, self.top) for at, _, files in os.walk(top) for file in files]
-        return [it for it in found if (it.startswith(self.work) or "/out/" in it) and it not in kept and not it.endswith(("/out/fencer", "/out/fencecheck"))]
+        return [it for it in found if (it.startswith(self.work) or "/out/" in it) and it not in kept]
+
+    def ends(self):
+        """Waits until no build is being made."""
+        return wait_for(lambda: self.left() == [])
 
 
 @contextlib.contextmanager
 def cloned():
     with tempfile.TemporaryDirectory() as folder:
-        yield Clone(folder)
+        clone = Clone(folder)
+        yield clone
+        clone.ends()
 
 
 def wait_for(condition, seconds=20):
@@ -182,7 +200,7 @@ def called_as_given(clone, kind):
 
 def called_at_a_terminal(clone):
     """At a terminal, without arguments, one line on standard error says that input is awaited."""
-    for name in clone.programs:
+    for name in PROGRAMS:
         leader, terminal = pty.openpty()
         os.write(leader, b"\n\x04")
         status, _, said = clone.call(name, stdin=terminal)
@@ -196,7 +214,7 @@ def called_at_a_terminal(clone):
 def said_on_a_terminal(clone):
     """What a call says on a terminal."""
     leader, terminal = pty.openpty()
-    clone.call("fencer", "place", "SB.litmus", stderr=terminal)
+    clone.call("fencer", "outcomes", "SB.litmus", stderr=terminal)
     os.write(terminal, b".")
     os.close(terminal)
     said = os.read(leader, 4096).decode()
@@ -208,10 +226,12 @@ class Scripts(Cases):
     def test_builds(self):
         """Which build runs, when one is made, and what is said then."""
         with cloned() as clone:
-            for name in PROGRAMS:
-                made = WHY.format(name, "missing") + MADE.format(name) + STAGES.format(name)
-                status, _, said = clone.call(name, "--help")
-                tell(f"an unproved build of {name} is made", status == 2 and said.startswith(made), (status, said))
+            made = WHY.format("fencer", "missing") + MADE.format("fencer", "fencecheck") + STAGES.format("fencer")
+            status, _, said = clone.call("fencer", "--help")
+            tell("an unproved build is made", status == 2 and said.startswith(made), (status, said))
+            clone.ends()
+            found = clone.call("fencecheck", "SB.litmus", "none.cert")
+            tell("the other one is made beside it", found[2].startswith(UNPROVED.format("fencecheck")) and clone.tries() == 2, (clone.tries(), found))
             _, _, said = clone.call("fencer", "place", "SB.litmus")
             tell("a build that is kept says what it is", said == UNPROVED.format("fencer") and clone.tries() == 2, (clone.tries(), said))
             clone.edit_proof("fencer", 4_000_000_000)
@@ -230,9 +250,49 @@ class Scripts(Cases):
             tell("an unproved build is made anew after an edit", again and clone.tries() == 3, (clone.tries(), status, found, said))
             same("nothing but the builds is kept", clone.left(), [])
 
+    def test_both(self):
+        """The first call of a program makes the builds of both, and has its answer before the other one is made; a call of that one waits."""
+        for name, other, words in (("fencer", "fencecheck", ["place", "SB.litmus"]), ("fencecheck", "fencer", ["SB.litmus", "SB.cert"])):
+            with cloned() as clone:
+                shutil.copy(os.path.join(EXAMPLES, "SB.cert"), clone.caller)
+                status, _, said = clone.call(name, *words, given={"HELD": other})
+                tell(f"{name} answers first", status == 0 and MADE.format(name, other) in said and not os.path.exists(clone.unproved(other)), (status, said))
+                waiting = clone.start(other, "--version")
+                time.sleep(0.5)
+                tell(f"{other} waits", waiting.poll() is None and clone.tries() == 2, (waiting.returncode, clone.tries()))
+                write(clone.calls + ".go", "")
+                found = waiting.communicate(timeout=60)[1].decode()
+                same(f"what {other} says of it", found, WHY.format(other, "missing") + WAITS.format(other))
+                same(f"{other} is made once", clone.tries(), 2)
+
+    def test_beside(self):
+        """What comes of the build that is made beside another: it fails, its sources change, or there is one."""
+        with cloned() as clone:
+            found = clone.call("fencer", "place", "SB.litmus", given={"REFUSED": "fencecheck"})
+            tell("its fault changes no answer", found[0] == 0 and found[1].startswith("answer ") and "error" not in found[2], found)
+            clone.ends()
+            found = clone.call("fencecheck", "--help", given={"REFUSED": "fencecheck"})
+            tell("its fault is said by its own call", found[0] == 2 and found[2].endswith("error: no such type\n") and clone.tries() == 3, (clone.tries(), found))
+        with cloned() as clone:
+            clone.call("fencer", "--help", given={"HELD": "fencecheck"})
+            clone.edit("fencecheck", time.time())
+            waiting = clone.start("fencecheck", "--help")
+            write(clone.calls + ".go", "")
+            found = waiting.communicate(timeout=60)[1].decode()
+            tell("a change meanwhile is built anew", MADE.format("fencecheck", "fencer") in found and clone.tries() == 3, (clone.tries(), found))
+        with cloned() as clone:
+            clone.put("fencecheck", 2_000)
+            clone.call("fencer", "--help")
+            clone.ends()
+            same("none is made beside a proved one", clone.tries(), 1)
+        with cloned() as clone:
+            clone.call("fencer", "--help", given={"HELD": "fencecheck", "REFUSED": "fencer"})
+            tell("it ends where the first one fails", clone.ends() and not os.path.exists(clone.unproved("fencecheck")), clone.left())
+
     def test_compilation(self):
         """The compiler optimizes and leaves the sanitizer out, and the toolchain's two archives alone are linked."""
         with cloned() as clone:
+            clone.put("fencecheck", 2_000)
             clone.call("fencer", "--help")
             lines = text_of(clone.calls).splitlines()
             same("a try, a probe, a compilation and a link", [line.split()[0] for line in lines], ["try", "clang", "clang", "link"])
@@ -251,8 +311,6 @@ class Scripts(Cases):
         for kind, change in changes.items():
             with cloned() as clone:
                 change(clone)
-                for name in PROGRAMS:
-                    clone.call(name, "--help")
                 called_as_given(clone, f"toolchain {kind}")
                 same(f"nothing is left, toolchain {kind}", clone.left(), [])
         with cloned() as clone:
@@ -260,7 +318,8 @@ class Scripts(Cases):
             status, found, said = clone.call("fencer", "place", "SB.litmus")
             tell("a compiler that refuses the level", (status, said) == (0, UNPROVED.format("fencer")) and found.startswith("answer "), (status, found, said))
         with cloned() as clone:
-            status, found, said = clone.call("fencer", "place", "SB.litmus", given={"REFUSED": "1"})
+            clone.put("fencecheck", 2_000)
+            status, found, said = clone.call("fencer", "place", "SB.litmus", given={"REFUSED": "fencer"})
             tell("sources with a fault", (status, found) == (2, "") and said.endswith("error: no such type\n"), (status, found, said))
             tell("nothing is kept of sources with a fault", clone.left() == [] and clone.tries() == 1, (clone.left(), clone.tries()))
 
@@ -268,8 +327,8 @@ class Scripts(Cases):
         """The version says whether the build is proved."""
         with cloned() as clone:
             unproved = without_front(WHY.format("fencer", "missing"), "fencer: ")
-            clone.programs = {**PROGRAMS, "fencer": os.path.join(clone.folder, "shown")}
-            write(clone.programs["fencer"], '#!/bin/sh\necho "fencer 0.1.0"\nexit 2\n', 0o755)
+            os.remove(os.path.join(clone.built, "fencer"))
+            write(os.path.join(clone.built, "fencer"), '#!/bin/sh\necho "fencer 0.1.0"\nexit 2\n', 0o755)
             clone.call("fencer", "--help")
             found = clone.call("fencer", "--version")
             same("the version of an unproved build", found, (2, f"fencer 0.1.0, {unproved}", ""))
@@ -282,7 +341,7 @@ class Scripts(Cases):
         with cloned() as clone:
             tools = os.path.join(clone.folder, "tools")
             os.mkdir(tools)
-            for tool in ("bash", "env", "dirname", "realpath", "sed", "find"):
+            for tool in ("bash", "env", "dirname", "realpath", "find"):
                 os.symlink(shutil.which(tool), os.path.join(tools, tool))
             missing = (
                 ": rt is not on the path; it compiles and proves the programs. Install the toolchain that README.md names and add its folder bin to PATH."
@@ -295,6 +354,33 @@ class Scripts(Cases):
             status, found, said = clone.call("fencer", "place", "SB.litmus", path=tools)
             tell("a proved build without rt", (status, said) == (0, "") and found.startswith("answer "), (status, found, said))
 
+    def test_proved_builds(self):
+        """`build` has the two programs and the crates below them proved in a copy of these alone, and takes what that leaves."""
+        with cloned() as clone:
+            write(os.path.join(clone.top, "crates.txt"), "# crates\nlow:\nfencer may_wait=1: low thiserror\nfencecheck:\ntests: fencer\n")
+            for file in ("low/specs/Lib.antt", "low/must-fail/low.edit", "low/out/low.o", "fencer/data/text", "tests/src/lib.rt"):
+                write(os.path.join(clone.top, "crates", file), "")
+            listing = 'pwd; find . -type f ! -name calls | sort >"$CALLS"; sort crates.txt >>"$CALLS"'
+            status, found, said = clone.call("build", given={"BESIDE": listing})
+            tell("build", (status, said) == (0, "") and found.endswith("fencer and fencecheck are proved and built\n"), (status, found, said))
+            files = ["HANDLES", "crates.txt", "crates/fencecheck/src/main.rt", "crates/fencer/data/text", "crates/fencer/src/main.rt", "crates/low/specs/Lib.antt"]
+            lines = ["fencecheck:", "fencer may_wait=1: low thiserror", "low:"]
+            same("what is proved", text_of(clone.calls).split("\n")[:-1], [f"./{it}" for it in files] + lines)
+            copy = found.split("\n")[0]
+            tell("the copy is gone", copy.startswith(clone.work) and not os.path.exists(copy), copy)
+            called_as_given(clone, "proved by build")
+            shutil.rmtree(os.path.join(clone.top, "crates", "low", "out"))
+            for name, given, wanted in (
+                ("refused", {"REFUSED": "ci"}, (1, "")),
+                ("changed meanwhile", {"BESIDE": f"touch {clone.top}/crates/low/specs/Lib.antt"}, (1, "build: sources of fencer changed meanwhile; run ./build again\n")),
+            ):
+                clone.edit("fencer", time.time())
+                status, found, said = clone.call("build", given=given)
+                same(f"build of what is {name}", (status, said), wanted)
+                version = clone.call("fencer", "--version", given={"REFUSED": "fencer"})
+                tell(f"no proved build of what is {name}", "older than its sources" in version[2], version)
+                same(f"nothing is left of what is {name}", clone.left(), [])
+
     def test_build_arguments(self):
         """An argument of `build` gets its usage, and nothing is proved."""
         with cloned() as clone:
@@ -302,7 +388,7 @@ class Scripts(Cases):
             tell("build --help", (status, found, clone.tries()) == (2, "", 0) and said.startswith("usage: build"), (status, found, said))
 
     def test_interrupted(self):
-        """A build that is interrupted leaves no file and no process."""
+        """Builds that are interrupted leave no file and no process."""
         # A caller may ignore these, as nohup does, and a child would inherit that.
         signal.signal(signal.SIGINT, signal.default_int_handler)
         signal.signal(signal.SIGTERM, signal.SIG_DFL)
@@ -311,16 +397,16 @@ class Scripts(Cases):
             with cloned() as clone:
                 hanging = os.path.join(clone.folder, "hanging")
                 child = clone.start("fencer", "place", "SB.litmus", given={"HANGS": hanging}, start_new_session=True)
-                started = wait_for(lambda: text_of(hanging).endswith("\n"))
+                started = wait_for(lambda: text_of(hanging).count("\n") == len(PROGRAMS))
                 if number == signal.SIGINT:
                     os.killpg(child.pid, number)
                 else:
                     child.send_signal(number)
                 child.communicate(timeout=60)
-                compiler = f"/proc/{text_of(hanging).strip() or 'none'}"
+                compilers = [f"/proc/{it}" for it in text_of(hanging).split()]
                 name = f"a build that is interrupted by {number.name}"
                 tell(f"{name} has begun and ends", started and child.returncode != 0, child.returncode)
-                tell(f"{name} leaves no process", wait_for(lambda: not os.path.exists(compiler)), compiler)
+                tell(f"{name} leaves no process", wait_for(lambda: not any(map(os.path.exists, compilers))), compilers)
                 tell(f"{name} leaves no file", wait_for(lambda: os.listdir(clone.work) == [] and clone.left() == []), clone.left())
 
     def test_other_user(self):

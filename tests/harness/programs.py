@@ -7,6 +7,8 @@ import subprocess
 import threading
 from concurrent.futures import ThreadPoolExecutor
 
+from harness import schemas
+
 HARNESS = os.path.dirname(os.path.abspath(__file__))
 TESTS = os.path.dirname(HARNESS)
 TOP = os.path.dirname(TESTS)
@@ -37,6 +39,7 @@ def run(words, given=b"", program=FENCER, **more):
         ran = subprocess.run([program, *words], input=given, capture_output=True, timeout=SECONDS, **more)
     except subprocess.TimeoutExpired as late:
         return f"still running after {SECONDS} seconds", late.stdout or b""
+    schemas.hold(words, ran.stdout)
     return ran.returncode, ran.stdout
 
 

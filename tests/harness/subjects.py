@@ -8,7 +8,7 @@ import tempfile
 import time
 import unittest
 
-from harness import programs, report
+from harness import programs, report, schemas
 
 COUNTS = os.path.join(programs.TESTS, "counts.tsv")
 # the names of the cases of each group, as they were when it ran last
@@ -83,6 +83,10 @@ class Group:
             if CasesFailed.__name__ not in said:
                 report.begin(self.name, ())
                 report.tell("the group ends", False, said.rstrip(), "no exception")
+        for words, found in schemas.Held.faults:
+            report.begin(self.name, ())
+            report.tell(f"the document of {words} fits docs/fencer.schema.json", False, found, "no fault")
+        schemas.Held.faults.clear()
         if not parts:
             self.keep_names(report.Reported.names)
         self.seconds = time.monotonic() - started

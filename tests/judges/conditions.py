@@ -51,9 +51,16 @@ def foreign_run(test, fenced, is_foreign):
 
 def best_set(test, condition):
     """The cheapest set of gaps that serves for the condition's truth, where each gap costs 1, and of several the earliest."""
-    def truth(outcome):
-        return documents.meets(condition, named(test, outcome))
+    return best_set_by(test, lambda outcome: documents.meets(condition, named(test, outcome)))
 
+
+def best_whole_set(test):
+    """The same for whole outcomes."""
+    return best_set_by(test, lambda outcome: outcome)
+
+
+def best_set_by(test, truth):
+    """The cheapest set of gaps with which nothing is shown of an outcome that no sequential run shows."""
     sequential = {truth(outcome) for outcome in machine.outcomes(test, "sequential", ())}
     gaps, runs = test.gaps(), []
     for size in range(len(gaps) + 1):

@@ -17,6 +17,7 @@ FIELDS = {
     "trace": [*PROGRAM, "run"],
     "outcomes": [*PROGRAM, "model", "observed", "outcomes", "observation", "holds"],
     "witness": [*PROGRAM, "model", "fences", "meets_condition", "run"],
+    "gaps": [*PROGRAM, "gaps"],
 }
 RUN = ["steps", "outcome", "meets_condition", "passed", "execution"]
 STEP = ["label", "instruction", "reads", "stores", "reaches", "buffer", "memory", "registers"]
@@ -135,9 +136,12 @@ def answer_differs(document, line):
     answer = document["answer"]
     costs = {gap["gap"]: gap["cost"] for gap in document["gaps"]}
     places = [f"{t}:{k}" for t, thread in enumerate(document["threads"]) for k in range(1, len(thread["instructions"]))]
-    kind = "condition " if "condition" in answer else "observed " if answer["observed"] else ""
+    kind = "" if answer["compares"] == "all" else answer["compares"] + " "
     said = " ".join([f"answer {kind}cost {answer['cost']} set", *answer["set"]])
-    told = list(answer) == ["set", "cost", "observed"] or list(answer.items())[2:] == [("observed", False), ("condition", True)]
+    kinds = {
+        "all": [("observed", False)], "observed": [("observed", True)], "condition": [("observed", False), ("condition", True)],
+    }
+    told = list(answer)[:2] == ["set", "cost"] and list(answer.items())[2:] == [*kinds[answer["compares"]], ("compares", answer["compares"])]
     return not told or said != line or list(costs) != places or answer["cost"] != sum(costs[gap] for gap in answer["set"])
 
 
@@ -201,14 +205,34 @@ def outcomes_differ(document, text):
     return text != "\n".join(lines)
 
 
-def differs(printed, command, text, canonical, dot=None, fences=None):
-    """Whether a command's document says other things than its text, the program's canonical text and the graph of its runs."""
+def lines_differ(document, lines):
+    """Whether instructions and gaps have other lines than these, by threads."""
+    said = [[cell["line"] for cell in thread["instructions"]] for thread in document["threads"]]
+    at = {f"{t}:{k}": line for t, own in enumerate(lines) for k, line in enumerate(own) if k}
+    return said != lines or any(gap["line"] != at[gap["gap"]] for gap in document.get("gaps", []))
+
+
+def gaps_differ(document, text):
+    """Whether the list of the gaps says other things than the document: `text` has the costs."""
+    def line(gap):
+        thread, number = map(int, gap["gap"].split(":"))
+        return f"{gap['gap']} line {gap['line']} {document['threads'][thread]['instructions'][number]['text']} cost {gap['cost']}\n"
+
+    return text != "".join(line(gap) for gap in document["gaps"])
+
+
+def differs(printed, command, text, canonical, lines, dot=None, fences=None):
+    """Whether a command's document says other things than its text, the program's canonical text with its instructions' lines, and the graph of its runs."""
     document = read(printed)
     fields = [*FIELDS[command], *(["runs"] if command == "outcomes" and "\nrun" in text else [])]
+    if command == "outcomes" and fences:
+        fields.insert(fields.index("model") + 1, "fences")
     if document is None or list(document) != fields or document["format"] != FORMAT or document["command"] != command:
         return True
-    if program_differs(document, canonical):
+    if program_differs(document, canonical) or lines_differ(document, lines):
         return True
+    if command == "gaps":
+        return gaps_differ(document, text)
     if command == "why":
         return why_differs(document, text, dot)
     if command == "trace":
@@ -216,7 +240,7 @@ def differs(printed, command, text, canonical, dot=None, fences=None):
     if command == "witness":
         return document["fences"] != (fences or []) or witness_differs(document, text, dot)
     if command == "outcomes":
-        return outcomes_differ(document, text)
+        return document.get("fences", []) != (fences or []) or outcomes_differ(document, text)
     line, fenced = text.split("\n", 1)
     return answer_differs(document, line) or document["fenced"] != fenced
 

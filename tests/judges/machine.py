@@ -47,7 +47,7 @@ def executed(instruction, thread, memory, buffered):
     def value(word):
         return registers[REGISTERS.index(word)] if word in REGISTERS else int(word)
 
-    if name in ("Fence", "Xchg") and waiting:
+    if name in ("Fence", "Xchg", "Cas") and waiting:
         return None
     place += 1
     if name in JUMPS and {"Jmp": True, "Je": flag, "Jne": not flag}[name]:
@@ -67,6 +67,9 @@ def executed(instruction, thread, memory, buffered):
     elif name == "Xchg":
         location, register = int(words[0]), REGISTERS.index(words[1])
         registers, memory = put(registers, register, memory[location]), put(memory, location, registers[register])
+    elif name == "Cas":  # a compare-and-swap, which no litmus file has: the location, the expected value, the new one, the register of the old one
+        location, expected, new, register = int(words[0]), int(words[1]), int(words[2]), REGISTERS.index(words[3])
+        registers, memory = put(registers, register, memory[location]), put(memory, location, new if memory[location] == expected else memory[location])
     return (place, flag, registers, waiting), memory
 
 

@@ -48,3 +48,23 @@ def fenced_reading(source, gaps):
 
     read = re.sub(r"^threads .*\nmemory .*\n", lambda _: fenced, read, flags=re.M)
     return re.sub(r"^labels of (\d+).*$", moved, read, flags=re.M)
+
+
+def instruction_lines(text):
+    """The lines of each thread's instructions, read from the text by its marks alone."""
+    def blank(found):
+        return re.sub(r"[^\n]", " ", found[0])
+    body = re.sub(r"\(\*.*?\*\)", blank, text, flags=re.S)
+    start = re.search(r"^[ \t]*P0[^;]*;", body, flags=re.M)
+    end = re.search(r"^\s*(exists|forall|locations|~)", body, flags=re.M)
+    threads = [[] for _ in start[0].split("|")]
+    place = start.end()
+    for row in body[place:end.start()].split(";")[:-1]:
+        at = place
+        for thread, cell in enumerate(row.split("|")):
+            code = re.search(r"[^\s].*", re.sub(r"\w+\s*:", blank, cell), flags=re.S)
+            if code:
+                threads[thread].append(1 + body[:at + code.start()].count("\n"))
+            at += len(cell) + 1
+        place += len(row) + 1
+    return threads

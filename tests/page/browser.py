@@ -14,6 +14,7 @@ WORDS = ("--headless=new", "--no-sandbox", "--disable-gpu", "--remote-debugging-
 KEYS = {"ArrowRight": 39, "ArrowLeft": 37, "Home": 36, "End": 35, " ": 32}
 LOADING = 60
 NOT_LOADED = "not loaded: "
+MARGIN = 10
 
 
 def program():
@@ -111,12 +112,18 @@ class Browser:
         for kind in ("mousePressed", "mouseReleased"):
             self.call("Input.dispatchMouseEvent", type=kind, x=x, y=y, button="left", clickCount=1)
 
-    def picture(self, path, width):
-        """Writes a picture of the whole page, in a window of this width."""
+    def picture(self, path, width, of):
+        """Writes a picture of what a selector matches, with a margin, in a window of this width."""
         height = self.evaluate("document.documentElement.scrollHeight")
         self.call("Emulation.setDeviceMetricsOverride", width=width, height=height, deviceScaleFactor=1, mobile=False)
         time.sleep(0.2)
-        found = self.call("Page.captureScreenshot", format="png", captureBeyondViewport=True)
+        boxes = self.evaluate(f"""[...document.querySelectorAll({json.dumps(of)})].map(element => {{
+            const box = element.getBoundingClientRect();
+            return [box.left, box.top, -box.right, -box.bottom];
+        }})""")
+        left, top, right, bottom = (min(sides) for sides in zip(*boxes))
+        clip = {"x": left - MARGIN, "y": top - MARGIN, "width": 2 * MARGIN - right - left, "height": 2 * MARGIN - bottom - top, "scale": 1}
+        found = self.call("Page.captureScreenshot", format="png", captureBeyondViewport=True, clip=clip)
         with open(path, "wb") as file:
             file.write(base64.b64decode(found["data"]))
 

@@ -327,22 +327,31 @@ def verdict(run):
     """That no sequential run ends so."""
     if "condition" not in run.document.get("answer", {}):
         return "No sequential run has this outcome."
+    so, verb = happening(run.document, run.run["meets_condition"]), happening(run.document, True).split(" ")[-1]
     if run.run["meets_condition"]:
-        return "This run meets the formula of the file's condition, and no sequential run does: "
-    return "This run does not meet the formula of the file's condition, and each sequential run does: "
+        return f"{so} in this run, and in no sequential run: "
+    return f"{so} in this run alone: it {verb} in each sequential run: "
+
+
+def formula(document):
+    """The formula of the condition, without the parentheses around it."""
+    return re.fullmatch(r"(?:~exists|exists|forall) \((.*)\)", document["condition"])[1]
+
+
+def happening(document, meets, named=""):
+    """That what the condition is about is so, or is not, by its quantifier."""
+    subject, yes, no = {
+        "~exists": ("What must not happen", "happens", "does not happen"),
+        "exists": ("What the file asks about", "happens", "does not happen"),
+        "forall": ("What must always hold", "holds", "does not hold"),
+    }[document["condition"].split(" ")[0]]
+    return f"{subject}{named} {yes if meets else no}"
 
 
 def condition_words(document, meets):
     """What is said of the run's outcome and the file's condition."""
     quantifier = document["condition"].split(" ")[0]
-    begins = {
-        ("~exists", True): "It is what the file says must not happen: ",
-        ("~exists", False): "What must not happen, ",
-        ("exists", True): "It is what the file asks for: ",
-        ("exists", False): "It is not what the file asks for, ",
-        ("forall", True): "The file's condition, ",
-        ("forall", False): "It breaks the file's condition: ",
-    }[quantifier, meets] + document["condition"]
+    begins = happening(document, meets, f" ({formula(document)})") + " in this run"
     ends = ". The command fencer outcomes --model sequential says whether a sequential run does so too." if meets == (quantifier != "forall") else ""
     return begins + ends
 
@@ -375,7 +384,7 @@ def check_run(run, page):
     reads = run.steps[run.passing]["reads"]
     right(len(found) == 1 and (not reads or f"and reads {assignment(reads)}." in found[0]), where + ": the moment of the gap")
     alone = "condition" in document["answer"]
-    said = end + verdict(run) + (document["condition"] if alone else " " + condition_words(document, run.run["meets_condition"]))
+    said = end + verdict(run) + (formula(document) if alone else " " + condition_words(document, run.run["meets_condition"]))
     right(page["moments"][-1].startswith(said), where + ": condition")
     keeps = not alone and run.breaks() is None
     same("fewer fences may be enough: fencer why --condition LITMUS" in page["moments"][-1], keeps, where + ": whether the condition needs fewer")
@@ -595,15 +604,25 @@ def machine_words(document):
     return machine + (f", with MFENCE {listed(places, ' and ')}" if places else "")
 
 
+def verdict_there(document):
+    """Whether the condition holds of the machine in which a run is sought, where that is known."""
+    # whether some run meets the formula, and whether every one does
+    some, every = {(True, True): (True, None), (True, False): (None, False), (False, True): (False, False), (False, False): (True, True)}[
+        document["run"] is not None, document["meets_condition"]]
+    holds = {"exists": some, "~exists": None if some is None else not some, "forall": every}[document["condition"].split(" ")[0]]
+    return "" if holds is None else f" So the condition {document['condition']} {'holds' if holds else 'fails'} there."
+
+
 def check_sought(browser, document):
     """A run that is sought, or that there is none."""
-    page, meets = shown(browser, "pageShown()"), document["meets_condition"]
+    page, meets, test, about = shown(browser, "pageShown()"), document["meets_condition"], document["test"], formula(document)
     if document["run"]:
-        says = "meets" if meets else "does not meet"
-        same(page["heading"], f"A run of {document['test']} that {says} its condition", "heading")
-        return same(page["lead"], f"A run {machine_words(document)}, whose outcome {says} the formula of the file's condition.", "what run it is")
-    same(page["heading"], f"{'No' if meets else 'Every'} run of {document['test']} meets its condition", "heading")
-    same(page["lead"], f"{'No' if meets else 'Each'} run {machine_words(document)} meets the formula of the file's condition.", "that there is none")
+        leaves = "leaves" if meets else "does not leave"
+        same(page["heading"], f"{happening(document, meets)}: a run of {test} {leaves} {about}", "heading")
+        return same(page["lead"], f"A run {machine_words(document)}, which {leaves} {about}.{verdict_there(document)}", "what run it is")
+    subject, verb = happening(document, True).rsplit(" ", 1)
+    same(page["heading"], f"{subject} {'never' if meets else 'always'} {verb}: {'no' if meets else 'each'} run of {test} leaves {about}", "heading")
+    same(page["lead"], f"{'No' if meets else 'Each'} run {machine_words(document)} leaves {about}.{verdict_there(document)}", "that there is none")
     same((page["controls"], page["tabs"]), (0, []), "no player")
     same(page["programs"], programs(document), "program")
     same([fence[0] for fence in page["fences"]], document["fences"], "fences")

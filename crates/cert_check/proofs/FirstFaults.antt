@@ -1,7 +1,7 @@
 -- A certificate that has a fault is not valid.
-use Rattle.cert_check.proofs.Vocabulary.{◌≡◌, ℕ, zero, suc, List, [], ◌∷◌, length, All, refl, sym, ap, ◌∙◌, subst, same_Some, SetOfGaps, without_gap, child_regions, Region, Listing, Outcome, Label, IsShownRun, Gap, Split, Bound, GapTrees, NoGap, MoreGaps}
-use Rattle.cert_check.proofs.Vocabulary.{IsValidCoverBy, Certificate, AreSequentialRuns, IsRunOutside, IsValidCertificateOf, one_list_of_gaps, CheckFault, valid_is_not_wrong, IsRunOf, IsFirstWithout, IsFirstFault, Question, show, Machine, SequentialMachine}
-use Rattle.cert_check.proofs.Vocabulary.{StoreBufferMachine, no_gaps, outcome_at, IsValidGap, AreValidGaps, count_gaps}
+use Rattle.cert_check.proofs.Vocabulary.{◌≡◌, ℕ, zero, suc, List, [], ◌∷◌, length, All, refl, ap, ◌∙◌, subst, SetOfGaps, without_gap, child_regions, Region, Listing, Outcome, Label, IsShownRun, Gap, Split, Bound, GapTrees, NoGap, MoreGaps}
+use Rattle.cert_check.proofs.Vocabulary.{IsValidCoverBy, Certificate, AreSequentialRuns, IsRunOutside, IsValidCertificateOf, one_list_of_gaps, CheckFault, valid_is_not_wrong, IsRunOf, IsFirstWithout, IsFirstFault, Question, SequentialMachine}
+use Rattle.cert_check.proofs.Vocabulary.{StoreBufferMachine, no_gaps, IsValidGap, AreValidGaps, count_gaps}
 use Rattle.tso_machine.proofs.Refused.{one_shown}
 use Rattle.tree_laws.proofs.Lists.{found_has}
 use Rattle.cert_check.specs.declared.fault.CheckFault.TheVariants as fault

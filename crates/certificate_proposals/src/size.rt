@@ -6,7 +6,7 @@ use thread_traces::{Combinations, trace_combinations};
 use tso_program::Program;
 
 /// The most combinations of traces of a program whose certificate is not proposed, but searched for.
-const MOST_SEARCHED: u64 = 16;
+const MOST_SEARCHED: u64 = 6;
 
 /// The most combinations of traces of a program whose trees are whole, where no rule is asked for.
 const MOST_WHOLE: u64 = 1_000;

@@ -27,24 +27,24 @@ pub struct OutcomeList {
     pub runs: Runs,
 }
 
-/// What is shown of the outcomes of a program under sequential consistency, or under x86-TSO with no gap fenced, ascending,
-/// each of them once and with a run that leaves it.
+/// What is shown of the outcomes of a program in the machine of a mode, ascending, each of them once and with a run that
+/// leaves it.
 pub fn outcomes_with_runs(
     alloc: Global,
     program: &Program,
-    model: Model,
     shown: &Shown,
+    mode: Mode,
 ) -> Result<OutcomeList, SolveFault>
     ensures ascend { IfOk result (λ list. Ascend list.outcomes.items) }
-    ensures runs { IfOk result (λ list. AreRunsOf (asked program.now shown.now) (machine_of_model program.now set.empty model) list.runs list.outcomes.items) }
+    ensures runs { IfOk result (λ list. AreRunsOf (asked program.now shown.now) (machine_of_mode program.now mode) list.runs list.outcomes.items) }
     ensures fault { IfErr result (λ fault. fault ≡ SolveFault.OutOfMemory) }
-    ensures exact { IfOk result (λ list. (o : Outcome) → Contains list.outcomes.items o ↔ AllowsShown (asked program.now shown.now) (machine_of_model program.now set.empty model) o) }
+    ensures exact { IfOk result (λ list. (o : Outcome) → Contains list.outcomes.items o ↔ AllowsShown (asked program.now shown.now) (machine_of_mode program.now mode) o) }
 {
     Ok(listed(&Search {
         alloc,
         program,
         shown,
-        mode: Mode::unfenced(model),
+        mode,
     })?)
 }
 
@@ -60,7 +60,7 @@ pub fn outcomes(
     ensures fault { IfErr result (λ fault. fault ≡ SolveFault.OutOfMemory) }
     ensures exact { IfOk result (λ outcomes. (o : Outcome) → Contains outcomes.items o ↔ AllowsShown (asked program.now shown.now) (machine_of_model program.now set.empty model) o) }
 {
-    Ok(outcomes_with_runs(alloc, program, model, shown)?.outcomes)
+    Ok(outcomes_with_runs(alloc, program, shown, Mode::unfenced(model))?.outcomes)
 }
 
 /// All outcomes of a search: those that are proposed, or else those at which searches stop.

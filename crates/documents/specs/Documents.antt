@@ -8,12 +8,15 @@ use Rattle.tso_program.specs.declared.shown.Shown.{Shown, TheVariants.All}
 use Rattle.tso_machine.specs.declared.label.Label.{Label}
 use Rattle.tso_machine.specs.declared.label.Model.{Model}
 use Rattle.report.specs.Litmus.{Litmus}
+use Rattle.gap_list.specs.declared.text_lines.TextLines.{TextLines}
 use Rattle.report.specs.Observations.{frequency, is_true_of}
 use Rattle.json_text.specs.Texts.{quoted, array_text, member, object_text, null_text, truth_text}
 use Rattle.json_text.specs.Values.{IsJsonLine}
+use Rattle.documents.specs.declared.fenced_model.FencedModel.{FencedModel}
 use Rattle.documents.specs.declared.run.Setting.TheVariants.{Machine}
-use Rattle.documents.specs.Parts.{ProgramPart, program_members, IsProgram, answer_members, is_observed, outcomes_array}
-use Rattle.documents.specs.Runs.{setting_member, TellsRun, runs_array}
+use Rattle.documents.specs.FencedModels.{machine_members}
+use Rattle.documents.specs.Parts.{ProgramPart, program_members, IsProgram, answer_members, costs_array, is_observed, outcomes_array}
+use Rattle.documents.specs.Runs.{TellsRun, runs_array}
 
 -- the version
 abbrev pub format_member : List ℕ
@@ -45,15 +48,23 @@ pub record IsDocument (source : Litmus Listing) (command : List ℕ) (members : 
   pub printed : text ≡ document_of (command_members command part ++ members)
   pub json : IsJsonLine text
 
+-- the same, where the members name lines of the text; of these lines nothing is said
+abbrev pub IsLinedDocument : Litmus Listing → List ℕ → (TextLines → List (List ℕ)) → List ℕ → Type 0
+IsLinedDocument source command members text = (lines : TextLines) × IsDocument source command (members lines) text
+
 -- of a placement: the gaps with their costs, the answer, and the text of the fenced program
 abbrev pub IsPlacedDocument : Litmus Listing → Shown → List ℕ → SetOfGaps → List ℕ → List ℕ → Type 0
 IsPlacedDocument source shown costs gaps fenced =
-    IsDocument source (codes "place") (answer_members source.program shown costs gaps ++ member (codes "fenced") (quoted fenced) ∷ [])
+    IsLinedDocument source (codes "place") (λ lines. answer_members source.program lines shown costs gaps ++ member (codes "fenced") (quoted fenced) ∷ [])
 
 -- of why the gaps of the answer are needed: the same with these texts of runs
 abbrev pub IsWhyDocument : Litmus Listing → Shown → List ℕ → SetOfGaps → List (List ℕ) → List ℕ → Type 0
 IsWhyDocument source shown costs gaps runs =
-    IsDocument source (codes "why") (answer_members source.program shown costs gaps ++ member (codes "runs") (array_text runs) ∷ [])
+    IsLinedDocument source (codes "why") (λ lines. answer_members source.program lines shown costs gaps ++ member (codes "runs") (array_text runs) ∷ [])
+
+-- of the gaps of a program, with their costs
+abbrev pub IsGapsDocument : Litmus Listing → List ℕ → List ℕ → Type 0
+IsGapsDocument source costs = IsLinedDocument source (codes "gaps") (λ lines. member (codes "gaps") (costs_array source.program.threads lines costs) ∷ [])
 
 -- of a run of a machine, of which all is shown
 pub record IsTraceDocument (source : Litmus Listing) (model : Model) (labels : List Label) (outcome : Outcome) (passed : SetOfGaps) (text : List ℕ) : Type 0 where
@@ -61,20 +72,24 @@ pub record IsTraceDocument (source : Litmus Listing) (model : Model) (labels : L
   pub told : TellsRun source All (Machine model) labels outcome passed run
   pub document : IsDocument source (codes "trace") (member (codes "run") run ∷ []) text
 
--- of outcomes in a machine: as far as they are shown, and what they show of the condition
-abbrev pub outcomes_members : Litmus Listing → Shown → Model → List Outcome → List (List ℕ)
-outcomes_members source shown model outcomes =
-    setting_member source.program (Machine model) ∷ member (codes "observed") (truth_text (is_observed shown))
+-- of outcomes: as far as they are shown, and what they show of the condition
+abbrev pub list_members : Litmus Listing → Shown → List Outcome → List (List ℕ)
+list_members source shown outcomes =
+    member (codes "observed") (truth_text (is_observed shown))
     ∷ member (codes "outcomes") (outcomes_array source.names shown outcomes) ∷ member (codes "observation") (quoted (frequency source.condition.formula outcomes))
     ∷ member (codes "holds") (truth_text (is_true_of source.condition.quantifier source.condition.formula outcomes)) ∷ []
 
-abbrev pub IsOutcomesDocument : Litmus Listing → Shown → Model → List Outcome → List ℕ → Type 0
-IsOutcomesDocument source shown model outcomes = IsDocument source (codes "outcomes") (outcomes_members source shown model outcomes)
+-- and in which machine
+abbrev pub outcomes_members : Litmus Listing → Shown → FencedModel → List Outcome → List (List ℕ)
+outcomes_members source shown machine outcomes = machine_members source.program machine ++ list_members source shown outcomes
+
+abbrev pub IsOutcomesDocument : Litmus Listing → Shown → FencedModel → List Outcome → List ℕ → Type 0
+IsOutcomesDocument source shown machine outcomes = IsDocument source (codes "outcomes") (outcomes_members source shown machine outcomes)
 
 -- of outcomes in a machine, with the labels of a run of each
-abbrev pub IsOutcomesWithRunsDocument : Litmus Listing → Shown → Model → List Outcome → List (List Label) → List ℕ → Type 0
-IsOutcomesWithRunsDocument source shown model outcomes runs =
-    IsDocument source (codes "outcomes") (outcomes_members source shown model outcomes ++ member (codes "runs") (runs_array runs) ∷ [])
+abbrev pub IsOutcomesWithRunsDocument : Litmus Listing → Shown → FencedModel → List Outcome → List (List Label) → List ℕ → Type 0
+IsOutcomesWithRunsDocument source shown machine outcomes runs =
+    IsDocument source (codes "outcomes") (outcomes_members source shown machine outcomes ++ member (codes "runs") (runs_array runs) ∷ [])
 
 -- what is said about a refusal beside its line: the file's name, the line and the column from 1, the word that stands there,
 -- and what is wrong

@@ -1,4 +1,5 @@
 pub mod Documents
+pub mod FencedModels
 pub mod Witnesses
 pub mod Parts
 pub mod Runs

@@ -14,6 +14,8 @@ use Rattle.tso_program.specs.Instructions.{number}
 use Rattle.tso_program.specs.Listings.{gap_place}
 use Rattle.tso_program.specs.Shown.{shows_register, shows_location}
 use Rattle.report.specs.Litmus.{Litmus}
+use Rattle.gap_list.specs.declared.text_lines.TextLines.{TextLines}
+use Rattle.gap_list.specs.Lines.{line_at}
 use Rattle.report.specs.Names.{TextNames, all_registers, register_name, is_named}
 use Rattle.json_text.specs.Texts.{quoted, array_text, member, object_text, truth_text}
 use Rattle.json_text.specs.Values.{IsJson}
@@ -75,13 +77,18 @@ outcomes_array names shown outcomes = array_text (map (outcome_array names shown
 
 -- ---- the answer
 
--- a gap with what it costs
-abbrev pub gap_value : List Thread → ℕ → ℕ → List ℕ
-gap_value threads gap cost = object_text (member (codes "gap") (quoted_gap threads gap) ∷ member (codes "cost") (decimal cost) ∷ [])
+-- the line of the text in which the instruction after a gap stands
+abbrev pub gap_line : TextLines → List Thread → ℕ → ℕ
+gap_line lines threads gap = option_map_or (λ place. line_at lines place.0 place.1) (gap_place threads gap) 0
+
+-- a gap with what it costs, and its line
+abbrev pub gap_value : List Thread → TextLines → ℕ → ℕ → List ℕ
+gap_value threads lines gap cost =
+    object_text (member (codes "gap") (quoted_gap threads gap) ∷ member (codes "cost") (decimal cost) ∷ member (codes "line") (decimal (gap_line lines threads gap)) ∷ [])
 
 -- each gap, ascending
-abbrev pub costs_array : List Thread → List ℕ → List ℕ
-costs_array threads costs = array_text (map (λ gap. gap_value threads gap (slice_index costs gap)) (range_with_len 0 (length costs)))
+abbrev pub costs_array : List Thread → TextLines → List ℕ → List ℕ
+costs_array threads lines costs = array_text (map (λ gap. gap_value threads lines gap (slice_index costs gap)) (range_with_len 0 (length costs)))
 
 -- whether values that are named tell outcomes apart
 abbrev pub is_observed : Shown → Bool
@@ -100,11 +107,21 @@ abbrev pub set_members : Listing → Shown → List ℕ → SetOfGaps → List (
 set_members p shown costs gaps =
     member (codes "set") (gaps_array p.threads gaps) ∷ member (codes "cost") (decimal (total costs gaps)) ∷ member (codes "observed") (truth_text (is_observed shown)) ∷ condition_members shown
 
-abbrev pub answer_value : Listing → Shown → List ℕ → SetOfGaps → List ℕ
-answer_value p shown costs gaps = object_text (set_members p shown costs gaps)
+-- what tells outcomes apart, in one word
+abbrev pub compared : Shown → List ℕ
+compared All = codes "all"
+compared (Only names) = codes "observed"
+compared (Truth f) = codes "condition"
 
-abbrev pub answer_members : Listing → Shown → List ℕ → SetOfGaps → List (List ℕ)
-answer_members p shown costs gaps = member (codes "gaps") (costs_array p.threads costs) ∷ member (codes "answer") (answer_value p shown costs gaps) ∷ []
+abbrev pub compares_member : Shown → List ℕ
+compares_member shown = member (codes "compares") (quoted (compared shown))
+
+abbrev pub answer_value : Listing → Shown → List ℕ → SetOfGaps → List ℕ
+answer_value p shown costs gaps = object_text (set_members p shown costs gaps ++ compares_member shown ∷ [])
+
+abbrev pub answer_members : Listing → TextLines → Shown → List ℕ → SetOfGaps → List (List ℕ)
+answer_members p lines shown costs gaps =
+    member (codes "gaps") (costs_array p.threads lines costs) ∷ member (codes "answer") (answer_value p shown costs gaps) ∷ []
 
 -- ---- the program
 

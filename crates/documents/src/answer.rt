@@ -1,33 +1,47 @@
 //! The answer of a placement.
 ghost use Rattle.std.specs.Prelude.{◌≡◌, ◌++◌, ◌<◌, ◌≤◌, IfOk, OnOk, length};
 ghost use Rattle.gap_sets.specs.Order.{total};
-ghost use Rattle.documents.specs.Parts.{gap_value, costs_array, is_observed, condition_members, set_members, answer_value, answer_members};
+ghost use Rattle.documents.specs.Parts.{gap_value, costs_array, is_observed, condition_members, set_members, compared, answer_value, answer_members};
 
-use crate::named::{gap_name, gap_names};
+use crate::lined::LinedLitmus;
+use crate::named::{gap_line, gap_name, gap_names};
+use gap_list::TextLines;
 use gap_sets::{Costs, GapSet};
 use json_text::{JsonArray, JsonObject, JsonText};
-use litmus_text::Litmus;
 use std::alloc::{AllocError, Global};
 use tso_program::{Program, Shown};
 
-/// A gap with what it costs.
-fn gap_value(alloc: Global, program: &Program, gap: u8, cost: u32) -> Result<JsonText, AllocError>
-    ensures { IfOk result (λ json. json ≡ gap_value program.now.threads gap cost) }
+/// A gap with what it costs, and its line.
+fn gap_value(
+    alloc: Global,
+    program: &Program,
+    lines: &TextLines,
+    gap: u8,
+    cost: u32,
+) -> Result<JsonText, AllocError>
+    ensures { IfOk result (λ json. json ≡ gap_value program.now.threads lines.now gap cost) }
 {
+    let line = gap_line(lines, program, gap);
     let mut object = JsonObject::new(alloc);
     object.add("gap", gap_name(alloc, program, gap)?)?;
     object.add("cost", JsonText::number(alloc, u64::from(cost))?)?;
+    object.add("line", JsonText::number(alloc, u64::from(line))?)?;
     object.into_json()
 }
 
 /// Each gap with what it costs, ascending.
-fn costs_array(alloc: Global, program: &Program, costs: &[u32]) -> Result<JsonText, AllocError>
+pub(crate) fn costs_array(
+    alloc: Global,
+    program: &Program,
+    lines: &TextLines,
+    costs: &[u32],
+) -> Result<JsonText, AllocError>
     requires { length costs.now ≤ 255 }
-    ensures { IfOk result (λ json. json ≡ costs_array program.now.threads costs.now) }
+    ensures { IfOk result (λ json. json ≡ costs_array program.now.threads lines.now costs.now) }
 {
     let mut array = JsonArray::new(alloc);
     for (gap, cost) in costs.iter().enumerate() {
-        array.add(gap_value(alloc, program, gap as u8, *cost)?)?;
+        array.add(gap_value(alloc, program, lines, gap as u8, *cost)?)?;
     }
     array.into_json()
 }
@@ -70,7 +84,18 @@ fn add_set(
     add_condition(alloc, object, shown)
 }
 
-/// The set that is the answer, and what it costs.
+/// What tells outcomes apart, in one word.
+fn compared(shown: &Shown) -> &'static str
+    ensures { result.now ≡ compared shown.now }
+{
+    match shown {
+        Shown::All => "all",
+        Shown::Only(_) => "observed",
+        Shown::Truth(_) => "condition",
+    }
+}
+
+/// The set that is the answer, what it costs, and what is compared.
 fn answer_value(
     alloc: Global,
     program: &Program,
@@ -82,6 +107,8 @@ fn answer_value(
 {
     let mut object = JsonObject::new(alloc);
     add_set(alloc, &mut object, program, shown, costs, set)?;
+    let word = JsonText::string(alloc, compared(shown).as_bytes())?;
+    object.add("compares", word)?;
     object.into_json()
 }
 
@@ -89,14 +116,15 @@ fn answer_value(
 pub(crate) fn add_answer(
     alloc: Global,
     object: &mut JsonObject,
-    litmus: &Litmus<Program>,
+    source: &LinedLitmus<'_>,
     shown: &Shown,
     costs: &Costs,
     set: &GapSet,
 ) -> Result<(), AllocError>
-    ensures { OnOk result (object.new ≡ object.old ++ answer_members litmus.now.program shown.now costs.now set.now) }
+    ensures { OnOk result (object.new ≡ object.old ++ answer_members source.now.litmus.now.program source.now.lines.now shown.now costs.now set.now) }
 {
-    let program = &litmus.program;
-    object.add("gaps", costs_array(alloc, program, costs.as_slice())?)?;
+    let program = &source.litmus.program;
+    let gaps = costs_array(alloc, program, source.lines, costs.as_slice())?;
+    object.add("gaps", gaps)?;
     object.add("answer", answer_value(alloc, program, shown, costs, set)?)
 }

@@ -4,13 +4,15 @@ ghost use Rattle.json_text.specs.Safe.{IsSafe};
 ghost use Rattle.json_text.specs.Texts.{quoted};
 ghost use Rattle.json_text.specs.Values.{IsJsonLine};
 ghost use Rattle.report.specs.Observations.{frequency};
-ghost use Rattle.documents.specs.Documents.{document_of, format_member, IsWhyDocument, IsPlacedDocument, IsTraceDocument, outcomes_members, IsOutcomesDocument, IsOutcomesWithRunsDocument, TellsHeading, TellsMembers};
+ghost use Rattle.documents.specs.Documents.{document_of, format_member, list_members, IsWhyDocument, IsPlacedDocument, IsTraceDocument, outcomes_members, IsOutcomesDocument, IsOutcomesWithRunsDocument, TellsHeading, TellsMembers};
 
 use crate::answer::{add_answer, is_observed};
+use crate::fenced_model::{FencedModel, add_fenced_model};
 use crate::label::runs_array;
+use crate::lined::LinedLitmus;
 use crate::outcome::outcomes_array;
 use crate::program::add_program;
-use crate::run::{Setting, add_model, run_value};
+use crate::run::{Setting, run_value};
 use cert_forest::Runs;
 use gap_sets::{Costs, GapSet};
 use json_text::{JsonArray, JsonObject, JsonText};
@@ -32,15 +34,15 @@ pub(crate) fn add_format(alloc: Global, object: &mut JsonObject) -> Result<(), A
 pub(crate) fn begun(
     alloc: Global,
     command: &[u8],
-    litmus: &Litmus<Program>,
+    source: &LinedLitmus<'_>,
 ) -> Result<JsonObject, AllocError>
-    ensures { IfOk result (TellsHeading litmus.now command.now) }
+    ensures { IfOk result (TellsHeading source.now.litmus.now command.now) }
 {
     let mut object = JsonObject::new(alloc);
     add_format(alloc, &mut object)?;
     let name = JsonText::string(alloc, command)?;
     object.add("command", name)?;
-    add_program(alloc, &mut object, litmus)?;
+    add_program(alloc, &mut object, source)?;
     Ok(object)
 }
 
@@ -59,18 +61,18 @@ pub(crate) fn document_of(object: JsonObject) -> Result<Vec<u8>, AllocError>
 /// The document of a placement, with the program with its fences in canonical text.
 pub fn placed_document(
     alloc: Global,
-    litmus: &Litmus<Program>,
+    source: &LinedLitmus<'_>,
     shown: &Shown,
     costs: &Costs,
     set: &GapSet,
     fenced: &[u8],
 ) -> Result<Vec<u8>, AllocError>
-    ensures told { IfOk result (λ document. IsPlacedDocument litmus.now shown.now costs.now set.now fenced.now document.items) }
+    ensures told { IfOk result (λ document. IsPlacedDocument source.now.litmus.now shown.now costs.now set.now fenced.now document.items) }
     ensures json { IfOk result (λ document. IsJsonLine document.items) }
     ensures safe { IfOk result (λ document. IsSafe document.items) }
 {
-    let mut object = begun(alloc, b"place", litmus)?;
-    add_answer(alloc, &mut object, litmus, shown, costs, set)?;
+    let mut object = begun(alloc, b"place", source)?;
+    add_answer(alloc, &mut object, source, shown, costs, set)?;
     let text = JsonText::string(alloc, fenced)?;
     object.add("fenced", text)?;
     document_of(object)
@@ -79,18 +81,18 @@ pub fn placed_document(
 /// The document of why the gaps of an answer are needed, with a run for each of them.
 pub fn why_document(
     alloc: Global,
-    litmus: &Litmus<Program>,
+    source: &LinedLitmus<'_>,
     shown: &Shown,
     costs: &Costs,
     set: &GapSet,
     runs: JsonArray,
 ) -> Result<Vec<u8>, AllocError>
-    ensures told { IfOk result (λ document. IsWhyDocument litmus.now shown.now costs.now set.now runs document.items) }
+    ensures told { IfOk result (λ document. IsWhyDocument source.now.litmus.now shown.now costs.now set.now runs document.items) }
     ensures json { IfOk result (λ document. IsJsonLine document.items) }
     ensures safe { IfOk result (λ document. IsSafe document.items) }
 {
-    let mut object = begun(alloc, b"why", litmus)?;
-    add_answer(alloc, &mut object, litmus, shown, costs, set)?;
+    let mut object = begun(alloc, b"why", source)?;
+    add_answer(alloc, &mut object, source, shown, costs, set)?;
     let runs = runs.into_json()?;
     object.add("runs", runs)?;
     document_of(object)
@@ -99,18 +101,18 @@ pub fn why_document(
 /// The document of a run of a machine with no gap fenced, of which all is shown.
 pub fn trace_document(
     alloc: Global,
-    litmus: &Litmus<Program>,
+    source: &LinedLitmus<'_>,
     model: Model,
     steps: &[Step],
     ended: &Ended,
 ) -> Result<Vec<u8>, AllocError>
-    ensures told { IfOk result (λ document. IsTraceDocument litmus.now model (map (λ step. step.label) steps.now) ended.now.outcome ended.now.passed document.items) }
+    ensures told { IfOk result (λ document. IsTraceDocument source.now.litmus.now model (map (λ step. step.label) steps.now) ended.now.outcome ended.now.passed document.items) }
     ensures json { IfOk result (λ document. IsJsonLine document.items) }
     ensures safe { IfOk result (λ document. IsSafe document.items) }
 {
     let setting = Setting::Machine(model);
-    let told = run_value(alloc, litmus, &Shown::All, setting, steps, ended)?;
-    let mut object = begun(alloc, b"trace", litmus)?;
+    let told = run_value(alloc, source.litmus, &Shown::All, setting, steps, ended)?;
+    let mut object = begun(alloc, b"trace", source)?;
     object.add("run", told)?;
     document_of(object)
 }
@@ -127,19 +129,17 @@ fn observation(
     JsonText::string(alloc, word.as_bytes())
 }
 
-/// Adds the machine, its outcomes as far as they are shown, and what they show of the condition.
-fn add_outcomes(
+/// Adds outcomes as far as they are shown, and what they show of the condition.
+fn add_list(
     alloc: Global,
     object: &mut JsonObject,
     litmus: &Litmus<Program>,
     shown: &Shown,
-    model: Model,
     outcomes: &[Outcome],
 ) -> Result<(), AllocError>
-    ensures { OnOk result (object.new ≡ object.old ++ outcomes_members litmus.now shown.now model outcomes.now) }
+    ensures { OnOk result (object.new ≡ object.old ++ list_members litmus.now shown.now outcomes.now) }
 {
     let condition = &litmus.condition;
-    add_model(alloc, object, model)?;
     object.add("observed", JsonText::truth(alloc, is_observed(shown))?)?;
     let list = outcomes_array(alloc, &litmus.names, shown, outcomes)?;
     object.add("outcomes", list)?;
@@ -151,48 +151,49 @@ fn add_outcomes(
 /// The object of the document of a program's outcomes in a machine.
 fn outcomes_object(
     alloc: Global,
-    litmus: &Litmus<Program>,
+    source: &LinedLitmus<'_>,
     shown: &Shown,
-    model: Model,
+    machine: FencedModel,
     outcomes: &[Outcome],
 ) -> Result<JsonObject, AllocError>
-    ensures { IfOk result (TellsMembers litmus.now (codes "outcomes") (outcomes_members litmus.now shown.now model outcomes.now)) }
+    ensures { IfOk result (TellsMembers source.now.litmus.now (codes "outcomes") (outcomes_members source.now.litmus.now shown.now machine outcomes.now)) }
 {
-    let mut object = begun(alloc, b"outcomes", litmus)?;
-    add_outcomes(alloc, &mut object, litmus, shown, model, outcomes)?;
+    let mut object = begun(alloc, b"outcomes", source)?;
+    add_fenced_model(alloc, &mut object, &source.litmus.program, machine)?;
+    add_list(alloc, &mut object, source.litmus, shown, outcomes)?;
     Ok(object)
 }
 
 /// The document of a program's outcomes in a machine.
 pub fn outcomes_document(
     alloc: Global,
-    litmus: &Litmus<Program>,
+    source: &LinedLitmus<'_>,
     shown: &Shown,
-    model: Model,
+    machine: FencedModel,
     outcomes: &[Outcome],
 ) -> Result<Vec<u8>, AllocError>
-    ensures told { IfOk result (λ document. IsOutcomesDocument litmus.now shown.now model outcomes.now document.items) }
+    ensures told { IfOk result (λ document. IsOutcomesDocument source.now.litmus.now shown.now machine outcomes.now document.items) }
     ensures json { IfOk result (λ document. IsJsonLine document.items) }
     ensures safe { IfOk result (λ document. IsSafe document.items) }
 {
-    let object = outcomes_object(alloc, litmus, shown, model, outcomes)?;
+    let object = outcomes_object(alloc, source, shown, machine, outcomes)?;
     document_of(object)
 }
 
 /// The document of a program's outcomes in a machine, with the labels of a run of each.
 pub fn outcomes_with_runs_document(
     alloc: Global,
-    litmus: &Litmus<Program>,
+    source: &LinedLitmus<'_>,
     shown: &Shown,
-    model: Model,
+    machine: FencedModel,
     outcomes: &[Outcome],
     runs: &Runs,
 ) -> Result<Vec<u8>, AllocError>
-    ensures told { IfOk result (λ document. IsOutcomesWithRunsDocument litmus.now shown.now model outcomes.now runs.now document.items) }
+    ensures told { IfOk result (λ document. IsOutcomesWithRunsDocument source.now.litmus.now shown.now machine outcomes.now runs.now document.items) }
     ensures json { IfOk result (λ document. IsJsonLine document.items) }
     ensures safe { IfOk result (λ document. IsSafe document.items) }
 {
-    let mut object = outcomes_object(alloc, litmus, shown, model, outcomes)?;
+    let mut object = outcomes_object(alloc, source, shown, machine, outcomes)?;
     let runs = runs_array(alloc, runs)?;
     object.add("runs", runs)?;
     document_of(object)

@@ -10,7 +10,10 @@
 mod answer;
 mod document;
 mod execution;
+mod fenced_model;
+mod gaps;
 mod label;
+mod lined;
 mod named;
 mod outcome;
 mod program;
@@ -22,6 +25,9 @@ mod witness;
 pub use document::{
     outcomes_document, outcomes_with_runs_document, placed_document, trace_document, why_document,
 };
+pub use fenced_model::FencedModel;
+pub use gaps::gaps_document;
+pub use lined::LinedLitmus;
 pub use refusal::{RefusalMessage, refusal_document};
 pub use run::{Setting, run_value};
 pub use witness::{Sought, witness_document};

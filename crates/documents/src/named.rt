@@ -1,8 +1,9 @@
 //! Values with the names of a text.
 ghost use Rattle.std.specs.Prelude.{◌≡◌, [], IfOk, slice_index_or};
 ghost use Rattle.json_text.specs.Texts.{quoted};
-ghost use Rattle.documents.specs.Parts.{gap_name, gaps_array};
+ghost use Rattle.documents.specs.Parts.{gap_line, gap_name, gaps_array};
 
+use gap_list::TextLines;
 use gap_sets::GapSet;
 use json_text::{JsonArray, JsonObject, JsonText};
 use litmus_text::{NameTable, location_name};
@@ -48,6 +49,16 @@ pub(crate) fn gap_name(alloc: Global, program: &Program, gap: u8) -> Result<Json
             JsonText::string(alloc, name.as_bytes())
         }
         None => JsonText::string(alloc, b""),
+    }
+}
+
+/// The line of the text in which the instruction after a gap stands.
+pub(crate) fn gap_line(lines: &TextLines, program: &Program, gap: u8) -> u32
+    ensures { result ≡ gap_line lines.now program.now.threads gap }
+{
+    match program.gap_place(gap) {
+        Some((thread, k)) => lines.line(thread, k as usize),
+        None => 0,
     }
 }
 

@@ -3,6 +3,7 @@ ghost use Rattle.std.specs.Prelude.{◌≡◌, IfOk, OnOk, map};
 ghost use Rattle.json_text.specs.Texts.{quoted, array_text};
 ghost use Rattle.documents.specs.Parts.{TellsProgram};
 
+use crate::lined::LinedLitmus;
 use crate::named::location;
 use gap_sets::GapSet;
 use json_text::{JsonArray, JsonObject, JsonText};
@@ -129,31 +130,33 @@ fn code_text(
     JsonText::string(alloc, &text)
 }
 
-/// An instruction of a thread with its labels.
+/// An instruction of a thread with its labels and its line.
 fn instruction(
     alloc: Global,
-    litmus: &Litmus<Program>,
+    source: &LinedLitmus<'_>,
     labels: &[CodeLabel],
     thread: u8,
     place: usize,
 ) -> Result<JsonText, AllocError> {
+    let line = source.lines.line(thread, place);
     let mut object = JsonObject::new(alloc);
     object.add("labels", labels_at(alloc, labels, place)?)?;
-    object.add("text", code_text(alloc, litmus, thread, place)?)?;
+    object.add("text", code_text(alloc, source.litmus, thread, place)?)?;
+    object.add("line", JsonText::number(alloc, u64::from(line))?)?;
     object.into_json()
 }
 
 /// The instructions of a thread.
 fn instructions(
     alloc: Global,
-    litmus: &Litmus<Program>,
+    source: &LinedLitmus<'_>,
     labels: &[CodeLabel],
     thread: u8,
     count: usize,
 ) -> Result<JsonText, AllocError> {
     let mut array = JsonArray::new(alloc);
     for place in 0..count {
-        array.add(instruction(alloc, litmus, labels, thread, place)?)?;
+        array.add(instruction(alloc, source, labels, thread, place)?)?;
     }
     array.into_json()
 }
@@ -161,28 +164,28 @@ fn instructions(
 /// A thread: its instructions, and the labels of its end.
 fn thread_value(
     alloc: Global,
-    litmus: &Litmus<Program>,
+    source: &LinedLitmus<'_>,
     thread: u8,
     count: usize,
 ) -> Result<JsonText, AllocError> {
-    let labels: &[CodeLabel] = match litmus.labels.as_slice().get(thread as usize) {
+    let labels: &[CodeLabel] = match source.litmus.labels.as_slice().get(thread as usize) {
         Some(labels) => labels.as_slice(),
         None => &[],
     };
     let mut object = JsonObject::new(alloc);
     object.add(
         "instructions",
-        instructions(alloc, litmus, labels, thread, count)?,
+        instructions(alloc, source, labels, thread, count)?,
     )?;
     object.add("end", labels_at(alloc, labels, count)?)?;
     object.into_json()
 }
 
-fn thread_values(alloc: Global, litmus: &Litmus<Program>) -> Result<JsonText, AllocError> {
+fn thread_values(alloc: Global, source: &LinedLitmus<'_>) -> Result<JsonText, AllocError> {
     let mut array = JsonArray::new(alloc);
-    for (t, thread) in litmus.program.threads().iter().enumerate() {
+    for (t, thread) in source.litmus.program.threads().iter().enumerate() {
         let number = u8::try_from(t).unwrap_or(u8::MAX);
-        array.add(thread_value(alloc, litmus, number, thread.code.len())?)?;
+        array.add(thread_value(alloc, source, number, thread.code.len())?)?;
     }
     array.into_json()
 }
@@ -191,10 +194,11 @@ fn thread_values(alloc: Global, litmus: &Litmus<Program>) -> Result<JsonText, Al
 pub(crate) fn add_program(
     alloc: Global,
     object: &mut JsonObject,
-    litmus: &Litmus<Program>,
+    source: &LinedLitmus<'_>,
 ) -> Result<(), AllocError>
-    ensures { OnOk result (TellsProgram litmus.now object.old object.new) }
+    ensures { OnOk result (TellsProgram source.now.litmus.now object.old object.new) }
 {
+    let litmus = source.litmus;
     let names = &litmus.names;
     let threads = litmus.program.threads().len();
     object.add("test", JsonText::string(alloc, litmus.name.as_slice())?)?;
@@ -202,5 +206,5 @@ pub(crate) fn add_program(
     object.add("locations", location_names(alloc, names)?)?;
     object.add("registers", all_register_names(alloc, names, threads)?)?;
     object.add("initial", initial_values(alloc, litmus)?)?;
-    object.add("threads", thread_values(alloc, litmus)?)
+    object.add("threads", thread_values(alloc, source)?)
 }

@@ -6,11 +6,11 @@ ghost use Rattle.json_text.specs.Values.{IsJsonLine};
 ghost use Rattle.documents.specs.Witnesses.{run_or_null, sought_members, IsWitnessDocument};
 
 use crate::document::{begun, document_of};
+use crate::lined::LinedLitmus;
 use crate::named::gap_names;
 use crate::run::add_model;
 use gap_sets::GapSet;
 use json_text::{JsonObject, JsonText};
-use litmus_text::Litmus;
 use std::alloc::{AllocError, Global};
 use tso_machine::Model;
 use tso_program::Program;
@@ -50,17 +50,17 @@ fn add_sought(
 /// The document of a run that is sought, if there is one.
 pub fn witness_document(
     alloc: Global,
-    litmus: &Litmus<Program>,
+    source: &LinedLitmus<'_>,
     sought: Sought,
     run: Option<JsonText>,
 ) -> Result<Vec<u8>, AllocError>
-    ensures told { IfOk result (λ document. IsWitnessDocument litmus.now sought run document.items) }
+    ensures told { IfOk result (λ document. IsWitnessDocument source.now.litmus.now sought run document.items) }
     ensures json { IfOk result (λ document. IsJsonLine document.items) }
     ensures safe { IfOk result (λ document. IsSafe document.items) }
 {
     let run = run_or_null(alloc, run)?;
-    let mut object = begun(alloc, b"witness", litmus)?;
-    add_sought(alloc, &mut object, &litmus.program, sought)?;
+    let mut object = begun(alloc, b"witness", source)?;
+    add_sought(alloc, &mut object, &source.litmus.program, sought)?;
     object.add("run", run)?;
     document_of(object)
 }

@@ -5,3 +5,4 @@ pub mod Told
 pub mod Delivered
 pub mod PrintedRefusals
 pub mod OutcomeLines
+pub mod Surveyed

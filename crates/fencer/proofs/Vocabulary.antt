@@ -17,9 +17,9 @@ pub use Rattle.tso_machine.specs.declared.label.Label.{Label}
 pub use Rattle.tso_program.specs.declared.shown.Shown.{Shown}
 pub use Rattle.fencer.specs.Answers.{HasTooLongLine, IsOutput, IsReply, IsReplyToInput, KeepFilesOf, KeepOtherFiles, LineAsksToWrite, ReadsFor, ReadsForInput, ReadsForWords, after_line, answer}
 pub use Rattle.fencer.specs.Answers.{by_line, line_alone, no_command, no_line, nothing, of_job, version}
-pub use Rattle.fencer.specs.Deliveries.{AreTwoNames, HoldsFile, KeepFiles, KeepFilesBut, kept, not_kept}
+pub use Rattle.fencer.specs.Deliveries.{AreTwoNames, HoldsFile, KeepFiles, KeepFilesBut, KeepFilesButThree, kept, not_kept}
 pub use Rattle.fencer.specs.Outcomes.{AreOutcomes, HasNoList, ListsOutcomes, ListsRuns, PrintsOutcomes, TellsOutcomes, outcome_lines, run_line_at}
-pub use Rattle.fencer.specs.Placements.{no_texts, of_texts, placed, refused_for, text_fault_line}
+pub use Rattle.fencer.specs.Placements.{all, no_texts, of_texts, placed, refused_for, text_fault_line, unkept_for, unkept_line}
 pub use Rattle.fencer.specs.Refusals.{IsTold, refusal_line}
 pub use Rattle.fencer.specs.Refused.{PrintsRefusal, RefusalSays}
 pub use Rattle.fencer.specs.Replays.{HasNoRun, IsReplay, ShowsRun, label_words_text}

@@ -1,6 +1,6 @@
 -- What the program prints for a command line and an input, and with which status. `files` says what files held before, and `left`
 -- what they hold afterwards, where that is known.
-use Rattle.std.specs.Prelude.{◌≡◌, ◌⊎◌, ℕ, ◌+◌, ◌≤◌, true, false, List, [], ◌∷◌, Option, Some, codes, length, string_bytes}
+use Rattle.std.specs.Prelude.{◌≡◌, ◌⊎◌, ℕ, ◌+◌, ◌≤◌, true, false, List, [], ◌∷◌, Option, Some, codes, length, map, string_bytes}
 use Rattle.clap.specs.Words.{Text}
 use Rattle.program_streams.specs.declared.fault.FileFault.{FileFault}
 use Rattle.program_streams.specs.declared.files.TheConstants.{TEXT_LIMIT}
@@ -9,7 +9,7 @@ use Rattle.program_streams.specs.Streams.{IsReadFault, TakesLine, TakesOfLine, T
 use Rattle.program_streams.specs.Words.{words_of}
 use Rattle.program_streams.specs.FileLines.{file_line}
 use Rattle.program_streams.specs.Versions.{asks_version, version_line}
-use Rattle.fencer_words.specs.declared.job.Job.{Job, TheVariants.Replay, TheVariants.Trace, TheVariants.Outcomes, TheVariants.Place, TheVariants.Why, TheVariants.Gaps, TheVariants.Witness}
+use Rattle.fencer_words.specs.declared.job.Job.{Job, TheVariants.Replay, TheVariants.Trace, TheVariants.Outcomes, TheVariants.Place, TheVariants.Why, TheVariants.Gaps, TheVariants.Witness, TheVariants.Survey}
 use Rattle.fencer_words.specs.CommandFiles.{files_of}
 use Rattle.fencer_words.specs.CommandLines.{AsksFor, IsNoCommand}
 use Rattle.fencer.specs.Lines.{EndsLine}
@@ -17,6 +17,7 @@ use Rattle.fencer.specs.Outcomes.{AreOutcomes}
 use Rattle.fencer.specs.GapTexts.{AreGaps}
 use Rattle.fencer.specs.Placements.{IsPlaced}
 use Rattle.fencer.specs.Replays.{IsReplay, label_words_text}
+use Rattle.fencer.specs.Surveys.{IsSurvey, ReadsOfSomeFiles}
 use Rattle.fencer.specs.Traces.{IsTrace}
 use Rattle.fencer.specs.Whys.{IsExplained}
 use Rattle.fencer.specs.Witnesses.{IsWitnessShown}
@@ -32,6 +33,7 @@ IsAnswer (Place asked) input files left = IsPlaced asked input files left
 IsAnswer (Why asked) input files left = IsExplained asked input files left
 IsAnswer (Gaps asked) input files left = AreGaps asked input files
 IsAnswer (Witness asked) input files left = IsWitnessShown asked input files left
+IsAnswer (Survey asked) input files left = IsSurvey asked input files
 
 -- the first line of the input has more bytes than the limit
 abbrev pub HasTooLongLine : Option (List ℕ) → Type 0
@@ -56,20 +58,25 @@ IsOutput (word ∷ words) input files left = IsReply (word ∷ words) input file
 
 -- ---- what is read of the input
 
--- the litmus file of a job
-abbrev pub litmus_of : Job → List ℕ
-litmus_of (Replay asked) = string_bytes asked.litmus
-litmus_of (Trace asked) = string_bytes asked.run.litmus
-litmus_of (Outcomes asked) = string_bytes asked.litmus
-litmus_of (Place asked) = string_bytes asked.litmus
-litmus_of (Why asked) = string_bytes asked.placement.litmus
-litmus_of (Gaps asked) = string_bytes asked.litmus
-litmus_of (Witness asked) = string_bytes asked.litmus
+-- no more than shows that the file of this name is too long
+abbrev pub ReadsOfLitmus : List ℕ → Option (List ℕ) → Option (List ℕ) → Type 0
+ReadsOfLitmus = ReadsOfInput TEXT_LIMIT
 
--- for words: nothing; or, where they ask for a job, no more than shows that its litmus file is too long
+-- for a job: no more than shows that its litmus file is too long; for a survey, file by file
+abbrev pub ReadsOfJob : Job → Option (List ℕ) → Option (List ℕ) → Type 0
+ReadsOfJob (Replay asked) = ReadsOfLitmus (string_bytes asked.litmus)
+ReadsOfJob (Trace asked) = ReadsOfLitmus (string_bytes asked.run.litmus)
+ReadsOfJob (Outcomes asked) = ReadsOfLitmus (string_bytes asked.litmus)
+ReadsOfJob (Place asked) = ReadsOfLitmus (string_bytes asked.litmus)
+ReadsOfJob (Why asked) = ReadsOfLitmus (string_bytes asked.placement.litmus)
+ReadsOfJob (Gaps asked) = ReadsOfLitmus (string_bytes asked.litmus)
+ReadsOfJob (Witness asked) = ReadsOfLitmus (string_bytes asked.litmus)
+ReadsOfJob (Survey asked) = ReadsOfSomeFiles (map string_bytes asked.files.items)
+
+-- for words: nothing; or, where they ask for a job, what is read for it
 pub data ReadsForWords (words : List Text) (old new : Option (List ℕ)) : Type 0 where
   nothing : new ≡ old → ReadsForWords words old new
-  of_job : (job : Job) → AsksFor words job → ReadsOfInput TEXT_LIMIT (litmus_of job) old new → ReadsForWords words old new
+  of_job : (job : Job) → AsksFor words job → ReadsOfJob job old new → ReadsForWords words old new
 
 -- for an input alone: no more than shows that its first line is too long; or that line, and after it what is read for its words
 pub data ReadsForInput (old new : Option (List ℕ)) : Type 0 where
@@ -87,7 +94,7 @@ ReadsFor (word ∷ words) old new = ReadsForWords (word ∷ words) old new
 pub record AsksToWrite (words : List Text) (name : List ℕ) : Type 0 where
   pub job : Job
   pub asked : AsksFor words job
-  pub named : ((files_of job).first ≡ Some name) ⊎ ((files_of job).second ≡ Some name)
+  pub named : ((files_of job).first ≡ Some name) ⊎ (((files_of job).second ≡ Some name) ⊎ ((files_of job).third ≡ Some name))
 
 -- each file in which the words ask for nothing holds what it held
 abbrev pub KeepFilesOf : List Text → (List ℕ → Option (List ℕ)) → (List ℕ → Option (List ℕ)) → Type 0

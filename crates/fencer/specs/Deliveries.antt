@@ -15,6 +15,10 @@ KeepFiles named files left = (name : List ℕ) → (named ≡ Some name → ⊥)
 abbrev pub KeepFilesBut : Option (List ℕ) → Option (List ℕ) → (List ℕ → Option (List ℕ)) → (List ℕ → Option (List ℕ)) → Type 0
 KeepFilesBut first second files left = (name : List ℕ) → (first ≡ Some name → ⊥) → (second ≡ Some name → ⊥) → left name ≡ files name
 
+-- each file but those of these three names, where there are such, holds what it held
+abbrev pub KeepFilesButThree : Option (List ℕ) → Option (List ℕ) → Option (List ℕ) → (List ℕ → Option (List ℕ)) → (List ℕ → Option (List ℕ)) → Type 0
+KeepFilesButThree first second third files left = (name : List ℕ) → (first ≡ Some name → ⊥) → (second ≡ Some name → ⊥) → (third ≡ Some name → ⊥) → left name ≡ files name
+
 -- each file holds what it held
 abbrev pub KeepAllFiles : (List ℕ → Option (List ℕ)) → (List ℕ → Option (List ℕ)) → Type 0
 KeepAllFiles files left = (name : List ℕ) → left name ≡ files name

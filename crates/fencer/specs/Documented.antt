@@ -12,10 +12,10 @@ abbrev pub IsPageFor : Option (List ℕ) → List ℕ → List ℕ → Type 0
 IsPageFor None document page = ⊤
 IsPageFor (Some name) document page = page ≡ page_text document
 
--- What is delivered of a text, with status 0: it or its document is printed, and the first file that is written, where it is named,
--- has the page of the document. Of the graph in the second file nothing is said.
-pub record DeliversDocument (json : Bool) (page : Option (List ℕ)) (text document : List ℕ) (answer : Answer) : Type 0 where
+-- What is delivered of a text, with this status: it or its document is printed, and the first file that is written, where it is
+-- named, has the page of the document. Of the graph in the second file nothing is said.
+pub record DeliversDocument (status : ℕ) (json : Bool) (page : Option (List ℕ)) (text document : List ℕ) (answer : Answer) : Type 0 where
   pub lines : answer.lines.items ≡ printed json text document
-  pub ends : answer.status ≡ 0
+  pub ends : answer.status ≡ status
   pub as_asked : answer.json ≡ json
   pub paged : IsPageFor page document answer.first

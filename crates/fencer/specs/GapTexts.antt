@@ -7,6 +7,7 @@ use Rattle.litmus_text.specs.Litmus.{Litmus}
 use Rattle.litmus_text.specs.Texts.{IsLitmus}
 use Rattle.litmus_text.specs.CostTexts.{IsCostText}
 use Rattle.litmus_text.specs.GivenCosts.{AreGiven}
+use Rattle.documents.specs.Documents.{IsGapsDocument}
 use Rattle.gap_list.specs.CostFiles.{cost_file_text}
 use Rattle.gap_list.specs.Lists.{IsGapList}
 use Rattle.placed_text.specs.declared.fault.TextFault.{TextFault}
@@ -16,6 +17,7 @@ use Rattle.fencer_words.specs.declared.job.GapQuery.{GapQuery}
 use Rattle.fencer_words.specs.CommandFiles.{name_of}
 use Rattle.fencer.specs.InputTexts.{AreTexts, HasNoTexts}
 use Rattle.fencer.specs.Placements.{text_fault_line}
+use Rattle.fencer.specs.Refused.{RefusalSays}
 
 -- the costs that the list names: those of a text, where one is given
 abbrev pub costs_shown : Option (List ℕ) → List ℕ → Option (List ℕ)
@@ -27,13 +29,18 @@ abbrev pub IsGapText : Bool → Litmus Listing → Option (List ℕ) → List �
 IsGapText false source text costs lines = IsGapList source (costs_shown text costs) lines
 IsGapText true source text costs lines = (lines ≡ cost_file_text source.program.threads costs) × IsCostText lines source.program.threads costs
 
+-- the same, or the document of the gaps and their costs
+abbrev pub TellsGaps : Bool → Bool → Litmus Listing → Option (List ℕ) → List ℕ → List ℕ → Type 0
+TellsGaps false template source text costs lines = IsGapText template source text costs lines
+TellsGaps true template source text costs lines = IsGapsDocument source costs lines
+
 -- the lines are those of the gaps of the program that the litmus text spells, with these costs
-pub record PrintsGaps (template : Bool) (litmus : List ℕ) (costs : Option (List ℕ)) (lines : List ℕ) : Type 0 where
+pub record PrintsGaps (q : GapQuery) (litmus : List ℕ) (costs : Option (List ℕ)) (lines : List ℕ) : Type 0 where
   pub source : Litmus Listing
   pub of_text : IsLitmus litmus source
   pub gap_costs : List ℕ
   pub given : AreGiven source.program costs gap_costs
-  pub printed : IsGapText template source costs gap_costs lines
+  pub printed : TellsGaps q.json q.template source costs gap_costs lines
 
 -- why there are no such lines: the litmus text is judged first, then the costs
 abbrev pub HasNoGaps : List ℕ → Option (List ℕ) → TextFault → Type 0
@@ -43,12 +50,12 @@ HasNoGaps litmus costs fault.Workers = ⊥
 HasNoGaps litmus costs fault.OutOfMemory = ⊤
 
 -- the answer to texts, with its status; or why there is none
-pub data AreGapsOfTexts (template : Bool) (litmus : List ℕ) (costs : Option (List ℕ)) : ℕ → List ℕ → Type 0 where
-  listed : (lines : List ℕ) → PrintsGaps template litmus costs lines → AreGapsOfTexts template litmus costs 0 lines
-  refused_for : (why : TextFault) → HasNoGaps litmus costs why → AreGapsOfTexts template litmus costs 1 (text_fault_line why)
+pub data AreGapsOfTexts (q : GapQuery) (litmus : List ℕ) (costs : Option (List ℕ)) : ℕ → List ℕ → Type 0 where
+  listed : (lines : List ℕ) → PrintsGaps q litmus costs lines → AreGapsOfTexts q litmus costs 0 lines
+  refused_for : (why : TextFault) (text : List ℕ) → HasNoGaps litmus costs why → RefusalSays q.json (text_fault_line why) text → AreGapsOfTexts q litmus costs 1 text
 
 -- the answer to what is asked; or why a file isn't read
 pub data AreGaps (q : GapQuery) (input : Option (List ℕ)) (files : List ℕ → Option (List ℕ)) : ℕ → List ℕ → Type 0 where
   of_texts : (litmus : List ℕ) (costs : Option (List ℕ)) (status : ℕ) (text : List ℕ) → AreTexts (string_bytes q.litmus) (name_of q.costs) input files litmus costs
-      → AreGapsOfTexts q.template litmus costs status text → AreGaps q input files status text
-  no_texts : (why : FileFault) → HasNoTexts (string_bytes q.litmus) (name_of q.costs) input files why → AreGaps q input files 1 (file_line why)
+      → AreGapsOfTexts q litmus costs status text → AreGaps q input files status text
+  no_texts : (why : FileFault) (text : List ℕ) → HasNoTexts (string_bytes q.litmus) (name_of q.costs) input files why → RefusalSays q.json (file_line why) text → AreGaps q input files 1 text

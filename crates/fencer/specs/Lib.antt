@@ -7,6 +7,7 @@ pub mod InputTexts
 pub mod Deliveries
 pub mod Documented
 pub mod Replays
+pub mod Surveys
 pub mod Traces
 pub mod Witnesses
 pub mod Outcomes

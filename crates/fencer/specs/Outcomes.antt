@@ -2,14 +2,13 @@
 use Rattle.std.specs.Prelude.{◌≡◌, ◌↔◌, ℕ, Bool, true, false, List, [], ◌∷◌, ◌++◌, Contains, Option, codes, length, not, slice_get, string_bytes}
 use Rattle.std.specs.Fmt.{decimal}
 use Rattle.std.specs.Option.{option_map_or}
-use Rattle.std.specs.FinSet as set
+use Rattle.gap_sets.specs.Gaps.{SetOfGaps}
 use Rattle.tso_program.specs.declared.listing.Listing.{Listing}
 use Rattle.tso_program.specs.declared.outcome.Outcome.{Outcome}
 use Rattle.tso_program.specs.declared.shown.Shown.{Shown}
 use Rattle.tso_program.specs.declared.shown.ShownKind.{ShownKind, TheVariants.Whole, TheVariants.Observed}
 use Rattle.tso_program.specs.declared.question.Question.{Question}
 use Rattle.tso_machine.specs.declared.label.Label.{Label}
-use Rattle.tso_machine.specs.declared.label.Model.{Model}
 use Rattle.tso_machine.specs.Machine.{Machine}
 use Rattle.tso_machine.specs.Modes.{machine_of_model}
 use Rattle.tso_machine.specs.Outcomes.{AllowsShown}
@@ -17,10 +16,12 @@ use Rattle.litmus_text.specs.Litmus.{Litmus}
 use Rattle.litmus_text.specs.Texts.{IsLitmus, IsNoLitmus}
 use Rattle.oracle.specs.declared.fault.SolveFault.TheVariants as solve
 use Rattle.witness_text.specs.OutcomeLists.{AreRunsOf}
+use Rattle.witness_text.specs.FencedGaps.{GapPlace, AreGapsAt, IsFirstWithoutGap}
 use Rattle.tree_laws.specs.Ascending.{Ascend}
 use Rattle.litmus_text.specs.Names.{TextNames}
 use Rattle.litmus_text.specs.Shown.{shown_as, question_of}
 use Rattle.report.specs.Answers.{printed_labels, outcome_line}
+use Rattle.documents.specs.declared.fenced_model.FencedModel.{FencedModel}
 use Rattle.documents.specs.Documents.{IsOutcomesDocument, IsOutcomesWithRunsDocument}
 use Rattle.report.specs.Observations.{is_true_of, observation_line, condition_line}
 use Rattle.fencer_words.specs.declared.job.OutcomeQuery.{OutcomeQuery}
@@ -58,10 +59,10 @@ list_text litmus shown outcomes runs =
     ++ condition_line litmus.condition outcomes
 
 -- the lines are those of the list, or its document, which has the runs where they are asked for
-abbrev pub TellsOutcomes : Bool → Bool → Model → Litmus Listing → Shown → List Outcome → List (List Label) → List ℕ → Type 0
-TellsOutcomes false with_runs model litmus shown outcomes runs lines = lines ≡ list_text litmus shown outcomes runs
-TellsOutcomes true false model litmus shown outcomes runs lines = IsOutcomesDocument litmus shown model outcomes lines
-TellsOutcomes true true model litmus shown outcomes runs lines = IsOutcomesWithRunsDocument litmus shown model outcomes runs lines
+abbrev pub TellsOutcomes : Bool → Bool → FencedModel → Litmus Listing → Shown → List Outcome → List (List Label) → List ℕ → Type 0
+TellsOutcomes false with_runs machine litmus shown outcomes runs lines = lines ≡ list_text litmus shown outcomes runs
+TellsOutcomes true false machine litmus shown outcomes runs lines = IsOutcomesDocument litmus shown machine outcomes lines
+TellsOutcomes true true machine litmus shown outcomes runs lines = IsOutcomesWithRunsDocument litmus shown machine outcomes runs lines
 
 -- with a check the status is 3 where the condition fails
 abbrev pub list_status : Bool → Litmus Listing → List Outcome → ℕ
@@ -72,24 +73,27 @@ abbrev pub listed_kind : Bool → ShownKind
 listed_kind false = Whole
 listed_kind true = Observed
 
--- the lines are those of the list of the unfenced program that the bytes spell, with a run of each outcome where runs are asked for, and the status is theirs
+-- the lines are those of the list of the program that the bytes spell, with the gaps fenced that are asked for, with a run of each outcome where runs are asked for, and the status is theirs
 pub record PrintsOutcomes (q : OutcomeQuery) (bytes : List ℕ) (status : ℕ) (lines : List ℕ) : Type 0 where
   pub litmus : Litmus Listing
   pub spelled : IsLitmus bytes litmus
+  pub fences : SetOfGaps
+  pub fenced : AreGapsAt litmus.program.threads q.fences.items fences
   pub outcomes : List Outcome
-  pub listed : ListsOutcomes (question_of litmus (listed_kind q.observed)) (machine_of_model litmus.program set.empty q.model) outcomes
+  pub listed : ListsOutcomes (question_of litmus (listed_kind q.observed)) (machine_of_model litmus.program fences q.model) outcomes
   pub runs : List (List Label)
-  pub left : ListsRuns q.runs (question_of litmus (listed_kind q.observed)) (machine_of_model litmus.program set.empty q.model) runs outcomes
-  pub printed : TellsOutcomes q.json q.runs q.model litmus (shown_as litmus (listed_kind q.observed)) outcomes runs lines
+  pub left : ListsRuns q.runs (question_of litmus (listed_kind q.observed)) (machine_of_model litmus.program fences q.model) runs outcomes
+  pub printed : TellsOutcomes q.json q.runs (record { model = q.model; fences = fences }) litmus (shown_as litmus (listed_kind q.observed)) outcomes runs lines
   pub ends : status ≡ list_status q.check litmus outcomes
 
--- why there is no list: the text is no litmus text, or memory was wanting
-abbrev pub HasNoList : List ℕ → AnswerFault → Type 0
-HasNoList bytes (answer_fault.Litmus fault) = IsNoLitmus bytes fault
-HasNoList bytes (answer_fault.Run fault) = ⊥
-HasNoList bytes (answer_fault.Replay fault) = ⊥
-HasNoList bytes (answer_fault.Solve fault) = (litmus : Litmus Listing) × IsLitmus bytes litmus × (fault ≡ solve.OutOfMemory)
+-- why there is no list: the text is no litmus text, no gap lies at a place, or memory was wanting
+abbrev pub HasNoList : List GapPlace → List ℕ → AnswerFault → Type 0
+HasNoList places bytes (answer_fault.Litmus fault) = IsNoLitmus bytes fault
+HasNoList places bytes (answer_fault.Run fault) = ⊥
+HasNoList places bytes (answer_fault.Replay fault) = ⊥
+HasNoList places bytes (answer_fault.NoSuchGap t k) = (litmus : Litmus Listing) × IsLitmus bytes litmus × IsFirstWithoutGap litmus.program.threads places (t, k)
+HasNoList places bytes (answer_fault.Solve fault) = (litmus : Litmus Listing) × IsLitmus bytes litmus × (fault ≡ solve.OutOfMemory)
 
 -- the answer to a question for outcomes, with its status: the lines of the list, or the line of a refusal
 abbrev pub AreOutcomes : OutcomeQuery → Option (List ℕ) → (List ℕ → Option (List ℕ)) → ℕ → List ℕ → Type 0
-AreOutcomes q = IsAnswerTo (PrintsOutcomes q) HasNoList q.json (string_bytes q.litmus)
+AreOutcomes q = IsAnswerTo (PrintsOutcomes q) (HasNoList q.fences.items) q.json (string_bytes q.litmus)

@@ -1,12 +1,14 @@
 -- What is printed for a placement, and what its files hold. `files` says what files hold before it, and `left` what they hold
 -- afterwards, where that is known.
-use Rattle.std.specs.Prelude.{◌≡◌, ℕ, Bool, List, ◌++◌, Option, None, Some, codes, nat_lt, string_bytes}
+use Rattle.std.specs.Prelude.{◌≡◌, ℕ, Bool, List, ◌++◌, Option, None, Some, IsSome, codes, nat_lt, string_bytes, ⊤}
 use Rattle.std.specs.FinSet as set
 use Rattle.program_streams.specs.declared.fault.FileFault.{FileFault}
+use Rattle.program_streams.specs.declared.fault.FileFault.TheVariants as file
 use Rattle.program_streams.specs.FileLines.{file_line}
 use Rattle.tso_program.specs.declared.shown.ShownKind.{ShownKind}
 use Rattle.fencer_words.specs.declared.job.Placement.{Placement}
 use Rattle.fencer_words.specs.CommandFiles.{name_of}
+use Rattle.inserted_text.specs.Inserted.{StandsAsPrinted}
 use Rattle.placed_text.specs.declared.fault.TextFault.{TextFault}
 use Rattle.placed_text.specs.declared.fault.TextFault.TheVariants as fault
 use Rattle.placed_text.specs.declared.writing.AnswerText.{AnswerText}
@@ -14,7 +16,9 @@ use Rattle.placed_text.specs.PlacedTexts.{IsAnswerText, IsPlacedText}
 use Rattle.placed_text.specs.TextFaults.{HasNoPlacedText}
 use Rattle.report.specs.Faults.{refused, litmus_line, costs_line}
 use Rattle.fencer.specs.declared.delivery.Answer.{Answer}
-use Rattle.fencer.specs.Deliveries.{IsDelivered, KeepAllFiles}
+use Rattle.fencer.specs.declared.inserted.Unkept.{Unkept}
+use Rattle.fencer.specs.declared.inserted.Unkept.TheVariants as unkept
+use Rattle.fencer.specs.Deliveries.{AreTwoNames, HoldsFile, IsDelivered, KeepAllFiles}
 use Rattle.fencer.specs.Documented.{printed as either}
 use Rattle.fencer.specs.InputTexts.{AreTexts, HasNoTexts}
 use Rattle.fencer.specs.Refused.{RefusalSays}
@@ -28,6 +32,32 @@ text_fault_line (fault.Read why) = litmus_line why
 text_fault_line (fault.CostText why) = costs_line why
 text_fault_line fault.Workers = refused (codes "place 1 Workers")
 text_fault_line fault.OutOfMemory = refused (codes "place 5 OutOfMemory")
+
+-- why the litmus text with the fences put in is not kept
+abbrev pub unkept_line : Unkept → List ℕ
+unkept_line unkept.NotInserted = refused (codes "place 6 NotInserted")
+unkept_line unkept.Unwritten = file_line file.Write
+
+-- ---- the litmus text with the fences put in
+
+-- where a file is named for it, it stands for what the printed text stands for; or there is none
+abbrev pub IsInserted : Option (List ℕ) → List ℕ → Option (List ℕ) → Type 0
+IsInserted None printed inserted = IsSome inserted
+IsInserted (Some name) printed None = ⊤
+IsInserted (Some name) printed (Some text) = StandsAsPrinted printed text
+
+-- there is such a text, and the file that is named for it holds it
+pub record HoldsInserted (named inserted : Option (List ℕ)) (left : List ℕ → Option (List ℕ)) : Type 0 where
+  pub text : List ℕ
+  pub made : inserted ≡ Some text
+  pub held : HoldsFile named left text
+
+-- why its file does not hold it: there is none, and no file is changed; or the file can't be written
+abbrev pub IsNotKept : Option (List ℕ) → Option (List ℕ) → (List ℕ → Option (List ℕ)) → (List ℕ → Option (List ℕ)) → Unkept → Type 0
+IsNotKept named inserted files left unkept.NotInserted = (inserted ≡ None) × KeepAllFiles files left
+IsNotKept named inserted files left unkept.Unwritten = IsSome named
+
+-- ---- what is placed
 
 -- the texts say what is placed in the program of a litmus text, and where a file is named for the certificate, its text is one
 abbrev pub AreTextsFor : Option (List ℕ) → List ℕ → Option (List ℕ) → ShownKind → AnswerText → List ℕ → Type 0
@@ -44,19 +74,27 @@ pub record DeliversTexts (texts : AnswerText) (certificate : List ℕ) (check js
   pub program : answer.first ≡ texts.program.items
   pub proof : answer.second ≡ certificate
 
--- what is delivered of what is placed in the program of a litmus text
-pub record PrintsPlacement (q : Placement) (litmus : List ℕ) (costs : Option (List ℕ)) (answer : Answer) : Type 0 where
+-- what is delivered of what is placed in the program of a litmus text, and that text with the fences put in
+pub record PrintsPlacement (q : Placement) (litmus : List ℕ) (costs : Option (List ℕ)) (answer : Answer) (inserted : Option (List ℕ)) : Type 0 where
   pub texts : AnswerText
   pub certificate : List ℕ
   pub placed : AreTextsFor (name_of q.certificate) litmus costs q.kind texts certificate
   pub delivered : DeliversTexts texts certificate q.check q.json answer
+  pub put_in : IsInserted (name_of q.insert) texts.program.items inserted
+
+-- The litmus text with the fences put in is kept, where a file is named for it, and what else is placed is delivered; the first is
+-- still held where its file is none of those that are written after it. Or the text is not kept, which is reported.
+pub data AreDelivered (q : Placement) (answer : Answer) (inserted : Option (List ℕ)) (files left : List ℕ → Option (List ℕ)) : ℕ → List ℕ → Type 0 where
+  all : (status : ℕ) (text : List ℕ) → (AreTwoNames (name_of q.insert) (name_of q.output) → AreTwoNames (name_of q.insert) (name_of q.certificate) → HoldsInserted (name_of q.insert) inserted left)
+      → IsDelivered (name_of q.output) (name_of q.certificate) left answer status text → AreDelivered q answer inserted files left status text
+  unkept_for : (why : Unkept) (text : List ℕ) → IsNotKept (name_of q.insert) inserted files left why → RefusalSays q.json (unkept_line why) text → AreDelivered q answer inserted files left 1 text
 
 -- ---- answers, each with its status
 
 -- the answer to texts; or why there is no answer, and then no file is changed
 pub data IsJudged (q : Placement) (litmus : List ℕ) (costs : Option (List ℕ)) (files left : List ℕ → Option (List ℕ)) : ℕ → List ℕ → Type 0 where
-  placed : (answer : Answer) (status : ℕ) (text : List ℕ) → PrintsPlacement q litmus costs answer
-      → IsDelivered (name_of q.output) (name_of q.certificate) left answer status text → IsJudged q litmus costs files left status text
+  placed : (answer : Answer) (inserted : Option (List ℕ)) (status : ℕ) (text : List ℕ) → PrintsPlacement q litmus costs answer inserted
+      → AreDelivered q answer inserted files left status text → IsJudged q litmus costs files left status text
   refused_for : (why : TextFault) (text : List ℕ) → HasNoPlacedText litmus costs q.workers why → RefusalSays q.json (text_fault_line why) text → KeepAllFiles files left → IsJudged q litmus costs files left 1 text
 
 -- the answer to what is asked; or why a file isn't read, and then no file is changed

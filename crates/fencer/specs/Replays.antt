@@ -50,6 +50,7 @@ abbrev pub HasNoRun : Model → List ℕ → List ℕ → AnswerFault → Type 0
 HasNoRun model labels bytes (answer_fault.Litmus fault) = IsNoLitmus bytes fault
 HasNoRun model labels bytes (answer_fault.Run fault) = (litmus : Litmus Listing) × IsLitmus bytes litmus × RunFaultIs labels fault
 HasNoRun model labels bytes (answer_fault.Replay fault) = IsRefusedReplay model labels bytes fault
+HasNoRun model labels bytes (answer_fault.NoSuchGap t k) = ⊥
 HasNoRun model labels bytes (answer_fault.Solve fault) = ⊥
 
 -- this holds of each text that spells the program

@@ -32,7 +32,7 @@ pub record DeliversTrace (q : TraceQuery) (bytes : List ℕ) (answer : Answer) :
   pub lines : List ℕ
   pub document : List ℕ
   pub traced : PrintsTrace q.run.model (label_words_text q.run.labels.items) bytes lines document
-  pub delivered : DeliversDocument q.json (name_of q.page) lines document answer
+  pub delivered : DeliversDocument 0 q.json (name_of q.page) lines document answer
 
 -- The answer to the text of a trace, with its status: what is delivered, where the files that are named for the page and the graph
 -- hold it; or that one can't be written. Of the graph nothing is said. Or the line of a refusal, and then no file is changed.

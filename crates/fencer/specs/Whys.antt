@@ -19,7 +19,7 @@ pub record Explains (q : WhyQuery) (litmus : List ℕ) (costs : Option (List ℕ
   pub lines : List ℕ
   pub document : List ℕ
   pub told : IsWhyText litmus costs q.placement.kind lines document
-  pub delivered : DeliversDocument q.placement.json (name_of q.page) lines document answer
+  pub delivered : DeliversDocument 0 q.placement.json (name_of q.page) lines document answer
 
 -- The answer to texts, with its status: what is delivered, where the files that are named for the page and the graphs hold it; or that
 -- one can't be written. Of the graphs nothing is said. Or why there is no answer, and then no file is changed.

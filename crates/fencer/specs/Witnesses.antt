@@ -1,6 +1,5 @@
 -- What is printed for a run of which the condition's formula has some truth.
-use Rattle.std.specs.Prelude.{ℕ, List, ◌∷◌, ◌++◌, Option, codes, string_bytes}
-use Rattle.std.specs.Fmt.{decimal}
+use Rattle.std.specs.Prelude.{ℕ, Bool, List, Option, string_bytes}
 use Rattle.program_streams.specs.declared.fault.FileFault.{FileFault}
 use Rattle.program_streams.specs.declared.files.TheConstants.{TEXT_LIMIT}
 use Rattle.program_streams.specs.Files.{AreOfFile, IsFileFault}
@@ -8,32 +7,31 @@ use Rattle.program_streams.specs.FileLines.{file_line}
 use Rattle.fencer_words.specs.declared.job.WitnessQuery.{WitnessQuery}
 use Rattle.fencer_words.specs.CommandFiles.{name_of}
 use Rattle.oracle.specs.declared.fault.SolveFault.TheVariants as solve
-use Rattle.report.specs.Faults.{refused, litmus_line}
+use Rattle.report.specs.Faults.{litmus_line}
 use Rattle.witness_text.specs.declared.fault.WitnessFault.{WitnessFault}
 use Rattle.witness_text.specs.declared.fault.WitnessFault.TheVariants as fault
 use Rattle.witness_text.specs.WitnessTexts.{IsWitnessText, HasNoWitnessText}
 use Rattle.fencer.specs.declared.delivery.Answer.{Answer}
 use Rattle.fencer.specs.Deliveries.{IsDelivered, KeepAllFiles}
 use Rattle.fencer.specs.Documented.{DeliversDocument}
-use Rattle.fencer.specs.Refusals.{solve_line}
+use Rattle.fencer.specs.Refusals.{no_gap_line, solve_line}
 use Rattle.fencer.specs.Refused.{RefusalSays}
-
--- the refusal of a place without a gap
-abbrev pub no_gap_text : ℕ → ℕ → List ℕ
-no_gap_text t k = codes "fences 1 NoSuchGap " ++ decimal t ++ 58 ∷ decimal k
+use Rattle.fencer.specs.Statuses.{check_status}
 
 -- the line of why no run is shown
 abbrev pub witness_line : WitnessFault → List ℕ
 witness_line (fault.Read why) = litmus_line why
-witness_line (fault.NoSuchGap t k) = refused (no_gap_text t k)
+witness_line (fault.NoSuchGap t k) = no_gap_line t k
 witness_line fault.OutOfMemory = solve_line solve.OutOfMemory
 
--- what is delivered: a run that is sought, or that there is none, or the document of it, and the page of the document
+-- what is delivered: a run that is sought, or that there is none, or the document of it, and the page of the document; with a
+-- check the status is 3 where a run is found
 pub record ShowsWitness (q : WitnessQuery) (bytes : List ℕ) (answer : Answer) : Type 0 where
+  pub found : Bool
   pub lines : List ℕ
   pub document : List ℕ
-  pub told : IsWitnessText bytes q.model q.meets q.fences.items lines document
-  pub delivered : DeliversDocument q.json (name_of q.page) lines document answer
+  pub told : IsWitnessText bytes q.model q.meets q.fences.items found lines document
+  pub delivered : DeliversDocument (check_status q.check found) q.json (name_of q.page) lines document answer
 
 -- The answer to a text, with its status: what is delivered, where the files that are named for the page and the graph hold it; or
 -- that one can't be written. Of the graph nothing is said. Or why no run is shown, and then no file is changed.

@@ -2,12 +2,16 @@
 
 ghost use Rattle.std.specs.Prelude.{◌≡◌};
 
+use crate::inserted::Unkept;
 use crate::refusals::AnswerFault;
 use crate::texts::Texts;
 use fencer_words::Placement;
+use gap_list::{TextLines, fence_notes};
+use gap_sets::GapSet;
+use litmus_text::{ReadFault, read_litmus};
 use messages::{
     Message, Source, command_hint, costs_message, fence_message, file_or_input, litmus_message,
-    replay_message, run_message, unread_message,
+    replay_message, run_message, unread_message, unwritten_message,
 };
 use placed_text::TextFault;
 use program_streams::{Console, FileFault, FileStore, TEXT_LIMIT, UnreadFile};
@@ -59,6 +63,9 @@ pub(crate) fn refusal_advice(
         AnswerFault::Litmus(fault) => litmus_message(alloc, Source::new(name, text), fault),
         AnswerFault::Run(fault) => run_message(alloc, name, labels, fault),
         AnswerFault::Replay(fault) => replay_message(alloc, name, labels, fault),
+        AnswerFault::NoSuchGap(thread, instruction) => {
+            fence_message(alloc, name, (thread, instruction), text)
+        }
         AnswerFault::Solve(fault) => {
             let text = format!(in alloc; "{fault}")?;
             Message::of_file(alloc, name, text.as_str())
@@ -108,6 +115,23 @@ pub(crate) fn text_fault_advice(
     }
 }
 
+const NOT_INSERTED: &str =
+    "this text with its fences is not read as the fenced program; --output writes that program";
+
+/// Why a litmus text with the fences put in is not written.
+pub(crate) fn unkept_advice(
+    alloc: Global,
+    asked: &Placement,
+    fault: Unkept,
+) -> Result<Message, AllocError> {
+    match fault {
+        Unkept::NotInserted => {
+            Message::of_file(alloc, file_or_input(asked.litmus.as_str()), NOT_INSERTED)
+        }
+        Unkept::Unwritten => unwritten_message(alloc, asked.insert.as_deref().unwrap_or("")),
+    }
+}
+
 /// Tells what arguments may mean that are no command.
 pub(crate) fn tell_hint<W: Console>(alloc: Global, words: &[String], output: &mut W)
     ensures { W.contents output.new ≡ W.contents output.old }
@@ -116,7 +140,7 @@ pub(crate) fn tell_hint<W: Console>(alloc: Global, words: &[String], output: &mu
 }
 
 /// What is said of the first slip that a litmus text may have, and nothing if there is none.
-fn slip_advice(
+pub(crate) fn slip_advice(
     alloc: Global,
     litmus: &str,
     text: &[u8],
@@ -151,4 +175,29 @@ pub(crate) fn tell_idle_name_compared<W: Console>(
     let on_terminal = output.progress().is_shown();
     let litmus = asked.litmus.as_str();
     output.tell(slip_advice(alloc, litmus, text, condition_counts, on_terminal));
+}
+
+/// The lines of these gaps of a litmus text; none of a text that is not read.
+fn fences_advice(alloc: Global, text: &[u8], gaps: &GapSet) -> Result<Vec<u8>, AllocError> {
+    match read_litmus(alloc, text) {
+        Ok(litmus) => fence_notes(alloc, &TextLines::of_text(alloc, text)?, &litmus, gaps),
+        Err(ReadFault::OutOfMemory) => Err(AllocError),
+        Err(_) => Ok(Vec::new(alloc)),
+    }
+}
+
+/// Tells on a terminal in which lines of a litmus text the fences of these gaps go, and before which instructions, unless
+/// the status is that of an answer that is not printed.
+pub(crate) fn tell_fences<W: Console>(
+    alloc: Global,
+    text: &[u8],
+    gaps: &GapSet,
+    status: u8,
+    output: &mut W,
+)
+    ensures { W.contents output.new ≡ W.contents output.old }
+{
+    if status != 1 && output.progress().is_shown() {
+        output.tell(fences_advice(alloc, text, gaps));
+    }
 }

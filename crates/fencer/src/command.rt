@@ -2,11 +2,10 @@
 
 ghost use Rattle.std.specs.Prelude.{IfOk, map, string_bytes};
 ghost use Rattle.program_streams.specs.Streams.{Prints};
-ghost use Rattle.program_streams.specs.Files.{ReadsOfInput};
 ghost use Rattle.fencer.specs.Lines.{EndsLine};
 ghost use Rattle.fencer_words.specs.CommandFiles.{files_of};
-ghost use Rattle.fencer.specs.Deliveries.{KeepFilesBut};
-ghost use Rattle.fencer.specs.Answers.{litmus_of, IsAnswer, IsReply, IsOutput, KeepFilesOf, KeepOtherFiles, ReadsForWords, ReadsFor};
+ghost use Rattle.fencer.specs.Deliveries.{KeepFilesButThree};
+ghost use Rattle.fencer.specs.Answers.{IsAnswer, IsReply, IsOutput, KeepFilesOf, KeepOtherFiles, ReadsForWords, ReadsFor, ReadsOfJob};
 
 use crate::advice::{tell_hint, unread_advice, unread_litmus};
 use crate::gaps::run_gaps;
@@ -14,6 +13,7 @@ use crate::outcomes::run_outcomes;
 use crate::place::run_place;
 use crate::refused::tell_refusal;
 use crate::replays::run_replay;
+use crate::surveys::run_survey;
 use crate::traces::run_trace;
 use crate::whys::run_why;
 use crate::witnesses::run_witness;
@@ -26,6 +26,7 @@ use program_streams::{
 };
 use std::alloc::{AllocError, Global};
 use std::io::Read;
+use std::rt::Clock;
 use std::sync::Wait;
 use std::thread::Threads;
 
@@ -43,7 +44,7 @@ fn error_text(alloc: Global, error: &Error) -> Result<Vec<u8>, AllocError>
 }
 
 /// Does a job, and answers the status.
-fn run_job<T: Threads + Wait + Sync, S: WritableFileStore, R: Read, W: Console>(
+fn run_job<T: Threads + Wait + Sync + Clock, S: WritableFileStore, R: Read, W: Console>(
     rt: &T,
     alloc: Global,
     files: &mut S,
@@ -52,8 +53,8 @@ fn run_job<T: Threads + Wait + Sync, S: WritableFileStore, R: Read, W: Console>(
     output: &mut W,
 ) -> u8
     ensures told { Prints (IsAnswer job.now (R.remaining input.old) (S.held files.old) (S.held files.new)) (W.contents output.old) (W.contents output.new) result }
-    ensures others { KeepFilesBut (files_of job.now).first (files_of job.now).second (S.held files.old) (S.held files.new) }
-    ensures read { ReadsOfInput TEXT_LIMIT (litmus_of job.now) (R.remaining input.old) (R.remaining input.new) }
+    ensures others { KeepFilesButThree (files_of job.now).first (files_of job.now).second (files_of job.now).third (S.held files.old) (S.held files.new) }
+    ensures read { ReadsOfJob job.now (R.remaining input.old) (R.remaining input.new) }
 {
     match job {
         Job::Replay(asked) => run_replay(alloc, &*files, asked, input, output),
@@ -63,11 +64,12 @@ fn run_job<T: Threads + Wait + Sync, S: WritableFileStore, R: Read, W: Console>(
         Job::Why(asked) => run_why(rt, alloc, files, asked, input, output),
         Job::Gaps(asked) => run_gaps(alloc, &*files, asked, input, output),
         Job::Witness(asked) => run_witness(alloc, files, asked, input, output),
+        Job::Survey(asked) => run_survey(rt, alloc, &*files, asked, input, output),
     }
 }
 
 /// Does what arguments ask for, and answers the status.
-fn run_words<T: Threads + Wait + Sync, S: WritableFileStore, R: Read, W: Console>(
+fn run_words<T: Threads + Wait + Sync + Clock, S: WritableFileStore, R: Read, W: Console>(
     rt: &T,
     alloc: Global,
     files: &mut S,
@@ -98,14 +100,14 @@ fn run_words<T: Threads + Wait + Sync, S: WritableFileStore, R: Read, W: Console
 /// they are those of the input's first line, separated by spaces, and the rest of the input is `-`. It reads no more of
 /// the input than shows that the line or the litmus file is too long.
 ///
-/// Wherever any of a placement's answer is printed, the files that the arguments name hold its certificate and the fenced program;
-/// no file is changed but these, and those that they name for a page or for graphs. With `rt` the workers of a placement start threads and
-/// wait for one another; nothing else does either.
+/// Wherever any of a placement's answer is printed, the files that the arguments name hold its certificate, the fenced
+/// program and the litmus text with its fences; no file is changed but these, and those that they name for a page or for
+/// graphs. With `rt` the workers of a placement start threads and wait for one another; nothing else does either.
 ///
 /// Status 0 means that the whole answer is written, and status 3 that it is and that a check which is asked for finds a fault. Status 1
 /// is a refusal, reported by one line, a writer that fails or takes no byte, and out of memory for the arguments or for that line, with
 /// nothing written. Status 2 is a bad command line or a call for help, reported on the writer too.
-pub fn run_command<T: Threads + Wait + Sync, S: WritableFileStore, R: Read, W: Console>(
+pub fn run_command<T: Threads + Wait + Sync + Clock, S: WritableFileStore, R: Read, W: Console>(
     rt: &T,
     alloc: Global,
     files: &mut S,

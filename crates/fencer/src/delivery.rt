@@ -22,7 +22,7 @@ pub(crate) struct Answer {
 }
 
 /// Writes a text to its file, where one is named.
-fn keep_file<S: WritableFileStore>(
+pub(crate) fn keep_file<S: WritableFileStore>(
     files: &mut S,
     name: Option<&str>,
     text: &Pages,

@@ -25,7 +25,7 @@ fn page_for(alloc: Global, name: Option<&str>, document: &[u8]) -> Result<Vec<u8
     }
 }
 
-/// What is delivered of a text: it or its document is printed, and the files have the page of the document and a graph.
+/// What is delivered of a text, with status 0: it or its document is printed, and the files have the page of the document and a graph.
 pub(crate) fn documented(
     alloc: Global,
     json: bool,
@@ -34,7 +34,7 @@ pub(crate) fn documented(
     document: Vec<u8>,
     graph: Vec<u8>,
 ) -> Result<Answer, AllocError>
-    ensures { IfOk result (DeliversDocument json (option_map (λ name. name.now) page.entry) text.items document.items) }
+    ensures { IfOk result (DeliversDocument 0 json (option_map (λ name. name.now) page.entry) text.items document.items) }
 {
     let first = Pages::of(alloc, page_for(alloc, page, &document)?)?;
     let second = Pages::of(alloc, graph)?;

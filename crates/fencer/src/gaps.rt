@@ -1,18 +1,20 @@
 //! Gaps: the list of a program's gaps or the cost file of all of them, or why there is none.
 
-ghost use Rattle.std.specs.Prelude.{◌≡◌, IfErr, IfOk, length, option_map, string_bytes};
+ghost use Rattle.std.specs.Prelude.{◌≡◌, false, IfErr, IfOk, length, option_map, string_bytes};
 ghost use Rattle.program_streams.specs.Streams.{Prints};
 ghost use Rattle.tso_program.specs.Listings.{gap_count};
 ghost use Rattle.litmus_text.specs.Texts.{IsLitmus};
 ghost use Rattle.program_streams.specs.Files.{ReadsOfInput};
-ghost use Rattle.fencer.specs.GapTexts.{AreGaps, AreGapsOfTexts, HasNoGaps, IsGapText, PrintsGaps, costs_shown};
+ghost use Rattle.documents.specs.Documents.{IsGapsDocument};
+ghost use Rattle.fencer.specs.GapTexts.{AreGaps, AreGapsOfTexts, HasNoGaps, IsGapText, PrintsGaps, TellsGaps, costs_shown};
 
 use crate::advice::{text_fault_advice, unread_advice};
 use crate::place::text_fault_line;
 use crate::refused::tell_refusal;
 use crate::texts::{Texts, read_texts};
+use documents::{LinedLitmus, gaps_document};
 use fencer_words::GapQuery;
-use gap_list::{cost_file, gap_list};
+use gap_list::{TextLines, cost_file, gap_list};
 use gap_sets::Costs;
 use litmus_text::Litmus;
 use placed_text::{TextFault, read_gap_costs, read_program};
@@ -31,6 +33,20 @@ fn costs_shown<'a>(text: Option<&[u8]>, costs: &'a Costs) -> Option<&'a Costs>
     }
 }
 
+/// The list of the gaps, with their costs where a text of them is given.
+fn listed_gaps(
+    alloc: Global,
+    texts: &Texts,
+    source: &Litmus<Program>,
+    costs: &Costs,
+) -> Result<Vec<u8>, AllocError>
+    ensures { IfOk result (λ lines. IsGapText false source.now (option_map (λ text. text.items) texts.now.costs) costs.now lines.items) }
+{
+    let lines = TextLines::of_text(alloc, &texts.litmus)?;
+    let shown = costs_shown(texts.costs.as_deref(), costs);
+    gap_list(alloc, &lines, source, shown)
+}
+
 /// The list of the gaps, with their costs where a text of them is given, or the cost file of all of them.
 fn written_gaps(
     alloc: Global,
@@ -45,48 +61,88 @@ fn written_gaps(
     if template {
         cost_file(alloc, &source.program, costs)
     } else {
-        let shown = costs_shown(texts.costs.as_deref(), costs);
-        gap_list(alloc, &texts.litmus, source, shown)
+        listed_gaps(alloc, texts, source, costs)
+    }
+}
+
+/// The document of the gaps.
+fn document_of_gaps(
+    alloc: Global,
+    texts: &Texts,
+    litmus: &Litmus<Program>,
+    costs: &Costs,
+) -> Result<Vec<u8>, AllocError>
+    ensures { IfOk result (λ document. IsGapsDocument litmus.now costs.now document.items) }
+{
+    let lines = TextLines::of_text(alloc, &texts.litmus)?;
+    let source = LinedLitmus {
+        litmus,
+        lines: &lines,
+    };
+    gaps_document(alloc, &source, costs)
+}
+
+/// The document of the gaps, where it is asked for, or else what is printed of them.
+fn told_gaps(
+    alloc: Global,
+    asked: &GapQuery,
+    texts: &Texts,
+    source: &Litmus<Program>,
+    costs: &Costs,
+) -> Result<Vec<u8>, AllocError>
+    requires { length costs.now ≡ gap_count source.now.program.threads }
+    ensures { IfOk result (λ lines. TellsGaps asked.now.json asked.now.template source.now (option_map (λ text. text.items) texts.now.costs) costs.now lines.items) }
+{
+    if asked.json {
+        document_of_gaps(alloc, texts, source, costs)
+    } else {
+        written_gaps(alloc, asked.template, texts, source, costs)
     }
 }
 
 /// What is printed of the gaps of the program that the litmus text spells.
 fn lines_of_program(
     alloc: Global,
-    template: bool,
+    asked: &GapQuery,
     texts: &Texts,
     source: &Litmus<Program>,
 ) -> Result<Vec<u8>, TextFault>
     requires { IsLitmus texts.now.litmus.items source.now }
-    ensures lines { IfOk result (λ lines. PrintsGaps template texts.now.litmus.items (option_map (λ text. text.items) texts.now.costs) lines.items) }
+    ensures lines { IfOk result (λ lines. PrintsGaps asked.now texts.now.litmus.items (option_map (λ text. text.items) texts.now.costs) lines.items) }
     ensures fault { IfErr result (HasNoGaps texts.now.litmus.items (option_map (λ text. text.items) texts.now.costs)) }
 {
     let costs = read_gap_costs(alloc, texts.costs.as_deref(), &source.program)?;
-    match written_gaps(alloc, template, texts, source, &costs) {
+    match told_gaps(alloc, asked, texts, source, &costs) {
         Ok(lines) => Ok(lines),
         Err(_) => Err(TextFault::OutOfMemory),
     }
 }
 
 /// What is printed of the gaps of the program of a text.
-fn gap_lines(alloc: Global, template: bool, texts: &Texts) -> Result<Vec<u8>, TextFault>
-    ensures lines { IfOk result (λ lines. PrintsGaps template texts.now.litmus.items (option_map (λ text. text.items) texts.now.costs) lines.items) }
+fn gap_lines(alloc: Global, asked: &GapQuery, texts: &Texts) -> Result<Vec<u8>, TextFault>
+    ensures lines { IfOk result (λ lines. PrintsGaps asked.now texts.now.litmus.items (option_map (λ text. text.items) texts.now.costs) lines.items) }
     ensures fault { IfErr result (HasNoGaps texts.now.litmus.items (option_map (λ text. text.items) texts.now.costs)) }
 {
     let source = read_program(alloc, &texts.litmus)?;
-    lines_of_program(alloc, template, texts, &source)
+    lines_of_program(alloc, asked, texts, &source)
 }
 
 /// Judges texts, prints what is asked of their gaps, and returns the status.
 fn gaps_of_texts<W: Console>(alloc: Global, asked: &GapQuery, texts: &Texts, output: &mut W) -> u8
-    ensures { Prints (AreGapsOfTexts asked.now.template texts.now.litmus.items (option_map (λ text. text.items) texts.now.costs)) (W.contents output.old) (W.contents output.new) result }
+    ensures { Prints (AreGapsOfTexts asked.now texts.now.litmus.items (option_map (λ text. text.items) texts.now.costs)) (W.contents output.old) (W.contents output.new) result }
 {
-    match gap_lines(alloc, asked.template, texts) {
+    match gap_lines(alloc, asked, texts) {
         Ok(lines) => print(output, Ok(lines), 0),
         Err(fault) => {
             let named = (asked.litmus.as_str(), asked.costs.as_deref());
             let message = text_fault_advice(alloc, named, texts, fault);
-            tell_refusal(alloc, false, text_fault_line(alloc, fault), message, output)
+            tell_refusal(
+                alloc,
+                asked.json,
+                text_fault_line(alloc, fault),
+                message,
+                output,
+            )
         }
     }
 }
@@ -107,7 +163,13 @@ pub fn run_gaps<S: FileStore, R: Read, W: Console>(
         Ok(texts) => gaps_of_texts(alloc, asked, &texts, output),
         Err(file) => {
             let message = unread_advice(alloc, files, file);
-            tell_refusal(alloc, false, file_line(alloc, file.fault), message, output)
+            tell_refusal(
+                alloc,
+                asked.json,
+                file_line(alloc, file.fault),
+                message,
+                output,
+            )
         }
     }
 }

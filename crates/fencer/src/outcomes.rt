@@ -1,10 +1,9 @@
 //! Outcomes: the lines of a program's list, or why there is no list.
 
-ghost use Rattle.std.specs.Prelude.{◌≡◌, ◌↔◌, ◌++◌, ℕ, List, IfOk, IfErr, IfSome, OnOk, Contains, string_bytes};
-ghost use Rattle.std.specs.FinSet as set;
+ghost use Rattle.std.specs.Prelude.{◌≡◌, ◌↔◌, ◌++◌, ℕ, List, true, IfOk, IfErr, IfSome, OnOk, Contains, string_bytes};
 ghost use Rattle.tso_program.specs.Shown.{asked as question};
 ghost use Rattle.tso_program.specs.declared.outcome.Outcome.{Outcome};
-ghost use Rattle.tso_machine.specs.Modes.{machine_of_mode, machine_of_model};
+ghost use Rattle.tso_machine.specs.Modes.{machine_of_mode};
 ghost use Rattle.tso_machine.specs.Outcomes.{AllowsShown};
 ghost use Rattle.tree_laws.specs.Ascending.{Ascend};
 ghost use Rattle.program_streams.specs.Streams.{Prints};
@@ -23,8 +22,10 @@ use crate::refused::tell_refusal;
 use crate::status::check_status;
 use cert_forest::Runs;
 use certificate_proposals::is_large;
-use documents::{outcomes_document, outcomes_with_runs_document};
+use documents::{FencedModel, LinedLitmus, outcomes_document, outcomes_with_runs_document};
 use fencer_words::OutcomeQuery;
+use gap_list::TextLines;
+use gap_sets::GapSet;
 use litmus_text::{Condition, Litmus, NameTable, read_litmus};
 use messages::file_or_input;
 use oracle::SolveFault;
@@ -36,7 +37,7 @@ use std::io::Read;
 use std::thread::Threads;
 use tso_machine::Mode;
 use tso_program::{Outcome, Program, Shown};
-use witness_text::{OutcomeList, outcomes_by_threads, outcomes_with_runs};
+use witness_text::{OutcomeList, gaps_at, outcomes_by_threads, outcomes_with_runs};
 
 /// The line of the run of this number, if there is one.
 fn push_run(
@@ -102,91 +103,129 @@ fn list_lines(
     Ok(lines)
 }
 
-/// The list of outcomes, or its document.
-fn list_text(
+/// The outcomes of a program that are searched for, as far as they are shown, in the machine of a mode.
+#[derive(Clone, Copy)]
+struct ListSearch<'a> {
     alloc: Global,
+    program: &'a Program,
+    shown: &'a Shown,
+    mode: Mode,
+    workers: u8,
+    progress: Progress,
+}
+
+/// The document of the list of outcomes of a text's program.
+fn list_document(
+    search: &ListSearch<'_>,
+    text: &[u8],
     asked: &OutcomeQuery,
+    fences: &GapSet,
     litmus: &Litmus<Program>,
-    shown: &Shown,
     list: &OutcomeList,
 ) -> Result<Vec<u8>, AllocError>
-    ensures { IfOk result (λ lines. TellsOutcomes asked.now.json asked.now.runs asked.now.model litmus.now shown.now list.now.outcomes.items list.now.runs lines.items) }
+    ensures { IfOk result (λ document. TellsOutcomes true asked.now.runs (record { model = asked.now.model; fences = fences.now }) litmus.now search.now.shown.now list.now.outcomes.items list.now.runs document.items) }
 {
+    let lines = TextLines::of_text(search.alloc, text)?;
+    let source = LinedLitmus {
+        litmus,
+        lines: &lines,
+    };
+    let machine = FencedModel {
+        model: asked.model,
+        fences: *fences,
+    };
     let outcomes = list.outcomes.as_slice();
-    if !asked.json {
-        list_lines(alloc, litmus, shown, list)
-    } else if asked.runs {
-        outcomes_with_runs_document(alloc, litmus, shown, asked.model, outcomes, &list.runs)
+    if asked.runs {
+        outcomes_with_runs_document(
+            search.alloc,
+            &source,
+            search.shown,
+            machine,
+            outcomes,
+            &list.runs,
+        )
     } else {
-        outcomes_document(alloc, litmus, shown, asked.model, outcomes)
+        outcomes_document(search.alloc, &source, search.shown, machine, outcomes)
+    }
+}
+
+/// The list of outcomes of a text's program, or its document.
+fn list_text(
+    search: &ListSearch<'_>,
+    text: &[u8],
+    asked: &OutcomeQuery,
+    fences: &GapSet,
+    litmus: &Litmus<Program>,
+    list: &OutcomeList,
+) -> Result<Vec<u8>, AllocError>
+    ensures { IfOk result (λ lines. TellsOutcomes asked.now.json asked.now.runs (record { model = asked.now.model; fences = fences.now }) litmus.now search.now.shown.now list.now.outcomes.items list.now.runs lines.items) }
+{
+    if asked.json {
+        list_document(search, text, asked, fences, litmus, list)
+    } else {
+        list_lines(search.alloc, litmus, search.shown, list)
     }
 }
 
 /// The outcomes that a quick search proposes, each with a run, where the program is large and the judge accepts them.
 fn proposed<T: Threads + Sync>(
     rt: &T,
-    workers: u8,
-    alloc: Global,
-    program: &Program,
-    shown: &Shown,
-    mode: Mode,
+    search: &ListSearch<'_>,
 ) -> Result<Option<OutcomeList>, AllocError>
     ensures ascend { IfOk result (λ found. IfSome found (λ list. Ascend list.outcomes.items)) }
-    ensures runs { IfOk result (λ found. IfSome found (λ list. AreRunsOf (question program.now shown.now) (machine_of_mode program.now mode) list.runs list.outcomes.items)) }
-    ensures exact { IfOk result (λ found. IfSome found (λ list. (o : Outcome) → Contains list.outcomes.items o ↔ AllowsShown (question program.now shown.now) (machine_of_mode program.now mode) o)) }
+    ensures runs { IfOk result (λ found. IfSome found (λ list. AreRunsOf (question search.now.program.now search.now.shown.now) (machine_of_mode search.now.program.now search.now.mode) list.runs list.outcomes.items)) }
+    ensures exact { IfOk result (λ found. IfSome found (λ list. (o : Outcome) → Contains list.outcomes.items o ↔ AllowsShown (question search.now.program.now search.now.shown.now) (machine_of_mode search.now.program.now search.now.mode) o)) }
 {
-    if is_large(alloc, program)? {
-        outcomes_by_threads(rt, workers, alloc, program, shown, mode)
-    } else {
-        Ok(None)
+    if !is_large(search.alloc, search.program)? {
+        return Ok(None);
     }
+    outcomes_by_threads(
+        rt,
+        search.workers,
+        search.alloc,
+        search.program,
+        search.shown,
+        search.mode,
+    )
 }
 
-/// The outcomes of a program with no gap fenced, each with a run: those that are proposed, or else those that a search over
-/// whole trees finds. What lies ahead of that is reported.
+/// The outcomes that are searched for, each with a run: those that are proposed, or else those that a search over whole trees
+/// finds. What lies ahead of that is reported.
 fn list_with_runs<T: Threads + Sync>(
     rt: &T,
-    alloc: Global,
-    asked: &OutcomeQuery,
-    program: &Program,
-    shown: &Shown,
-    progress: Progress,
+    search: &ListSearch<'_>,
 ) -> Result<OutcomeList, SolveFault>
     ensures ascend { IfOk result (λ list. Ascend list.outcomes.items) }
-    ensures runs { IfOk result (λ list. AreRunsOf (question program.now shown.now) (machine_of_model program.now set.empty asked.now.model) list.runs list.outcomes.items) }
-    ensures exact { IfOk result (λ list. (o : Outcome) → Contains list.outcomes.items o ↔ AllowsShown (question program.now shown.now) (machine_of_model program.now set.empty asked.now.model) o) }
+    ensures runs { IfOk result (λ list. AreRunsOf (question search.now.program.now search.now.shown.now) (machine_of_mode search.now.program.now search.now.mode) list.runs list.outcomes.items) }
+    ensures exact { IfOk result (λ list. (o : Outcome) → Contains list.outcomes.items o ↔ AllowsShown (question search.now.program.now search.now.shown.now) (machine_of_mode search.now.program.now search.now.mode) o) }
     ensures fault { IfErr result (λ fault. fault ≡ solve.OutOfMemory) }
 {
-    let mode = Mode::unfenced(asked.model);
-    match proposed(rt, asked.workers, alloc, program, shown, mode)? {
+    match proposed(rt, search)? {
         Some(list) => Ok(list),
         None => {
-            report_ahead(alloc, program, progress);
-            outcomes_with_runs(alloc, program, asked.model, shown)
+            report_ahead(search.alloc, search.program, search.progress);
+            outcomes_with_runs(search.alloc, search.program, search.shown, search.mode)
         }
     }
 }
 
-/// The outcomes of a program with no gap fenced, and a run of each if runs are asked for.
+/// The outcomes that are searched for, and a run of each if runs are asked for.
 fn listed<T: Threads + Sync>(
     rt: &T,
-    alloc: Global,
-    asked: &OutcomeQuery,
-    program: &Program,
-    shown: &Shown,
-    progress: Progress,
+    search: &ListSearch<'_>,
+    runs: bool,
 ) -> Result<OutcomeList, SolveFault>
-    ensures list { IfOk result (λ list. ListsOutcomes (question program.now shown.now) (machine_of_model program.now set.empty asked.now.model) list.outcomes.items) }
-    ensures runs { IfOk result (λ list. ListsRuns asked.now.runs (question program.now shown.now) (machine_of_model program.now set.empty asked.now.model) list.runs list.outcomes.items) }
+    ensures list { IfOk result (λ list. ListsOutcomes (question search.now.program.now search.now.shown.now) (machine_of_mode search.now.program.now search.now.mode) list.outcomes.items) }
+    ensures runs { IfOk result (λ list. ListsRuns runs (question search.now.program.now search.now.shown.now) (machine_of_mode search.now.program.now search.now.mode) list.runs list.outcomes.items) }
     ensures fault { IfErr result (λ fault. fault ≡ solve.OutOfMemory) }
 {
-    let list = list_with_runs(rt, alloc, asked, program, shown, progress)?;
-    if asked.runs {
+    let list = list_with_runs(rt, search)?;
+    if runs {
         Ok(list)
     } else {
         Ok(OutcomeList {
             outcomes: list.outcomes,
-            runs: Runs::new(alloc),
+            runs: Runs::new(search.alloc),
         })
     }
 }
@@ -209,18 +248,31 @@ fn listed_shown(litmus: &Litmus<Program>, observed: bool) -> Shown
 fn reply_for<T: Threads + Sync>(
     rt: &T,
     alloc: Global,
+    text: &[u8],
     litmus: &Litmus<Program>,
     asked: &OutcomeQuery,
     progress: Progress,
 ) -> Result<Reply, AnswerFault>
     ensures list { (bytes : List ℕ) → IsLitmus bytes litmus.now → IfOk result (λ reply. PrintsOutcomes asked.now bytes reply.status reply.lines.items) }
-    ensures refused { (bytes : List ℕ) → IsLitmus bytes litmus.now → IfErr result (HasNoList bytes) }
+    ensures refused { (bytes : List ℕ) → IsLitmus bytes litmus.now → IfErr result (HasNoList asked.now.fences.items bytes) }
 {
+    let places = asked.fences.as_slice();
+    let fences = match gaps_at(&litmus.program, places) {
+        Ok(fences) => fences,
+        Err((thread, instruction)) => return Err(AnswerFault::NoSuchGap(thread, instruction)),
+    };
     let shown = listed_shown(litmus, asked.observed);
-    let progress = progress.asked(asked.progress);
-    let list = listed(rt, alloc, asked, &litmus.program, &shown, progress)?;
+    let search = ListSearch {
+        alloc,
+        program: &litmus.program,
+        shown: &shown,
+        mode: Mode::new(asked.model, fences),
+        workers: asked.workers,
+        progress: progress.asked(asked.progress),
+    };
+    let list = listed(rt, &search, asked.runs)?;
     let status = list_status(asked.check, litmus, &list.outcomes);
-    match list_text(alloc, asked, litmus, &shown, &list) {
+    match list_text(&search, text, asked, &fences, litmus, &list) {
         Ok(lines) => Ok(Reply { lines, status }),
         Err(_) => Err(AnswerFault::Solve(SolveFault::OutOfMemory)),
     }
@@ -235,10 +287,10 @@ fn outcomes_reply<T: Threads + Sync>(
     progress: Progress,
 ) -> Result<Reply, AnswerFault>
     ensures list { IfOk result (λ reply. PrintsOutcomes asked.now bytes.now reply.status reply.lines.items) }
-    ensures refused { IfErr result (HasNoList bytes.now) }
+    ensures refused { IfErr result (HasNoList asked.now.fences.items bytes.now) }
 {
     let litmus = read_litmus(alloc, bytes)?;
-    reply_for(rt, alloc, &litmus, asked, progress)
+    reply_for(rt, alloc, bytes, &litmus, asked, progress)
 }
 
 /// Lists the outcomes of the program of a litmus file, prints the answer, and returns the status.

@@ -5,12 +5,15 @@ ghost use Rattle.program_streams.specs.Streams.{Prints};
 ghost use Rattle.program_streams.specs.Files.{ReadsOfInput};
 ghost use Rattle.placed_text.specs.TextFaults.{HasNoPlacedText};
 ghost use Rattle.fencer_words.specs.CommandFiles.{name_of};
-ghost use Rattle.fencer.specs.Deliveries.{KeepFilesBut};
-ghost use Rattle.fencer.specs.Placements.{text_fault_line, AreTextsFor, DeliversTexts, IsJudged, IsPlaced, PrintsPlacement};
+ghost use Rattle.fencer.specs.Deliveries.{KeepFilesButThree};
+ghost use Rattle.fencer.specs.Placements.{text_fault_line, AreDelivered, AreTextsFor, DeliversTexts, IsInserted, IsJudged, IsPlaced, PrintsPlacement};
 
-use crate::advice::{tell_idle_name_compared, text_fault_advice, unread_advice};
+use crate::advice::{
+    tell_fences, tell_idle_name_compared, text_fault_advice, unkept_advice, unread_advice,
+};
 use crate::delivery::{Answer, deliver};
 use crate::documented::printed;
+use crate::inserted::{Placed, inserted_for, keep_inserted, unkept_line};
 use crate::refused::tell_refusal;
 use crate::status::check_status;
 use crate::texts::{Texts, read_texts};
@@ -92,6 +95,28 @@ fn joined(
     })
 }
 
+/// What is delivered of what is placed, with the litmus text into which the fences are put.
+fn placed(
+    alloc: Global,
+    asked: &Placement,
+    texts: &Texts,
+    told: AnswerText,
+    certificate: Pages,
+) -> Result<Placed, AllocError>
+    ensures answer { IfOk result (λ placed. DeliversTexts told certificate asked.now.check asked.now.json placed.answer) }
+    ensures inserted { IfOk result (λ placed. IsInserted (name_of asked.now.insert) told.program.items placed.inserted) }
+{
+    let named = asked.insert.as_deref();
+    let inserted = inserted_for(alloc, named, &texts.litmus, &told.gaps, &told.program)?;
+    let gaps = told.gaps;
+    let answer = joined(alloc, asked, told, certificate)?;
+    Ok(Placed {
+        answer,
+        gaps,
+        inserted,
+    })
+}
+
 /// What is placed in the program of a text.
 fn answer_of<T: Threads + Wait + Sync>(
     rt: &T,
@@ -99,14 +124,53 @@ fn answer_of<T: Threads + Wait + Sync>(
     asked: &Placement,
     texts: &Texts,
     progress: Progress,
-) -> Result<Answer, TextFault>
-    ensures placed { IfOk result (PrintsPlacement asked.now texts.now.litmus.items (option_map (λ text. text.items) texts.now.costs)) }
+) -> Result<Placed, TextFault>
+    ensures placed { IfOk result (λ placed. PrintsPlacement asked.now texts.now.litmus.items (option_map (λ text. text.items) texts.now.costs) placed.answer placed.inserted) }
     ensures fault { IfErr result (HasNoPlacedText texts.now.litmus.items (option_map (λ text. text.items) texts.now.costs) asked.now.workers) }
 {
     let (told, certificate) = texts_for(rt, alloc, asked, texts, progress)?;
-    match joined(alloc, asked, told, certificate) {
-        Ok(answer) => Ok(answer),
+    match placed(alloc, asked, texts, told, certificate) {
+        Ok(placed) => Ok(placed),
         Err(_) => Err(TextFault::OutOfMemory),
+    }
+}
+
+/// Writes the litmus text with the fences put in, where a file is named for it, then what else is delivered, tells where
+/// the fences go, and returns the status.
+fn deliver_placed<S: WritableFileStore, W: Console>(
+    alloc: Global,
+    files: &mut S,
+    asked: &Placement,
+    texts: &Texts,
+    placed: Placed,
+    output: &mut W,
+) -> u8
+    ensures told { Prints (AreDelivered asked.now placed.answer placed.inserted (S.held files.old) (S.held files.new)) (W.contents output.old) (W.contents output.new) result }
+    ensures others { KeepFilesButThree (name_of asked.now.output) (name_of asked.now.certificate) (name_of asked.now.insert) (S.held files.old) (S.held files.new) }
+{
+    let program = asked.output.as_deref();
+    let certificate = asked.certificate.as_deref();
+    let Placed {
+        answer,
+        gaps,
+        inserted,
+    } = placed;
+    match keep_inserted(files, asked.insert.as_deref(), inserted) {
+        Ok(()) => {
+            let status = deliver(alloc, files, program, certificate, answer, output);
+            tell_fences(alloc, &texts.litmus, &gaps, status, output);
+            status
+        }
+        Err(fault) => {
+            let message = unkept_advice(alloc, asked, fault);
+            tell_refusal(
+                alloc,
+                asked.json,
+                unkept_line(alloc, fault),
+                message,
+                output,
+            )
+        }
     }
 }
 
@@ -120,13 +184,11 @@ fn place_texts<T: Threads + Wait + Sync, S: WritableFileStore, W: Console>(
     output: &mut W,
 ) -> u8
     ensures told { Prints (IsJudged asked.now texts.now.litmus.items (option_map (λ text. text.items) texts.now.costs) (S.held files.old) (S.held files.new)) (W.contents output.old) (W.contents output.new) result }
-    ensures others { KeepFilesBut (name_of asked.now.output) (name_of asked.now.certificate) (S.held files.old) (S.held files.new) }
+    ensures others { KeepFilesButThree (name_of asked.now.output) (name_of asked.now.certificate) (name_of asked.now.insert) (S.held files.old) (S.held files.new) }
 {
-    let program = asked.output.as_deref();
-    let certificate = asked.certificate.as_deref();
     let progress = output.progress();
     match answer_of(rt, alloc, asked, texts, progress) {
-        Ok(answer) => deliver(alloc, files, program, certificate, answer, output),
+        Ok(placed) => deliver_placed(alloc, files, asked, texts, placed, output),
         Err(fault) => {
             let named = (asked.litmus.as_str(), asked.costs.as_deref());
             let message = text_fault_advice(alloc, named, texts, fault);
@@ -152,7 +214,7 @@ pub fn run_place<T: Threads + Wait + Sync, S: WritableFileStore, R: Read, W: Con
     output: &mut W,
 ) -> u8
     ensures told { Prints (IsPlaced asked.now (R.remaining input.old) (S.held files.old) (S.held files.new)) (W.contents output.old) (W.contents output.new) result }
-    ensures others { KeepFilesBut (name_of asked.now.output) (name_of asked.now.certificate) (S.held files.old) (S.held files.new) }
+    ensures others { KeepFilesButThree (name_of asked.now.output) (name_of asked.now.certificate) (name_of asked.now.insert) (S.held files.old) (S.held files.new) }
     ensures read { ReadsOfInput TEXT_LIMIT (string_bytes asked.now.litmus) (R.remaining input.old) (R.remaining input.new) }
 {
     let costs = asked.costs.as_deref();

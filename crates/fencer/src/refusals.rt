@@ -1,9 +1,9 @@
 //! Why there is no answer, and how an answer is printed.
 
-ghost use Rattle.std.specs.Prelude.{◌≡◌, IfOk};
+ghost use Rattle.std.specs.Prelude.{◌≡◌, IfOk, string_bytes};
 ghost use Rattle.program_streams.specs.Streams.{Prints};
 ghost use Rattle.fencer.specs.declared.refusals.AnswerFault.TheVariants as answer_fault;
-ghost use Rattle.fencer.specs.Refusals.{refusal_line, solve_line, IsTold};
+ghost use Rattle.fencer.specs.Refusals.{no_gap_line, no_gap_text, refusal_line, solve_line, IsTold};
 
 use crate::advice::{AskedText, refusal_advice};
 use crate::refused::tell_refusal;
@@ -23,6 +23,8 @@ pub enum AnswerFault {
     Run(RunFault),
     /// The labels aren't a run of the program.
     Replay(ReplayFault),
+    /// The program has no gap at this place: before this instruction of this thread.
+    NoSuchGap(u8, u8),
     /// The outcomes of the program aren't found.
     Solve(SolveFault),
 }
@@ -69,6 +71,22 @@ pub(crate) fn solve_line(alloc: Global, fault: SolveFault) -> Result<Vec<u8>, Al
     }
 }
 
+/// What is refused of a place without a gap.
+fn no_gap_text(alloc: Global, thread: u8, instruction: u8) -> Result<String, AllocError>
+    ensures { IfOk result (λ text. string_bytes text ≡ no_gap_text thread instruction) }
+{
+    format!(in alloc; "fences 1 NoSuchGap {thread}:{instruction}")
+}
+
+/// That a program has no gap at a place.
+pub(crate) fn no_gap_line(alloc: Global, thread: u8, instruction: u8) -> Result<Vec<u8>, AllocError>
+    ensures { IfOk result (λ line. line.items ≡ no_gap_line thread instruction) }
+{
+    let what = no_gap_text(alloc, thread, instruction)?;
+    let what = what.as_str();
+    Ok(format!(in alloc; "refused {what}\n")?.into_bytes())
+}
+
 /// The line of a refusal.
 pub(crate) fn refusal_line(alloc: Global, why: AnswerFault) -> Result<Vec<u8>, AllocError>
     ensures { IfOk result (λ line. line.items ≡ refusal_line why) }
@@ -77,6 +95,7 @@ pub(crate) fn refusal_line(alloc: Global, why: AnswerFault) -> Result<Vec<u8>, A
         AnswerFault::Litmus(fault) => litmus_line(alloc, fault),
         AnswerFault::Run(fault) => run_line(alloc, fault),
         AnswerFault::Replay(fault) => replay_line(alloc, fault),
+        AnswerFault::NoSuchGap(thread, instruction) => no_gap_line(alloc, thread, instruction),
         AnswerFault::Solve(fault) => solve_line(alloc, fault),
     }
 }

@@ -30,7 +30,7 @@ fn said_of(message: &Result<Message, AllocError>) -> RefusalMessage<'_> {
 }
 
 /// The message as one line, with the line of the text after it on a terminal.
-fn written(
+pub(crate) fn written(
     alloc: Global,
     message: &Result<Message, AllocError>,
     on_terminal: bool,

@@ -20,8 +20,9 @@ use crate::documented::documented;
 use crate::refusals::{AnswerFault, refusal_line};
 use crate::refused::tell_refusal;
 use crate::replays::{ended_lines, steps_of};
-use documents::trace_document;
+use documents::{LinedLitmus, trace_document};
 use fencer_words::{Run, TraceQuery};
+use gap_list::TextLines;
 use gap_sets::GapSet;
 use litmus_text::{Litmus, read_litmus};
 use messages::file_or_input;
@@ -43,6 +44,7 @@ struct Drawings {
 /// The table, the graph and the document of the steps of a run that ends so.
 fn drawn(
     alloc: Global,
+    text: &[u8],
     litmus: &Litmus<Program>,
     model: Model,
     steps: &[Step],
@@ -54,7 +56,12 @@ fn drawn(
     let mut graph = RunGraph::new(alloc)?;
     graph.push_run(alloc, litmus, litmus.name.as_slice(), steps, None)?;
     let graph = graph.into_text()?;
-    let document = trace_document(alloc, litmus, model, steps, ended)?;
+    let lines = TextLines::of_text(alloc, text)?;
+    let source = LinedLitmus {
+        litmus,
+        lines: &lines,
+    };
+    let document = trace_document(alloc, &source, model, steps, ended)?;
     Ok(Drawings {
         table,
         graph,
@@ -65,6 +72,7 @@ fn drawn(
 /// The table, the graph and the document of the steps that labels make in a run that ends so.
 fn drawings_of(
     alloc: Global,
+    text: &[u8],
     litmus: &Litmus<Program>,
     model: Model,
     labels: &[Label],
@@ -74,7 +82,7 @@ fn drawings_of(
     ensures fault { IfErr result (ReplayFaultIs litmus.now.program (machine_of_model litmus.now.program set.empty model) labels.now) }
 {
     let steps = steps(alloc, &litmus.program, &GapSet::empty(), model, labels)?;
-    match drawn(alloc, litmus, model, &steps, ended) {
+    match drawn(alloc, text, litmus, model, &steps, ended) {
         Ok(drawings) => Ok(drawings),
         Err(_) => Err(ReplayFault::OutOfMemory),
     }
@@ -105,13 +113,18 @@ struct Said {
 
 /// The lines of the run that labels spell in a program, its document and its graph. The labels are judged before the
 /// replay.
-fn run_said(alloc: Global, litmus: &Litmus<Program>, run: &Run) -> Result<Said, AnswerFault>
+fn run_said(
+    alloc: Global,
+    text: &[u8],
+    litmus: &Litmus<Program>,
+    run: &Run,
+) -> Result<Said, AnswerFault>
     ensures run { IfOk result (λ said. OfEachText litmus.now (λ bytes. PrintsTrace run.now.model (label_words_text run.now.labels.items) bytes said.lines.items said.document.items)) }
     ensures refused { IfErr result (λ why. OfEachText litmus.now (λ bytes. HasNoRun run.now.model (label_words_text run.now.labels.items) bytes why)) }
 {
     let labels = steps_of(alloc, run.labels.as_slice())?;
     let ended = replay(alloc, &litmus.program, &GapSet::empty(), run.model, &labels)?;
-    let drawings = drawings_of(alloc, litmus, run.model, &labels, &ended)?;
+    let drawings = drawings_of(alloc, text, litmus, run.model, &labels, &ended)?;
     let Drawings {
         table,
         graph,
@@ -134,7 +147,7 @@ fn trace_of(alloc: Global, bytes: &[u8], run: &Run) -> Result<Said, AnswerFault>
     ensures refused { IfErr result (HasNoRun run.now.model (label_words_text run.now.labels.items) bytes.now) }
 {
     let litmus = read_litmus(alloc, bytes)?;
-    run_said(alloc, &litmus, run)
+    run_said(alloc, bytes, &litmus, run)
 }
 
 /// What is delivered of a run.

@@ -6,13 +6,14 @@ ghost use Rattle.program_streams.specs.Files.{ReadsOfInput};
 ghost use Rattle.fencer_words.specs.CommandFiles.{name_of};
 ghost use Rattle.witness_text.specs.WitnessTexts.{HasNoWitnessText};
 ghost use Rattle.fencer.specs.Deliveries.{KeepFilesBut};
-ghost use Rattle.fencer.specs.Witnesses.{no_gap_text, witness_line, IsWitnessOf, IsWitnessShown, ShowsWitness};
+ghost use Rattle.fencer.specs.Witnesses.{witness_line, IsWitnessOf, IsWitnessShown, ShowsWitness};
 
 use crate::advice::{tell_idle_name, unread_advice, unread_litmus, witness_advice};
 use crate::delivery::{Answer, deliver};
 use crate::documented::documented;
-use crate::refusals::solve_line;
+use crate::refusals::{no_gap_line, solve_line};
 use crate::refused::tell_refusal;
+use crate::status::check_status;
 use fencer_words::WitnessQuery;
 use messages::file_or_input;
 use oracle::SolveFault;
@@ -22,29 +23,18 @@ use std::alloc::{AllocError, Global};
 use std::io::Read;
 use witness_text::{WitnessFault, WitnessText, witness_text};
 
-/// The refusal of a place without a gap.
-fn no_gap_text(alloc: Global, thread: u8, instruction: u8) -> Result<String, AllocError>
-    ensures { IfOk result (λ text. string_bytes text ≡ no_gap_text thread instruction) }
-{
-    format!(in alloc; "fences 1 NoSuchGap {thread}:{instruction}")
-}
-
 /// The line of why no run is shown.
 fn witness_line(alloc: Global, fault: WitnessFault) -> Result<Vec<u8>, AllocError>
     ensures { IfOk result (λ line. line.items ≡ witness_line fault) }
 {
     match fault {
         WitnessFault::Read(why) => litmus_line(alloc, why),
-        WitnessFault::NoSuchGap(thread, instruction) => {
-            let what = no_gap_text(alloc, thread, instruction)?;
-            let what = what.as_str();
-            Ok(format!(in alloc; "refused {what}\n")?.into_bytes())
-        }
+        WitnessFault::NoSuchGap(thread, instruction) => no_gap_line(alloc, thread, instruction),
         WitnessFault::OutOfMemory => solve_line(alloc, SolveFault::OutOfMemory),
     }
 }
 
-/// What is delivered of a run.
+/// What is delivered of a run; with a check the status says whether there is one.
 fn witness_answer(alloc: Global, bytes: &[u8], asked: &WitnessQuery) -> Result<Answer, WitnessFault>
     ensures told { IfOk result (ShowsWitness asked.now bytes.now) }
     ensures fault { IfErr result (HasNoWitnessText bytes.now asked.now.fences.items) }
@@ -52,6 +42,7 @@ fn witness_answer(alloc: Global, bytes: &[u8], asked: &WitnessQuery) -> Result<A
     let fences = asked.fences.as_slice();
     let said = witness_text(alloc, bytes, asked.model, asked.meets, fences)?;
     let WitnessText {
+        found,
         lines,
         graph,
         document,
@@ -64,7 +55,10 @@ fn witness_answer(alloc: Global, bytes: &[u8], asked: &WitnessQuery) -> Result<A
         document,
         graph,
     ) {
-        Ok(answer) => Ok(answer),
+        Ok(mut answer) => {
+            answer.status = check_status(asked.check, found);
+            Ok(answer)
+        }
         Err(_) => Err(WitnessFault::OutOfMemory),
     }
 }

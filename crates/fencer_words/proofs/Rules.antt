@@ -1,6 +1,6 @@
 -- The rules of the arguments that are built for `clap`.
 use Rattle.fencer_words.proofs.Vocabulary.{◌≡◌, ◌∙◌, Bool, true, false, ◌||◌, [], ◌∷◌, Option, Some, ap, ap₂, codes, Bor, usize_max, Command, Command-F, with_rule, App, Rule, Text, AddsArg, AddsSubcommand, app_of, new_app, new_rule, rule_of, with_subcommand}
-use Rattle.fencer_words.proofs.Vocabulary.{app_of_fields, on_top, IsBuiltAs, NameList, named_rule, model_rule, trees_rule, label_rule, flag_rule}
+use Rattle.fencer_words.proofs.Vocabulary.{app_of_fields, on_top, IsBuiltAs, NameList, named_rule, model_rule, trees_rule, label_rule, litmus_files_rule, flag_rule}
 use Rattle.clap.specs.{declared.builder.command.Command.TheViews.out-Command, declared.builder.action.ArgAction.TheVariants.Append, declared.builder.action.ArgAction.TheVariants.SetTrue}
 use Rattle.clap.specs.{declared.builder.arg.Arg.Arg, declared.builder.range.ValueRange.ValueRange, declared.builder.texts.Texts.TheVariants.One, declared.builder.value_parser.ValueParser.ValueParser}
 use Rattle.clap.specs.declared.builder.value_parser.ValueParser.TheVariants as parser
@@ -46,6 +46,21 @@ label_rule_of new ranged done new_is ranged_is range_is done_is =
     ∙ ap (λ (r : Rule). let s : Rule = record r { action = Some Append } in s)
     (ap (λ (a : Arg). rule_of a) ranged_is
     ∙ ap₂ (λ (r : Rule) (v : Option ValueRange). let s : Rule = record r { range = v } in s) new_is range_is)
+
+-- an argument that must be given, with a range of values and an action
+pub files_rule_of : (new ranged acted done : Arg) → rule_of new ≡ named_rule (codes "litmus")
+    → ranged ≡ record new { num_vals = ranged.num_vals }
+    → ranged.num_vals ≡ Some (record { start_inclusive = 1; end_inclusive = usize_max })
+    → acted ≡ record ranged { action = Some Append }
+    → done ≡ record acted { required = true }
+    → rule_of done ≡ litmus_files_rule
+files_rule_of new ranged acted done new_is ranged_is range_is acted_is done_is =
+    ap (λ (a : Arg). rule_of a) done_is
+    ∙ ap (λ (r : Rule). let s : Rule = record r { required = true } in s)
+    (ap (λ (a : Arg). rule_of a) acted_is
+    ∙ ap (λ (r : Rule). let s : Rule = record r { action = Some Append } in s)
+    (ap (λ (a : Arg). rule_of a) ranged_is
+    ∙ ap₂ (λ (r : Rule) (v : Option ValueRange). let s : Rule = record r { range = v } in s) new_is range_is))
 
 -- an argument with a long name and an action
 pub flag_rule_of : (new long done : Arg) (name : Bor Text) (id : Text) → rule_of new ≡ new_rule id

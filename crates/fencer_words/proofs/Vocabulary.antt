@@ -16,7 +16,7 @@ pub use Rattle.clap.specs.declared.builder.command.Command.{Command}
 pub use Rattle.clap.specs.declared.builder.command.Command.TheOpen.{Command-F}
 pub use Rattle.clap.specs.declared.error.Error.{Error}
 pub use Rattle.clap.specs.declared.error.kind.ErrorKind.TheVariants.{OutOfMemory}
-pub use Rattle.fencer_words.specs.CommandLines.{AreChoices, IsNoCommand, NameList, clashing, command_names, commands_app, faulty, fencer_app, flag_rule, for_nothing, label_rule, model_rule, trees_rule}
+pub use Rattle.fencer_words.specs.CommandLines.{AreChoices, IsNoCommand, NameList, clashing, command_names, commands_app, faulty, fencer_app, flag_rule, for_nothing, label_rule, litmus_files_rule, model_rule, trees_rule}
 pub use Rattle.fencer_words.specs.CommandLines.{name_of_form, named_rule, with_form, with_parameter}
 pub use Rattle.fencer_words.specs.Commands.{IsBuiltAs, IsJobMet, MeetsNoJob}
 pub use Rattle.fencer_words.specs.declared.parameter.ChoiceNames.{ChoiceNames}

@@ -18,8 +18,8 @@ use Rattle.fencer_words.specs.declared.form.Form.{Form}
 use Rattle.fencer_words.specs.declared.form.Form.TheVariants as form
 use Rattle.fencer_words.specs.declared.parameter.ChoiceNames.{ChoiceNames}
 use Rattle.fencer_words.specs.declared.parameter.Parameter.{Parameter}
-use Rattle.fencer_words.specs.declared.parameter.Parameter.TheVariants.{Certificate, CheckAnswer, CheckList, Condition, Costs, Fences, Graph, Graphs, Json, Labels, Litmus, Model, Not, Observed, Output, Page, Progress, Runs, Template, Trees, Workers}
-use Rattle.fencer_words.specs.declared.job.Job.{Job, TheVariants.Replay, TheVariants.Trace, TheVariants.Outcomes, TheVariants.Place, TheVariants.Why, TheVariants.Gaps, TheVariants.Witness}
+use Rattle.fencer_words.specs.declared.parameter.Parameter.TheVariants.{Certificate, CheckAnswer, CheckList, CheckRun, Condition, Costs, Fences, Graph, Graphs, Insert, Json, Labels, Litmus, LitmusFiles, Model, Not, Observed, Output, Page, Progress, Runs, Template, Trees, Workers}
+use Rattle.fencer_words.specs.declared.job.Job.{Job, TheVariants.Replay, TheVariants.Trace, TheVariants.Outcomes, TheVariants.Place, TheVariants.Why, TheVariants.Gaps, TheVariants.Witness, TheVariants.Survey}
 use Rattle.fencer_words.specs.declared.job.Run.{Run}
 use Rattle.fencer_words.specs.CommandFiles.{files_of, has_clash}
 use Rattle.fencer_words.specs.Places as places
@@ -65,6 +65,14 @@ trees_rule names = record (value_rule (codes "trees")) { parser = Some (parser.N
 abbrev pub litmus_rule : Rule
 litmus_rule = record (named_rule (codes "litmus")) { required = true }
 
+-- `LITMUS..`
+abbrev pub litmus_files_rule : Rule
+litmus_files_rule = record (named_rule (codes "litmus")) {
+  required = true;
+  action = Some Append;
+  range = Some (record { start_inclusive = 1; end_inclusive = usize_max });
+}
+
 -- `[LABEL..]`
 abbrev pub label_rule : Rule
 label_rule = record (named_rule (codes "label")) {
@@ -88,14 +96,17 @@ abbrev pub rule_of_parameter : ChoiceNames → Parameter → Rule
 rule_of_parameter names Certificate = value_rule (codes "certificate")
 rule_of_parameter names CheckAnswer = flag_rule (codes "check")
 rule_of_parameter names CheckList = flag_rule (codes "check")
+rule_of_parameter names CheckRun = flag_rule (codes "check")
 rule_of_parameter names Condition = flag_rule (codes "condition")
 rule_of_parameter names Costs = value_rule (codes "costs")
 rule_of_parameter names Fences = value_rule (codes "fences")
 rule_of_parameter names Graph = value_rule (codes "dot")
 rule_of_parameter names Graphs = value_rule (codes "dot")
+rule_of_parameter names Insert = value_rule (codes "insert")
 rule_of_parameter names Json = flag_rule (codes "json")
 rule_of_parameter names Labels = label_rule
 rule_of_parameter names Litmus = litmus_rule
+rule_of_parameter names LitmusFiles = litmus_files_rule
 rule_of_parameter names Model = model_rule names.models
 rule_of_parameter names Not = flag_rule (codes "not")
 rule_of_parameter names Observed = flag_rule (codes "observed")
@@ -111,7 +122,7 @@ rule_of_parameter names Workers = workers_rule
 
 -- the commands
 abbrev pub forms : List Form
-forms = form.Replay ∷ form.Outcomes ∷ form.Place ∷ form.Trace ∷ form.Why ∷ form.Gaps ∷ form.Witness ∷ []
+forms = form.Replay ∷ form.Outcomes ∷ form.Place ∷ form.Trace ∷ form.Why ∷ form.Gaps ∷ form.Witness ∷ form.Survey ∷ []
 
 -- the name of each
 abbrev pub name_of_form : Form → Text
@@ -122,16 +133,18 @@ name_of_form form.Trace = codes "trace"
 name_of_form form.Why = codes "why"
 name_of_form form.Gaps = codes "gaps"
 name_of_form form.Witness = codes "witness"
+name_of_form form.Survey = codes "survey"
 
 -- and the parameters that it takes
 abbrev pub parameters_of : Form → List Parameter
 parameters_of form.Replay = Model ∷ Litmus ∷ Labels ∷ []
-parameters_of form.Outcomes = Model ∷ Workers ∷ Runs ∷ Observed ∷ CheckList ∷ Json ∷ Progress ∷ Litmus ∷ []
-parameters_of form.Place = Costs ∷ Workers ∷ Trees ∷ Certificate ∷ Output ∷ Observed ∷ Condition ∷ CheckAnswer ∷ Json ∷ Progress ∷ Litmus ∷ []
+parameters_of form.Outcomes = Model ∷ Fences ∷ Workers ∷ Runs ∷ Observed ∷ CheckList ∷ Json ∷ Progress ∷ Litmus ∷ []
+parameters_of form.Place = Costs ∷ Workers ∷ Trees ∷ Certificate ∷ Output ∷ Insert ∷ Observed ∷ Condition ∷ CheckAnswer ∷ Json ∷ Progress ∷ Litmus ∷ []
 parameters_of form.Trace = Model ∷ Graph ∷ Page ∷ Json ∷ Litmus ∷ Labels ∷ []
 parameters_of form.Why = Costs ∷ Workers ∷ Graphs ∷ Page ∷ Observed ∷ Condition ∷ Json ∷ Progress ∷ Litmus ∷ []
-parameters_of form.Gaps = Costs ∷ Template ∷ Litmus ∷ []
-parameters_of form.Witness = Model ∷ Not ∷ Fences ∷ Graph ∷ Page ∷ Json ∷ Litmus ∷ []
+parameters_of form.Gaps = Costs ∷ Template ∷ Json ∷ Litmus ∷ []
+parameters_of form.Witness = Model ∷ Not ∷ Fences ∷ Graph ∷ Page ∷ CheckRun ∷ Json ∷ Litmus ∷ []
+parameters_of form.Survey = Workers ∷ LitmusFiles ∷ []
 
 -- a command with one parameter more
 abbrev pub with_parameter : ChoiceNames → App → Parameter → App
@@ -230,6 +243,7 @@ IsJobOf name rows (Trace asked) =
 IsJobOf name rows (Outcomes asked) =
     (name ≡ codes "outcomes")
     × (asked.model ≡ model_in rows)
+    × places.AreGivenPlaces (first_of (codes "fences") rows) asked.fences.items
     × AreWorkers (text_in (codes "workers") rows) asked.workers
     × (asked.runs ≡ is_flagged (codes "runs") rows)
     × (asked.observed ≡ is_flagged (codes "observed") rows)
@@ -244,6 +258,7 @@ IsJobOf name rows (Place asked) =
     × (asked.trees ≡ trees_in rows)
     × (option_map string_bytes asked.certificate ≡ first_of (codes "certificate") rows)
     × (option_map string_bytes asked.output ≡ first_of (codes "output") rows)
+    × (option_map string_bytes asked.insert ≡ first_of (codes "insert") rows)
     × (asked.kind ≡ kind_in rows)
     × (asked.check ≡ is_flagged (codes "check") rows)
     × (asked.json ≡ is_flagged (codes "json") rows)
@@ -256,6 +271,7 @@ IsJobOf name rows (Why asked) =
     × (asked.placement.trees ≡ None)
     × (asked.placement.certificate ≡ None)
     × (asked.placement.output ≡ None)
+    × (asked.placement.insert ≡ None)
     × (asked.placement.kind ≡ kind_in rows)
     × (asked.placement.check ≡ false)
     × (asked.placement.json ≡ is_flagged (codes "json") rows)
@@ -267,6 +283,7 @@ IsJobOf name rows (Gaps asked) =
     (name ≡ codes "gaps")
     × (option_map string_bytes asked.costs ≡ first_of (codes "costs") rows)
     × (asked.template ≡ is_flagged (codes "template") rows)
+    × (asked.json ≡ is_flagged (codes "json") rows)
     × (string_bytes asked.litmus ≡ text_in (codes "litmus") rows)
 IsJobOf name rows (Witness asked) =
     (name ≡ codes "witness")
@@ -275,8 +292,13 @@ IsJobOf name rows (Witness asked) =
     × places.AreGivenPlaces (first_of (codes "fences") rows) asked.fences.items
     × (option_map string_bytes asked.graph ≡ first_of (codes "dot") rows)
     × (option_map string_bytes asked.page ≡ first_of (codes "html") rows)
+    × (asked.check ≡ is_flagged (codes "check") rows)
     × (asked.json ≡ is_flagged (codes "json") rows)
     × (string_bytes asked.litmus ≡ text_in (codes "litmus") rows)
+IsJobOf name rows (Survey asked) =
+    (name ≡ codes "survey")
+    × AreWorkers (text_in (codes "workers") rows) asked.workers
+    × (map string_bytes asked.files.items ≡ texts_in (codes "litmus") rows)
 
 -- the arguments name the job: `clap` finds no fault in them, they ask for one comparison of outcomes, and for no fences of the
 -- sequential machine

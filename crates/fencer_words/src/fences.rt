@@ -1,10 +1,14 @@
 //! The value of `--fences`.
 
-ghost use Rattle.std.specs.Prelude.{◌≡◌, ◌≤◌, ℕ, List, IfNone, IfOk, IfSome, Some, map};
+ghost use Rattle.std.specs.Prelude.{◌≡◌, ◌≤◌, ℕ, List, IfNone, IfOk, IfSome, Some, codes, map};
 ghost use Rattle.std.specs.List.{IsDistinct, list_any};
 ghost use Rattle.std.specs.Fmt.{decimal};
-ghost use Rattle.fencer_words.specs.Places.{Place, pieces as pieces_of, place_numbers, is_same_place, ArePlaceTexts, IsPlaceText, ListsNoPlaces, ListsPlaces};
+ghost use Rattle.clap.specs.Words.{first_of, found_of, rows_of};
+ghost use Rattle.fencer_words.specs.CommandLines.{LacksPlaces};
+ghost use Rattle.fencer_words.specs.Places.{AreGivenPlaces, Place, pieces as pieces_of, place_numbers, is_same_place, ArePlaceTexts, IsPlaceText, ListsNoPlaces, ListsPlaces};
 
+use crate::arguments::value_of;
+use clap::ArgMatches;
 use std::alloc::{AllocError, Global};
 use text_tokens::plain_number_up_to;
 
@@ -74,10 +78,24 @@ fn places_in(alloc: Global, texts: &[&[u8]]) -> Result<Option<Vec<(u8, u8)>>, Al
 }
 
 /// The places of gaps, with commas between them. `None` where the text is no such list, or has a place twice.
-pub fn places_of(alloc: Global, text: &[u8]) -> Result<Option<Vec<(u8, u8)>>, AllocError>
+fn places_of(alloc: Global, text: &[u8]) -> Result<Option<Vec<(u8, u8)>>, AllocError>
     ensures some { IfOk result (λ places. IfSome places (λ places. ListsPlaces text.now places.items)) }
     ensures none { IfOk result (λ places. IfNone places (ListsNoPlaces text.now)) }
 {
     let texts = pieces(alloc, text, b',')?;
     places_in(alloc, texts.as_slice())
+}
+
+/// The places of the gaps to be fenced. `None` where the value is no list of places.
+pub fn fences_in(
+    alloc: Global,
+    matches: &ArgMatches<'_>,
+) -> Result<Option<Vec<(u8, u8)>>, AllocError>
+    ensures some { IfOk result (λ places. IfSome places (λ places. AreGivenPlaces (first_of (codes "fences") (rows_of (found_of matches.now))) places.items)) }
+    ensures none { IfOk result (λ places. IfNone places (LacksPlaces (rows_of (found_of matches.now)))) }
+{
+    match value_of(matches, "fences") {
+        Some(text) => places_of(alloc, text.as_bytes()),
+        None => Ok(Some(Vec::new(alloc))),
+    }
 }

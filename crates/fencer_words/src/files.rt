@@ -1,7 +1,7 @@
 //! The files that a job names.
 
 ghost use Rattle.std.specs.Prelude.{◌≡◌, option_map};
-ghost use Rattle.fencer_words.specs.CommandFiles.{file_of_litmus, files_of, has_clash, is_same};
+ghost use Rattle.fencer_words.specs.CommandFiles.{file_of_litmus, files_of, has_clash, is_same, no_files, third_of};
 ghost use Rattle.fencer_words.specs.Internal.Names.{kept_names};
 
 use crate::job::Job;
@@ -13,6 +13,22 @@ pub(crate) struct FileNames<'a> {
     pub(crate) costs: Option<&'a str>,
     pub(crate) first: Option<&'a str>,
     pub(crate) second: Option<&'a str>,
+    pub(crate) third: Option<&'a str>,
+}
+
+impl FileNames<'_> {
+    /// No names: of files that are only read none can clash.
+    fn none() -> Self
+        ensures { kept_names result ≡ no_files }
+    {
+        FileNames {
+            litmus: None,
+            costs: None,
+            first: None,
+            second: None,
+            third: None,
+        }
+    }
 }
 
 /// The litmus file, where it is not the program's input.
@@ -20,6 +36,16 @@ fn file_of_litmus(litmus: &str) -> Option<&str>
     ensures { option_map (λ name. name.now) result ≡ file_of_litmus litmus.now }
 {
     if litmus == "-" { None } else { Some(litmus) }
+}
+
+/// The third file that a job writes, where it is named.
+fn third_of(job: &Job) -> Option<&str>
+    ensures { option_map (λ name. name.now) result ≡ third_of job.now }
+{
+    match job {
+        Job::Place(asked) => asked.insert.as_deref(),
+        _ => None,
+    }
 }
 
 /// The files of a job.
@@ -54,12 +80,14 @@ pub(crate) fn files_of(job: &Job) -> FileNames<'_>
             query.page.as_deref(),
             query.graph.as_deref(),
         ),
+        Job::Survey(_) => return FileNames::none(),
     };
     FileNames {
         litmus: file_of_litmus(litmus.as_str()),
         costs,
         first,
         second,
+        third: third_of(job),
     }
 }
 
@@ -82,4 +110,8 @@ pub(crate) fn has_clash(names: FileNames<'_>) -> bool
         || is_same(names.second, names.litmus)
         || is_same(names.second, names.costs)
         || is_same(names.first, names.second)
+        || is_same(names.third, names.litmus)
+        || is_same(names.third, names.costs)
+        || is_same(names.third, names.first)
+        || is_same(names.third, names.second)
 }

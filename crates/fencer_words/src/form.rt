@@ -8,10 +8,11 @@ ghost use Rattle.fencer_words.specs.Commands.{IsBuiltAs};
 
 use crate::parameter::ChoiceNames;
 use crate::parameter::Parameter::{
-    self, Certificate, CheckAnswer, CheckList, Condition, Costs, Fences, Graph, Graphs, Json,
-    Labels, Litmus, Model, Not, Observed, Output, Page, Progress, Runs, Template, Trees, Workers,
+    self, Certificate, CheckAnswer, CheckList, CheckRun, Condition, Costs, Fences, Graph, Graphs,
+    Insert, Json, Labels, Litmus, LitmusFiles, Model, Not, Observed, Output, Page, Progress, Runs,
+    Template, Trees, Workers,
 };
-use crate::{gaps, outcomes, place, replay, trace, why, witness};
+use crate::{gaps, outcomes, place, replay, survey, trace, why, witness};
 use clap::Command;
 use std::alloc::{AllocError, Global};
 
@@ -25,6 +26,7 @@ pub enum Form {
     Why,
     Gaps,
     Witness,
+    Survey,
 }
 
 impl Form {
@@ -40,6 +42,7 @@ impl Form {
             Form::Why,
             Form::Gaps,
             Form::Witness,
+            Form::Survey,
         ]
     }
 
@@ -54,6 +57,7 @@ impl Form {
             Form::Why => "why",
             Form::Gaps => "gaps",
             Form::Witness => "witness",
+            Form::Survey => "survey",
         }
     }
 
@@ -64,7 +68,7 @@ impl Form {
         match self {
             Form::Replay => &[Model, Litmus, Labels],
             Form::Outcomes => &[
-                Model, Workers, Runs, Observed, CheckList, Json, Progress, Litmus,
+                Model, Fences, Workers, Runs, Observed, CheckList, Json, Progress, Litmus,
             ],
             Form::Place => &[
                 Costs,
@@ -72,6 +76,7 @@ impl Form {
                 Trees,
                 Certificate,
                 Output,
+                Insert,
                 Observed,
                 Condition,
                 CheckAnswer,
@@ -83,8 +88,9 @@ impl Form {
             Form::Why => &[
                 Costs, Workers, Graphs, Page, Observed, Condition, Json, Progress, Litmus,
             ],
-            Form::Gaps => &[Costs, Template, Litmus],
-            Form::Witness => &[Model, Not, Fences, Graph, Page, Json, Litmus],
+            Form::Gaps => &[Costs, Template, Json, Litmus],
+            Form::Witness => &[Model, Not, Fences, Graph, Page, CheckRun, Json, Litmus],
+            Form::Survey => &[Workers, LitmusFiles],
         }
     }
 
@@ -98,6 +104,7 @@ impl Form {
             Form::Why => (why::FIRST, why::LAST),
             Form::Gaps => (gaps::FIRST, gaps::LAST),
             Form::Witness => (witness::FIRST, witness::LAST),
+            Form::Survey => (survey::FIRST, survey::LAST),
         }
     }
 

@@ -1,4 +1,4 @@
-//! `gaps [--costs FILE] [--template] LITMUS`
+//! `gaps [--costs FILE] [--template] [--json] LITMUS`
 
 ghost use Rattle.std.specs.Prelude.{IfOk, codes};
 ghost use Rattle.clap.specs.Words.{found_of, rows_of};
@@ -29,6 +29,7 @@ pub fn gaps_job(alloc: Global, matches: &ArgMatches<'_>) -> Result<Job, AllocErr
     Ok(Job::Gaps(GapQuery {
         costs: text_given(alloc, matches, "costs")?,
         template: is_flagged(matches, "template"),
+        json: is_flagged(matches, "json"),
         litmus: text_in(alloc, matches, "litmus")?,
     }))
 }

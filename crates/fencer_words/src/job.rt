@@ -26,6 +26,8 @@ pub struct Placement {
     pub certificate: Option<String>,
     /// The file to which the fenced program is written.
     pub output: Option<String>,
+    /// The file to which the litmus text is written with the fences put in.
+    pub insert: Option<String>,
     /// What is compared of outcomes.
     pub kind: ShownKind,
     /// Report by the status whether the answer has a gap.
@@ -64,6 +66,8 @@ pub struct TraceQuery {
 #[derive(Drop)]
 pub struct OutcomeQuery {
     pub model: Model,
+    /// The places of the gaps that are fenced: the thread and the instruction after each.
+    pub fences: Vec<(u8, u8)>,
     /// How many workers search: 1 to `MAX_WORKERS`.
     pub workers: u8,
     /// Print a run of each outcome too.
@@ -91,6 +95,8 @@ pub struct WitnessQuery {
     pub graph: Option<String>,
     /// The file to which the page of the document is written.
     pub page: Option<String>,
+    /// Report by the status whether a run is shown.
+    pub check: bool,
     /// Print the document in place of the text.
     pub json: bool,
     pub litmus: String,
@@ -103,7 +109,17 @@ pub struct GapQuery {
     pub costs: Option<String>,
     /// Print a cost file in place of the list.
     pub template: bool,
+    /// Print a document in place of either.
+    pub json: bool,
     pub litmus: String,
+}
+
+/// Surveys that are asked for: what one look at each program finds. Files are given by their names.
+#[derive(Drop)]
+pub struct SurveyQuery {
+    /// How many workers search: 1 to `MAX_WORKERS`.
+    pub workers: u8,
+    pub files: Vec<String>,
 }
 
 /// What a command line asks for. `-` as LITMUS is the program's input.
@@ -123,4 +139,6 @@ pub enum Job {
     Gaps(GapQuery),
     /// Show a run of the program of a litmus file of which the condition's formula has some truth.
     Witness(WitnessQuery),
+    /// Say what one look at the program of each litmus file finds.
+    Survey(SurveyQuery),
 }

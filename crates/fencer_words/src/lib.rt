@@ -17,10 +17,13 @@ mod outcomes;
 mod parameter;
 mod place;
 mod replay;
+mod survey;
 mod trace;
 mod why;
 mod witness;
 mod words;
 
-pub use job::{GapQuery, Job, OutcomeQuery, Placement, Run, TraceQuery, WhyQuery, WitnessQuery};
+pub use job::{
+    GapQuery, Job, OutcomeQuery, Placement, Run, SurveyQuery, TraceQuery, WhyQuery, WitnessQuery,
+};
 pub use words::read_words;

@@ -1,10 +1,11 @@
-//! `outcomes [--model MODEL] [--workers N] [--runs] [--observed] [--check] [--json] [--progress] LITMUS`
+//! `outcomes [--model MODEL] [--fences T:K,..] [--workers N] [--runs] [--observed] [--check] [--json] [--progress] LITMUS`
 
-ghost use Rattle.std.specs.Prelude.{IfOk, codes};
+ghost use Rattle.std.specs.Prelude.{IfNone, IfOk, IfSome, codes};
 ghost use Rattle.clap.specs.Words.{found_of, rows_of};
-ghost use Rattle.fencer_words.specs.CommandLines.{IsJobOf};
+ghost use Rattle.fencer_words.specs.CommandLines.{IsJobOf, LacksPlaces};
 
 use crate::arguments::{is_flagged, model_in, text_in, value_in, workers_of};
+use crate::fences::fences_in;
 use crate::job::{Job, OutcomeQuery};
 use clap::ArgMatches;
 use std::alloc::{AllocError, Global};
@@ -22,17 +23,23 @@ command line or this help, 3 with --check for a condition that fails.
 
 Example: fencer outcomes --model sequential examples/SB.litmus";
 
-pub fn outcomes_job(alloc: Global, matches: &ArgMatches<'_>) -> Result<Job, AllocError>
-    ensures { IfOk result (IsJobOf (codes "outcomes") (rows_of (found_of matches.now))) }
+/// The job, unless the value of `--fences` is no list of places.
+pub fn outcomes_job(alloc: Global, matches: &ArgMatches<'_>) -> Result<Option<Job>, AllocError>
+    ensures some { IfOk result (λ job. IfSome job (IsJobOf (codes "outcomes") (rows_of (found_of matches.now)))) }
+    ensures none { IfOk result (λ job. IfNone job (LacksPlaces (rows_of (found_of matches.now)))) }
 {
-    Ok(Job::Outcomes(OutcomeQuery {
-        model: model_in(matches),
-        workers: workers_of(value_in(matches, "workers")),
-        runs: is_flagged(matches, "runs"),
-        observed: is_flagged(matches, "observed"),
-        check: is_flagged(matches, "check"),
-        json: is_flagged(matches, "json"),
-        progress: is_flagged(matches, "progress"),
-        litmus: text_in(alloc, matches, "litmus")?,
-    }))
+    match fences_in(alloc, matches)? {
+        Some(fences) => Ok(Some(Job::Outcomes(OutcomeQuery {
+            model: model_in(matches),
+            fences,
+            workers: workers_of(value_in(matches, "workers")),
+            runs: is_flagged(matches, "runs"),
+            observed: is_flagged(matches, "observed"),
+            check: is_flagged(matches, "check"),
+            json: is_flagged(matches, "json"),
+            progress: is_flagged(matches, "progress"),
+            litmus: text_in(alloc, matches, "litmus")?,
+        }))),
+        None => Ok(None),
+    }
 }

@@ -2,7 +2,7 @@
 
 ghost use Rattle.std.specs.Prelude.{◌≡◌, false};
 ghost use Rattle.clap.specs.Words.{rule_of};
-ghost use Rattle.fencer_words.specs.CommandLines.{flag_rule, label_rule, litmus_rule, model_rule, named_rule, rule_of_parameter, trees_rule, value_rule, workers_rule};
+ghost use Rattle.fencer_words.specs.CommandLines.{flag_rule, label_rule, litmus_files_rule, litmus_rule, model_rule, named_rule, rule_of_parameter, trees_rule, value_rule, workers_rule};
 
 use clap::builder::ValueParser;
 use clap::{Arg, ArgAction};
@@ -15,6 +15,8 @@ const CHECK_ANSWER_HELP: &str = "Return status 3 where the program needs a fence
 
 const CHECK_LIST_HELP: &str = "Return status 3 where the condition fails";
 
+const CHECK_RUN_HELP: &str = "Return status 3 where a run is shown";
+
 const CONDITION_HELP: &str = "Compare only whether an outcome meets the condition's formula";
 
 const COSTS_HELP: &str = "Read what gaps cost, in lines like `0:1 5`; without a line a gap costs 1";
@@ -26,12 +28,16 @@ const GRAPH_HELP: &str = "Write the run's candidate execution there, as a graph 
 
 const GRAPHS_HELP: &str = "Write the candidate execution of each run there, as graphs for Graphviz";
 
+const INSERT_HELP: &str = "Write LITMUS there, with an MFENCE put in for each fence";
+
 const JSON_HELP: &str = "Print a JSON document in place of the text";
 
 const LABEL_HELP: &str =
     "e0: thread 0 executes an instruction; f0: its oldest waiting store reaches memory";
 
 const LITMUS_HELP: &str = "The litmus file, or - for standard input";
+
+const LITMUS_FILES_HELP: &str = "The litmus files; - for standard input";
 
 const NOT_HELP: &str = "Show a run whose outcome does not meet the formula";
 
@@ -66,6 +72,8 @@ pub enum Parameter {
     CheckAnswer,
     /// `--check` of a list of outcomes.
     CheckList,
+    /// `--check` of a run that is sought.
+    CheckRun,
     Condition,
     Costs,
     Fences,
@@ -73,9 +81,12 @@ pub enum Parameter {
     Graph,
     /// `--dot` of several runs.
     Graphs,
+    Insert,
     Json,
     Labels,
     Litmus,
+    /// `LITMUS..`
+    LitmusFiles,
     Model,
     Not,
     Observed,
@@ -99,14 +110,17 @@ impl Parameter {
             Parameter::Certificate => file_arg(alloc, "certificate", CERTIFICATE_HELP),
             Parameter::CheckAnswer => flag_arg(alloc, "check", CHECK_ANSWER_HELP),
             Parameter::CheckList => flag_arg(alloc, "check", CHECK_LIST_HELP),
+            Parameter::CheckRun => flag_arg(alloc, "check", CHECK_RUN_HELP),
             Parameter::Condition => flag_arg(alloc, "condition", CONDITION_HELP),
             Parameter::Costs => file_arg(alloc, "costs", COSTS_HELP),
             Parameter::Fences => value_arg(alloc, "fences", "T:K,..", FENCES_HELP),
             Parameter::Graph => file_arg(alloc, "dot", GRAPH_HELP),
             Parameter::Graphs => file_arg(alloc, "dot", GRAPHS_HELP),
+            Parameter::Insert => file_arg(alloc, "insert", INSERT_HELP),
             Parameter::Json => flag_arg(alloc, "json", JSON_HELP),
             Parameter::Labels => label_arg(alloc),
             Parameter::Litmus => litmus_arg(alloc),
+            Parameter::LitmusFiles => litmus_files_arg(alloc),
             Parameter::Model => model_arg(alloc, names.models),
             Parameter::Not => flag_arg(alloc, "not", NOT_HELP),
             Parameter::Observed => flag_arg(alloc, "observed", OBSERVED_HELP),
@@ -198,6 +212,17 @@ fn litmus_arg<'a>(alloc: Global) -> Arg<'a>
     ensures own { result.global ≡ false }
 {
     named_arg(alloc, "litmus", "LITMUS", LITMUS_HELP).required(true)
+}
+
+/// `LITMUS..`
+fn litmus_files_arg<'a>(alloc: Global) -> Arg<'a>
+    ensures rule { rule_of result ≡ litmus_files_rule }
+    ensures own { result.global ≡ false }
+{
+    named_arg(alloc, "litmus", "LITMUS", LITMUS_FILES_HELP)
+        .num_args(1..)
+        .action(ArgAction::Append)
+        .required(true)
 }
 
 /// `[LABEL..]`

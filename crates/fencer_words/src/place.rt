@@ -1,4 +1,4 @@
-//! `place [--costs FILE] [--workers N] [--trees RULE] [--certificate FILE] [--output FILE] [--observed | --condition] [--check] [--json] [--progress] LITMUS`
+//! `place [--costs FILE] [--workers N] [--trees RULE] [--certificate FILE] [--output FILE] [--insert FILE] [--observed | --condition] [--check] [--json] [--progress] LITMUS`
 
 ghost use Rattle.std.specs.Prelude.{IfOk, codes};
 ghost use Rattle.clap.specs.Words.{found_of, rows_of};
@@ -21,7 +21,7 @@ A program that is wrong on a sequential machine too gets an answer: fences only 
 buffers add. See first whether its condition holds with `fencer outcomes --model sequential`.
 
 The status is 0 for an answer, 1 for a refusal (docs/formats.md explains each), 2 for a bad
-command line or this help, 3 with --check for an answer with a gap.
+command line or this help, 3 with --check where the program needs a fence.
 
 Example: fencer place --certificate SB.cert examples/SB.litmus";
 
@@ -34,6 +34,7 @@ pub fn place_job(alloc: Global, matches: &ArgMatches<'_>) -> Result<Job, AllocEr
         trees: trees_in(matches),
         certificate: text_given(alloc, matches, "certificate")?,
         output: text_given(alloc, matches, "output")?,
+        insert: text_given(alloc, matches, "insert")?,
         kind: kind_in(matches),
         check: is_flagged(matches, "check"),
         json: is_flagged(matches, "json"),

@@ -19,7 +19,7 @@ command line or this help.
 
 Example: fencer replay examples/SB.litmus e0 e1 e0 e1 f0 f1";
 
-fn owned(alloc: Global, words: &[&str]) -> Result<Vec<String>, AllocError>
+pub fn owned(alloc: Global, words: &[&str]) -> Result<Vec<String>, AllocError>
     ensures { IfOk result (λ all. map string_bytes all.items ≡ map (λ word. word.now) words.now) }
 {
     let mut all = Vec::new(alloc);

@@ -34,6 +34,7 @@ pub fn why_job(alloc: Global, matches: &ArgMatches<'_>) -> Result<Job, AllocErro
         trees: None,
         certificate: None,
         output: None,
+        insert: None,
         kind: kind_in(matches),
         check: false,
         json: is_flagged(matches, "json"),

@@ -15,6 +15,7 @@ use crate::outcomes::outcomes_job;
 use crate::parameter::ChoiceNames;
 use crate::place::place_job;
 use crate::replay::replay_job;
+use crate::survey::survey_job;
 use crate::trace::trace_job;
 use crate::why::why_job;
 use crate::witness::witness_job;
@@ -91,12 +92,13 @@ fn job_of(alloc: Global, name: &str, matches: &ArgMatches<'_>) -> Result<Option<
 {
     match name {
         "replay" => Ok(Some(replay_job(alloc, matches)?)),
-        "outcomes" => Ok(Some(outcomes_job(alloc, matches)?)),
+        "outcomes" => outcomes_job(alloc, matches),
         "place" => Ok(Some(place_job(alloc, matches)?)),
         "trace" => Ok(Some(trace_job(alloc, matches)?)),
         "why" => Ok(Some(why_job(alloc, matches)?)),
         "gaps" => Ok(Some(gaps_job(alloc, matches)?)),
         "witness" => witness_job(alloc, matches),
+        "survey" => Ok(Some(survey_job(alloc, matches)?)),
         _ => Ok(None),
     }
 }

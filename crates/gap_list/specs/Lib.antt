@@ -1,2 +1,4 @@
 pub mod CostFiles
 pub mod Lists
+pub mod Lines
+pub mod Notes

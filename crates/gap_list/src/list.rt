@@ -1,10 +1,10 @@
 //! The list of the gaps.
 
-ghost use Rattle.std.specs.Prelude.{◌≡◌, ◌++◌, IfOk, OnOk, option_map, slice_index};
+ghost use Rattle.std.specs.Prelude.{◌≡◌, ◌++◌, IfOk, OnOk, option_map};
 ghost use Rattle.tso_program.specs.Listings.{instr_at};
 ghost use Rattle.gap_list.specs.Lists.{cost_part, gap_line, instruction_part, IsGapList};
 
-use crate::text_lines::gap_lines;
+use crate::text_lines::TextLines;
 use gap_sets::{Costs, GapSet};
 use litmus_reader::Litmus;
 use litmus_text::push_code;
@@ -21,8 +21,8 @@ fn instr_at(program: &Program, t: u8, k: u8) -> Option<Instr>
     }
 }
 
-/// Adds an instruction, as it is written.
-fn push_instruction(
+/// Adds instruction k of thread t, as it is written; nothing if there is none.
+pub fn push_instruction(
     out: &mut Vec<u8>,
     litmus: &Litmus<Program>,
     t: u8,
@@ -54,18 +54,19 @@ fn push_cost(
     Ok(())
 }
 
-/// Adds the line of a gap, whose instruction stands in this line of the text.
+/// Adds the line of a gap.
 fn push_gap_line(
     alloc: Global,
     out: &mut Vec<u8>,
     litmus: &Litmus<Program>,
     costs: Option<&Costs>,
+    lines: &TextLines,
     gap: u8,
-    line: u32,
 ) -> Result<(), AllocError>
-    ensures { OnOk result (out.new.items ≡ out.old.items ++ gap_line litmus.now (option_map (λ costs. costs.now) costs.entry) gap line) }
+    ensures { OnOk result (out.new.items ≡ out.old.items ++ gap_line litmus.now (option_map (λ costs. costs.now) costs.entry) lines.now gap) }
 {
     if let Some((t, k)) = litmus.program.gap_place(gap) {
+        let line = lines.line(t, k as usize);
         let place = format!(in alloc; "{t}:{k} line {line} ")?;
         out.extend_from_slice(place.as_bytes())?;
         push_instruction(out, litmus, t, k)?;
@@ -75,27 +76,19 @@ fn push_gap_line(
     Ok(())
 }
 
-/// The line of a text in which a gap's instruction stands.
-fn line_of(lines: &[u32], gap: u8) -> u32
-    ensures { result ≡ slice_index lines.now gap }
-{
-    lines.get(gap as usize).copied().unwrap_or(0)
-}
-
 /// The gaps of the program of a litmus text, a line a gap: where it lies, in which line of the text the instruction after
 /// it stands, this instruction, and what the gap costs where costs are given.
 pub fn gap_list(
     alloc: Global,
-    text: &[u8],
+    lines: &TextLines,
     litmus: &Litmus<Program>,
     costs: Option<&Costs>,
 ) -> Result<Vec<u8>, AllocError>
     ensures { IfOk result (λ list. IsGapList litmus.now (option_map (λ costs. costs.now) costs.entry) list.items) }
 {
-    let lines = gap_lines(alloc, text)?;
     let mut out = Vec::new(alloc);
     for gap in 0..litmus.program.gaps() {
-        push_gap_line(alloc, &mut out, litmus, costs, gap, line_of(&lines, gap))?;
+        push_gap_line(alloc, &mut out, litmus, costs, lines, gap)?;
     }
     Ok(out)
 }

@@ -1,40 +1,50 @@
-//! In which lines of a text the instructions after the gaps stand.
+//! In which lines of a text the instructions of its threads stand.
+
+ghost use Rattle.std.specs.Prelude.{◌≡◌};
+ghost use Rattle.gap_list.specs.Lines.{line_at};
 
 use litmus_lines::{line_number, read_first_line, skip_lines};
 use litmus_syntax::{Body, Cell, SyntaxFault, read_body};
 use std::alloc::{AllocError, Global};
 use text_tokens::{Tokens, lex};
 
-/// Adds the lines of a thread's instructions but its first.
-fn push_thread(
-    out: &mut Vec<u32>,
+/// The lines of a litmus text in which its instructions stand.
+#[derive(Drop)]
+pub struct TextLines {
+    /// For each thread that of each of its instructions.
+    threads: Vec<Vec<u32>>,
+}
+
+/// The lines of a thread's instructions.
+fn lines_of_thread(
+    alloc: Global,
     tokens: &Tokens,
     rows: &[Vec<Cell<'_>>],
     thread: usize,
-) -> Result<(), AllocError> {
-    let mut is_first = true;
+) -> Result<Vec<u32>, AllocError> {
+    let mut lines = Vec::new(alloc);
     for row in rows {
         let Some(cell) = row.get(thread) else {
             continue;
         };
-        if cell.code.is_none() {
-            continue;
+        if cell.code.is_some() {
+            lines.push(tokens.line(tokens.as_slice().len().saturating_sub(cell.left)))?;
         }
-        if !is_first {
-            out.push(tokens.line(tokens.as_slice().len().saturating_sub(cell.left)))?;
-        }
-        is_first = false;
-    }
-    Ok(())
-}
-
-/// The lines of the instructions after the gaps of a body, by the gaps' numbers.
-fn lines_of_body(alloc: Global, tokens: &Tokens, body: &Body<'_>) -> Result<Vec<u32>, AllocError> {
-    let mut lines = Vec::new(alloc);
-    for thread in 0..body.threads {
-        push_thread(&mut lines, tokens, body.rows.as_slice(), thread)?;
     }
     Ok(lines)
+}
+
+/// The lines of the instructions of a body.
+fn lines_of_body(
+    alloc: Global,
+    tokens: &Tokens,
+    body: &Body<'_>,
+) -> Result<Vec<Vec<u32>>, AllocError> {
+    let mut threads = Vec::new(alloc);
+    for thread in 0..body.threads {
+        threads.push(lines_of_thread(alloc, tokens, body.rows.as_slice(), thread)?)?;
+    }
+    Ok(threads)
 }
 
 /// The tokens of a text from its `{` on; of a text without one, none.
@@ -47,12 +57,25 @@ fn tokens_of(alloc: Global, text: &[u8]) -> Result<Tokens, AllocError> {
     lex(alloc, others, first)
 }
 
-/// The lines of a litmus text in which the instructions after its gaps stand, by the gaps' numbers. Another text has none.
-pub(crate) fn gap_lines(alloc: Global, text: &[u8]) -> Result<Vec<u32>, AllocError> {
-    let tokens = tokens_of(alloc, text)?;
-    match read_body(alloc, tokens.as_slice()) {
-        Ok((body, _)) => lines_of_body(alloc, &tokens, &body),
-        Err(SyntaxFault::Refused(_)) => Ok(Vec::new(alloc)),
-        Err(SyntaxFault::OutOfMemory) => Err(AllocError),
+impl TextLines {
+    /// Those of a litmus text. Another text has none.
+    pub fn of_text(alloc: Global, text: &[u8]) -> Result<TextLines, AllocError> {
+        let tokens = tokens_of(alloc, text)?;
+        let threads = match read_body(alloc, tokens.as_slice()) {
+            Ok((body, _)) => lines_of_body(alloc, &tokens, &body)?,
+            Err(SyntaxFault::Refused(_)) => Vec::new(alloc),
+            Err(SyntaxFault::OutOfMemory) => return Err(AllocError),
+        };
+        Ok(TextLines { threads })
+    }
+
+    /// The line of instruction k of thread t; 0 if there is none.
+    pub fn line(&self, t: u8, k: usize) -> u32
+        ensures { result ≡ line_at self.now t k }
+    {
+        match self.threads.as_slice().get(t as usize) {
+            Some(lines) => lines.as_slice().get(k).copied().unwrap_or(0),
+            None => 0,
+        }
     }
 }

@@ -1,9 +1,6 @@
 -- What a table and a replay say of foreign runs.
-use Rattle.oracle.proofs.Vocabulary.{◌≡◌, ◌↔◌, ℕ, Bool, true, false, IsTrue, List, Some, Contains, slice_get, sym, ap, ◌∙◌, Result, Ok, Err, IfOk, IfErr, is_ok, Question, Machine, StoreBufferMachine, no_gaps, IsRun, Listing, Outcome, Label}
-use Rattle.oracle.proofs.Vocabulary.{ReplayFaultIs, IsShownRun, IsForeignRun, ForeignFaultIs, of_replay}
-use Rattle.std.proofs.lemmas.Option.{same_Some}
-use Rattle.tso_program.specs.Shown.{show}
-use Rattle.tso_machine.specs.Machine.{outcome_at}
+use Rattle.oracle.proofs.Vocabulary.{◌≡◌, ◌↔◌, ℕ, Bool, true, false, IsTrue, List, Some, Contains, slice_get, sym, ap, ◌∙◌, Result, Ok, Err, IfOk, IfErr, is_ok, Question, StoreBufferMachine, no_gaps, Outcome, Label}
+use Rattle.oracle.proofs.Vocabulary.{ReplayFaultIs, IsForeignRun, ForeignFaultIs, of_replay}
 use Rattle.tso_machine.specs.declared.replaying.ReplayFault.{ReplayFault}
 use Rattle.tso_machine.specs.declared.replaying.ReplayFault.TheVariants as replays
 use Rattle.tso_machine.proofs.Refused.{no_fault}

@@ -19,7 +19,7 @@ use crate::watched::Effort;
 use crate::writing::{cost_of, gaps_of};
 use cert_check::certificate_proves_answer;
 use cert_forest::Certificate;
-use documents::why_document;
+use documents::{LinedLitmus, why_document};
 use json_text::JsonArray;
 use litmus_text::Litmus;
 use report::answer_line;
@@ -83,6 +83,7 @@ fn reason_for(
         litmus,
         shown,
         costs,
+        ..
     } = problem;
     let gaps = &certificate.set;
     costs.recall_facts();
@@ -153,6 +154,7 @@ fn explained(
         litmus,
         shown,
         costs,
+        lines: stand,
     } = problem;
     let set = gaps_of(certificate);
     let reasons = reasons(alloc, problem, certificate)?;
@@ -162,7 +164,11 @@ fn explained(
         runs,
     } = reasons;
     let said = reasons_or_none(alloc, shown, each)?;
-    let document = why_document(alloc, litmus, shown, costs, &set, runs)?;
+    let source = LinedLitmus {
+        litmus,
+        lines: stand,
+    };
+    let document = why_document(alloc, &source, shown, costs, &set, runs)?;
     let mut lines = answer_line(alloc, &litmus.program, shown, set, cost_of(certificate))?;
     lines.extend_from_slice(&said)?;
     let graph = graph.into_text()?;

@@ -36,6 +36,7 @@ pub(crate) fn placement_of<R: Threads + Wait + Sync>(
         litmus,
         shown,
         costs,
+        ..
     } = problem;
     let program = &litmus.program;
     let progress = report_ahead(alloc, program, effort.progress);

@@ -7,17 +7,20 @@ ghost use Rattle.placed_text.specs.Problems.{IsProblem};
 ghost use Rattle.placed_text.specs.TextFaults.{HasNoProblem, HasNoProgram, HasNoCosts};
 
 use crate::TextFault;
+use gap_list::TextLines;
 use gap_sets::Costs;
 use litmus_text::{CostTextFault, Litmus, ReadFault, given_costs, read_litmus};
 use std::alloc::Global;
 use tso_program::{Program, Shown, ShownKind};
 
-/// A placement problem: a litmus test, what is shown of its outcomes, and what each gap of its program costs.
+/// A placement problem: a litmus test, what is shown of its outcomes, what each gap of its program costs, and the lines of
+/// its text.
 #[derive(Drop)]
 pub(crate) struct Problem {
     pub(crate) litmus: Litmus<Program>,
     pub(crate) shown: Shown,
     pub(crate) costs: Costs,
+    pub(crate) lines: TextLines,
 }
 
 /// What a litmus text stands for.
@@ -62,12 +65,15 @@ pub(crate) fn read_problem(
     ensures one_each { IfOk result (λ problem. length problem.costs ≡ gap_count problem.litmus.program.threads) }
     ensures fault { IfErr result (HasNoProblem litmus.now (option_map (λ text. text.now) costs.entry)) }
 {
-    let litmus = read_program(alloc, litmus)?;
+    let text = litmus;
+    let litmus = read_program(alloc, text)?;
     let costs = read_gap_costs(alloc, costs, &litmus.program)?;
     let shown = litmus.shown_as(kind)?;
+    let lines = TextLines::of_text(alloc, text)?;
     Ok(Problem {
         litmus,
         shown,
         costs,
+        lines,
     })
 }

@@ -72,6 +72,7 @@ fn proposed<R: Threads + Sync>(
         litmus,
         shown,
         costs,
+        ..
     } = problem;
     let program = &litmus.program;
     let Some(rule) = proposed_rule(alloc, program, effort.trees)? else {
@@ -85,10 +86,8 @@ fn proposed<R: Threads + Sync>(
         rule,
         workers: effort.workers,
     };
-    let found = match (
-        propose(rt, alloc, plan, program, shown, costs)?,
-        effort.trees,
-    ) {
+    let first = propose(rt, alloc, plan, program, shown, costs)?;
+    let found = match (first, effort.trees) {
         (None, None) => {
             let early = SearchPlan {
                 rule: Rule::Early,

@@ -2,14 +2,14 @@
 
 use cert_forest::Runs;
 use gap_sets::GapSet;
-use litmus_text::{Litmus, Quantifier, holds};
+use litmus_text::{Litmus, Quantifier, holds, push_condition};
 use program_streams::Progress;
 use std::alloc::{AllocError, Global};
 use tso_machine::{Label, Model, replay};
 use tso_program::Program;
 
-/// Reports that the condition fails without store buffers too, if one of these sequential runs breaks it: no fence mends it
-/// then. That is reported where no progress is, too.
+/// Reports by the quantifier that the condition fails without store buffers too, if one of these sequential runs breaks it:
+/// no fence mends it then. That is reported where no progress is, too.
 pub(crate) fn report_verdict(
     alloc: Global,
     litmus: &Litmus<Program>,
@@ -22,7 +22,7 @@ pub(crate) fn report_verdict(
     for number in 0..runs.len() {
         if let Some(labels) = runs.get(number) {
             if truth_after(alloc, litmus, labels) == Some(breaking) {
-                progress.asked(true).report(failure_line(alloc));
+                progress.asked(true).report(failure_line(alloc, litmus));
                 return;
             }
         }
@@ -47,7 +47,34 @@ fn truth_after(alloc: Global, litmus: &Litmus<Program>, labels: &[Label]) -> Opt
     }
 }
 
-fn failure_line(alloc: Global) -> Result<Vec<u8>, AllocError> {
-    let line = b"fencer: the condition fails without store buffers too: no fence mends it\n";
-    Vec::from_slice(alloc, line)
+/// What is said before the formula, and after it: what must not happen happens, or what must always hold fails.
+fn wording(quantifier: Quantifier) -> (&'static [u8], &'static [u8]) {
+    match quantifier {
+        Quantifier::NotExists => (b"fencer: what must not happen", b" happens"),
+        Quantifier::Exists | Quantifier::Forall => (b"fencer: what must always hold", b" fails"),
+    }
+}
+
+/// A condition's text from the space after its quantifier on, without the end of its line.
+fn formula_of(condition: &[u8]) -> &[u8] {
+    let mut rest = condition.trim_ascii_end();
+    for byte in condition {
+        if *byte == b' ' {
+            return rest;
+        }
+        let (_, after) = rest.split_at(rest.len().min(1));
+        rest = after;
+    }
+    rest
+}
+
+fn failure_line(alloc: Global, litmus: &Litmus<Program>) -> Result<Vec<u8>, AllocError> {
+    let mut text = Vec::new(alloc);
+    push_condition(alloc, &mut text, &litmus.names, &litmus.condition)?;
+    let (subject, verb) = wording(litmus.condition.quantifier);
+    let mut line = Vec::from_slice(alloc, subject)?;
+    line.extend_from_slice(formula_of(&text))?;
+    line.extend_from_slice(verb)?;
+    line.extend_from_slice(b" without store buffers too: no fence mends it\n")?;
+    Ok(line)
 }

@@ -13,7 +13,7 @@ use crate::proposed::certificate_of;
 use crate::watched::Effort;
 use cert_forest::Certificate;
 use cert_pages::write_pages;
-use documents::placed_document;
+use documents::{LinedLitmus, placed_document};
 use gap_sets::GapSet;
 use litmus_text::write_litmus;
 use paged_text::Pages;
@@ -57,13 +57,15 @@ fn write_answer(
         litmus,
         shown,
         costs,
+        lines,
     } = problem;
     let program = match write_litmus(alloc, litmus, gaps) {
         Ok(program) => program,
         Err(FenceFault::NoSuchGap(_)) => unreachable!(),
         Err(FenceFault::OutOfMemory) => return Err(AllocError),
     };
-    let document = placed_document(alloc, litmus, shown, costs, gaps, &program)?;
+    let source = LinedLitmus { litmus, lines };
+    let document = placed_document(alloc, &source, shown, costs, gaps, &program)?;
     Ok(AnswerText {
         program,
         answer: answer_line(alloc, &litmus.program, shown, *gaps, cost)?,

@@ -73,6 +73,10 @@ function placeOf(gap, more = "") {
   return [code(instructionText(thread, number)), ` of ${threadName(thread)} (gap ${gap}, line ${number}${more})`];
 }
 
+// The quantifier of the file's condition, and its formula without the parentheses around it.
+const quantifier = () => given.condition.split(" ")[0];
+const formulaText = () => given.condition.slice(quantifier().length).trim().slice(1, -1);
+
 const outcomeText = run => run.outcome.map(({ name, value }) => `${name}=${value};`).join(" ");
 
 const initialText = location => `${location}=${given.initial.memory[given.locations.indexOf(location)]}`;

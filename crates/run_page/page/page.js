@@ -145,19 +145,37 @@ function machineWords() {
   return fences.length === 0 ? [machine] : [machine, ", with MFENCE ", ...listed(fences)];
 }
 
+// What a run of `fencer witness` says of what the file's condition is about, or that there is no such run.
+function soughtHeading() {
+  const { test, meets_condition: meets, run } = given;
+  const isSo = run === null ? !meets : meets;
+  const often = run === null ? isSo ? "always " : "never " : "";
+  const runs = run !== null ? `a run of ${test}` : isSo ? `each run of ${test}` : `no run of ${test}`;
+  const verb = quantifier() === "forall" ? "holds" : "happens";
+  const says = run === null || isSo ? `${often}${verb}` : happens(false);
+  return `${subject()} ${says}: ${runs} ${run !== null && !isSo ? "does not leave" : "leaves"} ${formulaText()}`;
+}
+
+// Whether the file's condition holds of the machine, where one run, or that there is none, decides that.
+function soughtVerdict() {
+  const isSome = (given.run !== null) === given.meets_condition;
+  const isDecided = given.run !== null ? given.meets_condition !== (quantifier() === "forall") : true;
+  const holds = quantifier() === "~exists" ? !isSome : isSome;
+  return isDecided ? [" So the condition ", code(given.condition), holds ? " holds there." : " fails there."] : [];
+}
+
 // The run of `fencer witness`, or that there is none.
 function showWitness() {
+  const heading = soughtHeading();
   if (given.run !== null) {
-    const meets = given.meets_condition ? "meets" : "does not meet";
-    return showOneRun(`A run of ${given.test} that ${meets} its condition`,
-      ["A run ", ...machineWords(), `, whose outcome ${meets} the formula of the file's condition.`]);
+    const leaves = given.meets_condition ? "leaves " : "does not leave ";
+    return showOneRun(heading, ["A run ", ...machineWords(), `, which ${leaves}`, code(formulaText()), ".", ...soughtVerdict()]);
   }
-  const [heading, says] = given.meets_condition
-    ? [`No run of ${given.test} meets its condition`, "No run "] : [`Every run of ${given.test} meets its condition`, "Each run "];
+  const says = given.meets_condition ? "No run " : "Each run ";
   document.title = heading;
   main.replaceChildren(
     html("h1", {}, heading),
-    html("p", { class: "lead" }, says, ...machineWords(), " meets the formula of the file's condition."),
+    html("p", { class: "lead" }, says, ...machineWords(), " leaves ", code(formulaText()), ".", ...soughtVerdict()),
     about(true, given.model === "buffered" ? html("p", {}, introduction) : ""),
     programBox());
 }

@@ -73,8 +73,6 @@ function allMoments(run) {
   return [...others, { steps: [run.decided], say, isBad: true }].sort((a, b) => a.steps[0] - b.steps[0]);
 }
 
-const quantifier = () => given.condition.split(" ")[0];
-
 // Whether a run breaks the file's condition: alone it can't break one with `exists`.
 const isBroken = run => quantifier() !== "exists" && run.run.meets_condition === (quantifier() === "~exists");
 
@@ -158,6 +156,15 @@ function localWords(run, i) {
   return [text.startsWith("J") ? ", and goes on with the next instruction." : "."];
 }
 
+// What the file's condition is about, as its quantifier says.
+const subject = () => ({ "~exists": "What must not happen", exists: "What the file asks about", forall: "What must always hold" })[quantifier()];
+
+// Whether that is so in a run, by whether the run meets the formula.
+function happens(meets) {
+  const verb = quantifier() === "forall" ? ["holds", "does not hold"] : ["happens", "does not happen"];
+  return verb[meets ? 0 : 1];
+}
+
 // A condition that names a part of what is compared may be met sequentially too, with other final values.
 const elsewhere = () => [". The command ", command("fencer outcomes --model sequential"), " says whether a sequential run does so too."];
 
@@ -167,37 +174,23 @@ const fewer = () => ["; but registers or memory end as they sequentially cannot.
 
 // Whether the run's outcome is what the file's condition is about.
 function conditionWords(run) {
-  const condition = code(given.condition);
-  if (quantifier() === "~exists") {
-    return run.meets_condition
-      ? ["It is what the file says must not happen: ", condition, ...elsewhere()]
-      : ["What must not happen, ", condition, ", does not happen in this run", ...fewer()];
-  }
-  if (quantifier() === "exists") {
-    return run.meets_condition
-      ? ["It is what the file asks for: ", condition, ...elsewhere()]
-      : ["It is not what the file asks for, ", condition, ...fewer()];
-  }
-  return run.meets_condition
-    ? ["The file's condition, ", condition, ", is met by this run", ...fewer()]
-    : ["It breaks the file's condition: ", condition, ...elsewhere()];
+  const isDecided = run.meets_condition === (quantifier() !== "forall");
+  return [`${subject()} (`, code(formulaText()), `) ${happens(run.meets_condition)} in this run`, ...isDecided ? elsewhere() : fewer()];
 }
 
-// Whether the run meets the formula of the file's condition, as no sequential run does.
+// Whether what the condition is about is so in the run, as in no sequential run.
 function aloneWords(run) {
-  return run.meets_condition
-    ? " This run meets the formula of the file's condition, and no sequential run does: "
-    : " This run does not meet the formula of the file's condition, and each sequential run does: ";
+  const others = run.meets_condition ? "no sequential run: " : `this run alone: it ${happens(true)} in each sequential run: `;
+  return ` ${subject()} ${happens(run.meets_condition)} in ${run.meets_condition ? "this run, and in " : ""}${others}`;
 }
 
 // How the run ends. That no sequential run has the outcome is said by `fencer why`, not by `fencer trace`.
 function verdictWords(run) {
   if (run.gap === null) {
-    const meets = run.run.meets_condition ? " It meets" : " It does not meet";
-    return [code(outcomeText(run.run)), meets + " the formula of the file's condition: ", code(given.condition), "."];
+    return [code(outcomeText(run.run)), ` ${subject()} (`, code(formulaText()), `) ${happens(run.run.meets_condition)} in this run.`];
   }
   if (given.answer.condition) {
-    return [code(outcomeText(run.run)), html("span", { class: "verdict" }, aloneWords(run.run)), code(given.condition), "."];
+    return [code(outcomeText(run.run)), html("span", { class: "verdict" }, aloneWords(run.run)), code(formulaText()), "."];
   }
   return [code(outcomeText(run.run)), html("span", { class: "verdict" }, " No sequential run has this outcome. ")];
 }

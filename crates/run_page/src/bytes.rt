@@ -467,6 +467,10 @@ function placeOf(gap, more = \"\") {\n\
 \x20 return [code(instructionText(thread, number)), ` of ${threadName(thread)} (gap ${gap}, line ${number}${more})`];\n\
 }\n\
 \n\
+// The quantifier of the file's condition, and its formula without the parentheses around it.\n\
+const quantifier = () => given.condition.split(\" \")[0];\n\
+const formulaText = () => given.condition.slice(quantifier().length).trim().slice(1, -1);\n\
+\n\
 const outcomeText = run => run.outcome.map(({ name, value }) => `${name}=${value};`).join(\" \");\n\
 \n\
 const initialText = location => `${location}=${given.initial.memory[given.locations.indexOf(location)]}`;\n\
@@ -773,8 +777,6 @@ function allMoments(run) {\n\
 \x20 return [...others, { steps: [run.decided], say, isBad: true }].sort((a, b) => a.steps[0] - b.steps[0]);\n\
 }\n\
 \n\
-const quantifier = () => given.condition.split(\" \")[0];\n\
-\n\
 // Whether a run breaks the file's condition: alone it can't break one with `exists`.\n\
 const isBroken = run => quantifier() !== \"exists\" && run.run.meets_condition === (quantifier() === \"~exists\");\n\
 \n\
@@ -858,6 +860,15 @@ function localWords(run, i) {\n\
 \x20 return [text.startsWith(\"J\") ? \", and goes on with the next instruction.\" : \".\"];\n\
 }\n\
 \n\
+// What the file's condition is about, as its quantifier says.\n\
+const subject = () => ({ \"~exists\": \"What must not happen\", exists: \"What the file asks about\", forall: \"What must always hold\" })[quantifier()];\n\
+\n\
+// Whether that is so in a run, by whether the run meets the formula.\n\
+function happens(meets) {\n\
+\x20 const verb = quantifier() === \"forall\" ? [\"holds\", \"does not hold\"] : [\"happens\", \"does not happen\"];\n\
+\x20 return verb[meets ? 0 : 1];\n\
+}\n\
+\n\
 // A condition that names a part of what is compared may be met sequentially too, with other final values.\n\
 const elsewhere = () => [\". The command \", command(\"fencer outcomes --model sequential\"), \" says whether a sequential run does so too.\"];\n\
 \n\
@@ -867,37 +878,23 @@ const fewer = () => [\"; but registers or memory end as they sequentially cannot
 \n\
 // Whether the run's outcome is what the file's condition is about.\n\
 function conditionWords(run) {\n\
-\x20 const condition = code(given.condition);\n\
-\x20 if (quantifier() === \"~exists\") {\n\
-\x20   return run.meets_condition\n\
-\x20     ? [\"It is what the file says must not happen: \", condition, ...elsewhere()]\n\
-\x20     : [\"What must not happen, \", condition, \", does not happen in this run\", ...fewer()];\n\
-\x20 }\n\
-\x20 if (quantifier() === \"exists\") {\n\
-\x20   return run.meets_condition\n\
-\x20     ? [\"It is what the file asks for: \", condition, ...elsewhere()]\n\
-\x20     : [\"It is not what the file asks for, \", condition, ...fewer()];\n\
-\x20 }\n\
-\x20 return run.meets_condition\n\
-\x20   ? [\"The file's condition, \", condition, \", is met by this run\", ...fewer()]\n\
-\x20   : [\"It breaks the file's condition: \", condition, ...elsewhere()];\n\
+\x20 const isDecided = run.meets_condition === (quantifier() !== \"forall\");\n\
+\x20 return [`${subject()} (`, code(formulaText()), `) ${happens(run.meets_condition)} in this run`, ...isDecided ? elsewhere() : fewer()];\n\
 }\n\
 \n\
-// Whether the run meets the formula of the file's condition, as no sequential run does.\n\
+// Whether what the condition is about is so in the run, as in no sequential run.\n\
 function aloneWords(run) {\n\
-\x20 return run.meets_condition\n\
-\x20   ? \" This run meets the formula of the file's condition, and no sequential run does: \"\n\
-\x20   : \" This run does not meet the formula of the file's condition, and each sequential run does: \";\n\
+\x20 const others = run.meets_condition ? \"no sequential run: \" : `this run alone: it ${happens(true)} in each sequential run: `;\n\
+\x20 return ` ${subject()} ${happens(run.meets_condition)} in ${run.meets_condition ? \"this run, and in \" : \"\"}${others}`;\n\
 }\n\
 \n\
 // How the run ends. That no sequential run has the outcome is said by `fencer why`, not by `fencer trace`.\n\
 function verdictWords(run) {\n\
 \x20 if (run.gap === null) {\n\
-\x20   const meets = run.run.meets_condition ? \" It meets\" : \" It does not meet\";\n\
-\x20   return [code(outcomeText(run.run)), meets + \" the formula of the file's condition: \", code(given.condition), \".\"];\n\
+\x20   return [code(outcomeText(run.run)), ` ${subject()} (`, code(formulaText()), `) ${happens(run.run.meets_condition)} in this run.`];\n\
 \x20 }\n\
 \x20 if (given.answer.condition) {\n\
-\x20   return [code(outcomeText(run.run)), html(\"span\", { class: \"verdict\" }, aloneWords(run.run)), code(given.condition), \".\"];\n\
+\x20   return [code(outcomeText(run.run)), html(\"span\", { class: \"verdict\" }, aloneWords(run.run)), code(formulaText()), \".\"];\n\
 \x20 }\n\
 \x20 return [code(outcomeText(run.run)), html(\"span\", { class: \"verdict\" }, \" No sequential run has this outcome. \")];\n\
 }\n\
@@ -1856,19 +1853,37 @@ function machineWords() {\n\
 \x20 return fences.length === 0 ? [machine] : [machine, \", with MFENCE \", ...listed(fences)];\n\
 }\n\
 \n\
+// What a run of `fencer witness` says of what the file's condition is about, or that there is no such run.\n\
+function soughtHeading() {\n\
+\x20 const { test, meets_condition: meets, run } = given;\n\
+\x20 const isSo = run === null ? !meets : meets;\n\
+\x20 const often = run === null ? isSo ? \"always \" : \"never \" : \"\";\n\
+\x20 const runs = run !== null ? `a run of ${test}` : isSo ? `each run of ${test}` : `no run of ${test}`;\n\
+\x20 const verb = quantifier() === \"forall\" ? \"holds\" : \"happens\";\n\
+\x20 const says = run === null || isSo ? `${often}${verb}` : happens(false);\n\
+\x20 return `${subject()} ${says}: ${runs} ${run !== null && !isSo ? \"does not leave\" : \"leaves\"} ${formulaText()}`;\n\
+}\n\
+\n\
+// Whether the file's condition holds of the machine, where one run, or that there is none, decides that.\n\
+function soughtVerdict() {\n\
+\x20 const isSome = (given.run !== null) === given.meets_condition;\n\
+\x20 const isDecided = given.run !== null ? given.meets_condition !== (quantifier() === \"forall\") : true;\n\
+\x20 const holds = quantifier() === \"~exists\" ? !isSome : isSome;\n\
+\x20 return isDecided ? [\" So the condition \", code(given.condition), holds ? \" holds there.\" : \" fails there.\"] : [];\n\
+}\n\
+\n\
 // The run of `fencer witness`, or that there is none.\n\
 function showWitness() {\n\
+\x20 const heading = soughtHeading();\n\
 \x20 if (given.run !== null) {\n\
-\x20   const meets = given.meets_condition ? \"meets\" : \"does not meet\";\n\
-\x20   return showOneRun(`A run of ${given.test} that ${meets} its condition`,\n\
-\x20     [\"A run \", ...machineWords(), `, whose outcome ${meets} the formula of the file's condition.`]);\n\
+\x20   const leaves = given.meets_condition ? \"leaves \" : \"does not leave \";\n\
+\x20   return showOneRun(heading, [\"A run \", ...machineWords(), `, which ${leaves}`, code(formulaText()), \".\", ...soughtVerdict()]);\n\
 \x20 }\n\
-\x20 const [heading, says] = given.meets_condition\n\
-\x20   ? [`No run of ${given.test} meets its condition`, \"No run \"] : [`Every run of ${given.test} meets its condition`, \"Each run \"];\n\
+\x20 const says = given.meets_condition ? \"No run \" : \"Each run \";\n\
 \x20 document.title = heading;\n\
 \x20 main.replaceChildren(\n\
 \x20   html(\"h1\", {}, heading),\n\
-\x20   html(\"p\", { class: \"lead\" }, says, ...machineWords(), \" meets the formula of the file's condition.\"),\n\
+\x20   html(\"p\", { class: \"lead\" }, says, ...machineWords(), \" leaves \", code(formulaText()), \".\", ...soughtVerdict()),\n\
 \x20   about(true, given.model === \"buffered\" ? html(\"p\", {}, introduction) : \"\"),\n\
 \x20   programBox());\n\
 }\n\

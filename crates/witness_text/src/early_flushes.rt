@@ -127,7 +127,7 @@ fn is_better(
 }
 
 /// Whether labels are a run that is sought.
-fn is_sought(
+pub(crate) fn is_sought(
     alloc: Global,
     litmus: &Litmus<Program>,
     sought: &Sought,

@@ -7,7 +7,7 @@ use gap_sets::GapSet;
 use tso_program::Program;
 
 /// The gaps of a program at these places. The error is the first place where it has none.
-pub(crate) fn gaps_at(program: &Program, places: &[(u8, u8)]) -> Result<GapSet, (u8, u8)>
+pub fn gaps_at(program: &Program, places: &[(u8, u8)]) -> Result<GapSet, (u8, u8)>
     ensures gaps { IfOk result (AreGapsAt program.now.threads places.now) }
     ensures none { IfErr result (IsFirstWithoutGap program.now.threads places.now) }
 {

@@ -17,8 +17,10 @@ use crate::early_flushes::with_early_flushes;
 use crate::fault::WitnessFault;
 use crate::gaps::gaps_at;
 use crate::lines::{none_line, run_lines};
+use crate::serial_runs::serial_run_before_search;
 use cover_solver::{SolveFault, witness};
-use documents::{Setting, Sought, run_value, witness_document};
+use documents::{LinedLitmus, Setting, Sought, run_value, witness_document};
+use gap_list::TextLines;
 use gap_sets::GapSet;
 use json_text::JsonText;
 use litmus_text::{Litmus, read_litmus};
@@ -30,6 +32,8 @@ use tso_program::{Program, Shown};
 /// What is said of a run of which the condition's formula has some truth, or that there is none.
 #[derive(Drop)]
 pub struct WitnessText {
+    /// Whether it is said of a run.
+    pub found: bool,
     /// What is printed.
     pub lines: Vec<u8>,
     /// The candidate execution of the run, as a graph in Graphviz's language.
@@ -107,18 +111,24 @@ fn replay_of(
 fn found_text(
     alloc: Global,
     litmus: &Litmus<Program>,
+    stand: &TextLines,
     sought: Sought,
     labels: &[Label],
 ) -> Result<WitnessText, AllocError>
     requires run { IsWitness litmus.now.program (machine_of litmus.now.program sought) litmus.now.condition.formula sought.meets labels.now }
-    ensures { IfOk result (λ text. TellsSought litmus.now sought text.lines.items text.document.items) }
+    ensures { IfOk result (λ text. TellsSought litmus.now sought text.found text.lines.items text.document.items) }
 {
     let replay = replay_of(alloc, &litmus.program, sought.model, labels)?;
     let Replay { steps, ended } = replay;
     let told = told(alloc, litmus, sought.model, labels, &steps, &ended)?;
     let RunText { lines, graph, run } = told;
-    let document = witness_document(alloc, litmus, sought, Some(run))?;
+    let source = LinedLitmus {
+        litmus,
+        lines: stand,
+    };
+    let document = witness_document(alloc, &source, sought, Some(run))?;
     Ok(WitnessText {
+        found: true,
         lines,
         graph,
         document,
@@ -129,15 +139,21 @@ fn found_text(
 fn none_text(
     alloc: Global,
     litmus: &Litmus<Program>,
+    stand: &TextLines,
     sought: Sought,
 ) -> Result<WitnessText, AllocError>
     requires none { HasNoWitness litmus.now.program (machine_of litmus.now.program sought) litmus.now.condition.formula sought.meets }
-    ensures { IfOk result (λ text. TellsSought litmus.now sought text.lines.items text.document.items) }
+    ensures { IfOk result (λ text. TellsSought litmus.now sought text.found text.lines.items text.document.items) }
 {
     let lines = Vec::from_slice(alloc, none_line(sought.meets))?;
     let graph = RunGraph::new(alloc)?.into_text()?;
-    let document = witness_document(alloc, litmus, sought, None)?;
+    let source = LinedLitmus {
+        litmus,
+        lines: stand,
+    };
+    let document = witness_document(alloc, &source, sought, None)?;
     Ok(WitnessText {
+        found: false,
         lines,
         graph,
         document,
@@ -148,19 +164,23 @@ fn none_text(
 fn sought_text(
     alloc: Global,
     litmus: &Litmus<Program>,
+    stand: &TextLines,
     sought: Sought,
 ) -> Result<WitnessText, SolveFault>
-    ensures { IfOk result (λ text. TellsSought litmus.now sought text.lines.items text.document.items) }
+    ensures { IfOk result (λ text. TellsSought litmus.now sought text.found text.lines.items text.document.items) }
 {
+    if let Some(run) = serial_run_before_search(alloc, litmus, &sought)? {
+        return Ok(found_text(alloc, litmus, stand, sought, &run)?);
+    }
     let mode = Mode::new(sought.model, sought.fences);
     let formula = &litmus.condition.formula;
     let found = witness(alloc, &litmus.program, mode, formula, sought.meets)?;
     match found {
         Some(labels) => {
             let run = with_early_flushes(alloc, litmus, &sought, labels)?;
-            Ok(found_text(alloc, litmus, sought, &run)?)
+            Ok(found_text(alloc, litmus, stand, sought, &run)?)
         }
-        None => Ok(none_text(alloc, litmus, sought)?),
+        None => Ok(none_text(alloc, litmus, stand, sought)?),
     }
 }
 
@@ -174,10 +194,11 @@ pub fn witness_text(
     meets: bool,
     places: &[(u8, u8)],
 ) -> Result<WitnessText, WitnessFault>
-    ensures told { IfOk result (λ text. IsWitnessText litmus.now model meets places.now text.lines.items text.document.items) }
+    ensures told { IfOk result (λ text. IsWitnessText litmus.now model meets places.now text.found text.lines.items text.document.items) }
     ensures fault { IfErr result (HasNoWitnessText litmus.now places.now) }
 {
     let source = read_litmus(alloc, litmus)?;
+    let stand = TextLines::of_text(alloc, litmus)?;
     let fences = match gaps_at(&source.program, places) {
         Ok(fences) => fences,
         Err((thread, instruction)) => return Err(WitnessFault::NoSuchGap(thread, instruction)),
@@ -187,5 +208,5 @@ pub fn witness_text(
         fences,
         meets,
     };
-    Ok(sought_text(alloc, &source, sought)?)
+    Ok(sought_text(alloc, &source, &stand, sought)?)
 }

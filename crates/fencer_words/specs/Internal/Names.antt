@@ -9,4 +9,5 @@ kept_names n = record {
   costs = option_map (λ name. name.now) n.costs;
   first = option_map (λ name. name.now) n.first;
   second = option_map (λ name. name.now) n.second;
+  third = option_map (λ name. name.now) n.third;
 }

@@ -5,7 +5,7 @@ use Rattle.documents.proofs.witness.witness_document.Goals as goal
 
 pub returns-clause-told : goal.returns-clause-told
 returns-clause-told c =
-    let litmus = c.args.litmus.now in
+    let litmus = c.args.source.now.litmus.now in
     let sought = c.args.sought in
     let first : List (List ℕ) = c.in_ok-object.object in
     let run : List ℕ = member (codes "run") (run_or_null c.args.run) in

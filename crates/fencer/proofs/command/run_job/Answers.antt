@@ -10,7 +10,7 @@ pub returns-in-Trace-clause-told : goal.returns-in-Trace-clause-told
 returns-in-Trace-clause-told g c = rw c.in-Trace.is c.run_trace.ensures.told
 
 pub returns-in-Trace-clause-others : goal.returns-in-Trace-clause-others
-returns-in-Trace-clause-others g c = rw c.in-Trace.is c.run_trace.ensures.others
+returns-in-Trace-clause-others g c = rw c.in-Trace.is (λ name not_first not_second not_third. c.run_trace.ensures.others name not_first not_second)
 
 pub returns-in-Trace-clause-read : goal.returns-in-Trace-clause-read
 returns-in-Trace-clause-read g c = rw c.in-Trace.is c.run_trace.ensures.read
@@ -34,7 +34,7 @@ pub returns-in-Why-clause-told : goal.returns-in-Why-clause-told
 returns-in-Why-clause-told g c = rw c.in-Why.is c.run_why.ensures.told
 
 pub returns-in-Why-clause-others : goal.returns-in-Why-clause-others
-returns-in-Why-clause-others g c = rw c.in-Why.is c.run_why.ensures.others
+returns-in-Why-clause-others g c = rw c.in-Why.is (λ name not_first not_second not_third. c.run_why.ensures.others name not_first not_second)
 
 pub returns-in-Why-clause-read : goal.returns-in-Why-clause-read
 returns-in-Why-clause-read g c = rw c.in-Why.is c.run_why.ensures.read
@@ -49,7 +49,13 @@ pub returns-in-Witness-clause-told : goal.returns-in-Witness-clause-told
 returns-in-Witness-clause-told g c = rw c.in-Witness.is c.run_witness.ensures.told
 
 pub returns-in-Witness-clause-others : goal.returns-in-Witness-clause-others
-returns-in-Witness-clause-others g c = rw c.in-Witness.is c.run_witness.ensures.others
+returns-in-Witness-clause-others g c = rw c.in-Witness.is (λ name not_first not_second not_third. c.run_witness.ensures.others name not_first not_second)
+
+pub returns-in-Survey-clause-told : goal.returns-in-Survey-clause-told
+returns-in-Survey-clause-told g c = rw c.in-Survey.is c.run_survey.ensures.told
+
+pub returns-in-Survey-clause-read : goal.returns-in-Survey-clause-read
+returns-in-Survey-clause-read g c = rw c.in-Survey.is c.run_survey.ensures.read
 
 pub returns-in-Witness-clause-read : goal.returns-in-Witness-clause-read
 returns-in-Witness-clause-read g c = rw c.in-Witness.is c.run_witness.ensures.read

@@ -14,7 +14,8 @@ pub returns-in-Ok-clause-others : goal.returns-in-Ok-clause-others
 returns-in-Ok-clause-others g c =
     λ name not_asked. c.run_job.ensures.others name
     (λ named. not_asked (record { job = c.in-Ok.job; asked = c.in-Ok.ensures.job; named = inl named }))
-    (λ named. not_asked (record { job = c.in-Ok.job; asked = c.in-Ok.ensures.job; named = inr named }))
+    (λ named. not_asked (record { job = c.in-Ok.job; asked = c.in-Ok.ensures.job; named = inr (inl named) }))
+    (λ named. not_asked (record { job = c.in-Ok.job; asked = c.in-Ok.ensures.job; named = inr (inr named) }))
 
 pub returns-in-OutOfMemory-clause-told : goal.returns-in-OutOfMemory-clause-told
 returns-in-OutOfMemory-clause-told g c = prints_nothing _ _

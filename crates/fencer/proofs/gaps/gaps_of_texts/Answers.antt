@@ -1,5 +1,5 @@
 use Rattle.fencer.proofs.Vocabulary.{Ok, AllocError, prints_made, text_fault_line}
-use Rattle.fencer.proofs.PrintedRefusals.{prints_refused_line}
+use Rattle.fencer.proofs.PrintedRefusals.{prints_refusal}
 use Rattle.fencer.specs.GapTexts.{listed, refused_for}
 use Rattle.fencer.proofs.gaps.gaps_of_texts.Goals as goal
 
@@ -9,4 +9,5 @@ returns-in-Ok g c =
 
 pub returns-in-Err : goal.returns-in-Err
 returns-in-Err g c =
-    prints_refused_line c.text_fault_line.result (text_fault_line c.in-Err.fault) _ _ _ c.tell_refusal.result (refused_for c.in-Err.fault c.in-Err.ensures.fault) c.text_fault_line.ensures c.tell_refusal.ensures
+    prints_refusal c.args.asked.now.json c.text_fault_line.result (text_fault_line c.in-Err.fault) _ _ _ c.tell_refusal.result
+    (λ text says. refused_for c.in-Err.fault text c.in-Err.ensures.fault says) c.text_fault_line.ensures c.tell_refusal.ensures

@@ -1,5 +1,5 @@
 use Rattle.fencer.proofs.Vocabulary.{option_map, prints_more, file_line}
-use Rattle.fencer.proofs.PrintedRefusals.{prints_refused_line}
+use Rattle.fencer.proofs.PrintedRefusals.{prints_refusal}
 use Rattle.fencer.specs.GapTexts.{of_texts, no_texts}
 use Rattle.fencer.proofs.gaps.run_gaps.Goals as goal
 
@@ -9,7 +9,8 @@ returns-in-Ok-clause-told g c =
 
 pub returns-in-Err-clause-told : goal.returns-in-Err-clause-told
 returns-in-Err-clause-told g c =
-    prints_refused_line c.file_line.result (file_line c.in-Err.file.fault) _ _ _ c.tell_refusal.result (no_texts c.in-Err.file.fault (rw (c.as_str.ensures.value, c.as_deref-costs.ensures.value) at c.in-Err.ensures.err)) c.file_line.ensures c.tell_refusal.ensures
+    prints_refusal c.args.asked.now.json c.file_line.result (file_line c.in-Err.file.fault) _ _ _ c.tell_refusal.result
+    (λ text says. no_texts c.in-Err.file.fault text (rw (c.as_str.ensures.value, c.as_deref-costs.ensures.value) at c.in-Err.ensures.err) says) c.file_line.ensures c.tell_refusal.ensures
 
 pub returns-in-Ok-clause-read : goal.returns-in-Ok-clause-read
 returns-in-Ok-clause-read g c = rw c.as_str.ensures.value at c.read_texts.ensures.read

@@ -8,7 +8,7 @@ returns-in-Ok-clause-told g c =
     let files = g.S.FileStore.held c.args.files.now in
     let asked = c.args.asked.now in
     prints_more (IsTold c.args.asked.now.json c.outcomes_reply-reply.result) (AreOutcomes asked input files) _ _ c.print_answer-status.result
-    (told_answer (PrintsOutcomes asked) HasNoList asked.json (string_bytes asked.litmus) input files c.in-Ok.bytes.items (rw c.as_str-litmus.ensures.value at c.in-Ok.ensures.whole) c.outcomes_reply-reply.result
+    (told_answer (PrintsOutcomes asked) (HasNoList asked.fences.items) asked.json (string_bytes asked.litmus) input files c.in-Ok.bytes.items (rw c.as_str-litmus.ensures.value at c.in-Ok.ensures.whole) c.outcomes_reply-reply.result
     (rw c.deref-in-Ok.ensures.value at c.outcomes_reply-reply.ensures.list) (rw c.deref-in-Ok.ensures.value at c.outcomes_reply-reply.ensures.refused))
     (rw (sym c.tell_idle_name.ensures) at c.print_answer-status.ensures)
 

@@ -4,7 +4,7 @@ use Rattle.fencer.proofs.place.place_texts.Goals as goal
 
 pub returns-in-Ok-clause-told : goal.returns-in-Ok-clause-told
 returns-in-Ok-clause-told g c =
-    prints_more _ _ _ _ c.deliver.result (λ status text is. placed c.in-Ok.answer status text c.in-Ok.ensures.placed is) (rw (c.as_deref-program.ensures.value, c.as_deref-certificate.ensures.value) at c.deliver.ensures.told)
+    prints_more _ _ _ _ c.deliver_placed.result (λ status text is. placed c.in-Ok.placed.answer c.in-Ok.placed.inserted status text c.in-Ok.ensures.placed is) c.deliver_placed.ensures.told
 
 pub returns-in-Err-clause-told : goal.returns-in-Err-clause-told
 returns-in-Err-clause-told g c =

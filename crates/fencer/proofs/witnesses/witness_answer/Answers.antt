@@ -1,9 +1,12 @@
 use Rattle.fencer.proofs.witnesses.witness_answer.Goals as goal
 
 pub returns-in-Ok-clause-told : goal.returns-in-Ok-clause-told
-returns-in-Ok-clause-told c = record {
-  lines = c.in_ok-said.said.lines.items;
-  document = c.in_ok-said.said.document.items;
-  told = rw c.as_slice-fences.ensures.value at c.in_ok-said.ensures.told;
-  delivered = rw c.as_deref.ensures.value at c.in-Ok.ensures;
-}
+returns-in-Ok-clause-told c =
+    let made = rw c.as_deref.ensures.value at c.in-Ok.ensures in
+    record {
+      found = c.in_ok-said.said.found;
+      lines = c.in_ok-said.said.lines.items;
+      document = c.in_ok-said.said.document.items;
+      told = rw c.as_slice-fences.ensures.value at c.in_ok-said.ensures.told;
+      delivered = record { lines = made.lines; ends = c.check_status.ensures; as_asked = made.as_asked; paged = made.paged };
+    }

@@ -1,0 +1,2 @@
+-- What contracts of private functions and proofs cite; no public contract does.
+pub mod SameTests

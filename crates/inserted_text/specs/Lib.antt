@@ -1,0 +1,2 @@
+pub mod Inserted
+pub mod Internal

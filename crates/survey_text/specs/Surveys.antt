@@ -1,0 +1,103 @@
+-- What is found of a program, and its text.
+use Rattle.std.specs.Prelude.{◌≡◌, ◌==◌, ◌↔◌, ◌&&◌, ℕ, Bool, List, [], ◌∷◌, ◌++◌, Contains, None, codes, not, if◌then◌else◌}
+use Rattle.std.specs.Option.{option_map_or}
+use Rattle.std.specs.List.{flat_map}
+use Rattle.std.specs.Fmt.{decimal}
+use Rattle.std.specs.FinSet as set
+use Rattle.gap_sets.specs.Gaps.{numbers_of_set}
+use Rattle.tso_program.specs.declared.listing.Listing.{Listing}
+use Rattle.tso_program.specs.declared.outcome.Outcome.{Outcome}
+use Rattle.tso_program.specs.declared.shown.Shown.TheVariants.{All}
+use Rattle.tso_program.specs.declared.shown.ShownKind.TheVariants.{Whole, Condition}
+use Rattle.tso_program.specs.Listings.{gap_place}
+use Rattle.tso_program.specs.Shown.{asked}
+use Rattle.tso_machine.specs.declared.label.Model.TheVariants.{Sequential, Buffered}
+use Rattle.tso_machine.specs.Machine.{Machine}
+use Rattle.tso_machine.specs.Modes.{machine_of_model}
+use Rattle.tso_machine.specs.Outcomes.{AllowsShown}
+use Rattle.tree_laws.specs.Ascending.{Ascend}
+use Rattle.litmus_text.specs.Litmus.{Litmus}
+use Rattle.litmus_text.specs.Texts.{IsLitmus}
+use Rattle.conditions.specs.declared.condition.Condition.{Condition as LitmusCondition}
+use Rattle.report.specs.Observations.{is_true_of, condition_line}
+use Rattle.gap_list.specs.declared.text_lines.TextLines.{TextLines}
+use Rattle.gap_list.specs.Lines.{line_at}
+use Rattle.gap_list.specs.Lists.{instruction_part}
+use Rattle.placed_text.specs.declared.writing.AnswerText.{AnswerText}
+use Rattle.placed_text.specs.PlacedTexts.{IsAnswerText}
+use Rattle.survey_text.specs.declared.finding.SurveyText.{SurveyText}
+use Rattle.survey_text.specs.declared.survey.Survey.{Survey}
+use Rattle.survey_text.specs.declared.visit.Visit.{Visit}
+use Rattle.survey_text.specs.Visits.{AreVisits, instruction_places, unexecuted}
+
+-- ---- what is found
+
+-- the list ascends, and has exactly the outcomes that the machine allows
+pub record AreOutcomesOf (p : Listing) (machine : Machine) (outcomes : List Outcome) : Type 0 where
+  pub ascend : Ascend outcomes
+  pub exact : (o : Outcome) → Contains outcomes o ↔ AllowsShown (asked p All) machine o
+
+-- of the program that the text spells: its outcomes in both machines with no gap fenced; each instruction, with a sequential run
+-- that executes it unless none does; and both answers, where each gap costs 1
+pub record IsSurvey (text : List ℕ) (survey : Survey) : Type 0 where
+  pub of_text : IsLitmus text survey.litmus
+  pub sequential : AreOutcomesOf survey.litmus.program (machine_of_model survey.litmus.program set.empty Sequential) survey.sequential.items
+  pub buffered : AreOutcomesOf survey.litmus.program (machine_of_model survey.litmus.program set.empty Buffered) survey.buffered.items
+  pub visits : AreVisits survey.litmus.program (instruction_places survey.litmus.program.threads) survey.visits.items
+  pub condition : IsAnswerText text None Condition survey.condition
+  pub whole : IsAnswerText text None Whole survey.whole
+
+-- ---- its lines, by the lines of the text in which the instructions stand
+
+-- an instruction by its place, its line, and how it is written
+abbrev pub instruction_line : Litmus Listing → TextLines → List ℕ → List ℕ → ℕ × ℕ → List ℕ
+instruction_line source lines word middle place =
+    word ++ decimal place.0 ++ 58 ∷ decimal place.1 ++ codes " line " ++ decimal (line_at lines place.0 place.1) ++ middle
+    ++ instruction_part source place.0 place.1 ++ 10 ∷ []
+
+-- `unexecuted t:k line L INSTRUCTION`, of an instruction that no sequential run executes
+abbrev pub unexecuted_line : Litmus Listing → TextLines → Visit → List ℕ
+unexecuted_line source lines visit =
+    option_map_or (λ run. []) visit.run (instruction_line source lines (codes "unexecuted ") (codes " ") (visit.thread, visit.instruction))
+
+-- `fence t:k line L, before INSTRUCTION`
+abbrev pub fence_line : Litmus Listing → TextLines → ℕ → List ℕ
+fence_line source lines gap =
+    option_map_or (instruction_line source lines (codes "fence ") (codes ", before ")) (gap_place source.program.threads gap) []
+
+-- an answer, with the places of its fences
+abbrev pub answer_lines : Litmus Listing → TextLines → AnswerText → List ℕ
+answer_lines source lines answer = answer.answer.items ++ flat_map (fence_line source lines) (numbers_of_set answer.gaps)
+
+abbrev pub survey_lines : TextLines → Survey → List ℕ
+survey_lines lines survey =
+    codes "sequential " ++ condition_line survey.litmus.condition survey.sequential.items
+    ++ codes "buffered " ++ condition_line survey.litmus.condition survey.buffered.items
+    ++ flat_map (unexecuted_line survey.litmus lines) survey.visits.items
+    ++ answer_lines survey.litmus lines survey.condition
+    ++ answer_lines survey.litmus lines survey.whole
+
+-- whether the condition fails sequentially, or an instruction is executed by no sequential run
+abbrev pub finds_fault : Survey → Bool
+finds_fault survey =
+    not (is_true_of survey.litmus.condition.quantifier survey.litmus.condition.formula survey.sequential.items && (unexecuted survey.visits.items == 0))
+
+-- whether the condition holds in a machine with these outcomes
+abbrev pub verdict : LitmusCondition → List Outcome → List ℕ
+verdict condition outcomes = if is_true_of condition.quantifier condition.formula outcomes then codes "holds" else codes "fails"
+
+-- `SEQUENTIAL BUFFERED UNEXECUTED CONDITION ANSWER`: both verdicts, how many instructions no sequential run executes, and how many
+-- fences each answer has
+abbrev pub survey_row : Survey → List ℕ
+survey_row survey =
+    verdict survey.litmus.condition survey.sequential.items ++ 32 ∷ verdict survey.litmus.condition survey.buffered.items
+    ++ 32 ∷ decimal (unexecuted survey.visits.items) ++ 32 ∷ decimal (set.len survey.condition.gaps) ++ 32 ∷ decimal (set.len survey.whole.gaps)
+
+-- What the text tells of the program that a litmus text spells. Of the lines of the litmus text that it names, nothing is said.
+pub record IsSurveyText (text : List ℕ) (told : SurveyText) : Type 0 where
+  pub survey : Survey
+  pub is : IsSurvey text survey
+  pub lines : TextLines
+  pub printed : told.lines.items ≡ survey_lines lines survey
+  pub row : told.row.items ≡ survey_row survey
+  pub fault : told.finds_fault ≡ finds_fault survey

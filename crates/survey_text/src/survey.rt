@@ -1,0 +1,22 @@
+//! What is found of a program.
+
+use crate::visit::Visit;
+use litmus_text::Litmus;
+use placed_text::AnswerText;
+use tso_program::{Outcome, Program};
+
+/// A litmus test, with what is found of its program.
+#[derive(Drop)]
+pub(crate) struct Survey {
+    pub(crate) litmus: Litmus<Program>,
+    /// The outcomes of the sequential machine.
+    pub(crate) sequential: Vec<Outcome>,
+    /// The outcomes with store buffers and no fence.
+    pub(crate) buffered: Vec<Outcome>,
+    /// Each instruction.
+    pub(crate) visits: Vec<Visit>,
+    /// The answer for the condition's truth.
+    pub(crate) condition: AnswerText,
+    /// The answer for whole outcomes.
+    pub(crate) whole: AnswerText,
+}
