@@ -1,5 +1,5 @@
 -- A certificate's parts put together.
-use Rattle.cert_check.proofs.Vocabulary.{ℕ, zero, suc, List, [], ◌∷◌, All, Contains, take, subst, arith, AllZip, all_sets, Question, Outcome, Label, StoreBufferMachine, no_gaps, IsShownRun, IsValidGap, Certificate, IsRunOutside, IsValidCertificateOf}
+use Rattle.cert_check.proofs.Vocabulary.{ℕ, zero, suc, List, [], ◌∷◌, All, Contains, take, subst, arith, AllZip, all_sets, Question, Outcome, Label, StoreBufferMachine, no_gaps, IsShownRun, IsValidGap, names_of, Certificate, IsRunOutside, IsValidCertificateOf}
 use Rattle.cert_check.proofs.Vocabulary.{IsFirstWithout, HasServingSet, IsOutside}
 use Rattle.tso_machine.proofs.Refused.{one_shown}
 use Rattle.cert_check.proofs.{GapNodes.labels_at}
@@ -36,10 +36,10 @@ module _ (q : Question) (list : List Outcome) where
 
 -- a certificate whose parts are right is valid for the question
 pub assembled : (q : Question) (costs : List ℕ) (c : Certificate) (outcomes : List Outcome) → HasServingSet q costs c outcomes →
-    IsValidGap q.program costs c.gaps c.runs c.gap_tree all_sets → IsValidCertificateOf q costs c
+    IsValidGap q costs (names_of q c) c.runs c.gap_tree all_sets → IsValidCertificateOf q costs c
 assembled q costs c outcomes has least = record {
   shown = has.runs.replayed.complete.listed.head.shown;
-  of_program = has.runs.replayed.complete.listed.head.of_program;
+  right_set = has.runs.replayed.complete.listed.head.right_set;
   one_cost_each = has.runs.replayed.complete.listed.head.cost.0;
   cost = has.runs.replayed.complete.listed.head.cost.1;
   outcomes = outcomes;

@@ -1,6 +1,6 @@
 -- A certificate that has a fault is not valid.
 use Rattle.cert_check.proofs.Vocabulary.{◌≡◌, ℕ, zero, suc, List, [], ◌∷◌, length, All, refl, ap, ◌∙◌, subst, SetOfGaps, without_gap, child_regions, Region, Listing, Outcome, Label, IsShownRun, Gap, Split, Bound, GapTrees, NoGap, MoreGaps}
-use Rattle.cert_check.proofs.Vocabulary.{IsValidCoverBy, Certificate, AreSequentialRuns, IsRunOutside, IsValidCertificateOf, one_list_of_gaps, CheckFault, valid_is_not_wrong, IsRunOf, IsFirstWithout, IsFirstFault, Question, SequentialMachine}
+use Rattle.cert_check.proofs.Vocabulary.{IsValidCoverBy, Certificate, AreSequentialRuns, IsRunOutside, IsValidCertificateOf, names_of, one_list_of_gaps, CheckFault, valid_is_not_wrong, IsRunOf, IsFirstWithout, IsFirstFault, Question, SequentialMachine}
 use Rattle.cert_check.proofs.Vocabulary.{StoreBufferMachine, no_gaps, IsValidGap, AreValidGaps, count_gaps}
 use Rattle.tso_machine.proofs.Refused.{one_shown}
 use Rattle.tree_laws.proofs.Lists.{found_has}
@@ -27,28 +27,28 @@ foreign_are_runs q list runs foreign k d h = (let (o, is_run, outside) = foreign
 pub none_without : {A : Type 0} (P : A → Type 0) (xs : List A) (n : ℕ) → All P xs → IsFirstWithout P xs n → ⊥
 none_without P xs n all first = first.without (found_has P xs n first.value first.there all)
 
-module _ (p : Listing) (costs : List ℕ) (answer : SetOfGaps) (runs : List (List Label)) where
+module _ (q : Question) (costs : List ℕ) (answer : SetOfGaps) (runs : List (List Label)) where
   long : (numbers : List ℕ) (n : Region) → length (child_regions n numbers) ≡ length numbers
   long [] n = refl
   long (gap ∷ numbers) n = ap suc (long numbers (without_gap n gap))
 
-  many_gaps : (trees : GapTrees) (ns : List Region) → AreValidGaps p costs answer runs trees ns → count_gaps trees ≡ length ns
+  many_gaps : (trees : GapTrees) (ns : List Region) → AreValidGaps q costs answer runs trees ns → count_gaps trees ≡ length ns
   many_gaps NoGap [] valid = refl
   many_gaps (MoreGaps tree trees) (n ∷ ns) valid = ap suc (many_gaps trees ns valid.1)
   many_gaps trees ns valid = absurd valid
 
   mutual
-    pub valid_gap_is_not_wrong : (tree : Gap) (n : Region) (path : List ℕ) → IsValidGap p costs answer runs tree n → gaps.FirstWrongGap p costs answer runs tree n path → ⊥
+    pub valid_gap_is_not_wrong : (tree : Gap) (n : Region) (path : List ℕ) → IsValidGap q costs answer runs tree n → gaps.FirstWrongGap q costs answer runs tree n path → ⊥
     valid_gap_is_not_wrong (Split number children) n [] (numbers, split, valid) wrong =
         wrong numbers split (many_gaps children (child_regions n numbers) valid ∙ long numbers n)
     valid_gap_is_not_wrong (Split number children) n (child ∷ path) (numbers, split, valid) (others, split_too, many, wrong) =
         valid_gaps_have_no_wrong children (child_regions n others) child path
-        (subst (λ gs. AreValidGaps p costs answer runs children (child_regions n gs)) (one_list_of_gaps p runs n number numbers others split split_too) valid) wrong
+        (subst (λ gs. AreValidGaps q costs answer runs children (child_regions n gs)) (one_list_of_gaps q runs n number numbers others split split_too) valid) wrong
     valid_gap_is_not_wrong (Bound numbers) n [] valid wrong = wrong valid
     valid_gap_is_not_wrong (Bound numbers) n (child ∷ path) valid wrong = wrong
 
-    valid_gaps_have_no_wrong : (trees : GapTrees) (ns : List Region) (child : ℕ) (path : List ℕ) → AreValidGaps p costs answer runs trees ns →
-        gaps.FirstWrongGapChild p costs answer runs trees ns child path → ⊥
+    valid_gaps_have_no_wrong : (trees : GapTrees) (ns : List Region) (child : ℕ) (path : List ℕ) → AreValidGaps q costs answer runs trees ns →
+        gaps.FirstWrongGapChild q costs answer runs trees ns child path → ⊥
     valid_gaps_have_no_wrong (MoreGaps tree trees) (n ∷ ns) zero path valid wrong = valid_gap_is_not_wrong tree n path valid.0 wrong
     valid_gaps_have_no_wrong (MoreGaps tree trees) (n ∷ ns) (suc child) path valid wrong = valid_gaps_have_no_wrong trees ns child path valid.1 wrong.1
     valid_gaps_have_no_wrong trees ns child path valid wrong = wrong
@@ -62,7 +62,7 @@ module _ (q : Question) (costs : List ℕ) (c : Certificate) (valid : IsValidCer
 
   pub no_fault : (why : CheckFault) → IsFirstFault q costs c why → why ≡ fault.OutOfMemory
   no_fault fault.Shown wrong = absurd (wrong valid.shown)
-  no_fault fault.Set wrong = absurd (wrong.1 valid.of_program)
+  no_fault fault.Set wrong = absurd (wrong.1 valid.right_set)
   no_fault fault.Cost wrong = absurd (wrong.2 (valid.one_cost_each, valid.cost))
   no_fault (fault.SequentialRun n) wrong =
       absurd (none_without (IsRunOf p SequentialMachine) c.seq_runs n (zip_left (IsShownRun q SequentialMachine) (IsRunOf p SequentialMachine) (of_shown q SequentialMachine) c.seq_runs valid.outcomes valid.replayed) wrong.1)
@@ -76,5 +76,5 @@ module _ (q : Question) (costs : List ℕ) (c : Certificate) (valid : IsValidCer
   no_fault (fault.FencedTree path) (outcomes, has, wrong) =
       absurd (valid_is_not_wrong c.rule q _ outcomes c.fenced_tree _ path
       (subst (λ os. IsValidCoverBy c.rule q _ os c.fenced_tree _) (same_list outcomes has.replayed.complete.listed.replayed) valid.fenced) wrong)
-  no_fault (fault.GapTree path) (outcomes, has, wrong) = absurd (valid_gap_is_not_wrong p costs c.gaps c.runs c.gap_tree _ path valid.least wrong)
+  no_fault (fault.GapTree path) (outcomes, has, wrong) = absurd (valid_gap_is_not_wrong q costs (names_of q c) c.runs c.gap_tree _ path valid.least wrong)
   no_fault fault.OutOfMemory wrong = refl

@@ -1,6 +1,8 @@
 -- The first fault by the question that a rule judges, and by the question itself.
-use Rattle.cert_check.proofs.Vocabulary.{◌≡◌, ◌⊎◌, ℕ, List, refl, sym, ap, ◌∙◌, subst, inl, inr, arith, Listing, Question, asked, Certificate, CheckFault, AreGapsOf, IsJudged, IsValidCertificateOf, HasHead, HasRightCost, IsFirstFault, CheckFaultIs}
+use Rattle.cert_check.proofs.Vocabulary.{◌≡◌, ◌⊎◌, ℕ, List, refl, sym, ap, ◌∙◌, subst, inl, inr, arith, Listing, Question, asked_with, Certificate, CheckFault, HasRightSet, IsJudged, IsValidCertificateOf, HasHead, HasRightCost, IsFirstFault, CheckFaultIs}
 use Rattle.cert_check.proofs.Vocabulary.{TheFirstCheckFaultIsUnique, ValidCertificatesHaveNoFault}
+use Rattle.gap_sets.specs.Order.{total}
+use Rattle.gap_sets.specs.Ties.{IsAllowed, names_in}
 use Rattle.tso_program.specs.declared.shown.Shown.{Shown}
 use Rattle.tso_program.specs.Listings.{gap_count}
 use Rattle.cert_forest.specs.Rule.{Rule, TheVariants.Whole, TheVariants.Early}
@@ -19,23 +21,26 @@ one_slim p shown slim other (here, are, is) (there, also, is_too) = is ∙ one_p
 
 -- what tells of what is shown, the set and the cost is the same of both questions
 abbrev HasSameHead : Question → Question → Type 0
-HasSameHead q j = (j.shown ≡ q.shown) × (gap_count j.program.threads ≡ gap_count q.program.threads)
+HasSameHead q j = (j.shown ≡ q.shown) × ((gap_count j.program.threads ≡ gap_count q.program.threads) × (j.ties ≡ q.ties))
 
 turned : (q j : Question) → HasSameHead q j → HasSameHead j q
-turned q j (shown, many) = (sym shown, sym many)
+turned q j (shown, (many, ties)) = (sym shown, (sym many, sym ties))
 
 module _ (costs : List ℕ) (c : Certificate) (q j : Question) (same : HasSameHead q j) where
   shown_too : c.shown ≡ shows_of q.shown → c.shown ≡ shows_of j.shown
   shown_too is = is ∙ ap shows_of (sym same.0)
 
-  set_too : AreGapsOf q.program c.gaps → AreGapsOf j.program c.gaps
-  set_too are gap there = let h = are gap there in let many = same.1 in omega arith
+  set_too : HasRightSet q c.gaps → HasRightSet j c.gaps
+  set_too right = record {
+    of_program = λ gap there. (let h = right.of_program gap there in let many = same.1.0 in omega arith);
+    allowed = subst (λ (ties : List ℕ). IsAllowed ties c.gaps) (sym same.1.1) right.allowed;
+  }
 
   cost_too : HasRightCost q costs c → HasRightCost j costs c
-  cost_too (long, is) = (long ∙ sym same.1, is)
+  cost_too (long, is) = (long ∙ sym same.1.0, subst (λ (ties : List ℕ). c.cost ≡ total costs (names_in ties c.gaps)) (sym same.1.1) is)
 
   pub head_too : HasHead q costs c → HasHead j costs c
-  head_too head = record { shown = shown_too head.shown; of_program = set_too head.of_program; cost = cost_too head.cost }
+  head_too head = record { shown = shown_too head.shown; right_set = set_too head.right_set; cost = cost_too head.cost }
 
 -- it is found without runs and trees
 abbrev IsOfHead : CheckFault → Type 0
@@ -56,20 +61,20 @@ module _ (costs : List ℕ) (c : Certificate) (q j : Question) (same : HasSameHe
 -- the question that the rule judges, with what is known of it
 module _ (q : Question) where
   with_head : (rule : Rule) (P : Question → Type 0) → IsJudged rule q P → IsJudged rule q (λ j. P j × HasSameHead q j)
-  with_head Whole P has = (has, (refl, refl))
-  with_head Early P (slim, is, has) = (slim, is, (has, (refl, as_many q.program q.shown slim is)))
+  with_head Whole P has = (has, (refl, (refl, refl)))
+  with_head Early P (slim, is, has) = (slim, is, (has, (refl, (as_many q.program q.shown slim is, refl))))
 
   both : (rule : Rule) (P R : Question → Type 0) → IsJudged rule q P → IsJudged rule q R → IsJudged rule q (λ j. P j × R j)
   both Whole P R has also = (has, also)
-  both Early P R (slim, is, has) (other, is_too, also) = (slim, is, (has, subst (λ (l : Listing). R (asked l q.shown)) (one_slim q.program q.shown other slim is_too is) also))
+  both Early P R (slim, is, has) (other, is_too, also) = (slim, is, (has, subst (λ (l : Listing). R (asked_with q.ties l q.shown)) (one_slim q.program q.shown other slim is_too is) also))
 
   mapped : (rule : Rule) (P R : Question → Type 0) → ((j : Question) → P j → R j) → IsJudged rule q P → IsJudged rule q R
   mapped Whole P R f has = f q has
-  mapped Early P R f (slim, is, has) = (slim, is, f (asked slim q.shown) has)
+  mapped Early P R f (slim, is, has) = (slim, is, f (asked_with q.ties slim q.shown) has)
 
   out : (rule : Rule) (P : Question → Type 0) (X : Type 0) → ((j : Question) → P j → X) → IsJudged rule q P → X
   out Whole P X f has = f q has
-  out Early P X f (slim, is, has) = f (asked slim q.shown) has
+  out Early P X f (slim, is, has) = f (asked_with q.ties slim q.shown) has
 
 module _ (q : Question) (costs : List ℕ) (c : Certificate) where
   abbrev ByJudged : CheckFault → Type 0
@@ -132,24 +137,24 @@ the_first_fault_is_unique q costs c why other wrong also = elim (by_either q cos
 
 -- ---- of the program without dead loads
 
-module _ (p : Listing) (shown : Shown) (slim : Listing) (is : IsWithoutDeadLoads p shown slim) (costs : List ℕ) (c : Certificate) where
-  same_head : HasSameHead (asked p shown) (asked slim shown)
-  same_head = (refl, as_many p shown slim is)
+module _ (ties : List ℕ) (p : Listing) (shown : Shown) (slim : Listing) (is : IsWithoutDeadLoads p shown slim) (costs : List ℕ) (c : Certificate) where
+  same_head : HasSameHead (asked_with ties p shown) (asked_with ties slim shown)
+  same_head = (refl, (as_many p shown slim is, refl))
 
   -- the head is right of it too
-  pub slim_head : HasHead (asked p shown) costs c → HasHead (asked slim shown) costs c
-  slim_head = head_too costs c (asked p shown) (asked slim shown) same_head
+  pub slim_head : HasHead (asked_with ties p shown) costs c → HasHead (asked_with ties slim shown) costs c
+  slim_head = head_too costs c (asked_with ties p shown) (asked_with ties slim shown) same_head
 
   module _ (early : c.rule ≡ Early) where
-    pub of_slim : (P : Question → Type 0) → P (asked slim shown) → IsJudged c.rule (asked p shown) P
-    of_slim P has = subst (λ (rule : Rule). IsJudged rule (asked p shown) P) (sym early) (slim, is, has)
+    pub of_slim : (P : Question → Type 0) → P (asked_with ties slim shown) → IsJudged c.rule (asked_with ties p shown) P
+    of_slim P has = subst (λ (rule : Rule). IsJudged rule (asked_with ties p shown) P) (sym early) (slim, is, has)
 
     -- its first fault is the certificate's
-    pub slim_fault : (why : CheckFault) → IsFirstFault (asked slim shown) costs c why → CheckFaultIs (asked p shown) costs c why
-    slim_fault fault.Shown wrong = of_head_too costs c (asked slim shown) (asked p shown) (turned (asked p shown) (asked slim shown) same_head) fault.Shown tt wrong
-    slim_fault fault.Set wrong = of_head_too costs c (asked slim shown) (asked p shown) (turned (asked p shown) (asked slim shown) same_head) fault.Set tt wrong
-    slim_fault fault.Cost wrong = of_head_too costs c (asked slim shown) (asked p shown) (turned (asked p shown) (asked slim shown) same_head) fault.Cost tt wrong
-    slim_fault fault.OutOfMemory wrong = of_head_too costs c (asked slim shown) (asked p shown) (turned (asked p shown) (asked slim shown) same_head) fault.OutOfMemory tt wrong
+    pub slim_fault : (why : CheckFault) → IsFirstFault (asked_with ties slim shown) costs c why → CheckFaultIs (asked_with ties p shown) costs c why
+    slim_fault fault.Shown wrong = of_head_too costs c (asked_with ties slim shown) (asked_with ties p shown) (turned (asked_with ties p shown) (asked_with ties slim shown) same_head) fault.Shown tt wrong
+    slim_fault fault.Set wrong = of_head_too costs c (asked_with ties slim shown) (asked_with ties p shown) (turned (asked_with ties p shown) (asked_with ties slim shown) same_head) fault.Set tt wrong
+    slim_fault fault.Cost wrong = of_head_too costs c (asked_with ties slim shown) (asked_with ties p shown) (turned (asked_with ties p shown) (asked_with ties slim shown) same_head) fault.Cost tt wrong
+    slim_fault fault.OutOfMemory wrong = of_head_too costs c (asked_with ties slim shown) (asked_with ties p shown) (turned (asked_with ties p shown) (asked_with ties slim shown) same_head) fault.OutOfMemory tt wrong
     slim_fault (fault.SequentialRun n) wrong = of_slim (λ j. IsFirstFault j costs c (fault.SequentialRun n)) wrong
     slim_fault (fault.SequentialTree path) wrong = of_slim (λ j. IsFirstFault j costs c (fault.SequentialTree path)) wrong
     slim_fault (fault.Run n) wrong = of_slim (λ j. IsFirstFault j costs c (fault.Run n)) wrong

@@ -11,7 +11,9 @@ pub mod Found
 pub mod OutcomesListed
 pub mod Replayed
 -- certificates
+pub mod TiesApart
 pub mod SetAndCost
+pub mod AllowedSets
 pub mod FirstFaults
 pub mod OneFault
 pub mod JudgedFaults

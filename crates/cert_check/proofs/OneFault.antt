@@ -1,7 +1,7 @@
 -- The first fault of a certificate is one fault.
 use Rattle.cert_check.proofs.Vocabulary.{◌≡◌, ◌≢◌, ◌⊎◌, ℕ, zero, suc, ◌<◌, List, [], ◌∷◌, Some, All, slice_get, take, refl, sym, ap, ◌∙◌, subst, inl, inr, arith, SetOfGaps, all_sets, child_regions, Region, Listing, Outcome, gaps_in, Question, Label, Machine}
 use Rattle.cert_check.proofs.Vocabulary.{SequentialMachine, StoreBufferMachine, no_gaps, empty_sketch, IsValidCoverBy, Certificate, AreSequentialRuns, IsRunOutside, one_list_of_gaps, CheckFault, FirstWrongCover, cases_lt, get_or-take, length-take}
-use Rattle.cert_check.proofs.Vocabulary.{slice_get_within, get_or_from_slice_get, IsShownRun, AreGapsOf, Cover, Gap, Split, Bound, GapTrees, MoreGaps, next_sibling, valid_is_not_wrong, one_wrong_node, IsRunOf, IsFirstWithout, HasRightCost, HasHead}
+use Rattle.cert_check.proofs.Vocabulary.{slice_get_within, get_or_from_slice_get, IsShownRun, HasRightSet, names_of, Cover, Gap, Split, Bound, GapTrees, MoreGaps, next_sibling, valid_is_not_wrong, one_wrong_node, IsRunOf, IsFirstWithout, HasRightCost, HasHead}
 use Rattle.cert_check.proofs.Vocabulary.{HasOutcomes, HasEachOutcome, HasRuns, HasForeignRuns, HasServingSet, IsFirstFault}
 use Rattle.cert_forest.specs.Shows.{shows_of}
 use Rattle.cert_check.specs.declared.fault.CheckFault.TheVariants as fault
@@ -22,24 +22,24 @@ one_number P xs n m first also = elim (cases_lt n m) [
   | inr h ↦ elim (cases_lt m n) [ inl l ↦ absurd (also.without (has_before P xs m n also.value l also.there first.before)) | inr l ↦ omega arith ]
 ]
 
-module _ (p : Listing) (costs : List ℕ) (answer : SetOfGaps) (runs : List (List Label)) where
+module _ (q : Question) (costs : List ℕ) (answer : SetOfGaps) (runs : List (List Label)) where
   mutual
     -- one node of a gap tree is the first wrong one
-    pub one_wrong_gap : (tree : Gap) (n : Region) (path other : List ℕ) → gaps.FirstWrongGap p costs answer runs tree n path → gaps.FirstWrongGap p costs answer runs tree n other → path ≡ other
+    pub one_wrong_gap : (tree : Gap) (n : Region) (path other : List ℕ) → gaps.FirstWrongGap q costs answer runs tree n path → gaps.FirstWrongGap q costs answer runs tree n other → path ≡ other
     one_wrong_gap (Split number children) n [] (j ∷ other) wrong (numbers, split, many, below) = absurd (wrong numbers split many)
     one_wrong_gap (Split number children) n (i ∷ path) [] (numbers, split, many, below) wrong = absurd (wrong numbers split many)
     one_wrong_gap (Split number children) n (i ∷ path) (j ∷ other) (numbers, split, many, below) (others, split_too, many_too, below_too) =
         one_wrong_gap_child children (child_regions n numbers) i j path other below
-        (subst (λ gs. gaps.FirstWrongGapChild p costs answer runs children (child_regions n gs) j other) (one_list_of_gaps p runs n number others numbers split_too split) below_too)
+        (subst (λ gs. gaps.FirstWrongGapChild q costs answer runs children (child_regions n gs) j other) (one_list_of_gaps q runs n number others numbers split_too split) below_too)
     one_wrong_gap (Bound numbers) n [] (j ∷ other) wrong also = absurd also
     one_wrong_gap (Bound numbers) n (i ∷ path) other wrong also = absurd wrong
     one_wrong_gap tree n [] [] wrong also = refl
 
-    one_wrong_gap_child : (trees : GapTrees) (ns : List Region) (i j : ℕ) (path other : List ℕ) → gaps.FirstWrongGapChild p costs answer runs trees ns i path →
-        gaps.FirstWrongGapChild p costs answer runs trees ns j other → i ∷ path ≡ j ∷ other
+    one_wrong_gap_child : (trees : GapTrees) (ns : List Region) (i j : ℕ) (path other : List ℕ) → gaps.FirstWrongGapChild q costs answer runs trees ns i path →
+        gaps.FirstWrongGapChild q costs answer runs trees ns j other → i ∷ path ≡ j ∷ other
     one_wrong_gap_child (MoreGaps tree trees) (n ∷ ns) zero zero path other wrong also = ap (λ xs. zero ∷ xs) (one_wrong_gap tree n path other wrong also)
-    one_wrong_gap_child (MoreGaps tree trees) (n ∷ ns) zero (suc j) path other wrong also = absurd (valid_gap_is_not_wrong p costs answer runs tree n path also.0 wrong)
-    one_wrong_gap_child (MoreGaps tree trees) (n ∷ ns) (suc i) zero path other wrong also = absurd (valid_gap_is_not_wrong p costs answer runs tree n other wrong.0 also)
+    one_wrong_gap_child (MoreGaps tree trees) (n ∷ ns) zero (suc j) path other wrong also = absurd (valid_gap_is_not_wrong q costs answer runs tree n path also.0 wrong)
+    one_wrong_gap_child (MoreGaps tree trees) (n ∷ ns) (suc i) zero path other wrong also = absurd (valid_gap_is_not_wrong q costs answer runs tree n other wrong.0 also)
     one_wrong_gap_child (MoreGaps tree trees) (n ∷ ns) (suc i) (suc j) path other wrong also = ap next_sibling (one_wrong_gap_child trees ns i j path other wrong.1 also.1)
     one_wrong_gap_child trees ns i j path other wrong also = absurd wrong
 
@@ -107,7 +107,7 @@ module _ (q : Question) (costs : List ℕ) (c : Certificate) where
 
   -- the parts, from the last on
   abbrev OfGaps : CheckFault → Type 0
-  OfGaps why = OfPart (List ℕ) fault.GapTree (gaps.FirstWrongGap p costs c.gaps c.runs c.gap_tree all_sets) ⊥ (λ why. ⊥) why
+  OfGaps why = OfPart (List ℕ) fault.GapTree (gaps.FirstWrongGap q costs (names_of q c) c.runs c.gap_tree all_sets) ⊥ (λ why. ⊥) why
 
   abbrev OfFenced : CheckFault → Type 0
   OfFenced why = OfPart (List ℕ) fault.FencedTree (WrongCover (StoreBufferMachine (gaps_in p c.gaps)) c.fenced_tree) (RightCover (StoreBufferMachine (gaps_in p c.gaps)) c.fenced_tree) OfGaps why
@@ -128,15 +128,15 @@ module _ (q : Question) (costs : List ℕ) (c : Certificate) where
   OfCost why = OfPart (Unit {0}) (λ _. fault.Cost) (λ _. HasRightCost q costs c → ⊥) (HasRightCost q costs c) OfSequential why
 
   abbrev OfSet : CheckFault → Type 0
-  OfSet why = OfPart (Unit {0}) (λ _. fault.Set) (λ _. AreGapsOf p c.gaps → ⊥) (AreGapsOf p c.gaps) OfCost why
+  OfSet why = OfPart (Unit {0}) (λ _. fault.Set) (λ _. HasRightSet q c.gaps → ⊥) (HasRightSet q c.gaps) OfCost why
 
   abbrev OfShown : CheckFault → Type 0
   OfShown why = OfPart (Unit {0}) (λ _. fault.Shown) (λ _. c.shown ≡ shows_of q.shown → ⊥) (c.shown ≡ shows_of q.shown) OfSet why
 
   -- in each part there is one
   one_of_gaps : IsOfOne OfGaps
-  one_of_gaps = one_of_part (List ℕ) fault.GapTree (gaps.FirstWrongGap p costs c.gaps c.runs c.gap_tree all_sets) ⊥ (λ why. ⊥)
-      (λ path other wrong also. ap fault.GapTree (one_wrong_gap p costs c.gaps c.runs c.gap_tree all_sets path other wrong also)) (λ path wrong none. none) (λ why other none also. absurd none)
+  one_of_gaps = one_of_part (List ℕ) fault.GapTree (gaps.FirstWrongGap q costs (names_of q c) c.runs c.gap_tree all_sets) ⊥ (λ why. ⊥)
+      (λ path other wrong also. ap fault.GapTree (one_wrong_gap q costs (names_of q c) c.runs c.gap_tree all_sets path other wrong also)) (λ path wrong none. none) (λ why other none also. absurd none)
 
   one_of_fenced : IsOfOne OfFenced
   one_of_fenced = one_of_part (List ℕ) fault.FencedTree (WrongCover (StoreBufferMachine (gaps_in p c.gaps)) c.fenced_tree) (RightCover (StoreBufferMachine (gaps_in p c.gaps)) c.fenced_tree) OfGaps
@@ -163,14 +163,14 @@ module _ (q : Question) (costs : List ℕ) (c : Certificate) where
   one_of_cost = one_of_part (Unit {0}) (λ _. fault.Cost) (λ _. HasRightCost q costs c → ⊥) (HasRightCost q costs c) OfSequential (λ x y wrong also. refl) (λ x wrong right. wrong right) one_of_sequential
 
   one_of_set : IsOfOne OfSet
-  one_of_set = one_of_part (Unit {0}) (λ _. fault.Set) (λ _. AreGapsOf p c.gaps → ⊥) (AreGapsOf p c.gaps) OfCost (λ x y wrong also. refl) (λ x wrong right. wrong right) one_of_cost
+  one_of_set = one_of_part (Unit {0}) (λ _. fault.Set) (λ _. HasRightSet q c.gaps → ⊥) (HasRightSet q c.gaps) OfCost (λ x y wrong also. refl) (λ x wrong right. wrong right) one_of_cost
 
   one_of_shown : IsOfOne OfShown
   one_of_shown = one_of_part (Unit {0}) (λ _. fault.Shown) (λ _. c.shown ≡ shows_of q.shown → ⊥) (c.shown ≡ shows_of q.shown) OfSet (λ x y wrong also. refl) (λ x wrong right. wrong right) one_of_set
 
   -- what holds before a part
   after_head : (why : CheckFault) → HasHead q costs c → OfSequential why → OfShown why
-  after_head why head rest = inr (head.shown, inr (head.of_program, inr (head.cost, rest)))
+  after_head why head rest = inr (head.shown, inr (head.right_set, inr (head.cost, rest)))
 
   after_replays : (why : CheckFault) (outcomes : List Outcome) → HasOutcomes q costs c outcomes → OfTree why → OfShown why
   after_replays why outcomes has rest =

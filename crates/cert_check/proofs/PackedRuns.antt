@@ -1,5 +1,5 @@
 -- A bound by runs is judged run by run.
-use Rattle.cert_check.proofs.Vocabulary.{◌≡◌, ◌↔◌, ℕ, Bool, true, false, List, [], ◌∷◌, Contains, All, refl, sym, ◌∙◌, subst, inl, inr, AllZip, nat_cmp, SetOfGaps, Better, Region, Listing, Label, IsSplitBy, one_list_of_gaps}
+use Rattle.cert_check.proofs.Vocabulary.{◌≡◌, ◌↔◌, ℕ, Bool, true, false, List, [], ◌∷◌, Contains, All, refl, sym, ◌∙◌, subst, inl, inr, AllZip, nat_cmp, SetOfGaps, Better, Region, Question, Label, IsSplitBy, one_list_of_gaps}
 use Rattle.std.specs.FinSet as set
 use Rattle.std.proofs.lemmas.Bool.{cases_Bool}
 use Rattle.std.proofs.lemmas.List.Elements.{All-nil, All-cons, All-head, All-tail, All-contains, All-weaker, All-contains_itself}
@@ -22,12 +22,12 @@ pub false_from : (b : Bool) → (b ≡ true → ⊥) → b ≡ false
 false_from true not = absurd (not refl)
 false_from false not = refl
 
-module _ (p : Listing) (costs : List ℕ) (answer : SetOfGaps) (runs : List (List Label)) (region : Region) where
+module _ (q : Question) (costs : List ℕ) (answer : SetOfGaps) (runs : List (List Label)) (region : Region) where
   abbrev Bound : List ℕ → Type 0
-  Bound numbers = IsBoundBy p costs answer runs region numbers
+  Bound numbers = IsBoundBy q costs answer runs region numbers
 
   abbrev With : Packing → List ℕ → Type 0
-  With packing numbers = IsBoundWith p costs answer runs region packing numbers
+  With packing numbers = IsBoundWith q costs answer runs region packing numbers
 
   -- no run is packed
   pub none_packed : (gaps : SetOfGaps) → gaps ≡ set.empty → (numbers : List ℕ) → Bound numbers ↔ With (record { least = region.must; gaps = gaps; has_none = false }) numbers
@@ -40,22 +40,22 @@ module _ (p : Listing) (costs : List ℕ) (answer : SetOfGaps) (runs : List (Lis
       free gap = subst (λ (s : SetOfGaps). set.contains s gap ≡ false) (sym empty) (set.contains-empty nat_cmp gap)
 
   -- a run that doesn't split the region
-  pub no_run_more : (packing : Packing) (number : ℕ) (left : List ℕ) → ((gaps : List ℕ) → ¬ IsSplitBy p runs region number gaps) → ¬ With packing (number ∷ left)
+  pub no_run_more : (packing : Packing) (number : ℕ) (left : List ℕ) → ((gaps : List ℕ) → ¬ IsSplitBy q runs region number gaps) → ¬ With packing (number ∷ left)
   no_run_more packing number left none bound = by_lists bound.gaps bound.each
     where
-      by_lists : (lists : List (List ℕ)) → AllZip (IsSplitBy p runs region) (number ∷ left) lists → ⊥
+      by_lists : (lists : List (List ℕ)) → AllZip (IsSplitBy q runs region) (number ∷ left) lists → ⊥
       by_lists [] each = each
       by_lists (gaps ∷ lists) each = none gaps each.0
 
-  module _ (packing : Packing) (number : ℕ) (left gaps : List ℕ) (split : IsSplitBy p runs region number gaps) where
+  module _ (packing : Packing) (number : ℕ) (left gaps : List ℕ) (split : IsSplitBy q runs region number gaps) where
     -- a run with a packed gap
     pub meets_packed : (gap : ℕ) → Contains gaps gap → set.contains packing.gaps gap ≡ true → ¬ With packing (number ∷ left)
     meets_packed gap here there bound = by_lists bound.gaps bound.each bound.beside
       where
-        by_lists : (lists : List (List ℕ)) → AllZip (IsSplitBy p runs region) (number ∷ left) lists → All (HasNoneOf packing.gaps) lists → ⊥
+        by_lists : (lists : List (List ℕ)) → AllZip (IsSplitBy q runs region) (number ∷ left) lists → All (HasNoneOf packing.gaps) lists → ⊥
         by_lists [] each beside = each
         by_lists (others ∷ lists) each beside =
-            let same = one_list_of_gaps p runs region number gaps others split each.0 in
+            let same = one_list_of_gaps q runs region number gaps others split each.0 in
             no_true (set.contains packing.gaps gap) there (All-head (HasNoneOf packing.gaps) others lists beside gap (subst (λ (gs : List ℕ). Contains gs gap) same here))
 
     module _ (new : Packing) (is : IsPackedWith costs packing gaps new) where
@@ -63,7 +63,7 @@ module _ (p : Listing) (costs : List ℕ) (answer : SetOfGaps) (runs : List (Lis
       others_bound : With packing (number ∷ left) → With new left
       others_bound bound = by_lists bound.gaps bound.each bound.apart bound.beside bound.not_better
         where
-          by_lists : (lists : List (List ℕ)) → AllZip (IsSplitBy p runs region) (number ∷ left) lists → IsPacking lists → All (HasNoneOf packing.gaps) lists →
+          by_lists : (lists : List (List ℕ)) → AllZip (IsSplitBy q runs region) (number ∷ left) lists → IsPacking lists → All (HasNoneOf packing.gaps) lists →
               (packing.has_none ≡ false → (cheapest : List ℕ) → AllZip (IsCheapestOf costs) lists cheapest → ¬ Better costs (with_gaps packing.least cheapest) answer) → With new left
           by_lists [] each apart beside not_better = absurd each
           by_lists (first ∷ lists) each apart beside not_better = record {
@@ -76,7 +76,7 @@ module _ (p : Listing) (costs : List ℕ) (answer : SetOfGaps) (runs : List (Lis
           }
             where
               same : gaps ≡ first
-              same = one_list_of_gaps p runs region number gaps first split each.0
+              same = one_list_of_gaps q runs region number gaps first split each.0
 
               none : (list : List ℕ) → Contains lists list → HasNoneOf new.gaps list
               none list here gap there = false_from (set.contains new.gaps gap) (λ packed. elim ((is.packed gap).0 packed) [
@@ -122,7 +122,7 @@ module _ (p : Listing) (costs : List ℕ) (answer : SetOfGaps) (runs : List (Lis
     (λ not_better. record { gaps = []; each = tt; apart = tt; beside = All-nil (HasNoneOf packing.gaps); not_better = still not_better }),
   )
     where
-      no_lists : (lists : List (List ℕ)) → AllZip (IsSplitBy p runs region) [] lists → lists ≡ []
+      no_lists : (lists : List (List ℕ)) → AllZip (IsSplitBy q runs region) [] lists → lists ≡ []
       no_lists [] each = refl
       no_lists (gaps ∷ lists) each = absurd each
 

@@ -1,7 +1,10 @@
 -- Runs that are replayed in turn, and the first that is not a run.
-use Rattle.cert_check.proofs.Vocabulary.{◌≡◌, ◌≢◌, ℕ, zero, suc, List, [], ◌∷◌, ◌++◌, Some, length, All, refl, sym, ap, ◌∙◌, subst, arith, Listing, Outcome, Question, Label, SetOfGaps, Machine, unfenced, ArePassed, IsRunOf, IsFirstWithout, append_assoc}
+use Rattle.cert_check.proofs.Vocabulary.{◌≡◌, ◌≢◌, ℕ, zero, suc, List, [], ◌∷◌, ◌++◌, Some, length, All, refl, sym, ap, ◌∙◌, subst, arith, Listing, Outcome, Question, Label, SetOfGaps, Machine, StoreBufferMachine, no_gaps, unfenced, ArePassed, ArePassedNames, HavePassed, IsRunOf, IsFirstWithout, append_assoc}
 use Rattle.cert_check.proofs.Vocabulary.{AllZip-long, all_zipped_more, IsShownRun, IsReplayOf, AreReplaysOf, IsNoRunAt, IsFaultFrom, RunsFaultIs, AllZip, slice_get}
+use Rattle.std.proofs.Common.{map}
 use Rattle.std.proofs.Math.Seq.{take-append_seam}
+use Rattle.gap_sets.specs.Ties.{names_in}
+use Rattle.tso_machine.proofs.NamesPassed.{names_of_passed}
 use Rattle.tso_machine.specs.{declared.label.Model.Model, declared.replaying.Ended.Ended, declared.replaying.ReplayFault.ReplayFault, Faults.ReplayFaultIs}
 use Rattle.tso_machine.specs.declared.replaying.ReplayFault.TheVariants as replays
 use Rattle.cert_check.specs.declared.fault.RunsFault.{RunsFault}
@@ -24,6 +27,17 @@ zip_left R P f [] ys all k d h = absurd (omega arith)
 zip_left R P f (x ∷ xs) [] all k d h = absurd all
 zip_left R P f (x ∷ xs) (y ∷ ys) all zero d h = f x y all.0
 zip_left R P f (x ∷ xs) (y ∷ ys) all (suc k) d h = zip_left R P f xs ys all.1 k d (omega arith)
+
+-- what each value on the right stands for, where lists are in step
+pub zip_mapped : {A B : Type 0} (R S : A → B → Type 0) (f : B → B) → ((x : A) (y : B) → R x y → S x (f y)) → (xs : List A) (ys : List B) → AllZip R xs ys → AllZip S xs (map f ys)
+zip_mapped R S f g [] [] all = all
+zip_mapped R S f g [] (y ∷ ys) all = absurd all
+zip_mapped R S f g (x ∷ xs) [] all = absurd all
+zip_mapped R S f g (x ∷ xs) (y ∷ ys) all = (g x y all.0, zip_mapped R S f g xs ys all.1)
+
+-- runs that pass gaps pass their names
+pub have_passed : (q : Question) (runs : List (List Label)) (passed : List SetOfGaps) → AllZip (ArePassed q.program (StoreBufferMachine no_gaps)) runs passed → HavePassed q runs (map (names_in q.ties) passed)
+have_passed q runs passed each = zip_mapped (ArePassed q.program (StoreBufferMachine no_gaps)) (ArePassedNames q) (names_in q.ties) (names_of_passed q) runs passed each
 
 -- a run of which something is shown is a run
 pub of_shown : (q : Question) (mode : Machine) (labels : List Label) (o : Outcome) → IsShownRun q mode labels o → IsRunOf q.program mode labels

@@ -31,15 +31,15 @@ pub use Rattle.gap_sets.specs.declared.region.Region.{Region}
 pub use Rattle.program_sketches.proofs.Lookups.{each_more, same_default}
 pub use Rattle.tree_laws.proofs.OneList.{one_list_of_gaps}
 pub use Rattle.tree_laws.proofs.OpenGaps.{few_gaps, listed, rising, unlisted}
-pub use Rattle.tree_laws.specs.Certificates.{AreSequentialRuns, IsJudged, IsRunOutside, IsValidCertificate, IsValidCertificateOf}
+pub use Rattle.tree_laws.specs.Certificates.{AreSequentialRuns, HasRightSet, names_of, IsJudged, IsRunOutside, IsValidCertificate, IsValidCertificateOf}
 pub use Rattle.tree_laws.specs.CoverTrees.{IsValidCoverBy}
-pub use Rattle.tree_laws.specs.GapTrees.{AreValidGaps, IsSplitBy, IsValidGap, PassesGap}
+pub use Rattle.tree_laws.specs.GapTrees.{AreValidGaps, IsSplitBy, IsValidGap}
 pub use Rattle.tso_machine.specs.Machine.{Machine, SequentialMachine, StoreBufferMachine, no_gaps, outcome_at}
 pub use Rattle.tso_machine.specs.Modes.{ArePassed, unfenced}
-pub use Rattle.tso_machine.specs.Outcomes.{AreGapsOf, IsReplayOf, IsShownRun}
+pub use Rattle.tso_machine.specs.Outcomes.{AreGapsOf, ArePassedNames, PassesName, IsReplayOf, IsShownRun}
 pub use Rattle.tso_machine.specs.declared.label.Label.{Label}
 pub use Rattle.tso_program.specs.Fences.{gaps_in}
-pub use Rattle.tso_program.specs.Shown.{asked, show}
+pub use Rattle.tso_program.specs.Shown.{asked, asked_with, show}
 pub use Rattle.tso_program.specs.declared.question.Question.{Question}
 pub use Rattle.tso_program.specs.declared.listing.Listing.{Listing}
 pub use Rattle.tso_program.specs.declared.outcome.Outcome.{Outcome}

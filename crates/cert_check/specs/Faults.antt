@@ -9,12 +9,11 @@ use Rattle.tso_program.specs.Listings.{gap_count}
 use Rattle.tso_program.specs.Fences.{gaps_in}
 use Rattle.tso_machine.specs.declared.label.Label.{Label}
 use Rattle.tso_machine.specs.Machine.{Machine, SequentialMachine, StoreBufferMachine, no_gaps, IsRun}
-use Rattle.tso_machine.specs.Outcomes.{AreGapsOf}
 use Rattle.cover_judge.specs.Sketches.{empty_sketch}
 use Rattle.tree_laws.specs.CoverTrees.{IsValidCoverBy}
 use Rattle.cert_forest.specs.Certificates.{Certificate}
 use Rattle.cert_forest.specs.Shows.{shows_of}
-use Rattle.tree_laws.specs.Certificates.{AreSequentialRuns, IsJudged, IsRunOutside}
+use Rattle.tree_laws.specs.Certificates.{AreSequentialRuns, IsJudged, IsRunOutside, HasRightSet, names_of}
 use Rattle.cert_check.specs.declared.fault.CheckFault.{CheckFault}
 use Rattle.cert_check.specs.declared.fault.CheckFault.TheVariants as fault
 use Rattle.cover_judge.specs.CoverDefects.{FirstWrongCover}
@@ -34,12 +33,12 @@ IsRunOf p mode labels = (o : Outcome) × IsRun p mode labels o
 module _ (q : Question) (costs : List ℕ) (c : Certificate) where
   -- each gap has a cost, and the certificate's is the set's
   abbrev pub HasRightCost : Type 0
-  HasRightCost = (length costs ≡ gap_count q.program.threads) × (c.cost ≡ total costs c.gaps)
+  HasRightCost = (length costs ≡ gap_count q.program.threads) × (c.cost ≡ total costs (names_of q c))
 
-  -- it is about what is shown, its set is one of the program's gaps, and its cost is the set's
+  -- it is about what is shown, its set is one of the program's gaps, all or none of each tie, and its cost is the set's
   pub record HasHead : Type 0 where
     pub shown : c.shown ≡ shows_of q.shown
-    pub of_program : AreGapsOf q.program c.gaps
+    pub right_set : HasRightSet q c.gaps
     pub cost : HasRightCost
 
   module _ (outcomes : List Outcome) where
@@ -72,15 +71,15 @@ module _ (q : Question) (costs : List ℕ) (c : Certificate) where
   -- cost are right: they are judged without memory.
   abbrev pub IsFirstFault : CheckFault → Type 0
   IsFirstFault fault.Shown = c.shown ≡ shows_of q.shown → ⊥
-  IsFirstFault fault.Set = (c.shown ≡ shows_of q.shown) × (AreGapsOf q.program c.gaps → ⊥)
-  IsFirstFault fault.Cost = (c.shown ≡ shows_of q.shown) × AreGapsOf q.program c.gaps × (HasRightCost → ⊥)
+  IsFirstFault fault.Set = (c.shown ≡ shows_of q.shown) × (HasRightSet q c.gaps → ⊥)
+  IsFirstFault fault.Cost = (c.shown ≡ shows_of q.shown) × HasRightSet q c.gaps × (HasRightCost → ⊥)
   IsFirstFault (fault.SequentialRun number) = HasHead × IsFirstWithout (IsRunOf q.program SequentialMachine) c.seq_runs number
   IsFirstFault (fault.SequentialTree path) = (outcomes : List Outcome) × HasOutcomes outcomes × FirstWrongCover c.rule q SequentialMachine outcomes c.seq_tree (empty_sketch q.program) path
   IsFirstFault (fault.Run number) = (outcomes : List Outcome) × HasEachOutcome outcomes × IsFirstWithout (IsRunOf q.program (StoreBufferMachine no_gaps)) c.runs number
   IsFirstFault (fault.NotForeign number) = (outcomes : List Outcome) × HasRuns outcomes × IsFirstWithout (IsRunOutside q outcomes) c.runs number
   IsFirstFault (fault.FencedTree path) =
       (outcomes : List Outcome) × HasForeignRuns outcomes × FirstWrongCover c.rule q (StoreBufferMachine (gaps_in q.program c.gaps)) outcomes c.fenced_tree (empty_sketch q.program) path
-  IsFirstFault (fault.GapTree path) = (outcomes : List Outcome) × HasServingSet outcomes × FirstWrongGap q.program costs c.gaps c.runs c.gap_tree all_sets path
+  IsFirstFault (fault.GapTree path) = (outcomes : List Outcome) × HasServingSet outcomes × FirstWrongGap q costs (names_of q c) c.runs c.gap_tree all_sets path
   IsFirstFault fault.OutOfMemory = HasHead
 
 -- The fault of a certificate: of what is shown, the set and the cost it is the first by the question itself, and of runs and trees by the question

@@ -1,4 +1,5 @@
 pub mod GapDefects
+pub mod Headlines
 pub mod Faults
 pub mod Laws
 pub mod Internal

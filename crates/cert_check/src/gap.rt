@@ -2,7 +2,7 @@
 ghost use Rattle.std.specs.Prelude.{◌≡◌, ◌↔◌, ◌∷◌, [], ℕ, List, ◌<◌, ◌≤◌, false, OnOk, IfOk, IfErr, IfSome, MatchOption, length, take, drop};
 ghost use Rattle.gap_sets.specs.Gaps.{numbers_of_set};
 ghost use Rattle.gap_sets.specs.Order.{Better};
-ghost use Rattle.tso_program.specs.declared.listing.Listing.{Listing};
+ghost use Rattle.tso_program.specs.declared.question.Question.{Question};
 ghost use Rattle.tso_machine.specs.declared.label.Label.{Label};
 ghost use Rattle.cert_forest.specs.Trees.{Split, gap_trees_of};
 ghost use Rattle.cert_forest.specs.GapNodes.{first_gap, spell_gaps};
@@ -20,7 +20,7 @@ use gap_sets::{Costs, GapSet, Region};
 use std::alloc::Global;
 
 /// What gap trees are judged by: the costs, the set that is to be the answer, and the gaps that each foreign
-/// run passes.
+/// run passes. Gaps are those of the ties' names.
 #[derive(Clone, Copy)]
 pub(crate) struct Bounds<'a> {
     pub(crate) costs: &'a Costs,
@@ -35,10 +35,10 @@ pub(crate) fn judge_gap_tree(
     region: &Region,
     bounds: &Bounds,
 ) -> Result<(), NodeFault>
-    ensures valid { (p : Listing) (runs : List (List Label)) → HavePassed p runs bounds.now.passed.now
-        → OnOk result (IsValidGap p bounds.now.costs.now bounds.now.answer runs tree.now region.now) }
-    ensures wrong { (p : Listing) (runs : List (List Label)) → HavePassed p runs bounds.now.passed.now
-        → IfErr result (IfWrong (FirstWrongGap p bounds.now.costs.now bounds.now.answer runs tree.now region.now)) }
+    ensures valid { (q : Question) (runs : List (List Label)) → HavePassed q runs bounds.now.passed.now
+        → OnOk result (IsValidGap q bounds.now.costs.now bounds.now.answer runs tree.now region.now) }
+    ensures wrong { (q : Question) (runs : List (List Label)) → HavePassed q runs bounds.now.passed.now
+        → IfErr result (IfWrong (FirstWrongGap q bounds.now.costs.now bounds.now.answer runs tree.now region.now)) }
 {
     judge_gap(alloc, &mut tree.walk(), region, bounds)
 }
@@ -54,10 +54,10 @@ fn judge_gap(
 ) -> Result<(), NodeFault>
     requires { 0 < length walk.old }
     ensures after { OnOk result (walk.new ≡ drop 1 walk.old) }
-    ensures valid { (p : Listing) (runs : List (List Label)) → HavePassed p runs bounds.now.passed.now
-        → OnOk result (IsValidGap p bounds.now.costs.now bounds.now.answer runs (first_gap walk.old) region.now) }
-    ensures wrong { (p : Listing) (runs : List (List Label)) → HavePassed p runs bounds.now.passed.now
-        → IfErr result (IfWrong (FirstWrongGap p bounds.now.costs.now bounds.now.answer runs (first_gap walk.old) region.now)) }
+    ensures valid { (q : Question) (runs : List (List Label)) → HavePassed q runs bounds.now.passed.now
+        → OnOk result (IsValidGap q bounds.now.costs.now bounds.now.answer runs (first_gap walk.old) region.now) }
+    ensures wrong { (q : Question) (runs : List (List Label)) → HavePassed q runs bounds.now.passed.now
+        → IfErr result (IfWrong (FirstWrongGap q bounds.now.costs.now bounds.now.answer runs (first_gap walk.old) region.now)) }
 {
     match walk.next_node() {
         GapNode::Bound => judge_bound(alloc, region, bounds),
@@ -78,10 +78,10 @@ fn judge_split(
 ) -> Result<(), NodeFault>
     requires { count ≤ length walk.old }
     ensures after { OnOk result (walk.new ≡ drop count walk.old) }
-    ensures valid { (p : Listing) (runs : List (List Label)) → HavePassed p runs bounds.now.passed.now
-        → OnOk result (IsValidGap p bounds.now.costs.now bounds.now.answer runs (Split run (gap_trees_of (take count walk.old))) region.now) }
-    ensures wrong { (p : Listing) (runs : List (List Label)) → HavePassed p runs bounds.now.passed.now
-        → IfErr result (IfWrong (FirstWrongGap p bounds.now.costs.now bounds.now.answer runs (Split run (gap_trees_of (take count walk.old))) region.now)) }
+    ensures valid { (q : Question) (runs : List (List Label)) → HavePassed q runs bounds.now.passed.now
+        → OnOk result (IsValidGap q bounds.now.costs.now bounds.now.answer runs (Split run (gap_trees_of (take count walk.old))) region.now) }
+    ensures wrong { (q : Question) (runs : List (List Label)) → HavePassed q runs bounds.now.passed.now
+        → IfErr result (IfWrong (FirstWrongGap q bounds.now.costs.now bounds.now.answer runs (Split run (gap_trees_of (take count walk.old))) region.now)) }
 {
     let gaps = split_gaps(alloc, run, region, count, bounds.passed)?;
     judge_gaps(alloc, walk, region, gaps, bounds)
@@ -98,10 +98,10 @@ fn judge_gaps(
 ) -> Result<(), NodeFault>
     requires { length (numbers_of_set gaps) ≤ length walk.old }
     ensures after { OnOk result (walk.new ≡ drop (length (numbers_of_set gaps)) walk.old) }
-    ensures valid { (p : Listing) (runs : List (List Label)) → HavePassed p runs bounds.now.passed.now
-        → OnOk result (AreValidIn p bounds.now.costs.now bounds.now.answer runs (take (length (numbers_of_set gaps)) walk.old) region.now (numbers_of_set gaps)) }
-    ensures wrong { (p : Listing) (runs : List (List Label)) → HavePassed p runs bounds.now.passed.now
-        → IfErr result (IfWrong (IsBelow (IsWrongChildIn p bounds.now.costs.now bounds.now.answer runs (take (length (numbers_of_set gaps)) walk.old) region.now (numbers_of_set gaps)))) }
+    ensures valid { (q : Question) (runs : List (List Label)) → HavePassed q runs bounds.now.passed.now
+        → OnOk result (AreValidIn q bounds.now.costs.now bounds.now.answer runs (take (length (numbers_of_set gaps)) walk.old) region.now (numbers_of_set gaps)) }
+    ensures wrong { (q : Question) (runs : List (List Label)) → HavePassed q runs bounds.now.passed.now
+        → IfErr result (IfWrong (IsBelow (IsWrongChildIn q bounds.now.costs.now bounds.now.answer runs (take (length (numbers_of_set gaps)) walk.old) region.now (numbers_of_set gaps)))) }
 {
     let mut rest = *region;
     for (number, gap) in gaps.iter().enumerate() {
@@ -122,11 +122,11 @@ fn judge_gap_child(
 ) -> Result<(), NodeFault>
     requires { 0 < length walk.old }
     ensures after { OnOk result (walk.new ≡ drop 1 walk.old) }
-    ensures valid { (p : Listing) (runs : List (List Label)) → HavePassed p runs bounds.now.passed.now
-        → OnOk result (IsValidGap p bounds.now.costs.now bounds.now.answer runs (first_gap walk.old) region.now) }
-    ensures wrong { (p : Listing) (runs : List (List Label)) → HavePassed p runs bounds.now.passed.now
+    ensures valid { (q : Question) (runs : List (List Label)) → HavePassed q runs bounds.now.passed.now
+        → OnOk result (IsValidGap q bounds.now.costs.now bounds.now.answer runs (first_gap walk.old) region.now) }
+    ensures wrong { (q : Question) (runs : List (List Label)) → HavePassed q runs bounds.now.passed.now
         → IfErr result (IfWrong (IsBelow (λ n path. (n ≡ number)
-        × FirstWrongGap p bounds.now.costs.now bounds.now.answer runs (first_gap walk.old) region.now path))) }
+        × FirstWrongGap q bounds.now.costs.now bounds.now.answer runs (first_gap walk.old) region.now path))) }
 {
     match judge_gap(alloc, walk, region, bounds) {
         Ok(()) => Ok(()),
@@ -145,10 +145,10 @@ fn judge_packing(
     requires bound { IsBoundTree (first_gap walk.old) }
     requires some { 0 < length walk.old }
     ensures after { OnOk result (walk.new ≡ drop 1 walk.old) }
-    ensures valid { (p : Listing) (runs : List (List Label)) → HavePassed p runs bounds.now.passed.now
-        → OnOk result (IsBoundBy p bounds.now.costs.now bounds.now.answer runs region.now (first ∷ runs_of (first_gap walk.old))) }
-    ensures wrong { (p : Listing) (runs : List (List Label)) → HavePassed p runs bounds.now.passed.now
-        → IfErr result (IfWrong (IsAtRoot (¬ IsBoundBy p bounds.now.costs.now bounds.now.answer runs region.now (first ∷ runs_of (first_gap walk.old))))) }
+    ensures valid { (q : Question) (runs : List (List Label)) → HavePassed q runs bounds.now.passed.now
+        → OnOk result (IsBoundBy q bounds.now.costs.now bounds.now.answer runs region.now (first ∷ runs_of (first_gap walk.old))) }
+    ensures wrong { (q : Question) (runs : List (List Label)) → HavePassed q runs bounds.now.passed.now
+        → IfErr result (IfWrong (IsAtRoot (¬ IsBoundBy q bounds.now.costs.now bounds.now.answer runs region.now (first ∷ runs_of (first_gap walk.old))))) }
 {
     match packed_runs(first, walk, region, bounds) {
         Some(packing) => judge_least(alloc, packing, bounds),
@@ -167,9 +167,9 @@ fn packed_runs(
     requires bound { IsBoundTree (first_gap walk.old) }
     requires some { 0 < length walk.old }
     ensures after { IfSome result (λ packing. walk.new ≡ drop 1 walk.old) }
-    ensures packed { (p : Listing) (runs : List (List Label)) → HavePassed p runs bounds.now.passed.now
-        → MatchOption result (¬ IsBoundBy p bounds.now.costs.now bounds.now.answer runs region.now (first ∷ runs_of (first_gap walk.old)))
-        (λ packing. IsBoundBy p bounds.now.costs.now bounds.now.answer runs region.now (first ∷ runs_of (first_gap walk.old)) ↔ IsBoundWith p bounds.now.costs.now bounds.now.answer runs region.now packing []) }
+    ensures packed { (q : Question) (runs : List (List Label)) → HavePassed q runs bounds.now.passed.now
+        → MatchOption result (¬ IsBoundBy q bounds.now.costs.now bounds.now.answer runs region.now (first ∷ runs_of (first_gap walk.old)))
+        (λ packing. IsBoundBy q bounds.now.costs.now bounds.now.answer runs region.now (first ∷ runs_of (first_gap walk.old)) ↔ IsBoundWith q bounds.now.costs.now bounds.now.answer runs region.now packing []) }
 {
     let mut packing = Packing::of_region(region).with_run(first, region, bounds)?;
     while let Some(run) = next_run(walk) {
@@ -226,11 +226,11 @@ fn split_gaps(
     count: u32,
     passed: &[GapSet],
 ) -> Result<GapSet, NodeFault>
-    ensures split { (p : Listing) (labels : List (List Label)) → HavePassed p labels passed.now
-        → IfOk result (λ gaps. IsSplitBy p labels region.now run (numbers_of_set gaps)) }
+    ensures split { (q : Question) (labels : List (List Label)) → HavePassed q labels passed.now
+        → IfOk result (λ gaps. IsSplitBy q labels region.now run (numbers_of_set gaps)) }
     ensures as_many { IfOk result (λ gaps. count ≡ length (numbers_of_set gaps)) }
-    ensures wrong { (p : Listing) (labels : List (List Label)) → HavePassed p labels passed.now
-        → IfErr result (IfWrong (IsAtRoot (HasNoSplit p labels region.now run count))) }
+    ensures wrong { (q : Question) (labels : List (List Label)) → HavePassed q labels passed.now
+        → IfErr result (IfWrong (IsAtRoot (HasNoSplit q labels region.now run count))) }
 {
     let Some(gaps) = run_gaps(run, region, passed) else {
         return Err(NodeFault::at_root(alloc));

@@ -4,7 +4,7 @@ ghost use Rattle.std.specs.FinSet as set;
 ghost use Rattle.gap_sets.specs.Gaps.{SetOfGaps, numbers_of_set};
 ghost use Rattle.gap_sets.specs.Order.{cost_of};
 ghost use Rattle.gap_sets.specs.declared.gap_set.TheConstants.{MAX_GAPS};
-ghost use Rattle.tso_program.specs.declared.listing.Listing.{Listing};
+ghost use Rattle.tso_program.specs.declared.question.Question.{Question};
 ghost use Rattle.tso_machine.specs.declared.label.Label.{Label};
 ghost use Rattle.tree_laws.specs.GapTrees.{IsBoundBy, IsSplitBy};
 ghost use Rattle.tree_laws.specs.Packings.{IsCheapestOf};
@@ -30,8 +30,8 @@ pub(crate) struct Packing {
 impl Packing {
     /// No run.
     pub(crate) fn of_region(region: &Region) -> Packing
-        ensures { (p : Listing) (costs : List ℕ) (answer : SetOfGaps) (runs : List (List Label)) (numbers : List ℕ) →
-            IsBoundBy p costs answer runs region.now numbers ↔ IsBoundWith p costs answer runs region.now result numbers }
+        ensures { (q : Question) (costs : List ℕ) (answer : SetOfGaps) (runs : List (List Label)) (numbers : List ℕ) →
+            IsBoundBy q costs answer runs region.now numbers ↔ IsBoundWith q costs answer runs region.now result numbers }
     {
         Packing {
             least: region.must,
@@ -43,9 +43,9 @@ impl Packing {
     /// With one run more. `None` if it is not there, passes a gap that the sets must have, or has a gap in common with
     /// another run.
     pub(crate) fn with_run(self, run: u64, region: &Region, bounds: &Bounds) -> Option<Packing>
-        ensures { (p : Listing) (runs : List (List Label)) (left : List ℕ) → HavePassed p runs bounds.now.passed.now
-            → MatchOption result (¬ IsBoundWith p bounds.now.costs.now bounds.now.answer runs region.now self (run ∷ left))
-            (λ packing. IsBoundWith p bounds.now.costs.now bounds.now.answer runs region.now self (run ∷ left) ↔ IsBoundWith p bounds.now.costs.now bounds.now.answer runs region.now packing left) }
+        ensures { (q : Question) (runs : List (List Label)) (left : List ℕ) → HavePassed q runs bounds.now.passed.now
+            → MatchOption result (¬ IsBoundWith q bounds.now.costs.now bounds.now.answer runs region.now self (run ∷ left))
+            (λ packing. IsBoundWith q bounds.now.costs.now bounds.now.answer runs region.now self (run ∷ left) ↔ IsBoundWith q bounds.now.costs.now bounds.now.answer runs region.now packing left) }
     {
         let Some(gaps) = run_gaps(run, region, bounds.passed) else {
             return None;
@@ -81,8 +81,8 @@ impl Packing {
 /// The gaps that the run of this number passes and that the sets of the region may have, where it passes none that
 /// they must have.
 pub(crate) fn run_gaps(run: u64, region: &Region, passed: &[GapSet]) -> Option<GapSet>
-    ensures { (p : Listing) (runs : List (List Label)) → HavePassed p runs passed.now
-        → MatchOption result ((gaps : List ℕ) → ¬ IsSplitBy p runs region.now run gaps) (λ gaps. IsSplitBy p runs region.now run (numbers_of_set gaps)) }
+    ensures { (q : Question) (runs : List (List Label)) → HavePassed q runs passed.now
+        → MatchOption result ((gaps : List ℕ) → ¬ IsSplitBy q runs region.now run gaps) (λ gaps. IsSplitBy q runs region.now run (numbers_of_set gaps)) }
 {
     let Some(passed) = passed_by(passed, run) else {
         return None;

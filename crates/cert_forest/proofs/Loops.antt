@@ -1,10 +1,8 @@
 -- Lists, read by a loop.
 use Rattle.cert_forest.proofs.Vocabulary.{◌≡◌, ℕ, zero, suc, ◌+◌, ◌-◌, ◌<◌, ◌≤◌, true, false, List, [], ◌∷◌, ◌++◌, Option, Some, None, refl, sym, ap, ◌∙◌, arith, nat_lt, lt-ltb, le-ltb, SetOfGaps, Label, Stop, Refused, OutOfMemory, Fails, begins_word}
 use Rattle.cert_forest.proofs.Vocabulary.{repeat_at, stops_for_memory, label_word_at, run_labels_at, ascending_at}
+use Rattle.tso_program.proofs.Remainders.{one_less}
 use Rattle.std.specs.FinSet as set
-
-pub one_less : (n k : ℕ) → k < n → n - k ≡ suc (n - (k + 1))
-one_less n k lt = omega arith
 
 -- ---- so many values
 

@@ -1,7 +1,7 @@
 -- Parts of a tree's text.
 use Rattle.cert_pages.proofs.Vocabulary.{◌≡◌, ℕ, zero, suc, ◌+◌, ◌-◌, ◌<◌, ◌≤◌, List, [], ◌∷◌, ◌++◌, length, take, drop, refl, sym, ap, ◌∙◌, subst, append_assoc, arith, append-nil, drop_all, take_all, IfSome, Option, Some, slice_index_or, Cover, CoverNode}
 use Rattle.cert_pages.proofs.Vocabulary.{IsNext, children_of, root_of, spell_all, next_is_shorter, TreePart, trees_text, IsPartWritten, LeadTo, WriteFrom}
-use Rattle.cert_forest.proofs.Loops.{one_less}
+use Rattle.tso_program.proofs.Remainders.{one_less}
 unfoldable use Rattle.cert_pages.specs.Parts.{after}
 
 -- ---- so many nodes of trees

@@ -61,7 +61,7 @@ fn push_bound_alone(
     region: &Region,
     words: &mut Vec<u8>,
 ) -> Result<bool, AllocError> {
-    if hunt.costs.better(&region.must, set) {
+    if hunt.costs.costs.better(&region.must, set) {
         return Ok(false);
     }
     push_word(words, b"B")?;
@@ -75,10 +75,10 @@ fn push_bound_by_runs(
     region: &Region,
     words: &mut Vec<u8>,
 ) -> Result<bool, AllocError> {
-    let Some(bound) = lower_bound(hunt.alloc, hunt.costs, region, &hunt.passed)? else {
+    let Some(bound) = lower_bound(hunt.alloc, &hunt.costs.costs, region, &hunt.passed)? else {
         return Ok(false);
     };
-    if !excludes(hunt.costs, &bound, set) {
+    if !excludes(&hunt.costs.costs, &bound, set) {
         return Ok(false);
     }
     push_word(words, b"B")?;

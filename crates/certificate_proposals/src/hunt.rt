@@ -1,7 +1,7 @@
 //! The hunt for a best set of gaps that serves.
 use candidate_search::{Proposal, ProposingSearch};
 use cert_forest::{Node, Rule, Runs};
-use gap_sets::{Costs, GapSet, MAX_GAPS};
+use gap_sets::{GapSet, MAX_GAPS, TiedCosts};
 use hitting_sets::best_hitting_set;
 use std::alloc::{AllocError, Global};
 use std::thread::Threads;
@@ -11,7 +11,7 @@ use tso_program::{Outcome, Program, Shown};
 /// More questions than any machine asks: memory ends a hunt before.
 const MOST_QUESTIONS: u64 = 1 << 56;
 
-/// Foreign runs that are known, and the gaps that each of them passes.
+/// Foreign runs that are known, and the names of the ties of which each passes a gap. A set is one of names.
 #[derive(Drop)]
 pub(crate) struct Hunt<'a> {
     pub(crate) alloc: Global,
@@ -19,12 +19,12 @@ pub(crate) struct Hunt<'a> {
     pub(crate) rule: Rule,
     pub(crate) program: &'a Program,
     pub(crate) shown: &'a Shown,
-    pub(crate) costs: &'a Costs,
+    pub(crate) costs: &'a TiedCosts,
     pub(crate) runs: Runs,
     pub(crate) passed: Vec<GapSet>,
 }
 
-/// A set of gaps, and the nodes of a cover tree that is to show that it serves.
+/// A set of names, and the nodes of a cover tree that is to show that it serves.
 #[derive(Drop)]
 pub(crate) struct ServedSet {
     pub(crate) set: GapSet,
@@ -40,10 +40,10 @@ impl Hunt<'_> {
         outcomes: &[Outcome],
     ) -> Result<Option<ServedSet>, AllocError> {
         for _ in 0..MOST_QUESTIONS {
-            let Some(set) = best_hitting_set(self.alloc, self.costs, &self.passed)? else {
+            let Some(set) = best_hitting_set(self.alloc, &self.costs.costs, &self.passed)? else {
                 return Ok(None);
             };
-            match search.verdict(rt, &set, outcomes)? {
+            match search.verdict(rt, &self.costs.ties.spread(&set), outcomes)? {
                 Some(Proposal::Serves(nodes)) => return Ok(Some(ServedSet { set, nodes })),
                 Some(Proposal::Foreign(labels)) => {
                     if !self.learn(&labels, &set)? {
@@ -56,8 +56,8 @@ impl Hunt<'_> {
         Ok(None)
     }
 
-    /// Asks of each gap of a set that no known run passes alone about all gaps but this one, and learns a run where they do
-    /// not serve: it passes this gap alone, so each set that serves has it.
+    /// Asks of each name of a set that no known run passes alone about all gaps but those of its tie, and learns a run where
+    /// they do not serve: it passes this name alone, so each set that serves has it.
     pub(crate) fn learn_needed<R: Threads + Sync>(
         &mut self,
         rt: &R,
@@ -68,7 +68,8 @@ impl Hunt<'_> {
         for gap in set.iter() {
             if !self.is_needed(gap) {
                 let others = all_but(self.program, gap);
-                if let Some(Proposal::Foreign(labels)) = search.verdict(rt, &others, outcomes)? {
+                let gaps = self.costs.ties.spread(&others);
+                if let Some(Proposal::Foreign(labels)) = search.verdict(rt, &gaps, outcomes)? {
                     self.learn(&labels, &others)?;
                 }
             }
@@ -76,7 +77,7 @@ impl Hunt<'_> {
         Ok(())
     }
 
-    /// Whether a known run passes this gap alone.
+    /// Whether a known run passes this name alone.
     fn is_needed(&self, gap: u8) -> bool {
         for passed in &self.passed {
             if passed.has(gap) && passed.len() == 1 {
@@ -86,17 +87,17 @@ impl Hunt<'_> {
         false
     }
 
-    /// Adds a run, which is to pass no gap of a set. Whether it is one.
+    /// Adds a run, which is to pass no name of a set. Whether it is one.
     fn learn(&mut self, labels: &[Label], set: &GapSet) -> Result<bool, AllocError> {
         let model = Model::Buffered;
         match replay_shown(self.alloc, self.program, self.shown, model, labels) {
-            Ok(ended) => self.add(labels, ended.passed, set),
+            Ok(ended) => self.add(labels, self.costs.ties.names_in(&ended.passed), set),
             Err(ReplayFault::OutOfMemory) => Err(AllocError),
             Err(_) => Ok(false),
         }
     }
 
-    /// Adds a run that passes these gaps, if none of them is in the set. Whether it does.
+    /// Adds a run that passes these names, if none of them is in the set. Whether it does.
     fn add(&mut self, labels: &[Label], passed: GapSet, set: &GapSet) -> Result<bool, AllocError> {
         if passed.meets(set) {
             return Ok(false);

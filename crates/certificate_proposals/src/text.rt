@@ -5,15 +5,15 @@ use crate::hunt::{Hunt, ServedSet};
 use crate::lines::{push_head, push_runs, push_set};
 use candidate_search::{ProposedOutcomes, ProposingSearch, SearchPlan};
 use cert_forest::{Rule, Runs, Shows};
-use gap_sets::Costs;
+use gap_sets::TiedCosts;
 use live_registers::without_dead_loads;
 use std::alloc::{AllocError, Global};
 use std::thread::Threads;
 use tso_machine::Mode;
 use tso_program::{Program, Shown};
 
-/// The text of a certificate for a program, what is shown of its outcomes and the costs of its gaps, which nobody vouches
-/// for. Whole trees are those of a certificate of version 1 or 2, early ones of version 4. `None` where the search gives
+/// The text of a certificate for a program, what is shown of its outcomes and the costs of its gaps with their ties, which
+/// nobody vouches for. Whole trees are those of a certificate of version 1 or 2, early ones of version 4. `None` where the search gives
 /// up. Threads share a long search, and the text does not depend on how many there are.
 pub fn propose<R: Threads + Sync>(
     rt: &R,
@@ -21,7 +21,7 @@ pub fn propose<R: Threads + Sync>(
     plan: SearchPlan,
     program: &Program,
     shown: &Shown,
-    costs: &Costs,
+    costs: &TiedCosts,
 ) -> Result<Option<Vec<u8>>, AllocError> {
     match plan.rule {
         Rule::Whole => text_over(rt, alloc, plan, program, shown, costs),
@@ -40,7 +40,7 @@ fn text_over<R: Threads + Sync>(
     plan: SearchPlan,
     program: &Program,
     shown: &Shown,
-    costs: &Costs,
+    costs: &TiedCosts,
 ) -> Result<Option<Vec<u8>>, AllocError> {
     let search = ProposingSearch::new(alloc, plan, program, shown)?;
     let Some(sequential) = search.outcomes_by_threads(rt, Mode::Sequential)? else {
@@ -75,7 +75,8 @@ fn text_of(
     };
     let mut out = Vec::new(hunt.alloc);
     push_head(&mut out, hunt.rule, &Shows::of(hunt.shown))?;
-    push_set(&mut out, &served.set, hunt.costs.total(&served.set))?;
+    let gaps_of_set = hunt.costs.ties.spread(&served.set);
+    push_set(&mut out, &gaps_of_set, hunt.costs.costs.total(&served.set))?;
     push_runs(&mut out, b"seq", &sequential.runs)?;
     push_cover(&mut out, b"tree", &sequential.nodes)?;
     push_runs(&mut out, b"runs", &hunt.runs)?;

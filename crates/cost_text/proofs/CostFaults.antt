@@ -1,10 +1,10 @@
--- The first fault of the costs, where one more entry gives a gap what no gap may cost.
-use Rattle.cost_text.proofs.Vocabulary.{◌≡◌, ◌≢◌, ◌==◌, ℕ, ◌<◌, ◌≤◌, Bool, true, false, List, [], ◌∷◌, ◌++◌, length, get_or, Some, None, Result, Ok, Err, refl, sym, ap, ◌∙◌, arith, inl, inr, nat_lt, nat_le, position, not, position_or_len, eqb-true, eqb-false}
-use Rattle.cost_text.proofs.Vocabulary.{leb-true, leb-false, eq-eqb, ne_eqb, cases_Bool, cases_eq, lt-ltb, CostFault, Entry, said_of, costs_of, cost_or_fault, MAX_GAPS, IsCostList, first_free, first_cost_fault, none_found, not_free, not_too_large}
-use Rattle.cost_text.proofs.Vocabulary.{not_too_many}
+-- The first fault of the costs, where one more entry gives its gaps what no gap may cost.
+use Rattle.cost_text.proofs.Vocabulary.{◌≡◌, ◌==◌, ◌∙◌, ℕ, ◌<◌, ◌≤◌, Bool, true, false, List, [], ◌∷◌, ◌++◌, length, get_or, Some, None, Result, Ok, Err, refl, sym, ap, arith, inl, inr, nat_lt, nat_le, position, not, position_or_len, eqb-true, eqb-false}
+use Rattle.cost_text.proofs.Vocabulary.{leb-true, leb-false, eq-eqb, ne_eqb, cases_Bool, lt-ltb, CostFault, Entry, NoGapTwice, is_of, least_of, costs_of, cost_or_fault, MAX_GAPS, IsCostList, first_free, first_cost_fault, none_found, not_free, not_too_large, not_too_many}
 use Rattle.std.proofs.lemmas.List.Sums.{prefix_len_is}
 use Rattle.gap_sets.specs.declared.costs.CostFault.{TheVariants.Zero, TheVariants.TooLarge}
-use Rattle.cost_text.proofs.EntryLaws.{IsCost, cost_there, others_within, same_length, few_gaps}
+use Rattle.cost_text.proofs.Once.{least_below, least_there}
+use Rattle.cost_text.proofs.CostLaws.{IsCost, cost_there, others_within, same_length, few_gaps}
 
 -- the first element that passes a test
 position_is : (p : ℕ → Bool) (xs : List ℕ) (i : ℕ) → i < length xs → p (get_or xs i 0) ≡ true → ((k : ℕ) → k < i → p (get_or xs k 0) ≡ false) → position p xs ≡ Some i
@@ -29,34 +29,50 @@ judged gap cost =
       | inr over ↦ large (leb-false cost 1000000 over) (rw over refl)
     ]
 
-module _ (gaps : ℕ) (entries : List Entry) (e : Entry) (below : e.gap < gaps) (new : said_of entries e.gap ≡ None) (within : IsCostList (costs_of gaps entries)) where
-  there : get_or (costs_of gaps (entries ++ e ∷ [])) e.gap 0 ≡ e.cost
-  there = cost_there gaps entries e below new within 0
+module _ (gaps : ℕ) (entries : List Entry) (e : Entry) (once : NoGapTwice (entries ++ e ∷ [])) (within : IsCostList (costs_of gaps entries)) (below : (gap : ℕ) → is_of gap e ≡ true → gap < gaps) (some : (gap : ℕ) × (is_of gap e ≡ true)) where
+  few : gaps ≤ MAX_GAPS
+  few = few_gaps gaps entries e once within
 
-  elsewhere : (k : ℕ) → k < gaps → e.gap ≢ k → IsCost (get_or (costs_of gaps (entries ++ e ∷ [])) k 0)
-  elsewhere k = others_within gaps entries e below new within k 0
+  -- its name is one of its gaps
+  of_name : is_of (least_of e.gaps 255) e ≡ true
+  of_name = least_there e.gaps 255 some.0 some.1 (omega (arith, few, below some.0 some.1))
+
+  name_below : least_of e.gaps 255 < gaps
+  name_below = below (least_of e.gaps 255) of_name
+
+  -- and the least
+  before : (k : ℕ) → k < least_of e.gaps 255 → is_of k e ≡ false
+  before k lt = elim (cases_Bool (is_of k e)) [ inl of_gap ↦ absurd (omega (arith, lt, least_below e.gaps 255 k of_gap)) | inr other ↦ other ]
+
+  there : (k : ℕ) → is_of k e ≡ true → get_or (costs_of gaps (entries ++ e ∷ [])) k 0 ≡ e.cost
+  there k of_gap = cost_there gaps entries e once within k 0 (below k of_gap) of_gap
+
+  elsewhere : (k : ℕ) → k < gaps → is_of k e ≡ false → IsCost (get_or (costs_of gaps (entries ++ e ∷ [])) k 0)
+  elsewhere k lt other = others_within gaps entries e once within k 0 lt other
 
   long : length (costs_of gaps (entries ++ e ∷ [])) ≡ gaps
-  long = same_length gaps entries e below new within
+  long = same_length gaps entries e once within
 
-  few : nat_lt MAX_GAPS (length (costs_of gaps (entries ++ e ∷ []))) ≡ false
-  few = not_too_many _ (omega (arith, long, few_gaps gaps entries e below new within))
+  not_many : nat_lt MAX_GAPS (length (costs_of gaps (entries ++ e ∷ []))) ≡ false
+  not_many = not_too_many _ (omega (arith, long, few))
 
   -- the first gap of a test that its cost alone passes
-  found : (p : ℕ → Bool) → p e.cost ≡ true → ((c : ℕ) → IsCost c → p c ≡ false) → position p (costs_of gaps (entries ++ e ∷ [])) ≡ Some e.gap
-  found p passes fail = position_is p (costs_of gaps (entries ++ e ∷ [])) e.gap (omega (arith, long)) (ap p there ∙ passes) (λ k lt. fail _ (elsewhere k (omega arith) (λ is. absurd (omega arith))))
+  found : (p : ℕ → Bool) → p e.cost ≡ true → ((c : ℕ) → IsCost c → p c ≡ false) → position p (costs_of gaps (entries ++ e ∷ [])) ≡ Some (least_of e.gaps 255)
+  found p passes fail =
+      position_is p (costs_of gaps (entries ++ e ∷ [])) (least_of e.gaps 255) (omega (arith, long, name_below)) (ap p (there (least_of e.gaps 255) of_name) ∙ passes)
+      (λ k lt. fail _ (elsewhere k (omega (arith, lt, name_below)) (before k lt)))
 
   none_free : (e.cost == 0) ≡ false → first_free (costs_of gaps (entries ++ e ∷ [])) ≡ None
-  none_free some =
-      none_found (λ c. c == 0) (costs_of gaps (entries ++ e ∷ [])) (λ k lt. elim (cases_eq e.gap k) [
-        | inl same ↦ ap (λ (i : ℕ). get_or (costs_of gaps (entries ++ e ∷ [])) i 0 == 0) (sym same) ∙ ap (λ (c : ℕ). c == 0) there ∙ some
-        | inr other ↦ not_free _ (elsewhere k (omega (arith, long)) other)
+  none_free costs =
+      none_found (λ c. c == 0) (costs_of gaps (entries ++ e ∷ [])) (λ k lt. elim (cases_Bool (is_of k e)) [
+        | inl of_gap ↦ ap (λ (c : ℕ). c == 0) (there k of_gap) ∙ costs
+        | inr other ↦ not_free _ (elsewhere k (omega (arith, lt, long)) other)
       ])
 
-  pub first_fault : (why : CostFault) → cost_or_fault e.gap e.cost ≡ Err why → first_cost_fault (costs_of gaps (entries ++ e ∷ [])) ≡ Some why
-  first_fault why is = by_kind (judged e.gap e.cost)
+  pub first_fault : (why : CostFault) → cost_or_fault (least_of e.gaps 255) e.cost ≡ Err why → first_cost_fault (costs_of gaps (entries ++ e ∷ [])) ≡ Some why
+  first_fault why is = by_kind (judged (least_of e.gaps 255) e.cost)
     where
-      by_kind : IsJudged e.gap e.cost (cost_or_fault e.gap e.cost) → first_cost_fault (costs_of gaps (entries ++ e ∷ [])) ≡ Some why
+      by_kind : IsJudged (least_of e.gaps 255) e.cost (cost_or_fault (least_of e.gaps 255) e.cost) → first_cost_fault (costs_of gaps (entries ++ e ∷ [])) ≡ Some why
       by_kind (fine some small r) = let bad = sym r ∙ is in absurd cc
-      by_kind (free zero_cost r) = let named = sym r ∙ is in rw (few, found (λ c. c == 0) (eq-eqb e.cost 0 zero_cost) not_free) cc
-      by_kind (large over r) = let named = sym r ∙ is in rw (few, none_free (ne_eqb e.cost 0 (λ z. absurd (omega arith))), found (λ c. nat_lt 1000000 c) (lt-ltb 1000000 e.cost over) not_too_large) cc
+      by_kind (free zero_cost r) = let named = sym r ∙ is in rw (not_many, found (λ c. c == 0) (eq-eqb e.cost 0 zero_cost) not_free) cc
+      by_kind (large over r) = let named = sym r ∙ is in rw (not_many, none_free (ne_eqb e.cost 0 (λ z. absurd (omega (arith, z, over)))), found (λ c. nat_lt 1000000 c) (lt-ltb 1000000 e.cost over) not_too_large) cc

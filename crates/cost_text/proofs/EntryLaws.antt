@@ -1,116 +1,122 @@
--- Entries, and the table and the costs that they give.
-use Rattle.cost_text.proofs.Vocabulary.{◌≡◌, ◌≢◌, ◌==◌, ℕ, ◌<◌, ◌≤◌, true, false, List, [], ◌∷◌, ◌++◌, length, get_or, map, set, Option, Some, None, refl, sym, ap, ◌∙◌, subst, arith, inl, inr, unwrap_or, range_with_len, eqb-true, eqb-false, eq-eqb, ne_eqb}
-use Rattle.cost_text.proofs.Vocabulary.{length-set, get_or-set_same, get_or-set_other, cases_Bool, cases_eq, IsCostList, Entry, said_of, NoGapTwice, costs_of, table_of, MAX_GAPS}
-use Rattle.std.proofs.lemmas.Simd.{map-map}
-use Rattle.std.proofs.lemmas.List.FromFn.{fill_by_all, length-map-range_with_len, get_or-map-range_with_len}
+-- Entries: what they say of a gap, also where one more comes.
+use Rattle.cost_text.proofs.Vocabulary.{◌≡◌, ◌==◌, ◌∙◌, ℕ, ◌<◌, ◌≤◌, true, false, List, [], ◌∷◌, ◌++◌, length, get_or, map, Option, Some, None, is_some, option_map_or, refl, sym, ap, subst, arith, inl, inr, cases_Bool, same_Some, append-nil}
+use Rattle.cost_text.proofs.Vocabulary.{flat_map-append, list_any-append, range_with_len, length-map-range_with_len, get_or-map-range_with_len, slice_get_within, slice_get-get_or, get_or_from_slice_get, AreTies, MAX_GAPS}
+use Rattle.cost_text.proofs.Vocabulary.{Entry, NoGapTwice, entry_of, gaps_of, is_of, least_of, name_said}
+use Rattle.cost_text.proofs.Once.{NoneTwice, has, apart, back, has_left, least_le, least_there, least_alike}
 
--- ---- what entries say
+some_none : (e : Entry) → Some e ≡ None → ⊥
+some_none e is = cc
 
-some_none : (n : ℕ) → Some n ≡ None → ⊥
-some_none n e = cc
+-- what is found is of the gap
+pub found_is : (entries : List Entry) (gap : ℕ) (e : Entry) → entry_of entries gap ≡ Some e → is_of gap e ≡ true
+found_is [] gap e there = absurd cc
+found_is (x ∷ xs) gap e there = elim (cases_Bool (is_of gap x)) [
+  | inl here ↦ let same : x ≡ e = same_Some x e (rw here at there) in subst (λ (y : Entry). is_of gap y ≡ true) same here
+  | inr other ↦ found_is xs gap e (rw other at there)
+]
 
--- of two entries the first does not speak of a gap of which nothing is said
-first_is_other : (x : Entry) (xs : List Entry) (gap : ℕ) → said_of (x ∷ xs) gap ≡ None → (x.gap == gap) ≡ false
-first_is_other x xs gap none = elim (cases_Bool (x.gap == gap)) [ inl y ↦ absurd (some_none x.cost (rw y at none)) | inr n ↦ n ]
+-- an entry names a gap exactly where it is among their gaps
+pub named : (entries : List Entry) (gap : ℕ) → is_some (entry_of entries gap) ≡ has (gaps_of entries) gap
+named [] gap = refl
+named (x ∷ xs) gap =
+    let parts = list_any-append (λ other. other == gap) x.gaps (gaps_of xs) in
+    elim (cases_Bool (is_of gap x)) [ inl here ↦ rw (parts, here) refl | inr other ↦ rw (parts, other) (named xs gap) ]
 
-rest_says : (x : Entry) (xs : List Entry) (gap : ℕ) → said_of (x ∷ xs) gap ≡ None → said_of xs gap ≡ None
-rest_says x xs gap none = rw (first_is_other x xs gap none) at none
+-- the gaps with one more entry
+pub gaps_more : (entries : List Entry) (e : Entry) → gaps_of (entries ++ e ∷ []) ≡ gaps_of entries ++ e.gaps
+gaps_more entries e = flat_map-append (λ (x : Entry). x.gaps) entries (e ∷ []) ∙ ap (λ (gaps : List ℕ). gaps_of entries ++ gaps) (append-nil e.gaps)
 
--- one more entry, of a gap of which nothing is said yet
-pub said_there : (entries more : List Entry) (e : Entry) → said_of entries e.gap ≡ None → said_of (entries ++ e ∷ more) e.gap ≡ Some e.cost
-said_there [] more e none = rw (eq-eqb e.gap e.gap refl) refl
-said_there (x ∷ xs) more e none = rw (first_is_other x xs e.gap none) (said_there xs more e (rest_says x xs e.gap none))
+-- what is found stays so with more entries
+pub found_first : (entries more : List Entry) (gap : ℕ) (e : Entry) → entry_of entries gap ≡ Some e → entry_of (entries ++ more) gap ≡ Some e
+found_first [] more gap e there = absurd cc
+found_first (x ∷ xs) more gap e there = elim (cases_Bool (is_of gap x)) [
+  | inl here ↦ rw here (rw here at there)
+  | inr other ↦ rw other (found_first xs more gap e (rw other at there))
+]
 
-said_elsewhere : (entries : List Entry) (e : Entry) (gap : ℕ) → e.gap ≢ gap → said_of (entries ++ e ∷ []) gap ≡ said_of entries gap
-said_elsewhere [] e gap other = rw (ne_eqb e.gap gap other) refl
-said_elsewhere (x ∷ xs) e gap other = elim (cases_Bool (x.gap == gap)) [ inl y ↦ rw (y) refl | inr n ↦ rw (n) (said_elsewhere xs e gap other) ]
+pub found_later : (entries more : List Entry) (gap : ℕ) → entry_of entries gap ≡ None → entry_of (entries ++ more) gap ≡ entry_of more gap
+found_later [] more gap nothing = refl
+found_later (x ∷ xs) more gap nothing = elim (cases_Bool (is_of gap x)) [
+  | inl here ↦ absurd (some_none x (rw here at nothing))
+  | inr other ↦ rw other (found_later xs more gap (rw other at nothing))
+]
 
-pub once_more : (entries : List Entry) (e : Entry) → NoGapTwice entries → said_of entries e.gap ≡ None → NoGapTwice (entries ++ e ∷ [])
-once_more [] e once none = (refl, tt)
-once_more (x ∷ xs) e once none =
-    (said_elsewhere xs e x.gap (λ is. eqb-false x.gap e.gap (first_is_other x xs e.gap none) (sym is)) ∙ once.0, once_more xs e once.1 (rest_says x xs e.gap none))
+-- one more entry: of its gaps nothing was said
+pub none_yet : (entries more : List Entry) (e : Entry) (gap : ℕ) → NoGapTwice (entries ++ e ∷ more) → is_of gap e ≡ true → entry_of entries gap ≡ None
+none_yet entries more e gap once of_gap = by_entry (entry_of entries gap) refl
+  where
+    parts : NoneTwice (gaps_of entries ++ (e.gaps ++ gaps_of more))
+    parts = subst NoneTwice (flat_map-append (λ (x : Entry). x.gaps) entries (e ∷ more)) once
 
-found_again : (xs more : List Entry) (e x : Entry) → (x.gap == e.gap) ≡ true → said_of (xs ++ e ∷ more) x.gap ≡ None → ⊥
-found_again [] more e x same none = some_none e.cost (rw (eq-eqb e.gap x.gap (sym (eqb-true x.gap e.gap same))) at none)
-found_again (y ∷ ys) more e x same none = found_again ys more e x same (rest_says y (ys ++ e ∷ more) x.gap none)
+    by_entry : (o : Option Entry) → entry_of entries gap ≡ o → entry_of entries gap ≡ None
+    by_entry None is = is
+    by_entry (Some f) is =
+        absurd (apart (gaps_of entries) (e.gaps ++ gaps_of more) gap parts (sym (named entries gap) ∙ ap (λ (o : Option Entry). is_some o) is) (has_left e.gaps (gaps_of more) gap of_gap))
 
--- no entry speaks of a gap of which an earlier one speaks
-pub not_twice : (entries more : List Entry) (e : Entry) (earlier : ℕ) → NoGapTwice (entries ++ e ∷ more) → said_of entries e.gap ≡ Some earlier → ⊥
-not_twice [] more e earlier once there = absurd cc
-not_twice (x ∷ xs) more e earlier once there =
-    elim (cases_Bool (x.gap == e.gap)) [ inl y ↦ found_again xs more e x y once.0 | inr n ↦ not_twice xs more e earlier once.1 (rw n at there) ]
+-- at its gaps it is found
+pub found_there : (entries more : List Entry) (e : Entry) (gap : ℕ) → NoGapTwice (entries ++ e ∷ more) → is_of gap e ≡ true → entry_of (entries ++ e ∷ more) gap ≡ Some e
+found_there entries more e gap once of_gap = found_later entries (e ∷ more) gap (none_yet entries more e gap once of_gap) ∙ rw of_gap refl
 
--- ---- the table
+-- and elsewhere what was found before
+pub found_elsewhere : (entries : List Entry) (e : Entry) (gap : ℕ) → is_of gap e ≡ false → entry_of (entries ++ e ∷ []) gap ≡ entry_of entries gap
+found_elsewhere entries e gap other = by_entry (entry_of entries gap) refl
+  where
+    by_entry : (o : Option Entry) → entry_of entries gap ≡ o → entry_of (entries ++ e ∷ []) gap ≡ entry_of entries gap
+    by_entry None is = found_later entries (e ∷ []) gap is ∙ rw other (sym is)
+    by_entry (Some f) is = found_first entries (e ∷ []) gap f is ∙ sym is
 
-pub table_at : (gaps : ℕ) (entries : List Entry) (gap : ℕ) (d : Option ℕ) → gap < gaps → get_or (table_of gaps entries) gap d ≡ said_of entries gap
-table_at gaps entries gap d below = get_or-map-range_with_len (said_of entries) 0 gaps gap gap d below (omega arith)
+-- ---- names
 
-pub length-table_of : (gaps : ℕ) (entries : List Entry) → length (table_of gaps entries) ≡ gaps
-length-table_of gaps entries = length-map-range_with_len (said_of entries) 0 gaps
-
-module _ (gaps : ℕ) (entries : List Entry) (e : Entry) (below : e.gap < gaps) (new : said_of entries e.gap ≡ None) where
-  written : (k : ℕ) → k < gaps → get_or (set (table_of gaps entries) e.gap (Some e.cost)) k None ≡ said_of (entries ++ e ∷ []) k
-  written k lt =
-      elim (cases_eq k e.gap) [
-        | inl same ↦
-            ap (λ (i : ℕ). get_or (set (table_of gaps entries) e.gap (Some e.cost)) i None) same
-            ∙ get_or-set_same (table_of gaps entries) e.gap (Some e.cost) None (omega (arith, length-table_of gaps entries))
-            ∙ sym (said_there entries [] e new)
-            ∙ ap (said_of (entries ++ e ∷ [])) (sym same)
-        | inr other ↦
-            get_or-set_other (table_of gaps entries) e.gap k (Some e.cost) None other
-            ∙ table_at gaps entries k None lt
-            ∙ sym (said_elsewhere entries e k (λ is. other (sym is)))
+-- where no gap is named twice each gap of an entry finds it
+pub same_entry : (entries : List Entry) (gap other : ℕ) (e : Entry) → NoGapTwice entries → entry_of entries gap ≡ Some e → is_of other e ≡ true → entry_of entries other ≡ Some e
+same_entry [] gap other e once there of_other = absurd cc
+same_entry (x ∷ xs) gap other e once there of_other = elim (cases_Bool (is_of gap x)) [
+  | inl here ↦
+      let same : x ≡ e = same_Some x e (rw here at there) in
+      let mine : is_of other x ≡ true = subst (λ (y : Entry). is_of other y ≡ true) (sym same) of_other in
+      rw mine (ap (λ (y : Entry). Some y) same)
+  | inr later ↦
+      let next : entry_of xs other ≡ Some e = same_entry xs gap other e (back x.gaps (gaps_of xs) once) (rw later at there) of_other in
+      elim (cases_Bool (is_of other x)) [
+        | inl again ↦ absurd (apart x.gaps (gaps_of xs) other once again (sym (named xs other) ∙ ap (λ (o : Option Entry). is_some o) next))
+        | inr not_here ↦ rw not_here next
       ]
+]
 
-  pub table_more : set (table_of gaps entries) e.gap (Some e.cost) ≡ table_of gaps (entries ++ e ∷ [])
-  table_more = fill_by_all (said_of (entries ++ e ∷ [])) (set (table_of gaps entries) e.gap (Some e.cost)) gaps None (length-set (table_of gaps entries) e.gap (Some e.cost) ∙ length-table_of gaps entries) written
+pub name_by : (entries : List Entry) (gap : ℕ) (o : Option Entry) → entry_of entries gap ≡ o → name_said entries gap ≡ option_map_or (λ (e : Entry). least_of e.gaps gap) o gap
+name_by entries gap o is = ap (λ (o : Option Entry). option_map_or (λ (e : Entry). least_of e.gaps gap) o gap) is
 
--- ---- the costs
+-- a name is its own name
+own_name : (entries : List Entry) (gap : ℕ) → NoGapTwice entries → name_said entries (name_said entries gap) ≡ name_said entries gap
+own_name entries gap once = by_entry (entry_of entries gap) refl
+  where
+    by_entry : (o : Option Entry) → entry_of entries gap ≡ o → name_said entries (name_said entries gap) ≡ name_said entries gap
+    by_entry None is = ap (name_said entries) (name_by entries gap None is)
+    by_entry (Some e) is =
+        let of_gap : is_of gap e ≡ true = found_is entries gap e is in
+        let name : name_said entries gap ≡ least_of e.gaps gap = name_by entries gap (Some e) is in
+        let of_name : is_of (least_of e.gaps gap) e ≡ true = least_there e.gaps gap gap of_gap (omega arith) in
+        let own : name_said entries (least_of e.gaps gap) ≡ least_of e.gaps (least_of e.gaps gap) = name_by entries (least_of e.gaps gap) (Some e) (same_entry entries gap (least_of e.gaps gap) e once is of_name) in
+        let least : least_of e.gaps gap ≡ least_of e.gaps (least_of e.gaps gap) = least_alike e.gaps gap (least_of e.gaps gap) (least_le e.gaps gap) of_name in
+        ap (name_said entries) name ∙ own ∙ sym least ∙ sym name
 
-pub costs_from_table : (gaps : ℕ) (entries : List Entry) → map (λ cost. unwrap_or cost 1) (table_of gaps entries) ≡ costs_of gaps entries
-costs_from_table gaps entries = map-map (λ cost. unwrap_or cost 1) (said_of entries) (range_with_len 0 gaps)
+pub no_greater : (entries : List Entry) (gap : ℕ) → name_said entries gap ≤ gap
+no_greater entries gap = by_entry (entry_of entries gap) refl
+  where
+    by_entry : (o : Option Entry) → entry_of entries gap ≡ o → name_said entries gap ≤ gap
+    by_entry None is = omega (arith, name_by entries gap None is)
+    by_entry (Some e) is = omega (arith, name_by entries gap (Some e) is, least_le e.gaps gap)
 
-pub costs_at : (gaps : ℕ) (entries : List Entry) (gap d : ℕ) → gap < gaps → get_or (costs_of gaps entries) gap d ≡ unwrap_or (said_of entries gap) 1
-costs_at gaps entries gap d below = get_or-map-range_with_len (λ gap. unwrap_or (said_of entries gap) 1) 0 gaps gap gap d below (omega arith)
-
-pub length-costs_of : (gaps : ℕ) (entries : List Entry) → length (costs_of gaps entries) ≡ gaps
-length-costs_of gaps entries = length-map-range_with_len (λ gap. unwrap_or (said_of entries gap) 1) 0 gaps
-
--- a cost within the limits
-abbrev pub IsCost : ℕ → Type 0
-IsCost cost = (1 ≤ cost) × (cost ≤ 1000000)
-
-pub no_costs : (gaps : ℕ) → gaps ≤ MAX_GAPS → IsCostList (costs_of gaps [])
-no_costs gaps few = record {
-  few = omega (arith, length-costs_of gaps []);
-  each = λ k d lt. subst IsCost (sym (costs_at gaps [] k d (omega (arith, length-costs_of gaps [])))) (omega arith, omega arith);
+-- the names of gaps are those of ties
+pub names_are_ties : (gaps : ℕ) (entries : List Entry) → gaps ≤ MAX_GAPS → NoGapTwice entries → AreTies (map (name_said entries) (range_with_len 0 gaps))
+names_are_ties gaps entries few once = record {
+  few = omega (arith, few, length-map-range_with_len (name_said entries) 0 gaps);
+  least = λ gap name there.
+      let long : length (map (name_said entries) (range_with_len 0 gaps)) ≡ gaps = length-map-range_with_len (name_said entries) 0 gaps in
+      let below : gap < gaps = omega (arith, long, slice_get_within (map (name_said entries) (range_with_len 0 gaps)) gap name there) in
+      let is : name_said entries gap ≡ name = sym (get_or-map-range_with_len (name_said entries) 0 gaps gap gap 0 below (omega arith)) ∙ get_or_from_slice_get (map (name_said entries) (range_with_len 0 gaps)) gap name 0 there in
+      let least : name ≤ gap = omega (arith, is, no_greater entries gap) in
+      let name_below : name < gaps = omega (arith, least, below) in
+      let own : get_or (map (name_said entries) (range_with_len 0 gaps)) name 0 ≡ name = get_or-map-range_with_len (name_said entries) 0 gaps name name 0 name_below (omega arith) ∙ ap (name_said entries) (sym is) ∙ own_name entries gap once ∙ is in
+      (least, slice_get-get_or (map (name_said entries) (range_with_len 0 gaps)) name 0 (omega (arith, long, name_below)) ∙ ap (λ (n : ℕ). Some n) own);
 }
-
-module _ (gaps : ℕ) (entries : List Entry) (e : Entry) (below : e.gap < gaps) (new : said_of entries e.gap ≡ None) (within : IsCostList (costs_of gaps entries)) where
-  -- the costs with one more entry: at its gap
-  pub cost_there : (d : ℕ) → get_or (costs_of gaps (entries ++ e ∷ [])) e.gap d ≡ e.cost
-  cost_there d = costs_at gaps (entries ++ e ∷ []) e.gap d below ∙ ap (λ (c : Option ℕ). unwrap_or c 1) (said_there entries [] e new)
-
-  -- and at the others
-  cost_elsewhere : (k d : ℕ) → k < gaps → e.gap ≢ k → get_or (costs_of gaps (entries ++ e ∷ [])) k d ≡ get_or (costs_of gaps entries) k d
-  cost_elsewhere k d lt other =
-      costs_at gaps (entries ++ e ∷ []) k d lt ∙ ap (λ (c : Option ℕ). unwrap_or c 1) (said_elsewhere entries e k other) ∙ sym (costs_at gaps entries k d lt)
-
-  pub others_within : (k d : ℕ) → k < gaps → e.gap ≢ k → IsCost (get_or (costs_of gaps (entries ++ e ∷ [])) k d)
-  others_within k d lt other = subst IsCost (sym (cost_elsewhere k d lt other)) (within.each k d (omega (arith, length-costs_of gaps entries)))
-
-  pub same_length : length (costs_of gaps (entries ++ e ∷ [])) ≡ gaps
-  same_length = length-costs_of gaps (entries ++ e ∷ [])
-
-  pub few_gaps : gaps ≤ MAX_GAPS
-  few_gaps = omega (arith, within.few, length-costs_of gaps entries)
-
-  pub within_more : 1 ≤ e.cost → e.cost ≤ 1000000 → IsCostList (costs_of gaps (entries ++ e ∷ []))
-  within_more some small = record {
-    few = omega (arith, same_length, few_gaps);
-    each = λ k d lt. elim (cases_eq e.gap k) [
-      | inl same ↦ subst (λ (i : ℕ). IsCost (get_or (costs_of gaps (entries ++ e ∷ [])) i d)) same (subst IsCost (sym (cost_there d)) (some, small))
-      | inr other ↦ others_within k d (omega (arith, same_length)) other
-    ];
-  }

@@ -1,60 +1,65 @@
 -- What is found of a line after others.
-use Rattle.cost_text.proofs.Vocabulary.{◌≡◌, ℕ, ◌<◌, ◌≤◌, true, false, List, get_or, Option, Some, None, Ok, Err, refl, sym, ap, ◌∙◌, arith, is_some, CostFault, Thread, gap_count, gap_number, gap_below, Entry, IsCostEntry, said_of, IsOfNoGap, IsRepeated}
-use Rattle.cost_text.proofs.Vocabulary.{IsOfNoCost, Digits, digits_in, said_by, cost_or_fault, IsCostTable, IsNewEntry}
-use Rattle.cost_text.proofs.{LineLaws.line_read, EntryLaws.table_at, CostFaults.IsJudged, CostFaults.fine, CostFaults.free, CostFaults.large, CostFaults.judged, CostFaults.first_fault}
+use Rattle.cost_text.proofs.Vocabulary.{◌≡◌, ◌∙◌, ℕ, ◌≤◌, true, false, List, [], ◌∷◌, ◌++◌, map, Ok, Err, refl, sym, ap, subst, CostFault, Thread, gap_count, CostLine, CostEntry, PlacedGaps, Entry, IsCostEntry, NoGapTwice, IsOfNoGap, IsRepeated}
+use Rattle.cost_text.proofs.Vocabulary.{IsOfNoCost, ReadsPlaces, place_of, said_by, cost_or_fault, ArePlaced, AreGathered, LacksGap, IsCostTable, IsLineOf, IsNewEntry}
+use Rattle.std.specs.Str.Parse.{digits_value}
+use Rattle.cost_text.proofs.{LineLaws.line_read, Once.NoneTwice, EntryLaws.gaps_more, Gathered.at_below, Gathered.first_gap, CostFaults.IsJudged, CostFaults.fine, CostFaults.free, CostFaults.large, CostFaults.judged, CostFaults.first_fault}
 
--- a line that speaks of no gap
-pub of_no_gap : (threads : List Thread) (line : List ℕ) (digits : Digits) → Some digits ≡ digits_in line → None ≡ gap_number threads (said_by digits).thread (said_by digits).instruction → IsOfNoGap threads line
-of_no_gap threads line digits is none = record { said = said_by digits; says = (line_read line digits (sym is)).says; no_gap = sym none }
+-- the places of a line that is read
+pub places_read : (line : List ℕ) (said : CostLine) (s : IsLineOf line said) → ReadsPlaces said.places.now (s.digits.first ∷ s.digits.others) s.reads.rest
+places_read line said s = subst (λ (x : List ℕ). ReadsPlaces x (s.digits.first ∷ s.digits.others) s.reads.rest) (sym s.places) s.reads.places
 
-is_there : (o : Option ℕ) → is_some o ≡ true → (n : ℕ) × (o ≡ Some n)
-is_there None e = absurd cc
-is_there (Some n) e = (n, refl)
-
-is_none_there : (o : Option ℕ) → is_some o ≡ false → o ≡ None
-is_none_there None e = refl
-is_none_there (Some n) e = absurd cc
+-- a line with a place where no gap is
+pub of_no_gap : (threads : List Thread) (line : List ℕ) (said : CostLine) (s : IsLineOf line said) → LacksGap threads (map place_of (s.digits.first ∷ s.digits.others)) → IsOfNoGap threads line
+of_no_gap threads line said s lacks = record { said = said_by s.digits; says = line_read line s.digits s.reads; place = lacks.place; named = lacks.named; no_gap = lacks.no_gap }
 
 record IsFine (cost found : ℕ) : Type 0 where
-  same : cost ≡ found
-  some : 1 ≤ found
-  within : found ≤ 1000000
+  same : found ≡ cost
+  some : 1 ≤ cost
+  within : cost ≤ 1000000
 
 is_fine : (gap cost found : ℕ) → Ok found ≡ cost_or_fault gap cost → IsFine cost found
 is_fine gap cost found e = by_kind (judged gap cost)
   where
     by_kind : IsJudged gap cost (cost_or_fault gap cost) → IsFine cost found
-    by_kind (fine some small r) = let same : cost ≡ found = (let both = e ∙ r in cc) in record { same = same; some = omega arith; within = omega arith }
+    by_kind (fine some small r) = let both = e ∙ r in record { same = cc; some = some; within = small }
     by_kind (free zero_cost r) = let bad = e ∙ r in absurd cc
     by_kind (large over r) = let bad = e ∙ r in absurd cc
 
-module _ (threads : List Thread) (table : List (Option ℕ)) (entries : List Entry) (line : List ℕ) (digits : Digits) (gap : ℕ) (is : Some digits ≡ digits_in line)
-    (number : Some gap ≡ gap_number threads (said_by digits).thread (said_by digits).instruction) (t : IsCostTable threads entries table) where
-  abbrev entry_with : ℕ → Entry
-  entry_with cost = record { gap = gap; cost = cost }
+module _ (threads : List Thread) (table : List CostEntry) (entries : List Entry) (line : List ℕ) (said : CostLine) (s : IsLineOf line said) (placed : PlacedGaps)
+    (g : AreGathered threads table (map place_of (s.digits.first ∷ s.digits.others)) placed) (t : IsCostTable threads entries table) where
+  abbrev said_entry : Entry
+  said_entry = record { gaps = g.gaps; cost = digits_value 10 s.digits.cost }
 
-  of_gap : (cost : ℕ) → (said_by digits).cost ≡ cost → IsCostEntry threads line (entry_with cost)
-  of_gap cost same = record { said = said_by digits; says = (line_read line digits (sym is)).says; gap = sym number; cost = same }
+  is_entry : IsCostEntry threads line said_entry
+  is_entry = record { said = said_by s.digits; says = line_read line s.digits s.reads; gaps = g.at; cost = refl }
 
-  below : gap < gap_count threads
-  below = gap_below threads (said_by digits).thread (said_by digits).instruction gap (sym number)
+  are_placed : ArePlaced entries g.gaps placed
+  are_placed = g.are entries t.table_is t.once
 
-  in_table : get_or table gap None ≡ said_of entries gap
-  in_table = ap (λ (x : List (Option ℕ)). get_or x gap None) t.table_is ∙ table_at (gap_count threads) entries gap None below
+  pub repeated : placed.is_repeated ≡ true → IsRepeated threads entries line
+  repeated again = record { entry = said_entry; is = is_entry; twice = λ once. are_placed.twice again (subst NoneTwice (gaps_more entries said_entry) once) }
 
-  pub repeated : is_some (get_or table gap None) ≡ true → IsRepeated threads entries line
-  repeated some = let there = is_there (get_or table gap None) some in record { entry = entry_with (said_by digits).cost; is = of_gap (said_by digits).cost refl; earlier = there.0; there = sym in_table ∙ there.1 }
+  new : placed.is_repeated ≡ false → NoGapTwice (entries ++ said_entry ∷ [])
+  new not_again = subst NoneTwice (sym (gaps_more entries said_entry)) (are_placed.once not_again)
 
-  none_yet : is_some (get_or table gap None) ≡ false → said_of entries gap ≡ None
-  none_yet none = sym in_table ∙ is_none_there (get_or table gap None) none
+  pub new_entry : (cost : ℕ) → placed.is_repeated ≡ false → Ok cost ≡ cost_or_fault placed.name (digits_value 10 said.cost.now) → IsNewEntry threads entries line (record { gaps = placed.gaps; name = placed.name; cost = cost })
+  new_entry cost not_again found =
+      let f = is_fine placed.name (digits_value 10 s.digits.cost) cost (found ∙ ap (λ (x : List ℕ). cost_or_fault placed.name (digits_value 10 x)) s.cost) in
+      record {
+        entry = said_entry;
+        is = is_entry;
+        found_is = λ i. record { gaps = are_placed.gaps_are i; name = are_placed.name_is i; cost = f.same i };
+        new = new not_again;
+        some = f.some;
+        within = f.within;
+      }
 
-  pub new_entry : (cost : ℕ) → is_some (get_or table gap None) ≡ false → Ok cost ≡ cost_or_fault gap (said_by digits).cost → IsNewEntry threads entries line (entry_with cost)
-  new_entry cost none found = let f = is_fine gap (said_by digits).cost cost found in record { is = of_gap cost f.same; new = none_yet none; some = f.some; within = f.within }
-
-  pub of_no_cost : (why : CostFault) → is_some (get_or table gap None) ≡ false → Err why ≡ cost_or_fault gap (said_by digits).cost → IsOfNoCost threads entries line why
-  of_no_cost why none found = record {
-    entry = entry_with (said_by digits).cost;
-    is = of_gap (said_by digits).cost refl;
-    new = none_yet none;
-    refused = first_fault (gap_count threads) entries (entry_with (said_by digits).cost) below (none_yet none) t.within why (sym found);
+  pub of_no_cost : (why : CostFault) → placed.is_repeated ≡ false → Err why ≡ cost_or_fault placed.name (digits_value 10 said.cost.now) → IsOfNoCost threads entries line why
+  of_no_cost why not_again found = record {
+    entry = said_entry;
+    is = is_entry;
+    new = new not_again;
+    refused = first_fault (gap_count threads) entries said_entry (new not_again) t.within (λ gap of_gap. at_below threads (map place_of (s.digits.first ∷ s.digits.others)) g.gaps g.at gap of_gap)
+        (first_gap threads (place_of s.digits.first) (map place_of s.digits.others) g.gaps g.at) why
+        (ap (λ (n : ℕ). cost_or_fault n (digits_value 10 s.digits.cost)) (sym are_placed.name_is) ∙ sym (found ∙ ap (λ (x : List ℕ). cost_or_fault placed.name (digits_value 10 x)) s.cost));
   }

@@ -1,7 +1,8 @@
 -- A line is read as what it says.
-use Rattle.cost_text.proofs.Vocabulary.{◌≡◌, ◌==◌, ℕ, ◌<◌, true, false, List, [], ◌∷◌, ◌++◌, length, take, drop, Some, None, refl, sym, ap, ◌∙◌, subst, arith, nat_lt, slice_index, list_all, prefix_len, and_parts, eqb-true, lt-ltb, ltb-true, append-nil}
-use Rattle.cost_text.proofs.Vocabulary.{take_at, drop_at, take-append-drop, cond_some, option_and_then_some, same_Some, is_ascii_digit, nat_tests, is_blank, is_line_space, AreBlanks, AreLineSpaces, prefix_is, all_pass, Said, Says, digits_at, after_colon}
-use Rattle.cost_text.proofs.Vocabulary.{after_blanks, after_line_spaces, Digits, digits_in, AreAllDigits, said_by}
+use Rattle.cost_text.proofs.Vocabulary.{◌≡◌, ◌==◌, ℕ, ◌<◌, true, false, List, [], ◌∷◌, ◌++◌, length, map, take, drop, Some, None, refl, sym, ap, ◌∙◌, subst, arith, nat_lt, slice_index, list_all, prefix_len, and_parts, eqb-true, lt-ltb, ltb-true, append-nil}
+use Rattle.cost_text.proofs.Vocabulary.{take_at, drop_at, take-append-drop, append_assoc, length-append, cond_some, option_and_then_some, some_pair_parts, is_ascii_digit, nat_tests, is_blank, is_line_space, AreBlanks, AreLineSpaces, prefix_is, all_pass}
+use Rattle.cost_text.proofs.Vocabulary.{Place, Said, Says, SpellsPlace, SpellsPlaces, places_of, digits_at, after_colon, after_blanks, after_line_spaces, place_at, PlaceDigits, LineDigits, ReadsPlaces, ReadsLine, ended, begun, place_of, said_by}
+use Rattle.cost_text.specs.CostLines.{none, more}
 use Rattle.std.proofs.lemmas.List.Folds.{length-prefix_len}
 use Rattle.text_tokens.specs.Lexing.{AreDigits}
 use Rattle.text_tokens.proofs.FirstBytes.{first_of, first_digit}
@@ -94,96 +95,247 @@ line_spaces_first : (line_spaces : List ℕ) → AreLineSpaces line_spaces → i
 line_spaces_first [] h = refl
 line_spaces_first (b ∷ bs) h = line_space_no_digit b (and_parts (is_line_space b) (list_all is_line_space bs) h).0
 
--- ---- a line
+line_space_no_colon : (b : ℕ) → is_line_space b ≡ true → (b == 58) ≡ false
+line_space_no_colon b h = grind (arith, nat_tests)
 
-abbrev digits_as : List ℕ → List ℕ → List ℕ → Digits
-digits_as thread instruction cost = record { thread = thread; instruction = instruction; cost = cost }
+no_colon : (line_spaces : List ℕ) → AreLineSpaces line_spaces → after_colon line_spaces ≡ None
+unfolding after_colon
+no_colon [] h = refl
+no_colon (b ∷ bs) h = rw (line_space_no_colon b (and_parts (is_line_space b) (list_all is_line_space bs) h).0) refl
 
--- what was read of a line is what it says
-pub record Read (line : List ℕ) (digits : Digits) : Type 0 where
-  pub says : Says line (said_by digits)
-  pub all_digits : AreAllDigits digits
+-- ---- places that are read
 
-pub line_read : (line : List ℕ) (digits : Digits) → digits_in line ≡ Some digits → Read line digits
-unfolding digits_in
-line_read line digits e =
-    option_and_then_some _ (digits_at (after_line_spaces line)) digits e (λ t is_t e1.
-    option_and_then_some _ (after_colon t.1) digits e1 (λ u is_u e2.
-    option_and_then_some _ (digits_at u) digits e2 (λ k is_k e3.
-    option_and_then_some _ (after_blanks k.1) digits e3 (λ v is_v e4.
-    option_and_then_some _ (digits_at v) digits e4 (λ c is_c e5.
-    let n = prefix_len is_line_space line in
-    let dt = digits_taken (after_line_spaces line) t.0 t.1 is_t in
+record TakesPlace (text : List ℕ) (digits : PlaceDigits) (rest : List ℕ) : Type 0 where
+  spelled : List ℕ
+  text_is : text ≡ spelled ++ rest
+  is : SpellsPlace spelled (place_of digits)
+
+abbrev digits_as : List ℕ → List ℕ → PlaceDigits
+digits_as thread instruction = record { thread = thread; instruction = instruction }
+
+place_taken : (text rest : List ℕ) (digits : PlaceDigits) → place_at text ≡ Some (digits, rest) → TakesPlace text digits rest
+unfolding place_at
+place_taken text rest digits e =
+    option_and_then_some _ (digits_at text) (digits, rest) e (λ t is_t e1.
+    option_and_then_some _ (after_colon t.1) (digits, rest) e1 (λ u is_u e2.
+    option_and_then_some _ (digits_at u) (digits, rest) e2 (λ k is_k e3.
+    option_and_then_some _ (after_blanks k.1) (digits, rest) e3 (λ v is_v e4.
+    let dt = digits_taken text t.0 t.1 is_t in
     let du = colon_taken t.1 u is_u in
     let dk = digits_taken u k.0 k.1 is_k in
     let dv = blanks_taken k.1 v is_v in
-    let dc = digits_taken v c.0 c.1 is_c in
-    let ended = cond_some (list_all is_line_space c.1) (digits_as t.0 k.0 c.0) digits e5 in
-    let after_k : k.1 ≡ dv.blanks ++ (c.0 ++ c.1) = dv.text_is ∙ ap (λ (x : List ℕ). dv.blanks ++ x) dc.text_is in
-    let after_t : t.1 ≡ 58 ∷ (k.0 ++ (dv.blanks ++ (c.0 ++ c.1))) = du ∙ ap (λ (x : List ℕ). 58 ∷ x) (dk.text_is ∙ ap (λ (x : List ℕ). k.0 ++ x) after_k) in
-    let read : Read line (digits_as t.0 k.0 c.0) = record {
-      says = record {
-        before = take n line;
-        thread = t.0;
-        instruction = k.0;
-        blanks = dv.blanks;
-        cost = c.0;
-        after = c.1;
-        text = sym (take-append-drop n line) ∙ ap (λ (x : List ℕ). take n line ++ x) (dt.text_is ∙ ap (λ (x : List ℕ). t.0 ++ x) after_t);
-        begins = all_pass is_line_space line;
-        of_thread = (dt.digits, refl);
-        of_instruction = (dk.digits, refl);
-        parts = dv.is;
-        of_cost = (dc.digits, refl);
-        ends = ended.0;
-      };
-      all_digits = record { thread = dt.digits.1; instruction = dk.digits.1; cost = dc.digits.1 };
+    let after_t : t.1 ≡ 58 ∷ (k.0 ++ (dv.blanks ++ v)) = du ∙ ap (λ (x : List ℕ). 58 ∷ x) (dk.text_is ∙ ap (λ (x : List ℕ). k.0 ++ x) dv.text_is) in
+    let together : t.0 ++ 58 ∷ (k.0 ++ (dv.blanks ++ v)) ≡ (t.0 ++ 58 ∷ (k.0 ++ dv.blanks)) ++ v =
+    ap (λ (x : List ℕ). t.0 ++ 58 ∷ x) (sym (append_assoc k.0 dv.blanks v)) ∙ sym (append_assoc t.0 (58 ∷ (k.0 ++ dv.blanks)) v) in
+    let taken : TakesPlace text (digits_as t.0 k.0) v = record {
+      spelled = t.0 ++ 58 ∷ (k.0 ++ dv.blanks);
+      text_is = dt.text_is ∙ ap (λ (x : List ℕ). t.0 ++ x) after_t ∙ together;
+      is = record { thread = t.0; instruction = k.0; blanks = dv.blanks; spelled = refl; of_thread = (dt.digits, refl); of_instruction = (dk.digits, refl); parts = dv.is };
     } in
-    subst (Read line) ended.1 read)))))
+    let both = some_pair_parts (digits_as t.0 k.0) digits v rest e4 in
+    subst (λ (x : PlaceDigits). TakesPlace text x rest) both.0 (subst (λ (x : List ℕ). TakesPlace text (digits_as t.0 k.0) x) both.1 taken)))))
+
+places_taken : (text end : List ℕ) (digits : List PlaceDigits) → ReadsPlaces text digits end → (spelled : List ℕ) × (text ≡ spelled ++ end) × SpellsPlaces spelled (map place_of digits)
+places_taken text _ _ (ended e) = ([], refl, none)
+places_taken text end _ (begun {rest = rest} {place = digits} {places = others} e reads) =
+    let p = place_taken text rest digits e in
+    let q = places_taken rest end others reads in
+    (p.spelled ++ q.0, p.text_is ∙ ap (λ (x : List ℕ). p.spelled ++ x) q.1 ∙ sym (append_assoc p.spelled q.0 end), more p.is q.2)
+
+-- ---- places that are spelled
+
+record PlaceRead (text tail : List ℕ) (place : Place) : Type 0 where
+  digits : PlaceDigits
+  is : place_at (text ++ tail) ≡ Some (digits, tail)
+  place_is : place_of digits ≡ place
+
+place_again : (text : List ℕ) (place : Place) → SpellsPlace text place → (tail : List ℕ) → is_blank (slice_index tail 0) ≡ false → PlaceRead text tail place
+unfolding place_at after_colon
+place_again text place s tail stop =
+    let u : List ℕ = s.instruction ++ (s.blanks ++ tail) in
+    let together : text ++ tail ≡ s.thread ++ 58 ∷ u =
+    ap (λ (x : List ℕ). x ++ tail) s.spelled ∙ append_assoc s.thread (58 ∷ (s.instruction ++ s.blanks)) tail ∙ ap (λ (x : List ℕ). s.thread ++ 58 ∷ x) (append_assoc s.instruction s.blanks tail) in
+    let is_t : digits_at (s.thread ++ 58 ∷ u) ≡ Some (s.thread, 58 ∷ u) = digits_again s.thread (58 ∷ u) s.of_thread.0 refl in
+    let is_k : digits_at u ≡ Some (s.instruction, s.blanks ++ tail) = digits_again s.instruction (s.blanks ++ tail) s.of_instruction.0 (blanks_first s.blanks tail s.parts) in
+    let is_v : after_blanks (s.blanks ++ tail) ≡ Some tail = blanks_again s.blanks tail s.parts stop in
+    let read : place_at (s.thread ++ 58 ∷ u) ≡ Some (digits_as s.thread s.instruction, tail) = rw (is_t, is_k, is_v) refl in
+    record {
+      digits = digits_as s.thread s.instruction;
+      is = ap place_at together ∙ read;
+      place_is = λ i. record { thread = sym s.of_thread.1 i; instruction = sym s.of_instruction.1 i };
+    }
+
+-- places begin with a digit
+begins : (text : List ℕ) (place : Place) (places : List Place) → SpellsPlaces text (place ∷ places) → (tail : List ℕ)
+    → (is_line_space (slice_index (text ++ tail) 0) ≡ false) × (is_blank (slice_index (text ++ tail) 0) ≡ false)
+begins _ place places (more {text = text} {rest = rest} s others) tail =
+    let after : List ℕ = 58 ∷ (s.instruction ++ s.blanks) ++ (rest ++ tail) in
+    let together : (text ++ rest) ++ tail ≡ s.thread ++ after = append_assoc text rest tail ∙ ap (λ (x : List ℕ). x ++ (rest ++ tail)) s.spelled ∙ append_assoc s.thread (58 ∷ (s.instruction ++ s.blanks)) (rest ++ tail) in
+    let first = digits_no_space s.thread after s.of_thread.0 in
+    (ap (λ (x : List ℕ). is_line_space (slice_index x 0)) together ∙ first.0, ap (λ (x : List ℕ). is_blank (slice_index x 0)) together ∙ first.1)
+
+no_blank : (text : List ℕ) (places : List Place) → SpellsPlaces text places → (tail : List ℕ) → is_blank (slice_index tail 0) ≡ false → is_blank (slice_index (text ++ tail) 0) ≡ false
+no_blank _ _ none tail stop = stop
+no_blank _ _ (more {text = text} {rest = rest} {place = place} {places = places} s others) tail stop = (begins (text ++ rest) place places (more s others) tail).1
+
+record PlacesRead (text tail : List ℕ) (places : List Place) : Type 0 where
+  digits : List PlaceDigits
+  reads : ReadsPlaces (text ++ tail) digits tail
+  places_are : map place_of digits ≡ places
+
+places_again : (text : List ℕ) (places : List Place) → SpellsPlaces text places → (tail : List ℕ) → is_blank (slice_index tail 0) ≡ false → place_at tail ≡ None → PlacesRead text tail places
+places_again _ _ none tail stop last = record { digits = []; reads = ended last; places_are = refl }
+places_again _ _ (more {text = text} {rest = rest} {place = place} {places = places} s others) tail stop last =
+    let q = places_again rest places others tail stop last in
+    let p = place_again text place s (rest ++ tail) (no_blank rest places others tail stop) in
+    record {
+      digits = p.digits ∷ q.digits;
+      reads = begun (ap place_at (append_assoc text rest tail) ∙ p.is) q.reads;
+      places_are = ap (λ (x : Place). x ∷ map place_of q.digits) p.place_is ∙ ap (λ (x : List Place). place ∷ x) q.places_are;
+    }
+
+-- a cost is no place
+no_place : (cost after : List ℕ) → AreDigits cost → AreLineSpaces after → place_at (cost ++ after) ≡ None
+unfolding place_at
+no_place cost after digits ends = rw (digits_again cost after digits (line_spaces_first after ends), no_colon after ends) refl
+
+-- ---- places are read in one way
+
+pub more_read : (text rest : List ℕ) (digits : PlaceDigits) (all : List PlaceDigits) (end : List ℕ) → place_at text ≡ Some (digits, rest) → ReadsPlaces text all end
+    → (later : List PlaceDigits) × (all ≡ digits ∷ later) × ReadsPlaces rest later end
+more_read text rest digits _ _ is (ended e) = let bad = sym e ∙ is in absurd cc
+more_read text rest digits _ end is (begun {rest = other} {place = first} {places = later} e reads) =
+    let both = some_pair_parts first digits other rest (sym e ∙ is) in
+    (later, ap (λ (x : PlaceDigits). x ∷ later) both.0, subst (λ (x : List ℕ). ReadsPlaces x later end) both.1 reads)
+
+pub none_read : (text : List ℕ) (all : List PlaceDigits) (end : List ℕ) → place_at text ≡ None → ReadsPlaces text all end → (all ≡ []) × (end ≡ text)
+none_read text _ _ is (ended e) = (refl, refl)
+none_read text _ _ is (begun e reads) = let bad = sym e ∙ is in absurd cc
+
+pub reads_once : (text : List ℕ) (a b : List PlaceDigits) (m n : List ℕ) → ReadsPlaces text a m → ReadsPlaces text b n → (a ≡ b) × (m ≡ n)
+reads_once text _ b _ n (ended e) other = let q = none_read text b n e other in (sym q.0, sym q.1)
+reads_once text _ b m n (begun {rest = rest} {place = first} {places = later} e reads) other =
+    let p = more_read text rest first b n e other in
+    let both = reads_once rest later p.0 m n reads p.2 in
+    (ap (λ (x : List PlaceDigits). first ∷ x) both.0 ∙ sym p.1, both.1)
+
+-- ---- a line
+
+-- what was read of a line is what it says
+pub line_read : (line : List ℕ) (digits : LineDigits) → ReadsLine line digits → Says line (said_by digits)
+line_read line digits r =
+    let n = prefix_len is_line_space line in
+    let p = places_taken (after_line_spaces line) r.rest (digits.first ∷ digits.others) r.places in
+    let c = digits_taken r.rest digits.cost r.after r.cost in
+    record {
+      before = take n line;
+      places = p.0;
+      cost = digits.cost;
+      after = r.after;
+      text = sym (take-append-drop n line) ∙ ap (λ (x : List ℕ). take n line ++ x) (p.1 ∙ ap (λ (x : List ℕ). p.0 ++ x) c.text_is);
+      begins = all_pass is_line_space line;
+      of_places = p.2;
+      of_cost = (c.digits, refl);
+      ends = r.ends;
+    }
 
 -- what a line says is read
 pub record Reads (line : List ℕ) (said : Said) : Type 0 where
-  pub digits : Digits
-  pub is : digits_in line ≡ Some digits
+  pub digits : LineDigits
+  pub reads : ReadsLine line digits
   pub said_is : said_by digits ≡ said
 
-parts_again : (before thread instruction blanks cost after : List ℕ) → AreLineSpaces before → AreDigits thread → AreDigits instruction → AreBlanks blanks → AreDigits cost → AreLineSpaces after
-    → digits_in (before ++ (thread ++ 58 ∷ (instruction ++ (blanks ++ (cost ++ after))))) ≡ Some (digits_as thread instruction cost)
-unfolding digits_in after_colon
-parts_again before thread instruction blanks cost after begins threads instructions parts costs ends =
-    let v : List ℕ = cost ++ after in
-    let u : List ℕ = instruction ++ (blanks ++ v) in
-    let front : after_line_spaces (before ++ (thread ++ 58 ∷ u)) ≡ thread ++ 58 ∷ u = line_spaces_again before (thread ++ 58 ∷ u) begins (digits_no_space thread (58 ∷ u) threads).0 in
-    let is_t : digits_at (thread ++ 58 ∷ u) ≡ Some (thread, 58 ∷ u) = digits_again thread (58 ∷ u) threads refl in
-    let is_k : digits_at u ≡ Some (instruction, blanks ++ v) = digits_again instruction (blanks ++ v) instructions (blanks_first blanks v parts) in
-    let is_v : after_blanks (blanks ++ v) ≡ Some v = blanks_again blanks v parts (digits_no_space cost after costs).1 in
-    let is_c : digits_at v ≡ Some (cost, after) = digits_again cost after costs (line_spaces_first after ends) in
-    rw (front, is_t, is_k, is_v, is_c, ends) refl
-
 pub said_again : (line : List ℕ) (said : Said) → Says line said → Reads line said
-said_again line said s = record {
-  digits = digits_as s.thread s.instruction s.cost;
-  is = ap digits_in s.text ∙ parts_again s.before s.thread s.instruction s.blanks s.cost s.after s.begins s.of_thread.0 s.of_instruction.0 s.parts s.of_cost.0 s.ends;
-  said_is = λ i. record { thread = sym s.of_thread.1 i; instruction = sym s.of_instruction.1 i; cost = sym s.of_cost.1 i };
-}
+said_again line said s = by_digits p.digits p.reads p.places_are
+  where
+    tail : List ℕ
+    tail = s.cost ++ s.after
+
+    p : PlacesRead s.places tail (places_of said)
+    p = places_again s.places (places_of said) s.of_places tail (digits_no_space s.cost s.after s.of_cost.0).1 (no_place s.cost s.after s.of_cost.0 s.ends)
+
+    front : after_line_spaces line ≡ s.places ++ tail
+    front = ap after_line_spaces s.text ∙ line_spaces_again s.before (s.places ++ tail) s.begins (begins s.places said.first said.others s.of_places tail).0
+
+    by_digits : (digits : List PlaceDigits) → ReadsPlaces (s.places ++ tail) digits tail → map place_of digits ≡ places_of said → Reads line said
+    by_digits [] reads are = absurd cc
+    by_digits (first ∷ others) reads are =
+        let first_is : place_of first ≡ said.first = cc in
+        let others_are : map place_of others ≡ said.others = cc in
+        record {
+          digits = record { first = first; others = others; cost = s.cost };
+          reads = record {
+            rest = tail;
+            after = s.after;
+            places = subst (λ (x : List ℕ). ReadsPlaces x (first ∷ others) tail) (sym front) reads;
+            cost = digits_again s.cost s.after s.of_cost.0 (line_spaces_first s.after s.ends);
+            ends = s.ends;
+          };
+          said_is = λ i. record { first = first_is i; others = others_are i; cost = sym s.of_cost.1 i };
+        }
 
 -- ---- what follows
+
+-- a line is read in one way
+pub line_once : (line : List ℕ) (a b : LineDigits) → ReadsLine line a → ReadsLine line b → a ≡ b
+line_once line a b r q =
+    let both = reads_once (after_line_spaces line) (a.first ∷ a.others) (b.first ∷ b.others) r.rest q.rest r.places q.places in
+    let are = both.0 in
+    let firsts : a.first ≡ b.first = cc in
+    let others : a.others ≡ b.others = cc in
+    let costs = some_pair_parts a.cost b.cost r.after q.after (sym r.cost ∙ ap digits_at both.1 ∙ q.cost) in
+    λ i. record { first = firsts i; others = others i; cost = costs.0 i }
 
 -- a line says one thing
 pub said_once : (line : List ℕ) (a b : Said) → Says line a → Says line b → a ≡ b
 said_once line a b s t =
     let r = said_again line a s in
     let q = said_again line b t in
-    sym r.said_is ∙ ap said_by (same_Some r.digits q.digits (sym r.is ∙ q.is)) ∙ q.said_is
+    sym r.said_is ∙ ap said_by (line_once line r.digits q.digits r.reads q.reads) ∙ q.said_is
 
 -- a line of which nothing is read says nothing
-pub unread : (line : List ℕ) → digits_in line ≡ None → (said : Said) → Says line said → ⊥
-unread line none said s = let bad = sym none ∙ (said_again line said s).is in cc
+pub unread : (line : List ℕ) → ((digits : LineDigits) → ReadsLine line digits → ⊥) → (said : Said) → Says line said → ⊥
+unread line nothing said s = let r = said_again line said s in nothing r.digits r.reads
 
 all_line_spaces : (line : List ℕ) → AreLineSpaces line → after_line_spaces line ≡ []
 all_line_spaces line is = subst (λ (x : List ℕ). after_line_spaces x ≡ []) (append-nil line) (line_spaces_again line [] is refl)
 
+no_place_in_none : place_at [] ≡ None
+unfolding place_at digits_at
+no_place_in_none = refl
+
 -- a blank line says nothing
 pub blank_says_nothing : (line : List ℕ) → AreLineSpaces line → (said : Said) → Says line said → ⊥
-unfolding digits_in digits_at
-blank_says_nothing line blank = unread line (rw (all_line_spaces line blank) refl)
+blank_says_nothing line blank =
+    unread line (λ digits r. let bad = none_read (after_line_spaces line) (digits.first ∷ digits.others) r.rest (ap place_at (all_line_spaces line blank) ∙ no_place_in_none) r.places in let are = bad.0 in cc)
+
+-- ---- what is left
+
+-- what follows a place is shorter
+pub rest_shorter : (text thread others after instruction more_blanks rest : List ℕ) → digits_at text ≡ Some (thread, others) → after_colon others ≡ Some after → digits_at after ≡ Some (instruction, more_blanks) → after_blanks more_blanks ≡ Some rest → length rest < length text
+rest_shorter text thread others after instruction more_blanks rest is_t is_u is_k is_v =
+    let dt = digits_taken text thread others is_t in
+    let dk = digits_taken after instruction more_blanks is_k in
+    let dv = blanks_taken more_blanks rest is_v in
+    omega (arith, ap length dt.text_is, length-append thread others, ap length (colon_taken others after is_u), ap length dk.text_is, length-append instruction more_blanks, ap length dv.text_is, length-append dv.blanks rest)
+
+-- ---- lines that are not read
+
+pub unread_places : (line : List ℕ) → place_at (after_line_spaces line) ≡ None → (digits : LineDigits) → ReadsLine line digits → ⊥
+unread_places line is digits r = let are = (none_read (after_line_spaces line) (digits.first ∷ digits.others) r.rest is r.places).0 in cc
+
+module _ (line rest end : List ℕ) (first : PlaceDigits) (others : List PlaceDigits) (is : place_at (after_line_spaces line) ≡ Some (first, rest)) (reads : ReadsPlaces rest others end) where
+  ends_there : (digits : LineDigits) (r : ReadsLine line digits) → r.rest ≡ end
+  ends_there digits r = (reads_once (after_line_spaces line) (digits.first ∷ digits.others) (first ∷ others) r.rest end r.places (begun is reads)).1
+
+  pub unread_cost : digits_at end ≡ None → (digits : LineDigits) → ReadsLine line digits → ⊥
+  unread_cost nothing digits r = let bad = sym r.cost ∙ ap digits_at (ends_there digits r) ∙ nothing in cc
+
+  pub unread_end : (cost after : List ℕ) → digits_at end ≡ Some (cost, after) → list_all is_line_space after ≡ false → (digits : LineDigits) → ReadsLine line digits → ⊥
+  unread_end cost after some other digits r =
+      let costs = some_pair_parts digits.cost cost r.after after (sym r.cost ∙ ap digits_at (ends_there digits r) ∙ some) in
+      let bad = sym r.ends ∙ ap (list_all is_line_space) costs.1 ∙ other in
+      cc
+
+  pub digits_read : (cost after : List ℕ) → digits_at end ≡ Some (cost, after) → list_all is_line_space after ≡ true → ReadsLine line (record { first = first; others = others; cost = cost })
+  digits_read cost after some spaces = record { rest = end; after = after; places = begun is reads; cost = some; ends = spaces }

@@ -1,11 +1,15 @@
 -- Lines, one after the other, and that a text gives costs in one way.
-use Rattle.cost_text.proofs.Vocabulary.{◌≡◌, ℕ, ◌+◌, ◌<◌, ◌≤◌, List, [], ◌∷◌, ◌++◌, length, get_or, map, set, take, drop, Option, Some, None, refl, sym, ap, ◌∙◌, subst, arith, unwrap_or, IfSome, same_Some, append-nil, take-append-drop, take_more, drop_more}
-use Rattle.cost_text.proofs.Vocabulary.{length-take, CostFault, IsCostList, first_cost_fault, Thread, gap_count, gap_number, gap_below, CostTextFault, AreLineSpaces, Said, table_of, IsCostTable, IsNewEntry, IsTableOfLines, MAX_GAPS, Entry, IsCostEntry}
-use Rattle.cost_text.proofs.Vocabulary.{ListsEntries, none, blank, entry, said_of, NoGapTwice, costs_of, GiveCosts, IsCostText, StandsAt, IsLineFault, IsRefusedAt, AreRefused, RefusesCosts, lines_of, IsOfNoCost, IsOfNoGap, IsRepeated, SaysNothing}
+use Rattle.cost_text.proofs.Vocabulary.{◌≡◌, ◌∙◌, ℕ, ◌+◌, ◌<◌, ◌≤◌, List, [], ◌∷◌, ◌++◌, length, get_or, map, take, drop, Some, refl, sym, ap, subst, arith, if◌then◌else◌, range_with_len, append-nil, append_assoc, map_push, take-append-drop, take_more, drop_more, length-take}
+use Rattle.cost_text.proofs.Vocabulary.{flat_map-append, CostFault, IsCostList, first_cost_fault, AreTies, MAX_GAPS, TiedCosts, Thread, gap_count, CostTextFault, AreLineSpaces, Said, places_of, CostEntry, kept, cost_in, has_no_ties, names_in, IsCostTable, IsNewEntry, IsTableOfLines}
+use Rattle.cost_text.proofs.Vocabulary.{Entry, IsCostEntry, AreAt, ListsEntries, none, blank, entry, NoGapTwice, gaps_of, costs_of, ties_of, GiveCosts, IsCostText, StandsAt, IsLineFault, IsRefusedAt, AreRefused, RefusesCosts, lines_of, IsOfNoCost, IsOfNoGap, IsRepeated, SaysNothing}
 use Rattle.cost_text.proofs.Vocabulary.{no_fault-from_IsCostList}
 use Rattle.cost_text.specs.declared.fault.CostTextFault.TheVariants as fault
 use Rattle.cost_text.proofs.LineLaws.{said_once, blank_says_nothing}
-use Rattle.cost_text.proofs.EntryLaws.{IsCost, said_there, once_more, not_twice, table_more, length-table_of, costs_at, length-costs_of, no_costs, within_more, costs_from_table}
+use Rattle.cost_text.proofs.Once.{NoneTwice, front}
+use Rattle.cost_text.proofs.EntryLaws.{names_are_ties}
+use Rattle.cost_text.proofs.Kept.{costs_kept, names_kept, ties_kept}
+use Rattle.cost_text.proofs.CostLaws.{IsCost, cost_of_entry, length-costs_of, no_costs, within_more}
+use Rattle.cost_text.proofs.Gathered.{at_once, at_below, first_gap, not_at}
 
 -- ---- one more line
 
@@ -14,19 +18,16 @@ lists_more threads _ lines _ more none ends = ends
 lists_more threads _ lines entries more (blank {lines = before} is rest) ends = blank is (lists_more threads before lines entries more rest ends)
 lists_more threads _ lines _ more (entry {lines = before} {e = e} {entries = others} is rest) ends = entry is (lists_more threads before lines others more rest ends)
 
-entry_below : (threads : List Thread) (line : List ℕ) (e : Entry) → IsCostEntry threads line e → e.gap < gap_count threads
-entry_below threads line e is = gap_below threads is.said.thread is.said.instruction e.gap is.gap
-
 -- before the first line
-pub first_table : (threads : List Thread) (table : List (Option ℕ)) → gap_count threads ≤ MAX_GAPS → table ≡ table_of (gap_count threads) [] → IsTableOfLines threads [] table
-first_table threads table few is = record { entries = []; given = record { lists = none; once = tt; within = no_costs (gap_count threads) few }; table_is = is }
+pub first_table : (threads : List Thread) → gap_count threads ≤ MAX_GAPS → IsTableOfLines threads [] []
+first_table threads few = record { entries = []; given = record { lists = none; once = λ i j d lt within. absurd (omega (arith, within)); within = no_costs (gap_count threads) few }; table_is = refl }
 
 -- what a table of lines says of the one that is read next
-pub is_table : (threads : List Thread) (lines : List (List ℕ)) (table : List (Option ℕ)) (t : IsTableOfLines threads lines table) → IsCostTable threads t.entries table
-is_table threads lines table t = record { table_is = t.table_is; within = t.given.within }
+pub is_table : (threads : List Thread) (lines : List (List ℕ)) (table : List CostEntry) (t : IsTableOfLines threads lines table) → IsCostTable threads t.entries table
+is_table threads lines table t = record { table_is = t.table_is; once = t.given.once; within = t.given.within }
 
 -- after a blank line
-pub blank_more : (threads : List Thread) (lines : List (List ℕ)) (i : ℕ) (line : List ℕ) (table : List (Option ℕ)) → i < length lines → line ≡ get_or lines i [] → AreLineSpaces line → IsTableOfLines threads (take i lines) table → IsTableOfLines threads (take (i + 1) lines) table
+pub blank_more : (threads : List Thread) (lines : List (List ℕ)) (i : ℕ) (line : List ℕ) (table : List CostEntry) → i < length lines → line ≡ get_or lines i [] → AreLineSpaces line → IsTableOfLines threads (take i lines) table → IsTableOfLines threads (take (i + 1) lines) table
 blank_more threads lines i line table lt is blank_line t =
     let more : ListsEntries threads (take i lines ++ line ∷ []) (t.entries ++ []) = lists_more threads (take i lines) (line ∷ []) t.entries [] t.given.lists (blank blank_line none) in
     record {
@@ -36,23 +37,22 @@ blank_more threads lines i line table lt is blank_line t =
     }
 
 -- after an entry
-pub entry_more : (threads : List Thread) (lines : List (List ℕ)) (i : ℕ) (line : List ℕ) (table : List (Option ℕ)) (e : Entry) → i < length lines → line ≡ get_or lines i [] → (t : IsTableOfLines threads (take i lines) table)
-    → IsNewEntry threads t.entries line e → IsTableOfLines threads (take (i + 1) lines) (set table e.gap (Some e.cost))
-entry_more threads lines i line table e lt is t new =
-    let below : e.gap < gap_count threads = entry_below threads line e new.is in
-    let more : ListsEntries threads (take i lines ++ line ∷ []) (t.entries ++ e ∷ []) = lists_more threads (take i lines) (line ∷ []) t.entries (e ∷ []) t.given.lists (entry new.is none) in
+pub entry_more : (threads : List Thread) (lines : List (List ℕ)) (i : ℕ) (line : List ℕ) (table : List CostEntry) (found : CostEntry) → i < length lines → line ≡ get_or lines i [] → (t : IsTableOfLines threads (take i lines) table)
+    → IsNewEntry threads t.entries line found → IsTableOfLines threads (take (i + 1) lines) (table ++ found ∷ [])
+entry_more threads lines i line table found lt is t new =
+    let more : ListsEntries threads (take i lines ++ line ∷ []) (t.entries ++ new.entry ∷ []) = lists_more threads (take i lines) (line ∷ []) t.entries (new.entry ∷ []) t.given.lists (entry new.is none) in
     record {
-      entries = t.entries ++ e ∷ [];
+      entries = t.entries ++ new.entry ∷ [];
       given = record {
         lists = rw (take_more lines i [] lt, ← is) more;
-        once = once_more t.entries e t.given.once new.new;
-        within = within_more (gap_count threads) t.entries e below new.new t.given.within new.some new.within;
+        once = new.new;
+        within = within_more (gap_count threads) t.entries new.entry new.new t.given.within new.some new.within;
       };
-      table_is = ap (λ (x : List (Option ℕ)). set x e.gap (Some e.cost)) t.table_is ∙ table_more (gap_count threads) t.entries e below new.new;
+      table_is = ap (λ (x : List CostEntry). x ++ found ∷ []) t.table_is ∙ ap (λ (x : CostEntry). map kept t.entries ++ x ∷ []) new.found_is ∙ sym (map_push kept t.entries new.entry);
     }
 
 -- at a line that cannot stand
-stands_at : (threads : List Thread) (lines : List (List ℕ)) (i : ℕ) (line : List ℕ) (table : List (Option ℕ)) → i < length lines → line ≡ get_or lines i [] → (t : IsTableOfLines threads (take i lines) table)
+stands_at : (threads : List Thread) (lines : List (List ℕ)) (i : ℕ) (line : List ℕ) (table : List CostEntry) → i < length lines → line ≡ get_or lines i [] → (t : IsTableOfLines threads (take i lines) table)
     → StandsAt lines threads (i + 1) line t.entries
 stands_at threads lines i line table lt is t = record {
   before = take i lines;
@@ -62,7 +62,7 @@ stands_at threads lines i line table lt is t = record {
   given = t.given;
 }
 
-pub refused_there : (threads : List Thread) (lines : List (List ℕ)) (i : ℕ) (line : List ℕ) (table : List (Option ℕ)) (why : CostTextFault) → i < length lines → line ≡ get_or lines i [] → (t : IsTableOfLines threads (take i lines) table)
+pub refused_there : (threads : List Thread) (lines : List (List ℕ)) (i : ℕ) (line : List ℕ) (table : List CostEntry) (why : CostTextFault) → i < length lines → line ≡ get_or lines i [] → (t : IsTableOfLines threads (take i lines) table)
     → IsLineFault threads t.entries line (i + 1) why → AreRefused lines threads why
 refused_there threads lines i line table fault.OutOfMemory lt is t f = tt
 refused_there threads lines i line table why lt is t f = record { number = i + 1; line = line; entries = t.entries; stands = stands_at threads lines i line table lt is t; fault = f }
@@ -72,9 +72,9 @@ refused_there threads lines i line table why lt is t f = record { number = i + 1
 entry_once : (threads : List Thread) (line : List ℕ) (a b : Entry) → IsCostEntry threads line a → IsCostEntry threads line b → a ≡ b
 entry_once threads line a b is also =
     let same : is.said ≡ also.said = said_once line is.said also.said is.says also.says in
-    let gaps : a.gap ≡ b.gap = same_Some a.gap b.gap (sym is.gap ∙ ap (λ (s : Said). gap_number threads s.thread s.instruction) same ∙ also.gap) in
+    let gaps : a.gaps ≡ b.gaps = at_once threads (places_of also.said) a.gaps b.gaps (subst (λ (s : Said). AreAt threads (places_of s) a.gaps) same is.gaps) also.gaps in
     let costs : a.cost ≡ b.cost = sym is.cost ∙ ap (λ (s : Said). s.cost) same ∙ also.cost in
-    λ i. record { gap = gaps i; cost = costs i }
+    λ i. record { gaps = gaps i; cost = costs i }
 
 no_entry : (threads : List Thread) (line : List ℕ) (e : Entry) → AreLineSpaces line → IsCostEntry threads line e → ⊥
 no_entry threads line e blank_line is = blank_says_nothing line blank_line is.said is.says
@@ -128,29 +128,36 @@ silent threads entries all line s (says e more is all_are) = s.nothing is.said i
 no_gap : (threads : List Thread) (entries all : List Entry) (line : List ℕ) → IsOfNoGap threads line → IsNext threads entries line all → ⊥
 no_gap threads entries all line n (says_none blank_line) = blank_says_nothing line blank_line n.said n.says
 no_gap threads entries all line n (says e more is all_are) =
-    let none = ap (λ (s : Said). gap_number threads s.thread s.instruction) (said_once line is.said n.said is.says n.says) ∙ n.no_gap in
-    let bad = sym none ∙ is.gap in cc
+    let same : is.said ≡ n.said = said_once line is.said n.said is.says n.says in
+    not_at threads (places_of n.said) e.gaps n.place (subst (λ (s : Said). AreAt threads (places_of s) e.gaps) same is.gaps) n.named n.no_gap
+
+-- of entries that name no gap twice so do the first
+once_before : (entries more : List Entry) (e : Entry) → NoGapTwice (entries ++ e ∷ more) → NoGapTwice (entries ++ e ∷ [])
+once_before entries more e once =
+    let parts : gaps_of ((entries ++ e ∷ []) ++ more) ≡ gaps_of (entries ++ e ∷ []) ++ gaps_of more = flat_map-append (λ (x : Entry). x.gaps) (entries ++ e ∷ []) more in
+    front (gaps_of (entries ++ e ∷ [])) (gaps_of more) (subst NoneTwice (ap gaps_of (sym (append_assoc entries (e ∷ []) more)) ∙ parts) once)
 
 repeated : (threads : List Thread) (entries all : List Entry) (line : List ℕ) → NoGapTwice all → IsRepeated threads entries line → IsNext threads entries line all → ⊥
 repeated threads entries all line once r (says_none blank_line) = no_entry threads line r.entry blank_line r.is
 repeated threads entries all line once r (says e more is all_are) =
     let same : r.entry ≡ e = entry_once threads line r.entry e r.is is in
-    not_twice entries more e r.earlier (subst NoGapTwice all_are once) (ap (λ (x : Entry). said_of entries x.gap) (sym same) ∙ r.there)
+    r.twice (subst (λ (x : Entry). NoGapTwice (entries ++ x ∷ [])) (sym same) (once_before entries more e (subst NoGapTwice all_are once)))
 
-no_cost : (threads : List Thread) (entries all : List Entry) (line : List ℕ) (why : CostFault) → IsCostList (costs_of (gap_count threads) entries) → IsCostList (costs_of (gap_count threads) all) → IsOfNoCost threads entries line why → IsNext threads entries line all → ⊥
-no_cost threads entries all line why before within r (says_none blank_line) = no_entry threads line r.entry blank_line r.is
-no_cost threads entries all line why before within r (says e more is all_are) =
-    let gaps = gap_count threads in
+no_cost : (threads : List Thread) (entries all : List Entry) (line : List ℕ) (why : CostFault) → NoGapTwice all → IsCostList (costs_of (gap_count threads) entries) → IsCostList (costs_of (gap_count threads) all) → IsOfNoCost threads entries line why
+    → IsNext threads entries line all → ⊥
+no_cost threads entries all line why once before within r (says_none blank_line) = no_entry threads line r.entry blank_line r.is
+no_cost threads entries all line why once before within r (says e more is all_are) =
     let same : r.entry ≡ e = entry_once threads line r.entry e r.is is in
-    let new : said_of entries e.gap ≡ None = ap (λ (x : Entry). said_of entries x.gap) (sym same) ∙ r.new in
-    let below : e.gap < gaps = entry_below threads line e is in
-    let in_all : IsCostList (costs_of gaps (entries ++ e ∷ more)) = subst (λ (x : List Entry). IsCostList (costs_of gaps x)) all_are within in
-    let long : e.gap < length (costs_of gaps (entries ++ e ∷ more)) = omega (arith, length-costs_of gaps (entries ++ e ∷ more)) in
-    let cost : get_or (costs_of gaps (entries ++ e ∷ more)) e.gap 0 ≡ e.cost = costs_at gaps (entries ++ e ∷ more) e.gap 0 below ∙ ap (λ (c : Option ℕ). unwrap_or c 1) (said_there entries more e new) in
-    let is_cost : IsCost e.cost = subst IsCost cost (in_all.each e.gap 0 long) in
-    let with_it : IsCostList (costs_of gaps (entries ++ e ∷ [])) = within_more gaps entries e below new before is_cost.0 is_cost.1 in
-    let refused : first_cost_fault (costs_of gaps (entries ++ e ∷ [])) ≡ Some why = ap (λ (x : Entry). first_cost_fault (costs_of gaps (entries ++ x ∷ []))) (sym same) ∙ r.refused in
-    let bad = sym (no_fault-from_IsCostList (costs_of gaps (entries ++ e ∷ [])) with_it) ∙ refused in
+    let new : NoGapTwice (entries ++ e ∷ []) = subst (λ (x : Entry). NoGapTwice (entries ++ x ∷ [])) same r.new in
+    let some = first_gap threads is.said.first is.said.others e.gaps is.gaps in
+    let below : some.0 < gap_count threads = at_below threads (places_of is.said) e.gaps is.gaps some.0 some.1 in
+    let in_all : IsCostList (costs_of (gap_count threads) (entries ++ e ∷ more)) = subst (λ (x : List Entry). IsCostList (costs_of (gap_count threads) x)) all_are within in
+    let long : some.0 < length (costs_of (gap_count threads) (entries ++ e ∷ more)) = omega (arith, below, length-costs_of (gap_count threads) (entries ++ e ∷ more)) in
+    let cost : get_or (costs_of (gap_count threads) (entries ++ e ∷ more)) some.0 0 ≡ e.cost = cost_of_entry (gap_count threads) entries more e some.0 0 (subst NoGapTwice all_are once) some.1 below in
+    let is_cost : IsCost e.cost = subst IsCost cost (in_all.each some.0 0 long) in
+    let with_it : IsCostList (costs_of (gap_count threads) (entries ++ e ∷ [])) = within_more (gap_count threads) entries e new before is_cost.0 is_cost.1 in
+    let refused : first_cost_fault (costs_of (gap_count threads) (entries ++ e ∷ [])) ≡ Some why = ap (λ (x : Entry). first_cost_fault (costs_of (gap_count threads) (entries ++ x ∷ []))) (sym same) ∙ r.refused in
+    let bad = sym (no_fault-from_IsCostList (costs_of (gap_count threads) (entries ++ e ∷ [])) with_it) ∙ refused in
     cc
 
 cannot_stand : (threads : List Thread) (lines : List (List ℕ)) (all : List Entry) (why : CostTextFault) → GiveCosts threads lines all → IsRefusedAt lines threads why → ⊥
@@ -163,32 +170,44 @@ cannot_stand threads lines all why given r = by_fault why r.fault
     by_fault (fault.Line n) f = silent threads r.entries all r.line f.1 follows
     by_fault (fault.NoSuchGap n) f = no_gap threads r.entries all r.line f.1 follows
     by_fault (fault.Repeated n) f = repeated threads r.entries all r.line given.once f.1 follows
-    by_fault (fault.Cost n cost) f = no_cost threads r.entries all r.line cost r.stands.given.within given.within f.1 follows
+    by_fault (fault.Cost n cost) f = no_cost threads r.entries all r.line cost given.once r.stands.given.within given.within f.1 follows
     by_fault fault.OutOfMemory f = f
 
 -- what is refused for another reason than being out of memory gives no costs
-pub refuted : (text : List ℕ) (threads : List Thread) (costs : List ℕ) (why : CostTextFault) → IsCostText text threads costs → RefusesCosts text threads why → why ≡ fault.OutOfMemory
+pub refuted : (text : List ℕ) (threads : List Thread) (costs : TiedCosts) (why : CostTextFault) → IsCostText text threads costs → RefusesCosts text threads why → why ≡ fault.OutOfMemory
 refuted text threads costs fault.OutOfMemory is r = refl
 refuted text threads costs why is r = absurd (cannot_stand threads (lines_of text) is.entries why is.given r)
 
--- a text gives one list of costs
-pub costs_once : (text : List ℕ) (threads : List Thread) (a b : List ℕ) → IsCostText text threads a → IsCostText text threads b → a ≡ b
+-- a text gives one list of costs, with one list of ties
+pub costs_once : (text : List ℕ) (threads : List Thread) (a b : TiedCosts) → IsCostText text threads a → IsCostText text threads b → a ≡ b
 costs_once text threads a b is also =
-    is.costs_are ∙ ap (costs_of (gap_count threads)) (lists_once threads (lines_of text) is.entries also.entries is.given.lists also.given.lists) ∙ sym also.costs_are
+    let entries : is.entries ≡ also.entries = lists_once threads (lines_of text) is.entries also.entries is.given.lists also.given.lists in
+    let costs : a.costs ≡ b.costs = is.costs_are ∙ ap (costs_of (gap_count threads)) entries ∙ sym also.costs_are in
+    let ties : a.ties ≡ b.ties = is.ties_are ∙ ap (ties_of (gap_count threads)) entries ∙ sym also.ties_are in
+    λ i. record { costs = costs i; ties = ties i }
 
--- the number of a gap is below the number of gaps
-pub number_below : (threads : List Thread) (t k : ℕ) (found : Option ℕ) → found ≡ gap_number threads t k → IfSome found (λ gap. gap < gap_count threads)
-number_below threads t k None is = tt
-number_below threads t k (Some gap) is = gap_below threads t k gap (sym is)
+-- ---- what a table gives
 
--- a table has a place for each gap
-pub table_long : (threads : List Thread) (lines : List (List ℕ)) (table : List (Option ℕ)) → IsTableOfLines threads lines table → length table ≡ gap_count threads
-table_long threads lines table t = ap length t.table_is ∙ length-table_of (gap_count threads) t.entries
+module _ (threads : List Thread) (lines : List (List ℕ)) (table : List CostEntry) (few : gap_count threads ≤ MAX_GAPS) (t : IsTableOfLines threads lines table) where
+  costs_of_table : map (cost_in table) (range_with_len 0 (gap_count threads)) ≡ costs_of (gap_count threads) t.entries
+  costs_of_table = ap (λ (x : List CostEntry). map (cost_in x) (range_with_len 0 (gap_count threads))) t.table_is ∙ costs_kept t.entries (gap_count threads)
 
--- the costs of a table are those of its lines
-pub costs_found : (text : List ℕ) (threads : List Thread) (table : List (Option ℕ)) (costs : List ℕ) → IsTableOfLines threads (lines_of text) table → costs ≡ map (λ cost. unwrap_or cost 1) table → IsCostText text threads costs
-costs_found text threads table costs t is = record {
+  ties_of_table : (if has_no_ties (gap_count threads) table then [] else names_in (gap_count threads) table) ≡ ties_of (gap_count threads) t.entries
+  ties_of_table = ap (λ (x : List CostEntry). if has_no_ties (gap_count threads) x then [] else names_in (gap_count threads) x) t.table_is ∙ ties_kept t.entries (gap_count threads) few
+
+  -- its names are those of ties
+  pub names_of_table : AreTies (names_in (gap_count threads) table)
+  names_of_table =
+      let is = ap (names_in (gap_count threads)) t.table_is ∙ names_kept t.entries (gap_count threads) few in
+      subst AreTies (sym is) (names_are_ties (gap_count threads) t.entries few t.given.once)
+
+-- the costs and ties of a table are those of its lines
+pub costs_found : (text : List ℕ) (threads : List Thread) (table : List CostEntry) (costs : TiedCosts) → gap_count threads ≤ MAX_GAPS → IsTableOfLines threads (lines_of text) table
+    → costs.costs ≡ map (cost_in table) (range_with_len 0 (gap_count threads)) → costs.ties ≡ (if has_no_ties (gap_count threads) table then [] else names_in (gap_count threads) table)
+    → IsCostText text threads costs
+costs_found text threads table costs few t costs_are ties_are = record {
   entries = t.entries;
   given = t.given;
-  costs_are = is ∙ ap (map (λ cost. unwrap_or cost 1)) t.table_is ∙ costs_from_table (gap_count threads) t.entries;
+  costs_are = costs_are ∙ costs_of_table threads (lines_of text) table few t;
+  ties_are = ties_are ∙ ties_of_table threads (lines_of text) table few t;
 }

@@ -9,13 +9,13 @@ use thiserror::Error;
 /// Why a text of costs could not be read, with the number of the line where it shows.
 #[derive(Clone, Copy, Debug, Error)]
 pub enum CostTextFault {
-    /// The line with this number, from 1, is neither blank nor `t:k`, spaces or tabs, and a cost.
+    /// The line with this number, from 1, is neither blank nor places `t:k`, spaces or tabs after each, and a cost.
     #[error("line {0} is neither blank nor a gap with its cost")]
     Line(usize),
     /// The line with this number, from 1, names a gap that the program lacks.
     #[error("line {0} names a gap that the program lacks")]
     NoSuchGap(usize),
-    /// The line with this number, from 1, names a gap that an earlier line names.
+    /// The line with this number, from 1, names a gap that an earlier line names, or one twice.
     #[error("line {0} names a gap that an earlier line names")]
     Repeated(usize),
     /// The line with this number, from 1, gives its gap a cost that no gap may have.

@@ -5,14 +5,14 @@ use Rattle.gap_sets.specs.Gaps.{SetOfGaps}
 use Rattle.tso_program.specs.declared.listing.Listing.{Listing}
 use Rattle.tso_program.specs.declared.outcome.Outcome.{Outcome}
 use Rattle.tso_program.specs.declared.shown.Shown.{Shown}
-use Rattle.tso_program.specs.Fences.{gaps_in}
+use Rattle.gap_sets.specs.Ties.{spread}
 use Rattle.tso_program.specs.Listings.{gap_count}
 use Rattle.tso_program.specs.declared.question.Question.{Question}
-use Rattle.tso_program.specs.Shown.{asked, show}
+use Rattle.tso_program.specs.Shown.{asked, asked_with, show}
 use Rattle.tso_machine.specs.declared.label.Label.{Label}
 use Rattle.tso_machine.specs.Machine.{Machine, SequentialMachine, StoreBufferMachine, no_gaps, State, start, run, HasEnded, outcome_at}
 use Rattle.tso_machine.specs.Modes.{Passes}
-use Rattle.tso_machine.specs.Outcomes.{IsShownRun, AllowsShown, Serves, IsTheAnswer, LeavesOutcome, AreGapsOf}
+use Rattle.tso_machine.specs.Outcomes.{gaps_named, IsShownRun, AllowsShown, Serves, IsTheAnswer, LeavesOutcome, AreGapsOf}
 use Rattle.std.specs.Option.{option_map_or}
 use mathlib.Core.Path.{fun_ext}
 use Rattle.dataflow_laws.specs.DeadLoads.{Places, drop_loads, AreDead}
@@ -94,7 +94,7 @@ outcomes_kept p shown here mode o dead = (
 
 record SameQuestion (a b : Question) : Type 0 where
   pub count : gap_count a.program.threads ≡ gap_count b.program.threads
-  pub numbers : gaps_in a.program ≡ gaps_in b.program
+  pub numbers : gaps_named a ≡ gaps_named b
   pub outcomes : (mode : Machine) (o : Outcome) → AllowsShown a mode o → AllowsShown b mode o
   pub others : (mode : Machine) (o : Outcome) → AllowsShown b mode o → AllowsShown a mode o
 
@@ -103,11 +103,11 @@ turned a b h = record { count = sym h.count; numbers = sym h.numbers; outcomes =
 
 module _ (a b : Question) (h : SameQuestion a b) where
   -- with the set fenced
-  fenced : (gaps : SetOfGaps) (o : Outcome) → AllowsShown a (StoreBufferMachine (gaps_in a.program gaps)) o → AllowsShown b (StoreBufferMachine (gaps_in b.program gaps)) o
-  fenced gaps o is = subst (λ (f : SetOfGaps → ℕ → ℕ → Bool). AllowsShown b (StoreBufferMachine (f gaps)) o) h.numbers (h.outcomes (StoreBufferMachine (gaps_in a.program gaps)) o is)
+  fenced : (gaps : SetOfGaps) (o : Outcome) → AllowsShown a (StoreBufferMachine (gaps_named a gaps)) o → AllowsShown b (StoreBufferMachine (gaps_named b gaps)) o
+  fenced gaps o is = subst (λ (f : SetOfGaps → ℕ → ℕ → Bool). AllowsShown b (StoreBufferMachine (f gaps)) o) h.numbers (h.outcomes (StoreBufferMachine (gaps_named a gaps)) o is)
 
-  fenced_back : (gaps : SetOfGaps) (o : Outcome) → AllowsShown b (StoreBufferMachine (gaps_in b.program gaps)) o → AllowsShown a (StoreBufferMachine (gaps_in a.program gaps)) o
-  fenced_back gaps o is = subst (λ (f : SetOfGaps → ℕ → ℕ → Bool). AllowsShown a (StoreBufferMachine (f gaps)) o) (sym h.numbers) (h.others (StoreBufferMachine (gaps_in b.program gaps)) o is)
+  fenced_back : (gaps : SetOfGaps) (o : Outcome) → AllowsShown b (StoreBufferMachine (gaps_named b gaps)) o → AllowsShown a (StoreBufferMachine (gaps_named a gaps)) o
+  fenced_back gaps o is = subst (λ (f : SetOfGaps → ℕ → ℕ → Bool). AllowsShown a (StoreBufferMachine (f gaps)) o) (sym h.numbers) (h.others (StoreBufferMachine (gaps_named b gaps)) o is)
 
   serving : (gaps : SetOfGaps) → Serves a gaps → Serves b gaps
   serving gaps serves o = (
@@ -131,16 +131,16 @@ module _ (a b : Question) (h : SameQuestion a b) where
     least = λ other of better. leaving other (is.least other (gaps_back other of) better);
   }
 
-same_question : (p : Listing) (shown : Shown) (here : Places) → AreDead p shown here → SameQuestion (asked (drop_loads here p) shown) (asked p shown)
-same_question p shown here dead = record {
+same_question : (ties : List ℕ) (p : Listing) (shown : Shown) (here : Places) → AreDead p shown here → SameQuestion (asked_with ties (drop_loads here p) shown) (asked_with ties p shown)
+same_question ties p shown here dead = record {
   count = (gaps_kept p here).0;
-  numbers = fun_ext (λ gaps. fun_ext (λ t. fun_ext (λ k. ap (λ o. option_map_or (set.contains gaps) o false) ((gaps_kept p here).1 t k))));
+  numbers = fun_ext (λ gaps. fun_ext (λ t. fun_ext (λ k. ap (λ o. option_map_or (set.contains (spread ties gaps)) o false) ((gaps_kept p here).1 t k))));
   outcomes = λ mode o. (outcomes_kept p shown here mode o dead).0;
   others = λ mode o. (outcomes_kept p shown here mode o dead).1;
 }
 
 pub foreign_kept : DeadLoadsKeepForeignRuns
-foreign_kept p shown here labels o dead = (
+foreign_kept p shown ties here labels o dead = (
   λ is. record {
     is_run = (runs_kept p shown here (StoreBufferMachine no_gaps) labels o dead).0 is.is_run;
     foreign = λ sequential. is.foreign ((outcomes_kept p shown here SequentialMachine o dead).1 sequential);
@@ -152,9 +152,9 @@ foreign_kept p shown here labels o dead = (
 )
 
 pub serving_kept : DeadLoadsKeepServing
-serving_kept p shown here gaps dead =
-    let h = same_question p shown here dead in (serving _ _ h gaps, serving _ _ (turned _ _ h) gaps)
+serving_kept p shown ties here gaps dead =
+    let h = same_question ties p shown here dead in (serving _ _ h gaps, serving _ _ (turned _ _ h) gaps)
 
 pub answer_kept : DeadLoadsKeepTheAnswer
-answer_kept p shown here costs gaps dead =
-    let h = same_question p shown here dead in (answering _ _ h costs gaps, answering _ _ (turned _ _ h) costs gaps)
+answer_kept p shown ties here costs gaps dead =
+    let h = same_question ties p shown here dead in (answering _ _ h costs gaps, answering _ _ (turned _ _ h) costs gaps)

@@ -1,5 +1,5 @@
 -- What many proofs of this crate speak of, imported once.
-pub use Rattle.std.proofs.Common.{List, [], ap, append_assoc, arith, codes, get_or, map, refl, subst, sym, take, ℕ, ◌++◌, ◌∙◌, ◌∷◌, ◌≡◌}
+pub use Rattle.std.proofs.Common.{List, [], ap, append_assoc, arith, codes, get_or, map, refl, subst, sym, take, ℕ, ◌+◌, ◌++◌, ◌<◌, ◌∙◌, ◌∷◌, ◌≡◌}
 pub use Rattle.std.proofs.lemmas.List.{map-append, map_more}
 pub use Rattle.std.proofs.lemmas.Result.{IfOk-weaker, on_ok_weaker}
 pub use Rattle.std.specs.List.{flat_map, range_with_len}

@@ -2,6 +2,7 @@
 use Rattle.std.specs.Prelude.{◌≡◌, ℕ, ◌-◌, List, [], ◌∷◌, ◌++◌, Option, Some, None, codes, drop, length, min, take}
 use Rattle.std.specs.Fmt.{decimal}
 use Rattle.gap_sets.specs.Gaps.{SetOfGaps}
+use Rattle.gap_sets.specs.declared.ties.TiedCosts.{TiedCosts}
 use Rattle.tso_program.specs.declared.listing.Listing.{Listing}
 use Rattle.tso_program.specs.declared.outcome.Outcome.{Outcome}
 use Rattle.tso_program.specs.declared.shown.Shown.{Shown, TheVariants.All}
@@ -15,7 +16,7 @@ use Rattle.json_text.specs.Values.{IsJsonLine}
 use Rattle.documents.specs.declared.fenced_model.FencedModel.{FencedModel}
 use Rattle.documents.specs.declared.run.Setting.TheVariants.{Machine}
 use Rattle.documents.specs.FencedModels.{machine_members}
-use Rattle.documents.specs.Parts.{ProgramPart, program_members, IsProgram, answer_members, costs_array, is_observed, outcomes_array}
+use Rattle.documents.specs.Parts.{ProgramPart, program_members, IsProgram, answer_members, costs_array, is_observed, outcomes_array, tie_members}
 use Rattle.documents.specs.Runs.{TellsRun, runs_array}
 
 -- the version
@@ -53,18 +54,19 @@ abbrev pub IsLinedDocument : Litmus Listing → List ℕ → (TextLines → List
 IsLinedDocument source command members text = (lines : TextLines) × IsDocument source command (members lines) text
 
 -- of a placement: the gaps with their costs, the answer, and the text of the fenced program
-abbrev pub IsPlacedDocument : Litmus Listing → Shown → List ℕ → SetOfGaps → List ℕ → List ℕ → Type 0
+abbrev pub IsPlacedDocument : Litmus Listing → Shown → TiedCosts → SetOfGaps → List ℕ → List ℕ → Type 0
 IsPlacedDocument source shown costs gaps fenced =
     IsLinedDocument source (codes "place") (λ lines. answer_members source.program lines shown costs gaps ++ member (codes "fenced") (quoted fenced) ∷ [])
 
 -- of why the gaps of the answer are needed: the same with these texts of runs
-abbrev pub IsWhyDocument : Litmus Listing → Shown → List ℕ → SetOfGaps → List (List ℕ) → List ℕ → Type 0
+abbrev pub IsWhyDocument : Litmus Listing → Shown → TiedCosts → SetOfGaps → List (List ℕ) → List ℕ → Type 0
 IsWhyDocument source shown costs gaps runs =
     IsLinedDocument source (codes "why") (λ lines. answer_members source.program lines shown costs gaps ++ member (codes "runs") (array_text runs) ∷ [])
 
--- of the gaps of a program, with their costs
-abbrev pub IsGapsDocument : Litmus Listing → List ℕ → List ℕ → Type 0
-IsGapsDocument source costs = IsLinedDocument source (codes "gaps") (λ lines. member (codes "gaps") (costs_array source.program.threads lines costs) ∷ [])
+-- of the gaps of a program, with their costs, and which go together
+abbrev pub IsGapsDocument : Litmus Listing → TiedCosts → List ℕ → Type 0
+IsGapsDocument source costs =
+    IsLinedDocument source (codes "gaps") (λ lines. member (codes "gaps") (costs_array source.program.threads lines costs.costs) ∷ tie_members source.program.threads costs.ties)
 
 -- of a run of a machine, of which all is shown
 pub record IsTraceDocument (source : Litmus Listing) (model : Model) (labels : List Label) (outcome : Outcome) (passed : SetOfGaps) (text : List ℕ) : Type 0 where

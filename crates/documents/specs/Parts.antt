@@ -1,17 +1,20 @@
 -- What documents say of programs, outcomes and answers.
-use Rattle.std.specs.Prelude.{◌≡◌, ℕ, Bool, true, false, List, [], ◌∷◌, ◌++◌, ◌&&◌, codes, length, map, slice_index, slice_index_or, if◌then◌else◌}
+use Rattle.std.specs.Prelude.{◌≡◌, ℕ, Bool, true, false, List, [], ◌∷◌, ◌++◌, ◌&&◌, codes, length, map, nat_lt, slice_index, slice_index_or, if◌then◌else◌}
 use Rattle.std.specs.Fmt.{decimal}
-use Rattle.std.specs.List.{flat_map, range_with_len}
+use Rattle.std.specs.List.{filter, flat_map, range_with_len}
 use Rattle.std.specs.Option.{option_map_or}
 use Rattle.gap_sets.specs.Gaps.{SetOfGaps, numbers_of_set}
 use Rattle.gap_sets.specs.Order.{total}
+use Rattle.gap_sets.specs.Ties.{names_in, spread}
+use Rattle.gap_sets.specs.declared.ties.TiedCosts.{TiedCosts}
+use Rattle.std.specs.FinSet as set
 use Rattle.tso_program.specs.declared.instruction.Reg.{Reg}
 use Rattle.tso_program.specs.declared.listing.Listing.{Listing}
 use Rattle.tso_program.specs.declared.listing.Thread.{Thread}
 use Rattle.tso_program.specs.declared.outcome.Outcome.{Outcome}
 use Rattle.tso_program.specs.declared.shown.Shown.{Shown, TheVariants.All, TheVariants.Only, TheVariants.Truth}
 use Rattle.tso_program.specs.Instructions.{number}
-use Rattle.tso_program.specs.Listings.{gap_place}
+use Rattle.tso_program.specs.Listings.{gap_count, gap_place}
 use Rattle.tso_program.specs.Shown.{shows_register, shows_location}
 use Rattle.report.specs.Litmus.{Litmus}
 use Rattle.gap_list.specs.declared.text_lines.TextLines.{TextLines}
@@ -102,10 +105,10 @@ condition_members All = []
 condition_members (Only names) = []
 condition_members (Truth f) = member (codes "condition") (truth_text true) ∷ []
 
--- the set, what it costs, and what tells outcomes apart, where not all does
-abbrev pub set_members : Listing → Shown → List ℕ → SetOfGaps → List (List ℕ)
+-- the set, what it costs, a tie once, and what tells outcomes apart, where not all does
+abbrev pub set_members : Listing → Shown → TiedCosts → SetOfGaps → List (List ℕ)
 set_members p shown costs gaps =
-    member (codes "set") (gaps_array p.threads gaps) ∷ member (codes "cost") (decimal (total costs gaps)) ∷ member (codes "observed") (truth_text (is_observed shown)) ∷ condition_members shown
+    member (codes "set") (gaps_array p.threads gaps) ∷ member (codes "cost") (decimal (total costs.costs (names_in costs.ties gaps))) ∷ member (codes "observed") (truth_text (is_observed shown)) ∷ condition_members shown
 
 -- what tells outcomes apart, in one word
 abbrev pub compared : Shown → List ℕ
@@ -116,12 +119,22 @@ compared (Truth f) = codes "condition"
 abbrev pub compares_member : Shown → List ℕ
 compares_member shown = member (codes "compares") (quoted (compared shown))
 
-abbrev pub answer_value : Listing → Shown → List ℕ → SetOfGaps → List ℕ
+abbrev pub answer_value : Listing → Shown → TiedCosts → SetOfGaps → List ℕ
 answer_value p shown costs gaps = object_text (set_members p shown costs gaps ++ compares_member shown ∷ [])
 
-abbrev pub answer_members : Listing → TextLines → Shown → List ℕ → SetOfGaps → List (List ℕ)
+-- the gaps of each tie of several gaps, by their places
+abbrev pub ties_array : List Thread → List ℕ → List ℕ
+ties_array threads ties =
+    array_text (map (gaps_array threads) (filter (λ tie. nat_lt 1 (set.len tie)) (map (λ name. spread ties (set.insert set.empty name)) (range_with_len 0 (gap_count threads)))))
+
+-- which gaps go together, where some do
+abbrev pub tie_members : List Thread → List ℕ → List (List ℕ)
+tie_members threads [] = []
+tie_members threads (name ∷ ties) = member (codes "ties") (ties_array threads (name ∷ ties)) ∷ []
+
+abbrev pub answer_members : Listing → TextLines → Shown → TiedCosts → SetOfGaps → List (List ℕ)
 answer_members p lines shown costs gaps =
-    member (codes "gaps") (costs_array p.threads lines costs) ∷ member (codes "answer") (answer_value p shown costs gaps) ∷ []
+    member (codes "gaps") (costs_array p.threads lines costs.costs) ∷ member (codes "answer") (answer_value p shown costs gaps) ∷ tie_members p.threads costs.ties
 
 -- ---- the program
 

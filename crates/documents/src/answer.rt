@@ -1,12 +1,12 @@
 //! The answer of a placement.
 ghost use Rattle.std.specs.Prelude.{◌≡◌, ◌++◌, ◌<◌, ◌≤◌, IfOk, OnOk, length};
 ghost use Rattle.gap_sets.specs.Order.{total};
-ghost use Rattle.documents.specs.Parts.{gap_value, costs_array, is_observed, condition_members, set_members, compared, answer_value, answer_members};
+ghost use Rattle.documents.specs.Parts.{gap_value, costs_array, is_observed, condition_members, set_members, compared, answer_value, ties_array, tie_members, answer_members};
 
 use crate::lined::LinedLitmus;
 use crate::named::{gap_line, gap_name, gap_names};
 use gap_list::TextLines;
-use gap_sets::{Costs, GapSet};
+use gap_sets::{GapSet, TiedCosts, Ties};
 use json_text::{JsonArray, JsonObject, JsonText};
 use std::alloc::{AllocError, Global};
 use tso_program::{Program, Shown};
@@ -73,7 +73,7 @@ fn add_set(
     object: &mut JsonObject,
     program: &Program,
     shown: &Shown,
-    costs: &Costs,
+    costs: &TiedCosts,
     set: &GapSet,
 ) -> Result<(), AllocError>
     ensures { OnOk result (object.new ≡ object.old ++ set_members program.now shown.now costs.now set.now) }
@@ -100,7 +100,7 @@ fn answer_value(
     alloc: Global,
     program: &Program,
     shown: &Shown,
-    costs: &Costs,
+    costs: &TiedCosts,
     set: &GapSet,
 ) -> Result<JsonText, AllocError>
     ensures { IfOk result (λ json. json ≡ answer_value program.now shown.now costs.now set.now) }
@@ -112,19 +112,49 @@ fn answer_value(
     object.into_json()
 }
 
-/// Adds the gaps with their costs, and the answer.
+/// The gaps that go together, for each tie of several gaps.
+fn ties_array(alloc: Global, program: &Program, ties: &Ties) -> Result<JsonText, AllocError>
+    ensures { IfOk result (λ json. json ≡ ties_array program.now.threads ties.now) }
+{
+    let mut array = JsonArray::new(alloc);
+    for name in 0..program.gaps() {
+        let tie = ties.spread(&GapSet::empty().with(name));
+        if tie.len() > 1 {
+            array.add(gap_names(alloc, program, &tie)?)?;
+        }
+    }
+    array.into_json()
+}
+
+/// Adds which gaps go together, where some do.
+pub(crate) fn add_ties(
+    alloc: Global,
+    object: &mut JsonObject,
+    program: &Program,
+    ties: &Ties,
+) -> Result<(), AllocError>
+    ensures { OnOk result (object.new ≡ object.old ++ tie_members program.now.threads ties.now) }
+{
+    if ties.is_single() {
+        return Ok(());
+    }
+    object.add("ties", ties_array(alloc, program, ties)?)
+}
+
+/// Adds the gaps with their costs, the answer, and which gaps go together.
 pub(crate) fn add_answer(
     alloc: Global,
     object: &mut JsonObject,
     source: &LinedLitmus<'_>,
     shown: &Shown,
-    costs: &Costs,
+    costs: &TiedCosts,
     set: &GapSet,
 ) -> Result<(), AllocError>
     ensures { OnOk result (object.new ≡ object.old ++ answer_members source.now.litmus.now.program source.now.lines.now shown.now costs.now set.now) }
 {
     let program = &source.litmus.program;
-    let gaps = costs_array(alloc, program, source.lines, costs.as_slice())?;
+    let gaps = costs_array(alloc, program, source.lines, costs.costs.as_slice())?;
     object.add("gaps", gaps)?;
-    object.add("answer", answer_value(alloc, program, shown, costs, set)?)
+    object.add("answer", answer_value(alloc, program, shown, costs, set)?)?;
+    add_ties(alloc, object, program, &costs.ties)
 }

@@ -14,7 +14,7 @@ use crate::outcome::outcomes_array;
 use crate::program::add_program;
 use crate::run::{Setting, run_value};
 use cert_forest::Runs;
-use gap_sets::{Costs, GapSet};
+use gap_sets::{GapSet, TiedCosts};
 use json_text::{JsonArray, JsonObject, JsonText};
 use litmus_text::{Condition, Litmus};
 use report::{frequency, is_true_of};
@@ -63,7 +63,7 @@ pub fn placed_document(
     alloc: Global,
     source: &LinedLitmus<'_>,
     shown: &Shown,
-    costs: &Costs,
+    costs: &TiedCosts,
     set: &GapSet,
     fenced: &[u8],
 ) -> Result<Vec<u8>, AllocError>
@@ -83,7 +83,7 @@ pub fn why_document(
     alloc: Global,
     source: &LinedLitmus<'_>,
     shown: &Shown,
-    costs: &Costs,
+    costs: &TiedCosts,
     set: &GapSet,
     runs: JsonArray,
 ) -> Result<Vec<u8>, AllocError>

@@ -3,6 +3,11 @@ use Rattle.fence_place.proofs.Vocabulary.{◌≡◌, ℕ, ◌*◌, ◌<◌, ◌�
 use Rattle.fence_place.proofs.Vocabulary.{Question, IsWithinLimits, Label, Certificate, shows_of, IsValidGap, undecided, Outcome, finished_state, IsOutcome, Facts, facts_of, AreSplitRuns, IsRecorded, IsProof, Machine, SequentialMachine}
 use Rattle.fence_place.proofs.Vocabulary.{StoreBufferMachine, no_gaps, IsTheAnswer, IsShownRun, IsSequentialOutcome, AreGapsOf, Cover, IsGapTo, gap_depth, IsJudged, IsRunOutside, IsValidCertificate, IsValidCertificateOf, AreSequentialRuns, Table, Foreign, IsSequentialTable, IsListOf}
 use Rattle.fence_place.proofs.Vocabulary.{IsServing, IsForeignValue, few_undecided, gaps_in as gaps_of_set}
+use Rattle.gap_sets.specs.Ties.{AreTies, IsAllowed, names_in, spread}
+use Rattle.gap_sets.proofs.Allowed.{spread_allowed}
+use Rattle.tso_machine.proofs.{BestAllowed.spread_of_program, TrueNames.names_again}
+use Rattle.tree_laws.specs.Certificates.{names_of}
+use Rattle.tso_program.specs.Listings.{gap_count}
 use Rattle.gap_sets.specs.declared.costs.TheConstants.{MAX_COST}
 use Rattle.tso_program.specs.declared.outcome.Outcome as machine
 use Rattle.cert_forest.specs.TreeConstants.{MAX_COVER_DEPTH, MAX_GAP_DEPTH}
@@ -23,8 +28,8 @@ pub record IsMade (t : Table) (o : Outcome) (c : Certificate) : Type 0 where
   pub whole : c.rule ≡ Whole
   pub same_shown : c.shown ≡ shows_of t.question.shown
   pub places : limits.AreShownPlaces c.shown
-  pub same_gaps : c.gaps ≡ o.served.gaps
-  pub cost : c.cost ≡ total o.costs c.gaps
+  pub same_gaps : c.gaps ≡ spread o.question.ties o.served.gaps
+  pub cost : c.cost ≡ total o.costs o.served.gaps
   pub seq_runs : c.seq_runs ≡ t.runs
   pub seq_tree : c.seq_tree ≡ t.tree
   pub fenced_tree : c.fenced_tree ≡ o.served.tree
@@ -38,7 +43,7 @@ tree_small : (q : Question) (mode : Machine) (outcomes : List machine.Outcome) (
 tree_small q mode outcomes tree is = let shallow = is.shallow in (omega arith, is.neat.numbers)
 
 module _ (t : Table) (o : Outcome) (c : Certificate) (table : IsSequentialTable t) (outcome : IsOutcome o) (serving : IsServing o.served) (low : c.cost ≤ MAX_GAPS * MAX_COST)
-    (same : t.question ≡ o.question) (of_served : o.served.question ≡ o.question) (answer : IsTheAnswer o.question o.costs o.served.gaps) (made : IsMade t o c) where
+    (same : t.question ≡ o.question) (of_served : o.served.question ≡ o.question) (answer : IsTheAnswer o.question o.costs o.served.gaps) (are : AreTies o.question.ties) (few_ties : length o.question.ties ≤ gap_count o.question.program.threads) (made : IsMade t o c) where
   facts : Facts (finished_state o)
   facts = facts_of (finished_state o) outcome.reached
 
@@ -69,24 +74,32 @@ module _ (t : Table) (o : Outcome) (c : Certificate) (table : IsSequentialTable 
       let here = serving.tree t.outcomes listed in
       subst (λ (x : Cover). IsWholeCover o.question (StoreBufferMachine (gaps_of_set o.question.program c.gaps)) t.outcomes x) (sym made.fenced_tree)
       (subst (λ (g : SetOfGaps). IsWholeCover o.question (StoreBufferMachine (gaps_of_set o.question.program g)) t.outcomes o.served.tree) (sym made.same_gaps)
-      (subst (λ (q : Question). IsWholeCover q (StoreBufferMachine (gaps_of_set q.program o.served.gaps)) t.outcomes o.served.tree) of_served here))
+      (subst (λ (q : Question). IsWholeCover q (StoreBufferMachine (gaps_of_set q.program (spread q.ties o.served.gaps))) t.outcomes o.served.tree) of_served here))
 
   gap_tree_fine : IsFine (finished_state o) facts o.served.gaps answer c.runs c.gap_tree all_sets
   gap_tree_fine = fine (finished_state o) facts o.served.gaps answer c.runs made.few_runs c.gap_tree 0 all_sets made.recorded facts.root
 
+  -- the gaps that the names stand for are the program's
+  of_program : AreGapsOf o.question.program c.gaps
+  of_program = subst (λ (g : SetOfGaps). AreGapsOf o.question.program g) (sym made.same_gaps) (spread_of_program o.question o.served.gaps few_ties answer.of_program)
+
+  -- their names are the names that were served
+  same_names : names_of o.question c ≡ o.served.gaps
+  same_names = ap (names_in o.question.ties) made.same_gaps ∙ names_again o.question o.costs o.served.gaps facts.within facts.have_costs.one_each facts.have_costs.positive are answer
+
   valid_of : IsValidCertificateOf o.question o.costs c
   valid_of = record {
     shown = made.same_shown ∙ ap (λ (q : Question). shows_of q.shown) same;
-    of_program = subst (λ (g : SetOfGaps). AreGapsOf o.question.program g) (sym made.same_gaps) answer.of_program;
+    right_set = record { of_program = of_program; allowed = subst (IsAllowed o.question.ties) (sym made.same_gaps) (spread_allowed o.question.ties o.served.gaps) };
     one_cost_each = facts.have_costs.one_each;
-    cost = made.cost;
+    cost = made.cost ∙ ap (total o.costs) (sym same_names);
     outcomes = t.outcomes;
     replayed = subst (λ (q : Question). AreSequentialRuns q c.seq_runs t.outcomes) same
         (subst (λ (r : List (List Label)). AreSequentialRuns t.question r t.outcomes) (sym made.seq_runs) table.runs);
     sequential = rw made.whole table_tree.valid;
     foreign = foreign;
     fenced = rw made.whole fenced_tree.valid;
-    least = subst (λ (g : SetOfGaps). IsValidGap o.question.program o.costs g c.runs c.gap_tree all_sets) (sym made.same_gaps) gap_tree_fine.valid;
+    least = subst (λ (g : SetOfGaps). IsValidGap o.question o.costs g c.runs c.gap_tree all_sets) (sym same_names) gap_tree_fine.valid;
   }
 
   is_valid : IsValidCertificate o.question o.costs c
@@ -105,7 +118,7 @@ module _ (t : Table) (o : Outcome) (c : Certificate) (table : IsSequentialTable 
   below : IsGapSet c.gaps
   below gap there =
       let few = facts.within.few_gaps in
-      let at = (subst (λ (g : SetOfGaps). AreGapsOf o.question.program g) (sym made.same_gaps) answer.of_program) gap there in
+      let at = of_program gap there in
       omega arith
 
   foreign_short : All limits.IsWrittenRun c.runs

@@ -15,10 +15,10 @@ as_many n (gap ∷ gaps) = let e = as_many (without_gap n gap) gaps in omega ari
 module _ (s : SearchState) (facts : Facts s) (answer : SetOfGaps) (is_answer : IsTheAnswer s.question s.costs answer) (runs : List (List Label)) where
   -- the gaps of a split are those that the run passes and that the sets may have
   split_by : (n : Region) (place first number : ℕ) (f : Foreign) → IsSplitAt s.question s.entries place n f first → slice_get runs number ≡ Some f.labels →
-      IsSplitBy s.question.program runs n number (open_gaps f.passed n.never)
+      IsSplitBy s.question runs n number (open_gaps f.passed n.never)
   split_by n place first number f at is =
       let small = small_set s.question facts.within f at.of_question at.foreign in
-      subst (λ (q : Question). IsSplitBy q.program runs n number (open_gaps f.passed n.never)) at.of_question (record {
+      subst (λ (q : Question). IsSplitBy q runs n number (open_gaps f.passed n.never)) at.of_question (record {
         labels = f.labels;
         is_run = is;
         passes_none = λ gap there passes. at.passes_none gap ((at.foreign.passed gap).1 passes) there;
@@ -30,7 +30,7 @@ module _ (s : SearchState) (facts : Facts s) (answer : SetOfGaps) (is_answer : I
       })
 
   abbrev Valid : Gap → Region → Type 0
-  Valid tree n = IsValidGap s.question.program s.costs answer runs tree n
+  Valid tree n = IsValidGap s.question s.costs answer runs tree n
 
   -- valid, no deeper than there are gaps to decide, and with numbers that a text can hold
   pub record IsFine (tree : Gap) (n : Region) : Type 0 where
@@ -39,7 +39,7 @@ module _ (s : SearchState) (facts : Facts s) (answer : SetOfGaps) (is_answer : I
     pub small_numbers : HasGapNumbers Whole tree
 
   record AreFine (depth : ℕ) (ts : GapTrees) (ns : List Region) : Type 0 where
-    valid : AreValidGaps s.question.program s.costs answer runs ts ns
+    valid : AreValidGaps s.question s.costs answer runs ts ns
     deep : gaps_depth ts ≤ depth
     as_many : count_gaps ts ≡ length ns
     small_numbers : HaveGapNumbers Whole ts
@@ -55,7 +55,7 @@ module _ (s : SearchState) (facts : Facts s) (answer : SetOfGaps) (is_answer : I
           let same : e ≡ has.here = same_Some e has.here (sym there ∙ has.there) in
           let is : e.node ≡ n = ap (λ (x : Entry). x.node) same ∙ has.is_node in
           subst (IsFine (Bound [])) is (record {
-            valid = (by_must s.question.program s.costs answer runs e.node).1 (bounded s.question s.costs e.node.must answer facts.within (facts.of_program place e there) is_answer (facts.closed place e there closed));
+            valid = (by_must s.question s.costs answer runs e.node).1 (bounded s.question s.costs e.node.must answer facts.within (facts.of_program place e there) is_answer (facts.closed place e there closed));
             deep = omega arith;
             small_numbers = refl;
           })

@@ -1,5 +1,6 @@
 -- A certificate that is valid and has each run once is a placement.
 use Rattle.fence_place.proofs.Vocabulary.{◌≡◌, ℕ, List, SetOfGaps, total, Certificate, IsValidCertificate, IsProof, AreDistinct, Question, Headline}
+use Rattle.tree_laws.specs.Certificates.{names_of}
 use Rattle.tree_laws.specs.Laws.{IsProved}
 use Rattle.tree_laws.proofs.RightClaims.{right_claim}
 use Rattle.search_core.specs.Answers.{the_answer, least_cost}
@@ -16,13 +17,14 @@ module _ (q : Question) (costs : List ℕ) (certificate : Certificate) (proof : 
   pub is_placement : Proves q costs → Determines q costs → IsPlacement q costs certificate
   is_placement proves determines =
       let proved = proves certificate proof.valid in
-      let told = determines certificate.gaps certificate.cost proved.headline (right_claim q costs certificate proof.valid).cost in
+      let told = determines (names_of q certificate) certificate.cost proved.headline (right_claim q costs certificate proof.valid).cost in
       record {
         headline = proved.headline;
         cost = (right_claim q costs certificate proof.valid).cost;
         best = told.0;
         least = told.1;
         answer = proved.answer;
+        allowed = proved.allowed;
         proof = proof;
         once = once;
       }

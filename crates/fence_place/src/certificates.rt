@@ -1,7 +1,9 @@
 //! The certificate of a search that is done.
-ghost use Rattle.std.specs.Prelude.{◌≡◌, ◌<◌, ◌+◌, ℕ, IfOk, OnOk, length};
+ghost use Rattle.std.specs.Prelude.{◌≡◌, ◌<◌, ◌≤◌, ◌+◌, ℕ, IfOk, OnOk, length};
+ghost use Rattle.tso_program.specs.Listings.{gap_count};
 ghost use Rattle.cert_forest.specs.Limits.{AreShownPlaces};
 ghost use Rattle.cert_forest.specs.Shows.{shows_of};
+ghost use Rattle.gap_sets.specs.Ties.{spread};
 ghost use Rattle.fence_place.specs.Recorded.{AreSplitRuns, AreDistinct, IsRecorded};
 ghost use Rattle.fence_place.specs.Proofs.{IsProof};
 ghost use Rattle.fence_place.specs.Internal.Recording.{AreNumbersOf, ListsEvent, IsNumbered, PushesRecorded, PushesRecords};
@@ -20,9 +22,10 @@ pub fn certify(
     table: &SeqTable,
     finished: &Finished,
 ) -> Result<Certificate, AllocError>
-    requires { table.now.question ≡ finished.now.question }
+    requires question { table.now.question ≡ finished.now.question }
+    requires ties { length table.now.question.ties ≤ gap_count table.now.question.program.threads }
     ensures rule { IfOk result (λ certificate. certificate.rule ≡ Rule.Whole) }
-    ensures set { IfOk result (λ certificate. certificate.gaps ≡ finished.now.served.gaps) }
+    ensures set { IfOk result (λ certificate. certificate.gaps ≡ spread finished.now.question.ties finished.now.served.gaps) }
     ensures sequential { IfOk result (λ certificate. (certificate.seq_runs ≡ table.now.runs) × (certificate.seq_tree ≡ table.now.tree)) }
     ensures fenced { IfOk result (λ certificate. certificate.fenced_tree ≡ finished.now.served.tree) }
     ensures runs { IfOk result (λ certificate. AreSplitRuns finished.now.entries certificate.runs) }
@@ -38,7 +41,9 @@ pub fn certify(
     let shows = Shows::of(shown);
     let (runs, numbers) = listed_runs(alloc, finished)?;
     let gap_tree = gap_tree(alloc, finished, &numbers)?;
-    let set = served.set();
+    let ties = &table.question().ties;
+    ties.recall_facts();
+    let set = ties.spread(&served.set());
     let seq_runs = table.shared_runs()?;
     // For the proof alone: there are no more runs than a number can count.
     let _ = runs.len();
@@ -47,7 +52,7 @@ pub fn certify(
         rule: Rule::Whole,
         shown: shows,
         set,
-        cost: finished.costs().total(&set),
+        cost: finished.costs().total(&served.set()),
         seq_runs,
         seq_tree: table.tree().copy()?,
         runs,

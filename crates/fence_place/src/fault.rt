@@ -11,7 +11,7 @@ pub enum PlaceFault {
     /// There are no workers, or more than `MAX_WORKERS`.
     #[error("the number of workers is not from 1 to 32")]
     Workers,
-    /// There isn't one cost for each gap.
+    /// There isn't one cost for each gap, or a tie reaches past the gaps.
     #[error("there is not one cost for each gap")]
     Costs,
     /// The oracle lacks a run, as it says that it may.

@@ -38,8 +38,8 @@ pub fn hunt_with<R: Threads + Wait + Sync, O: Oracle>(
     ensures costs { IfOk result (λ finished. finished.costs ≡ costs.now) }
     ensures answer { IfOk result (λ finished. IsTheAnswer table.now.question costs.now finished.served.gaps) }
     ensures workers { AreTooFewOrMany workers → result ≡ Err PlaceFault.Workers }
-    ensures lengths { ¬ AreTooFewOrMany workers → HasOtherLength table.now.question.program costs.now → result ≡ Err PlaceFault.Costs }
-    ensures fault { IfErr result (HuntFaultIs table.now.question.program costs.now workers (O.may_lack_runs oracle.now)) }
+    ensures lengths { ¬ AreTooFewOrMany workers → HasOtherLength table.now.question costs.now → result ≡ Err PlaceFault.Costs }
+    ensures fault { IfErr result (HuntFaultIs table.now.question costs.now workers (O.may_lack_runs oracle.now)) }
 {
     judge_arguments(table, costs, workers)?;
     let tree = SearchTree::new(alloc, table, costs, workers)?;

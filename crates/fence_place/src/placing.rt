@@ -1,9 +1,11 @@
 //! Placing fences.
-ghost use Rattle.std.specs.Prelude.{◌≡◌, false, IfOk, IfErr, Err, length};
+ghost use Rattle.std.specs.Prelude.{◌≡◌, ◌≤◌, false, IfOk, IfErr, Err, length};
 ghost use Rattle.tso_program.specs.Listings.{gap_count};
 ghost use Rattle.tso_machine.specs.Outcomes.{Headline, IsTheAnswer};
 ghost use Rattle.search_core.specs.Answers.{the_answer, least_cost};
 ghost use Rattle.gap_sets.specs.Order.{total};
+ghost use Rattle.gap_sets.specs.Ties.{IsAllowed};
+ghost use Rattle.tree_laws.specs.Certificates.{names_of};
 ghost use Rattle.fence_place.specs.Placements.{IsPlacement};
 ghost use Rattle.fence_place.specs.Proofs.{IsProof};
 ghost use Rattle.fence_place.specs.Recorded.{AreDistinct};
@@ -38,7 +40,7 @@ pub struct Oracles<'a, O, S> {
 /// Where it answers, the program with an MFENCE in each gap of the certificate's set has under x86-TSO exactly the source's
 /// sequentially consistent outcomes, as far as they are shown; with an MFENCE in each gap of any better set
 /// (cheaper, or as cheap and earlier in gap order) it leaves an outcome that no sequentially consistent run of
-/// the source has.
+/// the source has. Sets have of each tie of the table's question all gaps or none, and a tie costs once.
 /// This holds for every oracle that keeps its law, and for any number of workers.
 ///
 /// It hunts as [`crate::hunt_with`] does, by the first oracle. Where that lacks a run, or the record of the hunt doesn't
@@ -56,13 +58,16 @@ pub fn place<R: Threads + Wait + Sync, O: Oracle, S: Oracle>(
     requires again { S.question oracles.again.now ≡ table.now.question }
     requires again_may { S.may_be_asked oracles.again.now }
     requires again_has_runs { S.may_lack_runs oracles.again.now ≡ false }
-    ensures headline { IfOk result (λ certificate. Headline table.now.question costs.now certificate.gaps) }
-    ensures cost { IfOk result (λ certificate. certificate.cost ≡ total costs.now certificate.gaps) }
+    ensures headline { IfOk result (λ certificate. Headline table.now.question costs.now (names_of table.now.question certificate)) }
+    ensures cost { IfOk result (λ certificate. certificate.cost ≡ total costs.now (names_of table.now.question certificate)) }
 
     // There is always an answer, which a definition computes: the set is that one, at the least cost.
-    ensures best { IfOk result (λ certificate. certificate.gaps ≡ the_answer table.now.question costs.now) }
+    ensures best { IfOk result (λ certificate. names_of table.now.question certificate ≡ the_answer table.now.question costs.now) }
     ensures least { IfOk result (λ certificate. certificate.cost ≡ least_cost table.now.question costs.now) }
-    ensures answer { IfOk result (λ certificate. IsTheAnswer table.now.question costs.now certificate.gaps) }
+    ensures answer { IfOk result (λ certificate. IsTheAnswer table.now.question costs.now (names_of table.now.question certificate)) }
+
+    // The certificate's set has of each tie all gaps or none.
+    ensures allowed { IfOk result (λ certificate. IsAllowed table.now.question.ties certificate.gaps) }
 
     // The certificate proves it, and has each run once.
     ensures proof { IfOk result (IsProof table.now.question costs.now) }
@@ -70,8 +75,8 @@ pub fn place<R: Threads + Wait + Sync, O: Oracle, S: Oracle>(
 
     // It refuses what can't be asked, and nothing else but for memory.
     ensures workers { AreTooFewOrMany workers → result ≡ Err PlaceFault.Workers }
-    ensures costs { ¬ AreTooFewOrMany workers → HasOtherLength table.now.question.program costs.now → result ≡ Err PlaceFault.Costs }
-    ensures fault { IfErr result (PlaceFaultIs table.now.question.program costs.now workers) }
+    ensures costs { ¬ AreTooFewOrMany workers → HasOtherLength table.now.question costs.now → result ≡ Err PlaceFault.Costs }
+    ensures fault { IfErr result (PlaceFaultIs table.now.question costs.now workers) }
 {
     judge_arguments(table, costs, workers)?;
     let tree = SearchTree::new(alloc, table, costs, workers)?;
@@ -91,14 +96,14 @@ fn placement<S: Oracle>(
     requires may { S.may_be_asked again.now }
     requires has_runs { S.may_lack_runs again.now ≡ false }
     requires one_each { length costs.now ≡ gap_count table.now.question.program.threads }
+    requires ties { length table.now.question.ties ≤ gap_count table.now.question.program.threads }
     requires hunted { IfOk hunted (IsSearchFor table.now.question costs.now) }
     ensures { IfOk result (IsPlacement table.now.question costs.now) }
 {
     let finished = searched(alloc, again, table, costs, hunted)?;
     let certificate = certify(alloc, table, &finished)?;
     // For the proof alone: the certificate is valid, so its set is the answer.
-    let question = table.question();
-    certificate_proves_answer(&question.program, &question.shown, costs);
+    certificate_proves_answer(table.program(), costs);
     Ok(certificate)
 }
 

@@ -1,6 +1,6 @@
 //! Certificates that somebody proposes, read and judged as the checker does with any file.
 ghost use Rattle.std.specs.Prelude.{◌≡◌, ◌↔◌, IfOk, IfSome, IsTrue, Some};
-ghost use Rattle.tso_program.specs.Shown.{asked};
+ghost use Rattle.tso_program.specs.Shown.{asked_with};
 ghost use Rattle.cert_forest.specs.Certificates as specs;
 ghost use Rattle.cert_forest.specs.Limits.{IsCertificate};
 ghost use Rattle.tree_laws.specs.Certificates.{IsValidCertificate};
@@ -9,7 +9,7 @@ ghost use Rattle.fence_place.specs.Recorded.{AreDistinct};
 
 use cert_check::{CheckFault, certificate_proves_answer, check};
 use cert_forest::{CertFault, Certificate, Runs, read_cert};
-use gap_sets::Costs;
+use gap_sets::TiedCosts;
 use std::alloc::{AllocError, Global};
 use tso_program::{Program, Shown};
 
@@ -19,11 +19,11 @@ pub fn accepted_proposal(
     alloc: Global,
     program: &Program,
     shown: &Shown,
-    costs: &Costs,
+    costs: &TiedCosts,
     text: &[u8],
 ) -> Result<Option<Certificate>, AllocError>
-    ensures placed { IfOk result (λ found. IfSome found (IsPlacement (asked program.now shown.now) costs.now)) }
-    ensures exact { (c : specs.Certificate) → IsCertificate text.now c → IsValidCertificate (asked program.now shown.now) costs.now c → AreDistinct c.runs
+    ensures placed { IfOk result (λ found. IfSome found (IsPlacement (asked_with costs.now.ties program.now shown.now) costs.now.costs)) }
+    ensures exact { (c : specs.Certificate) → IsCertificate text.now c → IsValidCertificate (asked_with costs.now.ties program.now shown.now) costs.now.costs c → AreDistinct c.runs
         → IfOk result (λ found. found ≡ Some c) }
 {
     let certificate = match read_cert(alloc, text) {
@@ -37,7 +37,7 @@ pub fn accepted_proposal(
         Err(_) => return Ok(None),
     }
     // For the proof alone: the certificate is valid, so its set is the answer.
-    certificate_proves_answer(program, shown, costs);
+    certificate_proves_answer(program, &costs.costs);
     if are_distinct(alloc, &certificate.runs)? {
         Ok(Some(certificate))
     } else {

@@ -6,7 +6,7 @@ pub use Rattle.program_streams.proofs.Printed.{prints_line, prints_made, prints_
 pub use Rattle.program_streams.specs.FileLines.{file_line}
 pub use Rattle.program_streams.specs.Streams.{AppendsRest, HoldsBytes, IsReadFault, ReadsOn, TakesBytes, TakesUpTo}
 pub use Rattle.program_streams.specs.Versions.{asks_version, version_line}
-pub use Rattle.tso_program.specs.Shown.{asked}
+pub use Rattle.tso_program.specs.Shown.{asked, asked_with}
 pub use Rattle.fencecheck.specs.Inputs.{AreJoined, ArePartsOf, BeginsLine, IsCertificateStart, IsTooLongInput, ReadsEnough, ReadsForVerdict, StartsAt}
 pub use Rattle.fencecheck.specs.Internal.Names.{file_names_of}
 pub use Rattle.fencecheck.specs.Replies.{IsCheckOutput, IsFilesFault, IsReplyToFiles, IsUsage, IsVerdictOnInput, judged, misused, no_certificate, no_costs, no_file, no_input, usage_text, version}

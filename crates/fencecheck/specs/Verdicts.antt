@@ -2,10 +2,11 @@
 use Rattle.std.specs.Prelude.{◌≡◌, ◌⊎◌, ℕ, List, Option}
 use Rattle.gap_sets.specs.Gaps.{SetOfGaps}
 use Rattle.gap_sets.specs.Order.{total}
+use Rattle.gap_sets.specs.Ties.{names_in}
+use Rattle.gap_sets.specs.declared.ties.TiedCosts.{TiedCosts}
 use Rattle.tso_program.specs.declared.listing.Listing.{Listing}
 use Rattle.tso_program.specs.declared.shown.Shown.{Shown, TheVariants.All, TheVariants.Truth}
-use Rattle.tso_program.specs.Shown.{asked}
-use Rattle.report.specs.Outcomes.{Headline}
+use Rattle.tso_program.specs.Shown.{asked_with}
 use Rattle.litmus_reader.specs.Shown.{shown_by}
 use Rattle.litmus_reader.specs.declared.litmus.Litmus.{Litmus}
 use Rattle.litmus_reader.specs.Texts as litmus_texts
@@ -20,6 +21,7 @@ use Rattle.cert_forest.specs.Exact.{HasMore}
 use Rattle.cost_text.specs.GivenCosts.{AreGiven, AreNotGiven}
 use Rattle.cert_check.specs.Certificates.{IsValidCertificate}
 use Rattle.cert_check.specs.Faults.{CheckFaultIs}
+use Rattle.cert_check.specs.Headlines.{HeadlineOfAllowed}
 use Rattle.report.specs.Answers.{accepted_line}
 use Rattle.report.specs.CertificateLines.{certificate_line}
 use Rattle.report.specs.CheckLines.{check_line}
@@ -39,18 +41,19 @@ handed_in litmus shows.All = All
 handed_in litmus (shows.Only names) = shown_by litmus.condition.formula litmus.observed
 handed_in litmus shows.Condition = Truth litmus.condition.formula
 
--- What a line says that is relied on: the litmus text stands for this program, its gaps have these costs, the headline holds of
--- these gaps, as far as outcomes are shown, and the line is made of them and of their total.
+-- What a line says that is relied on: the litmus text stands for this program, its gaps have these costs and ties, the headline holds of
+-- these gaps, among sets that have of each tie all or none, as far as outcomes are shown, and the line is made of them and of their total, where a
+-- tie costs once.
 pub record Tells (litmus : List ℕ) (costs : Option (List ℕ)) (line : List ℕ) : Type 0 where
   pub program : Litmus Listing
   pub of_text : litmus_texts.IsLitmus litmus program
-  pub gap_costs : List ℕ
+  pub gap_costs : TiedCosts
   pub given : AreGiven program.program costs gap_costs
   pub shown : Shown
   pub as_asked : handed_in program (shows_of shown) ≡ shown
   pub gaps : SetOfGaps
-  pub headline : Headline (asked program.program shown) gap_costs gaps
-  pub printed : line ≡ accepted_line program.program shown gaps (total gap_costs gaps)
+  pub headline : HeadlineOfAllowed (asked_with gap_costs.ties program.program shown) gap_costs.costs gaps
+  pub printed : line ≡ accepted_line program.program shown gaps (total gap_costs.costs (names_in gap_costs.ties gaps))
 
 -- The line accepts: it says that, and the certificate's text is that of a certificate which claims these gaps and is valid.
 pub record IsAccepted (litmus certificate : List ℕ) (costs : Option (List ℕ)) (line : List ℕ) : Type 0 where
@@ -58,7 +61,7 @@ pub record IsAccepted (litmus certificate : List ℕ) (costs : Option (List ℕ)
   pub claimed : Certificate
   pub of_certificate : IsCertificate certificate claimed
   pub claims : claimed.gaps ≡ told.gaps
-  pub valid : IsValidCertificate (asked told.program.program told.shown) told.gap_costs claimed
+  pub valid : IsValidCertificate (asked_with told.gap_costs.ties told.program.program told.shown) told.gap_costs.costs claimed
 
 -- why bytes are not a certificate's text: what the fault says of them, and that no certificate has this text, out of memory aside
 pub record IsNoCertificate (text : List ℕ) (fault : CertFault) : Type 0 where
@@ -75,8 +78,8 @@ IsRefused litmus certificate costs (rejection.Certificate fault) =
 IsRefused litmus certificate costs (rejection.Costs fault) =
     (program : Litmus Listing) × (claimed : Certificate) × Spell litmus certificate program claimed × AreNotGiven program.program costs fault
 IsRefused litmus certificate costs (rejection.Check fault) =
-    (program : Litmus Listing) × (claimed : Certificate) × (gap_costs : List ℕ) × Spell litmus certificate program claimed
-    × AreGiven program.program costs gap_costs × CheckFaultIs (asked program.program (handed_in program claimed.shown)) gap_costs claimed fault
+    (program : Litmus Listing) × (claimed : Certificate) × (gap_costs : TiedCosts) × Spell litmus certificate program claimed
+    × AreGiven program.program costs gap_costs × CheckFaultIs (asked_with gap_costs.ties program.program (handed_in program claimed.shown)) gap_costs.costs claimed fault
 
 -- the line of a refusal
 abbrev pub refusal_line : Rejection → List ℕ

@@ -2,18 +2,19 @@
 
 ghost use Rattle.std.specs.Prelude.{◌≡◌, ℕ, List, IfOk, IfErr, OnOk, option_map};
 ghost use Rattle.gap_sets.specs.Order.{total};
-ghost use Rattle.tso_program.specs.Shown.{asked};
-ghost use Rattle.report.specs.Outcomes.{Headline};
+ghost use Rattle.gap_sets.specs.Ties.{names_in};
+ghost use Rattle.tso_program.specs.Shown.{asked_with};
 ghost use Rattle.litmus_reader.specs.Texts.{IsLitmus};
 ghost use Rattle.cert_check.specs.Certificates.{IsValidCertificate};
 ghost use Rattle.cert_check.specs.Faults.{CheckFaultIs};
+ghost use Rattle.cert_check.specs.Headlines.{HeadlineOfAllowed};
 ghost use Rattle.report.specs.Answers.{accepted_line};
 ghost use Rattle.fencecheck.specs.Verdicts.{handed_in, IsAccepted, IsRefused, refusal_line, Spell};
 
 use cert_check::{CheckFault, check};
 use cert_forest::{CertFault, Certificate, Shows, read_cert};
 use cost_text::{CostTextFault, given_costs};
-use gap_sets::Costs;
+use gap_sets::TiedCosts;
 use litmus_reader::{Litmus, ReadFault, read_litmus};
 use report::{accepted_line, certificate_line, check_line, costs_line, litmus_line};
 use std::alloc::{AllocError, Global};
@@ -61,13 +62,13 @@ fn checked_line(
     alloc: Global,
     program: &Program,
     shown: &Shown,
-    costs: &Costs,
+    costs: &TiedCosts,
     certificate: &Certificate,
 ) -> Result<Vec<u8>, CheckFault>
-    ensures headline { OnOk result (Headline (asked program.now shown.now) costs.now certificate.now.gaps) }
-    ensures valid { OnOk result (IsValidCertificate (asked program.now shown.now) costs.now certificate.now) }
-    ensures line { IfOk result (λ line. line.items ≡ accepted_line program.now shown.now certificate.now.gaps (total costs.now certificate.now.gaps)) }
-    ensures refused { IfErr result (CheckFaultIs (asked program.now shown.now) costs.now certificate.now) }
+    ensures headline { OnOk result (HeadlineOfAllowed (asked_with costs.now.ties program.now shown.now) costs.now.costs certificate.now.gaps) }
+    ensures valid { OnOk result (IsValidCertificate (asked_with costs.now.ties program.now shown.now) costs.now.costs certificate.now) }
+    ensures line { IfOk result (λ line. line.items ≡ accepted_line program.now shown.now certificate.now.gaps (total costs.now.costs (names_in costs.now.ties certificate.now.gaps))) }
+    ensures refused { IfErr result (CheckFaultIs (asked_with costs.now.ties program.now shown.now) costs.now.costs certificate.now) }
 {
     let accepted = check(alloc, program, shown, costs, certificate)?;
     match accepted_line(alloc, program, shown, accepted.set, accepted.cost) {

@@ -4,18 +4,22 @@ ghost use Rattle.std.specs.Prelude.{◌≡◌, false, IfErr, IfOk, length, optio
 ghost use Rattle.program_streams.specs.Streams.{Prints};
 ghost use Rattle.tso_program.specs.Listings.{gap_count};
 ghost use Rattle.litmus_text.specs.Texts.{IsLitmus};
+ghost use Rattle.litmus_text.specs.CostTexts.{IsCostText};
+ghost use Rattle.litmus_text.specs.GivenCosts.{AreGiven};
+ghost use Rattle.gap_list.specs.CostFiles.{as_read, cost_file_text};
 ghost use Rattle.program_streams.specs.Files.{ReadsOfInput};
 ghost use Rattle.documents.specs.Documents.{IsGapsDocument};
-ghost use Rattle.fencer.specs.GapTexts.{AreGaps, AreGapsOfTexts, HasNoGaps, IsGapText, PrintsGaps, TellsGaps, costs_shown};
+ghost use Rattle.fencer.specs.GapTexts.{AreGaps, AreGapsOfTexts, HasNoGaps, IsGapText, IsTiedFile, Listed, PrintsGaps, TellsGaps, costs_shown, form_of};
 
 use crate::advice::{text_fault_advice, unread_advice};
 use crate::place::text_fault_line;
 use crate::refused::tell_refusal;
 use crate::texts::{Texts, read_texts};
+use crate::tied::tell_ties;
 use documents::{LinedLitmus, gaps_document};
-use fencer_words::GapQuery;
-use gap_list::{TextLines, cost_file, gap_list};
-use gap_sets::Costs;
+use fencer_words::{GapQuery, TieQuery};
+use gap_list::{SharedCode, TextLines, cost_file, gap_list, likely_ties};
+use gap_sets::TiedCosts;
 use litmus_text::Litmus;
 use placed_text::{TextFault, read_gap_costs, read_program};
 use program_streams::{Console, FileStore, TEXT_LIMIT, file_line, print};
@@ -24,7 +28,7 @@ use std::io::Read;
 use tso_program::Program;
 
 /// The costs, where a text of them is given.
-fn costs_shown<'a>(text: Option<&[u8]>, costs: &'a Costs) -> Option<&'a Costs>
+fn costs_shown<'a>(text: Option<&[u8]>, costs: &'a TiedCosts) -> Option<&'a TiedCosts>
     ensures { option_map (λ costs. costs.now) result ≡ costs_shown (option_map (λ text. text.now) text.entry) costs.now }
 {
     match text {
@@ -38,28 +42,62 @@ fn listed_gaps(
     alloc: Global,
     texts: &Texts,
     source: &Litmus<Program>,
-    costs: &Costs,
+    costs: &TiedCosts,
 ) -> Result<Vec<u8>, AllocError>
-    ensures { IfOk result (λ lines. IsGapText false source.now (option_map (λ text. text.items) texts.now.costs) costs.now lines.items) }
+    ensures { IfOk result (λ lines. IsGapText Listed source.now (option_map (λ text. text.items) texts.now.costs) costs.now lines.items) }
 {
     let lines = TextLines::of_text(alloc, &texts.litmus)?;
     let shown = costs_shown(texts.costs.as_deref(), costs);
     gap_list(alloc, &lines, source, shown)
 }
 
+/// The cost file of the gaps, of which those go together that likely are one line of the source.
+fn tied_file(
+    alloc: Global,
+    ties: &TieQuery,
+    source: &Litmus<Program>,
+    costs: &TiedCosts,
+) -> Result<Vec<u8>, AllocError>
+    requires { length costs.now.costs ≡ gap_count source.now.program.threads }
+    ensures { IfOk result (λ lines. IsTiedFile source.now lines.items) }
+{
+    let shared = SharedCode {
+        same: ties.same.as_deref(),
+        tries: ties.tries,
+    };
+    let tied = likely_ties(alloc, &source.program, &costs.costs, shared)?;
+    cost_file(alloc, &source.program, &tied)
+}
+
+/// The cost file of all gaps, which is read as these costs.
+fn template_file(
+    alloc: Global,
+    source: &Litmus<Program>,
+    costs: &TiedCosts,
+) -> Result<Vec<u8>, AllocError>
+    requires one_each { length costs.now.costs ≡ gap_count source.now.program.threads }
+    requires read { as_read (gap_count source.now.program.threads) costs.now ≡ costs.now }
+    ensures text { IfOk result (λ lines. lines.items ≡ cost_file_text source.now.program.threads costs.now) }
+    ensures read { IfOk result (λ lines. IsCostText lines.items source.now.program.threads costs.now) }
+{
+    cost_file(alloc, &source.program, costs)
+}
+
 /// The list of the gaps, with their costs where a text of them is given, or the cost file of all of them.
 fn written_gaps(
     alloc: Global,
-    template: bool,
+    asked: &GapQuery,
     texts: &Texts,
     source: &Litmus<Program>,
-    costs: &Costs,
+    costs: &TiedCosts,
 ) -> Result<Vec<u8>, AllocError>
-    requires { length costs.now ≡ gap_count source.now.program.threads }
-    ensures { IfOk result (λ lines. IsGapText template source.now (option_map (λ text. text.items) texts.now.costs) costs.now lines.items) }
+    requires { AreGiven source.now.program (option_map (λ text. text.items) texts.now.costs) costs.now }
+    ensures { IfOk result (λ lines. IsGapText (form_of asked.now) source.now (option_map (λ text. text.items) texts.now.costs) costs.now lines.items) }
 {
-    if template {
-        cost_file(alloc, &source.program, costs)
+    if let Some(ties) = &asked.ties {
+        tied_file(alloc, ties, source, costs)
+    } else if asked.template {
+        template_file(alloc, source, costs)
     } else {
         listed_gaps(alloc, texts, source, costs)
     }
@@ -70,7 +108,7 @@ fn document_of_gaps(
     alloc: Global,
     texts: &Texts,
     litmus: &Litmus<Program>,
-    costs: &Costs,
+    costs: &TiedCosts,
 ) -> Result<Vec<u8>, AllocError>
     ensures { IfOk result (λ document. IsGapsDocument litmus.now costs.now document.items) }
 {
@@ -88,15 +126,15 @@ fn told_gaps(
     asked: &GapQuery,
     texts: &Texts,
     source: &Litmus<Program>,
-    costs: &Costs,
+    costs: &TiedCosts,
 ) -> Result<Vec<u8>, AllocError>
-    requires { length costs.now ≡ gap_count source.now.program.threads }
-    ensures { IfOk result (λ lines. TellsGaps asked.now.json asked.now.template source.now (option_map (λ text. text.items) texts.now.costs) costs.now lines.items) }
+    requires { AreGiven source.now.program (option_map (λ text. text.items) texts.now.costs) costs.now }
+    ensures { IfOk result (λ lines. TellsGaps asked.now.json (form_of asked.now) source.now (option_map (λ text. text.items) texts.now.costs) costs.now lines.items) }
 {
     if asked.json {
         document_of_gaps(alloc, texts, source, costs)
     } else {
-        written_gaps(alloc, asked.template, texts, source, costs)
+        written_gaps(alloc, asked, texts, source, costs)
     }
 }
 
@@ -127,12 +165,30 @@ fn gap_lines(alloc: Global, asked: &GapQuery, texts: &Texts) -> Result<Vec<u8>, 
     lines_of_program(alloc, asked, texts, &source)
 }
 
+/// Tells in which lines the gaps of a printed cost file stand, where gaps are to go together.
+fn tell_asked_ties<W: Console>(
+    alloc: Global,
+    asked: &GapQuery,
+    texts: &Texts,
+    file: &[u8],
+    output: &mut W,
+)
+    ensures { W.contents output.new ≡ W.contents output.old }
+{
+    if asked.ties.is_some() {
+        tell_ties(alloc, &texts.litmus, Some(file), None, output);
+    }
+}
+
 /// Judges texts, prints what is asked of their gaps, and returns the status.
 fn gaps_of_texts<W: Console>(alloc: Global, asked: &GapQuery, texts: &Texts, output: &mut W) -> u8
     ensures { Prints (AreGapsOfTexts asked.now texts.now.litmus.items (option_map (λ text. text.items) texts.now.costs)) (W.contents output.old) (W.contents output.new) result }
 {
     match gap_lines(alloc, asked, texts) {
-        Ok(lines) => print(output, Ok(lines), 0),
+        Ok(lines) => {
+            tell_asked_ties(alloc, asked, texts, &lines, output);
+            print(output, Ok(lines), 0)
+        }
         Err(fault) => {
             let named = (asked.litmus.as_str(), asked.costs.as_deref());
             let message = text_fault_advice(alloc, named, texts, fault);

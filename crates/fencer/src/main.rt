@@ -23,6 +23,7 @@ mod replays;
 mod status;
 mod surveys;
 mod texts;
+mod tied;
 mod traces;
 mod whys;
 mod witnesses;

@@ -17,6 +17,7 @@ use crate::inserted::{Placed, inserted_for, keep_inserted, unkept_line};
 use crate::refused::tell_refusal;
 use crate::status::check_status;
 use crate::texts::{Texts, read_texts};
+use crate::tied::tell_ties;
 use fencer_words::Placement;
 use paged_text::Pages;
 use placed_text::{AnswerText, Effort, TextFault, answer_text, place_text};
@@ -188,7 +189,11 @@ fn place_texts<T: Threads + Wait + Sync, S: WritableFileStore, W: Console>(
 {
     let progress = output.progress();
     match answer_of(rt, alloc, asked, texts, progress) {
-        Ok(placed) => deliver_placed(alloc, files, asked, texts, placed, output),
+        Ok(placed) => {
+            let costs = texts.costs.as_deref();
+            tell_ties(alloc, &texts.litmus, costs, Some(&placed.gaps), output);
+            deliver_placed(alloc, files, asked, texts, placed, output)
+        }
         Err(fault) => {
             let named = (asked.litmus.as_str(), asked.costs.as_deref());
             let message = text_fault_advice(alloc, named, texts, fault);

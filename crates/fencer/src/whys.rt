@@ -14,7 +14,9 @@ use crate::documented::documented;
 use crate::place::text_fault_line;
 use crate::refused::tell_refusal;
 use crate::texts::{Texts, read_texts};
+use crate::tied::tell_ties;
 use fencer_words::{Placement, WhyQuery};
+use gap_sets::GapSet;
 use placed_text::{Effort, TextFault, WhyText, why_text};
 use program_streams::{Console, Progress, TEXT_LIMIT, WritableFileStore, file_line};
 use std::alloc::Global;
@@ -22,15 +24,15 @@ use std::io::Read;
 use std::sync::Wait;
 use std::thread::Threads;
 
-/// What is delivered of the reasons why the fences of an answer are needed.
+/// What is delivered of the reasons why the fences of an answer are needed, and in which gaps these are.
 fn explained<T: Threads + Wait + Sync>(
     rt: &T,
     alloc: Global,
     asked: &WhyQuery,
     texts: &Texts,
     progress: Progress,
-) -> Result<Answer, TextFault>
-    ensures told { IfOk result (Explains asked.now texts.now.litmus.items (option_map (λ text. text.items) texts.now.costs)) }
+) -> Result<(Answer, GapSet), TextFault>
+    ensures told { IfOk result (λ found. Explains asked.now texts.now.litmus.items (option_map (λ text. text.items) texts.now.costs) found.0) }
     ensures fault { IfErr result (HasNoPlacedText texts.now.litmus.items (option_map (λ text. text.items) texts.now.costs) asked.now.placement.workers) }
 {
     let Placement {
@@ -51,9 +53,10 @@ fn explained<T: Threads + Wait + Sync>(
         lines,
         graph,
         document,
+        gaps,
     } = reasons;
     match documented(alloc, *json, asked.page.as_deref(), lines, document, graph) {
-        Ok(answer) => Ok(answer),
+        Ok(answer) => Ok((answer, gaps)),
         Err(_) => Err(TextFault::OutOfMemory),
     }
 }
@@ -74,7 +77,16 @@ fn explain_texts<T: Threads + Wait + Sync, S: WritableFileStore, W: Console>(
     let graphs = asked.graphs.as_deref();
     let progress = output.progress();
     match explained(rt, alloc, asked, texts, progress) {
-        Ok(answer) => deliver(alloc, files, page, graphs, answer, output),
+        Ok((answer, gaps)) => {
+            tell_ties(
+                alloc,
+                &texts.litmus,
+                texts.costs.as_deref(),
+                Some(&gaps),
+                output,
+            );
+            deliver(alloc, files, page, graphs, answer, output)
+        }
         Err(fault) => {
             let Placement { litmus, costs, .. } = &asked.placement;
             let named = (litmus.as_str(), costs.as_deref());

@@ -2,4 +2,5 @@
 mod Vocabulary
 pub mod Rules
 pub mod PlaceTexts
+pub mod ThreadTexts
 pub mod Faultless

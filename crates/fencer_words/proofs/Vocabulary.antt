@@ -20,4 +20,4 @@ pub use Rattle.fencer_words.specs.CommandLines.{AreChoices, IsNoCommand, NameLis
 pub use Rattle.fencer_words.specs.CommandLines.{name_of_form, named_rule, with_form, with_parameter}
 pub use Rattle.fencer_words.specs.Commands.{IsBuiltAs, IsJobMet, MeetsNoJob}
 pub use Rattle.fencer_words.specs.declared.parameter.ChoiceNames.{ChoiceNames}
-pub use Rattle.fencer_words.specs.Places.{ArePlaceTexts, IsPlaceText, Place, is_same_place, place_numbers}
+pub use Rattle.fencer_words.specs.Places.{ArePlaceTexts, AreThreadTexts, IsPlaceText, Place, is_same_place, place_numbers}

@@ -1,6 +1,6 @@
 -- What command lines ask for. `clap` reads them: its `subcommand_of` gives the subcommand that words name, with the rows
 -- of its values.
-use Rattle.std.specs.Prelude.{◌≡◌, ◌≢◌, ◌⊎◌, ℕ, ◌≤◌, Bool, true, false, List, [], ◌∷◌, Option, Some, None, Contains, codes, is_some, map, not, option_map, string_bytes, unwrap_or, fold, if◌then◌else◌, ◌&&◌}
+use Rattle.std.specs.Prelude.{◌≡◌, ◌≢◌, ◌⊎◌, ℕ, ◌≤◌, Bool, true, false, List, [], ◌∷◌, Option, Some, None, Contains, codes, is_some, map, not, option_map, string_bytes, unwrap_or, fold, if◌then◌else◌, ◌&&◌, ◌||◌}
 use Rattle.std.specs.Option.{option_map_or}
 use Rattle.std.specs.Str.{IsUtf8, bytes_eq}
 use Rattle.std.specs.Str.Parse.{digits_value, without_leading_plus}
@@ -18,9 +18,10 @@ use Rattle.fencer_words.specs.declared.form.Form.{Form}
 use Rattle.fencer_words.specs.declared.form.Form.TheVariants as form
 use Rattle.fencer_words.specs.declared.parameter.ChoiceNames.{ChoiceNames}
 use Rattle.fencer_words.specs.declared.parameter.Parameter.{Parameter}
-use Rattle.fencer_words.specs.declared.parameter.Parameter.TheVariants.{Certificate, CheckAnswer, CheckList, CheckRun, Condition, Costs, Fences, Graph, Graphs, Insert, Json, Labels, Litmus, LitmusFiles, Model, Not, Observed, Output, Page, Progress, Runs, Template, Trees, Workers}
+use Rattle.fencer_words.specs.declared.parameter.Parameter.TheVariants.{Certificate, CheckAnswer, CheckList, CheckRun, Condition, Costs, Fences, Graph, Graphs, Insert, Json, Labels, Litmus, LitmusFiles, Model, Not, Observed, Output, Page, Progress, Runs, Same, Template, Ties, Trees, Tries, Workers}
 use Rattle.fencer_words.specs.declared.job.Job.{Job, TheVariants.Replay, TheVariants.Trace, TheVariants.Outcomes, TheVariants.Place, TheVariants.Why, TheVariants.Gaps, TheVariants.Witness, TheVariants.Survey}
 use Rattle.fencer_words.specs.declared.job.Run.{Run}
+use Rattle.fencer_words.specs.declared.job.TieQuery.{TieQuery}
 use Rattle.fencer_words.specs.CommandFiles.{files_of, has_clash}
 use Rattle.fencer_words.specs.Places as places
 use Rattle.tso_program.specs.declared.limits.TheConstants.{MAX_WORKERS}
@@ -114,8 +115,11 @@ rule_of_parameter names Output = value_rule (codes "output")
 rule_of_parameter names Page = value_rule (codes "html")
 rule_of_parameter names Progress = flag_rule (codes "progress")
 rule_of_parameter names Runs = flag_rule (codes "runs")
+rule_of_parameter names Same = value_rule (codes "same")
 rule_of_parameter names Template = flag_rule (codes "template")
+rule_of_parameter names Ties = flag_rule (codes "ties")
 rule_of_parameter names Trees = trees_rule names.trees
+rule_of_parameter names Tries = flag_rule (codes "tries")
 rule_of_parameter names Workers = workers_rule
 
 -- ---- commands
@@ -142,7 +146,7 @@ parameters_of form.Outcomes = Model ∷ Fences ∷ Workers ∷ Runs ∷ Observed
 parameters_of form.Place = Costs ∷ Workers ∷ Trees ∷ Certificate ∷ Output ∷ Insert ∷ Observed ∷ Condition ∷ CheckAnswer ∷ Json ∷ Progress ∷ Litmus ∷ []
 parameters_of form.Trace = Model ∷ Graph ∷ Page ∷ Json ∷ Litmus ∷ Labels ∷ []
 parameters_of form.Why = Costs ∷ Workers ∷ Graphs ∷ Page ∷ Observed ∷ Condition ∷ Json ∷ Progress ∷ Litmus ∷ []
-parameters_of form.Gaps = Costs ∷ Template ∷ Json ∷ Litmus ∷ []
+parameters_of form.Gaps = Costs ∷ Template ∷ Ties ∷ Same ∷ Tries ∷ Json ∷ Litmus ∷ []
 parameters_of form.Witness = Model ∷ Not ∷ Fences ∷ Graph ∷ Page ∷ CheckRun ∷ Json ∷ Litmus ∷ []
 parameters_of form.Survey = Workers ∷ LitmusFiles ∷ []
 
@@ -212,10 +216,25 @@ fences_in_vain rows = has_value (codes "model") (codes "sequential") rows && is_
 abbrev pub LacksPlaces : List Row → Type 0
 LacksPlaces rows = (text : Text) × (first_of (codes "fences") rows ≡ Some text) × places.ListsNoPlaces text
 
--- the rows of a command that asks for nothing: for two comparisons of outcomes, for fences of the sequential machine, or for fences
--- at no places
+-- `--same` has a value that lists no threads
+abbrev pub LacksThreads : List Row → Type 0
+LacksThreads rows = (text : Text) × (first_of (codes "same") rows ≡ Some text) × places.ListsNoThreads text
+
+-- the rows of a command that asks for nothing: for two comparisons of outcomes, for fences of the sequential machine, for fences
+-- at no places, or for the code of no threads
 abbrev pub AsksForNothing : List Row → Type 0
-AsksForNothing rows = (asks_twice rows ≡ true) ⊎ (fences_in_vain rows ≡ true) ⊎ LacksPlaces rows
+AsksForNothing rows = (asks_twice rows ≡ true) ⊎ (fences_in_vain rows ≡ true) ⊎ (LacksPlaces rows ⊎ LacksThreads rows)
+
+-- gaps are to go together
+abbrev pub asks_ties : List Row → Bool
+asks_ties rows = is_flagged (codes "ties") rows || is_flagged (codes "tries") rows || is_some (first_of (codes "same") rows)
+
+-- which gaps are to go together, if any are: those of the threads that are named, or of those that are alike
+abbrev pub AreTiesAsked : List Row → Option TieQuery → Type 0
+AreTiesAsked rows None = asks_ties rows ≡ false
+AreTiesAsked rows (Some ties) =
+    (asks_ties rows ≡ true) × places.AreGivenThreads (first_of (codes "same") rows) (option_map (λ threads. threads.items) ties.same)
+    × (ties.tries ≡ is_flagged (codes "tries") rows)
 
 -- how many workers a text asks for, from 1 to the most; `clap` refuses a text that is no such number
 pub record AreWorkers (text : Text) (workers : ℕ) : Type 0 where
@@ -284,6 +303,7 @@ IsJobOf name rows (Gaps asked) =
     × (option_map string_bytes asked.costs ≡ first_of (codes "costs") rows)
     × (asked.template ≡ is_flagged (codes "template") rows)
     × (asked.json ≡ is_flagged (codes "json") rows)
+    × AreTiesAsked rows asked.ties
     × (string_bytes asked.litmus ≡ text_in (codes "litmus") rows)
 IsJobOf name rows (Witness asked) =
     (name ≡ codes "witness")
@@ -319,8 +339,8 @@ pub record AsksFor (words : List Text) (job : Job) : Type 0 where
   pub apart : has_clash (files_of job) ≡ false
 
 -- The arguments are no command: one of them is no UTF-8; `clap` finds a fault in them, as which it takes a call for help; they ask
--- for two comparisons of outcomes, for fences of the sequential machine, or for fences at what are no places; or they name a job
--- that writes a file which it reads, or a file twice.
+-- for two comparisons of outcomes, for fences of the sequential machine, for fences at what are no places, or for threads by what are
+-- no numbers; or they name a job that writes a file which it reads, or a file twice.
 pub data IsNoCommand (words : List Text) : Type 0 where
   no_utf8 : (word : Text) → Contains words word → (IsUtf8 word → ⊥) → IsNoCommand words
   faulty : (choices : ChoiceNames) → AreChoices choices → fault_of (fencer_app choices) words ≢ [] → IsNoCommand words

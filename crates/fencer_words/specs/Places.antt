@@ -1,5 +1,5 @@
--- The places of gaps, as the value of `--fences` lists them.
-use Rattle.std.specs.Prelude.{◌≡◌, ◌==◌, ◌≤◌, ◌&&◌, ℕ, Bool, List, [], ◌∷◌, Option, Some, None}
+-- The places of gaps, as the value of `--fences` lists them, and the threads of `--same`.
+use Rattle.std.specs.Prelude.{◌≡◌, ◌==◌, ◌≤◌, ◌&&◌, ℕ, Bool, List, [], ◌∷◌, Option, Some, None, All, map}
 use Rattle.std.specs.List.{IsDistinct, slice_split}
 use Rattle.std.specs.Fmt.{decimal}
 use Rattle.clap.specs.Words.{Text}
@@ -42,6 +42,26 @@ pub record ListsPlaces (text : Text) (places : List Place) : Type 0 where
 abbrev pub AreGivenPlaces : Option Text → List Place → Type 0
 AreGivenPlaces None places = places ≡ []
 AreGivenPlaces (Some text) places = ListsPlaces text places
+
+-- the texts are those of the threads' numbers
+pub record AreThreadTexts (texts : List Text) (threads : List ℕ) : Type 0 where
+  pub spelled : texts ≡ map decimal threads
+  pub small : All (λ thread. thread ≤ 255) threads
+
+-- the text lists the numbers of threads, with commas between them
+abbrev pub ListsThreads : Text → List ℕ → Type 0
+ListsThreads text threads = AreThreadTexts (pieces 44 text) threads
+
+-- the threads of a text, where there is one
+abbrev pub AreGivenThreads : Option Text → Option (List ℕ) → Type 0
+AreGivenThreads None None = Unit {0}
+AreGivenThreads None (Some threads) = ⊥
+AreGivenThreads (Some text) None = ⊥
+AreGivenThreads (Some text) (Some threads) = ListsThreads text threads
+
+-- the text lists no threads
+abbrev pub ListsNoThreads : Text → Type 0
+ListsNoThreads text = (threads : List ℕ) → ListsThreads text threads → ⊥
 
 -- the text lists no places
 abbrev pub ListsNoPlaces : Text → Type 0

@@ -1,11 +1,11 @@
-//! The value of `--fences`.
+//! The values of `--fences` and of `--same`.
 
 ghost use Rattle.std.specs.Prelude.{◌≡◌, ◌≤◌, ℕ, List, IfNone, IfOk, IfSome, Some, codes, map};
 ghost use Rattle.std.specs.List.{IsDistinct, list_any};
 ghost use Rattle.std.specs.Fmt.{decimal};
 ghost use Rattle.clap.specs.Words.{first_of, found_of, rows_of};
 ghost use Rattle.fencer_words.specs.CommandLines.{LacksPlaces};
-ghost use Rattle.fencer_words.specs.Places.{AreGivenPlaces, Place, pieces as pieces_of, place_numbers, is_same_place, ArePlaceTexts, IsPlaceText, ListsNoPlaces, ListsPlaces};
+ghost use Rattle.fencer_words.specs.Places.{AreGivenPlaces, Place, pieces as pieces_of, place_numbers, is_same_place, ArePlaceTexts, AreThreadTexts, IsPlaceText, ListsNoPlaces, ListsNoThreads, ListsPlaces, ListsThreads};
 
 use crate::arguments::value_of;
 use clap::ArgMatches;
@@ -75,6 +75,30 @@ fn places_in(alloc: Global, texts: &[&[u8]]) -> Result<Option<Vec<(u8, u8)>>, Al
         }
     }
     Ok(Some(places))
+}
+
+/// The number in each text. `None` where one has none.
+fn threads_in(alloc: Global, texts: &[&[u8]]) -> Result<Option<Vec<u8>>, AllocError>
+    ensures some { IfOk result (λ threads. IfSome threads (λ threads. AreThreadTexts (map (λ text. text.now) texts.now) threads.items)) }
+    ensures none { IfOk result (λ threads. IfNone threads ((threads : List ℕ) → AreThreadTexts (map (λ text. text.now) texts.now) threads → ⊥)) }
+{
+    let mut threads = Vec::new(alloc);
+    for text in texts {
+        match number(text) {
+            Some(thread) => threads.push(thread)?,
+            None => return Ok(None),
+        }
+    }
+    Ok(Some(threads))
+}
+
+/// The numbers of threads, with commas between them. `None` where the text is no such list.
+pub fn threads_of(alloc: Global, text: &[u8]) -> Result<Option<Vec<u8>>, AllocError>
+    ensures some { IfOk result (λ threads. IfSome threads (λ threads. ListsThreads text.now threads.items)) }
+    ensures none { IfOk result (λ threads. IfNone threads (ListsNoThreads text.now)) }
+{
+    let texts = pieces(alloc, text, b',')?;
+    threads_in(alloc, texts.as_slice())
 }
 
 /// The places of gaps, with commas between them. `None` where the text is no such list, or has a place twice.

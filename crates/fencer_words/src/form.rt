@@ -10,7 +10,7 @@ use crate::parameter::ChoiceNames;
 use crate::parameter::Parameter::{
     self, Certificate, CheckAnswer, CheckList, CheckRun, Condition, Costs, Fences, Graph, Graphs,
     Insert, Json, Labels, Litmus, LitmusFiles, Model, Not, Observed, Output, Page, Progress, Runs,
-    Template, Trees, Workers,
+    Same, Template, Ties, Trees, Tries, Workers,
 };
 use crate::{gaps, outcomes, place, replay, survey, trace, why, witness};
 use clap::Command;
@@ -88,7 +88,7 @@ impl Form {
             Form::Why => &[
                 Costs, Workers, Graphs, Page, Observed, Condition, Json, Progress, Litmus,
             ],
-            Form::Gaps => &[Costs, Template, Json, Litmus],
+            Form::Gaps => &[Costs, Template, Ties, Same, Tries, Json, Litmus],
             Form::Witness => &[Model, Not, Fences, Graph, Page, CheckRun, Json, Litmus],
             Form::Survey => &[Workers, LitmusFiles],
         }

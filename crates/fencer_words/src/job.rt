@@ -102,6 +102,15 @@ pub struct WitnessQuery {
     pub litmus: String,
 }
 
+/// Which gaps are to go together: those of the lines that threads share.
+#[derive(Drop)]
+pub struct TieQuery {
+    /// The threads that run the same code. Without them those do that are wholly alike.
+    pub same: Option<Vec<u8>>,
+    /// The repeated parts of one thread are one part of its code, too.
+    pub tries: bool,
+}
+
 /// A list of gaps that is asked for. Files are given by their names.
 #[derive(Drop)]
 pub struct GapQuery {
@@ -109,6 +118,8 @@ pub struct GapQuery {
     pub costs: Option<String>,
     /// Print a cost file in place of the list.
     pub template: bool,
+    /// Print a cost file in which gaps go together.
+    pub ties: Option<TieQuery>,
     /// Print a document in place of either.
     pub json: bool,
     pub litmus: String,

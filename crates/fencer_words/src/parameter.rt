@@ -51,9 +51,15 @@ const PROGRESS_HELP: &str = "Report progress on standard error, as long searches
 
 const RUNS_HELP: &str = "Print after each outcome a run that leaves it";
 
+const SAME_HELP: &str = "These threads run the same code, as 0,1,2; else those that are alike do";
+
 const TEMPLATE_HELP: &str = "Print a cost file of all gaps instead; a gap costs 1 without --costs";
 
+const TIES_HELP: &str = "Print a cost file that ties the gaps of lines which threads share";
+
 const TREES_HELP: &str = "Make whole trees (certificate 1 or 2) or early ones (4); else by size";
+
+const TRIES_HELP: &str = "Tie the repeated tries of one thread, too";
 
 /// The names among which the values of parameters are chosen.
 #[derive(Clone, Copy)]
@@ -95,8 +101,11 @@ pub enum Parameter {
     Page,
     Progress,
     Runs,
+    Same,
     Template,
+    Ties,
     Trees,
+    Tries,
     Workers,
 }
 
@@ -128,8 +137,11 @@ impl Parameter {
             Parameter::Page => file_arg(alloc, "html", PAGE_HELP),
             Parameter::Progress => flag_arg(alloc, "progress", PROGRESS_HELP),
             Parameter::Runs => flag_arg(alloc, "runs", RUNS_HELP),
+            Parameter::Same => value_arg(alloc, "same", "T,..", SAME_HELP),
             Parameter::Template => flag_arg(alloc, "template", TEMPLATE_HELP),
+            Parameter::Ties => flag_arg(alloc, "ties", TIES_HELP),
             Parameter::Trees => trees_arg(alloc, names.trees),
+            Parameter::Tries => flag_arg(alloc, "tries", TRIES_HELP),
             Parameter::Workers => workers_arg(alloc),
         }
     }

@@ -3,7 +3,7 @@
 ghost use Rattle.std.specs.Prelude.{◌≡◌, ◌⊎◌, true, false, Contains, IfErr, IfOk, IfNone, IfSome, OnOk, map, string_bytes};
 ghost use Rattle.clap.specs.Words.{found_of, kind_of, rows_of};
 ghost use Rattle.fencer_words.specs.CommandFiles.{files_of, has_clash};
-ghost use Rattle.fencer_words.specs.CommandLines.{asks_twice, command_names, commands_app, fences_in_vain, AreChoices, AsksFor, IsJobOf, IsNoCommand, LacksPlaces, Names};
+ghost use Rattle.fencer_words.specs.CommandLines.{asks_twice, command_names, commands_app, fences_in_vain, AreChoices, AsksFor, IsJobOf, IsNoCommand, LacksPlaces, LacksThreads, Names};
 ghost use Rattle.fencer_words.specs.Commands.{IsBuiltAs, IsFencerCommand, IsJobMet, MeetsNoJob};
 
 use crate::arguments::{has_value, is_flagged, value_of};
@@ -48,6 +48,8 @@ const IN_VAIN: &str =
 
 const FENCES: &str = "--fences takes gaps with commas between them, each once, as 0:1,1:1";
 
+const SAME: &str = "--same takes numbers of threads with commas between them, as 0,1,2";
+
 static MODELS: [&str; 2] = ["buffered", "sequential"];
 
 static RULES: [&str; 2] = ["whole", "early"];
@@ -85,10 +87,10 @@ fn command<'a>(alloc: Global) -> Result<Command<'a>, AllocError>
     Ok(command)
 }
 
-/// The job of the command of this name, where there is such a command and its fences are at places.
+/// The job of the command of this name, where there is such a command, its fences are at places, and its threads are numbers.
 fn job_of(alloc: Global, name: &str, matches: &ArgMatches<'_>) -> Result<Option<Job>, AllocError>
     ensures some { IfOk result (λ job. IfSome job (IsJobOf name.now (rows_of (found_of matches.now)))) }
-    ensures none { IfOk result (λ job. IfNone job (Contains command_names name.now → LacksPlaces (rows_of (found_of matches.now)))) }
+    ensures none { IfOk result (λ job. IfNone job (Contains command_names name.now → LacksPlaces (rows_of (found_of matches.now)) ⊎ LacksThreads (rows_of (found_of matches.now)))) }
 {
     match name {
         "replay" => Ok(Some(replay_job(alloc, matches)?)),
@@ -96,7 +98,7 @@ fn job_of(alloc: Global, name: &str, matches: &ArgMatches<'_>) -> Result<Option<
         "place" => Ok(Some(place_job(alloc, matches)?)),
         "trace" => Ok(Some(trace_job(alloc, matches)?)),
         "why" => Ok(Some(why_job(alloc, matches)?)),
-        "gaps" => Ok(Some(gaps_job(alloc, matches)?)),
+        "gaps" => gaps_job(alloc, matches),
         "witness" => witness_job(alloc, matches),
         "survey" => Ok(Some(survey_job(alloc, matches)?)),
         _ => Ok(None),
@@ -148,6 +150,7 @@ fn no_job(alloc: Global, matches: &ArgMatches<'_>) -> Result<Error, AllocError> 
         Some((_, inner)) if fences_in_vain(inner) => {
             command_error(alloc, ErrorKind::ArgumentConflict, IN_VAIN)
         }
+        Some(("gaps", _)) => command_error(alloc, ErrorKind::ValueValidation, SAME),
         _ => command_error(alloc, ErrorKind::ValueValidation, FENCES),
     }
 }

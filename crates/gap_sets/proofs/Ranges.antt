@@ -14,7 +14,7 @@ below_end p a n m e =
     All-filter p (λ q. q < m) (range_with_len a n) (λ k d h. let is = get_or-range_with_len a n k d (omega (arith, length-range_with_len a n)) in omega (arith, length-range_with_len a n))
 
 -- the sum after one number is taken or left
-sum-cond : (f : ℕ → ℕ) (t : Bool) (x : ℕ) (xs : List ℕ) → sum_by f (cond t (x ∷ xs) xs) ≡ cond t (f x) 0 + sum_by f xs
+pub sum-cond : (f : ℕ → ℕ) (t : Bool) (x : ℕ) (xs : List ℕ) → sum_by f (cond t (x ∷ xs) xs) ≡ cond t (f x) 0 + sum_by f xs
 sum-cond f true x xs = sum_by-cons f x xs
 sum-cond f false x xs = omega arith
 
@@ -24,7 +24,7 @@ counted_once true false x h = let no = h refl in cc
 counted_once v w x h = omega arith
 
 -- fewer terms come to no more
-sum-le : (f : ℕ → ℕ) (p r : ℕ → Bool) (a n : ℕ) → ((q : ℕ) → p q ≡ true → r q ≡ true) → sum_by f (filter p (range_with_len a n)) ≤ sum_by f (filter r (range_with_len a n))
+pub sum-le : (f : ℕ → ℕ) (p r : ℕ → Bool) (a n : ℕ) → ((q : ℕ) → p q ≡ true → r q ≡ true) → sum_by f (filter p (range_with_len a n)) ≤ sum_by f (filter r (range_with_len a n))
 sum-le f p r a zero within = omega arith
 sum-le f p r a (suc n) within =
     let rest = sum-le f p r (a + 1) n within in

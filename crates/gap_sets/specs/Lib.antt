@@ -4,4 +4,6 @@ pub mod Laws
 pub mod Order
 pub mod Regions
 pub mod SameGaps
+pub mod TieLaws
+pub mod Ties
 pub mod Internal

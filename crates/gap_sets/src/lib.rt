@@ -1,4 +1,4 @@
-//! Sets of gaps, what gaps cost, and which of two sets is better.
+//! Sets of gaps, what gaps cost, which go together, and which of two sets is better.
 //!
 //! A gap is a place where a fence may go, by its number below `MAX_GAPS`. Of the sets that serve a program
 //! the best is wanted: the cheapest, and of two equally cheap ones the one that has the least gap in which
@@ -14,8 +14,14 @@ mod costs;
 mod gap_set;
 mod laws;
 mod region;
+mod ties;
 
 pub use costs::{CostFault, Costs, MAX_COST, limits_are_the_refusals};
 pub use gap_set::{GapSet, Gaps, MAX_GAPS};
-pub use laws::{a_proper_subset_is_better, better_is_an_order, three_gaps_of_cost_one};
+pub use laws::{
+    a_proper_subset_is_better, a_set_stands_for_the_gaps_of_its_names, better_is_an_order,
+    first_and_third_are_tied, gaps_cost_no_more_than_their_names, the_least_difference_is_a_name,
+    three_gaps_of_cost_one, what_names_stand_for_is_allowed,
+};
 pub use region::Region;
+pub use ties::{TiedCosts, Ties};

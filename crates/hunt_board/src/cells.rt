@@ -126,7 +126,9 @@ impl RunCells {
 pub(crate) fn is_same(first: &Question, second: &Question) -> bool
     ensures { IsTrue result ↔ (first.now ≡ second.now) }
 {
-    first.shown.same(&second.shown) && first.program.same(&second.program)
+    first.shown.same(&second.shown)
+        && first.ties.same(&second.ties)
+        && first.program.same(&second.program)
 }
 
 /// Sets a cell.

@@ -61,7 +61,7 @@ impl CeilingWord {
         ensures word { IfOk result (λ r. r.0.problem ≡ problem question.now costs.now) }
         ensures seat { IfOk result (λ r. IsSeatOf r.0 r.1 × (r.1.least ≡ no_ceiling)) }
     {
-        let subject = Subject::of(&question.program, &question.shown, costs);
+        let subject = Subject::of(question, costs);
         let (table, seat) = Table::of_words(alloc, &[u64::MAX], &subject)?;
         Ok((CeilingWord { table }, WordSeat { seat }))
     }
@@ -114,9 +114,8 @@ impl CeilingWord {
         ensures least { ceiling_number result ≤ seat.old.least }
         ensures seat { seat.new ≡ with_least seat.old (ceiling_number result) }
     {
-        let Question { program, shown } = question;
-        program.recall_facts();
-        Ceiling::at(program, shown, costs, self.load(seat))
+        question.program.recall_facts();
+        Ceiling::at(question, costs, self.load(seat))
     }
 
     /// Lowers the word to what a serving set costs, where it is higher.

@@ -43,8 +43,7 @@ fn at_cost_of(tree: &SearchTree, ceiling: &Ceiling) -> Ceiling
     ensures { IsCeilingOf tree.now.question tree.now.costs result }
 {
     let cost = ceiling.cost();
-    let Question { program, shown } = tree.question();
-    Ceiling::at(program, shown, tree.costs(), cost)
+    Ceiling::at(tree.question(), tree.costs(), cost)
 }
 
 /// A ceiling that is made in this way, of the set of these gaps where it is of one.

@@ -25,9 +25,3 @@ pub added_at : (first : ℕ) (texts : List (List ℕ)) (n : ℕ) (d so_far with_
 added_at first texts n d so_far with_comma with_text below begun comma text =
     text ∙ ap (λ (ts : List ℕ). ts ++ get_or texts n d) (comma ∙ ap (λ (ts : List ℕ). ts ++ comma_before n) begun)
     ∙ append_assoc (first ∷ with_commas (take n texts)) (comma_before n) (get_or texts n d) ∙ ap (λ (ts : List ℕ). first ∷ ts) (sym (with_commas_at texts n d below))
-
--- one more piece, and one more element
-pub flat_more : {X A : Type 0} (f : X → List A) (bs : List A) (xs : List X) (i : ℕ) (d : X) → i < length xs → (bs ++ flat_map f (take i xs)) ++ f (get_or xs i d) ≡ bs ++ flat_map f (take (i + 1) xs)
-flat_more {X} {A} f bs xs i d below =
-    rw (take_more xs i d below) (append_assoc bs (flat_map f (take i xs)) (f (get_or xs i d)) ∙ ap (λ (cs : List A). bs ++ cs)
-    (ap (λ (cs : List A). flat_map f (take i xs) ++ cs) (sym (append-nil (f (get_or xs i d)))) ∙ sym (flat_map-append f (take i xs) (get_or xs i d ∷ []))))

@@ -2,6 +2,7 @@
 use Rattle.std.specs.Prelude.{◌≡◌, ◌≤◌, ℕ, List, Option}
 use Rattle.gap_sets.specs.Gaps.{SetOfGaps}
 use Rattle.gap_sets.specs.Order.{total}
+use Rattle.gap_sets.specs.declared.ties.TiedCosts.{TiedCosts}
 use Rattle.tso_program.specs.declared.listing.Thread.{Thread}
 use Rattle.tso_program.specs.declared.listing.Listing.{Listing}
 use Rattle.tso_program.specs.declared.shown.ShownKind.TheVariants.{Observed, Condition}
@@ -24,13 +25,13 @@ ATextIsOfOneProgram = (text : List ℕ) (one other : Litmus Listing) → IsLitmu
 abbrev pub ATextIsOfOneFencedProgram : Type 0
 ATextIsOfOneFencedProgram = (text : List ℕ) (one other : Litmus Listing) → IsFencedLitmus text one → IsFencedLitmus text other → one ≡ other
 
--- a cost text gives the gaps of these threads one list of costs
+-- a cost text gives the gaps of these threads one list of costs, and one of ties
 abbrev pub ATextGivesOneListOfCosts : Type 0
-ATextGivesOneListOfCosts = (text : List ℕ) (threads : List Thread) (one other : List ℕ) → IsCostText text threads one → IsCostText text threads other → one ≡ other
+ATextGivesOneListOfCosts = (text : List ℕ) (threads : List Thread) (one other : TiedCosts) → IsCostText text threads one → IsCostText text threads other → one ≡ other
 
--- so does a text that may be missing: each gap costs 1 without it
+-- so does a text that may be missing: without it each gap costs 1, and is a tie of its own
 abbrev pub TheCostsAreOneList : Type 0
-TheCostsAreOneList = (p : Listing) (text : Option (List ℕ)) (one other : List ℕ) → AreGiven p text one → AreGiven p text other → one ≡ other
+TheCostsAreOneList = (p : Listing) (text : Option (List ℕ)) (one other : TiedCosts) → AreGiven p text one → AreGiven p text other → one ≡ other
 
 -- what serves for the values that a text names serves for the truth of its condition
 abbrev pub TheNamesServeTheCondition : Type 0

@@ -27,7 +27,7 @@ pub fn a_litmus_text_stands_for_one_test()
     ensures fenced { ATextIsOfOneFencedProgram }
 {}
 
-/// A cost text gives the gaps of a program one list of costs, and so does a text that may be missing.
+/// A cost text gives the gaps of a program one list of costs and one of ties, and so does a text that may be missing.
 pub fn a_cost_text_gives_one_list_of_costs()
     ensures text { ATextGivesOneListOfCosts }
     ensures given { TheCostsAreOneList }

@@ -6,13 +6,15 @@ use cost_text::CostTextFault;
 use gap_sets::CostFault;
 use litmus_reader::read_litmus;
 use std::alloc::{AllocError, Global};
-use text_tokens::{are_digits, line_spaces_len};
+use text_tokens::{are_digits, line_spaces_len, value_up_to};
 use tso_program::Program;
 
 /// The offsets of what a line of a cost file says, in its text.
 #[derive(Clone, Copy)]
 struct Pieces {
+    /// The first gap.
     gap: usize,
+    /// What follows the gaps.
     cost: usize,
     /// What follows the cost.
     more: usize,
@@ -24,10 +26,102 @@ fn next_piece(source: Source<'_>, offset: usize) -> usize {
     after.saturating_add(line_spaces_len(bytes_from(source.text, after)))
 }
 
+/// The offset of the first piece from an offset on that is no gap.
+fn after_gaps(source: Source<'_>, offset: usize) -> usize {
+    let mut at = offset;
+    for _ in 0..source.text.len() {
+        if !is_gap(source.piece(at)) {
+            return at;
+        }
+        at = next_piece(source, at);
+    }
+    at
+}
+
+/// Whether the places in two pieces that are gaps are the same.
+fn is_same_gap(piece: &[u8], other: &[u8]) -> bool {
+    let mut numbers = piece.split(|byte| *byte == b':');
+    let mut others = other.split(|byte| *byte == b':');
+    let threads = (numbers.next().unwrap_or(b""), others.next().unwrap_or(b""));
+    let instructions = (numbers.next().unwrap_or(b""), others.next().unwrap_or(b""));
+    is_same_number(threads.0, threads.1) && is_same_number(instructions.0, instructions.1)
+}
+
+fn is_same_number(digits: &[u8], others: &[u8]) -> bool {
+    significant(digits) == significant(others)
+}
+
+/// Digits without the zeros before them.
+fn significant(digits: &[u8]) -> &[u8] {
+    let zeros = digits.iter().take_while(|digit| **digit == b'0').count();
+    bytes_from(digits, zeros)
+}
+
+/// The offset of the first gap of a line that the text names before it.
+fn repeated_gap(source: Source<'_>, pieces: Pieces) -> usize {
+    let mut at = pieces.gap;
+    for _ in 0..source.text.len() {
+        if at >= pieces.cost || is_named_before(source, at) {
+            break;
+        }
+        at = next_piece(source, at);
+    }
+    if at < pieces.cost { at } else { pieces.gap }
+}
+
+/// Whether the gap at an offset stands in the text before it.
+fn is_named_before(source: Source<'_>, offset: usize) -> bool {
+    let gap = source.piece(offset);
+    let before = source.text.split_at(offset.min(source.text.len())).0;
+    for piece in before.split(|byte| matches!(*byte, b' ' | b'\t' | b'\r' | b'\n')) {
+        if is_gap(piece) && is_same_gap(piece, gap) {
+            return true;
+        }
+    }
+    false
+}
+
+/// The offset of the first gap of a line that the program of a litmus text lacks.
+fn lacking_gap(alloc: Global, source: Source<'_>, pieces: Pieces, litmus: &[u8]) -> usize {
+    let Ok(litmus) = read_litmus(alloc, litmus) else {
+        return pieces.gap;
+    };
+    let mut at = pieces.gap;
+    for _ in 0..source.text.len() {
+        if at >= pieces.cost || !has_gap(&litmus.program, source.piece(at)) {
+            break;
+        }
+        at = next_piece(source, at);
+    }
+    if at < pieces.cost { at } else { pieces.gap }
+}
+
+/// Whether the program has the gap in a piece.
+fn has_gap(program: &Program, piece: &[u8]) -> bool {
+    let mut numbers = piece.split(|byte| *byte == b':');
+    let thread = number_of(numbers.next().unwrap_or(b""));
+    let instruction = number_of(numbers.next().unwrap_or(b""));
+    match (thread, instruction) {
+        (Some(thread), Some(k)) => program.gap_number(thread, k).is_some(),
+        _ => false,
+    }
+}
+
+/// The number of a thread or an instruction, where these are digits.
+fn number_of(digits: &[u8]) -> Option<u8> {
+    if !are_digits(digits) {
+        return None;
+    }
+    match value_up_to(u64::from(u8::MAX), digits) {
+        Some(number) => Some(number as u8),
+        None => None,
+    }
+}
+
 fn pieces_of(source: Source<'_>, line: usize) -> Pieces {
     let start = line_start(source.text, line);
     let gap = start.saturating_add(line_spaces_len(bytes_from(source.text, start)));
-    let cost = next_piece(source, gap);
+    let cost = after_gaps(source, next_piece(source, gap));
     let more = next_piece(source, cost);
     Pieces { gap, cost, more }
 }
@@ -110,10 +204,11 @@ fn missing_gap_message(
     pieces: Pieces,
     litmus: &[u8],
 ) -> Result<Message, AllocError> {
-    let piece = source.piece(pieces.gap);
+    let at = lacking_gap(alloc, source, pieces, litmus);
+    let piece = source.piece(at);
     let gap = shown_word(alloc, piece)?;
     let text = missing_gap_text(alloc, gap.as_str(), litmus)?;
-    let mut message = Message::at_word(alloc, source, pieces.gap, piece, "")?;
+    let mut message = Message::at_word(alloc, source, at, piece, "")?;
     message.text = text;
     Ok(message)
 }
@@ -144,7 +239,7 @@ pub fn costs_message(
             missing_gap_message(alloc, source, pieces_of(source, line), litmus)
         }
         CostTextFault::Repeated(line) => {
-            let gap = pieces_of(source, line).gap;
+            let gap = repeated_gap(source, pieces_of(source, line));
             let said = "has a cost by an earlier line";
             Message::at_word(alloc, source, gap, source.piece(gap), said)
         }

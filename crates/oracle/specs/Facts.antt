@@ -3,11 +3,9 @@ use Rattle.std.specs.Prelude.{◌≡◌, List, All}
 use Rattle.gap_sets.specs.Gaps.{SetOfGaps}
 use Rattle.tso_program.specs.declared.outcome.Outcome.{Outcome}
 use Rattle.tso_program.specs.declared.question.Question.{Question}
-use Rattle.tso_program.specs.Fences.{gaps_in}
 use Rattle.tso_machine.specs.declared.label.Label.{Label}
-use Rattle.tso_machine.specs.Machine.{SequentialMachine, StoreBufferMachine, no_gaps}
-use Rattle.tso_machine.specs.Modes.{ArePassed}
-use Rattle.tso_machine.specs.Outcomes.{Serves, IsForeignRun}
+use Rattle.tso_machine.specs.Machine.{SequentialMachine, StoreBufferMachine}
+use Rattle.tso_machine.specs.Outcomes.{gaps_named, ArePassedNames, Serves, IsForeignRun}
 use Rattle.cert_forest.specs.Trees.{Cover}
 use Rattle.tree_laws.specs.Certificates.{AreSequentialRuns}
 use Rattle.tree_laws.specs.Laws.{IsSequentialList}
@@ -32,23 +30,23 @@ pub record IsSequentialTable (table : Table) : Type 0 where
   pub runs : AreSequentialRuns table.question table.runs table.outcomes
   pub tree : IsWholeCover table.question SequentialMachine table.outcomes table.tree
 
--- a question, a run of its program, what is shown of where that ends, and the gaps that it passes
+-- a question, a run of its program, what is shown of where that ends, and the names of the ties of which it passes a gap
 pub record Foreign : Type 0 where
   pub question : Question
   pub labels : List Label
   pub outcome : Outcome
   pub passed : SetOfGaps
 
--- with no gap fenced the labels are a run, this is shown of its outcome and of that of no sequential run, and which passes these gaps
+-- with no gap fenced the labels are a run, this is shown of its outcome and of that of no sequential run, and it passes these names
 pub record IsForeignValue (run : Foreign) : Type 0 where
   pub foreign : IsForeignRun run.question run.labels run.outcome
-  pub passed : ArePassed run.question.program (StoreBufferMachine no_gaps) run.labels run.passed
+  pub passed : ArePassedNames run.question run.labels run.passed
 
 -- the runs are of the question
 abbrev pub AreOf : Question → List Foreign → Type 0
 AreOf q runs = All (λ run. run.question ≡ q) runs
 
--- a question, a set of its program's gaps, and a tree
+-- a question, a set of names of its program's gaps, and a tree
 pub record Serving : Type 0 where
   pub question : Question
   pub gaps : SetOfGaps
@@ -57,4 +55,4 @@ pub record Serving : Type 0 where
 -- the set serves, and the tree shows it over the sequential outcomes
 pub record IsServing (s : Serving) : Type 0 where
   pub serves : Serves s.question s.gaps
-  pub tree : (outcomes : List Outcome) → IsListOf s.question outcomes → IsWholeCover s.question (StoreBufferMachine (gaps_in s.question.program s.gaps)) outcomes s.tree
+  pub tree : (outcomes : List Outcome) → IsListOf s.question outcomes → IsWholeCover s.question (StoreBufferMachine (gaps_named s.question s.gaps)) outcomes s.tree

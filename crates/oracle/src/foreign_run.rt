@@ -1,6 +1,7 @@
 //! Runs that leave an outcome which no sequential run has.
 ghost use Rattle.std.specs.Prelude.{◌≡◌, IfOk, IfErr, IsOkUnless};
 ghost use Rattle.tso_program.specs.declared.outcome.Outcome.{Outcome};
+ghost use Rattle.gap_sets.specs.Ties.{names_in};
 ghost use Rattle.tso_machine.specs.Machine.{StoreBufferMachine, no_gaps};
 ghost use Rattle.tso_machine.specs.Modes.{ArePassed};
 ghost use Rattle.tso_machine.specs.Outcomes.{IsShownRun, IsForeignRun};
@@ -57,7 +58,7 @@ impl ForeignRun {
         ensures exact { (o : Outcome) → IsForeignRun table.now.question labels.now o → IsOkUnless result ForeignFault.OutOfMemory }
     {
         let question = table.question();
-        let Question { program, shown } = question;
+        let Question { program, shown, .. } = question;
         match replay_shown(alloc, program, shown, Model::Buffered, labels) {
             Ok(ended) => {
                 if table.has(&ended.outcome) {
@@ -76,14 +77,15 @@ impl ForeignRun {
         requires passed { ArePassed question.program (StoreBufferMachine no_gaps) labels.items ended.passed }
         ensures question { result.question ≡ question }
         ensures labels { result.labels ≡ labels.items }
-        ensures passed { result.passed ≡ ended.passed }
+        ensures passed { result.passed ≡ names_in question.ties ended.passed }
         ensures foreign { IsForeignValue result }
     {
+        let passed = question.ties.names_in(&ended.passed);
         ForeignRun {
             question,
             labels,
             outcome: ended.outcome,
-            passed: ended.passed,
+            passed,
         }
     }
 
@@ -124,7 +126,7 @@ impl ForeignRun {
         &self.outcome
     }
 
-    /// The gaps that the run passes.
+    /// The names of the ties of which the run passes a gap.
     pub fn passed(&self) -> GapSet
         ensures { result ≡ self.now.passed }
     {

@@ -8,7 +8,7 @@ use std::alloc::AllocError;
 use std::marker::Model;
 use tso_program::{Program, Question};
 
-/// A set of gaps that serves, with a cover tree that shows it.
+/// A set of names whose gaps serve, with a cover tree that shows it.
 #[derive(Drop)]
 pub struct Served {
     question: Question,

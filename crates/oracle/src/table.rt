@@ -5,6 +5,7 @@ ghost use Rattle.tso_machine.specs.Outcomes.{IsSequentialOutcome};
 ghost use Rattle.oracle.specs.Facts.{IsSequentialTable};
 
 use cert_forest::{CoverTree, Runs};
+use gap_sets::Ties;
 use std::alloc::AllocError;
 use std::marker::Model;
 use std::sync::Arc;
@@ -55,6 +56,33 @@ impl SeqTable {
         ensures runs { result.runs ≡ arc_value runs }
         ensures tree { result.tree ≡ tree }
     {
+        SeqTable {
+            question,
+            outcomes,
+            runs,
+            tree,
+        }
+    }
+
+    /// The same table for the question in which these gaps go together.
+    pub fn with_ties(self, ties: Ties) -> SeqTable
+        ensures question { result.question ≡ record self.question { ties = ties } }
+        ensures outcomes { result.outcomes ≡ self.outcomes }
+        ensures runs { result.runs ≡ self.runs }
+        ensures tree { result.tree ≡ self.tree }
+    {
+        let SeqTable {
+            question,
+            outcomes,
+            runs,
+            tree,
+        } = self;
+        let Question { program, shown, .. } = question;
+        let question = Question {
+            program,
+            shown,
+            ties,
+        };
         SeqTable {
             question,
             outcomes,

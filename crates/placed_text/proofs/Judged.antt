@@ -1,24 +1,39 @@
 -- What is reported of texts, from what their parts are.
-use Rattle.placed_text.proofs.Vocabulary.{◌≡◌, ◌∙◌, ℕ, List, Option, Some, None, ap, length, refl, subst, unwrap_or, length-replicate, Listing, Shown, asked, shown_as, question_of, gap_count, answer_line, IsPlacement, AreTextsOf, ArePlacedTextsOf, HasNoPlacedText, TellsWhy}
+use Rattle.placed_text.proofs.Vocabulary.{◌≡◌, ◌∙◌, ◌≤◌, ◌==◌, ℕ, Bool, true, false, List, [], Option, Some, None, ap, arith, length, map, range_with_len, refl, sym, subst, unwrap_or, length-replicate, TiedCosts, Listing, Shown, asked_with, shown_as, tied_question, names_of, gap_count, answer_line, IsPlacement, AreTextsOf, ArePlacedTextsOf, HasNoPlacedText, TellsWhy}
 use Rattle.placed_text.proofs.Vocabulary.{Litmus, AreGiven, IsAnswerText, IsProblem, IsPlacedText, HasNoProgram, HasNoCosts, HasNoPlacement, HasNoProblem, IsWhyText, OfItsPlacement, question_in}
 use Rattle.std.proofs.lemmas.List.FromFn.{length-map-range_with_len}
 use Rattle.tso_program.specs.declared.shown.ShownKind.{ShownKind}
-use Rattle.litmus_text.specs.{Texts.IsLitmus, CostTexts.said_of}
+use Rattle.std.specs.List.{list_all}
+use Rattle.std.specs.Prelude.{if◌then◌else◌}
+use Rattle.litmus_text.specs.{Texts.IsLitmus, CostTexts.Entry, CostTexts.said_of, CostTexts.name_said, CostTexts.ties_of}
 use Rattle.cert_forest.specs.Certificates.{Certificate}
 use Rattle.documents.specs.Documents.{IsPlacedDocument}
 use Rattle.placed_text.specs.{declared.fault.TextFault.TextFault, declared.problem.Problem.Problem, declared.writing.AnswerText.AnswerText, declared.writing.PlacedText.PlacedText}
 use Rattle.placed_text.specs.declared.fault.TextFault.TheVariants as fault
 
 -- each gap has a cost
-pub one_each : (p : Listing) (text : Option (List ℕ)) (costs : List ℕ) → AreGiven p text costs → length costs ≡ gap_count p.threads
-one_each p None costs is = ap length is ∙ length-replicate (gap_count p.threads) 1
+pub one_each : (p : Listing) (text : Option (List ℕ)) (costs : TiedCosts) → AreGiven p text costs → length costs.costs ≡ gap_count p.threads
+one_each p None costs is = ap length is.0 ∙ length-replicate (gap_count p.threads) 1
 one_each p (Some text) costs is = ap length is.costs_are ∙ length-map-range_with_len (λ gap. unwrap_or (said_of is.entries gap) 1) 0 (gap_count p.threads)
+
+-- ties are of the program's gaps alone
+ties_few : (gaps : ℕ) (entries : List Entry) → length (ties_of gaps entries) ≤ gaps
+ties_few gaps entries = by_test (list_all (λ gap. name_said entries gap == gap) (range_with_len 0 gaps))
+  where
+    by_test : (b : Bool) → length (if b then [] else map (name_said entries) (range_with_len 0 gaps)) ≤ gaps
+    by_test true = omega arith
+    by_test false = omega (arith, length-map-range_with_len (name_said entries) 0 gaps)
+
+pub ties_within : (p : Listing) (text : Option (List ℕ)) (costs : TiedCosts) → AreGiven p text costs → length costs.ties ≤ gap_count p.threads
+ties_within p None costs is = let none : length costs.ties ≡ 0 = ap length is.1 in omega arith
+ties_within p (Some text) costs is = let same : length costs.ties ≡ length (ties_of (gap_count p.threads) is.entries) = ap length is.ties_are in omega (arith, ties_few (gap_count p.threads) is.entries)
 
 module _ (litmus : List ℕ) (costs : Option (List ℕ)) where
   module _ (kind : ShownKind) (problem : Problem) where
     -- what is placed is the answer to what the kind asks
-    placement_of : (certificate : Certificate) → IsProblem litmus costs kind problem → IsPlacement (question_in problem) problem.costs certificate → IsPlacement (question_of problem.litmus kind) problem.costs certificate
-    placement_of certificate of_texts is = subst (λ (shown : Shown). IsPlacement (asked problem.litmus.program shown) problem.costs certificate) of_texts.shown is
+    placement_of : (certificate : Certificate) → IsProblem litmus costs kind problem → IsPlacement (question_in problem) problem.costs.costs certificate
+        → IsPlacement (tied_question problem.litmus kind problem.costs) problem.costs.costs certificate
+    placement_of certificate of_texts is = subst (λ (shown : Shown). IsPlacement (asked_with problem.costs.ties problem.litmus.program shown) problem.costs.costs certificate) of_texts.shown is
 
     -- from what is written of it
     pub answer_text : (texts : AnswerText) → IsProblem litmus costs kind problem → OfItsPlacement problem (λ placed. AreTextsOf problem placed.gaps placed.cost texts) → IsAnswerText litmus costs kind texts
@@ -31,7 +46,9 @@ module _ (litmus : List ℕ) (costs : Option (List ℕ)) where
           of_text = of_texts.of_text;
           gap_costs = problem.costs;
           given = of_texts.given;
+          names = names_of (question_in problem) certificate;
           gaps = gaps;
+          of_names = sym is.allowed;
           answer = is.answer;
           headline = is.headline;
           program = written.program;
@@ -70,7 +87,9 @@ module _ (litmus : List ℕ) (costs : Option (List ℕ)) where
           of_text = of_texts.of_text;
           gap_costs = problem.costs;
           given = of_texts.given;
+          names = names_of (question_in problem) certificate;
           gaps = gaps;
+          of_names = sym is.allowed;
           answer = is.answer;
           told = subst (λ (cost : ℕ). TellsWhy source shown problem.costs gaps (answer_line source.program shown gaps cost) text document) is.cost
               (subst (λ (s : Shown). TellsWhy source s problem.costs gaps (answer_line source.program s gaps certificate.cost) text document) of_texts.shown tells);

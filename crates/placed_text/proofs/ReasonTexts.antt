@@ -1,6 +1,6 @@
 -- Reasons one after the other.
-use Rattle.placed_text.proofs.Vocabulary.{◌≡◌, ◌∙◌, ◌==◌, ◌<◌, ℕ, suc, Bool, List, [], ◌∷◌, ◌++◌, true, false, arith, length, ap, refl, sym, subst, map, concat, filter, range_with_len, nat_tests, append-nil, map-append, SetOfGaps, IsGapSet, Question, asked}
-use Rattle.placed_text.proofs.Vocabulary.{Listing, Shown, Label, Without, TellsRun, TellsWhy, printed_of, numbers_of_set, MAX_GAPS, show, IsForeignRun, IsReplayOf, IsShownRun, Litmus, Told, IsReason, AreReasons, told_lines, TellsReasons}
+use Rattle.placed_text.proofs.Vocabulary.{◌≡◌, ◌∙◌, ◌==◌, ◌<◌, ℕ, suc, Bool, List, [], ◌∷◌, ◌++◌, true, false, arith, length, ap, refl, sym, subst, map, concat, filter, range_with_len, nat_tests, append-nil, map-append, SetOfGaps, IsGapSet, TiedCosts, names_in, Question, asked}
+use Rattle.placed_text.proofs.Vocabulary.{Listing, Shown, Label, Without, TellsRun, TellsWhy, printed_of, numbers_of_set, MAX_GAPS, show, IsForeignRun, IsReplayOf, IsShownRun, Litmus, LeftOut, Told, IsReason, IsReasonOf, AreReasons, told_lines, TellsReasons}
 use Rattle.placed_text.proofs.Vocabulary.{none_line, reasons_or_none, IsReasonText}
 use Rattle.std.proofs.lemmas.List.Folds.{concat-append}
 use Rattle.std.specs.FinSet as set
@@ -28,12 +28,12 @@ ends_in p labels ended replay = (let (whole, is_run, same) = replay.is_run in su
 shown_of_run : (q : Question) (labels : List Label) (o whole : Outcome) → IsShownRun q (StoreBufferMachine no_gaps) labels o → IsRun q.program (StoreBufferMachine no_gaps) labels whole → o ≡ show q.shown whole
 shown_of_run q labels o whole (ended, is_run, shows) ends = shows ∙ ap (λ (x : Outcome). show q.shown x) (one_outcome q.program (StoreBufferMachine no_gaps) labels ended whole is_run ends)
 
--- the lines of a foreign run that passes none of the set's other gaps are a reason
-pub reason_of : (source : Litmus Listing) (shown : Shown) (gaps : SetOfGaps) (gap : ℕ) (labels : List Label) (ended : Ended) (told : Told) → IsForeign (asked source.program shown) labels
-    → PassesNoGapOf source.program (set.remove gaps gap) labels → IsReplayOf (asked source.program All) Buffered labels ended
-    → set.contains ended.passed gap ≡ true → IsReasonText source shown gaps gap labels ended.outcome ended.passed told.0
-    → TellsRun source (printed_of shown) (Without gap) labels ended.outcome ended.passed told.1 → IsReason source shown gaps gap told
-reason_of source shown gaps gap labels ended told (o, is) none replay passes_it printed document =
+-- the lines of a foreign run that passes no gap of the other ties are a reason
+pub reason_of : (source : Litmus Listing) (shown : Shown) (left_out : LeftOut) (gap : ℕ) (labels : List Label) (ended : Ended) (told : Told) → IsForeign (asked source.program shown) labels
+    → PassesNoGapOf source.program left_out.others labels → IsReplayOf (asked source.program All) Buffered labels ended
+    → set.contains left_out.tie gap ≡ true → set.contains ended.passed gap ≡ true → IsReasonText source shown left_out gap labels ended.outcome ended.passed told.0
+    → TellsRun source (printed_of shown) (Without gap) labels ended.outcome ended.passed told.1 → IsReasonOf source shown left_out told
+reason_of source shown left_out gap labels ended told (o, is) none replay of_tie passes_it printed document =
     let q = asked source.program shown in
     let ends = ends_in source.program labels ended replay in
     record {
@@ -41,9 +41,11 @@ reason_of source shown gaps gap labels ended told (o, is) none replay passes_it 
       outcome = ended.outcome;
       ends = ends;
       foreign = subst (λ (o : Outcome). IsForeignRun q labels o) (shown_of_run q labels o ended.outcome is.is_run ends) is;
-      fenced = (ended.outcome, (fenced_runs_avoid source.program (set.remove gaps gap) labels ended.outcome).1 (ends, none), refl);
+      fenced = (ended.outcome, (fenced_runs_avoid source.program left_out.others labels ended.outcome).1 (ends, none), refl);
       passed = ended.passed;
       passes = replay.passed;
+      gap = gap;
+      of_tie = of_tie;
       passes_it = passes_it;
       printed = printed;
       document = document;
@@ -72,7 +74,8 @@ pub first_held : (gaps : SetOfGaps) (left : List ℕ) (gap : ℕ) (more : List �
 first_held gaps left gap more is held = subst (AreHeld gaps) is held
 
 -- the line of the answer and what follows it, and the document
-pub says_why : (source : Litmus Listing) (shown : Shown) (costs : List ℕ) (gaps : SetOfGaps) (line all text document : List ℕ) (runs : List (List ℕ)) → TellsReasons source shown gaps (numbers_of_set gaps) all runs
+pub says_why : (source : Litmus Listing) (shown : Shown) (costs : TiedCosts) (gaps : SetOfGaps) (line all text document : List ℕ) (runs : List (List ℕ))
+    → TellsReasons source shown costs.ties (names_in costs.ties gaps) (numbers_of_set (names_in costs.ties gaps)) all runs
     → text ≡ line ++ reasons_or_none shown all → IsWhyDocument source shown costs gaps runs document → TellsWhy source shown costs gaps line text document
 says_why source shown costs gaps line all text document runs (reasons, each, lines, are) printed told = record {
   reasons = reasons;
@@ -94,11 +97,11 @@ some_said shown [] some = absurd cc
 some_said shown (byte ∷ bytes) some = refl
 
 -- one more
-pub one_more_reason : (source : Litmus Listing) (shown : Shown) (gaps : SetOfGaps) (so_far : List ℕ) (reasons : List Told) (gap : ℕ) (told : Told) → AreReasons source shown gaps so_far reasons
-    → IsReason source shown gaps gap told → AreReasons source shown gaps (so_far ++ gap ∷ []) (reasons ++ told ∷ [])
-one_more_reason source shown gaps [] [] gap told are is = (is, tt)
-one_more_reason source shown gaps (g ∷ so_far) (r ∷ reasons) gap told are is = (are.0, one_more_reason source shown gaps so_far reasons gap told are.1 is)
-one_more_reason source shown gaps so_far reasons gap told are is = absurd are
+pub one_more_reason : (source : Litmus Listing) (shown : Shown) (ties : List ℕ) (names : SetOfGaps) (so_far : List ℕ) (reasons : List Told) (name : ℕ) (told : Told)
+    → AreReasons source shown ties names so_far reasons → IsReason source shown ties names name told → AreReasons source shown ties names (so_far ++ name ∷ []) (reasons ++ told ∷ [])
+one_more_reason source shown ties names [] [] name told are is = (is, tt)
+one_more_reason source shown ties names (n ∷ so_far) (r ∷ reasons) name told are is = (are.0, one_more_reason source shown ties names so_far reasons name told are.1 is)
+one_more_reason source shown ties names so_far reasons name told are is = absurd are
 
 lines_more : (reasons : List Told) (told : Told) → told_lines (reasons ++ told ∷ []) ≡ told_lines reasons ++ told.0
 lines_more reasons told =
@@ -106,11 +109,12 @@ lines_more reasons told =
     ∙ ap (λ (t : List ℕ). told_lines reasons ++ t) (append-nil told.0)
 
 -- the texts with one more
-pub tells_more : (source : Litmus Listing) (shown : Shown) (gaps : SetOfGaps) (so_far : List ℕ) (all : List ℕ) (runs : List (List ℕ)) (gap : ℕ) (told : Told) → TellsReasons source shown gaps so_far all runs
-    → IsReason source shown gaps gap told → TellsReasons source shown gaps (so_far ++ gap ∷ []) (all ++ told.0) (runs ++ told.1 ∷ [])
-tells_more source shown gaps so_far all runs gap told (reasons, are, lines, runs_are) reason = (
+pub tells_more : (source : Litmus Listing) (shown : Shown) (ties : List ℕ) (names : SetOfGaps) (so_far : List ℕ) (all : List ℕ) (runs : List (List ℕ)) (name : ℕ) (told : Told)
+    → TellsReasons source shown ties names so_far all runs → IsReason source shown ties names name told
+    → TellsReasons source shown ties names (so_far ++ name ∷ []) (all ++ told.0) (runs ++ told.1 ∷ [])
+tells_more source shown ties names so_far all runs name told (reasons, are, lines, runs_are) reason = (
   reasons ++ told ∷ [],
-  one_more_reason source shown gaps so_far reasons gap told are reason,
+  one_more_reason source shown ties names so_far reasons name told are reason,
   ap (λ (t : List ℕ). t ++ told.0) lines ∙ sym (lines_more reasons told),
   ap (λ (rs : List (List ℕ)). rs ++ told.1 ∷ []) runs_are ∙ sym (map-append (λ (r : Told). r.1) reasons (told ∷ [])),
 )

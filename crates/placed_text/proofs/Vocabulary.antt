@@ -9,6 +9,8 @@ pub use Rattle.documents.specs.Runs.{TellsRun}
 pub use Rattle.documents.specs.declared.run.Setting.TheVariants.{Without}
 pub use Rattle.fence_place.specs.Placements.{IsPlacement}
 pub use Rattle.gap_sets.specs.Gaps.{IsGapSet, SetOfGaps}
+pub use Rattle.gap_sets.specs.Ties.{names_in, spread}
+pub use Rattle.gap_sets.specs.declared.ties.TiedCosts.{TiedCosts}
 unfoldable pub use Rattle.gap_sets.specs.Gaps.{numbers_of_set}
 pub use Rattle.gap_sets.specs.declared.gap_set.TheConstants.{MAX_GAPS}
 pub use Rattle.litmus_text.specs.GivenCosts.{AreGiven, AreNotGiven}
@@ -19,12 +21,14 @@ pub use Rattle.tso_machine.specs.Outcomes.{IsForeignRun, IsReplayOf, IsShownRun,
 pub use Rattle.tso_machine.specs.declared.label.Label.{Label}
 pub use Rattle.tso_program.specs.Fences.{first_missing, gaps_in}
 pub use Rattle.tso_program.specs.Listings.{gap_count}
-pub use Rattle.tso_program.specs.Shown.{asked, show}
+pub use Rattle.tree_laws.specs.Certificates.{names_of}
+pub use Rattle.tso_program.specs.Shown.{asked, asked_with, show}
 pub use Rattle.tso_program.specs.declared.question.Question.{Question}
 pub use Rattle.tso_program.specs.declared.listing.Listing.{Listing}
 pub use Rattle.tso_program.specs.declared.shown.Shown.{Shown}
 pub use Rattle.placed_text.specs.MarkedTables.{IsMarkedTableOf}
-pub use Rattle.placed_text.specs.PlacedTexts.{ArePlacedTextsOf, AreTextsOf, IsAnswerText, IsPlacedText}
+pub use Rattle.placed_text.specs.declared.reasons.LeftOut.{LeftOut}
+pub use Rattle.placed_text.specs.PlacedTexts.{ArePlacedTextsOf, AreTextsOf, IsAnswerText, IsPlacedText, tied_question}
 pub use Rattle.placed_text.specs.Problems.{IsProblem, OfItsPlacement, question_in}
 pub use Rattle.placed_text.specs.TextFaults.{AreNoCosts, HasNoCosts, HasNoPlacedText, HasNoPlacement, HasNoProblem, HasNoProgram}
-pub use Rattle.placed_text.specs.WhyTexts.{AreReasons, IsReason, IsReasonText, IsWhyText, TellsReasons, TellsWhy, Told, none_line, others_fenced, printed_of, reasons_or_none, told_lines}
+pub use Rattle.placed_text.specs.WhyTexts.{AreReasons, IsReason, IsReasonOf, IsReasonText, IsWhyText, TellsReasons, TellsWhy, Told, none_line, others_fenced, printed_of, reasons_or_none, told_lines}

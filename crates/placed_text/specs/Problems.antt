@@ -2,7 +2,7 @@
 use Rattle.std.specs.Prelude.{◌≡◌, ℕ, List, Option}
 use Rattle.tso_program.specs.declared.question.Question.{Question}
 use Rattle.tso_program.specs.declared.shown.ShownKind.{ShownKind}
-use Rattle.tso_program.specs.Shown.{asked}
+use Rattle.tso_program.specs.Shown.{asked_with}
 use Rattle.litmus_text.specs.Texts.{IsLitmus}
 use Rattle.litmus_text.specs.Shown.{shown_as}
 use Rattle.litmus_text.specs.GivenCosts.{AreGiven}
@@ -12,7 +12,7 @@ use Rattle.placed_text.specs.declared.problem.Problem.{Problem}
 
 -- what a problem asks of its program
 abbrev pub question_in : Problem → Question
-question_in problem = asked problem.litmus.program problem.shown
+question_in problem = asked_with problem.costs.ties problem.litmus.program problem.shown
 
 -- the litmus text stands for the problem's test, its gaps have these costs, and what is shown is of the kind
 pub record IsProblem (litmus : List ℕ) (costs : Option (List ℕ)) (kind : ShownKind) (problem : Problem) : Type 0 where
@@ -22,4 +22,4 @@ pub record IsProblem (litmus : List ℕ) (costs : Option (List ℕ)) (kind : Sho
 
 -- it holds of a certificate of the problem's answer
 abbrev pub OfItsPlacement : Problem → (Certificate → Type 0) → Type 0
-OfItsPlacement problem holds = (placed : Certificate) × IsPlacement (question_in problem) problem.costs placed × holds placed
+OfItsPlacement problem holds = (placed : Certificate) × IsPlacement (question_in problem) problem.costs.costs placed × holds placed

@@ -1,5 +1,6 @@
 -- Why nothing is placed in the program of a text. Out of memory comes anywhere, and only as the fault of that name.
 use Rattle.std.specs.Prelude.{◌≡◌, ◌≢◌, ℕ, List, Option, Some, ⊤}
+use Rattle.gap_sets.specs.declared.ties.TiedCosts.{TiedCosts}
 use Rattle.tso_program.specs.declared.listing.Listing.{Listing}
 use Rattle.litmus_text.specs.Litmus.{Litmus}
 use Rattle.litmus_text.specs.ReadFault.{ReadFault}
@@ -28,7 +29,7 @@ pub record AreNoCosts (p : Listing) (costs : Option (List ℕ)) (why : CostTextF
   pub text : List ℕ
   pub is_given : costs ≡ Some text
   pub refused : cost_texts.RefusesCosts text p.threads why
-  pub none : (given : List ℕ) → cost_texts.IsCostText text p.threads given → ⊥
+  pub none : (given : TiedCosts) → cost_texts.IsCostText text p.threads given → ⊥
   pub not_memory : why ≢ cost_fault.OutOfMemory
 
 abbrev pub HasNoCosts : Listing → Option (List ℕ) → TextFault → Type 0
@@ -55,5 +56,5 @@ abbrev pub HasNoPlacedText : List ℕ → Option (List ℕ) → ℕ → TextFaul
 HasNoPlacedText litmus costs workers (fault.Read why) = IsRefusedText litmus why
 HasNoPlacedText litmus costs workers (fault.CostText why) = (source : Litmus Listing) × IsLitmus litmus source × AreNoCosts source.program costs why
 HasNoPlacedText litmus costs workers fault.Workers =
-    (source : Litmus Listing) × (gap_costs : List ℕ) × IsLitmus litmus source × AreGiven source.program costs gap_costs × AreTooFewOrMany workers
+    (source : Litmus Listing) × (gap_costs : TiedCosts) × IsLitmus litmus source × AreGiven source.program costs gap_costs × AreTooFewOrMany workers
 HasNoPlacedText litmus costs workers fault.OutOfMemory = ⊤

@@ -4,6 +4,8 @@ use Rattle.std.specs.List.{concat}
 use Rattle.std.specs.FinSet as set
 use Rattle.gap_sets.specs.Gaps.{SetOfGaps, numbers_of_set}
 use Rattle.gap_sets.specs.Order.{total}
+use Rattle.gap_sets.specs.Ties.{names_in, spread}
+use Rattle.gap_sets.specs.declared.ties.TiedCosts.{TiedCosts}
 use Rattle.tso_program.specs.declared.listing.Listing.{Listing}
 use Rattle.tso_program.specs.declared.outcome.Outcome.{Outcome}
 use Rattle.tso_program.specs.declared.shown.Shown.{Shown, TheVariants.All, TheVariants.Only, TheVariants.Truth}
@@ -17,13 +19,15 @@ use Rattle.tso_machine.specs.Outcomes.{IsForeignRun, IsShownRun, IsTheAnswer}
 use Rattle.tso_program.specs.Truth.{truth}
 use Rattle.litmus_text.specs.Litmus.{Litmus}
 use Rattle.litmus_text.specs.Texts.{IsLitmus}
-use Rattle.litmus_text.specs.Shown.{shown_as, question_of}
+use Rattle.litmus_text.specs.Shown.{shown_as}
 use Rattle.litmus_text.specs.GivenCosts.{AreGiven}
 use Rattle.report.specs.Answers.{answer_line, printed_labels, outcome_line, passed_line, without_line}
 use Rattle.documents.specs.declared.run.Setting.TheVariants.{Without}
 use Rattle.documents.specs.Documents.{IsWhyDocument}
 use Rattle.documents.specs.Runs.{TellsRun}
+use Rattle.placed_text.specs.declared.reasons.LeftOut.{LeftOut}
 use Rattle.placed_text.specs.MarkedTables.{IsMarkedTableOf}
+use Rattle.placed_text.specs.PlacedTexts.{tied_question}
 
 -- what is said of an outcome that no sequential run has, and of an answer without a gap
 abbrev pub is_foreign : List ℕ
@@ -62,45 +66,55 @@ abbrev pub ending_text : Litmus Listing → Shown → Outcome → SetOfGaps → 
 ending_text source shown outcome passed =
     outcome_line source.names (printed_of shown) outcome ++ passed_line source.program passed ++ foreign_lines shown (truth outcome source.condition.formula)
 
--- the gap, and a run with its table and how it ends
-abbrev pub reason_text : Litmus Listing → Shown → ℕ → List Label → List ℕ → Outcome → SetOfGaps → List ℕ
-reason_text source shown gap labels table outcome passed =
-    without_line source.program gap ++ printed_labels labels ++ table ++ ending_text source shown outcome passed
+-- the gaps of a tie, and a run with its table and how it ends
+abbrev pub reason_text : Litmus Listing → Shown → SetOfGaps → List Label → List ℕ → Outcome → SetOfGaps → List ℕ
+reason_text source shown tie labels table outcome passed =
+    without_line source.program tie ++ printed_labels labels ++ table ++ ending_text source shown outcome passed
 
--- store buffers, with the gaps of the set but this one fenced
-abbrev pub others_fenced : Listing → SetOfGaps → ℕ → Machine
-others_fenced p gaps gap = StoreBufferMachine (gaps_in p (set.remove gaps gap))
+-- store buffers, with the gaps of the other ties fenced
+abbrev pub others_fenced : Listing → LeftOut → Machine
+others_fenced p left_out = StoreBufferMachine (gaps_in p left_out.others)
 
--- the text is that of a run, with the table of its steps where the set's other gaps are fenced, in which the gap is marked
-abbrev pub IsReasonText : Litmus Listing → Shown → SetOfGaps → ℕ → List Label → Outcome → SetOfGaps → List ℕ → Type 0
-IsReasonText source shown gaps gap labels outcome passed text =
-    (table : List ℕ) × IsMarkedTableOf source (others_fenced source.program gaps gap) labels gap table × (text ≡ reason_text source shown gap labels table outcome passed)
+-- the text is that of a run, with the table of its steps where the gaps of the other ties are fenced, in which this gap is marked
+abbrev pub IsReasonText : Litmus Listing → Shown → LeftOut → ℕ → List Label → Outcome → SetOfGaps → List ℕ → Type 0
+IsReasonText source shown left_out gap labels outcome passed text =
+    (table : List ℕ) × IsMarkedTableOf source (others_fenced source.program left_out) labels gap table × (text ≡ reason_text source shown left_out.tie labels table outcome passed)
 
 -- the lines of a reason, and what the document says of its run
 abbrev pub Told : Type 0
 Told = List ℕ × List ℕ
 
--- Why a gap of a set is needed: the lines have the labels of a run that is one with no gap fenced and with the set's other gaps
--- fenced, its outcome, of which is shown what no sequential run shows, and the gaps that it passes, among them this one; the document says
+-- Why a tie is needed: the lines have the labels of a run that is one with no gap fenced and with the gaps of the other ties
+-- fenced, its outcome, of which is shown what no sequential run shows, and the gaps that it passes, among them one of the tie; the document says
 -- the same of it.
-pub record IsReason (source : Litmus Listing) (shown : Shown) (gaps : SetOfGaps) (gap : ℕ) (told : Told) : Type 0 where
+pub record IsReasonOf (source : Litmus Listing) (shown : Shown) (left_out : LeftOut) (told : Told) : Type 0 where
   pub labels : List Label
   pub outcome : Outcome
   pub ends : IsRun source.program (StoreBufferMachine no_gaps) labels outcome
   pub foreign : IsForeignRun (asked source.program shown) labels (show shown outcome)
-  pub fenced : IsShownRun (asked source.program shown) (others_fenced source.program gaps gap) labels (show shown outcome)
+  pub fenced : IsShownRun (asked source.program shown) (others_fenced source.program left_out) labels (show shown outcome)
   pub passed : SetOfGaps
   pub passes : ArePassed source.program (StoreBufferMachine no_gaps) labels passed
+  pub gap : ℕ
+  pub of_tie : set.contains left_out.tie gap ≡ true
   pub passes_it : set.contains passed gap ≡ true
-  pub printed : IsReasonText source shown gaps gap labels outcome passed told.0
+  pub printed : IsReasonText source shown left_out gap labels outcome passed told.0
   pub document : TellsRun source (printed_of shown) (Without gap) labels outcome passed told.1
 
--- one for each of these gaps, in order
-abbrev pub AreReasons : Litmus Listing → Shown → SetOfGaps → List ℕ → List Told → Type 0
-AreReasons source shown gaps [] [] = Unit {0}
-AreReasons source shown gaps [] (told ∷ more) = ⊥
-AreReasons source shown gaps (gap ∷ more) [] = ⊥
-AreReasons source shown gaps (gap ∷ more) (told ∷ reasons) = IsReason source shown gaps gap told × AreReasons source shown gaps more reasons
+-- the tie of a name, and the gaps of the other names of a set
+abbrev pub without_name : List ℕ → SetOfGaps → ℕ → LeftOut
+without_name ties names name = record { tie = spread ties (set.insert set.empty name); others = spread ties (set.remove names name) }
+
+-- why the tie of a name of a set is needed
+abbrev pub IsReason : Litmus Listing → Shown → List ℕ → SetOfGaps → ℕ → Told → Type 0
+IsReason source shown ties names name told = IsReasonOf source shown (without_name ties names name) told
+
+-- one for each of these names, in order
+abbrev pub AreReasons : Litmus Listing → Shown → List ℕ → SetOfGaps → List ℕ → List Told → Type 0
+AreReasons source shown ties names [] [] = Unit {0}
+AreReasons source shown ties names [] (told ∷ more) = ⊥
+AreReasons source shown ties names (name ∷ more) [] = ⊥
+AreReasons source shown ties names (name ∷ more) (told ∷ reasons) = IsReason source shown ties names name told × AreReasons source shown ties names more reasons
 
 -- the lines of reasons, one after the other
 abbrev pub told_lines : List Told → List ℕ
@@ -110,30 +124,32 @@ told_lines reasons = concat (map (λ told. told.0) reasons)
 abbrev pub runs_of : List Told → List (List ℕ)
 runs_of reasons = map (λ told. told.1) reasons
 
--- the text and the runs have one for each of these gaps, in order
-abbrev pub TellsReasons : Litmus Listing → Shown → SetOfGaps → List ℕ → List ℕ → List (List ℕ) → Type 0
-TellsReasons source shown gaps numbers text runs =
-    (reasons : List Told) × AreReasons source shown gaps numbers reasons × (text ≡ told_lines reasons) × (runs ≡ runs_of reasons)
+-- the text and the runs have one for each of these names, in order
+abbrev pub TellsReasons : Litmus Listing → Shown → List ℕ → SetOfGaps → List ℕ → List ℕ → List (List ℕ) → Type 0
+TellsReasons source shown ties names numbers text runs =
+    (reasons : List Told) × AreReasons source shown ties names numbers reasons × (text ≡ told_lines reasons) × (runs ≡ runs_of reasons)
 
 -- the text of the reasons; where it has no byte, the line that no gap is needed
 abbrev pub reasons_or_none : Shown → List ℕ → List ℕ
 reasons_or_none shown [] = none_line shown
 reasons_or_none shown (byte ∷ bytes) = byte ∷ bytes
 
--- the text has the line, and why each of the gaps is needed; the document has the gaps, their costs, and the same runs
-pub record TellsWhy (source : Litmus Listing) (shown : Shown) (costs : List ℕ) (gaps : SetOfGaps) (line text document : List ℕ) : Type 0 where
+-- the text has the line, and why each tie of the gaps is needed; the document has the gaps, their costs, and the same runs
+pub record TellsWhy (source : Litmus Listing) (shown : Shown) (costs : TiedCosts) (gaps : SetOfGaps) (line text document : List ℕ) : Type 0 where
   pub reasons : List Told
-  pub each : AreReasons source shown gaps (numbers_of_set gaps) reasons
+  pub each : AreReasons source shown costs.ties (names_in costs.ties gaps) (numbers_of_set (names_in costs.ties gaps)) reasons
   pub printed : text ≡ line ++ reasons_or_none shown (told_lines reasons)
   pub told : IsWhyDocument source shown costs gaps (runs_of reasons) document
 
--- What the text tells: the litmus text stands for this program, its gaps have these costs, these gaps are the answer; the
--- text has the line of the answer, and why each gap of it is needed. The document says the same.
+-- What the text tells: the litmus text stands for this program, its gaps have these costs and ties, these gaps are those of the names
+-- that are the answer; the text has the line of the answer, and why each tie of it is needed. The document says the same.
 pub record IsWhyText (litmus : List ℕ) (costs : Option (List ℕ)) (kind : ShownKind) (text document : List ℕ) : Type 0 where
   pub source : Litmus Listing
   pub of_text : IsLitmus litmus source
-  pub gap_costs : List ℕ
+  pub gap_costs : TiedCosts
   pub given : AreGiven source.program costs gap_costs
+  pub names : SetOfGaps
   pub gaps : SetOfGaps
-  pub answer : IsTheAnswer (question_of source kind) gap_costs gaps
-  pub told : TellsWhy source (shown_as source kind) gap_costs gaps (answer_line source.program (shown_as source kind) gaps (total gap_costs gaps)) text document
+  pub of_names : gaps ≡ spread gap_costs.ties names
+  pub answer : IsTheAnswer (tied_question source kind gap_costs) gap_costs.costs names
+  pub told : TellsWhy source (shown_as source kind) gap_costs gaps (answer_line source.program (shown_as source kind) gaps (total gap_costs.costs names)) text document

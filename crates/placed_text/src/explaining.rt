@@ -1,9 +1,10 @@
 //! Why the fences of a placement in the program of a text are needed.
-ghost use Rattle.std.specs.Prelude.{◌≡◌, ◌<◌, ◌++◌, ◌∷◌, [], true, IfErr, IfOk, OnOk, length, option_map};
+ghost use Rattle.std.specs.Prelude.{◌≡◌, ◌≤◌, ◌<◌, ◌++◌, ◌∷◌, [], true, IfErr, IfOk, OnOk, length, option_map};
 ghost use Rattle.std.specs.FinSet as set;
 ghost use Rattle.gap_sets.specs.Gaps.{numbers_of_set};
 ghost use Rattle.gap_sets.specs.declared.gap_set.TheConstants.{MAX_GAPS};
 ghost use Rattle.tso_program.specs.Listings.{gap_count};
+ghost use Rattle.tree_laws.specs.Certificates.{names_of};
 ghost use Rattle.tree_laws.specs.Laws.{IsProved};
 ghost use Rattle.report.specs.Answers.{answer_line};
 ghost use Rattle.fence_place.specs.Faults.{AreTooFewOrMany};
@@ -14,12 +15,13 @@ ghost use Rattle.placed_text.specs.WhyTexts.{none_line, reasons_or_none, IsReaso
 use crate::TextFault;
 use crate::problem::{Problem, read_problem};
 use crate::proposed::certificate_of;
-use crate::reasons::{GapReason, push_graph, reason_of, run_avoiding};
+use crate::reasons::{GapReason, LeftOut, push_graph, reason_of, run_avoiding};
 use crate::watched::Effort;
 use crate::writing::{cost_of, gaps_of};
 use cert_check::certificate_proves_answer;
 use cert_forest::Certificate;
 use documents::{LinedLitmus, why_document};
+use gap_sets::GapSet;
 use json_text::JsonArray;
 use litmus_text::Litmus;
 use report::answer_line;
@@ -38,6 +40,8 @@ pub struct WhyText {
     pub graph: Vec<u8>,
     /// What is printed with `--json`.
     pub document: Vec<u8>,
+    /// The gaps of the answer.
+    pub gaps: GapSet,
 }
 
 /// Why gaps are needed, one after the other.
@@ -54,30 +58,32 @@ impl Explanation {
         &mut self,
         alloc: Global,
         litmus: &Litmus<Program>,
-        gap: u8,
         reason: GapReason,
     ) -> Result<(), AllocError>
         ensures lines { OnOk result (self.new.lines.items ≡ self.old.lines.items ++ reason.lines.items) }
         ensures runs { OnOk result (self.new.runs ≡ self.old.runs ++ reason.run ∷ []) }
     {
-        push_graph(alloc, &mut self.graph, litmus, gap, &reason.steps)?;
+        push_graph(alloc, &mut self.graph, litmus, &reason)?;
         self.lines.extend_from_slice(&reason.lines)?;
         self.runs.add(reason.run)
     }
 }
 
-/// Why a gap of the answer is needed: a run of the certificate passes none of the others.
+/// Why a tie of the answer is needed: a run of the certificate passes no gap of the others. `names` has the answer's names,
+/// and this one is among them.
 fn reason_for(
     alloc: Global,
     problem: &Problem,
     certificate: &Certificate,
-    gap: u8,
+    names: &GapSet,
+    name: u8,
 ) -> Result<GapReason, AllocError>
-    requires one_each { length problem.now.costs ≡ gap_count problem.now.litmus.program.threads }
-    requires proved { IsProved (question_in problem.now) problem.now.costs certificate.now }
-    requires gap { gap < MAX_GAPS }
-    requires held { set.contains certificate.now.gaps gap ≡ true }
-    ensures { IfOk result (λ reason. IsReason problem.now.litmus problem.now.shown certificate.now.gaps gap (reason.lines.items, reason.run)) }
+    requires one_each { length problem.now.costs.costs ≡ gap_count problem.now.litmus.program.threads }
+    requires proved { IsProved (question_in problem.now) problem.now.costs.costs certificate.now }
+    requires names { names.now ≡ names_of (question_in problem.now) certificate.now }
+    requires name { name < MAX_GAPS }
+    requires held { set.contains names.now name ≡ true }
+    ensures { IfOk result (λ reason. IsReason problem.now.litmus problem.now.shown problem.now.costs.ties names.now name (reason.lines.items, reason.run)) }
 {
     let Problem {
         litmus,
@@ -85,35 +91,37 @@ fn reason_for(
         costs,
         ..
     } = problem;
-    let gaps = &certificate.set;
-    costs.recall_facts();
-    gaps.recall_facts();
-    let others = gaps.without(gap);
-    let run = run_avoiding(alloc, &litmus.program, &certificate.runs, &others)?;
-    reason_of(alloc, litmus, shown, gaps, gap, &run)
+    costs.costs.recall_facts();
+    names.recall_facts();
+    let left_out = LeftOut {
+        tie: costs.ties.spread(&GapSet::empty().with(name)),
+        others: costs.ties.spread(&names.without(name)),
+    };
+    let run = run_avoiding(alloc, &litmus.program, &certificate.runs, &left_out.others)?;
+    reason_of(alloc, litmus, shown, left_out, &run)
 }
 
-/// Why each gap of the answer is needed.
+/// Why each tie of the answer is needed.
 fn reasons(
     alloc: Global,
     problem: &Problem,
     certificate: &Certificate,
 ) -> Result<Explanation, AllocError>
-    requires one_each { length problem.now.costs ≡ gap_count problem.now.litmus.program.threads }
-    requires proved { IsProved (question_in problem.now) problem.now.costs certificate.now }
-    ensures { IfOk result (λ told. TellsReasons problem.now.litmus problem.now.shown certificate.now.gaps (numbers_of_set certificate.now.gaps) told.lines.items told.runs) }
+    requires one_each { length problem.now.costs.costs ≡ gap_count problem.now.litmus.program.threads }
+    requires proved { IsProved (question_in problem.now) problem.now.costs.costs certificate.now }
+    ensures { IfOk result (λ told. TellsReasons problem.now.litmus problem.now.shown problem.now.costs.ties (names_of (question_in problem.now) certificate.now) (numbers_of_set (names_of (question_in problem.now) certificate.now)) told.lines.items told.runs) }
 {
-    let set = gaps_of(certificate);
-    set.recall_facts();
+    let names = problem.costs.ties.names_in(&gaps_of(certificate));
+    names.recall_facts();
     let graph = RunGraph::new(alloc)?;
     let mut told = Explanation {
         lines: Vec::new(alloc),
         graph,
         runs: JsonArray::new(alloc),
     };
-    for gap in set.iter() {
-        let reason = reason_for(alloc, problem, certificate, gap)?;
-        told.push(alloc, &problem.litmus, gap, reason)?;
+    for name in names.iter() {
+        let reason = reason_for(alloc, problem, certificate, &names, name)?;
+        told.push(alloc, &problem.litmus, reason)?;
     }
     Ok(told)
 }
@@ -146,8 +154,8 @@ fn explained(
     problem: &Problem,
     certificate: &Certificate,
 ) -> Result<WhyText, AllocError>
-    requires one_each { length problem.now.costs ≡ gap_count problem.now.litmus.program.threads }
-    requires proved { IsProved (question_in problem.now) problem.now.costs certificate.now }
+    requires one_each { length problem.now.costs.costs ≡ gap_count problem.now.litmus.program.threads }
+    requires proved { IsProved (question_in problem.now) problem.now.costs.costs certificate.now }
     ensures { IfOk result (λ told. TellsWhy problem.now.litmus problem.now.shown problem.now.costs certificate.now.gaps (answer_line problem.now.litmus.program problem.now.shown certificate.now.gaps certificate.now.cost) told.lines.items told.document.items) }
 {
     let Problem {
@@ -176,6 +184,7 @@ fn explained(
         lines,
         graph,
         document,
+        gaps: set,
     })
 }
 
@@ -186,14 +195,15 @@ fn why_of<R: Threads + Wait + Sync>(
     problem: &Problem,
     effort: Effort,
 ) -> Result<WhyText, TextFault>
-    requires { length problem.now.costs ≡ gap_count problem.now.litmus.program.threads }
+    requires one_each { length problem.now.costs.costs ≡ gap_count problem.now.litmus.program.threads }
+    requires ties { length problem.now.costs.ties ≤ gap_count problem.now.litmus.program.threads }
     ensures told { IfOk result (λ told. OfItsPlacement problem.now (λ placed. TellsWhy problem.now.litmus problem.now.shown problem.now.costs placed.gaps (answer_line problem.now.litmus.program problem.now.shown placed.gaps placed.cost) told.lines.items told.document.items)) }
     ensures workers { OnOk result (¬ AreTooFewOrMany effort.workers) }
     ensures fault { IfErr result (HasNoPlacement effort.workers) }
 {
     let certificate = certificate_of(rt, alloc, problem, effort)?;
     // For the proof alone: the certificate is valid, so of each better set one of its runs passes no gap.
-    certificate_proves_answer(&problem.litmus.program, &problem.shown, &problem.costs);
+    certificate_proves_answer(&problem.litmus.program, &problem.costs.costs);
     Ok(explained(alloc, problem, &certificate)?)
 }
 

@@ -1,5 +1,5 @@
 //! From a placement problem to the certificate of its answer: its sequential outcomes, a solver of them, and the hunt.
-ghost use Rattle.std.specs.Prelude.{◌≡◌, IfErr, IfOk, OnOk, length};
+ghost use Rattle.std.specs.Prelude.{◌≡◌, ◌≤◌, IfErr, IfOk, OnOk, length};
 ghost use Rattle.tso_program.specs.Listings.{gap_count};
 ghost use Rattle.fence_place.specs.Faults.{AreTooFewOrMany};
 ghost use Rattle.fence_place.specs.Placements.{IsPlacement};
@@ -11,7 +11,7 @@ use crate::ahead::report_ahead;
 use crate::problem::Problem;
 use crate::watched::{Effort, Watched, report_outcomes};
 use cert_forest::Certificate;
-use cover_solver::{SeqTable, Solver, sequential};
+use cover_solver::{SeqTable, SolveFault, Solver, sequential};
 use fence_place::{Oracles, PlaceFault, place};
 use gap_sets::Costs;
 use std::alloc::Global;
@@ -27,24 +27,28 @@ pub(crate) fn placement_of<R: Threads + Wait + Sync>(
     problem: &Problem,
     effort: Effort,
 ) -> Result<Certificate, TextFault>
-    requires { length problem.now.costs ≡ gap_count problem.now.litmus.program.threads }
-    ensures placement { IfOk result (IsPlacement (question_in problem.now) problem.now.costs) }
+    requires one_each { length problem.now.costs.costs ≡ gap_count problem.now.litmus.program.threads }
+    requires ties { length problem.now.costs.ties ≤ gap_count problem.now.litmus.program.threads }
+    ensures placement { IfOk result (IsPlacement (question_in problem.now) problem.now.costs.costs) }
     ensures workers { OnOk result (¬ AreTooFewOrMany effort.workers) }
     ensures fault { IfErr result (HasNoPlacement effort.workers) }
 {
-    let Problem {
-        litmus,
-        shown,
-        costs,
-        ..
-    } = problem;
-    let program = &litmus.program;
+    let program = &problem.litmus.program;
     let progress = report_ahead(alloc, program, effort.progress);
-    let table = sequential(alloc, program, shown)?;
+    let table = table_of(alloc, problem)?;
     report_outcomes(alloc, progress, table.outcomes().len());
     let solver = Solver::new(alloc, program, &table)?;
     let effort = Effort { progress, ..effort };
-    certificate_by(rt, alloc, &solver, &table, costs, effort)
+    certificate_by(rt, alloc, &solver, &table, &problem.costs.costs, effort)
+}
+
+/// The sequential outcomes of a problem's program, for the question in which the problem's ties go together.
+fn table_of(alloc: Global, problem: &Problem) -> Result<SeqTable, SolveFault>
+    ensures { IfOk result (λ table. table.question ≡ question_in problem.now) }
+{
+    let table = sequential(alloc, &problem.litmus.program, &problem.shown)?;
+    let ties = problem.costs.ties.copy()?;
+    Ok(table.with_ties(ties))
 }
 
 /// The certificate of the best set of gaps that serves, by a solver. It reports how many sets are asked about.
@@ -58,6 +62,7 @@ fn certificate_by<R: Threads + Wait + Sync>(
 ) -> Result<Certificate, TextFault>
     requires question { solver.now.question ≡ table.now.question }
     requires one_each { length costs.now ≡ gap_count table.now.question.program.threads }
+    requires ties { length table.now.question.ties ≤ gap_count table.now.question.program.threads }
     ensures placed { IfOk result (IsPlacement table.now.question costs.now) }
     ensures workers { OnOk result (¬ AreTooFewOrMany effort.workers) }
     ensures fault { IfErr result (HasNoPlacement effort.workers) }

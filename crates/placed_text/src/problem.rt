@@ -1,5 +1,5 @@
 //! Placement problems, and what they are read from.
-ghost use Rattle.std.specs.Prelude.{◌≡◌, IfErr, IfOk, length, option_map};
+ghost use Rattle.std.specs.Prelude.{◌≡◌, ◌≤◌, IfErr, IfOk, length, option_map};
 ghost use Rattle.tso_program.specs.Listings.{gap_count};
 ghost use Rattle.litmus_text.specs.Texts.{IsLitmus};
 ghost use Rattle.litmus_text.specs.GivenCosts.{AreGiven};
@@ -8,18 +8,18 @@ ghost use Rattle.placed_text.specs.TextFaults.{HasNoProblem, HasNoProgram, HasNo
 
 use crate::TextFault;
 use gap_list::TextLines;
-use gap_sets::Costs;
+use gap_sets::TiedCosts;
 use litmus_text::{CostTextFault, Litmus, ReadFault, given_costs, read_litmus};
 use std::alloc::Global;
 use tso_program::{Program, Shown, ShownKind};
 
-/// A placement problem: a litmus test, what is shown of its outcomes, what each gap of its program costs, and the lines of
-/// its text.
+/// A placement problem: a litmus test, what is shown of its outcomes, what each gap of its program costs, which go
+/// together, and the lines of its text.
 #[derive(Drop)]
 pub(crate) struct Problem {
     pub(crate) litmus: Litmus<Program>,
     pub(crate) shown: Shown,
-    pub(crate) costs: Costs,
+    pub(crate) costs: TiedCosts,
     pub(crate) lines: TextLines,
 }
 
@@ -35,12 +35,12 @@ pub fn read_program(alloc: Global, text: &[u8]) -> Result<Litmus<Program>, TextF
     }
 }
 
-/// The costs that a text gives a program's gaps; 1 each without a text.
+/// The costs that a text gives a program's gaps, with their ties; 1 each without a text.
 pub fn read_gap_costs(
     alloc: Global,
     text: Option<&[u8]>,
     program: &Program,
-) -> Result<Costs, TextFault>
+) -> Result<TiedCosts, TextFault>
     ensures given { IfOk result (AreGiven program.now (option_map (λ text. text.now) text.entry)) }
     ensures refused { IfErr result (HasNoCosts program.now (option_map (λ text. text.now) text.entry)) }
 {
@@ -62,7 +62,8 @@ pub(crate) fn read_problem(
     kind: ShownKind,
 ) -> Result<Problem, TextFault>
     ensures problem { IfOk result (IsProblem litmus.now (option_map (λ text. text.now) costs.entry) kind) }
-    ensures one_each { IfOk result (λ problem. length problem.costs ≡ gap_count problem.litmus.program.threads) }
+    ensures one_each { IfOk result (λ problem. length problem.costs.costs ≡ gap_count problem.litmus.program.threads) }
+    ensures ties { IfOk result (λ problem. length problem.costs.ties ≤ gap_count problem.litmus.program.threads) }
     ensures fault { IfErr result (HasNoProblem litmus.now (option_map (λ text. text.now) costs.entry)) }
 {
     let text = litmus;

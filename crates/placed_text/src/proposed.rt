@@ -1,6 +1,6 @@
 //! The certificate of a problem's answer. For a program of many combinations of traces a search proposes it, and the checker
 //! judges what is proposed.
-ghost use Rattle.std.specs.Prelude.{◌≡◌, IfErr, IfOk, IfSome, OnOk, length};
+ghost use Rattle.std.specs.Prelude.{◌≡◌, ◌≤◌, IfErr, IfOk, IfSome, OnOk, length};
 ghost use Rattle.tso_program.specs.Listings.{gap_count};
 ghost use Rattle.fence_place.specs.Faults.{AreTooFewOrMany};
 ghost use Rattle.fence_place.specs.Placements.{IsPlacement};
@@ -29,8 +29,9 @@ pub(crate) fn certificate_of<R: Threads + Wait + Sync>(
     problem: &Problem,
     effort: Effort,
 ) -> Result<Certificate, TextFault>
-    requires { length problem.now.costs ≡ gap_count problem.now.litmus.program.threads }
-    ensures placement { IfOk result (IsPlacement (question_in problem.now) problem.now.costs) }
+    requires one_each { length problem.now.costs.costs ≡ gap_count problem.now.litmus.program.threads }
+    requires ties { length problem.now.costs.ties ≤ gap_count problem.now.litmus.program.threads }
+    ensures placement { IfOk result (IsPlacement (question_in problem.now) problem.now.costs.costs) }
     ensures workers { OnOk result (¬ AreTooFewOrMany effort.workers) }
     ensures fault { IfErr result (HasNoPlacement effort.workers) }
 {
@@ -66,7 +67,7 @@ fn proposed<R: Threads + Sync>(
     problem: &Problem,
     effort: Effort,
 ) -> Result<Option<Certificate>, AllocError>
-    ensures { IfOk result (λ found. IfSome found (IsPlacement (question_in problem.now) problem.now.costs)) }
+    ensures { IfOk result (λ found. IfSome found (IsPlacement (question_in problem.now) problem.now.costs.costs)) }
 {
     let Problem {
         litmus,

@@ -1,18 +1,18 @@
 //! Why a gap of the answer is needed.
-ghost use Rattle.std.specs.Prelude.{◌≡◌, ◌<◌, ◌++◌, true, IfOk, OnOk, Contains, map};
+ghost use Rattle.std.specs.Prelude.{◌≡◌, ◌++◌, ℕ, List, true, IfOk, OnOk, Contains, map};
 ghost use Rattle.std.specs.FinSet as set;
-ghost use Rattle.gap_sets.specs.declared.gap_set.TheConstants.{MAX_GAPS};
+ghost use Rattle.tso_program.specs.Fences.{gaps_in};
 ghost use Rattle.tso_program.specs.declared.shown.Shown.TheVariants.{All};
 ghost use Rattle.tso_program.specs.Shown.{asked};
 ghost use Rattle.tso_machine.specs.declared.label.Model.TheVariants.{Buffered};
 ghost use Rattle.tso_machine.specs.FenceLaws.{PassesNoGapOf};
-ghost use Rattle.tso_machine.specs.Machine.{start};
+ghost use Rattle.tso_machine.specs.declared.label.Label.{Label};
+ghost use Rattle.tso_machine.specs.Machine.{StoreBufferMachine, start};
 ghost use Rattle.tso_machine.specs.Outcomes.{IsReplayOf};
 ghost use Rattle.tso_machine.specs.Steps.{AreSteps};
-ghost use Rattle.tree_laws.specs.GapTrees.{SomePassesNone};
 ghost use Rattle.tree_laws.specs.Laws.{IsForeign};
 ghost use Rattle.report.specs.Answers.{printed_labels, without_line};
-ghost use Rattle.placed_text.specs.WhyTexts.{is_foreign, met_line, alone_line, foreign_lines, printed_of, ending_text, others_fenced, IsReason};
+ghost use Rattle.placed_text.specs.WhyTexts.{is_foreign, met_line, alone_line, foreign_lines, printed_of, ending_text, IsReasonOf};
 
 use crate::marked_table::marked_table;
 use cert_forest::Runs;
@@ -26,9 +26,20 @@ use std::alloc::{AllocError, Global};
 use tso_machine::{Ended, Label, Model, Step, replay_shown, steps};
 use tso_program::{Program, Shown};
 
-/// Why a gap is needed.
+/// A tie that is left out of an answer, and the gaps of the others.
+#[derive(Clone, Copy)]
+pub(crate) struct LeftOut {
+    pub(crate) tie: GapSet,
+    pub(crate) others: GapSet,
+}
+
+/// Why a tie is needed.
 #[derive(Drop)]
 pub(crate) struct GapReason {
+    /// The gaps of the tie.
+    pub(crate) tie: GapSet,
+    /// The one that the run passes.
+    pub(crate) gap: u8,
     /// What is printed.
     pub(crate) lines: Vec<u8>,
     /// What the document says of the run.
@@ -51,7 +62,7 @@ pub(crate) fn run_avoiding<'a>(
     runs: &'a Runs,
     gaps: &GapSet,
 ) -> Result<EndedRun<'a>, AllocError>
-    requires { SomePassesNone program.now runs.now gaps.now }
+    requires { (labels : List Label) × Contains runs.now labels × PassesNoGapOf program.now gaps.now labels }
     ensures here { IfOk result (λ run. Contains runs.now run.labels.now) }
     ensures ended { IfOk result (λ run. IsReplayOf (asked program.now All) Buffered run.labels.now run.ended) }
     ensures avoids { IfOk result (λ run. PassesNoGapOf program.now gaps.now run.labels.now) }
@@ -65,32 +76,44 @@ pub(crate) fn run_avoiding<'a>(
     unreachable!()
 }
 
-/// Adds a run to a graph, under the gap that it needs.
+/// Adds the run of a reason to a graph, under the tie that it needs.
 pub(crate) fn push_graph(
     alloc: Global,
     graph: &mut RunGraph,
     litmus: &Litmus<Program>,
-    gap: u8,
-    steps: &[Step],
+    reason: &GapReason,
 ) -> Result<(), AllocError> {
-    let line = without_line(alloc, &litmus.program, gap)?;
-    graph.push_run(alloc, litmus, line.trim_ascii_end(), steps, Some(gap))
+    let line = without_line(alloc, &litmus.program, &reason.tie)?;
+    let title = line.trim_ascii_end();
+    graph.push_run(alloc, litmus, title, &reason.steps, Some(reason.gap))
 }
 
-/// The steps of a run, where the other gaps of the answer are fenced.
+/// The least gap of a tie that a run passes.
+fn passed_gap(tie: &GapSet, passed: &GapSet) -> u8
+    requires { (gap : ℕ) × (set.contains tie.now gap ≡ true) × (set.contains passed.now gap ≡ true) }
+    ensures tie { set.contains tie.now result ≡ true }
+    ensures passed { set.contains passed.now result ≡ true }
+{
+    tie.recall_facts();
+    for gap in tie.iter() {
+        if passed.has(gap) {
+            return gap;
+        }
+    }
+    unreachable!()
+}
+
+/// The steps of a run, where the gaps of the answer's other ties are fenced.
 fn steps_of(
     alloc: Global,
     program: &Program,
-    gaps: &GapSet,
-    gap: u8,
+    others: &GapSet,
     labels: &[Label],
 ) -> Result<Vec<Step>, AllocError>
-    requires { gap < MAX_GAPS }
-    ensures steps { IfOk result (λ steps. AreSteps program.now (others_fenced program.now gaps.now gap) (start program.now) labels.now steps.items) }
+    ensures steps { IfOk result (λ steps. AreSteps program.now (StoreBufferMachine (gaps_in program.now others.now)) (start program.now) labels.now steps.items) }
     ensures labels { IfOk result (λ steps. map (λ step. step.label) steps.items ≡ labels.now) }
 {
-    let others = gaps.without(gap);
-    match steps(alloc, program, &others, Model::Buffered, labels) {
+    match steps(alloc, program, others, Model::Buffered, labels) {
         Ok(steps) => Ok(steps),
         Err(_) => Err(AllocError),
     }
@@ -175,51 +198,53 @@ fn ending_lines(
     Ok(lines)
 }
 
-/// A gap, and a run: its labels, its table, and how it ends.
+/// A tie, and a run: its labels, its table, and how it ends.
 fn lines_with(
     alloc: Global,
     program: &Program,
-    gap: u8,
+    tie: &GapSet,
     labels: &[Label],
     table: &[u8],
     ending: &[u8],
 ) -> Result<Vec<u8>, AllocError>
-    ensures { IfOk result (λ lines. lines.items ≡ without_line program.now gap ++ printed_labels labels.now ++ table.now ++ ending.now) }
+    ensures { IfOk result (λ lines. lines.items ≡ without_line program.now tie.now ++ printed_labels labels.now ++ table.now ++ ending.now) }
 {
     let labels = labels_line(alloc, labels)?;
-    let mut lines = without_line(alloc, program, gap)?;
+    let mut lines = without_line(alloc, program, tie)?;
     lines.extend_from_slice(&labels)?;
     lines.extend_from_slice(table)?;
     lines.extend_from_slice(ending)?;
     Ok(lines)
 }
 
-/// Why a gap of the answer is needed, by a run that passes none of the others.
+/// Why a tie of the answer is needed, by a run that passes no gap of the others.
 pub(crate) fn reason_of(
     alloc: Global,
     litmus: &Litmus<Program>,
     shown: &Shown,
-    gaps: &GapSet,
-    gap: u8,
+    left_out: LeftOut,
     run: &EndedRun<'_>,
 ) -> Result<GapReason, AllocError>
-    requires gap { gap < MAX_GAPS }
     requires foreign { IsForeign (asked litmus.now.program shown.now) run.now.labels.now }
     requires ended { IsReplayOf (asked litmus.now.program All) Buffered run.now.labels.now run.now.ended }
-    requires avoids { PassesNoGapOf litmus.now.program (set.remove gaps.now gap) run.now.labels.now }
-    requires passes { set.contains run.now.ended.passed gap ≡ true }
-    ensures { IfOk result (λ reason. IsReason litmus.now shown.now gaps.now gap (reason.lines.items, reason.run)) }
+    requires avoids { PassesNoGapOf litmus.now.program left_out.others run.now.labels.now }
+    requires passes { (gap : ℕ) × (set.contains left_out.tie gap ≡ true) × (set.contains run.now.ended.passed gap ≡ true) }
+    ensures { IfOk result (λ reason. IsReasonOf litmus.now shown.now left_out (reason.lines.items, reason.run)) }
 {
     let EndedRun { labels, ended } = run;
-    let steps = steps_of(alloc, &litmus.program, gaps, gap, labels)?;
+    let LeftOut { tie, others } = left_out;
+    let gap = passed_gap(&tie, &ended.passed);
+    let steps = steps_of(alloc, &litmus.program, &others, labels)?;
     let table = run_table(alloc, litmus, &steps)?;
     let marked = marked_table(alloc, &litmus.program, gap, &steps, &table)?;
     let ending = ending_lines(alloc, litmus, shown, ended)?;
-    let lines = lines_with(alloc, &litmus.program, gap, labels, &marked, &ending)?;
+    let lines = lines_with(alloc, &litmus.program, &tie, labels, &marked, &ending)?;
     let printed = printed_of(shown);
     let setting = Setting::Without(gap);
     let said = run_value(alloc, litmus, &printed, setting, &steps, ended)?;
     Ok(GapReason {
+        tie,
+        gap,
         lines,
         run: said,
         steps,

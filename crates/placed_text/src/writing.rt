@@ -1,5 +1,5 @@
 //! The texts of an answer, and of its certificate.
-ghost use Rattle.std.specs.Prelude.{◌≡◌, None, IfErr, IfOk, OnOk, length, option_map};
+ghost use Rattle.std.specs.Prelude.{◌≡◌, ◌≤◌, None, IfErr, IfOk, OnOk, length, option_map};
 ghost use Rattle.tso_program.specs.Fences.{first_missing};
 ghost use Rattle.tso_program.specs.Listings.{gap_count};
 ghost use Rattle.fence_place.specs.Faults.{AreTooFewOrMany};
@@ -114,7 +114,8 @@ fn answer_of<R: Threads + Wait + Sync>(
     problem: &Problem,
     effort: Effort,
 ) -> Result<AnswerText, TextFault>
-    requires { length problem.now.costs ≡ gap_count problem.now.litmus.program.threads }
+    requires one_each { length problem.now.costs.costs ≡ gap_count problem.now.litmus.program.threads }
+    requires ties { length problem.now.costs.ties ≤ gap_count problem.now.litmus.program.threads }
     ensures told { IfOk result (λ texts. OfItsPlacement problem.now (λ placed. AreTextsOf problem.now placed.gaps placed.cost texts)) }
     ensures workers { OnOk result (¬ AreTooFewOrMany effort.workers) }
     ensures fault { IfErr result (HasNoPlacement effort.workers) }
@@ -133,7 +134,8 @@ fn place_in<R: Threads + Wait + Sync>(
     problem: &Problem,
     effort: Effort,
 ) -> Result<PlacedText, TextFault>
-    requires { length problem.now.costs ≡ gap_count problem.now.litmus.program.threads }
+    requires one_each { length problem.now.costs.costs ≡ gap_count problem.now.litmus.program.threads }
+    requires ties { length problem.now.costs.ties ≤ gap_count problem.now.litmus.program.threads }
     ensures placed { IfOk result (λ written. OfItsPlacement problem.now (λ placed. ArePlacedTextsOf problem.now placed written)) }
     ensures workers { OnOk result (¬ AreTooFewOrMany effort.workers) }
     ensures fault { IfErr result (HasNoPlacement effort.workers) }

@@ -10,7 +10,7 @@ pub use Rattle.std.proofs.lemmas.Option.{get_or_from_slice_get, none-some, same_
 pub use Rattle.std.specs.List.{AllPairs, remove}
 pub use Rattle.std.specs.Option.{MatchOption, is_some, option_map_or}
 pub use Rattle.std.specs.Prelude.{option_map, unwrap_or}
-pub use Rattle.candidate_executions.proofs.FromRuns.StepsSuffice.{Advances, advance}
+pub use Rattle.tso_program.proofs.Advance.{Advances, advance}
 pub use Rattle.candidate_executions.proofs.Orders.Lists.{first_is_here, first_or_later, get_cases, get_set_other, get_set_same, get_some, later_is_here, mapped, some_value}
 pub use Rattle.candidate_executions.specs.Candidates.{IsAccess, access_by}
 pub use Rattle.candidate_executions.specs.Consistency.{Precedes}

@@ -9,7 +9,7 @@ use Rattle.tso_machine.specs.declared.label.Label.{Label}
 use Rattle.tso_machine.specs.RunTexts.{run_text}
 use Rattle.litmus_reader.specs.Names.{TextNames}
 use Rattle.outcome_text.specs.Outcomes.{outcome_text}
-use Rattle.report.specs.Places.{gap_text, gaps_text}
+use Rattle.report.specs.Places.{gaps_text}
 
 -- a text after a space, or nothing where there is no text
 abbrev pub after_space : List ℕ → List ℕ
@@ -27,9 +27,9 @@ outcome_line names shown outcome = codes "outcome:" ++ after_space (outcome_text
 abbrev pub passed_line : Listing → SetOfGaps → List ℕ
 passed_line p gaps = codes "passed" ++ gaps_text p.threads gaps ++ 10 ∷ []
 
--- the gap by its place
-abbrev pub without_line : Listing → ℕ → List ℕ
-without_line p gap = codes "without" ++ gap_text p.threads gap ++ 10 ∷ []
+-- the gaps of a tie by their places, ascending
+abbrev pub without_line : Listing → SetOfGaps → List ℕ
+without_line p tie = codes "without" ++ gaps_text p.threads tie ++ 10 ∷ []
 
 -- what says that not all is shown: values that are named, or the truth of the condition's formula
 abbrev pub shown_word : Shown → List ℕ

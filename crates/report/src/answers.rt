@@ -3,7 +3,7 @@
 ghost use Rattle.std.specs.Prelude.{◌≡◌, ◌++◌, IfOk, OnOk, codes};
 ghost use Rattle.report.specs.Answers.{after_space, printed_labels, outcome_line, passed_line, without_line, shown_word, set_line, answer_line};
 
-use crate::places::{push_gap, push_gaps};
+use crate::places::push_gaps;
 use gap_sets::GapSet;
 use litmus_reader::NameTable;
 use outcome_text::write_outcome;
@@ -60,12 +60,12 @@ pub fn passed_line(alloc: Global, program: &Program, passed: &GapSet) -> Result<
     Ok(line.into_bytes())
 }
 
-/// The gap that is left out of the answer.
-pub fn without_line(alloc: Global, program: &Program, gap: u8) -> Result<Vec<u8>, AllocError>
-    ensures { IfOk result (λ line. line.items ≡ without_line program.now gap) }
+/// The gaps of a tie that is left out of the answer.
+pub fn without_line(alloc: Global, program: &Program, tie: &GapSet) -> Result<Vec<u8>, AllocError>
+    ensures { IfOk result (λ line. line.items ≡ without_line program.now tie.now) }
 {
     let mut line = String::from_str(alloc, "without")?;
-    push_gap(&mut line, program, gap)?;
+    push_gaps(&mut line, program, tie)?;
     line.push('\n')?;
     Ok(line.into_bytes())
 }

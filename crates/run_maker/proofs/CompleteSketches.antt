@@ -12,7 +12,8 @@ use Rattle.tso_program.proofs.{Kept.memory_long, Kept.value_at as kept_value, Kn
 use Rattle.candidate_executions.specs.declared.event.Kind.TheVariants as union
 use Rattle.candidate_executions.specs.{Traces.fenced_gaps, RunCandidates.IsCandidateOf}
 use Rattle.candidate_executions.proofs.{ToRuns.CandidatesAreRuns.every_order, Candidates.LastWrites.one_end, Candidates.LastWrites.ends_with, ToRuns.Linear.contains_in, ToRuns.Linear.pairs_ordered}
-use Rattle.candidate_executions.proofs.{Sketches.MoreValues.end_or_read, FromRuns.StepsSuffice.advance, Orders.WiderRelations.acyclic_narrower}
+use Rattle.candidate_executions.proofs.{Sketches.MoreValues.end_or_read, Orders.WiderRelations.acyclic_narrower}
+use Rattle.tso_program.proofs.Advance.{advance}
 use Rattle.program_sketches.specs.Kept.{IsLawful}
 use Rattle.rowless_sketches.specs.Completions.{MustEndSo}
 use Rattle.exec_axioms.specs.Complete.{IsComplete}

@@ -61,6 +61,9 @@ const gapPlace = gap => gap.split(":").map(Number);
 
 const gapCost = gap => given.gaps.find(priced => priced.gap === gap).cost;
 
+// The gaps that go together with a gap, itself among them.
+const tieOf = gap => (given.ties ?? []).find(tie => tie.includes(gap)) ?? [gap];
+
 // The gaps that are fenced: those of the answer, or those that `fencer witness` was asked to fence.
 const fencedGaps = () => given.answer ? given.answer.set : given.fences ?? [];
 

@@ -12,7 +12,7 @@ function programLines({ instructions, end }, thread, leftOut) {
     const gap = `${thread}:${number}`;
     const label = html("span", { class: "label" }, labels.map(name => name + ": ").join(""));
     const line = html("li", { "data-number": number, "data-at": gap }, label, html("span", { class: "text" }, text));
-    return fencedGaps().includes(gap) ? [fenceLine(gap, gap === leftOut), line] : [line];
+    return fencedGaps().includes(gap) ? [fenceLine(gap, leftOut !== null && tieOf(leftOut).includes(gap)), line] : [line];
   });
   if (end.length > 0) {
     const label = html("span", { class: "label" }, end.map(name => name + ":").join(" "));
@@ -21,9 +21,11 @@ function programLines({ instructions, end }, thread, leftOut) {
   return lines;
 }
 
-// A fence, with its cost in the pages of answers.
+// A fence, with its cost in the pages of answers, and the gaps that go together with it.
 function fenceLine(gap, isOut) {
-  const cost = given.gaps ? [" ", html("small", {}, `${isOut ? "left out, " : ""}cost ${gapCost(gap)}`)] : [];
+  const others = tieOf(gap).filter(other => other !== gap);
+  const together = others.length > 0 ? ` with ${others.join(", ")}` : "";
+  const cost = given.gaps ? [" ", html("small", {}, `${isOut ? "left out, " : ""}cost ${gapCost(gap)}${together}`)] : [];
   return html("li", { class: isOut ? "fence out" : "fence", "data-gap": gap }, "MFENCE", ...cost);
 }
 

@@ -78,9 +78,9 @@ function showRuns(runs) {
   const panel = html("div", { role: "tabpanel", id: "panel", "aria-labelledby": "tab0" });
   const tabs = runs.map(({ gap }, i) => html("button", {
     type: "button", role: "tab", id: "tab" + i, "aria-controls": "panel",
-    "aria-label": `without the fence before ${placeOf(gap).map(part => part.textContent ?? part).join("")}`,
+    "aria-label": `without the fence before ${tieOf(gap).map(own => placeOf(own).map(part => part.textContent ?? part).join("")).join(" and ")}`,
     on: { click: () => pick(i, 0), keydown: event => pickByKey(event, i) },
-  }, `${threadName(gapPlace(gap)[0])} ${gap}`));
+  }, tieOf(gap).map(own => `${threadName(gapPlace(own)[0])} ${own}`).join(", ")));
   let player = null;
 
   function pick(chosen, steps) {

@@ -114,7 +114,8 @@ class Player {
     const lines = this.moments().map(({ steps, isBad, say }) => html("li", { class: isBad ? "bad" : "" },
       html("span", { class: "where" }, steps.map(step => this.stepButton(step))), html("span", {}, say)));
     const title = this.run.gap === null ? ["How the run ends"]
-      : ["What goes wrong without the fence before ", ...placeOf(this.run.gap)];
+      : [`What goes wrong without the ${tieOf(this.run.gap).length === 1 ? "fence" : "fences"} before `,
+        ...listed(tieOf(this.run.gap).map(gap => html("span", {}, ...placeOf(gap))))];
     return region("wrong", "what goes wrong", html("h2", {}, title), html("ol", { class: "moments" }, lines), this.otherGaps());
   }
 
@@ -124,7 +125,8 @@ class Player {
 
   // The other gaps that the run passes: a fence in one of them serves too, against this run.
   otherGaps() {
-    const others = this.run.run.passed.filter(gap => gap !== this.run.gap);
+    const leftOut = this.run.gap === null ? [] : tieOf(this.run.gap);
+    const others = this.run.run.passed.filter(gap => !leftOut.includes(gap));
     if (this.run.isSequential) {
       return "";
     }

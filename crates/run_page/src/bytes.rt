@@ -455,6 +455,9 @@ const gapPlace = gap => gap.split(\":\").map(Number);\n\
 \n\
 const gapCost = gap => given.gaps.find(priced => priced.gap === gap).cost;\n\
 \n\
+// The gaps that go together with a gap, itself among them.\n\
+const tieOf = gap => (given.ties ?? []).find(tie => tie.includes(gap)) ?? [gap];\n\
+\n\
 // The gaps that are fenced: those of the answer, or those that `fencer witness` was asked to fence.\n\
 const fencedGaps = () => given.answer ? given.answer.set : given.fences ?? [];\n\
 \n\
@@ -939,7 +942,7 @@ function programLines({ instructions, end }, thread, leftOut) {\n\
 \x20   const gap = `${thread}:${number}`;\n\
 \x20   const label = html(\"span\", { class: \"label\" }, labels.map(name => name + \": \").join(\"\"));\n\
 \x20   const line = html(\"li\", { \"data-number\": number, \"data-at\": gap }, label, html(\"span\", { class: \"text\" }, text));\n\
-\x20   return fencedGaps().includes(gap) ? [fenceLine(gap, gap === leftOut), line] : [line];\n\
+\x20   return fencedGaps().includes(gap) ? [fenceLine(gap, leftOut !== null && tieOf(leftOut).includes(gap)), line] : [line];\n\
 \x20 });\n\
 \x20 if (end.length > 0) {\n\
 \x20   const label = html(\"span\", { class: \"label\" }, end.map(name => name + \":\").join(\" \"));\n\
@@ -948,9 +951,11 @@ function programLines({ instructions, end }, thread, leftOut) {\n\
 \x20 return lines;\n\
 }\n\
 \n\
-// A fence, with its cost in the pages of answers.\n\
+// A fence, with its cost in the pages of answers, and the gaps that go together with it.\n\
 function fenceLine(gap, isOut) {\n\
-\x20 const cost = given.gaps ? [\" \", html(\"small\", {}, `${isOut ? \"left out, \" : \"\"}cost ${gapCost(gap)}`)] : [];\n\
+\x20 const others = tieOf(gap).filter(other => other !== gap);\n\
+\x20 const together = others.length > 0 ? ` with ${others.join(\", \")}` : \"\";\n\
+\x20 const cost = given.gaps ? [\" \", html(\"small\", {}, `${isOut ? \"left out, \" : \"\"}cost ${gapCost(gap)}${together}`)] : [];\n\
 \x20 return html(\"li\", { class: isOut ? \"fence out\" : \"fence\", \"data-gap\": gap }, \"MFENCE\", ...cost);\n\
 }\n\
 \n\
@@ -1534,7 +1539,8 @@ class Player {\n\
 \x20   const lines = this.moments().map(({ steps, isBad, say }) => html(\"li\", { class: isBad ? \"bad\" : \"\" },\n\
 \x20     html(\"span\", { class: \"where\" }, steps.map(step => this.stepButton(step))), html(\"span\", {}, say)));\n\
 \x20   const title = this.run.gap === null ? [\"How the run ends\"]\n\
-\x20     : [\"What goes wrong without the fence before \", ...placeOf(this.run.gap)];\n\
+\x20     : [`What goes wrong without the ${tieOf(this.run.gap).length === 1 ? \"fence\" : \"fences\"} before `,\n\
+\x20       ...listed(tieOf(this.run.gap).map(gap => html(\"span\", {}, ...placeOf(gap))))];\n\
 \x20   return region(\"wrong\", \"what goes wrong\", html(\"h2\", {}, title), html(\"ol\", { class: \"moments\" }, lines), this.otherGaps());\n\
 \x20 }\n\
 \n\
@@ -1544,7 +1550,8 @@ class Player {\n\
 \n\
 \x20 // The other gaps that the run passes: a fence in one of them serves too, against this run.\n\
 \x20 otherGaps() {\n\
-\x20   const others = this.run.run.passed.filter(gap => gap !== this.run.gap);\n\
+\x20   const leftOut = this.run.gap === null ? [] : tieOf(this.run.gap);\n\
+\x20   const others = this.run.run.passed.filter(gap => !leftOut.includes(gap));\n\
 \x20   if (this.run.isSequential) {\n\
 \x20     return \"\";\n\
 \x20   }\n\
@@ -1786,9 +1793,9 @@ function showRuns(runs) {\n\
 \x20 const panel = html(\"div\", { role: \"tabpanel\", id: \"panel\", \"aria-labelledby\": \"tab0\" });\n\
 \x20 const tabs = runs.map(({ gap }, i) => html(\"button\", {\n\
 \x20   type: \"button\", role: \"tab\", id: \"tab\" + i, \"aria-controls\": \"panel\",\n\
-\x20   \"aria-label\": `without the fence before ${placeOf(gap).map(part => part.textContent ?? part).join(\"\")}`,\n\
+\x20   \"aria-label\": `without the fence before ${tieOf(gap).map(own => placeOf(own).map(part => part.textContent ?? part).join(\"\")).join(\" and \")}`,\n\
 \x20   on: { click: () => pick(i, 0), keydown: event => pickByKey(event, i) },\n\
-\x20 }, `${threadName(gapPlace(gap)[0])} ${gap}`));\n\
+\x20 }, tieOf(gap).map(own => `${threadName(gapPlace(own)[0])} ${own}`).join(\", \")));\n\
 \x20 let player = null;\n\
 \n\
 \x20 function pick(chosen, steps) {\n\

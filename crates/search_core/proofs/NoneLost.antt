@@ -3,7 +3,7 @@ use Rattle.search_core.proofs.Vocabulary.{◌≡◌, ◌⊎◌, ℕ, ◌<◌, �
 use Rattle.search_core.proofs.Vocabulary.{IsWithinLimits, LeavesOutcome, AreGapsOf, Foreign, Serving, IsForeignValue, Entry, Open, children, entry, is_live, IsCeiling, IsBeatenBy, IsBestAfter, IsLive, IsUndercut, open_exact, IsInRegion, HasNoneOf, open_gaps}
 use Rattle.search_core.proofs.Vocabulary.{not_itself, chained, HaveCosts, split_loses_no_set, true_or_false}
 use Rattle.std.specs.FinSet as set
-use Rattle.tso_machine.specs.FenceLaws.{PassesNoGapOf}
+use Rattle.tso_machine.specs.Outcomes.{PassesNoNameOf}
 use Rattle.tree_laws.proofs.{BetterSets.still_better, AvoidedGaps.leaves_outcome}
 use Rattle.search_core.proofs.{Sets.no_dearer, Sets.small_set, Changes.Change, Changes.changed, Changes.is_there, Changes.moved, Changes.follows}
 
@@ -60,7 +60,7 @@ module _ (q : Question) (costs : List ℕ) (within : IsWithinLimits q.program.th
 
     -- it is split, and its children are opened
     module _ (f : Foreign) (of_question : f.question ≡ q) (foreign : IsForeignValue f) (children_opened : c.opened ≡ children c.now.node f.passed) where
-      avoids : (gaps : SetOfGaps) → IsInRegion c.now.node gaps → HasNoneOf gaps (open_gaps f.passed c.now.node.never) → PassesNoGapOf f.question.program gaps f.labels
+      avoids : (gaps : SetOfGaps) → IsInRegion c.now.node gaps → HasNoneOf gaps (open_gaps f.passed c.now.node.never) → PassesNoNameOf f.question gaps f.labels
       avoids gaps inside none gap there passes = elim (true_or_false (set.contains c.now.node.never gap)) [
         | inl never ↦ true≢false (sym there ∙ inside.avoids gap never)
         | inr free ↦ true≢false (sym there ∙ none gap ((open_exact f.passed c.now.node.never (small_set q within f of_question foreign) gap).1 ((foreign.passed gap).1 passes, free)))

@@ -4,6 +4,8 @@ use Rattle.search_core.proofs.Vocabulary.{length-range_with_len, get_or-range_wi
 use Rattle.search_core.proofs.Vocabulary.{SetOfGaps, numbers_of_set, total, cost_of}
 use mathlib.Core.Path.{fun_ext}
 use Rattle.std.specs.FinSet as set
+use Rattle.gap_sets.specs.Ties.{name_of, spread}
+use Rattle.gap_sets.proofs.Spreading.{no_greater, spread_contains}
 use Rattle.tso_program.specs.Fences as fences
 
 -- one term more, where a test passes
@@ -45,16 +47,20 @@ module _ (p : Listing) (gaps : SetOfGaps) where
       let is : 0 + here.0 ≡ gap = sym (get_or-range_with_len 0 (gap_count p.threads) here.0 gap at) ∙ here.2 in
       omega arith
 
-  same_fences : (t k : ℕ) → fences.gaps_in p part t k ≡ fences.gaps_in p gaps t k
-  same_fences t k = by_number (gap_number p.threads t k) refl
+  -- they stand for the same gaps of the program
+  same_fences : (ties : List ℕ) (t k : ℕ) → fences.gaps_in p (spread ties part) t k ≡ fences.gaps_in p (spread ties gaps) t k
+  same_fences ties t k = by_number (gap_number p.threads t k) refl
     where
-      by_number : (o : Option ℕ) → gap_number p.threads t k ≡ o → option_map_or (set.contains part) o false ≡ option_map_or (set.contains gaps) o false
+      by_number : (o : Option ℕ) → gap_number p.threads t k ≡ o → option_map_or (set.contains (spread ties part)) o false ≡ option_map_or (set.contains (spread ties gaps)) o false
       by_number None e = refl
-      by_number (Some gap) e = alike (set.contains part gap) (set.contains gaps gap) (λ h. (in_part gap h).1) (to_part gap (gap_below p.threads t k gap e))
+      by_number (Some gap) e =
+          let name = name_of ties gap in
+          let below : name < gap_count p.threads = omega (arith, no_greater ties gap, gap_below p.threads t k gap e) in
+          spread_contains ties part gap ∙ alike (set.contains part name) (set.contains gaps name) (λ h. (in_part name h).1) (to_part name below) ∙ sym (spread_contains ties gaps gap)
 
   pub part_costs_less : (costs : List ℕ) → total costs part ≤ total costs gaps
   unfolding total numbers_of_set
   part_costs_less costs = fewer_terms (cost_of costs) (set.contains part) (set.contains gaps) (range_with_len 0 MAX_GAPS) (λ gap h. (in_part gap h).1)
 
 pub part_serves : (q : Question) (gaps : SetOfGaps) → Serves q gaps → Serves q (part q.program gaps)
-part_serves q gaps serves o = subst (λ (fenced : fences.Gaps). IsStoreBufferOutcome q fenced o ↔ IsSequentialOutcome q o) (sym (fun_ext (λ t. fun_ext (λ k. same_fences q.program gaps t k)))) (serves o)
+part_serves q gaps serves o = subst (λ (fenced : fences.Gaps). IsStoreBufferOutcome q fenced o ↔ IsSequentialOutcome q o) (sym (fun_ext (λ t. fun_ext (λ k. same_fences q.program gaps q.ties t k)))) (serves o)

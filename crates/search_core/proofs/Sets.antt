@@ -1,4 +1,5 @@
 -- Sets of a program's gaps: their totals, and what serves.
+use Rattle.gap_sets.proofs.Spreading.{no_greater}
 use Rattle.search_core.proofs.Vocabulary.{◌≡◌, ℕ, ◌<◌, ◌≤◌, Bool, true, false, List, length, refl, sym, ap, ◌∙◌, subst, inl, inr, arith, nat_cmp_total, total, Better, MAX_GAPS, Listing, Question, gap_count, IsWithinLimits, gap_below, Serves, LeavesOutcome}
 use Rattle.search_core.proofs.Vocabulary.{AreGapsOf, HaveCosts, Foreign, IsForeignValue, SetOfGaps, IsGapSet, have_same_gaps, have_same_gaps-same}
 use Rattle.std.specs.FinSet as set
@@ -10,7 +11,7 @@ unserved q gaps left serves = left.foreign ((serves left.outcome).0 left.left)
 
 -- what a foreign run passes are gaps of the program
 pub passed_of : (q : Question) (f : Foreign) → f.question ≡ q → IsForeignValue f → AreGapsOf q.program f.passed
-passed_of q f of is = subst (λ (r : Question). AreGapsOf r.program f.passed) of (λ gap there. let p = (is.passed gap).0 there in gap_below f.question.program.threads p.0 p.1 gap p.2)
+passed_of q f of is = subst (λ (r : Question). AreGapsOf r.program f.passed) of (λ name there. let (gap, named, p) = (is.passed name).0 there in omega (arith, named, no_greater f.question.ties gap, gap_below f.question.program.threads p.0 p.1 gap p.2))
 
 module _ (p : Listing) (within : IsWithinLimits p.threads p.memory) where
   pub gap_set : (gaps : SetOfGaps) → AreGapsOf p gaps → IsGapSet gaps

@@ -2,14 +2,13 @@
 ghost use Rattle.std.specs.Prelude.{◌≡◌, ◌<◌, Some, None, IfSome, MatchOption, length};
 ghost use Rattle.gap_sets.specs.Order.{total};
 ghost use Rattle.tso_program.specs.Listings.{gap_count};
-ghost use Rattle.tso_program.specs.Shown.{asked};
 ghost use Rattle.search_core.specs.Ceilings.{IsBound, IsCeiling};
 
 use crate::Subject;
 use gap_sets::Costs;
 use oracle::Served;
 use std::marker::Model;
-use tso_program::{Program, Shown};
+use tso_program::Question;
 
 /// None, or a cost that some serving set of a program doesn't pass. It takes no memory.
 #[derive(Drop)]
@@ -57,20 +56,19 @@ impl Ceiling {
         ensures { result ≡ Some (record { question = served.now.question; costs = costs.now; cost = total costs.now served.now.gaps }) }
     {
         let cost = costs.total(&served.set());
-        let question = served.question();
-        Ceiling::at(&question.program, &question.shown, costs, Some(cost))
+        Ceiling::at(served.question(), costs, Some(cost))
     }
 
     /// None, or a cost that some serving set doesn't pass.
-    pub fn at(program: &Program, shown: &Shown, costs: &Costs, cost: Option<u64>) -> Ceiling
-        requires { IfSome cost (IsCeiling (asked program.now shown.now) costs.now) }
-        ensures { MatchOption cost (result ≡ None) (λ c. result ≡ Some (record { question = asked program.now shown.now; costs = costs.now; cost = c })) }
+    pub fn at(question: &Question, costs: &Costs, cost: Option<u64>) -> Ceiling
+        requires { IfSome cost (IsCeiling question.now costs.now) }
+        ensures { MatchOption cost (result ≡ None) (λ c. result ≡ Some (record { question = question.now; costs = costs.now; cost = c })) }
     {
         match cost {
             Some(cost) => Ceiling {
                 limit: Some(Limit {
                     cost,
-                    subject: Subject::of(program, shown, costs),
+                    subject: Subject::of(question, costs),
                 }),
             },
             None => Ceiling::none(),

@@ -1,18 +1,16 @@
 //! What a ceiling is of.
 ghost use Rattle.std.specs.Prelude.{◌≡◌};
-ghost use Rattle.tso_program.specs.Shown.{asked};
 ghost use Rattle.search_core.specs.Ceilings.{problem};
 
 use gap_sets::Costs;
 use std::marker::Model;
 use std::snapshot::Snapshot;
-use tso_program::{Program, Shown};
+use tso_program::Question;
 
-/// A program, what is shown of its outcomes, and the costs of its gaps, as clauses see them. It takes no memory.
+/// A question, and the costs of its program's gaps, as clauses see them. It takes no memory.
 #[derive(Drop)]
 pub struct Subject {
-    program: Snapshot<Program>,
-    shown: Snapshot<Shown>,
+    question: Snapshot<Question>,
     costs: Snapshot<Costs>,
 }
 
@@ -27,19 +25,16 @@ impl Model for Subject {
 
     ghost coded = { Prim.hlevel (codes, gap_set.the_row.coded, tree_code) };
 
-    ghost use Rattle.tso_program.specs.Shown.{asked};
-
-    ghost view = { λ s. record { question = asked s.program.value s.shown.value; costs = s.costs.value } };
+    ghost view = { λ s. record { question = s.question.value; costs = s.costs.value } };
 }
 
 impl Subject {
-    /// The program with what is shown and these costs.
-    pub fn of(program: &Program, shown: &Shown, costs: &Costs) -> Subject
-        ensures { result ≡ problem (asked program.now shown.now) costs.now }
+    /// The question with these costs.
+    pub fn of(question: &Question, costs: &Costs) -> Subject
+        ensures { result ≡ problem question.now costs.now }
     {
         Subject {
-            program: Snapshot::of(program),
-            shown: Snapshot::of(shown),
+            question: Snapshot::of(question),
             costs: Snapshot::of(costs),
         }
     }

@@ -3,32 +3,7 @@ use Rattle.sequential_states.proofs.Vocabulary.{◌≡◌, ℕ, ◌-◌, ◌<◌
 use Rattle.sequential_states.proofs.Vocabulary.{Action, Stop, Go, Wait, Read, Write, Swap, Local, Instr, Je, Jmp, Jne, Listing, JumpForward, act, jumped, loaded, action, code_of, Exec, Label, SequentialMachine, State, direct, put, put_same, put_other, run, start, step, outcome_at, IsRun}
 use Rattle.sequential_states.proofs.Vocabulary.{Shot, state_of, IsAtEnd, IsLonger, IsWalk, IsWalkOn, Walk, IsExecutedBy}
 use Rattle.sequential_states.proofs.Reaching.{run_joined}
-
--- the thread is not at its end, and goes on further down
-abbrev Further : ℕ → ℕ → Local → Type 0
-Further len i next = (i < len) × (i < next.place)
-
-abbrev Advances : ℕ → ℕ → Action → Type 0
-Advances len i Stop = Unit {0}
-Advances len i (Go next) = Further len i next
-Advances len i (Wait next) = Further len i next
-Advances len i (Read l to next) = Further len i next
-Advances len i (Write l v next) = Further len i next
-Advances len i (Swap l v to next) = Further len i next
-
-jumps : (b : Bool) (k : ℕ) (s : Local) → s.place < k → s.place < (jumped b k s).place
-jumps true k s h = h
-jumps false k s h = omega arith
-
-advance : (p : Listing) → JumpForward p.threads → (t : ℕ) (s : Local) → Advances (length (code_of p.threads t)) s.place (action p.threads t s)
-advance p forward t s = go (slice_get (code_of p.threads t) s.place) refl
-  where
-    go : (o : Option Instr) → slice_get (code_of p.threads t) s.place ≡ o → Advances (length (code_of p.threads t)) s.place (act o s)
-    go None e = tt
-    go (Some (Je k)) e = (slice_get_within _ _ _ e, jumps s.flag k s (forward t s.place k (Je k) e refl))
-    go (Some (Jne k)) e = (slice_get_within _ _ _ e, jumps (not s.flag) k s (forward t s.place k (Jne k) e refl))
-    go (Some (Jmp k)) e = (slice_get_within _ _ _ e, jumps true k s (forward t s.place k (Jmp k) e refl))
-    go (Some _) e = (slice_get_within _ _ _ e, omega arith)
+use Rattle.tso_program.proofs.Advance.{Further, Advances, advance}
 
 -- what thread t has before it, in a state
 abbrev pub left : Listing → Shot → ℕ → ℕ

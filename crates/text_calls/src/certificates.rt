@@ -5,7 +5,7 @@ use crate::refusal::TextRefusal;
 use crate::sets::{costs_at, push_gaps};
 use cert_forest::{Certificate, read_cert};
 use cert_pages::write_cert;
-use gap_sets::Costs;
+use gap_sets::TiedCosts;
 use litmus_text::read_litmus;
 use report::{Accepted, CheckFault, check};
 use std::alloc::{AllocError, Global};
@@ -67,7 +67,7 @@ fn push_judgment(
 fn push_judged(
     alloc: Global,
     program: &Program,
-    costs: &Costs,
+    costs: &TiedCosts,
     text: &[u8],
     printed: &mut String,
 ) -> Result<(), TextRefusal> {
@@ -84,7 +84,7 @@ pub fn push_checked(
     printed: &mut String,
 ) -> Result<(), TextRefusal> {
     let (litmus, certificate) = split_texts(text);
-    let costs = costs_at(alloc, words, 0)?;
+    let costs = TiedCosts::single(alloc, costs_at(alloc, words, 0)?)?;
     let litmus = read_litmus(alloc, litmus)?;
     push_judged(alloc, &litmus.program, &costs, certificate, printed)
 }

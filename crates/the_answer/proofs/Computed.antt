@@ -5,6 +5,7 @@ use Rattle.the_answer.proofs.Vocabulary.{show, value_if, gap_count, gap_number, 
 use Rattle.std.specs.FinSet as set
 use Rattle.tso_program.specs.{Names.register_place, Names.location_place, declared.limits.TheConstants.MAX_THREADS}
 use Rattle.gap_sets.specs.declared.gap_set.TheConstants.{MAX_GAPS}
+use Rattle.tso_machine.specs.TieLaws.{untied}
 
 -- the set of a list has these numbers
 abbrev pub is_listed : List ℕ → ℕ → Bool
@@ -45,7 +46,7 @@ abbrev pub best_by : (List ℕ → Bool) → List ℕ → ℕ → ℕ → List �
 best_by test costs zero gap chosen = if test chosen then Some chosen else None
 best_by test costs (suc n) gap chosen = cheaper_by costs (best_by test costs n (gap + 1) (gap ∷ chosen)) (best_by test costs n (gap + 1) chosen)
 
-served : (q : Question) (seen : Outcome → Outcome) → show q.shown ≡ seen → (gaps : List ℕ) → does_serve q (these gaps) ≡ serve_by seen q.program (is_listed gaps)
+served : (q : Question) (seen : Outcome → Outcome) → show q.shown ≡ seen → (gaps : List ℕ) → does_serve (untied q) (these gaps) ≡ serve_by seen q.program (is_listed gaps)
 unfolding does_serve outcomes_of serve_by
 served q seen same gaps =
     ap (λ (view : Outcome → Outcome). serve_by view q.program (set.contains (these gaps))) same
@@ -73,10 +74,10 @@ best_set test by costs (suc n) gap chosen same =
     (λ i. cheaper costs (best_set test by costs n (gap + 1) (gap ∷ chosen) same i) (best_set test by costs n (gap + 1) chosen same i))
     ∙ cheaper_set costs (best_by by costs n (gap + 1) (gap ∷ chosen)) (best_by by costs n (gap + 1) chosen)
 
--- the answer, where the best list is known
+-- the answer without ties, where the best list is known
 pub answer_is_list : (q : Question) (seen : Outcome → Outcome) (costs gaps : List ℕ) → show q.shown ≡ seen →
-    best_by (λ l. serve_by seen q.program (is_listed l)) costs (gap_count q.program.threads) 0 [] ≡ Some gaps → the_answer q costs ≡ these gaps
+    best_by (λ l. serve_by seen q.program (is_listed l)) costs (gap_count q.program.threads) 0 [] ≡ Some gaps → the_answer (untied q) costs ≡ these gaps
 unfolding the_answer
 answer_is_list q seen costs gaps same e =
     ap (λ (o : Option SetOfGaps). unwrap_or o set.empty)
-    (best_set (does_serve q) (λ l. serve_by seen q.program (is_listed l)) costs (gap_count q.program.threads) 0 [] (served q seen same) ∙ ap (option_map these) e)
+    (best_set (does_serve (untied q)) (λ l. serve_by seen q.program (is_listed l)) costs (gap_count q.program.threads) 0 [] (served q seen same) ∙ ap (option_map these) e)

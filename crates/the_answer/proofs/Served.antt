@@ -1,9 +1,10 @@
 -- The test of a set of gaps tells whether it serves.
-use Rattle.the_answer.proofs.Vocabulary.{◌≡◌, Bool, true, false, List, Contains, sym, ◌∙◌, inl, inr, list_any, cases_Bool, SetOfGaps, Outcome, Question, JumpForward, SequentialMachine, StoreBufferMachine, outcomes_of, does_serve, eq_by_cmp, gaps_in, Serves}
+use Rattle.the_answer.proofs.Vocabulary.{◌≡◌, Bool, true, false, List, Contains, sym, ◌∙◌, inl, inr, list_any, cases_Bool, SetOfGaps, Outcome, Question, JumpForward, SequentialMachine, StoreBufferMachine, outcomes_of, does_serve, eq_by_cmp, Serves}
 use Rattle.the_answer.proofs.Vocabulary.{LeavesOutcome, EachOutcomeIsAllowedOrNot, TheTestTellsWhatServes}
 use Rattle.std.proofs.lemmas.Cmp.{eq_by_cmp_equiv}
 use Rattle.std.proofs.lemmas.Map.Views.{Contains-from_any, list_any-from_Contains}
 use Rattle.tso_program.specs.Ordered.{outcome_cmp}
+use Rattle.tso_machine.specs.Outcomes.{gaps_named}
 use Rattle.tso_program.proofs.OutcomesOrdered.{outcomes_ordered, same_by_order}
 use Rattle.tso_machine.proofs.SequentialIsBuffered.{sequential_is_allowed}
 use Rattle.the_answer.proofs.{Lists.each_passes, Lists.all_pass, Lists.one_fails, RunsListed.outcomes_listed}
@@ -27,7 +28,7 @@ allowed_or_not q mode o forward = elim (cases_Bool (is_in (outcomes_of q mode) o
 
 module _ (q : Question) (gaps : SetOfGaps) (forward : JumpForward q.program.threads) where
   abbrev left : List Outcome
-  left = outcomes_of q (StoreBufferMachine (gaps_in q.program gaps))
+  left = outcomes_of q (StoreBufferMachine (gaps_named q gaps))
 
   abbrev sequential : List Outcome
   sequential = outcomes_of q SequentialMachine
@@ -37,15 +38,15 @@ module _ (q : Question) (gaps : SetOfGaps) (forward : JumpForward q.program.thre
   unfolding does_serve
   passes_serves e o = (
     (λ allowed.
-        let here = (outcomes_listed q (StoreBufferMachine (gaps_in q.program gaps)) o forward).1 allowed in
+        let here = (outcomes_listed q (StoreBufferMachine (gaps_named q gaps)) o forward).1 allowed in
         (outcomes_listed q SequentialMachine o forward).0 (found_is_here o sequential (each_passes (is_in sequential) left o e here))),
-    sequential_is_allowed q (gaps_in q.program gaps) o,
+    sequential_is_allowed q (gaps_named q gaps) o,
   )
 
   serves_passes : Serves q gaps → does_serve q gaps ≡ true
   unfolding does_serve
   serves_passes serves = all_pass (is_in sequential) left (λ o here.
-      here_is_found o sequential ((outcomes_listed q SequentialMachine o forward).1 ((serves o).0 ((outcomes_listed q (StoreBufferMachine (gaps_in q.program gaps)) o forward).0 here))))
+      here_is_found o sequential ((outcomes_listed q SequentialMachine o forward).1 ((serves o).0 ((outcomes_listed q (StoreBufferMachine (gaps_named q gaps)) o forward).0 here))))
 
   -- where it fails an outcome is found that is not
   pub fails_leaves : does_serve q gaps ≡ false → LeavesOutcome q gaps
@@ -54,7 +55,7 @@ module _ (q : Question) (gaps : SetOfGaps) (forward : JumpForward q.program.thre
       let (o, here, fails) = one_fails (is_in sequential) left e in
       record {
         outcome = o;
-        left = (outcomes_listed q (StoreBufferMachine (gaps_in q.program gaps)) o forward).0 here;
+        left = (outcomes_listed q (StoreBufferMachine (gaps_named q gaps)) o forward).0 here;
         foreign = λ allowed. (let no : false ≡ true = sym fails ∙ here_is_found o sequential ((outcomes_listed q SequentialMachine o forward).1 allowed) in cc);
       }
 

@@ -9,8 +9,8 @@ use Rattle.tso_program.specs.declared.outcome.Outcome.{Outcome}
 use Rattle.tso_program.specs.Ordered.{outcome_cmp}
 use Rattle.tso_program.specs.declared.question.Question.{Question}
 use Rattle.tso_program.specs.Listings.{gap_count}
-use Rattle.tso_program.specs.Fences.{gaps_in}
 use Rattle.tso_machine.specs.Machine.{SequentialMachine, StoreBufferMachine}
+use Rattle.tso_machine.specs.Outcomes.{gaps_named}
 use Rattle.the_answer.specs.OutcomeLists.{outcomes_of}
 
 -- whether each outcome of the first list is one of the second
@@ -19,7 +19,7 @@ are_among outcomes others = list_all (λ o. list_any (eq_by_cmp outcome_cmp o) o
 
 -- whether the set serves: with its gaps fenced each outcome is a sequential one, as far as outcomes are shown
 unfoldable pub does_serve : Question → SetOfGaps → Bool
-does_serve q gaps = are_among (outcomes_of q (StoreBufferMachine (gaps_in q.program gaps))) (outcomes_of q SequentialMachine)
+does_serve q gaps = are_among (outcomes_of q (StoreBufferMachine (gaps_named q gaps))) (outcomes_of q SequentialMachine)
 
 -- the cheaper of two sets, the first where they cost the same, and one alone where the other is missing
 abbrev pub cheaper : List ℕ → Option SetOfGaps → Option SetOfGaps → Option SetOfGaps

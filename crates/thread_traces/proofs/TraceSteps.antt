@@ -1,11 +1,8 @@
 -- A trace is made an instruction at a time.
 use Rattle.thread_traces.proofs.Vocabulary.{◌≡◌, ℕ, zero, suc, ◌+◌, ◌-◌, ◌<◌, ◌≤◌, Bool, true, false, List, [], get_or, drop, length, refl, sym, ap, ◌∙◌, subst, arith, append-nil, slice_get_read, code_found, Action, Thread, Listing, action, code_of, start_of}
 use Rattle.thread_traces.proofs.Vocabulary.{Machine, read_is, Local, Trace, trace, entered, stopped, trace_by, fenced_gaps, with_accesses, GoesOn, first_local}
+use Rattle.tso_program.proofs.Remainders.{one_less}
 use Rattle.thread_traces.specs.declared.walk.TraceSoFar.{TraceSoFar}
-
--- one step less is left
-pub one_less : (n i : ℕ) → i < n → n - i ≡ suc (n - (i + 1))
-one_less n i h = omega arith
 
 -- what a thread does in its trace's next step leads to the rest of the trace
 pub stepped : (whole : Trace) (does : Local → Action) (gap : ℕ → Bool) (len i : ℕ) (given : List ℕ) (w entering next : TraceSoFar) (b : Bool) → i < len →

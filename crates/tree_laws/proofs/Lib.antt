@@ -9,6 +9,7 @@ pub mod AscendingSearched
 pub mod RuleValues
 pub mod CoveredSketches
 pub mod ListedOutcomes
+pub mod TiesApart
 pub mod WiderTraces
 pub mod TighterModes
 -- gap trees

@@ -1,7 +1,8 @@
 -- Where the empty sketch is covered the list has every outcome of the machine.
-use Rattle.tree_laws.proofs.Vocabulary.{List, [], ◌∷◌, Contains, sym, ap, ◌∙◌, subst, inl, inr, ◌≡◌, Outcome, gaps_in, JumpForward, Label, Machine, SequentialMachine, StoreBufferMachine, empty_sketch, Cover, Rule, IsValidCoverBy, IsCovered, AreSequentialRuns}
+use Rattle.tree_laws.proofs.Vocabulary.{List, [], ◌∷◌, Contains, sym, ap, ◌∙◌, subst, inl, inr, ◌≡◌, Outcome, JumpForward, Label, Machine, SequentialMachine, StoreBufferMachine, empty_sketch, Cover, Rule, IsValidCoverBy, IsCovered, AreSequentialRuns}
 use Rattle.tree_laws.proofs.Vocabulary.{Question, show, IsShownRun, IsSequentialOutcome, empty_is_a_sketch, ACoveredListHasEachOutcome, AValidTreeMakesTheSequentialList, AValidFencedTreeServes}
 use Rattle.candidate_executions.proofs.{FromRuns.RunsAreCandidates.every_run_is_a_completion, Candidates.LastWrites.outcomes_are_one}
+use Rattle.tso_machine.specs.Outcomes.{gaps_named}
 use Rattle.tso_machine.proofs.SequentialIsBuffered.{sequential_is_allowed}
 use Rattle.tree_laws.proofs.{Lists.none_here, Lists.first_or_later, CoveredSketches.valid_covers_by}
 
@@ -34,7 +35,7 @@ sequential_list rule q runs outcomes tree forward replayed valid o = (
 
 pub fenced_tree_serves : (rule : Rule) → AValidFencedTreeServes rule
 fenced_tree_serves rule q gaps outcomes tree forward list valid o =
-    let mode : Machine = StoreBufferMachine (gaps_in q.program gaps) in (
+    let mode : Machine = StoreBufferMachine (gaps_named q gaps) in (
       (λ allowed. (list o).0 (listed q mode outcomes o forward (covered_from_nothing rule q mode outcomes tree forward valid) allowed)),
-      sequential_is_allowed q (gaps_in q.program gaps) o,
+      sequential_is_allowed q (gaps_named q gaps) o,
     )

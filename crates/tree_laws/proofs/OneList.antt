@@ -74,5 +74,5 @@ pub one_list_of_choices : TheChoicesAreOneList Whole
 one_list_of_choices = one_list_of_choices_by Whole
 
 pub one_list_of_gaps : TheGapsAreOneList
-one_list_of_gaps p runs n number xs ys left right = one_list_of_numbers (IsOpenGap p left.labels n.never) xs ys left.ascending right.ascending left.exact
-    (subst (λ labels. (gap : ℕ) → Contains ys gap ↔ IsOpenGap p labels n.never gap) (same_Some right.labels left.labels (sym right.is_run ∙ left.is_run)) right.exact)
+one_list_of_gaps q runs n number xs ys left right = one_list_of_numbers (IsOpenGap q left.labels n.never) xs ys left.ascending right.ascending left.exact
+    (subst (λ labels. (gap : ℕ) → Contains ys gap ↔ IsOpenGap q labels n.never gap) (same_Some right.labels left.labels (sym right.is_run ∙ left.is_run)) right.exact)

@@ -1,8 +1,9 @@
 -- Store buffering: its certificate is valid, so both gaps are the answer.
-use Rattle.std.proofs.Common.{◌≤◌, [], ◌∷◌, All, refl, sym, inl, inr, arith}
+use Rattle.std.proofs.Common.{◌≤◌, [], ◌∷◌, All, refl, sym, ap, ◌∙◌, subst, inl, inr, arith}
 use Rattle.std.specs.FinSet as set
-use Rattle.tree_laws.proofs.Vocabulary.{All-nil, All-cons, IsWithinLimits, SequentialMachine, AreGapsOf, store_buffering, IsValidCertificate, certificate, costs, StoreBufferingIsCertified}
-use Rattle.gap_sets.proofs.Examples.{total-these}
+use Rattle.tree_laws.proofs.Vocabulary.{All-nil, All-cons, SetOfGaps, IsValidGap, all_sets, IsWithinLimits, SequentialMachine, AreGapsOf, store_buffering, IsValidCertificate, certificate, costs, StoreBufferingIsCertified}
+use Rattle.gap_sets.specs.Order.{total}
+use Rattle.gap_sets.proofs.{Examples.total-these, Naming.own_names}
 use Rattle.tso_program.proofs.WithinLimits.{limits_are_the_refusals}
 use Rattle.candidate_executions.specs.declared.event.Kind.TheVariants as union
 use Rattle.tree_laws.proofs.{Regions.new_or_old, CertificateIsProof.certificate_proves, StoreBufferingCovered.question, StoreBufferingCovered.outcomes, StoreBufferingCovered.cover_is_valid}
@@ -19,15 +20,15 @@ two_gaps gap there = elim (new_or_old (set.insert set.empty 1) 0 gap there) [
 valid : IsValidCertificate question costs certificate
 valid = record {
   shown = refl;
-  of_program = two_gaps;
+  right_set = record { of_program = two_gaps; allowed = own_names both_gaps };
   one_cost_each = refl;
-  cost = sym (total-these costs (0 ∷ 1 ∷ []));
+  cost = sym (total-these costs (0 ∷ 1 ∷ [])) ∙ ap (total costs) (sym (own_names both_gaps));
   outcomes = outcomes;
   replayed = replayed;
   sequential = cover_is_valid SequentialMachine union.Sequential sequential_cycle;
   foreign = all_outside;
   fenced = cover_is_valid both_fenced union.Global fenced_cycle;
-  least = gap_tree_is_valid;
+  least = subst (λ (gaps : SetOfGaps). IsValidGap question costs gaps certificate.runs certificate.gap_tree all_sets) (sym (own_names both_gaps)) gap_tree_is_valid;
 }
 
 within : IsWithinLimits store_buffering.threads store_buffering.memory

@@ -1,6 +1,6 @@
 -- Store buffering: the runs of its certificate, and what they pass.
 use Rattle.std.proofs.Common.{◌≡◌, ℕ, zero, suc, ◌<◌, ◌≤◌, true, false, List, [], ◌∷◌, Some, Contains, All, length, slice_index, slice_index_or, ◌+◌, refl, sym, ap, ◌∙◌, arith, lit<}
-use Rattle.tree_laws.proofs.Vocabulary.{All-nil, All-cons, Stop, Outcome, action, gap_number, Label, store_buffering, waiting_stores, PassesGap, AreSequentialRuns, IsRunOutside, SequentialMachine, StoreBufferMachine, no_gaps, State, start, run, HasEnded}
+use Rattle.tree_laws.proofs.Vocabulary.{All-nil, All-cons, Stop, Outcome, action, gap_number, Label, store_buffering, waiting_stores, PassesName, AreSequentialRuns, IsRunOutside, SequentialMachine, StoreBufferMachine, no_gaps, State, start, run, HasEnded}
 use Rattle.tree_laws.proofs.Vocabulary.{passes, first_first, second_first, stores_first, sequential_runs, second_waits, first_waits}
 use Rattle.tso_program.proofs.Gaps.{gap_below, gap_same}
 use Rattle.tso_machine.specs.declared.label.Pending.{Pending}
@@ -62,31 +62,31 @@ all_outside = All-cons (IsRunOutside question outcomes) waiting_stores (second_w
     (All-nil (IsRunOutside question outcomes))))
 
 -- there are two gaps
-pub passed_below : (labels : List Label) (gap : ℕ) → PassesGap store_buffering labels gap → gap < 2
-passed_below labels gap (t, k, number, passed) = gap_below store_buffering.threads t k gap number
+pub passed_below : (labels : List Label) (gap : ℕ) → PassesName question labels gap → gap < 2
+passed_below labels gap (own, is, (t, k, number, passed)) = omega (arith, is, gap_below store_buffering.threads t k own number)
 
 -- a gap that is not passed at its place is not passed
 not_at_place : (labels : List Label) (u j gap : ℕ) → gap_number store_buffering.threads u j ≡ Some gap → passes store_buffering (StoreBufferMachine no_gaps) (start store_buffering) labels u j ≡ false →
-    ¬ PassesGap store_buffering labels gap
-not_at_place labels u j gap there none (t, k, number, passed) =
-    let (thread, place) = gap_same store_buffering.threads t k u j gap number there in
+    ¬ PassesName question labels gap
+not_at_place labels u j gap there none (own, is, (t, k, number, passed)) =
+    let (thread, place) = gap_same store_buffering.threads t k u j gap (number ∙ ap Some is) there in
     let at : passes store_buffering (StoreBufferMachine no_gaps) (start store_buffering) labels t k ≡ passes store_buffering (StoreBufferMachine no_gaps) (start store_buffering) labels u j =
     λ i. passes store_buffering (StoreBufferMachine no_gaps) (start store_buffering) labels (thread i) (place i) in
     let no_way : true ≡ false = sym passed ∙ at ∙ none in cc
 
-pub both_passed : (gap : ℕ) → gap < 2 → PassesGap store_buffering waiting_stores gap
-both_passed zero h = (0, 1, refl, refl)
-both_passed (suc zero) h = (1, 1, refl, refl)
+pub both_passed : (gap : ℕ) → gap < 2 → PassesName question waiting_stores gap
+both_passed zero h = (0, refl, (0, 1, refl, refl))
+both_passed (suc zero) h = (1, refl, (1, 1, refl, refl))
 both_passed (suc (suc gap)) h = absurd (omega arith)
 
-pub second_passed : PassesGap store_buffering second_waits 1
-second_passed = (1, 1, refl, refl)
+pub second_passed : PassesName question second_waits 1
+second_passed = (1, refl, (1, 1, refl, refl))
 
-pub first_passed : PassesGap store_buffering first_waits 0
-first_passed = (0, 1, refl, refl)
+pub first_passed : PassesName question first_waits 0
+first_passed = (0, refl, (0, 1, refl, refl))
 
-pub first_not_passed : ¬ PassesGap store_buffering second_waits 0
+pub first_not_passed : ¬ PassesName question second_waits 0
 first_not_passed = not_at_place second_waits 0 1 0 refl refl
 
-pub second_not_passed : ¬ PassesGap store_buffering first_waits 1
+pub second_not_passed : ¬ PassesName question first_waits 1
 second_not_passed = not_at_place first_waits 1 1 1 refl refl

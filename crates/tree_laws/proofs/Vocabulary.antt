@@ -37,7 +37,7 @@ pub use Rattle.gap_sets.specs.declared.gap_set.TheConstants.{MAX_GAPS}
 pub use Rattle.gap_sets.specs.declared.region.Region.{Region}
 pub use Rattle.tso_machine.specs.Examples.{ends_with, store_buffering, waiting_stores}
 pub use Rattle.tso_machine.specs.Machine.{HasEnded, Machine, SequentialMachine, State, StoreBufferMachine, no_gaps, passes, run, start}
-pub use Rattle.tso_machine.specs.Outcomes.{AreGapsOf, IsForeignRun, IsSequentialOutcome, IsShownRun, IsTheAnswer, LeavesOutcome}
+pub use Rattle.tso_machine.specs.Outcomes.{AreGapsOf, IsForeignRun, IsSequentialOutcome, IsShownRun, IsTheAnswer, LeavesOutcome, PassesName, PassesNoNameOf}
 pub use Rattle.tso_machine.specs.declared.label.Label.{Label}
 pub use Rattle.tso_program.specs.Fences.{Gaps, gaps_in}
 pub use Rattle.tso_program.specs.Limits.{IsWithinLimits, JumpForward}
@@ -49,10 +49,10 @@ pub use Rattle.tso_program.specs.declared.action.Local.{Local}
 pub use Rattle.tso_program.specs.declared.listing.Listing.{Listing}
 pub use Rattle.tso_program.specs.declared.outcome.Outcome.{Outcome}
 pub use Rattle.tso_program.specs.declared.shown.Shown.TheVariants.{All, Truth}
-pub use Rattle.tree_laws.specs.Certificates.{AreSequentialRuns, IsJudged, IsRunOutside, IsValidCertificate, IsValidCertificateOf}
+pub use Rattle.tree_laws.specs.Certificates.{AreSequentialRuns, IsJudged, IsRunOutside, IsValidCertificate, IsValidCertificateOf, HasRightSet, names_of}
 pub use Rattle.tree_laws.specs.CoverTrees.{AllowsOrder, AllowsSource, AreChoices, AreChoicesBy, AreTwo, AreValidCoversBy, HasNextValues, HasNextValuesBy, HasNoOrderBy, HasSources, HasSourcesBy}
 pub use Rattle.tree_laws.specs.CoverTrees.{IsCovered, IsValidCover, IsValidCoverBy, IsValueBy, MustEndAsNumber, event_of, sketch_with}
-pub use Rattle.tree_laws.specs.GapTrees.{AreValidGaps, EachBetterOfRegionLeavesOutcome, HaveCosts, IsOpenGap, IsSplitBy, IsValidGap, PassesGap, SomePassesNone, SomeRunAvoidsEachBetter}
+pub use Rattle.tree_laws.specs.GapTrees.{AreValidGaps, EachBetterOfRegionLeavesOutcome, HaveCosts, IsOpenGap, IsSplitBy, IsValidGap, SomePassesNone, SomeRunAvoidsEachBetter}
 pub use Rattle.tree_laws.specs.Laws.{ACoveredListHasEachOutcome, ASplitLosesNoSet, ATighterModeKeepsACover, ATighterModeKeepsASettledRead, ATighterModeKeepsAWholeSketch, ATighterModeKeepsTheValues, AValidCertificateProves}
 pub use Rattle.tree_laws.specs.Laws.{AValidCoverCovers, AValidFencedTreeServes, AValidGapTreeAvoidsEachBetter, AValidGapTreeLeavesNoBetter, AValidTreeMakesTheSequentialList, CoversAreJudgedInOrder, GapsAreJudgedInOrder, IsForeign}
 pub use Rattle.tree_laws.specs.Laws.{IsSequentialList, SoNoServingSetIsBetter, TheChoicesAreOneList, TheGapsAreOneList, TheRootHasEverySet, TheSourcesAreOneList, TheValuesAreOneList}

@@ -11,47 +11,42 @@ use Rattle.tso_program.specs.declared.listing.Listing.{Listing}
 use Rattle.tso_program.specs.declared.question.Question.{Question}
 use Rattle.tso_program.specs.Listings.{gap_count}
 use Rattle.tso_machine.specs.declared.label.Label.{Label}
-use Rattle.tso_machine.specs.Machine.{StoreBufferMachine, no_gaps, start}
-use Rattle.tso_machine.specs.Modes.{Passes}
-use Rattle.tso_machine.specs.FenceLaws.{PassesNoGapOf}
-use Rattle.tso_machine.specs.Outcomes.{Serves, LeavesOutcome, AreGapsOf}
+use Rattle.tso_machine.specs.Outcomes.{PassesName, PassesNoNameOf, Serves, LeavesOutcome, AreGapsOf}
 use Rattle.cert_forest.specs.Trees.{Gap, Split, Bound, GapTrees, NoGap, MoreGaps}
 use Rattle.tree_laws.specs.Packings.{IsPacking, IsCheapestOf, with_gaps}
 
--- with no gap fenced, the labels pass the gap of this number
-abbrev pub PassesGap : Listing → List Label → ℕ → Type 0
-PassesGap p labels gap = Passes p (StoreBufferMachine no_gaps) (start p) labels gap
+-- Sets and gaps are those of the ties' names.
 
--- the labels pass it, and it is outside `never`
-abbrev pub IsOpenGap : Listing → List Label → SetOfGaps → ℕ → Type 0
-IsOpenGap p labels never gap = PassesGap p labels gap × (set.contains never gap ≡ false)
+-- the labels pass the gap, and it is outside `never`
+abbrev pub IsOpenGap : Question → List Label → SetOfGaps → ℕ → Type 0
+IsOpenGap q labels never gap = PassesName q labels gap × (set.contains never gap ≡ false)
 
 -- one of the runs passes no gap of the set
-abbrev pub SomePassesNone : Listing → List (List Label) → SetOfGaps → Type 0
-SomePassesNone p runs gaps = (labels : List Label) × Contains runs labels × PassesNoGapOf p gaps labels
+abbrev pub SomePassesNone : Question → List (List Label) → SetOfGaps → Type 0
+SomePassesNone q runs gaps = (labels : List Label) × Contains runs labels × PassesNoNameOf q gaps labels
 
-module _ (p : Listing) (runs : List (List Label)) where
+module _ (q : Question) (runs : List (List Label)) where
   -- the run of this number passes no gap of `must`, and these are the gaps that it passes outside `never`, ascending
   pub record IsSplitBy (region : Region) (number : ℕ) (gaps : List ℕ) : Type 0 where
     pub labels : List Label
     pub is_run : slice_get runs number ≡ Some labels
-    pub passes_none : (gap : ℕ) → set.contains region.must gap ≡ true → ¬ PassesGap p labels gap
+    pub passes_none : (gap : ℕ) → set.contains region.must gap ≡ true → ¬ PassesName q labels gap
     pub ascending : IsStrictlyIncreasing gaps
-    pub exact : (gap : ℕ) → Contains gaps gap ↔ IsOpenGap p labels region.never gap
+    pub exact : (gap : ℕ) → Contains gaps gap ↔ IsOpenGap q labels region.never gap
 
-module _ (p : Listing) (costs : List ℕ) (answer : SetOfGaps) (runs : List (List Label)) where
+module _ (q : Question) (costs : List ℕ) (answer : SetOfGaps) (runs : List (List Label)) where
   -- The runs of these numbers pass no gap of `must`, no two of them pass a common gap outside `never`, and `must` with the cheapest gap of each
   -- outside `never` is not better than the answer. Where a run passes no gap outside `never` there is no such set: no set of the region serves.
   pub record IsBoundBy (region : Region) (numbers : List ℕ) : Type 0 where
     pub gaps : List (List ℕ)
-    pub each : AllZip (IsSplitBy p runs region) numbers gaps
+    pub each : AllZip (IsSplitBy q runs region) numbers gaps
     pub apart : IsPacking gaps
     pub not_better : (cheapest : List ℕ) → AllZip (IsCheapestOf costs) gaps cheapest → ¬ Better costs (with_gaps region.must cheapest) answer
 
   abbrev mutual
     -- the tree is valid for the region: a child for each gap that a run passes and that the sets may have, or runs that bound the region
     pub IsValidGap : Gap → Region → Type 0
-    IsValidGap (Split number children) region = (gaps : List ℕ) × IsSplitBy p runs region number gaps × AreValidGaps children (child_regions region gaps)
+    IsValidGap (Split number children) region = (gaps : List ℕ) × IsSplitBy q runs region number gaps × AreValidGaps children (child_regions region gaps)
     IsValidGap (Bound numbers) region = IsBoundBy region numbers
 
     -- as many trees as regions, each valid for its own
@@ -63,7 +58,7 @@ module _ (p : Listing) (costs : List ℕ) (answer : SetOfGaps) (runs : List (Lis
 
   -- what a valid tree means: of each better set of the region one of the runs passes no gap
   abbrev pub SomeRunAvoidsEachBetter : Region → Type 0
-  SomeRunAvoidsEachBetter region = (other : SetOfGaps) → AreGapsOf p other → IsInRegion region other → Better costs other answer → SomePassesNone p runs other
+  SomeRunAvoidsEachBetter region = (other : SetOfGaps) → AreGapsOf q.program other → IsInRegion region other → Better costs other answer → SomePassesNone q runs other
 
 module _ (q : Question) (costs : List ℕ) (answer : SetOfGaps) where
   -- so, where the runs are foreign, each better set of the region leaves an outcome that no sequential run has

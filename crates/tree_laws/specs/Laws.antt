@@ -3,16 +3,18 @@ use Rattle.std.specs.Prelude.{◌≡◌, ◌↔◌, ◌⊎◌, ℕ, ◌+◌, ◌
 use Rattle.std.specs.List.{AllZip}
 use Rattle.gap_sets.specs.Gaps.{SetOfGaps}
 use Rattle.gap_sets.specs.Order.{cost_of, total, Better}
+use Rattle.gap_sets.specs.Ties.{IsAllowed}
 use Rattle.gap_sets.specs.Regions.{all_sets, IsInRegion, child_regions, HasNoneOf}
 use Rattle.gap_sets.specs.declared.region.Region.{Region}
 use Rattle.tso_program.specs.declared.listing.Listing.{Listing}
 use Rattle.tso_program.specs.declared.outcome.Outcome.{Outcome}
 use Rattle.tso_program.specs.declared.question.Question.{Question}
+use Rattle.tso_program.specs.declared.shown.Shown.{Shown}
+use Rattle.tso_program.specs.Shown.{asked_with}
 use Rattle.tso_program.specs.Limits.{JumpForward, IsWithinLimits}
-use Rattle.tso_program.specs.Fences.{gaps_in}
 use Rattle.tso_machine.specs.declared.label.Label.{Label}
 use Rattle.tso_machine.specs.Machine.{Machine, SequentialMachine, StoreBufferMachine}
-use Rattle.tso_machine.specs.Outcomes.{AllowsShown, IsSequentialOutcome, Serves, IsForeignRun, AreGapsOf, EachBetterLeavesOutcome, IsTheAnswer, Headline}
+use Rattle.tso_machine.specs.Outcomes.{gaps_named, AllowsShown, IsSequentialOutcome, Serves, IsForeignRun, AreGapsOf, EachBetterLeavesOutcome, IsTheAnswer, Headline}
 use Rattle.candidate_executions.specs.declared.event.Event.{Event}
 use Rattle.candidate_executions.specs.Sketches.{Sketch, empty_sketch, IsSketch, IsWhole}
 use Rattle.candidate_executions.specs.Settled.{IsSettled}
@@ -25,7 +27,7 @@ use Rattle.tree_laws.specs.TighterModes.{IsNoLooser, in_mode}
 use Rattle.tree_laws.specs.Packings.{IsPacking, IsCheapestOf, with_gaps, HavePositiveCosts, MeetsEach}
 use Rattle.tree_laws.specs.GapTrees.{SomePassesNone, IsSplitBy, IsBoundBy, IsValidGap, AreValidGaps, SomeRunAvoidsEachBetter, EachBetterOfRegionLeavesOutcome, NoServingSetIsBetter, HaveCosts}
 use Rattle.cert_forest.specs.Certificates.{Certificate}
-use Rattle.tree_laws.specs.Certificates.{AreSequentialRuns, IsValidCertificate}
+use Rattle.tree_laws.specs.Certificates.{AreSequentialRuns, names_of, IsValidCertificate}
 
 -- a cover tree that is valid at a sketch by the rule covers it
 abbrev pub AValidCoverCovers : Rule → Type 0
@@ -49,7 +51,12 @@ AValidTreeMakesTheSequentialList rule = (q : Question) (runs : List (List Label)
 -- and a valid tree with the gaps of a set fenced, over that list, says that the set serves
 abbrev pub AValidFencedTreeServes : Rule → Type 0
 AValidFencedTreeServes rule = (q : Question) (gaps : SetOfGaps) (outcomes : List Outcome) (tree : Cover) → JumpForward q.program.threads →
-    IsSequentialList q outcomes → IsValidCoverBy rule q (StoreBufferMachine (gaps_in q.program gaps)) outcomes tree (empty_sketch q.program) → Serves q gaps
+    IsSequentialList q outcomes → IsValidCoverBy rule q (StoreBufferMachine (gaps_named q gaps)) outcomes tree (empty_sketch q.program) → Serves q gaps
+
+-- a cover tree that is valid is valid whatever gaps go together
+abbrev pub TiesChangeNoCover : Rule → Type 0
+TiesChangeNoCover rule = (p : Listing) (shown : Shown) (ties others : List ℕ) (mode : Machine) (outcomes : List Outcome) (tree : Cover) (k : Sketch) →
+    IsValidCoverBy rule (asked_with ties p shown) mode outcomes tree k → IsValidCoverBy rule (asked_with others p shown) mode outcomes tree k
 
 -- A cover tree that is valid in a mode is valid in each mode that is no looser, its cycles being of that mode's unions: known
 -- edges only grow.
@@ -95,23 +102,23 @@ EachCostsAtLeastTheSum = (costs : List ℕ) (must other : SetOfGaps) (lists : Li
 abbrev pub ABoundByRunsLeavesNoBetter : Type 0
 ABoundByRunsLeavesNoBetter = (q : Question) (costs : List ℕ) (answer : SetOfGaps) (runs : List (List Label)) (region : Region) (numbers : List ℕ) →
     IsWithinLimits q.program.threads q.program.memory → HaveCosts q.program costs → All (IsForeign q) runs →
-    IsBoundBy q.program costs answer runs region numbers → EachBetterOfRegionLeavesOutcome q costs answer region
+    IsBoundBy q costs answer runs region numbers → EachBetterOfRegionLeavesOutcome q costs answer region
 
 -- without runs `must` alone is compared
 abbrev pub NoRunsBoundByMust : Type 0
-NoRunsBoundByMust = (p : Listing) (costs : List ℕ) (answer : SetOfGaps) (runs : List (List Label)) (region : Region) →
-    IsBoundBy p costs answer runs region [] ↔ (¬ Better costs region.must answer)
+NoRunsBoundByMust = (q : Question) (costs : List ℕ) (answer : SetOfGaps) (runs : List (List Label)) (region : Region) →
+    IsBoundBy q costs answer runs region [] ↔ (¬ Better costs region.must answer)
 
 -- a valid gap tree says of its region that of each better set one of the runs passes no gap
 abbrev pub AValidGapTreeAvoidsEachBetter : Type 0
-AValidGapTreeAvoidsEachBetter = (p : Listing) (costs : List ℕ) (answer : SetOfGaps) (runs : List (List Label)) (tree : Gap) (region : Region) →
-    IsWithinLimits p.threads p.memory → HaveCosts p costs → IsValidGap p costs answer runs tree region → SomeRunAvoidsEachBetter p costs answer runs region
+AValidGapTreeAvoidsEachBetter = (q : Question) (costs : List ℕ) (answer : SetOfGaps) (runs : List (List Label)) (tree : Gap) (region : Region) →
+    IsWithinLimits q.program.threads q.program.memory → HaveCosts q.program costs → IsValidGap q costs answer runs tree region → SomeRunAvoidsEachBetter q costs answer runs region
 
 -- over foreign runs it says of its region that each better set leaves an outcome
 abbrev pub AValidGapTreeLeavesNoBetter : Type 0
 AValidGapTreeLeavesNoBetter = (q : Question) (costs : List ℕ) (answer : SetOfGaps) (runs : List (List Label)) (tree : Gap) (region : Region) →
     IsWithinLimits q.program.threads q.program.memory → HaveCosts q.program costs → All (IsForeign q) runs →
-    IsValidGap q.program costs answer runs tree region → EachBetterOfRegionLeavesOutcome q costs answer region
+    IsValidGap q costs answer runs tree region → EachBetterOfRegionLeavesOutcome q costs answer region
 
 -- so no serving set of the region is better
 abbrev pub SoNoServingSetIsBetter : Type 0
@@ -130,8 +137,8 @@ CoversAreJudgedInOrder rule = (q : Question) (mode : Machine) (outcomes : List O
 
 -- gap trees in order are valid exactly where there are as many as regions, each valid at its own
 abbrev pub GapsAreJudgedInOrder : Type 0
-GapsAreJudgedInOrder = (p : Listing) (costs : List ℕ) (answer : SetOfGaps) (runs : List (List Label)) (trees : List Gap) (regions : List Region) →
-    AreValidGaps p costs answer runs (gap_trees_of trees) regions ↔ AllZip (IsValidGap p costs answer runs) trees regions
+GapsAreJudgedInOrder = (q : Question) (costs : List ℕ) (answer : SetOfGaps) (runs : List (List Label)) (trees : List Gap) (regions : List Region) →
+    AreValidGaps q costs answer runs (gap_trees_of trees) regions ↔ AllZip (IsValidGap q costs answer runs) trees regions
 
 -- what the children of a node are for is determined, and so their number: the values of a read
 abbrev pub TheValuesAreOneList : Rule → Type 0
@@ -150,8 +157,8 @@ TheChoicesAreOneList rule = (p : Listing) (mode : Machine) (k : Sketch) (next : 
 
 -- the gaps that split a region
 abbrev pub TheGapsAreOneList : Type 0
-TheGapsAreOneList = (p : Listing) (runs : List (List Label)) (region : Region) (number : ℕ) (xs ys : List ℕ) →
-    IsSplitBy p runs region number xs → IsSplitBy p runs region number ys → xs ≡ ys
+TheGapsAreOneList = (q : Question) (runs : List (List Label)) (region : Region) (number : ℕ) (xs ys : List ℕ) →
+    IsSplitBy q runs region number xs → IsSplitBy q runs region number ys → xs ≡ ys
 
 -- the cheapest gaps of lists
 abbrev pub TheCheapestAreOneList : Type 0
@@ -160,17 +167,19 @@ TheCheapestAreOneList = (costs : List ℕ) (lists : List (List ℕ)) (xs ys : Li
 
 -- so whether runs bound a region: by the gaps that each of them passes outside `never`
 abbrev pub TheBoundIsDecided : Type 0
-TheBoundIsDecided = (p : Listing) (costs : List ℕ) (answer : SetOfGaps) (runs : List (List Label)) (region : Region) (numbers : List ℕ) (gaps : List (List ℕ)) →
-    AllZip (IsSplitBy p runs region) numbers gaps →
-    IsBoundBy p costs answer runs region numbers
+TheBoundIsDecided = (q : Question) (costs : List ℕ) (answer : SetOfGaps) (runs : List (List Label)) (region : Region) (numbers : List ℕ) (gaps : List (List ℕ)) →
+    AllZip (IsSplitBy q runs region) numbers gaps →
+    IsBoundBy q costs answer runs region numbers
     ↔ (IsPacking gaps × ((cheapest : List ℕ) → AllZip (IsCheapestOf costs) gaps cheapest → ¬ Better costs (with_gaps region.must cheapest) answer))
 
--- the headline holds of the set of a valid certificate, whichever rule it has, and the set is the answer; its runs are foreign, and of each better set one of them passes no gap
+-- The headline holds of the names of a valid certificate's set, whichever rule it has, and they are the answer; the set has the gaps that they stand for. Its runs
+-- are foreign, and of each better set one of them passes no gap.
 pub record IsProved (q : Question) (costs : List ℕ) (c : Certificate) : Type 0 where
-  pub headline : Headline q costs c.gaps
-  pub answer : IsTheAnswer q costs c.gaps
+  pub headline : Headline q costs (names_of q c)
+  pub answer : IsTheAnswer q costs (names_of q c)
+  pub allowed : IsAllowed q.ties c.gaps
   pub foreign : All (IsForeign q) c.runs
-  pub avoided : (other : SetOfGaps) → AreGapsOf q.program other → Better costs other c.gaps → SomePassesNone q.program c.runs other
+  pub avoided : (other : SetOfGaps) → AreGapsOf q.program other → Better costs other (names_of q c) → SomePassesNone q c.runs other
 
 abbrev pub AValidCertificateProves : Type 0
 AValidCertificateProves = (q : Question) (costs : List ℕ) (c : Certificate) → IsWithinLimits q.program.threads q.program.memory →

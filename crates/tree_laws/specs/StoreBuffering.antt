@@ -18,4 +18,4 @@ costs = 1 ∷ 1 ∷ []
 pub record StoreBufferingIsCertified : Type 0 where
   pub valid : IsValidCertificate (asked store_buffering All) costs certificate
   pub proved : IsProved (asked store_buffering All) costs certificate
-  pub bounded : IsValidGap store_buffering costs certificate.gaps certificate.runs (Bound (1 ∷ 2 ∷ [])) all_sets
+  pub bounded : IsValidGap (asked store_buffering All) costs certificate.gaps certificate.runs (Bound (1 ∷ 2 ∷ [])) all_sets

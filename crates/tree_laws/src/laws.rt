@@ -1,6 +1,6 @@
 //! The laws: each function's contract is a theorem, and calling it does nothing.
 ghost use Rattle.cert_forest.specs.Rule.{Rule};
-ghost use Rattle.tree_laws.specs.Laws.{AValidCoverCovers, ACoveredListHasEachOutcome, AValidTreeMakesTheSequentialList, AValidFencedTreeServes, ATighterModeKeepsACover, ATighterModeKeepsTheValues, ATighterModeKeepsAWholeSketch, ATighterModeKeepsASettledRead, ASplitLosesNoSet, TheCheapestOfEachAreTheBest, EachCostsAtLeastTheSum, ABoundByRunsLeavesNoBetter, NoRunsBoundByMust, AValidGapTreeAvoidsEachBetter, AValidGapTreeLeavesNoBetter, SoNoServingSetIsBetter, TheRootHasEverySet, AValidCertificateProves, CoversAreJudgedInOrder, GapsAreJudgedInOrder, TheValuesAreOneList, TheSourcesAreOneList, TheChoicesAreOneList, TheGapsAreOneList, TheCheapestAreOneList, TheBoundIsDecided};
+ghost use Rattle.tree_laws.specs.Laws.{AValidCoverCovers, ACoveredListHasEachOutcome, AValidTreeMakesTheSequentialList, AValidFencedTreeServes, TiesChangeNoCover, ATighterModeKeepsACover, ATighterModeKeepsTheValues, ATighterModeKeepsAWholeSketch, ATighterModeKeepsASettledRead, ASplitLosesNoSet, TheCheapestOfEachAreTheBest, EachCostsAtLeastTheSum, ABoundByRunsLeavesNoBetter, NoRunsBoundByMust, AValidGapTreeAvoidsEachBetter, AValidGapTreeLeavesNoBetter, SoNoServingSetIsBetter, TheRootHasEverySet, AValidCertificateProves, CoversAreJudgedInOrder, GapsAreJudgedInOrder, TheValuesAreOneList, TheSourcesAreOneList, TheChoicesAreOneList, TheGapsAreOneList, TheCheapestAreOneList, TheBoundIsDecided};
 ghost use Rattle.tree_laws.specs.StoreBuffering.{StoreBufferingIsCertified};
 ghost use Rattle.tree_laws.specs.OwnStore.{OwnStoreIsTold};
 
@@ -20,6 +20,11 @@ pub fn a_valid_tree_lists_every_outcome()
 /// A set of gaps with a valid cover tree over the sequential outcomes serves.
 pub fn a_valid_fenced_tree_serves()
     ensures { (rule : Rule) → AValidFencedTreeServes rule }
+{}
+
+/// A cover tree that is valid is valid whatever gaps go together.
+pub fn ties_change_no_cover()
+    ensures { (rule : Rule) → TiesChangeNoCover rule }
 {}
 
 /// A cover tree that is valid in a mode is valid in each mode that is no looser, as one of that mode. Which

@@ -20,6 +20,7 @@ pub mod ThreadsHold
 pub mod SequentialIsBuffered
 pub mod WaitingEverywhere
 pub mod PassedPlaces
+pub mod NamesPassed
 pub mod NothingPassed
 pub mod UnfencedRuns
 pub mod GapsAvoided
@@ -33,6 +34,8 @@ pub mod FencesDropped
 pub mod FencingIsTheMachine
 -- the answer
 pub mod OneAnswer
+pub mod TrueNames
+pub mod BestAllowed
 pub mod HeadlineIsTheAnswer
 pub mod PartsServed
 -- words of the crates below, passed on

@@ -6,6 +6,7 @@ pub mod Outcomes
 pub mod Faults
 pub mod Laws
 pub mod FenceLaws
+pub mod TieLaws
 pub mod RunTexts
 pub mod Steps
 pub mod Examples

@@ -3,6 +3,7 @@ use Rattle.std.specs.Prelude.{◌≡◌, ◌↔◌, ℕ, ◌<◌, true, List}
 use Rattle.std.specs.FinSet as set
 use Rattle.gap_sets.specs.Gaps.{SetOfGaps}
 use Rattle.gap_sets.specs.Order.{Better}
+use Rattle.gap_sets.specs.Ties.{name_of, spread}
 use Rattle.tso_program.specs.declared.listing.Listing.{Listing}
 use Rattle.tso_program.specs.declared.outcome.Outcome.{Outcome}
 use Rattle.tso_program.specs.Shown.{show}
@@ -12,8 +13,8 @@ use Rattle.tso_program.specs.Fences.{Gaps, gaps_in, fence}
 use Rattle.tso_machine.specs.declared.label.Label.{Label}
 use Rattle.tso_machine.specs.declared.label.Model.{Model}
 use Rattle.tso_machine.specs.declared.replaying.Ended.{Ended}
-use Rattle.tso_machine.specs.Machine.{Machine, SequentialMachine, StoreBufferMachine, no_gaps, IsRun}
-use Rattle.tso_machine.specs.Modes.{unfenced, ArePassed}
+use Rattle.tso_machine.specs.Machine.{Machine, SequentialMachine, StoreBufferMachine, no_gaps, start, IsRun}
+use Rattle.tso_machine.specs.Modes.{unfenced, Passes, ArePassed}
 
 -- the labels are a run of the mode's machine, and this is shown of its outcome
 abbrev pub IsShownRun : Question → Machine → List Label → Outcome → Type 0
@@ -32,13 +33,31 @@ AllowsShown q mode o = (labels : List Label) × IsShownRun q mode labels o
 abbrev pub IsSequentialOutcome : Question → Outcome → Type 0
 IsSequentialOutcome q o = AllowsShown q SequentialMachine o
 
+-- the gaps that a set of names stands for: those of the ties with these names
+abbrev pub gaps_named : Question → SetOfGaps → Gaps
+gaps_named q names = gaps_in q.program (spread q.ties names)
+
+-- with no gap fenced the labels pass a gap of the tie of this name
+abbrev pub PassesName : Question → List Label → ℕ → Type 0
+PassesName q labels name = (gap : ℕ) × (name_of q.ties gap ≡ name) × Passes q.program (StoreBufferMachine no_gaps) (start q.program) labels gap
+
+-- they pass no gap of the ties of these names
+abbrev pub PassesNoNameOf : Question → SetOfGaps → List Label → Type 0
+PassesNoNameOf q names labels = (name : ℕ) → set.contains names name ≡ true → ¬ PassesName q labels name
+
+-- the set has the names of the ties of which they pass a gap, and no others
+abbrev pub ArePassedNames : Question → List Label → SetOfGaps → Type 0
+ArePassedNames q labels names = (name : ℕ) → (set.contains names name ≡ true) ↔ PassesName q labels name
+
 -- the outcome is one of the program's store buffer outcomes, with these gaps fenced
 abbrev pub IsStoreBufferOutcome : Question → Gaps → Outcome → Type 0
 IsStoreBufferOutcome q gaps o = AllowsShown q (StoreBufferMachine gaps) o
 
+-- A set that is asked about, given or found is one of names, each for the gaps of its tie; without ties a name is its gap.
+
 -- the set serves: with its gaps fenced the program has its sequential outcomes and no others
 abbrev pub Serves : Question → SetOfGaps → Type 0
-Serves q gaps = (o : Outcome) → IsStoreBufferOutcome q (gaps_in q.program gaps) o ↔ IsSequentialOutcome q o
+Serves q gaps = (o : Outcome) → IsStoreBufferOutcome q (gaps_named q gaps) o ↔ IsSequentialOutcome q o
 
 -- a run with no gap fenced whose outcome no sequential run has
 pub record IsForeignRun (q : Question) (labels : List Label) (o : Outcome) : Type 0 where
@@ -48,7 +67,7 @@ pub record IsForeignRun (q : Question) (labels : List Label) (o : Outcome) : Typ
 -- with the gaps of the set fenced an outcome is left that no sequential run has
 pub record LeavesOutcome (q : Question) (gaps : SetOfGaps) : Type 0 where
   pub outcome : Outcome
-  pub left : IsStoreBufferOutcome q (gaps_in q.program gaps) outcome
+  pub left : IsStoreBufferOutcome q (gaps_named q gaps) outcome
   pub foreign : IsSequentialOutcome q outcome → ⊥
 
 -- each gap of the set is one of the program's
@@ -72,7 +91,7 @@ fenced_at gaps q = record q { program = fence gaps q.program }
 
 -- the outcome is one that the program with an MFENCE in each gap of the set may leave, under the store buffer machine
 abbrev pub IsFencedOutcome : Question → SetOfGaps → Outcome → Type 0
-IsFencedOutcome q gaps o = IsStoreBufferOutcome (fenced_at (gaps_in q.program gaps) q) no_gaps o
+IsFencedOutcome q gaps o = IsStoreBufferOutcome (fenced_at (gaps_named q gaps) q) no_gaps o
 
 -- so fenced the program leaves an outcome that no sequential run of the source has
 pub record FencedLeavesOutcome (q : Question) (gaps : SetOfGaps) : Type 0 where

@@ -2,6 +2,7 @@
 ghost use Rattle.tso_machine.specs.Laws.{RunsHaveNoFault, CausesStopSteps, TheFirstReplayFaultIsUnique, FencesAreAvoided, AllShownAreTheRuns, AllShownAreTheOutcomes};
 ghost use Rattle.tso_machine.specs.Examples.{StoreBufferingIsTold, RIsTold, N6IsTold, LockedExchangeIsTold};
 ghost use Rattle.tso_machine.specs.FenceLaws.{SequentialRunsAreAllowed, FencedRunsPassNoGapOfTheSet, PassedGapsTellTheFencedRuns, ProgramsJumpForward, TheEmptySetFencesNothing, ARunThatPassesNothingIsSequential, ARunWithNothingPassedIsSequential, AllGapsServe, FencingIsTheMachineWithGaps, FencingKeepsSequentialOutcomes, TheAnswerIsTheOnlyOne, TheHeadlineIsTheAnswer, WhatServesServesEachPart, WhatServesForAllServes, WhatServesServesTheTruth, AnObservedAnswerCostsNoMore, ATruthsAnswerCostsNoMore, AServedTruthIsKept};
+ghost use Rattle.tso_machine.specs.TieLaws.{AnAnswerWithoutTiesCostsNoMore, FencedRunsPassNoName, NamesOfPassedGapsArePassed, NamesServeAsTheirGaps, PassedNamesTellTheFencedRuns, TheAnswerIsTheBestAllowedSet, WithoutTiesAGapIsItsName, WithoutTiesPassedNamesAreGaps};
 
 /// Labels that are a run have no fault but out of memory.
 pub fn runs_have_no_fault()
@@ -96,4 +97,25 @@ pub fn an_observed_answer_costs_no_more()
 /// A set serves for a formula's truth exactly where it keeps the truths that sequential runs leave.
 pub fn a_served_truth_is_kept()
     ensures { AServedTruthIsKept }
+{}
+
+/// With the gaps of some names fenced exactly those runs are left that pass none of these names: they serve as their gaps
+/// do. Without ties a name is its gap, and a run passes the names of the gaps that it passes.
+pub fn passed_names_tell_the_fenced_runs()
+    ensures names { FencedRunsPassNoName }
+    ensures tell { PassedNamesTellTheFencedRuns }
+    ensures passed { NamesOfPassedGapsArePassed }
+    ensures serve { NamesServeAsTheirGaps }
+    ensures without { WithoutTiesAGapIsItsName }
+    ensures own_gaps { WithoutTiesPassedNamesAreGaps }
+{}
+
+/// The gaps that an answer's names stand for are the best set that has of each tie all gaps or none, where a tie costs once.
+pub fn the_answer_is_the_best_allowed_set()
+    ensures { TheAnswerIsTheBestAllowedSet }
+{}
+
+/// Without ties the answer costs no more than with them, where a tie costs at least what its gaps cost together.
+pub fn an_answer_without_ties_costs_no_more()
+    ensures { AnAnswerWithoutTiesCostsNoMore }
 {}

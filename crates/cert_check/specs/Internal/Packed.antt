@@ -6,7 +6,7 @@ use Rattle.gap_sets.specs.Gaps.{SetOfGaps}
 use Rattle.gap_sets.specs.Order.{cost_of, Better}
 use Rattle.gap_sets.specs.Regions.{HasNoneOf}
 use Rattle.gap_sets.specs.declared.region.Region.{Region}
-use Rattle.tso_program.specs.declared.listing.Listing.{Listing}
+use Rattle.tso_program.specs.declared.question.Question.{Question}
 use Rattle.tso_machine.specs.declared.label.Label.{Label}
 use Rattle.cert_forest.specs.Trees.{Gap, Split, Bound}
 use Rattle.cert_forest.specs.GapNodes.{first_gap}
@@ -47,13 +47,13 @@ pub record IsPackedWith (costs : List ℕ) (packing : Packing) (gaps : List ℕ)
   pub cheapest : new.has_none ≡ false → (packing.has_none ≡ false) × ((gap : ℕ) × IsCheapestOf costs gaps gap × (new.least ≡ set.insert packing.least gap))
   pub none : new.has_none ≡ true → (packing.has_none ≡ true) ⊎ (gaps ≡ [])
 
-module _ (p : Listing) (costs : List ℕ) (answer : SetOfGaps) (runs : List (List Label)) (region : Region) where
+module _ (q : Question) (costs : List ℕ) (answer : SetOfGaps) (runs : List (List Label)) (region : Region) where
   -- The runs of these numbers bound the region together with those that are packed: they pass no gap of `must`, and no two of them pass a common gap
   -- outside `never`, nor a packed one; and the least set with the cheapest gap of each is not better than the answer. Where a packed run passes no gap outside `never` there is no
   -- such set.
   pub record IsBoundWith (packing : Packing) (numbers : List ℕ) : Type 0 where
     pub gaps : List (List ℕ)
-    pub each : AllZip (IsSplitBy p runs region) numbers gaps
+    pub each : AllZip (IsSplitBy q runs region) numbers gaps
     pub apart : IsPacking gaps
     pub beside : All (HasNoneOf packing.gaps) gaps
     pub not_better : packing.has_none ≡ false → (cheapest : List ℕ) → AllZip (IsCheapestOf costs) gaps cheapest → ¬ Better costs (with_gaps packing.least cheapest) answer

@@ -12,9 +12,9 @@ use Rattle.tso_machine.specs.declared.label.Label.{Label}
 use Rattle.tso_machine.specs.declared.label.Model.{Model}
 use Rattle.tso_machine.specs.declared.replaying.ReplayFault.{ReplayFault}
 use Rattle.tso_machine.specs.declared.replaying.ReplayFault.TheVariants as replays
-use Rattle.tso_machine.specs.Machine.{Machine, StoreBufferMachine, no_gaps}
+use Rattle.tso_machine.specs.Machine.{Machine}
 use Rattle.tso_machine.specs.Modes.{unfenced, ArePassed}
-use Rattle.tso_machine.specs.Outcomes.{IsShownRun}
+use Rattle.tso_machine.specs.Outcomes.{ArePassedNames, IsShownRun}
 use Rattle.cert_check.specs.declared.fault.RunsFault.{RunsFault}
 use Rattle.cert_check.specs.declared.fault.RunsFault.TheVariants as why
 use Rattle.cert_check.specs.Faults.{IsRunOf, IsFirstWithout}
@@ -47,6 +47,6 @@ abbrev pub IsFaultFrom : ReplayFault → ℕ → RunsFault → Type 0
 IsFaultFrom fault number (why.NoRun n) = (n ≡ number) × (fault ≢ replays.OutOfMemory)
 IsFaultFrom fault number why.OutOfMemory = fault ≡ replays.OutOfMemory
 
--- each of the runs passes the gaps of its number, with no gap fenced
-abbrev pub HavePassed : Listing → List (List Label) → List SetOfGaps → Type 0
-HavePassed p runs passed = AllZip (ArePassed p (StoreBufferMachine no_gaps)) runs passed
+-- each of the runs passes the names of its number, with no gap fenced
+abbrev pub HavePassed : Question → List (List Label) → List SetOfGaps → Type 0
+HavePassed q runs passed = AllZip (ArePassedNames q) runs passed

@@ -1,4 +1,4 @@
-use Rattle.cert_check.proofs.Vocabulary.{◌≡◌, ◌+◌, ◌*◌, ◌≤◌, ◌<◌, List, All, length, take, drop, numbers_of_set, MAX_GAPS, Listing, Label, spell_gaps, HavePassed}
+use Rattle.cert_check.proofs.Vocabulary.{◌≡◌, ◌+◌, ◌*◌, ◌≤◌, ◌<◌, List, All, length, take, drop, numbers_of_set, MAX_GAPS, Question, Label, spell_gaps, HavePassed}
 use Rattle.cert_check.proofs.GapSteps.{IsLeft}
 use Rattle.cert_check.proofs.gap.+judge_gap.Given as goal
 
@@ -22,6 +22,6 @@ invariant-judge_gaps-loop-number l = record {
   counted : l.number + length l.gap-iterator ≡ length (numbers_of_set l.fn.gaps);
   few : l.number + length l.gap-iterator ≤ MAX_GAPS;
   low : All (λ gap. gap < MAX_GAPS) l.gap-iterator;
-  left : (p : Listing) (runs : List (List Label)) → HavePassed p runs l.bounds.passed.now →
-      IsLeft p l.bounds.costs.now l.bounds.answer runs (take (length (numbers_of_set l.fn.gaps)) l.fn.walk) l.region (numbers_of_set l.fn.gaps) l.number (take (length l.gap-iterator) l.walk) l.rest l.gap-iterator;
+  left : (q : Question) (runs : List (List Label)) → HavePassed q runs l.bounds.passed.now →
+      IsLeft q l.bounds.costs.now l.bounds.answer runs (take (length (numbers_of_set l.fn.gaps)) l.fn.walk) l.region (numbers_of_set l.fn.gaps) l.number (take (length l.gap-iterator) l.walk) l.rest l.gap-iterator;
 }

@@ -23,6 +23,6 @@ new-requires-3 c =
       runs = all.runs;
       tree = subst (λ (os : List Outcome). IsWholeCover q SequentialMachine os tree) c.deref.ensures.value c.in-Ok.ensures.tree;
     } in
-    subst (λ (x : Question). IsSequentialTable (record { question = x; outcomes = outcomes.items; runs = runs; tree = tree })) (sym (λ i. asked (c.in_ok-copy.ensures i) (c.in_ok-copy-2.ensures i)))
+    subst (λ (x : Question). IsSequentialTable (record { question = x; outcomes = outcomes.items; runs = runs; tree = tree })) (sym c.in_ok-question.ensures)
     (subst (λ (os : List Outcome). IsSequentialTable (record { question = q; outcomes = os; runs = runs; tree = tree })) (sym (ap (λ (v : Vec Outcome). v.items) c.in_ok-outcomes.ensures.ok))
     (subst (λ (rs : List (List Label)). IsSequentialTable (record { question = q; outcomes = list.outcomes.items; runs = rs; tree = tree })) (sym c.in_ok-runs.ensures.ok) table))

@@ -1,5 +1,7 @@
-use Rattle.fence_place.proofs.Vocabulary.{◌≡◌, ◌∙◌, ◌<◌, ◌^◌, ℕ, List, length, refl, sym, ap, subst, total, Label, Certificate, AreShownPlaces, Question, shows_of, Serving, IsServing, Entry, Gap, AreSplitRuns, AreNumbersOf, IsNumbered, IsRecorded, IsProof}
+use Rattle.fence_place.proofs.Vocabulary.{◌≡◌, ◌∙◌, ◌<◌, ◌≤◌, ◌^◌, ℕ, List, length, refl, sym, ap, subst, total, Label, Certificate, AreShownPlaces, Question, shows_of, Serving, IsServing, Entry, Gap, AreSplitRuns, AreNumbersOf, IsNumbered, IsRecorded, IsProof}
 use Rattle.std.specs.Arc.{arc_value}
+use Rattle.gap_sets.specs.Ties.{AreTies, spread}
+use Rattle.tso_program.specs.Listings.{gap_count}
 use Rattle.cert_forest.specs.Rule.TheVariants.{Whole}
 use Rattle.fence_place.proofs.CertificateMade.{is_proof}
 use Rattle.fence_place.proofs.certificates.certify.Goals as goal
@@ -16,13 +18,17 @@ returns-clause-proof c =
     let o = c.args.finished.now in
     let t = c.args.table.now in
     let is_served = c.served-served.ensures.value in
-    let same_gaps : c.set-set.result ≡ o.served.gaps = c.set-set.ensures ∙ ap (λ (s : Serving). s.gaps) is_served in
-    let cost : c.total.result ≡ total o.costs c.set-set.result = c.total.ensures.value ∙ ap (λ (l : List ℕ). total l c.set-set.result) c.costs.ensures.value in
+    let ties : c.question-2.result.now.ties ≡ o.question.ties = ap (λ (q : Question). q.ties) (c.question-2.ensures.value ∙ c.requires.question) in
+    let served_gaps : c.set.result ≡ o.served.gaps = c.set.ensures ∙ ap (λ (s : Serving). s.gaps) is_served in
+    let same_gaps : c.spread-set.result ≡ spread o.question.ties o.served.gaps = c.spread-set.ensures ∙ (λ i. spread (ties i) (served_gaps i)) in
+    let cost : c.total.result ≡ total o.costs o.served.gaps = c.total.ensures.value ∙ (λ i. total (c.costs.ensures.value i) ((c.set-2.ensures ∙ ap (λ (s : Serving). s.gaps) is_served) i)) in
+    let are : AreTies o.question.ties = subst AreTies ties c.recall_facts-3.ensures in
+    let few : length o.question.ties ≤ gap_count o.question.program.threads = subst (λ (q : Question). length q.ties ≤ gap_count q.program.threads) c.requires.question c.requires.ties in
     let low = c.total.ensures.limit in
     let with_runs : List (List Label) → Certificate = λ (runs : List (List Label)). record {
       rule = Whole;
       shown = c.of-shows.result;
-      gaps = c.set-set.result;
+      gaps = c.spread-set.result;
       cost = c.total.result;
       seq_runs = arc_value c.in_ok-seq_runs.seq_runs;
       seq_tree = c.in_ok-copy.field-0;
@@ -32,7 +38,7 @@ returns-clause-proof c =
     } in
     subst (λ (runs : List (List Label)). IsProof o.question o.costs (with_runs runs)) (sym c.runs.view_is)
     (is_proof t o (with_runs c.in_ok-runs.runs)
-    c.recall_facts.ensures.table c.served-served.ensures.outcome (subst IsServing is_served c.recall_facts-2.ensures.serving) low c.requires c.served-served.ensures.answer.0 c.served-served.ensures.answer.1
+    c.recall_facts.ensures.table c.served-served.ensures.outcome (subst IsServing is_served c.recall_facts-2.ensures.serving) low c.requires.question c.served-served.ensures.answer.0 c.served-served.ensures.answer.1 are few
     (record {
       whole = refl;
       same_shown = c.of-shows.ensures ∙ ap (λ (q : Question). shows_of q.shown) c.question.ensures.value;

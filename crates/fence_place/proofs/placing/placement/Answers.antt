@@ -1,5 +1,5 @@
-use Rattle.fence_place.proofs.Vocabulary.{ℕ, List, subst, Question, IsProof}
-use Rattle.fence_place.proofs.PlacementMade.{Proves, Determines, is_placement}
+use Rattle.fence_place.proofs.Vocabulary.{ℕ, List, sym, subst, Question, IsProof}
+use Rattle.fence_place.proofs.PlacementMade.{is_placement}
 use Rattle.fence_place.proofs.placing.placement.Goals as goal
 
 pub returns : goal.returns
@@ -9,6 +9,5 @@ returns g c =
     let made = c.in_ok-certificate.certificate in
     let of_costs = subst (λ (each : List ℕ). IsProof c.in_ok-finished.finished.question each made) c.in_ok-finished.ensures.of_costs c.in_ok-certificate.ensures.proof in
     let proof = subst (λ (question : Question). IsProof question costs made) c.in_ok-finished.ensures.of_question of_costs in
-    let same = c.question-question.ensures.value in
-    is_placement q costs made proof c.in_ok-certificate.ensures.once (subst (λ (question : Question). Proves question costs) same c.certificate_proves_answer.ensures.valid)
-    (subst (λ (question : Question). Determines question costs) same c.certificate_proves_answer.ensures.told)
+    is_placement q costs made proof c.in_ok-certificate.ensures.once (λ certificate. c.certificate_proves_answer.ensures.valid q certificate (sym c.program.ensures.value))
+    (λ gaps cost. c.certificate_proves_answer.ensures.told q gaps cost (sym c.program.ensures.value))

@@ -1,4 +1,4 @@
-use Rattle.fencecheck.proofs.Vocabulary.{◌≡◌, inr, refl, sym, ap, ◌∙◌, subst, asked, handed_in}
+use Rattle.fencecheck.proofs.Vocabulary.{◌≡◌, inr, refl, sym, ap, ◌∙◌, subst, asked_with, handed_in}
 use Rattle.tso_program.specs.{declared.listing.Listing.Listing, declared.shown.Shown.Shown}
 use Rattle.litmus_reader.specs.declared.litmus.Litmus.{Litmus}
 use Rattle.cert_forest.specs.{declared.shows.Shows.Shows, declared.shows.Shows.TheVariants.All, Shows.shows_of, Certificates.Certificate}
@@ -44,5 +44,5 @@ returns-clause-refused c source claim spell = (
   c.in-Ok.costs,
   spell,
   c.in-Ok.ensures.costs,
-  subst (λ shown. CheckFaultIs (asked c.args.litmus.now.program shown) c.in-Ok.costs c.args.certificate.now c.in-Err-checked_line.fault) (c.in-Ok-handed_in.ensures ∙ ap (λ (claimed : Certificate). handed_in c.args.litmus.now claimed.shown) c.certificate.view_is) c.in-Err-checked_line.ensures.refused,
+  subst (λ shown. CheckFaultIs (asked_with c.in-Ok.costs.ties c.args.litmus.now.program shown) c.in-Ok.costs.costs c.args.certificate.now c.in-Err-checked_line.fault) (c.in-Ok-handed_in.ensures ∙ ap (λ (claimed : Certificate). handed_in c.args.litmus.now claimed.shown) c.certificate.view_is) c.in-Err-checked_line.ensures.refused,
 )

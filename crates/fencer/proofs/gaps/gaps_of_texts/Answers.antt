@@ -5,7 +5,7 @@ use Rattle.fencer.proofs.gaps.gaps_of_texts.Goals as goal
 
 pub returns-in-Ok : goal.returns-in-Ok
 returns-in-Ok g c =
-    prints_made {E = AllocError} (Ok c.in-Ok.lines) 0 _ _ _ c.print.result (listed c.in-Ok.lines.items c.in-Ok.ensures.lines) c.print.ensures
+    prints_made {E = AllocError} (Ok c.in-Ok.lines) 0 _ _ _ c.print.result (listed c.in-Ok.lines.items c.in-Ok.ensures.lines) (rw c.tell_asked_ties.ensures at c.print.ensures)
 
 pub returns-in-Err : goal.returns-in-Err
 returns-in-Err g c =

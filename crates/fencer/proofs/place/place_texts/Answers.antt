@@ -4,7 +4,7 @@ use Rattle.fencer.proofs.place.place_texts.Goals as goal
 
 pub returns-in-Ok-clause-told : goal.returns-in-Ok-clause-told
 returns-in-Ok-clause-told g c =
-    prints_more _ _ _ _ c.deliver_placed.result (λ status text is. placed c.in-Ok.placed.answer c.in-Ok.placed.inserted status text c.in-Ok.ensures.placed is) c.deliver_placed.ensures.told
+    prints_more _ _ _ _ c.deliver_placed.result (λ status text is. placed c.in-Ok.placed.answer c.in-Ok.placed.inserted status text c.in-Ok.ensures.placed is) (rw c.tell_ties.ensures at c.deliver_placed.ensures.told)
 
 pub returns-in-Err-clause-told : goal.returns-in-Err-clause-told
 returns-in-Err-clause-told g c =

@@ -5,7 +5,7 @@ use Rattle.fencer.proofs.whys.explain_texts.Goals as goal
 
 pub returns-in-Ok-clause-told : goal.returns-in-Ok-clause-told
 returns-in-Ok-clause-told g c =
-    prints_more _ _ _ _ c.deliver.result (λ status text is. explained c.in-Ok.answer status text c.in-Ok.ensures.told is) (rw (c.as_deref-page.ensures.value, c.as_deref-graphs.ensures.value) at c.deliver.ensures.told)
+    prints_more _ _ _ _ c.deliver.result (λ status text is. explained c.in-Ok.answer status text c.in-Ok.ensures.told is) (rw (c.tell_ties.ensures, c.as_deref-page.ensures.value, c.as_deref-graphs.ensures.value) at c.deliver.ensures.told)
 
 pub returns-in-Err-clause-told : goal.returns-in-Err-clause-told
 returns-in-Err-clause-told g c =

@@ -1,5 +1,5 @@
-use Rattle.json_text.proofs.Vocabulary.{◌≡◌, ◌∙◌, ℕ, List, [], ◌∷◌, ◌++◌, length, take, get_or, ap, append_assoc, arith, flat_map, take-length, escaped}
-use Rattle.json_text.proofs.Lists.{flat_more}
+use Rattle.json_text.proofs.Vocabulary.{◌≡◌, ◌∙◌, ℕ, List, [], ◌∷◌, ◌++◌, length, take, get_or, ap, append_assoc, arith, flat_map, take-length, take_more, escaped}
+use Rattle.std.proofs.lemmas.List.{flat_map_more}
 use Rattle.json_text.proofs.escape.push_quoted.Goals as goal
 
 pub loop-byte-preserved : goal.loop-byte-preserved
@@ -7,7 +7,7 @@ loop-byte-preserved c =
     let i = c.loop-byte.byte-index in
     c.in_ok-push_byte.ensures
     ∙ ap (λ (bs : List ℕ). bs ++ escaped (get_or c.args.text.now i 0)) c.loop-byte.invariant
-    ∙ flat_more escaped c.push.new.self.items c.args.text.now i 0 c.loop-byte-test.true
+    ∙ rw (take_more c.args.text.now i 0 c.loop-byte-test.true) (flat_map_more escaped c.push.new.self.items (take i c.args.text.now) (get_or c.args.text.now i 0))
 
 pub returns : goal.returns
 returns c =

@@ -1,6 +1,6 @@
 use Rattle.placed_text.proofs.Vocabulary.{option_map, HasNoProblem}
 use Rattle.cover_judge.proofs.Answered.{err_up}
-use Rattle.placed_text.proofs.Judged.{one_each, no_costs, no_program}
+use Rattle.placed_text.proofs.Judged.{one_each, ties_within, no_costs, no_program}
 use Rattle.placed_text.proofs.problem.read_problem.Goals as goal
 
 pub returns-clause-problem : goal.returns-clause-problem
@@ -8,6 +8,9 @@ returns-clause-problem c = record { of_text = c.in_ok-litmus.ensures.found; give
 
 pub returns-clause-one_each : goal.returns-clause-one_each
 returns-clause-one_each c = one_each c.in_ok-litmus.litmus.program (option_map (λ text. text.now) c.args.costs) c.in_ok-costs.costs c.in_ok-costs.ensures.given
+
+pub returns-clause-ties : goal.returns-clause-ties
+returns-clause-ties c = ties_within c.in_ok-litmus.litmus.program (option_map (λ text. text.now) c.args.costs) c.in_ok-costs.costs c.in_ok-costs.ensures.given
 
 pub returns-in_err-litmus-clause-fault : goal.returns-in_err-litmus-clause-fault
 returns-in_err-litmus-clause-fault c =

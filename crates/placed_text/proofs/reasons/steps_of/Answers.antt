@@ -8,6 +8,6 @@ pub returns-in-Ok : goal.returns-in-Ok
 returns-in-Ok c =
     let p = c.args.program.now in
     record {
-      steps = rw c.without-others.ensures at c.in-Ok.ensures.steps;
-      labels = labels_of_steps p (machine_of_model p c.without-others.result models.Buffered) (machine.start p) _ _ c.in-Ok.ensures.steps;
+      steps = c.in-Ok.ensures.steps;
+      labels = labels_of_steps p (machine_of_model p c.args.others.now models.Buffered) (machine.start p) _ _ c.in-Ok.ensures.steps;
     }

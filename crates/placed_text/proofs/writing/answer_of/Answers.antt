@@ -1,9 +1,13 @@
+use Rattle.tree_laws.proofs.RightClaims.{right_claim}
+use Rattle.placed_text.proofs.Vocabulary.{question_in}
 use Rattle.placed_text.proofs.GapsThere.{none_missing}
 use Rattle.placed_text.proofs.writing.answer_of.Goals as goal
 
 pub write_answer-requires : goal.write_answer-requires
 write_answer-requires g c =
-    let none = none_missing c.args.problem.now.litmus.program c.in_ok-certificate.certificate.gaps c.in_ok-certificate.ensures.placement.headline.of_program in
+    let problem = c.args.problem.now in
+    let certificate = c.in_ok-certificate.certificate in
+    let none = none_missing problem.litmus.program certificate.gaps (right_claim (question_in problem) problem.costs.costs certificate c.in_ok-certificate.ensures.placement.proof.valid).right_set.of_program in
     rw c.gaps_of-gaps.ensures none
 
 pub returns-clause-told : goal.returns-clause-told

@@ -1,5 +1,7 @@
 use Rattle.cover_solver.proofs.Vocabulary.{◌≡◌, true, sym, subst, ap, ◌∙◌, Question, StoreBufferMachine, no_gaps, ReplayFaultIs, ArePassed, IsShownRun, IsForeignRun, Asked, IsListOf}
 use Rattle.std.specs.FinSet as set
+use Rattle.gap_sets.specs.Ties.{names_in}
+use Rattle.tso_machine.proofs.NamesPassed.{names_of_passed}
 use Rattle.cover_solver.proofs.Tables.{foreign_again, passes_none, replays_unfenced}
 use Rattle.cover_solver.proofs.solver.Solver.foreign.Goals as goal
 
@@ -35,8 +37,8 @@ returns-in_ok-question-in-Ok c =
     (subst (λ ls. ArePassed c.self.inside.question.program (StoreBufferMachine no_gaps) ls passed) c.deref.ensures.value c.in-Ok.ensures.replay.passed) in (
       c.of.ensures.question ∙ c.in_ok-question-in-Ok.ensures ∙ question,
       c.of.ensures.foreign,
-      (λ gap passes. passes_none s.question c.args.set.now s.outcomes labels c.args.run.outcome found passed list c.requires.is_run c.requires.new again are gap
-          (subst (λ gaps. set.contains gaps gap ≡ true) c.of.ensures.passed passes)),
+      (λ gap passes. passes_none s.question c.args.set.now s.outcomes labels c.args.run.outcome found (names_in s.question.ties passed) list c.requires.is_run c.requires.new again (names_of_passed s.question labels passed are) gap
+          (subst (λ gaps. set.contains gaps gap ≡ true) (c.of.ensures.passed ∙ ap (λ (q : Question). names_in q.ties passed) (c.in_ok-question-in-Ok.ensures ∙ question)) passes)),
     )
 
 pub of_run-requires : goal.of_run-requires

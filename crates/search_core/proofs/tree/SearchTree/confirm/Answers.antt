@@ -8,7 +8,7 @@ returns-in_default-clause-fault c = (refl, holds_nothing (the_view c.self.inside
 pub mark-requires : goal.mark-requires
 mark-requires c = is_within (the_view c.self.inside) c.args.self.now c.self.view_is c.deref.result.now c.deref.ensures.value c.in-Some.place c.in-Some.ensures.before c.in-Some.ensures.there
 
-older : (c : goal.After-drop-served-inside-then-not-better-3) → Confirms (the_view c.self.inside) (record (the_view c.self.inside) { entries = c.mark.new.entries.items }) c.args.seat c.args.served
+older : (c : goal.After-drop-served-inside-then-not-better-4) → Confirms (the_view c.self.inside) (record (the_view c.self.inside) { entries = c.mark.new.entries.items }) c.args.seat c.args.served
 older c = let s = the_view c.self.inside in
     let n = c.is_better-better.ensures.no c.if-not-better.true in
     confirm_event s c.args.self.now c.self.view_is c.deref.result.now c.deref.ensures.value c.mark.new.entries.items c.args.seat c.in-Some.place c.in-Some.node
