@@ -56,6 +56,8 @@ FAULTS = (
     ("no litmus file of a witness", ["witness"], b"", b"error: the following required arguments were not provided:\n  <LITMUS>\n"),
     ("fences twice", ["witness", "--fences", "0:1", "--fences", "1:1", "-"], b"", b"error: the argument '--fences <"),
     ("fences of the sequential machine", ["witness", "--model", "sequential", "--fences", "0:1", "-"], b"", b"error: --fences and --model sequential cannot both be given: no fence matters there\n"),
+    ("the input twice", ["survey", "-", "-"], b"", b"error: `-` cannot be given twice: standard input is read once\n"),
+    ("the input twice among files", ["survey", "-", "SB.litmus", "-"], b"", b"error: `-` cannot be given twice: standard input is read once\n"),
     ("workers of a witness", ["witness", "--workers", "2", "-"], b"", b"error: unexpected argument '--workers' found\n"),
 )
 NO_FENCES = (

@@ -4,7 +4,7 @@ import os
 from harness import TOP, Cases, edit_texts, tell
 
 MOST_IN_GATE = 60
-MOST_OF_CRATE = 10
+MOST_OF_CRATE = 16
 
 
 class Edits(Cases):

@@ -30,7 +30,7 @@ def documented(words, litmus, labels=(), fences=None):
 # commands that print a document of each kind, of store buffering on the input; the last is refused
 KINDS = (
     ("why", ()), ("place", ("--condition",)), ("trace", ("e0", "e1", "e0", "e1", "f0", "f1")), ("witness", ()), ("witness", ("--fences", "0:1,1:1")),
-    ("outcomes", ("--runs",)), ("gaps", ()), ("trace", ("e7",)),
+    ("outcomes", ("--runs",)), ("gaps", ()), ("survey", ()), ("trace", ("e7",)),
 )
 # where which keyword is broken: the kind of document, the place of a value, and what stands there in place of it
 DAMAGE = (
@@ -39,6 +39,10 @@ DAMAGE = (
     ("type", "trace", ("run", "meets_condition"), 1),
     ("type", "trace", ("run", "steps", 0, "instruction"), "0"),
     ("type", "refusal", ("file",), False),
+    ("type", "survey", ("holds", "buffered"), "true"),
+    ("required", "survey", ("condition_answer",), None),
+    ("pattern", "survey", ("runs", 0, "executes", 0), "0:64"),
+    ("additionalProperties", "survey", ("runs", 0, "more"), 0),
     ("required", "why", ("answer", "cost"), None),
     ("required", "refusal", ("message",), None),
     ("additionalProperties", "place", ("more",), 0),

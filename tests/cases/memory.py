@@ -108,6 +108,38 @@ class RefusalDocuments:
         return (status, line) in self.lawful
 
 
+class SurveyTexts:
+    """What a survey of files with these blocks and rows may print where memory is refused, with status 1: a block for each file, of which some are refusals, and
+    their table; or the first of these blocks alone."""
+
+    def __init__(self, heading, files):
+        self.heading, self.files = heading, files
+
+    def __contains__(self, found):
+        status, text = found
+        table = self.heading
+        for name, block, row in self.files:
+            refusal = f"file {name}\n".encode()
+            lines = [refusal + line for _, line in lawful_lines("place 5 OutOfMemory") if line and text.startswith(refusal + line)]
+            if not lines and not text.startswith(block):
+                break
+            text = text[len(lines[0] if lines else block):]
+            table += f"row refused {name}\n".encode() if lines else row
+        return status == 1 and text in (b"", table)
+
+
+def surveys_refused(library):
+    """A survey of two files."""
+    given, other = example("SB.litmus"), os.path.join(EXAMPLES, "n6.litmus")
+    words = ["survey", "-", other]
+    right = run(words, given)
+    tell("the survey of two files", right[0] == 3, right)
+    blocks, heading, *rows = re.split(rb"^(table .*\n|row .*\n)", right[1], flags=re.M)
+    first, second = re.fullmatch(rb"(file -\n.*)(file .*)", blocks, re.S).groups()
+    rows = [row for row in rows if row]
+    refused_allocations(library, "the survey of two files", words, given, right, SurveyTexts(heading, [("-", first, rows[0]), (other, second, rows[1])]))
+
+
 def replays_refused(library):
     """A replay, its table, a replay that is refused, lists of outcomes, and runs that are sought."""
     lawful = lawful_lines("run 2 OutOfMemory", "replay 6 OutOfMemory")
@@ -242,6 +274,10 @@ class Memory(PreloadedCases):
         """Replays, their tables, lists of outcomes, and runs that are sought."""
         tell(f"{self.source} is built", self.library)
         replays_refused(self.library)
+
+    def test_surveys(self):
+        """A survey of two files."""
+        surveys_refused(self.library)
 
     def test_large(self):
         """Large programs: lists of both models, and placements with their certificates."""

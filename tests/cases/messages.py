@@ -8,11 +8,13 @@ import subprocess
 import tempfile
 
 from harness import EXAMPLES, LIMIT, PROGRAMS, Cases, example, example_files, lines, same, schemas, tell, text_of, write
+from judges import documents
 
 FILES = ("SB.litmus", "SB.cert", "n6.litmus")
 ROW = "MOV [x],$1 |  ;\n"
-# what is said where a `~exists` or a `forall` fails on the sequential machine, with the formula in the middle
+# what is said where a sequential run decides the condition, with the formula in the middle
 FAILS = {
+    "exists": "fencer: what the condition asks about (%s) happens without store buffers too\n",
     "~exists": "fencer: what must not happen (%s) happens without store buffers too: no fence mends it\n",
     "forall": "fencer: what must always hold (%s) fails without store buffers too: no fence mends it\n",
 }
@@ -53,8 +55,37 @@ HINTS = (
     ("place SB.litmus MP.litmus", ""),
     ("outcomes -V", ""),
 )
+# arguments with `--fences` that are no command, and what is said of them
+TAKES_NONE = "takes no --fences: `fencer outcomes --fences` lists the outcomes with such fences, and `fencer witness --fences` shows a run"
+FENCE_HINTS = (
+    (("outcomes", "--fences", "0:2 1:2", "SB.litmus"), "did you mean `--fences 0:2,1:2`?"),
+    (("witness", "--fences=0:2, 1:2", "SB.litmus"), "did you mean `--fences 0:2,1:2`?"),
+    (("witness", "--fences", "0:2", "1:2", "SB.litmus"), "did you mean `--fences 0:2,1:2`?"),
+    (("outcomes", "--fences", "0:1,", "1:1", "2:1", "SB.litmus"), "did you mean `--fences 0:1,1:1,2:1`?"),
+    (("place", "--fences", "0:1", "SB.litmus"), f"place {TAKES_NONE}"),
+    (("why", "--condition", "--fences=0:1", "SB.litmus"), f"why {TAKES_NONE}"),
+    (("outcomes", "--fences", "x", "SB.litmus"), ""),
+    (("outcomes", "--fences", "0:1,0:1", "SB.litmus"), ""),
+    (("outcomes", "--fences"), ""),
+)
 NEVER, ALWAYS = "stands before any CMP of its thread: it never jumps", "stands before any CMP of its thread: it always jumps"
 UNWRITTEN = "is compared, and nothing of its thread writes it: it holds 0"
+# the kinds of the notes of a text, what stands in it in place of what, and its condition
+NOTES = (
+    ("", "", "", "exists (0:EAX=0 /\\ 1:EAX=0)"),
+    ("", "", "", "~exists (0:EAX=0 /\\ 1:EAX=0)"),
+    ("", "", "", "forall (0:EAX=1 \\/ 1:EAX=1)"),
+    ("happens_sequentially", "", "", "exists (0:EAX=0)"),
+    ("no_fence_mends", "", "", "~exists (0:EAX=0)"),
+    ("no_fence_mends", "", "", "forall (0:EAX=1)"),
+    ("unused_name", "", "", "~exists (aa=1)"),
+    ("no_fence_mends unused_name", "", "", "~exists (aa=0)"),
+    ("jump_before_cmp", "MOV EAX,[y] | MOV EAX,[x] ;", "MOV EAX,[y] | MOV EAX,[x] ;\nJE END | ;\nEND: | ;", "~exists (0:EAX=0 /\\ 1:EAX=0)"),
+    ("no_fence_mends unwritten_register", "MOV EAX,[y] | MOV EAX,[x] ;", "MOV EAX,[y] | MOV EAX,[x] ;\nCMP EBX,$0 | ;", "~exists (1:EAX=0)"),
+    ("unwritten_location", "MOV EAX,[y] | MOV EAX,[x] ;", "MOV EAX,[y] | MOV EAX,[x] ;\n | MOV EBX,[z] ;", "~exists (0:EAX=0 /\\ 1:EAX=0)"),
+    ("lone_name", "MOV EAX,[y] | MOV EAX,[x] ;", "MOV EAX,[y] | MOV EAX,[x] ;\nMOV [turn],$1 | MOV EBX,[turn] ;\n | MOV [tunr],$1 ;", "~exists (0:EAX=0 /\\ 1:EAX=0)"),
+)
+UNREAD = "is read, and nothing writes it: it holds 0"
 # initial values, and rows from line 5 on, after thread 0 stored to x and thread 1 loaded it into EAX; where the message is, and what it says
 SLIPS = (
     ("", "JE END | ;\nEND: | ;", "5:1", f"JE {NEVER}"),
@@ -74,6 +105,14 @@ SLIPS = (
     ("", " | MOV ESI,EAX ;\n | CMP ESI,$0 ;", "", ""),
     ("", " | XCHG [x],ESI ;\n | CMP ESI,EAX ;", "", ""),
     ("", "CMP ESI,$0 | JE END ;\n | END: ;", "5:14", f"JE {NEVER}"),
+    ("", " | A: MOV EBX,[z] ;", "5:16", f"z {UNREAD}"),
+    ("", "MOV EBX,[z] | MOV EBX,[y] ;", "5:10", f"z {UNREAD}"),
+    ("", "MOV EBX,[y] | MOV EBX,[z] ;\nMOV EBX,[z] | MOV [z],$1 ;", "5:10", f"y {UNREAD}"),
+    ("z=0", " | MOV EBX,[z] ;", "", ""),
+    ("1:EBX=0", " | MOV EBX,[z] ;", "5:13", f"z {UNREAD}"),
+    ("", "MOV EBX,[z] | XCHG [z],EAX ;", "", ""),
+    ("", "MOV EBX,[z] | MOV [z],EAX ;", "", ""),
+    ("", "MOV EBX,[z] | ;\n | CMP ESI,$0 ;", "6:8", f"ESI {UNWRITTEN}"),
     ("", "MOV [turn],$1 | CMP ESI,$0 ;\nMOV [turn],$1 | ;\nMOV [tunr],$1 | ;", "5:21", f"ESI {UNWRITTEN}"),
 )
 
@@ -190,11 +229,12 @@ class Messages(Cases):
         location = "the condition names aa, which no instruction reads or writes: it keeps its first value"
         register = "the condition names 1:EBX, to which thread 1 writes nothing: it keeps its first value"
         files = example_texts()
-        for condition, said in (("aa=1", location), ("0:EAX=0 /\\ ~(x=1 \\/ aa=0)", location), ("1:EBX=0", register), ("x=1 /\\ 1:EAX=0", "")):
+        for condition, said, happens in (("aa=1", location, False), ("0:EAX=0 /\\ ~(x=1 \\/ aa=0)", location, False), ("1:EBX=0", register, True), ("x=1 /\\ 1:EAX=0", "", True)):
             text = changed(files["SB.litmus"], b"0:EAX=0 /\\ 1:EAX=0", condition.encode())
             for words in ("outcomes", "outcomes --json", "witness", "place --condition", "why --condition --json", "place", "place --observed", "gaps"):
-                rests = "--condition" in words or words.startswith(("outcomes", "witness"))
-                line = f"<stdin>: {said}\n".encode() if said and rests else b""
+                rests = "--condition" in words or "--observed" in words or words.startswith(("outcomes", "witness"))
+                verdict = FAILS["exists"] % condition if happens and words.startswith(("place", "why")) else ""
+                line = (verdict + (f"<stdin>: {said}\n" if said and rests else "")).encode()
                 status, printed, told = outputs([*words.split(), "-"], EXAMPLES, text)
                 tell(f"{words} of {condition} says {line!r}", status == 0 and told == line, (status, told))
                 with open("/dev/full", "wb") as full:
@@ -225,6 +265,15 @@ class Messages(Cases):
             tell(f"what is said of fencer {words}", (status, printed[:7], told) == (2, b"error: ", line), (status, printed, told))
             with open("/dev/full", "wb") as full:
                 same(f"fencer {words}, where that can't be written", outputs(words.split(), EXAMPLES, b"", full)[:2], (status, printed))
+
+    def test_fence_hints(self):
+        """Where `--fences` stands with no command that takes it, or blanks between its gaps, it is said what may be meant."""
+        for words, said in FENCE_HINTS:
+            line = f"fencer: {said}\n".encode() if said else b""
+            status, printed, told = outputs(words, EXAMPLES, b"")
+            tell(f"what is said of fencer {' '.join(words)}", (status, printed[:7], told) == (2, b"error: ", line), (status, printed, told))
+            with open("/dev/full", "wb") as full:
+                same(f"fencer {' '.join(words)}, where that can't be written", outputs(words, EXAMPLES, b"", full)[:2], (status, printed))
 
     def test_terminal(self):
         """On a terminal the line of the text stands below a message, with a `^` below the word."""
@@ -261,25 +310,43 @@ class Messages(Cases):
         same("the fences of SB by why", shown(["why", sb], b""), b"")
 
     def test_slips(self):
-        """An answer names a jump before any CMP of its thread, or a compared register that nothing writes; a name in the condition comes before them."""
+        """An answer names a jump before any CMP of its thread, or a compared register or a location that nothing writes; a name in the condition comes before them."""
         for initial, rows, place, said in SLIPS:
             text = f"X86 slips\n{{ {initial} }}\nP0 | P1 ;\nMOV [x],$1 | MOV EAX,[x] ;\n{rows}\n"
             line = f"<stdin>:{place}: {said}\n".encode() if said else b""
             for words in ("outcomes", "witness --json", "place", "place --observed --json", "place --condition", "why", "gaps"):
-                status, _, told = outputs([*words.split(), "-"], EXAMPLES, f"{text}exists (x=1)\n".encode())
+                status, _, told = outputs([*words.split(), "-"], EXAMPLES, f"{text}exists (x=5)\n".encode())
                 wanted = b"" if words == "gaps" else line
                 tell(f"{words} of {rows!r} with {{ {initial} }} says {wanted!r}", (status, told) == (0, wanted), (status, told))
             told = outputs(["outcomes", "-"], EXAMPLES, f"{text}exists (aa=1)\n".encode())[2]
             same(f"outcomes of {rows!r} with {{ {initial} }} where the condition names aa", told, b"<stdin>: the condition names aa, which no instruction reads or writes: it keeps its first value\n")
 
+    def test_notes(self):
+        """A document has what standard error has beside an answer, each with its kind, and no such field where nothing is said."""
+        sb = example_texts()["SB.litmus"].decode()
+        for kinds, old, new, condition in NOTES:
+            given = changed(changed(sb, old, new) if old else sb, "exists (0:EAX=0 /\\ 1:EAX=0)", condition).encode()
+            for words in ("outcomes", "outcomes --runs --model sequential", "witness", "witness --not", "place", "place --observed", "place --condition", "why", "why --condition"):
+                status, printed, told = outputs([*words.split(), "--json", "-"], EXAMPLES, given)
+                document = json.loads(printed)
+                asked = words.startswith(("outcomes", "witness"))
+                wanted = [kind for kind in kinds.split() if (kind not in documents.VERDICTS or not asked) and (kind != "unused_name" or asked or "--condition" in words or "--observed" in words)]
+                found = [note["kind"] for note in document.get("notes", [])]
+                tell(f"the notes of {words} of {condition!r} with {new!r}", status == 0 and found == wanted and ("notes" in document) == bool(wanted), found, wanted)
+                same(f"what standard error has of the notes of {words} of {condition!r} with {new!r}", told, documents.noted(printed, "<stdin>"))
+            run = [] if old else ["trace --json - e0 e0 e1 e1 f0 f1"]
+            for words in (*run, "gaps --json -"):
+                printed, told = outputs(words.split(), EXAMPLES, given)[1:]
+                same(f"the notes of {words} of {condition!r} with {new!r}", ("notes" in json.loads(printed), told), (False, b""))
+
     def test_failures(self):
-        """It is said where some sequential run breaks a `~exists` or a `forall`."""
+        """It is said where some sequential run meets the formula of an `exists` or `~exists`, or does not meet that of a `forall`."""
         text = example_texts()["SB.litmus"]
         never, always, either = (False,), (True,), (False, True)
         for formula, truths in (("0:EAX=0 /\\ 1:EAX=0", never), ("0:EAX=0", either), ("x=1", always), ("not 1:EAX=1", either)):
-            for quantifier, breaking in (("exists", None), ("~exists", True), ("forall", False)):
+            for quantifier, deciding in (("exists", True), ("~exists", True), ("forall", False)):
                 given = changed(text, b"exists (0:EAX=0 /\\ 1:EAX=0)", f"{quantifier} ({formula})".encode())
-                line = (FAILS[quantifier] % formula).encode() if breaking in truths else b""
+                line = (FAILS[quantifier] % formula).encode() if deciding in truths else b""
                 for words in ("place", "why --observed", "place --condition", "why --condition --json", "place --condition --workers 2"):
                     status, _, told = outputs([*words.split(), "-"], EXAMPLES, given)
                     tell(f"{words} of {quantifier} {formula} says {line!r}", (status, told) == (0, line), (status, told))

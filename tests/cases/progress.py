@@ -16,8 +16,16 @@ REGISTERS = ("EAX", "EBX", "ECX", "EDX", "ESI", "EDI")
 MOST_TRACES = 10_000_000
 MOST_SEARCHED = 6
 MOST_CERTIFIED = 100_000_000
-WARNING = "fencer: warning: with more than 100000000 combinations the search may end without an answer or a certificate"
-ASKED = re.compile(r"fencer: sets asked: (\d+)(?:; the answer costs at least (\d+))?")
+WARNING = "fencer: warning: with more than 100,000,000 combinations the search may end without an answer or a certificate"
+MINUTES_FROM = (4, 30, 1)
+MINUTES = "fencer: {} threads, {} accesses, {} exchanges: this may take minutes, and more than 1 GiB (docs/performance.md)"
+ASKED = re.compile(r"fencer: sets asked: ([\d,]+)(?:; the answer costs at least ([\d,]+))?")
+TIMED = re.compile(
+    r"fencer: after ([\d,]+) s: (?:(?:sets asked: [\d,]+; )?([\d,]+) of ([\d,]+) parts of the (?:last question|search for outcomes) are done"
+    r"|sets asked: [\d,]+|what is found is judged)"
+)
+# what is said beside an answer of what sequential runs decide, which is no progress
+VERDICT = re.compile(r"fencer: what (the condition asks about|must not happen|must always hold) .* without store buffers too(: no fence mends it)?")
 # threads whose traces have unlike lengths, so that a value of one read leaves more combinations than another
 JUMPS = """X86 jumps
 { }
@@ -97,6 +105,11 @@ class Program:
 
         return count(0, self.registers[t], False)
 
+    def extent(self):
+        """How many threads, accesses and exchanges there are."""
+        every = [instruction for code in self.code for instruction in code]
+        return len(self.code), sum("[" in first + second for _, first, second in every), sum(name == "XCHG" for name, _, _ in every)
+
     def combinations(self):
         """How many combinations of traces there are."""
         product = 1
@@ -126,14 +139,19 @@ def split(text):
 def ahead(program):
     """The lines before a search."""
     count = program.combinations()
-    return [f"fencer: combinations of traces: {count}", *([WARNING] if count > MOST_CERTIFIED else [])]
+    return [f"fencer: combinations of traces: {count:,}", *([WARNING] if count > MOST_CERTIFIED else [])]
+
+
+def reported(said):
+    """The lines on standard error, but for what sequential runs decide."""
+    return [line for line in said.decode().splitlines() if not VERDICT.fullmatch(line)]
 
 
 def ran(words, **more):
     """The status of a call, what it prints, and the lines on standard error."""
     call = subprocess.run([FENCER, *words], stdout=subprocess.PIPE, stderr=more.pop("stderr", subprocess.PIPE), timeout=120, **more)
     schemas.hold(words, call.stdout)
-    return (call.returncode, call.stdout), (call.stderr or b"").decode().splitlines()
+    return (call.returncode, call.stdout), reported(call.stderr or b"")
 
 
 def count_outcomes(path, *options):
@@ -154,13 +172,23 @@ def read_program(path):
     return Program(json.loads(ran(["outcomes", "--json", path])[0][1]))
 
 
+def number(text):
+    """The number of digits in groups of three."""
+    return int(text.replace(",", ""))
+
+
+def untimed(said):
+    """The lines that do not come by time."""
+    return [line for line in said if not TIMED.fullmatch(line)]
+
+
 def check_search(said, sequential, cost, bounded):
     """Whether the lines of a search are right, after those before it."""
     asked = [ASKED.fullmatch(line) for line in said[1:]]
-    if said[:1] != [f"fencer: sequential outcomes: {sequential}"] or not all(asked):
+    if said[:1] != [f"fencer: sequential outcomes: {sequential:,}"] or not all(asked):
         return False
-    bounds = [int(line[2]) for line in asked if line[2]]
-    doubled = [int(line[1]) for line in asked] == [2**i for i in range(len(asked))]
+    bounds = [number(line[2]) for line in asked if line[2]]
+    doubled = [number(line[1]) for line in asked] == [2**i for i in range(len(asked))]
     return doubled and bounds == sorted(bounds) and len(bounds) == (len(asked) if bounded else 0) and all(bound <= cost for bound in bounds)
 
 
@@ -169,6 +197,7 @@ def searched(name, path, command):
     lines = ahead(read_program(path))
     plain, silent = ran([*command, path])
     found, said = ran([*command, "--progress", path])
+    said = untimed(said)
     what = f"progress of {' '.join(command)} {name}"
     same(f"{what}: the answer is the same", (found, silent), (plain, []))
     same(f"{what}: what lies ahead", said[:len(lines)], lines)
@@ -198,7 +227,7 @@ def on_terminal(words, most=None):
             call.kill()
         printed = call.stdout.read()
     os.close(ours)
-    return printed, said.decode().splitlines()[:most]
+    return printed, reported(said)[:most]
 
 
 def reads(*threads):
@@ -206,6 +235,14 @@ def reads(*threads):
     cells = [["MOV [x],$1"] * (t == 0) + ["MOV EAX,[x]"] * count for t, count in enumerate(threads)]
     rows = "".join(" | ".join(cell[i] if i < len(cell) else "" for cell in cells) + " ;\n" for i in range(max(map(len, cells))))
     return "X86 reads\n{ }\n" + " | ".join(f"P{t}" for t in range(len(threads))) + " ;\n" + rows + "exists (x=1)\n"
+
+
+def easy(threads, accesses, exchanges):
+    """A program with so many threads, accesses and exchanges, of which each execution is alike. Nothing writes y but its first value."""
+    lengths = [accesses // threads + (t < accesses % threads) for t in range(threads)]
+    cells = [["XCHG [x],EAX" if place * threads + t < exchanges else "MOV EBX,[y]" for place in range(length)] for t, length in enumerate(lengths)]
+    lines = "".join(" | ".join(cell[i] if i < len(cell) else "" for cell in cells) + " ;\n" for i in range(max(lengths)))
+    return "X86 easy\n{ y=0 }\n" + " | ".join(f"P{t}" for t in range(threads)) + " ;\n" + lines + "exists (y=1)\n"
 
 
 def made(folder, text):
@@ -240,7 +277,7 @@ class Progress(Cases):
             for command in PROPOSED:
                 plain, silent = ran([*command, path])
                 found, said = ran([*command, "--progress", path])
-                wanted = [] if command[0] == "outcomes" else [f"fencer: sequential outcomes: {sequential_outcomes(path, command)}"]
+                wanted = [] if command[0] == "outcomes" else [f"fencer: sequential outcomes: {sequential_outcomes(path, command):,}"]
                 same(f"progress of {' '.join(command)} where an answer is proposed", (found, silent, said), (plain, [], wanted))
             for command in ("outcomes", "why"):
                 printed, said = on_terminal([command, path])
@@ -254,8 +291,9 @@ class Progress(Cases):
             if read_program(path).combinations() <= MOST_SEARCHED:
                 continue
             for options in ([], ["--observed"], ["--condition"]):
-                asked = [line for line in ran(["place", "--progress", *options, path])[1] if ASKED.fullmatch(line)]
-                same(f"sets that are asked about for {name} {options}", asked, [])
+                said = ran(["place", "--progress", *options, path])[1]
+                asked = [line for line in said if ASKED.fullmatch(line) or "minutes" in line]
+                same(f"sets that are asked about for {name} {options}, and warnings", asked, [])
 
     def test_lost(self):
         """Standard error that is closed, or that takes nothing."""
@@ -268,14 +306,38 @@ class Progress(Cases):
             tell(f"progress of {command} that can't be written", plain == closed == unwritten, (closed, unwritten))
 
     def test_terminals(self):
-        """On a terminal long searches are reported, and short ones with `--progress` alone."""
+        """On a terminal a search says nothing for a second, but for warnings, and short ones are reported with `--progress` alone."""
         short = FILES[0]
         same("a short search says nothing on a terminal", on_terminal(["outcomes", short])[1], [])
         tell("a short search is reported on a terminal where that is asked for", on_terminal(["place", "--progress", short])[1][:1] == ahead(read_program(short)))
+
+    def test_time(self):
+        """A long search has a line within each five seconds once its threads' traces are laid out, which says how many parts of it are done, on a terminal too."""
         with tempfile.TemporaryDirectory() as folder:
-            path = made(folder, reads(10, 10))
-            lines = ahead(read_program(path))
-            same("a long search is reported on a terminal", on_terminal(["place", "--trees", "whole", path], len(lines))[1], lines)
+            lines = on_terminal(["place", "--trees", "whole", made(folder, reads(14, 14))], 4)[1]
+            tell("a warning comes first on a terminal", WARNING in lines[:2], lines)
+            found = [line for line in map(TIMED.fullmatch, lines) if line]
+            tell("a long search is reported by time", len(found) >= 2 and all(line[2] for line in found), lines)
+            times, done = [number(line[1]) for line in found], [(number(line[2]), number(line[3])) for line in found if line[2]]
+            tell("a line within five seconds", all(later - earlier <= 5 for earlier, later in zip(times, times[1:])), times)
+            # before it is cut a search is one part
+            cut = {parts for _, parts in done if parts > 1}
+            tell("how many parts are done", done == sorted(done) and all(some <= parts for some, parts in done) and len(cut) == 1, done)
+
+    def test_minutes(self):
+        """Before a search that may take minutes there is a warning, with how many threads, accesses and exchanges there are, and none before others."""
+        least = MINUTES_FROM
+        fewer = [tuple(count - (i == which) for i, count in enumerate(least)) for which in range(len(least))]
+        with tempfile.TemporaryDirectory() as folder:
+            for counts, warned in ((least, True), ((8, 32, 9), True), *((counts, False) for counts in fewer)):
+                path = made(folder, easy(*counts))
+                same(f"the threads, accesses and exchanges of {counts}", read_program(path).extent(), counts)
+                wanted = [MINUTES.format(*counts)] if warned else []
+                for command in ("place", "why", "outcomes"):
+                    said = ran([command, "--progress", path])[1]
+                    same(f"the warning of {command} before {counts}", [line for line in said if "minutes" in line], wanted)
+                same(f"the warning on a terminal before {counts}", on_terminal(["place", path])[1][:1], wanted)
+                same(f"the warning where nothing is reported before {counts}", ran(["place", path])[1], [])
 
     def test_endless(self):
         """Threads of more traces than are counted: what lies ahead is said before the search, which is ended here."""
@@ -283,7 +345,7 @@ class Progress(Cases):
         for threads, count in (((24,), many), ((24, 3), 8 * many), ((13, 14), None)):
             with tempfile.TemporaryDirectory() as folder:
                 path = made(folder, reads(*threads))
-                wanted = [f"fencer: combinations of traces: {count} or more" if count else f"fencer: combinations of traces: {2 ** sum(threads)}", WARNING]
+                wanted = [f"fencer: combinations of traces: {count:,} or more" if count else f"fencer: combinations of traces: {2 ** sum(threads):,}", WARNING]
                 with subprocess.Popen([FENCER, *WHOLE[0], "--progress", path], stdout=subprocess.DEVNULL, stderr=subprocess.PIPE) as call:
                     said = [call.stderr.readline().decode().rstrip("\n") for _ in wanted]
                     call.kill()

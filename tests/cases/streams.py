@@ -68,7 +68,8 @@ def failing_writes(library, folder):
     joined = litmus + example("SB.cert")
     for how in ("write", "full"):
         failing_certificate(library, how, os.path.join(folder, "certificate"), litmus)
-        for words, status in ((REPLAY, 0), (["place", "-"], 0), (REPLAY[:3], 1), (["replay", "--fast"], 2), (["--help"], 2)):
+        survey = ["survey", "-", os.path.join(EXAMPLES, "n6.litmus")]
+        for words, status in ((REPLAY, 0), (["place", "-"], 0), (survey, 3), (REPLAY[:3], 1), (["replay", "--fast"], 2), (["--help"], 2)):
             right = run(words, litmus)
             tell(f"{words} ends with {status}", right[0] == status, right)
             failing_stream(library, " ".join(words), how, words, litmus, right)

@@ -1,10 +1,12 @@
 """Surveys: what `fencer survey` says of each file, by an independent search of the states of the machines."""
+import json
 import os
 import subprocess
 import tempfile
+import threading
 
 from harness import FENCER, Cases, bytes_of, example_files, run, same, tell, write
-from judges import surveys
+from judges import documents, surveys
 from judges.texts import canonical_of, instruction_lines, test_of
 
 # a lock after Dekker whose second thread looks at its own flag in place of the other's, so that it never enters
@@ -47,6 +49,28 @@ ONE_INSTRUCTION = b"X86 One\n{ }\nP0 ;\nMOV [x],$1 ;\nforall (x=1)\n"
 FAILS = b"X86 Fails\n{ }\nP0 ;\nMOV [x],$1 ;\n~exists (x=1)\n"
 IDLE = b"X86 Idle\n{ }\nP0 ;\nMOV [x],$1 ;\n~exists (cs=3)\n"
 TEXTS = (("own-flag", OWN_FLAG), ("back-off", BACK_OFF), ("jumped", JUMPED), ("one", ONE_INSTRUCTION), ("fails", FAILS))
+# jumped over here and there: two stretches of a thread, a whole thread, and a condition that more runs could not change
+STRETCHES = b"""X86 Stretches
+{ }
+P0          | P1          | P2          ;
+JMP a       | JMP b       | MOV EAX,[x] ;
+MOV [x],$1  | MOV [x],$3  | CMP EAX,$9  ;
+a: JMP c    |             | JNE d       ;
+MOV [y],$1  |             |             ;
+
+MOV [y],$2  |             |             ;
+MOV [y],$3  |             | MOV [z],$1  ;
+c:          | b:          | d:          ;
+exists (2:EAX=0)
+"""
+WORDS = (
+    ("own-flag", OWN_FLAG, "lines 8 to 10 of P1 (its instructions 4 to 6): the condition may hold for that reason alone"),
+    ("back-off", BACK_OFF, "lines 8 and 9 of P0 (its instructions 4 and 5): the condition may hold for that reason alone"),
+    ("one-jump", JUMPED, "line 5 of P0 (its instruction 1)"),
+    ("never", JUMPED.replace(b"1:EAX=0", b"1:EAX=1"), "line 5 of P0 (its instruction 1): the condition may fail for that reason alone"),
+    ("stretches", STRETCHES, "line 5 of P0 (its instruction 1), lines 7 to 10 of P0 (its instructions 3 to 5), line 5 of P1 (its instruction 1) and line 10 of P2 (its instruction 3)"),
+    ("one", ONE_INSTRUCTION, ""),
+)
 REFUSED = (
     ("no-litmus", b"X87 A\n", "refused litmus 2 Header line 1"),
     ("arithmetic", b"X86 A\n{ }\nP0 ;\nINC EAX ;\nexists (true)\n", "refused litmus 5 Instruction line 4"),
@@ -57,9 +81,9 @@ REFUSED = (
 HEADING = b"table sequential buffered unexecuted condition answer file\n"
 
 
-def block_of(name, source):
+def block_of(name, source, allowed=False):
     """The block of a file, its row and its status, as they must be."""
-    lines, row, status = surveys.block(test_of(source), canonical_of(source), instruction_lines(source.decode()))
+    lines, row, status = surveys.block(test_of(source), canonical_of(source), instruction_lines(source.decode()), allowed)
     return "".join(line + "\n" for line in [f"file {name}", *lines]).encode(), f"row {row} {name}\n".encode(), status
 
 
@@ -86,6 +110,13 @@ class Surveys(Cases):
             for words in (["survey", "-"], ["survey", "--workers", "2", "-"]):
                 same(f"{' '.join(words)} of {name}", run(words, source), wanted)
 
+    def test_allowed(self):
+        """The same programs where an instruction that no sequential run executes is allowed: the status alone is another."""
+        for name, source in TEXTS:
+            same(f"survey --allow-unexecuted of {name}", run(["survey", "--allow-unexecuted", "-"], source), survey_of([block_of("-", source, True)]))
+        statuses = [block_of("-", source, True)[2] for _, source in TEXTS]
+        tell("a condition that fails is not allowed", 3 in statuses and 0 in statuses, statuses)
+
     def test_refused(self):
         """Files that are refused among good ones: the others go on."""
         with tempfile.TemporaryDirectory() as folder:
@@ -98,6 +129,19 @@ class Surveys(Cases):
                 for names in ([name], [name, "one"], ["one", name], ["own-flag", name, "one"], [name, name]):
                     same(f"survey of {' '.join(names)}", run(["survey", *names], cwd=folder), survey_of([blocks[it] for it in names]))
 
+    def test_in_turn(self):
+        """The block of a file is printed before the next file is read."""
+        first = example_files()[0]
+        blocks = [block_of(first, bytes_of(first)), block_of("-", ONE_INSTRUCTION)]
+        with subprocess.Popen([FENCER, "survey", first, "-"], stdin=subprocess.PIPE, stdout=subprocess.PIPE, stderr=subprocess.DEVNULL) as ran:
+            late = threading.Timer(60, ran.kill)
+            late.start()
+            begun = ran.stdout.read(len(blocks[0][0]))
+            rest = ran.communicate(ONE_INSTRUCTION)[0]
+            late.cancel()
+        same("the first block, before the second file is read", begun, blocks[0][0])
+        same("what is printed in all", (ran.returncode, begun + rest), survey_of(blocks))
+
     def test_statuses(self):
         """The status of several files, the worst of each."""
         with tempfile.TemporaryDirectory() as folder:
@@ -105,6 +149,81 @@ class Surveys(Cases):
                 write(os.path.join(folder, name), source)
             for names, status in ((["one"], 0), (["one", "one"], 0), (["one", "fails"], 3), (["fails", "one"], 3), (["one", "jumped", "one"], 3), (["none", "fails"], 1), (["fails", "none"], 1)):
                 same(f"status of a survey of {' '.join(names)}", run(["survey", *names], cwd=folder)[0], status)
+
+    def documented(self, files):
+        """The documents of files, by name and source, one line each, are held against what they must say; those that are refused give the reason of the line."""
+        names = [name for name, _, _ in files]
+        status, printed = run(["survey", "--json", *names])
+        same(f"the status of the documents of {names}", status, run(["survey", *names])[0])
+        found = printed.splitlines(keepends=True)
+        same(f"how many documents {names} have", len(found), len(names))
+        for (name, source, refused), document in zip(files, found):
+            if refused:
+                wrong = documents.refusal_differs(document, refused + "\n")
+            else:
+                wrong = surveys.document_differs(document, name, test_of(source), canonical_of(source), instruction_lines(source.decode()))
+            tell(f"the document of {name}", not wrong, document)
+
+    def test_documents(self):
+        """The documents of the examples and the atlas, each alone and in one call; and of programs that have instructions which no sequential run executes, among
+        files that are refused."""
+        files = [(file, bytes_of(file), None) for file in example_files()]
+        for file in files:
+            self.documented([file])
+        self.documented(files)
+        with tempfile.TemporaryDirectory() as folder:
+            files = []
+            for name, source, refused in [*((name, source, None) for name, source, _ in WORDS), *((name, source, None) for name, source in TEXTS), *REFUSED]:
+                file = os.path.join(folder, name)
+                write(file, source)
+                files += [(file, source, refused), (f"{file}.none", b"", "refused file 1 Read")]
+            self.documented(files)
+
+    def test_words(self):
+        """Which instructions no sequential run executes is said on standard error in plain words, unless it is allowed."""
+        with tempfile.TemporaryDirectory() as folder:
+            for name, source, said in WORDS:
+                file = os.path.join(folder, name)
+                write(file, source)
+                for options, wanted in (([], f"fencer: {file}: no sequential run executes {said}\n" if said else ""), (["--allow-unexecuted"], "")):
+                    told = subprocess.run([FENCER, "survey", *options, file], capture_output=True).stderr.decode()
+                    found = [line for line in told.splitlines(keepends=True) if "no sequential run executes" in line]
+                    same(f"what a survey {' '.join(options)} of {name} says", "".join(found), wanted)
+
+    def test_verdicts(self):
+        """That no fence mends a condition is said on standard error, and nothing of one that no sequential run decides."""
+        for name, source, said in (("fails", FAILS, "what must not happen (x=1) happens without store buffers too: no fence mends it"), ("one", ONE_INSTRUCTION, "")):
+            with tempfile.NamedTemporaryFile() as file:
+                write(file.name, source)
+                told = subprocess.run([FENCER, "survey", file.name], capture_output=True).stderr.decode()
+                found = [line for line in told.splitlines(keepends=True) if "store buffers" in line]
+                same(f"what a survey of {name} says of its condition", "".join(found), f"fencer: {file.name}: {said}\n" if said else "")
+
+    def test_ties(self):
+        """With --ties the answers are those of `place` with the cost file of `gaps --ties --tries`, and all else is as without; standard error says where the
+        gaps of each tie stand, and the document has the ties."""
+        tied = 0
+        with tempfile.TemporaryDirectory() as folder:
+            costs = os.path.join(folder, "costs")
+            for file in example_files():
+                with open(costs, "wb") as out:
+                    listed = subprocess.run([FENCER, "gaps", "--ties", "--tries", file], stdout=out, stderr=subprocess.PIPE).stderr.decode()
+                ran = subprocess.run([FENCER, "survey", "--ties", file], capture_output=True)
+                plain = run(["survey", file])
+                wanted = {option: run(["place", *option, "--costs", costs, file])[1].splitlines()[0] for option in ((), ("--condition",))}
+                found = ran.stdout.splitlines()
+                same(f"the answers of survey --ties of {file}", [line for line in found if line.startswith(b"answer ")], [wanted[("--condition",)], wanted[()]])
+                same(f"the fences of survey --ties of {file}", [line.split()[1] for line in found if line.startswith(b"fence ")],
+                     [gap for option in (("--condition",), ()) for gap in wanted[option].partition(b" set")[2].split()])
+                others = [[line for line in lines if not line.startswith((b"answer ", b"fence "))] for lines in (found, plain[1].splitlines())]
+                same(f"what else survey --ties of {file} says", (ran.returncode, others[0]), (plain[0], others[1]))
+                told = [line for line in ran.stderr.decode().splitlines(keepends=True) if " before line " in line]
+                same(f"where the ties of {file} stand", "".join(told), listed)
+                document = json.loads(run(["survey", "--ties", "--json", file])[1])
+                ties = [line.split()[:-1] for line in bytes_of(costs).decode().splitlines() if len(line.split()) > 2]
+                same(f"the ties in the document of {file}", document.get("ties", []), ties)
+                tied += bool(ties)
+        tell("some examples have ties", tied > 5, tied)
 
     def test_slips(self):
         """What may be a slip of a text is named on standard error, as `outcomes` names it; of a text without one nothing but its size and its time."""

@@ -20,7 +20,8 @@ MOST_LISTED = 10
 # programs, the options of `gaps`, the ties that are proposed, and what standard error says of them
 PROPOSED = (
     ("SB.litmus", ["--ties"], b"0:1 1:1 1\n", b"fencer: 0:1 1:1 before line 5 in P0 and P1\n"),
-    ("SB.litmus", ["--same", "1"], b"0:1 1\n1:1 1\n", b""),
+    ("SB.litmus", ["--same", "1"], b"0:1 1\n1:1 1\n", b"fencer: warning: --same names one thread alone, and no other runs its code\n"),
+    ("SB.litmus", ["--same", "0,2"], b"0:1 1\n1:1 1\n", b"fencer: warning: --same names thread 2, and the last thread is P1\n"),
     ("n6.litmus", ["--ties"], b"0:1 1\n0:2 1\n1:1 1\n", b""),
     ("n6.litmus", ["--same", "1,0"], b"0:1 1\n0:2 1\n1:1 1\n", b""),
 )

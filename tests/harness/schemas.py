@@ -104,10 +104,11 @@ def document_faults(document):
 
 
 def hold(words, printed):
-    """Holds what a run prints against the schema, where it is a whole document."""
+    """Holds what a run prints against the schema, where it is whole documents, a line each."""
     if b'"format":"fencer ' not in printed[:40] or not printed.endswith(b"}\n"):
         return
-    Held.count += 1
-    found = document_faults(json.loads(printed))
-    if found:
-        Held.faults.append((words, found))
+    for document in printed.splitlines():
+        Held.count += 1
+        found = document_faults(json.loads(document))
+        if found:
+            Held.faults.append((words, found))

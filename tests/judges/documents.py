@@ -18,9 +18,13 @@ FIELDS = {
     "outcomes": [*PROGRAM, "model", "observed", "outcomes", "observation", "holds"],
     "witness": [*PROGRAM, "model", "fences", "meets_condition", "run"],
     "gaps": [*PROGRAM, "gaps"],
+    "survey": [*PROGRAM, "file", "holds", "unexecuted", "runs", "gaps", "condition_answer", "answer"],
 }
 RUN = ["steps", "outcome", "meets_condition", "passed", "execution"]
 STEP = ["label", "instruction", "reads", "stores", "reaches", "buffer", "memory", "registers"]
+# what is said beside an answer: of sequential runs, and of what its author may not have meant
+VERDICTS = ("no_fence_mends", "happens_sequentially")
+NOTE = ["kind", "line", "column", "word", "message"]
 REFUSAL = ["format", "refused", "file", "line", "column", "word", "message"]
 MET = {
     True: "This run meets the condition's formula.",
@@ -227,6 +231,8 @@ def differs(printed, command, text, canonical, lines, dot=None, fences=None):
     fields = [*FIELDS[command], *(["runs"] if command == "outcomes" and "\nrun" in text else [])]
     if command == "outcomes" and fences:
         fields.insert(fields.index("model") + 1, "fences")
+    if document and document.get("notes") and command not in ("trace", "gaps"):
+        fields.append("notes")
     if document is None or list(document) != fields or document["format"] != FORMAT or document["command"] != command:
         return True
     if program_differs(document, canonical) or lines_differ(document, lines):
@@ -243,6 +249,17 @@ def differs(printed, command, text, canonical, lines, dot=None, fences=None):
         return document.get("fences", []) != (fences or []) or outcomes_differ(document, text)
     line, fenced = text.split("\n", 1)
     return answer_differs(document, line) or document["fenced"] != fenced
+
+
+def noted(printed, name):
+    """What standard error has of the notes of a document, where the litmus text has this name."""
+    def line(note):
+        place = f":{note['line']}:{note['column']}" if note["line"] else ""
+        return f"fencer: {note['message']}\n" if note["kind"] in VERDICTS else f"{name}{place}: {note['message']}\n"
+
+    notes = read(printed).get("notes", [])
+    right = all(list(note) == NOTE and bool(note["line"]) == bool(note["column"]) == bool(note["word"]) for note in notes)
+    return "".join(map(line, notes)).encode() if right else None
 
 
 def refusal_differs(printed, line):

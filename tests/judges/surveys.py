@@ -1,5 +1,5 @@
 """What one look at a program finds: the condition in both machines, the instructions that no sequential run executes, and both answers, by the states of
-the machines alone.
+the machines alone; and whether a document says it (`document_differs`).
 """
 from judges import conditions, documents, machine, traces
 
@@ -35,8 +35,9 @@ def answer(test, word, chosen, told):
     return [head, *(f"fence {t}:{k} line {told[t][k][0]}, before {told[t][k][1]}" for t, k in chosen)]
 
 
-def block(test, canonical, numbers):
-    """The lines of a file, its row and its status, where each thread's instructions stand in the lines of these numbers."""
+def block(test, canonical, numbers, allowed=False):
+    """The lines of a file, its row and its status, where each thread's instructions stand in the lines of these numbers, and where it is allowed that no
+    sequential run executes an instruction."""
     condition = canonical.splitlines()[-1]
     told = [list(zip(own, codes)) for own, codes in zip(numbers, traces.instructions(canonical))]
     executed = executed_instructions(test)
@@ -46,4 +47,44 @@ def block(test, canonical, numbers):
     lines += answer(test, "condition ", conditions.best_set(test, condition), told)
     lines += answer(test, "", conditions.best_whole_set(test), told)
     words = [lines[0].split()[-1], lines[1].split()[-1], str(len(others)), *(line.split("cost ")[1].split()[0] for line in lines if line.startswith("answer "))]
-    return lines, " ".join(words), 3 if others or not holds(test, condition, "sequential") else 0
+    return lines, " ".join(words), 3 if (others and not allowed) or not holds(test, condition, "sequential") else 0
+
+
+def executed_by(test, labels):
+    """The instructions that labels execute one after another, or None where they are no whole sequential run."""
+    state, places = machine.begun(test), []
+    for label in labels:
+        thread = state[0][int(label[1:])]
+        if label[0] != "e" or thread[0] == len(test.code[int(label[1:])]):
+            return None
+        places.append(f"{label[1:]}:{thread[0]}")
+        state = machine.stepped(test, set(), False, state, label)[1]
+    return sorted(places, key=lambda place: [int(number) for number in place.split(":")]) if machine.has_ended(test, state) else None
+
+
+def runs_differ(test, document):
+    """Whether a run is none, executes other instructions, or executes none that those before it do not; or whether they execute others than sequential runs."""
+    seen = set()
+    for run in document["runs"]:
+        if list(run) != ["labels", "executes"] or executed_by(test, run["labels"]) != run["executes"] or set(run["executes"]) <= seen:
+            return True
+        seen |= set(run["executes"])
+    return seen != {f"{t}:{k}" for t, k in executed_instructions(test)}
+
+
+def document_differs(printed, name, test, canonical, numbers):
+    """Whether a document of a file says other things than its block must, or another program."""
+    document = documents.read(printed)
+    if document is None or list(document) != documents.FIELDS["survey"] or document["format"] != documents.FORMAT or document["command"] != "survey":
+        return True
+    if documents.program_differs(document, canonical) or documents.lines_differ(document, numbers) or document["file"] != name:
+        return True
+    lines, _, _ = block(test, canonical, numbers)
+    texts = [[cell["text"] for cell in thread["instructions"]] for thread in document["threads"]]
+    said = [f"{model} condition {'holds' if holds else 'fails'}" for model, holds in document["holds"].items()]
+    for place in document["unexecuted"]:
+        t, k = map(int, place["place"].split(":"))
+        said.append(f"unexecuted {place['place']} line {place['line']} {texts[t][k]}")
+    answers = [line for line in lines if line.startswith("answer ")]
+    wrong = [documents.answer_differs({**document, "answer": document[field]}, line) for field, line in zip(("condition_answer", "answer"), answers)]
+    return said != [line for line in lines if not line.startswith(("answer ", "fence "))] or any(wrong) or runs_differ(test, document)

@@ -1,7 +1,6 @@
 """Compares what a page shows with its document: each step of each run, and what is shown once for a run.
 
 The sentences, marks and places that are expected here are worked out from the document, apart from the page's script."""
-import json
 import os
 import re
 import time
@@ -318,9 +317,10 @@ def rows(run):
 
 
 def place_words(document, gap, more=""):
-    """An instruction with its thread, its gap and its line."""
+    """An instruction with its thread, its gap and its line of the file."""
     thread, number = gap_place(gap)
-    return f"before {document['threads'][thread]['instructions'][number]['text']} of P{thread} (gap {gap}, line {number}{more})"
+    cell = document["threads"][thread]["instructions"][number]
+    return f"before {cell['text']} of P{thread} (gap {gap}, line {cell['line']}{more})"
 
 
 def verdict(run):
@@ -328,9 +328,7 @@ def verdict(run):
     if "condition" not in run.document.get("answer", {}):
         return "No sequential run has this outcome."
     so, verb = happening(run.document, run.run["meets_condition"]), happening(run.document, True).split(" ")[-1]
-    if run.run["meets_condition"]:
-        return f"{so} in this run, and in no sequential run: "
-    return f"{so} in this run alone: it {verb} in each sequential run: "
+    return f"{so} in this run" + (", and in no sequential run." if run.run["meets_condition"] else f"; it {verb} in each sequential run.")
 
 
 def formula(document):
@@ -338,22 +336,22 @@ def formula(document):
     return re.fullmatch(r"(?:~exists|exists|forall) \((.*)\)", document["condition"])[1]
 
 
-def happening(document, meets, named=""):
+def happening(document, meets):
     """That what the condition is about is so, or is not, by its quantifier."""
-    subject, yes, no = {
-        "~exists": ("What must not happen", "happens", "does not happen"),
-        "exists": ("What the file asks about", "happens", "does not happen"),
-        "forall": ("What must always hold", "holds", "does not hold"),
-    }[document["condition"].split(" ")[0]]
-    return f"{subject}{named} {yes if meets else no}"
+    quantifier, about = document["condition"].split(" ")[0], formula(document)
+    subject = f"What must not happen ({about})" if quantifier == "~exists" else about
+    yes, no = ("holds", "fails") if quantifier == "forall" else ("happens", "does not happen")
+    return f"{subject} {yes if meets else no}"
 
 
 def condition_words(document, meets):
     """What is said of the run's outcome and the file's condition."""
     quantifier = document["condition"].split(" ")[0]
-    begins = happening(document, meets, f" ({formula(document)})") + " in this run"
-    ends = ". The command fencer outcomes --model sequential says whether a sequential run does so too." if meets == (quantifier != "forall") else ""
-    return begins + ends
+    begins = happening(document, meets) + " in this run"
+    if meets != (quantifier != "forall"):
+        return begins
+    sequential = any(note["kind"] in ("no_fence_mends", "happens_sequentially") for note in document.get("notes", []))
+    return begins + (", and in a sequential run too, which ends otherwise." if sequential else ", and in no sequential run.")
 
 
 def check_run(run, page):
@@ -384,7 +382,7 @@ def check_run(run, page):
     reads = run.steps[run.passing]["reads"]
     right(len(found) == 1 and (not reads or f"and reads {assignment(reads)}." in found[0]), where + ": the moment of the gap")
     alone = "condition" in document["answer"]
-    said = end + verdict(run) + (formula(document) if alone else " " + condition_words(document, run.run["meets_condition"]))
+    said = end + verdict(run) + ("" if alone else " " + condition_words(document, run.run["meets_condition"]))
     right(page["moments"][-1].startswith(said), where + ": condition")
     keeps = not alone and run.breaks() is None
     same("fewer fences may be enough: fencer why --condition LITMUS" in page["moments"][-1], keeps, where + ": whether the condition needs fewer")
@@ -505,11 +503,19 @@ def check_introduction(browser, where):
     browser.click(".about summary")
 
 
+def count_words(document):
+    """How many fences the answer has, or lines where some gaps go together."""
+    parts, gaps = len(document["runs"]), len(document["answer"]["set"])
+    if "ties" in document:
+        return f"{'one fenced line' if parts == 1 else f'{parts} fenced lines'} ({gaps} MFENCEs)"
+    return "a fence" if parts == 1 else f"{parts} fences"
+
+
 def check_answer(browser, document):
     """What is said above the runs."""
     page, gaps = shown(browser, "pageShown()"), document["answer"]["set"]
     some = len(gaps)
-    same(page["heading"], f"Why {document['test']} needs {'a fence' if some == 1 else f'{some} fences'}", "heading")
+    same(page["heading"], f"Why {document['test']} needs {count_words(document)}", "heading")
     for gap in gaps if some <= 3 else []:
         right(place_words(document, gap) in page["lead"], "the answer in a sentence")
     right(f"cost{'s' if some == 1 else ''} {document['answer']['cost']}; no cheaper" in page["lead"], "cost")
@@ -588,9 +594,27 @@ def check_silence(browser):
             right(re.match("file:|data:|about:", event["params"]["request"]["url"]), f"no network: {event}")
 
 
+def note_words(document, note):
+    """What the page says of a note: of the condition by its formula, of a slip by its line."""
+    if note["kind"] in ("no_fence_mends", "happens_sequentially"):
+        is_for_all = document["condition"].startswith("forall")
+        shows = f" fencer witness --model sequential {'--not ' if is_for_all else ''}LITMUS shows such a run."
+        end = f": no fence mends it.{shows}" if note["kind"] == "no_fence_mends" else "."
+        return f"{happening(document, not document['condition'].startswith('forall'))} without store buffers too{end}"
+    begins = f"Line {note['line']}: {note['message']}" if note["line"] else note["message"][0].upper() + note["message"][1:]
+    return begins + ("" if begins.endswith("?") else ".")
+
+
+def check_notes(browser, document):
+    """What is said beside the answer."""
+    wanted = [note_words(document, note) for note in document.get("notes", [])]
+    same(shown(browser, "pageShown()")["notes"], wanted, f"{document['test']}: what is said beside the answer")
+
+
 def check_no_fence(browser, document):
     page = shown(browser, "pageShown()")
-    same(page["heading"], document["test"] + " needs no fence", "heading")
+    mends = any(note["kind"] == "no_fence_mends" for note in document.get("notes", []))
+    same(page["heading"], f"{document['test']} {'is wrong without store buffers too: no fence mends it' if mends else 'needs no fence'}", "heading")
     right("Every outcome is sequential" in page["text"], "empty answer")
     same((page["controls"], page["tabs"]), (0, []), "no player")
     same(page["programs"], programs(document), "program")
@@ -616,12 +640,12 @@ def verdict_there(document):
 def check_sought(browser, document):
     """A run that is sought, or that there is none."""
     page, meets, test, about = shown(browser, "pageShown()"), document["meets_condition"], document["test"], formula(document)
+    subject, verb = re.fullmatch(r"(.*) (\w+)", happening(document, True)).groups()
     if document["run"]:
         leaves = "leaves" if meets else "does not leave"
-        same(page["heading"], f"{happening(document, meets)}: a run of {test} {leaves} {about}", "heading")
+        same(page["heading"], f"{happening(document, meets)} in a run of {test}", "heading")
         return same(page["lead"], f"A run {machine_words(document)}, which {leaves} {about}.{verdict_there(document)}", "what run it is")
-    subject, verb = happening(document, True).rsplit(" ", 1)
-    same(page["heading"], f"{subject} {'never' if meets else 'always'} {verb}: {'no' if meets else 'each'} run of {test} leaves {about}", "heading")
+    same(page["heading"], f"{subject} never {verb} in {test}" if meets else f"{subject} {verb} in every run of {test}", "heading")
     same(page["lead"], f"{'No' if meets else 'Each'} run {machine_words(document)} leaves {about}.{verdict_there(document)}", "that there is none")
     same((page["controls"], page["tabs"]), (0, []), "no player")
     same(page["programs"], programs(document), "program")
@@ -633,6 +657,7 @@ def check_sought(browser, document):
 def check_page(browser, path, document, thorough):
     """Opens a page and compares it with its document; thorough adds keys, buttons and looks."""
     browser.open(path, calm=True)
+    check_notes(browser, document)
     runs = [Run(document, run) for run in document.get("runs", [document.get("run")]) if run]
     if document["command"] == "witness":
         check_sought(browser, document)

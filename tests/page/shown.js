@@ -89,6 +89,7 @@ const graphShown = () => ({
 const pageShown = () => ({
   heading: textOf(document.querySelector("h1")),
   lead: textOf(document.querySelector(".lead")),
+  notes: textsOf(document, ".notes p"),
   text: textOf(document.querySelector("main")),
   tabs: found(document, "[role=tab]").map(tab => [textOf(tab), tab.getAttribute("aria-label"), tab.getAttribute("aria-selected"), tab.tabIndex]),
   panels: found(document, "[role=tabpanel]").length,

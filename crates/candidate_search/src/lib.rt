@@ -21,6 +21,7 @@ mod orders;
 mod parts;
 mod proposals;
 mod proposing_search;
+mod search_watch;
 mod searched;
 mod sequential_run;
 mod settled;
@@ -33,3 +34,4 @@ mod values;
 
 pub use proposals::{Proposal, ProposedOutcomes};
 pub use proposing_search::{ProposingSearch, SearchPlan};
+pub use search_watch::SearchWatch;

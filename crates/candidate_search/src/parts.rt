@@ -1,12 +1,13 @@
 //! Long searches, in parts that threads share.
 //!
-//! A search that has not ended after so many steps begins again. Its tree is opened from the top, a choice more at a time,
+//! A search that has not ended after so many turns begins again. Its tree is opened from the top, a choice more at a time,
 //! until enough places are open, and what stands at each of them is a part. A part is searched by itself: its outcomes are a
 //! list of its own, and its tree takes the place of no node above. How a search is cut depends on nothing but its steps, so
 //! what is found is the same for any number of threads.
 use crate::known_outcomes::KnownOutcomes;
 use crate::proposing_search::ProposingSearch;
-use crate::searched::{Searched, searched_within};
+use crate::search_watch::Share;
+use crate::searched::{Searched, TURN_STEPS, searched_within};
 use crate::tree_search::{Found, SearchEnd, TreeSearch};
 use cert_forest::Node;
 use std::alloc::AllocError;
@@ -15,17 +16,14 @@ use std::thread::{self, Threads};
 use tso_machine::Mode;
 use tso_program::Outcome;
 
-/// A search with more steps is cut.
-const SHORT_STEPS: u64 = 1 << 16;
+/// A search of more turns is cut.
+const SHORT_TURNS: u64 = 1 << 6;
 
 /// A search is cut into so many parts or more.
 const MANY_PARTS: usize = 32;
 
 /// How many nodes are above a part at most.
 const MOST_ABOVE: usize = 64;
-
-/// So many steps at a time a part is searched.
-const TURN_STEPS: u64 = 1 << 12;
 
 /// More turns than any machine makes.
 const MOST_TURNS: u64 = 1 << 44;
@@ -57,6 +55,8 @@ struct CutSearch<'a> {
     pieces: Vec<Piece>,
     /// How many pieces were taken by a thread.
     taken: AtomicUsize,
+    /// How many parts are done.
+    done: AtomicUsize,
     /// The place of a part that ends the question. Before there is one it is greater than all places.
     last: AtomicUsize,
 }
@@ -69,7 +69,11 @@ pub(crate) fn searched<'a, R: Threads + Sync>(
     mode: Mode,
     listed: Option<&'a [Outcome]>,
 ) -> Result<Searched, AllocError> {
-    match searched_within(asked, mode, listed, SHORT_STEPS)? {
+    match listed {
+        Some(_) => asked.watch.ask(),
+        None => asked.watch.seek_outcomes(),
+    }
+    match searched_within(asked, mode, listed, SHORT_TURNS)? {
         Some(searched) => Ok(searched),
         None => CutSearch::new(asked, mode, listed)?.searched(rt),
     }
@@ -90,6 +94,7 @@ impl<'a> CutSearch<'a> {
             listed,
             pieces,
             taken: AtomicUsize::new(0),
+            done: AtomicUsize::new(0),
             last: AtomicUsize::new(usize::MAX),
         };
         search.cut()?;
@@ -186,6 +191,7 @@ impl<'a> CutSearch<'a> {
                 if let Some(searched) = self.part_searched(place, choices)? {
                     parts.push(SearchedPart { place, searched })?;
                 }
+                self.done.fetch_add(1, Ordering::SeqCst);
             }
         }
         Ok(parts)
@@ -203,6 +209,7 @@ impl<'a> CutSearch<'a> {
             if self.last.load(Ordering::SeqCst) < place {
                 return Ok(None);
             }
+            self.report();
             found = match search.go_on(found, TURN_STEPS)? {
                 Found::Ended(end) => {
                     self.note(place, &end);
@@ -212,6 +219,14 @@ impl<'a> CutSearch<'a> {
             };
         }
         Ok(None)
+    }
+
+    /// Reports how many parts are done, if a line is due.
+    fn report(&self) {
+        self.asked.watch.report(Share {
+            done: self.done.load(Ordering::SeqCst),
+            parts: parts_in(&self.pieces),
+        });
     }
 
     /// Notes that a part ends the question, where it does.

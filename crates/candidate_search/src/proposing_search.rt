@@ -1,4 +1,5 @@
 //! What a search is asked about.
+use crate::search_watch::SearchWatch;
 use crate::shapes::Shapes;
 use cert_forest::Rule;
 use event_rows::PossibleWrites;
@@ -9,11 +10,13 @@ use tso_program::{Program, Shown};
 
 /// How a search is made.
 #[derive(Clone, Copy)]
-pub struct SearchPlan {
+pub struct SearchPlan<'a> {
     /// The rule of its trees.
     pub rule: Rule,
     /// How many threads search at most, where a search is long. One thread searches if there is none.
     pub workers: u8,
+    /// What reports how far it is.
+    pub watch: &'a SearchWatch,
 }
 
 /// A search that proposes outcomes, runs and trees of one program.
@@ -24,6 +27,7 @@ pub struct ProposingSearch<'a> {
     pub(crate) rule: Rule,
     /// How many threads search.
     pub(crate) workers: usize,
+    pub(crate) watch: &'a SearchWatch,
     pub(crate) program: &'a Program,
     pub(crate) shown: &'a Shown,
     /// The values that the rule takes, and where they may be written.
@@ -36,11 +40,15 @@ impl<'a> ProposingSearch<'a> {
     /// The search of a program by a plan, with what is shown of its outcomes.
     pub fn new(
         alloc: Global,
-        plan: SearchPlan,
+        plan: SearchPlan<'a>,
         program: &'a Program,
         shown: &'a Shown,
     ) -> Result<ProposingSearch<'a>, AllocError> {
-        let SearchPlan { rule, workers } = plan;
+        let SearchPlan {
+            rule,
+            workers,
+            watch,
+        } = plan;
         let lists = match rule {
             Rule::Whole => value_lists(alloc, program)?,
             Rule::Early => held_values(alloc, program)?,
@@ -54,6 +62,7 @@ impl<'a> ProposingSearch<'a> {
             alloc,
             rule,
             workers: usize::from(workers.max(1)),
+            watch,
             program,
             shown,
             writes,

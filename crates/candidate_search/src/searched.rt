@@ -1,6 +1,7 @@
 //! What a search has found.
 use crate::known_outcomes::{FoundOutcomes, KnownOutcomes};
 use crate::proposing_search::ProposingSearch;
+use crate::search_watch::Share;
 use crate::tree_search::{Found, SearchEnd, TreeSearch};
 use cert_forest::Node;
 use std::alloc::{AllocError, Global};
@@ -38,20 +39,27 @@ impl Searched {
     }
 }
 
-/// Searches in one piece for so many steps at most. `None` if the search has not ended then.
+/// So many steps at a time a search is made, before it is reported how far it is.
+pub(crate) const TURN_STEPS: u64 = 1 << 10;
+
+/// Searches in one piece for so many turns at most. `None` if the search has not ended then.
 pub(crate) fn searched_within<'a>(
     asked: &'a ProposingSearch<'a>,
     mode: Mode,
     listed: Option<&'a [Outcome]>,
-    steps: u64,
+    turns: u64,
 ) -> Result<Option<Searched>, AllocError> {
     let outcomes = KnownOutcomes::listed(asked.alloc, listed);
     let mut search = TreeSearch::new(asked, mode, outcomes)?;
-    let start = search.begin(&[])?;
-    match search.go_on(start, steps)? {
-        Found::Ended(end) => Ok(Some(search.ended(end))),
-        _ => Ok(None),
+    let mut found = search.begin(&[])?;
+    for _ in 0..turns {
+        asked.watch.report(Share { done: 0, parts: 1 });
+        found = match search.go_on(found, TURN_STEPS)? {
+            Found::Ended(end) => return Ok(Some(search.ended(end))),
+            other => other,
+        };
     }
+    Ok(None)
 }
 
 /// The nodes, with these numbers in place of those of their outcomes. A number stays where there is none for it.

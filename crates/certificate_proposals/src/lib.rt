@@ -15,6 +15,6 @@ mod lines;
 mod size;
 mod text;
 
-pub use candidate_search::SearchPlan;
+pub use candidate_search::{SearchPlan, SearchWatch};
 pub use size::{is_large, proposed_rule};
 pub use text::propose;

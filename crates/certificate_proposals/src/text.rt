@@ -18,7 +18,7 @@ use tso_program::{Program, Shown};
 pub fn propose<R: Threads + Sync>(
     rt: &R,
     alloc: Global,
-    plan: SearchPlan,
+    plan: SearchPlan<'_>,
     program: &Program,
     shown: &Shown,
     costs: &TiedCosts,
@@ -37,7 +37,7 @@ pub fn propose<R: Threads + Sync>(
 fn text_over<R: Threads + Sync>(
     rt: &R,
     alloc: Global,
-    plan: SearchPlan,
+    plan: SearchPlan<'_>,
     program: &Program,
     shown: &Shown,
     costs: &TiedCosts,

@@ -10,7 +10,7 @@ ghost use Rattle.cover_solver.specs.Sought.{question_of, machine_of};
 
 use crate::outcome_list::OutcomeList;
 use crate::tree_nodes::are_trees;
-use candidate_search::{ProposedOutcomes, ProposingSearch, SearchPlan};
+use candidate_search::{ProposedOutcomes, ProposingSearch, SearchPlan, SearchWatch};
 use cert_forest::{Node, Runs, Walk};
 use cover_judge::{NodeFault, RowlessSketch, judge};
 use dataflow_laws::{dead_loads_keep_outcomes, dead_loads_keep_runs, dropped_loads_keep_gaps};
@@ -43,14 +43,21 @@ pub fn proposed_outcomes(
         shown,
         mode,
     };
-    let found = sought.search(1)?.outcomes(mode)?;
+    let watch = SearchWatch::none(alloc);
+    let plan = SearchPlan {
+        rule: Rule::Early,
+        workers: 1,
+        watch: &watch,
+    };
+    let found = sought.search(plan)?.outcomes(mode)?;
     sought.judged(found)
 }
 
-/// The outcomes of the machine of a mode, as [`proposed_outcomes`] finds them. At most so many threads share a long search.
+/// The outcomes of the machine of a mode, as [`proposed_outcomes`] finds them, by a plan, but for its rule: threads share a long
+/// search, and its watch reports how far it is.
 pub fn outcomes_by_threads<R: Threads + Sync>(
     rt: &R,
-    workers: u8,
+    plan: SearchPlan<'_>,
     alloc: Global,
     program: &Program,
     shown: &Shown,
@@ -70,7 +77,7 @@ pub fn outcomes_by_threads<R: Threads + Sync>(
         shown,
         mode,
     };
-    let found = sought.search(workers)?.outcomes_by_threads(rt, mode)?;
+    let found = sought.search(plan)?.outcomes_by_threads(rt, mode)?;
     sought.judged(found)
 }
 
@@ -84,11 +91,11 @@ struct Sought<'a> {
 }
 
 impl Sought<'_> {
-    /// A search for early trees, by at most so many threads.
-    fn search(&self, workers: u8) -> Result<ProposingSearch<'_>, AllocError> {
+    /// A search by a plan, for early trees.
+    fn search<'b>(&'b self, plan: SearchPlan<'b>) -> Result<ProposingSearch<'b>, AllocError> {
         let plan = SearchPlan {
             rule: Rule::Early,
-            workers,
+            ..plan
         };
         ProposingSearch::new(self.alloc, plan, self.program, self.shown)
     }

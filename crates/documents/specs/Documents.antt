@@ -1,4 +1,4 @@
--- The documents of the commands.
+-- The documents of the commands, each by its members. `Notes` has the line of a document.
 use Rattle.std.specs.Prelude.{◌≡◌, ℕ, ◌-◌, List, [], ◌∷◌, ◌++◌, Option, Some, None, codes, drop, length, min, take}
 use Rattle.std.specs.Fmt.{decimal}
 use Rattle.gap_sets.specs.Gaps.{SetOfGaps}
@@ -32,47 +32,40 @@ pub record TellsHeading (source : Litmus Listing) (command : List ℕ) (members 
   pub is : IsProgram source part
   pub printed : members ≡ command_members command part
 
--- one line
+-- the text of an object, as one line
 abbrev pub document_of : List (List ℕ) → List ℕ
 document_of members = object_text members ++ 10 ∷ []
 
--- the second members are those of a command up to what is said of the answer, a run or outcomes, and then these
-pub record TellsMembers (source : Litmus Listing) (command : List ℕ) (members all : List (List ℕ)) : Type 0 where
+-- the document of a command: what is said of the program, and then these members
+pub record IsDocument (source : Litmus Listing) (command : List ℕ) (members document : List (List ℕ)) : Type 0 where
   pub first : List (List ℕ)
   pub heading : TellsHeading source command first
-  pub printed : all ≡ first ++ members
-
--- the document of a command: what is said of the program, and then these members, as one line of JSON
-pub record IsDocument (source : Litmus Listing) (command : List ℕ) (members : List (List ℕ)) (text : List ℕ) : Type 0 where
-  pub part : ProgramPart
-  pub is : IsProgram source part
-  pub printed : text ≡ document_of (command_members command part ++ members)
-  pub json : IsJsonLine text
+  pub printed : document ≡ first ++ members
 
 -- the same, where the members name lines of the text; of these lines nothing is said
-abbrev pub IsLinedDocument : Litmus Listing → List ℕ → (TextLines → List (List ℕ)) → List ℕ → Type 0
-IsLinedDocument source command members text = (lines : TextLines) × IsDocument source command (members lines) text
+abbrev pub IsLinedDocument : Litmus Listing → List ℕ → (TextLines → List (List ℕ)) → List (List ℕ) → Type 0
+IsLinedDocument source command members document = (lines : TextLines) × IsDocument source command (members lines) document
 
 -- of a placement: the gaps with their costs, the answer, and the text of the fenced program
-abbrev pub IsPlacedDocument : Litmus Listing → Shown → TiedCosts → SetOfGaps → List ℕ → List ℕ → Type 0
+abbrev pub IsPlacedDocument : Litmus Listing → Shown → TiedCosts → SetOfGaps → List ℕ → List (List ℕ) → Type 0
 IsPlacedDocument source shown costs gaps fenced =
     IsLinedDocument source (codes "place") (λ lines. answer_members source.program lines shown costs gaps ++ member (codes "fenced") (quoted fenced) ∷ [])
 
 -- of why the gaps of the answer are needed: the same with these texts of runs
-abbrev pub IsWhyDocument : Litmus Listing → Shown → TiedCosts → SetOfGaps → List (List ℕ) → List ℕ → Type 0
+abbrev pub IsWhyDocument : Litmus Listing → Shown → TiedCosts → SetOfGaps → List (List ℕ) → List (List ℕ) → Type 0
 IsWhyDocument source shown costs gaps runs =
     IsLinedDocument source (codes "why") (λ lines. answer_members source.program lines shown costs gaps ++ member (codes "runs") (array_text runs) ∷ [])
 
 -- of the gaps of a program, with their costs, and which go together
-abbrev pub IsGapsDocument : Litmus Listing → TiedCosts → List ℕ → Type 0
+abbrev pub IsGapsDocument : Litmus Listing → TiedCosts → List (List ℕ) → Type 0
 IsGapsDocument source costs =
     IsLinedDocument source (codes "gaps") (λ lines. member (codes "gaps") (costs_array source.program.threads lines costs.costs) ∷ tie_members source.program.threads costs.ties)
 
 -- of a run of a machine, of which all is shown
-pub record IsTraceDocument (source : Litmus Listing) (model : Model) (labels : List Label) (outcome : Outcome) (passed : SetOfGaps) (text : List ℕ) : Type 0 where
+pub record IsTraceDocument (source : Litmus Listing) (model : Model) (labels : List Label) (outcome : Outcome) (passed : SetOfGaps) (document : List (List ℕ)) : Type 0 where
   pub run : List ℕ
   pub told : TellsRun source All (Machine model) labels outcome passed run
-  pub document : IsDocument source (codes "trace") (member (codes "run") run ∷ []) text
+  pub is : IsDocument source (codes "trace") (member (codes "run") run ∷ []) document
 
 -- of outcomes: as far as they are shown, and what they show of the condition
 abbrev pub list_members : Litmus Listing → Shown → List Outcome → List (List ℕ)
@@ -85,11 +78,11 @@ list_members source shown outcomes =
 abbrev pub outcomes_members : Litmus Listing → Shown → FencedModel → List Outcome → List (List ℕ)
 outcomes_members source shown machine outcomes = machine_members source.program machine ++ list_members source shown outcomes
 
-abbrev pub IsOutcomesDocument : Litmus Listing → Shown → FencedModel → List Outcome → List ℕ → Type 0
+abbrev pub IsOutcomesDocument : Litmus Listing → Shown → FencedModel → List Outcome → List (List ℕ) → Type 0
 IsOutcomesDocument source shown machine outcomes = IsDocument source (codes "outcomes") (outcomes_members source shown machine outcomes)
 
 -- of outcomes in a machine, with the labels of a run of each
-abbrev pub IsOutcomesWithRunsDocument : Litmus Listing → Shown → FencedModel → List Outcome → List (List Label) → List ℕ → Type 0
+abbrev pub IsOutcomesWithRunsDocument : Litmus Listing → Shown → FencedModel → List Outcome → List (List Label) → List (List ℕ) → Type 0
 IsOutcomesWithRunsDocument source shown machine outcomes runs =
     IsDocument source (codes "outcomes") (outcomes_members source shown machine outcomes ++ member (codes "runs") (runs_array runs) ∷ [])
 

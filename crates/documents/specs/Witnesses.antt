@@ -23,5 +23,5 @@ sought_members p sought =
 abbrev pub witness_members : Listing → Sought → Option (List ℕ) → List (List ℕ)
 witness_members p sought run = sought_members p sought ++ member (codes "run") (run_or_null run) ∷ []
 
-abbrev pub IsWitnessDocument : Litmus Listing → Sought → Option (List ℕ) → List ℕ → Type 0
+abbrev pub IsWitnessDocument : Litmus Listing → Sought → Option (List ℕ) → List (List ℕ) → Type 0
 IsWitnessDocument source sought run = IsDocument source (codes "witness") (witness_members source.program sought run)

@@ -96,7 +96,7 @@ fn compared(shown: &Shown) -> &'static str
 }
 
 /// The set that is the answer, what it costs, and what is compared.
-fn answer_value(
+pub(crate) fn answer_value(
     alloc: Global,
     program: &Program,
     shown: &Shown,

@@ -1,10 +1,10 @@
-//! The documents of the commands.
-ghost use Rattle.std.specs.Prelude.{◌≡◌, ◌∷◌, ◌++◌, [], IfOk, OnOk, codes, map};
+//! The documents of the commands, as objects. `document_line` makes their lines.
+ghost use Rattle.std.specs.Prelude.{◌≡◌, ◌∷◌, ◌++◌, [], IfOk, OnOk, map};
 ghost use Rattle.json_text.specs.Safe.{IsSafe};
 ghost use Rattle.json_text.specs.Texts.{quoted};
 ghost use Rattle.json_text.specs.Values.{IsJsonLine};
 ghost use Rattle.report.specs.Observations.{frequency};
-ghost use Rattle.documents.specs.Documents.{document_of, format_member, list_members, IsWhyDocument, IsPlacedDocument, IsTraceDocument, outcomes_members, IsOutcomesDocument, IsOutcomesWithRunsDocument, TellsHeading, TellsMembers};
+ghost use Rattle.documents.specs.Documents.{document_of, format_member, list_members, IsWhyDocument, IsPlacedDocument, IsTraceDocument, IsOutcomesDocument, IsOutcomesWithRunsDocument, TellsHeading};
 
 use crate::answer::{add_answer, is_observed};
 use crate::fenced_model::{FencedModel, add_fenced_model};
@@ -46,7 +46,7 @@ pub(crate) fn begun(
     Ok(object)
 }
 
-/// A document, which is one line.
+/// The text of an object, as one line.
 pub(crate) fn document_of(object: JsonObject) -> Result<Vec<u8>, AllocError>
     ensures text { IfOk result (λ document. document.items ≡ document_of object) }
     ensures json { IfOk result (λ document. IsJsonLine document.items) }
@@ -66,16 +66,14 @@ pub fn placed_document(
     costs: &TiedCosts,
     set: &GapSet,
     fenced: &[u8],
-) -> Result<Vec<u8>, AllocError>
-    ensures told { IfOk result (λ document. IsPlacedDocument source.now.litmus.now shown.now costs.now set.now fenced.now document.items) }
-    ensures json { IfOk result (λ document. IsJsonLine document.items) }
-    ensures safe { IfOk result (λ document. IsSafe document.items) }
+) -> Result<JsonObject, AllocError>
+    ensures { IfOk result (IsPlacedDocument source.now.litmus.now shown.now costs.now set.now fenced.now) }
 {
     let mut object = begun(alloc, b"place", source)?;
     add_answer(alloc, &mut object, source, shown, costs, set)?;
     let text = JsonText::string(alloc, fenced)?;
     object.add("fenced", text)?;
-    document_of(object)
+    Ok(object)
 }
 
 /// The document of why the gaps of an answer are needed, with a run for each of them.
@@ -86,16 +84,14 @@ pub fn why_document(
     costs: &TiedCosts,
     set: &GapSet,
     runs: JsonArray,
-) -> Result<Vec<u8>, AllocError>
-    ensures told { IfOk result (λ document. IsWhyDocument source.now.litmus.now shown.now costs.now set.now runs document.items) }
-    ensures json { IfOk result (λ document. IsJsonLine document.items) }
-    ensures safe { IfOk result (λ document. IsSafe document.items) }
+) -> Result<JsonObject, AllocError>
+    ensures { IfOk result (IsWhyDocument source.now.litmus.now shown.now costs.now set.now runs) }
 {
     let mut object = begun(alloc, b"why", source)?;
     add_answer(alloc, &mut object, source, shown, costs, set)?;
     let runs = runs.into_json()?;
     object.add("runs", runs)?;
-    document_of(object)
+    Ok(object)
 }
 
 /// The document of a run of a machine with no gap fenced, of which all is shown.
@@ -105,16 +101,14 @@ pub fn trace_document(
     model: Model,
     steps: &[Step],
     ended: &Ended,
-) -> Result<Vec<u8>, AllocError>
-    ensures told { IfOk result (λ document. IsTraceDocument source.now.litmus.now model (map (λ step. step.label) steps.now) ended.now.outcome ended.now.passed document.items) }
-    ensures json { IfOk result (λ document. IsJsonLine document.items) }
-    ensures safe { IfOk result (λ document. IsSafe document.items) }
+) -> Result<JsonObject, AllocError>
+    ensures { IfOk result (IsTraceDocument source.now.litmus.now model (map (λ step. step.label) steps.now) ended.now.outcome ended.now.passed) }
 {
     let setting = Setting::Machine(model);
     let told = run_value(alloc, source.litmus, &Shown::All, setting, steps, ended)?;
     let mut object = begun(alloc, b"trace", source)?;
     object.add("run", told)?;
-    document_of(object)
+    Ok(object)
 }
 
 /// How often the condition's formula is met.
@@ -148,22 +142,6 @@ fn add_list(
     object.add("holds", JsonText::truth(alloc, holds)?)
 }
 
-/// The object of the document of a program's outcomes in a machine.
-fn outcomes_object(
-    alloc: Global,
-    source: &LinedLitmus<'_>,
-    shown: &Shown,
-    machine: FencedModel,
-    outcomes: &[Outcome],
-) -> Result<JsonObject, AllocError>
-    ensures { IfOk result (TellsMembers source.now.litmus.now (codes "outcomes") (outcomes_members source.now.litmus.now shown.now machine outcomes.now)) }
-{
-    let mut object = begun(alloc, b"outcomes", source)?;
-    add_fenced_model(alloc, &mut object, &source.litmus.program, machine)?;
-    add_list(alloc, &mut object, source.litmus, shown, outcomes)?;
-    Ok(object)
-}
-
 /// The document of a program's outcomes in a machine.
 pub fn outcomes_document(
     alloc: Global,
@@ -171,13 +149,13 @@ pub fn outcomes_document(
     shown: &Shown,
     machine: FencedModel,
     outcomes: &[Outcome],
-) -> Result<Vec<u8>, AllocError>
-    ensures told { IfOk result (λ document. IsOutcomesDocument source.now.litmus.now shown.now machine outcomes.now document.items) }
-    ensures json { IfOk result (λ document. IsJsonLine document.items) }
-    ensures safe { IfOk result (λ document. IsSafe document.items) }
+) -> Result<JsonObject, AllocError>
+    ensures { IfOk result (IsOutcomesDocument source.now.litmus.now shown.now machine outcomes.now) }
 {
-    let object = outcomes_object(alloc, source, shown, machine, outcomes)?;
-    document_of(object)
+    let mut object = begun(alloc, b"outcomes", source)?;
+    add_fenced_model(alloc, &mut object, &source.litmus.program, machine)?;
+    add_list(alloc, &mut object, source.litmus, shown, outcomes)?;
+    Ok(object)
 }
 
 /// The document of a program's outcomes in a machine, with the labels of a run of each.
@@ -188,13 +166,11 @@ pub fn outcomes_with_runs_document(
     machine: FencedModel,
     outcomes: &[Outcome],
     runs: &Runs,
-) -> Result<Vec<u8>, AllocError>
-    ensures told { IfOk result (λ document. IsOutcomesWithRunsDocument source.now.litmus.now shown.now machine outcomes.now runs.now document.items) }
-    ensures json { IfOk result (λ document. IsJsonLine document.items) }
-    ensures safe { IfOk result (λ document. IsSafe document.items) }
+) -> Result<JsonObject, AllocError>
+    ensures { IfOk result (IsOutcomesWithRunsDocument source.now.litmus.now shown.now machine outcomes.now runs.now) }
 {
-    let mut object = outcomes_object(alloc, source, shown, machine, outcomes)?;
+    let mut object = outcomes_document(alloc, source, shown, machine, outcomes)?;
     let runs = runs_array(alloc, runs)?;
     object.add("runs", runs)?;
-    document_of(object)
+    Ok(object)
 }

@@ -26,7 +26,7 @@ pub(crate) fn label_text(alloc: Global, label: Label) -> Result<JsonText, AllocE
 }
 
 /// The labels of a run.
-fn labels_array(alloc: Global, labels: &[Label]) -> Result<JsonText, AllocError>
+pub(crate) fn labels_array(alloc: Global, labels: &[Label]) -> Result<JsonText, AllocError>
     ensures { IfOk result (λ json. json ≡ labels_array labels.now) }
 {
     let mut array = JsonArray::new(alloc);

@@ -2,9 +2,9 @@
 //!
 //! With `--json` it is printed in place of the text, and the page of `--html` is made around it.
 //!
-//! Begin with `placed_document`, `why_document` and `refusal_document`. Free to change: what is said of a
+//! Begin with `placed_document`, `why_document`, `document_line` and `refusal_document`. Free to change: what is said of a
 //! step and of the candidate execution, which tests alone show. Relied on: gaps, costs, sets, labels,
-//! outcomes and passed gaps are those of the text that the command prints, and no byte is `<`.
+//! outcomes and passed gaps are those of the text that the command prints, each line is JSON, and no byte is `<`.
 #![tactic(auto)]
 
 mod answer;
@@ -15,11 +15,13 @@ mod gaps;
 mod label;
 mod lined;
 mod named;
+mod note;
 mod outcome;
 mod program;
 mod refusal;
 mod run;
 mod step;
+mod survey;
 mod witness;
 
 pub use document::{
@@ -28,6 +30,8 @@ pub use document::{
 pub use fenced_model::FencedModel;
 pub use gaps::gaps_document;
 pub use lined::LinedLitmus;
+pub use note::{Note, NoteKind, document_line};
 pub use refusal::{RefusalMessage, refusal_document};
 pub use run::{Setting, run_value};
+pub use survey::{ExecutedRun, Findings, FoundAnswer, survey_document};
 pub use witness::{Sought, witness_document};

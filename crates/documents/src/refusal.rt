@@ -24,7 +24,7 @@ pub struct RefusalMessage<'a> {
 }
 
 /// A number, if there is one.
-fn number_or_null(alloc: Global, number: Option<usize>) -> Result<JsonText, AllocError>
+pub(crate) fn number_or_null(alloc: Global, number: Option<usize>) -> Result<JsonText, AllocError>
     ensures { IfOk result (λ json. json ≡ number_or_null number) }
 {
     match number {
@@ -34,7 +34,7 @@ fn number_or_null(alloc: Global, number: Option<usize>) -> Result<JsonText, Allo
 }
 
 /// A string, or none if it has no byte.
-fn string_or_null(alloc: Global, text: &[u8]) -> Result<JsonText, AllocError>
+pub(crate) fn string_or_null(alloc: Global, text: &[u8]) -> Result<JsonText, AllocError>
     ensures { IfOk result (λ json. json ≡ string_or_null text.now) }
 {
     if text.is_empty() {

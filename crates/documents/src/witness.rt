@@ -1,11 +1,9 @@
 //! The document of a run of which the condition's formula has some truth.
 
 ghost use Rattle.std.specs.Prelude.{◌≡◌, ◌++◌, IfOk, OnOk};
-ghost use Rattle.json_text.specs.Safe.{IsSafe};
-ghost use Rattle.json_text.specs.Values.{IsJsonLine};
 ghost use Rattle.documents.specs.Witnesses.{run_or_null, sought_members, IsWitnessDocument};
 
-use crate::document::{begun, document_of};
+use crate::document::begun;
 use crate::lined::LinedLitmus;
 use crate::named::gap_names;
 use crate::run::add_model;
@@ -53,14 +51,12 @@ pub fn witness_document(
     source: &LinedLitmus<'_>,
     sought: Sought,
     run: Option<JsonText>,
-) -> Result<Vec<u8>, AllocError>
-    ensures told { IfOk result (λ document. IsWitnessDocument source.now.litmus.now sought run document.items) }
-    ensures json { IfOk result (λ document. IsJsonLine document.items) }
-    ensures safe { IfOk result (λ document. IsSafe document.items) }
+) -> Result<JsonObject, AllocError>
+    ensures { IfOk result (IsWitnessDocument source.now.litmus.now sought run) }
 {
     let run = run_or_null(alloc, run)?;
     let mut object = begun(alloc, b"witness", source)?;
     add_sought(alloc, &mut object, &source.litmus.program, sought)?;
     object.add("run", run)?;
-    document_of(object)
+    Ok(object)
 }

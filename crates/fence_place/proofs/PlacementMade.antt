@@ -3,6 +3,7 @@ use Rattle.fence_place.proofs.Vocabulary.{◌≡◌, ℕ, List, SetOfGaps, total
 use Rattle.tree_laws.specs.Certificates.{names_of}
 use Rattle.tree_laws.specs.Laws.{IsProved}
 use Rattle.tree_laws.proofs.RightClaims.{right_claim}
+use Rattle.cert_check.proofs.AllowedSets.{of_allowed}
 use Rattle.search_core.specs.Answers.{the_answer, least_cost}
 use Rattle.fence_place.specs.Placements.{IsPlacement}
 
@@ -17,14 +18,15 @@ module _ (q : Question) (costs : List ℕ) (certificate : Certificate) (proof : 
   pub is_placement : Proves q costs → Determines q costs → IsPlacement q costs certificate
   is_placement proves determines =
       let proved = proves certificate proof.valid in
-      let told = determines (names_of q certificate) certificate.cost proved.headline (right_claim q costs certificate proof.valid).cost in
+      let right = right_claim q costs certificate proof.valid in
+      let told = determines (names_of q certificate) certificate.cost proved.headline right.cost in
       record {
         headline = proved.headline;
-        cost = (right_claim q costs certificate proof.valid).cost;
+        cost = right.cost;
         best = told.0;
         least = told.1;
         answer = proved.answer;
-        allowed = proved.allowed;
+        fenced = of_allowed q costs certificate.gaps right.right_set.of_program right.right_set.allowed proved.headline;
         proof = proof;
         once = once;
       }

@@ -4,8 +4,8 @@ ghost use Rattle.tso_program.specs.Listings.{gap_count};
 ghost use Rattle.tso_machine.specs.Outcomes.{Headline, IsTheAnswer};
 ghost use Rattle.search_core.specs.Answers.{the_answer, least_cost};
 ghost use Rattle.gap_sets.specs.Order.{total};
-ghost use Rattle.gap_sets.specs.Ties.{IsAllowed};
 ghost use Rattle.tree_laws.specs.Certificates.{names_of};
+ghost use Rattle.cert_check.specs.Headlines.{HeadlineOfAllowed};
 ghost use Rattle.fence_place.specs.Placements.{IsPlacement};
 ghost use Rattle.fence_place.specs.Proofs.{IsProof};
 ghost use Rattle.fence_place.specs.Recorded.{AreDistinct};
@@ -66,8 +66,8 @@ pub fn place<R: Threads + Wait + Sync, O: Oracle, S: Oracle>(
     ensures least { IfOk result (λ certificate. certificate.cost ≡ least_cost table.now.question costs.now) }
     ensures answer { IfOk result (λ certificate. IsTheAnswer table.now.question costs.now (names_of table.now.question certificate)) }
 
-    // The certificate's set has of each tie all gaps or none.
-    ensures allowed { IfOk result (λ certificate. IsAllowed table.now.question.ties certificate.gaps) }
+    // In the words of the gaps that are fenced: the set has of each tie all or none, and the headline holds of it among such sets.
+    ensures fenced { IfOk result (λ certificate. HeadlineOfAllowed table.now.question costs.now certificate.gaps) }
 
     // The certificate proves it, and has each run once.
     ensures proof { IfOk result (IsProof table.now.question costs.now) }

@@ -19,7 +19,7 @@ use std::process::ExitCode;
 
 fn main(rt: HostRuntime) -> ExitCode {
     let mut input = rt.stdin();
-    let progress = Progress::on(rt.stderr());
+    let progress = Progress::on(rt.stderr(), rt);
     let mut output = Outputs::new(rt.stdout(), rt.stderr(), progress);
     let status = match given_words(&rt, &mut output) {
         Ok(words) => command::run_command(

@@ -6,3 +6,4 @@ pub mod Delivered
 pub mod PrintedRefusals
 pub mod OutcomeLines
 pub mod Surveyed
+pub mod WrittenSurveys

@@ -1,5 +1,5 @@
 -- What is printed for the gaps of a program.
-use Rattle.std.specs.Prelude.{◌≡◌, ℕ, Bool, true, false, List, Option, Some, None, string_bytes, ⊤}
+use Rattle.std.specs.Prelude.{◌≡◌, ℕ, Bool, true, false, List, [], Option, Some, None, string_bytes, ⊤}
 use Rattle.program_streams.specs.declared.fault.FileFault.{FileFault}
 use Rattle.program_streams.specs.FileLines.{file_line}
 use Rattle.gap_sets.specs.declared.ties.TiedCosts.{TiedCosts}
@@ -10,6 +10,7 @@ use Rattle.litmus_text.specs.Texts.{IsLitmus}
 use Rattle.litmus_text.specs.CostTexts.{IsCostText}
 use Rattle.litmus_text.specs.GivenCosts.{AreGiven}
 use Rattle.documents.specs.Documents.{IsGapsDocument}
+use Rattle.documents.specs.Notes.{IsLineOf}
 use Rattle.gap_list.specs.CostFiles.{as_read, cost_file_text}
 use Rattle.gap_list.specs.Lists.{IsGapList}
 use Rattle.placed_text.specs.declared.fault.TextFault.{TextFault}
@@ -42,20 +43,23 @@ abbrev pub form_of : GapQuery → GapForm
 form_of q = form_by q.ties q.template
 
 -- a cost file of all gaps, which is read as some costs and ties; of which gaps go together nothing is said
-abbrev pub IsTiedFile : Litmus Listing → List ℕ → Type 0
-IsTiedFile source lines =
-    (costs : TiedCosts) × (lines ≡ cost_file_text source.program.threads costs) × IsCostText lines source.program.threads (as_read (gap_count source.program.threads) costs)
+abbrev pub IsTiedFile : Listing → List ℕ → Type 0
+IsTiedFile p lines = (costs : TiedCosts) × (lines ≡ cost_file_text p.threads costs) × IsCostText lines p.threads (as_read (gap_count p.threads) costs)
 
 -- the list of the gaps; or the cost file of all of them, which is read as their costs
 abbrev pub IsGapText : GapForm → Litmus Listing → Option (List ℕ) → TiedCosts → List ℕ → Type 0
 IsGapText Listed source text costs lines = IsGapList source (costs_shown text costs) lines
 IsGapText Template source text costs lines = (lines ≡ cost_file_text source.program.threads costs) × IsCostText lines source.program.threads costs
-IsGapText Tied source text costs lines = IsTiedFile source lines
+IsGapText Tied source text costs lines = IsTiedFile source.program lines
 
--- the same, or the document of the gaps and their costs
+-- the line of the document of the gaps and their costs
+abbrev pub TellsGapsDocument : Litmus Listing → TiedCosts → List ℕ → Type 0
+TellsGapsDocument source costs line = (document : List (List ℕ)) × IsGapsDocument source costs document × IsLineOf document [] line
+
+-- the same, or that document
 abbrev pub TellsGaps : Bool → GapForm → Litmus Listing → Option (List ℕ) → TiedCosts → List ℕ → Type 0
 TellsGaps false form source text costs lines = IsGapText form source text costs lines
-TellsGaps true form source text costs lines = IsGapsDocument source costs lines
+TellsGaps true form source text costs lines = TellsGapsDocument source costs lines
 
 -- the lines are those of the gaps of the program that the litmus text spells, with these costs
 pub record PrintsGaps (q : GapQuery) (litmus : List ℕ) (costs : Option (List ℕ)) (lines : List ℕ) : Type 0 where

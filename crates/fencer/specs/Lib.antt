@@ -5,6 +5,7 @@ pub mod Refusals
 pub mod TextAnswers
 pub mod InputTexts
 pub mod Deliveries
+pub mod Notes
 pub mod Documented
 pub mod Replays
 pub mod Surveys

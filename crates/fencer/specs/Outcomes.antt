@@ -1,5 +1,5 @@
 -- What is printed for the outcomes of a program.
-use Rattle.std.specs.Prelude.{◌≡◌, ◌↔◌, ℕ, Bool, true, false, List, [], ◌∷◌, ◌++◌, Contains, Option, codes, length, not, slice_get, string_bytes}
+use Rattle.std.specs.Prelude.{◌≡◌, ◌↔◌, ℕ, Bool, true, false, List, [], ◌∷◌, ◌++◌, Contains, Option, None, codes, length, not, slice_get, string_bytes}
 use Rattle.std.specs.Fmt.{decimal}
 use Rattle.std.specs.Option.{option_map_or}
 use Rattle.gap_sets.specs.Gaps.{SetOfGaps}
@@ -27,6 +27,7 @@ use Rattle.report.specs.Observations.{is_true_of, observation_line, condition_li
 use Rattle.fencer_words.specs.declared.job.OutcomeQuery.{OutcomeQuery}
 use Rattle.fencer.specs.declared.refusals.AnswerFault.{AnswerFault}
 use Rattle.fencer.specs.declared.refusals.AnswerFault.TheVariants as answer_fault
+use Rattle.fencer.specs.Notes.{IsNoted}
 use Rattle.fencer.specs.Statuses.{check_status}
 use Rattle.fencer.specs.TextAnswers.{IsAnswerTo}
 
@@ -58,11 +59,16 @@ list_text litmus shown outcomes runs =
     ++ observation_line litmus.condition outcomes
     ++ condition_line litmus.condition outcomes
 
--- the lines are those of the list, or its document, which has the runs where they are asked for
+-- the document of the list, which has the runs where they are asked for
+abbrev pub IsListDocument : Bool → FencedModel → Litmus Listing → Shown → List Outcome → List (List Label) → List (List ℕ) → Type 0
+IsListDocument false machine litmus shown outcomes runs document = IsOutcomesDocument litmus shown machine outcomes document
+IsListDocument true machine litmus shown outcomes runs document = IsOutcomesWithRunsDocument litmus shown machine outcomes runs document
+
+-- the lines are those of the list, or the line of its document with what is said beside it
 abbrev pub TellsOutcomes : Bool → Bool → FencedModel → Litmus Listing → Shown → List Outcome → List (List Label) → List ℕ → Type 0
 TellsOutcomes false with_runs machine litmus shown outcomes runs lines = lines ≡ list_text litmus shown outcomes runs
-TellsOutcomes true false machine litmus shown outcomes runs lines = IsOutcomesDocument litmus shown machine outcomes lines
-TellsOutcomes true true machine litmus shown outcomes runs lines = IsOutcomesWithRunsDocument litmus shown machine outcomes runs lines
+TellsOutcomes true with_runs machine litmus shown outcomes runs lines =
+    (document : List (List ℕ)) × IsListDocument with_runs machine litmus shown outcomes runs document × IsNoted None document lines
 
 -- with a check the status is 3 where the condition fails
 abbrev pub list_status : Bool → Litmus Listing → List Outcome → ℕ

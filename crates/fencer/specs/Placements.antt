@@ -21,6 +21,7 @@ use Rattle.fencer.specs.declared.inserted.Unkept.TheVariants as unkept
 use Rattle.fencer.specs.Deliveries.{AreTwoNames, HoldsFile, IsDelivered, KeepAllFiles}
 use Rattle.fencer.specs.Documented.{printed as either}
 use Rattle.fencer.specs.InputTexts.{AreTexts, HasNoTexts}
+use Rattle.fencer.specs.Notes.{IsNoted}
 use Rattle.fencer.specs.Refused.{RefusalSays}
 use Rattle.fencer.specs.Statuses.{check_status}
 
@@ -64,11 +65,13 @@ abbrev pub AreTextsFor : Option (List ℕ) → List ℕ → Option (List ℕ) �
 AreTextsFor None litmus costs kind texts certificate = IsAnswerText litmus costs kind texts
 AreTextsFor (Some name) litmus costs kind texts certificate = IsPlacedText litmus costs kind (record { texts = texts; certificate = certificate })
 
--- What is delivered of what is placed: the lines are the answer and the program with its fences, or the document in their place;
--- the first file that is written has the program, the second the certificate; with a check the status is 3 where the answer has a
--- gap.
+-- What is delivered of what is placed: the lines are the answer and the program with its fences, or in their place the document with
+-- its notes; the first file that is written has the program, the second the certificate; with a check the status is 3 where the
+-- answer has a gap.
 pub record DeliversTexts (texts : AnswerText) (certificate : List ℕ) (check json : Bool) (answer : Answer) : Type 0 where
-  pub printed : answer.lines.items ≡ either json (texts.answer.items ++ texts.program.items) texts.document.items
+  pub document : List ℕ
+  pub noted : IsNoted texts.verdict texts.document document
+  pub printed : answer.lines.items ≡ either json (texts.answer.items ++ texts.program.items) document
   pub ends : answer.status ≡ check_status check (nat_lt 0 (set.len texts.gaps))
   pub as_asked : answer.json ≡ json
   pub program : answer.first ≡ texts.program.items

@@ -1,15 +1,24 @@
 -- What is printed of the files of a survey. `files` says what files hold.
-use Rattle.std.specs.Prelude.{◌≡◌, ◌==◌, ◌||◌, ℕ, true, List, [], ◌∷◌, ◌++◌, Option, None, codes, length, map, nat_lt, string_bytes, take, if◌then◌else◌}
+use Rattle.std.specs.Prelude.{◌≡◌, ◌==◌, ◌||◌, ◌&&◌, ℕ, Bool, true, false, List, [], ◌∷◌, ◌++◌, Option, Some, None, codes, length, map, nat_lt, not, string_bytes, take, if◌then◌else◌}
+use Rattle.std.specs.Io.KnownBytes.{Appends}
 use Rattle.program_streams.specs.declared.fault.FileFault.{FileFault}
 use Rattle.program_streams.specs.declared.files.TheConstants.{TEXT_LIMIT}
 use Rattle.program_streams.specs.Files.{AreOfFile, IsFileFault, ReadsOfInput}
 use Rattle.program_streams.specs.FileLines.{file_line}
+use Rattle.tso_program.specs.declared.listing.Listing.{Listing}
+use Rattle.litmus_text.specs.Litmus.{Litmus}
+use Rattle.litmus_text.specs.ReadFault.{ReadFault}
+use Rattle.litmus_text.specs.Texts.{IsLitmus, IsNoLitmus}
+use Rattle.fencer_words.specs.declared.job.SurveyOptions.{SurveyOptions}
 use Rattle.fencer_words.specs.declared.job.SurveyQuery.{SurveyQuery}
 use Rattle.placed_text.specs.declared.fault.TextFault.{TextFault}
 use Rattle.placed_text.specs.TextFaults.{HasNoPlacedText}
 use Rattle.survey_text.specs.declared.finding.SurveyText.{SurveyText}
 use Rattle.survey_text.specs.Surveys.{IsSurveyText}
 use Rattle.fencer.specs.declared.surveys.Block.{Block}
+use Rattle.documents.specs.Documents.{IsRefusalDocument}
+use Rattle.fencer.specs.Documented.{printed}
+use Rattle.fencer.specs.GapTexts.{IsTiedFile}
 use Rattle.fencer.specs.Placements.{text_fault_line}
 use Rattle.fencer.specs.Statuses.{check_status}
 
@@ -26,21 +35,45 @@ row_line name row = codes "row " ++ row ++ 32 ∷ name ++ 10 ∷ []
 abbrev pub refused_row : List ℕ
 refused_row = codes "refused"
 
--- the block has this status, the file's name and this text, and this row
-pub record IsBlockOf (name : List ℕ) (status : ℕ) (text row : List ℕ) (block : Block) : Type 0 where
-  pub ends : block.status ≡ status
-  pub printed : block.lines.items ≡ block_text name text
-  pub summed : block.row.items ≡ row_line name row
+-- the status of what is found: 3 where the condition fails sequentially or, where that is not allowed, an instruction is executed by
+-- no sequential run
+abbrev pub survey_status : Bool → SurveyText → ℕ
+survey_status allow_unexecuted told = check_status true (told.fails || (told.has_unexecuted && not allow_unexecuted))
+
+-- why nothing is found: the file's name and a line, or the document of the line
+abbrev pub RefusedBlock : Bool → List ℕ → List ℕ → List ℕ → Type 0
+RefusedBlock false name line text = text ≡ block_text name line
+RefusedBlock true name line text = IsRefusalDocument line text
+
+-- the block says that the file is refused, for the reason that this line gives
+pub record IsRefused (json : Bool) (name line : List ℕ) (block : Block) : Type 0 where
+  pub ends : block.status ≡ 1
+  pub printed : RefusedBlock json name line block.lines.items
+  pub summed : block.row.items ≡ row_line name refused_row
+
+-- the block says what is found
+pub record IsFound (options : SurveyOptions) (name : List ℕ) (told : SurveyText) (block : Block) : Type 0 where
+  pub ends : block.status ≡ survey_status options.allow_unexecuted told
+  pub said : block.lines.items ≡ printed options.json (block_text name told.lines.items) told.document.items
+  pub summed : block.row.items ≡ row_line name told.row.items
+
+-- the text of costs by which a text's program is looked at: none, or a cost file of gaps which go together, if the text spells a
+-- program; of which gaps go together nothing is said
+abbrev pub AreTied : Bool → List ℕ → Option (List ℕ) → Type 0
+AreTied false bytes costs = costs ≡ None
+AreTied true bytes None = (why : ReadFault) × IsNoLitmus bytes why
+AreTied true bytes (Some file) = (source : Litmus Listing) × IsLitmus bytes source × IsTiedFile source.program file
 
 -- what is printed of a file with this text, with its status: what is found of its program, or why nothing is
-pub data IsBlockOfText (workers : ℕ) (name bytes : List ℕ) : ℕ → List ℕ → List ℕ → Type 0 where
-  found : (told : SurveyText) → IsSurveyText bytes told → IsBlockOfText workers name bytes (check_status true told.finds_fault) (block_text name told.lines.items) (row_line name told.row.items)
-  refused_for : (why : TextFault) → HasNoPlacedText bytes None workers why → IsBlockOfText workers name bytes 1 (block_text name (text_fault_line why)) (row_line name refused_row)
+pub data IsBlockOfText (options : SurveyOptions) (name bytes : List ℕ) : ℕ → List ℕ → List ℕ → Type 0 where
+  found : (told : SurveyText) (costs : Option (List ℕ)) → AreTied options.ties bytes costs → IsSurveyText name bytes costs told
+      → IsBlockOfText options name bytes (survey_status options.allow_unexecuted told) (printed options.json (block_text name told.lines.items) told.document.items) (row_line name told.row.items)
+  refused_for : (why : TextFault) (costs : Option (List ℕ)) (text : List ℕ) → AreTied options.ties bytes costs → HasNoPlacedText bytes costs options.workers why → RefusedBlock options.json name (text_fault_line why) text → IsBlockOfText options name bytes 1 text (row_line name refused_row)
 
 -- what is printed of the file of a name, with its status; or why it isn't read
-pub data IsBlock (workers : ℕ) (files : List ℕ → Option (List ℕ)) (name : List ℕ) (input : Option (List ℕ)) : ℕ → List ℕ → List ℕ → Type 0 where
-  of_text : (bytes : List ℕ) (status : ℕ) (text row : List ℕ) → AreOfFile TEXT_LIMIT name input files bytes → IsBlockOfText workers name bytes status text row → IsBlock workers files name input status text row
-  no_text : (why : FileFault) → IsFileFault TEXT_LIMIT name input files why → IsBlock workers files name input 1 (block_text name (file_line why)) (row_line name refused_row)
+pub data IsBlock (options : SurveyOptions) (files : List ℕ → Option (List ℕ)) (name : List ℕ) (input : Option (List ℕ)) : ℕ → List ℕ → List ℕ → Type 0 where
+  of_text : (bytes : List ℕ) (status : ℕ) (text row : List ℕ) → AreOfFile TEXT_LIMIT name input files bytes → IsBlockOfText options name bytes status text row → IsBlock options files name input status text row
+  no_text : (why : FileFault) (text : List ℕ) → IsFileFault TEXT_LIMIT name input files why → RefusedBlock options.json name (file_line why) text → IsBlock options files name input 1 text (row_line name refused_row)
 
 -- ---- all files
 
@@ -50,26 +83,32 @@ worse status other = if (status == 1) || (other == 0) then status else other
 
 -- A block and a row for each file, one after the other, with the status of them all; each reads what the input has left, and `left` is
 -- what it has left after the last.
-pub data AreBlocks (workers : ℕ) (files : List ℕ → Option (List ℕ)) (input : Option (List ℕ)) : List (List ℕ) → Option (List ℕ) → ℕ → List ℕ → List ℕ → Type 0 where
-  none : AreBlocks workers files input [] input 0 [] []
+pub data AreBlocks (options : SurveyOptions) (files : List ℕ → Option (List ℕ)) (input : Option (List ℕ)) : List (List ℕ) → Option (List ℕ) → ℕ → List ℕ → List ℕ → Type 0 where
+  none : AreBlocks options files input [] input 0 [] []
   more : (names : List (List ℕ)) (name : List ℕ) (mid left : Option (List ℕ)) (status other : ℕ) (text block rows row : List ℕ)
-      → AreBlocks workers files input names mid status text rows → IsBlock workers files name mid other block row → ReadsOfInput TEXT_LIMIT name mid left
-      → AreBlocks workers files input (names ++ name ∷ []) left (worse status other) (text ++ block) (rows ++ row)
+      → AreBlocks options files input names mid status text rows → IsBlock options files name mid other block row → ReadsOfInput TEXT_LIMIT name mid left
+      → AreBlocks options files input (names ++ name ∷ []) left (worse status other) (text ++ block) (rows ++ row)
 
--- after the blocks of several files their table
+-- after the blocks of several files their table, but not after documents
 abbrev pub heading_line : List ℕ
 heading_line = codes "table sequential buffered unexecuted condition answer file\n"
 
-abbrev pub table_text : ℕ → List ℕ → List ℕ
-table_text count rows = if nat_lt 1 count then heading_line ++ rows else []
+abbrev pub table_text : Bool → ℕ → List ℕ → List ℕ
+table_text json count rows = if not json && nat_lt 1 count then heading_line ++ rows else []
 
--- what is printed, with its status
-pub record IsSurvey (asked : SurveyQuery) (input : Option (List ℕ)) (files : List ℕ → Option (List ℕ)) (status : ℕ) (text : List ℕ) : Type 0 where
-  pub left : Option (List ℕ)
+-- What is printed, with its status: the blocks of all files and their table; or, where memory is wanting for what comes next, the
+-- blocks of the first so many files, with status 1.
+pub data IsSurvey (asked : SurveyQuery) (input : Option (List ℕ)) (files : List ℕ → Option (List ℕ)) : ℕ → List ℕ → Type 0 where
+  of_all : (left : Option (List ℕ)) (status : ℕ) (blocks rows : List ℕ) → AreBlocks asked.options files input (map string_bytes asked.files.items) left status blocks rows
+      → IsSurvey asked input files status (blocks ++ table_text asked.options.json (length asked.files.items) rows)
+  of_first : (count : ℕ) (left : Option (List ℕ)) (status : ℕ) (blocks rows : List ℕ) → AreBlocks asked.options files input (take count (map string_bytes asked.files.items)) left status blocks rows
+      → IsSurvey asked input files 1 blocks
+
+-- the blocks of these files were written, and nothing else
+pub record AreWritten (options : SurveyOptions) (files : List ℕ → Option (List ℕ)) (input : Option (List ℕ)) (names : List (List ℕ)) (left : Option (List ℕ)) (status : ℕ) (rows : List ℕ) (old new : Option (List ℕ)) : Type 0 where
   pub blocks : List ℕ
-  pub rows : List ℕ
-  pub each : AreBlocks asked.workers files input (map string_bytes asked.files.items) left status blocks rows
-  pub printed : text ≡ blocks ++ table_text (length asked.files.items) rows
+  pub are : AreBlocks options files input names left status blocks rows
+  pub written : Appends old new blocks
 
 -- ---- what is read of the input
 

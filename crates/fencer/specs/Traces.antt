@@ -1,5 +1,5 @@
 -- What is printed for a trace.
-use Rattle.std.specs.Prelude.{◌≡◌, ℕ, List, ◌++◌, Option, string_bytes}
+use Rattle.std.specs.Prelude.{◌≡◌, ℕ, List, ◌++◌, Option, None, string_bytes}
 use Rattle.program_streams.specs.declared.fault.FileFault.{FileFault}
 use Rattle.program_streams.specs.declared.files.TheConstants.{TEXT_LIMIT}
 use Rattle.program_streams.specs.Files.{AreOfFile, IsFileFault}
@@ -11,7 +11,7 @@ use Rattle.tso_machine.specs.declared.label.Model.{Model}
 use Rattle.fencer.specs.declared.delivery.Answer.{Answer}
 use Rattle.fencer.specs.declared.refusals.AnswerFault.{AnswerFault}
 use Rattle.fencer.specs.Deliveries.{IsDelivered, KeepAllFiles}
-use Rattle.fencer.specs.Documented.{DeliversDocument}
+use Rattle.fencer.specs.Documented.{DeliversNoted}
 use Rattle.fencer.specs.Refusals.{refusal_line}
 use Rattle.fencer.specs.Refused.{RefusalSays}
 use Rattle.fencer.specs.Replays.{label_words_text, PrintsRun, HasNoRun}
@@ -21,7 +21,7 @@ abbrev pub HasEnding : List ℕ → List ℕ → Type 0
 HasEnding lines ending = (table : List ℕ) × (lines ≡ table ++ ending)
 
 -- the lines are a table, and after it those that a replay prints; the document is that of the same run
-pub record PrintsTrace (model : Model) (labels bytes lines document : List ℕ) : Type 0 where
+pub record PrintsTrace (model : Model) (labels bytes lines : List ℕ) (document : List (List ℕ)) : Type 0 where
   pub ending : List ℕ
   pub run : PrintsRun model labels bytes ending
   pub printed : HasEnding lines ending
@@ -30,9 +30,9 @@ pub record PrintsTrace (model : Model) (labels bytes lines document : List ℕ) 
 -- what is delivered: the lines or the document, and the page of the document
 pub record DeliversTrace (q : TraceQuery) (bytes : List ℕ) (answer : Answer) : Type 0 where
   pub lines : List ℕ
-  pub document : List ℕ
+  pub document : List (List ℕ)
   pub traced : PrintsTrace q.run.model (label_words_text q.run.labels.items) bytes lines document
-  pub delivered : DeliversDocument 0 q.json (name_of q.page) lines document answer
+  pub delivered : DeliversNoted 0 q.json (name_of q.page) lines document None answer
 
 -- The answer to the text of a trace, with its status: what is delivered, where the files that are named for the page and the graph
 -- hold it; or that one can't be written. Of the graph nothing is said. Or the line of a refusal, and then no file is changed.

@@ -4,22 +4,25 @@ use Rattle.program_streams.specs.declared.fault.FileFault.{FileFault}
 use Rattle.program_streams.specs.FileLines.{file_line}
 use Rattle.fencer_words.specs.declared.job.WhyQuery.{WhyQuery}
 use Rattle.fencer_words.specs.CommandFiles.{name_of}
+use Rattle.documents.specs.declared.note.Note.{Note}
 use Rattle.placed_text.specs.declared.fault.TextFault.{TextFault}
 use Rattle.placed_text.specs.TextFaults.{HasNoPlacedText}
 use Rattle.placed_text.specs.WhyTexts.{IsWhyText}
 use Rattle.fencer.specs.declared.delivery.Answer.{Answer}
 use Rattle.fencer.specs.Deliveries.{IsDelivered, KeepAllFiles}
-use Rattle.fencer.specs.Documented.{DeliversDocument}
+use Rattle.fencer.specs.Documented.{DeliversNoted}
 use Rattle.fencer.specs.InputTexts.{AreTexts, HasNoTexts}
 use Rattle.fencer.specs.Placements.{text_fault_line}
 use Rattle.fencer.specs.Refused.{RefusalSays}
 
--- what is delivered: a text with a run for each gap of the answer, or its document, and the page of the document
+-- what is delivered: a text with a run for each gap of the answer, or its document with what sequential runs decide, and the page of
+-- the document
 pub record Explains (q : WhyQuery) (litmus : List ℕ) (costs : Option (List ℕ)) (answer : Answer) : Type 0 where
   pub lines : List ℕ
-  pub document : List ℕ
-  pub told : IsWhyText litmus costs q.placement.kind lines document
-  pub delivered : DeliversDocument 0 q.placement.json (name_of q.page) lines document answer
+  pub document : List (List ℕ)
+  pub verdict : Option Note
+  pub told : IsWhyText litmus costs q.placement.kind lines document verdict
+  pub delivered : DeliversNoted 0 q.placement.json (name_of q.page) lines document verdict answer
 
 -- The answer to texts, with its status: what is delivered, where the files that are named for the page and the graphs hold it; or that
 -- one can't be written. Of the graphs nothing is said. Or why there is no answer, and then no file is changed.

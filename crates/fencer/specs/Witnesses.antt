@@ -1,5 +1,5 @@
 -- What is printed for a run of which the condition's formula has some truth.
-use Rattle.std.specs.Prelude.{ℕ, Bool, List, Option, string_bytes}
+use Rattle.std.specs.Prelude.{ℕ, Bool, List, Option, None, string_bytes}
 use Rattle.program_streams.specs.declared.fault.FileFault.{FileFault}
 use Rattle.program_streams.specs.declared.files.TheConstants.{TEXT_LIMIT}
 use Rattle.program_streams.specs.Files.{AreOfFile, IsFileFault}
@@ -13,7 +13,7 @@ use Rattle.witness_text.specs.declared.fault.WitnessFault.TheVariants as fault
 use Rattle.witness_text.specs.WitnessTexts.{IsWitnessText, HasNoWitnessText}
 use Rattle.fencer.specs.declared.delivery.Answer.{Answer}
 use Rattle.fencer.specs.Deliveries.{IsDelivered, KeepAllFiles}
-use Rattle.fencer.specs.Documented.{DeliversDocument}
+use Rattle.fencer.specs.Documented.{DeliversNoted}
 use Rattle.fencer.specs.Refusals.{no_gap_line, solve_line}
 use Rattle.fencer.specs.Refused.{RefusalSays}
 use Rattle.fencer.specs.Statuses.{check_status}
@@ -29,9 +29,9 @@ witness_line fault.OutOfMemory = solve_line solve.OutOfMemory
 pub record ShowsWitness (q : WitnessQuery) (bytes : List ℕ) (answer : Answer) : Type 0 where
   pub found : Bool
   pub lines : List ℕ
-  pub document : List ℕ
+  pub document : List (List ℕ)
   pub told : IsWitnessText bytes q.model q.meets q.fences.items found lines document
-  pub delivered : DeliversDocument (check_status q.check found) q.json (name_of q.page) lines document answer
+  pub delivered : DeliversNoted (check_status q.check found) q.json (name_of q.page) lines document None answer
 
 -- The answer to a text, with its status: what is delivered, where the files that are named for the page and the graph hold it; or
 -- that one can't be written. Of the graph nothing is said. Or why no run is shown, and then no file is changed.

@@ -15,7 +15,7 @@ use messages::{
 };
 use placed_text::TextFault;
 use program_streams::{Console, FileFault, FileStore, TEXT_LIMIT, UnreadFile};
-use slips::slip_message;
+use slips::first_slip;
 use std::alloc::{AllocError, Global};
 use tso_program::ShownKind;
 use witness_text::WitnessFault;
@@ -148,8 +148,8 @@ pub(crate) fn slip_advice(
     on_terminal: bool,
 ) -> Result<Vec<u8>, AllocError> {
     let source = Source::new(file_or_input(litmus), text);
-    match slip_message(alloc, source, condition_counts)? {
-        Some(message) => message.written(alloc, on_terminal),
+    match first_slip(alloc, source, condition_counts)? {
+        Some(slip) => slip.message.written(alloc, on_terminal),
         None => Ok(Vec::new(alloc)),
     }
 }
@@ -171,7 +171,7 @@ pub(crate) fn tell_idle_name_compared<W: Console>(
 )
     ensures { W.contents output.new ≡ W.contents output.old }
 {
-    let condition_counts = matches!(asked.kind, ShownKind::Condition);
+    let condition_counts = !matches!(asked.kind, ShownKind::Whole);
     let on_terminal = output.progress().is_shown();
     let litmus = asked.litmus.as_str();
     output.tell(slip_advice(alloc, litmus, text, condition_counts, on_terminal));

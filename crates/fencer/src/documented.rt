@@ -1,9 +1,12 @@
 //! Texts with their documents: which is printed, and the page of a document.
 
 ghost use Rattle.std.specs.Prelude.{◌≡◌, IfOk, option_map};
-ghost use Rattle.fencer.specs.Documented.{printed, DeliversDocument, IsPageFor};
+ghost use Rattle.fencer.specs.Documented.{printed, DeliversNoted, IsPageFor};
 
 use crate::delivery::Answer;
+use crate::notes::{NotedText, noted_line};
+use documents::Note;
+use json_text::JsonObject;
 use paged_text::Pages;
 use run_page::page_of;
 use std::alloc::{AllocError, Global};
@@ -25,21 +28,37 @@ fn page_for(alloc: Global, name: Option<&str>, document: &[u8]) -> Result<Vec<u8
     }
 }
 
-/// What is delivered of a text, with status 0: it or its document is printed, and the files have the page of the document and a graph.
+/// What is said of runs: as text, as a document, and as a graph; and what sequential runs decide, where that is said.
+#[derive(Drop)]
+pub(crate) struct Told {
+    pub(crate) lines: Vec<u8>,
+    pub(crate) document: JsonObject,
+    pub(crate) graph: Vec<u8>,
+    pub(crate) verdict: Option<Note>,
+}
+
+/// What is delivered of what is said, with status 0: the text or the document is printed, and the files have the page of the
+/// document and the graph. Beside the answer the document says what is noted of the litmus text.
 pub(crate) fn documented(
     alloc: Global,
     json: bool,
     page: Option<&str>,
-    text: Vec<u8>,
-    document: Vec<u8>,
-    graph: Vec<u8>,
+    noted: NotedText<'_>,
+    told: Told,
 ) -> Result<Answer, AllocError>
-    ensures { IfOk result (DeliversDocument 0 json (option_map (λ name. name.now) page.entry) text.items document.items) }
+    ensures { IfOk result (DeliversNoted 0 json (option_map (λ name. name.now) page.entry) told.lines.items told.document told.verdict) }
 {
+    let Told {
+        lines,
+        document,
+        graph,
+        verdict,
+    } = told;
+    let document = noted_line(alloc, noted, document, verdict)?;
     let first = Pages::of(alloc, page_for(alloc, page, &document)?)?;
     let second = Pages::of(alloc, graph)?;
     Ok(Answer {
-        lines: printed(json, text, document),
+        lines: printed(json, lines, document),
         status: 0,
         json,
         first,

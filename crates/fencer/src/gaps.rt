@@ -8,17 +8,16 @@ ghost use Rattle.litmus_text.specs.CostTexts.{IsCostText};
 ghost use Rattle.litmus_text.specs.GivenCosts.{AreGiven};
 ghost use Rattle.gap_list.specs.CostFiles.{as_read, cost_file_text};
 ghost use Rattle.program_streams.specs.Files.{ReadsOfInput};
-ghost use Rattle.documents.specs.Documents.{IsGapsDocument};
-ghost use Rattle.fencer.specs.GapTexts.{AreGaps, AreGapsOfTexts, HasNoGaps, IsGapText, IsTiedFile, Listed, PrintsGaps, TellsGaps, costs_shown, form_of};
+ghost use Rattle.fencer.specs.GapTexts.{AreGaps, AreGapsOfTexts, HasNoGaps, IsGapText, Listed, PrintsGaps, TellsGaps, TellsGapsDocument, costs_shown, form_of};
 
 use crate::advice::{text_fault_advice, unread_advice};
 use crate::place::text_fault_line;
 use crate::refused::tell_refusal;
 use crate::texts::{Texts, read_texts};
-use crate::tied::tell_ties;
-use documents::{LinedLitmus, gaps_document};
-use fencer_words::{GapQuery, TieQuery};
-use gap_list::{SharedCode, TextLines, cost_file, gap_list, likely_ties};
+use crate::tied::{tell_same, tell_ties, tied_file};
+use documents::{LinedLitmus, document_line, gaps_document};
+use fencer_words::GapQuery;
+use gap_list::{SharedCode, TextLines, cost_file, gap_list};
 use gap_sets::TiedCosts;
 use litmus_text::Litmus;
 use placed_text::{TextFault, read_gap_costs, read_program};
@@ -51,24 +50,6 @@ fn listed_gaps(
     gap_list(alloc, &lines, source, shown)
 }
 
-/// The cost file of the gaps, of which those go together that likely are one line of the source.
-fn tied_file(
-    alloc: Global,
-    ties: &TieQuery,
-    source: &Litmus<Program>,
-    costs: &TiedCosts,
-) -> Result<Vec<u8>, AllocError>
-    requires { length costs.now.costs ≡ gap_count source.now.program.threads }
-    ensures { IfOk result (λ lines. IsTiedFile source.now lines.items) }
-{
-    let shared = SharedCode {
-        same: ties.same.as_deref(),
-        tries: ties.tries,
-    };
-    let tied = likely_ties(alloc, &source.program, &costs.costs, shared)?;
-    cost_file(alloc, &source.program, &tied)
-}
-
 /// The cost file of all gaps, which is read as these costs.
 fn template_file(
     alloc: Global,
@@ -95,7 +76,11 @@ fn written_gaps(
     ensures { IfOk result (λ lines. IsGapText (form_of asked.now) source.now (option_map (λ text. text.items) texts.now.costs) costs.now lines.items) }
 {
     if let Some(ties) = &asked.ties {
-        tied_file(alloc, ties, source, costs)
+        let shared = SharedCode {
+            same: ties.same.as_deref(),
+            tries: ties.tries,
+        };
+        tied_file(alloc, &source.program, &costs.costs, shared)
     } else if asked.template {
         template_file(alloc, source, costs)
     } else {
@@ -110,14 +95,15 @@ fn document_of_gaps(
     litmus: &Litmus<Program>,
     costs: &TiedCosts,
 ) -> Result<Vec<u8>, AllocError>
-    ensures { IfOk result (λ document. IsGapsDocument litmus.now costs.now document.items) }
+    ensures { IfOk result (λ line. TellsGapsDocument litmus.now costs.now line.items) }
 {
     let lines = TextLines::of_text(alloc, &texts.litmus)?;
     let source = LinedLitmus {
         litmus,
         lines: &lines,
     };
-    gaps_document(alloc, &source, costs)
+    let document = gaps_document(alloc, &source, costs)?;
+    document_line(alloc, document, &[])
 }
 
 /// The document of the gaps, where it is asked for, or else what is printed of them.
@@ -165,7 +151,7 @@ fn gap_lines(alloc: Global, asked: &GapQuery, texts: &Texts) -> Result<Vec<u8>, 
     lines_of_program(alloc, asked, texts, &source)
 }
 
-/// Tells in which lines the gaps of a printed cost file stand, where gaps are to go together.
+/// Tells in which lines the gaps of a printed cost file stand, where gaps are to go together, and of threads that are missing.
 fn tell_asked_ties<W: Console>(
     alloc: Global,
     asked: &GapQuery,
@@ -175,7 +161,10 @@ fn tell_asked_ties<W: Console>(
 )
     ensures { W.contents output.new ≡ W.contents output.old }
 {
-    if asked.ties.is_some() {
+    if let Some(ties) = &asked.ties {
+        if let Some(same) = ties.same.as_deref() {
+            tell_same(alloc, &texts.litmus, same, output);
+        }
         tell_ties(alloc, &texts.litmus, Some(file), None, output);
     }
 }

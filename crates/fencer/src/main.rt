@@ -15,12 +15,14 @@ mod delivery;
 mod documented;
 mod gaps;
 mod inserted;
+mod notes;
 mod outcomes;
 mod place;
 mod refusals;
 mod refused;
 mod replays;
 mod status;
+mod survey_advice;
 mod surveys;
 mod texts;
 mod tied;
@@ -33,7 +35,7 @@ use std::process::ExitCode;
 
 fn main(rt: HostRuntime) -> ExitCode {
     let mut input = rt.stdin();
-    let progress = Progress::on(rt.stderr());
+    let progress = Progress::on(rt.stderr(), rt);
     let mut output = Outputs::new(rt.stdout(), rt.stderr(), progress);
     let status = match given_words(&rt, &mut output) {
         Ok(words) => command::run_command(

@@ -14,27 +14,30 @@ ghost use Rattle.report.specs.Answers.{outcome_line};
 ghost use Rattle.report.specs.Observations.{observation_line, condition_line};
 ghost use Rattle.oracle.specs.declared.fault.SolveFault.TheVariants as solve;
 ghost use Rattle.witness_text.specs.OutcomeLists.{AreRunsOf};
-ghost use Rattle.fencer.specs.Outcomes.{listed_kind, list_text as lines_of_list, list_status, run_line_at, ListsOutcomes, ListsRuns, PrintsOutcomes, HasNoList, AreOutcomes, TellsOutcomes};
+ghost use Rattle.fencer.specs.Outcomes.{listed_kind, list_text as lines_of_list, list_status, run_line_at, IsListDocument, ListsOutcomes, ListsRuns, PrintsOutcomes, HasNoList, AreOutcomes, TellsOutcomes};
 
 use crate::advice::{AskedText, tell_idle_name, unread_advice, unread_litmus};
+use crate::notes::{NotedText, SlipPlaces, noted_line};
 use crate::refusals::{AnswerFault, Reply, print_answer};
 use crate::refused::tell_refusal;
 use crate::status::check_status;
 use cert_forest::Runs;
-use certificate_proposals::is_large;
+use certificate_proposals::{SearchPlan, SearchWatch, is_large};
 use documents::{FencedModel, LinedLitmus, outcomes_document, outcomes_with_runs_document};
 use fencer_words::OutcomeQuery;
 use gap_list::TextLines;
 use gap_sets::GapSet;
+use json_text::JsonObject;
 use litmus_text::{Condition, Litmus, NameTable, read_litmus};
 use messages::file_or_input;
 use oracle::SolveFault;
-use placed_text::report_ahead;
+use placed_text::{report_ahead, warn_of_minutes};
 use program_streams::{Console, FileStore, Progress, TEXT_LIMIT, file_line, named_bytes};
 use report::{condition_line, is_true_of, labels_line, observation_line, outcome_line};
 use std::alloc::{AllocError, Global};
 use std::io::Read;
 use std::thread::Threads;
+use tree_laws::Rule;
 use tso_machine::Mode;
 use tso_program::{Outcome, Program, Shown};
 use witness_text::{OutcomeList, gaps_at, outcomes_by_threads, outcomes_with_runs};
@@ -114,7 +117,32 @@ struct ListSearch<'a> {
     progress: Progress,
 }
 
-/// The document of the list of outcomes of a text's program.
+/// The document of a list of outcomes of a machine, with its runs where they are asked for.
+fn document_for(
+    search: &ListSearch<'_>,
+    source: &LinedLitmus<'_>,
+    runs: bool,
+    machine: FencedModel,
+    list: &OutcomeList,
+) -> Result<JsonObject, AllocError>
+    ensures { IfOk result (IsListDocument runs machine source.now.litmus.now search.now.shown.now list.now.outcomes.items list.now.runs) }
+{
+    let outcomes = list.outcomes.as_slice();
+    if runs {
+        outcomes_with_runs_document(
+            search.alloc,
+            source,
+            search.shown,
+            machine,
+            outcomes,
+            &list.runs,
+        )
+    } else {
+        outcomes_document(search.alloc, source, search.shown, machine, outcomes)
+    }
+}
+
+/// The line of the document of the list of outcomes of a text's program.
 fn list_document(
     search: &ListSearch<'_>,
     text: &[u8],
@@ -134,19 +162,13 @@ fn list_document(
         model: asked.model,
         fences: *fences,
     };
-    let outcomes = list.outcomes.as_slice();
-    if asked.runs {
-        outcomes_with_runs_document(
-            search.alloc,
-            &source,
-            search.shown,
-            machine,
-            outcomes,
-            &list.runs,
-        )
-    } else {
-        outcomes_document(search.alloc, &source, search.shown, machine, outcomes)
-    }
+    let noted = NotedText {
+        name: asked.litmus.as_str(),
+        text,
+        places: SlipPlaces::WholeText,
+    };
+    let document = document_for(search, &source, asked.runs, machine, list)?;
+    noted_line(search.alloc, noted, document, None)
 }
 
 /// The list of outcomes of a text's program, or its document.
@@ -179,9 +201,15 @@ fn proposed<T: Threads + Sync>(
     if !is_large(search.alloc, search.program)? {
         return Ok(None);
     }
+    let watch = SearchWatch::new(search.alloc, search.progress);
+    let plan = SearchPlan {
+        rule: Rule::Early,
+        workers: search.workers,
+        watch: &watch,
+    };
     outcomes_by_threads(
         rt,
-        search.workers,
+        plan,
         search.alloc,
         search.program,
         search.shown,
@@ -190,7 +218,7 @@ fn proposed<T: Threads + Sync>(
 }
 
 /// The outcomes that are searched for, each with a run: those that are proposed, or else those that a search over whole trees
-/// finds. What lies ahead of that is reported.
+/// finds. What lies ahead is reported.
 fn list_with_runs<T: Threads + Sync>(
     rt: &T,
     search: &ListSearch<'_>,
@@ -200,6 +228,7 @@ fn list_with_runs<T: Threads + Sync>(
     ensures exact { IfOk result (λ list. (o : Outcome) → Contains list.outcomes.items o ↔ AllowsShown (question search.now.program.now search.now.shown.now) (machine_of_mode search.now.program.now search.now.mode) o) }
     ensures fault { IfErr result (λ fault. fault ≡ solve.OutOfMemory) }
 {
+    warn_of_minutes(search.alloc, search.program, search.progress);
     match proposed(rt, search)? {
         Some(list) => Ok(list),
         None => {

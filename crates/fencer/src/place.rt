@@ -14,6 +14,7 @@ use crate::advice::{
 use crate::delivery::{Answer, deliver};
 use crate::documented::printed;
 use crate::inserted::{Placed, inserted_for, keep_inserted, unkept_line};
+use crate::notes::{NotedText, noted_line, report_verdict, slip_places};
 use crate::refused::tell_refusal;
 use crate::status::check_status;
 use crate::texts::{Texts, read_texts};
@@ -70,10 +71,11 @@ fn texts_for<T: Threads + Wait + Sync>(
 }
 
 /// The answer line, followed by the program's text, or the document; with a check the status says whether the answer has
-/// a gap.
+/// a gap. Beside the answer the document says what is noted of the litmus text.
 fn joined(
     alloc: Global,
     asked: &Placement,
+    litmus: &[u8],
     texts: AnswerText,
     certificate: Pages,
 ) -> Result<Answer, AllocError>
@@ -84,7 +86,14 @@ fn joined(
         answer,
         gaps,
         document,
+        verdict,
     } = texts;
+    let noted = NotedText {
+        name: asked.litmus.as_str(),
+        text: litmus,
+        places: slip_places(asked.kind),
+    };
+    let document = noted_line(alloc, noted, document, verdict)?;
     let mut lines = answer;
     lines.extend_from_slice(&program)?;
     Ok(Answer {
@@ -110,7 +119,7 @@ fn placed(
     let named = asked.insert.as_deref();
     let inserted = inserted_for(alloc, named, &texts.litmus, &told.gaps, &told.program)?;
     let gaps = told.gaps;
-    let answer = joined(alloc, asked, told, certificate)?;
+    let answer = joined(alloc, asked, &texts.litmus, told, certificate)?;
     Ok(Placed {
         answer,
         gaps,
@@ -130,6 +139,7 @@ fn answer_of<T: Threads + Wait + Sync>(
     ensures fault { IfErr result (HasNoPlacedText texts.now.litmus.items (option_map (λ text. text.items) texts.now.costs) asked.now.workers) }
 {
     let (told, certificate) = texts_for(rt, alloc, asked, texts, progress)?;
+    report_verdict(alloc, told.verdict.as_ref(), progress);
     match placed(alloc, asked, texts, told, certificate) {
         Ok(placed) => Ok(placed),
         Err(_) => Err(TextFault::OutOfMemory),

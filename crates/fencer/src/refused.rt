@@ -10,7 +10,7 @@ use program_streams::{Console, refuse};
 use std::alloc::{AllocError, Global};
 
 /// What a document says of a message. Of one that could not be made it says nothing.
-fn said_of(message: &Result<Message, AllocError>) -> RefusalMessage<'_> {
+pub(crate) fn said_of(message: &Result<Message, AllocError>) -> RefusalMessage<'_> {
     match message {
         Ok(message) => RefusalMessage {
             file: message.file.as_bytes(),

@@ -1,21 +1,26 @@
 //! Surveys: what one look at the program of each file finds, a block a file.
 
-ghost use Rattle.std.specs.Prelude.{◌≡◌, ◌++◌, IfOk, OnOk, map, string_bytes};
+ghost use Rattle.std.specs.Prelude.{◌≡◌, ◌++◌, IfOk, OnErr, OnOk, map, string_bytes};
 ghost use Rattle.program_streams.specs.Streams.{Prints};
 ghost use Rattle.program_streams.specs.Files.{ReadsOfInput};
 ghost use Rattle.program_streams.specs.FileLines.{file_line};
 ghost use Rattle.fencer.specs.Placements.{text_fault_line};
-ghost use Rattle.fencer.specs.Surveys.{refused_row, row_line, table_text, worse, AreBlocks, IsBlock, IsBlockOf, IsBlockOfText, IsSurvey, ReadsOfSomeFiles};
+ghost use Rattle.fencer.specs.Surveys.{block_text, row_line, survey_status, table_text, worse, AreWritten, IsBlock, IsBlockOfText, IsFound, IsRefused, IsSurvey, ReadsOfSomeFiles, RefusedBlock};
 
 use crate::advice::{slip_advice, text_fault_advice, unread_advice, unread_litmus};
+use crate::documented::printed;
 use crate::place::text_fault_line;
-use crate::refused::written;
+use crate::refused::{said_of, written};
 use crate::status::check_status;
+use crate::survey_advice::{unexecuted_advice, verdict_advice};
 use crate::texts::Texts;
-use fencer_words::SurveyQuery;
-use placed_text::TextFault;
+use crate::tied::{tie_advice, tied_costs};
+use documents::refusal_document;
+use fencer_words::{SurveyOptions, SurveyQuery};
+use messages::Message;
+use placed_text::{Effort, TextFault};
 use program_streams::{
-    Console, FileFault, FileStore, Progress, TEXT_LIMIT, file_line, named_bytes, print,
+    Console, FileFault, FileStore, Progress, TEXT_LIMIT, file_line, named_bytes, print, write_bytes,
 };
 use std::alloc::{AllocError, Global};
 use std::io::{self, Read};
@@ -23,12 +28,12 @@ use std::rt::Clock;
 use std::sync::Wait;
 use std::thread::Threads;
 use std::time::Instant;
-use survey_text::survey_text;
+use survey_text::{SurveyText, survey_text};
 
-/// With how many workers a file's program is looked at, and where it is reported what lies ahead.
+/// How a file's program is looked at, and where it is reported what lies ahead.
 #[derive(Clone, Copy)]
 struct Manner {
-    workers: u8,
+    options: SurveyOptions,
     progress: Progress,
 }
 
@@ -47,25 +52,38 @@ struct Block {
     message: Result<Vec<u8>, AllocError>,
 }
 
-/// What is printed of several files, with their status.
+/// What is left to be said after the blocks of files: a row of each for the table, and the status of them all.
 #[derive(Drop)]
-struct Blocks {
-    lines: Vec<u8>,
+struct Summary {
     rows: Vec<u8>,
     status: u8,
 }
 
-impl Blocks {
-    /// Adds the block of one more file.
+impl Summary {
+    /// Adds one more file.
     fn add(&mut self, block: &Block) -> Result<(), AllocError>
-        ensures lines { OnOk result (self.new.lines.items ≡ self.old.lines.items ++ block.now.lines.items) }
         ensures rows { OnOk result (self.new.rows.items ≡ self.old.rows.items ++ block.now.row.items) }
         ensures status { OnOk result (self.new.status ≡ worse self.old.status block.now.status) }
     {
-        self.lines.extend_from_slice(&block.lines)?;
         self.rows.extend_from_slice(&block.row)?;
         self.status = worse(self.status, block.status);
         Ok(())
+    }
+}
+
+/// That a survey ends before its last block is written: memory is wanting, or a write fails.
+#[derive(Clone, Copy)]
+struct CutShort;
+
+impl From<AllocError> for CutShort {
+    fn from(_error: AllocError) -> CutShort {
+        CutShort
+    }
+}
+
+impl From<FileFault> for CutShort {
+    fn from(_fault: FileFault) -> CutShort {
+        CutShort
     }
 }
 
@@ -81,24 +99,47 @@ fn row_line(alloc: Global, name: &str, row: &[u8]) -> Result<Vec<u8>, AllocError
     Ok(line)
 }
 
-/// A file's name and after it a text, and its row, with its status and a message.
-fn block_with(
-    alloc: Global,
-    name: &str,
-    text: &[u8],
-    row: &[u8],
-    status: u8,
-    message: Result<Vec<u8>, AllocError>,
-) -> Result<Block, AllocError>
-    ensures { IfOk result (IsBlockOf name.now status text.now row.now) }
+/// A file's name, and after it a text.
+fn block_text(alloc: Global, name: &str, text: &[u8]) -> Result<Vec<u8>, AllocError>
+    ensures { IfOk result (λ lines. lines.items ≡ block_text name.now text.now) }
 {
     let mut lines = format!(in alloc; "file {name}\n")?.into_bytes();
     lines.extend_from_slice(text)?;
+    Ok(lines)
+}
+
+/// The line of a refusal after the name of its file, or the document of the line where that is asked for.
+fn refused_text(
+    alloc: Global,
+    json: bool,
+    name: &str,
+    line: &[u8],
+    message: &Result<Message, AllocError>,
+) -> Result<Vec<u8>, AllocError>
+    ensures { IfOk result (λ text. RefusedBlock json name.now line.now text.items) }
+{
+    if json {
+        refusal_document(alloc, line, &said_of(message))
+    } else {
+        block_text(alloc, name, line)
+    }
+}
+
+/// The block of a file that is refused, for the reason that this line gives.
+fn refused_block(
+    alloc: Global,
+    manner: Manner,
+    name: &str,
+    line: &[u8],
+    message: Result<Message, AllocError>,
+) -> Result<Block, AllocError>
+    ensures { IfOk result (IsRefused manner.options.json name.now line.now) }
+{
     Ok(Block {
-        lines,
-        row: row_line(alloc, name, row)?,
-        status,
-        message,
+        lines: refused_text(alloc, manner.options.json, name, line, &message)?,
+        row: row_line(alloc, name, REFUSED)?,
+        status: 1,
+        message: written(alloc, &message, manner.progress.is_shown()),
     })
 }
 
@@ -110,28 +151,57 @@ fn unread_block<S: FileStore>(
     name: &str,
     fault: FileFault,
 ) -> Result<Block, AllocError>
-    ensures { IfOk result (IsBlockOf name.now 1 (file_line fault) refused_row) }
+    ensures { IfOk result (IsRefused manner.options.json name.now (file_line fault)) }
 {
     let message = unread_advice(alloc, files, unread_litmus(name, fault));
-    let message = written(alloc, &message, manner.progress.is_shown());
     let line = file_line(alloc, fault)?;
-    block_with(alloc, name, &line, REFUSED, 1, message)
+    refused_block(alloc, manner, name, &line, message)
 }
 
 /// The block of a file whose text is refused.
-fn refused_block(
+fn unfound_block(
     alloc: Global,
     manner: Manner,
     name: &str,
     texts: &Texts,
     fault: TextFault,
 ) -> Result<Block, AllocError>
-    ensures { IfOk result (IsBlockOf name.now 1 (text_fault_line fault) refused_row) }
+    ensures { IfOk result (IsRefused manner.options.json name.now (text_fault_line fault)) }
 {
     let message = text_fault_advice(alloc, (name, None), texts, fault);
-    let message = written(alloc, &message, manner.progress.is_shown());
     let line = text_fault_line(alloc, fault)?;
-    block_with(alloc, name, &line, REFUSED, 1, message)
+    refused_block(alloc, manner, name, &line, message)
+}
+
+/// The block of a file of whose program this is found.
+fn found_block(
+    alloc: Global,
+    manner: Manner,
+    name: &str,
+    told: SurveyText,
+    message: Result<Vec<u8>, AllocError>,
+) -> Result<Block, AllocError>
+    ensures { IfOk result (IsFound manner.options name.now told) }
+{
+    let SurveyOptions {
+        allow_unexecuted,
+        json,
+        ..
+    } = manner.options;
+    let status = survey_status(allow_unexecuted, &told);
+    let SurveyText {
+        lines,
+        row,
+        document,
+        ..
+    } = told;
+    let text = block_text(alloc, name, &lines)?;
+    Ok(Block {
+        lines: printed(json, text, document),
+        row: row_line(alloc, name, &row)?,
+        status,
+        message,
+    })
 }
 
 /// How long a file took, for people: nothing where the clock can't be read.
@@ -153,19 +223,47 @@ fn time_message<T: Clock>(
     }
 }
 
-/// What is said of a file that is looked at: the first slip that its text may have, and how long it took.
-fn found_message<T: Clock>(
-    rt: &T,
+/// What is said of a file that is looked at: the first slip that its text may have, in which lines the gaps of ties stand, what
+/// sequential runs say of its condition and, where that is not allowed, which instructions no sequential run executes.
+fn found_message(
     alloc: Global,
     manner: Manner,
     name: &str,
     bytes: &[u8],
-    start: io::Result<Instant>,
+    costs: Option<&[u8]>,
+    told: &SurveyText,
 ) -> Result<Vec<u8>, AllocError> {
     let mut message = slip_advice(alloc, name, bytes, true, manner.progress.is_shown())?;
-    let time = time_message(rt, alloc, name, start)?;
-    message.extend_from_slice(&time)?;
+    message.extend_from_slice(&tie_advice(alloc, bytes, costs, None)?)?;
+    message.extend_from_slice(&verdict_advice(alloc, name, told)?)?;
+    if !manner.options.allow_unexecuted {
+        message.extend_from_slice(&unexecuted_advice(alloc, name, told)?)?;
+    }
     Ok(message)
+}
+
+/// A message, and how long its file took.
+fn with_time<T: Clock>(
+    rt: &T,
+    alloc: Global,
+    name: &str,
+    start: io::Result<Instant>,
+    message: Result<Vec<u8>, AllocError>,
+) -> Result<Vec<u8>, AllocError> {
+    let mut message = message?;
+    message.extend_from_slice(&time_message(rt, alloc, name, start)?)?;
+    Ok(message)
+}
+
+/// The status of what is found: 3 where the condition fails sequentially or, where that is not allowed, an instruction is
+/// executed by no sequential run.
+fn survey_status(allow_unexecuted: bool, told: &SurveyText) -> u8
+    ensures { result ≡ survey_status allow_unexecuted told.now }
+{
+    check_status(
+        true,
+        told.fails || (told.has_unexecuted && !allow_unexecuted),
+    )
 }
 
 /// The block of a file with this text.
@@ -176,22 +274,27 @@ fn block_of_text<T: Threads + Wait + Sync + Clock>(
     name: &str,
     bytes: Vec<u8>,
 ) -> Result<Block, AllocError>
-    ensures { IfOk result (λ block. IsBlockOfText manner.workers name.now bytes.items block.status block.lines.items block.row.items) }
+    ensures { IfOk result (λ block. IsBlockOfText manner.options name.now bytes.items block.status block.lines.items block.row.items) }
 {
     let start = Instant::now(rt);
-    let progress = manner.progress.asked(true);
-    match survey_text(rt, alloc, &bytes, manner.workers, progress) {
+    let costs = tied_costs(alloc, manner.options.ties, &bytes)?;
+    let effort = Effort {
+        workers: manner.options.workers,
+        trees: None,
+        progress: manner.progress,
+    };
+    match survey_text(rt, alloc, name, &bytes, costs.as_deref(), effort) {
         Ok(told) => {
-            let status = check_status(true, told.finds_fault);
-            let message = found_message(rt, alloc, manner, name, &bytes, start);
-            block_with(alloc, name, &told.lines, &told.row, status, message)
+            let message = found_message(alloc, manner, name, &bytes, costs.as_deref(), &told);
+            let message = with_time(rt, alloc, name, start, message);
+            found_block(alloc, manner, name, told, message)
         }
         Err(fault) => {
             let texts = Texts {
                 litmus: bytes,
-                costs: None,
+                costs,
             };
-            refused_block(alloc, manner, name, &texts, fault)
+            unfound_block(alloc, manner, name, &texts, fault)
         }
     }
 }
@@ -205,7 +308,7 @@ fn block_of<T: Threads + Wait + Sync + Clock, S: FileStore, R: Read>(
     name: &str,
     input: &mut R,
 ) -> Result<Block, AllocError>
-    ensures told { IfOk result (λ block. IsBlock manner.workers (S.held files.now) name.now (R.remaining input.old) block.status block.lines.items block.row.items) }
+    ensures told { IfOk result (λ block. IsBlock manner.options (S.held files.now) name.now (R.remaining input.old) block.status block.lines.items block.row.items) }
     ensures read { ReadsOfInput TEXT_LIMIT name.now (R.remaining input.old) (R.remaining input.new) }
 {
     match named_bytes(alloc, files, name, input, TEXT_LIMIT) {
@@ -225,51 +328,51 @@ fn worse(status: u8, other: u8) -> u8
     }
 }
 
-/// The blocks of all files, one after the other. Messages are reported as soon as their block is made.
-fn blocks_of<T: Threads + Wait + Sync + Clock, S: FileStore, R: Read, W: Console>(
+/// Prints the block of each file as soon as it is made, and then reports its message.
+fn print_blocks<T: Threads + Wait + Sync + Clock, S: FileStore, R: Read, W: Console>(
     rt: &T,
     alloc: Global,
     files: &S,
     asked: &SurveyQuery,
     input: &mut R,
     output: &mut W,
-) -> Result<Blocks, AllocError>
-    ensures told { IfOk result (λ blocks. AreBlocks asked.now.workers (S.held files.now) (R.remaining input.old) (map string_bytes asked.now.files.items) (R.remaining input.new) blocks.status blocks.lines.items blocks.rows.items) }
+) -> Result<Summary, CutShort>
+    ensures told { IfOk result (λ summary. AreWritten asked.now.options (S.held files.now) (R.remaining input.old) (map string_bytes asked.now.files.items) (R.remaining input.new) summary.status summary.rows.items (W.contents output.old) (W.contents output.new)) }
+    ensures cut { OnErr result (Prints (IsSurvey asked.now (R.remaining input.old) (S.held files.now)) (W.contents output.old) (W.contents output.new) 1) }
     ensures read { ReadsOfSomeFiles (map string_bytes asked.now.files.items) (R.remaining input.old) (R.remaining input.new) }
-    ensures quiet { W.contents output.new ≡ W.contents output.old }
 {
     let manner = Manner {
-        workers: asked.workers,
+        options: asked.options,
         progress: output.progress(),
     };
-    let mut blocks = Blocks {
-        lines: Vec::new(alloc),
+    let mut summary = Summary {
         rows: Vec::new(alloc),
         status: 0,
     };
     for name in asked.files.as_slice() {
         let block = block_of(rt, alloc, files, manner, name.as_str(), input)?;
-        blocks.add(&block)?;
+        summary.add(&block)?;
+        write_bytes(output, &block.lines)?;
         output.tell(block.message);
     }
-    Ok(blocks)
+    Ok(summary)
 }
 
-/// What is printed: the blocks, and with several files their table.
-fn with_table(alloc: Global, blocks: Blocks, count: usize) -> Result<Vec<u8>, AllocError>
-    ensures { IfOk result (λ text. text.items ≡ blocks.lines.items ++ table_text count blocks.rows.items) }
+/// The table of several files; of one file there is none, nor after documents.
+fn table_text(alloc: Global, json: bool, rows: &[u8], count: usize) -> Result<Vec<u8>, AllocError>
+    ensures { IfOk result (λ text. text.items ≡ table_text json count rows.now) }
 {
-    let Blocks { lines, rows, .. } = blocks;
-    let mut text = lines;
-    if count > 1 {
+    let mut text = Vec::new(alloc);
+    if !json && count > 1 {
         text.extend_from_slice(HEADING)?;
-        text.extend_from_slice(&rows)?;
+        text.extend_from_slice(rows)?;
     }
     Ok(text)
 }
 
-/// Says what one look at the program of each file finds, and returns the status. A file that is refused has its refusal, and
-/// the others go on.
+/// Prints what one look at the program of each file finds, a block a file as soon as it is done, and returns the status. A file
+/// that is refused has its refusal, and the others go on. Where memory is wanting or a write fails, the survey ends there with
+/// status 1.
 pub fn run_survey<T: Threads + Wait + Sync + Clock, S: FileStore, R: Read, W: Console>(
     rt: &T,
     alloc: Global,
@@ -281,11 +384,12 @@ pub fn run_survey<T: Threads + Wait + Sync + Clock, S: FileStore, R: Read, W: Co
     ensures told { Prints (IsSurvey asked.now (R.remaining input.old) (S.held files.now)) (W.contents output.old) (W.contents output.new) result }
     ensures read { ReadsOfSomeFiles (map string_bytes asked.now.files.items) (R.remaining input.old) (R.remaining input.new) }
 {
-    match blocks_of(rt, alloc, files, asked, input, output) {
-        Ok(blocks) => {
-            let status = blocks.status;
-            print(output, with_table(alloc, blocks, asked.files.len()), status)
+    match print_blocks(rt, alloc, files, asked, input, output) {
+        Ok(summary) => {
+            let json = asked.options.json;
+            let table = table_text(alloc, json, &summary.rows, asked.files.len());
+            print(output, table, summary.status)
         }
-        Err(fault) => print(output, Err(fault), 1),
+        Err(_) => 1,
     }
 }

@@ -16,7 +16,8 @@ ghost use Rattle.fencer.specs.Traces.{DeliversTrace, PrintsTrace, IsTrace, IsTra
 
 use crate::advice::{AskedText, refusal_advice, unread_advice, unread_litmus};
 use crate::delivery::{Answer, deliver};
-use crate::documented::documented;
+use crate::documented::{Told, documented};
+use crate::notes::{NotedText, SlipPlaces};
 use crate::refusals::{AnswerFault, refusal_line};
 use crate::refused::tell_refusal;
 use crate::replays::{ended_lines, steps_of};
@@ -24,6 +25,7 @@ use documents::{LinedLitmus, trace_document};
 use fencer_words::{Run, TraceQuery};
 use gap_list::TextLines;
 use gap_sets::GapSet;
+use json_text::JsonObject;
 use litmus_text::{Litmus, read_litmus};
 use messages::file_or_input;
 use program_streams::{Console, TEXT_LIMIT, WritableFileStore, file_line, named_bytes};
@@ -38,7 +40,7 @@ use tso_program::Program;
 struct Drawings {
     table: Vec<u8>,
     graph: Vec<u8>,
-    document: Vec<u8>,
+    document: JsonObject,
 }
 
 /// The table, the graph and the document of the steps of a run that ends so.
@@ -50,7 +52,7 @@ fn drawn(
     steps: &[Step],
     ended: &Ended,
 ) -> Result<Drawings, AllocError>
-    ensures { IfOk result (λ drawings. IsTraceDocument litmus.now model (map (λ step. step.label) steps.now) ended.now.outcome ended.now.passed drawings.document.items) }
+    ensures { IfOk result (λ drawings. IsTraceDocument litmus.now model (map (λ step. step.label) steps.now) ended.now.outcome ended.now.passed drawings.document) }
 {
     let table = run_table(alloc, litmus, steps)?;
     let mut graph = RunGraph::new(alloc)?;
@@ -78,7 +80,7 @@ fn drawings_of(
     labels: &[Label],
     ended: &Ended,
 ) -> Result<Drawings, ReplayFault>
-    ensures told { IfOk result (λ drawings. IsTraceDocument litmus.now model labels.now ended.now.outcome ended.now.passed drawings.document.items) }
+    ensures told { IfOk result (λ drawings. IsTraceDocument litmus.now model labels.now ended.now.outcome ended.now.passed drawings.document) }
     ensures fault { IfErr result (ReplayFaultIs litmus.now.program (machine_of_model litmus.now.program set.empty model) labels.now) }
 {
     let steps = steps(alloc, &litmus.program, &GapSet::empty(), model, labels)?;
@@ -107,7 +109,7 @@ fn traced_lines(
 #[derive(Drop)]
 struct Said {
     lines: Vec<u8>,
-    document: Vec<u8>,
+    document: JsonObject,
     graph: Vec<u8>,
 }
 
@@ -119,7 +121,7 @@ fn run_said(
     litmus: &Litmus<Program>,
     run: &Run,
 ) -> Result<Said, AnswerFault>
-    ensures run { IfOk result (λ said. OfEachText litmus.now (λ bytes. PrintsTrace run.now.model (label_words_text run.now.labels.items) bytes said.lines.items said.document.items)) }
+    ensures run { IfOk result (λ said. OfEachText litmus.now (λ bytes. PrintsTrace run.now.model (label_words_text run.now.labels.items) bytes said.lines.items said.document)) }
     ensures refused { IfErr result (λ why. OfEachText litmus.now (λ bytes. HasNoRun run.now.model (label_words_text run.now.labels.items) bytes why)) }
 {
     let labels = steps_of(alloc, run.labels.as_slice())?;
@@ -143,7 +145,7 @@ fn run_said(
 /// The lines of the run that labels spell in the program that a text spells, its document and its graph. The text is
 /// judged before the labels.
 fn trace_of(alloc: Global, bytes: &[u8], run: &Run) -> Result<Said, AnswerFault>
-    ensures run { IfOk result (λ said. PrintsTrace run.now.model (label_words_text run.now.labels.items) bytes.now said.lines.items said.document.items) }
+    ensures run { IfOk result (λ said. PrintsTrace run.now.model (label_words_text run.now.labels.items) bytes.now said.lines.items said.document) }
     ensures refused { IfErr result (HasNoRun run.now.model (label_words_text run.now.labels.items) bytes.now) }
 {
     let litmus = read_litmus(alloc, bytes)?;
@@ -161,14 +163,18 @@ fn trace_answer(alloc: Global, bytes: &[u8], asked: &TraceQuery) -> Result<Answe
         document,
         graph,
     } = said;
-    match documented(
-        alloc,
-        asked.json,
-        asked.page.as_deref(),
+    let told = Told {
         lines,
         document,
         graph,
-    ) {
+        verdict: None,
+    };
+    let noted = NotedText {
+        name: asked.run.litmus.as_str(),
+        text: bytes,
+        places: SlipPlaces::Nowhere,
+    };
+    match documented(alloc, asked.json, asked.page.as_deref(), noted, told) {
         Ok(answer) => Ok(answer),
         Err(_) => Err(AnswerFault::Replay(ReplayFault::OutOfMemory)),
     }

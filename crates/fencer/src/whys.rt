@@ -1,6 +1,6 @@
 //! Reasons: a run for each fence of a placement that shows why the fence is needed, or why there is no answer.
 
-ghost use Rattle.std.specs.Prelude.{IfErr, IfOk, option_map, string_bytes};
+ghost use Rattle.std.specs.Prelude.{◌≡◌, IfErr, IfOk, option_map, string_bytes};
 ghost use Rattle.program_streams.specs.Streams.{Prints};
 ghost use Rattle.program_streams.specs.Files.{ReadsOfInput};
 ghost use Rattle.placed_text.specs.TextFaults.{HasNoPlacedText};
@@ -10,7 +10,8 @@ ghost use Rattle.fencer.specs.Whys.{Explains, IsExplained, IsExplainedText};
 
 use crate::advice::{tell_idle_name_compared, text_fault_advice, unread_advice};
 use crate::delivery::{Answer, deliver};
-use crate::documented::documented;
+use crate::documented::{Told, documented};
+use crate::notes::{NotedText, report_verdict, slip_places};
 use crate::place::text_fault_line;
 use crate::refused::tell_refusal;
 use crate::texts::{Texts, read_texts};
@@ -24,6 +25,25 @@ use std::io::Read;
 use std::sync::Wait;
 use std::thread::Threads;
 
+/// What is said of reasons.
+fn told_of(reasons: WhyText) -> Told
+    ensures { (result.lines.items ≡ reasons.lines.items) × (result.document ≡ reasons.document) × (result.verdict ≡ reasons.verdict) }
+{
+    let WhyText {
+        lines,
+        graph,
+        document,
+        verdict,
+        ..
+    } = reasons;
+    Told {
+        lines,
+        document,
+        graph,
+        verdict,
+    }
+}
+
 /// What is delivered of the reasons why the fences of an answer are needed, and in which gaps these are.
 fn explained<T: Threads + Wait + Sync>(
     rt: &T,
@@ -36,6 +56,7 @@ fn explained<T: Threads + Wait + Sync>(
     ensures fault { IfErr result (HasNoPlacedText texts.now.litmus.items (option_map (λ text. text.items) texts.now.costs) asked.now.placement.workers) }
 {
     let Placement {
+        litmus,
         kind,
         workers,
         trees,
@@ -49,13 +70,15 @@ fn explained<T: Threads + Wait + Sync>(
     };
     let costs = texts.costs.as_deref();
     let reasons = why_text(rt, alloc, &texts.litmus, costs, *kind, effort)?;
-    let WhyText {
-        lines,
-        graph,
-        document,
-        gaps,
-    } = reasons;
-    match documented(alloc, *json, asked.page.as_deref(), lines, document, graph) {
+    report_verdict(alloc, reasons.verdict.as_ref(), progress);
+    let noted = NotedText {
+        name: litmus.as_str(),
+        text: &texts.litmus,
+        places: slip_places(*kind),
+    };
+    let page = asked.page.as_deref();
+    let gaps = reasons.gaps;
+    match documented(alloc, *json, page, noted, told_of(reasons)) {
         Ok(answer) => Ok((answer, gaps)),
         Err(_) => Err(TextFault::OutOfMemory),
     }

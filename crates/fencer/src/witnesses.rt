@@ -10,7 +10,8 @@ ghost use Rattle.fencer.specs.Witnesses.{witness_line, IsWitnessOf, IsWitnessSho
 
 use crate::advice::{tell_idle_name, unread_advice, unread_litmus, witness_advice};
 use crate::delivery::{Answer, deliver};
-use crate::documented::documented;
+use crate::documented::{Told, documented};
+use crate::notes::{NotedText, SlipPlaces};
 use crate::refusals::{no_gap_line, solve_line};
 use crate::refused::tell_refusal;
 use crate::status::check_status;
@@ -47,14 +48,18 @@ fn witness_answer(alloc: Global, bytes: &[u8], asked: &WitnessQuery) -> Result<A
         graph,
         document,
     } = said;
-    match documented(
-        alloc,
-        asked.json,
-        asked.page.as_deref(),
+    let told = Told {
         lines,
         document,
         graph,
-    ) {
+        verdict: None,
+    };
+    let noted = NotedText {
+        name: asked.litmus.as_str(),
+        text: bytes,
+        places: SlipPlaces::WholeText,
+    };
+    match documented(alloc, asked.json, asked.page.as_deref(), noted, told) {
         Ok(mut answer) => {
             answer.status = check_status(asked.check, found);
             Ok(answer)

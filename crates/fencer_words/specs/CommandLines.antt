@@ -1,6 +1,6 @@
 -- What command lines ask for. `clap` reads them: its `subcommand_of` gives the subcommand that words name, with the rows
 -- of its values.
-use Rattle.std.specs.Prelude.{◌≡◌, ◌≢◌, ◌⊎◌, ℕ, ◌≤◌, Bool, true, false, List, [], ◌∷◌, Option, Some, None, Contains, codes, is_some, map, not, option_map, string_bytes, unwrap_or, fold, if◌then◌else◌, ◌&&◌, ◌||◌}
+use Rattle.std.specs.Prelude.{◌≡◌, ◌≢◌, ◌⊎◌, ℕ, ◌≤◌, Bool, true, false, List, [], ◌∷◌, Option, Some, None, Contains, codes, is_some, count_by, map, nat_lt, not, option_map, string_bytes, unwrap_or, fold, if◌then◌else◌, ◌&&◌, ◌||◌}
 use Rattle.std.specs.Option.{option_map_or}
 use Rattle.std.specs.Str.{IsUtf8, bytes_eq}
 use Rattle.std.specs.Str.Parse.{digits_value, without_leading_plus}
@@ -18,7 +18,7 @@ use Rattle.fencer_words.specs.declared.form.Form.{Form}
 use Rattle.fencer_words.specs.declared.form.Form.TheVariants as form
 use Rattle.fencer_words.specs.declared.parameter.ChoiceNames.{ChoiceNames}
 use Rattle.fencer_words.specs.declared.parameter.Parameter.{Parameter}
-use Rattle.fencer_words.specs.declared.parameter.Parameter.TheVariants.{Certificate, CheckAnswer, CheckList, CheckRun, Condition, Costs, Fences, Graph, Graphs, Insert, Json, Labels, Litmus, LitmusFiles, Model, Not, Observed, Output, Page, Progress, Runs, Same, Template, Ties, Trees, Tries, Workers}
+use Rattle.fencer_words.specs.declared.parameter.Parameter.TheVariants.{AllowUnexecuted, Certificate, CheckAnswer, CheckList, CheckRun, Condition, Costs, Fences, Graph, Graphs, Insert, Json, Labels, Litmus, LitmusFiles, Model, Not, Observed, Output, Page, Progress, Runs, Same, Template, TieAnswers, Ties, Trees, Tries, Workers}
 use Rattle.fencer_words.specs.declared.job.Job.{Job, TheVariants.Replay, TheVariants.Trace, TheVariants.Outcomes, TheVariants.Place, TheVariants.Why, TheVariants.Gaps, TheVariants.Witness, TheVariants.Survey}
 use Rattle.fencer_words.specs.declared.job.Run.{Run}
 use Rattle.fencer_words.specs.declared.job.TieQuery.{TieQuery}
@@ -94,6 +94,7 @@ workers_rule = record (value_rule (codes "workers")) {
 
 -- as what `clap` reads each parameter
 abbrev pub rule_of_parameter : ChoiceNames → Parameter → Rule
+rule_of_parameter names AllowUnexecuted = flag_rule (codes "allow-unexecuted")
 rule_of_parameter names Certificate = value_rule (codes "certificate")
 rule_of_parameter names CheckAnswer = flag_rule (codes "check")
 rule_of_parameter names CheckList = flag_rule (codes "check")
@@ -117,6 +118,7 @@ rule_of_parameter names Progress = flag_rule (codes "progress")
 rule_of_parameter names Runs = flag_rule (codes "runs")
 rule_of_parameter names Same = value_rule (codes "same")
 rule_of_parameter names Template = flag_rule (codes "template")
+rule_of_parameter names TieAnswers = flag_rule (codes "ties")
 rule_of_parameter names Ties = flag_rule (codes "ties")
 rule_of_parameter names Trees = trees_rule names.trees
 rule_of_parameter names Tries = flag_rule (codes "tries")
@@ -148,7 +150,7 @@ parameters_of form.Trace = Model ∷ Graph ∷ Page ∷ Json ∷ Litmus ∷ Labe
 parameters_of form.Why = Costs ∷ Workers ∷ Graphs ∷ Page ∷ Observed ∷ Condition ∷ Json ∷ Progress ∷ Litmus ∷ []
 parameters_of form.Gaps = Costs ∷ Template ∷ Ties ∷ Same ∷ Tries ∷ Json ∷ Litmus ∷ []
 parameters_of form.Witness = Model ∷ Not ∷ Fences ∷ Graph ∷ Page ∷ CheckRun ∷ Json ∷ Litmus ∷ []
-parameters_of form.Survey = Workers ∷ LitmusFiles ∷ []
+parameters_of form.Survey = Workers ∷ AllowUnexecuted ∷ TieAnswers ∷ Json ∷ LitmusFiles ∷ []
 
 -- a command with one parameter more
 abbrev pub with_parameter : ChoiceNames → App → Parameter → App
@@ -212,6 +214,13 @@ asks_twice rows = is_flagged (codes "observed") rows && is_flagged (codes "condi
 abbrev pub fences_in_vain : List Row → Bool
 fences_in_vain rows = has_value (codes "model") (codes "sequential") rows && is_some (first_of (codes "fences") rows)
 
+-- more than one litmus file is the input, which is read once
+abbrev pub is_input : Text → Bool
+is_input name = bytes_eq name (codes "-")
+
+abbrev pub reads_input_twice : List Row → Bool
+reads_input_twice rows = nat_lt 1 (count_by is_input (texts_in (codes "litmus") rows))
+
 -- `--fences` has a value that lists no places
 abbrev pub LacksPlaces : List Row → Type 0
 LacksPlaces rows = (text : Text) × (first_of (codes "fences") rows ≡ Some text) × places.ListsNoPlaces text
@@ -220,10 +229,10 @@ LacksPlaces rows = (text : Text) × (first_of (codes "fences") rows ≡ Some tex
 abbrev pub LacksThreads : List Row → Type 0
 LacksThreads rows = (text : Text) × (first_of (codes "same") rows ≡ Some text) × places.ListsNoThreads text
 
--- the rows of a command that asks for nothing: for two comparisons of outcomes, for fences of the sequential machine, for fences
--- at no places, or for the code of no threads
+-- the rows of a command that asks for nothing: for two comparisons of outcomes, for fences of the sequential machine, for the input
+-- twice, for fences at no places, or for the code of no threads
 abbrev pub AsksForNothing : List Row → Type 0
-AsksForNothing rows = (asks_twice rows ≡ true) ⊎ (fences_in_vain rows ≡ true) ⊎ (LacksPlaces rows ⊎ LacksThreads rows)
+AsksForNothing rows = (asks_twice rows ≡ true) ⊎ (fences_in_vain rows ≡ true) ⊎ (reads_input_twice rows ≡ true) ⊎ (LacksPlaces rows ⊎ LacksThreads rows)
 
 -- gaps are to go together
 abbrev pub asks_ties : List Row → Bool
@@ -317,11 +326,14 @@ IsJobOf name rows (Witness asked) =
     × (string_bytes asked.litmus ≡ text_in (codes "litmus") rows)
 IsJobOf name rows (Survey asked) =
     (name ≡ codes "survey")
-    × AreWorkers (text_in (codes "workers") rows) asked.workers
+    × AreWorkers (text_in (codes "workers") rows) asked.options.workers
+    × (asked.options.allow_unexecuted ≡ is_flagged (codes "allow-unexecuted") rows)
+    × (asked.options.ties ≡ is_flagged (codes "ties") rows)
+    × (asked.options.json ≡ is_flagged (codes "json") rows)
     × (map string_bytes asked.files.items ≡ texts_in (codes "litmus") rows)
 
--- the arguments name the job: `clap` finds no fault in them, they ask for one comparison of outcomes, and for no fences of the
--- sequential machine
+-- the arguments name the job: `clap` finds no fault in them, they ask for one comparison of outcomes, for no fences of the
+-- sequential machine, and for the input once at most
 pub record Names (words : List Text) (job : Job) : Type 0 where
   pub choices : ChoiceNames
   pub are_choices : AreChoices choices
@@ -331,6 +343,7 @@ pub record Names (words : List Text) (job : Job) : Type 0 where
   pub read : subcommand_of (fencer_app choices) words ≡ Some (name, rows)
   pub once : asks_twice rows ≡ false
   pub not_in_vain : fences_in_vain rows ≡ false
+  pub input_once : reads_input_twice rows ≡ false
   pub asked : IsJobOf name rows job
 
 -- the arguments ask for the job: they name it, and the files that it writes are none that it reads, and apart
@@ -339,8 +352,8 @@ pub record AsksFor (words : List Text) (job : Job) : Type 0 where
   pub apart : has_clash (files_of job) ≡ false
 
 -- The arguments are no command: one of them is no UTF-8; `clap` finds a fault in them, as which it takes a call for help; they ask
--- for two comparisons of outcomes, for fences of the sequential machine, for fences at what are no places, or for threads by what are
--- no numbers; or they name a job that writes a file which it reads, or a file twice.
+-- for two comparisons of outcomes, for fences of the sequential machine, for the input twice, for fences at what are no places, or for
+-- threads by what are no numbers; or they name a job that writes a file which it reads, or a file twice.
 pub data IsNoCommand (words : List Text) : Type 0 where
   no_utf8 : (word : Text) → Contains words word → (IsUtf8 word → ⊥) → IsNoCommand words
   faulty : (choices : ChoiceNames) → AreChoices choices → fault_of (fencer_app choices) words ≢ [] → IsNoCommand words

@@ -6,7 +6,7 @@ use Rattle.clap.specs.declared.builder.command.Command.TheViews.{out-Command}
 use Rattle.clap.specs.declared.parser.matches.ArgMatches.{ArgMatches}
 use Rattle.fencer_words.specs.declared.job.Job.{Job}
 use Rattle.fencer_words.specs.declared.parameter.ChoiceNames.{ChoiceNames}
-use Rattle.fencer_words.specs.CommandLines.{AreChoices, AsksForNothing, IsJobOf, asks_twice, command_names, fencer_app, fences_in_vain}
+use Rattle.fencer_words.specs.CommandLines.{AreChoices, AsksForNothing, IsJobOf, asks_twice, command_names, fencer_app, fences_in_vain, reads_input_twice}
 
 -- the command is this one, and has no argument that its subcommands share
 pub record IsBuiltAs (app : App) (command : Command) : Type 0 where
@@ -26,6 +26,7 @@ pub record IsJobMet (matches : ArgMatches) (job : Job) : Type 0 where
   pub met : subcommand_rows_of matches ≡ Some (name, rows)
   pub once : asks_twice rows ≡ false
   pub not_in_vain : fences_in_vain rows ≡ false
+  pub input_once : reads_input_twice rows ≡ false
   pub asked : IsJobOf name rows job
 
 -- the parse met none of the commands but one that asks for nothing

@@ -8,9 +8,9 @@ ghost use Rattle.fencer_words.specs.Commands.{IsBuiltAs};
 
 use crate::parameter::ChoiceNames;
 use crate::parameter::Parameter::{
-    self, Certificate, CheckAnswer, CheckList, CheckRun, Condition, Costs, Fences, Graph, Graphs,
-    Insert, Json, Labels, Litmus, LitmusFiles, Model, Not, Observed, Output, Page, Progress, Runs,
-    Same, Template, Ties, Trees, Tries, Workers,
+    self, AllowUnexecuted, Certificate, CheckAnswer, CheckList, CheckRun, Condition, Costs, Fences,
+    Graph, Graphs, Insert, Json, Labels, Litmus, LitmusFiles, Model, Not, Observed, Output, Page,
+    Progress, Runs, Same, Template, TieAnswers, Ties, Trees, Tries, Workers,
 };
 use crate::{gaps, outcomes, place, replay, survey, trace, why, witness};
 use clap::Command;
@@ -90,7 +90,7 @@ impl Form {
             ],
             Form::Gaps => &[Costs, Template, Ties, Same, Tries, Json, Litmus],
             Form::Witness => &[Model, Not, Fences, Graph, Page, CheckRun, Json, Litmus],
-            Form::Survey => &[Workers, LitmusFiles],
+            Form::Survey => &[Workers, AllowUnexecuted, TieAnswers, Json, LitmusFiles],
         }
     }
 

@@ -125,11 +125,23 @@ pub struct GapQuery {
     pub litmus: String,
 }
 
+/// How each file is surveyed.
+#[derive(Clone, Copy)]
+pub struct SurveyOptions {
+    /// How many workers search: 1 to `MAX_WORKERS`.
+    pub workers: u8,
+    /// Let the status be that of the condition alone, whatever no sequential run executes.
+    pub allow_unexecuted: bool,
+    /// Fence lines together that threads or tries share.
+    pub ties: bool,
+    /// Print a document a file in place of the text.
+    pub json: bool,
+}
+
 /// Surveys that are asked for: what one look at each program finds. Files are given by their names.
 #[derive(Drop)]
 pub struct SurveyQuery {
-    /// How many workers search: 1 to `MAX_WORKERS`.
-    pub workers: u8,
+    pub options: SurveyOptions,
     pub files: Vec<String>,
 }
 

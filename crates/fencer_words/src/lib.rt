@@ -24,7 +24,7 @@ mod witness;
 mod words;
 
 pub use job::{
-    GapQuery, Job, OutcomeQuery, Placement, Run, SurveyQuery, TieQuery, TraceQuery, WhyQuery,
-    WitnessQuery,
+    GapQuery, Job, OutcomeQuery, Placement, Run, SurveyOptions, SurveyQuery, TieQuery, TraceQuery,
+    WhyQuery, WitnessQuery,
 };
 pub use words::read_words;

@@ -9,6 +9,9 @@ use clap::{Arg, ArgAction};
 use std::alloc::Global;
 use tso_program::MAX_WORKERS;
 
+const ALLOW_UNEXECUTED_HELP: &str =
+    "Return status 3 only where a condition fails, whatever is unexecuted";
+
 const CERTIFICATE_HELP: &str = "Write the certificate there, for fencecheck";
 
 const CHECK_ANSWER_HELP: &str = "Return status 3 where the program needs a fence";
@@ -55,6 +58,8 @@ const SAME_HELP: &str = "These threads run the same code, as 0,1,2; else those t
 
 const TEMPLATE_HELP: &str = "Print a cost file of all gaps instead; a gap costs 1 without --costs";
 
+const TIE_ANSWERS_HELP: &str = "Fence together the lines that threads or tries share";
+
 const TIES_HELP: &str = "Print a cost file that ties the gaps of lines which threads share";
 
 const TREES_HELP: &str = "Make whole trees (certificate 1 or 2) or early ones (4); else by size";
@@ -73,6 +78,7 @@ pub struct ChoiceNames<'a> {
 /// A parameter of a command.
 #[derive(Clone, Copy)]
 pub enum Parameter {
+    AllowUnexecuted,
     Certificate,
     /// `--check` of a placement.
     CheckAnswer,
@@ -103,6 +109,9 @@ pub enum Parameter {
     Runs,
     Same,
     Template,
+    /// `--ties` of answers.
+    TieAnswers,
+    /// `--ties` of a cost file.
     Ties,
     Trees,
     Tries,
@@ -116,6 +125,9 @@ impl Parameter {
         ensures own { result.global ≡ false }
     {
         match self {
+            Parameter::AllowUnexecuted => {
+                flag_arg(alloc, "allow-unexecuted", ALLOW_UNEXECUTED_HELP)
+            }
             Parameter::Certificate => file_arg(alloc, "certificate", CERTIFICATE_HELP),
             Parameter::CheckAnswer => flag_arg(alloc, "check", CHECK_ANSWER_HELP),
             Parameter::CheckList => flag_arg(alloc, "check", CHECK_LIST_HELP),
@@ -139,6 +151,7 @@ impl Parameter {
             Parameter::Runs => flag_arg(alloc, "runs", RUNS_HELP),
             Parameter::Same => value_arg(alloc, "same", "T,..", SAME_HELP),
             Parameter::Template => flag_arg(alloc, "template", TEMPLATE_HELP),
+            Parameter::TieAnswers => flag_arg(alloc, "ties", TIE_ANSWERS_HELP),
             Parameter::Ties => flag_arg(alloc, "ties", TIES_HELP),
             Parameter::Trees => trees_arg(alloc, names.trees),
             Parameter::Tries => flag_arg(alloc, "tries", TRIES_HELP),

@@ -1,12 +1,12 @@
 //! Command lines.
 
-ghost use Rattle.std.specs.Prelude.{◌≡◌, ◌⊎◌, true, false, Contains, IfErr, IfOk, IfNone, IfSome, OnOk, map, string_bytes};
+ghost use Rattle.std.specs.Prelude.{◌≡◌, ◌⊎◌, true, false, Contains, IfErr, IfOk, IfNone, IfSome, OnOk, count_by, map, string_bytes};
 ghost use Rattle.clap.specs.Words.{found_of, kind_of, rows_of};
 ghost use Rattle.fencer_words.specs.CommandFiles.{files_of, has_clash};
-ghost use Rattle.fencer_words.specs.CommandLines.{asks_twice, command_names, commands_app, fences_in_vain, AreChoices, AsksFor, IsJobOf, IsNoCommand, LacksPlaces, LacksThreads, Names};
+ghost use Rattle.fencer_words.specs.CommandLines.{asks_twice, command_names, commands_app, fences_in_vain, is_input, reads_input_twice, AreChoices, AsksFor, IsJobOf, IsNoCommand, LacksPlaces, LacksThreads, Names};
 ghost use Rattle.fencer_words.specs.Commands.{IsBuiltAs, IsFencerCommand, IsJobMet, MeetsNoJob};
 
-use crate::arguments::{has_value, is_flagged, value_of};
+use crate::arguments::{has_value, is_flagged, value_of, values_of};
 use crate::files::{files_of, has_clash};
 use crate::form::{Form, described_command};
 use crate::gaps::gaps_job;
@@ -45,6 +45,8 @@ const TWICE: &str = "--observed and --condition cannot both be given";
 
 const IN_VAIN: &str =
     "--fences and --model sequential cannot both be given: no fence matters there";
+
+const INPUT_TWICE: &str = "`-` cannot be given twice: standard input is read once";
 
 const FENCES: &str = "--fences takes gaps with commas between them, each once, as 0:1,1:1";
 
@@ -119,6 +121,23 @@ fn fences_in_vain(matches: &ArgMatches<'_>) -> bool
     has_value(matches, "model", "sequential") && value_of(matches, "fences").is_some()
 }
 
+/// How many of these names are that of the input.
+fn inputs_among(names: &[&str]) -> usize
+    ensures { result ≡ count_by is_input (map (λ name. name.now) names.now) }
+{
+    names.iter().filter(|name| **name == "-").count()
+}
+
+/// Whether more than one litmus file is the input, which is read once.
+fn reads_input_twice(matches: &ArgMatches<'_>) -> bool
+    ensures { result ≡ reads_input_twice (rows_of (found_of matches.now)) }
+{
+    match values_of(matches, "litmus") {
+        Some(names) => inputs_among(names) > 1,
+        None => false,
+    }
+}
+
 /// The job of the subcommand that was met, unless that asks for nothing.
 fn job_met(alloc: Global, matches: &ArgMatches<'_>) -> Result<Option<Job>, AllocError>
     ensures some { IfOk result (λ job. IfSome job (IsJobMet matches.now)) }
@@ -126,7 +145,7 @@ fn job_met(alloc: Global, matches: &ArgMatches<'_>) -> Result<Option<Job>, Alloc
 {
     match matches.subcommand() {
         Some((name, inner)) => {
-            if asks_twice(inner) || fences_in_vain(inner) {
+            if asks_twice(inner) || fences_in_vain(inner) || reads_input_twice(inner) {
                 Ok(None)
             } else {
                 job_of(alloc, name, inner)
@@ -149,6 +168,9 @@ fn no_job(alloc: Global, matches: &ArgMatches<'_>) -> Result<Error, AllocError> 
         }
         Some((_, inner)) if fences_in_vain(inner) => {
             command_error(alloc, ErrorKind::ArgumentConflict, IN_VAIN)
+        }
+        Some((_, inner)) if reads_input_twice(inner) => {
+            command_error(alloc, ErrorKind::ArgumentConflict, INPUT_TWICE)
         }
         Some(("gaps", _)) => command_error(alloc, ErrorKind::ValueValidation, SAME),
         _ => command_error(alloc, ErrorKind::ValueValidation, FENCES),

@@ -6,7 +6,7 @@ use crate::rule::{ANY, JUMPS, REGISTERS, RESERVED, Rule};
 const CELL: &[&str] = &["|", ";", ":"];
 
 /// The words with which instructions begin.
-const MNEMONICS: &[&str] = &["MOV", "XCHG", "MFENCE", "CMP", "JE", "JNE", "JMP"];
+pub(crate) const MNEMONICS: &[&str] = &["MOV", "XCHG", "MFENCE", "CMP", "JE", "JNE", "JMP"];
 
 /// What stands in a cell, but operands.
 pub(crate) const INSTRUCTION: &[Rule] = &[

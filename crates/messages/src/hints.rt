@@ -1,24 +1,38 @@
 //! What arguments that are no command of `fencer` may mean.
 
+use crate::fence_hints::fences_hint;
 use crate::message::Message;
 use std::alloc::{AllocError, Global};
 
 /// The names of the commands.
 const COMMANDS: &[&str] = &[
-    "replay", "outcomes", "place", "trace", "why", "gaps", "witness",
+    "replay", "outcomes", "place", "trace", "why", "gaps", "witness", "survey",
 ];
 
 /// What arguments of `fencer` that are no command may mean, as a line; nothing where that is not known.
 pub fn command_hint(alloc: Global, words: &[String]) -> Result<Vec<u8>, AllocError> {
+    let text = hint_text(alloc, words)?;
+    if text.is_empty() {
+        return Ok(Vec::new(alloc));
+    }
+    Message::of_file(alloc, "fencer", text.as_str())?.written(alloc, false)
+}
+
+/// What arguments that are no command may mean. It is empty where that is not known.
+fn hint_text(alloc: Global, words: &[String]) -> Result<String, AllocError> {
+    let text = fences_hint(alloc, words)?;
+    if !text.is_empty() {
+        return Ok(text);
+    }
     let meant = match words {
         [first, rest @ ..] => meant_by(alloc, first.as_str(), rest)?,
         [] => String::new(alloc),
     };
     if meant.is_empty() {
-        return Ok(Vec::new(alloc));
+        Ok(meant)
+    } else {
+        format!(in alloc; "did you mean `fencer {meant}`?")
     }
-    let text = format!(in alloc; "did you mean `fencer {meant}`?")?;
-    Message::of_file(alloc, "fencer", text.as_str())?.written(alloc, false)
 }
 
 /// The arguments that a first one and those after it may mean; none where that is not known.

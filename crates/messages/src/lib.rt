@@ -12,6 +12,7 @@ mod cell_rules;
 mod certificates;
 mod condition_rules;
 mod costs;
+mod fence_hints;
 mod fences;
 mod files;
 mod hints;

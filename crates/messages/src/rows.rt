@@ -1,5 +1,6 @@
-//! What is said of rows without their `;`, and of those with too few or too many cells.
+//! What is said of rows without their `;` or `|`, and of those with too few or too many cells.
 
+use crate::cell_rules::MNEMONICS;
 use crate::message::Message;
 use crate::source::Source;
 use crate::text_end::is_mark;
@@ -29,7 +30,9 @@ pub(crate) fn row_message(
     left: usize,
     spot: &Spot<'_>,
 ) -> Result<Option<Message>, AllocError> {
-    let cells = cells_of(tokens, tokens.len().saturating_sub(left));
+    let index = tokens.len().saturating_sub(left);
+    let cells = cells_of(tokens, index);
+    let whole = whole_row(tokens, index, cells);
     match spot.part {
         Part::Row => {
             let said = said_of_cells(alloc, cells)?;
@@ -41,18 +44,46 @@ pub(crate) fn row_message(
                 let said = said_of_end(alloc, part, cells)?;
                 Ok(Some(Message::at_word(alloc, source, end, b"\n", said.as_str())?))
             }
+            _ if lacks_bar(part, spot, whole) => {
+                let counts = counts_of(alloc, whole)?;
+                let said = format!(in alloc; "stands where `|` is missing: the row has {counts}")?;
+                Ok(Some(Message::at_word(alloc, source, spot.offset, spot.shown, said.as_str())?))
+            }
             _ => Ok(None),
         },
     }
 }
 
+/// Whether a token begins a cell, or stands after a label there.
+fn begins_cell(spot: &Spot<'_>) -> bool {
+    [b"|", b";", b":"]
+        .iter()
+        .any(|mark| spot.before == mark.as_slice())
+}
+
+/// Whether a `|` is missing before a token that begins an instruction: its row has too few cells.
+fn lacks_bar(part: Part, spot: &Spot<'_>, row: Cells) -> bool {
+    match part {
+        Part::Instruction => row.row < row.threads
+            && !begins_cell(spot)
+            && begins_instruction(spot),
+        _ => false,
+    }
+}
+
+/// Whether an instruction that is read begins with the token.
+fn begins_instruction(spot: &Spot<'_>) -> bool {
+    MNEMONICS
+        .iter()
+        .any(|word| word.as_bytes().eq_ignore_ascii_case(spot.word))
+}
+
 /// Whether a `;` is missing before a token that begins a line.
 fn lacks_end(part: Part, spot: &Spot<'_>) -> bool {
-    let begins_cell = [b"|", b";", b":"]
-        .iter()
-        .any(|mark| spot.before == mark.as_slice());
     match part {
-        Part::Instruction => !begins_cell || (spot.before != b";".as_slice() && follows_rows(spot)),
+        Part::Instruction => {
+            !begins_cell(spot) || (spot.before != b";".as_slice() && follows_rows(spot))
+        }
         Part::Header => spot.before.starts_with(b"P"),
         Part::Initial => spot.before.iter().take(1).any(|byte| byte.is_ascii_digit()),
         _ => false,
@@ -110,6 +141,20 @@ fn cells_of(tokens: &[Token], index: usize) -> Cells {
         }
     }
     let threads = threads_of(tokens);
+    Cells { row, threads }
+}
+
+/// The cells of a row with these up to the token with this index, up to its `;`.
+fn whole_row(tokens: &[Token], index: usize, cells: Cells) -> Cells {
+    let Cells { mut row, threads } = cells;
+    for token in tokens.iter().skip(index) {
+        if is_mark(token, Mark::Semicolon) {
+            break;
+        }
+        if is_mark(token, Mark::Bar) {
+            row = row.saturating_add(1);
+        }
+    }
     Cells { row, threads }
 }
 

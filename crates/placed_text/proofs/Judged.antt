@@ -7,7 +7,9 @@ use Rattle.std.specs.List.{list_all}
 use Rattle.std.specs.Prelude.{if◌then◌else◌}
 use Rattle.litmus_text.specs.{Texts.IsLitmus, CostTexts.Entry, CostTexts.said_of, CostTexts.name_said, CostTexts.ties_of}
 use Rattle.cert_forest.specs.Certificates.{Certificate}
+use Rattle.documents.specs.declared.note.Note.{Note}
 use Rattle.documents.specs.Documents.{IsPlacedDocument}
+use Rattle.placed_text.specs.Verdicts.{IsVerdictIn}
 use Rattle.placed_text.specs.{declared.fault.TextFault.TextFault, declared.problem.Problem.Problem, declared.writing.AnswerText.AnswerText, declared.writing.PlacedText.PlacedText}
 use Rattle.placed_text.specs.declared.fault.TextFault.TheVariants as fault
 
@@ -48,15 +50,17 @@ module _ (litmus : List ℕ) (costs : Option (List ℕ)) where
           given = of_texts.given;
           names = names_of (question_in problem) certificate;
           gaps = gaps;
-          of_names = sym is.allowed;
+          of_names = sym is.fenced.allowed;
           answer = is.answer;
           headline = is.headline;
+          fenced = is.fenced;
           program = written.program;
           again = written.again litmus of_texts.of_text;
           line = subst (λ (cost : ℕ). texts.answer.items ≡ answer_line source.program (shown_as source kind) gaps cost) is.cost
               (subst (λ (shown : Shown). texts.answer.items ≡ answer_line source.program shown gaps certificate.cost) of_texts.shown written.line);
-          document = subst (λ (shown : Shown). IsPlacedDocument source shown problem.costs gaps texts.program.items texts.document.items) of_texts.shown written.document;
+          document = subst (λ (shown : Shown). IsPlacedDocument source shown problem.costs gaps texts.program.items texts.document) of_texts.shown written.document;
           set = written.set;
+          decided = written.decided litmus costs kind of_texts;
         }
 
     -- and from that with the text of its certificate
@@ -75,9 +79,9 @@ module _ (litmus : List ℕ) (costs : Option (List ℕ)) where
         }
 
     -- from the reasons that are given for it
-    pub why_text : (text document : List ℕ) → IsProblem litmus costs kind problem
-        → OfItsPlacement problem (λ placed. TellsWhy problem.litmus problem.shown problem.costs placed.gaps (answer_line problem.litmus.program problem.shown placed.gaps placed.cost) text document) → IsWhyText litmus costs kind text document
-    why_text text document of_texts (certificate, placed, tells) =
+    pub why_text : (text : List ℕ) (document : List (List ℕ)) (verdict : Option Note) → IsProblem litmus costs kind problem → IsVerdictIn problem verdict
+        → OfItsPlacement problem (λ placed. TellsWhy problem.litmus problem.shown problem.costs placed.gaps (answer_line problem.litmus.program problem.shown placed.gaps placed.cost) text document) → IsWhyText litmus costs kind text document verdict
+    why_text text document verdict of_texts is_verdict (certificate, placed, tells) =
         let source = problem.litmus in
         let shown = shown_as source kind in
         let gaps = certificate.gaps in
@@ -89,10 +93,11 @@ module _ (litmus : List ℕ) (costs : Option (List ℕ)) where
           given = of_texts.given;
           names = names_of (question_in problem) certificate;
           gaps = gaps;
-          of_names = sym is.allowed;
+          of_names = sym is.fenced.allowed;
           answer = is.answer;
           told = subst (λ (cost : ℕ). TellsWhy source shown problem.costs gaps (answer_line source.program shown gaps cost) text document) is.cost
               (subst (λ (s : Shown). TellsWhy source s problem.costs gaps (answer_line source.program s gaps certificate.cost) text document) of_texts.shown tells);
+          decided = is_verdict litmus costs kind of_texts;
         }
 
   -- the litmus text is no such text

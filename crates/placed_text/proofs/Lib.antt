@@ -5,3 +5,6 @@ pub mod Judged
 pub mod Needed
 pub mod PassingSteps
 pub mod ReasonTexts
+pub mod SequentialRuns
+pub mod ShownTruths
+pub mod Decided

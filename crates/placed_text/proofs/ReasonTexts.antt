@@ -74,7 +74,7 @@ pub first_held : (gaps : SetOfGaps) (left : List ℕ) (gap : ℕ) (more : List �
 first_held gaps left gap more is held = subst (AreHeld gaps) is held
 
 -- the line of the answer and what follows it, and the document
-pub says_why : (source : Litmus Listing) (shown : Shown) (costs : TiedCosts) (gaps : SetOfGaps) (line all text document : List ℕ) (runs : List (List ℕ))
+pub says_why : (source : Litmus Listing) (shown : Shown) (costs : TiedCosts) (gaps : SetOfGaps) (line all text : List ℕ) (document : List (List ℕ)) (runs : List (List ℕ))
     → TellsReasons source shown costs.ties (names_in costs.ties gaps) (numbers_of_set (names_in costs.ties gaps)) all runs
     → text ≡ line ++ reasons_or_none shown all → IsWhyDocument source shown costs gaps runs document → TellsWhy source shown costs gaps line text document
 says_why source shown costs gaps line all text document runs (reasons, each, lines, are) printed told = record {

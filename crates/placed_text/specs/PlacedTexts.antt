@@ -15,10 +15,12 @@ use Rattle.litmus_text.specs.GivenCosts.{AreGiven}
 use Rattle.documents.specs.Documents.{IsPlacedDocument}
 use Rattle.cert_forest.specs.Certificates.{Certificate}
 use Rattle.cert_forest.specs.Limits.{IsCertificate}
+use Rattle.cert_check.specs.Headlines.{HeadlineOfAllowed}
 use Rattle.cert_forest.specs.Texts.{certificate_text}
 use Rattle.tree_laws.specs.Certificates.{IsValidCertificate}
 use Rattle.report.specs.Answers.{answer_line}
 use Rattle.placed_text.specs.declared.problem.Problem.{Problem}
+use Rattle.placed_text.specs.Verdicts.{IsVerdict, IsVerdictIn}
 use Rattle.placed_text.specs.declared.writing.AnswerText.{AnswerText}
 use Rattle.placed_text.specs.declared.writing.PlacedText.{PlacedText}
 use Rattle.litmus_text.specs.Shown.{shown_as, question_of}
@@ -35,8 +37,9 @@ pub record IsCertificateOf (q : Question) (costs : List ℕ) (gaps : SetOfGaps) 
   pub valid : IsValidCertificate q costs claimed
 
 -- What the texts tell: the litmus text stands for this program, its gaps have these costs and ties, these gaps are those of the
--- names that are the answer, so that the headline holds of them; the program's text is the canonical one with an MFENCE in each of them, and is read as that
--- program; the line is made of them and of their total, the document says the same of them, and the set has them.
+-- names that are the answer, so that the headline holds of them, and of the gaps among sets that have of each tie all or none; the program's text is the canonical one with an MFENCE in each of
+-- them, and is read as that program; the line is made of them and of their total, the document says the same of them, the set has
+-- them, and the verdict says what sequential runs decide.
 pub record IsAnswerText (litmus : List ℕ) (costs : Option (List ℕ)) (kind : ShownKind) (texts : AnswerText) : Type 0 where
   pub source : Litmus Listing
   pub of_text : IsLitmus litmus source
@@ -47,11 +50,13 @@ pub record IsAnswerText (litmus : List ℕ) (costs : Option (List ℕ)) (kind : 
   pub of_names : gaps ≡ spread gap_costs.ties names
   pub answer : IsTheAnswer (tied_question source kind gap_costs) gap_costs.costs names
   pub headline : Headline (tied_question source kind gap_costs) gap_costs.costs names
+  pub fenced : HeadlineOfAllowed (tied_question source kind gap_costs) gap_costs.costs gaps
   pub program : texts.program.items ≡ canonical_text (litmus_fenced_at gaps source)
   pub again : IsFencedLitmus texts.program.items (litmus_fenced_at gaps source)
   pub line : texts.answer.items ≡ answer_line source.program (shown_as source kind) gaps (total gap_costs.costs names)
-  pub document : IsPlacedDocument source (shown_as source kind) gap_costs gaps texts.program.items texts.document.items
+  pub document : IsPlacedDocument source (shown_as source kind) gap_costs gaps texts.program.items texts.document
   pub set : texts.gaps ≡ gaps
+  pub decided : IsVerdict source texts.verdict
 
 -- what the texts tell of an answer, of whose gaps the certificate is
 pub record IsPlacedText (litmus : List ℕ) (costs : Option (List ℕ)) (kind : ShownKind) (placed : PlacedText) : Type 0 where
@@ -63,8 +68,9 @@ pub record AreTextsOf (problem : Problem) (gaps : SetOfGaps) (cost : ℕ) (texts
   pub program : texts.program.items ≡ canonical_text (litmus_fenced_at gaps problem.litmus)
   pub again : (text : List ℕ) → IsLitmus text problem.litmus → IsFencedLitmus texts.program.items (litmus_fenced_at gaps problem.litmus)
   pub line : texts.answer.items ≡ answer_line problem.litmus.program problem.shown gaps cost
-  pub document : IsPlacedDocument problem.litmus problem.shown problem.costs gaps texts.program.items texts.document.items
+  pub document : IsPlacedDocument problem.litmus problem.shown problem.costs gaps texts.program.items texts.document
   pub set : texts.gaps ≡ gaps
+  pub decided : IsVerdictIn problem texts.verdict
 
 -- the texts of the answer that a certificate proves, and the certificate's own
 pub record ArePlacedTextsOf (problem : Problem) (certificate : Certificate) (written : PlacedText) : Type 0 where

@@ -23,11 +23,13 @@ use Rattle.litmus_text.specs.Shown.{shown_as}
 use Rattle.litmus_text.specs.GivenCosts.{AreGiven}
 use Rattle.report.specs.Answers.{answer_line, printed_labels, outcome_line, passed_line, without_line}
 use Rattle.documents.specs.declared.run.Setting.TheVariants.{Without}
+use Rattle.documents.specs.declared.note.Note.{Note}
 use Rattle.documents.specs.Documents.{IsWhyDocument}
 use Rattle.documents.specs.Runs.{TellsRun}
 use Rattle.placed_text.specs.declared.reasons.LeftOut.{LeftOut}
 use Rattle.placed_text.specs.MarkedTables.{IsMarkedTableOf}
 use Rattle.placed_text.specs.PlacedTexts.{tied_question}
+use Rattle.placed_text.specs.Verdicts.{IsVerdict}
 
 -- what is said of an outcome that no sequential run has, and of an answer without a gap
 abbrev pub is_foreign : List ℕ
@@ -135,15 +137,16 @@ reasons_or_none shown [] = none_line shown
 reasons_or_none shown (byte ∷ bytes) = byte ∷ bytes
 
 -- the text has the line, and why each tie of the gaps is needed; the document has the gaps, their costs, and the same runs
-pub record TellsWhy (source : Litmus Listing) (shown : Shown) (costs : TiedCosts) (gaps : SetOfGaps) (line text document : List ℕ) : Type 0 where
+pub record TellsWhy (source : Litmus Listing) (shown : Shown) (costs : TiedCosts) (gaps : SetOfGaps) (line text : List ℕ) (document : List (List ℕ)) : Type 0 where
   pub reasons : List Told
   pub each : AreReasons source shown costs.ties (names_in costs.ties gaps) (numbers_of_set (names_in costs.ties gaps)) reasons
   pub printed : text ≡ line ++ reasons_or_none shown (told_lines reasons)
   pub told : IsWhyDocument source shown costs gaps (runs_of reasons) document
 
 -- What the text tells: the litmus text stands for this program, its gaps have these costs and ties, these gaps are those of the names
--- that are the answer; the text has the line of the answer, and why each tie of it is needed. The document says the same.
-pub record IsWhyText (litmus : List ℕ) (costs : Option (List ℕ)) (kind : ShownKind) (text document : List ℕ) : Type 0 where
+-- that are the answer; the text has the line of the answer, and why each tie of it is needed. The document says the same, and the verdict
+-- what sequential runs decide.
+pub record IsWhyText (litmus : List ℕ) (costs : Option (List ℕ)) (kind : ShownKind) (text : List ℕ) (document : List (List ℕ)) (verdict : Option Note) : Type 0 where
   pub source : Litmus Listing
   pub of_text : IsLitmus litmus source
   pub gap_costs : TiedCosts
@@ -153,3 +156,4 @@ pub record IsWhyText (litmus : List ℕ) (costs : Option (List ℕ)) (kind : Sho
   pub of_names : gaps ≡ spread gap_costs.ties names
   pub answer : IsTheAnswer (tied_question source kind gap_costs) gap_costs.costs names
   pub told : TellsWhy source (shown_as source kind) gap_costs gaps (answer_line source.program (shown_as source kind) gaps (total gap_costs.costs names)) text document
+  pub decided : IsVerdict source verdict

@@ -8,21 +8,24 @@ ghost use Rattle.tree_laws.specs.Certificates.{names_of};
 ghost use Rattle.tree_laws.specs.Laws.{IsProved};
 ghost use Rattle.report.specs.Answers.{answer_line};
 ghost use Rattle.fence_place.specs.Faults.{AreTooFewOrMany};
+ghost use Rattle.fence_place.specs.Placements.{IsPlacement};
 ghost use Rattle.placed_text.specs.Problems.{question_in, OfItsPlacement};
 ghost use Rattle.placed_text.specs.TextFaults.{HasNoPlacedText, HasNoPlacement};
+ghost use Rattle.placed_text.specs.Verdicts.{IsVerdictIn};
 ghost use Rattle.placed_text.specs.WhyTexts.{none_line, reasons_or_none, IsReason, IsWhyText, TellsReasons, TellsWhy};
 
 use crate::TextFault;
 use crate::problem::{Problem, read_problem};
 use crate::proposed::certificate_of;
 use crate::reasons::{GapReason, LeftOut, push_graph, reason_of, run_avoiding};
+use crate::verdict::verdict_of;
 use crate::watched::Effort;
 use crate::writing::{cost_of, gaps_of};
 use cert_check::certificate_proves_answer;
 use cert_forest::Certificate;
-use documents::{LinedLitmus, why_document};
+use documents::{LinedLitmus, Note, why_document};
 use gap_sets::GapSet;
-use json_text::JsonArray;
+use json_text::{JsonArray, JsonObject};
 use litmus_text::Litmus;
 use report::answer_line;
 use run_views::RunGraph;
@@ -39,9 +42,11 @@ pub struct WhyText {
     /// The candidate executions of the runs, as a graph in Graphviz's language.
     pub graph: Vec<u8>,
     /// What is printed with `--json`.
-    pub document: Vec<u8>,
+    pub document: JsonObject,
     /// The gaps of the answer.
     pub gaps: GapSet,
+    /// That some sequential run decides the condition, if one does.
+    pub verdict: Option<Note>,
 }
 
 /// Why gaps are needed, one after the other.
@@ -156,7 +161,9 @@ fn explained(
 ) -> Result<WhyText, AllocError>
     requires one_each { length problem.now.costs.costs ≡ gap_count problem.now.litmus.program.threads }
     requires proved { IsProved (question_in problem.now) problem.now.costs.costs certificate.now }
-    ensures { IfOk result (λ told. TellsWhy problem.now.litmus problem.now.shown problem.now.costs certificate.now.gaps (answer_line problem.now.litmus.program problem.now.shown certificate.now.gaps certificate.now.cost) told.lines.items told.document.items) }
+    requires placement { IsPlacement (question_in problem.now) problem.now.costs.costs certificate.now }
+    ensures told { IfOk result (λ told. TellsWhy problem.now.litmus problem.now.shown problem.now.costs certificate.now.gaps (answer_line problem.now.litmus.program problem.now.shown certificate.now.gaps certificate.now.cost) told.lines.items told.document) }
+    ensures verdict { IfOk result (λ told. IsVerdictIn problem.now told.verdict) }
 {
     let Problem {
         litmus,
@@ -180,11 +187,13 @@ fn explained(
     let mut lines = answer_line(alloc, &litmus.program, shown, set, cost_of(certificate))?;
     lines.extend_from_slice(&said)?;
     let graph = graph.into_text()?;
+    let verdict = verdict_of(alloc, problem, certificate)?;
     Ok(WhyText {
         lines,
         graph,
         document,
         gaps: set,
+        verdict,
     })
 }
 
@@ -197,7 +206,8 @@ fn why_of<R: Threads + Wait + Sync>(
 ) -> Result<WhyText, TextFault>
     requires one_each { length problem.now.costs.costs ≡ gap_count problem.now.litmus.program.threads }
     requires ties { length problem.now.costs.ties ≤ gap_count problem.now.litmus.program.threads }
-    ensures told { IfOk result (λ told. OfItsPlacement problem.now (λ placed. TellsWhy problem.now.litmus problem.now.shown problem.now.costs placed.gaps (answer_line problem.now.litmus.program problem.now.shown placed.gaps placed.cost) told.lines.items told.document.items)) }
+    ensures told { IfOk result (λ told. OfItsPlacement problem.now (λ placed. TellsWhy problem.now.litmus problem.now.shown problem.now.costs placed.gaps (answer_line problem.now.litmus.program problem.now.shown placed.gaps placed.cost) told.lines.items told.document)) }
+    ensures verdict { IfOk result (λ told. IsVerdictIn problem.now told.verdict) }
     ensures workers { OnOk result (¬ AreTooFewOrMany effort.workers) }
     ensures fault { IfErr result (HasNoPlacement effort.workers) }
 {
@@ -218,7 +228,7 @@ pub fn why_text<R: Threads + Wait + Sync>(
     kind: ShownKind,
     effort: Effort,
 ) -> Result<WhyText, TextFault>
-    ensures told { IfOk result (λ reasons. IsWhyText litmus.now (option_map (λ text. text.now) costs.entry) kind reasons.lines.items reasons.document.items) }
+    ensures told { IfOk result (λ reasons. IsWhyText litmus.now (option_map (λ text. text.now) costs.entry) kind reasons.lines.items reasons.document reasons.verdict) }
     ensures workers { OnOk result (¬ AreTooFewOrMany effort.workers) }
     ensures fault { IfErr result (HasNoPlacedText litmus.now (option_map (λ text. text.now) costs.entry) effort.workers) }
 {

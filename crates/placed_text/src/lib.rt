@@ -5,7 +5,7 @@
 //! run that is shown passes no other gap of the answer, and no sequential run leaves what it leaves.
 //!
 //! Begin with `answer_text`, `place_text` and `why_text`. Free to change: what is reported on the way (`ahead.rt`,
-//! `watched.rt`), and which run is shown, and its graph. Relied on: the headline
+//! `extent.rt`, `watched.rt`), and which run is shown, and its graph. Relied on: the headline
 //! holds of the set for the program and the costs of the texts, all that is written says the same of it
 //! (`IsPlacedText`), and for exactly the gaps of the answer, in order, labels and table are those of such a run
 //! (`IsWhyText`).
@@ -13,6 +13,7 @@
 
 mod ahead;
 mod explaining;
+mod extent;
 mod fault;
 mod marked_table;
 mod placement;
@@ -25,6 +26,7 @@ mod writing;
 
 pub use ahead::report_ahead;
 pub use explaining::{WhyText, why_text};
+pub use extent::{Extent, warn_of_minutes};
 pub use fault::TextFault;
 pub use problem::{read_gap_costs, read_program};
 pub use watched::Effort;

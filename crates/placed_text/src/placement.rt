@@ -11,6 +11,7 @@ use crate::ahead::report_ahead;
 use crate::problem::Problem;
 use crate::watched::{Effort, Watched, report_outcomes};
 use cert_forest::Certificate;
+use certificate_proposals::SearchWatch;
 use cover_solver::{SeqTable, SolveFault, Solver, sequential};
 use fence_place::{Oracles, PlaceFault, place};
 use gap_sets::Costs;
@@ -73,6 +74,7 @@ fn certificate_by<R: Threads + Wait + Sync>(
         alloc,
         effort,
         asked: AtomicU64::new(0),
+        watch: SearchWatch::new(alloc, effort.progress),
     };
     let oracles = Oracles {
         first: &watched,

@@ -9,14 +9,13 @@ ghost use Rattle.placed_text.specs.TextFaults.{HasNoPlacement};
 
 use crate::TextFault;
 use crate::ahead::report_ahead;
+use crate::extent::warn_of_minutes;
 use crate::placement::placement_of;
 use crate::problem::Problem;
-use crate::verdict::report_verdict;
 use crate::watched::{Effort, report_outcomes};
 use cert_forest::{Certificate, Rule};
-use certificate_proposals::{SearchPlan, propose, proposed_rule};
+use certificate_proposals::{SearchPlan, SearchWatch, propose, proposed_rule};
 use fence_place::accepted_proposal;
-use program_streams::Progress;
 use std::alloc::{AllocError, Global};
 use std::sync::Wait;
 use std::thread::Threads;
@@ -36,17 +35,11 @@ pub(crate) fn certificate_of<R: Threads + Wait + Sync>(
     ensures fault { IfErr result (HasNoPlacement effort.workers) }
 {
     judge_workers(effort.workers)?;
-    let certificate = match proposed(rt, alloc, problem, effort)? {
-        Some(certificate) => certificate,
-        None => placement_of(rt, alloc, problem, effort)?,
-    };
-    report_verdict(
-        alloc,
-        &problem.litmus,
-        &certificate.seq_runs,
-        effort.progress,
-    );
-    Ok(certificate)
+    warn_of_minutes(alloc, &problem.litmus.program, effort.progress);
+    match proposed(rt, alloc, problem, effort)? {
+        Some(certificate) => Ok(certificate),
+        None => placement_of(rt, alloc, problem, effort),
+    }
 }
 
 /// Refuses a number of workers that can't be.
@@ -81,11 +74,13 @@ fn proposed<R: Threads + Sync>(
     };
     let progress = match rule {
         Rule::Whole => report_ahead(alloc, program, effort.progress),
-        Rule::Early => effort.progress.of_search(false),
+        Rule::Early => effort.progress,
     };
+    let watch = SearchWatch::new(alloc, progress);
     let plan = SearchPlan {
         rule,
         workers: effort.workers,
+        watch: &watch,
     };
     let first = propose(rt, alloc, plan, program, shown, costs)?;
     let found = match (first, effort.trees) {
@@ -101,6 +96,7 @@ fn proposed<R: Threads + Sync>(
     let Some(text) = found else {
         return Ok(None);
     };
+    watch.judge();
     let found = accepted_proposal(alloc, program, shown, costs, &text)?;
     if let Some(certificate) = &found {
         report_outcomes(alloc, progress, certificate.seq_runs.len());

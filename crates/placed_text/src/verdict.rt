@@ -1,57 +1,83 @@
-//! Whether a condition fails on the sequential machine, reported to people. No clause rests on it.
+//! Whether sequential runs decide a condition: no fence changes that.
 
-use cert_forest::Runs;
+ghost use Rattle.std.specs.Prelude.{◌≡◌, ◌↔◌, false, true, Contains, IfOk, IsTrue, List};
+ghost use Rattle.tso_machine.specs.declared.label.Label.{Label as SpelledLabel};
+ghost use Rattle.placed_text.specs.Verdicts.{deciding_truth, verdict_kind, Decides, SomeDecides, IsVerdictIn};
+ghost use Rattle.fence_place.specs.Placements.{IsPlacement};
+ghost use Rattle.placed_text.specs.Problems.{question_in};
+
+use crate::problem::Problem;
+use cert_forest::{Certificate, Runs};
+use documents::{Note, NoteKind};
 use gap_sets::GapSet;
 use litmus_text::{Litmus, Quantifier, holds, push_condition};
-use program_streams::Progress;
 use std::alloc::{AllocError, Global};
 use tso_machine::{Label, Model, replay};
 use tso_program::Program;
 
-/// Reports by the quantifier that the condition fails without store buffers too, if one of these sequential runs breaks it:
-/// no fence mends it then. That is reported where no progress is, too.
-pub(crate) fn report_verdict(
-    alloc: Global,
-    litmus: &Litmus<Program>,
-    runs: &Runs,
-    progress: Progress,
-) {
-    let Some(breaking) = breaking_truth(litmus.condition.quantifier) else {
-        return;
-    };
-    for number in 0..runs.len() {
-        if let Some(labels) = runs.get(number) {
-            if truth_after(alloc, litmus, labels) == Some(breaking) {
-                progress.asked(true).report(failure_line(alloc, litmus));
-                return;
-            }
-        }
-    }
-}
-
-/// The truth of a formula in one run by which its condition fails. None has it where one run is enough for the condition.
-fn breaking_truth(quantifier: Quantifier) -> Option<bool> {
+/// The truth of the formula by which one run decides a condition: `exists` and `~exists` by a run that meets the formula,
+/// `forall` by one that does not.
+fn deciding_truth(quantifier: Quantifier) -> bool
+    ensures { result ≡ deciding_truth quantifier }
+{
     match quantifier {
-        Quantifier::Exists => None,
-        Quantifier::NotExists => Some(true),
-        Quantifier::Forall => Some(false),
+        Quantifier::Exists => true,
+        Quantifier::NotExists => true,
+        Quantifier::Forall => false,
     }
 }
 
-/// The truth of the condition's formula after a sequential run. `None` where there is no memory to tell.
-fn truth_after(alloc: Global, litmus: &Litmus<Program>, labels: &[Label]) -> Option<bool> {
+/// Whether labels are a sequential run that decides the condition. They are those of some sequential run.
+fn decides(alloc: Global, litmus: &Litmus<Program>, labels: &[Label]) -> Result<bool, AllocError>
+    ensures { IfOk result (λ decides. IsTrue decides ↔ Decides litmus.now labels.now) }
+{
+    let deciding = deciding_truth(litmus.condition.quantifier);
     let unfenced = GapSet::empty();
     match replay(alloc, &litmus.program, &unfenced, Model::Sequential, labels) {
-        Ok(ended) => Some(holds(&litmus.condition, &ended.outcome)),
-        Err(_) => None,
+        Ok(ended) => Ok(holds(&litmus.condition, &ended.outcome) == deciding),
+        Err(_) => Err(AllocError),
     }
 }
 
-/// What is said before the formula, and after it: what must not happen happens, or what must always hold fails.
+/// Whether one of these sequential runs decides the condition.
+fn some_decides(alloc: Global, litmus: &Litmus<Program>, runs: &Runs) -> Result<bool, AllocError>
+    ensures some { IfOk result (λ some. some ≡ true → SomeDecides litmus.now) }
+    ensures none { IfOk result (λ some. some ≡ false → (labels : List SpelledLabel) → Contains runs.now labels → Decides litmus.now labels → ⊥) }
+{
+    for labels in runs.iter() {
+        if decides(alloc, litmus, labels)? {
+            return Ok(true);
+        }
+    }
+    Ok(false)
+}
+
+/// What a note says of sequential runs that decide a condition: that no fence mends it, where it fails by them.
+fn verdict_kind(quantifier: Quantifier) -> NoteKind
+    ensures { result ≡ verdict_kind quantifier }
+{
+    match quantifier {
+        Quantifier::Exists => NoteKind::HappensSequentially,
+        Quantifier::NotExists => NoteKind::NoFenceMends,
+        Quantifier::Forall => NoteKind::NoFenceMends,
+    }
+}
+
+/// What is said before the formula, and after it.
 fn wording(quantifier: Quantifier) -> (&'static [u8], &'static [u8]) {
     match quantifier {
-        Quantifier::NotExists => (b"fencer: what must not happen", b" happens"),
-        Quantifier::Exists | Quantifier::Forall => (b"fencer: what must always hold", b" fails"),
+        Quantifier::Exists => (
+            b"what the condition asks about",
+            b" happens without store buffers too",
+        ),
+        Quantifier::NotExists => (
+            b"what must not happen",
+            b" happens without store buffers too: no fence mends it",
+        ),
+        Quantifier::Forall => (
+            b"what must always hold",
+            b" fails without store buffers too: no fence mends it",
+        ),
     }
 }
 
@@ -68,13 +94,43 @@ fn formula_of(condition: &[u8]) -> &[u8] {
     rest
 }
 
-fn failure_line(alloc: Global, litmus: &Litmus<Program>) -> Result<Vec<u8>, AllocError> {
+/// What is said of sequential runs that decide the condition.
+fn verdict_sentence(alloc: Global, litmus: &Litmus<Program>) -> Result<Vec<u8>, AllocError> {
     let mut text = Vec::new(alloc);
     push_condition(alloc, &mut text, &litmus.names, &litmus.condition)?;
     let (subject, verb) = wording(litmus.condition.quantifier);
-    let mut line = Vec::from_slice(alloc, subject)?;
-    line.extend_from_slice(formula_of(&text))?;
-    line.extend_from_slice(verb)?;
-    line.extend_from_slice(b" without store buffers too: no fence mends it\n")?;
-    Ok(line)
+    let mut sentence = Vec::from_slice(alloc, subject)?;
+    sentence.extend_from_slice(formula_of(&text))?;
+    sentence.extend_from_slice(verb)?;
+    Ok(sentence)
+}
+
+/// That sequential runs decide the condition.
+fn verdict_note(alloc: Global, litmus: &Litmus<Program>) -> Result<Note, AllocError>
+    ensures { IfOk result (λ note. note.kind ≡ verdict_kind litmus.now.condition.quantifier) }
+{
+    let message = verdict_sentence(alloc, litmus)?;
+    Ok(Note {
+        kind: verdict_kind(litmus.condition.quantifier),
+        line: None,
+        column: None,
+        word: Vec::new(alloc),
+        message,
+    })
+}
+
+/// That some sequential run decides the condition of a problem, if one does, by the runs of the certificate of its answer.
+pub(crate) fn verdict_of(
+    alloc: Global,
+    problem: &Problem,
+    certificate: &Certificate,
+) -> Result<Option<Note>, AllocError>
+    requires { IsPlacement (question_in problem.now) problem.now.costs.costs certificate.now }
+    ensures { IfOk result (IsVerdictIn problem.now) }
+{
+    if some_decides(alloc, &problem.litmus, &certificate.seq_runs)? {
+        Ok(Some(verdict_note(alloc, &problem.litmus)?))
+    } else {
+        Ok(None)
+    }
 }

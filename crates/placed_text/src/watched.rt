@@ -2,9 +2,10 @@
 ghost use Rattle.std.specs.Prelude.{false};
 
 use cert_forest::Rule;
+use certificate_proposals::SearchWatch;
 use cover_solver::{Oracle, SolveFault, Solver, Verdict};
 use gap_sets::{Costs, GapSet};
-use program_streams::Progress;
+use program_streams::{Progress, grouped};
 use std::alloc::{AllocError, Global};
 use std::sync::atomic::{AtomicU64, Ordering};
 
@@ -27,15 +28,16 @@ pub(crate) struct Watched<'a> {
     pub(crate) effort: Effort,
     /// How many sets were asked about.
     pub(crate) asked: AtomicU64,
+    pub(crate) watch: SearchWatch,
 }
 
 impl Watched<'_> {
-    /// Reports that a set is asked about, if so many sets were asked about that their number is a power of two. One worker
-    /// asks about the sets in ascending order of their costs.
+    /// Reports that a set is asked about, if so many sets were asked about that their number is a power of two, or if a line is
+    /// due. One worker asks about the sets in ascending order of their costs.
     fn report(&self, set: &GapSet) {
         let before = self.asked.fetch_add(1, Ordering::SeqCst);
         let asked = before.wrapping_add(1);
-        if asked & before == 0 {
+        if asked & before == 0 || self.watch.is_due() {
             let cost = self.costs.total(set);
             self.effort
                 .progress
@@ -61,7 +63,9 @@ impl Oracle for Watched<'_> {
 
 /// That so many sets were asked about, the last of them of this cost.
 fn asked_line(alloc: Global, asked: u64, cost: u64, workers: u8) -> Result<Vec<u8>, AllocError> {
+    let asked = grouped(alloc, asked)?;
     let line = if workers == 1 {
+        let cost = grouped(alloc, cost)?;
         format!(in alloc; "fencer: sets asked: {asked}; the answer costs at least {cost}\n")?
     } else {
         format!(in alloc; "fencer: sets asked: {asked}\n")?
@@ -77,5 +81,6 @@ pub(crate) fn report_outcomes(alloc: Global, progress: Progress, count: usize) {
 }
 
 fn outcomes_line(alloc: Global, count: usize) -> Result<Vec<u8>, AllocError> {
+    let count = grouped(alloc, count as u64)?;
     Ok(format!(in alloc; "fencer: sequential outcomes: {count}\n")?.into_bytes())
 }

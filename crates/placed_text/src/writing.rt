@@ -3,18 +3,22 @@ ghost use Rattle.std.specs.Prelude.{◌≡◌, ◌≤◌, None, IfErr, IfOk, OnO
 ghost use Rattle.tso_program.specs.Fences.{first_missing};
 ghost use Rattle.tso_program.specs.Listings.{gap_count};
 ghost use Rattle.fence_place.specs.Faults.{AreTooFewOrMany};
+ghost use Rattle.fence_place.specs.Placements.{IsPlacement};
 ghost use Rattle.placed_text.specs.PlacedTexts.{AreTextsOf, ArePlacedTextsOf, IsAnswerText, IsPlacedText};
-ghost use Rattle.placed_text.specs.Problems.{OfItsPlacement};
+ghost use Rattle.placed_text.specs.Problems.{OfItsPlacement, question_in};
 ghost use Rattle.placed_text.specs.TextFaults.{HasNoPlacedText, HasNoPlacement};
+ghost use Rattle.placed_text.specs.Verdicts.{IsVerdictIn};
 
 use crate::TextFault;
 use crate::problem::{Problem, read_problem};
 use crate::proposed::certificate_of;
+use crate::verdict::verdict_of;
 use crate::watched::Effort;
 use cert_forest::Certificate;
 use cert_pages::write_pages;
-use documents::{LinedLitmus, placed_document};
+use documents::{LinedLitmus, Note, placed_document};
 use gap_sets::GapSet;
+use json_text::JsonObject;
 use litmus_text::write_litmus;
 use paged_text::Pages;
 use report::answer_line;
@@ -31,9 +35,11 @@ pub struct AnswerText {
     /// The line of the answer.
     pub answer: Vec<u8>,
     /// What is said of the answer, as JSON.
-    pub document: Vec<u8>,
+    pub document: JsonObject,
     /// The gaps of the answer.
     pub gaps: GapSet,
+    /// That some sequential run decides the condition, if one does.
+    pub verdict: Option<Note>,
 }
 
 /// The texts of an answer, and the text of its certificate.
@@ -43,14 +49,16 @@ pub struct PlacedText {
     pub certificate: Pages,
 }
 
-/// Writes the texts of a problem's answer: these gaps, at this cost.
+/// Writes the texts of a problem's answer: these gaps, at this cost, with this verdict.
 fn write_answer(
     alloc: Global,
     problem: &Problem,
     gaps: &GapSet,
     cost: u64,
+    verdict: Option<Note>,
 ) -> Result<AnswerText, AllocError>
-    requires { first_missing problem.now.litmus.program gaps.now ≡ None }
+    requires there { first_missing problem.now.litmus.program gaps.now ≡ None }
+    requires verdict { IsVerdictIn problem.now verdict }
     ensures { IfOk result (AreTextsOf problem.now gaps.now cost) }
 {
     let Problem {
@@ -71,6 +79,7 @@ fn write_answer(
         answer: answer_line(alloc, &litmus.program, shown, *gaps, cost)?,
         document,
         gaps: *gaps,
+        verdict,
     })
 }
 
@@ -82,14 +91,16 @@ fn write_placed<R: Threads + Sync>(
     problem: &Problem,
     certificate: Certificate,
 ) -> Result<PlacedText, AllocError>
-    requires { first_missing problem.now.litmus.program certificate.gaps ≡ None }
+    requires there { first_missing problem.now.litmus.program certificate.gaps ≡ None }
+    requires placement { IsPlacement (question_in problem.now) problem.now.costs.costs certificate }
     ensures { IfOk result (ArePlacedTextsOf problem.now certificate) }
 {
+    let verdict = verdict_of(alloc, problem, &certificate)?;
     let gaps = certificate.set;
     let cost = certificate.cost;
     let threads = usize::from(workers.max(1));
     let certificate = write_pages(rt, alloc, threads, certificate)?;
-    let texts = write_answer(alloc, problem, &gaps, cost)?;
+    let texts = write_answer(alloc, problem, &gaps, cost, verdict)?;
     Ok(PlacedText { texts, certificate })
 }
 
@@ -121,10 +132,11 @@ fn answer_of<R: Threads + Wait + Sync>(
     ensures fault { IfErr result (HasNoPlacement effort.workers) }
 {
     let certificate = certificate_of(rt, alloc, problem, effort)?;
+    let verdict = verdict_of(alloc, problem, &certificate)?;
     let gaps = gaps_of(&certificate);
     let cost = cost_of(&certificate);
     drop(certificate);
-    Ok(write_answer(alloc, problem, &gaps, cost)?)
+    Ok(write_answer(alloc, problem, &gaps, cost, verdict)?)
 }
 
 /// Places fences in the program of a problem, and writes the texts of the answer and of its certificate.

@@ -12,6 +12,7 @@ mod command_line;
 mod console;
 mod fault;
 mod files;
+mod groups;
 mod output;
 mod progress;
 mod streams;
@@ -24,6 +25,7 @@ pub use fault::{FileFault, UnreadFile, file_line};
 pub use files::{
     FileStore, Obstacle, SystemFiles, TEXT_LIMIT, WritableFileStore, bytes_if_named, named_bytes,
 };
+pub use groups::grouped;
 pub use output::{print, refuse_words};
 pub use progress::Progress;
 pub use streams::{read_line_up_to, read_on, read_rest_up_to, read_up_to, write_bytes};

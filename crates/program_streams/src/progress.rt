@@ -3,6 +3,10 @@
 use crate::streams::write_bytes;
 use std::alloc::AllocError;
 use std::io::{IsTerminal, Stderr};
+use std::time::Instant;
+
+/// From so many milliseconds on a search is long.
+const LONG_MILLIS: u64 = 1_000;
 
 /// Which searches are reported on.
 #[derive(Clone, Copy)]
@@ -12,11 +16,20 @@ enum Reported {
     EachSearch,
 }
 
+/// The system's clock, with a time that it has read.
+#[derive(Clone, Copy)]
+struct Timer {
+    clock: HostRuntime,
+    start: Instant,
+}
+
 /// Where it is reported how far a search is: on standard error, or nowhere. No answer depends on it.
 #[derive(Clone, Copy)]
 pub struct Progress {
     messages: Option<Stderr>,
     reported: Reported,
+    /// Since when time is counted.
+    timer: Option<Timer>,
 }
 
 impl Progress {
@@ -25,19 +38,25 @@ impl Progress {
         Progress {
             messages: None,
             reported: Reported::Nothing,
+            timer: None,
         }
     }
 
-    /// On standard error, for long searches, where that is a terminal.
-    pub fn on(messages: Stderr) -> Progress {
+    /// On standard error, for long searches, where that is a terminal. Time is counted from here on.
+    pub fn on(messages: Stderr, clock: HostRuntime) -> Progress {
         let reported = if messages.is_terminal() {
             Reported::LongSearches
         } else {
             Reported::Nothing
         };
+        let timer = match Instant::now(&clock) {
+            Ok(start) => Some(Timer { clock, start }),
+            Err(_) => None,
+        };
         Progress {
             messages: Some(messages),
             reported,
+            timer,
         }
     }
 
@@ -50,24 +69,34 @@ impl Progress {
         progress
     }
 
-    /// In this place, for one search: each line of it is reported, or none.
-    pub fn of_search(self, is_long: bool) -> Progress {
-        let mut progress = self;
-        progress.reported = match self.reported {
-            Reported::EachSearch => Reported::EachSearch,
-            Reported::LongSearches if is_long => Reported::EachSearch,
-            _ => Reported::Nothing,
-        };
-        progress
-    }
-
     /// Whether anything is reported.
     pub fn is_shown(self) -> bool {
         self.messages.is_some() && self.reported != Reported::Nothing
     }
 
-    /// Writes a line, and ignores where that fails. A line that could not be made is left out.
+    /// How many milliseconds have passed, where the clock can be read.
+    pub fn millis(self) -> Option<u64> {
+        let Timer { clock, start } = self.timer?;
+        match start.elapsed(&clock) {
+            Ok(time) => u64::try_from(time.as_millis()).ok(),
+            Err(_) => None,
+        }
+    }
+
+    /// Writes a line of a search: where long ones alone are reported on, once a second has passed.
     pub fn report(self, line: Result<Vec<u8>, AllocError>) {
+        let is_early = match self.reported {
+            Reported::LongSearches => self.millis().unwrap_or(0) < LONG_MILLIS,
+            Reported::Nothing | Reported::EachSearch => false,
+        };
+        if !is_early {
+            self.warn(line);
+        }
+    }
+
+    /// Writes a line at once, where anything is reported, and ignores where that fails. A line that could not be made is
+    /// left out.
+    pub fn warn(self, line: Result<Vec<u8>, AllocError>) {
         if !self.is_shown() {
             return;
         }

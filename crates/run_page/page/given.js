@@ -69,16 +69,22 @@ const fencedGaps = () => given.answer ? given.answer.set : given.fences ?? [];
 
 const instructionText = (thread, number) => given.threads[thread].instructions[number].text;
 
-// The instruction that a gap lies before, with its thread, the gap, the instruction's line as the page numbers it, and
-// what else is said of the gap.
+// The instruction that a gap lies before, with its thread, the gap, the line of the file in which the instruction stands,
+// and what else is said of the gap.
 function placeOf(gap, more = "") {
   const [thread, number] = gapPlace(gap);
-  return [code(instructionText(thread, number)), ` of ${threadName(thread)} (gap ${gap}, line ${number}${more})`];
+  const { text, line } = given.threads[thread].instructions[number];
+  return [code(text), ` of ${threadName(thread)} (gap ${gap}, line ${line}${more})`];
 }
 
 // The quantifier of the file's condition, and its formula without the parentheses around it.
 const quantifier = () => given.condition.split(" ")[0];
 const formulaText = () => given.condition.slice(quantifier().length).trim().slice(1, -1);
+
+// What is said beside the answer, and whether a note of this kind is.
+const notes = given.notes ?? [];
+
+const hasNote = kind => notes.some(note => note.kind === kind);
 
 const outcomeText = run => run.outcome.map(({ name, value }) => `${name}=${value};`).join(" ");
 

@@ -32,6 +32,15 @@ function answerWords(gaps) {
   return ["A cheapest set of fences: ", fences, ...places, `. ${cost}; no cheaper set is enough.`];
 }
 
+// How many fences, or with ties how many lines, the answer has: each has a run.
+function countWords(gaps) {
+  const some = given.runs.length;
+  if (given.ties) {
+    return `${some === 1 ? "one fenced line" : `${some} fenced lines`} (${gaps.length} MFENCEs)`;
+  }
+  return some === 1 ? "a fence" : `${some} fences`;
+}
+
 // What a page is about, folded where it has a run to show.
 const about = (isOpen, ...says) => html("details", { class: "about soft", open: isOpen },
   html("summary", {}, "What this is about, and how to read it"), says);
@@ -39,10 +48,11 @@ const about = (isOpen, ...says) => html("details", { class: "about soft", open: 
 const howToRead = [
   "Next, the Left and Right keys and the slider step through the run; Space plays it. An arrow shows what a step moves; what ",
   "it changes is outlined, with the former value struck out. Executed instructions are grey, those that were jumped over are ",
-  "struck out. Lines are numbered from 0 in each thread, so that gap 0:7 lies before line 7 of P0; ",
+  "struck out. Instructions are numbered from 0 in each thread, so that gap 0:7 lies before instruction 7 of P0. A line is ",
+  "one of your file; ",
 ];
 
-const gapsCommand = [command("fencer gaps LITMUS"), " names the lines of the file."];
+const gapsCommand = [command("fencer gaps LITMUS"), " lists all gaps with their lines."];
 
 // The program alone, with its condition.
 const programBox = () =>
@@ -50,9 +60,12 @@ const programBox = () =>
     html("p", { class: "note" }, "The file's condition: ", code(given.condition)));
 
 function showNoFence() {
-  document.title = `${given.test} needs no fence`;
+  const heading = hasNote("no_fence_mends") ? `${given.test} is wrong without store buffers too: no fence mends it`
+    : `${given.test} needs no fence`;
+  document.title = heading;
   main.replaceChildren(
-    html("h1", {}, `${given.test} needs no fence`),
+    html("h1", {}, heading),
+    noteBox(),
     html("p", { class: "lead" }, `Every outcome is sequential${comparedWords()}: store buffers show nothing here that `
       + "would not happen if each instruction took effect at once."),
     about(true, html("p", {}, introduction)),
@@ -63,8 +76,9 @@ function showAnswer(gaps) {
   const isOne = gaps.length === 1;
   document.title = `${given.test}: why ${isOne ? "a fence is" : "fences are"} needed`;
   main.replaceChildren(html("header", {},
-    html("h1", {}, `Why ${given.test} needs ${isOne ? "a fence" : gaps.length + " fences"}`),
+    html("h1", {}, `Why ${given.test} needs ${countWords(gaps)}`),
     html("p", { class: "lead" }, answerWords(gaps)),
+    noteBox(),
     about(false,
       html("p", {}, introduction, " In a sequential run there are no store buffers: each instruction ",
         `takes effect at once. With ${isOne ? "this fence" : "these fences"} the program has exactly the outcomes of its `,
@@ -126,6 +140,7 @@ function showOneRun(heading, lead) {
   main.replaceChildren(html("header", {},
     html("h1", {}, heading),
     html("p", { class: "lead" }, lead),
+    noteBox(),
     about(false, given.run.model === "buffered" ? html("p", {}, introduction) : "", html("p", {}, howToRead, gapsCommand))),
     player.body);
   player.start(address()[1]);
@@ -148,12 +163,10 @@ function machineWords() {
 // What a run of `fencer witness` says of what the file's condition is about, or that there is no such run.
 function soughtHeading() {
   const { test, meets_condition: meets, run } = given;
-  const isSo = run === null ? !meets : meets;
-  const often = run === null ? isSo ? "always " : "never " : "";
-  const runs = run !== null ? `a run of ${test}` : isSo ? `each run of ${test}` : `no run of ${test}`;
-  const verb = quantifier() === "forall" ? "holds" : "happens";
-  const says = run === null || isSo ? `${often}${verb}` : happens(false);
-  return `${subject()} ${says}: ${runs} ${run !== null && !isSo ? "does not leave" : "leaves"} ${formulaText()}`;
+  if (run !== null) {
+    return `${subjectText()} ${happens(meets)} in a run of ${test}`;
+  }
+  return meets ? `${subjectText()} never ${happens(true)} in ${test}` : `${subjectText()} ${happens(true)} in every run of ${test}`;
 }
 
 // Whether the file's condition holds of the machine, where one run, or that there is none, decides that.
@@ -175,6 +188,7 @@ function showWitness() {
   document.title = heading;
   main.replaceChildren(
     html("h1", {}, heading),
+    noteBox(),
     html("p", { class: "lead" }, says, ...machineWords(), " leaves ", code(formulaText()), ".", ...soughtVerdict()),
     about(true, given.model === "buffered" ? html("p", {}, introduction) : ""),
     programBox());

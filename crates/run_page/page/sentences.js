@@ -156,17 +156,40 @@ function localWords(run, i) {
   return [text.startsWith("J") ? ", and goes on with the next instruction." : "."];
 }
 
-// What the file's condition is about, as its quantifier says.
-const subject = () => ({ "~exists": "What must not happen", exists: "What the file asks about", forall: "What must always hold" })[quantifier()];
+// What the file's condition is about, as its quantifier says: its formula, which must not happen with `~exists`. As words
+// of a sentence, and as a text.
+const subject = () => quantifier() === "~exists" ? ["What must not happen (", code(formulaText()), ")"] : [code(formulaText())];
+
+const subjectText = () => quantifier() === "~exists" ? `What must not happen (${formulaText()})` : formulaText();
 
 // Whether that is so in a run, by whether the run meets the formula.
 function happens(meets) {
-  const verb = quantifier() === "forall" ? ["holds", "does not hold"] : ["happens", "does not happen"];
+  const verb = quantifier() === "forall" ? ["holds", "fails"] : ["happens", "does not happen"];
   return verb[meets ? 0 : 1];
 }
 
-// A condition that names a part of what is compared may be met sequentially too, with other final values.
-const elsewhere = () => [". The command ", command("fencer outcomes --model sequential"), " says whether a sequential run does so too."];
+// What is said beside the answer: of the condition by its formula, of a slip by its line.
+function noteWords({ kind, line, message }) {
+  if (kind === "no_fence_mends" || kind === "happens_sequentially") {
+    const end = kind === "no_fence_mends" ? ": no fence mends it." : ".";
+    return [...subject(), ` ${happens(quantifier() !== "forall")} without store buffers too${end}`];
+  }
+  const sentence = line === null ? message[0].toUpperCase() + message.slice(1) : `Line ${line}: ${message}`;
+  return [sentence.endsWith("?") ? sentence : sentence + "."];
+}
+
+// Which command shows a sequential run that breaks the condition.
+const sequentialCommand = () =>
+  [" ", command(`fencer witness --model sequential ${quantifier() === "forall" ? "--not " : ""}LITMUS`), " shows such a run."];
+
+// A paragraph for each note.
+const noteBox = () => notes.length === 0 ? "" : html("div", { class: "notes", role: "note" },
+  notes.map(note => note.kind === "no_fence_mends"
+    ? html("p", { class: "verdict" }, noteWords(note), sequentialCommand()) : html("p", {}, noteWords(note))));
+
+// A condition that names a part of what is compared may be decided sequentially too, with other final values.
+const elsewhere = () => hasNote("no_fence_mends") || hasNote("happens_sequentially")
+  ? [", and in a sequential run too, which ends otherwise."] : [", and in no sequential run."];
 
 // A run that keeps the condition shows no need of its fence for the condition alone.
 const fewer = () => ["; but registers or memory end as they sequentially cannot. For the condition alone fewer fences may be ",
@@ -175,22 +198,22 @@ const fewer = () => ["; but registers or memory end as they sequentially cannot.
 // Whether the run's outcome is what the file's condition is about.
 function conditionWords(run) {
   const isDecided = run.meets_condition === (quantifier() !== "forall");
-  return [`${subject()} (`, code(formulaText()), `) ${happens(run.meets_condition)} in this run`, ...isDecided ? elsewhere() : fewer()];
+  return [...subject(), ` ${happens(run.meets_condition)} in this run`, ...isDecided ? elsewhere() : fewer()];
 }
 
 // Whether what the condition is about is so in the run, as in no sequential run.
 function aloneWords(run) {
-  const others = run.meets_condition ? "no sequential run: " : `this run alone: it ${happens(true)} in each sequential run: `;
-  return ` ${subject()} ${happens(run.meets_condition)} in ${run.meets_condition ? "this run, and in " : ""}${others}`;
+  const others = run.meets_condition ? ", and in no sequential run." : `; it ${happens(true)} in each sequential run.`;
+  return [" ", ...subject(), ` ${happens(run.meets_condition)} in this run${others}`];
 }
 
 // How the run ends. That no sequential run has the outcome is said by `fencer why`, not by `fencer trace`.
 function verdictWords(run) {
   if (run.gap === null) {
-    return [code(outcomeText(run.run)), ` ${subject()} (`, code(formulaText()), `) ${happens(run.run.meets_condition)} in this run.`];
+    return [code(outcomeText(run.run)), " ", ...subject(), ` ${happens(run.run.meets_condition)} in this run.`];
   }
   if (given.answer.condition) {
-    return [code(outcomeText(run.run)), html("span", { class: "verdict" }, aloneWords(run.run)), code(formulaText()), "."];
+    return [code(outcomeText(run.run)), html("span", { class: "verdict" }, aloneWords(run.run))];
   }
   return [code(outcomeText(run.run)), html("span", { class: "verdict" }, " No sequential run has this outcome. ")];
 }

@@ -60,6 +60,7 @@ p { margin: 0 0 0.6rem; max-width: 95ch; }\n\
 .about { margin: 0 0 0.5rem; }\n\
 .about p { margin: 0.3rem 0 0; }\n\
 summary { cursor: pointer; width: fit-content; }\n\
+.notes p { margin: 0 0 0.3rem; max-width: none; }\n\
 .soft { color: var(--soft); }\n\
 .note { margin: 0.6rem 0 0; font-size: 0.9rem; }\n\
 .choice { display: flex; flex-wrap: wrap; gap: 0.3rem 0.6rem; align-items: center; margin: 0 0 0.6rem; }\n\
@@ -143,8 +144,9 @@ button[aria-disabled=true] { color: var(--soft); cursor: default; border-style: 
 \x20 .framed { height: 100vh; display: flex; flex-direction: column; padding-bottom: 0.8rem; }\n\
 \x20 .framed header { display: grid; grid-template-columns: minmax(0, 1fr) auto; column-gap: 1rem; align-items: baseline; }\n\
 \x20 .framed .lead { grid-area: 2 / 1 / auto / span 2; }\n\
+\x20 .framed .notes { grid-area: 3 / 1 / auto / span 2; }\n\
 \x20 .framed .about { grid-area: 1 / 2; margin: 0; }\n\
-\x20 .framed .about[open] { grid-area: 3 / 1 / auto / span 2; margin: 0 0 0.5rem; columns: 2; column-gap: 2rem; }\n\
+\x20 .framed .about[open] { grid-area: 4 / 1 / auto / span 2; margin: 0 0 0.5rem; columns: 2; column-gap: 2rem; }\n\
 \x20 .framed .about summary { column-span: all; }\n\
 \x20 .framed .about p { break-inside: avoid; }\n\
 \x20 .framed [role=tabpanel] { display: flex; flex-direction: column; }\n\
@@ -463,16 +465,22 @@ const fencedGaps = () => given.answer ? given.answer.set : given.fences ?? [];\n
 \n\
 const instructionText = (thread, number) => given.threads[thread].instructions[number].text;\n\
 \n\
-// The instruction that a gap lies before, with its thread, the gap, the instruction's line as the page numbers it, and\n\
-// what else is said of the gap.\n\
+// The instruction that a gap lies before, with its thread, the gap, the line of the file in which the instruction stands,\n\
+// and what else is said of the gap.\n\
 function placeOf(gap, more = \"\") {\n\
 \x20 const [thread, number] = gapPlace(gap);\n\
-\x20 return [code(instructionText(thread, number)), ` of ${threadName(thread)} (gap ${gap}, line ${number}${more})`];\n\
+\x20 const { text, line } = given.threads[thread].instructions[number];\n\
+\x20 return [code(text), ` of ${threadName(thread)} (gap ${gap}, line ${line}${more})`];\n\
 }\n\
 \n\
 // The quantifier of the file's condition, and its formula without the parentheses around it.\n\
 const quantifier = () => given.condition.split(\" \")[0];\n\
 const formulaText = () => given.condition.slice(quantifier().length).trim().slice(1, -1);\n\
+\n\
+// What is said beside the answer, and whether a note of this kind is.\n\
+const notes = given.notes ?? [];\n\
+\n\
+const hasNote = kind => notes.some(note => note.kind === kind);\n\
 \n\
 const outcomeText = run => run.outcome.map(({ name, value }) => `${name}=${value};`).join(\" \");\n\
 \n\
@@ -863,17 +871,40 @@ function localWords(run, i) {\n\
 \x20 return [text.startsWith(\"J\") ? \", and goes on with the next instruction.\" : \".\"];\n\
 }\n\
 \n\
-// What the file's condition is about, as its quantifier says.\n\
-const subject = () => ({ \"~exists\": \"What must not happen\", exists: \"What the file asks about\", forall: \"What must always hold\" })[quantifier()];\n\
+// What the file's condition is about, as its quantifier says: its formula, which must not happen with `~exists`. As words\n\
+// of a sentence, and as a text.\n\
+const subject = () => quantifier() === \"~exists\" ? [\"What must not happen (\", code(formulaText()), \")\"] : [code(formulaText())];\n\
+\n\
+const subjectText = () => quantifier() === \"~exists\" ? `What must not happen (${formulaText()})` : formulaText();\n\
 \n\
 // Whether that is so in a run, by whether the run meets the formula.\n\
 function happens(meets) {\n\
-\x20 const verb = quantifier() === \"forall\" ? [\"holds\", \"does not hold\"] : [\"happens\", \"does not happen\"];\n\
+\x20 const verb = quantifier() === \"forall\" ? [\"holds\", \"fails\"] : [\"happens\", \"does not happen\"];\n\
 \x20 return verb[meets ? 0 : 1];\n\
 }\n\
 \n\
-// A condition that names a part of what is compared may be met sequentially too, with other final values.\n\
-const elsewhere = () => [\". The command \", command(\"fencer outcomes --model sequential\"), \" says whether a sequential run does so too.\"];\n\
+// What is said beside the answer: of the condition by its formula, of a slip by its line.\n\
+function noteWords({ kind, line, message }) {\n\
+\x20 if (kind === \"no_fence_mends\" || kind === \"happens_sequentially\") {\n\
+\x20   const end = kind === \"no_fence_mends\" ? \": no fence mends it.\" : \".\";\n\
+\x20   return [...subject(), ` ${happens(quantifier() !== \"forall\")} without store buffers too${end}`];\n\
+\x20 }\n\
+\x20 const sentence = line === null ? message[0].toUpperCase() + message.slice(1) : `Line ${line}: ${message}`;\n\
+\x20 return [sentence.endsWith(\"?\") ? sentence : sentence + \".\"];\n\
+}\n\
+\n\
+// Which command shows a sequential run that breaks the condition.\n\
+const sequentialCommand = () =>\n\
+\x20 [\" \", command(`fencer witness --model sequential ${quantifier() === \"forall\" ? \"--not \" : \"\"}LITMUS`), \" shows such a run.\"];\n\
+\n\
+// A paragraph for each note.\n\
+const noteBox = () => notes.length === 0 ? \"\" : html(\"div\", { class: \"notes\", role: \"note\" },\n\
+\x20 notes.map(note => note.kind === \"no_fence_mends\"\n\
+\x20   ? html(\"p\", { class: \"verdict\" }, noteWords(note), sequentialCommand()) : html(\"p\", {}, noteWords(note))));\n\
+\n\
+// A condition that names a part of what is compared may be decided sequentially too, with other final values.\n\
+const elsewhere = () => hasNote(\"no_fence_mends\") || hasNote(\"happens_sequentially\")\n\
+\x20 ? [\", and in a sequential run too, which ends otherwise.\"] : [\", and in no sequential run.\"];\n\
 \n\
 // A run that keeps the condition shows no need of its fence for the condition alone.\n\
 const fewer = () => [\"; but registers or memory end as they sequentially cannot. For the condition alone fewer fences may be \",\n\
@@ -882,22 +913,22 @@ const fewer = () => [\"; but registers or memory end as they sequentially cannot
 // Whether the run's outcome is what the file's condition is about.\n\
 function conditionWords(run) {\n\
 \x20 const isDecided = run.meets_condition === (quantifier() !== \"forall\");\n\
-\x20 return [`${subject()} (`, code(formulaText()), `) ${happens(run.meets_condition)} in this run`, ...isDecided ? elsewhere() : fewer()];\n\
+\x20 return [...subject(), ` ${happens(run.meets_condition)} in this run`, ...isDecided ? elsewhere() : fewer()];\n\
 }\n\
 \n\
 // Whether what the condition is about is so in the run, as in no sequential run.\n\
 function aloneWords(run) {\n\
-\x20 const others = run.meets_condition ? \"no sequential run: \" : `this run alone: it ${happens(true)} in each sequential run: `;\n\
-\x20 return ` ${subject()} ${happens(run.meets_condition)} in ${run.meets_condition ? \"this run, and in \" : \"\"}${others}`;\n\
+\x20 const others = run.meets_condition ? \", and in no sequential run.\" : `; it ${happens(true)} in each sequential run.`;\n\
+\x20 return [\" \", ...subject(), ` ${happens(run.meets_condition)} in this run${others}`];\n\
 }\n\
 \n\
 // How the run ends. That no sequential run has the outcome is said by `fencer why`, not by `fencer trace`.\n\
 function verdictWords(run) {\n\
 \x20 if (run.gap === null) {\n\
-\x20   return [code(outcomeText(run.run)), ` ${subject()} (`, code(formulaText()), `) ${happens(run.run.meets_condition)} in this run.`];\n\
+\x20   return [code(outcomeText(run.run)), \" \", ...subject(), ` ${happens(run.run.meets_condition)} in this run.`];\n\
 \x20 }\n\
 \x20 if (given.answer.condition) {\n\
-\x20   return [code(outcomeText(run.run)), html(\"span\", { class: \"verdict\" }, aloneWords(run.run)), code(formulaText()), \".\"];\n\
+\x20   return [code(outcomeText(run.run)), html(\"span\", { class: \"verdict\" }, aloneWords(run.run))];\n\
 \x20 }\n\
 \x20 return [code(outcomeText(run.run)), html(\"span\", { class: \"verdict\" }, \" No sequential run has this outcome. \")];\n\
 }\n\
@@ -1747,6 +1778,15 @@ function answerWords(gaps) {\n\
 \x20 return [\"A cheapest set of fences: \", fences, ...places, `. ${cost}; no cheaper set is enough.`];\n\
 }\n\
 \n\
+// How many fences, or with ties how many lines, the answer has: each has a run.\n\
+function countWords(gaps) {\n\
+\x20 const some = given.runs.length;\n\
+\x20 if (given.ties) {\n\
+\x20   return `${some === 1 ? \"one fenced line\" : `${some} fenced lines`} (${gaps.length} MFENCEs)`;\n\
+\x20 }\n\
+\x20 return some === 1 ? \"a fence\" : `${some} fences`;\n\
+}\n\
+\n\
 // What a page is about, folded where it has a run to show.\n\
 const about = (isOpen, ...says) => html(\"details\", { class: \"about soft\", open: isOpen },\n\
 \x20 html(\"summary\", {}, \"What this is about, and how to read it\"), says);\n\
@@ -1754,10 +1794,11 @@ const about = (isOpen, ...says) => html(\"details\", { class: \"about soft\", op
 const howToRead = [\n\
 \x20 \"Next, the Left and Right keys and the slider step through the run; Space plays it. An arrow shows what a step moves; what \",\n\
 \x20 \"it changes is outlined, with the former value struck out. Executed instructions are grey, those that were jumped over are \",\n\
-\x20 \"struck out. Lines are numbered from 0 in each thread, so that gap 0:7 lies before line 7 of P0; \",\n\
+\x20 \"struck out. Instructions are numbered from 0 in each thread, so that gap 0:7 lies before instruction 7 of P0. A line is \",\n\
+\x20 \"one of your file; \",\n\
 ];\n\
 \n\
-const gapsCommand = [command(\"fencer gaps LITMUS\"), \" names the lines of the file.\"];\n\
+const gapsCommand = [command(\"fencer gaps LITMUS\"), \" lists all gaps with their lines.\"];\n\
 \n\
 // The program alone, with its condition.\n\
 const programBox = () =>\n\
@@ -1765,9 +1806,12 @@ const programBox = () =>\n\
 \x20   html(\"p\", { class: \"note\" }, \"The file's condition: \", code(given.condition)));\n\
 \n\
 function showNoFence() {\n\
-\x20 document.title = `${given.test} needs no fence`;\n\
+\x20 const heading = hasNote(\"no_fence_mends\") ? `${given.test} is wrong without store buffers too: no fence mends it`\n\
+\x20   : `${given.test} needs no fence`;\n\
+\x20 document.title = heading;\n\
 \x20 main.replaceChildren(\n\
-\x20   html(\"h1\", {}, `${given.test} needs no fence`),\n\
+\x20   html(\"h1\", {}, heading),\n\
+\x20   noteBox(),\n\
 \x20   html(\"p\", { class: \"lead\" }, `Every outcome is sequential${comparedWords()}: store buffers show nothing here that `\n\
 \x20     + \"would not happen if each instruction took effect at once.\"),\n\
 \x20   about(true, html(\"p\", {}, introduction)),\n\
@@ -1778,8 +1822,9 @@ function showAnswer(gaps) {\n\
 \x20 const isOne = gaps.length === 1;\n\
 \x20 document.title = `${given.test}: why ${isOne ? \"a fence is\" : \"fences are\"} needed`;\n\
 \x20 main.replaceChildren(html(\"header\", {},\n\
-\x20   html(\"h1\", {}, `Why ${given.test} needs ${isOne ? \"a fence\" : gaps.length + \" fences\"}`),\n\
+\x20   html(\"h1\", {}, `Why ${given.test} needs ${countWords(gaps)}`),\n\
 \x20   html(\"p\", { class: \"lead\" }, answerWords(gaps)),\n\
+\x20   noteBox(),\n\
 \x20   about(false,\n\
 \x20     html(\"p\", {}, introduction, \" In a sequential run there are no store buffers: each instruction \",\n\
 \x20       `takes effect at once. With ${isOne ? \"this fence\" : \"these fences\"} the program has exactly the outcomes of its `,\n\
@@ -1841,6 +1886,7 @@ function showOneRun(heading, lead) {\n\
 \x20 main.replaceChildren(html(\"header\", {},\n\
 \x20   html(\"h1\", {}, heading),\n\
 \x20   html(\"p\", { class: \"lead\" }, lead),\n\
+\x20   noteBox(),\n\
 \x20   about(false, given.run.model === \"buffered\" ? html(\"p\", {}, introduction) : \"\", html(\"p\", {}, howToRead, gapsCommand))),\n\
 \x20   player.body);\n\
 \x20 player.start(address()[1]);\n\
@@ -1863,12 +1909,10 @@ function machineWords() {\n\
 // What a run of `fencer witness` says of what the file's condition is about, or that there is no such run.\n\
 function soughtHeading() {\n\
 \x20 const { test, meets_condition: meets, run } = given;\n\
-\x20 const isSo = run === null ? !meets : meets;\n\
-\x20 const often = run === null ? isSo ? \"always \" : \"never \" : \"\";\n\
-\x20 const runs = run !== null ? `a run of ${test}` : isSo ? `each run of ${test}` : `no run of ${test}`;\n\
-\x20 const verb = quantifier() === \"forall\" ? \"holds\" : \"happens\";\n\
-\x20 const says = run === null || isSo ? `${often}${verb}` : happens(false);\n\
-\x20 return `${subject()} ${says}: ${runs} ${run !== null && !isSo ? \"does not leave\" : \"leaves\"} ${formulaText()}`;\n\
+\x20 if (run !== null) {\n\
+\x20   return `${subjectText()} ${happens(meets)} in a run of ${test}`;\n\
+\x20 }\n\
+\x20 return meets ? `${subjectText()} never ${happens(true)} in ${test}` : `${subjectText()} ${happens(true)} in every run of ${test}`;\n\
 }\n\
 \n\
 // Whether the file's condition holds of the machine, where one run, or that there is none, decides that.\n\
@@ -1890,6 +1934,7 @@ function showWitness() {\n\
 \x20 document.title = heading;\n\
 \x20 main.replaceChildren(\n\
 \x20   html(\"h1\", {}, heading),\n\
+\x20   noteBox(),\n\
 \x20   html(\"p\", { class: \"lead\" }, says, ...machineWords(), \" leaves \", code(formulaText()), \".\", ...soughtVerdict()),\n\
 \x20   about(true, given.model === \"buffered\" ? html(\"p\", {}, introduction) : \"\"),\n\
 \x20   programBox());\n\

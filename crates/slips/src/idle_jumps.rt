@@ -1,6 +1,6 @@
 //! Jumps on a comparison that no CMP has made.
 
-use crate::slip::Remark;
+use crate::slip::{Remark, SlipKind};
 use litmus_syntax::{Cell, Code};
 
 /// What is said of the first JE or JNE of the rows that stands before any CMP of its thread. Jumps lead forward alone, so
@@ -22,8 +22,9 @@ fn idle_jump_of(rows: &[Vec<Cell<'_>>], thread: usize) -> Option<Remark> {
                 Some(Code::CmpImm(..) | Code::CmpReg(..)) => return None,
                 Some(code) => {
                     if let Some(said) = said_of_jump(code) {
+                        let kind = SlipKind::JumpBeforeCmp;
                         let left = cell.left;
-                        return Some(Remark { left, said });
+                        return Some(Remark { kind, left, said });
                     }
                 }
                 None => {}

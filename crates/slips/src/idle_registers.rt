@@ -1,6 +1,6 @@
 //! Registers that are compared, and that nothing of their thread writes.
 
-use crate::slip::Remark;
+use crate::slip::{Remark, SlipKind};
 use litmus_syntax::{Body, Cell, Code, Entry, Place};
 use tso_program::Reg;
 
@@ -38,9 +38,10 @@ fn idle_operand(body: &Body<'_>, thread: usize, cell: &Cell<'_>) -> Option<Remar
     } else {
         return None;
     };
+    let kind = SlipKind::UnwrittenRegister;
     let left = cell.left.saturating_sub(after);
     let said = "is compared, and nothing of its thread writes it: it holds 0";
-    Some(Remark { left, said })
+    Some(Remark { kind, left, said })
 }
 
 /// The registers that a CMP names.

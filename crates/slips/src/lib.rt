@@ -2,9 +2,9 @@
 //!
 //! A slip is no refusal: the text stands for a program, and is answered. What is said of it goes to standard error.
 //!
-//! Begin with `slip_message`. Free to change: what counts as a slip, which one is said first, and every word; its
-//! functions have no clauses, and `tests/data/messages.tsv` shows what is said. Relied on: nothing but that each call
-//! ends and is safe.
+//! Begin with `first_slip`. Free to change: what counts as a slip, which one is said first, and every word; but for
+//! `unwritten_locations.rt` its functions have no clauses, and the tests show what is said. Relied on: each call ends and is
+//! safe, and a location to which nothing gives a value is one (`loads_unwritten`).
 #![tactic(auto)]
 
 mod idle_jumps;
@@ -12,5 +12,6 @@ mod idle_names;
 mod idle_registers;
 mod near_names;
 mod slip;
+mod unwritten_locations;
 
-pub use slip::slip_message;
+pub use slip::{Slip, SlipKind, first_slip};

@@ -1,3 +1,5 @@
 -- what many proofs speak of
 mod Vocabulary
 pub mod Visited
+pub mod Executed
+pub mod Passing

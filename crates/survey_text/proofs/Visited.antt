@@ -1,5 +1,5 @@
 -- Instructions with their runs, one more.
-use Rattle.survey_text.proofs.Vocabulary.{◌≡◌, ◌∙◌, ◌+◌, ℕ, suc, zero, List, [], ◌∷◌, ◌++◌, Option, All, map, map-append, append_assoc, sym, subst, ap, arith, range_with_len, Listing, Label, IsAnswer, AreVisits, IsVisit, first_places, place_of, Visit}
+use Rattle.survey_text.proofs.Vocabulary.{◌≡◌, ◌∙◌, ◌+◌, ℕ, suc, zero, List, [], ◌∷◌, ◌++◌, Option, map, map-append, append_assoc, sym, subst, ap, arith, range_with_len, Listing, Label, IsAnswer, AreVisits, IsVisit, first_places, place_of, Visit}
 use Rattle.std.proofs.lemmas.List.Elements.{All-push}
 
 -- one of the next instruction

@@ -1,2 +1,4 @@
 pub mod Visits
+pub mod ExecutedRuns
+pub mod Internal
 pub mod Surveys

@@ -1,5 +1,5 @@
 -- What is found of a program, and its text.
-use Rattle.std.specs.Prelude.{◌≡◌, ◌==◌, ◌↔◌, ◌&&◌, ℕ, Bool, List, [], ◌∷◌, ◌++◌, Contains, None, codes, not, if◌then◌else◌}
+use Rattle.std.specs.Prelude.{◌≡◌, ◌↔◌, ℕ, Bool, List, [], ◌∷◌, ◌++◌, Contains, Option, codes, nat_lt, not, if◌then◌else◌}
 use Rattle.std.specs.Option.{option_map_or}
 use Rattle.std.specs.List.{flat_map}
 use Rattle.std.specs.Fmt.{decimal}
@@ -23,12 +23,17 @@ use Rattle.report.specs.Observations.{is_true_of, condition_line}
 use Rattle.gap_list.specs.declared.text_lines.TextLines.{TextLines}
 use Rattle.gap_list.specs.Lines.{line_at}
 use Rattle.gap_list.specs.Lists.{instruction_part}
+use Rattle.litmus_text.specs.GivenCosts.{AreGiven}
+use Rattle.litmus_text.specs.Shown.{shown_as}
+use Rattle.documents.specs.Notes.{IsLineOf}
+use Rattle.documents.specs.Surveys.{Found, IsSurveyDocument}
 use Rattle.placed_text.specs.declared.writing.AnswerText.{AnswerText}
 use Rattle.placed_text.specs.PlacedTexts.{IsAnswerText}
 use Rattle.survey_text.specs.declared.finding.SurveyText.{SurveyText}
 use Rattle.survey_text.specs.declared.survey.Survey.{Survey}
 use Rattle.survey_text.specs.declared.visit.Visit.{Visit}
-use Rattle.survey_text.specs.Visits.{AreVisits, instruction_places, unexecuted}
+use Rattle.survey_text.specs.ExecutedRuns.{AreExecutedRuns}
+use Rattle.survey_text.specs.Visits.{AreVisits, instruction_places, unexecuted, unexecuted_places}
 
 -- ---- what is found
 
@@ -38,14 +43,17 @@ pub record AreOutcomesOf (p : Listing) (machine : Machine) (outcomes : List Outc
   pub exact : (o : Outcome) → Contains outcomes o ↔ AllowsShown (asked p All) machine o
 
 -- of the program that the text spells: its outcomes in both machines with no gap fenced; each instruction, with a sequential run
--- that executes it unless none does; and both answers, where each gap costs 1
-pub record IsSurvey (text : List ℕ) (survey : Survey) : Type 0 where
+-- that executes it unless none does, and runs that together execute those which some run executes; and both answers, where the gaps
+-- cost what a text of costs says, 1 each without one
+pub record IsSurvey (text : List ℕ) (costs : Option (List ℕ)) (survey : Survey) : Type 0 where
   pub of_text : IsLitmus text survey.litmus
   pub sequential : AreOutcomesOf survey.litmus.program (machine_of_model survey.litmus.program set.empty Sequential) survey.sequential.items
   pub buffered : AreOutcomesOf survey.litmus.program (machine_of_model survey.litmus.program set.empty Buffered) survey.buffered.items
   pub visits : AreVisits survey.litmus.program (instruction_places survey.litmus.program.threads) survey.visits.items
-  pub condition : IsAnswerText text None Condition survey.condition
-  pub whole : IsAnswerText text None Whole survey.whole
+  pub runs : AreExecutedRuns survey.litmus.program survey.visits.items survey.runs.items
+  pub given : AreGiven survey.litmus.program costs survey.costs
+  pub condition : IsAnswerText text costs Condition survey.condition
+  pub whole : IsAnswerText text costs Whole survey.whole
 
 -- ---- its lines, by the lines of the text in which the instructions stand
 
@@ -77,10 +85,9 @@ survey_lines lines survey =
     ++ answer_lines survey.litmus lines survey.condition
     ++ answer_lines survey.litmus lines survey.whole
 
--- whether the condition fails sequentially, or an instruction is executed by no sequential run
-abbrev pub finds_fault : Survey → Bool
-finds_fault survey =
-    not (is_true_of survey.litmus.condition.quantifier survey.litmus.condition.formula survey.sequential.items && (unexecuted survey.visits.items == 0))
+-- whether the condition fails sequentially
+abbrev pub fails : Survey → Bool
+fails survey = not (is_true_of survey.litmus.condition.quantifier survey.litmus.condition.formula survey.sequential.items)
 
 -- whether the condition holds in a machine with these outcomes
 abbrev pub verdict : LitmusCondition → List Outcome → List ℕ
@@ -93,11 +100,33 @@ survey_row survey =
     verdict survey.litmus.condition survey.sequential.items ++ 32 ∷ verdict survey.litmus.condition survey.buffered.items
     ++ 32 ∷ decimal (unexecuted survey.visits.items) ++ 32 ∷ decimal (set.len survey.condition.gaps) ++ 32 ∷ decimal (set.len survey.whole.gaps)
 
--- What the text tells of the program that a litmus text spells. Of the lines of the litmus text that it names, nothing is said.
-pub record IsSurveyText (text : List ℕ) (told : SurveyText) : Type 0 where
+-- ---- its document
+
+-- the name of the file, both verdicts, what is executed and what is not, and both answers
+abbrev pub found_of : List ℕ → Survey → Found
+found_of name survey = record {
+  file = name;
+  sequential = is_true_of survey.litmus.condition.quantifier survey.litmus.condition.formula survey.sequential.items;
+  buffered = is_true_of survey.litmus.condition.quantifier survey.litmus.condition.formula survey.buffered.items;
+  unexecuted = unexecuted_places survey.visits.items;
+  runs = survey.runs.items;
+  costs = survey.costs;
+  condition = (shown_as survey.litmus Condition, survey.condition.gaps);
+  whole = (shown_as survey.litmus Whole, survey.whole.gaps);
+}
+
+-- the line of that document
+abbrev pub TellsDocument : List ℕ → Survey → List ℕ → Type 0
+TellsDocument name survey line = (document : List (List ℕ)) × IsSurveyDocument survey.litmus (found_of name survey) document × IsLineOf document [] line
+
+-- What the text tells of the program that a litmus text spells, which is of a file of this name, with the gaps' costs by a text of
+-- costs. Of the lines of the litmus text that it names, nothing is said.
+pub record IsSurveyText (name text : List ℕ) (costs : Option (List ℕ)) (told : SurveyText) : Type 0 where
   pub survey : Survey
-  pub is : IsSurvey text survey
+  pub is : IsSurvey text costs survey
   pub lines : TextLines
   pub printed : told.lines.items ≡ survey_lines lines survey
   pub row : told.row.items ≡ survey_row survey
-  pub fault : told.finds_fault ≡ finds_fault survey
+  pub document : TellsDocument name survey told.document.items
+  pub failing : told.fails ≡ fails survey
+  pub some_unexecuted : told.has_unexecuted ≡ nat_lt 0 (unexecuted survey.visits.items)

@@ -1,5 +1,5 @@
 -- Which instructions the sequential runs of a program execute, one by one.
-use Rattle.std.specs.Prelude.{◌≡◌, ℕ, List, All, is_none, length, map}
+use Rattle.std.specs.Prelude.{◌≡◌, ℕ, List, All, filter, is_none, length, map}
 use Rattle.std.specs.List.{count_by, flat_map, range_with_len}
 use Rattle.tso_program.specs.declared.listing.Listing.{Listing}
 use Rattle.tso_program.specs.declared.listing.Thread.{Thread}
@@ -28,6 +28,10 @@ IsVisit p visit = IsAnswer p visit.thread visit.instruction visit.run
 pub record AreVisits (p : Listing) (places : List (ℕ × ℕ)) (visits : List Visit) : Type 0 where
   pub named : map place_of visits ≡ places
   pub answers : All (IsVisit p) visits
+
+-- the instructions that no sequential run executes
+abbrev pub unexecuted_places : List Visit → List (ℕ × ℕ)
+unexecuted_places visits = map place_of (filter (λ visit. is_none visit.run) visits)
 
 -- how many of the instructions no sequential run executes
 abbrev pub unexecuted : List Visit → ℕ

@@ -1,18 +1,23 @@
 //! What one look at a program finds: its verdicts, the instructions that no sequential run executes, and its answers.
 //!
-//! What `fencer survey` prints of a file.
+//! What `fencer survey` prints of a file, as lines and as a document.
 //!
 //! Begin with `survey_text` and `SurveyText`. Free to change: how the number of an instruction's line is found, of
-//! which no clause speaks. Relied on: the verdicts are those of exactly the outcomes of both machines, exactly the
-//! instructions are named that no sequential run executes, and both answers are those of `answer_text`
-//! (`IsSurveyText` in `specs/Surveys.antt`).
+//! which no clause speaks, and what is told to people of instructions that are not executed (`stretch.rt`). Relied
+//! on: the verdicts are those of exactly the outcomes of both machines, exactly the instructions are named that no
+//! sequential run executes, each other stands with a run, and both answers are those of `answer_text` (`IsSurveyText`
+//! in `specs/Surveys.antt`).
 #![tactic(auto)]
 
+mod document;
+mod execution;
 mod finding;
 mod instruction_lines;
 mod lines;
 mod outcome_lists;
+mod stretch;
 mod survey;
 mod visit;
 
 pub use finding::{SurveyText, survey_text};
+pub use stretch::{Stretch, Unexecuted};

@@ -93,6 +93,7 @@ pub(crate) fn survey_lines(
         visits,
         condition,
         whole,
+        ..
     } = survey;
     let mut out = Vec::new(alloc);
     push_verdict(

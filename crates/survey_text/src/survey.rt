@@ -1,6 +1,8 @@
 //! What is found of a program.
 
 use crate::visit::Visit;
+use documents::ExecutedRun;
+use gap_sets::TiedCosts;
 use litmus_text::Litmus;
 use placed_text::AnswerText;
 use tso_program::{Outcome, Program};
@@ -15,6 +17,10 @@ pub(crate) struct Survey {
     pub(crate) buffered: Vec<Outcome>,
     /// Each instruction.
     pub(crate) visits: Vec<Visit>,
+    /// Runs that together execute each instruction that some run executes.
+    pub(crate) runs: Vec<ExecutedRun>,
+    /// What the gaps cost, and which go together.
+    pub(crate) costs: TiedCosts,
     /// The answer for the condition's truth.
     pub(crate) condition: AnswerText,
     /// The answer for whole outcomes.

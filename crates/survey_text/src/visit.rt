@@ -2,7 +2,7 @@
 
 ghost use Rattle.std.specs.Prelude.{◌≡◌, ◌++◌, ℕ, List, IfOk, OnOk, length};
 ghost use Rattle.tso_program.specs.Listings.{code_of};
-ghost use Rattle.survey_text.specs.Visits.{first_places, instruction_places, unexecuted, AreVisits};
+ghost use Rattle.survey_text.specs.Visits.{first_places, instruction_places, unexecuted, unexecuted_places, AreVisits};
 
 use sequential_states::SequentialStates;
 use std::alloc::{AllocError, Global};
@@ -59,6 +59,22 @@ pub(crate) fn visits_of(alloc: Global, program: &Program) -> Result<Vec<Visit>, 
         push_visits(alloc, &mut visits, &states, t, code_len(program, t))?;
     }
     Ok(visits)
+}
+
+/// The instructions that no sequential run executes, each by its thread and its number.
+pub(crate) fn unexecuted_places(
+    alloc: Global,
+    visits: &[Visit],
+) -> Result<Vec<(u8, u8)>, AllocError>
+    ensures { IfOk result (λ places. places.items ≡ unexecuted_places visits.now) }
+{
+    let mut places = Vec::new(alloc);
+    for visit in visits {
+        if visit.run.is_none() {
+            places.push((visit.thread, visit.instruction))?;
+        }
+    }
+    Ok(places)
 }
 
 /// How many of the instructions no sequential run executes.

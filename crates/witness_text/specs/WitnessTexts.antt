@@ -60,14 +60,14 @@ pub record TellsWitness (source : Litmus Listing) (sought : Sought) (text run : 
   pub document : TellsRun source All (OfMachine sought.model) labels outcome passed run
 
 -- the text and the document tell a run that is sought, which is found; or that no run of the machine is such
-pub data TellsSought (source : Litmus Listing) (sought : Sought) : Bool → List ℕ → List ℕ → Type 0 where
-  found : (text run document : List ℕ) → TellsWitness source sought text run → IsWitnessDocument source sought (Some run) document → TellsSought source sought true text document
-  none : (document : List ℕ) → HasNoWitness source.program (machine_of source.program sought) source.condition.formula sought.meets → IsWitnessDocument source sought None document
+pub data TellsSought (source : Litmus Listing) (sought : Sought) : Bool → List ℕ → List (List ℕ) → Type 0 where
+  found : (text run : List ℕ) (document : List (List ℕ)) → TellsWitness source sought text run → IsWitnessDocument source sought (Some run) document → TellsSought source sought true text document
+  none : (document : List (List ℕ)) → HasNoWitness source.program (machine_of source.program sought) source.condition.formula sought.meets → IsWitnessDocument source sought None document
       → TellsSought source sought false (no_run_line sought.meets) document
 
 -- What the texts tell: the litmus text stands for this program, which has gaps at the places; with these fenced, a run of the
 -- model's machine to an outcome that meets the condition's formula, or does not, or that there is none; and which of these is told.
-pub record IsWitnessText (litmus : List ℕ) (model : Model) (meets : Bool) (places : List GapPlace) (found : Bool) (text document : List ℕ) : Type 0 where
+pub record IsWitnessText (litmus : List ℕ) (model : Model) (meets : Bool) (places : List GapPlace) (found : Bool) (text : List ℕ) (document : List (List ℕ)) : Type 0 where
   pub source : Litmus Listing
   pub of_text : IsLitmus litmus source
   pub fences : SetOfGaps

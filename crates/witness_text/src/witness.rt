@@ -22,7 +22,7 @@ use cover_solver::{SolveFault, witness};
 use documents::{LinedLitmus, Setting, Sought, run_value, witness_document};
 use gap_list::TextLines;
 use gap_sets::GapSet;
-use json_text::JsonText;
+use json_text::{JsonObject, JsonText};
 use litmus_text::{Litmus, read_litmus};
 use run_views::{RunGraph, run_table};
 use std::alloc::{AllocError, Global};
@@ -39,7 +39,7 @@ pub struct WitnessText {
     /// The candidate execution of the run, as a graph in Graphviz's language.
     pub graph: Vec<u8>,
     /// What is printed with `--json`.
-    pub document: Vec<u8>,
+    pub document: JsonObject,
 }
 
 /// The steps of a run, and how it ends.
@@ -116,7 +116,7 @@ fn found_text(
     labels: &[Label],
 ) -> Result<WitnessText, AllocError>
     requires run { IsWitness litmus.now.program (machine_of litmus.now.program sought) litmus.now.condition.formula sought.meets labels.now }
-    ensures { IfOk result (λ text. TellsSought litmus.now sought text.found text.lines.items text.document.items) }
+    ensures { IfOk result (λ text. TellsSought litmus.now sought text.found text.lines.items text.document) }
 {
     let replay = replay_of(alloc, &litmus.program, sought.model, labels)?;
     let Replay { steps, ended } = replay;
@@ -143,7 +143,7 @@ fn none_text(
     sought: Sought,
 ) -> Result<WitnessText, AllocError>
     requires none { HasNoWitness litmus.now.program (machine_of litmus.now.program sought) litmus.now.condition.formula sought.meets }
-    ensures { IfOk result (λ text. TellsSought litmus.now sought text.found text.lines.items text.document.items) }
+    ensures { IfOk result (λ text. TellsSought litmus.now sought text.found text.lines.items text.document) }
 {
     let lines = Vec::from_slice(alloc, none_line(sought.meets))?;
     let graph = RunGraph::new(alloc)?.into_text()?;
@@ -167,7 +167,7 @@ fn sought_text(
     stand: &TextLines,
     sought: Sought,
 ) -> Result<WitnessText, SolveFault>
-    ensures { IfOk result (λ text. TellsSought litmus.now sought text.found text.lines.items text.document.items) }
+    ensures { IfOk result (λ text. TellsSought litmus.now sought text.found text.lines.items text.document) }
 {
     if let Some(run) = serial_run_before_search(alloc, litmus, &sought)? {
         return Ok(found_text(alloc, litmus, stand, sought, &run)?);
@@ -194,7 +194,7 @@ pub fn witness_text(
     meets: bool,
     places: &[(u8, u8)],
 ) -> Result<WitnessText, WitnessFault>
-    ensures told { IfOk result (λ text. IsWitnessText litmus.now model meets places.now text.found text.lines.items text.document.items) }
+    ensures told { IfOk result (λ text. IsWitnessText litmus.now model meets places.now text.found text.lines.items text.document) }
     ensures fault { IfErr result (HasNoWitnessText litmus.now places.now) }
 {
     let source = read_litmus(alloc, litmus)?;

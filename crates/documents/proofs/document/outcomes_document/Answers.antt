@@ -1,7 +1,11 @@
-use Rattle.documents.proofs.Told.{made_with}
+use Rattle.documents.specs.Documents.{list_members}
+use Rattle.documents.specs.FencedModels.{machine_members}
+use Rattle.documents.proofs.Told.{joined}
 use Rattle.documents.proofs.document.outcomes_document.Goals as goal
 
-pub returns-clause-told : goal.returns-clause-told
-returns-clause-told c =
-    let object = c.in_ok-object.ensures in
-    made_with _ _ object.first _ _ c.document_of.result object.heading object.printed c.document_of.ensures.text c.document_of.ensures.json
+pub returns : goal.returns
+returns c =
+    let source = c.args.source.now.litmus.now in
+    let machine = machine_members source.program c.args.machine in
+    let list = list_members source c.args.shown.now c.args.outcomes.now in
+    record { first = c.in_ok-object.object; heading = c.in_ok-object.ensures; printed = joined c.in_ok-object.object machine list _ _ c.in_ok-add_fenced_model.ensures c.in_ok-add_list.ensures }

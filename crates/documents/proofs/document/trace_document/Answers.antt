@@ -1,8 +1,8 @@
-use Rattle.documents.proofs.Vocabulary.{IfOk-weaker}
-use Rattle.documents.proofs.Told.{made_with}
 use Rattle.documents.proofs.document.trace_document.Goals as goal
 
-pub returns-clause-told : goal.returns-clause-told
-returns-clause-told c =
-    IfOk-weaker c.document_of.result _ _ (λ document is. record { run = c.in_ok-told.told; told = c.in_ok-told.ensures; document = is })
-    (made_with _ _ _ _ _ c.document_of.result c.in_ok-object.ensures c.in_ok-add.ensures.text c.document_of.ensures.text c.document_of.ensures.json)
+pub returns : goal.returns
+returns c = record {
+  run = c.in_ok-told.told;
+  told = c.in_ok-told.ensures;
+  is = record { first = c.in_ok-object.object; heading = c.in_ok-object.ensures; printed = c.in_ok-add.ensures.text };
+}

@@ -1,13 +1,16 @@
 use Rattle.documents.proofs.Vocabulary.{ℕ, List, codes, member}
-use Rattle.documents.specs.Witnesses.{run_or_null, sought_members, witness_members}
-use Rattle.documents.proofs.Told.{added, made_with}
+use Rattle.documents.specs.Witnesses.{run_or_null, sought_members}
+use Rattle.documents.proofs.Told.{added}
 use Rattle.documents.proofs.witness.witness_document.Goals as goal
 
-pub returns-clause-told : goal.returns-clause-told
-returns-clause-told c =
+pub returns : goal.returns
+returns c =
     let litmus = c.args.source.now.litmus.now in
     let sought = c.args.sought in
     let first : List (List ℕ) = c.in_ok-object.object in
     let run : List ℕ = member (codes "run") (run_or_null c.args.run) in
-    let last = added first (sought_members litmus.program sought) run _ _ c.in_ok-add_sought.ensures (rw c.in_ok-run.ensures at c.in_ok-add.ensures.text) in
-    made_with litmus (codes "witness") first (witness_members litmus.program sought c.args.run) _ c.document_of.result c.in_ok-object.ensures last c.document_of.ensures.text c.document_of.ensures.json
+    record {
+      first = first;
+      heading = c.in_ok-object.ensures;
+      printed = added first (sought_members litmus.program sought) run _ _ c.in_ok-add_sought.ensures (rw c.in_ok-run.ensures at c.in_ok-add.ensures.text);
+    }

@@ -3,9 +3,6 @@ use Rattle.placed_text.proofs.Judged.{one_each}
 use Rattle.gap_list.proofs.AsGiven.{given_as_read}
 use Rattle.fencer.proofs.gaps.written_gaps.Goals as goal
 
-pub tied_file-requires : goal.tied_file-requires
-tied_file-requires c = one_each c.args.source.now.program _ c.args.costs.now c.requires
-
 pub template_file-requires-clause-one_each : goal.template_file-requires-clause-one_each
 template_file-requires-clause-one_each c = one_each c.args.source.now.program _ c.args.costs.now c.requires
 

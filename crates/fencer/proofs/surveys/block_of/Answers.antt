@@ -1,6 +1,6 @@
 use Rattle.fencer.proofs.Vocabulary.{IfOk-weaker, file_line}
-use Rattle.fencer.specs.Surveys.{IsBlock, of_text, no_text, refused_row}
-use Rattle.fencer.proofs.Surveyed.{as_block}
+use Rattle.fencer.specs.Surveys.{IsBlock, of_text, no_text}
+use Rattle.fencer.proofs.Surveyed.{as_refused}
 use Rattle.fencer.proofs.surveys.block_of.Goals as goal
 
 pub returns-in-Ok-clause-told : goal.returns-in-Ok-clause-told
@@ -12,6 +12,7 @@ pub returns-in-Err-clause-told : goal.returns-in-Err-clause-told
 returns-in-Err-clause-told g c =
     let why = c.in-Err.fault in
     let name = c.args.name.now in
-    IfOk-weaker c.unread_block.result _ _
-    (λ block is. as_block name 1 (file_line why) refused_row block (IsBlock c.args.manner.workers (g.S.FileStore.held c.args.files.now) name (g.R.Read.remaining c.args.input.now)) (no_text why c.in-Err.ensures.err) is)
-    c.unread_block.ensures
+    let options = c.args.manner.options in
+    let held = g.S.FileStore.held c.args.files.now in
+    let input = g.R.Read.remaining c.args.input.now in
+    IfOk-weaker c.unread_block.result _ _ (λ block is. as_refused options.json name (file_line why) block (IsBlock options held name input) (λ text says. no_text why text c.in-Err.ensures.err says) is) c.unread_block.ensures

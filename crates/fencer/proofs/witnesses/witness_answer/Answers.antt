@@ -6,7 +6,11 @@ returns-in-Ok-clause-told c =
     record {
       found = c.in_ok-said.said.found;
       lines = c.in_ok-said.said.lines.items;
-      document = c.in_ok-said.said.document.items;
+      document = c.in_ok-said.said.document;
       told = rw c.as_slice-fences.ensures.value at c.in_ok-said.ensures.told;
-      delivered = record { lines = made.lines; ends = c.check_status.ensures; as_asked = made.as_asked; paged = made.paged };
+      delivered = record {
+        line = made.line;
+        noted = made.noted;
+        delivered = record { lines = made.delivered.lines; ends = c.check_status.ensures; as_asked = made.delivered.as_asked; paged = made.delivered.paged };
+      };
     }

@@ -26,6 +26,7 @@ returns-in-Some-clause-job c =
       read = reads app made.choices words c.in_ok-matches.matches made.built.shape none c.in_ok-matches.ensures.matches job.name job.rows job.met;
       once = job.once;
       not_in_vain = job.not_in_vain;
+      input_once = job.input_once;
       asked = job.asked;
     }
 

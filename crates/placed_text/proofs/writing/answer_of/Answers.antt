@@ -3,8 +3,11 @@ use Rattle.placed_text.proofs.Vocabulary.{question_in}
 use Rattle.placed_text.proofs.GapsThere.{none_missing}
 use Rattle.placed_text.proofs.writing.answer_of.Goals as goal
 
-pub write_answer-requires : goal.write_answer-requires
-write_answer-requires g c =
+pub verdict_of-requires : goal.verdict_of-requires
+verdict_of-requires g c = c.in_ok-certificate.ensures.placement
+
+pub write_answer-requires-clause-there : goal.write_answer-requires-clause-there
+write_answer-requires-clause-there g c =
     let problem = c.args.problem.now in
     let certificate = c.in_ok-certificate.certificate in
     let none = none_missing problem.litmus.program certificate.gaps (right_claim (question_in problem) problem.costs.costs certificate c.in_ok-certificate.ensures.placement.proof.valid).right_set.of_program in

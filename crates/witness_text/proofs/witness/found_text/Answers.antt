@@ -11,6 +11,6 @@ returns c =
     let run = c.in_ok-told.told.run in
     let document = subst (λ (labels : List Label). TellsRun source All (Machine sought.model) labels ended.outcome ended.passed run) c.in_ok-replay.ensures.labels
     (rw c.deref.ensures.value at c.in_ok-told.ensures.document) in
-    found c.in_ok-told.told.lines.items run c.in_ok-document.document.items
+    found c.in_ok-told.told.lines.items run c.in_ok-document.document
     (told_run source sought c.args.labels.now ended c.in_ok-told.told.lines.items run c.requires.run c.in_ok-replay.ensures.ended c.in_ok-told.ensures.printed document)
-    c.in_ok-document.ensures.told
+    c.in_ok-document.ensures

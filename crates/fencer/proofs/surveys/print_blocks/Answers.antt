@@ -1,0 +1,133 @@
+use Rattle.fencer.proofs.Vocabulary.{◌≡◌, ◌∙◌, ◌+◌, ◌<◌, ℕ, List, [], ◌++◌, Option, ap, arith, get_or, length, subst, sym, string_bytes, TEXT_LIMIT}
+use Rattle.std.proofs.lemmas.List.{take-map}
+use Rattle.std.specs.Io.KnownBytes.{Appends}
+use Rattle.program_streams.specs.Files.{ReadsOfInput}
+use Rattle.program_streams.proofs.StreamLaws.{none_written, writes_more}
+use Rattle.fencer.specs.Surveys.{AreBlocks, AreWritten, IsBlock, none, nothing}
+use Rattle.fencer.proofs.Surveyed.{one_more_block, one_more_read, some_read}
+use Rattle.fencer.proofs.WrittenSurveys.{ends_after, ends_within, in_any_case}
+use Rattle.fencer.proofs.surveys.print_blocks.Goals as goal
+
+pub loop-name-init : goal.loop-name-init
+loop-name-init g c = record {
+  told = record { blocks = []; are = rw c.new.ensures.items none; written = none_written (g.W.Write.contents c.args.output.now) };
+  read = nothing (g.R.Read.remaining c.args.input.now);
+}
+
+pub loop-name-preserved : goal.loop-name-preserved
+loop-name-preserved g c =
+    let names = c.args.asked.now.files.items in
+    let i = c.loop-name.name-index in
+    let d = c.name-item.result in
+    let options = c.args.asked.now.options in
+    let files = g.S.FileStore.held c.args.files.now in
+    let old = g.R.Read.remaining c.args.input.now in
+    let mid = g.R.Read.remaining c.loop-name.input in
+    let new = g.R.Read.remaining c.block_of.new.input in
+    let name : c.as_str.result.now ≡ string_bytes (get_or names i d) = c.as_str.ensures.value ∙ ap string_bytes (rw c.as_slice-name-items.ensures.value at c.name-item.is) in
+    let there : i < length names = omega (arith, c.loop-name-test.true, ap length c.as_slice-name-items.ensures.value) in
+    let reads = subst (λ (n : List ℕ). ReadsOfInput TEXT_LIMIT n mid new) name c.block_of.ensures.read in
+    let block = c.in_ok-block.block in
+    let told = subst (λ (n : List ℕ). IsBlock options files n mid block.status block.lines.items block.row.items) name c.in_ok-block.ensures.told in
+    let are = one_more_block string_bytes names i d there options files old mid new c.loop-name.invariant.told.blocks c.loop-name.summary c.add.new.self block c.loop-name.invariant.told.are told reads c.in_ok-add.ensures.rows c.in_ok-add.ensures.status in
+    let first = g.W.Write.contents c.args.output.now in
+    let before = g.W.Write.contents c.loop-name.output in
+    let written = writes_more first before (g.W.Write.contents c.write_bytes.new.output) c.loop-name.invariant.told.blocks block.lines.items c.loop-name.invariant.told.written (rw c.deref.ensures.value at c.in_ok-write_bytes.ensures.ok) in
+    record {
+      told = record { blocks = c.loop-name.invariant.told.blocks ++ block.lines.items; are = are; written = subst (λ (o : Option (List ℕ)). Appends first o (c.loop-name.invariant.told.blocks ++ block.lines.items)) (sym c.tell.ensures) written };
+      read = one_more_read string_bytes names i d there old mid new c.loop-name.invariant.read reads;
+    }
+
+pub returns-in_err-block-clause-read : goal.returns-in_err-block-clause-read
+returns-in_err-block-clause-read g c =
+    let names = c.args.asked.now.files.items in
+    let i = c.loop-name.name-index in
+    let d = c.name-item.result in
+    let mid = g.R.Read.remaining c.loop-name.input in
+    let new = g.R.Read.remaining c.block_of.new.input in
+    let name : c.as_str.result.now ≡ string_bytes (get_or names i d) = c.as_str.ensures.value ∙ ap string_bytes (rw c.as_slice-name-items.ensures.value at c.name-item.is) in
+    let there : i < length names = omega (arith, c.loop-name-test.true, ap length c.as_slice-name-items.ensures.value) in
+    let reads = subst (λ (n : List ℕ). ReadsOfInput TEXT_LIMIT n mid new) name c.block_of.ensures.read in
+    some_read string_bytes names i d there (g.R.Read.remaining c.args.input.now) mid new c.loop-name.invariant.read reads
+
+pub returns-in_err-add-clause-read : goal.returns-in_err-add-clause-read
+returns-in_err-add-clause-read g c =
+    let names = c.args.asked.now.files.items in
+    let i = c.loop-name.name-index in
+    let d = c.name-item.result in
+    let mid = g.R.Read.remaining c.loop-name.input in
+    let new = g.R.Read.remaining c.block_of.new.input in
+    let name : c.as_str.result.now ≡ string_bytes (get_or names i d) = c.as_str.ensures.value ∙ ap string_bytes (rw c.as_slice-name-items.ensures.value at c.name-item.is) in
+    let there : i < length names = omega (arith, c.loop-name-test.true, ap length c.as_slice-name-items.ensures.value) in
+    let reads = subst (λ (n : List ℕ). ReadsOfInput TEXT_LIMIT n mid new) name c.block_of.ensures.read in
+    some_read string_bytes names i d there (g.R.Read.remaining c.args.input.now) mid new c.loop-name.invariant.read reads
+
+pub returns-in_err-write_bytes-clause-read : goal.returns-in_err-write_bytes-clause-read
+returns-in_err-write_bytes-clause-read g c =
+    let names = c.args.asked.now.files.items in
+    let i = c.loop-name.name-index in
+    let d = c.name-item.result in
+    let mid = g.R.Read.remaining c.loop-name.input in
+    let new = g.R.Read.remaining c.block_of.new.input in
+    let name : c.as_str.result.now ≡ string_bytes (get_or names i d) = c.as_str.ensures.value ∙ ap string_bytes (rw c.as_slice-name-items.ensures.value at c.name-item.is) in
+    let there : i < length names = omega (arith, c.loop-name-test.true, ap length c.as_slice-name-items.ensures.value) in
+    let reads = subst (λ (n : List ℕ). ReadsOfInput TEXT_LIMIT n mid new) name c.block_of.ensures.read in
+    some_read string_bytes names i d there (g.R.Read.remaining c.args.input.now) mid new c.loop-name.invariant.read reads
+
+pub returns-in_err-block-clause-cut : goal.returns-in_err-block-clause-cut
+returns-in_err-block-clause-cut g c =
+    let made = c.from_residual.result in
+    let asked = c.args.asked.now in
+    let names = asked.files.items in
+    let i = c.loop-name.name-index in
+    let files = g.S.FileStore.held c.args.files.now in
+    let old = g.R.Read.remaining c.args.input.now in
+    let mid = g.R.Read.remaining c.loop-name.input in
+    let summary = c.loop-name.summary in
+    let first = g.W.Write.contents c.args.output.now in
+    let before = g.W.Write.contents c.loop-name.output in
+    in_any_case made _
+    (ends_after asked old files i mid summary.status summary.rows.items first before
+    (subst (λ (ns : List (List ℕ)). AreWritten asked.options files old ns mid summary.status summary.rows.items first before) (sym (take-map string_bytes i names)) c.loop-name.invariant.told))
+
+pub returns-in_err-add-clause-cut : goal.returns-in_err-add-clause-cut
+returns-in_err-add-clause-cut g c =
+    let made = c.from_residual-in_err-add.result in
+    let asked = c.args.asked.now in
+    let names = asked.files.items in
+    let i = c.loop-name.name-index in
+    let files = g.S.FileStore.held c.args.files.now in
+    let old = g.R.Read.remaining c.args.input.now in
+    let mid = g.R.Read.remaining c.loop-name.input in
+    let summary = c.loop-name.summary in
+    let first = g.W.Write.contents c.args.output.now in
+    let before = g.W.Write.contents c.loop-name.output in
+    in_any_case made _
+    (ends_after asked old files i mid summary.status summary.rows.items first before
+    (subst (λ (ns : List (List ℕ)). AreWritten asked.options files old ns mid summary.status summary.rows.items first before) (sym (take-map string_bytes i names)) c.loop-name.invariant.told))
+
+pub returns-in_err-write_bytes-clause-cut : goal.returns-in_err-write_bytes-clause-cut
+returns-in_err-write_bytes-clause-cut g c =
+    let names = c.args.asked.now.files.items in
+    let i = c.loop-name.name-index in
+    let d = c.name-item.result in
+    let options = c.args.asked.now.options in
+    let files = g.S.FileStore.held c.args.files.now in
+    let old = g.R.Read.remaining c.args.input.now in
+    let mid = g.R.Read.remaining c.loop-name.input in
+    let new = g.R.Read.remaining c.block_of.new.input in
+    let name : c.as_str.result.now ≡ string_bytes (get_or names i d) = c.as_str.ensures.value ∙ ap string_bytes (rw c.as_slice-name-items.ensures.value at c.name-item.is) in
+    let there : i < length names = omega (arith, c.loop-name-test.true, ap length c.as_slice-name-items.ensures.value) in
+    let reads = subst (λ (n : List ℕ). ReadsOfInput TEXT_LIMIT n mid new) name c.block_of.ensures.read in
+    let block = c.in_ok-block.block in
+    let told = subst (λ (n : List ℕ). IsBlock options files n mid block.status block.lines.items block.row.items) name c.in_ok-block.ensures.told in
+    let are = one_more_block string_bytes names i d there options files old mid new c.loop-name.invariant.told.blocks c.loop-name.summary c.add.new.self block c.loop-name.invariant.told.are told reads c.in_ok-add.ensures.rows c.in_ok-add.ensures.status in
+    let first = g.W.Write.contents c.args.output.now in
+    let before = g.W.Write.contents c.loop-name.output in
+    let after = g.W.Write.contents c.write_bytes.new.output in
+    let blocks = c.loop-name.invariant.told.blocks in
+    let summary = c.add.new.self in
+    in_any_case c.from_residual-in_err-write_bytes.result _
+    (ends_within c.args.asked.now old files (i + 1) new summary.status blocks block.lines.items summary.rows.items first before after
+    (subst (λ (ns : List (List ℕ)). AreBlocks options files old ns new summary.status (blocks ++ block.lines.items) summary.rows.items) (sym (take-map string_bytes (i + 1) names)) are)
+    c.loop-name.invariant.told.written (rw c.deref.ensures.value at c.in_err-write_bytes.ensures.err))

@@ -1,0 +1,91 @@
+//! What is said to people of what sequential runs do, on standard error.
+
+use messages::{Message, file_or_input};
+use std::alloc::{AllocError, Global};
+use survey_text::{Stretch, SurveyText};
+
+/// One number after a word, or the first and the last of several: `line 9`, `lines 9 and 10`, `lines 9 to 11`.
+fn numbered(alloc: Global, word: &str, first: u32, last: u32) -> Result<String, AllocError> {
+    match last.saturating_sub(first) {
+        0 => format!(in alloc; "{word} {first}"),
+        1 => format!(in alloc; "{word}s {first} and {last}"),
+        _ => format!(in alloc; "{word}s {first} to {last}"),
+    }
+}
+
+/// `lines 9 to 11 of P1 (its instructions 4 to 6)`
+fn stretch_text(alloc: Global, stretch: &Stretch) -> Result<String, AllocError> {
+    let lines = numbered(alloc, "line", stretch.first_line, stretch.last_line)?;
+    let lines = lines.as_str();
+    let first = u32::from(stretch.first);
+    let last = u32::from(stretch.last);
+    let own = numbered(alloc, "instruction", first, last)?;
+    let own = own.as_str();
+    let thread = stretch.thread;
+    format!(in alloc; "{lines} of P{thread} (its {own})")
+}
+
+/// What stands before a stretch of so many, of which so many stand before it.
+fn link(before: usize, count: usize) -> &'static str {
+    if before == 0 {
+        ""
+    } else if before.saturating_add(1) < count {
+        ", "
+    } else {
+        " and "
+    }
+}
+
+/// The stretches, as a list in a sentence.
+fn stretches_text(alloc: Global, stretches: &[Stretch]) -> Result<String, AllocError> {
+    let mut text = String::new(alloc);
+    for (number, stretch) in stretches.iter().enumerate() {
+        text.push_str(link(number, stretches.len()))?;
+        text.push_str(stretch_text(alloc, stretch)?.as_str())?;
+    }
+    Ok(text)
+}
+
+/// What the condition's verdict may rest on, if more runs could change it.
+fn reason(told: &SurveyText) -> &'static str {
+    if !told.unexecuted.counts {
+        ""
+    } else if told.fails {
+        ": the condition may fail for that reason alone"
+    } else {
+        ": the condition may hold for that reason alone"
+    }
+}
+
+/// Which instructions of a file's program no sequential run executes; nothing where each is executed.
+pub(crate) fn unexecuted_advice(
+    alloc: Global,
+    name: &str,
+    told: &SurveyText,
+) -> Result<Vec<u8>, AllocError> {
+    if told.unexecuted.stretches.is_empty() {
+        return Ok(Vec::new(alloc));
+    }
+    let name = file_or_input(name);
+    let stretches = stretches_text(alloc, told.unexecuted.stretches.as_slice())?;
+    let stretches = stretches.as_str();
+    let reason = reason(told);
+    let text = format!(in alloc; "{name}: no sequential run executes {stretches}{reason}")?;
+    Message::of_file(alloc, "fencer", text.as_str())?.written(alloc, false)
+}
+
+/// What sequential runs say of a file's condition; nothing where they decide nothing.
+pub(crate) fn verdict_advice(
+    alloc: Global,
+    name: &str,
+    told: &SurveyText,
+) -> Result<Vec<u8>, AllocError> {
+    if told.verdict.is_empty() {
+        return Ok(Vec::new(alloc));
+    }
+    let name = file_or_input(name);
+    let mut line = format!(in alloc; "fencer: {name}: ")?.into_bytes();
+    line.extend_from_slice(&told.verdict)?;
+    line.push(b'\n')?;
+    Ok(line)
+}
