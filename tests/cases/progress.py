@@ -312,7 +312,7 @@ class Progress(Cases):
         tell("a short search is reported on a terminal where that is asked for", on_terminal(["place", "--progress", short])[1][:1] == ahead(read_program(short)))
 
     def test_time(self):
-        """A long search has a line within each five seconds once its threads' traces are laid out, which says how many parts of it are done, on a terminal too."""
+        """A long search has a line within each five seconds after its first, which says how many parts of it are done, on a terminal too."""
         with tempfile.TemporaryDirectory() as folder:
             lines = on_terminal(["place", "--trees", "whole", made(folder, reads(14, 14))], 4)[1]
             tell("a warning comes first on a terminal", WARNING in lines[:2], lines)
