@@ -198,6 +198,8 @@ class Commands(Cases):
             usage = b"Usage: " in text or front.startswith((b"error: invalid value", b"error: a value is required"))
             right = status == 2 and text.startswith(front) and one_end and usage
             tell(name, right, f"status {status}, {text!r}", f"status 2, and a text that begins with {front!r}")
+        for command in FENCED:
+            same(f"the usage of {command} with fences that are no gaps", b"\nUsage: fencer %b [OPTIONS] <LITMUS>\n" % command.encode() in run([command, "--fences", "0.1", "-"], b"")[1], True)
 
     def test_bytes(self):
         """Words that are not UTF-8."""

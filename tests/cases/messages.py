@@ -1,13 +1,11 @@
 """Messages: what the programs say on standard error, nothing with an answer, and one line for people after each line of a refusal."""
 import json
 import os
-import pty
 import re
-import select
 import subprocess
 import tempfile
 
-from harness import EXAMPLES, LIMIT, PROGRAMS, Cases, example, example_files, lines, same, schemas, tell, text_of, write
+from harness import EXAMPLES, LIMIT, PROGRAMS, Cases, Terminal, example, example_files, lines, same, schemas, tell, text_of, write
 from judges import documents
 
 FILES = ("SB.litmus", "SB.cert", "n6.litmus")
@@ -67,6 +65,21 @@ FENCE_HINTS = (
     (("outcomes", "--fences", "x", "SB.litmus"), ""),
     (("outcomes", "--fences", "0:1,0:1", "SB.litmus"), ""),
     (("outcomes", "--fences"), ""),
+    (("outcomes", "--fences", "SB.litmus"), "SB.litmus is taken for the gaps of --fences, which stand before it, as `--fences 0:1,1:1 SB.litmus`"),
+    (("witness", "--json", "--fences", "-"), "- is taken for the gaps of --fences, which stand before it, as `--fences 0:1,1:1 -`"),
+    (("outcomes", "--fences=SB.litmus"), ""),
+    (("outcomes", "--fences", "0.1", "SB.litmus"), ""),
+    (("survey", "--fences", "SB.litmus"), "`--fences` is an option of outcomes and witness"),
+)
+# arguments of commands with an option that only others take, and what is said of them
+OPTION_HINTS = (
+    (("place", "--html", "x", "SB.litmus"), "`--html` is an option of trace, why and witness"),
+    (("outcomes", "SB.litmus", "--dot=x"), "`--dot` is an option of trace, why and witness"),
+    (("survey", "--check", "SB.litmus"), "`--check` is an option of outcomes, place and witness"),
+    (("why", "--json", "--certificate", "x", "--insert", "y", "SB.litmus"), "`--certificate` is an option of place"),
+    (("place", "--cert", "x", "SB.litmus"), ""),
+    (("place", "--observed", "--condition", "SB.litmus"), ""),
+    (("fast", "--html", "x", "SB.litmus"), ""),
 )
 NEVER, ALWAYS = "stands before any CMP of its thread: it never jumps", "stands before any CMP of its thread: it always jumps"
 UNWRITTEN = "is compared, and nothing of its thread writes it: it holds 0"
@@ -127,20 +140,9 @@ def outputs(words, folder, given, error=subprocess.PIPE):
 
 def shown(words, given):
     """What a call says on standard error, where that is a terminal."""
-    above, below = pty.openpty()
-    outputs(words, EXAMPLES, given, below)
-    os.close(below)
-    said = b""
-    while select.select([above], [], [], 0)[0]:
-        try:
-            part = os.read(above, 65536)
-        except OSError:
-            break
-        if not part:
-            break
-        said += part
-    os.close(above)
-    return said
+    terminal = Terminal()
+    outputs(words, EXAMPLES, given, terminal.end)
+    return terminal.said()
 
 
 def changed(text, old, new):
@@ -267,8 +269,8 @@ class Messages(Cases):
                 same(f"fencer {words}, where that can't be written", outputs(words.split(), EXAMPLES, b"", full)[:2], (status, printed))
 
     def test_fence_hints(self):
-        """Where `--fences` stands with no command that takes it, or blanks between its gaps, it is said what may be meant."""
-        for words, said in FENCE_HINTS:
+        """Where `--fences` or another option stands with no command that takes it, or `--fences` has blanks between its gaps or none, it is said what may be meant."""
+        for words, said in FENCE_HINTS + OPTION_HINTS:
             line = f"fencer: {said}\n".encode() if said else b""
             status, printed, told = outputs(words, EXAMPLES, b"")
             tell(f"what is said of fencer {' '.join(words)}", (status, printed[:7], told) == (2, b"error: ", line), (status, printed, told))

@@ -5,12 +5,11 @@ The combinations of traces are worked out here alone, from the program that a do
 import functools
 import json
 import os
-import pty
 import re
 import subprocess
 import tempfile
 
-from harness import EXAMPLES, FENCER, Cases, same, schemas, tell
+from harness import EXAMPLES, FENCER, Cases, Terminal, same, schemas, tell
 
 REGISTERS = ("EAX", "EBX", "ECX", "EDX", "ESI", "EDI")
 MOST_TRACES = 10_000_000
@@ -22,7 +21,7 @@ MINUTES = "fencer: {} threads, {} accesses, {} exchanges: this may take minutes,
 ASKED = re.compile(r"fencer: sets asked: ([\d,]+)(?:; the answer costs at least ([\d,]+))?")
 TIMED = re.compile(
     r"fencer: after ([\d,]+) s: (?:(?:sets asked: [\d,]+; )?([\d,]+) of ([\d,]+) parts of the (?:last question|search for outcomes) are done"
-    r"|sets asked: [\d,]+|what is found is judged)"
+    r"|sets asked: [\d,]+|outcomes are searched for|what is found is judged)"
 )
 # what is said beside an answer of what sequential runs decide, which is no progress
 VERDICT = re.compile(r"fencer: what (the condition asks about|must not happen|must always hold) .* without store buffers too(: no fence mends it)?")
@@ -194,7 +193,7 @@ def check_search(said, sequential, cost, bounded):
 
 def searched(name, path, command):
     """What is reported of a search over whole trees for a file, by one command."""
-    lines = ahead(read_program(path))
+    lines = [] if command[0] == "outcomes" else ahead(read_program(path))
     plain, silent = ran([*command, path])
     found, said = ran([*command, "--progress", path])
     said = untimed(said)
@@ -211,22 +210,13 @@ def searched(name, path, command):
 
 def on_terminal(words, most=None):
     """What a call prints, and says on a terminal; it is ended after so many lines, if a number is given."""
-    ours, theirs = pty.openpty()
-    with subprocess.Popen([FENCER, *words], stdout=subprocess.PIPE, stderr=theirs) as call:
-        os.close(theirs)
-        said = b""
-        while most is None or said.count(b"\n") < most:
-            try:
-                part = os.read(ours, 4096)
-            except OSError:
-                part = b""
-            if not part:
-                break
+    terminal, said = Terminal(), b""
+    with subprocess.Popen([FENCER, *words], stdout=subprocess.PIPE, stderr=terminal.end) as call:
+        for part in terminal.parts():
             said += part
-        if most is not None:
-            call.kill()
+            if most is not None and said.count(b"\n") >= most:
+                call.kill()
         printed = call.stdout.read()
-    os.close(ours)
     return printed, reported(said)[:most]
 
 
@@ -318,10 +308,9 @@ class Progress(Cases):
             tell("a warning comes first on a terminal", WARNING in lines[:2], lines)
             found = [line for line in map(TIMED.fullmatch, lines) if line]
             tell("a long search is reported by time", len(found) >= 2, lines)
-            times, done = [number(line[1]) for line in found], [(number(line[2]), number(line[3])) for line in found if "the search for outcomes" in line[0]]
-            tell("the seconds ascend", times == sorted(set(times)), times)
-            # before it is cut a search is one part
-            cut = {parts for _, parts in done if parts > 1}
+            times, done = [0, *(number(line[1]) for line in found)], [(number(line[2]), number(line[3])) for line in found if "the search for outcomes" in line[0]]
+            tell("at most five seconds pass between two lines", all(0 < after - before <= 5 for before, after in zip(times, times[1:])), times)
+            cut = {parts for _, parts in done}
             tell("how many parts are done", done == sorted(done) and all(some <= parts for some, parts in done) and len(cut) <= 1, done)
 
     def test_minutes(self):

@@ -13,7 +13,7 @@ import subprocess
 import tempfile
 import time
 
-from harness import EXAMPLES, PROGRAMS, TOP, Cases, same, tell, without_front
+from harness import EXAMPLES, PROGRAMS, TOP, Cases, Terminal, same, tell, without_front
 
 SCRIPTS = ("fencer", "fencecheck", "build", "crates.txt", "HANDLES", ".ci/program", ".ci/unproved")
 NOBODY = 65534
@@ -213,13 +213,9 @@ def called_at_a_terminal(clone):
 
 def said_on_a_terminal(clone):
     """What a call says on a terminal."""
-    leader, terminal = pty.openpty()
-    clone.call("fencer", "outcomes", "SB.litmus", stderr=terminal)
-    os.write(terminal, b".")
-    os.close(terminal)
-    said = os.read(leader, 4096).decode()
-    os.close(leader)
-    return said.removesuffix(".")
+    terminal = Terminal()
+    clone.call("fencer", "outcomes", "SB.litmus", stderr=terminal.end)
+    return terminal.said().decode()
 
 
 class Scripts(Cases):
@@ -248,7 +244,7 @@ class Scripts(Cases):
             status, found, said = clone.call("fencer", "place", "SB.litmus")
             again = status == 0 and found.startswith("answer ") and said.startswith(WHY.format("fencer", "older than its sources"))
             tell("an unproved build is made anew after an edit", again and clone.tries() == 3, (clone.tries(), status, found, said))
-            same("nothing but the builds is kept", clone.left(), [])
+            tell("nothing but the builds is kept", clone.ends(), clone.left())
 
     def test_both(self):
         """The first call of a program makes the builds of both, and has its answer before the other one is made; a call of that one waits."""
@@ -312,7 +308,7 @@ class Scripts(Cases):
             with cloned() as clone:
                 change(clone)
                 called_as_given(clone, f"toolchain {kind}")
-                same(f"nothing is left, toolchain {kind}", clone.left(), [])
+                tell(f"nothing is left, toolchain {kind}", clone.ends(), clone.left())
         with cloned() as clone:
             clone.call("fencer", "--help", given={"FAULTY": "-Os"})
             status, found, said = clone.call("fencer", "place", "SB.litmus")
@@ -321,7 +317,7 @@ class Scripts(Cases):
             clone.put("fencecheck", 2_000)
             status, found, said = clone.call("fencer", "place", "SB.litmus", given={"REFUSED": "fencer"})
             tell("sources with a fault", (status, found) == (2, "") and said.endswith("error: no such type\n"), (status, found, said))
-            tell("nothing is kept of sources with a fault", clone.left() == [] and clone.tries() == 1, (clone.left(), clone.tries()))
+            tell("nothing is kept of sources with a fault", clone.ends() and clone.tries() == 1, (clone.left(), clone.tries()))
 
     def test_versions(self):
         """The version says whether the build is proved."""
@@ -379,7 +375,7 @@ class Scripts(Cases):
                 same(f"build of what is {name}", (status, said), wanted)
                 version = clone.call("fencer", "--version", given={"REFUSED": "fencer"})
                 tell(f"no proved build of what is {name}", "older than its sources" in version[2], version)
-                same(f"nothing is left of what is {name}", clone.left(), [])
+                tell(f"nothing is left of what is {name}", clone.ends(), clone.left())
 
     def test_build_arguments(self):
         """An argument of `build` gets its usage, and nothing is proved."""
@@ -425,11 +421,9 @@ class Scripts(Cases):
     def test_progress(self):
         """On a terminal one line counts the seconds, and is taken away."""
         with cloned() as clone:
-            leader, terminal = pty.openpty()
-            clone.call("fencer", "--help", stderr=terminal)
-            os.close(terminal)
-            said = os.read(leader, 4096).decode()
-            os.close(leader)
+            terminal = Terminal()
+            clone.call("fencer", "--help", stderr=terminal.end)
+            said = terminal.said().decode()
             shown = "\rfencer: translates the sources, " in said and said.rstrip().endswith("\r\033[Kfencer: unproved build")
             tell("the progress on a terminal", shown, said)
 

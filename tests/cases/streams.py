@@ -79,8 +79,8 @@ def failing_writes(library, folder):
             failing_stream(library, f"fencecheck {words}", how, words, given, right, FENCECHECK)
 
 
-def limits(memory=256 << 20):
-    resource.setrlimit(resource.RLIMIT_CPU, (2, 2))
+def limits(memory=256 << 20, seconds=2):
+    resource.setrlimit(resource.RLIMIT_CPU, (seconds, seconds))
     resource.setrlimit(resource.RLIMIT_AS, (memory, memory))
 
 
@@ -98,7 +98,7 @@ def told_of(program, words, front):
 
 def endless_inputs(folder):
     """Inputs without an end, with 2 seconds of a processor and 256 MiB: on standard input, after a whole text, and as a file that is named. A
-    certificate may be 1 GiB long, for which that is too little."""
+    certificate may be 1 GiB long, for which that is too little: it gets 20 seconds and 4 GiB."""
     litmus, cert = (os.path.join(EXAMPLES, file) for file in ("SB.litmus", "SB.cert"))
     too_long = (1, b"refused file 3 TooLong\n")
     with_words = os.path.join(folder, "with-words")
@@ -120,7 +120,7 @@ def endless_inputs(folder):
         same(f"{os.path.basename(program)} {words}, a file without an end", found, too_long)
     found = run([litmus, "/dev/zero"], b"", FENCECHECK, preexec_fn=limits)
     same("a certificate without an end, for which there is too little memory", found, (1, b"refused file 1 Read\n"))
-    found = run([litmus, "/dev/zero"], b"", FENCECHECK, preexec_fn=lambda: limits(4 << 30))
+    found = run([litmus, "/dev/zero"], b"", FENCECHECK, preexec_fn=lambda: limits(4 << 30, 20))
     same("a certificate without an end", found, too_long)
 
 

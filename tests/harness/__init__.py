@@ -1,4 +1,5 @@
-"""What all subjects share: the programs (`programs`), what a case reports (`report`), the tables (`tables`), and the runner (`subjects`)."""
+"""What all subjects share: the programs (`programs`), the terminal that they write to (`terminal`), what a case reports (`report`), the tables (`tables`),
+and the runner (`subjects`)."""
 from harness.programs import FENCECHECK, FENCER, LIMIT, PROGRAMS, TEST_CALLS, TESTS, TOP, failing_in_turn, run, watched
 from harness.report import called, expect, expect_call, judge, same, tell
 from harness.subjects import Cases, PreloadedCases
@@ -6,3 +7,4 @@ from harness.tables import (
     DATA, EXAMPLES, MODELS, bytes_of, example, example_files, in_data, lines, litmus_cases, outcomes_in, printed, sources_of, text_of, without_end,
     without_front, worked_files, write,
 )
+from harness.terminal import Terminal

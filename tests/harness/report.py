@@ -55,7 +55,7 @@ def same(name, came, expected):
 
 def command_of(call):
     """The command line of a call, and of what it read: temporary files are kept beside its standard input, in tests/out."""
-    kept = os.path.join(KEPT, str(counts["failed"]))
+    kept = os.path.join(KEPT, f"{Reported.group}-{counts['failed']}")
     shutil.rmtree(kept, ignore_errors=True)
     os.makedirs(kept)
     temporary = tempfile.gettempdir() + os.sep

@@ -1,16 +1,21 @@
 """Finds and runs the cases: each module of `cases` is a subject, each `test_` method of its class a group of cases."""
 import argparse
+import contextlib
 import importlib
+import io
+import multiprocessing
 import os
 import pkgutil
 import sys
 import tempfile
 import time
 import unittest
+from concurrent.futures import ProcessPoolExecutor, as_completed
 
 from harness import programs, report, schemas
 
 COUNTS = os.path.join(programs.TESTS, "counts.tsv")
+COLUMNS = ("group", "cases", "seconds")
 # the names of the cases of each group, as they were when it ran last
 NAMES = os.path.join(programs.TESTS, "out", "names")
 
@@ -93,6 +98,34 @@ class Group:
         self.passed, self.failed = (report.counts[it] - before[it] for it in ("passed", "failed"))
 
 
+class Wanted:
+    """The groups that are run, each with the parts of names that are asked for; a process that runs one begins as a copy of this one."""
+
+    groups = []
+
+
+def run_apart(place):
+    """Runs the group of this place. Returns the place, what came of it, and what was printed."""
+    group, parts = Wanted.groups[place]
+    with contextlib.redirect_stdout(io.StringIO()) as printed:
+        group.run(parts)
+    return place, (group.passed, group.failed, group.seconds), printed.getvalue()
+
+
+def run_side_by_side(wanted):
+    """Runs the groups in processes of their own, as many as there are processors, those first that took longest when they were last counted. What one
+    prints comes when it has ended."""
+    took = recorded("seconds")
+    Wanted.groups = sorted(wanted.items(), key=lambda it: -took.get(it[0].name, 0))
+    with ProcessPoolExecutor(len(os.sched_getaffinity(0)), multiprocessing.get_context("fork")) as pool:
+        for ended in as_completed([pool.submit(run_apart, place) for place in range(len(Wanted.groups))]):
+            place, came, printed = ended.result()
+            group, _ = Wanted.groups[place]
+            group.passed, group.failed, group.seconds = came
+            print(printed, end="")
+    return list(wanted)
+
+
 def subjects():
     """The names of the subjects, each with what it is about and its groups, in the order of their files."""
     import cases
@@ -116,13 +149,13 @@ def chosen(groups, asked):
     return parts
 
 
-def recorded():
-    """How many cases each group had when they were last counted."""
+def recorded(what):
+    """How many `cases` each group had when they were last counted, or how many `seconds` it took."""
     if not os.path.exists(COUNTS):
         return {}
     with open(COUNTS, encoding="utf-8") as file:
         rows = [line.rstrip("\n").split("\t") for line in file if not line.startswith("#")]
-    return {name: int(count) for name, count in rows}
+    return {row[0]: int(row[COLUMNS.index(what)]) for row in rows}
 
 
 def first_sentence(text):
@@ -132,7 +165,7 @@ def first_sentence(text):
 
 def list_subjects(every):
     """Prints each subject with what it is about and how many cases it has, and so each of its groups."""
-    counted = recorded()
+    counted = recorded("cases")
     for subject, about, groups in every:
         print(f"{subject:<24} {sum(counted.get(group.name, 0) for group in groups):>7}  {first_sentence(about).partition(': ')[2]}")
         for group in groups:
@@ -141,12 +174,14 @@ def list_subjects(every):
 
 
 def write_counts(groups):
-    """Records how many cases the groups have; those that were not run keep their numbers."""
-    counted = {**recorded(), **{group.name: group.passed + group.failed for group in groups}}
+    """Records how many cases the groups have, and how long they took; those that were not run keep their numbers."""
+    counted = {**recorded("cases"), **{group.name: group.passed + group.failed for group in groups}}
+    took = {**recorded("seconds"), **{group.name: round(group.seconds) for group in groups}}
     known = {group.name for _, _, found in subjects() for group in found}
     with open(COUNTS, "w", encoding="utf-8") as file:
-        file.write("# SUBJECT.GROUP and how many cases it has, by `tests/run --write-counts`; `tests/run` says where it finds fewer.\n")
-        file.writelines(f"{name}\t{count}\n" for name, count in sorted(counted.items()) if name in known)
+        file.write("# SUBJECT.GROUP, how many cases it has and how many seconds it took, by `tests/run --write-counts`; `tests/run` says where it finds fewer\n")
+        file.write("# cases, and begins with the groups that took longest.\n")
+        file.writelines(f"{name}\t{count}\t{took[name]}\n" for name, count in sorted(counted.items()) if name in known)
 
 
 def print_times(ran):
@@ -160,7 +195,7 @@ def print_times(ran):
 
 def print_fewer(ran):
     """Says where a group has fewer cases than when they were last counted."""
-    counted = recorded()
+    counted = recorded("cases")
     for group in ran:
         found = group.passed + group.failed
         if found < counted.get(group.name, 0):
@@ -190,14 +225,13 @@ def main():
     if missing:
         report.tell("the programs are built", False, missing, "./build and a run of .ci/run make them")
     else:
-        for group, parts in wanted.items():
-            group.run(parts)
-            ran.append(group)
+        ran = run_side_by_side(wanted)
         print_times(ran)
         if not given.only:
             print_fewer(ran)
     if given.write_counts and not any(wanted.values()):
         write_counts(ran)
-    passed, failed = report.counts["passed"] + given.after[0], report.counts["failed"] + given.after[1]
+    passed = report.counts["passed"] + sum(group.passed for group in ran) + given.after[0]
+    failed = report.counts["failed"] + sum(group.failed for group in ran) + given.after[1]
     print(f"{passed} passed, {failed} failed")
     return 1 if failed or not passed else 0

@@ -122,10 +122,9 @@ impl TreeSearch<'_> {
 
     /// Puts a copy of nodes after all.
     fn copy_nodes(&mut self, nodes: Stretch) -> Result<(), AllocError> {
-        for place in nodes.start..nodes.end {
-            if let Some(node) = self.nodes.get(place).copied() {
-                self.nodes.push(node)?;
-            }
+        let Stretch { start, end } = nodes;
+        if start <= end && end <= self.nodes.len() {
+            self.nodes.extend_from_within(start..end)?;
         }
         Ok(())
     }

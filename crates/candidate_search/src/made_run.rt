@@ -2,8 +2,7 @@
 use crate::sequential_run::sequential_run;
 use candidate_executions::Event;
 use event_rows::{EventGraph, each_in};
-use exec_axioms::{Sketch, SketchFault};
-use run_maker::{MadeRun, MakeFault, make_run};
+use run_maker::{MadeRun, MakeFault, Sketch, SketchFault, make_run};
 use std::alloc::{AllocError, Global};
 use tso_machine::Mode;
 use tso_program::Shown;

@@ -6,7 +6,6 @@
 //! what is found is the same for any number of threads.
 use crate::known_outcomes::KnownOutcomes;
 use crate::proposing_search::ProposingSearch;
-use crate::search_watch::Share;
 use crate::searched::{Searched, TURN_STEPS, searched_within};
 use crate::tree_search::{Found, SearchEnd, TreeSearch};
 use cert_forest::Node;
@@ -55,8 +54,6 @@ struct CutSearch<'a> {
     pieces: Vec<Piece>,
     /// How many pieces were taken by a thread.
     taken: AtomicUsize,
-    /// How many parts are done.
-    done: AtomicUsize,
     /// The place of a part that ends the question. Before there is one it is greater than all places.
     last: AtomicUsize,
 }
@@ -70,7 +67,9 @@ pub(crate) fn searched<'a, R: Threads + Sync>(
     listed: Option<&'a [Outcome]>,
 ) -> Result<Searched, AllocError> {
     match listed {
-        Some(_) => asked.watch.ask(),
+        Some(_) => {
+            asked.watch.ask();
+        }
         None => asked.watch.seek_outcomes(),
     }
     match searched_within(asked, mode, listed, SHORT_TURNS)? {
@@ -94,10 +93,10 @@ impl<'a> CutSearch<'a> {
             listed,
             pieces,
             taken: AtomicUsize::new(0),
-            done: AtomicUsize::new(0),
             last: AtomicUsize::new(usize::MAX),
         };
         search.cut()?;
+        asked.watch.cut(parts_in(&search.pieces));
         Ok(search)
     }
 
@@ -191,7 +190,7 @@ impl<'a> CutSearch<'a> {
                 if let Some(searched) = self.part_searched(place, choices)? {
                     parts.push(SearchedPart { place, searched })?;
                 }
-                self.done.fetch_add(1, Ordering::SeqCst);
+                self.asked.watch.finish_part();
             }
         }
         Ok(parts)
@@ -209,7 +208,6 @@ impl<'a> CutSearch<'a> {
             if self.last.load(Ordering::SeqCst) < place {
                 return Ok(None);
             }
-            self.report();
             found = match search.go_on(found, TURN_STEPS)? {
                 Found::Ended(end) => {
                     self.note(place, &end);
@@ -219,14 +217,6 @@ impl<'a> CutSearch<'a> {
             };
         }
         Ok(None)
-    }
-
-    /// Reports how many parts are done, if a line is due.
-    fn report(&self) {
-        self.asked.watch.report(Share {
-            done: self.done.load(Ordering::SeqCst),
-            parts: parts_in(&self.pieces),
-        });
     }
 
     /// Notes that a part ends the question, where it does.

@@ -2,139 +2,167 @@
 
 use program_streams::{Progress, grouped};
 use std::alloc::{AllocError, Global};
-use std::sync::atomic::{AtomicU64, Ordering};
+use std::sync::Arc;
+use std::sync::atomic::{AtomicBool, AtomicU64, Ordering};
+use std::thread::{self, Threads};
 
-/// After so many milliseconds the next line is due. With the steps that are made before the clock is looked at again no more
-/// than five seconds pass between two lines.
+/// So many milliseconds pass between two lines.
 const LINE_MILLIS: u64 = 3_500;
 
-/// How many parts of a search are done.
-#[derive(Clone, Copy)]
-pub(crate) struct Share {
-    pub(crate) done: usize,
-    pub(crate) parts: usize,
-}
+/// So many milliseconds pass before it is looked whether the search has ended.
+const NAP_MILLIS: u64 = 50;
 
-/// Reports how far searches are, a line every few seconds.
+/// More naps than any search takes.
+const MOST_NAPS: u64 = 1 << 44;
+
+/// Who has the numbers of a search while it goes on: the search and the thread that reports them.
+const BOTH: usize = 2;
+
+/// Reports how far searches are, a line every few seconds, from a thread of its own. It ends with the watch.
 #[derive(Drop)]
 pub struct SearchWatch {
-    alloc: Global,
-    progress: Progress,
+    /// None where nothing is reported, or where there is no thread or no memory for it.
+    state: Option<Arc<SearchState, Global>>,
+}
+
+/// How far a search is.
+#[derive(Drop)]
+struct SearchState {
     /// How many sets of gaps were asked about. None while outcomes are searched for.
     asked: AtomicU64,
-    /// After how many milliseconds the next line is due.
-    due: AtomicU64,
+    /// Into how many parts the search is cut. None before it is.
+    parts: AtomicU64,
+    /// How many parts are done.
+    done: AtomicU64,
+    /// Whether what was found is judged.
+    is_judged: AtomicBool,
 }
 
 impl SearchWatch {
-    /// A watch that reports there.
-    pub fn new(alloc: Global, progress: Progress) -> SearchWatch {
-        SearchWatch {
-            alloc,
-            progress,
-            asked: AtomicU64::new(0),
-            due: AtomicU64::new(LINE_MILLIS),
+    /// A watch that reports there, from now on.
+    pub fn new<R: Threads>(rt: &R, alloc: Global, progress: Progress) -> SearchWatch {
+        if !progress.is_shown() {
+            return SearchWatch::none();
+        }
+        let Ok(state) = Arc::new(alloc, SearchState::new()) else {
+            return SearchWatch::none();
+        };
+        let Ok(reported) = Arc::try_clone(&state) else {
+            return SearchWatch::none();
+        };
+        match thread::spawn(rt, move || report_by_time(alloc, progress, &reported)) {
+            Ok(_) => SearchWatch { state: Some(state) },
+            Err(_) => SearchWatch::none(),
         }
     }
 
     /// A watch that reports nothing.
-    pub fn none(alloc: Global) -> SearchWatch {
-        SearchWatch::new(alloc, Progress::none())
-    }
-
-    /// Whether a line is due. The next one is due some seconds later.
-    pub fn is_due(&self) -> bool {
-        self.due_seconds().is_some()
+    pub fn none() -> SearchWatch {
+        SearchWatch { state: None }
     }
 
     /// Notes that outcomes are searched for.
     pub(crate) fn seek_outcomes(&self) {
-        self.asked.store(0, Ordering::SeqCst);
-    }
-
-    /// Notes that one more set of gaps is asked about.
-    pub(crate) fn ask(&self) {
-        let before = self.asked.fetch_add(1, Ordering::SeqCst);
-        if let Some(seconds) = self.due_seconds() {
-            let asked = before.saturating_add(1);
-            self.progress.warn(asked_line(self.alloc, seconds, asked));
+        if let Some(state) = &self.state {
+            state.asked.store(0, Ordering::SeqCst);
+            state.begin();
         }
     }
 
-    /// Reports how much of a search is done, if a line is due.
-    pub(crate) fn report(&self, share: Share) {
-        if let Some(seconds) = self.due_seconds() {
-            let asked = self.asked.load(Ordering::SeqCst);
-            self.progress
-                .warn(share_line(self.alloc, seconds, asked, share));
+    /// Notes that one more set of gaps is asked about, and returns about how many it was asked before. `None` where nothing is
+    /// reported.
+    pub fn ask(&self) -> Option<u64> {
+        let state = self.state.as_ref()?;
+        state.begin();
+        Some(state.asked.fetch_add(1, Ordering::SeqCst))
+    }
+
+    /// Notes that the search is cut into so many parts.
+    pub(crate) fn cut(&self, parts: usize) {
+        if let Some(state) = &self.state {
+            state.parts.store(parts as u64, Ordering::SeqCst);
         }
     }
 
-    /// Reports after a long search that what it has found is judged.
+    /// Notes that one more part is done.
+    pub(crate) fn finish_part(&self) {
+        if let Some(state) = &self.state {
+            state.done.fetch_add(1, Ordering::SeqCst);
+        }
+    }
+
+    /// Notes that what is found is judged.
     pub fn judge(&self) {
-        if !self.progress.is_shown() {
+        if let Some(state) = &self.state {
+            state.is_judged.store(true, Ordering::SeqCst);
+        }
+    }
+}
+
+impl SearchState {
+    /// Of a search that has found nothing.
+    fn new() -> SearchState {
+        SearchState {
+            asked: AtomicU64::new(0),
+            parts: AtomicU64::new(0),
+            done: AtomicU64::new(0),
+            is_judged: AtomicBool::new(false),
+        }
+    }
+
+    /// A search begins, in one piece.
+    fn begin(&self) {
+        self.parts.store(0, Ordering::SeqCst);
+        self.done.store(0, Ordering::SeqCst);
+    }
+}
+
+/// Reports a search every few seconds, until it ends.
+fn report_by_time(alloc: Global, progress: Progress, state: &Arc<SearchState, Global>) {
+    let mut due = LINE_MILLIS;
+    for _ in 0..MOST_NAPS {
+        progress.wait(NAP_MILLIS);
+        if Arc::strong_count(state) < BOTH {
             return;
         }
-        if let Some(millis) = self.progress.millis() {
-            if millis >= LINE_MILLIS {
-                self.progress.warn(judged_line(self.alloc, millis / 1_000));
-            }
-        }
-    }
-
-    /// How many seconds have passed, if a line is due. Of several threads one reports it.
-    fn due_seconds(&self) -> Option<u64> {
-        if !self.progress.is_shown() {
-            return None;
-        }
-        let millis = self.progress.millis()?;
-        let due = self.due.load(Ordering::SeqCst);
-        if millis < due {
-            return None;
-        }
-        let next = millis.saturating_add(LINE_MILLIS);
-        match self
-            .due
-            .compare_exchange(due, next, Ordering::SeqCst, Ordering::SeqCst)
-        {
-            Ok(_) => Some(millis / 1_000),
-            Err(_) => None,
+        let Some(millis) = progress.millis() else {
+            return;
+        };
+        if millis >= due {
+            progress.warn(line_of(alloc, millis / 1_000, state));
+            due = millis.saturating_add(LINE_MILLIS);
         }
     }
 }
 
-/// That so many sets were asked about after so many seconds.
-fn asked_line(alloc: Global, seconds: u64, asked: u64) -> Result<Vec<u8>, AllocError> {
+/// The line of a search after so many seconds.
+fn line_of(alloc: Global, seconds: u64, state: &SearchState) -> Result<Vec<u8>, AllocError> {
     let seconds = grouped(alloc, seconds)?;
-    let asked = grouped(alloc, asked)?;
-    Ok(format!(in alloc; "fencer: after {seconds} s: sets asked: {asked}\n")?.into_bytes())
-}
-
-/// That so much of a search for outcomes, or of the question about the last of so many sets, is done after so many seconds.
-fn share_line(
-    alloc: Global,
-    seconds: u64,
-    asked: u64,
-    share: Share,
-) -> Result<Vec<u8>, AllocError> {
-    let seconds = grouped(alloc, seconds)?;
-    let done = grouped(alloc, share.done as u64)?;
-    let parts = grouped(alloc, share.parts as u64)?;
-    let line = if asked == 0 {
+    let asked = state.asked.load(Ordering::SeqCst);
+    let told = grouped(alloc, asked)?;
+    let parts = state.parts.load(Ordering::SeqCst);
+    let share = share_of(alloc, state.done.load(Ordering::SeqCst), parts)?;
+    let line = if state.is_judged.load(Ordering::SeqCst) {
+        format!(in alloc; "fencer: after {seconds} s: what is found is judged\n")?
+    } else if asked == 0 && parts == 0 {
+        format!(in alloc; "fencer: after {seconds} s: outcomes are searched for\n")?
+    } else if asked == 0 {
         format!(in alloc;
-            "fencer: after {seconds} s: {done} of {parts} parts of the search for outcomes are done\n"
+            "fencer: after {seconds} s: {share} of the search for outcomes are done\n"
         )?
+    } else if parts == 0 {
+        format!(in alloc; "fencer: after {seconds} s: sets asked: {told}\n")?
     } else {
-        let asked = grouped(alloc, asked)?;
         format!(in alloc;
-            "fencer: after {seconds} s: sets asked: {asked}; {done} of {parts} parts of the last question are done\n"
+            "fencer: after {seconds} s: sets asked: {told}; {share} of the last question are done\n"
         )?
     };
     Ok(line.into_bytes())
 }
 
-/// That what was found is judged after so many seconds.
-fn judged_line(alloc: Global, seconds: u64) -> Result<Vec<u8>, AllocError> {
-    let seconds = grouped(alloc, seconds)?;
-    Ok(format!(in alloc; "fencer: after {seconds} s: what is found is judged\n")?.into_bytes())
+/// How many of the parts are done.
+fn share_of(alloc: Global, done: u64, parts: u64) -> Result<String, AllocError> {
+    let done = grouped(alloc, done)?;
+    let parts = grouped(alloc, parts)?;
+    format!(in alloc; "{done} of {parts} parts")
 }

@@ -1,7 +1,6 @@
 //! What a search has found.
 use crate::known_outcomes::{FoundOutcomes, KnownOutcomes};
 use crate::proposing_search::ProposingSearch;
-use crate::search_watch::Share;
 use crate::tree_search::{Found, SearchEnd, TreeSearch};
 use cert_forest::Node;
 use std::alloc::{AllocError, Global};
@@ -39,7 +38,7 @@ impl Searched {
     }
 }
 
-/// So many steps at a time a search is made, before it is reported how far it is.
+/// So many steps at a time a search is made.
 pub(crate) const TURN_STEPS: u64 = 1 << 10;
 
 /// Searches in one piece for so many turns at most. `None` if the search has not ended then.
@@ -53,7 +52,6 @@ pub(crate) fn searched_within<'a>(
     let mut search = TreeSearch::new(asked, mode, outcomes)?;
     let mut found = search.begin(&[])?;
     for _ in 0..turns {
-        asked.watch.report(Share { done: 0, parts: 1 });
         found = match search.go_on(found, TURN_STEPS)? {
             Found::Ended(end) => return Ok(Some(search.ended(end))),
             other => other,

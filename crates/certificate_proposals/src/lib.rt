@@ -16,5 +16,5 @@ mod size;
 mod text;
 
 pub use candidate_search::{SearchPlan, SearchWatch};
-pub use size::{is_large, proposed_rule};
+pub use size::proposed_rule;
 pub use text::propose;

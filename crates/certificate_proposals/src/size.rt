@@ -11,11 +11,6 @@ const MOST_SEARCHED: u64 = 6;
 /// The most combinations of traces of a program whose trees are whole, where no rule is asked for.
 const MOST_WHOLE: u64 = 1_000;
 
-/// Whether a program has so many combinations of traces that what answers it is proposed first.
-pub fn is_large(alloc: Global, program: &Program) -> Result<bool, AllocError> {
-    Ok(is_over(trace_combinations(alloc, program)?, MOST_SEARCHED))
-}
-
 /// The rule by which a program's certificate is proposed: the one that is asked for, or one by the program's size. `None`
 /// if none is proposed.
 pub fn proposed_rule(

@@ -16,7 +16,8 @@ use Rattle.tso_machine.specs.Modes.{machine_of_mode}
 use Rattle.tso_machine.specs.Outcomes.{AllowsShown, IsShownRun}
 use Rattle.dataflow_laws.specs.DeadLoads.{Places, drop_loads, AreDead, IsWithoutDeadLoads}
 use Rattle.dataflow_laws.specs.Laws.{DroppedLoadsKeepGaps, DeadLoadsKeepRuns, DeadLoadsKeepOutcomes}
-use Rattle.cover_solver.specs.OutcomeLists.{AreRunsOf}
+use Rattle.cover_solver.specs.declared.outcome_list.OutcomeList.{OutcomeList}
+use Rattle.cover_solver.specs.OutcomeLists.{AreRunsOf, IsListOfAll}
 
 -- lists that are in step by one relation are so by a weaker one
 in_step : {A B : Type 0} (R Q : A → B → Type 0) → ((x : A) (y : B) → R x y → Q x y) → (xs : List A) (ys : List B) → AllZip R xs ys → AllZip Q xs ys
@@ -37,7 +38,7 @@ module _ (p slim : Listing) (shown : Shown) (mode : Mode) (without : IsWithoutDe
   machine : machine_of_mode slim mode ≡ machine_of_mode p mode
   machine = ap (λ (r : Listing). machine_of_mode r mode) without.2 ∙ one_machine p without.0 mode gaps
 
-  pub runs_back : DeadLoadsKeepRuns → (runs : List (List Label)) (outcomes : List Outcome) → AreRunsOf (asked slim shown) (machine_of_mode slim mode) runs outcomes → AreRunsOf (asked p shown) (machine_of_mode p mode) runs outcomes
+  runs_back : DeadLoadsKeepRuns → (runs : List (List Label)) (outcomes : List Outcome) → AreRunsOf (asked slim shown) (machine_of_mode slim mode) runs outcomes → AreRunsOf (asked p shown) (machine_of_mode p mode) runs outcomes
   runs_back kept runs outcomes are =
       in_step (IsShownRun (asked slim shown) (machine_of_mode slim mode)) (IsShownRun (asked p shown) (machine_of_mode p mode)) (λ labels o is.
       (kept p shown without.0 (machine_of_mode p mode) labels o dead).0
@@ -49,6 +50,14 @@ module _ (p slim : Listing) (shown : Shown) (mode : Mode) (without : IsWithoutDe
       subst (λ (m : Machine). AllowsShown (asked slim shown) m o ↔ AllowsShown (asked p shown) (machine_of_mode p mode) o) (sym machine)
       (subst (λ (r : Listing). AllowsShown (asked r shown) (machine_of_mode p mode) o ↔ AllowsShown (asked p shown) (machine_of_mode p mode) o) (sym without.2) (kept p shown without.0 (machine_of_mode p mode) o dead))
 
-  pub exact_back : DeadLoadsKeepOutcomes → (outcomes : List Outcome) → ((o : Outcome) → Contains outcomes o ↔ AllowsShown (asked slim shown) (machine_of_mode slim mode) o) →
+  exact_back : DeadLoadsKeepOutcomes → (outcomes : List Outcome) → ((o : Outcome) → Contains outcomes o ↔ AllowsShown (asked slim shown) (machine_of_mode slim mode) o) →
       (o : Outcome) → Contains outcomes o ↔ AllowsShown (asked p shown) (machine_of_mode p mode) o
   exact_back kept outcomes exact o = (λ here. (same_outcomes kept o).0 ((exact o).0 here), λ allows. (exact o).1 ((same_outcomes kept o).1 allows))
+
+  -- all outcomes without these loads, each with a run, are all outcomes of the program
+  pub listed_back : DeadLoadsKeepRuns → DeadLoadsKeepOutcomes → (list : OutcomeList) → IsListOfAll (asked slim shown) (machine_of_mode slim mode) list → IsListOfAll (asked p shown) (machine_of_mode p mode) list
+  listed_back kept_runs kept_outcomes list all = record {
+    ascend = all.ascend;
+    runs = runs_back kept_runs list.runs list.outcomes.items all.runs;
+    exact = exact_back kept_outcomes list.outcomes.items all.exact;
+  }

@@ -21,7 +21,6 @@ mod witnesses;
 
 pub use oracle::{ForeignFault, ForeignRun, Oracle, SeqTable, Served, SolveFault, Verdict};
 pub use outcome_list::{OutcomeList, outcomes, outcomes_with_runs};
-pub use proposed::{outcomes_by_threads, proposed_outcomes};
 pub use solver::Solver;
 pub use table::sequential;
 pub use witnesses::witness;

@@ -1,11 +1,12 @@
 //! Outcomes that a search for early trees proposes, and that are judged.
-ghost use Rattle.std.specs.Prelude.{◌≡◌, ◌↔◌, ◌++◌, ◌∷◌, [], IsTrue, IfOk, IfSome, Contains};
+ghost use Rattle.std.specs.Prelude.{◌++◌, ◌∷◌, [], IsTrue, IfOk, IfSome, Contains};
 ghost use Rattle.tso_program.specs.declared.outcome.Outcome.{Outcome};
 ghost use Rattle.tso_program.specs.Shown.{asked};
 ghost use Rattle.tso_machine.specs.Modes.{machine_of_mode};
 ghost use Rattle.tso_machine.specs.Outcomes.{AllowsShown, IsShownRun};
 ghost use Rattle.tree_laws.specs.Ascending.{Ascend};
-ghost use Rattle.cover_solver.specs.OutcomeLists.{AreRunsOf};
+ghost use Rattle.dataflow_laws.specs.DeadLoads.{IsWithoutDeadLoads};
+ghost use Rattle.cover_solver.specs.OutcomeLists.{AreRunsOf, IsListOfAll};
 ghost use Rattle.cover_solver.specs.Sought.{question_of, machine_of};
 
 use crate::outcome_list::OutcomeList;
@@ -13,6 +14,7 @@ use crate::tree_nodes::are_trees;
 use candidate_search::{ProposedOutcomes, ProposingSearch, SearchPlan, SearchWatch};
 use cert_forest::{Node, Runs, Walk};
 use cover_judge::{NodeFault, RowlessSketch, judge};
+use cover_search::Search;
 use dataflow_laws::{dead_loads_keep_outcomes, dead_loads_keep_runs, dropped_loads_keep_gaps};
 use live_registers::without_dead_loads;
 use std::alloc::{AllocError, Global};
@@ -21,63 +23,63 @@ use tree_laws::{Rule, a_valid_cover_tree_covers, a_valid_tree_lists_every_outcom
 use tso_machine::{Ended, Label, Mode, ReplayFault, replay};
 use tso_program::{Outcome, Program, Shown};
 
-/// The outcomes of the machine of a mode that a search for early trees proposes, where they are judged to be all.
-/// `None` where it gives up, or where what it proposes is wrong. The search is made without the program's dead loads.
-pub fn proposed_outcomes(
-    alloc: Global,
-    program: &Program,
-    shown: &Shown,
-    mode: Mode,
-) -> Result<Option<OutcomeList>, AllocError>
-    ensures ascend { IfOk result (λ found. IfSome found (λ list. Ascend list.outcomes.items)) }
-    ensures runs { IfOk result (λ found. IfSome found (λ list. AreRunsOf (asked program.now shown.now) (machine_of_mode program.now mode) list.runs list.outcomes.items)) }
-    ensures exact { IfOk result (λ found. IfSome found (λ list. (o : Outcome) → Contains list.outcomes.items o ↔ AllowsShown (asked program.now shown.now) (machine_of_mode program.now mode) o)) }
+/// All outcomes of a search, as a search for early trees proposes them, where they are judged to be all. `None` where it gives
+/// up, or where what it proposes is wrong. It is made without the program's dead loads.
+pub(crate) fn proposed_outcomes(search: &Search) -> Result<Option<OutcomeList>, AllocError>
+    ensures { IfOk result (λ found. IfSome found (IsListOfAll (asked search.now.program.now search.now.shown.now) (machine_of_mode search.now.program.now search.now.mode))) }
 {
-    let slim = without_dead_loads(alloc, program, shown)?;
-    dropped_loads_keep_gaps();
-    dead_loads_keep_runs();
-    dead_loads_keep_outcomes();
-    let sought = Sought {
-        alloc,
-        program: &slim,
-        shown,
-        mode,
-    };
-    let watch = SearchWatch::none(alloc);
+    let slim = without_dead_loads(search.alloc, search.program, search.shown)?;
+    let watch = SearchWatch::none();
     let plan = SearchPlan {
         rule: Rule::Early,
         workers: 1,
         watch: &watch,
     };
-    let found = sought.search(plan)?.outcomes(mode)?;
-    sought.judged(found)
+    let found = ProposingSearch::new(search.alloc, plan, &slim, search.shown)?.outcomes(
+        search.mode,
+    )?;
+    judged_for(search, &slim, found)
 }
 
-/// The outcomes of the machine of a mode, as [`proposed_outcomes`] finds them, by a plan, but for its rule: threads share a long
-/// search, and its watch reports how far it is.
-pub fn outcomes_by_threads<R: Threads + Sync>(
+/// All outcomes of a search, as [`proposed_outcomes`] finds them, by a plan, but for its rule: threads share a long search, and
+/// its watch reports how far it is.
+pub(crate) fn outcomes_by_threads<R: Threads + Sync>(
     rt: &R,
     plan: SearchPlan<'_>,
-    alloc: Global,
-    program: &Program,
-    shown: &Shown,
-    mode: Mode,
+    search: &Search,
 ) -> Result<Option<OutcomeList>, AllocError>
-    ensures ascend { IfOk result (λ found. IfSome found (λ list. Ascend list.outcomes.items)) }
-    ensures runs { IfOk result (λ found. IfSome found (λ list. AreRunsOf (asked program.now shown.now) (machine_of_mode program.now mode) list.runs list.outcomes.items)) }
-    ensures exact { IfOk result (λ found. IfSome found (λ list. (o : Outcome) → Contains list.outcomes.items o ↔ AllowsShown (asked program.now shown.now) (machine_of_mode program.now mode) o)) }
+    ensures { IfOk result (λ found. IfSome found (IsListOfAll (asked search.now.program.now search.now.shown.now) (machine_of_mode search.now.program.now search.now.mode))) }
 {
-    let slim = without_dead_loads(alloc, program, shown)?;
+    let slim = without_dead_loads(search.alloc, search.program, search.shown)?;
+    let plan = SearchPlan {
+        rule: Rule::Early,
+        ..plan
+    };
+    let found = ProposingSearch::new(search.alloc, plan, &slim, search.shown)?.outcomes_by_threads(
+        rt,
+        search.mode,
+    )?;
+    judged_for(search, &slim, found)
+}
+
+/// What is proposed of a search's program without its dead loads, where it is judged to be all outcomes of the search.
+fn judged_for(
+    search: &Search,
+    slim: &Program,
+    found: Option<ProposedOutcomes>,
+) -> Result<Option<OutcomeList>, AllocError>
+    requires { IsWithoutDeadLoads search.now.program.now search.now.shown.now slim.now }
+    ensures { IfOk result (λ found. IfSome found (IsListOfAll (asked search.now.program.now search.now.shown.now) (machine_of_mode search.now.program.now search.now.mode))) }
+{
     dropped_loads_keep_gaps();
     dead_loads_keep_runs();
     dead_loads_keep_outcomes();
     let sought = Sought {
-        alloc,
-        program: &slim,
-        shown,
-        mode,
+        alloc: search.alloc,
+        program: slim,
+        shown: search.shown,
+        mode: search.mode,
     };
-    let found = sought.search(plan)?.outcomes_by_threads(rt, mode)?;
     sought.judged(found)
 }
 
@@ -91,20 +93,9 @@ struct Sought<'a> {
 }
 
 impl Sought<'_> {
-    /// A search by a plan, for early trees.
-    fn search<'b>(&'b self, plan: SearchPlan<'b>) -> Result<ProposingSearch<'b>, AllocError> {
-        let plan = SearchPlan {
-            rule: Rule::Early,
-            ..plan
-        };
-        ProposingSearch::new(self.alloc, plan, self.program, self.shown)
-    }
-
     /// The outcomes that are proposed, where they are judged to be all.
     fn judged(&self, found: Option<ProposedOutcomes>) -> Result<Option<OutcomeList>, AllocError>
-        ensures ascend { IfOk result (λ found. IfSome found (λ list. Ascend list.outcomes.items)) }
-        ensures runs { IfOk result (λ found. IfSome found (λ list. AreRunsOf (question_of self.now) (machine_of self.now) list.runs list.outcomes.items)) }
-        ensures exact { IfOk result (λ found. IfSome found (λ list. (o : Outcome) → Contains list.outcomes.items o ↔ AllowsShown (question_of self.now) (machine_of self.now) o)) }
+        ensures { IfOk result (λ found. IfSome found (IsListOfAll (question_of self.now) (machine_of self.now))) }
     {
         let Some(proposed) = found else {
             return Ok(None);

@@ -5,7 +5,7 @@ ghost use Rattle.std.specs.Prelude.{◌≡◌};
 use crate::inserted::Unkept;
 use crate::refusals::AnswerFault;
 use crate::texts::Texts;
-use fencer_words::Placement;
+use fencer_words::{Placement, option_hint};
 use gap_list::{TextLines, fence_notes};
 use gap_sets::GapSet;
 use litmus_text::{ReadFault, read_litmus};
@@ -136,7 +136,18 @@ pub(crate) fn unkept_advice(
 pub(crate) fn tell_hint<W: Console>(alloc: Global, words: &[String], output: &mut W)
     ensures { W.contents output.new ≡ W.contents output.old }
 {
-    output.tell(command_hint(alloc, words));
+    output.tell(hint_advice(alloc, words));
+}
+
+/// What arguments may mean that are no command, or which commands take an option that theirs lacks; nothing where neither
+/// is known.
+fn hint_advice(alloc: Global, words: &[String]) -> Result<Vec<u8>, AllocError> {
+    let meant = command_hint(alloc, words)?;
+    let option = option_hint(alloc, words)?;
+    if !meant.is_empty() || option.is_empty() {
+        return Ok(meant);
+    }
+    Message::of_file(alloc, "fencer", option.as_str())?.written(alloc, false)
 }
 
 /// What is said of the first slip that a litmus text may have, and nothing if there is none.

@@ -1,6 +1,6 @@
 //! Outcomes: the lines of a program's list, or why there is no list.
 
-ghost use Rattle.std.specs.Prelude.{◌≡◌, ◌↔◌, ◌++◌, ℕ, List, true, IfOk, IfErr, IfSome, OnOk, Contains, string_bytes};
+ghost use Rattle.std.specs.Prelude.{◌≡◌, ◌↔◌, ◌++◌, ℕ, List, true, IfOk, IfErr, OnOk, Contains, string_bytes};
 ghost use Rattle.tso_program.specs.Shown.{asked as question};
 ghost use Rattle.tso_program.specs.declared.outcome.Outcome.{Outcome};
 ghost use Rattle.tso_machine.specs.Modes.{machine_of_mode};
@@ -22,7 +22,7 @@ use crate::refusals::{AnswerFault, Reply, print_answer};
 use crate::refused::tell_refusal;
 use crate::status::check_status;
 use cert_forest::Runs;
-use certificate_proposals::{SearchPlan, SearchWatch, is_large};
+use certificate_proposals::{SearchPlan, SearchWatch};
 use documents::{FencedModel, LinedLitmus, outcomes_document, outcomes_with_runs_document};
 use fencer_words::OutcomeQuery;
 use gap_list::TextLines;
@@ -31,7 +31,7 @@ use json_text::JsonObject;
 use litmus_text::{Condition, Litmus, NameTable, read_litmus};
 use messages::file_or_input;
 use oracle::SolveFault;
-use placed_text::{report_ahead, warn_of_minutes};
+use placed_text::warn_of_minutes;
 use program_streams::{Console, FileStore, Progress, TEXT_LIMIT, file_line, named_bytes};
 use report::{condition_line, is_true_of, labels_line, observation_line, outcome_line};
 use std::alloc::{AllocError, Global};
@@ -40,7 +40,7 @@ use std::thread::Threads;
 use tree_laws::Rule;
 use tso_machine::Mode;
 use tso_program::{Outcome, Program, Shown};
-use witness_text::{OutcomeList, gaps_at, outcomes_by_threads, outcomes_with_runs};
+use witness_text::{OutcomeList, gaps_at, outcomes_with_runs};
 
 /// The line of the run of this number, if there is one.
 fn push_run(
@@ -189,36 +189,7 @@ fn list_text(
     }
 }
 
-/// The outcomes that a quick search proposes, each with a run, where the program is large and the judge accepts them.
-fn proposed<T: Threads + Sync>(
-    rt: &T,
-    search: &ListSearch<'_>,
-) -> Result<Option<OutcomeList>, AllocError>
-    ensures ascend { IfOk result (λ found. IfSome found (λ list. Ascend list.outcomes.items)) }
-    ensures runs { IfOk result (λ found. IfSome found (λ list. AreRunsOf (question search.now.program.now search.now.shown.now) (machine_of_mode search.now.program.now search.now.mode) list.runs list.outcomes.items)) }
-    ensures exact { IfOk result (λ found. IfSome found (λ list. (o : Outcome) → Contains list.outcomes.items o ↔ AllowsShown (question search.now.program.now search.now.shown.now) (machine_of_mode search.now.program.now search.now.mode) o)) }
-{
-    if !is_large(search.alloc, search.program)? {
-        return Ok(None);
-    }
-    let watch = SearchWatch::new(search.alloc, search.progress);
-    let plan = SearchPlan {
-        rule: Rule::Early,
-        workers: search.workers,
-        watch: &watch,
-    };
-    outcomes_by_threads(
-        rt,
-        plan,
-        search.alloc,
-        search.program,
-        search.shown,
-        search.mode,
-    )
-}
-
-/// The outcomes that are searched for, each with a run: those that are proposed, or else those that a search over whole trees
-/// finds. What lies ahead is reported.
+/// The outcomes that are searched for, each with a run. It is said before a search that it may take minutes.
 fn list_with_runs<T: Threads + Sync>(
     rt: &T,
     search: &ListSearch<'_>,
@@ -229,13 +200,20 @@ fn list_with_runs<T: Threads + Sync>(
     ensures fault { IfErr result (λ fault. fault ≡ solve.OutOfMemory) }
 {
     warn_of_minutes(search.alloc, search.program, search.progress);
-    match proposed(rt, search)? {
-        Some(list) => Ok(list),
-        None => {
-            report_ahead(search.alloc, search.program, search.progress);
-            outcomes_with_runs(search.alloc, search.program, search.shown, search.mode)
-        }
-    }
+    let watch = SearchWatch::new(rt, search.alloc, search.progress);
+    let plan = SearchPlan {
+        rule: Rule::Early,
+        workers: search.workers,
+        watch: &watch,
+    };
+    outcomes_with_runs(
+        rt,
+        plan,
+        search.alloc,
+        search.program,
+        search.shown,
+        search.mode,
+    )
 }
 
 /// The outcomes that are searched for, and a run of each if runs are asked for.

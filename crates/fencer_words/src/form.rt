@@ -46,7 +46,8 @@ impl Form {
         ]
     }
 
-    fn name<'a>(self) -> &'a str
+    /// The name.
+    pub fn name<'a>(self) -> &'a str
         ensures { result.now ≡ name_of_form self }
     {
         match self {

@@ -2,8 +2,8 @@
 //!
 //! Each command is a module with its help and its job; its parameters stand in a table (`form.rt`).
 //!
-//! Begin with `read_words`, `Job` and `Placement`. Free to change: the sentences of the help, which tests
-//! alone show. Relied on: a job is given exactly as `clap` reads the arguments by the definitions of
+//! Begin with `read_words`, `Job` and `Placement`. Free to change: the sentences of the help and of hints, which
+//! tests alone show. Relied on: a job is given exactly as `clap` reads the arguments by the definitions of
 //! `specs/CommandLines.antt`; no job writes a file that it reads, nor one file twice.
 #![tactic(auto)]
 
@@ -12,6 +12,7 @@ mod fences;
 mod files;
 mod form;
 mod gaps;
+mod hints;
 mod job;
 mod outcomes;
 mod parameter;
@@ -23,6 +24,7 @@ mod why;
 mod witness;
 mod words;
 
+pub use hints::option_hint;
 pub use job::{
     GapQuery, Job, OutcomeQuery, Placement, Run, SurveyOptions, SurveyQuery, TieQuery, TraceQuery,
     WhyQuery, WitnessQuery,

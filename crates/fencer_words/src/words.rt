@@ -57,7 +57,7 @@ static MODELS: [&str; 2] = ["buffered", "sequential"];
 static RULES: [&str; 2] = ["whole", "early"];
 
 /// The names of the models, and of the rules of trees.
-fn choice_names<'a>() -> ChoiceNames<'a>
+pub fn choice_names<'a>() -> ChoiceNames<'a>
     ensures { AreChoices result }
 {
     ChoiceNames {
@@ -160,20 +160,41 @@ fn command_error(alloc: Global, kind: ErrorKind, text: &str) -> Result<Error, Al
     command(alloc)?.error(kind, text)
 }
 
+/// An error of the command of this name, with its usage.
+fn error_of(alloc: Global, name: &str, kind: ErrorKind, text: &str) -> Result<Error, AllocError> {
+    for form in Form::all() {
+        if form.name() == name {
+            let full_name = format!(in alloc; "fencer {name}")?;
+            let named = form.command(alloc, choice_names())?;
+            return named.bin_name(full_name.as_str())?.error(kind, text);
+        }
+    }
+    command_error(alloc, kind, text)
+}
+
 /// Why a subcommand that was met asks for no job.
 fn no_job(alloc: Global, matches: &ArgMatches<'_>) -> Result<Error, AllocError> {
     match matches.subcommand() {
-        Some((_, inner)) if asks_twice(inner) => {
-            command_error(alloc, ErrorKind::ArgumentConflict, TWICE)
+        Some((name, inner)) => {
+            let (kind, text) = said_of(name, inner);
+            error_of(alloc, name, kind, text)
         }
-        Some((_, inner)) if fences_in_vain(inner) => {
-            command_error(alloc, ErrorKind::ArgumentConflict, IN_VAIN)
-        }
-        Some((_, inner)) if reads_input_twice(inner) => {
-            command_error(alloc, ErrorKind::ArgumentConflict, INPUT_TWICE)
-        }
-        Some(("gaps", _)) => command_error(alloc, ErrorKind::ValueValidation, SAME),
-        _ => command_error(alloc, ErrorKind::ValueValidation, FENCES),
+        None => command_error(alloc, ErrorKind::ValueValidation, FENCES),
+    }
+}
+
+/// What is said of the command of this name where it asks for no job.
+fn said_of(name: &str, matches: &ArgMatches<'_>) -> (ErrorKind, &'static str) {
+    if asks_twice(matches) {
+        (ErrorKind::ArgumentConflict, TWICE)
+    } else if fences_in_vain(matches) {
+        (ErrorKind::ArgumentConflict, IN_VAIN)
+    } else if reads_input_twice(matches) {
+        (ErrorKind::ArgumentConflict, INPUT_TWICE)
+    } else if name == "gaps" {
+        (ErrorKind::ValueValidation, SAME)
+    } else {
+        (ErrorKind::ValueValidation, FENCES)
     }
 }
 

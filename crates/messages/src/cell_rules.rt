@@ -31,6 +31,21 @@ pub(crate) const INSTRUCTION: &[Rule] = &[
         said: "is not read; a condition is `exists`, `~exists` or `forall`, and a formula",
     },
     Rule {
+        after: &[";"],
+        words: &["(", "[", "<formula>"],
+        said: "begins no instruction; these are MOV, XCHG, MFENCE, CMP, JE, JNE and JMP, and a condition begins with `exists`, `~exists` or `forall`",
+    },
+    Rule {
+        after: CELL,
+        words: &["<zero_test>"],
+        said: "is not read; write `CMP EAX,$0` to compare a register with 0",
+    },
+    Rule {
+        after: CELL,
+        words: &["<zeroing>"],
+        said: "is not read; write `MOV EAX,$0` to make a register 0",
+    },
+    Rule {
         after: CELL,
         words: &[
             "INC", "DEC", "ADD", "SUB", "AND", "OR", "XOR", "NEG", "NOT", "MUL", "IMUL", "DIV",
@@ -46,7 +61,7 @@ pub(crate) const INSTRUCTION: &[Rule] = &[
     Rule {
         after: CELL,
         words: &["LOCK", "CMPXCHG", "XADD"],
-        said: "is not read; the one locked instruction is XCHG, without LOCK (docs/guide.md says what it stands for)",
+        said: "is not read; the one locked instruction is XCHG, without LOCK; docs/guide.md, *Compare-and-swap*, has a recipe for others",
     },
     Rule {
         after: CELL,

@@ -1,10 +1,14 @@
 //! Certificates that can't be read, or don't show what they claim.
 
 use crate::message::Message;
-use crate::source::{Source, bytes_from};
+use crate::source::{Source, bytes_from, line_of};
 use cert_check::CheckFault;
 use cert_forest::CertFault;
 use std::alloc::{AllocError, Global};
+
+/// What is said of a carriage return.
+const CARRIAGE_RETURN: &str =
+    "is a carriage return; each line of a certificate ends with a line feed alone";
 
 /// What is said of the bytes at an offset of a certificate.
 fn byte_message(
@@ -42,7 +46,20 @@ pub fn certificate_message(
         CertFault::Trailing(offset) => (offset, "follows the last line"),
         CertFault::OutOfMemory => return Message::of_file(alloc, source.name, "out of memory"),
     };
-    byte_message(alloc, source, offset, said)
+    match carriage_return(source.text, offset) {
+        Some(offset) => Message::at_word(alloc, source, offset, b"\r", CARRIAGE_RETURN),
+        None => byte_message(alloc, source, offset, said),
+    }
+}
+
+/// The carriage return with which a line of a certificate ends, where the line goes on from an offset.
+fn carriage_return(text: &[u8], offset: usize) -> Option<usize> {
+    let line = line_of(bytes_from(text, offset));
+    if text.starts_with(b"FENCECERT ") && line.ends_with(b"\r") {
+        Some(offset.saturating_add(line.len()).saturating_sub(1))
+    } else {
+        None
+    }
 }
 
 /// The number, from 1, of the line that is so many lines below the first with this name.

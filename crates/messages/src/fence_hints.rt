@@ -1,5 +1,6 @@
 //! What arguments with `--fences` that are no command of `fencer` may mean.
 
+use crate::hints::is_litmus;
 use crate::message::shown_word;
 use crate::source::bytes_from;
 use std::alloc::{AllocError, Global};
@@ -16,8 +17,8 @@ struct MeantGaps {
     is_written_so: bool,
 }
 
-/// What arguments with `--fences` may mean: another command that takes it, or gaps with commas between them. It is empty
-/// where that is not known.
+/// What arguments with `--fences` may mean: another command that takes it, gaps with commas between them, or gaps before a
+/// litmus file. It is empty where that is not known.
 pub(crate) fn fences_hint(alloc: Global, words: &[String]) -> Result<String, AllocError> {
     let Some(number) = option_in(words) else {
         return Ok(String::new(alloc));
@@ -35,12 +36,33 @@ pub(crate) fn fences_hint(alloc: Global, words: &[String]) -> Result<String, All
                 is_written_so,
             } = gaps_meant(alloc, words, number)?;
             if is_written_so {
-                return Ok(String::new(alloc));
+                return taken_hint(alloc, words, number);
             }
             let gaps = shown_word(alloc, &gaps)?;
             format!(in alloc; "did you mean `--fences {gaps}`?")
         }
     }
+}
+
+/// That a litmus file is taken for the gaps of the option with this number, where it stands right after it.
+fn taken_hint(alloc: Global, words: &[String], number: usize) -> Result<String, AllocError> {
+    match words.split_at(number.min(words.len())) {
+        ([command, ..], [option, file, ..])
+            if takes_some(command.as_str())
+                && option.as_bytes() == OPTION
+                && is_litmus(file.as_str()) => {
+            let file = shown_word(alloc, file.as_bytes())?;
+            format!(in alloc;
+                "{file} is taken for the gaps of --fences, which stand before it, as `--fences 0:1,1:1 {file}`"
+            )
+        }
+        _ => Ok(String::new(alloc)),
+    }
+}
+
+/// Whether a command takes fences.
+fn takes_some(command: &str) -> bool {
+    command == "outcomes" || command == "witness"
 }
 
 /// Whether a command searches for fences, and takes none.

@@ -53,6 +53,6 @@ fn is_command(word: &str) -> bool {
 }
 
 /// Whether a word may name a litmus file; `-` is standard input.
-fn is_litmus(word: &str) -> bool {
+pub(crate) fn is_litmus(word: &str) -> bool {
     word == "-" || word.as_bytes().ends_with(b".litmus")
 }

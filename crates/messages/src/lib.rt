@@ -15,6 +15,7 @@ mod costs;
 mod fence_hints;
 mod fences;
 mod files;
+mod forms;
 mod hints;
 mod labels;
 mod limits;

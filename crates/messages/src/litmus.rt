@@ -4,10 +4,10 @@ use crate::limits::limit_text;
 use crate::message::{Message, shown_word};
 use crate::refusals::{instruction_left, refusal_of};
 use crate::rows::row_message;
-use crate::rules::{COMMENT, said_of};
+use crate::rules::{COMMENT, OPEN_COMMENT, said_of};
 use crate::source::{Source, bytes_from, line_of, line_start};
-use crate::tokens::{begins_foreign_comment, spot_of, word_at};
-use litmus_lines::{read_first_line, skip_lines};
+use crate::tokens::{begins_foreign_comment, open_comment, spot_of, word_at};
+use litmus_lines::{line_number, read_first_line, skip_lines};
 use litmus_reader::ReadFault;
 use litmus_syntax::{Part, Refusal, read_body};
 use std::alloc::{AllocError, Global};
@@ -32,6 +32,10 @@ const FIRST_LINES: &[(&str, &str)] = &[
     (
         "#",
         "begins no comment; comments stand in `(* *)`, and none before the first line, `X86` and a name",
+    ),
+    (
+        "FENCECERT ",
+        "begins a certificate; `fencecheck` takes the litmus file first, and then the certificate",
     ),
     (
         "X86_64",
@@ -112,7 +116,7 @@ fn lines_message(
 ) -> Result<Message, AllocError> {
     match skip_lines(source.text, lines) {
         Ok(rest) => tokens_message(alloc, source, rest, fault),
-        Err(_) => skipped_message(alloc, source, fault),
+        Err(_) => skipped_message(alloc, source, lines, fault),
     }
 }
 
@@ -125,10 +129,11 @@ fn said_of_skipped(line: &[u8]) -> &'static str {
     }
 }
 
-/// What is said of a line between the first one and `{`.
+/// What is said of a line between the first one and `{`, where these lines follow the first one.
 fn skipped_message(
     alloc: Global,
     source: Source<'_>,
+    lines: &[u8],
     fault: ReadFault,
 ) -> Result<Message, AllocError> {
     match fault {
@@ -140,6 +145,10 @@ fn skipped_message(
             Message::at_word(alloc, source, offset, word_at(line), said_of_skipped(line))
         }
         _ => {
+            if let Some(rest) = open_comment(lines) {
+                let offset = source.text.len().saturating_sub(rest.len());
+                return Message::at_word(alloc, source, offset, b"(*", OPEN_COMMENT);
+            }
             let said = "ends before its initial values, which are `{ }` at least";
             Message::at_word(alloc, source, source.text.len(), b"", said)
         }
@@ -156,12 +165,12 @@ fn tokens_message(
     if let ReadFault::Program(line, inner) = fault {
         return program_message(alloc, source, rest, line, inner);
     }
-    let tokens = lex(alloc, rest, 1)?;
     let offset = source.text.len().saturating_sub(rest.len());
+    let tokens = lex(alloc, rest, line_number(source.text, offset))?;
     match refusal_of(alloc, tokens.as_slice()) {
         Some(refusal) => {
             let spot = spot_of(rest, tokens.as_slice(), refusal, offset);
-            match row_message(alloc, source, tokens.as_slice(), refusal.left, &spot)? {
+            match row_message(alloc, source, &tokens, refusal.left, &spot)? {
                 Some(message) => Ok(message),
                 None => Message::at_word(alloc, source, spot.offset, spot.shown, said_of(&spot)),
             }

@@ -7,7 +7,7 @@ use crate::text_end::is_mark;
 use crate::tokens::Spot;
 use litmus_syntax::Part;
 use std::alloc::{AllocError, Global};
-use text_tokens::{Mark, Token};
+use text_tokens::{Mark, Token, Tokens};
 
 /// What is said of a row that has enough cells, and of initial values, where a line ends without `;`.
 const NO_END: &str = "stands where `;` is missing";
@@ -26,16 +26,18 @@ struct Cells {
 pub(crate) fn row_message(
     alloc: Global,
     source: Source<'_>,
-    tokens: &[Token],
+    tokens: &Tokens,
     left: usize,
     spot: &Spot<'_>,
 ) -> Result<Option<Message>, AllocError> {
+    let header_line = tokens.line(header_at(tokens.as_slice()));
+    let tokens = tokens.as_slice();
     let index = tokens.len().saturating_sub(left);
     let cells = cells_of(tokens, index);
     let whole = whole_row(tokens, index, cells);
     match spot.part {
         Part::Row => {
-            let said = said_of_cells(alloc, cells)?;
+            let said = said_of_cells(alloc, cells, header_line)?;
             let said = said.as_str();
             Ok(Some(Message::at_word(alloc, source, spot.offset, spot.shown, said)?))
         }
@@ -106,15 +108,19 @@ fn said_of_end(alloc: Global, part: Part, cells: Cells) -> Result<String, AllocE
     }
 }
 
-/// What is said of the end of a row with another number of cells than there are threads.
-fn said_of_cells(alloc: Global, cells: Cells) -> Result<String, AllocError> {
+/// What is said of the end of a row with another number of cells than there are threads, which the header row in this line
+/// names.
+fn said_of_cells(alloc: Global, cells: Cells, header_line: u32) -> Result<String, AllocError> {
     let counts = counts_of(alloc, cells)?;
-    let hint = if cells.row < cells.threads {
-        "an empty cell keeps its `|` (`MOV [x],$1 | ;`), and a second instruction of a thread stands in the next row"
+    if cells.row < cells.threads {
+        format!(in alloc;
+            "ends a row with {counts}; an empty cell keeps its `|` (`MOV [x],$1 | ;`), and a second instruction of a thread stands in the next row"
+        )
     } else {
-        "each row has one cell for each thread"
-    };
-    format!(in alloc; "ends a row with {counts}; {hint}")
+        format!(in alloc;
+            "ends a row with {counts}; each row has one cell for each thread that line {header_line} names"
+        )
+    }
 }
 
 /// Both numbers.
@@ -158,13 +164,18 @@ fn whole_row(tokens: &[Token], index: usize, cells: Cells) -> Cells {
     Cells { row, threads }
 }
 
-/// How many threads the header row names: the row that follows `}`.
-fn threads_of(tokens: &[Token]) -> usize {
+/// The index of the first token of the header row, which follows `}`.
+fn header_at(tokens: &[Token]) -> usize {
     let end = tokens
         .iter()
         .position(|token| is_mark(token, Mark::CloseBrace));
+    end.unwrap_or(0).saturating_add(1)
+}
+
+/// How many threads the header row names.
+fn threads_of(tokens: &[Token]) -> usize {
     let mut threads = 1usize;
-    for token in tokens.iter().skip(end.unwrap_or(0)) {
+    for token in tokens.iter().skip(header_at(tokens)) {
         if is_mark(token, Mark::Semicolon) {
             return threads;
         }

@@ -10,6 +10,9 @@ use litmus_syntax::Part;
 /// What is said of a sign with which other languages begin comments.
 pub(crate) const COMMENT: &str = "begins no comment; comments stand in `(* *)`";
 
+/// What is said of a comment that does not end.
+pub(crate) const OPEN_COMMENT: &str = "begins a comment that does not end: `*)` is missing";
+
 /// What the tables say of a token.
 pub(crate) fn said_of(spot: &Spot<'_>) -> &'static str {
     if spot.kind == b"<comment>".as_slice() {
@@ -34,6 +37,11 @@ fn rules_of(part: Part) -> &'static [Rule] {
 
 /// The header row.
 const HEADER: &[Rule] = &[
+    Rule {
+        after: &["}"],
+        words: &["P1", "P2", "P3", "P4", "P5", "P6", "P7"],
+        said: "cannot stand here; the first thread is P0, the next is P1",
+    },
     Rule {
         after: &["}", "|"],
         words: ANY,
@@ -135,8 +143,13 @@ const NUMBER: &[Rule] = &[
 const ENDED: &[Rule] = &[
     Rule {
         after: ANY,
+        words: &["("],
+        said: OPEN_COMMENT,
+    },
+    Rule {
+        after: ANY,
         words: &["<unfinished>"],
-        said: "begins what does not end: a comment, `/\\` or `\\/`",
+        said: "begins what does not end: `/\\` or `\\/`",
     },
     Rule {
         after: ANY,

@@ -1,11 +1,13 @@
 //! Tokens of a litmus text, as they lie in it.
 
+use crate::forms::{begins_formula, twin_kind};
 use crate::locks::is_idle_lock;
-use crate::source::{bytes_from, continues_character};
-use crate::text_end::end_kind;
+use crate::source::{bytes_from, continues_character, line_of};
+use crate::text_end::{end_kind, is_mark};
 use litmus_syntax::{Part, Refusal};
 use text_tokens::{
-    Bad, Token, after_space, are_digits, digits_len, is_white_space, is_word_byte, line_spaces_len,
+    Bad, Mark, Token, after_space, are_digits, digits_len, is_white_space, is_word_byte,
+    line_spaces_len,
 };
 
 /// A token that can't stand where it does.
@@ -43,7 +45,7 @@ pub(crate) fn spot_of<'t>(
         word,
         shown,
         before: kind_before(text, tokens, index),
-        kind: kind_at(tokens, index, rest, shown),
+        kind: kind_at(tokens, refusal, rest, shown),
         line_end: match line_end_before(text, tokens, index) {
             Some(end) => Some(offset.saturating_add(end)),
             None => None,
@@ -51,17 +53,44 @@ pub(crate) fn spot_of<'t>(
     }
 }
 
-/// What kind of token the one with this index is, from which on the text is this one.
-fn kind_at(tokens: &[Token], index: usize, rest: &[u8], shown: &[u8]) -> &'static [u8] {
+/// What kind of token the refused one is, from which on the text is this one.
+fn kind_at(tokens: &[Token], refusal: Refusal, rest: &[u8], shown: &[u8]) -> &'static [u8] {
     if begins_foreign_comment(rest) {
         return b"<comment>";
     }
-    if is_idle_lock(tokens.split_at(index.min(tokens.len())).1) {
-        return b"<idle_lock>";
+    let index = tokens.len().saturating_sub(refusal.left);
+    let (before, after) = tokens.split_at(index);
+    if let Some(kind) = phrase_kind(refusal.part, before, after) {
+        return kind;
     }
-    match tokens.get(index) {
+    match after.first() {
         Some(token) => kind_of(token, word_at(rest), shown),
         None => end_kind(tokens),
+    }
+}
+
+/// What kind of token comes first of those after others, where the next ones show that: an instruction, or a formula where
+/// a row may begin.
+fn phrase_kind(part: Part, before: &[Token], after: &[Token]) -> Option<&'static [u8]> {
+    match part {
+        Part::Instruction => {
+            if is_idle_lock(after) {
+                Some(b"<idle_lock>")
+            } else if ends_row(before) && begins_formula(after) {
+                Some(b"<formula>")
+            } else {
+                twin_kind(after)
+            }
+        }
+        _ => None,
+    }
+}
+
+/// Whether the last of these tokens ends a row.
+fn ends_row(tokens: &[Token]) -> bool {
+    match tokens.last() {
+        Some(token) => is_mark(token, Mark::Semicolon),
+        None => false,
     }
 }
 
@@ -85,9 +114,9 @@ fn line_end_before(text: &[u8], tokens: &[Token], index: usize) -> Option<usize>
 }
 
 /// The word with which a text begins, with the one after it where they belong together: LOCK and its instruction, the
-/// quantifier `not exists`, and the two signs of a comment in C.
+/// quantifier `not exists`, and the two signs with which a comment begins.
 fn two_words<'t>(text: &'t [u8], word: &'t [u8]) -> &'t [u8] {
-    if text.starts_with(b"/*") {
+    if text.starts_with(b"/*") || text.starts_with(b"(*") {
         return text.split_at(text.len().min(2)).0;
     }
     let rest = bytes_from(text, word.len());
@@ -151,19 +180,53 @@ fn token_len(token: &Token, text: &[u8]) -> usize {
     }
 }
 
-/// The text after the white space and the comments at its front; after the white space alone where a comment does not
-/// end.
+/// The text after the white space and the comments at its front, up to a comment that does not end.
 fn without_space(text: &[u8]) -> &[u8] {
     match after_space(text) {
         Some(rest) => rest,
         None => {
-            let len = text
+            let rest = bytes_from(text, ended_len(text));
+            let len = rest
                 .iter()
                 .take_while(|byte| is_white_space(**byte))
                 .count();
-            bytes_from(text, len)
+            bytes_from(rest, len)
         }
     }
+}
+
+/// Where the last comment ends of a text that is white space and comments, but for one that does not end.
+fn ended_len(text: &[u8]) -> usize {
+    let mut depth = 0usize;
+    let mut before = b' ';
+    let mut len = 0usize;
+    for (offset, byte) in text.iter().enumerate() {
+        let pair = (before, *byte);
+        before = b' ';
+        if pair == (b'(', b'*') {
+            depth = depth.saturating_add(1);
+        } else if pair == (b'*', b')') {
+            depth = depth.saturating_sub(1);
+            if depth == 0 {
+                len = offset.saturating_add(1);
+            }
+        } else {
+            before = *byte;
+        }
+    }
+    len
+}
+
+/// The text from the comment on that does not end, if one of the lines has it before the initial values.
+pub(crate) fn open_comment(lines: &[u8]) -> Option<&[u8]> {
+    let mut rest = lines;
+    for _ in 0..lines.len() {
+        match after_space(rest) {
+            Some(text) => rest = bytes_from(text, line_of(text).len().saturating_add(1)),
+            None => return Some(without_space(rest)),
+        }
+    }
+    None
 }
 
 /// The word with which a text begins: letters and digits, signs of comparison or of a connective, or one character.

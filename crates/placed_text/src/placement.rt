@@ -14,10 +14,8 @@ use cert_forest::Certificate;
 use certificate_proposals::SearchWatch;
 use cover_solver::{SeqTable, SolveFault, Solver, sequential};
 use fence_place::{Oracles, PlaceFault, place};
-use gap_sets::Costs;
 use std::alloc::Global;
 use std::sync::Wait;
-use std::sync::atomic::AtomicU64;
 use std::thread::Threads;
 
 /// The certificate of a problem's answer: the best set of its program's gaps that serves, by a search over whole trees. It
@@ -36,11 +34,18 @@ pub(crate) fn placement_of<R: Threads + Wait + Sync>(
 {
     let program = &problem.litmus.program;
     let progress = report_ahead(alloc, program, effort.progress);
+    let watch = SearchWatch::new(rt, alloc, progress);
     let table = table_of(alloc, problem)?;
     report_outcomes(alloc, progress, table.outcomes().len());
     let solver = Solver::new(alloc, program, &table)?;
-    let effort = Effort { progress, ..effort };
-    certificate_by(rt, alloc, &solver, &table, &problem.costs.costs, effort)
+    let watched = Watched {
+        solver: &solver,
+        costs: &problem.costs.costs,
+        alloc,
+        effort: Effort { progress, ..effort },
+        watch,
+    };
+    certificate_by(rt, &watched, &table)
 }
 
 /// The sequential outcomes of a problem's program, for the question in which the problem's ties go together.
@@ -52,35 +57,31 @@ fn table_of(alloc: Global, problem: &Problem) -> Result<SeqTable, SolveFault>
     Ok(table.with_ties(ties))
 }
 
-/// The certificate of the best set of gaps that serves, by a solver. It reports how many sets are asked about.
+/// The certificate of the best set of gaps that serves, by a solver that reports how many sets it is asked about.
 fn certificate_by<R: Threads + Wait + Sync>(
     rt: &R,
-    alloc: Global,
-    solver: &Solver,
+    watched: &Watched<'_>,
     table: &SeqTable,
-    costs: &Costs,
-    effort: Effort,
 ) -> Result<Certificate, TextFault>
-    requires question { solver.now.question ≡ table.now.question }
-    requires one_each { length costs.now ≡ gap_count table.now.question.program.threads }
+    requires question { watched.now.solver.now.question ≡ table.now.question }
+    requires one_each { length watched.now.costs.now ≡ gap_count table.now.question.program.threads }
     requires ties { length table.now.question.ties ≤ gap_count table.now.question.program.threads }
-    ensures placed { IfOk result (IsPlacement table.now.question costs.now) }
-    ensures workers { OnOk result (¬ AreTooFewOrMany effort.workers) }
-    ensures fault { IfErr result (HasNoPlacement effort.workers) }
+    ensures placed { IfOk result (IsPlacement table.now.question watched.now.costs.now) }
+    ensures workers { OnOk result (¬ AreTooFewOrMany watched.now.effort.workers) }
+    ensures fault { IfErr result (HasNoPlacement watched.now.effort.workers) }
 {
-    let watched = Watched {
-        solver,
-        costs,
-        alloc,
-        effort,
-        asked: AtomicU64::new(0),
-        watch: SearchWatch::new(alloc, effort.progress),
-    };
     let oracles = Oracles {
-        first: &watched,
-        again: solver,
+        first: watched,
+        again: watched.solver,
     };
-    match place(rt, alloc, oracles, table, costs, effort.workers) {
+    match place(
+        rt,
+        watched.alloc,
+        oracles,
+        table,
+        watched.costs,
+        watched.effort.workers,
+    ) {
         Ok(certificate) => Ok(certificate),
         Err(PlaceFault::OutOfMemory) => Err(TextFault::OutOfMemory),
         Err(PlaceFault::Workers) => Err(TextFault::Workers),

@@ -76,7 +76,7 @@ fn proposed<R: Threads + Sync>(
         Rule::Whole => report_ahead(alloc, program, effort.progress),
         Rule::Early => effort.progress,
     };
-    let watch = SearchWatch::new(alloc, progress);
+    let watch = SearchWatch::new(rt, alloc, progress);
     let plan = SearchPlan {
         rule,
         workers: effort.workers,

@@ -7,7 +7,6 @@ use cover_solver::{Oracle, SolveFault, Solver, Verdict};
 use gap_sets::{Costs, GapSet};
 use program_streams::{Progress, grouped};
 use std::alloc::{AllocError, Global};
-use std::sync::atomic::{AtomicU64, Ordering};
 
 /// How fences are searched for.
 #[derive(Clone, Copy)]
@@ -26,18 +25,18 @@ pub(crate) struct Watched<'a> {
     pub(crate) costs: &'a Costs,
     pub(crate) alloc: Global,
     pub(crate) effort: Effort,
-    /// How many sets were asked about.
-    pub(crate) asked: AtomicU64,
     pub(crate) watch: SearchWatch,
 }
 
 impl Watched<'_> {
-    /// Reports that a set is asked about, if so many sets were asked about that their number is a power of two, or if a line is
-    /// due. One worker asks about the sets in ascending order of their costs.
+    /// Reports that a set is asked about, if so many sets were asked about that their number is a power of two. One worker asks
+    /// about the sets in ascending order of their costs.
     fn report(&self, set: &GapSet) {
-        let before = self.asked.fetch_add(1, Ordering::SeqCst);
+        let Some(before) = self.watch.ask() else {
+            return;
+        };
         let asked = before.wrapping_add(1);
-        if asked & before == 0 || self.watch.is_due() {
+        if asked & before == 0 {
             let cost = self.costs.total(set);
             self.effort
                 .progress
@@ -54,9 +53,7 @@ impl Oracle for Watched<'_> {
     ghost may_be_asked = { λ watched. Unit {0} };
 
     fn ask(&self, set: &GapSet) -> Result<Verdict, SolveFault> {
-        if self.effort.progress.is_shown() {
-            self.report(set);
-        }
+        self.report(set);
         self.solver.ask(set)
     }
 }

@@ -3,7 +3,8 @@
 use crate::streams::write_bytes;
 use std::alloc::AllocError;
 use std::io::{IsTerminal, Stderr};
-use std::time::Instant;
+use std::thread;
+use std::time::{Duration, Instant};
 
 /// From so many milliseconds on a search is long.
 const LONG_MILLIS: u64 = 1_000;
@@ -80,6 +81,13 @@ impl Progress {
         match start.elapsed(&clock) {
             Ok(time) => u64::try_from(time.as_millis()).ok(),
             Err(_) => None,
+        }
+    }
+
+    /// Waits for so many milliseconds, where there is a clock.
+    pub fn wait(self, millis: u64) {
+        if let Some(Timer { clock, .. }) = self.timer {
+            thread::sleep(&clock, Duration::from_millis(millis));
         }
     }
 

@@ -15,7 +15,7 @@ mod lines;
 mod serial_runs;
 mod witness;
 
-pub use cover_solver::{OutcomeList, outcomes_by_threads, outcomes_with_runs};
+pub use cover_solver::{OutcomeList, outcomes_with_runs};
 pub use fault::WitnessFault;
 pub use gaps::gaps_at;
 pub use witness::{WitnessText, witness_text};
