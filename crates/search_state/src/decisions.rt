@@ -9,7 +9,7 @@ use std::alloc::{AllocError, Global};
 
 /// What a rule decides next in a graph without a cycle. `None` if nothing is left. `last` has the writes after which one
 /// more must come for the graph to end as a known outcome.
-pub(crate) fn next_decision(
+pub fn next_decision(
     graph: &EventGraph,
     writes: &PossibleWrites,
     rule: Rule,
@@ -88,7 +88,7 @@ fn best_read(graph: &EventGraph, writes: &PossibleWrites, is_whole: bool) -> Opt
 }
 
 /// The choices of a decision, in the order of its node's children.
-pub(crate) fn choices_of(
+pub fn choices_of(
     alloc: Global,
     graph: &EventGraph,
     writes: &PossibleWrites,

@@ -8,16 +8,20 @@ use thread_traces::is_kept_by;
 
 /// A graph, with the depths of its choices.
 #[derive(Clone, Copy)]
-pub(crate) struct Conflicts<'a> {
-    pub(crate) graph: &'a EventGraph,
-    pub(crate) trail: &'a Trail,
-    pub(crate) writes: &'a PossibleWrites,
-    pub(crate) rule: Rule,
+pub struct Conflicts<'a> {
+    /// What is chosen.
+    pub graph: &'a EventGraph,
+    /// At which depth it was chosen.
+    pub trail: &'a Trail,
+    /// The values that reads may have, and where they may be written.
+    pub writes: &'a PossibleWrites,
+    /// The rule of the tree.
+    pub rule: Rule,
 }
 
 impl Conflicts<'_> {
     /// What a cycle rests on: each of its edges.
-    pub(crate) fn of_cycle(&self, kind: Kind, round: &[u8]) -> ConflictSet {
+    pub fn of_cycle(&self, kind: Kind, round: &[u8]) -> ConflictSet {
         let mut set = ConflictSet::none();
         let mut from = round.last().copied().unwrap_or(0);
         for to in round {
@@ -97,7 +101,7 @@ impl Conflicts<'_> {
 
     /// What it rests on that a graph in which each read has its value must end so: all values, and an order after each
     /// write of this row.
-    pub(crate) fn of_end(&self, row: u32) -> ConflictSet {
+    pub fn of_end(&self, row: u32) -> ConflictSet {
         let mut set = ConflictSet::none();
         for t in 0..self.graph.thread_count() {
             set.add_all(&self.trail.of_values(t, self.graph.state(t).given));
@@ -110,7 +114,7 @@ impl Conflicts<'_> {
     }
 
     /// The values of the threads that have come to their ends.
-    pub(crate) fn of_ended(&self) -> ConflictSet {
+    pub fn of_ended(&self) -> ConflictSet {
         let mut set = ConflictSet::none();
         for t in 0..self.graph.thread_count() {
             let state = self.graph.state(t);
@@ -122,7 +126,7 @@ impl Conflicts<'_> {
     }
 
     /// What the children of a node rest on.
-    pub(crate) fn of_node(&self, decision: Decision) -> ConflictSet {
+    pub fn of_node(&self, decision: Decision) -> ConflictSet {
         match decision {
             Decision::Value(t) => self.trail.of_values(t, self.graph.state(t).given),
             Decision::Source(read) => self.of_sources(read),

@@ -27,7 +27,7 @@ pub(crate) fn reads_initial(graph: &EventGraph, read: u8) -> bool {
 }
 
 /// The first read without a source of a value that is not there.
-pub(crate) fn read_of_nobody(graph: &EventGraph) -> Option<u8> {
+pub fn read_of_nobody(graph: &EventGraph) -> Option<u8> {
     for read in each_in(graph.rows.unsourced) {
         if graph.matching(read) == 0 && !reads_initial(graph, read) {
             return Some(read);

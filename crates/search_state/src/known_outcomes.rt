@@ -1,8 +1,8 @@
 //! The outcomes by which a search goes.
 use cert_forest::Runs;
-use run_maker::MadeRun;
 use std::alloc::{AllocError, Global};
 use std::cmp::Ordering;
+use tso_machine::Label;
 use tso_program::Outcome;
 
 /// How many outcomes a search finds at most.
@@ -20,19 +20,19 @@ pub(crate) struct Place {
 
 /// Outcomes that a search has found so far.
 #[derive(Drop)]
-pub(crate) struct FoundOutcomes {
+pub struct FoundOutcomes {
     alloc: Global,
     /// In the order in which they are found. A tree names an outcome by its number, which is its place here.
-    pub(crate) outcomes: Vec<Outcome>,
+    pub outcomes: Vec<Outcome>,
     /// The number of each, in ascending order of the outcomes, in short blocks so that a new one moves few.
     blocks: Vec<Vec<u32>>,
     /// A run of each, in the order of their numbers.
-    pub(crate) runs: Runs,
+    pub runs: Runs,
 }
 
 /// The outcomes that the leaves of a tree may name, by their numbers.
 #[derive(Drop)]
-pub(crate) enum KnownOutcomes<'a> {
+pub enum KnownOutcomes<'a> {
     /// These alone. They ascend, and the number of an outcome is its place.
     Closed(&'a [Outcome]),
     /// Those that are found so far. The search adds to them.
@@ -41,7 +41,7 @@ pub(crate) enum KnownOutcomes<'a> {
 
 impl FoundOutcomes {
     /// No outcome yet.
-    pub(crate) fn none(alloc: Global) -> FoundOutcomes {
+    pub fn none(alloc: Global) -> FoundOutcomes {
         FoundOutcomes {
             alloc,
             outcomes: Vec::new(alloc),
@@ -51,7 +51,7 @@ impl FoundOutcomes {
     }
 
     /// The number of each outcome, in ascending order of the outcomes.
-    pub(crate) fn numbers(&self) -> Result<Vec<u32>, AllocError> {
+    pub fn numbers(&self) -> Result<Vec<u32>, AllocError> {
         let mut numbers = Vec::with_capacity(self.alloc, self.outcomes.len())?;
         for block in &self.blocks {
             numbers.extend_from_slice(block)?;
@@ -59,38 +59,38 @@ impl FoundOutcomes {
         Ok(numbers)
     }
 
-    /// Adds a new outcome with its run, and answers its number.
-    pub(crate) fn add(&mut self, run: MadeRun) -> Result<u32, AllocError> {
+    /// Adds a new outcome with the labels of its run, and answers its number.
+    pub fn add(&mut self, outcome: Outcome, labels: &[Label]) -> Result<u32, AllocError> {
         if self.outcomes.len() >= MOST_OUTCOMES {
             return Err(AllocError);
         }
         let number = self.outcomes.len() as u32;
-        match self.place_of(&run.outcome) {
+        match self.place_of(&outcome) {
             Ok(place) | Err(place) => self.put(place, number)?,
         }
-        self.outcomes.push(run.outcome)?;
-        self.runs.push(&run.labels)?;
+        self.outcomes.push(outcome)?;
+        self.runs.push(labels)?;
         Ok(number)
     }
 
     /// Adds those outcomes of another list that are new, and answers the number of each of its outcomes.
-    pub(crate) fn add_all(&mut self, other: FoundOutcomes) -> Result<Vec<u32>, AllocError> {
+    pub fn add_all(&mut self, other: FoundOutcomes) -> Result<Vec<u32>, AllocError> {
         let mut numbers = Vec::with_capacity(self.alloc, other.outcomes.len())?;
         for (place, outcome) in other.outcomes.into_iter().enumerate() {
-            let labels = Vec::from_slice(self.alloc, other.runs.get(place).unwrap_or(&[]))?;
-            numbers.push(self.number_for(MadeRun { labels, outcome })?)?;
+            let labels = other.runs.get(place).unwrap_or(&[]);
+            numbers.push(self.number_for(outcome, labels)?)?;
         }
         Ok(numbers)
     }
 
-    /// The number of a run's outcome, which is added if it is new.
-    fn number_for(&mut self, run: MadeRun) -> Result<u32, AllocError> {
-        if let Ok(place) = self.place_of(&run.outcome) {
+    /// The number of an outcome, which is added with the labels of its run if it is new.
+    fn number_for(&mut self, outcome: Outcome, labels: &[Label]) -> Result<u32, AllocError> {
+        if let Ok(place) = self.place_of(&outcome) {
             if let Some((number, _)) = self.at(place) {
                 return Ok(number);
             }
         }
-        self.add(run)
+        self.add(outcome, labels)
     }
 
     /// Puts a number at a place.
@@ -170,7 +170,7 @@ impl FoundOutcomes {
 
 impl<'a> KnownOutcomes<'a> {
     /// Those that are listed, or else none yet.
-    pub(crate) fn listed(alloc: Global, listed: Option<&'a [Outcome]>) -> KnownOutcomes<'a> {
+    pub fn listed(alloc: Global, listed: Option<&'a [Outcome]>) -> KnownOutcomes<'a> {
         match listed {
             Some(outcomes) => KnownOutcomes::Closed(outcomes),
             None => KnownOutcomes::Open(FoundOutcomes::none(alloc)),
@@ -180,7 +180,7 @@ impl<'a> KnownOutcomes<'a> {
 
 impl KnownOutcomes<'_> {
     /// The number of an outcome. `None` if it is not known.
-    pub(crate) fn number_of(&self, outcome: &Outcome) -> Option<u32> {
+    pub fn number_of(&self, outcome: &Outcome) -> Option<u32> {
         match self.place_of(outcome) {
             Ok(place) => match self.at(place) {
                 Some((number, _)) => Some(number),

@@ -5,7 +5,7 @@ use std::alloc::{AllocError, Global};
 use tso_program::{Atom, Formula, FormulaNode};
 
 /// The truth of a formula at each end of a graph, if it is known.
-pub(crate) fn known_truth(
+pub fn known_truth(
     alloc: Global,
     graph: &EventGraph,
     formula: &Formula,

@@ -7,18 +7,18 @@ const ROWS: usize = 4;
 
 /// Choices that a tree rests on, by their depth.
 #[derive(Clone, Copy)]
-pub(crate) struct ConflictSet {
+pub struct ConflictSet {
     rows: [u64; ROWS],
 }
 
 impl ConflictSet {
     /// No choice.
-    pub(crate) fn none() -> ConflictSet {
+    pub fn none() -> ConflictSet {
         ConflictSet { rows: [0; ROWS] }
     }
 
     /// Each choice.
-    pub(crate) fn all() -> ConflictSet {
+    pub fn all() -> ConflictSet {
         ConflictSet {
             rows: [u64::MAX; ROWS],
         }
@@ -32,20 +32,20 @@ impl ConflictSet {
     }
 
     /// Adds the choices of another set.
-    pub(crate) fn add_all(&mut self, other: &ConflictSet) {
+    pub fn add_all(&mut self, other: &ConflictSet) {
         for place in 0..ROWS {
             self.rows[place] = self.rows[place] | other.rows[place];
         }
     }
 
     /// Whether the set has the choice at a depth.
-    pub(crate) fn has(&self, depth: u16) -> bool {
+    pub fn has(&self, depth: u16) -> bool {
         let bit = depth.min(OWN_BITS);
         self.rows[(bit / 64) as usize % 4] >> (bit % 64) & 1 == 1
     }
 
     /// Takes out the choice at a depth, where that has a bit of its own.
-    pub(crate) fn remove(&mut self, depth: u16) {
+    pub fn remove(&mut self, depth: u16) {
         if depth < OWN_BITS {
             let place = (depth / 64) as usize % 4;
             self.rows[place] = self.rows[place] & !(1u64 << (depth % 64));

@@ -23,7 +23,7 @@ struct Past {
 
 /// The depths of the choices of a graph, and where the threads stood before each value.
 #[derive(Drop)]
-pub(crate) struct Trail {
+pub struct Trail {
     /// Each thread after so many values.
     pasts: [[Past; GIVEN]; MAX_THREADS],
     /// After how many values of its thread an access is there.
@@ -35,7 +35,7 @@ pub(crate) struct Trail {
 
 impl Trail {
     /// That of a graph in which nothing is chosen.
-    pub(crate) fn new(graph: &EventGraph) -> Trail {
+    pub fn new(graph: &EventGraph) -> Trail {
         let past = Past {
             depths: ConflictSet::none(),
             accesses: 0,
@@ -54,7 +54,7 @@ impl Trail {
     }
 
     /// Puts down a choice that was made at a depth.
-    pub(crate) fn put(&mut self, depth: u16, graph: &EventGraph, choice: Choice) {
+    pub fn put(&mut self, depth: u16, graph: &EventGraph, choice: Choice) {
         match choice {
             Choice::Value { thread, .. } => {
                 let given = graph.state(thread).given;

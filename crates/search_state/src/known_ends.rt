@@ -7,27 +7,29 @@ use tso_program::{Items, Outcome, REGISTERS, Shown};
 /// A known outcome by its number, and the writes of other values: the graph must end so once each of them has a later
 /// one.
 #[derive(Clone, Copy)]
-pub(crate) struct KnownEnd {
-    pub(crate) number: u32,
-    pub(crate) others: u32,
+pub struct KnownEnd {
+    /// Its number among the known outcomes.
+    pub number: u32,
+    /// A row of bits: the writes of other values.
+    pub others: u32,
 }
 
 /// The known outcomes whose registers are those of a graph.
 #[derive(Drop)]
-pub(crate) struct KnownEnds {
+pub struct KnownEnds {
     ends: Vec<KnownEnd>,
 }
 
 impl KnownEnds {
     /// None.
-    pub(crate) fn none(alloc: Global) -> KnownEnds {
+    pub fn none(alloc: Global) -> KnownEnds {
         KnownEnds {
             ends: Vec::new(alloc),
         }
     }
 
     /// Takes those of a graph in which each read has its value in place of its own.
-    pub(crate) fn find(
+    pub fn find(
         &mut self,
         alloc: Global,
         graph: &EventGraph,
@@ -51,7 +53,7 @@ impl KnownEnds {
     }
 
     /// Adds an outcome with the graph's registers, if the graph may end as it.
-    pub(crate) fn add(
+    pub fn add(
         &mut self,
         graph: &EventGraph,
         shown: &Shown,
@@ -65,7 +67,7 @@ impl KnownEnds {
     }
 
     /// One as which the graph must end, that of which the fewest writes need a later one.
-    pub(crate) fn must_end(&self, followed: u32) -> Option<KnownEnd> {
+    pub fn must_end(&self, followed: u32) -> Option<KnownEnd> {
         let mut best: Option<KnownEnd> = None;
         for end in &self.ends {
             if end.others & !followed == 0 {
@@ -79,7 +81,7 @@ impl KnownEnds {
     }
 
     /// The writes such that the graph must end as a known outcome once they have a later one.
-    pub(crate) fn last_writes(&self, followed: u32) -> u32 {
+    pub fn last_writes(&self, followed: u32) -> u32 {
         let mut row = 0;
         for end in &self.ends {
             let left = end.others & !followed;
