@@ -1,6 +1,6 @@
 //! What is said of a program that is past a limit: how many there are of what, and where.
 
-use crate::message::shown_word;
+use crate::shown::shown_word;
 use gap_sets::MAX_GAPS;
 use indexmap::IndexSet;
 use litmus_syntax::{Body, Cell, Code, Ending, Place, Sign, read_body, read_ending};
@@ -9,31 +9,41 @@ use text_tokens::Token;
 use tso_program::{MAX_ACCESSES, MAX_INSTRUCTIONS, MAX_LOCATIONS, MAX_THREADS, ProgramFault};
 
 /// What is said of a limit that the program of these tokens breaks.
-pub(crate) fn limit_text(
+pub fn limit_text(
     alloc: Global,
     tokens: &[Token],
     fault: ProgramFault,
 ) -> Result<String, AllocError> {
-    let Ok((body, rest)) = read_body(alloc, tokens) else {
-        return format!(in alloc; "{fault}");
-    };
+    match read_body(alloc, tokens) {
+        Ok((body, rest)) => body_text(alloc, &body, rest, fault),
+        Err(_) => format!(in alloc; "{fault}"),
+    }
+}
+
+/// What is said of a limit that a program breaks, of which this is read, with the tokens of its ending.
+fn body_text(
+    alloc: Global,
+    body: &Body<'_>,
+    rest: &[Token],
+    fault: ProgramFault,
+) -> Result<String, AllocError> {
     match fault {
         ProgramFault::TooManyThreads => {
             let count = body.threads;
             format!(in alloc; "there are {count} threads, more than {MAX_THREADS}")
         }
         ProgramFault::TooLong(thread) => {
-            let count = instructions_in(&body, usize::from(thread));
+            let count = instructions_in(body, usize::from(thread));
             format!(in alloc;
                 "thread {thread} has {count} instructions, more than {MAX_INSTRUCTIONS}"
             )
         }
         ProgramFault::Locations => match read_ending(alloc, rest, body.threads) {
-            Ok(ending) => locations_text(alloc, &body, &ending),
+            Ok(ending) => locations_text(alloc, body, &ending),
             Err(_) => format!(in alloc; "{fault}"),
         },
-        ProgramFault::TooManyAccesses => accesses_text(alloc, &body),
-        ProgramFault::TooManyGaps => gaps_text(alloc, &body),
+        ProgramFault::TooManyAccesses => accesses_text(alloc, body),
+        ProgramFault::TooManyGaps => gaps_text(alloc, body),
         _ => format!(in alloc; "{fault}"),
     }
 }
@@ -129,6 +139,16 @@ struct Names {
 }
 
 impl Names {
+    /// Those of a program's text.
+    fn of(alloc: Global, body: &Body<'_>, ending: &Ending<'_>) -> Result<Names, AllocError> {
+        let mut names = Names {
+            names: IndexSet::new(alloc),
+        };
+        names.add_body(alloc, body)?;
+        names.add_ending(alloc, ending)?;
+        Ok(names)
+    }
+
     fn add(&mut self, alloc: Global, name: &[u8]) -> Result<(), AllocError> {
         self.names.insert(Vec::from_slice(alloc, name)?)?;
         Ok(())
@@ -180,13 +200,13 @@ fn locations_text(
     body: &Body<'_>,
     ending: &Ending<'_>,
 ) -> Result<String, AllocError> {
-    let mut names = Names {
-        names: IndexSet::new(alloc),
-    };
-    names.add_body(alloc, body)?;
-    names.add_ending(alloc, ending)?;
+    let names = Names::of(alloc, body, ending)?;
+    names_text(alloc, &names)
+}
+
+fn names_text(alloc: Global, names: &Names) -> Result<String, AllocError> {
     let count = names.names.len();
-    let listed = listed(alloc, &names)?;
+    let listed = listed(alloc, names)?;
     format!(in alloc;
         "there are {count} locations, more than {MAX_LOCATIONS}: {listed}; those of the initial values, `locations` and the condition count too"
     )

@@ -1,6 +1,6 @@
 //! Instructions and formulas that are not read, and which short forms stand for.
 
-use text_tokens::{Mark, Token, begins, mark, number, word};
+use text_tokens::{Mark, Token, begins, number, word};
 
 /// The mnemonics of instructions that make a register 0 where it is both operands.
 const ZERO_A_REGISTER: &[&str] = &["XOR", "SUB"];
@@ -25,14 +25,15 @@ fn makes_zero(mnemonic: &[u8]) -> bool {
 
 /// The mnemonic before two words that are one, with a comma between them.
 fn twin(tokens: &[Token]) -> Option<&[u8]> {
-    let (mnemonic, rest) = word(tokens)?;
-    let (first, rest) = word(rest)?;
-    let rest = mark(rest, Mark::Comma)?;
-    let (second, _) = word(rest)?;
-    if first.eq_ignore_ascii_case(second) {
-        Some(mnemonic)
-    } else {
-        None
+    match tokens {
+        [
+            Token::Word(mnemonic),
+            Token::Word(first),
+            Token::Mark(Mark::Comma),
+            Token::Word(second),
+            ..
+        ] if first.as_slice().eq_ignore_ascii_case(second.as_slice()) => Some(mnemonic.as_slice()),
+        _ => None,
     }
 }
 

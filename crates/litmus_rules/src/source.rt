@@ -32,22 +32,22 @@ impl<'a> Source<'a> {
     }
 
     /// Where the byte at an offset stands.
-    pub(crate) fn position(&self, offset: usize) -> Position {
+    pub fn position(&self, offset: usize) -> Position {
         let before = self.text.split_at(offset.min(self.text.len())).0;
         position_after(before, self.first_line)
     }
 
     /// The bytes from an offset on, up to white space.
-    pub(crate) fn piece(&self, offset: usize) -> &'a [u8] {
+    pub fn piece(&self, offset: usize) -> &'a [u8] {
         piece_of(bytes_from(self.text, offset))
     }
 }
 
 /// A line and a column, both from 1. A column is a character of UTF-8.
 #[derive(Clone, Copy)]
-pub(crate) struct Position {
-    pub(crate) line: usize,
-    pub(crate) column: usize,
+pub struct Position {
+    pub line: usize,
+    pub column: usize,
 }
 
 /// Whether the byte is a later one of a character of UTF-8.
@@ -76,7 +76,7 @@ pub fn bytes_from(text: &[u8], offset: usize) -> &[u8] {
 }
 
 /// The bytes up to white space.
-pub(crate) fn piece_of(text: &[u8]) -> &[u8] {
+fn piece_of(text: &[u8]) -> &[u8] {
     let len = text
         .iter()
         .take_while(|byte| !is_white_space(**byte))
@@ -85,13 +85,13 @@ pub(crate) fn piece_of(text: &[u8]) -> &[u8] {
 }
 
 /// The bytes up to a line feed.
-pub(crate) fn line_of(text: &[u8]) -> &[u8] {
+pub fn line_of(text: &[u8]) -> &[u8] {
     let len = text.iter().take_while(|byte| **byte != b'\n').count();
     text.split_at(len.min(text.len())).0
 }
 
 /// Where the line of this number begins, from 1.
-pub(crate) fn line_start(text: &[u8], number: usize) -> usize {
+pub fn line_start(text: &[u8], number: usize) -> usize {
     let mut line = 1usize;
     for (offset, byte) in text.iter().enumerate() {
         if line >= number {

@@ -11,7 +11,7 @@ use text_tokens::Token;
 
 /// The first token that can't stand where it does, in the order in which a litmus text is judged. There is none where
 /// memory runs out.
-pub(crate) fn refusal_of(alloc: Global, tokens: &[Token]) -> Option<Refusal> {
+pub fn refusal_of(alloc: Global, tokens: &[Token]) -> Option<Refusal> {
     let (body, rest) = match read_body(alloc, tokens) {
         Ok(parts) => parts,
         Err(fault) => return refused_by(fault),
@@ -130,30 +130,35 @@ fn lost_in_row(
 }
 
 fn lost_jump(alloc: Global, body: &Body<'_>) -> Option<Refusal> {
+    let labels = labels_of(alloc, body.rows.as_slice())?;
+    first_lost(alloc, &labels, body.rows.as_slice())
+}
+
+/// The labels of rows, each with its thread.
+fn labels_of(alloc: Global, rows: &[Vec<Cell<'_>>]) -> Option<IndexSet<(usize, Vec<u8>)>> {
     let mut labels = IndexSet::new(alloc);
-    for row in &body.rows {
+    for row in rows {
         add_row(alloc, &mut labels, row.as_slice())?;
     }
-    let left = first_lost(alloc, &labels, body.rows.as_slice())?;
-    let part = Part::Label;
-    Some(Refusal { part, left })
+    Some(labels)
 }
 
 fn first_lost(
     alloc: Global,
     labels: &IndexSet<(usize, Vec<u8>)>,
     rows: &[Vec<Cell<'_>>],
-) -> Option<usize> {
+) -> Option<Refusal> {
     for row in rows {
         if let Some(left) = lost_in_row(alloc, labels, row.as_slice()) {
-            return Some(left);
+            let part = Part::Label;
+            return Some(Refusal { part, left });
         }
     }
     None
 }
 
 /// The tokens left at the mnemonic of an instruction of a thread, both counted from 0.
-pub(crate) fn instruction_left(
+pub fn instruction_left(
     rows: &[Vec<Cell<'_>>],
     thread: usize,
     instruction: usize,

@@ -12,29 +12,24 @@ use text_tokens::{
 
 /// A token that can't stand where it does.
 #[derive(Clone, Copy)]
-pub(crate) struct Spot<'t> {
-    pub(crate) part: Part,
+pub struct Spot<'t> {
+    pub part: Part,
     /// The offset of its first byte.
-    pub(crate) offset: usize,
+    pub offset: usize,
     /// Its bytes; none at the end of the text.
-    pub(crate) word: &'t [u8],
+    pub word: &'t [u8],
     /// The bytes that a message shows: those of the token, and of a word after it that belongs to it.
-    pub(crate) shown: &'t [u8],
+    pub shown: &'t [u8],
     /// The bytes of the token before it; of a `~` with which a condition begins its kind, in angle brackets.
-    pub(crate) before: &'t [u8],
+    pub before: &'t [u8],
     /// What kind of token it is, in angle brackets.
-    pub(crate) kind: &'static [u8],
+    pub kind: &'static [u8],
     /// Where the token before it ends, if the line ends between them.
-    pub(crate) line_end: Option<usize>,
+    pub line_end: Option<usize>,
 }
 
 /// The refused one of the tokens of a text, which begins at an offset of the whole one.
-pub(crate) fn spot_of<'t>(
-    text: &'t [u8],
-    tokens: &[Token],
-    refusal: Refusal,
-    offset: usize,
-) -> Spot<'t> {
+pub fn spot_of<'t>(text: &'t [u8], tokens: &[Token], refusal: Refusal, offset: usize) -> Spot<'t> {
     let index = tokens.len().saturating_sub(refusal.left);
     let rest = from_token(text, tokens, index);
     let word = word_at(rest);
@@ -95,7 +90,7 @@ fn ends_row(tokens: &[Token]) -> bool {
 }
 
 /// Whether a text begins with a sign with which other languages begin comments.
-pub(crate) fn begins_foreign_comment(text: &[u8]) -> bool {
+pub fn begins_foreign_comment(text: &[u8]) -> bool {
     text.starts_with(b"//") || text.starts_with(b"/*") || text.starts_with(b"#")
 }
 
@@ -218,7 +213,7 @@ fn ended_len(text: &[u8]) -> usize {
 }
 
 /// The text from the comment on that does not end, if one of the lines has it before the initial values.
-pub(crate) fn open_comment(lines: &[u8]) -> Option<&[u8]> {
+pub fn open_comment(lines: &[u8]) -> Option<&[u8]> {
     let mut rest = lines;
     for _ in 0..lines.len() {
         match after_space(rest) {

@@ -8,13 +8,13 @@ use crate::tokens::Spot;
 use litmus_syntax::Part;
 
 /// What is said of a sign with which other languages begin comments.
-pub(crate) const COMMENT: &str = "begins no comment; comments stand in `(* *)`";
+pub const COMMENT: &str = "begins no comment; comments stand in `(* *)`";
 
 /// What is said of a comment that does not end.
-pub(crate) const OPEN_COMMENT: &str = "begins a comment that does not end: `*)` is missing";
+pub const OPEN_COMMENT: &str = "begins a comment that does not end: `*)` is missing";
 
 /// What the tables say of a token.
-pub(crate) fn said_of(spot: &Spot<'_>) -> &'static str {
+pub fn said_of(spot: &Spot<'_>) -> &'static str {
     if spot.kind == b"<comment>".as_slice() {
         return COMMENT;
     }

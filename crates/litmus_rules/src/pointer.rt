@@ -1,30 +1,30 @@
 //! The line of a text with a `^` below a word of it, as a terminal shows it.
 
 use crate::source::{bytes_from, line_of};
-use std::alloc::{AllocError, Global};
+use std::alloc::AllocError;
 
 /// The most bytes of a line that is shown.
 const LINE_LIMIT: usize = 120;
 
-/// The line in which an offset of a text lies, and below it a `^` at the offset; nothing of a longer line.
-pub(crate) fn pointed_line(
-    alloc: Global,
+/// Puts at the end of another text the line in which an offset of a text lies, and below it a `^` at the offset; nothing of
+/// a longer line.
+pub fn push_pointed_line(
+    pointed: &mut String,
     text: &[u8],
     offset: usize,
-) -> Result<String, AllocError> {
+) -> Result<(), AllocError> {
     let start = line_begin(text, offset);
     let line = line_of(bytes_from(text, start));
     let before = line
         .split_at(offset.saturating_sub(start).min(line.len()))
         .0;
-    let mut pointed = String::new(alloc);
     if line.len() <= LINE_LIMIT {
-        push_shown(&mut pointed, line)?;
+        push_shown(pointed, line)?;
         pointed.push('\n')?;
-        push_blanks(&mut pointed, before)?;
+        push_blanks(pointed, before)?;
         pointed.push_str("^\n")?;
     }
-    Ok(pointed)
+    Ok(())
 }
 
 /// Where the line begins in which an offset lies.

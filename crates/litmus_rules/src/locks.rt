@@ -1,6 +1,6 @@
 //! Locked instructions that change nothing.
 
-use text_tokens::{Mark, Token, mark, number, word};
+use text_tokens::{Mark, Token, mark, number};
 
 /// The mnemonics of instructions that leave a value as it is where their second operand is 0.
 const IDLE_WITH_ZERO: &[&str] = &["ADD", "OR", "SUB", "XOR"];
@@ -21,16 +21,19 @@ fn is_idle_with_zero(mnemonic: &[u8]) -> bool {
 
 /// The mnemonic after LOCK, and the number that is its second operand after a location.
 fn locked(tokens: &[Token]) -> Option<(&[u8], u32)> {
-    let (lock, rest) = word(tokens)?;
-    if !lock.eq_ignore_ascii_case(b"LOCK") {
-        return None;
+    match tokens {
+        [
+            Token::Word(lock),
+            Token::Word(mnemonic),
+            Token::Mark(Mark::OpenBracket),
+            Token::Word(_),
+            Token::Mark(Mark::CloseBracket),
+            Token::Mark(Mark::Comma),
+            rest @ ..,
+        ] if lock.as_slice().eq_ignore_ascii_case(b"LOCK") => {
+            let (value, _) = number(mark(rest, Mark::Dollar).unwrap_or(rest))?;
+            Some((mnemonic.as_slice(), value))
+        }
+        _ => None,
     }
-    let (mnemonic, rest) = word(rest)?;
-    let rest = mark(rest, Mark::OpenBracket)?;
-    let (_, rest) = word(rest)?;
-    let rest = mark(rest, Mark::CloseBracket)?;
-    let rest = mark(rest, Mark::Comma)?;
-    let rest = mark(rest, Mark::Dollar).unwrap_or(rest);
-    let (value, _) = number(rest)?;
-    Some((mnemonic, value))
 }
