@@ -96,12 +96,14 @@ def survey_of(blocks):
 
 class Surveys(Cases):
     def test_examples(self):
-        """Each example and each program of the atlas alone, and all of them in one call."""
-        blocks = []
-        for file in example_files():
-            blocks.append(block_of(file, bytes_of(file)))
+        """Each example and each program of the atlas alone, and all of them in one call, as lines and as documents."""
+        blocks, files = [], [(file, bytes_of(file), None) for file in example_files()]
+        for file, source, refused in files:
+            blocks.append(block_of(file, source))
             same(f"survey of {file}", run(["survey", file]), survey_of(blocks[-1:]))
+            self.documented([(file, source, refused)])
         same("survey of all examples", run(["survey", *example_files()]), survey_of(blocks))
+        self.documented(files)
 
     def test_programs(self):
         """Locks with an instruction that no sequential run executes, and other small programs; from the input too, and with workers."""
@@ -165,12 +167,7 @@ class Surveys(Cases):
             tell(f"the document of {name}", not wrong, document)
 
     def test_documents(self):
-        """The documents of the examples and the atlas, each alone and in one call; and of programs that have instructions which no sequential run executes, among
-        files that are refused."""
-        files = [(file, bytes_of(file), None) for file in example_files()]
-        for file in files:
-            self.documented([file])
-        self.documented(files)
+        """The documents of programs that have instructions which no sequential run executes, among files that are refused."""
         with tempfile.TemporaryDirectory() as folder:
             files = []
             for name, source, refused in [*((name, source, None) for name, source, _ in WORDS), *((name, source, None) for name, source in TEXTS), *REFUSED]:

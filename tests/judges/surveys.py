@@ -25,11 +25,24 @@ def holds(test, condition, model):
     return HOLDS[condition.split(" ")[0]](met)
 
 
-def verdict(test, condition, model):
-    return f"{model} condition {'holds' if holds(test, condition, model) else 'fails'}"
+class Judgement:
+    """What is worked out of a program and its condition, once for each canonical text."""
+
+    known = {}
+
+    def __init__(self, test, condition):
+        self.executed = executed_instructions(test)
+        self.holds = {model: holds(test, condition, model) for model in ("sequential", "buffered")}
+        self.sets = {"condition ": conditions.best_set(test, condition), "": conditions.best_whole_set(test)}
+
+    @classmethod
+    def of(cls, test, canonical):
+        if canonical not in cls.known:
+            cls.known[canonical] = cls(test, canonical.splitlines()[-1])
+        return cls.known[canonical]
 
 
-def answer(test, word, chosen, told):
+def answer(word, chosen, told):
     """The line of an answer, and one of each of its fences."""
     head = " ".join([f"answer {word}cost {len(chosen)} set", *(f"{t}:{k}" for t, k in chosen)])
     return [head, *(f"fence {t}:{k} line {told[t][k][0]}, before {told[t][k][1]}" for t, k in chosen)]
@@ -38,16 +51,15 @@ def answer(test, word, chosen, told):
 def block(test, canonical, numbers, allowed=False):
     """The lines of a file, its row and its status, where each thread's instructions stand in the lines of these numbers, and where it is allowed that no
     sequential run executes an instruction."""
-    condition = canonical.splitlines()[-1]
+    judged = Judgement.of(test, canonical)
     told = [list(zip(own, codes)) for own, codes in zip(numbers, traces.instructions(canonical))]
-    executed = executed_instructions(test)
-    others = [(t, k) for t, code in enumerate(test.code) for k in range(len(code)) if (t, k) not in executed]
-    lines = [verdict(test, condition, model) for model in ("sequential", "buffered")]
+    others = [(t, k) for t, code in enumerate(test.code) for k in range(len(code)) if (t, k) not in judged.executed]
+    lines = [f"{model} condition {'holds' if held else 'fails'}" for model, held in judged.holds.items()]
     lines += [f"unexecuted {t}:{k} line {told[t][k][0]} {told[t][k][1]}" for t, k in others]
-    lines += answer(test, "condition ", conditions.best_set(test, condition), told)
-    lines += answer(test, "", conditions.best_whole_set(test), told)
+    for word, chosen in judged.sets.items():
+        lines += answer(word, chosen, told)
     words = [lines[0].split()[-1], lines[1].split()[-1], str(len(others)), *(line.split("cost ")[1].split()[0] for line in lines if line.startswith("answer "))]
-    return lines, " ".join(words), 3 if (others and not allowed) or not holds(test, condition, "sequential") else 0
+    return lines, " ".join(words), 3 if (others and not allowed) or not judged.holds["sequential"] else 0
 
 
 def executed_by(test, labels):

@@ -2,11 +2,9 @@
 //!
 //! A whole tree decides sources and orders once each read has its value, so a tree that does not rest on a value can't take
 //! the place of the node above. It stands below each other value of that node, too.
-use crate::conflict_set::ConflictSet;
 use crate::shapes::Branch;
 use crate::tree_search::{Found, Frame, TreeSearch};
-use cert_forest::{Node, Rule};
-use event_rows::Decision;
+use search_state::{ConflictSet, Decision, Node, Rule};
 use std::alloc::AllocError;
 
 /// The branches of a thread that come with the values of a node.

@@ -1,8 +1,8 @@
 //! Runs of complete graphs.
 use crate::sequential_run::sequential_run;
 use candidate_executions::Event;
-use event_rows::{EventGraph, each_in};
 use run_maker::{MadeRun, MakeFault, Sketch, SketchFault, make_run};
+use search_state::{EventGraph, each_in};
 use std::alloc::{AllocError, Global};
 use tso_machine::Mode;
 use tso_program::Shown;

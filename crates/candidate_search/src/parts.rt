@@ -4,11 +4,10 @@
 //! until enough places are open, and what stands at each of them is a part. A part is searched by itself: its outcomes are a
 //! list of its own, and its tree takes the place of no node above. How a search is cut depends on nothing but its steps, so
 //! what is found is the same for any number of threads.
-use crate::known_outcomes::KnownOutcomes;
 use crate::proposing_search::ProposingSearch;
 use crate::searched::{Searched, TURN_STEPS, searched_within};
 use crate::tree_search::{Found, SearchEnd, TreeSearch};
-use cert_forest::Node;
+use search_state::{KnownOutcomes, Node};
 use std::alloc::AllocError;
 use std::sync::atomic::{AtomicUsize, Ordering};
 use std::thread::{self, Threads};

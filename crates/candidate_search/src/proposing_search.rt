@@ -1,9 +1,8 @@
 //! What a search is asked about.
 use crate::search_watch::SearchWatch;
 use crate::shapes::Shapes;
-use cert_forest::Rule;
-use event_rows::PossibleWrites;
 use held_values::held_values;
+use search_state::{PossibleWrites, Rule};
 use std::alloc::{AllocError, Global};
 use thread_traces::value_lists;
 use tso_program::{Program, Shown};

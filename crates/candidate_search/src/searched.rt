@@ -1,8 +1,7 @@
 //! What a search has found.
-use crate::known_outcomes::{FoundOutcomes, KnownOutcomes};
 use crate::proposing_search::ProposingSearch;
 use crate::tree_search::{Found, SearchEnd, TreeSearch};
-use cert_forest::Node;
+use search_state::{FoundOutcomes, KnownOutcomes, Node};
 use std::alloc::{AllocError, Global};
 use tso_machine::Mode;
 use tso_program::Outcome;

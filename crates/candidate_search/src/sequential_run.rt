@@ -1,7 +1,7 @@
 //! Runs of complete graphs under sequential consistency.
 use bit_rows::ROW_BITS;
-use event_rows::{EventGraph, each_in, reached_from};
 use run_maker::MadeRun;
+use search_state::{EventGraph, each_in, reached_from};
 use std::alloc::{AllocError, Global};
 use tso_machine::Label;
 use tso_program::{Items, MAX_THREADS, Outcome, REGISTERS, Shown};

@@ -1,5 +1,5 @@
 //! How the values of a thread's reads branch.
-use event_rows::PossibleWrites;
+use search_state::PossibleWrites;
 use std::alloc::{AllocError, Global};
 use tso_program::{Action, Local, MAX_INSTRUCTIONS, Program};
 

@@ -1,21 +1,16 @@
 //! The search for a cover tree over a list of outcomes. Where it comes to a new outcome, an open list takes it. A new
 //! outcome that the list does not take ends the search.
-use crate::conflict_set::ConflictSet;
-use crate::conflicts::Conflicts;
-use crate::decisions::{choices_of, next_decision};
 use crate::filling::{Branches, Stretch};
-use crate::known_ends::KnownEnds;
-use crate::known_outcomes::{FoundOutcomes, KnownOutcomes};
 use crate::made_run::shown_run;
 use crate::proposing_search::ProposingSearch;
 use crate::searched::Searched;
-use crate::sources::read_of_nobody;
-use crate::trail::Trail;
-use crate::truths::known_truth;
 use candidate_executions::Kind;
-use cert_forest::{AccessId, Node, Rule, push_cycle, push_known, take_out};
-use event_rows::{Choice, Decision, EventGraph, Mark, is_in, reached_from, round_through};
 use run_maker::MadeRun;
+use search_state::{
+    AccessId, Choice, ConflictSet, Conflicts, Decision, EventGraph, FoundOutcomes, KnownEnds,
+    KnownOutcomes, Mark, Node, Rule, Trail, choices_of, is_in, known_truth, next_decision,
+    push_cycle, push_known, reached_from, read_of_nobody, round_through, take_out,
+};
 use std::alloc::AllocError;
 use tso_machine::Mode;
 use tso_program::{Formula, Outcome, Shown};
@@ -380,7 +375,7 @@ impl<'a> TreeSearch<'a> {
         let KnownOutcomes::Open(found) = &mut self.outcomes else {
             return Ok(Found::Ended(SearchEnd::New(run)));
         };
-        let number = found.add(run)?;
+        let number = found.add(run.outcome, &run.labels)?;
         if let Some(outcome) = found.outcomes.last() {
             self.ends
                 .add(&self.graph, self.asked.shown, number, outcome)?;

@@ -5,7 +5,7 @@ use Rattle.program_streams.specs.declared.files.TheConstants.{TEXT_LIMIT}
 use Rattle.program_streams.specs.Files.{ReadsOfInput}
 use Rattle.fencer_words.specs.declared.job.SurveyOptions.{SurveyOptions}
 use Rattle.survey_text.specs.declared.finding.SurveyText.{SurveyText}
-use Rattle.fencer.specs.Documented.{printed}
+use Rattle.answers.specs.Documented.{printed}
 use Rattle.fencer.specs.declared.surveys.Block.{Block}
 use Rattle.fencer.specs.declared.surveys.Summary.{Summary}
 use Rattle.fencer.specs.Surveys.{AreBlocks, IsBlock, IsFound, IsRefused, ReadsOfFiles, ReadsOfSomeFiles, RefusedBlock, block_text, refused_row, row_line, more, one_more, survey_status, worse}

@@ -16,9 +16,9 @@ use Rattle.fencer.specs.Lines.{EndsLine}
 use Rattle.fencer.specs.Outcomes.{AreOutcomes}
 use Rattle.fencer.specs.GapTexts.{AreGaps}
 use Rattle.fencer.specs.Placements.{IsPlaced}
-use Rattle.fencer.specs.Replays.{IsReplay, label_words_text}
+use Rattle.answers.specs.Replays.{IsReplay, label_words_text}
 use Rattle.fencer.specs.Surveys.{IsSurvey, ReadsOfSomeFiles}
-use Rattle.fencer.specs.Traces.{IsTrace}
+use Rattle.answers.specs.Traces.{IsTrace}
 use Rattle.fencer.specs.Whys.{IsExplained}
 use Rattle.fencer.specs.Witnesses.{IsWitnessShown}
 

@@ -19,9 +19,9 @@ use Rattle.placed_text.specs.TextFaults.{AreNoCosts, IsRefusedText}
 use Rattle.fencer_words.specs.declared.job.GapQuery.{GapQuery}
 use Rattle.fencer_words.specs.declared.job.TieQuery.{TieQuery}
 use Rattle.fencer_words.specs.CommandFiles.{name_of}
-use Rattle.fencer.specs.InputTexts.{AreTexts, HasNoTexts}
+use Rattle.answers.specs.InputTexts.{AreTexts, HasNoTexts}
 use Rattle.fencer.specs.Placements.{text_fault_line}
-use Rattle.fencer.specs.Refused.{RefusalSays}
+use Rattle.answers.specs.Refused.{RefusalSays}
 
 -- the costs that the list names: those of a text, where one is given
 abbrev pub costs_shown : Option (List ℕ) → TiedCosts → Option TiedCosts

@@ -1,15 +1,5 @@
 pub mod Lines
-pub mod Statuses
-pub mod Refused
-pub mod Refusals
-pub mod TextAnswers
-pub mod InputTexts
-pub mod Deliveries
-pub mod Notes
-pub mod Documented
-pub mod Replays
 pub mod Surveys
-pub mod Traces
 pub mod Witnesses
 pub mod Outcomes
 pub mod Placements

@@ -15,7 +15,7 @@ use Rattle.tso_machine.specs.Outcomes.{AllowsShown}
 use Rattle.litmus_text.specs.Litmus.{Litmus}
 use Rattle.litmus_text.specs.Texts.{IsLitmus, IsNoLitmus}
 use Rattle.oracle.specs.declared.fault.SolveFault.TheVariants as solve
-use Rattle.witness_text.specs.OutcomeLists.{AreRunsOf}
+use Rattle.placed_text.specs.OutcomeLists.{AreRunsOf}
 use Rattle.witness_text.specs.FencedGaps.{GapPlace, AreGapsAt, IsFirstWithoutGap}
 use Rattle.tree_laws.specs.Ascending.{Ascend}
 use Rattle.litmus_text.specs.Names.{TextNames}
@@ -25,11 +25,11 @@ use Rattle.documents.specs.declared.fenced_model.FencedModel.{FencedModel}
 use Rattle.documents.specs.Documents.{IsOutcomesDocument, IsOutcomesWithRunsDocument}
 use Rattle.report.specs.Observations.{is_true_of, observation_line, condition_line}
 use Rattle.fencer_words.specs.declared.job.OutcomeQuery.{OutcomeQuery}
-use Rattle.fencer.specs.declared.refusals.AnswerFault.{AnswerFault}
-use Rattle.fencer.specs.declared.refusals.AnswerFault.TheVariants as answer_fault
-use Rattle.fencer.specs.Notes.{IsNoted}
-use Rattle.fencer.specs.Statuses.{check_status}
-use Rattle.fencer.specs.TextAnswers.{IsAnswerTo}
+use Rattle.answers.specs.declared.refusals.AnswerFault.{AnswerFault}
+use Rattle.answers.specs.declared.refusals.AnswerFault.TheVariants as answer_fault
+use Rattle.answers.specs.Notes.{IsNoted}
+use Rattle.answers.specs.Statuses.{check_status}
+use Rattle.answers.specs.TextAnswers.{IsAnswerTo}
 
 -- the list ascends, and has exactly the outcomes that the machine of the mode allows, as far as they are shown
 pub record ListsOutcomes (q : Question) (mode : Machine) (outcomes : List Outcome) : Type 0 where

@@ -1,31 +1,27 @@
 -- What is printed for a placement, and what its files hold. `files` says what files hold before it, and `left` what they hold
 -- afterwards, where that is known.
-use Rattle.std.specs.Prelude.{◌≡◌, ℕ, Bool, List, ◌++◌, Option, None, Some, IsSome, codes, nat_lt, string_bytes, ⊤}
+use Rattle.std.specs.Prelude.{◌≡◌, ℕ, Bool, List, ◌++◌, Option, None, Some, codes, nat_lt, string_bytes}
 use Rattle.std.specs.FinSet as set
 use Rattle.program_streams.specs.declared.fault.FileFault.{FileFault}
-use Rattle.program_streams.specs.declared.fault.FileFault.TheVariants as file
 use Rattle.program_streams.specs.FileLines.{file_line}
 use Rattle.tso_program.specs.declared.shown.ShownKind.{ShownKind}
 use Rattle.fencer_words.specs.declared.job.Placement.{Placement}
 use Rattle.fencer_words.specs.CommandFiles.{name_of}
-use Rattle.inserted_text.specs.Inserted.{StandsAsPrinted}
 use Rattle.placed_text.specs.declared.fault.TextFault.{TextFault}
 use Rattle.placed_text.specs.declared.fault.TextFault.TheVariants as fault
 use Rattle.placed_text.specs.declared.writing.AnswerText.{AnswerText}
 use Rattle.placed_text.specs.PlacedTexts.{IsAnswerText, IsPlacedText}
 use Rattle.placed_text.specs.TextFaults.{HasNoPlacedText}
 use Rattle.report.specs.Faults.{refused, litmus_line, costs_line}
-use Rattle.fencer.specs.declared.delivery.Answer.{Answer}
-use Rattle.fencer.specs.declared.inserted.Unkept.{Unkept}
-use Rattle.fencer.specs.declared.inserted.Unkept.TheVariants as unkept
-use Rattle.fencer.specs.Deliveries.{AreTwoNames, HoldsFile, IsDelivered, KeepAllFiles}
-use Rattle.fencer.specs.Documented.{printed as either}
-use Rattle.fencer.specs.InputTexts.{AreTexts, HasNoTexts}
-use Rattle.fencer.specs.Notes.{IsNoted}
-use Rattle.fencer.specs.Refused.{RefusalSays}
-use Rattle.fencer.specs.Statuses.{check_status}
-
--- ---- lines
+use Rattle.answers.specs.declared.delivery.Answer.{Answer}
+use Rattle.answers.specs.declared.inserted.Unkept.{Unkept}
+use Rattle.answers.specs.Deliveries.{AreTwoNames, IsDelivered, KeepAllFiles}
+use Rattle.answers.specs.Documented.{printed as either}
+use Rattle.answers.specs.Inserted.{HoldsInserted, IsInserted, IsNotKept, unkept_line}
+use Rattle.answers.specs.InputTexts.{AreTexts, HasNoTexts}
+use Rattle.answers.specs.Notes.{IsNoted}
+use Rattle.answers.specs.Refused.{RefusalSays}
+use Rattle.answers.specs.Statuses.{check_status}
 
 -- a text that isn't read is reported as a fault of its part
 abbrev pub text_fault_line : TextFault → List ℕ
@@ -33,30 +29,6 @@ text_fault_line (fault.Read why) = litmus_line why
 text_fault_line (fault.CostText why) = costs_line why
 text_fault_line fault.Workers = refused (codes "place 1 Workers")
 text_fault_line fault.OutOfMemory = refused (codes "place 5 OutOfMemory")
-
--- why the litmus text with the fences put in is not kept
-abbrev pub unkept_line : Unkept → List ℕ
-unkept_line unkept.NotInserted = refused (codes "place 6 NotInserted")
-unkept_line unkept.Unwritten = file_line file.Write
-
--- ---- the litmus text with the fences put in
-
--- where a file is named for it, it stands for what the printed text stands for; or there is none
-abbrev pub IsInserted : Option (List ℕ) → List ℕ → Option (List ℕ) → Type 0
-IsInserted None printed inserted = IsSome inserted
-IsInserted (Some name) printed None = ⊤
-IsInserted (Some name) printed (Some text) = StandsAsPrinted printed text
-
--- there is such a text, and the file that is named for it holds it
-pub record HoldsInserted (named inserted : Option (List ℕ)) (left : List ℕ → Option (List ℕ)) : Type 0 where
-  pub text : List ℕ
-  pub made : inserted ≡ Some text
-  pub held : HoldsFile named left text
-
--- why its file does not hold it: there is none, and no file is changed; or the file can't be written
-abbrev pub IsNotKept : Option (List ℕ) → Option (List ℕ) → (List ℕ → Option (List ℕ)) → (List ℕ → Option (List ℕ)) → Unkept → Type 0
-IsNotKept named inserted files left unkept.NotInserted = (inserted ≡ None) × KeepAllFiles files left
-IsNotKept named inserted files left unkept.Unwritten = IsSome named
 
 -- ---- what is placed
 

@@ -17,10 +17,10 @@ use Rattle.survey_text.specs.declared.finding.SurveyText.{SurveyText}
 use Rattle.survey_text.specs.Surveys.{IsSurveyText}
 use Rattle.fencer.specs.declared.surveys.Block.{Block}
 use Rattle.documents.specs.Documents.{IsRefusalDocument}
-use Rattle.fencer.specs.Documented.{printed}
+use Rattle.answers.specs.Documented.{printed}
 use Rattle.fencer.specs.GapTexts.{IsTiedFile}
 use Rattle.fencer.specs.Placements.{text_fault_line}
-use Rattle.fencer.specs.Statuses.{check_status}
+use Rattle.answers.specs.Statuses.{check_status}
 
 -- ---- one file
 

@@ -8,12 +8,12 @@ use Rattle.documents.specs.declared.note.Note.{Note}
 use Rattle.placed_text.specs.declared.fault.TextFault.{TextFault}
 use Rattle.placed_text.specs.TextFaults.{HasNoPlacedText}
 use Rattle.placed_text.specs.WhyTexts.{IsWhyText}
-use Rattle.fencer.specs.declared.delivery.Answer.{Answer}
-use Rattle.fencer.specs.Deliveries.{IsDelivered, KeepAllFiles}
-use Rattle.fencer.specs.Documented.{DeliversNoted}
-use Rattle.fencer.specs.InputTexts.{AreTexts, HasNoTexts}
+use Rattle.answers.specs.declared.delivery.Answer.{Answer}
+use Rattle.answers.specs.Deliveries.{IsDelivered, KeepAllFiles}
+use Rattle.answers.specs.Documented.{DeliversNoted}
+use Rattle.answers.specs.InputTexts.{AreTexts, HasNoTexts}
 use Rattle.fencer.specs.Placements.{text_fault_line}
-use Rattle.fencer.specs.Refused.{RefusalSays}
+use Rattle.answers.specs.Refused.{RefusalSays}
 
 -- what is delivered: a text with a run for each gap of the answer, or its document with what sequential runs decide, and the page of
 -- the document

@@ -11,12 +11,12 @@ use Rattle.report.specs.Faults.{litmus_line}
 use Rattle.witness_text.specs.declared.fault.WitnessFault.{WitnessFault}
 use Rattle.witness_text.specs.declared.fault.WitnessFault.TheVariants as fault
 use Rattle.witness_text.specs.WitnessTexts.{IsWitnessText, HasNoWitnessText}
-use Rattle.fencer.specs.declared.delivery.Answer.{Answer}
-use Rattle.fencer.specs.Deliveries.{IsDelivered, KeepAllFiles}
-use Rattle.fencer.specs.Documented.{DeliversNoted}
-use Rattle.fencer.specs.Refusals.{no_gap_line, solve_line}
-use Rattle.fencer.specs.Refused.{RefusalSays}
-use Rattle.fencer.specs.Statuses.{check_status}
+use Rattle.answers.specs.declared.delivery.Answer.{Answer}
+use Rattle.answers.specs.Deliveries.{IsDelivered, KeepAllFiles}
+use Rattle.answers.specs.Documented.{DeliversNoted}
+use Rattle.answers.specs.Refusals.{no_gap_line, solve_line}
+use Rattle.answers.specs.Refused.{RefusalSays}
+use Rattle.answers.specs.Statuses.{check_status}
 
 -- the line of why no run is shown
 abbrev pub witness_line : WitnessFault → List ℕ

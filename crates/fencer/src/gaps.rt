@@ -10,11 +10,10 @@ ghost use Rattle.gap_list.specs.CostFiles.{as_read, cost_file_text};
 ghost use Rattle.program_streams.specs.Files.{ReadsOfInput};
 ghost use Rattle.fencer.specs.GapTexts.{AreGaps, AreGapsOfTexts, HasNoGaps, IsGapText, Listed, PrintsGaps, TellsGaps, TellsGapsDocument, costs_shown, form_of};
 
-use crate::advice::{text_fault_advice, unread_advice};
+use crate::advice::text_fault_advice;
 use crate::place::text_fault_line;
-use crate::refused::tell_refusal;
-use crate::texts::{Texts, read_texts};
 use crate::tied::{tell_same, tell_ties, tied_file};
+use answers::{Texts, read_texts, tell_refusal, unread_advice};
 use documents::{LinedLitmus, document_line, gaps_document};
 use fencer_words::GapQuery;
 use gap_list::{SharedCode, TextLines, cost_file, gap_list};

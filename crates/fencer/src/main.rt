@@ -11,22 +11,12 @@
 
 mod advice;
 mod command;
-mod delivery;
-mod documented;
 mod gaps;
-mod inserted;
-mod notes;
 mod outcomes;
 mod place;
-mod refusals;
-mod refused;
-mod replays;
-mod status;
 mod survey_advice;
 mod surveys;
-mod texts;
 mod tied;
-mod traces;
 mod whys;
 mod witnesses;
 

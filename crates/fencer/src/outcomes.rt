@@ -13,16 +13,14 @@ ghost use Rattle.litmus_text.specs.Texts.{IsLitmus};
 ghost use Rattle.report.specs.Answers.{outcome_line};
 ghost use Rattle.report.specs.Observations.{observation_line, condition_line};
 ghost use Rattle.oracle.specs.declared.fault.SolveFault.TheVariants as solve;
-ghost use Rattle.witness_text.specs.OutcomeLists.{AreRunsOf};
+ghost use Rattle.placed_text.specs.OutcomeLists.{AreRunsOf};
 ghost use Rattle.fencer.specs.Outcomes.{listed_kind, list_text as lines_of_list, list_status, run_line_at, IsListDocument, ListsOutcomes, ListsRuns, PrintsOutcomes, HasNoList, AreOutcomes, TellsOutcomes};
 
-use crate::advice::{AskedText, tell_idle_name, unread_advice, unread_litmus};
-use crate::notes::{NotedText, SlipPlaces, noted_line};
-use crate::refusals::{AnswerFault, Reply, print_answer};
-use crate::refused::tell_refusal;
-use crate::status::check_status;
+use answers::{
+    AnswerFault, AskedText, NotedText, Reply, SlipPlaces, check_status, noted_line, print_answer,
+    tell_idle_name, tell_refusal, unread_advice, unread_litmus,
+};
 use cert_forest::Runs;
-use certificate_proposals::{SearchPlan, SearchWatch};
 use documents::{FencedModel, LinedLitmus, outcomes_document, outcomes_with_runs_document};
 use fencer_words::OutcomeQuery;
 use gap_list::TextLines;
@@ -31,16 +29,15 @@ use json_text::JsonObject;
 use litmus_text::{Condition, Litmus, NameTable, read_litmus};
 use messages::file_or_input;
 use oracle::SolveFault;
-use placed_text::warn_of_minutes;
+use placed_text::{Effort, OutcomeList, outcomes_by, warn_of_minutes};
 use program_streams::{Console, FileStore, Progress, TEXT_LIMIT, file_line, named_bytes};
 use report::{condition_line, is_true_of, labels_line, observation_line, outcome_line};
 use std::alloc::{AllocError, Global};
 use std::io::Read;
 use std::thread::Threads;
-use tree_laws::Rule;
 use tso_machine::Mode;
 use tso_program::{Outcome, Program, Shown};
-use witness_text::{OutcomeList, gaps_at, outcomes_with_runs};
+use witness_text::gaps_at;
 
 /// The line of the run of this number, if there is one.
 fn push_run(
@@ -113,8 +110,7 @@ struct ListSearch<'a> {
     program: &'a Program,
     shown: &'a Shown,
     mode: Mode,
-    workers: u8,
-    progress: Progress,
+    effort: Effort,
 }
 
 /// The document of a list of outcomes of a machine, with its runs where they are asked for.
@@ -199,17 +195,11 @@ fn list_with_runs<T: Threads + Sync>(
     ensures exact { IfOk result (λ list. (o : Outcome) → Contains list.outcomes.items o ↔ AllowsShown (question search.now.program.now search.now.shown.now) (machine_of_mode search.now.program.now search.now.mode) o) }
     ensures fault { IfErr result (λ fault. fault ≡ solve.OutOfMemory) }
 {
-    warn_of_minutes(search.alloc, search.program, search.progress);
-    let watch = SearchWatch::new(rt, search.alloc, search.progress);
-    let plan = SearchPlan {
-        rule: Rule::Early,
-        workers: search.workers,
-        watch: &watch,
-    };
-    outcomes_with_runs(
+    warn_of_minutes(search.alloc, search.program, search.effort.progress);
+    outcomes_by(
         rt,
-        plan,
         search.alloc,
+        search.effort,
         search.program,
         search.shown,
         search.mode,
@@ -274,8 +264,11 @@ fn reply_for<T: Threads + Sync>(
         program: &litmus.program,
         shown: &shown,
         mode: Mode::new(asked.model, fences),
-        workers: asked.workers,
-        progress: progress.asked(asked.progress),
+        effort: Effort {
+            workers: asked.workers,
+            trees: None,
+            progress: progress.asked(asked.progress),
+        },
     };
     let list = listed(rt, &search, asked.runs)?;
     let status = list_status(asked.check, litmus, &list.outcomes);

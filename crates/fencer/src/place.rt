@@ -5,21 +5,19 @@ ghost use Rattle.program_streams.specs.Streams.{Prints};
 ghost use Rattle.program_streams.specs.Files.{ReadsOfInput};
 ghost use Rattle.placed_text.specs.TextFaults.{HasNoPlacedText};
 ghost use Rattle.fencer_words.specs.CommandFiles.{name_of};
-ghost use Rattle.fencer.specs.Deliveries.{KeepFilesButThree};
-ghost use Rattle.fencer.specs.Placements.{text_fault_line, AreDelivered, AreTextsFor, DeliversTexts, IsInserted, IsJudged, IsPlaced, PrintsPlacement};
+ghost use Rattle.answers.specs.Deliveries.{KeepFilesButThree};
+ghost use Rattle.answers.specs.Inserted.{IsInserted};
+ghost use Rattle.fencer.specs.Placements.{text_fault_line, AreDelivered, AreTextsFor, DeliversTexts, IsJudged, IsPlaced, PrintsPlacement};
 
-use crate::advice::{
-    tell_fences, tell_idle_name_compared, text_fault_advice, unkept_advice, unread_advice,
-};
-use crate::delivery::{Answer, deliver};
-use crate::documented::printed;
-use crate::inserted::{Placed, inserted_for, keep_inserted, unkept_line};
-use crate::notes::{NotedText, noted_line, report_verdict, slip_places};
-use crate::refused::tell_refusal;
-use crate::status::check_status;
-use crate::texts::{Texts, read_texts};
+use crate::advice::text_fault_advice;
 use crate::tied::tell_ties;
+use answers::{
+    Answer, NotedText, Texts, check_status, deliver, inserted_for, keep_inserted, noted_line,
+    printed, read_texts, report_verdict, slip_places, tell_fences, tell_idle_name_compared,
+    tell_refusal, unkept_advice, unkept_line, unread_advice,
+};
 use fencer_words::Placement;
+use gap_sets::GapSet;
 use paged_text::Pages;
 use placed_text::{AnswerText, Effort, TextFault, answer_text, place_text};
 use program_streams::{Console, Progress, TEXT_LIMIT, WritableFileStore, file_line};
@@ -28,6 +26,15 @@ use std::alloc::{AllocError, Global};
 use std::io::Read;
 use std::sync::Wait;
 use std::thread::Threads;
+
+/// What is placed: what is delivered of it, the gaps of the answer, and the litmus text with the fences put in, which is
+/// empty where no file is named for it; `None` where what is made is not read as the fenced program.
+#[derive(Drop)]
+struct PlacedAnswer {
+    answer: Answer,
+    gaps: GapSet,
+    inserted: Option<Pages>,
+}
 
 /// Why nothing is placed in the program of a text.
 pub(crate) fn text_fault_line(alloc: Global, fault: TextFault) -> Result<Vec<u8>, AllocError>
@@ -112,7 +119,7 @@ fn placed(
     texts: &Texts,
     told: AnswerText,
     certificate: Pages,
-) -> Result<Placed, AllocError>
+) -> Result<PlacedAnswer, AllocError>
     ensures answer { IfOk result (λ placed. DeliversTexts told certificate asked.now.check asked.now.json placed.answer) }
     ensures inserted { IfOk result (λ placed. IsInserted (name_of asked.now.insert) told.program.items placed.inserted) }
 {
@@ -120,7 +127,7 @@ fn placed(
     let inserted = inserted_for(alloc, named, &texts.litmus, &told.gaps, &told.program)?;
     let gaps = told.gaps;
     let answer = joined(alloc, asked, &texts.litmus, told, certificate)?;
-    Ok(Placed {
+    Ok(PlacedAnswer {
         answer,
         gaps,
         inserted,
@@ -134,7 +141,7 @@ fn answer_of<T: Threads + Wait + Sync>(
     asked: &Placement,
     texts: &Texts,
     progress: Progress,
-) -> Result<Placed, TextFault>
+) -> Result<PlacedAnswer, TextFault>
     ensures placed { IfOk result (λ placed. PrintsPlacement asked.now texts.now.litmus.items (option_map (λ text. text.items) texts.now.costs) placed.answer placed.inserted) }
     ensures fault { IfErr result (HasNoPlacedText texts.now.litmus.items (option_map (λ text. text.items) texts.now.costs) asked.now.workers) }
 {
@@ -153,7 +160,7 @@ fn deliver_placed<S: WritableFileStore, W: Console>(
     files: &mut S,
     asked: &Placement,
     texts: &Texts,
-    placed: Placed,
+    placed: PlacedAnswer,
     output: &mut W,
 ) -> u8
     ensures told { Prints (AreDelivered asked.now placed.answer placed.inserted (S.held files.old) (S.held files.new)) (W.contents output.old) (W.contents output.new) result }
@@ -161,7 +168,7 @@ fn deliver_placed<S: WritableFileStore, W: Console>(
 {
     let program = asked.output.as_deref();
     let certificate = asked.certificate.as_deref();
-    let Placed {
+    let PlacedAnswer {
         answer,
         gaps,
         inserted,

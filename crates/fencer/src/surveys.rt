@@ -7,14 +7,13 @@ ghost use Rattle.program_streams.specs.FileLines.{file_line};
 ghost use Rattle.fencer.specs.Placements.{text_fault_line};
 ghost use Rattle.fencer.specs.Surveys.{block_text, row_line, survey_status, table_text, worse, AreWritten, IsBlock, IsBlockOfText, IsFound, IsRefused, IsSurvey, ReadsOfSomeFiles, RefusedBlock};
 
-use crate::advice::{slip_advice, text_fault_advice, unread_advice, unread_litmus};
-use crate::documented::printed;
+use crate::advice::text_fault_advice;
 use crate::place::text_fault_line;
-use crate::refused::{said_of, written};
-use crate::status::check_status;
 use crate::survey_advice::{unexecuted_advice, verdict_advice};
-use crate::texts::Texts;
 use crate::tied::{tie_advice, tied_costs};
+use answers::{
+    Texts, check_status, printed, said_of, slip_advice, unread_advice, unread_litmus, written,
+};
 use documents::refusal_document;
 use fencer_words::{SurveyOptions, SurveyQuery};
 use messages::Message;

@@ -4,18 +4,17 @@ ghost use Rattle.std.specs.Prelude.{◌≡◌, IfErr, IfOk, option_map, string_b
 ghost use Rattle.program_streams.specs.Streams.{Prints};
 ghost use Rattle.program_streams.specs.Files.{ReadsOfInput};
 ghost use Rattle.placed_text.specs.TextFaults.{HasNoPlacedText};
-ghost use Rattle.fencer.specs.Deliveries.{KeepFilesBut};
+ghost use Rattle.answers.specs.Deliveries.{KeepFilesBut};
 ghost use Rattle.fencer_words.specs.CommandFiles.{name_of};
 ghost use Rattle.fencer.specs.Whys.{Explains, IsExplained, IsExplainedText};
 
-use crate::advice::{tell_idle_name_compared, text_fault_advice, unread_advice};
-use crate::delivery::{Answer, deliver};
-use crate::documented::{Told, documented};
-use crate::notes::{NotedText, report_verdict, slip_places};
+use crate::advice::text_fault_advice;
 use crate::place::text_fault_line;
-use crate::refused::tell_refusal;
-use crate::texts::{Texts, read_texts};
 use crate::tied::tell_ties;
+use answers::{
+    Answer, NotedText, Texts, Told, deliver, documented, read_texts, report_verdict, slip_places,
+    tell_idle_name_compared, tell_refusal, unread_advice,
+};
 use fencer_words::{Placement, WhyQuery};
 use gap_sets::GapSet;
 use placed_text::{Effort, TextFault, WhyText, why_text};

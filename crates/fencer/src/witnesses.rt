@@ -5,16 +5,14 @@ ghost use Rattle.program_streams.specs.Streams.{Prints};
 ghost use Rattle.program_streams.specs.Files.{ReadsOfInput};
 ghost use Rattle.fencer_words.specs.CommandFiles.{name_of};
 ghost use Rattle.witness_text.specs.WitnessTexts.{HasNoWitnessText};
-ghost use Rattle.fencer.specs.Deliveries.{KeepFilesBut};
+ghost use Rattle.answers.specs.Deliveries.{KeepFilesBut};
 ghost use Rattle.fencer.specs.Witnesses.{witness_line, IsWitnessOf, IsWitnessShown, ShowsWitness};
 
-use crate::advice::{tell_idle_name, unread_advice, unread_litmus, witness_advice};
-use crate::delivery::{Answer, deliver};
-use crate::documented::{Told, documented};
-use crate::notes::{NotedText, SlipPlaces};
-use crate::refusals::{no_gap_line, solve_line};
-use crate::refused::tell_refusal;
-use crate::status::check_status;
+use crate::advice::witness_advice;
+use answers::{
+    Answer, NotedText, SlipPlaces, Told, check_status, deliver, documented, no_gap_line,
+    solve_line, tell_idle_name, tell_refusal, unread_advice, unread_litmus,
+};
 use fencer_words::WitnessQuery;
 use messages::file_or_input;
 use oracle::SolveFault;

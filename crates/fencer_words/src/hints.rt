@@ -2,7 +2,6 @@
 
 use crate::form::Form;
 use crate::words::choice_names;
-use clap::Command;
 use std::alloc::{AllocError, Global};
 
 /// That an option is one of other commands, for the first option of a command that is; it is empty where there is none.
@@ -36,8 +35,7 @@ fn other_takers(alloc: Global, name: &str, option: &str) -> Result<String, Alloc
     let mut takers = Vec::new(alloc);
     let mut lacks = false;
     for form in Form::all() {
-        let command = form.command(alloc, choice_names())?;
-        if takes(&command, option) {
+        if takes(alloc, *form, option)? {
             takers.push(form.name())?;
         } else if form.name() == name {
             lacks = true;
@@ -50,12 +48,11 @@ fn other_takers(alloc: Global, name: &str, option: &str) -> Result<String, Alloc
     }
 }
 
-/// Whether a command takes the option of this name.
-fn takes(command: &Command<'_>, option: &str) -> bool {
-    command
-        .get_arguments()
-        .iter()
-        .any(|argument| argument.get_long() == Some(option))
+/// Whether the command of a form takes the option of this name.
+fn takes(alloc: Global, form: Form, option: &str) -> Result<bool, AllocError> {
+    let command = form.command(alloc, choice_names())?;
+    let mut arguments = command.get_arguments().iter();
+    Ok(arguments.any(|argument| argument.get_long() == Some(option)))
 }
 
 /// Names with commas between them, and `and` before the last one.

@@ -160,13 +160,18 @@ fn command_error(alloc: Global, kind: ErrorKind, text: &str) -> Result<Error, Al
     command(alloc)?.error(kind, text)
 }
 
+/// An error of the command of a form, with its usage.
+fn form_error(alloc: Global, form: Form, kind: ErrorKind, text: &str) -> Result<Error, AllocError> {
+    let full_name = format!(in alloc; "fencer {}", form.name())?;
+    let command = form.command(alloc, choice_names())?;
+    command.bin_name(full_name.as_str())?.error(kind, text)
+}
+
 /// An error of the command of this name, with its usage.
 fn error_of(alloc: Global, name: &str, kind: ErrorKind, text: &str) -> Result<Error, AllocError> {
     for form in Form::all() {
         if form.name() == name {
-            let full_name = format!(in alloc; "fencer {name}")?;
-            let named = form.command(alloc, choice_names())?;
-            return named.bin_name(full_name.as_str())?.error(kind, text);
+            return form_error(alloc, *form, kind, text);
         }
     }
     command_error(alloc, kind, text)

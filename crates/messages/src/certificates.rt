@@ -1,9 +1,9 @@
 //! Certificates that can't be read, or don't show what they claim.
 
 use crate::message::Message;
-use crate::source::{Source, bytes_from, line_of};
 use cert_check::CheckFault;
 use cert_forest::CertFault;
+use litmus_rules::{Source, bytes_from, line_of};
 use std::alloc::{AllocError, Global};
 
 /// What is said of a carriage return.

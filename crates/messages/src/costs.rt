@@ -1,10 +1,10 @@
 //! Cost files that can't be read.
 
-use crate::message::{Message, shown_word};
-use crate::source::{Source, bytes_from, line_start};
+use crate::message::Message;
 use cost_text::CostTextFault;
 use gap_sets::CostFault;
 use litmus_reader::read_litmus;
+use litmus_rules::{Source, bytes_from, line_start};
 use std::alloc::{AllocError, Global};
 use text_tokens::{are_digits, line_spaces_len, value_up_to};
 use tso_program::Program;
@@ -83,12 +83,17 @@ fn is_named_before(source: Source<'_>, offset: usize) -> bool {
 
 /// The offset of the first gap of a line that the program of a litmus text lacks.
 fn lacking_gap(alloc: Global, source: Source<'_>, pieces: Pieces, litmus: &[u8]) -> usize {
-    let Ok(litmus) = read_litmus(alloc, litmus) else {
-        return pieces.gap;
-    };
+    match read_litmus(alloc, litmus) {
+        Ok(litmus) => first_lacking(source, pieces, &litmus.program),
+        Err(_) => pieces.gap,
+    }
+}
+
+/// The offset of the first gap of a line that a program lacks.
+fn first_lacking(source: Source<'_>, pieces: Pieces, program: &Program) -> usize {
     let mut at = pieces.gap;
     for _ in 0..source.text.len() {
-        if at >= pieces.cost || !has_gap(&litmus.program, source.piece(at)) {
+        if at >= pieces.cost || !has_gap(program, source.piece(at)) {
             break;
         }
         at = next_piece(source, at);
@@ -170,18 +175,31 @@ fn line_message(alloc: Global, source: Source<'_>, pieces: Pieces) -> Result<Mes
 fn gaps_text(alloc: Global, program: &Program) -> Result<String, AllocError> {
     let mut text = String::new(alloc);
     for (thread, own) in program.threads().iter().enumerate() {
-        let last = own.code.len().saturating_sub(1);
-        let comma = if text.is_empty() { "" } else { ", " };
-        match last {
-            0 => {}
-            1 => write!(text, "{comma}{thread}:1")?,
-            _ => write!(text, "{comma}{thread}:1 to {thread}:{last}")?,
-        }
+        push_gaps(&mut text, thread, own.code.len().saturating_sub(1))?;
     }
     if text.is_empty() {
         text.push_str("no gap")?;
     }
     Ok(text)
+}
+
+/// Puts the gaps of a thread at the end of those of others, where the last of its gaps has this number.
+fn push_gaps(text: &mut String, thread: usize, last: usize) -> Result<(), AllocError> {
+    let comma = if text.is_empty() { "" } else { ", " };
+    match last {
+        0 => {}
+        1 => write!(text, "{comma}{thread}:1")?,
+        _ => write!(text, "{comma}{thread}:1 to {thread}:{last}")?,
+    }
+    Ok(())
+}
+
+/// The gaps of the program of a litmus text.
+fn gaps_of(alloc: Global, litmus: &[u8]) -> Result<String, AllocError> {
+    match read_litmus(alloc, litmus) {
+        Ok(litmus) => gaps_text(alloc, &litmus.program),
+        Err(_) => String::from_str(alloc, "others"),
+    }
 }
 
 /// That the program of a litmus text lacks a gap.
@@ -190,10 +208,7 @@ pub(crate) fn missing_gap_text(
     gap: &str,
     litmus: &[u8],
 ) -> Result<String, AllocError> {
-    let gaps = match read_litmus(alloc, litmus) {
-        Ok(litmus) => gaps_text(alloc, &litmus.program)?,
-        Err(_) => String::from_str(alloc, "others")?,
-    };
+    let gaps = gaps_of(alloc, litmus)?;
     format!(in alloc; "gap {gap} is not a gap of this program; it has {gaps}")
 }
 
@@ -205,11 +220,8 @@ fn missing_gap_message(
     litmus: &[u8],
 ) -> Result<Message, AllocError> {
     let at = lacking_gap(alloc, source, pieces, litmus);
-    let piece = source.piece(at);
-    let gap = shown_word(alloc, piece)?;
-    let text = missing_gap_text(alloc, gap.as_str(), litmus)?;
-    let mut message = Message::at_word(alloc, source, at, piece, "")?;
-    message.text = text;
+    let mut message = Message::at_word(alloc, source, at, source.piece(at), "")?;
+    message.text = missing_gap_text(alloc, message.word.as_str(), litmus)?;
     Ok(message)
 }
 

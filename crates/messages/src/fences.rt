@@ -12,9 +12,8 @@ pub fn fence_message(
     litmus: &[u8],
 ) -> Result<Message, AllocError> {
     let (thread, instruction) = place;
-    let gap = format!(in alloc; "{thread}:{instruction}")?;
-    let text = missing_gap_text(alloc, gap.as_str(), litmus)?;
-    let mut message = Message::of_file(alloc, name, text.as_str())?;
-    message.word = gap;
+    let mut message = Message::of_file(alloc, name, "")?;
+    write!(message.word, "{thread}:{instruction}")?;
+    message.text = missing_gap_text(alloc, message.word.as_str(), litmus)?;
     Ok(message)
 }

@@ -1,6 +1,6 @@
 //! Labels that are no run.
 
-use crate::message::{Message, shown_word};
+use crate::message::Message;
 use std::alloc::{AllocError, Global};
 use text_tokens::is_white_space;
 use tso_machine::{ReplayFault, RunFault};
@@ -43,11 +43,9 @@ fn label_message(
     index: usize,
     said: &str,
 ) -> Result<Message, AllocError> {
-    let word = shown_word(alloc, word_of(labels, index))?;
-    let text = format!(in alloc; "{word}{said}")?;
-    let mut message = Message::of_file(alloc, LABELS, text.as_str())?;
+    let mut message = Message::of_word(alloc, LABELS, word_of(labels, index))?;
     message.line = Some(index.saturating_add(1));
-    message.word = word;
+    write!(message.text, "{}{said}", message.word)?;
     Ok(message)
 }
 
@@ -77,20 +75,27 @@ pub fn replay_message(
     match fault {
         ReplayFault::NoSuchThread(step)
         | ReplayFault::AtEnd(step)
+        | ReplayFault::BufferEmpty(step)
         | ReplayFault::FenceWaits(step) => {
-            let said = format!(in alloc; ": {fault}")?;
-            label_message(alloc, labels, step, said.as_str())
-        }
-        ReplayFault::BufferEmpty(step) => {
-            let said = format!(in alloc; ": {fault}; the sequential machine has no f steps")?;
+            let said = format!(in alloc; ": {fault}{}", said_of_machine(fault))?;
             label_message(alloc, labels, step, said.as_str())
         }
         ReplayFault::NotEnded(_) => {
-            let said = format!(in alloc;
+            let mut message = Message::of_file(alloc, LABELS, "")?;
+            write!(
+                message.text,
                 "{fault}: labels must lead to the end of every thread and empty every buffer; `fencer witness` and `fencer outcomes --runs` print such labels"
             )?;
-            Message::of_file(alloc, LABELS, said.as_str())
+            Ok(message)
         }
         ReplayFault::OutOfMemory => Message::of_file(alloc, name, "out of memory"),
+    }
+}
+
+/// What is said of a machine, after a step that is not possible.
+fn said_of_machine(fault: ReplayFault) -> &'static str {
+    match fault {
+        ReplayFault::BufferEmpty(_) => "; the sequential machine has no f steps",
+        _ => "",
     }
 }

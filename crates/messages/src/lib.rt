@@ -8,29 +8,17 @@
 //! safe; a message that can't be made or written leaves the answer as it is.
 #![tactic(auto)]
 
-mod cell_rules;
 mod certificates;
-mod condition_rules;
 mod costs;
 mod fence_hints;
 mod fences;
 mod files;
-mod forms;
 mod hints;
 mod labels;
-mod limits;
 mod litmus;
-mod locks;
 mod message;
 mod misuses;
-mod pointer;
-mod refusals;
 mod rows;
-mod rule;
-mod rules;
-mod source;
-mod text_end;
-mod tokens;
 
 pub use certificates::{certificate_message, check_message};
 pub use costs::costs_message;
@@ -39,7 +27,6 @@ pub use files::{unread_message, unwritten_message};
 pub use hints::command_hint;
 pub use labels::{replay_message, run_message};
 pub use litmus::litmus_message;
-pub use message::{Message, STDIN, file_or_input, shown_word};
+pub use litmus_rules::{Source, bytes_from, shown_word, word_at};
+pub use message::{Message, STDIN, file_or_input};
 pub use misuses::misuse_line;
-pub use source::{Source, bytes_from};
-pub use tokens::word_at;

@@ -1,18 +1,18 @@
 //! Litmus texts that can't be read.
 
-use crate::limits::limit_text;
-use crate::message::{Message, shown_word};
-use crate::refusals::{instruction_left, refusal_of};
+use crate::message::Message;
 use crate::rows::row_message;
-use crate::rules::{COMMENT, OPEN_COMMENT, said_of};
-use crate::source::{Source, bytes_from, line_of, line_start};
-use crate::tokens::{begins_foreign_comment, open_comment, spot_of, word_at};
 use litmus_lines::{line_number, read_first_line, skip_lines};
 use litmus_reader::ReadFault;
+use litmus_rules::{
+    COMMENT, OPEN_COMMENT, Source, begins_foreign_comment, bytes_from, instruction_left,
+    limit_text, line_of, line_start, open_comment, refusal_of, row_fault, said_of, shown_word,
+    spot_of, word_at,
+};
 use litmus_syntax::{Part, Refusal, read_body};
 use std::alloc::{AllocError, Global};
 use std::str;
-use text_tokens::{Token, lex, line_spaces_len};
+use text_tokens::{Token, Tokens, lex, line_spaces_len};
 use tso_program::ProgramFault;
 
 /// What is said of a first line that begins so.
@@ -168,14 +168,24 @@ fn tokens_message(
     let offset = source.text.len().saturating_sub(rest.len());
     let tokens = lex(alloc, rest, line_number(source.text, offset))?;
     match refusal_of(alloc, tokens.as_slice()) {
-        Some(refusal) => {
-            let spot = spot_of(rest, tokens.as_slice(), refusal, offset);
-            match row_message(alloc, source, &tokens, refusal.left, &spot)? {
-                Some(message) => Ok(message),
-                None => Message::at_word(alloc, source, spot.offset, spot.shown, said_of(&spot)),
-            }
-        }
+        Some(refusal) => refused_message(alloc, source, rest, &tokens, refusal),
         None => Message::of_file(alloc, source.name, "out of memory"),
+    }
+}
+
+/// What is said of a token that is refused.
+fn refused_message(
+    alloc: Global,
+    source: Source<'_>,
+    rest: &[u8],
+    tokens: &Tokens,
+    refusal: Refusal,
+) -> Result<Message, AllocError> {
+    let offset = source.text.len().saturating_sub(rest.len());
+    let spot = spot_of(rest, tokens.as_slice(), refusal, offset);
+    match row_fault(tokens, refusal.left, &spot) {
+        Some(fault) => row_message(alloc, source, &spot, fault),
+        None => Message::at_word(alloc, source, spot.offset, spot.shown, said_of(&spot)),
     }
 }
 

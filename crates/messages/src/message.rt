@@ -1,14 +1,9 @@
 //! Messages.
 
-use crate::pointer::pointed_line;
-use crate::source::Source;
-use crate::tokens::spot_of;
+use litmus_rules::{Source, push_pointed_line, push_shown_word, spot_of};
 use litmus_syntax::{Part, Refusal};
 use std::alloc::{AllocError, Global};
 use text_tokens::Token;
-
-/// The most bytes of a word that a message shows.
-const WORD_LIMIT: usize = 40;
 
 /// The name of standard input.
 pub const STDIN: &str = "<stdin>";
@@ -43,6 +38,13 @@ impl Message {
         })
     }
 
+    /// A message about a word of a file, without what is said of it.
+    pub(crate) fn of_word(alloc: Global, name: &str, word: &[u8]) -> Result<Message, AllocError> {
+        let mut message = Message::of_file(alloc, name, "")?;
+        push_shown_word(&mut message.word, word)?;
+        Ok(message)
+    }
+
     /// What is said about a line, by its number from 1 in the text.
     pub(crate) fn at_line(
         alloc: Global,
@@ -65,16 +67,12 @@ impl Message {
         said: &str,
     ) -> Result<Message, AllocError> {
         let position = source.position(offset);
-        let shown = shown_word(alloc, word)?;
-        let text = format!(in alloc; "{} {said}", subject(alloc, word, shown.as_str())?)?;
-        Ok(Message {
-            file: String::from_str(alloc, source.name)?,
-            line: Some(position.line),
-            column: Some(position.column),
-            word: shown,
-            text,
-            pointed: pointed_line(alloc, source.text, offset)?,
-        })
+        let mut message = Message::of_word(alloc, source.name, word)?;
+        message.line = Some(position.line);
+        message.column = Some(position.column);
+        push_sentence(&mut message.text, word, message.word.as_str(), said)?;
+        push_pointed_line(&mut message.pointed, source.text, offset)?;
+        Ok(message)
     }
 
     /// What is said about a token of a part of the text, of whose tokens so many are left there, this one included.
@@ -95,22 +93,28 @@ impl Message {
         Message::at_word(alloc, source, spot.offset, spot.word, said)
     }
 
-    /// The message as one line: `FILE:LINE:COLUMN: TEXT`, without what is not known. A terminal shows the line of the
-    /// text after it, with a `^` below the word.
-    pub fn written(&self, alloc: Global, on_terminal: bool) -> Result<Vec<u8>, AllocError> {
+    /// `FILE:LINE:COLUMN: TEXT`, without what is not known.
+    fn placed_text(&self, alloc: Global) -> Result<String, AllocError> {
         let Message {
             file,
             line,
             column,
+            text,
             ..
         } = self;
-        let text = self.text.as_str();
-        let written = match (line, column) {
-            (Some(line), Some(column)) => format!(in alloc; "{file}:{line}:{column}: {text}")?,
-            (Some(line), None) => format!(in alloc; "{file}:{line}: {text}")?,
-            _ => format!(in alloc; "{file}: {text}")?,
-        };
-        let mut lines = one_line(alloc, written.as_str())?;
+        match (line, column) {
+            (Some(line), Some(column)) => format!(in alloc; "{file}:{line}:{column}: {text}"),
+            (Some(line), None) => format!(in alloc; "{file}:{line}: {text}"),
+            _ => format!(in alloc; "{file}: {text}"),
+        }
+    }
+
+    /// The message as one line: `FILE:LINE:COLUMN: TEXT`, without what is not known. A terminal shows the line of the
+    /// text after it, with a `^` below the word.
+    pub fn written(&self, alloc: Global, on_terminal: bool) -> Result<Vec<u8>, AllocError> {
+        let text = self.placed_text(alloc)?;
+        let mut lines = String::new(alloc);
+        push_line(&mut lines, text.as_str())?;
         if on_terminal {
             lines.push_str(self.pointed.as_str())?;
         }
@@ -118,18 +122,18 @@ impl Message {
     }
 }
 
-/// A text as one line, with `\xHH` for each byte of a control character, so that a file's name cannot end it.
-fn one_line(alloc: Global, text: &str) -> Result<String, AllocError> {
-    let mut line = String::new(alloc);
+/// Puts a text at the end of others as one line, with `\xHH` for each byte of a control character, so that a file's name
+/// cannot end it.
+fn push_line(lines: &mut String, text: &str) -> Result<(), AllocError> {
     for character in text.chars() {
         if character.is_control() {
-            push_escaped(&mut line, character)?;
+            push_escaped(lines, character)?;
         } else {
-            line.push(character)?;
+            lines.push(character)?;
         }
     }
-    line.push('\n')?;
-    Ok(line)
+    lines.push('\n')?;
+    Ok(())
 }
 
 /// Puts `\xHH` for each byte of a character at the end of a line.
@@ -146,34 +150,20 @@ pub fn file_or_input(name: &str) -> &str {
     if name == "-" { STDIN } else { name }
 }
 
-/// The first bytes of a word, or of two, with `\xHH` for those that are not printable ASCII.
-pub fn shown_word(alloc: Global, word: &[u8]) -> Result<String, AllocError> {
-    let mut shown = String::new(alloc);
-    for byte in word.iter().take(WORD_LIMIT) {
-        if byte.is_ascii_graphic() || (*byte == b' ' && !shown.is_empty()) {
-            shown.push(char::from(*byte))?;
-        } else {
-            write!(shown, "\\x{byte:02x}")?;
-        }
-    }
-    if word.len() > WORD_LIMIT {
-        shown.push_str("..")?;
-    }
-    Ok(shown)
-}
-
-/// A word as the subject of a sentence: in backquotes where it is not of letters and digits.
-fn subject(alloc: Global, word: &[u8], shown: &str) -> Result<String, AllocError> {
+/// Puts a sentence at the end of a text, of which a word is the subject: in backquotes where it is not of letters and
+/// digits.
+fn push_sentence(
+    text: &mut String,
+    word: &[u8],
+    shown: &str,
+    said: &str,
+) -> Result<(), AllocError> {
     match word.first() {
-        None => String::from_str(alloc, "the text"),
-        Some(b' ') => String::from_str(alloc, "a space"),
-        Some(b'\n') => String::from_str(alloc, "the end of the line"),
-        Some(first) => {
-            if first.is_ascii_alphanumeric() {
-                String::from_str(alloc, shown)
-            } else {
-                format!(in alloc; "`{shown}`")
-            }
-        }
+        None => write!(text, "the text {said}")?,
+        Some(b' ') => write!(text, "a space {said}")?,
+        Some(b'\n') => write!(text, "the end of the line {said}")?,
+        Some(first) if first.is_ascii_alphanumeric() => write!(text, "{shown} {said}")?,
+        Some(_) => write!(text, "`{shown}` {said}")?,
     }
+    Ok(())
 }

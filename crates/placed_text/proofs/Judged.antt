@@ -1,6 +1,6 @@
 -- What is reported of texts, from what their parts are.
 use Rattle.placed_text.proofs.Vocabulary.{◌≡◌, ◌∙◌, ◌≤◌, ◌==◌, ℕ, Bool, true, false, List, [], Option, Some, None, ap, arith, length, map, range_with_len, refl, sym, subst, unwrap_or, length-replicate, TiedCosts, Listing, Shown, asked_with, shown_as, tied_question, names_of, gap_count, answer_line, IsPlacement, AreTextsOf, ArePlacedTextsOf, HasNoPlacedText, TellsWhy}
-use Rattle.placed_text.proofs.Vocabulary.{Litmus, AreGiven, IsAnswerText, IsProblem, IsPlacedText, HasNoProgram, HasNoCosts, HasNoPlacement, HasNoProblem, IsWhyText, OfItsPlacement, question_in}
+use Rattle.placed_text.proofs.Vocabulary.{Litmus, AreGiven, IsAnswerText, IsProblem, IsPlacedText, HasNoProgram, HasNoCosts, HasNoPlacement, HasNoProblem, IsWhyText, question_in}
 use Rattle.std.proofs.lemmas.List.FromFn.{length-map-range_with_len}
 use Rattle.tso_program.specs.declared.shown.ShownKind.{ShownKind}
 use Rattle.std.specs.List.{list_all}
@@ -38,8 +38,9 @@ module _ (litmus : List ℕ) (costs : Option (List ℕ)) where
     placement_of certificate of_texts is = subst (λ (shown : Shown). IsPlacement (asked_with problem.costs.ties problem.litmus.program shown) problem.costs.costs certificate) of_texts.shown is
 
     -- from what is written of it
-    pub answer_text : (texts : AnswerText) → IsProblem litmus costs kind problem → OfItsPlacement problem (λ placed. AreTextsOf problem placed.gaps placed.cost texts) → IsAnswerText litmus costs kind texts
-    answer_text texts of_texts (certificate, placed, written) =
+    pub answer_text : (certificate : Certificate) (texts : AnswerText) → IsProblem litmus costs kind problem → IsPlacement (question_in problem) problem.costs.costs certificate
+        → AreTextsOf problem certificate.gaps certificate.cost texts → IsAnswerText litmus costs kind texts
+    answer_text certificate texts of_texts placed written =
         let source = problem.litmus in
         let gaps = certificate.gaps in
         let is = placement_of certificate of_texts placed in
@@ -52,7 +53,6 @@ module _ (litmus : List ℕ) (costs : Option (List ℕ)) where
           gaps = gaps;
           of_names = sym is.fenced.allowed;
           answer = is.answer;
-          headline = is.headline;
           fenced = is.fenced;
           program = written.program;
           again = written.again litmus of_texts.of_text;
@@ -64,12 +64,13 @@ module _ (litmus : List ℕ) (costs : Option (List ℕ)) where
         }
 
     -- and from that with the text of its certificate
-    pub placed_text : (written : PlacedText) → IsProblem litmus costs kind problem → OfItsPlacement problem (λ placed. ArePlacedTextsOf problem placed written) → IsPlacedText litmus costs kind written
+    pub placed_text : (certificate : Certificate) (written : PlacedText) → IsProblem litmus costs kind problem → IsPlacement (question_in problem) problem.costs.costs certificate
+        → ArePlacedTextsOf problem certificate written → IsPlacedText litmus costs kind written
     unfolding answer_text
-    placed_text written of_texts (certificate, placed, are) =
+    placed_text certificate written of_texts placed are =
         let is = placement_of certificate of_texts placed in
         record {
-          told = answer_text written.texts of_texts (certificate, placed, are.texts);
+          told = answer_text certificate written.texts of_texts placed are.texts;
           certificate = record {
             claimed = certificate;
             of_text = record { spelled = are.spelled; within = is.proof.within };
@@ -79,9 +80,10 @@ module _ (litmus : List ℕ) (costs : Option (List ℕ)) where
         }
 
     -- from the reasons that are given for it
-    pub why_text : (text : List ℕ) (document : List (List ℕ)) (verdict : Option Note) → IsProblem litmus costs kind problem → IsVerdictIn problem verdict
-        → OfItsPlacement problem (λ placed. TellsWhy problem.litmus problem.shown problem.costs placed.gaps (answer_line problem.litmus.program problem.shown placed.gaps placed.cost) text document) → IsWhyText litmus costs kind text document verdict
-    why_text text document verdict of_texts is_verdict (certificate, placed, tells) =
+    pub why_text : (certificate : Certificate) (text : List ℕ) (document : List (List ℕ)) (verdict : Option Note) → IsProblem litmus costs kind problem → IsPlacement (question_in problem) problem.costs.costs certificate
+        → TellsWhy problem.litmus problem.shown problem.costs certificate.gaps (answer_line problem.litmus.program problem.shown certificate.gaps certificate.cost) text document → IsVerdictIn problem verdict
+        → IsWhyText litmus costs kind text document verdict
+    why_text certificate text document verdict of_texts placed tells is_verdict =
         let source = problem.litmus in
         let shown = shown_as source kind in
         let gaps = certificate.gaps in

@@ -11,7 +11,7 @@ use Rattle.cert_forest.specs.Certificates.{Certificate}
 use Rattle.tso_program.specs.declared.shown.Shown.{TheVariants.All as Whole}
 use Rattle.tso_machine.specs.{declared.label.Model.TheVariants.Buffered, declared.replaying.Ended.Ended, FenceLaws.PassesNoGapOf, Outcomes.AreGapsOf, Outcomes.ArePassedNames, Outcomes.PassesNoNameOf}
 use Rattle.tso_machine.proofs.NamesPassed.{fenced_runs_pass_no_name, names_of_passed}
-use Rattle.tree_laws.specs.{GapTrees.SomePassesNone, Laws.IsForeign, Laws.IsProved}
+use Rattle.tree_laws.specs.{Laws.IsForeign, Laws.IsProved}
 
 second : (v w : Bool) → (v && w) ≡ true → w ≡ true
 second true w e = e

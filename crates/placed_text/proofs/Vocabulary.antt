@@ -29,6 +29,6 @@ pub use Rattle.tso_program.specs.declared.shown.Shown.{Shown}
 pub use Rattle.placed_text.specs.MarkedTables.{IsMarkedTableOf}
 pub use Rattle.placed_text.specs.declared.reasons.LeftOut.{LeftOut}
 pub use Rattle.placed_text.specs.PlacedTexts.{ArePlacedTextsOf, AreTextsOf, IsAnswerText, IsPlacedText, tied_question}
-pub use Rattle.placed_text.specs.Problems.{IsProblem, OfItsPlacement, question_in}
+pub use Rattle.placed_text.specs.Problems.{IsProblem, question_in}
 pub use Rattle.placed_text.specs.TextFaults.{AreNoCosts, HasNoCosts, HasNoPlacedText, HasNoPlacement, HasNoProblem, HasNoProgram}
 pub use Rattle.placed_text.specs.WhyTexts.{AreReasons, IsReason, IsReasonOf, IsReasonText, IsWhyText, TellsReasons, TellsWhy, Told, none_line, others_fenced, printed_of, reasons_or_none, told_lines}

@@ -6,8 +6,6 @@ use Rattle.tso_program.specs.Shown.{asked_with}
 use Rattle.litmus_text.specs.Texts.{IsLitmus}
 use Rattle.litmus_text.specs.Shown.{shown_as}
 use Rattle.litmus_text.specs.GivenCosts.{AreGiven}
-use Rattle.cert_forest.specs.Certificates.{Certificate}
-use Rattle.fence_place.specs.Placements.{IsPlacement}
 use Rattle.placed_text.specs.declared.problem.Problem.{Problem}
 
 -- what a problem asks of its program
@@ -19,7 +17,3 @@ pub record IsProblem (litmus : List ℕ) (costs : Option (List ℕ)) (kind : Sho
   pub of_text : IsLitmus litmus problem.litmus
   pub given : AreGiven problem.litmus.program costs problem.costs
   pub shown : problem.shown ≡ shown_as problem.litmus kind
-
--- it holds of a certificate of the problem's answer
-abbrev pub OfItsPlacement : Problem → (Certificate → Type 0) → Type 0
-OfItsPlacement problem holds = (placed : Certificate) × IsPlacement (question_in problem) problem.costs.costs placed × holds placed

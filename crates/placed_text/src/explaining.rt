@@ -1,5 +1,5 @@
 //! Why the fences of a placement in the program of a text are needed.
-ghost use Rattle.std.specs.Prelude.{◌≡◌, ◌≤◌, ◌<◌, ◌++◌, ◌∷◌, [], true, IfErr, IfOk, OnOk, length, option_map};
+ghost use Rattle.std.specs.Prelude.{◌≡◌, ◌<◌, ◌++◌, ◌∷◌, [], true, IfErr, IfOk, OnOk, length, option_map};
 ghost use Rattle.std.specs.FinSet as set;
 ghost use Rattle.gap_sets.specs.Gaps.{numbers_of_set};
 ghost use Rattle.gap_sets.specs.declared.gap_set.TheConstants.{MAX_GAPS};
@@ -9,18 +9,17 @@ ghost use Rattle.tree_laws.specs.Laws.{IsProved};
 ghost use Rattle.report.specs.Answers.{answer_line};
 ghost use Rattle.fence_place.specs.Faults.{AreTooFewOrMany};
 ghost use Rattle.fence_place.specs.Placements.{IsPlacement};
-ghost use Rattle.placed_text.specs.Problems.{question_in, OfItsPlacement};
-ghost use Rattle.placed_text.specs.TextFaults.{HasNoPlacedText, HasNoPlacement};
+ghost use Rattle.placed_text.specs.Problems.{question_in};
+ghost use Rattle.placed_text.specs.TextFaults.{HasNoPlacedText};
 ghost use Rattle.placed_text.specs.Verdicts.{IsVerdictIn};
 ghost use Rattle.placed_text.specs.WhyTexts.{none_line, reasons_or_none, IsReason, IsWhyText, TellsReasons, TellsWhy};
 
 use crate::TextFault;
-use crate::problem::{Problem, read_problem};
-use crate::proposed::certificate_of;
+use crate::answered_problem::AnsweredProblem;
+use crate::problem::Problem;
 use crate::reasons::{GapReason, LeftOut, push_graph, reason_of, run_avoiding};
 use crate::verdict::verdict_of;
 use crate::watched::Effort;
-use crate::writing::{cost_of, gaps_of};
 use cert_check::certificate_proves_answer;
 use cert_forest::Certificate;
 use documents::{LinedLitmus, Note, why_document};
@@ -72,6 +71,20 @@ impl Explanation {
         self.lines.extend_from_slice(&reason.lines)?;
         self.runs.add(reason.run)
     }
+}
+
+/// The gaps of a certificate's answer.
+fn gaps_of(certificate: &Certificate) -> GapSet
+    ensures { result ≡ certificate.now.gaps }
+{
+    certificate.set
+}
+
+/// The cost of a certificate's answer.
+fn cost_of(certificate: &Certificate) -> u64
+    ensures { result ≡ certificate.now.cost }
+{
+    certificate.cost
 }
 
 /// Why a tie of the answer is needed: a run of the certificate passes no gap of the others. `names` has the answer's names,
@@ -143,14 +156,31 @@ fn none_line(shown: &Shown) -> &'static [u8]
 }
 
 /// The lines of reasons, or a line that no gap is needed.
-fn reasons_or_none(alloc: Global, shown: &Shown, reasons: Vec<u8>) -> Result<Vec<u8>, AllocError>
-    ensures { IfOk result (λ said. said.items ≡ reasons_or_none shown.now reasons.items) }
+fn reasons_or_none<'a>(shown: &Shown, reasons: &'a [u8]) -> &'a [u8]
+    ensures { result.now ≡ reasons_or_none shown.now reasons.now }
 {
     if reasons.is_empty() {
-        Vec::from_slice(alloc, none_line(shown))
+        none_line(shown)
     } else {
-        Ok(reasons)
+        reasons
     }
+}
+
+/// The answer line, and the lines of the reasons, or one that no gap is needed.
+fn why_lines(
+    alloc: Global,
+    problem: &Problem,
+    certificate: &Certificate,
+    reasons: &[u8],
+) -> Result<Vec<u8>, AllocError>
+    ensures { IfOk result (λ lines. lines.items ≡ answer_line problem.now.litmus.program problem.now.shown certificate.now.gaps certificate.now.cost ++ reasons_or_none problem.now.shown reasons.now) }
+{
+    let Problem { litmus, shown, .. } = problem;
+    let set = gaps_of(certificate);
+    let cost = cost_of(certificate);
+    let mut lines = answer_line(alloc, &litmus.program, shown, set, cost)?;
+    lines.extend_from_slice(reasons_or_none(shown, reasons))?;
+    Ok(lines)
 }
 
 /// The answer line, and why each gap of the answer is needed.
@@ -172,49 +202,25 @@ fn explained(
         lines: stand,
     } = problem;
     let set = gaps_of(certificate);
+    let verdict = verdict_of(alloc, problem, certificate)?;
     let reasons = reasons(alloc, problem, certificate)?;
     let Explanation {
         lines: each,
         graph,
         runs,
     } = reasons;
-    let said = reasons_or_none(alloc, shown, each)?;
+    let lines = why_lines(alloc, problem, certificate, &each)?;
     let source = LinedLitmus {
         litmus,
         lines: stand,
     };
-    let document = why_document(alloc, &source, shown, costs, &set, runs)?;
-    let mut lines = answer_line(alloc, &litmus.program, shown, set, cost_of(certificate))?;
-    lines.extend_from_slice(&said)?;
-    let graph = graph.into_text()?;
-    let verdict = verdict_of(alloc, problem, certificate)?;
     Ok(WhyText {
         lines,
-        graph,
-        document,
+        graph: graph.into_text()?,
+        document: why_document(alloc, &source, shown, costs, &set, runs)?,
         gaps: set,
         verdict,
     })
-}
-
-/// Places fences in the program of a problem, and says why each of them is needed.
-fn why_of<R: Threads + Wait + Sync>(
-    rt: &R,
-    alloc: Global,
-    problem: &Problem,
-    effort: Effort,
-) -> Result<WhyText, TextFault>
-    requires one_each { length problem.now.costs.costs ≡ gap_count problem.now.litmus.program.threads }
-    requires ties { length problem.now.costs.ties ≤ gap_count problem.now.litmus.program.threads }
-    ensures told { IfOk result (λ told. OfItsPlacement problem.now (λ placed. TellsWhy problem.now.litmus problem.now.shown problem.now.costs placed.gaps (answer_line problem.now.litmus.program problem.now.shown placed.gaps placed.cost) told.lines.items told.document)) }
-    ensures verdict { IfOk result (λ told. IsVerdictIn problem.now told.verdict) }
-    ensures workers { OnOk result (¬ AreTooFewOrMany effort.workers) }
-    ensures fault { IfErr result (HasNoPlacement effort.workers) }
-{
-    let certificate = certificate_of(rt, alloc, problem, effort)?;
-    // For the proof alone: the certificate is valid, so of each better set one of its runs passes no gap.
-    certificate_proves_answer(&problem.litmus.program, &problem.costs.costs);
-    Ok(explained(alloc, problem, &certificate)?)
 }
 
 /// Places fences in the program of a litmus text as [`crate::answer_text`] does, and says why each of them is
@@ -232,6 +238,12 @@ pub fn why_text<R: Threads + Wait + Sync>(
     ensures workers { OnOk result (¬ AreTooFewOrMany effort.workers) }
     ensures fault { IfErr result (HasNoPlacedText litmus.now (option_map (λ text. text.now) costs.entry) effort.workers) }
 {
-    let problem = read_problem(alloc, litmus, costs, kind)?;
-    why_of(rt, alloc, &problem, effort)
+    let answered = AnsweredProblem::of_texts(rt, alloc, litmus, costs, kind, effort)?;
+    let AnsweredProblem {
+        problem,
+        certificate,
+    } = &answered;
+    // For the proof alone: the certificate is valid, so of each better set one of its runs passes no gap.
+    certificate_proves_answer(&problem.litmus.program, &problem.costs.costs);
+    Ok(explained(alloc, problem, certificate)?)
 }

@@ -53,6 +53,34 @@ fn judge_workers(workers: u8) -> Result<(), TextFault>
     Ok(())
 }
 
+/// The text of a certificate that a search proposes by a plan. Where it gives up whole trees, and none were asked for, it proposes
+/// early ones.
+fn proposal<R: Threads + Sync>(
+    rt: &R,
+    alloc: Global,
+    problem: &Problem,
+    plan: SearchPlan<'_>,
+    trees: Option<Rule>,
+) -> Result<Option<Vec<u8>>, AllocError> {
+    let Problem {
+        litmus,
+        shown,
+        costs,
+        ..
+    } = problem;
+    let first = propose(rt, alloc, plan, &litmus.program, shown, costs)?;
+    match (first, plan.rule, trees) {
+        (None, Rule::Whole, None) => {
+            let early = SearchPlan {
+                rule: Rule::Early,
+                ..plan
+            };
+            propose(rt, alloc, early, &litmus.program, shown, costs)
+        }
+        (found, ..) => Ok(found),
+    }
+}
+
 /// The certificate that a search proposes, where one is asked of it and the checker accepts it.
 fn proposed<R: Threads + Sync>(
     rt: &R,
@@ -62,13 +90,7 @@ fn proposed<R: Threads + Sync>(
 ) -> Result<Option<Certificate>, AllocError>
     ensures { IfOk result (λ found. IfSome found (IsPlacement (question_in problem.now) problem.now.costs.costs)) }
 {
-    let Problem {
-        litmus,
-        shown,
-        costs,
-        ..
-    } = problem;
-    let program = &litmus.program;
+    let program = &problem.litmus.program;
     let Some(rule) = proposed_rule(alloc, program, effort.trees)? else {
         return Ok(None);
     };
@@ -82,22 +104,11 @@ fn proposed<R: Threads + Sync>(
         workers: effort.workers,
         watch: &watch,
     };
-    let first = propose(rt, alloc, plan, program, shown, costs)?;
-    let found = match (first, effort.trees) {
-        (None, None) => {
-            let early = SearchPlan {
-                rule: Rule::Early,
-                ..plan
-            };
-            propose(rt, alloc, early, program, shown, costs)?
-        }
-        (found, _) => found,
-    };
-    let Some(text) = found else {
+    let Some(text) = proposal(rt, alloc, problem, plan, effort.trees)? else {
         return Ok(None);
     };
     watch.judge();
-    let found = accepted_proposal(alloc, program, shown, costs, &text)?;
+    let found = accepted_proposal(alloc, program, &problem.shown, &problem.costs, &text)?;
     if let Some(certificate) = &found {
         report_outcomes(alloc, progress, certificate.seq_runs.len());
     }

@@ -1,17 +1,16 @@
 //! The texts of an answer, and of its certificate.
-ghost use Rattle.std.specs.Prelude.{◌≡◌, ◌≤◌, None, IfErr, IfOk, OnOk, length, option_map};
+ghost use Rattle.std.specs.Prelude.{◌≡◌, None, IfErr, IfOk, OnOk, option_map};
 ghost use Rattle.tso_program.specs.Fences.{first_missing};
-ghost use Rattle.tso_program.specs.Listings.{gap_count};
 ghost use Rattle.fence_place.specs.Faults.{AreTooFewOrMany};
 ghost use Rattle.fence_place.specs.Placements.{IsPlacement};
 ghost use Rattle.placed_text.specs.PlacedTexts.{AreTextsOf, ArePlacedTextsOf, IsAnswerText, IsPlacedText};
-ghost use Rattle.placed_text.specs.Problems.{OfItsPlacement, question_in};
-ghost use Rattle.placed_text.specs.TextFaults.{HasNoPlacedText, HasNoPlacement};
+ghost use Rattle.placed_text.specs.Problems.{question_in};
+ghost use Rattle.placed_text.specs.TextFaults.{HasNoPlacedText};
 ghost use Rattle.placed_text.specs.Verdicts.{IsVerdictIn};
 
 use crate::TextFault;
-use crate::problem::{Problem, read_problem};
-use crate::proposed::certificate_of;
+use crate::answered_problem::AnsweredProblem;
+use crate::problem::Problem;
 use crate::verdict::verdict_of;
 use crate::watched::Effort;
 use cert_forest::Certificate;
@@ -83,6 +82,22 @@ fn write_answer(
     })
 }
 
+/// Writes the texts of a problem's answer. Its certificate goes before they are made.
+fn answer_of(
+    alloc: Global,
+    problem: &Problem,
+    certificate: Certificate,
+) -> Result<AnswerText, AllocError>
+    requires { IsPlacement (question_in problem.now) problem.now.costs.costs certificate }
+    ensures { IfOk result (AreTextsOf problem.now certificate.gaps certificate.cost) }
+{
+    let verdict = verdict_of(alloc, problem, &certificate)?;
+    let gaps = certificate.set;
+    let cost = certificate.cost;
+    drop(certificate);
+    write_answer(alloc, problem, &gaps, cost, verdict)
+}
+
 /// Writes the text of a certificate, which goes as it is written, and the texts of the problem's answer.
 fn write_placed<R: Threads + Sync>(
     rt: &R,
@@ -91,8 +106,7 @@ fn write_placed<R: Threads + Sync>(
     problem: &Problem,
     certificate: Certificate,
 ) -> Result<PlacedText, AllocError>
-    requires there { first_missing problem.now.litmus.program certificate.gaps ≡ None }
-    requires placement { IsPlacement (question_in problem.now) problem.now.costs.costs certificate }
+    requires { IsPlacement (question_in problem.now) problem.now.costs.costs certificate }
     ensures { IfOk result (ArePlacedTextsOf problem.now certificate) }
 {
     let verdict = verdict_of(alloc, problem, &certificate)?;
@@ -102,58 +116,6 @@ fn write_placed<R: Threads + Sync>(
     let certificate = write_pages(rt, alloc, threads, certificate)?;
     let texts = write_answer(alloc, problem, &gaps, cost, verdict)?;
     Ok(PlacedText { texts, certificate })
-}
-
-/// The gaps of a certificate's answer.
-pub(crate) fn gaps_of(certificate: &Certificate) -> GapSet
-    ensures { result ≡ certificate.now.gaps }
-{
-    certificate.set
-}
-
-/// The cost of a certificate's answer.
-pub(crate) fn cost_of(certificate: &Certificate) -> u64
-    ensures { result ≡ certificate.now.cost }
-{
-    certificate.cost
-}
-
-/// Places fences in the program of a problem, and writes the texts of the answer. The certificate goes before they are made.
-fn answer_of<R: Threads + Wait + Sync>(
-    rt: &R,
-    alloc: Global,
-    problem: &Problem,
-    effort: Effort,
-) -> Result<AnswerText, TextFault>
-    requires one_each { length problem.now.costs.costs ≡ gap_count problem.now.litmus.program.threads }
-    requires ties { length problem.now.costs.ties ≤ gap_count problem.now.litmus.program.threads }
-    ensures told { IfOk result (λ texts. OfItsPlacement problem.now (λ placed. AreTextsOf problem.now placed.gaps placed.cost texts)) }
-    ensures workers { OnOk result (¬ AreTooFewOrMany effort.workers) }
-    ensures fault { IfErr result (HasNoPlacement effort.workers) }
-{
-    let certificate = certificate_of(rt, alloc, problem, effort)?;
-    let verdict = verdict_of(alloc, problem, &certificate)?;
-    let gaps = gaps_of(&certificate);
-    let cost = cost_of(&certificate);
-    drop(certificate);
-    Ok(write_answer(alloc, problem, &gaps, cost, verdict)?)
-}
-
-/// Places fences in the program of a problem, and writes the texts of the answer and of its certificate.
-fn place_in<R: Threads + Wait + Sync>(
-    rt: &R,
-    alloc: Global,
-    problem: &Problem,
-    effort: Effort,
-) -> Result<PlacedText, TextFault>
-    requires one_each { length problem.now.costs.costs ≡ gap_count problem.now.litmus.program.threads }
-    requires ties { length problem.now.costs.ties ≤ gap_count problem.now.litmus.program.threads }
-    ensures placed { IfOk result (λ written. OfItsPlacement problem.now (λ placed. ArePlacedTextsOf problem.now placed written)) }
-    ensures workers { OnOk result (¬ AreTooFewOrMany effort.workers) }
-    ensures fault { IfErr result (HasNoPlacement effort.workers) }
-{
-    let certificate = certificate_of(rt, alloc, problem, effort)?;
-    Ok(write_placed(rt, alloc, effort.workers, problem, certificate)?)
 }
 
 /// Places fences in the program of a litmus text, where its gaps cost what a text of costs says, and 1
@@ -174,8 +136,12 @@ pub fn answer_text<R: Threads + Wait + Sync>(
     ensures workers { OnOk result (¬ AreTooFewOrMany effort.workers) }
     ensures fault { IfErr result (HasNoPlacedText litmus.now (option_map (λ text. text.now) costs.entry) effort.workers) }
 {
-    let problem = read_problem(alloc, litmus, costs, kind)?;
-    answer_of(rt, alloc, &problem, effort)
+    let answered = AnsweredProblem::of_texts(rt, alloc, litmus, costs, kind, effort)?;
+    let AnsweredProblem {
+        problem,
+        certificate,
+    } = answered;
+    Ok(answer_of(alloc, &problem, certificate)?)
 }
 
 /// Places fences in the program of a litmus text as [`answer_text`] does, and writes the certificate too, by the threads of
@@ -192,6 +158,11 @@ pub fn place_text<R: Threads + Wait + Sync>(
     ensures workers { OnOk result (¬ AreTooFewOrMany effort.workers) }
     ensures fault { IfErr result (HasNoPlacedText litmus.now (option_map (λ text. text.now) costs.entry) effort.workers) }
 {
-    let problem = read_problem(alloc, litmus, costs, kind)?;
-    place_in(rt, alloc, &problem, effort)
+    let answered = AnsweredProblem::of_texts(rt, alloc, litmus, costs, kind, effort)?;
+    let AnsweredProblem {
+        problem,
+        certificate,
+    } = answered;
+    let workers = effort.workers;
+    Ok(write_placed(rt, alloc, workers, &problem, certificate)?)
 }

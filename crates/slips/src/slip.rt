@@ -61,13 +61,24 @@ pub fn first_slip(
     condition_counts: bool,
 ) -> Result<Option<Slip>, AllocError> {
     match read_litmus(alloc, source.text) {
-        Ok(litmus) if condition_counts => match idle_name_of(alloc, source.name, &litmus)? {
-            Some(message) => Ok(slip_with(SlipKind::UnusedName, Some(message))),
-            None => program_slip(alloc, source, &litmus),
-        },
-        Ok(litmus) => program_slip(alloc, source, &litmus),
+        Ok(litmus) => litmus_slip(alloc, source, condition_counts, &litmus),
         Err(_) => Ok(None),
     }
+}
+
+/// The first slip of a litmus test.
+fn litmus_slip(
+    alloc: Global,
+    source: Source<'_>,
+    condition_counts: bool,
+    litmus: &Litmus<Program>,
+) -> Result<Option<Slip>, AllocError> {
+    if condition_counts {
+        if let Some(message) = idle_name_of(alloc, source.name, litmus)? {
+            return Ok(slip_with(SlipKind::UnusedName, Some(message)));
+        }
+    }
+    program_slip(alloc, source, litmus)
 }
 
 /// A slip of which this is said, if anything is.

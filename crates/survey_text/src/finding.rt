@@ -1,8 +1,15 @@
 //! From a litmus text to the text of what is found of its program.
 
 ghost use Rattle.std.specs.Prelude.{◌≡◌, ℕ, List, Option, option_map, IfErr, IfOk};
+ghost use Rattle.std.specs.FinSet as set;
+ghost use Rattle.tso_program.specs.declared.shown.ShownKind.TheVariants as kinds;
+ghost use Rattle.tso_machine.specs.declared.label.Model.TheVariants as models;
+ghost use Rattle.tso_machine.specs.Modes.{machine_of_model};
+ghost use Rattle.placed_text.specs.PlacedTexts.{IsAnswerText};
 ghost use Rattle.placed_text.specs.TextFaults.{HasNoPlacedText};
-ghost use Rattle.survey_text.specs.Surveys.{fails, IsSurvey, IsSurveyText};
+ghost use Rattle.survey_text.specs.ExecutedRuns.{AreExecutedRuns};
+ghost use Rattle.survey_text.specs.Surveys.{fails, AreOutcomesOf, IsSurvey, IsSurveyText};
+ghost use Rattle.survey_text.specs.Visits.{instruction_places, AreVisits};
 
 use crate::document::document_of;
 use crate::execution::executed_runs;
@@ -10,15 +17,19 @@ use crate::lines::{survey_lines, survey_row};
 use crate::outcome_lists::outcomes_of;
 use crate::stretch::{Unexecuted, unexecuted_of};
 use crate::survey::Survey;
-use crate::visit::{unexecuted, visits_of};
+use crate::visit::{Visit, unexecuted, visits_of};
+use documents::ExecutedRun;
 use gap_list::TextLines;
-use placed_text::{Effort, TextFault, answer_text, read_gap_costs, read_program, report_ahead};
+use placed_text::{
+    AnswerText, Effort, SolveFault, TextFault, answer_text, read_gap_costs, read_program,
+    report_ahead,
+};
 use report::is_true_of;
 use std::alloc::{AllocError, Global};
 use std::sync::Wait;
 use std::thread::Threads;
 use tso_machine::Model;
-use tso_program::ShownKind;
+use tso_program::{Outcome, Program, ShownKind};
 
 /// The text of what is found of a program.
 #[derive(Drop)]
@@ -38,6 +49,51 @@ pub struct SurveyText {
     pub verdict: Vec<u8>,
 }
 
+/// The outcomes of a program with no gap fenced: of the sequential machine, and with store buffers.
+fn both_outcomes<T: Threads + Sync>(
+    rt: &T,
+    alloc: Global,
+    effort: Effort,
+    program: &Program,
+) -> Result<(Vec<Outcome>, Vec<Outcome>), SolveFault>
+    ensures sequential { IfOk result (λ both. AreOutcomesOf program.now (machine_of_model program.now set.empty models.Sequential) both.0.items) }
+    ensures buffered { IfOk result (λ both. AreOutcomesOf program.now (machine_of_model program.now set.empty models.Buffered) both.1.items) }
+{
+    let sequential = outcomes_of(rt, alloc, effort, program, Model::Sequential)?;
+    let buffered = outcomes_of(rt, alloc, effort, program, Model::Buffered)?;
+    Ok((sequential, buffered))
+}
+
+/// Each instruction of a program, and runs that together execute those which some sequential run executes.
+fn visits_and_runs(
+    alloc: Global,
+    program: &Program,
+) -> Result<(Vec<Visit>, Vec<ExecutedRun>), AllocError>
+    ensures visits { IfOk result (λ both. AreVisits program.now (instruction_places program.now.threads) both.0.items) }
+    ensures runs { IfOk result (λ both. AreExecutedRuns program.now both.0.items both.1.items) }
+{
+    let visits = visits_of(alloc, program)?;
+    let runs = executed_runs(alloc, program, &visits)?;
+    Ok((visits, runs))
+}
+
+/// The answers for the condition's truth and for whole outcomes.
+fn both_answers<T: Threads + Wait + Sync>(
+    rt: &T,
+    alloc: Global,
+    text: &[u8],
+    costs: Option<&[u8]>,
+    effort: Effort,
+) -> Result<(AnswerText, AnswerText), TextFault>
+    ensures condition { IfOk result (λ both. IsAnswerText text.now (option_map (λ text. text.now) costs.entry) kinds.Condition both.0) }
+    ensures whole { IfOk result (λ both. IsAnswerText text.now (option_map (λ text. text.now) costs.entry) kinds.Whole both.1) }
+    ensures fault { IfErr result (HasNoPlacedText text.now (option_map (λ text. text.now) costs.entry) effort.workers) }
+{
+    let condition = answer_text(rt, alloc, text, costs, ShownKind::Condition, effort)?;
+    let whole = answer_text(rt, alloc, text, costs, ShownKind::Whole, effort)?;
+    Ok((condition, whole))
+}
+
 /// What is found of the program of a text, whose gaps cost what a text of costs says, and 1 each without one. How large it is
 /// is reported in any case.
 fn survey_of<T: Threads + Wait + Sync>(
@@ -54,12 +110,9 @@ fn survey_of<T: Threads + Wait + Sync>(
     let program = &litmus.program;
     let tied = read_gap_costs(alloc, costs, program)?;
     report_ahead(alloc, program, effort.progress.asked(true));
-    let sequential = outcomes_of(rt, alloc, effort, program, Model::Sequential)?;
-    let buffered = outcomes_of(rt, alloc, effort, program, Model::Buffered)?;
-    let visits = visits_of(alloc, program)?;
-    let runs = executed_runs(alloc, program, &visits)?;
-    let condition = answer_text(rt, alloc, text, costs, ShownKind::Condition, effort)?;
-    let whole = answer_text(rt, alloc, text, costs, ShownKind::Whole, effort)?;
+    let (sequential, buffered) = both_outcomes(rt, alloc, effort, program)?;
+    let (visits, runs) = visits_and_runs(alloc, program)?;
+    let (condition, whole) = both_answers(rt, alloc, text, costs, effort)?;
     Ok(Survey {
         litmus,
         sequential,

@@ -3,7 +3,7 @@
 //! What `fencer survey` prints of a file, as lines and as a document.
 //!
 //! Begin with `survey_text` and `SurveyText`. Free to change: how the number of an instruction's line is found, of
-//! which no clause speaks, and what is told to people of instructions that are not executed (`stretch.rt`). Relied
+//! which no clause speaks, and what is said to people of instructions that are not executed (`stretch.rt`). Relied
 //! on: the verdicts are those of exactly the outcomes of both machines, exactly the instructions are named that no
 //! sequential run executes, each other stands with a run, and both answers are those of `answer_text` (`IsSurveyText`
 //! in `specs/Surveys.antt`).

@@ -5,12 +5,9 @@ ghost use Rattle.std.specs.FinSet as set;
 ghost use Rattle.tso_machine.specs.Modes.{machine_of_model};
 ghost use Rattle.survey_text.specs.Surveys.{AreOutcomesOf};
 
-use certificate_proposals::{SearchPlan, SearchWatch};
-use cover_solver::{SolveFault, outcomes_with_runs};
-use placed_text::Effort;
+use placed_text::{Effort, SolveFault, outcomes_by};
 use std::alloc::Global;
 use std::thread::Threads;
-use tree_laws::Rule;
 use tso_machine::{Mode, Model};
 use tso_program::{Outcome, Program, Shown};
 
@@ -24,12 +21,6 @@ pub(crate) fn outcomes_of<T: Threads + Sync>(
 ) -> Result<Vec<Outcome>, SolveFault>
     ensures { IfOk result (λ outcomes. AreOutcomesOf program.now (machine_of_model program.now set.empty model) outcomes.items) }
 {
-    let watch = SearchWatch::new(rt, alloc, effort.progress);
-    let plan = SearchPlan {
-        rule: Rule::Early,
-        workers: effort.workers,
-        watch: &watch,
-    };
     let mode = Mode::unfenced(model);
-    Ok(outcomes_with_runs(rt, plan, alloc, program, &Shown::All, mode)?.outcomes)
+    Ok(outcomes_by(rt, alloc, effort, program, &Shown::All, mode)?.outcomes)
 }

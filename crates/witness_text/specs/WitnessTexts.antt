@@ -66,7 +66,7 @@ pub data TellsSought (source : Litmus Listing) (sought : Sought) : Bool → List
       → TellsSought source sought false (no_run_line sought.meets) document
 
 -- What the texts tell: the litmus text stands for this program, which has gaps at the places; with these fenced, a run of the
--- model's machine to an outcome that meets the condition's formula, or does not, or that there is none; and which of these is told.
+-- model's machine to an outcome that meets the condition's formula, or does not, or that there is none; and which of these is said.
 pub record IsWitnessText (litmus : List ℕ) (model : Model) (meets : Bool) (places : List GapPlace) (found : Bool) (text : List ℕ) (document : List (List ℕ)) : Type 0 where
   pub source : Litmus Listing
   pub of_text : IsLitmus litmus source

@@ -15,7 +15,6 @@ mod lines;
 mod serial_runs;
 mod witness;
 
-pub use cover_solver::{OutcomeList, outcomes_with_runs};
 pub use fault::WitnessFault;
 pub use gaps::gaps_at;
 pub use witness::{WitnessText, witness_text};

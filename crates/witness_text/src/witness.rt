@@ -7,6 +7,7 @@ ghost use Rattle.tso_machine.specs.declared.label.Model.TheVariants as models;
 ghost use Rattle.tso_machine.specs.Machine.{IsRun, start};
 ghost use Rattle.tso_machine.specs.Modes.{machine_of_model, ArePassed};
 ghost use Rattle.tso_machine.specs.Steps.{AreSteps};
+ghost use Rattle.litmus_text.specs.Texts.{IsLitmus};
 ghost use Rattle.cover_solver.specs.Witnesses.{HasNoWitness, IsWitness};
 ghost use Rattle.documents.specs.declared.run.Setting.TheVariants.{Machine};
 ghost use Rattle.documents.specs.Runs.{TellsRun};
@@ -184,6 +185,32 @@ fn sought_text(
     }
 }
 
+/// The text of [`witness_text`] for the program of a text, with the gaps at these places fenced.
+fn text_for(
+    alloc: Global,
+    text: &[u8],
+    litmus: &Litmus<Program>,
+    model: Model,
+    meets: bool,
+    places: &[(u8, u8)],
+) -> Result<WitnessText, WitnessFault>
+    requires { IsLitmus text.now litmus.now }
+    ensures told { IfOk result (λ said. IsWitnessText text.now model meets places.now said.found said.lines.items said.document) }
+    ensures fault { IfErr result (HasNoWitnessText text.now places.now) }
+{
+    let stand = TextLines::of_text(alloc, text)?;
+    let fences = match gaps_at(&litmus.program, places) {
+        Ok(fences) => fences,
+        Err((thread, instruction)) => return Err(WitnessFault::NoSuchGap(thread, instruction)),
+    };
+    let sought = Sought {
+        model,
+        fences,
+        meets,
+    };
+    Ok(sought_text(alloc, litmus, &stand, sought)?)
+}
+
 /// A run of the program of a litmus text, with the gaps at these places fenced, whose outcome meets the condition's
 /// formula, or does not; or that no run of the machine is such. The labels are those of the program as the text has it.
 /// The text is judged before the places.
@@ -198,15 +225,5 @@ pub fn witness_text(
     ensures fault { IfErr result (HasNoWitnessText litmus.now places.now) }
 {
     let source = read_litmus(alloc, litmus)?;
-    let stand = TextLines::of_text(alloc, litmus)?;
-    let fences = match gaps_at(&source.program, places) {
-        Ok(fences) => fences,
-        Err((thread, instruction)) => return Err(WitnessFault::NoSuchGap(thread, instruction)),
-    };
-    let sought = Sought {
-        model,
-        fences,
-        meets,
-    };
-    Ok(sought_text(alloc, &source, &stand, sought)?)
+    text_for(alloc, litmus, &source, model, meets, places)
 }

@@ -1,5 +1,5 @@
 use Rattle.fencer.proofs.Vocabulary.{◌∙◌, arith, map, sym, string_bytes, file_line, prints_more, prints_nothing, words_of, IsUtf8Refusal, no_utf8, IsOutput, by_line, no_line, line_alone, after_line}
-use Rattle.fencer.proofs.PrintedRefusals.{prints_refused_line}
+use Rattle.answers.proofs.PrintedRefusals.{prints_refused_line}
 use Rattle.fencer.proofs.Served.{of_words, of_input, kept_by_words, kept_by_input, read_for_words, read_for_input, line_fault, no_version, utf8_reply}
 use Rattle.fencer.proofs.command.run_command.Goals as goal
 

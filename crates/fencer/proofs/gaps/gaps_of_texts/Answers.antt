@@ -1,5 +1,5 @@
 use Rattle.fencer.proofs.Vocabulary.{Ok, AllocError, prints_made, text_fault_line}
-use Rattle.fencer.proofs.PrintedRefusals.{prints_refusal}
+use Rattle.answers.proofs.PrintedRefusals.{prints_refusal}
 use Rattle.fencer.specs.GapTexts.{listed, refused_for}
 use Rattle.fencer.proofs.gaps.gaps_of_texts.Goals as goal
 

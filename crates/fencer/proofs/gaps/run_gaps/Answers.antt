@@ -1,5 +1,5 @@
 use Rattle.fencer.proofs.Vocabulary.{option_map, prints_more, file_line}
-use Rattle.fencer.proofs.PrintedRefusals.{prints_refusal}
+use Rattle.answers.proofs.PrintedRefusals.{prints_refusal}
 use Rattle.fencer.specs.GapTexts.{of_texts, no_texts}
 use Rattle.fencer.proofs.gaps.run_gaps.Goals as goal
 

@@ -1,5 +1,5 @@
 use Rattle.fencer.proofs.Vocabulary.{sym, string_bytes, file_line, prints_more, IsTold, no_file, AreOutcomes, HasNoList, PrintsOutcomes}
-use Rattle.fencer.proofs.{PrintedRefusals.prints_refusal, Told.told_answer}
+use Rattle.answers.proofs.{PrintedRefusals.prints_refusal, ToldAnswers.told_answer}
 use Rattle.fencer.proofs.outcomes.run_outcomes.Goals as goal
 
 pub returns-in-Ok-clause-told : goal.returns-in-Ok-clause-told

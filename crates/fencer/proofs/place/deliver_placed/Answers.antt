@@ -1,7 +1,7 @@
 use Rattle.fencer.proofs.Vocabulary.{sym, prints_more, all, unkept_for, unkept_line}
 use Rattle.fencer_words.specs.CommandFiles.{name_of}
-use Rattle.fencer.proofs.Delivered.{still_held_past, three_keep, third_keeps}
-use Rattle.fencer.proofs.PrintedRefusals.{prints_refusal}
+use Rattle.answers.proofs.Delivered.{still_held_past, three_keep, third_keeps}
+use Rattle.answers.proofs.PrintedRefusals.{prints_refusal}
 use Rattle.fencer.proofs.place.deliver_placed.Goals as goal
 
 pub returns-in-Ok-clause-told : goal.returns-in-Ok-clause-told

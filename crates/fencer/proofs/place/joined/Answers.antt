@@ -1,6 +1,6 @@
 use Rattle.fencer.proofs.Vocabulary.{◌∙◌, ℕ, List, ap, nat_lt, refl}
-use Rattle.fencer.specs.Documented.{printed}
-use Rattle.fencer.specs.Statuses.{check_status}
+use Rattle.answers.specs.Documented.{printed}
+use Rattle.answers.specs.Statuses.{check_status}
 use Rattle.fencer.proofs.place.joined.Goals as goal
 
 pub returns : goal.returns

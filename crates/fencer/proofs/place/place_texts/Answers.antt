@@ -1,5 +1,5 @@
 use Rattle.fencer.proofs.Vocabulary.{refl, prints_more, placed, refused_for, text_fault_line}
-use Rattle.fencer.proofs.PrintedRefusals.{prints_refusal}
+use Rattle.answers.proofs.PrintedRefusals.{prints_refusal}
 use Rattle.fencer.proofs.place.place_texts.Goals as goal
 
 pub returns-in-Ok-clause-told : goal.returns-in-Ok-clause-told

@@ -1,5 +1,5 @@
 use Rattle.fencer.proofs.Vocabulary.{sym, refl, option_map, prints_more, file_line, of_texts, no_texts}
-use Rattle.fencer.proofs.PrintedRefusals.{prints_refusal}
+use Rattle.answers.proofs.PrintedRefusals.{prints_refusal}
 use Rattle.fencer.proofs.place.run_place.Goals as goal
 
 pub returns-in-Ok-clause-told : goal.returns-in-Ok-clause-told

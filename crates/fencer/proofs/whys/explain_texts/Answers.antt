@@ -1,5 +1,5 @@
 use Rattle.fencer.proofs.Vocabulary.{refl, prints_more, text_fault_line}
-use Rattle.fencer.proofs.PrintedRefusals.{prints_refusal}
+use Rattle.answers.proofs.PrintedRefusals.{prints_refusal}
 use Rattle.fencer.specs.Whys.{explained, refused_for}
 use Rattle.fencer.proofs.whys.explain_texts.Goals as goal
 

@@ -1,5 +1,5 @@
 use Rattle.fencer.proofs.Vocabulary.{sym, refl, option_map, prints_more, file_line}
-use Rattle.fencer.proofs.PrintedRefusals.{prints_refusal}
+use Rattle.answers.proofs.PrintedRefusals.{prints_refusal}
 use Rattle.fencer.specs.Whys.{of_texts, no_texts}
 use Rattle.fencer.proofs.whys.run_why.Goals as goal
 

@@ -1,5 +1,5 @@
 use Rattle.fencer.proofs.Vocabulary.{sym, refl, prints_more, file_line, of_text, no_text}
-use Rattle.fencer.proofs.PrintedRefusals.{prints_refusal}
+use Rattle.answers.proofs.PrintedRefusals.{prints_refusal}
 use Rattle.fencer.proofs.witnesses.run_witness.Goals as goal
 
 pub returns-in-Ok-clause-told : goal.returns-in-Ok-clause-told

@@ -1,5 +1,5 @@
 use Rattle.fencer.proofs.Vocabulary.{refl, prints_more}
-use Rattle.fencer.proofs.PrintedRefusals.{prints_refusal}
+use Rattle.answers.proofs.PrintedRefusals.{prints_refusal}
 use Rattle.fencer.specs.Witnesses.{refused_for, shown, witness_line}
 use Rattle.fencer.proofs.witnesses.show_witness.Goals as goal
 

@@ -7,4 +7,4 @@ returns-clause-told c =
     let problem = c.args.problem.now in
     let certificate = c.args.certificate.now in
     says_why problem.litmus problem.shown problem.costs certificate.gaps (answer_line problem.litmus.program problem.shown certificate.gaps certificate.cost) c.in_ok-reasons.reasons.lines.items _ _
-    c.in_ok-reasons.reasons.runs c.in_ok-reasons.ensures (rw (c.deref.ensures.value, c.in_ok-said.ensures, c.in_ok-lines.ensures, c.gaps_of-set.ensures, c.cost_of.ensures) at c.in_ok-extend_from_slice.ensures.items) (rw c.gaps_of-set.ensures at c.in_ok-document.ensures)
+    c.in_ok-reasons.reasons.runs c.in_ok-reasons.ensures (rw c.deref.ensures.value at c.in_ok-lines.ensures) (rw c.gaps_of-set.ensures at c.in_ok-why_document.ensures)

@@ -1,5 +1,4 @@
-use Rattle.placed_text.proofs.Vocabulary.{◌≡◌, List, SetOfGaps, spread, subst, sym, Label, Serves, names_of, question_in}
-use Rattle.std.specs.FinSet as set
+use Rattle.placed_text.proofs.Vocabulary.{◌≡◌, subst, sym, Serves, names_of, question_in}
 use Rattle.cert_forest.specs.Certificates.{Certificate}
 use Rattle.placed_text.proofs.Needed.{passes_of_tie, some_avoids}
 use Rattle.std.proofs.lemmas.List.Elements.{All-contains}

@@ -1,23 +1,14 @@
 use Rattle.placed_text.proofs.Vocabulary.{option_map, HasNoPlacedText}
-use Rattle.std.proofs.lemmas.Result.{IfOk-weaker}
-use Rattle.cover_judge.proofs.Answered.{err_up, if_err}
+use Rattle.cover_judge.proofs.Answered.{err_up}
 use Rattle.placed_text.proofs.Judged as judged
 use Rattle.placed_text.proofs.writing.place_text.Goals as goal
 
 pub returns-clause-placed : goal.returns-clause-placed
 returns-clause-placed g c =
-    IfOk-weaker c.place_in.result _ _
-    (λ written told. judged.placed_text c.args.litmus.now (option_map (λ text. text.now) c.args.costs) c.args.kind c.in_ok-problem.problem written c.in_ok-problem.ensures.problem told)
-    c.place_in.ensures.placed
+    let answered = c.in_ok-answered in
+    judged.placed_text c.args.litmus.now (option_map (λ text. text.now) c.args.costs) c.args.kind answered.answered.problem answered.answered.certificate c.in_ok-write_placed.field-0
+    answered.ensures.problem answered.ensures.placement c.in_ok-write_placed.ensures
 
-pub returns-clause-fault : goal.returns-clause-fault
-returns-clause-fault g c =
-    if_err c.place_in.result _ _
-    (λ why is. judged.no_placement c.args.litmus.now (option_map (λ text. text.now) c.args.costs) c.args.effort.workers c.args.kind c.in_ok-problem.problem why c.in_ok-problem.ensures.problem is)
-    c.place_in.ensures.fault
-
-pub returns-in_err-problem-clause-fault : goal.returns-in_err-problem-clause-fault
-returns-in_err-problem-clause-fault g c =
-    let costs = option_map (λ text. text.now) c.args.costs in
-    err_up c.from_residual.result c.in_err-problem.field-0.0 (HasNoPlacedText c.args.litmus.now costs c.args.effort.workers) c.from_residual.ensures.1
-    (judged.no_problem c.args.litmus.now costs c.args.effort.workers c.in_err-problem.field-0.0 c.in_err-problem.ensures.fault)
+pub returns-in_err-answered-clause-fault : goal.returns-in_err-answered-clause-fault
+returns-in_err-answered-clause-fault g c =
+    err_up c.from_residual.result c.in_err-answered.field-0.0 (HasNoPlacedText c.args.litmus.now (option_map (λ text. text.now) c.args.costs) c.args.effort.workers) c.from_residual.ensures.1 c.in_err-answered.ensures.fault

@@ -1,11 +1,7 @@
-use Rattle.survey_text.proofs.Vocabulary.{List, Option, ℕ}
 use Rattle.std.proofs.Common.{option_map}
 use Rattle.std.proofs.lemmas.Result.{err_from_is_err_and}
 use Rattle.placed_text.proofs.Judged.{no_costs, no_problem, no_program}
 use Rattle.survey_text.proofs.finding.survey_of.Goals as goal
-
-pub executed_runs-requires : goal.executed_runs-requires
-executed_runs-requires g c = rw c.deref.ensures.value (c.in_ok-visits.ensures.answers)
 
 pub returns-in_err-litmus-clause-fault : goal.returns-in_err-litmus-clause-fault
 returns-in_err-litmus-clause-fault g c =
@@ -25,8 +21,3 @@ pub returns-in_err-condition-clause-fault : goal.returns-in_err-condition-clause
 returns-in_err-condition-clause-fault g c =
     let p = err_from_is_err_and c.from_residual-in_err-condition.result c.from_residual-in_err-condition.ensures.1 in
     rw (p.1, p.2) c.in_err-condition.ensures.fault
-
-pub returns-in_err-whole-clause-fault : goal.returns-in_err-whole-clause-fault
-returns-in_err-whole-clause-fault g c =
-    let p = err_from_is_err_and c.from_residual-in_err-whole.result c.from_residual-in_err-whole.ensures.1 in
-    rw (p.1, p.2) c.in_err-whole.ensures.fault

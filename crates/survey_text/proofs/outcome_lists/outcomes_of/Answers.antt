@@ -8,8 +8,8 @@ use Rattle.survey_text.proofs.outcome_lists.outcomes_of.Goals as goal
 pub returns : goal.returns
 returns g c =
     let p = c.args.program.now in
-    let outcomes = c.in_ok-outcomes_with_runs.field-0.outcomes.items in
-    let found = c.in_ok-outcomes_with_runs.ensures in
+    let outcomes = c.in_ok-outcomes_by.field-0.outcomes.items in
+    let found = c.in_ok-outcomes_by.ensures in
     record {
       ascend = found.ascend;
       exact = λ o. subst (λ (machine : Machine). Contains outcomes o ↔ AllowsShown (asked p All) machine o) (c.unfenced-mode.ensures p) (found.exact o);

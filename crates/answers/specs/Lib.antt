@@ -1,0 +1,11 @@
+pub mod Statuses
+pub mod Refused
+pub mod Refusals
+pub mod TextAnswers
+pub mod InputTexts
+pub mod Deliveries
+pub mod Notes
+pub mod Documented
+pub mod Inserted
+pub mod Replays
+pub mod Traces

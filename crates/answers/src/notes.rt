@@ -1,0 +1,149 @@
+//! What is said beside an answer: the notes of its document, and a line on standard error.
+
+ghost use Rattle.std.specs.Prelude.{◌≡◌, ◌++◌, IfOk, OnOk};
+ghost use Rattle.answers.specs.Notes.{verdict_notes, AddsSlips, AreNotes, IsNoted, IsSlipKind};
+
+use documents::{Note, NoteKind, document_line};
+use json_text::JsonObject;
+use messages::{Message, Source, file_or_input};
+use program_streams::Progress;
+use slips::{Slip, SlipKind, first_slip};
+use std::alloc::{AllocError, Global};
+use tso_program::ShownKind;
+
+/// Where in a litmus text slips are looked for.
+#[derive(Clone, Copy)]
+pub enum SlipPlaces {
+    Nowhere,
+    Program,
+    WholeText,
+}
+
+/// A litmus text of which something is said beside an answer, with the name of its file.
+#[derive(Clone, Copy)]
+pub struct NotedText<'a> {
+    pub name: &'a str,
+    pub text: &'a [u8],
+    pub places: SlipPlaces,
+}
+
+/// Where slips are looked for, if this is compared: in the condition too where the answer rests on what it names.
+pub fn slip_places(kind: ShownKind) -> SlipPlaces {
+    match kind {
+        ShownKind::Condition | ShownKind::Observed => SlipPlaces::WholeText,
+        ShownKind::Whole => SlipPlaces::Program,
+    }
+}
+
+/// The first slip of a litmus text, where it is looked for.
+fn slip_in(alloc: Global, noted: NotedText<'_>) -> Result<Option<Slip>, AllocError> {
+    let source = Source::new(file_or_input(noted.name), noted.text);
+    match noted.places {
+        SlipPlaces::Nowhere => Ok(None),
+        SlipPlaces::Program => first_slip(alloc, source, false),
+        SlipPlaces::WholeText => first_slip(alloc, source, true),
+    }
+}
+
+/// What the note of a slip is about.
+fn kind_of(kind: SlipKind) -> NoteKind
+    ensures { IsSlipKind result }
+{
+    match kind {
+        SlipKind::UnusedName => NoteKind::UnusedName,
+        SlipKind::JumpBeforeCmp => NoteKind::JumpBeforeCmp,
+        SlipKind::UnwrittenRegister => NoteKind::UnwrittenRegister,
+        SlipKind::LoneName => NoteKind::LoneName,
+        SlipKind::UnwrittenLocation => NoteKind::UnwrittenLocation,
+    }
+}
+
+/// The note of a slip.
+fn slip_note(slip: Slip) -> Note
+    ensures { IsSlipKind result.kind }
+{
+    let Slip { kind, message } = slip;
+    let Message {
+        line,
+        column,
+        word,
+        text,
+        ..
+    } = message;
+    Note {
+        kind: kind_of(kind),
+        line,
+        column,
+        word: word.into_bytes(),
+        message: text.into_bytes(),
+    }
+}
+
+/// Adds a verdict, if there is one.
+fn push_verdict(notes: &mut Vec<Note>, verdict: Option<Note>) -> Result<(), AllocError>
+    ensures { OnOk result (notes.new.items ≡ notes.old.items ++ verdict_notes verdict) }
+{
+    match verdict {
+        Some(note) => {
+            notes.push(note)?;
+            Ok(())
+        }
+        None => Ok(()),
+    }
+}
+
+/// Adds a slip, if there is one.
+fn push_slip(notes: &mut Vec<Note>, slip: Option<Slip>) -> Result<(), AllocError>
+    ensures { OnOk result (AddsSlips notes.old.items notes.new.items) }
+{
+    match slip {
+        Some(slip) => {
+            notes.push(slip_note(slip))?;
+            Ok(())
+        }
+        None => Ok(()),
+    }
+}
+
+/// The verdict, if there is one, and after it the first slip of a litmus text.
+fn notes_of(
+    alloc: Global,
+    noted: NotedText<'_>,
+    verdict: Option<Note>,
+) -> Result<Vec<Note>, AllocError>
+    ensures { IfOk result (λ notes. AreNotes verdict notes.items) }
+{
+    let slip = slip_in(alloc, noted)?;
+    let mut notes = Vec::new(alloc);
+    push_verdict(&mut notes, verdict)?;
+    push_slip(&mut notes, slip)?;
+    Ok(notes)
+}
+
+/// The line of a document with what is said beside the answer: the verdict, if there is one, and the first slip of the litmus
+/// text.
+pub fn noted_line(
+    alloc: Global,
+    noted: NotedText<'_>,
+    document: JsonObject,
+    verdict: Option<Note>,
+) -> Result<Vec<u8>, AllocError>
+    ensures { IfOk result (λ line. IsNoted verdict document line.items) }
+{
+    let notes = notes_of(alloc, noted, verdict)?;
+    document_line(alloc, document, &notes)
+}
+
+/// Reports a verdict, also where no progress is reported.
+pub fn report_verdict(alloc: Global, verdict: Option<&Note>, progress: Progress) {
+    if let Some(note) = verdict {
+        progress.asked(true).report(verdict_line(alloc, note));
+    }
+}
+
+fn verdict_line(alloc: Global, note: &Note) -> Result<Vec<u8>, AllocError> {
+    let mut line = Vec::from_slice(alloc, b"fencer: ")?;
+    line.extend_from_slice(&note.message)?;
+    line.push(b'\n')?;
+    Ok(line)
+}

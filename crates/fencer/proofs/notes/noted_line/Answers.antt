@@ -1,5 +1,0 @@
-use Rattle.fencer.proofs.Vocabulary.{IfOk-weaker}
-use Rattle.fencer.proofs.notes.noted_line.Goals as goal
-
-pub returns : goal.returns
-returns c = IfOk-weaker c.document_line.result _ _ (λ line is. (c.in_ok-notes.notes.items, c.in_ok-notes.ensures, is)) (rw c.deref.ensures.value at c.document_line.ensures.told)

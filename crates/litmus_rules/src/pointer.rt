@@ -1,0 +1,71 @@
+//! The line of a text with a `^` below a word of it, as a terminal shows it.
+
+use crate::source::{bytes_from, line_of};
+use std::alloc::AllocError;
+
+/// The most bytes of a line that is shown.
+const LINE_LIMIT: usize = 120;
+
+/// Puts at the end of another text the line in which an offset of a text lies, and below it a `^` at the offset; nothing of
+/// a longer line.
+pub fn push_pointed_line(
+    pointed: &mut String,
+    text: &[u8],
+    offset: usize,
+) -> Result<(), AllocError> {
+    let start = line_begin(text, offset);
+    let line = line_of(bytes_from(text, start));
+    let before = line
+        .split_at(offset.saturating_sub(start).min(line.len()))
+        .0;
+    if line.len() <= LINE_LIMIT {
+        push_shown(pointed, line)?;
+        pointed.push('\n')?;
+        push_blanks(pointed, before)?;
+        pointed.push_str("^\n")?;
+    }
+    Ok(())
+}
+
+/// Where the line begins in which an offset lies.
+fn line_begin(text: &[u8], offset: usize) -> usize {
+    let mut start = 0;
+    for (place, byte) in text.iter().take(offset).enumerate() {
+        if *byte == b'\n' {
+            start = place.saturating_add(1);
+        }
+    }
+    start
+}
+
+/// Whether a byte is shown as itself; a tab is shown as a space.
+fn is_shown(byte: u8) -> bool {
+    byte.is_ascii_graphic() || byte == b' '
+}
+
+/// Puts a line at the end of a text, with `\xHH` for each byte that is not printable ASCII.
+fn push_shown(shown: &mut String, line: &[u8]) -> Result<(), AllocError> {
+    for byte in line {
+        if *byte == b'\t' {
+            shown.push(' ')?;
+        } else if is_shown(*byte) {
+            shown.push(char::from(*byte))?;
+        } else {
+            write!(shown, "\\x{byte:02x}")?;
+        }
+    }
+    Ok(())
+}
+
+/// Puts as many spaces at the end of a text as a line takes that is shown.
+fn push_blanks(shown: &mut String, line: &[u8]) -> Result<(), AllocError> {
+    for byte in line {
+        let blanks = if is_shown(*byte) || *byte == b'\t' {
+            " "
+        } else {
+            "    "
+        };
+        shown.push_str(blanks)?;
+    }
+    Ok(())
+}

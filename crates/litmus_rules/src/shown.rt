@@ -1,0 +1,28 @@
+//! Words of a text, as messages show them.
+
+use std::alloc::{AllocError, Global};
+
+/// The most bytes of a word that a message shows.
+const WORD_LIMIT: usize = 40;
+
+/// The first bytes of a word, or of two, with `\xHH` for those that are not printable ASCII.
+pub fn shown_word(alloc: Global, word: &[u8]) -> Result<String, AllocError> {
+    let mut shown = String::new(alloc);
+    push_shown_word(&mut shown, word)?;
+    Ok(shown)
+}
+
+/// Puts the first bytes of a word, or of two, into an empty text, with `\xHH` for those that are not printable ASCII.
+pub fn push_shown_word(shown: &mut String, word: &[u8]) -> Result<(), AllocError> {
+    for byte in word.iter().take(WORD_LIMIT) {
+        if byte.is_ascii_graphic() || (*byte == b' ' && !shown.is_empty()) {
+            shown.push(char::from(*byte))?;
+        } else {
+            write!(shown, "\\x{byte:02x}")?;
+        }
+    }
+    if word.len() > WORD_LIMIT {
+        shown.push_str("..")?;
+    }
+    Ok(())
+}
