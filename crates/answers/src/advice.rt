@@ -1,4 +1,4 @@
-//! What is said to people of a refusal, on standard error.
+//! What is said to people on standard error: of a refusal, of a slip, of arguments that are no command, and where fences go.
 
 ghost use Rattle.std.specs.Prelude.{◌≡◌};
 
@@ -87,7 +87,7 @@ pub fn unkept_advice(
     }
 }
 
-/// Tells what arguments may mean that are no command.
+/// Says what arguments may mean that are no command.
 pub fn tell_hint<W: Console>(alloc: Global, words: &[String], output: &mut W)
     ensures { W.contents output.new ≡ W.contents output.old }
 {
@@ -120,21 +120,17 @@ pub fn slip_advice(
     }
 }
 
-/// Tells of what may be a slip in a litmus text: first of a name in the condition that no instruction uses.
-pub fn tell_idle_name<W: Console>(alloc: Global, litmus: &str, text: &[u8], output: &mut W)
+/// Says what may be a slip in a litmus text, if anything: first a name in the condition that no instruction uses.
+pub fn tell_slip<W: Console>(alloc: Global, litmus: &str, text: &[u8], output: &mut W)
     ensures { W.contents output.new ≡ W.contents output.old }
 {
     let on_terminal = output.progress().is_shown();
     output.tell(slip_advice(alloc, litmus, text, true, on_terminal));
 }
 
-/// Tells of what may be a slip in a litmus text; of a name in the condition where the condition's truth is compared alone.
-pub fn tell_idle_name_compared<W: Console>(
-    alloc: Global,
-    asked: &Placement,
-    text: &[u8],
-    output: &mut W,
-)
+/// Says what may be a slip in a litmus text, if anything; a name in the condition counts with `--condition` and
+/// `--observed` alone.
+pub fn tell_slip_compared<W: Console>(alloc: Global, asked: &Placement, text: &[u8], output: &mut W)
     ensures { W.contents output.new ≡ W.contents output.old }
 {
     let condition_counts = !matches!(asked.kind, ShownKind::Whole);
@@ -152,7 +148,7 @@ fn fences_advice(alloc: Global, text: &[u8], gaps: &GapSet) -> Result<Vec<u8>, A
     }
 }
 
-/// Tells on a terminal in which lines of a litmus text the fences of these gaps go, and before which instructions, unless
+/// Says on a terminal in which lines of a litmus text the fences of these gaps go, and before which instructions, unless
 /// the status is that of an answer that is not printed.
 pub fn tell_fences<W: Console>(
     alloc: Global,

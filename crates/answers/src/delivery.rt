@@ -10,12 +10,12 @@ use paged_text::Pages;
 use program_streams::{Console, FileFault, WritableFileStore, file_line, print};
 use std::alloc::Global;
 
-/// What is printed, with its status, and what is written to each of two files, where it is named. Where one can't be
-/// written, that is reported as a line or as a document.
+/// What is printed, with its status, and what is written to each of two files, where it is named.
 #[derive(Drop)]
 pub struct Answer {
     pub lines: Vec<u8>,
     pub status: u8,
+    /// Whether a refusal to write is printed as a document.
     pub json: bool,
     pub first: Pages,
     pub second: Pages,
@@ -58,7 +58,8 @@ fn keep_files<'a, S: WritableFileStore>(
     }
 }
 
-/// Writes what is written to files, then prints the lines, and returns the status.
+/// Writes both texts to the files that are named, then prints the lines, and returns the status. Where a file can't be
+/// written, it prints that refusal, with status 1.
 pub fn deliver<S: WritableFileStore, W: Console>(
     alloc: Global,
     files: &mut S,

@@ -37,8 +37,8 @@ pub struct Told {
     pub verdict: Option<Note>,
 }
 
-/// What is delivered of what is said, with status 0: the text or the document is printed, and the files have the page of the
-/// document and the graph. Beside the answer the document says what is noted of the litmus text.
+/// The answer of what is said, with status 0: the text or the document is printed, and the files get the page of the
+/// document and the graph. The document has the notes on the litmus text, too.
 pub fn documented(
     alloc: Global,
     json: bool,

@@ -20,7 +20,8 @@ pub enum Unkept {
     Unwritten,
 }
 
-/// A litmus text with an MFENCE in each of these gaps, where a file is named for it.
+/// A litmus text with an MFENCE in each of these gaps, where a file is named for it, and otherwise an empty text; `None`
+/// where it is not read as the printed program.
 pub fn inserted_for(
     alloc: Global,
     named: Option<&str>,
@@ -39,7 +40,7 @@ pub fn inserted_for(
     }
 }
 
-/// Writes what is made to its file, where one is named.
+/// Writes the text of [`inserted_for`] to its file, where one is named.
 pub fn keep_inserted<S: WritableFileStore>(
     files: &mut S,
     name: Option<&str>,
@@ -58,7 +59,7 @@ pub fn keep_inserted<S: WritableFileStore>(
     }
 }
 
-/// Why the text is not kept.
+/// The line of the refusal to keep a text.
 pub fn unkept_line(alloc: Global, fault: Unkept) -> Result<Vec<u8>, AllocError>
     ensures { IfOk result (λ line. line.items ≡ unkept_line fault) }
 {

@@ -1,7 +1,7 @@
 //! What all commands share, from texts that are read or refused to answers that are delivered, with `replay` and `trace`.
 //!
-//! These two follow a run that is given and search for nothing, so they stand here, beside what searches. All of it is
-//! over any reader, writer and store of files.
+//! `replay` and `trace` follow a run that is given and search for nothing, so this crate stands on nothing that searches.
+//! All of it is over any reader, writer and store of files.
 //!
 //! Begin with `tell_refusal`, `deliver` and `run_replay`. Free to change: what is said on standard error
 //! (`advice.rt`). Relied on: a refusal is its line or its document with status 1, a file that is written holds its
@@ -21,8 +21,8 @@ mod texts;
 mod traces;
 
 pub use advice::{
-    AskedText, slip_advice, tell_fences, tell_hint, tell_idle_name, tell_idle_name_compared,
-    unkept_advice, unread_advice, unread_litmus,
+    AskedText, slip_advice, tell_fences, tell_hint, tell_slip, tell_slip_compared, unkept_advice,
+    unread_advice, unread_litmus,
 };
 pub use delivery::{Answer, deliver};
 pub use document::{Told, documented, printed};

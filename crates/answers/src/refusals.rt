@@ -61,7 +61,7 @@ impl From<SolveFault> for AnswerFault {
     }
 }
 
-/// Why the outcomes of a program aren't found.
+/// The line of a refusal to list outcomes.
 pub fn solve_line(alloc: Global, fault: SolveFault) -> Result<Vec<u8>, AllocError>
     ensures { IfOk result (λ line. line.items ≡ solve_line fault) }
 {
@@ -71,14 +71,14 @@ pub fn solve_line(alloc: Global, fault: SolveFault) -> Result<Vec<u8>, AllocErro
     }
 }
 
-/// What is refused of a place without a gap.
+/// The text of the refusal of a place without a gap, after `refused `.
 fn no_gap_text(alloc: Global, thread: u8, instruction: u8) -> Result<String, AllocError>
     ensures { IfOk result (λ text. string_bytes text ≡ no_gap_text thread instruction) }
 {
     format!(in alloc; "fences 1 NoSuchGap {thread}:{instruction}")
 }
 
-/// That a program has no gap at a place.
+/// The line that refuses a place without a gap.
 pub fn no_gap_line(alloc: Global, thread: u8, instruction: u8) -> Result<Vec<u8>, AllocError>
     ensures { IfOk result (λ line. line.items ≡ no_gap_line thread instruction) }
 {

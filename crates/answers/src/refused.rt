@@ -62,7 +62,7 @@ fn refusal_text(
     }
 }
 
-/// Prints the line of a refusal, or its document where that is asked for, then tells its message, and returns the
+/// Prints the line of a refusal, or its document where that is asked for, then says its message, and returns the
 /// status, which is 1.
 pub fn tell_refusal<W: Console>(
     alloc: Global,

@@ -9,7 +9,7 @@ use program_streams::{FileStore, TEXT_LIMIT, UnreadFile, bytes_if_named, named_b
 use std::alloc::Global;
 use std::io::Read;
 
-/// What the files hold that are read.
+/// The text of a litmus file, and that of a cost file where one is named.
 #[derive(Drop)]
 pub struct Texts {
     pub litmus: Vec<u8>,

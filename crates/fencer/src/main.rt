@@ -1,9 +1,9 @@
 //! The program `fencer`: each command, from files and streams to an answer and its status.
 //!
-//! Each command is a module with its answer and one of `specs/` that says it. All of it is over any reader,
-//! writer and store of files; `main` puts the system's in.
+//! Each command but `replay` and `trace`, which stand in `answers`, is a module with its answer, and has a module of
+//! `specs/` that says it. All of it is over any reader, writer and store of files; `main` puts the system's in.
 //!
-//! Begin with `run_command`, `run_place` and `print_answer`. Free to change: what is said on standard error
+//! Begin with `run_command`, `run_place` and `run_why`. Free to change: what is said on standard error
 //! (`advice.rt`). Relied on: nothing stands above it but what `docs/trust.md` says of an answer: at status 0
 //! what was written is the answer for the text that was read, and no file is changed but those that the job
 //! names.

@@ -18,7 +18,7 @@ ghost use Rattle.fencer.specs.Outcomes.{listed_kind, list_text as lines_of_list,
 
 use answers::{
     AnswerFault, AskedText, NotedText, Reply, SlipPlaces, check_status, noted_line, print_answer,
-    tell_idle_name, tell_refusal, unread_advice, unread_litmus,
+    tell_refusal, tell_slip, unread_advice, unread_litmus,
 };
 use cert_forest::Runs;
 use documents::{FencedModel, LinedLitmus, outcomes_document, outcomes_with_runs_document};
@@ -315,7 +315,7 @@ pub fn run_outcomes<T: Threads + Sync, S: FileStore, R: Read, W: Console>(
             };
             let reply = outcomes_reply(rt, alloc, &bytes, asked, output.progress());
             let status = print_answer(alloc, asked.json, subject, reply, output);
-            tell_idle_name(alloc, litmus, &bytes, output);
+            tell_slip(alloc, litmus, &bytes, output);
             status
         }
         Err(fault) => {

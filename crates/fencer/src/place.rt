@@ -13,8 +13,8 @@ use crate::advice::text_fault_advice;
 use crate::tied::tell_ties;
 use answers::{
     Answer, NotedText, Texts, check_status, deliver, inserted_for, keep_inserted, noted_line,
-    printed, read_texts, report_verdict, slip_places, tell_fences, tell_idle_name_compared,
-    tell_refusal, unkept_advice, unkept_line, unread_advice,
+    printed, read_texts, report_verdict, slip_places, tell_fences, tell_refusal,
+    tell_slip_compared, unkept_advice, unkept_line, unread_advice,
 };
 use fencer_words::Placement;
 use gap_sets::GapSet;
@@ -243,7 +243,7 @@ pub fn run_place<T: Threads + Wait + Sync, S: WritableFileStore, R: Read, W: Con
     match read_texts(alloc, &*files, asked.litmus.as_str(), costs, input) {
         Ok(texts) => {
             let status = place_texts(rt, alloc, files, asked, &texts, output);
-            tell_idle_name_compared(alloc, asked, &texts.litmus, output);
+            tell_slip_compared(alloc, asked, &texts.litmus, output);
             status
         }
         Err(file) => {

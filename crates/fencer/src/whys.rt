@@ -13,7 +13,7 @@ use crate::place::text_fault_line;
 use crate::tied::tell_ties;
 use answers::{
     Answer, NotedText, Texts, Told, deliver, documented, read_texts, report_verdict, slip_places,
-    tell_idle_name_compared, tell_refusal, unread_advice,
+    tell_refusal, tell_slip_compared, unread_advice,
 };
 use fencer_words::{Placement, WhyQuery};
 use gap_sets::GapSet;
@@ -143,7 +143,7 @@ pub fn run_why<T: Threads + Wait + Sync, S: WritableFileStore, R: Read, W: Conso
     match read_texts(alloc, &*files, litmus, costs, input) {
         Ok(texts) => {
             let status = explain_texts(rt, alloc, files, asked, &texts, output);
-            tell_idle_name_compared(alloc, &asked.placement, &texts.litmus, output);
+            tell_slip_compared(alloc, &asked.placement, &texts.litmus, output);
             status
         }
         Err(file) => {

@@ -11,7 +11,7 @@ ghost use Rattle.fencer.specs.Witnesses.{witness_line, IsWitnessOf, IsWitnessSho
 use crate::advice::witness_advice;
 use answers::{
     Answer, NotedText, SlipPlaces, Told, check_status, deliver, documented, no_gap_line,
-    solve_line, tell_idle_name, tell_refusal, unread_advice, unread_litmus,
+    solve_line, tell_refusal, tell_slip, unread_advice, unread_litmus,
 };
 use fencer_words::WitnessQuery;
 use messages::file_or_input;
@@ -106,7 +106,7 @@ pub fn run_witness<S: WritableFileStore, R: Read, W: Console>(
     match named_bytes(alloc, &*files, litmus, input, TEXT_LIMIT) {
         Ok(bytes) => {
             let status = show_witness(alloc, files, asked, &bytes, output);
-            tell_idle_name(alloc, litmus, &bytes, output);
+            tell_slip(alloc, litmus, &bytes, output);
             status
         }
         Err(fault) => {

@@ -44,7 +44,7 @@ pub struct WhyText {
     pub document: JsonObject,
     /// The gaps of the answer.
     pub gaps: GapSet,
-    /// That some sequential run decides the condition, if one does.
+    /// The note that a sequential run decides the condition, where one does.
     pub verdict: Option<Note>,
 }
 
@@ -87,8 +87,8 @@ fn cost_of(certificate: &Certificate) -> u64
     certificate.cost
 }
 
-/// Why a tie of the answer is needed: a run of the certificate passes no gap of the others. `names` has the answer's names,
-/// and this one is among them.
+/// Why a tie of the answer is needed: a run of the certificate passes no gap of the others. `names` are those of the
+/// answer's ties, and `name` is one of them.
 fn reason_for(
     alloc: Global,
     problem: &Problem,
@@ -183,7 +183,7 @@ fn why_lines(
     Ok(lines)
 }
 
-/// The answer line, and why each gap of the answer is needed.
+/// The answer line, and why each tie of the answer is needed.
 fn explained(
     alloc: Global,
     problem: &Problem,
@@ -224,8 +224,8 @@ fn explained(
 }
 
 /// Places fences in the program of a litmus text as [`crate::answer_text`] does, and says why each of them is
-/// needed: after the answer line, for each gap of the answer a run with the other gaps fenced, whose outcome no
-/// sequential run has. The graph has these runs, and the document says what the lines say.
+/// needed: after the answer line, for each tie of the answer a run with the gaps of the other ties fenced, whose
+/// outcome no sequential run has. The graph has these runs, and the document says what the lines say.
 pub fn why_text<R: Threads + Wait + Sync>(
     rt: &R,
     alloc: Global,

@@ -1,13 +1,13 @@
 //! From a litmus text and costs to the answer's texts, and to a run that each fence prevents.
 //!
-//! The texts are the answer line, the fenced program and the document, and where it is asked for the certificate. For a
+//! The texts are the answer line, the fenced program and the document, and the certificate where it is asked for. For a
 //! program of many combinations of traces a certificate is proposed, which the checker judges (`proposed.rt`). A
-//! run that is shown passes no other gap of the answer, and no sequential run leaves what it leaves.
+//! run that is shown passes no gap of the answer's other ties, and no sequential run leaves what it leaves.
 //!
 //! Begin with `answer_text`, `place_text` and `why_text`; `outcomes_by` lists a program's outcomes. Free to change: what is
 //! reported on the way (`ahead.rt`, `extent.rt`, `watched.rt`), and which run is shown, and its graph. Relied on: the headline
 //! holds of the set for the program and the costs of the texts, all that is written says the same of it
-//! (`IsPlacedText`), and for exactly the gaps of the answer, in order, labels and table are those of such a run
+//! (`IsPlacedText`), and for exactly the ties of the answer, in order, labels and table are those of such a run
 //! (`IsWhyText`).
 #![tactic(auto)]
 

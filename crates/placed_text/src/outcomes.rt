@@ -17,7 +17,7 @@ use tso_machine::Mode;
 use tso_program::{Program, Shown};
 
 /// What is shown of the outcomes of a program in the machine of a mode, as [`outcomes_with_runs`] lists it with a run of each.
-/// The rule of an effort does not count.
+/// The workers of an effort share a long search, and its rule of trees does not count. Refused for lack of memory alone.
 pub fn outcomes_by<R: Threads + Sync>(
     rt: &R,
     alloc: Global,

@@ -37,7 +37,7 @@ pub struct AnswerText {
     pub document: JsonObject,
     /// The gaps of the answer.
     pub gaps: GapSet,
-    /// That some sequential run decides the condition, if one does.
+    /// The note that a sequential run decides the condition, where one does.
     pub verdict: Option<Note>,
 }
 
@@ -82,7 +82,7 @@ fn write_answer(
     })
 }
 
-/// Writes the texts of a problem's answer. Its certificate goes before they are made.
+/// Writes the texts of a problem's answer. The certificate is freed before they are made.
 fn answer_of(
     alloc: Global,
     problem: &Problem,
@@ -98,7 +98,7 @@ fn answer_of(
     write_answer(alloc, problem, &gaps, cost, verdict)
 }
 
-/// Writes the text of a certificate, which goes as it is written, and the texts of the problem's answer.
+/// Writes the text of a certificate, which is freed as it is written, and the texts of the problem's answer.
 fn write_placed<R: Threads + Sync>(
     rt: &R,
     alloc: Global,
@@ -119,8 +119,8 @@ fn write_placed<R: Threads + Sync>(
 }
 
 /// Places fences in the program of a litmus text, where its gaps cost what a text of costs says, and 1
-/// each without one: the best set of gaps after which the program has its sequential outcomes and no
-/// others. What is shown of outcomes, by its kind, tells them apart.
+/// each without one: the best set of gaps with whose fences the program has exactly its sequential outcomes.
+/// Outcomes that show the same, by the kind, count as one.
 ///
 /// The litmus text is judged first, then the costs, then the number of workers. With `rt` workers start threads
 /// and wait for one another ([`fence_place::place`]). [`Effort`] says where it reports how far it is.

@@ -10,7 +10,7 @@ returns-in-Ok-clause-told g c =
     prints_more (IsTold c.args.asked.now.json c.outcomes_reply-reply.result) (AreOutcomes asked input files) _ _ c.print_answer-status.result
     (told_answer (PrintsOutcomes asked) (HasNoList asked.fences.items) asked.json (string_bytes asked.litmus) input files c.in-Ok.bytes.items (rw c.as_str-litmus.ensures.value at c.in-Ok.ensures.whole) c.outcomes_reply-reply.result
     (rw c.deref-in-Ok.ensures.value at c.outcomes_reply-reply.ensures.list) (rw c.deref-in-Ok.ensures.value at c.outcomes_reply-reply.ensures.refused))
-    (rw (sym c.tell_idle_name.ensures) at c.print_answer-status.ensures)
+    (rw (sym c.tell_slip.ensures) at c.print_answer-status.ensures)
 
 pub returns-in-Err-clause-told : goal.returns-in-Err-clause-told
 returns-in-Err-clause-told g c =

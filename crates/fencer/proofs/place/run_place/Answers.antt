@@ -4,7 +4,7 @@ use Rattle.fencer.proofs.place.run_place.Goals as goal
 
 pub returns-in-Ok-clause-told : goal.returns-in-Ok-clause-told
 returns-in-Ok-clause-told g c =
-    prints_more _ _ _ _ c.place_texts-status.result (λ status text is. of_texts c.in-Ok.texts.litmus.items (option_map (λ text. text.items) c.in-Ok.texts.costs) status text (rw (c.as_str.ensures.value, c.as_deref-costs.ensures.value) at c.in-Ok.ensures.texts) is) (rw (sym c.tell_idle_name_compared.ensures) at c.place_texts-status.ensures.told)
+    prints_more _ _ _ _ c.place_texts-status.result (λ status text is. of_texts c.in-Ok.texts.litmus.items (option_map (λ text. text.items) c.in-Ok.texts.costs) status text (rw (c.as_str.ensures.value, c.as_deref-costs.ensures.value) at c.in-Ok.ensures.texts) is) (rw (sym c.tell_slip_compared.ensures) at c.place_texts-status.ensures.told)
 
 pub returns-in-Err-clause-told : goal.returns-in-Err-clause-told
 returns-in-Err-clause-told g c =

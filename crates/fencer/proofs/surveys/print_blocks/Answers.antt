@@ -1,12 +1,18 @@
-use Rattle.fencer.proofs.Vocabulary.{◌≡◌, ◌∙◌, ◌+◌, ◌<◌, ℕ, List, [], ◌++◌, Option, ap, arith, get_or, length, subst, sym, string_bytes, TEXT_LIMIT}
+use Rattle.fencer.proofs.Vocabulary.{◌≡◌, ◌∙◌, ◌+◌, ◌<◌, ℕ, List, [], ◌++◌, Option, ap, arith, get_or, length, map, subst, sym, take, string_bytes, TEXT_LIMIT}
 use Rattle.std.proofs.lemmas.List.{take-map}
 use Rattle.std.specs.Io.KnownBytes.{Appends}
+use Rattle.std.specs.declared.string.String.{String}
 use Rattle.program_streams.specs.Files.{ReadsOfInput}
 use Rattle.program_streams.proofs.StreamLaws.{none_written, writes_more}
-use Rattle.fencer.specs.Surveys.{AreBlocks, AreWritten, IsBlock, none, nothing}
+use Rattle.fencer.specs.Surveys.{AreBlocks, AreWritten, IsBlock, ReadsOfFiles, ReadsOfSomeFiles, none, nothing}
 use Rattle.fencer.proofs.Surveyed.{one_more_block, one_more_read, some_read}
 use Rattle.fencer.proofs.WrittenSurveys.{ends_after, ends_within, in_any_case}
 use Rattle.fencer.proofs.surveys.print_blocks.Goals as goal
+
+-- what is read up to a file where memory or the writer ends the survey
+read_to_name : {Z : Type 0} (names : List (String Z)) (i : ℕ) (d : String Z) (name : List ℕ) (old mid new : Option (List ℕ)) → name ≡ string_bytes (get_or names i d) → i < length names
+    → ReadsOfFiles (map string_bytes (take i names)) old mid → ReadsOfInput TEXT_LIMIT name mid new → ReadsOfSomeFiles (map string_bytes names) old new
+read_to_name names i d name old mid new is there before reads = some_read string_bytes names i d there old mid new before (subst (λ (n : List ℕ). ReadsOfInput TEXT_LIMIT n mid new) is reads)
 
 pub loop-name-init : goal.loop-name-init
 loop-name-init g c = record {
@@ -40,39 +46,18 @@ loop-name-preserved g c =
 
 pub returns-in_err-block-clause-read : goal.returns-in_err-block-clause-read
 returns-in_err-block-clause-read g c =
-    let names = c.args.asked.now.files.items in
-    let i = c.loop-name.name-index in
-    let d = c.name-item.result in
-    let mid = g.R.Read.remaining c.loop-name.input in
-    let new = g.R.Read.remaining c.block_of.new.input in
-    let name : c.as_str.result.now ≡ string_bytes (get_or names i d) = c.as_str.ensures.value ∙ ap string_bytes (rw c.as_slice-name-items.ensures.value at c.name-item.is) in
-    let there : i < length names = omega (arith, c.loop-name-test.true, ap length c.as_slice-name-items.ensures.value) in
-    let reads = subst (λ (n : List ℕ). ReadsOfInput TEXT_LIMIT n mid new) name c.block_of.ensures.read in
-    some_read string_bytes names i d there (g.R.Read.remaining c.args.input.now) mid new c.loop-name.invariant.read reads
+    read_to_name c.args.asked.now.files.items c.loop-name.name-index c.name-item.result c.as_str.result.now (g.R.Read.remaining c.args.input.now) (g.R.Read.remaining c.loop-name.input) (g.R.Read.remaining c.block_of.new.input)
+    (c.as_str.ensures.value ∙ ap string_bytes (rw c.as_slice-name-items.ensures.value at c.name-item.is)) (omega (arith, c.loop-name-test.true, ap length c.as_slice-name-items.ensures.value)) c.loop-name.invariant.read c.block_of.ensures.read
 
 pub returns-in_err-add-clause-read : goal.returns-in_err-add-clause-read
 returns-in_err-add-clause-read g c =
-    let names = c.args.asked.now.files.items in
-    let i = c.loop-name.name-index in
-    let d = c.name-item.result in
-    let mid = g.R.Read.remaining c.loop-name.input in
-    let new = g.R.Read.remaining c.block_of.new.input in
-    let name : c.as_str.result.now ≡ string_bytes (get_or names i d) = c.as_str.ensures.value ∙ ap string_bytes (rw c.as_slice-name-items.ensures.value at c.name-item.is) in
-    let there : i < length names = omega (arith, c.loop-name-test.true, ap length c.as_slice-name-items.ensures.value) in
-    let reads = subst (λ (n : List ℕ). ReadsOfInput TEXT_LIMIT n mid new) name c.block_of.ensures.read in
-    some_read string_bytes names i d there (g.R.Read.remaining c.args.input.now) mid new c.loop-name.invariant.read reads
+    read_to_name c.args.asked.now.files.items c.loop-name.name-index c.name-item.result c.as_str.result.now (g.R.Read.remaining c.args.input.now) (g.R.Read.remaining c.loop-name.input) (g.R.Read.remaining c.block_of.new.input)
+    (c.as_str.ensures.value ∙ ap string_bytes (rw c.as_slice-name-items.ensures.value at c.name-item.is)) (omega (arith, c.loop-name-test.true, ap length c.as_slice-name-items.ensures.value)) c.loop-name.invariant.read c.block_of.ensures.read
 
 pub returns-in_err-write_bytes-clause-read : goal.returns-in_err-write_bytes-clause-read
 returns-in_err-write_bytes-clause-read g c =
-    let names = c.args.asked.now.files.items in
-    let i = c.loop-name.name-index in
-    let d = c.name-item.result in
-    let mid = g.R.Read.remaining c.loop-name.input in
-    let new = g.R.Read.remaining c.block_of.new.input in
-    let name : c.as_str.result.now ≡ string_bytes (get_or names i d) = c.as_str.ensures.value ∙ ap string_bytes (rw c.as_slice-name-items.ensures.value at c.name-item.is) in
-    let there : i < length names = omega (arith, c.loop-name-test.true, ap length c.as_slice-name-items.ensures.value) in
-    let reads = subst (λ (n : List ℕ). ReadsOfInput TEXT_LIMIT n mid new) name c.block_of.ensures.read in
-    some_read string_bytes names i d there (g.R.Read.remaining c.args.input.now) mid new c.loop-name.invariant.read reads
+    read_to_name c.args.asked.now.files.items c.loop-name.name-index c.name-item.result c.as_str.result.now (g.R.Read.remaining c.args.input.now) (g.R.Read.remaining c.loop-name.input) (g.R.Read.remaining c.block_of.new.input)
+    (c.as_str.ensures.value ∙ ap string_bytes (rw c.as_slice-name-items.ensures.value at c.name-item.is)) (omega (arith, c.loop-name-test.true, ap length c.as_slice-name-items.ensures.value)) c.loop-name.invariant.read c.block_of.ensures.read
 
 pub returns-in_err-block-clause-cut : goal.returns-in_err-block-clause-cut
 returns-in_err-block-clause-cut g c =

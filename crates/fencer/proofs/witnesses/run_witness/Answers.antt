@@ -4,7 +4,7 @@ use Rattle.fencer.proofs.witnesses.run_witness.Goals as goal
 
 pub returns-in-Ok-clause-told : goal.returns-in-Ok-clause-told
 returns-in-Ok-clause-told g c =
-    prints_more _ _ _ _ c.show_witness-status.result (λ status text is. of_text c.in-Ok.bytes.items status text (rw c.as_str-litmus.ensures.value at c.in-Ok.ensures.whole) is) (rw (c.deref.ensures.value, sym c.tell_idle_name.ensures) at c.show_witness-status.ensures.told)
+    prints_more _ _ _ _ c.show_witness-status.result (λ status text is. of_text c.in-Ok.bytes.items status text (rw c.as_str-litmus.ensures.value at c.in-Ok.ensures.whole) is) (rw (c.deref.ensures.value, sym c.tell_slip.ensures) at c.show_witness-status.ensures.told)
 
 pub returns-in-Err-clause-told : goal.returns-in-Err-clause-told
 returns-in-Err-clause-told g c =
