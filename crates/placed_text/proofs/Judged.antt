@@ -53,6 +53,7 @@ module _ (litmus : List ℕ) (costs : Option (List ℕ)) where
           gaps = gaps;
           of_names = sym is.fenced.allowed;
           answer = is.answer;
+          headline = is.headline;
           fenced = is.fenced;
           program = written.program;
           again = written.again litmus of_texts.of_text;

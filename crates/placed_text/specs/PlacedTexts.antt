@@ -7,7 +7,7 @@ use Rattle.gap_sets.specs.declared.ties.TiedCosts.{TiedCosts}
 use Rattle.tso_program.specs.declared.listing.Listing.{Listing}
 use Rattle.tso_program.specs.declared.shown.ShownKind.{ShownKind}
 use Rattle.tso_program.specs.declared.question.Question.{Question}
-use Rattle.tso_machine.specs.Outcomes.{IsTheAnswer}
+use Rattle.tso_machine.specs.Outcomes.{Headline, IsTheAnswer}
 use Rattle.litmus_text.specs.Litmus.{Litmus}
 use Rattle.litmus_text.specs.Texts.{IsLitmus, IsFencedLitmus}
 use Rattle.litmus_text.specs.Canonical.{canonical_text, litmus_fenced_at}
@@ -37,9 +37,9 @@ pub record IsCertificateOf (q : Question) (costs : List ℕ) (gaps : SetOfGaps) 
   pub valid : IsValidCertificate q costs claimed
 
 -- What the texts tell: the litmus text stands for this program, its gaps have these costs and ties, these gaps are those of the
--- names that are the answer, and the headline holds of the gaps, among sets that have of each tie all or none; the program's text is
--- the canonical one with an MFENCE in each of them, and is read as that program; the line is made of them and of their total, the
--- document says the same of them, the set has them, and the verdict says what sequential runs decide.
+-- names that are the answer, so that the headline holds of them, and of the gaps among sets that have of each tie all or none; the
+-- program's text is the canonical one with an MFENCE in each of them, and is read as that program; the line is made of them and of
+-- their total, the document says the same of them, the set has them, and the verdict says what sequential runs decide.
 pub record IsAnswerText (litmus : List ℕ) (costs : Option (List ℕ)) (kind : ShownKind) (texts : AnswerText) : Type 0 where
   pub source : Litmus Listing
   pub of_text : IsLitmus litmus source
@@ -49,6 +49,7 @@ pub record IsAnswerText (litmus : List ℕ) (costs : Option (List ℕ)) (kind : 
   pub gaps : SetOfGaps
   pub of_names : gaps ≡ spread gap_costs.ties names
   pub answer : IsTheAnswer (tied_question source kind gap_costs) gap_costs.costs names
+  pub headline : Headline (tied_question source kind gap_costs) gap_costs.costs names
   pub fenced : HeadlineOfAllowed (tied_question source kind gap_costs) gap_costs.costs gaps
   pub program : texts.program.items ≡ canonical_text (litmus_fenced_at gaps source)
   pub again : IsFencedLitmus texts.program.items (litmus_fenced_at gaps source)
