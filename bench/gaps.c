@@ -1,13 +1,9 @@
 // Measures variants of a thread that runs alone: prints for each the time stamps that an instance takes, the lower quartile of many
 // samples. bench/measure-costs fills in what stands between @ signs.
 #define _GNU_SOURCE
-#include <pthread.h>
-#include <sched.h>
-#include <stdatomic.h>
 #include <stdint.h>
 #include <stdio.h>
 #include <stdlib.h>
-#include <string.h>
 #include <x86intrin.h>
 static int less(const void *a, const void *b) { double x = *(double *)a, y = *(double *)b; return (x > y) - (x < y); }
 static inline uint64_t tick(void) { uint32_t a; uint64_t t = __rdtscp(&a); _mm_lfence(); return t; }

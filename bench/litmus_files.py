@@ -1,4 +1,4 @@
-"""Reads litmus files of the restricted X86 format, for the scripts that run them on a processor, and writes them again with fences."""
+"""Reads litmus files of the restricted X86 format, for the scripts of this folder, and writes them again with fences."""
 from __future__ import annotations
 
 import dataclasses

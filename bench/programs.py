@@ -1,12 +1,20 @@
-"""Litmus tests for measurements: the classical ones, and random ones from a seed, of loads and stores alone or of every kind of instruction.
+"""Litmus tests for measurements and trials: store bufferings, and random ones from a seed, of loads and stores alone or of every kind of instruction.
 
 A random test has a name, FAMILY-ACCESSES-THREADS-NUMBER: `random-15-3-0` has loads and stores of 1 or 2, 15 accesses and three threads, and is the first of
 its kind. In the family `exchanges` there are also locked exchanges, stores of registers and first values, so that a location may have each value of the
 program. `r` and `x` stand for the two families.
 """
+import os
+
+TOP = os.path.dirname(os.path.dirname(os.path.abspath(__file__)))
 FAMILIES = ("random", "exchanges")
 REGISTERS = ("EAX", "EBX", "ECX", "EDX", "ESI", "EDI")
 JUMPS = ("JE", "JNE", "JNE", "JMP")
+
+
+def built(crate):
+    """The path of a program that is built."""
+    return os.path.join(TOP, "crates", crate, "out", crate)
 
 
 def litmus(threads, first=()):

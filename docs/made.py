@@ -33,7 +33,7 @@ def between(path, mark, body):
 def put(made):
     """Writes the files that are made, by their paths; with --check none is written, and the status says whether each is there as it is made."""
     if sys.argv[1:] not in ([], ["--check"]):
-        sys.exit(f"{sys.argv[0]} [--check]")
+        sys.exit(sys.modules["__main__"].__doc__)
     paths = [path for path, text in made.items() if not os.path.exists(os.path.join(TOP, path)) or read(path) != text]
     if sys.argv[1:]:
         for path in paths:
@@ -56,9 +56,8 @@ class Picture:
         self.parts.append(f'<text x="{x:g}" y="{y:g}" font-size="{size:g}" fill="{colour}" font-family="{family}"{weight} text-anchor="{anchor}" xml:space="preserve">{escape(words)}</text>')
         self.height = max(self.height, y + size / 2)
 
-    def path(self, steps, colour=INK, width=1.5, dash="", fill="none"):
-        dashes = f' stroke-dasharray="{dash}"' if dash else ""
-        self.parts.append(f'<path d="{steps}" stroke="{colour}" stroke-width="{width:g}" fill="{fill}" stroke-linejoin="round"{dashes}/>')
+    def path(self, steps, colour=INK, width=1.5, fill="none"):
+        self.parts.append(f'<path d="{steps}" stroke="{colour}" stroke-width="{width:g}" fill="{fill}" stroke-linejoin="round"/>')
 
     def box(self, x, y, width, height, fill="#ffffff", colour=RULE, radius=6, dash=""):
         dashes = f' stroke-dasharray="{dash}"' if dash else ""
@@ -69,8 +68,8 @@ class Picture:
         self.parts.append(f'<circle cx="{x:g}" cy="{y:g}" r="{radius:g}" fill="{colour}"/>')
 
     def tip(self, x, y, colour, towards):
-        """An arrow's tip at this point: towards the left, the right, or down."""
-        steps = {"left": "l 8 -4 v 8 z", "right": "l -8 -4 v 8 z", "down": "l -4 -8 h 8 z", "up": "l -4 8 h 8 z"}[towards]
+        """An arrow's tip at this point: towards the left, or down."""
+        steps = {"left": "l 8 -4 v 8 z", "down": "l -4 -8 h 8 z"}[towards]
         self.parts.append(f'<path d="M {x:g} {y:g} {steps}" fill="{colour}"/>')
 
     def svg(self):

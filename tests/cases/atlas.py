@@ -1,8 +1,9 @@
 """The atlas: each row of the tables of docs/atlas.md, and its certificates in examples/atlas and examples/large."""
 import os
 import re
+import tempfile
 
-from harness import EXAMPLES, FENCECHECK, MODELS, TOP, Cases, bytes_of, expect, lines, outcomes_in, run, same, tell
+from harness import EXAMPLES, FENCECHECK, MODELS, TOP, Cases, bytes_of, expect, lines, outcomes_in, run, same, tell, write
 from judges import machine
 from judges.texts import test_of
 
@@ -15,6 +16,7 @@ ROW = re.compile(
     r"\| (\d+ \+ \d+ \+ \d+) \| (-|\d+ of \d+, \d+ of \d+) \|$", re.M)
 RUN = re.compile(r"^\| (\S+) \| `((?:[ef]\d ?)+)` \|$", re.M)
 LARGE_ROW = re.compile(rf"^\| (\S+) \| (\d+) \| (\d+) \| (\d+) \| (may happen|never) \| {CELL} \| {CELL} \| (\d+\.\d kB), (\d+\.\d kB) \|$", re.M)
+TIED_ROW = re.compile(rf"^\| (\S+) \| ((?:\d, |\d; )+\d) \| (\d+) \| {CELL} \| {CELL} \|$", re.M)
 LARGEST = 200_000
 NODES = ("V", "S", "O", "C", "K", "P", "B")
 
@@ -76,6 +78,23 @@ def large_row(row, independent):
     return files
 
 
+def tied_row(name, threads, count, alone, tied):
+    """The condition's answer in single gaps and in whole lines, of threads that are found to be alike, or that are said to run the same code."""
+    litmus = next(path for path in (os.path.join(folder, name + ".litmus") for folder in (FOLDER, LARGE)) if os.path.exists(path))
+    named = [["--same", threads.replace(" ", "")]] if ";" not in threads else []
+    files = [run(["gaps", "--ties", "--tries", *same_code, litmus])[1] for same_code in ([], *named)]
+    costs = next((file for file in files if file.count(b"\n") == int(count)), b"")
+    tell(f"the lines of {name}", costs, files, count)
+    with tempfile.TemporaryDirectory() as folder:
+        costs_file, certificate = os.path.join(folder, "costs"), os.path.join(folder, "certificate")
+        write(costs_file, costs)
+        for words, answer in (([], alone), (["--costs", costs_file, "--certificate", certificate], tied)):
+            found = run(["place", "--condition", *words, litmus])[1].decode().split("\n")[0]
+            same(f"the condition's answer for {name}{' in whole lines' if words else ''}", found, f"answer condition {answer.strip('`')}")
+        accepted = f"accepted condition {tied.strip('`')}\n".encode()
+        expect(f"the certificate of {name} in whole lines", [litmus, certificate, costs_file], 0, accepted, program=FENCECHECK)
+
+
 def nodes_of(certificate):
     """How many nodes each tree of a certificate has, as the page says it."""
     trees = [line.split()[1:] for line in certificate.splitlines() if line.startswith(("tree ", "fenced ", "gaps "))]
@@ -104,6 +123,13 @@ class Atlas(Cases):
         same("the large programs are those of the independent answers", sorted(row[0] for row in rows), sorted(independent))
         files = [file for row in rows for file in large_row(row, independent[row[0]])]
         same("the files of the large programs are those of their table", sorted(os.listdir(LARGE)), sorted(files))
+
+    def test_tied(self):
+        """Each answer of the table of ties is given again; the checker accepts its certificate for the same ties."""
+        rows = TIED_ROW.findall(bytes_of(PAGE).decode())
+        tell("the atlas has a table of ties", rows)
+        for row in rows:
+            tied_row(*row)
 
     def test_runs(self):
         """A run of each program that needs fences, to what must not happen."""

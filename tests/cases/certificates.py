@@ -5,7 +5,7 @@ import resource
 import subprocess
 import tempfile
 
-from harness import FENCECHECK, LIMIT, Cases, bytes_of, example, expect, expect_call, in_data, judge, lines, run, same, tell, text_of, write
+from harness import FENCECHECK, LIMIT, Cases, answer_of, bytes_of, example, expect, expect_call, in_data, judge, lines, run, same, tell, text_of, write
 
 MOST_GAPS = 128
 FOLDERS = ("certificates", "observed")
@@ -31,7 +31,7 @@ class Certificates(Cases):
         """Certificates and what an independent program says of them: as files, and after the litmus text on standard input."""
         for folder in FOLDERS:
             for litmus, certificate, costs, line in lines(folder, "cases.tsv"):
-                status, text = 0 if line.startswith("accepted ") else 1, line.encode() + b"\n"
+                status, text = answer_of(line)
                 files = [in_data(folder, file) for file in (litmus, certificate, costs) if file != "-"]
                 name = f"{litmus} {certificate}"
                 expect(name, files, status, text, program=FENCECHECK)
@@ -184,7 +184,7 @@ class Certificates(Cases):
         with open("/dev/zero", "rb") as zeros:
             ran = subprocess.run([FENCECHECK], stdin=zeros, capture_output=True, preexec_fn=little)
         same("an input without an end", (ran.returncode, ran.stdout), TOO_LONG)
-        with subprocess.Popen([FENCECHECK], stdin=subprocess.PIPE, stdout=subprocess.PIPE) as asked:
+        with subprocess.Popen([FENCECHECK], stdin=subprocess.PIPE, stdout=subprocess.PIPE, stderr=subprocess.DEVNULL) as asked:
             asked.stdin.write(longest + b"FENCECERT.")
             asked.stdin.flush()
             try:

@@ -93,7 +93,7 @@ class Folder:
 
 
 def without_options(words):
-    """The arguments without the options that write files or check."""
+    """The arguments without options that must not change what is printed: those that write files or check, and the workers."""
     left, words = [], list(words)
     while words:
         word = words.pop(0)

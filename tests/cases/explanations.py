@@ -26,8 +26,8 @@ def explained(litmus, options):
     lists = [outcomes_in(text).decode() for text in listed]
     often = [text.decode().splitlines()[-2] for text in listed]
     if not gaps:
-        same = often if shown == ["--condition"] else lists
-        tell(f"{name}: every outcome is sequential", same[0] == same[1], same)
+        buffered, sequential = often if shown == ["--condition"] else lists
+        tell(f"{name}: every outcome is sequential", buffered == sequential, (buffered, sequential))
     for reason in reasons:
         judge_reason(name, litmus, gaps, reason, lists[0].splitlines(), often[0], shown)
     judge_graph(name, litmus, options, reasons, text)

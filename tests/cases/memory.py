@@ -272,7 +272,6 @@ class Memory(PreloadedCases):
 
     def test_replays(self):
         """Replays, their tables, lists of outcomes, and runs that are sought."""
-        tell(f"{self.source} is built", self.library)
         replays_refused(self.library)
 
     def test_surveys(self):

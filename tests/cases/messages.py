@@ -1,4 +1,5 @@
-"""Messages: what the programs say on standard error, nothing with an answer, and one line for people after each line of a refusal."""
+"""Messages: what the programs say on standard error: with an answer what may be a slip and what sequential runs decide, and one line for people after each line
+of a refusal."""
 import json
 import os
 import re
@@ -212,7 +213,7 @@ class Messages(Cases):
         refused(["fencecheck", "SB.litmus", "SB.cert"], {**files, "SB.cert": deep}, line)
 
     def test_answers(self):
-        """An answer, a bad command line of `fencer` and a call for help say nothing."""
+        """An answer without a slip, a missing argument of `fencer` and a call for help say nothing."""
         for words in (["outcomes", "SB.litmus"], ["place", "SB.litmus"], ["--help"], ["place"], ["fencecheck", "SB.litmus", "SB.cert"], ["fencecheck", "--help"], ["fencecheck", "-h"]):
             same(f"nothing is said of {' '.join(words)}", outputs(words, EXAMPLES, b"")[2], b"")
 

@@ -311,7 +311,7 @@ class Progress(Cases):
             times, done = [0, *(number(line[1]) for line in found)], [(number(line[2]), number(line[3])) for line in found if "the search for outcomes" in line[0]]
             tell("at most five seconds pass between two lines", all(0 < after - before <= 5 for before, after in zip(times, times[1:])), times)
             cut = {parts for _, parts in done}
-            tell("how many parts are done", done == sorted(done) and all(some <= parts for some, parts in done) and len(cut) <= 1, done)
+            tell("how many parts are done", done and done == sorted(done) and all(some <= parts for some, parts in done) and len(cut) <= 1, done)
 
     def test_minutes(self):
         """Before a search that may take minutes there is a warning, with how many threads, accesses and exchanges there are, and none before others."""

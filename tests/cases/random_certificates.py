@@ -6,7 +6,7 @@ import random
 import tempfile
 from concurrent.futures import ThreadPoolExecutor
 
-from harness import FENCECHECK, Cases, bytes_of, expect, in_data, lines, run, same, tell, text_of, write
+from harness import FENCECHECK, Cases, answer_of, bytes_of, expect, in_data, lines, run, same, tell, text_of, write
 from judges.certificate_texts import read, written
 from judges.certificates import line_of
 from judges.damage import KINDS
@@ -73,11 +73,6 @@ def files_of(folder, case, place):
         if not os.path.exists(path):
             write(path, text)
     return paths
-
-
-def answer_of(line):
-    """The status and the text with which `fencecheck` prints a line."""
-    return 0 if line.startswith("accepted ") else 1, line.encode() + b"\n"
 
 
 def said_by(line):

@@ -133,7 +133,6 @@ class Streams(PreloadedCases):
 
     def test_reads(self):
         """Reads that fail at each of their calls: of standard input, and of files that are named."""
-        tell(f"{self.source} is built", self.library)
         failing_reads(self.library, self.folder)
 
     def test_writes(self):

@@ -12,20 +12,6 @@ SEED = 61
 MODELS = ("buffered", "sequential")
 
 
-def passed_gaps(test, labels, model):
-    """The gaps that a run passes: it executes the instruction after one while a store of the thread waits."""
-    threads, memory, passed = [(0, False, registers, ()) for registers in test.registers], test.memory, set()
-    for label in labels:
-        t = int(label[1:])
-        place, flag, registers, waiting = threads[t]
-        if label[0] == "f":
-            threads[t], memory = (place, flag, registers, waiting[1:]), machine.put(memory, *waiting[0])
-        else:
-            passed |= {(t, place)} if waiting else set()
-            threads[t], memory = machine.executed(test.code[t][place], threads[t], memory, model == "buffered")
-    return sorted(passed)
-
-
 class Program:
     """A program with its condition, and which truths its outcomes have."""
 
@@ -47,10 +33,11 @@ class Program:
         word, *labels = text.split("\n")[0].split()
         if word != "run":
             return False
-        outcome = machine.end_of(self.test, labels, fenced, model)
-        if outcome is None or self.truth(outcome) != meets:
+        run = machine.replayed(self.test, labels, {self.test.gaps()[gap] for gap in fenced}, model == "buffered")
+        if run is None or self.truth(run[0]) != meets:
             return False
-        passed = " ".join(["passed", *(f"{t}:{k}" for t, k in passed_gaps(self.test, labels, model))])
+        outcome, gaps = run
+        passed = " ".join(["passed", *(f"{t}:{k}" for t, k in sorted(gaps))])
         lines = [" ".join(["run", *labels]) + "\n", traces.table(self.test, self.canonical, model, labels), self.test.line(outcome), passed + "\n"]
         return text == "".join(lines)
 

@@ -8,7 +8,6 @@ from harness import programs
 from harness.programs import FENCECHECK, FENCER, TEST_CALLS, TESTS, TOP
 
 KEPT = os.path.join(TESTS, "out", "failed")
-LONGEST = 2_000
 counts = {"passed": 0, "failed": 0}
 
 
@@ -98,9 +97,14 @@ def expect_call(call, text, right, name=""):
     expect(name or f"{call} {text[:80]!r}", [], 0, right, call.encode() + b"\n" + text, TEST_CALLS)
 
 
+def answer_of(line):
+    """The status and the text with which `fencecheck` prints a line."""
+    return 0 if line.startswith("accepted ") else 1, line.encode() + b"\n"
+
+
 def judge(name, litmus, shown, line):
     """What the checker says of a certificate: in a file, and on standard input after the litmus text."""
-    status, text = 0 if line.startswith("accepted ") else 1, line.encode() + b"\n"
+    status, text = answer_of(line)
     with tempfile.NamedTemporaryFile() as file:
         file.write(shown)
         file.flush()

@@ -59,7 +59,7 @@ def member_faults(value, rule, whole):
             yield f"additionalProperties: {name}"
 
 
-# of each keyword whether a value breaks it; the first two are of objects and arrays, and `minimum` and `maximum` of numbers alone
+# of each keyword whether a value breaks it; `pattern` is of strings alone, `minimum` and `maximum` of integers
 BROKEN = {
     "type": lambda value, asked, whole: not typed(value, asked),
     "enum": lambda value, asked, whole: not any(same(value, it) for it in asked),

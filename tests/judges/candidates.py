@@ -5,6 +5,8 @@ A script is the choices of one sketch. One call of the program takes the scripts
 import itertools
 import re
 
+from judges.machine import numbers
+
 EVENT = re.compile(r"Initial\((\d+)\)|Access\((\d+), (\d+)\)")
 ACCESS = re.compile(r"Some\(Access \{ section: \d+, location: (\d+), read: (\w+)(?:\(\d+\))?, written: (\w+)(?:\(\d+\))? \}\)")
 UNIONS = {"s": "Sequential", "l": "Location", "g": "Global"}
@@ -198,7 +200,3 @@ def outcomes(call, code, locations, unions=""):
             raise Refused(told)
         registers = re.findall(r"\[([^\]]*)\]", run[1])
         yield tuple(numbers(it) for it in registers), numbers(run[2])
-
-
-def numbers(listed):
-    return tuple(int(number) for number in listed.split(", ") if number)

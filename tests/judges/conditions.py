@@ -17,32 +17,19 @@ def named(test, outcome):
     return {**values, **dict(zip(test.locations, memory))}
 
 
-def passed_steps(test, fenced, state):
-    """The states after each step of the store buffer machine, with the gap that the step passes, if it passes one."""
-    threads, memory = state
-    for t, (place, flag, registers, waiting) in enumerate(threads):
-        if waiting:
-            yield None, (machine.put(threads, t, (place, flag, registers, waiting[1:])), machine.put(memory, *waiting[0]))
-        if place < len(test.code[t]) and not (waiting and (t, place) in fenced):
-            after = machine.executed(test.code[t][place], threads[t], memory, True)
-            if after:
-                yield (t, place) if waiting and place else None, (machine.put(threads, t, after[0]), after[1])
-
-
 def foreign_run(test, fenced, is_foreign):
     """The gaps that a run with these fenced passes whose outcome is foreign; nothing where there is no such run."""
-    first = tuple((0, False, registers, ()) for registers in test.registers), test.memory
+    first = machine.begun(test)
     before, to_walk = {first: None}, [first]
     while to_walk:
         state = to_walk.pop()
-        if all(place == len(code) and not waiting for (place, _, _, waiting), code in zip(state[0], test.code)):
-            if is_foreign((tuple(registers for _, _, registers, _ in state[0]), state[1])):
-                passed = set()
-                while before[state]:
-                    gap, state = before[state]
-                    passed |= {gap} - {None}
-                return passed
-        for gap, after in passed_steps(test, fenced, state):
+        if machine.has_ended(test, state) and is_foreign(machine.left(state)):
+            passed = set()
+            while before[state]:
+                gap, state = before[state]
+                passed |= {gap} - {None}
+            return passed
+        for gap, after in machine.steps(test, fenced, True, state):
             if after not in before:
                 before[after] = gap, state
                 to_walk.append(after)

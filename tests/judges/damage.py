@@ -8,7 +8,7 @@ from judges.certificate_texts import Node, written
 
 LETTERS = b"0123456789 \nVSOCKPBslgef.x"
 TREES = ("tree", "fenced", "gap_tree")
-PAST = (b"00", b"128", b"1025", b"1025", b"18446744073709551616")
+PAST = (b"00", b"128", b"256", b"1025", b"18446744073709551616")
 
 
 def end_of_tree(nodes, place):

@@ -1,6 +1,6 @@
 """What `fencer` prints with `--json`, compared with what it prints without.
 
-A document is read by Python's json. `differences` names what a document and the text of the same command say differently; the
+A document is read by Python's json. `differs` says whether a document and the text of the same command say different things; the
 examples of docs/formats.md are compared byte for byte with what the program prints (`examples`).
 """
 import itertools

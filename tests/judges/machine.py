@@ -74,17 +74,12 @@ def executed(instruction, thread, memory, buffered):
 
 
 def steps(test, fenced, buffered, state):
-    """The states after each step that is possible: the oldest waiting store of a thread reaches memory, or an instruction is executed."""
-    threads, memory = state
-    for t, thread in enumerate(threads):
-        place, flag, registers, waiting = thread
-        if waiting:
-            location, value = waiting[0]
-            yield put(threads, t, (place, flag, registers, waiting[1:])), put(memory, location, value)
-        if place < len(test.code[t]) and not (waiting and (t, place) in fenced):
-            after = executed(test.code[t][place], thread, memory, buffered)
-            if after:
-                yield put(threads, t, after[0]), after[1]
+    """Each step that is possible, as `stepped` gives it."""
+    for t in range(len(state[0])):
+        for label in (f"f{t}", f"e{t}"):
+            step = stepped(test, fenced, buffered, state, label)
+            if step:
+                yield step
 
 
 def outcomes(test, model, gaps):
@@ -94,7 +89,7 @@ def outcomes(test, model, gaps):
     seen, to_walk, found = {first}, [first], set()
     while to_walk:
         state = to_walk.pop()
-        after = set(steps(test, fenced, model == "buffered", state)) - seen
+        after = {after for _, after in steps(test, fenced, model == "buffered", state)} - seen
         seen |= after
         to_walk += after
         if has_ended(test, state):

@@ -13,7 +13,7 @@ def executed_instructions(test):
     while to_walk:
         state = to_walk.pop()
         found |= {(t, thread[0]) for t, thread in enumerate(state[0]) if thread[0] < len(test.code[t])}
-        after = set(machine.steps(test, set(), False, state)) - seen
+        after = {after for _, after in machine.steps(test, set(), False, state)} - seen
         seen |= after
         to_walk += after
     return found

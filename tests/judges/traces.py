@@ -61,12 +61,6 @@ def rows(test, written, model, labels):
         yield passed, (label, f"P{t}", instruction, reads, waiting or "-", reaches or "-")
 
 
-def cells(test, written, model, labels):
-    """A line of cells for each label of a run."""
-    for _, row in rows(test, written, model, labels):
-        yield row
-
-
 def table(test, canonical, model, labels, marked=None):
     """The lines of the table of a run's labels. The row whose step passes this gap ends with its mark."""
     lines = [(None, HEADINGS), *rows(test, instructions(canonical), model, labels)]

@@ -80,6 +80,7 @@ class Run:
     def __init__(self, document, run):
         self.document, self.run, self.steps = document, run, run["steps"]
         self.gap = run.get("without")
+        self.tie = tie_of(document, self.gap)
         self.where = f"{document['test']} without {self.gap}" if self.gap else f"a run of {document['test']}"
         self.threads = [int(step["label"][1:]) for step in self.steps]
         self.outcome = " ".join(f"{item['name']}={item['value']};" for item in run["outcome"])
@@ -323,6 +324,22 @@ def place_words(document, gap, more=""):
     return f"before {cell['text']} of P{thread} (gap {gap}, line {cell['line']}{more})"
 
 
+def tie_of(document, gap):
+    """The gaps that go together with a gap, itself among them."""
+    return next((tie for tie in document.get("ties", []) if gap in tie), [gap])
+
+
+def tie_words(document, gap):
+    """The instructions after a gap and those that go together with it."""
+    return listed([place_words(document, own).removeprefix("before ") for own in tie_of(document, gap)], " and ")
+
+
+def together(document, gap):
+    """What is said of a fence that stands with others or not at all."""
+    others = [other for other in tie_of(document, gap) if other != gap]
+    return f" with {', '.join(others)}" if others else ""
+
+
 def verdict(run):
     """That no sequential run ends so."""
     if "condition" not in run.document.get("answer", {}):
@@ -359,10 +376,12 @@ def check_run(run, page):
     document, where = run.document, run.where
     gaps = document["answer"]["set"] if run.gap else document.get("fences", [])
     cost = {gap["gap"]: gap["cost"] for gap in document.get("gaps", [])}
-    tabs = [[f"P{gap_place(gap)[0]} {gap}", f"without the fence {place_words(document, gap)}", "true" if gap == run.gap else "false",
-             0 if gap == run.gap else -1] for gap in gaps]
-    same(page["tabs"], tabs if run.gap else [], where + ": tabs")
-    fences = [[gap, f"MFENCE{' left out,' if gap == run.gap else ''}{f' cost {cost[gap]}' if cost else ''}", gap == run.gap, gap] for gap in gaps]
+    left_out = [other["without"] for other in document["runs"]] if run.gap else []
+    tabs = [[", ".join(f"P{gap_place(own)[0]} {own}" for own in tie_of(document, gap)), f"without the fence before {tie_words(document, gap)}",
+             "true" if gap == run.gap else "false", 0 if gap == run.gap else -1] for gap in left_out]
+    same(page["tabs"], tabs, where + ": tabs")
+    fences = [[gap, f"MFENCE{' left out,' if gap in run.tie else ''}{f' cost {cost[gap]}' if cost else ''}{together(document, gap)}", gap in run.tie, gap]
+              for gap in gaps]
     same(page["fences"], fences, where + ": fences, each before its instruction")
     same(page["programs"], programs(document), where + ": program")
     heads = [head for head in HEADS if not (run.sequential and head == "still waits")]
@@ -376,7 +395,7 @@ def check_run(run, page):
     if not run.gap:
         said = f"It passes {', '.join(run.run['passed'])}." if run.run["passed"] else "It passes no gap."
         return same([passed.startswith(said) for passed in page["passed"]], [] if run.sequential else [True], where + ": passed gaps")
-    right(place_words(document, run.gap) in page["title"], where + ": which fence is left out")
+    right(f"{'fence' if len(run.tie) == 1 else 'fences'} before {tie_words(document, run.gap)}" in page["title"], where + ": which fence is left out")
     first = f"step {run.passing + 1}P{gap_place(run.gap)[0]} goes on to {run.text(run.passing)} while"
     found = [moment for moment in page["moments"] if moment.startswith(first)]
     reads = run.steps[run.passing]["reads"]
@@ -386,7 +405,7 @@ def check_run(run, page):
     right(page["moments"][-1].startswith(said), where + ": condition")
     keeps = not alone and run.breaks() is None
     same("fewer fences may be enough: fencer why --condition LITMUS" in page["moments"][-1], keeps, where + ": whether the condition needs fewer")
-    others = [place_words(document, gap, f", cost {cost[gap]}") for gap in run.run["passed"] if gap != run.gap]
+    others = [place_words(document, gap, f", cost {cost[gap]}") for gap in run.run["passed"] if gap not in run.tie]
     same(page["also"], [f"A fence {listed(others, ' or ')} would prevent this run too."] if others else [], where + ": other gaps")
     return None
 

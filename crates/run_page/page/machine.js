@@ -101,7 +101,7 @@ class Machine {
     this.threads.forEach((column, thread) => this.showThread(column, thread, steps));
     const reached = step && step.reaches ? step.reaches.location : null;
     showValues(all(this.memory, ".cell"), state.memory, former.memory, reached);
-    const fence = this.stage.querySelector(".out");
+    const fence = this.stage.querySelector(`.out[data-gap="${this.run.gap}"]`);
     if (fence) {
       fence.classList.toggle("passing", steps > this.run.pass && steps <= this.run.arrival);
     }

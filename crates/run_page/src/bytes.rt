@@ -1062,7 +1062,7 @@ class Machine {\n\
 \x20   this.threads.forEach((column, thread) => this.showThread(column, thread, steps));\n\
 \x20   const reached = step && step.reaches ? step.reaches.location : null;\n\
 \x20   showValues(all(this.memory, \".cell\"), state.memory, former.memory, reached);\n\
-\x20   const fence = this.stage.querySelector(\".out\");\n\
+\x20   const fence = this.stage.querySelector(`.out[data-gap=\"${this.run.gap}\"]`);\n\
 \x20   if (fence) {\n\
 \x20     fence.classList.toggle(\"passing\", steps > this.run.pass && steps <= this.run.arrival);\n\
 \x20   }\n\
