@@ -9,7 +9,7 @@ from concurrent.futures import ThreadPoolExecutor
 from cases.large import EXCHANGES
 from cases.progress import reads
 from harness import (
-    EXAMPLES, FENCECHECK, FENCER, TEST_CALLS, PreloadedCases, bytes_of, called, example, failing_in_turn, in_data, lines, run, same, tell, watched,
+    EXAMPLES, FENCECHECK, FENCER, TEST_CALLS, PreloadedCases, accepting, bytes_of, called, example, failing_in_turn, in_data, lines, run, same, tell, watched,
     without_front, write,
 )
 from judges import documents
@@ -30,8 +30,7 @@ def refused_allocations(library, name, words, given, right, lawful, program=FENC
         found, met = watched(library, nth, words, given, program)
         tell(f"{name}, allocation {nth} refused", found == right or (met and found in lawful), found, f"{right!r}, or a refusal for lack of memory")
         if certified and found == right:
-            accepted = re.sub(rb"^answer ", b"accepted ", right[1].split(b"\n")[0]) + b"\n"
-            same(f"{name}, its certificate with allocation {nth} refused", run(["-", certified, *costs], given, FENCECHECK), (0, accepted))
+            same(f"{name}, its certificate with allocation {nth} refused", run(["-", certified, *costs], given, FENCECHECK), accepting(right[1]))
             os.remove(certified)
         if not met:
             return
@@ -41,7 +40,7 @@ def refused_allocations(library, name, words, given, right, lawful, program=FENC
 def refused_by_number(library, name, words, numbers, given, right, lawful, folder=None):
     """What a command line by several threads answers where one of these allocations is refused, and whether it came; with a folder, also that the certificate
     of an answer is accepted. Which allocation has a number changes from run to run, so each is tried whatever a run met."""
-    accepted = (0, re.sub(rb"^answer ", b"accepted ", right[1].split(b"\n")[0]) + b"\n")
+    accepted = accepting(right[1])
 
     def tried(nth):
         certificate = os.path.join(folder, str(nth)) if folder else ""
@@ -112,15 +111,15 @@ class SurveyTexts:
     """What a survey of files with these blocks and rows may print where memory is refused, with status 1: a block for each file, of which some are refusals, and
     their table; or the first of these blocks alone."""
 
-    def __init__(self, heading, files):
-        self.heading, self.files = heading, files
+    def __init__(self, heading, files, *told):
+        self.heading, self.files, self.lawful = heading, files, lawful_lines("place 5 OutOfMemory", *told)
 
     def __contains__(self, found):
         status, text = found
         table = self.heading
         for name, block, row in self.files:
             refusal = f"file {name}\n".encode()
-            lines = [refusal + line for _, line in lawful_lines("place 5 OutOfMemory") if line and text.startswith(refusal + line)]
+            lines = [refusal + line for _, line in self.lawful if line and text.startswith(refusal + line)]
             if not lines and not text.startswith(block):
                 break
             text = text[len(lines[0] if lines else block):]
@@ -129,15 +128,16 @@ class SurveyTexts:
 
 
 def surveys_refused(library):
-    """A survey of two files."""
+    """A survey of two files, without ties and with them."""
     given, other = example("SB.litmus"), os.path.join(EXAMPLES, "n6.litmus")
-    words = ["survey", "-", other]
-    right = run(words, given)
-    tell("the survey of two files", right[0] == 3, right)
-    blocks, heading, *rows = re.split(rb"^(table .*\n|row .*\n)", right[1], flags=re.M)
-    first, second = re.fullmatch(rb"(file -\n.*)(file .*)", blocks, re.S).groups()
-    rows = [row for row in rows if row]
-    refused_allocations(library, "the survey of two files", words, given, right, SurveyTexts(heading, [("-", first, rows[0]), (other, second, rows[1])]))
+    for options, told in (([], []), (["--ties"], ["costs 5 OutOfMemory"])):
+        words = ["survey", *options, "-", other]
+        name, right = " ".join([*words[:-2], "of two files"]), run(words, given)
+        tell(name, right[0] == 3, right)
+        blocks, heading, *rows = re.split(rb"^(table .*\n|row .*\n)", right[1], flags=re.M)
+        first, second = re.fullmatch(rb"(file -\n.*)(file .*)", blocks, re.S).groups()
+        rows = [row for row in rows if row]
+        refused_allocations(library, name, words, given, right, SurveyTexts(heading, [("-", first, rows[0]), (other, second, rows[1])], *told))
 
 
 def replays_refused(library):
@@ -205,7 +205,7 @@ def placements_refused(library, folder):
 
 
 def certificates_refused(library, folder):
-    """Certificates that are accepted, and one that is refused after its costs are read."""
+    """Certificates of each version that are accepted, and one that is refused after its costs are read."""
     lawful = lawful_lines("certificate 8 OutOfMemory", "costs 5 OutOfMemory", "check 9 OutOfMemory")
     for test, kind, line in (
         ("SB", "", b"accepted cost 2 set 0:1 1:1\n"), ("nothing", "", b"accepted cost 0 set\n"),
@@ -213,6 +213,9 @@ def certificates_refused(library, folder):
     ):
         given = example(test + ".litmus") + example(f"{test}{kind}.cert")
         refused_allocations(library, f"the certificate of {test}{kind}", [], given, (0, line), lawful, FENCECHECK)
+    for test, line in (("bounds", b"accepted cost 2 set 0:1 1:1\n"), ("own-store", b"accepted cost 0 set\n")):
+        words = [in_data("certificates", test + end) for end in (".litmus", ".cert")]
+        refused_allocations(library, f"the certificate of version 4 of {test}", words, b"", (0, line), lawful, FENCECHECK)
     costs = os.path.join(folder, "costs")
     write(costs, b"0:1 5\n1:1 2\n")
     words = [os.path.join(EXAMPLES, file) for file in ("SB.litmus", "SB.cert")]
@@ -275,7 +278,7 @@ class Memory(PreloadedCases):
         replays_refused(self.library)
 
     def test_surveys(self):
-        """A survey of two files."""
+        """A survey of two files, without ties and with them."""
         surveys_refused(self.library)
 
     def test_large(self):

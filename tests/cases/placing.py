@@ -1,16 +1,23 @@
 """Placing: the sets that `fencer place` answers, that its certificates are accepted, and what it reads and writes."""
 import os
-import re
 import tempfile
 from concurrent.futures import ThreadPoolExecutor
 
-from harness import FENCECHECK, LIMIT, Cases, bytes_of, called, example, in_data, judge, lines, run, same, sources_of, tell, without_end, write
+from cases.progress import reads
+from harness import (
+    FENCECHECK, LIMIT, Cases, accepting, bytes_of, called, certificate_of, example, in_data, judge, lines, run, same, sources_of, tell, without_end, write,
+)
 from judges import candidates
 from judges.texts import fenced_text, test_of
 
 WORKERS = ([], ["--workers", "2"], ["--workers", "8"], ["--workers", "32"])
 # a certificate of more bytes than this is long
 LONG = 5_000
+# options, and the version that a certificate then has: by the rule of its trees and what is compared, whatever the program's size
+VERSIONS = (
+    (["--trees", "whole"], 1), (["--trees", "whole", "--observed"], 2), (["--trees", "whole", "--condition"], 2),
+    (["--trees", "early"], 4), (["--trees", "early", "--observed"], 4), (["--trees", "early", "--condition"], 4),
+)
 # where programs stand, where their answers do, with which options, and how the files of the answers end
 ANSWERED = (
     ("replays", "places", [], "place"), ("whole", "whole", [], "place"), ("observed", "observed", [], "place"), ("large", "large", [], "place"),
@@ -27,8 +34,7 @@ def placed(name, litmus, options, printed, costs=None):
         same(f"{name}: {' '.join(options)}", run(["place", *words, litmus]), (0, printed))
         if not os.path.exists(certificate):
             return b""
-        accepted = re.sub(rb"^answer ", b"accepted ", printed.split(b"\n")[0]) + b"\n"
-        same(f"the certificate of {name}", run([litmus, certificate, *([costs] if costs else [])], program=FENCECHECK), (0, accepted))
+        same(f"the certificate of {name}", run([litmus, certificate, *([costs] if costs else [])], program=FENCECHECK), accepting(printed))
         return bytes_of(certificate)
 
 
@@ -47,14 +53,6 @@ def trees_compared(name, litmus, certificate):
         except candidates.Refused as refused:
             fault = refused
         tell(f"the cycles on the way through the {tree} of the certificate of {name}", fault is None, fault)
-
-
-def certificate_of(litmus, options, costs):
-    """The certificate of a placement by one worker."""
-    with tempfile.TemporaryDirectory() as folder:
-        certificate = os.path.join(folder, "certificate")
-        run(["place", *options, *(["--costs", costs] if costs else []), "--certificate", certificate, litmus])
-        return bytes_of(certificate)
 
 
 def worked_examples():
@@ -92,7 +90,7 @@ class Placing(Cases):
                 same(f"{len(shown)} bytes of the certificate of {name}", answer, (1, b"refused certificate 6 Ended\n"))
 
     def test_again(self):
-        """The same answer each time, whatever the threads do first; two store bufferings have the most nodes."""
+        """One answer each time, whatever the threads do first; two store bufferings have the most nodes."""
         for name, file, costs, gaps, line in (
             ("n6", "../../examples/n6.litmus", None, "0", "answer cost 1 set 0:1"),
             ("n6 with a dear gap", "../../examples/n6.litmus", "litmus/n6.costs", "1", "answer cost 1 set 0:2"),
@@ -124,6 +122,16 @@ class Placing(Cases):
             litmus = in_data("litmus", name + ".litmus")
             shown = placed(name, litmus, [], line.encode() + b"\n" + fenced_text(litmus, gaps))
             same(f"the set of the certificate of {name}", shown.split(b"\n")[1:2], [f"set {gaps}".strip().encode()])
+
+    def test_versions(self):
+        """The version of a certificate where a rule of its trees is asked for, of a small program and of a large one."""
+        for name, source in (("store buffering", example("SB.litmus")), ("many reads", reads(5, 5).encode())):
+            with tempfile.TemporaryDirectory() as folder:
+                litmus = os.path.join(folder, "litmus")
+                write(litmus, source)
+                for options, version in VERSIONS:
+                    first = certificate_of(litmus, options).split(b"\n")[0]
+                    same(f"the version of a certificate of {name} by {' '.join(options)}", first, b"FENCECERT %d" % version)
 
     def test_certificate_files(self):
         """Certificate files that can't be written, that are replaced, and of the name -."""

@@ -5,7 +5,7 @@ import subprocess
 import tempfile
 import threading
 
-from harness import FENCER, Cases, bytes_of, example_files, run, same, tell, write
+from harness import FENCER, Cases, bytes_of, example_files, run, said_by, same, tell, write
 from judges import documents, surveys
 from judges.texts import canonical_of, instruction_lines, test_of
 
@@ -113,7 +113,7 @@ class Surveys(Cases):
                 same(f"{' '.join(words)} of {name}", run(words, source), wanted)
 
     def test_allowed(self):
-        """The same programs where an instruction that no sequential run executes is allowed: the status alone is another."""
+        """Programs where an instruction that no sequential run executes is allowed: the status alone is another."""
         for name, source in TEXTS:
             same(f"survey --allow-unexecuted of {name}", run(["survey", "--allow-unexecuted", "-"], source), survey_of([block_of("-", source, True)]))
         statuses = [block_of("-", source, True)[2] for _, source in TEXTS]
@@ -161,7 +161,7 @@ class Surveys(Cases):
         same(f"how many documents {names} have", len(found), len(names))
         for (name, source, refused), document in zip(files, found):
             if refused:
-                wrong = documents.refusal_differs(document, refused + "\n")
+                wrong = documents.refusal_differs(document, refused + "\n") or json.loads(document)["file"] != name
             else:
                 wrong = surveys.document_differs(document, name, test_of(source), canonical_of(source), instruction_lines(source.decode()))
             tell(f"the document of {name}", not wrong, document)
@@ -183,8 +183,7 @@ class Surveys(Cases):
                 file = os.path.join(folder, name)
                 write(file, source)
                 for options, wanted in (([], f"fencer: {file}: no sequential run executes {said}\n" if said else ""), (["--allow-unexecuted"], "")):
-                    told = subprocess.run([FENCER, "survey", *options, file], capture_output=True).stderr.decode()
-                    found = [line for line in told.splitlines(keepends=True) if "no sequential run executes" in line]
+                    found = [line for line in said_by(["survey", *options, file]).splitlines(keepends=True) if "no sequential run executes" in line]
                     same(f"what a survey {' '.join(options)} of {name} says", "".join(found), wanted)
 
     def test_verdicts(self):
@@ -192,9 +191,21 @@ class Surveys(Cases):
         for name, source, said in (("fails", FAILS, "what must not happen (x=1) happens without store buffers too: no fence mends it"), ("one", ONE_INSTRUCTION, "")):
             with tempfile.NamedTemporaryFile() as file:
                 write(file.name, source)
-                told = subprocess.run([FENCER, "survey", file.name], capture_output=True).stderr.decode()
-                found = [line for line in told.splitlines(keepends=True) if "store buffers" in line]
+                found = [line for line in said_by(["survey", file.name]).splitlines(keepends=True) if "store buffers" in line]
                 same(f"what a survey of {name} says of its condition", "".join(found), f"fencer: {file.name}: {said}\n" if said else "")
+
+    def test_names(self):
+        """A file's name with a LF and an ESC: it stands on standard output as it is given, and each line of standard error has `\\xHH` for these bytes."""
+        with tempfile.TemporaryDirectory() as folder:
+            name = os.fsencode(os.path.join(folder, "a\nb\x1bc"))
+            shown = name.replace(b"\n", b"\\x0a").replace(b"\x1b", b"\\x1b")
+            for kind, source, count in (("fails", FAILS, 2), ("jumped", JUMPED, 3), ("refused", b"X87 A\n", 1)):
+                write(name, source)
+                ran = subprocess.run([FENCER, "survey", name], capture_output=True)
+                lines = ran.stderr.split(b"\n")
+                same(f"how many lines about a file that {kind} name it", sum(shown in line for line in lines), count)
+                tell(f"no line about a file that {kind} has a control byte", all(byte >= 32 for line in lines for byte in line), ran.stderr)
+                tell(f"the block of a file that {kind} names it as it is given", ran.stdout.startswith(b"file " + name + b"\n"), ran.stdout)
 
     def test_ties(self):
         """With --ties the answers are those of `place` with the cost file of `gaps --ties --tries`, and all else is as without; standard error says where the
@@ -227,7 +238,7 @@ class Surveys(Cases):
         for name, source, words in (("one", dict(TEXTS)["one"], None), ("idle", IDLE, "the condition names cs, which no instruction reads or writes")):
             with tempfile.NamedTemporaryFile() as file:
                 write(file.name, source)
-                said = [subprocess.run([FENCER, command, file.name], capture_output=True).stderr.decode() for command in ("survey", "outcomes")]
+                said = [said_by([command, file.name]) for command in ("survey", "outcomes")]
             others = [line for line in said[0].splitlines(keepends=True) if not line.startswith("fencer: ")]
             same(f"the slips that a survey of {name} names", "".join(others), said[1])
             tell(f"the slip of {name}", words is None or words in said[1], said)
