@@ -1,4 +1,4 @@
-"""Waits: how many functions of each crate take a handle for waiting, and so are not proved to end, as crates.txt and docs/promises.md count them.
+"""Waits: how many functions of each crate take a handle for waiting, and so are not proved to end, as crates.txt counts them and docs/promises.md names the crates.
 
 Functions are counted as the prover counts them: those with the bound `Wait`, which the signature or the block around it writes, and the `main` of a program
 that has such functions. `rt verdict` refuses a crate whose line of crates.txt has another number; `rt ci` does not ask.
@@ -12,15 +12,6 @@ from harness import TOP, Cases, bytes_of, same
 # the head of a block, its end, or the signature of a function, up to its first brace
 HEAD = re.compile(r"^(?:pub(?:\([^)]*\))? )?(?:impl|trait)\b[^{;]*|^\}|\bfn \w+[^{;]*", re.M)
 WAIT = re.compile(r"\bWait\b")
-ONES = "no one two three four five six seven eight nine ten eleven twelve thirteen fourteen fifteen sixteen seventeen eighteen nineteen".split()
-TENS = "- - twenty thirty forty fifty sixty seventy eighty ninety".split()
-
-
-def in_words(number):
-    """A number below 100 as documents spell it."""
-    if number < 20:
-        return ONES[number]
-    return TENS[number // 10] + ("-" + ONES[number % 10] if number % 10 else "")
 
 
 def waiting_in(text):
@@ -59,12 +50,8 @@ class Waits(Cases):
                 same(f"how many functions of {crate} take a handle for waiting", number, waiting_of(crate))
 
     def test_promises(self):
-        """docs/promises.md spells these numbers, and the sum of those that are not of the tests."""
-        begin = bytes_of(os.path.join(TOP, "docs", "promises.md")).decode().partition("\n## ")[0]
-        spelled = {crate: word for word, crate in re.findall(r"([\w-]+) of `(\w+)`", begin)}
-        for crates in listed():
-            for crate in crates:
-                if waiting_of(crate):
-                    same(f"docs/promises.md counts those of {crate}", spelled.get(crate), in_words(waiting_of(crate)))
-        own = sum(map(waiting_of, next(listed())))
-        same("docs/promises.md counts all of them", re.findall(r"([\w-]+) functions that take a handle for waiting", begin), [in_words(own)])
+        """docs/promises.md names the crates that have such functions, and no others."""
+        page = bytes_of(os.path.join(TOP, "docs", "promises.md")).decode()
+        named = page.partition("but for functions of ")[2].partition("that take a handle for waiting")[0]
+        own, of_tests = ([crate for crate in crates if waiting_of(crate)] for crates in listed())
+        same("docs/promises.md names the crates with functions that wait", re.findall(r"`(\w+)`", named), own + of_tests)

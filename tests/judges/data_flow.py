@@ -1,4 +1,4 @@
-"""What flows through a program, worked out here alone, as docs/definitions.md says it (*Early trees*): which loads are dead, and which values a location may hold."""
+"""What flows through a program, worked out here alone, as docs/definitions.md says it (*Data flow*): which loads are dead, and which values a location may hold."""
 import copy
 
 from judges import machine
