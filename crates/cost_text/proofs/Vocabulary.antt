@@ -30,7 +30,7 @@ pub use Rattle.cost_text.specs.CostTexts.{AreAt, AreRefused, Entry, GiveCosts, I
 pub use Rattle.cost_text.specs.CostTexts.{SaysNothing, StandsAt, blank, costs_of, entry, entry_of, gaps_of, is_of, least_of, lines_of, name_said, none, said_of, ties_of}
 pub use Rattle.cost_text.specs.Internal.LineReading.{AreAllDigits, LineDigits, PlaceDigits, ReadsLine, ReadsPlaces, after_line_spaces, begun, ended, place_of, said_by}
 unfoldable pub use Rattle.cost_text.specs.Internal.LineReading.{after_blanks, after_colon, digits_at, place_at}
-pub use Rattle.cost_text.specs.Internal.TextReading.{AreGathered, ArePlaced, IsCostTable, IsLineOf, IsNewEntry, IsTableOfLines, LacksGap, cost_in, cost_or_fault, digits_of, entry_at, has_no_ties, kept, name_in, names_in, no_gaps, with_gap}
+pub use Rattle.cost_text.specs.Internal.TextReading.{AreGathered, ArePlaced, IsCostTable, IsLineOf, IsNewEntry, IsTableOfLines, LacksGap, cost_in, cost_or_fault, digits_of, entry_at, has_no_ties, kept, name_in, names_in, with_gap}
 pub use Rattle.cost_text.specs.declared.entry.CostEntry.{CostEntry}
 pub use Rattle.cost_text.specs.declared.entry.PlacedGaps.{PlacedGaps}
 pub use Rattle.cost_text.specs.declared.fault.CostTextFault.{CostTextFault}
