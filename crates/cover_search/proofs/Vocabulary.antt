@@ -25,7 +25,6 @@ pub use Rattle.cover_judge.proofs.SketchesAfter.{moved}
 pub use Rattle.tree_laws.specs.CoverTrees.{sketch_with, AreValidCovers, IsValidCover, MustEndAsNumber, event_of}
 pub use Rattle.cover_judge.specs.Judged.{IsValidAt}
 pub use Rattle.tree_laws.specs.declared.choice.Choice.{Choice}
-pub use Rattle.run_maker.specs.declared.run.MadeRun.{MadeRun}
 pub use Rattle.rowless_sketches.specs.Completions.{MustEndSo, NeedNotEnd}
 pub use Rattle.exec_axioms.specs.Cycles.{IsSimpleCycle}
 pub use Rattle.program_sketches.specs.FewAccesses.{AreFewAccesses, HasSmallNumbers}
@@ -33,14 +32,13 @@ pub use Rattle.program_sketches.specs.Kept.{IsLawful}
 pub use Rattle.program_sketches.specs.ProgramSketches.{ProgramSketch, access_in, mode_in, nothing_chosen, trace_in, with_chosen}
 pub use Rattle.program_sketches.specs.Sizes.{HaveAllRegisters, choice_count, most_choices}
 pub use Rattle.tso_machine.specs.Modes.{machine_of_mode}
-pub use Rattle.tso_program.specs.Shown.{asked, show}
+pub use Rattle.tso_program.specs.Shown.{asked}
 pub use Rattle.tso_program.specs.declared.listing.Listing.{Listing}
 pub use Rattle.tso_program.specs.declared.outcome.Outcome.{Outcome}
 pub use Rattle.tso_program.specs.declared.shown.Shown.{Shown}
 pub use Rattle.cover_search.specs.Covers.{HasNumber, AreCoversAfter, IsCoverAfter, IsCoverAt, IsEndNotListed, IsLeafAt, node_over, tree_over}
 pub use Rattle.tree_laws.specs.Covers.{AreNeat, IsNeat, IsWholeCover}
 pub use Rattle.cover_search.specs.Pushing.{Pushes}
-pub use Rattle.cover_search.specs.ShownRuns.{IsShownRunOf}
 pub use Rattle.exec_axioms.proofs.Completeness.{first_there, read_there, second_there}
 pub use Rattle.rowless_sketches.proofs.Ends.{thread_within}
 pub use Rattle.thread_traces.proofs.KnownParts.{not_by}
