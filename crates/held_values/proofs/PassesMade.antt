@@ -107,9 +107,6 @@ module _ (p : Listing) (v t : ℕ) (from holders : List Bool) (rows : List (List
 
 -- ---- what all threads give
 
-pub all_begin : (p : Listing) (v : ℕ) (holders : List Bool) → IsPassed p v 0 holders holders
-all_begin p v holders = record { long = refl; sound = λ a. a; kept = λ l h. h; each = λ t low. absurd (omega (arith, low)) }
-
 pub all_step : (p : Listing) (v n : ℕ) (holders more next : List Bool) → IsPassed p v n holders more → IsPassedOn p v n holders more next → IsPassed p v (n + 1) holders next
 all_step p v n holders more next h one = record {
   long = one.long ∙ h.long;
