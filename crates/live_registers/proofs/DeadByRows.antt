@@ -1,5 +1,5 @@
 -- The tables of live registers give the dead loads.
-use Rattle.std.proofs.Common.{◌≡◌, ◌↔◌, not, ℕ, zero, suc, ◌+◌, ◌<◌, Bool, true, false, List, [], ◌∷◌, ◌++◌, length, Option, Some, refl, ap, ◌∙◌, arith, slice_index_or}
+use Rattle.std.proofs.Common.{◌≡◌, ◌↔◌, not, ℕ, ◌+◌, ◌<◌, Bool, true, false, List, [], ◌∷◌, length, Option, Some, refl, ap, ◌∙◌, arith, slice_index_or}
 use Rattle.std.proofs.lemmas.Option.{slice_get_within}
 use Rattle.tso_program.specs.declared.instruction.Instr.{Instr}
 use Rattle.tso_program.specs.declared.instruction.Instr.TheVariants.{Load}
@@ -39,10 +39,3 @@ module _ (p : Listing) (shown : Shown) (tables : List (List (List Bool))) (are :
 
 pub all_dead : (p : Listing) (shown : Shown) (tables : List (List (List Bool))) → AreLiveTables p shown tables → AreAllDead p shown (dead_by p tables)
 all_dead p shown tables are t k = dead_is p shown tables are t k
-
--- one table more
-pub one_more : {A : Type 0} (P : ℕ → A → Type 0) (xs : List A) (x d : A) → ((u : ℕ) → u < length xs → P u (slice_index_or xs u d)) → P (length xs) x → (u : ℕ) → u < length xs + 1 → P u (slice_index_or (xs ++ x ∷ []) u d)
-one_more P [] x d old new zero h = new
-one_more P [] x d old new (suc u) h = absurd (omega arith)
-one_more P (y ∷ ys) x d old new zero h = old zero (omega arith)
-one_more P (y ∷ ys) x d old new (suc u) h = one_more (λ n. P (suc n)) ys x d (λ n less. old (suc n) (omega arith)) new u (omega arith)
