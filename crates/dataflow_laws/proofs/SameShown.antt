@@ -26,7 +26,7 @@ use Rattle.dataflow_laws.specs.DeadLoads.{Places, drop_loads}
 use Rattle.dataflow_laws.proofs.DroppedPlaces.{same_count}
 use Rattle.dataflow_laws.proofs.SameSteps.{Alike}
 
--- the same registers where what is shown may depend on them
+-- registers hold equal values where what is shown may depend on them
 record SameTold (shown : Shown) (t : ℕ) (xs ys : List ℕ) : Type 0 where
   pub long : length xs ≡ length ys
   pub held : (i : ℕ) → Tells shown t i → slice_index xs i ≡ slice_index ys i
