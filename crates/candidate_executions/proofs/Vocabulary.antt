@@ -16,19 +16,19 @@ pub use Rattle.tso_machine.specs.Machine.{HasEnded, IsRun, Machine, SequentialMa
 pub use Rattle.tso_machine.specs.Machine.{run, start, step, when_empty}
 pub use Rattle.tso_machine.specs.declared.label.Label.{Label, TheVariants.Exec, TheVariants.Flush}
 pub use Rattle.tso_machine.specs.declared.label.Pending.{Pending}
-pub use Rattle.tso_machine.specs.Actions.{act, jumped, loaded}
-pub use Rattle.tso_machine.specs.Fences.{Gaps}
-pub use Rattle.tso_machine.specs.Instructions.{number}
-pub use Rattle.tso_machine.specs.Limits.{JumpForward}
-pub use Rattle.tso_machine.specs.Listings.{action, code_of, instr_at, start_of}
-pub use Rattle.tso_machine.specs.Action.{Action, TheVariants.Go, TheVariants.Read, TheVariants.Stop, TheVariants.Swap, TheVariants.Wait, TheVariants.Write}
-pub use Rattle.tso_machine.specs.Local.{Local}
-pub use Rattle.tso_machine.specs.Instr.{Instr}
-pub use Rattle.tso_machine.specs.Instr.TheVariants.{Copy, Je, Jmp, Jne, LoadImm, Store, StoreImm, Xchg}
-pub use Rattle.tso_machine.specs.Reg.{Reg}
-pub use Rattle.tso_machine.specs.Listing.{Listing}
-pub use Rattle.tso_machine.specs.Thread.{Thread}
-pub use Rattle.tso_machine.specs.Outcome.{Outcome}
+pub use Rattle.tso_program.specs.Actions.{act, jumped, loaded}
+pub use Rattle.tso_program.specs.Fences.{Gaps}
+pub use Rattle.tso_program.specs.Instructions.{number}
+pub use Rattle.tso_program.specs.Limits.{JumpForward}
+pub use Rattle.tso_program.specs.Listings.{action, code_of, instr_at, start_of}
+pub use Rattle.tso_program.specs.declared.action.Action.{Action, TheVariants.Go, TheVariants.Read, TheVariants.Stop, TheVariants.Swap, TheVariants.Wait, TheVariants.Write}
+pub use Rattle.tso_program.specs.declared.action.Local.{Local}
+pub use Rattle.tso_program.specs.declared.instruction.Instr.{Instr, TheVariants.Copy, TheVariants.Je, TheVariants.Jmp, TheVariants.Jne, TheVariants.LoadImm, TheVariants.Store, TheVariants.StoreImm}
+pub use Rattle.tso_program.specs.declared.instruction.Instr.{TheVariants.Xchg}
+pub use Rattle.tso_program.specs.declared.instruction.Reg.{Reg}
+pub use Rattle.tso_program.specs.declared.listing.Listing.{Listing}
+pub use Rattle.tso_program.specs.declared.listing.Thread.{Thread}
+pub use Rattle.tso_program.specs.declared.outcome.Outcome.{Outcome}
 pub use mathlib.Core.Path.{fun_ext}
 pub use Rattle.candidate_executions.specs.Candidates.{Candidate, EndsWith, HasOutcome, HasShownOutcome, IsCandidate, Writes, access, access_by, trace_of}
 pub use Rattle.candidate_executions.specs.Consistency.{Edge, FromReads, IsAcyclic, IsConsistent, IsCycle, IsOfMode, KeepsOrder, Leads, Precedes, ReadsFrom, Relates, SameThread, WriteOrder}
@@ -41,9 +41,9 @@ pub use Rattle.candidate_executions.specs.Paths.{IsFenceOrExchange, IsParted, Is
 pub use Rattle.candidate_executions.specs.RunCandidates.{ArriveInOrder, Arrives, IsCandidateOf, IsStored, Mark, Origins, ReadsValue, Takes, buffered_marks, buffered_origins, direct_marks}
 pub use Rattle.candidate_executions.specs.RunCandidates.{direct_origins, first_origins, flushed_marks, flushed_origins, found_write, marks, marks_at, marks_of, origins_after, with_made, with_memory}
 pub use Rattle.candidate_executions.specs.RunCandidates.{with_waiting}
+pub use Rattle.candidate_executions.specs.Settled.{IsOfOther, IsSettled, MayStillWrite, MayStore}
 pub use Rattle.candidate_executions.specs.Sketches.{Completes, IsBefore, IsConsistentCompletion, IsKnownCycle, IsPair, IsPrefixOf, IsSketch, IsSourceOf, IsWhole, KnownEdge, KnownEdgeOfMode}
 pub use Rattle.candidate_executions.specs.Sketches.{KnownFromReads, KnownRelates, Sketch, empty_sketch, given_to, next_read, read_by, with_pair, with_source, with_value}
-pub use Rattle.candidate_executions.specs.Settled.{IsOfOther, IsSettled, MayStillWrite, MayStore}
 pub use Rattle.candidate_executions.specs.Traces.{Trace, entered, exchange_of, fenced_gaps, load_of, stopped, store_of, trace, trace_by, traced, with_access}
 pub use Rattle.candidate_executions.specs.Values.{IsHeldValue, IsKnown, IsValueOf}
 pub use Rattle.candidate_executions.specs.declared.access.Access.{Access}

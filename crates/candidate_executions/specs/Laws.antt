@@ -1,11 +1,11 @@
 -- What ties candidate executions to the machines, and what shows how their definitions are to be read.
 use Rattle.std.specs.Prelude.{◌≡◌, ◌≢◌, ◌↔◌, ◌⊎◌, ℕ, ◌<◌, ◌≤◌, ◌+◌, ◌*◌, List, Some, None, IsSome, Contains, length}
-use Rattle.tso_machine.specs.Listing.{Listing}
-use Rattle.tso_machine.specs.Outcome.{Outcome}
-use Rattle.tso_machine.specs.Question.{Question}
-use Rattle.tso_machine.specs.Listings.{action, code_of}
-use Rattle.tso_machine.specs.Limits.{JumpForward}
-use Rattle.tso_machine.specs.Fences.{Gaps}
+use Rattle.tso_program.specs.declared.listing.Listing.{Listing}
+use Rattle.tso_program.specs.declared.outcome.Outcome.{Outcome}
+use Rattle.tso_program.specs.declared.question.Question.{Question}
+use Rattle.tso_program.specs.Listings.{action, code_of}
+use Rattle.tso_program.specs.Limits.{JumpForward}
+use Rattle.tso_program.specs.Fences.{Gaps}
 use Rattle.tso_machine.specs.declared.label.Label.{Label}
 use Rattle.tso_machine.specs.Machine.{Machine, StoreBufferMachine, IsRun}
 use Rattle.candidate_executions.specs.declared.access.Access.{Access}
