@@ -19,7 +19,7 @@ use Rattle.tso_program.specs.Tree.{Tree}
 use Rattle.tso_program.specs.Tree as tree
 use Rattle.tso_program.specs.Truth.{truth, final_register, is_value}
 use Rattle.tso_machine.specs.Machine.{State, outcome_at}
-use Rattle.tso_machine.proofs.Kept.{registers_long, register_at, registers_by, same_threads, by_values}
+use Rattle.tso_program.proofs.Kept.{registers_long, register_at, registers_by, same_threads, by_values}
 use Rattle.tso_machine.proofs.FencedActions.{stops_at_none}
 use Rattle.dataflow_laws.specs.Liveness.{Tells, TheEnd}
 use Rattle.dataflow_laws.specs.DeadLoads.{Places, drop_loads}
