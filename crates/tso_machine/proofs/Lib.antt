@@ -38,6 +38,3 @@ pub mod TrueNames
 pub mod BestAllowed
 pub mod HeadlineIsTheAnswer
 pub mod PartsServed
--- words of the crates below, passed on
-pub use Rattle.tso_program.proofs.Kept
-pub use Rattle.tso_program.proofs.KnownTruths
