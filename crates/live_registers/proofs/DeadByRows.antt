@@ -28,14 +28,14 @@ module _ (p : Listing) (shown : Shown) (tables : List (List (List Bool))) (are :
       (r, l, at, λ live. not_both (in_row after (number r)) e ((exact (k + 1) (number r) (omega arith) (omega arith) (small_number r)).1 live))
   dead o at e = absurd cc
 
-  told : IsDeadLoad p shown t k → is_dead (instr_at p.threads t k) after ≡ true
-  told (r, l, at, none) =
+  back : IsDeadLoad p shown t k → is_dead (instr_at p.threads t k) after ≡ true
+  back (r, l, at, none) =
       let exact = (are.each t (thread_there p.threads t k (Load r l) at)).exact in
       let within : k < length (code_of p.threads t) = slice_get_within (code_of p.threads t) k (Load r l) at in
       ap (λ o. is_dead o after) at ∙ not_of (in_row after (number r)) (λ b. none ((exact (k + 1) (number r) (omega arith) (omega arith) (small_number r)).0 b))
 
   pub dead_is : (dead_by p tables t k ≡ true) ↔ IsDeadLoad p shown t k
-  dead_is = (λ e. dead (instr_at p.threads t k) refl e, told)
+  dead_is = (λ e. dead (instr_at p.threads t k) refl e, back)
 
 pub all_dead : (p : Listing) (shown : Shown) (tables : List (List (List Bool))) → AreLiveTables p shown tables → AreAllDead p shown (dead_by p tables)
 all_dead p shown tables are t k = dead_is p shown tables are t k

@@ -14,7 +14,7 @@ use Rattle.tso_program.specs.Listings.{code_of, instr_at}
 use Rattle.tso_machine.specs.Effects.{Sets, LeadsTo}
 use Rattle.dataflow_laws.specs.Liveness.{Uses, Live}
 use Rattle.dataflow_laws.proofs.LiveByPass.{told_by_what_follows, told_at_the_end}
-use Rattle.live_registers.specs.LiveRows.{is_used, is_set, falls, in_row, live_bit, AreTold, AreLiveFrom}
+use Rattle.live_registers.specs.LiveRows.{is_used, is_set, falls, in_row, live_bit, AreShown, AreLiveFrom}
 
 or_is : (a b : Bool) → ((a || b) ≡ true) → (a ≡ true) ⊎ (b ≡ true)
 or_is true b e = inl refl
@@ -132,15 +132,15 @@ module _ (p : Listing) (shown : Shown) (t k : ℕ) (x : Instr) (at : instr_at p.
 
 module _ (p : Listing) (shown : Shown) (t : ℕ) where
   -- at first each row has what counts at the end, which is exact there
-  pub rows_begin : (told : List Bool) (rows : List (List Bool)) (n : ℕ) → AreTold shown t told → n ≡ length (code_of p.threads t) → ((j : ℕ) → j ≤ n → slice_index_or rows j [] ≡ told) →
+  pub rows_begin : (row : List Bool) (rows : List (List Bool)) (n : ℕ) → AreShown shown t row → n ≡ length (code_of p.threads t) → ((j : ℕ) → j ≤ n → slice_index_or rows j [] ≡ row) →
       AreLiveFrom p shown t n rows
-  rows_begin told rows n are long same j i from to few =
+  rows_begin row rows n are long same j i from to few =
       let e : j ≡ n = omega arith in
       let none : instr_at p.threads t j ≡ None = slice_get_past (code_of p.threads t) j (omega arith) in
       let is = are i few in
       let ends = told_at_the_end p shown t j i none in
-      let row : slice_index_or rows j [] ≡ told = same j (omega arith) in
-      (λ b. ends.1 (is.0 (ap (λ r. in_row r i) (sym row) ∙ b)), λ live. ap (λ r. in_row r i) row ∙ is.1 (ends.0 live))
+      let last : slice_index_or rows j [] ≡ row = same j (omega arith) in
+      (λ b. ends.1 (is.0 (ap (λ r. in_row r i) (sym last) ∙ b)), λ live. ap (λ r. in_row r i) last ∙ is.1 (ends.0 live))
 
   -- one row more
   pub rows_step : (k : ℕ) (x : Instr) (rows : List (List Bool)) (row target : List Bool) → instr_at p.threads t k ≡ Some x → k < length (code_of p.threads t) → length rows ≡ length (code_of p.threads t) + 1 →
