@@ -1,6 +1,6 @@
 -- What many proofs of this crate speak of, imported once.
 pub use Rattle.std.proofs.Common.{Bool, Contains, IsSome, List, None, Option, Some, [], ap, append-nil, append_assoc, ap₂, arith, cond, drop, eq-eqb, eqb-true, false, get_or, if◌then◌else◌, inl, inr}
-pub use Rattle.std.proofs.Common.{length, length-append, length-set, lit<, map, ne_eqb, not, option_and_then, option_map, refl, set, slice_get, slice_index, subst, suc, sym, take, true, zero, ℕ, ◌*◌}
+pub use Rattle.std.proofs.Common.{length, length-append, length-set, lit<, map, ne_eqb, not, option_and_then, option_map, refl, set, slice_get, slice_index, subst, suc, sym, take, true, zero, ℕ}
 pub use Rattle.std.proofs.Common.{◌++◌, ◌+◌, ◌-◌, ◌<◌, ◌==◌, ◌↔◌, ◌∙◌, ◌∷◌, ◌≡◌, ◌≢◌, ◌≤◌, ◌⊎◌}
 pub use Rattle.std.proofs.lemmas.Bool.{cases_eq, cases_lt, cases_order, eqb-false}
 pub use Rattle.std.proofs.lemmas.Grind.{same_number_lists}
@@ -34,7 +34,7 @@ pub use Rattle.candidate_executions.specs.Candidates.{Candidate, EndsWith, HasOu
 pub use Rattle.candidate_executions.specs.Consistency.{Edge, FromReads, IsAcyclic, IsConsistent, IsCycle, IsOfMode, KeepsOrder, Leads, Precedes, ReadsFrom, Relates, SameThread, WriteOrder}
 pub use Rattle.candidate_executions.specs.Laws.{AKnownCycleIsACycle, AKnownEdgeIsAnEdge, APairKeepsASketch, ASourceKeepsASketch, AValueKeepsASketch, ConsistentCandidatesReadHeldValues, CyclesAreOfAccesses, EachCompletionEndsSo}
 pub use Rattle.candidate_executions.specs.Laws.{EachCompletionHasASettledSource, EachCompletionHasASource, EachCompletionHasAValue, EachCompletionHasAnOrder, EachCompletionHasTheValues, EachConsistentCompletionHasAHeldValue, EmptyIsASketch, EveryCandidateCompletesEmpty}
-pub use Rattle.candidate_executions.specs.Laws.{EveryCandidateIsARun, EveryOrderIsARun, EveryRunIsACandidate, EveryRunIsACompletion, EveryRunIsShort, HasItsCandidate, HeldValuesAreValues, KeptOrderIsTold}
+pub use Rattle.candidate_executions.specs.Laws.{EveryCandidateIsARun, EveryOrderIsARun, EveryRunIsACandidate, EveryRunIsACompletion, HasItsCandidate, HeldValuesAreValues, KeptOrderIsTold}
 pub use Rattle.candidate_executions.specs.Laws.{KnownCyclesAreOfAccesses, NoEdgeLeadsIntoInitial, NoKnownEdgeLeadsIntoInitial, OutcomesAreOne, ReadsHeldValues, SectionsTellFences, WholeSketchesAreSettled}
 pub use Rattle.candidate_executions.specs.Orders.{IsOrder, Steps, counted, execs, flush_of, flushes, followed_union, labels_along, made_at, steps, steps_by, to_ends}
 pub use Rattle.candidate_executions.specs.Paths.{IsFenceOrExchange, IsParted, IsStepOf, LiesBetween, executed, is_access, path, path_of}

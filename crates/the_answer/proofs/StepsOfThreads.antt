@@ -3,8 +3,8 @@ use Rattle.the_answer.proofs.Vocabulary.{◌≡◌, ℕ, zero, suc, ◌<◌, ◌
 use Rattle.the_answer.proofs.Vocabulary.{Machine, SequentialMachine, StoreBufferMachine, no_gaps, State, step, longest, RunsAreBounded}
 use Rattle.std.proofs.Math.Nat.{le-max_left, le-max_right}
 use Rattle.tso_program.specs.{declared.instruction.Instr.Instr, declared.listing.Thread.Thread}
-use Rattle.candidate_executions.proofs.{Candidates.AllEvents.no_code, FromRuns.RunsAreShort.run_bound}
-use Rattle.tso_machine.proofs.{ChangedAt.put_other, EitherMachine.mode_with, EitherMachine.made, EitherMachine.others_keep, EitherMachine.stands_at, EitherMachine.stored, EitherMachine.flush_made}
+use Rattle.candidate_executions.proofs.Candidates.AllEvents.{no_code}
+use Rattle.tso_machine.proofs.{RunsAreShort.run_bound, ChangedAt.put_other, EitherMachine.mode_with, EitherMachine.made, EitherMachine.others_keep, EitherMachine.stands_at, EitherMachine.stored, EitherMachine.flush_made}
 
 -- nothing waits in the buffers of threads that the program has not
 abbrev pub NoOtherThread : Listing → State → Type 0
