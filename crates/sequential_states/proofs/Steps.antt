@@ -1,12 +1,12 @@
 -- The lists that the code keeps, seen as the machine's functions, and which threads have a step.
 use Rattle.sequential_states.proofs.Vocabulary.{◌≡◌, ℕ, suc, ◌<◌, ◌≤◌, List, [], ◌∷◌, Option, Some, None, MatchOption, length, map, refl, sym, ap, ◌∙◌, subst, inl, inr, cases_lt, slice_index, slice_index_or}
 use Rattle.sequential_states.proofs.Vocabulary.{Action, Stop, Thread, Listing, action, Exec, SequentialMachine, State, direct, start, step, fun_ext, no_action}
-use Rattle.sequential_states.proofs.Vocabulary.{Shot, no_local, state_of, first_local, first_shot, FitsProgram, IsStep, HasNoStep, IsAtEnd}
+use Rattle.sequential_states.proofs.Vocabulary.{Shot, no_local, state_of, thread_start, first_shot, FitsProgram, IsStep, HasNoStep, IsThreadAtEnd}
 
 abbrev no_thread : Thread
 no_thread = record { code = []; registers = [] }
 
-first_at : (threads : List Thread) (t : ℕ) → slice_index_or (map first_local threads) t no_local ≡ first_local (slice_index_or threads t no_thread)
+first_at : (threads : List Thread) (t : ℕ) → slice_index_or (map thread_start threads) t no_local ≡ thread_start (slice_index_or threads t no_thread)
 first_at (x ∷ xs) (suc t) = first_at xs t
 first_at threads t = refl
 
@@ -15,11 +15,11 @@ pub state_of_first : (p : Listing) → state_of (first_shot p) ≡ start p
 state_of_first p = λ i. record { locals = (fun_ext (first_at p.threads)) i; buffers = λ t. []; memory = slice_index p.memory }
 
 -- a thread that does nothing has no step
-pub no_step : (p : Listing) (s : Shot) (t : ℕ) → IsAtEnd p s t → HasNoStep p s t
+pub no_step : (p : Listing) (s : Shot) (t : ℕ) → IsThreadAtEnd p s t → HasNoStep p s t
 no_step p s t e = ap (direct (state_of s) t) e
 
 -- and a thread that has none does nothing
-pub at_end : (p : Listing) (s : Shot) (t : ℕ) → HasNoStep p s t → IsAtEnd p s t
+pub at_end : (p : Listing) (s : Shot) (t : ℕ) → HasNoStep p s t → IsThreadAtEnd p s t
 at_end p s t e = go (action p.threads t ((state_of s).locals t)) e
   where
     go : (a : Action) → direct (state_of s) t a ≡ None → a ≡ Stop
@@ -27,7 +27,7 @@ at_end p s t e = go (action p.threads t ((state_of s).locals t)) e
     go a h = absurd cc
 
 -- a thread that is not there is at its end
-pub past_end : (p : Listing) (s : Shot) (t : ℕ) → FitsProgram p s → length s.locals ≤ t → IsAtEnd p s t
+pub past_end : (p : Listing) (s : Shot) (t : ℕ) → FitsProgram p s → length s.locals ≤ t → IsThreadAtEnd p s t
 past_end p s t fits h = no_action p t ((state_of s).locals t) (subst (λ n. n ≤ t) fits.threads h)
 
 -- a thread that has a step is there

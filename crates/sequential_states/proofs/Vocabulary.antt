@@ -23,8 +23,8 @@ pub use Rattle.tso_machine.proofs.Link.{put_other, put_same}
 pub use Rattle.tso_machine.proofs.Runs.{no_action, no_stores}
 pub use mathlib.Core.Path.{fun_ext}
 pub use Rattle.sequential_states.specs.Executions.{IsAnswer, IsExecuted, IsExecutedBy, IsRunThrough}
-pub use Rattle.sequential_states.specs.Internal.Snapshots.{FitsProgram, HasNoStep, IsStep, Shot, StandsAt, first_local, first_shot, no_local, state_of}
-pub use Rattle.sequential_states.specs.Internal.Lists.{TellsAll, AreReached, ArrivalsLeadBack, GoesOn, HasEach, HasFirst, IsArrival, IsAtEnd, IsBeginning, IsEntry, IsFollowed, IsListed, IsLonger, IsNoted, IsPlaceAt, IsWalk, IsWalkOn, IsWalkTo, LeadTo}
+pub use Rattle.sequential_states.specs.Internal.Snapshots.{FitsProgram, HasNoStep, IsStep, Shot, StandsAt, first_shot, no_local, state_of, thread_start}
+pub use Rattle.sequential_states.specs.Internal.Lists.{AreReached, ArrivalsLeadBack, HasEach, HasFirst, IsArrival, IsBeginning, IsEntry, IsFollowed, IsListed, IsLonger, IsNoted, IsPlaceAt, IsThreadAtEnd, IsWalk, IsWalkOn, IsWalkTo, LeadTo, TellsAll, WalksOn}
 pub use Rattle.sequential_states.specs.declared.listed.Arrival.{Arrival}
 pub use Rattle.sequential_states.specs.declared.listed.Listed.{Listed}
 pub use Rattle.sequential_states.specs.declared.walk.Walk.{Walk}
