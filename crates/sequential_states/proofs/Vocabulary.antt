@@ -4,7 +4,6 @@ pub use Rattle.std.proofs.Common.{option_and_then, refl, reverse, rules, set, su
 pub use Rattle.std.proofs.lemmas.Bool.{and_parts, cases_eq, cases_lt}
 pub use Rattle.std.proofs.lemmas.List.{append-nil, get_or_past, length-append, reverse-append, map_more, map_push, take_all, take_more}
 pub use Rattle.std.proofs.lemmas.Option.{same_Some, slice_get-get_or, slice_get_past, slice_get_read, slice_get_within}
-pub use Rattle.std.specs.Option.{option_map_or}
 pub use Rattle.std.specs.Prelude.{slice_get, slice_index, slice_index_or, MatchOption, IfSome}
 pub use Rattle.tso_program.specs.Actions.{act, jumped, loaded}
 pub use Rattle.tso_program.specs.Limits.{IsWithinLimits, JumpForward}
