@@ -81,7 +81,7 @@ class Litmus:
         return [(thread, at) for thread, code in enumerate(self.threads) for at in range(1, len(code))]
 
     def fenced(self, gaps: list[Gap]) -> Litmus:
-        """The same with an MFENCE in each of these gaps, where a label stands before the fence."""
+        """This program with an MFENCE in each of these gaps, where a label stands before the fence."""
         threads, labels = [], []
         for thread, code in enumerate(self.threads):
             inside = {at for of, at in gaps if of == thread}

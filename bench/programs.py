@@ -34,7 +34,7 @@ def store_bufferings(count):
 
 
 def numbers(seed):
-    """The same numbers for the same seed."""
+    """Numbers that the seed decides."""
     state = seed
     while True:
         state = (state * 6364136223846793005 + 1442695040888963407) % 2**64

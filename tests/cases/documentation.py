@@ -159,7 +159,7 @@ def drawn_run(panel):
 
 
 def run_without(litmus, what):
-    """The same of the run that `fencer why` prints after this line."""
+    """The steps of the run that `fencer why` prints after this line, and the gaps that it passes."""
     printed = run(["why", litmus])[1].decode()
     plain = re.sub(r"  <- \d+:\d+$", "", printed, flags=re.M)
     return drawn_run(re.split(r"^without", plain.partition(what + "\n")[2], flags=re.M)[0])

@@ -126,6 +126,6 @@ class Large(Cases):
                     explained(litmus, options)
 
     def test_asked(self):
-        """The same answers of the programs of `asks.tsv`, most of which are not large."""
+        """The answers of the programs of `asks.tsv`, most of which are not large."""
         for file, _, _ in lines("asks.tsv"):
             placed(os.path.basename(file), in_data(file))

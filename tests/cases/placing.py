@@ -92,7 +92,7 @@ class Placing(Cases):
                 same(f"{len(shown)} bytes of the certificate of {name}", answer, (1, b"refused certificate 6 Ended\n"))
 
     def test_again(self):
-        """The same answer each time, whatever the threads do first; two store bufferings have the most nodes."""
+        """One answer each time, whatever the threads do first; two store bufferings have the most nodes."""
         for name, file, costs, gaps, line in (
             ("n6", "../../examples/n6.litmus", None, "0", "answer cost 1 set 0:1"),
             ("n6 with a dear gap", "../../examples/n6.litmus", "litmus/n6.costs", "1", "answer cost 1 set 0:2"),

@@ -81,7 +81,7 @@ def least_fences(test):
 
 
 def by_the_recipe(threads, model):
-    """The same of the recipe, where no thread found the lock taken; None where something else is printed."""
+    """What the recipe leaves where no thread found the lock taken; None where something else is printed."""
     status, printed = run(["outcomes", "--model", model, "-"], source_of(threads))
     found = set()
     for line in printed.decode().splitlines():

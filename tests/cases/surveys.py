@@ -113,7 +113,7 @@ class Surveys(Cases):
                 same(f"{' '.join(words)} of {name}", run(words, source), wanted)
 
     def test_allowed(self):
-        """The same programs where an instruction that no sequential run executes is allowed: the status alone is another."""
+        """Programs where an instruction that no sequential run executes is allowed: the status alone is another."""
         for name, source in TEXTS:
             same(f"survey --allow-unexecuted of {name}", run(["survey", "--allow-unexecuted", "-"], source), survey_of([block_of("-", source, True)]))
         statuses = [block_of("-", source, True)[2] for _, source in TEXTS]

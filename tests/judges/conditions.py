@@ -42,7 +42,7 @@ def best_set(test, condition):
 
 
 def best_whole_set(test):
-    """The same for whole outcomes."""
+    """The cheapest set of gaps that serves for whole outcomes."""
     return best_set_by(test, lambda outcome: outcome)
 
 

@@ -76,7 +76,7 @@ def ranked(ties, chosen, there):
 
 
 def best_hitting_set(test, ties, ask):
-    """The same where there are too many unions to list them: the best that has a gap of each run found so far is asked about."""
+    """The cheapest union of ties that serves, where there are too many to list them: the best that has a gap of each run found so far is asked about."""
     runs = []
     while True:
         cost, _, gaps = hit(ties, runs, frozenset(), test.gaps(), None)
