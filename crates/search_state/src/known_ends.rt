@@ -2,7 +2,7 @@
 use crate::known_outcomes::KnownOutcomes;
 use event_rows::{EventGraph, each_in, one};
 use std::alloc::{AllocError, Global};
-use tso_program::{Items, Outcome, REGISTERS, Shown};
+use tso_program::{Items, MAX_LOCATIONS, Outcome, REGISTERS, Shown};
 
 /// A known outcome by its number, and the writes of other values: the graph must end so once each of them has a later
 /// one.
@@ -123,7 +123,7 @@ fn registers_alone(
 fn others_of(graph: &EventGraph, shown: &Shown, outcome: &Outcome) -> Option<u32> {
     let mut others = 0;
     for (place, value) in outcome.memory.as_slice().iter().enumerate() {
-        let location = (place % 8) as u8;
+        let location = (place % MAX_LOCATIONS) as u8;
         let written = graph.rows.written(location);
         if written == 0 && shown.value(place, graph.initial(location)) != *value {
             return None;
