@@ -375,11 +375,10 @@ impl<'a> TreeSearch<'a> {
         let KnownOutcomes::Open(found) = &mut self.outcomes else {
             return Ok(Found::Ended(SearchEnd::New(run)));
         };
-        let number = found.add(run.outcome, &run.labels)?;
-        if let Some(outcome) = found.outcomes.last() {
-            self.ends
-                .add(&self.graph, self.asked.shown, number, outcome)?;
-        }
+        let number = found.next_number();
+        self.ends
+            .add(&self.graph, self.asked.shown, number, &run.outcome)?;
+        found.add(run.outcome, &run.labels)?;
         push_known(&mut self.nodes, u64::from(number))?;
         let followed = self.graph.rows.followed;
         Ok(Found::Tree(match (self.asked.shown, self.ends.must_end(followed)) {

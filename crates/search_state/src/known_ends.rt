@@ -1,5 +1,5 @@
 //! The known outcomes as which a graph may end in which each read has its value.
-use crate::known_outcomes::KnownOutcomes;
+use crate::known_outcomes::{FoundOutcomes, KnownOutcomes, number_at};
 use event_rows::{EventGraph, each_in, one};
 use std::alloc::{AllocError, Global};
 use tso_program::{Items, MAX_LOCATIONS, Outcome, REGISTERS, Shown};
@@ -38,16 +38,47 @@ impl KnownEnds {
     ) -> Result<(), AllocError> {
         self.ends.truncate(0);
         let least = registers_alone(alloc, graph, shown)?;
-        let mut place = outcomes.place_after(&least);
-        for _ in 0..outcomes.count() {
-            let Some((number, outcome)) = outcomes.at(place) else {
-                return Ok(());
-            };
+        match outcomes {
+            KnownOutcomes::Closed(listed) => self.add_listed(graph, shown, &least, listed),
+            KnownOutcomes::Open(found) => self.add_found(graph, shown, &least, found),
+        }
+    }
+
+    /// Adds those of a list that ascends which have the registers of this outcome, and do not come before it.
+    fn add_listed(
+        &mut self,
+        graph: &EventGraph,
+        shown: &Shown,
+        least: &Outcome,
+        listed: &[Outcome],
+    ) -> Result<(), AllocError> {
+        let start = match listed.binary_search(least) {
+            Ok(place) | Err(place) => place,
+        };
+        let rest = listed.get(start..).unwrap_or(&[]);
+        for (index, outcome) in rest.iter().enumerate() {
             if outcome.registers != least.registers {
                 return Ok(());
             }
+            let number = number_at(start.saturating_add(index));
             self.add(graph, shown, number, outcome)?;
-            place = outcomes.next(place);
+        }
+        Ok(())
+    }
+
+    /// Adds those of the found outcomes which have the registers of this outcome, and do not come before it.
+    fn add_found(
+        &mut self,
+        graph: &EventGraph,
+        shown: &Shown,
+        least: &Outcome,
+        found: &FoundOutcomes,
+    ) -> Result<(), AllocError> {
+        for (outcome, number) in found.numbers.range(least..) {
+            if outcome.registers != least.registers {
+                return Ok(());
+            }
+            self.add(graph, shown, *number, outcome)?;
         }
         Ok(())
     }
