@@ -1,7 +1,7 @@
 //! The words of a gap tree: regions are bounded by runs, or split by one.
 use crate::hunt::Hunt;
-use crate::lines::{push_number, push_word};
 use cert_forest::Rule;
+use cert_pages::{push_letter, push_number, push_split};
 use gap_sets::{GapSet, Region};
 use hitting_sets::{excludes, lower_bound};
 use std::alloc::AllocError;
@@ -33,7 +33,7 @@ pub(crate) fn gap_words(hunt: &Hunt<'_>, set: &GapSet) -> Result<Option<Vec<u8>>
             return Ok(Some(words));
         };
         if !push_bound(hunt, set, &region, &mut words)?
-            && !push_split(hunt, &region, &mut words, &mut open)?
+            && !split_by_run(hunt, &region, &mut words, &mut open)?
         {
             return Ok(None);
         }
@@ -64,7 +64,7 @@ fn push_bound_alone(
     if hunt.costs.costs.better(&region.must, set) {
         return Ok(false);
     }
-    push_word(words, b"B")?;
+    push_letter(words, b'B')?;
     Ok(true)
 }
 
@@ -81,7 +81,7 @@ fn push_bound_by_runs(
     if !excludes(&hunt.costs.costs, &bound, set) {
         return Ok(false);
     }
-    push_word(words, b"B")?;
+    push_letter(words, b'B')?;
     push_number(words, bound.runs.len() as u64)?;
     for run in &bound.runs {
         push_number(words, u64::from(*run))?;
@@ -90,7 +90,7 @@ fn push_bound_by_runs(
 }
 
 /// Adds a split by the run with the fewest gaps, and opens its children. Whether there is one.
-fn push_split(
+fn split_by_run(
     hunt: &Hunt<'_>,
     region: &Region,
     words: &mut Vec<u8>,
@@ -99,9 +99,7 @@ fn push_split(
     let Some(run) = best_split(hunt, region) else {
         return Ok(false);
     };
-    push_word(words, b"P")?;
-    push_number(words, run.number as u64)?;
-    push_number(words, u64::from(run.gaps.len()))?;
+    push_split(words, run.number as u64, run.gaps.len())?;
     open_children(hunt, region, &run.gaps, open)?;
     Ok(true)
 }

@@ -11,7 +11,6 @@
 mod cover_text;
 mod gap_text;
 mod hunt;
-mod lines;
 mod size;
 mod text;
 

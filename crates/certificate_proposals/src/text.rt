@@ -2,9 +2,9 @@
 use crate::cover_text::push_cover;
 use crate::gap_text::gap_words;
 use crate::hunt::{Hunt, ServedSet};
-use crate::lines::{push_head, push_runs, push_set};
 use candidate_search::{ProposedOutcomes, ProposingSearch, SearchPlan};
 use cert_forest::{Rule, Runs, Shows};
+use cert_pages::{push_head, push_number, push_run, push_set};
 use gap_sets::TiedCosts;
 use live_registers::without_dead_loads;
 use std::alloc::{AllocError, Global};
@@ -76,7 +76,7 @@ fn text_of(
     let mut out = Vec::new(hunt.alloc);
     push_head(&mut out, hunt.rule, &Shows::of(hunt.shown))?;
     let gaps_of_set = hunt.costs.ties.spread(&served.set);
-    push_set(&mut out, &gaps_of_set, hunt.costs.costs.total(&served.set))?;
+    push_set(&mut out, gaps_of_set, hunt.costs.costs.total(&served.set))?;
     push_runs(&mut out, b"seq", &sequential.runs)?;
     push_cover(&mut out, b"tree", &sequential.nodes)?;
     push_runs(&mut out, b"runs", &hunt.runs)?;
@@ -85,4 +85,15 @@ fn text_of(
     out.extend_from_slice(&gaps)?;
     out.push(b'\n')?;
     Ok(Some(out))
+}
+
+/// A line with the number of runs, and a line for each.
+fn push_runs(out: &mut Vec<u8>, name: &[u8], runs: &Runs) -> Result<(), AllocError> {
+    out.extend_from_slice(name)?;
+    push_number(out, runs.len() as u64)?;
+    out.push(b'\n')?;
+    for labels in runs.iter() {
+        push_run(out, labels)?;
+    }
+    Ok(())
 }
