@@ -49,10 +49,18 @@ pub(crate) fn searched_within<'a>(
 ) -> Result<Option<Searched>, AllocError> {
     let outcomes = KnownOutcomes::listed(asked.alloc, listed);
     let mut search = TreeSearch::new(asked, mode, outcomes)?;
+    match end_within(&mut search, turns)? {
+        Some(end) => Ok(Some(search.ended(end))),
+        None => Ok(None),
+    }
+}
+
+/// How a search ends that begins with nothing chosen. `None` if it has not ended after so many turns.
+fn end_within(search: &mut TreeSearch<'_>, turns: u64) -> Result<Option<SearchEnd>, AllocError> {
     let mut found = search.begin(&[])?;
     for _ in 0..turns {
         found = match search.go_on(found, TURN_STEPS)? {
-            Found::Ended(end) => return Ok(Some(search.ended(end))),
+            Found::Ended(end) => return Ok(Some(end)),
             other => other,
         };
     }

@@ -283,13 +283,8 @@ impl<'a> TreeSearch<'a> {
         if self.frames.len() >= MOST_CHOICES {
             return Ok(Found::Ended(SearchEnd::Stuck));
         }
-        let thread = match decision {
-            Decision::Value(t) => t,
-            _ => 0,
-        };
-        let mark = self.graph.mark(thread);
-        self.marks.push(mark)?;
         let branches = self.branches_of(decision);
+        self.push_mark(decision)?;
         self.frames.push(Frame {
             choices,
             taken: 0,
@@ -299,6 +294,21 @@ impl<'a> TreeSearch<'a> {
             conflicts,
         })?;
         Ok(Found::Node)
+    }
+
+    /// Marks the graph at the node of a decision.
+    fn push_mark(&mut self, decision: Decision) -> Result<(), AllocError> {
+        let thread = match decision {
+            Decision::Value(t) => t,
+            _ => 0,
+        };
+        self.marks.push(self.graph.mark(thread))?;
+        Ok(())
+    }
+
+    /// The last node, and how many children it has. `None` if there is none whose children are searched.
+    pub(crate) fn last_node(&self) -> Option<(Node, usize)> {
+        Some((*self.nodes.last()?, self.frames.last()?.choices.len()))
     }
 
     /// The node of a decision with so many choices.
@@ -367,11 +377,16 @@ impl<'a> TreeSearch<'a> {
         }))
     }
 
-    /// Of a complete graph whose outcome is new: an open list takes it, and the graph has its leaf.
+    /// What is found in a complete graph whose outcome is new.
     fn new_end(&mut self) -> Result<Found, AllocError> {
-        let Some(run) = shown_run(self.asked.alloc, &self.graph, self.asked.shown)? else {
-            return Ok(Found::Ended(SearchEnd::Stuck));
-        };
+        match shown_run(self.asked.alloc, &self.graph, self.asked.shown)? {
+            Some(run) => self.take(run),
+            None => Ok(Found::Ended(SearchEnd::Stuck)),
+        }
+    }
+
+    /// Of the run of a complete graph whose outcome is new: an open list takes it, and the graph has its leaf.
+    fn take(&mut self, run: MadeRun) -> Result<Found, AllocError> {
         let KnownOutcomes::Open(found) = &mut self.outcomes else {
             return Ok(Found::Ended(SearchEnd::New(run)));
         };
@@ -380,12 +395,17 @@ impl<'a> TreeSearch<'a> {
             .add(&self.graph, self.asked.shown, number, &run.outcome)?;
         found.add(run.outcome, &run.labels)?;
         push_known(&mut self.nodes, u64::from(number))?;
+        Ok(Found::Tree(self.new_conflicts()))
+    }
+
+    /// What the leaf of a new outcome rests on.
+    fn new_conflicts(&self) -> ConflictSet {
         let followed = self.graph.rows.followed;
-        Ok(Found::Tree(match (self.asked.shown, self.ends.must_end(followed)) {
+        match (self.asked.shown, self.ends.must_end(followed)) {
             (Shown::Truth(_), _) => self.conflicts().of_end(followed),
             (_, Some(end)) => self.conflicts().of_end(end.others),
             (_, None) => ConflictSet::all(),
-        }))
+        }
     }
 
     /// Once each read has its value, the known outcomes as which the graph may end.
@@ -408,12 +428,16 @@ impl<'a> TreeSearch<'a> {
     fn cycle(&mut self, at: u8) -> Result<Found, AllocError> {
         let kind = self.union_around(at);
         let round = round_through(self.asked.alloc, self.graph.rows.of_union(kind), at)?;
+        self.push_round(kind, &round)?;
+        Ok(Found::Tree(self.conflicts().of_cycle(kind, &round)))
+    }
+
+    fn push_round(&mut self, kind: Kind, round: &[u8]) -> Result<(), AllocError> {
         let mut accesses = Vec::with_capacity(self.asked.alloc, round.len())?;
-        for number in &round {
+        for number in round {
             accesses.push(self.access_id(*number))?;
         }
-        push_cycle(&mut self.nodes, kind, &accesses)?;
-        Ok(Found::Tree(self.conflicts().of_cycle(kind, &round)))
+        push_cycle(&mut self.nodes, kind, &accesses)
     }
 
     /// The union that has a cycle through an access.
