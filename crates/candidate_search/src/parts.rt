@@ -4,9 +4,9 @@
 //! until enough places are open, and what stands at each of them is a part. A part is searched by itself: its outcomes are a
 //! list of its own, and its tree takes the place of no node above. How a search is cut depends on nothing but its steps, so
 //! what is found is the same for any number of threads.
+use crate::backjumping_search::{BackjumpingSearch, Found, SearchEnd};
 use crate::proposing_search::ProposingSearch;
 use crate::searched::{Searched, TURN_STEPS, searched_within};
-use crate::tree_search::{Found, SearchEnd, TreeSearch};
 use search_state::{KnownOutcomes, Node};
 use std::alloc::{AllocError, Global};
 use std::sync::atomic::{AtomicUsize, Ordering};
@@ -161,9 +161,9 @@ impl<'a> CutSearch<'a> {
     }
 
     /// A search in which nothing is chosen.
-    fn search(&self) -> Result<TreeSearch<'_>, AllocError> {
+    fn search(&self) -> Result<BackjumpingSearch<'_>, AllocError> {
         let outcomes = KnownOutcomes::listed(self.asked.alloc, self.listed);
-        TreeSearch::new(self.asked, self.mode, outcomes)
+        BackjumpingSearch::new(self.asked, self.mode, outcomes)
     }
 
     /// Searches the parts, and joins what is found in them.
@@ -221,7 +221,7 @@ impl<'a> CutSearch<'a> {
     /// How the search of a part ends. `None` once a part before it ends the question.
     fn end_of(
         &self,
-        search: &mut TreeSearch<'_>,
+        search: &mut BackjumpingSearch<'_>,
         place: usize,
         choices: &[usize],
     ) -> Result<Option<SearchEnd>, AllocError> {

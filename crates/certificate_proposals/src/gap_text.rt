@@ -1,5 +1,5 @@
 //! The words of a gap tree: regions are bounded by runs, or split by one.
-use crate::hunt::Hunt;
+use crate::foreign_runs::ForeignRuns;
 use cert_forest::Rule;
 use cert_pages::{push_letter, push_number, push_split};
 use gap_sets::{GapSet, Region};
@@ -20,11 +20,14 @@ struct OpenRun {
 }
 
 /// The words of a gap tree that is to show that no better set than this serves. `None` if it would have too many nodes.
-pub(crate) fn gap_words(hunt: &Hunt<'_>, set: &GapSet) -> Result<Option<Vec<u8>>, AllocError> {
-    let mut words = Vec::new(hunt.alloc);
-    let mut open = Vec::new(hunt.alloc);
+pub(crate) fn gap_words(
+    known: &ForeignRuns<'_>,
+    set: &GapSet,
+) -> Result<Option<Vec<u8>>, AllocError> {
+    let mut words = Vec::new(known.alloc);
+    let mut open = Vec::new(known.alloc);
     open.push(Region::all())?;
-    let most = match hunt.rule {
+    let most = match known.rule {
         Rule::Whole => MOST_SPLIT,
         Rule::Early => MOST_BOUNDED,
     };
@@ -32,8 +35,8 @@ pub(crate) fn gap_words(hunt: &Hunt<'_>, set: &GapSet) -> Result<Option<Vec<u8>>
         let Some(region) = open.pop() else {
             return Ok(Some(words));
         };
-        if !push_bound(hunt, set, &region, &mut words)?
-            && !split_by_run(hunt, &region, &mut words, &mut open)?
+        if !push_bound(known, set, &region, &mut words)?
+            && !split_by_run(known, &region, &mut words, &mut open)?
         {
             return Ok(None);
         }
@@ -43,25 +46,25 @@ pub(crate) fn gap_words(hunt: &Hunt<'_>, set: &GapSet) -> Result<Option<Vec<u8>>
 
 /// Adds a bound, where it shows that no set of the region is better. Whether it does.
 fn push_bound(
-    hunt: &Hunt<'_>,
+    known: &ForeignRuns<'_>,
     set: &GapSet,
     region: &Region,
     words: &mut Vec<u8>,
 ) -> Result<bool, AllocError> {
-    match hunt.rule {
-        Rule::Whole => push_bound_alone(hunt, set, region, words),
-        Rule::Early => push_bound_by_runs(hunt, set, region, words),
+    match known.rule {
+        Rule::Whole => push_bound_alone(known, set, region, words),
+        Rule::Early => push_bound_by_runs(known, set, region, words),
     }
 }
 
 /// Adds a bound by what the region's sets must have, where that is not better. Whether it is not.
 fn push_bound_alone(
-    hunt: &Hunt<'_>,
+    known: &ForeignRuns<'_>,
     set: &GapSet,
     region: &Region,
     words: &mut Vec<u8>,
 ) -> Result<bool, AllocError> {
-    if hunt.costs.costs.better(&region.must, set) {
+    if known.costs.costs.better(&region.must, set) {
         return Ok(false);
     }
     push_letter(words, b'B')?;
@@ -70,15 +73,15 @@ fn push_bound_alone(
 
 /// Adds a bound by runs, where they show that no set of the region is better. Whether they do.
 fn push_bound_by_runs(
-    hunt: &Hunt<'_>,
+    known: &ForeignRuns<'_>,
     set: &GapSet,
     region: &Region,
     words: &mut Vec<u8>,
 ) -> Result<bool, AllocError> {
-    let Some(bound) = lower_bound(hunt.alloc, &hunt.costs.costs, region, &hunt.passed)? else {
+    let Some(bound) = lower_bound(known.alloc, &known.costs.costs, region, &known.passed)? else {
         return Ok(false);
     };
-    if !excludes(&hunt.costs.costs, &bound, set) {
+    if !excludes(&known.costs.costs, &bound, set) {
         return Ok(false);
     }
     push_letter(words, b'B')?;
@@ -91,27 +94,27 @@ fn push_bound_by_runs(
 
 /// Adds a split by the run with the fewest gaps, and opens its children. Whether there is one.
 fn split_by_run(
-    hunt: &Hunt<'_>,
+    known: &ForeignRuns<'_>,
     region: &Region,
     words: &mut Vec<u8>,
     open: &mut Vec<Region>,
 ) -> Result<bool, AllocError> {
-    let Some(run) = best_split(hunt, region) else {
+    let Some(run) = best_split(known, region) else {
         return Ok(false);
     };
     push_split(words, run.number as u64, run.gaps.len())?;
-    open_children(hunt, region, &run.gaps, open)?;
+    open_children(known, region, &run.gaps, open)?;
     Ok(true)
 }
 
 /// Puts the children of a split on a stack, the first of them on top.
 fn open_children(
-    hunt: &Hunt<'_>,
+    known: &ForeignRuns<'_>,
     region: &Region,
     gaps: &GapSet,
     open: &mut Vec<Region>,
 ) -> Result<(), AllocError> {
-    let mut children = Vec::new(hunt.alloc);
+    let mut children = Vec::new(known.alloc);
     let mut rest = *region;
     for gap in gaps.iter() {
         children.push(rest.with(gap))?;
@@ -122,9 +125,9 @@ fn open_children(
 }
 
 /// The run that passes no gap that the region's sets must have, and the fewest that they may have.
-fn best_split(hunt: &Hunt<'_>, region: &Region) -> Option<OpenRun> {
+fn best_split(known: &ForeignRuns<'_>, region: &Region) -> Option<OpenRun> {
     let mut best: Option<OpenRun> = None;
-    for (number, passed) in hunt.passed.iter().enumerate() {
+    for (number, passed) in known.passed.iter().enumerate() {
         if !passed.meets(&region.must) {
             let gaps = open_gaps(passed, &region.never);
             best = Some(with_fewer(best, OpenRun { number, gaps }));

@@ -9,8 +9,8 @@
 #![tactic(auto)]
 
 mod cover_text;
+mod foreign_runs;
 mod gap_text;
-mod hunt;
 mod size;
 mod text;
 

@@ -1,7 +1,7 @@
 //! The text of a certificate.
 use crate::cover_text::push_cover;
+use crate::foreign_runs::{ForeignRuns, ServedSet};
 use crate::gap_text::gap_words;
-use crate::hunt::{Hunt, ServedSet};
 use candidate_search::{ProposedOutcomes, ProposingSearch, SearchPlan};
 use cert_forest::{Rule, Runs, Shows};
 use cert_pages::{push_head, push_number, push_run, push_set};
@@ -46,7 +46,7 @@ fn text_over<R: Threads + Sync>(
     let Some(sequential) = search.outcomes_by_threads(rt, Mode::Sequential)? else {
         return Ok(None);
     };
-    let mut hunt = Hunt {
+    let mut known = ForeignRuns {
         alloc,
         rule: plan.rule,
         program,
@@ -55,31 +55,31 @@ fn text_over<R: Threads + Sync>(
         runs: Runs::new(alloc),
         passed: Vec::new(alloc),
     };
-    let Some(served) = hunt.served(rt, &search, &sequential.outcomes)? else {
+    let Some(served) = known.served(rt, &search, &sequential.outcomes)? else {
         return Ok(None);
     };
     if let Rule::Whole = plan.rule {
-        hunt.learn_needed(rt, &search, &sequential.outcomes, &served.set)?;
+        known.learn_needed(rt, &search, &sequential.outcomes, &served.set)?;
     }
-    text_of(&hunt, &sequential, &served)
+    text_of(&known, &sequential, &served)
 }
 
-/// The text of what a hunt has found. `None` if no gap tree is found.
+/// The text of a certificate of a set that serves, by known foreign runs. `None` if no gap tree is found.
 fn text_of(
-    hunt: &Hunt<'_>,
+    known: &ForeignRuns<'_>,
     sequential: &ProposedOutcomes,
     served: &ServedSet,
 ) -> Result<Option<Vec<u8>>, AllocError> {
-    let Some(gaps) = gap_words(hunt, &served.set)? else {
+    let Some(gaps) = gap_words(known, &served.set)? else {
         return Ok(None);
     };
-    let mut out = Vec::new(hunt.alloc);
-    push_head(&mut out, hunt.rule, &Shows::of(hunt.shown))?;
-    let gaps_of_set = hunt.costs.ties.spread(&served.set);
-    push_set(&mut out, gaps_of_set, hunt.costs.costs.total(&served.set))?;
+    let mut out = Vec::new(known.alloc);
+    push_head(&mut out, known.rule, &Shows::of(known.shown))?;
+    let gaps_of_set = known.costs.ties.spread(&served.set);
+    push_set(&mut out, gaps_of_set, known.costs.costs.total(&served.set))?;
     push_runs(&mut out, b"seq", &sequential.runs)?;
     push_cover(&mut out, b"tree", &sequential.nodes)?;
-    push_runs(&mut out, b"runs", &hunt.runs)?;
+    push_runs(&mut out, b"runs", &known.runs)?;
     push_cover(&mut out, b"fenced", &served.nodes)?;
     out.extend_from_slice(b"gaps")?;
     out.extend_from_slice(&gaps)?;

@@ -1,5 +1,5 @@
 //! Partly chosen candidate executions.
-use crate::choice::Choice;
+use crate::graph_choice::GraphChoice;
 use crate::numbering::Numbering;
 use crate::numbers::{each_in, first_numbers, one, shifted};
 use crate::row_list::RowList;
@@ -142,15 +142,15 @@ impl EventGraph {
     }
 
     /// Makes a choice.
-    pub fn choose(&mut self, choice: Choice) {
+    pub fn choose(&mut self, choice: GraphChoice) {
         match choice {
-            Choice::Value { thread, value } => self.give_value(thread, value),
-            Choice::Source { read, write } => {
+            GraphChoice::Value { thread, value } => self.give_value(thread, value),
+            GraphChoice::Source { read, write } => {
                 self.sources[read as usize % ROW_BITS] = write;
                 let source = self.read_source(read, write);
                 self.rows.choose_source(source);
             }
-            Choice::Order { first, second } => self.rows.choose_order(first, second),
+            GraphChoice::Order { first, second } => self.rows.choose_order(first, second),
         }
     }
 

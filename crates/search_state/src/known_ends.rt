@@ -1,5 +1,5 @@
 //! The known outcomes as which a graph may end in which each read has its value.
-use crate::known_outcomes::{FoundOutcomes, KnownOutcomes, number_at};
+use crate::known_outcomes::{KnownOutcomes, NumberedOutcomes, number_at};
 use event_rows::{EventGraph, each_in, one};
 use std::alloc::{AllocError, Global};
 use tso_program::{Items, MAX_LOCATIONS, Outcome, REGISTERS, Shown};
@@ -72,7 +72,7 @@ impl KnownEnds {
         graph: &EventGraph,
         shown: &Shown,
         least: &Outcome,
-        found: &FoundOutcomes,
+        found: &NumberedOutcomes,
     ) -> Result<(), AllocError> {
         for (outcome, number) in found.numbers.range(least..) {
             if outcome.registers != least.registers {

@@ -10,7 +10,7 @@ const MOST_OUTCOMES: usize = 1 << 24;
 
 /// Outcomes that a search has found so far.
 #[derive(Drop)]
-pub struct FoundOutcomes {
+pub struct NumberedOutcomes {
     alloc: Global,
     /// The number of each, by which a tree names it: how many were found before.
     pub numbers: BTreeMap<Outcome, u32>,
@@ -24,13 +24,13 @@ pub enum KnownOutcomes<'a> {
     /// These alone. They ascend, and the number of an outcome is its place.
     Closed(&'a [Outcome]),
     /// Those that are found so far. The search adds to them.
-    Open(FoundOutcomes),
+    Open(NumberedOutcomes),
 }
 
-impl FoundOutcomes {
+impl NumberedOutcomes {
     /// No outcome yet.
-    pub fn none(alloc: Global) -> FoundOutcomes {
-        FoundOutcomes {
+    pub fn none(alloc: Global) -> NumberedOutcomes {
+        NumberedOutcomes {
             alloc,
             numbers: BTreeMap::new(alloc),
             runs: Runs::new(alloc),
@@ -56,8 +56,8 @@ impl FoundOutcomes {
     }
 
     /// Adds those outcomes of another list that are new, and answers for each number there the one here.
-    pub fn add_all(&mut self, other: FoundOutcomes) -> Result<Vec<u32>, AllocError> {
-        let FoundOutcomes { numbers, runs, .. } = other;
+    pub fn add_all(&mut self, other: NumberedOutcomes) -> Result<Vec<u32>, AllocError> {
+        let NumberedOutcomes { numbers, runs, .. } = other;
         let mut added = vec![in self.alloc; 0u32; numbers.len()]?;
         for (outcome, number) in numbers {
             let labels = runs.get(number as usize).unwrap_or(&[]);
@@ -75,7 +75,7 @@ impl<'a> KnownOutcomes<'a> {
     pub fn listed(alloc: Global, listed: Option<&'a [Outcome]>) -> KnownOutcomes<'a> {
         match listed {
             Some(outcomes) => KnownOutcomes::Closed(outcomes),
-            None => KnownOutcomes::Open(FoundOutcomes::none(alloc)),
+            None => KnownOutcomes::Open(NumberedOutcomes::none(alloc)),
         }
     }
 }

@@ -1,7 +1,7 @@
 //! At which depth each choice of a search was made.
 use crate::conflict_set::ConflictSet;
 use bit_rows::ROW_BITS;
-use event_rows::{Choice, EventGraph, each_in};
+use event_rows::{EventGraph, GraphChoice, each_in};
 use tso_program::MAX_THREADS;
 
 /// How many values a thread may have been given, with none, at most: a power of two.
@@ -54,17 +54,17 @@ impl Trail {
     }
 
     /// Puts down a choice that was made at a depth.
-    pub fn put(&mut self, depth: u16, graph: &EventGraph, choice: Choice) {
+    pub fn put(&mut self, depth: u16, graph: &EventGraph, choice: GraphChoice) {
         match choice {
-            Choice::Value { thread, .. } => {
+            GraphChoice::Value { thread, .. } => {
                 let given = graph.state(thread).given;
                 let before = self.past(thread, given.saturating_sub(1));
                 let mut depths = before.depths;
                 depths.add(depth);
                 self.put_past(graph, thread, depths, before.accesses);
             }
-            Choice::Source { read, .. } => self.sources[read as usize % ROW_BITS] = depth,
-            Choice::Order { first, second } => {
+            GraphChoice::Source { read, .. } => self.sources[read as usize % ROW_BITS] = depth,
+            GraphChoice::Order { first, second } => {
                 self.orders[first as usize % ROW_BITS][second as usize % ROW_BITS] = depth;
                 self.orders[second as usize % ROW_BITS][first as usize % ROW_BITS] = depth;
             }

@@ -7,8 +7,8 @@ use crate::searched::Searched;
 use candidate_executions::Kind;
 use run_maker::MadeRun;
 use search_state::{
-    AccessId, Choice, ConflictSet, Conflicts, Decision, EventGraph, FoundOutcomes, KnownEnds,
-    KnownOutcomes, Mark, Node, Rule, Trail, choices_of, is_in, known_truth, next_decision,
+    AccessId, ConflictSet, Conflicts, Decision, EventGraph, GraphChoice, KnownEnds, KnownOutcomes,
+    Mark, Node, NumberedOutcomes, Rule, Trail, choices_of, is_in, known_truth, next_decision,
     push_cycle, push_known, reached_from, read_of_nobody, round_through, take_out,
 };
 use std::alloc::AllocError;
@@ -21,7 +21,7 @@ const MOST_CHOICES: usize = 590;
 /// A node of the tree whose children are searched.
 #[derive(Drop)]
 pub(crate) struct Frame {
-    pub(crate) choices: Vec<Choice>,
+    pub(crate) choices: Vec<GraphChoice>,
     /// How many choices are taken.
     pub(crate) taken: usize,
     /// The place of its node.
@@ -58,7 +58,7 @@ pub(crate) enum Found {
 /// A search on its way: a graph with the choices that are made, the outcomes that are known, and the nodes of the tree so
 /// far.
 #[derive(Drop)]
-pub(crate) struct TreeSearch<'a> {
+pub(crate) struct BackjumpingSearch<'a> {
     pub(crate) asked: &'a ProposingSearch<'a>,
     graph: EventGraph,
     trail: Trail,
@@ -74,16 +74,16 @@ pub(crate) struct TreeSearch<'a> {
     above: usize,
 }
 
-impl<'a> TreeSearch<'a> {
+impl<'a> BackjumpingSearch<'a> {
     /// A search in which nothing is chosen.
     pub(crate) fn new(
         asked: &'a ProposingSearch<'a>,
         mode: Mode,
         outcomes: KnownOutcomes<'a>,
-    ) -> Result<TreeSearch<'a>, AllocError> {
+    ) -> Result<BackjumpingSearch<'a>, AllocError> {
         let alloc = asked.alloc;
         let graph = EventGraph::new(alloc, asked.program, mode)?;
-        Ok(TreeSearch {
+        Ok(BackjumpingSearch {
             asked,
             trail: Trail::new(&graph),
             graph,
@@ -140,7 +140,7 @@ impl<'a> TreeSearch<'a> {
 
     /// What the search has found, now that it has ended.
     pub(crate) fn ended(self, end: SearchEnd) -> Searched {
-        let TreeSearch {
+        let BackjumpingSearch {
             asked,
             outcomes,
             nodes,
@@ -148,7 +148,7 @@ impl<'a> TreeSearch<'a> {
         } = self;
         let found = match outcomes {
             KnownOutcomes::Open(found) => found,
-            KnownOutcomes::Closed(_) => FoundOutcomes::none(asked.alloc),
+            KnownOutcomes::Closed(_) => NumberedOutcomes::none(asked.alloc),
         };
         Searched { end, found, nodes }
     }
@@ -225,17 +225,17 @@ impl<'a> TreeSearch<'a> {
     }
 
     /// Makes a choice and sees what is there.
-    fn visit_after(&mut self, depth: u16, choice: Choice) -> Result<Found, AllocError> {
+    fn visit_after(&mut self, depth: u16, choice: GraphChoice) -> Result<Found, AllocError> {
         self.graph.choose(choice);
         self.trail.put(depth, &self.graph, choice);
         match choice {
-            Choice::Value { .. } => {
+            GraphChoice::Value { .. } => {
                 if let Some(read) = self.lost_read() {
                     return self.open_node(Decision::Source(read));
                 }
                 self.find_ends()?;
             }
-            Choice::Source { read: at, .. } | Choice::Order { second: at, .. } => {
+            GraphChoice::Source { read: at, .. } | GraphChoice::Order { second: at, .. } => {
                 if self.graph.rows.has_round() {
                     return self.cycle(at);
                 }
