@@ -3,7 +3,7 @@ use crate::foreign_runs::ForeignRuns;
 use cert_forest::Rule;
 use cert_pages::{push_letter, push_number, push_split};
 use gap_sets::{GapSet, Region};
-use hitting_sets::{excludes, lower_bound};
+use hitting_sets::{excludes, lower_bound, run_to_meet};
 use std::alloc::AllocError;
 
 /// How many nodes a gap tree without bounds by runs has at most.
@@ -11,13 +11,6 @@ const MOST_SPLIT: u64 = 1 << 14;
 
 /// More nodes than any machine holds: memory ends a tree with bounds by runs before.
 const MOST_BOUNDED: u64 = 1 << 56;
-
-/// A run by its number, and the gaps that it passes and that the sets of a region may have.
-#[derive(Clone, Copy)]
-struct OpenRun {
-    number: usize,
-    gaps: GapSet,
-}
 
 /// The words of a gap tree that is to show that no better set than this serves. `None` if it would have too many nodes.
 pub(crate) fn gap_words(
@@ -99,10 +92,10 @@ fn split_by_run(
     words: &mut Vec<u8>,
     open: &mut Vec<Region>,
 ) -> Result<bool, AllocError> {
-    let Some(run) = best_split(known, region) else {
+    let Some(run) = run_to_meet(region, &known.passed) else {
         return Ok(false);
     };
-    push_split(words, run.number as u64, run.gaps.len())?;
+    push_split(words, u64::from(run.number), run.gaps.len())?;
     open_children(known, region, &run.gaps, open)?;
     Ok(true)
 }
@@ -122,39 +115,4 @@ fn open_children(
     }
     children.reverse();
     open.append(&mut children)
-}
-
-/// The run that passes no gap that the region's sets must have, and the fewest that they may have.
-fn best_split(known: &ForeignRuns<'_>, region: &Region) -> Option<OpenRun> {
-    let mut best: Option<OpenRun> = None;
-    for (number, passed) in known.passed.iter().enumerate() {
-        if !passed.meets(&region.must) {
-            let gaps = open_gaps(passed, &region.never);
-            best = Some(with_fewer(best, OpenRun { number, gaps }));
-        }
-    }
-    best
-}
-
-/// The run with fewer gaps, the first one where both have as many.
-fn with_fewer(best: Option<OpenRun>, other: OpenRun) -> OpenRun {
-    match best {
-        Some(run) => if run.gaps.len() <= other.gaps.len() {
-            run
-        } else {
-            other
-        },
-        None => other,
-    }
-}
-
-/// The gaps of a run that the sets may have.
-fn open_gaps(passed: &GapSet, never: &GapSet) -> GapSet {
-    let mut gaps = GapSet::empty();
-    for gap in passed.iter() {
-        if !never.has(gap) {
-            gaps = gaps.with(gap);
-        }
-    }
-    gaps
 }
