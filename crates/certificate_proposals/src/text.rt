@@ -43,9 +43,6 @@ fn text_over<R: Threads + Sync>(
     costs: &TiedCosts,
 ) -> Result<Option<Vec<u8>>, AllocError> {
     let search = ProposingSearch::new(alloc, plan, program, shown)?;
-    let Some(sequential) = search.outcomes_by_threads(rt, Mode::Sequential)? else {
-        return Ok(None);
-    };
     let mut known = ForeignRuns {
         alloc,
         rule: plan.rule,
@@ -55,17 +52,30 @@ fn text_over<R: Threads + Sync>(
         runs: Runs::new(alloc),
         passed: Vec::new(alloc),
     };
-    let Some(served) = known.served(rt, &search, &sequential.outcomes)? else {
+    match search.outcomes_by_threads(rt, Mode::Sequential)? {
+        Some(sequential) => text_of(rt, &search, &mut known, &sequential),
+        None => Ok(None),
+    }
+}
+
+/// The text for a program's sequential outcomes. Foreign runs that a search finds are added to those that are known.
+fn text_of<R: Threads + Sync>(
+    rt: &R,
+    search: &ProposingSearch<'_>,
+    known: &mut ForeignRuns<'_>,
+    sequential: &ProposedOutcomes,
+) -> Result<Option<Vec<u8>>, AllocError> {
+    let Some(served) = known.served(rt, search, &sequential.outcomes)? else {
         return Ok(None);
     };
-    if let Rule::Whole = plan.rule {
-        known.learn_needed(rt, &search, &sequential.outcomes, &served.set)?;
+    if let Rule::Whole = known.rule {
+        known.learn_needed(rt, search, &sequential.outcomes, &served.set)?;
     }
-    text_of(&known, &sequential, &served)
+    text_by(known, sequential, &served)
 }
 
 /// The text of a certificate of a set that serves, by known foreign runs. `None` if no gap tree is found.
-fn text_of(
+fn text_by(
     known: &ForeignRuns<'_>,
     sequential: &ProposedOutcomes,
     served: &ServedSet,
@@ -74,17 +84,33 @@ fn text_of(
         return Ok(None);
     };
     let mut out = Vec::new(known.alloc);
-    push_head(&mut out, known.rule, &Shows::of(known.shown))?;
-    let gaps_of_set = known.costs.ties.spread(&served.set);
-    push_set(&mut out, gaps_of_set, known.costs.costs.total(&served.set))?;
-    push_runs(&mut out, b"seq", &sequential.runs)?;
-    push_cover(&mut out, b"tree", &sequential.nodes)?;
-    push_runs(&mut out, b"runs", &known.runs)?;
-    push_cover(&mut out, b"fenced", &served.nodes)?;
-    out.extend_from_slice(b"gaps")?;
-    out.extend_from_slice(&gaps)?;
-    out.push(b'\n')?;
+    push_front(&mut out, known, sequential, served)?;
+    push_gaps(&mut out, &gaps)?;
     Ok(Some(out))
+}
+
+/// The lines before that of the gap tree.
+fn push_front(
+    out: &mut Vec<u8>,
+    known: &ForeignRuns<'_>,
+    sequential: &ProposedOutcomes,
+    served: &ServedSet,
+) -> Result<(), AllocError> {
+    push_head(out, known.rule, &Shows::of(known.shown))?;
+    let gaps = known.costs.ties.spread(&served.set);
+    push_set(out, gaps, known.costs.costs.total(&served.set))?;
+    push_runs(out, b"seq", &sequential.runs)?;
+    push_cover(out, b"tree", &sequential.nodes)?;
+    push_runs(out, b"runs", &known.runs)?;
+    push_cover(out, b"fenced", &served.nodes)
+}
+
+/// The line of the gap tree.
+fn push_gaps(out: &mut Vec<u8>, words: &[u8]) -> Result<(), AllocError> {
+    out.extend_from_slice(b"gaps")?;
+    out.extend_from_slice(words)?;
+    out.push(b'\n')?;
+    Ok(())
 }
 
 /// A line with the number of runs, and a line for each.
