@@ -8,11 +8,11 @@ use Rattle.program_streams.specs.FileLines.{file_line}
 use Rattle.tso_program.specs.declared.listing.Listing.{Listing}
 use Rattle.litmus_text.specs.Litmus.{Litmus}
 use Rattle.litmus_text.specs.ReadFault.{ReadFault}
-use Rattle.litmus_text.specs.Texts.{IsLitmus, IsNoLitmus}
+use Rattle.litmus_text.specs.Texts.{IsLitmus}
 use Rattle.fencer_words.specs.declared.job.SurveyOptions.{SurveyOptions}
 use Rattle.fencer_words.specs.declared.job.SurveyQuery.{SurveyQuery}
 use Rattle.placed_text.specs.declared.fault.TextFault.{TextFault}
-use Rattle.placed_text.specs.TextFaults.{HasNoPlacedText}
+use Rattle.placed_text.specs.TextFaults.{HasNoPlacedText, IsRefusedText}
 use Rattle.survey_text.specs.declared.finding.SurveyText.{SurveyText}
 use Rattle.survey_text.specs.Surveys.{IsSurveyText}
 use Rattle.fencer.specs.declared.surveys.Block.{Block}
@@ -57,11 +57,11 @@ pub record IsFound (options : SurveyOptions) (name : List ℕ) (told : SurveyTex
   pub said : block.lines.items ≡ printed options.json (block_text name told.lines.items) told.document.items
   pub summed : block.row.items ≡ row_line name told.row.items
 
--- the text of costs by which a text's program is looked at: none, or a cost file of gaps which go together, if the text spells a
--- program; of which gaps go together nothing is said
+-- the text of costs by which a text's program is looked at: none, or a cost file of gaps which go together, unless the text is
+-- refused for another reason than memory; of which gaps go together nothing is said
 abbrev pub AreTied : Bool → List ℕ → Option (List ℕ) → Type 0
 AreTied false bytes costs = costs ≡ None
-AreTied true bytes None = (why : ReadFault) × IsNoLitmus bytes why
+AreTied true bytes None = (why : ReadFault) × IsRefusedText bytes why
 AreTied true bytes (Some file) = (source : Litmus Listing) × IsLitmus bytes source × IsTiedFile source.program file
 
 -- what is printed of a file with this text, with its status: what is found of its program, or why nothing is

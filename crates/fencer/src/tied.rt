@@ -39,8 +39,8 @@ fn shared_file(alloc: Global, program: &Program) -> Result<Vec<u8>, AllocError>
     tied_file(alloc, program, &costs.costs, shared)
 }
 
-/// The cost file by which a text's program is looked at: none, or that of gaps which likely go together, if the text spells a
-/// program.
+/// The cost file by which a text's program is looked at: none, or that of gaps which likely go together, unless the text is
+/// refused.
 pub(crate) fn tied_costs(
     alloc: Global,
     are_tied: bool,
