@@ -161,7 +161,7 @@ class Surveys(Cases):
         same(f"how many documents {names} have", len(found), len(names))
         for (name, source, refused), document in zip(files, found):
             if refused:
-                wrong = documents.refusal_differs(document, refused + "\n")
+                wrong = documents.refusal_differs(document, refused + "\n") or json.loads(document)["file"] != name
             else:
                 wrong = surveys.document_differs(document, name, test_of(source), canonical_of(source), instruction_lines(source.decode()))
             tell(f"the document of {name}", not wrong, document)

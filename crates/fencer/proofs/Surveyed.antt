@@ -1,6 +1,9 @@
 -- What is printed of a file, as its block has it, and of one file more.
-use Rattle.fencer.proofs.Vocabulary.{◌≡◌, ℕ, ◌+◌, ◌<◌, Bool, List, [], ◌∷◌, ◌++◌, Option, length, map, take, get_or, subst, sym}
+use Rattle.fencer.proofs.Vocabulary.{◌≡◌, ℕ, ◌+◌, ◌<◌, Bool, true, List, [], ◌∷◌, ◌++◌, Option, Result, Ok, Err, IfOk, length, map, take, get_or, subst, sym}
 use Rattle.std.proofs.lemmas.List.{map_more, take-map}
+use Rattle.std.specs.Global.{Vec}
+use Rattle.json_text.specs.Values.{IsJsonLine}
+use Rattle.documents.specs.Documents.{Remark, refusal_text}
 use Rattle.program_streams.specs.declared.files.TheConstants.{TEXT_LIMIT}
 use Rattle.program_streams.specs.Files.{ReadsOfInput}
 use Rattle.fencer_words.specs.declared.job.SurveyOptions.{SurveyOptions}
@@ -8,7 +11,7 @@ use Rattle.survey_text.specs.declared.finding.SurveyText.{SurveyText}
 use Rattle.answers.specs.Documented.{printed}
 use Rattle.fencer.specs.declared.surveys.Block.{Block}
 use Rattle.fencer.specs.declared.surveys.Summary.{Summary}
-use Rattle.fencer.specs.Surveys.{AreBlocks, IsBlock, IsFound, IsRefused, ReadsOfFiles, ReadsOfSomeFiles, RefusedBlock, block_text, refused_row, row_line, more, one_more, survey_status, worse}
+use Rattle.fencer.specs.Surveys.{AreBlocks, IsBlock, IsFound, IsRefused, ReadsOfFiles, ReadsOfSomeFiles, RefusedBlock, block_text, refused_row, row_line, more, one_more, shown_name, survey_status, worse}
 
 -- what holds of what is said holds of the block that says it: of what is found
 pub as_found : (options : SurveyOptions) (name : List ℕ) (told : SurveyText) (block : Block) (Holds : ℕ → List ℕ → List ℕ → Type 0)
@@ -26,6 +29,12 @@ pub as_refused : (json : Bool) (name line : List ℕ) (block : Block) (Holds : �
 as_refused json name line block Holds may is =
     subst (λ (s : ℕ). Holds s block.lines.items block.row.items) (sym is.ends)
     (subst (λ (r : List ℕ). Holds 1 block.lines.items r) (sym is.summed) (may block.lines.items is.printed))
+
+-- a document that could be made of a line, with a remark that names the file, is what is printed
+pub names_file : {E : Type 0} (made : Result (Vec ℕ) E) (name line : List ℕ) (remark : Remark) → remark.file ≡ shown_name name
+    → IfOk made (λ v. v.items ≡ refusal_text line remark) → IfOk made (λ v. IsJsonLine v.items) → IfOk made (λ v. RefusedBlock true name line v.items)
+names_file (Ok v) name line remark names printed json = (record { remark = remark; printed = printed; json = json }, names)
+names_file (Err e) name line remark names printed json = tt
 
 -- the block of one file more
 module _ {N : Type 0} (name_of : N → List ℕ) (names : List N) (i : ℕ) (d : N) (there : i < length names) where

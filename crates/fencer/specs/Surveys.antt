@@ -1,6 +1,7 @@
 -- What is printed of the files of a survey. `files` says what files hold.
 use Rattle.std.specs.Prelude.{◌≡◌, ◌==◌, ◌||◌, ◌&&◌, ℕ, Bool, true, false, List, [], ◌∷◌, ◌++◌, Option, Some, None, codes, length, map, nat_lt, not, string_bytes, take, if◌then◌else◌}
 use Rattle.std.specs.Io.KnownBytes.{Appends}
+use Rattle.std.specs.Str.{bytes_eq}
 use Rattle.program_streams.specs.declared.fault.FileFault.{FileFault}
 use Rattle.program_streams.specs.declared.files.TheConstants.{TEXT_LIMIT}
 use Rattle.program_streams.specs.Files.{AreOfFile, IsFileFault, ReadsOfInput}
@@ -40,10 +41,14 @@ refused_row = codes "refused"
 abbrev pub survey_status : Bool → SurveyText → ℕ
 survey_status allow_unexecuted told = check_status true (told.fails || (told.has_unexecuted && not allow_unexecuted))
 
--- why nothing is found: the file's name and a line, or the document of the line
+-- the name of a file as messages have it
+abbrev pub shown_name : List ℕ → List ℕ
+shown_name name = if bytes_eq name (codes "-") then codes "<stdin>" else name
+
+-- why nothing is found: the file's name and a line, or the document of the line, which names the file
 abbrev pub RefusedBlock : Bool → List ℕ → List ℕ → List ℕ → Type 0
 RefusedBlock false name line text = text ≡ block_text name line
-RefusedBlock true name line text = IsRefusalDocument line text
+RefusedBlock true name line text = (document : IsRefusalDocument line text) × (document.remark.file ≡ shown_name name)
 
 -- the block says that the file is refused, for the reason that this line gives
 pub record IsRefused (json : Bool) (name line : List ℕ) (block : Block) : Type 0 where

@@ -1,11 +1,11 @@
 //! Surveys: what one look at the program of each file finds, a block a file.
 
-ghost use Rattle.std.specs.Prelude.{◌≡◌, ◌++◌, IfOk, OnErr, OnOk, map, string_bytes};
+ghost use Rattle.std.specs.Prelude.{◌≡◌, ◌++◌, IfOk, OnErr, OnOk, map, string_bytes, true};
 ghost use Rattle.program_streams.specs.Streams.{Prints};
 ghost use Rattle.program_streams.specs.Files.{ReadsOfInput};
 ghost use Rattle.program_streams.specs.FileLines.{file_line};
 ghost use Rattle.fencer.specs.Placements.{text_fault_line};
-ghost use Rattle.fencer.specs.Surveys.{block_text, row_line, survey_status, table_text, worse, AreWritten, IsBlock, IsBlockOfText, IsFound, IsRefused, IsSurvey, ReadsOfSomeFiles, RefusedBlock};
+ghost use Rattle.fencer.specs.Surveys.{block_text, row_line, shown_name, survey_status, table_text, worse, AreWritten, IsBlock, IsBlockOfText, IsFound, IsRefused, IsSurvey, ReadsOfSomeFiles, RefusedBlock};
 
 use crate::advice::text_fault_advice;
 use crate::place::text_fault_line;
@@ -14,7 +14,7 @@ use crate::tied::{tie_advice, tied_costs};
 use answers::{
     Texts, check_status, printed, said_of, slip_advice, unread_advice, unread_litmus, written,
 };
-use documents::refusal_document;
+use documents::{RefusalMessage, refusal_document};
 use fencer_words::{SurveyOptions, SurveyQuery};
 use messages::Message;
 use placed_text::{Effort, TextFault};
@@ -107,6 +107,29 @@ fn block_text(alloc: Global, name: &str, text: &[u8]) -> Result<Vec<u8>, AllocEr
     Ok(lines)
 }
 
+/// The name of a file as messages have it.
+fn shown_name(name: &str) -> &str
+    ensures { result.now ≡ shown_name name.now }
+{
+    if name == "-" { "<stdin>" } else { name }
+}
+
+/// The document of a refusal, which names the file also where the message could not be made.
+fn named_refusal(
+    alloc: Global,
+    name: &str,
+    line: &[u8],
+    message: &Result<Message, AllocError>,
+) -> Result<Vec<u8>, AllocError>
+    ensures { IfOk result (λ text. RefusedBlock true name.now line.now text.items) }
+{
+    let said = RefusalMessage {
+        file: shown_name(name).as_bytes(),
+        ..said_of(message)
+    };
+    refusal_document(alloc, line, &said)
+}
+
 /// The line of a refusal after the name of its file, or the document of the line where that is asked for.
 fn refused_text(
     alloc: Global,
@@ -118,7 +141,7 @@ fn refused_text(
     ensures { IfOk result (λ text. RefusedBlock json name.now line.now text.items) }
 {
     if json {
-        refusal_document(alloc, line, &said_of(message))
+        named_refusal(alloc, name, line, message)
     } else {
         block_text(alloc, name, line)
     }
