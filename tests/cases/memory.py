@@ -129,15 +129,16 @@ class SurveyTexts:
 
 
 def surveys_refused(library):
-    """A survey of two files."""
+    """A survey of two files, without ties and with them."""
     given, other = example("SB.litmus"), os.path.join(EXAMPLES, "n6.litmus")
-    words = ["survey", "-", other]
-    right = run(words, given)
-    tell("the survey of two files", right[0] == 3, right)
-    blocks, heading, *rows = re.split(rb"^(table .*\n|row .*\n)", right[1], flags=re.M)
-    first, second = re.fullmatch(rb"(file -\n.*)(file .*)", blocks, re.S).groups()
-    rows = [row for row in rows if row]
-    refused_allocations(library, "the survey of two files", words, given, right, SurveyTexts(heading, [("-", first, rows[0]), (other, second, rows[1])]))
+    for options in ([], ["--ties"]):
+        words = ["survey", *options, "-", other]
+        name, right = " ".join([*words[:-2], "of two files"]), run(words, given)
+        tell(name, right[0] == 3, right)
+        blocks, heading, *rows = re.split(rb"^(table .*\n|row .*\n)", right[1], flags=re.M)
+        first, second = re.fullmatch(rb"(file -\n.*)(file .*)", blocks, re.S).groups()
+        rows = [row for row in rows if row]
+        refused_allocations(library, name, words, given, right, SurveyTexts(heading, [("-", first, rows[0]), (other, second, rows[1])]))
 
 
 def replays_refused(library):
@@ -275,7 +276,7 @@ class Memory(PreloadedCases):
         replays_refused(self.library)
 
     def test_surveys(self):
-        """A survey of two files."""
+        """A survey of two files, without ties and with them."""
         surveys_refused(self.library)
 
     def test_large(self):

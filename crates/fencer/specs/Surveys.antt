@@ -1,18 +1,21 @@
 -- What is printed of the files of a survey. `files` says what files hold.
-use Rattle.std.specs.Prelude.{◌≡◌, ◌==◌, ◌||◌, ◌&&◌, ℕ, Bool, true, false, List, [], ◌∷◌, ◌++◌, Option, Some, None, codes, length, map, nat_lt, not, string_bytes, take, if◌then◌else◌}
+use Rattle.std.specs.Prelude.{◌≡◌, ◌==◌, ◌||◌, ◌&&◌, ℕ, Bool, true, false, List, [], ◌∷◌, ◌++◌, Option, Some, None, codes, length, map, nat_lt, not, replicate, string_bytes, take, if◌then◌else◌}
 use Rattle.std.specs.Io.KnownBytes.{Appends}
+use Rattle.std.specs.List.{list_any}
+use Rattle.std.specs.Str.{bytes_eq}
 use Rattle.program_streams.specs.declared.fault.FileFault.{FileFault}
 use Rattle.program_streams.specs.declared.files.TheConstants.{TEXT_LIMIT}
 use Rattle.program_streams.specs.Files.{AreOfFile, IsFileFault, ReadsOfInput}
 use Rattle.program_streams.specs.FileLines.{file_line}
 use Rattle.tso_program.specs.declared.listing.Listing.{Listing}
+use Rattle.tso_program.specs.Listings.{gap_count}
 use Rattle.litmus_text.specs.Litmus.{Litmus}
 use Rattle.litmus_text.specs.ReadFault.{ReadFault}
-use Rattle.litmus_text.specs.Texts.{IsLitmus, IsNoLitmus}
+use Rattle.litmus_text.specs.Texts.{IsLitmus}
 use Rattle.fencer_words.specs.declared.job.SurveyOptions.{SurveyOptions}
 use Rattle.fencer_words.specs.declared.job.SurveyQuery.{SurveyQuery}
 use Rattle.placed_text.specs.declared.fault.TextFault.{TextFault}
-use Rattle.placed_text.specs.TextFaults.{HasNoPlacedText}
+use Rattle.placed_text.specs.TextFaults.{HasNoPlacedText, IsRefusedText}
 use Rattle.survey_text.specs.declared.finding.SurveyText.{SurveyText}
 use Rattle.survey_text.specs.Surveys.{IsSurveyText}
 use Rattle.fencer.specs.declared.surveys.Block.{Block}
@@ -40,10 +43,14 @@ refused_row = codes "refused"
 abbrev pub survey_status : Bool → SurveyText → ℕ
 survey_status allow_unexecuted told = check_status true (told.fails || (told.has_unexecuted && not allow_unexecuted))
 
--- why nothing is found: the file's name and a line, or the document of the line
+-- the name of a file as messages have it
+abbrev pub shown_name : List ℕ → List ℕ
+shown_name name = if bytes_eq name (codes "-") then codes "<stdin>" else name
+
+-- why nothing is found: the file's name and a line, or the document of the line, which names the file
 abbrev pub RefusedBlock : Bool → List ℕ → List ℕ → List ℕ → Type 0
 RefusedBlock false name line text = text ≡ block_text name line
-RefusedBlock true name line text = IsRefusalDocument line text
+RefusedBlock true name line text = (document : IsRefusalDocument line text) × (document.remark.file ≡ shown_name name)
 
 -- the block says that the file is refused, for the reason that this line gives
 pub record IsRefused (json : Bool) (name line : List ℕ) (block : Block) : Type 0 where
@@ -57,12 +64,12 @@ pub record IsFound (options : SurveyOptions) (name : List ℕ) (told : SurveyTex
   pub said : block.lines.items ≡ printed options.json (block_text name told.lines.items) told.document.items
   pub summed : block.row.items ≡ row_line name told.row.items
 
--- the text of costs by which a text's program is looked at: none, or a cost file of gaps which go together, if the text spells a
--- program; of which gaps go together nothing is said
+-- the text of costs by which a text's program is looked at: none, or a cost file of gaps which go together, where each gap costs 1,
+-- unless the text is refused for another reason than memory; of which gaps go together nothing is said
 abbrev pub AreTied : Bool → List ℕ → Option (List ℕ) → Type 0
 AreTied false bytes costs = costs ≡ None
-AreTied true bytes None = (why : ReadFault) × IsNoLitmus bytes why
-AreTied true bytes (Some file) = (source : Litmus Listing) × IsLitmus bytes source × IsTiedFile source.program file
+AreTied true bytes None = (why : ReadFault) × IsRefusedText bytes why
+AreTied true bytes (Some file) = (source : Litmus Listing) × IsLitmus bytes source × IsTiedFile source.program (replicate (gap_count source.program.threads) 1) file
 
 -- what is printed of a file with this text, with its status: what is found of its program, or why nothing is
 pub data IsBlockOfText (options : SurveyOptions) (name bytes : List ℕ) : ℕ → List ℕ → List ℕ → Type 0 where
@@ -77,17 +84,20 @@ pub data IsBlock (options : SurveyOptions) (files : List ℕ → Option (List �
 
 -- ---- all files
 
--- the status of two: that of a refusal, or else that of a fault that is found
-abbrev pub worse : ℕ → ℕ → ℕ
-worse status other = if (status == 1) || (other == 0) then status else other
+-- the status of blocks with these statuses: 1 where a file is refused, otherwise 3 where a fault is found in one, otherwise 0
+abbrev pub status_by : Bool → Bool → ℕ
+status_by is_refused fails = if is_refused then 1 else check_status true fails
 
--- A block and a row for each file, one after the other, with the status of them all; each reads what the input has left, and `left` is
--- what it has left after the last.
-pub data AreBlocks (options : SurveyOptions) (files : List ℕ → Option (List ℕ)) (input : Option (List ℕ)) : List (List ℕ) → Option (List ℕ) → ℕ → List ℕ → List ℕ → Type 0 where
-  none : AreBlocks options files input [] input 0 [] []
-  more : (names : List (List ℕ)) (name : List ℕ) (mid left : Option (List ℕ)) (status other : ℕ) (text block rows row : List ℕ)
-      → AreBlocks options files input names mid status text rows → IsBlock options files name mid other block row → ReadsOfInput TEXT_LIMIT name mid left
-      → AreBlocks options files input (names ++ name ∷ []) left (worse status other) (text ++ block) (rows ++ row)
+abbrev pub worst : List ℕ → ℕ
+worst statuses = status_by (list_any (λ status. status == 1) statuses) (list_any (λ status. status == 3) statuses)
+
+-- A block and a row for each file, one after the other, with the statuses of the blocks; each reads what the input has left, and `left`
+-- is what it has left after the last.
+pub data AreBlocks (options : SurveyOptions) (files : List ℕ → Option (List ℕ)) (input : Option (List ℕ)) : List (List ℕ) → Option (List ℕ) → List ℕ → List ℕ → List ℕ → Type 0 where
+  none : AreBlocks options files input [] input [] [] []
+  more : (names : List (List ℕ)) (name : List ℕ) (mid left : Option (List ℕ)) (statuses : List ℕ) (status : ℕ) (text block rows row : List ℕ)
+      → AreBlocks options files input names mid statuses text rows → IsBlock options files name mid status block row → ReadsOfInput TEXT_LIMIT name mid left
+      → AreBlocks options files input (names ++ name ∷ []) left (statuses ++ status ∷ []) (text ++ block) (rows ++ row)
 
 -- after the blocks of several files their table, but not after documents
 abbrev pub heading_line : List ℕ
@@ -99,15 +109,17 @@ table_text json count rows = if not json && nat_lt 1 count then heading_line ++ 
 -- What is printed, with its status: the blocks of all files and their table; or, where memory is wanting for what comes next, the
 -- blocks of the first so many files, with status 1.
 pub data IsSurvey (asked : SurveyQuery) (input : Option (List ℕ)) (files : List ℕ → Option (List ℕ)) : ℕ → List ℕ → Type 0 where
-  of_all : (left : Option (List ℕ)) (status : ℕ) (blocks rows : List ℕ) → AreBlocks asked.options files input (map string_bytes asked.files.items) left status blocks rows
-      → IsSurvey asked input files status (blocks ++ table_text asked.options.json (length asked.files.items) rows)
-  of_first : (count : ℕ) (left : Option (List ℕ)) (status : ℕ) (blocks rows : List ℕ) → AreBlocks asked.options files input (take count (map string_bytes asked.files.items)) left status blocks rows
+  of_all : (left : Option (List ℕ)) (statuses blocks rows : List ℕ) → AreBlocks asked.options files input (map string_bytes asked.files.items) left statuses blocks rows
+      → IsSurvey asked input files (worst statuses) (blocks ++ table_text asked.options.json (length asked.files.items) rows)
+  of_first : (count : ℕ) (left : Option (List ℕ)) (statuses blocks rows : List ℕ) → AreBlocks asked.options files input (take count (map string_bytes asked.files.items)) left statuses blocks rows
       → IsSurvey asked input files 1 blocks
 
--- the blocks of these files were written, and nothing else
+-- the blocks of these files were written, and nothing else; this is their status
 pub record AreWritten (options : SurveyOptions) (files : List ℕ → Option (List ℕ)) (input : Option (List ℕ)) (names : List (List ℕ)) (left : Option (List ℕ)) (status : ℕ) (rows : List ℕ) (old new : Option (List ℕ)) : Type 0 where
+  pub statuses : List ℕ
   pub blocks : List ℕ
-  pub are : AreBlocks options files input names left status blocks rows
+  pub are : AreBlocks options files input names left statuses blocks rows
+  pub ends : status ≡ worst statuses
   pub written : Appends old new blocks
 
 -- ---- what is read of the input

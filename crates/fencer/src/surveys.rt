@@ -1,20 +1,20 @@
 //! Surveys: what one look at the program of each file finds, a block a file.
 
-ghost use Rattle.std.specs.Prelude.{◌≡◌, ◌++◌, IfOk, OnErr, OnOk, map, string_bytes};
+ghost use Rattle.std.specs.Prelude.{◌≡◌, ◌∷◌, ◌++◌, [], IfOk, OnErr, OnOk, map, string_bytes, true};
 ghost use Rattle.program_streams.specs.Streams.{Prints};
 ghost use Rattle.program_streams.specs.Files.{ReadsOfInput};
 ghost use Rattle.program_streams.specs.FileLines.{file_line};
 ghost use Rattle.fencer.specs.Placements.{text_fault_line};
-ghost use Rattle.fencer.specs.Surveys.{block_text, row_line, survey_status, table_text, worse, AreWritten, IsBlock, IsBlockOfText, IsFound, IsRefused, IsSurvey, ReadsOfSomeFiles, RefusedBlock};
+ghost use Rattle.fencer.specs.Surveys.{block_text, row_line, shown_name, survey_status, table_text, worst, AreWritten, IsBlock, IsBlockOfText, IsFound, IsRefused, IsSurvey, ReadsOfSomeFiles, RefusedBlock};
 
 use crate::advice::text_fault_advice;
 use crate::place::text_fault_line;
-use crate::survey_advice::{unexecuted_advice, verdict_advice};
+use crate::survey_advice::{file_message, unexecuted_advice, verdict_advice};
 use crate::tied::{tie_advice, tied_costs};
 use answers::{
     Texts, check_status, printed, said_of, slip_advice, unread_advice, unread_litmus, written,
 };
-use documents::refusal_document;
+use documents::{RefusalMessage, refusal_document};
 use fencer_words::{SurveyOptions, SurveyQuery};
 use messages::Message;
 use placed_text::{Effort, TextFault};
@@ -62,10 +62,10 @@ impl Summary {
     /// Adds one more file.
     fn add(&mut self, block: &Block) -> Result<(), AllocError>
         ensures rows { OnOk result (self.new.rows.items ≡ self.old.rows.items ++ block.now.row.items) }
-        ensures status { OnOk result (self.new.status ≡ worse self.old.status block.now.status) }
+        ensures status { OnOk result (self.new.status ≡ worst (self.old.status ∷ block.now.status ∷ [])) }
     {
         self.rows.extend_from_slice(&block.row)?;
-        self.status = worse(self.status, block.status);
+        self.status = worst(self.status, block.status);
         Ok(())
     }
 }
@@ -107,6 +107,29 @@ fn block_text(alloc: Global, name: &str, text: &[u8]) -> Result<Vec<u8>, AllocEr
     Ok(lines)
 }
 
+/// The name of a file as messages have it.
+fn shown_name(name: &str) -> &str
+    ensures { result.now ≡ shown_name name.now }
+{
+    if name == "-" { "<stdin>" } else { name }
+}
+
+/// The document of a refusal, which names the file also where the message could not be made.
+fn named_refusal(
+    alloc: Global,
+    name: &str,
+    line: &[u8],
+    message: &Result<Message, AllocError>,
+) -> Result<Vec<u8>, AllocError>
+    ensures { IfOk result (λ text. RefusedBlock true name.now line.now text.items) }
+{
+    let said = RefusalMessage {
+        file: shown_name(name).as_bytes(),
+        ..said_of(message)
+    };
+    refusal_document(alloc, line, &said)
+}
+
 /// The line of a refusal after the name of its file, or the document of the line where that is asked for.
 fn refused_text(
     alloc: Global,
@@ -118,7 +141,7 @@ fn refused_text(
     ensures { IfOk result (λ text. RefusedBlock json name.now line.now text.items) }
 {
     if json {
-        refusal_document(alloc, line, &said_of(message))
+        named_refusal(alloc, name, line, message)
     } else {
         block_text(alloc, name, line)
     }
@@ -216,7 +239,8 @@ fn time_message<T: Clock>(
     match start.elapsed(rt) {
         Ok(time) => {
             let time = time.as_millis();
-            Ok(format!(in alloc; "fencer: {name}: {time} ms\n")?.into_bytes())
+            let text = format!(in alloc; "{time} ms")?;
+            file_message(alloc, name, text.as_str())
         }
         Err(_) => Ok(Vec::new(alloc)),
     }
@@ -316,14 +340,14 @@ fn block_of<T: Threads + Wait + Sync + Clock, S: FileStore, R: Read>(
     }
 }
 
-/// The status of two blocks: that of a refusal, or else that of a fault that is found.
-fn worse(status: u8, other: u8) -> u8
-    ensures { result ≡ worse status other }
+/// The status of blocks with these two statuses: 1 where a file is refused, otherwise 3 where a fault is found.
+fn worst(status: u8, other: u8) -> u8
+    ensures { result ≡ worst (status ∷ other ∷ []) }
 {
-    if status == 1 || other == 0 {
-        status
+    if status == 1 || other == 1 {
+        1
     } else {
-        other
+        check_status(true, status == 3 || other == 3)
     }
 }
 

@@ -18,6 +18,6 @@ returns-in-Ok-clause-run c bytes spelled =
         passes = rw (c.empty.ensures, c.deref.ensures.value) at c.in_ok-ended.ensures.passed;
         printed = refl;
       };
-      printed = (c.in_ok-drawings.drawings.table.items, c.in-Ok.ensures);
+      printed = (c.in_ok-drawings.drawings.table.items, rw c.deref-2.ensures.value at c.in_ok-drawings.ensures.table, c.in-Ok.ensures);
       told = rw c.deref-2.ensures.value at c.in_ok-drawings.ensures.told;
     }
