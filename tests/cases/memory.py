@@ -205,7 +205,7 @@ def placements_refused(library, folder):
 
 
 def certificates_refused(library, folder):
-    """Certificates that are accepted, and one that is refused after its costs are read."""
+    """Certificates of each version that are accepted, and one that is refused after its costs are read."""
     lawful = lawful_lines("certificate 8 OutOfMemory", "costs 5 OutOfMemory", "check 9 OutOfMemory")
     for test, kind, line in (
         ("SB", "", b"accepted cost 2 set 0:1 1:1\n"), ("nothing", "", b"accepted cost 0 set\n"),
@@ -213,6 +213,9 @@ def certificates_refused(library, folder):
     ):
         given = example(test + ".litmus") + example(f"{test}{kind}.cert")
         refused_allocations(library, f"the certificate of {test}{kind}", [], given, (0, line), lawful, FENCECHECK)
+    for test, line in (("bounds", b"accepted cost 2 set 0:1 1:1\n"), ("own-store", b"accepted cost 0 set\n")):
+        words = [in_data("certificates", test + end) for end in (".litmus", ".cert")]
+        refused_allocations(library, f"the certificate of version 4 of {test}", words, b"", (0, line), lawful, FENCECHECK)
     costs = os.path.join(folder, "costs")
     write(costs, b"0:1 5\n1:1 2\n")
     words = [os.path.join(EXAMPLES, file) for file in ("SB.litmus", "SB.cert")]
