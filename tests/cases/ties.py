@@ -6,7 +6,7 @@ import re
 import subprocess
 import tempfile
 
-from harness import EXAMPLES, FENCECHECK, FENCER, Cases, bytes_of, example_files, expect, run, same, tell, write
+from harness import EXAMPLES, FENCECHECK, FENCER, Cases, bytes_of, example, example_files, expect, run, same, tell, write
 from judges import conditions, ties
 from judges.made_certificates import random_source
 from judges.texts import canonical_of, test_of
@@ -81,6 +81,30 @@ FILES = (
     (b"\t0:2 \t 00:01  1:1 7\r\n", "0:1 0:2 1:1 7\n"),
     (b"1:1 0:2 3\n\n0:1 2\n", "0:1 2\n0:2 1:1 3\n"),
 )
+# a program of which one thread waits with two tries
+TRIES = b"""X86 tries
+{ }
+P0          | P1          ;
+MOV [x],$1  | MOV [y],$1  ;
+MOV EAX,[y] | MOV EAX,[x] ;
+CMP EAX,$1  |             ;
+JE end      |             ;
+MOV EAX,[y] |             ;
+CMP EAX,$1  |             ;
+JE end      |             ;
+end:        |             ;
+exists (1:EAX=0)
+"""
+# programs, what their gaps cost, the options of `gaps`, and the ties that are proposed: each costs as much as the dearest of its gaps
+DEAREST = (
+    (example("SB.litmus"), b"0:1 5\n1:1 7\n", ["--ties"], b"0:1 1:1 7\n"),
+    (example("SB.litmus"), b"0:1 7\n1:1 5\n", ["--same", "0,1"], b"0:1 1:1 7\n"),
+    (example("SB.litmus"), b"1:1 3\n", ["--same", "1,0"], b"0:1 1:1 3\n"),
+    (example("SB.litmus"), b"0:1 5\n1:1 7\n", ["--same", "0"], b"0:1 5\n1:1 7\n"),
+    (TRIES, b"0:1 2\n0:4 9\n0:2 3\n1:1 7\n", ["--tries"], b"0:1 0:4 9\n0:2 0:5 3\n0:3 0:6 1\n1:1 7\n"),
+    (TRIES, b"0:4 2\n0:1 9\n0:6 4\n1:1 7\n", ["--ties", "--tries"], b"0:1 0:4 9\n0:2 0:5 1\n0:3 0:6 4\n1:1 7\n"),
+    (TRIES, b"0:4 2\n0:5 3\n1:1 7\n", ["--same", "0,1", "--tries"], b"0:1 0:4 1:1 7\n0:2 0:5 3\n0:3 0:6 1\n"),
+)
 THREE_GAPS = b"X86 three\n{ }\nP0 | P1 ;\nMOV [x],$1 | MOV [y],$1 ;\nMOV EAX,[y] | MOV EAX,[x] ;\nMOV EBX,[x] | ;\nexists (0:EAX=0)\n"
 
 
@@ -140,6 +164,13 @@ class Ties(Cases):
             expect(f"the ties of {litmus} by {' '.join(words)}", ["gaps", *words, example_path(litmus)], 0, lines)
             told = subprocess.run([FENCER, "gaps", *words, example_path(litmus)], capture_output=True).stderr
             same(f"the lines of the ties of {litmus} by {' '.join(words)}", told, said)
+
+    def test_dearest(self):
+        """What the ties cost that are proposed where the gaps have costs of their own."""
+        for source, costs, words, proposed in DEAREST:
+            with tempfile.NamedTemporaryFile() as file:
+                write(file.name, costs)
+                expect(f"the ties by {' '.join(words)} of gaps that cost {costs}", ["gaps", *words, "--costs", file.name, "-"], 0, proposed, source)
 
     def test_random(self):
         """Random programs with random ties: each kind of answer, by 1, 2 and 8 workers, whole and early trees."""
