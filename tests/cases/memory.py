@@ -110,17 +110,17 @@ class RefusalDocuments:
 
 class SurveyTexts:
     """What a survey of files with these blocks and rows may print where memory is refused, with status 1: a block for each file, of which some are refusals, and
-    their table; or the first of these blocks alone."""
+    their table; or the first of these blocks alone. A survey of one file has no heading and no rows."""
 
-    def __init__(self, heading, files):
-        self.heading, self.files = heading, files
+    def __init__(self, heading, files, *told):
+        self.heading, self.files, self.lawful = heading, files, lawful_lines("place 5 OutOfMemory", *told)
 
     def __contains__(self, found):
         status, text = found
         table = self.heading
         for name, block, row in self.files:
             refusal = f"file {name}\n".encode()
-            lines = [refusal + line for _, line in lawful_lines("place 5 OutOfMemory") if line and text.startswith(refusal + line)]
+            lines = [refusal + line for _, line in self.lawful if line and text.startswith(refusal + line)]
             if not lines and not text.startswith(block):
                 break
             text = text[len(lines[0] if lines else block):]
@@ -129,7 +129,7 @@ class SurveyTexts:
 
 
 def surveys_refused(library):
-    """A survey of two files."""
+    """A survey of two files, and one of a file whose gaps go together."""
     given, other = example("SB.litmus"), os.path.join(EXAMPLES, "n6.litmus")
     words = ["survey", "-", other]
     right = run(words, given)
@@ -138,6 +138,10 @@ def surveys_refused(library):
     first, second = re.fullmatch(rb"(file -\n.*)(file .*)", blocks, re.S).groups()
     rows = [row for row in rows if row]
     refused_allocations(library, "the survey of two files", words, given, right, SurveyTexts(heading, [("-", first, rows[0]), (other, second, rows[1])]))
+    words = ["survey", "--ties", "-"]
+    right = run(words, given)
+    tell("the survey of a file with ties", right[0] == 3 and b"\nanswer cost 1 set 0:1 1:1\n" in right[1], right)
+    refused_allocations(library, "the survey of a file with ties", words, given, right, SurveyTexts(b"", [("-", right[1], b"")], "costs 5 OutOfMemory"))
 
 
 def replays_refused(library):
@@ -278,7 +282,7 @@ class Memory(PreloadedCases):
         replays_refused(self.library)
 
     def test_surveys(self):
-        """A survey of two files."""
+        """A survey of two files, and one with ties."""
         surveys_refused(self.library)
 
     def test_large(self):
