@@ -112,15 +112,15 @@ class SurveyTexts:
     """What a survey of files with these blocks and rows may print where memory is refused, with status 1: a block for each file, of which some are refusals, and
     their table; or the first of these blocks alone."""
 
-    def __init__(self, heading, files):
-        self.heading, self.files = heading, files
+    def __init__(self, heading, files, *told):
+        self.heading, self.files, self.lawful = heading, files, lawful_lines("place 5 OutOfMemory", *told)
 
     def __contains__(self, found):
         status, text = found
         table = self.heading
         for name, block, row in self.files:
             refusal = f"file {name}\n".encode()
-            lines = [refusal + line for _, line in lawful_lines("place 5 OutOfMemory") if line and text.startswith(refusal + line)]
+            lines = [refusal + line for _, line in self.lawful if line and text.startswith(refusal + line)]
             if not lines and not text.startswith(block):
                 break
             text = text[len(lines[0] if lines else block):]
@@ -131,14 +131,14 @@ class SurveyTexts:
 def surveys_refused(library):
     """A survey of two files, without ties and with them."""
     given, other = example("SB.litmus"), os.path.join(EXAMPLES, "n6.litmus")
-    for options in ([], ["--ties"]):
+    for options, told in (([], []), (["--ties"], ["costs 5 OutOfMemory"])):
         words = ["survey", *options, "-", other]
         name, right = " ".join([*words[:-2], "of two files"]), run(words, given)
         tell(name, right[0] == 3, right)
         blocks, heading, *rows = re.split(rb"^(table .*\n|row .*\n)", right[1], flags=re.M)
         first, second = re.fullmatch(rb"(file -\n.*)(file .*)", blocks, re.S).groups()
         rows = [row for row in rows if row]
-        refused_allocations(library, name, words, given, right, SurveyTexts(heading, [("-", first, rows[0]), (other, second, rows[1])]))
+        refused_allocations(library, name, words, given, right, SurveyTexts(heading, [("-", first, rows[0]), (other, second, rows[1])], *told))
 
 
 def replays_refused(library):
@@ -206,7 +206,7 @@ def placements_refused(library, folder):
 
 
 def certificates_refused(library, folder):
-    """Certificates that are accepted, and one that is refused after its costs are read."""
+    """Certificates of each version that are accepted, and one that is refused after its costs are read."""
     lawful = lawful_lines("certificate 8 OutOfMemory", "costs 5 OutOfMemory", "check 9 OutOfMemory")
     for test, kind, line in (
         ("SB", "", b"accepted cost 2 set 0:1 1:1\n"), ("nothing", "", b"accepted cost 0 set\n"),
@@ -214,6 +214,9 @@ def certificates_refused(library, folder):
     ):
         given = example(test + ".litmus") + example(f"{test}{kind}.cert")
         refused_allocations(library, f"the certificate of {test}{kind}", [], given, (0, line), lawful, FENCECHECK)
+    for test, line in (("bounds", b"accepted cost 2 set 0:1 1:1\n"), ("own-store", b"accepted cost 0 set\n")):
+        words = [in_data("certificates", test + end) for end in (".litmus", ".cert")]
+        refused_allocations(library, f"the certificate of version 4 of {test}", words, b"", (0, line), lawful, FENCECHECK)
     costs = os.path.join(folder, "costs")
     write(costs, b"0:1 5\n1:1 2\n")
     words = [os.path.join(EXAMPLES, file) for file in ("SB.litmus", "SB.cert")]

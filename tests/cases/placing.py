@@ -4,6 +4,7 @@ import re
 import tempfile
 from concurrent.futures import ThreadPoolExecutor
 
+from cases.progress import reads
 from harness import FENCECHECK, LIMIT, Cases, bytes_of, called, example, in_data, judge, lines, run, same, sources_of, tell, without_end, write
 from judges import candidates
 from judges.texts import fenced_text, test_of
@@ -11,6 +12,11 @@ from judges.texts import fenced_text, test_of
 WORKERS = ([], ["--workers", "2"], ["--workers", "8"], ["--workers", "32"])
 # a certificate of more bytes than this is long
 LONG = 5_000
+# options, and the version that a certificate then has: by the rule of its trees and what is compared, whatever the program's size
+VERSIONS = (
+    (["--trees", "whole"], 1), (["--trees", "whole", "--observed"], 2), (["--trees", "whole", "--condition"], 2),
+    (["--trees", "early"], 4), (["--trees", "early", "--observed"], 4), (["--trees", "early", "--condition"], 4),
+)
 # where programs stand, where their answers do, with which options, and how the files of the answers end
 ANSWERED = (
     ("replays", "places", [], "place"), ("whole", "whole", [], "place"), ("observed", "observed", [], "place"), ("large", "large", [], "place"),
@@ -124,6 +130,16 @@ class Placing(Cases):
             litmus = in_data("litmus", name + ".litmus")
             shown = placed(name, litmus, [], line.encode() + b"\n" + fenced_text(litmus, gaps))
             same(f"the set of the certificate of {name}", shown.split(b"\n")[1:2], [f"set {gaps}".strip().encode()])
+
+    def test_versions(self):
+        """The version of a certificate where a rule of its trees is asked for, of a small program and of a large one."""
+        for name, source in (("store buffering", example("SB.litmus")), ("many reads", reads(5, 5).encode())):
+            with tempfile.TemporaryDirectory() as folder:
+                litmus = os.path.join(folder, "litmus")
+                write(litmus, source)
+                for options, version in VERSIONS:
+                    first = certificate_of(litmus, options, None).split(b"\n")[0]
+                    same(f"the version of a certificate of {name} by {' '.join(options)}", first, b"FENCECERT %d" % version)
 
     def test_certificate_files(self):
         """Certificate files that can't be written, that are replaced, and of the name -."""

@@ -1,6 +1,7 @@
 """Random certificates: what `fencecheck` says of many small ones of each version, most of them damaged, is what `judges/certificates.py` says of them."""
 import collections
 import functools
+import itertools
 import os
 import random
 import tempfile
@@ -13,15 +14,16 @@ from judges.damage import KINDS
 from judges.made_certificates import Maker, TooLong, random_source
 from judges.texts import canonical_of, test_of
 
-CERTIFICATES, DAMAGED, SEED = 2000, 16, 55
+# so many certificates at least are of version 4, and so many of these undamaged; each that is made is damaged in so many ways
+OF_VERSION_4, UNDAMAGED, DAMAGED, SEED = 2000, 300, 6, 55
 # the versions and the rules by which cover trees are made; by `none` a read may take its source before it is settled
 MADE = ((4, "early"), (4, "whole"), (4, "none"), (1, "whole"), (1, "early"))
 # what the judge has to say of some of them, so that each fault is met
 FAULTS = (*(f"refused certificate {number}" for number in range(1, 8)), *(f"refused check {number}" for number in (*range(1, 9), 10)))
 SAID = ("accepted cost", "accepted observed", "accepted condition", *FAULTS)
 
-# a certificate's text and what the judge says of it; a program, and the line of the best set as the machine's states show it
-Case = collections.namedtuple("Case", "name program text line")
+# a certificate's text, whether it is damaged, and what the judge says of it; a program, and the line of the best set as the machine's states show it
+Case = collections.namedtuple("Case", "name program text is_damaged line")
 Program = collections.namedtuple("Program", "number source costs best")
 
 
@@ -38,7 +40,7 @@ def costs_by(gaps, text):
 
 
 def certificates_of(draw, maker):
-    """Certificates of a program, each with the name of what it is: as it is made, and damaged."""
+    """Certificates of a program, as they are made and damaged, each with the name of what it is, its text, and whether it is damaged."""
     for version, rule in [MADE[0], *draw.sample(MADE[1:], 2)]:
         version = version if maker.question.shown == "all" or version == 4 else 2
         try:
@@ -46,13 +48,13 @@ def certificates_of(draw, maker):
         except TooLong:
             continue
         name = f"version {version} by the rule {rule}"
-        yield name, written(made)
-        yield from ((f"{name}, {kind.__name__}", kind(draw, made)) for kind in draw.sample(KINDS, DAMAGED))
+        yield name, written(made), False
+        yield from ((f"{name}, {kind.__name__}", kind(draw, made), True) for kind in draw.sample(KINDS, DAMAGED))
 
 
 def random_cases(draw):
     """Random programs, each with its certificates and what the judge says of them."""
-    for number in range(CERTIFICATES):
+    for number in itertools.count():
         source = random_source(draw)
         test, canonical = test_of(source), canonical_of(source)
         spelled = b"" if draw.random() < 0.4 else "".join(f"{t}:{k} {draw.choice((1, 1, 2, 5))}\n" for t, k in test.gaps()).encode()
@@ -61,8 +63,20 @@ def random_cases(draw):
         if maker.set or draw.random() < 0.1:
             maker.find_more(5)
             program = Program(number, source, spelled, maker.line)
-            for name, text in certificates_of(draw, maker):
-                yield Case(f"random program {number}: {name}", program, text, line_of(test, canonical, costs, text))
+            for name, text, is_damaged in certificates_of(draw, maker):
+                yield Case(f"random program {number}: {name}", program, text, is_damaged, line_of(test, canonical, costs, text))
+
+
+def enough_cases(draw):
+    """Random cases, until enough have a text of version 4 and enough of these are undamaged."""
+    of_version_4 = undamaged = 0
+    for case in random_cases(draw):
+        yield case
+        if case.text.startswith(b"FENCECERT 4\n"):
+            of_version_4 += 1
+            undamaged += not case.is_damaged
+        if of_version_4 >= OF_VERSION_4 and undamaged >= UNDAMAGED:
+            return
 
 
 def files_of(folder, case, place):
@@ -95,15 +109,13 @@ class RandomCertificates(Cases):
                 same(f"the judge of {folder}: {name}", line_of(test, canonical, given, shown), line)
 
     def test_damaged(self):
-        """Certificates of random programs by each version and rule, as they are made and damaged."""
+        """Certificates of random programs by each version and rule, as they are made and damaged: at least 2,000 texts of version 4, of them 300 undamaged."""
         draw = random.Random(SEED)
         with tempfile.TemporaryDirectory() as folder, ThreadPoolExecutor() as pool:
             found = []
-            for case in random_cases(draw):
+            for case in enough_cases(draw):
                 words = files_of(folder, case, len(found))
                 found.append((case, words, pool.submit(run, words, b"", FENCECHECK)))
-                if len(found) == CERTIFICATES:
-                    break
             for case, words, answer in found:
                 if answer.result() == answer_of(case.line):
                     tell(case.name, True)

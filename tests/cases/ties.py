@@ -6,7 +6,7 @@ import re
 import subprocess
 import tempfile
 
-from harness import EXAMPLES, FENCECHECK, FENCER, Cases, bytes_of, example_files, expect, run, same, tell, write
+from harness import EXAMPLES, FENCECHECK, FENCER, Cases, bytes_of, example, example_files, expect, run, same, tell, write
 from judges import conditions, ties
 from judges.made_certificates import random_source
 from judges.texts import canonical_of, test_of
@@ -25,15 +25,7 @@ PROPOSED = (
     ("n6.litmus", ["--ties"], b"0:1 1\n0:2 1\n1:1 1\n", b""),
     ("n6.litmus", ["--same", "1,0"], b"0:1 1\n0:2 1\n1:1 1\n", b""),
 )
-TRIES = b"X86 tries\n{ }\nP0 | P1 ;\nMOV [x],$1 | MOV [y],$1 ;\nMOV EAX,[y] | MOV EAX,[x] ;\nCMP EAX,$0 | ;\nJE in | ;\nMOV EAX,[y] | ;\nCMP EAX,$0 | ;\nJE in | ;\nMOV [z],$1 | ;\nin: | ;\nexists (0:EAX=0)\n"
-# programs, what their gaps cost, the options of `gaps`, and the ties that are proposed, each at what its dearest gap costs
-DEAREST = (
-    (bytes_of(os.path.join(EXAMPLES, "SB.litmus")), b"0:1 5\n1:1 7\n", ["--ties"], b"0:1 1:1 7\n"),
-    (bytes_of(os.path.join(EXAMPLES, "SB.litmus")), b"0:1 7\n", ["--ties"], b"0:1 1:1 7\n"),
-    (bytes_of(os.path.join(EXAMPLES, "SB.litmus")), b"0:1 2\n1:1 3\n", ["--same", "1,0"], b"0:1 1:1 3\n"),
-    (bytes_of(os.path.join(EXAMPLES, "n6.litmus")), b"0:2 4\n", ["--ties"], b"0:1 1\n0:2 4\n1:1 1\n"),
-    (TRIES, b"0:4 9\n1:1 2\n", ["--ties", "--tries"], b"0:1 0:4 9\n0:2 0:5 1\n0:3 0:6 1\n0:7 1\n1:1 2\n"),
-)
+
 
 
 def words_of(kind):
@@ -89,6 +81,30 @@ FILES = (
     (b"0:1 0:2 5", "0:1 0:2 5\n1:1 1\n"),
     (b"\t0:2 \t 00:01  1:1 7\r\n", "0:1 0:2 1:1 7\n"),
     (b"1:1 0:2 3\n\n0:1 2\n", "0:1 2\n0:2 1:1 3\n"),
+)
+# a program of which one thread waits with two tries
+TRIES = b"""X86 tries
+{ }
+P0          | P1          ;
+MOV [x],$1  | MOV [y],$1  ;
+MOV EAX,[y] | MOV EAX,[x] ;
+CMP EAX,$1  |             ;
+JE end      |             ;
+MOV EAX,[y] |             ;
+CMP EAX,$1  |             ;
+JE end      |             ;
+end:        |             ;
+exists (1:EAX=0)
+"""
+# programs, what their gaps cost, the options of `gaps`, and the ties that are proposed: each costs as much as the dearest of its gaps
+DEAREST = (
+    (example("SB.litmus"), b"0:1 5\n1:1 7\n", ["--ties"], b"0:1 1:1 7\n"),
+    (example("SB.litmus"), b"0:1 7\n1:1 5\n", ["--same", "0,1"], b"0:1 1:1 7\n"),
+    (example("SB.litmus"), b"1:1 3\n", ["--same", "1,0"], b"0:1 1:1 3\n"),
+    (example("SB.litmus"), b"0:1 5\n1:1 7\n", ["--same", "0"], b"0:1 5\n1:1 7\n"),
+    (TRIES, b"0:1 2\n0:4 9\n0:2 3\n1:1 7\n", ["--tries"], b"0:1 0:4 9\n0:2 0:5 3\n0:3 0:6 1\n1:1 7\n"),
+    (TRIES, b"0:4 2\n0:1 9\n0:6 4\n1:1 7\n", ["--ties", "--tries"], b"0:1 0:4 9\n0:2 0:5 1\n0:3 0:6 4\n1:1 7\n"),
+    (TRIES, b"0:4 2\n0:5 3\n1:1 7\n", ["--same", "0,1", "--tries"], b"0:1 0:4 1:1 7\n0:2 0:5 3\n0:3 0:6 1\n"),
 )
 THREE_GAPS = b"X86 three\n{ }\nP0 | P1 ;\nMOV [x],$1 | MOV [y],$1 ;\nMOV EAX,[y] | MOV EAX,[x] ;\nMOV EBX,[x] | ;\nexists (0:EAX=0)\n"
 

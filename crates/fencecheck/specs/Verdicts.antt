@@ -26,6 +26,7 @@ use Rattle.report.specs.Answers.{accepted_line}
 use Rattle.report.specs.CertificateLines.{certificate_line}
 use Rattle.report.specs.CheckLines.{check_line}
 use Rattle.report.specs.Faults.{litmus_line, costs_line}
+use Rattle.report.specs.Outcomes.{Headline}
 use Rattle.fencecheck.specs.declared.judge.Rejection.{Rejection}
 use Rattle.fencecheck.specs.declared.judge.Rejection.TheVariants as rejection
 
@@ -41,9 +42,9 @@ handed_in litmus shows.All = All
 handed_in litmus (shows.Only names) = shown_by litmus.condition.formula litmus.observed
 handed_in litmus shows.Condition = Truth litmus.condition.formula
 
--- What a line says that is relied on: the litmus text stands for this program, its gaps have these costs and ties, the headline holds of
--- these gaps, among sets that have of each tie all or none, as far as outcomes are shown, and the line is made of them and of their total, where a
--- tie costs once.
+-- What a line says that is relied on: the litmus text stands for this program, its gaps have these costs and ties; as far as outcomes
+-- are shown, the headline holds of the names of these gaps, and of the gaps among sets that have of each tie all or none; and the line is
+-- made of the gaps and of their total, where a tie costs once.
 pub record Tells (litmus : List ℕ) (costs : Option (List ℕ)) (line : List ℕ) : Type 0 where
   pub program : Litmus Listing
   pub of_text : litmus_texts.IsLitmus litmus program
@@ -52,7 +53,8 @@ pub record Tells (litmus : List ℕ) (costs : Option (List ℕ)) (line : List �
   pub shown : Shown
   pub as_asked : handed_in program (shows_of shown) ≡ shown
   pub gaps : SetOfGaps
-  pub headline : HeadlineOfAllowed (asked_with gap_costs.ties program.program shown) gap_costs.costs gaps
+  pub headline : Headline (asked_with gap_costs.ties program.program shown) gap_costs.costs (names_in gap_costs.ties gaps)
+  pub fenced : HeadlineOfAllowed (asked_with gap_costs.ties program.program shown) gap_costs.costs gaps
   pub printed : line ≡ accepted_line program.program shown gaps (total gap_costs.costs (names_in gap_costs.ties gaps))
 
 -- The line accepts: it says that, and the certificate's text is that of a certificate which claims these gaps and is valid.

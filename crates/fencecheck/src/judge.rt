@@ -9,6 +9,7 @@ ghost use Rattle.cert_check.specs.Certificates.{IsValidCertificate};
 ghost use Rattle.cert_check.specs.Faults.{CheckFaultIs};
 ghost use Rattle.cert_check.specs.Headlines.{HeadlineOfAllowed};
 ghost use Rattle.report.specs.Answers.{accepted_line};
+ghost use Rattle.report.specs.Outcomes.{Headline};
 ghost use Rattle.fencecheck.specs.Verdicts.{handed_in, IsAccepted, IsRefused, refusal_line, Spell};
 
 use cert_check::{CheckFault, check};
@@ -65,7 +66,8 @@ fn checked_line(
     costs: &TiedCosts,
     certificate: &Certificate,
 ) -> Result<Vec<u8>, CheckFault>
-    ensures headline { OnOk result (HeadlineOfAllowed (asked_with costs.now.ties program.now shown.now) costs.now.costs certificate.now.gaps) }
+    ensures headline { OnOk result (Headline (asked_with costs.now.ties program.now shown.now) costs.now.costs (names_in costs.now.ties certificate.now.gaps)) }
+    ensures fenced { OnOk result (HeadlineOfAllowed (asked_with costs.now.ties program.now shown.now) costs.now.costs certificate.now.gaps) }
     ensures valid { OnOk result (IsValidCertificate (asked_with costs.now.ties program.now shown.now) costs.now.costs certificate.now) }
     ensures line { IfOk result (λ line. line.items ≡ accepted_line program.now shown.now certificate.now.gaps (total costs.now.costs (names_in costs.now.ties certificate.now.gaps))) }
     ensures refused { IfErr result (CheckFaultIs (asked_with costs.now.ties program.now shown.now) costs.now.costs certificate.now) }

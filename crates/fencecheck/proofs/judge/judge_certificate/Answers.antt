@@ -29,6 +29,7 @@ returns-in-Ok-checked_line-clause-accepted c source claim spell = record {
     as_asked = subst (λ (shown : Shown). handed_in c.args.litmus.now (shows_of shown) ≡ shown) (sym c.in-Ok-handed_in.ensures) (asked_once c.args.litmus.now c.certificate.inside.shown);
     gaps = c.args.certificate.now.gaps;
     headline = c.in-Ok-checked_line.ensures.headline;
+    fenced = c.in-Ok-checked_line.ensures.fenced;
     printed = c.in-Ok-checked_line.ensures.line;
   };
   claimed = c.args.certificate.now;
