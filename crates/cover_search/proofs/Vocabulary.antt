@@ -26,7 +26,7 @@ pub use Rattle.tree_laws.specs.CoverTrees.{sketch_with, AreValidCovers, IsValidC
 pub use Rattle.cover_judge.specs.Judged.{IsValidAt}
 pub use Rattle.tree_laws.specs.declared.choice.Choice.{Choice}
 pub use Rattle.run_maker.specs.declared.run.MadeRun.{MadeRun}
-pub use Rattle.rowless_sketches.specs.Completions.{MustEndSo, NeedNotEnd}
+pub use Rattle.exec_axioms.specs.Completions.{MustEndSo, NeedNotEnd}
 pub use Rattle.exec_axioms.specs.Cycles.{IsSimpleCycle}
 pub use Rattle.program_sketches.specs.FewAccesses.{AreFewAccesses, HasSmallNumbers}
 pub use Rattle.program_sketches.specs.Kept.{IsLawful}
@@ -42,7 +42,7 @@ pub use Rattle.tree_laws.specs.Covers.{AreNeat, IsNeat, IsWholeCover}
 pub use Rattle.cover_search.specs.Pushing.{Pushes}
 pub use Rattle.cover_search.specs.ShownRuns.{IsShownRunOf}
 pub use Rattle.exec_axioms.proofs.Completeness.{first_there, read_there, second_there}
-pub use Rattle.rowless_sketches.proofs.Ends.{thread_within}
+pub use Rattle.exec_axioms.proofs.Ends.{thread_within}
 pub use Rattle.thread_traces.proofs.KnownParts.{not_by}
 pub use Rattle.program_sketches.proofs.Lookups.{each_index, same_default}
 pub use Rattle.program_sketches.specs.Choices.{IsOrdered, IsRead, MayFollow}

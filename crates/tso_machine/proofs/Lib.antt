@@ -39,5 +39,6 @@ pub mod BestAllowed
 pub mod HeadlineIsTheAnswer
 pub mod PartsServed
 -- words of the crates below, passed on
+pub use Rattle.tso_program.proofs.Advance
 pub use Rattle.tso_program.proofs.Kept
 pub use Rattle.tso_program.proofs.KnownTruths

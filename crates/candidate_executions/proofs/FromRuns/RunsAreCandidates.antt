@@ -12,7 +12,7 @@ use Rattle.candidate_executions.proofs.FromRuns.MarksOfHistories.{NewRead, NewWr
 use Rattle.candidate_executions.proofs.FromRuns.RunInvariant.{Inv}
 use Rattle.candidate_executions.proofs.FromRuns.RunsLeaveHistories.{values, accesses, Ending, Rest, played}
 use Rattle.candidate_executions.proofs.{FromRuns.StoredValues.valued_start, FromRuns.StepsSuffice.fuel, FromRuns.SequentialIsBuffered.embed}
-use Rattle.tso_program.proofs.Advance.{advance}
+use Rattle.tso_machine.proofs.Advance.{advance}
 use Rattle.candidate_executions.proofs.FromRuns.KnownValues.{held_is_value}
 use Rattle.candidate_executions.proofs.FromRuns.OtherSections.{reads_too, stored_too, in_order_too, candidate_too, outcome_too, acyclic_too, held_too}
 use Rattle.candidate_executions.proofs.Sections.SectionsRise.{rising}

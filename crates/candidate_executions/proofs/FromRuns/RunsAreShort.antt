@@ -3,7 +3,7 @@ use Rattle.candidate_executions.proofs.Vocabulary.{exec_by, flush_by, length-app
 use Rattle.candidate_executions.proofs.Vocabulary.{same_Some, Listing, Local, Action, Stop, Go, Wait, Read, Write, Swap, loaded, action, code_of, JumpForward, Machine, SequentialMachine, StoreBufferMachine, State, put, direct, step, run, start, Label, Exec}
 use Rattle.candidate_executions.proofs.Vocabulary.{Flush, Pending, EveryRunIsShort}
 use Rattle.candidate_executions.proofs.Orders.Lists.{put_same, put_other}
-use Rattle.tso_program.proofs.Advance.{Further, Advances, advance}
+use Rattle.tso_machine.proofs.Advance.{Further, Advances, advance}
 use Rattle.candidate_executions.proofs.Candidates.AllEvents.{no_code}
 
 -- the sum of what each of the first n threads has

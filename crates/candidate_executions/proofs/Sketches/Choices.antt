@@ -4,7 +4,7 @@ use Rattle.candidate_executions.proofs.Vocabulary.{Contains-append_cases, Stop, 
 use Rattle.candidate_executions.proofs.Vocabulary.{IsCandidate, Sketch, given_to, IsPrefixOf, Completes, IsSketch, IsSourceOf, IsPair, with_value, with_source, with_pair, read_by, next_read, IsWhole, EmptyIsASketch, AValueKeepsASketch, ASourceKeepsASketch}
 use Rattle.candidate_executions.proofs.Vocabulary.{APairKeepsASketch, EachCompletionHasAValue, EachCompletionHasTheValues, EachCompletionHasASource, EachCompletionHasAnOrder}
 use Rattle.candidate_executions.proofs.Sketches.GivenValues.{none_given, given_same, given_other, longer, reads_there}
-use Rattle.tso_program.proofs.Advance.{advance}
+use Rattle.tso_machine.proofs.Advance.{advance}
 use Rattle.candidate_executions.proofs.Sketches.MoreValues.{spare, Takes, trace_more, no_values, at_end, end_or_read, at_read}
 use Rattle.candidate_executions.proofs.Orders.Lists.{first_or_later, none_here}
 

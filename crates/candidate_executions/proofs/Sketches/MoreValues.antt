@@ -1,7 +1,7 @@
 -- What more given values do to a trace: it keeps its accesses, a read at which it stopped takes the next value, and at its end it takes none.
 use Rattle.candidate_executions.proofs.Vocabulary.{◌≡◌, ℕ, zero, suc, ◌+◌, ◌≤◌, Bool, List, [], ◌∷◌, ◌++◌, Some, None, slice_get, length, refl, sym, ap, ◌∙◌, arith, Local, Action, Stop, Go, Wait, Read, Write, Swap, loaded, Access, Trace, trace, traced}
 use Rattle.candidate_executions.proofs.Vocabulary.{entered, with_access, read_by}
-use Rattle.tso_program.proofs.Advance.{Advances}
+use Rattle.tso_machine.proofs.Advance.{Advances}
 
 -- the trace with more values left over
 abbrev pub spare : Trace → List ℕ → Trace

@@ -2,7 +2,7 @@
 use Rattle.candidate_executions.proofs.Vocabulary.{◌≡◌, ◌≢◌, ℕ, ◌<◌, ◌≤◌, [], ◌∷◌, ◌++◌, Option, Some, None, IsSome, slice_get, length, refl, sym, ap, ◌∙◌, subst, inl, inr, arith, cases_lt, slice_get_within, same_Some, Listing, action, start_of, code_of}
 use Rattle.candidate_executions.proofs.Vocabulary.{JumpForward, Machine, SequentialMachine, StoreBufferMachine, Access, Event, Initial, At, Trace, trace, trace_by, fenced_gaps, Candidate, access, access_by, Writes, IsConsistent, Sketch, given_to, Completes, IsConsistentCompletion, IsSketch}
 use Rattle.candidate_executions.proofs.Vocabulary.{IsSourceOf, IsSettled, MayStillWrite, IsOfOther, with_source, next_read, EachCompletionHasASettledSource, WholeSketchesAreSettled}
-use Rattle.tso_program.proofs.Advance.{advance}
+use Rattle.tso_machine.proofs.Advance.{advance}
 use Rattle.candidate_executions.proofs.Orders.Lists.{get_some, not_some}
 use Rattle.candidate_executions.proofs.Sketches.Choices.{keeps, more_sources, given_whole}
 use Rattle.candidate_executions.proofs.Sketches.WritesAhead.{StoresAhead, stores_past, stored_by}

@@ -1,5 +1,5 @@
 use Rattle.cover_search.proofs.Vocabulary.{Option, subst, MatchOption, Outcome, MustEndSo}
-use Rattle.rowless_sketches.specs.Completions.{NeedNotEnd}
+use Rattle.exec_axioms.specs.Completions.{NeedNotEnd}
 use Rattle.cover_search.proofs.Leaves.{known_number}
 use Rattle.cover_search.proofs.leaf.known.Goals as goal
 

@@ -1,6 +1,6 @@
 use Rattle.placed_text.proofs.Vocabulary.{option_map, refl, question_in, HasNoPlacedText}
 use Rattle.std.proofs.lemmas.Result.{err_from_is_err_and}
-use Rattle.cover_judge.proofs.Answered.{err_up}
+use Rattle.cert_check.proofs.Answered.{err_up}
 use Rattle.placed_text.proofs.Judged as judged
 use Rattle.placed_text.proofs.explaining.why_text.Goals as goal
 

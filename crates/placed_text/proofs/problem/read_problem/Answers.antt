@@ -1,5 +1,5 @@
 use Rattle.placed_text.proofs.Vocabulary.{option_map, HasNoProblem}
-use Rattle.cover_judge.proofs.Answered.{err_up}
+use Rattle.cert_check.proofs.Answered.{err_up}
 use Rattle.placed_text.proofs.Judged.{one_each, ties_within, no_costs, no_program}
 use Rattle.placed_text.proofs.problem.read_problem.Goals as goal
 

@@ -1,5 +1,5 @@
 use Rattle.placed_text.proofs.Vocabulary.{option_map, HasNoPlacedText}
-use Rattle.cover_judge.proofs.Answered.{err_up}
+use Rattle.cert_check.proofs.Answered.{err_up}
 use Rattle.placed_text.proofs.Judged.{no_placement, no_problem}
 use Rattle.placed_text.proofs.answered_problem.AnsweredProblem.of_texts.Goals as goal
 
