@@ -12,7 +12,7 @@ pub use Rattle.std.proofs.lemmas.Slice.Eq.{bytes_eq-Decides, slice_eq-Decides}
 pub use Rattle.std.specs.Fmt.{decimal}
 pub use Rattle.std.specs.List.{AllByRecursion, filter, list_all, list_any, prefix_len, range_with_len}
 pub use Rattle.std.specs.Prelude.{codes, is_ok, max, nat_eq, nat_le, nat_lt, not, slice_get, slice_range}
-pub use Rattle.candidate_executions.specs.declared.event.Kind.{Kind}
+pub use Rattle.cert_trees.specs.Kind.{Kind}
 pub use Rattle.cert_trees.proofs.GapNodeLaws.{gaps_count, is_gap_tree, listed_gaps, same_gap}
 pub use Rattle.cert_trees.proofs.NodeLaws.{covers_count, is_tree, same_tree}
 pub use Rattle.cert_trees.specs.GapNodes.{bound_nodes, spell_gap, spell_gaps}

@@ -6,8 +6,8 @@ use Rattle.std.specs.Option.{is_some}
 use Rattle.std.proofs.lemmas.List.Elements.{All-cons, All-map, All-nil, All-contains_itself, All-weaker}
 use Rattle.cert_forest.specs.Machine as machine
 use Rattle.candidate_executions.specs.Events.{ComesBefore}
-use Rattle.program_sketches.specs.Choices as choices
-use Rattle.program_sketches.proofs.Lawful.{none_in}
+use Rattle.rowless_sketches.specs.Choices as choices
+use Rattle.rowless_sketches.proofs.Lawful.{none_in}
 use Rattle.tree_laws.proofs.RuleValues.{is_value}
 use Rattle.cover_judge.specs.declared.choices.Choices.{Choices}
 use Rattle.tree_laws.specs.declared.choice.Choice.TheVariants as choice

@@ -16,8 +16,8 @@ pub use Rattle.cert_forest.specs.AccessId.{AccessId}
 pub use Rattle.cert_forest.specs.Machine.{Machine}
 pub use Rattle.cert_forest.specs.Nodes.{first_tree, spell_all}
 pub use Rattle.cert_forest.specs.Trees.{Cover, Covers, Cycle, Known, MoreCovers, NoCover, Order, Source, Value, count_covers, covers_of}
-pub use Rattle.program_sketches.specs.Choices.{HasSource, IsRead}
-pub use Rattle.program_sketches.specs.ProgramSketches.{ProgramSketch, mode_in, with_chosen}
+pub use Rattle.rowless_sketches.specs.Choices.{HasSource, IsRead}
+pub use Rattle.rowless_sketches.specs.ProgramSketches.{ProgramSketch, mode_in, with_chosen}
 pub use Rattle.rowless_sketches.specs.RowlessSketches.{AreSources, IsFree, IsValueMarkOf, LacksSource}
 pub use Rattle.tree_laws.proofs.OneList.{one_list_of_choices_by}
 pub use Rattle.tree_laws.specs.CoverTrees.{AfterChoicesBy, AllowsOrder, AllowsSource, AreChoicesBy, AreSourceChoicesBy, AreTwo, AreValidCoversBy, AreValueChoicesBy, HasNoOrder, HasNoOrderBy, HasSources, HasSourcesBy, IsValidCoverBy}
