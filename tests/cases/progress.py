@@ -23,6 +23,8 @@ TIMED = re.compile(
     r"fencer: after ([\d,]+) s: (?:(?:sets asked: [\d,]+; )?([\d,]+) of ([\d,]+) parts of the (?:last question|search for outcomes) are done"
     r"|sets asked: [\d,]+|outcomes are searched for|what is found is judged)"
 )
+# so many lines of a long search are read for those of its parts, on a busy machine too
+MOST_LINES = 40
 # what is said beside an answer of what sequential runs decide, which is no progress
 VERDICT = re.compile(r"fencer: what (the condition asks about|must not happen|must always hold) .* without store buffers too(: no fence mends it)?")
 # threads whose traces have unlike lengths, so that a value of one read leaves more combinations than another
@@ -208,16 +210,21 @@ def searched(name, path, command):
         tell(f"{what}: the search", check_search(rest, sequential_outcomes(path, command), cost, "--workers" not in command), rest)
 
 
-def on_terminal(words, most=None):
-    """What a call prints, and says on a terminal; it is ended after so many lines, if a number is given."""
+def on_terminal(words, is_enough=lambda lines: False):
+    """What a call prints, and says on a terminal; it is ended once its whole lines are enough."""
     terminal, said = Terminal(), b""
     with subprocess.Popen([FENCER, *words], stdout=subprocess.PIPE, stderr=terminal.end) as call:
         for part in terminal.parts():
             said += part
-            if most is not None and said.count(b"\n") >= most:
+            if is_enough(reported(said[:said.rfind(b"\n") + 1])):
                 call.kill()
         printed = call.stdout.read()
-    return printed, reported(said)[:most]
+    return printed, reported(said[:said.rfind(b"\n") + 1])
+
+
+def of_parts(lines):
+    """Of the lines by time those that say how many parts of the search for outcomes are done."""
+    return [line for line in map(TIMED.fullmatch, lines) if line and "the search for outcomes" in line[0]]
 
 
 def reads(*threads):
@@ -304,11 +311,11 @@ class Progress(Cases):
     def test_time(self):
         """A long search has lines by time, which say how many parts of it are done, on a terminal too."""
         with tempfile.TemporaryDirectory() as folder:
-            lines = on_terminal(["place", "--trees", "whole", made(folder, reads(14, 14))], 4)[1]
+            lines = on_terminal(["place", "--trees", "whole", made(folder, reads(14, 14))], lambda lines: len(of_parts(lines)) >= 2 or len(lines) >= MOST_LINES)[1]
             tell("a warning comes first on a terminal", WARNING in lines[:2], lines)
             found = [line for line in map(TIMED.fullmatch, lines) if line]
             tell("a long search is reported by time", len(found) >= 2, lines)
-            times, done = [0, *(number(line[1]) for line in found)], [(number(line[2]), number(line[3])) for line in found if "the search for outcomes" in line[0]]
+            times, done = [0, *(number(line[1]) for line in found)], [(number(line[2]), number(line[3])) for line in of_parts(lines)]
             tell("at most five seconds pass between two lines", all(0 < after - before <= 5 for before, after in zip(times, times[1:])), times)
             cut = {parts for _, parts in done}
             tell("how many parts are done", done and done == sorted(done) and all(some <= parts for some, parts in done) and len(cut) <= 1, done)
