@@ -3,7 +3,7 @@
 use crate::first_line::read_first_line;
 use crate::lines::line_number;
 use crate::offsets::{between, bytes_from};
-use crate::open_comment::without_space;
+use crate::open_comments::without_space;
 use crate::skipped_lines::skip_lines;
 use std::alloc::{AllocError, Global};
 use text_tokens::{Token, Tokens, digits_len, lex};
