@@ -27,7 +27,6 @@ PROPOSED = (
 )
 
 
-
 def words_of(kind):
     return "" if kind == "whole" else kind + " "
 
