@@ -2,5 +2,6 @@
 mod Vocabulary
 pub mod Served
 pub mod OutcomeLines
+pub mod Dearest
 pub mod Surveyed
 pub mod WrittenSurveys

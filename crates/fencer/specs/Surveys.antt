@@ -1,5 +1,5 @@
 -- What is printed of the files of a survey. `files` says what files hold.
-use Rattle.std.specs.Prelude.{◌≡◌, ◌==◌, ◌||◌, ◌&&◌, ℕ, Bool, true, false, List, [], ◌∷◌, ◌++◌, Option, Some, None, codes, length, map, nat_lt, not, string_bytes, take, if◌then◌else◌}
+use Rattle.std.specs.Prelude.{◌≡◌, ◌==◌, ◌||◌, ◌&&◌, ℕ, Bool, true, false, List, [], ◌∷◌, ◌++◌, Option, Some, None, codes, length, map, nat_lt, not, replicate, string_bytes, take, if◌then◌else◌}
 use Rattle.std.specs.Io.KnownBytes.{Appends}
 use Rattle.std.specs.Str.{bytes_eq}
 use Rattle.program_streams.specs.declared.fault.FileFault.{FileFault}
@@ -7,6 +7,7 @@ use Rattle.program_streams.specs.declared.files.TheConstants.{TEXT_LIMIT}
 use Rattle.program_streams.specs.Files.{AreOfFile, IsFileFault, ReadsOfInput}
 use Rattle.program_streams.specs.FileLines.{file_line}
 use Rattle.tso_program.specs.declared.listing.Listing.{Listing}
+use Rattle.tso_program.specs.Listings.{gap_count}
 use Rattle.litmus_text.specs.Litmus.{Litmus}
 use Rattle.litmus_text.specs.ReadFault.{ReadFault}
 use Rattle.litmus_text.specs.Texts.{IsLitmus}
@@ -62,12 +63,12 @@ pub record IsFound (options : SurveyOptions) (name : List ℕ) (told : SurveyTex
   pub said : block.lines.items ≡ printed options.json (block_text name told.lines.items) told.document.items
   pub summed : block.row.items ≡ row_line name told.row.items
 
--- the text of costs by which a text's program is looked at: none, or a cost file of gaps which go together, unless the text is
--- refused for another reason than memory; of which gaps go together nothing is said
+-- the text of costs by which a text's program is looked at: none, or a cost file of gaps which go together, where each gap costs 1,
+-- unless the text is refused for another reason than memory; of which gaps go together nothing is said
 abbrev pub AreTied : Bool → List ℕ → Option (List ℕ) → Type 0
 AreTied false bytes costs = costs ≡ None
 AreTied true bytes None = (why : ReadFault) × IsRefusedText bytes why
-AreTied true bytes (Some file) = (source : Litmus Listing) × IsLitmus bytes source × IsTiedFile source.program file
+AreTied true bytes (Some file) = (source : Litmus Listing) × IsLitmus bytes source × IsTiedFile source.program (replicate (gap_count source.program.threads) 1) file
 
 -- what is printed of a file with this text, with its status: what is found of its program, or why nothing is
 pub data IsBlockOfText (options : SurveyOptions) (name bytes : List ℕ) : ℕ → List ℕ → List ℕ → Type 0 where
