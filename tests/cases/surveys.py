@@ -196,6 +196,19 @@ class Surveys(Cases):
                 found = [line for line in told.splitlines(keepends=True) if "store buffers" in line]
                 same(f"what a survey of {name} says of its condition", "".join(found), f"fencer: {file.name}: {said}\n" if said else "")
 
+    def test_names(self):
+        """A file's name with a LF and an ESC: it stands on standard output as it is given, and each line of standard error has `\\xHH` for these bytes."""
+        with tempfile.TemporaryDirectory() as folder:
+            name = os.fsencode(os.path.join(folder, "a\nb\x1bc"))
+            shown = name.replace(b"\n", b"\\x0a").replace(b"\x1b", b"\\x1b")
+            for kind, source, count in (("fails", FAILS, 2), ("jumped", JUMPED, 3), ("refused", b"X87 A\n", 1)):
+                write(name, source)
+                ran = subprocess.run([FENCER, "survey", name], capture_output=True)
+                lines = ran.stderr.split(b"\n")
+                same(f"how many lines about a file that {kind} name it", sum(shown in line for line in lines), count)
+                tell(f"no line about a file that {kind} has a control byte", all(byte >= 32 for line in lines for byte in line), ran.stderr)
+                tell(f"the block of a file that {kind} names it as it is given", ran.stdout.startswith(b"file " + name + b"\n"), ran.stdout)
+
     def test_ties(self):
         """With --ties the answers are those of `place` with the cost file of `gaps --ties --tries`, and all else is as without; standard error says where the
         gaps of each tie stand, and the document has the ties."""

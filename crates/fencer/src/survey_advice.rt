@@ -2,7 +2,15 @@
 
 use messages::{Message, file_or_input};
 use std::alloc::{AllocError, Global};
+use std::str;
 use survey_text::{Stretch, SurveyText};
+
+/// `fencer: NAME: TEXT` as one line, of the file of this name.
+pub(crate) fn file_message(alloc: Global, name: &str, text: &str) -> Result<Vec<u8>, AllocError> {
+    let name = file_or_input(name);
+    let text = format!(in alloc; "{name}: {text}")?;
+    Message::of_file(alloc, "fencer", text.as_str())?.written(alloc, false)
+}
 
 /// One number after a word, or the first and the last of several: `line 9`, `lines 9 and 10`, `lines 9 to 11`.
 fn numbered(alloc: Global, word: &str, first: u32, last: u32) -> Result<String, AllocError> {
@@ -66,12 +74,11 @@ pub(crate) fn unexecuted_advice(
     if told.unexecuted.stretches.is_empty() {
         return Ok(Vec::new(alloc));
     }
-    let name = file_or_input(name);
     let stretches = stretches_text(alloc, told.unexecuted.stretches.as_slice())?;
     let stretches = stretches.as_str();
     let reason = reason(told);
-    let text = format!(in alloc; "{name}: no sequential run executes {stretches}{reason}")?;
-    Message::of_file(alloc, "fencer", text.as_str())?.written(alloc, false)
+    let text = format!(in alloc; "no sequential run executes {stretches}{reason}")?;
+    file_message(alloc, name, text.as_str())
 }
 
 /// What sequential runs say of a file's condition; nothing where they decide nothing.
@@ -80,12 +87,8 @@ pub(crate) fn verdict_advice(
     name: &str,
     told: &SurveyText,
 ) -> Result<Vec<u8>, AllocError> {
-    if told.verdict.is_empty() {
-        return Ok(Vec::new(alloc));
+    match str::from_utf8(&told.verdict) {
+        Ok(said) if !said.is_empty() => file_message(alloc, name, said),
+        _ => Ok(Vec::new(alloc)),
     }
-    let name = file_or_input(name);
-    let mut line = format!(in alloc; "fencer: {name}: ")?.into_bytes();
-    line.extend_from_slice(&told.verdict)?;
-    line.push(b'\n')?;
-    Ok(line)
 }

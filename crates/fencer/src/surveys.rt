@@ -9,7 +9,7 @@ ghost use Rattle.fencer.specs.Surveys.{block_text, row_line, shown_name, survey_
 
 use crate::advice::text_fault_advice;
 use crate::place::text_fault_line;
-use crate::survey_advice::{unexecuted_advice, verdict_advice};
+use crate::survey_advice::{file_message, unexecuted_advice, verdict_advice};
 use crate::tied::{tie_advice, tied_costs};
 use answers::{
     Texts, check_status, printed, said_of, slip_advice, unread_advice, unread_litmus, written,
@@ -239,7 +239,8 @@ fn time_message<T: Clock>(
     match start.elapsed(rt) {
         Ok(time) => {
             let time = time.as_millis();
-            Ok(format!(in alloc; "fencer: {name}: {time} ms\n")?.into_bytes())
+            let text = format!(in alloc; "{time} ms")?;
+            file_message(alloc, name, text.as_str())
         }
         Err(_) => Ok(Vec::new(alloc)),
     }
