@@ -9,7 +9,7 @@ use Rattle.fencer_words.specs.declared.job.Placement.{Placement}
 use Rattle.fencer_words.specs.CommandFiles.{name_of}
 use Rattle.placed_text.specs.declared.fault.TextFault.{TextFault}
 use Rattle.placed_text.specs.declared.fault.TextFault.TheVariants as fault
-use Rattle.placed_text.specs.declared.writing.AnswerText.{AnswerText}
+use Rattle.placed_text.specs.declared.writing.PlacedText.{PlacedText}
 use Rattle.placed_text.specs.PlacedTexts.{IsAnswerText, IsPlacedText}
 use Rattle.placed_text.specs.TextFaults.{HasNoPlacedText}
 use Rattle.report.specs.Faults.{refused, litmus_line, costs_line}
@@ -33,29 +33,28 @@ text_fault_line fault.OutOfMemory = refused (codes "place 5 OutOfMemory")
 -- ---- what is placed
 
 -- the texts say what is placed in the program of a litmus text, and where a file is named for the certificate, its text is one
-abbrev pub AreTextsFor : Option (List ℕ) → List ℕ → Option (List ℕ) → ShownKind → AnswerText → List ℕ → Type 0
-AreTextsFor None litmus costs kind texts certificate = IsAnswerText litmus costs kind texts
-AreTextsFor (Some name) litmus costs kind texts certificate = IsPlacedText litmus costs kind (record { texts = texts; certificate = certificate })
+abbrev pub AreTextsFor : Option (List ℕ) → List ℕ → Option (List ℕ) → ShownKind → PlacedText → Type 0
+AreTextsFor None litmus costs kind found = IsAnswerText litmus costs kind found.texts
+AreTextsFor (Some name) litmus costs kind found = IsPlacedText litmus costs kind found
 
 -- What is delivered of what is placed: the lines are the answer and the program with its fences, or in their place the document with
 -- its notes; the first file that is written has the program, the second the certificate; with a check the status is 3 where the
 -- answer has a gap.
-pub record DeliversTexts (texts : AnswerText) (certificate : List ℕ) (check json : Bool) (answer : Answer) : Type 0 where
+pub record DeliversTexts (found : PlacedText) (check json : Bool) (answer : Answer) : Type 0 where
   pub document : List ℕ
-  pub noted : IsNoted texts.verdict texts.document document
-  pub printed : answer.lines.items ≡ either json (texts.answer.items ++ texts.program.items) document
-  pub ends : answer.status ≡ check_status check (nat_lt 0 (set.len texts.gaps))
+  pub noted : IsNoted found.texts.verdict found.texts.document document
+  pub printed : answer.lines.items ≡ either json (found.texts.answer.items ++ found.texts.program.items) document
+  pub ends : answer.status ≡ check_status check (nat_lt 0 (set.len found.texts.gaps))
   pub as_asked : answer.json ≡ json
-  pub program : answer.first ≡ texts.program.items
-  pub proof : answer.second ≡ certificate
+  pub program : answer.first ≡ found.texts.program.items
+  pub proof : answer.second ≡ found.certificate
 
 -- what is delivered of what is placed in the program of a litmus text, and that text with the fences put in
 pub record PrintsPlacement (q : Placement) (litmus : List ℕ) (costs : Option (List ℕ)) (answer : Answer) (inserted : Option (List ℕ)) : Type 0 where
-  pub texts : AnswerText
-  pub certificate : List ℕ
-  pub placed : AreTextsFor (name_of q.certificate) litmus costs q.kind texts certificate
-  pub delivered : DeliversTexts texts certificate q.check q.json answer
-  pub put_in : IsInserted (name_of q.insert) texts.program.items inserted
+  pub found : PlacedText
+  pub placed : AreTextsFor (name_of q.certificate) litmus costs q.kind found
+  pub delivered : DeliversTexts found q.check q.json answer
+  pub put_in : IsInserted (name_of q.insert) found.texts.program.items inserted
 
 -- The litmus text with the fences put in is kept, where a file is named for it, and what else is placed is delivered; the first is
 -- still held where its file is none of those that are written after it. Or the text is not kept, which is reported.

@@ -19,7 +19,7 @@ use answers::{
 use fencer_words::Placement;
 use gap_sets::GapSet;
 use paged_text::Pages;
-use placed_text::{AnswerText, Effort, TextFault, answer_text, place_text};
+use placed_text::{AnswerText, Effort, PlacedText, TextFault, answer_text, place_text};
 use program_streams::{Console, Progress, TEXT_LIMIT, WritableFileStore, file_line};
 use report::{costs_line, litmus_line};
 use std::alloc::{AllocError, Global};
@@ -55,8 +55,8 @@ fn texts_for<T: Threads + Wait + Sync>(
     asked: &Placement,
     texts: &Texts,
     progress: Progress,
-) -> Result<(AnswerText, Pages), TextFault>
-    ensures placed { IfOk result (λ found. AreTextsFor (name_of asked.now.certificate) texts.now.litmus.items (option_map (λ text. text.items) texts.now.costs) asked.now.kind found.0 found.1) }
+) -> Result<PlacedText, TextFault>
+    ensures placed { IfOk result (AreTextsFor (name_of asked.now.certificate) texts.now.litmus.items (option_map (λ text. text.items) texts.now.costs) asked.now.kind) }
     ensures fault { IfErr result (HasNoPlacedText texts.now.litmus.items (option_map (λ text. text.items) texts.now.costs) asked.now.workers) }
 {
     let costs = texts.costs.as_deref();
@@ -66,14 +66,11 @@ fn texts_for<T: Threads + Wait + Sync>(
         progress: progress.asked(asked.progress),
     };
     match asked.certificate.as_deref() {
-        Some(_) => {
-            let placed = place_text(rt, alloc, &texts.litmus, costs, asked.kind, effort)?;
-            Ok((placed.texts, placed.certificate))
-        }
-        None => {
-            let told = answer_text(rt, alloc, &texts.litmus, costs, asked.kind, effort)?;
-            Ok((told, Pages::new(alloc)))
-        }
+        Some(_) => place_text(rt, alloc, &texts.litmus, costs, asked.kind, effort),
+        None => Ok(PlacedText {
+            texts: answer_text(rt, alloc, &texts.litmus, costs, asked.kind, effort)?,
+            certificate: Pages::new(alloc),
+        }),
     }
 }
 
@@ -83,11 +80,11 @@ fn joined(
     alloc: Global,
     asked: &Placement,
     litmus: &[u8],
-    texts: AnswerText,
-    certificate: Pages,
+    found: PlacedText,
 ) -> Result<Answer, AllocError>
-    ensures answer { IfOk result (DeliversTexts texts certificate asked.now.check asked.now.json) }
+    ensures answer { IfOk result (DeliversTexts found asked.now.check asked.now.json) }
 {
+    let PlacedText { texts, certificate } = found;
     let AnswerText {
         program,
         answer,
@@ -117,16 +114,16 @@ fn placed(
     alloc: Global,
     asked: &Placement,
     texts: &Texts,
-    told: AnswerText,
-    certificate: Pages,
+    found: PlacedText,
 ) -> Result<PlacedAnswer, AllocError>
-    ensures answer { IfOk result (λ placed. DeliversTexts told certificate asked.now.check asked.now.json placed.answer) }
-    ensures inserted { IfOk result (λ placed. IsInserted (name_of asked.now.insert) told.program.items placed.inserted) }
+    ensures answer { IfOk result (λ placed. DeliversTexts found asked.now.check asked.now.json placed.answer) }
+    ensures inserted { IfOk result (λ placed. IsInserted (name_of asked.now.insert) found.texts.program.items placed.inserted) }
 {
     let named = asked.insert.as_deref();
-    let inserted = inserted_for(alloc, named, &texts.litmus, &told.gaps, &told.program)?;
-    let gaps = told.gaps;
-    let answer = joined(alloc, asked, &texts.litmus, told, certificate)?;
+    let AnswerText { program, gaps, .. } = &found.texts;
+    let inserted = inserted_for(alloc, named, &texts.litmus, gaps, program)?;
+    let gaps = *gaps;
+    let answer = joined(alloc, asked, &texts.litmus, found)?;
     Ok(PlacedAnswer {
         answer,
         gaps,
@@ -145,9 +142,9 @@ fn answer_of<T: Threads + Wait + Sync>(
     ensures placed { IfOk result (λ placed. PrintsPlacement asked.now texts.now.litmus.items (option_map (λ text. text.items) texts.now.costs) placed.answer placed.inserted) }
     ensures fault { IfErr result (HasNoPlacedText texts.now.litmus.items (option_map (λ text. text.items) texts.now.costs) asked.now.workers) }
 {
-    let (told, certificate) = texts_for(rt, alloc, asked, texts, progress)?;
-    report_verdict(alloc, told.verdict.as_ref(), progress);
-    match placed(alloc, asked, texts, told, certificate) {
+    let found = texts_for(rt, alloc, asked, texts, progress)?;
+    report_verdict(alloc, found.texts.verdict.as_ref(), progress);
+    match placed(alloc, asked, texts, found) {
         Ok(placed) => Ok(placed),
         Err(_) => Err(TextFault::OutOfMemory),
     }
