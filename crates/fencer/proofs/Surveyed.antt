@@ -1,5 +1,8 @@
 -- What is printed of a file, as its block has it, and of one file more.
-use Rattle.fencer.proofs.Vocabulary.{◌≡◌, ℕ, ◌+◌, ◌<◌, Bool, true, List, [], ◌∷◌, ◌++◌, Option, Result, Ok, Err, IfOk, length, map, take, get_or, subst, sym}
+use Rattle.fencer.proofs.Vocabulary.{◌≡◌, ◌==◌, ◌∙◌, ℕ, ◌+◌, ◌<◌, Bool, true, false, List, [], ◌∷◌, ◌++◌, Option, Result, Ok, Err, IfOk, ap, ap₂, length, map, take, get_or, refl, subst, sym}
+use Rattle.std.specs.Prelude.{◌||◌}
+use Rattle.std.specs.List.{list_any}
+use Rattle.std.proofs.lemmas.List.Folds.{list_any-append}
 use Rattle.std.proofs.lemmas.List.{map_more, take-map}
 use Rattle.std.specs.Global.{Vec}
 use Rattle.json_text.specs.Values.{IsJsonLine}
@@ -11,7 +14,7 @@ use Rattle.survey_text.specs.declared.finding.SurveyText.{SurveyText}
 use Rattle.answers.specs.Documented.{printed}
 use Rattle.fencer.specs.declared.surveys.Block.{Block}
 use Rattle.fencer.specs.declared.surveys.Summary.{Summary}
-use Rattle.fencer.specs.Surveys.{AreBlocks, IsBlock, IsFound, IsRefused, ReadsOfFiles, ReadsOfSomeFiles, RefusedBlock, block_text, refused_row, row_line, more, one_more, shown_name, survey_status, worse}
+use Rattle.fencer.specs.Surveys.{AreBlocks, IsBlock, IsFound, IsRefused, ReadsOfFiles, ReadsOfSomeFiles, RefusedBlock, block_text, refused_row, row_line, more, one_more, shown_name, status_by, survey_status, worst}
 
 -- what holds of what is said holds of the block that says it: of what is found
 pub as_found : (options : SurveyOptions) (name : List ℕ) (told : SurveyText) (block : Block) (Holds : ℕ → List ℕ → List ℕ → Type 0)
@@ -36,22 +39,35 @@ pub names_file : {E : Type 0} (made : Result (Vec ℕ) E) (name line : List ℕ)
 names_file (Ok v) name line remark names printed json = (record { remark = remark; printed = printed; json = json }, names)
 names_file (Err e) name line remark names printed json = tt
 
+-- the status of blocks and of one more
+status_more : (a b c d : Bool) → status_by (a || c) (b || d) ≡ status_by ((status_by a b == 1) || c) ((status_by a b == 3) || d)
+status_more true b c d = refl
+status_more false true c d = refl
+status_more false false c d = refl
+
+pub worst_more : (statuses : List ℕ) (status old new : ℕ) → old ≡ worst statuses → new ≡ worst (old ∷ status ∷ []) → new ≡ worst (statuses ++ status ∷ [])
+worst_more statuses status old new before after =
+    let is_refused : ℕ → Bool = λ s. s == 1 in
+    let fails : ℕ → Bool = λ s. s == 3 in
+    after ∙ ap (λ (s : ℕ). worst (s ∷ status ∷ [])) before
+    ∙ sym (ap₂ status_by (list_any-append is_refused statuses (status ∷ [])) (list_any-append fails statuses (status ∷ []))
+    ∙ status_more (list_any is_refused statuses) (list_any fails statuses) (list_any is_refused (status ∷ [])) (list_any fails (status ∷ [])))
+
 -- the block of one file more
 module _ {N : Type 0} (name_of : N → List ℕ) (names : List N) (i : ℕ) (d : N) (there : i < length names) where
   next_name : map name_of (take (i + 1) names) ≡ map name_of (take i names) ++ name_of (get_or names i d) ∷ []
   next_name = map_more name_of names i d there
 
-  pub one_more_block : (options : SurveyOptions) (files : List ℕ → Option (List ℕ)) (input mid left : Option (List ℕ)) (text : List ℕ) (before after : Summary) (block : Block)
-      → AreBlocks options files input (map name_of (take i names)) mid before.status text before.rows.items
+  pub one_more_block : (options : SurveyOptions) (files : List ℕ → Option (List ℕ)) (input mid left : Option (List ℕ)) (statuses text : List ℕ) (before after : Summary) (block : Block)
+      → AreBlocks options files input (map name_of (take i names)) mid statuses text before.rows.items
       → IsBlock options files (name_of (get_or names i d)) mid block.status block.lines.items block.row.items
       → ReadsOfInput TEXT_LIMIT (name_of (get_or names i d)) mid left
-      → after.rows.items ≡ before.rows.items ++ block.row.items → after.status ≡ worse before.status block.status
-      → AreBlocks options files input (map name_of (take (i + 1) names)) left after.status (text ++ block.lines.items) after.rows.items
-  one_more_block options files input mid left text before after block are is reads rows status =
-      subst (λ (ns : List (List ℕ)). AreBlocks options files input ns left after.status (text ++ block.lines.items) after.rows.items) (sym next_name)
-      (subst (λ (s : ℕ). AreBlocks options files input (map name_of (take i names) ++ name_of (get_or names i d) ∷ []) left s (text ++ block.lines.items) after.rows.items) (sym status)
-      (subst (λ (r : List ℕ). AreBlocks options files input (map name_of (take i names) ++ name_of (get_or names i d) ∷ []) left (worse before.status block.status) (text ++ block.lines.items) r) (sym rows)
-      (more (map name_of (take i names)) (name_of (get_or names i d)) mid left before.status block.status text block.lines.items before.rows.items block.row.items are is reads)))
+      → after.rows.items ≡ before.rows.items ++ block.row.items
+      → AreBlocks options files input (map name_of (take (i + 1) names)) left (statuses ++ block.status ∷ []) (text ++ block.lines.items) after.rows.items
+  one_more_block options files input mid left statuses text before after block are is reads rows =
+      subst (λ (ns : List (List ℕ)). AreBlocks options files input ns left (statuses ++ block.status ∷ []) (text ++ block.lines.items) after.rows.items) (sym next_name)
+      (subst (λ (r : List ℕ). AreBlocks options files input (map name_of (take i names) ++ name_of (get_or names i d) ∷ []) left (statuses ++ block.status ∷ []) (text ++ block.lines.items) r) (sym rows)
+      (more (map name_of (take i names)) (name_of (get_or names i d)) mid left statuses block.status text block.lines.items before.rows.items block.row.items are is reads))
 
   -- and what is read for it
   pub one_more_read : (old mid new : Option (List ℕ)) → ReadsOfFiles (map name_of (take i names)) old mid → ReadsOfInput TEXT_LIMIT (name_of (get_or names i d)) mid new → ReadsOfFiles (map name_of (take (i + 1) names)) old new

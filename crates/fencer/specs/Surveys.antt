@@ -1,6 +1,7 @@
 -- What is printed of the files of a survey. `files` says what files hold.
 use Rattle.std.specs.Prelude.{◌≡◌, ◌==◌, ◌||◌, ◌&&◌, ℕ, Bool, true, false, List, [], ◌∷◌, ◌++◌, Option, Some, None, codes, length, map, nat_lt, not, replicate, string_bytes, take, if◌then◌else◌}
 use Rattle.std.specs.Io.KnownBytes.{Appends}
+use Rattle.std.specs.List.{list_any}
 use Rattle.std.specs.Str.{bytes_eq}
 use Rattle.program_streams.specs.declared.fault.FileFault.{FileFault}
 use Rattle.program_streams.specs.declared.files.TheConstants.{TEXT_LIMIT}
@@ -83,17 +84,20 @@ pub data IsBlock (options : SurveyOptions) (files : List ℕ → Option (List �
 
 -- ---- all files
 
--- the status of two: that of a refusal, or else that of a fault that is found
-abbrev pub worse : ℕ → ℕ → ℕ
-worse status other = if (status == 1) || (other == 0) then status else other
+-- the status of blocks with these statuses: 1 where a file is refused, otherwise 3 where a fault is found in one, otherwise 0
+abbrev pub status_by : Bool → Bool → ℕ
+status_by is_refused fails = if is_refused then 1 else check_status true fails
 
--- A block and a row for each file, one after the other, with the status of them all; each reads what the input has left, and `left` is
--- what it has left after the last.
-pub data AreBlocks (options : SurveyOptions) (files : List ℕ → Option (List ℕ)) (input : Option (List ℕ)) : List (List ℕ) → Option (List ℕ) → ℕ → List ℕ → List ℕ → Type 0 where
-  none : AreBlocks options files input [] input 0 [] []
-  more : (names : List (List ℕ)) (name : List ℕ) (mid left : Option (List ℕ)) (status other : ℕ) (text block rows row : List ℕ)
-      → AreBlocks options files input names mid status text rows → IsBlock options files name mid other block row → ReadsOfInput TEXT_LIMIT name mid left
-      → AreBlocks options files input (names ++ name ∷ []) left (worse status other) (text ++ block) (rows ++ row)
+abbrev pub worst : List ℕ → ℕ
+worst statuses = status_by (list_any (λ status. status == 1) statuses) (list_any (λ status. status == 3) statuses)
+
+-- A block and a row for each file, one after the other, with the statuses of the blocks; each reads what the input has left, and `left`
+-- is what it has left after the last.
+pub data AreBlocks (options : SurveyOptions) (files : List ℕ → Option (List ℕ)) (input : Option (List ℕ)) : List (List ℕ) → Option (List ℕ) → List ℕ → List ℕ → List ℕ → Type 0 where
+  none : AreBlocks options files input [] input [] [] []
+  more : (names : List (List ℕ)) (name : List ℕ) (mid left : Option (List ℕ)) (statuses : List ℕ) (status : ℕ) (text block rows row : List ℕ)
+      → AreBlocks options files input names mid statuses text rows → IsBlock options files name mid status block row → ReadsOfInput TEXT_LIMIT name mid left
+      → AreBlocks options files input (names ++ name ∷ []) left (statuses ++ status ∷ []) (text ++ block) (rows ++ row)
 
 -- after the blocks of several files their table, but not after documents
 abbrev pub heading_line : List ℕ
@@ -105,15 +109,17 @@ table_text json count rows = if not json && nat_lt 1 count then heading_line ++ 
 -- What is printed, with its status: the blocks of all files and their table; or, where memory is wanting for what comes next, the
 -- blocks of the first so many files, with status 1.
 pub data IsSurvey (asked : SurveyQuery) (input : Option (List ℕ)) (files : List ℕ → Option (List ℕ)) : ℕ → List ℕ → Type 0 where
-  of_all : (left : Option (List ℕ)) (status : ℕ) (blocks rows : List ℕ) → AreBlocks asked.options files input (map string_bytes asked.files.items) left status blocks rows
-      → IsSurvey asked input files status (blocks ++ table_text asked.options.json (length asked.files.items) rows)
-  of_first : (count : ℕ) (left : Option (List ℕ)) (status : ℕ) (blocks rows : List ℕ) → AreBlocks asked.options files input (take count (map string_bytes asked.files.items)) left status blocks rows
+  of_all : (left : Option (List ℕ)) (statuses blocks rows : List ℕ) → AreBlocks asked.options files input (map string_bytes asked.files.items) left statuses blocks rows
+      → IsSurvey asked input files (worst statuses) (blocks ++ table_text asked.options.json (length asked.files.items) rows)
+  of_first : (count : ℕ) (left : Option (List ℕ)) (statuses blocks rows : List ℕ) → AreBlocks asked.options files input (take count (map string_bytes asked.files.items)) left statuses blocks rows
       → IsSurvey asked input files 1 blocks
 
--- the blocks of these files were written, and nothing else
+-- the blocks of these files were written, and nothing else; this is their status
 pub record AreWritten (options : SurveyOptions) (files : List ℕ → Option (List ℕ)) (input : Option (List ℕ)) (names : List (List ℕ)) (left : Option (List ℕ)) (status : ℕ) (rows : List ℕ) (old new : Option (List ℕ)) : Type 0 where
+  pub statuses : List ℕ
   pub blocks : List ℕ
-  pub are : AreBlocks options files input names left status blocks rows
+  pub are : AreBlocks options files input names left statuses blocks rows
+  pub ends : status ≡ worst statuses
   pub written : Appends old new blocks
 
 -- ---- what is read of the input

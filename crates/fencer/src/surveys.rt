@@ -1,11 +1,11 @@
 //! Surveys: what one look at the program of each file finds, a block a file.
 
-ghost use Rattle.std.specs.Prelude.{◌≡◌, ◌++◌, IfOk, OnErr, OnOk, map, string_bytes, true};
+ghost use Rattle.std.specs.Prelude.{◌≡◌, ◌∷◌, ◌++◌, [], IfOk, OnErr, OnOk, map, string_bytes, true};
 ghost use Rattle.program_streams.specs.Streams.{Prints};
 ghost use Rattle.program_streams.specs.Files.{ReadsOfInput};
 ghost use Rattle.program_streams.specs.FileLines.{file_line};
 ghost use Rattle.fencer.specs.Placements.{text_fault_line};
-ghost use Rattle.fencer.specs.Surveys.{block_text, row_line, shown_name, survey_status, table_text, worse, AreWritten, IsBlock, IsBlockOfText, IsFound, IsRefused, IsSurvey, ReadsOfSomeFiles, RefusedBlock};
+ghost use Rattle.fencer.specs.Surveys.{block_text, row_line, shown_name, survey_status, table_text, worst, AreWritten, IsBlock, IsBlockOfText, IsFound, IsRefused, IsSurvey, ReadsOfSomeFiles, RefusedBlock};
 
 use crate::advice::text_fault_advice;
 use crate::place::text_fault_line;
@@ -62,10 +62,10 @@ impl Summary {
     /// Adds one more file.
     fn add(&mut self, block: &Block) -> Result<(), AllocError>
         ensures rows { OnOk result (self.new.rows.items ≡ self.old.rows.items ++ block.now.row.items) }
-        ensures status { OnOk result (self.new.status ≡ worse self.old.status block.now.status) }
+        ensures status { OnOk result (self.new.status ≡ worst (self.old.status ∷ block.now.status ∷ [])) }
     {
         self.rows.extend_from_slice(&block.row)?;
-        self.status = worse(self.status, block.status);
+        self.status = worst(self.status, block.status);
         Ok(())
     }
 }
@@ -340,14 +340,14 @@ fn block_of<T: Threads + Wait + Sync + Clock, S: FileStore, R: Read>(
     }
 }
 
-/// The status of two blocks: that of a refusal, or else that of a fault that is found.
-fn worse(status: u8, other: u8) -> u8
-    ensures { result ≡ worse status other }
+/// The status of blocks with these two statuses: 1 where a file is refused, otherwise 3 where a fault is found.
+fn worst(status: u8, other: u8) -> u8
+    ensures { result ≡ worst (status ∷ other ∷ []) }
 {
-    if status == 1 || other == 0 {
-        status
+    if status == 1 || other == 1 {
+        1
     } else {
-        other
+        check_status(true, status == 3 || other == 3)
     }
 }
 

@@ -1,11 +1,11 @@
-use Rattle.fencer.proofs.Vocabulary.{◌≡◌, ◌∙◌, ◌+◌, ◌<◌, ℕ, List, [], ◌++◌, Option, ap, arith, get_or, length, map, subst, sym, take, string_bytes, TEXT_LIMIT}
+use Rattle.fencer.proofs.Vocabulary.{◌≡◌, ◌∙◌, ◌+◌, ◌<◌, ℕ, List, [], ◌∷◌, ◌++◌, Option, ap, arith, get_or, length, map, refl, subst, sym, take, string_bytes, TEXT_LIMIT}
 use Rattle.std.proofs.lemmas.List.{take-map}
 use Rattle.std.specs.Io.KnownBytes.{Appends}
 use Rattle.std.specs.declared.string.String.{String}
 use Rattle.program_streams.specs.Files.{ReadsOfInput}
 use Rattle.program_streams.proofs.StreamLaws.{none_written, writes_more}
 use Rattle.fencer.specs.Surveys.{AreBlocks, AreWritten, IsBlock, ReadsOfFiles, ReadsOfSomeFiles, none, nothing}
-use Rattle.fencer.proofs.Surveyed.{one_more_block, one_more_read, some_read}
+use Rattle.fencer.proofs.Surveyed.{one_more_block, one_more_read, some_read, worst_more}
 use Rattle.fencer.proofs.WrittenSurveys.{ends_after, ends_within, in_any_case}
 use Rattle.fencer.proofs.surveys.print_blocks.Goals as goal
 
@@ -16,7 +16,7 @@ read_to_name names i d name old mid new is there before reads = some_read string
 
 pub loop-name-init : goal.loop-name-init
 loop-name-init g c = record {
-  told = record { blocks = []; are = rw c.new.ensures.items none; written = none_written (g.W.Write.contents c.args.output.now) };
+  told = record { statuses = []; blocks = []; are = rw c.new.ensures.items none; ends = refl; written = none_written (g.W.Write.contents c.args.output.now) };
   read = nothing (g.R.Read.remaining c.args.input.now);
 }
 
@@ -35,12 +35,13 @@ loop-name-preserved g c =
     let reads = subst (λ (n : List ℕ). ReadsOfInput TEXT_LIMIT n mid new) name c.block_of.ensures.read in
     let block = c.in_ok-block.block in
     let told = subst (λ (n : List ℕ). IsBlock options files n mid block.status block.lines.items block.row.items) name c.in_ok-block.ensures.told in
-    let are = one_more_block string_bytes names i d there options files old mid new c.loop-name.invariant.told.blocks c.loop-name.summary c.add.new.self block c.loop-name.invariant.told.are told reads c.in_ok-add.ensures.rows c.in_ok-add.ensures.status in
+    let are = one_more_block string_bytes names i d there options files old mid new c.loop-name.invariant.told.statuses c.loop-name.invariant.told.blocks c.loop-name.summary c.add.new.self block c.loop-name.invariant.told.are told reads c.in_ok-add.ensures.rows in
     let first = g.W.Write.contents c.args.output.now in
     let before = g.W.Write.contents c.loop-name.output in
     let written = writes_more first before (g.W.Write.contents c.write_bytes.new.output) c.loop-name.invariant.told.blocks block.lines.items c.loop-name.invariant.told.written (rw c.deref.ensures.value at c.in_ok-write_bytes.ensures.ok) in
+    let ends = worst_more c.loop-name.invariant.told.statuses block.status c.loop-name.summary.status c.add.new.self.status c.loop-name.invariant.told.ends c.in_ok-add.ensures.status in
     record {
-      told = record { blocks = c.loop-name.invariant.told.blocks ++ block.lines.items; are = are; written = subst (λ (o : Option (List ℕ)). Appends first o (c.loop-name.invariant.told.blocks ++ block.lines.items)) (sym c.tell.ensures) written };
+      told = record { statuses = c.loop-name.invariant.told.statuses ++ block.status ∷ []; blocks = c.loop-name.invariant.told.blocks ++ block.lines.items; are = are; ends = ends; written = subst (λ (o : Option (List ℕ)). Appends first o (c.loop-name.invariant.told.blocks ++ block.lines.items)) (sym c.tell.ensures) written };
       read = one_more_read string_bytes names i d there old mid new c.loop-name.invariant.read reads;
     }
 
@@ -106,13 +107,14 @@ returns-in_err-write_bytes-clause-cut g c =
     let reads = subst (λ (n : List ℕ). ReadsOfInput TEXT_LIMIT n mid new) name c.block_of.ensures.read in
     let block = c.in_ok-block.block in
     let told = subst (λ (n : List ℕ). IsBlock options files n mid block.status block.lines.items block.row.items) name c.in_ok-block.ensures.told in
-    let are = one_more_block string_bytes names i d there options files old mid new c.loop-name.invariant.told.blocks c.loop-name.summary c.add.new.self block c.loop-name.invariant.told.are told reads c.in_ok-add.ensures.rows c.in_ok-add.ensures.status in
+    let are = one_more_block string_bytes names i d there options files old mid new c.loop-name.invariant.told.statuses c.loop-name.invariant.told.blocks c.loop-name.summary c.add.new.self block c.loop-name.invariant.told.are told reads c.in_ok-add.ensures.rows in
     let first = g.W.Write.contents c.args.output.now in
     let before = g.W.Write.contents c.loop-name.output in
     let after = g.W.Write.contents c.write_bytes.new.output in
     let blocks = c.loop-name.invariant.told.blocks in
+    let statuses = c.loop-name.invariant.told.statuses ++ block.status ∷ [] in
     let summary = c.add.new.self in
     in_any_case c.from_residual-in_err-write_bytes.result _
-    (ends_within c.args.asked.now old files (i + 1) new summary.status blocks block.lines.items summary.rows.items first before after
-    (subst (λ (ns : List (List ℕ)). AreBlocks options files old ns new summary.status (blocks ++ block.lines.items) summary.rows.items) (sym (take-map string_bytes (i + 1) names)) are)
+    (ends_within c.args.asked.now old files (i + 1) new statuses blocks block.lines.items summary.rows.items first before after
+    (subst (λ (ns : List (List ℕ)). AreBlocks options files old ns new statuses (blocks ++ block.lines.items) summary.rows.items) (sym (take-map string_bytes (i + 1) names)) are)
     c.loop-name.invariant.told.written (rw c.deref.ensures.value at c.in_err-write_bytes.ensures.err))
