@@ -1,5 +1,7 @@
 -- What is printed for a trace.
 use Rattle.std.specs.Prelude.{◌≡◌, ℕ, List, ◌++◌, Option, None, string_bytes}
+use Rattle.std.specs.FinSet as set
+use Rattle.tso_program.specs.declared.listing.Listing.{Listing}
 use Rattle.program_streams.specs.declared.fault.FileFault.{FileFault}
 use Rattle.program_streams.specs.declared.files.TheConstants.{TEXT_LIMIT}
 use Rattle.program_streams.specs.Files.{AreOfFile, IsFileFault}
@@ -7,7 +9,11 @@ use Rattle.program_streams.specs.FileLines.{file_line}
 use Rattle.fencer_words.specs.declared.job.TraceQuery.{TraceQuery}
 use Rattle.fencer_words.specs.CommandFiles.{name_of}
 use Rattle.documents.specs.Documents.{IsTraceDocument}
+use Rattle.tso_machine.specs.declared.label.Label.{Label}
 use Rattle.tso_machine.specs.declared.label.Model.{Model}
+use Rattle.tso_machine.specs.Modes.{machine_of_model}
+use Rattle.litmus_text.specs.Litmus.{Litmus}
+use Rattle.run_views.specs.Tables.{IsTableOf}
 use Rattle.answers.specs.declared.delivery.Answer.{Answer}
 use Rattle.answers.specs.declared.refusals.AnswerFault.{AnswerFault}
 use Rattle.answers.specs.Deliveries.{IsDelivered, KeepAllFiles}
@@ -16,15 +22,19 @@ use Rattle.answers.specs.Refusals.{refusal_line}
 use Rattle.answers.specs.Refused.{RefusalSays}
 use Rattle.answers.specs.Replays.{label_words_text, PrintsRun, HasNoRun}
 
--- the lines end so
-abbrev pub HasEnding : List ℕ → List ℕ → Type 0
-HasEnding lines ending = (table : List ℕ) × (lines ≡ table ++ ending)
+-- the table is that of the steps that the labels make in the unfenced program
+abbrev pub IsTraceTable : Litmus Listing → Model → List Label → List ℕ → Type 0
+IsTraceTable litmus model = IsTableOf litmus (machine_of_model litmus.program set.empty model)
 
--- the lines are a table, and after it those that a replay prints; the document is that of the same run
+-- the lines are that table, and after it an ending
+abbrev pub AreTraceLines : Litmus Listing → Model → List Label → List ℕ → List ℕ → Type 0
+AreTraceLines litmus model labels ending lines = (table : List ℕ) × IsTraceTable litmus model labels table × (lines ≡ table ++ ending)
+
+-- the lines are the table of a run, and after it those that a replay prints of it; the document is that of the same run
 pub record PrintsTrace (model : Model) (labels bytes lines : List ℕ) (document : List (List ℕ)) : Type 0 where
   pub ending : List ℕ
   pub run : PrintsRun model labels bytes ending
-  pub printed : HasEnding lines ending
+  pub printed : AreTraceLines run.litmus model run.steps ending lines
   pub told : IsTraceDocument run.litmus model run.steps run.outcome run.passed document
 
 -- what is delivered: the lines or the document, and the page of the document

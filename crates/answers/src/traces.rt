@@ -11,8 +11,9 @@ ghost use Rattle.program_streams.specs.Files.{ReadsOfInput};
 ghost use Rattle.answers.specs.Deliveries.{KeepFilesBut};
 ghost use Rattle.answers.specs.Replays.{label_words_text, HasNoRun, OfEachText};
 ghost use Rattle.documents.specs.Documents.{IsTraceDocument};
+ghost use Rattle.run_views.specs.Tables.{table_text};
 ghost use Rattle.fencer_words.specs.CommandFiles.{name_of};
-ghost use Rattle.answers.specs.Traces.{DeliversTrace, PrintsTrace, IsTrace, IsTraceOf};
+ghost use Rattle.answers.specs.Traces.{DeliversTrace, PrintsTrace, IsTrace, IsTraceOf, IsTraceTable};
 
 use crate::advice::{AskedText, refusal_advice, unread_advice, unread_litmus};
 use crate::delivery::{Answer, deliver};
@@ -52,7 +53,8 @@ fn drawn(
     steps: &[Step],
     ended: &Ended,
 ) -> Result<Drawings, AllocError>
-    ensures { IfOk result (λ drawings. IsTraceDocument litmus.now model (map (λ step. step.label) steps.now) ended.now.outcome ended.now.passed drawings.document) }
+    ensures table { IfOk result (λ drawings. drawings.table.items ≡ table_text litmus.now steps.now) }
+    ensures told { IfOk result (λ drawings. IsTraceDocument litmus.now model (map (λ step. step.label) steps.now) ended.now.outcome ended.now.passed drawings.document) }
 {
     let table = run_table(alloc, litmus, steps)?;
     let mut graph = RunGraph::new(alloc)?;
@@ -80,6 +82,7 @@ fn drawings_of(
     labels: &[Label],
     ended: &Ended,
 ) -> Result<Drawings, ReplayFault>
+    ensures table { IfOk result (λ drawings. IsTraceTable litmus.now model labels.now drawings.table.items) }
     ensures told { IfOk result (λ drawings. IsTraceDocument litmus.now model labels.now ended.now.outcome ended.now.passed drawings.document) }
     ensures fault { IfErr result (ReplayFaultIs litmus.now.program (machine_of_model litmus.now.program set.empty model) labels.now) }
 {
