@@ -225,7 +225,7 @@ fn workers_arg<'a>(alloc: Global) -> Arg<'a>
         alloc,
         "workers",
         "N",
-        "How many workers search for fences, 1 to 32",
+        "How many threads may share the work, 1 to 32",
     )
     .value_parser(ValueParser::unsigned(1, MAX_WORKERS as u64))
     .default_value("1")
