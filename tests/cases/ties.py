@@ -25,15 +25,6 @@ PROPOSED = (
     ("n6.litmus", ["--ties"], b"0:1 1\n0:2 1\n1:1 1\n", b""),
     ("n6.litmus", ["--same", "1,0"], b"0:1 1\n0:2 1\n1:1 1\n", b""),
 )
-TRIES = b"X86 tries\n{ }\nP0 | P1 ;\nMOV [x],$1 | MOV [y],$1 ;\nMOV EAX,[y] | MOV EAX,[x] ;\nCMP EAX,$0 | ;\nJE in | ;\nMOV EAX,[y] | ;\nCMP EAX,$0 | ;\nJE in | ;\nMOV [z],$1 | ;\nin: | ;\nexists (0:EAX=0)\n"
-# programs, what their gaps cost, the options of `gaps`, and the ties that are proposed, each at what its dearest gap costs
-DEAREST = (
-    (bytes_of(os.path.join(EXAMPLES, "SB.litmus")), b"0:1 5\n1:1 7\n", ["--ties"], b"0:1 1:1 7\n"),
-    (bytes_of(os.path.join(EXAMPLES, "SB.litmus")), b"0:1 7\n", ["--ties"], b"0:1 1:1 7\n"),
-    (bytes_of(os.path.join(EXAMPLES, "SB.litmus")), b"0:1 2\n1:1 3\n", ["--same", "1,0"], b"0:1 1:1 3\n"),
-    (bytes_of(os.path.join(EXAMPLES, "n6.litmus")), b"0:2 4\n", ["--ties"], b"0:1 1\n0:2 4\n1:1 1\n"),
-    (TRIES, b"0:4 9\n1:1 2\n", ["--ties", "--tries"], b"0:1 0:4 9\n0:2 0:5 1\n0:3 0:6 1\n0:7 1\n1:1 2\n"),
-)
 
 
 def words_of(kind):
