@@ -1,4 +1,5 @@
-use Rattle.std.specs.List.{take, flat_map}
+use Rattle.std.specs.Prelude.{take}
+use Rattle.std.specs.List.{flat_map}
 use Rattle.std.specs.Fmt.{HasWritten, IsPlainFormatter}
 use Rattle.cert_forest.specs.Paths.{child_text}
 use Rattle.cert_forest.proofs.path.PathDisplay.fmt.Given as goal
