@@ -5,11 +5,12 @@ use crate::idle_names::idle_name_of;
 use crate::idle_registers::idle_register;
 use crate::near_names::near_name_of;
 use crate::unwritten_locations::unwritten_location;
-use litmus_lines::PlacedTokens;
-use litmus_reader::{Litmus, NameTable, read_litmus};
+use litmus_lines::{read_first_line, skip_lines};
+use litmus_reader::{Litmus, read_litmus};
 use litmus_syntax::{Body, read_body};
 use messages::{Message, Source};
 use std::alloc::{AllocError, Global};
+use text_tokens::{Token, lex};
 use tso_program::Program;
 
 /// What a slip is.
@@ -25,6 +26,13 @@ pub enum SlipKind {
     LoneName,
     /// A location is read, and nothing writes it.
     UnwrittenLocation,
+}
+
+/// Which slips are looked for in instructions.
+#[derive(Clone, Copy)]
+enum Sought {
+    JumpsAndRegisters,
+    Locations,
 }
 
 /// What an author may not have meant, and what is said of it.
@@ -67,57 +75,71 @@ fn litmus_slip(
 ) -> Result<Option<Slip>, AllocError> {
     if condition_counts {
         if let Some(message) = idle_name_of(alloc, source.name, litmus)? {
-            let kind = SlipKind::UnusedName;
-            return Ok(Some(Slip { kind, message }));
+            return Ok(slip_with(SlipKind::UnusedName, Some(message)));
         }
     }
-    program_slip(alloc, source, &litmus.names)
+    program_slip(alloc, source, litmus)
 }
 
-/// The first slip in the program, of which the condition is no part, by the names of the text.
+/// A slip of which this is said, if anything is.
+fn slip_with(kind: SlipKind, message: Option<Message>) -> Option<Slip> {
+    match message {
+        Some(message) => Some(Slip { kind, message }),
+        None => None,
+    }
+}
+
+/// The first slip in the program, of which the condition is no part.
 fn program_slip(
     alloc: Global,
     source: Source<'_>,
-    names: &NameTable,
+    litmus: &Litmus<Program>,
 ) -> Result<Option<Slip>, AllocError> {
-    let tokens = PlacedTokens::of(alloc, source.text)?;
-    match read_body(alloc, tokens.as_slice()) {
-        Ok((body, _)) => body_slip(alloc, source, names, &tokens, &body),
-        Err(_) => Ok(None),
+    match code_slip(alloc, source, Sought::JumpsAndRegisters)? {
+        Some(slip) => Ok(Some(slip)),
+        None => match near_name_of(alloc, source, &litmus.names)? {
+            Some(message) => Ok(slip_with(SlipKind::LoneName, Some(message))),
+            None => code_slip(alloc, source, Sought::Locations),
+        },
     }
 }
 
-/// The first slip in the program of a text with these names, which was read of these tokens.
-fn body_slip(
+/// The first slip of this kind in the instructions.
+fn code_slip(
     alloc: Global,
     source: Source<'_>,
-    names: &NameTable,
-    tokens: &PlacedTokens<'_>,
-    body: &Body<'_>,
+    sought: Sought,
 ) -> Result<Option<Slip>, AllocError> {
-    if let Some(remark) = idle_code(body) {
-        return remark_slip(alloc, source, tokens, remark);
-    }
-    if let Some(message) = near_name_of(alloc, source, names)? {
-        let kind = SlipKind::LoneName;
-        return Ok(Some(Slip { kind, message }));
-    }
-    match unwritten_location(body) {
-        Some(remark) => remark_slip(alloc, source, tokens, remark),
+    let Some(rest) = rest_of(source.text) else {
+        return Ok(None);
+    };
+    let tokens = lex(alloc, rest, 1)?;
+    let tokens = tokens.as_slice();
+    match remark_of(alloc, tokens, sought) {
+        Some(Remark { kind, left, said }) => {
+            let message = Message::at_token(alloc, source, rest, tokens, left, said)?;
+            Ok(Some(Slip { kind, message }))
+        }
         None => Ok(None),
     }
 }
 
-/// The slip of which this is said.
-fn remark_slip(
-    alloc: Global,
-    source: Source<'_>,
-    tokens: &PlacedTokens<'_>,
-    remark: Remark,
-) -> Result<Option<Slip>, AllocError> {
-    let Remark { kind, left, said } = remark;
-    let message = Message::at_token(alloc, source, tokens, left, said)?;
-    Ok(Some(Slip { kind, message }))
+/// The text from its initial values on.
+fn rest_of(text: &[u8]) -> Option<&[u8]> {
+    match read_first_line(text) {
+        Ok((_, lines)) => skip_lines(text, lines).ok(),
+        Err(_) => None,
+    }
+}
+
+fn remark_of(alloc: Global, tokens: &[Token], sought: Sought) -> Option<Remark> {
+    match read_body(alloc, tokens) {
+        Ok((body, _)) => match sought {
+            Sought::JumpsAndRegisters => idle_code(&body),
+            Sought::Locations => unwritten_location(&body),
+        },
+        Err(_) => None,
+    }
 }
 
 fn idle_code(body: &Body<'_>) -> Option<Remark> {
