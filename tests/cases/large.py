@@ -5,13 +5,12 @@ The outcomes are those that `judges/machine.py` finds by walking the machine's s
 """
 import hashlib
 import os
-import re
 import tempfile
 
 from cases.explanations import explained
 from cases.outcomes import listed_runs
 from cases.progress import read_program, reads
-from harness import FENCECHECK, MODELS, Cases, bytes_of, in_data, lines, run, same, tell, write
+from harness import FENCECHECK, MODELS, Cases, accepting, bytes_of, in_data, lines, run, same, tell, write
 from judges import machine
 from judges.texts import test_of
 
@@ -77,14 +76,13 @@ def placed(name, litmus):
     """Answers by several numbers of workers, and their certificates."""
     for options in ([], ["--observed"], ["--trees", "whole"], ["--observed", "--trees", "whole"]):
         alone = run(["place", *options, litmus])
-        accepted = re.sub(rb"^answer ", b"accepted ", alone[1].split(b"\n")[0]) + b"\n"
         trees = {}
         for workers in WORKERS:
             what = f"the answer for {name} {options} with {workers} workers"
             with tempfile.NamedTemporaryFile() as certificate:
                 found = run(["place", *options, "--workers", str(workers), "--certificate", certificate.name, litmus])
                 tell(what, found == alone and alone[0] == 0, found, alone)
-                same(f"{what}: its certificate", run([litmus, certificate.name], program=FENCECHECK), (0, accepted))
+                same(f"{what}: its certificate", run([litmus, certificate.name], program=FENCECHECK), accepting(alone[1]))
                 trees[workers] = settled(bytes_of(certificate.name))
             tell(f"{what}: its trees", trees[workers] == trees[1] and len(trees[1]) == 2, trees[workers], trees[1])
 

@@ -1,11 +1,10 @@
 """Placing: the sets that `fencer place` answers, that its certificates are accepted, and what it reads and writes."""
 import os
-import re
 import tempfile
 from concurrent.futures import ThreadPoolExecutor
 
 from cases.progress import reads
-from harness import FENCECHECK, LIMIT, Cases, bytes_of, called, example, in_data, judge, lines, run, same, sources_of, tell, without_end, write
+from harness import FENCECHECK, LIMIT, Cases, accepting, bytes_of, called, example, in_data, judge, lines, run, same, sources_of, tell, without_end, write
 from judges import candidates
 from judges.texts import fenced_text, test_of
 
@@ -33,8 +32,7 @@ def placed(name, litmus, options, printed, costs=None):
         same(f"{name}: {' '.join(options)}", run(["place", *words, litmus]), (0, printed))
         if not os.path.exists(certificate):
             return b""
-        accepted = re.sub(rb"^answer ", b"accepted ", printed.split(b"\n")[0]) + b"\n"
-        same(f"the certificate of {name}", run([litmus, certificate, *([costs] if costs else [])], program=FENCECHECK), (0, accepted))
+        same(f"the certificate of {name}", run([litmus, certificate, *([costs] if costs else [])], program=FENCECHECK), accepting(printed))
         return bytes_of(certificate)
 
 
