@@ -9,7 +9,7 @@ import tempfile
 
 from cases.explanations import explained
 from cases.outcomes import listed_runs
-from cases.progress import read_program, reads
+from cases.progress import MOST_SEARCHED, read_program, reads
 from harness import FENCECHECK, MODELS, Cases, accepting, bytes_of, in_data, lines, run, same, tell, write
 from judges import machine
 from judges.texts import test_of
@@ -47,7 +47,6 @@ ORDERS = """X86 orders
  MOV EBX,[x] |             |             |             ;
 exists (0:EAX=1 /\\ 1:EAX=1)
 """
-MOST_SEARCHED = 6
 MOST_WHOLE = 1_000
 PROGRAMS = (("reads", reads(5, 5, 5)), ("two threads", TWO_THREADS), ("exchanges", EXCHANGES), ("orders", ORDERS))
 

@@ -49,7 +49,7 @@ class Files:
 
 
 def placed(name, files, test, tied, kind, options):
-    """The answer is the best union of ties that serves; its certificate is accepted for these ties, and refused for others."""
+    """The answer is the best union of ties that serves, and its certificate is accepted for these ties; its gaps."""
     find = ties.best_set if len(tied) <= MOST_LISTED else ties.best_hitting_set
     cost, gaps = find(test, tied, ties.asker(test, ties.shown_by(test, canonical_of(bytes_of(files.litmus)), kind)))
     told = f"{words_of(kind)}cost {cost} set{places(gaps)}"
@@ -57,7 +57,7 @@ def placed(name, files, test, tied, kind, options):
     status, text = run(words)
     same(f"the fences of {name}", (status, text.decode().split("\n")[0]), (0, "answer " + told))
     expect(f"the certificate of {name}", [files.litmus, files.certificate, files.costs], 0, f"accepted {told}\n".encode(), program=FENCECHECK)
-    return cost, gaps
+    return gaps
 
 
 def refused(name, files, tied, gaps):
@@ -183,5 +183,5 @@ class Ties(Cases):
             with tempfile.TemporaryDirectory() as folder:
                 files = Files(folder, source, costs)
                 name = f"random program {number}, {kind} {' '.join(options)}"
-                cost, gaps = placed(name, files, test, tied, kind, options)
+                gaps = placed(name, files, test, tied, kind, options)
                 refused(name, files, tied, gaps)
