@@ -3,10 +3,9 @@ import json
 import os
 import random
 import re
-import subprocess
 import tempfile
 
-from harness import EXAMPLES, FENCECHECK, FENCER, Cases, bytes_of, example, example_files, expect, run, same, tell, write
+from harness import EXAMPLES, FENCECHECK, Cases, bytes_of, example, example_files, expect, run, said_by, same, tell, write
 from judges import conditions, ties
 from judges.made_certificates import random_source
 from judges.texts import canonical_of, test_of
@@ -19,11 +18,11 @@ WORKERS = ("1", "2", "8")
 MOST_LISTED = 10
 # programs, the options of `gaps`, the ties that are proposed, and what standard error says of them
 PROPOSED = (
-    ("SB.litmus", ["--ties"], b"0:1 1:1 1\n", b"fencer: 0:1 1:1 before line 5 in P0 and P1\n"),
-    ("SB.litmus", ["--same", "1"], b"0:1 1\n1:1 1\n", b"fencer: warning: --same names one thread alone, and no other runs its code\n"),
-    ("SB.litmus", ["--same", "0,2"], b"0:1 1\n1:1 1\n", b"fencer: warning: --same names thread 2, and the last thread is P1\n"),
-    ("n6.litmus", ["--ties"], b"0:1 1\n0:2 1\n1:1 1\n", b""),
-    ("n6.litmus", ["--same", "1,0"], b"0:1 1\n0:2 1\n1:1 1\n", b""),
+    ("SB.litmus", ["--ties"], b"0:1 1:1 1\n", "fencer: 0:1 1:1 before line 5 in P0 and P1\n"),
+    ("SB.litmus", ["--same", "1"], b"0:1 1\n1:1 1\n", "fencer: warning: --same names one thread alone, and no other runs its code\n"),
+    ("SB.litmus", ["--same", "0,2"], b"0:1 1\n1:1 1\n", "fencer: warning: --same names thread 2, and the last thread is P1\n"),
+    ("n6.litmus", ["--ties"], b"0:1 1\n0:2 1\n1:1 1\n", ""),
+    ("n6.litmus", ["--same", "1,0"], b"0:1 1\n0:2 1\n1:1 1\n", ""),
 )
 
 
@@ -161,9 +160,9 @@ class Ties(Cases):
     def test_lines(self):
         """The ties that are proposed of threads that are alike, of threads that are named, and of tries; and what is said of them."""
         for litmus, words, lines, said in PROPOSED:
-            expect(f"the ties of {litmus} by {' '.join(words)}", ["gaps", *words, example_path(litmus)], 0, lines)
-            told = subprocess.run([FENCER, "gaps", *words, example_path(litmus)], capture_output=True).stderr
-            same(f"the lines of the ties of {litmus} by {' '.join(words)}", told, said)
+            words = ["gaps", *words, example_path(litmus)]
+            expect(f"the ties by {' '.join(words)}", words, 0, lines)
+            same(f"the lines of the ties by {' '.join(words)}", said_by(words), said)
 
     def test_dearest(self):
         """What the ties cost that are proposed where the gaps have costs of their own."""

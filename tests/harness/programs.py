@@ -43,6 +43,11 @@ def run(words, given=b"", program=FENCER, **more):
     return ran.returncode, ran.stdout
 
 
+def said_by(words):
+    """What `fencer` says on standard error."""
+    return subprocess.run([FENCER, *words], stdin=subprocess.DEVNULL, capture_output=True, timeout=SECONDS).stderr.decode()
+
+
 def compiler():
     """The toolchain's own clang, or the one on the path."""
     page = subprocess.run(["rt", "doc"], capture_output=True, text=True).stdout.strip() if shutil.which("rt") else ""
