@@ -10,7 +10,7 @@ import tempfile
 from cases.explanations import explained
 from cases.outcomes import listed_runs
 from cases.progress import MOST_SEARCHED, read_program, reads
-from harness import FENCECHECK, MODELS, Cases, accepting, bytes_of, in_data, lines, run, same, tell, write
+from harness import FENCECHECK, MODELS, Cases, accepting, bytes_of, certificate_of, in_data, lines, run, same, tell, write
 from judges import machine
 from judges.texts import test_of
 
@@ -91,13 +91,12 @@ class Large(Cases):
         """The programs are large. Their certificates are of version 1 or 2 up to 1,000 combinations of traces, and of version 4 above."""
         for name, text in PROGRAMS:
             with tempfile.TemporaryDirectory() as folder:
-                litmus, certificate = (os.path.join(folder, "made." + kind) for kind in ("litmus", "cert"))
+                litmus = os.path.join(folder, "made.litmus")
                 write(litmus, text.encode())
                 count = read_program(litmus).combinations()
                 tell(f"{name} is large", count > MOST_SEARCHED, count, f"more than {MOST_SEARCHED} combinations")
                 for options, whole in (([], b"1"), (["--observed"], b"2")):
-                    run(["place", *options, "--certificate", certificate, litmus])
-                    version = bytes_of(certificate).split()[1]
+                    version = certificate_of(litmus, options).split()[1]
                     same(f"the version of the certificate of {name} {options}", version, b"4" if count > MOST_WHOLE else whole)
 
     def test_lists(self):

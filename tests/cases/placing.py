@@ -4,7 +4,9 @@ import tempfile
 from concurrent.futures import ThreadPoolExecutor
 
 from cases.progress import reads
-from harness import FENCECHECK, LIMIT, Cases, accepting, bytes_of, called, example, in_data, judge, lines, run, same, sources_of, tell, without_end, write
+from harness import (
+    FENCECHECK, LIMIT, Cases, accepting, bytes_of, called, certificate_of, example, in_data, judge, lines, run, same, sources_of, tell, without_end, write,
+)
 from judges import candidates
 from judges.texts import fenced_text, test_of
 
@@ -51,14 +53,6 @@ def trees_compared(name, litmus, certificate):
         except candidates.Refused as refused:
             fault = refused
         tell(f"the cycles on the way through the {tree} of the certificate of {name}", fault is None, fault)
-
-
-def certificate_of(litmus, options, costs):
-    """The certificate of a placement by one worker."""
-    with tempfile.TemporaryDirectory() as folder:
-        certificate = os.path.join(folder, "certificate")
-        run(["place", *options, *(["--costs", costs] if costs else []), "--certificate", certificate, litmus])
-        return bytes_of(certificate)
 
 
 def worked_examples():
@@ -136,7 +130,7 @@ class Placing(Cases):
                 litmus = os.path.join(folder, "litmus")
                 write(litmus, source)
                 for options, version in VERSIONS:
-                    first = certificate_of(litmus, options, None).split(b"\n")[0]
+                    first = certificate_of(litmus, options).split(b"\n")[0]
                     same(f"the version of a certificate of {name} by {' '.join(options)}", first, b"FENCECERT %d" % version)
 
     def test_certificate_files(self):
