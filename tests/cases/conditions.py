@@ -1,9 +1,7 @@
 """Conditions: the fences of `fencer place --condition`, by the states of the machine, and the head of its certificates."""
-import os
 import random
-import tempfile
 
-from harness import Cases, bytes_of, example_files, in_data, judge, litmus_cases, run, same, tell
+from harness import Cases, bytes_of, certificate_of, example_files, in_data, judge, litmus_cases, run, same, tell
 from judges import conditions
 from judges.texts import canonical_of, test_of
 
@@ -36,10 +34,7 @@ class Conditions(Cases):
         for case in litmus_cases("condition"):
             litmus = in_data("condition", case + ".litmus")
             source = bytes_of(litmus)
-            with tempfile.TemporaryDirectory() as folder:
-                certificate = os.path.join(folder, "certificate")
-                run(["place", "--trees", "whole", "--condition", "--certificate", certificate, litmus])
-                shown = bytes_of(certificate)
+            shown = certificate_of(litmus, ["--trees", "whole", "--condition"])
             head = b"FENCECERT 2\nshown condition\nset"
             tell(f"the head of the condition's certificate of {case}", shown.startswith(head), shown[:80], head)
             for word, line in (

@@ -13,7 +13,7 @@ import shutil
 import subprocess
 import tempfile
 
-from harness import EXAMPLES, PROGRAMS, TOP, Cases, bytes_of, in_data, run, same, tell, write
+from harness import EXAMPLES, PROGRAMS, TOP, Cases, bytes_of, certificate_of, in_data, run, same, tell, write
 
 PRINTED = ("answer ", "accepted ", "refused ", "outcome: ", "outcomes ", "passed", "without ", "run ", "Every ", "No ", "observation ", "condition ", "usage: ", "error: ")
 MAKERS = ("make-map", "make-drawings", "make-links")
@@ -147,10 +147,7 @@ def drawn_line(name, panel):
 
 def certified(litmus, name):
     """The line of the certificate that begins with this word."""
-    with tempfile.TemporaryDirectory() as folder:
-        path = os.path.join(folder, "cert")
-        run(["place", "--certificate", path, litmus])
-        return next(line for line in lines_of(path) if line.split(" ")[0] == name)
+    return next(line for line in certificate_of(litmus).decode().splitlines() if line.split(" ")[0] == name)
 
 
 def drawn_run(panel):

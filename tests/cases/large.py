@@ -5,13 +5,12 @@ The outcomes are those that `judges/machine.py` finds by walking the machine's s
 """
 import hashlib
 import os
-import re
 import tempfile
 
 from cases.explanations import explained
 from cases.outcomes import listed_runs
-from cases.progress import read_program, reads
-from harness import FENCECHECK, MODELS, Cases, bytes_of, in_data, lines, run, same, tell, write
+from cases.progress import MOST_SEARCHED, read_program, reads
+from harness import FENCECHECK, MODELS, Cases, accepting, bytes_of, certificate_of, in_data, lines, run, same, tell, write
 from judges import machine
 from judges.texts import test_of
 
@@ -48,7 +47,6 @@ ORDERS = """X86 orders
  MOV EBX,[x] |             |             |             ;
 exists (0:EAX=1 /\\ 1:EAX=1)
 """
-MOST_SEARCHED = 6
 MOST_WHOLE = 1_000
 PROGRAMS = (("reads", reads(5, 5, 5)), ("two threads", TWO_THREADS), ("exchanges", EXCHANGES), ("orders", ORDERS))
 
@@ -77,14 +75,13 @@ def placed(name, litmus):
     """Answers by several numbers of workers, and their certificates."""
     for options in ([], ["--observed"], ["--trees", "whole"], ["--observed", "--trees", "whole"]):
         alone = run(["place", *options, litmus])
-        accepted = re.sub(rb"^answer ", b"accepted ", alone[1].split(b"\n")[0]) + b"\n"
         trees = {}
         for workers in WORKERS:
             what = f"the answer for {name} {options} with {workers} workers"
             with tempfile.NamedTemporaryFile() as certificate:
                 found = run(["place", *options, "--workers", str(workers), "--certificate", certificate.name, litmus])
                 tell(what, found == alone and alone[0] == 0, found, alone)
-                same(f"{what}: its certificate", run([litmus, certificate.name], program=FENCECHECK), (0, accepted))
+                same(f"{what}: its certificate", run([litmus, certificate.name], program=FENCECHECK), accepting(alone[1]))
                 trees[workers] = settled(bytes_of(certificate.name))
             tell(f"{what}: its trees", trees[workers] == trees[1] and len(trees[1]) == 2, trees[workers], trees[1])
 
@@ -94,13 +91,12 @@ class Large(Cases):
         """The programs are large. Their certificates are of version 1 or 2 up to 1,000 combinations of traces, and of version 4 above."""
         for name, text in PROGRAMS:
             with tempfile.TemporaryDirectory() as folder:
-                litmus, certificate = (os.path.join(folder, "made." + kind) for kind in ("litmus", "cert"))
+                litmus = os.path.join(folder, "made.litmus")
                 write(litmus, text.encode())
                 count = read_program(litmus).combinations()
                 tell(f"{name} is large", count > MOST_SEARCHED, count, f"more than {MOST_SEARCHED} combinations")
                 for options, whole in (([], b"1"), (["--observed"], b"2")):
-                    run(["place", *options, "--certificate", certificate, litmus])
-                    version = bytes_of(certificate).split()[1]
+                    version = certificate_of(litmus, options).split()[1]
                     same(f"the version of the certificate of {name} {options}", version, b"4" if count > MOST_WHOLE else whole)
 
     def test_lists(self):

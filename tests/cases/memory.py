@@ -9,7 +9,7 @@ from concurrent.futures import ThreadPoolExecutor
 from cases.large import EXCHANGES
 from cases.progress import reads
 from harness import (
-    EXAMPLES, FENCECHECK, FENCER, TEST_CALLS, PreloadedCases, bytes_of, called, example, failing_in_turn, in_data, lines, run, same, tell, watched,
+    EXAMPLES, FENCECHECK, FENCER, TEST_CALLS, PreloadedCases, accepting, bytes_of, called, example, failing_in_turn, in_data, lines, run, same, tell, watched,
     without_front, write,
 )
 from judges import documents
@@ -30,8 +30,7 @@ def refused_allocations(library, name, words, given, right, lawful, program=FENC
         found, met = watched(library, nth, words, given, program)
         tell(f"{name}, allocation {nth} refused", found == right or (met and found in lawful), found, f"{right!r}, or a refusal for lack of memory")
         if certified and found == right:
-            accepted = re.sub(rb"^answer ", b"accepted ", right[1].split(b"\n")[0]) + b"\n"
-            same(f"{name}, its certificate with allocation {nth} refused", run(["-", certified, *costs], given, FENCECHECK), (0, accepted))
+            same(f"{name}, its certificate with allocation {nth} refused", run(["-", certified, *costs], given, FENCECHECK), accepting(right[1]))
             os.remove(certified)
         if not met:
             return
@@ -41,7 +40,7 @@ def refused_allocations(library, name, words, given, right, lawful, program=FENC
 def refused_by_number(library, name, words, numbers, given, right, lawful, folder=None):
     """What a command line by several threads answers where one of these allocations is refused, and whether it came; with a folder, also that the certificate
     of an answer is accepted. Which allocation has a number changes from run to run, so each is tried whatever a run met."""
-    accepted = (0, re.sub(rb"^answer ", b"accepted ", right[1].split(b"\n")[0]) + b"\n")
+    accepted = accepting(right[1])
 
     def tried(nth):
         certificate = os.path.join(folder, str(nth)) if folder else ""

@@ -1,11 +1,12 @@
 """Placing: the sets that `fencer place` answers, that its certificates are accepted, and what it reads and writes."""
 import os
-import re
 import tempfile
 from concurrent.futures import ThreadPoolExecutor
 
 from cases.progress import reads
-from harness import FENCECHECK, LIMIT, Cases, bytes_of, called, example, in_data, judge, lines, run, same, sources_of, tell, without_end, write
+from harness import (
+    FENCECHECK, LIMIT, Cases, accepting, bytes_of, called, certificate_of, example, in_data, judge, lines, run, same, sources_of, tell, without_end, write,
+)
 from judges import candidates
 from judges.texts import fenced_text, test_of
 
@@ -33,8 +34,7 @@ def placed(name, litmus, options, printed, costs=None):
         same(f"{name}: {' '.join(options)}", run(["place", *words, litmus]), (0, printed))
         if not os.path.exists(certificate):
             return b""
-        accepted = re.sub(rb"^answer ", b"accepted ", printed.split(b"\n")[0]) + b"\n"
-        same(f"the certificate of {name}", run([litmus, certificate, *([costs] if costs else [])], program=FENCECHECK), (0, accepted))
+        same(f"the certificate of {name}", run([litmus, certificate, *([costs] if costs else [])], program=FENCECHECK), accepting(printed))
         return bytes_of(certificate)
 
 
@@ -53,14 +53,6 @@ def trees_compared(name, litmus, certificate):
         except candidates.Refused as refused:
             fault = refused
         tell(f"the cycles on the way through the {tree} of the certificate of {name}", fault is None, fault)
-
-
-def certificate_of(litmus, options, costs):
-    """The certificate of a placement by one worker."""
-    with tempfile.TemporaryDirectory() as folder:
-        certificate = os.path.join(folder, "certificate")
-        run(["place", *options, *(["--costs", costs] if costs else []), "--certificate", certificate, litmus])
-        return bytes_of(certificate)
 
 
 def worked_examples():
@@ -138,7 +130,7 @@ class Placing(Cases):
                 litmus = os.path.join(folder, "litmus")
                 write(litmus, source)
                 for options, version in VERSIONS:
-                    first = certificate_of(litmus, options, None).split(b"\n")[0]
+                    first = certificate_of(litmus, options).split(b"\n")[0]
                     same(f"the version of a certificate of {name} by {' '.join(options)}", first, b"FENCECERT %d" % version)
 
     def test_certificate_files(self):

@@ -1,10 +1,8 @@
 """The solver, the search and the hunt: what they answer call by call, how many questions a placement takes, and that a hunt closes."""
 import itertools
-import os
 import re
-import tempfile
 
-from harness import TEST_CALLS, Cases, bytes_of, expect, expect_call, in_data, lines, printed, run, tell
+from harness import TEST_CALLS, Cases, bytes_of, certificate_of, expect, expect_call, in_data, lines, printed, run, tell
 from judges.texts import test_of
 
 WORKERS = (1, 2, 8, 32)
@@ -22,10 +20,7 @@ def replayed_runs(call, litmus, told):
 
 def gap_tree_nodes(litmus):
     """How many nodes the gap tree of a placement has."""
-    with tempfile.TemporaryDirectory() as folder:
-        certificate = os.path.join(folder, "certificate")
-        run(["place", "--certificate", certificate, litmus])
-        gaps = bytes_of(certificate).split(b"\ngaps ")[1].split()
+    gaps = certificate_of(litmus).split(b"\ngaps ")[1].split()
     return gaps.count(b"P") + gaps.count(b"B")
 
 

@@ -5,7 +5,7 @@ import subprocess
 import tempfile
 import threading
 
-from harness import FENCER, Cases, bytes_of, example_files, run, same, tell, write
+from harness import FENCER, Cases, bytes_of, example_files, run, said_by, same, tell, write
 from judges import documents, surveys
 from judges.texts import canonical_of, instruction_lines, test_of
 
@@ -183,8 +183,7 @@ class Surveys(Cases):
                 file = os.path.join(folder, name)
                 write(file, source)
                 for options, wanted in (([], f"fencer: {file}: no sequential run executes {said}\n" if said else ""), (["--allow-unexecuted"], "")):
-                    told = subprocess.run([FENCER, "survey", *options, file], capture_output=True).stderr.decode()
-                    found = [line for line in told.splitlines(keepends=True) if "no sequential run executes" in line]
+                    found = [line for line in said_by(["survey", *options, file]).splitlines(keepends=True) if "no sequential run executes" in line]
                     same(f"what a survey {' '.join(options)} of {name} says", "".join(found), wanted)
 
     def test_verdicts(self):
@@ -192,8 +191,7 @@ class Surveys(Cases):
         for name, source, said in (("fails", FAILS, "what must not happen (x=1) happens without store buffers too: no fence mends it"), ("one", ONE_INSTRUCTION, "")):
             with tempfile.NamedTemporaryFile() as file:
                 write(file.name, source)
-                told = subprocess.run([FENCER, "survey", file.name], capture_output=True).stderr.decode()
-                found = [line for line in told.splitlines(keepends=True) if "store buffers" in line]
+                found = [line for line in said_by(["survey", file.name]).splitlines(keepends=True) if "store buffers" in line]
                 same(f"what a survey of {name} says of its condition", "".join(found), f"fencer: {file.name}: {said}\n" if said else "")
 
     def test_names(self):
@@ -240,7 +238,7 @@ class Surveys(Cases):
         for name, source, words in (("one", dict(TEXTS)["one"], None), ("idle", IDLE, "the condition names cs, which no instruction reads or writes")):
             with tempfile.NamedTemporaryFile() as file:
                 write(file.name, source)
-                said = [subprocess.run([FENCER, command, file.name], capture_output=True).stderr.decode() for command in ("survey", "outcomes")]
+                said = [said_by([command, file.name]) for command in ("survey", "outcomes")]
             others = [line for line in said[0].splitlines(keepends=True) if not line.startswith("fencer: ")]
             same(f"the slips that a survey of {name} names", "".join(others), said[1])
             tell(f"the slip of {name}", words is None or words in said[1], said)

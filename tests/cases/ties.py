@@ -3,10 +3,9 @@ import json
 import os
 import random
 import re
-import subprocess
 import tempfile
 
-from harness import EXAMPLES, FENCECHECK, FENCER, Cases, bytes_of, example, example_files, expect, run, same, tell, write
+from harness import EXAMPLES, FENCECHECK, Cases, bytes_of, example, example_files, expect, run, said_by, same, tell, write
 from judges import conditions, ties
 from judges.made_certificates import random_source
 from judges.texts import canonical_of, test_of
@@ -19,11 +18,11 @@ WORKERS = ("1", "2", "8")
 MOST_LISTED = 10
 # programs, the options of `gaps`, the ties that are proposed, and what standard error says of them
 PROPOSED = (
-    ("SB.litmus", ["--ties"], b"0:1 1:1 1\n", b"fencer: 0:1 1:1 before line 5 in P0 and P1\n"),
-    ("SB.litmus", ["--same", "1"], b"0:1 1\n1:1 1\n", b"fencer: warning: --same names one thread alone, and no other runs its code\n"),
-    ("SB.litmus", ["--same", "0,2"], b"0:1 1\n1:1 1\n", b"fencer: warning: --same names thread 2, and the last thread is P1\n"),
-    ("n6.litmus", ["--ties"], b"0:1 1\n0:2 1\n1:1 1\n", b""),
-    ("n6.litmus", ["--same", "1,0"], b"0:1 1\n0:2 1\n1:1 1\n", b""),
+    ("SB.litmus", ["--ties"], b"0:1 1:1 1\n", "fencer: 0:1 1:1 before line 5 in P0 and P1\n"),
+    ("SB.litmus", ["--same", "1"], b"0:1 1\n1:1 1\n", "fencer: warning: --same names one thread alone, and no other runs its code\n"),
+    ("SB.litmus", ["--same", "0,2"], b"0:1 1\n1:1 1\n", "fencer: warning: --same names thread 2, and the last thread is P1\n"),
+    ("n6.litmus", ["--ties"], b"0:1 1\n0:2 1\n1:1 1\n", ""),
+    ("n6.litmus", ["--same", "1,0"], b"0:1 1\n0:2 1\n1:1 1\n", ""),
 )
 
 
@@ -49,7 +48,7 @@ class Files:
 
 
 def placed(name, files, test, tied, kind, options):
-    """The answer is the best union of ties that serves; its certificate is accepted for these ties, and refused for others."""
+    """The answer is the best union of ties that serves, and its certificate is accepted for these ties; its gaps."""
     find = ties.best_set if len(tied) <= MOST_LISTED else ties.best_hitting_set
     cost, gaps = find(test, tied, ties.asker(test, ties.shown_by(test, canonical_of(bytes_of(files.litmus)), kind)))
     told = f"{words_of(kind)}cost {cost} set{places(gaps)}"
@@ -57,7 +56,7 @@ def placed(name, files, test, tied, kind, options):
     status, text = run(words)
     same(f"the fences of {name}", (status, text.decode().split("\n")[0]), (0, "answer " + told))
     expect(f"the certificate of {name}", [files.litmus, files.certificate, files.costs], 0, f"accepted {told}\n".encode(), program=FENCECHECK)
-    return cost, gaps
+    return gaps
 
 
 def refused(name, files, tied, gaps):
@@ -161,9 +160,9 @@ class Ties(Cases):
     def test_lines(self):
         """The ties that are proposed of threads that are alike, of threads that are named, and of tries; and what is said of them."""
         for litmus, words, lines, said in PROPOSED:
-            expect(f"the ties of {litmus} by {' '.join(words)}", ["gaps", *words, example_path(litmus)], 0, lines)
-            told = subprocess.run([FENCER, "gaps", *words, example_path(litmus)], capture_output=True).stderr
-            same(f"the lines of the ties of {litmus} by {' '.join(words)}", told, said)
+            words = ["gaps", *words, example_path(litmus)]
+            expect(f"the ties by {' '.join(words)}", words, 0, lines)
+            same(f"the lines of the ties by {' '.join(words)}", said_by(words), said)
 
     def test_dearest(self):
         """The ties that are proposed with a file of costs: each costs what its dearest gap costs."""
@@ -183,5 +182,5 @@ class Ties(Cases):
             with tempfile.TemporaryDirectory() as folder:
                 files = Files(folder, source, costs)
                 name = f"random program {number}, {kind} {' '.join(options)}"
-                cost, gaps = placed(name, files, test, tied, kind, options)
+                gaps = placed(name, files, test, tied, kind, options)
                 refused(name, files, tied, gaps)

@@ -3,13 +3,12 @@ an outcome; otherwise it is said that there is none."""
 import itertools
 import random
 
-from harness import Cases, bytes_of, example_files, in_data, litmus_cases, run, same, tell
+from harness import MODELS, Cases, bytes_of, example_files, in_data, litmus_cases, run, same, tell
 from judges import conditions, documents, machine, traces
 from judges.texts import canonical_of, test_of
 
 RANDOM_PROGRAMS = 300
 SEED = 61
-MODELS = ("buffered", "sequential")
 
 
 class Program:

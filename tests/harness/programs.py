@@ -4,6 +4,7 @@ import itertools
 import os
 import shutil
 import subprocess
+import tempfile
 import threading
 from concurrent.futures import ThreadPoolExecutor
 
@@ -41,6 +42,20 @@ def run(words, given=b"", program=FENCER, **more):
         return f"still running after {SECONDS} seconds", late.stdout or b""
     schemas.hold(words, ran.stdout)
     return ran.returncode, ran.stdout
+
+
+def certificate_of(litmus, options=(), costs=None):
+    """The certificate of a placement."""
+    with tempfile.TemporaryDirectory() as folder:
+        certificate = os.path.join(folder, "certificate")
+        run(["place", *options, *(["--costs", costs] if costs else []), "--certificate", certificate, litmus])
+        with open(certificate, "rb") as file:
+            return file.read()
+
+
+def said_by(words):
+    """What `fencer` says on standard error."""
+    return subprocess.run([FENCER, *words], stdin=subprocess.DEVNULL, capture_output=True, timeout=SECONDS).stderr.decode()
 
 
 def compiler():

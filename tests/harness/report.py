@@ -1,5 +1,6 @@
 """What a case reports: whether it passed, and of a failure what was expected, what came, and the commands that repeat it."""
 import os
+import re
 import shlex
 import shutil
 import tempfile
@@ -100,6 +101,11 @@ def expect_call(call, text, right, name=""):
 def answer_of(line):
     """The status and the text with which `fencecheck` prints a line."""
     return 0 if line.startswith("accepted ") else 1, line.encode() + b"\n"
+
+
+def accepting(printed):
+    """The status and the text with which `fencecheck` accepts the certificate of an answer that `fencer place` prints."""
+    return 0, re.sub(rb"^answer ", b"accepted ", printed.split(b"\n")[0]) + b"\n"
 
 
 def judge(name, litmus, shown, line):
