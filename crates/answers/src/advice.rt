@@ -141,8 +141,9 @@ pub fn tell_slip_compared<W: Console>(alloc: Global, asked: &Placement, text: &[
 
 /// The lines of these gaps of a litmus text; none of a text that is not read.
 fn fences_advice(alloc: Global, text: &[u8], gaps: &GapSet) -> Result<Vec<u8>, AllocError> {
+    let lines = TextLines::of_text(alloc, text)?;
     match read_litmus(alloc, text) {
-        Ok(litmus) => fence_notes(alloc, &TextLines::of_text(alloc, text)?, &litmus, gaps),
+        Ok(litmus) => fence_notes(alloc, &lines, &litmus, gaps),
         Err(ReadFault::OutOfMemory) => Err(AllocError),
         Err(_) => Ok(Vec::new(alloc)),
     }

@@ -110,12 +110,19 @@ pub(crate) fn tied_costs(
     }
 }
 
+/// The number of the last thread of a text's program; none of a text that is not read.
+fn last_thread(alloc: Global, litmus: &[u8]) -> Option<usize> {
+    match read_program(alloc, litmus) {
+        Ok(source) => Some(source.program.threads().len().saturating_sub(1)),
+        Err(_) => None,
+    }
+}
+
 /// What is said of threads that run the same code, if one of them is none of the program's, or there is but one.
 fn same_advice(alloc: Global, litmus: &[u8], same: &[u8]) -> Result<Vec<u8>, AllocError> {
-    let Ok(source) = read_program(alloc, litmus) else {
+    let Some(last) = last_thread(alloc, litmus) else {
         return Ok(Vec::new(alloc));
     };
-    let last = source.program.threads().len().saturating_sub(1);
     for thread in same {
         if *thread as usize > last {
             let line = format!(in alloc;
@@ -140,6 +147,21 @@ pub(crate) fn tell_same<W: Console>(alloc: Global, litmus: &[u8], same: &[u8], o
     output.tell(same_advice(alloc, litmus, same));
 }
 
+/// In which lines of a program's text the gaps of ties stand: of the ties of these gaps, or of all.
+fn tied_lines(
+    alloc: Global,
+    litmus: &[u8],
+    costs: Option<&[u8]>,
+    program: &Program,
+    gaps: Option<&GapSet>,
+) -> Result<Vec<Vec<u8>>, AllocError> {
+    let Ok(costs) = read_gap_costs(alloc, costs, program) else {
+        return Ok(Vec::new(alloc));
+    };
+    let all = program.all_gaps();
+    tie_lines(alloc, litmus, program, &costs.ties, gaps.unwrap_or(&all))
+}
+
 /// In which lines of a litmus text the gaps of ties stand: of the ties of these gaps, or of all. Nothing is said where no gaps go
 /// together.
 pub(crate) fn tie_advice(
@@ -148,16 +170,13 @@ pub(crate) fn tie_advice(
     costs: Option<&[u8]>,
     gaps: Option<&GapSet>,
 ) -> Result<Vec<u8>, AllocError> {
-    let mut told = Vec::new(alloc);
     let Ok(source) = read_program(alloc, litmus) else {
-        return Ok(told);
+        return Ok(Vec::new(alloc));
     };
-    let Ok(costs) = read_gap_costs(alloc, costs, &source.program) else {
-        return Ok(told);
-    };
-    let all = source.program.all_gaps();
-    let gaps = gaps.unwrap_or(&all);
-    for line in &tie_lines(alloc, litmus, &source.program, &costs.ties, gaps)? {
+    let lines = tied_lines(alloc, litmus, costs, &source.program, gaps);
+    drop(source);
+    let mut told = Vec::new(alloc);
+    for line in &lines? {
         told.extend_from_slice(b"fencer: ")?;
         told.extend_from_slice(line)?;
     }

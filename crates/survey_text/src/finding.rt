@@ -174,5 +174,7 @@ pub fn survey_text<T: Threads + Wait + Sync>(
     ensures fault { IfErr result (HasNoPlacedText text.now (option_map (λ text. text.now) costs.entry) effort.workers) }
 {
     let survey = survey_of(rt, alloc, text, costs, effort)?;
-    Ok(told(alloc, name, text, &survey)?)
+    let told = told(alloc, name, text, &survey);
+    drop(survey);
+    Ok(told?)
 }
