@@ -6,4 +6,4 @@ pub use Rattle.std.proofs.lemmas.Nat.Bits.{bit_at-lt, bit_at-trailing_zeros, bit
 pub use Rattle.std.proofs.lemmas.Nat.Bits.{bit_at_or, bit_at_set_other, bit_at_set_same}
 pub use Rattle.std.specs.Int.{bit_at, bit_not, trailing_zeros, w32}
 pub use Rattle.std.specs.Int.RustNames.{bit_and, bit_or}
-pub use Rattle.bit_rows.specs.Rows.{AreConnected, HasRound, IsIn, IsReach, IsTransitive, LeadsInto, Meets, Reaches, RowHas, RowsLead}
+pub use Rattle.bit_rows.specs.Rows.{HasRound, IsIn, IsReach, IsTransitive, LeadsInto, Meets, Reaches, RowHas, RowsLead}

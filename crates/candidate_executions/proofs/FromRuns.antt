@@ -17,7 +17,6 @@ pub mod StoresKeepInvariant
 pub mod FlushesKeepInvariant
 pub mod MarksOfHistories
 pub mod StepsSuffice
-pub mod RunsAreShort
 pub mod RunsLeaveHistories
 pub mod SequentialIsBuffered
 pub mod KnownValues

@@ -1,11 +1,11 @@
 -- What ties candidate executions to the machines, and what shows how their definitions are to be read.
-use Rattle.std.specs.Prelude.{◌≡◌, ◌≢◌, ◌↔◌, ◌⊎◌, ℕ, ◌<◌, ◌≤◌, ◌+◌, ◌*◌, List, Some, None, IsSome, Contains, length}
-use Rattle.tso_machine.specs.Listing.{Listing}
-use Rattle.tso_machine.specs.Outcome.{Outcome}
-use Rattle.tso_machine.specs.Question.{Question}
-use Rattle.tso_machine.specs.Listings.{action, code_of}
-use Rattle.tso_machine.specs.Limits.{JumpForward}
-use Rattle.tso_machine.specs.Fences.{Gaps}
+use Rattle.std.specs.Prelude.{◌≡◌, ◌≢◌, ◌↔◌, ◌⊎◌, ℕ, ◌<◌, List, Some, None, IsSome, Contains}
+use Rattle.tso_program.specs.declared.listing.Listing.{Listing}
+use Rattle.tso_program.specs.declared.outcome.Outcome.{Outcome}
+use Rattle.tso_program.specs.declared.question.Question.{Question}
+use Rattle.tso_program.specs.Listings.{action}
+use Rattle.tso_program.specs.Limits.{JumpForward}
+use Rattle.tso_program.specs.Fences.{Gaps}
 use Rattle.tso_machine.specs.declared.label.Label.{Label}
 use Rattle.tso_machine.specs.Machine.{Machine, StoreBufferMachine, IsRun}
 use Rattle.candidate_executions.specs.declared.access.Access.{Access}
@@ -39,11 +39,6 @@ abbrev pub EveryOrderIsARun : Type 0
 EveryOrderIsARun = (p : Listing) (mode : Machine) (c : Candidate) (order : List Event) (o : Outcome) → IsCandidate p mode c → IsConsistent p mode c →
     IsOrder p mode c order → HasOutcome p mode c o →
     IsRun p mode (labels_along p mode c.given (λ t. 0) order) o × IsCandidateOf p mode (labels_along p mode c.given (λ t. 0) order) c
-
--- a thread of at most n instructions has at most 2n labels in a run: each instruction is executed once, and each store is flushed once
-abbrev pub EveryRunIsShort : Type 0
-EveryRunIsShort = (p : Listing) (mode : Machine) (labels : List Label) (o : Outcome) (n : ℕ) → JumpForward p.threads →
-    ((t : ℕ) → length (code_of p.threads t) ≤ n) → IsRun p mode labels o → length labels ≤ length p.threads * (n + n)
 
 -- the candidate has these two accesses of thread t, the first before the second
 pub record HasInProgramOrder (p : Listing) (gaps : Gaps) (c : Candidate) (t i j : ℕ) (x y : Access) : Type 0 where

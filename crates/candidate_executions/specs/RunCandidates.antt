@@ -1,9 +1,9 @@
 -- Which candidate a run has: the values that its reads take and the writes that they find, and the order in which its writes reach memory.
 use Rattle.std.specs.Prelude.{◌≡◌, ◌↔◌, ◌<◌, ℕ, suc, List, [], ◌∷◌, ◌++◌, Some, IsSome, Option, ◌==◌, if◌then◌else◌, Contains, AllPairs}
 use Rattle.std.specs.Option.{option_map_or}
-use Rattle.tso_machine.specs.Action.{Action, TheVariants.Read, TheVariants.Write, TheVariants.Swap}
-use Rattle.tso_machine.specs.Listing.{Listing}
-use Rattle.tso_machine.specs.Listings.{action}
+use Rattle.tso_program.specs.declared.action.Action.{Action, TheVariants.Read, TheVariants.Write, TheVariants.Swap}
+use Rattle.tso_program.specs.declared.listing.Listing.{Listing}
+use Rattle.tso_program.specs.Listings.{action}
 use Rattle.tso_machine.specs.declared.label.Label.{Label, TheVariants.Exec, TheVariants.Flush}
 use Rattle.tso_machine.specs.Machine.{Machine, SequentialMachine, StoreBufferMachine, State, put, newest, found, step, start}
 use Rattle.candidate_executions.specs.declared.access.Access.{Access}

@@ -1,9 +1,9 @@
 -- Reads whose sources are all there, whatever the threads read next (this project's own definitions; docs/definitions.md).
 use Rattle.std.specs.Prelude.{◌≡◌, ◌≢◌, ℕ, ◌≤◌, Some, IsSome, ◌⊎◌}
-use Rattle.tso_machine.specs.Reg.{Reg}
-use Rattle.tso_machine.specs.Instr.{Instr, TheVariants.StoreImm, TheVariants.Store, TheVariants.Xchg}
-use Rattle.tso_machine.specs.Listing.{Listing}
-use Rattle.tso_machine.specs.Listings.{instr_at}
+use Rattle.tso_program.specs.declared.instruction.Reg.{Reg}
+use Rattle.tso_program.specs.declared.instruction.Instr.{Instr, TheVariants.StoreImm, TheVariants.Store, TheVariants.Xchg}
+use Rattle.tso_program.specs.declared.listing.Listing.{Listing}
+use Rattle.tso_program.specs.Listings.{instr_at}
 use Rattle.tso_machine.specs.Machine.{Machine}
 use Rattle.candidate_executions.specs.declared.access.Access.{Access}
 use Rattle.candidate_executions.specs.declared.event.Event.{Event, TheVariants.Initial, TheVariants.Access as At}

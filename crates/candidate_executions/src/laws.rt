@@ -1,6 +1,6 @@
 //! The laws of candidate executions: each function's contract is a theorem, and calling it does
 //! nothing.
-ghost use Rattle.candidate_executions.specs.Laws.{EveryRunIsACandidate, EveryRunIsACompletion, EveryCandidateIsARun, EveryOrderIsARun, EveryRunIsShort, SectionsTellFences, KeptOrderIsTold, NoEdgeLeadsIntoInitial, CyclesAreOfAccesses, EveryCandidateCompletesEmpty, EmptyIsASketch, AValueKeepsASketch, ASourceKeepsASketch, APairKeepsASketch, EachCompletionHasAValue, EachCompletionHasTheValues, EachCompletionHasASource, EachCompletionHasASettledSource, WholeSketchesAreSettled, EachCompletionHasAnOrder, EachCompletionEndsSo, OutcomesAreOne, HeldValuesAreValues, ConsistentCandidatesReadHeldValues, EachConsistentCompletionHasAHeldValue, AKnownEdgeIsAnEdge, AKnownCycleIsACycle, NoKnownEdgeLeadsIntoInitial, KnownCyclesAreOfAccesses};
+ghost use Rattle.candidate_executions.specs.Laws.{EveryRunIsACandidate, EveryRunIsACompletion, EveryCandidateIsARun, EveryOrderIsARun, SectionsTellFences, KeptOrderIsTold, NoEdgeLeadsIntoInitial, CyclesAreOfAccesses, EveryCandidateCompletesEmpty, EmptyIsASketch, AValueKeepsASketch, ASourceKeepsASketch, APairKeepsASketch, EachCompletionHasAValue, EachCompletionHasTheValues, EachCompletionHasASource, EachCompletionHasASettledSource, WholeSketchesAreSettled, EachCompletionHasAnOrder, EachCompletionEndsSo, OutcomesAreOne, HeldValuesAreValues, ConsistentCandidatesReadHeldValues, EachConsistentCompletionHasAHeldValue, AKnownEdgeIsAnEdge, AKnownCycleIsACycle, NoKnownEdgeLeadsIntoInitial, KnownCyclesAreOfAccesses};
 ghost use Rattle.candidate_executions.specs.StoreBuffering.{StoreBufferingCandidates};
 ghost use Rattle.candidate_executions.specs.ExampleRuns.{RunsShowTheirMarks};
 
@@ -28,11 +28,6 @@ pub fn every_order_is_a_run()
 /// The definition of a run's candidate at four runs of the literature's programs.
 pub fn runs_show_their_marks()
     ensures { RunsShowTheirMarks }
-{}
-
-/// Where no thread has more than n instructions, a run has at most 2n labels for each thread.
-pub fn every_run_is_short()
-    ensures { EveryRunIsShort }
 {}
 
 /// Sections and kept program order, in words of what lies between two accesses.

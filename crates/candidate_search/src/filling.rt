@@ -2,8 +2,8 @@
 //!
 //! A whole tree decides sources and orders once each read has its value, so a tree that does not rest on a value can't take
 //! the place of the node above. It stands below each other value of that node, too.
+use crate::backjumping_search::{BackjumpingSearch, Found, Frame};
 use crate::shapes::Branch;
-use crate::tree_search::{Found, Frame, TreeSearch};
 use search_state::{ConflictSet, Decision, Node, Rule};
 use std::alloc::AllocError;
 
@@ -24,7 +24,7 @@ pub(crate) struct Stretch {
     end: usize,
 }
 
-impl TreeSearch<'_> {
+impl BackjumpingSearch<'_> {
     /// In a whole tree, the branches that come with the values of the node of a decision.
     pub(crate) fn branches_of(&self, decision: Decision) -> Option<Branches> {
         match (self.asked.rule, decision) {

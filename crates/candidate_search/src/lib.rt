@@ -11,6 +11,7 @@
 //! `ProposingSearch`. Free to change: all of it.
 #![tactic(auto)]
 
+mod backjumping_search;
 mod filling;
 mod made_run;
 mod parts;
@@ -20,7 +21,6 @@ mod search_watch;
 mod searched;
 mod sequential_run;
 mod shapes;
-mod tree_search;
 
 pub use proposals::{Proposal, ProposedOutcomes};
 pub use proposing_search::{ProposingSearch, SearchPlan};

@@ -25,13 +25,18 @@ fn buffered_run(
     graph: &EventGraph,
     shown: &Shown,
 ) -> Result<Option<MadeRun>, AllocError> {
-    let Some(sketch) = sketch_of(alloc, graph)? else {
-        return Ok(None);
-    };
+    match sketch_of(alloc, graph)? {
+        Some(sketch) => run_of(alloc, &sketch, shown),
+        None => Ok(None),
+    }
+}
+
+/// A run of a sketch, with what is shown of its outcome. `None` if the sketch is not complete, or has a cycle.
+fn run_of(alloc: Global, sketch: &Sketch, shown: &Shown) -> Result<Option<MadeRun>, AllocError> {
     if sketch.find_cycle()?.is_some() {
         return Ok(None);
     }
-    match make_run(alloc, &sketch) {
+    match make_run(alloc, sketch) {
         Ok(mut run) => {
             run.outcome.show(alloc, shown)?;
             Ok(Some(run))
@@ -44,17 +49,28 @@ fn buffered_run(
 /// A sketch of the same choices. `None` if it refuses one.
 fn sketch_of(alloc: Global, graph: &EventGraph) -> Result<Option<Sketch>, AllocError> {
     let mut sketch = Sketch::new(alloc, graph.program(), graph.mode())?;
+    let is_taken = give_all_values(&mut sketch, graph)? && choose_edges(&mut sketch, graph)?;
+    Ok(if is_taken { Some(sketch) } else { None })
+}
+
+/// Gives the values of all reads, thread by thread, and answers whether the sketch has taken them.
+fn give_all_values(sketch: &mut Sketch, graph: &EventGraph) -> Result<bool, AllocError> {
     for t in 0..graph.thread_count() {
-        if !give_values(&mut sketch, graph, t)? {
-            return Ok(None);
+        if !give_values(sketch, graph, t)? {
+            return Ok(false);
         }
     }
+    Ok(true)
+}
+
+/// Chooses all sources and orders, and answers whether the sketch has taken them.
+fn choose_edges(sketch: &mut Sketch, graph: &EventGraph) -> Result<bool, AllocError> {
     for d in each_in(graph.rows.present) {
-        if !choose_source(&mut sketch, graph, d)? || !choose_orders(&mut sketch, graph, d)? {
-            return Ok(None);
+        if !choose_source(sketch, graph, d)? || !choose_orders(sketch, graph, d)? {
+            return Ok(false);
         }
     }
-    Ok(Some(sketch))
+    Ok(true)
 }
 
 /// Gives the values of a thread's reads, in order, and answers whether the sketch has taken them.

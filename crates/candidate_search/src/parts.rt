@@ -4,11 +4,11 @@
 //! until enough places are open, and what stands at each of them is a part. A part is searched by itself: its outcomes are a
 //! list of its own, and its tree takes the place of no node above. How a search is cut depends on nothing but its steps, so
 //! what is found is the same for any number of threads.
+use crate::backjumping_search::{BackjumpingSearch, Found, SearchEnd};
 use crate::proposing_search::ProposingSearch;
 use crate::searched::{Searched, TURN_STEPS, searched_within};
-use crate::tree_search::{Found, SearchEnd, TreeSearch};
 use search_state::{KnownOutcomes, Node};
-use std::alloc::AllocError;
+use std::alloc::{AllocError, Global};
 use std::sync::atomic::{AtomicUsize, Ordering};
 use std::thread::{self, Threads};
 use tso_machine::Mode;
@@ -124,18 +124,36 @@ impl<'a> CutSearch<'a> {
 
     /// Adds the node of a part and a part for each of its children, or the part itself where it is a leaf.
     fn open(&self, choices: &[usize], pieces: &mut Vec<Piece>) -> Result<(), AllocError> {
-        let alloc = self.asked.alloc;
-        let mut search = self.search()?;
-        let count = match (search.begin(choices)?, search.frames.last()) {
-            (Found::Node, Some(frame)) => frame.choices.len(),
-            _ => 0,
-        };
-        match search.nodes.last() {
-            Some(node) if count > 0 => pieces.push(Piece::Node(*node))?,
-            _ => pieces.push(Piece::Part(Vec::from_slice(alloc, choices)?))?,
+        match self.node_at(choices)? {
+            Some((node, count)) => {
+                pieces.push(Piece::Node(node))?;
+                self.push_children(choices, count, pieces)
+            }
+            None => {
+                pieces.push(Piece::Part(Vec::from_slice(self.asked.alloc, choices)?))?;
+                Ok(())
+            }
         }
+    }
+
+    /// The node after these choices, and how many children it has. `None` if a leaf is there.
+    fn node_at(&self, choices: &[usize]) -> Result<Option<(Node, usize)>, AllocError> {
+        let mut search = self.search()?;
+        match search.begin(choices)? {
+            Found::Node => Ok(search.last_node()),
+            Found::Tree(_) | Found::Ended(_) => Ok(None),
+        }
+    }
+
+    /// Adds a part for each child of the node after these choices.
+    fn push_children(
+        &self,
+        choices: &[usize],
+        count: usize,
+        pieces: &mut Vec<Piece>,
+    ) -> Result<(), AllocError> {
         for place in 0..count {
-            let mut below = Vec::from_slice(alloc, choices)?;
+            let mut below = Vec::from_slice(self.asked.alloc, choices)?;
             below.push(place)?;
             pieces.push(Piece::Part(below))?;
         }
@@ -143,20 +161,16 @@ impl<'a> CutSearch<'a> {
     }
 
     /// A search in which nothing is chosen.
-    fn search(&self) -> Result<TreeSearch<'_>, AllocError> {
+    fn search(&self) -> Result<BackjumpingSearch<'_>, AllocError> {
         let outcomes = KnownOutcomes::listed(self.asked.alloc, self.listed);
-        TreeSearch::new(self.asked, self.mode, outcomes)
+        BackjumpingSearch::new(self.asked, self.mode, outcomes)
     }
 
     /// Searches the parts, and joins what is found in them.
     fn searched<R: Threads + Sync>(&self, rt: &R) -> Result<Searched, AllocError> {
         let mut joined = Searched::none(self.asked.alloc);
         for (piece, found) in self.pieces.iter().zip(self.found(rt)?) {
-            match (piece, found) {
-                (Piece::Node(node), _) => joined.nodes.push(*node)?,
-                (Piece::Part(_), Some(searched)) => joined.add(searched)?,
-                (Piece::Part(_), None) => {}
-            }
+            add_piece(&mut joined, piece, found)?;
         }
         Ok(joined)
     }
@@ -164,14 +178,10 @@ impl<'a> CutSearch<'a> {
     /// What is found in each part, at the place of its piece. `None` for a node, and for a part after one that ends the
     /// question.
     fn found<R: Threads + Sync>(&self, rt: &R) -> Result<Vec<Option<Searched>>, AllocError> {
-        let alloc = self.asked.alloc;
-        let mut found = Vec::with_capacity(alloc, self.pieces.len())?;
-        for _ in 0..self.pieces.len() {
-            found.push(None)?;
-        }
+        let mut found = none_found(self.asked.alloc, self.pieces.len())?;
         for parts in thread::map_indices(
             rt,
-            alloc,
+            self.asked.alloc,
             self.asked.workers,
             &|_| self.some_searched(),
         )? {
@@ -202,6 +212,19 @@ impl<'a> CutSearch<'a> {
         choices: &[usize],
     ) -> Result<Option<Searched>, AllocError> {
         let mut search = self.search()?;
+        match self.end_of(&mut search, place, choices)? {
+            Some(end) => Ok(Some(search.ended(end))),
+            None => Ok(None),
+        }
+    }
+
+    /// How the search of a part ends. `None` once a part before it ends the question.
+    fn end_of(
+        &self,
+        search: &mut BackjumpingSearch<'_>,
+        place: usize,
+        choices: &[usize],
+    ) -> Result<Option<SearchEnd>, AllocError> {
         let mut found = search.begin(choices)?;
         for _ in 0..MOST_TURNS {
             if self.last.load(Ordering::SeqCst) < place {
@@ -210,7 +233,7 @@ impl<'a> CutSearch<'a> {
             found = match search.go_on(found, TURN_STEPS)? {
                 Found::Ended(end) => {
                     self.note(place, &end);
-                    return Ok(Some(search.ended(end)));
+                    return Ok(Some(end));
                 }
                 other => other,
             };
@@ -227,6 +250,31 @@ impl<'a> CutSearch<'a> {
             self.last.store(place, Ordering::SeqCst);
         }
     }
+}
+
+/// Adds a piece of the tree, with what is found in it.
+fn add_piece(
+    joined: &mut Searched,
+    piece: &Piece,
+    found: Option<Searched>,
+) -> Result<(), AllocError> {
+    match (piece, found) {
+        (Piece::Node(node), _) => {
+            joined.nodes.push(*node)?;
+            Ok(())
+        }
+        (Piece::Part(_), Some(searched)) => joined.add(searched),
+        (Piece::Part(_), None) => Ok(()),
+    }
+}
+
+/// Nothing yet at each of so many places.
+fn none_found(alloc: Global, places: usize) -> Result<Vec<Option<Searched>>, AllocError> {
+    let mut found = Vec::with_capacity(alloc, places)?;
+    for _ in 0..places {
+        found.push(None)?;
+    }
+    Ok(found)
 }
 
 /// How many of the pieces are parts.

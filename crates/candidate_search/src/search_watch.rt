@@ -137,27 +137,42 @@ fn report_by_time(alloc: Global, progress: Progress, state: &Arc<SearchState, Gl
 
 /// The line of a search after so many seconds.
 fn line_of(alloc: Global, seconds: u64, state: &SearchState) -> Result<Vec<u8>, AllocError> {
+    let far = how_far(alloc, state)?;
     let seconds = grouped(alloc, seconds)?;
+    Ok(format!(in alloc; "fencer: after {seconds} s: {far}\n")?.into_bytes())
+}
+
+/// How far a search is, in words.
+fn how_far(alloc: Global, state: &SearchState) -> Result<String, AllocError> {
     let asked = state.asked.load(Ordering::SeqCst);
-    let told = grouped(alloc, asked)?;
     let parts = state.parts.load(Ordering::SeqCst);
-    let share = share_of(alloc, state.done.load(Ordering::SeqCst), parts)?;
-    let line = if state.is_judged.load(Ordering::SeqCst) {
-        format!(in alloc; "fencer: after {seconds} s: what is found is judged\n")?
-    } else if asked == 0 && parts == 0 {
-        format!(in alloc; "fencer: after {seconds} s: outcomes are searched for\n")?
+    let done = state.done.load(Ordering::SeqCst);
+    if state.is_judged.load(Ordering::SeqCst) {
+        format!(in alloc; "what is found is judged")
     } else if asked == 0 {
-        format!(in alloc;
-            "fencer: after {seconds} s: {share} of the search for outcomes are done\n"
-        )?
-    } else if parts == 0 {
-        format!(in alloc; "fencer: after {seconds} s: sets asked: {told}\n")?
+        outcomes_found(alloc, done, parts)
     } else {
-        format!(in alloc;
-            "fencer: after {seconds} s: sets asked: {told}; {share} of the last question are done\n"
-        )?
-    };
-    Ok(line.into_bytes())
+        sets_asked(alloc, asked, done, parts)
+    }
+}
+
+/// How far the search for outcomes is.
+fn outcomes_found(alloc: Global, done: u64, parts: u64) -> Result<String, AllocError> {
+    if parts == 0 {
+        return format!(in alloc; "outcomes are searched for");
+    }
+    let share = share_of(alloc, done, parts)?;
+    format!(in alloc; "{share} of the search for outcomes are done")
+}
+
+/// How many sets were asked about, and how far the last question is.
+fn sets_asked(alloc: Global, asked: u64, done: u64, parts: u64) -> Result<String, AllocError> {
+    let asked = grouped(alloc, asked)?;
+    if parts == 0 {
+        return format!(in alloc; "sets asked: {asked}");
+    }
+    let share = share_of(alloc, done, parts)?;
+    format!(in alloc; "sets asked: {asked}; {share} of the last question are done")
 }
 
 /// How many of the parts are done.

@@ -1,7 +1,7 @@
 //! What a search has found.
+use crate::backjumping_search::{BackjumpingSearch, Found, SearchEnd};
 use crate::proposing_search::ProposingSearch;
-use crate::tree_search::{Found, SearchEnd, TreeSearch};
-use search_state::{FoundOutcomes, KnownOutcomes, Node};
+use search_state::{KnownOutcomes, Node, NumberedOutcomes};
 use std::alloc::{AllocError, Global};
 use tso_machine::Mode;
 use tso_program::Outcome;
@@ -11,7 +11,7 @@ use tso_program::Outcome;
 pub(crate) struct Searched {
     pub(crate) end: SearchEnd,
     /// None where the outcomes were listed before.
-    pub(crate) found: FoundOutcomes,
+    pub(crate) found: NumberedOutcomes,
     pub(crate) nodes: Vec<Node>,
 }
 
@@ -20,7 +20,7 @@ impl Searched {
     pub(crate) fn none(alloc: Global) -> Searched {
         Searched {
             end: SearchEnd::Covered,
-            found: FoundOutcomes::none(alloc),
+            found: NumberedOutcomes::none(alloc),
             nodes: Vec::new(alloc),
         }
     }
@@ -48,11 +48,22 @@ pub(crate) fn searched_within<'a>(
     turns: u64,
 ) -> Result<Option<Searched>, AllocError> {
     let outcomes = KnownOutcomes::listed(asked.alloc, listed);
-    let mut search = TreeSearch::new(asked, mode, outcomes)?;
+    let mut search = BackjumpingSearch::new(asked, mode, outcomes)?;
+    match end_within(&mut search, turns)? {
+        Some(end) => Ok(Some(search.ended(end))),
+        None => Ok(None),
+    }
+}
+
+/// How a search ends that begins with nothing chosen. `None` if it has not ended after so many turns.
+fn end_within(
+    search: &mut BackjumpingSearch<'_>,
+    turns: u64,
+) -> Result<Option<SearchEnd>, AllocError> {
     let mut found = search.begin(&[])?;
     for _ in 0..turns {
         found = match search.go_on(found, TURN_STEPS)? {
-            Found::Ended(end) => return Ok(Some(search.ended(end))),
+            Found::Ended(end) => return Ok(Some(end)),
             other => other,
         };
     }

@@ -4,7 +4,7 @@ use run_maker::MadeRun;
 use search_state::{EventGraph, each_in, reached_from};
 use std::alloc::{AllocError, Global};
 use tso_machine::Label;
-use tso_program::{Items, MAX_THREADS, Outcome, REGISTERS, Shown};
+use tso_program::{Items, MAX_LOCATIONS, MAX_THREADS, Outcome, REGISTERS, Shown};
 
 /// The labels of a run so far, and how many instructions each thread has executed.
 #[derive(Drop)]
@@ -16,7 +16,7 @@ struct LabelsSoFar {
 impl LabelsSoFar {
     /// Thread t executes its instructions until it has executed so many.
     fn go_on(&mut self, t: u8, steps: u8) -> Result<(), AllocError> {
-        let place = t as usize % 8;
+        let place = t as usize % MAX_THREADS;
         for _ in self.steps[place]..steps {
             self.labels.push(Label::Exec(t))?;
         }
@@ -74,7 +74,7 @@ fn outcome_of(alloc: Global, graph: &EventGraph) -> Result<Outcome, AllocError> 
     }
     let mut memory = Vec::new(alloc);
     for location in 0..graph.program().memory().len() {
-        memory.push(last_value(graph, (location % 8) as u8))?;
+        memory.push(last_value(graph, (location % MAX_LOCATIONS) as u8))?;
     }
     Ok(Outcome {
         registers: Items::of(registers),

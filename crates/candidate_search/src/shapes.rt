@@ -1,7 +1,7 @@
 //! How the values of a thread's reads branch.
 use search_state::PossibleWrites;
 use std::alloc::{AllocError, Global};
-use tso_program::{Action, Local, MAX_INSTRUCTIONS, Program};
+use tso_program::{Action, Local, MAX_INSTRUCTIONS, MAX_THREADS, Program};
 
 /// More branches than any machine holds.
 const MOST_BRANCHES: u64 = 1 << 56;
@@ -42,7 +42,7 @@ impl Shapes {
                 registers: thread.registers,
                 flag: false,
             };
-            threads.push(shape_of(alloc, program, writes, (t % 8) as u8, start)?)?;
+            threads.push(shape_of(alloc, program, writes, (t % MAX_THREADS) as u8, start)?)?;
         }
         Ok(Shapes { threads })
     }

@@ -4,7 +4,7 @@ use Rattle.cert_check.proofs.Vocabulary.{IsValidCoverBy, Certificate, AreSequent
 use Rattle.cert_check.proofs.Vocabulary.{StoreBufferMachine, no_gaps, IsValidGap, AreValidGaps, count_gaps}
 use Rattle.tso_machine.proofs.Refused.{one_shown}
 use Rattle.tree_laws.proofs.Lists.{found_has}
-use Rattle.cert_check.specs.declared.fault.CheckFault.TheVariants as fault
+use Rattle.cert_forest.specs.declared.check_fault.CheckFault.TheVariants as fault
 use Rattle.cert_check.specs.GapDefects as gaps
 use Rattle.cert_check.proofs.Replayed.{zip_left, of_shown}
 

@@ -9,7 +9,7 @@ use Rattle.cert_forest.specs.Rule.{Rule, TheVariants.Whole, TheVariants.Early}
 use Rattle.cert_forest.specs.Shows.{shows_of}
 use Rattle.dataflow_laws.specs.DeadLoads.{IsWithoutDeadLoads}
 use Rattle.dataflow_laws.proofs.{DroppedPlaces.gaps_kept, LiveByPass.one_program}
-use Rattle.cert_check.specs.declared.fault.CheckFault.TheVariants as fault
+use Rattle.cert_forest.specs.declared.check_fault.CheckFault.TheVariants as fault
 use Rattle.cert_check.proofs.{FirstFaults.no_fault, OneFault.one_first_fault}
 
 -- without its dead loads a program has as many gaps

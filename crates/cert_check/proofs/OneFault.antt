@@ -4,7 +4,7 @@ use Rattle.cert_check.proofs.Vocabulary.{SequentialMachine, StoreBufferMachine, 
 use Rattle.cert_check.proofs.Vocabulary.{slice_get_within, get_or_from_slice_get, IsShownRun, HasRightSet, names_of, Cover, Gap, Split, Bound, GapTrees, MoreGaps, next_sibling, valid_is_not_wrong, one_wrong_node, IsRunOf, IsFirstWithout, HasRightCost, HasHead}
 use Rattle.cert_check.proofs.Vocabulary.{HasOutcomes, HasEachOutcome, HasRuns, HasForeignRuns, HasServingSet, IsFirstFault}
 use Rattle.cert_forest.specs.Shows.{shows_of}
-use Rattle.cert_check.specs.declared.fault.CheckFault.TheVariants as fault
+use Rattle.cert_forest.specs.declared.check_fault.CheckFault.TheVariants as fault
 use Rattle.cert_check.specs.GapDefects as gaps
 use Rattle.cert_check.proofs.{Replayed.zip_left, Replayed.of_shown, FirstFaults.one_list, FirstFaults.none_without, FirstFaults.valid_gap_is_not_wrong}
 

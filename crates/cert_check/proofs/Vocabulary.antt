@@ -28,7 +28,7 @@ pub use Rattle.gap_sets.specs.Order.{Better}
 pub use Rattle.gap_sets.specs.Regions.{all_sets, child_regions, with_gap, without_gap}
 pub use Rattle.gap_sets.specs.declared.gap_set.TheConstants.{MAX_GAPS}
 pub use Rattle.gap_sets.specs.declared.region.Region.{Region}
-pub use Rattle.program_sketches.proofs.Lookups.{each_more, same_default}
+pub use Rattle.cover_judge.proofs.Lookups.{each_more, same_default}
 pub use Rattle.tree_laws.proofs.OneList.{one_list_of_gaps}
 pub use Rattle.tree_laws.proofs.OpenGaps.{few_gaps, listed, rising, unlisted}
 pub use Rattle.tree_laws.specs.Certificates.{AreSequentialRuns, HasRightSet, names_of, IsJudged, IsRunOutside, IsValidCertificate, IsValidCertificateOf}
@@ -49,4 +49,4 @@ pub use Rattle.cert_check.specs.Internal.Children.{AreValidIn, IsWrongChildIn}
 pub use Rattle.cert_check.specs.Internal.Claims.{question_of}
 pub use Rattle.cert_check.specs.Internal.Replays.{AreReplaysOf, HavePassed, IsFaultFrom, IsNoRunAt, IsOutside, RunsFaultIs, borrowed_cmp}
 pub use Rattle.cert_check.specs.Laws.{TheFirstCheckFaultIsUnique, ValidCertificatesHaveNoFault}
-pub use Rattle.cert_check.specs.declared.fault.CheckFault.{CheckFault}
+pub use Rattle.cert_forest.specs.declared.check_fault.CheckFault.{CheckFault}

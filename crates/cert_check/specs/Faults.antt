@@ -14,8 +14,8 @@ use Rattle.tree_laws.specs.CoverTrees.{IsValidCoverBy}
 use Rattle.cert_forest.specs.Certificates.{Certificate}
 use Rattle.cert_forest.specs.Shows.{shows_of}
 use Rattle.tree_laws.specs.Certificates.{AreSequentialRuns, IsJudged, IsRunOutside, HasRightSet, names_of}
-use Rattle.cert_check.specs.declared.fault.CheckFault.{CheckFault}
-use Rattle.cert_check.specs.declared.fault.CheckFault.TheVariants as fault
+use Rattle.cert_forest.specs.declared.check_fault.CheckFault.{CheckFault}
+use Rattle.cert_forest.specs.declared.check_fault.CheckFault.TheVariants as fault
 use Rattle.cover_judge.specs.CoverDefects.{FirstWrongCover}
 use Rattle.cert_check.specs.GapDefects.{FirstWrongGap}
 

@@ -3,7 +3,7 @@ use Rattle.std.specs.Prelude.{◌≡◌, ◌⊎◌, ℕ, List}
 use Rattle.tso_program.specs.declared.question.Question.{Question}
 use Rattle.cert_forest.specs.Certificates.{Certificate}
 use Rattle.tree_laws.specs.Certificates.{IsValidCertificate}
-use Rattle.cert_check.specs.declared.fault.CheckFault.{CheckFault, TheVariants.OutOfMemory}
+use Rattle.cert_forest.specs.declared.check_fault.CheckFault.{CheckFault, TheVariants.OutOfMemory}
 use Rattle.cert_check.specs.Faults.{CheckFaultIs, HasHead}
 
 -- no fault but out of memory fits a valid certificate

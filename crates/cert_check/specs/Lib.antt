@@ -4,5 +4,4 @@ pub mod Faults
 pub mod Laws
 pub mod Internal
 -- words of the crates below, passed on
-pub use Rattle.cover_judge.specs.Paths
 pub use Rattle.tree_laws.specs.Certificates

@@ -29,11 +29,10 @@ ghost use Rattle.cert_check.specs.Headlines.{HeadlineOfAllowed};
 ghost use Rattle.cert_check.specs.Internal.Claims.{question_of};
 ghost use Rattle.cert_check.specs.Internal.Replays.{HavePassed};
 
-use crate::CheckFault;
 use crate::fault::RunsFault;
 use crate::gap::{Bounds, judge_gap_tree};
 use crate::runs::{first_outcome_listed, replay_all};
-use cert_forest::{Certificate, CoverTree, Shows};
+use cert_forest::{Certificate, CheckFault, CoverTree, Shows};
 use cover_judge::{NodeFault, RowlessSketch, judge_cover};
 use gap_sets::{Costs, GapSet, Region, TiedCosts, Ties};
 use live_registers::without_dead_loads;

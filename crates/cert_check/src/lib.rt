@@ -16,7 +16,6 @@ mod laws;
 mod packing;
 mod runs;
 
+pub use cert_forest::{CheckFault, Path};
 pub use checker::{Accepted, certificate_proves_answer, check};
-pub use cover_judge::Path;
-pub use fault::CheckFault;
 pub use laws::{the_first_fault_is_unique, valid_certificates_have_no_fault};

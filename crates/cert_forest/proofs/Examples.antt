@@ -1,6 +1,6 @@
 -- The four certificates have their texts, and are within the limits.
 use Rattle.cert_forest.proofs.Vocabulary.{◌≡◌, refl, [], ◌∷◌, lit<, lit≤, decimal, decimal_digit, Kind, MAX_GAPS, numbers_of_set, PLACES, MAX_COVER_DEPTH, IsCoverTo, HasNumbers, TheExamplesAreCertificates, either, observed_tree}
-use Rattle.candidate_executions.specs.declared.event.Kind.TheVariants as kinds
+use Rattle.cert_trees.specs.Kind.TheVariants as kinds
 use Rattle.gap_sets.specs.Laws.{these}
 use Rattle.cert_forest.specs.StoreBuffering.{cover_of}
 use Rattle.cert_forest.proofs.Ascending.{Ascend, numbers_back, ascending_are_below}

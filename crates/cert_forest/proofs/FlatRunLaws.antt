@@ -1,7 +1,6 @@
 -- Lists of runs that lie flat.
-use Rattle.cert_forest.proofs.Vocabulary.{◌≡◌, ◌≤◌, ◌<◌, ◌+◌, ◌-◌, ℕ, zero, suc, List, [], ◌∷◌, ◌++◌, Some, length, get_or, take, drop, refl, sym, ap, ◌∙◌, subst, inl, inr, arith, Contains, slice_get, slice_get-get_or, length-append, length-drop, same_Some}
-use Rattle.cert_forest.proofs.Vocabulary.{take_more, Label, AreEnds, runs_from, slice_range, drop-append-le, take-append-le, take_all, none-some, drop-append_seam}
-use Rattle.std.proofs.lemmas.List.Elements.{Contains-push_cases}
+use Rattle.cert_forest.proofs.Vocabulary.{◌≡◌, ◌≤◌, ◌<◌, ◌+◌, ◌-◌, ℕ, zero, suc, List, [], ◌∷◌, ◌++◌, Some, length, get_or, take, drop, refl, sym, ap, ◌∙◌, subst, arith, slice_get, slice_get-get_or, length-append, length-drop, same_Some}
+use Rattle.cert_forest.proofs.Vocabulary.{Label, AreEnds, runs_from, slice_range, drop-append-le, take-append-le, take_all, none-some, drop-append_seam}
 
 -- as many runs as ends
 pub as_many : (start : ℕ) (ends : List ℕ) (labels : List Label) → length (runs_from start ends labels) ≡ length ends
@@ -87,11 +86,3 @@ begins_before ends labels n start end are there begins =
 pub run_is : (ends : List ℕ) (labels : List Label) (n start end : ℕ) → slice_get ends n ≡ Some end → start ≡ get_or (0 ∷ ends) n start →
     slice_get (runs_from 0 ends labels) n ≡ Some (slice_range labels start end)
 run_is ends labels n start end there begins = run_there 0 ends labels n end start there ∙ ap (λ s. Some (slice_range labels s end)) (sym begins)
-
--- ---- lists of any items
-
--- it is not one of those so far, and not the next
-pub none_more : {A : Type 0} (xs : List A) (n : ℕ) (x : A) → n < length xs → ¬ Contains (take n xs) x → (slice_get xs n ≡ Some x → ⊥) → ¬ Contains (take (n + 1) xs) x
-none_more xs n x within none other has =
-    elim (Contains-push_cases (take n xs) (get_or xs n x) x (subst (λ l. Contains l x) (take_more xs n x within) has))
-    [ inl old ↦ none old | inr same ↦ other (slice_get-get_or xs n x within ∙ ap Some same) ]

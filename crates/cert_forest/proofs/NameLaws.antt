@@ -4,7 +4,7 @@ use Rattle.cert_forest.proofs.Vocabulary.{take-append-drop, digits_decimal, deci
 use Rattle.cert_forest.proofs.Vocabulary.{plain_number_again, plain_number_at, spelling, IsLabel, label_at, prefix_is, after_prefix, decimal_inner, letter_takes, letter_again, spaced_exact, access_word, kind_word, is_no_stop, access_tail, access_of, access_at}
 use Rattle.cert_forest.proofs.Vocabulary.{kind_of, kind_at, label_word_at}
 use Rattle.std.specs.Char.{is_ascii_digit}
-use Rattle.candidate_executions.specs.declared.event.Kind.TheVariants as kinds
+use Rattle.cert_trees.specs.Kind.TheVariants as kinds
 use Rattle.tso_machine.specs.declared.label.Label.{TheVariants.Exec, TheVariants.Flush}
 use Rattle.tso_machine.proofs.RunLabels.{label_takes, label_again}
 

@@ -5,14 +5,14 @@ pub use Rattle.std.proofs.Math.Seq.{drop-append_seam, take-append_seam}
 pub use Rattle.std.proofs.lemmas.Bool.{and_from, and_parts, cases_lt, eqb-true, le-leb, le-ltb, leb-true, lt-ltb, ltb-false, ne_eqb}
 pub use Rattle.std.proofs.lemmas.Bool.Decides.{nat_tests}
 pub use Rattle.std.proofs.lemmas.Fmt.{decimal_digit, digits_decimal}
-pub use Rattle.std.proofs.lemmas.List.{append-nil, drop-append-le, drop_at, length-append, length-drop, nil_from_length, take-append-drop, take-append-le, take_all, take_at, take_more}
+pub use Rattle.std.proofs.lemmas.List.{append-nil, drop-append-le, drop_at, length-append, length-drop, nil_from_length, take-append-drop, take-append-le, take_all, take_at}
 pub use Rattle.std.proofs.lemmas.Option.{IfSome_then, cond_some, none-some, same_Some, slice_get-get_or}
 pub use Rattle.std.proofs.lemmas.Result.{err_from_is_err_and}
 pub use Rattle.std.proofs.lemmas.Slice.Eq.{bytes_eq-Decides, slice_eq-Decides}
 pub use Rattle.std.specs.Fmt.{decimal}
 pub use Rattle.std.specs.List.{AllByRecursion, filter, list_all, list_any, prefix_len, range_with_len}
 pub use Rattle.std.specs.Prelude.{codes, is_ok, max, nat_eq, nat_le, nat_lt, not, slice_get, slice_range}
-pub use Rattle.candidate_executions.specs.declared.event.Kind.{Kind}
+pub use Rattle.cert_trees.specs.Kind.{Kind}
 pub use Rattle.cert_trees.proofs.GapNodeLaws.{gaps_count, is_gap_tree, listed_gaps, same_gap}
 pub use Rattle.cert_trees.proofs.NodeLaws.{covers_count, is_tree, same_tree}
 pub use Rattle.cert_trees.specs.GapNodes.{bound_nodes, spell_gap, spell_gaps}

@@ -7,8 +7,7 @@ ghost use Rattle.cert_forest.specs.Internal.Pushing.{PushesCycle, PushesRoot};
 ghost use Rattle.cert_forest.specs.Internal.Reading.{ValueHead, SourceHead, OrderHead, access_at, kind_of, kind_at, three_at, value_head_at, source_head_at, order_head_at, cycle_at, known_at, head_at};
 
 use crate::access::access;
-use candidate_executions::Kind;
-use cert_trees::{AccessId, Node, push_known};
+use cert_trees::{AccessId, Kind, Node, push_known};
 use cert_words::{
     Stop, WordRefusal, Wrong, count, digit_within, ends_word, letter, number, refused_word,
 };

@@ -50,7 +50,7 @@ fn push_digits(out: &mut Vec<u8>, number: u64) -> Result<(), AllocError>
 }
 
 /// A space, and a number.
-fn push_number(out: &mut Vec<u8>, number: u64) -> Result<(), AllocError>
+pub fn push_number(out: &mut Vec<u8>, number: u64) -> Result<(), AllocError>
     ensures { OnOk result (out.new.items ≡ out.old.items ++ spaced (decimal number)) }
 {
     if number < 10 {
@@ -67,7 +67,7 @@ pub(crate) fn push_len(out: &mut Vec<u8>, number: usize) -> Result<(), AllocErro
 }
 
 /// A space, and a letter.
-fn push_letter(out: &mut Vec<u8>, letter: u8) -> Result<(), AllocError>
+pub fn push_letter(out: &mut Vec<u8>, letter: u8) -> Result<(), AllocError>
     ensures { OnOk result (out.new.items ≡ out.old.items ++ spaced (letter ∷ [])) }
 {
     out.extend_from_slice(&[b' ', letter])
@@ -84,7 +84,8 @@ fn push_named(out: &mut Vec<u8>, letter: u8, number: u64) -> Result<(), AllocErr
     push_digits(out, number)
 }
 
-fn push_access(out: &mut Vec<u8>, event: AccessId) -> Result<(), AllocError>
+/// A space, and an access: its thread, a point, and its index.
+pub fn push_access(out: &mut Vec<u8>, event: AccessId) -> Result<(), AllocError>
     ensures { OnOk result (out.new.items ≡ out.old.items ++ spaced (access_word event)) }
 {
     let AccessId { thread, access } = event;
@@ -160,8 +161,8 @@ fn letter_of(kind: Kind) -> u8
     }
 }
 
-/// What a cycle is of, and how many accesses it has.
-fn push_cycle_head(out: &mut Vec<u8>, kind: Kind, len: usize) -> Result<(), AllocError>
+/// The words of a cycle before those of its accesses: its letter, its union, and how many accesses it has.
+pub fn push_cycle_head(out: &mut Vec<u8>, kind: Kind, len: usize) -> Result<(), AllocError>
     ensures { OnOk result (out.new.items ≡ out.old.items ++ texts_of spaced (codes "C" ∷ (kind_word kind ∷ (decimal len ∷ [])))) }
 {
     if len < 10 {
@@ -172,7 +173,8 @@ fn push_cycle_head(out: &mut Vec<u8>, kind: Kind, len: usize) -> Result<(), Allo
     push_len(out, len)
 }
 
-pub(crate) fn push_node(out: &mut Vec<u8>, node: CoverNode<'_>) -> Result<(), AllocError>
+/// The words of a node of a cover tree.
+pub fn push_node(out: &mut Vec<u8>, node: CoverNode<'_>) -> Result<(), AllocError>
     ensures { OnOk result (out.new.items ≡ out.old.items ++ texts_of spaced (node_words node.entry)) }
 {
     match node {
@@ -194,7 +196,8 @@ pub(crate) fn push_node(out: &mut Vec<u8>, node: CoverNode<'_>) -> Result<(), Al
     }
 }
 
-fn push_split(out: &mut Vec<u8>, run: u64, count: u32) -> Result<(), AllocError>
+/// The words of a split by a foreign run, given by its number from 0, with so many children.
+pub fn push_split(out: &mut Vec<u8>, run: u64, count: u32) -> Result<(), AllocError>
     ensures { OnOk result (out.new.items ≡ out.old.items ++ texts_of spaced (codes "P" ∷ (decimal run ∷ (decimal count ∷ [])))) }
 {
     push_letter(out, b'P')?;
@@ -275,7 +278,8 @@ fn push_labels(out: &mut Vec<u8>, labels: &[Label]) -> Result<(), AllocError>
     Ok(())
 }
 
-pub(crate) fn push_run(out: &mut Vec<u8>, labels: &[Label]) -> Result<(), AllocError>
+/// The line of a run.
+pub fn push_run(out: &mut Vec<u8>, labels: &[Label]) -> Result<(), AllocError>
     ensures { OnOk result (out.new.items ≡ out.old.items ++ labels_line labels.now) }
 {
     out.extend_from_slice(b"run")?;
@@ -293,7 +297,7 @@ fn push_gap_numbers(out: &mut Vec<u8>, set: GapSet) -> Result<(), AllocError>
 }
 
 /// The line of the set and that of its cost.
-pub(crate) fn push_set(out: &mut Vec<u8>, set: GapSet, cost: u64) -> Result<(), AllocError>
+pub fn push_set(out: &mut Vec<u8>, set: GapSet, cost: u64) -> Result<(), AllocError>
     ensures { OnOk result (out.new.items
         ≡ out.old.items ++ (line (codes "set") (map decimal (numbers_of_set set)) ++ line (codes "cost") (decimal cost ∷ []))) }
 {
@@ -341,7 +345,7 @@ fn push_places(out: &mut Vec<u8>, names: &Names) -> Result<(), AllocError>
 }
 
 /// The line that says what the text is, and that of what is shown, where the version has one.
-pub(crate) fn push_head(out: &mut Vec<u8>, rule: Rule, shown: &Shows) -> Result<(), AllocError>
+pub fn push_head(out: &mut Vec<u8>, rule: Rule, shown: &Shows) -> Result<(), AllocError>
     ensures { OnOk result (out.new.items ≡ out.old.items ++ head_lines rule shown.now) }
 {
     match rule {

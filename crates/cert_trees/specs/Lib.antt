@@ -7,3 +7,5 @@ pub mod GapCodes
 pub mod Walks
 pub mod Laws
 pub mod Internal
+-- words of the crates below, passed on
+pub use Rattle.candidate_executions.specs.declared.event.Kind

@@ -17,6 +17,7 @@ mod rule;
 mod tree;
 mod walk;
 
+pub use candidate_executions::Kind;
 pub use events::Events;
 pub use gap_walk::GapWalk;
 pub use laws::nodes_spell_one_tree;

@@ -1,7 +1,7 @@
 //! The line of a cover tree.
-use crate::lines::{push_number, push_pair, push_word};
 use candidate_executions::Kind;
-use cert_forest::{AccessId, Node};
+use cert_forest::{AccessId, CoverNode, Node};
+use cert_pages::{push_access, push_cycle_head, push_node};
 use std::alloc::AllocError;
 
 /// A line with the words of the nodes of a cover tree.
@@ -12,7 +12,7 @@ pub(crate) fn push_cover(out: &mut Vec<u8>, name: &[u8], nodes: &[Node]) -> Resu
         if is_cycle(*node) && !is_within_cycle {
             push_cycle_front(out, nodes.get(i..).unwrap_or(&[]))?;
         }
-        push_node(out, *node)?;
+        push_piece(out, *node)?;
         is_within_cycle = matches!(node, Node::Earlier(..));
     }
     out.push(b'\n')?;
@@ -32,7 +32,7 @@ fn is_cycle(node: Node) -> bool {
 
 /// The union of the cycle that these nodes begin with, and how many accesses it has.
 fn push_cycle_front(out: &mut Vec<u8>, nodes: &[Node]) -> Result<(), AllocError> {
-    let mut count: u64 = 0;
+    let mut count: usize = 0;
     for node in nodes {
         let (kind, more) = match *node {
             Node::EmptyCycle { kind } => (kind, 0),
@@ -44,62 +44,39 @@ fn push_cycle_front(out: &mut Vec<u8>, nodes: &[Node]) -> Result<(), AllocError>
                 continue;
             }
         };
-        push_word(out, b"C")?;
-        push_word(out, kind_word(kind))?;
-        return push_number(out, count.saturating_add(more));
+        return push_cycle_head(out, kind, count.saturating_add(more));
     }
     Ok(())
 }
 
-fn kind_word<'a>(kind: Kind) -> &'a [u8] {
-    match kind {
-        Kind::Sequential => b"s",
-        Kind::Location => b"l",
-        Kind::Global => b"g",
-    }
-}
-
-fn push_node(out: &mut Vec<u8>, node: Node) -> Result<(), AllocError> {
+/// The words of a node, of a cycle those of its accesses.
+fn push_piece(out: &mut Vec<u8>, node: Node) -> Result<(), AllocError> {
     match node {
-        Node::Value { thread, count } => {
-            push_word(out, b"V")?;
-            push_number(out, u64::from(thread))?;
-            push_number(out, u64::from(count))
-        }
-        Node::Source { read, count } => {
-            push_word(out, b"S")?;
-            push_access(out, read)?;
-            push_number(out, u64::from(count))
-        }
-        Node::Order { first, second } => {
-            push_word(out, b"O")?;
-            push_access(out, first)?;
-            push_access(out, second)
-        }
-        Node::Known { run } => {
-            push_word(out, b"K")?;
-            push_number(out, u64::from(run))
-        }
+        Node::Value { thread, count } => push_node(out, CoverNode::Value { thread, count }),
+        Node::Source { read, count } => push_node(out, CoverNode::Source { read, count }),
+        Node::Order { first, second } => push_node(out, CoverNode::Order { first, second }),
+        Node::Known { run } => push_node(
+            out,
+            CoverNode::Known {
+                run: u64::from(run),
+            },
+        ),
         Node::EmptyCycle { .. } | Node::Far { .. } => Ok(()),
         Node::LastOne { first, .. } => push_access(out, first),
-        Node::LastTwo { first, second, .. } => {
-            push_access(out, first)?;
-            push_access(out, second)
-        }
+        Node::LastTwo { first, second, .. } => push_accesses(out, &[first, second]),
         Node::Earlier(first, second, third)
         | Node::LastThree {
             first,
             second,
             third,
             ..
-        } => {
-            push_access(out, first)?;
-            push_access(out, second)?;
-            push_access(out, third)
-        }
+        } => push_accesses(out, &[first, second, third]),
     }
 }
 
-fn push_access(out: &mut Vec<u8>, access: AccessId) -> Result<(), AllocError> {
-    push_pair(out, access.thread, access.access)
+fn push_accesses(out: &mut Vec<u8>, accesses: &[AccessId]) -> Result<(), AllocError> {
+    for access in accesses {
+        push_access(out, *access)?;
+    }
+    Ok(())
 }

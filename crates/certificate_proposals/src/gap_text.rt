@@ -1,9 +1,9 @@
 //! The words of a gap tree: regions are bounded by runs, or split by one.
-use crate::hunt::Hunt;
-use crate::lines::{push_number, push_word};
+use crate::foreign_runs::ForeignRuns;
 use cert_forest::Rule;
+use cert_pages::{push_letter, push_number, push_split};
 use gap_sets::{GapSet, Region};
-use hitting_sets::{excludes, lower_bound};
+use hitting_sets::{excludes, lower_bound, run_to_meet};
 use std::alloc::AllocError;
 
 /// How many nodes a gap tree without bounds by runs has at most.
@@ -12,19 +12,15 @@ const MOST_SPLIT: u64 = 1 << 14;
 /// More nodes than any machine holds: memory ends a tree with bounds by runs before.
 const MOST_BOUNDED: u64 = 1 << 56;
 
-/// A run by its number, and the gaps that it passes and that the sets of a region may have.
-#[derive(Clone, Copy)]
-struct OpenRun {
-    number: usize,
-    gaps: GapSet,
-}
-
 /// The words of a gap tree that is to show that no better set than this serves. `None` if it would have too many nodes.
-pub(crate) fn gap_words(hunt: &Hunt<'_>, set: &GapSet) -> Result<Option<Vec<u8>>, AllocError> {
-    let mut words = Vec::new(hunt.alloc);
-    let mut open = Vec::new(hunt.alloc);
+pub(crate) fn gap_words(
+    known: &ForeignRuns<'_>,
+    set: &GapSet,
+) -> Result<Option<Vec<u8>>, AllocError> {
+    let mut words = Vec::new(known.alloc);
+    let mut open = Vec::new(known.alloc);
     open.push(Region::all())?;
-    let most = match hunt.rule {
+    let most = match known.rule {
         Rule::Whole => MOST_SPLIT,
         Rule::Early => MOST_BOUNDED,
     };
@@ -32,8 +28,8 @@ pub(crate) fn gap_words(hunt: &Hunt<'_>, set: &GapSet) -> Result<Option<Vec<u8>>
         let Some(region) = open.pop() else {
             return Ok(Some(words));
         };
-        if !push_bound(hunt, set, &region, &mut words)?
-            && !push_split(hunt, &region, &mut words, &mut open)?
+        if !push_bound(known, set, &region, &mut words)?
+            && !split_by_run(known, &region, &mut words, &mut open)?
         {
             return Ok(None);
         }
@@ -43,45 +39,45 @@ pub(crate) fn gap_words(hunt: &Hunt<'_>, set: &GapSet) -> Result<Option<Vec<u8>>
 
 /// Adds a bound, where it shows that no set of the region is better. Whether it does.
 fn push_bound(
-    hunt: &Hunt<'_>,
+    known: &ForeignRuns<'_>,
     set: &GapSet,
     region: &Region,
     words: &mut Vec<u8>,
 ) -> Result<bool, AllocError> {
-    match hunt.rule {
-        Rule::Whole => push_bound_alone(hunt, set, region, words),
-        Rule::Early => push_bound_by_runs(hunt, set, region, words),
+    match known.rule {
+        Rule::Whole => push_bound_alone(known, set, region, words),
+        Rule::Early => push_bound_by_runs(known, set, region, words),
     }
 }
 
 /// Adds a bound by what the region's sets must have, where that is not better. Whether it is not.
 fn push_bound_alone(
-    hunt: &Hunt<'_>,
+    known: &ForeignRuns<'_>,
     set: &GapSet,
     region: &Region,
     words: &mut Vec<u8>,
 ) -> Result<bool, AllocError> {
-    if hunt.costs.costs.better(&region.must, set) {
+    if known.costs.costs.better(&region.must, set) {
         return Ok(false);
     }
-    push_word(words, b"B")?;
+    push_letter(words, b'B')?;
     Ok(true)
 }
 
 /// Adds a bound by runs, where they show that no set of the region is better. Whether they do.
 fn push_bound_by_runs(
-    hunt: &Hunt<'_>,
+    known: &ForeignRuns<'_>,
     set: &GapSet,
     region: &Region,
     words: &mut Vec<u8>,
 ) -> Result<bool, AllocError> {
-    let Some(bound) = lower_bound(hunt.alloc, &hunt.costs.costs, region, &hunt.passed)? else {
+    let Some(bound) = lower_bound(known.alloc, &known.costs.costs, region, &known.passed)? else {
         return Ok(false);
     };
-    if !excludes(&hunt.costs.costs, &bound, set) {
+    if !excludes(&known.costs.costs, &bound, set) {
         return Ok(false);
     }
-    push_word(words, b"B")?;
+    push_letter(words, b'B')?;
     push_number(words, bound.runs.len() as u64)?;
     for run in &bound.runs {
         push_number(words, u64::from(*run))?;
@@ -90,30 +86,28 @@ fn push_bound_by_runs(
 }
 
 /// Adds a split by the run with the fewest gaps, and opens its children. Whether there is one.
-fn push_split(
-    hunt: &Hunt<'_>,
+fn split_by_run(
+    known: &ForeignRuns<'_>,
     region: &Region,
     words: &mut Vec<u8>,
     open: &mut Vec<Region>,
 ) -> Result<bool, AllocError> {
-    let Some(run) = best_split(hunt, region) else {
+    let Some(run) = run_to_meet(region, &known.passed) else {
         return Ok(false);
     };
-    push_word(words, b"P")?;
-    push_number(words, run.number as u64)?;
-    push_number(words, u64::from(run.gaps.len()))?;
-    open_children(hunt, region, &run.gaps, open)?;
+    push_split(words, u64::from(run.number), run.gaps.len())?;
+    open_children(known, region, &run.gaps, open)?;
     Ok(true)
 }
 
 /// Puts the children of a split on a stack, the first of them on top.
 fn open_children(
-    hunt: &Hunt<'_>,
+    known: &ForeignRuns<'_>,
     region: &Region,
     gaps: &GapSet,
     open: &mut Vec<Region>,
 ) -> Result<(), AllocError> {
-    let mut children = Vec::new(hunt.alloc);
+    let mut children = Vec::new(known.alloc);
     let mut rest = *region;
     for gap in gaps.iter() {
         children.push(rest.with(gap))?;
@@ -121,39 +115,4 @@ fn open_children(
     }
     children.reverse();
     open.append(&mut children)
-}
-
-/// The run that passes no gap that the region's sets must have, and the fewest that they may have.
-fn best_split(hunt: &Hunt<'_>, region: &Region) -> Option<OpenRun> {
-    let mut best: Option<OpenRun> = None;
-    for (number, passed) in hunt.passed.iter().enumerate() {
-        if !passed.meets(&region.must) {
-            let gaps = open_gaps(passed, &region.never);
-            best = Some(with_fewer(best, OpenRun { number, gaps }));
-        }
-    }
-    best
-}
-
-/// The run with fewer gaps, the first one where both have as many.
-fn with_fewer(best: Option<OpenRun>, other: OpenRun) -> OpenRun {
-    match best {
-        Some(run) => if run.gaps.len() <= other.gaps.len() {
-            run
-        } else {
-            other
-        },
-        None => other,
-    }
-}
-
-/// The gaps of a run that the sets may have.
-fn open_gaps(passed: &GapSet, never: &GapSet) -> GapSet {
-    let mut gaps = GapSet::empty();
-    for gap in passed.iter() {
-        if !never.has(gap) {
-            gaps = gaps.with(gap);
-        }
-    }
-    gaps
 }

@@ -9,9 +9,8 @@
 #![tactic(auto)]
 
 mod cover_text;
+mod foreign_runs;
 mod gap_text;
-mod hunt;
-mod lines;
 mod size;
 mod text;
 

@@ -1,10 +1,10 @@
 //! The text of a certificate.
 use crate::cover_text::push_cover;
+use crate::foreign_runs::{ForeignRuns, ServedSet};
 use crate::gap_text::gap_words;
-use crate::hunt::{Hunt, ServedSet};
-use crate::lines::{push_head, push_runs, push_set};
 use candidate_search::{ProposedOutcomes, ProposingSearch, SearchPlan};
 use cert_forest::{Rule, Runs, Shows};
+use cert_pages::{push_head, push_number, push_run, push_set};
 use gap_sets::TiedCosts;
 use live_registers::without_dead_loads;
 use std::alloc::{AllocError, Global};
@@ -43,10 +43,7 @@ fn text_over<R: Threads + Sync>(
     costs: &TiedCosts,
 ) -> Result<Option<Vec<u8>>, AllocError> {
     let search = ProposingSearch::new(alloc, plan, program, shown)?;
-    let Some(sequential) = search.outcomes_by_threads(rt, Mode::Sequential)? else {
-        return Ok(None);
-    };
-    let mut hunt = Hunt {
+    let mut known = ForeignRuns {
         alloc,
         rule: plan.rule,
         program,
@@ -55,34 +52,74 @@ fn text_over<R: Threads + Sync>(
         runs: Runs::new(alloc),
         passed: Vec::new(alloc),
     };
-    let Some(served) = hunt.served(rt, &search, &sequential.outcomes)? else {
-        return Ok(None);
-    };
-    if let Rule::Whole = plan.rule {
-        hunt.learn_needed(rt, &search, &sequential.outcomes, &served.set)?;
+    match search.outcomes_by_threads(rt, Mode::Sequential)? {
+        Some(sequential) => text_of(rt, &search, &mut known, &sequential),
+        None => Ok(None),
     }
-    text_of(&hunt, &sequential, &served)
 }
 
-/// The text of what a hunt has found. `None` if no gap tree is found.
-fn text_of(
-    hunt: &Hunt<'_>,
+/// The text for a program's sequential outcomes. Foreign runs that a search finds are added to those that are known.
+fn text_of<R: Threads + Sync>(
+    rt: &R,
+    search: &ProposingSearch<'_>,
+    known: &mut ForeignRuns<'_>,
+    sequential: &ProposedOutcomes,
+) -> Result<Option<Vec<u8>>, AllocError> {
+    let Some(served) = known.served(rt, search, &sequential.outcomes)? else {
+        return Ok(None);
+    };
+    if let Rule::Whole = known.rule {
+        known.learn_needed(rt, search, &sequential.outcomes, &served.set)?;
+    }
+    text_by(known, sequential, &served)
+}
+
+/// The text of a certificate of a set that serves, by known foreign runs. `None` if no gap tree is found.
+fn text_by(
+    known: &ForeignRuns<'_>,
     sequential: &ProposedOutcomes,
     served: &ServedSet,
 ) -> Result<Option<Vec<u8>>, AllocError> {
-    let Some(gaps) = gap_words(hunt, &served.set)? else {
+    let Some(gaps) = gap_words(known, &served.set)? else {
         return Ok(None);
     };
-    let mut out = Vec::new(hunt.alloc);
-    push_head(&mut out, hunt.rule, &Shows::of(hunt.shown))?;
-    let gaps_of_set = hunt.costs.ties.spread(&served.set);
-    push_set(&mut out, &gaps_of_set, hunt.costs.costs.total(&served.set))?;
-    push_runs(&mut out, b"seq", &sequential.runs)?;
-    push_cover(&mut out, b"tree", &sequential.nodes)?;
-    push_runs(&mut out, b"runs", &hunt.runs)?;
-    push_cover(&mut out, b"fenced", &served.nodes)?;
-    out.extend_from_slice(b"gaps")?;
-    out.extend_from_slice(&gaps)?;
-    out.push(b'\n')?;
+    let mut out = Vec::new(known.alloc);
+    push_front(&mut out, known, sequential, served)?;
+    push_gaps(&mut out, &gaps)?;
     Ok(Some(out))
+}
+
+/// The lines before that of the gap tree.
+fn push_front(
+    out: &mut Vec<u8>,
+    known: &ForeignRuns<'_>,
+    sequential: &ProposedOutcomes,
+    served: &ServedSet,
+) -> Result<(), AllocError> {
+    push_head(out, known.rule, &Shows::of(known.shown))?;
+    let gaps = known.costs.ties.spread(&served.set);
+    push_set(out, gaps, known.costs.costs.total(&served.set))?;
+    push_runs(out, b"seq", &sequential.runs)?;
+    push_cover(out, b"tree", &sequential.nodes)?;
+    push_runs(out, b"runs", &known.runs)?;
+    push_cover(out, b"fenced", &served.nodes)
+}
+
+/// The line of the gap tree.
+fn push_gaps(out: &mut Vec<u8>, words: &[u8]) -> Result<(), AllocError> {
+    out.extend_from_slice(b"gaps")?;
+    out.extend_from_slice(words)?;
+    out.push(b'\n')?;
+    Ok(())
+}
+
+/// A line with the number of runs, and a line for each.
+fn push_runs(out: &mut Vec<u8>, name: &[u8], runs: &Runs) -> Result<(), AllocError> {
+    out.extend_from_slice(name)?;
+    push_number(out, runs.len() as u64)?;
+    out.push(b'\n')?;
+    for labels in runs.iter() {
+        push_run(out, labels)?;
+    }
+    Ok(())
 }

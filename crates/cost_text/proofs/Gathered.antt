@@ -1,11 +1,11 @@
 -- The gaps at the places of a line, one after the other.
-use Rattle.cost_text.proofs.Vocabulary.{◌≡◌, ◌==◌, ◌||◌, ◌∙◌, ℕ, ◌<◌, zero, suc, true, false, min, List, [], ◌∷◌, ◌++◌, length, get_or, map, Contains, Some, None, is_some, refl, sym, ap, subst, arith, inl, inr, append-nil, append_assoc, eqb-true, or_cases, or_parts}
-use Rattle.cost_text.proofs.Vocabulary.{length-append, get_or_at, map-append, map_push, nat_cmp_total, Thread, gap_count, gap_number, gap_below, Place, Entry, AreAt, NoGapTwice, gaps_of, PlaceDigits, ReadsPlaces, place_at, place_of}
-use Rattle.cost_text.proofs.Vocabulary.{CostEntry, PlacedGaps, ArePlaced, AreGathered, LacksGap, entry_at, kept, no_gaps, with_gap}
+use Rattle.cost_text.proofs.Vocabulary.{◌≡◌, ◌==◌, ◌||◌, ◌∙◌, ℕ, ◌<◌, zero, suc, true, false, min, List, [], ◌∷◌, ◌++◌, length, get_or, map, Contains, Some, None, is_some, refl, sym, ap, subst, arith, inl, inr, append_assoc, eqb-true, or_cases, or_parts}
+use Rattle.cost_text.proofs.Vocabulary.{length-append, get_or_at, map-append, map_push, nat_cmp_total, Thread, gap_count, gap_number, gap_below, Place, Entry, AreAt, gaps_of, PlaceDigits, ReadsPlaces, place_at, place_of}
+use Rattle.cost_text.proofs.Vocabulary.{CostEntry, PlacedGaps, ArePlaced, AreGathered, LacksGap, entry_at, kept, with_gap}
 use Rattle.std.specs.FinSet as set
 use Rattle.cost_text.proofs.Once.{NoneTwice, has, front, fresh, twice, itself, has_left, has_right, has_neither, least_push}
 use Rattle.cost_text.proofs.Kept.{named_there}
-use Rattle.cost_text.proofs.LineLaws.{more_read, none_read}
+use Rattle.cost_text.proofs.LineLaws.{more_read}
 
 -- ---- gaps at places
 
@@ -56,14 +56,6 @@ at_push threads (one ∷ places) (first ∷ gaps) place gap at is = (at.0, at_pu
 
 -- ---- sets of gaps
 
-placed_none : (entries : List Entry) → NoGapTwice entries → ArePlaced entries [] no_gaps
-placed_none entries once = record {
-  gaps_are = refl;
-  name_is = refl;
-  once = λ _. subst NoneTwice (sym (append-nil (gaps_of entries))) once;
-  twice = λ e. absurd cc;
-}
-
 module _ (entries : List Entry) (gaps : List ℕ) (table : List CostEntry) (placed : PlacedGaps) (gap : ℕ) (is : table ≡ map kept entries) (a : ArePlaced entries gaps placed) where
   in_line : set.contains placed.gaps gap ≡ has gaps gap
   in_line = ap (λ s. set.contains s gap) a.gaps_are ∙ set.contains-from_list_nat gaps gap
@@ -107,13 +99,6 @@ pub record IsOnTheWay (threads : List Thread) (table : List CostEntry) (text res
   pub left : (places : List PlaceDigits) (end : List ℕ) → ReadsPlaces text places end → (later : List PlaceDigits) × (places ≡ before ++ later) × ReadsPlaces rest later end
   pub gathered : AreGathered threads table (map place_of before) placed
 
-pub setting_out : (threads : List Thread) (table : List CostEntry) (text : List ℕ) → IsOnTheWay threads table text text no_gaps
-setting_out threads table text = record {
-  before = [];
-  left = λ places end reads. (places, refl, reads);
-  gathered = record { gaps = []; at = tt; are = λ entries is once. placed_none entries once };
-}
-
 module _ (threads : List Thread) (table : List CostEntry) (text rest : List ℕ) (placed : PlacedGaps) (way : IsOnTheWay threads table text rest placed) where
   -- one more place
   pub one_on : (digits : PlaceDigits) (after : List ℕ) (gap : ℕ) → place_at rest ≡ Some (digits, after) → gap_number threads (place_of digits).thread (place_of digits).instruction ≡ Some gap → IsOnTheWay threads table text after (with_gap table placed gap)
@@ -132,14 +117,6 @@ module _ (threads : List Thread) (table : List CostEntry) (text rest : List ℕ)
             (m.0, l.1 ∙ ap (λ (x : List PlaceDigits). way.before ++ x) m.1 ∙ sym (append_assoc way.before (digits ∷ []) m.0), m.2);
         gathered = subst (λ (x : List Place). AreGathered threads table x (with_gap table placed gap)) (sym (map_push place_of way.before digits)) more;
       }
-
-  -- no place is left
-  pub arrived : (places : List PlaceDigits) (end : List ℕ) → ReadsPlaces text places end → place_at rest ≡ None → AreGathered threads table (map place_of places) placed
-  arrived places end reads is =
-      let l = way.left places end reads in
-      let last = (none_read rest l.0 end is l.2).0 in
-      let all : places ≡ way.before = l.1 ∙ ap (λ (x : List PlaceDigits). way.before ++ x) last ∙ append-nil way.before in
-      subst (λ (x : List PlaceDigits). AreGathered threads table (map place_of x) placed) (sym all) way.gathered
 
   -- the next place has no gap
   pub lacking : (digits : PlaceDigits) (after : List ℕ) (places : List PlaceDigits) (end : List ℕ) → ReadsPlaces text places end → place_at rest ≡ Some (digits, after)

@@ -321,9 +321,6 @@ rest_shorter text thread others after instruction more_blanks rest is_t is_u is_
 
 -- ---- lines that are not read
 
-pub unread_places : (line : List ℕ) → place_at (after_line_spaces line) ≡ None → (digits : LineDigits) → ReadsLine line digits → ⊥
-unread_places line is digits r = let are = (none_read (after_line_spaces line) (digits.first ∷ digits.others) r.rest is r.places).0 in cc
-
 module _ (line rest end : List ℕ) (first : PlaceDigits) (others : List PlaceDigits) (is : place_at (after_line_spaces line) ≡ Some (first, rest)) (reads : ReadsPlaces rest others end) where
   ends_there : (digits : LineDigits) (r : ReadsLine line digits) → r.rest ≡ end
   ends_there digits r = (reads_once (after_line_spaces line) (digits.first ∷ digits.others) (first ∷ others) r.rest end r.places (begun is reads)).1

@@ -1,6 +1,6 @@
 -- Lists of numbers in which none stands twice, and the least of some numbers.
 use Rattle.cost_text.proofs.Vocabulary.{◌≡◌, ◌≢◌, ◌==◌, ◌||◌, ◌⊎◌, ◌∙◌, ℕ, ◌+◌, ◌<◌, ◌≤◌, Bool, true, false, min, List, [], ◌∷◌, ◌++◌, length, get_or, AllPairs, list_any, refl, sym, ap, subst, arith, inl, inr, least_of}
-use Rattle.cost_text.proofs.Vocabulary.{all_pairs_push, length-append, get_or_append_left, get_or-append-add, get_or_default, Any-from_list_any, list_any_at, list_any-append, or_cases, cases_lt, eq-eqb, eqb-true}
+use Rattle.cost_text.proofs.Vocabulary.{all_pairs_push, length-append, get_or_append_left, get_or-append-add, get_or_default, Any-from_list_any, list_any_at, list_any-append, or_cases, or_right, cases_lt, eq-eqb, eqb-true}
 
 abbrev pub NoneTwice : List ℕ → Type 0
 NoneTwice xs = AllPairs (λ a b. a ≢ b) xs
@@ -52,10 +52,6 @@ itself n ys = rw (eq-eqb n n refl) refl
 -- what stands may not stand again
 pub twice : (xs : List ℕ) (n : ℕ) → has xs n ≡ true → NoneTwice (xs ++ n ∷ []) → ⊥
 twice xs n there once = apart xs (n ∷ []) n once there (itself n [])
-
-pub or_right : (v w : Bool) → w ≡ true → (v || w) ≡ true
-or_right true w e = refl
-or_right false w e = e
 
 pub has_left : (xs ys : List ℕ) (n : ℕ) → has xs n ≡ true → has (xs ++ ys) n ≡ true
 has_left xs ys n there = list_any-append (λ other. other == n) xs ys ∙ ap (λ (v : Bool). v || has ys n) there

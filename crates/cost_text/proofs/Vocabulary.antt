@@ -1,7 +1,7 @@
 -- What many proofs of this crate speak of, imported once.
 pub use Rattle.std.proofs.Common.{AllPairs, Bool, Bor, Contains, Err, IfErr, List, MatchResult, None, Ok, Option, Result, Some, [], ap, append-nil, append_assoc, arith, drop, false, find, flat_map, get_or, if◌then◌else◌, inl, inr, is_some, length, map, min, nat_cmp, nat_le, nat_lt, not, option_map, position}
 pub use Rattle.std.proofs.Common.{refl, rules, slice_get, slice_index, subst, suc, sym, take, true, unwrap_or, zero, ℕ, ◌++◌, ◌+◌, ◌<◌, ◌==◌, ◌||◌, ◌⊎◌, ◌∙◌, ◌∷◌, ◌≡◌, ◌≢◌, ◌≤◌}
-pub use Rattle.std.proofs.lemmas.Bool.{and_parts, cases_Bool, cases_lt, eq-eqb, eqb-false, eqb-true, leb-false, leb-true, lt-ltb, ltb-true, ne_eqb, or_cases, or_parts}
+pub use Rattle.std.proofs.lemmas.Bool.{and_parts, cases_Bool, cases_lt, eq-eqb, eqb-false, eqb-true, leb-false, leb-true, lt-ltb, ltb-true, ne_eqb, or_cases, or_parts, or_right}
 pub use Rattle.std.proofs.lemmas.Bool.Decides.{nat_tests}
 pub use Rattle.std.proofs.lemmas.List.{drop_at, drop_more, get_or-append-add, get_or-map, get_or_append_left, get_or_at, get_or_default, length-append, length-map, length-take, map-append, map_push, take-append-drop, take_at, take_more}
 pub use Rattle.std.proofs.lemmas.List.Concat.{flat_map-append}
@@ -30,7 +30,7 @@ pub use Rattle.cost_text.specs.CostTexts.{AreAt, AreRefused, Entry, GiveCosts, I
 pub use Rattle.cost_text.specs.CostTexts.{SaysNothing, StandsAt, blank, costs_of, entry, entry_of, gaps_of, is_of, least_of, lines_of, name_said, none, said_of, ties_of}
 pub use Rattle.cost_text.specs.Internal.LineReading.{AreAllDigits, LineDigits, PlaceDigits, ReadsLine, ReadsPlaces, after_line_spaces, begun, ended, place_of, said_by}
 unfoldable pub use Rattle.cost_text.specs.Internal.LineReading.{after_blanks, after_colon, digits_at, place_at}
-pub use Rattle.cost_text.specs.Internal.TextReading.{AreGathered, ArePlaced, IsCostTable, IsLineOf, IsNewEntry, IsTableOfLines, LacksGap, cost_in, cost_or_fault, digits_of, entry_at, has_no_ties, kept, name_in, names_in, no_gaps, with_gap}
+pub use Rattle.cost_text.specs.Internal.TextReading.{AreGathered, ArePlaced, IsCostTable, IsLineOf, IsNewEntry, IsTableOfLines, LacksGap, cost_in, cost_or_fault, digits_of, entry_at, has_no_ties, kept, name_in, names_in, with_gap}
 pub use Rattle.cost_text.specs.declared.entry.CostEntry.{CostEntry}
 pub use Rattle.cost_text.specs.declared.entry.PlacedGaps.{PlacedGaps}
 pub use Rattle.cost_text.specs.declared.fault.CostTextFault.{CostTextFault}

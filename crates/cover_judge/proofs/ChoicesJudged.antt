@@ -1,13 +1,13 @@
 -- What the nodes of a cover tree are judged by.
-use Rattle.cover_judge.proofs.Vocabulary.{◌≡◌, ◌↔◌, ℕ, true, false, List, [], ◌∷◌, Option, Some, None, IsSome, All, Contains, MatchOption, map, slice_get, Vec, AreSources, IsFree, LacksSource, arith, refl, sym, ap, ◌∙◌, subst, inl, inr, AllPairs, same_Some, Listing, Outcome, Shown, asked, Event, ProgramSketch, mode_in}
-use Rattle.cover_judge.proofs.Vocabulary.{AccessId, NodeFault, Wrong, OutOfMemory, Choice, OpenChoice, Rule, Whole, Sketch, IsSourceOf, IsPair, IsWhole, MustEndAs, AllowsOrder, AllowsSource, event_of, HasNextValues, HasSources, HasSourcesBy, HasNoOrder, HasNoOrderBy, MustEndAsNumber, AreChoicesOfBy, AreFreeSources, choices_in}
-use Rattle.cover_judge.proofs.Vocabulary.{AreValueChoices, AreSourceChoices, AreValueChoicesBy, AreSourceChoicesBy, CanChoose, CanChooseEach, MayChoose, MayChooseEach, IsValueOpen, IsSourceOpen, IfWrong, IsAtRoot, IsBelow, IsFrom}
+use Rattle.cover_judge.proofs.Vocabulary.{◌≡◌, ◌↔◌, ℕ, true, false, List, [], ◌∷◌, Option, Some, None, All, Contains, MatchOption, map, slice_get, Vec, AreSources, IsFree, LacksSource, arith, refl, sym, ap, ◌∙◌, subst, inl, inr, AllPairs, same_Some, Listing, Outcome, Shown, asked, Event, ProgramSketch, mode_in}
+use Rattle.cover_judge.proofs.Vocabulary.{AccessId, NodeFault, Wrong, OutOfMemory, Choice, OpenChoice, Rule, Whole, Sketch, IsSourceOf, IsPair, IsWhole, MustEndAs, AllowsOrder, AllowsSource, event_of, HasSources, HasSourcesBy, HasNoOrder, HasNoOrderBy, MustEndAsNumber, AreChoicesOfBy, AreFreeSources, choices_in}
+use Rattle.cover_judge.proofs.Vocabulary.{AreValueChoices, AreSourceChoices, AreValueChoicesBy, AreSourceChoicesBy, CanChoose, CanChooseEach, MayChoose, MayChooseEach, IfWrong, IsAtRoot, IsBelow, IsFrom}
 use Rattle.std.specs.Option.{is_some}
 use Rattle.std.proofs.lemmas.List.Elements.{All-cons, All-map, All-nil, All-contains_itself, All-weaker}
 use Rattle.cert_forest.specs.Machine as machine
 use Rattle.candidate_executions.specs.Events.{ComesBefore}
-use Rattle.program_sketches.specs.Choices as choices
-use Rattle.program_sketches.proofs.Lawful.{none_in}
+use Rattle.rowless_sketches.specs.Choices as choices
+use Rattle.rowless_sketches.proofs.Lawful.{none_in}
 use Rattle.tree_laws.proofs.RuleValues.{is_value}
 use Rattle.cover_judge.specs.declared.choices.Choices.{Choices}
 use Rattle.tree_laws.specs.declared.choice.Choice.TheVariants as choice
@@ -124,17 +124,6 @@ sources_may s read cs are = record {
       (All-weaker (Contains are.sources) (λ d. MayChoose s (choice.Source read d))
       (λ d here. record { whole = are.next.allowed; is_source = (are.next.exact d).0 here; free = λ (e, has). are.next.free e has })
       are.sources (All-contains_itself are.sources)));
-}
-
--- where values were found, the thread has a next read
-pub next_is_open : (s : ProgramSketch) (t : ℕ) (values : List ℕ) → HasNextValues s.program (mode_in s) s.chosen t values → IsValueOpen s t
-next_is_open s t values has = subst (λ (o : Option ℕ). IsSome o) (sym has.next) refl
-
-pub source_is_open : (s : ProgramSketch) (read : AccessId) (sources : List Event) → HasSources s.program (mode_in s) s.chosen (event_of read) sources → IsSourceOpen s read
-source_is_open s read sources has = record {
-  whole = has.allowed;
-  is_read = (has.access, has.is_access, has.is_read);
-  free = λ (source, is). has.free source is;
 }
 
 -- the sources of a read that has none yet

@@ -1,8 +1,8 @@
 -- The choices that are made where they are asked for, as a list.
 use Rattle.std.specs.Prelude.{◌≡◌, List, [], ◌∷◌, map}
 use Rattle.candidate_executions.specs.declared.event.Event.{Event}
-use Rattle.program_sketches.specs.Choices.{HasSource}
-use Rattle.program_sketches.specs.ProgramSketches.{ProgramSketch}
+use Rattle.rowless_sketches.specs.Choices.{HasSource}
+use Rattle.rowless_sketches.specs.ProgramSketches.{ProgramSketch}
 use Rattle.rowless_sketches.specs.RowlessSketches.{AreSources}
 use Rattle.cert_forest.specs.AccessId.{AccessId}
 use Rattle.tree_laws.specs.CoverTrees.{event_of}

@@ -1,6 +1,6 @@
 -- What takes back a choice in a sketch without rows.
 use Rattle.std.specs.Prelude.{◌≡◌}
-use Rattle.program_sketches.specs.ProgramSketches.{ProgramSketch}
+use Rattle.rowless_sketches.specs.ProgramSketches.{ProgramSketch}
 use Rattle.rowless_sketches.specs.RowlessSketches.{IsValueMarkOf}
 use Rattle.tree_laws.specs.declared.choice.Choice.{Choice}
 use Rattle.tree_laws.specs.declared.choice.Choice.TheVariants as choice

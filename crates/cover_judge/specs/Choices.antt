@@ -2,8 +2,8 @@
 use Rattle.std.specs.Prelude.{◌≡◌, ℕ, List, Some, IsSome, All}
 use Rattle.candidate_executions.specs.Values.{IsValueOf}
 use Rattle.candidate_executions.specs.Sketches.{next_read, IsWhole}
-use Rattle.program_sketches.specs.Choices.{IsRead, HasSource, CanRead, CanFollow, MayRead, MayFollow}
-use Rattle.program_sketches.specs.ProgramSketches.{ProgramSketch, mode_in}
+use Rattle.rowless_sketches.specs.Choices.{IsRead, HasSource, CanRead, CanFollow, MayRead, MayFollow}
+use Rattle.rowless_sketches.specs.ProgramSketches.{ProgramSketch, mode_in}
 use Rattle.cert_forest.specs.AccessId.{AccessId}
 use Rattle.tree_laws.specs.declared.choice.Choice.{Choice, TheVariants.Value, TheVariants.Source, TheVariants.Order}
 use Rattle.tree_laws.specs.declared.choice.OpenChoice.{OpenChoice}

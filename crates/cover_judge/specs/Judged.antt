@@ -4,7 +4,7 @@ use Rattle.tso_program.specs.declared.outcome.Outcome.{Outcome}
 use Rattle.tso_program.specs.declared.shown.Shown.{Shown}
 use Rattle.tso_program.specs.Shown.{asked}
 use Rattle.candidate_executions.specs.Sketches.{Sketch}
-use Rattle.program_sketches.specs.ProgramSketches.{ProgramSketch, mode_in}
+use Rattle.rowless_sketches.specs.ProgramSketches.{ProgramSketch, mode_in}
 use Rattle.cert_forest.specs.Trees.{Cover, covers_of, count_covers}
 use Rattle.tree_laws.specs.declared.choice.Choice.{Choice}
 use Rattle.tree_laws.specs.declared.choice.OpenChoice.{OpenChoice}

@@ -1,6 +1,6 @@
 //! What a rule lets a sketch choose.
 ghost use Rattle.std.specs.Prelude.{◌≡◌, ◌↔◌, IsTrue};
-ghost use Rattle.program_sketches.specs.ProgramSketches.{mode_in};
+ghost use Rattle.rowless_sketches.specs.ProgramSketches.{mode_in};
 ghost use Rattle.tree_laws.specs.CoverTrees.{AllowsOrder, AllowsSource};
 
 use candidate_executions::Event;

@@ -1,6 +1,6 @@
 //! Choices in a sketch without rows, made and taken back.
 ghost use Rattle.std.specs.Prelude.{◌≡◌, IfOk, OnOk, OnErr};
-ghost use Rattle.program_sketches.specs.ProgramSketches.{ProgramSketch, with_chosen};
+ghost use Rattle.rowless_sketches.specs.ProgramSketches.{ProgramSketch, with_chosen};
 ghost use Rattle.tree_laws.specs.declared.choice.Choice as the_choice;
 ghost use Rattle.tree_laws.specs.CoverTrees.{sketch_with};
 ghost use Rattle.cover_judge.specs.Choices.{CanChoose};

@@ -1,6 +1,6 @@
 //! The choices that there are in a sketch, in order.
 ghost use Rattle.std.specs.Prelude.{◌≡◌, ◌<◌, Some, List, IfOk, IfErr, MatchOption, length, slice_get};
-ghost use Rattle.program_sketches.specs.ProgramSketches.{mode_in};
+ghost use Rattle.rowless_sketches.specs.ProgramSketches.{mode_in};
 ghost use Rattle.tree_laws.specs.declared.choice.Choice as the_choice;
 ghost use Rattle.tree_laws.specs.CoverTrees as trees;
 ghost use Rattle.rowless_sketches.specs.RowlessSketches.{IsFree};

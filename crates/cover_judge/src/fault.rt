@@ -3,7 +3,7 @@ ghost use Rattle.std.specs.Prelude.{◌≡◌, []};
 ghost use Rattle.cover_judge.specs.declared.fault.NodeFault.TheVariants.{OutOfMemory};
 ghost use Rattle.cover_judge.specs.Judged.{IsFrom};
 
-use crate::Path;
+use cert_forest::Path;
 use std::alloc::{AllocError, Global};
 use thiserror::Error;
 

@@ -2,9 +2,9 @@
 use Rattle.cover_search.proofs.Vocabulary.{◌≡◌, ℕ, ◌+◌, ◌<◌, ◌≤◌, List, [], ◌∷◌, ◌++◌, length, take, drop, get_or, refl, ap, sym, ◌∙◌, subst, arith, append_assoc, append-nil, length-append, take_all, remove_range, Outcome}
 use Rattle.cover_search.proofs.Vocabulary.{Shown, ProgramSketch, IsLawful, HaveAllRegisters, choice_count, most_choices, AccessId, Node, Cover, Cycle, Known, Choice, OpenChoice, AreChoicesOf, IsOpen, IsCoverAt, IsCoverAfter}
 use Rattle.cover_search.proofs.Vocabulary.{AreCoversAfter, tree_over, node_over, spell, spell_all, tree_of, IsTree, covers_count, cycle_some, known_some, is_tree, tree_again, spelled_append, child_instead, Pushes, listed}
-use Rattle.cert_forest.specs.Node.TheVariants as node
+use Rattle.cert_trees.specs.declared.node.Node.TheVariants as node
 use Rattle.tree_laws.specs.declared.choice.OpenChoice.TheVariants as left
-use Rattle.cover_search.proofs.{Nodes.as_many_choices, Nodes.covers_more, Nodes.covers_none, Nodes.node_cover}
+use Rattle.cover_search.proofs.Nodes.{as_many_choices, covers_more, covers_none, node_cover}
 
 -- the property of a pushed tree follows
 pub pushes_as : (P Q : Cover → Type 0) (old new : List Node) → ((t : Cover) → P t → Q t) → Pushes P old new → Pushes Q old new

@@ -6,9 +6,7 @@ pub mod OneMoreChoice
 pub mod Rounds
 pub mod TakenIn
 pub mod NothingLeft
-pub mod Planned
 pub mod Nodes
 pub mod Covering
 pub mod Neat
 pub mod Leaves
-pub mod RunEnds

@@ -1,7 +1,7 @@
 -- Trees made of the trees of children.
 use Rattle.cover_search.proofs.Vocabulary.{◌≡◌, ℕ, suc, ◌+◌, ◌<◌, ◌≤◌, List, [], ◌∷◌, ◌++◌, get_or, length, map, take, refl, sym, ap, ◌∙◌, subst, arith, take_more, map-append, length-map, ◌^◌, Listing, Outcome, Shown, asked, machine_of_mode, IsLawful}
 use Rattle.cover_search.proofs.Vocabulary.{choice_count, most_choices, HaveAllRegisters, AccessId, Cover, Value, Source, Order, covers_of, event_of, IsValidCover, AreValidCovers, Choice, moved, OpenChoice, IsOpen, AreChoicesOf, ProgramSketch, mode_in}
-use Rattle.cover_search.proofs.Vocabulary.{nothing_chosen, with_chosen, covers_count, sketch_with, MayChoose, IsValueOpen, AreValueChoices, AreSourceChoices, IsValidAt, IsNeat, AreNeat, IsLeafAt, IsCoverAt, IsCoverAfter, AreCoversAfter, IsWholeCover}
+use Rattle.cover_search.proofs.Vocabulary.{nothing_chosen, with_chosen, covers_count, sketch_with, MayChoose, IsValueOpen, AreValueChoices, AreSourceChoices, IsValidAt, IsNeat, AreNeat, IsCoverAt, IsCoverAfter, AreCoversAfter, IsWholeCover}
 use Rattle.cover_search.proofs.Vocabulary.{tree_over, reads_there, no_order}
 use Rattle.cover_search.proofs.Rounds.{counted_after}
 use Rattle.candidate_executions.specs.{Sketches.Sketch, Sketches.given_to, Candidates.IsAccess}
@@ -111,10 +111,6 @@ module _ (s : ProgramSketch) (shown : Shown) (outcomes : List Outcome) (lawful :
       let long = ap length are.each ∙ length-map are.sources (choice.Source read) in
       omega arith
   few_choices (left.Order first second) choices six is_open are = omega (arith, ap length are.both)
-
-  -- a leaf is a tree
-  pub leaf_cover : (tree : Cover) → choice_count s ≤ most_choices → IsLeafAt s shown outcomes tree → IsCoverAt s shown outcomes tree
-  leaf_cover tree few is = record { valid = is.valid; neat = is.neat; shallow = (let one = is.leaf in omega arith) }
 
   -- no child yet
   pub covers_none : choice_count s ≤ most_choices → AreCoversAfter s shown outcomes [] []

@@ -7,14 +7,13 @@ use Rattle.candidate_executions.specs.Sketches.{MustEndAs}
 use Rattle.program_sketches.specs.ProgramSketches.{ProgramSketch, mode_in}
 use Rattle.program_sketches.specs.Known.{HasNoCycle}
 use Rattle.program_sketches.specs.Sizes.{choice_count, most_choices}
-use Rattle.cert_forest.specs.Trees.{Cover, Value, Source, Order, Known, covers_of}
+use Rattle.cert_trees.specs.Trees.{Cover, Value, Source, Order, Known, covers_of}
 use Rattle.cert_forest.specs.Limits.{cover_depth, covers_depth}
-use Rattle.cert_forest.specs.Node.{Node}
-use Rattle.cert_forest.specs.Node.TheVariants as node
+use Rattle.cert_trees.specs.declared.node.Node.{Node}
+use Rattle.cert_trees.specs.declared.node.Node.TheVariants as node
 use Rattle.tree_laws.specs.Covers.{IsNeat, AreNeat}
-use Rattle.tree_laws.specs.CoverTrees.{IsValidCover, AreValidCovers}
+use Rattle.tree_laws.specs.CoverTrees.{IsValidCover, AreValidCovers, sketch_with}
 use Rattle.tree_laws.specs.declared.choice.Choice.{Choice}
-use Rattle.tree_laws.specs.CoverTrees.{sketch_with}
 use Rattle.cover_judge.specs.Judged.{IsValidAt}
 use Rattle.tree_laws.specs.declared.choice.OpenChoice.{OpenChoice}
 use Rattle.tree_laws.specs.declared.choice.OpenChoice.TheVariants as left

@@ -3,9 +3,9 @@ use Rattle.std.specs.Prelude.{◌≡◌, Bool, true, false, List, ◌++◌}
 use Rattle.tso_program.specs.declared.outcome.Outcome.{Outcome}
 use Rattle.tso_program.specs.declared.shown.Shown.{Shown}
 use Rattle.program_sketches.specs.ProgramSketches.{ProgramSketch}
-use Rattle.cert_forest.specs.Node.{Node}
-use Rattle.cert_forest.specs.Trees.{Cover}
-use Rattle.cert_forest.specs.Nodes.{spell}
+use Rattle.cert_trees.specs.declared.node.Node.{Node}
+use Rattle.cert_trees.specs.Trees.{Cover}
+use Rattle.cert_trees.specs.Nodes.{spell}
 use Rattle.cover_judge.specs.Judged.{IsValidAt}
 use Rattle.cover_search.specs.Covers.{IsLeafAt, IsUnsettled}
 

@@ -3,7 +3,7 @@ ghost use Rattle.std.specs.Prelude.{◌≡◌, ◌≤◌, ◌<◌, ◌^◌, IfEr
 ghost use Rattle.std.specs.List.{remove_range};
 ghost use Rattle.tso_program.specs.Shown.{asked};
 ghost use Rattle.program_sketches.specs.ProgramSketches.{mode_in, with_chosen};
-ghost use Rattle.cert_forest.specs.Nodes.{tree_of, IsTree, first_tree};
+ghost use Rattle.cert_trees.specs.Nodes.{tree_of, IsTree, first_tree};
 ghost use Rattle.cover_judge.specs.Choices.{AreChoicesOf, MayChoose, MayChooseEach};
 ghost use Rattle.tree_laws.specs.Ascending.{Ascend};
 ghost use Rattle.tree_laws.specs.CoverTrees.{sketch_with};

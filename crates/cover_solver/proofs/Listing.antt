@@ -1,6 +1,6 @@
 -- Lists of outcomes that are all that a machine allows.
 use Rattle.cover_solver.proofs.Vocabulary.{◌↔◌, List, Contains, Outcome, Question, Label, Machine, AreRunsOf, AllowsShown, JumpForward}
-use Rattle.cert_forest.specs.Trees.{Cover}
+use Rattle.cert_trees.specs.Trees.{Cover}
 use Rattle.candidate_executions.specs.Sketches.{empty_sketch}
 use Rattle.candidate_executions.proofs.Sketches.Choices.{empty_is_a_sketch}
 use Rattle.tree_laws.specs.CoverTrees.{IsValidCover}

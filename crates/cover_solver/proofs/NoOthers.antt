@@ -8,8 +8,8 @@ use Rattle.tso_machine.specs.Machine.{Machine}
 use Rattle.tso_machine.specs.Outcomes.{AllowsShown}
 use Rattle.candidate_executions.specs.Sketches.{empty_sketch}
 use Rattle.candidate_executions.proofs.Sketches.Choices.{empty_is_a_sketch}
-use Rattle.cert_forest.specs.Trees.{Cover}
-use Rattle.cert_forest.specs.Rule.{Rule}
+use Rattle.cert_trees.specs.Trees.{Cover}
+use Rattle.cert_trees.specs.declared.rule.Rule.{Rule}
 use Rattle.tree_laws.specs.CoverTrees.{IsValidCoverBy}
 use Rattle.tree_laws.specs.Laws.{AValidCoverCovers, ACoveredListHasEachOutcome}
 

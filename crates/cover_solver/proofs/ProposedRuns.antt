@@ -1,6 +1,5 @@
 -- Runs that are replayed in turn, whose outcomes ascend.
 use Rattle.std.proofs.Common.{◌≡◌, ◌↔◌, ℕ, zero, suc, List, [], ◌∷◌, ◌++◌, Some, Contains, slice_get, length, refl, sym, ap, ◌∙◌, subst, append_assoc, arith}
-use Rattle.std.proofs.lemmas.List.{append-nil}
 use Rattle.std.specs.List.{AllZip}
 use Rattle.std.specs.declared.cmp.Ordering.TheVariants.{Less}
 use Rattle.std.proofs.lemmas.List.Quantifiers.{all_pairs_push}
@@ -21,9 +20,6 @@ pub record HaveOutcomesBut (q : Question) (machine : Machine) (all left : List (
   pub runs : AllZip (IsShownRun q machine) front outcomes
   pub ascend : Ascend outcomes
 
-pub none_yet : (q : Question) (machine : Machine) (all : List (List Label)) → HaveOutcomesBut q machine all all []
-none_yet q machine all = record { front = []; whole = refl; runs = tt; ascend = λ i j d h below. absurd (omega arith) }
-
 -- and one more
 pub one_more : (q : Question) (machine : Machine) (all left rest : List (List Label)) (labels : List Label) (outcomes more : List Outcome) (o : Outcome) →
     left ≡ labels ∷ rest → HaveOutcomesBut q machine all left outcomes → IsShownRun q machine labels o → Ascend (outcomes ++ o ∷ []) → more ≡ outcomes ++ o ∷ [] →
@@ -34,10 +30,6 @@ one_more q machine all left rest labels outcomes more o first so_far is_run up p
   runs = subst (AllZip (IsShownRun q machine) (so_far.front ++ labels ∷ [])) (sym pushed) (all_zipped_more (IsShownRun q machine) so_far.front outcomes labels o so_far.runs is_run);
   ascend = subst Ascend (sym pushed) up;
 }
-
--- in the end each run has its outcome
-pub all_have : (q : Question) (machine : Machine) (all : List (List Label)) (outcomes : List Outcome) → HaveOutcomesBut q machine all [] outcomes → AllZip (IsShownRun q machine) all outcomes
-all_have q machine all outcomes have = subst (λ (runs : List (List Label)). AllZip (IsShownRun q machine) runs outcomes) (sym (append-nil have.front) ∙ have.whole) have.runs
 
 -- an outcome that belongs at the end comes last
 pub last_ascends : (outcomes : List Outcome) (o : Outcome) (place : ℕ) → Ascend outcomes → BelongsAt outcomes o place → place ≡ length outcomes → Ascend (outcomes ++ o ∷ [])

@@ -11,10 +11,10 @@ use Rattle.tso_machine.specs.declared.replaying.ReplayFault.TheVariants as repla
 use Rattle.tso_machine.proofs.Refused.{no_fault}
 use Rattle.tree_laws.proofs.{ListedOutcomes.fenced_tree_serves, OneList.one_list, TiesApart.ties_change_no_whole_cover}
 use Rattle.tree_laws.specs.Covers.{IsWholeCover}
-use Rattle.cert_forest.specs.Rule.TheVariants.{Whole}
+use Rattle.cert_trees.specs.declared.rule.Rule.TheVariants.{Whole}
 use Rattle.tso_machine.specs.TieLaws.{untied}
 use Rattle.tso_machine.proofs.NamesPassed.{fenced_runs_pass_no_name}
-use Rattle.cert_forest.specs.Trees.{Cover}
+use Rattle.cert_trees.specs.Trees.{Cover}
 use Rattle.cover_search.specs.Stops.{StopLacks}
 use Rattle.cover_search.specs.declared.stop.SearchStop.{SearchStop}
 use Rattle.cover_search.specs.declared.stop.SearchStop.TheVariants as stop

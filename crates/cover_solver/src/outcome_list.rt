@@ -13,11 +13,10 @@ use crate::proposed::{outcomes_by_threads, proposed_outcomes};
 use candidate_search::SearchPlan;
 use cert_forest::Runs;
 use cover_search::Search;
-use exec_axioms::Mode;
 use oracle::SolveFault;
 use std::alloc::{AllocError, Global};
 use std::thread::Threads;
-use tso_machine::Model;
+use tso_machine::{Mode, Model};
 use tso_program::{Outcome, Program, Shown};
 
 /// Outcomes, each with a run that leaves it.

@@ -9,10 +9,9 @@ ghost use Rattle.cover_solver.specs.Witnesses.{IsWitness, HasNoWitness};
 
 use crate::outcome_list::{OutcomeList, listed};
 use cover_search::Search;
-use exec_axioms::Mode;
 use oracle::SolveFault;
 use std::alloc::{AllocError, Global};
-use tso_machine::Label;
+use tso_machine::{Label, Mode};
 use tso_program::{Formula, Outcome, Program, Shown};
 
 /// A run of the machine of a mode with this truth of the formula at its outcome. `None` where no run has one.

@@ -19,14 +19,14 @@ use Rattle.tso_program.specs.Tree.{Tree}
 use Rattle.tso_program.specs.Tree as tree
 use Rattle.tso_program.specs.Truth.{truth, final_register, is_value}
 use Rattle.tso_machine.specs.Machine.{State, outcome_at}
-use Rattle.tso_machine.proofs.Kept.{registers_long, register_at, registers_by, same_threads, by_values}
+use Rattle.tso_program.proofs.Kept.{registers_long, register_at, registers_by, same_threads, by_values}
 use Rattle.tso_machine.proofs.FencedActions.{stops_at_none}
 use Rattle.dataflow_laws.specs.Liveness.{Tells, TheEnd}
 use Rattle.dataflow_laws.specs.DeadLoads.{Places, drop_loads}
 use Rattle.dataflow_laws.proofs.DroppedPlaces.{same_count}
 use Rattle.dataflow_laws.proofs.SameSteps.{Alike}
 
--- the same registers where what is shown may depend on them
+-- registers hold equal values where what is shown may depend on them
 record SameTold (shown : Shown) (t : ℕ) (xs ys : List ℕ) : Type 0 where
   pub long : length xs ≡ length ys
   pub held : (i : ℕ) → Tells shown t i → slice_index xs i ≡ slice_index ys i

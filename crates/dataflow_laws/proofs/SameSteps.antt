@@ -104,7 +104,7 @@ module _ (p : Listing) (shown : Shown) where
         let same : with z.locals s.buffers s.memory ≡ z = (λ i. record { locals = z.locals; buffers = h.buffers i; memory = h.memory i }) in
         subst (λ y. AlikeIfAny (step p mode s l) (step q mode y l)) same (steps mode s.locals z.locals s.buffers s.memory h.each l)
 
-    -- the same labels
+    -- a run, label by label
     pub run_alike : (mode : Machine) (ls : List Label) (s z : State) → Alike s z → AlikeIfAny (run p mode s ls) (run q mode z ls)
     run_alike mode [] s z h = h
     run_alike mode (l ∷ ls) s z h = rest_alike (step p mode s l) (step q mode z l) _ _ (λ s' z' h'. run_alike mode ls s' z' h') (step_alike mode s z l h)

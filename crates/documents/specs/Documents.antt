@@ -42,7 +42,7 @@ pub record IsDocument (source : Litmus Listing) (command : List ℕ) (members do
   pub heading : TellsHeading source command first
   pub printed : document ≡ first ++ members
 
--- the same, where the members name lines of the text; of these lines nothing is said
+-- the document of a command whose members name lines of the text; of these lines nothing is said
 abbrev pub IsLinedDocument : Litmus Listing → List ℕ → (TextLines → List (List ℕ)) → List (List ℕ) → Type 0
 IsLinedDocument source command members document = (lines : TextLines) × IsDocument source command (members lines) document
 

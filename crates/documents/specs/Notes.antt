@@ -34,7 +34,3 @@ notes_members notes = if nat_lt 0 (length notes) then member (codes "notes") (no
 pub record IsLineOf (document : List (List ℕ)) (notes : List Note) (line : List ℕ) : Type 0 where
   pub printed : line ≡ document_of (document ++ notes_members notes)
   pub json : IsJsonLine line
-
--- the line has some notes
-abbrev pub IsNotedLine : List (List ℕ) → List ℕ → Type 0
-IsNotedLine document line = (notes : List Note) × IsLineOf document notes line

@@ -1,5 +1,5 @@
 //! Partly chosen candidate executions.
-use crate::choice::Choice;
+use crate::graph_choice::GraphChoice;
 use crate::numbering::Numbering;
 use crate::numbers::{each_in, first_numbers, one, shifted};
 use crate::row_list::RowList;
@@ -48,7 +48,7 @@ impl EventGraph {
             rows: EventRows::none(is_buffered(mode)),
         };
         for (t, thread) in program.threads().iter().enumerate() {
-            let t = (t % 8) as u8;
+            let t = (t % MAX_THREADS) as u8;
             graph.put_state(t, ThreadState::new(thread.registers));
             graph.follow(t);
         }
@@ -72,16 +72,16 @@ impl EventGraph {
 
     /// Where a thread stands.
     pub fn state(&self, t: u8) -> &ThreadState {
-        &self.threads[t as usize % 8]
+        &self.threads[t as usize % MAX_THREADS]
     }
 
     pub(crate) fn put_state(&mut self, t: u8, state: ThreadState) {
-        self.threads[t as usize % 8] = state;
+        self.threads[t as usize % MAX_THREADS] = state;
     }
 
     /// What the access with this number reads and writes.
     pub fn access(&self, number: u8) -> Access {
-        self.accesses[number as usize % 32]
+        self.accesses[number as usize % ROW_BITS]
     }
 
     /// The writes that are there of a read's value to its location, but for the read.
@@ -100,12 +100,12 @@ impl EventGraph {
 
     /// How many instructions its thread executes up to an access, and with it.
     pub fn steps_with(&self, number: u8) -> u8 {
-        self.steps[number as usize % 32]
+        self.steps[number as usize % ROW_BITS]
     }
 
     /// The write that is a read's source. `None` if that is the initial one.
     pub fn source(&self, read: u8) -> Option<u8> {
-        self.sources[read as usize % 32]
+        self.sources[read as usize % ROW_BITS]
     }
 
     /// What a location holds at first.
@@ -142,15 +142,15 @@ impl EventGraph {
     }
 
     /// Makes a choice.
-    pub fn choose(&mut self, choice: Choice) {
+    pub fn choose(&mut self, choice: GraphChoice) {
         match choice {
-            Choice::Value { thread, value } => self.give_value(thread, value),
-            Choice::Source { read, write } => {
-                self.sources[read as usize % 32] = write;
+            GraphChoice::Value { thread, value } => self.give_value(thread, value),
+            GraphChoice::Source { read, write } => {
+                self.sources[read as usize % ROW_BITS] = write;
                 let source = self.read_source(read, write);
                 self.rows.choose_source(source);
             }
-            Choice::Order { first, second } => self.rows.choose_order(first, second),
+            GraphChoice::Order { first, second } => self.rows.choose_order(first, second),
         }
     }
 
@@ -164,7 +164,7 @@ impl EventGraph {
             Action::Swap(location, written, register, next) => {
                 self.add_access(t, location, Some(value), Some(written));
                 self.after_read(t, next.with(register, value));
-                self.threads[t as usize % 8].end_section();
+                self.threads[t as usize % MAX_THREADS].end_section();
             }
             _ => {}
         }
@@ -173,7 +173,7 @@ impl EventGraph {
 
     /// The thread goes on after a read.
     fn after_read(&mut self, t: u8, next: Local) {
-        let state = &mut self.threads[t as usize % 8];
+        let state = &mut self.threads[t as usize % MAX_THREADS];
         state.given = state.given.saturating_add(1);
         state.last = next;
         state.steps = state.steps.saturating_add(1);
@@ -190,9 +190,9 @@ impl EventGraph {
 
     /// One instruction of a thread: whether it goes on after it.
     fn step(&mut self, t: u8) -> bool {
-        let place = t as usize % 8;
+        let place = t as usize % MAX_THREADS;
         let last = self.threads[place].last;
-        if self.fenced[place] >> (last.place % 64) & 1 == 1 {
+        if self.fenced[place] >> (last.place as usize % MAX_INSTRUCTIONS) & 1 == 1 {
             self.threads[place].end_section();
         }
         match self.program.action(t, last) {
@@ -213,7 +213,7 @@ impl EventGraph {
 
     /// The thread stops before a read of this location, or at its end.
     fn stop(&mut self, place: usize, next: Option<u8>, is_exchange: bool) -> bool {
-        let state = &mut self.threads[place % 8];
+        let state = &mut self.threads[place % MAX_THREADS];
         state.next = next;
         state.is_exchange = is_exchange;
         false
@@ -221,7 +221,7 @@ impl EventGraph {
 
     /// The thread goes on.
     fn go_to(&mut self, place: usize, next: Local) -> bool {
-        let state = &mut self.threads[place % 8];
+        let state = &mut self.threads[place % MAX_THREADS];
         state.last = next;
         state.steps = state.steps.saturating_add(1);
         true
@@ -244,11 +244,11 @@ impl EventGraph {
                 self.kept_before(Kind::Global, t, access),
             ),
         };
-        self.accesses[number as usize % 32] = access;
-        self.steps[number as usize % 32] = state.steps.saturating_add(1);
+        self.accesses[number as usize % ROW_BITS] = access;
+        self.steps[number as usize % ROW_BITS] = state.steps.saturating_add(1);
         self.rows.add_access(number, access, main, global);
         self.put_matches(number, access);
-        let state = &mut self.threads[t as usize % 8];
+        let state = &mut self.threads[t as usize % MAX_THREADS];
         state.accesses = state.accesses.saturating_add(1);
     }
 

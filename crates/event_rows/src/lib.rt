@@ -9,8 +9,8 @@
 //! of it.
 #![tactic(auto)]
 
-mod choice;
 mod event_graph;
+mod graph_choice;
 mod mark;
 mod numbering;
 mod numbers;
@@ -20,8 +20,8 @@ mod row_list;
 mod rows;
 mod thread_state;
 
-pub use choice::{Choice, Decision};
 pub use event_graph::EventGraph;
+pub use graph_choice::{Decision, GraphChoice};
 pub use mark::Mark;
 pub use numbering::Numbering;
 pub use numbers::{Numbers, each_in, first_numbers, is_in, one, shifted};

@@ -21,7 +21,7 @@ impl Numbering {
         let mut start: u8 = 0;
         for (t, thread) in program.threads().iter().enumerate() {
             let count = accesses_in(thread.code.as_slice());
-            let place = t % 8;
+            let place = t % MAX_THREADS;
             numbering.starts[place] = start;
             numbering.put(place as u8, start, count);
             start = start.saturating_add(count);
@@ -32,19 +32,19 @@ impl Numbering {
     /// The numbers from the start on, so many, are those of thread t.
     fn put(&mut self, t: u8, start: u8, count: u8) {
         for i in 0..count {
-            let place = start.wrapping_add(i) as usize % 32;
+            let place = start.wrapping_add(i) as usize % ROW_BITS;
             self.threads[place] = t;
         }
     }
 
     /// The number of thread t's first access.
     pub fn start(&self, t: u8) -> u8 {
-        self.starts[t as usize % 8]
+        self.starts[t as usize % MAX_THREADS]
     }
 
     /// The thread of an access.
     pub fn thread(&self, number: u8) -> u8 {
-        self.threads[number as usize % 32]
+        self.threads[number as usize % ROW_BITS]
     }
 
     /// The index of an access in its thread.

@@ -1,7 +1,7 @@
 //! The numbers of a row.
 ghost use Rattle.std.specs.Iterator.{at_most};
 
-use bit_rows::{lowest, without};
+use bit_rows::{ROW_BITS, lowest, without};
 
 /// The numbers of a row that are still to come, ascending.
 #[derive(Drop)]
@@ -28,7 +28,7 @@ pub fn each_in(row: u32) -> Numbers {
 
 /// The row of one number.
 pub fn one(number: u8) -> u32 {
-    1 << (number % 32)
+    1 << (number % ROW_BITS as u8)
 }
 
 /// Whether a row has a number.
@@ -38,7 +38,7 @@ pub fn is_in(row: u32, number: u8) -> bool {
 
 /// The row of the numbers below this one.
 pub fn first_numbers(count: u8) -> u32 {
-    if count >= 32 {
+    if usize::from(count) >= ROW_BITS {
         u32::MAX
     } else {
         one(count).wrapping_sub(1)

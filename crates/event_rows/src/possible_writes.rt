@@ -25,7 +25,7 @@ impl PossibleWrites {
         let mut starts = [0; MAX_LOCATIONS];
         let mut ends = Vec::new(alloc);
         for (location, list) in lists.iter().enumerate() {
-            let place = location % 8;
+            let place = location % MAX_LOCATIONS;
             starts[place] = ends.len();
             push_rows(program, place as u8, list.as_slice(), &mut ends)?;
         }
@@ -55,7 +55,7 @@ impl PossibleWrites {
     /// For each thread how many instructions there are up to the last that may write the value at this place of a
     /// location's.
     pub fn ends_at(&self, location: u8, place: usize) -> [u8; MAX_THREADS] {
-        let start = self.starts[location as usize % 8];
+        let start = self.starts[location as usize % MAX_LOCATIONS];
         self.ends
             .get(start.saturating_add(place))
             .copied()
@@ -80,7 +80,7 @@ fn push_rows(
 fn row_of(program: &Program, location: u8, value: u32) -> [u8; MAX_THREADS] {
     let mut row = [0; MAX_THREADS];
     for (t, thread) in program.threads().iter().enumerate() {
-        row[t % 8] = end_of(thread.code.as_slice(), location, value);
+        row[t % MAX_THREADS] = end_of(thread.code.as_slice(), location, value);
     }
     row
 }

@@ -16,7 +16,7 @@ impl Layers {
     fn next(&mut self, relation: &Relation) {
         let mut next = 0;
         for d in each_in(self.last) {
-            let new = relation.row(d % 32) & !self.seen;
+            let new = relation.row(d % ROW_BITS as u8) & !self.seen;
             self.put(new, d);
             next = next | new;
         }
@@ -27,14 +27,14 @@ impl Layers {
     fn put(&mut self, row: u32, from: u8) {
         self.seen = self.seen | row;
         for d in each_in(row) {
-            self.before[d as usize % 32] = from;
+            self.before[d as usize % ROW_BITS] = from;
         }
     }
 }
 
 /// The numbers to which a path leads from this one.
 pub fn reached_from(relation: &Relation, number: u8) -> u32 {
-    relation.reach(number % 32)
+    relation.reach(number % ROW_BITS as u8)
 }
 
 /// A shortest cycle of a relation through a number, which comes last in it.
@@ -61,13 +61,13 @@ pub fn round_through(
 fn back_from(alloc: Global, before: &[u8; ROW_BITS], number: u8) -> Result<Vec<u8>, AllocError> {
     let mut round = Vec::with_capacity(alloc, 4)?;
     round.push(number)?;
-    let mut d = before[number as usize % 32];
+    let mut d = before[number as usize % ROW_BITS];
     for _ in 0..ROW_BITS {
         if d == number {
             break;
         }
         round.push(d)?;
-        d = before[d as usize % 32];
+        d = before[d as usize % ROW_BITS];
     }
     round.reverse();
     Ok(round)

@@ -89,12 +89,12 @@ impl EventRows {
 
     /// The accesses that write a location.
     pub fn written(&self, location: u8) -> u32 {
-        self.written[location as usize % 8]
+        self.written[location as usize % MAX_LOCATIONS]
     }
 
     /// The reads that have the initial write of a location as their source.
     fn initial_readers(&self, location: u8) -> u32 {
-        self.initial_readers[location as usize % 8]
+        self.initial_readers[location as usize % MAX_LOCATIONS]
     }
 
     /// The known edges of a union.
@@ -131,7 +131,7 @@ impl EventRows {
         if access.written.is_some() {
             let readers = self.initial_readers(access.location);
             self.connect(readers, row);
-            let place = access.location as usize % 8;
+            let place = access.location as usize % MAX_LOCATIONS;
             self.written[place] = self.written[place] | row;
         }
     }
@@ -163,7 +163,7 @@ impl EventRows {
         match source.write {
             Some(write) => self.readers.add(write, rows.reader),
             None => {
-                let place = source.location as usize % 8;
+                let place = source.location as usize % MAX_LOCATIONS;
                 self.initial_readers[place] = self.initial_readers[place] | rows.reader;
             }
         }

@@ -6,7 +6,7 @@ use Rattle.tso_program.specs.Listings.{action}
 use Rattle.tso_machine.specs.{declared.label.Label.TheVariants.Exec, declared.label.Label.TheVariants.Flush, RunTexts.IsLabel}
 use Rattle.tso_machine.proofs.Runs.{no_action, no_stores}
 use Rattle.tso_machine.proofs.{ChangedAt.put_other, StepCases.exec_by, StepCases.flush_by}
-use Rattle.search_core.proofs.RunsAreShort.{every_run_is_short}
+use Rattle.tso_machine.proofs.RunsAreShort.{every_run_is_short}
 use Rattle.cert_forest.specs.Limits as limits
 
 abbrev no_step : State → Option State

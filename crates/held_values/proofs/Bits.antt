@@ -1,28 +1,9 @@
 -- Bits of rows.
-use Rattle.std.proofs.Common.{◌≡◌, ◌⊎◌, ◌||◌, ◌&&◌, ℕ, zero, suc, ◌<◌, ◌≤◌, Bool, true, false, List, [], ◌∷◌, length, refl, sym, ap, ◌∙◌, subst, inl, inr, arith, get_or-set_same}
+use Rattle.std.proofs.Common.{◌≡◌, ◌⊎◌, ◌||◌, ℕ, zero, suc, ◌<◌, ◌≤◌, Bool, true, false, List, [], ◌∷◌, length, refl, sym, ap, ◌∙◌, subst, inl, inr, arith, get_or-set_same}
+use Rattle.std.proofs.lemmas.Bool.{or_cases, or_left, or_right}
 use Rattle.std.specs.Prelude.{slice_index_or, slice_set}
 use Rattle.tso_program.specs.declared.instruction.TheConstants.{REGISTERS}
 use Rattle.held_values.specs.HeldRows.{has, either, with_bit}
-
-pub or_is : (a b : Bool) → ((a || b) ≡ true) → (a ≡ true) ⊎ (b ≡ true)
-or_is true b e = inl refl
-or_is false b e = inr e
-
-pub or_left : (a b : Bool) → a ≡ true → (a || b) ≡ true
-or_left true b e = refl
-or_left false b e = absurd cc
-
-pub or_right : (a b : Bool) → b ≡ true → (a || b) ≡ true
-or_right true b e = refl
-or_right false b e = e
-
-pub and_is : (a b : Bool) → ((a && b) ≡ true) → (a ≡ true) × (b ≡ true)
-and_is true b e = (refl, e)
-and_is false b e = absurd cc
-
-pub and_of : (a b : Bool) → a ≡ true → b ≡ true → (a && b) ≡ true
-and_of true b e f = f
-and_of false b e f = absurd cc
 
 -- an element after one was put in its place or another
 pub set_case : {A : Type 0} (xs : List A) (n : ℕ) (y : A) (j : ℕ) (d : A) → ((n ≡ j) × (slice_index_or (slice_set xs n y) j d ≡ y)) ⊎ (slice_index_or (slice_set xs n y) j d ≡ slice_index_or xs j d)
@@ -41,12 +22,12 @@ bit_case (x ∷ xs) (suc n) b zero h = inr ((λ e. omega arith), h)
 bit_case (x ∷ xs) (suc n) b (suc i) h = elim (bit_case xs n b i h) [ inl k ↦ inl (ap suc k.0, k.1) | inr k ↦ inr ((λ e. k.0 (omega arith)), k.1) ]
 
 pub either_is : (a b : List Bool) (i : ℕ) → has (either a b) i ≡ true → (has a i ≡ true) ⊎ (has b i ≡ true)
-either_is a b zero h = or_is (has a 0) (has b 0) h
-either_is a b (suc zero) h = or_is (has a 1) (has b 1) h
-either_is a b (suc (suc zero)) h = or_is (has a 2) (has b 2) h
-either_is a b (suc (suc (suc zero))) h = or_is (has a 3) (has b 3) h
-either_is a b (suc (suc (suc (suc zero)))) h = or_is (has a 4) (has b 4) h
-either_is a b (suc (suc (suc (suc (suc zero))))) h = or_is (has a 5) (has b 5) h
+either_is a b zero h = or_cases (has a 0) (has b 0) h
+either_is a b (suc zero) h = or_cases (has a 1) (has b 1) h
+either_is a b (suc (suc zero)) h = or_cases (has a 2) (has b 2) h
+either_is a b (suc (suc (suc zero))) h = or_cases (has a 3) (has b 3) h
+either_is a b (suc (suc (suc (suc zero)))) h = or_cases (has a 4) (has b 4) h
+either_is a b (suc (suc (suc (suc (suc zero))))) h = or_cases (has a 5) (has b 5) h
 either_is a b (suc (suc (suc (suc (suc (suc i)))))) h = absurd cc
 
 pub either_of : (a b : List Bool) (i : ℕ) → i < REGISTERS → (has a i || has b i) ≡ true → has (either a b) i ≡ true
@@ -61,7 +42,7 @@ either_of a b (suc (suc (suc (suc (suc (suc i)))))) few h = absurd (omega arith)
 -- a location that may become a holder
 pub with_bit_is : (m : List Bool) (l : ℕ) (b : Bool) (j : ℕ) → has (with_bit m l b) j ≡ true → (has m j ≡ true) ⊎ ((l ≡ j) × (b ≡ true))
 with_bit_is m l b j h = elim (bit_case m l (has m l || b) j h) [
-  | inl k ↦ elim (or_is (has m l) b k.1) [ inl o ↦ inl (subst (λ i. has m i ≡ true) k.0 o) | inr o ↦ inr (k.0, o) ]
+  | inl k ↦ elim (or_cases (has m l) b k.1) [ inl o ↦ inl (subst (λ i. has m i ≡ true) k.0 o) | inr o ↦ inr (k.0, o) ]
   | inr k ↦ inl k.1
 ]
 

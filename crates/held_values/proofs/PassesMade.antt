@@ -1,6 +1,6 @@
 -- The locations that may hold a value: sound at each pass, and all of them once a pass adds none.
 use Rattle.std.proofs.Common.{◌≡◌, ◌⊎◌, ◌==◌, ◌||◌, ◌&&◌, ℕ, ◌+◌, ◌<◌, ◌≤◌, Bool, true, false, List, length, Some, refl, sym, ap, ◌∙◌, subst, inl, inr, arith, eqb-true, eq-eqb, slice_index, get_or-set_same, get_or-set_other, length-set}
-use Rattle.std.proofs.lemmas.Bool.{cases_eq, cases_lt}
+use Rattle.std.proofs.lemmas.Bool.{and_from, and_parts, cases_eq, cases_lt}
 use Rattle.std.proofs.lemmas.Option.{same_Some, slice_get_within}
 use Rattle.std.specs.Prelude.{slice_set}
 use Rattle.tso_program.specs.declared.instruction.TheConstants.{REGISTERS}
@@ -16,15 +16,15 @@ use Rattle.tso_program.proofs.{Found.thread_there, Registers.small_number}
 use Rattle.tso_machine.specs.Effects.{Sets, LeadsTo}
 use Rattle.tso_machine.specs.HeldValues.{Cell, Location, Register, Begins, Memory, First, Loaded, Stored, Absent, Flows, Keeps, Copies, Loads, Stores, Gives, Takes, MayHold, Here, From}
 use Rattle.held_values.specs.HeldRows.{has, row_after, gives, with_bit, with_stored, AreSound, AreHeldRows, AreHolders, AreInitial, HaveGiven, IsPassed, IsPassedOn}
-use Rattle.held_values.proofs.Bits.{and_is, and_of, with_bit_is, with_bit_keeps, with_bit_has}
+use Rattle.held_values.proofs.Bits.{with_bit_is, with_bit_keeps, with_bit_has}
 use Rattle.held_values.proofs.RowsSpread.{row_of}
 
 -- ---- what one instruction gives
 
 with_stored_is : (v : ℕ) (x : Instr) (row m : List Bool) (l : ℕ) → has (with_stored v x row m) l ≡ true → (has m l ≡ true) ⊎ (gives v x row l ≡ true)
-with_stored_is v (StoreImm a n) row m l h = elim (with_bit_is m a (n == v) l h) [ inl o ↦ inl o | inr q ↦ inr (and_of (a == l) (n == v) (eq-eqb a l q.0) q.1) ]
-with_stored_is v (Store a r) row m l h = elim (with_bit_is m a (has row (number r)) l h) [ inl o ↦ inl o | inr q ↦ inr (and_of (a == l) (has row (number r)) (eq-eqb a l q.0) q.1) ]
-with_stored_is v (Xchg a r) row m l h = elim (with_bit_is m a (has row (number r)) l h) [ inl o ↦ inl o | inr q ↦ inr (and_of (a == l) (has row (number r)) (eq-eqb a l q.0) q.1) ]
+with_stored_is v (StoreImm a n) row m l h = elim (with_bit_is m a (n == v) l h) [ inl o ↦ inl o | inr q ↦ inr (and_from (a == l) (n == v) (eq-eqb a l q.0) q.1) ]
+with_stored_is v (Store a r) row m l h = elim (with_bit_is m a (has row (number r)) l h) [ inl o ↦ inl o | inr q ↦ inr (and_from (a == l) (has row (number r)) (eq-eqb a l q.0) q.1) ]
+with_stored_is v (Xchg a r) row m l h = elim (with_bit_is m a (has row (number r)) l h) [ inl o ↦ inl o | inr q ↦ inr (and_from (a == l) (has row (number r)) (eq-eqb a l q.0) q.1) ]
 with_stored_is v x row m l h = inl h
 
 with_stored_keeps : (v : ℕ) (x : Instr) (row m : List Bool) (l : ℕ) → has m l ≡ true → has (with_stored v x row m) l ≡ true
@@ -41,7 +41,7 @@ with_stored_long v x row m = refl
 
 has_there : (m : List Bool) (a l : ℕ) (b : Bool) → l < length m → ((a == l) && b) ≡ true → has (with_bit m a b) l ≡ true
 has_there m a l b there h =
-    let q = and_is (a == l) b h in
+    let q = and_parts (a == l) b h in
     let e : a ≡ l = eqb-true a l q.0 in
     subst (λ j. has (with_bit m a b) j ≡ true) e (with_bit_has m a b (omega (arith, e, there)) q.1)
 
@@ -53,11 +53,11 @@ with_stored_has v x row m l there h = absurd cc
 
 module _ (p : Listing) (v t k : ℕ) (row : List Bool) (held : (i : ℕ) → has row i ≡ true → MayHold p (Register t k i) v) where
   gives_sound : (x : Instr) → instr_at p.threads t k ≡ Some x → (l : ℕ) → gives v x row l ≡ true → MayHold p (Location l) v
-  gives_sound (StoreImm a n) at l h = let q = and_is (a == l) (n == v) h in
+  gives_sound (StoreImm a n) at l h = let q = and_parts (a == l) (n == v) h in
       subst (λ m. MayHold p (Location m) v) (eqb-true a l q.0) (subst (λ w. MayHold p (Location a) w) (eqb-true n v q.1) (Here (Location a) n (Stored t k a n at)))
-  gives_sound (Store a r) at l h = let q = and_is (a == l) (has row (number r)) h in
+  gives_sound (Store a r) at l h = let q = and_parts (a == l) (has row (number r)) h in
       subst (λ m. MayHold p (Location m) v) (eqb-true a l q.0) (From (Register t k (number r)) (Location a) v (Stores t k a r at) (held (number r) q.1))
-  gives_sound (Xchg a r) at l h = let q = and_is (a == l) (has row (number r)) h in
+  gives_sound (Xchg a r) at l h = let q = and_parts (a == l) (has row (number r)) h in
       subst (λ m. MayHold p (Location m) v) (eqb-true a l q.0) (From (Register t k (number r)) (Location a) v (Gives t k a r at) (held (number r) q.1))
   gives_sound x at l h = absurd cc
 
@@ -106,9 +106,6 @@ module _ (p : Listing) (v t : ℕ) (from holders : List Bool) (rows : List (List
   }
 
 -- ---- what all threads give
-
-pub all_begin : (p : Listing) (v : ℕ) (holders : List Bool) → IsPassed p v 0 holders holders
-all_begin p v holders = record { long = refl; sound = λ a. a; kept = λ l h. h; each = λ t low. absurd (omega (arith, low)) }
 
 pub all_step : (p : Listing) (v n : ℕ) (holders more next : List Bool) → IsPassed p v n holders more → IsPassedOn p v n holders more next → IsPassed p v (n + 1) holders next
 all_step p v n holders more next h one = record {
@@ -172,7 +169,7 @@ module _ (p : Listing) (v : ℕ) (holders : List Bool) (within : IsWithinLimits 
   begins c w (Memory l) = λ e low. initial.first l low e
   begins c w (First t i) = λ e low few. (are t low).first i few e
   begins c w (Loaded t k r n at) = λ e low few. after t k (k + 1) (number r) (LoadImm r n) low at refl few (sets t k (LoadImm r n) r (n == v) low at (eq-eqb n v e))
-  begins c w (Stored t k l n at) = λ e low. given t k l (StoreImm l n) (there t k (StoreImm l n) at) at (located t k l (StoreImm l n) at refl).1 (and_of (l == l) (n == v) (eq-eqb l l refl) (eq-eqb n v e))
+  begins c w (Stored t k l n at) = λ e low. given t k l (StoreImm l n) (there t k (StoreImm l n) at) at (located t k l (StoreImm l n) at refl).1 (and_from (l == l) (n == v) (eq-eqb l l refl) (eq-eqb n v e))
   begins c w (Absent t k i past) = λ e low few. absurd (let six = (are t low).six in omega (arith, six, past, few))
 
   flows : (d c : Cell) (w : ℕ) → Flows p d c → Claim d w → Claim c w
@@ -182,10 +179,10 @@ module _ (p : Listing) (v : ℕ) (holders : List Bool) (within : IsWithinLimits 
   flows d c w (Takes t k l r at) h = λ e low few. after t k (k + 1) (number r) (Xchg l r) low at refl few (sets t k (Xchg l r) r (has holders l) low at (h e (located t k l (Xchg l r) at refl).0))
   flows d c w (Stores t k l r at) h = λ e low.
       let of = there t k (Store l r) at in
-      given t k l (Store l r) of at (located t k l (Store l r) at refl).1 (and_of (l == l) (has (row_of (rows t of) k) (number r)) (eq-eqb l l refl) (h e of (small_number r)))
+      given t k l (Store l r) of at (located t k l (Store l r) at refl).1 (and_from (l == l) (has (row_of (rows t of) k) (number r)) (eq-eqb l l refl) (h e of (small_number r)))
   flows d c w (Gives t k l r at) h = λ e low.
       let of = there t k (Xchg l r) at in
-      given t k l (Xchg l r) of at (located t k l (Xchg l r) at refl).1 (and_of (l == l) (has (row_of (rows t of) k) (number r)) (eq-eqb l l refl) (h e of (small_number r)))
+      given t k l (Xchg l r) of at (located t k l (Xchg l r) at refl).1 (and_from (l == l) (has (row_of (rows t of) k) (number r)) (eq-eqb l l refl) (h e of (small_number r)))
 
   holds : (c : Cell) (w : ℕ) → MayHold p c w → Claim c w
   holds c w (Here d u b) = begins d u b

@@ -1,5 +1,6 @@
 -- A row that is put into those of the places that an instruction leads to.
 use Rattle.std.proofs.Common.{◌≡◌, ◌⊎◌, ℕ, ◌+◌, ◌<◌, ◌≤◌, Bool, true, List, [], length, Some, refl, sym, ap, ◌∙◌, subst, inl, inr, arith, get_or-set_same, get_or-set_other, length-set}
+use Rattle.std.proofs.lemmas.Bool.{or_left, or_right}
 use Rattle.std.specs.Prelude.{slice_index_or}
 use Rattle.tso_program.specs.declared.instruction.TheConstants.{REGISTERS}
 use Rattle.tso_program.specs.declared.instruction.Instr.{Instr}
@@ -7,7 +8,7 @@ use Rattle.tso_program.specs.declared.instruction.Instr.TheVariants.{Je, Jne, Jm
 use Rattle.tso_program.specs.Instructions.{target_of}
 use Rattle.tso_machine.specs.Effects.{LeadsTo}
 use Rattle.held_values.specs.HeldRows.{has, either, join, spread}
-use Rattle.held_values.proofs.Bits.{or_left, or_right, set_case, either_is, either_of}
+use Rattle.held_values.proofs.Bits.{set_case, either_is, either_of}
 
 abbrev pub row_of : List (List Bool) → ℕ → List Bool
 row_of rows j = slice_index_or rows j []

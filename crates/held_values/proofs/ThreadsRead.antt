@@ -1,8 +1,9 @@
 -- A thread of a program, as it is read.
-use Rattle.std.proofs.Common.{◌≡◌, ℕ, zero, suc, ◌+◌, ◌<◌, List, [], ◌∷◌, length, Option, Some, None, refl, sym, ap, ◌∙◌, arith, slice_get, get_or}
+use Rattle.std.proofs.Common.{◌≡◌, ℕ, ◌+◌, ◌<◌, List, [], ◌∷◌, length, Option, Some, None, refl, sym, ap, ◌∙◌, arith, slice_get, get_or}
+use Rattle.std.proofs.lemmas.List.{get_or_default}
 use Rattle.std.proofs.lemmas.Option.{slice_get-get_or}
 use Rattle.std.specs.Option.{option_map_or}
-use Rattle.std.specs.Prelude.{slice_index_or, IfSome}
+use Rattle.std.specs.Prelude.{IfSome}
 use Rattle.tso_program.specs.declared.limits.TheConstants.{MAX_LOCATIONS}
 use Rattle.tso_program.specs.declared.instruction.Instr.{Instr}
 use Rattle.tso_program.specs.declared.listing.Listing.{Listing}
@@ -10,12 +11,6 @@ use Rattle.tso_program.specs.declared.listing.Thread.{Thread}
 use Rattle.tso_program.specs.Instructions.{location_of, target_of}
 use Rattle.tso_program.specs.Limits.{IsWithinLimits}
 use Rattle.tso_program.specs.Listings.{code_of, instr_at, start_of}
-
--- within a list the default has no part
-pub any_default : {A : Type 0} (xs : List A) (n : ℕ) (a b : A) → n < length xs → slice_index_or xs n a ≡ slice_index_or xs n b
-any_default [] n a b h = absurd (omega arith)
-any_default (x ∷ xs) zero a b h = refl
-any_default (x ∷ xs) (suc n) a b h = any_default xs n a b (omega arith)
 
 -- what holds of the value of an option
 if_some : {A : Type 0} (P : A → Type 0) (o : Option A) → ((x : A) → o ≡ Some x → P x) → IfSome o P
@@ -30,7 +25,7 @@ module _ (p : Listing) (t : ℕ) (thread : Thread) (threads : List Thread) (code
   code_same = ap (λ (o : Option Thread). option_map_or (λ (z : Thread). z.code) o []) (slice_get-get_or p.threads t thread there) ∙ (ap (λ (z : Thread). z.code) (sym is) ∙ sym code_is)
 
   pub registers_same : (start_of p.threads t).registers ≡ thread.registers
-  registers_same = ap (λ (z : Thread). z.registers) (any_default p.threads t (record { code = []; registers = [] }) thread there ∙ sym is)
+  registers_same = ap (λ (z : Thread). z.registers) (get_or_default p.threads t (record { code = []; registers = [] }) thread there ∙ sym is)
 
   pub instr_is : (k : ℕ) (d : Instr) → k < length code → instr_at p.threads t k ≡ Some (get_or code k d)
   instr_is k d low = ap (λ (xs : List Instr). slice_get xs k) code_same ∙ slice_get-get_or code k d low

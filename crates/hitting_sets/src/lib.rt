@@ -6,4 +6,4 @@
 
 mod hitting_set;
 
-pub use hitting_set::{LowerBound, best_hitting_set, excludes, lower_bound};
+pub use hitting_set::{LowerBound, OpenRun, best_hitting_set, excludes, lower_bound, run_to_meet};

@@ -1,5 +1,5 @@
 -- The tables of live registers give the dead loads.
-use Rattle.std.proofs.Common.{◌≡◌, ◌↔◌, not, ℕ, zero, suc, ◌+◌, ◌<◌, Bool, true, false, List, [], ◌∷◌, ◌++◌, length, Option, Some, refl, ap, ◌∙◌, arith, slice_index_or}
+use Rattle.std.proofs.Common.{◌≡◌, ◌↔◌, not, ℕ, ◌+◌, ◌<◌, Bool, true, false, List, [], ◌∷◌, length, Option, Some, refl, ap, ◌∙◌, arith, slice_index_or}
 use Rattle.std.proofs.lemmas.Option.{slice_get_within}
 use Rattle.tso_program.specs.declared.instruction.Instr.{Instr}
 use Rattle.tso_program.specs.declared.instruction.Instr.TheVariants.{Load}
@@ -28,21 +28,14 @@ module _ (p : Listing) (shown : Shown) (tables : List (List (List Bool))) (are :
       (r, l, at, λ live. not_both (in_row after (number r)) e ((exact (k + 1) (number r) (omega arith) (omega arith) (small_number r)).1 live))
   dead o at e = absurd cc
 
-  told : IsDeadLoad p shown t k → is_dead (instr_at p.threads t k) after ≡ true
-  told (r, l, at, none) =
+  back : IsDeadLoad p shown t k → is_dead (instr_at p.threads t k) after ≡ true
+  back (r, l, at, none) =
       let exact = (are.each t (thread_there p.threads t k (Load r l) at)).exact in
       let within : k < length (code_of p.threads t) = slice_get_within (code_of p.threads t) k (Load r l) at in
       ap (λ o. is_dead o after) at ∙ not_of (in_row after (number r)) (λ b. none ((exact (k + 1) (number r) (omega arith) (omega arith) (small_number r)).0 b))
 
   pub dead_is : (dead_by p tables t k ≡ true) ↔ IsDeadLoad p shown t k
-  dead_is = (λ e. dead (instr_at p.threads t k) refl e, told)
+  dead_is = (λ e. dead (instr_at p.threads t k) refl e, back)
 
 pub all_dead : (p : Listing) (shown : Shown) (tables : List (List (List Bool))) → AreLiveTables p shown tables → AreAllDead p shown (dead_by p tables)
 all_dead p shown tables are t k = dead_is p shown tables are t k
-
--- one table more
-pub one_more : {A : Type 0} (P : ℕ → A → Type 0) (xs : List A) (x d : A) → ((u : ℕ) → u < length xs → P u (slice_index_or xs u d)) → P (length xs) x → (u : ℕ) → u < length xs + 1 → P u (slice_index_or (xs ++ x ∷ []) u d)
-one_more P [] x d old new zero h = new
-one_more P [] x d old new (suc u) h = absurd (omega arith)
-one_more P (y ∷ ys) x d old new zero h = old zero (omega arith)
-one_more P (y ∷ ys) x d old new (suc u) h = one_more (λ n. P (suc n)) ys x d (λ n less. old (suc n) (omega arith)) new u (omega arith)

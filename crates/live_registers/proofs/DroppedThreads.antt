@@ -1,5 +1,5 @@
 -- One thread more without its dead loads.
-use Rattle.std.proofs.Common.{◌≡◌, ℕ, zero, suc, ◌+◌, ◌<◌, ◌++◌, ◌∷◌, Bool, List, [], length, drop, get_or, refl, sym, ap, ◌∙◌, append_assoc, arith}
+use Rattle.std.proofs.Common.{◌≡◌, ℕ, ◌+◌, ◌<◌, ◌++◌, ◌∷◌, Bool, List, [], length, drop, get_or, sym, ap, ◌∙◌, append_assoc}
 use Rattle.std.proofs.lemmas.List.{drop_more}
 use Rattle.std.proofs.lemmas.Option.{slice_get-get_or}
 use Rattle.std.specs.Option.{option_map_or}
@@ -26,9 +26,3 @@ module _ (p : Listing) (tables : List (List (List Bool))) (t : ℕ) (thread made
       let split : drop t p.threads ≡ thread ∷ drop (t + 1) p.threads = drop_more p.threads t thread there ∙ ap (λ z. z ∷ drop (t + 1) p.threads) (sym item) in
       ap (λ z. z ++ rest) new_is
       ∙ (append_assoc done (made ∷ []) rest ∙ (ap (λ z. done ++ z ∷ rest) same ∙ (ap (λ zs. done ++ dropped_threads (dead_by p tables) t zs) (sym split) ∙ so_far)))
-
--- within a list the default has no part
-pub any_default : {A : Type 0} (xs : List A) (n : ℕ) (a b : A) → n < length xs → slice_index_or xs n a ≡ slice_index_or xs n b
-any_default [] n a b h = absurd (omega arith)
-any_default (x ∷ xs) zero a b h = refl
-any_default (x ∷ xs) (suc n) a b h = any_default xs n a b (omega arith)

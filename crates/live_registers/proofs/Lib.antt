@@ -1,4 +1,4 @@
 pub mod RowsStep
-pub mod ToldRegisters
+pub mod ShownRegisters
 pub mod DeadByRows
 pub mod DroppedThreads

@@ -1,6 +1,7 @@
 -- One step of the pass.
-use Rattle.std.proofs.Common.{◌≡◌, ◌↔◌, ◌⊎◌, ◌==◌, ◌||◌, ◌&&◌, not, ℕ, zero, suc, ◌+◌, ◌-◌, ◌<◌, ◌≤◌, Bool, true, false, List, [], ◌∷◌, length, Option, Some, None, refl, sym, ap, ◌∙◌, subst, inl, inr, arith, eqb-true, eq-eqb, get_or-set_same, get_or-set_other}
-use Rattle.std.proofs.lemmas.Bool.{cases_eq}
+use Rattle.std.proofs.Common.{◌≡◌, ◌↔◌, ◌⊎◌, ◌==◌, ◌||◌, ◌&&◌, not, ℕ, ◌+◌, ◌-◌, ◌<◌, ◌≤◌, Bool, true, false, List, [], ◌∷◌, length, Option, Some, None, refl, sym, ap, ◌∙◌, subst, inl, inr, arith, eqb-true, eq-eqb, get_or-set_same, get_or-set_other}
+use Rattle.std.proofs.lemmas.Bool.{and_from, and_parts, cases_eq, or_cases, or_left, or_right}
+use Rattle.std.proofs.lemmas.List.{get_or_default}
 use Rattle.std.proofs.lemmas.Option.{slice_get_past, slice_get-get_or}
 use Rattle.std.specs.Prelude.{is_some, slice_get, slice_index_or, slice_set}
 use Rattle.tso_program.specs.declared.instruction.TheConstants.{REGISTERS}
@@ -14,27 +15,7 @@ use Rattle.tso_program.specs.Listings.{code_of, instr_at}
 use Rattle.tso_machine.specs.Effects.{Sets, LeadsTo}
 use Rattle.dataflow_laws.specs.Liveness.{Uses, Live}
 use Rattle.dataflow_laws.proofs.LiveByPass.{told_by_what_follows, told_at_the_end}
-use Rattle.live_registers.specs.LiveRows.{is_used, is_set, falls, in_row, live_bit, AreTold, AreLiveFrom}
-
-or_is : (a b : Bool) → ((a || b) ≡ true) → (a ≡ true) ⊎ (b ≡ true)
-or_is true b e = inl refl
-or_is false b e = inr e
-
-or_left : (a b : Bool) → a ≡ true → (a || b) ≡ true
-or_left true b e = refl
-or_left false b e = absurd cc
-
-or_right : (a b : Bool) → b ≡ true → (a || b) ≡ true
-or_right true b e = refl
-or_right false b e = e
-
-and_is : (a b : Bool) → ((a && b) ≡ true) → (a ≡ true) × (b ≡ true)
-and_is true b e = (refl, e)
-and_is false b e = absurd cc
-
-and_of : (a b : Bool) → a ≡ true → b ≡ true → (a && b) ≡ true
-and_of true b e f = f
-and_of false b e f = absurd cc
+use Rattle.live_registers.specs.LiveRows.{is_used, is_set, falls, in_row, live_bit, AreShown, AreLiveFrom}
 
 -- the tests
 used : (x : Instr) (i : ℕ) → is_used x i ≡ true → Uses x i
@@ -42,7 +23,7 @@ used (Copy r from) i e = eqb-true (number from) i e
 used (Store l r) i e = eqb-true (number r) i e
 used (Xchg l r) i e = eqb-true (number r) i e
 used (CmpImm r v) i e = eqb-true (number r) i e
-used (CmpReg r from) i e = elim (or_is (number r == i) (number from == i) e) [ inl a ↦ inl (eqb-true (number r) i a) | inr b ↦ inr (eqb-true (number from) i b) ]
+used (CmpReg r from) i e = elim (or_cases (number r == i) (number from == i) e) [ inl a ↦ inl (eqb-true (number r) i a) | inr b ↦ inr (eqb-true (number from) i b) ]
 used x i e = absurd cc
 
 used_back : (x : Instr) (i : ℕ) → Uses x i → is_used x i ≡ true
@@ -104,43 +85,43 @@ module _ (p : Listing) (shown : Shown) (t k : ℕ) (x : Instr) (at : instr_at p.
   jumped_to None e s b = absurd cc
 
   after_is : after ≡ true → (j : ℕ) × LeadsTo x k j × Live p shown t j i
-  after_is e = elim (or_is (falls x && in_row next i) (is_some (target_of x) && in_row target i) e) [
-    | inl a ↦ (let (f, b) = and_is (falls x) (in_row next i) a in (k + 1, leads_on x k f, here.0 b))
-    | inr a ↦ (let (f, b) = and_is (is_some (target_of x)) (in_row target i) a in jumped_to (target_of x) refl f b)
+  after_is e = elim (or_cases (falls x && in_row next i) (is_some (target_of x) && in_row target i) e) [
+    | inl a ↦ (let (f, b) = and_parts (falls x) (in_row next i) a in (k + 1, leads_on x k f, here.0 b))
+    | inr a ↦ (let (f, b) = and_parts (is_some (target_of x)) (in_row target i) a in jumped_to (target_of x) refl f b)
   ]
 
   after_of : (j : ℕ) → LeadsTo x k j → Live p shown t j i → after ≡ true
   after_of j h live = elim (leads x k j h) [
-    | inl (f, e) ↦ or_left (falls x && in_row next i) (is_some (target_of x) && in_row target i) (and_of (falls x) (in_row next i) f (here.1 (subst (λ m. Live p shown t m i) (sym e) live)))
+    | inl (f, e) ↦ or_left (falls x && in_row next i) (is_some (target_of x) && in_row target i) (and_from (falls x) (in_row next i) f (here.1 (subst (λ m. Live p shown t m i) (sym e) live)))
     | inr e ↦ or_right (falls x && in_row next i) (is_some (target_of x) && in_row target i)
-        (and_of (is_some (target_of x)) (in_row target i) (ap is_some e) ((there j e).1 live))
+        (and_from (is_some (target_of x)) (in_row target i) (ap is_some e) ((there j e).1 live))
   ]
 
   -- a row that is computed so is exact
   pub exact_before : (live_bit x i (in_row next i) (in_row target i) ≡ true) ↔ Live p shown t k i
   exact_before = (
-    λ e. (told_by_what_follows p shown t k i x at).1 (elim (or_is (is_used x i) (not (is_set x i) && after) e) [
+    λ e. (told_by_what_follows p shown t k i x at).1 (elim (or_cases (is_used x i) (not (is_set x i) && after) e) [
       | inl u ↦ inl (used x i u)
-      | inr a ↦ (let (n, b) = and_is (not (is_set x i)) after a in inr (not_set x i n, after_is b))
+      | inr a ↦ (let (n, b) = and_parts (not (is_set x i)) after a in inr (not_set x i n, after_is b))
     ]),
     λ live. elim ((told_by_what_follows p shown t k i x at).0 live) [
       | inl u ↦ or_left (is_used x i) (not (is_set x i) && after) (used_back x i u)
       | inr (keeps, (j, h, later)) ↦ or_right (is_used x i) (not (is_set x i) && after)
-          (and_of (not (is_set x i)) after (not_of (is_set x i) (λ s. keeps (is_set_back x i s))) (after_of j h later))
+          (and_from (not (is_set x i)) after (not_of (is_set x i) (λ s. keeps (is_set_back x i s))) (after_of j h later))
     ],
   )
 
 module _ (p : Listing) (shown : Shown) (t : ℕ) where
   -- at first each row has what counts at the end, which is exact there
-  pub rows_begin : (told : List Bool) (rows : List (List Bool)) (n : ℕ) → AreTold shown t told → n ≡ length (code_of p.threads t) → ((j : ℕ) → j ≤ n → slice_index_or rows j [] ≡ told) →
+  pub rows_begin : (row : List Bool) (rows : List (List Bool)) (n : ℕ) → AreShown shown t row → n ≡ length (code_of p.threads t) → ((j : ℕ) → j ≤ n → slice_index_or rows j [] ≡ row) →
       AreLiveFrom p shown t n rows
-  rows_begin told rows n are long same j i from to few =
+  rows_begin row rows n are long same j i from to few =
       let e : j ≡ n = omega arith in
       let none : instr_at p.threads t j ≡ None = slice_get_past (code_of p.threads t) j (omega arith) in
       let is = are i few in
       let ends = told_at_the_end p shown t j i none in
-      let row : slice_index_or rows j [] ≡ told = same j (omega arith) in
-      (λ b. ends.1 (is.0 (ap (λ r. in_row r i) (sym row) ∙ b)), λ live. ap (λ r. in_row r i) row ∙ is.1 (ends.0 live))
+      let last : slice_index_or rows j [] ≡ row = same j (omega arith) in
+      (λ b. ends.1 (is.0 (ap (λ r. in_row r i) (sym last) ∙ b)), λ live. ap (λ r. in_row r i) last ∙ is.1 (ends.0 live))
 
   -- one row more
   pub rows_step : (k : ℕ) (x : Instr) (rows : List (List Bool)) (row target : List Bool) → instr_at p.threads t k ≡ Some x → k < length (code_of p.threads t) → length rows ≡ length (code_of p.threads t) + 1 →
@@ -165,12 +146,6 @@ module _ (p : Listing) (shown : Shown) (t : ℕ) where
         let there = later j i (omega arith) to few in
         (λ b. there.0 (sym (ap (λ r. in_row r i) other) ∙ b), λ live. ap (λ r. in_row r i) other ∙ there.1 live)
   ]
-
--- within a list the default has no part
-any_default : {A : Type 0} (xs : List A) (n : ℕ) (a b : A) → n < length xs → slice_index_or xs n a ≡ slice_index_or xs n b
-any_default [] n a b h = absurd (omega arith)
-any_default (x ∷ xs) zero a b h = refl
-any_default (x ∷ xs) (suc n) a b h = any_default xs n a b (omega arith)
 
 module _ (p : Listing) (shown : Shown) (t : ℕ) (w : IsWithinLimits p.threads p.memory) (code : List Instr) (is : code ≡ code_of p.threads t) (done : ℕ) (to_do : done < length code) (d : Instr) where
   abbrev k : ℕ
@@ -197,7 +172,7 @@ module _ (p : Listing) (shown : Shown) (t : ℕ) (w : IsWithinLimits p.threads p
       let same : length code ≡ length (code_of p.threads t) = ap length is in
       let after : length code - done ≡ k + 1 = omega arith in
       let here : k ≡ length code - (done + 1) = omega arith in
-      let next_row : next ≡ slice_index_or rows (k + 1) [] = next_is ∙ any_default rows (k + 1) next [] (omega arith) in
+      let next_row : next ≡ slice_index_or rows (k + 1) [] = next_is ∙ get_or_default rows (k + 1) next [] (omega arith) in
       subst (λ n. AreLiveFrom p shown t n (slice_set rows k row)) here
       (rows_step p shown t k x rows row target at (omega arith) (omega arith) jumps_within targets
       (λ i few. bits i few ∙ ap (λ (r : List Bool). live_bit x i (in_row r i) (in_row target i)) next_row)

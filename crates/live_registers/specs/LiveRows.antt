@@ -40,15 +40,15 @@ in_row row i = slice_index_or row i false
 abbrev pub live_bit : Instr → ℕ → Bool → Bool → Bool
 live_bit x i next target = is_used x i || (not (is_set x i) && ((falls x && next) || (is_some (target_of x) && target)))
 
--- a formula's truth depends on the registers that the formula names
-abbrev pub told_by : Shown → Shown
-told_by All = All
-told_by (Only names) = Only names
-told_by (Truth f) = Only (with_named set.empty f)
+-- what is shown, with the registers that a formula names in the place of its truth
+abbrev pub shown_names : Shown → Shown
+shown_names All = All
+shown_names (Only names) = Only names
+shown_names (Truth f) = Only (with_named set.empty f)
 
 -- the row has the registers of thread t on which what is shown may depend
-abbrev pub AreTold : Shown → ℕ → List Bool → Type 0
-AreTold shown t row = (i : ℕ) → i < REGISTERS → (in_row row i ≡ true) ↔ Tells shown t i
+abbrev pub AreShown : Shown → ℕ → List Bool → Type 0
+AreShown shown t row = (i : ℕ) → i < REGISTERS → (in_row row i ≡ true) ↔ Tells shown t i
 
 -- from place k on the rows have the registers that are live there
 abbrev pub AreLiveFrom : Listing → Shown → ℕ → ℕ → List (List Bool) → Type 0

@@ -4,7 +4,7 @@ ghost use Rattle.tso_program.specs.Instructions.{target_of};
 ghost use Rattle.tso_program.specs.Listings.{code_of};
 ghost use Rattle.tso_program.specs.declared.instruction.TheConstants.{REGISTERS};
 ghost use Rattle.tso_program.specs.declared.limits.TheConstants.{MAX_THREADS};
-ghost use Rattle.live_registers.specs.LiveRows.{is_used, is_set, falls, in_row, live_bit, told_by, AreTold, AreLive, AreLiveTables};
+ghost use Rattle.live_registers.specs.LiveRows.{is_used, is_set, falls, in_row, live_bit, shown_names, AreShown, AreLive, AreLiveTables};
 
 use std::alloc::{AllocError, Global};
 use tso_program::{Instr, Items, Names, Program, REGISTERS, Shown};
@@ -85,25 +85,25 @@ fn code_in(program: &Program, t: usize) -> &[Instr]
     program.threads()[t].code.as_slice()
 }
 
-/// So many rows, each with these registers.
-fn told_rows(
+/// So many equal rows.
+fn equal_rows(
     alloc: Global,
-    told: [bool; REGISTERS],
+    row: [bool; REGISTERS],
     count: usize,
 ) -> Result<Vec<[bool; REGISTERS]>, AllocError>
     ensures long { IfOk result (λ rows. length rows.items ≡ count) }
-    ensures each { IfOk result (λ rows. (j : ℕ) → j < count → slice_index_or rows.items j [] ≡ told) }
+    ensures each { IfOk result (λ rows. (j : ℕ) → j < count → slice_index_or rows.items j [] ≡ row) }
 {
     let mut rows = Vec::new(alloc);
     for _i in 0..count {
-        rows.push(told)?;
+        rows.push(row)?;
     }
     Ok(rows)
 }
 
 /// What is shown, with the registers that a formula names in the place of its truth.
-fn told_by(shown: &Shown) -> Shown
-    ensures { result ≡ told_by shown.now }
+fn shown_names(shown: &Shown) -> Shown
+    ensures { result ≡ shown_names shown.now }
 {
     match shown {
         Shown::All => Shown::All,
@@ -112,15 +112,15 @@ fn told_by(shown: &Shown) -> Shown
     }
 }
 
-/// The registers of a thread that what is shown may tell.
-pub fn told_row(shown: &Shown, t: usize) -> [bool; REGISTERS]
+/// The registers of a thread on which what is shown may depend.
+pub fn shown_row(shown: &Shown, t: usize) -> [bool; REGISTERS]
     requires { t < MAX_THREADS }
-    ensures { AreTold shown.now t result }
+    ensures { AreShown shown.now t result }
 {
-    let told = told_by(shown);
+    let names = shown_names(shown);
     let mut row = [false; REGISTERS];
     for i in 0..6 {
-        row[i] = told.shows_register(t, i);
+        row[i] = names.shows_register(t, i);
     }
     row
 }
@@ -131,17 +131,17 @@ pub fn live_rows(
     program: &Program,
     shown: &Shown,
     t: usize,
-    told: [bool; REGISTERS],
+    at_end: [bool; REGISTERS],
 ) -> Result<Vec<[bool; REGISTERS]>, AllocError>
     requires there { t < length program.now.threads }
-    requires told { AreTold shown.now t told }
+    requires shown { AreShown shown.now t at_end }
     ensures long { IfOk result (λ rows. length rows.items ≡ length (code_of program.now.threads t) + 1) }
     ensures exact { IfOk result (λ rows. AreLive program.now shown.now t rows.items) }
 {
     let _ = shown;
     program.recall_facts();
     let code = code_in(program, t);
-    let mut rows = told_rows(alloc, told, code.len() + 1)?;
+    let mut rows = equal_rows(alloc, at_end, code.len() + 1)?;
     for done in 0..code.len() {
         let k = code.len() - 1 - done;
         let instr = code[k];
@@ -153,7 +153,7 @@ pub fn live_rows(
 }
 
 /// A table of rows for each thread, with what is live at each of its places.
-pub fn live_tables(
+pub(crate) fn live_tables(
     alloc: Global,
     program: &Program,
     shown: &Shown,
@@ -163,8 +163,8 @@ pub fn live_tables(
     program.recall_facts();
     let mut tables = Vec::new(alloc);
     for t in 0..program.threads().len() {
-        let told = told_row(shown, t);
-        let rows = live_rows(alloc, program, shown, t, told)?;
+        let at_end = shown_row(shown, t);
+        let rows = live_rows(alloc, program, shown, t, at_end)?;
         tables.push(Items::of(rows))?;
     }
     Ok(tables)

@@ -1,8 +1,7 @@
 //! Certificates that can't be read, or don't show what they claim.
 
 use crate::message::Message;
-use cert_check::CheckFault;
-use cert_forest::CertFault;
+use cert_forest::{CertFault, CheckFault};
 use litmus_rules::{Source, bytes_from, line_of};
 use std::alloc::{AllocError, Global};
 

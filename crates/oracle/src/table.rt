@@ -64,7 +64,7 @@ impl SeqTable {
         }
     }
 
-    /// The same table for the question in which these gaps go together.
+    /// This table for the question in which these gaps go together.
     pub fn with_ties(self, ties: Ties) -> SeqTable
         ensures question { result.question ≡ record self.question { ties = ties } }
         ensures outcomes { result.outcomes ≡ self.outcomes }

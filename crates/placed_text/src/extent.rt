@@ -7,26 +7,26 @@ use std::alloc::{AllocError, Global};
 use tso_program::{Instr, Program, Thread};
 
 /// Random programs of fewer threads took at most 19 s (`docs/performance.md`, *How large may mine be?*).
-pub const MANY_THREADS: usize = 4;
+const MANY_THREADS: usize = 4;
 
 /// Of 28 accesses random programs took at most 18 s, and each access more takes about twice as long.
-pub const MANY_ACCESSES: usize = 30;
+const MANY_ACCESSES: usize = 30;
 
 /// Random programs without an exchange took at most 7 s.
-pub const MANY_EXCHANGES: usize = 1;
+const MANY_EXCHANGES: usize = 1;
 
 /// What decides how long a search takes.
 #[derive(Clone, Copy)]
-pub struct Extent {
-    pub threads: usize,
+struct Extent {
+    threads: usize,
     /// An exchange is one.
-    pub accesses: usize,
-    pub exchanges: usize,
+    accesses: usize,
+    exchanges: usize,
 }
 
 impl Extent {
     /// The extent of a program.
-    pub fn of(program: &Program) -> Extent {
+    fn of(program: &Program) -> Extent {
         let threads = program.threads();
         let mut extent = Extent {
             threads: threads.len(),
@@ -49,7 +49,7 @@ impl Extent {
     }
 
     /// Whether a search may take minutes: of random programs of this extent some took more than one.
-    pub fn may_take_minutes(self) -> bool
+    fn may_take_minutes(self) -> bool
         ensures { result ≡ may_take_minutes self }
     {
         self.threads >= MANY_THREADS

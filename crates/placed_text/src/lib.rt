@@ -29,7 +29,7 @@ mod writing;
 pub use ahead::report_ahead;
 pub use cover_solver::{OutcomeList, SolveFault};
 pub use explaining::{WhyText, why_text};
-pub use extent::{Extent, warn_of_minutes};
+pub use extent::warn_of_minutes;
 pub use fault::TextFault;
 pub use outcomes::outcomes_by;
 pub use problem::{read_gap_costs, read_program};

@@ -1,8 +1,8 @@
 -- The printed lines of the checker's faults, byte for byte.
 use Rattle.std.specs.Prelude.{ℕ, List, ◌∷◌, ◌++◌, codes}
-use Rattle.cert_check.specs.Paths.{path_text}
-use Rattle.cert_check.specs.declared.fault.CheckFault.{CheckFault}
-use Rattle.cert_check.specs.declared.fault.CheckFault.TheVariants as check
+use Rattle.cert_forest.specs.Paths.{path_text}
+use Rattle.cert_forest.specs.declared.check_fault.CheckFault.{CheckFault}
+use Rattle.cert_forest.specs.declared.check_fault.CheckFault.TheVariants as check
 use Rattle.report.specs.Faults.{refused, refused_at}
 
 -- the line of a refusal with the path to a node

@@ -4,7 +4,7 @@ ghost use Rattle.std.specs.Prelude.{◌≡◌, IfOk};
 ghost use Rattle.report.specs.CheckLines.{check_line, refused_node};
 
 use crate::faults::refused_at;
-use cert_check::{CheckFault, Path};
+use cert_forest::{CheckFault, Path};
 use std::alloc::{AllocError, Global};
 
 /// Why a certificate is refused, with the number of a run or the path to a node.

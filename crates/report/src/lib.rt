@@ -19,7 +19,6 @@ mod places;
 
 pub use accepted::accepted_line;
 pub use answers::{answer_line, labels_line, outcome_line, passed_line, without_line};
-pub use cert_check::{Accepted, CheckFault, check};
 pub use certificate::certificate_line;
 pub use check_lines::check_line;
 pub use faults::{costs_line, litmus_line, replay_line, run_line};

@@ -8,3 +8,6 @@ pub mod OwnWrites
 pub mod SettledReads
 pub mod SourceLists
 pub mod ValuesGiven
+-- words of the crates below, passed on
+pub use Rattle.program_sketches.proofs.Lawful
+pub use Rattle.program_sketches.proofs.Lookups

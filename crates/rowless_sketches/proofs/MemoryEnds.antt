@@ -1,5 +1,5 @@
 -- Whether a memory has what is shown of each write that may be the last of its location.
-use Rattle.rowless_sketches.proofs.Vocabulary.{◌≡◌, ◌↔◌, ℕ, ◌<◌, ◌≤◌, Bool, true, false, IsTrue, List, Some, None, length, refl, sym, ap, ◌∙◌, subst, inl, inr, arith, cases_lt, slice_index, same_Some, Shown, shown_value, Access, Event, Initial, At, Writes}
+use Rattle.rowless_sketches.proofs.Vocabulary.{◌≡◌, ◌↔◌, ℕ, ◌<◌, Bool, true, false, IsTrue, List, Some, length, refl, sym, ap, ◌∙◌, subst, inl, inr, cases_lt, slice_index, Shown, shown_value, Access, Event, Initial, At, Writes}
 use Rattle.rowless_sketches.proofs.Vocabulary.{ProgramSketch, trace_in, access_in, IsLawful, HasLater, IsWritten, IsOwn, HasEndOf, IsInitialWrite, none_past}
 use Rattle.rowless_sketches.proofs.{Ends.last_by, OwnWrites.same_location, OwnWrites.same_value, OwnWrites.first_free}
 
@@ -10,27 +10,6 @@ some_true false h = absurd (h (λ t. (let q : false ≡ true = t in cc)))
 module _ (s : ProgramSketch) (shown : Shown) (memory : List ℕ) where
   -- ---- an access, which reads and writes as x
   module _ (e : Event) (x : Access) (at : access_in s e ≡ Some x) where
-    -- what it writes, if it writes
-    written_is : (l v : ℕ) → Writes (access_in s) e l v → (x.location ≡ l) × (x.written ≡ Some v)
-    written_is l v w =
-        let same : w.0 ≡ x = same_Some w.0 x (sym w.1 ∙ at) in
-        (sym (ap (λ (z : Access). z.location) same) ∙ w.2, sym (ap (λ (z : Access). z.written) same) ∙ w.3)
-
-    -- one that writes nothing
-    pub no_write : x.written ≡ None → HasEndOf s shown memory e
-    no_write none l v h last = absurd (let q = sym none ∙ (written_is l v last.0).1 in cc)
-
-    -- one that writes to no location of the memory
-    pub no_place : length memory ≤ x.location → HasEndOf s shown memory e
-    no_place past l v h last = absurd (let same = (written_is l v last.0).0 in omega arith)
-
-    -- one whose value is shown as the memory has it
-    pub same_end : (w : ℕ) → x.written ≡ Some w → shown_value shown x.location w ≡ slice_index memory x.location → HasEndOf s shown memory e
-    same_end w is same l v h last =
-        let (place, value) = written_is l v last.0 in
-        let held : w ≡ v = same_Some w v (sym is ∙ value) in
-        subst (λ (m : ℕ). shown_value shown m v ≡ slice_index memory m) place (subst (λ (n : ℕ). shown_value shown x.location n ≡ slice_index memory x.location) held same)
-
     -- one that has a later write
     pub later_end : HasLater s e → HasEndOf s shown memory e
     later_end later l v h last = absurd (last.1.no_later later.0 later.1)

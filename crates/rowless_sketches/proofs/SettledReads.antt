@@ -1,46 +1,10 @@
--- Settled reads, and which instructions may store a value to a location.
-use Rattle.rowless_sketches.proofs.Vocabulary.{◌≡◌, ◌↔◌, ℕ, ◌≤◌, Bool, true, false, not, IsTrue, List, Option, Some, None, IsSome, slice_get, refl, sym, ap, ◌∙◌, subst, inl, inr, same_Some, Listing, Mode, Event, Access, ThreadTrace, ProgramSketch, mode_in, view_of, KeepsTraces, next_read}
+-- Settled reads, and which threads may still store a value to a location.
+use Rattle.rowless_sketches.proofs.Vocabulary.{◌≡◌, ◌↔◌, ℕ, ◌≤◌, Bool, true, false, not, IsTrue, List, Option, Some, None, IsSome, slice_get, refl, sym, ap, ◌∙◌, subst, same_Some, Listing, Mode, Event, Access, ThreadTrace, ProgramSketch, mode_in, view_of, KeepsTraces, next_read}
 use Rattle.rowless_sketches.proofs.Vocabulary.{IsRead, ReadsThisValue, trace_last, trace_next, past_next, no_trace}
 use Rattle.candidate_executions.specs.Settled.{IsOfOther, IsSettled, MayStillWrite, MayStore}
 use Rattle.tso_program.specs.declared.action.Local.{Local}
-use Rattle.tso_program.specs.declared.instruction.Instr.{Instr, TheVariants.StoreImm, TheVariants.Store, TheVariants.Xchg}
-use Rattle.tso_program.specs.declared.instruction.Reg.{Reg}
+use Rattle.tso_program.specs.declared.instruction.Instr.{Instr}
 use Rattle.tso_program.specs.Listings.{code_of}
-
--- ---- instructions
-
--- a store of a number
-pub number_stored : (at number l v : ℕ) → ((at ≡ l) × (number ≡ v)) ↔ MayStore (StoreImm at number) l v
-number_stored at number l v = (
-  λ (p, q). inl (λ i. StoreImm (p i) (q i)),
-  λ h. elim h [
-    | inl e ↦ (cc, cc)
-    | inr (r, inl e) ↦ absurd (cc)
-    | inr (r, inr e) ↦ absurd (cc)
-  ],
-)
-
--- a store of a register
-pub register_stored : (at : ℕ) (r : Reg) (l v : ℕ) → (at ≡ l) ↔ MayStore (Store at r) l v
-register_stored at r l v = (
-  λ p. inr (r, inl (λ i. Store (p i) r)),
-  λ h. elim h [
-    | inl e ↦ absurd (cc)
-    | inr (q, inl e) ↦ cc
-    | inr (q, inr e) ↦ absurd (cc)
-  ],
-)
-
--- an exchange
-pub register_exchanged : (at : ℕ) (r : Reg) (l v : ℕ) → (at ≡ l) ↔ MayStore (Xchg at r) l v
-register_exchanged at r l v = (
-  λ p. inr (r, inr (λ i. Xchg (p i) r)),
-  λ h. elim h [
-    | inl e ↦ absurd (cc)
-    | inr (q, inl e) ↦ absurd (cc)
-    | inr (q, inr e) ↦ cc
-  ],
-)
 
 -- ---- a thread that reads on
 

@@ -15,10 +15,10 @@ use Rattle.candidate_executions.proofs.{ToRuns.CandidatesAreRuns.every_order, Ca
 use Rattle.candidate_executions.proofs.{Sketches.MoreValues.end_or_read, Orders.WiderRelations.acyclic_narrower}
 use Rattle.tso_program.proofs.Advance.{advance}
 use Rattle.program_sketches.specs.Kept.{IsLawful}
-use Rattle.rowless_sketches.specs.Completions.{MustEndSo}
+use Rattle.exec_axioms.specs.Completions.{MustEndSo}
 use Rattle.exec_axioms.specs.Complete.{IsComplete}
 use Rattle.program_sketches.proofs.Chosen.{once}
-use Rattle.rowless_sketches.proofs.Ends.{ends_only}
+use Rattle.exec_axioms.proofs.Ends.{ends_only}
 use Rattle.exec_axioms.proofs.{LastWrites.of_followed, LastWrites.pair_edge, Completeness.first_there, Completeness.second_there}
 use Rattle.run_maker.proofs.PlacesInOrder.{place, place_before, place_same, chosen, chosen_is}
 

@@ -16,7 +16,6 @@ pub mod Working
 pub mod WorkLaws
 pub mod Refusals
 -- words of the crates below, passed on
-pub use Rattle.candidate_executions.proofs.FromRuns.RunsAreShort
 pub use Rattle.tree_laws.proofs.Lists
 pub use Rattle.tree_laws.proofs.OpenGaps
 pub use Rattle.tree_laws.proofs.Regions

@@ -13,14 +13,7 @@ pub use Rattle.std.specs.List.{AllPairs, filter, range_with_len}
 pub use Rattle.std.specs.Option.{is_some, option_copied, option_map, option_map_or}
 pub use Rattle.std.specs.Ordering.{eq_by_cmp, nat_cmp}
 pub use Rattle.std.specs.Prelude.{IfNone, IfSome, MatchOption, slice_get, slice_set, ◌↔◌}
-pub use Rattle.tree_laws.proofs.Filtered.{any_has, has_any, of_filter, to_filter}
-pub use Rattle.tree_laws.proofs.Lists.{first_is_here, later_is_here}
-pub use Rattle.tree_laws.proofs.OpenGaps.{few_open, open_ascending, open_exact}
-pub use Rattle.tree_laws.proofs.Regions.{in_root, new_or_old, split_loses_no_set, true_or_false}
-pub use Rattle.oracle.specs.Facts.{Foreign, IsForeignValue, IsServing, Serving}
-pub use Rattle.tree_laws.specs.GapTrees.{HaveCosts}
-pub use Rattle.tso_machine.specs.Outcomes.{AreGapsOf, IsSequentialOutcome, IsStoreBufferOutcome, IsTheAnswer, LeavesOutcome, Serves}
-pub use Rattle.oracle.specs.Verdicts.{PassesNoneOf}
+pub use Rattle.candidate_executions.proofs.Orders.Lists.{first_is_here, later_is_here}
 pub use Rattle.gap_sets.proofs.Orders.{chained, decided, not_itself}
 pub use Rattle.gap_sets.specs.Gaps.{IsGapSet, SetOfGaps, have_same_gaps}
 unfoldable pub use Rattle.gap_sets.specs.Gaps.{numbers_of_set}
@@ -30,14 +23,21 @@ pub use Rattle.gap_sets.specs.Regions.{HasNoneOf, IsInRegion, all_sets, child_re
 pub use Rattle.gap_sets.specs.SameGaps.{alike, have_same_gaps-same}
 pub use Rattle.gap_sets.specs.declared.gap_set.TheConstants.{MAX_GAPS}
 pub use Rattle.gap_sets.specs.declared.region.Region.{Region}
+pub use Rattle.oracle.specs.Facts.{Foreign, IsForeignValue, IsServing, Serving}
+pub use Rattle.oracle.specs.Verdicts.{PassesNoneOf}
 pub use Rattle.the_answer.proofs.AnswerExists.{answer_exists, none_costs_less}
 pub use Rattle.the_answer.specs.Answers.{the_answer}
+pub use Rattle.tree_laws.proofs.Filtered.{any_has, has_any, of_filter, to_filter}
+pub use Rattle.tree_laws.proofs.OpenGaps.{few_open, open_ascending, open_exact}
+pub use Rattle.tree_laws.proofs.Regions.{in_root, new_or_old, split_loses_no_set, true_or_false}
+pub use Rattle.tree_laws.specs.GapTrees.{HaveCosts}
+pub use Rattle.tso_machine.specs.Outcomes.{AreGapsOf, IsSequentialOutcome, IsStoreBufferOutcome, IsTheAnswer, LeavesOutcome, Serves}
 pub use Rattle.tso_program.proofs.Gaps.{gap_below}
 pub use Rattle.tso_program.specs.Limits.{IsWithinLimits}
 pub use Rattle.tso_program.specs.Listings.{gap_count, gap_number}
 pub use Rattle.tso_program.specs.Shown.{asked}
-pub use Rattle.tso_program.specs.declared.question.Question.{Question}
 pub use Rattle.tso_program.specs.declared.listing.Listing.{Listing}
+pub use Rattle.tso_program.specs.declared.question.Question.{Question}
 pub use Rattle.search_core.specs.Ceilings.{Bound, IsAboveCeiling, IsBound, IsCeiling, IsCeilingOf}
 pub use Rattle.search_core.specs.Children.{children}
 pub use Rattle.search_core.specs.Entries.{entry, is_closed, is_held_by, is_held_status, is_live, is_live_status, is_open, is_open_status}

@@ -28,4 +28,4 @@ pub use laws::{
 };
 pub use oracle::{ForeignRun, Served, Verdict};
 pub use subject::Subject;
-pub use tree::{MAX_SEATS, SearchTree};
+pub use tree::SearchTree;

@@ -17,10 +17,7 @@ use gap_sets::{Costs, Region};
 use oracle::{ForeignRun, SeqTable, Served};
 use std::alloc::{AllocError, Global};
 use std::marker::Model;
-use tso_program::{MAX_WORKERS, Question};
-
-/// The most seats that a search may have: one for each worker.
-pub const MAX_SEATS: u8 = MAX_WORKERS;
+use tso_program::Question;
 
 /// A search whose state some history of events reaches. It keeps the allocator that it was made with.
 #[derive(Drop)]

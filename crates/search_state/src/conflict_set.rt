@@ -5,6 +5,9 @@ const OWN_BITS: u16 = 255;
 
 const ROWS: usize = 4;
 
+/// How many choices have a bit in one row.
+const ROW_CHOICES: u16 = 64;
+
 /// Choices that a tree rests on, by their depth.
 #[derive(Clone, Copy)]
 pub struct ConflictSet {
@@ -27,8 +30,8 @@ impl ConflictSet {
     /// Adds the choice at a depth.
     pub(crate) fn add(&mut self, depth: u16) {
         let bit = depth.min(OWN_BITS);
-        let place = (bit / 64) as usize % 4;
-        self.rows[place] = self.rows[place] | 1u64 << (bit % 64);
+        let place = (bit / ROW_CHOICES) as usize % ROWS;
+        self.rows[place] = self.rows[place] | 1u64 << (bit % ROW_CHOICES);
     }
 
     /// Adds the choices of another set.
@@ -41,14 +44,14 @@ impl ConflictSet {
     /// Whether the set has the choice at a depth.
     pub fn has(&self, depth: u16) -> bool {
         let bit = depth.min(OWN_BITS);
-        self.rows[(bit / 64) as usize % 4] >> (bit % 64) & 1 == 1
+        self.rows[(bit / ROW_CHOICES) as usize % ROWS] >> (bit % ROW_CHOICES) & 1 == 1
     }
 
     /// Takes out the choice at a depth, where that has a bit of its own.
     pub fn remove(&mut self, depth: u16) {
         if depth < OWN_BITS {
-            let place = (depth / 64) as usize % 4;
-            self.rows[place] = self.rows[place] & !(1u64 << (depth % 64));
+            let place = (depth / ROW_CHOICES) as usize % ROWS;
+            self.rows[place] = self.rows[place] & !(1u64 << (depth % ROW_CHOICES));
         }
     }
 

@@ -5,6 +5,7 @@ use candidate_executions::Kind;
 use cert_forest::Rule;
 use event_rows::{Decision, EventGraph, PossibleWrites, each_in, first_numbers, is_in, shifted};
 use thread_traces::is_kept_by;
+use tso_program::MAX_THREADS;
 
 /// A graph, with the depths of its choices.
 #[derive(Clone, Copy)]
@@ -183,7 +184,7 @@ impl Conflicts<'_> {
         let access = self.graph.access(read);
         match (self.trail.place_after(t, given), access.read) {
             (Some(place), Some(value)) => {
-                self.writes.ends_of(access.location, value)[t as usize % 8] > place
+                self.writes.ends_of(access.location, value)[t as usize % MAX_THREADS] > place
             }
             _ => false,
         }

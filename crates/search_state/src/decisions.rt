@@ -4,7 +4,7 @@ use crate::settled::is_settled;
 use crate::sources::{OpenRead, open_read, reads_initial};
 use crate::values::{first_thread, next_thread};
 use cert_forest::Rule;
-use event_rows::{Choice, Decision, EventGraph, PossibleWrites, each_in};
+use event_rows::{Decision, EventGraph, GraphChoice, PossibleWrites, each_in};
 use std::alloc::{AllocError, Global};
 
 /// What a rule decides next in a graph without a cycle. `None` if nothing is left. `last` has the writes after which one
@@ -93,14 +93,14 @@ pub fn choices_of(
     graph: &EventGraph,
     writes: &PossibleWrites,
     decision: Decision,
-) -> Result<Vec<Choice>, AllocError> {
+) -> Result<Vec<GraphChoice>, AllocError> {
     match decision {
         Decision::Value(thread) => each_value(alloc, graph, writes, thread),
         Decision::Source(read) => each_source(alloc, graph, read),
         Decision::Order(first, second) => {
             let mut choices = Vec::with_capacity(alloc, 2)?;
-            choices.push(Choice::Order { first, second })?;
-            choices.push(Choice::Order {
+            choices.push(GraphChoice::Order { first, second })?;
+            choices.push(GraphChoice::Order {
                 first: second,
                 second: first,
             })?;
@@ -115,11 +115,11 @@ fn each_value(
     graph: &EventGraph,
     writes: &PossibleWrites,
     thread: u8,
-) -> Result<Vec<Choice>, AllocError> {
+) -> Result<Vec<GraphChoice>, AllocError> {
     let mut choices = Vec::new(alloc);
     if let Some(location) = graph.state(thread).next {
         for value in writes.values(location) {
-            choices.push(Choice::Value {
+            choices.push(GraphChoice::Value {
                 thread,
                 value: *value,
             })?;
@@ -129,13 +129,17 @@ fn each_value(
 }
 
 /// The sources of a read that are there: the initial write first, then by thread and index.
-fn each_source(alloc: Global, graph: &EventGraph, read: u8) -> Result<Vec<Choice>, AllocError> {
+fn each_source(
+    alloc: Global,
+    graph: &EventGraph,
+    read: u8,
+) -> Result<Vec<GraphChoice>, AllocError> {
     let mut choices = Vec::new(alloc);
     if reads_initial(graph, read) {
-        choices.push(Choice::Source { read, write: None })?;
+        choices.push(GraphChoice::Source { read, write: None })?;
     }
     for d in each_in(graph.matching(read)) {
-        choices.push(Choice::Source {
+        choices.push(GraphChoice::Source {
             read,
             write: Some(d),
         })?;

@@ -1,8 +1,8 @@
 //! The known outcomes as which a graph may end in which each read has its value.
-use crate::known_outcomes::KnownOutcomes;
+use crate::known_outcomes::{KnownOutcomes, NumberedOutcomes, number_at};
 use event_rows::{EventGraph, each_in, one};
 use std::alloc::{AllocError, Global};
-use tso_program::{Items, Outcome, REGISTERS, Shown};
+use tso_program::{Items, MAX_LOCATIONS, Outcome, REGISTERS, Shown};
 
 /// A known outcome by its number, and the writes of other values: the graph must end so once each of them has a later
 /// one.
@@ -38,16 +38,47 @@ impl KnownEnds {
     ) -> Result<(), AllocError> {
         self.ends.truncate(0);
         let least = registers_alone(alloc, graph, shown)?;
-        let mut place = outcomes.place_after(&least);
-        for _ in 0..outcomes.count() {
-            let Some((number, outcome)) = outcomes.at(place) else {
-                return Ok(());
-            };
+        match outcomes {
+            KnownOutcomes::Closed(listed) => self.add_listed(graph, shown, &least, listed),
+            KnownOutcomes::Open(found) => self.add_found(graph, shown, &least, found),
+        }
+    }
+
+    /// Adds those of a list that ascends which have the registers of this outcome, and do not come before it.
+    fn add_listed(
+        &mut self,
+        graph: &EventGraph,
+        shown: &Shown,
+        least: &Outcome,
+        listed: &[Outcome],
+    ) -> Result<(), AllocError> {
+        let start = match listed.binary_search(least) {
+            Ok(place) | Err(place) => place,
+        };
+        let rest = listed.get(start..).unwrap_or(&[]);
+        for (index, outcome) in rest.iter().enumerate() {
             if outcome.registers != least.registers {
                 return Ok(());
             }
+            let number = number_at(start.saturating_add(index));
             self.add(graph, shown, number, outcome)?;
-            place = outcomes.next(place);
+        }
+        Ok(())
+    }
+
+    /// Adds those of the found outcomes which have the registers of this outcome, and do not come before it.
+    fn add_found(
+        &mut self,
+        graph: &EventGraph,
+        shown: &Shown,
+        least: &Outcome,
+        found: &NumberedOutcomes,
+    ) -> Result<(), AllocError> {
+        for (outcome, number) in found.numbers.range(least..) {
+            if outcome.registers != least.registers {
+                return Ok(());
+            }
+            self.add(graph, shown, *number, outcome)?;
         }
         Ok(())
     }
@@ -123,7 +154,7 @@ fn registers_alone(
 fn others_of(graph: &EventGraph, shown: &Shown, outcome: &Outcome) -> Option<u32> {
     let mut others = 0;
     for (place, value) in outcome.memory.as_slice().iter().enumerate() {
-        let location = (place % 8) as u8;
+        let location = (place % MAX_LOCATIONS) as u8;
         let written = graph.rows.written(location);
         if written == 0 && shown.value(place, graph.initial(location)) != *value {
             return None;

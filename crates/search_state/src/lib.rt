@@ -27,10 +27,11 @@ pub use conflict_set::ConflictSet;
 pub use conflicts::Conflicts;
 pub use decisions::{choices_of, next_decision};
 pub use event_rows::{
-    Choice, Decision, EventGraph, Mark, PossibleWrites, each_in, is_in, reached_from, round_through,
+    Decision, EventGraph, GraphChoice, Mark, PossibleWrites, each_in, is_in, reached_from,
+    round_through,
 };
 pub use known_ends::{KnownEnd, KnownEnds};
-pub use known_outcomes::{FoundOutcomes, KnownOutcomes};
+pub use known_outcomes::{KnownOutcomes, NumberedOutcomes};
 pub use sources::read_of_nobody;
 pub use trail::Trail;
 pub use truths::known_truth;

@@ -1,5 +1,6 @@
 //! Reads whose sources are all there.
 use event_rows::{EventGraph, PossibleWrites};
+use tso_program::MAX_THREADS;
 
 /// Whether no other thread that goes on may still write the value of a read to its location.
 pub(crate) fn is_settled(graph: &EventGraph, writes: &PossibleWrites, read: u8) -> bool {
@@ -17,12 +18,12 @@ pub(crate) fn waits_for(graph: &EventGraph, writes: &PossibleWrites, read: u8) -
 }
 
 /// The threads but for one that go on, and stop before these places.
-pub(crate) fn going_before(graph: &EventGraph, own: u8, ends: &[u8; 8]) -> u8 {
+pub(crate) fn going_before(graph: &EventGraph, own: u8, ends: &[u8; MAX_THREADS]) -> u8 {
     let mut row = 0;
     for t in 0..graph.thread_count() {
         let state = graph.state(t);
-        if t != own && state.next.is_some() && ends[t as usize % 8] > state.last.place {
-            row = row | 1u8 << (t % 8);
+        if t != own && state.next.is_some() && ends[t as usize % MAX_THREADS] > state.last.place {
+            row = row | 1u8 << (t as usize % MAX_THREADS);
         }
     }
     row

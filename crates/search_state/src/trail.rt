@@ -1,7 +1,7 @@
 //! At which depth each choice of a search was made.
 use crate::conflict_set::ConflictSet;
 use bit_rows::ROW_BITS;
-use event_rows::{Choice, EventGraph, each_in};
+use event_rows::{EventGraph, GraphChoice, each_in};
 use tso_program::MAX_THREADS;
 
 /// How many values a thread may have been given, with none, at most: a power of two.
@@ -54,19 +54,19 @@ impl Trail {
     }
 
     /// Puts down a choice that was made at a depth.
-    pub fn put(&mut self, depth: u16, graph: &EventGraph, choice: Choice) {
+    pub fn put(&mut self, depth: u16, graph: &EventGraph, choice: GraphChoice) {
         match choice {
-            Choice::Value { thread, .. } => {
+            GraphChoice::Value { thread, .. } => {
                 let given = graph.state(thread).given;
                 let before = self.past(thread, given.saturating_sub(1));
                 let mut depths = before.depths;
                 depths.add(depth);
                 self.put_past(graph, thread, depths, before.accesses);
             }
-            Choice::Source { read, .. } => self.sources[read as usize % 32] = depth,
-            Choice::Order { first, second } => {
-                self.orders[first as usize % 32][second as usize % 32] = depth;
-                self.orders[second as usize % 32][first as usize % 32] = depth;
+            GraphChoice::Source { read, .. } => self.sources[read as usize % ROW_BITS] = depth,
+            GraphChoice::Order { first, second } => {
+                self.orders[first as usize % ROW_BITS][second as usize % ROW_BITS] = depth;
+                self.orders[second as usize % ROW_BITS][first as usize % ROW_BITS] = depth;
             }
         }
     }
@@ -76,9 +76,9 @@ impl Trail {
         let state = graph.state(t);
         for i in before..state.accesses {
             let number = graph.numbering.number(t, i);
-            self.there_after[number as usize % 32] = state.given;
+            self.there_after[number as usize % ROW_BITS] = state.given;
         }
-        self.pasts[t as usize % 8][state.given as usize % 64] = Past {
+        self.pasts[t as usize % MAX_THREADS][state.given as usize % GIVEN] = Past {
             depths,
             accesses: state.accesses,
             place: if state.next.is_some() {
@@ -90,7 +90,7 @@ impl Trail {
     }
 
     fn past(&self, t: u8, given: u8) -> Past {
-        self.pasts[t as usize % 8][given as usize % 64]
+        self.pasts[t as usize % MAX_THREADS][given as usize % GIVEN]
     }
 
     /// The first values of a thread, so many.
@@ -100,18 +100,18 @@ impl Trail {
 
     /// The values after which an access is there.
     pub(crate) fn of_access(&self, graph: &EventGraph, number: u8) -> ConflictSet {
-        let given = self.there_after[number as usize % 32];
+        let given = self.there_after[number as usize % ROW_BITS];
         self.of_values(graph.numbering.thread(number), given)
     }
 
     /// The depth at which a read got its source.
     pub(crate) fn source(&self, read: u8) -> u16 {
-        self.sources[read as usize % 32]
+        self.sources[read as usize % ROW_BITS]
     }
 
     /// The depth at which two writes got their order.
     pub(crate) fn order(&self, first: u8, second: u8) -> u16 {
-        self.orders[first as usize % 32][second as usize % 32]
+        self.orders[first as usize % ROW_BITS][second as usize % ROW_BITS]
     }
 
     /// The least depth at which a write got its order before one of the row.

@@ -2,7 +2,7 @@
 use event_rows::{EventGraph, each_in};
 use program_sketches::{Knowledge, Left, joined, negated, settled, unsettled};
 use std::alloc::{AllocError, Global};
-use tso_program::{Atom, Formula, FormulaNode};
+use tso_program::{Atom, Formula, FormulaNode, MAX_LOCATIONS, MAX_THREADS};
 
 /// The truth of a formula at each end of a graph, if it is known.
 pub fn known_truth(
@@ -58,7 +58,7 @@ fn known_atom(graph: &EventGraph, atom: Atom) -> Knowledge {
             if thread >= u32::from(graph.thread_count()) {
                 return settled(false);
             }
-            let state = graph.state((thread % 8) as u8);
+            let state = graph.state((thread as usize % MAX_THREADS) as u8);
             match state.next {
                 Some(_) => unsettled(),
                 None => settled(state.last.registers[register.index()] == value),
@@ -68,7 +68,7 @@ fn known_atom(graph: &EventGraph, atom: Atom) -> Knowledge {
             if location as usize >= graph.program().memory().len() {
                 return settled(false);
             }
-            known_value(graph, (location % 8) as u8, value)
+            known_value(graph, (location as usize % MAX_LOCATIONS) as u8, value)
         }
     }
 }

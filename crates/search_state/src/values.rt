@@ -69,7 +69,7 @@ fn weight_of(
     location: u8,
 ) -> Weight {
     let open = open_values(graph, writes, t, location);
-    let place = t as usize % 8;
+    let place = t as usize % MAX_THREADS;
     Weight {
         open_up_to_two: open.min(2),
         not_lost: 99u32.saturating_sub(waiting.lost[place]),

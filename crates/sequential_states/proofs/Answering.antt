@@ -1,16 +1,11 @@
 -- What a list of all states says of an instruction.
-use Rattle.sequential_states.proofs.Vocabulary.{◌≡◌, inl, inr, cases_lt, length, code_of, slice_get_past, ℕ, Bool, true, false, List, ◌∷◌, Option, Some, None, refl, sym, ap, ◌∙◌, subst, Instr, Jmp, Local, Listing, Stop, act, action, instr_at, Exec, SequentialMachine, State, direct, run, start, outcome_at}
-use Rattle.sequential_states.proofs.Vocabulary.{Shot, StandsAt, HasNoStep, IsAtEnd, Listed, Walk, TellsAll, ArrivalsLeadBack, GoesOn, HasEach, IsLonger, IsPlaceAt, IsWalk, IsWalkOn, IsWalkTo, IsExecuted, IsRunThrough, state_of}
+use Rattle.sequential_states.proofs.Vocabulary.{◌≡◌, inl, inr, cases_lt, length, code_of, slice_get_past, ℕ, Bool, true, false, List, ◌∷◌, Some, None, sym, ap, ◌∙◌, subst, Listing, Stop, act, action, instr_at, Exec, SequentialMachine, State, direct, run, start, outcome_at}
+use Rattle.sequential_states.proofs.Vocabulary.{Shot, StandsAt, HasNoStep, IsThreadAtEnd, Listed, Walk, TellsAll, ArrivalsLeadBack, WalksOn, HasEach, IsLonger, IsPlaceAt, IsWalk, IsWalkOn, IsWalkTo, IsExecuted, IsRunThrough, state_of}
 use Rattle.sequential_states.proofs.Steps.{at_end}
 use Rattle.sequential_states.proofs.Reaching.{run_parted, first_step, is_next}
 use Rattle.sequential_states.proofs.Arrivals.{lead_back}
 use Rattle.sequential_states.proofs.Ending.{is_run, executes}
-
--- only where there is no instruction does a thread do nothing
-no_instr : (o : Option Instr) (s : Local) → act o s ≡ Stop → o ≡ None
-no_instr None s e = refl
-no_instr (Some (Jmp k)) s e = absurd cc
-no_instr (Some _) s e = absurd cc
+use Rattle.tso_machine.proofs.FencedActions.{stops_at_none}
 
 module _ (p : Listing) (t k : ℕ) where
   -- what isn't there is not executed
@@ -30,18 +25,18 @@ module _ (p : Listing) (t k : ℕ) where
   -- where a thread stands at a place and has no step, no instruction stands there
   pub stands_still : (s : Shot) → StandsAt s t k → HasNoStep p s t → IsExecuted p t k → ⊥
   stands_still s stands none =
-      never_there (no_instr (instr_at p.threads t k) ((state_of s).locals t) (ap (λ n. act (instr_at p.threads t n) ((state_of s).locals t)) (sym stands.next) ∙ at_end p s t none))
+      never_there (stops_at_none (instr_at p.threads t k) ((state_of s).locals t) (ap (λ n. act (instr_at p.threads t n) ((state_of s).locals t)) (sym stands.next) ∙ at_end p s t none))
 
-  pub still : (b : Bool) (w after : Walk) → GoesOn p w t after b → b ≡ false → HasNoStep p w.state t
+  pub still : (b : Bool) (w after : Walk) → WalksOn p w t after b → b ≡ false → HasNoStep p w.state t
   still false w after h e = h.1
   still true w after h e = absurd cc
 
-  pub moved : (b : Bool) (w after : Walk) → GoesOn p w t after b → b ≡ true → IsLonger p w t after
+  pub moved : (b : Bool) (w after : Walk) → WalksOn p w t after b → b ≡ true → IsLonger p w t after
   moved true w after h e = h
   moved false w after h e = absurd cc
 
   -- a run through the instruction
-  pub through : (w next after : Walk) → IsWalk p w → StandsAt w.state t k → IsLonger p w t next → IsWalkOn p next after → ((u : ℕ) → IsAtEnd p after.state u) → IsRunThrough p after.labels t k
+  pub through : (w next after : Walk) → IsWalk p w → StandsAt w.state t k → IsLonger p w t next → IsWalkOn p next after → ((u : ℕ) → IsThreadAtEnd p after.state u) → IsRunThrough p after.labels t k
   through w next after is stands longer on ended = (outcome_at p (state_of after.state), is_run p after on.walked ended, executes p w next after t k is stands.next longer on)
 
   module _ (listed : List Listed) (all : TellsAll p listed) where

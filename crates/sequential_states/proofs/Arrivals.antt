@@ -1,6 +1,6 @@
 -- The labels to a listed state, gathered from the last to the first.
 use Rattle.sequential_states.proofs.Vocabulary.{◌≡◌, ℕ, ◌<◌, List, [], ◌∷◌, ◌++◌, Option, Some, None, length, get_or, reverse, reverse-append, refl, sym, ap, ◌∙◌, subst, option_and_then, slice_get, slice_get-get_or}
-use Rattle.sequential_states.proofs.Vocabulary.{Listing, Label, Exec, SequentialMachine, step, run, state_of, first_shot, FitsProgram, Arrival, Listed, AreReached, ArrivalsLeadBack, IsArrival, LeadTo, Walk, IsWalkTo}
+use Rattle.sequential_states.proofs.Vocabulary.{Listing, Label, Exec, SequentialMachine, step, run, state_of, first_shot, Arrival, Listed, AreReached, ArrivalsLeadBack, IsArrival, LeadTo}
 use Rattle.sequential_states.proofs.Steps.{state_of_first}
 
 pub lead_back : (p : Listing) (listed : List Listed) → AreReached p listed → ArrivalsLeadBack listed
@@ -45,14 +45,3 @@ module _ (listed : List Listed) (place at : ℕ) (labels : List Label) (o : Opti
       let (x, is_there) = there in
       let first : x.state ≡ first_shot p = subst (IsArrival p listed at x.state) (sym (found x is_there) ∙ e) (reached at x is_there).arrival in
       subst (λ z. run p SequentialMachine z (reverse labels) ≡ Some (state_of entry.state)) (ap state_of first ∙ state_of_first p) (on p x entry reached is_there is)
-
--- a walk by these labels to this state
-pub is_walk_to : (listed : List Listed) (place : ℕ) (walk : Walk) → LeadTo listed place walk.labels → ((entry : Listed) → slice_get listed place ≡ Some entry → walk.state ≡ entry.state) → IsWalkTo listed place walk
-is_walk_to listed place walk leads same p entry reached there =
-    let is : walk.state ≡ entry.state = same entry there in (
-      record {
-        reached = leads p entry reached there ∙ ap (λ s. Some (state_of s)) (sym is);
-        fits = subst (λ s. FitsProgram p s) (sym is) (reached place entry there).fits;
-      },
-      is,
-    )

@@ -1,7 +1,7 @@
 -- Walks that go on: jumps lead forward, so each thread comes to its end.
 use Rattle.sequential_states.proofs.Vocabulary.{◌≡◌, ℕ, ◌-◌, ◌<◌, Bool, true, false, not, List, [], ◌∷◌, ◌++◌, Option, Some, None, length, refl, sym, ap, ◌∙◌, subst, arith, inl, inr, cases_eq, append_assoc, append-nil, slice_get, slice_get_within, option_and_then, same_Some}
 use Rattle.sequential_states.proofs.Vocabulary.{Action, Stop, Go, Wait, Read, Write, Swap, Local, Instr, Je, Jmp, Jne, Listing, JumpForward, act, jumped, loaded, action, code_of, Exec, Label, SequentialMachine, State, direct, put, put_same, put_other, run, start, step, outcome_at, IsRun}
-use Rattle.sequential_states.proofs.Vocabulary.{Shot, state_of, IsAtEnd, IsLonger, IsWalk, IsWalkOn, Walk, IsExecutedBy}
+use Rattle.sequential_states.proofs.Vocabulary.{Shot, state_of, IsThreadAtEnd, IsLonger, IsWalk, IsWalkOn, Walk, IsExecutedBy}
 use Rattle.sequential_states.proofs.Reaching.{run_joined}
 use Rattle.tso_program.proofs.Advance.{Further, Advances, advance}
 
@@ -47,7 +47,7 @@ pub less_left : (p : Listing) (s next : Shot) (t : ℕ) → JumpForward p.thread
 less_left p s next t forward e = let (a, b) = goes_further p (state_of s) t forward (state_of next) e in omega arith
 
 -- a thread at its end stays there
-pub stays_ended : (p : Listing) (s next : Shot) (t u : ℕ) → step p SequentialMachine (state_of s) (Exec t) ≡ Some (state_of next) → IsAtEnd p s u → IsAtEnd p next u
+pub stays_ended : (p : Listing) (s next : Shot) (t u : ℕ) → step p SequentialMachine (state_of s) (Exec t) ≡ Some (state_of next) → IsThreadAtEnd p s u → IsThreadAtEnd p next u
 stays_ended p s next t u e ended = elim (cases_eq u t) [
   | inl q ↦ absurd (
       let stop : action p.threads t ((state_of s).locals t) ≡ Stop = subst (λ z. action p.threads z ((state_of s).locals z) ≡ Stop) q ended in
@@ -82,7 +82,7 @@ module _ (p : Listing) where
   }
 
   -- a walk to where each thread is at its end is a run
-  pub is_run : (w : Walk) → IsWalk p w → ((t : ℕ) → IsAtEnd p w.state t) → IsRun p SequentialMachine w.labels (outcome_at p (state_of w.state))
+  pub is_run : (w : Walk) → IsWalk p w → ((t : ℕ) → IsThreadAtEnd p w.state t) → IsRun p SequentialMachine w.labels (outcome_at p (state_of w.state))
   is_run w is ended = (state_of w.state, is.reached, (λ t. (ended t, refl)), refl)
 
   -- which executes what its first labels do

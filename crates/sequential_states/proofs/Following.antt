@@ -1,7 +1,7 @@
 -- Lists that grow keep what holds of their places, and one more state that a step leads to.
 use Rattle.sequential_states.proofs.Vocabulary.{◌≡◌, ℕ, suc, zero, ◌<◌, ◌≤◌, List, [], ◌∷◌, ◌++◌, Option, Some, None, length, refl, sym, ap, ◌∙◌, subst, arith, inl, inr, cases_lt, slice_get, slice_get_within, append_assoc, append-nil, length-append}
-use Rattle.sequential_states.proofs.Vocabulary.{Listing, Exec, SequentialMachine, State, step, start, Shot, state_of, first_shot, FitsProgram, IsStep, HasNoStep, Arrival, Listed, IsListed, IsArrival, IsEntry, AreReached, IsFollowed, IsBeginning, IsNoted}
-use Rattle.sequential_states.proofs.Steps.{state_of_first, first_fits, is_there}
+use Rattle.sequential_states.proofs.Vocabulary.{Listing, Exec, SequentialMachine, State, step, start, Shot, state_of, first_shot, IsStep, Arrival, Listed, IsListed, IsArrival, IsEntry, AreReached, IsFollowed, IsBeginning, IsNoted}
+use Rattle.sequential_states.proofs.Steps.{state_of_first, is_there}
 
 -- what is at a place of the beginning is at that place of the list
 pub get_longer : {A : Type 0} (xs ys : List A) (k : ℕ) (x : A) → slice_get xs k ≡ Some x → slice_get (xs ++ ys) k ≡ Some x
@@ -57,13 +57,6 @@ reached_more p xs x reached is k y e = elim (cases_lt k (length xs)) [
       entry_longer p xs (x ∷ []) k y (subst (λ (z : Listed). IsEntry p xs k z) same (subst (λ n. IsEntry p xs n x) (sym at) is)))
 ]
 
--- the start alone
-pub reached_first : (p : Listing) (s : Shot) → s ≡ first_shot p → AreReached p (record { state = s; arrival = None } ∷ [])
-reached_first p s e zero x q =
-    let same : record { state = s; arrival = None } ≡ x = cc in
-    subst (λ (z : Listed). IsEntry p (record { state = s; arrival = None } ∷ []) 0 z) same (record { fits = subst (FitsProgram p) (sym e) (first_fits p); arrival = e })
-reached_first p s e (suc k) x q = absurd cc
-
 pub first_listed : (p : Listing) (s : Shot) → s ≡ first_shot p → IsListed (record { state = s; arrival = None } ∷ []) (start p)
 first_listed p s e = record { place = 0; found = record { state = s; arrival = None }; there = refl; same = ap state_of e ∙ state_of_first p }
 
@@ -90,11 +83,6 @@ module _ (p : Listing) (xs : List Listed) (from : ℕ) (t : ℕ) (entry : Listed
       let added : IsEntry p xs (length xs) new = record { fits = step_is.fits; arrival = (entry, there, slice_get_within xs from entry there, step_is.leads) } in
       let listed : IsListed (xs ++ new ∷ []) (state_of made) = record { place = length xs; found = new; there = get_end xs new; same = refl } in
       (subst (AreReached p) (sym is) (reached_more p xs new reached added), begins, follows ys made begins step_is (subst (λ (zs : List Listed). IsListed zs (state_of made)) (sym is) listed))
-
-  -- where the thread has no step, there is nothing to list
-  pub nothing_to_follow : HasNoStep p entry.state t → IsFollowed p xs from t
-  nothing_to_follow none x next e goes =
-      absurd (let z : None ≡ Some next = sym none ∙ ap (λ (z : Listed). step p SequentialMachine (state_of z.state) (Exec t)) (entry_is x e) ∙ goes in cc)
 
 -- a thread that is not there has nothing to follow
 pub past_followed : (p : Listing) (xs : List Listed) (from t : ℕ) → AreReached p xs → length p.threads ≤ t → IsFollowed p xs from t

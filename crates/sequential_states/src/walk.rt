@@ -1,7 +1,7 @@
 //! Labels of sequential steps, with the state that they lead to.
 ghost use Rattle.std.specs.Prelude.{◌≡◌, ◌<◌, ℕ, OnOk, IfOk};
 ghost use Rattle.sequential_states.specs.Internal.Snapshots.{FitsProgram};
-ghost use Rattle.sequential_states.specs.Internal.Lists.{IsWalk, IsWalkOn, IsAtEnd, GoesOn};
+ghost use Rattle.sequential_states.specs.Internal.Lists.{IsWalk, IsWalkOn, IsThreadAtEnd, WalksOn};
 
 use crate::snapshot::Snapshot;
 use std::alloc::{AllocError, Global};
@@ -24,7 +24,7 @@ impl Walk {
         t: u8,
     ) -> Result<bool, AllocError>
         requires { FitsProgram program.now self.old.state }
-        ensures { IfOk result (GoesOn program.now self.old t self.new) }
+        ensures { IfOk result (WalksOn program.now self.old t self.new) }
     {
         match self.state.after(alloc, program, t)? {
             Some(next) => {
@@ -40,7 +40,7 @@ impl Walk {
     fn end_thread(&mut self, alloc: Global, program: &Program, t: u8) -> Result<(), AllocError>
         requires { IsWalk program.now self.old }
         ensures longer { OnOk result (IsWalkOn program.now self.old self.new) }
-        ensures ended { OnOk result (IsAtEnd program.now self.new.state t) }
+        ensures ended { OnOk result (IsThreadAtEnd program.now self.new.state t) }
     {
         program.recall_facts();
         while self.step(alloc, program, t)? {}
@@ -51,7 +51,7 @@ impl Walk {
     pub(crate) fn end(&mut self, alloc: Global, program: &Program) -> Result<(), AllocError>
         requires { IsWalk program.now self.old }
         ensures longer { OnOk result (IsWalkOn program.now self.old self.new) }
-        ensures ended { OnOk result ((t : ℕ) → IsAtEnd program.now self.new.state t) }
+        ensures ended { OnOk result ((t : ℕ) → IsThreadAtEnd program.now self.new.state t) }
     {
         let threads = program.threads().len() as u8;
         for t in 0..threads {

@@ -2,7 +2,7 @@
 use Rattle.survey_text.proofs.Vocabulary.{◌≡◌, ◌∙◌, ◌+◌, ◌<◌, ◌≤◌, ℕ, List, [], ◌∷◌, ◌++◌, Some, None, All, map, length, get_or, append-nil, refl, sym, subst, ap, arith, Listing, Label, Visit, IsVisit, place_of}
 use Rattle.std.proofs.Common.{Bool, true, false, inl, inr, ap₂, ◌||◌, ◌&&◌, ◌==◌, ◌↔◌}
 use Rattle.std.specs.Prelude.{Contains, is_some, option_and_then, slice_get}
-use Rattle.std.proofs.lemmas.Bool.{and_parts, cases_eq}
+use Rattle.std.proofs.lemmas.Bool.{and_parts, cases_eq, or_right}
 use Rattle.std.proofs.lemmas.Bool.Decides.{nat_tests}
 use Rattle.std.proofs.lemmas.Option.{get_or_from_slice_get, slice_get-get_or}
 use Rattle.std.specs.List.{list_any}
@@ -26,10 +26,6 @@ same_number a b e = grind (arith, nat_tests)
 
 is_itself : (a : ℕ) → (a == a) ≡ true
 is_itself a = grind (arith, nat_tests)
-
-or_right : (a b : Bool) → b ≡ true → (a || b) ≡ true
-or_right true b e = refl
-or_right false b e = e
 
 of_label : (label : Label) (t : ℕ) → is_of label t ≡ true → label ≡ Exec t
 of_label (Exec u) t e = ap Exec (same_number u t e)

@@ -35,9 +35,9 @@ use tso_program::{Outcome, Program, ShownKind};
 #[derive(Drop)]
 pub struct SurveyText {
     pub lines: Vec<u8>,
-    /// The same in a few words, for a table.
+    /// The finding in a few words, for a table.
     pub row: Vec<u8>,
-    /// The same as JSON, with runs that execute the other instructions.
+    /// The finding as JSON, with runs that execute the other instructions.
     pub document: Vec<u8>,
     /// Whether the condition fails sequentially.
     pub fails: bool,

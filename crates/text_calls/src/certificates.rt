@@ -3,11 +3,11 @@
 use crate::input::push_bytes;
 use crate::refusal::TextRefusal;
 use crate::sets::{costs_at, push_gaps};
+use cert_check::{Accepted, CheckFault, check};
 use cert_forest::{Certificate, read_cert};
 use cert_pages::write_cert;
 use gap_sets::TiedCosts;
 use litmus_text::read_litmus;
-use report::{Accepted, CheckFault, check};
 use std::alloc::{AllocError, Global};
 use tso_program::{Program, Shown};
 

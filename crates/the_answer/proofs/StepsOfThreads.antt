@@ -3,8 +3,8 @@ use Rattle.the_answer.proofs.Vocabulary.{◌≡◌, ℕ, zero, suc, ◌<◌, ◌
 use Rattle.the_answer.proofs.Vocabulary.{Machine, SequentialMachine, StoreBufferMachine, no_gaps, State, step, longest, RunsAreBounded}
 use Rattle.std.proofs.Math.Nat.{le-max_left, le-max_right}
 use Rattle.tso_program.specs.{declared.instruction.Instr.Instr, declared.listing.Thread.Thread}
-use Rattle.candidate_executions.proofs.{Candidates.AllEvents.no_code, FromRuns.RunsAreShort.run_bound}
-use Rattle.tso_machine.proofs.{ChangedAt.put_other, EitherMachine.mode_with, EitherMachine.made, EitherMachine.others_keep, EitherMachine.stands_at, EitherMachine.stored, EitherMachine.flush_made}
+use Rattle.tso_program.proofs.Found.{no_code}
+use Rattle.tso_machine.proofs.{RunsAreShort.run_bound, ChangedAt.put_other, EitherMachine.mode_with, EitherMachine.made, EitherMachine.others_keep, EitherMachine.stands_at, EitherMachine.stored, EitherMachine.flush_made}
 
 -- nothing waits in the buffers of threads that the program has not
 abbrev pub NoOtherThread : Listing → State → Type 0
@@ -25,7 +25,7 @@ module _ (p : Listing) where
   standing : (t k : ℕ) (x : Instr) → instr_at p.threads t k ≡ Some x → t < length p.threads
   standing t k x at = elim (cases_lt t (length p.threads)) [
     | inl inside ↦ inside
-    | inr past ↦ absurd (let no : None ≡ Some x = sym (ap (λ (code : List Instr). slice_get code k) (no_code p t past)) ∙ at in cc)
+    | inr past ↦ absurd (let no : None ≡ Some x = sym (ap (λ (code : List Instr). slice_get code k) (no_code p.threads t past)) ∙ at in cc)
   ]
 
   -- and so is one with stores that wait

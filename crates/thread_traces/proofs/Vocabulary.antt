@@ -6,7 +6,7 @@ pub use Rattle.std.proofs.lemmas.List.{append-nil, append_assoc, get_or_past, le
 pub use Rattle.std.proofs.lemmas.List.Elements.{Contains-append_cases, Contains-append_left, Contains-append_right, Contains-get_or, Contains-push, Contains-push_cases}
 pub use Rattle.std.proofs.lemmas.List.Sorted.{Contains-permutation, IsPermutation-remove, IsPermutation-sym}
 pub use Rattle.std.proofs.lemmas.List.Sums.{sum_by-cons, sum_by-take-le, sum_by_more}
-pub use Rattle.std.proofs.lemmas.Option.{get_or_from_slice_get, same_Some, slice_get-get_or, slice_get_past, slice_get_read, slice_get_within, unwrap_or-slice_get}
+pub use Rattle.std.proofs.lemmas.Option.{get_or_from_slice_get, same_Some, slice_get-get_or, slice_get_read, slice_get_within, unwrap_or-slice_get}
 pub use Rattle.std.specs.List.{AllPairs, remove}
 pub use Rattle.std.specs.Option.{is_some, option_map_or}
 pub use Rattle.std.specs.Prelude.{IfNone, OnErr, slice_index, unwrap_or}

@@ -13,9 +13,10 @@ free [] w here o x e = (e, (λ h. refl), (λ h. refl))
 free (y ∷ ys) false false o x e = (e, (λ h. absurd cc), (λ h. absurd cc))
 free ws w here o x e = absurd cc
 
-opened : (b : Bool) (ws : List Pending) (s : State) (f : State → Option State) → (b ≡ true → ws ≡ []) → option_and_then f (past_gap b ws s) ≡ f s
-opened true (w ∷ ws) s f h = absurd (let z : (w ∷ ws) ≡ [] = h refl in cc)
-opened b ws s f h = refl
+-- a gap lets through what has nothing waiting there
+pub past_if_empty : (b : Bool) (ws : List Pending) (s : State) (f : State → Option State) → (b ≡ true → ws ≡ []) → option_and_then f (past_gap b ws s) ≡ f s
+past_if_empty true (w ∷ ws) s f h = absurd (let z : (w ∷ ws) ≡ [] = h refl in cc)
+past_if_empty b ws s f h = refl
 
 emptied : (ws : List Pending) (s : State) → ws ≡ [] → when_empty ws s ≡ Some s
 emptied [] s h = refl
@@ -57,7 +58,7 @@ module _ (s : Cores) (t : ℕ) (h : t < length s.cores) where
       let a : Action = action p.threads t (core_at s.cores t).local in
       let here : Bool = gaps_in p gaps t (core_at s.cores t).local.place in
       let ok = free (core_at s.cores t).buffer (waits a) here (after_buffered a (core_at s.cores t) s.memory) x e in
-      opened here (core_at s.cores t).buffer (state_of s) (λ z. buffered z t a) ok.1 ∙ buffered_is a x w ok.0 ok.2
+      past_if_empty here (core_at s.cores t).buffer (state_of s) (λ z. buffered z t a) ok.1 ∙ buffered_is a x w ok.0 ok.2
 
   kept_buffered : (n : ℕ) (a : Action) (x : Core × List ℕ) → length s.memory ≡ n → IsLocated n a → after_buffered a (core_at s.cores t) s.memory ≡ Some x → AreLocated n (core_at s.cores t).buffer →
       (length x.1 ≡ length s.memory) × AreLocated n x.0.buffer

@@ -13,7 +13,7 @@ use Rattle.tso_program.specs.Fences.{Gaps}
 use Rattle.tso_machine.specs.declared.label.Label.{TheVariants.Exec, TheVariants.Flush}
 use Rattle.tso_machine.specs.declared.label.Pending.{Pending}
 use Rattle.tso_machine.specs.Machine.{Machine, SequentialMachine, StoreBufferMachine, State, put, when_empty, past_gap, buffered, direct, flushed, step}
-use Rattle.tso_machine.proofs.ChangedAt.{put_other}
+use Rattle.tso_machine.proofs.{ChangedAt.put_other, Effects.past_if_empty}
 
 -- the store buffer machine with these gaps fenced, or the sequential machine
 abbrev pub mode_with : Bool → Gaps → Machine
@@ -32,11 +32,6 @@ run_first p mode s z l ls e = ap (option_and_then (λ next. run p mode next ls))
 -- nothing waits, where stores wait at all
 abbrev pub NothingWaits : Bool → List Pending → Type 0
 NothingWaits waits ws = waits ≡ true → ws ≡ []
-
--- a gap lets through what has nothing waiting there
-past_if_empty : (b : Bool) (ws : List Pending) (s : State) (f : State → Option State) → (b ≡ true → ws ≡ []) → option_and_then f (past_gap b ws s) ≡ f s
-past_if_empty true ws s f h = ap (λ z. option_and_then f (past_gap true z s)) (h refl)
-past_if_empty false ws s f h = refl
 
 -- and nothing else
 empty_if_past : (b : Bool) (ws : List Pending) (s z : State) (f : State → Option State) → option_and_then f (past_gap b ws s) ≡ Some z → (b ≡ true → ws ≡ []) × (f s ≡ Some z)

@@ -14,6 +14,8 @@ pub mod ExamplesTold
 -- functions changed at a place, and the steps of the machine by cases
 pub mod ChangedAt
 pub mod StepCases
+-- how long a run is
+pub mod RunsAreShort
 -- held values
 pub mod ThreadsHold
 -- sequential runs and store buffers
@@ -38,6 +40,3 @@ pub mod TrueNames
 pub mod BestAllowed
 pub mod HeadlineIsTheAnswer
 pub mod PartsServed
--- words of the crates below, passed on
-pub use Rattle.tso_program.proofs.Kept
-pub use Rattle.tso_program.proofs.KnownTruths

@@ -3,15 +3,10 @@ use Rattle.tso_machine.proofs.Vocabulary.{◌≡◌, ◌≢◌, ℕ, zero, suc, 
 use Rattle.tso_machine.proofs.Vocabulary.{if◌then◌else◌, option_map_or, cases_lt, nat_tests, slice_get-get_or, SetOfGaps, Thread, Listing, Local, Stop, act, gaps_in, Label, Exec, Flush, Pending, Model, Cause, NoSuchThread, AtEnd, BufferEmpty, FenceWaits}
 use Rattle.tso_machine.proofs.Vocabulary.{Refused, ReplayFault, Machine, State, start, step, run, machine_of_model, code_of, action, gap_count, gap_number, waits, IsFenced, Applies, Stops, EndsEarly, ReplayFaultIs, fault_of}
 use Rattle.std.specs.FinSet as set
-use Rattle.tso_program.specs.declared.instruction.Instr.{Instr, TheVariants.LoadImm, TheVariants.Fence}
+use Rattle.tso_program.specs.declared.instruction.Instr.{Instr, TheVariants.Fence}
 use Rattle.tso_machine.specs.declared.label.Model.TheVariants as models
 use Rattle.tso_machine.specs.declared.replaying.ReplayFault.TheVariants as fault
-use Rattle.tso_machine.proofs.{Runs.no_stores, Refused.run_keeps, Refused.applies_none, Refused.stops_none}
-
--- an instruction does something
-goes : (x : Instr) (s : Local) → act (Some x) s ≡ Stop → ⊥
-goes (LoadImm r v) s e = cc
-goes x s e = cc
+use Rattle.tso_machine.proofs.{FencedActions.never_stops, Runs.no_stores, Refused.run_keeps, Refused.applies_none, Refused.stops_none}
 
 past_end : (threads : List Thread) (t k : ℕ) → length (code_of threads t) ≤ k → gap_number threads t k ≡ None
 past_end threads t k h = let out : nat_lt k (length (code_of threads t)) ≡ false = grind (arith, nat_tests) in by_test (nat_le 1 k) (nat_lt k (length (code_of threads t))) (gap_count (take t threads) + (k - 1)) out
@@ -25,7 +20,7 @@ no_gap : (p : Listing) (gaps : SetOfGaps) (t : ℕ) (s : Local) → action p.thr
 no_gap p gaps t s stop = elim (cases_lt s.place (length (code_of p.threads t))) [
   | inl h ↦
       let x : Instr = get_or (code_of p.threads t) s.place Fence in
-      absurd (goes x s (ap (λ o. act o s) (sym (slice_get-get_or (code_of p.threads t) s.place Fence h)) ∙ stop))
+      absurd (never_stops x s (ap (λ o. act o s) (sym (slice_get-get_or (code_of p.threads t) s.place Fence h)) ∙ stop))
   | inr h ↦ ap (λ o. option_map_or (set.contains gaps) o false) (past_end p.threads t s.place h)
 ]
 

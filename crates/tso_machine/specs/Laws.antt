@@ -1,6 +1,8 @@
 -- What holds of every replay and of every run.
 use Rattle.tso_program.specs.Fences.{Gaps}
-use Rattle.std.specs.Prelude.{◌≡◌, ◌≢◌, ◌↔◌, ℕ, true, false, List, Some, None}
+use Rattle.tso_program.specs.Limits.{JumpForward}
+use Rattle.tso_program.specs.Listings.{code_of}
+use Rattle.std.specs.Prelude.{◌≡◌, ◌≢◌, ◌↔◌, ℕ, ◌+◌, ◌*◌, ◌≤◌, true, false, List, Some, None, length}
 use Rattle.gap_sets.specs.Gaps.{SetOfGaps}
 use Rattle.tso_program.specs.declared.outcome.Outcome.{Outcome}
 use Rattle.tso_program.specs.declared.shown.Shown.TheVariants.{All}
@@ -15,6 +17,11 @@ use Rattle.tso_machine.specs.Modes.{machine_of_model}
 use Rattle.tso_machine.specs.Faults.{Applies, ReplayFaultIs}
 use Rattle.tso_machine.specs.Outcomes.{IsShownRun, AllowsShown}
 use Rattle.tso_program.specs.declared.listing.Listing.{Listing}
+
+-- a thread of at most n instructions has at most 2n labels in a run: each instruction is executed once, and each store is flushed once
+abbrev pub EveryRunIsShort : Type 0
+EveryRunIsShort = (p : Listing) (mode : Machine) (labels : List Label) (o : Outcome) (n : ℕ) → JumpForward p.threads →
+    ((t : ℕ) → length (code_of p.threads t) ≤ n) → IsRun p mode labels o → length labels ≤ length p.threads * (n + n)
 
 -- no fault but out of memory fits a run
 abbrev pub RunsHaveNoFault : Type 0

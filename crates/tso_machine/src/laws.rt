@@ -1,8 +1,13 @@
 //! The laws of the machines: each function's contract is a theorem, and calling it does nothing.
-ghost use Rattle.tso_machine.specs.Laws.{RunsHaveNoFault, CausesStopSteps, TheFirstReplayFaultIsUnique, FencesAreAvoided, AllShownAreTheRuns, AllShownAreTheOutcomes};
+ghost use Rattle.tso_machine.specs.Laws.{EveryRunIsShort, RunsHaveNoFault, CausesStopSteps, TheFirstReplayFaultIsUnique, FencesAreAvoided, AllShownAreTheRuns, AllShownAreTheOutcomes};
 ghost use Rattle.tso_machine.specs.Examples.{StoreBufferingIsTold, RIsTold, N6IsTold, LockedExchangeIsTold};
 ghost use Rattle.tso_machine.specs.FenceLaws.{SequentialRunsAreAllowed, FencedRunsPassNoGapOfTheSet, PassedGapsTellTheFencedRuns, ProgramsJumpForward, TheEmptySetFencesNothing, ARunThatPassesNothingIsSequential, ARunWithNothingPassedIsSequential, AllGapsServe, FencingIsTheMachineWithGaps, FencingKeepsSequentialOutcomes, TheAnswerIsTheOnlyOne, TheHeadlineIsTheAnswer, WhatServesServesEachPart, WhatServesForAllServes, WhatServesServesTheTruth, AnObservedAnswerCostsNoMore, ATruthsAnswerCostsNoMore, AServedTruthIsKept};
 ghost use Rattle.tso_machine.specs.TieLaws.{AnAnswerWithoutTiesCostsNoMore, FencedRunsPassNoName, NamesOfPassedGapsArePassed, NamesServeAsTheirGaps, PassedNamesTellTheFencedRuns, TheAnswerIsTheBestAllowedSet, WithoutTiesAGapIsItsName, WithoutTiesPassedNamesAreGaps};
+
+/// Where no thread has more than n instructions, a run has at most 2n labels for each thread.
+pub fn every_run_is_short()
+    ensures { EveryRunIsShort }
+{}
 
 /// Labels that are a run have no fault but out of memory.
 pub fn runs_have_no_fault()

@@ -23,11 +23,11 @@ pub use label::{Cause, Label, Model, Pending};
 pub use laws::{
     a_run_that_passes_nothing_is_sequential, a_served_truth_is_kept, all_gaps_serve,
     all_shown_are_the_outcomes, an_answer_without_ties_costs_no_more,
-    an_observed_answer_costs_no_more, examples_are_told, fenced_runs_pass_no_gap_of_the_set,
-    fences_are_avoided, fencing_is_the_machine_with_gaps, passed_names_tell_the_fenced_runs,
-    programs_jump_forward, runs_have_no_fault, sequential_runs_are_allowed,
-    the_answer_is_the_best_allowed_set, the_answer_is_the_only_one, the_first_fault_is_unique,
-    the_headline_is_the_answer, what_serves_serves_each_part,
+    an_observed_answer_costs_no_more, every_run_is_short, examples_are_told,
+    fenced_runs_pass_no_gap_of_the_set, fences_are_avoided, fencing_is_the_machine_with_gaps,
+    passed_names_tell_the_fenced_runs, programs_jump_forward, runs_have_no_fault,
+    sequential_runs_are_allowed, the_answer_is_the_best_allowed_set, the_answer_is_the_only_one,
+    the_first_fault_is_unique, the_headline_is_the_answer, what_serves_serves_each_part,
 };
 pub use mode::Mode;
 pub use replaying::{Ended, ReplayFault, replay, replay_shown};

@@ -1,6 +1,6 @@
 -- What is found in a list, and what it means that nothing is.
-use Rattle.tso_program.proofs.Vocabulary.{◌≡◌, ℕ, zero, suc, ◌+◌, ◌<◌, Bool, true, false, List, [], ◌∷◌, length, Option, Some, None, refl, sym, ap, ◌∙◌, arith, not, nat_lt, slice_get, is_some, position, if◌then◌else◌, position_or_len, list_any, enumerate_from}
-use Rattle.tso_program.proofs.Vocabulary.{option_map_or, nat_tests, Instr, Thread, code_of, instr_at, first_found}
+use Rattle.tso_program.proofs.Vocabulary.{◌≡◌, ℕ, zero, suc, ◌+◌, ◌<◌, ◌≤◌, Bool, true, false, List, [], ◌∷◌, length, Option, Some, None, refl, sym, ap, ◌∙◌, arith, not, nat_lt, slice_get, is_some, position, if◌then◌else◌, position_or_len, list_any, enumerate_from}
+use Rattle.tso_program.proofs.Vocabulary.{option_map_or, slice_get_past, nat_tests, Instr, Thread, code_of, instr_at, first_found}
 use Rattle.std.proofs.lemmas.Option.{slice_get_within}
 pub use Rattle.std.proofs.lemmas.Bool.{or_parts as neither}
 
@@ -15,6 +15,10 @@ instr_found threads t k x e = go (slice_get threads t) refl e
 -- a thread with an instruction is one of the program's
 pub thread_there : (threads : List Thread) (t k : ℕ) (x : Instr) → instr_at threads t k ≡ Some x → t < length threads
 thread_there threads t k x e = let (thread, is, at) = instr_found threads t k x e in slice_get_within threads t thread is
+
+-- a thread that is not there has no code
+pub no_code : (threads : List Thread) (t : ℕ) → length threads ≤ t → code_of threads t ≡ []
+no_code threads t h = ap (λ o. option_map_or (λ (x : Thread). x.code) o []) (slice_get_past threads t h)
 
 -- the code of a thread that is there
 pub code_found : (threads : List Thread) (t : ℕ) (thread : Thread) → slice_get threads t ≡ Some thread → code_of threads t ≡ thread.code

@@ -8,7 +8,7 @@ in_front [] ys i h = absurd (omega arith)
 in_front (x ∷ xs) ys zero h = refl
 in_front (x ∷ xs) ys (suc i) h = in_front xs ys i (omega arith)
 
-behind : {X : Type 0} (xs ys : List X) (i : ℕ) → slice_get (xs ++ ys) (length xs + i) ≡ slice_get ys i
+pub behind : {X : Type 0} (xs ys : List X) (i : ℕ) → slice_get (xs ++ ys) (length xs + i) ≡ slice_get ys i
 behind [] ys i = ap (slice_get ys) (let e : 0 + i ≡ i = omega arith in e)
 behind (x ∷ xs) ys i = ap (slice_get (x ∷ (xs ++ ys))) (let e : suc (length xs) + i ≡ suc (length xs + i) = omega arith in e) ∙ behind xs ys i
 

@@ -1,5 +1,5 @@
 -- The events of a candidate can be listed.
-use Rattle.candidate_executions.proofs.Vocabulary.{◌≡◌, ◌≤◌, ℕ, length, ap, suc, zero, ◌<◌, List, [], ◌∷◌, ◌++◌, ◌⊎◌, refl, sym, ◌∙◌, subst, inl, inr, arith, option_map_or, slice_get_past, Listing, Thread, code_of, cases_eq, Event, At}
+use Rattle.candidate_executions.proofs.Vocabulary.{◌≡◌, ℕ, ap, suc, zero, ◌<◌, List, [], ◌∷◌, ◌++◌, ◌⊎◌, refl, sym, ◌∙◌, subst, inl, inr, arith, cases_eq, Event, At}
 use Rattle.candidate_executions.proofs.Orders.AcyclicIsOrdered.{In, Distinct}
 
 -- the events of thread t below i, and of the threads below n
@@ -62,7 +62,3 @@ distinct_all long zero = tt
 distinct_all long (suc n) = distinct_append (of_one n (long n)) (of_all long n) (distinct_one n (long n)) (distinct_all long n)
     (λ e a b. let (i, q, r) = in_one n (long n) e a in let (t, j, s, u, v) = in_all long n e b in
     let z : At n i ≡ At t j = sym q ∙ s in let y : n ≡ t = cc in omega arith)
-
--- a thread that is not there has no code
-pub no_code : (p : Listing) (t : ℕ) → length p.threads ≤ t → code_of p.threads t ≡ []
-no_code p t h = ap (λ o. option_map_or (λ (z : Thread). z.code) o []) (slice_get_past p.threads t h)

@@ -1,7 +1,8 @@
 -- Each location of a candidate has a last write, and a candidate has one outcome.
 use Rattle.candidate_executions.proofs.Vocabulary.{◌≡◌, ◌⊎◌, ℕ, ◌<◌, ◌≤◌, List, [], ◌∷◌, Option, Some, None, slice_get, slice_index, length, refl, sym, ap, ◌∙◌, subst, inl, inr, arith, cases_eq, cases_lt, same_Some, slice_get_within, same_number_lists}
 use Rattle.candidate_executions.proofs.Vocabulary.{Listing, action, start_of, Machine, Access, Event, Initial, At, trace, fenced_gaps, Candidate, trace_of, access, Writes, IsCandidate, EndsWith, OutcomesAreOne}
-use Rattle.candidate_executions.proofs.{Orders.AcyclicIsOrdered.In, Candidates.AllEvents.no_code, Candidates.AllEvents.of_all, Candidates.AllEvents.all_in}
+use Rattle.tso_program.proofs.Found.{no_code}
+use Rattle.candidate_executions.proofs.{Orders.AcyclicIsOrdered.In, Candidates.AllEvents.of_all, Candidates.AllEvents.all_in}
 
 -- a location ends with one value
 pub one_end : (p : Listing) (mode : Machine) (c : Candidate) → IsCandidate p mode c → (l v w : ℕ) → EndsWith p mode c l v → EndsWith p mode c l w → v ≡ w
@@ -95,7 +96,7 @@ module _ (p : Listing) (mode : Machine) (c : Candidate) (l : ℕ) where
         | inl h ↦ found.after (At t i) w (all_in (λ t. length (trace_of p mode c t).accesses) (length p.threads) t i h (slice_get_within (trace_of p mode c t).accesses i a.0 a.1)) a
         | inr h ↦ absurd (
             let none : (trace_of p mode c t).accesses ≡ [] =
-            ap (λ n. (trace (action p.threads t) (fenced_gaps mode t) n 0 (start_of p.threads t) (c.given t)).accesses) (ap length (no_code p t h)) in
+            ap (λ n. (trace (action p.threads t) (fenced_gaps mode t) n 0 (start_of p.threads t) (c.given t)).accesses) (ap length (no_code p.threads t h)) in
             let z : slice_get [] i ≡ Some a.0 = rw none at a.1 in cc)
       ]
 

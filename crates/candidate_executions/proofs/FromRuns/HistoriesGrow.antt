@@ -34,9 +34,6 @@ pub record Fits (init : ℕ → ℕ) (h : History) (t : ℕ) (e : Entry) : Type 
       d.access.location ≡ e.access.location → Visible u j d.moment t (length (h t)) e.exec → d.moment ≤ e.seen
   pub apart : (u j : ℕ) (d : Entry) → Holds h u j d → d.moment ≢ e.moment
 
-abbrev New : History → ℕ → Entry → ℕ → ℕ → Entry → Type 0
-New h t e u j d = (u ≡ t) × (j ≡ length (h t)) × (d ≡ e)
-
 -- what holds of the new entry and of each old one, holds of each
 pub each_held : (h : History) (t : ℕ) (e : Entry) (P : ℕ → ℕ → Entry → Type 0) → ((u j : ℕ) (d : Entry) → Holds h u j d → P u j d) → P t (length (h t)) e →
     (u j : ℕ) (d : Entry) → Holds (with_entry h t e) u j d → P u j d

@@ -2,11 +2,10 @@
 use Rattle.candidate_executions.proofs.Vocabulary.{◌≡◌, ℕ, ◌<◌, ◌≤◌, Bool, List, [], Option, Some, None, slice_index, length, map, refl, sym, ap, ◌∙◌, subst, inl, inr, arith, range_with_len, get_or-map-range_with_len, length-map-range_with_len, same_Some}
 use Rattle.candidate_executions.proofs.Vocabulary.{slice_get-get_or, slice_get_past, cases_lt, Listing, Outcome, number, action, start_of, code_of, JumpForward, Machine, Access, Event, Initial, Trace, trace, trace_by, fenced_gaps, option_and_then, slice_get}
 use Rattle.candidate_executions.proofs.Vocabulary.{Candidate, access, access_by, Writes, IsCandidate, EndsWith, HasOutcome, HasShownOutcome, EachCompletionEndsSo}
-use Rattle.tso_machine.specs.{ShownValue.Shown, ShownValue.TheVariants.Truth, Atom.Atom, Truth.is_true_at, Truth.is_value}
-use Rattle.tso_machine.specs.Shown.{shown_value, show_registers, show_memory, shown_values, show, told}
-use Rattle.tso_machine.specs.Question.{Question}
-use Rattle.tso_machine.specs.Atom.TheVariants as atom
-use Rattle.tso_machine.proofs.{KnownTruths.known_is_true, Kept.memory_by}
+use Rattle.tso_program.specs.{declared.shown.Shown.Shown, declared.shown.Shown.TheVariants.Truth, declared.atom.Atom.Atom, Truth.is_true_at, Truth.is_value}
+use Rattle.tso_program.specs.{Shown.shown_value, Shown.show_registers, Shown.show_memory, Shown.shown_values, Shown.show, Shown.told, declared.question.Question.Question}
+use Rattle.tso_program.specs.declared.atom.Atom.TheVariants as atom
+use Rattle.tso_program.proofs.{KnownTruths.known_is_true, Kept.memory_by}
 use Rattle.candidate_executions.specs.Sketches.{Sketch, given_to, Completes, IsSketch, MayBeLast, stopped, MayEndWith, EndsInValues, KnownAtom, EndsAs, IsWhole, MustEndAs, next_read}
 use Rattle.candidate_executions.proofs.{Sketches.Choices.all_given, Sketches.Choices.given_whole, Sketches.Choices.keeps_writes, Candidates.LastWrites.ends_with}
 use Rattle.candidate_executions.proofs.Candidates.EdgesAreDecidable.{same_event}

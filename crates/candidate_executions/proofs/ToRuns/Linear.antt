@@ -1,9 +1,10 @@
 -- An order of a candidate's accesses.
 use Rattle.candidate_executions.proofs.Vocabulary.{◌≡◌, ◌≢◌, ℕ, suc, zero, ◌<◌, ◌≤◌, List, [], ◌∷◌, Option, Some, Contains, slice_get, length, refl, sym, ap, subst, inl, inr, arith, AllPairs, cases_lt, slice_get_within, Listing, action, start_of, Machine}
 use Rattle.candidate_executions.proofs.Vocabulary.{Access, Event, Initial, At, Kind, trace, fenced_gaps, Candidate, trace_of, access, Edge, IsAcyclic, followed_union, IsOrder}
+use Rattle.tso_program.proofs.Found.{no_code}
 use Rattle.candidate_executions.proofs.Orders.AcyclicIsOrdered.{In, Distinct, Ordered, Listed, listed}
 use Rattle.candidate_executions.proofs.Orders.Lists.{get_some}
-use Rattle.candidate_executions.proofs.Candidates.AllEvents.{of_all, all_in, in_all, distinct_all, no_code}
+use Rattle.candidate_executions.proofs.Candidates.AllEvents.{of_all, all_in, in_all, distinct_all}
 use Rattle.candidate_executions.proofs.Candidates.EdgesAreDecidable.{edge}
 
 -- all accesses, each once, and no edge leads back
@@ -57,7 +58,7 @@ module _ (p : Listing) (mode : Machine) (c : Candidate) where
   events = of_all (λ t. length (acc t)) (length p.threads)
 
   no_accesses : (t : ℕ) → length p.threads ≤ t → acc t ≡ []
-  no_accesses t h = ap (λ n. (trace (action p.threads t) (fenced_gaps mode t) n 0 (start_of p.threads t) (c.given t)).accesses) (ap length (no_code p t h))
+  no_accesses t h = ap (λ n. (trace (action p.threads t) (fenced_gaps mode t) n 0 (start_of p.threads t) (c.given t)).accesses) (ap length (no_code p.threads t h))
 
   listed_linear : (R : Event → Event → Type 0) (list : Listed R events) → IsLinear (access p mode c) R list.list
   listed_linear R list = record {

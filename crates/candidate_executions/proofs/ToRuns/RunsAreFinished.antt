@@ -3,11 +3,12 @@ use Rattle.candidate_executions.proofs.Vocabulary.{◌≡◌, ℕ, suc, zero, �
 use Rattle.candidate_executions.proofs.Vocabulary.{Stop, Go, Wait, Read, Write, Swap, action, start_of, code_of, Gaps, Machine, put, StoreBufferMachine, State, when_empty, step, Label, Exec, Event, Initial, At, Candidate, IsCandidate, EndsWith, Trace, trace}
 use Rattle.candidate_executions.proofs.Vocabulary.{traced, entered, Edge, IsAcyclic, Origins, buffered_origins, buffered_marks, origins_after, marks_at, slice_get_within, get_or_from_slice_get, Steps, steps, steps_by, counted, execs, flushes, to_ends}
 use Rattle.candidate_executions.proofs.Vocabulary.{labels_along}
+use Rattle.tso_program.proofs.Found.{no_code}
 use Rattle.candidate_executions.specs.declared.event.Kind.TheVariants as union
 use Rattle.candidate_executions.proofs.{Orders.Lists.put_same, Orders.Lists.put_other, Orders.Lists.get_some, FromRuns.MachineSteps.exec_ok}
 use Rattle.candidate_executions.proofs.{ToRuns.StepsCounted.all_above, ToRuns.StepsCounted.same_length, ToRuns.Standing.at, ToRuns.Standing.acc, ToRuns.Standing.store, ToRuns.Standing.steps_from}
 use Rattle.candidate_executions.proofs.ToRuns.StandingOn.{mode, final, Stand}
-use Rattle.candidate_executions.proofs.{ToRuns.EventsAreReached.Goal, ToRuns.EventsAreReached.first_step, ToRuns.EventsAreReached.Sim, ToRuns.EventsAreReached.reach, Candidates.AllEvents.no_code}
+use Rattle.candidate_executions.proofs.{ToRuns.EventsAreReached.Goal, ToRuns.EventsAreReached.first_step, ToRuns.EventsAreReached.Sim, ToRuns.EventsAreReached.reach}
 
 module _ (p : Listing) (gaps : Gaps) (c : Candidate) (is : IsCandidate p (StoreBufferMachine gaps) c) (loc : IsAcyclic (Edge p (StoreBufferMachine gaps) c union.Location)) where
   -- only instructions that touch no memory are left
@@ -96,7 +97,7 @@ module _ (p : Listing) (gaps : Gaps) (c : Candidate) (is : IsCandidate p (StoreB
   pub still : (t k n : ℕ) (local : Local) (g : List ℕ) → length p.threads ≤ t → trace (action p.threads t) (gaps t) k n local g ≡ nothing t → local ≡ final p gaps c is loc t
   still t zero n local g h e = ap (λ (z : Trace). z.last) e
   still t (suc k) n local g h e =
-      let q : action p.threads t local ≡ Stop = ap (λ x. act (slice_get x local.place) local) (no_code p t h) in
+      let q : action p.threads t local ≡ Stop = ap (λ x. act (slice_get x local.place) local) (no_code p.threads t h) in
       ap (λ (z : Trace). z.last) (sym (ap (λ a. traced (trace (action p.threads t) (gaps t) k) (entered (gaps t local.place) n) local a g) q) ∙ e)
 
   -- thread t has no access to come

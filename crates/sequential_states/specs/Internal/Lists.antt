@@ -90,17 +90,18 @@ pub record IsLonger (p : Listing) (walk : Walk) (t : ℕ) (after : Walk) : Type 
   pub leads : step p SequentialMachine (state_of walk.state) (Exec t) ≡ Some (state_of after.state)
   pub fits : FitsProgram p after.state
 
-abbrev pub GoesOn : Listing → Walk → ℕ → Walk → Bool → Type 0
-GoesOn p walk t after true = IsLonger p walk t after
-GoesOn p walk t after false = (after ≡ walk) × HasNoStep p walk.state t
+-- the walk goes on by a step of thread t, or the thread has none
+abbrev pub WalksOn : Listing → Walk → ℕ → Walk → Bool → Type 0
+WalksOn p walk t after true = IsLonger p walk t after
+WalksOn p walk t after false = (after ≡ walk) × HasNoStep p walk.state t
 
--- thread t is at its end
-abbrev pub IsAtEnd : Listing → Shot → ℕ → Type 0
-IsAtEnd p s t = action p.threads t ((state_of s).locals t) ≡ Stop
+-- thread t is at its end, where nothing follows
+abbrev pub IsThreadAtEnd : Listing → Shot → ℕ → Type 0
+IsThreadAtEnd p s t = action p.threads t ((state_of s).locals t) ≡ Stop
 
 -- the walk with more labels; the threads that were at their ends still are
 pub record IsWalkOn (p : Listing) (walk after : Walk) : Type 0 where
   pub more : List Label
   pub labels : after.labels ≡ walk.labels ++ more
   pub walked : IsWalk p after
-  pub ended : (t : ℕ) → IsAtEnd p walk.state t → IsAtEnd p after.state t
+  pub ended : (t : ℕ) → IsThreadAtEnd p walk.state t → IsThreadAtEnd p after.state t

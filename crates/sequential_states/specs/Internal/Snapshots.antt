@@ -21,11 +21,12 @@ no_local = record { place = 0; registers = []; flag = false }
 abbrev pub state_of : Shot → State
 state_of s = record { locals = λ t. slice_index_or s.locals t no_local; buffers = λ t. []; memory = slice_index s.memory }
 
-abbrev pub first_local : Thread → Local
-first_local thread = record { place = 0; registers = thread.registers; flag = false }
+-- a thread's own state at its start
+abbrev pub thread_start : Thread → Local
+thread_start thread = record { place = 0; registers = thread.registers; flag = false }
 
 abbrev pub first_shot : Listing → Shot
-first_shot p = record { locals = map first_local p.threads; memory = p.memory }
+first_shot p = record { locals = map thread_start p.threads; memory = p.memory }
 
 -- the state has the program's threads and locations
 pub record FitsProgram (p : Listing) (s : Shot) : Type 0 where

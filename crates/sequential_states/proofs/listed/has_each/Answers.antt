@@ -1,5 +1,5 @@
 use Rattle.sequential_states.proofs.Vocabulary.{ap, inl, inr, length, sym, subst, arith, cases_eq, cases_lt, code_of, HasFirst}
-use Rattle.sequential_states.proofs.EachFound.{no_code}
+use Rattle.tso_program.proofs.Found.{no_code}
 use Rattle.sequential_states.proofs.listed.has_each.Goals as goal
 
 pub loop-t-preserved : goal.loop-t-preserved

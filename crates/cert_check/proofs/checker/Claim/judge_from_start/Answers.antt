@@ -1,6 +1,6 @@
 use Rattle.cert_check.proofs.Vocabulary.{[], subst, OnOk, IfErr, asked, asked_with, empty_sketch, IsValidCoverBy, FirstWrongCover, IfWrong, on_ok, if_err, if_wrong}
 use Rattle.tso_machine.specs.Modes.{machine_of_mode}
-use Rattle.program_sketches.specs.ProgramSketches.{ProgramSketch, mode_in}
+use Rattle.cover_judge.specs.ProgramSketches.{ProgramSketch, mode_in}
 use Rattle.tree_laws.proofs.TiesApart.{ties_change_no_cover}
 use Rattle.cert_check.proofs.TiesApart.{same_wrong}
 use Rattle.cert_check.proofs.checker.Claim.judge_from_start.Goals as goal

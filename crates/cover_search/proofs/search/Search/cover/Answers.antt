@@ -1,5 +1,5 @@
 use Rattle.cover_search.proofs.Vocabulary.{refl, sym, ◌∙◌, subst, [], ◌++◌, ap, asked, machine_of_mode, IsWholeCover, spell, is_tree, List, Node, ProgramSketch, IsCoverAt, nothing_chosen}
-use Rattle.cert_forest.proofs.NodeLaws.{same_tree}
+use Rattle.cert_trees.proofs.NodeLaws.{same_tree}
 use Rattle.cover_search.proofs.Nodes.{cover_first}
 use Rattle.cover_search.proofs.search.Search.cover.Goals as goal
 

@@ -1,4 +1,4 @@
-use Rattle.cert_forest.specs.Rule.TheVariants.{Early}
+use Rattle.cert_trees.specs.declared.rule.Rule.TheVariants.{Early}
 use Rattle.cover_solver.specs.Sought.{question_of, machine_of}
 use Rattle.cover_solver.proofs.NoOthers.{no_others}
 use Rattle.cover_solver.proofs.proposed.Sought.are_all.Goals as goal

@@ -1,4 +1,4 @@
-use Rattle.sequential_states.proofs.Vocabulary.{ap, length, arith, inl, inr, subst, sym, cases_eq, cases_lt, IsAtEnd}
+use Rattle.sequential_states.proofs.Vocabulary.{ap, length, arith, inl, inr, subst, sym, cases_eq, cases_lt, IsThreadAtEnd}
 use Rattle.sequential_states.proofs.Steps.{past_end}
 use Rattle.sequential_states.proofs.Ending.{no_further, both_further}
 use Rattle.sequential_states.proofs.walk.Walk.end.Goals as goal
@@ -13,7 +13,7 @@ pub loop-t-preserved : goal.loop-t-preserved
 loop-t-preserved c = record {
   longer = both_further c.args.program.now c.args.self.now c.loop-t.self c.end_thread.new.self c.loop-t.invariant.longer c.in_ok-end_thread.ensures.longer;
   ended = λ u h. elim (cases_eq u c.loop-t.t) [
-    | inl q ↦ subst (IsAtEnd c.args.program.now c.end_thread.new.self.state) (sym q) c.in_ok-end_thread.ensures.ended
+    | inl q ↦ subst (IsThreadAtEnd c.args.program.now c.end_thread.new.self.state) (sym q) c.in_ok-end_thread.ensures.ended
     | inr n ↦ c.in_ok-end_thread.ensures.longer.ended u (c.loop-t.invariant.ended u (omega arith))
   ];
 }

@@ -1,7 +1,8 @@
-use Rattle.cover_judge.proofs.Vocabulary.{take, flat_map}
+use Rattle.std.specs.Prelude.{take}
+use Rattle.std.specs.List.{flat_map}
 use Rattle.std.specs.Fmt.{HasWritten, IsPlainFormatter}
-use Rattle.cover_judge.specs.Paths.{child_text}
-use Rattle.cover_judge.proofs.path.PathDisplay.fmt.Given as goal
+use Rattle.cert_forest.specs.Paths.{child_text}
+use Rattle.cert_forest.proofs.path.PathDisplay.fmt.Given as goal
 
 -- the children so far are written
 abbrev pub invariant-loop-number : goal.invariant-loop-number

@@ -1,8 +1,8 @@
 //! What is chosen of a candidate execution, by the numbers of its accesses.
 
-/// A choice.
+/// A choice, by the numbers of accesses.
 #[derive(Clone, Copy)]
-pub enum Choice {
+pub enum GraphChoice {
     /// The next read of a thread has a value.
     Value { thread: u8, value: u32 },
     /// A read has a write as its source, or the initial one of its location.

@@ -1,4 +1,4 @@
-//! The hunt for a best set of gaps that serves.
+//! Known foreign runs, and the search for a best set of gaps that serves by them.
 use candidate_search::{Proposal, ProposingSearch};
 use cert_forest::{Node, Rule, Runs};
 use gap_sets::{GapSet, MAX_GAPS, TiedCosts};
@@ -8,12 +8,12 @@ use std::thread::Threads;
 use tso_machine::{Label, Model, ReplayFault, replay_shown};
 use tso_program::{Outcome, Program, Shown};
 
-/// More questions than any machine asks: memory ends a hunt before.
+/// More questions than any machine asks: memory ends the search before.
 const MOST_QUESTIONS: u64 = 1 << 56;
 
 /// Foreign runs that are known, and the names of the ties of which each passes a gap. A set is one of names.
 #[derive(Drop)]
-pub(crate) struct Hunt<'a> {
+pub(crate) struct ForeignRuns<'a> {
     pub(crate) alloc: Global,
     /// The rule of the certificate's trees.
     pub(crate) rule: Rule,
@@ -31,7 +31,7 @@ pub(crate) struct ServedSet {
     pub(crate) nodes: Vec<Node>,
 }
 
-impl Hunt<'_> {
+impl ForeignRuns<'_> {
     /// Asks about the best set that meets each known run, until one serves. `None` if the search gives up.
     pub(crate) fn served<R: Threads + Sync>(
         &mut self,

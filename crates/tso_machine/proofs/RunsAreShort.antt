@@ -1,10 +1,11 @@
 -- Jumps lead forward, so a run has at most two labels for each instruction: one that executes it, and a flush.
-use Rattle.candidate_executions.proofs.Vocabulary.{exec_by, flush_by, length-append, ◌≡◌, ℕ, suc, zero, ◌+◌, ◌*◌, ◌-◌, ◌<◌, ◌≤◌, List, [], ◌∷◌, ◌++◌, Option, Some, None, option_and_then, refl, sym, ap, ◌∙◌, subst, inl, inr, arith, length, cases_eq, cases_lt}
-use Rattle.candidate_executions.proofs.Vocabulary.{same_Some, Listing, Local, Action, Stop, Go, Wait, Read, Write, Swap, loaded, action, code_of, JumpForward, Machine, SequentialMachine, StoreBufferMachine, State, put, direct, step, run, start, Label, Exec}
-use Rattle.candidate_executions.proofs.Vocabulary.{Flush, Pending, EveryRunIsShort}
-use Rattle.candidate_executions.proofs.Orders.Lists.{put_same, put_other}
-use Rattle.tso_program.proofs.Advance.{Further, Advances, advance}
-use Rattle.candidate_executions.proofs.Candidates.AllEvents.{no_code}
+use Rattle.tso_machine.proofs.Vocabulary.{◌≡◌, ℕ, suc, zero, ◌+◌, ◌-◌, ◌<◌, ◌≤◌, List, [], ◌∷◌, ◌++◌, Option, Some, None, option_and_then, refl, sym, ap, ◌∙◌, subst, inl, inr, arith, length, cases_eq, cases_lt, same_Some}
+use Rattle.tso_machine.proofs.Vocabulary.{Listing, Local, Action, Stop, Go, Wait, Read, Write, Swap, loaded, action, code_of, Machine, SequentialMachine, StoreBufferMachine, State, put, direct, step, run, start, Label, Exec, Flush, Pending}
+use Rattle.std.proofs.Common.{◌*◌, length-append}
+use Rattle.tso_program.specs.Limits.{JumpForward}
+use Rattle.tso_program.proofs.{Advance.Further, Advance.Advances, Advance.advance, Found.no_code}
+use Rattle.tso_machine.specs.Laws.{EveryRunIsShort}
+use Rattle.tso_machine.proofs.{Link.put_same, Link.put_other, StepCases.exec_by, StepCases.flush_by}
 
 -- the sum of what each of the first n threads has
 total : (ℕ → ℕ) → ℕ → ℕ
@@ -45,7 +46,7 @@ module _ (p : Listing) (forward : JumpForward p.threads) where
   Less s s' = (total (room s') (length p.threads) < total (room s) (length p.threads)) × Past s'
 
   there : (t i : ℕ) → i < len t → t < length p.threads
-  there t i h = elim (cases_lt t (length p.threads)) [ inl l ↦ l | inr g ↦ absurd (let none = ap length (no_code p t g) in omega arith) ]
+  there t i h = elim (cases_lt t (length p.threads)) [ inl l ↦ l | inr g ↦ absurd (let none = ap length (no_code p.threads t g) in omega arith) ]
 
   moved : (s : State) (t : ℕ) (next : Local) (buffers : ℕ → List Pending) (memory : ℕ → ℕ) → Past s → Further (len t) (s.locals t).place next →
       ((u : ℕ) → (u ≡ t → ⊥) → buffers u ≡ s.buffers u) → length (buffers t) ≤ suc (length (s.buffers t)) →

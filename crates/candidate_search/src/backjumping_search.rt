@@ -7,8 +7,8 @@ use crate::searched::Searched;
 use candidate_executions::Kind;
 use run_maker::MadeRun;
 use search_state::{
-    AccessId, Choice, ConflictSet, Conflicts, Decision, EventGraph, FoundOutcomes, KnownEnds,
-    KnownOutcomes, Mark, Node, Rule, Trail, choices_of, is_in, known_truth, next_decision,
+    AccessId, ConflictSet, Conflicts, Decision, EventGraph, GraphChoice, KnownEnds, KnownOutcomes,
+    Mark, Node, NumberedOutcomes, Rule, Trail, choices_of, is_in, known_truth, next_decision,
     push_cycle, push_known, reached_from, read_of_nobody, round_through, take_out,
 };
 use std::alloc::AllocError;
@@ -21,7 +21,7 @@ const MOST_CHOICES: usize = 590;
 /// A node of the tree whose children are searched.
 #[derive(Drop)]
 pub(crate) struct Frame {
-    pub(crate) choices: Vec<Choice>,
+    pub(crate) choices: Vec<GraphChoice>,
     /// How many choices are taken.
     pub(crate) taken: usize,
     /// The place of its node.
@@ -58,7 +58,7 @@ pub(crate) enum Found {
 /// A search on its way: a graph with the choices that are made, the outcomes that are known, and the nodes of the tree so
 /// far.
 #[derive(Drop)]
-pub(crate) struct TreeSearch<'a> {
+pub(crate) struct BackjumpingSearch<'a> {
     pub(crate) asked: &'a ProposingSearch<'a>,
     graph: EventGraph,
     trail: Trail,
@@ -74,16 +74,16 @@ pub(crate) struct TreeSearch<'a> {
     above: usize,
 }
 
-impl<'a> TreeSearch<'a> {
+impl<'a> BackjumpingSearch<'a> {
     /// A search in which nothing is chosen.
     pub(crate) fn new(
         asked: &'a ProposingSearch<'a>,
         mode: Mode,
         outcomes: KnownOutcomes<'a>,
-    ) -> Result<TreeSearch<'a>, AllocError> {
+    ) -> Result<BackjumpingSearch<'a>, AllocError> {
         let alloc = asked.alloc;
         let graph = EventGraph::new(alloc, asked.program, mode)?;
-        Ok(TreeSearch {
+        Ok(BackjumpingSearch {
             asked,
             trail: Trail::new(&graph),
             graph,
@@ -140,7 +140,7 @@ impl<'a> TreeSearch<'a> {
 
     /// What the search has found, now that it has ended.
     pub(crate) fn ended(self, end: SearchEnd) -> Searched {
-        let TreeSearch {
+        let BackjumpingSearch {
             asked,
             outcomes,
             nodes,
@@ -148,7 +148,7 @@ impl<'a> TreeSearch<'a> {
         } = self;
         let found = match outcomes {
             KnownOutcomes::Open(found) => found,
-            KnownOutcomes::Closed(_) => FoundOutcomes::none(asked.alloc),
+            KnownOutcomes::Closed(_) => NumberedOutcomes::none(asked.alloc),
         };
         Searched { end, found, nodes }
     }
@@ -225,17 +225,17 @@ impl<'a> TreeSearch<'a> {
     }
 
     /// Makes a choice and sees what is there.
-    fn visit_after(&mut self, depth: u16, choice: Choice) -> Result<Found, AllocError> {
+    fn visit_after(&mut self, depth: u16, choice: GraphChoice) -> Result<Found, AllocError> {
         self.graph.choose(choice);
         self.trail.put(depth, &self.graph, choice);
         match choice {
-            Choice::Value { .. } => {
+            GraphChoice::Value { .. } => {
                 if let Some(read) = self.lost_read() {
                     return self.open_node(Decision::Source(read));
                 }
                 self.find_ends()?;
             }
-            Choice::Source { read: at, .. } | Choice::Order { second: at, .. } => {
+            GraphChoice::Source { read: at, .. } | GraphChoice::Order { second: at, .. } => {
                 if self.graph.rows.has_round() {
                     return self.cycle(at);
                 }
@@ -283,13 +283,8 @@ impl<'a> TreeSearch<'a> {
         if self.frames.len() >= MOST_CHOICES {
             return Ok(Found::Ended(SearchEnd::Stuck));
         }
-        let thread = match decision {
-            Decision::Value(t) => t,
-            _ => 0,
-        };
-        let mark = self.graph.mark(thread);
-        self.marks.push(mark)?;
         let branches = self.branches_of(decision);
+        self.push_mark(decision)?;
         self.frames.push(Frame {
             choices,
             taken: 0,
@@ -299,6 +294,21 @@ impl<'a> TreeSearch<'a> {
             conflicts,
         })?;
         Ok(Found::Node)
+    }
+
+    /// Marks the graph at the node of a decision.
+    fn push_mark(&mut self, decision: Decision) -> Result<(), AllocError> {
+        let thread = match decision {
+            Decision::Value(t) => t,
+            _ => 0,
+        };
+        self.marks.push(self.graph.mark(thread))?;
+        Ok(())
+    }
+
+    /// The last node, and how many children it has. `None` if there is none whose children are searched.
+    pub(crate) fn last_node(&self) -> Option<(Node, usize)> {
+        Some((*self.nodes.last()?, self.frames.last()?.choices.len()))
     }
 
     /// The node of a decision with so many choices.
@@ -367,26 +377,35 @@ impl<'a> TreeSearch<'a> {
         }))
     }
 
-    /// Of a complete graph whose outcome is new: an open list takes it, and the graph has its leaf.
+    /// What is found in a complete graph whose outcome is new.
     fn new_end(&mut self) -> Result<Found, AllocError> {
-        let Some(run) = shown_run(self.asked.alloc, &self.graph, self.asked.shown)? else {
-            return Ok(Found::Ended(SearchEnd::Stuck));
-        };
+        match shown_run(self.asked.alloc, &self.graph, self.asked.shown)? {
+            Some(run) => self.take(run),
+            None => Ok(Found::Ended(SearchEnd::Stuck)),
+        }
+    }
+
+    /// Of the run of a complete graph whose outcome is new: an open list takes it, and the graph has its leaf.
+    fn take(&mut self, run: MadeRun) -> Result<Found, AllocError> {
         let KnownOutcomes::Open(found) = &mut self.outcomes else {
             return Ok(Found::Ended(SearchEnd::New(run)));
         };
-        let number = found.add(run.outcome, &run.labels)?;
-        if let Some(outcome) = found.outcomes.last() {
-            self.ends
-                .add(&self.graph, self.asked.shown, number, outcome)?;
-        }
+        let number = found.next_number();
+        self.ends
+            .add(&self.graph, self.asked.shown, number, &run.outcome)?;
+        found.add(run.outcome, &run.labels)?;
         push_known(&mut self.nodes, u64::from(number))?;
+        Ok(Found::Tree(self.new_conflicts()))
+    }
+
+    /// What the leaf of a new outcome rests on.
+    fn new_conflicts(&self) -> ConflictSet {
         let followed = self.graph.rows.followed;
-        Ok(Found::Tree(match (self.asked.shown, self.ends.must_end(followed)) {
+        match (self.asked.shown, self.ends.must_end(followed)) {
             (Shown::Truth(_), _) => self.conflicts().of_end(followed),
             (_, Some(end)) => self.conflicts().of_end(end.others),
             (_, None) => ConflictSet::all(),
-        }))
+        }
     }
 
     /// Once each read has its value, the known outcomes as which the graph may end.
@@ -409,12 +428,16 @@ impl<'a> TreeSearch<'a> {
     fn cycle(&mut self, at: u8) -> Result<Found, AllocError> {
         let kind = self.union_around(at);
         let round = round_through(self.asked.alloc, self.graph.rows.of_union(kind), at)?;
+        self.push_round(kind, &round)?;
+        Ok(Found::Tree(self.conflicts().of_cycle(kind, &round)))
+    }
+
+    fn push_round(&mut self, kind: Kind, round: &[u8]) -> Result<(), AllocError> {
         let mut accesses = Vec::with_capacity(self.asked.alloc, round.len())?;
-        for number in &round {
+        for number in round {
             accesses.push(self.access_id(*number))?;
         }
-        push_cycle(&mut self.nodes, kind, &accesses)?;
-        Ok(Found::Tree(self.conflicts().of_cycle(kind, &round)))
+        push_cycle(&mut self.nodes, kind, &accesses)
     }
 
     /// The union that has a cycle through an access.

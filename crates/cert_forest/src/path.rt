@@ -1,6 +1,6 @@
 //! Places of nodes in trees.
 ghost use Rattle.std.specs.Prelude.{◌≡◌, ◌∷◌, [], IfOk, Some};
-ghost use Rattle.cover_judge.specs.Paths.{path_text};
+ghost use Rattle.cert_forest.specs.Paths.{path_text};
 
 use std::alloc::{AllocError, Global};
 use std::fmt;
