@@ -13,9 +13,9 @@ pub gaps_of-zero : gaps_of_bits 0 ≡ set.empty
 gaps_of-zero =
     same_gaps _ _ (λ q. contains-gaps_of 0 q (omega arith) ∙ (let none : bit_at 0 q ≡ 0 = bit_at-zero q in rw none refl) ∙ sym (set.contains-empty nat_cmp q))
 
--- the order of numbers ties equal numbers alone
-ties : (q g : ℕ) → eq_by_cmp nat_cmp q g ≡ (q == g)
-ties q g = grind (arith, nat_tests)
+-- the order of numbers holds equal numbers alone for the same
+pub is_same : (q g : ℕ) → eq_by_cmp nat_cmp q g ≡ (q == g)
+is_same q g = grind (arith, nat_tests)
 
 -- the bits after one is set
 set_bit : (bits g q : ℕ) → g < MAX_GAPS → has_bit (bit_or bits (1 * 2 ^ g % 2 ^ MAX_GAPS)) q ≡ ((q == g) || has_bit bits q)
@@ -30,7 +30,7 @@ pub gaps_of-insert : (bits g : ℕ) → bits < 2 ^ MAX_GAPS → g < MAX_GAPS →
 gaps_of-insert bits g h below fits =
     same_gaps _ _ (λ q.
     contains-gaps_of _ q fits ∙ set_bit bits g q below
-    ∙ sym (set.contains-insert nat_cmp_total (gaps_of_bits bits) g q ∙ (λ i. ties q g i || contains-gaps_of bits q h i)))
+    ∙ sym (set.contains-insert nat_cmp_total (gaps_of_bits bits) g q ∙ (λ i. is_same q g i || contains-gaps_of bits q h i)))
 
 -- the bits after one is cleared
 clear_bit : (bits g q : ℕ) → bits < 2 ^ MAX_GAPS → g < MAX_GAPS → has_bit (bit_and bits (bit_not w128 (1 * 2 ^ g % 2 ^ MAX_GAPS))) q ≡ (not (q == g) && has_bit bits q)
@@ -52,7 +52,7 @@ pub gaps_of-remove : (bits g : ℕ) → bits < 2 ^ MAX_GAPS → g < MAX_GAPS →
 gaps_of-remove bits g h below =
     same_gaps _ _ (λ q.
     contains-gaps_of _ q (omega (arith, and_le_l bits (bit_not w128 (1 * 2 ^ g % 2 ^ MAX_GAPS)))) ∙ clear_bit bits g q h below
-    ∙ sym (set.contains-remove nat_cmp_total (gaps_of_bits bits) g q ∙ (λ i. not (ties q g i) && contains-gaps_of bits q h i)))
+    ∙ sym (set.contains-remove nat_cmp_total (gaps_of_bits bits) g q ∙ (λ i. not (is_same q g i) && contains-gaps_of bits q h i)))
 
 -- what a value of the model contains, from the word that it was opened to
 pub contains-word : (bits q : ℕ) (s : set.FinSet nat_cmp) → gaps_of_bits bits ≡ s → bits < 2 ^ MAX_GAPS → set.contains s q ≡ has_bit bits q
