@@ -1,5 +1,5 @@
--- The gaps of both of two sets, and the cheapest gap of one.
-use Rattle.cert_check.proofs.Vocabulary.{◌≡◌, ◌↔◌, ◌⊎◌, ℕ, Bool, true, false, ◌||◌, List, [], ◌∷◌, Some, None, Contains, refl, sym, ap, ◌∙◌, subst, inl, inr, eq_by_cmp, nat_cmp, nat_cmp_total, SetOfGaps, IsGapSet, numbers_of_set, listed, unlisted}
+-- The cheapest gap of a set, and the gaps of one run more.
+use Rattle.cert_check.proofs.Vocabulary.{◌≡◌, ◌↔◌, ◌⊎◌, ℕ, Bool, true, false, ◌||◌, List, [], ◌∷◌, Some, None, Contains, refl, sym, ap, ◌∙◌, subst, inl, inr, nat_cmp_total, SetOfGaps, IsGapSet, numbers_of_set, listed, unlisted}
 use Rattle.std.specs.FinSet as set
 use Rattle.std.specs.Prelude.{Option, MatchOption}
 use Rattle.tree_laws.specs.Packings.{IsCheapestOf}
@@ -7,39 +7,6 @@ use Rattle.tree_laws.proofs.Lists.{none_here, first_or_later, first_is_here, lat
 use Rattle.tree_laws.proofs.CheapestGaps.{first_alone, or_first, or_later}
 use Rattle.cert_check.specs.declared.packing.Packing.{Packing}
 use Rattle.cert_check.specs.Internal.Packed.{IsCheaperOf, IsPackedWith}
-
--- ---- the gaps of both sets
-
-module _ (first second : SetOfGaps) where
-  -- the gaps so far and those to come are all
-  abbrev pub AreJoined : SetOfGaps → List ℕ → Type 0
-  AreJoined gaps left = (g : ℕ) → (set.contains gaps g || set.contains (set.from_list {R = nat_cmp} left) g) ≡ (set.contains first g || set.contains second g)
-
-  pub none_joined : (left : List ℕ) → set.from_list {R = nat_cmp} left ≡ second → AreJoined first left
-  none_joined left members g = ap (λ s. set.contains first g || set.contains s g) members
-
-  moved : (a b c : Bool) → (a || (b || c)) ≡ ((b || a) || c)
-  moved true true c = refl
-  moved true false c = refl
-  moved false true c = refl
-  moved false false c = refl
-
-  pub one_joined : (gaps : SetOfGaps) (left rest : List ℕ) (gap : ℕ) → left ≡ gap ∷ rest → AreJoined gaps left → AreJoined (set.insert gaps gap) rest
-  one_joined gaps left rest gap next so g =
-      ap (λ b. b || set.contains (set.from_list {R = nat_cmp} rest) g) (set.contains-insert nat_cmp_total gaps gap g)
-      ∙ sym (moved (set.contains gaps g) (eq_by_cmp nat_cmp g gap) (set.contains (set.from_list {R = nat_cmp} rest) g))
-      ∙ ap (λ b. set.contains gaps g || b) (sym (ap (λ l. set.contains (set.from_list {R = nat_cmp} l) g) next ∙ set.contains-insert nat_cmp_total (set.from_list rest) gap g))
-      ∙ so g
-
-  or_none : (b : Bool) → (b || false) ≡ b
-  or_none true = refl
-  or_none false = refl
-
-  pub all_joined : (gaps : SetOfGaps) (left : List ℕ) → left ≡ [] → AreJoined gaps left → (g : ℕ) → set.contains gaps g ≡ (set.contains first g || set.contains second g)
-  all_joined gaps left none so g =
-      sym (or_none (set.contains gaps g))
-      ∙ ap (λ b. set.contains gaps g || b) (sym (ap (λ l. set.contains (set.from_list {R = nat_cmp} l) g) none ∙ set.contains-empty nat_cmp g))
-      ∙ so g
 
 -- ---- the cheapest gap
 
@@ -114,7 +81,10 @@ or_second_true true b e = refl
 or_second_true false b e = e
 
 module _ (costs : List ℕ) (packing new : Packing) (gaps : SetOfGaps) (small : IsGapSet gaps)
-    (both : (g : ℕ) → set.contains new.gaps g ≡ (set.contains packing.gaps g || set.contains gaps g)) where
+    (is : new.gaps ≡ set.union packing.gaps gaps) where
+  both : (g : ℕ) → set.contains new.gaps g ≡ (set.contains packing.gaps g || set.contains gaps g)
+  both g = ap (λ (s : SetOfGaps). set.contains s g) is ∙ set.contains-union nat_cmp_total packing.gaps gaps g
+
   in_both : (g : ℕ) → (set.contains new.gaps g ≡ true) ↔ ((set.contains packing.gaps g ≡ true) ⊎ Contains (numbers_of_set gaps) g)
   in_both g = (
     (λ there. elim (or_parts (set.contains packing.gaps g) (set.contains gaps g) (sym (both g) ∙ there)) [ inl old ↦ inl old | inr now ↦ inr (listed gaps g (small g now) now) ]),

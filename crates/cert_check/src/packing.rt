@@ -1,6 +1,5 @@
 //! The runs of a bound, as far as they are judged.
-ghost use Rattle.std.specs.Prelude.{◌≡◌, ◌↔◌, ◌||◌, ◌<◌, ◌∷◌, [], ℕ, List, IfSome, MatchOption};
-ghost use Rattle.std.specs.FinSet as set;
+ghost use Rattle.std.specs.Prelude.{◌≡◌, ◌↔◌, ◌<◌, ◌∷◌, [], ℕ, List, IfSome, MatchOption};
 ghost use Rattle.gap_sets.specs.Gaps.{SetOfGaps, numbers_of_set};
 ghost use Rattle.gap_sets.specs.Order.{cost_of};
 ghost use Rattle.gap_sets.specs.declared.gap_set.TheConstants.{MAX_GAPS};
@@ -62,7 +61,7 @@ impl Packing {
         ensures { IsPackedWith costs.now self (numbers_of_set gaps) result }
     {
         gaps.recall_facts();
-        let all = joined(self.gaps, gaps);
+        let all = self.gaps.joined(gaps);
         match cheapest_of(costs, gaps) {
             Some(gap) => Packing {
                 least: self.least.with(gap),
@@ -90,33 +89,9 @@ pub(crate) fn run_gaps(run: u64, region: &Region, passed: &[GapSet]) -> Option<G
     if passed.meets(&region.must) {
         return None;
     }
-    let gaps = open_gaps(passed, region.never);
+    let gaps = passed.minus(region.never);
     gaps.recall_facts();
     Some(gaps)
-}
-
-/// The gaps of the first set that aren't in the second.
-fn open_gaps(passed: GapSet, never: GapSet) -> GapSet
-    ensures { result ≡ set.difference passed never }
-{
-    let mut gaps = GapSet::empty();
-    for gap in passed.iter() {
-        if !never.has(gap) {
-            gaps = gaps.with(gap);
-        }
-    }
-    gaps
-}
-
-/// The gaps of both sets.
-fn joined(first: GapSet, second: GapSet) -> GapSet
-    ensures { (gap : ℕ) → set.contains result gap ≡ (set.contains first gap || set.contains second gap) }
-{
-    let mut gaps = first;
-    for gap in second.iter() {
-        gaps = gaps.with(gap);
-    }
-    gaps
 }
 
 /// The cheapest gap of a set, of equally cheap ones the least.

@@ -5,12 +5,13 @@ use Rattle.std.specs.Option.{option_map_or}
 use Rattle.std.specs.FinSet as set
 use Rattle.gap_sets.specs.Ties.{name_of, spread, names_in, AreTies}
 use Rattle.gap_sets.specs.TieLaws.{WhatNamesStandForIsAllowed, NamesAreThoseOfWhatTheyStandFor}
-use Rattle.gap_sets.proofs.{Spreading.is_same, Spreading.spread_contains, Naming.both_ways, Naming.names_contain}
+use Rattle.gap_sets.specs.SameGaps.{alike}
+use Rattle.gap_sets.proofs.{WordSets.is_same, Spreading.spread_contains, Naming.names_contain}
 
 -- what names stand for is allowed
 pub spread_allowed : WhatNamesStandForIsAllowed
 spread_allowed ties names = set.same_set nat_cmp_total set.nat_cmp-IsAntisymmetric (spread ties (names_in ties gaps)) gaps
-    (λ gap. spread_contains ties (names_in ties gaps) gap ∙ both_ways _ _ (there gap) (λ held. (names_contain ties gaps (name_of ties gap)).1 (gap, held, refl)))
+    (λ gap. spread_contains ties (names_in ties gaps) gap ∙ alike _ _ (there gap) (λ held. (names_contain ties gaps (name_of ties gap)).1 (gap, held, refl)))
   where
     gaps : SetOfGaps
     gaps = spread ties names
@@ -23,7 +24,7 @@ spread_allowed ties names = set.same_set nat_cmp_total set.nat_cmp-IsAntisymmetr
 -- names of ties are the names of what they stand for
 pub names_of_spread : NamesAreThoseOfWhatTheyStandFor
 names_of_spread ties names are each = set.same_set nat_cmp_total set.nat_cmp-IsAntisymmetric (names_in ties (spread ties names)) names
-    (λ name. both_ways _ _ (there name) (λ held. (names_contain ties (spread ties names) name).1 (name, spread_contains ties names name ∙ ap (set.contains names) (each name held) ∙ held, each name held)))
+    (λ name. alike _ _ (there name) (λ held. (names_contain ties (spread ties names) name).1 (name, spread_contains ties names name ∙ ap (set.contains names) (each name held) ∙ held, each name held)))
   where
     there : (name : ℕ) → set.contains (names_in ties (spread ties names)) name ≡ true → set.contains names name ≡ true
     there name held =

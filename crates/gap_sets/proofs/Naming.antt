@@ -4,19 +4,20 @@ use Rattle.std.proofs.Common.{map}
 use Rattle.std.specs.FinSet as set
 use Rattle.gap_sets.specs.Ties.{name_of, names_in}
 use Rattle.gap_sets.specs.TieLaws.{TheNamesOfASetAreThoseOfItsGaps}
+use Rattle.gap_sets.specs.SameGaps.{alike}
 
 -- whether a list has a number
 abbrev pub has : List ℕ → ℕ → Bool
 has xs q = list_any (λ y. nat_eq y q) xs
 
 -- the order of numbers holds equal numbers alone for the same
-alike : (xs : List ℕ) (q : ℕ) → list_any (eq_by_cmp nat_cmp q) xs ≡ has xs q
-alike [] q = refl
-alike (x ∷ xs) q = let one : eq_by_cmp nat_cmp q x ≡ nat_eq x q = grind (arith, nat_tests) in rw (one, alike xs q) refl
+same_test : (xs : List ℕ) (q : ℕ) → list_any (eq_by_cmp nat_cmp q) xs ≡ has xs q
+same_test [] q = refl
+same_test (x ∷ xs) q = let one : eq_by_cmp nat_cmp q x ≡ nat_eq x q = grind (arith, nat_tests) in rw (one, same_test xs q) refl
 
 -- the set has what its items have
 pub items_have : (s : SetOfGaps) (q : ℕ) → set.contains s q ≡ has (set.items s) q
-items_have s q = set.contains-items s q ∙ alike (set.items s) q
+items_have s q = set.contains-items s q ∙ same_test (set.items s) q
 
 -- what is in a list that is mapped comes from something there
 pub found : (f : ℕ → ℕ) (xs : List ℕ) (n : ℕ) → has (map f xs) n ≡ true → (x : ℕ) × (has xs x ≡ true) × (f x ≡ n)
@@ -48,15 +49,9 @@ names_contain ties gaps name = (
       ∙ (ap (has (map (name_of ties) (set.items gaps))) (sym at.2) ∙ mapped (name_of ties) (set.items gaps) at.0 (sym (items_have gaps at.0) ∙ at.1))),
 )
 
--- tests of which each passes with the other are equal
-pub both_ways : (v w : Bool) → (v ≡ true → w ≡ true) → (w ≡ true → v ≡ true) → v ≡ w
-both_ways true w there back = sym (there refl)
-both_ways false true there back = back refl
-both_ways false false there back = refl
-
 -- lists with the same numbers have the same ones when they are mapped
 pub mapped_alike : (f : ℕ → ℕ) (xs ys : List ℕ) → ((x : ℕ) → has xs x ≡ has ys x) → (n : ℕ) → has (map f xs) n ≡ has (map f ys) n
-mapped_alike f xs ys same n = both_ways _ _ (moved xs ys same) (moved ys xs (λ x. sym (same x)))
+mapped_alike f xs ys same n = alike _ _ (moved xs ys same) (moved ys xs (λ x. sym (same x)))
   where
     moved : (first second : List ℕ) → ((x : ℕ) → has first x ≡ has second x) → has (map f first) n ≡ true → has (map f second) n ≡ true
     moved first second equal there =

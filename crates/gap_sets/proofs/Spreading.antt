@@ -6,10 +6,7 @@ use Rattle.std.specs.Option.{option_map_or}
 use Rattle.std.specs.FinSet as set
 use Rattle.gap_sets.specs.Ties.{name_of, with_if, spread, spread_from, IsAllowed}
 use Rattle.gap_sets.specs.TieLaws.{ASetStandsForTheGapsOfItsNames, ANameIsNoGreater}
-
--- the order of numbers holds equal numbers alone for the same
-pub is_same : (q g : ℕ) → eq_by_cmp nat_cmp q g ≡ (q == g)
-is_same q g = grind (arith, nat_tests)
+use Rattle.gap_sets.proofs.WordSets.{is_same}
 
 -- the set has the gap where it is to have it
 with_here : (v : Bool) (gap : ℕ) (s : SetOfGaps) → set.contains (with_if v gap s) gap ≡ v

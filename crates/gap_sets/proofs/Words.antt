@@ -1,6 +1,10 @@
 -- Tests on two words, as facts on their sets.
-use Rattle.gap_sets.proofs.Vocabulary.{◌≡◌, ℕ, ◌^◌, ◌<◌, inl, inr, min, true, false, refl, sym, ap, ◌∙◌, arith, ◌≢◌, ◌↔◌, IsTrue, nat_eq, eqb-true, eq-eqb, bit_at_above, bit_at-lt, bit_at_and, bit_at_not, bit_at-zero, bit_at-trailing_zeros, bit_at, bit_not}
+use Rattle.gap_sets.proofs.Vocabulary.{◌≡◌, ℕ, ◌^◌, ◌<◌, inl, inr, min, true, false, refl, sym, ap, ◌∙◌, arith, ◌≢◌, ◌↔◌, IsTrue, not, nat_eq, nat_tests, eqb-true, eq-eqb, bit_at_above, bit_at-lt, bit_at_and, bit_at_not, bit_at-zero, bit_at-trailing_zeros, bit_at, bit_not}
 use Rattle.gap_sets.proofs.Vocabulary.{w128, trailing_zeros, bit_and, cases_lt, and_le_l, SetOfGaps, MAX_GAPS, has_bit, gaps_of_bits, bits_of, bits_of-gaps_of}
+
+-- the test of a word that is not 0
+pub is_not_zero : (n : ℕ) → IsTrue (not (nat_eq n 0)) → n ≢ 0
+is_not_zero n h = grind (arith, nat_tests)
 
 -- a common bit
 pub common : (a b : ℕ) → bit_and a b < 2 ^ MAX_GAPS → bit_and a b ≢ 0 → (q : ℕ) × (has_bit a q ≡ true) × (has_bit b q ≡ true)

@@ -69,6 +69,24 @@ impl GapSet {
         }
     }
 
+    /// The gaps of either set.
+    pub fn joined(self, other: GapSet) -> Self
+        ensures { result ≡ set.union self other }
+    {
+        GapSet {
+            bits: self.bits | other.bits,
+        }
+    }
+
+    /// The gaps of this set that are not in the other.
+    pub fn minus(self, other: GapSet) -> Self
+        ensures { result ≡ set.difference self other }
+    {
+        GapSet {
+            bits: self.bits & !other.bits,
+        }
+    }
+
     /// Whether the gap is in the set.
     pub fn has(&self, gap: u8) -> bool
         ensures value { result ≡ set.contains self.now gap }

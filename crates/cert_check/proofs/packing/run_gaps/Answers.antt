@@ -14,7 +14,7 @@ returns-then-meets c p runs each gaps split =
 pub returns : goal.returns
 returns c p runs each =
     let these = c.in-Some.passed in
-    let gaps = c.open_gaps-gaps.result in
+    let gaps = c.minus-gaps.result in
     splits p runs c.args.passed.now c.args.region.now c.args.run each these (sym c.in-Some.ensures) (numbers_of_set gaps)
     (λ gap passed must. (let yes = c.meets.ensures.1 (gap, passed, must) in let no : true ≡ false = sym yes ∙ c.if-meets.false in cc)) (rising gaps)
-    (listed_exact these c.args.region.now.never gaps c.open_gaps-gaps.ensures c.recall_facts.ensures.gaps)
+    (listed_exact these c.args.region.now.never gaps c.minus-gaps.ensures c.recall_facts.ensures.gaps)

@@ -1,9 +1,7 @@
-use Rattle.gap_sets.proofs.Vocabulary.{◌≢◌, ℕ, IsTrue, not, nat_eq, sym, ◌∙◌, arith, eqb-true, eq-eqb, w128, trailing_zeros, bit_xor, nat_tests, shr_and_one}
+use Rattle.gap_sets.proofs.Vocabulary.{ℕ, sym, ◌∙◌, eqb-true, eq-eqb, w128, trailing_zeros, bit_xor, shr_and_one}
+use Rattle.gap_sets.proofs.Words.{is_not_zero}
 use Rattle.gap_sets.proofs.Differences.{lowest_bit-lt, differs_at_lowest, least_from_bit, bit_from_least, words_differ}
 use Rattle.gap_sets.proofs.gap_set.GapSet.has_least_difference.Goals as goal
-
-is_not_zero : (n : ℕ) → IsTrue (not (nat_eq n 0)) → n ≢ 0
-is_not_zero n h = grind (arith, nat_tests)
 
 pub overflow_shr-result : goal.overflow_shr-result
 overflow_shr-result c = lowest_bit-lt _ _ c.self.invariant c.other.invariant c.if-differing-ne0.true
