@@ -62,8 +62,8 @@ pub(crate) fn hunt<R: Threads + Wait + Sync, O: Oracle>(
     ensures fault { IfErr result (MayHuntFail (O.may_lack_runs oracle.now)) }
 {
     let workers = tree.seats();
-    let (hunt, seats) = Hunt::new(alloc, tree, workers)?;
     let turns = Turns::new(alloc, workers)?;
+    let (hunt, seats) = Hunt::new(alloc, tree, workers)?;
     let shared = SharedHunt { alloc, hunt, turns };
     let row = workers_at(alloc, &shared.hunt, seats)?;
     let row = work_all(rt, &shared, oracle, row);
@@ -182,9 +182,16 @@ fn close(shared: SharedHunt, workers: Vec<Worker>) -> Result<Finished, PlaceFaul
         turns: _,
     } = shared;
     if let Some(fault) = fault_of(&workers) {
+        drop(hunt);
         return Err(fault);
     }
-    let (seats, receipts) = left_by(alloc, &hunt, workers)?;
+    let (seats, receipts) = match left_by(alloc, &hunt, workers) {
+        Ok(left) => left,
+        Err(fault) => {
+            drop(hunt);
+            return Err(fault.into());
+        }
+    };
     match hunt.close(seats, receipts) {
         Ok(finished) => Ok(finished),
         Err(CloseFault::OutOfMemory) => Err(PlaceFault::OutOfMemory),

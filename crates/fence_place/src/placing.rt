@@ -101,13 +101,16 @@ fn placement<S: Oracle>(
     ensures { IfOk result (IsPlacement table.now.question costs.now) }
 {
     let finished = searched(alloc, again, table, costs, hunted)?;
-    let certificate = certify(alloc, table, &finished)?;
+    let certificate = certify(alloc, table, &finished);
+    drop(finished);
+    let certificate = certificate?;
     // For the proof alone: the certificate is valid, so its set is the answer.
     certificate_proves_answer(table.program(), costs);
     Ok(certificate)
 }
 
-/// What a hunt found, retraced; or where it failed for another cause than memory the search that is made again.
+/// What a hunt found, retraced; or where it failed for another cause than memory the search that is made again by one seat
+/// on the caller's thread, by an oracle that lacks no run.
 fn searched<S: Oracle>(
     alloc: Global,
     again: &S,
@@ -123,25 +126,10 @@ fn searched<S: Oracle>(
     ensures { IfOk result (IsSearchFor table.now.question costs.now) }
 {
     match hunted {
-        Ok(finished) => Ok(retraced(alloc, table, costs, finished)),
-        Err(PlaceFault::OutOfMemory) => Err(AllocError),
-        Err(_) => search_again(alloc, again, table, costs),
+        Ok(finished) => return Ok(retraced(alloc, table, costs, finished)),
+        Err(PlaceFault::OutOfMemory) => return Err(AllocError),
+        Err(_) => {}
     }
-}
-
-/// The search by one seat on the caller's thread, by an oracle that lacks no run.
-fn search_again<S: Oracle>(
-    alloc: Global,
-    again: &S,
-    table: &SeqTable,
-    costs: &Costs,
-) -> Result<Finished, AllocError>
-    requires question { S.question again.now ≡ table.now.question }
-    requires may { S.may_be_asked again.now }
-    requires has_runs { S.may_lack_runs again.now ≡ false }
-    requires one_each { length costs.now ≡ gap_count table.now.question.program.threads }
-    ensures { IfOk result (IsSearchFor table.now.question costs.now) }
-{
     match search(alloc, again, table, costs, Vec::new(alloc)) {
         Ok(finished) => Ok(finished),
         Err(SolveFault::OutOfMemory) => Err(AllocError),

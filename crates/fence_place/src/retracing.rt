@@ -52,8 +52,10 @@ pub(crate) fn retraced(
         return finished;
     };
     if other.nodes() < finished.nodes() {
+        drop(finished);
         other
     } else {
+        drop(other);
         finished
     }
 }

@@ -190,6 +190,7 @@ fn keep_receipt<W: Wait>(
     ensures same { (worker.new.known ≡ worker.old.known) × (worker.new.stop ≡ worker.old.stop) }
 {
     if worker.receipts.reserve(1).is_err() {
+        drop(settling);
         return Err(StopReason::OutOfMemory);
     }
     let Ok(receipt) = hunt.settle(wait, &mut worker.seat, settling) else {

@@ -1,13 +1,12 @@
 //! What the seat of a hunt does beside the lock, one call for each word of a script.
-ghost use Rattle.std.specs.Prelude.{◌≡◌, IfErr, IfOk};
+ghost use Rattle.std.specs.Prelude.{◌≡◌, IfErr};
 ghost use Rattle.hunt_calls.specs.Hunts.{IsSound};
 
 use crate::hunts::Hand;
 use crate::refusal::HuntRefusal;
 use crate::scene::Scene;
-use crate::search::labels_of;
 use hunt_board::{Hunt, PostFault, ROW_CELLS};
-use oracle::{ForeignRun, Oracle, SeqTable};
+use oracle::{ForeignRun, Oracle};
 use std::alloc::{AllocError, Global};
 use text_calls::{byte_of, number_of, push_gaps_after, push_run, split_at_byte};
 
@@ -22,14 +21,6 @@ pub fn push_ceiling(hunt: &Hunt, hand: &mut Hand, printed: &mut String) -> Resul
     }
 }
 
-/// The run of these labels.
-fn run_by(alloc: Global, table: &SeqTable, labels: &[u8]) -> Result<ForeignRun, HuntRefusal>
-    ensures { IfOk result (λ run. run.question ≡ table.now.question) }
-{
-    let labels = labels_of(alloc, labels)?;
-    Ok(ForeignRun::new(alloc, table, labels.as_slice())?)
-}
-
 /// Posts the run. Whether the seat's row had a cell left, or the run where memory is refused.
 fn is_posted(hunt: &Hunt, hand: &mut Hand, run: ForeignRun) -> Result<bool, ForeignRun>
     requires question { run.question ≡ hunt.now.question }
@@ -42,13 +33,31 @@ fn is_posted(hunt: &Hunt, hand: &mut Hand, run: ForeignRun) -> Result<bool, Fore
             hand.posted = Some(posted);
             Ok(true)
         }
-        Err(PostFault::RowFull(_)) => Ok(false),
+        Err(PostFault::RowFull(run)) => {
+            drop(run);
+            Ok(false)
+        }
         Err(PostFault::Refused(run)) => Err(run),
     }
 }
 
-/// Posts the run. Whether the seat's row had a cell left; where memory is refused, it prints so and posts the run that was
-/// handed back.
+/// Posts the run. Whether the seat's row had a cell left.
+fn is_posted_now(hunt: &Hunt, hand: &mut Hand, run: ForeignRun) -> Result<bool, HuntRefusal>
+    requires question { run.question ≡ hunt.now.question }
+    requires sound { IsSound hunt.now hand.old }
+    ensures { IsSound hunt.now hand.new }
+{
+    match is_posted(hunt, hand, run) {
+        Ok(is_posted) => Ok(is_posted),
+        Err(back) => {
+            drop(back);
+            Err(HuntRefusal::Memory(AllocError))
+        }
+    }
+}
+
+/// Posts the run. Whether the seat's row had a cell left; where memory is refused, it posts the run that was handed back, and
+/// prints so.
 fn is_posted_again(
     hunt: &Hunt,
     hand: &mut Hand,
@@ -63,28 +72,9 @@ fn is_posted_again(
         Ok(is_posted) => return Ok(is_posted),
         Err(back) => back,
     };
+    let is_posted = is_posted_now(hunt, hand, back);
     printed.push_str("refused post\n")?;
-    match is_posted(hunt, hand, back) {
-        Ok(is_posted) => Ok(is_posted),
-        Err(_) => Err(HuntRefusal::Memory(AllocError)),
-    }
-}
-
-/// Posts a copy of the run, where the seat's row has a cell left.
-fn post_copy(
-    alloc: Global,
-    hunt: &Hunt,
-    hand: &mut Hand,
-    run: &ForeignRun,
-) -> Result<(), HuntRefusal>
-    requires question { run.now.question ≡ hunt.now.question }
-    requires sound { IsSound hunt.now hand.old }
-    ensures { IsSound hunt.now hand.new }
-{
-    match is_posted(hunt, hand, run.copy(alloc)?) {
-        Ok(_) => Ok(()),
-        Err(_) => Err(HuntRefusal::Memory(AllocError)),
-    }
+    is_posted
 }
 
 impl<O: Oracle> Scene<'_, O> {
@@ -96,6 +86,7 @@ impl<O: Oracle> Scene<'_, O> {
     {
         let served = self.inquiry.served_by(gaps)?;
         self.hunt.lower(&mut hand.seat, &served);
+        drop(served);
         Ok(())
     }
 
@@ -109,7 +100,7 @@ impl<O: Oracle> Scene<'_, O> {
         requires { IsSound self.now.hunt.now hand.old }
         ensures { IsSound self.now.hunt.now hand.new }
     {
-        let run = run_by(self.inquiry.alloc, self.inquiry.table, labels)?;
+        let run = self.inquiry.run_by(labels)?;
         if is_posted_again(self.hunt, hand, run, printed)? {
             Ok(printed.push_str("posted\n")?)
         } else {
@@ -117,14 +108,14 @@ impl<O: Oracle> Scene<'_, O> {
         }
     }
 
-    /// Posts copies of the run of these labels, as many as a row has cells.
+    /// Posts runs of these labels, as many as a row has cells.
     pub fn fill(&self, hand: &mut Hand, labels: &[u8]) -> Result<(), HuntRefusal>
         requires { IsSound self.now.hunt.now hand.old }
         ensures { IsSound self.now.hunt.now hand.new }
     {
-        let run = run_by(self.inquiry.alloc, self.inquiry.table, labels)?;
         for _ in 0..ROW_CELLS {
-            post_copy(self.inquiry.alloc, self.hunt, hand, &run)?;
+            let run = self.inquiry.run_by(labels)?;
+            is_posted_now(self.hunt, hand, run)?;
         }
         Ok(())
     }

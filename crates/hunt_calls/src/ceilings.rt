@@ -29,12 +29,14 @@ fn ceiling_of<O: Oracle>(
     requires of_table { tree.now.question ≡ inquiry.now.table.now.question }
     ensures { IfOk result (IsCeilingOf tree.now.question tree.now.costs) }
 {
-    let served = inquiry.served_by(gaps)?;
     let costs = tree.costs();
     if costs.len() != usize::from(inquiry.table.program().gaps()) {
         return Err(HuntRefusal::Call);
     }
-    Ok(Ceiling::of(&served, costs))
+    let served = inquiry.served_by(gaps)?;
+    let ceiling = Ceiling::of(&served, costs);
+    drop(served);
+    Ok(ceiling)
 }
 
 /// The ceiling of the same cost.

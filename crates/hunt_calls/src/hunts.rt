@@ -1,10 +1,6 @@
 //! A hunt of one seat by its calls, one for each word of a script, at whose end the hunt is closed.
-ghost use Rattle.std.specs.Prelude.{◌≡◌, ◌∷◌, [], IfOk, None, Some};
-ghost use Rattle.tso_machine.specs.Outcomes.{AreGapsOf};
-ghost use Rattle.oracle.specs.Facts.{IsForeignValue};
-ghost use Rattle.oracle.specs.Verdicts.{PassesNoneOf};
-ghost use Rattle.hunt_board.specs.Seats.{IsFresh, IsOf};
-ghost use Rattle.hunt_board.specs.Settlings.{IsLawfulSettling};
+ghost use Rattle.std.specs.Prelude.{◌≡◌, ◌∷◌, [], IfOk};
+ghost use Rattle.hunt_board.specs.Seats.{IsFresh};
 ghost use Rattle.hunt_calls.specs.Hunts.{IsSound};
 
 use crate::beside::{push_ceiling, push_look, push_posted};
@@ -12,14 +8,14 @@ use crate::inquiry::Inquiry;
 use crate::records::push_set;
 use crate::refusal::HuntRefusal;
 use crate::scene::Scene;
-use crate::search::{labels_of, new_search, push_region};
-use crate::settlings::cut;
-use gap_sets::{GapSet, Region};
-use hunt_board::{Hunt, HuntSeat, Next, Posted, Receipt, ReceiptEvent, Settling};
-use oracle::{ForeignRun, Oracle, SeqTable, Verdict};
+use crate::search::{new_search, push_region};
+use crate::settlings::{Way, held};
+use hunt_board::{Hunt, HuntSeat, Next, Posted, Receipt};
+use oracle::{Oracle, SeqTable};
+use search_core::Finished;
 use std::alloc::{AllocError, Global};
 use std::sync::Wait;
-use text_calls::{named, passes_none, push_gaps_after, split_at_byte};
+use text_calls::{named, split_at_byte};
 
 /// So many receipts are kept without another allocation.
 const FEW: usize = 8;
@@ -32,14 +28,15 @@ pub struct Hand {
     pub posted: Option<Posted>,
 }
 
-/// What a word names beside the ways to settle a node.
+/// What a word names.
 #[derive(Clone, Copy)]
 enum HuntStep {
     Next,
     GiveBack,
     Drop,
+    Split,
     Again,
-    Cut,
+    Settle(Way),
     Ceiling,
     Lower,
     Post,
@@ -48,12 +45,15 @@ enum HuntStep {
     Look,
 }
 
-const STEPS: [(&[u8], HuntStep); 11] = [
+const STEPS: [(&[u8], HuntStep); 14] = [
     (b"next", HuntStep::Next),
     (b"give", HuntStep::GiveBack),
     (b"drop", HuntStep::Drop),
+    (b"split", HuntStep::Split),
     (b"settle", HuntStep::Again),
-    (b"cut", HuntStep::Cut),
+    (b"ask", HuntStep::Settle(Way::Ask)),
+    (b"best", HuntStep::Settle(Way::Best)),
+    (b"cut", HuntStep::Settle(Way::Cut)),
     (b"ceiling", HuntStep::Ceiling),
     (b"lower", HuntStep::Lower),
     (b"post", HuntStep::Post),
@@ -61,46 +61,6 @@ const STEPS: [(&[u8], HuntStep); 11] = [
     (b"posted", HuntStep::Posted),
     (b"look", HuntStep::Look),
 ];
-
-/// The node that the seat holds.
-pub fn held(seat: &HuntSeat) -> Result<Region, HuntRefusal>
-    ensures { IfOk result (λ node. seat.now.node ≡ Some node) }
-{
-    match seat.node() {
-        Some(node) => Ok(node),
-        None => Err(HuntRefusal::Call),
-    }
-}
-
-/// The run of these labels, where it splits the node.
-pub fn run_past(
-    alloc: Global,
-    table: &SeqTable,
-    node: &Region,
-    labels: &[u8],
-) -> Result<ForeignRun, HuntRefusal>
-    ensures of { IfOk result (λ run. run.question ≡ table.now.question) }
-    ensures foreign { IfOk result IsForeignValue }
-    ensures splits { IfOk result (PassesNoneOf node.now.must) }
-{
-    let labels = labels_of(alloc, labels)?;
-    let run = ForeignRun::new(alloc, table, labels.as_slice())?;
-    run.recall_facts();
-    if !passes_none(&run, &node.must) {
-        return Err(HuntRefusal::Call);
-    }
-    Ok(run)
-}
-
-pub fn push_receipt(receipt: &Receipt, printed: &mut String) -> Result<(), AllocError> {
-    write!(printed, "seat {} ", receipt.seat)?;
-    match receipt.event {
-        ReceiptEvent::Split(passed) => push_gaps_after("split passed", &passed, printed)?,
-        ReceiptEvent::Cut => printed.push_str("cut")?,
-        ReceiptEvent::Confirmed => printed.push_str("confirmed")?,
-    }
-    printed.push('\n')
-}
 
 /// The seat takes a node, whose region is printed, where one is left.
 fn push_next<W: Wait>(
@@ -137,50 +97,6 @@ fn give_back<W: Wait>(
 }
 
 impl<O: Oracle> Scene<'_, O> {
-    /// How a word settles the node: by the run of the labels, by what the oracle says, or by the best set that the seat has confirmed.
-    fn settling_of(
-        &self,
-        seat: &HuntSeat,
-        node: &Region,
-        word: &[u8],
-    ) -> Result<Settling, HuntRefusal>
-        requires may { O.may_be_asked self.now.inquiry.now.oracle.now }
-        requires gaps { AreGapsOf self.now.hunt.now.question.program node.now.must }
-        ensures { IfOk result (IsLawfulSettling self.now.hunt.now seat.now.best node.now) }
-    {
-        let (name, labels) = split_at_byte(word, b':');
-        if name == b"split".as_slice() {
-            let run = run_past(self.inquiry.alloc, self.inquiry.table, node, labels)?;
-            return Ok(Settling::Asked(Verdict::Foreign(run)));
-        }
-        if name == b"ask".as_slice() {
-            return Ok(Settling::Asked(self.inquiry.verdict_on(&node.must)?));
-        }
-        if name == b"best".as_slice() && seat.has_as_good(self.hunt.costs(), &node.must) {
-            return Ok(Settling::Best);
-        }
-        Err(HuntRefusal::Call)
-    }
-
-    /// Settles the seat's node, and keeps the receipt.
-    fn settle<W: Wait>(
-        &self,
-        wait: &W,
-        hand: &mut Hand,
-        word: &[u8],
-        printed: &mut String,
-    ) -> Result<(), HuntRefusal>
-        requires may { O.may_be_asked self.now.inquiry.now.oracle.now }
-        requires sound { IsSound self.now.hunt.now hand.old }
-        ensures { IsSound self.now.hunt.now hand.new }
-    {
-        let node = held(&hand.seat)?;
-        let settling = self.settling_of(&hand.seat, &node, word)?;
-        let receipt = self.hunt.settle(wait, &mut hand.seat, settling)?;
-        hand.receipts.push(receipt)?;
-        Ok(push_receipt(&receipt, printed)?)
-    }
-
     /// Does what a word names.
     fn push_step<W: Wait>(
         &self,
@@ -194,18 +110,16 @@ impl<O: Oracle> Scene<'_, O> {
         ensures { IsSound self.now.hunt.now hand.new }
     {
         let (name, rest) = split_at_byte(word, b':');
-        let Ok(step) = named(&STEPS, name) else {
-            return self.settle(wait, hand, word, printed);
-        };
-        match step {
+        match named(&STEPS, name)? {
             HuntStep::Next => push_next(wait, self.hunt, hand, printed),
             HuntStep::GiveBack => give_back(wait, self.hunt, hand, printed),
             HuntStep::Drop => {
                 let _ = hand.receipts.pop();
                 Ok(())
             }
-            HuntStep::Again => self.settle_again(wait, hand, rest, printed),
-            HuntStep::Cut => cut(wait, self.hunt, hand, printed),
+            HuntStep::Split => self.split(wait, hand, rest, printed),
+            HuntStep::Again => self.split_again(wait, hand, rest, printed),
+            HuntStep::Settle(way) => self.settle(wait, hand, way, printed),
             HuntStep::Ceiling => Ok(push_ceiling(self.hunt, hand, printed)?),
             HuntStep::Lower => self.lower(hand, rest),
             HuntStep::Post => self.post(hand, rest, printed),
@@ -246,21 +160,6 @@ fn alone(alloc: Global, seat: HuntSeat) -> Result<Vec<HuntSeat>, AllocError>
     Ok(seats)
 }
 
-/// The set that the hunt ends with.
-fn push_closed(
-    alloc: Global,
-    hunt: Hunt,
-    seat: HuntSeat,
-    receipts: Vec<Receipt>,
-    printed: &mut String,
-) -> Result<(), HuntRefusal>
-    requires { IsOf hunt seat }
-{
-    let seats = alone(alloc, seat)?;
-    let finished = hunt.close(seats, receipts)?;
-    Ok(push_set(&finished, printed)?)
-}
-
 /// A hunt by one seat for the best set of gaps, each of which costs 1.
 fn hunt_alone(alloc: Global, table: &SeqTable) -> Result<(Hunt, HuntSeat), HuntRefusal>
     ensures hunt { IfOk result (λ made. made.0.question ≡ table.now.question) }
@@ -270,19 +169,26 @@ fn hunt_alone(alloc: Global, table: &SeqTable) -> Result<(Hunt, HuntSeat), HuntR
     let (hunt, mut seats) = Hunt::new(alloc, tree, 1)?;
     match seats.pop() {
         Some(seat) => Ok((hunt, seat)),
-        None => Err(HuntRefusal::Call),
+        None => {
+            drop(hunt);
+            Err(HuntRefusal::Call)
+        }
     }
 }
 
-/// What a script starts with: a seat, and nothing settled or posted.
-fn new_hand(alloc: Global, seat: HuntSeat) -> Result<Hand, AllocError>
-    ensures { IfOk result (λ hand. (hand.seat ≡ seat) × (hand.posted ≡ None)) }
+/// A hunt by one seat, and what is in hand before its script: the seat, and nothing settled or posted.
+fn begin(alloc: Global, table: &SeqTable) -> Result<(Hunt, Hand), HuntRefusal>
+    ensures question { IfOk result (λ made. made.0.question ≡ table.now.question) }
+    ensures sound { IfOk result (λ made. IsSound made.0 made.1) }
 {
-    Ok(Hand {
+    let receipts = Vec::with_capacity(alloc, FEW)?;
+    let (hunt, seat) = hunt_alone(alloc, table)?;
+    let hand = Hand {
         seat,
-        receipts: Vec::with_capacity(alloc, FEW)?,
+        receipts,
         posted: None,
-    })
+    };
+    Ok((hunt, hand))
 }
 
 /// A hunt for the best set of gaps, each of which costs 1, by one seat, and what is in hand after a script.
@@ -295,17 +201,40 @@ pub fn hunt_by<W: Wait, O: Oracle>(
     requires { O.may_be_asked inquiry.now.oracle.now }
     ensures { IfOk result (λ made. IsSound made.0 made.1) }
 {
-    let (hunt, seat) = hunt_alone(inquiry.alloc, inquiry.table)?;
-    let mut hand = new_hand(inquiry.alloc, seat)?;
+    let (hunt, mut hand) = begin(inquiry.alloc, inquiry.table)?;
     let scene = Scene {
         inquiry,
         hunt: &hunt,
     };
-    scene.push_script(wait, &mut hand, script, printed)?;
-    Ok((hunt, hand))
+    match scene.push_script(wait, &mut hand, script, printed) {
+        Ok(()) => Ok((hunt, hand)),
+        Err(fault) => {
+            drop(hand);
+            drop(hunt);
+            Err(HuntRefusal::Memory(fault))
+        }
+    }
 }
 
-/// What the hunt ends with, or why it does not end.
+/// What the hunt leaves, where it closes.
+fn close(alloc: Global, hunt: Hunt, hand: Hand) -> Result<Finished, HuntRefusal>
+    requires { IsSound hunt hand }
+{
+    let Hand {
+        seat,
+        receipts,
+        posted: _,
+    } = hand;
+    match alone(alloc, seat) {
+        Ok(seats) => Ok(hunt.close(seats, receipts)?),
+        Err(fault) => {
+            drop(hunt);
+            Err(HuntRefusal::Memory(fault))
+        }
+    }
+}
+
+/// The set that the hunt ends with, or why it does not end.
 pub fn push_end(
     alloc: Global,
     hunt: Hunt,
@@ -314,13 +243,12 @@ pub fn push_end(
 ) -> Result<(), HuntRefusal>
     requires { IsSound hunt hand }
 {
-    let Hand {
-        seat,
-        receipts,
-        posted: _,
-    } = hand;
-    match push_closed(alloc, hunt, seat, receipts, printed) {
-        Ok(()) => Ok(()),
+    match close(alloc, hunt, hand) {
+        Ok(finished) => {
+            let pushed = push_set(&finished, printed);
+            drop(finished);
+            Ok(pushed?)
+        }
         Err(refusal) => Ok(write!(printed, "refused {refusal}\n")?),
     }
 }

@@ -8,9 +8,9 @@ ghost use Rattle.oracle.specs.Verdicts.{IsVerdictOf};
 
 use crate::refusal::HuntRefusal;
 use gap_sets::GapSet;
-use oracle::{Oracle, SeqTable, Served, Verdict};
+use oracle::{ForeignRun, Oracle, SeqTable, Served, Verdict};
 use std::alloc::Global;
-use text_calls::{gap_set_of, set_in};
+use text_calls::{gap_set_of, labels_from, parts_of, set_in};
 
 /// The sequential outcomes of a question, and an oracle of it.
 #[derive(Drop)]
@@ -40,7 +40,10 @@ impl<O: Oracle> Inquiry<'_, O> {
     {
         match self.verdict_on(set)? {
             Verdict::Serves(served) => Ok(served),
-            Verdict::Foreign(_) => Err(HuntRefusal::Call),
+            Verdict::Foreign(run) => {
+                drop(run);
+                Err(HuntRefusal::Call)
+            }
         }
     }
 
@@ -51,5 +54,21 @@ impl<O: Oracle> Inquiry<'_, O> {
     {
         let set = set_in(self.table.program(), gap_set_of(self.alloc, gaps)?)?;
         self.served_on(&set)
+    }
+
+    /// The run of the labels that words spell, from the word with this index on.
+    pub fn run_of(&self, words: &[&[u8]], index: usize) -> Result<ForeignRun, HuntRefusal>
+        ensures { IfOk result (λ run. run.question ≡ self.now.table.now.question) }
+    {
+        let labels = labels_from(self.alloc, words, index)?;
+        Ok(ForeignRun::new(self.alloc, self.table, labels.as_slice())?)
+    }
+
+    /// The run of the labels of a word, with a comma between each two of them.
+    pub fn run_by(&self, labels: &[u8]) -> Result<ForeignRun, HuntRefusal>
+        ensures { IfOk result (λ run. run.question ≡ self.now.table.now.question) }
+    {
+        let words = parts_of(self.alloc, labels, b',')?;
+        self.run_of(words.as_slice(), 0)
     }
 }

@@ -7,13 +7,10 @@ use crate::inquiry::Inquiry;
 use crate::records::push_record;
 use crate::refusal::HuntRefusal;
 use gap_sets::Region;
-use oracle::{ForeignRun, Oracle, SeqTable, Served};
+use oracle::{Oracle, SeqTable, Served};
 use search_core::{Reason, SearchTree};
 use std::alloc::{AllocError, Global};
-use text_calls::{
-    equal_costs, labels_from, named, parts_of, place_of_then, push_gaps_after, split_at_byte,
-};
-use tso_machine::Label;
+use text_calls::{equal_costs, named, place_of_then, push_gaps_after, split_at_byte};
 
 /// How many seats the search has.
 const SEATS: u8 = 2;
@@ -63,27 +60,40 @@ fn take(tree: &mut SearchTree, seat: u8, printed: &mut String) -> Result<(), Hun
     Ok(push_region(&region, printed)?)
 }
 
-/// The labels of a word, with a comma between each two of them.
-pub fn labels_of(alloc: Global, word: &[u8]) -> Result<Vec<Label>, HuntRefusal> {
-    let words = parts_of(alloc, word, b',')?;
-    Ok(labels_from(alloc, words.as_slice(), 0)?)
-}
-
-/// The seat's node is split by the run of these labels.
-fn split(
-    alloc: Global,
-    table: &SeqTable,
+/// The seat's node is split by the run of the act's labels.
+fn split<O: Oracle>(
+    inquiry: &Inquiry<'_, O>,
     tree: &mut SearchTree,
-    seat: u8,
-    labels: &[u8],
+    act: &Act<'_>,
 ) -> Result<(), HuntRefusal>
-    requires seat { seat < tree.old.seats }
-    requires of_table { tree.old.question ≡ table.now.question }
+    requires seat { act.now.seat < tree.old.seats }
+    requires of_table { tree.old.question ≡ inquiry.now.table.now.question }
     ensures { IsSameSearch tree.old tree.new }
 {
-    let labels = labels_of(alloc, labels)?;
-    let run = ForeignRun::new(alloc, table, labels.as_slice())?;
-    Ok(tree.split(seat, &run)?)
+    let run = inquiry.run_by(act.labels)?;
+    let split = tree.split(act.seat, &run);
+    drop(run);
+    Ok(split?)
+}
+
+/// The seat's node is cut by a ceiling that is made in this way, which is printed.
+fn cut_by<O: Oracle>(
+    inquiry: &Inquiry<'_, O>,
+    tree: &mut SearchTree,
+    act: &Act<'_>,
+    making: Making,
+    printed: &mut String,
+) -> Result<(), HuntRefusal>
+    requires seat { act.now.seat < tree.old.seats }
+    requires may { O.may_be_asked inquiry.now.oracle.now }
+    requires of_table { tree.old.question ≡ inquiry.now.table.now.question }
+    ensures { IsSameSearch tree.old tree.new }
+{
+    let ceiling = made(inquiry, tree, making, act.labels)?;
+    let cost = ceiling.cost();
+    let cut = tree.cut(act.seat, Reason::Ceiling(ceiling));
+    write!(printed, "ceiling {cost:?}\n")?;
+    Ok(cut?)
 }
 
 /// The seat's node is confirmed, if the gaps that its sets must have serve.
@@ -119,7 +129,7 @@ fn push_event<O: Oracle>(
     let done = match act.event {
         SearchEvent::Take => return take(tree, act.seat, printed),
         SearchEvent::Split => {
-            split(inquiry.alloc, inquiry.table, tree, act.seat, act.labels)?;
+            split(inquiry, tree, act)?;
             "split\n"
         }
         SearchEvent::Cut => {
@@ -127,9 +137,7 @@ fn push_event<O: Oracle>(
             "cut\n"
         }
         SearchEvent::CutBy(making) => {
-            let ceiling = made(inquiry, tree, making, act.labels)?;
-            write!(printed, "ceiling {:?}\n", ceiling.cost())?;
-            tree.cut(act.seat, Reason::Ceiling(ceiling))?;
+            cut_by(inquiry, tree, act, making, printed)?;
             "cut\n"
         }
         SearchEvent::Confirm => {
@@ -245,7 +253,9 @@ pub fn push_searched<O: Oracle>(
     requires { O.may_be_asked inquiry.now.oracle.now }
 {
     let mut tree = new_search(inquiry.alloc, inquiry.table, SEATS)?;
-    Ok(push_script(inquiry, &mut tree, script, printed)?)
+    let pushed = push_script(inquiry, &mut tree, script, printed);
+    drop(tree);
+    Ok(pushed?)
 }
 
 /// The record of a search that is done. Of one that is not, it says so, and hands it back.
@@ -257,32 +267,41 @@ fn push_if_finished(
 {
     match tree.finish() {
         Ok(finished) => {
-            push_record(&finished, printed)?;
+            let pushed = push_record(&finished, printed);
+            drop(finished);
+            pushed?;
             Ok(None)
         }
-        Err(tree) => {
-            printed.push_str("not finished\n")?;
-            Ok(Some(tree))
-        }
+        Err(tree) => match printed.push_str("not finished\n") {
+            Ok(()) => Ok(Some(tree)),
+            Err(fault) => {
+                drop(tree);
+                Err(fault)
+            }
+        },
     }
 }
 
-/// The record of a search that is done. One that is not goes on by the script, as it is handed back.
-fn push_finished<O: Oracle>(
+/// The lines of a script over a search, and then its record where it is done. One that is not is handed back.
+fn push_part<O: Oracle>(
     inquiry: &Inquiry<'_, O>,
-    tree: SearchTree,
+    mut tree: SearchTree,
     script: &[&[u8]],
     printed: &mut String,
-) -> Result<(), AllocError>
+) -> Result<Option<SearchTree>, AllocError>
     requires seats { tree.seats ≡ 2 }
     requires may { O.may_be_asked inquiry.now.oracle.now }
     requires of_table { tree.question ≡ inquiry.now.table.now.question }
+    ensures seats { IfOk result (λ back. IfSome back (λ left. left.seats ≡ 2)) }
+    ensures of_table { IfOk result (λ back. IfSome back (λ left. left.question ≡ inquiry.now.table.now.question)) }
 {
-    if let Some(mut tree) = push_if_finished(tree, printed)? {
-        push_script(inquiry, &mut tree, script, printed)?;
-        let _ = push_if_finished(tree, printed)?;
+    match push_script(inquiry, &mut tree, script, printed) {
+        Ok(()) => push_if_finished(tree, printed),
+        Err(fault) => {
+            drop(tree);
+            Err(fault)
+        }
     }
-    Ok(())
 }
 
 /// The lines of the words before `then` over a search, and its record where it is done; or else those of the words after
@@ -295,7 +314,9 @@ pub fn push_records<O: Oracle>(
     requires { O.may_be_asked inquiry.now.oracle.now }
 {
     let (script, rest) = words.split_at(place_of_then(words)?);
-    let mut tree = new_search(inquiry.alloc, inquiry.table, SEATS)?;
-    push_script(inquiry, &mut tree, script, printed)?;
-    Ok(push_finished(inquiry, tree, rest.split_at(1).1, printed)?)
+    let tree = new_search(inquiry.alloc, inquiry.table, SEATS)?;
+    if let Some(tree) = push_part(inquiry, tree, script, printed)? {
+        drop(push_part(inquiry, tree, rest.split_at(1).1, printed)?);
+    }
+    Ok(())
 }

@@ -6,8 +6,8 @@ use crate::placing::{PlacerCall, push_hunted_with, push_placed};
 use crate::refusal::PlaceRefusal;
 use crate::sharing::push_shared;
 use crate::verdicts::Verdicts;
-use cover_solver::SeqTable;
-use hunt_calls::HuntCall;
+use cover_solver::{SeqTable, Solver};
+use hunt_calls::{HuntCall, Inquiry};
 use std::alloc::Global;
 use std::sync::Wait;
 use std::thread::Threads;
@@ -22,6 +22,23 @@ pub enum PlaceCall {
     Lacking(PlacerCall),
 }
 
+/// The answer to a call with the sequential outcomes, by a solver of them.
+fn push_by_solver<R: Threads + Wait + Sync>(
+    rt: &R,
+    inquiry: &Inquiry<'_, Solver>,
+    call: PlaceCall,
+    words: &[&[u8]],
+    printed: &mut String,
+) -> Result<(), PlaceRefusal> {
+    match call {
+        PlaceCall::Place => push_placed(rt, inquiry, words, printed),
+        PlaceCall::HuntWith => push_hunted_with(rt, inquiry, words, printed),
+        PlaceCall::Gated(call) => push_gated(rt, inquiry, call, words, printed),
+        PlaceCall::Shared(call) => push_shared(rt, inquiry, call, words, printed),
+        PlaceCall::Lacking(call) => push_lacking(rt, inquiry, call, words, printed),
+    }
+}
+
 /// The answer to a call with the sequential outcomes.
 pub fn push_of_place<R: Threads + Wait + Sync>(
     rt: &R,
@@ -31,13 +48,15 @@ pub fn push_of_place<R: Threads + Wait + Sync>(
     table: &SeqTable,
     printed: &mut String,
 ) -> Result<(), PlaceRefusal> {
-    match call {
-        PlaceCall::Place => push_placed(rt, alloc, table, words, printed),
-        PlaceCall::HuntWith => push_hunted_with(rt, alloc, table, words, printed),
-        PlaceCall::Gated(call) => push_gated(rt, alloc, call, table, words, printed),
-        PlaceCall::Shared(call) => push_shared(rt, alloc, call, table, words, printed),
-        PlaceCall::Lacking(call) => push_lacking(rt, alloc, call, table, words, printed),
-    }
+    let solver = Solver::new(alloc, table.program(), table)?;
+    let inquiry = Inquiry {
+        alloc,
+        table,
+        oracle: &solver,
+    };
+    let pushed = push_by_solver(rt, &inquiry, call, words, printed);
+    drop(solver);
+    pushed
 }
 
 /// The answer to a call of a search or a hunt, which asks a solver.

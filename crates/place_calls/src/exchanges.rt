@@ -15,7 +15,9 @@ use tso_program::Shown;
 /// The sequential outcomes of a litmus text, all of them shown.
 fn table_of(alloc: Global, text: &[u8]) -> Result<SeqTable, PlaceRefusal> {
     let litmus = read_litmus(alloc, text)?;
-    Ok(sequential(alloc, &litmus.program, &Shown::All)?)
+    let table = sequential(alloc, &litmus.program, &Shown::All);
+    drop(litmus);
+    Ok(table?)
 }
 
 /// The last receipt of a hunt by this script.
@@ -25,8 +27,11 @@ fn last_receipt<W: Wait>(
     script: &[&[u8]],
     printed: &mut String,
 ) -> Result<Receipt, PlaceRefusal> {
-    let (_, mut hand) = hunt_by(wait, inquiry, script, printed)?;
-    hand.receipts.pop().ok_or(PlaceRefusal::Call)
+    let (hunt, mut hand) = hunt_by(wait, inquiry, script, printed)?;
+    let last = hand.receipts.pop();
+    drop(hand);
+    drop(hunt);
+    last.ok_or(PlaceRefusal::Call)
 }
 
 /// Puts the last receipt of a hunt by this script in place of the last one in hand.
@@ -55,21 +60,31 @@ fn push_of_two<W: Wait>(
 ) -> Result<(), PlaceRefusal> {
     let (script, rest) = words.split_at(place_of_then(words)?);
     let (hunt, mut hand) = hunt_by(wait, inquiry, script, printed)?;
-    exchange(wait, other, rest.split_at(1).1, &mut hand, printed)?;
-    Ok(push_end(inquiry.alloc, hunt, hand, printed)?)
+    match exchange(wait, other, rest.split_at(1).1, &mut hand, printed) {
+        Ok(()) => Ok(push_end(inquiry.alloc, hunt, hand, printed)?),
+        Err(refusal) => {
+            drop(hand);
+            drop(hunt);
+            Err(refusal)
+        }
+    }
 }
 
-/// Whom the scripts over these tables ask, and what they print.
-fn push_of_tables<W: Wait>(
+/// The lines of a hunt of this table, of one of the test of a text, and what the first ends with then.
+fn push_beside<W: Wait>(
     wait: &W,
     alloc: Global,
     words: &[&[u8]],
-    tables: (&SeqTable, &SeqTable),
+    table: &SeqTable,
+    text: &[u8],
     printed: &mut String,
 ) -> Result<(), PlaceRefusal> {
-    let verdicts = Verdicts::new(alloc, tables.0);
-    let others = Verdicts::new(alloc, tables.1);
-    push_of_two(wait, words, &verdicts.inquiry(), &others.inquiry(), printed)
+    let other = table_of(alloc, text)?;
+    let verdicts = Verdicts::new(alloc, table);
+    let others = Verdicts::new(alloc, &other);
+    let pushed = push_of_two(wait, words, &verdicts.inquiry(), &others.inquiry(), printed);
+    drop(other);
+    pushed
 }
 
 /// The lines of a hunt of the first of two tests by the words before `then`, of one of the second by those after it, and
@@ -82,6 +97,8 @@ pub fn push_exchanged<W: Wait>(
     printed: &mut String,
 ) -> Result<(), PlaceRefusal> {
     let (first, second) = split_at_byte(text, b'%');
-    let (table, other) = (table_of(alloc, first)?, table_of(alloc, second)?);
-    push_of_tables(wait, alloc, words, (&table, &other), printed)
+    let table = table_of(alloc, first)?;
+    let pushed = push_beside(wait, alloc, words, &table, second, printed);
+    drop(table);
+    pushed
 }

@@ -3,25 +3,26 @@ ghost use Rattle.std.specs.Prelude.{◌≡◌, false, IfOk};
 
 use crate::refusal::PlaceRefusal;
 use cert_forest::Certificate;
-use cover_solver::{Oracle, SeqTable, SolveFault, Solver, Verdict};
+use cover_solver::{ForeignRun, Oracle, SeqTable, SolveFault, Solver, Verdict};
 use fence_place::{Oracles, PlaceFault, hunt_with, place};
 use gap_sets::{Costs, GapSet};
-use std::alloc::{AllocError, Global};
+use hunt_calls::Inquiry;
+use std::alloc::Global;
 use std::sync::Wait;
 use std::sync::atomic::{AtomicU64, Ordering};
 use std::thread::Threads;
-use text_calls::{byte_at, equal_costs, number_of, push_gaps_after};
+use text_calls::{byte_at, equal_costs, labels_from, number_of, push_gaps_after};
 
 /// A solver, how many sets it was asked about, and how many of them serve.
 #[derive(Drop)]
-struct Counting {
-    solver: Solver,
+struct Counting<'a> {
+    solver: &'a Solver,
     asked: AtomicU64,
     serve: AtomicU64,
 }
 
-impl Oracle for Counting {
-    ghost question = { λ c. c.solver.question };
+impl Oracle for Counting<'_> {
+    ghost question = { λ c. c.solver.now.question };
 
     ghost may_lack_runs = { λ c. false };
 
@@ -47,55 +48,77 @@ pub enum PlacerCall {
 /// The set that is placed.
 fn placed_set<R: Threads + Wait + Sync, O: Oracle>(
     rt: &R,
-    alloc: Global,
-    oracles: Oracles<'_, O, Solver>,
-    table: &SeqTable,
+    inquiry: &Inquiry<'_, Solver>,
+    oracle: &O,
     costs: &Costs,
     workers: u8,
 ) -> Result<GapSet, PlaceFault>
-    requires question { O.question oracles.first.now ≡ table.now.question }
-    requires may { O.may_be_asked oracles.first.now }
-    requires again { oracles.again.now.question ≡ table.now.question }
+    requires question { O.question oracle.now ≡ inquiry.now.table.now.question }
+    requires may { O.may_be_asked oracle.now }
 {
-    let certificate = place(rt, alloc, oracles, table, costs, workers)?;
-    Ok(certificate.set)
+    let oracles = Oracles {
+        first: oracle,
+        again: inquiry.oracle,
+    };
+    let certificate = place(rt, inquiry.alloc, oracles, inquiry.table, costs, workers)?;
+    let set = certificate.set;
+    drop(certificate);
+    Ok(set)
 }
 
 /// The set that one hunt finds, without another search where it does not close.
 fn hunted_set<R: Threads + Wait + Sync, O: Oracle>(
     rt: &R,
-    alloc: Global,
+    inquiry: &Inquiry<'_, Solver>,
     oracle: &O,
-    table: &SeqTable,
     costs: &Costs,
     workers: u8,
 ) -> Result<GapSet, PlaceFault>
-    requires question { O.question oracle.now ≡ table.now.question }
+    requires question { O.question oracle.now ≡ inquiry.now.table.now.question }
     requires may { O.may_be_asked oracle.now }
 {
-    let finished = hunt_with(rt, alloc, oracle, table, costs, workers)?;
-    Ok(finished.served().set())
+    let finished = hunt_with(rt, inquiry.alloc, oracle, inquiry.table, costs, workers)?;
+    let set = finished.served().set();
+    drop(finished);
+    Ok(set)
 }
 
 /// The best set of gaps, each of which costs 1, as workers find it: the first word is their number.
 pub fn set_by<R: Threads + Wait + Sync, O: Oracle>(
     rt: &R,
-    alloc: Global,
+    inquiry: &Inquiry<'_, Solver>,
     call: PlacerCall,
-    table: &SeqTable,
-    oracles: Oracles<'_, O, Solver>,
+    oracle: &O,
     words: &[&[u8]],
 ) -> Result<GapSet, PlaceRefusal>
-    requires question { O.question oracles.first.now ≡ table.now.question }
-    requires may { O.may_be_asked oracles.first.now }
-    requires again { oracles.again.now.question ≡ table.now.question }
+    requires question { O.question oracle.now ≡ inquiry.now.table.now.question }
+    requires may { O.may_be_asked oracle.now }
 {
     let workers = byte_at(words, 0)?;
-    let costs = equal_costs(alloc, table)?;
-    match call {
-        PlacerCall::Place => Ok(placed_set(rt, alloc, oracles, table, &costs, workers)?),
-        PlacerCall::Hunt => Ok(hunted_set(rt, alloc, oracles.first, table, &costs, workers)?),
-    }
+    let costs = equal_costs(inquiry.alloc, inquiry.table)?;
+    let set = match call {
+        PlacerCall::Place => placed_set(rt, inquiry, oracle, &costs, workers),
+        PlacerCall::Hunt => hunted_set(rt, inquiry, oracle, &costs, workers),
+    };
+    drop(costs);
+    Ok(set?)
+}
+
+pub fn push_set(set: &GapSet, printed: &mut String) -> Result<(), PlaceRefusal> {
+    push_gaps_after("set", set, printed)?;
+    Ok(printed.push('\n')?)
+}
+
+/// The run of the labels that come after the first word.
+pub fn run_after_first(
+    inquiry: &Inquiry<'_, Solver>,
+    words: &[&[u8]],
+) -> Result<ForeignRun, PlaceRefusal>
+    ensures { IfOk result (λ run. run.question ≡ inquiry.now.table.now.question) }
+{
+    let labels = labels_from(inquiry.alloc, words, 1)?;
+    let labels = labels.as_slice();
+    Ok(ForeignRun::new(inquiry.alloc, inquiry.table, labels)?)
 }
 
 /// The costs that the words after the first spell, or 1 for each gap where no word comes after it.
@@ -110,114 +133,57 @@ fn costs_of(alloc: Global, table: &SeqTable, words: &[&[u8]]) -> Result<Costs, P
     Ok(Costs::new(alloc, &list)?)
 }
 
-/// The set that is placed and its cost, then how many sets the solver was asked about.
-fn push_lines(
-    certificate: &Certificate,
-    solver: &Counting,
-    printed: &mut String,
-) -> Result<(), AllocError> {
-    let serve = solver.serve.load(Ordering::SeqCst);
-    let asks = solver.asked.load(Ordering::SeqCst);
-    push_gaps_after("set", &certificate.set, printed)?;
-    write!(
-        printed,
-        "\ncost {}\nserve {serve}\nasks {asks}\n",
-        certificate.cost
-    )
-}
-
-fn new_counting(alloc: Global, table: &SeqTable) -> Result<Counting, PlaceRefusal>
-    ensures { IfOk result (λ counting. counting.solver.question ≡ table.now.question) }
-{
-    Ok(Counting {
-        solver: Solver::new(alloc, table.program(), table)?,
-        asked: AtomicU64::new(0),
-        serve: AtomicU64::new(0),
-    })
-}
-
 /// The certificate of what is placed: the first word is the number of workers, and the costs of the gaps may follow.
 fn placed_by<R: Threads + Wait + Sync>(
     rt: &R,
-    alloc: Global,
-    table: &SeqTable,
-    solver: &Counting,
+    inquiry: &Inquiry<'_, Solver>,
+    counting: &Counting<'_>,
     words: &[&[u8]],
 ) -> Result<Certificate, PlaceRefusal>
-    requires { solver.now.solver.question ≡ table.now.question }
+    requires { counting.now.solver.now.question ≡ inquiry.now.table.now.question }
 {
     let workers = byte_at(words, 0)?;
-    let costs = costs_of(alloc, table, words)?;
+    let costs = costs_of(inquiry.alloc, inquiry.table, words)?;
     let oracles = Oracles {
-        first: solver,
-        again: &solver.solver,
+        first: counting,
+        again: inquiry.oracle,
     };
-    Ok(place(rt, alloc, oracles, table, &costs, workers)?)
+    let placed = place(rt, inquiry.alloc, oracles, inquiry.table, &costs, workers);
+    drop(costs);
+    Ok(placed?)
 }
 
-/// The lines of what is placed by this solver.
-fn push_placed_by<R: Threads + Wait + Sync>(
-    rt: &R,
-    alloc: Global,
-    table: &SeqTable,
-    solver: &Counting,
-    words: &[&[u8]],
-    printed: &mut String,
-) -> Result<(), PlaceRefusal>
-    requires { solver.now.solver.question ≡ table.now.question }
-{
-    let certificate = placed_by(rt, alloc, table, solver, words)?;
-    Ok(push_lines(&certificate, solver, printed)?)
-}
-
-/// Places fences, and says how many sets the solver was asked about.
+/// The set that is placed and its cost, then how many sets the solver was asked about.
 pub fn push_placed<R: Threads + Wait + Sync>(
     rt: &R,
-    alloc: Global,
-    table: &SeqTable,
+    inquiry: &Inquiry<'_, Solver>,
     words: &[&[u8]],
     printed: &mut String,
 ) -> Result<(), PlaceRefusal> {
-    let solver = new_counting(alloc, table)?;
-    push_placed_by(rt, alloc, table, &solver, words, printed)
+    let counting = Counting {
+        solver: inquiry.oracle,
+        asked: AtomicU64::new(0),
+        serve: AtomicU64::new(0),
+    };
+    let certificate = placed_by(rt, inquiry, &counting, words)?;
+    let (set, cost) = (certificate.set, certificate.cost);
+    drop(certificate);
+    let serve = counting.serve.load(Ordering::SeqCst);
+    let asks = counting.asked.load(Ordering::SeqCst);
+    push_set(&set, printed)?;
+    Ok(write!(printed, "cost {cost}\nserve {serve}\nasks {asks}\n")?)
 }
 
-/// What one hunt finds by this solver: the first word is the number of workers, and the costs of the gaps may follow.
-fn hunted_with<R: Threads + Wait + Sync>(
-    rt: &R,
-    alloc: Global,
-    table: &SeqTable,
-    solver: &Solver,
-    words: &[&[u8]],
-) -> Result<GapSet, PlaceRefusal>
-    requires { solver.now.question ≡ table.now.question }
-{
-    let workers = byte_at(words, 0)?;
-    let costs = costs_of(alloc, table, words)?;
-    Ok(hunted_set(rt, alloc, solver, table, &costs, workers)?)
-}
-
-/// What one hunt finds by a solver of the table: the first word is the number of workers, and the costs of the gaps may
-/// follow.
-fn hunted<R: Threads + Wait + Sync>(
-    rt: &R,
-    alloc: Global,
-    table: &SeqTable,
-    words: &[&[u8]],
-) -> Result<GapSet, PlaceRefusal> {
-    let solver = Solver::new(alloc, table.program(), table)?;
-    hunted_with(rt, alloc, table, &solver, words)
-}
-
-/// The set that one hunt finds.
+/// The set that one hunt finds: the first word is the number of workers, and the costs of the gaps may follow.
 pub fn push_hunted_with<R: Threads + Wait + Sync>(
     rt: &R,
-    alloc: Global,
-    table: &SeqTable,
+    inquiry: &Inquiry<'_, Solver>,
     words: &[&[u8]],
     printed: &mut String,
 ) -> Result<(), PlaceRefusal> {
-    let set = hunted(rt, alloc, table, words)?;
-    push_gaps_after("set", &set, printed)?;
-    Ok(printed.push('\n')?)
+    let workers = byte_at(words, 0)?;
+    let costs = costs_of(inquiry.alloc, inquiry.table, words)?;
+    let set = hunted_set(rt, inquiry, inquiry.oracle, &costs, workers);
+    drop(costs);
+    push_set(&set?, printed)
 }

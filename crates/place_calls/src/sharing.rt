@@ -5,28 +5,28 @@ ghost use Rattle.std.specs.Coded.{codes};
 ghost use Rattle.tso_program.specs.contracts.shown.Names as names;
 ghost use Rattle.tso_program.specs.Nodes.{tree_code};
 
-use crate::placing::{PlacerCall, set_by};
+use crate::placing::{PlacerCall, push_set, run_after_first, set_by};
 use crate::refusal::PlaceRefusal;
-use cover_solver::{ForeignRun, Oracle, SeqTable, SolveFault, Solver, Verdict};
-use fence_place::Oracles;
+use cover_solver::{ForeignRun, Oracle, SolveFault, Solver, Verdict};
 use gap_sets::GapSet;
+use hunt_calls::Inquiry;
 use std::alloc::{AllocError, Global};
 use std::sync::Wait;
 use std::sync::atomic::{AtomicU64, Ordering};
 use std::thread::Threads;
-use text_calls::{labels_from, passes_none, place_of_then, push_gaps_after};
+use text_calls::{passes_none, place_of_then};
 
 /// A solver, two runs by which it answers where they pass no gap of the set, and how many questions each answered.
 #[derive(Drop)]
-struct TwoRuns {
+struct TwoRuns<'a> {
     alloc: Global,
-    solver: Solver,
+    solver: &'a Solver,
     first: ForeignRun,
     second: ForeignRun,
     by_first: AtomicU64,
     by_second: AtomicU64,
-    ghost first_question: { first.question ≡ solver.question } by { Prim.hlevel (codes, names.the_row.coded, tree_code) },
-    ghost second_question: { second.question ≡ solver.question } by { Prim.hlevel (codes, names.the_row.coded, tree_code) },
+    ghost first_question: { first.question ≡ solver.now.question } by { Prim.hlevel (codes, names.the_row.coded, tree_code) },
+    ghost second_question: { second.question ≡ solver.now.question } by { Prim.hlevel (codes, names.the_row.coded, tree_code) },
 }
 
 /// That the set doesn't serve, by the run, where it passes no gap of the set.
@@ -41,8 +41,8 @@ fn verdict_by(alloc: Global, run: &ForeignRun, set: &GapSet) -> Result<Option<Ve
     Ok(Some(Verdict::Foreign(copy)))
 }
 
-impl Oracle for TwoRuns {
-    ghost question = { λ runs. runs.solver.question };
+impl Oracle for TwoRuns<'_> {
+    ghost question = { λ runs. runs.solver.now.question };
 
     ghost may_lack_runs = { λ runs. false };
 
@@ -61,87 +61,42 @@ impl Oracle for TwoRuns {
     }
 }
 
-/// The run of the labels from the word of this number on.
-fn run_from(
-    alloc: Global,
-    table: &SeqTable,
-    words: &[&[u8]],
-    from: usize,
-) -> Result<ForeignRun, PlaceRefusal>
-    ensures { IfOk result (λ run. run.question ≡ table.now.question) }
+/// The two runs of the labels that come after the first word of each of the lists before and after `then`.
+fn new_runs<'a>(inquiry: &Inquiry<'a, Solver>, words: &[&[u8]]) -> Result<TwoRuns<'a>, PlaceRefusal>
+    ensures { IfOk result (λ runs. runs.solver.now.question ≡ inquiry.now.table.now.question) }
 {
-    let labels = labels_from(alloc, words, from)?;
-    Ok(ForeignRun::new(alloc, table, labels.as_slice())?)
-}
-
-/// The two runs of the labels that come after the first word of each of these lists.
-fn runs_from(
-    alloc: Global,
-    table: &SeqTable,
-    first: &[&[u8]],
-    second: &[&[u8]],
-) -> Result<(ForeignRun, ForeignRun), PlaceRefusal>
-    ensures first { IfOk result (λ runs. runs.0.question ≡ table.now.question) }
-    ensures second { IfOk result (λ runs. runs.1.question ≡ table.now.question) }
-{
-    let first = run_from(alloc, table, first, 1)?;
-    let second = run_from(alloc, table, second, 1)?;
-    Ok((first, second))
-}
-
-fn new_runs(alloc: Global, table: &SeqTable, words: &[&[u8]]) -> Result<TwoRuns, PlaceRefusal>
-    ensures { IfOk result (λ runs. runs.solver.question ≡ table.now.question) }
-{
-    let then = place_of_then(words)?;
-    let (first, second) = words.split_at(then);
-    let solver = Solver::new(alloc, table.program(), table)?;
-    let (first, second) = runs_from(alloc, table, first, second)?;
-    Ok(TwoRuns {
-        alloc,
-        solver,
-        first,
-        second,
-        by_first: AtomicU64::new(0),
-        by_second: AtomicU64::new(0),
-    })
-}
-
-fn push_lines(set: &GapSet, runs: &TwoRuns, printed: &mut String) -> Result<(), AllocError> {
-    let by_first = runs.by_first.load(Ordering::SeqCst);
-    let by_second = runs.by_second.load(Ordering::SeqCst);
-    push_gaps_after("set", set, printed)?;
-    write!(printed, "\nfirst {by_first}\nsecond {by_second}\n")
-}
-
-/// The set that workers find by a solver with two runs, and how many questions each of them answered.
-fn push_set_by<R: Threads + Wait + Sync>(
-    rt: &R,
-    call: PlacerCall,
-    table: &SeqTable,
-    runs: &TwoRuns,
-    words: &[&[u8]],
-    printed: &mut String,
-) -> Result<(), PlaceRefusal>
-    requires { runs.now.solver.question ≡ table.now.question }
-{
-    let oracles = Oracles {
-        first: runs,
-        again: &runs.solver,
-    };
-    let set = set_by(rt, runs.alloc, call, table, oracles, words)?;
-    Ok(push_lines(&set, runs, printed)?)
+    let (first, second) = words.split_at(place_of_then(words)?);
+    let first = run_after_first(inquiry, first)?;
+    match run_after_first(inquiry, second) {
+        Ok(second) => Ok(TwoRuns {
+            alloc: inquiry.alloc,
+            solver: inquiry.oracle,
+            first,
+            second,
+            by_first: AtomicU64::new(0),
+            by_second: AtomicU64::new(0),
+        }),
+        Err(refusal) => {
+            drop(first);
+            Err(refusal)
+        }
+    }
 }
 
 /// The set that a number of workers find, where the solver has these two runs at hand, and how many questions each of them
 /// answered.
 pub fn push_shared<R: Threads + Wait + Sync>(
     rt: &R,
-    alloc: Global,
+    inquiry: &Inquiry<'_, Solver>,
     call: PlacerCall,
-    table: &SeqTable,
     words: &[&[u8]],
     printed: &mut String,
 ) -> Result<(), PlaceRefusal> {
-    let runs = new_runs(alloc, table, words)?;
-    push_set_by(rt, call, table, &runs, words, printed)
+    let runs = new_runs(inquiry, words)?;
+    let set = set_by(rt, inquiry, call, &runs, words);
+    let by_first = runs.by_first.load(Ordering::SeqCst);
+    let by_second = runs.by_second.load(Ordering::SeqCst);
+    drop(runs);
+    push_set(&set?, printed)?;
+    Ok(write!(printed, "first {by_first}\nsecond {by_second}\n")?)
 }

@@ -40,6 +40,8 @@ impl Oracle for Verdicts<'_> {
     fn ask(&self, set: &GapSet) -> Result<Verdict, SolveFault> {
         let program = self.table.program();
         let solver = Solver::new(self.alloc, program, self.table)?;
-        solver.ask(set)
+        let verdict = solver.ask(set);
+        drop(solver);
+        verdict
     }
 }

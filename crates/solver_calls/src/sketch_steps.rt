@@ -242,7 +242,9 @@ fn push_is_cycle(
 
 fn push_ends(sketch: &Sketch, outcome: &Outcome, printed: &mut String) -> Result<(), AllocError> {
     let rowless = sketch.rowless()?;
-    write!(printed, "{}", rowless.must_end_as(&Shown::All, outcome)?)
+    let must_end = rowless.must_end_as(&Shown::All, outcome);
+    drop(rowless);
+    write!(printed, "{}", must_end?)
 }
 
 /// Whether each completion ends with an outcome: a word for each thread, and one for memory.

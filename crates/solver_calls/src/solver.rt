@@ -45,7 +45,9 @@ fn push_asked(
     printed: &mut String,
 ) -> Result<(), SolverRefusal> {
     let verdict = verdict(alloc, table, words)?;
-    push_verdict(alloc, names, &verdict, printed).map_err(SolverRefusal::from)
+    let pushed = push_verdict(alloc, names, &verdict, printed);
+    drop(verdict);
+    Ok(pushed?)
 }
 
 /// The foreign run of the labels that words spell.
@@ -62,7 +64,9 @@ fn push_foreign(
     printed: &mut String,
 ) -> Result<(), SolverRefusal> {
     let run = foreign(alloc, table, words)?;
-    push_foreign_run(alloc, names, &run, printed).map_err(SolverRefusal::from)
+    let pushed = push_foreign_run(alloc, names, &run, printed);
+    drop(run);
+    Ok(pushed?)
 }
 
 /// The answer to a call with the sequential outcomes.

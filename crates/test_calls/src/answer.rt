@@ -53,7 +53,9 @@ fn push_of_program<R: Threads + Wait + Sync>(
         names: &litmus.names,
         table: &table,
     };
-    push_of_test(rt, alloc, call, words, &test, printed)
+    let pushed = push_of_test(rt, alloc, call, words, &test, printed);
+    drop(table);
+    pushed
 }
 
 /// The answer to a call with the sequential outcomes of a litmus text.
@@ -66,7 +68,9 @@ fn push_of_table<R: Threads + Wait + Sync>(
     printed: &mut String,
 ) -> Result<(), CallRefusal> {
     let litmus = read_litmus(alloc, text)?;
-    push_of_program(rt, alloc, call, words, &litmus, printed)
+    let pushed = push_of_program(rt, alloc, call, words, &litmus, printed);
+    drop(litmus);
+    pushed
 }
 
 /// The answer to a call with a litmus text.
@@ -78,7 +82,9 @@ fn push_read(
     printed: &mut String,
 ) -> Result<(), CallRefusal> {
     let litmus = read_litmus(alloc, text)?;
-    Ok(push_of_litmus(alloc, call, words, &litmus, printed)?)
+    let pushed = push_of_litmus(alloc, call, words, &litmus, printed);
+    drop(litmus);
+    Ok(pushed?)
 }
 
 /// What a sketch of the program of a litmus text answers at each step of a script.
@@ -89,7 +95,9 @@ fn push_steps(
     printed: &mut String,
 ) -> Result<(), CallRefusal> {
     let litmus = read_litmus(alloc, text)?;
-    Ok(push_sketch(alloc, words, &litmus.program, printed)?)
+    let pushed = push_sketch(alloc, words, &litmus.program, printed);
+    drop(litmus);
+    Ok(pushed?)
 }
 
 /// The answer to a call.

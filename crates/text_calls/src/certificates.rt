@@ -73,7 +73,8 @@ fn push_judged(
 ) -> Result<(), TextRefusal> {
     let certificate = read_cert(alloc, text)?;
     let judged = check(alloc, program, &Shown::All, costs, &certificate);
-    push_judgment(alloc, judged, printed).map_err(TextRefusal::from)
+    drop(certificate);
+    Ok(push_judgment(alloc, judged, printed)?)
 }
 
 /// What the checker says of a certificate, for a test of which everything is shown, and the costs that are given.
@@ -86,5 +87,7 @@ pub fn push_checked(
     let (litmus, certificate) = split_texts(text);
     let costs = TiedCosts::single(alloc, costs_at(alloc, words, 0)?)?;
     let litmus = read_litmus(alloc, litmus)?;
-    push_judged(alloc, &litmus.program, &costs, certificate, printed)
+    let pushed = push_judged(alloc, &litmus.program, &costs, certificate, printed);
+    drop(litmus);
+    pushed
 }

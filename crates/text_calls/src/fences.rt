@@ -5,16 +5,16 @@ use crate::refusal::TextRefusal;
 use gap_sets::{GapSet, MAX_GAPS};
 use litmus_text::{Litmus, write_litmus};
 use std::alloc::Global;
-use text_tokens::plain_number_up_to;
 use tso_program::Program;
 
 /// The gap of a place `t:k` that the program has; or the gap of a number.
 fn gap_of(program: &Program, word: &[u8]) -> Option<u8> {
     let (first, second) = split_at_byte(word, b':');
+    let number = byte_of(first).ok()?;
     if second.is_empty() {
-        return Some(plain_number_up_to(u32::from(MAX_GAPS - 1), first)? as u8);
+        return Some(number);
     }
-    program.gap_number(byte_of(first).ok()?, byte_of(second).ok()?)
+    program.gap_number(number, byte_of(second).ok()?)
 }
 
 /// The set of the gaps that words name, by places or by numbers; what is neither is not looked at.

@@ -101,14 +101,10 @@ fn push_holds(
     condition: &Condition,
     outcome: &Outcome,
     printed: &mut String,
-) -> Result<(), AllocError> {
-    write!(
-        printed,
-        "holds {} {:?} {}",
-        formula.holds(outcome),
-        condition.quantifier,
-        holds(condition, outcome)
-    )
+) -> Result<(), TextRefusal> {
+    let (alone, quantified) = (formula.holds(outcome), holds(condition, outcome));
+    let quantifier = condition.quantifier;
+    Ok(write!(printed, "holds {alone} {quantifier:?} {quantified}")?)
 }
 
 /// Whether a formula holds at an outcome, alone and as a condition's.
@@ -117,7 +113,7 @@ fn push_held(
     formula: &Formula,
     outcome: &Outcome,
     printed: &mut String,
-) -> Result<(), AllocError> {
+) -> Result<(), TextRefusal> {
     let condition = condition(alloc, Quantifier::Forall, formula)?;
     push_holds(formula, &condition, outcome, printed)
 }
@@ -125,7 +121,7 @@ fn push_held(
 /// Whether a formula holds where thread 0 ends with EAX 1, thread 1 with EDI 7, and the two locations with 0 and 2.
 fn push_truth(alloc: Global, formula: &Formula, printed: &mut String) -> Result<(), TextRefusal> {
     let outcome = outcome_in(alloc, b"1,0,0,0,0,0 0,0,0,0,0,7 0,2")?;
-    Ok(push_held(alloc, formula, &outcome, printed)?)
+    push_held(alloc, formula, &outcome, printed)
 }
 
 /// Whether a formula's tokens as a condition's spell it.
@@ -184,14 +180,14 @@ fn push_compared(
     first: &Formula,
     second: &Formula,
     printed: &mut String,
-) -> Result<(), AllocError> {
+) -> Result<(), TextRefusal> {
     let conditions = is_same(alloc, first, Quantifier::Exists, second)?;
     let quantifiers = is_same(alloc, first, Quantifier::NotExists, first)?;
     let formulas = first.same(second);
-    write!(
+    Ok(write!(
         printed,
         "formulas {formulas} conditions {conditions} quantifiers {quantifiers}\n"
-    )
+    )?)
 }
 
 /// Whether the formulas of two lines are the same, alone and as conditions; and the first with two quantifiers.
@@ -199,5 +195,5 @@ pub fn push_formulas(alloc: Global, text: &[u8], printed: &mut String) -> Result
     let (line, rest) = split_line(text);
     let first = formula_of(alloc, line)?;
     let second = formula_of(alloc, rest)?;
-    Ok(push_compared(alloc, &first, &second, printed)?)
+    push_compared(alloc, &first, &second, printed)
 }

@@ -36,10 +36,10 @@ pub fn push_outcome(outcome: &Outcome, printed: &mut String) -> Result<(), Alloc
     )
 }
 
-fn push_ended(alloc: Global, ended: &Ended, printed: &mut String) -> Result<(), AllocError> {
+fn push_ended(alloc: Global, ended: &Ended, printed: &mut String) -> Result<(), TextRefusal> {
     push_outcome(&ended.outcome, printed)?;
     printed.push_str("\npassed ")?;
-    push_gaps(alloc, &ended.passed, printed)
+    Ok(push_gaps(alloc, &ended.passed, printed)?)
 }
 
 /// The end of a run in a machine: the first two words are the machine and the gaps that are fenced.
@@ -63,7 +63,7 @@ pub fn push_replayed(
 ) -> Result<(), TextRefusal> {
     let labels = labels_from(alloc, words, 2)?;
     let ended = ended(alloc, words, program, labels.as_slice())?;
-    Ok(push_ended(alloc, &ended, printed)?)
+    push_ended(alloc, &ended, printed)
 }
 
 fn push_labels(alloc: Global, labels: &[Label], printed: &mut String) -> Result<(), AllocError> {
@@ -134,13 +134,10 @@ fn push_order(
     first: &Outcome,
     second: &Outcome,
     printed: &mut String,
-) -> Result<(), AllocError> {
+) -> Result<(), TextRefusal> {
     let same = first.copy(alloc)? == *first;
-    write!(
-        printed,
-        "{}, copy the same {same}\n",
-        order_of(first, second)
-    )
+    let order = order_of(first, second);
+    Ok(write!(printed, "{order}, copy the same {same}\n")?)
 }
 
 /// How the outcomes of two lines are ordered, and whether a copy of the first is the same.
@@ -148,5 +145,5 @@ pub fn push_compared(alloc: Global, text: &[u8], printed: &mut String) -> Result
     let (line, rest) = split_line(text);
     let first = outcome_in(alloc, line)?;
     let second = outcome_in(alloc, split_line(rest).0)?;
-    Ok(push_order(alloc, &first, &second, printed)?)
+    push_order(alloc, &first, &second, printed)
 }

@@ -98,14 +98,14 @@ fn push_listing(
     threads: &[Thread],
     memory: &[u32],
     printed: &mut String,
-) -> Result<(), AllocError> {
-    write!(printed, "threads {threads:?}\nmemory {memory:?}\n")
+) -> Result<(), TextRefusal> {
+    Ok(write!(printed, "threads {threads:?}\nmemory {memory:?}\n")?)
 }
 
 /// The copy of a program.
 pub fn push_copy(program: &Program, printed: &mut String) -> Result<(), TextRefusal> {
     let copy = program.copy()?;
-    Ok(push_listing(copy.threads(), copy.memory(), printed)?)
+    push_listing(copy.threads(), copy.memory(), printed)
 }
 
 /// A program with fences in some gaps, as a copy has it.
@@ -117,7 +117,7 @@ pub fn push_fenced(
 ) -> Result<(), TextRefusal> {
     let gaps = gap_set_at(alloc, words, 0)?;
     let fenced = program.fenced(alloc, &gaps)?.copy()?;
-    Ok(push_listing(fenced.threads(), fenced.memory(), printed)?)
+    push_listing(fenced.threads(), fenced.memory(), printed)
 }
 
 /// What a thread does next at a place, where its registers hold 0.

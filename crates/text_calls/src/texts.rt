@@ -126,5 +126,7 @@ pub fn push_read_fenced(
     printed: &mut String,
 ) -> Result<(), TextRefusal> {
     let litmus = read_fenced(alloc, text)?;
-    push_fenced(alloc, &litmus, printed).map_err(TextRefusal::from)
+    let pushed = push_fenced(alloc, &litmus, printed);
+    drop(litmus);
+    Ok(pushed?)
 }

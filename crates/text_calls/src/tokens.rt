@@ -32,11 +32,13 @@ fn push_kinds(tokens: &[Token], printed: &mut String) -> Result<(), AllocError> 
     Ok(())
 }
 
-fn push_lines(tokens: &Tokens, printed: &mut String) -> Result<(), AllocError> {
+/// The kinds of tokens, and the lines of them and of their end.
+fn push_all(tokens: &Tokens, printed: &mut String) -> Result<(), TextRefusal> {
+    push_kinds(tokens.as_slice(), printed)?;
     for index in 0..=tokens.as_slice().len() {
         write!(printed, " {}", tokens.line(index))?;
     }
-    printed.push('\n')
+    Ok(printed.push('\n')?)
 }
 
 /// The kinds of a text's tokens, and the lines of them and of its end; the text begins in the line that is given.
@@ -48,8 +50,7 @@ pub fn push_tokens(
 ) -> Result<(), TextRefusal> {
     let line = number_of(word_at(words, 0)?)?;
     let tokens = lex(alloc, text, line)?;
-    push_kinds(tokens.as_slice(), printed)?;
-    Ok(push_lines(&tokens, printed)?)
+    push_all(&tokens, printed)
 }
 
 /// The number up to a limit that a text spells without leading zeros.
