@@ -10,6 +10,8 @@ pub mod RuleValues
 pub mod CoveredSketches
 pub mod ListedOutcomes
 pub mod TiesApart
+pub mod WiderTraces
+pub mod TighterModes
 -- gap trees
 pub mod AvoidedGaps
 pub mod BetterSets

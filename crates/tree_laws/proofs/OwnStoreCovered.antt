@@ -1,17 +1,19 @@
 -- A thread that sees its own store: the early tree and that of whole sketches are valid in each mode.
 use Rattle.tree_laws.proofs.Vocabulary.{◌≡◌, ◌↔◌, ◌⊎◌, ℕ, zero, suc, ◌<◌, List, [], ◌∷◌, Some, None, Contains, slice_index, map, refl, sym, ap, ◌∙◌, subst, inl, inr, arith, lit<, AllPairs, same_Some, Machine, SequentialMachine, StoreBufferMachine}
 use Rattle.tree_laws.proofs.Vocabulary.{Access, Event, Initial, At, access_by, Writes, Sketch, empty_sketch, given_to, IsKnownCycle, with_source, IsSourceOf, IsSettled, IsWhole, MayBeLast, ComesBefore, MustEndAsNumber, HasSourcesBy}
-use Rattle.tree_laws.proofs.Vocabulary.{Rule, Whole, Early, AllowsSource, AreChoicesBy, IsValidCoverBy, AreValidCoversBy, sketch_with, next_read, IsStrictlyIncreasing, instr_at, Occurs, IsHeldValue, IsValueBy, IsValueOf}
-use Rattle.cert_forest.specs.StoreBuffering.{access, two_children}
+use Rattle.tree_laws.proofs.Vocabulary.{Rule, Whole, Early, AllowsSource, AreChoicesBy, IsValidCoverBy, AreValidCoversBy, sketch_with, next_read, IsStrictlyIncreasing, Value, Known, instr_at, Occurs, IsHeldValue, IsValueBy, IsValueOf}
+use Rattle.cert_forest.specs.StoreBuffering.{access, one_child, two_children}
 use Rattle.tso_program.specs.declared.instruction.Reg.{Reg, TheVariants.Eax}
 use Rattle.tso_program.specs.declared.instruction.Instr.{Instr, TheVariants.Load, TheVariants.StoreImm, TheVariants.Store, TheVariants.Xchg}
+use Rattle.candidate_executions.specs.declared.event.Kind.TheVariants as union
 use Rattle.candidate_executions.specs.Settled.{MayStore}
 use Rattle.candidate_executions.proofs.FromRuns.KnownValues.{held_is_value}
 use Rattle.tso_machine.specs.HeldValues.{Location, Memory, Stored, Here}
 use Rattle.tree_laws.specs.declared.choice.Choice.{Choice}
 use Rattle.tree_laws.specs.declared.choice.Choice.TheVariants as choice
 use Rattle.tree_laws.specs.declared.choice.OpenChoice.TheVariants as left
-use Rattle.tree_laws.specs.OwnStore.{own_store, question, outcomes, union_in, unseen, seen, early_tree, OwnStoreIsTold}
+use Rattle.tree_laws.specs.TighterModes.{kind_in, in_mode}
+use Rattle.tree_laws.specs.OwnStore.{own_store, question, outcomes, unseen, early_tree, OwnStoreIsTold}
 use Rattle.tree_laws.proofs.OneList.{one_list_of_choices_by}
 use Rattle.tree_laws.proofs.Lists.{none_here, first_or_later, first_is_here}
 use Rattle.tree_laws.proofs.StoreBufferingValues.{zero_one, in_zero_one, of_zero_one}
@@ -199,15 +201,15 @@ module _ (mode : Machine) where
     must_end = (whole_after 1 0, record { registers = refl; long = refl; memory = λ l v e h. last_writes l v e h });
   }
 
-  shown : (rule : Rule) → IsValidCoverBy rule question mode outcomes seen (gives 1 [])
-  shown rule = (map (choice.Value 1) (0 ∷ []), second_value rule 1, (known, tt))
+  seen : (rule : Rule) → IsValidCoverBy rule question mode outcomes (in_mode mode (Value 1 (one_child (Known 0)))) (gives 1 [])
+  seen rule = (map (choice.Value 1) (0 ∷ []), second_value rule 1, (known, tt))
 
 -- the store precedes the load, and comes after the initial write that the load reads
 module _ (others : List ℕ) where
   abbrev reads_initial : Sketch
   reads_initial = with_source (gives 0 others) (At 0 1) (Initial 0)
 
-  cycle : (mode : Machine) → IsKnownCycle own_store mode reads_initial (union_in mode) (At 0 0 ∷ At 0 1 ∷ [])
+  cycle : (mode : Machine) → IsKnownCycle own_store mode reads_initial (kind_in mode union.Location) (At 0 0 ∷ At 0 1 ∷ [])
   cycle SequentialMachine = (
     (tt, (_, _, refl, refl, inl (refl, lit< tt))),
     (tt, (_, _, refl, refl, inr (inr (inr (Initial 0, (0, lit< tt, refl), inr (refl, (λ q. cc), refl), (λ q. cc)))))),
@@ -218,7 +220,7 @@ module _ (others : List ℕ) where
   )
 
   closed : (rule : Rule) (mode : Machine) → AllowsSource rule own_store mode (gives 0 others) (At 0 1) →
-      IsValidCoverBy rule question mode outcomes (unseen mode) (gives 0 others)
+      IsValidCoverBy rule question mode outcomes (in_mode mode unseen) (gives 0 others)
   closed rule mode allowed = (
     choice.Source (access 0 1) (Initial 0) ∷ [],
     record { sources = Initial 0 ∷ []; next = one_source mode others rule allowed; each = refl },
@@ -226,20 +228,20 @@ module _ (others : List ℕ) where
   )
 
 -- the early tree asks for a source while the second load has no value
-not_whole : (mode : Machine) → IsValidCoverBy Whole question mode outcomes (early_tree mode) (empty_sketch own_store) → ⊥
+not_whole : (mode : Machine) → IsValidCoverBy Whole question mode outcomes (in_mode mode early_tree) (empty_sketch own_store) → ⊥
 not_whole mode (choices, are, valid) =
     let two : choices ≡ map (choice.Value 0) zero_one = one_list_of_choices_by Whole own_store mode (empty_sketch own_store) (left.Value 0) choices (map (choice.Value 0) zero_one) are (first_values mode Whole) in
-    let (first, rest) = subst (λ (cs : List Choice). AreValidCoversBy Whole question mode outcomes (two_children (unseen mode) seen)
+    let (first, rest) = subst (λ (cs : List Choice). AreValidCoversBy Whole question mode outcomes (two_children (in_mode mode unseen) (in_mode mode (Value 1 (one_child (Known 0)))))
     (map (sketch_with (empty_sketch own_store)) cs)) two valid in
     let none : next_read own_store mode (gives 0 []) 1 ≡ None = first.1.next.allowed 1 in cc
 
 pub own_store_is_told : OwnStoreIsTold
 own_store_is_told mode = record {
-  early = (map (choice.Value 0) zero_one, first_values mode Early, (closed [] Early mode (settled mode), (shown mode Early, tt)));
+  early = (map (choice.Value 0) zero_one, first_values mode Early, (closed [] Early mode (settled mode), (seen mode Early, tt)));
   not_whole = not_whole mode;
   whole = (
     map (choice.Value 0) zero_one,
     first_values mode Whole,
-    ((map (choice.Value 1) (0 ∷ []), second_value mode Whole 0, (closed (0 ∷ []) Whole mode (whole_after mode 0 0), tt)), (shown mode Whole, tt)),
+    ((map (choice.Value 1) (0 ∷ []), second_value mode Whole 0, (closed (0 ∷ []) Whole mode (whole_after mode 0 0), tt)), (seen mode Whole, tt)),
   );
 }

@@ -1,5 +1,5 @@
 -- What many proofs of this crate speak of, imported once.
-pub use Rattle.std.proofs.Common.{Bool, Contains, List, None, Some, [], ap, arith, false, get_or, inl, inr, is_some, length, lit<, map, nat_eq, not, refl, slice_get, slice_index}
+pub use Rattle.std.proofs.Common.{Bool, Contains, IsSome, List, None, Option, Some, [], ap, arith, false, get_or, inl, inr, is_some, length, lit<, map, nat_eq, not, refl, slice_get, slice_index}
 pub use Rattle.std.proofs.Common.{subst, suc, sym, true, zero, zero-add, ℕ, ◌+◌, ◌<◌, ◌||◌, ◌↔◌, ◌∙◌, ◌∷◌, ◌≡◌, ◌≢◌, ◌≤◌, ◌⊎◌}
 pub use Rattle.std.proofs.lemmas.Bool.{cases_Bool, not-true, not_from_false}
 pub use Rattle.std.proofs.lemmas.Bool.Decides.{nat_tests}
@@ -10,16 +10,17 @@ pub use Rattle.std.specs.Cmp.{nat_cmp_total}
 pub use Rattle.std.specs.List.{AllPairs, filter, list_any, range_with_len}
 pub use Rattle.std.specs.List.Sorted.{IsStrictlyIncreasing}
 pub use Rattle.std.specs.Ordering.{eq_by_cmp, nat_cmp}
+pub use Rattle.candidate_executions.proofs.FromRuns.OtherSections.{also, bare, threads_alike, writes}
 pub use Rattle.candidate_executions.proofs.Orders.Lists.{first_or_later, some_value}
 pub use Rattle.candidate_executions.proofs.Sketches.Choices.{a_pair_keeps_a_sketch, a_source_keeps_a_sketch, a_value_keeps_a_sketch, each_has_a_value, each_has_an_order}
 pub use Rattle.candidate_executions.proofs.Sketches.Choices.{empty_is_a_sketch}
 pub use Rattle.candidate_executions.proofs.Sketches.SettledSources.{each_has_a_settled_source, whole_is_settled}
 pub use Rattle.candidate_executions.specs.Candidates.{Candidate, Writes, access_by}
 pub use Rattle.candidate_executions.specs.Events.{ComesBefore}
-pub use Rattle.candidate_executions.specs.Settled.{IsSettled}
-pub use Rattle.candidate_executions.specs.Sketches.{Completes, IsConsistentCompletion, IsKnownCycle, IsPair, IsSketch, IsSourceOf, IsWhole}
-pub use Rattle.candidate_executions.specs.Sketches.{MayBeLast, MustEndAs, Sketch, empty_sketch, given_to, next_read, with_pair, with_source, with_value}
-pub use Rattle.candidate_executions.specs.Traces.{entered}
+pub use Rattle.candidate_executions.specs.Settled.{IsSettled, MayStillWrite}
+pub use Rattle.candidate_executions.specs.Sketches.{Completes, EndsAs, EndsInValues, IsBefore, IsConsistentCompletion, IsKnownCycle, IsPair, IsSketch, IsSourceOf, IsWhole, KnownAtom, KnownEdgeOfMode}
+pub use Rattle.candidate_executions.specs.Sketches.{KnownFromReads, KnownRelates, MayBeLast, MustEndAs, Sketch, empty_sketch, given_to, next_read, read_by, stopped, with_pair, with_source, with_value}
+pub use Rattle.candidate_executions.specs.Traces.{entered, exchange_of, load_of, store_of, trace, trace_by, traced}
 pub use Rattle.candidate_executions.specs.Values.{IsHeldValue, IsValueOf, Occurs}
 pub use Rattle.candidate_executions.specs.declared.access.Access.{Access}
 pub use Rattle.candidate_executions.specs.declared.event.Event.{Event, TheVariants.Access as At, TheVariants.Initial}
@@ -38,20 +39,21 @@ pub use Rattle.tso_machine.specs.Examples.{ends_with, store_buffering, waiting_s
 pub use Rattle.tso_machine.specs.Machine.{HasEnded, Machine, SequentialMachine, State, StoreBufferMachine, no_gaps, passes, run, start}
 pub use Rattle.tso_machine.specs.Outcomes.{AreGapsOf, IsForeignRun, IsSequentialOutcome, IsShownRun, IsTheAnswer, LeavesOutcome, PassesName, PassesNoNameOf}
 pub use Rattle.tso_machine.specs.declared.label.Label.{Label}
-pub use Rattle.tso_program.specs.Fences.{gaps_in}
+pub use Rattle.tso_program.specs.Fences.{Gaps, gaps_in}
 pub use Rattle.tso_program.specs.Limits.{IsWithinLimits, JumpForward}
-pub use Rattle.tso_program.specs.Listings.{action, gap_count, gap_number, instr_at}
-pub use Rattle.tso_program.specs.Shown.{asked, show}
+pub use Rattle.tso_program.specs.Listings.{action, code_of, gap_count, gap_number, instr_at, start_of}
+pub use Rattle.tso_program.specs.Shown.{asked, show, show_registers}
 pub use Rattle.tso_program.specs.declared.question.Question.{Question}
-pub use Rattle.tso_program.specs.declared.action.Action.TheVariants.{Stop}
+pub use Rattle.tso_program.specs.declared.action.Action.TheVariants.{Go, Read, Stop, Swap, Wait, Write}
+pub use Rattle.tso_program.specs.declared.action.Local.{Local}
 pub use Rattle.tso_program.specs.declared.listing.Listing.{Listing}
 pub use Rattle.tso_program.specs.declared.outcome.Outcome.{Outcome}
-pub use Rattle.tso_program.specs.declared.shown.Shown.TheVariants.{All}
+pub use Rattle.tso_program.specs.declared.shown.Shown.TheVariants.{All, Truth}
 pub use Rattle.tree_laws.specs.Certificates.{AreSequentialRuns, IsJudged, IsRunOutside, IsValidCertificate, IsValidCertificateOf, HasRightSet, names_of}
-pub use Rattle.tree_laws.specs.CoverTrees.{AllowsSource, AreChoices, AreChoicesBy, AreTwo, AreValidCoversBy, HasNextValues, HasSources, HasSourcesBy}
+pub use Rattle.tree_laws.specs.CoverTrees.{AllowsOrder, AllowsSource, AreChoices, AreChoicesBy, AreTwo, AreValidCoversBy, HasNextValues, HasNextValuesBy, HasNoOrderBy, HasSources, HasSourcesBy}
 pub use Rattle.tree_laws.specs.CoverTrees.{IsCovered, IsValidCover, IsValidCoverBy, IsValueBy, MustEndAsNumber, event_of, sketch_with}
 pub use Rattle.tree_laws.specs.GapTrees.{AreValidGaps, EachBetterOfRegionLeavesOutcome, HaveCosts, IsOpenGap, IsSplitBy, IsValidGap, SomePassesNone, SomeRunAvoidsEachBetter}
-pub use Rattle.tree_laws.specs.Laws.{ACoveredListHasEachOutcome, ASplitLosesNoSet, AValidCertificateProves}
+pub use Rattle.tree_laws.specs.Laws.{ACoveredListHasEachOutcome, ASplitLosesNoSet, ATighterModeKeepsACover, ATighterModeKeepsASettledRead, ATighterModeKeepsAWholeSketch, ATighterModeKeepsTheValues, AValidCertificateProves}
 pub use Rattle.tree_laws.specs.Laws.{AValidCoverCovers, AValidFencedTreeServes, AValidGapTreeAvoidsEachBetter, AValidGapTreeLeavesNoBetter, AValidTreeMakesTheSequentialList, CoversAreJudgedInOrder, GapsAreJudgedInOrder, IsForeign}
 pub use Rattle.tree_laws.specs.Laws.{IsSequentialList, SoNoServingSetIsBetter, TheChoicesAreOneList, TheGapsAreOneList, TheRootHasEverySet, TheSourcesAreOneList, TheValuesAreOneList}
 pub use Rattle.tree_laws.specs.declared.choice.Choice.{Choice}

@@ -16,12 +16,14 @@ use Rattle.tso_machine.specs.declared.label.Label.{Label}
 use Rattle.tso_machine.specs.Machine.{Machine, SequentialMachine, StoreBufferMachine}
 use Rattle.tso_machine.specs.Outcomes.{gaps_named, AllowsShown, IsSequentialOutcome, Serves, IsForeignRun, AreGapsOf, EachBetterLeavesOutcome, IsTheAnswer, Headline}
 use Rattle.candidate_executions.specs.declared.event.Event.{Event}
-use Rattle.candidate_executions.specs.Sketches.{Sketch, empty_sketch, IsSketch}
+use Rattle.candidate_executions.specs.Sketches.{Sketch, empty_sketch, IsSketch, IsWhole}
+use Rattle.candidate_executions.specs.Settled.{IsSettled}
 use Rattle.cert_forest.specs.Trees.{Cover, Gap, covers_of, gap_trees_of}
 use Rattle.tree_laws.specs.declared.choice.Choice.{Choice}
 use Rattle.tree_laws.specs.declared.choice.OpenChoice.{OpenChoice}
 use Rattle.cert_forest.specs.Rule.{Rule}
 use Rattle.tree_laws.specs.CoverTrees.{HasNextValuesBy, HasSourcesBy, AreChoicesBy, IsValidCoverBy, AreValidCoversBy, IsCovered}
+use Rattle.tree_laws.specs.TighterModes.{IsNoLooser, in_mode}
 use Rattle.tree_laws.specs.Packings.{IsPacking, IsCheapestOf, with_gaps, HavePositiveCosts, MeetsEach}
 use Rattle.tree_laws.specs.GapTrees.{SomePassesNone, IsSplitBy, IsBoundBy, IsValidGap, AreValidGaps, SomeRunAvoidsEachBetter, EachBetterOfRegionLeavesOutcome, NoServingSetIsBetter, HaveCosts}
 use Rattle.cert_forest.specs.Certificates.{Certificate}
@@ -55,6 +57,25 @@ AValidFencedTreeServes rule = (q : Question) (gaps : SetOfGaps) (outcomes : List
 abbrev pub TiesChangeNoCover : Rule → Type 0
 TiesChangeNoCover rule = (p : Listing) (shown : Shown) (ties others : List ℕ) (mode : Machine) (outcomes : List Outcome) (tree : Cover) (k : Sketch) →
     IsValidCoverBy rule (asked_with ties p shown) mode outcomes tree k → IsValidCoverBy rule (asked_with others p shown) mode outcomes tree k
+
+-- A cover tree that is valid in a mode is valid in each mode that is no looser, its cycles being of that mode's unions: known
+-- edges only grow.
+abbrev pub ATighterModeKeepsACover : Rule → Type 0
+ATighterModeKeepsACover rule = (q : Question) (loose tight : Machine) (outcomes : List Outcome) (tree : Cover) (k : Sketch) → IsNoLooser loose tight →
+    IsValidCoverBy rule q loose outcomes tree k → IsValidCoverBy rule q tight outcomes (in_mode tight tree) k
+
+-- the values of a thread's next read stay the same
+abbrev pub ATighterModeKeepsTheValues : Rule → Type 0
+ATighterModeKeepsTheValues rule = (p : Listing) (loose tight : Machine) (k : Sketch) (t : ℕ) (values : List ℕ) → IsNoLooser loose tight →
+    HasNextValuesBy rule p loose k t values → HasNextValuesBy rule p tight k t values
+
+-- a sketch in which each read has its value stays one
+abbrev pub ATighterModeKeepsAWholeSketch : Type 0
+ATighterModeKeepsAWholeSketch = (p : Listing) (loose tight : Machine) (k : Sketch) → IsNoLooser loose tight → IsWhole p loose k → IsWhole p tight k
+
+-- a settled read stays one
+abbrev pub ATighterModeKeepsASettledRead : Type 0
+ATighterModeKeepsASettledRead = (p : Listing) (loose tight : Machine) (k : Sketch) (e : Event) → IsNoLooser loose tight → IsSettled p loose k e → IsSettled p tight k e
 
 -- the labels are a foreign run
 abbrev pub IsForeign : Question → List Label → Type 0

@@ -1,6 +1,7 @@
 pub mod Ascending
 pub mod CoverTrees
 pub mod Covers
+pub mod TighterModes
 pub mod Packings
 pub mod GapTrees
 pub mod Certificates

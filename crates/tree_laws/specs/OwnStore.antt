@@ -8,14 +8,14 @@ use Rattle.tso_program.specs.declared.question.Question.{Question}
 use Rattle.tso_program.specs.declared.shown.Shown.TheVariants.{All}
 use Rattle.tso_program.specs.Shown.{asked}
 use Rattle.tso_machine.specs.Examples.{two_threads, ends_with}
-use Rattle.tso_machine.specs.Machine.{Machine, SequentialMachine, StoreBufferMachine}
-use Rattle.candidate_executions.specs.declared.event.Kind.{Kind}
+use Rattle.tso_machine.specs.Machine.{Machine}
 use Rattle.candidate_executions.specs.declared.event.Kind.TheVariants as union
 use Rattle.candidate_executions.specs.Sketches.{empty_sketch}
 use Rattle.cert_forest.specs.Trees.{Cover, Value, Source, Cycle, Known}
 use Rattle.cert_forest.specs.StoreBuffering.{access, one_child, two_children}
 use Rattle.cert_forest.specs.Rule.TheVariants.{Whole, Early}
 use Rattle.tree_laws.specs.CoverTrees.{IsValidCoverBy}
+use Rattle.tree_laws.specs.TighterModes.{in_mode}
 
 -- the first thread stores 1 to x and loads x, the second loads y
 abbrev pub own_store : Listing
@@ -28,32 +28,23 @@ question = asked own_store All
 abbrev pub outcomes : List Outcome
 outcomes = ends_with 1 0 0 0 1 0 ∷ []
 
--- the union of the mode of which the cycle is
-abbrev pub union_in : Machine → Kind
-union_in SequentialMachine = union.Sequential
-union_in (StoreBufferMachine gaps) = union.Location
-
 -- its load gives 0: then it reads the initial write, and comes before its own store
-abbrev pub unseen : Machine → Cover
-unseen mode = Source (access 0 1) (one_child (Cycle (union_in mode) (access 0 0 ∷ access 0 1 ∷ [])))
-
--- its load gives 1
-abbrev pub seen : Cover
-seen = Value 1 (one_child (Known 0))
+abbrev pub unseen : Cover
+unseen = Source (access 0 1) (one_child (Cycle union.Location (access 0 0 ∷ access 0 1 ∷ [])))
 
 -- early: no other thread may still write to x, whatever the second load gives
-abbrev pub early_tree : Machine → Cover
-early_tree mode = Value 0 (two_children (unseen mode) seen)
+abbrev pub early_tree : Cover
+early_tree = Value 0 (two_children unseen (Value 1 (one_child (Known 0))))
 
 -- once each read has its value
-abbrev pub whole_tree : Machine → Cover
-whole_tree mode = Value 0 (two_children (Value 1 (one_child (unseen mode))) seen)
+abbrev pub whole_tree : Cover
+whole_tree = Value 0 (two_children (Value 1 (one_child unseen)) (Value 1 (one_child (Known 0))))
 
 -- each tree is valid by its rule, and the early one only early
 pub record OwnStoreIsSeen (mode : Machine) : Type 0 where
-  pub early : IsValidCoverBy Early question mode outcomes (early_tree mode) (empty_sketch own_store)
-  pub not_whole : ¬ IsValidCoverBy Whole question mode outcomes (early_tree mode) (empty_sketch own_store)
-  pub whole : IsValidCoverBy Whole question mode outcomes (whole_tree mode) (empty_sketch own_store)
+  pub early : IsValidCoverBy Early question mode outcomes (in_mode mode early_tree) (empty_sketch own_store)
+  pub not_whole : ¬ IsValidCoverBy Whole question mode outcomes (in_mode mode early_tree) (empty_sketch own_store)
+  pub whole : IsValidCoverBy Whole question mode outcomes (in_mode mode whole_tree) (empty_sketch own_store)
 
 abbrev pub OwnStoreIsTold : Type 0
 OwnStoreIsTold = (mode : Machine) → OwnStoreIsSeen mode

@@ -1,6 +1,6 @@
 //! The laws: each function's contract is a theorem, and calling it does nothing.
 ghost use Rattle.cert_forest.specs.Rule.{Rule};
-ghost use Rattle.tree_laws.specs.Laws.{AValidCoverCovers, ACoveredListHasEachOutcome, AValidTreeMakesTheSequentialList, AValidFencedTreeServes, TiesChangeNoCover, ASplitLosesNoSet, TheCheapestOfEachAreTheBest, EachCostsAtLeastTheSum, ABoundByRunsLeavesNoBetter, NoRunsBoundByMust, AValidGapTreeAvoidsEachBetter, AValidGapTreeLeavesNoBetter, SoNoServingSetIsBetter, TheRootHasEverySet, AValidCertificateProves, CoversAreJudgedInOrder, GapsAreJudgedInOrder, TheValuesAreOneList, TheSourcesAreOneList, TheChoicesAreOneList, TheGapsAreOneList, TheCheapestAreOneList, TheBoundIsDecided};
+ghost use Rattle.tree_laws.specs.Laws.{AValidCoverCovers, ACoveredListHasEachOutcome, AValidTreeMakesTheSequentialList, AValidFencedTreeServes, TiesChangeNoCover, ATighterModeKeepsACover, ATighterModeKeepsTheValues, ATighterModeKeepsAWholeSketch, ATighterModeKeepsASettledRead, ASplitLosesNoSet, TheCheapestOfEachAreTheBest, EachCostsAtLeastTheSum, ABoundByRunsLeavesNoBetter, NoRunsBoundByMust, AValidGapTreeAvoidsEachBetter, AValidGapTreeLeavesNoBetter, SoNoServingSetIsBetter, TheRootHasEverySet, AValidCertificateProves, CoversAreJudgedInOrder, GapsAreJudgedInOrder, TheValuesAreOneList, TheSourcesAreOneList, TheChoicesAreOneList, TheGapsAreOneList, TheCheapestAreOneList, TheBoundIsDecided};
 ghost use Rattle.tree_laws.specs.StoreBuffering.{StoreBufferingIsCertified};
 ghost use Rattle.tree_laws.specs.OwnStore.{OwnStoreIsTold};
 
@@ -25,6 +25,15 @@ pub fn a_valid_fenced_tree_serves()
 /// A cover tree that is valid is valid whatever gaps go together.
 pub fn ties_change_no_cover()
     ensures { (rule : Rule) → TiesChangeNoCover rule }
+{}
+
+/// A cover tree that is valid in a mode is valid in each mode that is no looser, as one of that mode. Which
+/// reads have a value, the values of the next, and which reads are settled stay the same.
+pub fn a_tighter_mode_keeps_a_cover()
+    ensures cover { (rule : Rule) → ATighterModeKeepsACover rule }
+    ensures values { (rule : Rule) → ATighterModeKeepsTheValues rule }
+    ensures whole { ATighterModeKeepsAWholeSketch }
+    ensures settled { ATighterModeKeepsASettledRead }
 {}
 
 /// The children of a region hold every set of it that has one of the gaps.
