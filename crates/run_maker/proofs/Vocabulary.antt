@@ -8,7 +8,7 @@ pub use Rattle.std.proofs.lemmas.Option.{get_or_from_slice_get, same_Some, slice
 pub use Rattle.std.specs.List.{AllPairs, range_with_len, remove}
 pub use Rattle.std.specs.Prelude.{slice_get, slice_index, slice_set, ◌==◌}
 pub use Rattle.candidate_executions.proofs.Orders.AcyclicIsOrdered.{In, Ordered}
-pub use Rattle.candidate_executions.proofs.Orders.Lists.{put_other, put_same, some_value}
+pub use Rattle.candidate_executions.proofs.Orders.Lists.{some_value}
 pub use Rattle.candidate_executions.specs.Candidates.{Candidate, EndsWith, HasOutcome, IsAccess, IsCandidate, Writes, access_by}
 pub use Rattle.candidate_executions.specs.Consistency.{Edge, IsAcyclic, IsConsistent, IsCycle, IsOfMode, Leads, Relates}
 pub use Rattle.candidate_executions.specs.Orders.{IsOrder, Steps, execs, flushes, followed_union, labels_along, no_more, steps, steps_by, to_ends}
@@ -20,6 +20,7 @@ pub use Rattle.program_sketches.proofs.Lookups.{each_more, empty_list}
 pub use Rattle.exec_axioms.specs.Cycles.{EachGoesOn, IsEnd, IsSuccessor}
 pub use Rattle.program_sketches.specs.Known.{HasNoCycle}
 pub use Rattle.program_sketches.specs.ProgramSketches.{ProgramSketch, access_in, mode_in, trace_in}
+pub use Rattle.tso_machine.proofs.Link.{put_other, put_same}
 pub use Rattle.tso_machine.specs.Machine.{IsRun, Machine, SequentialMachine, StoreBufferMachine, put}
 pub use Rattle.tso_machine.specs.Modes.{machine_of_mode}
 pub use Rattle.tso_machine.specs.declared.label.Label.{Label}
