@@ -5,7 +5,8 @@ use Rattle.std.proofs.lemmas.List.FromFn.{length-map-range_with_len}
 use Rattle.tso_program.specs.declared.shown.ShownKind.{ShownKind}
 use Rattle.std.specs.List.{list_all}
 use Rattle.std.specs.Prelude.{if◌then◌else◌}
-use Rattle.litmus_text.specs.{Texts.IsLitmus, CostTexts.Entry, CostTexts.said_of, CostTexts.name_said, CostTexts.ties_of}
+use Rattle.litmus_reader.specs.Texts.{IsLitmus}
+use Rattle.litmus_text.specs.{CostTexts.Entry, CostTexts.said_of, CostTexts.name_said, CostTexts.ties_of}
 use Rattle.cert_forest.specs.Certificates.{Certificate}
 use Rattle.documents.specs.declared.note.Note.{Note}
 use Rattle.documents.specs.Documents.{IsPlacedDocument}

@@ -15,7 +15,7 @@ use Rattle.tso_program.specs.{Shown.show_registers, Shown.show_memory, Shown.sho
 use Rattle.tso_program.specs.{declared.limits.TheConstants.MAX_THREADS, declared.limits.TheConstants.MAX_LOCATIONS}
 use Rattle.tso_program.proofs.{Kept.memory_long, Kept.threads_long, ReadOff.atom_kept, ReadOff.truths_told}
 use Rattle.tso_machine.specs.{declared.label.Label.Label, Machine.Machine, Machine.IsRun}
-use Rattle.litmus_text.specs.{Litmus.Litmus, Shown.shown_as}
+use Rattle.litmus_reader.specs.{declared.litmus.Litmus.Litmus, Shown.shown_as}
 use Rattle.litmus_reader.proofs.ShownPlaces.{shows_registers, shows_locations}
 
 -- no more threads and locations than a program may have

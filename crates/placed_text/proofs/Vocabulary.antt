@@ -14,8 +14,8 @@ pub use Rattle.gap_sets.specs.declared.ties.TiedCosts.{TiedCosts}
 unfoldable pub use Rattle.gap_sets.specs.Gaps.{numbers_of_set}
 pub use Rattle.gap_sets.specs.declared.gap_set.TheConstants.{MAX_GAPS}
 pub use Rattle.litmus_text.specs.GivenCosts.{AreGiven, AreNotGiven}
-pub use Rattle.litmus_text.specs.Litmus.{Litmus}
-pub use Rattle.litmus_text.specs.Shown.{question_of, shown_as}
+pub use Rattle.litmus_reader.specs.declared.litmus.Litmus.{Litmus}
+pub use Rattle.litmus_reader.specs.Shown.{question_of, shown_as}
 pub use Rattle.report.specs.Answers.{answer_line}
 pub use Rattle.tso_machine.specs.Outcomes.{IsForeignRun, IsReplayOf, IsShownRun, IsTheAnswer, Serves}
 pub use Rattle.tso_machine.specs.declared.label.Label.{Label}

@@ -10,7 +10,7 @@ use Rattle.tso_machine.specs.declared.stepping.Step.{Step}
 use Rattle.tso_machine.specs.declared.stepping.ThreadState.{ThreadState}
 use Rattle.tso_machine.specs.Machine.{Machine, start}
 use Rattle.tso_machine.specs.Steps.{AreSteps}
-use Rattle.litmus_text.specs.Litmus.{Litmus}
+use Rattle.litmus_reader.specs.declared.litmus.Litmus.{Litmus}
 use Rattle.report.specs.Places.{gap_text}
 use Rattle.run_views.specs.Tables.{table_text}
 

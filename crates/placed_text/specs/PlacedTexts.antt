@@ -8,8 +8,8 @@ use Rattle.tso_program.specs.declared.listing.Listing.{Listing}
 use Rattle.tso_program.specs.declared.shown.ShownKind.{ShownKind}
 use Rattle.tso_program.specs.declared.question.Question.{Question}
 use Rattle.tso_machine.specs.Outcomes.{Headline, IsTheAnswer}
-use Rattle.litmus_text.specs.Litmus.{Litmus}
-use Rattle.litmus_text.specs.Texts.{IsLitmus, IsFencedLitmus}
+use Rattle.litmus_reader.specs.declared.litmus.Litmus.{Litmus}
+use Rattle.litmus_reader.specs.Texts.{IsLitmus, IsFencedLitmus}
 use Rattle.litmus_text.specs.Canonical.{canonical_text, litmus_fenced_at}
 use Rattle.litmus_text.specs.GivenCosts.{AreGiven}
 use Rattle.documents.specs.Documents.{IsPlacedDocument}
@@ -23,7 +23,7 @@ use Rattle.placed_text.specs.declared.problem.Problem.{Problem}
 use Rattle.placed_text.specs.Verdicts.{IsVerdict, IsVerdictIn}
 use Rattle.placed_text.specs.declared.writing.AnswerText.{AnswerText}
 use Rattle.placed_text.specs.declared.writing.PlacedText.{PlacedText}
-use Rattle.litmus_text.specs.Shown.{shown_as, question_of}
+use Rattle.litmus_reader.specs.Shown.{shown_as, question_of}
 
 -- what is asked of the program of a test, with the ties of its costs
 abbrev pub tied_question : Litmus Listing → ShownKind → TiedCosts → Question

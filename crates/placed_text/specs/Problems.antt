@@ -3,8 +3,8 @@ use Rattle.std.specs.Prelude.{◌≡◌, ℕ, List, Option}
 use Rattle.tso_program.specs.declared.question.Question.{Question}
 use Rattle.tso_program.specs.declared.shown.ShownKind.{ShownKind}
 use Rattle.tso_program.specs.Shown.{asked_with}
-use Rattle.litmus_text.specs.Texts.{IsLitmus}
-use Rattle.litmus_text.specs.Shown.{shown_as}
+use Rattle.litmus_reader.specs.Texts.{IsLitmus}
+use Rattle.litmus_reader.specs.Shown.{shown_as}
 use Rattle.litmus_text.specs.GivenCosts.{AreGiven}
 use Rattle.placed_text.specs.declared.problem.Problem.{Problem}
 

@@ -2,10 +2,10 @@
 use Rattle.std.specs.Prelude.{◌≡◌, ◌≢◌, ℕ, List, Option, Some, ⊤}
 use Rattle.gap_sets.specs.declared.ties.TiedCosts.{TiedCosts}
 use Rattle.tso_program.specs.declared.listing.Listing.{Listing}
-use Rattle.litmus_text.specs.Litmus.{Litmus}
-use Rattle.litmus_text.specs.ReadFault.{ReadFault}
-use Rattle.litmus_text.specs.ReadFault.TheVariants as read_fault
-use Rattle.litmus_text.specs.Texts.{IsLitmus, IsNoLitmus}
+use Rattle.litmus_reader.specs.declared.litmus.Litmus.{Litmus}
+use Rattle.litmus_reader.specs.declared.fault.ReadFault.{ReadFault}
+use Rattle.litmus_reader.specs.declared.fault.ReadFault.TheVariants as read_fault
+use Rattle.litmus_reader.specs.Texts.{IsLitmus, IsNoLitmus}
 use Rattle.litmus_text.specs.CostTextFault.{CostTextFault}
 use Rattle.litmus_text.specs.CostTextFault.TheVariants as cost_fault
 use Rattle.litmus_text.specs.CostTexts as cost_texts

@@ -7,7 +7,7 @@ use Rattle.tso_program.specs.declared.shown.ShownKind.{ShownKind}
 use Rattle.tso_machine.specs.declared.label.Label.{Label}
 use Rattle.tso_machine.specs.Machine.{SequentialMachine}
 use Rattle.cover_solver.specs.Witnesses.{HasNoWitness, IsWitness}
-use Rattle.litmus_text.specs.Litmus.{Litmus}
+use Rattle.litmus_reader.specs.declared.litmus.Litmus.{Litmus}
 use Rattle.documents.specs.declared.note.Note.{Note}
 use Rattle.documents.specs.declared.note.NoteKind.{NoteKind}
 use Rattle.documents.specs.declared.note.NoteKind.TheVariants as kinds

@@ -17,9 +17,9 @@ use Rattle.tso_machine.specs.Machine.{Machine, StoreBufferMachine, no_gaps, IsRu
 use Rattle.tso_machine.specs.Modes.{ArePassed}
 use Rattle.tso_machine.specs.Outcomes.{IsForeignRun, IsShownRun, IsTheAnswer}
 use Rattle.tso_program.specs.Truth.{truth}
-use Rattle.litmus_text.specs.Litmus.{Litmus}
-use Rattle.litmus_text.specs.Texts.{IsLitmus}
-use Rattle.litmus_text.specs.Shown.{shown_as}
+use Rattle.litmus_reader.specs.declared.litmus.Litmus.{Litmus}
+use Rattle.litmus_reader.specs.Texts.{IsLitmus}
+use Rattle.litmus_reader.specs.Shown.{shown_as}
 use Rattle.litmus_text.specs.GivenCosts.{AreGiven}
 use Rattle.report.specs.Answers.{answer_line, printed_labels, outcome_line, passed_line, without_line}
 use Rattle.documents.specs.declared.run.Setting.TheVariants.{Without}

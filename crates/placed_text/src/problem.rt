@@ -1,7 +1,7 @@
 //! Placement problems, and what they are read from.
 ghost use Rattle.std.specs.Prelude.{◌≡◌, ◌≤◌, IfErr, IfOk, length, option_map};
 ghost use Rattle.tso_program.specs.Listings.{gap_count};
-ghost use Rattle.litmus_text.specs.Texts.{IsLitmus};
+ghost use Rattle.litmus_reader.specs.Texts.{IsLitmus};
 ghost use Rattle.litmus_text.specs.GivenCosts.{AreGiven};
 ghost use Rattle.placed_text.specs.Problems.{IsProblem};
 ghost use Rattle.placed_text.specs.TextFaults.{HasNoProblem, HasNoProgram, HasNoCosts};
