@@ -22,7 +22,7 @@ pub record DeliversDocument (status : ℕ) (json : Bool) (page : Option (List �
   pub as_asked : answer.json ≡ json
   pub paged : IsPageFor page document answer.first
 
--- the same of a document with what is said beside the answer
+-- What is delivered of a text, where the document's line has what is said beside the answer too.
 pub record DeliversNoted (status : ℕ) (json : Bool) (page : Option (List ℕ)) (text : List ℕ) (document : List (List ℕ)) (verdict : Option Note) (answer : Answer) : Type 0 where
   pub line : List ℕ
   pub noted : IsNoted verdict document line

@@ -74,7 +74,7 @@ IsGapText Tied source text costs lines = IsTiedFile source.program costs.costs l
 abbrev pub TellsGapsDocument : Litmus Listing → TiedCosts → List ℕ → Type 0
 TellsGapsDocument source costs line = (document : List (List ℕ)) × IsGapsDocument source costs document × IsLineOf document [] line
 
--- the same, or that document
+-- the text in this form, or where it is asked for the line of the document
 abbrev pub TellsGaps : Bool → GapForm → Litmus Listing → Option (List ℕ) → TiedCosts → List ℕ → Type 0
 TellsGaps false form source text costs lines = IsGapText form source text costs lines
 TellsGaps true form source text costs lines = TellsGapsDocument source costs lines

@@ -87,8 +87,8 @@ abbrev pub Told : Type 0
 Told = List ℕ × List ℕ
 
 -- Why a tie is needed: the lines have the labels of a run that is one with no gap fenced and with the gaps of the other ties
--- fenced, its outcome, of which is shown what no sequential run shows, and the gaps that it passes, among them one of the tie; the document says
--- the same of it.
+-- fenced, its outcome, of which is shown what no sequential run shows, and the gaps that it passes, among them one of the tie; the
+-- document has that run, outcome and gaps too.
 pub record IsReasonOf (source : Litmus Listing) (shown : Shown) (left_out : LeftOut) (told : Told) : Type 0 where
   pub labels : List Label
   pub outcome : Outcome
