@@ -2,7 +2,6 @@
 use Rattle.std.proofs.Common.{◌≡◌, ◌≢◌, ℕ, zero, suc, ◌+◌, ◌<◌, ◌≤◌, ◌||◌, ◌&&◌, Bool, true, false, not, List, ◌∷◌, cond, sum_by, refl, sym, ap, ◌∙◌, inl, inr, arith}
 use Rattle.std.proofs.lemmas.Bool.{cases_lt}
 use Rattle.std.proofs.lemmas.Bool.Decides.{nat_tests}
-use Rattle.std.proofs.lemmas.List.Sums.{sum_by-cons}
 use Rattle.std.specs.Cmp.{nat_cmp_total}
 use Rattle.std.specs.List.{filter, range_with_len}
 use Rattle.std.specs.Ordering.{eq_by_cmp, nat_cmp}
@@ -12,20 +11,15 @@ unfoldable use Rattle.gap_sets.specs.Gaps.{numbers_of_set}
 use Rattle.gap_sets.specs.Order.{cost_of, HasLeastDifference, Better}
 unfoldable use Rattle.gap_sets.specs.Order.{total}
 use Rattle.gap_sets.specs.declared.gap_set.TheConstants.{MAX_GAPS}
-use Rattle.gap_sets.proofs.Ranges.{filter_alike}
-
--- the sum after one number is taken or left
-sum_taken : (f : ℕ → ℕ) (t : Bool) (x : ℕ) (xs : List ℕ) → sum_by f (cond t (x ∷ xs) xs) ≡ cond t (f x) 0 + sum_by f xs
-sum_taken f true x xs = sum_by-cons f x xs
-sum_taken f false x xs = omega arith
+use Rattle.gap_sets.proofs.Ranges.{filter_alike, sum-cond}
 
 -- tests that differ at one number of the range alone
 sum_more : (f : ℕ → ℕ) (p r : ℕ → Bool) (a n gap : ℕ) → ((q : ℕ) → q ≢ gap → p q ≡ r q) → a ≤ gap → gap < a + n → p gap ≡ false → r gap ≡ true →
     sum_by f (filter r (range_with_len a n)) ≡ f gap + sum_by f (filter p (range_with_len a n))
 sum_more f p r a zero gap alike low high out here = absurd (omega arith)
 sum_more f p r a (suc n) gap alike low high out here =
-    let left = sum_taken f (p a) a (filter p (range_with_len (a + 1) n)) in
-    let right = sum_taken f (r a) a (filter r (range_with_len (a + 1) n)) in
+    let left = sum-cond f (p a) a (filter p (range_with_len (a + 1) n)) in
+    let right = sum-cond f (r a) a (filter r (range_with_len (a + 1) n)) in
     elim (cases_lt a gap) [
       | inl later ↦
           let rest = sum_more f p r (a + 1) n gap alike (omega arith) (omega arith) out here in

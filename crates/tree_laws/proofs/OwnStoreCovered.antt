@@ -1,6 +1,6 @@
 -- A thread that sees its own store: the early tree and that of whole sketches are valid in each mode.
-use Rattle.tree_laws.proofs.Vocabulary.{◌≡◌, ◌↔◌, ◌⊎◌, ℕ, zero, suc, ◌<◌, List, [], ◌∷◌, Some, None, Contains, slice_index, map, refl, sym, ap, ◌∙◌, subst, inl, inr, arith, lit<, AllPairs, same_Some, Machine, SequentialMachine, StoreBufferMachine}
-use Rattle.tree_laws.proofs.Vocabulary.{Access, Event, Initial, At, access_by, Writes, Sketch, empty_sketch, given_to, IsKnownCycle, with_source, IsSourceOf, IsSettled, IsWhole, MayBeLast, ComesBefore, MustEndAsNumber, HasSourcesBy}
+use Rattle.tree_laws.proofs.Vocabulary.{◌≡◌, ◌↔◌, ◌⊎◌, ℕ, zero, suc, ◌<◌, List, [], ◌∷◌, Some, None, Contains, slice_index, map, refl, sym, ap, ◌∙◌, subst, inl, inr, arith, lit<, same_Some, Machine, SequentialMachine, StoreBufferMachine}
+use Rattle.tree_laws.proofs.Vocabulary.{Access, Event, Initial, At, access_by, Writes, Sketch, empty_sketch, given_to, IsKnownCycle, with_source, IsSourceOf, IsSettled, IsWhole, MayBeLast, MustEndAsNumber, HasSourcesBy}
 use Rattle.tree_laws.proofs.Vocabulary.{Rule, Whole, Early, AllowsSource, AreChoicesBy, IsValidCoverBy, AreValidCoversBy, sketch_with, next_read, IsStrictlyIncreasing, Value, Known, instr_at, Occurs, IsHeldValue, IsValueBy, IsValueOf}
 use Rattle.cert_forest.specs.StoreBuffering.{access, one_child, two_children}
 use Rattle.tso_program.specs.declared.instruction.Reg.{Reg, TheVariants.Eax}
@@ -17,7 +17,7 @@ use Rattle.tree_laws.specs.OwnStore.{own_store, question, outcomes, unseen, earl
 use Rattle.tree_laws.proofs.OneList.{one_list_of_choices_by}
 use Rattle.tree_laws.proofs.Lists.{none_here, first_or_later, first_is_here}
 use Rattle.tree_laws.proofs.StoreBufferingValues.{zero_one, in_zero_one, of_zero_one}
-use Rattle.tree_laws.proofs.StoreBufferingCovered.{ascending}
+use Rattle.tree_laws.proofs.StoreBufferingCovered.{alone, ascending}
 
 -- one of the three instructions
 instruction : (t k : ℕ) (x : Instr) → instr_at own_store.threads t k ≡ Some x → (x ≡ StoreImm 0 1) ⊎ ((x ≡ Load Eax 0) ⊎ (x ≡ Load Eax 1))
@@ -87,9 +87,6 @@ values_by_y Early v = (held_in_y v, λ held. (values_of_y v).1 (held_is_value ow
 
 zero_ascends : IsStrictlyIncreasing (0 ∷ [])
 zero_ascends i h = absurd (omega arith)
-
-alone : (s : Event) → AllPairs ComesBefore (s ∷ [])
-alone s i j d first within = absurd (omega arith)
 
 -- the first thread's load gives a, and the second thread has these values
 abbrev gives : ℕ → List ℕ → Sketch

@@ -24,7 +24,7 @@ pub ascending : IsStrictlyIncreasing zero_one
 ascending zero h = lit< tt
 ascending (suc k) h = absurd (omega arith)
 
-alone : (s : Event) → AllPairs ComesBefore (s ∷ [])
+pub alone : (s : Event) → AllPairs ComesBefore (s ∷ [])
 alone s i j d first within = absurd (omega arith)
 
 -- the thread of an access

@@ -1,11 +1,12 @@
 -- Store buffering: its gap tree is valid.
-use Rattle.tree_laws.proofs.Vocabulary.{◌≡◌, ◌||◌, ℕ, zero, suc, ◌<◌, Bool, true, false, [], ◌∷◌, Contains, refl, sym, ap, ◌∙◌, subst, inl, inr, arith, IsStrictlyIncreasing, nat_cmp, eq_by_cmp, nat_cmp_total, nat_tests, SetOfGaps, Better, all_sets, with_gap}
+use Rattle.tree_laws.proofs.Vocabulary.{◌≡◌, ◌||◌, ℕ, zero, suc, ◌<◌, Bool, true, false, [], ◌∷◌, Contains, refl, sym, ap, ◌∙◌, subst, inl, inr, arith, IsStrictlyIncreasing, nat_cmp, eq_by_cmp, nat_cmp_total, SetOfGaps, Better, all_sets, with_gap}
 use Rattle.tree_laws.proofs.Vocabulary.{without_gap, Region, these, waiting_stores, PassesName, IsSplitBy, IsValidGap, costs, not_itself, second_waits, first_waits, gap_tree}
 use Rattle.std.specs.FinSet as set
 use Rattle.tree_laws.proofs.{Lists.none_here, Lists.first_or_later, Lists.first_is_here, Regions.new_or_old}
 use Rattle.tree_laws.proofs.StoreBufferingValues.{zero_one, in_zero_one, of_zero_one}
 use Rattle.tree_laws.proofs.StoreBufferingRuns.{runs, passed_below, both_passed, second_passed, first_not_passed, second_not_passed}
 use Rattle.tree_laws.proofs.StoreBufferingCovered.{question, ascending as two_ascend}
+use Rattle.tree_laws.proofs.MovedGaps.{put_in}
 use Rattle.tree_laws.proofs.BoundedRegions.{by_must}
 
 abbrev pub both_gaps : SetOfGaps
@@ -64,12 +65,6 @@ split_with_first = record {
 abbrev without_first : Region
 without_first = with_gap (without_gap all_sets 0) 1
 
-itself : (gap : ℕ) (s : SetOfGaps) → set.contains (set.insert s gap) gap ≡ true
-itself gap s = set.contains-insert nat_cmp_total s gap gap ∙ tests (set.contains s gap)
-  where
-    tests : (b : Bool) → (eq_by_cmp nat_cmp gap gap || b) ≡ true
-    tests b = grind (arith, nat_tests)
-
 split_without_first : IsSplitBy question runs without_first 2 []
 split_without_first = record {
   labels = first_waits;
@@ -83,7 +78,7 @@ split_without_first = record {
 }
   where
     none : (gap : ℕ) → gap < 2 → PassesName question first_waits gap → set.contains (set.insert (set.empty {R = nat_cmp}) 0) gap ≡ false → ⊥
-    none zero h passed free = let no_way : true ≡ false = sym (itself 0 set.empty) ∙ free in cc
+    none zero h passed free = let no_way : true ≡ false = sym (put_in set.empty 0) ∙ free in cc
     none (suc zero) h passed free = second_not_passed passed
     none (suc (suc gap)) h passed free = omega arith
 

@@ -1,5 +1,5 @@
 -- What many proofs of this crate speak of, imported once.
-pub use Rattle.std.proofs.Common.{Bool, Contains, IsSome, List, None, Option, Some, [], ap, arith, false, get_or, inl, inr, is_some, length, lit<, map, nat_eq, not, refl, slice_get, slice_index}
+pub use Rattle.std.proofs.Common.{Bool, Contains, IsSome, List, None, Option, Some, [], ap, arith, false, get_or, inl, inr, is_some, length, lit<, map, nat_eq, refl, slice_get, slice_index}
 pub use Rattle.std.proofs.Common.{subst, suc, sym, true, zero, zero-add, ℕ, ◌+◌, ◌<◌, ◌||◌, ◌↔◌, ◌∙◌, ◌∷◌, ◌≡◌, ◌≢◌, ◌≤◌, ◌⊎◌}
 pub use Rattle.std.proofs.lemmas.Bool.{cases_Bool, not-true, not_from_false}
 pub use Rattle.std.proofs.lemmas.Bool.Decides.{nat_tests}
@@ -52,7 +52,7 @@ pub use Rattle.tso_program.specs.declared.shown.Shown.TheVariants.{All, Truth}
 pub use Rattle.tree_laws.specs.Certificates.{AreSequentialRuns, IsJudged, IsRunOutside, IsValidCertificate, IsValidCertificateOf, HasRightSet, names_of}
 pub use Rattle.tree_laws.specs.CoverTrees.{AllowsOrder, AllowsSource, AreChoices, AreChoicesBy, AreTwo, AreValidCoversBy, HasNextValues, HasNextValuesBy, HasNoOrderBy, HasSources, HasSourcesBy}
 pub use Rattle.tree_laws.specs.CoverTrees.{IsCovered, IsValidCover, IsValidCoverBy, IsValueBy, MustEndAsNumber, event_of, sketch_with}
-pub use Rattle.tree_laws.specs.GapTrees.{AreValidGaps, EachBetterOfRegionLeavesOutcome, HaveCosts, IsOpenGap, IsSplitBy, IsValidGap, SomePassesNone, SomeRunAvoidsEachBetter}
+pub use Rattle.tree_laws.specs.GapTrees.{AreValidGaps, HaveCosts, IsOpenGap, IsSplitBy, IsValidGap, SomePassesNone, SomeRunAvoidsEachBetter}
 pub use Rattle.tree_laws.specs.Laws.{ACoveredListHasEachOutcome, ASplitLosesNoSet, ATighterModeKeepsACover, ATighterModeKeepsASettledRead, ATighterModeKeepsAWholeSketch, ATighterModeKeepsTheValues, AValidCertificateProves}
 pub use Rattle.tree_laws.specs.Laws.{AValidCoverCovers, AValidFencedTreeServes, AValidGapTreeAvoidsEachBetter, AValidGapTreeLeavesNoBetter, AValidTreeMakesTheSequentialList, CoversAreJudgedInOrder, GapsAreJudgedInOrder, IsForeign}
 pub use Rattle.tree_laws.specs.Laws.{IsSequentialList, SoNoServingSetIsBetter, TheChoicesAreOneList, TheGapsAreOneList, TheRootHasEverySet, TheSourcesAreOneList, TheValuesAreOneList}
