@@ -2,7 +2,7 @@
 pub use Rattle.std.proofs.Common.{Bool, Contains, Err, List, None, Ok, Option, Some, [], ap, append_assoc, arith, false, get_or, inl, inr, length, length-append, max, option_and_then, refl, subst}
 pub use Rattle.std.proofs.Common.{suc, sym, true, true≢false, vec_len, zero, ℕ, ◌*◌, ◌++◌, ◌+◌, ◌-◌, ◌<◌, ◌^◌, ◌∙◌, ◌∷◌, ◌≡◌, ◌≢◌, ◌≤◌, ◌⊎◌}
 pub use Rattle.std.proofs.lemmas.Bool.{cases_lt, false_from_ne_true}
-pub use Rattle.std.proofs.lemmas.List.Elements.{All-get_or, All-pop, All-push, Contains-get_or, recursion_from_All}
+pub use Rattle.std.proofs.lemmas.List.Elements.{All-pop, All-push, Contains-get_or, recursion_from_All}
 pub use Rattle.std.proofs.lemmas.Option.{get_or_from_slice_get, none-some, same_Some, slice_get-get_or, slice_get_cases, slice_get_read, slice_get_within}
 pub use Rattle.std.specs.List.{AllByRecursion, filter}
 pub use Rattle.std.specs.Prelude.{All, IfErr, IfOk, IfSome, not, slice_get, slice_index_or}
@@ -45,7 +45,6 @@ pub use Rattle.search_core.specs.declared.entry.Status.{Status}
 pub use Rattle.search_core.specs.declared.finished.SettledEvent.{SettledEvent}
 pub use Rattle.tso_program.specs.Fences.{Gaps, gaps_in}
 pub use Rattle.tso_program.specs.Limits.{IsWithinLimits}
-pub use Rattle.tso_program.specs.Shown.{asked}
 pub use Rattle.tso_program.specs.declared.question.Question.{Question}
 pub use Rattle.tso_program.specs.declared.listing.Listing.{Listing}
 pub use Rattle.tso_program.specs.declared.shown.Shown.{Shown}

@@ -1,12 +1,8 @@
 -- Workers of a hunt: what they know, and why they end.
-use Rattle.fence_place.proofs.Vocabulary.{◌≡◌, ◌∙◌, Bool, true, false, ℕ, List, Option, Some, refl, sym, subst, Worker, PlaceFault, All, IfSome, slice_get, slice_index_or, All-get_or, slice_get_within, get_or_from_slice_get, HuntView, HasStopped, MayStop}
+use Rattle.fence_place.proofs.Vocabulary.{◌≡◌, ◌∙◌, Bool, true, false, ℕ, List, Option, Some, refl, sym, Worker, PlaceFault, All, IfSome, slice_get, slice_index_or, get_or_from_slice_get, HuntView, HasStopped, MayStop}
 use Rattle.fence_place.proofs.Vocabulary.{NoneLacksRun, FaultIsAfter, lacks_run_for}
 use Rattle.fence_place.specs.{declared.worker.StopReason.StopReason, declared.worker.StopReason.TheVariants.NoRun, Faults.MayHuntFail}
 use Rattle.fence_place.specs.declared.fault.PlaceFault.TheVariants as fault
-
--- what holds of each element holds of the one at a place
-pub element : {X : Type 0} (P : X → Type 0) (xs : List X) (place : ℕ) (x : X) → slice_get xs place ≡ Some x → All P xs → P x
-element P xs place x at all = subst P (get_or_from_slice_get xs place x x at) (All-get_or P xs place x (slice_get_within xs place x at) all)
 
 -- what is read at a place where an element stands is that element
 pub read_at : {X : Type 0} (xs : List X) (place : ℕ) (x y d : X) → slice_get xs place ≡ Some x → y ≡ slice_index_or xs place d → x ≡ y

@@ -1,5 +1,6 @@
 use Rattle.fence_place.proofs.Vocabulary.{◌≡◌, ◌∙◌, List, Some, sym, subst, slice_get, Foreign, PassesNoneOf, SearchState, MaySplit, by_split, HasSettled}
-use Rattle.fence_place.proofs.Workers.{element, read_at}
+use Rattle.tree_laws.proofs.Lists.{found_has}
+use Rattle.fence_place.proofs.Workers.{read_at}
 use Rattle.fence_place.proofs.searching.settle.Goals as goal
 
 pub split_held-requires : goal.split_held-requires
@@ -9,7 +10,7 @@ split_held-requires g c =
     let found = c.in-Some.ensures in
     let at : slice_get runs c.in-Some.place ≡ Some found.0 = subst (λ (l : List Foreign). slice_get l c.in-Some.place ≡ Some found.0) c.deref.ensures.value found.1 in
     let same = read_at runs c.in-Some.place found.0 c.index.result.now _ at c.index.ensures in
-    let of = element (λ (run : Foreign). run.question ≡ q) runs c.in-Some.place found.0 at c.requires.ready.known in
+    let of = found_has (λ (run : Foreign). run.question ≡ q) runs c.in-Some.place found.0 at c.requires.ready.known in
     let may : MaySplit c.args.tree.now 0 c.index.result.now = record {
       node = c.args.node.now;
       in_hand = c.requires.ready.in_hand;
