@@ -1,16 +1,12 @@
 -- The gaps of one set that are not in another: how many they are, and which.
-use Rattle.cert_check.proofs.Vocabulary.{◌≡◌, ◌↔◌, ℕ, Bool, true, false, not, ◌&&◌, length, Contains, refl, sym, ap, ◌∙◌, and_parts, and_from, not-true}
+use Rattle.cert_check.proofs.Vocabulary.{◌≡◌, ◌↔◌, ℕ, true, false, not, ◌&&◌, length, Contains, sym, ap, ◌∙◌, and_parts, and_from, not-true}
 use Rattle.cert_check.proofs.Vocabulary.{not_from_false, nat_cmp_total, MAX_GAPS, listed, unlisted, SetOfGaps, IsGapSet, numbers_of_set}
 use Rattle.std.specs.FinSet as set
+use Rattle.gap_sets.specs.SameGaps.{alike}
 use Rattle.gap_sets.proofs.Counted.{len-from_list}
 use Rattle.tree_laws.proofs.Filtered.{has_any, any_has}
 
 -- ---- how many they are
-
-alike : (a b : Bool) → (a ≡ true → b ≡ true) → (b ≡ true → a ≡ true) → a ≡ b
-alike true b to back = sym (to refl)
-alike false true to back = back refl
-alike false false to back = refl
 
 -- a set is that of the gaps that it lists
 of_listed : (s : SetOfGaps) → IsGapSet s → set.from_list (numbers_of_set s) ≡ s

@@ -2,15 +2,14 @@
 pub use Rattle.std.proofs.Common.{All, Bool, Contains, IsTrue, List, None, Some, [], ap, arith, cond, drop, false, get_or, inl, inr, length, nat_lt, not, refl, slice_get, subst, suc, sym, take, true}
 pub use Rattle.std.proofs.Common.{zero, ℕ, ◌&&◌, ◌*◌, ◌++◌, ◌+◌, ◌<◌, ◌||◌, ◌↔◌, ◌∙◌, ◌∷◌, ◌≡◌, ◌≢◌, ◌≤◌, ◌⊎◌}
 pub use Rattle.std.proofs.lemmas.Bool.{and_from, and_parts, cases_lt, lt-ltb, ltb-true, not-true, not_from_false}
-pub use Rattle.std.proofs.lemmas.Bool.Decides.{nat_tests}
 pub use Rattle.std.proofs.lemmas.List.{append_assoc, get_or-take, length-take, length-take-le, take_more}
 pub use Rattle.std.proofs.lemmas.Option.{get_or_from_slice_get, same_Some, slice_get-get_or, slice_get_within}
 pub use Rattle.std.proofs.lemmas.Slice.Zip.{AllZip-left, AllZip-long, all_zipped_more}
 pub use Rattle.std.specs.BTreeSet.{BTreeSet, UpdatesBy, contains}
 pub use Rattle.std.specs.Borrow.{Bor}
 pub use Rattle.std.specs.Cmp.{nat_cmp_total}
-pub use Rattle.std.specs.List.{AllZip, filter, range_with_len}
-pub use Rattle.std.specs.Ordering.{eq_by_cmp, is_eq, nat_cmp}
+pub use Rattle.std.specs.List.{AllZip}
+pub use Rattle.std.specs.Ordering.{is_eq, nat_cmp}
 pub use Rattle.std.specs.Prelude.{IfErr, OnOk}
 pub use Rattle.cert_forest.proofs.GapNodeLaws.{bound_next, gaps_count, gaps_no_longer, next_gap_is_shorter, split_next}
 pub use Rattle.cert_forest.specs.Certificates.{Certificate}
@@ -34,12 +33,12 @@ pub use Rattle.tree_laws.proofs.OpenGaps.{few_gaps, listed, rising, unlisted}
 pub use Rattle.tree_laws.specs.Certificates.{AreSequentialRuns, HasRightSet, names_of, IsJudged, IsRunOutside, IsValidCertificate, IsValidCertificateOf}
 pub use Rattle.tree_laws.specs.CoverTrees.{IsValidCoverBy}
 pub use Rattle.tree_laws.specs.GapTrees.{AreValidGaps, IsSplitBy, IsValidGap}
-pub use Rattle.tso_machine.specs.Machine.{Machine, SequentialMachine, StoreBufferMachine, no_gaps, outcome_at}
+pub use Rattle.tso_machine.specs.Machine.{Machine, SequentialMachine, StoreBufferMachine, no_gaps}
 pub use Rattle.tso_machine.specs.Modes.{ArePassed, unfenced}
 pub use Rattle.tso_machine.specs.Outcomes.{AreGapsOf, ArePassedNames, PassesName, IsReplayOf, IsShownRun}
 pub use Rattle.tso_machine.specs.declared.label.Label.{Label}
 pub use Rattle.tso_program.specs.Fences.{gaps_in}
-pub use Rattle.tso_program.specs.Shown.{asked, asked_with, show}
+pub use Rattle.tso_program.specs.Shown.{asked, asked_with}
 pub use Rattle.tso_program.specs.declared.question.Question.{Question}
 pub use Rattle.tso_program.specs.declared.listing.Listing.{Listing}
 pub use Rattle.tso_program.specs.declared.outcome.Outcome.{Outcome}
