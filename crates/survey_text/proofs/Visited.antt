@@ -1,6 +1,7 @@
 -- Instructions with their runs, one more.
-use Rattle.survey_text.proofs.Vocabulary.{◌≡◌, ◌∙◌, ◌+◌, ℕ, suc, zero, List, [], ◌∷◌, ◌++◌, Option, map, map-append, append_assoc, sym, subst, ap, arith, range_with_len, Listing, Label, IsAnswer, AreVisits, IsVisit, first_places, place_of, Visit}
+use Rattle.survey_text.proofs.Vocabulary.{◌≡◌, ◌∙◌, ◌+◌, ℕ, suc, List, [], ◌∷◌, ◌++◌, Option, map, map-append, append_assoc, sym, subst, ap, arith, range_with_len, Listing, Label, IsAnswer, AreVisits, IsVisit, first_places, place_of, Visit}
 use Rattle.std.proofs.lemmas.List.Elements.{All-push}
+use Rattle.gap_list.proofs.Ranges.{range_suc}
 
 -- one of the next instruction
 pub one_more_visit : (p : Listing) (places : List (ℕ × ℕ)) (visits : List Visit) (visit : Visit) → AreVisits p places visits → IsVisit p visit → AreVisits p (places ++ place_of visit ∷ []) (visits ++ visit ∷ [])
@@ -8,11 +9,6 @@ one_more_visit p places visits visit are is = record {
   named = map-append place_of visits (visit ∷ []) ∙ ap (λ (ps : List (ℕ × ℕ)). ps ++ place_of visit ∷ []) are.named;
   answers = All-push (IsVisit p) visits visit are.answers is;
 }
-
-range_suc : (a n : ℕ) → range_with_len a (suc n) ≡ range_with_len a n ++ (a + n) ∷ []
-range_suc a zero = ap (λ (x : ℕ). x ∷ []) (let e : a ≡ a + 0 = omega arith in e)
-range_suc a (suc n) =
-    ap (λ (xs : List ℕ). a ∷ xs) (range_suc (a + 1) n ∙ ap (λ (x : ℕ). range_with_len (a + 1) n ++ x ∷ []) (let e : a + 1 + n ≡ a + suc n = omega arith in e))
 
 -- the next instruction of thread t
 next_place : (t k : ℕ) → first_places t k ++ (t, k) ∷ [] ≡ first_places t (k + 1)
