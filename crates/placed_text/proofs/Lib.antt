@@ -1,5 +1,6 @@
 -- what many proofs speak of
 mod Vocabulary
+pub mod Elements
 pub mod GapsThere
 pub mod Judged
 pub mod Needed

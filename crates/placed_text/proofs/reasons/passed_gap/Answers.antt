@@ -1,13 +1,10 @@
-use Rattle.placed_text.proofs.Vocabulary.{◌≡◌, ◌∙◌, ℕ, List, true, false, ap, sym, subst}
-use Rattle.std.specs.Prelude.{Contains}
+use Rattle.placed_text.proofs.Vocabulary.{◌≡◌, ◌∙◌, true, false, ap, sym}
 use Rattle.std.specs.FinSet as set
 use Rattle.std.proofs.Common.{inl, inr}
 use Rattle.tree_laws.proofs.Lists.{none_here, first_is_here, later_is_here, first_or_later}
 use Rattle.tree_laws.proofs.OpenGaps.{listed, unlisted}
+use Rattle.placed_text.proofs.Elements.{moved}
 use Rattle.placed_text.proofs.reasons.passed_gap.Goals as goal
-
-moved : (xs ys : List ℕ) (gap : ℕ) → xs ≡ ys → Contains xs gap → Contains ys gap
-moved xs ys gap same = subst (λ (l : List ℕ). Contains l gap) same
 
 pub loop-gap-init : goal.loop-gap-init
 loop-gap-init c =

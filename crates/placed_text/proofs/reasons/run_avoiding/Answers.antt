@@ -1,14 +1,10 @@
-use Rattle.placed_text.proofs.Vocabulary.{◌≡◌, ◌∙◌, List, true, false, sym, subst, Label}
-use Rattle.std.specs.Prelude.{Contains}
+use Rattle.placed_text.proofs.Vocabulary.{◌≡◌, ◌∙◌, true, false, sym, subst}
 use Rattle.std.proofs.Common.{inl, inr}
 use Rattle.tso_machine.specs.FenceLaws.{PassesNoGapOf}
 use Rattle.tree_laws.proofs.Lists.{none_here, first_is_here, later_is_here, first_or_later}
+use Rattle.placed_text.proofs.Elements.{moved}
 use Rattle.placed_text.proofs.ReasonTexts.{passes_none, passes_one}
 use Rattle.placed_text.proofs.reasons.run_avoiding.Goals as goal
-
--- what is in a list is in an equal one
-moved : (xs ys : List (List Label)) (labels : List Label) → xs ≡ ys → Contains xs labels → Contains ys labels
-moved xs ys labels same = subst (λ (l : List (List Label)). Contains l labels) same
 
 pub loop-labels-init : goal.loop-labels-init
 loop-labels-init c =
