@@ -23,11 +23,11 @@ use Rattle.litmus_reader.proofs.ShownPlaces.{shows_registers, shows_locations}
 -- ---- outcomes of programs within the limits
 
 -- no more threads and locations than a program may have
-record IsSmall (o : Outcome) : Type 0 where
-  few_threads : length o.registers ≤ MAX_THREADS
-  few_locations : length o.memory ≤ MAX_LOCATIONS
+pub record IsSmall (o : Outcome) : Type 0 where
+  pub few_threads : length o.registers ≤ MAX_THREADS
+  pub few_locations : length o.memory ≤ MAX_LOCATIONS
 
-small : (p : Listing) (mode : Machine) (labels : List Label) (o : Outcome) → IsWithinLimits p.threads p.memory → IsRun p mode labels o → IsSmall o
+pub small : (p : Listing) (mode : Machine) (labels : List Label) (o : Outcome) → IsWithinLimits p.threads p.memory → IsRun p mode labels o → IsSmall o
 small p mode labels o within (last, ran, ended, is) = record {
   few_threads = (let many = ap (λ (x : Outcome). length x.registers) is ∙ length-map-range_with_len (λ t. (last.locals t).registers) 0 (length p.threads) in
       let few = within.shared.few_threads in omega arith);
@@ -73,21 +73,23 @@ module _ (shown : Shown) (o : Outcome) (few : IsSmall o) where
       ap (λ (b : Bool). b || truth (shown_values shown o) g) (told_by_names f (record { registers = λ t r h m. named.registers t r h (inl m); locations = λ l h m. named.locations l h (inl m) }))
       ∙ ap (λ (b : Bool). truth o f || b) (told_by_names g (record { registers = λ t r h m. named.registers t r h (inr m); locations = λ l h m. named.locations l h (inr m) }))
 
--- ---- a program, a formula, and observed places
+-- ---- a formula and observed places, and a program
+
+named : (f : Tree Atom) (observed : List Observed) → ShowsNamed (shown_by f observed) f
+named f observed = record {
+  registers = λ t r h mentions. (shows_registers f observed t r h).1 (inl mentions);
+  locations = λ l h mentions. (shows_locations f observed l h).1 (inl mentions);
+}
+
+-- outcomes whose named values are the same have the same truth
+pub same_truth : (f : Tree Atom) (observed : List Observed) (whole other : Outcome) → IsSmall whole → IsSmall other → show (shown_by f observed) whole ≡ show (shown_by f observed) other
+    → truth whole f ≡ truth other f
+same_truth f observed whole other few few_others e =
+    sym (told_by_names (shown_by f observed) whole few f (named f observed)) ∙ ap (λ (o : Outcome). truth o f) e ∙ told_by_names (shown_by f observed) other few_others f (named f observed)
 
 module _ (p : Listing) (within : IsWithinLimits p.threads p.memory) (f : Tree Atom) (observed : List Observed) where
   abbrev names : Shown
   names = shown_by f observed
-
-  named : ShowsNamed names f
-  named = record {
-    registers = λ t r h mentions. (shows_registers f observed t r h).1 (inl mentions);
-    locations = λ l h mentions. (shows_locations f observed l h).1 (inl mentions);
-  }
-
-  -- outcomes whose named values are the same have the same truth
-  same_truth : (whole other : Outcome) → IsSmall whole → IsSmall other → show names whole ≡ show names other → truth whole f ≡ truth other f
-  same_truth whole other few few_others e = sym (told_by_names names whole few f named) ∙ ap (λ (o : Outcome). truth o f) e ∙ told_by_names names other few_others f named
 
   -- where one machine shows no more of the names than another, it shows no more of the truth
   truths_allowed : (mode other : Machine) → ((o : Outcome) → AllowsShown (asked p names) mode o → AllowsShown (asked p names) other o) →
@@ -96,7 +98,7 @@ module _ (p : Listing) (within : IsWithinLimits p.threads p.memory) (f : Tree At
     where
       from : AllowsShown (asked p names) other (show names whole) → AllowsShown (asked p (Truth f)) other o
       from (others, (found, is_other, same)) =
-          (others, (found, is_other, e ∙ ap told (same_truth whole found (small p mode labels whole within is_run) (small p other others found within is_other) same)))
+          (others, (found, is_other, e ∙ ap told (same_truth f observed whole found (small p mode labels whole within is_run) (small p other others found within is_other) same)))
 
   pub served : (gaps : SetOfGaps) → Serves (asked p names) gaps → Serves (asked p (Truth f)) gaps
   served gaps serves o = (

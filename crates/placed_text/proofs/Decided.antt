@@ -3,15 +3,24 @@ use Rattle.placed_text.proofs.Vocabulary.{◌≡◌, ◌∙◌, ℕ, Bool, List,
 use Rattle.std.specs.Prelude.{◌↔◌, Contains, IsTrue}
 use Rattle.std.specs.Cmp.{booleans_Decides}
 use Rattle.std.proofs.Math.Bool.{beq}
-use Rattle.tso_program.specs.{declared.outcome.Outcome.Outcome, declared.shown.ShownKind.ShownKind, Truth.truth, Limits.IsWithinLimits}
+use Rattle.tso_program.specs.{declared.outcome.Outcome.Outcome, Truth.truth, Limits.IsWithinLimits}
+use Rattle.tso_program.specs.declared.shown.ShownKind.{ShownKind, TheVariants.Whole, TheVariants.Observed, TheVariants.Condition}
+use Rattle.tso_program.proofs.ReadOff.{truths_told}
 use Rattle.tso_machine.specs.Machine.{SequentialMachine, IsRun}
 use Rattle.tso_machine.proofs.Refused.{one_outcome}
+use Rattle.litmus_text.proofs.NamesTell.{IsSmall, small, same_truth as truth_by_names}
 use Rattle.cover_solver.specs.Witnesses.{HasNoWitness}
 use Rattle.cert_forest.specs.Certificates.{Certificate}
 use Rattle.placed_text.specs.declared.problem.Problem.{Problem}
 use Rattle.placed_text.specs.Verdicts.{Decides, deciding_truth}
 use Rattle.placed_text.proofs.SequentialRuns.{listed_by, some_run_shows}
-use Rattle.placed_text.proofs.ShownTruths.{same_truth, small}
+
+-- outcomes of which the same is shown have the same truth
+same_truth : (source : Litmus Listing) (o other : Outcome) → IsSmall o → IsSmall other → (kind : ShownKind) → show (shown_as source kind) o ≡ show (shown_as source kind) other
+    → truth o source.condition.formula ≡ truth other source.condition.formula
+same_truth source o other few few_others Whole e = ap (λ (x : Outcome). truth x source.condition.formula) e
+same_truth source o other few few_others Observed e = truth_by_names source.condition.formula source.observed o other few few_others e
+same_truth source o other few few_others Condition e = (truths_told source.condition.formula o other).0 e
 
 -- labels that are a run decide the condition where the formula has that truth at its outcome
 pub by_outcome : (source : Litmus Listing) (labels : List Label) (o : Outcome) (met deciding : Bool) → IsRun source.program SequentialMachine labels o → met ≡ truth o source.condition.formula

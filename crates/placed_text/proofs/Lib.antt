@@ -7,5 +7,4 @@ pub mod Needed
 pub mod PassingSteps
 pub mod ReasonTexts
 pub mod SequentialRuns
-pub mod ShownTruths
 pub mod Decided

@@ -15,9 +15,9 @@ unfoldable pub use Rattle.gap_sets.specs.Gaps.{numbers_of_set}
 pub use Rattle.gap_sets.specs.declared.gap_set.TheConstants.{MAX_GAPS}
 pub use Rattle.litmus_text.specs.GivenCosts.{AreGiven, AreNotGiven}
 pub use Rattle.litmus_reader.specs.declared.litmus.Litmus.{Litmus}
-pub use Rattle.litmus_reader.specs.Shown.{question_of, shown_as}
+pub use Rattle.litmus_reader.specs.Shown.{shown_as}
 pub use Rattle.report.specs.Answers.{answer_line}
-pub use Rattle.tso_machine.specs.Outcomes.{IsForeignRun, IsReplayOf, IsShownRun, IsTheAnswer, Serves}
+pub use Rattle.tso_machine.specs.Outcomes.{IsForeignRun, IsReplayOf, IsShownRun, Serves}
 pub use Rattle.tso_machine.specs.declared.label.Label.{Label}
 pub use Rattle.tso_program.specs.Fences.{first_missing, gaps_in}
 pub use Rattle.tso_program.specs.Listings.{gap_count}
@@ -26,7 +26,6 @@ pub use Rattle.tso_program.specs.Shown.{asked, asked_with, show}
 pub use Rattle.tso_program.specs.declared.question.Question.{Question}
 pub use Rattle.tso_program.specs.declared.listing.Listing.{Listing}
 pub use Rattle.tso_program.specs.declared.shown.Shown.{Shown}
-pub use Rattle.placed_text.specs.MarkedTables.{IsMarkedTableOf}
 pub use Rattle.placed_text.specs.declared.reasons.LeftOut.{LeftOut}
 pub use Rattle.placed_text.specs.PlacedTexts.{ArePlacedTextsOf, AreTextsOf, IsAnswerText, IsPlacedText, tied_question}
 pub use Rattle.placed_text.specs.Problems.{IsProblem, question_in}
