@@ -1,5 +1,5 @@
 -- What the program prints, with words and without.
-use Rattle.fencer.proofs.Vocabulary.{◌≡◌, ◌==◌, ℕ, ◌+◌, zero, suc, Bool, true, false, List, [], ◌∷◌, ◌⊎◌, Option, Contains, length, map, arith, inl, inr, refl, subst, sym, ◌&&◌, codes, TEXT_LIMIT, IsUtf8Refusal, asks_version, IsNoCommand, IsReadFault}
+use Rattle.fencer.proofs.Vocabulary.{◌≡◌, ◌==◌, ℕ, ◌+◌, zero, suc, Bool, true, false, List, [], ◌∷◌, ◌⊎◌, Option, Contains, length, map, arith, inl, inr, refl, subst, sym, codes, TEXT_LIMIT, IsUtf8Refusal, asks_version, IsNoCommand, IsReadFault}
 use Rattle.fencer.proofs.Vocabulary.{TakesOfLine, HasTooLongLine, IsReply, IsReplyToInput, IsOutput, KeepFilesOf, KeepOtherFiles, LineAsksToWrite, ReadsForWords, ReadsForInput, ReadsFor, no_command}
 use Rattle.std.specs.Str.{IsUtf8, bytes_eq}
 use Rattle.std.proofs.lemmas.Str.{IsUtf8-from_ascii}
@@ -62,10 +62,6 @@ pub utf8_reply : (words : List Text) (input : Option (List ℕ)) (files left : L
 utf8_reply words input files left status out no_version refused is = subst (λ (s : ℕ). IsReply words input files left s out) (sym is.0) (no_command out no_version refused (codes "error: the command line is not UTF-8", is.1))
 
 -- a word that is not UTF-8 asks for no version
-both : (a b : Bool) → (a && b) ≡ true → (a ≡ true) × (b ≡ true)
-both true b is = (refl, is)
-both false b is = absurd cc
-
 version_is_utf8 : IsUtf8 (codes "--version")
 version_is_utf8 = IsUtf8-from_ascii (codes "--version") (ascii_from (codes "--version") refl)
 
