@@ -4,7 +4,7 @@ use crate::numbering::Numbering;
 use crate::numbers::{each_in, first_numbers, one, shifted};
 use crate::row_list::RowList;
 use crate::rows::{EventRows, ReadSource};
-use crate::thread_state::ThreadState;
+use crate::trace_end::TraceEnd;
 use bit_rows::ROW_BITS;
 use candidate_executions::{Access, Kind};
 use std::alloc::{AllocError, Global};
@@ -21,7 +21,7 @@ pub struct EventGraph {
     pub numbering: Numbering,
     /// For each thread the instructions before which a gap is fenced.
     fenced: [u64; MAX_THREADS],
-    threads: [ThreadState; MAX_THREADS],
+    threads: [TraceEnd; MAX_THREADS],
     accesses: [Access; ROW_BITS],
     /// How many instructions its thread has executed with each access.
     steps: [u8; ROW_BITS],
@@ -40,7 +40,7 @@ impl EventGraph {
             mode,
             numbering: Numbering::of(program),
             fenced: fenced_instructions(program, mode),
-            threads: [ThreadState::new([0; REGISTERS]); MAX_THREADS],
+            threads: [TraceEnd::new([0; REGISTERS]); MAX_THREADS],
             accesses: [no_access(); ROW_BITS],
             steps: [0; ROW_BITS],
             matches: RowList::none(),
@@ -49,7 +49,7 @@ impl EventGraph {
         };
         for (t, thread) in program.threads().iter().enumerate() {
             let t = (t % MAX_THREADS) as u8;
-            graph.put_state(t, ThreadState::new(thread.registers));
+            graph.put_state(t, TraceEnd::new(thread.registers));
             graph.follow(t);
         }
         Ok(graph)
@@ -71,11 +71,11 @@ impl EventGraph {
     }
 
     /// Where a thread stands.
-    pub fn state(&self, t: u8) -> &ThreadState {
+    pub fn state(&self, t: u8) -> &TraceEnd {
         &self.threads[t as usize % MAX_THREADS]
     }
 
-    pub(crate) fn put_state(&mut self, t: u8, state: ThreadState) {
+    pub(crate) fn put_state(&mut self, t: u8, state: TraceEnd) {
         self.threads[t as usize % MAX_THREADS] = state;
     }
 

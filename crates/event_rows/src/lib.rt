@@ -18,7 +18,7 @@ mod possible_writes;
 mod round;
 mod row_list;
 mod rows;
-mod thread_state;
+mod trace_end;
 
 pub use event_graph::EventGraph;
 pub use graph_choice::{Decision, GraphChoice};
@@ -29,4 +29,4 @@ pub use possible_writes::PossibleWrites;
 pub use round::{reached_from, round_through};
 pub use row_list::RowList;
 pub use rows::EventRows;
-pub use thread_state::ThreadState;
+pub use trace_end::TraceEnd;

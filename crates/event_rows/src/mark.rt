@@ -1,14 +1,14 @@
 //! What is chosen at one time, to go back to.
 use crate::event_graph::EventGraph;
 use crate::rows::EventRows;
-use crate::thread_state::ThreadState;
+use crate::trace_end::TraceEnd;
 
 /// What is chosen at one time: the rows, and where one thread stands.
 #[derive(Drop)]
 pub struct Mark {
     rows: EventRows,
     thread: u8,
-    state: ThreadState,
+    state: TraceEnd,
 }
 
 impl EventGraph {

@@ -1,9 +1,9 @@
-//! Where a thread stands under its given values.
+//! Where a thread's trace ends under its given values.
 use tso_program::{Local, REGISTERS};
 
 /// A thread at its first read that has no value, or at its end.
 #[derive(Clone, Copy)]
-pub struct ThreadState {
+pub struct TraceEnd {
     pub last: Local,
     /// The section of its next access.
     pub section: u8,
@@ -19,10 +19,10 @@ pub struct ThreadState {
     pub is_exchange: bool,
 }
 
-impl ThreadState {
+impl TraceEnd {
     /// A thread at its start.
-    pub(crate) fn new(registers: [u32; REGISTERS]) -> ThreadState {
-        ThreadState {
+    pub(crate) fn new(registers: [u32; REGISTERS]) -> TraceEnd {
+        TraceEnd {
             last: Local {
                 place: 0,
                 registers,
