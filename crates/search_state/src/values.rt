@@ -8,7 +8,7 @@ use tso_program::MAX_THREADS;
 
 /// For each thread how many reads wait for it, and how many of them have no open source yet.
 #[derive(Clone, Copy)]
-struct Waiting {
+struct WaitingReads {
     all: [u32; MAX_THREADS],
     lost: [u32; MAX_THREADS],
 }
@@ -64,7 +64,7 @@ fn lighter(own: (Weight, u8), least: (Weight, u8)) -> (Weight, u8) {
 fn weight_of(
     graph: &EventGraph,
     writes: &PossibleWrites,
-    waiting: &Waiting,
+    waiting: &WaitingReads,
     t: u8,
     location: u8,
 ) -> Weight {
@@ -79,8 +79,8 @@ fn weight_of(
 }
 
 /// For each thread the reads without a source that wait for it.
-fn waiting_reads(graph: &EventGraph, writes: &PossibleWrites) -> Waiting {
-    let mut waiting = Waiting {
+fn waiting_reads(graph: &EventGraph, writes: &PossibleWrites) -> WaitingReads {
+    let mut waiting = WaitingReads {
         all: [0; MAX_THREADS],
         lost: [0; MAX_THREADS],
     };
@@ -95,7 +95,7 @@ fn waiting_reads(graph: &EventGraph, writes: &PossibleWrites) -> Waiting {
 }
 
 /// One more read waits for each of the threads.
-fn add_threads(waiting: &mut Waiting, threads: u8, is_lost: bool) {
+fn add_threads(waiting: &mut WaitingReads, threads: u8, is_lost: bool) {
     for t in 0..MAX_THREADS {
         if threads >> t & 1 == 1 {
             waiting.all[t] = waiting.all[t].saturating_add(1);
