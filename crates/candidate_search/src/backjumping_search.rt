@@ -1,6 +1,6 @@
 //! The search for a cover tree over a list of outcomes. Where it comes to a new outcome, an open list takes it. A new
 //! outcome that the list does not take ends the search.
-use crate::filling::{Branches, Stretch};
+use crate::filling::{Branches, NodeRange};
 use crate::made_run::shown_run;
 use crate::proposing_search::ProposingSearch;
 use crate::searched::Searched;
@@ -69,7 +69,7 @@ pub(crate) struct BackjumpingSearch<'a> {
     pub(crate) outcomes: KnownOutcomes<'a>,
     pub(crate) nodes: Vec<Node>,
     /// In a whole tree, what stands below each end of the thread whose node was the last to be done, where that is the same.
-    pub(crate) below: Option<Stretch>,
+    pub(crate) below: Option<NodeRange>,
     /// How many nodes are above the tree that is searched for.
     above: usize,
 }

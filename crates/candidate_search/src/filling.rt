@@ -19,7 +19,7 @@ pub(crate) struct Branches {
 
 /// Nodes of a tree, by the places of the first and after the last.
 #[derive(Clone, Copy)]
-pub(crate) struct Stretch {
+pub(crate) struct NodeRange {
     start: usize,
     end: usize,
 }
@@ -94,18 +94,18 @@ impl BackjumpingSearch<'_> {
     }
 
     /// In the last child's tree, what stands below each end of the thread, where that is the same.
-    fn below_end(&self, start: usize, branches: Branches) -> Option<Stretch> {
+    fn below_end(&self, start: usize, branches: Branches) -> Option<NodeRange> {
         if self.child_of(branches).values > 0 {
             return self.below;
         }
-        Some(Stretch {
+        Some(NodeRange {
             start,
             end: self.nodes.len(),
         })
     }
 
     /// Puts the other children's branches after the nodes, with a copy of these nodes at each end of the thread.
-    fn fill(&mut self, branches: Branches, below: Stretch) -> Result<(), AllocError> {
+    fn fill(&mut self, branches: Branches, below: NodeRange) -> Result<(), AllocError> {
         let thread = branches.thread;
         for place in self.next_branches(branches).child..branches.end {
             let count = self.asked.shapes.branch(thread, place).values;
@@ -119,8 +119,8 @@ impl BackjumpingSearch<'_> {
     }
 
     /// Puts a copy of nodes after all.
-    fn copy_nodes(&mut self, nodes: Stretch) -> Result<(), AllocError> {
-        let Stretch { start, end } = nodes;
+    fn copy_nodes(&mut self, nodes: NodeRange) -> Result<(), AllocError> {
+        let NodeRange { start, end } = nodes;
         if start <= end && end <= self.nodes.len() {
             self.nodes.extend_from_within(start..end)?;
         }
