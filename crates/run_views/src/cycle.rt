@@ -4,17 +4,17 @@ use crate::edges::Edge;
 use crate::events::{RunAccess, RunEvent};
 use std::alloc::{AllocError, Global};
 
-/// An edge by which a search reaches an event for the first time.
+/// A tree edge of a breadth-first search: one by which it reaches an event for the first time.
 #[derive(Clone, Copy)]
-struct Visit {
+struct TreeEdge {
     edge: Edge,
-    /// The number of the visit before it; none where the search starts.
+    /// The number of the tree edge before it; none where the search starts.
     before: Option<usize>,
 }
 
-fn is_reached(visits: &[Visit], event: RunEvent) -> bool {
-    for visit in visits {
-        if visit.edge.to == event {
+fn is_reached(tree: &[TreeEdge], event: RunEvent) -> bool {
+    for reached in tree {
+        if reached.edge.to == event {
             return true;
         }
     }
@@ -22,15 +22,15 @@ fn is_reached(visits: &[Visit], event: RunEvent) -> bool {
 }
 
 /// Visits each event that isn't reached and that an edge leads to from this one.
-fn visit_next(
-    visits: &mut Vec<Visit>,
+fn push_next(
+    tree: &mut Vec<TreeEdge>,
     edges: &[Edge],
     from: RunEvent,
     before: Option<usize>,
 ) -> Result<(), AllocError> {
     for edge in edges {
-        if edge.from == from && !is_reached(visits, edge.to) {
-            visits.push(Visit {
+        if edge.from == from && !is_reached(tree, edge.to) {
+            tree.push(TreeEdge {
                 edge: *edge,
                 before,
             })?;
@@ -39,23 +39,27 @@ fn visit_next(
     Ok(())
 }
 
-/// The visits of each event that a path leads to from an event, the nearest first.
-fn visits_from(alloc: Global, edges: &[Edge], start: RunEvent) -> Result<Vec<Visit>, AllocError> {
-    let mut visits: Vec<Visit> = Vec::new(alloc);
-    visit_next(&mut visits, edges, start, None)?;
+/// The tree edges into each event that a path leads to from an event, the nearest first.
+fn search_tree(
+    alloc: Global,
+    edges: &[Edge],
+    start: RunEvent,
+) -> Result<Vec<TreeEdge>, AllocError> {
+    let mut tree: Vec<TreeEdge> = Vec::new(alloc);
+    push_next(&mut tree, edges, start, None)?;
     for number in 0..edges.len() {
-        let Some(visit) = visits.get(number).copied() else {
+        let Some(reached) = tree.get(number).copied() else {
             break;
         };
-        visit_next(&mut visits, edges, visit.edge.to, Some(number))?;
+        push_next(&mut tree, edges, reached.edge.to, Some(number))?;
     }
-    Ok(visits)
+    Ok(tree)
 }
 
-/// The number of the visit that reaches an event.
-fn visit_of(visits: &[Visit], event: RunEvent) -> Option<usize> {
-    for (number, visit) in visits.iter().enumerate() {
-        if visit.edge.to == event {
+/// The number of the tree edge into an event.
+fn edge_into(tree: &[TreeEdge], event: RunEvent) -> Option<usize> {
+    for (number, reached) in tree.iter().enumerate() {
+        if reached.edge.to == event {
             return Some(number);
         }
     }
@@ -69,18 +73,18 @@ fn shortest_path(
     from: RunEvent,
     to: RunEvent,
 ) -> Result<Vec<Edge>, AllocError> {
-    let visits = visits_from(alloc, edges, from)?;
+    let tree = search_tree(alloc, edges, from)?;
     let mut path = Vec::new(alloc);
-    let mut last = visit_of(&visits, to);
+    let mut last = edge_into(&tree, to);
     for _ in 0..edges.len() {
         let Some(number) = last else {
             break;
         };
-        let Some(visit) = visits.get(number).copied() else {
+        let Some(reached) = tree.get(number).copied() else {
             break;
         };
-        path.push(visit.edge)?;
-        last = visit.before;
+        path.push(reached.edge)?;
+        last = reached.before;
     }
     path.as_mut_slice().reverse();
     Ok(path)
