@@ -1,8 +1,9 @@
--- What a list of all states says of an instruction.
+-- What a list of states says of an instruction.
 use Rattle.sequential_states.proofs.Vocabulary.{◌≡◌, inl, inr, cases_lt, length, code_of, slice_get_past, ℕ, Bool, true, false, List, ◌∷◌, Some, None, sym, ap, ◌∙◌, subst, Listing, Stop, act, action, instr_at, Exec, SequentialMachine, State, direct, run, start, outcome_at}
 use Rattle.sequential_states.proofs.Vocabulary.{Shot, StandsAt, HasNoStep, IsThreadAtEnd, Listed, Walk, TellsAll, ArrivalsLeadBack, WalksOn, HasEach, IsLonger, IsPlaceAt, IsWalk, IsWalkOn, IsWalkTo, IsExecuted, IsRunThrough, state_of}
 use Rattle.sequential_states.proofs.Steps.{at_end}
-use Rattle.sequential_states.proofs.Reaching.{run_parted, first_step, is_next}
+use Rattle.sequential_states.proofs.RunParts.{run_parted, first_step}
+use Rattle.sequential_states.proofs.Explored.{is_next}
 use Rattle.sequential_states.proofs.Arrivals.{lead_back}
 use Rattle.sequential_states.proofs.Ending.{is_run, executes}
 use Rattle.tso_machine.proofs.FencedActions.{stops_at_none}
@@ -56,6 +57,6 @@ module _ (p : Listing) (t k : ℕ) where
     -- an instruction that is next at no listed state is not executed
     pub nowhere : ((place : ℕ) → IsPlaceAt listed t k place → ⊥) → IsExecuted p t k → ⊥
     nowhere none executed = elim all.enough [
-      | inl followed ↦ (let (place, at) = is_next p listed all.first all.reached followed t k executed in none place at)
+      | inl explored ↦ (let (place, at) = is_next p listed all.first all.reached explored t k executed in none place at)
       | inr each ↦ never_there (missing each none) executed
     ]

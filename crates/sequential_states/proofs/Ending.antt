@@ -2,7 +2,7 @@
 use Rattle.sequential_states.proofs.Vocabulary.{◌≡◌, ℕ, ◌-◌, ◌<◌, Bool, true, false, not, List, [], ◌∷◌, ◌++◌, Option, Some, None, length, refl, sym, ap, ◌∙◌, subst, arith, inl, inr, cases_eq, append_assoc, append-nil, slice_get, slice_get_within, option_and_then, same_Some}
 use Rattle.sequential_states.proofs.Vocabulary.{Action, Stop, Go, Wait, Read, Write, Swap, Local, Instr, Je, Jmp, Jne, Listing, JumpForward, act, jumped, loaded, action, code_of, Exec, Label, SequentialMachine, State, direct, put, put_same, put_other, run, start, step, outcome_at, IsRun}
 use Rattle.sequential_states.proofs.Vocabulary.{Shot, state_of, IsThreadAtEnd, IsLonger, IsWalk, IsWalkOn, Walk, IsExecutedBy}
-use Rattle.sequential_states.proofs.Reaching.{run_joined}
+use Rattle.sequential_states.proofs.RunParts.{run_joined}
 use Rattle.tso_program.proofs.Advance.{Further, Advances, advance}
 
 -- what thread t has before it, in a state
@@ -14,7 +14,7 @@ module _ (p : Listing) (s : State) (t : ℕ) where
   abbrev OtherThreadsStay : State → Type 0
   OtherThreadsStay next = (u : ℕ) → (u ≡ t → ⊥) → next.locals u ≡ s.locals u
 
-  stays : (next : State) → step p SequentialMachine s (Exec t) ≡ Some next → OtherThreadsStay next
+  pub stays : (next : State) → step p SequentialMachine s (Exec t) ≡ Some next → OtherThreadsStay next
   stays next e = go (action p.threads t (s.locals t)) e
     where
       go : (a : Action) → direct s t a ≡ Some next → OtherThreadsStay next

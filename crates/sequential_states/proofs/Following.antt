@@ -1,6 +1,6 @@
 -- Lists that grow keep what holds of their places, and one more state that a step leads to.
-use Rattle.sequential_states.proofs.Vocabulary.{◌≡◌, ℕ, suc, zero, ◌<◌, ◌≤◌, List, [], ◌∷◌, ◌++◌, Option, Some, None, length, refl, sym, ap, ◌∙◌, subst, arith, inl, inr, cases_lt, slice_get, slice_get_within, append_assoc, append-nil, length-append}
-use Rattle.sequential_states.proofs.Vocabulary.{Listing, Exec, SequentialMachine, State, step, start, Shot, state_of, first_shot, IsStep, Arrival, Listed, IsListed, IsArrival, IsEntry, AreReached, IsFollowed, IsBeginning, IsNoted}
+use Rattle.sequential_states.proofs.Vocabulary.{◌≡◌, ℕ, suc, zero, ◌<◌, ◌≤◌, List, [], ◌∷◌, ◌++◌, Option, Some, None, length, refl, sym, ap, ◌∙◌, subst, arith, inl, inr, cases_lt, slice_get, slice_get_read, slice_get_within, slice_index_or, append_assoc, append-nil, length-append}
+use Rattle.sequential_states.proofs.Vocabulary.{Listing, Exec, SequentialMachine, State, step, start, Shot, state_of, first_shot, IsStep, Arrival, Listed, IsListed, IsArrival, IsEntry, AreReached, IsFollowed, IsExplored, IsBeginning, IsNoted}
 use Rattle.sequential_states.proofs.Steps.{state_of_first, is_there}
 
 -- what is at a place of the beginning is at that place of the list
@@ -34,6 +34,13 @@ begins_itself xs = ([], sym (append-nil xs))
 pub begins_on : (xs ys zs : List Listed) → IsBeginning xs ys → IsBeginning ys zs → IsBeginning xs zs
 begins_on xs ys zs (a, e) (b, f) = (a ++ b, f ∙ ap (λ w. w ++ b) e ∙ append_assoc xs a b)
 
+pub get_on : (xs ys : List Listed) (k : ℕ) (x : Listed) → IsBeginning xs ys → slice_get xs k ≡ Some x → slice_get ys k ≡ Some x
+get_on xs ys k x (more, is) e = subst (λ (zs : List Listed). slice_get zs k ≡ Some x) (sym is) (get_longer xs more k x e)
+
+-- what the index reads is at the place
+pub read_at : (xs inside : List Listed) (k : ℕ) (x : Listed) → k < length xs → x ≡ slice_index_or inside k x → inside ≡ xs → slice_get xs k ≡ Some x
+read_at xs inside k x h e is = slice_get_read xs (length xs) k x refl h (e ∙ ap (λ z. slice_index_or z k x) is)
+
 pub longer_by : (xs ys : List Listed) → IsBeginning xs ys → length xs ≤ length ys
 longer_by xs ys (a, e) = let z = ap length e in let l = length-append xs a in omega arith
 
@@ -41,6 +48,19 @@ pub followed_longer : (p : Listing) (xs ys : List Listed) (k t : ℕ) → IsBegi
 followed_longer p xs ys k t (more, is) h followed entry next e made =
     subst (λ (zs : List Listed). IsListed zs next) (sym is)
     (listed_longer xs more next (followed entry next (get_beginning xs more k entry h (subst (λ (zs : List Listed). slice_get zs k ≡ Some entry) is e)) made))
+
+-- what is explored stays so
+pub explored_longer : (p : Listing) (xs ys : List Listed) (k : ℕ) → IsBeginning xs ys → k < length xs → IsExplored p xs k → IsExplored p ys k
+explored_longer p xs ys k begins h (inl all) = inl (λ t. followed_longer p xs ys k t begins h (all t))
+explored_longer p xs ys k begins h (inr (u, by)) = inr (
+  u,
+  record {
+    entry = by.entry;
+    there = get_on xs ys k by.entry begins by.there;
+    local = by.local;
+    followed = followed_longer p xs ys k u begins h by.followed;
+  },
+)
 
 arrival_longer : (p : Listing) (xs ys : List Listed) (k : ℕ) (s : Shot) (o : Option Arrival) → IsArrival p xs k s o → IsArrival p (xs ++ ys) k s o
 arrival_longer p xs ys k s None a = a

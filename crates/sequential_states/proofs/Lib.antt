@@ -2,9 +2,11 @@
 mod Vocabulary
 pub mod Steps
 pub mod Following
-pub mod Reaching
+pub mod RunParts
 pub mod Arrivals
 pub mod Ending
+pub mod LocalFirst
+pub mod Explored
 pub mod EachFound
 pub mod Answering
 pub mod Told

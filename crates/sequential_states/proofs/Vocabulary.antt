@@ -1,10 +1,10 @@
 -- What many proofs of this crate speak of, imported once.
 pub use Rattle.std.proofs.Common.{Bool, List, None, Option, Some, [], ap, append_assoc, arith, drop, eq-eqb, false, get_or, get_or-set_other, get_or-set_same, inl, inr, length, map, ne_eqb, not}
 pub use Rattle.std.proofs.Common.{option_and_then, refl, reverse, rules, set, subst, suc, sym, take, true, zero, ℕ, ◌&&◌, ◌++◌, ◌+◌, ◌-◌, ◌<◌, ◌==◌, ◌∙◌, ◌∷◌, ◌≡◌, ◌≤◌, ◌⊎◌}
-pub use Rattle.std.proofs.lemmas.Bool.{and_parts, cases_eq, cases_lt}
+pub use Rattle.std.proofs.lemmas.Bool.{and_parts, cases_eq, cases_lt, eqb-true}
 pub use Rattle.std.proofs.lemmas.List.{append-nil, get_or_past, length-append, reverse-append, map_more, map_push, take_all, take_more}
 pub use Rattle.std.proofs.lemmas.Option.{same_Some, slice_get-get_or, slice_get_past, slice_get_read, slice_get_within}
-pub use Rattle.std.specs.Prelude.{slice_get, slice_index, slice_index_or, MatchOption, IfSome}
+pub use Rattle.std.specs.Prelude.{slice_get, slice_index, slice_index_or, MatchOption, IfSome, if◌then◌else◌}
 pub use Rattle.tso_program.specs.Actions.{act, jumped, loaded}
 pub use Rattle.tso_program.specs.Limits.{IsWithinLimits, JumpForward}
 pub use Rattle.tso_program.specs.Listings.{action, code_of, instr_at, start_of}
@@ -22,8 +22,8 @@ pub use Rattle.tso_machine.proofs.Link.{put_other, put_same}
 pub use Rattle.tso_machine.proofs.Runs.{no_action, no_stores}
 pub use mathlib.Core.Path.{fun_ext}
 pub use Rattle.sequential_states.specs.Executions.{IsAnswer, IsExecuted, IsExecutedBy, IsRunThrough}
-pub use Rattle.sequential_states.specs.Internal.Snapshots.{FitsProgram, HasNoStep, IsStep, Shot, StandsAt, first_shot, no_local, state_of, thread_start}
-pub use Rattle.sequential_states.specs.Internal.Lists.{AreReached, ArrivalsLeadBack, HasEach, HasFirst, IsArrival, IsBeginning, IsEntry, IsFollowed, IsListed, IsLonger, IsNoted, IsPlaceAt, IsThreadAtEnd, IsWalk, IsWalkOn, IsWalkTo, LeadTo, TellsAll, WalksOn}
+pub use Rattle.sequential_states.specs.Internal.Snapshots.{FitsProgram, HasNoStep, IsLocal, IsStep, Shot, StandsAt, first_shot, no_local, state_of, thread_start}
+pub use Rattle.sequential_states.specs.Internal.Lists.{AreReached, ArrivalsLeadBack, HasEach, HasFirst, IsArrival, IsBeginning, IsEntry, IsExplored, IsFollowed, IsListed, IsLocallyFollowed, IsLonger, IsNoted, IsPlaceAt, IsThreadAtEnd, IsWalk, IsWalkOn, IsWalkTo, LeadTo, TellsAll, WalksOn}
 pub use Rattle.sequential_states.specs.declared.listed.Arrival.{Arrival}
 pub use Rattle.sequential_states.specs.declared.listed.Listed.{Listed}
 pub use Rattle.sequential_states.specs.declared.walk.Walk.{Walk}

@@ -1,8 +1,8 @@
 //! A state of the sequential machine, and its steps.
-ghost use Rattle.std.specs.Prelude.{◌≡◌, ◌<◌, ◌↔◌, length, IsTrue, IfOk, MatchOption};
+ghost use Rattle.std.specs.Prelude.{◌≡◌, ◌<◌, ◌↔◌, length, IsTrue, IfOk, IfSome, MatchOption};
 ghost use Rattle.tso_program.specs.Actions.{IsLocated};
 ghost use Rattle.tso_program.specs.declared.action.Action.TheVariants.{Stop};
-ghost use Rattle.sequential_states.specs.Internal.Snapshots.{first_shot, acted, FitsProgram, IsStep, HasNoStep, StandsAt};
+ghost use Rattle.sequential_states.specs.Internal.Snapshots.{first_shot, acted, FitsProgram, IsStep, IsLocal, HasLocalStep, HasNoStep, StandsAt};
 
 use std::alloc::{AllocError, Global};
 use std::marker::Model;
@@ -58,6 +58,29 @@ impl Snapshot {
     {
         match self.locals.as_slice().get(t as usize) {
             Some(local) => local.place == k,
+            None => false,
+        }
+    }
+
+    /// The first thread whose step reads and writes no location.
+    pub(crate) fn local_thread(&self, program: &Program) -> Option<u8>
+        ensures { IfSome result (HasLocalStep program.now self.now) }
+    {
+        let threads = program.threads().len() as u8;
+        for t in 0..threads {
+            if self.has_local_step(program, t) {
+                return Some(t);
+            }
+        }
+        None
+    }
+
+    /// Whether thread t's step reads and writes no location.
+    fn has_local_step(&self, program: &Program, t: u8) -> bool
+        ensures { IsTrue result → HasLocalStep program.now self.now t }
+    {
+        match self.locals.as_slice().get(t as usize) {
+            Some(local) => is_local(program.action(t, *local)),
             None => false,
         }
     }
@@ -133,6 +156,13 @@ fn is_stop(action: Action) -> bool
     ensures { IsTrue result ↔ (action ≡ Stop) }
 {
     matches!(action, Action::Stop)
+}
+
+/// Whether an action leads its thread on and reads and writes no location.
+fn is_local(action: Action) -> bool
+    ensures { IsTrue result → IsLocal action }
+{
+    matches!(action, Action::Go(_) | Action::Wait(_))
 }
 
 /// Whether two threads are in one state.

@@ -9,7 +9,7 @@ use std::marker::Model;
 use tso_machine::Label;
 use tso_program::{Items, Program};
 
-/// States that sequential runs of a program pass through: each of them, or as many as have each instruction.
+/// States that sequential runs of a program pass through, enough to tell of each instruction whether a run executes it.
 #[derive(Drop)]
 pub struct SequentialStates {
     program: Program,
@@ -33,10 +33,10 @@ impl SequentialStates {
         ensures { IfOk result (λ states. states ≡ program.now) }
     {
         let mut worklist = Worklist::start(alloc, program)?;
-        let mut followed = 0;
-        while !worklist.is_enough(program, followed) {
-            worklist.follow_all(alloc, program, followed)?;
-            followed += 1;
+        let mut explored = 0;
+        while !worklist.is_enough(program, explored) {
+            worklist.explore(alloc, program, explored)?;
+            explored += 1;
         }
         Ok(SequentialStates {
             program: program.copy()?,

@@ -2,7 +2,7 @@
 ghost use Rattle.std.specs.Prelude.{◌≡◌, ◌<◌, ◌+◌, ◌^◌, ℕ, length, IsTrue, IsFalse, OnOk, IfOk};
 ghost use Rattle.tso_machine.specs.Machine as machine;
 ghost use Rattle.sequential_states.specs.Internal.Snapshots.{state_of};
-ghost use Rattle.sequential_states.specs.Internal.Lists.{IsListed, AreReached, IsFollowed, IsBeginning, IsNoted, IsEnough};
+ghost use Rattle.sequential_states.specs.Internal.Lists.{IsListed, AreReached, IsFollowed, IsExplored, IsBeginning, IsNoted, IsEnough};
 
 use crate::listed::{Arrival, Listed, has_each};
 use crate::snapshot::Snapshot;
@@ -45,17 +45,17 @@ impl Worklist {
         })
     }
 
-    /// Whether the list tells of each instruction whether a run executes it: the steps from each state were followed, or
-    /// each instruction is next at a state. The second is asked at few lengths.
-    pub(crate) fn is_enough(&self, program: &Program, followed: usize) -> bool
-        ensures enough { IsTrue result → IsEnough program.now self.now followed }
-        ensures more { IsFalse result → followed < length self.now }
-        ensures room { IsFalse result → followed + 1 < 2 ^ 64 }
+    /// Whether the list tells of each instruction whether a run executes it: each state was explored, or each instruction
+    /// is next at a state. The second is asked at few lengths.
+    pub(crate) fn is_enough(&self, program: &Program, explored: usize) -> bool
+        ensures enough { IsTrue result → IsEnough program.now self.now explored }
+        ensures more { IsFalse result → explored < length self.now }
+        ensures room { IsFalse result → explored + 1 < 2 ^ 64 }
     {
-        if followed >= self.listed.len() {
+        if explored >= self.listed.len() {
             return true;
         }
-        followed.is_power_of_two() && has_each(program, self.listed.as_slice())
+        explored.is_power_of_two() && has_each(program, self.listed.as_slice())
     }
 
     /// The states, in the order in which they were listed.
@@ -112,8 +112,28 @@ impl Worklist {
         }
     }
 
+    /// Lists the states after steps from the listed state at this place: after one step that reads and writes no location,
+    /// where a thread has one, since it can be made before the steps of the others; otherwise after each step.
+    pub(crate) fn explore(
+        &mut self,
+        alloc: Global,
+        program: &Program,
+        from: usize,
+    ) -> Result<(), AllocError>
+        requires reached { AreReached program.now self.old }
+        requires there { from < length self.old }
+        ensures reached { OnOk result (AreReached program.now self.new) }
+        ensures longer { OnOk result (IsBeginning self.old self.new) }
+        ensures explored { OnOk result (IsExplored program.now self.new from) }
+    {
+        match self.listed[from].state.local_thread(program) {
+            Some(t) => self.follow(alloc, program, from, t),
+            None => self.follow_all(alloc, program, from),
+        }
+    }
+
     /// Lists the states after each step from the listed state at this place.
-    pub(crate) fn follow_all(
+    fn follow_all(
         &mut self,
         alloc: Global,
         program: &Program,

@@ -1,4 +1,5 @@
--- Lists of states: each is reached by a step from an earlier one, and the steps that were followed lead to listed ones.
+-- Lists of states: each is reached by a step from an earlier one, and the steps that were followed lead to listed ones. Of a state where
+-- some thread's step reads and writes no location, that step alone needs to be followed: it can be made before those of other threads.
 use Rattle.std.specs.Prelude.{◌≡◌, ◌<◌, ◌≤◌, ◌⊎◌, ℕ, true, false, Bool, List, [], ◌∷◌, ◌++◌, length, slice_get, Option, Some, None}
 use Rattle.tso_program.specs.declared.listing.Listing.{Listing}
 use Rattle.tso_machine.specs.declared.label.Label.{Label, TheVariants.Exec}
@@ -8,7 +9,7 @@ use Rattle.tso_program.specs.declared.action.Action.{TheVariants.Stop}
 use Rattle.sequential_states.specs.declared.listed.Arrival.{Arrival}
 use Rattle.sequential_states.specs.declared.listed.Listed.{Listed}
 use Rattle.sequential_states.specs.declared.walk.Walk.{Walk}
-use Rattle.sequential_states.specs.Internal.Snapshots.{Shot, state_of, first_shot, FitsProgram, HasNoStep, StandsAt}
+use Rattle.sequential_states.specs.Internal.Snapshots.{Shot, state_of, first_shot, FitsProgram, HasLocalStep, HasNoStep, StandsAt}
 
 -- a state is listed that is this state of the machine
 pub record IsListed (listed : List Listed) (s : State) : Type 0 where
@@ -41,6 +42,17 @@ pub record IsPlaceAt (listed : List Listed) (t k place : ℕ) : Type 0 where
 abbrev pub IsFollowed : Listing → List Listed → ℕ → ℕ → Type 0
 IsFollowed p listed place t = (entry : Listed) (next : State) → slice_get listed place ≡ Some entry → step p SequentialMachine (state_of entry.state) (Exec t) ≡ Some next → IsListed listed next
 
+-- thread u's step from the state at this place reads and writes no location, and was followed
+pub record IsLocallyFollowed (p : Listing) (listed : List Listed) (place u : ℕ) : Type 0 where
+  pub entry : Listed
+  pub there : slice_get listed place ≡ Some entry
+  pub local : HasLocalStep p entry.state u
+  pub followed : IsFollowed p listed place u
+
+-- each thread's step was followed, or one that reads and writes no location
+abbrev pub IsExplored : Listing → List Listed → ℕ → Type 0
+IsExplored p listed place = ((t : ℕ) → IsFollowed p listed place t) ⊎ ((u : ℕ) × IsLocallyFollowed p listed place u)
+
 -- the one list is the beginning of the other
 abbrev pub IsBeginning : List Listed → List Listed → Type 0
 IsBeginning listed longer = (more : List Listed) × (longer ≡ listed ++ more)
@@ -57,15 +69,15 @@ HasFirst listed t n = (k : ℕ) → k < n → (place : ℕ) × IsPlaceAt listed 
 abbrev pub HasEach : Listing → List Listed → Type 0
 HasEach p listed = (t : ℕ) → HasFirst listed t (length (code_of p.threads t))
 
--- the steps from so many states were followed, which are all states or enough to have each instruction
+-- so many states were explored, which are all states or enough to have each instruction
 abbrev pub IsEnough : Listing → List Listed → ℕ → Type 0
-IsEnough p listed followed = (length listed ≤ followed) ⊎ HasEach p listed
+IsEnough p listed explored = (length listed ≤ explored) ⊎ HasEach p listed
 
--- the list begins with the program's start, and each of its states is reached; each step from them leads to one of them, or they have each instruction
+-- the list begins with the program's start, and each of its states is reached; each is explored, or they have each instruction
 pub record TellsAll (p : Listing) (listed : List Listed) : Type 0 where
   pub first : IsListed listed (start p)
   pub reached : AreReached p listed
-  pub enough : ((place t : ℕ) → place < length listed → IsFollowed p listed place t) ⊎ HasEach p listed
+  pub enough : ((place : ℕ) → place < length listed → IsExplored p listed place) ⊎ HasEach p listed
 
 -- the labels lead to the state, which has the program's threads and locations
 pub record IsWalk (p : Listing) (walk : Walk) : Type 0 where

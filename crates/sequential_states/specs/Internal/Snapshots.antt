@@ -5,6 +5,7 @@ use Rattle.tso_program.specs.declared.listing.Listing.{Listing}
 use Rattle.tso_program.specs.declared.action.Local.{Local}
 use Rattle.tso_program.specs.declared.action.Action.{Action, TheVariants.Stop, TheVariants.Go, TheVariants.Wait, TheVariants.Read, TheVariants.Write, TheVariants.Swap}
 use Rattle.tso_program.specs.Actions.{loaded}
+use Rattle.tso_program.specs.Listings.{action}
 use Rattle.tso_machine.specs.declared.label.Label.{TheVariants.Exec}
 use Rattle.tso_machine.specs.Machine.{SequentialMachine, State, step}
 
@@ -32,6 +33,19 @@ first_shot p = record { locals = map thread_start p.threads; memory = p.memory }
 pub record FitsProgram (p : Listing) (s : Shot) : Type 0 where
   pub threads : length s.locals ≡ length p.threads
   pub locations : length s.memory ≡ length p.memory
+
+-- an action that reads and writes no location
+abbrev pub IsLocal : Action → Type 0
+IsLocal Stop = ⊥
+IsLocal (Go next) = Unit {0}
+IsLocal (Wait next) = Unit {0}
+IsLocal (Read l to next) = ⊥
+IsLocal (Write l v next) = ⊥
+IsLocal (Swap l v to next) = ⊥
+
+-- thread t's step reads and writes no location
+abbrev pub HasLocalStep : Listing → Shot → ℕ → Type 0
+HasLocalStep p s t = IsLocal (action p.threads t ((state_of s).locals t))
 
 -- after an action of thread t
 abbrev pub acted : Shot → ℕ → Action → Shot
