@@ -1,10 +1,12 @@
 """Surveys: what `fencer survey` says of each file, by an independent search of the states of the machines."""
 import json
 import os
+import re
 import subprocess
 import tempfile
 import threading
 
+from cases.progress import MINUTES, MINUTES_FROM, easy, made, read_program, reads
 from harness import FENCER, Cases, bytes_of, example_files, run, said_by, same, tell, write
 from judges import documents, surveys
 from judges.texts import canonical_of, instruction_lines, test_of
@@ -78,6 +80,9 @@ REFUSED = (
 )
 
 
+# how long a file took, and this or how large its program is, as it is said of each file
+MILLIS = re.compile(r"\b\d{1,3}(,\d{3})* ms$")
+EXTENT = re.compile(r"fencer: .*: (combinations of traces: [\d,]+( or more)?|\d{1,3}(,\d{3})* ms)")
 HEADING = b"table sequential buffered unexecuted condition answer file\n"
 
 
@@ -199,7 +204,7 @@ class Surveys(Cases):
         with tempfile.TemporaryDirectory() as folder:
             name = os.fsencode(os.path.join(folder, "a\nb\x1bc"))
             shown = name.replace(b"\n", b"\\x0a").replace(b"\x1b", b"\\x1b")
-            for kind, source, count in (("fails", FAILS, 2), ("jumped", JUMPED, 3), ("refused", b"X87 A\n", 1)):
+            for kind, source, count in (("fails", FAILS, 3), ("jumped", JUMPED, 4), ("refused", b"X87 A\n", 1)):
                 write(name, source)
                 ran = subprocess.run([FENCER, "survey", name], capture_output=True)
                 lines = ran.stderr.split(b"\n")
@@ -242,3 +247,29 @@ class Surveys(Cases):
             others = [line for line in said[0].splitlines(keepends=True) if not line.startswith("fencer: ")]
             same(f"the slips that a survey of {name} names", "".join(others), said[1])
             tell(f"the slip of {name}", words is None or words in said[1], said)
+
+    def test_extent(self):
+        """Standard error says first of each file how many combinations of traces its program has, and last how long it took, and names the file; of a file that
+        is refused it says neither."""
+        with tempfile.TemporaryDirectory() as folder:
+            files = {name: os.path.join(folder, name) for name, _ in (*TEXTS, ("refused", b""))}
+            for name, source in (*TEXTS, ("refused", b"X87 A\n")):
+                write(files[name], source)
+            for name, file in files.items():
+                for options in ([], ["--json"], ["--allow-unexecuted"]):
+                    said = [line for line in said_by(["survey", *options, file]).splitlines() if EXTENT.fullmatch(line)]
+                    wanted = [] if name == "refused" else [f"fencer: {file}: combinations of traces: {read_program(file).combinations():,}", f"fencer: {file}: N ms"]
+                    same(f"what a survey {' '.join(options)} of {name} says of its extent", [MILLIS.sub("N ms", line) for line in said], wanted)
+            said = said_by(["survey", files["one"], files["refused"], files["fails"]]).splitlines()
+            ends = [f"fencer: {files[name]}: {end}" for name in ("one", "fails") for end in ("combinations of traces: 1", "N ms")]
+            same("what a survey of three files says first and last, and of the extent of each", [MILLIS.sub("N ms", line) for line in (said[0], *filter(EXTENT.fullmatch, said), said[-1])], [ends[0], *ends, ends[-1]])
+
+    def test_warnings(self):
+        """It is said once of a file, before its searches, that they may take minutes; and never that an answer may be wanting, since a survey asks for no
+        whole trees."""
+        with tempfile.TemporaryDirectory() as folder:
+            for name, text, warned in (("minutes", easy(*MINUTES_FROM), [MINUTES.format(*MINUTES_FROM)]), ("many", reads(14, 14), [])):
+                path = made(folder, text)
+                said = said_by(["survey", path]).splitlines()
+                count = read_program(path).combinations()
+                same(f"what a survey of {name} says before it ends", [line for line in said[:-1] if "store buffers" not in line], [f"fencer: {path}: combinations of traces: {count:,}", *warned])

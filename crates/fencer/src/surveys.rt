@@ -9,7 +9,7 @@ ghost use Rattle.fencer.specs.Surveys.{block_text, row_line, shown_name, survey_
 
 use crate::advice::text_fault_advice;
 use crate::place::text_fault_line;
-use crate::survey_advice::{file_message, unexecuted_advice, verdict_advice};
+use crate::survey_advice::{file_message, report_extent, unexecuted_advice, verdict_advice};
 use crate::tied::{tie_advice, tied_costs};
 use answers::{
     Texts, check_status, printed, said_of, slip_advice, unread_advice, unread_litmus, written,
@@ -19,7 +19,8 @@ use fencer_words::{SurveyOptions, SurveyQuery};
 use messages::Message;
 use placed_text::{Effort, TextFault};
 use program_streams::{
-    Console, FileFault, FileStore, Progress, TEXT_LIMIT, file_line, named_bytes, print, write_bytes,
+    Console, FileFault, FileStore, Progress, TEXT_LIMIT, file_line, grouped, named_bytes, print,
+    write_bytes,
 };
 use std::alloc::{AllocError, Global};
 use std::io::{self, Read};
@@ -238,8 +239,9 @@ fn time_message<T: Clock>(
     };
     match start.elapsed(rt) {
         Ok(time) => {
-            let time = time.as_millis();
-            let text = format!(in alloc; "{time} ms")?;
+            let millis = u64::try_from(time.as_millis()).unwrap_or(u64::MAX);
+            let millis = grouped(alloc, millis)?;
+            let text = format!(in alloc; "{millis} ms")?;
             file_message(alloc, name, text.as_str())
         }
         Err(_) => Ok(Vec::new(alloc)),
@@ -315,7 +317,9 @@ fn block_of_text<T: Threads + Wait + Sync + Clock>(
         Err(fault) => {
             let texts = Texts {
                 litmus: bytes,
+        warns: false,
                 costs,
+    report_extent(alloc, name, &bytes, manner.progress);
             };
             unfound_block(alloc, manner, name, &texts, fault)
         }

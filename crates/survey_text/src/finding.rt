@@ -22,7 +22,6 @@ use documents::ExecutedRun;
 use gap_list::TextLines;
 use placed_text::{
     AnswerText, Effort, SolveFault, TextFault, answer_text, read_gap_costs, read_program,
-    report_ahead,
 };
 use report::is_true_of;
 use std::alloc::{AllocError, Global};
@@ -94,8 +93,7 @@ fn both_answers<T: Threads + Wait + Sync>(
     Ok((condition, whole))
 }
 
-/// What is found of the program of a text, whose gaps cost what a text of costs says, and 1 each without one. How large it is
-/// is reported in any case.
+/// What is found of the program of a text, whose gaps cost what a text of costs says, and 1 each without one.
 fn survey_of<T: Threads + Wait + Sync>(
     rt: &T,
     alloc: Global,
@@ -109,7 +107,6 @@ fn survey_of<T: Threads + Wait + Sync>(
     let litmus = read_program(alloc, text)?;
     let program = &litmus.program;
     let tied = read_gap_costs(alloc, costs, program)?;
-    report_ahead(alloc, program, effort.progress.asked(true));
     let (sequential, buffered) = both_outcomes(rt, alloc, effort, program)?;
     let (visits, runs) = visits_and_runs(alloc, program)?;
     let (condition, whole) = both_answers(rt, alloc, text, costs, effort)?;
@@ -161,7 +158,7 @@ fn told(alloc: Global, name: &str, text: &[u8], survey: &Survey) -> Result<Surve
 /// where each gap costs what a text of costs says, and 1 without one. The document says it of a file of this name.
 ///
 /// The litmus text is judged first, then the costs, then the number of workers. With `rt` workers start threads and wait
-/// for one another. How many combinations of traces there are is reported in any case.
+/// for one another.
 pub fn survey_text<T: Threads + Wait + Sync>(
     rt: &T,
     alloc: Global,
