@@ -6,8 +6,9 @@ import subprocess
 import tempfile
 import threading
 
+from cases.messages import NOTES
 from cases.progress import MINUTES, MINUTES_FROM, easy, made, read_program, reads
-from harness import FENCER, Cases, bytes_of, example_files, run, said_by, same, tell, write
+from harness import EXAMPLES, FENCER, Cases, bytes_of, example_files, run, said_by, same, tell, write
 from judges import documents, surveys
 from judges.texts import canonical_of, instruction_lines, test_of
 
@@ -169,6 +170,8 @@ class Surveys(Cases):
                 wrong = documents.refusal_differs(document, refused + "\n") or json.loads(document)["file"] != name
             else:
                 wrong = surveys.document_differs(document, name, test_of(source), canonical_of(source), instruction_lines(source.decode()))
+                notes = json.loads(run(["place", "--condition", "--json", name])[1]).get("notes", [])
+                same(f"the notes of {name}", json.loads(document).get("notes", []), notes)
             tell(f"the document of {name}", not wrong, document)
 
     def test_documents(self):
@@ -247,6 +250,18 @@ class Surveys(Cases):
             others = [line for line in said[0].splitlines(keepends=True) if not line.startswith("fencer: ")]
             same(f"the slips that a survey of {name} names", "".join(others), said[1])
             tell(f"the slip of {name}", words is None or words in said[1], said)
+
+    def test_notes(self):
+        """A document has the notes of its text, of each kind, and standard error says them with the file's name."""
+        text = bytes_of(os.path.join(EXAMPLES, "SB.litmus")).decode()
+        for kinds, old, new, condition in NOTES:
+            given = (text.replace(old, new) if old else text).replace("exists (0:EAX=0 /\\ 1:EAX=0)", condition).encode()
+            ran = subprocess.run([FENCER, "survey", "--json", "-"], input=given, capture_output=True)
+            found = [note["kind"] for note in json.loads(ran.stdout).get("notes", [])]
+            same(f"the notes of a survey of {condition!r} with {new!r}", found, kinds.split())
+            said = [line for line in ran.stderr.decode().splitlines() if not EXTENT.fullmatch(line) and "no sequential run executes" not in line]
+            wanted = documents.noted(ran.stdout, "<stdin>", "fencer: <stdin>: ").decode()
+            same(f"what standard error has of the notes of {condition!r} with {new!r}", sorted(said), sorted(wanted.splitlines()))
 
     def test_extent(self):
         """Standard error says first of each file how many combinations of traces its program has, and last how long it took, and names the file; of a file that

@@ -251,11 +251,11 @@ def differs(printed, command, text, canonical, lines, dot=None, fences=None):
     return answer_differs(document, line) or document["fenced"] != fenced
 
 
-def noted(printed, name):
-    """What standard error has of the notes of a document, where the litmus text has this name."""
+def noted(printed, name, front="fencer: "):
+    """What standard error has of the notes of a document, where the litmus text has this name; `front` stands before what sequential runs decide."""
     def line(note):
         place = f":{note['line']}:{note['column']}" if note["line"] else ""
-        return f"fencer: {note['message']}\n" if note["kind"] in VERDICTS else f"{name}{place}: {note['message']}\n"
+        return f"{front}{note['message']}\n" if note["kind"] in VERDICTS else f"{name}{place}: {note['message']}\n"
 
     notes = read(printed).get("notes", [])
     right = all(list(note) == NOTE and bool(note["line"]) == bool(note["column"]) == bool(note["word"]) for note in notes)

@@ -87,7 +87,8 @@ def runs_differ(test, document):
 def document_differs(printed, name, test, canonical, numbers):
     """Whether a document of a file says other things than its block must, or another program."""
     document = documents.read(printed)
-    if document is None or list(document) != documents.FIELDS["survey"] or document["format"] != documents.FORMAT or document["command"] != "survey":
+    fields = [*documents.FIELDS["survey"], *(["notes"] if document and document.get("notes") else [])]
+    if document is None or list(document) != fields or document["format"] != documents.FORMAT or document["command"] != "survey":
         return True
     if documents.program_differs(document, canonical) or documents.lines_differ(document, numbers) or document["file"] != name:
         return True

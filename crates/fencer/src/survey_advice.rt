@@ -110,8 +110,11 @@ pub(crate) fn verdict_advice(
     name: &str,
     told: &SurveyText,
 ) -> Result<Vec<u8>, AllocError> {
-    match str::from_utf8(&told.verdict) {
-        Ok(said) if !said.is_empty() => file_message(alloc, name, said),
-        _ => Ok(Vec::new(alloc)),
+    let Some(note) = &told.verdict else {
+        return Ok(Vec::new(alloc));
+    };
+    match str::from_utf8(&note.message) {
+        Ok(said) => file_message(alloc, name, said),
+        Err(_) => Ok(Vec::new(alloc)),
     }
 }

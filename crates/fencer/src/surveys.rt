@@ -12,7 +12,8 @@ use crate::place::text_fault_line;
 use crate::survey_advice::{file_message, report_extent, unexecuted_advice, verdict_advice};
 use crate::tied::{tie_advice, tied_costs};
 use answers::{
-    Texts, check_status, printed, said_of, slip_advice, unread_advice, unread_litmus, written,
+    NotedText, SlipPlaces, Texts, check_status, noted_line, printed, said_of, slip_advice,
+    unread_advice, unread_litmus, written,
 };
 use documents::{RefusalMessage, refusal_document};
 use fencer_words::{SurveyOptions, SurveyQuery};
@@ -196,11 +197,13 @@ fn unfound_block(
     refused_block(alloc, manner, name, &line, message)
 }
 
-/// The block of a file of whose program this is found.
+/// The block of a file with this text, of whose program this is found. Beside what is found the document says what is noted of
+/// the text.
 fn found_block(
     alloc: Global,
     manner: Manner,
     name: &str,
+    litmus: &[u8],
     told: SurveyText,
     message: Result<Vec<u8>, AllocError>,
 ) -> Result<Block, AllocError>
@@ -216,8 +219,15 @@ fn found_block(
         lines,
         row,
         document,
+        verdict,
         ..
     } = told;
+    let noted = NotedText {
+        name,
+        text: litmus,
+        places: SlipPlaces::WholeText,
+    };
+    let document = noted_line(alloc, noted, document, verdict)?;
     let text = block_text(alloc, name, &lines)?;
     Ok(Block {
         lines: printed(json, text, document),
@@ -307,19 +317,19 @@ fn block_of_text<T: Threads + Wait + Sync + Clock>(
         workers: manner.options.workers,
         trees: None,
         progress: manner.progress,
+        warns: false,
     };
+    report_extent(alloc, name, &bytes, manner.progress);
     match survey_text(rt, alloc, name, &bytes, costs.as_deref(), effort) {
         Ok(told) => {
             let message = found_message(alloc, manner, name, &bytes, costs.as_deref(), &told);
             let message = with_time(rt, alloc, name, start, message);
-            found_block(alloc, manner, name, told, message)
+            found_block(alloc, manner, name, &bytes, told, message)
         }
         Err(fault) => {
             let texts = Texts {
                 litmus: bytes,
-        warns: false,
                 costs,
-    report_extent(alloc, name, &bytes, manner.progress);
             };
             unfound_block(alloc, manner, name, &texts, fault)
         }
