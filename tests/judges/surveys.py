@@ -94,6 +94,8 @@ def document_differs(printed, name, test, canonical, numbers):
         return True
     lines, _, _ = block(test, canonical, numbers)
     texts = [[cell["text"] for cell in thread["instructions"]] for thread in document["threads"]]
+    if document["says"] != {model: documents.saying(document["condition"], documents.IN_MACHINE, holds) for model, holds in document["holds"].items()}:
+        return True
     said = [f"{model} condition {'holds' if holds else 'fails'}" for model, holds in document["holds"].items()]
     for place in document["unexecuted"]:
         t, k = map(int, place["place"].split(":"))
