@@ -1,11 +1,14 @@
 """Surveys: what `fencer survey` says of each file, by an independent search of the states of the machines."""
 import json
 import os
+import re
 import subprocess
 import tempfile
 import threading
 
-from harness import FENCER, Cases, bytes_of, example_files, run, said_by, same, tell, write
+from cases.messages import NOTES
+from cases.progress import MINUTES, MINUTES_FROM, easy, made, read_program, reads
+from harness import EXAMPLES, FENCER, Cases, bytes_of, example_files, run, said_by, same, tell, write
 from judges import documents, surveys
 from judges.texts import canonical_of, instruction_lines, test_of
 
@@ -78,6 +81,9 @@ REFUSED = (
 )
 
 
+# how long a file took, and this or how large its program is, as it is said of each file
+MILLIS = re.compile(r"\b\d{1,3}(,\d{3})* ms$")
+EXTENT = re.compile(r"fencer: .*: (combinations of traces: [\d,]+( or more)?|\d{1,3}(,\d{3})* ms)")
 HEADING = b"table sequential buffered unexecuted condition answer file\n"
 
 
@@ -164,6 +170,8 @@ class Surveys(Cases):
                 wrong = documents.refusal_differs(document, refused + "\n") or json.loads(document)["file"] != name
             else:
                 wrong = surveys.document_differs(document, name, test_of(source), canonical_of(source), instruction_lines(source.decode()))
+                notes = json.loads(run(["place", "--condition", "--json", name])[1]).get("notes", [])
+                same(f"the notes of {name}", json.loads(document).get("notes", []), notes)
             tell(f"the document of {name}", not wrong, document)
 
     def test_documents(self):
@@ -199,7 +207,7 @@ class Surveys(Cases):
         with tempfile.TemporaryDirectory() as folder:
             name = os.fsencode(os.path.join(folder, "a\nb\x1bc"))
             shown = name.replace(b"\n", b"\\x0a").replace(b"\x1b", b"\\x1b")
-            for kind, source, count in (("fails", FAILS, 2), ("jumped", JUMPED, 3), ("refused", b"X87 A\n", 1)):
+            for kind, source, count in (("fails", FAILS, 3), ("jumped", JUMPED, 4), ("refused", b"X87 A\n", 1)):
                 write(name, source)
                 ran = subprocess.run([FENCER, "survey", name], capture_output=True)
                 lines = ran.stderr.split(b"\n")
@@ -242,3 +250,41 @@ class Surveys(Cases):
             others = [line for line in said[0].splitlines(keepends=True) if not line.startswith("fencer: ")]
             same(f"the slips that a survey of {name} names", "".join(others), said[1])
             tell(f"the slip of {name}", words is None or words in said[1], said)
+
+    def test_notes(self):
+        """A document has the notes of its text, of each kind, and standard error says them with the file's name."""
+        text = bytes_of(os.path.join(EXAMPLES, "SB.litmus")).decode()
+        for kinds, old, new, condition in NOTES:
+            given = (text.replace(old, new) if old else text).replace("exists (0:EAX=0 /\\ 1:EAX=0)", condition).encode()
+            ran = subprocess.run([FENCER, "survey", "--json", "-"], input=given, capture_output=True)
+            found = [note["kind"] for note in json.loads(ran.stdout).get("notes", [])]
+            same(f"the notes of a survey of {condition!r} with {new!r}", found, kinds.split())
+            said = [line for line in ran.stderr.decode().splitlines() if not EXTENT.fullmatch(line) and "no sequential run executes" not in line]
+            wanted = documents.noted(ran.stdout, "<stdin>", "fencer: <stdin>: ").decode()
+            same(f"what standard error has of the notes of {condition!r} with {new!r}", sorted(said), sorted(wanted.splitlines()))
+
+    def test_extent(self):
+        """Standard error says first of each file how many combinations of traces its program has, and last how long it took, and names the file; of a file that
+        is refused it says neither."""
+        with tempfile.TemporaryDirectory() as folder:
+            files = {name: os.path.join(folder, name) for name, _ in (*TEXTS, ("refused", b""))}
+            for name, source in (*TEXTS, ("refused", b"X87 A\n")):
+                write(files[name], source)
+            for name, file in files.items():
+                for options in ([], ["--json"], ["--allow-unexecuted"]):
+                    said = [line for line in said_by(["survey", *options, file]).splitlines() if EXTENT.fullmatch(line)]
+                    wanted = [] if name == "refused" else [f"fencer: {file}: combinations of traces: {read_program(file).combinations():,}", f"fencer: {file}: N ms"]
+                    same(f"what a survey {' '.join(options)} of {name} says of its extent", [MILLIS.sub("N ms", line) for line in said], wanted)
+            said = said_by(["survey", files["one"], files["refused"], files["fails"]]).splitlines()
+            ends = [f"fencer: {files[name]}: {end}" for name in ("one", "fails") for end in ("combinations of traces: 1", "N ms")]
+            same("what a survey of three files says first and last, and of the extent of each", [MILLIS.sub("N ms", line) for line in (said[0], *filter(EXTENT.fullmatch, said), said[-1])], [ends[0], *ends, ends[-1]])
+
+    def test_warnings(self):
+        """It is said once of a file, before its searches, that they may take minutes; and never that an answer may be wanting, since a survey asks for no
+        whole trees."""
+        with tempfile.TemporaryDirectory() as folder:
+            for name, text, warned in (("minutes", easy(*MINUTES_FROM), [MINUTES.format(*MINUTES_FROM)]), ("many", reads(14, 14), [])):
+                path = made(folder, text)
+                said = said_by(["survey", path]).splitlines()
+                count = read_program(path).combinations()
+                same(f"what a survey of {name} says before it ends", [line for line in said[:-1] if "store buffers" not in line], [f"fencer: {path}: combinations of traces: {count:,}", *warned])

@@ -13,14 +13,14 @@ FORMAT = "fencer 1"
 PROGRAM = ["format", "command", "test", "condition", "locations", "registers", "initial", "threads"]
 FIELDS = {
     "why": [*PROGRAM, "gaps", "answer", "runs"],
-    "place": [*PROGRAM, "gaps", "answer", "fenced"],
+    "place": [*PROGRAM, "gaps", "answer", "fenced", "says"],
     "trace": [*PROGRAM, "run"],
-    "outcomes": [*PROGRAM, "model", "observed", "outcomes", "observation", "holds"],
-    "witness": [*PROGRAM, "model", "fences", "meets_condition", "run"],
+    "outcomes": [*PROGRAM, "model", "observed", "outcomes", "observation", "holds", "says"],
+    "witness": [*PROGRAM, "model", "fences", "meets_condition", "run", "says"],
     "gaps": [*PROGRAM, "gaps"],
-    "survey": [*PROGRAM, "file", "holds", "unexecuted", "runs", "gaps", "condition_answer", "answer"],
+    "survey": [*PROGRAM, "file", "holds", "unexecuted", "runs", "gaps", "condition_answer", "answer", "says"],
 }
-RUN = ["steps", "outcome", "meets_condition", "passed", "execution"]
+RUN = ["steps", "outcome", "meets_condition", "passed", "execution", "says"]
 STEP = ["label", "instruction", "reads", "stores", "reaches", "buffer", "memory", "registers"]
 # what is said beside an answer: of sequential runs, and of what its author may not have meant
 VERDICTS = ("no_fence_mends", "happens_sequentially")
@@ -35,6 +35,17 @@ ALONE = {
     False: "This run does not meet the condition's formula, and each sequential run does.",
 }
 NO_RUN = {True: "No run meets the condition's formula.\n", False: "Every run meets the condition's formula.\n"}
+# what a condition is about, by its quantifier, and what is said of it: of a run that meets the formula or does not, of a machine in which the condition holds
+# or fails, and where a run that meets the formula or does not is sought and there is none
+SUBJECTS = {"exists": "what the condition asks about", "~exists": "what must not happen", "forall": "what must always hold"}
+IN_RUN = {
+    "exists": ("does not happen in this run", "happens in this run"), "~exists": ("does not happen in this run", "happens in this run"),
+    "forall": ("fails in this run", "holds in this run"),
+}
+IN_MACHINE = {
+    "exists": ("never happens", "happens in some run"), "~exists": ("happens in some run", "never happens"), "forall": ("fails in some run", "always holds"),
+}
+IN_NONE = {"exists": ("happens in every run", "never happens"), "~exists": ("happens in every run", "never happens"), "forall": ("always holds", "never holds")}
 EXAMPLE = re.compile(r"^    \$ \./fencer (.* --json .*)\n    (\{.*\})\n", re.M)
 
 
@@ -60,6 +71,12 @@ def meets(condition, outcome):
     for sign, word in (("/\\", " and "), ("\\/", " or "), ("true", "True"), ("false", "False")):
         formula = formula.replace(sign, word)
     return eval(formula, {"__builtins__": {}})
+
+
+def saying(condition, verbs, holds):
+    """What is said of a canonical condition, where that holds of which there are two verbs for each quantifier."""
+    quantifier, formula = condition.split(" ", 1)
+    return f"{SUBJECTS[quantifier]} {formula} {verbs[quantifier][holds]}"
 
 
 def outcome_line(outcome):
@@ -153,6 +170,7 @@ def run_differs(document, run, first, table, outcome, passed):
     """Whether a run says other things than its lines."""
     right = list(run) == [first, *RUN] and all(list(step) == STEP for step in run["steps"])
     same = right and outcome_line(run["outcome"]) == outcome and passed_line(run["passed"]) == passed
+    same = same and run["says"] == saying(document["condition"], IN_RUN, run["meets_condition"])
     return not same or table_differs(document, run, table) or states_differ(document, run)
 
 
@@ -193,6 +211,8 @@ def trace_differs(document, text, dot):
 
 def witness_differs(document, text, dot):
     run = document["run"]
+    if document["says"] != saying(document["condition"], IN_NONE if run is None else IN_RUN, document["meets_condition"]):
+        return True
     if run is None:
         return text != NO_RUN[document["meets_condition"]] or list(graphs.read(dot)) != []
     labels, rest = text.split("\n", 1)
@@ -206,7 +226,15 @@ def outcomes_differ(document, text):
     for outcome, labels in itertools.zip_longest(document["outcomes"], document.get("runs", [])):
         lines += [outcome_line(outcome or []), *([] if labels is None else [" ".join(["run", *labels])])]
     lines += [f"observation {document['observation']}", f"condition {'holds' if document['holds'] else 'fails'}", ""]
-    return text != "\n".join(lines)
+    return text != "\n".join(lines) or document["says"] != saying(document["condition"], IN_MACHINE, document["holds"])
+
+
+def placed_differs(document, text):
+    """Whether a placement says another answer or another program, or of the condition other than its notes do: that a sequential run decides it."""
+    line, fenced = text.split("\n", 1)
+    decided = any(note["kind"] in VERDICTS for note in document.get("notes", []))
+    says = saying(document["condition"], IN_MACHINE, decided == document["condition"].startswith("exists "))
+    return answer_differs(document, line) or document["fenced"] != fenced or document["says"] != says
 
 
 def lines_differ(document, lines):
@@ -228,7 +256,9 @@ def gaps_differ(document, text):
 def differs(printed, command, text, canonical, lines, dot=None, fences=None):
     """Whether a command's document says other things than its text, the program's canonical text with its instructions' lines, and the graph of its runs."""
     document = read(printed)
-    fields = [*FIELDS[command], *(["runs"] if command == "outcomes" and "\nrun" in text else [])]
+    fields = list(FIELDS[command])
+    if command == "outcomes" and "\nrun" in text:
+        fields.insert(fields.index("says"), "runs")
     if command == "outcomes" and fences:
         fields.insert(fields.index("model") + 1, "fences")
     if document and document.get("notes") and command not in ("trace", "gaps"):
@@ -247,15 +277,14 @@ def differs(printed, command, text, canonical, lines, dot=None, fences=None):
         return document["fences"] != (fences or []) or witness_differs(document, text, dot)
     if command == "outcomes":
         return document.get("fences", []) != (fences or []) or outcomes_differ(document, text)
-    line, fenced = text.split("\n", 1)
-    return answer_differs(document, line) or document["fenced"] != fenced
+    return placed_differs(document, text)
 
 
-def noted(printed, name):
-    """What standard error has of the notes of a document, where the litmus text has this name."""
+def noted(printed, name, front="fencer: "):
+    """What standard error has of the notes of a document, where the litmus text has this name; `front` stands before what sequential runs decide."""
     def line(note):
         place = f":{note['line']}:{note['column']}" if note["line"] else ""
-        return f"fencer: {note['message']}\n" if note["kind"] in VERDICTS else f"{name}{place}: {note['message']}\n"
+        return f"{front}{note['message']}\n" if note["kind"] in VERDICTS else f"{name}{place}: {note['message']}\n"
 
     notes = read(printed).get("notes", [])
     right = all(list(note) == NOTE and bool(note["line"]) == bool(note["column"]) == bool(note["word"]) for note in notes)

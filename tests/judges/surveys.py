@@ -87,12 +87,15 @@ def runs_differ(test, document):
 def document_differs(printed, name, test, canonical, numbers):
     """Whether a document of a file says other things than its block must, or another program."""
     document = documents.read(printed)
-    if document is None or list(document) != documents.FIELDS["survey"] or document["format"] != documents.FORMAT or document["command"] != "survey":
+    fields = [*documents.FIELDS["survey"], *(["notes"] if document and document.get("notes") else [])]
+    if document is None or list(document) != fields or document["format"] != documents.FORMAT or document["command"] != "survey":
         return True
     if documents.program_differs(document, canonical) or documents.lines_differ(document, numbers) or document["file"] != name:
         return True
     lines, _, _ = block(test, canonical, numbers)
     texts = [[cell["text"] for cell in thread["instructions"]] for thread in document["threads"]]
+    if document["says"] != {model: documents.saying(document["condition"], documents.IN_MACHINE, holds) for model, holds in document["holds"].items()}:
+        return True
     said = [f"{model} condition {'holds' if holds else 'fails'}" for model, holds in document["holds"].items()]
     for place in document["unexecuted"]:
         t, k = map(int, place["place"].split(":"))

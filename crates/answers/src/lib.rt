@@ -27,7 +27,7 @@ pub use advice::{
 pub use delivery::{Answer, deliver};
 pub use document::{Told, documented, printed};
 pub use inserted::{Unkept, inserted_for, keep_inserted, unkept_line};
-pub use notes::{NotedText, SlipPlaces, noted_line, report_verdict, slip_places};
+pub use notes::{NotedText, SlipPlaces, noted_line, report_verdict, sentence_line, slip_places};
 pub use refusals::{AnswerFault, Reply, no_gap_line, print_answer, solve_line};
 pub use refused::{said_of, tell_refusal, written};
 pub use replays::run_replay;

@@ -137,13 +137,16 @@ pub fn noted_line(
 /// Reports a verdict, also where no progress is reported.
 pub fn report_verdict(alloc: Global, verdict: Option<&Note>, progress: Progress) {
     if let Some(note) = verdict {
-        progress.asked(true).report(verdict_line(alloc, note));
+        progress
+            .asked(true)
+            .report(sentence_line(alloc, &note.message));
     }
 }
 
-fn verdict_line(alloc: Global, note: &Note) -> Result<Vec<u8>, AllocError> {
+/// A sentence as a line for people.
+pub fn sentence_line(alloc: Global, sentence: &[u8]) -> Result<Vec<u8>, AllocError> {
     let mut line = Vec::from_slice(alloc, b"fencer: ")?;
-    line.extend_from_slice(&note.message)?;
+    line.extend_from_slice(sentence)?;
     line.push(b'\n')?;
     Ok(line)
 }

@@ -1,5 +1,5 @@
 -- The documents of the commands, each by its members. `Notes` has the line of a document.
-use Rattle.std.specs.Prelude.{◌≡◌, ℕ, ◌-◌, List, [], ◌∷◌, ◌++◌, Option, Some, None, codes, drop, length, min, take}
+use Rattle.std.specs.Prelude.{◌≡◌, ℕ, ◌-◌, Bool, List, [], ◌∷◌, ◌++◌, Option, Some, None, codes, drop, length, min, take}
 use Rattle.std.specs.Fmt.{decimal}
 use Rattle.gap_sets.specs.Gaps.{SetOfGaps}
 use Rattle.gap_sets.specs.declared.ties.TiedCosts.{TiedCosts}
@@ -18,6 +18,7 @@ use Rattle.documents.specs.declared.run.Setting.TheVariants.{Machine}
 use Rattle.documents.specs.FencedModels.{machine_members}
 use Rattle.documents.specs.Parts.{ProgramPart, program_members, IsProgram, answer_members, costs_array, is_observed, outcomes_array, tie_members}
 use Rattle.documents.specs.Runs.{TellsRun, runs_array}
+use Rattle.documents.specs.Sayings.{verb_of_machine, IsSaying}
 
 -- the version
 abbrev pub format_member : List ℕ
@@ -46,10 +47,20 @@ pub record IsDocument (source : Litmus Listing) (command : List ℕ) (members do
 abbrev pub IsLinedDocument : Litmus Listing → List ℕ → (TextLines → List (List ℕ)) → List (List ℕ) → Type 0
 IsLinedDocument source command members document = (lines : TextLines) × IsDocument source command (members lines) document
 
--- of a placement: the gaps with their costs, the answer, and the text of the fenced program
-abbrev pub IsPlacedDocument : Litmus Listing → Shown → TiedCosts → SetOfGaps → List ℕ → List (List ℕ) → Type 0
-IsPlacedDocument source shown costs gaps fenced =
-    IsLinedDocument source (codes "place") (λ lines. answer_members source.program lines shown costs gaps ++ member (codes "fenced") (quoted fenced) ∷ [])
+-- the document of a command that has these members, and then what the condition does in a machine where it holds, or fails, in the
+-- words of its quantifier
+abbrev pub IsSaidDocument : Litmus Listing → Bool → List ℕ → List (List ℕ) → List (List ℕ) → Type 0
+IsSaidDocument source holds command members document =
+    (says : List ℕ) × IsSaying source.condition.quantifier (verb_of_machine source.condition.quantifier holds) says
+    × IsDocument source command (members ++ member (codes "says") says ∷ []) document
+
+-- of a placement: the gaps with their costs, the answer, the text of the fenced program, and whether the condition holds in it
+abbrev pub placed_members : Listing → TextLines → Shown → TiedCosts → SetOfGaps → List ℕ → List (List ℕ)
+placed_members p lines shown costs gaps fenced = answer_members p lines shown costs gaps ++ member (codes "fenced") (quoted fenced) ∷ []
+
+abbrev pub IsPlacedDocument : Litmus Listing → Shown → TiedCosts → SetOfGaps → List ℕ → Bool → List (List ℕ) → Type 0
+IsPlacedDocument source shown costs gaps fenced holds document =
+    (lines : TextLines) × IsSaidDocument source holds (codes "place") (placed_members source.program lines shown costs gaps fenced) document
 
 -- of why the gaps of the answer are needed: the same with these texts of runs
 abbrev pub IsWhyDocument : Litmus Listing → Shown → TiedCosts → SetOfGaps → List (List ℕ) → List (List ℕ) → Type 0
@@ -78,13 +89,16 @@ list_members source shown outcomes =
 abbrev pub outcomes_members : Litmus Listing → Shown → FencedModel → List Outcome → List (List ℕ)
 outcomes_members source shown machine outcomes = machine_members source.program machine ++ list_members source shown outcomes
 
+abbrev pub IsSaidOfOutcomes : Litmus Listing → List Outcome → List (List ℕ) → List (List ℕ) → Type 0
+IsSaidOfOutcomes source outcomes = IsSaidDocument source (is_true_of source.condition.quantifier source.condition.formula outcomes) (codes "outcomes")
+
 abbrev pub IsOutcomesDocument : Litmus Listing → Shown → FencedModel → List Outcome → List (List ℕ) → Type 0
-IsOutcomesDocument source shown machine outcomes = IsDocument source (codes "outcomes") (outcomes_members source shown machine outcomes)
+IsOutcomesDocument source shown machine outcomes = IsSaidOfOutcomes source outcomes (outcomes_members source shown machine outcomes)
 
 -- of outcomes in a machine, with the labels of a run of each
 abbrev pub IsOutcomesWithRunsDocument : Litmus Listing → Shown → FencedModel → List Outcome → List (List Label) → List (List ℕ) → Type 0
 IsOutcomesWithRunsDocument source shown machine outcomes runs =
-    IsDocument source (codes "outcomes") (outcomes_members source shown machine outcomes ++ member (codes "runs") (runs_array runs) ∷ [])
+    IsSaidOfOutcomes source outcomes (outcomes_members source shown machine outcomes ++ member (codes "runs") (runs_array runs) ∷ [])
 
 -- what is said about a refusal beside its line: the file's name, the line and the column from 1, the word that stands there,
 -- and what is wrong

@@ -14,6 +14,7 @@ use Rattle.json_text.specs.Texts.{quoted, array_text, member, object_text, truth
 use Rattle.json_text.specs.Values.{IsJson}
 use Rattle.documents.specs.declared.run.Setting.{Setting, TheVariants.Without, TheVariants.Machine}
 use Rattle.documents.specs.Parts.{quoted_gap, gaps_array, outcome_array}
+use Rattle.documents.specs.Sayings.{verb_of_run, IsSaying}
 
 -- ---- steps
 
@@ -96,11 +97,14 @@ ended_members source shown outcome passed =
     ∷ member (codes "passed") (gaps_array source.program.threads passed) ∷ []
 
 -- The text of a run: which one it is, a step for each of its labels, what is shown of what it leaves, whether that meets the
--- condition's formula, the gaps that it passes, and its candidate execution, which is JSON.
+-- condition's formula, the gaps that it passes, its candidate execution, which is JSON, and what that is in the words of the
+-- condition's quantifier.
 pub record TellsRun (source : Litmus Listing) (shown : Shown) (setting : Setting) (labels : List Label) (outcome : Outcome) (passed : SetOfGaps) (text : List ℕ) : Type 0 where
   pub steps : List ℕ
   pub each : TellsSteps labels steps
   pub execution : List ℕ
   pub json : IsJson execution
+  pub says : List ℕ
+  pub said : IsSaying source.condition.quantifier (verb_of_run source.condition.quantifier (truth outcome source.condition.formula)) says
   pub printed : text ≡ object_text (setting_member source.program setting ∷ member (codes "steps") steps
-      ∷ (ended_members source shown outcome passed ++ member (codes "execution") execution ∷ []))
+      ∷ (ended_members source shown outcome passed ++ member (codes "execution") execution ∷ member (codes "says") says ∷ []))

@@ -1,10 +1,11 @@
 -- The document of what is found of a program.
-use Rattle.std.specs.Prelude.{ℕ, Bool, List, [], ◌∷◌, ◌++◌, codes, map}
+use Rattle.std.specs.Prelude.{◌≡◌, ℕ, Bool, List, [], ◌∷◌, ◌++◌, codes, map}
 use Rattle.std.specs.Fmt.{decimal}
 use Rattle.gap_sets.specs.Gaps.{SetOfGaps}
 use Rattle.gap_sets.specs.declared.ties.TiedCosts.{TiedCosts}
 use Rattle.tso_program.specs.declared.listing.Listing.{Listing}
 use Rattle.tso_program.specs.declared.shown.Shown.{Shown}
+use Rattle.conditions.specs.declared.condition.Quantifier.{Quantifier}
 use Rattle.report.specs.Litmus.{Litmus}
 use Rattle.gap_list.specs.declared.text_lines.TextLines.{TextLines}
 use Rattle.gap_list.specs.Lines.{line_at}
@@ -14,6 +15,7 @@ use Rattle.documents.specs.declared.survey.Findings.{Findings}
 use Rattle.documents.specs.Documents.{IsLinedDocument}
 use Rattle.documents.specs.Parts.{answer_value, costs_array, place_name, tie_members}
 use Rattle.documents.specs.Runs.{labels_array}
+use Rattle.documents.specs.Sayings.{verb_of_machine, IsSaying}
 
 -- What is found of a program: the name of its file; whether its condition holds in both machines; the instructions that no sequential
 -- run executes; runs with what they execute; what the gaps cost; and of both answers what is shown of outcomes, and the gaps.
@@ -77,5 +79,17 @@ both_answers p lines found =
     member (codes "gaps") (costs_array p.threads lines found.costs.costs) ∷ member (codes "condition_answer") (answer_value p found.condition.0 found.costs found.condition.1)
     ∷ member (codes "answer") (answer_value p found.whole.0 found.costs found.whole.1) ∷ tie_members p.threads found.costs.ties
 
+-- what the condition does in each machine, in the words of its quantifier
+pub record AreSayings (quantifier : Quantifier) (found : Found) (says : List ℕ) : Type 0 where
+  pub sequential : List ℕ
+  pub of_sequential : IsSaying quantifier (verb_of_machine quantifier found.sequential) sequential
+  pub buffered : List ℕ
+  pub of_buffered : IsSaying quantifier (verb_of_machine quantifier found.buffered) buffered
+  pub printed : says ≡ object_text (member (codes "sequential") sequential ∷ member (codes "buffered") buffered ∷ [])
+
+abbrev pub survey_members : Litmus Listing → Found → List ℕ → TextLines → List (List ℕ)
+survey_members source found says lines = executed_members lines found ++ both_answers source.program lines found ++ member (codes "says") says ∷ []
+
 abbrev pub IsSurveyDocument : Litmus Listing → Found → List (List ℕ) → Type 0
-IsSurveyDocument source found = IsLinedDocument source (codes "survey") (λ lines. executed_members lines found ++ both_answers source.program lines found)
+IsSurveyDocument source found document =
+    (says : List ℕ) × AreSayings source.condition.quantifier found says × IsLinedDocument source (codes "survey") (survey_members source found says) document

@@ -1,10 +1,10 @@
 //! The documents of the commands, as objects. `document_line` makes their lines.
-ghost use Rattle.std.specs.Prelude.{◌≡◌, ◌∷◌, ◌++◌, [], IfOk, OnOk, map};
+ghost use Rattle.std.specs.Prelude.{◌≡◌, ◌∷◌, ◌++◌, ℕ, List, [], codes, IfOk, OnOk, map};
 ghost use Rattle.json_text.specs.Safe.{IsSafe};
 ghost use Rattle.json_text.specs.Texts.{quoted};
 ghost use Rattle.json_text.specs.Values.{IsJsonLine};
 ghost use Rattle.report.specs.Observations.{frequency};
-ghost use Rattle.documents.specs.Documents.{document_of, format_member, list_members, IsWhyDocument, IsPlacedDocument, IsTraceDocument, IsOutcomesDocument, IsOutcomesWithRunsDocument, TellsHeading};
+ghost use Rattle.documents.specs.Documents.{document_of, format_member, list_members, outcomes_members, IsDocument, IsWhyDocument, IsPlacedDocument, IsTraceDocument, IsOutcomesDocument, IsOutcomesWithRunsDocument, IsSaidDocument, TellsHeading};
 
 use crate::answer::{add_answer, is_observed};
 use crate::fenced_model::{FencedModel, add_fenced_model};
@@ -13,6 +13,8 @@ use crate::lined::LinedLitmus;
 use crate::outcome::outcomes_array;
 use crate::program::add_program;
 use crate::run::{Setting, run_value};
+use crate::saying::{saying, verb_of_machine};
+use crate::survey::FoundAnswer;
 use cert_forest::Runs;
 use gap_sets::{GapSet, TiedCosts};
 use json_text::{JsonArray, JsonObject, JsonText};
@@ -58,21 +60,36 @@ pub(crate) fn document_of(object: JsonObject) -> Result<Vec<u8>, AllocError>
     Ok(document)
 }
 
-/// The document of a placement, with the program with its fences in canonical text.
+/// Adds what the condition does in a machine where it holds, or fails, in the words of its quantifier.
+fn add_saying(
+    alloc: Global,
+    object: &mut JsonObject,
+    litmus: &Litmus<Program>,
+    holds: bool,
+) -> Result<(), AllocError>
+    ensures { (command : List ℕ) (members : List (List ℕ)) → IsDocument litmus.now command members object.old → OnOk result (IsSaidDocument litmus.now holds command members object.new) }
+{
+    let verb = verb_of_machine(litmus.condition.quantifier, holds);
+    let says = saying(alloc, litmus, verb)?;
+    object.add("says", says)
+}
+
+/// The document of a placement, with the program with its fences in canonical text, in which the condition holds or fails.
 pub fn placed_document(
     alloc: Global,
     source: &LinedLitmus<'_>,
-    shown: &Shown,
+    answer: FoundAnswer<'_>,
     costs: &TiedCosts,
-    set: &GapSet,
     fenced: &[u8],
+    holds: bool,
 ) -> Result<JsonObject, AllocError>
-    ensures { IfOk result (IsPlacedDocument source.now.litmus.now shown.now costs.now set.now fenced.now) }
+    ensures { IfOk result (IsPlacedDocument source.now.litmus.now answer.shown.now costs.now answer.gaps.now fenced.now holds) }
 {
     let mut object = begun(alloc, b"place", source)?;
-    add_answer(alloc, &mut object, source, shown, costs, set)?;
+    add_answer(alloc, &mut object, source, answer.shown, costs, answer.gaps)?;
     let text = JsonText::string(alloc, fenced)?;
     object.add("fenced", text)?;
+    add_saying(alloc, &mut object, source.litmus, holds)?;
     Ok(object)
 }
 
@@ -142,6 +159,22 @@ fn add_list(
     object.add("holds", JsonText::truth(alloc, holds)?)
 }
 
+/// The list of a program's outcomes in a machine.
+fn list_of_outcomes(
+    alloc: Global,
+    source: &LinedLitmus<'_>,
+    shown: &Shown,
+    machine: FencedModel,
+    outcomes: &[Outcome],
+) -> Result<JsonObject, AllocError>
+    ensures { IfOk result (IsDocument source.now.litmus.now (codes "outcomes") (outcomes_members source.now.litmus.now shown.now machine outcomes.now)) }
+{
+    let mut object = begun(alloc, b"outcomes", source)?;
+    add_fenced_model(alloc, &mut object, &source.litmus.program, machine)?;
+    add_list(alloc, &mut object, source.litmus, shown, outcomes)?;
+    Ok(object)
+}
+
 /// The document of a program's outcomes in a machine.
 pub fn outcomes_document(
     alloc: Global,
@@ -152,9 +185,9 @@ pub fn outcomes_document(
 ) -> Result<JsonObject, AllocError>
     ensures { IfOk result (IsOutcomesDocument source.now.litmus.now shown.now machine outcomes.now) }
 {
-    let mut object = begun(alloc, b"outcomes", source)?;
-    add_fenced_model(alloc, &mut object, &source.litmus.program, machine)?;
-    add_list(alloc, &mut object, source.litmus, shown, outcomes)?;
+    let holds = is_true_of(&source.litmus.condition, outcomes);
+    let mut object = list_of_outcomes(alloc, source, shown, machine, outcomes)?;
+    add_saying(alloc, &mut object, source.litmus, holds)?;
     Ok(object)
 }
 
@@ -169,8 +202,10 @@ pub fn outcomes_with_runs_document(
 ) -> Result<JsonObject, AllocError>
     ensures { IfOk result (IsOutcomesWithRunsDocument source.now.litmus.now shown.now machine outcomes.now runs.now) }
 {
-    let mut object = outcomes_document(alloc, source, shown, machine, outcomes)?;
+    let holds = is_true_of(&source.litmus.condition, outcomes);
+    let mut object = list_of_outcomes(alloc, source, shown, machine, outcomes)?;
     let runs = runs_array(alloc, runs)?;
     object.add("runs", runs)?;
+    add_saying(alloc, &mut object, source.litmus, holds)?;
     Ok(object)
 }

@@ -1,17 +1,20 @@
 //! Runs.
 ghost use Rattle.std.specs.Prelude.{◌≡◌, ◌++◌, ◌∷◌, [], IfOk, OnOk, map};
 ghost use Rattle.tso_program.specs.declared.listing.Listing.{Listing};
+ghost use Rattle.tso_program.specs.Truth.{truth};
 ghost use Rattle.documents.specs.Runs.{ended_members, model_name, setting_member, TellsRun};
+ghost use Rattle.documents.specs.Sayings.{verb_of_run, IsSaying};
 
 use crate::execution::execution_value;
 use crate::named::{gap_name, gap_names};
 use crate::outcome::outcome_array;
+use crate::saying::{saying, verb_of_run};
 use crate::step::steps_array;
 use json_text::{JsonObject, JsonText};
 use litmus_text::{Litmus, holds};
 use std::alloc::{AllocError, Global};
 use tso_machine::{Ended, Model, Step};
-use tso_program::{Program, Shown};
+use tso_program::{Outcome, Program, Shown};
 
 /// Which run it is.
 #[derive(Clone, Copy)]
@@ -90,8 +93,21 @@ fn add_ended(
     object.add("passed", gap_names(alloc, &litmus.program, &ended.passed)?)
 }
 
+/// What a run is in the words of the condition's quantifier.
+fn saying_of_run(
+    alloc: Global,
+    litmus: &Litmus<Program>,
+    outcome: &Outcome,
+) -> Result<JsonText, AllocError>
+    ensures { IfOk result (IsSaying litmus.now.condition.quantifier (verb_of_run litmus.now.condition.quantifier (truth outcome.now litmus.now.condition.formula))) }
+{
+    let is_met = holds(&litmus.condition, outcome);
+    let verb = verb_of_run(litmus.condition.quantifier, is_met);
+    saying(alloc, litmus, verb)
+}
+
 /// What is said of a run of a litmus text's program: its steps, what it leaves as far as it is shown, whether that meets
-/// the condition's formula, the gaps that it passes, and its candidate execution.
+/// the condition's formula, the gaps that it passes, its candidate execution, and what it is in the words of the quantifier.
 pub fn run_value(
     alloc: Global,
     litmus: &Litmus<Program>,
@@ -108,5 +124,6 @@ pub fn run_value(
     add_ended(alloc, &mut object, litmus, shown, ended)?;
     let execution = execution_value(alloc, litmus, steps, setting.gap())?;
     object.add("execution", execution)?;
+    object.add("says", saying_of_run(alloc, litmus, &ended.outcome)?)?;
     object.into_json()
 }

@@ -2,15 +2,18 @@
 
 ghost use Rattle.std.specs.Prelude.{◌≡◌, ◌++◌, IfOk, OnOk};
 ghost use Rattle.documents.specs.Parts.{answer_value};
-ghost use Rattle.documents.specs.Surveys.{both_answers, executed_members, executed_run, executed_runs, found_in, holds_value, lined_place, lined_places, places_array, quoted_place, IsSurveyDocument};
+ghost use Rattle.documents.specs.Surveys.{both_answers, executed_members, executed_run, executed_runs, found_in, holds_value, lined_place, lined_places, places_array, quoted_place, AreSayings, IsSurveyDocument};
+ghost use Rattle.documents.specs.Sayings.{verb_of_machine, IsSaying};
 
 use crate::answer::{add_ties, answer_value, costs_array};
 use crate::document::begun;
 use crate::label::labels_array;
 use crate::lined::LinedLitmus;
+use crate::saying::{saying, verb_of_machine};
 use gap_list::TextLines;
 use gap_sets::{GapSet, TiedCosts};
 use json_text::{JsonArray, JsonObject, JsonText};
+use litmus_text::Litmus;
 use std::alloc::{AllocError, Global};
 use tso_machine::Label;
 use tso_program::{Items, Program, Shown};
@@ -178,6 +181,34 @@ fn add_answers(
     add_ties(alloc, object, program, &costs.ties)
 }
 
+/// What the condition does in a machine where it holds, or fails.
+fn saying_of_machine(
+    alloc: Global,
+    litmus: &Litmus<Program>,
+    holds: bool,
+) -> Result<JsonText, AllocError>
+    ensures { IfOk result (IsSaying litmus.now.condition.quantifier (verb_of_machine litmus.now.condition.quantifier holds)) }
+{
+    let verb = verb_of_machine(litmus.condition.quantifier, holds);
+    saying(alloc, litmus, verb)
+}
+
+/// What the condition does in each machine.
+fn sayings(
+    alloc: Global,
+    litmus: &Litmus<Program>,
+    found: &Findings<'_>,
+) -> Result<JsonText, AllocError>
+    ensures { IfOk result (AreSayings litmus.now.condition.quantifier (found_in found.now)) }
+{
+    let sequential = saying_of_machine(alloc, litmus, found.sequential)?;
+    let buffered = saying_of_machine(alloc, litmus, found.buffered)?;
+    let mut object = JsonObject::new(alloc);
+    object.add("sequential", sequential)?;
+    object.add("buffered", buffered)?;
+    object.into_json()
+}
+
 /// The document of what is found of a program.
 pub fn survey_document(
     alloc: Global,
@@ -189,5 +220,6 @@ pub fn survey_document(
     let mut object = begun(alloc, b"survey", source)?;
     add_executed(alloc, &mut object, source.lines, found)?;
     add_answers(alloc, &mut object, source, found)?;
+    object.add("says", sayings(alloc, source.litmus, found)?)?;
     Ok(object)
 }

@@ -1,14 +1,16 @@
 //! The document of a run of which the condition's formula has some truth.
 
 ghost use Rattle.std.specs.Prelude.{◌≡◌, ◌++◌, IfOk, OnOk};
-ghost use Rattle.documents.specs.Witnesses.{run_or_null, sought_members, IsWitnessDocument};
+ghost use Rattle.documents.specs.Witnesses.{run_or_null, sought_members, verb_of_witness, IsWitnessDocument};
 
 use crate::document::begun;
 use crate::lined::LinedLitmus;
 use crate::named::gap_names;
 use crate::run::add_model;
+use crate::saying::{saying, verb_of_none, verb_of_run};
 use gap_sets::GapSet;
 use json_text::{JsonObject, JsonText};
+use litmus_text::Quantifier;
 use std::alloc::{AllocError, Global};
 use tso_machine::Model;
 use tso_program::Program;
@@ -45,6 +47,16 @@ fn add_sought(
     object.add("meets_condition", JsonText::truth(alloc, sought.meets)?)
 }
 
+/// What is said of a run that is sought, if there is one, or that there is none.
+fn verb_of_witness(quantifier: Quantifier, meets: bool, run: &Option<JsonText>) -> &'static [u8]
+    ensures { result.now ≡ verb_of_witness quantifier meets run.now }
+{
+    match run {
+        Some(_) => verb_of_run(quantifier, meets),
+        None => verb_of_none(quantifier, meets),
+    }
+}
+
 /// The document of a run that is sought, if there is one.
 pub fn witness_document(
     alloc: Global,
@@ -54,9 +66,13 @@ pub fn witness_document(
 ) -> Result<JsonObject, AllocError>
     ensures { IfOk result (IsWitnessDocument source.now.litmus.now sought run) }
 {
+    let litmus = source.litmus;
+    let verb = verb_of_witness(litmus.condition.quantifier, sought.meets, &run);
+    let says = saying(alloc, litmus, verb)?;
     let run = run_or_null(alloc, run)?;
     let mut object = begun(alloc, b"witness", source)?;
-    add_sought(alloc, &mut object, &source.litmus.program, sought)?;
+    add_sought(alloc, &mut object, &litmus.program, sought)?;
     object.add("run", run)?;
+    object.add("says", says)?;
     Ok(object)
 }

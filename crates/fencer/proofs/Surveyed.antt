@@ -12,18 +12,20 @@ use Rattle.program_streams.specs.Files.{ReadsOfInput}
 use Rattle.fencer_words.specs.declared.job.SurveyOptions.{SurveyOptions}
 use Rattle.survey_text.specs.declared.finding.SurveyText.{SurveyText}
 use Rattle.answers.specs.Documented.{printed}
+use Rattle.answers.specs.Notes.{IsNoted}
 use Rattle.fencer.specs.declared.surveys.Block.{Block}
 use Rattle.fencer.specs.declared.surveys.Summary.{Summary}
 use Rattle.fencer.specs.Surveys.{AreBlocks, IsBlock, IsFound, IsRefused, ReadsOfFiles, ReadsOfSomeFiles, RefusedBlock, block_text, refused_row, row_line, more, one_more, shown_name, status_by, survey_status, worst}
 
 -- what holds of what is said holds of the block that says it: of what is found
 pub as_found : (options : SurveyOptions) (name : List ℕ) (told : SurveyText) (block : Block) (Holds : ℕ → List ℕ → List ℕ → Type 0)
-    → Holds (survey_status options.allow_unexecuted told) (printed options.json (block_text name told.lines.items) told.document.items) (row_line name told.row.items) → IsFound options name told block
-    → Holds block.status block.lines.items block.row.items
+    → ((document : List ℕ) → IsNoted told.verdict told.document document
+    → Holds (survey_status options.allow_unexecuted told) (printed options.json (block_text name told.lines.items) document) (row_line name told.row.items))
+    → IsFound options name told block → Holds block.status block.lines.items block.row.items
 as_found options name told block Holds may is =
     subst (λ (s : ℕ). Holds s block.lines.items block.row.items) (sym is.ends)
     (subst (λ (t : List ℕ). Holds (survey_status options.allow_unexecuted told) t block.row.items) (sym is.said)
-    (subst (λ (r : List ℕ). Holds (survey_status options.allow_unexecuted told) (printed options.json (block_text name told.lines.items) told.document.items) r) (sym is.summed) may))
+    (subst (λ (r : List ℕ). Holds (survey_status options.allow_unexecuted told) (printed options.json (block_text name told.lines.items) is.document) r) (sym is.summed) (may is.document is.noted)))
 
 -- and of why nothing is
 pub as_refused : (json : Bool) (name line : List ℕ) (block : Block) (Holds : ℕ → List ℕ → List ℕ → Type 0)

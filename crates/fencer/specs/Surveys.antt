@@ -21,6 +21,7 @@ use Rattle.survey_text.specs.Surveys.{IsSurveyText}
 use Rattle.fencer.specs.declared.surveys.Block.{Block}
 use Rattle.documents.specs.Documents.{IsRefusalDocument}
 use Rattle.answers.specs.Documented.{printed}
+use Rattle.answers.specs.Notes.{IsNoted}
 use Rattle.fencer.specs.GapTexts.{IsTiedFile}
 use Rattle.fencer.specs.Placements.{text_fault_line}
 use Rattle.answers.specs.Statuses.{check_status}
@@ -58,10 +59,12 @@ pub record IsRefused (json : Bool) (name line : List ℕ) (block : Block) : Type
   pub printed : RefusedBlock json name line block.lines.items
   pub summed : block.row.items ≡ row_line name refused_row
 
--- the block says what is found
+-- the block says what is found, or the document says it with its notes
 pub record IsFound (options : SurveyOptions) (name : List ℕ) (told : SurveyText) (block : Block) : Type 0 where
+  pub document : List ℕ
+  pub noted : IsNoted told.verdict told.document document
   pub ends : block.status ≡ survey_status options.allow_unexecuted told
-  pub said : block.lines.items ≡ printed options.json (block_text name told.lines.items) told.document.items
+  pub said : block.lines.items ≡ printed options.json (block_text name told.lines.items) document
   pub summed : block.row.items ≡ row_line name told.row.items
 
 -- the text of costs by which a text's program is looked at: none, or a cost file of gaps which go together, where each gap costs 1,
@@ -73,8 +76,8 @@ AreTied true bytes (Some file) = (source : Litmus Listing) × IsLitmus bytes sou
 
 -- what is printed of a file with this text, with its status: what is found of its program, or why nothing is
 pub data IsBlockOfText (options : SurveyOptions) (name bytes : List ℕ) : ℕ → List ℕ → List ℕ → Type 0 where
-  found : (told : SurveyText) (costs : Option (List ℕ)) → AreTied options.ties bytes costs → IsSurveyText name bytes costs told
-      → IsBlockOfText options name bytes (survey_status options.allow_unexecuted told) (printed options.json (block_text name told.lines.items) told.document.items) (row_line name told.row.items)
+  found : (told : SurveyText) (costs : Option (List ℕ)) (document : List ℕ) → AreTied options.ties bytes costs → IsSurveyText name bytes costs told → IsNoted told.verdict told.document document
+      → IsBlockOfText options name bytes (survey_status options.allow_unexecuted told) (printed options.json (block_text name told.lines.items) document) (row_line name told.row.items)
   refused_for : (why : TextFault) (costs : Option (List ℕ)) (text : List ℕ) → AreTied options.ties bytes costs → HasNoPlacedText bytes costs options.workers why → RefusedBlock options.json name (text_fault_line why) text → IsBlockOfText options name bytes 1 text (row_line name refused_row)
 
 -- what is printed of the file of a name, with its status; or why it isn't read

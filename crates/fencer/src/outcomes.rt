@@ -268,6 +268,7 @@ fn reply_for<T: Threads + Sync>(
             workers: asked.workers,
             trees: None,
             progress: progress.asked(asked.progress),
+            warns: true,
         },
     };
     let list = listed(rt, &search, asked.runs)?;

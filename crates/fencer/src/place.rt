@@ -64,6 +64,7 @@ fn texts_for<T: Threads + Wait + Sync>(
         workers: asked.workers,
         trees: asked.trees,
         progress: progress.asked(asked.progress),
+        warns: true,
     };
     match asked.certificate.as_deref() {
         Some(_) => place_text(rt, alloc, &texts.litmus, costs, asked.kind, effort),

@@ -1,15 +1,38 @@
 //! What is said to people of what sequential runs do, on standard error.
 
+use litmus_text::read_litmus;
 use messages::{Message, file_or_input};
+use placed_text::{combinations_text, warn_of_minutes};
+use program_streams::Progress;
 use std::alloc::{AllocError, Global};
 use std::str;
 use survey_text::{Stretch, SurveyText};
+use tso_program::Program;
 
 /// `fencer: NAME: TEXT` as one line, of the file of this name.
 pub(crate) fn file_message(alloc: Global, name: &str, text: &str) -> Result<Vec<u8>, AllocError> {
     let name = file_or_input(name);
     let text = format!(in alloc; "{name}: {text}")?;
     Message::of_file(alloc, "fencer", text.as_str())?.written(alloc, false)
+}
+
+/// Reports how many combinations of traces the program of a file has, whether or not progress is, and warns where a search may
+/// take minutes. Of a text that is not read nothing is reported.
+pub(crate) fn report_extent(alloc: Global, name: &str, text: &[u8], progress: Progress) {
+    if let Ok(litmus) = read_litmus(alloc, text) {
+        let progress = progress.asked(true);
+        progress.report(combinations_message(alloc, name, &litmus.program));
+        warn_of_minutes(alloc, &litmus.program, progress);
+    }
+}
+
+fn combinations_message(
+    alloc: Global,
+    name: &str,
+    program: &Program,
+) -> Result<Vec<u8>, AllocError> {
+    let text = combinations_text(alloc, program)?;
+    file_message(alloc, name, text.as_str())
 }
 
 /// One number after a word, or the first and the last of several: `line 9`, `lines 9 and 10`, `lines 9 to 11`.
@@ -87,8 +110,11 @@ pub(crate) fn verdict_advice(
     name: &str,
     told: &SurveyText,
 ) -> Result<Vec<u8>, AllocError> {
-    match str::from_utf8(&told.verdict) {
-        Ok(said) if !said.is_empty() => file_message(alloc, name, said),
-        _ => Ok(Vec::new(alloc)),
+    let Some(note) = &told.verdict else {
+        return Ok(Vec::new(alloc));
+    };
+    match str::from_utf8(&note.message) {
+        Ok(said) => file_message(alloc, name, said),
+        Err(_) => Ok(Vec::new(alloc)),
     }
 }

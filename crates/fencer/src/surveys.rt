@@ -9,17 +9,19 @@ ghost use Rattle.fencer.specs.Surveys.{block_text, row_line, shown_name, survey_
 
 use crate::advice::text_fault_advice;
 use crate::place::text_fault_line;
-use crate::survey_advice::{file_message, unexecuted_advice, verdict_advice};
+use crate::survey_advice::{file_message, report_extent, unexecuted_advice, verdict_advice};
 use crate::tied::{tie_advice, tied_costs};
 use answers::{
-    Texts, check_status, printed, said_of, slip_advice, unread_advice, unread_litmus, written,
+    NotedText, SlipPlaces, Texts, check_status, noted_line, printed, said_of, slip_advice,
+    unread_advice, unread_litmus, written,
 };
 use documents::{RefusalMessage, refusal_document};
 use fencer_words::{SurveyOptions, SurveyQuery};
 use messages::Message;
 use placed_text::{Effort, TextFault};
 use program_streams::{
-    Console, FileFault, FileStore, Progress, TEXT_LIMIT, file_line, named_bytes, print, write_bytes,
+    Console, FileFault, FileStore, Progress, TEXT_LIMIT, file_line, grouped, named_bytes, print,
+    write_bytes,
 };
 use std::alloc::{AllocError, Global};
 use std::io::{self, Read};
@@ -195,11 +197,13 @@ fn unfound_block(
     refused_block(alloc, manner, name, &line, message)
 }
 
-/// The block of a file of whose program this is found.
+/// The block of a file with this text, of whose program this is found. Beside what is found the document says what is noted of
+/// the text.
 fn found_block(
     alloc: Global,
     manner: Manner,
     name: &str,
+    litmus: &[u8],
     told: SurveyText,
     message: Result<Vec<u8>, AllocError>,
 ) -> Result<Block, AllocError>
@@ -215,8 +219,15 @@ fn found_block(
         lines,
         row,
         document,
+        verdict,
         ..
     } = told;
+    let noted = NotedText {
+        name,
+        text: litmus,
+        places: SlipPlaces::WholeText,
+    };
+    let document = noted_line(alloc, noted, document, verdict)?;
     let text = block_text(alloc, name, &lines)?;
     Ok(Block {
         lines: printed(json, text, document),
@@ -238,8 +249,9 @@ fn time_message<T: Clock>(
     };
     match start.elapsed(rt) {
         Ok(time) => {
-            let time = time.as_millis();
-            let text = format!(in alloc; "{time} ms")?;
+            let millis = u64::try_from(time.as_millis()).unwrap_or(u64::MAX);
+            let millis = grouped(alloc, millis)?;
+            let text = format!(in alloc; "{millis} ms")?;
             file_message(alloc, name, text.as_str())
         }
         Err(_) => Ok(Vec::new(alloc)),
@@ -305,12 +317,14 @@ fn block_of_text<T: Threads + Wait + Sync + Clock>(
         workers: manner.options.workers,
         trees: None,
         progress: manner.progress,
+        warns: false,
     };
+    report_extent(alloc, name, &bytes, manner.progress);
     match survey_text(rt, alloc, name, &bytes, costs.as_deref(), effort) {
         Ok(told) => {
             let message = found_message(alloc, manner, name, &bytes, costs.as_deref(), &told);
             let message = with_time(rt, alloc, name, start, message);
-            found_block(alloc, manner, name, told, message)
+            found_block(alloc, manner, name, &bytes, told, message)
         }
         Err(fault) => {
             let texts = Texts {

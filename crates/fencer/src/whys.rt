@@ -66,6 +66,7 @@ fn explained<T: Threads + Wait + Sync>(
         workers: *workers,
         trees: *trees,
         progress: progress.asked(asked.placement.progress),
+        warns: true,
     };
     let costs = texts.costs.as_deref();
     let reasons = why_text(rt, alloc, &texts.litmus, costs, *kind, effort)?;

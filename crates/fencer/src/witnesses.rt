@@ -11,12 +11,12 @@ ghost use Rattle.fencer.specs.Witnesses.{witness_line, IsWitnessOf, IsWitnessSho
 use crate::advice::witness_advice;
 use answers::{
     Answer, NotedText, SlipPlaces, Told, check_status, deliver, documented, no_gap_line,
-    solve_line, tell_refusal, tell_slip, unread_advice, unread_litmus,
+    sentence_line, solve_line, tell_refusal, tell_slip, unread_advice, unread_litmus,
 };
 use fencer_words::WitnessQuery;
 use messages::file_or_input;
 use oracle::SolveFault;
-use program_streams::{Console, TEXT_LIMIT, WritableFileStore, file_line, named_bytes};
+use program_streams::{Console, Progress, TEXT_LIMIT, WritableFileStore, file_line, named_bytes};
 use report::litmus_line;
 use std::alloc::{AllocError, Global};
 use std::io::Read;
@@ -33,8 +33,14 @@ fn witness_line(alloc: Global, fault: WitnessFault) -> Result<Vec<u8>, AllocErro
     }
 }
 
-/// What is delivered of a run; with a check the status says whether there is one.
-fn witness_answer(alloc: Global, bytes: &[u8], asked: &WitnessQuery) -> Result<Answer, WitnessFault>
+/// What is delivered of a run; with a check the status says whether there is one. On a terminal it is reported in the words of the
+/// condition's quantifier what is found.
+fn witness_answer(
+    alloc: Global,
+    bytes: &[u8],
+    asked: &WitnessQuery,
+    progress: Progress,
+) -> Result<Answer, WitnessFault>
     ensures told { IfOk result (ShowsWitness asked.now bytes.now) }
     ensures fault { IfErr result (HasNoWitnessText bytes.now asked.now.fences.items) }
 {
@@ -45,7 +51,9 @@ fn witness_answer(alloc: Global, bytes: &[u8], asked: &WitnessQuery) -> Result<A
         lines,
         graph,
         document,
+        says,
     } = said;
+    progress.warn(sentence_line(alloc, &says));
     let told = Told {
         lines,
         document,
@@ -79,7 +87,8 @@ fn show_witness<S: WritableFileStore, W: Console>(
 {
     let page = asked.page.as_deref();
     let graph = asked.graph.as_deref();
-    match witness_answer(alloc, bytes, asked) {
+    let progress = output.progress();
+    match witness_answer(alloc, bytes, asked, progress) {
         Ok(answer) => deliver(alloc, files, page, graph, answer, output),
         Err(why) => {
             let name = file_or_input(asked.litmus.as_str());

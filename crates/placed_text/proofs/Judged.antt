@@ -10,7 +10,7 @@ use Rattle.litmus_text.specs.{CostTexts.Entry, CostTexts.said_of, CostTexts.name
 use Rattle.cert_forest.specs.Certificates.{Certificate}
 use Rattle.documents.specs.declared.note.Note.{Note}
 use Rattle.documents.specs.Documents.{IsPlacedDocument}
-use Rattle.placed_text.specs.Verdicts.{IsVerdictIn}
+use Rattle.placed_text.specs.Verdicts.{holds_by, IsVerdictIn}
 use Rattle.placed_text.specs.{declared.fault.TextFault.TextFault, declared.problem.Problem.Problem, declared.writing.AnswerText.AnswerText, declared.writing.PlacedText.PlacedText}
 use Rattle.placed_text.specs.declared.fault.TextFault.TheVariants as fault
 
@@ -60,7 +60,7 @@ module _ (litmus : List ℕ) (costs : Option (List ℕ)) where
           again = written.again litmus of_texts.of_text;
           line = subst (λ (cost : ℕ). texts.answer.items ≡ answer_line source.program (shown_as source kind) gaps cost) is.cost
               (subst (λ (shown : Shown). texts.answer.items ≡ answer_line source.program shown gaps certificate.cost) of_texts.shown written.line);
-          document = subst (λ (shown : Shown). IsPlacedDocument source shown problem.costs gaps texts.program.items texts.document) of_texts.shown written.document;
+          document = subst (λ (shown : Shown). IsPlacedDocument source shown problem.costs gaps texts.program.items (holds_by source.condition.quantifier texts.verdict) texts.document) of_texts.shown written.document;
           set = written.set;
           decided = written.decided litmus costs kind of_texts;
         }

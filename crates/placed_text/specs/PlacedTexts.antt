@@ -20,7 +20,7 @@ use Rattle.cert_forest.specs.Texts.{certificate_text}
 use Rattle.tree_laws.specs.Certificates.{IsValidCertificate}
 use Rattle.report.specs.Answers.{answer_line}
 use Rattle.placed_text.specs.declared.problem.Problem.{Problem}
-use Rattle.placed_text.specs.Verdicts.{IsVerdict, IsVerdictIn}
+use Rattle.placed_text.specs.Verdicts.{holds_by, IsVerdict, IsVerdictIn}
 use Rattle.placed_text.specs.declared.writing.AnswerText.{AnswerText}
 use Rattle.placed_text.specs.declared.writing.PlacedText.{PlacedText}
 use Rattle.litmus_reader.specs.Shown.{shown_as, question_of}
@@ -39,7 +39,8 @@ pub record IsCertificateOf (q : Question) (costs : List ℕ) (gaps : SetOfGaps) 
 -- What the texts tell: the litmus text stands for this program, its gaps have these costs and ties, these gaps are those of the
 -- names that are the answer, so that the headline holds of them, and of the gaps among sets that have of each tie all or none; the
 -- program's text is the canonical one with an MFENCE in each of them, and is read as that program; the line is made of them and of
--- their total, the document says the same of them, the set has them, and the verdict says what sequential runs decide.
+-- their total, the document says the same of them and what sequential runs decide, the set has them, and the verdict says what these
+-- decide.
 pub record IsAnswerText (litmus : List ℕ) (costs : Option (List ℕ)) (kind : ShownKind) (texts : AnswerText) : Type 0 where
   pub source : Litmus Listing
   pub of_text : IsLitmus litmus source
@@ -54,7 +55,7 @@ pub record IsAnswerText (litmus : List ℕ) (costs : Option (List ℕ)) (kind : 
   pub program : texts.program.items ≡ canonical_text (litmus_fenced_at gaps source)
   pub again : IsFencedLitmus texts.program.items (litmus_fenced_at gaps source)
   pub line : texts.answer.items ≡ answer_line source.program (shown_as source kind) gaps (total gap_costs.costs names)
-  pub document : IsPlacedDocument source (shown_as source kind) gap_costs gaps texts.program.items texts.document
+  pub document : IsPlacedDocument source (shown_as source kind) gap_costs gaps texts.program.items (holds_by source.condition.quantifier texts.verdict) texts.document
   pub set : texts.gaps ≡ gaps
   pub decided : IsVerdict source texts.verdict
 
@@ -68,7 +69,7 @@ pub record AreTextsOf (problem : Problem) (gaps : SetOfGaps) (cost : ℕ) (texts
   pub program : texts.program.items ≡ canonical_text (litmus_fenced_at gaps problem.litmus)
   pub again : (text : List ℕ) → IsLitmus text problem.litmus → IsFencedLitmus texts.program.items (litmus_fenced_at gaps problem.litmus)
   pub line : texts.answer.items ≡ answer_line problem.litmus.program problem.shown gaps cost
-  pub document : IsPlacedDocument problem.litmus problem.shown problem.costs gaps texts.program.items texts.document
+  pub document : IsPlacedDocument problem.litmus problem.shown problem.costs gaps texts.program.items (holds_by problem.litmus.condition.quantifier texts.verdict) texts.document
   pub set : texts.gaps ≡ gaps
   pub decided : IsVerdictIn problem texts.verdict
 

@@ -34,6 +34,15 @@ verdict_kind quantifiers.Exists = kinds.HappensSequentially
 verdict_kind quantifiers.NotExists = kinds.NoFenceMends
 verdict_kind quantifiers.Forall = kinds.NoFenceMends
 
+-- whether the condition holds sequentially, by whether some run decides it
+abbrev pub holds_by : Quantifier → Option Note → Bool
+holds_by quantifiers.Exists None = false
+holds_by quantifiers.Exists (Some note) = true
+holds_by quantifiers.NotExists None = true
+holds_by quantifiers.NotExists (Some note) = false
+holds_by quantifiers.Forall None = true
+holds_by quantifiers.Forall (Some note) = false
+
 -- there is a note exactly where some sequential run decides the condition, and it says so
 abbrev pub IsVerdict : Litmus Listing → Option Note → Type 0
 IsVerdict source None = HasNoWitness source.program SequentialMachine source.condition.formula (deciding_truth source.condition.quantifier)

@@ -10,7 +10,7 @@ const MOST_CERTIFIED: u64 = 100_000_000;
 
 /// Reports what lies ahead of a search over whole trees, and returns where more of it is reported. Nothing is where there is no
 /// memory to work it out.
-pub fn report_ahead(alloc: Global, program: &Program, progress: Progress) -> Progress {
+pub(crate) fn report_ahead(alloc: Global, program: &Program, progress: Progress) -> Progress {
     if !progress.is_shown() {
         return progress;
     }
@@ -32,13 +32,24 @@ fn is_over(combinations: Combinations, most: u64) -> bool {
     }
 }
 
-fn ahead_line(alloc: Global, combinations: Combinations) -> Result<Vec<u8>, AllocError> {
+/// How many combinations of traces a program has, for people.
+pub fn combinations_text(alloc: Global, program: &Program) -> Result<String, AllocError> {
+    text_of(alloc, trace_combinations(alloc, program)?)
+}
+
+fn text_of(alloc: Global, combinations: Combinations) -> Result<String, AllocError> {
     let (count, more) = match combinations {
         Combinations::Exactly(count) => (count, ""),
         Combinations::AtLeast(count) => (count, " or more"),
     };
     let count = grouped(alloc, count)?;
-    Ok(format!(in alloc; "fencer: combinations of traces: {count}{more}\n")?.into_bytes())
+    format!(in alloc; "combinations of traces: {count}{more}")
+}
+
+fn ahead_line(alloc: Global, combinations: Combinations) -> Result<Vec<u8>, AllocError> {
+    let text = text_of(alloc, combinations)?;
+    let text = text.as_str();
+    Ok(format!(in alloc; "fencer: {text}\n")?.into_bytes())
 }
 
 fn warning_line(alloc: Global) -> Result<Vec<u8>, AllocError> {

@@ -26,7 +26,7 @@ mod verdict;
 mod watched;
 mod writing;
 
-pub use ahead::report_ahead;
+pub use ahead::combinations_text;
 pub use cover_solver::{OutcomeList, SolveFault};
 pub use explaining::{WhyText, why_text};
 pub use extent::warn_of_minutes;

@@ -35,7 +35,9 @@ pub(crate) fn certificate_of<R: Threads + Wait + Sync>(
     ensures fault { IfErr result (HasNoPlacement effort.workers) }
 {
     judge_workers(effort.workers)?;
-    warn_of_minutes(alloc, &problem.litmus.program, effort.progress);
+    if effort.warns {
+        warn_of_minutes(alloc, &problem.litmus.program, effort.progress);
+    }
     match proposed(rt, alloc, problem, effort)? {
         Some(certificate) => Ok(certificate),
         None => placement_of(rt, alloc, problem, effort),

@@ -2,15 +2,15 @@
 
 ghost use Rattle.std.specs.Prelude.{◌≡◌, ◌↔◌, false, true, Contains, IfOk, IsTrue, List};
 ghost use Rattle.tso_machine.specs.declared.label.Label.{Label as SpelledLabel};
-ghost use Rattle.placed_text.specs.Verdicts.{deciding_truth, verdict_kind, Decides, SomeDecides, IsVerdictIn};
+ghost use Rattle.placed_text.specs.Verdicts.{deciding_truth, holds_by, verdict_kind, Decides, SomeDecides, IsVerdictIn};
 ghost use Rattle.fence_place.specs.Placements.{IsPlacement};
 ghost use Rattle.placed_text.specs.Problems.{question_in};
 
 use crate::problem::Problem;
 use cert_forest::{Certificate, Runs};
-use documents::{Note, NoteKind};
+use documents::{Note, NoteKind, condition_sentence};
 use gap_sets::GapSet;
-use litmus_text::{Litmus, Quantifier, holds, push_condition};
+use litmus_text::{Litmus, Quantifier, holds};
 use std::alloc::{AllocError, Global};
 use tso_machine::{Label, Model, replay};
 use tso_program::Program;
@@ -63,53 +63,34 @@ fn verdict_kind(quantifier: Quantifier) -> NoteKind
     }
 }
 
-/// What is said before the formula, and after it.
-fn wording(quantifier: Quantifier) -> (&'static [u8], &'static [u8]) {
+/// Whether a condition holds sequentially, by whether some run decides it.
+pub(crate) fn holds_by(quantifier: Quantifier, verdict: &Option<Note>) -> bool
+    ensures { result ≡ holds_by quantifier verdict.now }
+{
+    match (quantifier, verdict) {
+        (Quantifier::Exists, None) => false,
+        (Quantifier::Exists, Some(_)) => true,
+        (Quantifier::NotExists, None) => true,
+        (Quantifier::NotExists, Some(_)) => false,
+        (Quantifier::Forall, None) => true,
+        (Quantifier::Forall, Some(_)) => false,
+    }
+}
+
+/// What is said of sequential runs that decide a condition, after what it is about.
+fn verb(quantifier: Quantifier) -> &'static [u8] {
     match quantifier {
-        Quantifier::Exists => (
-            b"what the condition asks about",
-            b" happens without store buffers too",
-        ),
-        Quantifier::NotExists => (
-            b"what must not happen",
-            b" happens without store buffers too: no fence mends it",
-        ),
-        Quantifier::Forall => (
-            b"what must always hold",
-            b" fails without store buffers too: no fence mends it",
-        ),
+        Quantifier::Exists => b" happens without store buffers too",
+        Quantifier::NotExists => b" happens without store buffers too: no fence mends it",
+        Quantifier::Forall => b" fails without store buffers too: no fence mends it",
     }
-}
-
-/// A condition's text from the space after its quantifier on, without the end of its line.
-fn formula_of(condition: &[u8]) -> &[u8] {
-    let mut rest = condition.trim_ascii_end();
-    for byte in condition {
-        if *byte == b' ' {
-            return rest;
-        }
-        let (_, after) = rest.split_at(rest.len().min(1));
-        rest = after;
-    }
-    rest
-}
-
-/// What is said of sequential runs that decide the condition.
-fn verdict_sentence(alloc: Global, litmus: &Litmus<Program>) -> Result<Vec<u8>, AllocError> {
-    let mut text = Vec::new(alloc);
-    push_condition(alloc, &mut text, &litmus.names, &litmus.condition)?;
-    let (subject, verb) = wording(litmus.condition.quantifier);
-    let mut sentence = Vec::from_slice(alloc, subject)?;
-    sentence.extend_from_slice(formula_of(&text))?;
-    sentence.extend_from_slice(verb)?;
-    Ok(sentence)
 }
 
 /// That sequential runs decide the condition.
 fn verdict_note(alloc: Global, litmus: &Litmus<Program>) -> Result<Note, AllocError>
     ensures { IfOk result (λ note. note.kind ≡ verdict_kind litmus.now.condition.quantifier) }
 {
-    let message = verdict_sentence(alloc, litmus)?;
+    let message = condition_sentence(alloc, litmus, verb(litmus.condition.quantifier))?;
     Ok(Note {
         kind: verdict_kind(litmus.condition.quantifier),
         line: None,

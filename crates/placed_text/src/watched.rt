@@ -16,6 +16,8 @@ pub struct Effort {
     pub trees: Option<Rule>,
     /// Where it is reported how far the search is.
     pub progress: Progress,
+    /// Whether a search for an answer warns where it may take minutes.
+    pub warns: bool,
 }
 
 /// A solver that reports how many sets it is asked about.

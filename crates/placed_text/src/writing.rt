@@ -11,11 +11,11 @@ ghost use Rattle.placed_text.specs.Verdicts.{IsVerdictIn};
 use crate::TextFault;
 use crate::answered_problem::AnsweredProblem;
 use crate::problem::Problem;
-use crate::verdict::verdict_of;
+use crate::verdict::{holds_by, verdict_of};
 use crate::watched::Effort;
 use cert_forest::Certificate;
 use cert_pages::write_pages;
-use documents::{LinedLitmus, Note, placed_document};
+use documents::{FoundAnswer, LinedLitmus, Note, placed_document};
 use gap_sets::GapSet;
 use json_text::JsonObject;
 use litmus_text::write_litmus;
@@ -72,7 +72,9 @@ fn write_answer(
         Err(FenceFault::OutOfMemory) => return Err(AllocError),
     };
     let source = LinedLitmus { litmus, lines };
-    let document = placed_document(alloc, &source, shown, costs, gaps, &program)?;
+    let answer = FoundAnswer { shown, gaps };
+    let holds = holds_by(litmus.condition.quantifier, &verdict);
+    let document = placed_document(alloc, &source, answer, costs, &program, holds)?;
     Ok(AnswerText {
         program,
         answer: answer_line(alloc, &litmus.program, shown, *gaps, cost)?,

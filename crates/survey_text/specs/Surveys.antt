@@ -25,7 +25,6 @@ use Rattle.gap_list.specs.Lines.{line_at}
 use Rattle.gap_list.specs.Lists.{instruction_part}
 use Rattle.litmus_text.specs.GivenCosts.{AreGiven}
 use Rattle.litmus_text.specs.Shown.{shown_as}
-use Rattle.documents.specs.Notes.{IsLineOf}
 use Rattle.documents.specs.Surveys.{Found, IsSurveyDocument}
 use Rattle.placed_text.specs.declared.writing.AnswerText.{AnswerText}
 use Rattle.placed_text.specs.PlacedTexts.{IsAnswerText}
@@ -115,18 +114,15 @@ found_of name survey = record {
   whole = (shown_as survey.litmus Whole, survey.whole.gaps);
 }
 
--- the line of that document
-abbrev pub TellsDocument : List ℕ → Survey → List ℕ → Type 0
-TellsDocument name survey line = (document : List (List ℕ)) × IsSurveyDocument survey.litmus (found_of name survey) document × IsLineOf document [] line
-
 -- What the text tells of the program that a litmus text spells, which is of a file of this name, with the gaps' costs by a text of
--- costs. Of the lines of the litmus text that it names, nothing is said.
+-- costs. Of the lines of the litmus text that it names, nothing is said. What sequential runs decide is what the whole answer says.
 pub record IsSurveyText (name text : List ℕ) (costs : Option (List ℕ)) (told : SurveyText) : Type 0 where
   pub survey : Survey
   pub is : IsSurvey text costs survey
   pub lines : TextLines
   pub printed : told.lines.items ≡ survey_lines lines survey
   pub row : told.row.items ≡ survey_row survey
-  pub document : TellsDocument name survey told.document.items
+  pub document : IsSurveyDocument survey.litmus (found_of name survey) told.document
   pub failing : told.fails ≡ fails survey
   pub some_unexecuted : told.has_unexecuted ≡ nat_lt 0 (unexecuted survey.visits.items)
+  pub decided : told.verdict ≡ survey.whole.verdict

@@ -2,11 +2,11 @@
 
 ghost use Rattle.std.specs.Prelude.{IfOk};
 ghost use Rattle.documents.specs.Surveys.{IsSurveyDocument};
-ghost use Rattle.survey_text.specs.Surveys.{found_of, TellsDocument};
+ghost use Rattle.survey_text.specs.Surveys.{found_of};
 
 use crate::survey::Survey;
 use crate::visit::unexecuted_places;
-use documents::{Findings, FoundAnswer, LinedLitmus, document_line, survey_document};
+use documents::{Findings, FoundAnswer, LinedLitmus, survey_document};
 use gap_list::TextLines;
 use json_text::JsonObject;
 use report::is_true_of;
@@ -14,7 +14,7 @@ use std::alloc::{AllocError, Global};
 use tso_program::{Shown, ShownKind};
 
 /// The document, where the text is of a file of this name and its instructions stand in these lines.
-fn object_of(
+pub(crate) fn document_of(
     alloc: Global,
     name: &str,
     lines: &TextLines,
@@ -44,17 +44,4 @@ fn object_of(
     };
     let source = LinedLitmus { litmus, lines };
     survey_document(alloc, &source, &found)
-}
-
-/// The line of that document.
-pub(crate) fn document_of(
-    alloc: Global,
-    name: &str,
-    lines: &TextLines,
-    survey: &Survey,
-) -> Result<Vec<u8>, AllocError>
-    ensures { IfOk result (λ line. TellsDocument name.now survey.now line.items) }
-{
-    let document = object_of(alloc, name, lines, survey)?;
-    document_line(alloc, document, &[])
 }

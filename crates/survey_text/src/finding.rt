@@ -18,11 +18,11 @@ use crate::outcome_lists::outcomes_of;
 use crate::stretch::{Unexecuted, unexecuted_of};
 use crate::survey::Survey;
 use crate::visit::{Visit, unexecuted, visits_of};
-use documents::ExecutedRun;
+use documents::{ExecutedRun, Note};
 use gap_list::TextLines;
+use json_text::JsonObject;
 use placed_text::{
     AnswerText, Effort, SolveFault, TextFault, answer_text, read_gap_costs, read_program,
-    report_ahead,
 };
 use report::is_true_of;
 use std::alloc::{AllocError, Global};
@@ -38,15 +38,15 @@ pub struct SurveyText {
     /// The finding in a few words, for a table.
     pub row: Vec<u8>,
     /// The finding as JSON, with runs that execute the other instructions.
-    pub document: Vec<u8>,
+    pub document: JsonObject,
     /// Whether the condition fails sequentially.
     pub fails: bool,
     /// Whether no sequential run executes some instruction.
     pub has_unexecuted: bool,
     /// Which these are, for people. No clause speaks of it.
     pub unexecuted: Unexecuted,
-    /// What sequential runs say of the condition, for people; empty where they decide nothing. No clause speaks of it.
-    pub verdict: Vec<u8>,
+    /// The note that a sequential run decides the condition, where one does.
+    pub verdict: Option<Note>,
 }
 
 /// The outcomes of a program with no gap fenced: of the sequential machine, and with store buffers.
@@ -94,8 +94,7 @@ fn both_answers<T: Threads + Wait + Sync>(
     Ok((condition, whole))
 }
 
-/// What is found of the program of a text, whose gaps cost what a text of costs says, and 1 each without one. How large it is
-/// is reported in any case.
+/// What is found of the program of a text, whose gaps cost what a text of costs says, and 1 each without one.
 fn survey_of<T: Threads + Wait + Sync>(
     rt: &T,
     alloc: Global,
@@ -109,7 +108,6 @@ fn survey_of<T: Threads + Wait + Sync>(
     let litmus = read_program(alloc, text)?;
     let program = &litmus.program;
     let tied = read_gap_costs(alloc, costs, program)?;
-    report_ahead(alloc, program, effort.progress.asked(true));
     let (sequential, buffered) = both_outcomes(rt, alloc, effort, program)?;
     let (visits, runs) = visits_and_runs(alloc, program)?;
     let (condition, whole) = both_answers(rt, alloc, text, costs, effort)?;
@@ -132,17 +130,18 @@ fn fails(survey: &Survey) -> bool
     !is_true_of(&survey.litmus.condition, &survey.sequential)
 }
 
-/// What is said of a condition that sequential runs decide.
-fn verdict_message(alloc: Global, survey: &Survey) -> Result<Vec<u8>, AllocError> {
-    match &survey.whole.verdict {
-        Some(note) => Vec::from_slice(alloc, &note.message),
-        None => Ok(Vec::new(alloc)),
-    }
+/// The note that a sequential run decides the condition, where one does.
+fn verdict_of(survey: Survey) -> Option<Note>
+    ensures { result ≡ survey.whole.verdict }
+{
+    let Survey { whole, .. } = survey;
+    let AnswerText { verdict, .. } = whole;
+    verdict
 }
 
-/// The text of what is found.
+/// The text of what is found, without the verdict.
 fn told(alloc: Global, name: &str, text: &[u8], survey: &Survey) -> Result<SurveyText, AllocError>
-    ensures { (costs : Option (List ℕ)) → IsSurvey text.now costs survey.now → IfOk result (IsSurveyText name.now text.now costs) }
+    ensures { (costs : Option (List ℕ)) → IsSurvey text.now costs survey.now → IfOk result (λ told. IsSurveyText name.now text.now costs (record told { verdict = survey.now.whole.verdict })) }
 {
     let lines = TextLines::of_text(alloc, text)?;
     Ok(SurveyText {
@@ -152,7 +151,7 @@ fn told(alloc: Global, name: &str, text: &[u8], survey: &Survey) -> Result<Surve
         fails: fails(survey),
         has_unexecuted: unexecuted(&survey.visits) > 0,
         unexecuted: unexecuted_of(alloc, &lines, survey)?,
-        verdict: verdict_message(alloc, survey)?,
+        verdict: None,
     })
 }
 
@@ -161,7 +160,7 @@ fn told(alloc: Global, name: &str, text: &[u8], survey: &Survey) -> Result<Surve
 /// where each gap costs what a text of costs says, and 1 without one. The document says it of a file of this name.
 ///
 /// The litmus text is judged first, then the costs, then the number of workers. With `rt` workers start threads and wait
-/// for one another. How many combinations of traces there are is reported in any case.
+/// for one another.
 pub fn survey_text<T: Threads + Wait + Sync>(
     rt: &T,
     alloc: Global,
@@ -175,6 +174,8 @@ pub fn survey_text<T: Threads + Wait + Sync>(
 {
     let survey = survey_of(rt, alloc, text, costs, effort)?;
     let told = told(alloc, name, text, &survey);
-    drop(survey);
-    Ok(told?)
+    let verdict = verdict_of(survey);
+    let mut told = told?;
+    told.verdict = verdict;
+    Ok(told)
 }

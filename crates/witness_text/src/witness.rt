@@ -20,7 +20,10 @@ use crate::gaps::gaps_at;
 use crate::lines::{none_line, run_lines};
 use crate::serial_runs::serial_run_before_search;
 use cover_solver::{SolveFault, witness};
-use documents::{LinedLitmus, Setting, Sought, run_value, witness_document};
+use documents::{
+    LinedLitmus, Setting, Sought, condition_sentence, run_value, verb_of_none, verb_of_run,
+    witness_document,
+};
 use gap_list::TextLines;
 use gap_sets::GapSet;
 use json_text::{JsonObject, JsonText};
@@ -41,6 +44,8 @@ pub struct WitnessText {
     pub graph: Vec<u8>,
     /// What is printed with `--json`.
     pub document: JsonObject,
+    /// What is found, in the words of the condition's quantifier, for people. No clause speaks of it.
+    pub says: Vec<u8>,
 }
 
 /// The steps of a run, and how it ends.
@@ -119,6 +124,8 @@ fn found_text(
     requires run { IsWitness litmus.now.program (machine_of litmus.now.program sought) litmus.now.condition.formula sought.meets labels.now }
     ensures { IfOk result (λ text. TellsSought litmus.now sought text.found text.lines.items text.document) }
 {
+    let verb = verb_of_run(litmus.condition.quantifier, sought.meets);
+    let says = condition_sentence(alloc, litmus, verb)?;
     let replay = replay_of(alloc, &litmus.program, sought.model, labels)?;
     let Replay { steps, ended } = replay;
     let told = told(alloc, litmus, sought.model, labels, &steps, &ended)?;
@@ -133,6 +140,7 @@ fn found_text(
         lines,
         graph,
         document,
+        says,
     })
 }
 
@@ -146,6 +154,8 @@ fn none_text(
     requires none { HasNoWitness litmus.now.program (machine_of litmus.now.program sought) litmus.now.condition.formula sought.meets }
     ensures { IfOk result (λ text. TellsSought litmus.now sought text.found text.lines.items text.document) }
 {
+    let verb = verb_of_none(litmus.condition.quantifier, sought.meets);
+    let says = condition_sentence(alloc, litmus, verb)?;
     let lines = Vec::from_slice(alloc, none_line(sought.meets))?;
     let graph = RunGraph::new(alloc)?.into_text()?;
     let source = LinedLitmus {
@@ -158,6 +168,7 @@ fn none_text(
         lines,
         graph,
         document,
+        says,
     })
 }
 

@@ -8,4 +8,4 @@ returns-in_err-told-clause-fault g c =
     rw (p.1, p.2) tt
 
 pub returns-clause-told : goal.returns-clause-told
-returns-clause-told g c = c.in_ok-told.ensures (option_map (λ text. text.now) c.args.costs) c.in_ok-survey.ensures.told
+returns-clause-told g c = rw c.verdict_of-verdict.ensures (c.in_ok-told.ensures (option_map (λ text. text.now) c.args.costs) c.in_ok-survey.ensures.told)

@@ -1,4 +1,4 @@
-use Rattle.survey_text.proofs.Vocabulary.{ap, ℕ}
+use Rattle.survey_text.proofs.Vocabulary.{ap, refl, ℕ}
 use Rattle.std.specs.Prelude.{nat_lt}
 use Rattle.survey_text.proofs.finding.told.Goals as goal
 
@@ -12,4 +12,5 @@ returns c = λ costs is. record {
   document = c.in_ok-document_of.ensures;
   failing = c.fails.ensures;
   some_unexecuted = ap (λ (n : ℕ). nat_lt 0 n) (rw c.deref.ensures.value at c.unexecuted.ensures);
+  decided = refl;
 }
