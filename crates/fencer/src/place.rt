@@ -12,8 +12,8 @@ ghost use Rattle.fencer.specs.Placements.{text_fault_line, AreDelivered, AreText
 use crate::advice::text_fault_advice;
 use crate::tied::tell_ties;
 use answers::{
-    Answer, NotedText, Texts, check_status, deliver, inserted_for, keep_inserted, noted_line,
-    printed, read_texts, report_verdict, slip_places, tell_fences, tell_refusal,
+    Answer, NotedText, SlipPlaces, Texts, check_status, deliver, inserted_for, keep_inserted,
+    noted_line, printed, read_texts, report_verdict, slip_places, tell_fences, tell_refusal,
     tell_slip_compared, unkept_advice, unkept_line, unread_advice,
 };
 use fencer_words::Placement;
@@ -76,7 +76,7 @@ fn texts_for<T: Threads + Wait + Sync>(
 }
 
 /// The answer line, followed by the program's text, or the document; with a check the status says whether the answer has
-/// a gap. Beside the answer the document says what is noted of the litmus text.
+/// a gap. Beside the answer a document that is printed says what is noted of the litmus text.
 fn joined(
     alloc: Global,
     asked: &Placement,
@@ -96,7 +96,11 @@ fn joined(
     let noted = NotedText {
         name: asked.litmus.as_str(),
         text: litmus,
-        places: slip_places(asked.kind),
+        places: if asked.json {
+            slip_places(asked.kind)
+        } else {
+            SlipPlaces::Nowhere
+        },
     };
     let document = noted_line(alloc, noted, document, verdict)?;
     let mut lines = answer;

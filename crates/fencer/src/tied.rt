@@ -151,11 +151,11 @@ pub(crate) fn tell_same<W: Console>(alloc: Global, litmus: &[u8], same: &[u8], o
 fn tied_lines(
     alloc: Global,
     litmus: &[u8],
-    costs: Option<&[u8]>,
+    costs: &[u8],
     program: &Program,
     gaps: Option<&GapSet>,
 ) -> Result<Vec<Vec<u8>>, AllocError> {
-    let Ok(costs) = read_gap_costs(alloc, costs, program) else {
+    let Ok(costs) = read_gap_costs(alloc, Some(costs), program) else {
         return Ok(Vec::new(alloc));
     };
     let all = program.all_gaps();
@@ -163,13 +163,16 @@ fn tied_lines(
 }
 
 /// In which lines of a litmus text the gaps of ties stand: of the ties of these gaps, or of all. Nothing is said where no gaps go
-/// together.
+/// together, so without a text of costs.
 pub(crate) fn tie_advice(
     alloc: Global,
     litmus: &[u8],
     costs: Option<&[u8]>,
     gaps: Option<&GapSet>,
 ) -> Result<Vec<u8>, AllocError> {
+    let Some(costs) = costs else {
+        return Ok(Vec::new(alloc));
+    };
     let Ok(source) = read_program(alloc, litmus) else {
         return Ok(Vec::new(alloc));
     };
