@@ -2,7 +2,7 @@
 pub use Rattle.std.proofs.Common.{Bool, Contains, IsTrue, List, None, Option, Some, [], ap, append-nil, arith, cond, false, get_or, if◌then◌else◌, inl, inr, le_trans, length, length-append, nat_lt}
 pub use Rattle.std.proofs.Common.{not, refl, set, subst, suc, sum_by, sym, true, true≢false, zero, zero-add, ℕ, ◌&&◌, ◌*◌, ◌++◌, ◌+◌, ◌<◌, ◌==◌, ◌^◌, ◌∙◌, ◌∷◌, ◌≡◌, ◌≢◌, ◌≤◌, ◌⊎◌}
 pub use Rattle.std.proofs.Math.Nat.{one-le-pow, two-pow-succ}
-pub use Rattle.std.proofs.lemmas.Bool.{and_from, and_left, and_parts, and_right, cases_lt, false_from_ne_true, not-true, not_from_false, not_from_true, or_right}
+pub use Rattle.std.proofs.lemmas.Bool.{and_from, and_left, and_parts, and_right, cases_lt, false_from_ne_true, not-true, not_from_false, not_from_true, or_left, or_right}
 pub use Rattle.std.proofs.lemmas.Bool.Decides.{nat_tests}
 pub use Rattle.std.proofs.lemmas.List.{length-set, set-append_left}
 pub use Rattle.std.proofs.lemmas.List.FromFn.{get_or-range_with_len, length-range_with_len}
@@ -35,6 +35,7 @@ pub use Rattle.tso_machine.specs.Outcomes.{AreGapsOf, IsSequentialOutcome, IsSto
 pub use Rattle.tso_program.proofs.Gaps.{gap_below}
 pub use Rattle.tso_program.specs.Limits.{IsWithinLimits}
 pub use Rattle.tso_program.specs.Listings.{gap_count, gap_number}
+pub use Rattle.tso_program.specs.Shown.{asked}
 pub use Rattle.tso_program.specs.declared.listing.Listing.{Listing}
 pub use Rattle.tso_program.specs.declared.question.Question.{Question}
 pub use Rattle.search_core.specs.Ceilings.{Bound, IsAboveCeiling, IsBound, IsCeiling, IsCeilingOf}

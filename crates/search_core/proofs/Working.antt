@@ -1,19 +1,21 @@
 -- The children of a node decide more gaps, and all their sets together are fewer.
 use Rattle.search_core.proofs.Vocabulary.{◌≡◌, ◌≢◌, ℕ, zero, suc, ◌+◌, ◌*◌, ◌^◌, ◌<◌, ◌≤◌, Bool, true, false, ◌&&◌, not, List, [], ◌∷◌, Contains, sum_by, refl, sym, ap, ◌∙◌, if◌then◌else◌, subst, inl, inr, arith, length, get_or, set as set_at, and_parts}
-use Rattle.search_core.proofs.Vocabulary.{and_from, and_left, and_right, or_right, not-true, not_from_true, not_from_false, false_from_ne_true, true≢false, nat_cmp, eq_by_cmp, same_Some, none-some, slice_get_within, get_or_from_slice_get, AllPairs}
-use Rattle.search_core.proofs.Vocabulary.{one-le-pow, two-pow-succ, sum_by-cons, sum_by-le, length-filter, count_by-le-length, sum_by-set, sum_by-append, filter, range_with_len, nat_cmp_total, length-range_with_len, SetOfGaps, IsGapSet, with_gap}
+use Rattle.search_core.proofs.Vocabulary.{and_from, and_left, and_right, or_left, or_right, not-true, not_from_true, not_from_false, false_from_ne_true, true≢false, nat_cmp, eq_by_cmp, same_Some, none-some, slice_get_within, get_or_from_slice_get, AllPairs}
+use Rattle.search_core.proofs.Vocabulary.{one-le-pow, two-pow-succ, sum_by-cons, sum_by-le, length-filter, count_by-le-length, sum_by-set, sum_by-append, filter, range_with_len, nat_cmp_total, nat_tests, length-range_with_len, SetOfGaps, IsGapSet, with_gap}
 use Rattle.search_core.proofs.Vocabulary.{without_gap, child_regions, open_gaps, Region, MAX_GAPS, new_or_old, true_or_false, first_is_here, later_is_here, Entry, Open, children, entry, open_entries, is_undecided, undecided, work_of, live_work, work_left}
 use Rattle.search_core.proofs.Vocabulary.{open_exact, open_ascending}
 use Rattle.std.specs.FinSet as set
 use Rattle.std.proofs.lemmas.List.Kept.{AllPairs-from_increasing}
 use Rattle.std.proofs.Math.Pow.{pow_mono}
 use Rattle.gap_sets.proofs.Ranges.{sum-lt}
-use Rattle.tree_laws.proofs.MovedGaps.{put_in}
 use Rattle.search_core.proofs.{Places.Each, Changes.Change, Changes.changed}
 
--- a set keeps what it had when a gap is put in
+-- a set has what it had, and the new gap
 pub kept_old : (s : SetOfGaps) (gap q : ℕ) → set.contains s q ≡ true → set.contains (set.insert s gap) q ≡ true
 kept_old s gap q h = set.contains-insert nat_cmp_total s gap q ∙ or_right (eq_by_cmp nat_cmp q gap) (set.contains s q) h
+
+pub has_new : (s : SetOfGaps) (gap : ℕ) → set.contains (set.insert s gap) gap ≡ true
+has_new s gap = set.contains-insert nat_cmp_total s gap gap ∙ or_left (eq_by_cmp nat_cmp gap gap) (set.contains s gap) (grind (arith, nat_tests))
 
 -- what is undecided is in neither set
 both : (a b : Bool) → (not a && not b) ≡ true → (a ≡ false) × (b ≡ false)
@@ -36,13 +38,13 @@ module _ (n : Region) (gap : ℕ) (low : gap < MAX_GAPS) (open_gap : is_undecide
   with_less = sum-lt (λ (q : ℕ). 1) (is_undecided with_it) (is_undecided n) 0 MAX_GAPS gap
       (λ q h. let p = both (set.contains with_it.must q) (set.contains with_it.never q) h in
       neither (set.contains n.must q) (set.contains n.never q) (outside (set.contains n.must q) (set.contains with_it.must q) (kept_old n.must gap q) p.0) p.1)
-      (omega arith) (omega arith) (and_left (not (set.contains with_it.must gap)) (not (set.contains with_it.never gap)) (not_from_true _ (put_in n.must gap))) open_gap (omega arith)
+      (omega arith) (omega arith) (and_left (not (set.contains with_it.must gap)) (not (set.contains with_it.never gap)) (not_from_true _ (has_new n.must gap))) open_gap (omega arith)
 
   without_less : undecided without_it < undecided n
   without_less = sum-lt (λ (q : ℕ). 1) (is_undecided without_it) (is_undecided n) 0 MAX_GAPS gap
       (λ q h. let p = both (set.contains without_it.must q) (set.contains without_it.never q) h in
       neither (set.contains n.must q) (set.contains n.never q) p.0 (outside (set.contains n.never q) (set.contains without_it.never q) (kept_old n.never gap q) p.1))
-      (omega arith) (omega arith) (and_right (not (set.contains without_it.must gap)) (not (set.contains without_it.never gap)) (not_from_true _ (put_in n.never gap))) open_gap (omega arith)
+      (omega arith) (omega arith) (and_right (not (set.contains without_it.must gap)) (not (set.contains without_it.never gap)) (not_from_true _ (has_new n.never gap))) open_gap (omega arith)
 
   -- another gap stays undecided
   still_open : (q : ℕ) → gap ≢ q → is_undecided n q ≡ true → is_undecided without_it q ≡ true
