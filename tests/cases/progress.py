@@ -4,6 +4,7 @@ The combinations of traces are worked out here alone, from the program that a do
 """
 import functools
 import json
+import math
 import os
 import re
 import subprocess
@@ -12,7 +13,7 @@ import tempfile
 from harness import EXAMPLES, FENCER, Cases, Terminal, same, schemas, tell
 
 REGISTERS = ("EAX", "EBX", "ECX", "EDX", "ESI", "EDI")
-MOST_TRACES = 10_000_000
+MOST_COUNTED = 100_000
 MOST_SEARCHED = 6
 MOST_CERTIFIED = 100_000_000
 WARNING = "fencer: warning: with more than 100,000,000 combinations the search may end without an answer or a certificate"
@@ -113,10 +114,15 @@ class Program:
 
     def combinations(self):
         """How many combinations of traces there are."""
-        product = 1
+        return math.prod(self.traces(t) for t in range(len(self.code)))
+
+    def counted(self):
+        """How many combinations of traces are counted, and whether there may be more: of all threads so many traces are counted, and one of each thread."""
+        product, left, more = 1, MOST_COUNTED, False
         for t in range(len(self.code)):
-            product *= self.traces(t)
-        return product
+            traces = min(self.traces(t), left + 1)
+            product, left, more = product * traces, left - (traces - 1), more or traces > left
+        return product, more
 
 
 def labels_of(thread):
@@ -139,8 +145,8 @@ def split(text):
 
 def ahead(program):
     """The lines before a search."""
-    count = program.combinations()
-    return [f"fencer: combinations of traces: {count:,}", *([WARNING] if count > MOST_CERTIFIED else [])]
+    count, more = program.counted()
+    return [f"fencer: combinations of traces: {count:,}{' or more' * more}", *([WARNING] if more or count > MOST_CERTIFIED else [])]
 
 
 def reported(said):
@@ -232,6 +238,13 @@ def reads(*threads):
     cells = [["MOV [x],$1"] * (t == 0) + ["MOV EAX,[x]"] * count for t, count in enumerate(threads)]
     rows = "".join(" | ".join(cell[i] if i < len(cell) else "" for cell in cells) + " ;\n" for i in range(max(map(len, cells))))
     return "X86 reads\n{ }\n" + " | ".join(f"P{t}" for t in range(len(threads))) + " ;\n" + rows + "exists (x=1)\n"
+
+
+def long(count):
+    """A program of one thread of 64 instructions that reads a location with two values so often, and then goes on within the thread."""
+    code = ["MOV [x],$1", *["MOV EAX,[x]"] * count]
+    code += ["MOV EBX,$1"] * (64 - len(code))
+    return "X86 long\n{ }\nP0 ;\n" + "".join(f"{instruction} ;\n" for instruction in code) + "exists (x=1)\n"
 
 
 def easy(threads, accesses, exchanges):
@@ -337,12 +350,16 @@ class Progress(Cases):
 
     def test_endless(self):
         """Threads of more traces than are counted: what lies ahead is said before the search, which is ended here."""
-        many = MOST_TRACES + 1
-        for threads, count in (((24,), many), ((24, 3), 8 * many), ((13, 14), None)):
+        many, few = MOST_COUNTED + 1, 8 * (MOST_COUNTED + 1 - 7)
+        for name, text, counted in (
+            ("a thread of 24 reads", reads(24), f"{many:,} or more"), ("threads of 24 and 3 reads", reads(24, 3), f"{many:,} or more"),
+            ("threads of 3 and 24 reads", reads(3, 24), f"{few:,} or more"), ("threads of 13 and 14 reads", reads(13, 14), f"{2 ** 27:,}"),
+            ("threads of 64 instructions", long(24), f"{many:,} or more"),
+        ):
             with tempfile.TemporaryDirectory() as folder:
-                path = made(folder, reads(*threads))
-                wanted = [f"fencer: combinations of traces: {count:,} or more" if count else f"fencer: combinations of traces: {2 ** sum(threads):,}", WARNING]
+                path = made(folder, text)
+                wanted = [f"fencer: combinations of traces: {counted}", WARNING]
                 with subprocess.Popen([FENCER, *WHOLE[0], "--progress", path], stdout=subprocess.DEVNULL, stderr=subprocess.PIPE) as call:
                     said = [call.stderr.readline().decode().rstrip("\n") for _ in wanted]
                     call.kill()
-                same(f"what lies ahead of threads of {threads} reads", said, wanted)
+                same(f"what lies ahead of {name}", said, wanted)
