@@ -17,7 +17,9 @@ MOST_COUNTED = 100_000
 MOST_SEARCHED = 6
 MOST_CERTIFIED = 100_000_000
 WARNING = "fencer: warning: with more than 100,000,000 combinations the search may end without an answer or a certificate"
-MINUTES_FROM = (4, 30, 1)
+# threads, accesses and exchanges of programs that are warned of, and of those that are not
+WARNED = ((4, 29, 1), (4, 28, 4), (8, 32, 9))
+UNWARNED = ((3, 29, 1), (4, 29, 0), (4, 28, 3), (3, 28, 4), (4, 27, 4))
 MINUTES = "fencer: {} threads, {} accesses, {} exchanges: this may take minutes, and more than 1 GiB (docs/performance.md)"
 ASKED = re.compile(r"fencer: sets asked: ([\d,]+)(?:; the answer costs at least ([\d,]+))?")
 TIMED = re.compile(
@@ -335,13 +337,11 @@ class Progress(Cases):
 
     def test_minutes(self):
         """Before a search that may take minutes there is a warning, with how many threads, accesses and exchanges there are, and none before others."""
-        least = MINUTES_FROM
-        fewer = [tuple(count - (i == which) for i, count in enumerate(least)) for which in range(len(least))]
         with tempfile.TemporaryDirectory() as folder:
-            for counts, warned in ((least, True), ((8, 32, 9), True), *((counts, False) for counts in fewer)):
+            for counts in (*WARNED, *UNWARNED):
                 path = made(folder, easy(*counts))
                 same(f"the threads, accesses and exchanges of {counts}", read_program(path).extent(), counts)
-                wanted = [MINUTES.format(*counts)] if warned else []
+                wanted = [MINUTES.format(*counts)] if counts in WARNED else []
                 for command in ("place", "why", "outcomes"):
                     said = ran([command, "--progress", path])[1]
                     same(f"the warning of {command} before {counts}", [line for line in said if "minutes" in line], wanted)
