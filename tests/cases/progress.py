@@ -4,6 +4,7 @@ The combinations of traces are worked out here alone, from the program that a do
 """
 import functools
 import json
+import math
 import os
 import re
 import subprocess
@@ -12,11 +13,13 @@ import tempfile
 from harness import EXAMPLES, FENCER, Cases, Terminal, same, schemas, tell
 
 REGISTERS = ("EAX", "EBX", "ECX", "EDX", "ESI", "EDI")
-MOST_TRACES = 10_000_000
+MOST_COUNTED = 100_000
 MOST_SEARCHED = 6
 MOST_CERTIFIED = 100_000_000
 WARNING = "fencer: warning: with more than 100,000,000 combinations the search may end without an answer or a certificate"
-MINUTES_FROM = (4, 30, 1)
+# threads, accesses and exchanges of programs that are warned of, and of those that are not
+WARNED = ((4, 29, 1), (4, 28, 4), (8, 32, 9))
+UNWARNED = ((3, 29, 1), (4, 29, 0), (4, 28, 3), (3, 28, 4), (4, 27, 4))
 MINUTES = "fencer: {} threads, {} accesses, {} exchanges: this may take minutes, and more than 1 GiB (docs/performance.md)"
 ASKED = re.compile(r"fencer: sets asked: ([\d,]+)(?:; the answer costs at least ([\d,]+))?")
 TIMED = re.compile(
@@ -113,10 +116,15 @@ class Program:
 
     def combinations(self):
         """How many combinations of traces there are."""
-        product = 1
+        return math.prod(self.traces(t) for t in range(len(self.code)))
+
+    def counted(self):
+        """How many combinations of traces are counted, and whether there may be more: of all threads so many traces are counted, and one of each thread."""
+        product, left, more = 1, MOST_COUNTED, False
         for t in range(len(self.code)):
-            product *= self.traces(t)
-        return product
+            traces = min(self.traces(t), left + 1)
+            product, left, more = product * traces, left - (traces - 1), more or traces > left
+        return product, more
 
 
 def labels_of(thread):
@@ -139,8 +147,8 @@ def split(text):
 
 def ahead(program):
     """The lines before a search."""
-    count = program.combinations()
-    return [f"fencer: combinations of traces: {count:,}", *([WARNING] if count > MOST_CERTIFIED else [])]
+    count, more = program.counted()
+    return [f"fencer: combinations of traces: {count:,}{' or more' * more}", *([WARNING] if more or count > MOST_CERTIFIED else [])]
 
 
 def reported(said):
@@ -234,6 +242,13 @@ def reads(*threads):
     return "X86 reads\n{ }\n" + " | ".join(f"P{t}" for t in range(len(threads))) + " ;\n" + rows + "exists (x=1)\n"
 
 
+def long(count):
+    """A program of one thread of 64 instructions that reads a location with two values so often, and then goes on within the thread."""
+    code = ["MOV [x],$1", *["MOV EAX,[x]"] * count]
+    code += ["MOV EBX,$1"] * (64 - len(code))
+    return "X86 long\n{ }\nP0 ;\n" + "".join(f"{instruction} ;\n" for instruction in code) + "exists (x=1)\n"
+
+
 def easy(threads, accesses, exchanges):
     """A program with so many threads, accesses and exchanges, of which each execution is alike. Nothing writes y but its first value."""
     lengths = [accesses // threads + (t < accesses % threads) for t in range(threads)]
@@ -322,13 +337,11 @@ class Progress(Cases):
 
     def test_minutes(self):
         """Before a search that may take minutes there is a warning, with how many threads, accesses and exchanges there are, and none before others."""
-        least = MINUTES_FROM
-        fewer = [tuple(count - (i == which) for i, count in enumerate(least)) for which in range(len(least))]
         with tempfile.TemporaryDirectory() as folder:
-            for counts, warned in ((least, True), ((8, 32, 9), True), *((counts, False) for counts in fewer)):
+            for counts in (*WARNED, *UNWARNED):
                 path = made(folder, easy(*counts))
                 same(f"the threads, accesses and exchanges of {counts}", read_program(path).extent(), counts)
-                wanted = [MINUTES.format(*counts)] if warned else []
+                wanted = [MINUTES.format(*counts)] if counts in WARNED else []
                 for command in ("place", "why", "outcomes"):
                     said = ran([command, "--progress", path])[1]
                     same(f"the warning of {command} before {counts}", [line for line in said if "minutes" in line], wanted)
@@ -337,12 +350,16 @@ class Progress(Cases):
 
     def test_endless(self):
         """Threads of more traces than are counted: what lies ahead is said before the search, which is ended here."""
-        many = MOST_TRACES + 1
-        for threads, count in (((24,), many), ((24, 3), 8 * many), ((13, 14), None)):
+        many, few = MOST_COUNTED + 1, 8 * (MOST_COUNTED + 1 - 7)
+        for name, text, counted in (
+            ("a thread of 24 reads", reads(24), f"{many:,} or more"), ("threads of 24 and 3 reads", reads(24, 3), f"{many:,} or more"),
+            ("threads of 3 and 24 reads", reads(3, 24), f"{few:,} or more"), ("threads of 13 and 14 reads", reads(13, 14), f"{2 ** 27:,}"),
+            ("threads of 64 instructions", long(24), f"{many:,} or more"),
+        ):
             with tempfile.TemporaryDirectory() as folder:
-                path = made(folder, reads(*threads))
-                wanted = [f"fencer: combinations of traces: {count:,} or more" if count else f"fencer: combinations of traces: {2 ** sum(threads):,}", WARNING]
+                path = made(folder, text)
+                wanted = [f"fencer: combinations of traces: {counted}", WARNING]
                 with subprocess.Popen([FENCER, *WHOLE[0], "--progress", path], stdout=subprocess.DEVNULL, stderr=subprocess.PIPE) as call:
                     said = [call.stderr.readline().decode().rstrip("\n") for _ in wanted]
                     call.kill()
-                same(f"what lies ahead of threads of {threads} reads", said, wanted)
+                same(f"what lies ahead of {name}", said, wanted)

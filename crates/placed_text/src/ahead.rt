@@ -5,8 +5,11 @@ use std::alloc::{AllocError, Global};
 use thread_traces::{Combinations, trace_combinations};
 use tso_program::Program;
 
+/// The most traces that are counted. Those of threads of 64 instructions take a fraction of a second.
+const MOST_COUNTED: u32 = 100_000;
+
 /// Of more combinations a certificate may be too large to be made.
-const MOST_CERTIFIED: u64 = 100_000_000;
+const MOST_CERTIFIED: u32 = 100_000_000;
 
 /// Reports what lies ahead of a search over whole trees, and returns where more of it is reported. Nothing is where there is no
 /// memory to work it out.
@@ -14,27 +17,19 @@ pub(crate) fn report_ahead(alloc: Global, program: &Program, progress: Progress)
     if !progress.is_shown() {
         return progress;
     }
-    let Ok(combinations) = trace_combinations(alloc, program) else {
+    let Ok(combinations) = trace_combinations(alloc, program, MOST_COUNTED) else {
         return Progress::none();
     };
     progress.report(ahead_line(alloc, combinations));
-    if is_over(combinations, MOST_CERTIFIED) {
+    if combinations.is_over(MOST_CERTIFIED) {
         progress.warn(warning_line(alloc));
     }
     progress
 }
 
-/// Whether there are more combinations than that, or too many to be counted.
-fn is_over(combinations: Combinations, most: u64) -> bool {
-    match combinations {
-        Combinations::Exactly(count) => count > most,
-        Combinations::AtLeast(_) => true,
-    }
-}
-
 /// How many combinations of traces a program has, for people.
 pub fn combinations_text(alloc: Global, program: &Program) -> Result<String, AllocError> {
-    text_of(alloc, trace_combinations(alloc, program)?)
+    text_of(alloc, trace_combinations(alloc, program, MOST_COUNTED)?)
 }
 
 fn text_of(alloc: Global, combinations: Combinations) -> Result<String, AllocError> {

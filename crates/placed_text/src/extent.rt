@@ -1,6 +1,6 @@
 //! What decides how long a search takes, and from where on it may take minutes.
 ghost use Rattle.std.specs.Prelude.{◌≡◌};
-ghost use Rattle.placed_text.specs.Extents.{may_take_minutes};
+ghost use Rattle.placed_text.specs.Extents.{has_many_accesses, may_take_minutes};
 
 use program_streams::Progress;
 use std::alloc::{AllocError, Global};
@@ -9,11 +9,12 @@ use tso_program::{Instr, Program, Thread};
 /// Random programs of fewer threads took at most 19 s (`docs/performance.md`, *How large may mine be?*).
 const MANY_THREADS: usize = 4;
 
-/// Of 28 accesses random programs took at most 18 s, and each access more takes about twice as long.
-const MANY_ACCESSES: usize = 30;
+/// From so many accesses on a program with many exchanges may take minutes, and one with fewer from one access more on.
+const MANY_ACCESSES: usize = 28;
 
-/// Random programs without an exchange took at most 7 s.
-const MANY_EXCHANGES: usize = 1;
+/// A program of 29 accesses, six of them exchanges, had no answer after 70 s. Random programs without an exchange took at
+/// most 7 s.
+const MANY_EXCHANGES: usize = 4;
 
 /// What decides how long a search takes.
 #[derive(Clone, Copy)]
@@ -48,13 +49,22 @@ impl Extent {
         self.exchanges = self.exchanges.saturating_add(exchanges);
     }
 
-    /// Whether a search may take minutes: of random programs of this extent some took more than one.
+    /// Whether a search may take minutes.
     fn may_take_minutes(self) -> bool
         ensures { result ≡ may_take_minutes self }
     {
-        self.threads >= MANY_THREADS
-            && self.accesses >= MANY_ACCESSES
-            && self.exchanges >= MANY_EXCHANGES
+        self.threads >= MANY_THREADS && self.has_many_accesses()
+    }
+
+    /// Whether there are many accesses for so many exchanges.
+    fn has_many_accesses(self) -> bool
+        ensures { result ≡ has_many_accesses self }
+    {
+        if self.exchanges >= MANY_EXCHANGES {
+            self.accesses >= MANY_ACCESSES
+        } else {
+            self.exchanges >= 1 && self.accesses > MANY_ACCESSES
+        }
     }
 }
 

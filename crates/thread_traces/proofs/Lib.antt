@@ -11,3 +11,4 @@ pub mod AccessesCounted
 pub mod EventsCounted
 pub mod ValuesGiven
 pub mod TraceTrees
+pub mod CountedProducts

@@ -1,5 +1,5 @@
 -- How many traces a thread has, and in how many ways the traces of all threads may be combined.
-use Rattle.std.specs.Prelude.{◌≡◌, ◌≤◌, ◌<◌, ◌*◌, ℕ, zero, suc, List, [], length, slice_index_or, sum_by}
+use Rattle.std.specs.Prelude.{◌≡◌, ◌≤◌, ◌<◌, ◌+◌, ◌*◌, ℕ, zero, suc, List, [], length, slice_index_or, sum_by}
 use Rattle.tso_program.specs.declared.action.Local.{Local}
 use Rattle.tso_program.specs.declared.action.Action.{Action, TheVariants.Stop, TheVariants.Go, TheVariants.Wait, TheVariants.Read, TheVariants.Write, TheVariants.Swap}
 use Rattle.tso_program.specs.declared.listing.Listing.{Listing}
@@ -45,13 +45,18 @@ pub record IsCountUpTo (most n count : ℕ) : Type 0 where
   pub there : count ≤ n
   pub exact : count < most → count ≡ n
 
--- what is said of a number
-abbrev pub CountSays : Combinations → ℕ → Type 0
-CountSays (Exactly count) n = count ≡ n
-CountSays (AtLeast count) n = count ≤ n
+-- what is said of a number that is counted up to a ceiling: the number, or one above the ceiling that it reaches
+abbrev pub CountSays : ℕ → Combinations → ℕ → Type 0
+CountSays ceiling (Exactly count) n = count ≡ n
+CountSays ceiling (AtLeast count) n = (ceiling < count) × (count ≤ n)
 
--- how many combinations of traces of its threads the program has
-pub record AreCombinations (p : Listing) (combinations : Combinations) : Type 0 where
+-- the same where so many traces are left to be counted: with more of one more thread a product that is not 0 is above the ceiling
+abbrev pub CountSaysSoFar : ℕ → Combinations → ℕ → ℕ → Type 0
+CountSaysSoFar ceiling (Exactly count) left n = (count ≡ n) × (0 < count → ceiling < count + left)
+CountSaysSoFar ceiling (AtLeast count) left n = (ceiling < count) × (count ≤ n)
+
+-- how many combinations of traces of its threads the program has, counted up to a ceiling
+pub record AreCombinations (ceiling : ℕ) (p : Listing) (combinations : Combinations) : Type 0 where
   pub lists : List (List ℕ)
   pub are_lists : AreValueLists p lists
-  pub said : CountSays combinations (combination_count p (values_at lists) (length p.threads))
+  pub said : CountSays ceiling combinations (combination_count p (values_at lists) (length p.threads))

@@ -4,7 +4,7 @@
 //! it stops. `is_kept_by` says which program order between two accesses each union keeps.
 //!
 //! Begin with `thread_trace_of`, `SharedTrace` and `trace_combinations`. Free to change: what is kept beside a trace
-//! (`write_bits.rt`), which traces are known again (`trace_tree.rt`), and how far combinations of traces are counted.
+//! (`write_bits.rt`), and which traces are known again (`trace_tree.rt`).
 //! Relied on: traces and the values of a location are exactly those of the definitions, the values ascending, and
 //! `SharedTrace::writes` misses no value that is written.
 #![tactic(auto)]
