@@ -20,7 +20,7 @@ pub(crate) struct RowMarks {
     pub(crate) first: usize,
     /// Its bars and its `;`, from left to right.
     pub(crate) ends: Vec<RowMark>,
-    /// The same, with the fences above instructions that have no label in their cell.
+    /// Its bars, its `;`, and the fences above instructions that have no label in their cell.
     pub(crate) above: Vec<RowMark>,
     /// The offsets of the fenced instructions that have one.
     pub(crate) labelled: Vec<usize>,
