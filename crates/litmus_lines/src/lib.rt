@@ -14,6 +14,7 @@ mod first_line;
 mod laws;
 mod lines;
 mod offsets;
+mod open_comments;
 mod placed_tokens;
 mod skipped_lines;
 
@@ -22,5 +23,6 @@ pub use first_line::read_first_line;
 pub use laws::one_fault_of_lines;
 pub use lines::line_number;
 pub use offsets::{between, bytes_from, line_begin};
+pub use open_comments::open_comment;
 pub use placed_tokens::PlacedTokens;
 pub use skipped_lines::skip_lines;

@@ -3,9 +3,10 @@
 use crate::first_line::read_first_line;
 use crate::lines::line_number;
 use crate::offsets::{between, bytes_from};
+use crate::open_comments::without_space;
 use crate::skipped_lines::skip_lines;
 use std::alloc::{AllocError, Global};
-use text_tokens::{Token, Tokens, after_space, digits_len, lex};
+use text_tokens::{Token, Tokens, digits_len, lex};
 
 /// The offsets of a token in its text: that of its first byte, and that after its last one.
 #[derive(Clone, Copy)]
@@ -107,11 +108,6 @@ fn spans_of(
         spans.push(Span { start, end })?;
     }
     Ok(spans)
-}
-
-/// The text after the white space and the comments at its front.
-fn without_space(text: &[u8]) -> &[u8] {
-    after_space(text).unwrap_or(text)
 }
 
 /// How many bytes the token takes with which a text begins.

@@ -28,5 +28,5 @@ pub use refusals::{instruction_left, refusal_of};
 pub use rows::{Cells, RowFault, row_fault};
 pub use rules::{COMMENT, OPEN_COMMENT, said_of};
 pub use shown::{push_shown_word, shown_word};
-pub use source::{Position, Source, bytes_from, line_of, line_start};
-pub use tokens::{Spot, begins_foreign_comment, open_comment, spot_of, word_at};
+pub use source::{Position, Source, line_of, line_start};
+pub use tokens::{Spot, begins_foreign_comment, spot_of, word_at};

@@ -2,17 +2,16 @@
 
 use crate::message::Message;
 use crate::rows::row_message;
-use litmus_lines::{line_number, read_first_line, skip_lines};
+use litmus_lines::{PlacedTokens, bytes_from, open_comment, read_first_line, skip_lines};
 use litmus_reader::ReadFault;
 use litmus_rules::{
-    COMMENT, OPEN_COMMENT, Source, begins_foreign_comment, bytes_from, instruction_left,
-    limit_text, line_of, line_start, open_comment, refusal_of, row_fault, said_of, shown_word,
-    spot_of, word_at,
+    COMMENT, OPEN_COMMENT, Source, begins_foreign_comment, instruction_left, limit_text, line_of,
+    line_start, refusal_of, row_fault, said_of, shown_word, spot_of, word_at,
 };
-use litmus_syntax::{Part, Refusal, read_body};
+use litmus_syntax::{Refusal, read_body};
 use std::alloc::{AllocError, Global};
 use std::str;
-use text_tokens::{Token, Tokens, lex, line_spaces_len};
+use text_tokens::{Token, line_spaces_len};
 use tso_program::ProgramFault;
 
 /// What is said of a first line that begins so.
@@ -115,7 +114,7 @@ fn lines_message(
     fault: ReadFault,
 ) -> Result<Message, AllocError> {
     match skip_lines(source.text, lines) {
-        Ok(rest) => tokens_message(alloc, source, rest, fault),
+        Ok(_) => tokens_message(alloc, source, fault),
         Err(_) => skipped_message(alloc, source, lines, fault),
     }
 }
@@ -159,17 +158,15 @@ fn skipped_message(
 fn tokens_message(
     alloc: Global,
     source: Source<'_>,
-    rest: &[u8],
     fault: ReadFault,
 ) -> Result<Message, AllocError> {
-    if let ReadFault::Program(line, inner) = fault {
-        return program_message(alloc, source, rest, line, inner);
-    }
-    let offset = source.text.len().saturating_sub(rest.len());
-    let tokens = lex(alloc, rest, line_number(source.text, offset))?;
-    match refusal_of(alloc, tokens.as_slice()) {
-        Some(refusal) => refused_message(alloc, source, rest, &tokens, refusal),
-        None => Message::of_file(alloc, source.name, "out of memory"),
+    let tokens = PlacedTokens::of(alloc, source.text)?;
+    match fault {
+        ReadFault::Program(line, inner) => program_message(alloc, source, &tokens, line, inner),
+        _ => match refusal_of(alloc, tokens.as_slice()) {
+            Some(refusal) => refused_message(alloc, source, &tokens, refusal),
+            None => Message::of_file(alloc, source.name, "out of memory"),
+        },
     }
 }
 
@@ -177,12 +174,10 @@ fn tokens_message(
 fn refused_message(
     alloc: Global,
     source: Source<'_>,
-    rest: &[u8],
-    tokens: &Tokens,
+    tokens: &PlacedTokens<'_>,
     refusal: Refusal,
 ) -> Result<Message, AllocError> {
-    let offset = source.text.len().saturating_sub(rest.len());
-    let spot = spot_of(rest, tokens.as_slice(), refusal, offset);
+    let spot = spot_of(tokens, refusal);
     match row_fault(tokens, refusal.left, &spot) {
         Some(fault) => row_message(alloc, source, &spot, fault),
         None => Message::at_word(alloc, source, spot.offset, spot.shown, said_of(&spot)),
@@ -193,14 +188,13 @@ fn refused_message(
 fn program_message(
     alloc: Global,
     source: Source<'_>,
-    rest: &[u8],
+    tokens: &PlacedTokens<'_>,
     line: u32,
     fault: ProgramFault,
 ) -> Result<Message, AllocError> {
-    let tokens = lex(alloc, rest, 1)?;
     if let ProgramFault::BackwardJump(thread, instruction) = fault {
         if let Some(left) = jump_left(alloc, tokens.as_slice(), thread, instruction) {
-            return backward_message(alloc, source, tokens.as_slice(), rest, left);
+            return backward_message(alloc, source, tokens, left);
         }
     }
     let text = limit_text(alloc, tokens.as_slice(), fault)?;
@@ -211,20 +205,15 @@ fn program_message(
 fn backward_message(
     alloc: Global,
     source: Source<'_>,
-    tokens: &[Token],
-    rest: &[u8],
+    tokens: &PlacedTokens<'_>,
     left: usize,
 ) -> Result<Message, AllocError> {
-    let offset = source.text.len().saturating_sub(rest.len());
-    let part = Part::Label;
-    let jump = spot_of(rest, tokens, Refusal { part, left }, offset);
-    let left = left.saturating_sub(1);
-    let label = spot_of(rest, tokens, Refusal { part, left }, offset);
-    let name = shown_word(alloc, label.word)?;
+    let label = tokens.rest(tokens.index(left.saturating_sub(1)));
+    let name = shown_word(alloc, word_at(label))?;
     let said = format!(in alloc;
         "{name} jumps back; loops are not read, write a fixed number of tries (docs/guide.md)"
     )?;
-    Message::at_word(alloc, source, jump.offset, jump.word, said.as_str())
+    Message::at_token(alloc, source, tokens, left, said.as_str())
 }
 
 /// The tokens left at the mnemonic of a jump.

@@ -5,12 +5,12 @@ use crate::idle_names::idle_name_of;
 use crate::idle_registers::idle_register;
 use crate::near_names::near_name_of;
 use crate::unwritten_locations::unwritten_location;
-use litmus_lines::{read_first_line, skip_lines};
+use litmus_lines::PlacedTokens;
 use litmus_reader::{Litmus, read_litmus};
 use litmus_syntax::{Body, read_body};
 use messages::{Message, Source};
 use std::alloc::{AllocError, Global};
-use text_tokens::{Token, lex};
+use text_tokens::Token;
 use tso_program::Program;
 
 /// What a slip is.
@@ -110,25 +110,13 @@ fn code_slip(
     source: Source<'_>,
     sought: Sought,
 ) -> Result<Option<Slip>, AllocError> {
-    let Some(rest) = rest_of(source.text) else {
-        return Ok(None);
-    };
-    let tokens = lex(alloc, rest, 1)?;
-    let tokens = tokens.as_slice();
-    match remark_of(alloc, tokens, sought) {
+    let tokens = PlacedTokens::of(alloc, source.text)?;
+    match remark_of(alloc, tokens.as_slice(), sought) {
         Some(Remark { kind, left, said }) => {
-            let message = Message::at_token(alloc, source, rest, tokens, left, said)?;
+            let message = Message::at_token(alloc, source, &tokens, left, said)?;
             Ok(Some(Slip { kind, message }))
         }
         None => Ok(None),
-    }
-}
-
-/// The text from its initial values on.
-fn rest_of(text: &[u8]) -> Option<&[u8]> {
-    match read_first_line(text) {
-        Ok((_, lines)) => skip_lines(text, lines).ok(),
-        Err(_) => None,
     }
 }
 
