@@ -1,16 +1,15 @@
-//! Which rule of litmus texts a refused token or program breaks, and the places in texts.
+//! Which rule of litmus texts a refused token breaks, and the places in texts.
 //!
 //! Tables of words without semantics, and what finds the place to which they apply.
 //!
 //! Begin with `refusal_of`, `spot_of` and `said_of`, in this order: which token is refused, what stands there, and what is
-//! said of it; `row_fault` and `limit_text` judge what no single token shows. Free to change: every word; its functions have
-//! no clauses, and `tests/data/messages.tsv` shows what is said. Relied on: nothing but that each call ends and is safe.
+//! said of it; `row_fault` judges what no single token shows. Free to change: every word; its functions have no clauses, and
+//! `tests/data/messages.tsv` shows what is said. Relied on: nothing but that each call ends and is safe.
 #![tactic(auto)]
 
 mod cell_rules;
 mod condition_rules;
 mod forms;
-mod limits;
 mod locks;
 mod pointer;
 mod refusals;
@@ -22,9 +21,8 @@ mod source;
 mod text_end;
 mod tokens;
 
-pub use limits::limit_text;
 pub use pointer::push_pointed_line;
-pub use refusals::{instruction_left, refusal_of};
+pub use refusals::refusal_of;
 pub use rows::{Cells, RowFault, row_fault};
 pub use rules::{COMMENT, OPEN_COMMENT, said_of};
 pub use shown::{push_shown_word, shown_word};

@@ -156,23 +156,3 @@ fn first_lost(
     }
     None
 }
-
-/// The tokens left at the mnemonic of an instruction of a thread, both counted from 0.
-pub fn instruction_left(
-    rows: &[Vec<Cell<'_>>],
-    thread: usize,
-    instruction: usize,
-) -> Option<usize> {
-    let mut count = 0usize;
-    for row in rows {
-        if let Some(cell) = row.get(thread) {
-            if cell.code.is_some() {
-                if count == instruction {
-                    return Some(cell.left);
-                }
-                count = count.saturating_add(1);
-            }
-        }
-    }
-    None
-}

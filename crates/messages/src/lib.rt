@@ -18,6 +18,7 @@ mod labels;
 mod litmus;
 mod message;
 mod misuses;
+mod programs;
 mod rows;
 
 pub use certificates::{certificate_message, check_message};

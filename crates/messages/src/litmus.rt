@@ -1,18 +1,18 @@
 //! Litmus texts that can't be read.
 
 use crate::message::Message;
+use crate::programs::program_message;
 use crate::rows::row_message;
 use litmus_lines::{PlacedTokens, bytes_from, open_comment, read_first_line, skip_lines};
 use litmus_reader::ReadFault;
 use litmus_rules::{
-    COMMENT, OPEN_COMMENT, Source, begins_foreign_comment, instruction_left, limit_text, line_of,
-    line_start, refusal_of, row_fault, said_of, shown_word, spot_of, word_at,
+    COMMENT, OPEN_COMMENT, Source, begins_foreign_comment, line_of, line_start, refusal_of,
+    row_fault, said_of, spot_of, word_at,
 };
-use litmus_syntax::{Refusal, read_body};
+use litmus_syntax::Refusal;
 use std::alloc::{AllocError, Global};
 use std::str;
-use text_tokens::{Token, line_spaces_len};
-use tso_program::ProgramFault;
+use text_tokens::line_spaces_len;
 
 /// What is said of a first line that begins so.
 const FIRST_LINES: &[(&str, &str)] = &[
@@ -181,49 +181,5 @@ fn refused_message(
     match row_fault(tokens, refusal.left, &spot) {
         Some(fault) => row_message(alloc, source, &spot, fault),
         None => Message::at_word(alloc, source, spot.offset, spot.shown, said_of(&spot)),
-    }
-}
-
-/// What is said of a program that breaks a limit, with the line of its header row.
-fn program_message(
-    alloc: Global,
-    source: Source<'_>,
-    tokens: &PlacedTokens<'_>,
-    line: u32,
-    fault: ProgramFault,
-) -> Result<Message, AllocError> {
-    if let ProgramFault::BackwardJump(thread, instruction) = fault {
-        if let Some(left) = jump_left(alloc, tokens.as_slice(), thread, instruction) {
-            return backward_message(alloc, source, tokens, left);
-        }
-    }
-    let text = limit_text(alloc, tokens.as_slice(), fault)?;
-    Message::at_line(alloc, source, line as usize, text.as_str())
-}
-
-/// What is said of a jump back, where so many tokens are left at its mnemonic.
-fn backward_message(
-    alloc: Global,
-    source: Source<'_>,
-    tokens: &PlacedTokens<'_>,
-    left: usize,
-) -> Result<Message, AllocError> {
-    let label = tokens.rest(tokens.index(left.saturating_sub(1)));
-    let name = shown_word(alloc, word_at(label))?;
-    let said = format!(in alloc;
-        "{name} jumps back; loops are not read, write a fixed number of tries (docs/guide.md)"
-    )?;
-    Message::at_token(alloc, source, tokens, left, said.as_str())
-}
-
-/// The tokens left at the mnemonic of a jump.
-fn jump_left(alloc: Global, tokens: &[Token], thread: u8, instruction: u8) -> Option<usize> {
-    match read_body(alloc, tokens) {
-        Ok((body, _)) => instruction_left(
-            body.rows.as_slice(),
-            usize::from(thread),
-            usize::from(instruction),
-        ),
-        Err(_) => None,
     }
 }
