@@ -30,4 +30,4 @@ pub use litmus::Litmus;
 pub use names::{NameTable, location_name, register_name};
 pub use noted_names::names_of;
 pub use observed::Observed;
-pub use reader::{read_fenced, read_litmus};
+pub use reader::{read_fenced, read_litmus, refusal_of};

@@ -2,9 +2,9 @@
 //!
 //! Tables of words without semantics, and what finds the place to which they apply.
 //!
-//! Begin with `refusal_of`, `spot_of` and `said_of`, in this order: which token is refused, what stands there, and what is
-//! said of it; `row_fault` judges what no single token shows. Free to change: every word; its functions have no clauses, and
-//! `tests/data/messages.tsv` shows what is said. Relied on: nothing but that each call ends and is safe.
+//! Begin with `spot_of`, `said_of` and `row_fault`: what stands where a token is refused, what is said of it, and what no
+//! single token shows. Free to change: every word; its functions have no clauses, and `tests/data/messages.tsv` shows what
+//! is said. Relied on: nothing but that each call ends and is safe.
 #![tactic(auto)]
 
 mod cell_rules;
@@ -12,7 +12,6 @@ mod condition_rules;
 mod forms;
 mod locks;
 mod pointer;
-mod refusals;
 mod rows;
 mod rule;
 mod rules;
@@ -22,7 +21,6 @@ mod text_end;
 mod tokens;
 
 pub use pointer::push_pointed_line;
-pub use refusals::refusal_of;
 pub use rows::{Cells, RowFault, row_fault};
 pub use rules::{COMMENT, OPEN_COMMENT, said_of};
 pub use shown::{push_shown_word, shown_word};

@@ -4,15 +4,15 @@ use crate::message::Message;
 use crate::programs::program_message;
 use crate::rows::row_message;
 use litmus_lines::{PlacedTokens, bytes_from, open_comment, read_first_line, skip_lines};
-use litmus_reader::ReadFault;
+use litmus_reader::{ReadFault, refusal_of};
 use litmus_rules::{
-    COMMENT, OPEN_COMMENT, Source, begins_foreign_comment, line_of, line_start, refusal_of,
-    row_fault, said_of, spot_of, word_at,
+    COMMENT, OPEN_COMMENT, Source, begins_foreign_comment, line_of, line_start, row_fault, said_of,
+    spot_of, word_at,
 };
-use litmus_syntax::Refusal;
+use litmus_syntax::{Part, Refusal};
 use std::alloc::{AllocError, Global};
 use std::str;
-use text_tokens::line_spaces_len;
+use text_tokens::{Mark, Token, begins, line_spaces_len};
 
 /// What is said of a first line that begins so.
 const FIRST_LINES: &[(&str, &str)] = &[
@@ -164,9 +164,24 @@ fn tokens_message(
     match fault {
         ReadFault::Program(line, inner) => program_message(alloc, source, &tokens, line, inner),
         _ => match refusal_of(alloc, tokens.as_slice()) {
-            Some(refusal) => refused_message(alloc, source, &tokens, refusal),
-            None => Message::of_file(alloc, source.name, "out of memory"),
+            Ok(Some(refusal)) => refused_message(alloc, source, &tokens, refusal),
+            Ok(None) | Err(_) => Message::of_file(alloc, source.name, "out of memory"),
         },
+    }
+}
+
+/// The refusal of the token of which something is said: of a jump to a name that is no label that name, which comes after
+/// the mnemonic. A label has `:` after it.
+fn said_refusal(tokens: &[Token], refusal: Refusal) -> Refusal {
+    let index = tokens.len().saturating_sub(refusal.left);
+    let next = index.saturating_add(1).min(tokens.len());
+    let (_, after) = tokens.split_at(next);
+    match refusal.part {
+        Part::Label if !begins(after, Mark::Colon) => Refusal {
+            part: Part::Label,
+            left: refusal.left.saturating_sub(1),
+        },
+        _ => refusal,
     }
 }
 
@@ -177,6 +192,7 @@ fn refused_message(
     tokens: &PlacedTokens<'_>,
     refusal: Refusal,
 ) -> Result<Message, AllocError> {
+    let refusal = said_refusal(tokens.as_slice(), refusal);
     let spot = spot_of(tokens, refusal);
     match row_fault(tokens, refusal.left, &spot) {
         Some(fault) => row_message(alloc, source, &spot, fault),
