@@ -46,15 +46,20 @@ fn lines_of_body(
     Ok(threads)
 }
 
+/// The lines of the instructions of a text's tokens; none where they are not read.
+fn lines_of_tokens(alloc: Global, tokens: &PlacedTokens<'_>) -> Result<Vec<Vec<u32>>, AllocError> {
+    match read_body(alloc, tokens.as_slice()) {
+        Ok((body, _)) => lines_of_body(alloc, tokens, &body),
+        Err(SyntaxFault::Refused(_)) => Ok(Vec::new(alloc)),
+        Err(SyntaxFault::OutOfMemory) => Err(AllocError),
+    }
+}
+
 impl TextLines {
     /// Those of a litmus text. Another text has none.
     pub fn of_text(alloc: Global, text: &[u8]) -> Result<TextLines, AllocError> {
         let tokens = PlacedTokens::of(alloc, text)?;
-        let threads = match read_body(alloc, tokens.as_slice()) {
-            Ok((body, _)) => lines_of_body(alloc, &tokens, &body)?,
-            Err(SyntaxFault::Refused(_)) => Vec::new(alloc),
-            Err(SyntaxFault::OutOfMemory) => return Err(AllocError),
-        };
+        let threads = lines_of_tokens(alloc, &tokens)?;
         Ok(TextLines { threads })
     }
 

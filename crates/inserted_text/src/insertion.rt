@@ -118,6 +118,21 @@ fn insert_rows(
     Ok(())
 }
 
+/// Puts the fences of the rows in that are read of tokens; none where they are not read.
+fn insert_fences(
+    alloc: Global,
+    copy: &mut Transcript<'_>,
+    tokens: &PlacedTokens<'_>,
+    program: &Program,
+    gaps: &GapSet,
+) -> Result<(), AllocError> {
+    match read_body(alloc, tokens.as_slice()) {
+        Ok((body, _)) => insert_rows(alloc, copy, tokens, &body, program, gaps),
+        Err(SyntaxFault::Refused(_)) => Ok(()),
+        Err(SyntaxFault::OutOfMemory) => Err(AllocError),
+    }
+}
+
 /// The text of a program with an MFENCE in each gap of the set.
 pub(crate) fn with_fences(
     alloc: Global,
@@ -131,11 +146,7 @@ pub(crate) fn with_fences(
         done: 0,
         out: Vec::new(alloc),
     };
-    match read_body(alloc, tokens.as_slice()) {
-        Ok((body, _)) => insert_rows(alloc, &mut copy, &tokens, &body, program, gaps)?,
-        Err(SyntaxFault::Refused(_)) => {}
-        Err(SyntaxFault::OutOfMemory) => return Err(AllocError),
-    }
+    insert_fences(alloc, &mut copy, &tokens, program, gaps)?;
     copy.go_to(text.len())?;
     Ok(copy.out)
 }
