@@ -1,5 +1,5 @@
 -- The places of gaps, as they are written, are read again.
-use Rattle.gap_list.proofs.Vocabulary.{◌≡◌, ◌==◌, ◌+◌, ◌^◌, ◌<◌, ◌≤◌, ℕ, zero, suc, Bool, true, false, List, [], ◌∷◌, ◌++◌, length, get_or, map, Some, None, refl, sym, ap₂, ◌∙◌, arith, inl, inr, nat_le, nat_lt, All, flat_map, filter, range_with_len, append_assoc, length-append, gap_text, place_text}
+use Rattle.gap_list.proofs.Vocabulary.{◌≡◌, ◌==◌, ◌+◌, ◌^◌, ◌<◌, ◌≤◌, ℕ, zero, suc, Bool, true, false, List, [], ◌∷◌, ◌++◌, length, get_or, map, Some, None, refl, sym, ap₂, ◌∙◌, arith, inl, inr, nat_le, nat_lt, All, flat_map, filter, range_with_len, append_assoc, length-append, gap_and_blank, place_and_blank}
 use Rattle.std.specs.Fmt.{decimal}
 use Rattle.std.specs.Char.{is_ascii_digit}
 use Rattle.std.proofs.lemmas.Bool.{and_parts, cases_Bool, ltb-true, ltb-false}
@@ -69,7 +69,7 @@ NoLf bytes = All (λ b. (b == 10) ≡ false) bytes
 pub one_line : (n : ℕ) → n < 2 ^ 64 → NoLf (decimal n)
 one_line n small = λ i d lt. not_lf (get_or (decimal n) i d) (AllPass-from_list_all is_ascii_digit (decimal n) (digits_decimal own n small) i d lt)
 
-place_line : (t k : ℕ) → t < 2 ^ 64 → k < 2 ^ 64 → NoLf (place_text (t, k))
+place_line : (t k : ℕ) → t < 2 ^ 64 → k < 2 ^ 64 → NoLf (place_and_blank (t, k))
 place_line t k small_t small_k =
     All-append (λ b. (b == 10) ≡ false) (decimal t ++ 58 ∷ decimal k) (32 ∷ [])
     (All-append (λ b. (b == 10) ≡ false) (decimal t) (58 ∷ decimal k) (one_line t small_t) (All-cons (λ b. (b == 10) ≡ false) 58 (decimal k) refl (one_line k small_k)))
@@ -77,7 +77,7 @@ place_line t k small_t small_k =
 
 -- ---- the places of gaps
 
-spelled_place : (t k : ℕ) → t < 2 ^ 64 → k < 2 ^ 64 → SpellsPlace (place_text (t, k)) (record { thread = t; instruction = k })
+spelled_place : (t k : ℕ) → t < 2 ^ 64 → k < 2 ^ 64 → SpellsPlace (place_and_blank (t, k)) (record { thread = t; instruction = k })
 spelled_place t k small_t small_k = record {
   thread = decimal t;
   instruction = decimal k;
@@ -99,7 +99,7 @@ pub record SpellsGaps (threads : List Thread) (text gaps : List ℕ) : Type 0 wh
   pub at : AreAt threads places gaps
   pub line : NoLf text
 
-pub spelled : (threads : List Thread) (memory : List ℕ) → IsWithinLimits threads memory → (gaps : List ℕ) → SpellsGaps threads (flat_map (gap_text threads) gaps) (filter (is_gap threads) gaps)
+pub spelled : (threads : List Thread) (memory : List ℕ) → IsWithinLimits threads memory → (gaps : List ℕ) → SpellsGaps threads (flat_map (gap_and_blank threads) gaps) (filter (is_gap threads) gaps)
 spelled threads memory limits [] = record { places = []; spells = none; at = tt; line = λ i d lt. absurd (omega (arith, lt)) }
 spelled threads memory limits (gap ∷ gaps) =
     let rest = spelled threads memory limits gaps in
@@ -110,7 +110,7 @@ spelled threads memory limits (gap ∷ gaps) =
             places = record { thread = p.t; instruction = p.k } ∷ rest.places;
             spells = more (spelled_place p.t p.k p.small_t p.small_k) rest.spells;
             at = (p.number, rest.at);
-            line = All-append (λ b. (b == 10) ≡ false) (place_text (p.t, p.k)) (flat_map (gap_text threads) gaps) (place_line p.t p.k p.small_t p.small_k) rest.line;
+            line = All-append (λ b. (b == 10) ≡ false) (place_and_blank (p.t, p.k)) (flat_map (gap_and_blank threads) gaps) (place_line p.t p.k p.small_t p.small_k) rest.line;
           })
       | inr past ↦ rw (lacks_place threads gap (ltb-false gap (gap_count threads) past), past) rest
     ]

@@ -12,16 +12,16 @@ use Rattle.tso_program.specs.declared.listing.Thread.{Thread}
 use Rattle.tso_program.specs.Listings.{gap_count, gap_place}
 
 -- `t:k `
-abbrev pub place_text : ℕ × ℕ → List ℕ
-place_text place = decimal place.0 ++ 58 ∷ decimal place.1 ++ 32 ∷ []
+abbrev pub place_and_blank : ℕ × ℕ → List ℕ
+place_and_blank place = decimal place.0 ++ 58 ∷ decimal place.1 ++ 32 ∷ []
 
 -- the place of a gap, if the program has it
-abbrev pub gap_text : List Thread → ℕ → List ℕ
-gap_text threads gap = option_map_or place_text (gap_place threads gap) []
+abbrev pub gap_and_blank : List Thread → ℕ → List ℕ
+gap_and_blank threads gap = option_map_or place_and_blank (gap_place threads gap) []
 
 -- the places of gaps, ascending
 abbrev pub places_text : List Thread → SetOfGaps → List ℕ
-places_text threads gaps = flat_map (gap_text threads) (numbers_of_set gaps)
+places_text threads gaps = flat_map (gap_and_blank threads) (numbers_of_set gaps)
 
 -- the line of the tie that the gap of this number names: its gaps, and what it costs
 abbrev pub tie_text : List Thread → TiedCosts → ℕ → List ℕ

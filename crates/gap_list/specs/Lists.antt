@@ -31,15 +31,15 @@ abbrev pub gap_part : List Thread → ℕ → List ℕ
 gap_part threads gap = option_map_or (λ place. 32 ∷ decimal place.0 ++ 58 ∷ decimal place.1) (gap_place threads gap) []
 
 -- so each gap, ascending
-abbrev pub gaps_text : List Thread → SetOfGaps → List ℕ
-gaps_text threads gaps = flat_map (gap_part threads) (numbers_of_set gaps)
+abbrev pub gaps_part : List Thread → SetOfGaps → List ℕ
+gaps_part threads gaps = flat_map (gap_part threads) (numbers_of_set gaps)
 
 -- the other gaps of a gap's tie
 abbrev pub others_of : List ℕ → ℕ → SetOfGaps
 others_of ties gap = set.remove (spread ties (set.insert set.empty (name_of ties gap))) gap
 
 abbrev pub with_others : List Thread → SetOfGaps → List ℕ
-with_others threads others = if nat_lt 0 (set.len others) then codes " with" ++ gaps_text threads others else []
+with_others threads others = if nat_lt 0 (set.len others) then codes " with" ++ gaps_part threads others else []
 
 abbrev pub others_part : List Thread → List ℕ → ℕ → List ℕ
 others_part threads ties gap = with_others threads (others_of ties gap)

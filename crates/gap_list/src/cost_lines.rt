@@ -3,7 +3,7 @@
 ghost use Rattle.std.specs.Prelude.{◌≡◌, ◌<◌, ◌++◌, IfOk, OnOk, length};
 ghost use Rattle.tso_program.specs.Listings.{gap_count};
 ghost use Rattle.cost_text.specs.CostTexts.{IsCostText};
-ghost use Rattle.gap_list.specs.CostFiles.{as_read, cost_file_text, entry_text, gap_text, places_text};
+ghost use Rattle.gap_list.specs.CostFiles.{as_read, cost_file_text, entry_text, gap_and_blank, places_text};
 ghost use Rattle.gap_sets.specs.declared.gap_set.TheConstants.{MAX_GAPS};
 
 use gap_sets::{GapSet, TiedCosts};
@@ -17,7 +17,7 @@ fn push_place(
     program: &Program,
     gap: u8,
 ) -> Result<(), AllocError>
-    ensures { OnOk result (out.new.items ≡ out.old.items ++ gap_text program.now.threads gap) }
+    ensures { OnOk result (out.new.items ≡ out.old.items ++ gap_and_blank program.now.threads gap) }
 {
     if let Some((t, k)) = program.gap_place(gap) {
         let place = format!(in alloc; "{t}:{k} ")?;

@@ -3,7 +3,7 @@
 ghost use Rattle.std.specs.Prelude.{◌≡◌, ◌<◌, ◌++◌, IfOk, OnOk, option_map};
 ghost use Rattle.gap_sets.specs.declared.gap_set.TheConstants.{MAX_GAPS};
 ghost use Rattle.tso_program.specs.Listings.{instr_at};
-ghost use Rattle.gap_list.specs.Lists.{cost_part, gap_line, gap_part, gaps_text, instruction_part, others_of, others_part, IsGapList};
+ghost use Rattle.gap_list.specs.Lists.{cost_part, gap_line, gap_part, gaps_part, instruction_part, others_of, others_part, IsGapList};
 
 use crate::text_lines::TextLines;
 use gap_sets::{GapSet, TiedCosts, Ties};
@@ -55,7 +55,7 @@ fn push_gaps(
     program: &Program,
     gaps: &GapSet,
 ) -> Result<(), AllocError>
-    ensures { OnOk result (out.new.items ≡ out.old.items ++ gaps_text program.now.threads gaps.now) }
+    ensures { OnOk result (out.new.items ≡ out.old.items ++ gaps_part program.now.threads gaps.now) }
 {
     for gap in gaps.iter() {
         push_gap(alloc, out, program, gap)?;

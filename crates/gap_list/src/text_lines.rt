@@ -3,10 +3,9 @@
 ghost use Rattle.std.specs.Prelude.{◌≡◌};
 ghost use Rattle.gap_list.specs.Lines.{line_at};
 
-use litmus_lines::{line_number, read_first_line, skip_lines};
+use litmus_lines::PlacedTokens;
 use litmus_syntax::{Body, Cell, SyntaxFault, read_body};
 use std::alloc::{AllocError, Global};
-use text_tokens::{Tokens, lex};
 
 /// The lines of a litmus text in which its instructions stand.
 #[derive(Drop)]
@@ -18,7 +17,7 @@ pub struct TextLines {
 /// The lines of a thread's instructions.
 fn lines_of_thread(
     alloc: Global,
-    tokens: &Tokens,
+    tokens: &PlacedTokens<'_>,
     rows: &[Vec<Cell<'_>>],
     thread: usize,
 ) -> Result<Vec<u32>, AllocError> {
@@ -28,7 +27,7 @@ fn lines_of_thread(
             continue;
         };
         if cell.code.is_some() {
-            lines.push(tokens.line(tokens.as_slice().len().saturating_sub(cell.left)))?;
+            lines.push(tokens.line(tokens.index(cell.left)))?;
         }
     }
     Ok(lines)
@@ -37,7 +36,7 @@ fn lines_of_thread(
 /// The lines of the instructions of a body.
 fn lines_of_body(
     alloc: Global,
-    tokens: &Tokens,
+    tokens: &PlacedTokens<'_>,
     body: &Body<'_>,
 ) -> Result<Vec<Vec<u32>>, AllocError> {
     let mut threads = Vec::new(alloc);
@@ -47,25 +46,20 @@ fn lines_of_body(
     Ok(threads)
 }
 
-/// The tokens of a text from its `{` on; of a text without one, none.
-fn tokens_of(alloc: Global, text: &[u8]) -> Result<Tokens, AllocError> {
-    let others = match read_first_line(text) {
-        Ok((_, lines)) => skip_lines(text, lines).unwrap_or(b""),
-        Err(_) => b"",
-    };
-    let first = line_number(text, text.len().saturating_sub(others.len()));
-    lex(alloc, others, first)
+/// The lines of the instructions of a text's tokens; none where they are not read.
+fn lines_of_tokens(alloc: Global, tokens: &PlacedTokens<'_>) -> Result<Vec<Vec<u32>>, AllocError> {
+    match read_body(alloc, tokens.as_slice()) {
+        Ok((body, _)) => lines_of_body(alloc, tokens, &body),
+        Err(SyntaxFault::Refused(_)) => Ok(Vec::new(alloc)),
+        Err(SyntaxFault::OutOfMemory) => Err(AllocError),
+    }
 }
 
 impl TextLines {
     /// Those of a litmus text. Another text has none.
     pub fn of_text(alloc: Global, text: &[u8]) -> Result<TextLines, AllocError> {
-        let tokens = tokens_of(alloc, text)?;
-        let threads = match read_body(alloc, tokens.as_slice()) {
-            Ok((body, _)) => lines_of_body(alloc, &tokens, &body)?,
-            Err(SyntaxFault::Refused(_)) => Vec::new(alloc),
-            Err(SyntaxFault::OutOfMemory) => return Err(AllocError),
-        };
+        let tokens = PlacedTokens::of(alloc, text)?;
+        let threads = lines_of_tokens(alloc, &tokens)?;
         Ok(TextLines { threads })
     }
 

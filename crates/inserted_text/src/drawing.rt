@@ -1,6 +1,7 @@
 //! Drawing rows of cells below one another.
 
 use crate::row_marks::RowMark;
+use litmus_lines::between;
 use std::alloc::AllocError;
 
 /// Where the next mark of a row is drawn: in the columns of a line of the text, after the one at this offset; or after a
@@ -9,12 +10,6 @@ use std::alloc::AllocError;
 pub(crate) enum Pen {
     At(usize),
     Anywhere,
-}
-
-/// The bytes of a text between two offsets.
-pub(crate) fn between(text: &[u8], from: usize, to: usize) -> &[u8] {
-    let front = text.split_at(to.min(text.len())).0;
-    front.split_at(from.min(front.len())).1
 }
 
 /// Adds a blank for each character, a tab for a tab.

@@ -1,9 +1,9 @@
 //! The text with its fences.
 
-use crate::drawing::{Pen, between, push_indent, push_line_end, push_marks};
+use crate::drawing::{Pen, push_indent, push_line_end, push_marks};
 use crate::row_marks::{RowMark, RowMarks, row_marks};
-use crate::token_places::PlacedTokens;
 use gap_sets::GapSet;
+use litmus_lines::{PlacedTokens, between, line_begin};
 use litmus_syntax::{Body, SyntaxFault, read_body};
 use std::alloc::{AllocError, Global};
 use text_tokens::is_white_space;
@@ -24,17 +24,6 @@ impl<'a> Transcript<'a> {
         self.done = self.done.max(offset);
         self.out.extend_from_slice(bytes)
     }
-}
-
-/// Where the line begins in which an offset lies.
-fn line_begin(text: &[u8], offset: usize) -> usize {
-    let mut begin = 0;
-    for (place, byte) in text.iter().take(offset).enumerate() {
-        if *byte == b'\n' {
-            begin = place.saturating_add(1);
-        }
-    }
-    begin
 }
 
 /// How a row above another is drawn: in its columns, where that one stands on a line and nothing before it there.
@@ -116,7 +105,7 @@ fn insert_row(copy: &mut Transcript<'_>, marks: &RowMarks) -> Result<(), AllocEr
 fn insert_rows(
     alloc: Global,
     copy: &mut Transcript<'_>,
-    tokens: &PlacedTokens,
+    tokens: &PlacedTokens<'_>,
     body: &Body<'_>,
     program: &Program,
     gaps: &GapSet,
@@ -127,6 +116,21 @@ fn insert_rows(
         insert_row(copy, &marks)?;
     }
     Ok(())
+}
+
+/// Puts the fences of the rows in that are read of tokens; none where they are not read.
+fn insert_fences(
+    alloc: Global,
+    copy: &mut Transcript<'_>,
+    tokens: &PlacedTokens<'_>,
+    program: &Program,
+    gaps: &GapSet,
+) -> Result<(), AllocError> {
+    match read_body(alloc, tokens.as_slice()) {
+        Ok((body, _)) => insert_rows(alloc, copy, tokens, &body, program, gaps),
+        Err(SyntaxFault::Refused(_)) => Ok(()),
+        Err(SyntaxFault::OutOfMemory) => Err(AllocError),
+    }
 }
 
 /// The text of a program with an MFENCE in each gap of the set.
@@ -142,11 +146,7 @@ pub(crate) fn with_fences(
         done: 0,
         out: Vec::new(alloc),
     };
-    match read_body(alloc, tokens.as_slice()) {
-        Ok((body, _)) => insert_rows(alloc, &mut copy, &tokens, &body, program, gaps)?,
-        Err(SyntaxFault::Refused(_)) => {}
-        Err(SyntaxFault::OutOfMemory) => return Err(AllocError),
-    }
+    insert_fences(alloc, &mut copy, &tokens, program, gaps)?;
     copy.go_to(text.len())?;
     Ok(copy.out)
 }

@@ -2,8 +2,8 @@
 //!
 //! What `fencer place --insert` writes.
 //!
-//! Begin with `inserted_text`. Free to change: how the text is made, of which no clause speaks (`token_places.rt`,
-//! `row_marks.rt`, `drawing.rt`, `insertion.rt`). Relied on: whatever is made is read again, and compared with the
+//! Begin with `inserted_text`. Free to change: how the text is made, of which no clause speaks (`row_marks.rt`,
+//! `drawing.rt`, `insertion.rt`). Relied on: whatever is made is read again, and compared with the
 //! canonical text of the fenced program; what is handed out stands for the same.
 #![tactic(auto)]
 
@@ -12,6 +12,5 @@ mod inserted;
 mod insertion;
 mod row_marks;
 mod same_test;
-mod token_places;
 
 pub use inserted::inserted_text;

@@ -1,9 +1,10 @@
 //! The marks of a row, and where fences stand among them.
 
-use crate::token_places::PlacedTokens;
 use gap_sets::GapSet;
+use litmus_lines::PlacedTokens;
 use litmus_syntax::Cell;
 use std::alloc::{AllocError, Global};
+use text_tokens::{Mark, Token};
 use tso_program::Program;
 
 /// A mark of a row: one that stands in the text, or a fence above an instruction that begins there.
@@ -20,7 +21,7 @@ pub(crate) struct RowMarks {
     pub(crate) first: usize,
     /// Its bars and its `;`, from left to right.
     pub(crate) ends: Vec<RowMark>,
-    /// The marks of the row above, where it has one: those bars and that `;`, and the fences of cells without a label.
+    /// Of the row that is put in above it: its bars, its `;`, and the fences of the cells without a label.
     pub(crate) above: Vec<RowMark>,
     /// The offsets of the fenced instructions that have one.
     pub(crate) labelled: Vec<usize>,
@@ -75,8 +76,8 @@ impl RowMarks {
 }
 
 /// The index of a cell's token after its labels, and that of its first token.
-fn cell_indices(tokens: &PlacedTokens, cell: &Cell<'_>) -> (usize, usize) {
-    let code = tokens.as_slice().len().saturating_sub(cell.left);
+fn cell_indices(tokens: &PlacedTokens<'_>, cell: &Cell<'_>) -> (usize, usize) {
+    let code = tokens.index(cell.left);
     (
         code,
         code.saturating_sub(cell.labels.len().saturating_mul(2)),
@@ -84,11 +85,22 @@ fn cell_indices(tokens: &PlacedTokens, cell: &Cell<'_>) -> (usize, usize) {
 }
 
 /// The index of the first token of a row.
-fn first_index(tokens: &PlacedTokens, row: &[Cell<'_>]) -> usize {
+fn first_index(tokens: &PlacedTokens<'_>, row: &[Cell<'_>]) -> usize {
     match row.first() {
         Some(cell) => cell_indices(tokens, cell).1,
         None => 0,
     }
+}
+
+/// The index of the first `;` from the token with this index on.
+fn semicolon(tokens: &[Token], index: usize) -> usize {
+    let rest = tokens.split_at(index.min(tokens.len())).1;
+    let before = rest.iter().take_while(|token| !is_semicolon(token)).count();
+    index.saturating_add(before)
+}
+
+fn is_semicolon(token: &Token) -> bool {
+    matches!(token, Token::Mark(Mark::Semicolon))
 }
 
 /// Whether the gap before a cell's instruction is fenced. The counts are those of each thread's instructions before it.
@@ -113,7 +125,7 @@ fn is_fenced(
 /// The marks of a row of cells.
 pub(crate) fn row_marks(
     alloc: Global,
-    tokens: &PlacedTokens,
+    tokens: &PlacedTokens<'_>,
     program: &Program,
     gaps: &GapSet,
     counts: &mut [u8],
@@ -132,6 +144,6 @@ pub(crate) fn row_marks(
         }
         last = code;
     }
-    marks.push_end(tokens.offset(tokens.semicolon(last)), b";")?;
+    marks.push_end(tokens.offset(semicolon(tokens.as_slice(), last)), b";")?;
     Ok(marks)
 }

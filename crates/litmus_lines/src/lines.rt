@@ -6,7 +6,7 @@ ghost use Rattle.litmus_lines.specs.Internal.FirstLineReading.{line_at};
 ghost use Rattle.litmus_lines.specs.Faults.{line_number};
 
 /// How many bytes from the front on are no LF.
-fn line_len(bytes: &[u8]) -> usize
+pub(crate) fn line_len(bytes: &[u8]) -> usize
     ensures value { result ≡ prefix_len is_inside bytes.now }
     ensures within { result ≤ length bytes.now }
 {

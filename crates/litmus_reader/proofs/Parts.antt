@@ -1,6 +1,6 @@
 -- The parts that are read are those of the tokens, and no others.
 use Rattle.litmus_reader.proofs.Vocabulary.{◌≡◌, ℕ, List, [], length, map, Option, Some, None, refl, sym, subst, ⊤, Err, Tok, Listing, PlaceView, BodyView, EndingView, IsBody, IsEnding, Litmus, ReadFault, MatchFault, names_of, all_labels, JumpsAreFound}
-use Rattle.litmus_reader.proofs.Vocabulary.{byte_in, byte_at, listing_by, AreParts, Tree, tree_map, Spells, Sum, sign_of, numbered_atom, observed_of, numbered_signs, ReadsOne, Found, AreReadTokens, IsSyntaxFault, HasNoParts}
+use Rattle.litmus_reader.proofs.Vocabulary.{byte_in, byte_at, listing_by, AreParts, Tree, tree_map, Spells, Sum, sign_of, numbered_atom, observed_of, numbered_signs, ReadsOne, Found, AreReadTokens, IfRefused, IsSyntaxFault, HasNoParts}
 use Rattle.conditions.proofs.{Mapped.spells_mapped, Mapped.spells_unmapped, SpelledIsRead.spells_one}
 use Rattle.conditions.specs.Reads.{SpellsOnly, SpellsNone}
 use Rattle.litmus_syntax.specs.declared.fault.Refusal.{Refusal}
@@ -26,49 +26,43 @@ ending_found : (refusal : Option Refusal) (threads : ℕ) (ending : EndingView) 
 ending_found None threads ending others h e = h.0
 ending_found (Some r) threads ending others h e = absurd cc
 
--- what the readers' clauses say of the tokens
-pub found_of : (tokens ts others : List Tok) (body : BodyView) (refusal : Option Refusal) (ending : EndingView) → ts ≡ tokens
-    → IsBody body ts others × ((b : BodyView) (rest : List Tok) → IsBody b ts rest → (b ≡ body) × (rest ≡ others)) → ReadsOne refusal body.threads ending others → Found tokens body refusal ending
-found_of tokens ts others body refusal ending e begins ends =
-    let at : IsBody body tokens others × ((b : BodyView) (rest : List Tok) → IsBody b tokens rest → (b ≡ body) × (rest ≡ others)) =
-    subst (λ (x : List Tok). IsBody body x others × ((b : BodyView) (rest : List Tok) → IsBody b x rest → (b ≡ body) × (rest ≡ others))) e begins in
-    record { others = others; begins = at.0; begins_only = at.1; ends = ends }
-
 -- what a refused token says
-pub refused_body : (tokens ts : List Tok) (refused : SyntaxFault) (fault : ReadFault) → ts ≡ tokens → ReadsNone IsBody refused ts → IsSyntaxFault refused fault → MatchFault fault ⊥ (λ _. ⊥) ⊤ (HasNoParts tokens)
-refused_body tokens ts refused fault e none is =
-    let no_parts : (r : Refusal) × (refused ≡ Refused r) → HasNoParts tokens = λ r body ending f parts.
-    let here : ReadsNone IsBody (Refused r.0) ts = subst (λ (x : SyntaxFault). ReadsNone IsBody x ts) r.1 none in
-    here body parts.others (subst (λ (x : List Tok). IsBody body x parts.others) (sym e) parts.begins) in
-    match_map fault ⊥ ⊥ (λ _. ⊥) (λ _. ⊥) (refused ≡ NoMemory) ⊤ ((r : Refusal) × (refused ≡ Refused r)) (HasNoParts tokens) (λ h. h) (λ _ h. h) (λ _. tt) no_parts is
+pub refused_body : (tokens : List Tok) (fault : SyntaxFault) → ReadsNone IsBody fault tokens → IfRefused fault (HasNoParts tokens)
+refused_body tokens (Refused r) none = λ body ending f parts. none body parts.others parts.begins
+refused_body tokens NoMemory none = tt
 
 -- what a refused token after the rows says
-pub refused_ending : (tokens ts others : List Tok) (body : BodyView) (refused : SyntaxFault) (fault : ReadFault) → ts ≡ tokens
-    → IsBody body ts others × ((b : BodyView) (rest : List Tok) → IsBody b ts rest → (b ≡ body) × (rest ≡ others)) → ReadsEnding body.threads (Err refused) others
-    → IsSyntaxFault refused fault → MatchFault fault ⊥ (λ _. ⊥) ⊤ (HasNoParts tokens)
-refused_ending tokens ts others body refused fault e begins none is =
-    let no_parts : (r : Refusal) × (refused ≡ Refused r) → HasNoParts tokens = λ r b ending f parts.
-    let here : NoEnding body.threads others = subst (λ (x : SyntaxFault). ReadsEnding body.threads (Err x) others) r.1 none in
-    let o = begins.1 b parts.others (subst (λ (x : List Tok). IsBody b x parts.others) (sym e) parts.begins) in
-    here ending (subst (λ (x : List Tok). IsEnding body.threads ending x) o.1 (subst (λ (x : BodyView). IsEnding x.threads ending parts.others) o.0 parts.ends)) in
-    match_map fault ⊥ ⊥ (λ _. ⊥) (λ _. ⊥) (refused ≡ NoMemory) ⊤ ((r : Refusal) × (refused ≡ Refused r)) (HasNoParts tokens) (λ h. h) (λ _ h. h) (λ _. tt) no_parts is
+pub refused_ending : (tokens others : List Tok) (body : BodyView) (fault : SyntaxFault)
+    → IsBody body tokens others × ((b : BodyView) (rest : List Tok) → IsBody b tokens rest → (b ≡ body) × (rest ≡ others)) → ReadsEnding body.threads (Err fault) others
+    → IfRefused fault (HasNoParts tokens)
+refused_ending tokens others body (Refused r) begins none =
+    λ b ending f parts.
+    let o = begins.1 b parts.others parts.begins in
+    none ending (subst (λ (x : List Tok). IsEnding body.threads ending x) o.1 (subst (λ (x : BodyView). IsEnding x.threads ending parts.others) o.0 parts.ends))
+refused_ending tokens others body NoMemory begins none = tt
 
 -- what a jump to no label says
-pub refused_jump : (tokens : List Tok) (body : BodyView) (refusal : Option Refusal) (ending : EndingView) (fault : ReadFault) → Found tokens body refusal ending
-    → MatchFault fault ⊥ (λ _. ⊥) ⊤ (JumpsAreFound body → ⊥) → MatchFault fault ⊥ (λ _. ⊥) ⊤ (HasNoParts tokens)
-refused_jump tokens body refusal ending fault found is =
-    let no_parts : (JumpsAreFound body → ⊥) → HasNoParts tokens = λ lost b e f parts.
-    lost (subst (λ (x : BodyView). JumpsAreFound x) (parts_are tokens body b refusal ending e f found parts).0 parts.jumps) in
-    match_map fault ⊥ ⊥ (λ _. ⊥) (λ _. ⊥) ⊤ ⊤ (JumpsAreFound body → ⊥) (HasNoParts tokens) (λ h. h) (λ _ h. h) (λ h. h) no_parts is
+pub refused_jump : (tokens : List Tok) (body : BodyView) (refusal : Option Refusal) (ending : EndingView) (fault : SyntaxFault) → Found tokens body refusal ending
+    → IfRefused fault (JumpsAreFound body → ⊥) → IfRefused fault (HasNoParts tokens)
+refused_jump tokens body refusal ending (Refused r) found lost =
+    λ b e f parts. lost (subst (λ (x : BodyView). JumpsAreFound x) (parts_are tokens body b refusal ending e f found parts).0 parts.jumps)
+refused_jump tokens body refusal ending NoMemory found lost = tt
 
 -- what a refused formula says
-pub refused_formula : (tokens : List Tok) (body : BodyView) (refusal : Option Refusal) (ending : EndingView) (numbered : List ℕ → ℕ) (fault : ReadFault) → Found tokens body refusal ending
-    → MatchFault fault ⊥ (λ _. ⊥) ⊤ (refusal ≡ None → SpellsNone (numbered_signs numbered ending.signs)) → MatchFault fault ⊥ (λ _. ⊥) ⊤ (HasNoParts tokens)
-refused_formula tokens body refusal ending numbered fault found is =
-    let no_parts : (refusal ≡ None → SpellsNone (numbered_signs numbered ending.signs)) → HasNoParts tokens = λ none b e f parts.
+pub refused_formula : (tokens : List Tok) (body : BodyView) (refusal : Option Refusal) (ending : EndingView) (numbered : List ℕ → ℕ) (fault : SyntaxFault) → Found tokens body refusal ending
+    → IfRefused fault (refusal ≡ None → SpellsNone (numbered_signs numbered ending.signs)) → IfRefused fault (HasNoParts tokens)
+refused_formula tokens body refusal ending numbered (Refused r) found none =
+    λ b e f parts.
     let p = parts_are tokens body b refusal ending e f found parts in
-    none p.2 (tree_map (numbered_atom numbered) f) (spells_mapped (numbered_atom numbered) (map sign_of ending.signs) f p.3) in
-    match_map fault ⊥ ⊥ (λ _. ⊥) (λ _. ⊥) ⊤ ⊤ (refusal ≡ None → SpellsNone (numbered_signs numbered ending.signs)) (HasNoParts tokens) (λ h. h) (λ _ h. h) (λ h. h) no_parts is
+    none p.2 (tree_map (numbered_atom numbered) f) (spells_mapped (numbered_atom numbered) (map sign_of ending.signs) f p.3)
+refused_formula tokens body refusal ending numbered NoMemory found none = tt
+
+-- the fault of a refused token, at its line
+pub refused_tokens : (tokens ts : List Tok) (refused : SyntaxFault) (fault : ReadFault) → ts ≡ tokens → IfRefused refused (HasNoParts ts) → IsSyntaxFault refused fault
+    → MatchFault fault ⊥ (λ _. ⊥) ⊤ (HasNoParts tokens)
+refused_tokens tokens ts refused fault e none is =
+    let no_parts : (r : Refusal) × (refused ≡ Refused r) → HasNoParts tokens = λ r. subst HasNoParts e (subst (λ (x : SyntaxFault). IfRefused x (HasNoParts ts)) r.1 none) in
+    match_map fault ⊥ ⊥ (λ _. ⊥) (λ _. ⊥) (refused ≡ NoMemory) ⊤ ((r : Refusal) × (refused ≡ Refused r)) (HasNoParts tokens) (λ h. h) (λ _ h. h) (λ _. tt) no_parts is
 
 -- what is read are the tokens' parts, and no others are
 pub parts_read : (tokens : List Tok) (body : BodyView) (refusal : Option Refusal) (ending : EndingView) (litmus : Litmus Listing) → Found tokens body refusal ending → JumpsAreFound body

@@ -1,10 +1,9 @@
 -- Labels by their names: a table of positions gives what the labels give.
-use Rattle.litmus_reader.proofs.Vocabulary.{◌≡◌, ℕ, zero, suc, ◌+◌, arith, length, length-append, get_or, Bool, true, false, cond, List, [], ◌∷◌, ◌++◌, fold, Option, Some, None, refl, sym, ap, ◌∙◌, append_assoc, option_or, option_map_or, find-append, ⊤, ◌&&◌}
-use Rattle.litmus_reader.proofs.Vocabulary.{is_some, option_map, unwrap_or, if◌then◌else◌, list_all, bytes_eq, Vec, nat_list_eq_equiv, append-nil, bytes_eq-Decides, CellView, BodyView, CodeLabel, ReadFault, labels_in, with_label, FindsAs, FindAllAs, label_in}
-use Rattle.litmus_reader.proofs.Vocabulary.{all_labels, cell_jump, are_found, JumpsAreFound, MatchFault, IsOfAToken}
+use Rattle.litmus_reader.proofs.Vocabulary.{◌≡◌, ℕ, zero, suc, ◌+◌, arith, length, length-append, get_or, Bool, true, false, cond, List, [], ◌∷◌, ◌++◌, fold, Option, Some, None, refl, sym, ap, ◌∙◌, append_assoc, option_or, option_map_or, find-append, ◌&&◌}
+use Rattle.litmus_reader.proofs.Vocabulary.{is_some, option_map, unwrap_or, if◌then◌else◌, list_all, bytes_eq, Vec, nat_list_eq_equiv, append-nil, bytes_eq-Decides, CellView, BodyView, CodeLabel, labels_in, with_label, FindsAs, FindAllAs, label_in}
+use Rattle.litmus_reader.proofs.Vocabulary.{all_labels, cell_jump, are_found, JumpsAreFound}
 use Rattle.std.specs.Map.{lookup}
 use Rattle.indexmap.specs.IndexMap.{insert_entry}
-use Rattle.litmus_reader.proofs.Faults.{match_map}
 
 abbrev named : List ℕ → CodeLabel → Bool
 named name l = bytes_eq l.name name
@@ -97,8 +96,5 @@ are_found_same found labels h t [] = refl
 are_found_same found labels h t (c ∷ cs) = λ i. option_map_or (λ l. is_some (h.1 t l i)) (cell_jump c) true && are_found_same found labels h (t + 1) cs i
 
 -- what a jump to no label says
-pub lost_is : (fault : ReadFault) (body : BodyView) (found : List (List CodeLabel)) → FindAllAs found (all_labels body) → list_all (are_found found 0) body.rows ≡ false → IsOfAToken fault
-    → MatchFault fault ⊥ (λ _. ⊥) ⊤ (JumpsAreFound body → ⊥)
-lost_is fault body found h lost is =
-    let none : JumpsAreFound body → ⊥ = λ ok. let e : false ≡ true = sym lost ∙ (λ i. list_all (λ row. are_found_same found (all_labels body) h 0 row i) body.rows) ∙ ok in cc in
-    match_map fault ⊥ ⊥ (λ _. ⊥) (λ _. ⊥) ⊥ ⊤ ⊤ (JumpsAreFound body → ⊥) (λ x. x) (λ _ x. x) (λ x. absurd x) (λ _. none) is
+pub lost_is : (body : BodyView) (found : List (List CodeLabel)) → FindAllAs found (all_labels body) → list_all (are_found found 0) body.rows ≡ false → JumpsAreFound body → ⊥
+lost_is body found h lost ok = let e : false ≡ true = sym lost ∙ (λ i. list_all (λ row. are_found_same found (all_labels body) h 0 row i) body.rows) ∙ ok in cc

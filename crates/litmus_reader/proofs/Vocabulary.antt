@@ -48,7 +48,7 @@ pub use Rattle.litmus_reader.specs.Faults.{IsOfAToken, MatchFault, of_lines}
 pub use Rattle.litmus_reader.specs.Fronts.{HasFront, IsNotUtf8, RefusesFront}
 pub use Rattle.litmus_reader.specs.Internal.Filling.{FindAllAs, FindsAs, byte_at, byte_in, entry_atoms, is_of_location, is_of_register, labels_in, last_said, listing_by, memory_from, no_names, noted}
 pub use Rattle.litmus_reader.specs.Internal.Filling.{registers_from, stored, texts, thread_by, thread_in, value_of, with_initial, with_label, with_put}
-pub use Rattle.litmus_reader.specs.Internal.Reading.{AreReadTokens, Found, HasNoParts, IsReadOf, IsSyntaxFault, ReadsOne, RefusesText, numbered_signs}
+pub use Rattle.litmus_reader.specs.Internal.Reading.{AreReadTokens, Found, HasNoParts, IfRefused, IsReadOf, IsSyntaxFault, ReadsOne, RefusesText, numbered_signs}
 pub use Rattle.litmus_reader.specs.Labels.{JumpsAreFound, all_labels, are_found, cell_jump, column, label_in, labels_behind, position_in, size, thread_labels}
 pub use Rattle.litmus_reader.specs.Meaning.{atom_of, code_in, condition_of, first_value, instruction_in, instruction_of, listing_of, memory_of, numbered_atom, observed_of, registers_of, sign_of}
 pub use Rattle.litmus_reader.specs.Names.{TextNames, all_registers, in_order, number_in, with_name}

@@ -31,6 +31,10 @@ pub record AreParts (tokens : List Tok) (body : BodyView) (ending : EndingView) 
   pub spells : Spells Sum formula (map sign_of ending.signs) []
   pub jumps : JumpsAreFound body
 
+-- the tokens have these parts, whatever they are
+abbrev pub HaveParts : List Tok → Type 0
+HaveParts tokens = (body : BodyView) × (ending : EndingView) × (formula : Tree (PlaceView × ℕ)) × AreParts tokens body ending formula
+
 -- What such tokens stand for: the names, the program, the condition, what is observed, and the labels.
 pub record Means (tokens : List Tok) (litmus : Litmus Listing) : Type 0 where
   pub body : BodyView

@@ -7,14 +7,11 @@ ghost use Rattle.litmus_reader.specs.Internal.Filling.{byte_in};
 ghost use Rattle.litmus_reader.specs.Meaning.{sign_of, numbered_atom};
 ghost use Rattle.litmus_reader.specs.Internal.Reading.{numbered_signs, ReadsFormula};
 
-use crate::fault::ReadFault;
-use crate::lines::fault_at;
 use crate::names::NameTable;
 use crate::program::atom;
 use conditions::{Formula, FormulaFault, Token};
-use litmus_syntax::{Part, Refusal, Sign, SignAt, Signs};
+use litmus_syntax::{Part, Refusal, Sign, SignAt, Signs, SyntaxFault};
 use std::alloc::{AllocError, Global};
-use text_tokens::Tokens;
 
 /// A sign of the condition, with its location's number.
 fn token(names: &NameTable, sign: Sign<'_>) -> Token
@@ -64,19 +61,18 @@ fn refusal_at(signs: &Signs<'_>, index: usize) -> Refusal {
 /// The formula that the signs spell. Where they spell none, the first token that cannot stand where it does is refused.
 pub(crate) fn read_formula(
     alloc: Global,
-    tokens: &Tokens,
     names: &NameTable,
     signs: &Signs<'_>,
-) -> Result<Formula, ReadFault>
+) -> Result<Formula, SyntaxFault>
     ensures { ReadsFormula signs.now.refusal (numbered_signs (byte_in names.now.locations) (map sign_at_view signs.now.signs.items)) result }
 {
     let numbered = numbered(alloc, names, signs.signs.as_slice())?;
     match conditions::read_formula(alloc, numbered.as_slice()) {
         Ok(formula) => match signs.refusal {
             None => Ok(formula),
-            Some(refusal) => Err(fault_at(tokens, refusal)),
+            Some(refusal) => Err(SyntaxFault::Refused(refusal)),
         },
-        Err(FormulaFault::Refused(index)) => Err(fault_at(tokens, refusal_at(signs, index))),
-        Err(FormulaFault::OutOfMemory) => Err(ReadFault::OutOfMemory),
+        Err(FormulaFault::Refused(index)) => Err(SyntaxFault::Refused(refusal_at(signs, index))),
+        Err(FormulaFault::OutOfMemory) => Err(SyntaxFault::OutOfMemory),
     }
 }

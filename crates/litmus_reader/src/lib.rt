@@ -28,5 +28,6 @@ pub use label::CodeLabel;
 pub use laws::{store_buffering_is_read, texts_name_few_locations};
 pub use litmus::Litmus;
 pub use names::{NameTable, location_name, register_name};
+pub use noted_names::names_of;
 pub use observed::Observed;
-pub use reader::{read_fenced, read_litmus};
+pub use reader::{read_fenced, read_litmus, refusal_of};

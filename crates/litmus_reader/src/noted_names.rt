@@ -136,7 +136,7 @@ fn note_all(
 }
 
 /// The names of a text: of its initial values, of its rows, behind `locations`, of its condition.
-pub(crate) fn names_of(
+pub fn names_of(
     alloc: Global,
     body: &Body<'_>,
     ending: &Ending<'_>,

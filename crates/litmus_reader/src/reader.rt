@@ -1,16 +1,16 @@
 //! Reading a litmus text.
-ghost use Rattle.std.specs.Prelude.{◌≡◌, ◌≤◌, ⊤, ℕ, List, length, IfOk, IfErr, OnOk, OnErr, IsErrOf, MatchResult};
+ghost use Rattle.std.specs.Prelude.{◌≡◌, ℕ, List, length, IfOk, IfErr, IfNone, IfSome, OnOk, IsErrOf, MatchResult};
 ghost use Rattle.std.specs.Str.{IsUtf8};
 ghost use Rattle.tso_program.specs.declared.listing.Listing.{Listing};
 ghost use Rattle.litmus_reader.specs.declared.litmus.Litmus.{Litmus as LitmusValue};
 ghost use Rattle.litmus_reader.specs.declared.fault.ReadFault.{ReadFault as Fault, TheVariants.OutOfMemory};
+ghost use Rattle.text_tokens.specs.Tokens.{Tok, toks};
 ghost use Rattle.litmus_syntax.specs.Views.{body_view, ending_view};
-ghost use Rattle.litmus_reader.specs.Faults.{MatchFault};
 ghost use Rattle.litmus_reader.specs.Fronts.{IsNotUtf8, RefusesFront};
 ghost use Rattle.litmus_reader.specs.Labels.{all_labels, JumpsAreFound};
 ghost use Rattle.litmus_reader.specs.Internal.Filling.{byte_in, byte_at, listing_by};
-ghost use Rattle.litmus_reader.specs.Texts.{IsLitmus, IsFencedLitmus, Refuses, RefusesFenced};
-ghost use Rattle.litmus_reader.specs.Internal.Reading.{Found, IsSyntaxFault, ReadsTokens, ReadsText};
+ghost use Rattle.litmus_reader.specs.Texts.{HaveParts, IsLitmus, IsFencedLitmus, Refuses, RefusesFenced};
+ghost use Rattle.litmus_reader.specs.Internal.Reading.{Found, IfRefused, IsSyntaxFault, ReadsParts, ReadsTokens, ReadsText};
 
 use crate::condition::read_formula;
 use crate::fault::ReadFault;
@@ -25,9 +25,9 @@ use crate::program::{fenced_program_of, listing_of, program_of};
 use conditions::Condition;
 use litmus_lines::{line_number, read_first_line, skip_lines};
 use litmus_syntax::{Body, Ending, Part, Refusal, SyntaxFault, read_body, read_ending};
-use std::alloc::Global;
+use std::alloc::{AllocError, Global};
 use std::str;
-use text_tokens::{Tokens, lex};
+use text_tokens::{Token, Tokens, lex};
 use tso_program::{FencedProgram, Items, Listing, Program};
 
 /// Whether the bytes are UTF-8; if not, the line of the first that isn't.
@@ -55,39 +55,36 @@ fn syntax_fault(tokens: &Tokens, fault: SyntaxFault) -> ReadFault
 /// order.
 fn jumping(
     alloc: Global,
-    tokens: &Tokens,
     names: &NameTable,
     body: &Body<'_>,
     labels: &[Items<CodeLabel>],
-) -> Result<Listing, ReadFault>
+) -> Result<Listing, SyntaxFault>
     requires { labels.now ≡ all_labels (body_view body.now) }
     ensures made { IfOk result (λ listing. listing ≡ listing_by (byte_in names.now.locations) byte_at (length names.now.locations) (body_view body.now)) }
     ensures found { OnOk result (JumpsAreFound (body_view body.now)) }
-    ensures lost { IfErr result (λ fault. MatchFault fault ⊥ (λ _. ⊥) ⊤ (JumpsAreFound (body_view body.now) → ⊥)) }
+    ensures lost { IfErr result (λ fault. IfRefused fault (JumpsAreFound (body_view body.now) → ⊥)) }
 {
     let targets = targets_of(alloc, labels)?;
     if let Some(left) = lost_jump(targets.as_slice(), body.rows.as_slice()) {
         let part = Part::Label;
-        return Err(fault_at(tokens, Refusal { part, left }));
+        return Err(SyntaxFault::Refused(Refusal { part, left }));
     }
     Ok(listing_of(alloc, names, targets.as_slice(), body)?)
 }
 
-/// What a body and an ending that were read from tokens stand for, in a text of the given name.
+/// What a body and an ending stand for, in a text of the given name, by all tokens of which they were read.
 fn litmus_of(
     alloc: Global,
     name: Items<u8>,
-    tokens: &Tokens,
     body: &Body<'_>,
     ending: &Ending<'_>,
-) -> Result<Litmus<Listing>, ReadFault>
-    requires { Found tokens.now (body_view body.now) ending.now.signs.refusal (ending_view ending.now) }
-    ensures { ReadsTokens name tokens.now result }
+) -> Result<Litmus<Listing>, SyntaxFault>
+    ensures { (tokens : List Tok) → Found tokens (body_view body.now) ending.now.signs.refusal (ending_view ending.now) → ReadsParts name tokens result }
 {
     let names = names_of(alloc, body, ending)?;
-    let formula = read_formula(alloc, tokens, &names, &ending.signs)?;
+    let formula = read_formula(alloc, &names, &ending.signs)?;
     let labels = all_labels(alloc, body)?;
-    let program = jumping(alloc, tokens, &names, body, labels.as_slice())?;
+    let program = jumping(alloc, &names, body, labels.as_slice())?;
     let observed = all_observed(alloc, &names, ending.observed.as_slice())?;
     Ok(Litmus {
         name,
@@ -104,6 +101,32 @@ fn litmus_of(
 
 /// What the tokens from `{` on stand for, in a text of the given name, whatever limits the program breaks. Locations have
 /// the number 255 from the 256th on, and so have positions of labels.
+fn read_parts(
+    alloc: Global,
+    name: Items<u8>,
+    tokens: &[Token],
+) -> Result<Litmus<Listing>, SyntaxFault>
+    ensures { ReadsParts name (toks tokens.now) result }
+{
+    let (body, rest) = read_body(alloc, tokens)?;
+    let ending = read_ending(alloc, rest, body.threads)?;
+    litmus_of(alloc, name, &body, &ending)
+}
+
+/// The first of the tokens from `{` on that can't stand where it does, as [`read_litmus`] judges it, and of a jump to a
+/// name that is no label of its thread the mnemonic. The program may break limits.
+pub fn refusal_of(alloc: Global, tokens: &[Token]) -> Result<Option<Refusal>, AllocError>
+    ensures none { IfOk result (λ refusal. IfNone refusal (HaveParts (toks tokens.now))) }
+    ensures some { IfOk result (λ refusal. IfSome refusal (λ _. HaveParts (toks tokens.now) → ⊥)) }
+{
+    match read_parts(alloc, Items::of(Vec::new(alloc)), tokens) {
+        Ok(_) => Ok(None),
+        Err(SyntaxFault::Refused(refusal)) => Ok(Some(refusal)),
+        Err(SyntaxFault::OutOfMemory) => Err(AllocError),
+    }
+}
+
+/// What the tokens from `{` on stand for, in a text of the given name. A fault has the line of the refused one.
 fn read_tokens(
     alloc: Global,
     name: Items<u8>,
@@ -111,12 +134,8 @@ fn read_tokens(
 ) -> Result<Litmus<Listing>, ReadFault>
     ensures { ReadsTokens name tokens.now result }
 {
-    let (body, rest) = match read_body(alloc, tokens.as_slice()) {
-        Ok(parts) => parts,
-        Err(fault) => return Err(syntax_fault(tokens, fault)),
-    };
-    match read_ending(alloc, rest, body.threads) {
-        Ok(ending) => litmus_of(alloc, name, tokens, &body, &ending),
+    match read_parts(alloc, name, tokens.as_slice()) {
+        Ok(litmus) => Ok(litmus),
         Err(fault) => Err(syntax_fault(tokens, fault)),
     }
 }

@@ -1,19 +1,17 @@
-//! Which rule of litmus texts a refused token or program breaks, and the places in texts.
+//! Which rule of litmus texts a refused token breaks, and the places in texts.
 //!
 //! Tables of words without semantics, and what finds the place to which they apply.
 //!
-//! Begin with `refusal_of`, `spot_of` and `said_of`, in this order: which token is refused, what stands there, and what is
-//! said of it; `row_fault` and `limit_text` judge what no single token shows. Free to change: every word; its functions have
-//! no clauses, and `tests/data/messages.tsv` shows what is said. Relied on: nothing but that each call ends and is safe.
+//! Begin with `spot_of`, `said_of` and `row_fault`: what stands where a token is refused, what is said of it, and what no
+//! single token shows. Free to change: every word; its functions have no clauses, and `tests/data/messages.tsv` shows what
+//! is said. Relied on: nothing but that each call ends and is safe.
 #![tactic(auto)]
 
 mod cell_rules;
 mod condition_rules;
 mod forms;
-mod limits;
 mod locks;
 mod pointer;
-mod refusals;
 mod rows;
 mod rule;
 mod rules;
@@ -22,11 +20,9 @@ mod source;
 mod text_end;
 mod tokens;
 
-pub use limits::limit_text;
 pub use pointer::push_pointed_line;
-pub use refusals::{instruction_left, refusal_of};
 pub use rows::{Cells, RowFault, row_fault};
 pub use rules::{COMMENT, OPEN_COMMENT, said_of};
 pub use shown::{push_shown_word, shown_word};
-pub use source::{Position, Source, bytes_from, line_of, line_start};
-pub use tokens::{Spot, begins_foreign_comment, open_comment, spot_of, word_at};
+pub use source::{Position, Source, line_of, line_start};
+pub use tokens::{Spot, begins_foreign_comment, spot_of, word_at};

@@ -1,6 +1,7 @@
 //! The line of a text with a `^` below a word of it, as a terminal shows it.
 
-use crate::source::{bytes_from, line_of};
+use crate::source::line_of;
+use litmus_lines::{between, bytes_from, line_begin};
 use std::alloc::AllocError;
 
 /// The most bytes of a line that is shown.
@@ -15,9 +16,7 @@ pub fn push_pointed_line(
 ) -> Result<(), AllocError> {
     let start = line_begin(text, offset);
     let line = line_of(bytes_from(text, start));
-    let before = line
-        .split_at(offset.saturating_sub(start).min(line.len()))
-        .0;
+    let before = between(line, 0, offset.saturating_sub(start));
     if line.len() <= LINE_LIMIT {
         push_shown(pointed, line)?;
         pointed.push('\n')?;
@@ -25,17 +24,6 @@ pub fn push_pointed_line(
         pointed.push_str("^\n")?;
     }
     Ok(())
-}
-
-/// Where the line begins in which an offset lies.
-fn line_begin(text: &[u8], offset: usize) -> usize {
-    let mut start = 0;
-    for (place, byte) in text.iter().take(offset).enumerate() {
-        if *byte == b'\n' {
-            start = place.saturating_add(1);
-        }
-    }
-    start
 }
 
 /// Whether a byte is shown as itself; a tab is shown as a space.

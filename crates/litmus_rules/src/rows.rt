@@ -3,8 +3,9 @@
 use crate::cell_rules::MNEMONICS;
 use crate::text_end::is_mark;
 use crate::tokens::Spot;
+use litmus_lines::PlacedTokens;
 use litmus_syntax::Part;
-use text_tokens::{Mark, Token, Tokens};
+use text_tokens::{Mark, Token};
 
 /// The words and the sign with which begins what follows the rows.
 const AFTER_ROWS: &[&str] = &["exists", "forall", "locations", "~"];
@@ -28,10 +29,10 @@ pub enum RowFault {
 }
 
 /// What is wrong with the row in which a refused token stands, where so many tokens are left.
-pub fn row_fault(tokens: &Tokens, left: usize, spot: &Spot<'_>) -> Option<RowFault> {
+pub fn row_fault(tokens: &PlacedTokens<'_>, left: usize, spot: &Spot<'_>) -> Option<RowFault> {
     let header_line = tokens.line(header_at(tokens.as_slice()));
+    let index = tokens.index(left);
     let tokens = tokens.as_slice();
-    let index = tokens.len().saturating_sub(left);
     let cells = cells_of(tokens, index);
     match spot.part {
         Part::Row => Some(RowFault::Cells(cells, header_line)),

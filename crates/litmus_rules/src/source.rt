@@ -1,5 +1,6 @@
 //! Texts, and the places in them.
 
+use litmus_lines::{between, bytes_from};
 use text_tokens::is_white_space;
 
 /// A text with the name of its file, and with the number of its first line.
@@ -33,8 +34,7 @@ impl<'a> Source<'a> {
 
     /// Where the byte at an offset stands.
     pub fn position(&self, offset: usize) -> Position {
-        let before = self.text.split_at(offset.min(self.text.len())).0;
-        position_after(before, self.first_line)
+        position_after(between(self.text, 0, offset), self.first_line)
     }
 
     /// The bytes from an offset on, up to white space.
@@ -68,11 +68,6 @@ fn position_after(before: &[u8], first_line: usize) -> Position {
         }
     }
     Position { line, column }
-}
-
-/// The bytes from an offset on.
-pub fn bytes_from(text: &[u8], offset: usize) -> &[u8] {
-    text.split_at(offset.min(text.len())).1
 }
 
 /// The bytes up to white space.

@@ -2,13 +2,11 @@
 
 use crate::forms::{begins_formula, twin_kind};
 use crate::locks::is_idle_lock;
-use crate::source::{bytes_from, continues_character, line_of};
+use crate::source::continues_character;
 use crate::text_end::{end_kind, is_mark};
+use litmus_lines::{PlacedTokens, bytes_from};
 use litmus_syntax::{Part, Refusal};
-use text_tokens::{
-    Bad, Mark, Token, after_space, are_digits, digits_len, is_white_space, is_word_byte,
-    line_spaces_len,
-};
+use text_tokens::{Bad, Mark, Token, are_digits, is_word_byte, line_spaces_len};
 
 /// A token that can't stand where it does.
 #[derive(Clone, Copy)]
@@ -28,23 +26,20 @@ pub struct Spot<'t> {
     pub line_end: Option<usize>,
 }
 
-/// The refused one of the tokens of a text, which begins at an offset of the whole one.
-pub fn spot_of<'t>(text: &'t [u8], tokens: &[Token], refusal: Refusal, offset: usize) -> Spot<'t> {
-    let index = tokens.len().saturating_sub(refusal.left);
-    let rest = from_token(text, tokens, index);
+/// The refused one of the tokens of a text.
+pub fn spot_of<'t>(tokens: &PlacedTokens<'t>, refusal: Refusal) -> Spot<'t> {
+    let index = tokens.index(refusal.left);
+    let rest = tokens.rest(index);
     let word = word_at(rest);
     let shown = two_words(rest, word);
     Spot {
         part: refusal.part,
-        offset: offset.saturating_add(text.len().saturating_sub(rest.len())),
+        offset: tokens.offset(index),
         word,
         shown,
-        before: kind_before(text, tokens, index),
-        kind: kind_at(tokens, refusal, rest, shown),
-        line_end: match line_end_before(text, tokens, index) {
-            Some(end) => Some(offset.saturating_add(end)),
-            None => None,
-        },
+        before: kind_before(tokens, index),
+        kind: kind_at(tokens.as_slice(), refusal, rest, shown),
+        line_end: line_end_before(tokens, index),
     }
 }
 
@@ -95,14 +90,10 @@ pub fn begins_foreign_comment(text: &[u8]) -> bool {
 }
 
 /// Where the token before the one with this index ends, if the line ends between them.
-fn line_end_before(text: &[u8], tokens: &[Token], index: usize) -> Option<usize> {
-    let before = from_token(text, tokens, index.saturating_sub(1));
-    let len = token_before(text, tokens, index).len();
-    let after = bytes_from(before, len);
-    let next = from_token(text, tokens, index);
-    let space = after.split_at(after.len().saturating_sub(next.len())).0;
-    if space.iter().any(|byte| *byte == b'\n') {
-        Some(text.len().saturating_sub(after.len()))
+fn line_end_before(tokens: &PlacedTokens<'_>, index: usize) -> Option<usize> {
+    let space = tokens.space_before(index);
+    if space.contains(&b'\n') {
+        Some(tokens.offset(index).saturating_sub(space.len()))
     } else {
         None
     }
@@ -132,96 +123,19 @@ fn two_words<'t>(text: &'t [u8], word: &'t [u8]) -> &'t [u8] {
 }
 
 /// The bytes of the token before the one with this index, or its kind if it is a `~` with which a condition begins.
-fn kind_before<'t>(text: &'t [u8], tokens: &[Token], index: usize) -> &'t [u8] {
-    let before = token_before(text, tokens, index);
-    if before.starts_with(b"~") && ends_rows(token_before(text, tokens, index.saturating_sub(1))) {
+fn kind_before<'t>(tokens: &PlacedTokens<'t>, index: usize) -> &'t [u8] {
+    let before = index.saturating_sub(1);
+    let word = tokens.bytes(before);
+    if word.starts_with(b"~") && ends_rows(tokens.bytes(before.saturating_sub(1))) {
         b"<first_tilde>"
     } else {
-        before
+        word
     }
 }
 
 /// Whether a condition begins after this token: one that ends a row, or the list of locations.
 fn ends_rows(token: &[u8]) -> bool {
     token.starts_with(b";") || token.starts_with(b"]")
-}
-
-/// The bytes of the token before the one with this index.
-fn token_before<'t>(text: &'t [u8], tokens: &[Token], index: usize) -> &'t [u8] {
-    let before = index.saturating_sub(1);
-    let rest = from_token(text, tokens, before);
-    match tokens.get(before) {
-        Some(token) => rest.split_at(token_len(token, rest).min(rest.len())).0,
-        None => b"",
-    }
-}
-
-/// The text from the token with this index on.
-fn from_token<'t>(text: &'t [u8], tokens: &[Token], index: usize) -> &'t [u8] {
-    let mut rest = without_space(text);
-    for token in tokens.iter().take(index) {
-        rest = without_space(bytes_from(rest, token_len(token, rest)));
-    }
-    rest
-}
-
-/// How many bytes the token takes with which a text begins.
-fn token_len(token: &Token, text: &[u8]) -> usize {
-    match token {
-        Token::Word(word) => word.len(),
-        Token::Number(_) => digits_len(text),
-        Token::Mark(mark) => mark.text().len(),
-        Token::Bad(_) => 0,
-    }
-}
-
-/// The text after the white space and the comments at its front, up to a comment that does not end.
-fn without_space(text: &[u8]) -> &[u8] {
-    match after_space(text) {
-        Some(rest) => rest,
-        None => {
-            let rest = bytes_from(text, ended_len(text));
-            let len = rest
-                .iter()
-                .take_while(|byte| is_white_space(**byte))
-                .count();
-            bytes_from(rest, len)
-        }
-    }
-}
-
-/// Where the last comment ends of a text that is white space and comments, but for one that does not end.
-fn ended_len(text: &[u8]) -> usize {
-    let mut depth = 0usize;
-    let mut before = b' ';
-    let mut len = 0usize;
-    for (offset, byte) in text.iter().enumerate() {
-        let pair = (before, *byte);
-        before = b' ';
-        if pair == (b'(', b'*') {
-            depth = depth.saturating_add(1);
-        } else if pair == (b'*', b')') {
-            depth = depth.saturating_sub(1);
-            if depth == 0 {
-                len = offset.saturating_add(1);
-            }
-        } else {
-            before = *byte;
-        }
-    }
-    len
-}
-
-/// The text from the comment on that does not end, if one of the lines has it before the initial values.
-pub fn open_comment(lines: &[u8]) -> Option<&[u8]> {
-    let mut rest = lines;
-    for _ in 0..lines.len() {
-        match after_space(rest) {
-            Some(text) => rest = bytes_from(text, line_of(text).len().saturating_add(1)),
-            None => return Some(without_space(rest)),
-        }
-    }
-    None
 }
 
 /// The word with which a text begins: letters and digits, signs of comparison or of a connective, or one character.

@@ -1,38 +1,29 @@
 -- Store buffering (Sewell et al., CACM 2010) with an MFENCE in each of its gaps, as an example of canonical text.
 use Rattle.std.specs.Prelude.{◌≡◌, ℕ, Bool, true, false, nat_le, List, [], ◌∷◌, ◌++◌, codes}
 use Rattle.tso_program.specs.declared.instruction.Reg.TheVariants.{Eax}
-use Rattle.tso_program.specs.declared.instruction.Instr.{Instr, TheVariants.StoreImm, TheVariants.Load}
-use Rattle.tso_program.specs.declared.listing.Thread.{Thread}
 use Rattle.tso_program.specs.declared.listing.Listing.{Listing}
 use Rattle.tso_program.specs.Fences.{fence}
 use Rattle.tso_program.specs.declared.atom.Atom.TheVariants as atom
 use Rattle.conditions.specs.declared.condition.Quantifier.TheVariants.{Exists}
 use Rattle.tso_program.specs.Tree as tree
+use Rattle.tso_machine.specs.Examples.{store_buffering}
 use Rattle.litmus_reader.specs.declared.litmus.Litmus.{Litmus}
 use Rattle.litmus_reader.specs.Names.{TextNames}
 use Rattle.litmus_text.specs.Canonical.{canonical_text}
-
--- a thread whose registers are 0 at first
-abbrev pub thread : List Instr → Thread
-thread code = record { code = code; registers = 0 ∷ 0 ∷ 0 ∷ 0 ∷ 0 ∷ 0 ∷ [] }
-
--- each thread stores to one location and loads the other
-abbrev pub program : Listing
-program = record { threads = thread (StoreImm 0 1 ∷ Load Eax 1 ∷ []) ∷ thread (StoreImm 1 1 ∷ Load Eax 0 ∷ []) ∷ []; memory = 0 ∷ 0 ∷ [] }
 
 -- EAX alone is named
 abbrev pub eax : List Bool
 eax = true ∷ false ∷ false ∷ false ∷ false ∷ false ∷ []
 
-abbrev pub names : TextNames
-names = record { locations = codes "x" ∷ codes "y" ∷ []; registers = eax ∷ eax ∷ [] }
+abbrev pub eax_names : TextNames
+eax_names = record { locations = codes "x" ∷ codes "y" ∷ []; registers = eax ∷ eax ∷ [] }
 
 -- with an MFENCE in each gap
 abbrev pub fenced : Litmus Listing
 fenced = record {
   name = codes "SB";
-  program = fence (λ t k. nat_le 1 k) program;
-  names = names;
+  program = fence (λ t k. nat_le 1 k) store_buffering;
+  names = eax_names;
   condition = record { quantifier = Exists; formula = tree.And (tree.Atom (atom.Register 0 Eax 0)) (tree.Atom (atom.Register 1 Eax 0)) };
   observed = [];
   labels = [] ∷ [] ∷ [];

@@ -2,7 +2,8 @@
 
 use crate::message::Message;
 use cert_forest::{CertFault, CheckFault};
-use litmus_rules::{Source, bytes_from, line_of};
+use litmus_lines::bytes_from;
+use litmus_rules::{Source, line_of};
 use std::alloc::{AllocError, Global};
 
 /// What is said of a carriage return.

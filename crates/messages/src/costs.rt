@@ -3,8 +3,9 @@
 use crate::message::Message;
 use cost_text::CostTextFault;
 use gap_sets::CostFault;
+use litmus_lines::bytes_from;
 use litmus_reader::read_litmus;
-use litmus_rules::{Source, bytes_from, line_start};
+use litmus_rules::{Source, line_start};
 use std::alloc::{AllocError, Global};
 use text_tokens::{are_digits, line_spaces_len, value_up_to};
 use tso_program::Program;

@@ -1,7 +1,8 @@
 //! What arguments with `--fences` that are no command of `fencer` may mean.
 
 use crate::hints::is_litmus;
-use litmus_rules::{bytes_from, shown_word};
+use litmus_lines::bytes_from;
+use litmus_rules::shown_word;
 use std::alloc::{AllocError, Global};
 
 /// The option as it stands alone, and with its value.

@@ -18,6 +18,7 @@ mod labels;
 mod litmus;
 mod message;
 mod misuses;
+mod programs;
 mod rows;
 
 pub use certificates::{certificate_message, check_message};
@@ -27,6 +28,6 @@ pub use files::{unread_message, unwritten_message};
 pub use hints::command_hint;
 pub use labels::{replay_message, run_message};
 pub use litmus::litmus_message;
-pub use litmus_rules::{Source, bytes_from, shown_word, word_at};
+pub use litmus_rules::{Source, shown_word, word_at};
 pub use message::{Message, STDIN, file_or_input};
 pub use misuses::misuse_line;

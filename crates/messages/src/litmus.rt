@@ -1,19 +1,18 @@
 //! Litmus texts that can't be read.
 
 use crate::message::Message;
+use crate::programs::program_message;
 use crate::rows::row_message;
-use litmus_lines::{line_number, read_first_line, skip_lines};
-use litmus_reader::ReadFault;
+use litmus_lines::{PlacedTokens, bytes_from, open_comment, read_first_line, skip_lines};
+use litmus_reader::{ReadFault, refusal_of};
 use litmus_rules::{
-    COMMENT, OPEN_COMMENT, Source, begins_foreign_comment, bytes_from, instruction_left,
-    limit_text, line_of, line_start, open_comment, refusal_of, row_fault, said_of, shown_word,
+    COMMENT, OPEN_COMMENT, Source, begins_foreign_comment, line_of, line_start, row_fault, said_of,
     spot_of, word_at,
 };
-use litmus_syntax::{Part, Refusal, read_body};
+use litmus_syntax::{Part, Refusal};
 use std::alloc::{AllocError, Global};
 use std::str;
-use text_tokens::{Token, Tokens, lex, line_spaces_len};
-use tso_program::ProgramFault;
+use text_tokens::{Mark, Token, begins, line_spaces_len};
 
 /// What is said of a first line that begins so.
 const FIRST_LINES: &[(&str, &str)] = &[
@@ -115,7 +114,7 @@ fn lines_message(
     fault: ReadFault,
 ) -> Result<Message, AllocError> {
     match skip_lines(source.text, lines) {
-        Ok(rest) => tokens_message(alloc, source, rest, fault),
+        Ok(_) => tokens_message(alloc, source, fault),
         Err(_) => skipped_message(alloc, source, lines, fault),
     }
 }
@@ -159,17 +158,30 @@ fn skipped_message(
 fn tokens_message(
     alloc: Global,
     source: Source<'_>,
-    rest: &[u8],
     fault: ReadFault,
 ) -> Result<Message, AllocError> {
-    if let ReadFault::Program(line, inner) = fault {
-        return program_message(alloc, source, rest, line, inner);
+    let tokens = PlacedTokens::of(alloc, source.text)?;
+    match fault {
+        ReadFault::Program(line, inner) => program_message(alloc, source, &tokens, line, inner),
+        _ => match refusal_of(alloc, tokens.as_slice()) {
+            Ok(Some(refusal)) => refused_message(alloc, source, &tokens, refusal),
+            Ok(None) | Err(_) => Message::of_file(alloc, source.name, "out of memory"),
+        },
     }
-    let offset = source.text.len().saturating_sub(rest.len());
-    let tokens = lex(alloc, rest, line_number(source.text, offset))?;
-    match refusal_of(alloc, tokens.as_slice()) {
-        Some(refusal) => refused_message(alloc, source, rest, &tokens, refusal),
-        None => Message::of_file(alloc, source.name, "out of memory"),
+}
+
+/// The refusal of the token of which something is said: of a jump to a name that is no label that name, which comes after
+/// the mnemonic. A label has `:` after it.
+fn said_refusal(tokens: &[Token], refusal: Refusal) -> Refusal {
+    let index = tokens.len().saturating_sub(refusal.left);
+    let next = index.saturating_add(1).min(tokens.len());
+    let (_, after) = tokens.split_at(next);
+    match refusal.part {
+        Part::Label if !begins(after, Mark::Colon) => Refusal {
+            part: Part::Label,
+            left: refusal.left.saturating_sub(1),
+        },
+        _ => refusal,
     }
 }
 
@@ -177,64 +189,13 @@ fn tokens_message(
 fn refused_message(
     alloc: Global,
     source: Source<'_>,
-    rest: &[u8],
-    tokens: &Tokens,
+    tokens: &PlacedTokens<'_>,
     refusal: Refusal,
 ) -> Result<Message, AllocError> {
-    let offset = source.text.len().saturating_sub(rest.len());
-    let spot = spot_of(rest, tokens.as_slice(), refusal, offset);
+    let refusal = said_refusal(tokens.as_slice(), refusal);
+    let spot = spot_of(tokens, refusal);
     match row_fault(tokens, refusal.left, &spot) {
         Some(fault) => row_message(alloc, source, &spot, fault),
         None => Message::at_word(alloc, source, spot.offset, spot.shown, said_of(&spot)),
-    }
-}
-
-/// What is said of a program that breaks a limit, with the line of its header row.
-fn program_message(
-    alloc: Global,
-    source: Source<'_>,
-    rest: &[u8],
-    line: u32,
-    fault: ProgramFault,
-) -> Result<Message, AllocError> {
-    let tokens = lex(alloc, rest, 1)?;
-    if let ProgramFault::BackwardJump(thread, instruction) = fault {
-        if let Some(left) = jump_left(alloc, tokens.as_slice(), thread, instruction) {
-            return backward_message(alloc, source, tokens.as_slice(), rest, left);
-        }
-    }
-    let text = limit_text(alloc, tokens.as_slice(), fault)?;
-    Message::at_line(alloc, source, line as usize, text.as_str())
-}
-
-/// What is said of a jump back, where so many tokens are left at its mnemonic.
-fn backward_message(
-    alloc: Global,
-    source: Source<'_>,
-    tokens: &[Token],
-    rest: &[u8],
-    left: usize,
-) -> Result<Message, AllocError> {
-    let offset = source.text.len().saturating_sub(rest.len());
-    let part = Part::Label;
-    let jump = spot_of(rest, tokens, Refusal { part, left }, offset);
-    let left = left.saturating_sub(1);
-    let label = spot_of(rest, tokens, Refusal { part, left }, offset);
-    let name = shown_word(alloc, label.word)?;
-    let said = format!(in alloc;
-        "{name} jumps back; loops are not read, write a fixed number of tries (docs/guide.md)"
-    )?;
-    Message::at_word(alloc, source, jump.offset, jump.word, said.as_str())
-}
-
-/// The tokens left at the mnemonic of a jump.
-fn jump_left(alloc: Global, tokens: &[Token], thread: u8, instruction: u8) -> Option<usize> {
-    match read_body(alloc, tokens) {
-        Ok((body, _)) => instruction_left(
-            body.rows.as_slice(),
-            usize::from(thread),
-            usize::from(instruction),
-        ),
-        Err(_) => None,
     }
 }

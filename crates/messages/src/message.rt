@@ -1,9 +1,8 @@
 //! Messages.
 
-use litmus_rules::{Source, push_pointed_line, push_shown_word, spot_of};
-use litmus_syntax::{Part, Refusal};
+use litmus_lines::PlacedTokens;
+use litmus_rules::{Source, push_pointed_line, push_shown_word, word_at};
 use std::alloc::{AllocError, Global};
-use text_tokens::Token;
 
 /// The name of standard input.
 pub const STDIN: &str = "<stdin>";
@@ -75,22 +74,17 @@ impl Message {
         Ok(message)
     }
 
-    /// What is said about a token of a part of the text, of whose tokens so many are left there, this one included.
+    /// What is said about the token of a text where so many of its tokens are left, this one included.
     pub fn at_token(
         alloc: Global,
         source: Source<'_>,
-        part: &[u8],
-        tokens: &[Token],
+        tokens: &PlacedTokens<'_>,
         left: usize,
         said: &str,
     ) -> Result<Message, AllocError> {
-        let offset = source.text.len().saturating_sub(part.len());
-        let refusal = Refusal {
-            part: Part::Instruction,
-            left,
-        };
-        let spot = spot_of(part, tokens, refusal, offset);
-        Message::at_word(alloc, source, spot.offset, spot.word, said)
+        let index = tokens.index(left);
+        let word = word_at(tokens.rest(index));
+        Message::at_word(alloc, source, tokens.offset(index), word, said)
     }
 
     /// `FILE:LINE:COLUMN: TEXT`, without what is not known.

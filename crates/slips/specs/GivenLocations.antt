@@ -38,12 +38,12 @@ abbrev pub is_location : List ℕ → Place → Bool
 is_location location (place.Location x) = bytes_eq x.now location
 is_location location (place.Register t r) = false
 
-abbrev pub has_value : List ℕ → List Entry → Bool
-has_value location entries = list_any (λ entry. is_location location entry.place) entries
+abbrev pub has_entry : List ℕ → List Entry → Bool
+has_entry location entries = list_any (λ entry. is_location location entry.place) entries
 
 -- whether an initial value of the text or an instruction gives the location a value
 abbrev pub is_given : Body → List ℕ → Bool
-is_given body location = has_value location body.entries.items || rows_store location body.rows.items
+is_given body location = has_entry location body.entries.items || rows_store location body.rows.items
 
 -- whether the instruction loads a location to which nothing gives a value
 abbrev pub loads_unwritten : Body → Option Code → Bool

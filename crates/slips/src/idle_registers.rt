@@ -55,12 +55,12 @@ fn compared_by(cell: &Cell<'_>) -> Option<(Reg, Option<Reg>)> {
 
 /// Whether the text gives the register an initial value, or an instruction of its thread writes to it.
 fn is_given(body: &Body<'_>, thread: usize, register: Reg) -> bool {
-    has_value(body.entries.as_slice(), thread, register)
+    has_entry(body.entries.as_slice(), thread, register)
         || is_written(body.rows.as_slice(), thread, register)
 }
 
 /// Whether one of the initial values is the register's.
-fn has_value(entries: &[Entry<'_>], thread: usize, register: Reg) -> bool {
+fn has_entry(entries: &[Entry<'_>], thread: usize, register: Reg) -> bool {
     for entry in entries {
         if is_place_of(entry.place, thread, register) {
             return true;

@@ -1,7 +1,8 @@
 //! Locations whose name stands once in a text and is close to another one, as one that is misspelt.
 
+use litmus_lines::bytes_from;
 use litmus_reader::{NameTable, location_name};
-use messages::{Message, Source, bytes_from, shown_word, word_at};
+use messages::{Message, Source, shown_word, word_at};
 use std::alloc::{AllocError, Global};
 use text_tokens::is_word_byte;
 

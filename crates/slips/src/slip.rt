@@ -5,12 +5,11 @@ use crate::idle_names::idle_name_of;
 use crate::idle_registers::idle_register;
 use crate::near_names::near_name_of;
 use crate::unwritten_locations::unwritten_location;
-use litmus_lines::{read_first_line, skip_lines};
-use litmus_reader::{Litmus, read_litmus};
+use litmus_lines::PlacedTokens;
+use litmus_reader::{Litmus, NameTable, read_litmus};
 use litmus_syntax::{Body, read_body};
 use messages::{Message, Source};
 use std::alloc::{AllocError, Global};
-use text_tokens::{Token, lex};
 use tso_program::Program;
 
 /// What a slip is.
@@ -26,13 +25,6 @@ pub enum SlipKind {
     LoneName,
     /// A location is read, and nothing writes it.
     UnwrittenLocation,
-}
-
-/// Which slips are looked for in instructions.
-#[derive(Clone, Copy)]
-enum Sought {
-    JumpsAndRegisters,
-    Locations,
 }
 
 /// What an author may not have meant, and what is said of it.
@@ -75,71 +67,57 @@ fn litmus_slip(
 ) -> Result<Option<Slip>, AllocError> {
     if condition_counts {
         if let Some(message) = idle_name_of(alloc, source.name, litmus)? {
-            return Ok(slip_with(SlipKind::UnusedName, Some(message)));
+            let kind = SlipKind::UnusedName;
+            return Ok(Some(Slip { kind, message }));
         }
     }
-    program_slip(alloc, source, litmus)
+    program_slip(alloc, source, &litmus.names)
 }
 
-/// A slip of which this is said, if anything is.
-fn slip_with(kind: SlipKind, message: Option<Message>) -> Option<Slip> {
-    match message {
-        Some(message) => Some(Slip { kind, message }),
-        None => None,
-    }
-}
-
-/// The first slip in the program, of which the condition is no part.
+/// The first slip in the program, of which the condition is no part, by the names of the text.
 fn program_slip(
     alloc: Global,
     source: Source<'_>,
-    litmus: &Litmus<Program>,
+    names: &NameTable,
 ) -> Result<Option<Slip>, AllocError> {
-    match code_slip(alloc, source, Sought::JumpsAndRegisters)? {
-        Some(slip) => Ok(Some(slip)),
-        None => match near_name_of(alloc, source, &litmus.names)? {
-            Some(message) => Ok(slip_with(SlipKind::LoneName, Some(message))),
-            None => code_slip(alloc, source, Sought::Locations),
-        },
+    let tokens = PlacedTokens::of(alloc, source.text)?;
+    match read_body(alloc, tokens.as_slice()) {
+        Ok((body, _)) => body_slip(alloc, source, names, &tokens, &body),
+        Err(_) => Ok(None),
     }
 }
 
-/// The first slip of this kind in the instructions.
-fn code_slip(
+/// The first slip in the program of a text with these names, which was read of these tokens.
+fn body_slip(
     alloc: Global,
     source: Source<'_>,
-    sought: Sought,
+    names: &NameTable,
+    tokens: &PlacedTokens<'_>,
+    body: &Body<'_>,
 ) -> Result<Option<Slip>, AllocError> {
-    let Some(rest) = rest_of(source.text) else {
-        return Ok(None);
-    };
-    let tokens = lex(alloc, rest, 1)?;
-    let tokens = tokens.as_slice();
-    match remark_of(alloc, tokens, sought) {
-        Some(Remark { kind, left, said }) => {
-            let message = Message::at_token(alloc, source, rest, tokens, left, said)?;
-            Ok(Some(Slip { kind, message }))
-        }
+    if let Some(remark) = idle_code(body) {
+        return remark_slip(alloc, source, tokens, remark);
+    }
+    if let Some(message) = near_name_of(alloc, source, names)? {
+        let kind = SlipKind::LoneName;
+        return Ok(Some(Slip { kind, message }));
+    }
+    match unwritten_location(body) {
+        Some(remark) => remark_slip(alloc, source, tokens, remark),
         None => Ok(None),
     }
 }
 
-/// The text from its initial values on.
-fn rest_of(text: &[u8]) -> Option<&[u8]> {
-    match read_first_line(text) {
-        Ok((_, lines)) => skip_lines(text, lines).ok(),
-        Err(_) => None,
-    }
-}
-
-fn remark_of(alloc: Global, tokens: &[Token], sought: Sought) -> Option<Remark> {
-    match read_body(alloc, tokens) {
-        Ok((body, _)) => match sought {
-            Sought::JumpsAndRegisters => idle_code(&body),
-            Sought::Locations => unwritten_location(&body),
-        },
-        Err(_) => None,
-    }
+/// The slip of which this is said.
+fn remark_slip(
+    alloc: Global,
+    source: Source<'_>,
+    tokens: &PlacedTokens<'_>,
+    remark: Remark,
+) -> Result<Option<Slip>, AllocError> {
+    let Remark { kind, left, said } = remark;
+    let message = Message::at_token(alloc, source, tokens, left, said)?;
+    Ok(Some(Slip { kind, message }))
 }
 
 fn idle_code(body: &Body<'_>) -> Option<Remark> {

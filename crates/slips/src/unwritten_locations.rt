@@ -1,7 +1,7 @@
 //! Locations that are read, and to which nothing gives a value.
 
 ghost use Rattle.std.specs.Prelude.{◌≡◌, is_some};
-ghost use Rattle.slips.specs.GivenLocations.{stores_to, row_stores, rows_store, is_location, has_value, is_given, loads_unwritten};
+ghost use Rattle.slips.specs.GivenLocations.{stores_to, row_stores, rows_store, is_location, has_entry, is_given, loads_unwritten};
 
 use crate::slip::{Remark, SlipKind};
 use litmus_syntax::{Body, Cell, Code, Entry, Place};
@@ -53,12 +53,12 @@ fn unwritten_operand(body: &Body<'_>, cell: &Cell<'_>) -> Option<Remark>
 fn is_given(body: &Body<'_>, location: &[u8]) -> bool
     ensures { result ≡ is_given body.now location.now }
 {
-    has_value(body.entries.as_slice(), location) || rows_store(body.rows.as_slice(), location)
+    has_entry(body.entries.as_slice(), location) || rows_store(body.rows.as_slice(), location)
 }
 
 /// Whether one of the initial values is the location's.
-fn has_value(entries: &[Entry<'_>], location: &[u8]) -> bool
-    ensures { result ≡ has_value location.now entries.now }
+fn has_entry(entries: &[Entry<'_>], location: &[u8]) -> bool
+    ensures { result ≡ has_entry location.now entries.now }
 {
     entries
         .iter()

@@ -25,6 +25,13 @@ use Rattle.litmus_reader.specs.Meaning.{sign_of, numbered_atom, condition_of, ob
 use Rattle.litmus_reader.specs.Internal.Filling.{byte_in, byte_at, listing_by}
 use Rattle.litmus_reader.specs.Texts.{AreParts, StandsForNothing}
 
+-- ---- tokens that are refused
+
+-- what a refusal says, where it is one: nothing where memory ran out
+abbrev pub IfRefused : SyntaxFault → Type 0 → Type 0
+IfRefused (Refused refusal) Says = Says
+IfRefused NoMemory Says = ⊤
+
 -- ---- the condition
 
 -- the signs with the locations' numbers
@@ -32,9 +39,9 @@ abbrev pub numbered_signs : (List ℕ → ℕ) → List SignView → List (Sign 
 numbered_signs numbered signs = map (sign_map (numbered_atom numbered)) (map sign_of signs)
 
 -- Where the reading of signs wasn't refused, the formula that they spell; they spell none where a token is refused.
-abbrev pub ReadsFormula : Option Refusal → List (Sign Atom) → Result (Tree Atom) ReadFault → Type 0
+abbrev pub ReadsFormula : Option Refusal → List (Sign Atom) → Result (Tree Atom) SyntaxFault → Type 0
 ReadsFormula refusal signs (Ok f) = (refusal ≡ None) × SpellsOnly signs f
-ReadsFormula refusal signs (Err fault) = MatchFault fault ⊥ (λ _. ⊥) ⊤ (refusal ≡ None → SpellsNone signs)
+ReadsFormula refusal signs (Err fault) = IfRefused fault (refusal ≡ None → SpellsNone signs)
 
 -- ---- the tokens
 
@@ -70,6 +77,10 @@ IsSyntaxFault refused fault = MatchFault fault ⊥ (λ _. ⊥) (refused ≡ NoMe
 -- a part is missing, a token cannot stand where it does, or a jump is to no label
 abbrev pub HasNoParts : List Tok → Type 0
 HasNoParts tokens = (body : BodyView) (ending : EndingView) (formula : Tree (PlaceView × ℕ)) → AreParts tokens body ending formula → ⊥
+
+abbrev pub ReadsParts : List ℕ → List Tok → Result (Litmus Listing) SyntaxFault → Type 0
+ReadsParts name tokens (Ok litmus) = (litmus.name ≡ name) × AreReadTokens tokens litmus
+ReadsParts name tokens (Err fault) = IfRefused fault (HasNoParts tokens)
 
 abbrev pub ReadsTokens : List ℕ → List Tok → Result (Litmus Listing) ReadFault → Type 0
 ReadsTokens name tokens (Ok litmus) = (litmus.name ≡ name) × AreReadTokens tokens litmus

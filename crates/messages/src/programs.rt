@@ -1,19 +1,77 @@
-//! What is said of a program that is past a limit: how many there are of what, and where.
+//! Programs that break a limit: how many there are of what, and where.
 
-use crate::shown::shown_word;
+use crate::message::Message;
 use gap_sets::MAX_GAPS;
-use indexmap::IndexSet;
-use litmus_syntax::{Body, Cell, Code, Ending, Place, Sign, read_body, read_ending};
+use litmus_lines::PlacedTokens;
+use litmus_reader::{NameTable, location_name, names_of};
+use litmus_rules::{Source, shown_word, word_at};
+use litmus_syntax::{Body, Cell, Code, Ending, read_body, read_ending};
 use std::alloc::{AllocError, Global};
 use text_tokens::Token;
 use tso_program::{MAX_ACCESSES, MAX_INSTRUCTIONS, MAX_LOCATIONS, MAX_THREADS, ProgramFault};
 
-/// What is said of a limit that the program of these tokens breaks.
-pub fn limit_text(
+/// What is said of a program that breaks a limit, with the line of its header row.
+pub(crate) fn program_message(
     alloc: Global,
-    tokens: &[Token],
+    source: Source<'_>,
+    tokens: &PlacedTokens<'_>,
+    line: u32,
     fault: ProgramFault,
-) -> Result<String, AllocError> {
+) -> Result<Message, AllocError> {
+    if let ProgramFault::BackwardJump(thread, instruction) = fault {
+        if let Some(left) = jump_left(alloc, tokens.as_slice(), thread, instruction) {
+            return backward_message(alloc, source, tokens, left);
+        }
+    }
+    let text = limit_text(alloc, tokens.as_slice(), fault)?;
+    Message::at_line(alloc, source, line as usize, text.as_str())
+}
+
+/// What is said of a jump back, where so many tokens are left at its mnemonic.
+fn backward_message(
+    alloc: Global,
+    source: Source<'_>,
+    tokens: &PlacedTokens<'_>,
+    left: usize,
+) -> Result<Message, AllocError> {
+    let label = tokens.rest(tokens.index(left.saturating_sub(1)));
+    let name = shown_word(alloc, word_at(label))?;
+    let said = format!(in alloc;
+        "{name} jumps back; loops are not read, write a fixed number of tries (docs/guide.md)"
+    )?;
+    Message::at_token(alloc, source, tokens, left, said.as_str())
+}
+
+/// The tokens left at the mnemonic of a jump.
+fn jump_left(alloc: Global, tokens: &[Token], thread: u8, instruction: u8) -> Option<usize> {
+    match read_body(alloc, tokens) {
+        Ok((body, _)) => instruction_left(
+            body.rows.as_slice(),
+            usize::from(thread),
+            usize::from(instruction),
+        ),
+        Err(_) => None,
+    }
+}
+
+/// The tokens left at the mnemonic of an instruction of a thread, both counted from 0.
+fn instruction_left(rows: &[Vec<Cell<'_>>], thread: usize, instruction: usize) -> Option<usize> {
+    let mut count = 0usize;
+    for row in rows {
+        if let Some(cell) = row.get(thread) {
+            if cell.code.is_some() {
+                if count == instruction {
+                    return Some(cell.left);
+                }
+                count = count.saturating_add(1);
+            }
+        }
+    }
+    None
+}
+
+/// What is said of a limit that the program of these tokens breaks.
+fn limit_text(alloc: Global, tokens: &[Token], fault: ProgramFault) -> Result<String, AllocError> {
     match read_body(alloc, tokens) {
         Ok((body, rest)) => body_text(alloc, &body, rest, fault),
         Err(_) => format!(in alloc; "{fault}"),
@@ -109,89 +167,18 @@ fn instructions_in(body: &Body<'_>, thread: usize) -> usize {
 fn accesses_in(body: &Body<'_>, thread: usize) -> usize {
     let mut count = 0usize;
     for row in &body.rows {
-        if row
-            .get(thread)
-            .is_some_and(|cell| accessed_by(cell).is_some())
-        {
+        if row.get(thread).is_some_and(|cell| accesses_memory(cell)) {
             count = count.saturating_add(1);
         }
     }
     count
 }
 
-/// The location that the instruction of a cell accesses.
-fn accessed_by<'t>(cell: &Cell<'t>) -> Option<&'t [u8]> {
+/// Whether the instruction of a cell accesses memory.
+fn accesses_memory(cell: &Cell<'_>) -> bool {
     match cell.code {
-        Some(
-            Code::Load(_, name)
-            | Code::StoreImm(name, _)
-            | Code::Store(name, _)
-            | Code::Xchg(name, _),
-        ) => Some(name),
-        _ => None,
-    }
-}
-
-/// The names of locations, each once, in the order in which the text names them first.
-#[derive(Drop)]
-struct Names {
-    names: IndexSet<Vec<u8>>,
-}
-
-impl Names {
-    /// Those of a program's text.
-    fn of(alloc: Global, body: &Body<'_>, ending: &Ending<'_>) -> Result<Names, AllocError> {
-        let mut names = Names {
-            names: IndexSet::new(alloc),
-        };
-        names.add_body(alloc, body)?;
-        names.add_ending(alloc, ending)?;
-        Ok(names)
-    }
-
-    fn add(&mut self, alloc: Global, name: &[u8]) -> Result<(), AllocError> {
-        self.names.insert(Vec::from_slice(alloc, name)?)?;
-        Ok(())
-    }
-
-    fn add_place(&mut self, alloc: Global, place: Place<'_>) -> Result<(), AllocError> {
-        match place {
-            Place::Location(name) => self.add(alloc, name),
-            Place::Register(..) => Ok(()),
-        }
-    }
-
-    /// Adds those of what stands before the condition.
-    fn add_body(&mut self, alloc: Global, body: &Body<'_>) -> Result<(), AllocError> {
-        for entry in &body.entries {
-            self.add_place(alloc, entry.place)?;
-        }
-        for row in &body.rows {
-            self.add_row(alloc, row.as_slice())?;
-        }
-        Ok(())
-    }
-
-    fn add_row(&mut self, alloc: Global, row: &[Cell<'_>]) -> Result<(), AllocError> {
-        for cell in row {
-            if let Some(name) = accessed_by(cell) {
-                self.add(alloc, name)?;
-            }
-        }
-        Ok(())
-    }
-
-    /// Adds those of `locations` and of the condition.
-    fn add_ending(&mut self, alloc: Global, ending: &Ending<'_>) -> Result<(), AllocError> {
-        for place in &ending.observed {
-            self.add_place(alloc, *place)?;
-        }
-        for sign in &ending.signs.signs {
-            if let Sign::Atom(place, _) = sign.sign {
-                self.add_place(alloc, place)?;
-            }
-        }
-        Ok(())
+        Some(Code::Load(..) | Code::StoreImm(..) | Code::Store(..) | Code::Xchg(..)) => true,
+        _ => false,
     }
 }
 
@@ -200,24 +187,24 @@ fn locations_text(
     body: &Body<'_>,
     ending: &Ending<'_>,
 ) -> Result<String, AllocError> {
-    let names = Names::of(alloc, body, ending)?;
+    let names = names_of(alloc, body, ending)?;
     names_text(alloc, &names)
 }
 
-fn names_text(alloc: Global, names: &Names) -> Result<String, AllocError> {
-    let count = names.names.len();
+fn names_text(alloc: Global, names: &NameTable) -> Result<String, AllocError> {
+    let count = names.locations();
     let listed = listed(alloc, names)?;
     format!(in alloc;
         "there are {count} locations, more than {MAX_LOCATIONS}: {listed}; those of the initial values, `locations` and the condition count too"
     )
 }
 
-/// The names with commas between them.
-fn listed(alloc: Global, names: &Names) -> Result<String, AllocError> {
+/// The names of the locations, with commas between them.
+fn listed(alloc: Global, names: &NameTable) -> Result<String, AllocError> {
     let mut listed = String::new(alloc);
-    for name in names.names.iter() {
+    for number in 0..names.locations() {
         let comma = if listed.is_empty() { "" } else { ", " };
-        let shown = shown_word(alloc, name.as_slice())?;
+        let shown = shown_word(alloc, location_name(names, number))?;
         write!(listed, "{comma}{shown}")?;
     }
     Ok(listed)
