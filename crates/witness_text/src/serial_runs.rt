@@ -7,32 +7,14 @@ use crate::early_flushes::is_sought;
 use documents::Sought;
 use litmus_text::Litmus;
 use std::alloc::{AllocError, Global};
-use thread_traces::trace_combinations;
 use tso_machine::{Label, ReplayFault, replay};
 use tso_program::{MAX_INSTRUCTIONS, Program};
-
-/// The most combinations of traces of a program whose runs are searched for at once.
-const MOST_SEARCHED: u32 = 1 << 16;
 
 /// The most orders of the threads that are tried: each order of five threads. Of more threads each of them comes first in some.
 const MOST_ORDERS: usize = 120;
 
-/// A serial run that is sought, where a search for one may be long and an order that is tried has one.
-pub(crate) fn serial_run_before_search(
-    alloc: Global,
-    litmus: &Litmus<Program>,
-    sought: &Sought,
-) -> Result<Option<Vec<Label>>, AllocError>
-    ensures { IfOk result (λ run. IfSome run (λ labels. IsSoughtRun litmus.now sought.now labels.items)) }
-{
-    if !trace_combinations(alloc, &litmus.program, MOST_SEARCHED)?.is_over(MOST_SEARCHED) {
-        return Ok(None);
-    }
-    serial_run(alloc, litmus, sought)
-}
-
 /// A serial run that is sought, if an order of the threads that is tried has one.
-fn serial_run(
+pub(crate) fn serial_run(
     alloc: Global,
     litmus: &Litmus<Program>,
     sought: &Sought,

@@ -18,7 +18,7 @@ use crate::early_flushes::with_early_flushes;
 use crate::fault::WitnessFault;
 use crate::gaps::gaps_at;
 use crate::lines::{none_line, run_lines};
-use crate::serial_runs::serial_run_before_search;
+use crate::serial_runs::serial_run;
 use cover_solver::{SolveFault, witness};
 use documents::{
     LinedLitmus, Setting, Sought, condition_sentence, run_value, verb_of_none, verb_of_run,
@@ -181,7 +181,7 @@ fn sought_text(
 ) -> Result<WitnessText, SolveFault>
     ensures { IfOk result (λ text. TellsSought litmus.now sought text.found text.lines.items text.document) }
 {
-    if let Some(run) = serial_run_before_search(alloc, litmus, &sought)? {
+    if let Some(run) = serial_run(alloc, litmus, &sought)? {
         return Ok(found_text(alloc, litmus, stand, sought, &run)?);
     }
     let mode = Mode::new(sought.model, sought.fences);
