@@ -27,6 +27,7 @@ mod watched;
 mod writing;
 
 pub use ahead::report_ahead;
+pub use certificate_proposals::SearchWatch;
 pub use cover_solver::{OutcomeList, SolveFault};
 pub use explaining::{WhyText, why_text};
 pub use extent::warn_of_minutes;
