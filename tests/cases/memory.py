@@ -159,7 +159,7 @@ def replays_refused(library):
         right = run(words, given)
         tell(f"the outcomes of {test}", right[0] == 0, right)
         refused_allocations(library, f"the outcomes of {test}", words, given, right, RefusalDocuments(lawful) if "--json" in words else lawful)
-    for test, options in (("SB", ["--fences", "0:1"]), ("SB", ["--fences", "0:1,1:1"]), ("n6", ["--not"])):
+    for test, options in (("SB", ["--fences", "0:1"]), ("SB", ["--fences", "0:1,1:1"]), ("n6", ["--not"]), ("SB", ["--progress"])):
         given, words = example(test + ".litmus"), ["witness", *options, "-"]
         right = run(words, given)
         tell(f"a run of {test} that is sought", right[0] == 0, right)

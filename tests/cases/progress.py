@@ -43,11 +43,17 @@ JUMPS = """X86 jumps
  end:        | end:        |             ;
 exists (x=1)
 """
+# exchanges of one location, so many that no search ends before it is ended here
+TURNS = "X86 turns\n{ 0:EAX=1; 1:EAX=2; 2:EAX=3; 3:EAX=4 }\nP0 | P1 | P2 | P3 ;\n" + 8 * "XCHG [x],EAX | XCHG [x],EAX | XCHG [x],EAX | XCHG [x],EAX ;\n" + (
+    "exists (0:EAX=1 /\\ 1:EAX=1)\n"
+)
 FILES = [os.path.join(EXAMPLES, name + ".litmus") for name in ("SB", "MP", "R", "2+2W", "n6", "n6-observed", "nothing")]
 SEARCHED = (
     ["outcomes"], ["outcomes", "--observed", "--check", "--json"], ["outcomes", "--workers", "4"],
-    ["place"], ["place", "--workers", "4"], ["place", "--json", "--check"], ["why"],
+    ["witness"], ["witness", "--not", "--json", "--check"], ["place"], ["place", "--workers", "4"], ["place", "--json", "--check"], ["why"],
 )
+# commands that search for outcomes alone
+LISTING = ("outcomes", "witness")
 WHOLE = (
     ["place", "--trees", "whole"], ["place", "--observed", "--trees", "whole"], ["place", "--observed", "--workers", "3", "--trees", "whole"],
     ["place", "--condition", "--trees", "whole"],
@@ -55,7 +61,7 @@ WHOLE = (
 PLACED = (*WHOLE, ["place"], ["place", "--observed", "--workers", "2"], ["why"], ["why", "--condition"])
 PROPOSED = (
     ["place"], ["place", "--observed"], ["place", "--condition", "--workers", "2"], ["why"], ["why", "--condition"],
-    ["outcomes"], ["outcomes", "--observed"], ["outcomes", "--model", "sequential", "--runs"],
+    ["outcomes"], ["outcomes", "--observed"], ["outcomes", "--model", "sequential", "--runs"], ["witness"], ["witness", "--not", "--model", "sequential"],
 )
 
 
@@ -203,7 +209,7 @@ def check_search(said, sequential, cost, bounded):
 
 def searched(name, path, command):
     """What is reported of a search over whole trees for a file, by one command."""
-    lines = [] if command[0] == "outcomes" else ahead(read_program(path))
+    lines = [] if command[0] in LISTING else ahead(read_program(path))
     plain, silent = ran([*command, path])
     found, said = ran([*command, "--progress", path])
     said = untimed(said)
@@ -211,7 +217,7 @@ def searched(name, path, command):
     same(f"{what}: the answer is the same", (found, silent), (plain, []))
     same(f"{what}: what lies ahead", said[:len(lines)], lines)
     rest = said[len(lines):]
-    if command[0] == "outcomes":
+    if command[0] in LISTING:
         same(f"{what}: nothing else", rest, [])
     elif "--json" not in command:
         cost = int(re.match(rb"answer (?:\w+ )?cost (\d+)", plain[1])[1])
@@ -283,15 +289,15 @@ class Progress(Cases):
                     searched(name, path, command)
 
     def test_proposed(self):
-        """Where early trees are proposed the sequential outcomes alone are reported, with `--progress`, of a list nothing, and nothing on a terminal."""
+        """Where early trees are proposed the sequential outcomes alone are reported, with `--progress`, of a list or a run nothing, and nothing on a terminal."""
         with tempfile.TemporaryDirectory() as folder:
             path = made(folder, JUMPS)
             for command in PROPOSED:
                 plain, silent = ran([*command, path])
                 found, said = ran([*command, "--progress", path])
-                wanted = [] if command[0] == "outcomes" else [f"fencer: sequential outcomes: {sequential_outcomes(path, command):,}"]
+                wanted = [] if command[0] in LISTING else [f"fencer: sequential outcomes: {sequential_outcomes(path, command):,}"]
                 same(f"progress of {' '.join(command)} where an answer is proposed", (found, silent, said), (plain, [], wanted))
-            for command in ("outcomes", "why"):
+            for command in ("outcomes", "witness", "why"):
                 printed, said = on_terminal([command, path])
                 same(f"{command} on a terminal where an answer is proposed", (said, printed), ([], ran([command, path])[0][1]))
 
@@ -310,7 +316,7 @@ class Progress(Cases):
     def test_lost(self):
         """Standard error that is closed, or that takes nothing."""
         path = FILES[0]
-        for command in ("outcomes", "place", "why"):
+        for command in ("outcomes", "witness", "place", "why"):
             plain = ran([command, path])[0]
             closed = ran([command, "--progress", path], stderr=None, preexec_fn=lambda: os.close(2))[0]
             with open("/dev/full", "wb") as full:
@@ -335,6 +341,15 @@ class Progress(Cases):
             cut = {parts for _, parts in done}
             tell("how many parts are done", done and done == sorted(done) and all(some <= parts for some, parts in done) and len(cut) <= 1, done)
 
+    def test_witness(self):
+        """A long search for a run has lines by time on a terminal, after a warning. Exchanges of one location take turns with four values, of which no two
+        threads have the same one in the end."""
+        with tempfile.TemporaryDirectory() as folder:
+            lines = on_terminal(["witness", made(folder, TURNS)], lambda lines: len(lines) >= 3)[1]
+        same("a warning comes before a long search for a run", lines[:1], [MINUTES.format(4, 32, 32)])
+        found = [line for line in map(TIMED.fullmatch, lines[1:]) if line]
+        tell("a long search for a run is reported by time", len(found) == len(lines[1:]) >= 2, lines)
+
     def test_minutes(self):
         """Before a search that may take minutes there is a warning, with how many threads, accesses and exchanges there are, and none before others."""
         with tempfile.TemporaryDirectory() as folder:
@@ -342,7 +357,7 @@ class Progress(Cases):
                 path = made(folder, easy(*counts))
                 same(f"the threads, accesses and exchanges of {counts}", read_program(path).extent(), counts)
                 wanted = [MINUTES.format(*counts)] if counts in WARNED else []
-                for command in ("place", "why", "outcomes"):
+                for command in ("place", "why", "outcomes", "witness"):
                     said = ran([command, "--progress", path])[1]
                     same(f"the warning of {command} before {counts}", [line for line in said if "minutes" in line], wanted)
                 same(f"the warning on a terminal before {counts}", on_terminal(["place", path])[1][:1], wanted)

@@ -60,7 +60,7 @@ fn run_job<T: Threads + Wait + Sync + Clock, S: WritableFileStore, R: Read, W: C
         Job::Place(asked) => run_place(rt, alloc, files, asked, input, output),
         Job::Why(asked) => run_why(rt, alloc, files, asked, input, output),
         Job::Gaps(asked) => run_gaps(alloc, &*files, asked, input, output),
-        Job::Witness(asked) => run_witness(alloc, files, asked, input, output),
+        Job::Witness(asked) => run_witness(rt, alloc, files, asked, input, output),
         Job::Survey(asked) => run_survey(rt, alloc, &*files, asked, input, output),
     }
 }
@@ -99,7 +99,7 @@ fn run_words<T: Threads + Wait + Sync + Clock, S: WritableFileStore, R: Read, W:
 ///
 /// Wherever any of a placement's answer is printed, the files that the arguments name hold its certificate, the fenced
 /// program and the litmus text with its fences; no file is changed but these, and those that they name for a page or for
-/// graphs. With `rt` the workers of a placement start threads and wait for one another; nothing else does either.
+/// graphs. With `rt` long searches and what reports them start threads, and the workers of a placement wait for one another.
 ///
 /// Status 0 means that the whole answer is written, and status 3 that it is and that a check which is asked for finds a fault. Status 1
 /// is a refusal, reported by one line, a writer that fails or takes no byte, and out of memory for the arguments or for that line, with

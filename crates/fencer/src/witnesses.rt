@@ -14,12 +14,15 @@ use answers::{
     sentence_line, solve_line, tell_refusal, tell_slip, unread_advice, unread_litmus,
 };
 use fencer_words::WitnessQuery;
+use litmus_text::read_litmus;
 use messages::file_or_input;
 use oracle::SolveFault;
+use placed_text::{SearchWatch, warn_of_minutes};
 use program_streams::{Console, Progress, TEXT_LIMIT, WritableFileStore, file_line, named_bytes};
 use report::litmus_line;
 use std::alloc::{AllocError, Global};
 use std::io::Read;
+use std::thread::Threads;
 use witness_text::{WitnessFault, WitnessText, witness_text};
 
 /// The line of why no run is shown.
@@ -74,8 +77,36 @@ fn witness_answer(
     }
 }
 
+/// Warns where the search for a run of a text's program may take minutes.
+fn warn_of_search(alloc: Global, bytes: &[u8], progress: Progress) {
+    if !progress.is_shown() {
+        return;
+    }
+    if let Ok(litmus) = read_litmus(alloc, bytes) {
+        warn_of_minutes(alloc, &litmus.program, progress);
+    }
+}
+
+/// What is delivered of a run, where it is reported how far the search for it is.
+fn watched_answer<T: Threads>(
+    rt: &T,
+    alloc: Global,
+    bytes: &[u8],
+    asked: &WitnessQuery,
+    progress: Progress,
+) -> Result<Answer, WitnessFault>
+    ensures told { IfOk result (ShowsWitness asked.now bytes.now) }
+    ensures fault { IfErr result (HasNoWitnessText bytes.now asked.now.fences.items) }
+{
+    let watched = progress.asked(asked.progress);
+    warn_of_search(alloc, bytes, watched);
+    let _watch = SearchWatch::new(rt, alloc, watched);
+    witness_answer(alloc, bytes, asked, progress)
+}
+
 /// Judges a text, writes the page and the graph, prints the lines, and returns the status.
-fn show_witness<S: WritableFileStore, W: Console>(
+fn show_witness<T: Threads, S: WritableFileStore, W: Console>(
+    rt: &T,
     alloc: Global,
     files: &mut S,
     asked: &WitnessQuery,
@@ -87,8 +118,7 @@ fn show_witness<S: WritableFileStore, W: Console>(
 {
     let page = asked.page.as_deref();
     let graph = asked.graph.as_deref();
-    let progress = output.progress();
-    match witness_answer(alloc, bytes, asked, progress) {
+    match watched_answer(rt, alloc, bytes, asked, output.progress()) {
         Ok(answer) => deliver(alloc, files, page, graph, answer, output),
         Err(why) => {
             let name = file_or_input(asked.litmus.as_str());
@@ -100,7 +130,8 @@ fn show_witness<S: WritableFileStore, W: Console>(
 
 /// Shows a run of the program of a litmus file of which the condition's formula has some truth, or that there is none, writes
 /// its page and its graph to files if they are named, prints the answer, and returns the status.
-pub fn run_witness<S: WritableFileStore, R: Read, W: Console>(
+pub fn run_witness<T: Threads, S: WritableFileStore, R: Read, W: Console>(
+    rt: &T,
     alloc: Global,
     files: &mut S,
     asked: &WitnessQuery,
@@ -114,7 +145,7 @@ pub fn run_witness<S: WritableFileStore, R: Read, W: Console>(
     let litmus = asked.litmus.as_str();
     match named_bytes(alloc, &*files, litmus, input, TEXT_LIMIT) {
         Ok(bytes) => {
-            let status = show_witness(alloc, files, asked, &bytes, output);
+            let status = show_witness(rt, alloc, files, asked, &bytes, output);
             tell_slip(alloc, litmus, &bytes, output);
             status
         }

@@ -149,7 +149,7 @@ parameters_of form.Place = Costs ∷ Workers ∷ Trees ∷ Certificate ∷ Outpu
 parameters_of form.Trace = Model ∷ Graph ∷ Page ∷ Json ∷ Litmus ∷ Labels ∷ []
 parameters_of form.Why = Costs ∷ Workers ∷ Graphs ∷ Page ∷ Observed ∷ Condition ∷ Json ∷ Progress ∷ Litmus ∷ []
 parameters_of form.Gaps = Costs ∷ Template ∷ Ties ∷ Same ∷ Tries ∷ Json ∷ Litmus ∷ []
-parameters_of form.Witness = Model ∷ Not ∷ Fences ∷ Graph ∷ Page ∷ CheckRun ∷ Json ∷ Litmus ∷ []
+parameters_of form.Witness = Model ∷ Not ∷ Fences ∷ Graph ∷ Page ∷ CheckRun ∷ Json ∷ Progress ∷ Litmus ∷ []
 parameters_of form.Survey = Workers ∷ AllowUnexecuted ∷ TieAnswers ∷ Json ∷ LitmusFiles ∷ []
 
 -- a command with one parameter more
@@ -323,6 +323,7 @@ IsJobOf name rows (Witness asked) =
     × (option_map string_bytes asked.page ≡ first_of (codes "html") rows)
     × (asked.check ≡ is_flagged (codes "check") rows)
     × (asked.json ≡ is_flagged (codes "json") rows)
+    × (asked.progress ≡ is_flagged (codes "progress") rows)
     × (string_bytes asked.litmus ≡ text_in (codes "litmus") rows)
 IsJobOf name rows (Survey asked) =
     (name ≡ codes "survey")

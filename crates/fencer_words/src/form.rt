@@ -90,7 +90,9 @@ impl Form {
                 Costs, Workers, Graphs, Page, Observed, Condition, Json, Progress, Litmus,
             ],
             Form::Gaps => &[Costs, Template, Ties, Same, Tries, Json, Litmus],
-            Form::Witness => &[Model, Not, Fences, Graph, Page, CheckRun, Json, Litmus],
+            Form::Witness => &[
+                Model, Not, Fences, Graph, Page, CheckRun, Json, Progress, Litmus,
+            ],
             Form::Survey => &[Workers, AllowUnexecuted, TieAnswers, Json, LitmusFiles],
         }
     }

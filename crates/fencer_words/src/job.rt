@@ -99,6 +99,8 @@ pub struct WitnessQuery {
     pub check: bool,
     /// Print the document in place of the text.
     pub json: bool,
+    /// Report how far the search is, and not on a terminal alone.
+    pub progress: bool,
     pub litmus: String,
 }
 

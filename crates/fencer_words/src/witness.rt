@@ -1,4 +1,4 @@
-//! `witness [--model MODEL] [--not] [--fences T:K,..] [--dot FILE] [--html FILE] [--check] [--json] LITMUS`
+//! `witness [--model MODEL] [--not] [--fences T:K,..] [--dot FILE] [--html FILE] [--check] [--json] [--progress] LITMUS`
 
 ghost use Rattle.std.specs.Prelude.{IfNone, IfOk, IfSome, codes};
 ghost use Rattle.clap.specs.Words.{found_of, rows_of};
@@ -37,6 +37,7 @@ pub fn witness_job(alloc: Global, matches: &ArgMatches<'_>) -> Result<Option<Job
             page: text_given(alloc, matches, "html")?,
             check: is_flagged(matches, "check"),
             json: is_flagged(matches, "json"),
+            progress: is_flagged(matches, "progress"),
             litmus: text_in(alloc, matches, "litmus")?,
         }))),
         None => Ok(None),

@@ -27,6 +27,7 @@ mod watched;
 mod writing;
 
 pub use ahead::combinations_text;
+pub use certificate_proposals::SearchWatch;
 pub use cover_solver::{OutcomeList, SolveFault};
 pub use explaining::{WhyText, why_text};
 pub use extent::warn_of_minutes;
