@@ -1,7 +1,7 @@
 -- The rules of the arguments that are built for `clap`.
-use Rattle.fencer_words.proofs.Vocabulary.{◌≡◌, ◌∙◌, Bool, true, false, ◌||◌, [], ◌∷◌, Option, Some, ap, ap₂, codes, Bor, usize_max, Command, Command-F, with_rule, App, Rule, Text, AddsArg, AddsSubcommand, app_of, new_app, new_rule, rule_of, with_subcommand}
-use Rattle.fencer_words.proofs.Vocabulary.{app_of_fields, on_top, IsBuiltAs, NameList, named_rule, model_rule, trees_rule, label_rule, litmus_files_rule, flag_rule}
-use Rattle.clap.specs.{declared.builder.command.Command.TheViews.out-Command, declared.builder.action.ArgAction.TheVariants.Append, declared.builder.action.ArgAction.TheVariants.SetTrue}
+use Rattle.fencer_words.proofs.Vocabulary.{◌≡◌, ◌∙◌, Bool, true, false, ◌||◌, [], ◌∷◌, Option, Some, ap, ap₂, codes, Bor, usize_max, Command, with_rule, App, Rule, Text, AddsArg, AddsSubcommand, rule_of, with_subcommand}
+use Rattle.fencer_words.proofs.Vocabulary.{IsBuiltAs, NameList, named_rule, model_rule, trees_rule, label_rule, litmus_files_rule}
+use Rattle.clap.specs.{declared.builder.action.ArgAction.TheVariants.Append}
 use Rattle.clap.specs.{declared.builder.arg.Arg.Arg, declared.builder.range.ValueRange.ValueRange, declared.builder.texts.Texts.TheVariants.One, declared.builder.value_parser.ValueParser.ValueParser}
 use Rattle.clap.specs.declared.builder.value_parser.ValueParser.TheVariants as parser
 
@@ -62,17 +62,6 @@ files_rule_of new ranged acted done new_is ranged_is range_is acted_is done_is =
     (ap (λ (a : Arg). rule_of a) ranged_is
     ∙ ap₂ (λ (r : Rule) (v : Option ValueRange). let s : Rule = record r { range = v } in s) new_is range_is))
 
--- an argument with a long name and an action
-pub flag_rule_of : (new long done : Arg) (name : Bor Text) (id : Text) → rule_of new ≡ new_rule id
-    → long ≡ record new { long = Some name } → name.now ≡ id
-    → done ≡ record long { action = Some SetTrue }
-    → rule_of done ≡ flag_rule id
-flag_rule_of new long done name id new_is long_is name_is done_is =
-    ap (λ (a : Arg). rule_of a) done_is
-    ∙ ap (λ (r : Rule). let s : Rule = record r { action = Some SetTrue } in s)
-    (ap (λ (a : Arg). rule_of a) long_is
-    ∙ ap₂ (λ (r : Rule) (t : Text). let s : Rule = record r { long = Some t } in s) new_is name_is)
-
 neither : (a b c : Bool) → c ≡ (a || b) → a ≡ false → b ≡ false → c ≡ false
 neither a b c is no_a no_b = is ∙ ap₂ (λ (x y : Bool). x || y) no_a no_b
 
@@ -89,24 +78,3 @@ one_command_more old new sub app below built is adds = record {
   shape = adds.shape is.no_globals ∙ ap₂ with_subcommand built.shape (ap (λ (a : App). a.top) is.shape);
   no_globals = neither _ _ _ adds.globals built.no_globals is.no_globals;
 }
-
--- a command that takes no program's name, wants a subcommand and has none for help
-pub record IsFencer (new unnamed wanted done : Command) : Type 0 where
-  pub unnamed_is : out-Command unnamed ≡ record (out-Command new) { no_binary_name = true }
-  pub wanted_is : out-Command wanted ≡ record (out-Command unnamed) { subcommand_required = true }
-  pub done_is : out-Command done ≡ record (out-Command wanted) { disable_help_subcommand = true }
-
-pub fencer_shape : (new unnamed wanted done : Command) → IsFencer new unnamed wanted done → app_of new ≡ new_app (codes "fencer")
-    → app_of done ≡ on_top (λ s. record s { no_binary_name = true; subcommand_required = true; disable_help_subcommand = true }) (new_app (codes "fencer"))
-fencer_shape new unnamed wanted done f new_is =
-    ap app_of_fields f.done_is
-    ∙ ap (on_top (λ s. record s { disable_help_subcommand = true })) (ap app_of_fields f.wanted_is
-    ∙ ap (on_top (λ s. record s { subcommand_required = true })) (ap app_of_fields f.unnamed_is ∙ ap (on_top (λ s. record s { no_binary_name = true })) new_is))
-
-pub fencer_globals : (new unnamed wanted done : Command) → IsFencer new unnamed wanted done → (out-Command new).has_globals ≡ false
-    → (out-Command done).has_globals ≡ false
-fencer_globals new unnamed wanted done f none =
-    ap (λ (c : Command-F Command). c.has_globals) f.done_is
-    ∙ ap (λ (c : Command-F Command). c.has_globals) f.wanted_is
-    ∙ ap (λ (c : Command-F Command). c.has_globals) f.unnamed_is
-    ∙ none

@@ -9,14 +9,14 @@ unfoldable pub use Rattle.std.specs.List.{IsDistinct}
 pub use Rattle.std.specs.Prelude.{codes, fold, string_bytes}
 pub use Rattle.clap.proofs.WalkLemmas.{first_value-rows, raw_values-rows}
 pub use Rattle.clap.specs.Lexer.{usize_max}
-pub use Rattle.clap.specs.Simple.{app_of_fields, argument_words, built, entered, label_of, names_of, on_top, rows_at}
+pub use Rattle.clap.specs.Simple.{app_of_fields, argument_words, built, entered, label_of, names_of, rows_at}
 pub use Rattle.clap.specs.Words.{AddsArg, AddsSubcommand, App, HasKind, HasMatchesOf, IsAmong, Kinds, Row, Rule, Shape, Text, app_of, fault_of, found_of, is_simple, is_simple_and_free, kind_of}
-pub use Rattle.clap.specs.Words.{new_app, new_rule, rule_of, subcommand_of, subcommand_rows_of, with_rule, with_subcommand}
+pub use Rattle.clap.specs.Words.{new_app, rule_of, subcommand_of, subcommand_rows_of, with_rule, with_subcommand}
 pub use Rattle.clap.specs.declared.builder.command.Command.{Command}
 pub use Rattle.clap.specs.declared.builder.command.Command.TheOpen.{Command-F}
 pub use Rattle.clap.specs.declared.error.Error.{Error}
 pub use Rattle.clap.specs.declared.error.kind.ErrorKind.TheVariants.{OutOfMemory}
-pub use Rattle.fencer_words.specs.CommandLines.{AreChoices, IsNoCommand, NameList, clashing, command_names, commands_app, faulty, fencer_app, flag_rule, for_nothing, label_rule, litmus_files_rule, model_rule, trees_rule}
+pub use Rattle.fencer_words.specs.CommandLines.{AreChoices, IsNoCommand, NameList, clashing, command_names, commands_app, faulty, fencer_app, for_nothing, label_rule, litmus_files_rule, model_rule, trees_rule}
 pub use Rattle.fencer_words.specs.CommandLines.{name_of_form, named_rule, with_form, with_parameter}
 pub use Rattle.fencer_words.specs.Commands.{IsBuiltAs, IsJobMet, MeetsNoJob}
 pub use Rattle.fencer_words.specs.declared.parameter.ChoiceNames.{ChoiceNames}
