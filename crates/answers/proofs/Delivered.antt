@@ -10,10 +10,6 @@ still_held (Some name) second left next text held kept apart = subst (λ (bytes 
 pub both_keep : (first second : Option (List ℕ)) (files left next : List ℕ → Option (List ℕ)) → KeepFiles first files left → KeepFiles second left next → KeepFilesBut first second files next
 both_keep first second files left next kept kept_too name not_first not_second = kept_too name not_second ∙ kept name not_first
 
--- the first write keeps the other files
-pub first_keeps : (first second : Option (List ℕ)) (files left : List ℕ → Option (List ℕ)) → KeepFiles first files left → KeepFilesBut first second files left
-first_keeps first second files left kept name not_first not_second = kept name not_first
-
 -- a file holds what was written to it, if it is neither of the two that are written next
 pub still_held_past : (third first second : Option (List ℕ)) (left next : List ℕ → Option (List ℕ)) (text : List ℕ) → HoldsFile third left text → KeepFilesBut first second left next
     → AreTwoNames third first → AreTwoNames third second → HoldsFile third next text
