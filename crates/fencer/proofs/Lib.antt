@@ -2,6 +2,5 @@
 mod Vocabulary
 pub mod Served
 pub mod OutcomeLines
-pub mod Dearest
 pub mod Surveyed
 pub mod WrittenSurveys

@@ -2,7 +2,7 @@
 pub use Rattle.std.proofs.Common.{Bool, Contains, Err, IfOk, List, Ok, Option, Result, [], ap, append-nil, append_assoc, ap₂, arith, false, get_or, inl, inr, length, map}
 pub use Rattle.std.proofs.Common.{refl, subst, suc, sym, take, true, zero, ℕ, ◌++◌, ◌+◌, ◌<◌, ◌==◌, ◌∙◌, ◌∷◌, ◌≡◌, ◌⊎◌}
 pub use Rattle.std.proofs.lemmas.Result.{IfOk-weaker}
-pub use Rattle.std.specs.Prelude.{codes, nat_lt, option_map, string_bytes, ◌&&◌}
+pub use Rattle.std.specs.Prelude.{codes, nat_lt, option_map, string_bytes}
 pub use Rattle.std.specs.declared.alloc.AllocError.{AllocError}
 pub use Rattle.answers.specs.Inserted.{unkept_line}
 pub use Rattle.answers.specs.Refusals.{IsTold}

@@ -22,7 +22,7 @@ use Rattle.fencer.specs.declared.surveys.Block.{Block}
 use Rattle.documents.specs.Documents.{IsRefusalDocument}
 use Rattle.answers.specs.Documented.{printed}
 use Rattle.answers.specs.Notes.{IsNoted}
-use Rattle.fencer.specs.GapTexts.{IsTiedFile}
+use Rattle.gap_list.specs.TiedFiles.{IsTiedFile}
 use Rattle.fencer.specs.Placements.{text_fault_line}
 use Rattle.answers.specs.Statuses.{check_status}
 

@@ -12,11 +12,11 @@ ghost use Rattle.fencer.specs.GapTexts.{AreGaps, AreGapsOfTexts, HasNoGaps, IsGa
 
 use crate::advice::text_fault_advice;
 use crate::place::text_fault_line;
-use crate::tied::{tell_same, tell_ties, tied_file};
+use crate::tied::{tell_same, tell_ties};
 use answers::{Texts, read_texts, tell_refusal, unread_advice};
 use documents::{LinedLitmus, document_line, gaps_document};
 use fencer_words::GapQuery;
-use gap_list::{SharedCode, TextLines, cost_file, gap_list};
+use gap_list::{SharedCode, TextLines, cost_file, gap_list, tied_file};
 use gap_sets::TiedCosts;
 use litmus_text::Litmus;
 use placed_text::{TextFault, read_gap_costs, read_program};

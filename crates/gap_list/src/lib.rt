@@ -10,6 +10,7 @@
 
 mod alignment;
 mod cost_lines;
+mod dearest_ties;
 mod list;
 mod notes;
 mod shapes;
@@ -19,6 +20,7 @@ mod tied_lines;
 mod tries;
 
 pub use cost_lines::cost_file;
+pub use dearest_ties::tied_file;
 pub use list::{gap_list, push_instruction};
 pub use notes::fence_notes;
 pub use shared_lines::{SharedCode, likely_ties};

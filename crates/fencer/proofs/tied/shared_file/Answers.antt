@@ -1,5 +1,5 @@
 use Rattle.fencer.proofs.Vocabulary.{ℕ, List, IfOk, subst}
-use Rattle.fencer.specs.GapTexts.{IsTiedFile}
+use Rattle.gap_list.specs.TiedFiles.{IsTiedFile}
 use Rattle.fencer.proofs.tied.shared_file.Goals as goal
 
 pub returns : goal.returns

@@ -1,6 +1,6 @@
-use Rattle.fencer.proofs.Vocabulary.{◌≡◌}
-use Rattle.fencer.specs.GapTexts.{dearest}
-use Rattle.fencer.proofs.tied.dearest.Given as goal
+use Rattle.gap_list.proofs.Vocabulary.{◌≡◌}
+use Rattle.gap_list.specs.TiedFiles.{dearest}
+use Rattle.gap_list.proofs.dearest_ties.dearest.Given as goal
 
 -- the dearest of the gaps so far
 abbrev pub invariant-loop-other : goal.invariant-loop-other

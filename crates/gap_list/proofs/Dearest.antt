@@ -1,16 +1,14 @@
 -- What ties cost, each as much as its dearest gap.
-use Rattle.fencer.proofs.Vocabulary.{◌≡◌, ◌∙◌, ℕ, ◌+◌, List, [], ◌∷◌, Result, Ok, Err, IfOk, ap, arith, length, map, subst, sym}
+use Rattle.gap_list.proofs.Vocabulary.{◌≡◌, ◌∙◌, ℕ, ◌+◌, List, [], ◌∷◌, ap, arith, length, map, range_with_len, subst, sym, IsCostText, as_read, cost_file_text}
 use Rattle.std.proofs.lemmas.List.FromFn.{length-map-range_with_len, map-range_with_len_more}
 use Rattle.std.proofs.lemmas.List.Sums.{fold-append}
 use Rattle.std.specs.Global.{Vec}
-use Rattle.std.specs.List.{fold, range_with_len}
-use Rattle.std.specs.Prelude.{max}
+use Rattle.std.specs.List.{fold}
+use Rattle.std.specs.Prelude.{Err, IfOk, Ok, Result, max}
 use Rattle.gap_sets.specs.declared.ties.TiedCosts.{TiedCosts}
 use Rattle.tso_program.specs.declared.listing.Listing.{Listing}
 use Rattle.tso_program.specs.Listings.{gap_count}
-use Rattle.litmus_text.specs.CostTexts.{IsCostText}
-use Rattle.gap_list.specs.CostFiles.{as_read, cost_file_text}
-use Rattle.fencer.specs.GapTexts.{IsTiedFile, at_dearest, cost_beside, dearest}
+use Rattle.gap_list.specs.TiedFiles.{IsTiedFile, at_dearest, cost_beside, dearest}
 
 -- of one gap more
 pub dearest_more : (costs ties : List ℕ) (gap other most : ℕ) → most ≡ dearest other costs ties gap → max most (cost_beside costs ties gap other) ≡ dearest (other + 1) costs ties gap

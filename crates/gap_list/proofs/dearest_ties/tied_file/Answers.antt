@@ -1,8 +1,7 @@
-use Rattle.fencer.proofs.Vocabulary.{◌≡◌, ◌∙◌, ℕ, ap}
-use Rattle.tso_program.specs.Listings.{gap_count}
-use Rattle.fencer.specs.GapTexts.{at_dearest}
-use Rattle.fencer.proofs.Dearest.{dearest_each, is_tied_file}
-use Rattle.fencer.proofs.tied.tied_file.Goals as goal
+use Rattle.gap_list.proofs.Vocabulary.{◌∙◌, ℕ, ap}
+use Rattle.gap_list.specs.TiedFiles.{at_dearest}
+use Rattle.gap_list.proofs.Dearest.{dearest_each, is_tied_file}
+use Rattle.gap_list.proofs.dearest_ties.tied_file.Goals as goal
 
 pub cost_file-requires : goal.cost_file-requires
 cost_file-requires c =

@@ -1,10 +1,10 @@
-use Rattle.fencer.proofs.Vocabulary.{◌≡◌, ◌∙◌, ℕ, ap, arith}
+use Rattle.gap_list.proofs.Vocabulary.{◌≡◌, ◌∙◌, ap, arith}
 use Rattle.std.proofs.Common.{rules, tests}
 use Rattle.std.proofs.lemmas.Bool.Decides.{nat_tests}
 use Rattle.std.proofs.lemmas.Grind.{common_steps}
 use Rattle.std.specs.Prelude.{max}
-use Rattle.fencer.proofs.Dearest.{dearest_more}
-use Rattle.fencer.proofs.tied.dearest.Goals as goal
+use Rattle.gap_list.proofs.Dearest.{dearest_more}
+use Rattle.gap_list.proofs.dearest_ties.dearest.Goals as goal
 
 pub loop-other-preserved : goal.loop-other-preserved
 loop-other-preserved c =
