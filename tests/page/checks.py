@@ -1,6 +1,7 @@
 """Compares what a page shows with its document: each step of each run, and what is shown once for a run.
 
 The sentences, marks and places that are expected here are worked out from the document, apart from the page's script."""
+import json
 import os
 import re
 import time
@@ -10,9 +11,9 @@ with open(os.path.join(HERE, "shown.js"), encoding="utf-8") as file:
     SHOWN = file.read()
 HEADS = ["#", "step", "thread", "instruction", "what it does", "still waits", "reaches memory"]
 CONTROLS = ("button", "slider", "tab", "tabpanel", "checkbox", "region", "image", "table")
-SIZES = ((1280, 720), (1920, 1080), (420, 900))
+SIZES = ((1280, 720), (1920, 1080), (420, 800))
 SOME_STEPS = 6
-BESIDE = 4  # so many threads stand beside the texts
+BESIDE = 4  # so many threads stand beside the texts, and fit on a telephone
 SILENT = ("Runtime.exceptionThrown", "Log.entryAdded", "Runtime.consoleAPICalled")
 ADDRESS_DELAY = 5  # seconds at most
 
@@ -500,13 +501,16 @@ def check_hints(browser, run):
 
 def check_sizes(browser, run, thorough):
     """In windows of each size: memory, buffers, registers and the executed instruction are in sight, at every step or at some of them,
-    nothing is cut off, the width is used, and the tabs take few rows."""
+    nothing is cut off, the width is used, and the tabs take few rows. On a telephone many threads scroll in a box that is in sight, with
+    the one of the step in sight there."""
     last = len(run.steps)
     for width, height in SIZES:
         browser.resize(width, height)
         where, threads = f"{run.where} at {width} by {height}", len(run.document["threads"])
-        if width >= 1280 or threads <= BESIDE:
-            same(shown(browser, f"outOfSight({last}, {last if thorough else min(last, SOME_STEPS)})"), [], where + ": in sight")
+        fit = width >= 1280 or threads <= BESIDE
+        threads_of_steps = json.dumps([None if fit else thread for thread in [0, *run.threads]])
+        steps = last if thorough or not fit else min(last, SOME_STEPS)
+        same(shown(browser, f"outOfSight({last}, {steps}, {threads_of_steps})"), [], where + ": in sight")
         same(shown(browser, "cutOff()"), [], where + ": nothing is cut off")
         same(shown(browser, "emptyParts()"), [], where + ": the width is used")
         same(shown(browser, "tabRows()") <= (1 if width >= 1280 else 3), True, where + ": rows of tabs")

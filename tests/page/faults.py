@@ -65,6 +65,8 @@ FAULTS = [
     ("or for and in the condition", "condition.js", "return valueOf => allOf(", "return valueOf => anyOf("),
     ("which condition breaks, turned", "sentences.js", 'run.run.meets_condition === (quantifier() === "~exists")', 'run.run.meets_condition !== (quantifier() === "~exists")'),
     ("the step that breaks the condition is not named", "sentences.js", "if (run.decided === null || says === null) {", "if (true) {"),
+    ("threads that do not follow the run", "machine.js", "this.columns.scrollTop = Math.min(top,", "this.columns.dataset.top = Math.min(top,"),
+    ("memory below the window", "style.css", "  .view { max-height: calc(100vh - 1rem); }", "  .framed .view { max-height: calc(100vh - 1rem); }"),
     ("that the condition may need fewer is not said", "sentences.js", "...isDecided ? elsewhere() : fewer()]", "...isDecided ? elsewhere() : []]"),
     ("that the condition may need fewer where it is broken", "sentences.js", "...isDecided ? elsewhere() : fewer()]", "...isDecided ? [...elsewhere(), ...fewer()] : fewer()]"),
     ("that no fence mends it is not said", "sentences.js", 'kind === "no_fence_mends" ? ": no fence mends it."', 'kind === "none" ? ": no fence mends it."'),

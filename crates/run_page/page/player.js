@@ -211,7 +211,7 @@ class Player {
       redraw();
     };
     new ResizeObserver(resize).observe(this.machine.stage);
-    all(this.machine.stage, ".code").forEach(lines => lines.addEventListener("scroll", redraw));
+    all(this.machine.stage, ".threads, .code").forEach(box => box.addEventListener("scroll", redraw));
   }
 
   // Goes to a step that a reader asks for, with the machine in sight.
