@@ -392,7 +392,7 @@ def check_run(run, page):
     same(page["pass"], run.passing if run.gap else -1, where + ": the row that passes the gap")
     end = f"step {len(run.steps)}The run ends with {run.outcome} "
     right(page["moments"][-1].startswith(end), where + ": how it ends")
-    check_decision(run, page["moments"])
+    check_decision(run, page["moments"], page["bad"])
     if not run.gap:
         said = f"It passes {', '.join(run.run['passed'])}." if run.run["passed"] else "It passes no gap."
         return same([passed.startswith(said) for passed in page["passed"]], [] if run.sequential else [True], where + ": passed gaps")
@@ -411,8 +411,9 @@ def check_run(run, page):
     return None
 
 
-def check_decision(run, moments):
-    """The step that breaks the condition, or meets it, is named; where the condition is asked about, the step that decides it."""
+def check_decision(run, moments, bad):
+    """The step that breaks the condition, or meets it, is named; where the condition is asked about, the step that decides it. It is
+    bad in a run that a fence prevents, and where it breaks the condition."""
     asked = run.document["command"] == "witness" or "condition" in run.document.get("answer", {})
     says = {"breaks": f"This breaks the condition {run.document['condition']}.", "meets": f"This meets the condition {run.document['condition']}.",
             None: f"From here on the formula of the condition is {str(run.run['meets_condition']).lower()}." if asked else None}[run.breaks()]
@@ -422,6 +423,7 @@ def check_decision(run, moments):
     same(others, [], run.where + ": no other step decides the condition")
     if found:
         right(re.match(rf"step {run.decided}(?!\d)", found[0]), f"{run.where}: it is step {run.decided}: {found[0]}")
+        same(found[0] in bad, bool(run.gap) or run.breaks() == "breaks", f"{run.where}: whether it is bad: {found[0]}")
         reads, reaches = run.steps[run.decided - 1]["reads"], run.steps[run.decided - 1]["reaches"]
         right(not reads or f"reads {assignment(reads)}" in found[0], run.where + ": what the deciding step reads")
         right(reads or not reaches or assignment(reaches) in found[0], run.where + ": what reaches memory in the deciding step")

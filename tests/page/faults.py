@@ -65,6 +65,8 @@ FAULTS = [
     ("or for and in the condition", "condition.js", "return valueOf => allOf(", "return valueOf => anyOf("),
     ("which condition breaks, turned", "sentences.js", 'run.run.meets_condition === (quantifier() === "~exists")', 'run.run.meets_condition !== (quantifier() === "~exists")'),
     ("the step that breaks the condition is not named", "sentences.js", "if (run.decided === null || says === null) {", "if (true) {"),
+    ("a run that is sought is bad", "sentences.js", "run.gap !== null || isBroken(run);", "true;"),
+    ("a run that a fence prevents is not bad", "sentences.js", "run.gap !== null || isBroken(run);", "isBroken(run);"),
     ("threads that do not follow the run", "machine.js", "this.columns.scrollTop = Math.min(top,", "this.columns.dataset.top = Math.min(top,"),
     ("memory below the window", "style.css", "  .view { max-height: calc(100vh - 1rem); }", "  .framed .view { max-height: calc(100vh - 1rem); }"),
     ("that the condition may need fewer is not said", "sentences.js", "...isDecided ? elsewhere() : fewer()]", "...isDecided ? elsewhere() : []]"),

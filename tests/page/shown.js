@@ -102,6 +102,7 @@ const pageShown = () => ({
   pass: found(document, "tbody tr").findIndex(row => row.classList.contains("pass")),
   title: found(document, ".wrong h2").map(textOf).join(""),
   moments: textsOf(document, ".moments li"),
+  bad: textsOf(document, ".moments .bad"),
   also: textsOf(document, ".also"),
   passed: textsOf(document, ".passed"),
   commands: textsOf(document, ".command"),

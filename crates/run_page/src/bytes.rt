@@ -779,7 +779,8 @@ function shortWords(run, i) {\n\
 \x20 return label === null ? [`${thread} executes `, code(run.text(i))] : [`${thread} jumps to `, code(label)];\n\
 }\n\
 \n\
-// The moments with the step that decides the file's condition among them, in the order of their first steps.\n\
+// The moments with the step that decides the file's condition among them, in the order of their first steps. It is bad in\n\
+// a run that a fence prevents, and where it breaks the condition.\n\
 function allMoments(run) {\n\
 \x20 const says = decisionWords(run);\n\
 \x20 if (run.decided === null || says === null) {\n\
@@ -789,7 +790,8 @@ function allMoments(run) {\n\
 \x20 const same = run.moments.find(isAlone);\n\
 \x20 const say = [...same ? [...same.say, \" \"] : [...shortWords(run, run.decided - 1), \". \"], ...says];\n\
 \x20 const others = run.moments.filter(moment => moment !== same);\n\
-\x20 return [...others, { steps: [run.decided], say, isBad: true }].sort((a, b) => a.steps[0] - b.steps[0]);\n\
+\x20 const isBad = run.gap !== null || isBroken(run);\n\
+\x20 return [...others, { steps: [run.decided], say, isBad }].sort((a, b) => a.steps[0] - b.steps[0]);\n\
 }\n\
 \n\
 // Whether a run breaks the file's condition: alone it can't break one with `exists`.\n\
@@ -1724,7 +1726,8 @@ class Player {\n\
 \x20   this.slider.value = at;\n\
 \x20   this.slider.setAttribute(\"aria-valuetext\", placeText(this.run, at));\n\
 \x20   this.count.textContent = at > 0 ? `Step ${at} of ${last}` : \"Start\";\n\
-\x20   const end = at === last ? [html(\"span\", { class: \"verdict\" }, \" The outcome is \"), ...verdictWords(this.run)] : [];\n\
+\x20   const look = this.run.gap === null ? \"\" : \"verdict\";\n\
+\x20   const end = at === last ? [html(\"span\", { class: look }, \" The outcome is \"), ...verdictWords(this.run)] : [];\n\
 \x20   this.say.replaceChildren(...stepWords(this.run, at), ...end);\n\
 \x20   // A button that is disabled would lose the focus, and with it the keyboard.\n\
 \x20   for (const [button, limit] of [[this.first, 0], [this.back, 0], [this.forward, last], [this.final, last]]) {\n\
