@@ -16,7 +16,8 @@ class Pages(Cases):
         tell("the page's constants", made.returncode == 0, made.stderr)
 
     def test_drawn(self):
-        """Where a browser is installed, what it draws of each page is what the documents say."""
+        """What a browser draws of each page is what the documents say. Where none is installed that is skipped: no case is counted."""
         drawn = ran(os.path.join(TESTS, "page", "run"))
-        tell("what the page draws", drawn.returncode == 0, drawn.stdout + drawn.stderr)
+        if not drawn.stdout.startswith("skipped: "):
+            tell("what the page draws", drawn.returncode == 0, drawn.stdout + drawn.stderr)
         print(drawn.stdout, end="")

@@ -1,6 +1,7 @@
 """Compares what a page shows with its document: each step of each run, and what is shown once for a run.
 
 The sentences, marks and places that are expected here are worked out from the document, apart from the page's script."""
+import json
 import os
 import re
 import time
@@ -10,9 +11,9 @@ with open(os.path.join(HERE, "shown.js"), encoding="utf-8") as file:
     SHOWN = file.read()
 HEADS = ["#", "step", "thread", "instruction", "what it does", "still waits", "reaches memory"]
 CONTROLS = ("button", "slider", "tab", "tabpanel", "checkbox", "region", "image", "table")
-SIZES = ((1280, 720), (1920, 1080), (420, 900))
+SIZES = ((1280, 720), (1920, 1080), (420, 800))
 SOME_STEPS = 6
-BESIDE = 4  # so many threads stand beside the texts
+BESIDE = 4  # so many threads stand beside the texts, and fit on a telephone
 SILENT = ("Runtime.exceptionThrown", "Log.entryAdded", "Runtime.consoleAPICalled")
 ADDRESS_DELAY = 5  # seconds at most
 
@@ -391,7 +392,7 @@ def check_run(run, page):
     same(page["pass"], run.passing if run.gap else -1, where + ": the row that passes the gap")
     end = f"step {len(run.steps)}The run ends with {run.outcome} "
     right(page["moments"][-1].startswith(end), where + ": how it ends")
-    check_decision(run, page["moments"])
+    check_decision(run, page["moments"], page["bad"])
     if not run.gap:
         said = f"It passes {', '.join(run.run['passed'])}." if run.run["passed"] else "It passes no gap."
         return same([passed.startswith(said) for passed in page["passed"]], [] if run.sequential else [True], where + ": passed gaps")
@@ -410,8 +411,9 @@ def check_run(run, page):
     return None
 
 
-def check_decision(run, moments):
-    """The step that breaks the condition, or meets it, is named; where the condition is asked about, the step that decides it."""
+def check_decision(run, moments, bad):
+    """The step that breaks the condition, or meets it, is named; where the condition is asked about, the step that decides it. It is
+    bad in a run that a fence prevents, and where it breaks the condition."""
     asked = run.document["command"] == "witness" or "condition" in run.document.get("answer", {})
     says = {"breaks": f"This breaks the condition {run.document['condition']}.", "meets": f"This meets the condition {run.document['condition']}.",
             None: f"From here on the formula of the condition is {str(run.run['meets_condition']).lower()}." if asked else None}[run.breaks()]
@@ -421,6 +423,7 @@ def check_decision(run, moments):
     same(others, [], run.where + ": no other step decides the condition")
     if found:
         right(re.match(rf"step {run.decided}(?!\d)", found[0]), f"{run.where}: it is step {run.decided}: {found[0]}")
+        same(found[0] in bad, bool(run.gap) or run.breaks() == "breaks", f"{run.where}: whether it is bad: {found[0]}")
         reads, reaches = run.steps[run.decided - 1]["reads"], run.steps[run.decided - 1]["reaches"]
         right(not reads or f"reads {assignment(reads)}" in found[0], run.where + ": what the deciding step reads")
         right(reads or not reaches or assignment(reaches) in found[0], run.where + ": what reaches memory in the deciding step")
@@ -500,13 +503,16 @@ def check_hints(browser, run):
 
 def check_sizes(browser, run, thorough):
     """In windows of each size: memory, buffers, registers and the executed instruction are in sight, at every step or at some of them,
-    nothing is cut off, the width is used, and the tabs take few rows."""
+    nothing is cut off, the width is used, and the tabs take few rows. On a telephone many threads scroll in a box that is in sight, with
+    the one of the step in sight there."""
     last = len(run.steps)
     for width, height in SIZES:
         browser.resize(width, height)
         where, threads = f"{run.where} at {width} by {height}", len(run.document["threads"])
-        if width >= 1280 or threads <= BESIDE:
-            same(shown(browser, f"outOfSight({last}, {last if thorough else min(last, SOME_STEPS)})"), [], where + ": in sight")
+        fit = width >= 1280 or threads <= BESIDE
+        threads_of_steps = json.dumps([None if fit else thread for thread in [0, *run.threads]])
+        steps = last if thorough or not fit else min(last, SOME_STEPS)
+        same(shown(browser, f"outOfSight({last}, {steps}, {threads_of_steps})"), [], where + ": in sight")
         same(shown(browser, "cutOff()"), [], where + ": nothing is cut off")
         same(shown(browser, "emptyParts()"), [], where + ": the width is used")
         same(shown(browser, "tabRows()") <= (1 if width >= 1280 else 3), True, where + ": rows of tabs")

@@ -102,6 +102,7 @@ const pageShown = () => ({
   pass: found(document, "tbody tr").findIndex(row => row.classList.contains("pass")),
   title: found(document, ".wrong h2").map(textOf).join(""),
   moments: textsOf(document, ".moments li"),
+  bad: textsOf(document, ".moments .bad"),
   also: textsOf(document, ".also"),
   passed: textsOf(document, ".passed"),
   commands: textsOf(document, ".command"),
@@ -125,16 +126,21 @@ function isInSight(element, boxes) {
   return [...boxes.map(box => box.getBoundingClientRect()), { left: 0, top: 0, right: innerWidth, bottom: innerHeight }].every(isIn);
 }
 
-// Cells, slots and executed instructions that are out of sight, with the step: after each of so many steps of a run.
-function outOfSight(last, steps) {
+// Cells, slots and executed instructions that are out of sight, with the step: after each of so many steps of a run. Where a
+// thread is given for the step, the boxes of the others may be scrolled out of sight, in a box that is in sight.
+function outOfSight(last, steps, threadOf) {
   const slider = document.querySelector("#step");
-  const boxes = new Map(found(document, ".cell, .slot, .code li").map(element => [element, scrollers(element)]));
+  const threads = found(document, ".thread");
+  const holder = document.querySelector(".threads");
+  const boxes = new Map([holder, ...found(document, ".cell, .slot, .code li")].map(element => [element, scrollers(element)]));
   const hidden = [];
   for (let i = 0; i <= steps; i++) {
     slider.value = Math.round(i * last / steps);
     slider.dispatchEvent(new Event("input"));
-    hidden.push(...found(document, ".cell, .slot, .code .now").filter(element => !isInSight(element, boxes.get(element)))
-      .map(element => `${slider.value}: ${textOf(element)}`));
+    const own = threadOf[slider.value];
+    const mayHide = element => own !== null && holder.contains(element) && !threads[own].contains(element);
+    hidden.push(...[holder, ...found(document, ".cell, .slot, .code .now")]
+      .filter(element => !mayHide(element) && !isInSight(element, boxes.get(element))).map(element => `${slider.value}: ${textOf(element)}`));
   }
   return hidden;
 }

@@ -59,8 +59,9 @@ function threadColumn(program, thread, run) {
 }
 
 // The columns stand in one row where it has room for them, and else in several.
-const threadColumns = run => html("div", { class: "threads", style: `--threads: ${given.threads.length}` },
-  given.threads.map((program, thread) => threadColumn(program, thread, run)));
+const threadColumns = run => html("div", {
+  class: "threads", role: "group", "aria-label": "the threads", style: `--threads: ${given.threads.length}`,
+}, given.threads.map((program, thread) => threadColumn(program, thread, run)));
 
 // Up to so many columns fit on a screen beside the texts.
 const BESIDE = 4;
@@ -110,6 +111,7 @@ class Machine {
   }
 
   // Makes each row of columns high enough for registers and buffers, and for some lines where the program is above them.
+  // Where the rows are higher than their box, it scrolls, also by keyboard.
   fit() {
     const needs = this.threads.map(column => {
       const boxes = [...column.querySelector(".low").children].map(box => box.getBoundingClientRect());
@@ -117,17 +119,19 @@ class Machine {
       return low + (boxes[0].left > column.querySelector(".code").getBoundingClientRect().right ? BESIDE_PROGRAM : BELOW_PROGRAM);
     });
     this.stage.style.setProperty("--row", `${Math.ceil(Math.max(...needs))}px`);
-    this.stage.style.setProperty("--rows", new Set(this.threads.map(column => column.offsetTop)).size);
+    this.columns.tabIndex = this.columns.scrollHeight > this.columns.clientHeight ? 0 : -1;
   }
 
-  // Scrolls each list of instructions so that the one that is executed, or else the next one, stands in the middle.
+  // Scrolls the threads as little as it takes to have the one of the step in sight, and each list of instructions so that
+  // the one that is executed, or else the next one, stands in the middle; to its end where the thread has ended.
   follow(steps) {
+    const { offsetTop: top, offsetHeight: height } = this.threads[steps > 0 ? this.run.threads[steps - 1] : 0];
+    this.columns.scrollTop = Math.min(top, Math.max(this.columns.scrollTop, top + height - this.columns.clientHeight));
     this.threads.forEach((column, thread) => {
       const lines = column.querySelector(".code");
       const line = lines.querySelector(".now") ?? lines.querySelector(`[data-number="${this.run.next(steps, thread)}"]`);
-      if (line !== null) {
-        lines.scrollTop = line.offsetTop + line.offsetHeight / 2 - lines.clientHeight / 2;
-      }
+      lines.scrollTop = line === null ? lines.scrollHeight
+        : line.offsetTop + line.offsetHeight / 2 - lines.clientHeight / 2;
     });
   }
 

@@ -211,7 +211,7 @@ class Player {
       redraw();
     };
     new ResizeObserver(resize).observe(this.machine.stage);
-    all(this.machine.stage, ".code").forEach(lines => lines.addEventListener("scroll", redraw));
+    all(this.machine.stage, ".threads, .code").forEach(box => box.addEventListener("scroll", redraw));
   }
 
   // Goes to a step that a reader asks for, with the machine in sight.
@@ -260,7 +260,8 @@ class Player {
     this.slider.value = at;
     this.slider.setAttribute("aria-valuetext", placeText(this.run, at));
     this.count.textContent = at > 0 ? `Step ${at} of ${last}` : "Start";
-    const end = at === last ? [html("span", { class: "verdict" }, " The outcome is "), ...verdictWords(this.run)] : [];
+    const look = this.run.gap === null ? "" : "verdict";
+    const end = at === last ? [html("span", { class: look }, " The outcome is "), ...verdictWords(this.run)] : [];
     this.say.replaceChildren(...stepWords(this.run, at), ...end);
     // A button that is disabled would lose the focus, and with it the keyboard.
     for (const [button, limit] of [[this.first, 0], [this.back, 0], [this.forward, last], [this.final, last]]) {

@@ -60,7 +60,8 @@ function shortWords(run, i) {
   return label === null ? [`${thread} executes `, code(run.text(i))] : [`${thread} jumps to `, code(label)];
 }
 
-// The moments with the step that decides the file's condition among them, in the order of their first steps.
+// The moments with the step that decides the file's condition among them, in the order of their first steps. It is bad in
+// a run that a fence prevents, and where it breaks the condition.
 function allMoments(run) {
   const says = decisionWords(run);
   if (run.decided === null || says === null) {
@@ -70,7 +71,8 @@ function allMoments(run) {
   const same = run.moments.find(isAlone);
   const say = [...same ? [...same.say, " "] : [...shortWords(run, run.decided - 1), ". "], ...says];
   const others = run.moments.filter(moment => moment !== same);
-  return [...others, { steps: [run.decided], say, isBad: true }].sort((a, b) => a.steps[0] - b.steps[0]);
+  const isBad = run.gap !== null || isBroken(run);
+  return [...others, { steps: [run.decided], say, isBad }].sort((a, b) => a.steps[0] - b.steps[0]);
 }
 
 // Whether a run breaks the file's condition: alone it can't break one with `exists`.

@@ -133,7 +133,7 @@ button[aria-disabled=true] { color: var(--soft); cursor: default; border-style: 
 .graph { order: 4; }\n\
 .view .machine { margin: -2px; padding: 2px; border: 0; display: flex; flex-direction: column; min-height: 0; overflow: auto; }\n\
 @media screen and (min-height: 36rem) {\n\
-\x20 .framed .view { max-height: calc(100vh - 1rem); }\n\
+\x20 .view { max-height: calc(100vh - 1rem); }\n\
 }\n\
 @media screen and (min-width: 62rem) and (min-height: 36rem) {\n\
 \x20 .stacked .view { order: 0; max-height: calc(100vh - 11rem); }\n\
@@ -182,26 +182,28 @@ button[aria-disabled=true] { color: var(--soft); cursor: default; border-style: 
 .moments [aria-current] { border-color: var(--now); background: var(--now-bg); }\n\
 .where { flex: none; display: grid; gap: 0.2rem; }\n\
 \n\
-/* The machine: where it is higher than its box, the lists of instructions scroll */\n\
+/* The machine: where it is higher than its box, the lists of instructions scroll, and then the threads, above the memory */\n\
 .stage {\n\
 \x20 position: relative;\n\
 \x20 display: grid;\n\
-\x20 grid-template-rows: minmax(calc(var(--rows) * (var(--row) + 0.6rem)), 1fr) auto;\n\
+\x20 grid-template-rows: minmax(var(--row), 1fr) auto;\n\
 \x20 gap: 2rem;\n\
 \x20 min-height: 0;\n\
 }\n\
 .threads {\n\
 \x20 display: grid;\n\
-\x20 grid-template-columns: repeat(auto-fit, minmax(max(9.4rem, 100% / var(--threads) - 0.6rem), 1fr));\n\
+\x20 grid-template-columns: repeat(auto-fit, minmax(max(8.8rem, 100% / var(--threads) - 0.6rem), 1fr));\n\
 \x20 grid-auto-rows: minmax(var(--row), 1fr);\n\
 \x20 gap: 0.6rem;\n\
 \x20 min-height: 0;\n\
+\x20 position: relative;\n\
+\x20 overflow-y: auto;\n\
 }\n\
 .thread {\n\
 \x20 container-type: inline-size;\n\
 \x20 border: 1px solid var(--line);\n\
 \x20 border-radius: 8px;\n\
-\x20 padding: 0.4rem 0.5rem;\n\
+\x20 padding: 0.4rem;\n\
 \x20 min-width: 0;\n\
 \x20 min-height: 0;\n\
 \x20 display: grid;\n\
@@ -297,8 +299,10 @@ button[aria-disabled=true] { color: var(--soft); cursor: default; border-style: 
 \n\
 /* A narrow column of the machine */\n\
 @container (max-width: 12rem) {\n\
-\x20 .low { grid-template-columns: minmax(3.4rem, 1fr) minmax(4.4rem, 1.3fr); gap: 0.3rem; }\n\
-\x20 .low h4 { font-size: 0.75rem; }\n\
+\x20 .code li { padding-left: 1.4rem; }\n\
+\x20 .code li[data-number]::before { width: 1.1rem; }\n\
+\x20 .low { grid-template-columns: minmax(3.6rem, 1fr) minmax(4rem, 1.3fr); gap: 0.25rem; }\n\
+\x20 .low h4 { font-size: 0.7rem; }\n\
 \x20 .low .cell, .slot { padding: 0.15rem 0.2rem; }\n\
 \x20 .buffer ol { padding: 2px; }\n\
 }\n\
@@ -775,7 +779,8 @@ function shortWords(run, i) {\n\
 \x20 return label === null ? [`${thread} executes `, code(run.text(i))] : [`${thread} jumps to `, code(label)];\n\
 }\n\
 \n\
-// The moments with the step that decides the file's condition among them, in the order of their first steps.\n\
+// The moments with the step that decides the file's condition among them, in the order of their first steps. It is bad in\n\
+// a run that a fence prevents, and where it breaks the condition.\n\
 function allMoments(run) {\n\
 \x20 const says = decisionWords(run);\n\
 \x20 if (run.decided === null || says === null) {\n\
@@ -785,7 +790,8 @@ function allMoments(run) {\n\
 \x20 const same = run.moments.find(isAlone);\n\
 \x20 const say = [...same ? [...same.say, \" \"] : [...shortWords(run, run.decided - 1), \". \"], ...says];\n\
 \x20 const others = run.moments.filter(moment => moment !== same);\n\
-\x20 return [...others, { steps: [run.decided], say, isBad: true }].sort((a, b) => a.steps[0] - b.steps[0]);\n\
+\x20 const isBad = run.gap !== null || isBroken(run);\n\
+\x20 return [...others, { steps: [run.decided], say, isBad }].sort((a, b) => a.steps[0] - b.steps[0]);\n\
 }\n\
 \n\
 // Whether a run breaks the file's condition: alone it can't break one with `exists`.\n\
@@ -1020,8 +1026,9 @@ function threadColumn(program, thread, run) {\n\
 }\n\
 \n\
 // The columns stand in one row where it has room for them, and else in several.\n\
-const threadColumns = run => html(\"div\", { class: \"threads\", style: `--threads: ${given.threads.length}` },\n\
-\x20 given.threads.map((program, thread) => threadColumn(program, thread, run)));\n\
+const threadColumns = run => html(\"div\", {\n\
+\x20 class: \"threads\", role: \"group\", \"aria-label\": \"the threads\", style: `--threads: ${given.threads.length}`,\n\
+}, given.threads.map((program, thread) => threadColumn(program, thread, run)));\n\
 \n\
 // Up to so many columns fit on a screen beside the texts.\n\
 const BESIDE = 4;\n\
@@ -1071,6 +1078,7 @@ class Machine {\n\
 \x20 }\n\
 \n\
 \x20 // Makes each row of columns high enough for registers and buffers, and for some lines where the program is above them.\n\
+\x20 // Where the rows are higher than their box, it scrolls, also by keyboard.\n\
 \x20 fit() {\n\
 \x20   const needs = this.threads.map(column => {\n\
 \x20     const boxes = [...column.querySelector(\".low\").children].map(box => box.getBoundingClientRect());\n\
@@ -1078,17 +1086,19 @@ class Machine {\n\
 \x20     return low + (boxes[0].left > column.querySelector(\".code\").getBoundingClientRect().right ? BESIDE_PROGRAM : BELOW_PROGRAM);\n\
 \x20   });\n\
 \x20   this.stage.style.setProperty(\"--row\", `${Math.ceil(Math.max(...needs))}px`);\n\
-\x20   this.stage.style.setProperty(\"--rows\", new Set(this.threads.map(column => column.offsetTop)).size);\n\
+\x20   this.columns.tabIndex = this.columns.scrollHeight > this.columns.clientHeight ? 0 : -1;\n\
 \x20 }\n\
 \n\
-\x20 // Scrolls each list of instructions so that the one that is executed, or else the next one, stands in the middle.\n\
+\x20 // Scrolls the threads as little as it takes to have the one of the step in sight, and each list of instructions so that\n\
+\x20 // the one that is executed, or else the next one, stands in the middle; to its end where the thread has ended.\n\
 \x20 follow(steps) {\n\
+\x20   const { offsetTop: top, offsetHeight: height } = this.threads[steps > 0 ? this.run.threads[steps - 1] : 0];\n\
+\x20   this.columns.scrollTop = Math.min(top, Math.max(this.columns.scrollTop, top + height - this.columns.clientHeight));\n\
 \x20   this.threads.forEach((column, thread) => {\n\
 \x20     const lines = column.querySelector(\".code\");\n\
 \x20     const line = lines.querySelector(\".now\") ?? lines.querySelector(`[data-number=\"${this.run.next(steps, thread)}\"]`);\n\
-\x20     if (line !== null) {\n\
-\x20       lines.scrollTop = line.offsetTop + line.offsetHeight / 2 - lines.clientHeight / 2;\n\
-\x20     }\n\
+\x20     lines.scrollTop = line === null ? lines.scrollHeight\n\
+\x20       : line.offsetTop + line.offsetHeight / 2 - lines.clientHeight / 2;\n\
 \x20   });\n\
 \x20 }\n\
 \n\
@@ -1667,7 +1677,7 @@ class Player {\n\
 \x20     redraw();\n\
 \x20   };\n\
 \x20   new ResizeObserver(resize).observe(this.machine.stage);\n\
-\x20   all(this.machine.stage, \".code\").forEach(lines => lines.addEventListener(\"scroll\", redraw));\n\
+\x20   all(this.machine.stage, \".threads, .code\").forEach(box => box.addEventListener(\"scroll\", redraw));\n\
 \x20 }\n\
 \n\
 \x20 // Goes to a step that a reader asks for, with the machine in sight.\n\
@@ -1716,7 +1726,8 @@ class Player {\n\
 \x20   this.slider.value = at;\n\
 \x20   this.slider.setAttribute(\"aria-valuetext\", placeText(this.run, at));\n\
 \x20   this.count.textContent = at > 0 ? `Step ${at} of ${last}` : \"Start\";\n\
-\x20   const end = at === last ? [html(\"span\", { class: \"verdict\" }, \" The outcome is \"), ...verdictWords(this.run)] : [];\n\
+\x20   const look = this.run.gap === null ? \"\" : \"verdict\";\n\
+\x20   const end = at === last ? [html(\"span\", { class: look }, \" The outcome is \"), ...verdictWords(this.run)] : [];\n\
 \x20   this.say.replaceChildren(...stepWords(this.run, at), ...end);\n\
 \x20   // A button that is disabled would lose the focus, and with it the keyboard.\n\
 \x20   for (const [button, limit] of [[this.first, 0], [this.back, 0], [this.forward, last], [this.final, last]]) {\n\
