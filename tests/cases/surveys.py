@@ -1,6 +1,7 @@
 """Surveys: what `fencer survey` says of each file, by an independent search of the states of the machines."""
 import json
 import os
+import random
 import re
 import subprocess
 import tempfile
@@ -8,7 +9,7 @@ import threading
 
 from cases.messages import NOTES
 from cases.progress import MINUTES, MINUTES_FROM, easy, made, read_program, reads
-from harness import EXAMPLES, FENCER, Cases, bytes_of, example_files, run, said_by, same, tell, write
+from harness import EXAMPLES, FENCER, Cases, bytes_of, example_files, in_data, run, said_by, same, tell, write
 from judges import documents, surveys
 from judges.texts import canonical_of, instruction_lines, test_of
 
@@ -84,6 +85,17 @@ REFUSED = (
 # how long a file took, and this or how large its program is, as it is said of each file
 MILLIS = re.compile(r"\b\d{1,3}(,\d{3})* ms$")
 EXTENT = re.compile(r"fencer: .*: (combinations of traces: [\d,]+( or more)?|\d{1,3}(,\d{3})* ms)")
+# seven threads that each store, in line 7, and load what the next one stores, in line 8, with an instruction that no sequential run executes
+RING = in_data("litmus", "ring-of-seven.litmus")
+RING_GAPS = [f"{t}:2" for t in range(7)]
+RING_FENCES = [f"fence {gap} line 8, before MOV EAX,[{location}]" for gap, location in zip(RING_GAPS, "bcdefga")]
+RING_LINES = [
+    "sequential condition holds", "buffered condition fails", "unexecuted 6:5 line 11 MOV [g],$2",
+    " ".join(["answer condition cost 7 set", *RING_GAPS]), *RING_FENCES, " ".join(["answer cost 7 set", *RING_GAPS]), *RING_FENCES,
+]
+RANDOM_PROGRAMS = 300
+SEED = 71
+
 HEADING = b"table sequential buffered unexecuted condition answer file\n"
 
 
@@ -117,6 +129,24 @@ class Surveys(Cases):
             wanted = survey_of([block_of("-", source)])
             for words in (["survey", "-"], ["survey", "--workers", "2", "-"]):
                 same(f"{' '.join(words)} of {name}", run(words, source), wanted)
+
+    def test_random(self):
+        """Random programs with moves, compares and jumps: which instructions no sequential run executes, by all states of these runs."""
+        draw, dead = random.Random(SEED), 0
+        for number in range(RANDOM_PROGRAMS):
+            source = surveys.random_program(draw)
+            test = test_of(source)
+            executed = surveys.executed_instructions(test)
+            wanted = [f"{t}:{k}" for t, code in enumerate(test.code) for k in range(len(code)) if (t, k) not in executed]
+            printed = run(["survey", "-"], source)[1].decode()
+            found = [line.split()[1] for line in printed.splitlines() if line.startswith("unexecuted ")]
+            tell(f"what is unexecuted in random program {number}", found == wanted, f"{found}\n  {source!r}", wanted)
+            dead += bool(wanted)
+        tell("many random programs have an instruction that no sequential run executes", dead > RANDOM_PROGRAMS / 4, dead)
+
+    def test_long_walk(self):
+        """Seven threads with an instruction that no sequential run executes, most of whose steps read and write no location."""
+        same("survey of a ring of seven", run(["survey", RING]), (3, "".join(line + "\n" for line in [f"file {RING}", *RING_LINES]).encode()))
 
     def test_allowed(self):
         """Programs where an instruction that no sequential run executes is allowed: the status alone is another."""

@@ -1,8 +1,11 @@
 """What one look at a program finds: the condition in both machines, the instructions that no sequential run executes, and both answers, by the states of
 the machines alone; and whether a document says it (`document_differs`).
 """
+import itertools
+
 from judges import conditions, documents, machine, traces
 
+REGISTERS = "EAX", "EBX"
 HOLDS = {"exists": any, "~exists": lambda met: not any(met), "forall": all}
 
 
@@ -17,6 +20,26 @@ def executed_instructions(test):
         seen |= after
         to_walk += after
     return found
+
+
+def random_program(draw):
+    """A small program that moves, compares and jumps between its accesses, so that often no run executes some instruction."""
+    threads = []
+    for t in range(draw.choice((2, 2, 3))):
+        count = draw.choice((3, 4, 5, 6))
+        cells, targets = [], set()
+        for k in range(count):
+            first, second, place, target = draw.choice(REGISTERS), draw.choice(REGISTERS), draw.choice("xy"), draw.randint(k + 1, count)
+            jump = draw.choice(("JE", "JNE", "JNE", "JMP"))
+            cells.append(draw.choice((f"MOV {first},[{place}]", f"MOV [{place}],${draw.choice((1, 2))}", f"MOV [{place}],{first}", f"XCHG [{place}],{first}",
+                                      f"MOV {first},${draw.choice((0, 1))}", f"MOV {first},{second}", "MFENCE", f"CMP {first},${draw.choice((0, 1, 3))}",
+                                      f"CMP {first},{second}", f"{jump} t{t}l{target}", f"{jump} t{t}l{target}")))
+            targets |= {target} if cells[-1].startswith("J") else set()
+        threads.append([(f"t{t}l{k}: " if k in targets else "") + cell for k, cell in enumerate([*cells, ""])])
+    rows = itertools.zip_longest(*threads, fillvalue="")
+    head = " | ".join(f"P{t}" for t in range(len(threads)))
+    body = "".join(" | ".join(row) + " ;\n" for row in rows)
+    return f"X86 random\n{{ }}\n{head} ;\n{body}exists (true)\n".encode()
 
 
 def holds(test, condition, model):
