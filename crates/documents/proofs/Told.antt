@@ -9,11 +9,6 @@ joined first front last before after so_far more = more ∙ ap (λ (ms : List (L
 pub added : (first front : List (List ℕ)) (one : List ℕ) (before after : List (List ℕ)) → before ≡ first ++ front → after ≡ before ++ one ∷ [] → after ≡ first ++ (front ++ one ∷ [])
 added first front one before after so_far more = joined first front (one ∷ []) before after so_far more
 
--- one more member after two lists of others
-pub said : (first front middle : List (List ℕ)) (one : List ℕ) (before after : List (List ℕ)) → before ≡ first ++ (front ++ middle) → after ≡ before ++ one ∷ []
-    → after ≡ first ++ (front ++ middle ++ one ∷ [])
-said first front middle one before after so_far more = added first (front ++ middle) one before after so_far more ∙ ap (λ (ms : List (List ℕ)). first ++ ms) (append_assoc front middle (one ∷ []))
-
 -- what holds of the value, if there is one, twice
 pub both : {X Y : Type 0} (made : Result X Y) (P Q : X → Type 0) → IfOk made P → IfOk made Q → IfOk made (λ x. P x × Q x)
 both (Ok x) P Q first second = (first, second)

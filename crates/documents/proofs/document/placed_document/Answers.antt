@@ -7,10 +7,12 @@ pub returns : goal.returns
 returns c =
     let source = c.args.source.now.litmus.now in
     let lines = c.args.source.now.lines.now in
-    let answer = c.args.answer in
-    let placed = record {
-      first = c.in_ok-object.object;
-      heading = c.in_ok-object.ensures;
-      printed = added _ _ _ _ _ c.in_ok-add_answer.ensures (rw c.in_ok-text.ensures at c.in_ok-add.ensures.text);
-    } in
-    (lines, c.in_ok-add_saying.ensures (codes "place") (placed_members source.program lines answer.shown.now c.args.costs.now answer.gaps.now c.args.fenced.now) placed)
+    let answer = c.args.answer in (
+      lines,
+      c.in_ok-add_saying.ensures (codes "place") (placed_members source.program lines answer.shown.now c.args.costs.now answer.gaps.now c.args.fenced.now)
+          (record {
+            first = c.in_ok-object.object;
+            heading = c.in_ok-object.ensures;
+            printed = added _ _ _ _ _ c.in_ok-add_answer.ensures (rw c.in_ok-text.ensures at c.in_ok-add.ensures.text);
+          }),
+    )

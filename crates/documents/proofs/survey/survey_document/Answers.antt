@@ -1,6 +1,6 @@
 use Rattle.documents.proofs.Vocabulary.{List, ℕ, ◌++◌}
 use Rattle.documents.specs.Surveys.{Found, both_answers, executed_members, found_in}
-use Rattle.documents.proofs.Told.{joined, said}
+use Rattle.documents.proofs.Told.{added, joined}
 use Rattle.documents.proofs.survey.survey_document.Goals as goal
 
 pub returns : goal.returns
@@ -14,10 +14,12 @@ returns c =
     let answered = joined first executed answers _ _ c.in_ok-add_executed.ensures c.in_ok-add_answers.ensures in (
       c.in_ok-sayings.field-0,
       c.in_ok-sayings.ensures,
-      lines,
-      record {
-        first = first;
-        heading = c.in_ok-object.ensures;
-        printed = said first executed answers _ _ _ answered c.in_ok-add.ensures.text;
-      },
+      (
+        lines,
+        record {
+          first = first;
+          heading = c.in_ok-object.ensures;
+          printed = added first (executed ++ answers) _ _ _ answered c.in_ok-add.ensures.text;
+        },
+      ),
     )

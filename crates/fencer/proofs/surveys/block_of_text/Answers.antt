@@ -11,7 +11,7 @@ returns-in-Ok g c =
     let costs = option_map (λ file. file.items) c.in_ok-costs.costs in
     let tied = rw c.deref.ensures.value at c.in_ok-costs.ensures in
     IfOk-weaker c.found_block.result _ _
-    (λ block is. as_found options name told block (IsBlockOfText options name c.args.bytes.items) (λ document noted. found told costs document tied (rw (c.deref-2.ensures.value, c.as_deref.ensures.value) at c.in-Ok.ensures.told) noted) is)
+    (λ block is. as_found options name told block (IsBlockOfText options name c.args.bytes.items) (λ document noted. found told costs document tied (rw (c.deref-3.ensures.value, c.as_deref.ensures.value) at c.in-Ok.ensures.told) noted) is)
     c.found_block.ensures
 
 pub returns-in-Err : goal.returns-in-Err
@@ -22,5 +22,5 @@ returns-in-Err g c =
     let costs = option_map (λ file. file.items) c.in_ok-costs.costs in
     let tied = rw c.deref.ensures.value at c.in_ok-costs.ensures in
     IfOk-weaker c.unfound_block.result _ _
-    (λ block is. as_refused options.json name (text_fault_line why) block (IsBlockOfText options name c.args.bytes.items) (λ text says. refused_for why costs text tied (rw (c.deref-2.ensures.value, c.as_deref.ensures.value) at c.in-Err.ensures.fault) says) is)
+    (λ block is. as_refused options.json name (text_fault_line why) block (IsBlockOfText options name c.args.bytes.items) (λ text says. refused_for why costs text tied (rw (c.deref-3.ensures.value, c.as_deref.ensures.value) at c.in-Err.ensures.fault) says) is)
     c.unfound_block.ensures
