@@ -1,9 +1,12 @@
 """Witnesses: the runs of `fencer witness`, by the states of the machine alone. Where an outcome has the truth, the run that is printed is one to such
 an outcome; otherwise it is said that there is none."""
 import itertools
+import json
 import random
+import tempfile
 
-from harness import MODELS, Cases, bytes_of, example_files, in_data, litmus_cases, run, same, tell
+from cases.progress import on_terminal
+from harness import EXAMPLES, MODELS, Cases, bytes_of, example_files, in_data, litmus_cases, run, said_by, same, tell, write
 from judges import conditions, documents, machine, traces
 from judges.texts import canonical_of, test_of
 
@@ -77,3 +80,15 @@ class Witnesses(Cases):
         programs = named_programs()
         programs += [(f"random program {number}", Program(conditions.random_program(draw))) for number in range(RANDOM_PROGRAMS)]
         sought_each(programs, draw)
+
+    def test_said(self):
+        """On a terminal it is said in the words of the condition's quantifier what is found, as the document says it; elsewhere it is not."""
+        text = bytes_of(f"{EXAMPLES}/SB.litmus").decode()
+        for condition in ("exists (0:EAX=0 /\\ 1:EAX=0)", "~exists (0:EAX=0 /\\ 1:EAX=0)", "forall (0:EAX=1 \\/ 1:EAX=1)", "forall (x=1)", "~exists (x=0)"):
+            with tempfile.NamedTemporaryFile() as file:
+                write(file.name, text.replace("exists (0:EAX=0 /\\ 1:EAX=0)", condition).encode())
+                for options in ([], ["--not"], ["--model", "sequential"], ["--fences", "0:1,1:1", "--not"]):
+                    printed = run(["witness", *options, file.name])[1]
+                    says = json.loads(run(["witness", "--json", *options, file.name])[1])["says"]
+                    same(f"what a terminal shows of witness {' '.join(options)} of {condition}", on_terminal(["witness", *options, file.name]), (printed, [f"fencer: {says}"]))
+                    same(f"what standard error has of witness {' '.join(options)} of {condition}", said_by(["witness", *options, file.name]), "")
