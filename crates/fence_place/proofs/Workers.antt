@@ -2,6 +2,7 @@
 use Rattle.fence_place.proofs.Vocabulary.{◌≡◌, ◌∙◌, Bool, true, false, ℕ, List, Option, Some, refl, sym, Worker, PlaceFault, All, IfSome, slice_get, slice_index_or, get_or_from_slice_get, HuntView, HasStopped, MayStop}
 use Rattle.fence_place.proofs.Vocabulary.{NoneLacksRun, FaultIsAfter, lacks_run_for}
 use Rattle.fence_place.specs.{declared.worker.StopReason.StopReason, declared.worker.StopReason.TheVariants.NoRun, Faults.MayHuntFail}
+use Rattle.tree_laws.proofs.Lists.{found_has}
 use Rattle.fence_place.specs.declared.fault.PlaceFault.TheVariants as fault
 
 -- what is read at a place where an element stands is that element
@@ -15,7 +16,7 @@ none_lacked stop may = refl
 -- where a worker lacked a run the oracle may lack runs
 pub may_lack : (h : HuntView) (may : Bool) (workers : List Worker) → All (HasStopped h may) workers → ¬ NoneLacksRun workers → may ≡ true
 may_lack h true workers ended lacked = refl
-may_lack h false workers ended lacked = absurd (lacked (λ place w at. none_lacked w.stop ((element (HasStopped h false) workers place w at ended).1)))
+may_lack h false workers ended lacked = absurd (lacked (λ place w at. none_lacked w.stop ((found_has (HasStopped h false) workers place w at ended).1)))
 
 -- the fault of a hunt, where its workers have ended as they may
 pub hunt_fails : (h : HuntView) (may : Bool) (workers : List Worker) (why : PlaceFault) → All (HasStopped h may) workers → FaultIsAfter workers why → MayHuntFail may why
