@@ -34,8 +34,19 @@ struct SearchState {
     parts: AtomicU64,
     /// How many parts are done.
     done: AtomicU64,
+    /// Whether states are gone through.
+    is_walked: AtomicBool,
     /// Whether what was found is judged.
     is_judged: AtomicBool,
+}
+
+/// How far the parts of a search are, where it is cut into them.
+#[derive(Clone, Copy)]
+struct Parts {
+    done: u64,
+    all: u64,
+    /// For how many milliseconds they have been searched.
+    millis: u64,
 }
 
 impl SearchWatch {
@@ -91,6 +102,13 @@ impl SearchWatch {
         }
     }
 
+    /// Notes that the states of the sequential machine are gone through.
+    pub fn walk(&self) {
+        if let Some(state) = &self.state {
+            state.is_walked.store(true, Ordering::SeqCst);
+        }
+    }
+
     /// Notes that what is found is judged.
     pub fn judge(&self) {
         if let Some(state) = &self.state {
@@ -106,6 +124,7 @@ impl SearchState {
             asked: AtomicU64::new(0),
             parts: AtomicU64::new(0),
             done: AtomicU64::new(0),
+            is_walked: AtomicBool::new(false),
             is_judged: AtomicBool::new(false),
         }
     }
@@ -120,6 +139,9 @@ impl SearchState {
 /// Reports a search every few seconds, until it ends.
 fn report_by_time(alloc: Global, progress: Progress, state: &Arc<SearchState, Global>) {
     let mut due = LINE_MILLIS;
+    // which question is asked, and since when its parts are searched
+    let mut question = 0;
+    let mut start = 0;
     for _ in 0..MOST_NAPS {
         progress.wait(NAP_MILLIS);
         if Arc::strong_count(state) < BOTH {
@@ -128,56 +150,86 @@ fn report_by_time(alloc: Global, progress: Progress, state: &Arc<SearchState, Gl
         let Some(millis) = progress.millis() else {
             return;
         };
+        let asked = state.asked.load(Ordering::SeqCst);
+        if asked != question || state.parts.load(Ordering::SeqCst) == 0 {
+            question = asked;
+            start = millis;
+        }
         if millis >= due {
-            progress.warn(line_of(alloc, millis / 1_000, state));
+            progress.warn(line_of(alloc, state, millis, start));
             due = millis.saturating_add(LINE_MILLIS);
         }
     }
 }
 
-/// The line of a search after so many seconds.
-fn line_of(alloc: Global, seconds: u64, state: &SearchState) -> Result<Vec<u8>, AllocError> {
-    let far = how_far(alloc, state)?;
-    let seconds = grouped(alloc, seconds)?;
+/// The line of a search after so many milliseconds, whose parts have been searched since then.
+fn line_of(
+    alloc: Global,
+    state: &SearchState,
+    millis: u64,
+    start: u64,
+) -> Result<Vec<u8>, AllocError> {
+    let parts = Parts {
+        done: state.done.load(Ordering::SeqCst),
+        all: state.parts.load(Ordering::SeqCst),
+        millis: millis.saturating_sub(start),
+    };
+    let far = how_far(alloc, state, parts)?;
+    let seconds = grouped(alloc, millis / 1_000)?;
     Ok(format!(in alloc; "fencer: after {seconds} s: {far}\n")?.into_bytes())
 }
 
 /// How far a search is, in words.
-fn how_far(alloc: Global, state: &SearchState) -> Result<String, AllocError> {
+fn how_far(alloc: Global, state: &SearchState, parts: Parts) -> Result<String, AllocError> {
     let asked = state.asked.load(Ordering::SeqCst);
-    let parts = state.parts.load(Ordering::SeqCst);
-    let done = state.done.load(Ordering::SeqCst);
     if state.is_judged.load(Ordering::SeqCst) {
         format!(in alloc; "what is found is judged")
+    } else if state.is_walked.load(Ordering::SeqCst) {
+        format!(in alloc; "the states of the sequential machine are gone through")
     } else if asked == 0 {
-        outcomes_found(alloc, done, parts)
+        outcomes_found(alloc, parts)
     } else {
-        sets_asked(alloc, asked, done, parts)
+        sets_asked(alloc, asked, parts)
     }
 }
 
 /// How far the search for outcomes is.
-fn outcomes_found(alloc: Global, done: u64, parts: u64) -> Result<String, AllocError> {
-    if parts == 0 {
+fn outcomes_found(alloc: Global, parts: Parts) -> Result<String, AllocError> {
+    if parts.all == 0 {
         return format!(in alloc; "outcomes are searched for");
     }
-    let share = share_of(alloc, done, parts)?;
-    format!(in alloc; "{share} of the search for outcomes are done")
+    let share = parts.share(alloc)?;
+    let left = parts.left(alloc)?;
+    format!(in alloc; "{share} of the search for outcomes are done{left}")
 }
 
 /// How many sets were asked about, and how far the last question is.
-fn sets_asked(alloc: Global, asked: u64, done: u64, parts: u64) -> Result<String, AllocError> {
+fn sets_asked(alloc: Global, asked: u64, parts: Parts) -> Result<String, AllocError> {
     let asked = grouped(alloc, asked)?;
-    if parts == 0 {
+    if parts.all == 0 {
         return format!(in alloc; "sets asked: {asked}");
     }
-    let share = share_of(alloc, done, parts)?;
-    format!(in alloc; "sets asked: {asked}; {share} of the last question are done")
+    let share = parts.share(alloc)?;
+    let left = parts.left(alloc)?;
+    format!(in alloc; "sets asked: {asked}; {share} of the last question are done{left}")
 }
 
-/// How many of the parts are done.
-fn share_of(alloc: Global, done: u64, parts: u64) -> Result<String, AllocError> {
-    let done = grouped(alloc, done)?;
-    let parts = grouped(alloc, parts)?;
-    format!(in alloc; "{done} of {parts} parts")
+impl Parts {
+    /// How many of the parts are done.
+    fn share(self, alloc: Global) -> Result<String, AllocError> {
+        let done = grouped(alloc, self.done)?;
+        let all = grouped(alloc, self.all)?;
+        format!(in alloc; "{done} of {all} parts")
+    }
+
+    /// About how many seconds are left, if the parts that are left take as long as those that are done; nothing before the first is
+    /// done.
+    fn left(self, alloc: Global) -> Result<String, AllocError> {
+        let Some(each) = self.millis.checked_div(self.done) else {
+            return Ok(String::new(alloc));
+        };
+        let left = self.all.saturating_sub(self.done).saturating_mul(each);
+        let seconds = grouped(alloc, left.div_ceil(1_000))?;
+        format!(in alloc; ", about {seconds} s left")
+    }
 }

@@ -22,7 +22,8 @@ use documents::{ExecutedRun, Note};
 use gap_list::TextLines;
 use json_text::JsonObject;
 use placed_text::{
-    AnswerText, Effort, SolveFault, TextFault, answer_text, read_gap_costs, read_program,
+    AnswerText, Effort, SearchWatch, SolveFault, TextFault, answer_text, read_gap_costs,
+    read_program,
 };
 use report::is_true_of;
 use std::alloc::{AllocError, Global};
@@ -64,14 +65,19 @@ fn both_outcomes<T: Threads + Sync>(
     Ok((sequential, buffered))
 }
 
-/// Each instruction of a program, and runs that together execute those which some sequential run executes.
-fn visits_and_runs(
+/// Each instruction of a program, and runs that together execute those which some sequential run executes. That states are gone
+/// through is reported by time.
+fn visits_and_runs<T: Threads>(
+    rt: &T,
     alloc: Global,
+    effort: Effort,
     program: &Program,
 ) -> Result<(Vec<Visit>, Vec<ExecutedRun>), AllocError>
     ensures visits { IfOk result (λ both. AreVisits program.now (instruction_places program.now.threads) both.0.items) }
     ensures runs { IfOk result (λ both. AreExecutedRuns program.now both.0.items both.1.items) }
 {
+    let watch = SearchWatch::new(rt, alloc, effort.progress);
+    watch.walk();
     let visits = visits_of(alloc, program)?;
     let runs = executed_runs(alloc, program, &visits)?;
     Ok((visits, runs))
@@ -109,7 +115,7 @@ fn survey_of<T: Threads + Wait + Sync>(
     let program = &litmus.program;
     let tied = read_gap_costs(alloc, costs, program)?;
     let (sequential, buffered) = both_outcomes(rt, alloc, effort, program)?;
-    let (visits, runs) = visits_and_runs(alloc, program)?;
+    let (visits, runs) = visits_and_runs(rt, alloc, effort, program)?;
     let (condition, whole) = both_answers(rt, alloc, text, costs, effort)?;
     Ok(Survey {
         litmus,
