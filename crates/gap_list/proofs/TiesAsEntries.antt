@@ -2,7 +2,7 @@
 use Rattle.gap_list.proofs.Vocabulary.{◌≡◌, ◌≢◌, ◌==◌, ◌||◌, ◌+◌, ◌<◌, ◌≤◌, ℕ, zero, suc, Bool, true, false, List, [], ◌∷◌, ◌++◌, length, get_or, map, nat_cmp, Option, Some, refl, sym, ap, ◌∙◌, subst, arith, inl, inr, unwrap_or, filter, range_with_len, list_all, option_map, option_map_or, unwrap_or-slice_get}
 use Rattle.gap_list.proofs.Vocabulary.{Entry, NoGapTwice, entry_of, gaps_of, least_of, name_said, costs_of, ties_of, as_read, cost_read}
 use Rattle.std.specs.FinSet as set
-use Rattle.std.proofs.lemmas.Bool.{cases_Bool, cases_lt, eq-eqb, eqb-true, lt-ltb, ltb-true, or_cases}
+use Rattle.std.proofs.lemmas.Bool.{cases_Bool, cases_lt, eq-eqb, eqb-true, lt-ltb, ltb-true, or_cases, or_right}
 use Rattle.std.proofs.lemmas.List.Folds.{list_any-append, list_any_at}
 use Rattle.std.proofs.lemmas.List.FromFn.{fill_by_all, length-range_with_len, get_or-range_with_len, length-map-range_with_len, get_or-map-range_with_len}
 use Rattle.std.proofs.lemmas.List.Kept.{AllPairs-cons, AllPairs-filter}
@@ -16,7 +16,7 @@ use Rattle.gap_sets.specs.declared.ties.TiedCosts.{TiedCosts}
 use Rattle.gap_sets.proofs.{Spreading.spread_contains, Spreading.no_greater, Allowed.named_by_itself}
 use Rattle.tso_program.specs.declared.listing.Thread.{Thread}
 use Rattle.tso_program.specs.Listings.{gap_count}
-use Rattle.cost_text.proofs.Once.{NoneTwice, has, apart, back, itself, or_right, least_below, least_there}
+use Rattle.cost_text.proofs.Once.{NoneTwice, has, apart, back, itself, least_below, least_there}
 use Rattle.cost_text.proofs.Kept.{all_alike}
 use Rattle.gap_list.proofs.SpelledPlaces.{is_gap}
 
