@@ -23,8 +23,8 @@ UNWARNED = ((3, 29, 1), (4, 29, 0), (4, 28, 3), (3, 28, 4), (4, 27, 4))
 MINUTES = "fencer: {} threads, {} accesses, {} exchanges: this may take minutes, and more than 1 GiB (docs/performance.md)"
 ASKED = re.compile(r"fencer: sets asked: ([\d,]+)(?:; the answer costs at least ([\d,]+))?")
 TIMED = re.compile(
-    r"fencer: after ([\d,]+) s: (?:(?:sets asked: [\d,]+; )?([\d,]+) of ([\d,]+) parts of the (?:last question|search for outcomes) are done"
-    r"|sets asked: [\d,]+|outcomes are searched for|what is found is judged)"
+    r"fencer: after ([\d,]+) s: (?:(?:sets asked: [\d,]+; )?([\d,]+) of ([\d,]+) parts of the (?:last question|search for outcomes) are done(, about [\d,]+ s left)?"
+    r"|sets asked: [\d,]+|outcomes are searched for|what is found is judged|(the states of the sequential machine are gone through))"
 )
 # so many lines of a long search are read for those of its parts, on a busy machine too
 MOST_LINES = 40
@@ -43,6 +43,10 @@ JUMPS = """X86 jumps
  end:        | end:        |             ;
 exists (x=1)
 """
+# stores of one location, each of another value, and an instruction that no run executes: the sequential machine has millions of states
+STORES = "X86 stores\n{ }\n" + " | ".join(f"P{t}" for t in range(8)) + " ;\nCMP EAX,$1 | | | | | | | ;\nJNE on | | | | | | | ;\nMOV EBX,$1 | | | | | | | ;\n" + "".join(
+    " | ".join("on: " * (t + place == 0) + f"MOV [x],${4 * t + place + 1}" for t in range(8)) + " ;\n" for place in range(4)
+) + "exists (x=1)\n"
 # exchanges of one location, so many that no search ends before it is ended here
 TURNS = "X86 turns\n{ 0:EAX=1; 1:EAX=2; 2:EAX=3; 3:EAX=4 }\nP0 | P1 | P2 | P3 ;\n" + 8 * "XCHG [x],EAX | XCHG [x],EAX | XCHG [x],EAX | XCHG [x],EAX ;\n" + (
     "exists (0:EAX=1 /\\ 1:EAX=1)\n"
@@ -241,6 +245,12 @@ def of_parts(lines):
     return [line for line in map(TIMED.fullmatch, lines) if line and "the search for outcomes" in line[0]]
 
 
+def walked(line):
+    """Whether the line says by time that states are gone through."""
+    found = TIMED.fullmatch(line)
+    return found and found[5]
+
+
 def reads(*threads):
     """A program whose threads read a location with two values so often."""
     cells = [["MOV [x],$1"] * (t == 0) + ["MOV EAX,[x]"] * count for t, count in enumerate(threads)]
@@ -340,6 +350,13 @@ class Progress(Cases):
             tell("at most five seconds pass between two lines", all(0 < after - before <= 5 for before, after in zip(times, times[1:])), times)
             cut = {parts for _, parts in done}
             tell("how many parts are done", done and done == sorted(done) and all(some <= parts for some, parts in done) and len(cut) <= 1, done)
+            tell("how long it takes is estimated once a part is done", all(bool(line[4]) == (number(line[2]) > 0) for line in of_parts(lines)), lines)
+
+    def test_walk(self):
+        """A long walk over the states of the sequential machine has lines by time on a terminal."""
+        with tempfile.TemporaryDirectory() as folder:
+            lines = on_terminal(["survey", made(folder, STORES)], lambda lines: any(map(walked, lines)) or len(lines) >= MOST_LINES)[1]
+        tell("a long walk is reported by time", any(map(walked, lines)), lines)
 
     def test_witness(self):
         """A long search for a run has lines by time on a terminal, after a warning. Exchanges of one location take turns with four values, of which no two

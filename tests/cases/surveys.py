@@ -8,7 +8,7 @@ import tempfile
 import threading
 
 from cases.messages import NOTES
-from cases.progress import MINUTES, MINUTES_FROM, easy, made, read_program, reads
+from cases.progress import MINUTES, WARNED, easy, made, read_program, reads
 from harness import EXAMPLES, FENCER, Cases, bytes_of, example_files, in_data, run, said_by, same, tell, write
 from judges import documents, surveys
 from judges.texts import canonical_of, instruction_lines, test_of
@@ -313,7 +313,7 @@ class Surveys(Cases):
         """It is said once of a file, before its searches, that they may take minutes; and never that an answer may be wanting, since a survey asks for no
         whole trees."""
         with tempfile.TemporaryDirectory() as folder:
-            for name, text, warned in (("minutes", easy(*MINUTES_FROM), [MINUTES.format(*MINUTES_FROM)]), ("many", reads(14, 14), [])):
+            for name, text, warned in (("minutes", easy(*WARNED[0]), [MINUTES.format(*WARNED[0])]), ("many", reads(14, 14), [])):
                 path = made(folder, text)
                 said = said_by(["survey", path]).splitlines()
                 count = read_program(path).combinations()
