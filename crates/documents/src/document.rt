@@ -78,12 +78,12 @@ fn add_saying(
 pub fn placed_document(
     alloc: Global,
     source: &LinedLitmus<'_>,
-    answer: FoundAnswer<'_>,
+    answer: &FoundAnswer<'_>,
     costs: &TiedCosts,
     fenced: &[u8],
     holds: bool,
 ) -> Result<JsonObject, AllocError>
-    ensures { IfOk result (IsPlacedDocument source.now.litmus.now answer.shown.now costs.now answer.gaps.now fenced.now holds) }
+    ensures { IfOk result (IsPlacedDocument source.now.litmus.now answer.now.shown.now costs.now answer.now.gaps.now fenced.now holds) }
 {
     let mut object = begun(alloc, b"place", source)?;
     add_answer(alloc, &mut object, source, answer.shown, costs, answer.gaps)?;

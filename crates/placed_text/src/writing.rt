@@ -74,7 +74,7 @@ fn write_answer(
     let source = LinedLitmus { litmus, lines };
     let answer = FoundAnswer { shown, gaps };
     let holds = holds_by(litmus.condition.quantifier, &verdict);
-    let document = placed_document(alloc, &source, answer, costs, &program, holds)?;
+    let document = placed_document(alloc, &source, &answer, costs, &program, holds)?;
     Ok(AnswerText {
         program,
         answer: answer_line(alloc, &litmus.program, shown, *gaps, cost)?,

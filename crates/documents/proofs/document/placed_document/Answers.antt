@@ -7,7 +7,7 @@ pub returns : goal.returns
 returns c =
     let source = c.args.source.now.litmus.now in
     let lines = c.args.source.now.lines.now in
-    let answer = c.args.answer in (
+    let answer = c.args.answer.now in (
       lines,
       c.in_ok-add_saying.ensures (codes "place") (placed_members source.program lines answer.shown.now c.args.costs.now answer.gaps.now c.args.fenced.now)
           (record {
