@@ -28,8 +28,11 @@ TIMED = re.compile(
 )
 # so many lines of a long search are read for those of its parts, on a busy machine too
 MOST_LINES = 40
-# what is said beside an answer of what sequential runs decide, which is no progress
-VERDICT = re.compile(r"fencer: what (the condition asks about|must not happen|must always hold) .* without store buffers too(: no fence mends it)?")
+# what is said beside an answer of what sequential runs decide, and of what a witness shows, which is no progress
+VERDICT = re.compile(
+    r"fencer: what (the condition asks about|must not happen|must always hold) .*"
+    r"( without store buffers too(: no fence mends it)?| (happens|does not happen|holds|fails) in this run| never (happens|holds)| happens in every run| always holds)"
+)
 # threads whose traces have unlike lengths, so that a value of one read leaves more combinations than another
 JUMPS = """X86 jumps
 { }
