@@ -6,16 +6,22 @@ import re
 import subprocess
 import tempfile
 
-from harness import EXAMPLES, LIMIT, PROGRAMS, Cases, Terminal, example, example_files, lines, same, schemas, tell, text_of, write
+from harness import EXAMPLES, LIMIT, PROGRAMS, Cases, Terminal, example, example_files, lines, said_by, same, schemas, tell, text_of, write
 from judges import documents
 
 FILES = ("SB.litmus", "SB.cert", "n6.litmus")
 ROW = "MOV [x],$1 |  ;\n"
+# how a sequential run is seen that breaks the condition of the text on standard input
+SEEN = {
+    "exists": "",
+    "~exists": "fencer: `fencer witness --model sequential -` shows such a run, and with --html FILE a page of it\n",
+    "forall": "fencer: `fencer witness --model sequential --not -` shows such a run, and with --html FILE a page of it\n",
+}
 # what is said where a sequential run decides the condition, with the formula in the middle
 FAILS = {
     "exists": "fencer: what the condition asks about (%s) happens without store buffers too\n",
-    "~exists": "fencer: what must not happen (%s) happens without store buffers too: no fence mends it\n",
-    "forall": "fencer: what must always hold (%s) fails without store buffers too: no fence mends it\n",
+    "~exists": "fencer: what must not happen (%s) happens without store buffers too: no fence mends it\n" + SEEN["~exists"],
+    "forall": "fencer: what must always hold (%s) fails without store buffers too: no fence mends it\n" + SEEN["forall"],
 }
 ALONE = "is a location that stands nowhere else: did you mean"
 # three names of locations, of which the second and the third are stored to once; where the message is, and what it says
@@ -336,7 +342,8 @@ class Messages(Cases):
                 wanted = [kind for kind in kinds.split() if (kind not in documents.VERDICTS or not asked) and (kind != "unused_name" or asked or "--condition" in words or "--observed" in words)]
                 found = [note["kind"] for note in document.get("notes", [])]
                 tell(f"the notes of {words} of {condition!r} with {new!r}", status == 0 and found == wanted and ("notes" in document) == bool(wanted), found, wanted)
-                same(f"what standard error has of the notes of {words} of {condition!r} with {new!r}", told, documents.noted(printed, "<stdin>"))
+                said = documents.noted(printed, "<stdin>", after=SEEN[condition.split()[0]])
+                same(f"what standard error has of the notes of {words} of {condition!r} with {new!r}", told, said)
             run = [] if old else ["trace --json - e0 e0 e1 e1 f0 f1"]
             for words in (*run, "gaps --json -"):
                 printed, told = outputs(words.split(), EXAMPLES, given)[1:]
@@ -353,3 +360,17 @@ class Messages(Cases):
                 for words in ("place", "why --observed", "place --condition", "why --condition --json", "place --condition --workers 2"):
                     status, _, told = outputs([*words.split(), "-"], EXAMPLES, given)
                     tell(f"{words} of {quantifier} {formula} says {line!r}", (status, told) == (0, line), (status, told))
+    def test_commands_of_runs(self):
+        """Where no fence mends the condition, the command that is named for it shows a sequential run of the file of the name that is given."""
+        text = example_texts()["SB.litmus"]
+        with tempfile.TemporaryDirectory() as folder:
+            file = os.path.join(folder, "wrong.litmus")
+            for quantifier, option in (("~exists", ""), ("forall", "--not ")):
+                write(file, changed(text, b"exists (0:EAX=0 /\\ 1:EAX=0)", f"{quantifier} (0:EAX=0)".encode()))
+                command = f"fencer witness --model sequential {option}{file}"
+                for words in ("place", "place --condition", "why --observed"):
+                    told = said_by([*words.split(), file]).splitlines()
+                    same(f"the second line of {words} of {quantifier}", told[1:], [f"fencer: `{command}` shows such a run, and with --html FILE a page of it"])
+                status, printed, told = outputs(command.split()[1:], EXAMPLES, b"")
+                tell(f"{command} shows a run", (status, told) == (0, b"") and printed.startswith(b"run "), (status, printed, told))
+

@@ -29,7 +29,7 @@ TIMED = re.compile(
 # so many lines of a long search are read for those of its parts, on a busy machine too
 MOST_LINES = 40
 # what is said beside an answer of what sequential runs decide, which is no progress
-VERDICT = re.compile(r"fencer: what (the condition asks about|must not happen|must always hold) .* without store buffers too(: no fence mends it)?")
+VERDICT = re.compile(r"fencer: (what (the condition asks about|must not happen|must always hold) .* without store buffers too(: no fence mends it)?|`fencer witness --model sequential .* shows such a run, .*)")
 # threads whose traces have unlike lengths, so that a value of one read leaves more combinations than another
 JUMPS = """X86 jumps
 { }

@@ -280,11 +280,12 @@ def differs(printed, command, text, canonical, lines, dot=None, fences=None):
     return placed_differs(document, text)
 
 
-def noted(printed, name, front="fencer: "):
-    """What standard error has of the notes of a document, where the litmus text has this name; `front` stands before what sequential runs decide."""
+def noted(printed, name, front="fencer: ", after=""):
+    """What standard error has of the notes of a document, where the litmus text has this name; `front` stands before what sequential runs decide, `after` follows where no fence mends it."""
     def line(note):
         place = f":{note['line']}:{note['column']}" if note["line"] else ""
-        return f"{front}{note['message']}\n" if note["kind"] in VERDICTS else f"{name}{place}: {note['message']}\n"
+        said = f"{front}{note['message']}\n" if note["kind"] in VERDICTS else f"{name}{place}: {note['message']}\n"
+        return said + after if note["kind"] == "no_fence_mends" else said
 
     notes = read(printed).get("notes", [])
     right = all(list(note) == NOTE and bool(note["line"]) == bool(note["column"]) == bool(note["word"]) for note in notes)

@@ -5,6 +5,7 @@ ghost use Rattle.answers.specs.Notes.{verdict_notes, AddsSlips, AreNotes, IsNote
 
 use documents::{Note, NoteKind, document_line};
 use json_text::JsonObject;
+use litmus_text::{Quantifier, read_litmus};
 use messages::{Message, Source, file_or_input};
 use program_streams::Progress;
 use slips::{Slip, SlipKind, first_slip};
@@ -134,12 +135,42 @@ pub fn noted_line(
     document_line(alloc, document, &notes)
 }
 
-/// Reports a verdict, also where no progress is reported.
-pub fn report_verdict(alloc: Global, verdict: Option<&Note>, progress: Progress) {
-    if let Some(note) = verdict {
-        progress
-            .asked(true)
-            .report(sentence_line(alloc, &note.message));
+/// Reports a verdict, also where no progress is reported, and where no fence mends the condition also how such a run is seen.
+/// The verdict is of this text, of a file of this name.
+pub fn report_verdict(
+    alloc: Global,
+    litmus: &str,
+    text: &[u8],
+    verdict: Option<&Note>,
+    progress: Progress,
+) {
+    let Some(note) = verdict else {
+        return;
+    };
+    let progress = progress.asked(true);
+    progress.report(sentence_line(alloc, &note.message));
+    if matches!(note.kind, NoteKind::NoFenceMends) {
+        progress.report(run_advice(alloc, litmus, text));
+    }
+}
+
+/// How a sequential run is seen that breaks the condition of this text, of a file of this name.
+fn run_advice(alloc: Global, litmus: &str, text: &[u8]) -> Result<Vec<u8>, AllocError> {
+    let option = breaking_option(alloc, text)?;
+    let said = format!(in alloc;
+        "`fencer witness --model sequential {option}{litmus}` shows such a run, and with --html FILE a page of it"
+    )?;
+    Message::of_file(alloc, "fencer", said.as_str())?.written(alloc, false)
+}
+
+/// The option of `fencer witness` for a run that breaks the condition of a text that is read.
+fn breaking_option(alloc: Global, text: &[u8]) -> Result<&'static str, AllocError> {
+    match read_litmus(alloc, text) {
+        Ok(litmus) => Ok(match litmus.condition.quantifier {
+            Quantifier::Forall => "--not ",
+            Quantifier::Exists | Quantifier::NotExists => "",
+        }),
+        Err(_) => Err(AllocError),
     }
 }
 

@@ -148,7 +148,14 @@ fn answer_of<T: Threads + Wait + Sync>(
     ensures fault { IfErr result (HasNoPlacedText texts.now.litmus.items (option_map (λ text. text.items) texts.now.costs) asked.now.workers) }
 {
     let found = texts_for(rt, alloc, asked, texts, progress)?;
-    report_verdict(alloc, found.texts.verdict.as_ref(), progress);
+    let verdict = found.texts.verdict.as_ref();
+    report_verdict(
+        alloc,
+        asked.litmus.as_str(),
+        &texts.litmus,
+        verdict,
+        progress,
+    );
     match placed(alloc, asked, texts, found) {
         Ok(placed) => Ok(placed),
         Err(_) => Err(TextFault::OutOfMemory),

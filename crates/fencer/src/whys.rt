@@ -70,7 +70,8 @@ fn explained<T: Threads + Wait + Sync>(
     };
     let costs = texts.costs.as_deref();
     let reasons = why_text(rt, alloc, &texts.litmus, costs, *kind, effort)?;
-    report_verdict(alloc, reasons.verdict.as_ref(), progress);
+    let verdict = reasons.verdict.as_ref();
+    report_verdict(alloc, litmus.as_str(), &texts.litmus, verdict, progress);
     let noted = NotedText {
         name: litmus.as_str(),
         text: &texts.litmus,
