@@ -106,11 +106,14 @@ NOTES = (
     ("lone_name", "MOV EAX,[y] | MOV EAX,[x] ;", "MOV EAX,[y] | MOV EAX,[x] ;\nMOV [turn],$1 | MOV EBX,[turn] ;\n | MOV [tunr],$1 ;", "~exists (0:EAX=0 /\\ 1:EAX=0)"),
 )
 UNREAD = "is read, and nothing writes it: it holds 0"
+# a store that is always jumped over, and what is said of it where the condition's truth is compared
+PASSED = "A: JNE END | ;\nMOV [x],$2 | ;\nEND: | ;"
+UNEXECUTED = "fencer: <stdin>: no sequential run executes line 6 of P0 (its instruction 2): the condition may fail for that reason alone\n"
 # initial values, and rows from line 5 on, after thread 0 stored to x and thread 1 loaded it into EAX; where the message is, and what it says
 SLIPS = (
     ("", "JE END | ;\nEND: | ;", "5:1", f"JE {NEVER}"),
     ("", " | jne END ;\n | END: ;", "5:4", f"jne {ALWAYS}"),
-    ("", "A: JNE END | ;\nMOV [x],$2 | ;\nEND: | ;", "5:4", f"JNE {ALWAYS}"),
+    ("", PASSED, "5:4", f"JNE {ALWAYS}"),
     ("", "MOV EAX,$1 | JNE END ;\nCMP EAX,$1 | END: ;", "5:14", f"JNE {ALWAYS}"),
     ("", " | JE END ;\n | END: CMP EAX,$1 ;", "5:4", f"JE {NEVER}"),
     ("", " | CMP EAX,$1 ;\n | JE END ;\n | END: ;", "", ""),
@@ -325,7 +328,8 @@ class Messages(Cases):
             line = f"<stdin>:{place}: {said}\n".encode() if said else b""
             for words in ("outcomes", "witness --json", "place", "place --observed --json", "place --condition", "why", "gaps"):
                 status, _, told = outputs([*words.split(), "-"], EXAMPLES, f"{text}exists (x=5)\n".encode())
-                wanted = b"" if words == "gaps" else line
+                before = UNEXECUTED.encode() if (rows, words) == (PASSED, "place --condition") else b""
+                wanted = b"" if words == "gaps" else before + line
                 tell(f"{words} of {rows!r} with {{ {initial} }} says {wanted!r}", (status, told) == (0, wanted), (status, told))
             told = outputs(["outcomes", "-"], EXAMPLES, f"{text}exists (aa=1)\n".encode())[2]
             same(f"outcomes of {rows!r} with {{ {initial} }} where the condition names aa", told, b"<stdin>: the condition names aa, which no instruction reads or writes: it keeps its first value\n")

@@ -99,6 +99,21 @@ SEED = 71
 HEADING = b"table sequential buffered unexecuted condition answer file\n"
 
 
+def interleaved(threads, stores):
+    """So many threads with so many stores each, where the first one jumps over one more at its end: (stores + 1) ** (threads - 1) * (stores + 2) states."""
+    rows = [" | ".join(f"MOV [a{t}],${k}" for t in range(threads)) for k in range(1, stores + 1)]
+    more = " |" * (threads - 1)
+    names = " | ".join(f"P{t}" for t in range(threads))
+    return f"X86 Interleaved\n{{ }}\n{names} ;\n{''.join(row + ' ;' + chr(10) for row in rows)}JMP end{more} ;\nMOV [z],$1{more} ;\nend:{more} ;\n~exists (z=1)\n".encode()
+
+
+# 19,208 states, and 54,432, which are more than a placement goes through
+MANY_STATES = (
+    ("nineteen-thousand", interleaved(5, 6), "line 11 of P0 (its instruction 7): the condition may hold for that reason alone"),
+    ("fifty-four-thousand", interleaved(6, 5), ""),
+)
+
+
 def block_of(name, source, allowed=False):
     """The block of a file, its row and its status, as they must be."""
     lines, row, status = surveys.block(test_of(source), canonical_of(source), instruction_lines(source.decode()), allowed)
@@ -223,6 +238,17 @@ class Surveys(Cases):
                 for options, wanted in (([], f"fencer: {file}: no sequential run executes {said}\n" if said else ""), (["--allow-unexecuted"], "")):
                     found = [line for line in said_by(["survey", *options, file]).splitlines(keepends=True) if "no sequential run executes" in line]
                     same(f"what a survey {' '.join(options)} of {name} says", "".join(found), wanted)
+
+    def test_words_of_answers(self):
+        """`place` and `why` say it too where the condition's truth is compared, and nothing where more states would have to be followed than they follow."""
+        with tempfile.TemporaryDirectory() as folder:
+            for name, source, said in (*WORDS, *MANY_STATES):
+                file = os.path.join(folder, name)
+                write(file, source)
+                for words in ("place --condition", "place --condition --json", "why --condition", "place", "why --observed"):
+                    wanted = f"fencer: {file}: no sequential run executes {said}\n" if said and "--condition" in words else ""
+                    found = [line for line in said_by([*words.split(), file]).splitlines(keepends=True) if "no sequential run executes" in line]
+                    same(f"what {words} of {name} says", "".join(found), wanted)
 
     def test_verdicts(self):
         """That no fence mends a condition is said on standard error, and nothing of one that no sequential run decides."""

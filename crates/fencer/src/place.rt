@@ -10,11 +10,12 @@ ghost use Rattle.answers.specs.Inserted.{IsInserted};
 ghost use Rattle.fencer.specs.Placements.{text_fault_line, AreDelivered, AreTextsFor, DeliversTexts, IsJudged, IsPlaced, PrintsPlacement};
 
 use crate::advice::text_fault_advice;
+use crate::survey_advice::report_sequential;
 use crate::tied::tell_ties;
 use answers::{
     Answer, NotedText, SlipPlaces, Texts, check_status, deliver, inserted_for, keep_inserted,
-    noted_line, printed, read_texts, report_verdict, slip_places, tell_fences, tell_refusal,
-    tell_slip_compared, unkept_advice, unkept_line, unread_advice,
+    noted_line, printed, read_texts, slip_places, tell_fences, tell_refusal, tell_slip_compared,
+    unkept_advice, unkept_line, unread_advice,
 };
 use fencer_words::Placement;
 use gap_sets::GapSet;
@@ -149,13 +150,7 @@ fn answer_of<T: Threads + Wait + Sync>(
 {
     let found = texts_for(rt, alloc, asked, texts, progress)?;
     let verdict = found.texts.verdict.as_ref();
-    report_verdict(
-        alloc,
-        asked.litmus.as_str(),
-        &texts.litmus,
-        verdict,
-        progress,
-    );
+    report_sequential(alloc, asked, &texts.litmus, verdict, progress);
     match placed(alloc, asked, texts, found) {
         Ok(placed) => Ok(placed),
         Err(_) => Err(TextFault::OutOfMemory),

@@ -1,13 +1,20 @@
 //! What is said to people of what sequential runs do, on standard error.
 
+use answers::report_verdict;
+use documents::Note;
+use fencer_words::Placement;
 use litmus_text::read_litmus;
 use messages::{Message, file_or_input};
 use placed_text::{combinations_text, warn_of_minutes};
 use program_streams::Progress;
 use std::alloc::{AllocError, Global};
 use std::str;
-use survey_text::{Stretch, SurveyText};
-use tso_program::Program;
+use survey_text::{Stretch, SurveyText, Unexecuted, unexecuted_in};
+use tso_program::{Program, ShownKind};
+
+/// From so many states steps are followed at most for what `place` and `why` say beside an answer: seven threads' take 0.2 s in an
+/// unproved build.
+const MOST_STATES: usize = 50_000;
 
 /// `fencer: NAME: TEXT` as one line, of the file of this name.
 pub(crate) fn file_message(alloc: Global, name: &str, text: &str) -> Result<Vec<u8>, AllocError> {
@@ -78,13 +85,13 @@ fn stretches_text(alloc: Global, stretches: &[Stretch]) -> Result<String, AllocE
 }
 
 /// What the condition's verdict may rest on, if more runs could change it.
-fn reason(told: &SurveyText) -> &'static str {
-    if !told.unexecuted.counts {
+fn reason(unexecuted: &Unexecuted) -> &'static str {
+    if !unexecuted.counts {
         ""
-    } else if told.fails {
-        ": the condition may fail for that reason alone"
-    } else {
+    } else if unexecuted.holds {
         ": the condition may hold for that reason alone"
+    } else {
+        ": the condition may fail for that reason alone"
     }
 }
 
@@ -92,16 +99,47 @@ fn reason(told: &SurveyText) -> &'static str {
 pub(crate) fn unexecuted_advice(
     alloc: Global,
     name: &str,
-    told: &SurveyText,
+    unexecuted: &Unexecuted,
 ) -> Result<Vec<u8>, AllocError> {
-    if told.unexecuted.stretches.is_empty() {
+    if unexecuted.stretches.is_empty() {
         return Ok(Vec::new(alloc));
     }
-    let stretches = stretches_text(alloc, told.unexecuted.stretches.as_slice())?;
+    let stretches = stretches_text(alloc, unexecuted.stretches.as_slice())?;
     let stretches = stretches.as_str();
-    let reason = reason(told);
+    let reason = reason(unexecuted);
     let text = format!(in alloc; "no sequential run executes {stretches}{reason}")?;
     file_message(alloc, name, text.as_str())
+}
+
+/// That advice for a litmus text of whose condition it is known whether a sequential run decides it; nothing where steps from
+/// more than `MOST_STATES` states have to be followed.
+fn unexecuted_message(
+    alloc: Global,
+    name: &str,
+    text: &[u8],
+    decided: bool,
+) -> Result<Vec<u8>, AllocError> {
+    match unexecuted_in(alloc, text, decided, MOST_STATES)? {
+        Some(unexecuted) => unexecuted_advice(alloc, name, &unexecuted),
+        None => Ok(Vec::new(alloc)),
+    }
+}
+
+/// Reports beside an answer what sequential runs decide, by its verdict, and where the condition's truth alone is compared also
+/// which instructions none of them executes. It is said whether or not progress is.
+pub(crate) fn report_sequential(
+    alloc: Global,
+    asked: &Placement,
+    text: &[u8],
+    verdict: Option<&Note>,
+    progress: Progress,
+) {
+    let name = asked.litmus.as_str();
+    report_verdict(alloc, name, text, verdict, progress);
+    if matches!(asked.kind, ShownKind::Condition) {
+        let message = unexecuted_message(alloc, name, text, verdict.is_some());
+        progress.asked(true).report(message);
+    }
 }
 
 /// What sequential runs say of a file's condition; nothing where they decide nothing.

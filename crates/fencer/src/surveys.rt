@@ -272,7 +272,7 @@ fn found_message(
     message.extend_from_slice(&tie_advice(alloc, bytes, costs, None)?)?;
     message.extend_from_slice(&verdict_advice(alloc, name, told)?)?;
     if !manner.options.allow_unexecuted {
-        message.extend_from_slice(&unexecuted_advice(alloc, name, told)?)?;
+        message.extend_from_slice(&unexecuted_advice(alloc, name, &told.unexecuted)?)?;
     }
     Ok(message)
 }

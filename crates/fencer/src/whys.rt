@@ -10,10 +10,11 @@ ghost use Rattle.fencer.specs.Whys.{Explains, IsExplained, IsExplainedText};
 
 use crate::advice::text_fault_advice;
 use crate::place::text_fault_line;
+use crate::survey_advice::report_sequential;
 use crate::tied::tell_ties;
 use answers::{
-    Answer, NotedText, Texts, Told, deliver, documented, read_texts, report_verdict, slip_places,
-    tell_refusal, tell_slip_compared, unread_advice,
+    Answer, NotedText, Texts, Told, deliver, documented, read_texts, slip_places, tell_refusal,
+    tell_slip_compared, unread_advice,
 };
 use fencer_words::{Placement, WhyQuery};
 use gap_sets::GapSet;
@@ -71,7 +72,7 @@ fn explained<T: Threads + Wait + Sync>(
     let costs = texts.costs.as_deref();
     let reasons = why_text(rt, alloc, &texts.litmus, costs, *kind, effort)?;
     let verdict = reasons.verdict.as_ref();
-    report_verdict(alloc, litmus.as_str(), &texts.litmus, verdict, progress);
+    report_sequential(alloc, &asked.placement, &texts.litmus, verdict, progress);
     let noted = NotedText {
         name: litmus.as_str(),
         text: &texts.litmus,

@@ -1,5 +1,5 @@
 //! The states of a program's sequential runs.
-ghost use Rattle.std.specs.Prelude.{◌≡◌, IfOk};
+ghost use Rattle.std.specs.Prelude.{◌≡◌, IfOk, IfSome};
 ghost use Rattle.sequential_states.specs.Executions.{IsAnswer};
 
 use crate::listed::{Listed, place_at, walk_to};
@@ -32,16 +32,34 @@ impl SequentialStates {
     pub fn of(alloc: Global, program: &Program) -> Result<SequentialStates, AllocError>
         ensures { IfOk result (λ states. states ≡ program.now) }
     {
+        match SequentialStates::within(alloc, program, usize::MAX)? {
+            Some(states) => Ok(states),
+            None => Err(AllocError),
+        }
+    }
+
+    /// These states, or nothing where steps from more than so many states have to be followed. How many there are depends on the
+    /// order in which states are listed, and no clause speaks of it.
+    pub fn within(
+        alloc: Global,
+        program: &Program,
+        most: usize,
+    ) -> Result<Option<SequentialStates>, AllocError>
+        ensures { IfOk result (λ found. IfSome found (λ states. states ≡ program.now)) }
+    {
         let mut worklist = Worklist::start(alloc, program)?;
         let mut explored = 0;
         while !worklist.is_enough(program, explored) {
+            if explored >= most {
+                return Ok(None);
+            }
             worklist.explore(alloc, program, explored)?;
             explored += 1;
         }
-        Ok(SequentialStates {
+        Ok(Some(SequentialStates {
             program: program.copy()?,
             listed: worklist.into_listed(),
-        })
+        }))
     }
 
     /// A sequential run that executes instruction k of thread t. There is none where no sequential run does.

@@ -36,3 +36,9 @@ unexecuted_places visits = map place_of (filter (λ visit. is_none visit.run) vi
 -- how many of the instructions no sequential run executes
 abbrev pub unexecuted : List Visit → ℕ
 unexecuted visits = count_by (λ visit. is_none visit.run) visits
+
+-- the places are those of the program's instructions that no sequential run executes, and a run executes each other one
+pub record AreUnexecuted (p : Listing) (places : List (ℕ × ℕ)) : Type 0 where
+  pub visits : List Visit
+  pub are : AreVisits p (instruction_places p.threads) visits
+  pub exact : places ≡ unexecuted_places visits

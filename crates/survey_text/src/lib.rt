@@ -1,12 +1,13 @@
 //! What one look at a program finds: its verdicts, the instructions that no sequential run executes, and its answers.
 //!
-//! What `fencer survey` prints of a file, as lines and as a document.
+//! What `fencer survey` prints of a file, as lines and as a document; `place` and `why` say of instructions that are
+//! not executed what it says.
 //!
-//! Begin with `survey_text` and `SurveyText`. Free to change: how the number of an instruction's line is found, of
-//! which no clause speaks, and what is said to people of instructions that are not executed (`stretch.rt`). Relied
-//! on: the verdicts are those of exactly the outcomes of both machines, exactly the instructions are named that no
-//! sequential run executes, each other stands with a run, and both answers are those of `answer_text` (`IsSurveyText`
-//! in `specs/Surveys.antt`).
+//! Begin with `survey_text`, `SurveyText` and `unexecuted_within`. Free to change: how the number of an instruction's
+//! line is found, of which no clause speaks, and what is said to people of instructions that are not executed
+//! (`stretch.rt`). Relied on: the verdicts are those of exactly the outcomes of both machines, exactly the instructions
+//! are named that no sequential run executes, each other stands with a run, and both answers are those of `answer_text`
+//! (`IsSurveyText` in `specs/Surveys.antt`).
 #![tactic(auto)]
 
 mod document;
@@ -20,4 +21,5 @@ mod survey;
 mod visit;
 
 pub use finding::{SurveyText, survey_text};
-pub use stretch::{Stretch, Unexecuted};
+pub use stretch::{Stretch, Unexecuted, unexecuted_in};
+pub use visit::unexecuted_within;

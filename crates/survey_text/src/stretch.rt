@@ -1,9 +1,9 @@
 //! Stretches of instructions that no sequential run executes, for people. No clause rests on them.
 
 use crate::survey::Survey;
-use crate::visit::Visit;
+use crate::visit::{unexecuted_places, unexecuted_within};
 use gap_list::TextLines;
-use litmus_text::{Condition, Quantifier};
+use litmus_text::{Quantifier, read_litmus};
 use report::is_true_of;
 use std::alloc::{AllocError, Global};
 
@@ -18,40 +18,45 @@ pub struct Stretch {
     pub last_line: u32,
 }
 
-/// Which instructions no sequential run executes, and whether the condition's verdict may be what it is for that reason.
+/// Which instructions no sequential run executes, and what the condition's verdict owes to that.
 #[derive(Drop)]
 pub struct Unexecuted {
     pub stretches: Vec<Stretch>,
+    /// Whether the verdict may be what it is for that reason.
     pub counts: bool,
+    /// Whether the condition holds sequentially.
+    pub holds: bool,
 }
 
 /// Whether an instruction is the next one after a stretch.
-fn follows(stretches: &[Stretch], visit: &Visit) -> bool {
+fn follows(stretches: &[Stretch], place: (u8, u8)) -> bool {
+    let (thread, instruction) = place;
     match stretches.last() {
         Some(stretch) => {
-            stretch.thread == visit.thread
-                && visit.instruction > stretch.last
-                && visit.instruction - stretch.last == 1
+            stretch.thread == thread
+                && instruction > stretch.last
+                && instruction - stretch.last == 1
         }
         None => false,
     }
 }
 
 /// Adds an instruction: to the last stretch where it follows it, or else as one of its own.
-fn add_visit(
+fn add_place(
     stretches: &mut Vec<Stretch>,
     lines: &TextLines,
-    visit: &Visit,
+    place: (u8, u8),
 ) -> Result<(), AllocError> {
-    let line = lines.line(visit.thread, visit.instruction as usize);
+    let (thread, instruction) = place;
+    let line = lines.line(thread, instruction as usize);
     let mut stretch = Stretch {
-        thread: visit.thread,
-        first: visit.instruction,
-        last: visit.instruction,
+        thread,
+        first: instruction,
+        last: instruction,
         first_line: line,
         last_line: line,
     };
-    if follows(stretches, visit) {
+    if follows(stretches, place) {
         if let Some(before) = stretches.pop() {
             stretch.first = before.first;
             stretch.first_line = before.first_line;
@@ -61,27 +66,40 @@ fn add_visit(
     Ok(())
 }
 
-/// The stretches of instructions that no sequential run executes.
+/// The stretches of these instructions.
 fn stretches_of(
     alloc: Global,
     lines: &TextLines,
-    visits: &[Visit],
+    places: &[(u8, u8)],
 ) -> Result<Vec<Stretch>, AllocError> {
     let mut stretches = Vec::new(alloc);
-    for visit in visits {
-        if visit.run.is_none() {
-            add_visit(&mut stretches, lines, visit)?;
-        }
+    for place in places {
+        add_place(&mut stretches, lines, *place)?;
     }
     Ok(stretches)
 }
 
 /// Whether more runs could change the condition's verdict: where `exists` fails, and where `~exists` or `forall` holds.
-fn could_change(condition: &Condition, holds: bool) -> bool {
-    match condition.quantifier {
+fn could_change(quantifier: Quantifier, holds: bool) -> bool {
+    match quantifier {
         Quantifier::Exists => !holds,
         Quantifier::NotExists | Quantifier::Forall => holds,
     }
+}
+
+/// These instructions, which no sequential run executes, for a condition that holds sequentially or fails.
+fn unexecuted_at(
+    alloc: Global,
+    lines: &TextLines,
+    places: &[(u8, u8)],
+    quantifier: Quantifier,
+    holds: bool,
+) -> Result<Unexecuted, AllocError> {
+    Ok(Unexecuted {
+        stretches: stretches_of(alloc, lines, places)?,
+        counts: could_change(quantifier, holds),
+        holds,
+    })
 }
 
 /// What no sequential run executes of a program.
@@ -91,8 +109,28 @@ pub(crate) fn unexecuted_of(
     survey: &Survey,
 ) -> Result<Unexecuted, AllocError> {
     let condition = &survey.litmus.condition;
-    Ok(Unexecuted {
-        stretches: stretches_of(alloc, lines, &survey.visits)?,
-        counts: could_change(condition, is_true_of(condition, &survey.sequential)),
-    })
+    let places = unexecuted_places(alloc, &survey.visits)?;
+    let holds = is_true_of(condition, &survey.sequential);
+    unexecuted_at(alloc, lines, &places, condition.quantifier, holds)
+}
+
+/// What no sequential run executes of the program of a litmus text, where it is known whether a sequential run decides the
+/// condition; nothing where steps from more than so many states have to be followed, or where the text is not read. No clause
+/// speaks of it; `unexecuted_within` has the instructions.
+pub fn unexecuted_in(
+    alloc: Global,
+    text: &[u8],
+    decided: bool,
+    most: usize,
+) -> Result<Option<Unexecuted>, AllocError> {
+    let lines = TextLines::of_text(alloc, text)?;
+    let Ok(litmus) = read_litmus(alloc, text) else {
+        return Ok(None);
+    };
+    let quantifier = litmus.condition.quantifier;
+    let holds = decided == matches!(quantifier, Quantifier::Exists);
+    match unexecuted_within(alloc, &litmus.program, most)? {
+        Some(places) => Ok(Some(unexecuted_at(alloc, &lines, &places, quantifier, holds)?)),
+        None => Ok(None),
+    }
 }

@@ -1,8 +1,8 @@
 //! Which instructions the sequential runs of a program execute.
 
-ghost use Rattle.std.specs.Prelude.{◌≡◌, ◌++◌, ℕ, List, IfOk, OnOk, length};
+ghost use Rattle.std.specs.Prelude.{◌≡◌, ◌++◌, ℕ, List, IfOk, IfSome, OnOk, length};
 ghost use Rattle.tso_program.specs.Listings.{code_of};
-ghost use Rattle.survey_text.specs.Visits.{first_places, instruction_places, unexecuted, unexecuted_places, AreVisits};
+ghost use Rattle.survey_text.specs.Visits.{first_places, instruction_places, unexecuted, unexecuted_places, AreUnexecuted, AreVisits};
 
 use sequential_states::SequentialStates;
 use std::alloc::{AllocError, Global};
@@ -48,17 +48,29 @@ fn push_visits(
     Ok(())
 }
 
+/// Each instruction of a program, by its thread and its number, where these are the program's states.
+fn visits_among(
+    alloc: Global,
+    program: &Program,
+    states: &SequentialStates,
+) -> Result<Vec<Visit>, AllocError>
+    requires { states.now ≡ program.now }
+    ensures { IfOk result (λ visits. AreVisits program.now (instruction_places program.now.threads) visits.items) }
+{
+    let mut visits = Vec::new(alloc);
+    let threads = program.threads().len() as u8;
+    for t in 0..threads {
+        push_visits(alloc, &mut visits, states, t, code_len(program, t))?;
+    }
+    Ok(visits)
+}
+
 /// Each instruction of a program, by its thread and its number.
 pub(crate) fn visits_of(alloc: Global, program: &Program) -> Result<Vec<Visit>, AllocError>
     ensures { IfOk result (λ visits. AreVisits program.now (instruction_places program.now.threads) visits.items) }
 {
     let states = SequentialStates::of(alloc, program)?;
-    let mut visits = Vec::new(alloc);
-    let threads = program.threads().len() as u8;
-    for t in 0..threads {
-        push_visits(alloc, &mut visits, &states, t, code_len(program, t))?;
-    }
-    Ok(visits)
+    visits_among(alloc, program, &states)
 }
 
 /// The instructions that no sequential run executes, each by its thread and its number.
@@ -82,4 +94,32 @@ pub(crate) fn unexecuted(visits: &[Visit]) -> usize
     ensures { result ≡ unexecuted visits.now }
 {
     visits.iter().filter(|visit| visit.run.is_none()).count()
+}
+
+/// The instructions that no sequential run executes, where these are the program's states.
+fn unexecuted_among(
+    alloc: Global,
+    program: &Program,
+    states: &SequentialStates,
+) -> Result<Vec<(u8, u8)>, AllocError>
+    requires { states.now ≡ program.now }
+    ensures { IfOk result (λ places. AreUnexecuted program.now places.items) }
+{
+    let visits = visits_among(alloc, program, states)?;
+    unexecuted_places(alloc, &visits)
+}
+
+/// The instructions that no sequential run executes, each by its thread and its number; nothing where steps from more than so
+/// many states have to be followed.
+pub fn unexecuted_within(
+    alloc: Global,
+    program: &Program,
+    most: usize,
+) -> Result<Option<Vec<(u8, u8)>>, AllocError>
+    ensures { IfOk result (λ found. IfSome found (λ places. AreUnexecuted program.now places.items)) }
+{
+    match SequentialStates::within(alloc, program, most)? {
+        Some(states) => Ok(Some(unexecuted_among(alloc, program, &states)?)),
+        None => Ok(None),
+    }
 }

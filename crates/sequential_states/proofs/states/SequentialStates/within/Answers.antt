@@ -1,6 +1,6 @@
 use Rattle.sequential_states.proofs.Vocabulary.{◌<◌, arith, inl, inr, subst, sym, length, cases_eq, start, Listing, IsExplored}
 use Rattle.sequential_states.proofs.Following.{explored_longer, listed_on}
-use Rattle.sequential_states.proofs.states.SequentialStates.of.Goals as goal
+use Rattle.sequential_states.proofs.states.SequentialStates.within.Goals as goal
 
 pub loop-alloc-init : goal.loop-alloc-init
 loop-alloc-init c = record {

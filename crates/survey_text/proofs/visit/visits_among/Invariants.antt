@@ -1,5 +1,5 @@
 use Rattle.survey_text.proofs.Vocabulary.{flat_map, range_with_len, AreVisits, thread_places}
-use Rattle.survey_text.proofs.visit.visits_of.Given as goal
+use Rattle.survey_text.proofs.visit.visits_among.Given as goal
 
 -- the instructions of the threads so far are added
 abbrev pub invariant-loop-t : goal.invariant-loop-t

@@ -1,5 +1,5 @@
 use Rattle.sequential_states.proofs.Vocabulary.{ℕ, ◌<◌, ◌-◌, start, IsListed, AreReached, IsExplored}
-use Rattle.sequential_states.proofs.states.SequentialStates.of.Given as goal
+use Rattle.sequential_states.proofs.states.SequentialStates.within.Given as goal
 
 -- the states so far are explored
 abbrev pub invariant-loop-alloc : goal.invariant-loop-alloc
