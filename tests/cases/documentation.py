@@ -13,7 +13,7 @@ import shutil
 import subprocess
 import tempfile
 
-from harness import EXAMPLES, PROGRAMS, TOP, Cases, bytes_of, certificate_of, in_data, run, same, tell, write
+from harness import EXAMPLES, PROGRAMS, TOP, Cases, bytes_of, certificate_of, run, same, tell, write
 
 PRINTED = ("answer ", "accepted ", "refused ", "outcome: ", "outcomes ", "passed", "without ", "run ", "Every ", "No ", "observation ", "condition ", "usage: ", "error: ")
 MAKERS = ("make-map", "make-drawings", "make-links")
@@ -68,9 +68,8 @@ def spans(line):
 
 
 def programs_in(folder):
-    """A folder with the examples, the litmus files of the tests, and the built programs by their names."""
+    """A folder with the examples, and the built programs by their names."""
     shutil.copytree(EXAMPLES, os.path.join(folder, "examples"))
-    shutil.copytree(in_data("litmus"), os.path.join(folder, "tests", "data", "litmus"))
     for name, program in PROGRAMS.items():
         shutil.copy(program, os.path.join(folder, name))
 

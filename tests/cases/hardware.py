@@ -16,7 +16,7 @@ import litmus_files
 import processor
 
 MOST_GAPS = 128
-FOLDERS = ("examples", "examples/atlas", "tests/data/canonical", "tests/data/litmus")
+FOLDERS = ("examples", "examples/atlas", "examples/guide", "tests/data/canonical", "tests/data/litmus")
 REFUSED = {
     "X64 SB\n{ }\nP0 ;\nMFENCE ;\nexists (true)\n": "the first line is not `X86 NAME`",
     "X86 SB\n{ x=4294967296; }\nP0 ;\nMFENCE ;\nexists (true)\n": "`4294967296` is no number from 0 to 4294967295",
