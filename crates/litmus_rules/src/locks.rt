@@ -1,6 +1,6 @@
 //! Locked instructions that change nothing.
 
-use text_tokens::{Mark, Token, mark, number};
+use text_tokens::{Mark, Token, mark, number, word};
 
 /// The mnemonics of instructions that leave a value as it is where their second operand is 0.
 const IDLE_WITH_ZERO: &[&str] = &["ADD", "OR", "SUB", "XOR"];
@@ -21,19 +21,19 @@ fn is_idle_with_zero(mnemonic: &[u8]) -> bool {
 
 /// The mnemonic after LOCK, and the number that is its second operand after a location.
 fn locked(tokens: &[Token]) -> Option<(&[u8], u32)> {
-    match tokens {
-        [
-            Token::Word(lock),
-            Token::Word(mnemonic),
-            Token::Mark(Mark::OpenBracket),
-            Token::Word(_),
-            Token::Mark(Mark::CloseBracket),
-            Token::Mark(Mark::Comma),
-            rest @ ..,
-        ] if lock.as_slice().eq_ignore_ascii_case(b"LOCK") => {
-            let (value, _) = number(mark(rest, Mark::Dollar).unwrap_or(rest))?;
-            Some((mnemonic.as_slice(), value))
-        }
-        _ => None,
+    let (lock, rest) = word(tokens)?;
+    let (mnemonic, rest) = word(rest)?;
+    let rest = after_location(rest)?;
+    let (value, _) = number(mark(rest, Mark::Dollar).unwrap_or(rest))?;
+    if lock.eq_ignore_ascii_case(b"LOCK") {
+        Some((mnemonic, value))
+    } else {
+        None
     }
+}
+
+/// The tokens after a location that is an operand, and the comma that follows it.
+fn after_location(tokens: &[Token]) -> Option<&[Token]> {
+    let (_, rest) = word(mark(tokens, Mark::OpenBracket)?)?;
+    mark(mark(rest, Mark::CloseBracket)?, Mark::Comma)
 }

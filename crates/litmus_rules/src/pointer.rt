@@ -1,5 +1,6 @@
 //! The line of a text with a `^` below a word of it, as a terminal shows it.
 
+use crate::shown::{is_shown, push_shown_byte};
 use crate::source::line_of;
 use litmus_lines::{between, bytes_from, line_begin};
 use std::alloc::AllocError;
@@ -26,21 +27,10 @@ pub fn push_pointed_line(
     Ok(())
 }
 
-/// Whether a byte is shown as itself; a tab is shown as a space.
-fn is_shown(byte: u8) -> bool {
-    byte.is_ascii_graphic() || byte == b' '
-}
-
-/// Puts a line at the end of a text, with `\xHH` for each byte that is not printable ASCII.
+/// Puts a line at the end of a text, with a space for a tab, and `\xHH` for each other byte that is not printable ASCII.
 fn push_shown(shown: &mut String, line: &[u8]) -> Result<(), AllocError> {
     for byte in line {
-        if *byte == b'\t' {
-            shown.push(' ')?;
-        } else if is_shown(*byte) {
-            shown.push(char::from(*byte))?;
-        } else {
-            write!(shown, "\\x{byte:02x}")?;
-        }
+        push_shown_byte(shown, if *byte == b'\t' { b' ' } else { *byte })?;
     }
     Ok(())
 }
