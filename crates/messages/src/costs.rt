@@ -85,7 +85,11 @@ fn is_named_before(source: Source<'_>, offset: usize) -> bool {
 /// The offset of the first gap of a line that the program of a litmus text lacks.
 fn lacking_gap(alloc: Global, source: Source<'_>, pieces: Pieces, litmus: &[u8]) -> usize {
     match read_litmus(alloc, litmus) {
-        Ok(litmus) => first_lacking(source, pieces, &litmus.program),
+        Ok(litmus) => {
+            let lacking = first_lacking(source, pieces, &litmus.program);
+            drop(litmus);
+            lacking
+        }
         Err(_) => pieces.gap,
     }
 }
@@ -198,19 +202,31 @@ fn push_gaps(text: &mut String, thread: usize, last: usize) -> Result<(), AllocE
 /// The gaps of the program of a litmus text.
 fn gaps_of(alloc: Global, litmus: &[u8]) -> Result<String, AllocError> {
     match read_litmus(alloc, litmus) {
-        Ok(litmus) => gaps_text(alloc, &litmus.program),
+        Ok(litmus) => {
+            let gaps = gaps_text(alloc, &litmus.program);
+            drop(litmus);
+            gaps
+        }
         Err(_) => String::from_str(alloc, "others"),
     }
 }
 
-/// That the program of a litmus text lacks a gap.
-pub(crate) fn missing_gap_text(
-    alloc: Global,
-    gap: &str,
-    litmus: &[u8],
-) -> Result<String, AllocError> {
+/// Says in a message that the program of a litmus text lacks the gap that is its word.
+fn say_missing(alloc: Global, message: &mut Message, litmus: &[u8]) -> Result<(), AllocError> {
     let gaps = gaps_of(alloc, litmus)?;
-    format!(in alloc; "gap {gap} is not a gap of this program; it has {gaps}")
+    let gap = message.word.as_str();
+    message.text = format!(in alloc; "gap {gap} is not a gap of this program; it has {gaps}")?;
+    Ok(())
+}
+
+/// The message that the program of a litmus text lacks the gap that is its word.
+pub(crate) fn missing_gap(
+    alloc: Global,
+    mut message: Message,
+    litmus: &[u8],
+) -> Result<Message, AllocError> {
+    let written = say_missing(alloc, &mut message, litmus);
+    message.if_written(written)
 }
 
 /// What is said of a line with a gap that the program of a litmus text lacks.
@@ -221,9 +237,8 @@ fn missing_gap_message(
     litmus: &[u8],
 ) -> Result<Message, AllocError> {
     let at = lacking_gap(alloc, source, pieces, litmus);
-    let mut message = Message::at_word(alloc, source, at, source.piece(at), "")?;
-    message.text = missing_gap_text(alloc, message.word.as_str(), litmus)?;
-    Ok(message)
+    let message = Message::at_word(alloc, source, at, source.piece(at), "")?;
+    missing_gap(alloc, message, litmus)
 }
 
 fn cost_message(

@@ -1,6 +1,6 @@
 //! Fences that can't be placed.
 
-use crate::costs::missing_gap_text;
+use crate::costs::missing_gap;
 use crate::message::Message;
 use std::alloc::{AllocError, Global};
 
@@ -12,8 +12,7 @@ pub fn fence_message(
     litmus: &[u8],
 ) -> Result<Message, AllocError> {
     let (thread, instruction) = place;
-    let mut message = Message::of_file(alloc, name, "")?;
-    write!(message.word, "{thread}:{instruction}")?;
-    message.text = missing_gap_text(alloc, message.word.as_str(), litmus)?;
-    Ok(message)
+    let word = format!(in alloc; "{thread}:{instruction}")?;
+    let message = Message::of_word(alloc, name, word.as_bytes())?;
+    missing_gap(alloc, message, litmus)
 }

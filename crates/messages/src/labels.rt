@@ -45,8 +45,8 @@ fn label_message(
 ) -> Result<Message, AllocError> {
     let mut message = Message::of_word(alloc, LABELS, word_of(labels, index))?;
     message.line = Some(index.saturating_add(1));
-    write!(message.text, "{}{said}", message.word)?;
-    Ok(message)
+    let written = write!(message.text, "{}{said}", message.word);
+    message.if_written(written)
 }
 
 /// Why a text is no list of labels.
@@ -81,12 +81,10 @@ pub fn replay_message(
             label_message(alloc, labels, step, said.as_str())
         }
         ReplayFault::NotEnded(_) => {
-            let mut message = Message::of_file(alloc, LABELS, "")?;
-            write!(
-                message.text,
+            let said = format!(in alloc;
                 "{fault}: labels must lead to the end of every thread and empty every buffer; `fencer witness` and `fencer outcomes --runs` print such labels"
             )?;
-            Ok(message)
+            Message::of_file(alloc, LABELS, said.as_str())
         }
         ReplayFault::OutOfMemory => Message::of_file(alloc, name, "out of memory"),
     }

@@ -161,10 +161,22 @@ fn tokens_message(
     fault: ReadFault,
 ) -> Result<Message, AllocError> {
     let tokens = PlacedTokens::of(alloc, source.text)?;
+    let message = token_message(alloc, source, &tokens, fault);
+    drop(tokens);
+    message
+}
+
+/// What is said of a text from `{` on, which has these tokens.
+fn token_message(
+    alloc: Global,
+    source: Source<'_>,
+    tokens: &PlacedTokens<'_>,
+    fault: ReadFault,
+) -> Result<Message, AllocError> {
     match fault {
-        ReadFault::Program(line, inner) => program_message(alloc, source, &tokens, line, inner),
+        ReadFault::Program(line, inner) => program_message(alloc, source, tokens, line, inner),
         _ => match refusal_of(alloc, tokens.as_slice()) {
-            Ok(Some(refusal)) => refused_message(alloc, source, &tokens, refusal),
+            Ok(Some(refusal)) => refused_message(alloc, source, tokens, refusal),
             Ok(None) | Err(_) => Message::of_file(alloc, source.name, "out of memory"),
         },
     }

@@ -40,8 +40,19 @@ impl Message {
     /// A message about a word of a file, without what is said of it.
     pub(crate) fn of_word(alloc: Global, name: &str, word: &[u8]) -> Result<Message, AllocError> {
         let mut message = Message::of_file(alloc, name, "")?;
-        push_shown_word(&mut message.word, word)?;
-        Ok(message)
+        let written = push_shown_word(&mut message.word, word);
+        message.if_written(written)
+    }
+
+    /// The message, where its words were written.
+    pub(crate) fn if_written(self, written: Result<(), AllocError>) -> Result<Message, AllocError> {
+        match written {
+            Ok(()) => Ok(self),
+            Err(fault) => {
+                drop(self);
+                Err(fault)
+            }
+        }
     }
 
     /// What is said about a line, by its number from 1 in the text.
@@ -69,9 +80,20 @@ impl Message {
         let mut message = Message::of_word(alloc, source.name, word)?;
         message.line = Some(position.line);
         message.column = Some(position.column);
-        push_sentence(&mut message.text, word, message.word.as_str(), said)?;
-        push_pointed_line(&mut message.pointed, source.text, offset)?;
-        Ok(message)
+        let written = message.point(source.text, offset, word, said);
+        message.if_written(written)
+    }
+
+    /// Says of the word at an offset of a text what is wrong, and shows its line.
+    fn point(
+        &mut self,
+        text: &[u8],
+        offset: usize,
+        word: &[u8],
+        said: &str,
+    ) -> Result<(), AllocError> {
+        push_sentence(&mut self.text, word, self.word.as_str(), said)?;
+        push_pointed_line(&mut self.pointed, text, offset)
     }
 
     /// What is said about the token of a text where so many of its tokens are left, this one included.

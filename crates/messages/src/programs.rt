@@ -45,11 +45,12 @@ fn backward_message(
 /// The tokens left at the mnemonic of a jump.
 fn jump_left(alloc: Global, tokens: &[Token], thread: u8, instruction: u8) -> Option<usize> {
     match read_body(alloc, tokens) {
-        Ok((body, _)) => instruction_left(
-            body.rows.as_slice(),
-            usize::from(thread),
-            usize::from(instruction),
-        ),
+        Ok((body, _)) => {
+            let (thread, instruction) = (usize::from(thread), usize::from(instruction));
+            let left = instruction_left(body.rows.as_slice(), thread, instruction);
+            drop(body);
+            left
+        }
         Err(_) => None,
     }
 }
@@ -73,7 +74,11 @@ fn instruction_left(rows: &[Vec<Cell<'_>>], thread: usize, instruction: usize) -
 /// What is said of a limit that the program of these tokens breaks.
 fn limit_text(alloc: Global, tokens: &[Token], fault: ProgramFault) -> Result<String, AllocError> {
     match read_body(alloc, tokens) {
-        Ok((body, rest)) => body_text(alloc, &body, rest, fault),
+        Ok((body, rest)) => {
+            let text = body_text(alloc, &body, rest, fault);
+            drop(body);
+            text
+        }
         Err(_) => format!(in alloc; "{fault}"),
     }
 }
@@ -97,7 +102,11 @@ fn body_text(
             )
         }
         ProgramFault::Locations => match read_ending(alloc, rest, body.threads) {
-            Ok(ending) => locations_text(alloc, body, &ending),
+            Ok(ending) => {
+                let text = locations_text(alloc, body, &ending);
+                drop(ending);
+                text
+            }
             Err(_) => format!(in alloc; "{fault}"),
         },
         ProgramFault::TooManyAccesses => accesses_text(alloc, body),
@@ -188,7 +197,9 @@ fn locations_text(
     ending: &Ending<'_>,
 ) -> Result<String, AllocError> {
     let names = names_of(alloc, body, ending)?;
-    names_text(alloc, &names)
+    let text = names_text(alloc, &names);
+    drop(names);
+    text
 }
 
 fn names_text(alloc: Global, names: &NameTable) -> Result<String, AllocError> {
