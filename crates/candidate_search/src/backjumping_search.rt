@@ -1,6 +1,6 @@
 //! The search for a cover tree over a list of outcomes. Where it comes to a new outcome, an open list takes it. A new
 //! outcome that the list does not take ends the search.
-use crate::filling::{Branches, NodeRange};
+use crate::filling::{Branches, NodeRange, next_branches};
 use crate::made_run::shown_run;
 use crate::proposing_search::ProposingSearch;
 use crate::searched::Searched;
@@ -100,34 +100,30 @@ impl<'a> BackjumpingSearch<'a> {
     /// Makes choices, given by their places at the nodes above, and answers what is found after them. The tree that is
     /// searched for begins there.
     pub(crate) fn begin(&mut self, choices: &[usize]) -> Result<Found, AllocError> {
-        self.find_ends()?;
-        let mut found = self.visit()?;
-        for place in choices {
-            found = self.enter(*place)?;
-        }
         self.above = choices.len();
-        Ok(found)
+        self.find_ends()?;
+        let mut found = self.visit();
+        for place in choices {
+            drop(found?);
+            found = self.enter(*place);
+        }
+        found
     }
 
     /// Goes to the child of the last node at a place. The nodes above it are left out.
     fn enter(&mut self, place: usize) -> Result<Found, AllocError> {
-        let Some(mut frame) = self.frames.pop() else {
-            return Ok(Found::Ended(SearchEnd::Stuck));
-        };
-        frame.taken = place;
-        for _ in 0..place {
-            if let Some(branches) = frame.branches {
-                frame.branches = Some(self.next_branches(branches));
+        if let Some(frame) = self.frames.last_mut() {
+            frame.taken = place;
+            for _ in 0..place {
+                frame.branches = next_branches(&self.asked.shapes, frame.branches);
             }
         }
-        self.frames.push(frame)?;
         self.nodes.truncate(0);
         self.next_child()
     }
 
     /// Goes on for so many steps, or until the search ends.
-    pub(crate) fn go_on(&mut self, start: Found, steps: u64) -> Result<Found, AllocError> {
-        let mut found = start;
+    pub(crate) fn go_on(&mut self, mut found: Found, steps: u64) -> Result<Found, AllocError> {
         for _ in 0..steps {
             found = match found {
                 Found::Node => self.next_child()?,
@@ -138,35 +134,52 @@ impl<'a> BackjumpingSearch<'a> {
         Ok(found)
     }
 
-    /// What the search has found, now that it has ended.
-    pub(crate) fn ended(self, end: SearchEnd) -> Searched {
-        let BackjumpingSearch {
-            asked,
-            outcomes,
-            nodes,
-            ..
-        } = self;
+    /// What the search has found, where it has ended.
+    pub(crate) fn ended(
+        self,
+        end: Result<Option<SearchEnd>, AllocError>,
+    ) -> Result<Option<Searched>, AllocError> {
+        match end {
+            Ok(Some(end)) => Ok(Some(self.searched(end))),
+            Ok(None) => {
+                drop(self);
+                Ok(None)
+            }
+            Err(fault) => {
+                drop(self);
+                Err(fault)
+            }
+        }
+    }
+
+    /// What the search has found, now that it has ended so.
+    fn searched(self, end: SearchEnd) -> Searched {
+        let outcomes = self.outcomes;
+        let nodes = self.nodes;
         let found = match outcomes {
             KnownOutcomes::Open(found) => found,
-            KnownOutcomes::Closed(_) => NumberedOutcomes::none(asked.alloc),
+            KnownOutcomes::Closed(_) => NumberedOutcomes::none(self.asked.alloc),
         };
         Searched { end, found, nodes }
     }
 
     /// Makes the next choice of the last node.
     fn next_child(&mut self) -> Result<Found, AllocError> {
-        let Some(mut frame) = self.frames.pop() else {
-            return Ok(Found::Ended(SearchEnd::Stuck));
-        };
-        let depth = self.frames.len().min(MOST_CHOICES) as u16;
-        let choice = frame.choices.get(frame.taken).copied();
-        frame.taken = frame.taken.saturating_add(1);
-        frame.start = self.nodes.len();
-        self.frames.push(frame)?;
-        match choice {
+        let depth = self.depth();
+        match self.next_choice() {
             Some(choice) => self.visit_after(depth, choice),
             None => Ok(Found::Ended(SearchEnd::Stuck)),
         }
+    }
+
+    /// Takes the next choice of the last node. `None` if no choice is left.
+    fn next_choice(&mut self) -> Option<GraphChoice> {
+        let start = self.nodes.len();
+        let frame = self.frames.last_mut()?;
+        let choice = *frame.choices.get(frame.taken)?;
+        frame.taken = frame.taken.saturating_add(1);
+        frame.start = start;
+        Some(choice)
     }
 
     /// Takes the last choice back, after which a tree rests on these. Where it rests on the choice the node's next child
@@ -175,44 +188,45 @@ impl<'a> BackjumpingSearch<'a> {
         if self.frames.len() <= self.above {
             return Ok(Found::Ended(SearchEnd::Covered));
         }
-        let Some(mut frame) = self.frames.pop() else {
-            return Ok(Found::Ended(SearchEnd::Stuck));
-        };
-        let depth = self.frames.len().min(MOST_CHOICES) as u16;
         if let Some(mark) = self.marks.last() {
             self.graph.take_back_values(mark);
         }
+        let depth = self.depth();
         if !own.has(depth) {
-            if let Some(found) = self.without_choice(&mut frame, own)? {
+            if let Some(found) = self.without_choice(own)? {
                 return Ok(found);
             }
         }
+        let Some(frame) = self.frames.last_mut() else {
+            return Ok(Found::Ended(SearchEnd::Stuck));
+        };
         frame.conflicts.add_all(&own);
-        if frame.taken < frame.choices.len() {
-            if let Some(branches) = frame.branches {
-                frame.branches = Some(self.next_branches(branches));
-            }
-            return Ok(self.again_at(frame));
-        }
         let mut conflicts = frame.conflicts;
+        if frame.taken < frame.choices.len() {
+            frame.branches = next_branches(&self.asked.shapes, frame.branches);
+            return Ok(self.again());
+        }
         conflicts.remove(depth);
         self.below = None;
         Ok(self.done(conflicts))
     }
 
-    /// Goes back to a node for its next child. After its last child the node above goes back.
-    fn again_at(&mut self, frame: Frame) -> Found {
+    /// How many nodes are above the last one.
+    fn depth(&self) -> u16 {
+        self.frames.len().saturating_sub(1).min(MOST_CHOICES) as u16
+    }
+
+    /// Goes back to the last node for its next child. After its last child the node above goes back.
+    fn again(&mut self) -> Found {
         if let Some(mark) = self.marks.last() {
             self.graph.take_back_rows(mark);
         }
-        match self.frames.push(frame) {
-            Ok(()) => Found::Node,
-            Err(_) => Found::Ended(SearchEnd::Stuck),
-        }
+        Found::Node
     }
 
     /// The last node is done: its tree rests on these choices.
     pub(crate) fn done(&mut self, conflicts: ConflictSet) -> Found {
+        drop(self.frames.pop());
         self.marks.truncate(self.frames.len());
         Found::Tree(conflicts)
     }
@@ -273,18 +287,10 @@ impl<'a> BackjumpingSearch<'a> {
     /// Puts the node of a decision after the others.
     fn open_node(&mut self, decision: Decision) -> Result<Found, AllocError> {
         let choices = choices_of(self.asked.alloc, &self.graph, &self.asked.writes, decision)?;
+        let count = choices.len();
         let conflicts = self.conflicts().of_node(decision);
         let root = self.nodes.len();
-        let node = self.node_of(decision, choices.len());
-        self.nodes.push(node)?;
-        if choices.is_empty() {
-            return Ok(Found::Tree(conflicts));
-        }
-        if self.frames.len() >= MOST_CHOICES {
-            return Ok(Found::Ended(SearchEnd::Stuck));
-        }
         let branches = self.branches_of(decision);
-        self.push_mark(decision)?;
         self.frames.push(Frame {
             choices,
             taken: 0,
@@ -293,22 +299,36 @@ impl<'a> BackjumpingSearch<'a> {
             branches,
             conflicts,
         })?;
-        Ok(Found::Node)
-    }
-
-    /// Marks the graph at the node of a decision.
-    fn push_mark(&mut self, decision: Decision) -> Result<(), AllocError> {
+        let node = self.node_of(decision, count);
+        self.nodes.push(node)?;
+        if count == 0 {
+            drop(self.frames.pop());
+            return Ok(Found::Tree(conflicts));
+        }
+        if self.frames.len() > MOST_CHOICES {
+            return Ok(Found::Ended(SearchEnd::Stuck));
+        }
         let thread = match decision {
             Decision::Value(t) => t,
             _ => 0,
         };
         self.marks.push(self.graph.mark(thread))?;
-        Ok(())
+        Ok(Found::Node)
     }
 
-    /// The last node, and how many children it has. `None` if there is none whose children are searched.
-    pub(crate) fn last_node(&self) -> Option<(Node, usize)> {
-        Some((*self.nodes.last()?, self.frames.last()?.choices.len()))
+    /// The node after choices, given by their places at the nodes above, and how many children it has. `None` if a leaf is
+    /// there.
+    pub(crate) fn node_after(
+        &mut self,
+        choices: &[usize],
+    ) -> Result<Option<(Node, usize)>, AllocError> {
+        let Found::Node = self.begin(choices)? else {
+            return Ok(None);
+        };
+        match (self.nodes.last(), self.frames.last()) {
+            (Some(node), Some(frame)) => Ok(Some((*node, frame.choices.len()))),
+            _ => Ok(None),
+        }
     }
 
     /// The node of a decision with so many choices.
@@ -346,13 +366,11 @@ impl<'a> BackjumpingSearch<'a> {
         if !is_whole {
             return Ok(None);
         }
-        match self.ends.must_end(followed) {
-            Some(end) => {
-                push_known(&mut self.nodes, u64::from(end.number))?;
-                Ok(Some(self.conflicts().of_end(end.others)))
-            }
-            None => Ok(None),
-        }
+        let Some(end) = self.ends.must_end(followed) else {
+            return Ok(None);
+        };
+        push_known(&mut self.nodes, u64::from(end.number))?;
+        Ok(Some(self.conflicts().of_end(end.others)))
     }
 
     /// Puts the leaf of a graph that must end with a known truth of the formula after the other nodes.
@@ -366,7 +384,9 @@ impl<'a> BackjumpingSearch<'a> {
             return Ok(None);
         };
         let told = Outcome::told(self.asked.alloc, truth)?;
-        let Some(number) = self.outcomes.number_of(&told) else {
+        let number = self.outcomes.number_of(&told);
+        drop(told);
+        let Some(number) = number else {
             return Ok(None);
         };
         push_known(&mut self.nodes, u64::from(number))?;
@@ -377,23 +397,19 @@ impl<'a> BackjumpingSearch<'a> {
         }))
     }
 
-    /// What is found in a complete graph whose outcome is new.
+    /// What is found in a complete graph whose outcome is new: an open list takes it, and the graph has its leaf.
     fn new_end(&mut self) -> Result<Found, AllocError> {
-        match shown_run(self.asked.alloc, &self.graph, self.asked.shown)? {
-            Some(run) => self.take(run),
-            None => Ok(Found::Ended(SearchEnd::Stuck)),
-        }
-    }
-
-    /// Of the run of a complete graph whose outcome is new: an open list takes it, and the graph has its leaf.
-    fn take(&mut self, run: MadeRun) -> Result<Found, AllocError> {
+        let Some(run) = shown_run(self.asked.alloc, &self.graph, self.asked.shown)? else {
+            return Ok(Found::Ended(SearchEnd::Stuck));
+        };
         let KnownOutcomes::Open(found) = &mut self.outcomes else {
             return Ok(Found::Ended(SearchEnd::New(run)));
         };
         let number = found.next_number();
+        let MadeRun { outcome, labels } = run;
         self.ends
-            .add(&self.graph, self.asked.shown, number, &run.outcome)?;
-        found.add(run.outcome, &run.labels)?;
+            .add(&self.graph, self.asked.shown, number, &outcome)?;
+        found.add(outcome, &labels)?;
         push_known(&mut self.nodes, u64::from(number))?;
         Ok(Found::Tree(self.new_conflicts()))
     }
@@ -410,18 +426,12 @@ impl<'a> BackjumpingSearch<'a> {
 
     /// Once each read has its value, the known outcomes as which the graph may end.
     fn find_ends(&mut self) -> Result<(), AllocError> {
-        if let Shown::Truth(_) = self.asked.shown {
+        let asked = self.asked;
+        if matches!(asked.shown, Shown::Truth(_)) || !self.graph.is_whole() {
             return Ok(());
         }
-        if self.graph.is_whole() {
-            self.ends.find(
-                self.asked.alloc,
-                &self.graph,
-                self.asked.shown,
-                &self.outcomes,
-            )?;
-        }
-        Ok(())
+        self.ends
+            .find(asked.alloc, &self.graph, asked.shown, &self.outcomes)
     }
 
     /// Puts the leaf of a cycle through an access after the other nodes.
@@ -444,11 +454,8 @@ impl<'a> BackjumpingSearch<'a> {
     fn union_around(&self, at: u8) -> Kind {
         match self.graph.mode() {
             Mode::Sequential => Kind::Sequential,
-            Mode::Fenced(_) => if is_in(reached_from(&self.graph.rows.main, at), at) {
-                Kind::Location
-            } else {
-                Kind::Global
-            },
+            _ if is_in(reached_from(&self.graph.rows.main, at), at) => Kind::Location,
+            Mode::Fenced(_) => Kind::Global,
         }
     }
 

@@ -2,8 +2,8 @@
 //!
 //! A whole tree decides sources and orders once each read has its value, so a tree that does not rest on a value can't take
 //! the place of the node above. It stands below each other value of that node, too.
-use crate::backjumping_search::{BackjumpingSearch, Found, Frame};
-use crate::shapes::Branch;
+use crate::backjumping_search::{BackjumpingSearch, Found};
+use crate::shapes::{Branch, Shapes};
 use search_state::{ConflictSet, Decision, Node, Rule};
 use std::alloc::AllocError;
 
@@ -24,6 +24,15 @@ pub(crate) struct NodeRange {
     end: usize,
 }
 
+/// The branches with the next child in place of the one that is searched.
+pub(crate) fn next_branches(shapes: &Shapes, branches: Option<Branches>) -> Option<Branches> {
+    let branches = branches?;
+    Some(Branches {
+        child: shapes.branch(branches.thread, branches.child).next,
+        ..branches
+    })
+}
+
 impl BackjumpingSearch<'_> {
     /// In a whole tree, the branches that come with the values of the node of a decision.
     pub(crate) fn branches_of(&self, decision: Decision) -> Option<Branches> {
@@ -40,22 +49,16 @@ impl BackjumpingSearch<'_> {
         }
     }
 
-    /// The place of the branch of a thread's next read.
-    fn place_of(&self, t: u8) -> usize {
-        match self.frames.last() {
-            Some(frame) => match frame.branches {
-                Some(above) if above.thread == t => above.child,
-                _ => 0,
-            },
-            None => 0,
-        }
+    /// The branches that come with the values of the last node.
+    fn last_branches(&self) -> Option<Branches> {
+        self.frames.last()?.branches
     }
 
-    /// The branches with the next child in place of the one that is searched.
-    pub(crate) fn next_branches(&self, branches: Branches) -> Branches {
-        Branches {
-            child: self.child_of(branches).next,
-            ..branches
+    /// The place of the branch of a thread's next read.
+    fn place_of(&self, t: u8) -> usize {
+        match self.last_branches() {
+            Some(above) if above.thread == t => above.child,
+            _ => 0,
         }
     }
 
@@ -67,26 +70,28 @@ impl BackjumpingSearch<'_> {
     /// What is found where the last child's tree, which rests on these choices, does not rest on the choice above it: it
     /// takes the place of the node, or stands in the children that are left, too. `None` where the children before rest on
     /// more, or those that are left are to be searched.
-    pub(crate) fn without_choice(
-        &mut self,
-        frame: &mut Frame,
-        own: ConflictSet,
-    ) -> Result<Option<Found>, AllocError> {
+    pub(crate) fn without_choice(&mut self, own: ConflictSet) -> Result<Option<Found>, AllocError> {
+        let Some(frame) = self.frames.last() else {
+            return Ok(None);
+        };
+        let (root, start, taken) = (frame.root, frame.start, frame.taken);
         let Some(branches) = frame.branches else {
-            self.lift(frame.root, frame.start);
+            self.lift(root, start);
             return Ok(Some(self.done(own)));
         };
-        if let Some(Node::Known { .. }) = self.nodes.get(frame.start) {
+        if let Some(Node::Known { .. }) = self.nodes.get(start) {
             self.below = None;
-            self.lift(frame.root, frame.start);
+            self.lift(root, start);
             return Ok(Some(self.done(own)));
         }
-        let Some(below) = self.below_end(frame.start, branches) else {
+        let Some(below) = self.below_end(start, branches) else {
             return Ok(None);
         };
         self.fill(branches, below)?;
-        if frame.taken > 1 {
-            frame.taken = frame.choices.len();
+        if taken > 1 {
+            if let Some(frame) = self.frames.last_mut() {
+                frame.taken = frame.choices.len();
+            }
             return Ok(None);
         }
         self.below = Some(below);
@@ -98,16 +103,14 @@ impl BackjumpingSearch<'_> {
         if self.child_of(branches).values > 0 {
             return self.below;
         }
-        Some(NodeRange {
-            start,
-            end: self.nodes.len(),
-        })
+        let end = self.nodes.len();
+        Some(NodeRange { start, end })
     }
 
     /// Puts the other children's branches after the nodes, with a copy of these nodes at each end of the thread.
     fn fill(&mut self, branches: Branches, below: NodeRange) -> Result<(), AllocError> {
         let thread = branches.thread;
-        for place in self.next_branches(branches).child..branches.end {
+        for place in self.child_of(branches).next..branches.end {
             let count = self.asked.shapes.branch(thread, place).values;
             if count > 0 {
                 self.nodes.push(Node::Value { thread, count })?;

@@ -35,14 +35,6 @@ enum Piece {
     Part(Vec<usize>),
 }
 
-/// A part that was searched.
-#[derive(Drop)]
-struct SearchedPart {
-    /// The place of its piece.
-    place: usize,
-    searched: Searched,
-}
-
 /// A search that is cut, whose parts threads share.
 #[derive(Drop)]
 struct CutSearch<'a> {
@@ -124,7 +116,10 @@ impl<'a> CutSearch<'a> {
 
     /// Adds the node of a part and a part for each of its children, or the part itself where it is a leaf.
     fn open(&self, choices: &[usize], pieces: &mut Vec<Piece>) -> Result<(), AllocError> {
-        match self.node_at(choices)? {
+        let mut search = self.search()?;
+        let node = search.node_after(choices);
+        drop(search);
+        match node? {
             Some((node, count)) => {
                 pieces.push(Piece::Node(node))?;
                 self.push_children(choices, count, pieces)
@@ -133,15 +128,6 @@ impl<'a> CutSearch<'a> {
                 pieces.push(Piece::Part(Vec::from_slice(self.asked.alloc, choices)?))?;
                 Ok(())
             }
-        }
-    }
-
-    /// The node after these choices, and how many children it has. `None` if a leaf is there.
-    fn node_at(&self, choices: &[usize]) -> Result<Option<(Node, usize)>, AllocError> {
-        let mut search = self.search()?;
-        match search.begin(choices)? {
-            Found::Node => Ok(search.last_node()),
-            Found::Tree(_) | Found::Ended(_) => Ok(None),
         }
     }
 
@@ -169,10 +155,21 @@ impl<'a> CutSearch<'a> {
     /// Searches the parts, and joins what is found in them.
     fn searched<R: Threads + Sync>(&self, rt: &R) -> Result<Searched, AllocError> {
         let mut joined = Searched::none(self.asked.alloc);
-        for (piece, found) in self.pieces.iter().zip(self.found(rt)?) {
-            add_piece(&mut joined, piece, found)?;
+        match self.join(rt, &mut joined) {
+            Ok(()) => Ok(joined),
+            Err(fault) => {
+                drop(joined);
+                Err(fault)
+            }
         }
-        Ok(joined)
+    }
+
+    /// Searches the parts, and adds what is found in them.
+    fn join<R: Threads + Sync>(&self, rt: &R, joined: &mut Searched) -> Result<(), AllocError> {
+        for (piece, found) in self.pieces.iter().zip(self.found(rt)?) {
+            add_piece(joined, piece, found)?;
+        }
+        Ok(())
     }
 
     /// What is found in each part, at the place of its piece. `None` for a node, and for a part after one that ends the
@@ -190,14 +187,14 @@ impl<'a> CutSearch<'a> {
         Ok(found)
     }
 
-    /// Searches parts that no other thread has taken, one after another.
-    fn some_searched(&self) -> Result<Vec<SearchedPart>, AllocError> {
+    /// Searches parts that no other thread has taken, one after another, and answers each with its place.
+    fn some_searched(&self) -> Result<Vec<(usize, Searched)>, AllocError> {
         let mut parts = Vec::new(self.asked.alloc);
         for _ in 0..self.pieces.len() {
             let place = self.taken.fetch_add(1, Ordering::SeqCst);
             if let Some(Piece::Part(choices)) = self.pieces.get(place) {
                 if let Some(searched) = self.part_searched(place, choices)? {
-                    parts.push(SearchedPart { place, searched })?;
+                    parts.push((place, searched))?;
                 }
                 self.asked.watch.finish_part();
             }
@@ -212,10 +209,8 @@ impl<'a> CutSearch<'a> {
         choices: &[usize],
     ) -> Result<Option<Searched>, AllocError> {
         let mut search = self.search()?;
-        match self.end_of(&mut search, place, choices)? {
-            Some(end) => Ok(Some(search.ended(end))),
-            None => Ok(None),
-        }
+        let end = self.end_of(&mut search, place, choices);
+        search.ended(end)
     }
 
     /// How the search of a part ends. `None` once a part before it ends the question.
@@ -228,7 +223,7 @@ impl<'a> CutSearch<'a> {
         let mut found = search.begin(choices)?;
         for _ in 0..MOST_TURNS {
             if self.last.load(Ordering::SeqCst) < place {
-                return Ok(None);
+                break;
             }
             found = match search.go_on(found, TURN_STEPS)? {
                 Found::Ended(end) => {
@@ -238,15 +233,14 @@ impl<'a> CutSearch<'a> {
                 other => other,
             };
         }
+        drop(found);
         Ok(None)
     }
 
     /// Notes that a part ends the question, where it does.
     fn note(&self, place: usize, end: &SearchEnd) {
-        if let SearchEnd::Covered = end {
-            return;
-        }
-        if place < self.last.load(Ordering::SeqCst) {
+        let is_covered = matches!(end, SearchEnd::Covered);
+        if !is_covered && place < self.last.load(Ordering::SeqCst) {
             self.last.store(place, Ordering::SeqCst);
         }
     }
@@ -258,14 +252,13 @@ fn add_piece(
     piece: &Piece,
     found: Option<Searched>,
 ) -> Result<(), AllocError> {
-    match (piece, found) {
-        (Piece::Node(node), _) => {
-            joined.nodes.push(*node)?;
-            Ok(())
-        }
-        (Piece::Part(_), Some(searched)) => joined.add(searched),
-        (Piece::Part(_), None) => Ok(()),
+    if let Some(searched) = found {
+        return joined.add(searched);
     }
+    if let Piece::Node(node) = piece {
+        joined.nodes.push(*node)?;
+    }
+    Ok(())
 }
 
 /// Nothing yet at each of so many places.
@@ -289,9 +282,8 @@ fn parts_in(pieces: &[Piece]) -> usize {
 }
 
 /// Puts what is found in parts at the places of their pieces.
-fn put_all(found: &mut Vec<Option<Searched>>, parts: Vec<SearchedPart>) {
-    for part in parts {
-        let SearchedPart { place, searched } = part;
+fn put_all(found: &mut Vec<Option<Searched>>, parts: Vec<(usize, Searched)>) {
+    for (place, searched) in parts {
         if place < found.len() {
             found[place] = Some(searched);
         }

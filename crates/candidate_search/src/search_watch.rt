@@ -198,9 +198,7 @@ fn outcomes_found(alloc: Global, parts: Parts) -> Result<String, AllocError> {
     if parts.all == 0 {
         return format!(in alloc; "outcomes are searched for");
     }
-    let share = parts.share(alloc)?;
-    let left = parts.left(alloc)?;
-    format!(in alloc; "{share} of the search for outcomes are done{left}")
+    parts.text(alloc, "the search for outcomes")
 }
 
 /// How many sets were asked about, and how far the last question is.
@@ -209,17 +207,17 @@ fn sets_asked(alloc: Global, asked: u64, parts: Parts) -> Result<String, AllocEr
     if parts.all == 0 {
         return format!(in alloc; "sets asked: {asked}");
     }
-    let share = parts.share(alloc)?;
-    let left = parts.left(alloc)?;
-    format!(in alloc; "sets asked: {asked}; {share} of the last question are done{left}")
+    let far = parts.text(alloc, "the last question")?;
+    format!(in alloc; "sets asked: {asked}; {far}")
 }
 
 impl Parts {
-    /// How many of the parts are done.
-    fn share(self, alloc: Global) -> Result<String, AllocError> {
+    /// How many of the parts of a search are done, and how long the others may take.
+    fn text(self, alloc: Global, search: &str) -> Result<String, AllocError> {
+        let left = self.left(alloc)?;
         let done = grouped(alloc, self.done)?;
         let all = grouped(alloc, self.all)?;
-        format!(in alloc; "{done} of {all} parts")
+        format!(in alloc; "{done} of {all} parts of {search} are done{left}")
     }
 
     /// About how many seconds are left, if the parts that are left take as long as those that are done; nothing before the first is

@@ -49,10 +49,8 @@ pub(crate) fn searched_within<'a>(
 ) -> Result<Option<Searched>, AllocError> {
     let outcomes = KnownOutcomes::listed(asked.alloc, listed);
     let mut search = BackjumpingSearch::new(asked, mode, outcomes)?;
-    match end_within(&mut search, turns)? {
-        Some(end) => Ok(Some(search.ended(end))),
-        None => Ok(None),
-    }
+    let end = end_within(&mut search, turns);
+    search.ended(end)
 }
 
 /// How a search ends that begins with nothing chosen. `None` if it has not ended after so many turns.
@@ -67,6 +65,7 @@ fn end_within(
             other => other,
         };
     }
+    drop(found);
     Ok(None)
 }
 
