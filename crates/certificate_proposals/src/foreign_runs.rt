@@ -44,8 +44,8 @@ impl ForeignRuns<'_> {
                 return Ok(None);
             };
             match search.verdict(rt, &self.costs.ties.spread(&set), outcomes)? {
-                Some(Proposal::Serves(nodes)) => return Ok(Some(ServedSet { set, nodes })),
-                Some(Proposal::Foreign(labels)) => {
+                Some(Proposal::Complete(nodes)) => return Ok(Some(ServedSet { set, nodes })),
+                Some(Proposal::Lacking(labels)) => {
                     if !self.learn(&labels, &set)? {
                         return Ok(None);
                     }
@@ -69,7 +69,7 @@ impl ForeignRuns<'_> {
             if !self.is_needed(gap) {
                 let others = all_but(self.program, gap);
                 let gaps = self.costs.ties.spread(&others);
-                if let Some(Proposal::Foreign(labels)) = search.verdict(rt, &gaps, outcomes)? {
+                if let Some(Proposal::Lacking(labels)) = search.verdict(rt, &gaps, outcomes)? {
                     self.learn(&labels, &others)?;
                 }
             }

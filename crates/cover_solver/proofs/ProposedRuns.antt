@@ -49,9 +49,3 @@ exactly_allowed q machine runs outcomes are all o = (
   λ (k, h, e). (let (labels, there, is_run) = zip_at_right (IsShownRun q machine) runs outcomes k o are (slice_get-get_or outcomes k o h ∙ ap Some e) in (labels, is_run)),
   all o,
 )
-
--- the run that stands beside an outcome
-pub run_beside : (place : ℕ) (o : Outcome) (labels : List Label) (runs : List (List Label)) (outcomes : List Outcome) → slice_get outcomes place ≡ Some o → slice_get runs place ≡ Some labels →
-    (q : Question) (machine : Machine) → AllZip (IsShownRun q machine) runs outcomes → IsShownRun q machine labels o
-run_beside place o labels runs outcomes here there q machine are =
-    let (own, at, is_run) = zip_at_right (IsShownRun q machine) runs outcomes place o are here in subst (λ (ls : List Label). IsShownRun q machine ls o) (same_Some own labels (sym at ∙ there)) is_run

@@ -17,6 +17,9 @@ use Rattle.tso_machine.specs.Outcomes.{AllowsShown, IsShownRun}
 use Rattle.dataflow_laws.specs.DeadLoads.{Places, drop_loads, AreDead, IsWithoutDeadLoads}
 use Rattle.dataflow_laws.specs.Laws.{DroppedLoadsKeepGaps, DeadLoadsKeepRuns, DeadLoadsKeepOutcomes}
 use Rattle.cover_solver.specs.declared.outcome_list.OutcomeList.{OutcomeList}
+use Rattle.cover_solver.specs.declared.completeness.Completeness.{Completeness}
+use Rattle.cover_solver.specs.declared.completeness.Completeness.TheVariants.{Complete, Lacking}
+use Rattle.cover_solver.specs.Completeness.{IsCompleteness}
 use Rattle.cover_solver.specs.OutcomeLists.{AreRunsOf, IsListOfAll}
 
 -- lists that are in step by one relation are so by a weaker one
@@ -38,12 +41,13 @@ module _ (p slim : Listing) (shown : Shown) (mode : Mode) (without : IsWithoutDe
   machine : machine_of_mode slim mode ≡ machine_of_mode p mode
   machine = ap (λ (r : Listing). machine_of_mode r mode) without.2 ∙ one_machine p without.0 mode gaps
 
-  runs_back : DeadLoadsKeepRuns → (runs : List (List Label)) (outcomes : List Outcome) → AreRunsOf (asked slim shown) (machine_of_mode slim mode) runs outcomes → AreRunsOf (asked p shown) (machine_of_mode p mode) runs outcomes
-  runs_back kept runs outcomes are =
-      in_step (IsShownRun (asked slim shown) (machine_of_mode slim mode)) (IsShownRun (asked p shown) (machine_of_mode p mode)) (λ labels o is.
+  run_back : DeadLoadsKeepRuns → (labels : List Label) (o : Outcome) → IsShownRun (asked slim shown) (machine_of_mode slim mode) labels o → IsShownRun (asked p shown) (machine_of_mode p mode) labels o
+  run_back kept labels o is =
       (kept p shown without.0 (machine_of_mode p mode) labels o dead).0
-      (subst (λ (m : Machine). IsShownRun (asked (drop_loads without.0 p) shown) m labels o) machine (subst (λ (r : Listing). IsShownRun (asked r shown) (machine_of_mode slim mode) labels o) without.2 is)))
-      runs outcomes are
+      (subst (λ (m : Machine). IsShownRun (asked (drop_loads without.0 p) shown) m labels o) machine (subst (λ (r : Listing). IsShownRun (asked r shown) (machine_of_mode slim mode) labels o) without.2 is))
+
+  runs_back : DeadLoadsKeepRuns → (runs : List (List Label)) (outcomes : List Outcome) → AreRunsOf (asked slim shown) (machine_of_mode slim mode) runs outcomes → AreRunsOf (asked p shown) (machine_of_mode p mode) runs outcomes
+  runs_back kept runs outcomes are = in_step (IsShownRun (asked slim shown) (machine_of_mode slim mode)) (IsShownRun (asked p shown) (machine_of_mode p mode)) (run_back kept) runs outcomes are
 
   same_outcomes : DeadLoadsKeepOutcomes → (o : Outcome) → AllowsShown (asked slim shown) (machine_of_mode slim mode) o ↔ AllowsShown (asked p shown) (machine_of_mode p mode) o
   same_outcomes kept o =
@@ -61,3 +65,9 @@ module _ (p slim : Listing) (shown : Shown) (mode : Mode) (without : IsWithoutDe
     runs = runs_back kept_runs list.runs list.outcomes.items all.runs;
     exact = exact_back kept_outcomes list.outcomes.items all.exact;
   }
+
+  -- what is so of a list of outcomes without these loads is so of the program
+  pub completeness_back : DeadLoadsKeepRuns → DeadLoadsKeepOutcomes → (outcomes : List Outcome) (found : Completeness) → IsCompleteness (asked slim shown) (machine_of_mode slim mode) outcomes found →
+      IsCompleteness (asked p shown) (machine_of_mode p mode) outcomes found
+  completeness_back kept_runs kept_outcomes outcomes Complete all = λ o allows. all o ((same_outcomes kept_outcomes o).1 allows)
+  completeness_back kept_runs kept_outcomes outcomes (Lacking labels) (o, is_run, lacks) = (o, run_back kept_runs labels.items o is_run, lacks)

@@ -24,7 +24,3 @@ pub record IsListOfAll (q : Question) (mode : Machine) (list : OutcomeList) : Ty
   pub ascend : Ascend list.outcomes.items
   pub runs : AreRunsOf q mode list.runs list.outcomes.items
   pub exact : (o : Outcome) → Contains list.outcomes.items o ↔ AllowsShown q mode o
-
--- a run of the outcome, if the runs of the list are those of its outcomes
-abbrev pub IsRunIn : OutcomeList → List Label → Outcome → Type 0
-IsRunIn list labels o = (q : Question) (mode : Machine) → AreRunsOf q mode list.runs list.outcomes.items → IsShownRun q mode labels o

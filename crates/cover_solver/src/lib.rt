@@ -10,6 +10,7 @@
 //! foreign and passes no gap of the set, and a set that serves has a valid tree.
 #![tactic(auto)]
 
+mod completeness;
 mod found_outcomes;
 mod known_runs;
 mod outcome_list;

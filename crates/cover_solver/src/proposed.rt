@@ -1,4 +1,4 @@
-//! Outcomes that a search for early trees proposes, and that are judged.
+//! Outcomes that a search for early trees proposes, and whether a list has all, as they are judged.
 ghost use Rattle.std.specs.Prelude.{◌++◌, ◌∷◌, [], IsTrue, IfOk, IfSome, Contains};
 ghost use Rattle.tso_program.specs.declared.outcome.Outcome.{Outcome};
 ghost use Rattle.tso_program.specs.Shown.{asked};
@@ -6,12 +6,14 @@ ghost use Rattle.tso_machine.specs.Modes.{machine_of_mode};
 ghost use Rattle.tso_machine.specs.Outcomes.{AllowsShown, IsShownRun};
 ghost use Rattle.tree_laws.specs.Ascending.{Ascend};
 ghost use Rattle.dataflow_laws.specs.DeadLoads.{IsWithoutDeadLoads};
+ghost use Rattle.cover_solver.specs.Completeness.{IsCompleteness};
 ghost use Rattle.cover_solver.specs.OutcomeLists.{AreRunsOf, IsListOfAll};
 ghost use Rattle.cover_solver.specs.Sought.{question_of, machine_of};
 
+use crate::completeness::Completeness;
 use crate::outcome_list::OutcomeList;
 use crate::tree_nodes::are_trees;
-use candidate_search::{ProposedOutcomes, ProposingSearch, SearchPlan, SearchWatch};
+use candidate_search::{Proposal, ProposedOutcomes, ProposingSearch, SearchPlan, SearchWatch};
 use cert_forest::{Node, Runs, Walk};
 use cover_judge::{NodeFault, RowlessSketch, judge};
 use cover_search::Search;
@@ -62,6 +64,38 @@ pub(crate) fn outcomes_by_threads<R: Threads + Sync>(
     judged_for(search, &slim, found)
 }
 
+/// Whether outcomes are all of a search, as a search for early trees proposes it, where that is judged to be so. `None` where
+/// it gives up, or where what it proposes is wrong. It is made without the program's dead loads.
+pub(crate) fn proposed_completeness(
+    search: &Search,
+    outcomes: &[Outcome],
+) -> Result<Option<Completeness>, AllocError>
+    requires { Ascend outcomes.now }
+    ensures { IfOk result (λ found. IfSome found (IsCompleteness (asked search.now.program.now search.now.shown.now) (machine_of_mode search.now.program.now search.now.mode) outcomes.now)) }
+{
+    let slim = without_dead_loads(search.alloc, search.program, search.shown)?;
+    let watch = SearchWatch::none();
+    let plan = SearchPlan {
+        rule: Rule::Early,
+        workers: 1,
+        watch: &watch,
+    };
+    let found = ProposingSearch::new(search.alloc, plan, &slim, search.shown)?.completeness(
+        search.mode,
+        outcomes,
+    )?;
+    dropped_loads_keep_gaps();
+    dead_loads_keep_runs();
+    dead_loads_keep_outcomes();
+    let sought = Sought {
+        alloc: search.alloc,
+        program: &slim,
+        shown: search.shown,
+        mode: search.mode,
+    };
+    sought.judged_completeness(found, outcomes)
+}
+
 /// What is proposed of a search's program without its dead loads, where it is judged to be all outcomes of the search.
 fn judged_for(
     search: &Search,
@@ -108,6 +142,31 @@ impl Sought<'_> {
             return Ok(None);
         }
         Ok(Some(OutcomeList { outcomes, runs }))
+    }
+
+    /// What is proposed of outcomes, where it is judged to be so.
+    fn judged_completeness(
+        &self,
+        found: Option<Proposal>,
+        outcomes: &[Outcome],
+    ) -> Result<Option<Completeness>, AllocError>
+        requires { Ascend outcomes.now }
+        ensures { IfOk result (λ found. IfSome found (IsCompleteness (question_of self.now) (machine_of self.now) outcomes.now)) }
+    {
+        match found {
+            None => Ok(None),
+            Some(Proposal::Complete(nodes)) => {
+                let all = self.are_all(&nodes, outcomes)?;
+                Ok(all.then_some(Completeness::Complete))
+            }
+            Some(Proposal::Lacking(labels)) => match self.outcome_of(&labels)? {
+                Some(outcome) => match outcomes.binary_search(&outcome) {
+                    Ok(_) => Ok(None),
+                    Err(_) => Ok(Some(Completeness::Lacking(labels))),
+                },
+                None => Ok(None),
+            },
+        }
     }
 
     /// What is shown of the outcomes of runs. `None` if one is no run, or they do not ascend.

@@ -1,20 +1,17 @@
 //! Runs whose outcomes meet a formula.
-ghost use Rattle.std.specs.Prelude.{◌≡◌, IfOk, IfErr, MatchOption, Contains};
-ghost use Rattle.tso_program.specs.declared.question.Question.{Question};
-ghost use Rattle.tso_machine.specs.Machine.{Machine};
+ghost use Rattle.std.specs.Prelude.{◌≡◌, IfOk, IfErr, MatchOption};
 ghost use Rattle.tso_machine.specs.Modes.{machine_of_mode};
-ghost use Rattle.tree_laws.specs.Ascending.{Ascend};
-ghost use Rattle.cover_solver.specs.OutcomeLists.{AreRunsOf, IsListOfAll, IsRunIn};
 ghost use Rattle.cover_solver.specs.Witnesses.{IsWitness, HasNoWitness};
 
-use crate::outcome_list::{OutcomeList, listed};
+use crate::completeness::{Completeness, completeness_of};
 use cover_search::Search;
 use oracle::SolveFault;
-use std::alloc::{AllocError, Global};
+use std::alloc::Global;
 use tso_machine::{Label, Mode};
 use tso_program::{Formula, Outcome, Program, Shown};
 
-/// A run of the machine of a mode with this truth of the formula at its outcome. `None` where no run has one.
+/// A run of the machine of a mode with this truth of the formula at its outcome. `None` where no run has one. The search ends at
+/// the first such run.
 pub fn witness(
     alloc: Global,
     program: &Program,
@@ -26,30 +23,16 @@ pub fn witness(
     ensures fault { IfErr result (λ fault. fault ≡ SolveFault.OutOfMemory) }
 {
     let shown = Shown::Truth(formula.copy()?);
-    let list = listed(&Search {
+    let search = Search {
         alloc,
         program,
         shown: &shown,
         mode,
-    })?;
-    let told = Outcome::told(alloc, truth)?;
-    Ok(run_of(alloc, &list, &told)?)
-}
-
-/// The run of an outcome of a list.
-fn run_of(
-    alloc: Global,
-    list: &OutcomeList,
-    outcome: &Outcome,
-) -> Result<Option<Vec<Label>>, AllocError>
-    requires { (q : Question) × (mode : Machine) × IsListOfAll q mode list.now }
-    ensures { IfOk result (λ run. MatchOption run (Contains list.now.outcomes.items outcome.now → ⊥) (λ labels. IsRunIn list.now labels.items outcome.now)) }
-{
-    match list.outcomes.binary_search(outcome) {
-        Ok(place) => match list.runs.get(place) {
-            Some(labels) => Ok(Some(Vec::from_slice(alloc, labels)?)),
-            None => unreachable!(),
-        },
-        Err(_) => Ok(None),
+    };
+    let other = Outcome::told(alloc, !truth)?;
+    let others = [other];
+    match completeness_of(&search, &others)? {
+        Completeness::Complete => Ok(None),
+        Completeness::Lacking(labels) => Ok(Some(labels)),
     }
 }
