@@ -3,3 +3,4 @@ mod Vocabulary
 pub mod Visited
 pub mod Executed
 pub mod Passing
+pub mod Claimed

@@ -1,3 +1,4 @@
+pub mod Verdicts
 pub mod Visits
 pub mod ExecutedRuns
 pub mod Internal

@@ -1,25 +1,17 @@
 -- What is found of a program, and its text.
-use Rattle.std.specs.Prelude.{◌≡◌, ◌↔◌, ℕ, Bool, List, [], ◌∷◌, ◌++◌, Contains, Option, codes, nat_lt, not, if◌then◌else◌}
+use Rattle.std.specs.Prelude.{◌≡◌, ℕ, Bool, List, [], ◌∷◌, ◌++◌, Option, codes, nat_lt, not, if◌then◌else◌}
 use Rattle.std.specs.Option.{option_map_or}
 use Rattle.std.specs.List.{flat_map}
 use Rattle.std.specs.Fmt.{decimal}
 use Rattle.std.specs.FinSet as set
 use Rattle.gap_sets.specs.Gaps.{numbers_of_set}
 use Rattle.tso_program.specs.declared.listing.Listing.{Listing}
-use Rattle.tso_program.specs.declared.outcome.Outcome.{Outcome}
-use Rattle.tso_program.specs.declared.shown.Shown.TheVariants.{All}
 use Rattle.tso_program.specs.declared.shown.ShownKind.TheVariants.{Whole, Condition}
 use Rattle.tso_program.specs.Listings.{gap_place}
-use Rattle.tso_program.specs.Shown.{asked}
 use Rattle.tso_machine.specs.declared.label.Model.TheVariants.{Sequential, Buffered}
-use Rattle.tso_machine.specs.Machine.{Machine}
 use Rattle.tso_machine.specs.Modes.{machine_of_model}
-use Rattle.tso_machine.specs.Outcomes.{AllowsShown}
-use Rattle.tree_laws.specs.Ascending.{Ascend}
 use Rattle.litmus_text.specs.Litmus.{Litmus}
 use Rattle.litmus_text.specs.Texts.{IsLitmus}
-use Rattle.conditions.specs.declared.condition.Condition.{Condition as LitmusCondition}
-use Rattle.report.specs.Observations.{is_true_of, condition_line}
 use Rattle.gap_list.specs.declared.text_lines.TextLines.{TextLines}
 use Rattle.gap_list.specs.Lines.{line_at}
 use Rattle.gap_list.specs.Lists.{instruction_part}
@@ -32,22 +24,18 @@ use Rattle.survey_text.specs.declared.finding.SurveyText.{SurveyText}
 use Rattle.survey_text.specs.declared.survey.Survey.{Survey}
 use Rattle.survey_text.specs.declared.visit.Visit.{Visit}
 use Rattle.survey_text.specs.ExecutedRuns.{AreExecutedRuns}
+use Rattle.survey_text.specs.Verdicts.{HoldsIn}
 use Rattle.survey_text.specs.Visits.{AreVisits, instruction_places, unexecuted, unexecuted_places}
 
 -- ---- what is found
 
--- the list ascends, and has exactly the outcomes that the machine allows
-pub record AreOutcomesOf (p : Listing) (machine : Machine) (outcomes : List Outcome) : Type 0 where
-  pub ascend : Ascend outcomes
-  pub exact : (o : Outcome) → Contains outcomes o ↔ AllowsShown (asked p All) machine o
-
--- of the program that the text spells: its outcomes in both machines with no gap fenced; each instruction, with a sequential run
+-- of the program that the text spells: whether the condition holds in both machines with no gap fenced; each instruction, with a sequential run
 -- that executes it unless none does, and runs that together execute those which some run executes; and both answers, where the gaps
 -- cost what a text of costs says, 1 each without one
 pub record IsSurvey (text : List ℕ) (costs : Option (List ℕ)) (survey : Survey) : Type 0 where
   pub of_text : IsLitmus text survey.litmus
-  pub sequential : AreOutcomesOf survey.litmus.program (machine_of_model survey.litmus.program set.empty Sequential) survey.sequential.items
-  pub buffered : AreOutcomesOf survey.litmus.program (machine_of_model survey.litmus.program set.empty Buffered) survey.buffered.items
+  pub sequential : HoldsIn survey.litmus.program (machine_of_model survey.litmus.program set.empty Sequential) survey.litmus.condition survey.sequential
+  pub buffered : HoldsIn survey.litmus.program (machine_of_model survey.litmus.program set.empty Buffered) survey.litmus.condition survey.buffered
   pub visits : AreVisits survey.litmus.program (instruction_places survey.litmus.program.threads) survey.visits.items
   pub runs : AreExecutedRuns survey.litmus.program survey.visits.items survey.runs.items
   pub given : AreGiven survey.litmus.program costs survey.costs
@@ -76,27 +64,31 @@ fence_line source lines gap =
 abbrev pub answer_lines : Litmus Listing → TextLines → AnswerText → List ℕ
 answer_lines source lines answer = answer.answer.items ++ flat_map (fence_line source lines) (numbers_of_set answer.gaps)
 
+-- whether the condition holds, in a word
+abbrev pub verdict : Bool → List ℕ
+verdict holds = if holds then codes "holds" else codes "fails"
+
+-- `MACHINE condition holds`, or `fails`
+abbrev pub verdict_line : List ℕ → Bool → List ℕ
+verdict_line machine holds = machine ++ codes " condition " ++ verdict holds ++ 10 ∷ []
+
 abbrev pub survey_lines : TextLines → Survey → List ℕ
 survey_lines lines survey =
-    codes "sequential " ++ condition_line survey.litmus.condition survey.sequential.items
-    ++ codes "buffered " ++ condition_line survey.litmus.condition survey.buffered.items
+    verdict_line (codes "sequential") survey.sequential
+    ++ verdict_line (codes "buffered") survey.buffered
     ++ flat_map (unexecuted_line survey.litmus lines) survey.visits.items
     ++ answer_lines survey.litmus lines survey.condition
     ++ answer_lines survey.litmus lines survey.whole
 
 -- whether the condition fails sequentially
 abbrev pub fails : Survey → Bool
-fails survey = not (is_true_of survey.litmus.condition.quantifier survey.litmus.condition.formula survey.sequential.items)
-
--- whether the condition holds in a machine with these outcomes
-abbrev pub verdict : LitmusCondition → List Outcome → List ℕ
-verdict condition outcomes = if is_true_of condition.quantifier condition.formula outcomes then codes "holds" else codes "fails"
+fails survey = not survey.sequential
 
 -- `SEQUENTIAL BUFFERED UNEXECUTED CONDITION ANSWER`: both verdicts, how many instructions no sequential run executes, and how many
 -- fences each answer has
 abbrev pub survey_row : Survey → List ℕ
 survey_row survey =
-    verdict survey.litmus.condition survey.sequential.items ++ 32 ∷ verdict survey.litmus.condition survey.buffered.items
+    verdict survey.sequential ++ 32 ∷ verdict survey.buffered
     ++ 32 ∷ decimal (unexecuted survey.visits.items) ++ 32 ∷ decimal (set.len survey.condition.gaps) ++ 32 ∷ decimal (set.len survey.whole.gaps)
 
 -- ---- its document
@@ -105,8 +97,8 @@ survey_row survey =
 abbrev pub found_of : List ℕ → Survey → Found
 found_of name survey = record {
   file = name;
-  sequential = is_true_of survey.litmus.condition.quantifier survey.litmus.condition.formula survey.sequential.items;
-  buffered = is_true_of survey.litmus.condition.quantifier survey.litmus.condition.formula survey.buffered.items;
+  sequential = survey.sequential;
+  buffered = survey.buffered;
   unexecuted = unexecuted_places survey.visits.items;
   runs = survey.runs.items;
   costs = survey.costs;

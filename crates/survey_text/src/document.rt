@@ -9,7 +9,6 @@ use crate::visit::unexecuted_places;
 use documents::{Findings, FoundAnswer, LinedLitmus, survey_document};
 use gap_list::TextLines;
 use json_text::JsonObject;
-use report::is_true_of;
 use std::alloc::{AllocError, Global};
 use tso_program::{Shown, ShownKind};
 
@@ -28,8 +27,8 @@ pub(crate) fn document_of(
     let unexecuted = unexecuted_places(alloc, &survey.visits)?;
     let found = Findings {
         file: name.as_bytes(),
-        sequential: is_true_of(&litmus.condition, &survey.sequential),
-        buffered: is_true_of(&litmus.condition, &survey.buffered),
+        sequential: survey.sequential,
+        buffered: survey.buffered,
         unexecuted: &unexecuted,
         runs: &survey.runs,
         costs: &survey.costs,

@@ -8,29 +8,30 @@ ghost use Rattle.tso_machine.specs.Modes.{machine_of_model};
 ghost use Rattle.placed_text.specs.PlacedTexts.{IsAnswerText};
 ghost use Rattle.placed_text.specs.TextFaults.{HasNoPlacedText};
 ghost use Rattle.survey_text.specs.ExecutedRuns.{AreExecutedRuns};
-ghost use Rattle.survey_text.specs.Surveys.{fails, AreOutcomesOf, IsSurvey, IsSurveyText};
+ghost use Rattle.survey_text.specs.Surveys.{fails, IsSurvey, IsSurveyText};
+ghost use Rattle.survey_text.specs.Verdicts.{HoldsIn};
 ghost use Rattle.survey_text.specs.Visits.{instruction_places, AreVisits};
 
 use crate::document::document_of;
 use crate::execution::executed_runs;
 use crate::lines::{survey_lines, survey_row};
-use crate::outcome_lists::outcomes_of;
 use crate::stretch::{Unexecuted, unexecuted_of};
 use crate::survey::Survey;
+use crate::verdict::holds_in;
 use crate::visit::{Visit, unexecuted, visits_of};
 use documents::{ExecutedRun, Note};
 use gap_list::TextLines;
 use json_text::JsonObject;
+use litmus_text::Litmus;
 use placed_text::{
     AnswerText, Effort, SearchWatch, SolveFault, TextFault, answer_text, read_gap_costs,
     read_program,
 };
-use report::is_true_of;
 use std::alloc::{AllocError, Global};
 use std::sync::Wait;
 use std::thread::Threads;
 use tso_machine::Model;
-use tso_program::{Outcome, Program, ShownKind};
+use tso_program::{Program, ShownKind};
 
 /// The text of what is found of a program.
 #[derive(Drop)]
@@ -50,18 +51,19 @@ pub struct SurveyText {
     pub verdict: Option<Note>,
 }
 
-/// The outcomes of a program with no gap fenced: of the sequential machine, and with store buffers.
-fn both_outcomes<T: Threads + Sync>(
+/// Whether the condition holds sequentially, and with store buffers and no fence. That runs are sought is reported by time.
+fn both_verdicts<T: Threads>(
     rt: &T,
     alloc: Global,
     effort: Effort,
-    program: &Program,
-) -> Result<(Vec<Outcome>, Vec<Outcome>), SolveFault>
-    ensures sequential { IfOk result (λ both. AreOutcomesOf program.now (machine_of_model program.now set.empty models.Sequential) both.0.items) }
-    ensures buffered { IfOk result (λ both. AreOutcomesOf program.now (machine_of_model program.now set.empty models.Buffered) both.1.items) }
+    litmus: &Litmus<Program>,
+) -> Result<(bool, bool), SolveFault>
+    ensures sequential { IfOk result (λ both. HoldsIn litmus.now.program (machine_of_model litmus.now.program set.empty models.Sequential) litmus.now.condition both.0) }
+    ensures buffered { IfOk result (λ both. HoldsIn litmus.now.program (machine_of_model litmus.now.program set.empty models.Buffered) litmus.now.condition both.1) }
 {
-    let sequential = outcomes_of(rt, alloc, effort, program, Model::Sequential)?;
-    let buffered = outcomes_of(rt, alloc, effort, program, Model::Buffered)?;
+    let _watch = SearchWatch::new(rt, alloc, effort.progress);
+    let sequential = holds_in(alloc, litmus, Model::Sequential)?;
+    let buffered = holds_in(alloc, litmus, Model::Buffered)?;
     Ok((sequential, buffered))
 }
 
@@ -114,7 +116,7 @@ fn survey_of<T: Threads + Wait + Sync>(
     let litmus = read_program(alloc, text)?;
     let program = &litmus.program;
     let tied = read_gap_costs(alloc, costs, program)?;
-    let (sequential, buffered) = both_outcomes(rt, alloc, effort, program)?;
+    let (sequential, buffered) = both_verdicts(rt, alloc, effort, &litmus)?;
     let (visits, runs) = visits_and_runs(rt, alloc, effort, program)?;
     let (condition, whole) = both_answers(rt, alloc, text, costs, effort)?;
     Ok(Survey {
@@ -133,7 +135,7 @@ fn survey_of<T: Threads + Wait + Sync>(
 fn fails(survey: &Survey) -> bool
     ensures { result ≡ fails survey.now }
 {
-    !is_true_of(&survey.litmus.condition, &survey.sequential)
+    !survey.sequential
 }
 
 /// The note that a sequential run decides the condition, where one does.

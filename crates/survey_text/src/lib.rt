@@ -5,7 +5,7 @@
 //!
 //! Begin with `survey_text`, `SurveyText` and `unexecuted_within`. Free to change: how the number of an instruction's
 //! line is found, of which no clause speaks, and what is said to people of instructions that are not executed
-//! (`stretch.rt`). Relied on: the verdicts are those of exactly the outcomes of both machines, exactly the instructions
+//! (`stretch.rt`). Relied on: the verdicts are what the quantifier says of the runs of both machines, exactly the instructions
 //! are named that no sequential run executes, each other stands with a run, and both answers are those of `answer_text`
 //! (`IsSurveyText` in `specs/Surveys.antt`).
 #![tactic(auto)]
@@ -15,9 +15,9 @@ mod execution;
 mod finding;
 mod instruction_lines;
 mod lines;
-mod outcome_lists;
 mod stretch;
 mod survey;
+mod verdict;
 mod visit;
 
 pub use finding::{SurveyText, survey_text};

@@ -3,32 +3,30 @@
 ghost use Rattle.std.specs.Prelude.{◌≡◌, ◌++◌, IfOk, OnOk};
 ghost use Rattle.std.specs.List.{flat_map};
 ghost use Rattle.gap_sets.specs.Gaps.{numbers_of_set};
-ghost use Rattle.report.specs.Observations.{condition_line};
-ghost use Rattle.survey_text.specs.Surveys.{answer_lines, fence_line, survey_lines, survey_row, unexecuted_line, verdict};
+ghost use Rattle.survey_text.specs.Surveys.{answer_lines, fence_line, survey_lines, survey_row, unexecuted_line, verdict, verdict_line};
 
 use crate::instruction_lines::{push_fence, push_unexecuted};
 use crate::survey::Survey;
 use crate::visit::{Visit, unexecuted};
 use gap_list::TextLines;
 use gap_sets::GapSet;
-use litmus_text::{Condition, Litmus};
+use litmus_text::Litmus;
 use placed_text::AnswerText;
-use report::{condition_line, is_true_of};
 use std::alloc::{AllocError, Global};
-use tso_program::{Outcome, Program};
+use tso_program::Program;
 
-/// Adds whether the condition holds in a machine with these outcomes, after the machine's name.
+/// Adds whether the condition holds in a machine, after the machine's name.
 fn push_verdict(
     alloc: Global,
     out: &mut Vec<u8>,
-    machine: &[u8],
-    condition: &Condition,
-    outcomes: &[Outcome],
+    machine: &str,
+    holds: bool,
 ) -> Result<(), AllocError>
-    ensures { OnOk result (out.new.items ≡ out.old.items ++ machine.now ++ condition_line condition.now outcomes.now) }
+    ensures { OnOk result (out.new.items ≡ out.old.items ++ verdict_line machine.now holds) }
 {
-    out.extend_from_slice(machine)?;
-    out.extend_from_slice(&condition_line(alloc, condition, outcomes)?)?;
+    let verdict = verdict(holds);
+    let line = format!(in alloc; "{machine} condition {verdict}\n")?;
+    out.extend_from_slice(line.as_bytes())?;
     Ok(())
 }
 
@@ -96,38 +94,27 @@ pub(crate) fn survey_lines(
         ..
     } = survey;
     let mut out = Vec::new(alloc);
-    push_verdict(
-        alloc,
-        &mut out,
-        b"sequential ",
-        &litmus.condition,
-        sequential,
-    )?;
-    push_verdict(alloc, &mut out, b"buffered ", &litmus.condition, buffered)?;
+    push_verdict(alloc, &mut out, "sequential", *sequential)?;
+    push_verdict(alloc, &mut out, "buffered", *buffered)?;
     push_all_unexecuted(alloc, &mut out, litmus, lines, visits)?;
     push_answer(alloc, &mut out, litmus, lines, condition)?;
     push_answer(alloc, &mut out, litmus, lines, whole)?;
     Ok(out)
 }
 
-/// Whether the condition holds in a machine with these outcomes.
-fn verdict<'a>(condition: &Condition, outcomes: &[Outcome]) -> &'a str
-    ensures { result.now ≡ verdict condition.now outcomes.now }
+/// Whether the condition holds, in a word.
+fn verdict<'a>(holds: bool) -> &'a str
+    ensures { result.now ≡ verdict holds }
 {
-    if is_true_of(condition, outcomes) {
-        "holds"
-    } else {
-        "fails"
-    }
+    if holds { "holds" } else { "fails" }
 }
 
 /// Both verdicts, how many instructions no sequential run executes, and how many fences each answer has.
 pub(crate) fn survey_row(alloc: Global, survey: &Survey) -> Result<Vec<u8>, AllocError>
     ensures { IfOk result (λ row. row.items ≡ survey_row survey.now) }
 {
-    let condition = &survey.litmus.condition;
-    let sequential = verdict(condition, &survey.sequential);
-    let buffered = verdict(condition, &survey.buffered);
+    let sequential = verdict(survey.sequential);
+    let buffered = verdict(survey.buffered);
     let unexecuted = unexecuted(&survey.visits);
     let some = survey.condition.gaps.len();
     let all = survey.whole.gaps.len();

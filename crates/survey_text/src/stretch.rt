@@ -4,7 +4,6 @@ use crate::survey::Survey;
 use crate::visit::{unexecuted_places, unexecuted_within};
 use gap_list::TextLines;
 use litmus_text::{Quantifier, read_litmus};
-use report::is_true_of;
 use std::alloc::{AllocError, Global};
 
 /// Instructions of a thread, one after the other, of which no sequential run executes any, and the lines of the text in which
@@ -108,10 +107,9 @@ pub(crate) fn unexecuted_of(
     lines: &TextLines,
     survey: &Survey,
 ) -> Result<Unexecuted, AllocError> {
-    let condition = &survey.litmus.condition;
+    let quantifier = survey.litmus.condition.quantifier;
     let places = unexecuted_places(alloc, &survey.visits)?;
-    let holds = is_true_of(condition, &survey.sequential);
-    unexecuted_at(alloc, lines, &places, condition.quantifier, holds)
+    unexecuted_at(alloc, lines, &places, quantifier, survey.sequential)
 }
 
 /// What no sequential run executes of the program of a litmus text, where it is known whether a sequential run decides the

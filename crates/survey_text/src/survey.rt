@@ -5,16 +5,16 @@ use documents::ExecutedRun;
 use gap_sets::TiedCosts;
 use litmus_text::Litmus;
 use placed_text::AnswerText;
-use tso_program::{Outcome, Program};
+use tso_program::Program;
 
 /// A litmus test, with what is found of its program.
 #[derive(Drop)]
 pub(crate) struct Survey {
     pub(crate) litmus: Litmus<Program>,
-    /// The outcomes of the sequential machine.
-    pub(crate) sequential: Vec<Outcome>,
-    /// The outcomes with store buffers and no fence.
-    pub(crate) buffered: Vec<Outcome>,
+    /// Whether the condition holds sequentially.
+    pub(crate) sequential: bool,
+    /// Whether it holds with store buffers and no fence.
+    pub(crate) buffered: bool,
     /// Each instruction.
     pub(crate) visits: Vec<Visit>,
     /// Runs that together execute each instruction that some run executes.
