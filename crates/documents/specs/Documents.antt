@@ -16,9 +16,12 @@ use Rattle.json_text.specs.Values.{IsJsonLine}
 use Rattle.documents.specs.declared.fenced_model.FencedModel.{FencedModel}
 use Rattle.documents.specs.declared.run.Setting.TheVariants.{Machine}
 use Rattle.documents.specs.FencedModels.{machine_members}
-use Rattle.documents.specs.Parts.{ProgramPart, program_members, IsProgram, answer_members, costs_array, is_observed, outcomes_array, tie_members}
-use Rattle.documents.specs.Runs.{TellsRun, runs_array}
-use Rattle.documents.specs.Sayings.{verb_of_machine, IsSaying}
+use Rattle.documents.specs.Parts.{ProgramPart, program_members, IsProgram, answer_members, costs_array, is_observed, tie_members}
+use Rattle.documents.specs.Runs.{TellsRun}
+use Rattle.json_values.specs.Labels.{runs_array}
+use Rattle.json_values.specs.Outcomes.{outcomes_array}
+use Rattle.json_values.specs.Sayings.{IsSaying, verb_of}
+use Rattle.json_values.specs.declared.sayings.Scope.TheVariants.{AllRuns}
 
 -- the version
 abbrev pub format_member : List ℕ
@@ -51,7 +54,7 @@ IsLinedDocument source command members document = (lines : TextLines) × IsDocum
 -- words of its quantifier
 abbrev pub IsSaidDocument : Litmus Listing → Bool → List ℕ → List (List ℕ) → List (List ℕ) → Type 0
 IsSaidDocument source holds command members document =
-    (says : List ℕ) × IsSaying source.condition.quantifier (verb_of_machine source.condition.quantifier holds) says
+    (says : List ℕ) × IsSaying source.condition.quantifier (verb_of source.condition.quantifier AllRuns holds) says
     × IsDocument source command (members ++ member (codes "says") says ∷ []) document
 
 -- of a placement: the gaps with their costs, the answer, the text of the fenced program, and whether the condition holds in it

@@ -6,7 +6,7 @@ use Rattle.tso_program.specs.declared.listing.Listing.{Listing}
 use Rattle.json_text.specs.Texts.{member}
 use Rattle.documents.specs.declared.fenced_model.FencedModel.{FencedModel}
 use Rattle.documents.specs.declared.run.Setting.TheVariants.{Machine}
-use Rattle.documents.specs.Parts.{gaps_array}
+use Rattle.json_values.specs.Gaps.{gaps_array}
 use Rattle.documents.specs.Runs.{setting_member}
 
 -- the gaps that are fenced, where there are any

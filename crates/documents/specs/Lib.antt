@@ -4,5 +4,4 @@ pub mod Notes
 pub mod Witnesses
 pub mod Parts
 pub mod Runs
-pub mod Sayings
 pub mod Surveys

@@ -1,82 +1,23 @@
--- What documents say of programs, outcomes and answers.
-use Rattle.std.specs.Prelude.{◌≡◌, ℕ, Bool, true, false, List, [], ◌∷◌, ◌++◌, ◌&&◌, codes, length, map, nat_lt, slice_index, slice_index_or, if◌then◌else◌}
+-- What documents say of programs and answers.
+use Rattle.std.specs.Prelude.{◌≡◌, ℕ, Bool, true, false, List, [], ◌∷◌, ◌++◌, codes, length, map, nat_lt, slice_index}
 use Rattle.std.specs.Fmt.{decimal}
-use Rattle.std.specs.List.{filter, flat_map, range_with_len}
+use Rattle.std.specs.List.{filter, range_with_len}
 use Rattle.std.specs.Option.{option_map_or}
-use Rattle.gap_sets.specs.Gaps.{SetOfGaps, numbers_of_set}
+use Rattle.gap_sets.specs.Gaps.{SetOfGaps}
 use Rattle.gap_sets.specs.Order.{total}
 use Rattle.gap_sets.specs.Ties.{names_in, spread}
 use Rattle.gap_sets.specs.declared.ties.TiedCosts.{TiedCosts}
 use Rattle.std.specs.FinSet as set
-use Rattle.tso_program.specs.declared.instruction.Reg.{Reg}
 use Rattle.tso_program.specs.declared.listing.Listing.{Listing}
 use Rattle.tso_program.specs.declared.listing.Thread.{Thread}
-use Rattle.tso_program.specs.declared.outcome.Outcome.{Outcome}
 use Rattle.tso_program.specs.declared.shown.Shown.{Shown, TheVariants.All, TheVariants.Only, TheVariants.Truth}
-use Rattle.tso_program.specs.Instructions.{number}
 use Rattle.tso_program.specs.Listings.{gap_count, gap_place}
-use Rattle.tso_program.specs.Shown.{shows_register, shows_location}
 use Rattle.report.specs.Litmus.{Litmus}
 use Rattle.gap_list.specs.declared.text_lines.TextLines.{TextLines}
 use Rattle.gap_list.specs.Lines.{line_at}
-use Rattle.report.specs.Names.{TextNames, all_registers, register_name, is_named}
 use Rattle.json_text.specs.Texts.{quoted, array_text, member, object_text, truth_text}
 use Rattle.json_text.specs.Values.{IsJson}
-
--- ---- gaps
-
--- `t:k`
-abbrev pub place_name : ℕ × ℕ → List ℕ
-place_name place = decimal place.0 ++ 58 ∷ decimal place.1
-
--- the gap of this number by its place
-abbrev pub gap_name : List Thread → ℕ → List ℕ
-gap_name threads gap = option_map_or place_name (gap_place threads gap) []
-
-abbrev pub quoted_gap : List Thread → ℕ → List ℕ
-quoted_gap threads gap = quoted (gap_name threads gap)
-
--- gaps by their places, ascending
-abbrev pub gaps_array : List Thread → SetOfGaps → List ℕ
-gaps_array threads gaps = array_text (map (quoted_gap threads) (numbers_of_set gaps))
-
--- ---- what is shown of an outcome
-
-abbrev pub named_value : List ℕ → ℕ → List ℕ
-named_value name value = object_text (member (codes "name") (quoted name) ∷ member (codes "value") (decimal value) ∷ [])
-
--- `t:REG`
-abbrev pub register_name_at : ℕ → Reg → List ℕ
-register_name_at t r = decimal t ++ (codes ":" ++ register_name r)
-
--- a register with its value, where it is shown and the text names it
-abbrev pub register_value : TextNames → Shown → ℕ → List ℕ → Reg → List (List ℕ)
-register_value names shown t values r =
-    if shows_register shown t (number r) && is_named names t r then named_value (register_name_at t r) (slice_index values (number r)) ∷ [] else []
-
--- thread t's named registers with their values
-abbrev pub thread_values : TextNames → Shown → ℕ → List ℕ → List (List ℕ)
-thread_values names shown t values = flat_map (register_value names shown t values) all_registers
-
--- those of the first so many threads
-abbrev pub register_values : TextNames → Shown → List (List ℕ) → ℕ → List (List ℕ)
-register_values names shown registers threads = flat_map (λ t. thread_values names shown t (slice_index_or registers t [])) (range_with_len 0 threads)
-
--- a location with its value, where it is shown
-abbrev pub location_value : TextNames → Shown → ℕ → ℕ → List (List ℕ)
-location_value names shown l value = if shows_location shown l then named_value (slice_index_or names.locations l []) value ∷ [] else []
-
--- the first so many locations
-abbrev pub location_values : TextNames → Shown → List ℕ → ℕ → List (List ℕ)
-location_values names shown memory locations = flat_map (λ l. location_value names shown l (slice_index memory l)) (range_with_len 0 locations)
-
--- each named register by thread and register order, then each location by number, as far as it is shown
-abbrev pub outcome_array : TextNames → Shown → Outcome → List ℕ
-outcome_array names shown outcome =
-    array_text (register_values names shown outcome.registers (length outcome.registers) ++ location_values names shown outcome.memory (length outcome.memory))
-
-abbrev pub outcomes_array : TextNames → Shown → List Outcome → List ℕ
-outcomes_array names shown outcomes = array_text (map (outcome_array names shown) outcomes)
+use Rattle.json_values.specs.Gaps.{gaps_array, quoted_gap}
 
 -- ---- the answer
 

@@ -13,8 +13,10 @@ use Rattle.report.specs.Litmus.{Litmus}
 use Rattle.json_text.specs.Texts.{quoted, array_text, member, object_text, truth_text}
 use Rattle.json_text.specs.Values.{IsJson}
 use Rattle.documents.specs.declared.run.Setting.{Setting, TheVariants.Without, TheVariants.Machine}
-use Rattle.documents.specs.Parts.{quoted_gap, gaps_array, outcome_array}
-use Rattle.documents.specs.Sayings.{verb_of_run, IsSaying}
+use Rattle.json_values.specs.Gaps.{quoted_gap, gaps_array}
+use Rattle.json_values.specs.Outcomes.{outcome_array}
+use Rattle.json_values.specs.Sayings.{IsSaying, verb_of}
+use Rattle.json_values.specs.declared.sayings.Scope.TheVariants.{ThisRun}
 
 -- ---- steps
 
@@ -73,14 +75,6 @@ TellsSteps labels text = (parts : List StepPart) × AreStepsOf labels parts × (
 
 -- ---- runs
 
--- the labels of a run
-abbrev pub labels_array : List Label → List ℕ
-labels_array labels = array_text (map (λ label. quoted (spelling label)) labels)
-
--- the labels of each run
-abbrev pub runs_array : List (List Label) → List ℕ
-runs_array runs = array_text (map labels_array runs)
-
 abbrev pub model_name : Model → List ℕ
 model_name models.Sequential = codes "sequential"
 model_name models.Buffered = codes "buffered"
@@ -105,6 +99,6 @@ pub record TellsRun (source : Litmus Listing) (shown : Shown) (setting : Setting
   pub execution : List ℕ
   pub json : IsJson execution
   pub says : List ℕ
-  pub said : IsSaying source.condition.quantifier (verb_of_run source.condition.quantifier (truth outcome source.condition.formula)) says
+  pub said : IsSaying source.condition.quantifier (verb_of source.condition.quantifier ThisRun (truth outcome source.condition.formula)) says
   pub printed : text ≡ object_text (setting_member source.program setting ∷ member (codes "steps") steps
       ∷ (ended_members source shown outcome passed ++ member (codes "execution") execution ∷ member (codes "says") says ∷ []))

@@ -13,9 +13,11 @@ use Rattle.json_text.specs.Texts.{quoted, array_text, member, object_text, truth
 use Rattle.documents.specs.declared.survey.ExecutedRun.{ExecutedRun}
 use Rattle.documents.specs.declared.survey.Findings.{Findings}
 use Rattle.documents.specs.Documents.{IsLinedDocument}
-use Rattle.documents.specs.Parts.{answer_value, costs_array, place_name, tie_members}
-use Rattle.documents.specs.Runs.{labels_array}
-use Rattle.documents.specs.Sayings.{verb_of_machine, IsSaying}
+use Rattle.documents.specs.Parts.{answer_value, costs_array, tie_members}
+use Rattle.json_values.specs.Gaps.{place_name}
+use Rattle.json_values.specs.Labels.{labels_array}
+use Rattle.json_values.specs.Sayings.{IsSaying, verb_of}
+use Rattle.json_values.specs.declared.sayings.Scope.TheVariants.{AllRuns}
 
 -- What is found of a program: the name of its file; whether its condition holds in both machines; the instructions that no sequential
 -- run executes; runs with what they execute; what the gaps cost; and of both answers what is shown of outcomes, and the gaps.
@@ -82,9 +84,9 @@ both_answers p lines found =
 -- what the condition does in each machine, in the words of its quantifier
 pub record AreSayings (quantifier : Quantifier) (found : Found) (says : List ℕ) : Type 0 where
   pub sequential : List ℕ
-  pub of_sequential : IsSaying quantifier (verb_of_machine quantifier found.sequential) sequential
+  pub of_sequential : IsSaying quantifier (verb_of quantifier AllRuns found.sequential) sequential
   pub buffered : List ℕ
-  pub of_buffered : IsSaying quantifier (verb_of_machine quantifier found.buffered) buffered
+  pub of_buffered : IsSaying quantifier (verb_of quantifier AllRuns found.buffered) buffered
   pub printed : says ≡ object_text (member (codes "sequential") sequential ∷ member (codes "buffered") buffered ∷ [])
 
 abbrev pub survey_members : Litmus Listing → Found → List ℕ → TextLines → List (List ℕ)

@@ -7,9 +7,10 @@ use Rattle.json_text.specs.Texts.{member, null_text, truth_text}
 use Rattle.documents.specs.declared.run.Setting.TheVariants.{Machine}
 use Rattle.documents.specs.declared.witness.Sought.{Sought}
 use Rattle.documents.specs.Documents.{IsDocument}
-use Rattle.documents.specs.Parts.{gaps_array}
+use Rattle.json_values.specs.Gaps.{gaps_array}
 use Rattle.documents.specs.Runs.{setting_member}
-use Rattle.documents.specs.Sayings.{verb_of_none, verb_of_run, IsSaying}
+use Rattle.json_values.specs.Sayings.{IsSaying, verb_of}
+use Rattle.json_values.specs.declared.sayings.Scope.TheVariants.{NoRun, ThisRun}
 
 -- the text of a run, or that there is none
 abbrev pub run_or_null : Option (List ℕ) → List ℕ
@@ -23,8 +24,8 @@ sought_members p sought =
 
 -- in the words of the condition's quantifier, what a run is that is found, and that there is none
 abbrev pub verb_of_witness : Quantifier → Bool → Option (List ℕ) → List ℕ
-verb_of_witness quantifier meets None = verb_of_none quantifier meets
-verb_of_witness quantifier meets (Some run) = verb_of_run quantifier meets
+verb_of_witness quantifier meets None = verb_of quantifier NoRun meets
+verb_of_witness quantifier meets (Some run) = verb_of quantifier ThisRun meets
 
 -- and the text of one, if there is one
 abbrev pub witness_members : Listing → Sought → Option (List ℕ) → List ℕ → List (List ℕ)

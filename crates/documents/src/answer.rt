@@ -1,15 +1,25 @@
 //! The answer of a placement.
 ghost use Rattle.std.specs.Prelude.{◌≡◌, ◌++◌, ◌<◌, ◌≤◌, IfOk, OnOk, length};
 ghost use Rattle.gap_sets.specs.Order.{total};
-ghost use Rattle.documents.specs.Parts.{gap_value, costs_array, is_observed, condition_members, set_members, compared, answer_value, ties_array, tie_members, answer_members};
+ghost use Rattle.documents.specs.Parts.{gap_line, gap_value, costs_array, is_observed, condition_members, set_members, compared, answer_value, ties_array, tie_members, answer_members};
 
 use crate::lined::LinedLitmus;
-use crate::named::{gap_line, gap_name, gap_names};
 use gap_list::TextLines;
 use gap_sets::{GapSet, TiedCosts, Ties};
 use json_text::{JsonArray, JsonObject, JsonText};
+use json_values::{gap_name, gap_names};
 use std::alloc::{AllocError, Global};
 use tso_program::{Program, Shown};
+
+/// The line of the text in which the instruction after a gap stands.
+fn gap_line(lines: &TextLines, program: &Program, gap: u8) -> u32
+    ensures { result ≡ gap_line lines.now program.now.threads gap }
+{
+    match program.gap_place(gap) {
+        Some((thread, k)) => lines.line(thread, k as usize),
+        None => 0,
+    }
+}
 
 /// A gap with what it costs, and its line.
 fn gap_value(

@@ -8,16 +8,14 @@ ghost use Rattle.documents.specs.Documents.{document_of, format_member, list_mem
 
 use crate::answer::{add_answer, is_observed};
 use crate::fenced_model::{FencedModel, add_fenced_model};
-use crate::label::runs_array;
 use crate::lined::LinedLitmus;
-use crate::outcome::outcomes_array;
 use crate::program::add_program;
 use crate::run::{Setting, run_value};
-use crate::saying::{saying, verb_of_machine};
 use crate::survey::FoundAnswer;
 use cert_forest::Runs;
 use gap_sets::{GapSet, TiedCosts};
 use json_text::{JsonArray, JsonObject, JsonText};
+use json_values::{Scope, outcomes_array, runs_array, saying, verb_of};
 use litmus_text::{Condition, Litmus};
 use report::{frequency, is_true_of};
 use std::alloc::{AllocError, Global};
@@ -69,7 +67,7 @@ fn add_saying(
 ) -> Result<(), AllocError>
     ensures { (command : List ℕ) (members : List (List ℕ)) → IsDocument litmus.now command members object.old → OnOk result (IsSaidDocument litmus.now holds command members object.new) }
 {
-    let verb = verb_of_machine(litmus.condition.quantifier, holds);
+    let verb = verb_of(litmus.condition.quantifier, Scope::AllRuns, holds);
     let says = saying(alloc, litmus, verb)?;
     object.add("says", says)
 }

@@ -1,7 +1,7 @@
 //! Candidate executions.
 
-use crate::named::{location, number};
 use json_text::{JsonArray, JsonObject, JsonText};
+use json_values::{location, number};
 use litmus_text::{Litmus, NameTable};
 use run_views::{Candidate, Edge, EdgeRelation, RunEvent, candidate_of};
 use std::alloc::{AllocError, Global};

@@ -3,10 +3,10 @@
 ghost use Rattle.std.specs.Prelude.{◌≡◌, ◌++◌, OnOk};
 ghost use Rattle.documents.specs.FencedModels.{fences_members, machine_members};
 
-use crate::named::gap_names;
 use crate::run::add_model;
 use gap_sets::GapSet;
 use json_text::JsonObject;
+use json_values::gap_names;
 use std::alloc::{AllocError, Global};
 use tso_machine::Model;
 use tso_program::Program;

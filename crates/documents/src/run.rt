@@ -3,14 +3,12 @@ ghost use Rattle.std.specs.Prelude.{◌≡◌, ◌++◌, ◌∷◌, [], IfOk, On
 ghost use Rattle.tso_program.specs.declared.listing.Listing.{Listing};
 ghost use Rattle.tso_program.specs.Truth.{truth};
 ghost use Rattle.documents.specs.Runs.{ended_members, model_name, setting_member, TellsRun};
-ghost use Rattle.documents.specs.Sayings.{verb_of_run, IsSaying};
+ghost use Rattle.json_values.specs.Sayings.{verb_of, IsSaying};
 
 use crate::execution::execution_value;
-use crate::named::{gap_name, gap_names};
-use crate::outcome::outcome_array;
-use crate::saying::{saying, verb_of_run};
 use crate::step::steps_array;
 use json_text::{JsonObject, JsonText};
+use json_values::{Scope, gap_name, gap_names, outcome_array, saying, verb_of};
 use litmus_text::{Litmus, holds};
 use std::alloc::{AllocError, Global};
 use tso_machine::{Ended, Model, Step};
@@ -99,10 +97,10 @@ fn saying_of_run(
     litmus: &Litmus<Program>,
     outcome: &Outcome,
 ) -> Result<JsonText, AllocError>
-    ensures { IfOk result (IsSaying litmus.now.condition.quantifier (verb_of_run litmus.now.condition.quantifier (truth outcome.now litmus.now.condition.formula))) }
+    ensures { IfOk result (IsSaying litmus.now.condition.quantifier (verb_of litmus.now.condition.quantifier Scope.ThisRun (truth outcome.now litmus.now.condition.formula))) }
 {
     let is_met = holds(&litmus.condition, outcome);
-    let verb = verb_of_run(litmus.condition.quantifier, is_met);
+    let verb = verb_of(litmus.condition.quantifier, Scope::ThisRun, is_met);
     saying(alloc, litmus, verb)
 }
 

@@ -2,10 +2,8 @@
 ghost use Rattle.std.specs.Prelude.{IfOk, OnOk, map};
 ghost use Rattle.documents.specs.Runs.{AddsStep, TellsStep, TellsSteps};
 
-use crate::label::label_text;
-use crate::named::located;
-use crate::program::{register_values, values};
 use json_text::{JsonArray, JsonObject, JsonText};
+use json_values::{label_text, located, register_values, values};
 use litmus_text::{Litmus, NameTable};
 use run_views::{action_of, waits, written};
 use std::alloc::{AllocError, Global};

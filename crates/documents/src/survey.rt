@@ -3,16 +3,15 @@
 ghost use Rattle.std.specs.Prelude.{◌≡◌, ◌++◌, IfOk, OnOk};
 ghost use Rattle.documents.specs.Parts.{answer_value};
 ghost use Rattle.documents.specs.Surveys.{both_answers, executed_members, executed_run, executed_runs, found_in, holds_value, lined_place, lined_places, places_array, quoted_place, AreSayings, IsSurveyDocument};
-ghost use Rattle.documents.specs.Sayings.{verb_of_machine, IsSaying};
+ghost use Rattle.json_values.specs.Sayings.{verb_of, IsSaying};
 
 use crate::answer::{add_ties, answer_value, costs_array};
 use crate::document::begun;
-use crate::label::labels_array;
 use crate::lined::LinedLitmus;
-use crate::saying::{saying, verb_of_machine};
 use gap_list::TextLines;
 use gap_sets::{GapSet, TiedCosts};
 use json_text::{JsonArray, JsonObject, JsonText};
+use json_values::{Scope, labels_array, saying, verb_of};
 use litmus_text::Litmus;
 use std::alloc::{AllocError, Global};
 use tso_machine::Label;
@@ -187,9 +186,9 @@ fn saying_of_machine(
     litmus: &Litmus<Program>,
     holds: bool,
 ) -> Result<JsonText, AllocError>
-    ensures { IfOk result (IsSaying litmus.now.condition.quantifier (verb_of_machine litmus.now.condition.quantifier holds)) }
+    ensures { IfOk result (IsSaying litmus.now.condition.quantifier (verb_of litmus.now.condition.quantifier Scope.AllRuns holds)) }
 {
-    let verb = verb_of_machine(litmus.condition.quantifier, holds);
+    let verb = verb_of(litmus.condition.quantifier, Scope::AllRuns, holds);
     saying(alloc, litmus, verb)
 }
 

@@ -5,11 +5,10 @@ ghost use Rattle.documents.specs.Witnesses.{run_or_null, sought_members, verb_of
 
 use crate::document::begun;
 use crate::lined::LinedLitmus;
-use crate::named::gap_names;
 use crate::run::add_model;
-use crate::saying::{saying, verb_of_none, verb_of_run};
 use gap_sets::GapSet;
 use json_text::{JsonObject, JsonText};
+use json_values::{Scope, gap_names, saying, verb_of};
 use litmus_text::Quantifier;
 use std::alloc::{AllocError, Global};
 use tso_machine::Model;
@@ -52,8 +51,8 @@ fn verb_of_witness(quantifier: Quantifier, meets: bool, run: &Option<JsonText>) 
     ensures { result.now ≡ verb_of_witness quantifier meets run.now }
 {
     match run {
-        Some(_) => verb_of_run(quantifier, meets),
-        None => verb_of_none(quantifier, meets),
+        Some(_) => verb_of(quantifier, Scope::ThisRun, meets),
+        None => verb_of(quantifier, Scope::NoRun, meets),
     }
 }
 

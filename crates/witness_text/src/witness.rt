@@ -21,8 +21,7 @@ use crate::lines::{none_line, run_lines};
 use crate::serial_runs::serial_run;
 use cover_solver::{SolveFault, witness};
 use documents::{
-    LinedLitmus, Setting, Sought, condition_sentence, run_value, verb_of_none, verb_of_run,
-    witness_document,
+    LinedLitmus, Scope, Setting, Sought, condition_sentence, run_value, verb_of, witness_document,
 };
 use gap_list::TextLines;
 use gap_sets::GapSet;
@@ -124,7 +123,7 @@ fn found_text(
     requires run { IsWitness litmus.now.program (machine_of litmus.now.program sought) litmus.now.condition.formula sought.meets labels.now }
     ensures { IfOk result (λ text. TellsSought litmus.now sought text.found text.lines.items text.document) }
 {
-    let verb = verb_of_run(litmus.condition.quantifier, sought.meets);
+    let verb = verb_of(litmus.condition.quantifier, Scope::ThisRun, sought.meets);
     let says = condition_sentence(alloc, litmus, verb)?;
     let replay = replay_of(alloc, &litmus.program, sought.model, labels)?;
     let Replay { steps, ended } = replay;
@@ -154,7 +153,7 @@ fn none_text(
     requires none { HasNoWitness litmus.now.program (machine_of litmus.now.program sought) litmus.now.condition.formula sought.meets }
     ensures { IfOk result (λ text. TellsSought litmus.now sought text.found text.lines.items text.document) }
 {
-    let verb = verb_of_none(litmus.condition.quantifier, sought.meets);
+    let verb = verb_of(litmus.condition.quantifier, Scope::NoRun, sought.meets);
     let says = condition_sentence(alloc, litmus, verb)?;
     let lines = Vec::from_slice(alloc, none_line(sought.meets))?;
     let graph = RunGraph::new(alloc)?.into_text()?;

@@ -6,6 +6,6 @@ pub returns : goal.returns
 returns c = λ command members is.
     on_ok_weaker c.add.result (λ more. (
       c.in_ok-says.says,
-      rw c.verb_of_machine-verb.ensures at c.in_ok-says.ensures,
+      rw c.verb_of-verb.ensures at c.in_ok-says.ensures,
       record { first = is.first; heading = is.heading; printed = added is.first members _ _ _ is.printed more },
     )) c.add.ensures.text

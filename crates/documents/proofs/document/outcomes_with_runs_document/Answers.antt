@@ -1,7 +1,7 @@
 use Rattle.std.specs.Prelude.{List, ℕ, [], ◌∷◌, ◌++◌, codes}
 use Rattle.json_text.specs.Texts.{member}
 use Rattle.documents.specs.Documents.{outcomes_members}
-use Rattle.documents.specs.Runs.{runs_array}
+use Rattle.json_values.specs.Labels.{runs_array}
 use Rattle.documents.proofs.Told.{added}
 use Rattle.documents.proofs.document.outcomes_with_runs_document.Goals as goal
 

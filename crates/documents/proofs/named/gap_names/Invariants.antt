@@ -1,6 +1,0 @@
-use Rattle.documents.proofs.Vocabulary.{◌≡◌, map, quoted_gap}
-use Rattle.documents.proofs.named.gap_names.Given as goal
-
--- the gaps so far
-abbrev pub invariant-loop-gap : goal.invariant-loop-gap
-invariant-loop-gap l = l.array ≡ map (quoted_gap l.program.threads) l.yielded

@@ -1,6 +1,0 @@
-use Rattle.documents.proofs.Vocabulary.{◌≡◌, map, take, quoted}
-use Rattle.documents.proofs.program.location_names.Given as goal
-
--- the names so far
-abbrev pub invariant-loop-number : goal.invariant-loop-number
-invariant-loop-number l = l.array ≡ map quoted (take l.number l.names.locations)

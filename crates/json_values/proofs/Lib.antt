@@ -1,0 +1,2 @@
+-- what many proofs speak of
+mod Vocabulary

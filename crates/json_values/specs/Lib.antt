@@ -1,0 +1,4 @@
+pub mod Gaps
+pub mod Labels
+pub mod Outcomes
+pub mod Sayings
