@@ -1,6 +1,5 @@
 -- what many proofs speak of
 mod Vocabulary
 pub mod Served
-pub mod OutcomeLines
 pub mod Surveyed
 pub mod WrittenSurveys

@@ -13,14 +13,14 @@ use Rattle.fencer_words.specs.declared.job.Job.{Job, TheVariants.Replay, TheVari
 use Rattle.fencer_words.specs.CommandFiles.{files_of}
 use Rattle.fencer_words.specs.CommandLines.{AsksFor, IsNoCommand}
 use Rattle.fencer.specs.Lines.{EndsLine}
-use Rattle.fencer.specs.Outcomes.{AreOutcomes}
+use Rattle.outcome_answers.specs.Outcomes.{AreOutcomes}
 use Rattle.fencer.specs.GapTexts.{AreGaps}
 use Rattle.fencer.specs.Placements.{IsPlaced}
 use Rattle.answers.specs.Replays.{IsReplay, label_words_text}
 use Rattle.fencer.specs.Surveys.{IsSurvey, ReadsOfSomeFiles}
 use Rattle.answers.specs.Traces.{IsTrace}
 use Rattle.fencer.specs.Whys.{IsExplained}
-use Rattle.fencer.specs.Witnesses.{IsWitnessShown}
+use Rattle.outcome_answers.specs.Witnesses.{IsWitnessShown}
 
 -- ---- what is printed
 

@@ -1,7 +1,5 @@
 pub mod Lines
 pub mod Surveys
-pub mod Witnesses
-pub mod Outcomes
 pub mod Placements
 pub mod Whys
 pub mod GapTexts

@@ -1,29 +1,9 @@
 //! What is said to people of texts that have no answer, on standard error.
 
 use answers::Texts;
-use messages::{Message, Source, costs_message, fence_message, file_or_input, litmus_message};
+use messages::{Message, Source, costs_message, file_or_input, litmus_message};
 use placed_text::TextFault;
 use std::alloc::{AllocError, Global};
-use witness_text::WitnessFault;
-
-/// Why no run of the program of a litmus text, of a file of this name, is shown.
-pub(crate) fn witness_advice(
-    alloc: Global,
-    name: &str,
-    text: &[u8],
-    why: WitnessFault,
-) -> Result<Message, AllocError> {
-    match why {
-        WitnessFault::Read(fault) => litmus_message(alloc, Source::new(name, text), fault),
-        WitnessFault::NoSuchGap(thread, instruction) => {
-            fence_message(alloc, name, (thread, instruction), text)
-        }
-        WitnessFault::OutOfMemory => {
-            let text = format!(in alloc; "{why}")?;
-            Message::of_file(alloc, name, text.as_str())
-        }
-    }
-}
 
 /// Why a litmus text or a text of costs, of files of these names, has no answer.
 pub(crate) fn text_fault_advice(

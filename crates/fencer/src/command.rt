@@ -8,15 +8,14 @@ ghost use Rattle.answers.specs.Deliveries.{KeepFilesButThree};
 ghost use Rattle.fencer.specs.Answers.{IsAnswer, IsReply, IsOutput, KeepFilesOf, KeepOtherFiles, ReadsForWords, ReadsFor, ReadsOfJob};
 
 use crate::gaps::run_gaps;
-use crate::outcomes::run_outcomes;
 use crate::place::run_place;
 use crate::surveys::run_survey;
 use crate::whys::run_why;
-use crate::witnesses::run_witness;
 use answers::{run_replay, run_trace, tell_hint, tell_refusal, unread_advice, unread_litmus};
 use clap::Error;
 use clap::error::ErrorKind;
 use fencer_words::{Job, read_words};
+use outcome_answers::{run_outcomes, run_witness};
 use program_streams::{
     Console, TEXT_LIMIT, WordsFault, WritableFileStore, asks_version, file_line, line_words, print,
     read_line_up_to, refuse_words, version_line,

@@ -12,13 +12,11 @@
 mod advice;
 mod command;
 mod gaps;
-mod outcomes;
 mod place;
 mod survey_advice;
 mod surveys;
 mod tied;
 mod whys;
-mod witnesses;
 
 use program_streams::{Outputs, Progress, SystemFiles, given_words};
 use std::process::ExitCode;

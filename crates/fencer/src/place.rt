@@ -20,9 +20,10 @@ use answers::{
 use fencer_words::Placement;
 use gap_sets::GapSet;
 use paged_text::Pages;
-use placed_text::{AnswerText, Effort, PlacedText, TextFault, answer_text, place_text};
+use placed_text::{AnswerText, PlacedText, TextFault, answer_text, place_text};
 use program_streams::{Console, Progress, TEXT_LIMIT, WritableFileStore, file_line};
 use report::{costs_line, litmus_line};
+use search_effort::Effort;
 use std::alloc::{AllocError, Global};
 use std::io::Read;
 use std::sync::Wait;

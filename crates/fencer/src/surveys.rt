@@ -18,11 +18,12 @@ use answers::{
 use documents::{RefusalMessage, refusal_document};
 use fencer_words::{SurveyOptions, SurveyQuery};
 use messages::Message;
-use placed_text::{Effort, TextFault};
+use placed_text::TextFault;
 use program_streams::{
     Console, FileFault, FileStore, Progress, TEXT_LIMIT, file_line, grouped, named_bytes, print,
     write_bytes,
 };
+use search_effort::Effort;
 use std::alloc::{AllocError, Global};
 use std::io::{self, Read};
 use std::rt::Clock;

@@ -18,8 +18,9 @@ use answers::{
 };
 use fencer_words::{Placement, WhyQuery};
 use gap_sets::GapSet;
-use placed_text::{Effort, TextFault, WhyText, why_text};
+use placed_text::{TextFault, WhyText, why_text};
 use program_streams::{Console, Progress, TEXT_LIMIT, WritableFileStore, file_line};
+use search_effort::Effort;
 use std::alloc::Global;
 use std::io::Read;
 use std::sync::Wait;

@@ -4,20 +4,17 @@
 //! program of many combinations of traces a certificate is proposed, which the checker judges (`proposed.rt`). A
 //! run that is shown passes no gap of the answer's other ties, and no sequential run leaves what it leaves.
 //!
-//! Begin with `answer_text`, `place_text` and `why_text`; `outcomes_by` lists a program's outcomes. Free to change: what is
-//! reported on the way (`ahead.rt`, `extent.rt`, `watched.rt`), and which run is shown, and its graph. Relied on: the headline
+//! Begin with `answer_text`, `place_text` and `why_text`. Free to change: what is reported on the way (`watched.rt`),
+//! and which run is shown, and its graph. Relied on: the headline
 //! holds of the set for the program and the costs of the texts, all that is written says the same of it
 //! (`IsPlacedText`), and for exactly the ties of the answer, in order, labels and table are those of such a run
 //! (`IsWhyText`).
 #![tactic(auto)]
 
-mod ahead;
 mod answered_problem;
 mod explaining;
-mod extent;
 mod fault;
 mod marked_table;
-mod outcomes;
 mod placement;
 mod problem;
 mod proposed;
@@ -26,13 +23,7 @@ mod verdict;
 mod watched;
 mod writing;
 
-pub use ahead::combinations_text;
-pub use certificate_proposals::SearchWatch;
-pub use cover_solver::{OutcomeList, SolveFault};
 pub use explaining::{WhyText, why_text};
-pub use extent::warn_of_minutes;
 pub use fault::TextFault;
-pub use outcomes::outcomes_by;
 pub use problem::{read_gap_costs, read_program};
-pub use watched::Effort;
 pub use writing::{AnswerText, PlacedText, answer_text, place_text};

@@ -7,13 +7,13 @@ ghost use Rattle.placed_text.specs.Problems.{question_in};
 ghost use Rattle.placed_text.specs.TextFaults.{HasNoPlacement};
 
 use crate::TextFault;
-use crate::ahead::report_ahead;
 use crate::problem::Problem;
-use crate::watched::{Effort, Watched, report_outcomes};
+use crate::watched::{Watched, report_outcomes};
 use cert_forest::Certificate;
 use certificate_proposals::SearchWatch;
 use cover_solver::{SeqTable, SolveFault, Solver, sequential};
 use fence_place::{Oracles, PlaceFault, place};
+use search_effort::{Effort, report_ahead};
 use std::alloc::Global;
 use std::sync::Wait;
 use std::thread::Threads;

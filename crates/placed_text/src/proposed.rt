@@ -8,14 +8,13 @@ ghost use Rattle.placed_text.specs.Problems.{question_in};
 ghost use Rattle.placed_text.specs.TextFaults.{HasNoPlacement};
 
 use crate::TextFault;
-use crate::ahead::report_ahead;
-use crate::extent::warn_of_minutes;
 use crate::placement::placement_of;
 use crate::problem::Problem;
-use crate::watched::{Effort, report_outcomes};
+use crate::watched::report_outcomes;
 use cert_forest::{Certificate, Rule};
 use certificate_proposals::{SearchPlan, SearchWatch, propose, proposed_rule};
 use fence_place::accepted_proposal;
+use search_effort::{Effort, report_ahead, warn_of_minutes};
 use std::alloc::{AllocError, Global};
 use std::sync::Wait;
 use std::thread::Threads;

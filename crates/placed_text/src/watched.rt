@@ -1,24 +1,12 @@
 //! How far a placement is, reported to people. No clause rests on it.
 ghost use Rattle.std.specs.Prelude.{false};
 
-use cert_forest::Rule;
 use certificate_proposals::SearchWatch;
 use cover_solver::{Oracle, SolveFault, Solver, Verdict};
 use gap_sets::{Costs, GapSet};
 use program_streams::{Progress, grouped};
+use search_effort::Effort;
 use std::alloc::{AllocError, Global};
-
-/// How fences are searched for.
-#[derive(Clone, Copy)]
-pub struct Effort {
-    pub workers: u8,
-    /// By which rule trees are made. Without one that depends on how large the program is.
-    pub trees: Option<Rule>,
-    /// Where it is reported how far the search is.
-    pub progress: Progress,
-    /// Whether a search for an answer warns where it may take minutes.
-    pub warns: bool,
-}
 
 /// A solver that reports how many sets it is asked about.
 #[derive(Drop)]

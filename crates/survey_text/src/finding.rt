@@ -23,10 +23,8 @@ use documents::{ExecutedRun, Note};
 use gap_list::TextLines;
 use json_text::JsonObject;
 use litmus_text::Litmus;
-use placed_text::{
-    AnswerText, Effort, SearchWatch, SolveFault, TextFault, answer_text, read_gap_costs,
-    read_program,
-};
+use placed_text::{AnswerText, TextFault, answer_text, read_gap_costs, read_program};
+use search_effort::{Effort, SearchWatch, SolveFault};
 use std::alloc::{AllocError, Global};
 use std::sync::Wait;
 use std::thread::Threads;

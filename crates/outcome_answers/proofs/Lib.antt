@@ -1,0 +1,3 @@
+-- what many proofs speak of
+mod Vocabulary
+pub mod OutcomeLines
