@@ -1,6 +1,7 @@
 -- What is printed of a survey: the blocks that were written, and what comes after them.
 use Rattle.fencer.proofs.Vocabulary.{◌≡◌, ◌∙◌, ℕ, ◌+◌, List, [], ◌++◌, Option, Result, Ok, Err, IfOk, length, map, take, ap, arith, sym, subst, append-nil, string_bytes, Prints}
 use Rattle.std.proofs.Common.{drop, refl, length-append, take-add, take_all, take_at, drop_at}
+use Rattle.std.proofs.lemmas.List.{take-map}
 use Rattle.std.specs.Prelude.{OnErr}
 use Rattle.std.specs.Global.{Vec}
 use Rattle.std.specs.Io.KnownBytes.{Appends}
@@ -33,8 +34,15 @@ module _ (asked : SurveyQuery) (input : Option (List ℕ)) (files : List ℕ →
   names = map string_bytes asked.files.items
 
   -- the survey ends after the first so many files
-  pub ends_after : (count : ℕ) (left : Option (List ℕ)) (status : ℕ) (rows : List ℕ) (old new : Option (List ℕ)) → AreWritten asked.options files input (take count names) left status rows old new → Prints (IsSurvey asked input files) old new 1
+  ends_after : (count : ℕ) (left : Option (List ℕ)) (status : ℕ) (rows : List ℕ) (old new : Option (List ℕ)) → AreWritten asked.options files input (take count names) left status rows old new → Prints (IsSurvey asked input files) old new 1
   ends_after count left status rows old new are = whole 1 are.blocks (of_first count left are.statuses are.blocks rows are.are) are.written
+
+  -- as it does where there is an error after them
+  pub cut_after : {X Y : Type 0} (made : Result X Y) (count : ℕ) (left : Option (List ℕ)) (status : ℕ) (rows : List ℕ) (old new : Option (List ℕ))
+      → AreWritten asked.options files input (map string_bytes (take count asked.files.items)) left status rows old new → OnErr made (Prints (IsSurvey asked input files) old new 1)
+  cut_after made count left status rows old new are =
+      in_any_case made _ (ends_after count left status rows old new
+      (subst (λ (ns : List (List ℕ)). AreWritten asked.options files input ns left status rows old new) (sym (take-map string_bytes count asked.files.items)) are))
 
   -- or within the block of the last of them
   pub ends_within : (count : ℕ) (left : Option (List ℕ)) (statuses before block rows : List ℕ) (old mid new : Option (List ℕ)) → AreBlocks asked.options files input (take count names) left statuses (before ++ block) rows

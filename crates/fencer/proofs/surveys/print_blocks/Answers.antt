@@ -4,9 +4,9 @@ use Rattle.std.specs.Io.KnownBytes.{Appends}
 use Rattle.std.specs.declared.string.String.{String}
 use Rattle.program_streams.specs.Files.{ReadsOfInput}
 use Rattle.program_streams.proofs.StreamLaws.{none_written, writes_more}
-use Rattle.fencer.specs.Surveys.{AreBlocks, AreWritten, IsBlock, ReadsOfFiles, ReadsOfSomeFiles, none, nothing}
+use Rattle.fencer.specs.Surveys.{AreBlocks, IsBlock, ReadsOfFiles, ReadsOfSomeFiles, none, nothing}
 use Rattle.fencer.proofs.Surveyed.{one_more_block, one_more_read, some_read, worst_more}
-use Rattle.fencer.proofs.WrittenSurveys.{ends_after, ends_within, in_any_case}
+use Rattle.fencer.proofs.WrittenSurveys.{cut_after, ends_within, in_any_case}
 use Rattle.fencer.proofs.surveys.print_blocks.Goals as goal
 
 -- what is read up to a file where memory or the writer ends the survey
@@ -62,35 +62,15 @@ returns-in_err-write_bytes-clause-read g c =
 
 pub returns-in_err-block-clause-cut : goal.returns-in_err-block-clause-cut
 returns-in_err-block-clause-cut g c =
-    let made = c.from_residual.result in
-    let asked = c.args.asked.now in
-    let names = asked.files.items in
-    let i = c.loop-name.name-index in
-    let files = g.S.FileStore.held c.args.files.now in
-    let old = g.R.Read.remaining c.args.input.now in
-    let mid = g.R.Read.remaining c.loop-name.input in
-    let summary = c.loop-name.summary in
-    let first = g.W.Write.contents c.args.output.now in
-    let before = g.W.Write.contents c.loop-name.output in
-    in_any_case made _
-    (ends_after asked old files i mid summary.status summary.rows.items first before
-    (subst (λ (ns : List (List ℕ)). AreWritten asked.options files old ns mid summary.status summary.rows.items first before) (sym (take-map string_bytes i names)) c.loop-name.invariant.told))
+    let told = c.loop-name.invariant.told in
+    cut_after c.args.asked.now (g.R.Read.remaining c.args.input.now) (g.S.FileStore.held c.args.files.now) c.from_residual.result c.loop-name.name-index (g.R.Read.remaining c.loop-name.input)
+    c.loop-name.summary.status c.loop-name.summary.rows.items (g.W.Write.contents c.args.output.now) (g.W.Write.contents c.loop-name.output) told
 
 pub returns-in_err-add-clause-cut : goal.returns-in_err-add-clause-cut
 returns-in_err-add-clause-cut g c =
-    let made = c.from_residual-in_err-add.result in
-    let asked = c.args.asked.now in
-    let names = asked.files.items in
-    let i = c.loop-name.name-index in
-    let files = g.S.FileStore.held c.args.files.now in
-    let old = g.R.Read.remaining c.args.input.now in
-    let mid = g.R.Read.remaining c.loop-name.input in
-    let summary = c.loop-name.summary in
-    let first = g.W.Write.contents c.args.output.now in
-    let before = g.W.Write.contents c.loop-name.output in
-    in_any_case made _
-    (ends_after asked old files i mid summary.status summary.rows.items first before
-    (subst (λ (ns : List (List ℕ)). AreWritten asked.options files old ns mid summary.status summary.rows.items first before) (sym (take-map string_bytes i names)) c.loop-name.invariant.told))
+    let told = c.loop-name.invariant.told in
+    cut_after c.args.asked.now (g.R.Read.remaining c.args.input.now) (g.S.FileStore.held c.args.files.now) c.from_residual-in_err-add.result c.loop-name.name-index (g.R.Read.remaining c.loop-name.input)
+    c.loop-name.summary.status c.loop-name.summary.rows.items (g.W.Write.contents c.args.output.now) (g.W.Write.contents c.loop-name.output) told
 
 pub returns-in_err-write_bytes-clause-cut : goal.returns-in_err-write_bytes-clause-cut
 returns-in_err-write_bytes-clause-cut g c =
